@@ -1,0 +1,98 @@
+-- What the invariant says of the ranges that the code's arithmetic and places need, where an event is allowed.
+use Rattle.std.proofs.Common.{◌≡◌, ℕ, zero, suc, ◌+◌, ◌-◌, ◌*◌, ◌^◌, ◌<◌, ◌≤◌, inl, inr, ⊎_elim, List, length, get_or, Option, Some, None, Bool, true, false, IsTrue, nat_lt, nat_eq, refl, sym, ap, subst, ◌∙◌, arith, ltb-true}
+use Rattle.std.proofs.lemmas.List.{get_or_past}
+use Rattle.std.proofs.lemmas.Bool.{and_parts, cases_lt}
+use Rattle.passive_core.specs.declared.entry.Entry.{Entry}
+use Rattle.passive_core.specs.declared.state.Hand.{Hand}
+use Rattle.passive_core.specs.declared.state.Hand.TheVariants.{Empty, Taking, Giving, Back}
+use Rattle.passive_core.specs.declared.state.LocalPlace.{LocalPlace}
+use Rattle.passive_core.specs.declared.state.LocalPlace.TheVariants.{Free, Standing, Lifted}
+use Rattle.passive_core.specs.declared.state.Due.{Due}
+use Rattle.passive_core.specs.declared.state.Due.TheVariants.{Rest, Snapshots, Adding, Subtracting}
+use Rattle.passive_core.specs.declared.state.Place.{Place}
+use Rattle.passive_core.specs.declared.state.Place.TheVariants.{AtHead, AtNext, AtNumber, AtKind, AtHigh, AtLow, AtValue}
+use Rattle.passive_core.specs.declared.state.Search.{Search}
+use Rattle.passive_core.specs.State.{State, bias, hand_at, found_at, slot_at, count_at, total_at, kept_at, local_at, search_at}
+use Rattle.passive_core.specs.Slots.{slot_of, at_rest}
+use Rattle.passive_core.specs.Events.{is_idle, may_count, is_drained, is_iface_slot}
+use Rattle.passive_core.specs.Invariant.{IsIn, Holds, PlaceHolds}
+use Rattle.passive_core.proofs.CountBounds.{word_ceiling, total_at_rest, total_at_subtraction, adding_fits}
+use Rattle.passive_core.proofs.Counts.{is_counting}
+use Rattle.passive_core.proofs.CountKeeps.{fit_of, hand_within, held_counting, idle_tells}
+use Rattle.passive_core.proofs.Drivers.{kept_found}
+use Rattle.passive_core.proofs.HeldSums.{drivers_stay}
+use Rattle.passive_core.proofs.MarkKeeps.{is_drained_tells}
+use Rattle.passive_core.proofs.Occupied.{slot_has, in_within}
+use Rattle.passive_core.proofs.References.{giving_holds, back_holds, due_adding, due_subtracting}
+use Rattle.passive_core.proofs.Searching.{searching_within, search_walks, place_within}
+use Rattle.passive_core.specs.Loaded.{SlotWithin}
+
+-- a place that isn't free is in the list
+local_within : (locals : List LocalPlace) (id c : ℕ) → local_at locals id ≡ Lifted c → id < length locals
+local_within locals id c at = ⊎_elim
+    (λ (lt : id < length locals). lt)
+    (λ (ge : length locals ≤ id). absurd (let q : Free ≡ Lifted c = sym (get_or_past locals id Free ge) ∙ at in cc))
+    (cases_lt id (length locals))
+
+-- what is given up has its place, its CPU and its slot
+pub giving_within : (s : State) (c n id : ℕ) → Holds s → hand_at s c ≡ Giving n id → (c < s.settings.cpus) × (id < length s.locals)
+giving_within s c n id on hand = (
+  hand_within s c on (λ empty. let q : Giving n id ≡ Empty = sym hand ∙ empty in cc),
+  local_within s.locals id c (giving_holds s.settings.cpus s.slots s.hands s.due s.locals c n id hand on.references).1,
+)
+
+pub back_within : (s : State) (c n id : ℕ) → Holds s → hand_at s c ≡ Back n id → (c < s.settings.cpus) × (id < length s.locals)
+back_within s c n id on hand = (
+  hand_within s c on (λ empty. let q : Back n id ≡ Empty = sym hand ∙ empty in cc),
+  local_within s.locals id c (back_holds s.settings.cpus s.slots s.hands s.due s.locals c n id hand on.references).1,
+)
+
+pub taking_within : (s : State) (c n : ℕ) → Holds s → hand_at s c ≡ Taking n → c < s.settings.cpus
+taking_within s c n on hand = hand_within s c on (λ empty. let q : Taking n ≡ Empty = sym hand ∙ empty in cc)
+
+pub slot_within : (s : State) (n t : ℕ) → Holds s → slot_of s.slots n ≡ Some t → t < s.settings.slots
+slot_within s n t on of = omega (arith, (slot_has s.slots n t of).0, on.shape.slots)
+
+-- a word that counts isn't 0
+pub counting_positive : (s : State) (c n id t : ℕ) → Holds s → hand_at s c ≡ Giving n id → slot_of s.slots n ≡ Some t → count_at s.counts c t ≡ count_at s.nets c t → 0 < count_at s.counts c t
+counting_positive s c n id t on hand of same =
+    let has = slot_has s.slots n t of in
+    let lt = (giving_within s c n id on hand).0 in
+    (on.balance.counted c t lt (is_counting on.balance c t has.1.0 lt has.1.1 same)).1
+
+-- a word that may be counted up has room
+pub counted_room : (s : State) (c t : ℕ) (e : Entry) → Holds s → found_at s c ≡ Some e → slot_of s.slots e.number ≡ Some t → count_at s.counts c t < 2 ^ 63
+counted_room s c t e on found of =
+    let here = held_counting s c t e on found of in
+    omega (arith, word_ceiling on.balance (fit_of s on) c t e here.0)
+
+pub adding_range : (s : State) (t old : ℕ) → Holds s → s.due ≡ Adding t old → (bias ≤ total_at s.totals t + old) × (total_at s.totals t + old < 2 ^ 64)
+adding_range s t old on due =
+    let gone = due_adding s.settings.cpus s.slots s.hands s.due s.locals t old due on.references in
+    adding_fits on.balance (fit_of s on) t old gone.0 due (inr gone.1)
+
+pub adding_within : (s : State) (t old : ℕ) → Holds s → s.due ≡ Adding t old → t < s.settings.slots
+adding_within s t old on due =
+    let gone = due_adding s.settings.cpus s.slots s.hands s.due s.locals t old due on.references in
+    omega (arith, on.shape.slots, occupied s t gone.0 (inr gone.1))
+  where
+    occupied : (s : State) (t : ℕ) (e : Entry) → IsIn e (slot_at s.slots t) → t < length s.slots
+    occupied s t e is = in_within s.slots t e is
+
+pub subtracting_range : (s : State) (t : ℕ) → Holds s → s.due ≡ Subtracting t → (t < s.settings.slots) × (0 < total_at s.totals t)
+subtracting_range s t on due =
+    let gone = due_subtracting s.settings.cpus s.slots s.hands s.due s.locals t due on.references in (
+      omega (arith, on.shape.slots, in_within s.slots t gone.0 (inr gone.1)),
+      omega (arith, (total_at_subtraction on.balance (fit_of s on) t t gone.0 due (inr gone.1)).0),
+    )
+
+-- the total of the driver whose reference is given up
+pub driver_positive : (s : State) (t d u : ℕ) → Holds s → kept_at s.keeps t ≡ Some d → slot_of s.slots d ≡ Some u → is_drained s t ≡ true → 0 < total_at s.totals u
+driver_positive s t d u on keeps of drained =
+    let told = is_drained_tells s t on drained in
+    let driver = kept_found s.history s.slots s.keeps t d u told.1.0 on.slots on.kept_drivers (inr told.1.1) keeps of in
+    omega (arith, (total_at_rest on.balance (fit_of s on) u driver.0 told.0 driver.1).0)
+
+-- the slot of the place that a search is at
+pub search_within : (s : State) (c : ℕ) (q : Search) → Holds s → search_at s c ≡ Some q → SlotWithin q.place (length s.slots)
+search_within s c q on is = place_within s c q.start (get_or s.seen c 0) q.key q.place on (search_walks s c q on is) (on.searches c q is).stands

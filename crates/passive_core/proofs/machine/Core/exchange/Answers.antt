@@ -1,0 +1,53 @@
+use Rattle.std.proofs.Common.{◌≡◌, ℕ, ◌+◌, ◌-◌, ◌*◌, ◌<◌, ◌≤◌, suc, length, get_or, List, [], Option, Some, None, Bool, true, false, refl, sym, ap, subst, ◌∙◌, arith, rules, replicate}
+use Rattle.std.proofs.lemmas.List.{get_or_read}
+use Rattle.passive_core.specs.State.{State, section_at, seen_at, search_at, found_at, hand_at, slot_at, row_at, mark_at, passive_at, count_at, total_at, kept_at, local_at, bias}
+use Rattle.passive_core.specs.Shown.{shown}
+use Rattle.passive_core.specs.Slots.{slot_of, at_rest, slot_before}
+use Rattle.passive_core.specs.Events.{is_idle, may_seat, may_enter, may_exit, may_seek, may_write, may_examine, may_look_passive, may_add, may_sub, may_collect, may_join_keeper, may_keep, is_drained, is_iface_slot, may_vacate, may_count, may_publish, entry_of, is_snapshot_due, due_after, looked, cleared, collected, standing, with_word, step, exchange, least_id}
+use Rattle.passive_core.specs.declared.event.Event.TheVariants.{Seat, Enter, Exit, Seek, LoadLink, LoadRecord, StoreSlot, StoreNext, Publish, Unpublish, Tell, Hear, Snapshot, Look, PassiveAdd, PassiveSub, PassiveLook, CountAdd, SplitRef, JoinRef, CountDown, SplitBack, Collect, TotalAdd, JoinKeeper, TotalSub, Keep, KeptSub, Vacate}
+use Rattle.passive_core.specs.declared.event.Reply.TheVariants.{Done, Word, Ref, Collected}
+use Rattle.passive_core.proofs.Keeping.{step_holds}
+use Rattle.passive_core.proofs.machine.Core.exchange.Goals as goal
+use Rattle.std.proofs.Common.{nat_eq, eq-eqb, ne_eqb, eqb-true}
+use Rattle.passive_core.proofs.Bounds.{counting_positive}
+
+pub overflow_sub-word : goal.overflow_sub-word
+overflow_sub-word c =
+    let hand = ap (λ (x : State). hand_at x c.args.c) c.self.view_is ∙ c.requires.hand in
+    let place = ap (λ (x : State). slot_of x.slots c.args.number) c.self.view_is ∙ c.requires.slot in
+    let word = c.count_at-word.ensures ∙ ap (λ (x : State). count_at x.counts c.args.c c.args.t) (sym c.self.view_is) in
+    let net = c.net_at-net.ensures ∙ ap (λ (x : State). count_at x.nets c.args.c c.args.t) (sym c.self.view_is) in
+    let same : count_at (shown c.self.inside).counts c.args.c c.args.t ≡ count_at (shown c.self.inside).nets c.args.c c.args.t = sym word ∙ (c.if-word-net.true ∙ net) in
+    omega (arith, counting_positive (shown c.self.inside) c.args.c c.args.number c.args.id c.args.t c.self.invariant hand place same, word, net, same)
+
+pub overflow_sub-net : goal.overflow_sub-net
+overflow_sub-net c =
+    let hand = ap (λ (x : State). hand_at x c.args.c) c.self.view_is ∙ c.requires.hand in
+    let place = ap (λ (x : State). slot_of x.slots c.args.number) c.self.view_is ∙ c.requires.slot in
+    let word = c.count_at-word.ensures ∙ ap (λ (x : State). count_at x.counts c.args.c c.args.t) (sym c.self.view_is) in
+    let net = c.net_at-net.ensures ∙ ap (λ (x : State). count_at x.nets c.args.c c.args.t) (sym c.self.view_is) in
+    let same : count_at (shown c.self.inside).counts c.args.c c.args.t ≡ count_at (shown c.self.inside).nets c.args.c c.args.t = sym word ∙ (c.if-word-net.true ∙ net) in
+    omega (arith, counting_positive (shown c.self.inside) c.args.c c.args.number c.args.id c.args.t c.self.invariant hand place same, word, net, same)
+
+pub invariant_of-self : goal.invariant_of-self
+invariant_of-self c =
+    let hand = ap (λ (x : State). hand_at x c.args.c) c.self.view_is ∙ c.requires.hand in
+    let place = ap (λ (x : State). slot_of x.slots c.args.number) c.self.view_is ∙ c.requires.slot in
+    let word = c.count_at-word.ensures ∙ ap (λ (x : State). count_at x.counts c.args.c c.args.t) (sym c.self.view_is) in
+    let net = c.net_at-net.ensures ∙ ap (λ (x : State). count_at x.nets c.args.c c.args.t) (sym c.self.view_is) in
+    let same : count_at (shown c.self.inside).counts c.args.c c.args.t ≡ count_at (shown c.self.inside).nets c.args.c c.args.t = sym word ∙ (c.if-word-net.true ∙ net) in
+    let test : nat_eq (count_at (shown c.self.inside).counts c.args.c c.args.t) (count_at (shown c.self.inside).nets c.args.c c.args.t) ≡ true = eq-eqb _ _ same in
+    let low : c.args.t < length c.self.inside.counts.items = search rules in
+    let row = get_or_read c.self.inside.counts.items c.args.t c.index_mut.result.now low c.index_mut.ensures.value [] in
+    let low2 : c.args.t < length c.self.inside.nets.items = search rules in
+    let row2 = get_or_read c.self.inside.nets.items c.args.t c.index_mut-then-word-net.result.now low2 c.index_mut-then-word-net.ensures.value [] in
+    step_holds (shown c.self.inside) _ (CountDown c.args.c) (Word c.count_at-word.result) c.self.invariant (rw (hand, place, test, word, net, row, row2) refl)
+
+pub invariant_of-self-else-word-net : goal.invariant_of-self-else-word-net
+invariant_of-self-else-word-net c =
+    let hand = ap (λ (x : State). hand_at x c.args.c) c.self.view_is ∙ c.requires.hand in
+    let place = ap (λ (x : State). slot_of x.slots c.args.number) c.self.view_is ∙ c.requires.slot in
+    let word = c.count_at-word.ensures ∙ ap (λ (x : State). count_at x.counts c.args.c c.args.t) (sym c.self.view_is) in
+    let net = c.net_at-net.ensures ∙ ap (λ (x : State). count_at x.nets c.args.c c.args.t) (sym c.self.view_is) in
+    let test : nat_eq (count_at (shown c.self.inside).counts c.args.c c.args.t) (count_at (shown c.self.inside).nets c.args.c c.args.t) ≡ false = ne_eqb _ _ (λ e. c.if-word-net.false (word ∙ (e ∙ sym net))) in
+    step_holds (shown c.self.inside) _ (CountDown c.args.c) Collected c.self.invariant (rw (hand, place, test) refl)

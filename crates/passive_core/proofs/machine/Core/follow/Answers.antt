@@ -1,0 +1,28 @@
+use Rattle.std.proofs.Common.{◌≡◌, ℕ, ◌+◌, ◌-◌, ◌*◌, ◌<◌, ◌≤◌, suc, length, get_or, List, [], Option, Some, None, Bool, true, false, refl, sym, ap, subst, ◌∙◌, arith, rules, replicate}
+use Rattle.std.proofs.lemmas.List.{get_or_read}
+use Rattle.passive_core.specs.State.{State, section_at, seen_at, search_at, found_at, hand_at, slot_at, row_at, mark_at, passive_at, count_at, total_at, kept_at, local_at, bias}
+use Rattle.passive_core.specs.Shown.{shown}
+use Rattle.passive_core.specs.Slots.{slot_of, at_rest, slot_before}
+use Rattle.passive_core.specs.Events.{is_idle, may_seat, may_enter, may_exit, may_seek, may_write, may_examine, may_look_passive, may_add, may_sub, may_collect, may_join_keeper, may_keep, is_drained, is_iface_slot, may_vacate, may_count, may_publish, entry_of, is_snapshot_due, due_after, looked, cleared, collected, standing, with_word, step, exchange, least_id}
+use Rattle.passive_core.specs.declared.event.Event.TheVariants.{Seat, Enter, Exit, Seek, LoadLink, LoadRecord, StoreSlot, StoreNext, Publish, Unpublish, Tell, Hear, Snapshot, Look, PassiveAdd, PassiveSub, PassiveLook, CountAdd, SplitRef, JoinRef, CountDown, SplitBack, Collect, TotalAdd, JoinKeeper, TotalSub, Keep, KeptSub, Vacate}
+use Rattle.passive_core.specs.declared.event.Reply.TheVariants.{Done, Word, Ref, Collected}
+use Rattle.passive_core.proofs.Keeping.{step_holds}
+use Rattle.passive_core.proofs.machine.Core.follow.Goals as goal
+use Rattle.passive_core.specs.Events.{link_loaded, going_on, after_seeing, taken}
+use Rattle.passive_core.specs.Taken.{Keeps}
+use Rattle.passive_core.specs.declared.state.Place.TheVariants.{AtNumber}
+
+pub invariant_of-self-else-link-eq0 : goal.invariant_of-self-else-link-eq0
+invariant_of-self-else-link-eq0 c =
+    let now = c.changes-now.ensures.value ∙ ap (λ (x : State). length x.history) (sym c.self.view_is) in
+    let one : c.args.link ≡ suc (c.args.link - 1) = omega (arith, c.if-link-eq0.false) in
+    let kept = subst (λ (x : State). Keeps (link_loaded x c.args.c c.args.search (suc (c.args.link - 1)))) (sym c.self.view_is) (subst (λ (k : ℕ). Keeps (link_loaded c.args.self.now c.args.c c.args.search k)) one c.requires.holds) in
+    rw now kept
+
+pub returns-else-link-eq0 : goal.returns-else-link-eq0
+returns-else-link-eq0 c =
+    let now = c.changes-now.ensures.value ∙ ap (λ (x : State). length x.history) (sym c.self.view_is) in
+    let one : c.args.link ≡ suc (c.args.link - 1) = omega (arith, c.if-link-eq0.false) in
+    let eq = ap (link_loaded (shown c.self.inside) c.args.c c.args.search) one
+    ∙ ap (λ (k : ℕ). taken (going_on (after_seeing (shown c.self.inside) c.args.c) c.args.c c.args.search (AtNumber (c.args.link - 1))) (Word k)) (sym one) in
+    ap (λ (x : State). link_loaded x c.args.c c.args.search c.args.link) (sym c.self.view_is) ∙ rw now eq

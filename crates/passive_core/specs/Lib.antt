@@ -1,0 +1,14 @@
+pub mod Refusals
+pub mod Limits
+pub mod Names
+pub mod History
+pub mod State
+pub mod Slots
+pub mod Events
+pub mod Invariant
+pub mod Loaded
+pub mod Ran
+pub mod Model
+pub mod Picture
+pub mod Taken
+pub mod Shown

@@ -1,0 +1,20 @@
+-- What a call that makes one event does.
+use Rattle.std.specs.Prelude.{◌≡◌, IsTrue, IsSome, Option, Some, None, Result, Ok, Err}
+use Rattle.passive_core.specs.declared.event.Event.{Event}
+use Rattle.passive_core.specs.declared.event.Reply.{Reply}
+use Rattle.passive_core.specs.declared.event.StepFault.{StepFault}
+use Rattle.passive_core.specs.declared.event.StepFault.TheVariants.{NotAllowed, NoMemory}
+use Rattle.passive_core.specs.State.{State}
+use Rattle.passive_core.specs.Events.{Outcome, step, grows}
+use Rattle.passive_core.specs.Invariant.{Holds}
+
+-- The reply and the state after are those of the definition; both faults change nothing, and memory is refused only where a list has to grow.
+abbrev pub Steps : State → State → Event → Result Reply StepFault → Type 0
+Steps old new event (Ok reply) = step old event ≡ Some (record { state = new; reply = reply })
+Steps old new event (Err NotAllowed) = (step old event ≡ None) × (new ≡ old)
+Steps old new event (Err NoMemory) = IsTrue (grows event) × IsSome (step old event) × (new ≡ old)
+
+-- the invariant holds after an event, if it was allowed
+abbrev pub Keeps : Option Outcome → Type 0
+Keeps None = Unit {0}
+Keeps (Some o) = Holds o.state

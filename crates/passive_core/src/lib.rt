@@ -1,0 +1,23 @@
+//! The protocol of read sections, passive references and local counts, as a pure machine.
+#![tactic(auto)]
+
+mod entry;
+mod event;
+mod machine;
+mod name;
+mod refusal;
+mod settings;
+mod stage;
+mod state;
+
+pub use entry::{Change, Entry, Kind, Record};
+pub use event::{Counted, Event, RecordOf, Reply, Short, StepFault};
+pub use machine::{BIAS, Core, run_events};
+pub use name::{Name, NameFault, name_laws};
+pub use refusal::Refusal;
+pub use settings::Settings;
+pub use stage::Stage;
+pub use state::{Due, Hand, Key, Loaded, LocalPlace, Mark, Place, RecordWords, Search, Slot};
+
+#[cfg(test)]
+mod tests;

@@ -1,0 +1,153 @@
+//! The pure machine.
+
+mod drain;
+mod grace;
+mod list;
+mod local;
+mod passive;
+mod reading;
+mod run;
+mod search;
+mod sections;
+
+ghost use Rattle.std.specs.Prelude.{◌≡◌, ◌++◌, ◌∷◌, [], IfOk, IfErr, IsErrOf, IsTrue, OnErr, OnOk, false, replicate};
+ghost use Rattle.passive_core.specs.Limits.{are_fit};
+ghost use Rattle.passive_core.specs.Refusals.{IsRefusalOfNew};
+ghost use Rattle.passive_core.specs.State.{opening};
+
+use crate::entry::{Change, Entry};
+use crate::event::StepFault;
+use crate::refusal::Refusal;
+use crate::settings::Settings;
+use crate::state::{Due, Hand, LocalPlace, Mark, RecordWords, Search, Slot};
+pub use run::run_events;
+use std::alloc::{AllocError, Global};
+use std::marker::Model;
+
+/// A count of nothing: a count word is this and the CPU's net count, or 0 once collected.
+pub const BIAS: u64 = 1 << 48;
+
+/// The words of no entry.
+const NO_WORDS: RecordWords = RecordWords {
+    number: 0,
+    kind: 0,
+    high: 0,
+    low: 0,
+    value: 0,
+};
+
+/// No snapshot and no mark.
+const NO_MARK: Mark = Mark {
+    snapshot: None,
+    passed: false,
+    clear: false,
+    collected: false,
+};
+
+/// The machine: the words, and what stands beside them.
+#[derive(Drop)]
+pub struct Core {
+    settings: Settings,
+    section: Vec<u64>,
+    head: u64,
+    next: Vec<u64>,
+    rows: Vec<RecordWords>,
+    passive: Vec<[u64; 8]>,
+    counts: Vec<[u64; 8]>,
+    totals: Vec<u64>,
+    history: Vec<Change>,
+    seated: u8,
+    begins: Vec<Option<u64>>,
+    depths: Vec<u8>,
+    seen: Vec<u64>,
+    searches: Vec<Option<Search>>,
+    found: Vec<Option<Entry>>,
+    hands: Vec<Hand>,
+    nets: Vec<[u64; 8]>,
+    slots: Vec<Slot>,
+    marks: Vec<[Mark; 8]>,
+    keeps: Vec<Option<u64>>,
+    due: Due,
+    locals: Vec<LocalPlace>,
+}
+
+impl Model for Core {
+    ghost use Rattle.passive_core.specs.State.{State};
+
+    ghost Value = { State };
+
+    ghost use Rattle.passive_core.specs.Shown.{shown};
+    ghost use Rattle.passive_core.specs.Invariant.{Holds};
+
+    ghost view = { shown };
+
+    ghost invariant = { λ a. Holds (shown a) };
+}
+
+impl Core {
+    /// A core with these settings: no history, all slots vacant, all words 0 but the totals, and no CPU seated.
+    /// Refused: `BadSettings` where `Settings::check` refuses them, and `NoMemory`.
+    pub fn new(alloc: Global, settings: Settings) -> Result<Core, Refusal>
+        ensures ok { IfOk result (λ core. IsTrue (are_fit settings) × (core ≡ opening settings)) }
+        ensures bad { IsErrOf result Refusal.BadSettings → are_fit settings ≡ false }
+        ensures err { IfErr result IsRefusalOfNew }
+    {
+        settings.check()?;
+        Core::opening(alloc, settings).map_err(|_| Refusal::NoMemory)
+    }
+
+    fn opening(alloc: Global, settings: Settings) -> Result<Core, AllocError>
+        requires { IsTrue (are_fit settings) }
+        ensures { IfOk result (λ core. core ≡ opening settings) }
+    {
+        let cpus = settings.cpus as usize;
+        let slots = settings.slots as usize;
+        Ok(Core {
+            settings,
+            section: repeated(alloc, 0, cpus)?,
+            head: 0,
+            next: repeated(alloc, 0, slots)?,
+            rows: repeated(alloc, NO_WORDS, slots)?,
+            passive: repeated(alloc, [0; 8], slots)?,
+            counts: repeated(alloc, [0; 8], slots)?,
+            totals: repeated(alloc, BIAS, slots)?,
+            history: Vec::new(alloc),
+            seated: 0,
+            begins: repeated(alloc, None, cpus)?,
+            depths: repeated(alloc, 0, cpus)?,
+            seen: repeated(alloc, 0, cpus)?,
+            searches: repeated(alloc, None, cpus)?,
+            found: repeated(alloc, None, cpus)?,
+            hands: repeated(alloc, Hand::Empty, cpus)?,
+            nets: repeated(alloc, [0; 8], slots)?,
+            slots: repeated(alloc, Slot::Vacant, slots)?,
+            marks: repeated(alloc, [NO_MARK; 8], slots)?,
+            keeps: repeated(alloc, None, slots)?,
+            due: Due::Rest,
+            locals: Vec::new(alloc),
+        })
+    }
+}
+
+/// A list of so many equal items.
+fn repeated<T: Copy + Drop>(alloc: Global, item: T, count: usize) -> Result<Vec<T>, AllocError>
+    ensures { IfOk result (λ list. list.items ≡ replicate count item) }
+{
+    let mut list = Vec::new(alloc);
+    for _ in 0..count {
+        list.push(item)?;
+    }
+    Ok(list)
+}
+
+/// Adds an item at the end of a list. Refused: `NoMemory`; the list is then as it was.
+fn grow<T: Drop>(list: &mut Vec<T>, item: T) -> Result<(), StepFault>
+    ensures ok { OnOk result (list.new.items ≡ list.old.items ++ item ∷ []) }
+    ensures err { OnErr result (list.new.items ≡ list.old.items) }
+    ensures fault { IfErr result (λ fault. fault ≡ StepFault.NoMemory) }
+{
+    match list.push(item) {
+        Ok(()) => Ok(()),
+        Err(_) => Err(StepFault::NoMemory),
+    }
+}

@@ -1,0 +1,295 @@
+//! The list: a vacant slot's words, the store that links its entry, and the store that unlinks it.
+
+ghost use Rattle.std.specs.Prelude.{◌≡◌, ◌<◌, ◌≤◌, IsTrue, IfSome, length, take, position, true};
+ghost use Rattle.passive_core.specs.declared.event.Event.TheVariants.{StoreSlot, StoreNext, Publish, Unpublish};
+ghost use Rattle.passive_core.specs.Events.{may_write, with_word, kind_of, entry_if, entry_of, is_bias, are_unused, has_room, keeps_rightly, is_prepared, may_publish};
+ghost use Rattle.passive_core.specs.Slots.{is_taken, is_live_as, is_live, live_count, slot_before, leads_to, same_key, at_rest};
+ghost use Rattle.std.specs.List.{list_all, zip};
+ghost use Rattle.passive_core.specs.State.{slot_at, row_at};
+ghost use Rattle.passive_core.specs.declared.state.Slot.TheVariants.{Live};
+ghost use Rattle.passive_core.specs.History.{key_of};
+ghost use Rattle.passive_core.specs.Taken.{Steps};
+
+use crate::entry::{Change, Entry, Kind, Record};
+use crate::event::{Reply, StepFault};
+use crate::machine::{BIAS, Core, NO_MARK, grow};
+use crate::name::Name;
+use crate::state::{Due, Key, RecordWords, Slot};
+
+impl Core {
+    /// Whether the keeper is at rest and the slot is in range and vacant.
+    pub(crate) fn may_write(&self, t: u8) -> bool
+        ensures value { result ≡ may_write self.now t }
+        ensures slot { IsTrue result → t < self.now.settings.slots }
+    {
+        self.at_rest() && t < self.settings.slots && matches!(self.slots[t as usize], Slot::Vacant)
+    }
+
+    pub(crate) fn step_store_slot(&mut self, t: u8, k: u8, v: u64) -> Result<Reply, StepFault>
+        ensures { Steps self.old self.new (StoreSlot t k v) result }
+    {
+        if k < 5 {
+            self.store_record(t, k, v)
+        } else {
+            self.store_count(t, k, v)
+        }
+    }
+
+    fn store_record(&mut self, t: u8, k: u8, v: u64) -> Result<Reply, StepFault>
+        requires { k < 5 }
+        ensures { Steps self.old self.new (StoreSlot t k v) result }
+    {
+        if !self.may_write(t) {
+            return Err(StepFault::NotAllowed);
+        }
+        let row = self.row_at(t);
+        self.rows[t as usize] = with_word(row, k, v);
+        Ok(Reply::Done)
+    }
+
+    fn store_count(&mut self, t: u8, k: u8, v: u64) -> Result<Reply, StepFault>
+        requires { 5 ≤ k }
+        ensures { Steps self.old self.new (StoreSlot t k v) result }
+    {
+        if !self.may_write(t) || k - 5 >= self.settings.cpus {
+            return Err(StepFault::NotAllowed);
+        }
+        self.counts[t as usize][(k - 5) as usize] = v;
+        Ok(Reply::Done)
+    }
+
+    pub(crate) fn step_store_next(&mut self, t: u8, v: u64) -> Result<Reply, StepFault>
+        ensures { Steps self.old self.new (StoreNext t v) result }
+    {
+        if !self.may_write(t) {
+            return Err(StepFault::NotAllowed);
+        }
+        self.next[t as usize] = v;
+        Ok(Reply::Done)
+    }
+
+    /// Whether a live entry has this kind and name.
+    pub(crate) fn is_taken(&self, key: Key) -> bool
+        ensures { result ≡ is_taken key self.now.slots }
+    {
+        self.slots.iter().any(|slot| is_live_as(key, slot))
+    }
+
+    pub(crate) fn live_count(&self) -> usize
+        ensures value { result ≡ live_count self.now.slots }
+        ensures within { result ≤ 32 }
+    {
+        live_count(&self.slots)
+    }
+
+    /// Whether the history has room for an attach and for the detach of each entry that is live then.
+    pub(crate) fn has_room(&self) -> bool
+        ensures { result ≡ has_room self.now }
+    {
+        self.changes() + self.live_count() as u64 + 2 <= self.settings.change_limit
+    }
+
+    fn are_unused(&self, t: u8) -> bool
+        requires { t < self.now.settings.slots }
+        ensures { result ≡ are_unused self.now t }
+    {
+        are_bias(self.settings.cpus, &self.counts[t as usize]) && self.total_at(t) == BIAS
+    }
+
+    fn may_publish(&self, t: u8, entry: &Entry) -> bool
+        ensures value { result ≡ may_publish self.now t entry.now }
+        ensures slot { IsTrue result → t < self.now.settings.slots }
+    {
+        self.may_write(t)
+            && entry.number == self.changes() + 1
+            && !self.is_taken(key_of(entry))
+            && self.has_room()
+            && self.is_prepared(t, entry.rec.kind)
+    }
+
+    /// Whether the slot's link and counts are those of a new entry, and what it keeps is right for its kind.
+    fn is_prepared(&self, t: u8, kind: Kind) -> bool
+        requires { t < self.now.settings.slots }
+        ensures { result ≡ is_prepared self.now t kind }
+    {
+        self.link_at(t) == self.head && self.are_unused(t) && keeps_rightly(self.kept_at(t), kind)
+    }
+
+    /// The entry that the slot's words are.
+    fn entry_at(&self, t: u8) -> Option<Entry>
+        ensures { result ≡ entry_of t (row_at self.now.rows t) }
+    {
+        if t < self.settings.slots {
+            entry_of(t, &self.rows[t as usize])
+        } else {
+            None
+        }
+    }
+
+    pub(crate) fn step_publish(&mut self, t: u8) -> Result<Reply, StepFault>
+        ensures { Steps self.old self.new (Publish t) result }
+    {
+        let Some(entry) = self.entry_at(t) else {
+            return Err(StepFault::NotAllowed);
+        };
+        if !self.may_publish(t, &entry) {
+            return Err(StepFault::NotAllowed);
+        }
+        grow(&mut self.history, Change::Attach(entry))?;
+        self.head = t as u64 + 1;
+        self.slots[t as usize] = Slot::Live(entry);
+        self.nets[t as usize] = [BIAS; 8];
+        Ok(Reply::Done)
+    }
+
+    /// The live slot whose link leads to this one; none where the head does.
+    fn slot_before(&self, t: u8) -> Option<u8>
+        ensures value { result ≡ slot_before self.now.slots self.now.next t }
+        ensures within { IfSome result (λ p. p < self.now.settings.slots) }
+    {
+        match place_before(&self.slots, &self.next, u64::from(t) + 1) {
+            Some(p) => Some(p as u8),
+            None => None,
+        }
+    }
+
+    pub(crate) fn step_unpublish(&mut self, t: u8) -> Result<Reply, StepFault>
+        ensures { Steps self.old self.new (Unpublish t) result }
+    {
+        let Slot::Live(entry) = self.slot_at(t) else {
+            return Err(StepFault::NotAllowed);
+        };
+        if !self.at_rest() {
+            return Err(StepFault::NotAllowed);
+        }
+        self.unlink(t, entry)
+    }
+
+    fn unlink(&mut self, t: u8, entry: Entry) -> Result<Reply, StepFault>
+        requires live { slot_at self.old.slots t ≡ Live entry }
+        requires rest { at_rest self.old.due ≡ true }
+        ensures { Steps self.old self.new (Unpublish t) result }
+    {
+        let before = self.slot_before(t);
+        let link = self.link_at(t);
+        grow(&mut self.history, Change::Detach(entry.number))?;
+        match before {
+            Some(p) => self.next[p as usize] = link,
+            None => self.head = link,
+        }
+        self.slots[t as usize] = Slot::Retired(entry);
+        self.marks[t as usize] = [NO_MARK; 8];
+        self.due = Due::Snapshots(t, 0);
+        Ok(Reply::Done)
+    }
+}
+
+/// The record words with another word k, from 0; the last for k above 4.
+fn with_word(row: RecordWords, k: u8, v: u64) -> RecordWords
+    ensures { result ≡ with_word row k v }
+{
+    match k {
+        0 => RecordWords { number: v, ..row },
+        1 => RecordWords { kind: v, ..row },
+        2 => RecordWords { high: v, ..row },
+        3 => RecordWords { low: v, ..row },
+        _ => RecordWords { value: v, ..row },
+    }
+}
+
+/// What the entry is looked up by.
+pub(crate) fn key_of(entry: &Entry) -> Key
+    ensures { result ≡ key_of entry.now }
+{
+    Key {
+        kind: entry.rec.kind,
+        name: entry.rec.name,
+    }
+}
+
+fn kind_of(word: u64) -> Option<Kind>
+    ensures { result ≡ kind_of word }
+{
+    match word {
+        1 => Some(Kind::Iface),
+        2 => Some(Kind::Driver),
+        _ => None,
+    }
+}
+
+/// The entry whose words these are, if they have a lawful kind and name.
+fn entry_of(t: u8, row: &RecordWords) -> Option<Entry>
+    ensures { result ≡ entry_of t row.now }
+{
+    let kind = kind_of(row.kind)?;
+    let name = Name::from_words(row.high, row.low)?;
+    Some(Entry {
+        number: row.number,
+        slot: t,
+        rec: Record {
+            kind,
+            name,
+            value: row.value,
+        },
+    })
+}
+
+fn is_live_as(key: Key, slot: &Slot) -> bool
+    ensures { result ≡ is_live_as key slot.now }
+{
+    match slot {
+        Slot::Live(entry) => same_key(key_of(entry), key),
+        Slot::Vacant | Slot::Retired(_) => false,
+    }
+}
+
+fn same_key(a: Key, b: Key) -> bool
+    ensures { result ≡ same_key a b }
+{
+    a.kind == b.kind && a.name == b.name
+}
+
+fn is_live(slot: &Slot) -> bool
+    ensures { result ≡ is_live slot.now }
+{
+    matches!(slot, Slot::Live(_))
+}
+
+fn live_count(slots: &[Slot]) -> usize
+    ensures value { result ≡ live_count slots.now }
+    ensures within { result ≤ length slots.now }
+{
+    slots.iter().filter(|slot| is_live(slot)).count()
+}
+
+fn are_bias(cpus: u8, row: &[u64]) -> bool
+    ensures { result ≡ list_all is_bias (take cpus row.now) }
+{
+    row.iter().take(cpus as usize).all(|word| *word == BIAS)
+}
+
+/// An interface's slot keeps a reference, and a driver's none.
+fn keeps_rightly(kept: Option<u64>, kind: Kind) -> bool
+    ensures { result ≡ keeps_rightly kept kind }
+{
+    match kept {
+        Some(_) => kind == Kind::Iface,
+        None => kind == Kind::Driver,
+    }
+}
+
+fn leads_to(link: u64, slot: &Slot, next: u64) -> bool
+    ensures { result ≡ leads_to link (slot.now, next) }
+{
+    is_live(slot) && next == link
+}
+
+fn place_before(slots: &[Slot], next: &[u64], link: u64) -> Option<usize>
+    ensures value { result ≡ position (leads_to link) (zip slots.now next.now) }
+    ensures within { IfSome result (λ p. p < length slots.now) }
+{
+    slots
+        .iter()
+        .zip(next)
+        .position(|(slot, next)| leads_to(link, slot, *next))
+}

@@ -1,0 +1,183 @@
+//! Searches: from the head along the links, and in each slot over its record words.
+
+ghost use Rattle.std.specs.Prelude.{◌≡◌, ◌<◌, ◌≤◌, Some, IsTrue, length};
+ghost use Rattle.passive_core.specs.declared.event.Event.TheVariants.{Seek, LoadLink, LoadRecord};
+ghost use Rattle.passive_core.specs.declared.event.RecordOf.TheVariants.{Search as OfSearch};
+ghost use Rattle.passive_core.specs.Events.{may_seek, are_words_of, going_on, search_over, link_loaded};
+ghost use Rattle.passive_core.specs.Invariant.{Holds};
+ghost use Rattle.passive_core.specs.Slots.{kind_word};
+ghost use Rattle.passive_core.specs.Loaded.{SlotWithin, loaded, row_of_place, entry_with};
+ghost use Rattle.passive_core.specs.Taken.{Keeps, Steps};
+
+use crate::entry::{Entry, Kind, Record};
+use crate::event::{Reply, StepFault};
+use crate::machine::{Core, NO_WORDS};
+use crate::name::Name;
+use crate::state::{Key, Loaded, Place, RecordWords, Search};
+
+impl Core {
+    fn may_seek(&self, c: u8) -> bool
+        ensures value { result ≡ may_seek self.now c }
+        ensures cpu { IsTrue result → c < self.now.settings.cpus }
+    {
+        self.is_idle(c) && self.begins[c as usize].is_some()
+    }
+
+    pub(crate) fn step_seek(&mut self, c: u8, kind: Kind, name: Name) -> Result<Reply, StepFault>
+        ensures { Steps self.old self.new (Seek c kind name) result }
+    {
+        if !self.may_seek(c) {
+            return Err(StepFault::NotAllowed);
+        }
+        let start = self.seen_at(c);
+        self.searches[c as usize] = Some(Search {
+            key: Key { kind, name },
+            start,
+            place: Place::AtHead,
+        });
+        Ok(Reply::Done)
+    }
+
+    /// The search goes on at another place.
+    fn go_on(&mut self, c: u8, search: Search, place: Place)
+        requires cpu { c < self.old.settings.cpus }
+        requires holds { Holds (going_on self.old c search place) }
+        ensures { self.new ≡ going_on self.old c search place }
+    {
+        self.searches[c as usize] = Some(Search { place, ..search });
+    }
+
+    /// The search is over, and its answer is the last found entry.
+    fn end_search(&mut self, c: u8, answer: Option<Entry>)
+        requires cpu { c < self.old.settings.cpus }
+        requires holds { Holds (search_over self.old c answer) }
+        ensures { self.new ≡ search_over self.old c answer }
+    {
+        self.searches[c as usize] = None;
+        self.found[c as usize] = answer;
+    }
+
+    /// Follows a link: 0 is the end of the list, else a slot plus 1. The whole history is seen now.
+    fn follow(&mut self, c: u8, search: Search, link: u64) -> Reply
+        requires cpu { c < self.old.settings.cpus }
+        requires slot { link ≤ self.old.settings.slots }
+        requires holds { Keeps (link_loaded self.old c search link) }
+        ensures { link_loaded self.old c search link ≡ Some (record { state = self.new; reply = result }) }
+    {
+        let now = self.changes();
+        self.seen[c as usize] = now;
+        if link == 0 {
+            self.searches[c as usize] = None;
+            self.found[c as usize] = None;
+            Reply::Missed
+        } else {
+            let place = Place::AtNumber((link - 1) as u8);
+            self.searches[c as usize] = Some(Search { place, ..search });
+            Reply::Word(link)
+        }
+    }
+
+    pub(crate) fn step_load_link(&mut self, c: u8) -> Result<Reply, StepFault>
+        ensures { Steps self.old self.new (LoadLink c) result }
+    {
+        let Some(search) = self.search_at(c) else {
+            return Err(StepFault::NotAllowed);
+        };
+        match search.place {
+            Place::AtHead => {
+                let link = self.head;
+                Ok(self.follow(c, search, link))
+            }
+            Place::AtNext(t) => {
+                let link = self.next[t as usize];
+                Ok(self.follow(c, search, link))
+            }
+            _ => Err(StepFault::NotAllowed),
+        }
+    }
+
+    pub(crate) fn load_searched(&mut self, c: u8) -> Result<Reply, StepFault>
+        ensures { Steps self.old self.new (LoadRecord (OfSearch c)) result }
+    {
+        let Some(search) = self.search_at(c) else {
+            return Err(StepFault::NotAllowed);
+        };
+        let row = row_of_place(&self.rows, search.place);
+        match loaded(&search, &row) {
+            None => Err(StepFault::NotAllowed),
+            Some(Loaded::On(place, word)) => {
+                self.go_on(c, search, place);
+                Ok(Reply::Word(word))
+            }
+            Some(Loaded::Over(entry)) => {
+                self.end_search(c, Some(entry));
+                Ok(Reply::Found(entry))
+            }
+        }
+    }
+}
+
+/// The record words of the slot that a place is at.
+fn row_of_place(rows: &[RecordWords], place: Place) -> RecordWords
+    requires { SlotWithin place (length rows.now) }
+    ensures { result ≡ row_of_place rows.now place }
+{
+    match place {
+        Place::AtHead => NO_WORDS,
+        Place::AtNext(t)
+        | Place::AtNumber(t)
+        | Place::AtKind(t, _)
+        | Place::AtHigh(t, _, _)
+        | Place::AtLow(t, _, _, _)
+        | Place::AtValue(t, _) => rows[t as usize],
+    }
+}
+
+/// What a search does with the next record word of its slot; none where it is to load a link.
+fn loaded(search: &Search, row: &RecordWords) -> Option<Loaded>
+    ensures { result ≡ loaded search.now search.now.place row.now }
+{
+    match search.place {
+        Place::AtHead | Place::AtNext(_) => None,
+        Place::AtNumber(t) => Some(Loaded::On(Place::AtKind(t, row.number), row.number)),
+        Place::AtKind(t, n) => Some(Loaded::On(Place::AtHigh(t, n, row.kind), row.kind)),
+        Place::AtHigh(t, n, k) => Some(Loaded::On(Place::AtLow(t, n, k, row.high), row.high)),
+        Place::AtLow(t, n, k, h) => {
+            if are_words_of(search.key, k, h, row.low) {
+                Some(Loaded::On(Place::AtValue(t, n), row.low))
+            } else {
+                Some(Loaded::On(Place::AtNext(t), row.low))
+            }
+        }
+        Place::AtValue(t, n) => Some(Loaded::Over(entry_found(search.key, t, n, row.value))),
+    }
+}
+
+/// The word of a kind.
+fn kind_word(kind: Kind) -> u64
+    ensures { result ≡ kind_word kind }
+{
+    match kind {
+        Kind::Iface => 1,
+        Kind::Driver => 2,
+    }
+}
+
+/// Whether these are the words of the kind and the name that are sought.
+fn are_words_of(key: Key, k: u64, h: u64, l: u64) -> bool
+    ensures { result ≡ are_words_of key k h l }
+{
+    let (high, low) = key.name.words();
+    k == kind_word(key.kind) && h == high && l == low
+}
+
+fn entry_found(key: Key, slot: u8, number: u64, value: u64) -> Entry
+    ensures { result ≡ entry_with key slot number value }
+{
+    let rec = Record {
+        kind: key.kind,
+        name: key.name,
+        value,
+    };
+    Entry { number, slot, rec }
+}

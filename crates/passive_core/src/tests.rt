@@ -1,0 +1,139 @@
+use crate::{Name, NameFault, Refusal, Settings, Stage, name_laws};
+use std::test::Fail;
+
+const FAULTS: [(&[u8], NameFault); 4] = [
+    (b"", NameFault::Empty),
+    (b"abcdefghijklmnop", NameFault::TooLong),
+    (b"0wm", NameFault::BadByte(0)),
+    (b"wm-0", NameFault::BadByte(2)),
+];
+
+#[test]
+fn parses_names(rt: HostRuntime) {
+    for text in [b"a".as_slice(), b"wm0", b"abcdefghijklmno"] {
+        assert!(rt; Name::parse(text).is_ok(), "a name of {} bytes", text.len());
+    }
+    for (text, fault) in FAULTS {
+        assert_eq!(rt; Name::parse(text), Err(fault));
+    }
+    name_laws();
+}
+
+#[test]
+fn words_of_a_name(rt: HostRuntime) -> Result<(), Fail> {
+    let name = Name::parse(b"abcdefgh1")?;
+    let words = (0x6162636465666768, 0x3100000000000000);
+    assert_eq!(rt; name.words(), words);
+    assert_eq!(rt; Name::from_words(words.0, words.1), Some(name));
+    let longest = Name::parse(b"abcdefghijklmno")?;
+    assert_eq!(rt;
+        Name::from_words(0x6162636465666768, 0x696a6b6c6d6e6f00),
+        Some(longest)
+    );
+    Ok(())
+}
+
+#[test]
+fn words_of_no_name(rt: HostRuntime) {
+    let no_names = [
+        (0, 0),
+        (0x6162006465666768, 0x3100000000000000),
+        (0x6162636465666768, 0x3100000000000031),
+        (0x6162636465666768, 0x696a6b6c6d6e6f70),
+        (0x3062636465666768, 0x3100000000000000),
+        (0x6142636465666768, 0x3100000000000000),
+    ];
+    for (high, low) in no_names {
+        assert_eq!(rt; Name::from_words(high, low), None, "at {high}, {low}");
+    }
+}
+
+const LEAST: Settings = Settings {
+    cpus: 1,
+    slots: 1,
+    change_limit: 1,
+    section_limit: 1,
+    passive_limit: 1,
+    count_limit: 1,
+};
+
+const MOST: Settings = Settings {
+    cpus: 8,
+    slots: 32,
+    change_limit: 1_000_000,
+    section_limit: 1_099_511_627_776,
+    passive_limit: 1_099_511_627_776,
+    count_limit: 1_099_511_627_776,
+};
+
+fn with_each(base: Settings, sizes: (u8, u8, u64), limit: u64) -> [Settings; 6] {
+    let (cpus, slots, change_limit) = sizes;
+    [
+        Settings { cpus, ..base },
+        Settings { slots, ..base },
+        Settings {
+            change_limit,
+            ..base
+        },
+        Settings {
+            section_limit: limit,
+            ..base
+        },
+        Settings {
+            passive_limit: limit,
+            ..base
+        },
+        Settings {
+            count_limit: limit,
+            ..base
+        },
+    ]
+}
+
+#[test]
+fn settings_have_ranges(rt: HostRuntime) {
+    assert_eq!(rt; LEAST.check(), Ok(()));
+    assert_eq!(rt; MOST.check(), Ok(()));
+    for settings in with_each(MOST, (0, 0, 0), 0) {
+        assert_eq!(rt; settings.check(), Err(Refusal::BadSettings));
+    }
+    for settings in with_each(LEAST, (9, 33, 1_000_001), 1_099_511_627_777) {
+        assert_eq!(rt; settings.check(), Err(Refusal::BadSettings));
+    }
+}
+
+const REFUSALS: [Refusal; 19] = [
+    Refusal::NoMemory,
+    Refusal::BadSettings,
+    Refusal::NameTaken,
+    Refusal::NoSlot,
+    Refusal::HistoryFull,
+    Refusal::NotFound,
+    Refusal::Inside,
+    Refusal::SectionsSpent,
+    Refusal::NothingFound,
+    Refusal::PassiveFull,
+    Refusal::WrongCpu,
+    Refusal::NotHeld,
+    Refusal::LocalFull,
+    Refusal::NotRetired,
+    Refusal::MissingCpu,
+    Refusal::StillHeld(Stage::Grace(3)),
+    Refusal::Waiting(3),
+    Refusal::TooDeep,
+    Refusal::NeedsDriver,
+];
+
+#[test]
+fn refusals_have_numbers_and_texts(rt: HostRuntime) -> Result<(), Fail> {
+    for (i, refusal) in REFUSALS.iter().enumerate() {
+        assert_eq!(rt; usize::from(refusal.number()), i + 1);
+        let text = format!(in rt.alloc(); "{refusal}")?;
+        assert!(rt; !text.is_empty(), "refusal {i}");
+        for other in &REFUSALS[..i] {
+            let before = format!(in rt.alloc(); "{other}")?;
+            assert!(rt; text != before, "refusal {i}");
+        }
+    }
+    Ok(())
+}
