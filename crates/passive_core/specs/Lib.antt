@@ -10,5 +10,6 @@ pub mod Loaded
 pub mod Ran
 pub mod Model
 pub mod Picture
+pub mod Commands
 pub mod Taken
 pub mod Shown

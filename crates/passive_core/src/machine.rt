@@ -1,5 +1,6 @@
 //! The pure machine.
 
+mod commands;
 mod drain;
 mod grace;
 mod list;

@@ -1,0 +1,12 @@
+-- What commands begin with.
+use Rattle.std.specs.Prelude.{ℕ, Bool, not, ◌||◌, nat_lt}
+use Rattle.passive_core.specs.State.{State}
+use Rattle.passive_core.specs.Events.{is_idle}
+
+-- a command may be given to a CPU that is idle or not yet seated
+abbrev pub may_act : State → ℕ → Bool
+may_act s c = not (nat_lt c s.seated) || is_idle s c
+
+-- every CPU has its seat
+abbrev pub all_seated : State → State
+all_seated s = record s { seated = s.settings.cpus }

@@ -1,0 +1,38 @@
+//! The commands of the core: what a caller asks for, made of the events of the protocol.
+//!
+//! Before its first event a command seats all CPUs. A command that is refused has made no event, unless it says so.
+
+mod sections;
+
+ghost use Rattle.std.specs.Prelude.{◌≡◌, ◌<◌, IsSome, Some, false, true};
+ghost use Rattle.passive_core.specs.Commands.{all_seated};
+ghost use Rattle.passive_core.specs.Events.{step, grows};
+ghost use Rattle.passive_core.specs.Slots.{at_rest};
+
+use crate::event::{Event, Reply};
+use crate::machine::Core;
+
+impl Core {
+    /// Makes an event that is known to be allowed and grows nothing.
+    pub(crate) fn make(&mut self, event: Event) -> Reply
+        requires allowed { IsSome (step self.old event) }
+        requires small { grows event ≡ false }
+        ensures { step self.old event ≡ Some (record { state = self.new; reply = result }) }
+    {
+        match self.step(event) {
+            Ok(reply) => reply,
+            Err(_) => unreachable!(),
+        }
+    }
+
+    /// Seats every CPU that has no seat yet.
+    pub(crate) fn seat_all(&mut self)
+        requires { at_rest self.old.due ≡ true }
+        ensures { self.new ≡ all_seated self.old }
+    {
+        let cpus = self.settings.cpus;
+        for c in self.seated..cpus {
+            self.make(Event::Seat(c));
+        }
+    }
+}
