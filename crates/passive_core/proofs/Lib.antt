@@ -1,6 +1,5 @@
 pub mod Balance
 pub mod Bounds
-pub mod Cell
 pub mod Cells
 pub mod CountBounds
 pub mod CountKeeps
@@ -24,7 +23,6 @@ pub mod Passive
 pub mod Picturing
 pub mod Places
 pub mod Publishing
-pub mod Reading
 pub mod References
 pub mod Referring
 pub mod Refining
