@@ -15,6 +15,7 @@ ghost use Rattle.std.specs.Prelude.{◌≡◌, ◌++◌, ◌∷◌, [], IfOk, If
 ghost use Rattle.passive_core.specs.Limits.{are_fit};
 ghost use Rattle.passive_core.specs.Refusals.{IsRefusalOfNew};
 ghost use Rattle.passive_core.specs.State.{opening};
+ghost use Rattle.passive_core.specs.Commands.{IsQuiet};
 
 use crate::entry::{Change, Entry};
 use crate::event::StepFault;
@@ -90,16 +91,21 @@ impl Core {
     /// Refused: `BadSettings` where `Settings::check` refuses them, and `NoMemory`.
     pub fn new(alloc: Global, settings: Settings) -> Result<Core, Refusal>
         ensures ok { IfOk result (λ core. IsTrue (are_fit settings) × (core ≡ opening settings)) }
+        ensures quiet { IfOk result (λ core. IsQuiet core) }
         ensures bad { IsErrOf result Refusal.BadSettings → are_fit settings ≡ false }
         ensures err { IfErr result IsRefusalOfNew }
     {
         settings.check()?;
-        Core::opening(alloc, settings).map_err(|_| Refusal::NoMemory)
+        match Core::opening(alloc, settings) {
+            Ok(core) => Ok(core),
+            Err(_) => Err(Refusal::NoMemory),
+        }
     }
 
     fn opening(alloc: Global, settings: Settings) -> Result<Core, AllocError>
         requires { IsTrue (are_fit settings) }
-        ensures { IfOk result (λ core. core ≡ opening settings) }
+        ensures value { IfOk result (λ core. core ≡ opening settings) }
+        ensures quiet { IfOk result (λ core. IsQuiet core) }
     {
         let cpus = settings.cpus as usize;
         let slots = settings.slots as usize;
