@@ -1,30 +1,25 @@
 -- What the invariant says of the ranges that the code's arithmetic and places need, where an event is allowed.
-use Rattle.std.proofs.Common.{◌≡◌, ℕ, zero, suc, ◌+◌, ◌-◌, ◌*◌, ◌^◌, ◌<◌, ◌≤◌, inl, inr, ⊎_elim, List, length, get_or, Option, Some, None, Bool, true, false, IsTrue, nat_lt, nat_eq, refl, sym, ap, subst, ◌∙◌, arith, ltb-true}
+use Rattle.std.proofs.Common.{◌≡◌, ℕ, ◌+◌, ◌^◌, ◌<◌, ◌≤◌, inr, ⊎_elim, List, length, get_or, Some, true, sym, ◌∙◌, arith}
 use Rattle.std.proofs.lemmas.List.{get_or_past}
-use Rattle.std.proofs.lemmas.Bool.{and_parts, cases_lt}
+use Rattle.std.proofs.lemmas.Bool.{cases_lt}
 use Rattle.passive_core.specs.declared.entry.Entry.{Entry}
-use Rattle.passive_core.specs.declared.state.Hand.{Hand}
 use Rattle.passive_core.specs.declared.state.Hand.TheVariants.{Empty, Taking, Giving, Back}
 use Rattle.passive_core.specs.declared.state.LocalPlace.{LocalPlace}
-use Rattle.passive_core.specs.declared.state.LocalPlace.TheVariants.{Free, Standing, Lifted}
-use Rattle.passive_core.specs.declared.state.Due.{Due}
-use Rattle.passive_core.specs.declared.state.Due.TheVariants.{Rest, Snapshots, Adding, Subtracting}
-use Rattle.passive_core.specs.declared.state.Place.{Place}
-use Rattle.passive_core.specs.declared.state.Place.TheVariants.{AtHead, AtNext, AtNumber, AtKind, AtHigh, AtLow, AtValue}
+use Rattle.passive_core.specs.declared.state.LocalPlace.TheVariants.{Free, Lifted}
+use Rattle.passive_core.specs.declared.state.Due.TheVariants.{Adding, Subtracting}
 use Rattle.passive_core.specs.declared.state.Search.{Search}
 use Rattle.passive_core.specs.State.{State, bias, hand_at, found_at, slot_at, count_at, total_at, kept_at, local_at, search_at}
-use Rattle.passive_core.specs.Slots.{slot_of, at_rest}
-use Rattle.passive_core.specs.Events.{is_idle, may_count, is_drained, is_iface_slot}
-use Rattle.passive_core.specs.Invariant.{IsIn, Holds, PlaceHolds}
+use Rattle.passive_core.specs.Slots.{slot_of}
+use Rattle.passive_core.specs.Events.{is_drained}
+use Rattle.passive_core.specs.Invariant.{IsIn, Holds}
 use Rattle.passive_core.proofs.CountBounds.{word_ceiling, total_at_rest, total_at_subtraction, adding_fits}
 use Rattle.passive_core.proofs.Counts.{is_counting}
-use Rattle.passive_core.proofs.CountKeeps.{fit_of, hand_within, held_counting, idle_tells}
+use Rattle.passive_core.proofs.CountKeeps.{fit_of, hand_within, held_counting}
 use Rattle.passive_core.proofs.Drivers.{kept_found}
-use Rattle.passive_core.proofs.HeldSums.{drivers_stay}
 use Rattle.passive_core.proofs.MarkKeeps.{is_drained_tells}
 use Rattle.passive_core.proofs.Occupied.{slot_has, in_within}
 use Rattle.passive_core.proofs.References.{giving_holds, back_holds, due_adding, due_subtracting}
-use Rattle.passive_core.proofs.Searching.{searching_within, search_walks, place_within}
+use Rattle.passive_core.proofs.Searching.{search_walks, place_within}
 use Rattle.passive_core.specs.Loaded.{SlotWithin}
 
 -- a place that isn't free is in the list

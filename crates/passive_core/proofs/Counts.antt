@@ -1,6 +1,6 @@
 -- Each event keeps the balance of all slots.
-use Rattle.std.proofs.Common.{◌≡◌, ℕ, zero, suc, ◌+◌, ◌-◌, ◌<◌, ◌≤◌, ◌⊎◌, inl, inr, ⊎_elim, List, [], length, get_or, set, replicate, Option, Some, None, Bool, true, false, IsTrue, cond, nat_lt, nat_le, ◌&&◌, ◌==◌, refl, sym, ap, subst, ◌∙◌, arith, sum_by, length-set}
-use Rattle.std.proofs.lemmas.Bool.{cases_lt, cases_Bool, eq-eqb, ne_eqb, and_parts, leb-true}
+use Rattle.std.proofs.Common.{◌≡◌, ℕ, zero, suc, ◌+◌, ◌-◌, ◌<◌, ◌≤◌, ◌⊎◌, inl, inr, ⊎_elim, List, [], length, get_or, set, replicate, Option, Some, None, Bool, true, false, IsTrue, cond, nat_lt, ◌==◌, refl, sym, ap, subst, ◌∙◌, arith, sum_by, length-set}
+use Rattle.std.proofs.lemmas.Bool.{cases_lt, cases_Bool, eq-eqb, ne_eqb}
 use Rattle.std.proofs.lemmas.List.{get_or-replicate, get_or_past, length-replicate}
 use Rattle.passive_core.specs.declared.entry.Entry.{Entry}
 use Rattle.passive_core.specs.declared.settings.Settings.{Settings}

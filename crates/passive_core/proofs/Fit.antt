@@ -1,5 +1,5 @@
 -- The ranges of settings that are fit.
-use Rattle.std.proofs.Common.{◌≡◌, ℕ, ◌^◌, ◌≤◌, Bool, true, ◌&&◌, nat_le, IsTrue, leb-true}
+use Rattle.std.proofs.Common.{◌≡◌, ℕ, ◌^◌, ◌≤◌, true, ◌&&◌, nat_le, IsTrue, leb-true}
 use Rattle.std.proofs.lemmas.Bool.{and_parts}
 use Rattle.passive_core.specs.declared.settings.Settings.{Settings}
 use Rattle.passive_core.specs.Limits.{is_within, are_sizes_fit, are_limits_fit, are_fit}

@@ -1,16 +1,15 @@
 -- What the loads of a search do to the state, by what they make of the words.
-use Rattle.std.proofs.Common.{◌≡◌, ℕ, zero, suc, ◌<◌, ◌≤◌, List, length, get_or, Option, Some, None, Bool, true, false, refl, sym, ap, subst, ◌∙◌, arith}
+use Rattle.std.proofs.Common.{◌≡◌, ℕ, zero, suc, ◌<◌, ◌≤◌, length, get_or, Option, Some, Bool, true, false, refl, subst, arith}
 use Rattle.passive_core.specs.declared.state.Place.{Place}
 use Rattle.passive_core.specs.declared.state.Place.TheVariants.{AtHead, AtNext, AtNumber, AtKind, AtHigh, AtLow, AtValue}
 use Rattle.passive_core.specs.declared.state.Search.{Search}
 use Rattle.passive_core.specs.declared.state.Loaded.{Loaded}
 use Rattle.passive_core.specs.declared.state.Key.{Key}
 use Rattle.passive_core.specs.State.{State, search_at, row_at}
-use Rattle.passive_core.specs.Events.{Outcome, load_link, load_searched, link_loaded, compared, are_words_of}
+use Rattle.passive_core.specs.Events.{load_link, load_searched, link_loaded, compared, are_words_of}
 use Rattle.passive_core.specs.Invariant.{Holds, PlaceHolds}
 use Rattle.passive_core.specs.Loaded.{loaded, judged, row_of_place, outcome_of}
 use Rattle.passive_core.specs.Taken.{Keeps}
-use Rattle.passive_core.proofs.Bounds.{search_within}
 use Rattle.passive_core.proofs.SearchKeeps.{link_keeps, record_keeps}
 use Rattle.passive_core.proofs.Searching.{LinkTells, head_ahead, at_next_ahead, link_tells, search_walks, Walks}
 

@@ -1,9 +1,9 @@
 -- Snapshots, looks, passive references and the end of a slot's use keep the invariant; the opening state has it.
 use Rattle.std.proofs.Common.{Bool, List, None, Option, Some, [], ap, arith, false, get_or, length, length-set, ltb-true, refl, replicate, set, subst, suc, sym, true, zero, ℕ, ⊎_elim, ◌%◌, ◌&&◌, ◌+◌, ◌-◌, ◌<◌, ◌||◌, ◌∙◌, ◌≡◌, ◌≤◌}
-use Rattle.std.proofs.lemmas.Bool.{and_parts, cases_lt, eqb-true, leb-true, or_cases}
+use Rattle.std.proofs.lemmas.Bool.{and_parts, cases_lt, eqb-true, or_cases}
 use Rattle.std.proofs.lemmas.List.{get_or_past, length-replicate}
 use Rattle.std.proofs.lemmas.Option.{none-some}
-use Rattle.std.specs.Prelude.{IsTrue, is_none, nat_le, nat_lt, ◌==◌}
+use Rattle.std.specs.Prelude.{IsTrue, is_none, nat_lt, ◌==◌}
 use Rattle.passive_core.proofs.History.{at_empty}
 use Rattle.passive_core.proofs.ListKeeps.{CountsOf, DriversOf, ReferencesOf, live_count_put, rest_from, retired_from, rows_cell}
 use Rattle.passive_core.proofs.Marking.{get_or_all, held_vacate, links_vacate, list_all_within, list_vacate, marks_look, marks_snapshot, marks_vacate, marks_write, rows_vacate, slots_vacate, snapshots_marked, snapshots_taken, snapshots_vacate}

@@ -6,8 +6,6 @@ use Rattle.passive_core.specs.declared.entry.Kind.{Kind}
 use Rattle.passive_core.specs.declared.entry.Kind.TheVariants.{Iface, Driver}
 use Rattle.passive_core.specs.declared.entry.Entry.{Entry}
 use Rattle.passive_core.specs.declared.entry.Change.TheVariants.{Attach, Detach}
-use Rattle.passive_core.specs.declared.name.Name.{Name}
-use Rattle.passive_core.specs.declared.settings.Settings.{Settings}
 use Rattle.passive_core.specs.declared.event.Event.{Event}
 use Rattle.passive_core.specs.declared.event.Event.TheVariants.{Seat, Enter, Exit, Seek, LoadLink, LoadRecord, StoreSlot, StoreNext, Publish, Unpublish, Tell, Hear, Snapshot, Look, PassiveAdd, PassiveSub, PassiveLook, CountAdd, SplitRef, JoinRef, CountDown, SplitBack, Collect, TotalAdd, JoinKeeper, TotalSub, Keep, KeptSub, Vacate}
 use Rattle.passive_core.specs.declared.event.RecordOf.{RecordOf}
@@ -30,8 +28,8 @@ use Rattle.passive_core.specs.declared.state.Due.{Due}
 use Rattle.passive_core.specs.declared.state.Due.TheVariants.{Rest, Snapshots, Adding, Subtracting}
 use Rattle.passive_core.specs.History.{after_change, key_of}
 use Rattle.passive_core.specs.Names.{are_name_words}
-use Rattle.passive_core.specs.State.{State, bias, no_mark, no_words, cell, with_cell, section_at, begin_at, depth_at, seen_at, search_at, found_at, hand_at, slot_at, row_at, mark_at, passive_at, count_at, total_at, kept_at, local_at}
-use Rattle.passive_core.specs.Slots.{kind_word, is_iface, is_driver, is_vacant, is_live, is_retired, is_taken, live_count, has_number, slot_of, slot_before, is_even, has_changed, have_passed, are_clear, are_collected, is_some_collected, is_empty, at_rest}
+use Rattle.passive_core.specs.State.{State, bias, no_mark, with_cell, section_at, begin_at, depth_at, seen_at, search_at, found_at, hand_at, slot_at, row_at, mark_at, passive_at, count_at, total_at, kept_at, local_at}
+use Rattle.passive_core.specs.Slots.{kind_word, is_iface, is_driver, is_vacant, is_retired, is_taken, live_count, slot_of, slot_before, is_even, has_changed, have_passed, are_clear, are_collected, is_some_collected, is_empty, at_rest}
 
 -- what an event leaves and answers
 pub record Outcome : Type 0 where

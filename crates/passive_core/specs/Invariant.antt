@@ -1,6 +1,6 @@
 -- The core invariant: what holds in every state that events reach. Each clause takes just the lists that it speaks of, so an event passes on what it leaves alone.
-use Rattle.std.specs.Prelude.{◌≡◌, ℕ, zero, suc, ◌+◌, ◌*◌, ◌^◌, ◌<◌, ◌≤◌, ◌%◌, ◌⊎◌, List, [], length, sum_by, Option, Some, None, Bool, true, false, IsTrue, ◌==◌, if◌then◌else◌, slice_index_or}
-use Rattle.passive_core.specs.declared.entry.Kind.TheVariants.{Iface, Driver}
+use Rattle.std.specs.Prelude.{◌≡◌, ℕ, zero, suc, ◌+◌, ◌*◌, ◌<◌, ◌≤◌, ◌%◌, ◌⊎◌, List, [], length, sum_by, Option, Some, None, Bool, true, false, IsTrue, ◌==◌, if◌then◌else◌, slice_index_or}
+use Rattle.passive_core.specs.declared.entry.Kind.TheVariants.{Driver}
 use Rattle.passive_core.specs.declared.entry.Entry.{Entry}
 use Rattle.passive_core.specs.declared.entry.Change.{Change}
 use Rattle.passive_core.specs.declared.settings.Settings.{Settings}

@@ -1,5 +1,5 @@
 -- What a search does with the record words of its slot, apart from the core's state.
-use Rattle.std.specs.Prelude.{ℕ, ◌<◌, List, Option, Some, None, Bool, true, false, if◌then◌else◌}
+use Rattle.std.specs.Prelude.{ℕ, ◌<◌, List, Option, Some, None, Bool, true, false}
 use Rattle.passive_core.specs.declared.entry.Entry.{Entry}
 use Rattle.passive_core.specs.declared.state.Key.{Key}
 use Rattle.passive_core.specs.declared.state.RecordWords.{RecordWords}

@@ -1,6 +1,6 @@
 -- The registry without words: a history, sections, holders, lookups and occupants, the steps that are lawful, and their runs.
-use Rattle.std.specs.Prelude.{◌≡◌, ℕ, zero, suc, ◌+◌, ◌-◌, ◌<◌, ◌≤◌, ◌==◌, List, [], length, Option, Some, None, Bool, true, false, if◌then◌else◌}
-use Rattle.passive_core.specs.declared.entry.Kind.TheVariants.{Iface, Driver}
+use Rattle.std.specs.Prelude.{◌≡◌, ℕ, suc, ◌+◌, ◌-◌, ◌<◌, ◌≤◌, ◌==◌, List, [], length, Option, Some, None, true, if◌then◌else◌}
+use Rattle.passive_core.specs.declared.entry.Kind.TheVariants.{Driver}
 use Rattle.passive_core.specs.declared.entry.Entry.{Entry}
 use Rattle.passive_core.specs.declared.entry.Change.{Change}
 use Rattle.passive_core.specs.declared.entry.Change.TheVariants.{Attach, Detach}

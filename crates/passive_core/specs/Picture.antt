@@ -1,6 +1,5 @@
 -- The picture of a core state: the model state that it shows.
-use Rattle.std.specs.Prelude.{◌≡◌, ℕ, ◌+◌, List, Option, Some, None, Bool, true, false, IsTrue, sum_by, if◌then◌else◌, slice_index_or}
-use Rattle.passive_core.specs.declared.entry.Entry.{Entry}
+use Rattle.std.specs.Prelude.{ℕ, ◌+◌, List, Option, Some, None, IsTrue, sum_by, if◌then◌else◌}
 use Rattle.passive_core.specs.declared.event.Event.{Event}
 use Rattle.passive_core.specs.declared.settings.Settings.{Settings}
 use Rattle.passive_core.specs.declared.state.Slot.{Slot}

@@ -1,5 +1,5 @@
 -- What a list of events does: the state, and how many events were made.
-use Rattle.std.specs.Prelude.{ℕ, ◌+◌, List, [], ◌∷◌, Option, Some, None}
+use Rattle.std.specs.Prelude.{◌+◌, List, [], ◌∷◌, Option, Some, None}
 use Rattle.passive_core.specs.declared.event.Event.{Event}
 use Rattle.passive_core.specs.declared.event.Counted.{Counted}
 use Rattle.passive_core.specs.State.{State}

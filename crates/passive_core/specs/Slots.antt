@@ -1,13 +1,11 @@
 -- What stands in the slots: who is live, which slot has a number, what the marks of a slot say.
-use Rattle.std.specs.Prelude.{ℕ, suc, ◌+◌, ◌%◌, ◌==◌, nat_lt, Bool, true, false, not, ◌&&◌, ◌||◌, is_none, List, take, count_by, position, Option, Some, None, slice_index_or}
+use Rattle.std.specs.Prelude.{ℕ, ◌+◌, ◌%◌, ◌==◌, Bool, true, false, not, ◌&&◌, List, take, count_by, position, Option, Some, None}
 use Rattle.std.specs.List.{list_any, list_all, zip}
 use Rattle.passive_core.specs.declared.entry.Kind.{Kind}
 use Rattle.passive_core.specs.declared.entry.Kind.TheVariants.{Iface, Driver}
 use Rattle.passive_core.specs.declared.entry.Entry.{Entry}
 use Rattle.passive_core.specs.declared.name.Name.{Name}
-use Rattle.passive_core.specs.declared.settings.Settings.{Settings}
 use Rattle.passive_core.specs.declared.state.Key.{Key}
-use Rattle.passive_core.specs.declared.state.RecordWords.{RecordWords}
 use Rattle.passive_core.specs.declared.state.Slot.{Slot}
 use Rattle.passive_core.specs.declared.state.Slot.TheVariants.{Vacant, Live, Retired}
 use Rattle.passive_core.specs.declared.state.Mark.{Mark}

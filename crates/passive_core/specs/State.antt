@@ -1,5 +1,5 @@
 -- The state of the core: its words, and what stands beside them.
-use Rattle.std.specs.Prelude.{ℕ, ◌^◌, List, [], Bool, true, false, Option, None, replicate, slice_index_or, slice_set}
+use Rattle.std.specs.Prelude.{ℕ, List, [], false, Option, None, replicate, slice_index_or, slice_set}
 use Rattle.passive_core.specs.declared.entry.Entry.{Entry}
 use Rattle.passive_core.specs.declared.entry.Change.{Change}
 use Rattle.passive_core.specs.declared.settings.Settings.{Settings}

@@ -1,4 +1,4 @@
-use Rattle.std.proofs.Common.{◌≡◌, ◌+◌, None, Some, Err, refl, subst, get_or, arith}
+use Rattle.std.proofs.Common.{None, Err, subst, get_or, arith}
 use Rattle.passive_core.specs.Taken.{Steps}
 use Rattle.passive_core.specs.declared.event.StepFault.{StepFault}
 use Rattle.passive_core.specs.declared.event.Event.TheVariants.{Seat}
