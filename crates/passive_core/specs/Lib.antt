@@ -13,3 +13,7 @@ pub mod Picture
 pub mod Commands
 pub mod Taken
 pub mod Shown
+pub mod Finding
+pub mod Detaching
+pub mod Laws
+pub mod Rows

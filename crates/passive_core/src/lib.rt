@@ -3,6 +3,7 @@
 
 mod entry;
 mod event;
+mod laws;
 mod machine;
 mod name;
 mod refusal;
@@ -12,6 +13,9 @@ mod state;
 
 pub use entry::{Change, Entry, Kind, Record};
 pub use event::{Counted, Event, RecordOf, Reply, Short, StepFault};
+pub use laws::{
+    balance_at_rest, every_run_keeps, grace_law, headline, lawful_answers, safe_reuse, worked_run,
+};
 pub use machine::{BIAS, Core, run_events};
 pub use name::{Name, NameFault, name_laws};
 pub use refusal::Refusal;

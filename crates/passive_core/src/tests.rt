@@ -1,4 +1,7 @@
-use crate::{Name, NameFault, Refusal, Settings, Stage, name_laws};
+use crate::{
+    Name, NameFault, Refusal, Settings, Stage, balance_at_rest, every_run_keeps, grace_law,
+    headline, lawful_answers, name_laws, safe_reuse, worked_run,
+};
 use std::test::Fail;
 
 const FAULTS: [(&[u8], NameFault); 4] = [
@@ -136,4 +139,15 @@ fn refusals_have_numbers_and_texts(rt: HostRuntime) -> Result<(), Fail> {
         }
     }
     Ok(())
+}
+
+#[test]
+fn laws_end(_rt: HostRuntime) {
+    headline();
+    every_run_keeps();
+    safe_reuse();
+    lawful_answers();
+    balance_at_rest();
+    grace_law();
+    worked_run();
 }

@@ -2,6 +2,8 @@
 //!
 //! Before its first event a command seats all CPUs. A command that is refused has made no event, unless it says so.
 
+mod detach;
+mod find;
 mod sections;
 
 ghost use Rattle.std.specs.Prelude.{◌≡◌, ◌<◌, IsSome, Some, false, true};

@@ -75,6 +75,17 @@ impl Core {
         self.slots.iter().any(|slot| is_live_as(key, slot))
     }
 
+    /// The slot whose live entry has this kind and name.
+    pub(crate) fn live_place(&self, key: Key) -> Option<u8>
+        ensures value { result ≡ position (is_live_as key) self.now.slots }
+        ensures within { IfSome result (λ t. t < self.now.settings.slots) }
+    {
+        match place_live_as(key, &self.slots) {
+            Some(t) => Some(t as u8),
+            None => None,
+        }
+    }
+
     pub(crate) fn live_count(&self) -> usize
         ensures value { result ≡ live_count self.now.slots }
         ensures within { result ≤ 32 }
@@ -241,6 +252,13 @@ fn is_live_as(key: Key, slot: &Slot) -> bool
         Slot::Live(entry) => same_key(key_of(entry), key),
         Slot::Vacant | Slot::Retired(_) => false,
     }
+}
+
+fn place_live_as(key: Key, slots: &[Slot]) -> Option<usize>
+    ensures value { result ≡ position (is_live_as key) slots.now }
+    ensures within { IfSome result (λ t. t < length slots.now) }
+{
+    slots.iter().position(|slot| is_live_as(key, slot))
 }
 
 fn same_key(a: Key, b: Key) -> bool

@@ -1,0 +1,61 @@
+-- Seating all CPUs: who may act before is idle then, and stays so.
+use Rattle.std.proofs.Common.{◌≡◌, ℕ, ◌<◌, ◌≤◌, ⊎_elim, length, get_or, Option, Some, None, Bool, true, false, not, ◌&&◌, ◌||◌, nat_lt, refl, sym, ap, subst, ◌∙◌, arith}
+use Rattle.std.specs.Prelude.{is_none}
+use Rattle.std.proofs.lemmas.Bool.{and_parts, cases_lt, lt-ltb, le-ltb}
+use Rattle.passive_core.specs.Commands.{all_seated, may_act}
+use Rattle.passive_core.specs.Events.{Outcome, guard, is_idle, taken}
+use Rattle.passive_core.specs.declared.event.Reply.{Reply}
+use Rattle.passive_core.specs.Invariant.{Holds}
+use Rattle.passive_core.specs.Slots.{is_empty}
+use Rattle.passive_core.specs.State.{State, search_at, hand_at}
+
+is_none_tells : {X : Type 0} (o : Option X) → is_none o ≡ true → o ≡ None
+is_none_tells None is = refl
+is_none_tells (Some x) is = absurd (let q : ◌≡◌ {A = Bool} false true = is in cc)
+
+-- an idle CPU has no search
+pub idle_unsearching : (s : State) (c : ℕ) → is_idle s c ≡ true → search_at s c ≡ None
+idle_unsearching s c idle =
+    let p = and_parts (nat_lt c s.seated) (is_none (search_at s c) && is_empty (hand_at s c)) idle in
+    is_none_tells (search_at s c) (and_parts (is_none (search_at s c)) (is_empty (hand_at s c)) p.1).0
+
+-- has no search, and nothing in its hand
+IsFree : State → ℕ → Type 0
+IsFree s c = (is_none (search_at s c) && is_empty (hand_at s c)) ≡ true
+
+acting_free : (s : State) (c : ℕ) (b : Bool) → nat_lt c s.seated ≡ b → Holds s → (not b || (b && (is_none (search_at s c) && is_empty (hand_at s c)))) ≡ true → (is_none (search_at s c) && is_empty (hand_at s c)) ≡ true
+acting_free s c true is on may = may
+acting_free s c false is on may =
+    let le : s.seated ≤ c = ⊎_elim
+    (λ (lt : c < s.seated). absurd (let q : ◌≡◌ {A = Bool} true false = sym (lt-ltb c s.seated lt) ∙ is in cc))
+    (λ (ge : s.seated ≤ c). ge)
+    (cases_lt c s.seated) in
+    rw (on.seats.unsearching c le, on.seats.empty c le) refl
+
+pub acting_idle : (s : State) (c : ℕ) → Holds s → c < s.settings.cpus → may_act s c ≡ true → is_idle (all_seated s) c ≡ true
+acting_idle s c on lt may =
+    let free = acting_free s c (nat_lt c s.seated) refl on may in
+    rw (lt-ltb c s.settings.cpus lt) free
+
+-- seating the CPUs keeps nobody from acting
+pub acting_on : (s : State) (c : ℕ) → Holds s → may_act s c ≡ true → may_act (all_seated s) c ≡ true
+acting_on s c on may = ⊎_elim
+    (λ (lt : c < s.settings.cpus). ap (λ (b : Bool). not (nat_lt c s.settings.cpus) || b) (acting_idle s c on lt may) ∙ or_true (not (nat_lt c s.settings.cpus)))
+    (λ (ge : s.settings.cpus ≤ c). ap (λ (b : Bool). not b || is_idle (all_seated s) c) (le-ltb c s.settings.cpus ge))
+    (cases_lt c s.settings.cpus)
+  where
+    or_true : (b : Bool) → (b || true) ≡ true
+    or_true true = refl
+    or_true false = refl
+
+-- what an allowed event leaves
+pub made_is : (b : Bool) (s t : State) (q r : Reply) → b ≡ true → guard b (taken s q) ≡ Some (record { state = t; reply = r }) → t ≡ s
+made_is true s t q r test made = sym (outcome_state s t q r made)
+  where
+    state_or : State → Option Outcome → State
+    state_or s None = s
+    state_or s (Some o) = o.state
+
+    outcome_state : (s t : State) (q r : Reply) → taken s q ≡ Some (record { state = t; reply = r }) → s ≡ t
+    outcome_state s t q r made = ap (state_or s) made
+made_is false s t q r test made = absurd (let no : ◌≡◌ {A = Bool} false true = test in cc)

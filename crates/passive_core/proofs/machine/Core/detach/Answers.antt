@@ -1,0 +1,43 @@
+use Rattle.std.proofs.Common.{◌≡◌, ℕ, Bool, true, refl, sym, ap, subst, ◌∙◌}
+use Rattle.passive_core.specs.Commands.{all_seated, may_act}
+use Rattle.passive_core.specs.Detaching.{detached}
+use Rattle.passive_core.specs.Invariant.{Holds}
+use Rattle.passive_core.specs.State.{State, slot_at}
+use Rattle.passive_core.specs.declared.entry.Entry.{Entry}
+use Rattle.passive_core.specs.declared.state.Slot.TheVariants.{Live}
+use Rattle.passive_core.proofs.Acting.{acting_idle}
+use Rattle.passive_core.proofs.Detaching.{detached_is, detached_ready, detached_settings, snapped_idle, snapped_told, unlinked_blank}
+use Rattle.passive_core.proofs.machine.Core.detach.Goals as goal
+
+pub retire-requires-clause-idle : goal.retire-requires-clause-idle
+retire-requires-clause-idle c =
+    let on : Holds c.args.self.now = subst Holds c.self.view_is c.self.invariant in
+    acting_idle c.args.self.now c.args.c on c.requires.known c.requires.ready
+
+pub take_snapshots-requires-clause-blank : goal.take_snapshots-requires-clause-blank
+take_snapshots-requires-clause-blank c =
+    let on : Holds c.args.self.now = subst Holds c.self.view_is c.self.invariant in
+    unlinked_blank c.args.self.now c.retire.new.self c.in-Some.entry on c.in-Some.ensures.live c.in_ok-retire.ensures.ok
+
+pub make-requires-2-clause-allowed : goal.make-requires-2-clause-allowed
+make-requires-2-clause-allowed c =
+    let on : Holds c.args.self.now = subst Holds c.self.view_is c.self.invariant in
+    let idle = acting_idle c.args.self.now c.args.c on c.requires.known c.requires.ready in
+    let told = snapped_told c.args.self.now c.retire.new.self c.take_snapshots.new.self c.make.new.self c.in-Some.entry c.make.result c.in_ok-retire.ensures.ok c.take_snapshots.ensures c.make.ensures in
+    rw (snapped_idle c.args.self.now c.make.new.self c.in-Some.entry c.args.c told idle) refl
+
+pub returns-clause-settings : goal.returns-clause-settings
+returns-clause-settings c =
+    let on : Holds c.args.self.now = subst Holds c.self.view_is c.self.invariant in
+    let idle = acting_idle c.args.self.now c.args.c on c.requires.known c.requires.ready in
+    let told = snapped_told c.args.self.now c.retire.new.self c.take_snapshots.new.self c.make.new.self c.in-Some.entry c.make.result c.in_ok-retire.ensures.ok c.take_snapshots.ensures c.make.ensures in
+    let is = detached_is c.args.self.now c.make.new.self c.make-2.new.self c.in-Some.entry c.args.c c.make-2.result told idle c.make-2.ensures in
+    detached_settings c.args.self.now c.make-2.new.self c.in-Some.entry c.args.c is
+
+pub returns-clause-ready : goal.returns-clause-ready
+returns-clause-ready c =
+    let on : Holds c.args.self.now = subst Holds c.self.view_is c.self.invariant in
+    let idle = acting_idle c.args.self.now c.args.c on c.requires.known c.requires.ready in
+    let told = snapped_told c.args.self.now c.retire.new.self c.take_snapshots.new.self c.make.new.self c.in-Some.entry c.make.result c.in_ok-retire.ensures.ok c.take_snapshots.ensures c.make.ensures in
+    let is = detached_is c.args.self.now c.make.new.self c.make-2.new.self c.in-Some.entry c.args.c c.make-2.result told idle c.make-2.ensures in
+    detached_ready c.args.self.now c.make-2.new.self c.in-Some.entry c.args.c on is

@@ -1,0 +1,29 @@
+use Rattle.std.proofs.Common.{◌≡◌, ℕ, ◌+◌, ◌<◌, Some, Bool, true, false, refl, sym, ap, subst, ◌∙◌, arith}
+use Rattle.passive_core.specs.Detaching.{snapped}
+use Rattle.passive_core.specs.Invariant.{Holds}
+use Rattle.passive_core.specs.State.{State}
+use Rattle.passive_core.proofs.Detaching.{snap_allowed, snap_turns, snapping, snapping_ends, snapping_starts}
+use Rattle.passive_core.proofs.machine.Core.take_snapshots.Goals as goal
+
+pub loop-d-init : goal.loop-d-init
+loop-d-init c =
+    let on : Holds c.args.self.now = subst Holds c.self.view_is c.self.invariant in
+    snapping_starts c.args.self.now c.args.t on c.requires.due c.requires.blank
+
+pub make-requires-clause-allowed : goal.make-requires-clause-allowed
+make-requires-clause-allowed c =
+    let lt : c.loop-d.d < c.args.self.now.settings.cpus = omega (arith, c.loop-d-test.true, ap (λ (x : State). x.settings.cpus) c.self.view_is) in
+    rw (snap_allowed c.args.self.now c.loop-d.self c.args.t c.loop-d.d lt c.loop-d.invariant) refl
+
+pub loop-d-preserved : goal.loop-d-preserved
+loop-d-preserved c =
+    let on : Holds c.args.self.now = subst Holds c.self.view_is c.self.invariant in
+    let lt : c.loop-d.d < c.args.self.now.settings.cpus = omega (arith, c.loop-d-test.true, ap (λ (x : State). x.settings.cpus) c.self.view_is) in
+    snap_turns c.args.self.now c.loop-d.self c.make.new.self c.args.t c.loop-d.d c.make.result on c.requires.due lt c.loop-d.invariant c.make.ensures
+
+pub returns : goal.returns
+returns c =
+    let on : Holds c.args.self.now = subst Holds c.self.view_is c.self.invariant in
+    let cpus : c.self.inside.settings.cpus ≡ c.args.self.now.settings.cpus = ap (λ (x : State). x.settings.cpus) c.self.view_is in
+    let last : c.loop-d.d ≡ c.args.self.now.settings.cpus = omega (arith, c.loop-d-test.false, c.loop-d.auto.d-end, cpus) in
+    c.loop-d.invariant ∙ (ap (snapping c.args.self.now c.args.t) last ∙ snapping_ends c.args.self.now c.args.t on)

@@ -1,0 +1,44 @@
+-- What a detach answers, and what it leaves.
+use Rattle.std.specs.Prelude.{◌≡◌, ℕ, ◌-◌, List, ◌++◌, map, length, replicate, Option, Some, None, Result, Ok, Err, Bool, true, false, slice_set}
+use Rattle.passive_core.specs.declared.entry.Entry.{Entry}
+use Rattle.passive_core.specs.declared.refusal.Refusal.{Refusal}
+use Rattle.passive_core.specs.declared.refusal.Refusal.TheVariants.{NoMemory, Inside, NotFound}
+use Rattle.passive_core.specs.declared.state.Due.TheVariants.{Rest}
+use Rattle.passive_core.specs.declared.state.Key.{Key}
+use Rattle.passive_core.specs.declared.state.Mark.{Mark}
+use Rattle.passive_core.specs.Commands.{all_seated}
+use Rattle.passive_core.specs.Events.{is_inside, after_seeing, after_unpublish, snapshot_mark}
+use Rattle.passive_core.specs.History.{IsLookup}
+use Rattle.passive_core.specs.State.{State, no_mark}
+
+-- of each CPU its section word as the snapshot, and no marks
+abbrev pub snapshot_row : State → List Mark
+snapshot_row s = map snapshot_mark s.section ++ replicate (8 - s.settings.cpus) no_mark
+
+-- all snapshots for the slot were taken
+abbrev pub snapped : State → ℕ → State
+snapped s t = record s { marks = slice_set s.marks t (snapshot_row s); due = Rest }
+
+-- e was unlinked with its snapshots taken, and c has seen it
+abbrev pub detached : State → ℕ → Entry → State
+detached s c e = after_seeing (snapped (after_unpublish (all_seated s) e.slot e) e.slot) c
+
+-- a refusal changes nothing
+abbrev pub after_detach : State → ℕ → Result Entry Refusal → State
+after_detach s c (Ok e) = detached s c e
+after_detach s c (Err r) = s
+
+-- the answer of a lookup now
+abbrev pub IsLookupNow : State → Key → Option Entry → Type 0
+IsLookupNow s key answer = IsLookup s.history (length s.history) key answer
+
+abbrev pub IsDetachRefusal : State → ℕ → Key → Refusal → Type 0
+IsDetachRefusal s c key Inside = is_inside s c ≡ true
+IsDetachRefusal s c key NotFound = (is_inside s c ≡ false) × IsLookupNow s key None
+IsDetachRefusal s c key NoMemory = (is_inside s c ≡ false) × ((e : Entry) × IsLookupNow s key (Some e))
+IsDetachRefusal s c key _ = ⊥
+
+-- The entry that a lookup of the key gives now. Refused inside a section, where there is none, and for want of memory, in this order.
+abbrev pub IsDetachAnswer : State → ℕ → Key → Result Entry Refusal → Type 0
+IsDetachAnswer s c key (Ok e) = (is_inside s c ≡ false) × IsLookupNow s key (Some e)
+IsDetachAnswer s c key (Err r) = IsDetachRefusal s c key r

@@ -1,0 +1,104 @@
+//! Unlinking an entry.
+
+ghost use Rattle.std.specs.Prelude.{◌≡◌, ◌<◌, ℕ, IfErr, IfOk, IfSome, OnErr, OnOk, replicate, slice_index_or, [], true};
+ghost use Rattle.passive_core.specs.Commands.{all_seated, may_act};
+ghost use Rattle.passive_core.specs.Detaching.{after_detach, snapped, IsDetachAnswer, IsLookupNow};
+ghost use Rattle.passive_core.specs.Events.{after_unpublish, is_idle};
+ghost use Rattle.passive_core.specs.Slots.{at_rest};
+ghost use Rattle.passive_core.specs.State.{no_mark, slot_at};
+ghost use Rattle.passive_core.specs.declared.state.Due.TheVariants.{Snapshots};
+ghost use Rattle.passive_core.specs.declared.state.Slot.TheVariants.{Live};
+
+use crate::entry::{Entry, Kind};
+use crate::event::Event;
+use crate::machine::Core;
+use crate::name::Name;
+use crate::refusal::Refusal;
+use crate::state::{Key, Slot};
+
+impl Core {
+    /// Unlinks the live entry with the kind and the name, on CPU `c` (from 0), and answers it. It is retired then, with
+    /// the snapshot of each CPU's section word, and waits for grace (pserialize(9)) and for its references (psref(9),
+    /// localcount(9)); the CPU has seen the change.
+    /// Refused, in this order: `Inside` where the CPU is inside a section, `NotFound` where no live entry has both, and
+    /// `NoMemory` where the history can't grow. A refusal changes nothing.
+    pub fn detach(&mut self, c: u8, kind: Kind, name: &Name) -> Result<Entry, Refusal>
+        requires known { c < self.old.settings.cpus }
+        requires rest { at_rest self.old.due ≡ true }
+        requires ready { may_act self.old c ≡ true }
+        ensures answer { IsDetachAnswer self.old c (record { kind = kind; name = name.now }) result }
+        ensures live { IfOk result (λ e. slot_at self.old.slots e.slot ≡ Live e) }
+        ensures after { self.new ≡ after_detach self.old c result }
+        ensures settings { self.new.settings ≡ self.old.settings }
+        ensures rest { at_rest self.new.due ≡ true }
+        ensures ready { (d : ℕ) → may_act self.old d ≡ true → may_act self.new d ≡ true }
+    {
+        let _ = &self.due;
+        if self.inside(c) {
+            return Err(Refusal::Inside);
+        }
+        let name = *name;
+        let Some(entry) = self.live_entry(Key { kind, name }) else {
+            return Err(Refusal::NotFound);
+        };
+        self.retire(c, entry)?;
+        self.take_snapshots(entry.slot);
+        self.make(Event::Tell(None));
+        self.make(Event::Hear(Some(c)));
+        Ok(entry)
+    }
+
+    /// The live entry with this kind and name.
+    fn live_entry(&self, key: Key) -> Option<Entry>
+        ensures answer { IsLookupNow self.now key result }
+        ensures live { IfSome result (λ e. slot_at self.now.slots e.slot ≡ Live e) }
+    {
+        let _ = &self.due;
+        let t = self.live_place(key)?;
+        match self.slot_at(t) {
+            Slot::Live(entry) => Some(entry),
+            _ => None,
+        }
+    }
+
+    /// Hands the history to the CPU and unlinks the entry. Refused: `NoMemory`; nothing has changed then, since the
+    /// history grows before the first event.
+    fn retire(&mut self, c: u8, entry: Entry) -> Result<(), Refusal>
+        requires rest { at_rest self.old.due ≡ true }
+        requires idle { is_idle (all_seated self.old) c ≡ true }
+        requires live { slot_at self.old.slots entry.slot ≡ Live entry }
+        ensures ok { OnOk result (self.new ≡ after_unpublish (all_seated self.old) entry.slot entry) }
+        ensures err { OnErr result (self.new ≡ self.old) }
+        ensures fault { IfErr result (λ refusal. refusal ≡ Refusal.NoMemory) }
+    {
+        if self.history.try_reserve(1).is_err() {
+            return Err(Refusal::NoMemory);
+        }
+        let seated = self.seated;
+        self.seat_all();
+        self.make(Event::Tell(Some(c)));
+        self.make(Event::Hear(None));
+        match self.step(Event::Unpublish(entry.slot)) {
+            Ok(_) => Ok(()),
+            Err(_) => {
+                self.seated = seated;
+                Err(Refusal::NoMemory)
+            }
+        }
+    }
+
+    /// Takes the snapshot of each CPU for a slot that was just unlinked.
+    fn take_snapshots(&mut self, t: u8)
+        requires due { self.old.due ≡ Snapshots t 0 }
+        requires blank { slice_index_or self.old.marks t [] ≡ replicate 8 no_mark }
+        ensures { self.new ≡ snapped self.old t }
+    {
+        let cpus = self.settings.cpus;
+        for d in 0..cpus {
+            self.make(Event::Snapshot(Some(t), d));
+        }
+    }
+}
+
+#[cfg(test)]
+mod tests;

@@ -1,0 +1,64 @@
+//! Lookups.
+
+ghost use Rattle.std.specs.Prelude.{◌≡◌, ◌<◌, ℕ, IsSome, Some, length, true};
+ghost use Rattle.passive_core.specs.Commands.{all_seated, may_act};
+ghost use Rattle.passive_core.specs.Events.{is_inside};
+ghost use Rattle.passive_core.specs.Finding.{after_find, next_load};
+ghost use Rattle.passive_core.specs.History.{IsLookup};
+ghost use Rattle.passive_core.specs.Invariant.{Holds};
+ghost use Rattle.passive_core.specs.Slots.{at_rest};
+ghost use Rattle.passive_core.specs.State.{search_at};
+
+use crate::entry::{Entry, Kind};
+use crate::event::{Event, RecordOf, Reply};
+use crate::machine::Core;
+use crate::name::Name;
+use crate::state::{Place, Search};
+
+impl Core {
+    /// Looks the kind and the name up, inside a section of CPU `c` (from 0): the live entry that has both, or `None`
+    /// (pserialize(9), read sections). The answer becomes the CPU's last found entry; `None` clears it. No refusal.
+    pub fn find(&mut self, c: u8, kind: Kind, name: &Name) -> Option<Entry>
+        requires known { c < self.old.settings.cpus }
+        requires rest { at_rest self.old.due ≡ true }
+        requires ready { may_act self.old c ≡ true }
+        requires inside { is_inside self.old c ≡ true }
+        ensures answer { IsLookup self.old.history (length self.old.history) (record { kind = kind; name = name.now }) result }
+        ensures after { self.new ≡ after_find (all_seated self.old) c result }
+        ensures settings { self.new.settings ≡ self.old.settings }
+        ensures rest { at_rest self.new.due ≡ true }
+        ensures ready { (d : ℕ) → may_act self.old d ≡ true → may_act self.new d ≡ true }
+    {
+        let _ = &self.due;
+        self.seat_all();
+        self.make(Event::Seek(c, kind, *name));
+        'walk: loop {
+            match self.load_next(c) {
+                Reply::Found(entry) => return Some(entry),
+                Reply::Missed => return None,
+                _ => {}
+            }
+        }
+    }
+
+    /// Makes the next load of the CPU's search.
+    fn load_next(&mut self, c: u8) -> Reply
+        requires { IsSome (search_at self.old c) }
+        ensures made { next_load self.old c (search_at self.old c) ≡ Some (record { state = self.new; reply = result }) }
+        ensures holds { Holds self.old }
+    {
+        let _ = &self.due;
+        match self.search_at(c) {
+            Some(
+                Search {
+                    place: Place::AtHead | Place::AtNext(_),
+                    ..
+                },
+            ) => self.make(Event::LoadLink(c)),
+            _ => self.make(Event::LoadRecord(RecordOf::Search(c))),
+        }
+    }
+}
+
+#[cfg(test)]
+pub(crate) mod tests;
