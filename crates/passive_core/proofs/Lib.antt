@@ -1,4 +1,6 @@
 pub mod Acting
+pub mod Advancing
+pub mod Attaching
 pub mod Balance
 pub mod Bounds
 pub mod Cells
@@ -7,6 +9,7 @@ pub mod CountKeeps
 pub mod Counts
 pub mod Detaching
 pub mod Drivers
+pub mod Entering
 pub mod Finding
 pub mod Fit
 pub mod Growing
@@ -31,6 +34,7 @@ pub mod Names
 pub mod Numbers
 pub mod Occupied
 pub mod Passive
+pub mod Performing
 pub mod Picturing
 pub mod Places
 pub mod Publishing

@@ -17,3 +17,7 @@ pub mod Finding
 pub mod Detaching
 pub mod Laws
 pub mod Rows
+pub mod Entering
+pub mod Attaching
+pub mod Advancing
+pub mod Performing

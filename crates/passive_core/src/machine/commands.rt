@@ -2,8 +2,12 @@
 //!
 //! Before its first event a command seats all CPUs. A command that is refused has made no event, unless it says so.
 
+mod advance;
+mod attach;
+mod destroy;
 mod detach;
 mod find;
+mod perform;
 mod sections;
 
 ghost use Rattle.std.specs.Prelude.{◌≡◌, ◌<◌, IsSome, Some, false, true};

@@ -154,7 +154,7 @@ fn loaded(search: &Search, row: &RecordWords) -> Option<Loaded>
 }
 
 /// The word of a kind.
-fn kind_word(kind: Kind) -> u64
+pub(crate) fn kind_word(kind: Kind) -> u64
     ensures { result ≡ kind_word kind }
 {
     match kind {

@@ -1,11 +1,18 @@
-//! What a caller may test of a CPU.
+//! Sections: what a caller may test of a CPU, and how a CPU begins and ends its read section (pserialize(9)).
 
-ghost use Rattle.std.specs.Prelude.{◌≡◌, ◌<◌};
-ghost use Rattle.passive_core.specs.Commands.{may_act};
-ghost use Rattle.passive_core.specs.Events.{is_inside};
+ghost use Rattle.std.specs.Prelude.{◌≡◌, ◌<◌, ◌≤◌, ℕ, true};
+ghost use Rattle.passive_core.specs.Commands.{all_seated, may_act};
+ghost use Rattle.passive_core.specs.Entering.{enter_answer, after_enter_command, after_exit_command, with_depth};
+ghost use Rattle.passive_core.specs.Events.{is_idle, is_inside};
+ghost use Rattle.passive_core.specs.Slots.{at_rest};
 ghost use Rattle.passive_core.specs.State.{depth_at};
 
+use crate::event::Event;
 use crate::machine::Core;
+use crate::refusal::Refusal;
+
+/// How deep a section may be nested.
+const DEEPEST: u8 = 255;
 
 impl Core {
     /// Whether the CPU is inside a section.
@@ -30,5 +37,82 @@ impl Core {
         ensures { result ≡ may_act self.now c }
     {
         c >= self.seated || self.is_idle(c)
+    }
+
+    /// Begins a read section on the CPU, or nests the one that is open a level deeper (pserialize(9)). Inside a section
+    /// it only adds 1 to the depth and makes no event; outside all CPUs are seated and the event `Enter` is made, by
+    /// which the whole history is seen.
+    /// Refused, in this order, and nothing has changed then: `TooDeep` where the depth is 255; `SectionsSpent` where the
+    /// CPU is outside a section and has begun as many as the settings allow.
+    pub fn enter(&mut self, c: u8) -> Result<(), Refusal>
+        requires known { c < self.old.settings.cpus }
+        requires rest { at_rest self.old.due ≡ true }
+        requires ready { may_act self.old c ≡ true }
+        ensures answer { result ≡ enter_answer self.old c }
+        ensures after { self.new ≡ after_enter_command self.old c }
+        ensures settings { self.new.settings ≡ self.old.settings }
+        ensures rest { at_rest self.new.due ≡ true }
+        ensures ready { (d : ℕ) → may_act self.old d ≡ true → may_act self.new d ≡ true }
+    {
+        let depth = self.depth(c);
+        if depth == DEEPEST {
+            return Err(Refusal::TooDeep);
+        }
+        if self.inside(c) {
+            self.set_depth(c, depth + 1);
+            return Ok(());
+        }
+        if self.section_at(c) >= 2 * self.settings.section_limit {
+            return Err(Refusal::SectionsSpent);
+        }
+        self.seat_for(c);
+        self.make(Event::Enter(c));
+        Ok(())
+    }
+
+    /// Ends the CPU's read section, or where it is nested takes 1 from its depth (pserialize(9)). At the outermost exit
+    /// all CPUs are seated and the event `Exit` is made, which clears the last found entry; an inner exit makes no event.
+    /// It is never refused.
+    pub fn exit(&mut self, c: u8)
+        requires known { c < self.old.settings.cpus }
+        requires rest { at_rest self.old.due ≡ true }
+        requires ready { may_act self.old c ≡ true }
+        requires inside { is_inside self.old c ≡ true }
+        ensures after { self.new ≡ after_exit_command self.old c }
+        ensures settings { self.new.settings ≡ self.old.settings }
+        ensures rest { at_rest self.new.due ≡ true }
+        ensures ready { (d : ℕ) → may_act self.old d ≡ true → may_act self.new d ≡ true }
+    {
+        let _ = &self.depths;
+        let depth = self.depth(c);
+        if depth == 1 {
+            self.seat_for(c);
+            self.make(Event::Exit(c));
+        } else {
+            self.set_depth(c, depth - 1);
+        }
+    }
+
+    /// Seats every CPU for a command of this one, which is idle then.
+    pub(crate) fn seat_for(&mut self, c: u8)
+        requires known { c < self.old.settings.cpus }
+        requires rest { at_rest self.old.due ≡ true }
+        requires ready { may_act self.old c ≡ true }
+        ensures after { self.new ≡ all_seated self.old }
+        ensures idle { is_idle self.new c ≡ true }
+        ensures ready { (d : ℕ) → may_act self.old d ≡ true → may_act self.new d ≡ true }
+    {
+        let _ = &self.seated;
+        self.seat_all();
+    }
+
+    /// The section that is open on the CPU is this deep now.
+    fn set_depth(&mut self, c: u8, depth: u8)
+        requires known { c < self.old.settings.cpus }
+        requires inside { is_inside self.old c ≡ true }
+        requires deep { 1 ≤ depth }
+        ensures { self.new ≡ with_depth self.old c depth }
+    {
+        self.depths[c as usize] = depth;
     }
 }

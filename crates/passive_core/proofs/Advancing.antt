@@ -1,0 +1,525 @@
+-- What looks, collections and the end of a slot's use tell and leave.
+use Rattle.std.proofs.Common.{◌≡◌, ℕ, zero, suc, ◌+◌, ◌-◌, ◌*◌, ◌%◌, ◌<◌, ◌≤◌, ◌⊎◌, inl, inr, ⊎_elim, List, [], ◌∷◌, length, get_or, set, take, Option, Some, None, Bool, true, false, not, ◌&&◌, ◌||◌, ◌==◌, Result, Ok, refl, sym, ap, subst, ◌∙◌, arith, nat_lt, get_or-set_same, get_or-set_other, add-zero, IsSome}
+use Rattle.std.specs.Prelude.{is_some, is_none}
+use Rattle.std.specs.List.{list_all}
+use Rattle.std.proofs.lemmas.Bool.{and_parts, cases_lt, cases_eq, eqb-true, eq-eqb, lt-ltb}
+use Rattle.std.proofs.lemmas.Option.{same_Some}
+use Rattle.passive_core.specs.declared.entry.Entry.{Entry}
+use Rattle.passive_core.specs.declared.event.Event.{Event}
+use Rattle.passive_core.specs.declared.event.Event.TheVariants.{Look, PassiveLook, Collect, TotalAdd, KeptSub, Vacate}
+use Rattle.passive_core.specs.declared.event.Reply.{Reply}
+use Rattle.passive_core.specs.declared.event.Reply.TheVariants.{Done}
+use Rattle.passive_core.specs.declared.state.Due.{Due}
+use Rattle.passive_core.specs.declared.state.Due.TheVariants.{Rest, Snapshots, Adding}
+use Rattle.passive_core.specs.declared.state.Mark.{Mark}
+use Rattle.passive_core.specs.declared.state.Slot.{Slot}
+use Rattle.passive_core.specs.declared.state.Slot.TheVariants.{Vacant, Live, Retired}
+use Rattle.passive_core.specs.declared.refusal.Refusal.{Refusal}
+use Rattle.passive_core.specs.declared.stage.Stage.{Stage}
+use Rattle.passive_core.specs.declared.stage.Stage.TheVariants.{Grace, Passive, Local, Freed}
+use Rattle.passive_core.specs.Advancing.{AdvanceLeaves, AllClear, AllCollected, AllPassed, Empties, Gathers, Grows, HoldersAreOpen, LeavesMarks, MarksGrow, MarksPass, Passes, SameElsewhere, StageLeaves, advance_answer, given_up, has_passive, is_open_since, is_retired_as, is_snapshot, least_below, or_next, plain_stage, retired_slot, stage_of}
+use Rattle.passive_core.specs.Commands.{all_seated, may_act}
+use Rattle.passive_core.specs.Events.{Outcome, guard, taken, with_some, step, looked, cleared, collected, after_look, after_look_passive, after_collect, after_total, after_kept_sub, after_vacate, may_collect, may_examine, may_look_passive, may_vacate, is_drainable, is_drained, is_iface_slot, keeps_rightly}
+use Rattle.passive_core.specs.History.{EndsAt, MayHold}
+use Rattle.passive_core.specs.Invariant.{Holds, IsIn, one_if, held_at}
+use Rattle.passive_core.specs.Slots.{are_clear, are_collected, at_rest, has_changed, has_number, have_passed, is_clear, is_collected, is_empty, is_even, is_iface, is_passed, is_retired, slot_of}
+use Rattle.passive_core.specs.State.{State, bias, section_at, begin_at, count_at, hand_at, kept_at, mark_at, no_mark, passive_at, search_at, slot_at, total_at, with_cell}
+use Rattle.passive_core.proofs.Fit.{ranges}
+use Rattle.passive_core.proofs.Marking.{row_cases}
+use Rattle.passive_core.proofs.Occupied.{at_rest_tells, in_within, is_retired_tells, number_in, has_it, one_number, slot_found, slot_has}
+use Rattle.passive_core.proofs.Bounds.{driver_positive}
+use Rattle.passive_core.proofs.CountBounds.{all_collected}
+use Rattle.passive_core.proofs.Drivers.{kept_found}
+use Rattle.passive_core.proofs.MarkKeeps.{is_drained_tells}
+use Rattle.passive_core.proofs.Searching.{within_some}
+use Rattle.std.proofs.lemmas.List.{set-get_or}
+use Rattle.std.proofs.lemmas.List.Quantifiers.{position-Some}
+use Rattle.std.proofs.lemmas.Bool.{ne_eqb, cases_Bool}
+
+-- an event that was made left the state that its test guards
+pub guard_state : (b : Bool) (s t : State) (r q : Reply) → b ≡ true → guard b (taken s r) ≡ Some (record { state = t; reply = q }) → t ≡ s
+guard_state true s t r q is made = let same : ◌≡◌ {A = Outcome} (record { state = s; reply = r }) (record { state = t; reply = q }) = same_Some _ _ made in sym (ap (λ (o : Outcome). o.state) same)
+guard_state false s t r q is made = absurd (let f : ◌≡◌ {A = Bool} false true = is in cc)
+
+-- an event whose test passes is allowed
+pub guard_some : (b : Bool) (s : State) (r : Reply) → b ≡ true → IsSome (guard b (taken s r))
+guard_some true s r is = refl
+guard_some false s r is = absurd (let f : ◌≡◌ {A = Bool} false true = is in cc)
+
+pub allowed : (o : Option Outcome) (x : Outcome) → o ≡ Some x → IsSome o
+allowed None x is = absurd (let f : ◌≡◌ {A = Option Outcome} None (Some x) = is in cc)
+allowed (Some y) x is = refl
+
+-- and what it left is known
+pub left_by : (o : Option Outcome) (s t : State) (r q : Reply) → o ≡ Some (record { state = s; reply = r }) → o ≡ Some (record { state = t; reply = q }) → t ≡ s
+left_by o s t r q is made = let same : ◌≡◌ {A = Outcome} (record { state = s; reply = r }) (record { state = t; reply = q }) = same_Some _ _ (sym is ∙ made) in sym (ap (λ (x : Outcome). x.state) same)
+
+pub and_both : (a b : Bool) → a ≡ true → b ≡ true → (a && b) ≡ true
+and_both true b x y = y
+and_both false b x y = x
+
+pub or_last : (a b : Bool) → b ≡ true → (a || b) ≡ true
+or_last true b y = refl
+or_last false b y = y
+
+either_not : (p q : Bool) → (p ≡ true → q ≡ true → ⊥) → (p || not q) ≡ not q
+either_not true true off = absurd (off refl refl)
+either_not true false off = refl
+either_not false q off = refl
+
+not_so : (q : Bool) → (q ≡ true → ⊥) → not q ≡ true
+not_so true off = absurd (off refl)
+not_so false off = refl
+
+pub not_false : (b r : Bool) → r ≡ not b → r ≡ false → b ≡ true
+not_false true r is at = refl
+not_false false r is at = absurd (let q : ◌≡◌ {A = Bool} true false = sym is ∙ at in cc)
+
+pub not_true : (b r : Bool) → r ≡ not b → r ≡ true → b ≡ false
+not_true false r is at = refl
+not_true true r is at = absurd (let q : ◌≡◌ {A = Bool} false true = sym is ∙ at in cc)
+
+-- The least number that passes.
+
+pub none_below : (p : ℕ → Bool) (n : ℕ) → ((d : ℕ) → d < n → p d ≡ false) → least_below p n ≡ None
+none_below p zero all = refl
+none_below p (suc n) all = rw (none_below p n (λ d lt. all d (omega arith)), all n (omega arith)) refl
+
+pub least_is : (p : ℕ → Bool) (c n : ℕ) → c < n → p c ≡ true → ((d : ℕ) → d < c → p d ≡ false) → least_below p n ≡ Some c
+least_is p c zero lt is all = absurd (omega arith)
+least_is p c (suc n) lt is all = ⊎_elim
+    (λ (low : c < n). rw (least_is p c n low is all) refl)
+    (λ (ge : n ≤ c).
+    let same : c ≡ n = omega arith in
+    let here : p n ≡ true = ap p (sym same) ∙ is in
+    rw (none_below p n (λ d below. all d (omega arith)), here) (ap (λ (k : ℕ). Some k) (sym same)))
+    (cases_lt c n)
+
+-- Looks
+
+pub examines : (s : State) (t c : ℕ) → at_rest s.due ≡ true → is_retired (slot_at s.slots t) ≡ true → c < s.settings.cpus → may_examine s t c ≡ true
+examines s t c rest gone lt = and_both (at_rest s.due) _ rest (and_both (nat_lt c s.settings.cpus) _ (lt-ltb c s.settings.cpus lt) gone)
+
+-- a look passes just where the section isn't the one of the snapshot
+shows_passed : (m : Mark) (w x : ℕ) (begin : Option ℕ) → m.snapshot ≡ Some x → (begin ≡ None → w % 2 ≡ 0) → ((b : ℕ) → begin ≡ Some b → w % 2 ≡ 1) → ((b : ℕ) → begin ≡ Some b → m.passed ≡ true → w ≡ x → ⊥)
+    → (looked m w).passed ≡ not (is_some begin && is_snapshot m.snapshot w)
+shows_passed m w x None snap outside inside left =
+    let even : is_even w ≡ true = eq-eqb (w % 2) 0 (outside refl) in
+    or_last m.passed (is_even w || has_changed m.snapshot w) (ap (λ (b : Bool). b || has_changed m.snapshot w) even)
+shows_passed m w x (Some b) snap outside inside left =
+    let odd : is_even w ≡ false = ap (λ (k : ℕ). k == 0) (inside b refl) in
+    rw (snap, odd) (either_not m.passed (x == w) (λ passed same. left b refl passed (sym (eqb-true x w same))))
+
+-- a CPU that has passed isn't in the section of the snapshot
+shows_left : (m : Mark) (w x : ℕ) (begin : Option ℕ) → m.snapshot ≡ Some x → ((b : ℕ) → begin ≡ Some b → m.passed ≡ true → w ≡ x → ⊥) → m.passed ≡ true → true ≡ not (is_some begin && is_snapshot m.snapshot w)
+shows_left m w x None snap left passed = refl
+shows_left m w x (Some b) snap left passed = rw snap (sym (not_so (x == w) (λ same. left b refl passed (sym (eqb-true x w same)))))
+
+pub snapshot_stands : (s : State) (t c : ℕ) → Holds s → at_rest s.due ≡ true → is_retired (slot_at s.slots t) ≡ true → c < s.settings.cpus → (w : ℕ) × ((mark_at s.marks t c).snapshot ≡ Some w)
+snapshot_stands s t c on rest gone lt =
+    let e = is_retired_tells (slot_at s.slots t) gone in
+    on.snapshots t c e.0 e.1 lt (λ due. let q : Rest ≡ Snapshots t due.0 = sym (at_rest_tells s.due rest) ∙ due.1 in cc)
+
+pub look_passes : (s : State) (t c : ℕ) → Holds s → at_rest s.due ≡ true → is_retired (slot_at s.slots t) ≡ true → c < s.settings.cpus
+    → (looked (mark_at s.marks t c) (section_at s c)).passed ≡ not (is_open_since s t c)
+look_passes s t c on rest gone lt =
+    let e = is_retired_tells (slot_at s.slots t) gone in
+    let w = snapshot_stands s t c on rest gone lt in
+    shows_passed (mark_at s.marks t c) (section_at s c) w.0 (begin_at s c) w.1 (λ out. (on.sections.outside c out).0) (λ b in_. (on.sections.inside c b in_).0)
+    (λ b in_ passed same. on.grace.left t c b w.0 e.0 e.1 in_ passed w.1 same)
+
+pub passed_left : (s : State) (t c : ℕ) → Holds s → at_rest s.due ≡ true → is_retired (slot_at s.slots t) ≡ true → c < s.settings.cpus
+    → (mark_at s.marks t c).passed ≡ true → true ≡ not (is_open_since s t c)
+passed_left s t c on rest gone lt passed =
+    let e = is_retired_tells (slot_at s.slots t) gone in
+    let w = snapshot_stands s t c on rest gone lt in
+    shows_left (mark_at s.marks t c) (section_at s c) w.0 (begin_at s c) w.1 (λ b in_ p same. on.grace.left t c b w.0 e.0 e.1 in_ p w.1 same) passed
+
+-- Marks
+
+pub passes_none : (m : Mark) → Passes m m
+passes_none m = record { snapshot = refl; passed = λ x. x; clear = refl; collected = refl }
+
+pub marks_pass_none : (marks : List (List Mark)) (t : ℕ) → MarksPass marks marks t
+marks_pass_none marks t = record { elsewhere = λ u off. refl; here = λ c. passes_none (mark_at marks t c) }
+
+pub marks_pass_more : (a b d : List (List Mark)) (t : ℕ) → MarksPass a b t → MarksPass b d t → MarksPass a d t
+marks_pass_more a b d t x y = record {
+  elsewhere = λ u off. y.elsewhere u off ∙ x.elsewhere u off;
+  here = λ c. record {
+    snapshot = (y.here c).snapshot ∙ (x.here c).snapshot;
+    passed = λ p. (y.here c).passed ((x.here c).passed p);
+    clear = (y.here c).clear ∙ (x.here c).clear;
+    collected = (y.here c).collected ∙ (x.here c).collected;
+  };
+}
+
+-- one mark of a row is written
+pub mark_written : (P : Mark → Mark → Type 0) (marks : List (List Mark)) (t c : ℕ) (m : Mark) → ((x : Mark) → P x x) → P (mark_at marks t c) m → (j : ℕ) → P (mark_at marks t j) (mark_at (with_cell marks t c m) t j)
+mark_written P marks t c m same new j = ⊎_elim
+    (λ (here : (t ≡ t) × (j ≡ c) × (mark_at (with_cell marks t c m) t j ≡ m)).
+    subst (λ (x : Mark). P (mark_at marks t j) x) (sym here.2) (subst (λ (k : ℕ). P (mark_at marks t k) m) (sym here.1) new))
+    (λ (old : mark_at (with_cell marks t c m) t j ≡ mark_at marks t j). subst (λ (x : Mark). P (mark_at marks t j) x) (sym old) (same (mark_at marks t j)))
+    (row_cases no_mark marks t c m t j)
+
+pub row_elsewhere : {X : Type 0} (rows : List (List X)) (t c : ℕ) (x : X) → SameElsewhere rows (with_cell rows t c x) t
+row_elsewhere rows t c x u off = get_or-set_other rows t u (set (get_or rows t []) c x) [] off
+
+pub look_marks : (s : State) (t c : ℕ) → MarksPass s.marks (after_look s t c).marks t
+look_marks s t c =
+    let m : Mark = mark_at s.marks t c in
+    record {
+      elsewhere = row_elsewhere s.marks t c (looked m (section_at s c));
+      here = mark_written Passes s.marks t c (looked m (section_at s c)) passes_none
+          (record { snapshot = refl; passed = λ p. ap (λ (b : Bool). b || (is_even (section_at s c) || has_changed m.snapshot (section_at s c))) p; clear = refl; collected = refl });
+    }
+
+-- what is written is there
+pub mark_there : (s : State) (t c : ℕ) (m : Mark) → Holds s → t < s.settings.slots → c < s.settings.cpus → mark_at (with_cell s.marks t c m) t c ≡ m
+mark_there s t c m on ts lt =
+    let tm : t < length s.marks = omega (arith, on.shape.marks) in
+    let cm : c < length (get_or s.marks t []) = omega (arith, on.shape.mark_rows t tm, (ranges s.settings on.fit).cpus, lt) in
+    ap (λ (r : List Mark). get_or r c no_mark) (get_or-set_same s.marks t (set (get_or s.marks t []) c m) [] tm) ∙ get_or-set_same (get_or s.marks t []) c m no_mark cm
+
+-- a section stays open while only marks for the slot change
+pub open_same : (s n : State) (t c : ℕ) → n ≡ record s { marks = n.marks } → MarksPass s.marks n.marks t → is_open_since n t c ≡ is_open_since s t c
+open_same s n t c only marks = rw (ap (λ (x : State). x.begins) only, ap (λ (x : State). x.section) only, (marks.here c).snapshot) refl
+
+pub look_is : (s n : State) (t c : ℕ) (r : Reply) → at_rest s.due ≡ true → is_retired (slot_at s.slots t) ≡ true → c < s.settings.cpus → step s (Look (Some t) c) ≡ Some (record { state = n; reply = r }) → n ≡ after_look s t c
+look_is s n t c r rest gone lt made = guard_state (may_examine s t c) (after_look s t c) n _ r (examines s t c rest gone lt) made
+
+-- changes of marks alone, one after the other
+pub only_marks : (s m n : State) → m ≡ record s { marks = m.marks } → n ≡ record m { marks = n.marks } → n ≡ record s { marks = n.marks }
+only_marks s m n first then = subst (λ (x : State). n ≡ record x { marks = n.marks }) first then
+
+-- Tests of the marks of all CPUs
+
+all_from : (p : Mark → Bool) (n : ℕ) (row : List Mark) → ((c : ℕ) → c < n → p (get_or row c no_mark) ≡ true) → list_all p (take n row) ≡ true
+all_from p zero row each = refl
+all_from p (suc n) [] each = refl
+all_from p (suc n) (x ∷ row) each = and_both (p x) (list_all p (take n row)) (each 0 (omega arith)) (all_from p n row (λ c lt. each (suc c) (omega arith)))
+
+pub passed_from : (s : State) (t : ℕ) → AllPassed s t → have_passed s.settings.cpus (get_or s.marks t []) ≡ true
+passed_from s t all = all_from is_passed s.settings.cpus (get_or s.marks t []) all
+
+pub clear_from : (s : State) (t : ℕ) → AllClear s t → are_clear s.settings.cpus (get_or s.marks t []) ≡ true
+clear_from s t all = all_from is_clear s.settings.cpus (get_or s.marks t []) all
+
+pub collected_from : (s : State) (t : ℕ) → AllCollected s t → are_collected s.settings.cpus (get_or s.marks t []) ≡ true
+collected_from s t all = all_from is_collected s.settings.cpus (get_or s.marks t []) all
+
+pub drainable_from : (s : State) (t : ℕ) → AllPassed s t → AllClear s t → is_drainable s t ≡ true
+drainable_from s t passed clear = and_both (have_passed s.settings.cpus (get_or s.marks t [])) _ (passed_from s t passed) (clear_from s t clear)
+
+-- Marks that grow
+
+pub grows_none : (m : Mark) → Grows m m
+grows_none m = record { snapshot = refl; passed = λ x. x; clear = λ x. x; collected = λ x. x }
+
+pub grows_more : (a b d : Mark) → Grows a b → Grows b d → Grows a d
+grows_more a b d x y = record { snapshot = y.snapshot ∙ x.snapshot; passed = λ p. y.passed (x.passed p); clear = λ p. y.clear (x.clear p); collected = λ p. y.collected (x.collected p) }
+
+pub marks_grow_none : (marks : List (List Mark)) (t : ℕ) → MarksGrow marks marks t
+marks_grow_none marks t = record { elsewhere = λ u off. refl; here = λ c. grows_none (mark_at marks t c) }
+
+pub marks_grow_more : (a b d : List (List Mark)) (t : ℕ) → MarksGrow a b t → MarksGrow b d t → MarksGrow a d t
+marks_grow_more a b d t x y = record { elsewhere = λ u off. y.elsewhere u off ∙ x.elsewhere u off; here = λ c. grows_more (mark_at a t c) (mark_at b t c) (mark_at d t c) (x.here c) (y.here c) }
+
+pub passing_grows : (a b : List (List Mark)) (t : ℕ) → MarksPass a b t → MarksGrow a b t
+passing_grows a b t x = record {
+  elsewhere = x.elsewhere;
+  here = λ c. record { snapshot = (x.here c).snapshot; passed = (x.here c).passed; clear = λ p. (x.here c).clear ∙ p; collected = λ p. (x.here c).collected ∙ p };
+}
+
+pub mark_grows : (marks : List (List Mark)) (t c : ℕ) (m : Mark) → Grows (mark_at marks t c) m → MarksGrow marks (with_cell marks t c m) t
+mark_grows marks t c m grows = record { elsewhere = row_elsewhere marks t c m; here = mark_written Grows marks t c m grows_none grows }
+
+-- Looks at passive words
+
+shows_clear : (m : Mark) (w : ℕ) → (m.clear ≡ true → w ≡ 0) → (m.clear || (w == 0)) ≡ not (nat_lt 0 w)
+shows_clear m zero zero_if = or_last m.clear (zero == 0) refl
+shows_clear m (suc w) zero_if = ⊎_elim
+    (λ (clear : m.clear ≡ true). absurd (omega (arith, zero_if clear)))
+    (λ (not_yet : m.clear ≡ false). rw (not_yet, ne_eqb (suc w) 0 (λ same. omega arith), lt-ltb 0 (suc w) (omega arith)) refl)
+    (cases_Bool m.clear)
+
+pub passive_clears : (s : State) (t c : ℕ) → Holds s → is_retired (slot_at s.slots t) ≡ true → (cleared (mark_at s.marks t c) (passive_at s.passive c t)).clear ≡ not (has_passive s t c)
+passive_clears s t c on gone =
+    let e = is_retired_tells (slot_at s.slots t) gone in
+    shows_clear (mark_at s.marks t c) (passive_at s.passive c t) (λ clear. (on.passive.clear c t e.0 e.1 clear).1)
+
+pub clear_left : (s : State) (t c : ℕ) → Holds s → is_retired (slot_at s.slots t) ≡ true → (mark_at s.marks t c).clear ≡ true → true ≡ not (has_passive s t c)
+clear_left s t c on gone clear =
+    let e = is_retired_tells (slot_at s.slots t) gone in
+    sym (ap (λ (w : ℕ). not (nat_lt 0 w)) (on.passive.clear c t e.0 e.1 clear).1)
+
+pub examines_passive : (s : State) (t c : ℕ) → at_rest s.due ≡ true → is_retired (slot_at s.slots t) ≡ true → AllPassed s t → c < s.settings.cpus → may_look_passive s t c ≡ true
+examines_passive s t c rest gone passed lt = and_both (may_examine s t c) _ (examines s t c rest gone lt) (passed_from s t passed)
+
+pub passive_look_is : (s n : State) (t c : ℕ) (r : Reply) → at_rest s.due ≡ true → is_retired (slot_at s.slots t) ≡ true → AllPassed s t → c < s.settings.cpus → step s (PassiveLook t c) ≡ Some (record { state = n; reply = r }) → n ≡ after_look_passive s t c
+passive_look_is s n t c r rest gone passed lt made = guard_state (may_look_passive s t c) (after_look_passive s t c) n _ r (examines_passive s t c rest gone passed lt) made
+
+pub passive_look_marks : (s : State) (t c : ℕ) → MarksGrow s.marks (after_look_passive s t c).marks t
+passive_look_marks s t c = mark_grows s.marks t c (cleared (mark_at s.marks t c) (passive_at s.passive c t))
+    (record { snapshot = refl; passed = λ p. p; clear = λ p. ap (λ (b : Bool). b || (passive_at s.passive c t == 0)) p; collected = λ p. p })
+
+-- Collections
+
+pub collects : (s : State) (t c : ℕ) → at_rest s.due ≡ true → is_retired (slot_at s.slots t) ≡ true → AllPassed s t → AllClear s t → c < s.settings.cpus → (mark_at s.marks t c).collected ≡ false → may_collect s t c ≡ true
+collects s t c rest gone passed clear lt yet = and_both (may_examine s t c) _ (examines s t c rest gone lt) (and_both (is_drainable s t) _ (drainable_from s t passed clear) (ap not yet))
+
+pub collect_is : (s n : State) (t c : ℕ) (r : Reply) → at_rest s.due ≡ true → is_retired (slot_at s.slots t) ≡ true → AllPassed s t → AllClear s t → c < s.settings.cpus → (mark_at s.marks t c).collected ≡ false
+    → step s (Collect t c) ≡ Some (record { state = n; reply = r }) → n ≡ after_collect s t c
+collect_is s n t c r rest gone passed clear lt yet made = guard_state (may_collect s t c) (after_collect s t c) n _ r (collects s t c rest gone passed clear lt yet) made
+
+-- a word was collected, and is to be added
+pub adds : (s m : State) (t c : ℕ) → m ≡ after_collect s t c → step m (TotalAdd t) ≡ Some (record { state = after_total (after_collect s t c) t (total_at s.totals t + count_at s.counts c t - bias); reply = Done })
+adds s m t c is = rw (is, eq-eqb t t refl) refl
+
+pub added : (s n : State) (t c : ℕ) → at_rest s.due ≡ true → n ≡ after_total (after_collect s t c) t (total_at s.totals t + count_at s.counts c t - bias) → Gathers s n t
+added s n t c rest is =
+    let m : Mark = collected (mark_at s.marks t c) in
+    let v : ℕ = total_at s.totals t + count_at s.counts c t - bias in
+    subst (λ (x : State). Gathers s x t) (sym is) (record {
+      only = rw (at_rest_tells s.due rest) refl;
+      marks = mark_grows s.marks t c m (record { snapshot = refl; passed = λ p. p; clear = λ p. p; collected = λ p. refl });
+      counts = row_elsewhere s.counts t c 0;
+      totals = λ u off. get_or-set_other s.totals t u v 0 off;
+    })
+
+pub gathers_none : (s : State) (t : ℕ) → Gathers s s t
+gathers_none s t = record { only = refl; marks = marks_grow_none s.marks t; counts = λ u off. refl; totals = λ u off. refl }
+
+pub gathers_more : (a b d : State) (t : ℕ) → Gathers a b t → Gathers b d t → Gathers a d t
+gathers_more a b d t x y = record {
+  only = subst (λ (z : State). d ≡ record z { marks = d.marks; counts = d.counts; totals = d.totals }) x.only y.only;
+  marks = marks_grow_more a.marks b.marks d.marks t x.marks y.marks;
+  counts = λ u off. y.counts u off ∙ x.counts u off;
+  totals = λ u off. y.totals u off ∙ x.totals u off;
+}
+
+-- once all words are collected, the total says what is held
+pub gathered_total : (s : State) (t : ℕ) (e : Entry) → Holds s → at_rest s.due ≡ true → slot_at s.slots t ≡ Retired e → AllCollected s t → total_at s.totals t ≡ bias + held_at s.locals s.hands s.keeps s.due e.number t
+gathered_total s t e on rest gone all = all_collected on.balance t e (at_rest_tells s.due rest) gone all
+
+pub gathered_words : (s : State) (t : ℕ) → Holds s → is_retired (slot_at s.slots t) ≡ true → AllCollected s t → (c : ℕ) → count_at s.counts c t ≡ 0
+gathered_words s t on gone all c =
+    let e = is_retired_tells (slot_at s.slots t) gone in
+    ⊎_elim
+    (λ (lt : c < s.settings.cpus). on.balance.emptied c t e.0 e.1 (all c lt))
+    (λ (ge : s.settings.cpus ≤ c). on.balance.beyond c t ge)
+    (cases_lt c s.settings.cpus)
+
+-- The end of a slot's use
+
+pub drained_from : (s : State) (t : ℕ) → at_rest s.due ≡ true → is_retired (slot_at s.slots t) ≡ true → AllPassed s t → AllClear s t → AllCollected s t → total_at s.totals t ≡ bias → is_drained s t ≡ true
+drained_from s t rest gone passed clear all total =
+    and_both (at_rest s.due) _ rest (and_both (is_retired (slot_at s.slots t)) _ gone (and_both (is_drainable s t) _ (drainable_from s t passed clear)
+    (and_both (are_collected s.settings.cpus (get_or s.marks t [])) _ (collected_from s t all) (eq-eqb (total_at s.totals t) bias total))))
+
+pub vacates : (s : State) (t : ℕ) → kept_at s.keeps t ≡ None → is_drained s t ≡ true → may_vacate s t ≡ true
+vacates s t none drained = and_both (is_none (kept_at s.keeps t)) _ (ap is_none none) drained
+
+pub vacated : (s n : State) (t : ℕ) → Holds s → kept_at s.keeps t ≡ None → is_drained s t ≡ true → n ≡ after_vacate s t → Empties s n t
+vacated s n t on none drained is =
+    let kept : set s.keeps t None ≡ s.keeps = ap (λ (k : Option ℕ). set s.keeps t k) (sym none) ∙ set-get_or s.keeps t None in
+    subst (λ (x : State). Empties s x t) (sym is) (record {
+      only = rw kept refl;
+      totals = λ u off. ap (λ (k : Option ℕ). total_at s.totals u + given_up k (slot_at s.slots u)) none ∙ add-zero (total_at s.totals u);
+      total = (is_drained_tells s t on drained).5;
+    })
+
+-- the driver that a drained slot keeps a reference to has a slot
+pub kept_slot : (s : State) (t d : ℕ) → Holds s → kept_at s.keeps t ≡ Some d → (u : ℕ) × (slot_of s.slots d ≡ Some u)
+kept_slot s t d on kept =
+    let has = on.kept_drivers.drivers t d kept in
+    slot_found s.slots d (has.0, has.1, has.2, has.3)
+
+keeps_as_iface : (s : State) (t d : ℕ) → Holds s → kept_at s.keeps t ≡ Some d → is_drained s t ≡ true → is_iface_slot (slot_at s.slots t) ≡ true
+keeps_as_iface s t d on kept drained =
+    let told = is_drained_tells s t on drained in
+    let right = on.kept_drivers.rightly t told.1.0 (inr told.1.1) in
+    ap is_iface_slot told.1.1 ∙ subst (λ (k : Option ℕ). keeps_rightly k told.1.0.rec.kind ≡ true) kept right
+
+pub gives_up : (s : State) (t d u : ℕ) → Holds s → kept_at s.keeps t ≡ Some d → slot_of s.slots d ≡ Some u → is_drained s t ≡ true → step s (KeptSub t) ≡ Some (record { state = after_kept_sub s t u; reply = Done })
+gives_up s t d u on kept of drained = rw (kept, of, keeps_as_iface s t d on kept drained, drained) refl
+
+pub gave_up : (s n : State) (t d u : ℕ) → Holds s → kept_at s.keeps t ≡ Some d → slot_of s.slots d ≡ Some u → is_drained s t ≡ true → n ≡ after_kept_sub s t u → Empties s n t
+gave_up s n t d u on kept of drained is =
+    let told = is_drained_tells s t on drained in
+    let some : 0 < total_at s.totals u = driver_positive s t d u on kept of drained in
+    let driver = kept_found s.history s.slots s.keeps t d u told.1.0 on.slots on.kept_drivers (inr told.1.1) kept of in
+    let lt : u < length s.totals = omega (arith, in_within s.slots u driver.0 driver.1, on.shape.slots, on.shape.totals) in
+    let new : List ℕ = set s.totals u (total_at s.totals u - 1) in
+    subst (λ (x : State). Empties s x t) (sym is) (record {
+      only = refl;
+      totals = λ v off. ap (λ (k : Option ℕ). total_at new v + given_up k (slot_at s.slots v)) kept ∙ ⊎_elim
+          (λ (same : v ≡ u).
+          let has : has_number d (slot_at s.slots v) ≡ true = ap (λ (k : ℕ). has_number d (slot_at s.slots k)) same ∙ has_it d driver.0 (slot_at s.slots u) driver.1 driver.2 in
+          let one : given_up (Some d) (slot_at s.slots v) ≡ 1 = ap one_if has in
+          let here : total_at new v ≡ total_at s.totals u - 1 = ap (total_at new) same ∙ get_or-set_same s.totals u (total_at s.totals u - 1) 0 lt in
+          omega (arith, one, here, some, ap (total_at s.totals) same))
+          (λ (other : v ≡ u → ⊥).
+          let lacks : has_number d (slot_at s.slots v) ≡ false = ⊎_elim
+          (λ (has : has_number d (slot_at s.slots v) ≡ true).
+          let f = number_in d (slot_at s.slots v) has in
+          absurd (other (one_number s.history s.slots u v driver.0 f.0 on.slots driver.1 f.1 (f.2 ∙ sym driver.2)).0))
+          (λ (not_ : has_number d (slot_at s.slots v) ≡ false). not_)
+          (cases_Bool (has_number d (slot_at s.slots v))) in
+          omega (arith, ap one_if lacks, get_or-set_other s.totals u v (total_at s.totals u - 1) 0 other))
+          (cases_eq v u);
+      total = get_or-set_other s.totals u t (total_at s.totals u - 1) 0 (λ same. driver.4 (sym same)) ∙ told.5;
+    })
+
+-- Retired entries
+
+retired_as : (n : ℕ) (x : Slot) → is_retired_as n x ≡ true → (e : Entry) × (x ≡ Retired e) × (e.number ≡ n)
+retired_as n Vacant is = absurd (let q : ◌≡◌ {A = Bool} false true = is in cc)
+retired_as n (Live e) is = absurd (let q : ◌≡◌ {A = Bool} false true = is in cc)
+retired_as n (Retired e) is = (e, refl, eqb-true e.number n is)
+
+pub retired_slot_tells : (slots : List Slot) (n t : ℕ) → retired_slot slots n ≡ Some t → (t < length slots) × ((e : Entry) × (slot_at slots t ≡ Retired e) × (e.number ≡ n))
+retired_slot_tells slots n t is =
+    let at = position-Some (is_retired_as n) slots t Vacant is in
+    (at.0, retired_as n (slot_at slots t) at.1)
+
+-- an open section that may hold a retired entry was open as its snapshot was taken
+still_open : (begin x : Option ℕ) (b w now : ℕ) → begin ≡ Some b → x ≡ Some w → now ≡ w → (is_some begin && is_snapshot x now) ≡ true
+still_open begin x b w now in_ snap same = rw (in_, snap) (eq-eqb w now (sym same))
+
+pub holders_are_open : (s : State) → Holds s → at_rest s.due ≡ true → HoldersAreOpen s
+holders_are_open s on rest t c b e gone in_ may =
+    let was = on.slots.retired t e gone in
+    let lt : c < s.settings.cpus = omega (arith, within_some s.begins c b in_, on.shape.begins) in
+    let w = snapshot_stands s t c on rest (ap is_retired gone) lt in
+    let same : section_at s c ≡ w.0 = ⊎_elim
+    (λ (is : section_at s c ≡ w.0). is)
+    (λ (off : section_at s c ≡ w.0 → ⊥). absurd (omega (arith, on.grace.changed t was.2.0 c b w.0 e gone was.2.1 in_ w.1 off, may.unended was.2.0 was.2.1)))
+    (cases_eq (section_at s c) w.0) in
+    still_open (begin_at s c) (mark_at s.marks t c).snapshot b w.0 (section_at s c) in_ w.1 same
+
+-- passive references stay while only marks change
+pub passive_same : (s n : State) (t c : ℕ) → n ≡ record s { marks = n.marks } → has_passive n t c ≡ has_passive s t c
+passive_same s n t c only = ap (λ (x : State). has_passive x t c) only
+
+-- a word that was collected is marked so
+pub collected_there : (s n : State) (t c : ℕ) → Holds s → t < s.settings.slots → c < s.settings.cpus → n ≡ after_total (after_collect s t c) t (total_at s.totals t + count_at s.counts c t - bias) → (mark_at n.marks t c).collected ≡ true
+collected_there s n t c on lt low is = ap (λ (x : State). (mark_at x.marks t c).collected) is ∙ ap (λ (m : Mark). m.collected) (mark_there s t c (collected (mark_at s.marks t c)) on lt low)
+
+pub some_is : {X : Type 0} (o : Option X) → is_some o ≡ true → (x : X) × (o ≡ Some x)
+some_is None is = absurd (let q : ◌≡◌ {A = Bool} false true = is in cc)
+some_is (Some x) is = (x, refl)
+
+pub none_is : {X : Type 0} (o : Option X) → is_some o ≡ false → o ≡ None
+none_is None is = refl
+none_is (Some x) is = absurd (let q : ◌≡◌ {A = Bool} true false = is in cc)
+
+pub local_stage : (t k held : ℕ) → k ≡ held → (held ≡ 0 → ⊥) → Local k ≡ stage_of t None None held
+local_stage t k zero same some = absurd (some refl)
+local_stage t k (suc held) same some = ap Local same
+
+pub free_stage : (t held : ℕ) → held ≡ 0 → Freed t ≡ stage_of t None None held
+free_stage t held none = ap (stage_of t None None) (sym none)
+
+-- Seats
+
+acts_idle : (lt : Bool) (cpus : ℕ) (before none empty : Bool) → (before ≡ false → none && empty ≡ true) → (not before || (before && (none && empty))) ≡ true → (not lt || (lt && (none && empty))) ≡ true
+acts_idle false cpus before none empty out acts = refl
+acts_idle true cpus true none empty out acts = acts
+acts_idle true cpus false none empty out acts = out refl
+
+-- a CPU that may act still may once all have their seats
+pub acts_seated : (s : State) (d : ℕ) → Holds s → may_act s d ≡ true → may_act (all_seated s) d ≡ true
+acts_seated s d on acts = acts_idle (nat_lt d s.settings.cpus) 0 (nat_lt d s.seated) (is_none (search_at s d)) (is_empty (hand_at s d))
+    (λ out.
+    let past : s.seated ≤ d = ⊎_elim
+    (λ (lt : d < s.seated). absurd (let q : ◌≡◌ {A = Bool} true false = sym (lt-ltb d s.seated lt) ∙ out in cc))
+    (λ (ge : s.seated ≤ d). ge)
+    (cases_lt d s.seated) in
+    and_both (is_none (search_at s d)) (is_empty (hand_at s d)) (ap is_none (on.seats.unsearching d past)) (ap is_empty (on.seats.empty d past)))
+    acts
+
+-- and nothing of what an advance leaves keeps it from that
+pub stage_acts : (s n : State) (t d : ℕ) (stage : Stage) → s.seated ≡ s.settings.cpus → StageLeaves s n t stage → may_act s d ≡ true → may_act n d ≡ true
+stage_acts s n t d (Grace c) seated left acts = ap (λ (x : State). may_act x d) left.only ∙ (ap (λ (k : ℕ). may_act (record s { seated = k }) d) (sym seated) ∙ acts)
+stage_acts s n t d (Passive c) seated left acts = ap (λ (x : State). may_act x d) left.only ∙ (ap (λ (k : ℕ). may_act (record s { seated = k }) d) (sym seated) ∙ acts)
+stage_acts s n t d (Local k) seated left acts = ap (λ (x : State). may_act x d) left.only ∙ (ap (λ (k : ℕ). may_act (record s { seated = k }) d) (sym seated) ∙ acts)
+stage_acts s n t d (Freed u) seated left acts = ap (λ (x : State). may_act x d) left.only ∙ (ap (λ (k : ℕ). may_act (record s { seated = k }) d) (sym seated) ∙ acts)
+
+-- Advances one after the other
+
+least_same : (p q : ℕ → Bool) (n : ℕ) → ((c : ℕ) → p c ≡ q c) → least_below p n ≡ least_below q n
+least_same p q zero same = refl
+least_same p q (suc n) same = rw (least_same p q n same, same n) refl
+
+-- a stage stays while only seats, marks, counts and totals change
+stage_kept : (s m : State) (t n : ℕ) → m ≡ record s { seated = s.settings.cpus; marks = m.marks; counts = m.counts; totals = m.totals } → MarksGrow s.marks m.marks t → plain_stage m t n ≡ plain_stage s t n
+stage_kept s m t n only marks =
+    let open_ : (c : ℕ) → is_open_since m t c ≡ is_open_since s t c = λ c. rw (ap (λ (x : State). x.begins) only, ap (λ (x : State). x.section) only, (marks.here c).snapshot) refl in
+    let first : least_below (is_open_since m t) m.settings.cpus ≡ least_below (is_open_since s t) s.settings.cpus =
+    least_same (is_open_since m t) (is_open_since s t) m.settings.cpus open_ ∙ ap (λ (x : State). least_below (is_open_since s t) x.settings.cpus) only in
+    let second : least_below (has_passive m t) m.settings.cpus ≡ least_below (has_passive s t) s.settings.cpus = ap (λ (x : State). least_below (has_passive x t) x.settings.cpus) only in
+    let third : held_at m.locals m.hands m.keeps m.due n t ≡ held_at s.locals s.hands s.keeps s.due n t = ap (λ (x : State). held_at x.locals x.hands x.keeps x.due n t) only in
+    rw (first, second, third) refl
+
+abbrev is_freed : Stage → Bool
+is_freed (Grace c) = false
+is_freed (Passive c) = false
+is_freed (Local k) = false
+is_freed (Freed t) = true
+
+pub stage_again : (s m : State) (t n : ℕ) (stage : Stage) → is_freed stage ≡ false → StageLeaves s m t stage → plain_stage m t n ≡ plain_stage s t n
+stage_again s m t n (Grace c) held left = stage_kept s m t n (subst (λ (x : State). x ≡ record s { seated = s.settings.cpus; marks = x.marks; counts = x.counts; totals = x.totals }) (sym left.only) refl) left.marks
+stage_again s m t n (Passive c) held left = stage_kept s m t n (subst (λ (x : State). x ≡ record s { seated = s.settings.cpus; marks = x.marks; counts = x.counts; totals = x.totals }) (sym left.only) refl) left.marks
+stage_again s m t n (Local k) held left = stage_kept s m t n left.only left.marks
+stage_again s m t n (Freed u) held left = absurd (let q : ◌≡◌ {A = Bool} true false = held in cc)
+
+slots_again : (s m : State) (t : ℕ) (stage : Stage) → is_freed stage ≡ false → StageLeaves s m t stage → m.slots ≡ s.slots
+slots_again s m t (Grace c) held left = ap (λ (x : State). x.slots) left.only
+slots_again s m t (Passive c) held left = ap (λ (x : State). x.slots) left.only
+slots_again s m t (Local k) held left = ap (λ (x : State). x.slots) left.only
+slots_again s m t (Freed u) held left = absurd (let q : ◌≡◌ {A = Bool} true false = held in cc)
+
+marks_again : (s m n : State) (t : ℕ) → LeavesMarks s m t → LeavesMarks m n t → LeavesMarks s n t
+marks_again s m n t x y = record {
+  only = subst (λ (z : State). n ≡ record z { seated = z.settings.cpus; marks = n.marks }) x.only y.only;
+  marks = marks_grow_more s.marks m.marks n.marks t x.marks y.marks;
+}
+
+-- the same stage was met twice
+pub leaves_again : (s m n : State) (t : ℕ) (stage : Stage) → is_freed stage ≡ false → StageLeaves s m t stage → StageLeaves m n t stage → StageLeaves s n t stage
+leaves_again s m n t (Grace c) held x y = marks_again s m n t x y
+leaves_again s m n t (Passive c) held x y = marks_again s m n t x y
+leaves_again s m n t (Local k) held x y = record {
+  only = subst (λ (z : State). n ≡ record z { seated = z.settings.cpus; marks = n.marks; counts = n.counts; totals = n.totals }) x.only y.only;
+  marks = marks_grow_more s.marks m.marks n.marks t x.marks y.marks;
+  counts = λ u off. y.counts u off ∙ x.counts u off;
+  collected = y.collected;
+  totals = λ u off. y.totals u off ∙ x.totals u off;
+  total = y.total;
+}
+leaves_again s m n t (Freed u) held x y = absurd (let q : ◌≡◌ {A = Bool} true false = held in cc)
+
+-- the answer is the same the next time, where nothing was freed
+pub answer_again : (s m : State) (number : ℕ) (stage : Stage) → is_freed stage ≡ false → AdvanceLeaves s m number (Ok stage) → advance_answer m number ≡ advance_answer s number
+answer_again s m number stage held left =
+    let slots = slots_again s m left.0 stage held left.2 in
+    let place : retired_slot m.slots number ≡ Some left.0 = ap (λ (x : List Slot). retired_slot x number) slots ∙ left.1 in
+    rw (place, left.1) (ap (λ (x : Stage). Ok x) (stage_again s m left.0 number stage held left.2))
+
+pub advance_again : (s m n : State) (number : ℕ) (stage next : Stage) → is_freed stage ≡ false → AdvanceLeaves s m number (Ok stage) → AdvanceLeaves m n number (Ok next) → next ≡ stage → AdvanceLeaves s n number (Ok next)
+advance_again s m n number stage next held x y same =
+    let slots = slots_again s m x.0 stage held x.2 in
+    let place : Some y.0 ≡ Some x.0 = sym y.1 ∙ (ap (λ (l : List Slot). retired_slot l number) slots ∙ x.1) in
+    let one : y.0 ≡ x.0 = same_Some y.0 x.0 place in
+    let second : StageLeaves m n x.0 stage = subst (λ (k : ℕ). StageLeaves m n k stage) one (subst (StageLeaves m n y.0) same y.2) in
+    (x.0, x.1, subst (StageLeaves s n x.0) (sym same) (leaves_again s m n x.0 stage held x.2 second))
+
+pub not_freed : (stage : Stage) → ((t : ℕ) → stage ≡ Freed t → ⊥) → is_freed stage ≡ false
+not_freed (Grace c) off = refl
+not_freed (Passive c) off = refl
+not_freed (Local k) off = refl
+not_freed (Freed t) off = absurd (off t refl)
+
+pub same_Ok : (a b : Stage) → ◌≡◌ {A = Result Stage Refusal} (Ok a) (Ok b) → a ≡ b
+same_Ok a b is = cc

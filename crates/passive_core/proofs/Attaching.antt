@@ -1,0 +1,360 @@
+-- Attaches: the words that are stored, the slot that is taken, and why the entry may be linked.
+use Rattle.std.proofs.Common.{◌≡◌, ℕ, zero, suc, ◌+◌, ◌-◌, ◌<◌, ◌≤◌, ⊎_elim, List, [], ◌∷◌, ◌++◌, length, get_or, set, take, drop, replicate, get_or-set_same, length-append, Option, Some, None, Bool, true, false, not, ◌&&◌, ◌==◌, is_none, nat_lt, nat_le, nat_eq, IsTrue, refl, sym, add-one, ap, subst, ◌∙◌, arith, lt-ltb, eq-eqb}
+use Rattle.std.specs.Prelude.{if◌then◌else◌, position, Result, Ok, Err}
+use Rattle.std.specs.List.{list_all, zip}
+use Rattle.std.proofs.Math.Seq.{drop-cons}
+use Rattle.std.proofs.lemmas.Bool.{and_from, and_parts, cases_lt, le-ltb}
+use Rattle.std.proofs.lemmas.List.{length-replicate, replicate_more, set-get_or, set-set, set_at, set_past, take-replicate, take-append-le, append_assoc}
+use Rattle.std.proofs.lemmas.List.Quantifiers.{position-Some}
+use Rattle.std.proofs.lemmas.Slice.Zip.{get_or-zip, length-zip}
+use Rattle.passive_core.specs.declared.entry.Entry.{Entry}
+use Rattle.passive_core.specs.declared.entry.Kind.{Kind}
+use Rattle.passive_core.specs.declared.entry.Kind.TheVariants.{Iface, Driver}
+use Rattle.passive_core.specs.declared.entry.Record.{Record}
+use Rattle.passive_core.specs.declared.event.Event.TheVariants.{StoreSlot, Publish}
+use Rattle.passive_core.specs.declared.event.Reply.{Reply}
+use Rattle.passive_core.specs.declared.event.Reply.TheVariants.{Done}
+use Rattle.passive_core.specs.declared.machine.commands.attach.Before.{Before}
+use Rattle.passive_core.specs.declared.refusal.Refusal.{Refusal}
+use Rattle.passive_core.specs.declared.refusal.Refusal.TheVariants.{NameTaken, NoSlot, HistoryFull}
+use Rattle.passive_core.specs.declared.state.LocalPlace.{LocalPlace}
+use Rattle.passive_core.specs.declared.state.LocalPlace.TheVariants.{Free, Standing, Lifted}
+use Rattle.passive_core.specs.declared.state.RecordWords.{RecordWords}
+use Rattle.passive_core.specs.declared.state.Slot.{Slot}
+use Rattle.passive_core.specs.declared.state.Slot.TheVariants.{Vacant, Live, Retired}
+use Rattle.passive_core.specs.Attaching.{entry_in, given_back, given_entry, is_driver_in, is_driver_number, is_plain, is_to_driver, keeping, key_of_record, next_entry, plain_slot, prepared, restored, with_biases, words_before}
+use Rattle.passive_core.specs.Commands.{all_seated, may_act}
+use Rattle.passive_core.specs.Events.{Outcome, after_count_store, after_keep, after_publish, after_row_store, after_seeing, are_unused, entry_of, has_room, is_bias, is_driver_slot, is_prepared, keeps_rightly, may_keep, may_publish, may_write, standing, step, with_word, words_of}
+use Rattle.passive_core.specs.History.{key_of}
+use Rattle.passive_core.specs.Invariant.{Holds}
+use Rattle.passive_core.specs.Names.{are_name_words, is_lawful}
+use Rattle.passive_core.specs.Slots.{at_rest, is_iface, is_taken, is_vacant, slot_of}
+use Rattle.passive_core.specs.State.{State, bias, kept_at, local_at, no_words, row_at, slot_at, total_at, with_cell}
+use Rattle.passive_core.proofs.CountKeeps.{keep_keeps}
+use Rattle.passive_core.proofs.Fit.{ranges}
+use Rattle.passive_core.proofs.ListKeeps.{may_write_tells}
+use Rattle.passive_core.proofs.SectionKeeps.{cpus_keep, none_from}
+
+-- The record words.
+
+-- a second word is stored in a row that was stored, in a slot or past them
+row_again : (rows : List RecordWords) (t : ℕ) (r : RecordWords) (k v : ℕ) → set (set rows t r) t (with_word (row_at (set rows t r) t) k v) ≡ set rows t (with_word r k v)
+row_again rows t r k v = ⊎_elim
+    (λ (lt : t < length rows). set-set rows t r (with_word (row_at (set rows t r) t) k v) ∙ ap (λ (x : RecordWords). set rows t (with_word x k v)) (get_or-set_same rows t r no_words lt))
+    (λ (ge : length rows ≤ t). set-set rows t r (with_word (row_at (set rows t r) t) k v) ∙ (set_past rows t (with_word (row_at (set rows t r) t) k v) ge ∙ sym (set_past rows t (with_word r k v) ge)))
+    (cases_lt t (length rows))
+
+abbrev pub with_row : State → ℕ → RecordWords → State
+with_row s t r = record s { rows = set s.rows t r }
+
+pub row_first : (s : State) (t : ℕ) → s ≡ with_row s t (row_at s.rows t)
+row_first s t = ap (λ (rows : List RecordWords). record s { rows = rows }) (sym (set-get_or s.rows t no_words))
+
+pub row_next : (s now next : State) (t k v : ℕ) (r : RecordWords) → now ≡ with_row s t r → next ≡ after_row_store now t k v → next ≡ with_row s t (with_word r k v)
+row_next s now next t k v r at is =
+    is ∙ (ap (λ (x : State). after_row_store x t k v) at ∙ ap (λ (rows : List RecordWords). record s { rows = rows }) (row_again s.rows t r k v))
+
+-- The count words.
+
+pub count_store_allowed : (s : State) (t c v : ℕ) → may_write s t ≡ true → c < s.settings.cpus → step s (StoreSlot t (5 + c) v) ≡ Some (record { state = after_count_store s t c v; reply = Done })
+count_store_allowed s t c v write lt =
+    let many : nat_lt (5 + c) 5 ≡ false = le-ltb (5 + c) 5 (omega arith) in
+    let same : 5 + c - 5 ≡ c = omega arith in
+    let cpu : nat_lt c s.settings.cpus ≡ true = lt-ltb c s.settings.cpus lt in
+    rw (many, same, write, cpu) refl
+
+-- one count word more
+biases_more : (row : List ℕ) (c : ℕ) → c < length row → set (with_biases c row) c bias ≡ with_biases (c + 1) row
+biases_more row c lt =
+    let next : drop c row ≡ get_or row c 0 ∷ drop (c + 1) row = rw add-one (drop-cons row c 0 lt) in
+    ap (λ (xs : List ℕ). set (replicate c bias ++ xs) c bias) next
+    ∙ (set_at (replicate c bias) (get_or row c 0) (drop (c + 1) row) bias c (length-replicate c bias)
+    ∙ (sym (append_assoc (replicate c bias) (bias ∷ []) (drop (c + 1) row)) ∙ ap (λ (xs : List ℕ). xs ++ drop (c + 1) row) (replicate_more c bias)))
+
+abbrev pub with_counts : State → ℕ → ℕ → State
+with_counts s t c = record s { counts = set s.counts t (with_biases c (get_or s.counts t [])) }
+
+pub counts_first : (s : State) (t : ℕ) → s ≡ with_counts s t 0
+counts_first s t = ap (λ (counts : List (List ℕ)). record s { counts = counts }) (sym (set-get_or s.counts t []))
+
+pub counts_next : (s : State) (t c : ℕ) → t < length s.counts → c < length (get_or s.counts t []) → after_count_store (with_counts s t c) t c bias ≡ with_counts s t (c + 1)
+counts_next s t c low lt =
+    let row = get_or s.counts t [] in
+    let here : get_or (set s.counts t (with_biases c row)) t [] ≡ with_biases c row = get_or-set_same s.counts t (with_biases c row) [] low in
+    let more : set (get_or (set s.counts t (with_biases c row)) t []) c bias ≡ with_biases (c + 1) row = ap (λ (xs : List ℕ). set xs c bias) here ∙ biases_more row c lt in
+    ap (λ (counts : List (List ℕ)). record s { counts = counts })
+    (set-set s.counts t (with_biases c row) (set (get_or (set s.counts t (with_biases c row)) t []) c bias) ∙ ap (set s.counts t) more)
+
+-- the places that are stored are there
+pub count_places : (s : State) (t c : ℕ) → Holds s → may_write s t ≡ true → c < s.settings.cpus → (t < length s.counts) × (c < length (get_or s.counts t []))
+count_places s t c on write lt =
+    let told = may_write_tells s t on.shape write in
+    let low : t < length s.counts = omega (arith, told.1, on.shape.slots, on.shape.counts) in
+    (low, omega (arith, on.shape.count_rows t low, lt, (ranges s.settings on.fit).cpus))
+
+pub counts_stored : (s now next : State) (r : Reply) (t c : ℕ) → Holds s → may_write s t ≡ true → c < s.settings.cpus → now ≡ with_counts s t c
+    → step now (StoreSlot t (5 + c) bias) ≡ Some (record { state = next; reply = r }) → next ≡ with_counts s t (c + 1)
+counts_stored s now next r t c on write lt at is =
+    let places = count_places s t c on write lt in
+    let made = count_store_allowed (with_counts s t c) t c bias write lt in
+    let here = subst (λ (x : State). step x (StoreSlot t (5 + c) bias) ≡ Some (record { state = next; reply = r })) at is in
+    let both : Some (record { state = next; reply = r }) ≡ Some (record { state = after_count_store (with_counts s t c) t c bias; reply = Done }) = sym here ∙ made in
+    let same : next ≡ after_count_store (with_counts s t c) t c bias = ap state_or both in
+    same ∙ counts_next s t c places.0 places.1
+  where
+    state_or : Option Outcome → State
+    state_or None = s
+    state_or (Some o) = o.state
+
+-- The slot.
+
+vacant_from : (x : Slot) → is_vacant x ≡ true → x ≡ Vacant
+vacant_from Vacant is = refl
+vacant_from (Live e) is = absurd (let q : ◌≡◌ {A = Bool} false true = is in cc)
+vacant_from (Retired e) is = absurd (let q : ◌≡◌ {A = Bool} false true = is in cc)
+
+-- a plain slot is vacant and keeps nothing
+pub plain_tells : (s : State) (t : ℕ) → Holds s → plain_slot s ≡ Some t → (t < s.settings.slots) × (is_vacant (slot_at s.slots t) ≡ true) × (kept_at s.keeps t ≡ None)
+plain_tells s t on is =
+    let size : length s.keeps ≡ length s.slots = omega (arith, on.shape.keeps, on.shape.slots) in
+    let at = position-Some is_plain (zip s.slots s.keeps) t (Vacant, None) is in
+    let low : t < length s.slots = omega (arith, at.0, length-zip s.slots s.keeps) in
+    let pair = get_or-zip s.slots s.keeps t (Vacant, None) low (omega (arith, size)) in
+    let test : is_plain (slot_at s.slots t, kept_at s.keeps t) ≡ true = subst (λ (q : Slot × Option ℕ). is_plain q ≡ true) pair at.1 in
+    let parts = and_parts (is_vacant (slot_at s.slots t)) (is_none (kept_at s.keeps t)) test in
+    (omega (arith, on.shape.slots), parts.0, none_from (kept_at s.keeps t) parts.1)
+
+-- what is so where an entry is given
+pub record IsGiven (s : State) (rec : Record) (e : Entry) : Type 0 where
+  pub entry : e ≡ next_entry s rec e.slot
+  pub free : is_taken (key_of_record rec) s.slots ≡ false
+  pub plain : plain_slot s ≡ Some e.slot
+  pub room : has_room s ≡ true
+
+free_if : (taken : Bool) (rest : Result Entry Refusal) (e : Entry) → (if taken then Err NameTaken else rest) ≡ Ok e → (taken ≡ false) × (rest ≡ Ok e)
+free_if true rest e is = absurd (let q : ◌≡◌ {A = Result Entry Refusal} (Err NameTaken) (Ok e) = is in cc)
+free_if false rest e is = (refl, is)
+
+room_if : (room : Bool) (e f : Entry) → ◌≡◌ {A = Result Entry Refusal} (if room then Ok f else Err HistoryFull) (Ok e) → (room ≡ true) × (e ≡ f)
+room_if true e f is = (refl, let q : ◌≡◌ {A = Result Entry Refusal} (Ok f) (Ok e) = is in cc)
+room_if false e f is = absurd (let q : ◌≡◌ {A = Result Entry Refusal} (Err HistoryFull) (Ok e) = is in cc)
+
+place_if : (s : State) (rec : Record) (place : Option ℕ) (e : Entry) → entry_in s rec place ≡ Ok e → (place ≡ Some e.slot) × (has_room s ≡ true) × (e ≡ next_entry s rec e.slot)
+place_if s rec None e is = absurd (let q : ◌≡◌ {A = Result Entry Refusal} (Err NoSlot) (Ok e) = is in cc)
+place_if s rec (Some t) e is =
+    let room = room_if (has_room s) e (next_entry s rec t) is in
+    let at : e.slot ≡ t = ap (λ (x : Entry). x.slot) room.1 in
+    (ap Some (sym at), room.0, room.1 ∙ ap (next_entry s rec) (sym at))
+
+pub given_tells : (s : State) (rec : Record) (e : Entry) → given_entry s rec ≡ Ok e → IsGiven s rec e
+given_tells s rec e is =
+    let free = free_if (is_taken (key_of_record rec) s.slots) (entry_in s rec (plain_slot s)) e is in
+    let place = place_if s rec (plain_slot s) e free.1 in
+    record { entry = place.2; free = free.0; plain = place.0; room = place.1 }
+
+pub given_writes : (s : State) (rec : Record) (e : Entry) → Holds s → at_rest s.due ≡ true → IsGiven s rec e → may_write s e.slot ≡ true
+given_writes s rec e on rest given =
+    let plain = plain_tells s e.slot on given.plain in
+    and_from (at_rest s.due) (nat_lt e.slot s.settings.slots && is_vacant (slot_at s.slots e.slot)) rest
+    (and_from (nat_lt e.slot s.settings.slots) (is_vacant (slot_at s.slots e.slot)) (lt-ltb e.slot s.settings.slots plain.0) plain.1)
+
+-- Linking.
+
+words_read : (number slot high low value : ℕ) (kind : Kind) → are_name_words high low ≡ true
+    → entry_of slot (words_of (record { number = number; slot = slot; rec = record { kind = kind; name = record { high = high; low = low }; value = value } }))
+    ≡ Some (record { number = number; slot = slot; rec = record { kind = kind; name = record { high = high; low = low }; value = value } })
+words_read number slot high low value Iface lawful = rw lawful refl
+words_read number slot high low value Driver lawful = rw lawful refl
+
+all_biases : (n : ℕ) → list_all is_bias (replicate n bias) ≡ true
+all_biases zero = refl
+all_biases (suc n) = all_biases n
+
+-- the first words of a row that was stored are all the bias
+biases_stored : (cpus : ℕ) (row : List ℕ) → list_all is_bias (take cpus (with_biases cpus row)) ≡ true
+biases_stored cpus row =
+    let size = length-replicate cpus bias in
+    let first : take cpus (with_biases cpus row) ≡ replicate cpus bias = take-append-le cpus (replicate cpus bias) (drop cpus row) (omega (arith, size)) ∙ take-replicate cpus cpus bias (omega arith) in
+    ap (list_all is_bias) first ∙ all_biases cpus
+
+-- A prepared entry may be linked: s is the state before its words are stored.
+pub prepared_links : (s : State) (e : Entry) → Holds s → may_write s e.slot ≡ true → e.number ≡ length s.history + 1 → IsTrue (is_lawful e.rec.name)
+    → is_taken (key_of e) s.slots ≡ false → has_room s ≡ true → keeps_rightly (kept_at s.keeps e.slot) e.rec.kind ≡ true
+    → step (prepared s e) (Publish e.slot) ≡ Some (record { state = after_publish (prepared s e) e.slot e; reply = Done })
+prepared_links s e on write number lawful free room keeps =
+    let told = may_write_tells s e.slot on.shape write in
+    let row : row_at (prepared s e).rows e.slot ≡ words_of e = get_or-set_same s.rows e.slot (words_of e) no_words (omega (arith, told.1, on.shape.slots, on.shape.rows)) in
+    let entry : entry_of e.slot (row_at (prepared s e).rows e.slot) ≡ Some e = ap (entry_of e.slot) row ∙ words_read e.number e.slot e.rec.name.high e.rec.name.low e.rec.value e.rec.kind lawful in
+    let numbered : (e.number == length s.history + 1) ≡ true = eq-eqb e.number (length s.history + 1) number in
+    let counts : get_or (prepared s e).counts e.slot [] ≡ with_biases s.settings.cpus (get_or s.counts e.slot []) =
+    get_or-set_same s.counts e.slot (with_biases s.settings.cpus (get_or s.counts e.slot [])) [] (omega (arith, told.1, on.shape.slots, on.shape.counts)) in
+    let biased : list_all is_bias (take s.settings.cpus (get_or (prepared s e).counts e.slot [])) ≡ true =
+    ap (λ (r : List ℕ). list_all is_bias (take s.settings.cpus r)) counts ∙ biases_stored s.settings.cpus (get_or s.counts e.slot []) in
+    let total : (total_at s.totals e.slot == bias) ≡ true = eq-eqb (total_at s.totals e.slot) bias (on.balance.vacant e.slot told.1 told.2) in
+    let link : (get_or (prepared s e).next e.slot 0 == s.head) ≡ true = eq-eqb (get_or (prepared s e).next e.slot 0) s.head (get_or-set_same s.next e.slot s.head 0 (omega (arith, told.1, on.shape.slots, on.shape.links))) in
+    let unused : are_unused (prepared s e) e.slot ≡ true = and_from (list_all is_bias (take s.settings.cpus (get_or (prepared s e).counts e.slot []))) (total_at s.totals e.slot == bias) biased total in
+    let ready : is_prepared (prepared s e) e.slot e.rec.kind ≡ true =
+    and_from (get_or (prepared s e).next e.slot 0 == s.head) (are_unused (prepared s e) e.slot && keeps_rightly (kept_at s.keeps e.slot) e.rec.kind) link
+    (and_from (are_unused (prepared s e) e.slot) (keeps_rightly (kept_at s.keeps e.slot) e.rec.kind) unused keeps) in
+    let name : not (is_taken (key_of e) s.slots) ≡ true = ap not free in
+    let may : may_publish (prepared s e) e.slot e ≡ true =
+    and_from (may_write s e.slot) (e.number == length s.history + 1 && (not (is_taken (key_of e) s.slots) && (has_room s && is_prepared (prepared s e) e.slot e.rec.kind))) write
+    (and_from (e.number == length s.history + 1) (not (is_taken (key_of e) s.slots) && (has_room s && is_prepared (prepared s e) e.slot e.rec.kind)) numbered
+    (and_from (not (is_taken (key_of e) s.slots)) (has_room s && is_prepared (prepared s e) e.slot e.rec.kind) name
+    (and_from (has_room s) (is_prepared (prepared s e) e.slot e.rec.kind) room ready))) in
+    links_if (prepared s e) e.slot e entry may
+  where
+    links_if : (s : State) (t : ℕ) (e : Entry) → entry_of t (row_at s.rows t) ≡ Some e → may_publish s t e ≡ true → step s (Publish t) ≡ Some (record { state = after_publish s t e; reply = Done })
+    links_if s t e entry may = rw (entry, may) refl
+
+-- What an attach puts back.
+
+-- the words and seats are those that the slot had
+pub words_restored : (s : State) (e : Entry) → restored (prepared (all_seated s) e) e.slot (words_before s e.slot) ≡ s
+words_restored s e =
+    let t = e.slot in
+    let rows : set (set s.rows t (words_of e)) t (row_at s.rows t) ≡ s.rows = set-set s.rows t (words_of e) (row_at s.rows t) ∙ set-get_or s.rows t no_words in
+    let row = get_or s.counts t [] in
+    let counts : set (set s.counts t (with_biases s.settings.cpus row)) t row ≡ s.counts = set-set s.counts t (with_biases s.settings.cpus row) row ∙ set-get_or s.counts t [] in
+    let next : set (set s.next t s.head) t (get_or s.next t 0) ≡ s.next = set-set s.next t s.head (get_or s.next t 0) ∙ set-get_or s.next t 0 in
+    ap (λ (x : List RecordWords). record s { rows = x; counts = set (set s.counts t (with_biases s.settings.cpus row)) t row; next = set (set s.next t s.head) t (get_or s.next t 0) }) rows
+    ∙ (ap (λ (x : List (List ℕ)). record s { counts = x; next = set (set s.next t s.head) t (get_or s.next t 0) }) counts
+    ∙ ap (λ (x : List ℕ). record s { next = x }) next)
+
+-- all CPUs may be seated
+pub seated_keeps : (s : State) → Holds s → Holds (all_seated s)
+seated_keeps s on = cpus_keep s s.settings.cpus s.section s.begins s.depths s.seen s.searches s.found on (record {
+  section_size = refl;
+  begin_size = refl;
+  depth_size = refl;
+  seen_size = refl;
+  search_size = refl;
+  found_size = refl;
+  held = on.held;
+  frozen_links = on.frozen_links;
+  grace = on.grace;
+  seats = record {
+    within = omega arith;
+    outside = λ c ge. on.seats.outside c (omega (arith, on.seats.within, ge));
+    unsearching = λ c ge. on.seats.unsearching c (omega (arith, on.seats.within, ge));
+    empty = λ c ge. on.seats.empty c (omega (arith, on.seats.within, ge));
+  };
+  sections = on.sections;
+  searching = on.searches;
+  last_found = on.last_found;
+})
+
+-- an entry's words may be stored, and then it may be linked
+pub record MayLink (s : State) (e : Entry) : Type 0 where
+  pub writes : may_write s e.slot ≡ true
+  pub links : step (prepared s e) (Publish e.slot) ≡ Some (record { state = after_publish (prepared s e) e.slot e; reply = Done })
+
+-- what a given entry is, in a state with the same history and slots
+may_link : (s : State) (rec : Record) (e : Entry) → Holds s → may_write s e.slot ≡ true → e ≡ next_entry s rec e.slot → is_taken (key_of_record rec) s.slots ≡ false → has_room s ≡ true
+    → IsTrue (is_lawful rec.name) → keeps_rightly (kept_at s.keeps e.slot) rec.kind ≡ true → MayLink s e
+may_link s rec e on writes is free room lawful keeps =
+    let same : e.rec ≡ rec = ap (λ (x : Entry). x.rec) is in
+    record {
+      writes = writes;
+      links = prepared_links s e on writes (ap (λ (x : Entry). x.number) is)
+          (subst (λ (r : Record). IsTrue (is_lawful r.name)) (sym same) lawful)
+          (ap (λ (r : Record). is_taken (key_of_record r) s.slots) same ∙ free) room
+          (ap (λ (r : Record). keeps_rightly (kept_at s.keeps e.slot) r.kind) same ∙ keeps);
+    }
+
+driver_keeps : (kept : Option ℕ) (kind : Kind) → kept ≡ None → is_iface kind ≡ false → keeps_rightly kept kind ≡ true
+driver_keeps kept Iface none other = absurd (let q : ◌≡◌ {A = Bool} true false = other in cc)
+driver_keeps kept Driver none other = ap (λ (o : Option ℕ). keeps_rightly o Driver) none
+
+pub driver_links : (s : State) (rec : Record) (e : Entry) → Holds s → at_rest s.due ≡ true → given_entry s rec ≡ Ok e → is_iface rec.kind ≡ false → IsTrue (is_lawful rec.name) → MayLink (all_seated s) e
+driver_links s rec e on rest is other lawful =
+    let given = given_tells s rec e is in
+    let plain = plain_tells s e.slot on given.plain in
+    may_link (all_seated s) rec e (seated_keeps s on) (given_writes s rec e on rest given) given.entry given.free given.room lawful (driver_keeps (kept_at s.keeps e.slot) rec.kind plain.2 other)
+
+-- The same along a call: `room`, `begun`, `ready` and `now` are the states that its steps leave.
+pub call_restored : (s room begun ready now : State) (e : Entry) (before : Before) → room ≡ s → before ≡ words_before room e.slot → begun ≡ all_seated room → ready ≡ prepared begun e → now ≡ ready
+    → restored now e.slot before ≡ s
+call_restored s room begun ready now e before same kept seats words stays =
+    ap (λ (x : State). restored x e.slot before) (stays ∙ (words ∙ ap (λ (x : State). prepared x e) (seats ∙ ap all_seated same)))
+    ∙ (ap (restored (prepared (all_seated s) e) e.slot) (kept ∙ ap (λ (x : State). words_before x e.slot) same) ∙ words_restored s e)
+
+-- storing and linking an entry and seeing it leaves who may act
+pub call_acts : (begun ready made now : State) (e : Entry) (c d : ℕ) → ready ≡ prepared begun e → made ≡ after_publish ready e.slot e → now ≡ after_seeing made c → may_act begun d ≡ true → may_act now d ≡ true
+call_acts begun ready made now e c d words links sees may =
+    ap (λ (x : State). may_act x d) (sees ∙ ap (λ (x : State). after_seeing x c) (links ∙ ap (λ (x : State). after_publish x e.slot e) words)) ∙ may
+
+-- Interfaces: the reference that the slot takes over.
+
+number_from : (slots : List Slot) (p : LocalPlace) → is_driver_number slots (standing p) ≡ true → (n : ℕ) × (p ≡ Standing n) × (is_driver_in slots (slot_of slots n) ≡ true)
+number_from slots Free is = absurd (let q : ◌≡◌ {A = Bool} false true = is in cc)
+number_from slots (Standing n) is = (n, refl, is)
+number_from slots (Lifted c) is = absurd (let q : ◌≡◌ {A = Bool} false true = is in cc)
+
+driver_from : (slots : List Slot) (place : Option ℕ) → is_driver_in slots place ≡ true → (u : ℕ) × (place ≡ Some u) × (is_driver_slot (slot_at slots u) ≡ true)
+driver_from slots None is = absurd (let q : ◌≡◌ {A = Bool} false true = is in cc)
+driver_from slots (Some u) is = (u, refl, is)
+
+iface_keeps : (n : ℕ) (kind : Kind) → is_iface kind ≡ true → keeps_rightly (Some n) kind ≡ true
+iface_keeps n kind is = is
+
+-- the slot of e may take the reference over, and then e may be linked
+pub record MayPlug (s : State) (e : Entry) (id : ℕ) : Type 0 where
+  pub writes : may_write s e.slot ≡ true
+  pub empty : kept_at s.keeps e.slot ≡ None
+  pub holds : Holds (keeping s e.slot id)
+  pub links : MayLink (keeping (all_seated s) e.slot id) e
+
+pub iface_links : (s : State) (rec : Record) (e : Entry) (id : ℕ) → Holds s → at_rest s.due ≡ true → given_entry s rec ≡ Ok e → is_to_driver s id ≡ true → is_iface rec.kind ≡ true → IsTrue (is_lawful rec.name)
+    → MayPlug s e id
+iface_links s rec e id on rest is driver iface lawful =
+    let t = e.slot in
+    let given = given_tells s rec e is in
+    let plain = plain_tells s t on given.plain in
+    let writes = given_writes s rec e on rest given in
+    let number = number_from s.slots (local_at s.locals id) driver in
+    let n : ℕ = number.0 in
+    let at : local_at s.locals id ≡ Standing n = number.1 in
+    let place = driver_from s.slots (slot_of s.slots n) number.2 in
+    let u : ℕ = place.0 in
+    let may : may_keep s t u ≡ true = and_from (may_write s t) (is_none (kept_at s.keeps t) && is_driver_slot (slot_at s.slots u)) writes
+    (and_from (is_none (kept_at s.keeps t)) (is_driver_slot (slot_at s.slots u)) (ap is_none plain.2) place.2) in
+    let kept : keeping s t id ≡ after_keep s t id n = ap (λ (o : Option ℕ). record s { locals = set s.locals id Free; keeps = set s.keeps t o }) (ap standing at) in
+    let holds : Holds (keeping s t id) = subst Holds (sym kept) (keep_keeps s t id n u on at place.1 may) in
+    let now : kept_at (keeping s t id).keeps t ≡ Some n = get_or-set_same s.keeps t (standing (local_at s.locals id)) None (omega (arith, plain.0, on.shape.keeps)) ∙ ap standing at in
+    let rightly : keeps_rightly (kept_at (keeping s t id).keeps t) rec.kind ≡ true = ap (λ (o : Option ℕ). keeps_rightly o rec.kind) now ∙ iface_keeps n rec.kind iface in
+    record {
+      writes = writes;
+      empty = plain.2;
+      holds = holds;
+      links = may_link (keeping (all_seated s) t id) rec e (seated_keeps (keeping s t id) holds) writes given.entry given.free given.room lawful rightly;
+    }
+
+-- the reference has its place again
+reference_restored : (s : State) (t id : ℕ) → kept_at s.keeps t ≡ None → given_back (keeping s t id) t id (local_at s.locals id) ≡ s
+reference_restored s t id empty =
+    let x = standing (local_at s.locals id) in
+    let locals : set (set s.locals id Free) id (local_at s.locals id) ≡ s.locals = set-set s.locals id Free (local_at s.locals id) ∙ set-get_or s.locals id Free in
+    let keeps : set (set s.keeps t x) t None ≡ s.keeps = set-set s.keeps t x None ∙ (ap (set s.keeps t) (sym empty) ∙ set-get_or s.keeps t None) in
+    ap (λ (l : List LocalPlace). record s { locals = l; keeps = set (set s.keeps t x) t None }) locals
+    ∙ ap (λ (k : List (Option ℕ)). record s { keeps = k }) keeps
+
+-- The same along a call, whose steps leave the states `room`, `begun`, `kept`, `ready`, `now` and `words`.
+pub record PlugSteps (s room begun kept ready now : State) (e : Entry) (id : ℕ) (before : Before) : Type 0 where
+  pub same : room ≡ s
+  pub saved : before ≡ words_before room e.slot
+  pub seats : begun ≡ all_seated room
+  pub keeps : kept ≡ keeping begun e.slot id
+  pub words : ready ≡ prepared kept e
+  pub stays : now ≡ ready
+
+pub plug_words_restored : (s room begun kept ready now : State) (e : Entry) (id : ℕ) (before : Before) → PlugSteps s room begun kept ready now e id before → restored now e.slot before ≡ keeping s e.slot id
+plug_words_restored s room begun kept ready now e id before c =
+    let begins : begun ≡ all_seated s = c.seats ∙ ap all_seated c.same in
+    ap (λ (x : State). restored x e.slot before) (c.stays ∙ (c.words ∙ ap (λ (x : State). prepared x e) (c.keeps ∙ ap (λ (x : State). keeping x e.slot id) begins)))
+    ∙ (ap (restored (prepared (keeping (all_seated s) e.slot id) e) e.slot) (c.saved ∙ ap (λ (x : State). words_before x e.slot) c.same) ∙ words_restored (keeping s e.slot id) e)
+
+pub plug_restored : (s room words : State) (t id : ℕ) (place : LocalPlace) → kept_at s.keeps t ≡ None → room ≡ s → place ≡ local_at room.locals id → words ≡ keeping s t id → given_back words t id place ≡ s
+plug_restored s room words t id place empty same saved is =
+    ap (λ (x : State). given_back x t id place) is
+    ∙ (ap (given_back (keeping s t id) t id) (saved ∙ ap (λ (x : State). local_at x.locals id) same) ∙ reference_restored s t id empty)

@@ -1,0 +1,128 @@
+-- Sections that were seen to have ended, and looks for all retired entries.
+use Rattle.std.proofs.Common.{◌≡◌, ℕ, zero, suc, ◌+◌, ◌%◌, ◌<◌, ◌≤◌, inr, ⊎_elim, List, [], length, get_or, set, Option, Some, None, Bool, true, false, not, ◌&&◌, ◌||◌, ◌==◌, refl, sym, ap, subst, ◌∙◌, arith, get_or-set_same, get_or-set_other}
+use Rattle.std.specs.Prelude.{is_some}
+use Rattle.std.proofs.lemmas.Bool.{cases_lt, cases_eq, eq-eqb, ne_eqb}
+use Rattle.std.proofs.lemmas.Option.{none-some, same_Some}
+use Rattle.passive_core.specs.declared.entry.Entry.{Entry}
+use Rattle.passive_core.specs.declared.state.Mark.{Mark}
+use Rattle.passive_core.specs.declared.state.Slot.{Slot}
+use Rattle.passive_core.specs.declared.state.Slot.TheVariants.{Vacant, Live, Retired}
+use Rattle.passive_core.specs.Advancing.{AllPassed, MarksPass, Passes, is_open_since, is_retired_as, is_snapshot, least_below, or_next, retired_slot}
+use Rattle.passive_core.specs.Events.{is_inside}
+use Rattle.passive_core.specs.Invariant.{Holds}
+use Rattle.passive_core.specs.Performing.{AllOutside, OnlyPasses, is_out, retired_number}
+use Rattle.passive_core.specs.Slots.{is_even, is_retired}
+use Rattle.passive_core.specs.State.{State, begin_at, mark_at, no_mark, section_at, slot_at}
+use Rattle.passive_core.proofs.Advancing.{marks_pass_none, none_below, only_marks, passes_none, retired_slot_tells}
+use Rattle.passive_core.proofs.Numbers.{position_passes}
+use Rattle.passive_core.proofs.Occupied.{in_within, is_retired_tells, one_number}
+
+-- A word that hasn't changed is out of its section just where the CPU is outside.
+
+out_shown : (w : ℕ) (begin : Option ℕ) → (begin ≡ None → w % 2 ≡ 0) → ((b : ℕ) → begin ≡ Some b → w % 2 ≡ 1) → is_out w w ≡ not (is_some begin)
+out_shown w None outside inside = ap (λ (b : Bool). b || not (w == w)) (eq-eqb (w % 2) 0 (outside refl))
+out_shown w (Some b) outside inside = rw (ap (λ (k : ℕ). k == 0) (inside b refl), eq-eqb w w refl) refl
+
+pub seen_out : (s : State) (c : ℕ) → Holds s → is_out (section_at s c) (section_at s c) ≡ not (is_inside s c)
+seen_out s c on = out_shown (section_at s c) (begin_at s c) (λ out. (on.sections.outside c out).0) (λ b in_. (on.sections.inside c b in_).0)
+
+pub not_out : (b : Bool) → b ≡ false → true ≡ not b
+not_out b is = ap not (sym is)
+
+pub sound_out : (a b : Bool) → a ≡ not b → a ≡ true → b ≡ false
+sound_out a false same is = refl
+sound_out a true same is = absurd (let q : ◌≡◌ {A = Bool} false true = sym same ∙ is in cc)
+
+pub not_not : (a b : Bool) → a ≡ not b → not a ≡ b
+not_not a true same = ap not same
+not_not a false same = ap not same
+
+-- the least that passes one test passes another that agrees below the bound
+pub least_agrees : (p q : ℕ → Bool) (n : ℕ) → ((c : ℕ) → c < n → p c ≡ q c) → least_below p n ≡ least_below q n
+least_agrees p q zero same = refl
+least_agrees p q (suc n) same = rw (least_agrees p q n (λ c lt. same c (omega arith)), same n (omega arith)) refl
+
+next_none : (o : Option ℕ) (b : Bool) (n : ℕ) → or_next o b n ≡ None → (o ≡ None) × (b ≡ false)
+next_none (Some c) b n is = absurd (none-some c (sym is))
+next_none None true n is = absurd (none-some n (sym is))
+next_none None false n is = (refl, refl)
+
+-- where none was found, none passes
+pub least_none : (p : ℕ → Bool) (n : ℕ) → least_below p n ≡ None → (c : ℕ) → c < n → p c ≡ false
+least_none p zero is c lt = absurd (omega arith)
+least_none p (suc n) is c lt =
+    let parts = next_none (least_below p n) (p n) n is in
+    ⊎_elim
+    (λ (low : c < n). least_none p n parts.0 c low)
+    (λ (ge : n ≤ c). let same : c ≡ n = omega (arith, lt, ge) in ap p same ∙ parts.1)
+    (cases_lt c n)
+
+-- a place of a row that was written
+pub written_below : {X : Type 0} (d : X) (P : ℕ → X → Type 0) (xs : List X) (i : ℕ) (x : X) → i < length xs → ((k : ℕ) → k < i → P k (get_or xs k d)) → P i x → (k : ℕ) → k < i + 1 → P k (get_or (set xs i x) k d)
+written_below d P xs i x lt below here k le = ⊎_elim
+    (λ (same : k ≡ i). subst (λ (j : ℕ). P j (get_or (set xs i x) j d)) (sym same) (subst (P i) (sym (get_or-set_same xs i x d lt)) here))
+    (λ (off : k ≡ i → ⊥). subst (P k) (sym (get_or-set_other xs i k x d off)) (below k (omega (arith, le, off))))
+    (cases_eq k i)
+
+pub written_each : {X : Type 0} (d : X) (P : ℕ → X → Type 0) (xs : List X) (i : ℕ) (x : X) → i < length xs → ((k : ℕ) → P k (get_or xs k d)) → P i x → (k : ℕ) → P k (get_or (set xs i x) k d)
+written_each d P xs i x lt each here k = ⊎_elim
+    (λ (same : k ≡ i). subst (λ (j : ℕ). P j (get_or (set xs i x) j d)) (sym same) (subst (P i) (sym (get_or-set_same xs i x d lt)) here))
+    (λ (off : k ≡ i → ⊥). subst (P k) (sym (get_or-set_other xs i k x d off)) (each k))
+    (cases_eq k i)
+
+-- No section is open: each look passes.
+
+pub none_open : (s : State) (t : ℕ) → AllOutside s → least_below (is_open_since s t) s.settings.cpus ≡ None
+none_open s t outside = none_below (is_open_since s t) s.settings.cpus (λ c lt. ap (λ (b : Bool). b && is_snapshot (mark_at s.marks t c).snapshot (section_at s c)) (outside c lt))
+
+-- Marks that come to say passed
+
+pub only_none : (s : State) → OnlyPasses s s
+only_none s = record { only = refl; marks = λ t c. passes_none (mark_at s.marks t c); elsewhere = λ t is. refl }
+
+pub only_more : (s m n : State) → OnlyPasses s m → OnlyPasses m n → OnlyPasses s n
+only_more s m n x y = record {
+  only = only_marks s m n x.only y.only;
+  marks = λ t c. record {
+    snapshot = (y.marks t c).snapshot ∙ (x.marks t c).snapshot;
+    passed = λ p. (y.marks t c).passed ((x.marks t c).passed p);
+    clear = (y.marks t c).clear ∙ (x.marks t c).clear;
+    collected = (y.marks t c).collected ∙ (x.marks t c).collected;
+  };
+  elsewhere = λ t is. y.elsewhere t (ap (λ (z : State). is_retired (slot_at z.slots t)) x.only ∙ is) ∙ x.elsewhere t is;
+}
+
+pub only_one : (s n : State) (t : ℕ) → is_retired (slot_at s.slots t) ≡ true → n ≡ record s { marks = n.marks } → MarksPass s.marks n.marks t → OnlyPasses s n
+only_one s n t gone only marks = record {
+  only = only;
+  marks = λ u c. ⊎_elim
+      (λ (same : u ≡ t). subst (λ (k : ℕ). Passes (mark_at s.marks k c) (mark_at n.marks k c)) (sym same) (marks.here c))
+      (λ (off : u ≡ t → ⊥). subst (λ (r : List Mark). Passes (mark_at s.marks u c) (get_or r c no_mark)) (sym (marks.elsewhere u off)) (passes_none (mark_at s.marks u c)))
+      (cases_eq u t);
+  elsewhere = λ u is. marks.elsewhere u (λ same. let q : ◌≡◌ {A = Bool} true false = sym gone ∙ (ap (λ (k : ℕ). is_retired (slot_at s.slots k)) (sym same) ∙ is) in cc);
+}
+
+pub still_passed : (s n : State) (t : ℕ) → OnlyPasses s n → AllPassed s t → AllPassed n t
+still_passed s n t only passed c lt = (only.marks t c).passed (passed c (subst (λ (z : State). c < z.settings.cpus) only.only lt))
+
+pub still_outside : (s n : State) → OnlyPasses s n → AllOutside s → AllOutside n
+still_outside s n only outside c lt = ap (λ (z : State). is_inside z c) only.only ∙ outside c (subst (λ (z : State). c < z.settings.cpus) only.only lt)
+
+-- the slot of a retired entry's number is its own
+retired_is : (n : ℕ) (x : Slot) → is_retired x ≡ true → Some n ≡ retired_number x → (e : Entry) × (x ≡ Retired e) × (e.number ≡ n)
+retired_is n Vacant gone is = absurd (let q : ◌≡◌ {A = Bool} false true = gone in cc)
+retired_is n (Live e) gone is = absurd (let q : ◌≡◌ {A = Bool} false true = gone in cc)
+retired_is n (Retired e) gone is = (e, refl, sym (same_Some n e.number is))
+
+pub has_retired_number : (x : Slot) → is_retired x ≡ true → None ≡ retired_number x → ⊥
+has_retired_number Vacant gone is = let q : ◌≡◌ {A = Bool} false true = gone in cc
+has_retired_number (Live e) gone is = let q : ◌≡◌ {A = Bool} false true = gone in cc
+has_retired_number (Retired e) gone is = none-some e.number is
+
+pub retired_found : (s : State) (t n : ℕ) → Holds s → is_retired (slot_at s.slots t) ≡ true → Some n ≡ retired_number (slot_at s.slots t) → retired_slot s.slots n ≡ Some t
+retired_found s t n on gone is =
+    let e = retired_is n (slot_at s.slots t) gone is in
+    let i = position_passes (is_retired_as n) s.slots t Vacant (in_within s.slots t e.0 (inr e.1)) (ap (is_retired_as n) e.1 ∙ eq-eqb e.0.number n e.2) in
+    let f = retired_slot_tells s.slots n i.0 i.1 in
+    let one : (i.0 ≡ t) × (f.1.0 ≡ e.0) = one_number s.history s.slots t i.0 e.0 f.1.0 on.slots (inr e.1) (inr f.1.1) (f.1.2 ∙ sym e.2) in
+    i.1 ∙ ap (λ (k : ℕ). Some k) one.0

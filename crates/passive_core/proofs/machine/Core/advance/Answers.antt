@@ -1,0 +1,39 @@
+use Rattle.std.proofs.Common.{◌≡◌, ℕ, Option, Some, Bool, true, refl, sym, ap, subst, ◌∙◌, Ok}
+use Rattle.passive_core.specs.declared.entry.Entry.{Entry}
+use Rattle.passive_core.specs.declared.state.Slot.{Slot}
+use Rattle.passive_core.specs.declared.state.Slot.TheVariants.{Retired}
+use Rattle.passive_core.specs.declared.stage.Stage.{Stage}
+use Rattle.passive_core.specs.Advancing.{HoldersAreOpen, plain_stage, retired_slot, stage_in, StageLeaves}
+use Rattle.passive_core.specs.Commands.{all_seated, may_act}
+use Rattle.passive_core.specs.Invariant.{Holds}
+use Rattle.passive_core.specs.Slots.{at_rest, is_retired}
+use Rattle.passive_core.specs.State.{State, slot_at}
+use Rattle.passive_core.proofs.Advancing.{acts_seated, holders_are_open, retired_slot_tells, stage_acts}
+use Rattle.passive_core.proofs.machine.Core.advance.Goals as goal
+
+pub returns-in_default-clause-holders : goal.returns-in_default-clause-holders
+returns-in_default-clause-holders c = holders_are_open c.args.self.now (subst Holds c.self.view_is c.self.invariant) c.requires
+
+pub advance_slot-requires-clause-retired : goal.advance_slot-requires-clause-retired
+advance_slot-requires-clause-retired c =
+    let s = c.args.self.now in
+    let e = retired_slot_tells s.slots c.args.number c.in-Some.t (sym c.in-Some.ensures.value) in
+    ap (λ (x : State). is_retired (slot_at x.slots c.in-Some.t)) c.seat_all.ensures ∙ ap is_retired e.1.1
+
+pub returns-clause-answer : goal.returns-clause-answer
+returns-clause-answer c =
+    let s = c.args.self.now in
+    let e = retired_slot_tells s.slots c.args.number c.in-Some.t (sym c.in-Some.ensures.value) in
+    let there : slot_at c.seat_all.new.self.slots c.in-Some.t ≡ Retired e.1.0 = ap (λ (x : State). slot_at x.slots c.in-Some.t) c.seat_all.ensures ∙ e.1.1 in
+    let stage : c.advance_slot.result ≡ plain_stage s c.in-Some.t c.args.number =
+    c.advance_slot.ensures.stage e.1.0 there ∙ (ap (λ (x : State). plain_stage x c.in-Some.t e.1.0.number) c.seat_all.ensures ∙ ap (plain_stage s c.in-Some.t) e.1.2) in
+    ap (λ (x : Stage). Ok x) stage ∙ ap (stage_in s c.args.number) c.in-Some.ensures.value
+
+pub returns-clause-holders : goal.returns-clause-holders
+returns-clause-holders c = holders_are_open c.args.self.now (subst Holds c.self.view_is c.self.invariant) c.requires
+
+pub returns-clause-ready : goal.returns-clause-ready
+returns-clause-ready c = λ d acts.
+    let s = c.args.self.now in
+    let seated : may_act c.seat_all.new.self d ≡ true = ap (λ (x : State). may_act x d) c.seat_all.ensures ∙ acts_seated s d (subst Holds c.self.view_is c.self.invariant) acts in
+    stage_acts c.seat_all.new.self c.advance_slot.new.self c.in-Some.t d c.advance_slot.result (ap (λ (x : State). x.seated) c.seat_all.ensures ∙ sym (ap (λ (x : State). x.settings.cpus) c.seat_all.ensures)) c.advance_slot.ensures.after seated

@@ -1,0 +1,36 @@
+use Rattle.std.proofs.Common.{◌≡◌, true, ap, subst, sym, ◌∙◌}
+use Rattle.passive_core.specs.Commands.{may_act}
+use Rattle.passive_core.specs.Invariant.{Holds}
+use Rattle.passive_core.proofs.Attaching.{call_acts, call_restored, driver_links}
+use Rattle.passive_core.proofs.machine.Core.attach.Goals as goal
+
+pub prepare-requires : goal.prepare-requires
+prepare-requires c =
+    let s = c.args.self.now in
+    let e = c.in_ok-entry.entry in
+    let on = subst Holds c.self.view_is c.self.invariant in
+    let may = driver_links s c.args.rec e on c.requires.rest (sym c.in_ok-entry.ensures.value) (sym c.is_iface.ensures ∙ c.if-is_iface.false) c.requires.lawful in
+    rw (c.begin_change.ensures.after, c.in_ok-make_room.ensures.same) may.writes
+
+pub link-requires : goal.link-requires
+link-requires c =
+    let s = c.args.self.now in
+    let e = c.in_ok-entry.entry in
+    let on = subst Holds c.self.view_is c.self.invariant in
+    let may = driver_links s c.args.rec e on c.requires.rest (sym c.in_ok-entry.ensures.value) (sym c.is_iface.ensures ∙ c.if-is_iface.false) c.requires.lawful in
+    rw (c.prepare.ensures, c.begin_change.ensures.after, c.in_ok-make_room.ensures.same) may.links
+
+pub restore-requires-clause-holds : goal.restore-requires-clause-holds
+restore-requires-clause-holds c =
+    let s = c.args.self.now in
+    let on = subst Holds c.self.view_is c.self.invariant in
+    rw (call_restored s c.make_room.new.self c.begin_change.new.self c.prepare.new.self c.link.new.self c.in_ok-entry.entry c.words_before-before.result c.in_ok-make_room.ensures.same c.words_before-before.ensures c.begin_change.ensures.after c.prepare.ensures c.in-Err.ensures.err) on
+
+pub returns-in-Err-clause-after : goal.returns-in-Err-clause-after
+returns-in-Err-clause-after c =
+    c.restore.ensures ∙ call_restored c.args.self.now c.make_room.new.self c.begin_change.new.self c.prepare.new.self c.link.new.self c.in_ok-entry.entry c.words_before-before.result c.in_ok-make_room.ensures.same c.words_before-before.ensures c.begin_change.ensures.after c.prepare.ensures c.in-Err.ensures.err
+
+pub returns-in-Ok-clause-ready : goal.returns-in-Ok-clause-ready
+returns-in-Ok-clause-ready c d may =
+    let before : may_act c.make_room.new.self d ≡ true = rw c.in_ok-make_room.ensures.same may in
+    call_acts c.begin_change.new.self c.prepare.new.self c.link.new.self c.end_change.new.self c.in_ok-entry.entry c.args.c d c.prepare.ensures c.in-Ok.ensures.ok c.end_change.ensures (c.begin_change.ensures.ready d before)

@@ -1,0 +1,92 @@
+use Rattle.std.proofs.Common.{◌≡◌, None, true, ap, subst, sym, ◌∙◌}
+use Rattle.passive_core.specs.Attaching.{keeping, restored}
+use Rattle.passive_core.specs.Commands.{all_seated, may_act}
+use Rattle.passive_core.specs.Events.{may_write}
+use Rattle.passive_core.specs.Invariant.{Holds}
+use Rattle.passive_core.specs.State.{State, kept_at}
+use Rattle.passive_core.proofs.Attaching.{PlugSteps, call_acts, iface_links, plug_restored, plug_words_restored}
+use Rattle.passive_core.proofs.machine.Core.attach_iface.Goals as goal
+
+pub keep-requires-clause-write : goal.keep-requires-clause-write
+keep-requires-clause-write c =
+    let s = c.args.self.now in
+    let on = subst Holds c.self.view_is c.self.invariant in
+    let may = iface_links s c.args.rec c.in_ok-entry.entry c.args.id on c.requires.rest (sym c.in_ok-entry.ensures.value) (sym c.is_to_driver.ensures ∙ c.if-not-is_to_driver.false) c.requires.iface c.requires.lawful in
+    rw (c.begin_change.ensures.after, c.in_ok-make_room.ensures.same) may.writes
+
+pub keep-requires-clause-nothing : goal.keep-requires-clause-nothing
+keep-requires-clause-nothing c =
+    let s = c.args.self.now in
+    let on = subst Holds c.self.view_is c.self.invariant in
+    let may = iface_links s c.args.rec c.in_ok-entry.entry c.args.id on c.requires.rest (sym c.in_ok-entry.ensures.value) (sym c.is_to_driver.ensures ∙ c.if-not-is_to_driver.false) c.requires.iface c.requires.lawful in
+    rw (c.begin_change.ensures.after, c.in_ok-make_room.ensures.same) may.empty
+
+pub prepare-requires : goal.prepare-requires
+prepare-requires c =
+    let s = c.args.self.now in
+    let on = subst Holds c.self.view_is c.self.invariant in
+    let may = iface_links s c.args.rec c.in_ok-entry.entry c.args.id on c.requires.rest (sym c.in_ok-entry.ensures.value) (sym c.is_to_driver.ensures ∙ c.if-not-is_to_driver.false) c.requires.iface c.requires.lawful in
+    rw (c.keep.ensures, c.begin_change.ensures.after, c.in_ok-make_room.ensures.same) may.links.writes
+
+pub link-requires : goal.link-requires
+link-requires c =
+    let s = c.args.self.now in
+    let on = subst Holds c.self.view_is c.self.invariant in
+    let may = iface_links s c.args.rec c.in_ok-entry.entry c.args.id on c.requires.rest (sym c.in_ok-entry.ensures.value) (sym c.is_to_driver.ensures ∙ c.if-not-is_to_driver.false) c.requires.iface c.requires.lawful in
+    rw (c.prepare.ensures, c.keep.ensures, c.begin_change.ensures.after, c.in_ok-make_room.ensures.same) may.links.links
+
+pub restore-requires-clause-holds : goal.restore-requires-clause-holds
+restore-requires-clause-holds c =
+    let s = c.args.self.now in
+    let e = c.in_ok-entry.entry in
+    let on = subst Holds c.self.view_is c.self.invariant in
+    let may = iface_links s c.args.rec e c.args.id on c.requires.rest (sym c.in_ok-entry.ensures.value) (sym c.is_to_driver.ensures ∙ c.if-not-is_to_driver.false) c.requires.iface c.requires.lawful in
+    let steps : PlugSteps s c.make_room.new.self c.begin_change.new.self c.keep.new.self c.prepare.new.self c.link.new.self e c.args.id c.words_before-before.result = record {
+      same = c.in_ok-make_room.ensures.same;
+      saved = c.words_before-before.ensures;
+      seats = c.begin_change.ensures.after;
+      keeps = c.keep.ensures;
+      words = c.prepare.ensures;
+      stays = c.in-Err.ensures.err;
+    } in
+    subst Holds (sym (plug_words_restored s c.make_room.new.self c.begin_change.new.self c.keep.new.self c.prepare.new.self c.link.new.self e c.args.id c.words_before-before.result steps)) may.holds
+
+pub give_back-requires-clause-holds : goal.give_back-requires-clause-holds
+give_back-requires-clause-holds c =
+    let s = c.args.self.now in
+    let e = c.in_ok-entry.entry in
+    let on = subst Holds c.self.view_is c.self.invariant in
+    let may = iface_links s c.args.rec e c.args.id on c.requires.rest (sym c.in_ok-entry.ensures.value) (sym c.is_to_driver.ensures ∙ c.if-not-is_to_driver.false) c.requires.iface c.requires.lawful in
+    let steps : PlugSteps s c.make_room.new.self c.begin_change.new.self c.keep.new.self c.prepare.new.self c.link.new.self e c.args.id c.words_before-before.result = record {
+      same = c.in_ok-make_room.ensures.same;
+      saved = c.words_before-before.ensures;
+      seats = c.begin_change.ensures.after;
+      keeps = c.keep.ensures;
+      words = c.prepare.ensures;
+      stays = c.in-Err.ensures.err;
+    } in
+    let words = c.restore.ensures ∙ plug_words_restored s c.make_room.new.self c.begin_change.new.self c.keep.new.self c.prepare.new.self c.link.new.self e c.args.id c.words_before-before.result steps in
+    subst Holds (sym (plug_restored s c.make_room.new.self c.restore.new.self e.slot c.args.id c.local_at-place.result may.empty c.in_ok-make_room.ensures.same c.local_at-place.ensures words)) on
+
+pub returns-in-Err-clause-after : goal.returns-in-Err-clause-after
+returns-in-Err-clause-after c =
+    let s = c.args.self.now in
+    let e = c.in_ok-entry.entry in
+    let on = subst Holds c.self.view_is c.self.invariant in
+    let may = iface_links s c.args.rec e c.args.id on c.requires.rest (sym c.in_ok-entry.ensures.value) (sym c.is_to_driver.ensures ∙ c.if-not-is_to_driver.false) c.requires.iface c.requires.lawful in
+    let steps : PlugSteps s c.make_room.new.self c.begin_change.new.self c.keep.new.self c.prepare.new.self c.link.new.self e c.args.id c.words_before-before.result = record {
+      same = c.in_ok-make_room.ensures.same;
+      saved = c.words_before-before.ensures;
+      seats = c.begin_change.ensures.after;
+      keeps = c.keep.ensures;
+      words = c.prepare.ensures;
+      stays = c.in-Err.ensures.err;
+    } in
+    let words = c.restore.ensures ∙ plug_words_restored s c.make_room.new.self c.begin_change.new.self c.keep.new.self c.prepare.new.self c.link.new.self e c.args.id c.words_before-before.result steps in
+    c.give_back.ensures ∙ plug_restored s c.make_room.new.self c.restore.new.self e.slot c.args.id c.local_at-place.result may.empty c.in_ok-make_room.ensures.same c.local_at-place.ensures words
+
+pub returns-in-Ok-clause-ready : goal.returns-in-Ok-clause-ready
+returns-in-Ok-clause-ready c d may =
+    let before : may_act c.make_room.new.self d ≡ true = rw c.in_ok-make_room.ensures.same may in
+    let kept : may_act c.keep.new.self d ≡ true = rw c.keep.ensures (c.begin_change.ensures.ready d before) in
+    call_acts c.keep.new.self c.prepare.new.self c.link.new.self c.end_change.new.self c.in_ok-entry.entry c.args.c d c.prepare.ensures c.in-Ok.ensures.ok c.end_change.ensures kept

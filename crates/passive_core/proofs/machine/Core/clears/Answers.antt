@@ -1,0 +1,40 @@
+use Rattle.std.proofs.Common.{◌≡◌, ℕ, ◌+◌, ◌-◌, ◌<◌, ◌≤◌, Bool, true, false, not, refl, sym, ap, subst, ◌∙◌, arith, List, Option, Some, None, IsSome, IsTrue}
+use Rattle.passive_core.specs.declared.entry.Entry.{Entry}
+use Rattle.passive_core.specs.declared.state.Mark.{Mark}
+use Rattle.passive_core.specs.declared.state.Slot.{Slot}
+use Rattle.passive_core.specs.declared.state.Slot.TheVariants.{Vacant, Retired}
+use Rattle.passive_core.specs.declared.event.Reply.TheVariants.{Done}
+use Rattle.passive_core.specs.declared.stage.Stage.{Stage}
+use Rattle.passive_core.specs.declared.stage.Stage.TheVariants.{Grace, Passive, Local, Freed}
+use Rattle.passive_core.specs.Advancing.{AllClear, AllCollected, AllPassed, Empties, Gathers, MarksGrow, has_passive, is_open_since}
+use Rattle.passive_core.specs.Events.{after_collect, after_kept_sub, after_look, after_look_passive, after_total, after_vacate, cleared, collected, is_drained, looked, may_collect, may_look_passive, may_vacate, step}
+use Rattle.passive_core.specs.Invariant.{Holds, held_at}
+use Rattle.passive_core.specs.State.{State, bias, count_at, kept_at, mark_at, passive_at, section_at, slot_at, total_at}
+use Rattle.passive_core.proofs.Advancing.{clear_left, examines_passive, guard_some, mark_there, passive_clears, passive_look_is, passive_look_marks}
+use Rattle.passive_core.proofs.machine.Core.clears.Goals as goal
+
+pub returns-then-mark_at-clause-answer : goal.returns-then-mark_at-clause-answer
+returns-then-mark_at-clause-answer c =
+    let s = c.args.self.now in
+    let on : Holds s = subst Holds c.self.view_is c.self.invariant in
+    clear_left s c.args.t c.args.c on c.requires.retired (ap (λ (m : Mark). m.clear) (sym c.mark_at.ensures) ∙ c.if-mark_at.true)
+
+pub make-requires-clause-allowed : goal.make-requires-clause-allowed
+make-requires-clause-allowed c =
+    let s = c.args.self.now in
+    guard_some (may_look_passive s c.args.t c.args.c) _ _ (examines_passive s c.args.t c.args.c c.requires.rest c.requires.retired c.requires.passed c.requires.cpu)
+
+pub returns-clause-answer : goal.returns-clause-answer
+returns-clause-answer c =
+    let s = c.args.self.now in
+    let on : Holds s = subst Holds c.self.view_is c.self.invariant in
+    let new : c.make.new.self ≡ after_look_passive s c.args.t c.args.c = passive_look_is s c.make.new.self c.args.t c.args.c c.make.result c.requires.rest c.requires.retired c.requires.passed c.requires.cpu c.make.ensures in
+    let m : Mark = cleared (mark_at s.marks c.args.t c.args.c) (passive_at s.passive c.args.c c.args.t) in
+    let there : mark_at c.make.new.self.marks c.args.t c.args.c ≡ m = ap (λ (x : State). mark_at x.marks c.args.t c.args.c) new ∙ mark_there s c.args.t c.args.c m on c.requires.slot c.requires.cpu in
+    ap (λ (x : Mark). x.clear) (c.mark_at-2.ensures ∙ there) ∙ passive_clears s c.args.t c.args.c on c.requires.retired
+
+pub returns-clause-marks : goal.returns-clause-marks
+returns-clause-marks c =
+    let s = c.args.self.now in
+    let new : c.make.new.self ≡ after_look_passive s c.args.t c.args.c = passive_look_is s c.make.new.self c.args.t c.args.c c.make.result c.requires.rest c.requires.retired c.requires.passed c.requires.cpu c.make.ensures in
+    subst (λ (x : State). MarksGrow s.marks x.marks c.args.t) (sym new) (passive_look_marks s c.args.t c.args.c)

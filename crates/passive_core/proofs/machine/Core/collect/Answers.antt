@@ -1,0 +1,36 @@
+use Rattle.std.proofs.Common.{◌≡◌, ℕ, ◌+◌, ◌-◌, ◌<◌, ◌≤◌, Bool, true, false, not, refl, sym, ap, subst, ◌∙◌, arith, List, Option, Some, None, IsSome, IsTrue}
+use Rattle.passive_core.specs.declared.entry.Entry.{Entry}
+use Rattle.passive_core.specs.declared.state.Mark.{Mark}
+use Rattle.passive_core.specs.declared.state.Slot.{Slot}
+use Rattle.passive_core.specs.declared.state.Slot.TheVariants.{Vacant, Retired}
+use Rattle.passive_core.specs.declared.event.Event.TheVariants.{TotalAdd}
+use Rattle.passive_core.specs.declared.event.Reply.TheVariants.{Done}
+use Rattle.passive_core.specs.declared.stage.Stage.{Stage}
+use Rattle.passive_core.specs.declared.stage.Stage.TheVariants.{Grace, Passive, Local, Freed}
+use Rattle.passive_core.specs.Advancing.{AllClear, AllCollected, AllPassed, Empties, Gathers, MarksGrow, has_passive, is_open_since}
+use Rattle.passive_core.specs.Events.{after_collect, after_kept_sub, after_look, after_look_passive, after_total, after_vacate, cleared, collected, is_drained, looked, may_collect, may_look_passive, may_vacate, step}
+use Rattle.passive_core.specs.Invariant.{Holds, held_at}
+use Rattle.passive_core.specs.State.{State, bias, count_at, kept_at, mark_at, passive_at, section_at, slot_at, total_at}
+use Rattle.passive_core.proofs.Advancing.{added, adds, collect_is, collected_there, collects, guard_some, left_by}
+use Rattle.passive_core.proofs.machine.Core.collect.Goals as goal
+
+pub make-requires-clause-allowed : goal.make-requires-clause-allowed
+make-requires-clause-allowed c =
+    let s = c.args.self.now in
+    guard_some (may_collect s c.args.t c.args.c) _ _
+    (collects s c.args.t c.args.c c.requires.rest c.requires.retired c.requires.passed c.requires.clear c.requires.cpu (ap (λ (m : Mark). m.collected) (sym c.mark_at.ensures) ∙ c.if-mark_at.false))
+
+pub returns-clause-gathered : goal.returns-clause-gathered
+returns-clause-gathered c =
+    let s = c.args.self.now in
+    let yet : (mark_at s.marks c.args.t c.args.c).collected ≡ false = ap (λ (m : Mark). m.collected) (sym c.mark_at.ensures) ∙ c.if-mark_at.false in
+    let first = collect_is s c.make.new.self c.args.t c.args.c c.make.result c.requires.rest c.requires.retired c.requires.passed c.requires.clear c.requires.cpu yet c.make.ensures in
+    added s c.make-2.new.self c.args.t c.args.c c.requires.rest (left_by (step c.make.new.self (TotalAdd c.args.t)) _ c.make-2.new.self Done c.make-2.result (adds s c.make.new.self c.args.t c.args.c first) c.make-2.ensures)
+
+pub returns-clause-collected : goal.returns-clause-collected
+returns-clause-collected c =
+    let s = c.args.self.now in
+    let on : Holds s = subst Holds c.self.view_is c.self.invariant in
+    let yet : (mark_at s.marks c.args.t c.args.c).collected ≡ false = ap (λ (m : Mark). m.collected) (sym c.mark_at.ensures) ∙ c.if-mark_at.false in
+    let first = collect_is s c.make.new.self c.args.t c.args.c c.make.result c.requires.rest c.requires.retired c.requires.passed c.requires.clear c.requires.cpu yet c.make.ensures in
+    collected_there s c.make-2.new.self c.args.t c.args.c on c.requires.slot c.requires.cpu (left_by (step c.make.new.self (TotalAdd c.args.t)) _ c.make-2.new.self Done c.make-2.result (adds s c.make.new.self c.args.t c.args.c first) c.make-2.ensures)

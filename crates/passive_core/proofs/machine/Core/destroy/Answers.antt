@@ -1,0 +1,20 @@
+use Rattle.std.proofs.Common.{◌≡◌, ℕ, Bool, true, false, refl, sym, ap, subst, ◌∙◌, Ok}
+use Rattle.passive_core.specs.declared.stage.Stage.{Stage}
+use Rattle.passive_core.specs.Advancing.{AdvanceLeaves, advance_answer}
+use Rattle.passive_core.specs.State.{State}
+use Rattle.passive_core.proofs.Advancing.{advance_again, answer_again, not_freed, same_Ok}
+use Rattle.passive_core.proofs.machine.Core.destroy.Goals as goal
+
+pub loop-preserved : goal.loop-preserved
+loop-preserved c =
+    let s = c.args.self.now in
+    let l = c.loop in
+    let held = not_freed l.stage c.in_default.not-Freed in
+    let answer = c.in_ok-stage-2.ensures.answer ∙ answer_again s l.self c.args.number l.stage held l.invariant.after in
+    record {
+      stage = answer;
+      after = advance_again s l.self c.advance-in-loop.new.self c.args.number l.stage c.in_ok-stage-2.stage held l.invariant.after c.in_ok-stage-2.ensures.after (same_Ok c.in_ok-stage-2.stage l.stage (answer ∙ sym l.invariant.stage));
+      rest = c.in_ok-stage-2.ensures.rest;
+      settings = c.in_ok-stage-2.ensures.settings ∙ l.invariant.settings;
+      ready = λ d acts. c.in_ok-stage-2.ensures.ready d (l.invariant.ready d acts);
+    }

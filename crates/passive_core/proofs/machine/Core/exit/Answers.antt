@@ -1,0 +1,14 @@
+use Rattle.std.proofs.Common.{◌≡◌, subst, arith}
+use Rattle.passive_core.specs.Invariant.{Holds}
+use Rattle.passive_core.proofs.Entering.{depth_range}
+use Rattle.passive_core.proofs.machine.Core.exit.Goals as goal
+
+pub overflow_sub-depth : goal.overflow_sub-depth
+overflow_sub-depth c =
+    let on = subst Holds c.self.view_is c.self.invariant in
+    omega (arith, depth_range c.args.self.now c.args.c on c.requires.inside, c.depth-depth.ensures)
+
+pub set_depth-requires-clause-deep : goal.set_depth-requires-clause-deep
+set_depth-requires-clause-deep c =
+    let on = subst Holds c.self.view_is c.self.invariant in
+    omega (arith, depth_range c.args.self.now c.args.c on c.requires.inside, c.depth-depth.ensures)

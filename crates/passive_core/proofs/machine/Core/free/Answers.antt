@@ -1,0 +1,47 @@
+use Rattle.std.proofs.Common.{◌≡◌, ℕ, ◌+◌, ◌-◌, ◌<◌, ◌≤◌, Bool, true, false, not, refl, sym, ap, subst, ◌∙◌, arith, List, Option, Some, None, IsSome, IsTrue}
+use Rattle.passive_core.specs.declared.entry.Entry.{Entry}
+use Rattle.passive_core.specs.declared.state.Mark.{Mark}
+use Rattle.passive_core.specs.declared.state.Slot.{Slot}
+use Rattle.passive_core.specs.declared.state.Slot.TheVariants.{Vacant, Retired}
+use Rattle.passive_core.specs.declared.event.Reply.TheVariants.{Done}
+use Rattle.passive_core.specs.declared.stage.Stage.{Stage}
+use Rattle.passive_core.specs.declared.stage.Stage.TheVariants.{Grace, Passive, Local, Freed}
+use Rattle.passive_core.specs.Advancing.{AllClear, AllCollected, AllPassed, Empties, Gathers, MarksGrow, has_passive, is_open_since}
+use Rattle.passive_core.specs.Events.{after_collect, after_kept_sub, after_look, after_look_passive, after_total, after_vacate, cleared, collected, is_drained, looked, may_collect, may_look_passive, may_vacate, step}
+use Rattle.passive_core.specs.Invariant.{Holds, held_at}
+use Rattle.passive_core.specs.State.{State, bias, count_at, kept_at, mark_at, passive_at, section_at, slot_at, total_at}
+use Rattle.passive_core.specs.declared.event.Event.TheVariants.{KeptSub, Vacate}
+use Rattle.passive_core.proofs.Advancing.{allowed, gave_up, gives_up, guard_some, guard_state, kept_slot, left_by, none_is, some_is, vacated, vacates}
+use Rattle.passive_core.proofs.machine.Core.free.Goals as goal
+
+pub make-requires-clause-allowed : goal.make-requires-clause-allowed
+make-requires-clause-allowed c =
+    let s = c.args.self.now in
+    let on : Holds s = subst Holds c.self.view_is c.self.invariant in
+    let d = some_is c.kept_at.result (sym c.is_some.ensures ∙ c.if-is_some.true) in
+    let kept : kept_at s.keeps c.args.t ≡ Some d.0 = sym c.kept_at.ensures.value ∙ d.1 in
+    let u = kept_slot s c.args.t d.0 on kept in
+    allowed (step s (KeptSub c.args.t)) _ (gives_up s c.args.t d.0 u.0 on kept u.1 c.requires.drained)
+
+pub returns-then-is_some : goal.returns-then-is_some
+returns-then-is_some c =
+    let s = c.args.self.now in
+    let on : Holds s = subst Holds c.self.view_is c.self.invariant in
+    let d = some_is c.kept_at.result (sym c.is_some.ensures ∙ c.if-is_some.true) in
+    let kept : kept_at s.keeps c.args.t ≡ Some d.0 = sym c.kept_at.ensures.value ∙ d.1 in
+    let u = kept_slot s c.args.t d.0 on kept in
+    gave_up s c.make.new.self c.args.t d.0 u.0 on kept u.1 c.requires.drained
+    (left_by (step s (KeptSub c.args.t)) (after_kept_sub s c.args.t u.0) c.make.new.self Done c.make.result (gives_up s c.args.t d.0 u.0 on kept u.1 c.requires.drained) c.make.ensures)
+
+pub make-requires-2-clause-allowed : goal.make-requires-2-clause-allowed
+make-requires-2-clause-allowed c =
+    let s = c.args.self.now in
+    let none : kept_at s.keeps c.args.t ≡ None = sym c.kept_at.ensures.value ∙ none_is c.kept_at.result (sym c.is_some.ensures ∙ c.if-is_some.false) in
+    guard_some (may_vacate s c.args.t) _ _ (vacates s c.args.t none c.requires.drained)
+
+pub returns : goal.returns
+returns c =
+    let s = c.args.self.now in
+    let on : Holds s = subst Holds c.self.view_is c.self.invariant in
+    let none : kept_at s.keeps c.args.t ≡ None = sym c.kept_at.ensures.value ∙ none_is c.kept_at.result (sym c.is_some.ensures ∙ c.if-is_some.false) in
+    vacated s c.make-2.new.self c.args.t on none c.requires.drained (guard_state (may_vacate s c.args.t) (after_vacate s c.args.t) c.make-2.new.self Done c.make-2.result (vacates s c.args.t none c.requires.drained) c.make-2.ensures)

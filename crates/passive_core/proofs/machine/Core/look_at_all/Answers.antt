@@ -1,0 +1,32 @@
+use Rattle.std.proofs.Common.{◌≡◌, ℕ, ◌<◌, ◌≤◌, Bool, true, false, not, refl, sym, ap, subst, ◌∙◌, arith, Some}
+use borrow.Author.Count.{below_more}
+use Rattle.passive_core.specs.Advancing.{is_open_since, MarksPass}
+use Rattle.passive_core.specs.State.{State, mark_at}
+use Rattle.passive_core.proofs.Advancing.{least_is, none_below, not_false, not_true, only_marks, open_same, marks_pass_more}
+use Rattle.passive_core.proofs.machine.Core.look_at_all.Goals as goal
+
+pub returns-then-not-passes-clause-answer : goal.returns-then-not-passes-clause-answer
+returns-then-not-passes-clause-answer c =
+    let s = c.args.self.now in
+    let l = c.loop-c in
+    let open_ : is_open_since l.self c.args.t l.c ≡ true = not_false (is_open_since l.self c.args.t l.c) c.passes.result c.passes.ensures.answer c.if-not-passes.true in
+    sym (least_is (is_open_since s c.args.t) l.c s.settings.cpus (subst (λ (x : State). l.c < x.settings.cpus) c.self.view_is c.loop-c-test.true) (sym (open_same s l.self c.args.t l.c l.invariant.only l.invariant.marks) ∙ open_) l.invariant.closed)
+
+pub returns-then-not-passes-clause-marks : goal.returns-then-not-passes-clause-marks
+returns-then-not-passes-clause-marks c = marks_pass_more c.args.self.now.marks c.loop-c.self.marks c.passes.new.self.marks c.args.t c.loop-c.invariant.marks c.passes.ensures.marks
+
+pub loop-c-preserved : goal.loop-c-preserved
+loop-c-preserved c =
+    let s = c.args.self.now in
+    let l = c.loop-c in
+    let closed : is_open_since l.self c.args.t l.c ≡ false = not_true (is_open_since l.self c.args.t l.c) c.passes.result c.passes.ensures.answer c.if-not-passes.false in
+    record {
+      only = only_marks s l.self c.passes.new.self l.invariant.only c.passes.ensures.only;
+      marks = marks_pass_more s.marks l.self.marks c.passes.new.self.marks c.args.t l.invariant.marks c.passes.ensures.marks;
+      passed = below_more (λ d. (mark_at c.passes.new.self.marks c.args.t d).passed ≡ true) l.c
+          (λ d lt. (c.passes.ensures.marks.here d).passed (l.invariant.passed d lt)) (sym c.passes.ensures.passed ∙ c.if-not-passes.false);
+      closed = below_more (λ d. is_open_since s c.args.t d ≡ false) l.c l.invariant.closed (sym (open_same s l.self c.args.t l.c l.invariant.only l.invariant.marks) ∙ closed);
+    }
+
+pub returns-clause-answer : goal.returns-clause-answer
+returns-clause-answer c = sym (none_below (is_open_since c.args.self.now c.args.t) c.args.self.now.settings.cpus (λ d lt. c.loop-c.invariant.closed d (omega (arith, lt, subst (λ (x : State). x.settings.cpus ≤ c.loop-c.c) c.self.view_is c.loop-c-test.false))))

@@ -1,0 +1,43 @@
+use Rattle.std.proofs.Common.{◌≡◌, ℕ, suc, ◌+◌, ◌<◌, ◌≤◌, Bool, true, false, not, refl, sym, ap, subst, ◌∙◌, arith, List, length, get_or, slice_index_or, slice_set, length-set, Option, Some, None, Ok, Err, Result}
+use Rattle.std.proofs.Common.{inr, ⊎_elim}
+use Rattle.std.proofs.lemmas.Bool.{cases_eq}
+use Rattle.passive_core.specs.declared.entry.Entry.{Entry}
+use Rattle.passive_core.specs.declared.refusal.Refusal.{Refusal}
+use Rattle.passive_core.specs.declared.state.Slot.{Slot}
+use Rattle.passive_core.specs.Advancing.{AllPassed, MarksPass, is_open_since, least_below, retired_slot}
+use Rattle.passive_core.specs.Commands.{all_seated, may_act}
+use Rattle.passive_core.specs.Events.{is_inside}
+use Rattle.passive_core.specs.Invariant.{Holds}
+use Rattle.passive_core.specs.Performing.{AllOutside, AreSeen, AreWords, OnlyPasses, is_out, perform_answer, retired_number, waiting_for}
+use Rattle.passive_core.specs.Slots.{at_rest, is_retired}
+use Rattle.passive_core.specs.State.{State, mark_at, section_at, slot_at}
+use Rattle.passive_core.proofs.Occupied.{in_within, is_retired_tells}
+use Rattle.passive_core.proofs.Performing.{only_more, still_passed}
+use Rattle.passive_core.proofs.machine.Core.pass_all.Goals as goal
+
+size : (s : State) → Holds s → length s.slots ≡ s.settings.slots
+size s on = on.shape.slots
+
+pub loop-t-preserved : goal.loop-t-preserved
+loop-t-preserved c =
+    let s = c.args.self.now in
+    let l = c.loop-t in
+    let n = c.pass_entry.new.self in
+    let lt : l.t < s.settings.slots = subst (λ (x : State). l.t < x.settings.slots) c.self.view_is c.loop-t-test.true in
+    let slots : (u : ℕ) → slot_at l.self.slots u ≡ slot_at s.slots u = λ u. ap (λ (x : State). slot_at x.slots u) l.invariant.only.only in
+    record {
+      only = only_more s l.self n l.invariant.only c.pass_entry.ensures.only;
+      passed = λ u below gone. ⊎_elim
+          (λ (same : u ≡ l.t).
+          let here : is_retired (slot_at s.slots l.t) ≡ true = ap (λ (k : ℕ). is_retired (slot_at s.slots k)) (sym same) ∙ gone in
+          subst (AllPassed n) (sym same) (c.pass_entry.ensures.passed l.t (ap is_retired (slots l.t) ∙ here) (c.requires.numbers l.t lt ∙ ap retired_number (sym (slots l.t)))))
+          (λ (off : u ≡ l.t → ⊥). still_passed l.self n u c.pass_entry.ensures.only (l.invariant.passed u (omega (arith, below, off)) gone))
+          (cases_eq u l.t);
+    }
+
+pub returns-clause-passed : goal.returns-clause-passed
+returns-clause-passed c = λ t gone.
+    let s = c.args.self.now in
+    let e = is_retired_tells (slot_at s.slots t) gone in
+    let lt : t < s.settings.slots = omega (arith, in_within s.slots t e.0 (inr e.1), size s (subst Holds c.self.view_is c.self.invariant)) in
+    c.loop-t.invariant.passed t (omega (arith, lt, subst (λ (x : State). x.settings.slots ≤ c.loop-t.t) c.self.view_is c.loop-t-test.false)) gone

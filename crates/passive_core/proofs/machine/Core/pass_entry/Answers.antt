@@ -1,0 +1,40 @@
+use Rattle.std.proofs.Common.{◌≡◌, ℕ, suc, ◌+◌, ◌<◌, ◌≤◌, Bool, true, false, not, refl, sym, ap, subst, ◌∙◌, arith, List, length, get_or, slice_index_or, slice_set, length-set, Option, Some, None, Ok, Err, Result}
+use Rattle.std.proofs.lemmas.Option.{none-some, same_Some}
+use Rattle.passive_core.specs.declared.entry.Entry.{Entry}
+use Rattle.passive_core.specs.declared.refusal.Refusal.{Refusal}
+use Rattle.passive_core.specs.declared.state.Slot.{Slot}
+use Rattle.passive_core.specs.Advancing.{AllPassed, MarksPass, is_open_since, least_below, retired_slot}
+use Rattle.passive_core.specs.Commands.{all_seated, may_act}
+use Rattle.passive_core.specs.Events.{is_inside}
+use Rattle.passive_core.specs.Invariant.{Holds}
+use Rattle.passive_core.specs.Performing.{AllOutside, AreSeen, AreWords, OnlyPasses, is_out, perform_answer, retired_number, waiting_for}
+use Rattle.passive_core.specs.Slots.{at_rest, is_retired}
+use Rattle.passive_core.specs.State.{State, mark_at, section_at, slot_at}
+use Rattle.passive_core.proofs.Advancing.{retired_slot_tells}
+use Rattle.passive_core.proofs.Performing.{none_open, only_one, retired_found}
+use Rattle.passive_core.proofs.machine.Core.pass_entry.Goals as goal
+
+pub look_at_all-requires-clause-retired : goal.look_at_all-requires-clause-retired
+look_at_all-requires-clause-retired c =
+    ap is_retired (retired_slot_tells c.args.self.now.slots c.in-Some.number c.in-Some-retired_slot.t (sym c.in-Some-retired_slot.ensures.value)).1.1
+
+pub returns-in-Some-retired_slot-clause-only : goal.returns-in-Some-retired_slot-clause-only
+returns-in-Some-retired_slot-clause-only c =
+    only_one c.args.self.now c.look_at_all.new.self c.in-Some-retired_slot.t
+    (ap is_retired (retired_slot_tells c.args.self.now.slots c.in-Some.number c.in-Some-retired_slot.t (sym c.in-Some-retired_slot.ensures.value)).1.1)
+    c.look_at_all.ensures.only c.look_at_all.ensures.marks
+
+pub returns-in-Some-retired_slot-clause-passed : goal.returns-in-Some-retired_slot-clause-passed
+returns-in-Some-retired_slot-clause-passed c = λ t gone is.
+    let s = c.args.self.now in
+    let on : Holds s = subst Holds c.self.view_is c.self.invariant in
+    let found : retired_slot s.slots c.in-Some.number ≡ Some t = retired_found s t c.in-Some.number on gone (sym c.in-Some.is ∙ is) in
+    let same : c.in-Some-retired_slot.t ≡ t = same_Some c.in-Some-retired_slot.t t (c.in-Some-retired_slot.ensures.value ∙ found) in
+    subst (AllPassed c.look_at_all.new.self) same (c.look_at_all.ensures.passed (c.look_at_all.ensures.answer ∙ none_open s c.in-Some-retired_slot.t c.requires.outside))
+
+pub returns-in_default-retired_slot-clause-passed : goal.returns-in_default-retired_slot-clause-passed
+returns-in_default-retired_slot-clause-passed c = λ t gone is.
+    let s = c.args.self.now in
+    let on : Holds s = subst Holds c.self.view_is c.self.invariant in
+    let found : retired_slot s.slots c.in-Some.number ≡ Some t = retired_found s t c.in-Some.number on gone (sym c.in-Some.is ∙ is) in
+    absurd (none-some t (sym c.in_default-retired_slot.is ∙ (c.retired_slot.ensures.value ∙ found)))

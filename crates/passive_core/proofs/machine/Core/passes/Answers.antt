@@ -1,0 +1,29 @@
+use Rattle.std.proofs.Common.{◌≡◌, ℕ, ◌<◌, Bool, true, not, refl, sym, ap, subst, ◌∙◌, List}
+use Rattle.passive_core.specs.declared.state.Mark.{Mark}
+use Rattle.passive_core.specs.Advancing.{is_open_since, MarksPass}
+use Rattle.passive_core.specs.Events.{after_look, looked}
+use Rattle.passive_core.specs.Invariant.{Holds}
+use Rattle.passive_core.specs.State.{State, section_at, slot_at, mark_at}
+use Rattle.passive_core.proofs.Advancing.{look_is, look_marks, look_passes, mark_there, passed_left}
+use Rattle.passive_core.proofs.machine.Core.passes.Goals as goal
+
+pub returns-then-mark_at-clause-answer : goal.returns-then-mark_at-clause-answer
+returns-then-mark_at-clause-answer c =
+    let s = c.args.self.now in
+    let on : Holds s = subst Holds c.self.view_is c.self.invariant in
+    passed_left s c.args.t c.args.c on c.requires.rest c.requires.retired c.requires.cpu (ap (λ (m : Mark). m.passed) (sym c.mark_at.ensures) ∙ c.if-mark_at.true)
+
+pub returns-clause-answer : goal.returns-clause-answer
+returns-clause-answer c =
+    let s = c.args.self.now in
+    let on : Holds s = subst Holds c.self.view_is c.self.invariant in
+    let new : c.make.new.self ≡ after_look s c.args.t c.args.c = look_is s c.make.new.self c.args.t c.args.c c.make.result c.requires.rest c.requires.retired c.requires.cpu c.make.ensures in
+    let m : Mark = looked (mark_at s.marks c.args.t c.args.c) (section_at s c.args.c) in
+    let there : mark_at c.make.new.self.marks c.args.t c.args.c ≡ m = ap (λ (x : State). mark_at x.marks c.args.t c.args.c) new ∙ mark_there s c.args.t c.args.c m on c.requires.slot c.requires.cpu in
+    ap (λ (x : Mark). x.passed) (c.mark_at-2.ensures ∙ there) ∙ look_passes s c.args.t c.args.c on c.requires.rest c.requires.retired c.requires.cpu
+
+pub returns-clause-marks : goal.returns-clause-marks
+returns-clause-marks c =
+    let s = c.args.self.now in
+    let new : c.make.new.self ≡ after_look s c.args.t c.args.c = look_is s c.make.new.self c.args.t c.args.c c.make.result c.requires.rest c.requires.retired c.requires.cpu c.make.ensures in
+    subst (λ (x : State). MarksPass s.marks x.marks c.args.t) (sym new) (look_marks s c.args.t c.args.c)

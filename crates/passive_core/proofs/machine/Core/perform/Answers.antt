@@ -1,0 +1,60 @@
+use Rattle.std.proofs.Common.{◌≡◌, ℕ, suc, ◌+◌, ◌<◌, ◌≤◌, Bool, true, false, not, refl, sym, ap, subst, ◌∙◌, arith, List, length, get_or, slice_index_or, slice_set, length-set, Option, Some, None, Ok, Err, Result}
+use Rattle.passive_core.specs.declared.entry.Entry.{Entry}
+use Rattle.passive_core.specs.declared.refusal.Refusal.{Refusal}
+use Rattle.passive_core.specs.declared.state.Slot.{Slot}
+use Rattle.passive_core.specs.Advancing.{AllPassed, MarksPass, is_open_since, least_below, retired_slot}
+use Rattle.passive_core.specs.Commands.{all_seated, may_act}
+use Rattle.passive_core.specs.Events.{is_inside}
+use Rattle.passive_core.specs.Invariant.{Holds}
+use Rattle.passive_core.specs.Performing.{AllOutside, AreSeen, AreWords, OnlyPasses, is_out, perform_answer, retired_number, waiting_for}
+use Rattle.passive_core.specs.Slots.{at_rest, is_retired}
+use Rattle.passive_core.specs.State.{State, mark_at, section_at, slot_at}
+use Rattle.passive_core.proofs.Advancing.{acts_seated}
+use Rattle.passive_core.proofs.Performing.{least_none}
+use Rattle.passive_core.proofs.machine.Core.perform.Goals as goal
+
+pub returns-in-Some-clause-ready : goal.returns-in-Some-clause-ready
+returns-in-Some-clause-ready c = λ d acts.
+    let s = c.args.self.now in
+    let seated : c.wait_for_sections.new.self ≡ all_seated s = c.wait_for_sections.ensures.same ∙ c.seat_all.ensures in
+    ap (λ (x : State). may_act x d) seated ∙ acts_seated s d (subst Holds c.self.view_is c.self.invariant) acts
+
+pub pass_all-requires-clause-outside : goal.pass_all-requires-clause-outside
+pass_all-requires-clause-outside c =
+    let s = c.args.self.now in
+    let seated : c.wait_for_sections.new.self ≡ all_seated s = c.wait_for_sections.ensures.same ∙ c.seat_all.ensures in
+    let none : least_below (is_inside s) s.settings.cpus ≡ None = ap (λ (x : State). least_below (is_inside x) x.settings.cpus) (sym c.seat_all.ensures) ∙ (sym c.wait_for_sections.ensures.answer ∙ c.in_default.is) in
+    subst AllOutside (sym seated) (least_none (is_inside s) s.settings.cpus none)
+
+pub pass_all-requires-clause-numbers : goal.pass_all-requires-clause-numbers
+pass_all-requires-clause-numbers c = λ t lt.
+    let s = c.args.self.now in
+    let seated : c.wait_for_sections.new.self ≡ all_seated s = c.wait_for_sections.ensures.same ∙ c.seat_all.ensures in
+    c.retired_numbers-retired.ensures t (subst (λ (x : State). t < x.settings.slots) seated lt) ∙ ap (λ (x : State). retired_number (slot_at x.slots t)) (sym seated)
+
+pub returns-clause-answer : goal.returns-clause-answer
+returns-clause-answer c =
+    let s = c.args.self.now in
+    let seated : c.wait_for_sections.new.self ≡ all_seated s = c.wait_for_sections.ensures.same ∙ c.seat_all.ensures in
+    let none : least_below (is_inside s) s.settings.cpus ≡ None = ap (λ (x : State). least_below (is_inside x) x.settings.cpus) (sym c.seat_all.ensures) ∙ (sym c.wait_for_sections.ensures.answer ∙ c.in_default.is) in
+    let outside : is_inside s c.args.c ≡ false = sym c.inside.ensures ∙ c.if-inside.false in
+    rw (outside, none) refl
+
+pub returns-clause-after : goal.returns-clause-after
+returns-clause-after c =
+    let s = c.args.self.now in
+    let seated : c.wait_for_sections.new.self ≡ all_seated s = c.wait_for_sections.ensures.same ∙ c.seat_all.ensures in
+    let only : OnlyPasses (all_seated s) c.pass_all.new.self = subst (λ (x : State). OnlyPasses x c.pass_all.new.self) seated c.pass_all.ensures.only in
+    record {
+      only = only.only;
+      marks = only.marks;
+      elsewhere = only.elsewhere;
+      passed = λ t gone. c.pass_all.ensures.passed t (ap (λ (x : State). is_retired (slot_at x.slots t)) seated ∙ gone);
+    }
+
+pub returns-clause-ready : goal.returns-clause-ready
+returns-clause-ready c = λ d acts.
+    let s = c.args.self.now in
+    let seated : c.wait_for_sections.new.self ≡ all_seated s = c.wait_for_sections.ensures.same ∙ c.seat_all.ensures in
+    let before : may_act c.wait_for_sections.new.self d ≡ true = ap (λ (x : State). may_act x d) seated ∙ acts_seated s d (subst Holds c.self.view_is c.self.invariant) acts in
+    ap (λ (x : State). may_act x d) c.pass_all.ensures.only.only ∙ before

@@ -1,0 +1,12 @@
+use Rattle.std.proofs.Common.{◌≡◌, ◌<◌, ℕ, length, slice_index_or, None}
+use Rattle.passive_core.specs.Performing.{retired_number}
+use Rattle.passive_core.specs.State.{slot_at}
+use Rattle.passive_core.specs.Shown.{shown}
+use Rattle.passive_core.proofs.machine.Core.retired_numbers.Given as goal
+
+-- the numbers of the slots so far
+abbrev pub invariant-loop-t : goal.invariant-loop-t
+invariant-loop-t l = record {
+  long : length l.numbers ≡ 32;
+  numbers : (u : ℕ) → u < l.t → slice_index_or l.numbers u None ≡ retired_number (slot_at l.self.slots u);
+}

@@ -1,0 +1,57 @@
+use Rattle.std.proofs.Common.{◌≡◌, ℕ, ◌+◌, ◌-◌, ◌<◌, ◌≤◌, Bool, true, false, not, refl, sym, ap, subst, ◌∙◌, arith, List, Option, Some, None, IsSome, IsTrue}
+use Rattle.passive_core.specs.declared.entry.Entry.{Entry}
+use Rattle.passive_core.specs.declared.state.Mark.{Mark}
+use Rattle.passive_core.specs.declared.state.Slot.{Slot}
+use Rattle.passive_core.specs.declared.state.Slot.TheVariants.{Vacant, Retired}
+use Rattle.passive_core.specs.declared.event.Reply.TheVariants.{Done}
+use Rattle.passive_core.specs.declared.stage.Stage.{Stage}
+use Rattle.passive_core.specs.declared.stage.Stage.TheVariants.{Grace, Passive, Local, Freed}
+use Rattle.passive_core.specs.Advancing.{AllClear, AllCollected, AllPassed, Empties, Gathers, MarksGrow, has_passive, is_open_since}
+use Rattle.passive_core.specs.Events.{after_collect, after_kept_sub, after_look, after_look_passive, after_total, after_vacate, cleared, collected, is_drained, looked, may_collect, may_look_passive, may_vacate, step}
+use Rattle.passive_core.specs.Invariant.{Holds, held_at}
+use Rattle.passive_core.specs.State.{State, bias, count_at, kept_at, mark_at, passive_at, section_at, slot_at, total_at}
+use Rattle.passive_core.proofs.Advancing.{drained_from, gathered_total, gathered_words, local_stage, free_stage}
+use Rattle.passive_core.proofs.Occupied.{is_retired_tells}
+use Rattle.passive_core.proofs.machine.Core.settle.Goals as goal
+
+pub overflow_sub-result : goal.overflow_sub-result
+overflow_sub-result c =
+    let s = c.args.self.now in
+    let on : Holds s = subst Holds c.self.view_is c.self.invariant in
+    let e = is_retired_tells (slot_at s.slots c.args.t) c.requires.retired in
+    omega (arith, gathered_total s c.args.t e.0 on c.requires.rest e.1 c.requires.collected, c.total_at-total.ensures)
+
+pub returns-then-total-ne-BIAS-clause-stage : goal.returns-then-total-ne-BIAS-clause-stage
+returns-then-total-ne-BIAS-clause-stage c = λ e is.
+    let s = c.args.self.now in
+    let on : Holds s = subst Holds c.self.view_is c.self.invariant in
+    let k : ℕ = held_at s.locals s.hands s.keeps s.due e.number c.args.t in
+    let total : total_at s.totals c.args.t ≡ bias + k = gathered_total s c.args.t e on c.requires.rest is c.requires.collected in
+    local_stage c.args.t (c.total_at-total.result - bias) k (omega (arith, total, c.total_at-total.ensures)) (λ none. c.if-total-ne-BIAS.true (c.total_at-total.ensures ∙ (total ∙ ap (λ (x : ℕ). bias + x) none)))
+
+pub returns-then-total-ne-BIAS-clause-after : goal.returns-then-total-ne-BIAS-clause-after
+returns-then-total-ne-BIAS-clause-after c =
+    let s = c.args.self.now in
+    let on : Holds s = subst Holds c.self.view_is c.self.invariant in
+    let e = is_retired_tells (slot_at s.slots c.args.t) c.requires.retired in
+    (refl, omega (arith, gathered_total s c.args.t e.0 on c.requires.rest e.1 c.requires.collected, c.total_at-total.ensures))
+
+pub returns-then-total-ne-BIAS-clause-emptied : goal.returns-then-total-ne-BIAS-clause-emptied
+returns-then-total-ne-BIAS-clause-emptied c =
+    gathered_words c.args.self.now c.args.t (subst Holds c.self.view_is c.self.invariant) c.requires.retired c.requires.collected
+
+pub free-requires-clause-drained : goal.free-requires-clause-drained
+free-requires-clause-drained c =
+    drained_from c.args.self.now c.args.t c.requires.rest c.requires.retired c.requires.passed c.requires.clear c.requires.collected (sym c.total_at-total.ensures ∙ c.if-total-ne-BIAS.false)
+
+pub returns-clause-stage : goal.returns-clause-stage
+returns-clause-stage c = λ e is.
+    let s = c.args.self.now in
+    let on : Holds s = subst Holds c.self.view_is c.self.invariant in
+    let k : ℕ = held_at s.locals s.hands s.keeps s.due e.number c.args.t in
+    let total : total_at s.totals c.args.t ≡ bias + k = gathered_total s c.args.t e on c.requires.rest is c.requires.collected in
+    free_stage c.args.t k (omega (arith, total, c.total_at-total.ensures, c.if-total-ne-BIAS.false))
+
+pub returns-clause-emptied : goal.returns-clause-emptied
+returns-clause-emptied c =
+    gathered_words c.args.self.now c.args.t (subst Holds c.self.view_is c.self.invariant) c.requires.retired c.requires.collected

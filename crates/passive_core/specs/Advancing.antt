@@ -1,0 +1,193 @@
+-- How far the destruction of a retired entry has come, in plain terms, and what the keeper's work on it leaves.
+use Rattle.std.specs.Prelude.{◌≡◌, ℕ, zero, suc, ◌+◌, ◌-◌, ◌<◌, ◌==◌, nat_lt, List, [], position, Option, Some, None, Bool, true, false, ◌&&◌, Result, Ok, Err, if◌then◌else◌, slice_index_or, slice_set}
+use Rattle.passive_core.specs.declared.entry.Entry.{Entry}
+use Rattle.passive_core.specs.declared.refusal.Refusal.{Refusal}
+use Rattle.passive_core.specs.declared.refusal.Refusal.TheVariants.{Inside, NotRetired, StillHeld, Waiting}
+use Rattle.passive_core.specs.declared.stage.Stage.{Stage}
+use Rattle.passive_core.specs.declared.stage.Stage.TheVariants.{Grace, Passive, Local, Freed}
+use Rattle.passive_core.specs.declared.state.Mark.{Mark}
+use Rattle.passive_core.specs.declared.state.Slot.{Slot}
+use Rattle.passive_core.specs.declared.state.Slot.TheVariants.{Vacant, Live, Retired}
+use Rattle.passive_core.specs.History.{MayHold}
+use Rattle.passive_core.specs.State.{State, bias, section_at, begin_at, slot_at, mark_at, passive_at, count_at, total_at, kept_at}
+use Rattle.passive_core.specs.Slots.{has_number}
+use Rattle.passive_core.specs.Events.{is_inside}
+use Rattle.passive_core.specs.Invariant.{held_at, one_if}
+
+-- the least number that passes, of those already looked through and one more
+abbrev pub or_next : Option ℕ → Bool → ℕ → Option ℕ
+or_next (Some c) b n = Some c
+or_next None true n = Some n
+or_next None false n = None
+
+-- the least number below a bound that passes
+abbrev pub least_below : (ℕ → Bool) → ℕ → Option ℕ
+least_below p zero = None
+least_below p (suc n) = or_next (least_below p n) (p n) n
+
+-- the retired entry with this number is here
+abbrev pub is_retired_as : ℕ → Slot → Bool
+is_retired_as n Vacant = false
+is_retired_as n (Live e) = false
+is_retired_as n (Retired e) = e.number == n
+
+-- the slot whose retired entry is n
+abbrev pub retired_slot : List Slot → ℕ → Option ℕ
+retired_slot slots n = position (is_retired_as n) slots
+
+-- the word is that of the snapshot
+abbrev pub is_snapshot : Option ℕ → ℕ → Bool
+is_snapshot None w = false
+is_snapshot (Some x) w = x == w
+
+-- the section of c that was open as the snapshot of its word was taken for the slot t is open still
+abbrev pub is_open_since : State → ℕ → ℕ → Bool
+is_open_since s t c = is_inside s c && is_snapshot (mark_at s.marks t c).snapshot (section_at s c)
+
+-- c has a passive reference to what stands in t
+abbrev pub has_passive : State → ℕ → ℕ → Bool
+has_passive s t c = nat_lt 0 (passive_at s.passive c t)
+
+-- the first obstacle of the three; a number of local references that is 0 is none
+abbrev pub stage_of : ℕ → Option ℕ → Option ℕ → ℕ → Stage
+stage_of t (Some c) passive locals = Grace c
+stage_of t None (Some c) locals = Passive c
+stage_of t None None zero = Freed t
+stage_of t None None (suc k) = Local (suc k)
+
+-- what stands between the retired entry n in the slot t and the freeing of t
+abbrev pub plain_stage : State → ℕ → ℕ → Stage
+plain_stage s t n = stage_of t (least_below (is_open_since s t) s.settings.cpus) (least_below (has_passive s t) s.settings.cpus) (held_at s.locals s.hands s.keeps s.due n t)
+
+abbrev pub stage_in : State → ℕ → Option ℕ → Result Stage Refusal
+stage_in s n None = Err NotRetired
+stage_in s n (Some t) = Ok (plain_stage s t n)
+
+-- The answer of advance.
+abbrev pub advance_answer : State → ℕ → Result Stage Refusal
+advance_answer s n = stage_in s n (retired_slot s.slots n)
+
+-- Every open section that may hold the retired entry e counts as open since its snapshots.
+abbrev pub HoldersAreOpen : State → Type 0
+HoldersAreOpen s = (t c b : ℕ) (e : Entry) → slot_at s.slots t ≡ Retired e → begin_at s c ≡ Some b → MayHold s.history b e → is_open_since s t c ≡ true
+
+-- a mark of one CPU for a retired entry: its snapshot and what was so once stay
+pub record Grows (old new : Mark) : Type 0 where
+  pub snapshot : new.snapshot ≡ old.snapshot
+  pub passed : old.passed ≡ true → new.passed ≡ true
+  pub clear : old.clear ≡ true → new.clear ≡ true
+  pub collected : old.collected ≡ true → new.collected ≡ true
+
+-- a mark that may only have come to say passed
+pub record Passes (old new : Mark) : Type 0 where
+  pub snapshot : new.snapshot ≡ old.snapshot
+  pub passed : old.passed ≡ true → new.passed ≡ true
+  pub clear : new.clear ≡ old.clear
+  pub collected : new.collected ≡ old.collected
+
+-- what is so of the marks of all CPUs for the slot t
+abbrev pub AllPassed : State → ℕ → Type 0
+AllPassed s t = (c : ℕ) → c < s.settings.cpus → (mark_at s.marks t c).passed ≡ true
+
+abbrev pub AllClear : State → ℕ → Type 0
+AllClear s t = (c : ℕ) → c < s.settings.cpus → (mark_at s.marks t c).clear ≡ true
+
+abbrev pub AllCollected : State → ℕ → Type 0
+AllCollected s t = (c : ℕ) → c < s.settings.cpus → (mark_at s.marks t c).collected ≡ true
+
+-- the rows of other slots are as they were
+abbrev pub SameElsewhere : {X : Type 0} → List (List X) → List (List X) → ℕ → Type 0
+SameElsewhere old new t = (u : ℕ) → (u ≡ t → ⊥) → slice_index_or new u [] ≡ slice_index_or old u []
+
+pub record MarksGrow (old new : List (List Mark)) (t : ℕ) : Type 0 where
+  pub elsewhere : SameElsewhere old new t
+  pub here : (c : ℕ) → Grows (mark_at old t c) (mark_at new t c)
+
+-- the same, where nothing but looks at section words was done
+pub record MarksPass (old new : List (List Mark)) (t : ℕ) : Type 0 where
+  pub elsewhere : SameElsewhere old new t
+  pub here : (c : ℕ) → Passes (mark_at old t c) (mark_at new t c)
+
+-- a section or a passive reference stands in the way: seats and marks of the slot t are all that changes
+pub record LeavesMarks (old new : State) (t : ℕ) : Type 0 where
+  pub only : new ≡ record old { seated = old.settings.cpus; marks = new.marks }
+  pub marks : MarksGrow old.marks new.marks t
+
+-- k local references do: the words of the slot t are collected in its total
+pub record LeavesTotal (old new : State) (t k : ℕ) : Type 0 where
+  pub only : new ≡ record old { seated = old.settings.cpus; marks = new.marks; counts = new.counts; totals = new.totals }
+  pub marks : MarksGrow old.marks new.marks t
+  pub counts : SameElsewhere old.counts new.counts t
+  pub collected : (c : ℕ) → count_at new.counts c t ≡ 0
+  pub totals : (u : ℕ) → (u ≡ t → ⊥) → total_at new.totals u ≡ total_at old.totals u
+  pub total : total_at new.totals t ≡ bias + k
+
+-- what the driver in a slot loses as the reference is given up that another slot keeps
+abbrev pub given_up : Option ℕ → Slot → ℕ
+given_up None x = 0
+given_up (Some d) x = one_if (has_number d x)
+
+-- nothing does: the slot t is vacant and keeps nothing, and the total of the driver that it kept has one reference less
+pub record LeavesFree (old new : State) (t : ℕ) : Type 0 where
+  pub only : new ≡ record old { seated = old.settings.cpus; marks = new.marks; counts = new.counts; totals = new.totals; slots = slice_set old.slots t Vacant; keeps = slice_set old.keeps t None }
+  pub marks : MarksGrow old.marks new.marks t
+  pub counts : SameElsewhere old.counts new.counts t
+  pub collected : (c : ℕ) → count_at new.counts c t ≡ 0
+  pub totals : (u : ℕ) → (u ≡ t → ⊥) → total_at new.totals u + given_up (kept_at old.keeps t) (slot_at old.slots u) ≡ total_at old.totals u
+  pub total : total_at new.totals t ≡ bias
+  pub vacant : slot_at new.slots t ≡ Vacant
+  pub unkept : kept_at new.keeps t ≡ None
+
+-- words of the slot t are collected in its total
+pub record Gathers (old new : State) (t : ℕ) : Type 0 where
+  pub only : new ≡ record old { marks = new.marks; counts = new.counts; totals = new.totals }
+  pub marks : MarksGrow old.marks new.marks t
+  pub counts : SameElsewhere old.counts new.counts t
+  pub totals : (u : ℕ) → (u ≡ t → ⊥) → total_at new.totals u ≡ total_at old.totals u
+
+-- what the end of the work leaves of a slot whose words are all collected
+pub record Empties (old new : State) (t : ℕ) : Type 0 where
+  pub only : new ≡ record old { totals = new.totals; slots = slice_set old.slots t Vacant; keeps = slice_set old.keeps t None }
+  pub totals : (u : ℕ) → (u ≡ t → ⊥) → total_at new.totals u + given_up (kept_at old.keeps t) (slot_at old.slots u) ≡ total_at old.totals u
+  pub total : total_at new.totals t ≡ bias
+
+abbrev pub Settles : State → State → ℕ → Stage → Type 0
+Settles old new t (Grace c) = ⊥
+Settles old new t (Passive c) = ⊥
+Settles old new t (Local k) = (new ≡ old) × (total_at old.totals t ≡ bias + k)
+Settles old new t (Freed u) = Empties old new t
+
+abbrev pub StageLeaves : State → State → ℕ → Stage → Type 0
+StageLeaves old new t (Grace c) = LeavesMarks old new t
+StageLeaves old new t (Passive c) = LeavesMarks old new t
+StageLeaves old new t (Local k) = LeavesTotal old new t k
+StageLeaves old new t (Freed u) = LeavesFree old new t
+
+-- What an advance leaves, by its answer.
+abbrev pub AdvanceLeaves : State → State → ℕ → Result Stage Refusal → Type 0
+AdvanceLeaves old new n (Err refusal) = new ≡ old
+AdvanceLeaves old new n (Ok stage) = (t : ℕ) × (retired_slot old.slots n ≡ Some t) × StageLeaves old new t stage
+
+-- Destroying an entry: the answer of an advance, where what stands in the way is a refusal.
+abbrev pub destroyed : Stage → Result ℕ Refusal
+destroyed (Grace c) = Err (StillHeld (Grace c))
+destroyed (Passive c) = Err (StillHeld (Passive c))
+destroyed (Local k) = Err (StillHeld (Local k))
+destroyed (Freed t) = Ok t
+
+abbrev pub destroyed_if : Result Stage Refusal → Result ℕ Refusal
+destroyed_if (Err refusal) = Err refusal
+destroyed_if (Ok stage) = destroyed stage
+
+-- The answer of destroy.
+abbrev pub destroy_answer : State → ℕ → ℕ → Result ℕ Refusal
+destroy_answer s c n = if is_inside s c then Err Inside else destroyed_if (advance_answer s n)
+
+-- What a destroy leaves, by its answer: what an advance does that met this obstacle, or freed the slot.
+abbrev pub HeldLeaves : State → State → ℕ → Refusal → Type 0
+HeldLeaves old new n (StillHeld stage) = AdvanceLeaves old new n (Ok stage)
+HeldLeaves old new n _ = new ≡ old
+
+abbrev pub DestroyLeaves : State → State → ℕ → Result ℕ Refusal → Type 0
+DestroyLeaves old new n (Ok t) = AdvanceLeaves old new n (Ok (Freed t))
+DestroyLeaves old new n (Err refusal) = HeldLeaves old new n refusal

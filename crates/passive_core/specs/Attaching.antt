@@ -1,0 +1,115 @@
+-- What an attach answers, and what it leaves.
+use Rattle.std.specs.Prelude.{◌≡◌, ℕ, ◌+◌, List, [], ◌++◌, replicate, drop, position, Option, Some, None, is_none, Bool, false, ◌&&◌, ◌⊎◌, if◌then◌else◌, Result, Ok, Err, length, slice_index_or, slice_set}
+use Rattle.std.specs.List.{zip}
+use Rattle.passive_core.specs.declared.entry.Entry.{Entry}
+use Rattle.passive_core.specs.declared.entry.Record.{Record}
+use Rattle.passive_core.specs.declared.refusal.Refusal.{Refusal}
+use Rattle.passive_core.specs.declared.refusal.Refusal.TheVariants.{NoMemory, NameTaken, NoSlot, HistoryFull, Inside, NeedsDriver}
+use Rattle.passive_core.specs.declared.state.Key.{Key}
+use Rattle.passive_core.specs.declared.state.LocalPlace.{LocalPlace}
+use Rattle.passive_core.specs.declared.state.LocalPlace.TheVariants.{Free}
+use Rattle.passive_core.specs.declared.machine.commands.attach.Before.{Before}
+use Rattle.passive_core.specs.declared.state.Slot.{Slot}
+use Rattle.passive_core.specs.Commands.{all_seated}
+use Rattle.passive_core.specs.Events.{is_inside, is_driver_slot, standing, words_of, has_room, after_seeing, after_publish}
+use Rattle.passive_core.specs.Slots.{is_vacant, is_iface, is_taken, slot_of}
+use Rattle.passive_core.specs.State.{State, bias, slot_at, row_at, local_at}
+
+-- a slot that an attach may take: it is vacant and keeps nothing
+abbrev pub is_plain : Slot × Option ℕ → Bool
+is_plain p = is_vacant p.0 && is_none p.1
+
+-- the least of them
+abbrev pub plain_slot : State → Option ℕ
+plain_slot s = position is_plain (zip s.slots s.keeps)
+
+-- what a record is looked up by
+abbrev pub key_of_record : Record → Key
+key_of_record rec = record { kind = rec.kind; name = rec.name }
+
+-- the entry of the next change
+abbrev pub next_entry : State → Record → ℕ → Entry
+next_entry s rec t = record { number = length s.history + 1; slot = t; rec = rec }
+
+abbrev pub entry_in : State → Record → Option ℕ → Result Entry Refusal
+entry_in s rec None = Err NoSlot
+entry_in s rec (Some t) = if has_room s then Ok (next_entry s rec t) else Err HistoryFull
+
+-- The entry that an attach of the record makes. Refused where its kind and name are taken, no slot is plain, or the history has no room.
+abbrev pub given_entry : State → Record → Result Entry Refusal
+given_entry s rec = if is_taken (key_of_record rec) s.slots then Err NameTaken else entry_in s rec (plain_slot s)
+
+abbrev pub attach_answer : State → ℕ → Record → Result Entry Refusal
+attach_answer s c rec = if is_inside s c then Err Inside else (if is_iface rec.kind then Err NeedsDriver else given_entry s rec)
+
+-- the entry with this number is a driver
+abbrev pub is_driver_in : List Slot → Option ℕ → Bool
+is_driver_in slots None = false
+is_driver_in slots (Some t) = is_driver_slot (slot_at slots t)
+
+abbrev pub is_driver_number : List Slot → Option ℕ → Bool
+is_driver_number slots None = false
+is_driver_number slots (Some n) = is_driver_in slots (slot_of slots n)
+
+-- the live local reference with this id is to a driver
+abbrev pub is_to_driver : State → ℕ → Bool
+is_to_driver s id = is_driver_number s.slots (standing (local_at s.locals id))
+
+abbrev pub attach_iface_answer : State → ℕ → Record → ℕ → Result Entry Refusal
+attach_iface_answer s c rec id = if is_inside s c then Err Inside else (if is_to_driver s id then given_entry s rec else Err NeedsDriver)
+
+-- the answer is the one given; or, where that is an entry, memory was refused
+abbrev pub IsAnswer : Result Entry Refusal → Result Entry Refusal → Type 0
+IsAnswer (Ok e) answer = (answer ≡ Ok e) ⊎ (answer ≡ Err NoMemory)
+IsAnswer (Err refusal) answer = answer ≡ Err refusal
+
+-- the count words of the first CPUs stand for no reference
+abbrev pub with_biases : ℕ → List ℕ → List ℕ
+with_biases cpus row = replicate cpus bias ++ drop cpus row
+
+-- the words of e's slot are stored: its record, its counts, and its link to the entry that is the newest now
+abbrev pub prepared : State → Entry → State
+prepared s e = record s {
+  rows = slice_set s.rows e.slot (words_of e);
+  counts = slice_set s.counts e.slot (with_biases s.settings.cpus (slice_index_or s.counts e.slot []));
+  next = slice_set s.next e.slot s.head;
+}
+
+-- e was prepared and linked, and c has seen it
+abbrev pub linked : State → ℕ → Entry → State
+linked s c e = after_seeing (after_publish (prepared s e) e.slot e) c
+
+abbrev pub attached : State → ℕ → Entry → State
+attached s c e = linked (all_seated s) c e
+
+-- a refusal changes nothing
+abbrev pub after_attach : State → ℕ → Result Entry Refusal → State
+after_attach s c (Ok e) = attached s c e
+after_attach s c (Err refusal) = s
+
+-- the slot t takes the live local reference with this id over: it keeps what the reference is to
+abbrev pub keeping : State → ℕ → ℕ → State
+keeping s t id = record s { locals = slice_set s.locals id Free; keeps = slice_set s.keeps t (standing (local_at s.locals id)) }
+
+-- e's slot took the reference over, before e was prepared and linked
+abbrev pub plugged : State → ℕ → Entry → ℕ → State
+plugged s c e id = linked (keeping (all_seated s) e.slot id) c e
+
+abbrev pub after_attach_iface : State → ℕ → ℕ → Result Entry Refusal → State
+after_attach_iface s c id (Ok e) = plugged s c e id
+after_attach_iface s c id (Err refusal) = s
+
+-- How an attach leaves all as it was where memory is refused: the words of its slot and the seats, and the reference that the slot took over.
+abbrev pub words_before : State → ℕ → Before
+words_before s t = record { seated = s.seated; row = row_at s.rows t; counts = slice_index_or s.counts t []; link = slice_index_or s.next t 0 }
+
+abbrev pub restored : State → ℕ → Before → State
+restored s t before = record s {
+  seated = before.seated;
+  rows = slice_set s.rows t before.row;
+  counts = slice_set s.counts t before.counts;
+  next = slice_set s.next t before.link;
+}
+
+abbrev pub given_back : State → ℕ → ℕ → LocalPlace → State
+given_back s t id place = record s { locals = slice_set s.locals id place; keeps = slice_set s.keeps t None }

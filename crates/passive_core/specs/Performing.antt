@@ -1,0 +1,65 @@
+-- Waiting until each section that was open has ended (pserialize(9)): the answer, and what it leaves.
+use Rattle.std.specs.Prelude.{◌≡◌, ℕ, ◌<◌, ◌==◌, List, [], Option, Some, None, Bool, true, false, not, ◌||◌, Result, Ok, Err, if◌then◌else◌, slice_index_or}
+use Rattle.passive_core.specs.declared.refusal.Refusal.{Refusal}
+use Rattle.passive_core.specs.declared.refusal.Refusal.TheVariants.{Inside, Waiting}
+use Rattle.passive_core.specs.declared.state.Mark.{Mark}
+use Rattle.passive_core.specs.declared.state.Slot.{Slot}
+use Rattle.passive_core.specs.declared.state.Slot.TheVariants.{Vacant, Live, Retired}
+use Rattle.passive_core.specs.State.{State, section_at, slot_at, mark_at}
+use Rattle.passive_core.specs.Slots.{is_even, is_retired}
+use Rattle.passive_core.specs.Events.{is_inside}
+use Rattle.passive_core.specs.Commands.{all_seated}
+use Rattle.passive_core.specs.Advancing.{AllPassed, Passes, least_below}
+
+-- the word shows its CPU out of the section of the snapshot
+abbrev pub is_out : ℕ → ℕ → Bool
+is_out snapshot w = is_even w || not (snapshot == w)
+
+-- the number of the retired entry here
+abbrev pub retired_number : Slot → Option ℕ
+retired_number Vacant = None
+retired_number (Live e) = None
+retired_number (Retired e) = Some e.number
+
+abbrev pub waiting_for : Option ℕ → Result (Unit {0}) Refusal
+waiting_for None = Ok tt
+waiting_for (Some c) = Err (Waiting c)
+
+-- The answer of perform: whether the caller is inside a section, else the least CPU that is.
+abbrev pub perform_answer : State → ℕ → Result (Unit {0}) Refusal
+perform_answer s c = if is_inside s c then Err Inside else waiting_for (least_below (is_inside s) s.settings.cpus)
+
+-- marks may have come to say passed, for retired entries alone
+pub record OnlyPasses (old new : State) : Type 0 where
+  pub only : new ≡ record old { marks = new.marks }
+  pub marks : (t c : ℕ) → Passes (mark_at old.marks t c) (mark_at new.marks t c)
+  pub elsewhere : (t : ℕ) → is_retired (slot_at old.slots t) ≡ false → slice_index_or new.marks t [] ≡ slice_index_or old.marks t []
+
+-- every CPU has passed for each retired entry
+pub record Performs (old new : State) : Type 0 where
+  pub only : new ≡ record old { seated = old.settings.cpus; marks = new.marks }
+  pub marks : (t c : ℕ) → Passes (mark_at old.marks t c) (mark_at new.marks t c)
+  pub elsewhere : (t : ℕ) → is_retired (slot_at old.slots t) ≡ false → slice_index_or new.marks t [] ≡ slice_index_or old.marks t []
+  pub passed : (t : ℕ) → is_retired (slot_at old.slots t) ≡ true → AllPassed new t
+
+-- a CPU was waited for, if the caller is outside its section
+abbrev pub WaitLeaves : State → State → Refusal → Type 0
+WaitLeaves old new (Waiting c) = new ≡ all_seated old
+WaitLeaves old new _ = new ≡ old
+
+-- What a perform leaves, by its answer.
+abbrev pub PerformLeaves : State → State → Result (Unit {0}) Refusal → Type 0
+PerformLeaves old new (Ok done) = Performs old new
+PerformLeaves old new (Err refusal) = WaitLeaves old new refusal
+
+-- No CPU is inside a section.
+abbrev pub AllOutside : State → Type 0
+AllOutside s = (c : ℕ) → c < s.settings.cpus → is_inside s c ≡ false
+
+-- The word of each CPU.
+abbrev pub AreWords : State → List ℕ → Type 0
+AreWords s words = (c : ℕ) → c < s.settings.cpus → slice_index_or words c 0 ≡ section_at s c
+
+-- Who is outside its section was seen so.
+abbrev pub AreSeen : State → List Bool → Type 0
+AreSeen s seen = (c : ℕ) → c < s.settings.cpus → slice_index_or seen c false ≡ not (is_inside s c)

@@ -1,0 +1,237 @@
+//! How far the destruction of a retired entry comes: one turn of the keeper's work on it.
+
+ghost use Rattle.std.specs.Prelude.{◌≡◌, ◌<◌, ◌+◌, IsTrue, IfSome, IfNone, ℕ, Some, None, true, false, not, length, slice_index_or, []};
+ghost use Rattle.passive_core.specs.declared.entry.Entry.{Entry as AnEntry};
+ghost use Rattle.passive_core.specs.declared.state.Slot.TheVariants.{Retired};
+ghost use Rattle.passive_core.specs.Advancing.{is_retired_as, retired_slot, is_open_since, has_passive, least_below, advance_answer, plain_stage, stage_of, AdvanceLeaves, StageLeaves, Settles, Empties, Gathers, HoldersAreOpen, MarksGrow, MarksPass, SameElsewhere, AllPassed, AllClear, AllCollected};
+ghost use Rattle.passive_core.specs.Commands.{may_act};
+ghost use Rattle.passive_core.specs.Events.{is_drained};
+ghost use Rattle.passive_core.specs.Invariant.{held_at};
+ghost use Rattle.passive_core.specs.Slots.{at_rest, is_retired};
+ghost use Rattle.passive_core.specs.State.{count_at, mark_at, slot_at};
+
+use crate::event::Event;
+use crate::machine::{BIAS, Core};
+use crate::refusal::Refusal;
+use crate::stage::Stage;
+use crate::state::Slot;
+
+impl Core {
+    /// One turn of the work on the retired entry `number`, up to the first obstacle, which is the answer (the least CPU
+    /// first): an open section that may hold the entry (pserialize(9)), a passive reference to it (psref(9)), or the
+    /// local references to it (localcount(9)), of which the count words are then collected. Where there is none its slot
+    /// becomes vacant, and the answer is `Freed` with the slot, from 0.
+    ///
+    /// Refused: `NotRetired` where no slot has the retired entry `number`; nothing has changed then.
+    pub fn advance(&mut self, number: u64) -> Result<Stage, Refusal>
+        requires { at_rest self.old.due ≡ true }
+        ensures answer { result ≡ advance_answer self.old number }
+        ensures after { AdvanceLeaves self.old self.new number result }
+        ensures holders { HoldersAreOpen self.old }
+        ensures settings { self.new.settings ≡ self.old.settings }
+        ensures rest { at_rest self.new.due ≡ true }
+        ensures ready { (d : ℕ) → may_act self.old d ≡ true → may_act self.new d ≡ true }
+    {
+        let _ = &self.settings;
+        let Some(t) = self.retired_slot(number) else {
+            return Err(Refusal::NotRetired);
+        };
+        self.seat_all();
+        Ok(self.advance_slot(t))
+    }
+
+    fn advance_slot(&mut self, t: u8) -> Stage
+        requires rest { at_rest self.old.due ≡ true }
+        requires seated { self.old.seated ≡ self.old.settings.cpus }
+        requires slot { t < self.old.settings.slots }
+        requires retired { is_retired (slot_at self.old.slots t) ≡ true }
+        ensures stage { (e : AnEntry) → slot_at self.old.slots t ≡ Retired e → result ≡ plain_stage self.old t e.number }
+        ensures after { StageLeaves self.old self.new t result }
+    {
+        if let Some(c) = self.look_at_all(t) {
+            return Stage::Grace(c);
+        }
+        if let Some(c) = self.look_at_passive(t) {
+            return Stage::Passive(c);
+        }
+        self.collect_all(t);
+        self.settle(t)
+    }
+
+    /// The slot whose retired entry has this number.
+    pub(crate) fn retired_slot(&self, number: u64) -> Option<u8>
+        ensures value { result ≡ retired_slot self.now.slots number }
+        ensures within { IfSome result (λ t. t < self.now.settings.slots) }
+    {
+        match retired_place(number, &self.slots) {
+            Some(t) => Some(t as u8),
+            None => None,
+        }
+    }
+
+    /// Looks at the section word of each CPU that hasn't passed for the slot, up to the first that doesn't pass: it is
+    /// the answer.
+    pub(crate) fn look_at_all(&mut self, t: u8) -> Option<u8>
+        requires rest { at_rest self.old.due ≡ true }
+        requires slot { t < self.old.settings.slots }
+        requires retired { is_retired (slot_at self.old.slots t) ≡ true }
+        ensures answer { result ≡ least_below (is_open_since self.old t) self.old.settings.cpus }
+        ensures only { self.new ≡ record self.old { marks = self.new.marks } }
+        ensures marks { MarksPass self.old.marks self.new.marks t }
+        ensures passed { result ≡ None → AllPassed self.new t }
+    {
+        let cpus = self.settings.cpus;
+        for c in 0..cpus {
+            if !self.passes(t, c) {
+                return Some(c);
+            }
+        }
+        None
+    }
+
+    /// Whether the CPU has passed for the slot, by an earlier look or by this one.
+    fn passes(&mut self, t: u8, c: u8) -> bool
+        requires rest { at_rest self.old.due ≡ true }
+        requires slot { t < self.old.settings.slots }
+        requires retired { is_retired (slot_at self.old.slots t) ≡ true }
+        requires cpu { c < self.old.settings.cpus }
+        ensures answer { result ≡ not (is_open_since self.old t c) }
+        ensures only { self.new ≡ record self.old { marks = self.new.marks } }
+        ensures marks { MarksPass self.old.marks self.new.marks t }
+        ensures passed { result ≡ (mark_at self.new.marks t c).passed }
+    {
+        let _ = &self.settings;
+        if self.mark_at(t, c).passed {
+            return true;
+        }
+        self.make(Event::Look(Some(t), c));
+        self.mark_at(t, c).passed
+    }
+
+    /// Looks at the passive word of each CPU that isn't clear for the slot, up to the first that doesn't become clear:
+    /// it is the answer.
+    fn look_at_passive(&mut self, t: u8) -> Option<u8>
+        requires rest { at_rest self.old.due ≡ true }
+        requires slot { t < self.old.settings.slots }
+        requires retired { is_retired (slot_at self.old.slots t) ≡ true }
+        requires passed { AllPassed self.old t }
+        ensures answer { result ≡ least_below (has_passive self.old t) self.old.settings.cpus }
+        ensures only { self.new ≡ record self.old { marks = self.new.marks } }
+        ensures marks { MarksGrow self.old.marks self.new.marks t }
+        ensures clear { result ≡ None → AllClear self.new t }
+    {
+        let cpus = self.settings.cpus;
+        for c in 0..cpus {
+            if !self.clears(t, c) {
+                return Some(c);
+            }
+        }
+        None
+    }
+
+    /// Whether the CPU is clear for the slot, by an earlier look at its passive word or by this one.
+    fn clears(&mut self, t: u8, c: u8) -> bool
+        requires rest { at_rest self.old.due ≡ true }
+        requires slot { t < self.old.settings.slots }
+        requires retired { is_retired (slot_at self.old.slots t) ≡ true }
+        requires passed { AllPassed self.old t }
+        requires cpu { c < self.old.settings.cpus }
+        ensures answer { result ≡ not (has_passive self.old t c) }
+        ensures only { self.new ≡ record self.old { marks = self.new.marks } }
+        ensures marks { MarksGrow self.old.marks self.new.marks t }
+        ensures clear { result ≡ (mark_at self.new.marks t c).clear }
+    {
+        let _ = &self.settings;
+        if self.mark_at(t, c).clear {
+            return true;
+        }
+        self.make(Event::PassiveLook(t, c));
+        self.mark_at(t, c).clear
+    }
+
+    /// Collects the count words of all CPUs for the slot in its total.
+    fn collect_all(&mut self, t: u8)
+        requires rest { at_rest self.old.due ≡ true }
+        requires slot { t < self.old.settings.slots }
+        requires retired { is_retired (slot_at self.old.slots t) ≡ true }
+        requires passed { AllPassed self.old t }
+        requires clear { AllClear self.old t }
+        ensures gathered { Gathers self.old self.new t }
+        ensures collected { AllCollected self.new t }
+    {
+        let cpus = self.settings.cpus;
+        for c in 0..cpus {
+            self.collect(t, c);
+        }
+    }
+
+    /// Collects the CPU's count word for the slot, unless that was done before.
+    fn collect(&mut self, t: u8, c: u8)
+        requires rest { at_rest self.old.due ≡ true }
+        requires slot { t < self.old.settings.slots }
+        requires retired { is_retired (slot_at self.old.slots t) ≡ true }
+        requires passed { AllPassed self.old t }
+        requires clear { AllClear self.old t }
+        requires cpu { c < self.old.settings.cpus }
+        ensures gathered { Gathers self.old self.new t }
+        ensures collected { (mark_at self.new.marks t c).collected ≡ true }
+    {
+        let _ = &self.settings;
+        if self.mark_at(t, c).collected {
+            return;
+        }
+        self.make(Event::Collect(t, c));
+        self.make(Event::TotalAdd(t));
+    }
+
+    /// Frees the slot, whose count words are all collected, where its total says that no local reference is held.
+    fn settle(&mut self, t: u8) -> Stage
+        requires rest { at_rest self.old.due ≡ true }
+        requires slot { t < self.old.settings.slots }
+        requires retired { is_retired (slot_at self.old.slots t) ≡ true }
+        requires passed { AllPassed self.old t }
+        requires clear { AllClear self.old t }
+        requires collected { AllCollected self.old t }
+        ensures stage { (e : AnEntry) → slot_at self.old.slots t ≡ Retired e → result ≡ stage_of t None None (held_at self.old.locals self.old.hands self.old.keeps self.old.due e.number t) }
+        ensures after { Settles self.old self.new t result }
+        ensures emptied { (c : ℕ) → count_at self.old.counts c t ≡ 0 }
+    {
+        let _ = &self.settings;
+        let total = self.total_at(t);
+        if total != BIAS {
+            return Stage::Local(total - BIAS);
+        }
+        self.free(t);
+        Stage::Freed(t)
+    }
+
+    /// Makes the slot vacant; where it keeps a reference to a driver, the reference is given up.
+    fn free(&mut self, t: u8)
+        requires slot { t < self.old.settings.slots }
+        requires drained { is_drained self.old t ≡ true }
+        ensures { Empties self.old self.new t }
+    {
+        let _ = &self.settings;
+        if self.kept_at(t).is_some() {
+            self.make(Event::KeptSub(t));
+            return;
+        }
+        self.make(Event::Vacate(t));
+    }
+}
+
+fn retired_place(number: u64, slots: &[Slot]) -> Option<usize>
+    ensures value { result ≡ retired_slot slots.now number }
+    ensures within { IfSome result (λ t. t < length slots.now) }
+{
+    slots.iter().position(|slot| is_retired_as(number, slot))
+}
+
+fn is_retired_as(number: u64, slot: &Slot) -> bool
+    ensures { result ≡ is_retired_as number slot.now }
+{
+    match slot {
+        Slot::Vacant | Slot::Live(_) => false,
+        Slot::Retired(entry) => entry.number == number,
+    }
+}
