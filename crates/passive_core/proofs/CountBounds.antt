@@ -15,7 +15,7 @@ use Rattle.passive_core.specs.State.{bias, no_mark, slot_at, mark_at, count_at, 
 use Rattle.passive_core.specs.Slots.{is_collected, are_collected}
 use Rattle.passive_core.specs.Events.{is_bias}
 use Rattle.passive_core.specs.Invariant.{IsIn, Balances, IsCounting, CountsHold, held_at, adding_at, is_adding_at}
-use Rattle.passive_core.proofs.Balance.{total_floor as floor_of, total_ceiling as ceiling_of, word_floor as word_floor_of, all_collected as all_of}
+use Rattle.passive_core.proofs.Balancing.{total_floor as floor_of, total_ceiling as ceiling_of, word_floor as word_floor_of, all_collected as all_of}
 use Rattle.passive_core.proofs.Counts.{CountsFit, are_words}
 use Rattle.passive_core.proofs.Sums.{one_at}
 

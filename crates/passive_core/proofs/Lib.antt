@@ -1,7 +1,8 @@
 pub mod Acting
 pub mod Advancing
 pub mod Attaching
-pub mod Balance
+pub mod Audits
+pub mod Balancing
 pub mod Bounds
 pub mod Cells
 pub mod CountBounds
@@ -27,6 +28,7 @@ pub mod LawsRows
 pub mod LawsSteps
 pub mod ListKeeps
 pub mod Loading
+pub mod Locals
 pub mod Lookup
 pub mod MarkKeeps
 pub mod Marking
@@ -34,6 +36,7 @@ pub mod Names
 pub mod Numbers
 pub mod Occupied
 pub mod Passive
+pub mod Passives
 pub mod Performing
 pub mod Picturing
 pub mod Places

@@ -40,7 +40,7 @@ one_slot slots m n t first second =
     let b = slot_has slots m t second in
     sym b.1.2 ∙ (ap (λ (e : Entry). e.number) (one_in b.1.0 a.1.0 (slot_at slots t) a.1.1 b.1.1) ∙ a.1.2)
 
-passive_put : (s : State) (c n t v : ℕ) → Holds s → c < s.settings.cpus → slot_of s.slots n ≡ Some t
+pub passive_put : (s : State) (c n t v : ℕ) → Holds s → c < s.settings.cpus → slot_of s.slots n ≡ Some t
     → (j m : ℕ) → put (λ k. λ i. passive_in s.passive k (slot_of s.slots i)) c (put (λ i. passive_in s.passive c (slot_of s.slots i)) n v) j m ≡ passive_in (with_cell s.passive t c v) j (slot_of s.slots m)
 passive_put s c n t v on low is =
     let tp : t < length s.passive = omega (arith, (slot_has s.slots n t is).0, on.shape.slots, on.shape.passive) in

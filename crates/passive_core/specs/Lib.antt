@@ -21,3 +21,6 @@ pub mod Entering
 pub mod Attaching
 pub mod Advancing
 pub mod Performing
+pub mod Passives
+pub mod Locals
+pub mod Audits

@@ -1,16 +1,19 @@
 //! The protocol of read sections, passive references and local counts, as a pure machine.
 #![tactic(auto)]
 
+mod balance;
 mod entry;
 mod event;
 mod laws;
 mod machine;
 mod name;
+mod psref;
 mod refusal;
 mod settings;
 mod stage;
 mod state;
 
+pub use balance::Balance;
 pub use entry::{Change, Entry, Kind, Record};
 pub use event::{Counted, Event, RecordOf, Reply, Short, StepFault};
 pub use laws::{
@@ -18,6 +21,7 @@ pub use laws::{
 };
 pub use machine::{BIAS, Core, run_events};
 pub use name::{Name, NameFault, name_laws};
+pub use psref::CorePsref;
 pub use refusal::Refusal;
 pub use settings::Settings;
 pub use stage::Stage;

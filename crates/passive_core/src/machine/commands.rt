@@ -4,9 +4,12 @@
 
 mod advance;
 mod attach;
+mod audit;
 mod destroy;
 mod detach;
 mod find;
+mod local;
+mod passive;
 mod perform;
 mod sections;
 
@@ -42,3 +45,6 @@ impl Core {
         }
     }
 }
+
+#[cfg(test)]
+mod reference_tests;

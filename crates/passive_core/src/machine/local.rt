@@ -1,10 +1,12 @@
 //! Local references: counted by CPU, split off into seats of their own, and given back on any CPU.
 
-ghost use Rattle.std.specs.Prelude.{◌≡◌, ◌<◌, ◌≤◌, IfErr, IfSome, OnErr, OnOk, Some, Ok, length, position};
+ghost use Rattle.std.specs.Prelude.{◌≡◌, ◌<◌, ◌≤◌, IfErr, IfSome, OnErr, OnOk, Some, None, Ok, length, position};
+ghost use Rattle.passive_core.specs.declared.event.Reply.TheVariants.{Ref};
+ghost use Rattle.passive_core.specs.Locals.{with_room};
 ghost use Rattle.passive_core.specs.declared.event.Event.TheVariants.{CountAdd, SplitRef, JoinRef, CountDown, SplitBack, LoadRecord};
 ghost use Rattle.passive_core.specs.declared.event.RecordOf.TheVariants.{Local as OfLocal};
 ghost use Rattle.passive_core.specs.declared.state.Hand.TheVariants.{Taking, Giving, Back};
-ghost use Rattle.passive_core.specs.Events.{may_count, is_free, least_id, exchange, with_local};
+ghost use Rattle.passive_core.specs.Events.{may_count, is_free, least_id, exchange, step, with_local};
 ghost use Rattle.passive_core.specs.State.{hand_at};
 ghost use Rattle.passive_core.specs.Slots.{slot_of};
 ghost use Rattle.passive_core.specs.Taken.{Steps};
@@ -76,6 +78,32 @@ impl Core {
             Hand::Taking(number) => self.split(c, number),
             _ => Err(StepFault::NotAllowed),
         }
+    }
+
+    /// Adds a free place where none is free, so that a reference can be split off without growth. Refused: `NoMemory`;
+    /// nothing has changed.
+    pub(crate) fn make_place(&mut self) -> Result<(), StepFault>
+        ensures ok { OnOk result (self.new ≡ with_room self.old) }
+        ensures room { OnOk result (least_id self.new.locals < length self.new.locals) }
+        ensures err { OnErr result (self.new ≡ self.old) }
+        ensures full { OnErr result (position is_free self.old.locals ≡ None) }
+    {
+        match free_place(&self.locals) {
+            Some(_) => Ok(()),
+            None => grow(&mut self.locals, LocalPlace::Free),
+        }
+    }
+
+    /// `SplitRef` where a place is free already.
+    pub(crate) fn split_in_place(&mut self, c: u8, number: u64) -> u64
+        requires hand { hand_at self.old c ≡ Taking number }
+        requires room { least_id self.old.locals < length self.old.locals }
+        ensures { step self.old (SplitRef c) ≡ Some (record { state = self.new; reply = Ref result }) }
+    {
+        let id = self.least_id();
+        self.locals[id as usize] = LocalPlace::Standing(number);
+        self.hands[c as usize] = Hand::Empty;
+        id
     }
 
     fn split(&mut self, c: u8, number: u64) -> Result<Reply, StepFault>

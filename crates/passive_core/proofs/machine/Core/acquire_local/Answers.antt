@@ -1,0 +1,71 @@
+use Rattle.std.proofs.Common.{◌≡◌, ◌∙◌, ◌<◌, Bool, None, Option, Some, ap, subst, sym, true}
+use Rattle.std.specs.Prelude.{if◌then◌else◌}
+use Rattle.passive_core.specs.State.{State, found_at}
+use Rattle.passive_core.specs.Slots.{at_rest}
+use Rattle.passive_core.specs.Commands.{all_seated, may_act}
+use Rattle.passive_core.specs.Invariant.{Holds}
+use Rattle.passive_core.specs.Locals.{after_counting, count_refusal, with_count_more}
+use Rattle.passive_core.specs.declared.refusal.Refusal.{Refusal}
+use Rattle.passive_core.specs.declared.refusal.Refusal.TheVariants.{LocalFull}
+use Rattle.passive_core.proofs.Locals.{acquires, count_allowed, more_count_ready}
+use Rattle.passive_core.proofs.machine.Core.acquire_local.Goals as goal
+
+pub make-requires-clause-allowed : goal.make-requires-clause-allowed
+make-requires-clause-allowed c =
+    let s = c.args.self.now in
+    let on = subst Holds c.self.view_is c.self.invariant in
+    let made = c.in-Ok.ensures.ok in
+    let idle = c.begin.ensures.idle c.args.c (subst (λ (x : State). c.args.c < x.settings.cpus) (sym made) c.requires.known) (subst (λ (x : State). may_act x c.args.c ≡ true) (sym made) c.requires.ready) in
+    count_allowed s c.begin.new.self c.args.c c.in-Some.found on (sym c.in-Some.ensures.value) (c.begin.ensures.seated ∙ ap all_seated made) idle (sym c.has_count_room.ensures ∙ c.if-not-has_count_room.false)
+
+pub returns-clause-answer : goal.returns-clause-answer
+returns-clause-answer c =
+    let s = c.args.self.now in
+    let on = subst Holds c.self.view_is c.self.invariant in
+    let made = c.in-Ok.ensures.ok in
+    let idle = c.begin.ensures.idle c.args.c (subst (λ (x : State). c.args.c < x.settings.cpus) (sym made) c.requires.known) (subst (λ (x : State). may_act x c.args.c ≡ true) (sym made) c.requires.ready) in
+    let found = sym c.in-Some.ensures.value in
+    let room = sym c.has_count_room.ensures ∙ c.if-not-has_count_room.false in
+    let all = acquires s c.begin.new.self c.make.new.self c.split_in_place.new.self c.args.c c.split_in_place.result c.in-Some.found _ on found c.requires.known (c.begin.ensures.seated ∙ ap all_seated made) idle room c.make.ensures c.split_in_place.ensures in
+    (ap (count_refusal s c.args.c) found ∙ ap (λ (b : Bool). if b then None else Some LocalFull) room, all.1.least)
+
+pub returns-clause-after : goal.returns-clause-after
+returns-clause-after c =
+    let s = c.args.self.now in
+    let on = subst Holds c.self.view_is c.self.invariant in
+    let made = c.in-Ok.ensures.ok in
+    let idle = c.begin.ensures.idle c.args.c (subst (λ (x : State). c.args.c < x.settings.cpus) (sym made) c.requires.known) (subst (λ (x : State). may_act x c.args.c ≡ true) (sym made) c.requires.ready) in
+    let found = sym c.in-Some.ensures.value in
+    let room = sym c.has_count_room.ensures ∙ c.if-not-has_count_room.false in
+    let all = acquires s c.begin.new.self c.make.new.self c.split_in_place.new.self c.args.c c.split_in_place.result c.in-Some.found _ on found c.requires.known (c.begin.ensures.seated ∙ ap all_seated made) idle room c.make.ensures c.split_in_place.ensures in
+    all.1.state ∙ (ap (with_count_more s c.args.c c.in-Some.found.number) (sym all.1.slot) ∙ ap (after_counting s c.args.c) (sym found))
+
+pub returns-clause-settings : goal.returns-clause-settings
+returns-clause-settings c =
+    let s = c.args.self.now in
+    let on = subst Holds c.self.view_is c.self.invariant in
+    let made = c.in-Ok.ensures.ok in
+    let idle = c.begin.ensures.idle c.args.c (subst (λ (x : State). c.args.c < x.settings.cpus) (sym made) c.requires.known) (subst (λ (x : State). may_act x c.args.c ≡ true) (sym made) c.requires.ready) in
+    let room = sym c.has_count_room.ensures ∙ c.if-not-has_count_room.false in
+    let all = acquires s c.begin.new.self c.make.new.self c.split_in_place.new.self c.args.c c.split_in_place.result c.in-Some.found _ on (sym c.in-Some.ensures.value) c.requires.known (c.begin.ensures.seated ∙ ap all_seated made) idle room c.make.ensures c.split_in_place.ensures in
+    ap (λ (x : State). x.settings) all.1.state
+
+pub returns-clause-rest : goal.returns-clause-rest
+returns-clause-rest c =
+    let s = c.args.self.now in
+    let on = subst Holds c.self.view_is c.self.invariant in
+    let made = c.in-Ok.ensures.ok in
+    let idle = c.begin.ensures.idle c.args.c (subst (λ (x : State). c.args.c < x.settings.cpus) (sym made) c.requires.known) (subst (λ (x : State). may_act x c.args.c ≡ true) (sym made) c.requires.ready) in
+    let room = sym c.has_count_room.ensures ∙ c.if-not-has_count_room.false in
+    let all = acquires s c.begin.new.self c.make.new.self c.split_in_place.new.self c.args.c c.split_in_place.result c.in-Some.found _ on (sym c.in-Some.ensures.value) c.requires.known (c.begin.ensures.seated ∙ ap all_seated made) idle room c.make.ensures c.split_in_place.ensures in
+    ap (λ (x : State). at_rest x.due) all.1.state ∙ c.requires.rest
+
+pub returns-clause-ready : goal.returns-clause-ready
+returns-clause-ready c = λ d may.
+    let s = c.args.self.now in
+    let on = subst Holds c.self.view_is c.self.invariant in
+    let made = c.in-Ok.ensures.ok in
+    let idle = c.begin.ensures.idle c.args.c (subst (λ (x : State). c.args.c < x.settings.cpus) (sym made) c.requires.known) (subst (λ (x : State). may_act x c.args.c ≡ true) (sym made) c.requires.ready) in
+    let room = sym c.has_count_room.ensures ∙ c.if-not-has_count_room.false in
+    let all = acquires s c.begin.new.self c.make.new.self c.split_in_place.new.self c.args.c c.split_in_place.result c.in-Some.found _ on (sym c.in-Some.ensures.value) c.requires.known (c.begin.ensures.seated ∙ ap all_seated made) idle room c.make.ensures c.split_in_place.ensures in
+    subst (λ (x : State). may_act x d ≡ true) (sym all.1.state) (more_count_ready s c.args.c c.in-Some.found.number (Some all.0) on d may)

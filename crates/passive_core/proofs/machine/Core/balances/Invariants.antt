@@ -1,0 +1,7 @@
+use Rattle.std.proofs.Common.{◌≡◌, map}
+use Rattle.passive_core.specs.Audits.{tallies_below, tally_shown}
+use Rattle.passive_core.proofs.machine.Core.balances.Given as goal
+
+-- what is said of the slots so far
+abbrev pub invariant-loop-t : goal.invariant-loop-t
+invariant-loop-t l = map tally_shown l.list.items ≡ tallies_below l.self l.t

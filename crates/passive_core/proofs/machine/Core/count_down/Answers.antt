@@ -1,0 +1,68 @@
+use Rattle.std.proofs.Common.{◌≡◌, ◌∙◌, ap, subst, sym}
+use Rattle.passive_core.specs.Invariant.{Holds}
+use Rattle.passive_core.specs.Events.{step}
+use Rattle.passive_core.specs.Locals.{is_counting, with_count_less}
+use Rattle.passive_core.specs.declared.event.Event.TheVariants.{JoinRef}
+use Rattle.passive_core.proofs.CountKeeps.{idle_tells}
+use Rattle.passive_core.proofs.Locals.{back_allowed, counted_down, down_allowed, down_fell, down_went, gone_back, joins, live_slot, slot_is}
+use Rattle.passive_core.proofs.Passives.{made}
+use Rattle.passive_core.proofs.References.{standing_tells}
+use Rattle.passive_core.proofs.machine.Core.count_down.Goals as goal
+
+pub make-requires-2-clause-allowed : goal.make-requires-2-clause-allowed
+make-requires-2-clause-allowed c =
+    let s = c.args.self.now in
+    let n = c.number-number.result in
+    let on = subst Holds c.self.view_is c.self.invariant in
+    let t = live_slot s c.args.id n on c.number-number.ensures in
+    let joined = made s (step s (JoinRef c.args.c c.args.id)) _ c.make.new.self _ (joins s c.args.c c.args.id n c.number-number.ensures c.requires.idle) c.make.ensures in
+    down_allowed s c.make.new.self c.args.c n c.args.id t.0 on t.1 (idle_tells s c.args.c on c.requires.idle).0 joined
+
+pub make-requires-in-Collected-clause-allowed : goal.make-requires-in-Collected-clause-allowed
+make-requires-in-Collected-clause-allowed c =
+    let s = c.args.self.now in
+    let n = c.number-number.result in
+    let on = subst Holds c.self.view_is c.self.invariant in
+    let t = live_slot s c.args.id n on c.number-number.ensures in
+    let told = idle_tells s c.args.c on c.requires.idle in
+    let joined = made s (step s (JoinRef c.args.c c.args.id)) _ c.make.new.self _ (joins s c.args.c c.args.id n c.number-number.ensures c.requires.idle) c.make.ensures in
+    let fell = down_fell s c.make.new.self c.make-2.new.self c.args.c n c.args.id t.0 c.make-2.result on t.1 told.0 joined c.make-2.ensures c.in-Collected.is in
+    back_allowed s c.make-2.new.self c.args.c n c.args.id on told.0 fell.1
+
+pub returns-in-Collected-clause-value : goal.returns-in-Collected-clause-value
+returns-in-Collected-clause-value c =
+    let s = c.args.self.now in
+    let n = c.number-number.result in
+    let on = subst Holds c.self.view_is c.self.invariant in
+    let t = live_slot s c.args.id n on c.number-number.ensures in
+    let told = idle_tells s c.args.c on c.requires.idle in
+    let joined = made s (step s (JoinRef c.args.c c.args.id)) _ c.make.new.self _ (joins s c.args.c c.args.id n c.number-number.ensures c.requires.idle) c.make.ensures in
+    let fell = down_fell s c.make.new.self c.make-2.new.self c.args.c n c.args.id t.0 c.make-2.result on t.1 told.0 joined c.make-2.ensures c.in-Collected.is in
+    sym (ap (is_counting s c.args.c) (slot_is s c.args.id n t.0 c.number-number.ensures t.1) ∙ fell.0)
+
+pub returns-in-Collected-clause-kept : goal.returns-in-Collected-clause-kept
+returns-in-Collected-clause-kept c = λ _.
+    let s = c.args.self.now in
+    let n = c.number-number.result in
+    let on = subst Holds c.self.view_is c.self.invariant in
+    let t = live_slot s c.args.id n on c.number-number.ensures in
+    let told = idle_tells s c.args.c on c.requires.idle in
+    let joined = made s (step s (JoinRef c.args.c c.args.id)) _ c.make.new.self _ (joins s c.args.c c.args.id n c.number-number.ensures c.requires.idle) c.make.ensures in
+    let fell = down_fell s c.make.new.self c.make-2.new.self c.args.c n c.args.id t.0 c.make-2.result on t.1 told.0 joined c.make-2.ensures c.in-Collected.is in
+    gone_back s c.make-2.new.self c.make-in-Collected.new.self c.args.c n c.args.id _ on told.0 told.1 (standing_tells _ n c.number-number.ensures) fell.1 c.make-in-Collected.ensures
+
+pub returns-in_default : goal.returns-in_default
+returns-in_default c =
+    let s = c.args.self.now in
+    let n = c.number-number.result in
+    let on = subst Holds c.self.view_is c.self.invariant in
+    let t = live_slot s c.args.id n on c.number-number.ensures in
+    let told = idle_tells s c.args.c on c.requires.idle in
+    let joined = made s (step s (JoinRef c.args.c c.args.id)) _ c.make.new.self _ (joins s c.args.c c.args.id n c.number-number.ensures c.requires.idle) c.make.ensures in
+    let went = down_went s c.make.new.self c.make-2.new.self c.args.c n c.args.id t.0 c.make-2.result on t.1 told.0 joined c.make-2.ensures c.in_default.not-Collected in
+    let at = slot_is s c.args.id n t.0 c.number-number.ensures t.1 in
+    record {
+      value = sym (ap (is_counting s c.args.c) at ∙ went.0);
+      counted = λ _. went.1 ∙ (counted_down s c.args.c n c.args.id t.0 told.1 ∙ ap (with_count_less s c.args.c c.args.id) (sym at));
+      kept = λ no. absurd (let q = no in cc);
+    }

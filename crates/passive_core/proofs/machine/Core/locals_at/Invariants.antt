@@ -1,0 +1,7 @@
+use Rattle.std.proofs.Common.{◌≡◌, List, [], map, take, slice_index_or}
+use Rattle.passive_core.specs.Audits.{local_of}
+use Rattle.passive_core.proofs.machine.Core.locals_at.Given as goal
+
+-- the net counts of the CPUs so far
+abbrev pub invariant-loop-c : goal.invariant-loop-c
+invariant-loop-c l = l.list.items ≡ map local_of (take l.c (slice_index_or l.self.counts l.t []))

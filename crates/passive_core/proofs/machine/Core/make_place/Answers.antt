@@ -1,0 +1,20 @@
+use Rattle.std.proofs.Common.{◌≡◌, ◌∙◌, Err, List, None, Ok, OnOk, Option, Result, ap, length, position, subst, sym}
+use Rattle.passive_core.specs.State.{State}
+use Rattle.passive_core.specs.Events.{is_free, least_id}
+use Rattle.passive_core.specs.Invariant.{Holds}
+use Rattle.passive_core.specs.Locals.{free_added}
+use Rattle.passive_core.specs.Shown.{shown}
+use Rattle.passive_core.specs.declared.event.StepFault.{StepFault}
+use Rattle.passive_core.specs.declared.state.LocalPlace.{LocalPlace}
+use Rattle.passive_core.proofs.Locals.{grown_holds, grown_room}
+use Rattle.passive_core.proofs.machine.Core.make_place.Goals as goal
+
+pub invariant_of-self : goal.invariant_of-self
+invariant_of-self c =
+    let none = ap (position is_free) (sym c.deref.ensures.value) ∙ (sym c.free_place.ensures.value ∙ c.in-None.is) in
+    grown_holds (shown c.self.inside) c.grow.new.list.items c.grow.result c.self.invariant none c.grow.ensures.ok c.grow.ensures.err
+
+pub returns-in-None-clause-room : goal.returns-in-None-clause-room
+returns-in-None-clause-room c =
+    let none = ap (position is_free) (sym c.deref.ensures.value) ∙ (sym c.free_place.ensures.value ∙ c.in-None.is) in
+    grown_room (shown c.self.inside).locals c.grow.new.list.items c.grow.result none c.grow.ensures.ok

@@ -1,0 +1,57 @@
+use Rattle.std.proofs.Common.{◌∙◌, ℕ, refl, subst}
+use Rattle.passive_core.specs.State.{State}
+use Rattle.passive_core.specs.Events.{load_passive}
+use Rattle.passive_core.specs.Invariant.{Holds}
+use Rattle.passive_core.proofs.Passives.{load_ok, lawful_words, passive_shows, word_is}
+use Rattle.passive_core.proofs.machine.Core.record_by_passive.Goals as goal
+
+pub load_word-kind-requires : goal.load_word-kind-requires
+load_word-kind-requires c =
+    let s = c.args.self.now in
+    let shows = passive_shows s c.args.c c.args.number (subst Holds c.self.view_is c.self.invariant) c.requires.idle c.requires.held in
+    load_ok s s c.args.number 1 (λ (x : State) (k : ℕ). load_passive x c.args.c c.args.number k) shows refl refl
+
+pub load_word-high-requires : goal.load_word-high-requires
+load_word-high-requires c =
+    let s = c.args.self.now in
+    let shows = passive_shows s c.args.c c.args.number (subst Holds c.self.view_is c.self.invariant) c.requires.idle c.requires.held in
+    load_ok s c.load_word-kind.new.self c.args.number 2 (λ (x : State) (k : ℕ). load_passive x c.args.c c.args.number k) shows c.load_word-kind.ensures.same refl
+
+pub load_word-low-requires : goal.load_word-low-requires
+load_word-low-requires c =
+    let s = c.args.self.now in
+    let shows = passive_shows s c.args.c c.args.number (subst Holds c.self.view_is c.self.invariant) c.requires.idle c.requires.held in
+    load_ok s c.load_word-high.new.self c.args.number 3 (λ (x : State) (k : ℕ). load_passive x c.args.c c.args.number k) shows (c.load_word-high.ensures.same ∙ c.load_word-kind.ensures.same) refl
+
+pub load_word-value-requires : goal.load_word-value-requires
+load_word-value-requires c =
+    let s = c.args.self.now in
+    let shows = passive_shows s c.args.c c.args.number (subst Holds c.self.view_is c.self.invariant) c.requires.idle c.requires.held in
+    load_ok s c.load_word-low.new.self c.args.number 4 (λ (x : State) (k : ℕ). load_passive x c.args.c c.args.number k) shows (c.load_word-low.ensures.same ∙ (c.load_word-high.ensures.same ∙ c.load_word-kind.ensures.same)) refl
+
+pub record_from-requires : goal.record_from-requires
+record_from-requires c =
+    let s = c.args.self.now in
+    let load = λ (x : State) (k : ℕ). load_passive x c.args.c c.args.number k in
+    let shows = passive_shows s c.args.c c.args.number (subst Holds c.self.view_is c.self.invariant) c.requires.idle c.requires.held in
+    lawful_words s c.args.number c.load_word-high.result c.load_word-low.result (load s) shows
+    (word_is s c.load_word-kind.new.self c.args.number 2 c.load_word-high.result load shows c.load_word-kind.ensures.same refl c.load_word-high.ensures.word)
+    (word_is s c.load_word-high.new.self c.args.number 3 c.load_word-low.result load shows (c.load_word-high.ensures.same ∙ c.load_word-kind.ensures.same) refl c.load_word-low.ensures.word)
+
+pub returns-clause-record : goal.returns-clause-record
+returns-clause-record c =
+    let s = c.args.self.now in
+    let load = λ (x : State) (k : ℕ). load_passive x c.args.c c.args.number k in
+    let shows = passive_shows s c.args.c c.args.number (subst Holds c.self.view_is c.self.invariant) c.requires.idle c.requires.held in
+    let first = c.load_word-kind.ensures.same in
+    let second = c.load_word-high.ensures.same ∙ first in
+    let third = c.load_word-low.ensures.same ∙ second in (
+      shows.entry,
+      shows.attached,
+      shows.numbered,
+      c.record_from.ensures shows.entry.rec
+          (word_is s s c.args.number 1 c.load_word-kind.result load shows refl refl c.load_word-kind.ensures.word)
+          (word_is s c.load_word-kind.new.self c.args.number 2 c.load_word-high.result load shows first refl c.load_word-high.ensures.word)
+          (word_is s c.load_word-high.new.self c.args.number 3 c.load_word-low.result load shows second refl c.load_word-low.ensures.word)
+          (word_is s c.load_word-low.new.self c.args.number 4 c.load_word-value.result load shows third refl c.load_word-value.ensures.word),
+    )

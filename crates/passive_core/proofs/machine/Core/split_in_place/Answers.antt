@@ -1,0 +1,15 @@
+use Rattle.std.proofs.Common.{◌≡◌, ◌∙◌, ap, lt-ltb, length, nat_lt, refl, subst, sym, true}
+use Rattle.passive_core.specs.State.{State, hand_at}
+use Rattle.passive_core.specs.Events.{least_id}
+use Rattle.passive_core.specs.Shown.{shown}
+use Rattle.passive_core.specs.declared.event.Event.TheVariants.{SplitRef}
+use Rattle.passive_core.specs.declared.event.Reply.TheVariants.{Ref}
+use Rattle.passive_core.proofs.Keeping.{step_holds}
+use Rattle.passive_core.proofs.machine.Core.split_in_place.Goals as goal
+
+pub invariant_of-self : goal.invariant_of-self
+invariant_of-self c =
+    let hand = ap (λ (x : State). hand_at x c.args.c) c.self.view_is ∙ c.requires.hand in
+    let id = c.least_id-id.ensures.value ∙ ap (λ (x : State). least_id x.locals) (sym c.self.view_is) in
+    let room : nat_lt (least_id (shown c.self.inside).locals) (length (shown c.self.inside).locals) ≡ true = subst (λ (x : State). nat_lt (least_id x.locals) (length x.locals) ≡ true) (sym c.self.view_is) (lt-ltb (least_id c.args.self.now.locals) (length c.args.self.now.locals) c.requires.room) in
+    step_holds (shown c.self.inside) _ (SplitRef c.args.c) (Ref c.least_id-id.result) c.self.invariant (rw (hand, id, room) refl)

@@ -1,0 +1,82 @@
+-- What the commands on passive references answer and leave (psref(9)).
+use Rattle.std.specs.Prelude.{◌≡◌, ℕ, ◌+◌, ◌-◌, ◌==◌, nat_lt, List, Option, Some, None, Result, Ok, Err, if◌then◌else◌}
+use Rattle.passive_core.specs.declared.entry.Entry.{Entry}
+use Rattle.passive_core.specs.declared.entry.Change.{Change}
+use Rattle.passive_core.specs.declared.entry.Record.{Record}
+use Rattle.passive_core.specs.declared.event.RecordOf.{RecordOf}
+use Rattle.passive_core.specs.declared.event.Reply.TheVariants.{Word}
+use Rattle.passive_core.specs.declared.psref.CorePsref.{CorePsref}
+use Rattle.passive_core.specs.declared.refusal.Refusal.{Refusal}
+use Rattle.passive_core.specs.declared.refusal.Refusal.TheVariants.{NothingFound, PassiveFull, WrongCpu, NotHeld}
+use Rattle.passive_core.specs.History.{IsAttached}
+use Rattle.passive_core.specs.State.{State}
+use Rattle.passive_core.specs.Slots.{slot_of}
+use Rattle.passive_core.specs.Events.{after_add, after_sub, load_record, taken}
+use Rattle.passive_core.specs.Model.{put}
+use Rattle.passive_core.specs.Picture.{passive_in}
+use Rattle.passive_core.specs.Commands.{all_seated}
+
+-- how many passive references the CPU c has to the entry n
+abbrev pub passive_of : State → ℕ → ℕ → ℕ
+passive_of s c n = passive_in s.passive c (slot_of s.slots n)
+
+-- the multiset of all CPUs' passive references has one of c to n more, or less, and is else as it was
+abbrev pub IsOneMore : State → State → ℕ → ℕ → Type 0
+IsOneMore old new c n = (d m : ℕ) → passive_of new d m ≡ put (passive_of old) c (put (passive_of old c) n (passive_of old c n + 1)) d m
+
+abbrev pub IsOneLess : State → State → ℕ → ℕ → Type 0
+IsOneLess old new c n = (d m : ℕ) → passive_of new d m ≡ put (passive_of old) c (put (passive_of old c) n (passive_of old c n - 1)) d m
+
+-- one reference more of c to n, unless c has as many as it may
+abbrev pub one_more : State → ℕ → ℕ → Result CorePsref Refusal
+one_more s c n = if nat_lt (passive_of s c n) s.settings.passive_limit then Ok (record { cpu = c; number = n }) else Err PassiveFull
+
+-- a reference of c to its last found entry
+abbrev pub acquired : State → ℕ → Option Entry → Result CorePsref Refusal
+acquired s c None = Err NothingFound
+acquired s c (Some e) = one_more s c e.number
+
+-- why c may not use a reference: it is another CPU's, or c holds none to that number
+abbrev pub refusal_of : State → ℕ → CorePsref → Option Refusal
+refusal_of s c p = if p.cpu == c then (if nat_lt 0 (passive_of s c p.number) then None else Some NotHeld) else Some WrongCpu
+
+-- a second reference to n, unless the first may not be used
+abbrev pub copied : State → ℕ → ℕ → Option Refusal → Result CorePsref Refusal
+copied s c n None = one_more s c n
+copied s c n (Some refusal) = Err refusal
+
+-- the answer of a call that is refused just where there is a refusal
+abbrev pub Answers : {X : Type 0} → Option Refusal → (X → Type 0) → Result X Refusal → Type 0
+Answers refusal P (Ok x) = (refusal ≡ None) × P x
+Answers refusal P (Err f) = refusal ≡ Some f
+
+-- the record of the entry that was attached under the number n
+abbrev pub IsRecordOf : List Change → ℕ → Record → Type 0
+IsRecordOf h n r = (e : Entry) × IsAttached h e × (e.number ≡ n) × (r ≡ e.rec)
+
+-- the load of a record's word is allowed, and changes nothing
+abbrev pub IsWordLoad : State → RecordOf → Type 0
+IsWordLoad s of = (w : ℕ) × (load_record s of ≡ taken s (Word w))
+
+-- all CPUs are seated, and c has a reference more, or less, to what stands in that slot
+abbrev pub with_one_more : State → ℕ → Option ℕ → State
+with_one_more s c None = all_seated s
+with_one_more s c (Some t) = after_add (all_seated s) c t
+
+abbrev pub with_one_less : State → ℕ → Option ℕ → State
+with_one_less s c None = all_seated s
+with_one_less s c (Some t) = after_sub (all_seated s) c t
+
+-- what stands after such a call; a refused one has changed nothing
+abbrev pub after_acquire : State → ℕ → Result CorePsref Refusal → State
+after_acquire s c (Ok p) = with_one_more s c (slot_of s.slots p.number)
+after_acquire s c (Err f) = s
+
+abbrev pub after_release : {X : Type 0} → State → ℕ → ℕ → Result X Refusal → State
+after_release s c n (Ok x) = with_one_less s c (slot_of s.slots n)
+after_release s c n (Err f) = s
+
+-- a call that only reads has seated the CPUs
+abbrev pub after_read : {X : Type 0} → State → Result X Refusal → State
+after_read s (Ok x) = all_seated s
+after_read s (Err f) = s

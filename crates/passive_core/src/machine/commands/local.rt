@@ -1,0 +1,160 @@
+//! Local references (localcount(9)): acquired in a section, and released on any CPU.
+
+ghost use Rattle.std.specs.Prelude.{◌≡◌, ℕ, ◌+◌, ◌<◌, nat_lt, IsTrue, Some, false, true};
+ghost use Rattle.passive_core.specs.Commands.{all_seated, may_act};
+ghost use Rattle.passive_core.specs.Events.{is_idle, standing};
+ghost use Rattle.passive_core.specs.Locals.{IsCounted, after_acquire_local, after_release_local, count_in, count_refusal, is_counting, is_live_local, local_slot, with_count_less, with_total_less};
+ghost use Rattle.passive_core.specs.Passives.{IsRecordOf};
+ghost use Rattle.passive_core.specs.Slots.{at_rest, slot_of};
+ghost use Rattle.passive_core.specs.State.{bias, found_at, local_at};
+
+use crate::entry::Record;
+use crate::event::{Event, RecordOf, Reply};
+use crate::machine::commands::passive::record_from;
+use crate::machine::{BIAS, Core};
+use crate::refusal::Refusal;
+
+impl Core {
+    /// Acquires a local reference to the CPU's last found entry (localcount(9)), and answers its id: the least, from 0, that
+    /// no live reference and no hand has. The reference outlives the section and may be released on any CPU.
+    ///
+    /// CPUs count from 0. Refused, in this order, and nothing has changed: `NothingFound` where the CPU has no last found
+    /// entry; `LocalFull` where the CPU's own net count for it is `count_limit`; `NoMemory`.
+    pub fn acquire_local(&mut self, c: u8) -> Result<u64, Refusal>
+        requires known { c < self.old.settings.cpus }
+        requires rest { at_rest self.old.due ≡ true }
+        requires ready { may_act self.old c ≡ true }
+        ensures answer { IsCounted self.old (count_refusal self.old c (found_at self.old c)) result }
+        ensures after { self.new ≡ after_acquire_local self.old c result }
+        ensures settings { self.new.settings ≡ self.old.settings }
+        ensures rest { at_rest self.new.due ≡ true }
+        ensures ready { (d : ℕ) → may_act self.old d ≡ true → may_act self.new d ≡ true }
+    {
+        let _ = &self.settings;
+        let Some(found) = self.found_at(c) else {
+            return Err(Refusal::NothingFound);
+        };
+        if !self.has_count_room(c, found.number) {
+            return Err(Refusal::LocalFull);
+        }
+        let Ok(()) = self.make_place() else {
+            return Err(Refusal::NoMemory);
+        };
+        self.begin();
+        self.make(Event::CountAdd(c));
+        Ok(self.split_in_place(c, found.number))
+    }
+
+    /// Whether a live local reference has this id; one in a hand isn't live.
+    pub fn live(&self, id: u64) -> bool
+        ensures { result ≡ is_live_local self.now id }
+    {
+        self.standing_at(id).is_some()
+    }
+
+    /// The number, from 1, of the entry that the live local reference is to.
+    pub fn number(&self, id: u64) -> u64
+        requires { is_live_local self.now id ≡ true }
+        ensures { standing (local_at self.now.locals id) ≡ Some result }
+    {
+        match self.standing_at(id) {
+            Some(number) => number,
+            None => unreachable!(),
+        }
+    }
+
+    /// The record of the entry that the live local reference is to, which stays while the reference is held (localcount(9)).
+    pub fn record(&mut self, id: u64) -> Record
+        requires rest { at_rest self.old.due ≡ true }
+        requires live { is_live_local self.old id ≡ true }
+        ensures answer { (n : ℕ) → standing (local_at self.old.locals id) ≡ Some n → IsRecordOf self.old.history n result }
+        ensures after { self.new ≡ all_seated self.old }
+        ensures ready { (d : ℕ) → may_act self.old d ≡ true → may_act self.new d ≡ true }
+    {
+        self.begin();
+        self.record_by_local(id)
+    }
+
+    /// Releases the live local reference on this CPU, whichever acquired it (localcount(9)): by this CPU's own count, or under
+    /// the interlock, by the slot's total, where that count was collected. It always succeeds.
+    pub fn release_local(&mut self, c: u8, id: u64)
+        requires known { c < self.old.settings.cpus }
+        requires rest { at_rest self.old.due ≡ true }
+        requires ready { may_act self.old c ≡ true }
+        requires live { is_live_local self.old id ≡ true }
+        ensures after { self.new ≡ after_release_local self.old c id }
+        ensures settings { self.new.settings ≡ self.old.settings }
+        ensures rest { at_rest self.new.due ≡ true }
+        ensures ready { (d : ℕ) → may_act self.old d ≡ true → may_act self.new d ≡ true }
+    {
+        self.begin();
+        if !self.count_down(c, id) {
+            self.release_under(c, id);
+        }
+    }
+
+    /// Whether the CPU's own net count for the entry may be one more.
+    fn has_count_room(&self, c: u8, number: u64) -> bool
+        requires { c < self.now.settings.cpus }
+        ensures { result ≡ nat_lt (count_in self.now.nets c (slot_of self.now.slots number)) (bias + self.now.settings.count_limit) }
+    {
+        let _ = &self.settings;
+        match self.slot_of(number) {
+            Some(t) => self.net_at(c, t) < BIAS + self.settings.count_limit,
+            None => true,
+        }
+    }
+
+    /// Gives the reference up by the CPU's own count. Where that was found collected it answers false, and the reference is
+    /// live as before.
+    fn count_down(&mut self, c: u8, id: u64) -> bool
+        requires idle { is_idle self.old c ≡ true }
+        requires live { is_live_local self.old id ≡ true }
+        ensures value { result ≡ is_counting self.old c (local_slot self.old id) }
+        ensures counted { IsTrue result → self.new ≡ with_count_less self.old c id (local_slot self.old id) }
+        ensures kept { result ≡ false → self.new ≡ self.old }
+    {
+        let _ = &self.settings;
+        let _number = self.number(id);
+        self.make(Event::JoinRef(c, id));
+        match self.make(Event::CountDown(c)) {
+            Reply::Collected => {
+                self.make(Event::SplitBack(c));
+                false
+            }
+            _ => true,
+        }
+    }
+
+    /// Gives the reference up by the slot's total, where the count of some CPU was collected.
+    fn release_under(&mut self, c: u8, id: u64)
+        requires known { c < self.old.settings.cpus }
+        requires rest { at_rest self.old.due ≡ true }
+        requires live { is_live_local self.old id ≡ true }
+        requires collected { is_counting self.old c (local_slot self.old id) ≡ false }
+        ensures { self.new ≡ with_total_less self.old id (local_slot self.old id) }
+    {
+        let _ = &self.settings;
+        let number = self.number(id);
+        let Some(t) = self.slot_of(number) else {
+            unreachable!()
+        };
+        self.make(Event::JoinKeeper(id));
+        self.make(Event::TotalSub(t));
+    }
+
+    /// Loads words 1 to 4 of the record that a local reference is to.
+    fn record_by_local(&mut self, id: u64) -> Record
+        requires { is_live_local self.old id ≡ true }
+        ensures record { (n : ℕ) → standing (local_at self.old.locals id) ≡ Some n → IsRecordOf self.old.history n result }
+        ensures same { self.new ≡ self.old }
+    {
+        let _ = &self.settings;
+        let _number = self.number(id);
+        let kind = self.load_word(RecordOf::Local(id, 1));
+        let high = self.load_word(RecordOf::Local(id, 2));
+        let low = self.load_word(RecordOf::Local(id, 3));
+        let value = self.load_word(RecordOf::Local(id, 4));
+        record_from(kind, high, low, value)
+    }
+}

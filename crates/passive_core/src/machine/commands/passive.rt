@@ -1,0 +1,239 @@
+//! Passive references (psref(9)): acquired, copied, read and released on one CPU.
+
+ghost use Rattle.std.specs.Prelude.{◌≡◌, ℕ, ◌<◌, ◌||◌, nat_lt, IfOk, Option, Some, None, true};
+ghost use Rattle.passive_core.specs.Commands.{all_seated, may_act};
+ghost use Rattle.passive_core.specs.Events.{is_idle, is_number, load_record, taken};
+ghost use Rattle.passive_core.specs.Invariant.{Holds};
+ghost use Rattle.passive_core.specs.State.{found_at};
+ghost use Rattle.passive_core.specs.Slots.{at_rest, kind_word, slot_of};
+ghost use Rattle.passive_core.specs.Names.{are_name_words};
+ghost use Rattle.passive_core.specs.declared.entry.Record.{Record};
+ghost use Rattle.passive_core.specs.declared.event.Reply.TheVariants.{Word};
+ghost use Rattle.passive_core.specs.Passives.{passive_of, acquired, refusal_of, copied, Answers, IsOneMore, IsOneLess, IsRecordOf, IsWordLoad, after_acquire, after_release, after_read, with_one_more, with_one_less};
+
+use crate::entry::{Kind, Record};
+use crate::event::{Event, RecordOf, Reply};
+use crate::machine::Core;
+use crate::name::Name;
+use crate::psref::CorePsref;
+use crate::refusal::Refusal;
+
+impl Core {
+    /// Acquires a passive reference to the CPU's last found entry (psref(9)). It outlives the section, and the entry's slot
+    /// isn't given again before it is released.
+    ///
+    /// CPUs count from 0. Refused, in this order, and nothing has changed: `NothingFound` where the CPU has no last found
+    /// entry; `PassiveFull` where it has `passive_limit` references to the entry.
+    pub fn acquire(&mut self, c: u8) -> Result<CorePsref, Refusal>
+        requires known { c < self.old.settings.cpus }
+        requires rest { at_rest self.old.due ≡ true }
+        requires ready { may_act self.old c ≡ true }
+        ensures answer { result ≡ acquired self.old c (found_at self.old c) }
+        ensures after { self.new ≡ after_acquire self.old c result }
+        ensures counted { IfOk result (λ psref. IsOneMore self.old self.new c psref.number) }
+        ensures settings { self.new.settings ≡ self.old.settings }
+        ensures rest { at_rest self.new.due ≡ true }
+        ensures ready { (d : ℕ) → may_act self.old d ≡ true → may_act self.new d ≡ true }
+    {
+        let Some(found) = self.found_at(c) else {
+            return Err(Refusal::NothingFound);
+        };
+        if !self.has_passive_room(c, found.number) {
+            return Err(Refusal::PassiveFull);
+        }
+        self.add_passive(c, found.number);
+        Ok(CorePsref {
+            cpu: c,
+            number: found.number,
+        })
+    }
+
+    /// Acquires a second reference on the first one's CPU, to the same entry; each is released by itself (psref(9)).
+    ///
+    /// Refused, in this order, and nothing has changed: `WrongCpu` where the reference names another CPU; `NotHeld` where
+    /// this CPU holds no passive reference to that number; `PassiveFull` where it has `passive_limit` of them.
+    pub fn copy(&mut self, c: u8, psref: CorePsref) -> Result<CorePsref, Refusal>
+        requires known { c < self.old.settings.cpus }
+        requires rest { at_rest self.old.due ≡ true }
+        requires ready { may_act self.old c ≡ true }
+        ensures answer { result ≡ copied self.old c psref.number (refusal_of self.old c psref) }
+        ensures after { self.new ≡ after_acquire self.old c result }
+        ensures counted { IfOk result (λ psref. IsOneMore self.old self.new c psref.number) }
+        ensures settings { self.new.settings ≡ self.old.settings }
+        ensures rest { at_rest self.new.due ≡ true }
+        ensures ready { (d : ℕ) → may_act self.old d ≡ true → may_act self.new d ≡ true }
+    {
+        if let Some(refusal) = self.refusal_of(c, psref) {
+            return Err(refusal);
+        }
+        if !self.has_passive_room(c, psref.number) {
+            return Err(Refusal::PassiveFull);
+        }
+        self.add_passive(c, psref.number);
+        Ok(psref)
+    }
+
+    /// Whether the CPU holds a passive reference to that number, whichever CPU the reference names.
+    pub fn held(&self, c: u8, psref: CorePsref) -> bool
+        requires { c < self.now.settings.cpus }
+        ensures { result ≡ nat_lt 0 (passive_of self.now c psref.number) }
+    {
+        0 < self.passive_of(c, psref.number)
+    }
+
+    /// The record of the entry that the reference is to, which stays while the reference is held (psref(9)). It needs no section.
+    ///
+    /// Refused, in this order, and nothing has changed: `WrongCpu` where the reference names another CPU; `NotHeld` where
+    /// this CPU holds no passive reference to that number.
+    pub fn read(&mut self, c: u8, psref: CorePsref) -> Result<Record, Refusal>
+        requires known { c < self.old.settings.cpus }
+        requires rest { at_rest self.old.due ≡ true }
+        requires ready { may_act self.old c ≡ true }
+        ensures answer { Answers (refusal_of self.old c psref) (IsRecordOf self.old.history psref.number) result }
+        ensures after { self.new ≡ after_read self.old result }
+        ensures settings { self.new.settings ≡ self.old.settings }
+        ensures rest { at_rest self.new.due ≡ true }
+        ensures ready { (d : ℕ) → may_act self.old d ≡ true → may_act self.new d ≡ true }
+    {
+        if let Some(refusal) = self.refusal_of(c, psref) {
+            return Err(refusal);
+        }
+        self.begin();
+        Ok(self.record_by_passive(c, psref.number))
+    }
+
+    /// Releases a passive reference, on the CPU where it was acquired (psref(9)).
+    ///
+    /// Refused, in this order, and nothing has changed: `WrongCpu` where the reference names another CPU; `NotHeld` where
+    /// this CPU holds no passive reference to that number.
+    pub fn release(&mut self, c: u8, psref: CorePsref) -> Result<(), Refusal>
+        requires known { c < self.old.settings.cpus }
+        requires rest { at_rest self.old.due ≡ true }
+        requires ready { may_act self.old c ≡ true }
+        ensures answer { Answers (refusal_of self.old c psref) (λ _. Unit {0}) result }
+        ensures after { self.new ≡ after_release self.old c psref.number result }
+        ensures counted { IfOk result (λ _. IsOneLess self.old self.new c psref.number) }
+        ensures settings { self.new.settings ≡ self.old.settings }
+        ensures rest { at_rest self.new.due ≡ true }
+        ensures ready { (d : ℕ) → may_act self.old d ≡ true → may_act self.new d ≡ true }
+    {
+        if let Some(refusal) = self.refusal_of(c, psref) {
+            return Err(refusal);
+        }
+        self.subtract_passive(c, psref.number);
+        Ok(())
+    }
+
+    /// Seats all CPUs and counts one reference more to what the CPU has found or holds a reference to.
+    fn add_passive(&mut self, c: u8, number: u64)
+        requires known { c < self.old.settings.cpus }
+        requires rest { at_rest self.old.due ≡ true }
+        requires ready { may_act self.old c ≡ true }
+        requires has { (is_number number (found_at self.old c) || nat_lt 0 (passive_of self.old c number)) ≡ true }
+        requires room { nat_lt (passive_of self.old c number) self.old.settings.passive_limit ≡ true }
+        ensures after { self.new ≡ with_one_more self.old c (slot_of self.old.slots number) }
+        ensures counted { IsOneMore self.old self.new c number }
+        ensures ready { (d : ℕ) → may_act self.old d ≡ true → may_act self.new d ≡ true }
+    {
+        self.begin();
+        self.make(Event::PassiveAdd(c, number));
+    }
+
+    /// Seats all CPUs and counts one reference less.
+    fn subtract_passive(&mut self, c: u8, number: u64)
+        requires known { c < self.old.settings.cpus }
+        requires rest { at_rest self.old.due ≡ true }
+        requires ready { may_act self.old c ≡ true }
+        requires held { nat_lt 0 (passive_of self.old c number) ≡ true }
+        ensures after { self.new ≡ with_one_less self.old c (slot_of self.old.slots number) }
+        ensures counted { IsOneLess self.old self.new c number }
+        ensures ready { (d : ℕ) → may_act self.old d ≡ true → may_act self.new d ≡ true }
+    {
+        self.begin();
+        self.make(Event::PassiveSub(c, number));
+    }
+
+    /// Seats all CPUs, before the first event of a command. Those that might act before are idle then.
+    pub(crate) fn begin(&mut self)
+        requires { at_rest self.old.due ≡ true }
+        ensures seated { self.new ≡ all_seated self.old }
+        ensures idle { (d : ℕ) → d < self.old.settings.cpus → may_act self.old d ≡ true → is_idle self.new d ≡ true }
+        ensures ready { (d : ℕ) → may_act self.old d ≡ true → may_act self.new d ≡ true }
+        ensures sound { Holds self.old }
+    {
+        let _ = &self.settings;
+        self.seat_all();
+    }
+
+    /// Loads words 1 to 4 of the record that a passive reference of the CPU is to.
+    fn record_by_passive(&mut self, c: u8, number: u64) -> Record
+        requires idle { is_idle self.old c ≡ true }
+        requires held { nat_lt 0 (passive_of self.old c number) ≡ true }
+        ensures record { IsRecordOf self.old.history number result }
+        ensures same { self.new ≡ self.old }
+    {
+        let _ = &self.settings;
+        let kind = self.load_word(RecordOf::Passive(c, number, 1));
+        let high = self.load_word(RecordOf::Passive(c, number, 2));
+        let low = self.load_word(RecordOf::Passive(c, number, 3));
+        let value = self.load_word(RecordOf::Passive(c, number, 4));
+        record_from(kind, high, low, value)
+    }
+
+    /// One load of a record's word, which is known to be allowed.
+    pub(crate) fn load_word(&mut self, of: RecordOf) -> u64
+        requires { IsWordLoad self.old of }
+        ensures word { load_record self.old of ≡ taken self.old (Word result) }
+        ensures same { self.new ≡ self.old }
+    {
+        match self.make(Event::LoadRecord(of)) {
+            Reply::Word(word) => word,
+            _ => unreachable!(),
+        }
+    }
+
+    /// How many passive references the CPU has to that number.
+    fn passive_of(&self, c: u8, number: u64) -> u64
+        requires { c < self.now.settings.cpus }
+        ensures { result ≡ passive_of self.now c number }
+    {
+        match self.slot_of(number) {
+            Some(t) => self.passive_at(c, t),
+            None => 0,
+        }
+    }
+
+    /// Whether the CPU may have one passive reference more to that number.
+    fn has_passive_room(&self, c: u8, number: u64) -> bool
+        requires { c < self.now.settings.cpus }
+        ensures { result ≡ nat_lt (passive_of self.now c number) self.now.settings.passive_limit }
+    {
+        self.passive_of(c, number) < self.settings.passive_limit
+    }
+
+    /// Why the CPU may not use the reference.
+    fn refusal_of(&self, c: u8, psref: CorePsref) -> Option<Refusal>
+        requires { c < self.now.settings.cpus }
+        ensures { result ≡ refusal_of self.now c psref }
+    {
+        if psref.cpu != c {
+            Some(Refusal::WrongCpu)
+        } else if self.held(c, psref) {
+            None
+        } else {
+            Some(Refusal::NotHeld)
+        }
+    }
+}
+
+/// The record that has these words.
+pub(crate) fn record_from(kind: u64, high: u64, low: u64, value: u64) -> Record
+    requires { are_name_words high low ≡ true }
+    ensures { (r : Record) → kind ≡ kind_word r.kind → high ≡ r.name.high → low ≡ r.name.low → value ≡ r.value → result ≡ r }
+{
+    let kind = if kind == 1 { Kind::Iface } else { Kind::Driver };
+    match Name::from_words(high, low) {
+        Some(name) => Record { kind, name, value },
+        None => unreachable!(),
+    }
+}
