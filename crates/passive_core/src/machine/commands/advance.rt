@@ -1,9 +1,12 @@
 //! How far the destruction of a retired entry comes: one turn of the keeper's work on it.
 
-ghost use Rattle.std.specs.Prelude.{◌≡◌, ◌<◌, ◌+◌, IsTrue, IfSome, IfNone, ℕ, Some, None, true, false, not, length, slice_index_or, []};
+#[cfg(test)]
+mod tests;
+
+ghost use Rattle.std.specs.Prelude.{◌≡◌, ◌<◌, IfSome, ℕ, Some, None, true, false, not, length};
 ghost use Rattle.passive_core.specs.declared.entry.Entry.{Entry as AnEntry};
 ghost use Rattle.passive_core.specs.declared.state.Slot.TheVariants.{Retired};
-ghost use Rattle.passive_core.specs.Advancing.{is_retired_as, retired_slot, is_open_since, has_passive, least_below, advance_answer, plain_stage, stage_of, AdvanceLeaves, StageLeaves, Settles, Empties, Gathers, HoldersAreOpen, MarksGrow, MarksPass, SameElsewhere, AllPassed, AllClear, AllCollected};
+ghost use Rattle.passive_core.specs.Advancing.{is_retired_as, retired_slot, is_open_since, has_passive, least_below, advance_answer, plain_stage, stage_of, AdvanceLeaves, StageLeaves, Settles, Empties, Gathers, HoldersAreOpen, MarksGrow, MarksPass, AllPassed, AllClear, AllCollected};
 ghost use Rattle.passive_core.specs.Commands.{may_act};
 ghost use Rattle.passive_core.specs.Events.{is_drained};
 ghost use Rattle.passive_core.specs.Invariant.{held_at};
@@ -40,6 +43,7 @@ impl Core {
         Ok(self.advance_slot(t))
     }
 
+    /// The work on the slot's retired entry, up to the first obstacle.
     fn advance_slot(&mut self, t: u8) -> Stage
         requires rest { at_rest self.old.due ≡ true }
         requires seated { self.old.seated ≡ self.old.settings.cpus }

@@ -1,10 +1,10 @@
 //! Waiting until each section that was open has ended.
 
-ghost use Rattle.std.specs.Prelude.{◌≡◌, ◌<◌, ◌≤◌, ◌||◌, ℕ, true, false, not, length, slice_index_or, Some, None};
+ghost use Rattle.std.specs.Prelude.{◌≡◌, ◌<◌, ◌≤◌, ℕ, true, false, not, slice_index_or, Some, None};
 ghost use Rattle.passive_core.specs.Advancing.{AllPassed, least_below};
 ghost use Rattle.passive_core.specs.Commands.{may_act};
-ghost use Rattle.passive_core.specs.Performing.{is_out, retired_number, perform_answer, PerformLeaves, OnlyPasses, AllOutside, AreSeen, AreWords};
 ghost use Rattle.passive_core.specs.Events.{is_inside};
+ghost use Rattle.passive_core.specs.Performing.{is_out, retired_number, perform_answer, PerformLeaves, OnlyPasses, AllOutside, AreSeen, AreWords};
 ghost use Rattle.passive_core.specs.Slots.{at_rest, is_retired};
 ghost use Rattle.passive_core.specs.State.{section_at, slot_at};
 

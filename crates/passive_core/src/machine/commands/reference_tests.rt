@@ -324,6 +324,34 @@ fn all_limits(rt: HostRuntime) -> Result<(), Fail> {
 }
 
 #[test]
+fn late_calls(rt: HostRuntime) -> Result<(), Fail> {
+    let settings = Settings {
+        cpus: 1,
+        section_limit: 2,
+        passive_limit: 1,
+        count_limit: 1,
+        ..LIMITS
+    };
+    let mut core = opened(&rt, settings)?;
+    attach(&mut core, 0, b"wm", 7)?;
+    core.step(Event::Enter(0))?;
+    assert!(rt; find(&mut core, 0, b"wm")?.is_some());
+    let a = acquire(&rt, &mut core, 0)?;
+    assert_eq!(rt; copy(&rt, &mut core, 0, a), Err(Refusal::PassiveFull));
+    core.step(Event::Exit(0))?;
+    core.step(Event::Enter(0))?;
+    core.step(Event::Exit(0))?;
+    assert_eq!(rt; core.step(Event::Enter(0)), Err(StepFault::NotAllowed));
+    assert!(rt; held(&rt, &core, 0, a));
+    assert_eq!(rt; release(&rt, &mut core, 0, a), Ok(()));
+    assert_eq!(rt; release(&rt, &mut core, 0, a), Err(Refusal::NotHeld));
+    assert_eq!(rt; read(&rt, &mut core, 0, a), Err(Refusal::NotHeld));
+    detach(&mut core, 0)?;
+    assert_eq!(rt; advance(&mut core, 0)?, Stage::Freed(0));
+    Ok(())
+}
+
+#[test]
 fn nothing_there(rt: HostRuntime) -> Result<(), Fail> {
     let mut core = opened(&rt, LIMITS)?;
     core.step(Event::Enter(0))?;
