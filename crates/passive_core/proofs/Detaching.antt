@@ -39,7 +39,7 @@ kind_same : (a : Kind) → same_kind a a ≡ true
 kind_same Iface = refl
 kind_same Driver = refl
 
-key_from : (a b : Key) → same_key a b ≡ true → a ≡ b
+pub key_from : (a b : Key) → same_key a b ≡ true → a ≡ b
 key_from a b is =
     let p = and_parts (same_kind a.kind b.kind) (same_name a.name b.name) is in
     let n = and_parts (nat_eq a.name.high b.name.high) (nat_eq a.name.low b.name.low) p.1 in
@@ -48,10 +48,10 @@ key_from a b is =
     let low : a.name.low ≡ b.name.low = eqb-true a.name.low b.name.low n.1 in
     λ i. record { kind = kind i; name = record { high = high i; low = low i } }
 
-key_same : (a : Key) → same_key a a ≡ true
+pub key_same : (a : Key) → same_key a a ≡ true
 key_same a = rw (kind_same a.kind, eq-eqb a.name.high a.name.high refl, eq-eqb a.name.low a.name.low refl) refl
 
-live_tells : (key : Key) (x : Slot) → is_live_as key x ≡ true → (e : Entry) × (x ≡ Live e) × (key_of e ≡ key)
+pub live_tells : (key : Key) (x : Slot) → is_live_as key x ≡ true → (e : Entry) × (x ≡ Live e) × (key_of e ≡ key)
 live_tells key Vacant is = absurd (let q : ◌≡◌ {A = Bool} false true = is in cc)
 live_tells key (Live e) is = (e, refl, key_from (key_of e) key is)
 live_tells key (Retired e) is = absurd (let q : ◌≡◌ {A = Bool} false true = is in cc)

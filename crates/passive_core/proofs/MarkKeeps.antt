@@ -320,7 +320,7 @@ kept_sub_keeps s t u on drained counts references drivers =
     vacated_keeps s t (set s.totals u (total_at s.totals u - 1)) (set s.keeps t None) on drained (length-set s.totals u _) (length-set s.keeps t None) counts references drivers
 
 -- the opening state
-none_live : (n : ℕ) → live_count (replicate n Vacant) ≡ 0
+pub none_live : (n : ℕ) → live_count (replicate n Vacant) ≡ 0
 none_live zero = refl
 none_live (suc n) = none_live n
 

@@ -34,14 +34,14 @@ use Rattle.passive_core.proofs.Picturing.{one_step, two_steps, put_here, put_oth
 -- Slots change, and the references that a number has stay.
 
 -- the entry n is in the slot u
-abbrev At : List Slot → ℕ → ℕ → Type 0
+abbrev pub At : List Slot → ℕ → ℕ → Type 0
 At slots n u = (e : Entry) × IsIn e (slot_at slots u) × (e.number ≡ n)
 
-own_slot : (h : List Change) (slots : List Slot) (n u : ℕ) → SlotsShow h slots → At slots n u → slot_of slots n ≡ Some u
+pub own_slot : (h : List Change) (slots : List Slot) (n u : ℕ) → SlotsShow h slots → At slots n u → slot_of slots n ≡ Some u
 own_slot h slots n u show at = ap (slot_of slots) (sym at.2) ∙ slot_number h slots at.0 u show at.1
 
 -- where the slot of a number stays, or has no passive references
-passive_moved : (h k : List Change) (slots others : List Slot) (passive : List (List ℕ)) (c n : ℕ) → SlotsShow h slots → SlotsShow k others
+pub passive_moved : (h k : List Change) (slots others : List Slot) (passive : List (List ℕ)) (c n : ℕ) → SlotsShow h slots → SlotsShow k others
     → ((u : ℕ) → At slots n u → At others n u ⊎ (passive_at passive c u ≡ 0)) → ((u : ℕ) → At others n u → At slots n u ⊎ (passive_at passive c u ≡ 0))
     → passive_in passive c (slot_of slots n) ≡ passive_in passive c (slot_of others n)
 passive_moved h k slots others passive c n show later forth back = go (slot_of slots n) (slot_of others n) refl refl
@@ -241,7 +241,7 @@ occupant_of : (s : State) (t : ℕ) → Holds s → is_drained s t ≡ true → 
 occupant_of s t on ok = let told = is_drained_tells s t on ok in (told.1.0.number, ap number_in told.1.1)
 
 -- the slot of a drained entry becomes vacant
-vacated_passive : (s : State) (t n : ℕ) → Holds s → Drained s t n → SlotsShow s.history (set s.slots t Vacant)
+pub vacated_passive : (s : State) (t n : ℕ) → Holds s → Drained s t n → SlotsShow s.history (set s.slots t Vacant)
     → (c i : ℕ) → passive_in s.passive c (slot_of s.slots i) ≡ passive_in s.passive c (slot_of (set s.slots t Vacant) i)
 vacated_passive s t n on d later c i = passive_moved s.history s.history s.slots (set s.slots t Vacant) s.passive c i on.slots later
     (λ u was. ⊎_elim

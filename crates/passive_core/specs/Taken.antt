@@ -14,6 +14,10 @@ Steps old new event (Ok reply) = step old event ≡ Some (record { state = new; 
 Steps old new event (Err NotAllowed) = (step old event ≡ None) × (new ≡ old)
 Steps old new event (Err NoMemory) = IsTrue (grows event) × IsSome (step old event) × (new ≡ old)
 
+-- the event is allowed here, and a list has to grow for it
+abbrev pub WantsMemory : State → Event → Type 0
+WantsMemory s event = IsTrue (grows event) × IsSome (step s event)
+
 -- the invariant holds after an event, if it was allowed
 abbrev pub Keeps : Option Outcome → Type 0
 Keeps None = Unit {0}

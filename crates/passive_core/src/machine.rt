@@ -11,7 +11,7 @@ mod run;
 mod search;
 mod sections;
 
-ghost use Rattle.std.specs.Prelude.{◌≡◌, ◌++◌, ◌∷◌, [], IfOk, IfErr, IsErrOf, IsTrue, OnErr, OnOk, false, replicate};
+ghost use Rattle.std.specs.Prelude.{◌≡◌, ◌↔◌, ◌++◌, ◌∷◌, [], IfOk, IfErr, IsErrOf, IsTrue, OnErr, OnOk, false, replicate};
 ghost use Rattle.passive_core.specs.Limits.{are_fit};
 ghost use Rattle.passive_core.specs.Refusals.{IsRefusalOfNew};
 ghost use Rattle.passive_core.specs.State.{opening};
@@ -92,7 +92,7 @@ impl Core {
     pub fn new(alloc: Global, settings: Settings) -> Result<Core, Refusal>
         ensures ok { IfOk result (λ core. IsTrue (are_fit settings) × (core ≡ opening settings)) }
         ensures quiet { IfOk result (λ core. IsQuiet core) }
-        ensures bad { IsErrOf result Refusal.BadSettings → are_fit settings ≡ false }
+        ensures bad { IsErrOf result Refusal.BadSettings ↔ are_fit settings ≡ false }
         ensures err { IfErr result IsRefusalOfNew }
     {
         settings.check()?;

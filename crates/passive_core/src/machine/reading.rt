@@ -2,6 +2,7 @@
 
 ghost use Rattle.std.specs.Prelude.{◌≡◌, ◌<◌, ◌^◌, Some, None, IfSome, IsTrue, length, slice_index_or, []};
 ghost use Rattle.passive_core.specs.Events.{is_idle, is_number, word, standing};
+ghost use Rattle.passive_core.specs.Invariant.{Holds};
 ghost use Rattle.passive_core.specs.Slots.{at_rest, slot_of, has_number, is_retired, is_vacant, have_passed, are_clear, are_collected, is_some_collected};
 ghost use Rattle.passive_core.specs.State.{section_at, begin_at, depth_at, seen_at, found_at, hand_at, search_at, passive_at, count_at, total_at, kept_at, mark_at, row_at, slot_at, local_at};
 
@@ -167,7 +168,8 @@ impl Core {
 
     /// Whether no operation of the keeper is half done.
     pub fn at_rest(&self) -> bool
-        ensures { result ≡ at_rest self.now.due }
+        ensures value { result ≡ at_rest self.now.due }
+        ensures holds { Holds self.now }
     {
         matches!(self.due, Due::Rest)
     }

@@ -1,9 +1,9 @@
 //! One event after the other.
 
-ghost use Rattle.std.specs.Prelude.{◌≡◌, ◌<◌, IfOk, IfErr, take, length};
-ghost use Rattle.passive_core.specs.Taken.{Steps};
+ghost use Rattle.std.specs.Prelude.{◌≡◌, ◌<◌, IfOk, IfErr, take, length, slice_index_or};
+ghost use Rattle.passive_core.specs.Taken.{Steps, WantsMemory};
 ghost use Rattle.passive_core.specs.Ran.{ran, rested};
-ghost use Rattle.passive_core.specs.declared.event.Event.TheVariants.{LoadRecord};
+ghost use Rattle.passive_core.specs.declared.event.Event.TheVariants.{LoadRecord, Seat};
 
 use crate::event::{Counted, Event, RecordOf, Reply, Short, StepFault};
 use crate::machine::Core;
@@ -63,6 +63,7 @@ impl Core {
 pub fn run_events(core: &mut Core, events: &[Event]) -> Result<Counted, Short>
     ensures ok { IfOk result (λ counted. record { state = core.new; counted = counted } ≡ ran (rested core.old) events.now) }
     ensures short { IfErr result (λ short. (short.done < length events.now) × (core.new ≡ (ran (rested core.old) (take short.done events.now)).state)) }
+    ensures wanted { IfErr result (λ short. WantsMemory core.new (slice_index_or events.now short.done (Seat 0))) }
 {
     let mut counted = Counted {
         taken: 0,
