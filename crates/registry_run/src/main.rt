@@ -1,12 +1,7 @@
 //! Runs a script on standard input, and writes its report to standard output.
 #![tactic(auto)]
 
-mod driver;
-mod report;
-mod script;
-
-use driver::{Engine, run};
-use script::RunFault;
+use registry_script::{Engine, RunFault, run};
 use std::io::ErrorKind;
 use std::process::ExitCode;
 use std::rt::Env;

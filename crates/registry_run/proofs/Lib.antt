@@ -1,4 +1,0 @@
-pub mod Numbers
-pub mod Plans
-pub mod Writing
-pub mod Known

@@ -1,0 +1,37 @@
+use Rattle.std.proofs.Common.{refl, ◌∙◌}
+use Rattle.registry_script.specs.Report.{report_from}
+use Rattle.registry_script.specs.Written.{AppendsPrefix}
+use Rattle.registry_script.proofs.Reports.{on_err, report_done, report_step, report_stopped}
+use Rattle.registry_script.proofs.Writing.{written_none}
+use Rattle.registry_script.proofs.report.run_commands.Goals as goal
+
+pub loop-command-init : goal.loop-command-init
+loop-command-init g c = record { settings = refl; so_far = λ r on. (r, on, written_none (g.W.Write.contents c.args.writer.now) (report_from r c.args.commands.now)) }
+
+pub loop-command-preserved : goal.loop-command-preserved
+loop-command-preserved g c =
+    let l = c.loop-command in
+    record {
+      settings = c.carry_out.ensures.settings ∙ l.invariant.settings;
+      so_far = λ r on.
+          let p = l.invariant.so_far r on in (
+            _,
+            c.in_ok-text.ensures.shows p.0 p.1,
+            report_step _ (g.W.Write.contents l.writer) _ (report_from r c.args.commands.now) p.0 c.args.commands.now l.command-index _ c.as_bytes.result.now
+                c.loop-command-test.true p.2 (c.as_bytes.ensures.value ∙ c.in_ok-text.ensures.line p.0 p.1) c.in_ok-write_text.ensures.ok,
+          );
+    }
+
+pub returns-in_err-write_text-clause-err : goal.returns-in_err-write_text-clause-err
+returns-in_err-write_text-clause-err g c = λ r on.
+    let l = c.loop-command in
+    let p = l.invariant.so_far r on in
+    on_err (AppendsPrefix (g.W.Write.contents c.args.writer.now) (g.W.Write.contents c.write_text.new.writer) (report_from r c.args.commands.now)) _
+    (report_stopped _ (g.W.Write.contents l.writer) _ (report_from r c.args.commands.now) p.0 c.args.commands.now l.command-index _ c.as_bytes.result.now
+    c.loop-command-test.true p.2 (c.as_bytes.ensures.value ∙ c.in_ok-text.ensures.line p.0 p.1) c.in_err-write_text.ensures.err)
+
+pub returns-clause-ok : goal.returns-clause-ok
+returns-clause-ok g c = λ r on.
+    let l = c.loop-command in
+    let p = l.invariant.so_far r on in
+    report_done (g.W.Write.contents c.args.writer.now) (g.W.Write.contents l.writer) (report_from r c.args.commands.now) p.0 c.args.commands.now l.command-index c.loop-command-test.false p.2

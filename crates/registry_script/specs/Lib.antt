@@ -1,0 +1,16 @@
+pub mod Words
+pub mod Program
+pub mod Grammar
+pub mod Parsing
+pub mod Lines
+pub mod Written
+pub mod Session
+pub mod Changes
+pub mod Registry
+pub mod Answers
+pub mod Turns
+pub mod Shows
+pub mod Given
+pub mod Sound
+pub mod Report
+pub mod Laws

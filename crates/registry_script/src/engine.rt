@@ -1,0 +1,70 @@
+//! From the bytes that are read to the bytes that are written.
+
+ghost use Rattle.std.specs.Prelude.{◌≡◌, IfOk, IfErr, IfSome};
+ghost use Rattle.registry_script.specs.Written.{WasRead, Ran, RanOn, IsWhileReading};
+
+use crate::report::run_core;
+use crate::script::{ParseFault, RunFault, parse_script};
+use std::alloc::Global;
+use std::io::{Read, Write};
+
+/// One byte more than a script may have.
+const LIMIT: usize = 65_537;
+
+/// What carries out a script.
+#[derive(Clone, Copy, Debug, PartialEq, Eq)]
+pub enum Engine {
+    /// The pure machine.
+    Core,
+}
+
+/// Reads a script whole, runs it, and writes its report. After a fault of the script or of the reader
+/// nothing has been written.
+#[tactic(auto, using(crate::proofs::Known::ran_known))]
+pub fn run<R: Read, W: Write>(
+    alloc: Global,
+    engine: Engine,
+    reader: &mut R,
+    writer: &mut W,
+) -> Result<(), RunFault>
+    ensures ran { Ran (R.remaining reader.old) (R.remaining reader.new) (W.contents writer.old) (W.contents writer.new) result }
+    ensures known { IfSome (R.remaining reader.old) (λ input. RanOn input (W.contents writer.old) (W.contents writer.new) result) }
+{
+    run_script(alloc, engine, reader, writer)
+}
+
+fn run_script<R: Read, W: Write>(
+    alloc: Global,
+    engine: Engine,
+    reader: &mut R,
+    writer: &mut W,
+) -> Result<(), RunFault>
+    ensures { Ran (R.remaining reader.old) (R.remaining reader.new) (W.contents writer.old) (W.contents writer.new) result }
+{
+    let text = read_script(alloc, reader)?;
+    match parse_script(alloc, &text) {
+        Ok(script) => match engine {
+            Engine::Core => run_core(alloc, &script, writer),
+        },
+        Err(ParseFault::Script(fault)) => Err(RunFault::Script(fault)),
+        Err(ParseFault::Memory) => Err(RunFault::Memory),
+    }
+}
+
+/// Reads to the end, or to one byte more than a script may have. An interrupted read is a fault too.
+fn read_script<R: Read>(alloc: Global, reader: &mut R) -> Result<Vec<u8>, RunFault>
+    ensures ok { IfOk result (λ text. WasRead (R.remaining reader.old) (R.remaining reader.new) text.items) }
+    ensures fault { IfErr result IsWhileReading }
+{
+    let mut text = Vec::new(alloc);
+    let mut buffer = [0u8; 4096];
+    while text.len() < LIMIT {
+        let room = buffer.len().min(LIMIT - text.len());
+        match reader.read(&mut buffer[..room]) {
+            Ok(0) => return Ok(text),
+            Ok(n) => text.extend_from_slice(&buffer[..n])?,
+            Err(_) => return Err(RunFault::Read),
+        }
+    }
+    Ok(text)
+}

@@ -1,0 +1,15 @@
+//! Scripts of registry commands: their language, their report, and the runs that write it.
+#![tactic(auto)]
+
+mod engine;
+mod laws;
+mod report;
+mod script;
+
+pub use engine::{Engine, run};
+pub use laws::report_laws;
+pub use report::run_core;
+pub use script::{Cause, Command, Label, ParseFault, RunFault, Script, ScriptFault, parse_script};
+
+#[cfg(test)]
+mod tests;

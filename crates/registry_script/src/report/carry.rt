@@ -1,0 +1,336 @@
+//! Commands, carried out by a session.
+
+ghost use Rattle.std.specs.Prelude.{◌≡◌, ◌<◌, ◌≤◌, IfErr, IfOk, IsTrue, OnOk, string_bytes, true};
+ghost use Rattle.passive_core.specs.Names.{is_lawful};
+ghost use Rattle.passive_core.specs.Slots.{is_iface};
+ghost use Rattle.registry_script.specs.Program.{suits};
+ghost use Rattle.registry_script.specs.Registry.{Registry};
+ghost use Rattle.registry_script.specs.Report.{after, text_of};
+ghost use Rattle.registry_script.specs.Shows.{Shows};
+
+use super::lines::{
+    attached, audited, destroyed, found, held as held_or_not, hitched, labelled, limited, opened,
+    reading, retired, said, section, stage,
+};
+use super::session::Session;
+use crate::script::{Command, Label, RunFault};
+use passive_core::{Kind, Name, Record};
+use std::alloc::Global;
+
+/// Carries out a command, and gives its text: a line, or those of an audit.
+pub fn carry_out(alloc: Global, session: &mut Session, command: Command) -> Result<String, RunFault>
+    requires { IsTrue (suits session.old.core.settings command) }
+    ensures settings { session.new.core.settings ≡ session.old.core.settings }
+    ensures line { (r : Registry) → Shows session.old r → IfOk result (λ text. string_bytes text ≡ text_of r command) }
+    ensures shows { (r : Registry) → Shows session.old r → OnOk result (Shows session.new (after r command)) }
+    ensures memory { IfErr result (λ fault. fault ≡ RunFault.Memory) }
+{
+    match command {
+        Command::Domain { cpus, slots } => opened(alloc, cpus, slots),
+        Command::Limits {
+            changes,
+            sections,
+            passive,
+            count,
+        } => limited(alloc, changes, sections, passive, count),
+        Command::Attach { cpu, rec } => attach(alloc, session, cpu, rec),
+        Command::Plug { cpu, rec, label } => plug(alloc, session, cpu, rec, label),
+        Command::Detach { cpu, kind, name } => detach(alloc, session, cpu, kind, name),
+        Command::Enter { cpu } => enter(alloc, session, cpu),
+        Command::Exit { cpu } => exit(alloc, session, cpu),
+        Command::Find { cpu, kind, name } => find(alloc, session, cpu, kind, name),
+        Command::Reference { cpu, label } => reference(alloc, session, cpu, label),
+        Command::Copy {
+            cpu,
+            source,
+            target,
+        } => copy(alloc, session, cpu, source, target),
+        Command::Held { cpu, label } => held(alloc, session, cpu, label),
+        Command::Read { cpu, label } => read(alloc, session, cpu, label),
+        Command::Release { cpu, label } => release(alloc, session, cpu, label),
+        Command::Count { cpu, label } => count(alloc, session, cpu, label),
+        Command::Peek { label } => peek(alloc, session, label),
+        Command::Uncount { cpu, label } => uncount(alloc, session, cpu, label),
+        Command::Advance { number } => advance(alloc, session, number),
+        Command::Destroy { cpu, number, turns } => destroy(alloc, session, cpu, number, turns),
+        Command::Perform { cpu, turns } => perform(alloc, session, cpu, turns),
+        Command::Audit => audit(alloc, session),
+    }
+}
+
+fn attach(alloc: Global, session: &mut Session, cpu: u8, rec: Record) -> Result<String, RunFault>
+    requires known { cpu < session.old.core.settings.cpus }
+    requires lawful { IsTrue (is_lawful rec.name) }
+    ensures settings { session.new.core.settings ≡ session.old.core.settings }
+    ensures line { (r : Registry) → Shows session.old r → IfOk result (λ text. string_bytes text ≡ text_of r (Command.Attach cpu rec)) }
+    ensures shows { (r : Registry) → Shows session.old r → OnOk result (Shows session.new (after r (Command.Attach cpu rec))) }
+    ensures memory { IfErr result (λ fault. fault ≡ RunFault.Memory) }
+{
+    match session.attach(cpu, rec) {
+        Ok(entry) => attached(alloc, entry),
+        Err(hitch) => hitched(alloc, hitch),
+    }
+}
+
+fn plug(
+    alloc: Global,
+    session: &mut Session,
+    cpu: u8,
+    rec: Record,
+    label: Label,
+) -> Result<String, RunFault>
+    requires known { cpu < session.old.core.settings.cpus }
+    requires lawful { IsTrue (is_lawful rec.name) }
+    requires iface { is_iface rec.kind ≡ true }
+    requires label { label.place < 26 }
+    ensures settings { session.new.core.settings ≡ session.old.core.settings }
+    ensures line { (r : Registry) → Shows session.old r → IfOk result (λ text. string_bytes text ≡ text_of r (Command.Plug cpu rec label)) }
+    ensures shows { (r : Registry) → Shows session.old r → OnOk result (Shows session.new (after r (Command.Plug cpu rec label))) }
+    ensures memory { IfErr result (λ fault. fault ≡ RunFault.Memory) }
+{
+    match session.plug(cpu, rec, label) {
+        Ok(entry) => attached(alloc, entry),
+        Err(hitch) => hitched(alloc, hitch),
+    }
+}
+
+fn detach(
+    alloc: Global,
+    session: &mut Session,
+    cpu: u8,
+    kind: Kind,
+    name: Name,
+) -> Result<String, RunFault>
+    requires { cpu < session.old.core.settings.cpus }
+    ensures settings { session.new.core.settings ≡ session.old.core.settings }
+    ensures line { (r : Registry) → Shows session.old r → IfOk result (λ text. string_bytes text ≡ text_of r (Command.Detach cpu kind name)) }
+    ensures shows { (r : Registry) → Shows session.old r → OnOk result (Shows session.new (after r (Command.Detach cpu kind name))) }
+    ensures memory { IfErr result (λ fault. fault ≡ RunFault.Memory) }
+{
+    match session.detach(cpu, kind, name) {
+        Ok(entry) => retired(alloc, entry),
+        Err(hitch) => hitched(alloc, hitch),
+    }
+}
+
+fn enter(alloc: Global, session: &mut Session, cpu: u8) -> Result<String, RunFault>
+    requires { cpu < session.old.core.settings.cpus }
+    ensures settings { session.new.core.settings ≡ session.old.core.settings }
+    ensures line { (r : Registry) → Shows session.old r → IfOk result (λ text. string_bytes text ≡ text_of r (Command.Enter cpu)) }
+    ensures shows { (r : Registry) → Shows session.old r → OnOk result (Shows session.new (after r (Command.Enter cpu))) }
+    ensures memory { IfErr result (λ fault. fault ≡ RunFault.Memory) }
+{
+    match session.enter(cpu) {
+        Ok(()) => section(alloc, true),
+        Err(hitch) => hitched(alloc, hitch),
+    }
+}
+
+fn exit(alloc: Global, session: &mut Session, cpu: u8) -> Result<String, RunFault>
+    requires { cpu < session.old.core.settings.cpus }
+    ensures settings { session.new.core.settings ≡ session.old.core.settings }
+    ensures line { (r : Registry) → Shows session.old r → IfOk result (λ text. string_bytes text ≡ text_of r (Command.Exit cpu)) }
+    ensures shows { (r : Registry) → Shows session.old r → OnOk result (Shows session.new (after r (Command.Exit cpu))) }
+    ensures memory { IfErr result (λ fault. fault ≡ RunFault.Memory) }
+{
+    match session.exit(cpu) {
+        Ok(stays) => section(alloc, stays),
+        Err(hitch) => hitched(alloc, hitch),
+    }
+}
+
+fn find(
+    alloc: Global,
+    session: &mut Session,
+    cpu: u8,
+    kind: Kind,
+    name: Name,
+) -> Result<String, RunFault>
+    requires { cpu < session.old.core.settings.cpus }
+    ensures settings { session.new.core.settings ≡ session.old.core.settings }
+    ensures line { (r : Registry) → Shows session.old r → IfOk result (λ text. string_bytes text ≡ text_of r (Command.Find cpu kind name)) }
+    ensures shows { (r : Registry) → Shows session.old r → OnOk result (Shows session.new (after r (Command.Find cpu kind name))) }
+    ensures memory { IfErr result (λ fault. fault ≡ RunFault.Memory) }
+{
+    match session.find(cpu, kind, name) {
+        Ok(answer) => found(alloc, answer),
+        Err(hitch) => hitched(alloc, hitch),
+    }
+}
+
+fn reference(
+    alloc: Global,
+    session: &mut Session,
+    cpu: u8,
+    label: Label,
+) -> Result<String, RunFault>
+    requires known { cpu < session.old.core.settings.cpus }
+    requires label { label.place < 26 }
+    ensures settings { session.new.core.settings ≡ session.old.core.settings }
+    ensures line { (r : Registry) → Shows session.old r → IfOk result (λ text. string_bytes text ≡ text_of r (Command.Reference cpu label)) }
+    ensures shows { (r : Registry) → Shows session.old r → OnOk result (Shows session.new (after r (Command.Reference cpu label))) }
+    ensures memory { IfErr result (λ fault. fault ≡ RunFault.Memory) }
+{
+    match session.reference(cpu, label) {
+        Ok(number) => labelled(alloc, "ref", label, number),
+        Err(hitch) => hitched(alloc, hitch),
+    }
+}
+
+fn copy(
+    alloc: Global,
+    session: &mut Session,
+    cpu: u8,
+    source: Label,
+    target: Label,
+) -> Result<String, RunFault>
+    requires known { cpu < session.old.core.settings.cpus }
+    requires source { source.place < 26 }
+    requires target { target.place < 26 }
+    ensures settings { session.new.core.settings ≡ session.old.core.settings }
+    ensures line { (r : Registry) → Shows session.old r → IfOk result (λ text. string_bytes text ≡ text_of r (Command.Copy cpu source target)) }
+    ensures shows { (r : Registry) → Shows session.old r → OnOk result (Shows session.new (after r (Command.Copy cpu source target))) }
+    ensures memory { IfErr result (λ fault. fault ≡ RunFault.Memory) }
+{
+    match session.copy(cpu, source, target) {
+        Ok(number) => labelled(alloc, "ref", target, number),
+        Err(hitch) => hitched(alloc, hitch),
+    }
+}
+
+fn held(alloc: Global, session: &Session, cpu: u8, label: Label) -> Result<String, RunFault>
+    requires known { cpu < session.now.core.settings.cpus }
+    requires label { label.place < 26 }
+    ensures line { (r : Registry) → Shows session.now r → IfOk result (λ text. string_bytes text ≡ text_of r (Command.Held cpu label)) }
+    ensures memory { IfErr result (λ fault. fault ≡ RunFault.Memory) }
+{
+    match session.held(cpu, label) {
+        Ok(held) => held_or_not(alloc, held),
+        Err(hitch) => hitched(alloc, hitch),
+    }
+}
+
+fn read(alloc: Global, session: &mut Session, cpu: u8, label: Label) -> Result<String, RunFault>
+    requires known { cpu < session.old.core.settings.cpus }
+    requires label { label.place < 26 }
+    ensures settings { session.new.core.settings ≡ session.old.core.settings }
+    ensures line { (r : Registry) → Shows session.old r → IfOk result (λ text. string_bytes text ≡ text_of r (Command.Read cpu label)) }
+    ensures shows { (r : Registry) → Shows session.old r → OnOk result (Shows session.new (after r (Command.Read cpu label))) }
+    ensures memory { IfErr result (λ fault. fault ≡ RunFault.Memory) }
+{
+    match session.read(cpu, label) {
+        Ok(read) => reading(alloc, "read", read),
+        Err(hitch) => hitched(alloc, hitch),
+    }
+}
+
+fn release(alloc: Global, session: &mut Session, cpu: u8, label: Label) -> Result<String, RunFault>
+    requires known { cpu < session.old.core.settings.cpus }
+    requires label { label.place < 26 }
+    ensures settings { session.new.core.settings ≡ session.old.core.settings }
+    ensures line { (r : Registry) → Shows session.old r → IfOk result (λ text. string_bytes text ≡ text_of r (Command.Release cpu label)) }
+    ensures shows { (r : Registry) → Shows session.old r → OnOk result (Shows session.new (after r (Command.Release cpu label))) }
+    ensures memory { IfErr result (λ fault. fault ≡ RunFault.Memory) }
+{
+    match session.release(cpu, label) {
+        Ok(number) => labelled(alloc, "dropped", label, number),
+        Err(hitch) => hitched(alloc, hitch),
+    }
+}
+
+fn count(alloc: Global, session: &mut Session, cpu: u8, label: Label) -> Result<String, RunFault>
+    requires known { cpu < session.old.core.settings.cpus }
+    requires label { label.place < 26 }
+    ensures settings { session.new.core.settings ≡ session.old.core.settings }
+    ensures line { (r : Registry) → Shows session.old r → IfOk result (λ text. string_bytes text ≡ text_of r (Command.Count cpu label)) }
+    ensures shows { (r : Registry) → Shows session.old r → OnOk result (Shows session.new (after r (Command.Count cpu label))) }
+    ensures memory { IfErr result (λ fault. fault ≡ RunFault.Memory) }
+{
+    match session.count(cpu, label) {
+        Ok(number) => labelled(alloc, "count", label, number),
+        Err(hitch) => hitched(alloc, hitch),
+    }
+}
+
+fn peek(alloc: Global, session: &mut Session, label: Label) -> Result<String, RunFault>
+    requires { label.place < 26 }
+    ensures settings { session.new.core.settings ≡ session.old.core.settings }
+    ensures line { (r : Registry) → Shows session.old r → IfOk result (λ text. string_bytes text ≡ text_of r (Command.Peek label)) }
+    ensures shows { (r : Registry) → Shows session.old r → OnOk result (Shows session.new (after r (Command.Peek label))) }
+    ensures memory { IfErr result (λ fault. fault ≡ RunFault.Memory) }
+{
+    match session.peek(label) {
+        Ok(read) => reading(alloc, "peek", read),
+        Err(hitch) => hitched(alloc, hitch),
+    }
+}
+
+fn uncount(alloc: Global, session: &mut Session, cpu: u8, label: Label) -> Result<String, RunFault>
+    requires known { cpu < session.old.core.settings.cpus }
+    requires label { label.place < 26 }
+    ensures settings { session.new.core.settings ≡ session.old.core.settings }
+    ensures line { (r : Registry) → Shows session.old r → IfOk result (λ text. string_bytes text ≡ text_of r (Command.Uncount cpu label)) }
+    ensures shows { (r : Registry) → Shows session.old r → OnOk result (Shows session.new (after r (Command.Uncount cpu label))) }
+    ensures memory { IfErr result (λ fault. fault ≡ RunFault.Memory) }
+{
+    match session.uncount(cpu, label) {
+        Ok(number) => labelled(alloc, "uncounted", label, number),
+        Err(hitch) => hitched(alloc, hitch),
+    }
+}
+
+fn advance(alloc: Global, session: &mut Session, number: u64) -> Result<String, RunFault>
+    ensures settings { session.new.core.settings ≡ session.old.core.settings }
+    ensures line { (r : Registry) → Shows session.old r → IfOk result (λ text. string_bytes text ≡ text_of r (Command.Advance number)) }
+    ensures shows { (r : Registry) → Shows session.old r → OnOk result (Shows session.new (after r (Command.Advance number))) }
+    ensures memory { IfErr result (λ fault. fault ≡ RunFault.Memory) }
+{
+    match session.advance(number) {
+        Ok(answer) => stage(alloc, "", answer),
+        Err(hitch) => hitched(alloc, hitch),
+    }
+}
+
+fn destroy(
+    alloc: Global,
+    session: &mut Session,
+    cpu: u8,
+    number: u64,
+    turns: u32,
+) -> Result<String, RunFault>
+    requires known { cpu < session.old.core.settings.cpus }
+    requires some { 1 ≤ turns }
+    ensures settings { session.new.core.settings ≡ session.old.core.settings }
+    ensures line { (r : Registry) → Shows session.old r → IfOk result (λ text. string_bytes text ≡ text_of r (Command.Destroy cpu number turns)) }
+    ensures shows { (r : Registry) → Shows session.old r → OnOk result (Shows session.new (after r (Command.Destroy cpu number turns))) }
+    ensures memory { IfErr result (λ fault. fault ≡ RunFault.Memory) }
+{
+    match session.destroy(cpu, number, turns) {
+        Ok(slot) => destroyed(alloc, slot),
+        Err(hitch) => hitched(alloc, hitch),
+    }
+}
+
+fn perform(alloc: Global, session: &mut Session, cpu: u8, turns: u32) -> Result<String, RunFault>
+    requires known { cpu < session.old.core.settings.cpus }
+    requires some { 1 ≤ turns }
+    ensures settings { session.new.core.settings ≡ session.old.core.settings }
+    ensures line { (r : Registry) → Shows session.old r → IfOk result (λ text. string_bytes text ≡ text_of r (Command.Perform cpu turns)) }
+    ensures shows { (r : Registry) → Shows session.old r → OnOk result (Shows session.new (after r (Command.Perform cpu turns))) }
+    ensures memory { IfErr result (λ fault. fault ≡ RunFault.Memory) }
+{
+    match session.perform(cpu, turns) {
+        Ok(()) => said(alloc, "performed"),
+        Err(hitch) => hitched(alloc, hitch),
+    }
+}
+
+fn audit(alloc: Global, session: &Session) -> Result<String, RunFault>
+    ensures line { (r : Registry) → Shows session.now r → IfOk result (λ text. string_bytes text ≡ text_of r (Command.Audit)) }
+    ensures memory { IfErr result (λ fault. fault ≡ RunFault.Memory) }
+{
+    match session.audit() {
+        Ok(balances) => audited(alloc, &balances),
+        Err(hitch) => hitched(alloc, hitch),
+    }
+}

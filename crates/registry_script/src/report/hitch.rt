@@ -1,0 +1,27 @@
+//! Why a command has no answer of its own.
+
+ghost use Rattle.std.specs.Prelude.{◌≡◌};
+ghost use Rattle.registry_script.specs.declared.report.hitch.Hitch.TheVariants as hitch;
+
+use passive_core::Refusal;
+
+/// Why a command has no answer of its own.
+#[derive(Clone, Copy, Debug, PartialEq, Eq)]
+pub enum Hitch {
+    /// The label stands for no reference.
+    NoLabel,
+    /// The label to be filled stands for one.
+    LabelTaken,
+    /// The CPU is outside its section.
+    NotInside,
+    /// The call was refused.
+    Refused(Refusal),
+}
+
+impl From<Refusal> for Hitch {
+    ghost from_gives = { λ refusal given. given ≡ hitch.Refused refusal };
+
+    fn from(refusal: Refusal) -> Hitch {
+        Hitch::Refused(refusal)
+    }
+}

@@ -1,0 +1,67 @@
+//! The engine over the core: each command in order, and its line.
+
+ghost use Rattle.std.specs.Prelude.{◌≡◌, IfErr, IfOk, IsTrue, OnErr, OnOk};
+ghost use Rattle.std.specs.Io.KnownBytes.{Appends};
+ghost use Rattle.std.specs.List.{list_all};
+ghost use Rattle.passive_core.specs.State.{opening};
+ghost use Rattle.registry_script.specs.Program.{suits};
+ghost use Rattle.registry_script.specs.Registry.{Registry};
+ghost use Rattle.registry_script.specs.Report.{report, report_from};
+ghost use Rattle.registry_script.specs.Session.{unlabelled};
+ghost use Rattle.registry_script.specs.Shows.{Shows};
+ghost use Rattle.registry_script.specs.Written.{AppendsPrefix, IsWhileRunning};
+
+mod carry;
+mod hitch;
+mod lines;
+mod session;
+mod write;
+
+use crate::script::{Command, RunFault, Script};
+use carry::carry_out;
+use passive_core::{Core, Settings};
+use session::Session;
+use std::alloc::Global;
+use std::io::Write;
+use write::write_text;
+
+/// Runs a script over the core, and writes its report: the text of each command, in order.
+pub fn run_core<W: Write>(alloc: Global, script: &Script, writer: &mut W) -> Result<(), RunFault>
+    ensures ok { OnOk result (Appends (W.contents writer.old) (W.contents writer.new) (report script.now)) }
+    ensures err { OnErr result (AppendsPrefix (W.contents writer.old) (W.contents writer.new) (report script.now)) }
+    ensures fault { IfErr result IsWhileRunning }
+{
+    let mut session = session_for(alloc, script.settings())?;
+    run_commands(alloc, &mut session, script.commands(), writer)?;
+    writer.flush().map_err(|_| RunFault::Write)
+}
+
+/// A session over a new core with the settings of a script, which are fit.
+fn session_for(alloc: Global, settings: Settings) -> Result<Session, RunFault>
+    ensures opening { IfOk result (λ session. session ≡ unlabelled (opening settings)) }
+    ensures fault { IfErr result (λ fault. fault ≡ RunFault.Memory) }
+{
+    match Core::new(alloc, settings) {
+        Ok(core) => Ok(Session::new(core)),
+        Err(_) => Err(RunFault::Memory),
+    }
+}
+
+/// Carries the commands out, and writes the text of each.
+fn run_commands<W: Write>(
+    alloc: Global,
+    session: &mut Session,
+    commands: &[Command],
+    writer: &mut W,
+) -> Result<(), RunFault>
+    requires { IsTrue (list_all (suits session.old.core.settings) commands.now) }
+    ensures ok { (r : Registry) → Shows session.old r → OnOk result (Appends (W.contents writer.old) (W.contents writer.new) (report_from r commands.now)) }
+    ensures err { (r : Registry) → Shows session.old r → OnErr result (AppendsPrefix (W.contents writer.old) (W.contents writer.new) (report_from r commands.now)) }
+    ensures fault { IfErr result IsWhileRunning }
+{
+    for command in commands {
+        let text = carry_out(alloc, session, *command)?;
+        write_text(writer, text.as_bytes())?;
+    }
+    Ok(())
+}

@@ -1,0 +1,14 @@
+//! Scripts: their words, their grammar, and what a script is once it has been read.
+
+mod command;
+mod fault;
+mod label;
+mod parse;
+mod place;
+mod script;
+mod words;
+
+pub use command::Command;
+pub use fault::{Cause, ParseFault, RunFault, ScriptFault};
+pub use label::Label;
+pub use script::{Script, parse_script};

@@ -1,0 +1,61 @@
+//! The row all-limits, cut after each byte: the report of what is left, or its first fault and nothing written.
+
+use super::cuts::{LINES, Line, cut_script, end_of_cut};
+use super::outcome;
+use std::alloc::{AllocError, Global};
+use std::test::Fail;
+
+/// The report of the lines before and of so many bytes of a line, where that is a script.
+fn report_of_cut(
+    alloc: Global,
+    before: &[u8],
+    row: Line,
+    cut: usize,
+) -> Result<Vec<u8>, AllocError> {
+    let (text, _, _, short, said) = row;
+    let mut report = Vec::new(alloc);
+    report.extend_from_slice(before)?;
+    if cut > 0 {
+        let line = if cut == text.len() { said } else { short };
+        report.extend_from_slice(line.as_bytes())?;
+        report.push(b'\n')?;
+    }
+    Ok(report)
+}
+
+/// The first cut in a line after which the run ends otherwise or writes something else.
+fn first_missed(
+    alloc: Global,
+    script: &[u8],
+    report: &[u8],
+    row: Line,
+    number: u32,
+) -> Result<Option<usize>, AllocError> {
+    for cut in 0..=row.0.len() {
+        let (written, result) = outcome(alloc, &cut_script(alloc, script, row, cut)?);
+        let mut expected = report_of_cut(alloc, report, row, cut)?;
+        let end = end_of_cut(row, number, cut);
+        if end.is_err() {
+            expected.clear();
+        }
+        if result != end || written != expected {
+            return Ok(Some(cut));
+        }
+    }
+    Ok(None)
+}
+
+#[test]
+fn reports_of_all_limits_cut_after_each_byte(rt: HostRuntime) -> Result<(), Fail> {
+    let mut script = Vec::new(rt.alloc());
+    let mut report = Vec::new(rt.alloc());
+    for (row, number) in LINES.into_iter().zip(1..) {
+        let missed = first_missed(rt.alloc(), &script, &report, row, number)?;
+        assert_eq!(rt; missed, None, "in line {number}");
+        script.extend_from_slice(row.0.as_bytes())?;
+        script.push(b'\n')?;
+        report.extend_from_slice(row.4.as_bytes())?;
+        report.push(b'\n')?;
+    }
+    Ok(())
+}
