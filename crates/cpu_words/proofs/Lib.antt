@@ -1,0 +1,6 @@
+pub mod Placing
+pub mod Showing
+pub mod Passes
+pub mod CpuSteps
+pub mod Seeing
+pub mod Sections

@@ -1,0 +1,61 @@
+-- The rule of the table, the running picture: its words and the views of all seats show a state of the core.
+use Rattle.std.specs.Prelude.{◌≡◌, ℕ, ◌<◌, ◌≤◌, List, length, sum_by, slice_index, Some, None}
+use mathlib.Core.Option.{some}
+use lib.ListN.{get_elem?}
+use Rattle.atomic_table.specs.Table.{State as Table}
+use Rattle.passive_core.specs.declared.entry.Entry.{Entry}
+use Rattle.passive_core.specs.declared.settings.Settings.{Settings}
+use Rattle.passive_core.specs.State.{State, bias, section_at, depth_at, seen_at, slot_at, passive_at, count_at}
+use Rattle.passive_core.specs.Invariant.{IsIn, one_if, standing_of, Holds}
+use Rattle.cpu_words.specs.Spots.{Spot, index, IsSpot, word_at}
+use Rattle.cpu_words.specs.Views.{Shown, is_to}
+use Rattle.cpu_words.specs.declared.view.View.{View}
+use Rattle.cpu_words.specs.declared.view.View.TheVariants.{Keeper, Cpu, Reference, Note, Spent}
+
+-- the table has the words of the core
+pub record Agrees (words : List ℕ) (g : State) : Type 0 where
+  pub size : length words ≡ 944
+  pub at : (p : Spot) → IsSpot g.settings p → slice_index words (index p) ≡ word_at g p
+
+-- the keeper has the first seat, and each CPU one
+abbrev pub Sits : (ℕ → ℕ) → ℕ → View → Type 0
+Sits seat i (Keeper k) = i ≡ 0
+Sits seat i (Cpu x) = i ≡ seat x.id
+Sits seat i (Reference v) = Unit {0}
+Sits seat i (Note h) = Unit {0}
+Sits seat i Spent = Unit {0}
+
+-- 1 for the seat of a local reference to n
+abbrev pub reference_to : ℕ → View → ℕ
+reference_to n (Keeper k) = 0
+reference_to n (Cpu x) = 0
+reference_to n (Reference v) = one_if (is_to n v.entry)
+reference_to n (Note h) = 0
+reference_to n Spent = 0
+
+-- each view is shown, and the seats of references to n are as many as the core's live references to n
+pub record Shows (g : State) (seat : ℕ → ℕ) (views : List View) : Type 0 where
+  pub fits : (i : ℕ) (v : View) → get_elem? views i ≡ some v → Sits seat i v × Shown g v
+  pub references : (n : ℕ) → sum_by (reference_to n) views ≡ sum_by (standing_of n) g.locals
+
+-- a CPU that has no seat yet has made no step
+pub record IsFresh (g : State) (c : ℕ) : Type 0 where
+  pub section : section_at g c ≡ 0
+  pub depth : depth_at g c ≡ 0
+  pub seen : seen_at g c ≡ 0
+  pub passive : (t : ℕ) → passive_at g.passive c t ≡ 0
+  pub nets : (t : ℕ) (e : Entry) → IsIn e (slot_at g.slots t) → count_at g.nets c t ≡ bias
+
+-- a state of the core that a table can show
+pub record Good (g : State) : Type 0 where
+  pub holds : Holds g
+  pub fresh : (c : ℕ) → g.seated ≤ c → c < g.settings.cpus → IsFresh g c
+
+-- there is a state of the core that the table shows
+pub record Ruled (z : Settings) (s : Table ℕ View) : Type 0 where
+  pub g : State
+  pub seat : ℕ → ℕ
+  pub settings : g.settings ≡ z
+  pub good : Good g
+  pub words : Agrees s.words g
+  pub shows : Shows g seat s.views

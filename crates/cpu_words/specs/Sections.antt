@@ -1,0 +1,20 @@
+-- Read sections by a CPU's seat: where it may make the step, and what changes in its view.
+use Rattle.std.specs.Prelude.{◌≡◌, ℕ, ◌+◌, ◌*◌, ◌<◌, List, length, Option, Some, None}
+use mathlib.Core.List.{IsPrefix}
+use Rattle.passive_core.specs.declared.entry.Change.{Change}
+use Rattle.cpu_words.specs.declared.view.InHand.TheVariants.{Empty as NoEntry}
+use Rattle.cpu_words.specs.declared.view.CpuView.{CpuView}
+
+-- no search is under way, and the hand is empty
+pub record IsIdle (x : CpuView) : Type 0 where
+  pub search : x.search ≡ None
+  pub hand : x.hand ≡ NoEntry
+
+pub record MayEnter (x : CpuView) : Type 0 where
+  pub idle : IsIdle x
+  pub outside : x.begin ≡ None
+  pub room : x.section < 2 * x.settings.section_limit
+
+-- the pass is a longer prefix of the history, and the section begins at its end
+abbrev pub HasEntered : CpuView → CpuView → Type 0
+HasEntered x y = IsPrefix x.pass y.pass × (y ≡ record x { section = x.section + 1; begin = Some (length y.pass); pass = y.pass })

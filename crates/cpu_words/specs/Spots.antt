@@ -1,0 +1,59 @@
+-- Where the words lie. The strides are constants, for at most 8 CPUs and 32 slots: no place depends on the settings.
+use Rattle.std.specs.Prelude.{◌≡◌, ℕ, ◌+◌, ◌*◌, ◌<◌, ◌≤◌, ◌⊎◌, List, length, slice_index_or, Option, Some, None}
+use Rattle.passive_core.specs.declared.settings.Settings.{Settings}
+use Rattle.passive_core.specs.State.{State, section_at, row_at, passive_at, count_at, total_at}
+use Rattle.passive_core.specs.Events.{word}
+
+-- a word of the table: a CPU's section, its passive and count words for each slot, the head, and a slot's link, record words and total
+pub data Spot : Type 0 where
+  section_of : ℕ → Spot
+  passive_of : ℕ → ℕ → Spot
+  count_of : ℕ → ℕ → Spot
+  head_word : Spot
+  next_of : ℕ → Spot
+  record_of : ℕ → ℕ → Spot
+  total_of : ℕ → Spot
+
+-- A CPU's words lie side by side, 80 words from the next CPU's; the shared ones begin at 648, a slot's link and record words in 8, the totals behind.
+abbrev pub index : Spot → ℕ
+index (section_of c) = 80 * c
+index (passive_of c t) = 80 * c + 1 + t
+index (count_of c t) = 80 * c + 33 + t
+index head_word = 648
+index (next_of t) = 656 + 8 * t
+index (record_of t k) = 657 + 8 * t + k
+index (total_of t) = 912 + t
+
+-- the settings have such a word
+abbrev pub IsSpot : Settings → Spot → Type 0
+IsSpot z (section_of c) = c < z.cpus
+IsSpot z (passive_of c t) = (c < z.cpus) × (t < z.slots)
+IsSpot z (count_of c t) = (c < z.cpus) × (t < z.slots)
+IsSpot z head_word = Unit {0}
+IsSpot z (next_of t) = t < z.slots
+IsSpot z (record_of t k) = (t < z.slots) × (k < 5)
+IsSpot z (total_of t) = t < z.slots
+
+-- the word that the core has there
+abbrev pub word_at : State → Spot → ℕ
+word_at g (section_of c) = section_at g c
+word_at g (passive_of c t) = passive_at g.passive c t
+word_at g (count_of c t) = count_at g.counts c t
+word_at g head_word = g.head
+word_at g (next_of t) = slice_index_or g.next t 0
+word_at g (record_of t k) = word (row_at g.rows t) k
+word_at g (total_of t) = total_at g.totals t
+
+-- the CPU whose own word it is; the shared words are none's
+abbrev pub owner : Spot → Option ℕ
+owner (section_of c) = Some c
+owner (passive_of c t) = Some c
+owner (count_of c t) = Some c
+owner head_word = None
+owner (next_of t) = None
+owner (record_of t k) = None
+owner (total_of t) = None
+
+-- nine words or more from one to the other: they share no line of eight words, wherever the block begins
+abbrev pub AreApart : ℕ → ℕ → Type 0
+AreApart i j = (i + 9 ≤ j) ⊎ (j + 9 ≤ i)

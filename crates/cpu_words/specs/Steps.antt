@@ -1,0 +1,68 @@
+-- What a step promises: by the seat that steps, on that seat's view alone, just one event of the core.
+use Rattle.std.specs.Prelude.{◌≡◌, ℕ, zero, suc, ◌+◌, ◌<◌, ◌^◌, List, [], length, slice_index, Option, Some, None}
+use mathlib.Core.Option.{some}
+use mathlib.Core.List.{IsPrefix}
+use lib.ListN.{get_elem?}
+use Rattle.atomic_table.specs.Table.{State as Table, Step, Me, keeps, stepped}
+use Rattle.passive_core.specs.declared.entry.Change.{Change}
+use Rattle.passive_core.specs.declared.settings.Settings.{Settings}
+use Rattle.passive_core.specs.declared.event.Event.{Event}
+use Rattle.passive_core.specs.declared.event.Reply.{Reply}
+use Rattle.passive_core.specs.State.{State}
+use Rattle.passive_core.specs.Events.{step}
+use Rattle.cpu_words.specs.declared.view.InHand.TheVariants.{Empty as NoEntry}
+use Rattle.cpu_words.specs.declared.view.CpuView.{CpuView}
+use Rattle.cpu_words.specs.declared.view.KeeperView.{KeeperView}
+use Rattle.cpu_words.specs.declared.view.ReferenceView.{ReferenceView}
+use Rattle.cpu_words.specs.declared.view.View.{View}
+use Rattle.cpu_words.specs.declared.view.View.TheVariants.{Keeper, Cpu, Reference, Note, Spent}
+use Rattle.cpu_words.specs.Views.{Shown, cpu_of, keeper_of, reference_of}
+use Rattle.cpu_words.specs.Rule.{Good, Ruled}
+
+-- the two views are of one seat
+abbrev pub OneSeat : View → View → Type 0
+OneSeat (Keeper k) (Keeper l) = (l.settings ≡ k.settings) × (l.heard ≡ k.heard)
+OneSeat (Cpu x) (Cpu y) = (y.settings ≡ x.settings) × (y.id ≡ x.id) × (y.heard ≡ x.heard)
+OneSeat (Reference v) (Reference w) = w ≡ v
+OneSeat v w = ⊥
+
+-- just this event of the core was made, with this reply, by the seat that had the view v and has the view w
+pub record Makes (e : Event) (r : Reply) (v w : View) : Type 0 where
+  pub g : State
+  pub after : State
+  pub good : Good g
+  pub good_after : Good after
+  pub before : Shown g v
+  pub made : step g e ≡ Some (record { state = after; reply = r })
+  pub shown : Shown after w
+  pub same : OneSeat v w
+
+-- What atomic_table's steps are told: the seat stays of its kind, takes no slots, and the tale holds
+
+abbrev pub told_by_cpu : (CpuView → ℕ → CpuView → Type 0) → Step ℕ → Me ℕ View → ℕ → Me ℕ View → Type 0
+told_by_cpu tells st m n l = (l ≡ (Cpu (cpu_of l.0), m.1)) × tells (cpu_of m.0) n (cpu_of l.0)
+
+abbrev pub told_by_keeper : (KeeperView → ℕ → KeeperView → Type 0) → Step ℕ → Me ℕ View → ℕ → Me ℕ View → Type 0
+told_by_keeper tells st m n l = (l ≡ (Keeper (keeper_of l.0), m.1)) × tells (keeper_of m.0) n (keeper_of l.0)
+
+abbrev pub told_by_reference : (ReferenceView → ℕ → Type 0) → Step ℕ → Me ℕ View → ℕ → Me ℕ View → Type 0
+told_by_reference tells st m n l = (l ≡ m) × tells (reference_of m.0) n
+
+-- Whatever the table is when the word becomes f of what it was, the seat has a view after, with which the rule holds, and the tale of the word found.
+-- For a load or an exchange n is the word found, for a store the word stored.
+
+abbrev pub Moves : Settings → View → ℕ → (ℕ → ℕ) → (ℕ → View → Type 0) → Type 0
+Moves z v i f tells = (s : Table ℕ View) → Ruled z s → (id : ℕ) → get_elem? s.views id ≡ some v → slice_index s.words i < 18446744073709551616
+    → (w : View) × Ruled z (stepped s i (f (slice_index s.words i)) id [] w keeps) × tells (slice_index s.words i) w
+
+abbrev pub CpuMay : Settings → CpuView → ℕ → (ℕ → ℕ) → (CpuView → ℕ → CpuView → Type 0) → Type 0
+CpuMay z x i f tells = Moves z (Cpu x) i f (λ n w. (w ≡ Cpu (cpu_of w)) × tells x n (cpu_of w))
+
+abbrev pub KeeperMay : Settings → KeeperView → ℕ → (ℕ → ℕ) → (KeeperView → ℕ → KeeperView → Type 0) → Type 0
+KeeperMay z k i f tells = Moves z (Keeper k) i f (λ n w. (w ≡ Keeper (keeper_of w)) × tells k n (keeper_of w))
+
+abbrev pub KeeperStores : Settings → KeeperView → ℕ → ℕ → (KeeperView → ℕ → KeeperView → Type 0) → Type 0
+KeeperStores z k i n tells = Moves z (Keeper k) i (λ _. n) (λ _ w. (w ≡ Keeper (keeper_of w)) × tells k n (keeper_of w))
+
+abbrev pub ReferenceMay : Settings → ReferenceView → ℕ → (ReferenceView → ℕ → Type 0) → Type 0
+ReferenceMay z v i tells = Moves z (Reference v) i (λ n. n) (λ n w. (w ≡ Reference v) × tells v n)

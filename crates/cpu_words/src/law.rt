@@ -1,0 +1,117 @@
+//! The table of words, its one rule, and the type that names a table.
+
+ghost use Rattle.std.specs.Prelude.{◌≡◌};
+
+use crate::view::{CpuView, KeeperView, View};
+use atomic_table::{Play, Table, TableRule};
+use passive_core::Settings;
+use std::alloc::Global;
+use std::marker::{Brand, PhantomData};
+
+/// The rule: the words and the views of all seats show a state of the core, the running picture.
+pub struct Picture;
+
+impl TableRule<u8, View, Settings> for Picture {
+    ghost use Rattle.cpu_words.specs.Rule.{Ruled};
+    ghost use Rattle.cpu_words.specs.Views.{first_view};
+
+    ghost holds = { Ruled };
+
+    ghost first = { first_view };
+}
+
+/// The words of a registry, shared by all its seats.
+#[derive(Drop)]
+pub struct Words {
+    pub(crate) table: Table<u8, View, Settings, Picture, Global>,
+    pub(crate) settings: Settings,
+    pub(crate) ghost named: { settings ≡ table.shared.key },
+    pub(crate) ghost sized: { table.shared.table_id.words ≡ 944 },
+}
+
+/// Names one table and its settings, for contracts: what a lock or a message hands on is known by its type alone.
+pub trait Domain {
+    ghost use Rattle.atomic_table.specs.Seated.{TableId};
+    ghost use Rattle.passive_core.specs.declared.settings.Settings.{Settings};
+
+    ghost table: { TableId };
+
+    ghost settings: { Settings };
+}
+
+impl Domain for Brand {
+    ghost use Rattle.cpu_words.specs.Views.{no_table, no_settings};
+
+    ghost table = { no_table };
+
+    ghost settings = { no_settings };
+}
+
+/// What a step of a CPU's seat tells of the view before, the word found and the view after. Each call of an inner step picks its own.
+pub(crate) trait CpuTale {
+    ghost use Rattle.std.specs.Prelude.{ℕ};
+    ghost use Rattle.cpu_words.specs.declared.view.CpuView.{CpuView};
+
+    ghost tells: { CpuView → ℕ → CpuView → Type 0 };
+}
+
+impl CpuTale for Brand {
+    ghost tells = { λ x n y. Unit {0} };
+}
+
+/// The same for the keeper's seat.
+pub(crate) trait KeeperTale {
+    ghost use Rattle.std.specs.Prelude.{ℕ};
+    ghost use Rattle.cpu_words.specs.declared.view.KeeperView.{KeeperView};
+
+    ghost tells: { KeeperView → ℕ → KeeperView → Type 0 };
+}
+
+impl KeeperTale for Brand {
+    ghost tells = { λ k n l. Unit {0} };
+}
+
+/// The same for the seat of a local reference, whose view no step changes.
+pub(crate) trait ReferenceTale {
+    ghost use Rattle.std.specs.Prelude.{ℕ};
+    ghost use Rattle.cpu_words.specs.declared.view.ReferenceView.{ReferenceView};
+
+    ghost tells: { ReferenceView → ℕ → Type 0 };
+}
+
+impl ReferenceTale for Brand {
+    ghost tells = { λ v n. Unit {0} };
+}
+
+/// A step of a CPU's seat.
+pub(crate) struct CpuPlay<T: CpuTale> {
+    marker: PhantomData<T>,
+}
+
+impl<T: CpuTale> Play<u8, View> for CpuPlay<T> {
+    ghost use Rattle.cpu_words.specs.Steps.{told_by_cpu};
+
+    ghost then = { told_by_cpu T.tells };
+}
+
+/// A step of the keeper's seat.
+pub(crate) struct KeeperPlay<T: KeeperTale> {
+    marker: PhantomData<T>,
+}
+
+impl<T: KeeperTale> Play<u8, View> for KeeperPlay<T> {
+    ghost use Rattle.cpu_words.specs.Steps.{told_by_keeper};
+
+    ghost then = { told_by_keeper T.tells };
+}
+
+/// A step of a local reference's seat.
+pub(crate) struct ReferencePlay<T: ReferenceTale> {
+    marker: PhantomData<T>,
+}
+
+impl<T: ReferenceTale> Play<u8, View> for ReferencePlay<T> {
+    ghost use Rattle.cpu_words.specs.Steps.{told_by_reference};
+
+    ghost then = { told_by_reference T.tells };
+}

@@ -1,0 +1,13 @@
+//! The words of a registry as a table of atomic words, under one rule: between any two steps the words and the views of all seats
+//! show a state of the core.
+#![tactic(auto)]
+
+mod law;
+mod seat;
+mod step;
+pub mod steps;
+mod view;
+
+pub use law::{Domain, Picture, Words};
+pub use seat::{CpuSeat, KeeperSeat, NoteSeat, ReferenceSeat};
+pub use view::{CpuView, InHand, KeeperView, Looked, ReferenceView, View};

@@ -1,0 +1,5 @@
+//! The atomic operations by each kind of seat. Each is told by its caller what it tells: the event that it is.
+
+pub(crate) mod by_cpu;
+pub(crate) mod by_keeper;
+pub(crate) mod by_reference;

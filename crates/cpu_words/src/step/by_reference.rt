@@ -1,0 +1,28 @@
+//! Steps of the seat of a local reference.
+
+ghost use Rattle.std.specs.Prelude.{◌≡◌, ◌<◌};
+ghost use Rattle.cpu_words.specs.Steps.{ReferenceMay};
+
+use crate::law::{ReferencePlay, ReferenceTale, Words};
+use crate::seat::ReferenceSeat;
+use passive_core::Event;
+
+/// Loads a word.
+pub(crate) fn load<T: ReferenceTale>(
+    words: &Words,
+    seat: &mut ReferenceSeat,
+    word: usize,
+    event: Event,
+) -> u64
+    requires table { seat.old.table ≡ words.now.table.shared.table_id }
+    requires place { word < 944 }
+    requires may { ReferenceMay words.now.settings seat.old.view word T.tells }
+    ensures same { seat.new ≡ seat.old }
+    ensures told { T.tells seat.old.view result }
+{
+    let _event = event;
+    words
+        .table
+        .shared
+        .load::<ReferencePlay<T>>(&mut seat.token, word)
+}

@@ -1,0 +1,6 @@
+//! One function for each kind of step, named after its event. Each makes just that event of the core, with one seat, and takes no
+//! memory.
+
+pub mod sections;
+
+pub use sections::enter;

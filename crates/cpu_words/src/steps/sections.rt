@@ -1,0 +1,27 @@
+//! Read sections (pserialize(9)): Enter and Exit, each one addition to the CPU's section word.
+
+ghost use Rattle.std.specs.Prelude.{◌≡◌, ◌<◌, ◌*◌, None, Some};
+ghost use Rattle.passive_core.specs.declared.event.Event.TheVariants.{Enter};
+ghost use Rattle.passive_core.specs.declared.event.Reply.TheVariants.{Done};
+ghost use Rattle.cpu_words.specs.declared.view.View.TheVariants.{Cpu};
+ghost use Rattle.cpu_words.specs.Steps.{Makes};
+ghost use Rattle.cpu_words.specs.Sections.{MayEnter, HasEntered};
+
+use crate::law::Words;
+use crate::seat::CpuSeat;
+use crate::step::by_cpu;
+use passive_core::Event;
+use std::marker::Brand;
+
+/// CPU `cpu` begins a section: its section word becomes odd, and its pass the whole history.
+/// Condition: the seat is that CPU's, idle and outside, and its section word is below twice the section limit.
+pub fn enter(words: &Words, seat: &mut CpuSeat, cpu: u8)
+    requires table { seat.old.table ≡ words.now.table.shared.table_id }
+    requires cpu { (cpu < 8) × (seat.old.view.id ≡ cpu) }
+    requires may { MayEnter seat.old.view }
+    ensures table { seat.new.table ≡ seat.old.table }
+    ensures event { Makes (Enter cpu) Done (Cpu seat.old.view) (Cpu seat.new.view) }
+    ensures change { HasEntered seat.old.view seat.new.view }
+{
+    by_cpu::add::<Brand>(words, seat, 80 * cpu as usize, 1, Event::Enter(cpu));
+}
