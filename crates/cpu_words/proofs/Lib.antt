@@ -4,3 +4,7 @@ pub mod Passes
 pub mod CpuSteps
 pub mod Seeing
 pub mod Sections
+pub mod KeeperSteps
+pub mod KeeperSees
+pub mod Marked
+pub mod Grace

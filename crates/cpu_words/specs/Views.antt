@@ -157,13 +157,14 @@ pub record CpuShown (g : State) (x : CpuView) : Type 0 where
 abbrev pub collected_net : Mark × ℕ → ℕ
 collected_net p = if p.0.collected then p.1 else 0
 
-abbrev pub has_collected : Mark × ℕ → Bool
-has_collected p = p.0.collected
+-- 1 where its word was collected
+abbrev pub collected_one : Mark × ℕ → ℕ
+collected_one p = if p.0.collected then 1 else 0
 
 -- the total of a slot is the net counts collected into it, less the references given up under the interlock
 abbrev pub GivesUp : State → List ℕ → ℕ → ℕ → Type 0
 GivesUp g given_up t n = let row = zip (slice_index_or g.marks t []) (slice_index_or g.nets t []) in
-    total_at g.totals t + adding_at t g.due + number_at given_up n + bias * count_by has_collected row ≡ bias * (1 + is_adding_at t g.due) + sum_by collected_net row
+    total_at g.totals t + adding_at t g.due + number_at given_up n + bias * sum_by collected_one row ≡ bias * (1 + is_adding_at t g.due) + sum_by collected_net row
 
 pub record KeeperShown (g : State) (k : KeeperView) : Type 0 where
   pub is : k ≡ keeper_view g (keeper_own k)

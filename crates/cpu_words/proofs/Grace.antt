@@ -1,0 +1,52 @@
+-- Looks and snapshots on the words.
+use Rattle.std.proofs.Common.{◌≡◌, ℕ, suc, ◌+◌, ◌*◌, ◌≤◌, ◌<◌, List, [], ◌∷◌, length, take, get_or, set, Option, Some, None, Bool, true, ◌&&◌, nat_lt, refl, sym, ap, ◌∙◌, subst, arith}
+use Rattle.std.proofs.lemmas.Bool.{lt-ltb}
+use Rattle.std.proofs.lemmas.List.{set-get_or}
+use Rattle.std.specs.Prelude.{slice_index}
+use mathlib.Core.Option.{some}
+use lib.ListN.{get_elem?}
+use Rattle.atomic_table.specs.Table.{State as Table, keeps, stepped}
+use Rattle.passive_core.specs.declared.entry.Entry.{Entry}
+use Rattle.passive_core.specs.declared.settings.Settings.{Settings}
+use Rattle.passive_core.specs.declared.state.Slot.{Slot}
+use Rattle.passive_core.specs.declared.state.Slot.TheVariants.{Retired}
+use Rattle.passive_core.specs.declared.state.Mark.{Mark}
+use Rattle.passive_core.specs.declared.state.Due.TheVariants.{Rest}
+use Rattle.passive_core.specs.declared.event.Event.TheVariants.{Look}
+use Rattle.passive_core.specs.declared.event.Reply.TheVariants.{Word}
+use Rattle.passive_core.specs.State.{State, no_mark, with_cell, section_at, slot_at, mark_at}
+use Rattle.passive_core.specs.Events.{step, guard, taken, may_examine, looked}
+use Rattle.passive_core.proofs.Fit.{Ranges, ranges}
+use Rattle.cpu_words.specs.declared.view.KeeperView.{KeeperView}
+use Rattle.cpu_words.specs.declared.view.View.{View}
+use Rattle.cpu_words.specs.declared.view.View.TheVariants.{Keeper}
+use Rattle.cpu_words.specs.Spots.{Spot, section_of, word_at}
+use Rattle.cpu_words.specs.Views.{KeeperOwn, keeper_own, keeper_view, KeeperShown}
+use Rattle.cpu_words.specs.Rule.{Agrees, Good, Ruled}
+use Rattle.cpu_words.specs.Steps.{Makes, KeeperMay}
+use Rattle.cpu_words.specs.Grace.{MayGlance, MayLook, HasLooked, LookTold, having_looked}
+use Rattle.cpu_words.proofs.Placing.{agrees_same}
+use Rattle.cpu_words.proofs.KeeperSteps.{KeeperLists, keeper_lists, with_keeper, leaves_all, keeper_makes}
+use Rattle.cpu_words.proofs.KeeperSees.{SeenByKeeper, seen_by_keeper, loads}
+use Rattle.cpu_words.proofs.Marked.{same_collected, shown_marked}
+
+pub look_may : (z : Settings) (k : KeeperView) (t c : ℕ) → MayLook k t c → KeeperMay z k (80 * c) (λ n. n) (λ v n l. Makes (Look (Some t) c) (Word n) (Keeper v) (Keeper l) × LookTold (Look (Some t) c) v n l)
+look_may z k t c may s r i at fits =
+    let g = r.g in
+    let had : KeeperShown g k = (r.shows.fits i (Keeper k) at).1 in
+    let seen = seen_by_keeper g k r.good had in
+    let lt : c < g.settings.cpus = omega (arith, may.glance.cpu, ap (λ (a : Settings). a.cpus) seen.settings) in
+    let w = slice_index s.words (80 * c) in
+    let found : w ≡ section_at g c = r.words.at (section_of c) lt in
+    let e = may.retired.0 in
+    let retired : slot_at g.slots t ≡ Retired e = sym (ap (λ (x : List Slot). slot_at x t) seen.slots) ∙ may.retired.1 in
+    let rest : g.due ≡ Rest = sym seen.due ∙ may.glance.rest in
+    let m : Mark = looked (mark_at g.marks t c) (section_at g c) in
+    let l : KeeperLists = record (keeper_lists g) { marks = with_cell g.marks t c m } in
+    let own : KeeperOwn = keeper_own (having_looked k (Look (Some t) c) (Word w)) in
+    let made : step g (Look (Some t) c) ≡ Some (record { state = with_keeper g l; reply = Word w }) = rw (rest, retired, lt-ltb c g.settings.cpus lt, found) refl in
+    let shown : KeeperShown (with_keeper g l) (keeper_view (with_keeper g l) own) = shown_marked g k t c m g.due own r.good had lt refl (λ u. refl) (λ u. refl) refl refl refl in
+    let done = keeper_makes z s r i k (80 * c) w l (Look (Some t) c) (Word w) own at made (leaves_all g l refl refl refl refl (same_collected g t c m refl)) (λ n. refl) refl shown (loads s.words g (with_keeper g l) (80 * c) r.words refl (λ q _. refl)) in
+    let change : keeper_view (with_keeper g l) own ≡ record (having_looked k (Look (Some t) c) (Word w)) { marks = with_cell k.marks t c (looked (mark_at k.marks t c) w) } =
+        ap (λ n. record (keeper_view g own) { marks = with_cell g.marks t c (looked (mark_at g.marks t c) n) }) (sym found) ∙ ap (λ (v : KeeperView). record (having_looked v (Look (Some t) c) (Word w)) { marks = with_cell v.marks t c (looked (mark_at v.marks t c) w) }) (sym had.is) in
+    (Keeper (keeper_view (with_keeper g l) own), done.0, (refl, (done.1, change)))

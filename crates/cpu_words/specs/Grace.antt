@@ -1,0 +1,36 @@
+-- Grace by the keeper's seat: snapshots, looks, and what they leave in its view.
+use Rattle.std.specs.Prelude.{◌≡◌, ℕ, suc, ◌<◌, List, Option, Some, None}
+use Rattle.passive_core.specs.declared.entry.Entry.{Entry}
+use Rattle.passive_core.specs.declared.event.Event.{Event}
+use Rattle.passive_core.specs.declared.event.Event.TheVariants.{Look}
+use Rattle.passive_core.specs.declared.event.Reply.TheVariants.{Word}
+use Rattle.passive_core.specs.declared.event.Reply.{Reply}
+use Rattle.passive_core.specs.declared.state.Slot.TheVariants.{Retired}
+use Rattle.passive_core.specs.declared.state.Due.TheVariants.{Rest}
+use Rattle.passive_core.specs.State.{slot_at, mark_at, with_cell}
+use Rattle.passive_core.specs.Events.{looked}
+use Rattle.cpu_words.specs.declared.view.Looked.{Looked}
+use Rattle.cpu_words.specs.declared.view.KeeperView.{KeeperView}
+
+-- the keeper is at rest, and the CPU is one of the table's
+pub record MayGlance (k : KeeperView) (c : ℕ) : Type 0 where
+  pub rest : k.due ≡ Rest
+  pub cpu : c < k.settings.cpus
+
+-- .. and the slot's entry is retired
+pub record MayLook (k : KeeperView) (t c : ℕ) : Type 0 where
+  pub glance : MayGlance k c
+  pub retired : (e : Entry) × (slot_at k.slots t ≡ Retired e)
+
+-- one more look, and its answer
+abbrev pub having_looked : KeeperView → Event → Reply → KeeperView
+having_looked k e r = record k { looks = suc k.looks; last_look = Some (record { event = e; reply = r }) }
+
+-- the CPU's mark says what its section word, which was w, tells
+abbrev pub HasLooked : KeeperView → Event → Reply → ℕ → ℕ → ℕ → KeeperView → Type 0
+HasLooked k e r t c w l = l ≡ record (having_looked k e r) { marks = with_cell k.marks t c (looked (mark_at k.marks t c) w) }
+
+-- what a look tells, by its event
+abbrev pub LookTold : Event → KeeperView → ℕ → KeeperView → Type 0
+LookTold (Look (Some t) c) k w l = HasLooked k (Look (Some t) c) (Word w) t c w l
+LookTold e k w l = ⊥
