@@ -88,7 +88,8 @@ pub shown_marked : (g : State) (k : KeeperView) (t c : ℕ) (m : Mark) (due : Du
 shown_marked g k t c m due own good had lt same adding is_adding counts given_up heard = record {
   is = refl;
   counts = λ d u vacant. had.counts d u vacant ∙ ap (λ (x : List (List ℕ)). count_at x d u) (sym counts);
-  gives_up = λ u e here. gives_up_marked g t c m due own.given_up good lt same adding is_adding u e here (subst (λ (x : List ℕ). GivesUp g x u e.number) (sym given_up) (had.gives_up u e here));
+  live_total = λ u e live. ap (λ (x : List ℕ). total_at g.totals u + number_at x e.number) given_up ∙ had.live_total u e live;
+  gives_up = λ u e retired. gives_up_marked g t c m due own.given_up good lt same adding is_adding u e (inr retired) (subst (λ (x : List ℕ). GivesUp g x u e.number) (sym given_up) (had.gives_up u e retired));
   later = λ n above. ap (λ (x : List ℕ). number_at x n) given_up ∙ had.later n above;
   beyond = λ d u past. ⊎_elim
       (λ (here : (u ≡ t) × (d ≡ c) × (cell no_mark (with_cell g.marks t c m) u d ≡ m)). absurd (let e = here.1 in omega (arith, e, past, lt)))
