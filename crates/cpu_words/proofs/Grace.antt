@@ -1,6 +1,6 @@
 -- Looks and snapshots on the words.
-use Rattle.std.proofs.Common.{◌≡◌, ℕ, suc, ◌+◌, ◌*◌, ◌≤◌, ◌<◌, List, [], ◌∷◌, length, take, get_or, set, Option, Some, None, Bool, true, ◌&&◌, nat_lt, refl, sym, ap, ◌∙◌, subst, arith}
-use Rattle.std.proofs.lemmas.Bool.{lt-ltb}
+use Rattle.std.proofs.Common.{◌≡◌, ℕ, suc, ◌+◌, ◌*◌, ◌≤◌, ◌<◌, List, [], ◌∷◌, length, take, get_or, set, Option, Some, None, Bool, true, false, ◌&&◌, ◌==◌, nat_lt, if◌then◌else◌, refl, sym, ap, ◌∙◌, subst, arith}
+use Rattle.std.proofs.lemmas.Bool.{lt-ltb, eq-eqb}
 use Rattle.std.proofs.lemmas.List.{set-get_or}
 use Rattle.std.specs.Prelude.{slice_index}
 use mathlib.Core.Option.{some}
@@ -11,11 +11,14 @@ use Rattle.passive_core.specs.declared.settings.Settings.{Settings}
 use Rattle.passive_core.specs.declared.state.Slot.{Slot}
 use Rattle.passive_core.specs.declared.state.Slot.TheVariants.{Retired}
 use Rattle.passive_core.specs.declared.state.Mark.{Mark}
-use Rattle.passive_core.specs.declared.state.Due.TheVariants.{Rest}
-use Rattle.passive_core.specs.declared.event.Event.TheVariants.{Look}
+use Rattle.passive_core.specs.declared.state.Due.TheVariants.{Rest, Snapshots}
+use Rattle.passive_core.specs.declared.event.Event.{Event}
+use Rattle.passive_core.specs.declared.event.Event.TheVariants.{Look, Snapshot}
 use Rattle.passive_core.specs.declared.event.Reply.TheVariants.{Word}
 use Rattle.passive_core.specs.State.{State, no_mark, with_cell, section_at, slot_at, mark_at}
-use Rattle.passive_core.specs.Events.{step, guard, taken, may_examine, looked}
+use Rattle.passive_core.specs.Events.{step, guard, taken, may_examine, looked, snapshot_mark}
+use Rattle.passive_core.specs.Slots.{at_rest}
+use Rattle.passive_core.specs.Invariant.{DueHolds, adding_at, is_adding_at}
 use Rattle.passive_core.proofs.Fit.{Ranges, ranges}
 use Rattle.cpu_words.specs.declared.view.KeeperView.{KeeperView}
 use Rattle.cpu_words.specs.declared.view.View.{View}
@@ -24,7 +27,7 @@ use Rattle.cpu_words.specs.Spots.{Spot, section_of, word_at}
 use Rattle.cpu_words.specs.Views.{KeeperOwn, keeper_own, keeper_view, KeeperShown}
 use Rattle.cpu_words.specs.Rule.{Agrees, Good, Ruled}
 use Rattle.cpu_words.specs.Steps.{Makes, KeeperMay}
-use Rattle.cpu_words.specs.Grace.{MayGlance, MayLook, HasLooked, LookTold, having_looked}
+use Rattle.cpu_words.specs.Grace.{MayGlance, MayLook, MaySnapshot, HasSnapshot, due_next, HasLooked, LookTold, having_looked}
 use Rattle.cpu_words.proofs.Placing.{agrees_same}
 use Rattle.cpu_words.proofs.KeeperSteps.{KeeperLists, keeper_lists, with_keeper, leaves_all, keeper_makes}
 use Rattle.cpu_words.proofs.KeeperSees.{SeenByKeeper, seen_by_keeper, loads}
@@ -49,4 +52,56 @@ look_may z k t c may s r i at fits =
     let done = keeper_makes z s r i k (80 * c) w l (Look (Some t) c) (Word w) own at made (leaves_all g l refl refl refl refl (same_collected g t c m refl)) (λ n. refl) refl shown (loads s.words g (with_keeper g l) (80 * c) r.words refl (λ q _. refl)) in
     let change : keeper_view (with_keeper g l) own ≡ record (having_looked k (Look (Some t) c) (Word w)) { marks = with_cell k.marks t c (looked (mark_at k.marks t c) w) } =
         ap (λ n. record (keeper_view g own) { marks = with_cell g.marks t c (looked (mark_at g.marks t c) n) }) (sym found) ∙ ap (λ (v : KeeperView). record (having_looked v (Look (Some t) c) (Word w)) { marks = with_cell v.marks t c (looked (mark_at v.marks t c) w) }) (sym had.is) in
+    (Keeper (keeper_view (with_keeper g l) own), done.0, (refl, (done.1, change)))
+
+-- a load of a section word for no entry
+glance_may : (z : Settings) (k : KeeperView) (c : ℕ) (e : Event) → MayGlance k c → ((g : State) → at_rest g.due ≡ true → nat_lt c g.settings.cpus ≡ true → step g e ≡ Some (record { state = g; reply = Word (section_at g c) }))
+    → KeeperMay z k (80 * c) (λ n. n) (λ v n l. Makes e (Word n) (Keeper v) (Keeper l) × (l ≡ having_looked v e (Word n)))
+glance_may z k c e may steps s r i at fits =
+    let g = r.g in
+    let had : KeeperShown g k = (r.shows.fits i (Keeper k) at).1 in
+    let seen = seen_by_keeper g k r.good had in
+    let lt : c < g.settings.cpus = omega (arith, may.cpu, ap (λ (a : Settings). a.cpus) seen.settings) in
+    let w = slice_index s.words (80 * c) in
+    let found : w ≡ section_at g c = r.words.at (section_of c) lt in
+    let l = keeper_lists g in
+    let own : KeeperOwn = keeper_own (having_looked k e (Word w)) in
+    let made : step g e ≡ Some (record { state = with_keeper g l; reply = Word w }) = steps g (ap at_rest (sym seen.due ∙ may.rest)) (lt-ltb c g.settings.cpus lt) ∙ ap (λ n. Some (record { state = g; reply = Word n })) (sym found) in
+    let shown : KeeperShown (with_keeper g l) (keeper_view (with_keeper g l) own) = record { is = refl; counts = had.counts; live_total = had.live_total; gives_up = had.gives_up; later = had.later; beyond = had.beyond; heard = had.heard } in
+    let done = keeper_makes z s r i k (80 * c) w l e (Word w) own at made (leaves_all g l refl refl refl refl (λ t d is. is)) (λ n. refl) refl shown (loads s.words g (with_keeper g l) (80 * c) r.words refl (λ q _. refl)) in
+    (Keeper (keeper_view (with_keeper g l) own), done.0, (refl, (done.1, ap (λ (v : KeeperView). having_looked v e (Word w)) (sym had.is))))
+
+pub look_now_may : (z : Settings) (k : KeeperView) (c : ℕ) → MayGlance k c → KeeperMay z k (80 * c) (λ n. n) (λ v n l. Makes (Look None c) (Word n) (Keeper v) (Keeper l) × LookTold (Look None c) v n l)
+look_now_may z k c may = glance_may z k c (Look None c) may (λ g rest lt. rw (rest, lt) refl)
+
+pub snapshot_now_may : (z : Settings) (k : KeeperView) (c : ℕ) → MayGlance k c → KeeperMay z k (80 * c) (λ n. n) (λ v n l. Makes (Snapshot None c) (Word n) (Keeper v) (Keeper l) × LookTold (Snapshot None c) v n l)
+snapshot_now_may z k c may = glance_may z k c (Snapshot None c) may (λ g rest lt. rw (rest, lt) refl)
+
+-- what is due after a snapshot adds nothing
+adds_nothing : (z : Settings) (t c u : ℕ) → (adding_at u (due_next z t c) ≡ 0) × (is_adding_at u (due_next z t c) ≡ 0)
+adds_nothing z t c u = from (nat_lt (c + 1) z.cpus)
+  where
+    from : (b : Bool) → (adding_at u (if b then Snapshots t (c + 1) else Rest) ≡ 0) × (is_adding_at u (if b then Snapshots t (c + 1) else Rest) ≡ 0)
+    from true = (refl, refl)
+    from false = (refl, refl)
+
+pub snapshot_may : (z : Settings) (k : KeeperView) (t c : ℕ) → MaySnapshot k t c → KeeperMay z k (80 * c) (λ n. n) (λ v n l. Makes (Snapshot (Some t) c) (Word n) (Keeper v) (Keeper l) × LookTold (Snapshot (Some t) c) v n l)
+snapshot_may z k t c may s r i at fits =
+    let g = r.g in
+    let had : KeeperShown g k = (r.shows.fits i (Keeper k) at).1 in
+    let seen = seen_by_keeper g k r.good had in
+    let due : g.due ≡ Snapshots t c = sym seen.due ∙ may in
+    let lt : c < g.settings.cpus = (subst (DueHolds g.settings.cpus g.slots) due r.good.holds.references.due_at).0 in
+    let w = slice_index s.words (80 * c) in
+    let found : w ≡ section_at g c = r.words.at (section_of c) lt in
+    let m : Mark = snapshot_mark (section_at g c) in
+    let l : KeeperLists = record (keeper_lists g) { marks = with_cell g.marks t c m; due = due_next g.settings t c } in
+    let own : KeeperOwn = keeper_own k in
+    let fresh : false ≡ (mark_at g.marks t c).collected = sym (r.good.holds.balance.fresh c t c due) in
+    let made : step g (Snapshot (Some t) c) ≡ Some (record { state = with_keeper g l; reply = Word w }) = rw (due, eq-eqb t t refl, eq-eqb c c refl, found) refl in
+    let shown : KeeperShown (with_keeper g l) (keeper_view (with_keeper g l) own) = shown_marked g k t c m (due_next g.settings t c) own r.good had lt fresh
+        (λ u. (adds_nothing g.settings t c u).0 ∙ sym (ap (adding_at u) due)) (λ u. (adds_nothing g.settings t c u).1 ∙ sym (ap (is_adding_at u) due)) refl refl refl in
+    let done = keeper_makes z s r i k (80 * c) w l (Snapshot (Some t) c) (Word w) own at made (leaves_all g l refl refl refl refl (same_collected g t c m fresh)) (λ n. refl) refl shown (loads s.words g (with_keeper g l) (80 * c) r.words refl (λ q _. refl)) in
+    let change : keeper_view (with_keeper g l) own ≡ record k { marks = with_cell k.marks t c (snapshot_mark w); due = due_next k.settings t c } =
+        ap (λ n. record (keeper_view g own) { marks = with_cell g.marks t c (snapshot_mark n); due = due_next g.settings t c }) (sym found) ∙ ap (λ (v : KeeperView). record v { marks = with_cell v.marks t c (snapshot_mark w); due = due_next v.settings t c }) (sym had.is) in
     (Keeper (keeper_view (with_keeper g l) own), done.0, (refl, (done.1, change)))

@@ -1,14 +1,16 @@
 -- Grace by the keeper's seat: snapshots, looks, and what they leave in its view.
-use Rattle.std.specs.Prelude.{◌≡◌, ℕ, suc, ◌<◌, List, Option, Some, None}
+use Rattle.std.specs.Prelude.{◌≡◌, ℕ, suc, ◌+◌, ◌<◌, nat_lt, if◌then◌else◌, List, Option, Some, None}
 use Rattle.passive_core.specs.declared.entry.Entry.{Entry}
 use Rattle.passive_core.specs.declared.event.Event.{Event}
-use Rattle.passive_core.specs.declared.event.Event.TheVariants.{Look}
+use Rattle.passive_core.specs.declared.event.Event.TheVariants.{Look, Snapshot}
 use Rattle.passive_core.specs.declared.event.Reply.TheVariants.{Word}
 use Rattle.passive_core.specs.declared.event.Reply.{Reply}
 use Rattle.passive_core.specs.declared.state.Slot.TheVariants.{Retired}
-use Rattle.passive_core.specs.declared.state.Due.TheVariants.{Rest}
+use Rattle.passive_core.specs.declared.state.Due.{Due}
+use Rattle.passive_core.specs.declared.state.Due.TheVariants.{Rest, Snapshots}
+use Rattle.passive_core.specs.declared.settings.Settings.{Settings}
 use Rattle.passive_core.specs.State.{slot_at, mark_at, with_cell}
-use Rattle.passive_core.specs.Events.{looked}
+use Rattle.passive_core.specs.Events.{looked, snapshot_mark}
 use Rattle.cpu_words.specs.declared.view.Looked.{Looked}
 use Rattle.cpu_words.specs.declared.view.KeeperView.{KeeperView}
 
@@ -30,7 +32,22 @@ having_looked k e r = record k { looks = suc k.looks; last_look = Some (record {
 abbrev pub HasLooked : KeeperView → Event → Reply → ℕ → ℕ → ℕ → KeeperView → Type 0
 HasLooked k e r t c w l = l ≡ record (having_looked k e r) { marks = with_cell k.marks t c (looked (mark_at k.marks t c) w) }
 
--- what a look tells, by its event
+-- the keeper must take the snapshot of the CPU c for t next
+abbrev pub MaySnapshot : KeeperView → ℕ → ℕ → Type 0
+MaySnapshot k t c = k.due ≡ Snapshots t c
+
+-- what it must do after the snapshot of c
+abbrev pub due_next : Settings → ℕ → ℕ → Due
+due_next z t c = if nat_lt (c + 1) z.cpus then Snapshots t (c + 1) else Rest
+
+-- the snapshot of the CPU c for t is w
+abbrev pub HasSnapshot : KeeperView → ℕ → ℕ → ℕ → KeeperView → Type 0
+HasSnapshot k t c w l = l ≡ record k { marks = with_cell k.marks t c (snapshot_mark w); due = due_next k.settings t c }
+
+-- what a load of a section word tells, by its event
 abbrev pub LookTold : Event → KeeperView → ℕ → KeeperView → Type 0
 LookTold (Look (Some t) c) k w l = HasLooked k (Look (Some t) c) (Word w) t c w l
+LookTold (Look None c) k w l = l ≡ having_looked k (Look None c) (Word w)
+LookTold (Snapshot (Some t) c) k w l = HasSnapshot k t c w l
+LookTold (Snapshot None c) k w l = l ≡ having_looked k (Snapshot None c) (Word w)
 LookTold e k w l = ⊥

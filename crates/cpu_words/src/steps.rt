@@ -4,5 +4,5 @@
 pub mod grace;
 pub mod sections;
 
-pub use grace::look;
+pub use grace::{look, look_now, snapshot, snapshot_now};
 pub use sections::enter;

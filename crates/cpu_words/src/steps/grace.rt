@@ -5,7 +5,7 @@ ghost use Rattle.passive_core.specs.declared.event.Event.TheVariants.{Look, Snap
 ghost use Rattle.passive_core.specs.declared.event.Reply.TheVariants.{Word};
 ghost use Rattle.cpu_words.specs.declared.view.View.TheVariants.{Keeper};
 ghost use Rattle.cpu_words.specs.Steps.{Makes};
-ghost use Rattle.cpu_words.specs.Grace.{MayGlance, MayLook, HasLooked, having_looked};
+ghost use Rattle.cpu_words.specs.Grace.{MayGlance, MayLook, MaySnapshot, HasLooked, HasSnapshot, having_looked};
 
 use crate::law::Words;
 use crate::seat::KeeperSeat;
@@ -25,4 +25,53 @@ pub fn look(words: &Words, keeper: &mut KeeperSeat, slot: u8, cpu: u8) -> u64
     ensures change { HasLooked keeper.old.view (Look (Some slot) cpu) (Word result) slot cpu result keeper.new.view }
 {
     by_keeper::load::<Brand>(words, keeper, 80 * cpu as usize, Event::Look(Some(slot), cpu))
+}
+
+/// Looks at the section word of CPU `cpu` for no entry: the caller compares it with what `snapshot_now` answered. It is counted as a look.
+/// Condition: the keeper is at rest, and the CPU is one of the table's.
+pub fn look_now(words: &Words, keeper: &mut KeeperSeat, cpu: u8) -> u64
+    requires table { keeper.old.table ≡ words.now.table.shared.table_id }
+    requires place { cpu < 8 }
+    requires may { MayGlance keeper.old.view cpu }
+    ensures table { keeper.new.table ≡ keeper.old.table }
+    ensures event { Makes (Look None cpu) (Word result) (Keeper keeper.old.view) (Keeper keeper.new.view) }
+    ensures change { keeper.new.view ≡ having_looked keeper.old.view (Look None cpu) (Word result) }
+{
+    by_keeper::load::<Brand>(words, keeper, 80 * cpu as usize, Event::Look(None, cpu))
+}
+
+/// Takes the snapshot of CPU `cpu` for the entry in `slot`, which was just unlinked: its section word now.
+/// Condition: this snapshot is what the keeper must do next.
+pub fn snapshot(words: &Words, keeper: &mut KeeperSeat, slot: u8, cpu: u8) -> u64
+    requires table { keeper.old.table ≡ words.now.table.shared.table_id }
+    requires place { cpu < 8 }
+    requires may { MaySnapshot keeper.old.view slot cpu }
+    ensures table { keeper.new.table ≡ keeper.old.table }
+    ensures event { Makes (Snapshot (Some slot) cpu) (Word result) (Keeper keeper.old.view) (Keeper keeper.new.view) }
+    ensures change { HasSnapshot keeper.old.view slot cpu result keeper.new.view }
+{
+    by_keeper::load::<Brand>(
+        words,
+        keeper,
+        80 * cpu as usize,
+        Event::Snapshot(Some(slot), cpu),
+    )
+}
+
+/// Takes a snapshot of CPU `cpu` for no entry: its section word now, as `perform` keeps it. It is counted as a look.
+/// Condition: the keeper is at rest, and the CPU is one of the table's.
+pub fn snapshot_now(words: &Words, keeper: &mut KeeperSeat, cpu: u8) -> u64
+    requires table { keeper.old.table ≡ words.now.table.shared.table_id }
+    requires place { cpu < 8 }
+    requires may { MayGlance keeper.old.view cpu }
+    ensures table { keeper.new.table ≡ keeper.old.table }
+    ensures event { Makes (Snapshot None cpu) (Word result) (Keeper keeper.old.view) (Keeper keeper.new.view) }
+    ensures change { keeper.new.view ≡ having_looked keeper.old.view (Snapshot None cpu) (Word result) }
+{
+    by_keeper::load::<Brand>(
+        words,
+        keeper,
+        80 * cpu as usize,
+        Event::Snapshot(None, cpu),
+    )
 }

@@ -1,0 +1,6 @@
+use Rattle.std.proofs.Common.{rules, arith}
+use Rattle.cpu_words.proofs.Grace.{snapshot_may}
+use Rattle.cpu_words.proofs.steps.grace.snapshot.Goals as goal
+
+pub load-requires-clause-may : goal.load-requires-clause-may
+load-requires-clause-may c = snapshot_may _ _ _ _ c.requires.may
