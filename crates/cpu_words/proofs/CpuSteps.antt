@@ -83,6 +83,8 @@ pub cpu_stays : (g : State) (l : CpuLists) (c : ℕ) (seat : ℕ → ℕ) (i : �
 cpu_stays g l c seat i leaves mine j (Keeper k) ne sits shown backed = record {
   is = shown.is;
   counts = λ d t vacant. leaves.vacant d t vacant ∙ shown.counts d t vacant;
+  sized = shown.sized;
+  rows = shown.rows;
   live_total = shown.live_total;
   gives_up = λ t e here. leaves.gives_up k.given_up t e here (shown.gives_up t e here);
   later = shown.later;

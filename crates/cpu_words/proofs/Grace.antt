@@ -67,7 +67,7 @@ glance_may z k c e may steps s r i at fits =
     let l = keeper_lists g in
     let own : KeeperOwn = keeper_own (having_looked k e (Word w)) in
     let made : step g e ≡ Some (record { state = with_keeper g l; reply = Word w }) = steps g (ap at_rest (sym seen.due ∙ may.rest)) (lt-ltb c g.settings.cpus lt) ∙ ap (λ n. Some (record { state = g; reply = Word n })) (sym found) in
-    let shown : KeeperShown (with_keeper g l) (keeper_view (with_keeper g l) own) = record { is = refl; counts = had.counts; live_total = had.live_total; gives_up = had.gives_up; later = had.later; beyond = had.beyond; heard = had.heard } in
+    let shown : KeeperShown (with_keeper g l) (keeper_view (with_keeper g l) own) = record { is = refl; counts = had.counts; sized = had.sized; rows = had.rows; live_total = had.live_total; gives_up = had.gives_up; later = had.later; beyond = had.beyond; heard = had.heard } in
     let done = keeper_makes z s r i k (80 * c) w l e (Word w) own at made (leaves_all g l refl refl refl refl (λ t d is. is)) (λ n. refl) refl shown (loads s.words g (with_keeper g l) (80 * c) r.words refl (λ q _. refl)) in
     (Keeper (keeper_view (with_keeper g l) own), done.0, (refl, (done.1, ap (λ (v : KeeperView). having_looked v e (Word w)) (sym had.is))))
 

@@ -8,3 +8,4 @@ pub mod KeeperSteps
 pub mod KeeperSees
 pub mod Marked
 pub mod Grace
+pub mod Vacating

@@ -7,7 +7,7 @@ use Rattle.passive_core.specs.declared.entry.Entry.{Entry}
 use Rattle.passive_core.specs.declared.state.Mark.{Mark}
 use Rattle.passive_core.specs.declared.state.Due.{Due}
 use Rattle.passive_core.specs.State.{State, bias, no_mark, with_cell, cell, mark_at, slot_at, count_at, total_at}
-use Rattle.passive_core.specs.Invariant.{IsIn, one_if, adding_at, is_adding_at}
+use Rattle.passive_core.specs.Invariant.{AreRows, IsIn, one_if, adding_at, is_adding_at}
 use Rattle.passive_core.proofs.Cells.{cell_cases, row_here, row_other, cell_here, in_within}
 use Rattle.passive_core.proofs.Fit.{Ranges, ranges}
 use Rattle.passive_core.specs.declared.entry.Change.{Change}
@@ -88,6 +88,8 @@ pub shown_marked : (g : State) (k : KeeperView) (t c : ℕ) (m : Mark) (due : Du
 shown_marked g k t c m due own good had lt same adding is_adding counts given_up heard = record {
   is = refl;
   counts = λ d u vacant. had.counts d u vacant ∙ ap (λ (x : List (List ℕ)). count_at x d u) (sym counts);
+  sized = ap length counts ∙ had.sized;
+  rows = subst AreRows (sym counts) had.rows;
   live_total = λ u e live. ap (λ (x : List ℕ). total_at g.totals u + number_at x e.number) given_up ∙ had.live_total u e live;
   gives_up = λ u e retired. gives_up_marked g t c m due own.given_up good lt same adding is_adding u e (inr retired) (subst (λ (x : List ℕ). GivesUp g x u e.number) (sym given_up) (had.gives_up u e retired));
   later = λ n above. ap (λ (x : List ℕ). number_at x n) given_up ∙ had.later n above;

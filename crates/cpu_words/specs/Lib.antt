@@ -4,3 +4,5 @@ pub mod Rule
 pub mod Steps
 pub mod Sections
 pub mod Grace
+pub mod Vacating
+pub mod Storing

@@ -16,7 +16,7 @@ use Rattle.passive_core.specs.declared.state.Due.{Due}
 use Rattle.passive_core.specs.declared.state.Due.TheVariants.{Rest}
 use Rattle.passive_core.specs.History.{IsAttached}
 use Rattle.passive_core.specs.State.{State, bias, no_words, no_mark, section_at, begin_at, depth_at, seen_at, search_at, found_at, hand_at, slot_at, mark_at, passive_at, count_at, total_at}
-use Rattle.passive_core.specs.Invariant.{IsIn, Occupies, adding_at, is_adding_at}
+use Rattle.passive_core.specs.Invariant.{AreRows, IsIn, Occupies, adding_at, is_adding_at}
 use Rattle.cpu_words.specs.declared.view.InHand.{InHand}
 use Rattle.cpu_words.specs.declared.view.InHand.TheVariants.{Empty as NoEntry, Taking as TakingEntry, Giving as GivingEntry, Back as BackEntry}
 use Rattle.cpu_words.specs.declared.view.Looked.{Looked}
@@ -170,6 +170,8 @@ pub record KeeperShown (g : State) (k : KeeperView) : Type 0 where
   pub is : k ≡ keeper_view g (keeper_own k)
   -- the count words of a vacant slot are the keeper's alone
   pub counts : (c t : ℕ) → slot_at g.slots t ≡ Vacant → count_at g.counts c t ≡ count_at k.counts c t
+  pub sized : length k.counts ≡ g.settings.slots
+  pub rows : AreRows k.counts
   -- nothing was collected for a live entry: the marks of its slot are an earlier entry's
   pub live_total : (t : ℕ) (e : Entry) → slot_at g.slots t ≡ Live e → total_at g.totals t + number_at k.given_up e.number ≡ bias
   pub gives_up : (t : ℕ) (e : Entry) → slot_at g.slots t ≡ Retired e → GivesUp g k.given_up t e.number

@@ -2,7 +2,9 @@
 //! memory.
 
 pub mod grace;
+pub mod list;
 pub mod sections;
 
 pub use grace::{look, look_now, snapshot, snapshot_now};
+pub use list::{store_count, store_next, store_record};
 pub use sections::enter;

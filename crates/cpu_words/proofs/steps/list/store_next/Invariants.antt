@@ -1,0 +1,10 @@
+use Rattle.std.proofs.Common.{◌≡◌}
+use Rattle.passive_core.specs.declared.event.Reply.TheVariants.{Done}
+use Rattle.cpu_words.specs.declared.view.View.TheVariants.{Keeper}
+use Rattle.cpu_words.specs.Steps.{Makes}
+use Rattle.cpu_words.specs.Vacating.{IsTakenAsVacant, as_vacant}
+use Rattle.cpu_words.specs.Storing.{LinkStored, slot_stored}
+use Rattle.cpu_words.proofs.steps.list.store_next.Given as goal
+
+abbrev pub ghosts-store : goal.ghosts-store
+ghosts-store a = record { tells = λ k n l. IsTakenAsVacant k (slot_stored a.event) × Makes a.event Done (Keeper (as_vacant k (slot_stored a.event))) (Keeper l) × LinkStored a.event k l }

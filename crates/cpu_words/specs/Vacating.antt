@@ -1,0 +1,49 @@
+-- A retired slot with all its marks may be taken as vacant: Vacate touches no word, and shows from the first word that is stored in the slot on.
+use Rattle.std.specs.Prelude.{◌≡◌, ◌⊎◌, ℕ, ◌<◌, List, [], replicate, slice_index_or, slice_set, Option, None, true}
+use Rattle.passive_core.specs.declared.entry.Entry.{Entry}
+use Rattle.passive_core.specs.declared.event.Event.TheVariants.{Vacate}
+use Rattle.passive_core.specs.declared.event.Reply.TheVariants.{Done}
+use Rattle.passive_core.specs.declared.state.Slot.{Slot}
+use Rattle.passive_core.specs.declared.state.Slot.TheVariants.{Vacant, Live, Retired}
+use Rattle.passive_core.specs.declared.state.Due.TheVariants.{Rest}
+use Rattle.passive_core.specs.State.{bias, slot_at, total_at, kept_at}
+use Rattle.passive_core.specs.Slots.{have_passed, are_clear, are_collected}
+use Rattle.cpu_words.specs.declared.view.KeeperView.{KeeperView}
+use Rattle.cpu_words.specs.declared.view.View.TheVariants.{Keeper}
+use Rattle.cpu_words.specs.Steps.{Makes}
+
+-- all marks are set, nothing is held, and no keeper's operation is half done
+pub record IsDrained (k : KeeperView) (t : ℕ) : Type 0 where
+  pub rest : k.due ≡ Rest
+  pub retired : (e : Entry) × (slot_at k.slots t ≡ Retired e)
+  pub passed : have_passed k.settings.cpus (slice_index_or k.marks t []) ≡ true
+  pub clear : are_clear k.settings.cpus (slice_index_or k.marks t []) ≡ true
+  pub collected : are_collected k.settings.cpus (slice_index_or k.marks t []) ≡ true
+  pub total : total_at k.totals t ≡ bias
+
+pub record MayVacate (k : KeeperView) (t : ℕ) : Type 0 where
+  pub drained : IsDrained k t
+  pub keeps_nothing : kept_at k.keeps t ≡ None
+
+-- its count words are 0, as they were collected
+abbrev pub vacated : KeeperView → ℕ → KeeperView
+vacated k t = record k { slots = slice_set k.slots t Vacant; counts = slice_set k.counts t (replicate 8 0) }
+
+abbrev pub vacant_from : Slot → KeeperView → ℕ → KeeperView
+vacant_from Vacant k t = k
+vacant_from (Live e) k t = k
+vacant_from (Retired e) k t = vacated k t
+
+-- the view with the slot taken as vacant
+abbrev pub as_vacant : KeeperView → ℕ → KeeperView
+as_vacant k t = vacant_from (slot_at k.slots t) k t
+
+-- the keeper may write into the slot
+pub record MayWrite (k : KeeperView) (t : ℕ) : Type 0 where
+  pub rest : k.due ≡ Rest
+  pub slot : t < k.settings.slots
+  pub vacant : (slot_at k.slots t ≡ Vacant) ⊎ MayVacate k t
+
+-- it was vacant, or the event Vacate made it so
+abbrev pub IsTakenAsVacant : KeeperView → ℕ → Type 0
+IsTakenAsVacant k t = (slot_at k.slots t ≡ Vacant) ⊎ Makes (Vacate t) Done (Keeper k) (Keeper (as_vacant k t))

@@ -1,0 +1,60 @@
+//! The words of a slot that the keeper's seat stores before it links an entry: StoreSlot and StoreNext, a store each.
+
+ghost use Rattle.std.specs.Prelude.{◌≡◌, ◌<◌, ◌+◌};
+ghost use Rattle.passive_core.specs.declared.event.Event.TheVariants.{StoreSlot, StoreNext};
+ghost use Rattle.passive_core.specs.declared.event.Reply.TheVariants.{Done};
+ghost use Rattle.cpu_words.specs.declared.view.View.TheVariants.{Keeper};
+ghost use Rattle.cpu_words.specs.Steps.{Makes};
+ghost use Rattle.cpu_words.specs.Vacating.{MayWrite, IsTakenAsVacant, as_vacant};
+ghost use Rattle.cpu_words.specs.Storing.{HasRecordWord, HasCountWord, HasLink};
+
+use crate::law::Words;
+use crate::seat::KeeperSeat;
+use crate::step::by_keeper;
+use passive_core::Event;
+use std::marker::Brand;
+
+/// Stores record word `k` (0 number, 1 kind, 2 and 3 the name, 4 value) of `slot`.
+/// Condition: the keeper is at rest, and the slot is vacant, or retired with all its marks and keeping nothing; then the slot is taken as
+/// vacant (Vacate) by this store.
+pub fn store_record(words: &Words, keeper: &mut KeeperSeat, slot: u8, k: u8, value: u64)
+    requires table { keeper.old.table ≡ words.now.table.shared.table_id }
+    requires place { (slot < 32) × (k < 5) }
+    requires may { MayWrite keeper.old.view slot }
+    ensures table { keeper.new.table ≡ keeper.old.table }
+    ensures vacant { IsTakenAsVacant keeper.old.view slot }
+    ensures event { Makes (StoreSlot slot k value) Done (Keeper (as_vacant keeper.old.view slot)) (Keeper keeper.new.view) }
+    ensures change { HasRecordWord keeper.old.view slot k value keeper.new.view }
+{
+    let place = 657 + 8 * slot as usize + k as usize;
+    by_keeper::store::<Brand>(words, keeper, place, value, Event::StoreSlot(slot, k, value));
+}
+
+/// Stores the count word of CPU `cpu` for `slot`. Condition: as for `store_record`.
+pub fn store_count(words: &Words, keeper: &mut KeeperSeat, slot: u8, cpu: u8, value: u64)
+    requires table { keeper.old.table ≡ words.now.table.shared.table_id }
+    requires place { (slot < 32) × (cpu < keeper.old.view.settings.cpus) × (cpu < 8) }
+    requires may { MayWrite keeper.old.view slot }
+    ensures table { keeper.new.table ≡ keeper.old.table }
+    ensures vacant { IsTakenAsVacant keeper.old.view slot }
+    ensures event { Makes (StoreSlot slot (5 + cpu) value) Done (Keeper (as_vacant keeper.old.view slot)) (Keeper keeper.new.view) }
+    ensures change { HasCountWord keeper.old.view slot cpu value keeper.new.view }
+{
+    let place = 80 * cpu as usize + 33 + slot as usize;
+    let event = Event::StoreSlot(slot, 5 + cpu, value);
+    by_keeper::store::<Brand>(words, keeper, place, value, event);
+}
+
+/// Stores the link of `slot`: 0 for the end, else a slot's number plus 1. Condition: as for `store_record`.
+pub fn store_next(words: &Words, keeper: &mut KeeperSeat, slot: u8, link: u64)
+    requires table { keeper.old.table ≡ words.now.table.shared.table_id }
+    requires place { slot < 32 }
+    requires may { MayWrite keeper.old.view slot }
+    ensures table { keeper.new.table ≡ keeper.old.table }
+    ensures vacant { IsTakenAsVacant keeper.old.view slot }
+    ensures event { Makes (StoreNext slot link) Done (Keeper (as_vacant keeper.old.view slot)) (Keeper keeper.new.view) }
+    ensures change { HasLink keeper.old.view slot link keeper.new.view }
+{
+    let place = 656 + 8 * slot as usize;
+    by_keeper::store::<Brand>(words, keeper, place, link, Event::StoreNext(slot, link));
+}
