@@ -9,3 +9,4 @@ pub mod KeeperSees
 pub mod Marked
 pub mod Grace
 pub mod Vacating
+pub mod Storing

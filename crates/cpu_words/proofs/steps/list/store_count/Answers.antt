@@ -1,0 +1,6 @@
+use Rattle.std.proofs.Common.{rules, arith}
+use Rattle.cpu_words.proofs.Storing.{store_count_may}
+use Rattle.cpu_words.proofs.steps.list.store_count.Goals as goal
+
+pub store-requires-clause-may : goal.store-requires-clause-may
+store-requires-clause-may c = store_count_may _ _ _ _ _ c.requires.place.1 c.requires.may

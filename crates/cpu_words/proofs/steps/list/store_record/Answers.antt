@@ -1,0 +1,6 @@
+use Rattle.std.proofs.Common.{rules, arith}
+use Rattle.cpu_words.proofs.Storing.{store_record_may}
+use Rattle.cpu_words.proofs.steps.list.store_record.Goals as goal
+
+pub store-requires-clause-may : goal.store-requires-clause-may
+store-requires-clause-may c = store_record_may _ _ _ _ _ c.requires.place.1 c.requires.may
