@@ -31,6 +31,11 @@ pub record Seated (X : Type 0) : Type 0 where
   pub table : TableId
   pub view : X
 
+-- a table and what it was made for, to a contract
+pub record Named : Type 0 where
+  pub table : TableId
+  pub settings : Settings
+
 -- Counts by number, and passive references
 
 -- what a list by numbers has at n; past its end it has 0

@@ -1,12 +1,10 @@
 //! The table of words, its one rule, and the type that names a table.
 
-ghost use Rattle.std.specs.Prelude.{◌≡◌};
-
 use crate::view::{CpuView, KeeperView, View};
 use atomic_table::{Play, Table, TableRule};
 use passive_core::Settings;
 use std::alloc::Global;
-use std::marker::{Brand, PhantomData};
+use std::marker::{Brand, Model, PhantomData};
 
 /// The rule: the words and the views of all seats show a state of the core, the running picture.
 pub struct Picture;
@@ -20,13 +18,22 @@ impl TableRule<u8, View, Settings> for Picture {
     ghost first = { first_view };
 }
 
-/// The words of a registry, shared by all its seats.
+/// The words of a registry, shared by all its seats. To a contract they are which table it is, and its settings.
 #[derive(Drop)]
 pub struct Words {
     pub(crate) table: Table<u8, View, Settings, Picture, Global>,
     pub(crate) settings: Settings,
-    pub(crate) ghost named: { settings ≡ table.shared.key },
-    pub(crate) ghost sized: { table.shared.table_id.words ≡ 944 },
+}
+
+impl Model for Words {
+    ghost use Rattle.std.specs.Prelude.{◌≡◌};
+    ghost use Rattle.cpu_words.specs.Views.{Named};
+
+    ghost Value = { Named };
+
+    ghost view = { λ w. record { table = w.table.shared.table_id; settings = w.settings } };
+
+    ghost invariant = { λ w. (w.settings ≡ w.table.shared.key) × (w.table.shared.table_id.words ≡ 944) };
 }
 
 /// Names one table and its settings, for contracts: what a lock or a message hands on is known by its type alone.

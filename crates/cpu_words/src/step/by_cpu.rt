@@ -17,7 +17,7 @@ pub(crate) fn add<T: CpuTale>(
     k: u64,
     event: Event,
 ) -> u64
-    requires table { seat.old.table ≡ words.now.table.shared.table_id }
+    requires table { seat.old.table ≡ words.now.table }
     requires place { word < 944 }
     requires may { CpuMay words.now.settings seat.old.view word (λ n. (n + k) % 2 ^ 64) T.tells }
     ensures table { seat.new.table ≡ seat.old.table }
@@ -38,7 +38,7 @@ pub(crate) fn subtract<T: CpuTale>(
     k: u64,
     event: Event,
 ) -> u64
-    requires table { seat.old.table ≡ words.now.table.shared.table_id }
+    requires table { seat.old.table ≡ words.now.table }
     requires place { word < 944 }
     requires may { CpuMay words.now.settings seat.old.view word (λ n. (n + (2 ^ 64 - k)) % 2 ^ 64) T.tells }
     ensures table { seat.new.table ≡ seat.old.table }
@@ -53,7 +53,7 @@ pub(crate) fn subtract<T: CpuTale>(
 
 /// Loads a word.
 pub(crate) fn load<T: CpuTale>(words: &Words, seat: &mut CpuSeat, word: usize, event: Event) -> u64
-    requires table { seat.old.table ≡ words.now.table.shared.table_id }
+    requires table { seat.old.table ≡ words.now.table }
     requires place { word < 944 }
     requires may { CpuMay words.now.settings seat.old.view word (λ n. n) T.tells }
     ensures table { seat.new.table ≡ seat.old.table }
@@ -72,7 +72,7 @@ pub(crate) fn compare_exchange<T: CpuTale>(
     new: u64,
     event: Event,
 ) -> u64
-    requires table { seat.old.table ≡ words.now.table.shared.table_id }
+    requires table { seat.old.table ≡ words.now.table }
     requires place { word < 944 }
     requires may { CpuMay words.now.settings seat.old.view word (λ n. either (n == old) new n) T.tells }
     ensures table { seat.new.table ≡ seat.old.table }

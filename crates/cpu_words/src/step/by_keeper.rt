@@ -14,7 +14,7 @@ pub(crate) fn load<T: KeeperTale>(
     word: usize,
     event: Event,
 ) -> u64
-    requires table { seat.old.table ≡ words.now.table.shared.table_id }
+    requires table { seat.old.table ≡ words.now.table }
     requires place { word < 944 }
     requires may { KeeperMay words.now.settings seat.old.view word (λ n. n) T.tells }
     ensures table { seat.new.table ≡ seat.old.table }
@@ -35,7 +35,7 @@ pub(crate) fn store<T: KeeperTale>(
     value: u64,
     event: Event,
 )
-    requires table { seat.old.table ≡ words.now.table.shared.table_id }
+    requires table { seat.old.table ≡ words.now.table }
     requires place { word < 944 }
     requires may { KeeperStores words.now.settings seat.old.view word value T.tells }
     ensures table { seat.new.table ≡ seat.old.table }
@@ -56,7 +56,7 @@ pub(crate) fn swap<T: KeeperTale>(
     value: u64,
     event: Event,
 ) -> u64
-    requires table { seat.old.table ≡ words.now.table.shared.table_id }
+    requires table { seat.old.table ≡ words.now.table }
     requires place { word < 944 }
     requires may { KeeperMay words.now.settings seat.old.view word (λ _. value) T.tells }
     ensures table { seat.new.table ≡ seat.old.table }
@@ -77,7 +77,7 @@ pub(crate) fn subtract<T: KeeperTale>(
     k: u64,
     event: Event,
 ) -> u64
-    requires table { seat.old.table ≡ words.now.table.shared.table_id }
+    requires table { seat.old.table ≡ words.now.table }
     requires place { word < 944 }
     requires may { KeeperMay words.now.settings seat.old.view word (λ n. (n + (2 ^ 64 - k)) % 2 ^ 64) T.tells }
     ensures table { seat.new.table ≡ seat.old.table }

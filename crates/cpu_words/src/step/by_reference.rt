@@ -14,7 +14,7 @@ pub(crate) fn load<T: ReferenceTale>(
     word: usize,
     event: Event,
 ) -> u64
-    requires table { seat.old.table ≡ words.now.table.shared.table_id }
+    requires table { seat.old.table ≡ words.now.table }
     requires place { word < 944 }
     requires may { ReferenceMay words.now.settings seat.old.view word T.tells }
     ensures same { seat.new ≡ seat.old }

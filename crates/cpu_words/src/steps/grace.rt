@@ -17,7 +17,7 @@ use std::marker::Brand;
 /// snapshot. It answers the word, and is counted as a look.
 /// Condition: the keeper is at rest, the slot's entry is retired, and the CPU is one of the table's.
 pub fn look(words: &Words, keeper: &mut KeeperSeat, slot: u8, cpu: u8) -> u64
-    requires table { keeper.old.table ≡ words.now.table.shared.table_id }
+    requires table { keeper.old.table ≡ words.now.table }
     requires place { cpu < 8 }
     requires may { MayLook keeper.old.view slot cpu }
     ensures table { keeper.new.table ≡ keeper.old.table }
@@ -30,7 +30,7 @@ pub fn look(words: &Words, keeper: &mut KeeperSeat, slot: u8, cpu: u8) -> u64
 /// Looks at the section word of CPU `cpu` for no entry: the caller compares it with what `snapshot_now` answered. It is counted as a look.
 /// Condition: the keeper is at rest, and the CPU is one of the table's.
 pub fn look_now(words: &Words, keeper: &mut KeeperSeat, cpu: u8) -> u64
-    requires table { keeper.old.table ≡ words.now.table.shared.table_id }
+    requires table { keeper.old.table ≡ words.now.table }
     requires place { cpu < 8 }
     requires may { MayGlance keeper.old.view cpu }
     ensures table { keeper.new.table ≡ keeper.old.table }
@@ -43,7 +43,7 @@ pub fn look_now(words: &Words, keeper: &mut KeeperSeat, cpu: u8) -> u64
 /// Takes the snapshot of CPU `cpu` for the entry in `slot`, which was just unlinked: its section word now.
 /// Condition: this snapshot is what the keeper must do next.
 pub fn snapshot(words: &Words, keeper: &mut KeeperSeat, slot: u8, cpu: u8) -> u64
-    requires table { keeper.old.table ≡ words.now.table.shared.table_id }
+    requires table { keeper.old.table ≡ words.now.table }
     requires place { cpu < 8 }
     requires may { MaySnapshot keeper.old.view slot cpu }
     ensures table { keeper.new.table ≡ keeper.old.table }
@@ -61,7 +61,7 @@ pub fn snapshot(words: &Words, keeper: &mut KeeperSeat, slot: u8, cpu: u8) -> u6
 /// Takes a snapshot of CPU `cpu` for no entry: its section word now, as `perform` keeps it. It is counted as a look.
 /// Condition: the keeper is at rest, and the CPU is one of the table's.
 pub fn snapshot_now(words: &Words, keeper: &mut KeeperSeat, cpu: u8) -> u64
-    requires table { keeper.old.table ≡ words.now.table.shared.table_id }
+    requires table { keeper.old.table ≡ words.now.table }
     requires place { cpu < 8 }
     requires may { MayGlance keeper.old.view cpu }
     ensures table { keeper.new.table ≡ keeper.old.table }

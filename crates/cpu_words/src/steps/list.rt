@@ -18,7 +18,7 @@ use std::marker::Brand;
 /// Condition: the keeper is at rest, and the slot is vacant, or retired with all its marks and keeping nothing; then the slot is taken as
 /// vacant (Vacate) by this store.
 pub fn store_record(words: &Words, keeper: &mut KeeperSeat, slot: u8, k: u8, value: u64)
-    requires table { keeper.old.table ≡ words.now.table.shared.table_id }
+    requires table { keeper.old.table ≡ words.now.table }
     requires place { (slot < 32) × (k < 5) }
     requires may { MayWrite keeper.old.view slot }
     ensures table { keeper.new.table ≡ keeper.old.table }
@@ -32,7 +32,7 @@ pub fn store_record(words: &Words, keeper: &mut KeeperSeat, slot: u8, k: u8, val
 
 /// Stores the count word of CPU `cpu` for `slot`. Condition: as for `store_record`.
 pub fn store_count(words: &Words, keeper: &mut KeeperSeat, slot: u8, cpu: u8, value: u64)
-    requires table { keeper.old.table ≡ words.now.table.shared.table_id }
+    requires table { keeper.old.table ≡ words.now.table }
     requires place { (slot < 32) × (cpu < keeper.old.view.settings.cpus) × (cpu < 8) }
     requires may { MayWrite keeper.old.view slot }
     ensures table { keeper.new.table ≡ keeper.old.table }
@@ -47,7 +47,7 @@ pub fn store_count(words: &Words, keeper: &mut KeeperSeat, slot: u8, cpu: u8, va
 
 /// Stores the link of `slot`: 0 for the end, else a slot's number plus 1. Condition: as for `store_record`.
 pub fn store_next(words: &Words, keeper: &mut KeeperSeat, slot: u8, link: u64)
-    requires table { keeper.old.table ≡ words.now.table.shared.table_id }
+    requires table { keeper.old.table ≡ words.now.table }
     requires place { slot < 32 }
     requires may { MayWrite keeper.old.view slot }
     ensures table { keeper.new.table ≡ keeper.old.table }

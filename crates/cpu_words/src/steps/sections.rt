@@ -16,7 +16,7 @@ use std::marker::Brand;
 /// CPU `cpu` begins a section: its section word becomes odd, and its pass the whole history.
 /// Condition: the seat is that CPU's, idle and outside, and its section word is below twice the section limit.
 pub fn enter(words: &Words, seat: &mut CpuSeat, cpu: u8)
-    requires table { seat.old.table ≡ words.now.table.shared.table_id }
+    requires table { seat.old.table ≡ words.now.table }
     requires cpu { (cpu < 8) × (seat.old.view.id ≡ cpu) }
     requires may { MayEnter seat.old.view }
     ensures table { seat.new.table ≡ seat.old.table }
