@@ -10,7 +10,7 @@ use Rattle.passive_core.specs.declared.entry.Change.{Change}
 use Rattle.passive_core.specs.declared.settings.Settings.{Settings}
 use Rattle.passive_core.specs.declared.event.Event.{Event}
 use Rattle.passive_core.specs.declared.event.Reply.{Reply}
-use Rattle.passive_core.specs.declared.state.Slot.TheVariants.{Vacant}
+use Rattle.passive_core.specs.declared.state.Slot.TheVariants.{Vacant, Retired}
 use Rattle.passive_core.specs.declared.state.Search.{Search}
 use Rattle.passive_core.specs.declared.state.Hand.{Hand}
 use Rattle.passive_core.specs.declared.state.Hand.TheVariants.{Empty}
@@ -61,7 +61,7 @@ pub record LeavesOthers (g : State) (c : ℕ) (l : CpuLists) : Type 0 where
   pub passive : (d t : ℕ) → d ≢ c → passive_at l.passive d t ≡ passive_at g.passive d t
   pub nets : (d t : ℕ) → d ≢ c → count_at l.nets d t ≡ count_at g.nets d t
   pub vacant : (d t : ℕ) → slot_at g.slots t ≡ Vacant → count_at l.counts d t ≡ count_at g.counts d t
-  pub gives_up : (given_up : List ℕ) (t : ℕ) (e : Entry) → IsIn e (slot_at g.slots t) → GivesUp g given_up t e.number → GivesUp (with_lists g l) given_up t e.number
+  pub gives_up : (given_up : List ℕ) (t : ℕ) (e : Entry) → slot_at g.slots t ≡ Retired e → GivesUp g given_up t e.number → GivesUp (with_lists g l) given_up t e.number
 
 other_view : (g : State) (l : CpuLists) (c d : ℕ) (own : CpuOwn) → LeavesOthers g c l → d ≢ c → cpu_view g d own ≡ cpu_view (with_lists g l) d own
 other_view g l c d own leaves ne n = record {
@@ -83,6 +83,7 @@ pub cpu_stays : (g : State) (l : CpuLists) (c : ℕ) (seat : ℕ → ℕ) (i : �
 cpu_stays g l c seat i leaves mine j (Keeper k) ne sits shown backed = record {
   is = shown.is;
   counts = λ d t vacant. leaves.vacant d t vacant ∙ shown.counts d t vacant;
+  live_total = shown.live_total;
   gives_up = λ t e here. leaves.gives_up k.given_up t e here (shown.gives_up t e here);
   later = shown.later;
   beyond = shown.beyond;

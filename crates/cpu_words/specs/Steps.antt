@@ -1,5 +1,5 @@
 -- What a step promises: by the seat that steps, on that seat's view alone, just one event of the core.
-use Rattle.std.specs.Prelude.{◌≡◌, ℕ, zero, suc, ◌+◌, ◌<◌, ◌^◌, List, [], length, slice_index, Option, Some, None}
+use Rattle.std.specs.Prelude.{◌≡◌, ℕ, zero, suc, ◌+◌, ◌<◌, ◌≤◌, ◌^◌, List, [], length, sum_by, slice_index, Option, Some, None}
 use mathlib.Core.Option.{some}
 use mathlib.Core.List.{IsPrefix}
 use lib.ListN.{get_elem?}
@@ -8,8 +8,10 @@ use Rattle.passive_core.specs.declared.entry.Change.{Change}
 use Rattle.passive_core.specs.declared.settings.Settings.{Settings}
 use Rattle.passive_core.specs.declared.event.Event.{Event}
 use Rattle.passive_core.specs.declared.event.Reply.{Reply}
+use Rattle.passive_core.specs.declared.event.Reply.TheVariants.{Done}
 use Rattle.passive_core.specs.State.{State}
 use Rattle.passive_core.specs.Events.{step}
+use Rattle.passive_core.specs.Invariant.{standing_of}
 use Rattle.cpu_words.specs.declared.view.InHand.TheVariants.{Empty as NoEntry}
 use Rattle.cpu_words.specs.declared.view.CpuView.{CpuView}
 use Rattle.cpu_words.specs.declared.view.KeeperView.{KeeperView}
@@ -17,7 +19,7 @@ use Rattle.cpu_words.specs.declared.view.ReferenceView.{ReferenceView}
 use Rattle.cpu_words.specs.declared.view.View.{View}
 use Rattle.cpu_words.specs.declared.view.View.TheVariants.{Keeper, Cpu, Reference, Note, Spent}
 use Rattle.cpu_words.specs.Views.{Shown, cpu_of, keeper_of, reference_of}
-use Rattle.cpu_words.specs.Rule.{Good, Ruled}
+use Rattle.cpu_words.specs.Rule.{Good, Ruled, reference_to}
 
 -- the two views are of one seat
 abbrev pub OneSeat : View → View → Type 0
@@ -36,6 +38,35 @@ pub record Makes (e : Event) (r : Reply) (v w : View) : Type 0 where
   pub made : step g e ≡ Some (record { state = after; reply = r })
   pub shown : Shown after w
   pub same : OneSeat v w
+
+-- A seat that is cut in two, or takes in another, changes no word: in whatever state of the core shows the views before, just the event is made,
+-- and the views after are shown, with as many seats of references as the core has live references.
+
+pub record SplitMakes (e : Event) (g : State) (v left right : View) : Type 0 where
+  pub after : State
+  pub reply : Reply
+  pub made : step g e ≡ Some (record { state = after; reply = reply })
+  pub good_after : Good after
+  pub shown : Shown after left
+  pub shown_right : Shown after right
+  pub count : (n : ℕ) → reference_to n left + reference_to n right + sum_by (standing_of n) g.locals ≡ reference_to n v + sum_by (standing_of n) after.locals
+
+-- just this event of the core is made as the view v is cut in two
+abbrev pub SplitsBy : Event → View → View → View → Type 0
+SplitsBy e v left right = (g : State) → Good g → Shown g v → SplitMakes e g v left right
+
+-- the id of the reference that is joined is the core's alone
+pub record JoinMakes (e : ℕ → Event) (g : State) (v u both : View) : Type 0 where
+  pub id : ℕ
+  pub after : State
+  pub made : step g (e id) ≡ Some (record { state = after; reply = Done })
+  pub good_after : Good after
+  pub shown : Shown after both
+  pub count : (n : ℕ) → reference_to n both + sum_by (standing_of n) g.locals ≡ reference_to n v + reference_to n u + sum_by (standing_of n) after.locals
+
+-- just such an event of the core is made as the view u, whose references the core has, is put into v
+abbrev pub JoinsBy : (ℕ → Event) → View → View → View → Type 0
+JoinsBy e v u both = (g : State) → Good g → Shown g v → Shown g u → ((n : ℕ) → reference_to n u ≤ sum_by (standing_of n) g.locals) → JoinMakes e g v u both
 
 -- What atomic_table's steps are told: the seat stays of its kind, takes no slots, and the tale holds
 

@@ -8,7 +8,7 @@ use Rattle.passive_core.specs.declared.entry.Kind.TheVariants.{Driver}
 use Rattle.passive_core.specs.declared.entry.Change.{Change}
 use Rattle.passive_core.specs.declared.settings.Settings.{Settings}
 use Rattle.passive_core.specs.declared.state.Slot.{Slot}
-use Rattle.passive_core.specs.declared.state.Slot.TheVariants.{Vacant, Retired}
+use Rattle.passive_core.specs.declared.state.Slot.TheVariants.{Vacant, Live, Retired}
 use Rattle.passive_core.specs.declared.state.Mark.{Mark}
 use Rattle.passive_core.specs.declared.state.Hand.{Hand}
 use Rattle.passive_core.specs.declared.state.Hand.TheVariants.{Empty, Taking, Giving, Back}
@@ -160,7 +160,7 @@ collected_net p = if p.0.collected then p.1 else 0
 abbrev pub has_collected : Mark × ℕ → Bool
 has_collected p = p.0.collected
 
--- the total of a slot is the net counts collected into it, less the references given up under the interlock
+-- the total of a retired entry's slot is the net counts collected into it, less the references given up under the interlock
 abbrev pub GivesUp : State → List ℕ → ℕ → ℕ → Type 0
 GivesUp g given_up t n = let row = zip (slice_index_or g.marks t []) (slice_index_or g.nets t []) in
     total_at g.totals t + adding_at t g.due + number_at given_up n + bias * count_by has_collected row ≡ bias * (1 + is_adding_at t g.due) + sum_by collected_net row
@@ -169,7 +169,9 @@ pub record KeeperShown (g : State) (k : KeeperView) : Type 0 where
   pub is : k ≡ keeper_view g (keeper_own k)
   -- the count words of a vacant slot are the keeper's alone
   pub counts : (c t : ℕ) → slot_at g.slots t ≡ Vacant → count_at g.counts c t ≡ count_at k.counts c t
-  pub gives_up : (t : ℕ) (e : Entry) → IsIn e (slot_at g.slots t) → GivesUp g k.given_up t e.number
+  -- nothing was collected for a live entry: the marks of its slot are an earlier entry's
+  pub live_total : (t : ℕ) (e : Entry) → slot_at g.slots t ≡ Live e → total_at g.totals t + number_at k.given_up e.number ≡ bias
+  pub gives_up : (t : ℕ) (e : Entry) → slot_at g.slots t ≡ Retired e → GivesUp g k.given_up t e.number
   pub later : (n : ℕ) → length g.history < n → number_at k.given_up n ≡ 0
   pub beyond : (c t : ℕ) → g.settings.cpus ≤ c → (mark_at g.marks t c).collected ≡ false
   pub heard : IsPrefix k.heard g.history

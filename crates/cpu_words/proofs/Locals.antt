@@ -1,0 +1,1 @@
+-- Local references by a CPU's seat, on the words.
