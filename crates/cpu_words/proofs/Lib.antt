@@ -5,4 +5,5 @@ pub mod CpuSteps
 pub mod Seeing
 pub mod Sections
 pub mod Hands
+pub mod Counting
 pub mod Locals

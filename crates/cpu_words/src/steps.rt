@@ -4,5 +4,5 @@
 pub mod locals;
 pub mod sections;
 
-pub use locals::{join_ref, split_back, split_ref};
+pub use locals::{count_add, count_down, join_ref, split_back, split_ref};
 pub use sections::enter;
