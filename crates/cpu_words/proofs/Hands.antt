@@ -62,7 +62,8 @@ leaves_hands g c h locals = record {
   gives_up = λ given_up t e gone p. p;
 }
 
-same_words : (g : State) (c : ℕ) (h : Hand) (locals : List LocalPlace) (q : Spot) → word_at (handed g c h locals) q ≡ word_at g q
+-- no word is a hand's
+pub same_words : (g : State) (c : ℕ) (h : Hand) (locals : List LocalPlace) (q : Spot) → word_at (handed g c h locals) q ≡ word_at g q
 same_words g c h locals (section_of d) = refl
 same_words g c h locals (passive_of d t) = refl
 same_words g c h locals (count_of d t) = refl
