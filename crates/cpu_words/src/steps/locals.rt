@@ -31,13 +31,8 @@ pub fn count_add(words: &Words, seat: &mut CpuSeat, cpu: u8, slot: u8, number: u
     ensures word { IsNetCount seat.old.view number result }
 {
     let _number = number;
-    by_cpu::add::<Brand>(
-        words,
-        seat,
-        80 * cpu as usize + 33 + slot as usize,
-        1,
-        Event::CountAdd(cpu),
-    )
+    let word = 80 * cpu as usize + 33 + slot as usize;
+    by_cpu::add::<Brand>(words, seat, word, 1, Event::CountAdd(cpu))
 }
 
 /// The reference that CPU `cpu` has just counted leaves its hand and gets a seat of its own.
