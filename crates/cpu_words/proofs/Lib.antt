@@ -10,3 +10,6 @@ pub mod Marked
 pub mod Grace
 pub mod Vacating
 pub mod Storing
+pub mod Hands
+pub mod Counting
+pub mod Locals

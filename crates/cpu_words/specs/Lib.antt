@@ -6,3 +6,4 @@ pub mod Sections
 pub mod Grace
 pub mod Vacating
 pub mod Storing
+pub mod Locals

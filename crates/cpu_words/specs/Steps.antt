@@ -42,7 +42,7 @@ pub record Makes (e : Event) (r : Reply) (v w : View) : Type 0 where
 -- A seat that is cut in two, or takes in another, changes no word: in whatever state of the core shows the views before, just the event is made,
 -- and the views after are shown, with as many seats of references as the core has live references.
 
-pub record Splits (e : Event) (g : State) (v left right : View) : Type 0 where
+pub record SplitMakes (e : Event) (g : State) (v left right : View) : Type 0 where
   pub after : State
   pub reply : Reply
   pub made : step g e ≡ Some (record { state = after; reply = reply })
@@ -53,10 +53,10 @@ pub record Splits (e : Event) (g : State) (v left right : View) : Type 0 where
 
 -- just this event of the core is made as the view v is cut in two
 abbrev pub SplitsBy : Event → View → View → View → Type 0
-SplitsBy e v left right = (g : State) → Good g → Shown g v → Splits e g v left right
+SplitsBy e v left right = (g : State) → Good g → Shown g v → SplitMakes e g v left right
 
 -- the id of the reference that is joined is the core's alone
-pub record Joins (e : ℕ → Event) (g : State) (v u both : View) : Type 0 where
+pub record JoinMakes (e : ℕ → Event) (g : State) (v u both : View) : Type 0 where
   pub id : ℕ
   pub after : State
   pub made : step g (e id) ≡ Some (record { state = after; reply = Done })
@@ -66,7 +66,7 @@ pub record Joins (e : ℕ → Event) (g : State) (v u both : View) : Type 0 wher
 
 -- just such an event of the core is made as the view u, whose references the core has, is put into v
 abbrev pub JoinsBy : (ℕ → Event) → View → View → View → Type 0
-JoinsBy e v u both = (g : State) → Good g → Shown g v → Shown g u → ((n : ℕ) → reference_to n u ≤ sum_by (standing_of n) g.locals) → Joins e g v u both
+JoinsBy e v u both = (g : State) → Good g → Shown g v → Shown g u → ((n : ℕ) → reference_to n u ≤ sum_by (standing_of n) g.locals) → JoinMakes e g v u both
 
 -- What atomic_table's steps are told: the seat stays of its kind, takes no slots, and the tale holds
 

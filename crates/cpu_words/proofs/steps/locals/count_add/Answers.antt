@@ -1,0 +1,12 @@
+use Rattle.std.proofs.Common.{rules, arith}
+use Rattle.cpu_words.proofs.Locals.{count_add_may}
+use Rattle.cpu_words.proofs.steps.locals.count_add.Goals as goal
+
+pub add-requires-clause-may : goal.add-requires-clause-may
+add-requires-clause-may c = count_add_may _ _ _ _ _ c.requires.cpu c.requires.may
+
+pub returns-clause-change : goal.returns-clause-change
+returns-clause-change c = (c.add.ensures.told.1 _ _ c.requires.may).0
+
+pub returns-clause-word : goal.returns-clause-word
+returns-clause-word c = (c.add.ensures.told.1 _ _ c.requires.may).1

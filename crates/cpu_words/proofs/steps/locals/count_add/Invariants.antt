@@ -1,0 +1,9 @@
+use Rattle.std.proofs.Common.{◌≡◌}
+use Rattle.passive_core.specs.declared.event.Reply.TheVariants.{Word}
+use Rattle.cpu_words.specs.declared.view.View.TheVariants.{Cpu}
+use Rattle.cpu_words.specs.Steps.{Makes}
+use Rattle.cpu_words.specs.Locals.{CountTold}
+use Rattle.cpu_words.proofs.steps.locals.count_add.Given as goal
+
+abbrev pub ghosts-add : goal.ghosts-add
+ghosts-add a = record { tells = λ x n y. Makes a.event (Word n) (Cpu x) (Cpu y) × CountTold x n y }

@@ -1,0 +1,15 @@
+use Rattle.std.proofs.Common.{rules, arith, refl}
+use Rattle.cpu_words.proofs.Locals.{count_down_may}
+use Rattle.cpu_words.proofs.steps.locals.count_down.Goals as goal
+
+pub compare_exchange-requires-clause-may : goal.compare_exchange-requires-clause-may
+compare_exchange-requires-clause-may c = count_down_may _ _ _ _ _ _ _ c.requires.cpu c.requires.may c.ranges.expected.fits refl
+
+pub returns-clause-floor : goal.returns-clause-floor
+returns-clause-floor c = (c.compare_exchange.ensures.told _ _ c.requires.may).0
+
+pub returns-clause-counted : goal.returns-clause-counted
+returns-clause-counted c = (c.compare_exchange.ensures.told _ _ c.requires.may).1
+
+pub returns-clause-collected : goal.returns-clause-collected
+returns-clause-collected c = (c.compare_exchange.ensures.told _ _ c.requires.may).2

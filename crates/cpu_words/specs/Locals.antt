@@ -1,0 +1,99 @@
+-- Local references by a CPU's seat (localcount(9)): where it may make the step, and what changes in its view.
+use Rattle.std.specs.Prelude.{◌≡◌, ℕ, ◌+◌, ◌<◌, List, Option, Some, None}
+use Rattle.passive_core.specs.declared.entry.Entry.{Entry}
+use Rattle.passive_core.specs.declared.event.Event.{Event}
+use Rattle.passive_core.specs.declared.event.Reply.TheVariants.{Word, Collected}
+use Rattle.passive_core.specs.State.{bias}
+use Rattle.cpu_words.specs.declared.view.InHand.{InHand}
+use Rattle.cpu_words.specs.declared.view.InHand.TheVariants.{Empty as NoEntry, Taking as TakingEntry, Giving as GivingEntry, Back as BackEntry}
+use Rattle.cpu_words.specs.declared.view.CpuView.{CpuView}
+use Rattle.cpu_words.specs.declared.view.ReferenceView.{ReferenceView}
+use Rattle.cpu_words.specs.declared.view.View.{View}
+use Rattle.cpu_words.specs.declared.view.View.TheVariants.{Cpu, Reference}
+use Rattle.cpu_words.specs.Views.{number_at, one_more, no_entry, cpu_of, reference_of}
+use Rattle.cpu_words.specs.Steps.{Makes}
+use Rattle.cpu_words.specs.Sections.{IsIdle}
+
+-- The hand is a CPU's own: a reference in it has no seat
+
+-- the CPU's view with this in its hand
+abbrev pub with_hand : CpuView → InHand → CpuView
+with_hand x h = record x { hand = h }
+
+-- the reference that the CPU c has in its hand, as the view of a seat; one that goes back was found collected by c
+abbrev pub reference_in : ℕ → InHand → ReferenceView
+reference_in c NoEntry = record { entry = no_entry; collected = None }
+reference_in c (TakingEntry e) = record { entry = e; collected = None }
+reference_in c (GivingEntry e) = record { entry = e; collected = None }
+reference_in c (BackEntry e) = record { entry = e; collected = Some c }
+
+-- a CPU's seat with its hand empty, and the seat of what was in it
+abbrev pub emptied : View → View
+emptied v = Cpu (with_hand (cpu_of v) NoEntry)
+
+abbrev pub cut_off : View → View
+cut_off v = Reference (reference_in (cpu_of v).id (cpu_of v).hand)
+
+-- a CPU's seat with the reference in its hand, to be given up
+abbrev pub taking_in : View → View → View
+taking_in v u = Cpu (with_hand (cpu_of v) (GivingEntry (reference_of u).entry))
+
+-- what is in the hand was just counted, or was found collected
+
+abbrev pub IsTaking : CpuView → Entry → Type 0
+IsTaking x e = x.hand ≡ TakingEntry e
+
+abbrev pub IsGiving : CpuView → Entry → Type 0
+IsGiving x e = x.hand ≡ GivingEntry e
+
+abbrev pub IsBack : CpuView → Entry → Type 0
+IsBack x e = x.hand ≡ BackEntry e
+
+-- the word w is the CPU's net count for n, over the bias: what it acquired less what it released
+abbrev pub IsNetCount : CpuView → ℕ → ℕ → Type 0
+IsNetCount x n w = w + number_at x.released n ≡ bias + number_at x.acquired n
+
+-- the last found entry is n in the slot t, and the CPU's net count for it is below the limit
+pub record MayCount (x : CpuView) (t n : ℕ) : Type 0 where
+  pub idle : IsIdle x
+  pub entry : Entry
+  pub found : x.found ≡ Some entry
+  pub slot : entry.slot ≡ t
+  pub number : entry.number ≡ n
+  pub room : number_at x.acquired n < number_at x.released n + x.settings.count_limit
+
+-- a reference to the last found entry was counted, and is in the hand
+abbrev pub HasCounted : CpuView → ℕ → CpuView → Type 0
+HasCounted x n y = (e : Entry) × (x.found ≡ Some e) × (e.number ≡ n) × (y ≡ record x { hand = TakingEntry e; acquired = one_more x.acquired n })
+
+-- what the addition of 1 to the word w tells
+abbrev pub CountTold : CpuView → ℕ → CpuView → Type 0
+CountTold x w y = (t n : ℕ) → MayCount x t n → HasCounted x n y × IsNetCount x n w
+
+-- the reference in the hand is to n in the slot t, and w is the CPU's net count for it
+pub record MayCountDown (x : CpuView) (t n w : ℕ) : Type 0 where
+  pub entry : Entry
+  pub giving : IsGiving x entry
+  pub slot : entry.slot ≡ t
+  pub number : entry.number ≡ n
+  pub net : IsNetCount x n w
+
+-- the reference was counted down, or it stays in the hand, to go back
+abbrev pub HasCountedDown : CpuView → ℕ → CpuView → Type 0
+HasCountedDown x n y = (e : Entry) × IsGiving x e × (e.number ≡ n) × (y ≡ record x { hand = NoEntry; released = one_more x.released n })
+
+abbrev pub HasFoundCollected : CpuView → ℕ → CpuView → Type 0
+HasFoundCollected x n y = (e : Entry) × IsGiving x e × (e.number ≡ n) × (y ≡ with_hand x (BackEntry e))
+
+-- what the compare-exchange from `old` tells, where it found the word w
+abbrev pub DownTold : Event → ℕ → CpuView → ℕ → CpuView → Type 0
+DownTold e old x w y = (t n : ℕ) → MayCountDown x t n old → (0 < old)
+    × (w ≡ old → Makes e (Word w) (Cpu x) (Cpu y) × HasCountedDown x n y)
+    × ((w ≡ old → ⊥) → Makes e Collected (Cpu x) (Cpu y) × HasFoundCollected x n y)
+
+-- the reference has left the hand, and has its seat
+abbrev pub HasSplit : CpuView → CpuView → ReferenceView → Type 0
+HasSplit x y v = (e : Entry) × IsTaking x e × (y ≡ with_hand x NoEntry) × (v ≡ record { entry = e; collected = None })
+
+abbrev pub HasSplitBack : CpuView → CpuView → ReferenceView → Type 0
+HasSplitBack x y v = (e : Entry) × IsBack x e × (y ≡ with_hand x NoEntry) × (v ≡ record { entry = e; collected = Some x.id })

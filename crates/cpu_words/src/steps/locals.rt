@@ -1,0 +1,116 @@
+//! Local references (localcount(9)) by a CPU's seat: each is a seat of its own but while it is in the CPU's hand.
+
+ghost use Rattle.std.specs.Prelude.{◌≡◌, ◌≢◌, ◌<◌, Some, None};
+ghost use Rattle.passive_core.specs.declared.entry.Entry.{Entry};
+ghost use Rattle.passive_core.specs.declared.event.Event.TheVariants.{CountAdd, SplitRef, JoinRef, CountDown, SplitBack};
+ghost use Rattle.passive_core.specs.declared.event.Reply.TheVariants.{Word, Collected};
+ghost use Rattle.cpu_words.specs.declared.view.View.TheVariants.{Cpu, Reference};
+ghost use Rattle.cpu_words.specs.declared.view.InHand.TheVariants.{Giving as GivingEntry};
+ghost use Rattle.cpu_words.specs.Sections.{IsIdle};
+ghost use Rattle.cpu_words.specs.Steps.{Makes, SplitsBy, JoinsBy};
+ghost use Rattle.cpu_words.specs.Locals.{IsTaking, IsBack, IsNetCount, MayCount, HasCounted, MayCountDown, HasCountedDown, HasFoundCollected, HasSplit, HasSplitBack, with_hand};
+
+use crate::law::Words;
+use crate::seat::{CpuSeat, ReferenceSeat};
+use crate::step::by_cpu;
+use crate::step::in_hand::InHandReference;
+use passive_core::Event;
+use std::marker::Brand;
+
+/// CPU `cpu` counts a local reference to its last found entry, the one with `number` in `slot`, and has it in its hand. It answers the
+/// count word as it was.
+/// Condition: the seat is that CPU's, idle, and its net count for that number is below the count limit.
+pub fn count_add(words: &Words, seat: &mut CpuSeat, cpu: u8, slot: u8, number: u64) -> u64
+    requires table { seat.old.table ≡ words.now.table }
+    requires place { (cpu < 8) × (slot < 32) }
+    requires cpu { seat.old.view.id ≡ cpu }
+    requires may { MayCount seat.old.view slot number }
+    ensures table { seat.new.table ≡ seat.old.table }
+    ensures event { Makes (CountAdd cpu) (Word result) (Cpu seat.old.view) (Cpu seat.new.view) }
+    ensures change { HasCounted seat.old.view number seat.new.view }
+    ensures word { IsNetCount seat.old.view number result }
+{
+    let _number = number;
+    let word = 80 * cpu as usize + 33 + slot as usize;
+    by_cpu::add::<Brand>(words, seat, word, 1, Event::CountAdd(cpu))
+}
+
+/// The reference that CPU `cpu` has just counted leaves its hand and gets a seat of its own.
+/// Condition: the seat is that CPU's, with a reference in its hand that was just counted.
+pub fn split_ref(words: &Words, seat: &mut CpuSeat, cpu: u8) -> ReferenceSeat
+    requires table { seat.old.table ≡ words.now.table }
+    requires cpu { seat.old.view.id ≡ cpu }
+    requires may { (e : Entry) × IsTaking seat.old.view e }
+    ensures table { (seat.new.table ≡ seat.old.table) × (result.table ≡ seat.old.table) }
+    ensures event { SplitsBy (SplitRef cpu) (Cpu seat.old.view) (Cpu seat.new.view) (Reference result.view) }
+    ensures change { HasSplit seat.old.view seat.new.view result.view }
+{
+    let _cpu = cpu;
+    ReferenceSeat {
+        token: words
+            .table
+            .shared
+            .split_seat::<InHandReference>(&mut seat.token),
+    }
+}
+
+/// The reference that CPU `cpu` couldn't count down leaves its hand and gets its seat again, which knows the CPU whose count word was
+/// collected. Condition: the seat is that CPU's, with such a reference in its hand.
+pub fn split_back(words: &Words, seat: &mut CpuSeat, cpu: u8) -> ReferenceSeat
+    requires table { seat.old.table ≡ words.now.table }
+    requires cpu { seat.old.view.id ≡ cpu }
+    requires may { (e : Entry) × IsBack seat.old.view e }
+    ensures table { (seat.new.table ≡ seat.old.table) × (result.table ≡ seat.old.table) }
+    ensures event { SplitsBy (SplitBack cpu) (Cpu seat.old.view) (Cpu seat.new.view) (Reference result.view) }
+    ensures change { HasSplitBack seat.old.view seat.new.view result.view }
+{
+    let _cpu = cpu;
+    ReferenceSeat {
+        token: words
+            .table
+            .shared
+            .split_seat::<InHandReference>(&mut seat.token),
+    }
+}
+
+/// A local reference is taken into the hand of CPU `cpu`, to be given up. Condition: the seat is that CPU's, and idle.
+pub fn join_ref(words: &Words, seat: &mut CpuSeat, cpu: u8, reference: ReferenceSeat)
+    requires table { (seat.old.table ≡ words.now.table) × (reference.table ≡ words.now.table) }
+    requires cpu { seat.old.view.id ≡ cpu }
+    requires may { IsIdle seat.old.view }
+    ensures table { seat.new.table ≡ seat.old.table }
+    ensures event { JoinsBy (JoinRef cpu) (Cpu seat.old.view) (Reference reference.view) (Cpu seat.new.view) }
+    ensures change { seat.new.view ≡ with_hand seat.old.view (GivingEntry reference.view.entry) }
+{
+    let _cpu = cpu;
+    let ReferenceSeat { token } = reference;
+    words
+        .table
+        .shared
+        .join_seat::<InHandReference>(&mut seat.token, token);
+}
+
+/// CPU `cpu` counts the reference in its hand, to the entry with `number` in `slot`, down, where its count word still is `expected`: one
+/// compare-exchange. It answers the word as it was. Another word than `expected` says that the keeper collected the word: then the
+/// reference stays in the hand, to go back.
+/// Condition: the seat is that CPU's, with such a reference in its hand, and `expected` is its net count for that number, over the bias.
+pub fn count_down(words: &Words, seat: &mut CpuSeat, cpu: u8, slot: u8, number: u64, expected: u64) -> u64
+    requires table { seat.old.table ≡ words.now.table }
+    requires place { (cpu < 8) × (slot < 32) }
+    requires cpu { seat.old.view.id ≡ cpu }
+    requires may { MayCountDown seat.old.view slot number expected }
+    ensures table { seat.new.table ≡ seat.old.table }
+    ensures floor { 0 < expected }
+    ensures counted { result ≡ expected → Makes (CountDown cpu) (Word result) (Cpu seat.old.view) (Cpu seat.new.view) × HasCountedDown seat.old.view number seat.new.view }
+    ensures collected { result ≢ expected → Makes (CountDown cpu) Collected (Cpu seat.old.view) (Cpu seat.new.view) × HasFoundCollected seat.old.view number seat.new.view }
+{
+    let _number = number;
+    by_cpu::compare_exchange::<Brand>(
+        words,
+        seat,
+        80 * cpu as usize + 33 + slot as usize,
+        expected,
+        expected.wrapping_sub(1),
+        Event::CountDown(cpu),
+    )
+}
