@@ -4,3 +4,5 @@ pub mod Passes
 pub mod CpuSteps
 pub mod Seeing
 pub mod Sections
+pub mod ReferenceLists
+pub mod Passives
