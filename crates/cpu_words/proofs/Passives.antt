@@ -37,7 +37,7 @@ use Rattle.cpu_words.specs.Sections.{IsIdle}
 use Rattle.cpu_words.specs.Passives.{IsAt, MayAdd, MayUse, HasAdded, HasSubtracted, IsWordOf, tells_added, tells_subtracted, tells_passive}
 use Rattle.cpu_words.proofs.Placing.{agrees_set}
 use Rattle.cpu_words.proofs.Passes.{attached_prefix, taken_is_prefix}
-use Rattle.cpu_words.proofs.CpuSteps.{CpuLists, lists_of, with_lists, LeavesOthers, cpu_makes}
+use Rattle.cpu_words.proofs.CpuSteps.{CpuLists, lists_of, with_lists, LeavesOthers, same_counts, cpu_makes}
 use Rattle.cpu_words.proofs.Seeing.{Seen, seen_of, idle_of}
 use Rattle.cpu_words.proofs.ReferenceLists.{to_same, to_other, in_cons, counts, one_less, others_stay, was_in}
 
@@ -233,3 +233,81 @@ add_at z x e idle has room s r i at fits =
 pub add_may : (z : Settings) (x : CpuView) (c t n : ℕ) → x.id ≡ c → MayAdd x t n → CpuMay z x (80 * c + 1 + t) (λ m. (m + 1) % 2 ^ 64) (tells_added (PassiveAdd c n) (80 * c + 1 + t))
 add_may z x c t n id may = subst (λ (p : ℕ × ℕ × ℕ). CpuMay z x (80 * p.0 + 1 + p.1) (λ m. (m + 1) % 2 ^ 64) (tells_added (PassiveAdd p.0 p.2) (80 * p.0 + 1 + p.1))) (λ k. (id k, may.at.slot k, may.at.number k))
     (add_at z x may.entry may.idle may.known (subst (λ (k : ℕ). references_to k x.references < x.settings.passive_limit) (sym may.at.number) may.room))
+
+-- One reference less
+
+sub_allowed : (g : State) (x : CpuView) (e : Entry) → Good g → CpuShown g x → Known g x e → IsIdle x → 0 < references_to e.number x.references
+    → step g (PassiveSub x.id e.number) ≡ Some (record { state = after_sub g x.id e.slot; reply = Word (passive_at g.passive x.id e.slot) })
+sub_allowed g x e good had known idle one =
+    let count = known.count in
+    let held : nat_lt 0 (passive_at g.passive x.id e.slot) ≡ true = lt-ltb 0 (passive_at g.passive x.id e.slot) (omega (arith, count, one)) in
+    rw (known.of, idle_of g x (seen_of g x good had) had idle, held) refl
+
+sub_at : (z : Settings) (x : CpuView) (e : Entry) → IsIdle x → Contains x.references e
+    → CpuMay z x (80 * x.id + 1 + e.slot) (λ m. (m + (2 ^ 64 - 1)) % 2 ^ 64) (tells_subtracted (PassiveSub x.id e.number) (80 * x.id + 1 + e.slot))
+sub_at z x e idle among s r i at fits =
+    let g = r.g in
+    let had : CpuShown g x = (r.shows.fits i (Cpu x) at).1 in
+    let seen = seen_of g x r.good had in
+    let known = held_known g x e r.good had among in
+    let word = slice_index s.words (80 * x.id + 1 + e.slot) in
+    let stands : word ≡ passive_at g.passive x.id e.slot = put_word s.words g x e r.good had known r.words in
+    let count = known.count in
+    let one = counts x.references e e.number among refl in
+    let limited = r.good.holds.passive.limited x.id e.slot in
+    let less = one_less e.number x.references one in
+    let next : (word + (2 ^ 64 - 1)) % 2 ^ 64 ≡ passive_at g.passive x.id e.slot - 1 = omega (arith, stands, count, one, limited, seen.fit.passive) in
+    let is : (word + (2 ^ 64 - 1)) % 2 ^ 64 ≡ references_to e.number (without e.number x.references) = omega (arith, next, count, less) in
+    let made = sub_allowed g x e r.good had known idle one ∙ (λ k. Some (record { state = with_lists g (put g x.id e.slot (sym next k)); reply = Word (passive_at g.passive x.id e.slot) })) in
+    let done = put_makes z s r i x e (without e.number x.references) ((word + (2 ^ 64 - 1)) % 2 ^ 64) (PassiveSub x.id e.number) at known is (λ n off. others_stay e.number n x.references (λ same. off (sym same)))
+        (λ f left. had.references f (was_in e.number x.references f left)) made in
+    (Cpu done.0, done.2, (refl, (done.3, λ c n event.
+        let number : e.number ≡ n = cc in
+        (done.1 ∙ ap (λ (k : ℕ). record x { references = without k x.references }) number, stands ∙ count ∙ ap (λ (k : ℕ). references_to k x.references) number))))
+
+pub sub_may : (z : Settings) (x : CpuView) (c t n : ℕ) → x.id ≡ c → MayUse x t n → CpuMay z x (80 * c + 1 + t) (λ m. (m + (2 ^ 64 - 1)) % 2 ^ 64) (tells_subtracted (PassiveSub c n) (80 * c + 1 + t))
+sub_may z x c t n id may = subst (λ (p : ℕ × ℕ × ℕ). CpuMay z x (80 * p.0 + 1 + p.1) (λ m. (m + (2 ^ 64 - 1)) % 2 ^ 64) (tells_subtracted (PassiveSub p.0 p.2) (80 * p.0 + 1 + p.1))) (λ k. (id k, may.at.slot k, may.at.number k))
+    (sub_at z x may.entry may.idle may.held)
+
+-- The record of an entry that the CPU refers to
+
+-- a word of its record is the entry's
+pub row_word : (g : State) (e : Entry) (k : ℕ) → Good g → IsIn e (slot_at g.slots e.slot) → word (row_at g.rows e.slot) k ≡ word (words_of e) k
+row_word g e k good here = ap (λ (r : RecordWords). word r k) (good.holds.rows e.slot e here).0
+
+-- nothing changes
+unchanged : (words : List ℕ) (g : State) (p : Spot) → Good g → IsSpot g.settings p → Agrees words g → Agrees (set words (index p) (slice_index words (index p))) g
+unchanged words g p good there agrees = agrees_set words g g p (slice_index words (index p)) good.holds.fit agrees refl there (sym (agrees.at p there)) (λ q also ne. refl)
+
+load_at : (z : Settings) (x : CpuView) (e : Entry) (k : ℕ) → IsIdle x → Contains x.references e → k < 5
+    → CpuMay z x (657 + 8 * e.slot + k) (λ m. m) (tells_passive (LoadRecord (Passive x.id e.number k)) (657 + 8 * e.slot + k))
+load_at z x e k idle among few s r i at fits =
+    let g = r.g in
+    let had : CpuShown g x = (r.shows.fits i (Cpu x) at).1 in
+    let seen = seen_of g x r.good had in
+    let known = held_known g x e r.good had among in
+    let found = slice_index s.words (657 + 8 * e.slot + k) in
+    let stands : found ≡ word (row_at g.rows e.slot) k = r.words.at (record_of e.slot k) (known.lt, few) in
+    let count = known.count in
+    let one = counts x.references e e.number among refl in
+    let held : nat_lt 0 (passive_at g.passive x.id e.slot) ≡ true = lt-ltb 0 (passive_at g.passive x.id e.slot) (omega (arith, count, one)) in
+    let made : step g (LoadRecord (Passive x.id e.number k)) ≡ Some (record { state = g; reply = Word found }) =
+        rw (known.of, idle_of g x seen had idle, held, lt-ltb k 5 few) (λ j. Some (record { state = g; reply = Word (sym stands j) })) in
+    let l = lists_of g in
+    let own = own_of x in
+    let leaves = same_counts g x.id l refl refl refl refl (λ d ne. refl) (λ d ne. refl) (λ d ne. refl) (λ d ne. refl) (λ d ne. refl) (λ d ne. refl) in
+    let shown : CpuShown g (cpu_view g x.id own) = subst (CpuShown g) had.is had in
+    let words = unchanged s.words g (record_of e.slot k) r.good (known.lt, few) r.words in
+    let done = cpu_makes z s r i x (657 + 8 * e.slot + k) found l (LoadRecord (Passive x.id e.number k)) (Word found) own at made leaves (λ n. refl) refl shown words in
+    let y = cpu_view g x.id own in
+    (Cpu y, done.0, (refl, (done.1, sym had.is, λ c t n j event place small f at_ held_.
+        let same_number : e.number ≡ n = cc in
+        let same_word : k ≡ j = cc in
+        let slot : e.slot ≡ t = omega (arith, same_word, place) in
+        let its = held_known g x f r.good had held_ in
+        let one_slot : e.slot ≡ f.slot = slot ∙ sym at_.slot in
+        stands ∙ (λ h. word (row_at g.rows (one_slot h)) (same_word h)) ∙ row_word g f j r.good its.here)))
+
+pub load_may : (z : Settings) (x : CpuView) (c t n k : ℕ) → x.id ≡ c → k < 5 → MayUse x t n → CpuMay z x (657 + 8 * t + k) (λ m. m) (tells_passive (LoadRecord (Passive c n k)) (657 + 8 * t + k))
+load_may z x c t n k id few may = subst (λ (p : ℕ × ℕ × ℕ). CpuMay z x (657 + 8 * p.1 + k) (λ m. m) (tells_passive (LoadRecord (Passive p.0 p.2 k)) (657 + 8 * p.1 + k))) (λ j. (id j, may.at.slot j, may.at.number j))
+    (load_at z x may.entry k may.idle may.held few)
