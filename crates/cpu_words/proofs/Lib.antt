@@ -5,4 +5,5 @@ pub mod CpuSteps
 pub mod Seeing
 pub mod Sections
 pub mod ReferenceLists
+pub mod Reading
 pub mod Passives

@@ -2,7 +2,9 @@
 //! memory.
 
 pub mod passive;
+pub mod reading;
 pub mod sections;
 
 pub use passive::{load_passive, passive_add, passive_sub};
+pub use reading::load_local;
 pub use sections::enter;
