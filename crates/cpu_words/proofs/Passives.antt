@@ -30,14 +30,15 @@ use Rattle.cpu_words.specs.declared.view.CpuView.{CpuView}
 use Rattle.cpu_words.specs.declared.view.View.{View}
 use Rattle.cpu_words.specs.declared.view.View.TheVariants.{Cpu}
 use Rattle.cpu_words.specs.Spots.{Spot, section_of, passive_of, count_of, head_word, next_of, record_of, total_of, index, IsSpot, word_at}
-use Rattle.cpu_words.specs.Views.{CpuOwn, own_of, cpu_view, depth_of, references_to, without, CpuShown}
+use Rattle.cpu_words.specs.Views.{CpuOwn, own_of, cpu_view, depth_of, references_to, without, CpuShown, cpu_of}
 use Rattle.cpu_words.specs.Rule.{Agrees, Good, Ruled}
 use Rattle.cpu_words.specs.Steps.{Makes, CpuMay}
 use Rattle.cpu_words.specs.Sections.{IsIdle}
 use Rattle.cpu_words.specs.Passives.{IsAt, MayAdd, MayUse, HasAdded, HasSubtracted, IsWordOf, tells_added, tells_subtracted, tells_passive}
 use Rattle.cpu_words.proofs.Placing.{agrees_set}
 use Rattle.cpu_words.proofs.Passes.{attached_prefix, taken_is_prefix}
-use Rattle.cpu_words.proofs.CpuSteps.{CpuLists, lists_of, with_lists, LeavesOthers, same_counts, cpu_makes}
+use Rattle.cpu_words.proofs.CpuSteps.{CpuLists, lists_of, with_lists, LeavesOthers, cpu_makes}
+use Rattle.cpu_words.proofs.Reading.{row_word, keeps_view}
 use Rattle.cpu_words.proofs.Seeing.{Seen, seen_of, idle_of}
 use Rattle.cpu_words.proofs.ReferenceLists.{to_same, to_other, in_cons, counts, one_less, others_stay, was_in}
 
@@ -189,6 +190,11 @@ put_makes z s r i x e references m event at known is others attached made =
     let change : cpu_view (with_lists g l) x.id own ≡ record x { references = references } = ap (λ (v : CpuView). record v { references = references }) (sym had.is) in
     (cpu_view (with_lists g l) x.id own, change, done.0, done.1)
 
+-- a CPU's seat has a view after
+moved : (z : Settings) (s : Table ℕ View) (i : ℕ) (x : CpuView) (p m : ℕ) (tells : CpuView → ℕ → CpuView → Type 0) (y : CpuView) → Ruled z (stepped s p m i [] (Cpu y) keeps) → tells x (slice_index s.words p) y
+    → (w : View) × Ruled z (stepped s p m i [] w keeps) × ((w ≡ Cpu (cpu_of w)) × tells x (slice_index s.words p) (cpu_of w))
+moved z s i x p m tells y ruled told = (Cpu y, ruled, (refl, told))
+
 -- One reference more
 
 add_allowed : (g : State) (x : CpuView) (e : Entry) → Good g → CpuShown g x → Known g x e → IsIdle x → (x.found ≡ Some e) ⊎ Contains x.references e → references_to e.number x.references < x.settings.passive_limit
@@ -224,11 +230,11 @@ add_at z x e idle has room s r i at fits =
     let made = add_allowed g x e r.good had known idle has room ∙ (λ k. Some (record { state = with_lists g (put g x.id e.slot (sym next k)); reply = Word (passive_at g.passive x.id e.slot) })) in
     let done = put_makes z s r i x e (e ∷ x.references) ((word + 1) % 2 ^ 64) (PassiveAdd x.id e.number) at known is (λ n off. to_other n e x.references off)
         (λ f among. ⊎_elim (λ (here : e ≡ f). subst (IsAttached x.pass) here known.attached) (λ (later : Contains x.references f). had.references f later) (in_cons e f x.references among)) made in
-    (Cpu done.0, done.2, (refl, (done.3, λ c t n event place.
+    moved z s i x (80 * x.id + 1 + e.slot) ((word + 1) % 2 ^ 64) (tells_added (PassiveAdd x.id e.number) (80 * x.id + 1 + e.slot)) done.0 done.2 (done.3, λ c t n event place.
         let number : e.number ≡ n = cc in
         let cpu : x.id ≡ c = cc in
         let slot : e.slot ≡ t = omega (arith, cpu, place) in
-        ((e, record { slot = slot; number = number }, known.attached, done.1), omega (arith, slot, known.few), stands ∙ count ∙ ap (λ (k : ℕ). references_to k x.references) number))))
+        ((e, record { slot = slot; number = number }, known.attached, done.1), omega (arith, slot, known.few), stands ∙ count ∙ ap (λ (k : ℕ). references_to k x.references) number))
 
 pub add_may : (z : Settings) (x : CpuView) (c t n : ℕ) → x.id ≡ c → MayAdd x t n → CpuMay z x (80 * c + 1 + t) (λ m. (m + 1) % 2 ^ 64) (tells_added (PassiveAdd c n) (80 * c + 1 + t))
 add_may z x c t n id may = subst (λ (p : ℕ × ℕ × ℕ). CpuMay z x (80 * p.0 + 1 + p.1) (λ m. (m + 1) % 2 ^ 64) (tells_added (PassiveAdd p.0 p.2) (80 * p.0 + 1 + p.1))) (λ k. (id k, may.at.slot k, may.at.number k))
@@ -243,8 +249,11 @@ sub_allowed g x e good had known idle one =
     let held : nat_lt 0 (passive_at g.passive x.id e.slot) ≡ true = lt-ltb 0 (passive_at g.passive x.id e.slot) (omega (arith, count, one)) in
     rw (known.of, idle_of g x (seen_of g x good had) had idle, held) refl
 
+less_of : (x y : CpuView) (m n : ℕ) → m ≡ n → y ≡ record x { references = without m x.references } → HasSubtracted x n y
+less_of x y m n same is = is ∙ ap (λ (k : ℕ). record x { references = without k x.references }) same
+
 sub_at : (z : Settings) (x : CpuView) (e : Entry) → IsIdle x → Contains x.references e
-    → CpuMay z x (80 * x.id + 1 + e.slot) (λ m. (m + (2 ^ 64 - 1)) % 2 ^ 64) (tells_subtracted (PassiveSub x.id e.number) (80 * x.id + 1 + e.slot))
+    → CpuMay z x (80 * x.id + 1 + e.slot) (λ m. (m + (2 ^ 64 - 1)) % 2 ^ 64) (tells_subtracted (PassiveSub x.id e.number))
 sub_at z x e idle among s r i at fits =
     let g = r.g in
     let had : CpuShown g x = (r.shows.fits i (Cpu x) at).1 in
@@ -261,23 +270,15 @@ sub_at z x e idle among s r i at fits =
     let made = sub_allowed g x e r.good had known idle one ∙ (λ k. Some (record { state = with_lists g (put g x.id e.slot (sym next k)); reply = Word (passive_at g.passive x.id e.slot) })) in
     let done = put_makes z s r i x e (without e.number x.references) ((word + (2 ^ 64 - 1)) % 2 ^ 64) (PassiveSub x.id e.number) at known is (λ n off. others_stay e.number n x.references (λ same. off (sym same)))
         (λ f left. had.references f (was_in e.number x.references f left)) made in
-    (Cpu done.0, done.2, (refl, (done.3, λ c n event.
+    moved z s i x (80 * x.id + 1 + e.slot) ((word + (2 ^ 64 - 1)) % 2 ^ 64) (tells_subtracted (PassiveSub x.id e.number)) done.0 done.2 (done.3, λ c n event.
         let number : e.number ≡ n = cc in
-        (done.1 ∙ ap (λ (k : ℕ). record x { references = without k x.references }) number, stands ∙ count ∙ ap (λ (k : ℕ). references_to k x.references) number))))
+        (less_of x done.0 e.number n number done.1, stands ∙ count ∙ ap (λ (k : ℕ). references_to k x.references) number))
 
-pub sub_may : (z : Settings) (x : CpuView) (c t n : ℕ) → x.id ≡ c → MayUse x t n → CpuMay z x (80 * c + 1 + t) (λ m. (m + (2 ^ 64 - 1)) % 2 ^ 64) (tells_subtracted (PassiveSub c n) (80 * c + 1 + t))
-sub_may z x c t n id may = subst (λ (p : ℕ × ℕ × ℕ). CpuMay z x (80 * p.0 + 1 + p.1) (λ m. (m + (2 ^ 64 - 1)) % 2 ^ 64) (tells_subtracted (PassiveSub p.0 p.2) (80 * p.0 + 1 + p.1))) (λ k. (id k, may.at.slot k, may.at.number k))
+pub sub_may : (z : Settings) (x : CpuView) (c t n : ℕ) → x.id ≡ c → MayUse x t n → CpuMay z x (80 * c + 1 + t) (λ m. (m + (2 ^ 64 - 1)) % 2 ^ 64) (tells_subtracted (PassiveSub c n))
+sub_may z x c t n id may = subst (λ (p : ℕ × ℕ × ℕ). CpuMay z x (80 * p.0 + 1 + p.1) (λ m. (m + (2 ^ 64 - 1)) % 2 ^ 64) (tells_subtracted (PassiveSub p.0 p.2))) (λ k. (id k, may.at.slot k, may.at.number k))
     (sub_at z x may.entry may.idle may.held)
 
 -- The record of an entry that the CPU refers to
-
--- a word of its record is the entry's
-pub row_word : (g : State) (e : Entry) (k : ℕ) → Good g → IsIn e (slot_at g.slots e.slot) → word (row_at g.rows e.slot) k ≡ word (words_of e) k
-row_word g e k good here = ap (λ (r : RecordWords). word r k) (good.holds.rows e.slot e here).0
-
--- nothing changes
-unchanged : (words : List ℕ) (g : State) (p : Spot) → Good g → IsSpot g.settings p → Agrees words g → Agrees (set words (index p) (slice_index words (index p))) g
-unchanged words g p good there agrees = agrees_set words g g p (slice_index words (index p)) good.holds.fit agrees refl there (sym (agrees.at p there)) (λ q also ne. refl)
 
 load_at : (z : Settings) (x : CpuView) (e : Entry) (k : ℕ) → IsIdle x → Contains x.references e → k < 5
     → CpuMay z x (657 + 8 * e.slot + k) (λ m. m) (tells_passive (LoadRecord (Passive x.id e.number k)) (657 + 8 * e.slot + k))
@@ -293,20 +294,13 @@ load_at z x e k idle among few s r i at fits =
     let held : nat_lt 0 (passive_at g.passive x.id e.slot) ≡ true = lt-ltb 0 (passive_at g.passive x.id e.slot) (omega (arith, count, one)) in
     let made : step g (LoadRecord (Passive x.id e.number k)) ≡ Some (record { state = g; reply = Word found }) =
         rw (known.of, idle_of g x seen had idle, held, lt-ltb k 5 few) (λ j. Some (record { state = g; reply = Word (sym stands j) })) in
-    let l = lists_of g in
-    let own = own_of x in
-    let leaves = same_counts g x.id l refl refl refl refl (λ d ne. refl) (λ d ne. refl) (λ d ne. refl) (λ d ne. refl) (λ d ne. refl) (λ d ne. refl) in
-    let shown : CpuShown g (cpu_view g x.id own) = subst (CpuShown g) had.is had in
-    let words = unchanged s.words g (record_of e.slot k) r.good (known.lt, few) r.words in
-    let done = cpu_makes z s r i x (657 + 8 * e.slot + k) found l (LoadRecord (Passive x.id e.number k)) (Word found) own at made leaves (λ n. refl) refl shown words in
-    let y = cpu_view g x.id own in
-    (Cpu y, done.0, (refl, (done.1, sym had.is, λ c t n j event place small f at_ held_.
-        let same_number : e.number ≡ n = cc in
+    let done = keeps_view z s r i (Cpu x) (record_of e.slot k) (LoadRecord (Passive x.id e.number k)) (Word found) at (known.lt, few) made (refl, refl, refl) in
+    moved z s i x (657 + 8 * e.slot + k) found (tells_passive (LoadRecord (Passive x.id e.number k)) (657 + 8 * e.slot + k)) x done.0 (done.1, refl, λ c t n j event place f at_ held_.
         let same_word : k ≡ j = cc in
         let slot : e.slot ≡ t = omega (arith, same_word, place) in
         let its = held_known g x f r.good had held_ in
         let one_slot : e.slot ≡ f.slot = slot ∙ sym at_.slot in
-        stands ∙ (λ h. word (row_at g.rows (one_slot h)) (same_word h)) ∙ row_word g f j r.good its.here)))
+        stands ∙ (λ h. word (row_at g.rows (one_slot h)) (same_word h)) ∙ row_word g f j r.good its.here)
 
 pub load_may : (z : Settings) (x : CpuView) (c t n k : ℕ) → x.id ≡ c → k < 5 → MayUse x t n → CpuMay z x (657 + 8 * t + k) (λ m. m) (tells_passive (LoadRecord (Passive c n k)) (657 + 8 * t + k))
 load_may z x c t n k id few may = subst (λ (p : ℕ × ℕ × ℕ). CpuMay z x (657 + 8 * p.1 + k) (λ m. m) (tells_passive (LoadRecord (Passive p.0 p.2 k)) (657 + 8 * p.1 + k))) (λ j. (id j, may.at.slot j, may.at.number j))

@@ -31,7 +31,7 @@ use Rattle.cpu_words.specs.Spots.{Spot, record_of, index, IsSpot, word_at}
 use Rattle.cpu_words.specs.Views.{ReferenceShown}
 use Rattle.cpu_words.specs.Rule.{Agrees, Good, Ruled}
 use Rattle.cpu_words.specs.Steps.{OneSeat, Makes, ReferenceMay}
-use Rattle.cpu_words.specs.Reading.{LoadsLocal, tells_local}
+use Rattle.cpu_words.specs.Reading.{tells_local}
 use Rattle.cpu_words.proofs.Placing.{agrees_set}
 use Rattle.cpu_words.proofs.Showing.{shows_set, backed}
 

@@ -52,10 +52,10 @@ abbrev pub tells_added : Event → ℕ → CpuView → ℕ → CpuView → Type 
 tells_added event i x m y = Makes event (Word m) (Cpu x) (Cpu y)
     × ((c t n : ℕ) → event ≡ PassiveAdd c n → i ≡ 80 * c + 1 + t → HasAdded x t n y × (t < 32) × (m ≡ references_to n x.references))
 
-abbrev pub tells_subtracted : Event → ℕ → CpuView → ℕ → CpuView → Type 0
-tells_subtracted event i x m y = Makes event (Word m) (Cpu x) (Cpu y)
+abbrev pub tells_subtracted : Event → CpuView → ℕ → CpuView → Type 0
+tells_subtracted event x m y = Makes event (Word m) (Cpu x) (Cpu y)
     × ((c n : ℕ) → event ≡ PassiveSub c n → HasSubtracted x n y × (m ≡ references_to n x.references))
 
 abbrev pub tells_passive : Event → ℕ → CpuView → ℕ → CpuView → Type 0
 tells_passive event i x m y = Makes event (Word m) (Cpu x) (Cpu y)
-    × (y ≡ x) × ((c t n k : ℕ) → event ≡ LoadRecord (Passive c n k) → i ≡ 657 + 8 * t + k → k < 5 → IsWordOf x t n k m)
+    × (y ≡ x) × ((c t n k : ℕ) → event ≡ LoadRecord (Passive c n k) → i ≡ 657 + 8 * t + k → IsWordOf x t n k m)

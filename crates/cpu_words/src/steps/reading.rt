@@ -1,8 +1,12 @@
 //! A record's words, loaded by a local reference (localcount(9)).
 
-ghost use Rattle.std.specs.Prelude.{◌≡◌, ◌<◌};
+ghost use Rattle.std.specs.Prelude.{◌≡◌, ◌<◌, ℕ};
+ghost use Rattle.passive_core.specs.declared.event.Event.TheVariants.{LoadRecord};
+ghost use Rattle.passive_core.specs.declared.event.RecordOf.TheVariants.{Local};
+ghost use Rattle.passive_core.specs.declared.event.Reply.TheVariants.{Word};
 ghost use Rattle.passive_core.specs.Events.{word, words_of};
-ghost use Rattle.cpu_words.specs.Reading.{LoadsLocal};
+ghost use Rattle.cpu_words.specs.declared.view.View.TheVariants.{Reference};
+ghost use Rattle.cpu_words.specs.Steps.{Makes};
 
 use crate::law::Words;
 use crate::seat::ReferenceSeat;
@@ -18,7 +22,7 @@ pub fn load_local(words: &Words, seat: &mut ReferenceSeat, slot: u8, k: u8) -> u
     requires slot { seat.old.view.entry.slot ≡ slot }
     requires place { (slot < 32) × (k < 5) }
     ensures same { seat.new ≡ seat.old }
-    ensures event { LoadsLocal seat.old.view k result }
+    ensures event { (id : ℕ) × Makes (LoadRecord (Local id k)) (Word result) (Reference seat.old.view) (Reference seat.new.view) }
     ensures word { result ≡ word (words_of seat.old.view.entry) k }
 {
     let place = 657 + 8 * slot as usize + k as usize;
