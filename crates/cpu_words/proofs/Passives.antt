@@ -1,5 +1,5 @@
 -- Passive references on the words.
-use Rattle.std.proofs.Common.{◌≡◌, ◌⊎◌, inl, inr, ⊎_elim, ℕ, ◌+◌, ◌-◌, ◌*◌, ◌%◌, ◌^◌, ◌≤◌, ◌<◌, ◌==◌, List, [], ◌∷◌, length, take, get_or, set, Option, Some, None, Bool, true, ◌&&◌, ◌||◌, nat_lt, refl, sym, ap, ◌∙◌, subst, arith}
+use Rattle.std.proofs.Common.{◌≡◌, ◌⊎◌, ⊎_elim, ℕ, ◌+◌, ◌-◌, ◌*◌, ◌%◌, ◌^◌, ◌<◌, List, [], ◌∷◌, length, take, set, Option, Some, None, true, ◌||◌, nat_lt, refl, sym, ap, ◌∙◌, subst, arith}
 use Rattle.std.proofs.lemmas.Bool.{lt-ltb, eq-eqb, or_left, or_right, cases_eq}
 use Rattle.std.proofs.lemmas.Option.{none-some}
 use Rattle.std.specs.List.{Contains}
@@ -15,12 +15,10 @@ use Rattle.passive_core.specs.declared.event.Event.{Event}
 use Rattle.passive_core.specs.declared.event.Event.TheVariants.{PassiveAdd, PassiveSub, LoadRecord}
 use Rattle.passive_core.specs.declared.event.RecordOf.TheVariants.{Passive}
 use Rattle.passive_core.specs.declared.event.Reply.TheVariants.{Word}
-use Rattle.passive_core.specs.declared.state.RecordWords.{RecordWords}
-use Rattle.passive_core.specs.declared.state.Slot.{Slot}
 use Rattle.passive_core.specs.History.{IsAttached}
 use Rattle.passive_core.specs.State.{State, with_cell, begin_at, depth_at, seen_at, found_at, slot_at, row_at, passive_at}
 use Rattle.passive_core.specs.Slots.{slot_of}
-use Rattle.passive_core.specs.Events.{step, is_idle, is_number, may_add, may_sub, after_add, after_sub, word, words_of}
+use Rattle.passive_core.specs.Events.{step, is_number, after_add, after_sub, word}
 use Rattle.passive_core.specs.Invariant.{IsIn, Occupies}
 use Rattle.passive_core.proofs.History.{one_entry}
 use Rattle.passive_core.proofs.Cells.{cell_here, cell_other}
@@ -29,12 +27,12 @@ use Rattle.passive_core.proofs.Numbers.{slot_number}
 use Rattle.cpu_words.specs.declared.view.CpuView.{CpuView}
 use Rattle.cpu_words.specs.declared.view.View.{View}
 use Rattle.cpu_words.specs.declared.view.View.TheVariants.{Cpu}
-use Rattle.cpu_words.specs.Spots.{Spot, section_of, passive_of, count_of, head_word, next_of, record_of, total_of, index, IsSpot, word_at}
+use Rattle.cpu_words.specs.Spots.{Spot, section_of, passive_of, count_of, head_word, next_of, record_of, total_of, word_at}
 use Rattle.cpu_words.specs.Views.{CpuOwn, own_of, cpu_view, depth_of, references_to, without, CpuShown, cpu_of}
 use Rattle.cpu_words.specs.Rule.{Agrees, Good, Ruled}
 use Rattle.cpu_words.specs.Steps.{Makes, CpuMay}
 use Rattle.cpu_words.specs.Sections.{IsIdle}
-use Rattle.cpu_words.specs.Passives.{IsAt, MayAdd, MayUse, HasAdded, HasSubtracted, IsWordOf, tells_added, tells_subtracted, tells_passive}
+use Rattle.cpu_words.specs.Passives.{MayAdd, MayUse, HasSubtracted, tells_added, tells_subtracted, tells_passive}
 use Rattle.cpu_words.proofs.Placing.{agrees_set}
 use Rattle.cpu_words.proofs.Passes.{attached_prefix, taken_is_prefix}
 use Rattle.cpu_words.proofs.CpuSteps.{CpuLists, lists_of, with_lists, LeavesOthers, cpu_makes}
@@ -58,6 +56,7 @@ pub record Known (g : State) (x : CpuView) (e : Entry) : Type 0 where
   pub count : passive_at g.passive x.id e.slot ≡ references_to e.number x.references
   pub attached : IsAttached x.pass e
 
+-- what is known of an entry that has its slot and is in the pass
 known_in : (g : State) (x : CpuView) (e : Entry) → Good g → CpuShown g x → IsIn e (slot_at g.slots e.slot) → IsAttached x.pass e → Known g x e
 known_in g x e good had here there =
     let within = in_within g.slots e.slot e here in
@@ -93,9 +92,11 @@ held_known g x e good had among =
 
 -- A step on the CPU's passive word for one slot
 
+-- the CPU c has m as its passive word for the slot t
 abbrev put : State → ℕ → ℕ → ℕ → CpuLists
 put g c t m = record (lists_of g) { passive = with_cell g.passive t c m }
 
+-- of the other CPUs nothing changes
 put_leaves : (g : State) (c t m : ℕ) → LeavesOthers g c (put g c t m)
 put_leaves g c t m = record {
   section = λ d ne. refl;
@@ -111,6 +112,7 @@ put_leaves g c t m = record {
   gives_up = λ given_up u e here p. p;
 }
 
+-- one word changes
 put_words : (words : List ℕ) (g : State) (c t m : ℕ) → Good g → c < g.settings.cpus → t < g.settings.slots → passive_at (with_cell g.passive t c m) c t ≡ m → Agrees words g → Agrees (set words (80 * c + 1 + t) m) (with_lists g (put g c t m))
 put_words words g c t m good lt within is agrees = agrees_set words g (with_lists g (put g c t m)) (passive_of c t) m good.holds.fit agrees refl (lt, within) is (λ q there ne. other q ne)
   where
@@ -152,18 +154,21 @@ put_shown g x e references m good had known is others attached = record {
   where
     seen : Seen g x
     seen = seen_of g x good had
+
     pass : x.pass ≡ take (seen_at g x.id) g.history
     pass = seen.pass
+
     depth : depth_at g x.id ≡ depth_of (begin_at g x.id)
     depth = had.depth ∙ ap depth_of seen.begin
+
     passive : (t : ℕ) (f : Entry) → IsIn f (slot_at g.slots t) → passive_at (with_cell g.passive e.slot x.id m) x.id t ≡ references_to f.number references
     passive t f here = ⊎_elim
         (λ (same : t ≡ e.slot).
-            let one : f ≡ e = one_in f e (slot_at g.slots e.slot) known.here (subst (λ (u : ℕ). IsIn f (slot_at g.slots u)) same here) in
-            ap (λ (u : ℕ). passive_at (with_cell g.passive e.slot x.id m) x.id u) same ∙ put_here g x e.slot m good seen known.lt ∙ is ∙ ap (λ (h : Entry). references_to h.number references) (sym one))
+        let one : f ≡ e = one_in f e (slot_at g.slots e.slot) known.here (subst (λ (u : ℕ). IsIn f (slot_at g.slots u)) same here) in
+        ap (λ (u : ℕ). passive_at (with_cell g.passive e.slot x.id m) x.id u) same ∙ put_here g x e.slot m good seen known.lt ∙ is ∙ ap (λ (h : Entry). references_to h.number references) (sym one))
         (λ (off : t ≡ e.slot → ⊥).
-            cell_other 0 g.passive e.slot x.id m t x.id (λ same _. off same) ∙ had.passive t f here
-            ∙ sym (others f.number (λ same. off (one_number g.history g.slots e.slot t e f good.holds.slots known.here here (sym same)).0)))
+        cell_other 0 g.passive e.slot x.id m t x.id (λ same _. off same) ∙ had.passive t f here
+        ∙ sym (others f.number (λ same. off (one_number g.history g.slots e.slot t e f good.holds.slots known.here here (sym same)).0)))
         (cases_eq t e.slot)
 
 -- the word as it is in the table
@@ -197,6 +202,7 @@ moved z s i x p m tells y ruled told = (Cpu y, ruled, (refl, told))
 
 -- One reference more
 
+-- the core allows the addition
 add_allowed : (g : State) (x : CpuView) (e : Entry) → Good g → CpuShown g x → Known g x e → IsIdle x → (x.found ≡ Some e) ⊎ Contains x.references e → references_to e.number x.references < x.settings.passive_limit
     → step g (PassiveAdd x.id e.number) ≡ Some (record { state = after_add g x.id e.slot; reply = Word (passive_at g.passive x.id e.slot) })
 add_allowed g x e good had known idle has room =
@@ -205,14 +211,16 @@ add_allowed g x e good had known idle has room =
     let limit = ap (λ (a : Settings). a.passive_limit) seen.settings in
     let below : passive_at g.passive x.id e.slot < g.settings.passive_limit = omega (arith, count, limit, room) in
     let known_to : (is_number e.number (found_at g x.id) || nat_lt 0 (passive_at g.passive x.id e.slot)) ≡ true = ⊎_elim
-        (λ (found : x.found ≡ Some e). or_left _ _ (ap (is_number e.number) (sym seen.found ∙ found) ∙ eq-eqb e.number e.number refl))
-        (λ (among : Contains x.references e). let one = counts x.references e e.number among refl in or_right _ _ (lt-ltb 0 (passive_at g.passive x.id e.slot) (omega (arith, count, one))))
-        has in
+    (λ (found : x.found ≡ Some e). or_left _ _ (ap (is_number e.number) (sym seen.found ∙ found) ∙ eq-eqb e.number e.number refl))
+    (λ (among : Contains x.references e). let one = counts x.references e e.number among refl in or_right _ _ (lt-ltb 0 (passive_at g.passive x.id e.slot) (omega (arith, count, one))))
+    has in
     rw (known.of, idle_of g x seen had idle, known_to, lt-ltb (passive_at g.passive x.id e.slot) g.settings.passive_limit below) refl
 
+-- an entry that was found last, or that the CPU refers to
 known_of : (g : State) (x : CpuView) (e : Entry) → Good g → CpuShown g x → (x.found ≡ Some e) ⊎ Contains x.references e → Known g x e
 known_of g x e good had has = ⊎_elim (found_known g x e good had) (held_known g x e good had) has
 
+-- the step, for an entry
 add_at : (z : Settings) (x : CpuView) (e : Entry) → IsIdle x → (x.found ≡ Some e) ⊎ Contains x.references e → references_to e.number x.references < x.settings.passive_limit
     → CpuMay z x (80 * x.id + 1 + e.slot) (λ m. (m + 1) % 2 ^ 64) (tells_added (PassiveAdd x.id e.number) (80 * x.id + 1 + e.slot))
 add_at z x e idle has room s r i at fits =
@@ -229,19 +237,24 @@ add_at z x e idle has room s r i at fits =
     let is : (word + 1) % 2 ^ 64 ≡ references_to e.number (e ∷ x.references) = omega (arith, next, count, more) in
     let made = add_allowed g x e r.good had known idle has room ∙ (λ k. Some (record { state = with_lists g (put g x.id e.slot (sym next k)); reply = Word (passive_at g.passive x.id e.slot) })) in
     let done = put_makes z s r i x e (e ∷ x.references) ((word + 1) % 2 ^ 64) (PassiveAdd x.id e.number) at known is (λ n off. to_other n e x.references off)
-        (λ f among. ⊎_elim (λ (here : e ≡ f). subst (IsAttached x.pass) here known.attached) (λ (later : Contains x.references f). had.references f later) (in_cons e f x.references among)) made in
-    moved z s i x (80 * x.id + 1 + e.slot) ((word + 1) % 2 ^ 64) (tells_added (PassiveAdd x.id e.number) (80 * x.id + 1 + e.slot)) done.0 done.2 (done.3, λ c t n event place.
-        let number : e.number ≡ n = cc in
-        let cpu : x.id ≡ c = cc in
-        let slot : e.slot ≡ t = omega (arith, cpu, place) in
-        ((e, record { slot = slot; number = number }, known.attached, done.1), omega (arith, slot, known.few), stands ∙ count ∙ ap (λ (k : ℕ). references_to k x.references) number))
+    (λ f among. ⊎_elim (λ (here : e ≡ f). subst (IsAttached x.pass) here known.attached) (λ (later : Contains x.references f). had.references f later) (in_cons e f x.references among)) made in
+    moved z s i x (80 * x.id + 1 + e.slot) ((word + 1) % 2 ^ 64) (tells_added (PassiveAdd x.id e.number) (80 * x.id + 1 + e.slot)) done.0 done.2 (
+      done.3,
+      λ c t n event place.
+          let number : e.number ≡ n = cc in
+          let cpu : x.id ≡ c = cc in
+          let slot : e.slot ≡ t = omega (arith, cpu, place) in
+          ((e, record { slot = slot; number = number }, known.attached, done.1), omega (arith, slot, known.few), stands ∙ count ∙ ap (λ (k : ℕ). references_to k x.references) number),
+    )
 
+-- the step, for a slot and a number
 pub add_may : (z : Settings) (x : CpuView) (c t n : ℕ) → x.id ≡ c → MayAdd x t n → CpuMay z x (80 * c + 1 + t) (λ m. (m + 1) % 2 ^ 64) (tells_added (PassiveAdd c n) (80 * c + 1 + t))
 add_may z x c t n id may = subst (λ (p : ℕ × ℕ × ℕ). CpuMay z x (80 * p.0 + 1 + p.1) (λ m. (m + 1) % 2 ^ 64) (tells_added (PassiveAdd p.0 p.2) (80 * p.0 + 1 + p.1))) (λ k. (id k, may.at.slot k, may.at.number k))
     (add_at z x may.entry may.idle may.known (subst (λ (k : ℕ). references_to k x.references < x.settings.passive_limit) (sym may.at.number) may.room))
 
 -- One reference less
 
+-- the core allows the subtraction
 sub_allowed : (g : State) (x : CpuView) (e : Entry) → Good g → CpuShown g x → Known g x e → IsIdle x → 0 < references_to e.number x.references
     → step g (PassiveSub x.id e.number) ≡ Some (record { state = after_sub g x.id e.slot; reply = Word (passive_at g.passive x.id e.slot) })
 sub_allowed g x e good had known idle one =
@@ -249,9 +262,11 @@ sub_allowed g x e good had known idle one =
     let held : nat_lt 0 (passive_at g.passive x.id e.slot) ≡ true = lt-ltb 0 (passive_at g.passive x.id e.slot) (omega (arith, count, one)) in
     rw (known.of, idle_of g x (seen_of g x good had) had idle, held) refl
 
+-- the number may be written in another way
 less_of : (x y : CpuView) (m n : ℕ) → m ≡ n → y ≡ record x { references = without m x.references } → HasSubtracted x n y
 less_of x y m n same is = is ∙ ap (λ (k : ℕ). record x { references = without k x.references }) same
 
+-- the step, for an entry
 sub_at : (z : Settings) (x : CpuView) (e : Entry) → IsIdle x → Contains x.references e
     → CpuMay z x (80 * x.id + 1 + e.slot) (λ m. (m + (2 ^ 64 - 1)) % 2 ^ 64) (tells_subtracted (PassiveSub x.id e.number))
 sub_at z x e idle among s r i at fits =
@@ -269,17 +284,22 @@ sub_at z x e idle among s r i at fits =
     let is : (word + (2 ^ 64 - 1)) % 2 ^ 64 ≡ references_to e.number (without e.number x.references) = omega (arith, next, count, less) in
     let made = sub_allowed g x e r.good had known idle one ∙ (λ k. Some (record { state = with_lists g (put g x.id e.slot (sym next k)); reply = Word (passive_at g.passive x.id e.slot) })) in
     let done = put_makes z s r i x e (without e.number x.references) ((word + (2 ^ 64 - 1)) % 2 ^ 64) (PassiveSub x.id e.number) at known is (λ n off. others_stay e.number n x.references (λ same. off (sym same)))
-        (λ f left. had.references f (was_in e.number x.references f left)) made in
-    moved z s i x (80 * x.id + 1 + e.slot) ((word + (2 ^ 64 - 1)) % 2 ^ 64) (tells_subtracted (PassiveSub x.id e.number)) done.0 done.2 (done.3, λ c n event.
-        let number : e.number ≡ n = cc in
-        (less_of x done.0 e.number n number done.1, stands ∙ count ∙ ap (λ (k : ℕ). references_to k x.references) number))
+    (λ f left. had.references f (was_in e.number x.references f left)) made in
+    moved z s i x (80 * x.id + 1 + e.slot) ((word + (2 ^ 64 - 1)) % 2 ^ 64) (tells_subtracted (PassiveSub x.id e.number)) done.0 done.2 (
+      done.3,
+      λ c n event.
+          let number : e.number ≡ n = cc in
+          (less_of x done.0 e.number n number done.1, stands ∙ count ∙ ap (λ (k : ℕ). references_to k x.references) number),
+    )
 
+-- the step, for a slot and a number
 pub sub_may : (z : Settings) (x : CpuView) (c t n : ℕ) → x.id ≡ c → MayUse x t n → CpuMay z x (80 * c + 1 + t) (λ m. (m + (2 ^ 64 - 1)) % 2 ^ 64) (tells_subtracted (PassiveSub c n))
 sub_may z x c t n id may = subst (λ (p : ℕ × ℕ × ℕ). CpuMay z x (80 * p.0 + 1 + p.1) (λ m. (m + (2 ^ 64 - 1)) % 2 ^ 64) (tells_subtracted (PassiveSub p.0 p.2))) (λ k. (id k, may.at.slot k, may.at.number k))
     (sub_at z x may.entry may.idle may.held)
 
 -- The record of an entry that the CPU refers to
 
+-- the step, for an entry
 load_at : (z : Settings) (x : CpuView) (e : Entry) (k : ℕ) → IsIdle x → Contains x.references e → k < 5
     → CpuMay z x (657 + 8 * e.slot + k) (λ m. m) (tells_passive (LoadRecord (Passive x.id e.number k)) (657 + 8 * e.slot + k))
 load_at z x e k idle among few s r i at fits =
@@ -293,15 +313,20 @@ load_at z x e k idle among few s r i at fits =
     let one = counts x.references e e.number among refl in
     let held : nat_lt 0 (passive_at g.passive x.id e.slot) ≡ true = lt-ltb 0 (passive_at g.passive x.id e.slot) (omega (arith, count, one)) in
     let made : step g (LoadRecord (Passive x.id e.number k)) ≡ Some (record { state = g; reply = Word found }) =
-        rw (known.of, idle_of g x seen had idle, held, lt-ltb k 5 few) (λ j. Some (record { state = g; reply = Word (sym stands j) })) in
+    rw (known.of, idle_of g x seen had idle, held, lt-ltb k 5 few) (λ j. Some (record { state = g; reply = Word (sym stands j) })) in
     let done = keeps_view z s r i (Cpu x) (record_of e.slot k) (LoadRecord (Passive x.id e.number k)) (Word found) at (known.lt, few) made (refl, refl, refl) in
-    moved z s i x (657 + 8 * e.slot + k) found (tells_passive (LoadRecord (Passive x.id e.number k)) (657 + 8 * e.slot + k)) x done.0 (done.1, refl, λ c t n j event place f at_ held_.
-        let same_word : k ≡ j = cc in
-        let slot : e.slot ≡ t = omega (arith, same_word, place) in
-        let its = held_known g x f r.good had held_ in
-        let one_slot : e.slot ≡ f.slot = slot ∙ sym at_.slot in
-        stands ∙ (λ h. word (row_at g.rows (one_slot h)) (same_word h)) ∙ row_word g f j r.good its.here)
+    moved z s i x (657 + 8 * e.slot + k) found (tells_passive (LoadRecord (Passive x.id e.number k)) (657 + 8 * e.slot + k)) x done.0 (
+      done.1,
+      refl,
+      λ c t n j event place f at_ held_.
+          let same_word : k ≡ j = cc in
+          let slot : e.slot ≡ t = omega (arith, same_word, place) in
+          let its = held_known g x f r.good had held_ in
+          let one_slot : e.slot ≡ f.slot = slot ∙ sym at_.slot in
+          stands ∙ (λ h. word (row_at g.rows (one_slot h)) (same_word h)) ∙ row_word g f j r.good its.here,
+    )
 
+-- the step, for a slot and a number
 pub load_may : (z : Settings) (x : CpuView) (c t n k : ℕ) → x.id ≡ c → k < 5 → MayUse x t n → CpuMay z x (657 + 8 * t + k) (λ m. m) (tells_passive (LoadRecord (Passive c n k)) (657 + 8 * t + k))
 load_may z x c t n k id few may = subst (λ (p : ℕ × ℕ × ℕ). CpuMay z x (657 + 8 * p.1 + k) (λ m. m) (tells_passive (LoadRecord (Passive p.0 p.2 k)) (657 + 8 * p.1 + k))) (λ j. (id j, may.at.slot j, may.at.number j))
     (load_at z x may.entry k may.idle may.held few)

@@ -1,6 +1,6 @@
 -- A seat loads a word, and no view changes.
-use Rattle.std.proofs.Common.{◌≡◌, ◌⊎◌, ⊎_elim, ℕ, zero, suc, ◌+◌, ◌*◌, ◌<◌, ◌≤◌, ◌==◌, Bool, true, List, [], ◌∷◌, length, get_or, set, Option, Some, None, sum_by, nat_lt, refl, sym, ap, ◌∙◌, subst, arith}
-use Rattle.std.proofs.lemmas.Bool.{lt-ltb, eq-eqb, cases_eq}
+use Rattle.std.proofs.Common.{◌≡◌, ⊎_elim, ℕ, suc, ◌+◌, ◌*◌, ◌<◌, List, [], ◌∷◌, Some, sum_by, refl, sym, ap, ◌∙◌, subst, arith}
+use Rattle.std.proofs.lemmas.Bool.{lt-ltb, cases_eq}
 use Rattle.std.proofs.lemmas.List.Sums.{sum_by-cons}
 use Rattle.std.specs.Prelude.{slice_index}
 use mathlib.Core.Option.{some}
@@ -18,8 +18,8 @@ use Rattle.passive_core.specs.declared.state.LocalPlace.{LocalPlace}
 use Rattle.passive_core.specs.declared.state.LocalPlace.TheVariants.{Free, Standing, Lifted}
 use Rattle.passive_core.specs.State.{State, slot_at, row_at, local_at}
 use Rattle.passive_core.specs.Slots.{slot_of}
-use Rattle.passive_core.specs.Events.{step, standing, word, words_of}
-use Rattle.passive_core.specs.Invariant.{IsIn, Occupies, one_if, standing_of}
+use Rattle.passive_core.specs.Events.{step, word, words_of}
+use Rattle.passive_core.specs.Invariant.{IsIn, Occupies, standing_of}
 use Rattle.passive_core.proofs.History.{one_entry}
 use Rattle.passive_core.proofs.HeldSums.{one_self, one_other}
 use Rattle.passive_core.proofs.Occupied.{attached_in, in_within}
@@ -27,9 +27,9 @@ use Rattle.passive_core.proofs.Numbers.{slot_number}
 use Rattle.cpu_words.specs.declared.view.ReferenceView.{ReferenceView}
 use Rattle.cpu_words.specs.declared.view.View.{View}
 use Rattle.cpu_words.specs.declared.view.View.TheVariants.{Reference}
-use Rattle.cpu_words.specs.Spots.{Spot, record_of, index, IsSpot, word_at}
+use Rattle.cpu_words.specs.Spots.{Spot, record_of, index, IsSpot}
 use Rattle.cpu_words.specs.Views.{ReferenceShown}
-use Rattle.cpu_words.specs.Rule.{Agrees, Good, Ruled}
+use Rattle.cpu_words.specs.Rule.{Good, Ruled}
 use Rattle.cpu_words.specs.Steps.{OneSeat, Makes, ReferenceMay}
 use Rattle.cpu_words.specs.Reading.{tells_local}
 use Rattle.cpu_words.proofs.Placing.{agrees_set}
@@ -65,10 +65,10 @@ standing_place n (Lifted c ∷ locals) more = let a = sum_by-cons (standing_of n
 standing_place n (Standing m ∷ locals) more = ⊎_elim
     (λ (same : m ≡ n). (0, ap Standing same))
     (λ (off : m ≡ n → ⊥).
-        let none = one_other m n off in
-        let a = sum_by-cons (standing_of n) (Standing m) locals in
-        let rest = standing_place n locals (omega arith) in
-        (suc rest.0, rest.1))
+    let none = one_other m n off in
+    let a = sum_by-cons (standing_of n) (Standing m) locals in
+    let rest = standing_place n locals (omega arith) in
+    (suc rest.0, rest.1))
     (cases_eq m n)
 
 -- an entry with a live reference has its slot
@@ -80,24 +80,31 @@ local_here g v id good shown stands =
     let at : has.0 ≡ v.entry.slot = sym its.1 ∙ sym (ap (λ (f : Entry). f.slot) one) in
     subst (λ (t : ℕ). IsIn v.entry (slot_at g.slots t)) at (subst (λ (f : Entry). IsIn f (slot_at g.slots has.0)) (sym one) has.2)
 
+-- the step: the seat's reference is live, so its entry has its slot
 pub local_may : (z : Settings) (v : ReferenceView) (t k : ℕ) → v.entry.slot ≡ t → k < 5 → ReferenceMay z v (657 + 8 * t + k) (tells_local (LoadRecord (Local 0 k)))
 local_may z v t k slot few = subst (λ (u : ℕ). ReferenceMay z v (657 + 8 * u + k) (tells_local (LoadRecord (Local 0 k)))) slot
     (λ s r i at fits.
-        let g = r.g in
-        let e = v.entry in
-        let shown : ReferenceShown g v = (r.shows.fits i (Reference v) at).1 in
-        let some_ = backed g r.seat s.views i (Reference v) r.shows at e.number in
-        let one = one_self e.number e.number refl in
-        let place = standing_place e.number g.locals (omega (arith, some_, one)) in
-        let here = local_here g v place.0 r.good shown place.1 in
-        let within = in_within g.slots e.slot e here in
-        let lt : e.slot < g.settings.slots = omega (arith, within, r.good.holds.shape.slots) in
-        let of : slot_of g.slots e.number ≡ Some e.slot = slot_number g.history g.slots e e.slot r.good.holds.slots here in
-        let found = slice_index s.words (657 + 8 * e.slot + k) in
-        let stands : found ≡ word (row_at g.rows e.slot) k = r.words.at (record_of e.slot k) (lt, few) in
-        let made : step g (LoadRecord (Local place.0 k)) ≡ Some (record { state = g; reply = Word found }) =
-            rw (place.1, of, lt-ltb k 5 few) (λ j. Some (record { state = g; reply = Word (sym stands j) })) in
-        let done = keeps_view z s r i (Reference v) (record_of e.slot k) (LoadRecord (Local place.0 k)) (Word found) at (lt, few) made refl in
-        (Reference v, done.0, (refl, λ id j event.
+    let g = r.g in
+    let e = v.entry in
+    let shown : ReferenceShown g v = (r.shows.fits i (Reference v) at).1 in
+    let some_ = backed g r.seat s.views i (Reference v) r.shows at e.number in
+    let one = one_self e.number e.number refl in
+    let place = standing_place e.number g.locals (omega (arith, some_, one)) in
+    let here = local_here g v place.0 r.good shown place.1 in
+    let within = in_within g.slots e.slot e here in
+    let lt : e.slot < g.settings.slots = omega (arith, within, r.good.holds.shape.slots) in
+    let of : slot_of g.slots e.number ≡ Some e.slot = slot_number g.history g.slots e e.slot r.good.holds.slots here in
+    let found = slice_index s.words (657 + 8 * e.slot + k) in
+    let stands : found ≡ word (row_at g.rows e.slot) k = r.words.at (record_of e.slot k) (lt, few) in
+    let made : step g (LoadRecord (Local place.0 k)) ≡ Some (record { state = g; reply = Word found }) =
+    rw (place.1, of, lt-ltb k 5 few) (λ j. Some (record { state = g; reply = Word (sym stands j) })) in
+    let done = keeps_view z s r i (Reference v) (record_of e.slot k) (LoadRecord (Local place.0 k)) (Word found) at (lt, few) made refl in (
+      Reference v,
+      done.0,
+      (
+        refl,
+        λ id j event.
             let same : k ≡ j = cc in
-            ((place.0, subst (λ (h : ℕ). Makes (LoadRecord (Local place.0 h)) (Word found) (Reference v) (Reference v)) same done.1), stands ∙ row_word g e k r.good here ∙ ap (word (words_of e)) same))))
+            ((place.0, subst (λ (h : ℕ). Makes (LoadRecord (Local place.0 h)) (Word found) (Reference v) (Reference v)) same done.1), stands ∙ row_word g e k r.good here ∙ ap (word (words_of e)) same),
+      ),
+    ))

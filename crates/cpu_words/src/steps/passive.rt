@@ -53,14 +53,7 @@ pub fn passive_sub(words: &Words, seat: &mut CpuSeat, cpu: u8, slot: u8, number:
 /// 2 and 3 the name's high and low words, 4 the value.
 /// Condition: the seat is that CPU's and idle, and has such a reference; the slot is below 32, as `passive_add` ensures, and `k`
 /// below 5.
-pub fn load_passive(
-    words: &Words,
-    seat: &mut CpuSeat,
-    cpu: u8,
-    slot: u8,
-    number: u64,
-    k: u8,
-) -> u64
+pub fn load_passive(words: &Words, seat: &mut CpuSeat, cpu: u8, slot: u8, number: u64, k: u8) -> u64
     requires table { seat.old.table ≡ words.now.table.shared.table_id }
     requires cpu { (cpu < 8) × (seat.old.view.id ≡ cpu) }
     requires place { (slot < 32) × (k < 5) }

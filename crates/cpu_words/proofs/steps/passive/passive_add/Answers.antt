@@ -1,4 +1,4 @@
-use Rattle.std.proofs.Common.{rules, arith, refl}
+use Rattle.std.proofs.Common.{refl}
 use Rattle.cpu_words.proofs.Passives.{add_may}
 use Rattle.cpu_words.proofs.steps.passive.passive_add.Goals as goal
 
