@@ -23,6 +23,7 @@ use Rattle.passive_core.specs.Invariant.{one_if, standing_of, Holds}
 use Rattle.passive_core.proofs.Bounds.{back_within}
 use Rattle.passive_core.proofs.References.{back_holds}
 use Rattle.passive_core.proofs.Sums.{one_at, none_at, local_changed, local_added, standing_within}
+use Rattle.cpu_words.proofs.Standing.{standing_place}
 use Rattle.cpu_words.specs.declared.view.InHand.{InHand}
 use Rattle.cpu_words.specs.declared.view.InHand.TheVariants.{Empty as NoEntry, Taking as TakingEntry, Giving as GivingEntry, Back as BackEntry}
 use Rattle.cpu_words.specs.declared.view.CpuView.{CpuView}
@@ -227,16 +228,6 @@ split_back_leaves x c id may = subst (λ d. LeavesHand (SplitBack d) x) id (λ g
     some_same is = cc
 
 -- A reference goes into the hand
-
--- a place where a live reference to n stands
-pub standing_place : (n : ℕ) (locals : List LocalPlace) → 0 < sum_by (standing_of n) locals → (id : ℕ) × (local_at locals id ≡ Standing n)
-standing_place n [] some_one = absurd (omega arith)
-standing_place n (Free ∷ ps) some_one = let a = sum_by-cons (standing_of n) Free ps in let p = standing_place n ps (omega arith) in (suc p.0, p.1)
-standing_place n (Lifted c ∷ ps) some_one = let a = sum_by-cons (standing_of n) (Lifted c) ps in let p = standing_place n ps (omega arith) in (suc p.0, p.1)
-standing_place n (Standing m ∷ ps) some_one = ⊎_elim
-    (λ (same : m ≡ n). (zero, ap Standing same))
-    (λ (off : m ≢ n). let a = sum_by-cons (standing_of n) (Standing m) ps in let b = none_at m n off in let p = standing_place n ps (omega arith) in (suc p.0, p.1))
-    (cases_eq m n)
 
 -- the event that puts a reference into the CPU's hand, and what it leaves
 pub record Coming (c : ℕ) (x : CpuView) (e : Entry) (g : State) : Type 0 where

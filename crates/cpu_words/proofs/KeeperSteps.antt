@@ -29,6 +29,7 @@ use Rattle.passive_core.specs.Events.{step}
 use Rattle.passive_core.specs.Invariant.{IsIn, Occupies, one_if, standing_of, HandHolds, SlotsShow, Holds}
 use Rattle.passive_core.proofs.Occupied.{slot_has, slot_found, fresh_unoccupied}
 use Rattle.passive_core.proofs.Keeping.{step_holds}
+use Rattle.cpu_words.proofs.Standing.{standing_place}
 use Rattle.cpu_words.specs.declared.view.InHand.{InHand}
 use Rattle.cpu_words.specs.declared.view.InHand.TheVariants.{Empty as NoEntry, Taking as TakingEntry, Giving as GivingEntry, Back as BackEntry}
 use Rattle.cpu_words.specs.declared.view.CpuView.{CpuView}
@@ -78,16 +79,6 @@ pub record LeavesCpus (g : State) (l : KeeperLists) : Type 0 where
   pub stay : (t : ℕ) (e : Entry) → IsIn e (slot_at l.slots t) → Stayed g l t e ⊎ Came g l t e
   pub go : (t : ℕ) (e : Entry) → IsIn e (slot_at g.slots t) → IsIn e (slot_at l.slots t) ⊎ ((c : ℕ) → passive_at g.passive c t ≡ 0)
   pub collected : (t c : ℕ) (e : Entry) → slot_at g.slots t ≡ Retired e → (mark_at g.marks t c).collected ≡ true → Occupies l.slots e.number → (slot_at l.slots t ≡ Retired e) × ((mark_at l.marks t c).collected ≡ true)
-
--- a place where a live reference to n stands
-pub standing_place : (n : ℕ) (locals : List LocalPlace) → 0 < sum_by (standing_of n) locals → (id : ℕ) × (local_at locals id ≡ Standing n)
-standing_place n [] some_one = absurd (omega arith)
-standing_place n (Free ∷ ps) some_one = let a = sum_by-cons (standing_of n) Free ps in let p = standing_place n ps (omega arith) in (suc p.0, p.1)
-standing_place n (Lifted c ∷ ps) some_one = let a = sum_by-cons (standing_of n) (Lifted c) ps in let p = standing_place n ps (omega arith) in (suc p.0, p.1)
-standing_place n (Standing m ∷ ps) some_one = ⊎_elim
-    (λ (same : m ≡ n). (zero, ap Standing same))
-    (λ (off : m ≢ n). let a = sum_by-cons (standing_of n) (Standing m) ps in let b = none_at m n off in let p = standing_place n ps (omega arith) in (suc p.0, p.1))
-    (cases_eq m n)
 
 -- a reference that a seat stands for has its slot
 pub reference_occupies : (g : State) (v : ReferenceView) → Holds g → IsBacked g (Reference v) → Occupies g.slots v.entry.number

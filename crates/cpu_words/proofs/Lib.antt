@@ -1,6 +1,7 @@
 pub mod Placing
 pub mod Showing
 pub mod Passes
+pub mod Standing
 pub mod CpuSteps
 pub mod Seeing
 pub mod Sections
@@ -13,3 +14,6 @@ pub mod Storing
 pub mod Hands
 pub mod Counting
 pub mod Locals
+pub mod ReferenceLists
+pub mod Reading
+pub mod Passives

@@ -7,3 +7,5 @@ pub mod Grace
 pub mod Vacating
 pub mod Storing
 pub mod Locals
+pub mod Passives
+pub mod Reading

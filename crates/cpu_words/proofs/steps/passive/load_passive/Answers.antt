@@ -1,0 +1,9 @@
+use Rattle.std.proofs.Common.{refl}
+use Rattle.cpu_words.proofs.Passives.{load_may}
+use Rattle.cpu_words.proofs.steps.passive.load_passive.Goals as goal
+
+pub load-requires-clause-may : goal.load-requires-clause-may
+load-requires-clause-may c = load_may _ _ _ _ _ _ c.requires.cpu.1 c.requires.place.1 c.requires.may
+
+pub returns-clause-word : goal.returns-clause-word
+returns-clause-word c = c.load.ensures.told.2 c.args.cpu c.args.slot c.args.number c.args.k refl refl

@@ -1,0 +1,15 @@
+use Rattle.std.proofs.Common.{refl}
+use Rattle.cpu_words.proofs.Passives.{add_may}
+use Rattle.cpu_words.proofs.steps.passive.passive_add.Goals as goal
+
+pub add-requires-clause-may : goal.add-requires-clause-may
+add-requires-clause-may c = add_may _ _ _ _ _ c.requires.cpu.1 c.requires.may
+
+pub returns-clause-change : goal.returns-clause-change
+returns-clause-change c = (c.add.ensures.told.1 c.args.cpu c.args.slot c.args.number refl refl).0
+
+pub returns-clause-slot : goal.returns-clause-slot
+returns-clause-slot c = (c.add.ensures.told.1 c.args.cpu c.args.slot c.args.number refl refl).1
+
+pub returns-clause-count : goal.returns-clause-count
+returns-clause-count c = (c.add.ensures.told.1 c.args.cpu c.args.slot c.args.number refl refl).2

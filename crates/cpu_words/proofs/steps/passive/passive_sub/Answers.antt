@@ -1,0 +1,12 @@
+use Rattle.std.proofs.Common.{refl}
+use Rattle.cpu_words.proofs.Passives.{sub_may}
+use Rattle.cpu_words.proofs.steps.passive.passive_sub.Goals as goal
+
+pub subtract-requires-clause-may : goal.subtract-requires-clause-may
+subtract-requires-clause-may c = sub_may _ _ _ _ _ c.requires.cpu.1 c.requires.may
+
+pub returns-clause-change : goal.returns-clause-change
+returns-clause-change c = (c.subtract.ensures.told.1 c.args.cpu c.args.number refl).0
+
+pub returns-clause-count : goal.returns-clause-count
+returns-clause-count c = (c.subtract.ensures.told.1 c.args.cpu c.args.number refl).1

@@ -1,0 +1,20 @@
+use Rattle.std.proofs.Common.{ℕ, refl, sym, ap, subst}
+use Rattle.passive_core.specs.declared.event.Event.TheVariants.{LoadRecord}
+use Rattle.passive_core.specs.declared.event.RecordOf.TheVariants.{Local}
+use Rattle.passive_core.specs.declared.event.Reply.TheVariants.{Word}
+use Rattle.cpu_words.specs.declared.view.ReferenceView.{ReferenceView}
+use Rattle.cpu_words.specs.declared.view.View.TheVariants.{Reference}
+use Rattle.cpu_words.specs.Views.{Seated}
+use Rattle.cpu_words.specs.Steps.{Makes}
+use Rattle.cpu_words.proofs.Reading.{local_may}
+use Rattle.cpu_words.proofs.steps.reading.load_local.Goals as goal
+
+pub load-requires-clause-may : goal.load-requires-clause-may
+load-requires-clause-may c = local_may _ _ _ _ c.requires.slot c.requires.place.1
+
+pub returns-clause-event : goal.returns-clause-event
+returns-clause-event c = subst (λ (w : ReferenceView). (o : ℕ) × Makes (LoadRecord (Local o c.args.k)) (Word c.load.result) (Reference c.args.seat.now.view) (Reference w)) (sym (ap (λ (s : Seated ReferenceView). s.view) c.load.ensures.same))
+    (c.load.ensures.told 0 c.args.k refl).0
+
+pub returns-clause-word : goal.returns-clause-word
+returns-clause-word c = (c.load.ensures.told 0 c.args.k refl).1

@@ -1,0 +1,61 @@
+-- Passive references by a CPU's seat: where it may make the step, and what changes in its view.
+use Rattle.std.specs.Prelude.{◌≡◌, ◌⊎◌, ℕ, ◌+◌, ◌*◌, ◌<◌, ◌∷◌, Some}
+use Rattle.std.specs.List.{Contains}
+use Rattle.passive_core.specs.declared.entry.Entry.{Entry}
+use Rattle.passive_core.specs.declared.event.Event.{Event}
+use Rattle.passive_core.specs.declared.event.Event.TheVariants.{PassiveAdd, PassiveSub, LoadRecord}
+use Rattle.passive_core.specs.declared.event.RecordOf.TheVariants.{Passive}
+use Rattle.passive_core.specs.declared.event.Reply.TheVariants.{Word}
+use Rattle.passive_core.specs.History.{IsAttached}
+use Rattle.passive_core.specs.Events.{word, words_of}
+use Rattle.cpu_words.specs.declared.view.CpuView.{CpuView}
+use Rattle.cpu_words.specs.declared.view.View.TheVariants.{Cpu}
+use Rattle.cpu_words.specs.Views.{references_to, without}
+use Rattle.cpu_words.specs.Steps.{Makes}
+use Rattle.cpu_words.specs.Sections.{IsIdle}
+
+-- the entry has this slot and this number
+pub record IsAt (e : Entry) (t n : ℕ) : Type 0 where
+  pub slot : e.slot ≡ t
+  pub number : e.number ≡ n
+
+-- the CPU has found the entry n of the slot t last, or refers to it, and has fewer references to it than the limit
+pub record MayAdd (x : CpuView) (t n : ℕ) : Type 0 where
+  pub idle : IsIdle x
+  pub entry : Entry
+  pub at : IsAt entry t n
+  pub known : (x.found ≡ Some entry) ⊎ Contains x.references entry
+  pub room : references_to n x.references < x.settings.passive_limit
+
+-- the CPU has a passive reference to the entry n of the slot t
+pub record MayUse (x : CpuView) (t n : ℕ) : Type 0 where
+  pub idle : IsIdle x
+  pub entry : Entry
+  pub at : IsAt entry t n
+  pub held : Contains x.references entry
+
+-- one reference more, to an entry of the pass
+abbrev pub HasAdded : CpuView → ℕ → ℕ → CpuView → Type 0
+HasAdded x t n y = (e : Entry) × IsAt e t n × IsAttached x.pass e × (y ≡ record x { references = e ∷ x.references })
+
+-- one reference to n less
+abbrev pub HasSubtracted : CpuView → ℕ → CpuView → Type 0
+HasSubtracted x n y = y ≡ record x { references = without n x.references }
+
+-- m is the word k of the entry n in the slot t, to which the CPU refers
+abbrev pub IsWordOf : CpuView → ℕ → ℕ → ℕ → ℕ → Type 0
+IsWordOf x t n k m = (e : Entry) → IsAt e t n → Contains x.references e → m ≡ word (words_of e) k
+
+-- What the inner steps are told: of the event and the word's place
+
+abbrev pub tells_added : Event → ℕ → CpuView → ℕ → CpuView → Type 0
+tells_added event i x m y = Makes event (Word m) (Cpu x) (Cpu y)
+    × ((c t n : ℕ) → event ≡ PassiveAdd c n → i ≡ 80 * c + 1 + t → HasAdded x t n y × (t < 32) × (m ≡ references_to n x.references))
+
+abbrev pub tells_subtracted : Event → CpuView → ℕ → CpuView → Type 0
+tells_subtracted event x m y = Makes event (Word m) (Cpu x) (Cpu y)
+    × ((c n : ℕ) → event ≡ PassiveSub c n → HasSubtracted x n y × (m ≡ references_to n x.references))
+
+abbrev pub tells_passive : Event → ℕ → CpuView → ℕ → CpuView → Type 0
+tells_passive event i x m y = Makes event (Word m) (Cpu x) (Cpu y)
+    × (y ≡ x) × ((c t n k : ℕ) → event ≡ LoadRecord (Passive c n k) → i ≡ 657 + 8 * t + k → IsWordOf x t n k m)

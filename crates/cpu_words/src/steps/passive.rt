@@ -1,0 +1,69 @@
+//! Passive references (psref(9)): each counted in a passive word of the CPU that has it, one word for each slot.
+
+ghost use Rattle.std.specs.Prelude.{◌≡◌, ◌<◌};
+ghost use Rattle.passive_core.specs.declared.event.Event.TheVariants.{PassiveAdd, PassiveSub, LoadRecord};
+ghost use Rattle.passive_core.specs.declared.event.RecordOf.TheVariants.{Passive};
+ghost use Rattle.passive_core.specs.declared.event.Reply.TheVariants.{Word};
+ghost use Rattle.cpu_words.specs.declared.view.View.TheVariants.{Cpu};
+ghost use Rattle.cpu_words.specs.Views.{references_to};
+ghost use Rattle.cpu_words.specs.Steps.{Makes};
+ghost use Rattle.cpu_words.specs.Passives.{MayAdd, MayUse, HasAdded, HasSubtracted, IsWordOf};
+
+use crate::law::Words;
+use crate::seat::CpuSeat;
+use crate::step::by_cpu;
+use passive_core::{Event, RecordOf};
+use std::marker::Brand;
+
+/// CPU `cpu` gets a passive reference to the entry `number` of slot `slot`, by one addition to its passive word for that slot.
+/// It answers how many it had.
+/// Condition: the seat is that CPU's and idle, the entry is its last found one or it has a passive reference to it already, and it
+/// has fewer of them than the passive limit.
+pub fn passive_add(words: &Words, seat: &mut CpuSeat, cpu: u8, slot: u8, number: u64) -> u64
+    requires table { seat.old.table ≡ words.now.table }
+    requires cpu { (cpu < 8) × (seat.old.view.id ≡ cpu) }
+    requires may { MayAdd seat.old.view slot number }
+    ensures table { seat.new.table ≡ seat.old.table }
+    ensures event { Makes (PassiveAdd cpu number) (Word result) (Cpu seat.old.view) (Cpu seat.new.view) }
+    ensures change { HasAdded seat.old.view slot number seat.new.view }
+    ensures slot { slot < 32 }
+    ensures count { result ≡ references_to number seat.old.view.references }
+{
+    let word = 80 * cpu as usize + 1 + slot as usize;
+    by_cpu::add::<Brand>(words, seat, word, 1, Event::PassiveAdd(cpu, number))
+}
+
+/// CPU `cpu` gives up a passive reference to the entry `number` of slot `slot`, by one subtraction from its passive word for that
+/// slot. It answers how many it had.
+/// Condition: the seat is that CPU's and idle, and has such a reference.
+pub fn passive_sub(words: &Words, seat: &mut CpuSeat, cpu: u8, slot: u8, number: u64) -> u64
+    requires table { seat.old.table ≡ words.now.table }
+    requires cpu { (cpu < 8) × (seat.old.view.id ≡ cpu) }
+    requires may { MayUse seat.old.view slot number }
+    ensures table { seat.new.table ≡ seat.old.table }
+    ensures event { Makes (PassiveSub cpu number) (Word result) (Cpu seat.old.view) (Cpu seat.new.view) }
+    ensures change { HasSubtracted seat.old.view number seat.new.view }
+    ensures count { result ≡ references_to number seat.old.view.references }
+{
+    let word = 80 * cpu as usize + 1 + slot as usize;
+    by_cpu::subtract::<Brand>(words, seat, word, 1, Event::PassiveSub(cpu, number))
+}
+
+/// CPU `cpu` loads word `k` of the record of the entry `number` in slot `slot` by its passive reference: 0 is the number, 1 the kind,
+/// 2 and 3 the name's high and low words, 4 the value.
+/// Condition: the seat is that CPU's and idle, and has such a reference; the slot is below 32, as `passive_add` ensures, and `k`
+/// below 5.
+pub fn load_passive(words: &Words, seat: &mut CpuSeat, cpu: u8, slot: u8, number: u64, k: u8) -> u64
+    requires table { seat.old.table ≡ words.now.table }
+    requires cpu { (cpu < 8) × (seat.old.view.id ≡ cpu) }
+    requires place { (slot < 32) × (k < 5) }
+    requires may { MayUse seat.old.view slot number }
+    ensures table { seat.new.table ≡ seat.old.table }
+    ensures event { Makes (LoadRecord (Passive cpu number k)) (Word result) (Cpu seat.old.view) (Cpu seat.new.view) }
+    ensures same { seat.new.view ≡ seat.old.view }
+    ensures word { IsWordOf seat.old.view slot number k result }
+{
+    let word = 657 + 8 * slot as usize + k as usize;
+    let event = Event::LoadRecord(RecordOf::Passive(cpu, number, k));
+    by_cpu::load::<Brand>(words, seat, word, event)
+}
