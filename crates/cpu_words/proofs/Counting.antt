@@ -1,5 +1,5 @@
 -- A count word of a CPU and its net count change: why the other views stay, and what the CPU's own view shows.
-use Rattle.std.proofs.Common.{◌≡◌, ◌≢◌, ◌⊎◌, inl, inr, ⊎_elim, ℕ, zero, suc, ◌+◌, ◌*◌, ◌<◌, ◌≤◌, List, [], ◌∷◌, ◌++◌, length, replicate, get_or, set, sum_by, count_by, Option, Some, None, Bool, true, false, cond, refl, sym, ap, ◌∙◌, subst, arith, length-append, get_or-set_same, get_or-set_other}
+use Rattle.std.proofs.Common.{◌≡◌, ◌≢◌, ⊎_elim, ℕ, zero, suc, ◌+◌, ◌*◌, ◌<◌, ◌≤◌, List, [], ◌∷◌, ◌++◌, length, replicate, get_or, set, sum_by, count_by, false, cond, refl, sym, ap, ◌∙◌, subst, arith, length-append, get_or-set_same, get_or-set_other}
 use Rattle.std.specs.List.{zip}
 use Rattle.std.proofs.lemmas.List.{length-replicate}
 use Rattle.std.proofs.lemmas.List.Sums.{sum_by-cons}
@@ -8,16 +8,15 @@ use native.Mathlib.Decide.{ℕ_discrete}
 use Rattle.passive_core.specs.declared.entry.Entry.{Entry}
 use Rattle.passive_core.specs.declared.entry.Change.{Change}
 use Rattle.passive_core.specs.declared.entry.Change.TheVariants.{Attach}
-use Rattle.passive_core.specs.declared.state.Slot.{Slot}
-use Rattle.passive_core.specs.declared.state.Slot.TheVariants.{Vacant, Live, Retired}
+use Rattle.passive_core.specs.declared.state.Slot.TheVariants.{Live, Retired}
 use Rattle.passive_core.specs.declared.state.Mark.{Mark}
 use Rattle.passive_core.specs.declared.state.Hand.{Hand}
 use Rattle.passive_core.specs.declared.state.Hand.TheVariants.{Empty}
 use Rattle.passive_core.specs.declared.state.LocalPlace.{LocalPlace}
 use Rattle.passive_core.specs.History.{IsAttached}
-use Rattle.passive_core.specs.State.{State, bias, no_mark, cell, with_cell, hand_at, slot_at, mark_at, count_at, total_at}
+use Rattle.passive_core.specs.State.{State, bias, no_mark, with_cell, slot_at, mark_at, count_at, total_at}
 use Rattle.passive_core.specs.Invariant.{IsIn, IsCounting, adding_at, is_adding_at}
-use Rattle.passive_core.proofs.Fit.{Ranges, ranges}
+use Rattle.passive_core.proofs.Fit.{ranges}
 use Rattle.passive_core.proofs.Cells.{get_or_all, row_here, row_other, cell_here, cell_other}
 use Rattle.passive_core.proofs.History.{at_within}
 use Rattle.passive_core.proofs.Occupied.{not_vacant, one_in, one_number, attached_in}
@@ -28,7 +27,7 @@ use Rattle.cpu_words.specs.Views.{number_at, one_more, own_of, cpu_view, SameHan
 use Rattle.cpu_words.specs.Rule.{Agrees, Good}
 use Rattle.cpu_words.proofs.Placing.{agrees_set}
 use Rattle.cpu_words.proofs.CpuSteps.{CpuLists, lists_of, with_lists, LeavesOthers}
-use Rattle.cpu_words.proofs.Seeing.{Seen, seen_of}
+use Rattle.cpu_words.proofs.Seeing.{seen_of}
 
 -- Counts by number
 
@@ -70,16 +69,16 @@ gives_up_on : (g : State) (c t v : ℕ) (given_up : List ℕ) (u : ℕ) (e : Ent
     → GivesUp g given_up u e.number → GivesUp (record g { nets = with_cell g.nets t c v }) given_up u e.number
 gives_up_on g c t v given_up u e lt used gone p = dite (ℕ_discrete u t)
     (λ (same : u ≡ t).
-        let ms = get_or g.marks u [] in
-        let ns = get_or g.nets u [] in
-        let row : get_or (with_cell g.nets t c v) u [] ≡ set ns c v = ap (λ k. get_or (with_cell g.nets t c v) k []) same ∙ row_here g.nets t c v lt ∙ ap (λ k. set (get_or g.nets k []) c v) (sym same) in
-        let mark : (get_or ms c no_mark).collected ≡ false = ap (λ k. (mark_at g.marks k c).collected) same ∙ used e (ap (slot_at g.slots) (sym same) ∙ gone) in
-        let a = uncollected_sum collected_net ms ns c v (λ n. ap (λ b. cond b v 0) mark ∙ sym (ap (λ b. cond b n 0) mark)) in
-        let b = uncollected_sum (λ q. cond (has_collected q) 1 0) ms ns c v (λ n. refl) in
-        subst (λ r. total_at g.totals u + adding_at u g.due + number_at given_up e.number + bias * count_by has_collected (zip ms r) ≡ bias * (1 + is_adding_at u g.due) + sum_by collected_net (zip ms r)) (sym row)
-        (ap (λ k. total_at g.totals u + adding_at u g.due + number_at given_up e.number + bias * k) b ∙ p ∙ ap (λ k. bias * (1 + is_adding_at u g.due) + k) (sym a)))
+    let ms = get_or g.marks u [] in
+    let ns = get_or g.nets u [] in
+    let row : get_or (with_cell g.nets t c v) u [] ≡ set ns c v = ap (λ k. get_or (with_cell g.nets t c v) k []) same ∙ row_here g.nets t c v lt ∙ ap (λ k. set (get_or g.nets k []) c v) (sym same) in
+    let mark : (get_or ms c no_mark).collected ≡ false = ap (λ k. (mark_at g.marks k c).collected) same ∙ used e (ap (slot_at g.slots) (sym same) ∙ gone) in
+    let a = uncollected_sum collected_net ms ns c v (λ n. ap (λ b. cond b v 0) mark ∙ sym (ap (λ b. cond b n 0) mark)) in
+    let b = uncollected_sum (λ q. cond (has_collected q) 1 0) ms ns c v (λ n. refl) in
+    subst (λ r. total_at g.totals u + adding_at u g.due + number_at given_up e.number + bias * count_by has_collected (zip ms r) ≡ bias * (1 + is_adding_at u g.due) + sum_by collected_net (zip ms r)) (sym row)
+    (ap (λ k. total_at g.totals u + adding_at u g.due + number_at given_up e.number + bias * k) b ∙ p ∙ ap (λ k. bias * (1 + is_adding_at u g.due) + k) (sym a)))
     (λ (other : u ≢ t). subst (λ r. total_at g.totals u + adding_at u g.due + number_at given_up e.number + bias * count_by has_collected (zip (get_or g.marks u []) r) ≡ bias * (1 + is_adding_at u g.due) + sum_by collected_net (zip (get_or g.marks u []) r))
-        (sym (row_other g.nets t c v u other)) p)
+    (sym (row_other g.nets t c v u other)) p)
 
 -- the word of a retired slot that still counts has no collected mark
 pub still_open : (g : State) (c t : ℕ) → IsCounting g.slots g.marks c t → (e : Entry) → slot_at g.slots t ≡ Retired e → (mark_at g.marks t c).collected ≡ false
@@ -154,13 +153,13 @@ shown_count g x e t w v h locals k acquired released good had here lt count same
       gone = had.gone;
       nets = λ u f there. dite (ℕ_discrete u t)
           (λ (on : u ≡ t).
-              let one : f ≡ e = one_in f e (slot_at g.slots t) here (subst (λ j. IsIn f (slot_at g.slots j)) on there) in
-              ap (λ j. count_at (with_cell g.nets t x.id v) x.id j + number_at released f.number) on ∙ ap (λ (j : ℕ). j + number_at released f.number) (cell_here 0 g.nets t x.id v in_rows in_row)
-              ∙ ap (λ (j : Entry). v + number_at released j.number) one ∙ count.net ∙ ap (λ (j : Entry). bias + number_at acquired j.number) (sym one))
+          let one : f ≡ e = one_in f e (slot_at g.slots t) here (subst (λ j. IsIn f (slot_at g.slots j)) on there) in
+          ap (λ j. count_at (with_cell g.nets t x.id v) x.id j + number_at released f.number) on ∙ ap (λ (j : ℕ). j + number_at released f.number) (cell_here 0 g.nets t x.id v in_rows in_row)
+          ∙ ap (λ (j : Entry). v + number_at released j.number) one ∙ count.net ∙ ap (λ (j : Entry). bias + number_at acquired j.number) (sym one))
           (λ (off : u ≢ t).
-              let ne : f.number ≢ e.number = λ is. off (one_number g.history g.slots t u e f good.holds.slots here there is).0 in
-              let a : count_at (with_cell g.nets t x.id v) x.id u ≡ count_at g.nets x.id u = cell_other 0 g.nets t x.id v u x.id (λ is _. off is) in
-              (λ i. a i + count.same_released f.number ne i) ∙ had.nets u f there ∙ ap (λ j. bias + j) (sym (count.same_acquired f.number ne)));
+          let ne : f.number ≢ e.number = λ is. off (one_number g.history g.slots t u e f good.holds.slots here there is).0 in
+          let a : count_at (with_cell g.nets t x.id v) x.id u ≡ count_at g.nets x.id u = cell_other 0 g.nets t x.id v u x.id (λ is _. off is) in
+          (λ i. a i + count.same_released f.number ne i) ∙ had.nets u f there ∙ ap (λ j. bias + j) (sym (count.same_acquired f.number ne)));
       later = λ n above.
           let ne : n ≢ e.number = λ is. absurd (omega arith) in
           let was = had.later n above in

@@ -94,7 +94,14 @@ pub fn join_ref(words: &Words, seat: &mut CpuSeat, cpu: u8, reference: Reference
 /// compare-exchange. It answers the word as it was. Another word than `expected` says that the keeper collected the word: then the
 /// reference stays in the hand, to go back.
 /// Condition: the seat is that CPU's, with such a reference in its hand, and `expected` is its net count for that number, over the bias.
-pub fn count_down(words: &Words, seat: &mut CpuSeat, cpu: u8, slot: u8, number: u64, expected: u64) -> u64
+pub fn count_down(
+    words: &Words,
+    seat: &mut CpuSeat,
+    cpu: u8,
+    slot: u8,
+    number: u64,
+    expected: u64,
+) -> u64
     requires table { seat.old.table ≡ words.now.table.shared.table_id }
     requires place { (cpu < 8) × (slot < 32) }
     requires cpu { seat.old.view.id ≡ cpu }
