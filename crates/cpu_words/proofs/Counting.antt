@@ -8,16 +8,15 @@ use native.Mathlib.Decide.{ℕ_discrete}
 use Rattle.passive_core.specs.declared.entry.Entry.{Entry}
 use Rattle.passive_core.specs.declared.entry.Change.{Change}
 use Rattle.passive_core.specs.declared.entry.Change.TheVariants.{Attach}
-use Rattle.passive_core.specs.declared.state.Slot.{Slot}
-use Rattle.passive_core.specs.declared.state.Slot.TheVariants.{Vacant, Live, Retired}
+use Rattle.passive_core.specs.declared.state.Slot.TheVariants.{Live, Retired}
 use Rattle.passive_core.specs.declared.state.Mark.{Mark}
 use Rattle.passive_core.specs.declared.state.Hand.{Hand}
 use Rattle.passive_core.specs.declared.state.Hand.TheVariants.{Empty}
 use Rattle.passive_core.specs.declared.state.LocalPlace.{LocalPlace}
 use Rattle.passive_core.specs.History.{IsAttached}
-use Rattle.passive_core.specs.State.{State, bias, no_mark, cell, with_cell, hand_at, slot_at, mark_at, count_at, total_at}
+use Rattle.passive_core.specs.State.{State, bias, no_mark, with_cell, slot_at, mark_at, count_at, total_at}
 use Rattle.passive_core.specs.Invariant.{IsIn, IsCounting, adding_at, is_adding_at}
-use Rattle.passive_core.proofs.Fit.{Ranges, ranges}
+use Rattle.passive_core.proofs.Fit.{ranges}
 use Rattle.passive_core.proofs.Cells.{get_or_all, row_here, row_other, cell_here, cell_other}
 use Rattle.passive_core.proofs.History.{at_within}
 use Rattle.passive_core.proofs.Occupied.{not_vacant, one_in, one_number, attached_in}
@@ -28,7 +27,7 @@ use Rattle.cpu_words.specs.Views.{number_at, one_more, own_of, cpu_view, SameHan
 use Rattle.cpu_words.specs.Rule.{Agrees, Good}
 use Rattle.cpu_words.proofs.Placing.{agrees_set}
 use Rattle.cpu_words.proofs.CpuSteps.{CpuLists, lists_of, with_lists, LeavesOthers}
-use Rattle.cpu_words.proofs.Seeing.{Seen, seen_of}
+use Rattle.cpu_words.proofs.Seeing.{seen_of}
 
 -- Counts by number
 
@@ -154,13 +153,13 @@ shown_count g x e t w v h locals k acquired released good had here lt count same
       gone = had.gone;
       nets = λ u f there. dite (ℕ_discrete u t)
           (λ (on : u ≡ t).
-              let one : f ≡ e = one_in f e (slot_at g.slots t) here (subst (λ j. IsIn f (slot_at g.slots j)) on there) in
-              ap (λ j. count_at (with_cell g.nets t x.id v) x.id j + number_at released f.number) on ∙ ap (λ (j : ℕ). j + number_at released f.number) (cell_here 0 g.nets t x.id v in_rows in_row)
-              ∙ ap (λ (j : Entry). v + number_at released j.number) one ∙ count.net ∙ ap (λ (j : Entry). bias + number_at acquired j.number) (sym one))
+          let one : f ≡ e = one_in f e (slot_at g.slots t) here (subst (λ j. IsIn f (slot_at g.slots j)) on there) in
+          ap (λ j. count_at (with_cell g.nets t x.id v) x.id j + number_at released f.number) on ∙ ap (λ (j : ℕ). j + number_at released f.number) (cell_here 0 g.nets t x.id v in_rows in_row)
+          ∙ ap (λ (j : Entry). v + number_at released j.number) one ∙ count.net ∙ ap (λ (j : Entry). bias + number_at acquired j.number) (sym one))
           (λ (off : u ≢ t).
-              let ne : f.number ≢ e.number = λ is. off (one_number g.history g.slots t u e f good.holds.slots here there is).0 in
-              let a : count_at (with_cell g.nets t x.id v) x.id u ≡ count_at g.nets x.id u = cell_other 0 g.nets t x.id v u x.id (λ is _. off is) in
-              (λ i. a i + count.same_released f.number ne i) ∙ had.nets u f there ∙ ap (λ j. bias + j) (sym (count.same_acquired f.number ne)));
+          let ne : f.number ≢ e.number = λ is. off (one_number g.history g.slots t u e f good.holds.slots here there is).0 in
+          let a : count_at (with_cell g.nets t x.id v) x.id u ≡ count_at g.nets x.id u = cell_other 0 g.nets t x.id v u x.id (λ is _. off is) in
+          (λ i. a i + count.same_released f.number ne i) ∙ had.nets u f there ∙ ap (λ j. bias + j) (sym (count.same_acquired f.number ne)));
       later = λ n above.
           let ne : n ≢ e.number = λ is. absurd (omega arith) in
           let was = had.later n above in

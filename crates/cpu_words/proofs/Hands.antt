@@ -1,10 +1,10 @@
 -- What is in a CPU's hand changes, and the places of references: why the other views stay, and what a split or a join of the CPU's seat makes.
-use Rattle.std.proofs.Common.{◌≡◌, ◌≢◌, ◌⊎◌, ⊎_elim, ℕ, zero, suc, ◌+◌, ◌<◌, ◌≤◌, ◌==◌, List, [], ◌∷◌, ◌++◌, length, get_or, set, sum_by, Option, Some, None, Bool, true, ◌&&◌, is_none, nat_lt, refl, sym, ap, ◌∙◌, subst, arith, get_or-set_same, get_or-set_other}
+use Rattle.std.proofs.Common.{◌≡◌, ◌≢◌, ⊎_elim, ℕ, zero, suc, ◌+◌, ◌<◌, ◌≤◌, ◌==◌, List, [], ◌∷◌, set, sum_by, Option, Some, None, refl, sym, ap, ◌∙◌, subst, arith, get_or-set_same, get_or-set_other}
 use Rattle.std.proofs.lemmas.List.Sums.{sum_by-cons}
 use Rattle.std.proofs.lemmas.Bool.{cases_eq}
 use mathlib.Core.Option.{some}
 use lib.ListN.{get_elem?}
-use Rattle.atomic_table.specs.Table.{State as Table, Splits, Joins}
+use Rattle.atomic_table.specs.Table.{Splits, Joins}
 use Rattle.atomic_table.proofs.Lists.{at_set}
 use Rattle.passive_core.specs.declared.entry.Entry.{Entry}
 use Rattle.passive_core.specs.declared.settings.Settings.{Settings}
@@ -18,8 +18,8 @@ use Rattle.passive_core.specs.declared.state.LocalPlace.{LocalPlace}
 use Rattle.passive_core.specs.declared.state.LocalPlace.TheVariants.{Free, Standing, Lifted}
 use Rattle.passive_core.specs.History.{IsAttached}
 use Rattle.passive_core.specs.State.{State, hand_at, local_at}
-use Rattle.passive_core.specs.Events.{Outcome, step, guard, taken, with_some, standing, is_idle, least_id, with_local, split_ref, split_back, join_ref}
-use Rattle.passive_core.specs.Invariant.{one_if, standing_of, Holds}
+use Rattle.passive_core.specs.Events.{step, standing, least_id, with_local, split_ref, split_back}
+use Rattle.passive_core.specs.Invariant.{one_if, standing_of}
 use Rattle.passive_core.proofs.Bounds.{back_within}
 use Rattle.passive_core.proofs.References.{back_holds}
 use Rattle.passive_core.proofs.Sums.{one_at, none_at, local_changed, local_added, standing_within}
@@ -29,17 +29,17 @@ use Rattle.cpu_words.specs.declared.view.InHand.TheVariants.{Empty as NoEntry, T
 use Rattle.cpu_words.specs.declared.view.CpuView.{CpuView}
 use Rattle.cpu_words.specs.declared.view.ReferenceView.{ReferenceView}
 use Rattle.cpu_words.specs.declared.view.View.{View}
-use Rattle.cpu_words.specs.declared.view.View.TheVariants.{Keeper, Cpu, Reference, Note, Spent}
+use Rattle.cpu_words.specs.declared.view.View.TheVariants.{Cpu, Reference, Spent}
 use Rattle.cpu_words.specs.Spots.{Spot, section_of, passive_of, count_of, head_word, next_of, record_of, total_of, word_at}
-use Rattle.cpu_words.specs.Views.{own_of, cpu_view, is_to, SameHand, HandFits, IsCollectedFor, CpuShown, ReferenceShown, Shown, cpu_of, reference_of}
-use Rattle.cpu_words.specs.Rule.{Sits, reference_to, Good, Ruled}
-use Rattle.cpu_words.specs.Steps.{SplitMakes, SplitsBy, JoinMakes, JoinsBy}
+use Rattle.cpu_words.specs.Views.{is_to, SameHand, HandFits, IsCollectedFor, CpuShown, ReferenceShown, cpu_of, reference_of}
+use Rattle.cpu_words.specs.Rule.{reference_to, Good, Ruled}
+use Rattle.cpu_words.specs.Steps.{SplitsBy, JoinsBy}
 use Rattle.cpu_words.specs.Sections.{IsIdle}
 use Rattle.cpu_words.specs.Locals.{with_hand, reference_in, emptied, cut_off, taking_in, IsTaking, IsBack}
 use Rattle.cpu_words.proofs.Showing.{standing_in, backed, shows_split, shows_join}
 use Rattle.cpu_words.proofs.Placing.{agrees_same}
 use Rattle.cpu_words.proofs.CpuSteps.{CpuLists, lists_of, with_lists, LeavesOthers, cpu_stays, good_after}
-use Rattle.cpu_words.proofs.Seeing.{Seen, seen_of, idle_of}
+use Rattle.cpu_words.proofs.Seeing.{seen_of, idle_of}
 
 -- another hand of the CPU c, and other places of references
 abbrev pub hand_lists : State → ℕ → Hand → List LocalPlace → CpuLists
@@ -279,9 +279,9 @@ joins z i o x v idle s r at apart there =
     let both = taking_in (Cpu x) (Reference v) in
     let had = r.shows.fits i (Cpu x) at in
     let was : get_elem? s.views o ≡ some (Reference v) = ⊎_elim
-            (λ (t : (o ≡ i) × (both ≡ Reference v)). absurd (apart t.0))
-            (λ (t : (o ≢ i) × (get_elem? s.views o ≡ some (Reference v))). t.1)
-            (at_set s.views i o both (Reference v) there) in
+    (λ (t : (o ≡ i) × (both ≡ Reference v)). absurd (apart t.0))
+    (λ (t : (o ≢ i) × (get_elem? s.views o ≡ some (Reference v))). t.1)
+    (at_set s.views i o both (Reference v) there) in
     let shown : ReferenceShown g v = (r.shows.fits o (Reference v) was).1 in
     let p = coming x x.id refl idle v.entry g r.good had.1 shown.attached (stands_for g v (backed g r.seat s.views o (Reference v) r.shows was)) in
     let m = p.step in

@@ -1,6 +1,6 @@
 -- CountAdd and CountDown on the words.
-use Rattle.std.proofs.Common.{◌≡◌, ◌≢◌, ◌⊎◌, inl, inr, ⊎_elim, ℕ, zero, suc, ◌+◌, ◌-◌, ◌*◌, ◌%◌, ◌^◌, ◌==◌, ◌<◌, ◌≤◌, List, [], length, get_or, set, sum_by, Option, Some, None, Bool, true, false, ◌&&◌, nat_lt, refl, sym, ap, ◌∙◌, subst, arith}
-use Rattle.std.specs.Prelude.{slice_index, if◌then◌else◌}
+use Rattle.std.proofs.Common.{◌≡◌, ◌≢◌, ⊎_elim, ℕ, ◌+◌, ◌-◌, ◌*◌, ◌%◌, ◌^◌, ◌==◌, ◌<◌, ◌≤◌, [], set, Option, Some, true, refl, sym, ap, ◌∙◌, subst, arith}
+use Rattle.std.specs.Prelude.{slice_index}
 use Rattle.std.proofs.lemmas.Bool.{lt-ltb, eq-eqb, ne_eqb, cases_eq}
 use mathlib.Core.Option.{some}
 use lib.ListN.{get_elem?}
@@ -8,19 +8,16 @@ use prog.Atomic.{either}
 use Rattle.atomic_table.specs.Table.{State as Table, keeps, stepped}
 use Rattle.passive_core.specs.declared.entry.Entry.{Entry}
 use Rattle.passive_core.specs.declared.settings.Settings.{Settings}
-use Rattle.passive_core.specs.declared.event.Event.{Event}
 use Rattle.passive_core.specs.declared.event.Event.TheVariants.{CountAdd, CountDown}
-use Rattle.passive_core.specs.declared.event.Reply.{Reply}
 use Rattle.passive_core.specs.declared.event.Reply.TheVariants.{Word, Collected}
 use Rattle.passive_core.specs.declared.state.Slot.TheVariants.{Retired}
-use Rattle.passive_core.specs.declared.state.Hand.{Hand}
 use Rattle.passive_core.specs.declared.state.Hand.TheVariants.{Empty, Taking, Giving, Back}
 use Rattle.passive_core.specs.declared.state.LocalPlace.TheVariants.{Free, Lifted}
 use Rattle.passive_core.specs.History.{IsAttached}
-use Rattle.passive_core.specs.State.{State, bias, found_at, hand_at, slot_at, mark_at, count_at, local_at}
+use Rattle.passive_core.specs.State.{State, bias, found_at, hand_at, slot_at, mark_at, count_at}
 use Rattle.passive_core.specs.Slots.{slot_of}
-use Rattle.passive_core.specs.Events.{Outcome, step, guard, taken, with_some, is_idle, may_count, count_add, count_down, exchange, after_count_down, after_collected}
-use Rattle.passive_core.specs.Invariant.{IsIn, IsCounting, Occupies, standing_of, Holds}
+use Rattle.passive_core.specs.Events.{step}
+use Rattle.passive_core.specs.Invariant.{IsIn, IsCounting}
 use Rattle.passive_core.proofs.Bounds.{giving_within}
 use Rattle.passive_core.proofs.Counts.{counting_cases, is_counting}
 use Rattle.passive_core.proofs.CountKeeps.{held_counting}
@@ -29,18 +26,17 @@ use Rattle.passive_core.proofs.Numbers.{slot_number}
 use Rattle.passive_core.proofs.Occupied.{attached_in, in_within}
 use Rattle.passive_core.proofs.References.{giving_holds}
 use Rattle.passive_core.proofs.Sums.{local_changed}
-use Rattle.cpu_words.specs.declared.view.InHand.{InHand}
 use Rattle.cpu_words.specs.declared.view.InHand.TheVariants.{Empty as NoEntry, Taking as TakingEntry, Giving as GivingEntry, Back as BackEntry}
 use Rattle.cpu_words.specs.declared.view.CpuView.{CpuView}
 use Rattle.cpu_words.specs.declared.view.View.{View}
 use Rattle.cpu_words.specs.declared.view.View.TheVariants.{Cpu}
-use Rattle.cpu_words.specs.Spots.{Spot, count_of, index, IsSpot, word_at}
+use Rattle.cpu_words.specs.Spots.{count_of}
 use Rattle.cpu_words.specs.Views.{number_at, one_more, own_of, cpu_view, HandFits, IsCollectedFor, CpuShown, cpu_of}
 use Rattle.cpu_words.specs.Rule.{Agrees, Good, Ruled}
-use Rattle.cpu_words.specs.Steps.{Makes, Moves, CpuMay}
+use Rattle.cpu_words.specs.Steps.{Makes, CpuMay}
 use Rattle.cpu_words.specs.Locals.{IsNetCount, MayCount, HasCounted, CountTold, MayCountDown, HasCountedDown, HasFoundCollected, DownTold, with_hand}
 use Rattle.cpu_words.proofs.Placing.{agrees_set}
-use Rattle.cpu_words.proofs.CpuSteps.{CpuLists, lists_of, with_lists, cpu_makes}
+use Rattle.cpu_words.proofs.CpuSteps.{with_lists, cpu_makes}
 use Rattle.cpu_words.proofs.Seeing.{Seen, seen_of, idle_of}
 use Rattle.cpu_words.proofs.Hands.{giving_hand, hand_lists, leaves_hands, same_words, shown_hand}
 use Rattle.cpu_words.proofs.Counting.{count_lists, one_more_same, one_more_other, leaves_counts, count_words, Recount, recounted, shown_count}
@@ -78,26 +74,27 @@ count_add_at z x e may is s r i at fits =
     let l = count_lists g c t (count_at g.counts c t + 1) (count_at g.nets c t + 1) (Taking n) g.locals in
     let acquired = one_more x.acquired n in
     let after : Recount x e (count_at g.nets c t + 1) acquired x.released = record {
-          net = let a = one_more_same x.acquired n in omega arith;
-          same_acquired = λ m ne. one_more_other x.acquired n m ne;
-          same_released = λ m ne. refl;
-        } in
+      net = let a = one_more_same x.acquired n in omega arith;
+      same_acquired = λ m ne. one_more_other x.acquired n m ne;
+      same_released = λ m ne. refl;
+    } in
     let attached : IsAttached g.history e = (attached_in g.history g.slots t e r.good.holds.slots counts.1).0 in
     let shown = shown_count g x e t (count_at g.counts c t + 1) (count_at g.nets c t + 1) (Taking n) g.locals (TakingEntry e) acquired x.released r.good had counts.1 there after refl attached in
     let made : step g (CountAdd c) ≡ Some (record { state = with_lists g l; reply = Word word }) = rw (found, counts.0, idle_of g x seen had may.idle, lt-ltb (count_at g.nets c t) (bias + g.settings.count_limit) room, has) refl in
     let words = subst (λ m. Agrees (set s.words (80 * c + 33 + t) m) (with_lists g l)) (sym next) (count_words s.words g c t (count_at g.counts c t + 1) (count_at g.nets c t + 1) (Taking n) g.locals r.good r.words seen.lt there) in
     let done = cpu_makes z s r i x (80 * c + 33 + t) ((word + 1) % 2 ^ 64) l (CountAdd c) (Word word) (record (own_of x) { hand = TakingEntry e; acquired = acquired }) at made
-        (leaves_counts g c t (count_at g.counts c t + 1) (count_at g.nets c t + 1) (Taking n) g.locals e r.good counts.1 there counts.2) (λ k. refl) refl shown words in
+    (leaves_counts g c t (count_at g.counts c t + 1) (count_at g.nets c t + 1) (Taking n) g.locals e r.good counts.1 there counts.2) (λ k. refl) refl shown words in
     let y = recounted g x l (TakingEntry e) acquired x.released in
     let change : y ≡ record x { hand = TakingEntry e; acquired = acquired } = ap (λ (v : CpuView). record v { hand = TakingEntry e; acquired = acquired }) (sym had.is) in
     let told : CountTold x word y = λ u m other.
-        let one : e ≡ other.entry = some_same (sym is ∙ other.found) in
-        let number : n ≡ m = ap (λ (f : Entry). f.number) one ∙ other.number in
-        subst (λ k. HasCounted x k y × IsNetCount x k word) number ((e, is, refl, change), has_net word (count_at g.counts c t) (count_at g.nets c t) (number_at x.released n) (bias + number_at x.acquired n) has same net) in
+    let one : e ≡ other.entry = some_same (sym is ∙ other.found) in
+    let number : n ≡ m = ap (λ (f : Entry). f.number) one ∙ other.number in
+    subst (λ k. HasCounted x k y × IsNetCount x k word) number ((e, is, refl, change), has_net word (count_at g.counts c t) (count_at g.nets c t) (number_at x.released n) (bias + number_at x.acquired n) has same net) in
     (Cpu y, done.0, (refl, (done.1, told)))
   where
     some_same : {a b : Entry} → ◌≡◌ {A = Option Entry} (Some a) (Some b) → a ≡ b
     some_same eq = cc
+
     has_net : (a b d p q : ℕ) → a ≡ b → b ≡ d → d + p ≡ q → a + p ≡ q
     has_net a b d p q u v w = omega arith
 
@@ -178,17 +175,17 @@ down_counted z s r i x e old at is p found =
     let released = one_more x.released n in
     let was : count_at g.nets c t + number_at x.released n ≡ bias + number_at x.acquired n = p.had.nets t e p.here in
     let after : Recount x e (count_at g.nets c t - 1) x.acquired released = record {
-          net = let a = one_more_same x.released n in omega arith;
-          same_acquired = λ m ne. refl;
-          same_released = λ m ne. one_more_other x.released n m ne;
-        } in
+      net = let a = one_more_same x.released n in omega arith;
+      same_acquired = λ m ne. refl;
+      same_released = λ m ne. one_more_other x.released n m ne;
+    } in
     let shown = shown_count g x e t (count_at g.counts c t - 1) (count_at g.nets c t - 1) Empty locals NoEntry x.acquired released r.good p.had p.here p.there after tt tt in
     let made : step g (CountDown c) ≡ Some (record { state = with_lists g l; reply = Word word }) = rw (p.hand, p.slot, eq-eqb (count_at g.counts c t) (count_at g.nets c t) same, has) refl in
     let next : count_at g.counts c t - 1 ≡ old - 1 = ap (λ k. k - 1) (same ∙ net) in
     let words = subst (λ m. Agrees (set s.words (80 * c + 33 + t) m) (with_lists g l)) next (count_words s.words g c t (count_at g.counts c t - 1) (count_at g.nets c t - 1) Empty locals r.good r.words p.seen.lt p.there) in
     let done = cpu_makes z s r i x (80 * c + 33 + t) (old - 1) l (CountDown c) (Word word) (record (own_of x) { hand = NoEntry; released = released }) at made
-        (leaves_counts g c t (count_at g.counts c t - 1) (count_at g.nets c t - 1) Empty locals e r.good p.here p.there counting)
-        (λ k. let a = local_changed k g.locals p.id (Lifted c) Free within lifted in omega arith) refl shown words in
+    (leaves_counts g c t (count_at g.counts c t - 1) (count_at g.nets c t - 1) Empty locals e r.good p.here p.there counting)
+    (λ k. let a = local_changed k g.locals p.id (Lifted c) Free within lifted in omega arith) refl shown words in
     let y = recounted g x l NoEntry x.acquired released in
     let change : y ≡ record x { hand = NoEntry; released = released } = ap (λ (v : CpuView). record v { hand = NoEntry; released = released }) (sym p.had.is) in
     (y, done.0, (λ _. (done.1, (e, is, refl, change))), (λ ne. absurd (ne found)))
@@ -205,9 +202,9 @@ down_collected z s r i x e old at is p off =
     let has : word ≡ count_at g.counts c t = r.words.at (count_of c t) (p.seen.lt, p.there) in
     let differs : count_at g.counts c t ≢ count_at g.nets c t = λ same. off (has ∙ same ∙ p.net) in
     let gone : IsCollectedFor g.slots g.marks e c = ⊎_elim
-            (λ (counting : IsCounting g.slots g.marks c t). absurd (differs (r.good.holds.balance.counted c t p.seen.lt counting).0))
-            (λ (gone : (slot_at g.slots t ≡ Retired e) × ((mark_at g.marks t c).collected ≡ true)). gone)
-            (counting_cases g.slots g.marks c t e p.here) in
+    (λ (counting : IsCounting g.slots g.marks c t). absurd (differs (r.good.holds.balance.counted c t p.seen.lt counting).0))
+    (λ (gone : (slot_at g.slots t ≡ Retired e) × ((mark_at g.marks t c).collected ≡ true)). gone)
+    (counting_cases g.slots g.marks c t e p.here) in
     let l = hand_lists g c (Back n p.id) g.locals in
     let shown = shown_hand g x (Back n p.id) g.locals (BackEntry e) r.good p.had refl (p.attached, gone) in
     let view : with_hand x (BackEntry e) ≡ cpu_view (with_lists g l) c (record (own_of x) { hand = BackEntry e }) = ap (λ (v : CpuView). with_hand v (BackEntry e)) p.had.is in
@@ -230,13 +227,22 @@ count_down_at z x e old new is low fits is_new s r i at within =
   where
     Goal : ℕ → ℕ → Type 0
     Goal w m = (v : View) × Ruled z (stepped s (80 * x.id + 33 + e.slot) m i [] v keeps) × ((v ≡ Cpu (cpu_of v)) × DownTold (CountDown x.id) old x w (cpu_of v))
+
     same_giving_entry : (a b : Entry) → GivingEntry a ≡ GivingEntry b → a ≡ b
     same_giving_entry a b eq = cc
+
     finish : (w m : ℕ) → Down z s i x e old w m → 0 < old → Goal w m
-    finish w m d floor = (Cpu d.0, d.1, (refl, λ t n may.
-        let one : e ≡ may.entry = same_giving_entry e may.entry (sym is ∙ may.giving) in
-        let number : e.number ≡ n = ap (λ (f : Entry). f.number) one ∙ may.number in
-        (floor, (λ same. let h = d.2 same in (h.0, subst (λ k. HasCountedDown x k d.0) number h.1)), (λ off. let h = d.3 off in (h.0, subst (λ k. HasFoundCollected x k d.0) number h.1)))))
+    finish w m d floor = (
+      Cpu d.0,
+      d.1,
+      (
+        refl,
+        λ t n may.
+            let one : e ≡ may.entry = same_giving_entry e may.entry (sym is ∙ may.giving) in
+            let number : e.number ≡ n = ap (λ (f : Entry). f.number) one ∙ may.number in
+            (floor, (λ same. let h = d.2 same in (h.0, subst (λ k. HasCountedDown x k d.0) number h.1)), (λ off. let h = d.3 off in (h.0, subst (λ k. HasFoundCollected x k d.0) number h.1))),
+      ),
+    )
 
 pub count_down_may : (z : Settings) (x : CpuView) (c t n old new : ℕ) → x.id ≡ c → MayCountDown x t n old → old < 2 ^ 64 → new ≡ (old + (2 ^ 64 - 1)) % 2 ^ 64
     → CpuMay z x (80 * c + 33 + t) (λ m. either (m == old) new m) (DownTold (CountDown c) old)

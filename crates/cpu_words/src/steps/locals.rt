@@ -17,8 +17,8 @@ use crate::step::in_hand::InHandReference;
 use passive_core::Event;
 use std::marker::Brand;
 
-/// CPU `cpu` counts a local reference to its last found entry, the one with `number` in `slot`, and has it in its hand. It answers the
-/// count word as it was.
+/// CPU `cpu` counts a local reference to its last found entry, the one with `number` (from 1) in `slot` (from 0), and has it in its hand:
+/// one addition to its count word. It answers the word as it was, which is its net count for that number, over the bias.
 /// Condition: the seat is that CPU's, idle, and its net count for that number is below the count limit.
 pub fn count_add(words: &Words, seat: &mut CpuSeat, cpu: u8, slot: u8, number: u64) -> u64
     requires table { seat.old.table ≡ words.now.table }
@@ -90,11 +90,18 @@ pub fn join_ref(words: &Words, seat: &mut CpuSeat, cpu: u8, reference: Reference
         .join_seat::<InHandReference>(&mut seat.token, token);
 }
 
-/// CPU `cpu` counts the reference in its hand, to the entry with `number` in `slot`, down, where its count word still is `expected`: one
-/// compare-exchange. It answers the word as it was. Another word than `expected` says that the keeper collected the word: then the
-/// reference stays in the hand, to go back.
+/// CPU `cpu` counts the reference in its hand, to the entry with `number` (from 1) in `slot` (from 0), down: one compare-exchange of its
+/// count word from `expected` to one less. It answers the word as it was. Another word than `expected` says that the keeper has collected
+/// it: then the reference stays in the hand, to go back.
 /// Condition: the seat is that CPU's, with such a reference in its hand, and `expected` is its net count for that number, over the bias.
-pub fn count_down(words: &Words, seat: &mut CpuSeat, cpu: u8, slot: u8, number: u64, expected: u64) -> u64
+pub fn count_down(
+    words: &Words,
+    seat: &mut CpuSeat,
+    cpu: u8,
+    slot: u8,
+    number: u64,
+    expected: u64,
+) -> u64
     requires table { seat.old.table ≡ words.now.table }
     requires place { (cpu < 8) × (slot < 32) }
     requires cpu { seat.old.view.id ≡ cpu }

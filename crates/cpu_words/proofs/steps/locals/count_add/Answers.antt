@@ -1,4 +1,3 @@
-use Rattle.std.proofs.Common.{rules, arith}
 use Rattle.cpu_words.proofs.Locals.{count_add_may}
 use Rattle.cpu_words.proofs.steps.locals.count_add.Goals as goal
 

@@ -1,4 +1,4 @@
-use Rattle.std.proofs.Common.{rules, arith, refl}
+use Rattle.std.proofs.Common.{refl}
 use Rattle.cpu_words.proofs.Locals.{count_down_may}
 use Rattle.cpu_words.proofs.steps.locals.count_down.Goals as goal
 
