@@ -1,6 +1,7 @@
 -- Enter and Exit on the words.
 use Rattle.std.proofs.Common.{◌≡◌, ℕ, ◌+◌, ◌*◌, ◌%◌, ◌^◌, ◌≤◌, ◌<◌, List, length, take, get_or, set, Option, Some, None, Bool, true, ◌&&◌, is_none, nat_lt, refl, sym, ap, ◌∙◌, subst, arith, get_or-set_same, get_or-set_other}
 use Rattle.std.proofs.lemmas.Bool.{lt-ltb}
+use Rattle.std.proofs.lemmas.Option.{none-some}
 use Rattle.std.specs.Prelude.{slice_index}
 use mathlib.Core.Option.{some}
 use mathlib.Core.List.{IsPrefix}
@@ -21,7 +22,7 @@ use Rattle.cpu_words.specs.Spots.{Spot, section_of, passive_of, count_of, head_w
 use Rattle.cpu_words.specs.Views.{own_of, cpu_view, depth_of, CpuShown}
 use Rattle.cpu_words.specs.Rule.{Agrees, Good, Ruled}
 use Rattle.cpu_words.specs.Steps.{Makes, Moves, CpuMay}
-use Rattle.cpu_words.specs.Sections.{MayEnter, HasEntered}
+use Rattle.cpu_words.specs.Sections.{MayEnter, HasEntered, MayExit, HasExited}
 use Rattle.cpu_words.proofs.Placing.{agrees_set}
 use Rattle.cpu_words.proofs.Passes.{attached_prefix, attached_longer, prefix_longer, take_whole}
 use Rattle.cpu_words.proofs.CpuSteps.{CpuLists, lists_of, with_lists, same_counts, shown_on, found_on, cpu_makes}
@@ -71,3 +72,31 @@ enter_may z x c id may = subst (λ d. CpuMay z x (80 * d) (λ n. (n + 1) % 2 ^ 6
         let change : y ≡ record x { section = x.section + 1; begin = Some (length y.pass); pass = y.pass } =
             (λ k. record y { section = section k; begin = begun k }) ∙ ap (λ (v : CpuView). record v { section = v.section + 1; begin = Some (length y.pass); pass = y.pass }) (sym had.is) in
         (Cpu y, done.0, (refl, (done.1, (longer, change)))))
+
+pub exit_may : (z : Settings) (x : CpuView) (c : ℕ) → x.id ≡ c → MayExit x → CpuMay z x (80 * c) (λ n. (n + 1) % 2 ^ 64) (λ v n y. Makes (Exit c) Done (Cpu v) (Cpu y) × HasExited v y)
+exit_may z x c id may = subst (λ d. CpuMay z x (80 * d) (λ n. (n + 1) % 2 ^ 64) (λ v n y. Makes (Exit d) Done (Cpu v) (Cpu y) × HasExited v y)) id
+    (λ s r i at fits.
+        let g = r.g in
+        let had : CpuShown g x = (r.shows.fits i (Cpu x) at).1 in
+        let seen = seen_of g x r.good had in
+        let found : slice_index s.words (80 * x.id) ≡ section_at g x.id = r.words.at (section_of x.id) seen.lt in
+        let room : section_at g x.id ≤ 2 * g.settings.section_limit = r.good.holds.sections.limited x.id in
+        let next : (slice_index s.words (80 * x.id) + 1) % 2 ^ 64 ≡ section_at g x.id + 1 = omega (arith, found, room, seen.fit) in
+        let l : CpuLists = record (lists_of g) { section = set g.section x.id (section_at g x.id + 1); begins = set g.begins x.id None; depths = set g.depths x.id 0; found = set g.found x.id None } in
+        let y = cpu_view (with_lists g l) x.id (own_of x) in
+        let section : y.section ≡ section_at g x.id + 1 = get_or-set_same g.section x.id (section_at g x.id + 1) 0 seen.in_section in
+        let begins : y.begin ≡ None = get_or-set_same g.begins x.id None None seen.in_begins in
+        let nothing : y.found ≡ None = get_or-set_same g.found x.id None None seen.in_found in
+        let inside : begin_at g x.id ≡ Some may.inside.0 = sym seen.begin ∙ may.inside.1 in
+        let depth : depth_at g x.id ≡ 1 = had.depth ∙ ap depth_of may.inside.1 in
+        let made : step g (Exit x.id) ≡ Some (record { state = with_lists g l; reply = Done }) = rw (idle_of g x seen had may.idle, inside, depth) refl in
+        let leaves = same_counts g x.id l refl refl refl refl
+            (λ d ne. get_or-set_other g.section x.id d _ 0 ne) (λ d ne. get_or-set_other g.begins x.id d _ None ne) (λ d ne. get_or-set_other g.depths x.id d _ 0 ne)
+            (λ d ne. refl) (λ d ne. refl) (λ d ne. get_or-set_other g.found x.id d _ None ne) in
+        let shown = shown_on g x l had refl refl refl (get_or-set_same g.depths x.id 0 0 seen.in_depths ∙ sym (ap depth_of begins)) (omega arith) seen.within
+            (λ e is. absurd (none-some e (sym nothing ∙ is))) in
+        let words = subst (λ m. Agrees (set s.words (80 * x.id) m) (with_lists g l)) (sym next) (section_words s.words g x l (section_at g x.id + 1) seen r.good r.words refl refl refl) in
+        let done = cpu_makes z s r i x (80 * x.id) ((slice_index s.words (80 * x.id) + 1) % 2 ^ 64) l (Exit x.id) Done (own_of x) at made leaves (λ k. refl) refl shown words in
+        let change : y ≡ record x { section = x.section + 1; begin = None; found = None } =
+            (λ k. record y { section = section k; begin = begins k; found = nothing k }) ∙ ap (λ (v : CpuView). record v { section = v.section + 1; begin = None; found = None }) (sym had.is) in
+        (Cpu y, done.0, (refl, (done.1, change))))

@@ -18,3 +18,11 @@ pub record MayEnter (x : CpuView) : Type 0 where
 -- the pass is a longer prefix of the history, and the section begins at its end
 abbrev pub HasEntered : CpuView → CpuView → Type 0
 HasEntered x y = IsPrefix x.pass y.pass × (y ≡ record x { section = x.section + 1; begin = Some (length y.pass); pass = y.pass })
+
+pub record MayExit (x : CpuView) : Type 0 where
+  pub idle : IsIdle x
+  pub inside : (b : ℕ) × (x.begin ≡ Some b)
+
+-- the section is closed, and what was found in it is gone
+abbrev pub HasExited : CpuView → CpuView → Type 0
+HasExited x y = y ≡ record x { section = x.section + 1; begin = None; found = None }

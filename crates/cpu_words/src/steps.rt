@@ -3,4 +3,4 @@
 
 pub mod sections;
 
-pub use sections::enter;
+pub use sections::{enter, exit};
