@@ -4,3 +4,4 @@ pub mod Passes
 pub mod CpuSteps
 pub mod Seeing
 pub mod Sections
+pub mod Searching

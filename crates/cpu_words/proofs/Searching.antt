@@ -1,0 +1,143 @@
+-- The loads of a search on the words: Seek and LoadLink.
+use Rattle.std.proofs.Common.{◌≡◌, ◌≢◌, ℕ, zero, suc, ◌+◌, ◌*◌, ◌≤◌, ◌<◌, List, [], ◌∷◌, length, take, get_or, set, Option, Some, None, Bool, true, ◌&&◌, is_none, nat_lt, refl, sym, ap, ◌∙◌, subst, arith, get_or-set_same, get_or-set_other, set-set}
+use Rattle.std.proofs.lemmas.List.{set-get_or}
+use Rattle.std.proofs.lemmas.Option.{none-some, same_Some}
+use Rattle.std.specs.Prelude.{slice_index}
+use mathlib.Core.Option.{some, some-ne-none}
+use mathlib.Core.List.{IsPrefix}
+use lib.ListN.{get_elem?}
+use Rattle.atomic_table.specs.Table.{State as Table, keeps, stepped}
+use Rattle.passive_core.specs.declared.name.Name.{Name}
+use Rattle.passive_core.specs.declared.entry.Kind.{Kind}
+use Rattle.passive_core.specs.declared.entry.Entry.{Entry}
+use Rattle.passive_core.specs.declared.entry.Change.{Change}
+use Rattle.passive_core.specs.declared.settings.Settings.{Settings}
+use Rattle.passive_core.specs.declared.event.Event.TheVariants.{Seek, LoadLink}
+use Rattle.passive_core.specs.declared.event.Reply.TheVariants.{Done, Word, Missed}
+use Rattle.passive_core.specs.declared.state.Key.{Key}
+use Rattle.passive_core.specs.declared.state.Place.{Place}
+use Rattle.passive_core.specs.declared.state.Place.TheVariants.{AtHead, AtNext, AtNumber}
+use Rattle.passive_core.specs.declared.state.Search.{Search}
+use Rattle.passive_core.specs.History.{IsAttached, IsLawful}
+use Rattle.passive_core.specs.State.{State, section_at, begin_at, depth_at, seen_at, search_at, found_at, hand_at}
+use Rattle.passive_core.specs.Events.{Outcome, step, guard, taken, with_some, may_seek, after_seek, load_link, link_loaded}
+use Rattle.passive_core.specs.Invariant.{Holds, PlaceHolds}
+use Rattle.passive_core.proofs.Fit.{ranges}
+use Rattle.passive_core.proofs.Searching.{Walks, search_walks, LinkTells, link_tells, head_ahead, at_next_ahead}
+use Rattle.cpu_words.specs.declared.view.CpuView.{CpuView}
+use Rattle.cpu_words.specs.declared.view.View.{View}
+use Rattle.cpu_words.specs.declared.view.View.TheVariants.{Cpu}
+use Rattle.cpu_words.specs.Spots.{Spot, section_of, passive_of, count_of, head_word, next_of, record_of, total_of, index, IsSpot, word_at}
+use Rattle.cpu_words.specs.Views.{own_of, cpu_view, depth_of, CpuShown}
+use Rattle.cpu_words.specs.Rule.{Agrees, Good, Ruled}
+use Rattle.cpu_words.specs.Steps.{Makes, Moves, CpuMay}
+use Rattle.cpu_words.specs.Searching.{MaySeek, key_with, search_for, seeking, moved, MayLoadLink, link_answer, followed, LinkHolds, HasFollowed, HasLoadedLink, HasSought}
+use Rattle.cpu_words.proofs.Placing.{agrees_same}
+use Rattle.cpu_words.proofs.Passes.{prefix_longer, take_whole}
+use Rattle.cpu_words.proofs.CpuSteps.{CpuLists, lists_of, with_lists, same_counts, shown_on, found_on, cpu_makes}
+use Rattle.cpu_words.proofs.Seeing.{Seen, seen_of, idle_of}
+
+-- a load leaves the words
+pub loaded_words : (words : List ℕ) (g : State) (l : CpuLists) (i m : ℕ) → slice_index words i ≡ m → Agrees words g → l.section ≡ g.section → l.passive ≡ g.passive → l.counts ≡ g.counts → Agrees (set words i m) (with_lists g l)
+loaded_words words g l i m found agrees section passive counts =
+    subst (λ (ws : List ℕ). Agrees ws (with_lists g l)) (sym (set-get_or words i 0) ∙ ap (set words i) found) (agrees_same words g (with_lists g l) agrees refl (λ q there. same q))
+  where
+    same : (q : Spot) → word_at (with_lists g l) q ≡ word_at g q
+    same (section_of d) = ap (λ (s : List ℕ). get_or s d 0) section
+    same (passive_of d t) = ap (λ (p : List (List ℕ)). word_at (record g { passive = p }) (passive_of d t)) passive
+    same (count_of d t) = ap (λ (p : List (List ℕ)). word_at (record g { counts = p }) (count_of d t)) counts
+    same head_word = refl
+    same (next_of t) = refl
+    same (record_of t k) = refl
+    same (total_of t) = refl
+
+-- What a link makes of a search and of the last found entry
+
+abbrev pub next_search : Search → ℕ → Option Search
+next_search q zero = None
+next_search q (suc t) = Some (moved q (AtNumber t))
+
+abbrev pub next_found : Option Entry → ℕ → Option Entry
+next_found e zero = None
+next_found e (suc t) = e
+
+abbrev pub found_lists : List (Option Entry) → ℕ → ℕ → List (Option Entry)
+found_lists found c zero = set found c None
+found_lists found c (suc t) = found
+
+found_here : (found : List (Option Entry)) (c m : ℕ) → c < length found → get_or (found_lists found c m) c None ≡ next_found (get_or found c None) m
+found_here found c zero lt = get_or-set_same found c None None lt
+found_here found c (suc t) lt = refl
+
+found_there : (found : List (Option Entry)) (c d m : ℕ) → d ≢ c → get_or (found_lists found c m) d None ≡ get_or found d None
+found_there found c d zero ne = get_or-set_other found c d None None ne
+found_there found c d (suc t) ne = refl
+
+found_before : (old : Option Entry) (m : ℕ) (e : Entry) → next_found old m ≡ Some e → old ≡ Some e
+found_before old zero e is = absurd (none-some e is)
+found_before old (suc t) e is = is
+
+abbrev pub link_lists : State → ℕ → Search → ℕ → CpuLists
+link_lists g c q m = record (lists_of g) { seen = set g.seen c (length g.history); searches = set g.searches c (next_search q m); found = found_lists g.found c m }
+
+link_made : (g : State) (c : ℕ) (q : Search) (m : ℕ) → link_loaded g c q m ≡ Some (record { state = with_lists g (link_lists g c q m); reply = link_answer m })
+link_made g c q zero = refl
+link_made g c q (suc t) = refl
+
+followed_is : (x : CpuView) (q : Search) (m : ℕ) (p : List Change) → record x { pass = p; search = next_search q m; found = next_found x.found m } ≡ followed x q m p
+followed_is x q zero p = refl
+followed_is x q (suc t) p = refl
+
+link_holds : (g : State) (q : Search) (n m : ℕ) (p : List Change) → Good g → p ≡ g.history → LinkTells g q.start q.key n m → LinkHolds g.settings q m p
+link_holds g q n zero p good is tells = subst (λ h. IsLawful h q.start (length h) q.key None) (sym is) tells
+link_holds g q n (suc t) p good is tells = (omega (arith, tells.4, good.holds.shape.slots), omega (arith, tells.4, good.holds.shape.slots, ranges g.settings good.holds.fit))
+
+-- the search q of x loads the link m, which is at its place
+pub follows : (z : Settings) (s : Table ℕ View) (r : Ruled z s) (i : ℕ) (x : CpuView) (word m n : ℕ) (q : Search) → get_elem? s.views i ≡ some (Cpu x) → x.search ≡ Some q
+    → slice_index s.words word ≡ m → load_link r.g x.id q q.place ≡ link_loaded r.g x.id q m → LinkTells r.g q.start q.key n m
+    → (y : CpuView) × Ruled z (stepped s word m i [] (Cpu y) keeps) × Makes (LoadLink x.id) (link_answer m) (Cpu x) (Cpu y) × HasFollowed x q m y
+follows z s r i x word m n q at under found link tells =
+    let g = r.g in
+    let had : CpuShown g x = (r.shows.fits i (Cpu x) at).1 in
+    let seen = seen_of g x r.good had in
+    let size = length g.history in
+    let l : CpuLists = link_lists g x.id q m in
+    let y = cpu_view (with_lists g l) x.id (own_of x) in
+    let sees : get_or l.seen x.id 0 ≡ size = get_or-set_same g.seen x.id size 0 seen.in_seen in
+    let passes : y.pass ≡ g.history = ap (λ k. take k g.history) sees ∙ take_whole g.history in
+    let searches : y.search ≡ next_search q m = get_or-set_same g.searches x.id (next_search q m) None seen.in_searches in
+    let finds : y.found ≡ next_found (found_at g x.id) m = found_here g.found x.id m seen.in_found in
+    let made : step g (LoadLink x.id) ≡ Some (record { state = with_lists g l; reply = link_answer m }) =
+        ap (λ (o : Option Search). with_some o (λ p. load_link g x.id p p.place)) (sym seen.search ∙ under) ∙ link ∙ link_made g x.id q m in
+    let leaves = same_counts g x.id l refl refl refl refl (λ d ne. refl) (λ d ne. refl) (λ d ne. refl)
+        (λ d ne. get_or-set_other g.seen x.id d _ 0 ne) (λ d ne. get_or-set_other g.searches x.id d _ None ne) (λ d ne. found_there g.found x.id d m ne) in
+    let more : seen_at g x.id ≤ get_or l.seen x.id 0 = omega (arith, seen.within, sees) in
+    let within : get_or l.seen x.id 0 ≤ size = omega (arith, sees) in
+    let shown = shown_on g x l had refl refl refl (had.depth ∙ ap depth_of seen.begin) more within
+        (λ e is. found_on g x (get_or l.seen x.id 0) had more within e (found_before (found_at g x.id) m e (sym finds ∙ is))) in
+    let done = cpu_makes z s r i x word m l (LoadLink x.id) (link_answer m) (own_of x) at made leaves (λ k. refl) refl shown (loaded_words s.words g l word m found r.words refl refl refl) in
+    let change : y ≡ followed x q m y.pass =
+        (λ k. record y { search = searches k; found = finds k }) ∙ ap (λ (v : CpuView). record v { pass = y.pass; search = next_search q m; found = next_found v.found m }) (sym had.is) ∙ followed_is x q m y.pass in
+    let longer : IsPrefix x.pass y.pass = subst (λ p. IsPrefix p y.pass) (sym seen.pass) (prefix_longer g.history (seen_at g x.id) (get_or l.seen x.id 0) more within) in
+    let holds : LinkHolds x.settings q m y.pass = subst (λ (a : Settings). LinkHolds a q m y.pass) (sym seen.settings) (link_holds g q n m y.pass r.good passes tells) in
+    (y, done.0, done.1, record { pass = longer; is = change; holds = holds })
+
+pub load_link_may : (z : Settings) (x : CpuView) (c t : ℕ) → x.id ≡ c → MayLoadLink x t
+    → CpuMay z x (656 + 8 * t) (λ n. n) (λ v n y. Makes (LoadLink c) (link_answer n) (Cpu v) (Cpu y) × HasLoadedLink v n y)
+load_link_may z x c t id may = subst (λ d. CpuMay z x (656 + 8 * t) (λ n. n) (λ v n y. Makes (LoadLink d) (link_answer n) (Cpu v) (Cpu y) × HasLoadedLink v n y)) id
+    (λ s r i at fits.
+        let g = r.g in
+        let q = may.search in
+        let had : CpuShown g x = (r.shows.fits i (Cpu x) at).1 in
+        let seen = seen_of g x r.good had in
+        let on = r.good.holds in
+        let searching : search_at g x.id ≡ Some q = sym seen.search ∙ may.under_way in
+        let walk : Walks g x.id q.start = search_walks g x.id q on searching in
+        let stands = subst (PlaceHolds g.history q.start (seen_at g x.id) q.key) may.place (on.searches x.id q searching).stands in
+        let ahead = at_next_ahead g x.id q.start (seen_at g x.id) t q.key on walk seen.within stands in
+        let lt : t < g.settings.slots = omega (arith, ahead.0, on.shape.links) in
+        let found : slice_index s.words (656 + 8 * t) ≡ get_or g.next t 0 = r.words.at (next_of t) lt in
+        let tells = link_tells g x.id q.start stands.0.number (get_or g.next t 0) q.key on walk ahead.1 in
+        let link : load_link g x.id q q.place ≡ link_loaded g x.id q (slice_index s.words (656 + 8 * t)) = ap (load_link g x.id q) may.place ∙ ap (link_loaded g x.id q) (sym found) in
+        let done = follows z s r i x (656 + 8 * t) (slice_index s.words (656 + 8 * t)) stands.0.number q at may.under_way refl link (subst (LinkTells g q.start q.key stands.0.number) (sym found) tells) in
+        (Cpu done.0, done.1, (refl, (done.2, λ p is. subst (λ (o : Search). HasFollowed x o (slice_index s.words (656 + 8 * t)) done.0) (same_Some q p (sym may.under_way ∙ is)) done.3))))
