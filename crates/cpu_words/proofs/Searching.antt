@@ -1,6 +1,6 @@
 -- The loads of a search on the words: Seek and LoadLink.
 use Rattle.std.proofs.Common.{◌≡◌, ◌≢◌, ℕ, zero, suc, ◌+◌, ◌*◌, ◌≤◌, ◌<◌, List, [], ◌∷◌, length, take, get_or, set, Option, Some, None, Bool, true, ◌&&◌, is_none, nat_lt, refl, sym, ap, ◌∙◌, subst, arith, get_or-set_same, get_or-set_other, set-set}
-use Rattle.std.proofs.lemmas.List.{set-get_or}
+use Rattle.std.proofs.lemmas.List.{set-get_or, length-take-le}
 use Rattle.std.proofs.lemmas.Option.{none-some, same_Some}
 use Rattle.std.specs.Prelude.{slice_index}
 use mathlib.Core.Option.{some, some-ne-none}
@@ -141,3 +141,66 @@ load_link_may z x c t id may = subst (λ d. CpuMay z x (656 + 8 * t) (λ n. n) (
         let link : load_link g x.id q q.place ≡ link_loaded g x.id q (slice_index s.words (656 + 8 * t)) = ap (load_link g x.id q) may.place ∙ ap (link_loaded g x.id q) (sym found) in
         let done = follows z s r i x (656 + 8 * t) (slice_index s.words (656 + 8 * t)) stands.0.number q at may.under_way refl link (subst (LinkTells g q.start q.key stands.0.number) (sym found) tells) in
         (Cpu done.0, done.1, (refl, (done.2, λ p is. subst (λ (o : Search). HasFollowed x o (slice_index s.words (656 + 8 * t)) done.0) (same_Some q p (sym may.under_way ∙ is)) done.3))))
+
+-- Seek touches no word: it is made with the load of the head
+
+at_same : (l : List View) (i : ℕ) (v w : View) → get_elem? l i ≡ some v → get_elem? (set l i w) i ≡ some w
+at_same [] i v w e = absurd (some-ne-none v (sym e))
+at_same (u ∷ us) zero v w e = refl
+at_same (u ∷ us) (suc i) v w e = at_same us i v w e
+
+abbrev pub begun_lists : State → ℕ → Search → CpuLists
+begun_lists g c q = record (lists_of g) { searches = set g.searches c (Some q) }
+
+begins_search : (z : Settings) (s : Table ℕ View) (r : Ruled z s) (i : ℕ) (x : CpuView) (word m : ℕ) (kind : Kind) (name : Name) → get_elem? s.views i ≡ some (Cpu x) → MaySeek x → slice_index s.words word ≡ m
+    → Ruled z (stepped s word m i [] (Cpu (seeking (key_with kind name) x)) keeps) × Makes (Seek x.id kind name) Done (Cpu x) (Cpu (seeking (key_with kind name) x))
+begins_search z s r i x word m kind name at may found =
+    let g = r.g in
+    let key = key_with kind name in
+    let had : CpuShown g x = (r.shows.fits i (Cpu x) at).1 in
+    let seen = seen_of g x r.good had in
+    let q : Search = record { key = key; start = seen_at g x.id; place = AtHead } in
+    let l : CpuLists = begun_lists g x.id q in
+    let y = cpu_view (with_lists g l) x.id (own_of x) in
+    let inside : begin_at g x.id ≡ Some may.inside.0 = sym seen.begin ∙ may.inside.1 in
+    let made : step g (Seek x.id kind name) ≡ Some (record { state = with_lists g l; reply = Done }) = rw (idle_of g x seen had may.idle, inside) refl in
+    let leaves = same_counts g x.id l refl refl refl refl (λ d ne. refl) (λ d ne. refl) (λ d ne. refl) (λ d ne. refl) (λ d ne. get_or-set_other g.searches x.id d _ None ne) (λ d ne. refl) in
+    let shown = shown_on g x l had refl refl refl (had.depth ∙ ap depth_of seen.begin) (omega arith) seen.within (found_on g x (seen_at g x.id) had (omega arith) seen.within) in
+    let done = cpu_makes z s r i x word m l (Seek x.id kind name) Done (own_of x) at made leaves (λ k. refl) refl shown (loaded_words s.words g l word m found r.words refl refl refl) in
+    let size : length x.pass ≡ seen_at g x.id = ap (λ (p : List Change). length p) seen.pass ∙ length-take-le (seen_at g x.id) g.history seen.within in
+    let start : q ≡ search_for key x = λ k. record { key = key; start = sym size k; place = AtHead } in
+    let search : y.search ≡ Some (search_for key x) = get_or-set_same g.searches x.id (Some q) None seen.in_searches ∙ ap (λ (o : Search). Some o) start in
+    let change : y ≡ seeking key x = (λ k. record y { search = search k }) ∙ ap (λ (v : CpuView). record v { search = Some (search_for key x) }) (sym had.is) in
+    subst (λ (v : CpuView). Ruled z (stepped s word m i [] (Cpu v) keeps) × Makes (Seek x.id kind name) Done (Cpu x) (Cpu v)) change done
+
+seek_at : (z : Settings) (x : CpuView) (kind : Kind) (name : Name) → MaySeek x → CpuMay z x 648 (λ n. n) (HasSought (Seek x.id kind name))
+seek_at z x kind name may s r i at fits =
+    let key = key_with kind name in
+    let m = slice_index s.words 648 in
+    let begun = begins_search z s r i x 648 m kind name at may refl in
+    let v = seeking key x in
+    let t : Table ℕ View = stepped s 648 m i [] (Cpu v) keeps in
+    let here : get_elem? t.views i ≡ some (Cpu v) = at_same s.views i (Cpu x) (Cpu v) at in
+    let stays : t.words ≡ s.words = set-get_or s.words 648 0 in
+    let found : slice_index t.words 648 ≡ m = ap (λ (ws : List ℕ). slice_index ws 648) stays in
+    let after = seek_link z t begun.0 i v m (search_for key x) here refl refl found in
+    let same : stepped t 648 m i [] (Cpu after.0) keeps ≡ stepped s 648 m i [] (Cpu after.0) keeps =
+        λ k. record { words = set-set s.words 648 m m k; homes = s.homes; views = set-set s.views i (Cpu v) (Cpu after.0) k } in
+    (Cpu after.0, subst (Ruled z) same after.1, (refl, (begun.1, after.2, after.3)))
+  where
+    seek_link : (z : Settings) (t : Table ℕ View) (r : Ruled z t) (i : ℕ) (v : CpuView) (m : ℕ) (q : Search) → get_elem? t.views i ≡ some (Cpu v) → v.search ≡ Some q → q.place ≡ AtHead → slice_index t.words 648 ≡ m
+        → (y : CpuView) × Ruled z (stepped t 648 m i [] (Cpu y) keeps) × Makes (LoadLink v.id) (link_answer m) (Cpu v) (Cpu y) × HasFollowed v q m y
+    seek_link z t r i v m q at under place is =
+        let g = r.g in
+        let had : CpuShown g v = (r.shows.fits i (Cpu v) at).1 in
+        let seen = seen_of g v r.good had in
+        let on = r.good.holds in
+        let searching : search_at g v.id ≡ Some q = sym seen.search ∙ under in
+        let walk : Walks g v.id q.start = search_walks g v.id q on searching in
+        let head : g.head ≡ m = sym (r.words.at head_word tt) ∙ is in
+        let tells = link_tells g v.id q.start (suc (length g.history)) g.head q.key on walk (head_ahead g q.start q.key on walk.by_now) in
+        let link : load_link g v.id q q.place ≡ link_loaded g v.id q m = ap (load_link g v.id q) place ∙ ap (link_loaded g v.id q) head in
+        follows z t r i v 648 m (suc (length g.history)) q at under is link (subst (LinkTells g q.start q.key (suc (length g.history))) head tells)
+
+pub seek_may : (z : Settings) (x : CpuView) (c : ℕ) (kind : Kind) (name : Name) → x.id ≡ c → MaySeek x → CpuMay z x 648 (λ n. n) (HasSought (Seek c kind name))
+seek_may z x c kind name id may = subst (λ d. CpuMay z x 648 (λ n. n) (HasSought (Seek d kind name))) id (seek_at z x kind name may)
