@@ -1,4 +1,4 @@
--- The loads of a search on the words: Seek and LoadLink.
+-- The loads of a search on the words.
 use Rattle.std.proofs.Common.{◌≡◌, ◌≢◌, ℕ, zero, suc, ◌+◌, ◌*◌, ◌≤◌, ◌<◌, List, [], ◌∷◌, length, take, get_or, set, Option, Some, None, Bool, true, ◌&&◌, is_none, nat_lt, refl, sym, ap, ◌∙◌, subst, arith, get_or-set_same, get_or-set_other, set-set}
 use Rattle.std.proofs.lemmas.List.{set-get_or, length-take-le}
 use Rattle.std.proofs.lemmas.Option.{none-some, same_Some}
@@ -11,18 +11,29 @@ use Rattle.passive_core.specs.declared.name.Name.{Name}
 use Rattle.passive_core.specs.declared.entry.Kind.{Kind}
 use Rattle.passive_core.specs.declared.entry.Entry.{Entry}
 use Rattle.passive_core.specs.declared.entry.Change.{Change}
+use Rattle.passive_core.specs.declared.entry.Change.TheVariants.{Detach}
 use Rattle.passive_core.specs.declared.settings.Settings.{Settings}
-use Rattle.passive_core.specs.declared.event.Event.TheVariants.{Seek, LoadLink}
-use Rattle.passive_core.specs.declared.event.Reply.TheVariants.{Done, Word, Missed}
+use Rattle.passive_core.specs.declared.event.Event.TheVariants.{Seek, LoadLink, LoadRecord}
+use Rattle.passive_core.specs.declared.event.RecordOf.TheVariants.{Search as OfSearch}
+use Rattle.passive_core.specs.declared.event.Reply.{Reply}
+use Rattle.passive_core.specs.declared.event.Reply.TheVariants.{Done, Word, Found, Missed}
 use Rattle.passive_core.specs.declared.state.Key.{Key}
 use Rattle.passive_core.specs.declared.state.Place.{Place}
-use Rattle.passive_core.specs.declared.state.Place.TheVariants.{AtHead, AtNext, AtNumber}
+use Rattle.passive_core.specs.declared.state.Place.TheVariants.{AtHead, AtNext, AtNumber, AtKind, AtHigh, AtLow, AtValue}
+use Rattle.passive_core.specs.declared.state.RecordWords.{RecordWords}
 use Rattle.passive_core.specs.declared.state.Search.{Search}
-use Rattle.passive_core.specs.History.{IsAttached, IsLawful}
-use Rattle.passive_core.specs.State.{State, section_at, begin_at, depth_at, seen_at, search_at, found_at, hand_at}
-use Rattle.passive_core.specs.Events.{Outcome, step, guard, taken, with_some, may_seek, after_seek, load_link, link_loaded}
+use Rattle.passive_core.specs.declared.state.Loaded.{Loaded}
+use Rattle.passive_core.specs.declared.state.Loaded.TheVariants.{On, Over}
+use Rattle.passive_core.specs.History.{change_at, IsAttached, EndsAt, IsLiveAt, IsLawful}
+use Rattle.passive_core.specs.State.{State, section_at, begin_at, depth_at, seen_at, search_at, found_at, row_at}
+use Rattle.passive_core.specs.Events.{Outcome, step, with_some, load_link, link_loaded, load_searched, are_words_of, word}
+use Rattle.passive_core.specs.Loaded.{loaded, judged, entry_with, row_of_place, outcome_of, SlotWithin}
 use Rattle.passive_core.specs.Invariant.{Holds, PlaceHolds}
 use Rattle.passive_core.proofs.Fit.{ranges}
+use Rattle.passive_core.proofs.Bounds.{search_within}
+use Rattle.passive_core.proofs.History.{at_within}
+use Rattle.passive_core.proofs.Loading.{loaded_is}
+use Rattle.passive_core.proofs.SearchKeeps.{IsAnswer, Answers, record_answers}
 use Rattle.passive_core.proofs.Searching.{Walks, search_walks, LinkTells, link_tells, head_ahead, at_next_ahead}
 use Rattle.cpu_words.specs.declared.view.CpuView.{CpuView}
 use Rattle.cpu_words.specs.declared.view.View.{View}
@@ -31,9 +42,9 @@ use Rattle.cpu_words.specs.Spots.{Spot, section_of, passive_of, count_of, head_w
 use Rattle.cpu_words.specs.Views.{own_of, cpu_view, depth_of, CpuShown}
 use Rattle.cpu_words.specs.Rule.{Agrees, Good, Ruled}
 use Rattle.cpu_words.specs.Steps.{Makes, Moves, CpuMay}
-use Rattle.cpu_words.specs.Searching.{MaySeek, key_with, search_for, seeking, moved, MayLoadLink, link_answer, followed, LinkHolds, HasFollowed, HasLoadedLink, HasSought}
+use Rattle.cpu_words.specs.Searching.{MaySeek, key_with, search_for, seeking, moved, MayLoadLink, link_answer, followed, LinkHolds, HasFollowed, HasLoadedLink, HasSought, IsAtWord, MayLoadSearched, every_word, made_of, loaded_answer, searched, FoundHolds, HasSearched, HasLoadedWord}
 use Rattle.cpu_words.proofs.Placing.{agrees_same}
-use Rattle.cpu_words.proofs.Passes.{prefix_longer, take_whole}
+use Rattle.cpu_words.proofs.Passes.{at_prefix, attached_take, taken_is_prefix, prefix_longer, take_whole}
 use Rattle.cpu_words.proofs.CpuSteps.{CpuLists, lists_of, with_lists, same_counts, shown_on, found_on, cpu_makes}
 use Rattle.cpu_words.proofs.Seeing.{Seen, seen_of, idle_of}
 
@@ -204,3 +215,144 @@ seek_at z x kind name may s r i at fits =
 
 pub seek_may : (z : Settings) (x : CpuView) (c : ℕ) (kind : Kind) (name : Name) → x.id ≡ c → MaySeek x → CpuMay z x 648 (λ n. n) (HasSought (Seek c kind name))
 seek_may z x c kind name id may = subst (λ d. CpuMay z x 648 (λ n. n) (HasSought (Seek d kind name))) id (seek_at z x kind name may)
+
+-- Record words
+
+ends_prefix : (p h : List Change) (n k : ℕ) → IsPrefix p h → EndsAt p n k → EndsAt h n k
+ends_prefix p h n k pre ends = ap (λ l. change_at l k) (sym pre.1) ∙ at_prefix p pre.0 k (at_within p k (Detach n) ends).1 ∙ ends
+
+-- an answer found that is lawful up to the end of a pass is lawful in the pass
+pub found_in_pass : (h : List Change) (from to : ℕ) (key : Key) (e : Entry) → to ≤ length h → IsLawful h from to key (Some e) → IsLawful (take to h) from (length (take to h)) key (Some e) × IsAttached (take to h) e
+found_in_pass h from to key e le lawful =
+    let live : IsLiveAt h lawful.point e = lawful.answered.0 in
+    let size : length (take to h) ≡ to = length-take-le to h le in
+    let there : IsAttached (take to h) e = attached_take h to e le live.attached (omega (arith, live.begun, lawful.up_to)) in (
+      record {
+        point = lawful.point;
+        from_on = lawful.from_on;
+        up_to = omega (arith, lawful.up_to, size);
+        answered = (record { attached = there; begun = live.begun; unended = λ p ends. live.unended p (ends_prefix (take to h) h e.number p (taken_is_prefix to h) ends) }, lawful.answered.1);
+      },
+      there,
+    )
+
+-- the place is at a word of a slot in range
+at_word_within : (p : Place) (t k size : ℕ) → IsAtWord p t k → SlotWithin p size → (t < size) × (k < 5)
+at_word_within AtHead t k size at within = absurd at
+at_word_within (AtNext s) t k size at within = absurd at
+at_word_within (AtNumber s) t k size at within = (omega (arith, at.0), omega (arith, at.1))
+at_word_within (AtKind s n) t k size at within = (omega (arith, at.0), omega (arith, at.1))
+at_word_within (AtHigh s n w) t k size at within = (omega (arith, at.0), omega (arith, at.1))
+at_word_within (AtLow s n w h) t k size at within = (omega (arith, at.0), omega (arith, at.1))
+at_word_within (AtValue s n) t k size at within = (omega (arith, at.0), omega (arith, at.1))
+
+-- the word found at the place
+word_there : (rows : List RecordWords) (s t k j n : ℕ) → (s ≡ t) × (k ≡ j) → n ≡ word (row_at rows t) k → word (row_at rows s) j ≡ n
+word_there rows s t k j n at is = ap (λ u. word (row_at rows u) j) at.0 ∙ ap (word (row_at rows t)) (sym at.1) ∙ sym is
+
+-- of the record words a search takes only the one at its place
+one_word : (q : Search) (p : Place) (rows : List RecordWords) (t k n : ℕ) → IsAtWord p t k → n ≡ word (row_at rows t) k → loaded q p (row_of_place rows p) ≡ loaded q p (every_word n)
+one_word q AtHead rows t k n at is = absurd at
+one_word q (AtNext s) rows t k n at is = absurd at
+one_word q (AtNumber s) rows t k n at is = ap (λ v. loaded q (AtNumber s) (every_word v)) (word_there rows s t k 0 n at is)
+one_word q (AtKind s m) rows t k n at is = ap (λ v. loaded q (AtKind s m) (every_word v)) (word_there rows s t k 1 n at is)
+one_word q (AtHigh s m w) rows t k n at is = ap (λ v. loaded q (AtHigh s m w) (every_word v)) (word_there rows s t k 2 n at is)
+one_word q (AtLow s m w h) rows t k n at is = ap (λ v. loaded q (AtLow s m w h) (every_word v)) (word_there rows s t k 3 n at is)
+one_word q (AtValue s m) rows t k n at is = ap (λ v. loaded q (AtValue s m) (every_word v)) (word_there rows s t k 4 n at is)
+
+-- a place at a word makes something of it
+makes_some : (q : Search) (p : Place) (t k n : ℕ) → IsAtWord p t k → (o : Loaded) × (loaded q p (every_word n) ≡ Some o)
+makes_some q AtHead t k n at = absurd at
+makes_some q (AtNext s) t k n at = absurd at
+makes_some q (AtNumber s) t k n at = (On (AtKind s n) n, refl)
+makes_some q (AtKind s m) t k n at = (On (AtHigh s m n) n, refl)
+makes_some q (AtHigh s m w) t k n at = (On (AtLow s m w n) n, refl)
+makes_some q (AtLow s m w h) t k n at = (judged s m n (are_words_of q.key w h n), refl)
+makes_some q (AtValue s m) t k n at = (Over (entry_with q.key s m n), refl)
+
+abbrev pub loaded_search : Search → Loaded → Option Search
+loaded_search q (On p w) = Some (moved q p)
+loaded_search q (Over e) = None
+
+abbrev pub loaded_found : Option Entry → Loaded → Option Entry
+loaded_found old (On p w) = old
+loaded_found old (Over e) = Some e
+
+abbrev pub loaded_founds : List (Option Entry) → ℕ → Loaded → List (Option Entry)
+loaded_founds found c (On p w) = found
+loaded_founds found c (Over e) = set found c (Some e)
+
+founds_here : (found : List (Option Entry)) (c : ℕ) (o : Loaded) → c < length found → get_or (loaded_founds found c o) c None ≡ loaded_found (get_or found c None) o
+founds_here found c (On p w) lt = refl
+founds_here found c (Over e) lt = get_or-set_same found c (Some e) None lt
+
+founds_there : (found : List (Option Entry)) (c d : ℕ) (o : Loaded) → d ≢ c → get_or (loaded_founds found c o) d None ≡ get_or found d None
+founds_there found c d (On p w) ne = refl
+founds_there found c d (Over e) ne = get_or-set_other found c d (Some e) None ne
+
+abbrev pub loaded_lists : State → ℕ → Search → Loaded → CpuLists
+loaded_lists g c q o = record (lists_of g) { searches = set g.searches c (loaded_search q o); found = loaded_founds g.found c o }
+
+loaded_made : (g : State) (c : ℕ) (q : Search) (o : Loaded) → outcome_of g c q (Some o) ≡ Some (record { state = with_lists g (loaded_lists g c q o); reply = loaded_answer (Some o) })
+loaded_made g c q (On p w) = refl
+loaded_made g c q (Over e) = refl
+
+searched_is : (x : CpuView) (q : Search) (o : Loaded) → record x { search = loaded_search q o; found = loaded_found x.found o } ≡ searched x q (Some o)
+searched_is x q (On p w) = refl
+searched_is x q (Over e) = refl
+
+found_holds : (h : List Change) (n : ℕ) (q : Search) (o : Loaded) → n ≤ length h → IsAnswer h q.start n q.key (loaded_answer (Some o)) → FoundHolds q (Some o) (take n h)
+found_holds h n q (On p w) le answer = tt
+found_holds h n q (Over e) le answer = found_in_pass h q.start n q.key e le answer
+
+found_shown : (p : List Change) (q : Search) (old : Option Entry) (o : Loaded) → ((e : Entry) → old ≡ Some e → IsAttached p e) → FoundHolds q (Some o) p → (e : Entry) → loaded_found old o ≡ Some e → IsAttached p e
+found_shown p q old (On place w) before holds e is = before e is
+found_shown p q old (Over f) before holds e is = subst (IsAttached p) (same_Some f e is) holds.1
+
+searches_word : (z : Settings) (s : Table ℕ View) (r : Ruled z s) (i : ℕ) (x : CpuView) (word m : ℕ) (q : Search) (o : Loaded) → get_elem? s.views i ≡ some (Cpu x) → x.search ≡ Some q
+    → slice_index s.words word ≡ m → made_of (Some q) m ≡ Some o → loaded q q.place (row_of_place r.g.rows q.place) ≡ Some o
+    → (y : CpuView) × Ruled z (stepped s word m i [] (Cpu y) keeps) × Makes (LoadRecord (OfSearch x.id)) (loaded_answer (Some o)) (Cpu x) (Cpu y) × HasSearched x q m y
+searches_word z s r i x word m q o at under found makes load =
+    let g = r.g in
+    let had : CpuShown g x = (r.shows.fits i (Cpu x) at).1 in
+    let seen = seen_of g x r.good had in
+    let sees = seen_at g x.id in
+    let l : CpuLists = loaded_lists g x.id q o in
+    let y = cpu_view (with_lists g l) x.id (own_of x) in
+    let searching : search_at g x.id ≡ Some q = sym seen.search ∙ under in
+    let searches : y.search ≡ loaded_search q o = get_or-set_same g.searches x.id (loaded_search q o) None seen.in_searches in
+    let finds : y.found ≡ loaded_found (found_at g x.id) o = founds_here g.found x.id o seen.in_found in
+    let outcome : load_searched g x.id q q.place (row_at g.rows) ≡ Some (record { state = with_lists g l; reply = loaded_answer (Some o) }) =
+        loaded_is g x.id q q.place ∙ ap (outcome_of g x.id q) load ∙ loaded_made g x.id q o in
+    let made : step g (LoadRecord (OfSearch x.id)) ≡ Some (record { state = with_lists g l; reply = loaded_answer (Some o) }) =
+        ap (λ (p : Option Search). with_some p (λ p. load_searched g x.id p p.place (row_at g.rows))) searching ∙ outcome in
+    let answer : IsAnswer g.history q.start sees q.key (loaded_answer (Some o)) = subst (Answers x.id q) outcome (record_answers g x.id q r.good.holds searching) in
+    let holds : FoundHolds q (Some o) (take sees g.history) = found_holds g.history sees q o seen.within answer in
+    let leaves = same_counts g x.id l refl refl refl refl (λ d ne. refl) (λ d ne. refl) (λ d ne. refl) (λ d ne. refl)
+        (λ d ne. get_or-set_other g.searches x.id d _ None ne) (λ d ne. founds_there g.found x.id d o ne) in
+    let shown = shown_on g x l had refl refl refl (had.depth ∙ ap depth_of seen.begin) (omega arith) seen.within
+        (λ e is. found_shown (take sees g.history) q (found_at g x.id) o (found_on g x sees had (omega arith) seen.within) holds e (sym finds ∙ is)) in
+    let done = cpu_makes z s r i x word m l (LoadRecord (OfSearch x.id)) (loaded_answer (Some o)) (own_of x) at made leaves (λ k. refl) refl shown (loaded_words s.words g l word m found r.words refl refl refl) in
+    let change : y ≡ searched x q (Some o) =
+        (λ k. record y { search = searches k; found = finds k }) ∙ ap (λ (v : CpuView). record v { search = loaded_search q o; found = loaded_found v.found o }) (sym had.is) ∙ searched_is x q o in
+    (y, done.0, done.1, record { is = change ∙ ap (searched x q) (sym makes); holds = subst (λ (u : Option Loaded). FoundHolds q u y.pass) (sym makes) holds })
+
+pub load_searched_may : (z : Settings) (x : CpuView) (c t k : ℕ) → x.id ≡ c → MayLoadSearched x t k
+    → CpuMay z x (657 + 8 * t + k) (λ n. n) (λ v n y. Makes (LoadRecord (OfSearch c)) (loaded_answer (made_of v.search n)) (Cpu v) (Cpu y) × HasLoadedWord v n y)
+load_searched_may z x c t k id may = subst (λ d. CpuMay z x (657 + 8 * t + k) (λ n. n) (λ v n y. Makes (LoadRecord (OfSearch d)) (loaded_answer (made_of v.search n)) (Cpu v) (Cpu y) × HasLoadedWord v n y)) id
+    (λ s r i at fits.
+        let g = r.g in
+        let q = may.search in
+        let place : ℕ = 657 + 8 * t + k in
+        let m = slice_index s.words place in
+        let had : CpuShown g x = (r.shows.fits i (Cpu x) at).1 in
+        let seen = seen_of g x r.good had in
+        let on = r.good.holds in
+        let within = at_word_within q.place t k (length g.slots) may.place (search_within g x.id q on (sym seen.search ∙ may.under_way)) in
+        let found : m ≡ word (row_at g.rows t) k = r.words.at (record_of t k) (omega (arith, within.0, on.shape.slots), within.1) in
+        let some = makes_some q q.place t k m may.place in
+        let load = one_word q q.place g.rows t k m may.place found ∙ some.1 in
+        let done = searches_word z s r i x place m q some.0 at may.under_way refl some.1 load in
+        let answer : loaded_answer (Some some.0) ≡ loaded_answer (made_of x.search m) = ap loaded_answer (sym some.1 ∙ ap (λ (p : Option Search). made_of p m) (sym may.under_way)) in
+        (Cpu done.0, done.1, (refl, (subst (λ (a : Reply). Makes (LoadRecord (OfSearch x.id)) a (Cpu x) (Cpu done.0)) answer done.2,
+            λ p is. subst (λ (u : Search). HasSearched x u m done.0) (same_Some q p (sym may.under_way ∙ is)) done.3))))

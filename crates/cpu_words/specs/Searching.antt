@@ -8,12 +8,16 @@ use Rattle.passive_core.specs.declared.settings.Settings.{Settings}
 use Rattle.passive_core.specs.declared.event.Event.{Event}
 use Rattle.passive_core.specs.declared.event.Event.TheVariants.{Seek, LoadLink}
 use Rattle.passive_core.specs.declared.event.Reply.{Reply}
-use Rattle.passive_core.specs.declared.event.Reply.TheVariants.{Done, Word, Missed}
+use Rattle.passive_core.specs.declared.event.Reply.TheVariants.{Done, Word, Found, Missed}
 use Rattle.passive_core.specs.declared.state.Key.{Key}
 use Rattle.passive_core.specs.declared.state.Place.{Place}
-use Rattle.passive_core.specs.declared.state.Place.TheVariants.{AtHead, AtNext, AtNumber}
+use Rattle.passive_core.specs.declared.state.Place.TheVariants.{AtHead, AtNext, AtNumber, AtKind, AtHigh, AtLow, AtValue}
+use Rattle.passive_core.specs.declared.state.RecordWords.{RecordWords}
 use Rattle.passive_core.specs.declared.state.Search.{Search}
-use Rattle.passive_core.specs.History.{IsLawful}
+use Rattle.passive_core.specs.declared.state.Loaded.{Loaded}
+use Rattle.passive_core.specs.declared.state.Loaded.TheVariants.{On, Over}
+use Rattle.passive_core.specs.History.{IsAttached, IsLawful}
+use Rattle.passive_core.specs.Loaded.{loaded}
 use Rattle.cpu_words.specs.declared.view.CpuView.{CpuView}
 use Rattle.cpu_words.specs.declared.view.View.TheVariants.{Cpu}
 use Rattle.cpu_words.specs.Steps.{Makes}
@@ -75,3 +79,54 @@ HasSought (Seek c kind name) x n y = Makes (Seek c kind name) Done (Cpu x) (Cpu 
     × Makes (LoadLink c) (link_answer n) (Cpu (seeking (key_with kind name) x)) (Cpu y)
     × HasFollowed (seeking (key_with kind name) x) (search_for (key_with kind name) x) n y
 HasSought _ x n y = ⊥
+
+-- Record words
+
+-- the place is at the record word k of the slot t: the number, the kind, the two words of the name, the value
+abbrev pub IsAtWord : Place → ℕ → ℕ → Type 0
+IsAtWord AtHead t k = ⊥
+IsAtWord (AtNext s) t k = ⊥
+IsAtWord (AtNumber s) t k = (s ≡ t) × (k ≡ 0)
+IsAtWord (AtKind s n) t k = (s ≡ t) × (k ≡ 1)
+IsAtWord (AtHigh s n w) t k = (s ≡ t) × (k ≡ 2)
+IsAtWord (AtLow s n w h) t k = (s ≡ t) × (k ≡ 3)
+IsAtWord (AtValue s n) t k = (s ≡ t) × (k ≡ 4)
+
+-- a search is under way, and is to load the record word k of the slot t
+pub record MayLoadSearched (x : CpuView) (t k : ℕ) : Type 0 where
+  pub search : Search
+  pub under_way : x.search ≡ Some search
+  pub place : IsAtWord search.place t k
+
+abbrev pub every_word : ℕ → RecordWords
+every_word n = record { number = n; kind = n; high = n; low = n; value = n }
+
+-- What a search makes of the word n found at its place, as the core does: of the record words it takes that one alone.
+abbrev pub made_of : Option Search → ℕ → Option Loaded
+made_of None n = None
+made_of (Some q) n = loaded q q.place (every_word n)
+
+abbrev pub loaded_answer : Option Loaded → Reply
+loaded_answer None = Done
+loaded_answer (Some (On p w)) = Word w
+loaded_answer (Some (Over e)) = Found e
+
+-- the search q has loaded a record word
+abbrev pub searched : CpuView → Search → Option Loaded → CpuView
+searched x q None = x
+searched x q (Some (On p w)) = record x { search = Some (moved q p) }
+searched x q (Some (Over e)) = record x { search = None; found = Some e }
+
+-- an entry found is lawful in the CPU's own pass, at some point from the start of the search on, and was attached in it
+abbrev pub FoundHolds : Search → Option Loaded → List Change → Type 0
+FoundHolds q None p = Unit {0}
+FoundHolds q (Some (On place w)) p = Unit {0}
+FoundHolds q (Some (Over e)) p = IsLawful p q.start (length p) q.key (Some e) × IsAttached p e
+
+pub record HasSearched (x : CpuView) (q : Search) (n : ℕ) (y : CpuView) : Type 0 where
+  pub is : y ≡ searched x q (made_of (Some q) n)
+  pub holds : FoundHolds q (made_of (Some q) n) y.pass
+
+-- the search that is under way has loaded the record word n
+abbrev pub HasLoadedWord : CpuView → ℕ → CpuView → Type 0
+HasLoadedWord x n y = (q : Search) → x.search ≡ Some q → HasSearched x q n y

@@ -4,5 +4,5 @@
 pub mod search;
 pub mod sections;
 
-pub use search::{load_link, seek};
+pub use search::{load_link, load_searched, seek};
 pub use sections::{enter, exit};
