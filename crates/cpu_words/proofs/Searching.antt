@@ -1,5 +1,5 @@
 -- The loads of a search on the words.
-use Rattle.std.proofs.Common.{◌≡◌, ◌≢◌, ℕ, zero, suc, ◌+◌, ◌*◌, ◌≤◌, ◌<◌, List, [], ◌∷◌, length, take, get_or, set, Option, Some, None, Bool, true, ◌&&◌, is_none, nat_lt, refl, sym, ap, ◌∙◌, subst, arith, get_or-set_same, get_or-set_other, set-set}
+use Rattle.std.proofs.Common.{◌≡◌, ◌≢◌, ℕ, zero, suc, ◌+◌, ◌*◌, ◌≤◌, ◌<◌, List, [], ◌∷◌, length, take, get_or, set, Option, Some, None, refl, sym, ap, ◌∙◌, subst, arith, get_or-set_same, get_or-set_other, set-set}
 use Rattle.std.proofs.lemmas.List.{set-get_or, length-take-le}
 use Rattle.std.proofs.lemmas.Option.{none-some, same_Some}
 use Rattle.std.specs.Prelude.{slice_index}
@@ -16,7 +16,7 @@ use Rattle.passive_core.specs.declared.settings.Settings.{Settings}
 use Rattle.passive_core.specs.declared.event.Event.TheVariants.{Seek, LoadLink, LoadRecord}
 use Rattle.passive_core.specs.declared.event.RecordOf.TheVariants.{Search as OfSearch}
 use Rattle.passive_core.specs.declared.event.Reply.{Reply}
-use Rattle.passive_core.specs.declared.event.Reply.TheVariants.{Done, Word, Found, Missed}
+use Rattle.passive_core.specs.declared.event.Reply.TheVariants.{Done}
 use Rattle.passive_core.specs.declared.state.Key.{Key}
 use Rattle.passive_core.specs.declared.state.Place.{Place}
 use Rattle.passive_core.specs.declared.state.Place.TheVariants.{AtHead, AtNext, AtNumber, AtKind, AtHigh, AtLow, AtValue}
@@ -25,10 +25,10 @@ use Rattle.passive_core.specs.declared.state.Search.{Search}
 use Rattle.passive_core.specs.declared.state.Loaded.{Loaded}
 use Rattle.passive_core.specs.declared.state.Loaded.TheVariants.{On, Over}
 use Rattle.passive_core.specs.History.{change_at, IsAttached, EndsAt, IsLiveAt, IsLawful}
-use Rattle.passive_core.specs.State.{State, section_at, begin_at, depth_at, seen_at, search_at, found_at, row_at}
-use Rattle.passive_core.specs.Events.{Outcome, step, with_some, load_link, link_loaded, load_searched, are_words_of, word}
+use Rattle.passive_core.specs.State.{State, begin_at, seen_at, search_at, found_at, row_at}
+use Rattle.passive_core.specs.Events.{step, with_some, load_link, link_loaded, load_searched, are_words_of, word}
 use Rattle.passive_core.specs.Loaded.{loaded, judged, entry_with, row_of_place, outcome_of, SlotWithin}
-use Rattle.passive_core.specs.Invariant.{Holds, PlaceHolds}
+use Rattle.passive_core.specs.Invariant.{PlaceHolds}
 use Rattle.passive_core.proofs.Fit.{ranges}
 use Rattle.passive_core.proofs.Bounds.{search_within}
 use Rattle.passive_core.proofs.History.{at_within}
@@ -38,15 +38,15 @@ use Rattle.passive_core.proofs.Searching.{Walks, search_walks, LinkTells, link_t
 use Rattle.cpu_words.specs.declared.view.CpuView.{CpuView}
 use Rattle.cpu_words.specs.declared.view.View.{View}
 use Rattle.cpu_words.specs.declared.view.View.TheVariants.{Cpu}
-use Rattle.cpu_words.specs.Spots.{Spot, section_of, passive_of, count_of, head_word, next_of, record_of, total_of, index, IsSpot, word_at}
+use Rattle.cpu_words.specs.Spots.{Spot, section_of, passive_of, count_of, head_word, next_of, record_of, total_of, word_at}
 use Rattle.cpu_words.specs.Views.{own_of, cpu_view, depth_of, CpuShown}
 use Rattle.cpu_words.specs.Rule.{Agrees, Good, Ruled}
-use Rattle.cpu_words.specs.Steps.{Makes, Moves, CpuMay}
+use Rattle.cpu_words.specs.Steps.{Makes, CpuMay}
 use Rattle.cpu_words.specs.Searching.{MaySeek, key_with, search_for, seeking, moved, MayLoadLink, link_answer, followed, LinkHolds, HasFollowed, HasLoadedLink, HasSought, IsAtWord, MayLoadSearched, every_word, made_of, loaded_answer, searched, FoundHolds, HasSearched, HasLoadedWord}
 use Rattle.cpu_words.proofs.Placing.{agrees_same}
 use Rattle.cpu_words.proofs.Passes.{at_prefix, attached_take, taken_is_prefix, prefix_longer, take_whole}
 use Rattle.cpu_words.proofs.CpuSteps.{CpuLists, lists_of, with_lists, same_counts, shown_on, found_on, cpu_makes}
-use Rattle.cpu_words.proofs.Seeing.{Seen, seen_of, idle_of}
+use Rattle.cpu_words.proofs.Seeing.{seen_of, idle_of}
 
 -- a load leaves the words
 pub loaded_words : (words : List ℕ) (g : State) (l : CpuLists) (i m : ℕ) → slice_index words i ≡ m → Agrees words g → l.section ≡ g.section → l.passive ≡ g.passive → l.counts ≡ g.counts → Agrees (set words i m) (with_lists g l)
@@ -150,7 +150,7 @@ load_link_may z x c t id may = subst (λ d. CpuMay z x (656 + 8 * t) (λ n. n) (
         let found : slice_index s.words (656 + 8 * t) ≡ get_or g.next t 0 = r.words.at (next_of t) lt in
         let tells = link_tells g x.id q.start stands.0.number (get_or g.next t 0) q.key on walk ahead.1 in
         let link : load_link g x.id q q.place ≡ link_loaded g x.id q (slice_index s.words (656 + 8 * t)) = ap (load_link g x.id q) may.place ∙ ap (link_loaded g x.id q) (sym found) in
-        let done = follows z s r i x (656 + 8 * t) (slice_index s.words (656 + 8 * t)) stands.0.number q at may.under_way refl link (subst (LinkTells g q.start q.key stands.0.number) (sym found) tells) in
+        let done = follows z s r i x (656 + 8 * t) (slice_index s.words (656 + 8 * t)) stands.0.number q at may.under_way (refl {a = slice_index s.words (656 + 8 * t)}) link (subst (LinkTells g q.start q.key stands.0.number) (sym found) tells) in
         (Cpu done.0, done.1, (refl, (done.2, λ p is. subst (λ (o : Search). HasFollowed x o (slice_index s.words (656 + 8 * t)) done.0) (same_Some q p (sym may.under_way ∙ is)) done.3))))
 
 -- Seek touches no word: it is made with the load of the head

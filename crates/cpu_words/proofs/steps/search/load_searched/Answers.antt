@@ -1,4 +1,3 @@
-use Rattle.std.proofs.Common.{rules, arith}
 use Rattle.cpu_words.proofs.Searching.{load_searched_may}
 use Rattle.cpu_words.proofs.steps.search.load_searched.Goals as goal
 

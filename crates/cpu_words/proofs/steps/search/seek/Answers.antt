@@ -1,4 +1,3 @@
-use Rattle.std.proofs.Common.{rules, arith}
 use Rattle.cpu_words.proofs.Searching.{seek_may}
 use Rattle.cpu_words.proofs.steps.search.seek.Goals as goal
 

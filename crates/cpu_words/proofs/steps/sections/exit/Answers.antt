@@ -1,4 +1,3 @@
-use Rattle.std.proofs.Common.{rules, arith}
 use Rattle.cpu_words.proofs.Sections.{exit_may}
 use Rattle.cpu_words.proofs.steps.sections.exit.Goals as goal
 
