@@ -3,6 +3,7 @@ use Rattle.std.specs.Prelude.{◌≡◌, ℕ, zero, suc, ◌<◌, List, length, 
 use mathlib.Core.List.{IsPrefix}
 use Rattle.passive_core.specs.declared.name.Name.{Name}
 use Rattle.passive_core.specs.declared.entry.Kind.{Kind}
+use Rattle.passive_core.specs.declared.entry.Entry.{Entry}
 use Rattle.passive_core.specs.declared.entry.Change.{Change}
 use Rattle.passive_core.specs.declared.settings.Settings.{Settings}
 use Rattle.passive_core.specs.declared.event.Event.{Event}
@@ -17,6 +18,7 @@ use Rattle.passive_core.specs.declared.state.Search.{Search}
 use Rattle.passive_core.specs.declared.state.Loaded.{Loaded}
 use Rattle.passive_core.specs.declared.state.Loaded.TheVariants.{On, Over}
 use Rattle.passive_core.specs.History.{IsAttached, IsLawful}
+use Rattle.passive_core.specs.Invariant.{StandsOn}
 use Rattle.passive_core.specs.Loaded.{loaded}
 use Rattle.cpu_words.specs.declared.view.CpuView.{CpuView}
 use Rattle.cpu_words.specs.declared.view.View.TheVariants.{Cpu}
@@ -64,10 +66,20 @@ abbrev pub LinkHolds : Settings → Search → ℕ → List Change → Type 0
 LinkHolds z q zero p = IsLawful p q.start (length p) q.key None
 LinkHolds z q (suc t) p = (t < z.slots) × (t < 32)
 
+-- the search q may stand on the entry e in the slot t, as the pass p tells
+abbrev pub MayStandOn : List Change → Search → ℕ → Entry → Type 0
+MayStandOn p q t e = StandsOn p q.start (length p) t e
+
+-- the link n, loaded from the slot s, leads to a smaller number; the pass was p, and is r
+abbrev pub Descends : List Change → Search → ℕ → ℕ → List Change → Type 0
+Descends p q s zero r = Unit {0}
+Descends p q s (suc t) r = (e f : Entry) → MayStandOn p q s e → MayStandOn r q t f → f.number < e.number
+
 pub record HasFollowed (x : CpuView) (q : Search) (n : ℕ) (y : CpuView) : Type 0 where
   pub pass : IsPrefix x.pass y.pass
   pub is : y ≡ followed x q n y.pass
   pub holds : LinkHolds x.settings q n y.pass
+  pub descends : (s : ℕ) → q.place ≡ AtNext s → Descends x.pass q s n y.pass
 
 -- the search that is under way has loaded the link n
 abbrev pub HasLoadedLink : CpuView → ℕ → CpuView → Type 0
@@ -126,6 +138,8 @@ FoundHolds q (Some (Over e)) p = IsLawful p q.start (length p) q.key (Some e) ×
 pub record HasSearched (x : CpuView) (q : Search) (n : ℕ) (y : CpuView) : Type 0 where
   pub is : y ≡ searched x q (made_of (Some q) n)
   pub holds : FoundHolds q (made_of (Some q) n) y.pass
+  -- a number is that of an entry on which the search may stand
+  pub number : (t : ℕ) → q.place ≡ AtNumber t → (e : Entry) × MayStandOn y.pass q t e × (e.number ≡ n)
 
 -- the search that is under way has loaded the record word n
 abbrev pub HasLoadedWord : CpuView → ℕ → CpuView → Type 0
