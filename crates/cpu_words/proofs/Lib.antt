@@ -17,3 +17,4 @@ pub mod Locals
 pub mod ReferenceLists
 pub mod Reading
 pub mod Passives
+pub mod Searching

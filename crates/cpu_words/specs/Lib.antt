@@ -9,3 +9,4 @@ pub mod Storing
 pub mod Locals
 pub mod Passives
 pub mod Reading
+pub mod Searching

@@ -1,7 +1,6 @@
 -- Read sections by a CPU's seat: where it may make the step, and what changes in its view.
-use Rattle.std.specs.Prelude.{◌≡◌, ℕ, ◌+◌, ◌*◌, ◌<◌, List, length, Option, Some, None}
+use Rattle.std.specs.Prelude.{◌≡◌, ℕ, ◌+◌, ◌*◌, ◌<◌, length, Some, None}
 use mathlib.Core.List.{IsPrefix}
-use Rattle.passive_core.specs.declared.entry.Change.{Change}
 use Rattle.cpu_words.specs.declared.view.InHand.TheVariants.{Empty as NoEntry}
 use Rattle.cpu_words.specs.declared.view.CpuView.{CpuView}
 
@@ -18,3 +17,11 @@ pub record MayEnter (x : CpuView) : Type 0 where
 -- the pass is a longer prefix of the history, and the section begins at its end
 abbrev pub HasEntered : CpuView → CpuView → Type 0
 HasEntered x y = IsPrefix x.pass y.pass × (y ≡ record x { section = x.section + 1; begin = Some (length y.pass); pass = y.pass })
+
+pub record MayExit (x : CpuView) : Type 0 where
+  pub idle : IsIdle x
+  pub inside : (b : ℕ) × (x.begin ≡ Some b)
+
+-- the section is closed, and what was found in it is gone
+abbrev pub HasExited : CpuView → CpuView → Type 0
+HasExited x y = y ≡ record x { section = x.section + 1; begin = None; found = None }

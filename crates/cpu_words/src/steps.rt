@@ -6,6 +6,7 @@ pub mod list;
 pub mod locals;
 pub mod passive;
 pub mod reading;
+pub mod search;
 pub mod sections;
 
 pub use grace::{look, look_now, snapshot, snapshot_now};
@@ -13,4 +14,5 @@ pub use list::{store_count, store_next, store_record};
 pub use locals::{count_add, count_down, join_ref, split_back, split_ref};
 pub use passive::{load_passive, passive_add, passive_sub};
 pub use reading::load_local;
-pub use sections::enter;
+pub use search::{load_link, load_searched, seek};
+pub use sections::{enter, exit};

@@ -1,11 +1,11 @@
 //! Read sections (pserialize(9)): Enter and Exit, each one addition to the CPU's section word.
 
 ghost use Rattle.std.specs.Prelude.{◌≡◌, ◌<◌, ◌*◌, None, Some};
-ghost use Rattle.passive_core.specs.declared.event.Event.TheVariants.{Enter};
+ghost use Rattle.passive_core.specs.declared.event.Event.TheVariants.{Enter, Exit};
 ghost use Rattle.passive_core.specs.declared.event.Reply.TheVariants.{Done};
 ghost use Rattle.cpu_words.specs.declared.view.View.TheVariants.{Cpu};
 ghost use Rattle.cpu_words.specs.Steps.{Makes};
-ghost use Rattle.cpu_words.specs.Sections.{MayEnter, HasEntered};
+ghost use Rattle.cpu_words.specs.Sections.{MayEnter, HasEntered, MayExit, HasExited};
 
 use crate::law::Words;
 use crate::seat::CpuSeat;
@@ -24,4 +24,17 @@ pub fn enter(words: &Words, seat: &mut CpuSeat, cpu: u8)
     ensures change { HasEntered seat.old.view seat.new.view }
 {
     by_cpu::add::<Brand>(words, seat, 80 * cpu as usize, 1, Event::Enter(cpu));
+}
+
+/// CPU `cpu` ends its section: its section word becomes even, and what it had found is not its own any more.
+/// Condition: the seat is that CPU's, idle and inside.
+pub fn exit(words: &Words, seat: &mut CpuSeat, cpu: u8)
+    requires table { seat.old.table ≡ words.now.table }
+    requires cpu { (cpu < 8) × (seat.old.view.id ≡ cpu) }
+    requires may { MayExit seat.old.view }
+    ensures table { seat.new.table ≡ seat.old.table }
+    ensures event { Makes (Exit cpu) Done (Cpu seat.old.view) (Cpu seat.new.view) }
+    ensures change { HasExited seat.old.view seat.new.view }
+{
+    by_cpu::add::<Brand>(words, seat, 80 * cpu as usize, 1, Event::Exit(cpu));
 }

@@ -1,0 +1,5 @@
+use Rattle.cpu_words.proofs.Searching.{load_searched_may}
+use Rattle.cpu_words.proofs.steps.search.load_searched.Goals as goal
+
+pub load-requires-clause-may : goal.load-requires-clause-may
+load-requires-clause-may c = load_searched_may _ _ _ _ _ c.requires.cpu.1 c.requires.may

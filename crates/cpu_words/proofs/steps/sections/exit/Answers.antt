@@ -1,0 +1,5 @@
+use Rattle.cpu_words.proofs.Sections.{exit_may}
+use Rattle.cpu_words.proofs.steps.sections.exit.Goals as goal
+
+pub add-requires-clause-may : goal.add-requires-clause-may
+add-requires-clause-may c = exit_may _ _ _ c.requires.cpu.1 c.requires.may

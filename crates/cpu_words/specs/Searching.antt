@@ -1,0 +1,146 @@
+-- Searches by a CPU's seat: from the head along the links, and in each slot over its record words.
+use Rattle.std.specs.Prelude.{◌≡◌, ℕ, zero, suc, ◌<◌, List, length, Option, Some, None}
+use mathlib.Core.List.{IsPrefix}
+use Rattle.passive_core.specs.declared.name.Name.{Name}
+use Rattle.passive_core.specs.declared.entry.Kind.{Kind}
+use Rattle.passive_core.specs.declared.entry.Entry.{Entry}
+use Rattle.passive_core.specs.declared.entry.Change.{Change}
+use Rattle.passive_core.specs.declared.settings.Settings.{Settings}
+use Rattle.passive_core.specs.declared.event.Event.{Event}
+use Rattle.passive_core.specs.declared.event.Event.TheVariants.{Seek, LoadLink}
+use Rattle.passive_core.specs.declared.event.Reply.{Reply}
+use Rattle.passive_core.specs.declared.event.Reply.TheVariants.{Done, Word, Found, Missed}
+use Rattle.passive_core.specs.declared.state.Key.{Key}
+use Rattle.passive_core.specs.declared.state.Place.{Place}
+use Rattle.passive_core.specs.declared.state.Place.TheVariants.{AtHead, AtNext, AtNumber, AtKind, AtHigh, AtLow, AtValue}
+use Rattle.passive_core.specs.declared.state.RecordWords.{RecordWords}
+use Rattle.passive_core.specs.declared.state.Search.{Search}
+use Rattle.passive_core.specs.declared.state.Loaded.{Loaded}
+use Rattle.passive_core.specs.declared.state.Loaded.TheVariants.{On, Over}
+use Rattle.passive_core.specs.History.{IsAttached, IsLawful}
+use Rattle.passive_core.specs.Invariant.{StandsOn}
+use Rattle.passive_core.specs.Loaded.{loaded}
+use Rattle.cpu_words.specs.declared.view.CpuView.{CpuView}
+use Rattle.cpu_words.specs.declared.view.View.TheVariants.{Cpu}
+use Rattle.cpu_words.specs.Steps.{Makes}
+use Rattle.cpu_words.specs.Sections.{IsIdle}
+
+-- Links
+
+pub record MaySeek (x : CpuView) : Type 0 where
+  pub idle : IsIdle x
+  pub inside : (b : ℕ) × (x.begin ≡ Some b)
+
+abbrev pub key_with : Kind → Name → Key
+key_with kind name = record { kind = kind; name = name }
+
+-- the search that begins now, at the end of the pass
+abbrev pub search_for : Key → CpuView → Search
+search_for key x = record { key = key; start = length x.pass; place = AtHead }
+
+abbrev pub seeking : Key → CpuView → CpuView
+seeking key x = record x { search = Some (search_for key x) }
+
+-- the search q at another place
+abbrev pub moved : Search → Place → Search
+moved q p = record { key = q.key; start = q.start; place = p }
+
+-- a search is under way, and is to load the link of the slot t
+pub record MayLoadLink (x : CpuView) (t : ℕ) : Type 0 where
+  pub search : Search
+  pub under_way : x.search ≡ Some search
+  pub place : search.place ≡ AtNext t
+
+-- a link is 0 at the end of the list, else a slot plus 1
+abbrev pub link_answer : ℕ → Reply
+link_answer zero = Missed
+link_answer (suc t) = Word (suc t)
+
+-- the search q has loaded a link, and the pass is p
+abbrev pub followed : CpuView → Search → ℕ → List Change → CpuView
+followed x q zero p = record x { pass = p; search = None; found = None }
+followed x q (suc t) p = record x { pass = p; search = Some (moved q (AtNumber t)) }
+
+-- to have missed is lawful in the CPU's own pass, at some point from the start of the search on; else the link names a slot
+abbrev pub LinkHolds : Settings → Search → ℕ → List Change → Type 0
+LinkHolds z q zero p = IsLawful p q.start (length p) q.key None
+LinkHolds z q (suc t) p = (t < z.slots) × (t < 32)
+
+-- the search q may stand on the entry e in the slot t, as the pass p tells
+abbrev pub MayStandOn : List Change → Search → ℕ → Entry → Type 0
+MayStandOn p q t e = StandsOn p q.start (length p) t e
+
+-- the link n, loaded from the slot s, leads to a smaller number; the pass was p, and is r
+abbrev pub Descends : List Change → Search → ℕ → ℕ → List Change → Type 0
+Descends p q s zero r = Unit {0}
+Descends p q s (suc t) r = (e f : Entry) → MayStandOn p q s e → MayStandOn r q t f → f.number < e.number
+
+pub record HasFollowed (x : CpuView) (q : Search) (n : ℕ) (y : CpuView) : Type 0 where
+  pub pass : IsPrefix x.pass y.pass
+  pub is : y ≡ followed x q n y.pass
+  pub holds : LinkHolds x.settings q n y.pass
+  pub descends : (s : ℕ) → q.place ≡ AtNext s → Descends x.pass q s n y.pass
+
+-- the search that is under way has loaded the link n
+abbrev pub HasLoadedLink : CpuView → ℕ → CpuView → Type 0
+HasLoadedLink x n y = (q : Search) → x.search ≡ Some q → HasFollowed x q n y
+
+-- what one load of the head tells of a Seek and of the first LoadLink of its search
+abbrev pub HasSought : Event → CpuView → ℕ → CpuView → Type 0
+HasSought (Seek c kind name) x n y = Makes (Seek c kind name) Done (Cpu x) (Cpu (seeking (key_with kind name) x))
+    × Makes (LoadLink c) (link_answer n) (Cpu (seeking (key_with kind name) x)) (Cpu y)
+    × HasFollowed (seeking (key_with kind name) x) (search_for (key_with kind name) x) n y
+HasSought _ x n y = ⊥
+
+-- Record words
+
+-- the place is at the record word k of the slot t: the number, the kind, the two words of the name, the value
+abbrev pub IsAtWord : Place → ℕ → ℕ → Type 0
+IsAtWord AtHead t k = ⊥
+IsAtWord (AtNext s) t k = ⊥
+IsAtWord (AtNumber s) t k = (s ≡ t) × (k ≡ 0)
+IsAtWord (AtKind s n) t k = (s ≡ t) × (k ≡ 1)
+IsAtWord (AtHigh s n w) t k = (s ≡ t) × (k ≡ 2)
+IsAtWord (AtLow s n w h) t k = (s ≡ t) × (k ≡ 3)
+IsAtWord (AtValue s n) t k = (s ≡ t) × (k ≡ 4)
+
+-- a search is under way, and is to load the record word k of the slot t
+pub record MayLoadSearched (x : CpuView) (t k : ℕ) : Type 0 where
+  pub search : Search
+  pub under_way : x.search ≡ Some search
+  pub place : IsAtWord search.place t k
+
+abbrev pub every_word : ℕ → RecordWords
+every_word n = record { number = n; kind = n; high = n; low = n; value = n }
+
+-- What a search makes of the word n found at its place, as the core does: of the record words it takes that one alone.
+abbrev pub made_of : Option Search → ℕ → Option Loaded
+made_of None n = None
+made_of (Some q) n = loaded q q.place (every_word n)
+
+abbrev pub loaded_answer : Option Loaded → Reply
+loaded_answer None = Done
+loaded_answer (Some (On p w)) = Word w
+loaded_answer (Some (Over e)) = Found e
+
+-- the search q has loaded a record word
+abbrev pub searched : CpuView → Search → Option Loaded → CpuView
+searched x q None = x
+searched x q (Some (On p w)) = record x { search = Some (moved q p) }
+searched x q (Some (Over e)) = record x { search = None; found = Some e }
+
+-- an entry found is lawful in the CPU's own pass, at some point from the start of the search on, and was attached in it
+abbrev pub FoundHolds : Search → Option Loaded → List Change → Type 0
+FoundHolds q None p = Unit {0}
+FoundHolds q (Some (On place w)) p = Unit {0}
+FoundHolds q (Some (Over e)) p = IsLawful p q.start (length p) q.key (Some e) × IsAttached p e
+
+pub record HasSearched (x : CpuView) (q : Search) (n : ℕ) (y : CpuView) : Type 0 where
+  pub is : y ≡ searched x q (made_of (Some q) n)
+  pub holds : FoundHolds q (made_of (Some q) n) y.pass
+  -- a number is that of an entry on which the search may stand
+  pub number : (t : ℕ) → q.place ≡ AtNumber t → (e : Entry) × MayStandOn y.pass q t e × (e.number ≡ n)
+
+-- the search that is under way has loaded the record word n
+abbrev pub HasLoadedWord : CpuView → ℕ → CpuView → Type 0
+HasLoadedWord x n y = (q : Search) → x.search ≡ Some q → HasSearched x q n y

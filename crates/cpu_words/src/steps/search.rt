@@ -1,0 +1,63 @@
+//! Searches by kind and name: Seek and LoadLink along the links, LoadRecord over the record words of a slot. Each is one load.
+
+ghost use Rattle.std.specs.Prelude.{◌≡◌, ◌<◌};
+ghost use Rattle.passive_core.specs.declared.event.Event.TheVariants.{Seek, LoadLink, LoadRecord};
+ghost use Rattle.passive_core.specs.declared.event.RecordOf.TheVariants.{Search as OfSearch};
+ghost use Rattle.passive_core.specs.declared.event.Reply.TheVariants.{Done};
+ghost use Rattle.cpu_words.specs.declared.view.View.TheVariants.{Cpu};
+ghost use Rattle.cpu_words.specs.Steps.{Makes};
+ghost use Rattle.cpu_words.specs.Searching.{MaySeek, key_with, search_for, seeking, MayLoadLink, link_answer, HasFollowed, HasLoadedLink, MayLoadSearched, made_of, loaded_answer, HasLoadedWord};
+
+use crate::law::Words;
+use crate::seat::CpuSeat;
+use crate::step::by_cpu;
+use passive_core::{Event, Kind, Name, RecordOf};
+use std::marker::Brand;
+
+/// CPU `cpu` begins a search for a kind and a name, and loads the head of the list: a slot plus 1, or 0 where no entry has them.
+/// Condition: the seat is that CPU's, idle and inside.
+pub fn seek(words: &Words, seat: &mut CpuSeat, cpu: u8, kind: Kind, name: Name) -> u64
+    requires table { seat.old.table ≡ words.now.table }
+    requires cpu { (cpu < 8) × (seat.old.view.id ≡ cpu) }
+    requires may { MaySeek seat.old.view }
+    ensures table { seat.new.table ≡ seat.old.table }
+    ensures begun { Makes (Seek cpu kind name) Done (Cpu seat.old.view) (Cpu (seeking (key_with kind name) seat.old.view)) }
+    ensures event { Makes (LoadLink cpu) (link_answer result) (Cpu (seeking (key_with kind name) seat.old.view)) (Cpu seat.new.view) }
+    ensures change { HasFollowed (seeking (key_with kind name) seat.old.view) (search_for (key_with kind name) seat.old.view) result seat.new.view }
+{
+    by_cpu::load::<Brand>(words, seat, 648, Event::Seek(cpu, kind, name))
+}
+
+/// The search of CPU `cpu` loads the link of `slot`: a slot plus 1, or 0 where no entry has the kind and the name.
+/// Condition: the seat is that CPU's, and its search stands at that link; slots count from 0.
+pub fn load_link(words: &Words, seat: &mut CpuSeat, cpu: u8, slot: u8) -> u64
+    requires table { seat.old.table ≡ words.now.table }
+    requires cpu { (cpu < 8) × (seat.old.view.id ≡ cpu) }
+    requires slot { slot < 32 }
+    requires may { MayLoadLink seat.old.view slot }
+    ensures table { seat.new.table ≡ seat.old.table }
+    ensures event { Makes (LoadLink cpu) (link_answer result) (Cpu seat.old.view) (Cpu seat.new.view) }
+    ensures change { HasLoadedLink seat.old.view result seat.new.view }
+{
+    by_cpu::load::<Brand>(words, seat, 656 + 8 * slot as usize, Event::LoadLink(cpu))
+}
+
+/// The search of CPU `cpu` loads record word `k` of `slot`: 0 the number, 1 the kind, 2 and 3 the words of the name, and where these
+/// are those sought 4, the value, which ends the search. It answers the word.
+/// Condition: the seat is that CPU's, and its search stands at that word; slots count from 0.
+pub fn load_searched(words: &Words, seat: &mut CpuSeat, cpu: u8, slot: u8, k: u8) -> u64
+    requires table { seat.old.table ≡ words.now.table }
+    requires cpu { (cpu < 8) × (seat.old.view.id ≡ cpu) }
+    requires slot { (slot < 32) × (k < 5) }
+    requires may { MayLoadSearched seat.old.view slot k }
+    ensures table { seat.new.table ≡ seat.old.table }
+    ensures event { Makes (LoadRecord (OfSearch cpu)) (loaded_answer (made_of seat.old.view.search result)) (Cpu seat.old.view) (Cpu seat.new.view) }
+    ensures change { HasLoadedWord seat.old.view result seat.new.view }
+{
+    by_cpu::load::<Brand>(
+        words,
+        seat,
+        657 + 8 * slot as usize + k as usize,
+        Event::LoadRecord(RecordOf::Search(cpu)),
+    )
+}
