@@ -1,0 +1,2 @@
+-- Totals.
+use Rattle.std.proofs.Common.{refl}

@@ -1,0 +1,6 @@
+use Rattle.std.proofs.Common.{rules, arith}
+use Rattle.cpu_words.proofs.Draining.{collect_may}
+use Rattle.cpu_words.proofs.steps.drain.collect.Goals as goal
+
+pub swap-requires-clause-may : goal.swap-requires-clause-may
+swap-requires-clause-may c = collect_may _ _ _ _ c.requires.may
