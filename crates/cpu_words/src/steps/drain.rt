@@ -9,8 +9,9 @@ ghost use Rattle.cpu_words.specs.Steps.{Makes, JoinsBy};
 ghost use Rattle.cpu_words.specs.Draining.{MayPassiveLook, HasLookedPassive, MayCollect, HasCollected, MayTotalAdd, HasAdded, MayTotalSub, HasSubtracted, MayJoinKeeper, giving_up, MayKeptSub, HasKeptSub};
 
 use crate::law::Words;
-use crate::seat::KeeperSeat;
+use crate::seat::{KeeperSeat, ReferenceSeat};
 use crate::step::by_keeper;
+use crate::step::given_up::GivenUp;
 use passive_core::Event;
 use std::marker::Brand;
 
@@ -91,4 +92,21 @@ pub fn total_sub(words: &Words, keeper: &mut KeeperSeat, slot: u8)
         1,
         Event::TotalSub(slot),
     );
+}
+
+/// Takes a local reference in, to be given up: its seat is spent, and it is to be subtracted from the total of its entry's slot.
+/// Condition: the keeper is at rest, and a count word was collected for the reference's entry: a release of the reference found it so, or
+/// the keeper has collected one.
+pub fn join_keeper(words: &Words, keeper: &mut KeeperSeat, reference: ReferenceSeat)
+    requires table { (keeper.old.table ≡ words.now.table.shared.table_id) × (reference.table ≡ words.now.table.shared.table_id) }
+    requires may { MayJoinKeeper keeper.old.view reference.view }
+    ensures table { keeper.new.table ≡ keeper.old.table }
+    ensures event { JoinsBy JoinKeeper (Keeper keeper.old.view) (Reference reference.view) (Keeper keeper.new.view) }
+    ensures change { keeper.new.view ≡ giving_up keeper.old.view reference.view }
+{
+    let ReferenceSeat { token } = reference;
+    words
+        .table
+        .shared
+        .join_seat::<GivenUp>(&mut keeper.token, token);
 }
