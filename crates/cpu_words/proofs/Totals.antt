@@ -305,7 +305,7 @@ join_keeper_law k v may g good had ref backs =
     }
 
 joins_at : (z : Settings) (i : ℕ) (k : KeeperView) (o : ℕ) (v : ReferenceView) → MayJoinKeeper k v → TableJoins (Ruled z) i (Keeper k) o (Reference v) (Keeper (giving_up k v)) Spent
-  unfolding join_keeper_law
+unfolding join_keeper_law
 joins_at z i k o v may s r at apart there =
     let g = r.g in
     let both = Keeper (giving_up k v) in
