@@ -10,3 +10,4 @@ pub mod Marked
 pub mod Grace
 pub mod Draining
 pub mod Totals
+pub mod Drained

@@ -5,6 +5,6 @@ pub mod drain;
 pub mod grace;
 pub mod sections;
 
-pub use drain::{collect, join_keeper, passive_look, total_add, total_sub};
+pub use drain::{collect, join_keeper, kept_sub, passive_look, total_add, total_sub};
 pub use grace::look;
 pub use sections::enter;

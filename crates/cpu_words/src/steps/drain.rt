@@ -110,3 +110,23 @@ pub fn join_keeper(words: &Words, keeper: &mut KeeperSeat, reference: ReferenceS
         .shared
         .join_seat::<GivenUp>(&mut keeper.token, token);
 }
+
+/// The retired interface in `slot` gives up the reference to the driver that it keeps: the total of the driver's slot, `driver_slot`, is one
+/// less, and the interface's slot is vacant and keeps nothing.
+/// Condition: the slot is drained, its entry is an interface, and the driver that it keeps is in `driver_slot`.
+pub fn kept_sub(words: &Words, keeper: &mut KeeperSeat, slot: u8, driver_slot: u8)
+    requires table { keeper.old.table ≡ words.now.table.shared.table_id }
+    requires place { driver_slot < 32 }
+    requires may { MayKeptSub keeper.old.view slot driver_slot }
+    ensures table { keeper.new.table ≡ keeper.old.table }
+    ensures event { Makes (KeptSub slot) Done (Keeper keeper.old.view) (Keeper keeper.new.view) }
+    ensures change { HasKeptSub keeper.old.view slot keeper.new.view }
+{
+    by_keeper::subtract::<Brand>(
+        words,
+        keeper,
+        912 + driver_slot as usize,
+        1,
+        Event::KeptSub(slot),
+    );
+}

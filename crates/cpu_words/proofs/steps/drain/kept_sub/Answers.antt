@@ -1,0 +1,6 @@
+use Rattle.std.proofs.Common.{rules, arith}
+use Rattle.cpu_words.proofs.Drained.{kept_sub_may}
+use Rattle.cpu_words.proofs.steps.drain.kept_sub.Goals as goal
+
+pub subtract-requires-clause-may : goal.subtract-requires-clause-may
+subtract-requires-clause-may c = kept_sub_may _ _ _ _ c.requires.may
