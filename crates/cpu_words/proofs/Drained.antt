@@ -30,7 +30,7 @@ use Rattle.cpu_words.specs.Spots.{Spot, total_of}
 use Rattle.cpu_words.specs.Views.{KeeperOwn, keeper_own, keeper_view, one_more, KeeperShown, GivesUp}
 use Rattle.cpu_words.specs.Rule.{Agrees, Good, Ruled}
 use Rattle.cpu_words.specs.Steps.{Makes, KeeperMay}
-use Rattle.cpu_words.specs.Draining.{IsDrained, KeepsIn, MayKeptSub, KeptSubTold}
+use Rattle.cpu_words.specs.Draining.{IsDrained, KeepsIn, MayKeptSub, HasKeptSub, KeptSubTold}
 use Rattle.cpu_words.proofs.KeeperSteps.{KeeperLists, keeper_lists, with_keeper, LeavesCpus, keeper_makes}
 use Rattle.cpu_words.proofs.KeeperSees.{SeenByKeeper, seen_by_keeper}
 use Rattle.cpu_words.proofs.Totals.{total_words, shown_less, later_less}
@@ -191,4 +191,12 @@ kept_sub_may z k t u may s r i at fits =
     let change : keeper_view (with_keeper g l) own ≡ record k { totals = set k.totals u (total_at k.totals u - 1); slots = set k.slots t Vacant; keeps = set k.keeps t None; counts = set k.counts t (replicate 8 0); given_up = one_more k.given_up d } =
         ap (λ (y : KeeperView). record y { totals = set y.totals u (total_at y.totals u - 1); slots = set y.slots t Vacant; keeps = set y.keeps t None; counts = set y.counts t (replicate 8 0); given_up = one_more y.given_up n }) (sym had.is)
         ∙ ap (λ m. record k { totals = set k.totals u (total_at k.totals u - 1); slots = set k.slots t Vacant; keeps = set k.keeps t None; counts = set k.counts t (replicate 8 0); given_up = one_more k.given_up m }) x.number in
-    (Keeper (keeper_view (with_keeper g l) own), done.0, (refl, (done.1, (d, u, may.kept.1, change))))
+    (Keeper (keeper_view (with_keeper g l) own), done.0, (refl, (done.1, (u, (d, may.kept.1, change)))))
+
+-- a view has one slot for what the slot t keeps
+pub kept_sub_change : (k l : KeeperView) (t u : ℕ) → MayKeptSub k t u → KeptSubTold (KeptSub t) k l → HasKeptSub k t u l
+kept_sub_change k l t u may told =
+    let has : HasKeptSub k t told.0 l = told.1 in
+    let d_is : has.0 ≡ may.kept.0 = let q : ◌≡◌ {A = Option ℕ} (Some has.0) (Some may.kept.0) = sym has.1.0 ∙ may.kept.1.0 in cc in
+    let u_is : told.0 ≡ u = let q : ◌≡◌ {A = Option ℕ} (Some told.0) (Some u) = sym has.1.1 ∙ ap (slot_of k.slots) d_is ∙ may.kept.1.1 in cc in
+    subst (λ x. HasKeptSub k t x l) u_is has

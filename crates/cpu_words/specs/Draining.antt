@@ -27,7 +27,7 @@ row_of k t = slice_index_or k.marks t []
 -- the slot's entry is retired, and all CPUs have passed
 pub record MayPassiveLook (k : KeeperView) (t c : ℕ) : Type 0 where
   pub look : MayLook k t c
-  pub passed : have_passed k.settings.cpus (row_of k t) ≡ true
+  pub passed : have_passed k.settings.cpus (slice_index_or k.marks t []) ≡ true
 
 -- the CPU's mark is clear once its passive word, which was w, was 0
 abbrev pub HasLookedPassive : KeeperView → ℕ → ℕ → ℕ → KeeperView → Type 0
@@ -94,9 +94,9 @@ pub record MayKeptSub (k : KeeperView) (t u : ℕ) : Type 0 where
   pub kind : drained.retired.0.rec.kind ≡ Iface
   pub kept : (d : ℕ) × KeepsIn k t d u
 
--- the driver's total is one less, for the reference that the slot kept and that is given up, and the slot is vacant and keeps nothing
-abbrev pub HasKeptSub : KeeperView → ℕ → KeeperView → Type 0
-HasKeptSub k t l = (d u : ℕ) × KeepsIn k t d u × (l ≡ record k {
+-- the total of the driver's slot u is one less, for the reference that the slot t kept and that is given up, and t is vacant and keeps nothing
+abbrev pub HasKeptSub : KeeperView → ℕ → ℕ → KeeperView → Type 0
+HasKeptSub k t u l = (d : ℕ) × KeepsIn k t d u × (l ≡ record k {
   totals = slice_set k.totals u (total_at k.totals u - 1);
   slots = slice_set k.slots t Vacant;
   keeps = slice_set k.keeps t None;
@@ -123,5 +123,5 @@ TotalSubTold (TotalSub t) k l = HasSubtracted k t l
 TotalSubTold e k l = ⊥
 
 abbrev pub KeptSubTold : Event → KeeperView → KeeperView → Type 0
-KeptSubTold (KeptSub t) k l = HasKeptSub k t l
+KeptSubTold (KeptSub t) k l = (u : ℕ) × HasKeptSub k t u l
 KeptSubTold e k l = ⊥

@@ -120,7 +120,7 @@ pub fn kept_sub(words: &Words, keeper: &mut KeeperSeat, slot: u8, driver_slot: u
     requires may { MayKeptSub keeper.old.view slot driver_slot }
     ensures table { keeper.new.table ≡ keeper.old.table }
     ensures event { Makes (KeptSub slot) Done (Keeper keeper.old.view) (Keeper keeper.new.view) }
-    ensures change { HasKeptSub keeper.old.view slot keeper.new.view }
+    ensures change { HasKeptSub keeper.old.view slot driver_slot keeper.new.view }
 {
     by_keeper::subtract::<Brand>(
         words,
