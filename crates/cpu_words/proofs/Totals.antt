@@ -68,6 +68,16 @@ one_more_here l n = get_or-set_same (l ++ replicate (suc n) 0) n (suc (number_at
 pub one_more_other : (l : List ℕ) (n m : ℕ) → m ≢ n → number_at (one_more l n) m ≡ number_at l m
 one_more_other l n m off = get_or-set_other (l ++ replicate (suc n) 0) n m (suc (number_at l n)) 0 off ∙ longer m (suc n) l
 
+pub one_more_at : (l : List ℕ) (n m : ℕ) → number_at (one_more l n) m ≡ number_at l m + one_if (m == n)
+one_more_at l n m = ⊎_elim
+    (λ (same : m ≡ n).
+        let one = one_self m n same in
+        let new = ap (number_at (one_more l n)) same ∙ one_more_here l n in
+        let old = ap (number_at l) same in
+        omega (arith, one, new, old))
+    (λ (off : m ≢ n). let none = one_other m n off in let new = one_more_other l n m off in omega (arith, none, new))
+    (cases_eq m n)
+
 -- the words after a total was written
 pub total_words : (words : List ℕ) (g : State) (l : KeeperLists) (t v : ℕ) → Good g → t < g.settings.slots → Agrees words g
     → l.head ≡ g.head → l.next ≡ g.next → l.rows ≡ g.rows → l.counts ≡ g.counts → l.totals ≡ set g.totals t v → Agrees (set words (912 + t) v) (with_keeper g l)
