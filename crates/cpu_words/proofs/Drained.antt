@@ -1,13 +1,9 @@
 -- The end of a drain on the words: a slot becomes vacant, and what it kept is given up.
-use Rattle.std.proofs.Common.{◌≡◌, ◌≢◌, ◌⊎◌, inl, inr, ⊎_elim, ℕ, suc, ◌+◌, ◌-◌, ◌*◌, ◌%◌, ◌^◌, ◌≤◌, ◌<◌, ◌==◌, List, [], ◌∷◌, ◌++◌, length, replicate, get_or, set, sum_by, Option, Some, None, Bool, true, false, ◌&&◌, eq-eqb, refl, sym, ap, ◌∙◌, subst, arith}
+use Rattle.std.proofs.Common.{◌≡◌, ◌≢◌, ◌⊎◌, inl, inr, ⊎_elim, ℕ, ◌+◌, ◌-◌, ◌%◌, ◌^◌, ◌≤◌, ◌<◌, List, [], length, replicate, get_or, set, Option, Some, None, true, eq-eqb, refl, sym, ap, ◌∙◌, subst, arith}
 use Rattle.std.proofs.lemmas.Bool.{cases_eq, cases_lt}
 use Rattle.std.proofs.lemmas.List.{append-nil, get_or_past}
 use Rattle.std.specs.Prelude.{slice_index}
-use mathlib.Core.Option.{some}
-use lib.ListN.{get_elem?}
 use Rattle.passive_core.specs.declared.entry.Entry.{Entry}
-use Rattle.passive_core.specs.declared.entry.Kind.{Kind}
-use Rattle.passive_core.specs.declared.entry.Kind.TheVariants.{Iface}
 use Rattle.passive_core.specs.declared.settings.Settings.{Settings}
 use Rattle.passive_core.specs.declared.state.Slot.{Slot}
 use Rattle.passive_core.specs.declared.state.Slot.TheVariants.{Vacant, Live, Retired}
@@ -15,24 +11,23 @@ use Rattle.passive_core.specs.declared.state.Mark.{Mark}
 use Rattle.passive_core.specs.declared.state.Due.TheVariants.{Rest}
 use Rattle.passive_core.specs.declared.event.Event.TheVariants.{KeptSub}
 use Rattle.passive_core.specs.declared.event.Reply.TheVariants.{Done}
-use Rattle.passive_core.specs.State.{State, bias, slot_at, mark_at, passive_at, count_at, total_at, kept_at}
+use Rattle.passive_core.specs.State.{State, bias, slot_at, passive_at, count_at, total_at, kept_at}
 use Rattle.passive_core.specs.Slots.{slot_of, have_passed, are_clear, are_collected, is_iface}
-use Rattle.passive_core.specs.Events.{step, is_drained, kept_sub}
+use Rattle.passive_core.specs.Events.{step, is_drained}
 use Rattle.passive_core.specs.Invariant.{IsIn, Occupies}
 use Rattle.passive_core.proofs.MarkKeeps.{is_drained_tells}
-use Rattle.passive_core.proofs.Occupied.{written_cases, in_other, in_within, in_vacated, one_number, retired_other, slot_has}
-use Rattle.passive_core.proofs.Cells.{get_or_all, cell_in_old, slot_other, not_vacant}
+use Rattle.passive_core.proofs.Occupied.{written_cases, in_other, in_vacated, one_number, retired_other, slot_has}
+use Rattle.passive_core.proofs.Cells.{get_or_all, cell_in_old, slot_other}
 use Rattle.passive_core.proofs.Bounds.{driver_positive}
 use Rattle.cpu_words.specs.declared.view.KeeperView.{KeeperView}
-use Rattle.cpu_words.specs.declared.view.View.{View}
 use Rattle.cpu_words.specs.declared.view.View.TheVariants.{Keeper}
-use Rattle.cpu_words.specs.Spots.{Spot, total_of}
+use Rattle.cpu_words.specs.Spots.{total_of}
 use Rattle.cpu_words.specs.Views.{KeeperOwn, keeper_own, keeper_view, one_more, KeeperShown, GivesUp}
-use Rattle.cpu_words.specs.Rule.{Agrees, Good, Ruled}
+use Rattle.cpu_words.specs.Rule.{Agrees, Good}
 use Rattle.cpu_words.specs.Steps.{Makes, KeeperMay}
-use Rattle.cpu_words.specs.Draining.{IsDrained, KeepsIn, MayKeptSub, HasKeptSub, KeptSubTold}
+use Rattle.cpu_words.specs.Draining.{IsDrained, MayKeptSub, HasKeptSub, KeptSubTold}
 use Rattle.cpu_words.proofs.KeeperSteps.{KeeperLists, keeper_lists, with_keeper, LeavesCpus, keeper_makes}
-use Rattle.cpu_words.proofs.KeeperSees.{SeenByKeeper, seen_by_keeper}
+use Rattle.cpu_words.proofs.KeeperSees.{seen_by_keeper}
 use Rattle.cpu_words.proofs.Totals.{total_words, shown_less, later_less}
 
 -- what the core has of a drained slot and its entry
@@ -85,10 +80,13 @@ vacated_leaves g t e totals keeps good drained = record {
       (λ (is : u ≡ t). inr (λ c. ap (passive_at g.passive c) is ∙ drained.passive c))
       (λ (off : u ≢ t). inl (in_other g.slots t Vacant f u off here))
       (cases_eq u t);
-  collected = λ u c f gone is there. (⊎_elim
-      (λ (at : u ≡ t). absurd (left u f at gone there))
-      (λ (off : u ≢ t). retired_other g.slots t u Vacant f gone off)
-      (cases_eq u t), is);
+  collected = λ u c f gone is there. (
+    ⊎_elim
+        (λ (at : u ≡ t). absurd (left u f at gone there))
+        (λ (off : u ≢ t). retired_other g.slots t u Vacant f gone off)
+        (cases_eq u t),
+    is,
+  );
 }
   where
     left : (u : ℕ) (f : Entry) → u ≡ t → slot_at g.slots u ≡ Retired f → Occupies (set g.slots t Vacant) f.number → ⊥
@@ -100,9 +98,9 @@ empty_row : (rows : List (List ℕ)) (t c : ℕ) → count_at (set rows t (repli
 empty_row rows t c = ⊎_elim
     (λ (is : (t ≡ t) × (get_or (set rows t (replicate 8 0)) t [] ≡ replicate 8 0)). ap (λ (x : List ℕ). get_or x c 0) is.1 ∙ get_or_all 8 0 c)
     (λ (is : ((t ≡ t → ⊥) ⊎ (length rows ≤ t)) × (get_or (set rows t (replicate 8 0)) t [] ≡ get_or rows t [])). ap (λ (x : List ℕ). get_or x c 0) is.1 ∙ ⊎_elim
-        (λ (off : t ≡ t → ⊥). absurd (off refl))
-        (λ (past : length rows ≤ t). ap (λ (x : List ℕ). get_or x c 0) (get_or_past rows t [] past))
-        is.0)
+    (λ (off : t ≡ t → ⊥). absurd (off refl))
+    (λ (past : length rows ≤ t). ap (λ (x : List ℕ). get_or x c 0) (get_or_past rows t [] past))
+    is.0)
     (written_cases [] rows t (replicate 8 0) t)
 
 -- the count words of vacant slots, with those of t
@@ -189,8 +187,8 @@ kept_sub_may z k t u may s r i at fits =
     let words : Agrees (set s.words (912 + u) ((w + (2 ^ 64 - 1)) % 2 ^ 64)) (with_keeper g l) = subst (λ m. Agrees (set s.words (912 + u) m) (with_keeper g l)) (sym next) (total_words s.words g l u v r.good x.slot r.words refl refl refl refl refl) in
     let done = keeper_makes z s r i k (912 + u) ((w + (2 ^ 64 - 1)) % 2 ^ 64) l (KeptSub t) Done own at made (vacated_leaves g t e (set g.totals u v) (set g.keeps t None) r.good x.drained) (λ m. refl) refl (shown_kept_sub g k t d u e r.good had x) words in
     let change : keeper_view (with_keeper g l) own ≡ record k { totals = set k.totals u (total_at k.totals u - 1); slots = set k.slots t Vacant; keeps = set k.keeps t None; counts = set k.counts t (replicate 8 0); given_up = one_more k.given_up d } =
-        ap (λ (y : KeeperView). record y { totals = set y.totals u (total_at y.totals u - 1); slots = set y.slots t Vacant; keeps = set y.keeps t None; counts = set y.counts t (replicate 8 0); given_up = one_more y.given_up n }) (sym had.is)
-        ∙ ap (λ m. record k { totals = set k.totals u (total_at k.totals u - 1); slots = set k.slots t Vacant; keeps = set k.keeps t None; counts = set k.counts t (replicate 8 0); given_up = one_more k.given_up m }) x.number in
+    ap (λ (y : KeeperView). record y { totals = set y.totals u (total_at y.totals u - 1); slots = set y.slots t Vacant; keeps = set y.keeps t None; counts = set y.counts t (replicate 8 0); given_up = one_more y.given_up n }) (sym had.is)
+    ∙ ap (λ m. record k { totals = set k.totals u (total_at k.totals u - 1); slots = set k.slots t Vacant; keeps = set k.keeps t None; counts = set k.counts t (replicate 8 0); given_up = one_more k.given_up m }) x.number in
     (Keeper (keeper_view (with_keeper g l) own), done.0, (refl, (done.1, (u, (d, may.kept.1, change)))))
 
 -- a view has one slot for what the slot t keeps

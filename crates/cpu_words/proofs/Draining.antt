@@ -1,35 +1,30 @@
 -- Passive looks and collections on the words.
-use Rattle.std.proofs.Common.{◌≡◌, ◌≢◌, ◌⊎◌, inl, inr, ⊎_elim, ℕ, suc, ◌+◌, ◌-◌, ◌*◌, ◌≤◌, ◌<◌, ◌==◌, List, [], ◌∷◌, length, get_or, set, sum_by, Option, Some, None, Bool, true, false, not, ◌&&◌, if◌then◌else◌, cond, nat_lt, eq-eqb, ne_eqb, refl, sym, ap, ◌∙◌, subst, arith}
+use Rattle.std.proofs.Common.{◌≡◌, ◌≢◌, inr, ⊎_elim, ℕ, ◌+◌, ◌*◌, ◌<◌, List, [], length, get_or, set, Some, Bool, true, false, cond, eq-eqb, ne_eqb, refl, sym, ap, ◌∙◌, subst, arith}
 use Rattle.std.proofs.lemmas.Bool.{lt-ltb, cases_eq}
-use Rattle.std.specs.List.{zip}
 use Rattle.std.specs.Prelude.{slice_index}
-use mathlib.Core.Option.{some}
-use lib.ListN.{get_elem?}
 use Rattle.passive_core.specs.declared.entry.Entry.{Entry}
 use Rattle.passive_core.specs.declared.settings.Settings.{Settings}
 use Rattle.passive_core.specs.declared.state.Slot.{Slot}
-use Rattle.passive_core.specs.declared.state.Slot.TheVariants.{Vacant, Live, Retired}
+use Rattle.passive_core.specs.declared.state.Slot.TheVariants.{Vacant, Retired}
 use Rattle.passive_core.specs.declared.state.Mark.{Mark}
-use Rattle.passive_core.specs.declared.state.Due.{Due}
 use Rattle.passive_core.specs.declared.state.Due.TheVariants.{Rest, Adding}
 use Rattle.passive_core.specs.declared.event.Event.TheVariants.{PassiveLook, Collect}
 use Rattle.passive_core.specs.declared.event.Reply.TheVariants.{Word}
-use Rattle.passive_core.specs.State.{State, no_mark, bias, cell, with_cell, slot_at, mark_at, passive_at, count_at, total_at}
+use Rattle.passive_core.specs.State.{State, no_mark, cell, with_cell, slot_at, mark_at, passive_at, count_at}
 use Rattle.passive_core.specs.Slots.{have_passed, are_clear}
 use Rattle.passive_core.specs.Events.{step, cleared, collected}
-use Rattle.passive_core.specs.Invariant.{IsIn, adding_at, is_adding_at}
-use Rattle.passive_core.proofs.Fit.{Ranges, ranges}
+use Rattle.passive_core.specs.Invariant.{adding_at, is_adding_at}
+use Rattle.passive_core.proofs.Fit.{ranges}
 use Rattle.passive_core.proofs.Cells.{cell_cases, cell_here, cell_other, in_within}
 use Rattle.passive_core.proofs.HeldSums.{one_self, one_other}
 use Rattle.cpu_words.specs.declared.view.KeeperView.{KeeperView}
-use Rattle.cpu_words.specs.declared.view.View.{View}
 use Rattle.cpu_words.specs.declared.view.View.TheVariants.{Keeper}
 use Rattle.cpu_words.specs.Spots.{Spot, section_of, passive_of, count_of, head_word, next_of, record_of, total_of, word_at}
-use Rattle.cpu_words.specs.Views.{KeeperOwn, keeper_own, keeper_view, number_at, KeeperShown, GivesUp, collected_net, collected_one}
-use Rattle.cpu_words.specs.Rule.{Agrees, Good, Ruled}
+use Rattle.cpu_words.specs.Views.{KeeperOwn, keeper_own, keeper_view, KeeperShown, GivesUp, collected_net, collected_one}
+use Rattle.cpu_words.specs.Rule.{Agrees, Good}
 use Rattle.cpu_words.specs.Steps.{Makes, KeeperMay}
 use Rattle.cpu_words.specs.Grace.{MayLook, having_looked}
-use Rattle.cpu_words.specs.Draining.{MayPassiveLook, HasLookedPassive, LookedPassiveTold, MayCollect, HasCollected, CollectTold}
+use Rattle.cpu_words.specs.Draining.{MayPassiveLook, LookedPassiveTold, MayCollect, CollectTold}
 use Rattle.cpu_words.proofs.Placing.{agrees_set}
 use Rattle.cpu_words.proofs.KeeperSteps.{KeeperLists, keeper_lists, with_keeper, leaves_all, keeper_makes}
 use Rattle.cpu_words.proofs.KeeperSees.{SeenByKeeper, seen_by_keeper, loads}
@@ -74,7 +69,7 @@ passive_look_may z k t c may s r i at fits =
     let shown : KeeperShown (with_keeper g l) (keeper_view (with_keeper g l) own) = shown_marked g k t c m g.due own r.good had here.cpu refl (λ u. refl) (λ u. refl) refl refl refl in
     let done = keeper_makes z s r i k place w l (PassiveLook t c) (Word w) own at made (leaves_all g l refl refl refl refl (same_collected g t c m refl)) (λ n. refl) refl shown (loads s.words g (with_keeper g l) place r.words refl (λ q _. refl)) in
     let change : keeper_view (with_keeper g l) own ≡ record (having_looked k (PassiveLook t c) (Word w)) { marks = with_cell k.marks t c (cleared (mark_at k.marks t c) w) } =
-        ap (λ n. record (keeper_view g own) { marks = with_cell g.marks t c (cleared (mark_at g.marks t c) n) }) (sym found) ∙ ap (λ (v : KeeperView). record (having_looked v (PassiveLook t c) (Word w)) { marks = with_cell v.marks t c (cleared (mark_at v.marks t c) w) }) (sym had.is) in
+    ap (λ n. record (keeper_view g own) { marks = with_cell g.marks t c (cleared (mark_at g.marks t c) n) }) (sym found) ∙ ap (λ (v : KeeperView). record (having_looked v (PassiveLook t c) (Word w)) { marks = with_cell v.marks t c (cleared (mark_at v.marks t c) w) }) (sym had.is) in
     (Keeper (keeper_view (with_keeper g l) own), done.0, (refl, (done.1, change)))
 
 -- the state with a word collected
@@ -91,12 +86,12 @@ gives_up_collected g t c given_up good here still u e retired was =
     ⊎_elim
     (λ (is : u ≡ t). subst (λ v. GivesUp g given_up v e.number → GivesUp (with_keeper g (collecting g t c)) given_up v e.number) (sym is) (at_it is) was)
     (λ (off : u ≢ t).
-        let ne : t ≢ u = λ q. off (sym q) in
-        let p = sum_off collected_one g t c m u off in
-        let q = sum_off collected_net g t c m u off in
-        let a : adding_at u (Adding t (count_at g.counts c t)) ≡ 0 = ap (λ (b : Bool). cond b (count_at g.counts c t) 0) (ne_eqb t u ne) in
-        let b : is_adding_at u (Adding t (count_at g.counts c t)) ≡ 0 = one_other t u ne in
-        omega (arith, was, none, no, a, b, p, q))
+    let ne : t ≢ u = λ q. off (sym q) in
+    let p = sum_off collected_one g t c m u off in
+    let q = sum_off collected_net g t c m u off in
+    let a : adding_at u (Adding t (count_at g.counts c t)) ≡ 0 = ap (λ (b : Bool). cond b (count_at g.counts c t) 0) (ne_eqb t u ne) in
+    let b : is_adding_at u (Adding t (count_at g.counts c t)) ≡ 0 = one_other t u ne in
+    omega (arith, was, none, no, a, b, p, q))
     (cases_eq u t)
   where
     at_it : u ≡ t → GivesUp g given_up t e.number → GivesUp (with_keeper g (collecting g t c)) given_up t e.number
@@ -174,5 +169,5 @@ collect_may z k t c may s r i at fits =
     let shown = shown_collected g k t c r.good had here still in
     let done = keeper_makes z s r i k place 0 l (Collect t c) (Word w) own at made (leaves_all g l refl refl refl refl (still_collected g t c)) (λ n. refl) refl shown (collect_words s.words g t c r.good here r.words) in
     let change : keeper_view (with_keeper g l) own ≡ record k { marks = with_cell k.marks t c (collected (mark_at k.marks t c)); due = Adding t w } =
-        ap (λ n. record (keeper_view g own) { marks = with_cell g.marks t c (collected (mark_at g.marks t c)); due = Adding t n }) (sym found) ∙ ap (λ (v : KeeperView). record v { marks = with_cell v.marks t c (collected (mark_at v.marks t c)); due = Adding t w }) (sym had.is) in
+    ap (λ n. record (keeper_view g own) { marks = with_cell g.marks t c (collected (mark_at g.marks t c)); due = Adding t n }) (sym found) ∙ ap (λ (v : KeeperView). record v { marks = with_cell v.marks t c (collected (mark_at v.marks t c)); due = Adding t w }) (sym had.is) in
     (Keeper (keeper_view (with_keeper g l) own), done.0, (refl, (done.1, change)))

@@ -1,29 +1,24 @@
 -- Totals on the words: what was collected is added, and a reference that is given up is subtracted.
-use Rattle.std.proofs.Common.{◌≡◌, ◌≢◌, ◌⊎◌, inl, inr, ⊎_elim, ℕ, zero, suc, ◌+◌, ◌-◌, ◌*◌, ◌%◌, ◌^◌, ◌≤◌, ◌<◌, ◌==◌, List, [], ◌∷◌, ◌++◌, length, replicate, get_or, set, sum_by, Option, Some, None, Bool, true, false, ◌&&◌, if◌then◌else◌, cond, nat_lt, eq-eqb, ne_eqb, refl, sym, ap, ◌∙◌, subst, arith, get_or-set_same, get_or-set_other, length-append}
-use Rattle.std.proofs.lemmas.Bool.{lt-ltb, cases_eq, cases_lt}
+use Rattle.std.proofs.Common.{◌≡◌, ◌≢◌, inl, inr, ⊎_elim, ℕ, zero, suc, ◌+◌, ◌-◌, ◌%◌, ◌^◌, ◌≤◌, ◌<◌, ◌==◌, List, [], ◌∷◌, ◌++◌, length, replicate, get_or, set, Some, Bool, true, false, cond, eq-eqb, ne_eqb, refl, sym, ap, ◌∙◌, subst, arith, get_or-set_same, get_or-set_other, length-append}
+use Rattle.std.proofs.lemmas.Bool.{cases_eq, cases_lt}
 use Rattle.std.specs.Prelude.{slice_index}
 use mathlib.Core.Option.{some}
 use lib.ListN.{get_elem?}
 use Rattle.atomic_table.specs.Table.{Joins as TableJoins}
 use Rattle.atomic_table.proofs.Lists.{at_set}
 use Rattle.passive_core.specs.declared.entry.Entry.{Entry}
-use Rattle.passive_core.specs.declared.entry.Change.{Change}
 use Rattle.passive_core.specs.declared.entry.Change.TheVariants.{Attach}
 use Rattle.passive_core.specs.declared.settings.Settings.{Settings}
 use Rattle.passive_core.specs.declared.state.Slot.{Slot}
-use Rattle.passive_core.specs.declared.state.Slot.TheVariants.{Vacant, Live, Retired}
-use Rattle.passive_core.specs.declared.state.Mark.{Mark}
-use Rattle.passive_core.specs.declared.state.LocalPlace.{LocalPlace}
+use Rattle.passive_core.specs.declared.state.Slot.TheVariants.{Live, Retired}
 use Rattle.passive_core.specs.declared.state.LocalPlace.TheVariants.{Free, Standing}
-use Rattle.passive_core.specs.declared.state.Due.{Due}
 use Rattle.passive_core.specs.declared.state.Due.TheVariants.{Rest, Adding, Subtracting}
 use Rattle.passive_core.specs.declared.event.Event.TheVariants.{TotalAdd, TotalSub, JoinKeeper}
 use Rattle.passive_core.specs.declared.event.Reply.TheVariants.{Done}
-use Rattle.passive_core.specs.History.{IsAttached}
-use Rattle.passive_core.specs.State.{State, bias, no_mark, slot_at, mark_at, total_at, local_at}
+use Rattle.passive_core.specs.State.{State, bias, no_mark, slot_at, total_at}
 use Rattle.passive_core.specs.Slots.{slot_of, is_collected, is_some_collected}
 use Rattle.passive_core.specs.Events.{step, total_add, total_sub}
-use Rattle.passive_core.specs.Invariant.{IsIn, one_if, standing_of, adding_at, is_adding_at}
+use Rattle.passive_core.specs.Invariant.{IsIn, one_if, adding_at, is_adding_at}
 use Rattle.passive_core.proofs.History.{at_within}
 use Rattle.passive_core.proofs.Occupied.{attached_in, one_number}
 use Rattle.passive_core.proofs.Cells.{get_or_all, in_within, total_here, total_other}
@@ -46,7 +41,7 @@ use Rattle.cpu_words.specs.Draining.{MayTotalAdd, TotalAddTold, MayTotalSub, Tot
 use Rattle.cpu_words.proofs.Placing.{agrees_set, agrees_same}
 use Rattle.cpu_words.proofs.Showing.{standing_in, backed, Stay, shows_join}
 use Rattle.cpu_words.proofs.KeeperSteps.{KeeperLists, keeper_lists, with_keeper, standing_place, leaves_all, keeper_good_after, keeper_makes}
-use Rattle.cpu_words.proofs.KeeperSees.{SeenByKeeper, seen_by_keeper}
+use Rattle.cpu_words.proofs.KeeperSees.{seen_by_keeper}
 
 -- Counts by number
 
@@ -71,10 +66,10 @@ one_more_other l n m off = get_or-set_other (l ++ replicate (suc n) 0) n m (suc 
 pub one_more_at : (l : List ℕ) (n m : ℕ) → number_at (one_more l n) m ≡ number_at l m + one_if (m == n)
 one_more_at l n m = ⊎_elim
     (λ (same : m ≡ n).
-        let one = one_self m n same in
-        let new = ap (number_at (one_more l n)) same ∙ one_more_here l n in
-        let old = ap (number_at l) same in
-        omega (arith, one, new, old))
+    let one = one_self m n same in
+    let new = ap (number_at (one_more l n)) same ∙ one_more_here l n in
+    let old = ap (number_at l) same in
+    omega (arith, one, new, old))
     (λ (off : m ≢ n). let none = one_other m n off in let new = one_more_other l n m off in omega (arith, none, new))
     (cases_eq m n)
 
@@ -119,18 +114,18 @@ shown_added g k t old good had due = record {
     each : (u : ℕ) (e : Entry) → GivesUp g k.given_up u e.number → GivesUp (with_keeper g (totalling g t v)) k.given_up u e.number
     each u e was = ⊎_elim
         (λ (is : u ≡ t).
-            let old_total : total_at g.totals u ≡ total_at g.totals t = ap (total_at g.totals) is in
-            let new_total : total_at (set g.totals t v) u ≡ v = ap (total_at (set g.totals t v)) is ∙ total_here g.totals t v (omega (arith, adding_within g t old good.holds due, good.holds.shape.totals)) in
-            let a : adding_at u g.due ≡ old = ap (adding_at u) due ∙ ap (λ (b : Bool). cond b old 0) (eq-eqb t u (sym is)) in
-            let b : is_adding_at u g.due ≡ 1 = ap (is_adding_at u) due ∙ one_self t u (sym is) in
-            let range = (adding_range g t old good.holds due).0 in
-            omega (arith, was, old_total, new_total, a, b, range))
+        let old_total : total_at g.totals u ≡ total_at g.totals t = ap (total_at g.totals) is in
+        let new_total : total_at (set g.totals t v) u ≡ v = ap (total_at (set g.totals t v)) is ∙ total_here g.totals t v (omega (arith, adding_within g t old good.holds due, good.holds.shape.totals)) in
+        let a : adding_at u g.due ≡ old = ap (adding_at u) due ∙ ap (λ (b : Bool). cond b old 0) (eq-eqb t u (sym is)) in
+        let b : is_adding_at u g.due ≡ 1 = ap (is_adding_at u) due ∙ one_self t u (sym is) in
+        let range = (adding_range g t old good.holds due).0 in
+        omega (arith, was, old_total, new_total, a, b, range))
         (λ (off : u ≢ t).
-            let total = total_other g.totals t v u off in
-            let ne : t ≢ u = λ q. off (sym q) in
-            let a : adding_at u g.due ≡ 0 = ap (adding_at u) due ∙ ap (λ (b : Bool). cond b old 0) (ne_eqb t u ne) in
-            let b : is_adding_at u g.due ≡ 0 = ap (is_adding_at u) due ∙ one_other t u ne in
-            omega (arith, was, total, a, b))
+        let total = total_other g.totals t v u off in
+        let ne : t ≢ u = λ q. off (sym q) in
+        let a : adding_at u g.due ≡ 0 = ap (adding_at u) due ∙ ap (λ (b : Bool). cond b old 0) (ne_eqb t u ne) in
+        let b : is_adding_at u g.due ≡ 0 = ap (is_adding_at u) due ∙ one_other t u ne in
+        omega (arith, was, total, a, b))
         (cases_eq u t)
 
 pub total_add_may : (z : Settings) (k : KeeperView) (t old value : ℕ) → MayTotalAdd k t old value → KeeperStores z k (912 + t) value (λ v n l. Makes (TotalAdd t) Done (Keeper v) (Keeper l) × TotalAddTold (TotalAdd t) v n l)
@@ -147,7 +142,7 @@ total_add_may z k t old value may s r i at fits =
     let words : Agrees (set s.words (912 + t) value) (with_keeper g l) = subst (λ n. Agrees (set s.words (912 + t) n) (with_keeper g l)) (sym is) (total_words s.words g l t v r.good (adding_within g t old r.good.holds due) r.words refl refl refl refl refl) in
     let done = keeper_makes z s r i k (912 + t) value l (TotalAdd t) Done own at made (leaves_all g l refl refl refl refl (λ u d on. on)) (λ n. refl) refl (shown_added g k t old r.good had due) words in
     let change : keeper_view (with_keeper g l) own ≡ record k { totals = set k.totals t value; due = Rest } =
-        ap (λ n. record (keeper_view g own) { totals = set g.totals t n; due = Rest }) (sym is) ∙ ap (λ (x : KeeperView). record x { totals = set x.totals t value; due = Rest }) (sym had.is) in
+    ap (λ n. record (keeper_view g own) { totals = set g.totals t n; due = Rest }) (sym is) ∙ ap (λ (x : KeeperView). record x { totals = set x.totals t value; due = Rest }) (sym had.is) in
     (Keeper (keeper_view (with_keeper g l) own), done.0, (refl, (done.1, change)))
 
 -- an entry's number is one of the history's
@@ -163,17 +158,17 @@ pub shown_less : (g : State) (k : KeeperView) (t : ℕ) (e : Entry) → Good g �
     → (u : ℕ) (f : Entry) → IsIn f (slot_at g.slots u) → total_at (set g.totals t (total_at g.totals t - 1)) u + number_at (one_more k.given_up e.number) f.number ≡ total_at g.totals u + number_at k.given_up f.number
 shown_less g k t e good had here some_left u f there = ⊎_elim
     (λ (is : u ≡ t).
-        let same : f ≡ e = Rattle.passive_core.proofs.Occupied.one_in f e (slot_at g.slots t) here (subst (λ v. IsIn f (slot_at g.slots v)) is there) in
-        let new_total = ap (total_at (set g.totals t (total_at g.totals t - 1))) is ∙ total_here g.totals t (total_at g.totals t - 1) lt in
-        let old_total = ap (total_at g.totals) is in
-        let new = ap (λ (x : Entry). number_at (one_more k.given_up e.number) x.number) same ∙ one_more_here k.given_up e.number in
-        let old = ap (λ (x : Entry). number_at k.given_up x.number) same in
-        omega (arith, new_total, old_total, new, old, some_left))
+    let same : f ≡ e = Rattle.passive_core.proofs.Occupied.one_in f e (slot_at g.slots t) here (subst (λ v. IsIn f (slot_at g.slots v)) is there) in
+    let new_total = ap (total_at (set g.totals t (total_at g.totals t - 1))) is ∙ total_here g.totals t (total_at g.totals t - 1) lt in
+    let old_total = ap (total_at g.totals) is in
+    let new = ap (λ (x : Entry). number_at (one_more k.given_up e.number) x.number) same ∙ one_more_here k.given_up e.number in
+    let old = ap (λ (x : Entry). number_at k.given_up x.number) same in
+    omega (arith, new_total, old_total, new, old, some_left))
     (λ (off : u ≢ t).
-        let ne : f.number ≢ e.number = λ q. off (one_number g.history g.slots t u e f good.holds.slots here there q).0 in
-        let total = total_other g.totals t (total_at g.totals t - 1) u off in
-        let gave = one_more_other k.given_up e.number f.number ne in
-        omega (arith, total, gave))
+    let ne : f.number ≢ e.number = λ q. off (one_number g.history g.slots t u e f good.holds.slots here there q).0 in
+    let total = total_other g.totals t (total_at g.totals t - 1) u off in
+    let gave = one_more_other k.given_up e.number f.number ne in
+    omega (arith, total, gave))
     (cases_eq u t)
   where
     lt : t < length g.totals
@@ -223,7 +218,7 @@ total_sub_may z k t may s r i at fits =
     let words : Agrees (set s.words (912 + t) ((w + (2 ^ 64 - 1)) % 2 ^ 64)) (with_keeper g l) = subst (λ n. Agrees (set s.words (912 + t) n) (with_keeper g l)) (sym next) (total_words s.words g l t v r.good range.0 r.words refl refl refl refl refl) in
     let done = keeper_makes z s r i k (912 + t) ((w + (2 ^ 64 - 1)) % 2 ^ 64) l (TotalSub t) Done own at made (leaves_all g l refl refl refl refl (λ u d on. on)) (λ n. refl) refl (shown_subtracted g k t e r.good had gone.1 due) words in
     let change : keeper_view (with_keeper g l) own ≡ record k { totals = set k.totals t (total_at k.totals t - 1); due = Rest; given_up = one_more k.given_up e.number } =
-        ap (λ (x : KeeperView). record x { totals = set x.totals t (total_at x.totals t - 1); due = Rest; given_up = one_more x.given_up e.number }) (sym had.is) in
+    ap (λ (x : KeeperView). record x { totals = set x.totals t (total_at x.totals t - 1); due = Rest; given_up = one_more x.given_up e.number }) (sym had.is) in
     (Keeper (keeper_view (with_keeper g l) own), done.0, (refl, (done.1, (e, ap (λ (x : List Slot). slot_at x t) seen.slots ∙ gone.1, change))))
 
 -- References given up under the interlock
@@ -262,18 +257,18 @@ collected_of : (g : State) (k : KeeperView) (v : ReferenceView) → Good g → K
 collected_of g k v good had ref may = ⊎_elim
     (λ (there : (c : ℕ) × (v.collected ≡ Some c)). by_release there.0 (ref.collected there.0 there.1))
     (λ (there : (slot_at k.slots v.entry.slot ≡ Retired v.entry) × (is_some_collected k.settings.cpus (get_or k.marks v.entry.slot []) ≡ true)).
-        let seen = seen_by_keeper g k good had in record {
-          retired = sym (ap (λ (x : List Slot). slot_at x v.entry.slot) seen.slots) ∙ there.0;
-          some_one = sym (λ i. is_some_collected (seen.settings i).cpus (get_or (seen.marks i) v.entry.slot [])) ∙ there.1;
-        })
+    let seen = seen_by_keeper g k good had in record {
+      retired = sym (ap (λ (x : List Slot). slot_at x v.entry.slot) seen.slots) ∙ there.0;
+      some_one = sym (λ i. is_some_collected (seen.settings i).cpus (get_or (seen.marks i) v.entry.slot [])) ∙ there.1;
+    })
     may.is_collected
   where
     by_release : (c : ℕ) → IsCollectedFor g.slots g.marks v.entry c → CollectedOf g v
     by_release c is =
         let lt : c < g.settings.cpus = ⊎_elim
-            (λ (low : c < g.settings.cpus). low)
-            (λ (past : g.settings.cpus ≤ c). absurd (let q : ◌≡◌ {A = Bool} false true = sym (had.beyond c v.entry.slot past) ∙ is.1 in cc))
-            (cases_lt c g.settings.cpus) in
+        (λ (low : c < g.settings.cpus). low)
+        (λ (past : g.settings.cpus ≤ c). absurd (let q : ◌≡◌ {A = Bool} false true = sym (had.beyond c v.entry.slot past) ∙ is.1 in cc))
+        (cases_lt c g.settings.cpus) in
         let place = mark_place g v.entry.slot c v.entry good.holds is.0 lt in record {
           retired = is.0;
           some_one = any_within is_collected g.settings.cpus (get_or g.marks v.entry.slot []) no_mark c lt place.1 is.1;
@@ -321,9 +316,9 @@ joins_at z i k o v may s r at apart there =
     let both = Keeper (giving_up k v) in
     let had = r.shows.fits i (Keeper k) at in
     let was : get_elem? s.views o ≡ some (Reference v) = ⊎_elim
-        (λ (q : (o ≡ i) × (both ≡ Reference v)). absurd (apart q.0))
-        (λ (q : (o ≢ i) × (get_elem? s.views o ≡ some (Reference v))). q.1)
-        (at_set s.views i o both (Reference v) there) in
+    (λ (q : (o ≡ i) × (both ≡ Reference v)). absurd (apart q.0))
+    (λ (q : (o ≢ i) × (get_elem? s.views o ≡ some (Reference v))). q.1)
+    (at_set s.views i o both (Reference v) there) in
     let law = join_keeper_law k v may g r.good had.1 (r.shows.fits o (Reference v) was).1 (backed g r.seat s.views o (Reference v) r.shows was) in
     record {
       g = law.after;

@@ -1,5 +1,5 @@
 -- Draining by the keeper's seat (psref(9), localcount(9)): where it may make the step, and what changes in its view.
-use Rattle.std.specs.Prelude.{◌≡◌, ℕ, suc, ◌+◌, ◌-◌, ◌⊎◌, List, [], replicate, slice_index_or, slice_set, Bool, true, false, Option, Some, None}
+use Rattle.std.specs.Prelude.{◌≡◌, ℕ, ◌+◌, ◌-◌, ◌⊎◌, List, [], replicate, slice_index_or, slice_set, true, false, Some, None}
 use Rattle.passive_core.specs.declared.entry.Entry.{Entry}
 use Rattle.passive_core.specs.declared.entry.Kind.TheVariants.{Iface}
 use Rattle.passive_core.specs.declared.event.Event.{Event}

@@ -85,13 +85,7 @@ pub fn total_sub(words: &Words, keeper: &mut KeeperSeat, slot: u8)
     ensures event { Makes (TotalSub slot) Done (Keeper keeper.old.view) (Keeper keeper.new.view) }
     ensures change { HasSubtracted keeper.old.view slot keeper.new.view }
 {
-    by_keeper::subtract::<Brand>(
-        words,
-        keeper,
-        912 + slot as usize,
-        1,
-        Event::TotalSub(slot),
-    );
+    by_keeper::subtract::<Brand>(words, keeper, 912 + slot as usize, 1, Event::TotalSub(slot));
 }
 
 /// Takes a local reference in, to be given up: its seat is spent, and it is to be subtracted from the total of its entry's slot.

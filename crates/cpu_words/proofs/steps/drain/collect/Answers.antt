@@ -1,4 +1,3 @@
-use Rattle.std.proofs.Common.{rules, arith}
 use Rattle.cpu_words.proofs.Draining.{collect_may}
 use Rattle.cpu_words.proofs.steps.drain.collect.Goals as goal
 

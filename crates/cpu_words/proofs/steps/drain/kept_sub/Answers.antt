@@ -1,4 +1,3 @@
-use Rattle.std.proofs.Common.{rules, arith}
 use Rattle.cpu_words.proofs.Drained.{kept_sub_may, kept_sub_change}
 use Rattle.cpu_words.proofs.steps.drain.kept_sub.Goals as goal
 
