@@ -18,3 +18,7 @@ pub mod ReferenceLists
 pub mod Reading
 pub mod Passives
 pub mod Searching
+pub mod Draining
+pub mod Totals
+pub mod Drained
+pub mod KeptDrivers

@@ -10,3 +10,4 @@ pub mod Locals
 pub mod Passives
 pub mod Reading
 pub mod Searching
+pub mod Draining

@@ -3,4 +3,5 @@
 pub(crate) mod by_cpu;
 pub(crate) mod by_keeper;
 pub(crate) mod by_reference;
+pub(crate) mod given_up;
 pub(crate) mod in_hand;

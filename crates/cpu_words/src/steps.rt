@@ -1,6 +1,7 @@
 //! One function for each kind of step, named after its event. Each makes just that event of the core, with one seat, and takes no
 //! memory.
 
+pub mod drain;
 pub mod grace;
 pub mod list;
 pub mod locals;
@@ -9,6 +10,7 @@ pub mod reading;
 pub mod search;
 pub mod sections;
 
+pub use drain::{collect, join_keeper, kept_sub, passive_look, total_add, total_sub};
 pub use grace::{look, look_now, snapshot, snapshot_now};
 pub use list::{store_count, store_next, store_record};
 pub use locals::{count_add, count_down, join_ref, split_back, split_ref};

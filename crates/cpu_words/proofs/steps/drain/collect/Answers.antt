@@ -1,0 +1,5 @@
+use Rattle.cpu_words.proofs.Draining.{collect_may}
+use Rattle.cpu_words.proofs.steps.drain.collect.Goals as goal
+
+pub swap-requires-clause-may : goal.swap-requires-clause-may
+swap-requires-clause-may c = collect_may _ _ _ _ c.requires.may

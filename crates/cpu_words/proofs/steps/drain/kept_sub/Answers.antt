@@ -1,0 +1,8 @@
+use Rattle.cpu_words.proofs.KeptDrivers.{kept_sub_may, kept_sub_change}
+use Rattle.cpu_words.proofs.steps.drain.kept_sub.Goals as goal
+
+pub subtract-requires-clause-may : goal.subtract-requires-clause-may
+subtract-requires-clause-may c = kept_sub_may _ _ _ _ c.requires.may
+
+pub returns-clause-change : goal.returns-clause-change
+returns-clause-change c = kept_sub_change _ _ _ _ c.requires.may c.subtract.ensures.told.1

@@ -1,0 +1,8 @@
+use Rattle.passive_core.specs.declared.event.Reply.TheVariants.{Done}
+use Rattle.cpu_words.specs.declared.view.View.TheVariants.{Keeper}
+use Rattle.cpu_words.specs.Steps.{Makes}
+use Rattle.cpu_words.specs.Draining.{KeptSubTold}
+use Rattle.cpu_words.proofs.steps.drain.kept_sub.Given as goal
+
+abbrev pub ghosts-subtract : goal.ghosts-subtract
+ghosts-subtract a = record { tells = λ k n l. Makes a.event Done (Keeper k) (Keeper l) × KeptSubTold a.event k l }

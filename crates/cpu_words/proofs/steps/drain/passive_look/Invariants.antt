@@ -1,0 +1,8 @@
+use Rattle.passive_core.specs.declared.event.Reply.TheVariants.{Word}
+use Rattle.cpu_words.specs.declared.view.View.TheVariants.{Keeper}
+use Rattle.cpu_words.specs.Steps.{Makes}
+use Rattle.cpu_words.specs.Draining.{LookedPassiveTold}
+use Rattle.cpu_words.proofs.steps.drain.passive_look.Given as goal
+
+abbrev pub ghosts-load : goal.ghosts-load
+ghosts-load a = record { tells = λ k n l. Makes a.event (Word n) (Keeper k) (Keeper l) × LookedPassiveTold a.event k n l }

@@ -1,0 +1,119 @@
+-- Draining by the keeper's seat (psref(9), localcount(9)): where it may make the step, and what changes in its view.
+use Rattle.std.specs.Prelude.{◌≡◌, ℕ, ◌+◌, ◌-◌, ◌⊎◌, List, [], replicate, slice_index_or, slice_set, true, false, Some, None}
+use Rattle.passive_core.specs.declared.entry.Entry.{Entry}
+use Rattle.passive_core.specs.declared.entry.Kind.TheVariants.{Iface}
+use Rattle.passive_core.specs.declared.event.Event.{Event}
+use Rattle.passive_core.specs.declared.event.Event.TheVariants.{PassiveLook, Collect, TotalAdd, TotalSub, KeptSub}
+use Rattle.passive_core.specs.declared.event.Reply.TheVariants.{Word}
+use Rattle.passive_core.specs.declared.state.Mark.{Mark}
+use Rattle.passive_core.specs.declared.state.Slot.TheVariants.{Vacant, Retired}
+use Rattle.passive_core.specs.declared.state.Due.TheVariants.{Rest, Adding, Subtracting}
+use Rattle.passive_core.specs.State.{bias, with_cell, slot_at, mark_at, total_at, kept_at}
+use Rattle.passive_core.specs.Slots.{slot_of, have_passed, are_clear, are_collected, is_some_collected}
+use Rattle.passive_core.specs.Events.{cleared, collected}
+use Rattle.cpu_words.specs.declared.view.KeeperView.{KeeperView}
+use Rattle.cpu_words.specs.declared.view.ReferenceView.{ReferenceView}
+use Rattle.cpu_words.specs.declared.view.View.{View}
+use Rattle.cpu_words.specs.declared.view.View.TheVariants.{Keeper}
+use Rattle.cpu_words.specs.Views.{one_more, keeper_of, reference_of}
+use Rattle.cpu_words.specs.Grace.{MayLook, having_looked}
+use Rattle.cpu_words.specs.Vacating.{IsDrained}
+
+-- the marks of all CPUs for a slot
+abbrev pub row_of : KeeperView → ℕ → List Mark
+row_of k t = slice_index_or k.marks t []
+
+-- Passive references
+
+-- the slot's entry is retired, and all CPUs have passed
+pub record MayPassiveLook (k : KeeperView) (t c : ℕ) : Type 0 where
+  pub look : MayLook k t c
+  pub passed : have_passed k.settings.cpus (slice_index_or k.marks t []) ≡ true
+
+-- the CPU's mark is clear once its passive word, which was w, was 0
+abbrev pub HasLookedPassive : KeeperView → ℕ → ℕ → ℕ → KeeperView → Type 0
+HasLookedPassive k t c w l = l ≡ record (having_looked k (PassiveLook t c) (Word w)) { marks = with_cell k.marks t c (cleared (mark_at k.marks t c) w) }
+
+-- Local references
+
+-- all CPUs have passed and are clear, and the CPU's word isn't collected
+pub record MayCollect (k : KeeperView) (t c : ℕ) : Type 0 where
+  pub look : MayLook k t c
+  pub passed : have_passed k.settings.cpus (row_of k t) ≡ true
+  pub clear : are_clear k.settings.cpus (row_of k t) ≡ true
+  pub uncollected : (mark_at k.marks t c).collected ≡ false
+
+-- the CPU's count word, which was w, is collected, and is to be added to the total
+abbrev pub HasCollected : KeeperView → ℕ → ℕ → ℕ → KeeperView → Type 0
+HasCollected k t c w l = l ≡ record k { marks = with_cell k.marks t c (collected (mark_at k.marks t c)); due = Adding t w }
+
+-- the collected word `old` is to be added, and the value is the total with it, less its bias
+pub record MayTotalAdd (k : KeeperView) (t old value : ℕ) : Type 0 where
+  pub due : k.due ≡ Adding t old
+  pub sum : value ≡ total_at k.totals t + old - bias
+
+-- the slot's total is the value, and the keeper is at rest
+abbrev pub HasAdded : KeeperView → ℕ → ℕ → KeeperView → Type 0
+HasAdded k t value l = l ≡ record k { totals = slice_set k.totals t value; due = Rest }
+
+-- the keeper is at rest, and a release found a count word of the reference's entry collected, or the keeper has collected one for it
+pub record MayJoinKeeper (k : KeeperView) (v : ReferenceView) : Type 0 where
+  pub rest : k.due ≡ Rest
+  pub is_collected : ((c : ℕ) × (v.collected ≡ Some c)) ⊎ ((slot_at k.slots v.entry.slot ≡ Retired v.entry) × (is_some_collected k.settings.cpus (row_of k v.entry.slot) ≡ true))
+
+-- a reference is to be subtracted from the total of its entry's slot
+abbrev pub giving_up : KeeperView → ReferenceView → KeeperView
+giving_up k v = record k { due = Subtracting v.entry.slot }
+
+abbrev pub with_given_up : View → View → View
+with_given_up v u = Keeper (giving_up (keeper_of v) (reference_of u))
+
+abbrev pub MayTotalSub : KeeperView → ℕ → Type 0
+MayTotalSub k t = k.due ≡ Subtracting t
+
+-- the slot's total is one less, for a reference to its entry that is given up, and the keeper is at rest
+abbrev pub HasSubtracted : KeeperView → ℕ → KeeperView → Type 0
+HasSubtracted k t l = (e : Entry) × (slot_at k.slots t ≡ Retired e) × (l ≡ record k { totals = slice_set k.totals t (total_at k.totals t - 1); due = Rest; given_up = one_more k.given_up e.number })
+
+-- The end of a drain
+
+-- the slot t keeps a reference to the driver d, which is in the slot u
+abbrev pub KeepsIn : KeeperView → ℕ → ℕ → ℕ → Type 0
+KeepsIn k t d u = (kept_at k.keeps t ≡ Some d) × (slot_of k.slots d ≡ Some u)
+
+pub record MayKeptSub (k : KeeperView) (t u : ℕ) : Type 0 where
+  pub drained : IsDrained k t
+  pub kind : drained.retired.0.rec.kind ≡ Iface
+  pub kept : (d : ℕ) × KeepsIn k t d u
+
+-- the total of the driver's slot u is one less, for the reference that the slot t kept and that is given up, and t is vacant and keeps nothing
+abbrev pub HasKeptSub : KeeperView → ℕ → ℕ → KeeperView → Type 0
+HasKeptSub k t u l = (d : ℕ) × KeepsIn k t d u × (l ≡ record k {
+  totals = slice_set k.totals u (total_at k.totals u - 1);
+  slots = slice_set k.slots t Vacant;
+  keeps = slice_set k.keeps t None;
+  counts = slice_set k.counts t (replicate 8 0);
+  given_up = one_more k.given_up d;
+})
+
+-- what a step tells, by its event
+
+abbrev pub LookedPassiveTold : Event → KeeperView → ℕ → KeeperView → Type 0
+LookedPassiveTold (PassiveLook t c) k w l = HasLookedPassive k t c w l
+LookedPassiveTold e k w l = ⊥
+
+abbrev pub CollectTold : Event → KeeperView → ℕ → KeeperView → Type 0
+CollectTold (Collect t c) k w l = HasCollected k t c w l
+CollectTold e k w l = ⊥
+
+abbrev pub TotalAddTold : Event → KeeperView → ℕ → KeeperView → Type 0
+TotalAddTold (TotalAdd t) k w l = HasAdded k t w l
+TotalAddTold e k w l = ⊥
+
+abbrev pub TotalSubTold : Event → KeeperView → KeeperView → Type 0
+TotalSubTold (TotalSub t) k l = HasSubtracted k t l
+TotalSubTold e k l = ⊥
+
+abbrev pub KeptSubTold : Event → KeeperView → KeeperView → Type 0
+KeptSubTold (KeptSub t) k l = (u : ℕ) × HasKeptSub k t u l
+KeptSubTold e k l = ⊥

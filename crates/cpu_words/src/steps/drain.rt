@@ -1,0 +1,126 @@
+//! Draining (psref(9), localcount(9)) by the keeper's seat: the passive words of all CPUs are seen to be 0, their count words are collected
+//! into the total, and references found collected are given up by the total.
+
+ghost use Rattle.std.specs.Prelude.{◌≡◌, ◌<◌, ℕ};
+ghost use Rattle.passive_core.specs.declared.event.Event.TheVariants.{PassiveLook, Collect, TotalAdd, TotalSub, JoinKeeper, KeptSub};
+ghost use Rattle.passive_core.specs.declared.event.Reply.TheVariants.{Done, Word};
+ghost use Rattle.cpu_words.specs.declared.view.View.TheVariants.{Keeper, Reference};
+ghost use Rattle.cpu_words.specs.Steps.{Makes, JoinsBy};
+ghost use Rattle.cpu_words.specs.Draining.{MayPassiveLook, HasLookedPassive, MayCollect, HasCollected, MayTotalAdd, HasAdded, MayTotalSub, HasSubtracted, MayJoinKeeper, giving_up, MayKeptSub, HasKeptSub};
+
+use crate::law::Words;
+use crate::seat::{KeeperSeat, ReferenceSeat};
+use crate::step::by_keeper;
+use crate::step::given_up::GivenUp;
+use passive_core::Event;
+use std::marker::Brand;
+
+/// Looks at the passive word of CPU `cpu` for the retired entry in `slot`: the CPU is clear where the word is 0. It answers the word, and
+/// is counted as a look.
+/// Condition: the keeper is at rest, the slot's entry is retired, the CPU is one of the table's, and all CPUs have passed for the slot.
+pub fn passive_look(words: &Words, keeper: &mut KeeperSeat, slot: u8, cpu: u8) -> u64
+    requires table { keeper.old.table ≡ words.now.table }
+    requires place { cpu < 8 }
+    requires may { MayPassiveLook keeper.old.view slot cpu }
+    ensures table { keeper.new.table ≡ keeper.old.table }
+    ensures event { Makes (PassiveLook slot cpu) (Word result) (Keeper keeper.old.view) (Keeper keeper.new.view) }
+    ensures change { HasLookedPassive keeper.old.view slot cpu result keeper.new.view }
+{
+    by_keeper::load::<Brand>(
+        words,
+        keeper,
+        80 * cpu as usize + 1 + slot as usize,
+        Event::PassiveLook(slot, cpu),
+    )
+}
+
+/// Collects the count word of CPU `cpu` for the retired entry in `slot`: the word becomes 0, and what it was is to be added to the slot's
+/// total. It answers what the word was.
+/// Condition: the keeper is at rest, the slot's entry is retired, the CPU is one of the table's, all CPUs have passed and are clear for the
+/// slot, and this CPU's word isn't collected yet.
+pub fn collect(words: &Words, keeper: &mut KeeperSeat, slot: u8, cpu: u8) -> u64
+    requires table { keeper.old.table ≡ words.now.table }
+    requires place { cpu < 8 }
+    requires may { MayCollect keeper.old.view slot cpu }
+    ensures table { keeper.new.table ≡ keeper.old.table }
+    ensures event { Makes (Collect slot cpu) (Word result) (Keeper keeper.old.view) (Keeper keeper.new.view) }
+    ensures change { HasCollected keeper.old.view slot cpu result keeper.new.view }
+{
+    by_keeper::swap::<Brand>(
+        words,
+        keeper,
+        80 * cpu as usize + 33 + slot as usize,
+        0,
+        Event::Collect(slot, cpu),
+    )
+}
+
+/// Adds a collected count word to the total of `slot`: stores `total`, which is the total as the keeper knows it, with the word and less its
+/// bias.
+/// Condition: the keeper has collected the word, and has not added it yet.
+pub fn total_add(words: &Words, keeper: &mut KeeperSeat, slot: u8, total: u64)
+    requires table { keeper.old.table ≡ words.now.table }
+    requires place { slot < 32 }
+    requires may { (old : ℕ) × MayTotalAdd keeper.old.view slot old total }
+    ensures table { keeper.new.table ≡ keeper.old.table }
+    ensures event { Makes (TotalAdd slot) Done (Keeper keeper.old.view) (Keeper keeper.new.view) }
+    ensures change { HasAdded keeper.old.view slot total keeper.new.view }
+{
+    by_keeper::store::<Brand>(
+        words,
+        keeper,
+        912 + slot as usize,
+        total,
+        Event::TotalAdd(slot),
+    );
+}
+
+/// Subtracts the local reference that is given up from the total of `slot`.
+/// Condition: the keeper has taken in a reference to the slot's entry, and has not subtracted it yet.
+pub fn total_sub(words: &Words, keeper: &mut KeeperSeat, slot: u8)
+    requires table { keeper.old.table ≡ words.now.table }
+    requires place { slot < 32 }
+    requires may { MayTotalSub keeper.old.view slot }
+    ensures table { keeper.new.table ≡ keeper.old.table }
+    ensures event { Makes (TotalSub slot) Done (Keeper keeper.old.view) (Keeper keeper.new.view) }
+    ensures change { HasSubtracted keeper.old.view slot keeper.new.view }
+{
+    by_keeper::subtract::<Brand>(words, keeper, 912 + slot as usize, 1, Event::TotalSub(slot));
+}
+
+/// Takes a local reference in, to be given up: its seat is spent, and it is to be subtracted from the total of its entry's slot.
+/// Condition: the keeper is at rest, and a count word was collected for the reference's entry: a release of the reference found it so, or
+/// the keeper has collected one.
+pub fn join_keeper(words: &Words, keeper: &mut KeeperSeat, reference: ReferenceSeat)
+    requires table { (keeper.old.table ≡ words.now.table) × (reference.table ≡ words.now.table) }
+    requires may { MayJoinKeeper keeper.old.view reference.view }
+    ensures table { keeper.new.table ≡ keeper.old.table }
+    ensures event { JoinsBy JoinKeeper (Keeper keeper.old.view) (Reference reference.view) (Keeper keeper.new.view) }
+    ensures change { keeper.new.view ≡ giving_up keeper.old.view reference.view }
+{
+    let ReferenceSeat { token } = reference;
+    words
+        .table
+        .shared
+        .join_seat::<GivenUp>(&mut keeper.token, token);
+}
+
+/// The retired interface in `slot` gives up the reference to the driver that it keeps: the total of the driver's slot, `driver_slot`, is one
+/// less, and the interface's slot is vacant and keeps nothing.
+/// Condition: the slot is drained, its entry is an interface, and the driver that it keeps is in `driver_slot`.
+pub fn kept_sub(words: &Words, keeper: &mut KeeperSeat, slot: u8, driver_slot: u8)
+    requires table { keeper.old.table ≡ words.now.table }
+    requires place { driver_slot < 32 }
+    requires may { MayKeptSub keeper.old.view slot driver_slot }
+    ensures table { keeper.new.table ≡ keeper.old.table }
+    ensures event { Makes (KeptSub slot) Done (Keeper keeper.old.view) (Keeper keeper.new.view) }
+    ensures change { HasKeptSub keeper.old.view slot driver_slot keeper.new.view }
+{
+    by_keeper::subtract::<Brand>(
+        words,
+        keeper,
+        912 + driver_slot as usize,
+        1,
+        Event::KeptSub(slot),
+    );
+}
