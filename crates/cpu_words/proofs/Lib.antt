@@ -8,3 +8,5 @@ pub mod KeeperSteps
 pub mod KeeperSees
 pub mod Marked
 pub mod Grace
+pub mod Leading
+pub mod Publishing

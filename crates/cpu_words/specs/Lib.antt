@@ -4,3 +4,4 @@ pub mod Rule
 pub mod Steps
 pub mod Sections
 pub mod Grace
+pub mod Publishing

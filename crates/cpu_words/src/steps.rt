@@ -2,7 +2,9 @@
 //! memory.
 
 pub mod grace;
+pub mod publishing;
 pub mod sections;
 
 pub use grace::look;
+pub use publishing::{publish, unpublish};
 pub use sections::enter;
