@@ -10,3 +10,4 @@ pub mod Marked
 pub mod Grace
 pub mod Leading
 pub mod Publishing
+pub mod Unpublishing
