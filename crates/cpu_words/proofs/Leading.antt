@@ -1,11 +1,10 @@
 -- What the live numbers of the keeper's view tell of the links: where they lead, and which of them leads to a slot.
-use Rattle.std.proofs.Common.{◌≡◌, ℕ, zero, suc, ◌<◌, ◌≤◌, ◌⊎◌, inl, inr, ⊎_elim, List, length, get_or, Option, Some, None, refl, sym, ap, ◌∙◌, subst, arith}
+use Rattle.std.proofs.Common.{◌≡◌, ℕ, zero, suc, ◌<◌, ◌≤◌, ⊎_elim, List, length, get_or, Option, Some, None, refl, sym, ap, ◌∙◌, subst, arith}
 use Rattle.std.proofs.lemmas.Bool.{cases_lt}
 use Rattle.passive_core.specs.declared.entry.Entry.{Entry}
 use Rattle.passive_core.specs.declared.entry.Change.{Change}
 use Rattle.passive_core.specs.declared.state.Slot.{Slot}
 use Rattle.passive_core.specs.declared.state.Slot.TheVariants.{Live}
-use Rattle.passive_core.specs.History.{IsLiveAt}
 use Rattle.passive_core.specs.State.{slot_at}
 use Rattle.passive_core.specs.Slots.{slot_before}
 use Rattle.passive_core.specs.Invariant.{SlotsShow, ListShows, Leads, To_end as No_entry, To_entry}
@@ -46,9 +45,9 @@ own_before h slots head next e (Some q) (Some r) show list size at before is =
     let top = link_to h slots e g.0.number (get_or next r 0) show at g.2 (list.links r g.0 g.1) in
     let least : f.number ≤ g.0.number = before.3 r g.0 g.1 top.0 in
     let most : g.0.number ≤ f.number = ⊎_elim
-        (λ (lt : f.number < g.0.number). absurd (omega (arith, top.1 f lf.0 lt, before.2)))
-        (λ (ge : g.0.number ≤ f.number). ge)
-        (cases_lt f.number g.0.number) in
+    (λ (lt : f.number < g.0.number). absurd (omega (arith, top.1 f lf.0 lt, before.2)))
+    (λ (ge : g.0.number ≤ f.number). ge)
+    (cases_lt f.number g.0.number) in
     let one : g.0 ≡ f = one_entry h g.0 f lg.0.attached lf.0.attached (omega (arith, least, most)) in
     ap Some (sym lg.1 ∙ ap (λ (i : Entry). i.slot) one ∙ lf.1)
 

@@ -1,50 +1,43 @@
 -- Publish on the words.
-use Rattle.std.proofs.Common.{◌≡◌, ◌≢◌, ◌⊎◌, inl, inr, ⊎_elim, ℕ, zero, suc, ◌+◌, ◌*◌, ◌≤◌, ◌<◌, ◌==◌, List, [], ◌∷◌, ◌++◌, length, replicate, take, get_or, set, sum_by, Option, Some, None, Bool, true, false, not, ◌&&◌, nat_lt, nat_le, refl, sym, ap, ◌∙◌, subst, arith, get_or-set_same, get_or-set_other}
+use Rattle.std.proofs.Common.{◌≡◌, inl, inr, ⊎_elim, ℕ, zero, suc, ◌+◌, ◌≤◌, ◌<◌, List, [], ◌∷◌, length, replicate, take, get_or, set, sum_by, Option, Some, true, false, refl, sym, ap, ◌∙◌, subst, arith, get_or-set_other}
 use Rattle.std.specs.List.{zip, list_all}
-use Rattle.std.proofs.lemmas.Bool.{and_from, lt-ltb, le-leb, eq-eqb, cases_eq}
+use Rattle.std.proofs.lemmas.Bool.{and_from, lt-ltb, le-leb, eq-eqb}
 use Rattle.std.proofs.lemmas.List.{get_or-replicate}
-use Rattle.std.specs.Prelude.{slice_index}
-use mathlib.Core.Option.{some}
-use mathlib.Core.List.{IsPrefix}
-use lib.ListN.{get_elem?}
-use Rattle.atomic_table.specs.Table.{State as Table, keeps, stepped}
 use Rattle.passive_core.specs.declared.entry.Entry.{Entry}
 use Rattle.passive_core.specs.declared.entry.Change.{Change}
 use Rattle.passive_core.specs.declared.entry.Change.TheVariants.{Attach}
 use Rattle.passive_core.specs.declared.settings.Settings.{Settings}
 use Rattle.passive_core.specs.declared.state.Slot.{Slot}
 use Rattle.passive_core.specs.declared.state.Slot.TheVariants.{Vacant, Live, Retired}
-use Rattle.passive_core.specs.declared.state.Mark.{Mark}
 use Rattle.passive_core.specs.declared.state.Due.TheVariants.{Rest}
 use Rattle.passive_core.specs.declared.state.RecordWords.{RecordWords}
 use Rattle.passive_core.specs.declared.event.Event.TheVariants.{Publish}
 use Rattle.passive_core.specs.declared.event.Reply.TheVariants.{Done}
 use Rattle.passive_core.specs.History.{after_change, key_of}
-use Rattle.passive_core.specs.State.{State, bias, slot_at, row_at, mark_at, passive_at, count_at, total_at, kept_at}
+use Rattle.passive_core.specs.State.{State, bias, slot_at, row_at, count_at, total_at, kept_at}
 use Rattle.passive_core.specs.Slots.{is_taken, live_count}
-use Rattle.passive_core.specs.Events.{step, entry_of, is_bias, keeps_rightly, may_publish}
-use Rattle.passive_core.specs.Invariant.{IsIn, Occupies}
+use Rattle.passive_core.specs.Events.{step, entry_of, is_bias, keeps_rightly}
+use Rattle.passive_core.specs.Invariant.{IsIn}
 use Rattle.passive_core.proofs.Cells.{cell_in_new, cell_in_old}
-use Rattle.passive_core.proofs.Fit.{Ranges, ranges}
+use Rattle.passive_core.proofs.Fit.{ranges}
 use Rattle.passive_core.proofs.History.{length-after_change}
-use Rattle.passive_core.proofs.Occupied.{slot_cases, in_other, in_published, in_within, not_vacant}
+use Rattle.passive_core.proofs.Occupied.{slot_cases, in_other, in_published, not_vacant}
 use Rattle.cpu_words.specs.declared.view.KeeperView.{KeeperView}
-use Rattle.cpu_words.specs.declared.view.View.{View}
 use Rattle.cpu_words.specs.declared.view.View.TheVariants.{Keeper}
 use Rattle.cpu_words.specs.Spots.{Spot, section_of, passive_of, count_of, head_word, next_of, record_of, total_of, IsSpot, word_at}
-use Rattle.cpu_words.specs.Views.{KeeperOwn, keeper_own, keeper_view, KeeperShown, GivesUp, number_at, collected_net, collected_one}
-use Rattle.cpu_words.specs.Rule.{Agrees, Good, Ruled}
+use Rattle.cpu_words.specs.Views.{keeper_own, keeper_view, KeeperShown, number_at, collected_net, collected_one}
+use Rattle.cpu_words.specs.Rule.{Agrees, Good}
 use Rattle.cpu_words.specs.Steps.{Makes, KeeperStores}
 use Rattle.cpu_words.specs.Publishing.{LeadsBelow, MayPublish, HasPublished, PublishTold}
 use Rattle.cpu_words.proofs.Passes.{prefix_on}
 use Rattle.cpu_words.proofs.Placing.{agrees_set}
-use Rattle.cpu_words.proofs.KeeperSteps.{KeeperLists, keeper_lists, with_keeper, LeavesCpus, Stayed, Came, keeper_makes}
-use Rattle.cpu_words.proofs.KeeperSees.{SeenByKeeper, seen_by_keeper}
+use Rattle.cpu_words.proofs.KeeperSteps.{KeeperLists, keeper_lists, with_keeper, LeavesCpus, Came, keeper_makes}
+use Rattle.cpu_words.proofs.KeeperSees.{seen_by_keeper}
 use Rattle.cpu_words.proofs.Leading.{one_link}
 
 -- what a publishing changes
-abbrev pub published : State → ℕ → Entry → KeeperLists
-published g t e = record (keeper_lists g) { head = t + 1; history = after_change g.history (Attach e); slots = set g.slots t (Live e); nets = set g.nets t (replicate 8 bias) }
+abbrev pub publish_lists : State → ℕ → Entry → KeeperLists
+publish_lists g t e = record (keeper_lists g) { head = t + 1; history = after_change g.history (Attach e); slots = set g.slots t (Live e); nets = set g.nets t (replicate 8 bias) }
 
 -- the same, as the core that shows the keeper's view has it
 pub record Publishes (g : State) (t : ℕ) (e : Entry) : Type 0 where
@@ -95,15 +88,26 @@ all_bias (suc n) [] each = refl
 all_bias (suc n) (x ∷ row) each = and_from (is_bias x) (list_all is_bias (take n row)) (eq-eqb x bias (each 0 (omega arith))) (all_bias n row (λ c lt. each (suc c) (omega arith)))
 
 -- the core makes the event
-made_publish : (g : State) (t : ℕ) (e : Entry) → Publishes g t e → step g (Publish t) ≡ Some (record { state = with_keeper g (published g t e); reply = Done })
+made_publish : (g : State) (t : ℕ) (e : Entry) → Publishes g t e → step g (Publish t) ≡ Some (record { state = with_keeper g (publish_lists g t e); reply = Done })
 made_publish g t e may =
     let number = eq-eqb e.number (length g.history + 1) (omega (arith, may.number)) in
     let room = le-leb (length g.history + live_count g.slots + 2) g.settings.change_limit may.room in
-    rw (may.entry, may.rest, lt-ltb t g.settings.slots may.slot, may.vacant, number, may.free, room, eq-eqb (get_or g.next t 0) g.head may.link,
-    all_bias g.settings.cpus (get_or g.counts t []) may.counts, eq-eqb (total_at g.totals t) bias may.total, may.keeps) refl
+    rw (
+      may.entry,
+      may.rest,
+      lt-ltb t g.settings.slots may.slot,
+      may.vacant,
+      number,
+      may.free,
+      room,
+      eq-eqb (get_or g.next t 0) g.head may.link,
+      all_bias g.settings.cpus (get_or g.counts t []) may.counts,
+      eq-eqb (total_at g.totals t) bias may.total,
+      may.keeps,
+    ) refl
 
 -- who was there stays, and who comes is new
-pub leaves_published : (g : State) (t : ℕ) (e : Entry) → Good g → Publishes g t e → LeavesCpus g (published g t e)
+pub leaves_published : (g : State) (t : ℕ) (e : Entry) → Good g → Publishes g t e → LeavesCpus g (publish_lists g t e)
 leaves_published g t e good may =
     let fit = ranges g.settings good.holds.fit in
     let in_nets : t < length g.nets = omega (arith, may.slot, good.holds.shape.nets) in
@@ -111,10 +115,11 @@ leaves_published g t e good may =
       seated = omega arith;
       more = (Attach e ∷ [], refl);
       stay = λ u f here. ⊎_elim
-          (λ (new : (u ≡ t) × (f ≡ e)). inr (subst (λ (p : ℕ × Entry). Came g (published g t e) p.0 p.1) (λ i. (sym new.0 i, sym new.1 i)) (
-          omega (arith, may.number),
-          λ c. good.holds.passive.vacant c t may.vacant,
-          λ c lt. cell_in_new 0 g.nets t (replicate 8 bias) c in_nets ∙ get_or-replicate 8 c bias 0 (omega (arith, lt, fit.cpus)))))
+          (λ (new : (u ≡ t) × (f ≡ e)). inr (subst (λ (p : ℕ × Entry). Came g (publish_lists g t e) p.0 p.1) (λ i. (sym new.0 i, sym new.1 i)) (
+            omega (arith, may.number),
+            λ c. good.holds.passive.vacant c t may.vacant,
+            λ c lt. cell_in_new 0 g.nets t (replicate 8 bias) c in_nets ∙ get_or-replicate 8 c bias 0 (omega (arith, lt, fit.cpus)),
+          )))
           (λ (old : IsIn f (slot_at g.slots u)). inl (old, λ c. cell_in_old 0 g.nets t (replicate 8 bias) u c (apart u f old)))
           (in_published g.slots t u e f may.within here);
       go = λ u f here. inl (in_other g.slots t (Live e) f u (apart u f here) here);
@@ -125,7 +130,7 @@ leaves_published g t e good may =
     apart u f here same = not_vacant f (slot_at g.slots u) (ap (slot_at g.slots) same ∙ may.vacant) here
 
 -- what the keeper's view shows after it
-pub shown_published : (g : State) (k : KeeperView) (t : ℕ) (e : Entry) → Good g → KeeperShown g k → Publishes g t e → KeeperShown (with_keeper g (published g t e)) (keeper_view (with_keeper g (published g t e)) (keeper_own k))
+pub shown_published : (g : State) (k : KeeperView) (t : ℕ) (e : Entry) → Good g → KeeperShown g k → Publishes g t e → KeeperShown (with_keeper g (publish_lists g t e)) (keeper_view (with_keeper g (publish_lists g t e)) (keeper_own k))
 shown_published g k t e good had may =
     let longer : length (after_change g.history (Attach e)) ≡ suc (length g.history) = length-after_change g.history (Attach e) in
     record {
@@ -162,14 +167,14 @@ publish_may z k t e may s r i at fits =
     let g = r.g in
     let had : KeeperShown g k = (r.shows.fits i (Keeper k) at).1 in
     let does = publishes g k t e r.good had may in
-    let l = published g t e in
+    let l = publish_lists g t e in
     let words : Agrees (set s.words 648 (t + 1)) (with_keeper g l) = agrees_set s.words g (with_keeper g l) head_word (t + 1) r.good.holds.fit r.words refl tt refl (others g) in
     let done = keeper_makes z s r i k 648 (t + 1) l (Publish t) Done (keeper_own k) at (made_publish g t e does) (leaves_published g t e r.good does) (λ n. refl) refl (shown_published g k t e r.good had does) words in
     let change : HasPublished k t e (keeper_view (with_keeper g l) (keeper_own k)) =
     ap (λ (v : KeeperView). record v { head = t + 1; history = after_change v.history (Attach e); slots = set v.slots t (Live e) }) (sym had.is) in
     (Keeper (keeper_view (with_keeper g l) (keeper_own k)), done.0, (refl, (done.1, (e, may, change))))
   where
-    others : (g : State) (q : Spot) → IsSpot g.settings q → (q ≡ head_word → ⊥) → word_at (with_keeper g (published g t e)) q ≡ word_at g q
+    others : (g : State) (q : Spot) → IsSpot g.settings q → (q ≡ head_word → ⊥) → word_at (with_keeper g (publish_lists g t e)) q ≡ word_at g q
     others g (section_of c) here off = refl
     others g (passive_of c u) here off = refl
     others g (count_of c u) here off = refl

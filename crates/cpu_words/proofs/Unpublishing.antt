@@ -1,13 +1,8 @@
 -- Unpublish on the words.
-use Rattle.std.proofs.Common.{◌≡◌, ◌≢◌, ◌⊎◌, inl, inr, ⊎_elim, ℕ, zero, suc, ◌+◌, ◌*◌, ◌≤◌, ◌<◌, List, [], ◌∷◌, length, replicate, get_or, set, sum_by, Option, Some, None, Bool, true, false, refl, sym, ap, ◌∙◌, subst, arith, get_or-set_same, get_or-set_other}
+use Rattle.std.proofs.Common.{◌≡◌, inl, inr, ⊎_elim, ℕ, zero, suc, ◌<◌, List, [], ◌∷◌, length, replicate, get_or, set, sum_by, Option, Some, None, refl, sym, ap, ◌∙◌, subst, arith, get_or-set_same, get_or-set_other}
 use Rattle.std.specs.List.{zip}
 use Rattle.std.proofs.lemmas.List.Sums.{sum_by-cons}
-use Rattle.std.specs.Prelude.{slice_index}
-use mathlib.Core.Option.{some}
-use lib.ListN.{get_elem?}
-use Rattle.atomic_table.specs.Table.{State as Table, keeps, stepped}
 use Rattle.passive_core.specs.declared.entry.Entry.{Entry}
-use Rattle.passive_core.specs.declared.entry.Change.{Change}
 use Rattle.passive_core.specs.declared.entry.Change.TheVariants.{Detach}
 use Rattle.passive_core.specs.declared.settings.Settings.{Settings}
 use Rattle.passive_core.specs.declared.state.Slot.{Slot}
@@ -18,30 +13,29 @@ use Rattle.passive_core.specs.declared.state.Due.TheVariants.{Rest, Snapshots}
 use Rattle.passive_core.specs.declared.event.Event.TheVariants.{Unpublish}
 use Rattle.passive_core.specs.declared.event.Reply.TheVariants.{Done}
 use Rattle.passive_core.specs.History.{after_change}
-use Rattle.passive_core.specs.State.{State, bias, no_mark, slot_at, mark_at, passive_at, count_at, total_at}
+use Rattle.passive_core.specs.State.{State, no_mark, slot_at}
 use Rattle.passive_core.specs.Slots.{slot_before, at_rest}
 use Rattle.passive_core.specs.Events.{step, guard, taken, unpublish, after_unpublish, unlinking, retiring}
-use Rattle.passive_core.specs.Invariant.{IsIn, Occupies, adding_at, is_adding_at}
-use Rattle.passive_core.proofs.Cells.{cell_in_new, cell_in_old, get_or_all}
+use Rattle.passive_core.specs.Invariant.{IsIn, adding_at, is_adding_at}
+use Rattle.passive_core.proofs.Cells.{cell_in_old, get_or_all}
 use Rattle.passive_core.proofs.History.{length-after_change}
-use Rattle.passive_core.proofs.Occupied.{place_cases, slot_cases, in_unpublished, in_other, in_written, in_within, live_one}
+use Rattle.passive_core.proofs.Occupied.{place_cases, slot_cases, in_unpublished, in_within, live_one}
 use Rattle.cpu_words.specs.declared.view.KeeperView.{KeeperView}
-use Rattle.cpu_words.specs.declared.view.View.{View}
 use Rattle.cpu_words.specs.declared.view.View.TheVariants.{Keeper}
-use Rattle.cpu_words.specs.Spots.{Spot, section_of, passive_of, count_of, head_word, next_of, record_of, total_of, IsSpot, word_at}
-use Rattle.cpu_words.specs.Views.{KeeperOwn, keeper_own, keeper_view, KeeperShown, GivesUp, number_at, collected_net, collected_one}
-use Rattle.cpu_words.specs.Rule.{Agrees, Good, Ruled}
+use Rattle.cpu_words.specs.Spots.{Spot, section_of, passive_of, count_of, head_word, next_of, record_of, total_of, word_at}
+use Rattle.cpu_words.specs.Views.{keeper_own, keeper_view, KeeperShown, GivesUp, collected_net, collected_one}
+use Rattle.cpu_words.specs.Rule.{Agrees, Good}
 use Rattle.cpu_words.specs.Steps.{Makes, KeeperStores}
-use Rattle.cpu_words.specs.Publishing.{LeadsBelow, IsBefore, MayUnpublish, HasUnpublished, UnpublishTold, unpublished, link_index, head_with, links_with}
+use Rattle.cpu_words.specs.Publishing.{LeadsBelow, IsBefore, MayUnpublish, HasUnpublished, UnpublishTold, having_unpublished, link_index, head_with, links_with}
 use Rattle.cpu_words.proofs.Passes.{prefix_on}
 use Rattle.cpu_words.proofs.Placing.{agrees_set}
-use Rattle.cpu_words.proofs.KeeperSteps.{KeeperLists, keeper_lists, with_keeper, LeavesCpus, Stayed, Came, keeper_makes}
-use Rattle.cpu_words.proofs.KeeperSees.{SeenByKeeper, seen_by_keeper}
+use Rattle.cpu_words.proofs.KeeperSteps.{KeeperLists, keeper_lists, with_keeper, LeavesCpus, keeper_makes}
+use Rattle.cpu_words.proofs.KeeperSees.{seen_by_keeper}
 use Rattle.cpu_words.proofs.Leading.{one_link, slot_before_is}
 
 -- what an unpublishing changes
-abbrev pub unlinked : State → ℕ → Entry → Option ℕ → ℕ → KeeperLists
-unlinked g t e p v = record (keeper_lists g) {
+abbrev pub unpublish_lists : State → ℕ → Entry → Option ℕ → ℕ → KeeperLists
+unpublish_lists g t e p v = record (keeper_lists g) {
   head = head_with g.head p v;
   next = links_with g.next p v;
   history = after_change g.history (Detach e.number);
@@ -85,12 +79,12 @@ unpublishes g k t p v good had may =
     }
 
 -- the store to the link, by where it is
-retired_by : (g : State) (t : ℕ) (e : Entry) (p : Option ℕ) (v : ℕ) → get_or g.next t 0 ≡ v → retiring (unlinking g t p) t e ≡ with_keeper g (unlinked g t e p v)
-retired_by g t e None v link = ap (λ (x : ℕ). with_keeper g (unlinked g t e None x)) link
-retired_by g t e (Some q) v link = ap (λ (x : ℕ). with_keeper g (unlinked g t e (Some q) x)) link
+retired_by : (g : State) (t : ℕ) (e : Entry) (p : Option ℕ) (v : ℕ) → get_or g.next t 0 ≡ v → retiring (unlinking g t p) t e ≡ with_keeper g (unpublish_lists g t e p v)
+retired_by g t e None v link = ap (λ (x : ℕ). with_keeper g (unpublish_lists g t e None x)) link
+retired_by g t e (Some q) v link = ap (λ (x : ℕ). with_keeper g (unpublish_lists g t e (Some q) x)) link
 
 -- the core makes the event
-made_unpublish : (g : State) (t : ℕ) (e : Entry) (p : Option ℕ) (v : ℕ) → Unpublishes g t e p v → step g (Unpublish t) ≡ Some (record { state = with_keeper g (unlinked g t e p v); reply = Done })
+made_unpublish : (g : State) (t : ℕ) (e : Entry) (p : Option ℕ) (v : ℕ) → Unpublishes g t e p v → step g (Unpublish t) ≡ Some (record { state = with_keeper g (unpublish_lists g t e p v); reply = Done })
 made_unpublish g t e p v may =
     ap (unpublish g t) may.live
     ∙ (ap (λ (d : Due). guard (at_rest d) (taken (after_unpublish g t e) Done)) may.rest
@@ -98,7 +92,7 @@ made_unpublish g t e p v may =
     ∙ ap (λ (a : State). taken a Done) (retired_by g t e p v may.link)))
 
 -- all occupants stay
-pub leaves_unlinked : (g : State) (t : ℕ) (e : Entry) (p : Option ℕ) (v : ℕ) → Unpublishes g t e p v → LeavesCpus g (unlinked g t e p v)
+pub leaves_unlinked : (g : State) (t : ℕ) (e : Entry) (p : Option ℕ) (v : ℕ) → Unpublishes g t e p v → LeavesCpus g (unpublish_lists g t e p v)
 leaves_unlinked g t e p v may = record {
   seated = omega arith;
   more = (Detach e.number ∷ [], refl);
@@ -126,11 +120,11 @@ none_collected f none (suc m) (n ∷ row) =
 
 -- the totals of the entries that are retired now
 gives_up_unlinked : (g : State) (k : KeeperView) (t : ℕ) (e : Entry) (p : Option ℕ) (v : ℕ) → KeeperShown g k → Unpublishes g t e p v
-    → (u : ℕ) (f : Entry) → slot_at (set g.slots t (Retired e)) u ≡ Retired f → GivesUp (with_keeper g (unlinked g t e p v)) k.given_up u f.number
+    → (u : ℕ) (f : Entry) → slot_at (set g.slots t (Retired e)) u ≡ Retired f → GivesUp (with_keeper g (unpublish_lists g t e p v)) k.given_up u f.number
 gives_up_unlinked g k t e p v had may u f retired = ⊎_elim
     (λ (same : (u ≡ t) × (slot_at (set g.slots t (Retired e)) u ≡ Retired e)).
     let one : f ≡ e = let q : Retired f ≡ Retired e = sym retired ∙ same.1 in cc in
-    subst (λ (x : ℕ × ℕ). GivesUp (with_keeper g (unlinked g t e p v)) k.given_up x.0 x.1) (λ i. (sym same.0 i, ap (λ (x : Entry). x.number) (sym one) i)) here)
+    subst (λ (x : ℕ × ℕ). GivesUp (with_keeper g (unpublish_lists g t e p v)) k.given_up x.0 x.1) (λ i. (sym same.0 i, ap (λ (x : Entry). x.number) (sym one) i)) here)
     (λ (off : (u ≡ t → ⊥) × (slot_at (set g.slots t (Retired e)) u ≡ slot_at g.slots u)).
     let was = had.gives_up u f (sym off.1 ∙ retired) in
     let row = get_or-set_other g.marks t u (replicate 8 no_mark) [] off.0 in
@@ -141,7 +135,7 @@ gives_up_unlinked g k t e p v had may u f retired = ⊎_elim
     omega (arith, was, net, one, adding, is_adding))
     (slot_cases g.slots t (Retired e) u may.within)
   where
-    here : GivesUp (with_keeper g (unlinked g t e p v)) k.given_up t e.number
+    here : GivesUp (with_keeper g (unpublish_lists g t e p v)) k.given_up t e.number
     here =
         let total = had.live_total t e may.live in
         let row = get_or-set_same g.marks t (replicate 8 no_mark) [] may.in_marks in
@@ -151,7 +145,7 @@ gives_up_unlinked g k t e p v had may u f retired = ⊎_elim
 
 -- what the keeper's view shows after it
 pub shown_unlinked : (g : State) (k : KeeperView) (t : ℕ) (e : Entry) (p : Option ℕ) (v : ℕ) → KeeperShown g k → Unpublishes g t e p v
-    → KeeperShown (with_keeper g (unlinked g t e p v)) (keeper_view (with_keeper g (unlinked g t e p v)) (keeper_own k))
+    → KeeperShown (with_keeper g (unpublish_lists g t e p v)) (keeper_view (with_keeper g (unpublish_lists g t e p v)) (keeper_own k))
 shown_unlinked g k t e p v had may =
     let longer : length (after_change g.history (Detach e.number)) ≡ suc (length g.history) = length-after_change g.history (Detach e.number) in
     record {
@@ -176,7 +170,7 @@ shown_unlinked g k t e p v had may =
     }
 
 -- no other word changes than the link of the slot before, or the head
-others_head : (g : State) (t : ℕ) (e : Entry) (v : ℕ) (q : Spot) → (q ≡ head_word → ⊥) → word_at (with_keeper g (unlinked g t e None v)) q ≡ word_at g q
+others_head : (g : State) (t : ℕ) (e : Entry) (v : ℕ) (q : Spot) → (q ≡ head_word → ⊥) → word_at (with_keeper g (unpublish_lists g t e None v)) q ≡ word_at g q
 others_head g t e v (section_of c) off = refl
 others_head g t e v (passive_of c u) off = refl
 others_head g t e v (count_of c u) off = refl
@@ -185,7 +179,7 @@ others_head g t e v (next_of u) off = refl
 others_head g t e v (record_of u j) off = refl
 others_head g t e v (total_of u) off = refl
 
-others_link : (g : State) (t : ℕ) (e : Entry) (p v : ℕ) (q : Spot) → (q ≡ next_of p → ⊥) → word_at (with_keeper g (unlinked g t e (Some p) v)) q ≡ word_at g q
+others_link : (g : State) (t : ℕ) (e : Entry) (p v : ℕ) (q : Spot) → (q ≡ next_of p → ⊥) → word_at (with_keeper g (unpublish_lists g t e (Some p) v)) q ≡ word_at g q
 others_link g t e p v (section_of c) off = refl
 others_link g t e p v (passive_of c u) off = refl
 others_link g t e p v (count_of c u) off = refl
@@ -194,11 +188,11 @@ others_link g t e p v (next_of u) off = get_or-set_other g.next p u v 0 (λ same
 others_link g t e p v (record_of u j) off = refl
 others_link g t e p v (total_of u) off = refl
 
-link_words : (words : List ℕ) (g : State) (t : ℕ) (e : Entry) (p : Option ℕ) (v : ℕ) → Good g → Agrees words g → Unpublishes g t e p v → Agrees (set words (link_index p) v) (with_keeper g (unlinked g t e p v))
-link_words words g t e None v good agrees may = agrees_set words g (with_keeper g (unlinked g t e None v)) head_word v good.holds.fit agrees refl tt refl (λ q _ off. others_head g t e v q off)
+link_words : (words : List ℕ) (g : State) (t : ℕ) (e : Entry) (p : Option ℕ) (v : ℕ) → Good g → Agrees words g → Unpublishes g t e p v → Agrees (set words (link_index p) v) (with_keeper g (unpublish_lists g t e p v))
+link_words words g t e None v good agrees may = agrees_set words g (with_keeper g (unpublish_lists g t e None v)) head_word v good.holds.fit agrees refl tt refl (λ q _ off. others_head g t e v q off)
 link_words words g t e (Some p) v good agrees may =
     let lt : p < g.settings.slots = may.place p refl in
-    agrees_set words g (with_keeper g (unlinked g t e (Some p) v)) (next_of p) v good.holds.fit agrees refl lt
+    agrees_set words g (with_keeper g (unpublish_lists g t e (Some p) v)) (next_of p) v good.holds.fit agrees refl lt
     (get_or-set_same g.next p v 0 (omega (arith, lt, good.holds.shape.links))) (λ q _ off. others_link g t e p v q off)
 
 -- one place is the link of one slot before
@@ -215,12 +209,20 @@ unpublish_at z k t p v may s r i at fits =
     let e = may.e in
     let had : KeeperShown g k = (r.shows.fits i (Keeper k) at).1 in
     let does = unpublishes g k t p v r.good had may in
-    let l = unlinked g t e p v in
+    let l = unpublish_lists g t e p v in
     let words = link_words s.words g t e p v r.good r.words does in
     let done = keeper_makes z s r i k (link_index p) v l (Unpublish t) Done (keeper_own k) at (made_unpublish g t e p v does) (leaves_unlinked g t e p v does) (λ n. refl) refl (shown_unlinked g k t e p v had does) words in
-    let change : keeper_view (with_keeper g l) (keeper_own k) ≡ unpublished k t e p v = ap (λ (y : KeeperView). unpublished y t e p v) (sym had.is) in
-    (Keeper (keeper_view (with_keeper g l) (keeper_own k)), done.0, (refl, (done.1,
-    λ o same. subst (λ (x : Option ℕ). HasUnpublished k t x v (keeper_view (with_keeper g l) (keeper_own k))) (one_place p o same) (e, may.live, change))))
+    let change : keeper_view (with_keeper g l) (keeper_own k) ≡ having_unpublished k t e p v = ap (λ (y : KeeperView). having_unpublished y t e p v) (sym had.is) in (
+      Keeper (keeper_view (with_keeper g l) (keeper_own k)),
+      done.0,
+      (
+        refl,
+        (
+          done.1,
+          λ o same. subst (λ (x : Option ℕ). HasUnpublished k t x v (keeper_view (with_keeper g l) (keeper_own k))) (one_place p o same) (e, may.live, change),
+        ),
+      ),
+    )
 
 pub unpublish_may : (z : Settings) (k : KeeperView) (t : ℕ) (p : Option ℕ) (v w : ℕ) → w ≡ link_index p → MayUnpublish k t p v
     → KeeperStores z k w v (λ y n l. Makes (Unpublish t) Done (Keeper y) (Keeper l) × UnpublishTold (Unpublish t) w v y l)

@@ -1,5 +1,5 @@
 -- Publish and Unpublish by the keeper's seat: one store of a link each, which the keeper knows from the live numbers of its own view.
-use Rattle.std.specs.Prelude.{◌≡◌, ℕ, suc, ◌+◌, ◌*◌, ◌<◌, ◌≤◌, Bool, true, false, List, length, replicate, slice_index_or, slice_set, Option, Some, None}
+use Rattle.std.specs.Prelude.{◌≡◌, ℕ, suc, ◌+◌, ◌*◌, ◌<◌, ◌≤◌, true, false, List, length, replicate, slice_index_or, slice_set, Option, Some, None}
 use Rattle.passive_core.specs.declared.entry.Entry.{Entry}
 use Rattle.passive_core.specs.declared.entry.Change.TheVariants.{Attach, Detach}
 use Rattle.passive_core.specs.declared.event.Event.{Event}
@@ -18,7 +18,7 @@ pub data LeadsBelow (slots : List Slot) (n : ℕ) : ℕ → Type 0 where
   To_end : ((t : ℕ) (f : Entry) → slot_at slots t ≡ Live f → f.number < n → ⊥) → LeadsBelow slots n 0
   To_slot : (t : ℕ) (f : Entry) → slot_at slots t ≡ Live f → f.number < n → ((u : ℕ) (h : Entry) → slot_at slots u ≡ Live h → h.number < n → h.number ≤ f.number) → LeadsBelow slots n (suc t)
 
--- the slot q has the least live number above n; none has a greater one
+-- p is the slot with the least live number above n, or None where none is above
 abbrev pub IsBefore : List Slot → ℕ → Option ℕ → Type 0
 IsBefore slots n None = (t : ℕ) (f : Entry) → slot_at slots t ≡ Live f → f.number ≤ n
 IsBefore slots n (Some q) = (f : Entry) × (slot_at slots q ≡ Live f) × (n < f.number) × ((u : ℕ) (h : Entry) → slot_at slots u ≡ Live h → n < h.number → f.number ≤ h.number)
@@ -78,8 +78,8 @@ links_with next None v = next
 links_with next (Some q) v = slice_set next q v
 
 -- the link before the slot t leads past it; its entry e is retired without marks, and all snapshots are due
-abbrev pub unpublished : KeeperView → ℕ → Entry → Option ℕ → ℕ → KeeperView
-unpublished k t e p v = record k {
+abbrev pub having_unpublished : KeeperView → ℕ → Entry → Option ℕ → ℕ → KeeperView
+having_unpublished k t e p v = record k {
   head = head_with k.head p v;
   next = links_with k.next p v;
   history = after_change k.history (Detach e.number);
@@ -89,7 +89,7 @@ unpublished k t e p v = record k {
 }
 
 abbrev pub HasUnpublished : KeeperView → ℕ → Option ℕ → ℕ → KeeperView → Type 0
-HasUnpublished k t p v l = (e : Entry) × (slot_at k.slots t ≡ Live e) × (l ≡ unpublished k t e p v)
+HasUnpublished k t p v l = (e : Entry) × (slot_at k.slots t ≡ Live e) × (l ≡ having_unpublished k t e p v)
 
 -- what an unpublishing tells, by its event and the word stored
 abbrev pub UnpublishTold : Event → ℕ → ℕ → KeeperView → KeeperView → Type 0

@@ -19,13 +19,15 @@ use std::marker::Brand;
 /// ends with its attach.
 /// Condition: the keeper is at rest, and all is stored that the entry needs. The slot's record has the next number (from 1) and a kind
 /// and name that no live entry has, its link leads to the newest live entry, its count words and its total stand for no reference, it
-/// keeps a driver exactly if the entry is an interface, and the history has room for this change and the detaches of all live entries.
+/// keeps a driver exactly if the entry is an interface, and the history has room for this change and for the detaches of all live
+/// entries, the new one too.
 pub fn publish(words: &Words, keeper: &mut KeeperSeat, slot: u8)
     requires table { keeper.old.table ≡ words.now.table.shared.table_id }
     requires may { (e : Entry) × MayPublish keeper.old.view slot e }
     ensures table { keeper.new.table ≡ keeper.old.table }
     ensures event { Makes (Publish slot) Done (Keeper keeper.old.view) (Keeper keeper.new.view) }
-    ensures change { (e : Entry) × MayPublish keeper.old.view slot e × HasPublished keeper.old.view slot e keeper.new.view }
+    ensures change { (e : Entry) × MayPublish keeper.old.view slot e
+        × HasPublished keeper.old.view slot e keeper.new.view }
 {
     by_keeper::store::<Brand>(words, keeper, 648, slot as u64 + 1, Event::Publish(slot));
 }
@@ -43,7 +45,13 @@ pub fn unpublish(words: &Words, keeper: &mut KeeperSeat, slot: u8, before: Optio
     ensures event { Makes (Unpublish slot) Done (Keeper keeper.old.view) (Keeper keeper.new.view) }
     ensures change { HasUnpublished keeper.old.view slot before link keeper.new.view }
 {
-    by_keeper::store::<Brand>(words, keeper, link_place(before), link, Event::Unpublish(slot));
+    by_keeper::store::<Brand>(
+        words,
+        keeper,
+        link_place(before),
+        link,
+        Event::Unpublish(slot),
+    );
 }
 
 /// The place of the link of the slot before, or of the head.

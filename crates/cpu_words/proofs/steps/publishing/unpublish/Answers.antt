@@ -1,4 +1,3 @@
-use Rattle.std.proofs.Common.{rules, arith}
 use Rattle.cpu_words.proofs.Unpublishing.{unpublish_may}
 use Rattle.cpu_words.proofs.steps.publishing.unpublish.Goals as goal
 
