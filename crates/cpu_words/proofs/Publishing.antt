@@ -39,7 +39,7 @@ use Rattle.cpu_words.proofs.Leading.{one_link}
 abbrev pub publish_lists : State → ℕ → Entry → KeeperLists
 publish_lists g t e = record (keeper_lists g) { head = t + 1; history = after_change g.history (Attach e); slots = set g.slots t (Live e); nets = set g.nets t (replicate 8 bias) }
 
--- the same, as the core that shows the keeper's view has it
+-- what may be published, as the core that shows the keeper's view has it
 pub record Publishes (g : State) (t : ℕ) (e : Entry) : Type 0 where
   pub rest : g.due ≡ Rest
   pub slot : t < g.settings.slots

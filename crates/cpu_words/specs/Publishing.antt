@@ -25,7 +25,7 @@ IsBefore slots n (Some q) = (f : Entry) × (slot_at slots q ≡ Live f) × (n < 
 
 -- Publish
 
--- all is stored in the vacant slot t that the entry e needs: its record, its counts, and its link to the newest live entry
+-- all is stored in the vacant slot t that the entry e needs: its record, its counts, its total, its link to the newest live entry, and the driver that it keeps
 pub record MayPublish (k : KeeperView) (t : ℕ) (e : Entry) : Type 0 where
   pub rest : k.due ≡ Rest
   pub slot : t < k.settings.slots
