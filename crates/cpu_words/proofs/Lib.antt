@@ -22,3 +22,6 @@ pub mod Draining
 pub mod Totals
 pub mod Drained
 pub mod KeptDrivers
+pub mod Leading
+pub mod Publishing
+pub mod Unpublishing

@@ -11,3 +11,4 @@ pub mod Passives
 pub mod Reading
 pub mod Searching
 pub mod Draining
+pub mod Publishing

@@ -1,0 +1,5 @@
+use Rattle.cpu_words.proofs.Publishing.{publish_may}
+use Rattle.cpu_words.proofs.steps.publishing.publish.Goals as goal
+
+pub store-requires-clause-may : goal.store-requires-clause-may
+store-requires-clause-may c = publish_may _ _ _ c.requires.may.0 c.requires.may.1

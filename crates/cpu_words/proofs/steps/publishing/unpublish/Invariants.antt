@@ -1,0 +1,8 @@
+use Rattle.passive_core.specs.declared.event.Reply.TheVariants.{Done}
+use Rattle.cpu_words.specs.declared.view.View.TheVariants.{Keeper}
+use Rattle.cpu_words.specs.Steps.{Makes}
+use Rattle.cpu_words.specs.Publishing.{UnpublishTold}
+use Rattle.cpu_words.proofs.steps.publishing.unpublish.Given as goal
+
+abbrev pub ghosts-store : goal.ghosts-store
+ghosts-store a = record { tells = λ k n l. Makes a.event Done (Keeper k) (Keeper l) × UnpublishTold a.event a.word a.value k l }

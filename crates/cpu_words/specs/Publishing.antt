@@ -1,0 +1,97 @@
+-- Publish and Unpublish by the keeper's seat: one store of a link each, which the keeper knows from the live numbers of its own view.
+use Rattle.std.specs.Prelude.{◌≡◌, ℕ, suc, ◌+◌, ◌*◌, ◌<◌, ◌≤◌, true, false, List, length, replicate, slice_index_or, slice_set, Option, Some, None}
+use Rattle.passive_core.specs.declared.entry.Entry.{Entry}
+use Rattle.passive_core.specs.declared.entry.Change.TheVariants.{Attach, Detach}
+use Rattle.passive_core.specs.declared.event.Event.{Event}
+use Rattle.passive_core.specs.declared.event.Event.TheVariants.{Publish, Unpublish}
+use Rattle.passive_core.specs.declared.state.Slot.{Slot}
+use Rattle.passive_core.specs.declared.state.Slot.TheVariants.{Vacant, Live, Retired}
+use Rattle.passive_core.specs.declared.state.Due.TheVariants.{Rest, Snapshots}
+use Rattle.passive_core.specs.History.{after_change, key_of}
+use Rattle.passive_core.specs.State.{bias, no_mark, slot_at, row_at, count_at, total_at, kept_at}
+use Rattle.passive_core.specs.Slots.{is_taken, live_count}
+use Rattle.passive_core.specs.Events.{entry_of, keeps_rightly}
+use Rattle.cpu_words.specs.declared.view.KeeperView.{KeeperView}
+
+-- the link x leads to the greatest live number below n, or to the end where there is none
+pub data LeadsBelow (slots : List Slot) (n : ℕ) : ℕ → Type 0 where
+  To_end : ((t : ℕ) (f : Entry) → slot_at slots t ≡ Live f → f.number < n → ⊥) → LeadsBelow slots n 0
+  To_slot : (t : ℕ) (f : Entry) → slot_at slots t ≡ Live f → f.number < n → ((u : ℕ) (h : Entry) → slot_at slots u ≡ Live h → h.number < n → h.number ≤ f.number) → LeadsBelow slots n (suc t)
+
+-- p is the slot with the least live number above n, or None where none is above
+abbrev pub IsBefore : List Slot → ℕ → Option ℕ → Type 0
+IsBefore slots n None = (t : ℕ) (f : Entry) → slot_at slots t ≡ Live f → f.number ≤ n
+IsBefore slots n (Some q) = (f : Entry) × (slot_at slots q ≡ Live f) × (n < f.number) × ((u : ℕ) (h : Entry) → slot_at slots u ≡ Live h → n < h.number → f.number ≤ h.number)
+
+-- Publish
+
+-- all is stored in the vacant slot t that the entry e needs: its record, its counts, its total, its link to the newest live entry, and the driver that it keeps
+pub record MayPublish (k : KeeperView) (t : ℕ) (e : Entry) : Type 0 where
+  pub rest : k.due ≡ Rest
+  pub slot : t < k.settings.slots
+  pub vacant : slot_at k.slots t ≡ Vacant
+  pub entry : entry_of t (row_at k.rows t) ≡ Some e
+  pub number : e.number ≡ suc (length k.history)
+  pub free : is_taken (key_of e) k.slots ≡ false
+  pub room : length k.history + live_count k.slots + 2 ≤ k.settings.change_limit
+  pub link : LeadsBelow k.slots (suc (length k.history)) (slice_index_or k.next t 0)
+  pub counts : (c : ℕ) → c < k.settings.cpus → count_at k.counts c t ≡ bias
+  pub total : total_at k.totals t ≡ bias
+  pub keeps : keeps_rightly (kept_at k.keeps t) e.rec.kind ≡ true
+
+-- the head leads to the slot t, whose entry e is live, and the history ends with its attach
+abbrev pub HasPublished : KeeperView → ℕ → Entry → KeeperView → Type 0
+HasPublished k t e l = l ≡ record k { head = t + 1; history = after_change k.history (Attach e); slots = slice_set k.slots t (Live e) }
+
+-- what a publishing tells, by its event
+abbrev pub PublishTold : Event → KeeperView → KeeperView → Type 0
+PublishTold (Publish t) k l = (e : Entry) × MayPublish k t e × HasPublished k t e l
+PublishTold e k l = ⊥
+
+-- Unpublish
+
+-- the link of the entry before, or the head where there is none
+abbrev pub link_index : Option ℕ → ℕ
+link_index None = 648
+link_index (Some q) = 656 + 8 * q
+
+-- the slot is one that a table can have
+abbrev pub IsLinkPlace : Option ℕ → Type 0
+IsLinkPlace None = Unit {0}
+IsLinkPlace (Some q) = q < 32
+
+-- the slot t is live, p is the slot before it, and the link v leads to what is below it
+pub record MayUnpublish (k : KeeperView) (t : ℕ) (p : Option ℕ) (v : ℕ) : Type 0 where
+  pub rest : k.due ≡ Rest
+  pub e : Entry
+  pub live : slot_at k.slots t ≡ Live e
+  pub before : IsBefore k.slots e.number p
+  pub link : LeadsBelow k.slots e.number v
+
+-- the head and the links, as the link v is stored where the slot before tells
+abbrev pub head_with : ℕ → Option ℕ → ℕ → ℕ
+head_with head None v = v
+head_with head (Some q) v = head
+
+abbrev pub links_with : List ℕ → Option ℕ → ℕ → List ℕ
+links_with next None v = next
+links_with next (Some q) v = slice_set next q v
+
+-- the link before the slot t leads past it; its entry e is retired without marks, and all snapshots are due
+abbrev pub having_unpublished : KeeperView → ℕ → Entry → Option ℕ → ℕ → KeeperView
+having_unpublished k t e p v = record k {
+  head = head_with k.head p v;
+  next = links_with k.next p v;
+  history = after_change k.history (Detach e.number);
+  slots = slice_set k.slots t (Retired e);
+  marks = slice_set k.marks t (replicate 8 no_mark);
+  due = Snapshots t 0;
+}
+
+abbrev pub HasUnpublished : KeeperView → ℕ → Option ℕ → ℕ → KeeperView → Type 0
+HasUnpublished k t p v l = (e : Entry) × (slot_at k.slots t ≡ Live e) × (l ≡ having_unpublished k t e p v)
+
+-- what an unpublishing tells, by its event and the word stored
+abbrev pub UnpublishTold : Event → ℕ → ℕ → KeeperView → KeeperView → Type 0
+UnpublishTold (Unpublish t) w v k l = (p : Option ℕ) → link_index p ≡ w → HasUnpublished k t p v l
+UnpublishTold e w v k l = ⊥

@@ -1,0 +1,65 @@
+//! The list of live entries, newest first: an entry is published by one store to the head, and unpublished by one store to the link
+//! that leads to it.
+
+ghost use Rattle.std.specs.Prelude.{◌≡◌, ◌<◌, Some, None};
+ghost use Rattle.passive_core.specs.declared.entry.Entry.{Entry};
+ghost use Rattle.passive_core.specs.declared.event.Event.TheVariants.{Publish, Unpublish};
+ghost use Rattle.passive_core.specs.declared.event.Reply.TheVariants.{Done};
+ghost use Rattle.cpu_words.specs.declared.view.View.TheVariants.{Keeper};
+ghost use Rattle.cpu_words.specs.Steps.{Makes};
+ghost use Rattle.cpu_words.specs.Publishing.{MayPublish, HasPublished, MayUnpublish, HasUnpublished, IsLinkPlace, link_index};
+
+use crate::law::Words;
+use crate::seat::KeeperSeat;
+use crate::step::by_keeper;
+use passive_core::Event;
+use std::marker::Brand;
+
+/// Publishes the entry whose words the vacant slot `slot` has: the head is stored, from now on searches find the entry, and the history
+/// ends with its attach.
+/// Condition: the keeper is at rest, and all is stored that the entry needs. The slot's record has the next number (from 1) and a kind
+/// and name that no live entry has, its link leads to the newest live entry, its count words and its total stand for no reference, it
+/// keeps a driver exactly if the entry is an interface, and the history has room for this change and for the detaches of all live
+/// entries, the new one too.
+pub fn publish(words: &Words, keeper: &mut KeeperSeat, slot: u8)
+    requires table { keeper.old.table ≡ words.now.table }
+    requires may { (e : Entry) × MayPublish keeper.old.view slot e }
+    ensures table { keeper.new.table ≡ keeper.old.table }
+    ensures event { Makes (Publish slot) Done (Keeper keeper.old.view) (Keeper keeper.new.view) }
+    ensures change { (e : Entry) × MayPublish keeper.old.view slot e
+        × HasPublished keeper.old.view slot e keeper.new.view }
+{
+    by_keeper::store::<Brand>(words, keeper, 648, slot as u64 + 1, Event::Publish(slot));
+}
+
+/// Unpublishes the live entry in `slot`: the one link that leads to it is stored, and leads past it. The entry is retired, its own link
+/// stays as it is, and the snapshots of all CPUs are due.
+/// `before` is the slot of the live entry with the least greater number, or none where the entry is the newest; `link` is the slot (from
+/// 0) plus 1 of the live entry with the greatest smaller number, or 0 where there is none.
+/// Condition: the keeper is at rest, and the slot's entry is live.
+pub fn unpublish(words: &Words, keeper: &mut KeeperSeat, slot: u8, before: Option<u8>, link: u64)
+    requires table { keeper.old.table ≡ words.now.table }
+    requires place { IsLinkPlace before }
+    requires may { MayUnpublish keeper.old.view slot before link }
+    ensures table { keeper.new.table ≡ keeper.old.table }
+    ensures event { Makes (Unpublish slot) Done (Keeper keeper.old.view) (Keeper keeper.new.view) }
+    ensures change { HasUnpublished keeper.old.view slot before link keeper.new.view }
+{
+    by_keeper::store::<Brand>(
+        words,
+        keeper,
+        link_place(before),
+        link,
+        Event::Unpublish(slot),
+    );
+}
+
+/// The place of the link of the slot before, or of the head.
+fn link_place(before: Option<u8>) -> usize
+    ensures place { result ≡ link_index before }
+{
+    match before {
+        None => 648,
+        Some(slot) => 656 + 8 * slot as usize,
+    }
+}
