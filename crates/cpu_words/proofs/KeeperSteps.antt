@@ -38,6 +38,7 @@ use Rattle.cpu_words.specs.declared.view.ReferenceView.{ReferenceView}
 use Rattle.cpu_words.specs.declared.view.View.{View}
 use Rattle.cpu_words.specs.declared.view.View.TheVariants.{Keeper, Cpu, Reference, Note, Spent}
 use Rattle.cpu_words.specs.Views.{CpuOwn, KeeperOwn, own_of, cpu_view, keeper_view, references_to, is_to, SameHand, HandFits, IsCollectedFor, CpuShown, KeeperShown, ReferenceShown, Shown}
+use Rattle.cpu_words.specs.Spots.{Spot, section_of, passive_of, count_of, head_word, next_of, record_of, total_of, word_at}
 use Rattle.cpu_words.specs.Rule.{Agrees, Sits, Shows, IsFresh, Good, Ruled, reference_to}
 use Rattle.cpu_words.specs.Steps.{Makes}
 use Rattle.cpu_words.proofs.Showing.{standing_in, IsBacked, Stay, shows_set}
@@ -219,3 +220,37 @@ leaves_all g l history seated slots nets collected = record {
   go = λ t e here. inl (subst (λ (x : List Slot). IsIn e (slot_at x t)) (sym slots) here);
   collected = λ t c e retired is there. (subst (λ (x : List Slot). slot_at x t ≡ Retired e) (sym slots) retired, collected t c is);
 }
+
+-- Other places of references, another thing that is due, and other references that slots keep: no other view speaks of them, and no word is theirs.
+
+abbrev pub beside : State → List LocalPlace → Due → List (Option ℕ) → KeeperLists
+beside g locals due kept = record (keeper_lists g) { locals = locals; due = due; keeps = kept }
+
+pub beside_stays : (g : State) (locals : List LocalPlace) (due : Due) (kept : List (Option ℕ)) (seat : ℕ → ℕ) (i : ℕ) → i ≡ 0 → Stay g (with_keeper g (beside g locals due kept)) seat i
+beside_stays g locals due kept seat i mine j (Keeper k) ne sits shown backed = absurd (ne (sits ∙ sym mine))
+beside_stays g locals due kept seat i mine j (Cpu y) ne sits shown backed = record {
+  seated = shown.seated;
+  is = shown.is;
+  hand = shown.hand;
+  in_hand = shown.in_hand;
+  depth = shown.depth;
+  passive = shown.passive;
+  gone = shown.gone;
+  nets = shown.nets;
+  later = shown.later;
+  found = shown.found;
+  references = shown.references;
+  heard = shown.heard;
+}
+beside_stays g locals due kept seat i mine j (Reference v) ne sits shown backed = record { attached = shown.attached; collected = shown.collected }
+beside_stays g locals due kept seat i mine j (Note h) ne sits shown backed = shown
+beside_stays g locals due kept seat i mine j Spent ne sits shown backed = tt
+
+pub beside_words : (g : State) (locals : List LocalPlace) (due : Due) (kept : List (Option ℕ)) (q : Spot) → word_at (with_keeper g (beside g locals due kept)) q ≡ word_at g q
+beside_words g locals due kept (section_of d) = refl
+beside_words g locals due kept (passive_of d u) = refl
+beside_words g locals due kept (count_of d u) = refl
+beside_words g locals due kept head_word = refl
+beside_words g locals due kept (next_of u) = refl
+beside_words g locals due kept (record_of u j) = refl
+beside_words g locals due kept (total_of u) = refl

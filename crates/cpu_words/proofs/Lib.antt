@@ -10,6 +10,7 @@ pub mod KeeperSees
 pub mod Marked
 pub mod Grace
 pub mod Vacating
+pub mod Keeping
 pub mod Storing
 pub mod Hands
 pub mod Counting

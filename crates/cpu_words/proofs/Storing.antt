@@ -33,7 +33,7 @@ use Rattle.cpu_words.specs.Storing.{HasRecordWord, HasCountWord, HasLink}
 use Rattle.cpu_words.proofs.Placing.{agrees_set}
 use Rattle.cpu_words.proofs.KeeperSteps.{KeeperLists, keeper_lists, with_keeper, leaves_all, keeper_makes}
 use Rattle.cpu_words.proofs.KeeperSees.{SeenByKeeper, seen_by_keeper}
-use Rattle.cpu_words.proofs.Vacating.{vacates, moves_after}
+use Rattle.cpu_words.proofs.Vacating.{vacates, moves_after, same_beside}
 
 -- the keeper is at rest, and the slot is vacant
 record MayStore (k : KeeperView) (t : ℕ) : Type 0 where
@@ -74,12 +74,6 @@ taking z k t i v T may stores = ⊎_elim
         let done = moves_after z (Keeper k) (Keeper (vacated k t)) i (λ _. v) (λ _ w. (w ≡ Keeper (keeper_of w)) × T (vacated k t) (keeper_of w)) (Makes (Vacate t) Done (Keeper k) (Keeper (vacated k t))) (vacates z k t drained) (stores (vacated k t) now) s r id at fits in
         (done.0, done.1, (done.2.1.0, (inr (subst (λ (x : KeeperView). Makes (Vacate t) Done (Keeper k) (Keeper x)) same done.2.0), subst (λ (x : KeeperView). T x (keeper_of done.0)) same done.2.1.1))))
     may.vacant
-
--- the words beside its counts stay as a slot is taken as vacant
-same_beside : (x : Slot) (k : KeeperView) (t : ℕ) → ((vacant_from x k t).next ≡ k.next) × ((vacant_from x k t).rows ≡ k.rows)
-same_beside Vacant k t = (refl, refl)
-same_beside (Live e) k t = (refl, refl)
-same_beside (Retired e) k t = (refl, refl)
 
 -- Links
 

@@ -40,7 +40,7 @@ use Rattle.cpu_words.specs.Steps.{Makes, JoinsBy, KeeperMay, KeeperStores}
 use Rattle.cpu_words.specs.Draining.{MayTotalAdd, TotalAddTold, MayTotalSub, TotalSubTold, MayJoinKeeper, giving_up, with_given_up}
 use Rattle.cpu_words.proofs.Placing.{agrees_set, agrees_same}
 use Rattle.cpu_words.proofs.Showing.{standing_in, backed, Stay, shows_join}
-use Rattle.cpu_words.proofs.KeeperSteps.{KeeperLists, keeper_lists, with_keeper, leaves_all, keeper_good_after, keeper_makes}
+use Rattle.cpu_words.proofs.KeeperSteps.{beside, beside_stays, beside_words, KeeperLists, keeper_lists, with_keeper, leaves_all, keeper_good_after, keeper_makes}
 use Rattle.cpu_words.proofs.Standing.{standing_place}
 use Rattle.cpu_words.proofs.KeeperSees.{seen_by_keeper}
 
@@ -230,28 +230,7 @@ total_sub_may z k t may s r i at fits =
 
 -- a reference is the keeper's, and is to be subtracted from the total of t
 abbrev joining : State → ℕ → ℕ → KeeperLists
-joining g id t = record (keeper_lists g) { locals = set g.locals id Free; due = Subtracting t }
-
--- the other views speak of no place of a reference, and not of what is due
-joined_stays : (g : State) (id t : ℕ) (seat : ℕ → ℕ) (i : ℕ) → i ≡ 0 → Stay g (with_keeper g (joining g id t)) seat i
-joined_stays g id t seat i mine j (Keeper k) ne sits shown backed = absurd (ne (sits ∙ sym mine))
-joined_stays g id t seat i mine j (Cpu y) ne sits shown backed = record {
-  seated = shown.seated;
-  is = shown.is;
-  hand = shown.hand;
-  in_hand = shown.in_hand;
-  depth = shown.depth;
-  passive = shown.passive;
-  gone = shown.gone;
-  nets = shown.nets;
-  later = shown.later;
-  found = shown.found;
-  references = shown.references;
-  heard = shown.heard;
-}
-joined_stays g id t seat i mine j (Reference v) ne sits shown backed = record { attached = shown.attached; collected = shown.collected }
-joined_stays g id t seat i mine j (Note h) ne sits shown backed = shown
-joined_stays g id t seat i mine j Spent ne sits shown backed = tt
+joining g id t = beside g (set g.locals id Free) (Subtracting t) g.keeps
 
 -- a count word was collected for the reference's entry, which is retired
 record CollectedOf (g : State) (v : ReferenceView) : Type 0 where
@@ -332,18 +311,9 @@ joins_at z i k o v may s r at apart there =
       seat = r.seat;
       settings = r.settings;
       good = law.good_after;
-      words = agrees_same s.words g law.after r.words refl (λ q _. same_words g law.id v.entry.slot q);
-      shows = shows_join g law.after r.seat s.views i (Keeper k) o (Reference v) both r.shows at apart was (joined_stays g law.id v.entry.slot r.seat i had.0) (had.0, law.shown) law.count there;
+      words = agrees_same s.words g law.after r.words refl (λ q _. beside_words g (set g.locals law.id Free) (Subtracting v.entry.slot) g.keeps q);
+      shows = shows_join g law.after r.seat s.views i (Keeper k) o (Reference v) both r.shows at apart was (beside_stays g (set g.locals law.id Free) (Subtracting v.entry.slot) g.keeps r.seat i had.0) (had.0, law.shown) law.count there;
     }
-  where
-    same_words : (g : State) (id t : ℕ) (q : Spot) → word_at (with_keeper g (joining g id t)) q ≡ word_at g q
-    same_words g id t (section_of d) = refl
-    same_words g id t (passive_of d u) = refl
-    same_words g id t (count_of d u) = refl
-    same_words g id t head_word = refl
-    same_words g id t (next_of u) = refl
-    same_words g id t (record_of u j) = refl
-    same_words g id t (total_of u) = refl
 
 -- the same of seats' views
 pub joins_keeper : (z : Settings) (i : ℕ) (x : View) (o : ℕ) (u : View) (k : KeeperView) (v : ReferenceView) → x ≡ Keeper (keeper_of x) → keeper_of x ≡ k → u ≡ Reference (reference_of u) → reference_of u ≡ v → MayJoinKeeper k v

@@ -29,10 +29,10 @@ use Rattle.cpu_words.specs.declared.view.View.{View}
 use Rattle.cpu_words.specs.declared.view.View.TheVariants.{Keeper}
 use Rattle.cpu_words.specs.Views.{KeeperOwn, keeper_own, keeper_view, KeeperShown, GivesUp}
 use Rattle.cpu_words.specs.Rule.{Agrees, Good, Ruled}
-use Rattle.cpu_words.specs.Steps.{Makes, Moves}
+use Rattle.cpu_words.specs.Steps.{ChangesBy, Makes, Moves}
 use Rattle.cpu_words.specs.Vacating.{IsDrained, MayVacate, vacated, vacant_from, as_vacant, MayWrite, IsTakenAsVacant}
 use Rattle.cpu_words.proofs.Placing.{agrees_same}
-use Rattle.cpu_words.proofs.KeeperSteps.{KeeperLists, keeper_lists, with_keeper, LeavesCpus, Stayed, Came, keeper_makes}
+use Rattle.cpu_words.proofs.KeeperSteps.{KeeperLists, keeper_lists, with_keeper, keeper_good_after, keeper_makes}
 use Rattle.cpu_words.proofs.Drained.{Drained, drained_of, vacating, vacated_leaves, vacated_counts, stood}
 use Rattle.cpu_words.proofs.KeeperSees.{SeenByKeeper, seen_by_keeper, loads}
 
@@ -57,6 +57,27 @@ shown_vacated g k t e had drained = record {
 abbrev pub with_view : Table ℕ View → ℕ → View → Table ℕ View
 with_view s i v = record s { views = set s.views i v }
 
+-- Vacate is the change of the view alone
+pub vacate_by : (k : KeeperView) (t : ℕ) → MayVacate k t → ChangesBy (Vacate t) (Keeper k) (Keeper (vacated k t))
+vacate_by k t may g good had =
+    let drained = drained_of g k t good had may.drained in
+    let e = may.drained.retired.0 in
+    let keeps_none : kept_at g.keeps t ≡ None = ap (λ (x : List (Option ℕ)). kept_at x t) (sym (seen_by_keeper g k good had).keeps) ∙ may.keeps_nothing in
+    let made : step g (Vacate t) ≡ Some (record { state = after_vacate g t; reply = Done }) = rw (keeps_none, drained.is) refl in
+    let is : keeper_view (with_keeper g (emptied g t)) (keeper_own (vacated k t)) ≡ vacated k t = ap (λ (v : KeeperView). record v { slots = set v.slots t Vacant; counts = set k.counts t (replicate 8 0) }) (sym had.is) in
+    record {
+      after = with_keeper g (emptied g t);
+      made = made;
+      good_after = keeper_good_after g (emptied g t) (Vacate t) Done good (vacated_leaves g t e g.totals g.keeps good drained) made;
+      shown = subst (λ (v : KeeperView). KeeperShown (with_keeper g (emptied g t)) v) is (shown_vacated g k t e had drained);
+    }
+
+-- the words beside its counts stay as a slot is taken as vacant
+pub same_beside : (x : Slot) (k : KeeperView) (t : ℕ) → ((vacant_from x k t).next ≡ k.next) × ((vacant_from x k t).rows ≡ k.rows) × ((vacant_from x k t).keeps ≡ k.keeps)
+same_beside Vacant k t = (refl, refl, refl)
+same_beside (Live e) k t = (refl, refl, refl)
+same_beside (Retired e) k t = (refl, refl, refl)
+
 -- the rule holds on as the keeper takes a drained slot as vacant
 pub vacates : (z : Settings) (k : KeeperView) (t : ℕ) → MayVacate k t → (s : Table ℕ View) → Ruled z s → (i : ℕ) → get_elem? s.views i ≡ some (Keeper k)
     → Ruled z (with_view s i (Keeper (vacated k t))) × Makes (Vacate t) Done (Keeper k) (Keeper (vacated k t))
@@ -78,12 +99,12 @@ vacates z k t may s r i at =
      subst (λ (v : KeeperView). Makes (Vacate t) Done (Keeper k) (Keeper v)) is done.1)
 
 -- a seat's view that is written twice
-views_again : (views : List View) (i : ℕ) (v w : View) → set (set views i v) i w ≡ set views i w
+pub views_again : (views : List View) (i : ℕ) (v w : View) → set (set views i v) i w ≡ set views i w
 views_again [] i v w = refl
 views_again (x ∷ xs) zero v w = refl
 views_again (x ∷ xs) (suc i) v w = ap (λ l. x ∷ l) (views_again xs i v w)
 
-view_here : (views : List View) (i : ℕ) (v w : View) → get_elem? views i ≡ some v → get_elem? (set views i w) i ≡ some w
+pub view_here : (views : List View) (i : ℕ) (v w : View) → get_elem? views i ≡ some v → get_elem? (set views i w) i ≡ some w
 view_here [] i v w e = absurd (some-ne-none v (sym e))
 view_here (x ∷ xs) zero v w e = refl
 view_here (x ∷ xs) (suc i) v w e = view_here xs i v w e

@@ -12,3 +12,4 @@ pub mod Reading
 pub mod Searching
 pub mod Draining
 pub mod Publishing
+pub mod Keeping

@@ -68,6 +68,16 @@ pub record JoinMakes (e : ℕ → Event) (g : State) (v u both : View) : Type 0 
 abbrev pub JoinsBy : (ℕ → Event) → View → View → View → Type 0
 JoinsBy e v u both = (g : State) → Good g → Shown g v → Shown g u → ((n : ℕ) → reference_to n u ≤ sum_by (standing_of n) g.locals) → JoinMakes e g v u both
 
+-- A change of a view that touches no word and no other seat: in whatever state of the core shows the view, it is just this event.
+pub record ChangeMakes (e : Event) (g : State) (w : View) : Type 0 where
+  pub after : State
+  pub made : step g e ≡ Some (record { state = after; reply = Done })
+  pub good_after : Good after
+  pub shown : Shown after w
+
+abbrev pub ChangesBy : Event → View → View → Type 0
+ChangesBy e v w = (g : State) → Good g → Shown g v → ChangeMakes e g w
+
 -- What atomic_table's steps are told: the seat stays of its kind, takes no slots, and the tale holds
 
 abbrev pub told_by_cpu : (CpuView → ℕ → CpuView → Type 0) → Step ℕ → Me ℕ View → ℕ → Me ℕ View → Type 0

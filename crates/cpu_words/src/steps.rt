@@ -3,6 +3,7 @@
 
 pub mod drain;
 pub mod grace;
+pub mod keeping;
 pub mod list;
 pub mod locals;
 pub mod passive;
@@ -13,6 +14,7 @@ pub mod sections;
 
 pub use drain::{collect, join_keeper, kept_sub, passive_look, total_add, total_sub};
 pub use grace::{look, look_now, snapshot, snapshot_now};
+pub use keeping::keep;
 pub use list::{store_count, store_next, store_record};
 pub use locals::{count_add, count_down, join_ref, split_back, split_ref};
 pub use passive::{load_passive, passive_add, passive_sub};

@@ -1,0 +1,26 @@
+//! Kept drivers: an interface's slot keeps a local reference to its driver. The reference's seat is spent, and no word changes.
+
+ghost use Rattle.std.specs.Prelude.{◌≡◌};
+ghost use Rattle.passive_core.specs.declared.event.Event.TheVariants.{Keep};
+ghost use Rattle.cpu_words.specs.declared.view.View.TheVariants.{Keeper, Reference};
+ghost use Rattle.cpu_words.specs.Steps.{JoinsBy};
+ghost use Rattle.cpu_words.specs.Vacating.{as_vacant};
+ghost use Rattle.cpu_words.specs.Keeping.{MayKeep, IsVacated, keeping};
+
+use crate::law::Words;
+use crate::seat::{KeeperSeat, ReferenceSeat};
+use crate::step::kept;
+use std::marker::Brand;
+
+/// The slot `slot` (from 0) keeps the reference, until the interface that is attached there next is freed.
+/// Condition: the keeper may store in the slot (as for `store_record`), which keeps nothing, and the reference is to a driver.
+pub fn keep(words: &Words, keeper: &mut KeeperSeat, slot: u8, reference: ReferenceSeat)
+    requires table { (keeper.old.table ≡ words.now.table) × (reference.table ≡ words.now.table) }
+    requires may { MayKeep keeper.old.view slot reference.view }
+    ensures table { keeper.new.table ≡ keeper.old.table }
+    ensures vacant { IsVacated keeper.old.view slot }
+    ensures event { JoinsBy (Keep slot) (Keeper (as_vacant keeper.old.view slot)) (Reference reference.view) (Keeper keeper.new.view) }
+    ensures change { keeper.new.view ≡ keeping keeper.old.view slot reference.view }
+{
+    kept::join::<Brand>(words, keeper, reference, slot);
+}
