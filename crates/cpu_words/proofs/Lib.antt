@@ -13,3 +13,4 @@ pub mod Storing
 pub mod Hands
 pub mod Counting
 pub mod Locals
+pub mod Notes
