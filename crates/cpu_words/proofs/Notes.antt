@@ -110,9 +110,9 @@ joins z i o v both h beside s r at apart there =
     let g = r.g in
     let had = r.shows.fits i v at in
     let was : get_elem? s.views o ≡ some (Note h) = ⊎_elim
-            (λ (t : (o ≡ i) × (both ≡ Note h)). absurd (apart t.0))
-            (λ (t : (o ≢ i) × (get_elem? s.views o ≡ some (Note h))). t.1)
-            (at_set s.views i o both (Note h) there) in
+    (λ (t : (o ≡ i) × (both ≡ Note h)). absurd (apart t.0))
+    (λ (t : (o ≢ i) × (get_elem? s.views o ≡ some (Note h))). t.1)
+    (at_set s.views i o both (Note h) there) in
     let told : IsPrefix h g.history = (r.shows.fits o (Note h) was).1 in record {
       g = g;
       seat = r.seat;
@@ -175,25 +175,25 @@ keeper_joins z i o v u is that = subst (λ (p : View × View). Joins (Ruled z) i
 pub hear_may : (z : Settings) (x : CpuView) (c : ℕ) → x.id ≡ c → IsIdle x → CpuMay z x (80 * c) (λ n. n) (λ v n y. Makes (Hear (Some c)) Done (Cpu v) (Cpu y) × HasHeard v y)
 hear_may z x c id idle = subst (λ d. CpuMay z x (80 * d) (λ n. n) (λ v n y. Makes (Hear (Some d)) Done (Cpu v) (Cpu y) × HasHeard v y)) id
     (λ s r i at fits.
-        let g = r.g in
-        let had : CpuShown g x = (r.shows.fits i (Cpu x) at).1 in
-        let seen = seen_of g x r.good had in
-        let n = length g.history in
-        let l : CpuLists = record (lists_of g) { seen = set g.seen x.id n } in
-        let y = cpu_view (with_lists g l) x.id (own_of x) in
-        let sees : get_or l.seen x.id 0 ≡ n = get_or-set_same g.seen x.id n 0 seen.in_seen in
-        let more : seen_at g x.id ≤ get_or l.seen x.id 0 = omega (arith, seen.within, sees) in
-        let within : get_or l.seen x.id 0 ≤ n = omega (arith, sees) in
-        let passes : y.pass ≡ g.history = ap (λ k. take k g.history) sees ∙ take_whole g.history in
-        let made : step g (Hear (Some x.id)) ≡ Some (record { state = with_lists g l; reply = Done }) = rw (idle_of g x seen had idle) refl in
-        let leaves = same_counts g x.id l refl refl refl refl (λ d ne. refl) (λ d ne. refl) (λ d ne. refl) (λ d ne. get_or-set_other g.seen x.id d _ 0 ne) (λ d ne. refl) (λ d ne. refl) in
-        let shown = shown_on g x l had refl refl refl (had.depth ∙ ap depth_of seen.begin) more within (found_on g x (get_or l.seen x.id 0) had more within) in
-        let words = loads s.words g (with_lists g l) (80 * x.id) r.words refl (λ q _. refl) in
-        let done = cpu_makes z s r i x (80 * x.id) (slice_index s.words (80 * x.id)) l (Hear (Some x.id)) Done (own_of x) at made leaves (λ k. refl) refl shown words in
-        let told : IsPrefix x.heard y.pass = subst (IsPrefix x.heard) (sym passes) had.heard in
-        let longer : IsPrefix x.pass y.pass = subst (λ p. IsPrefix p y.pass) (sym seen.pass) (prefix_longer g.history (seen_at g x.id) (get_or l.seen x.id 0) more within) in
-        let change : y ≡ record x { pass = y.pass } = ap (λ (v : CpuView). record v { pass = y.pass }) (sym had.is) in
-        (Cpu y, done.0, (refl, (done.1, (told, longer, change)))))
+    let g = r.g in
+    let had : CpuShown g x = (r.shows.fits i (Cpu x) at).1 in
+    let seen = seen_of g x r.good had in
+    let n = length g.history in
+    let l : CpuLists = record (lists_of g) { seen = set g.seen x.id n } in
+    let y = cpu_view (with_lists g l) x.id (own_of x) in
+    let sees : get_or l.seen x.id 0 ≡ n = get_or-set_same g.seen x.id n 0 seen.in_seen in
+    let more : seen_at g x.id ≤ get_or l.seen x.id 0 = omega (arith, seen.within, sees) in
+    let within : get_or l.seen x.id 0 ≤ n = omega (arith, sees) in
+    let passes : y.pass ≡ g.history = ap (λ k. take k g.history) sees ∙ take_whole g.history in
+    let made : step g (Hear (Some x.id)) ≡ Some (record { state = with_lists g l; reply = Done }) = rw (idle_of g x seen had idle) refl in
+    let leaves = same_counts g x.id l refl refl refl refl (λ d ne. refl) (λ d ne. refl) (λ d ne. refl) (λ d ne. get_or-set_other g.seen x.id d _ 0 ne) (λ d ne. refl) (λ d ne. refl) in
+    let shown = shown_on g x l had refl refl refl (had.depth ∙ ap depth_of seen.begin) more within (found_on g x (get_or l.seen x.id 0) had more within) in
+    let words = loads s.words g (with_lists g l) (80 * x.id) r.words refl (λ q _. refl) in
+    let done = cpu_makes z s r i x (80 * x.id) (slice_index s.words (80 * x.id)) l (Hear (Some x.id)) Done (own_of x) at made leaves (λ k. refl) refl shown words in
+    let told : IsPrefix x.heard y.pass = subst (IsPrefix x.heard) (sym passes) had.heard in
+    let longer : IsPrefix x.pass y.pass = subst (λ p. IsPrefix p y.pass) (sym seen.pass) (prefix_longer g.history (seen_at g x.id) (get_or l.seen x.id 0) more within) in
+    let change : y ≡ record x { pass = y.pass } = ap (λ (v : CpuView). record v { pass = y.pass }) (sym had.is) in
+    (Cpu y, done.0, (refl, (done.1, (told, longer, change)))))
 
 pub hear_keeper_may : (z : Settings) (k : KeeperView) → k.due ≡ Rest → KeeperMay z k 648 (λ n. n) (λ v n l. Makes (Hear None) Done (Keeper v) (Keeper l) × KeeperHasHeard v l)
 hear_keeper_may z k may s r i at fits =
