@@ -1,10 +1,10 @@
 -- Notes on the words: what a seat has seen is told and heard.
-use Rattle.std.proofs.Common.{◌≡◌, ◌≢◌, ◌⊎◌, ⊎_elim, ℕ, ◌+◌, ◌*◌, ◌≤◌, ◌<◌, List, length, take, get_or, set, sum_by, Option, Some, None, Bool, true, refl, sym, ap, ◌∙◌, subst, arith, get_or-set_same, get_or-set_other}
+use Rattle.std.proofs.Common.{◌≡◌, ◌≢◌, ⊎_elim, ℕ, ◌*◌, ◌≤◌, List, length, take, get_or, set, Some, None, refl, sym, ap, ◌∙◌, subst, arith, get_or-set_same, get_or-set_other}
 use Rattle.std.specs.Prelude.{slice_index}
 use mathlib.Core.Option.{some}
 use mathlib.Core.List.{IsPrefix}
 use lib.ListN.{get_elem?}
-use Rattle.atomic_table.specs.Table.{State as Table, Splits, Joins, keeps, stepped}
+use Rattle.atomic_table.specs.Table.{Splits, Joins}
 use Rattle.atomic_table.proofs.Lists.{at_set}
 use Rattle.passive_core.specs.declared.entry.Change.{Change}
 use Rattle.passive_core.specs.declared.settings.Settings.{Settings}
@@ -13,23 +13,22 @@ use Rattle.passive_core.specs.declared.event.Event.TheVariants.{Tell, Hear}
 use Rattle.passive_core.specs.declared.event.Reply.TheVariants.{Done}
 use Rattle.passive_core.specs.declared.state.Due.TheVariants.{Rest}
 use Rattle.passive_core.specs.State.{State, seen_at}
-use Rattle.passive_core.specs.Events.{step, guard, taken}
-use Rattle.passive_core.specs.Slots.{at_rest}
+use Rattle.passive_core.specs.Events.{step}
 use Rattle.cpu_words.specs.declared.view.CpuView.{CpuView}
 use Rattle.cpu_words.specs.declared.view.KeeperView.{KeeperView}
 use Rattle.cpu_words.specs.declared.view.View.{View}
-use Rattle.cpu_words.specs.declared.view.View.TheVariants.{Keeper, Cpu, Reference, Note, Spent}
+use Rattle.cpu_words.specs.declared.view.View.TheVariants.{Keeper, Cpu, Note, Spent}
 use Rattle.cpu_words.specs.Views.{KeeperOwn, own_of, cpu_view, keeper_own, keeper_view, depth_of, CpuShown, KeeperShown, Shown, cpu_of, keeper_of, note_of}
-use Rattle.cpu_words.specs.Rule.{Sits, reference_to, Agrees, Good, Ruled}
-use Rattle.cpu_words.specs.Steps.{Makes, SplitMakes, SplitsBy, CpuMay, KeeperMay}
+use Rattle.cpu_words.specs.Rule.{Sits, reference_to, Good, Ruled}
+use Rattle.cpu_words.specs.Steps.{Makes, SplitsBy, CpuMay, KeeperMay}
 use Rattle.cpu_words.specs.Sections.{IsIdle}
 use Rattle.cpu_words.specs.Notes.{pass_told, history_told, with_heard, keeper_with_heard, beside_cpu, beside_keeper, HasHeard, KeeperHasHeard}
 use Rattle.cpu_words.proofs.Showing.{Stay, shows_split, shows_join}
 use Rattle.cpu_words.proofs.Passes.{taken_is_prefix, prefix_longer, take_whole}
-use Rattle.cpu_words.proofs.Seeing.{Seen, seen_of, idle_of}
+use Rattle.cpu_words.proofs.Seeing.{seen_of, idle_of}
 use Rattle.cpu_words.proofs.CpuSteps.{CpuLists, lists_of, with_lists, same_counts, shown_on, found_on, cpu_makes}
-use Rattle.cpu_words.proofs.KeeperSteps.{KeeperLists, keeper_lists, with_keeper, leaves_all, keeper_makes}
-use Rattle.cpu_words.proofs.KeeperSees.{SeenByKeeper, seen_by_keeper, loads}
+use Rattle.cpu_words.proofs.KeeperSteps.{keeper_lists, with_keeper, leaves_all, keeper_makes}
+use Rattle.cpu_words.proofs.KeeperSees.{seen_by_keeper, loads}
 
 -- where a seat's own view alone changes, the core stays, and each other view is shown as it was
 pub own_view_alone : (g : State) (seat : ℕ → ℕ) (i : ℕ) → Stay g g seat i

@@ -1,4 +1,3 @@
-use Rattle.std.proofs.Common.{rules, arith}
 use Rattle.cpu_words.proofs.Notes.{hear_laid_may, cpu_heard}
 use Rattle.cpu_words.proofs.steps.notes.hear.Goals as goal
 

@@ -1,4 +1,3 @@
-use Rattle.std.proofs.Common.{rules, arith}
 use Rattle.cpu_words.proofs.Notes.{hear_keeper_laid_may, keeper_heard}
 use Rattle.cpu_words.proofs.steps.notes.hear_keeper.Goals as goal
 
