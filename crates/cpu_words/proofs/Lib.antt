@@ -26,3 +26,4 @@ pub mod KeptDrivers
 pub mod Leading
 pub mod Publishing
 pub mod Unpublishing
+pub mod Notes

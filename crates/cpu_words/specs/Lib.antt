@@ -13,3 +13,4 @@ pub mod Searching
 pub mod Draining
 pub mod Publishing
 pub mod Keeping
+pub mod Notes

@@ -6,3 +6,4 @@ pub(crate) mod by_reference;
 pub(crate) mod given_up;
 pub(crate) mod in_hand;
 pub(crate) mod kept;
+pub(crate) mod notes;

@@ -1,0 +1,14 @@
+use Rattle.std.proofs.Common.{rules, arith, ap, ℕ}
+use Rattle.atomic_table.specs.Table.{Me}
+use Rattle.cpu_words.specs.declared.view.View.{View}
+use Rattle.cpu_words.proofs.Notes.{cpu_joins}
+use Rattle.cpu_words.proofs.step.notes.lay.Goals as goal
+
+pub join_seat-requires : goal.join_seat-requires
+join_seat-requires c = (
+  search rules,
+  search rules,
+  search rules,
+  let w = c.words.invariant.1 in omega arith,
+  cpu_joins _ _ _ _ _ (ap (λ (m : Me ℕ View). m.0) c.seat.invariant) (ap (λ (m : Me ℕ View). m.0) c.note.invariant),
+)

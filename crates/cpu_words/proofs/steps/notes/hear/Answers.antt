@@ -1,0 +1,11 @@
+use Rattle.cpu_words.proofs.Notes.{hear_laid_may, cpu_heard}
+use Rattle.cpu_words.proofs.steps.notes.hear.Goals as goal
+
+pub load-requires-clause-may : goal.load-requires-clause-may
+load-requires-clause-may c = hear_laid_may _ c.args.seat.now.view _ _ _ c.lay.ensures.change c.requires.cpu.1 c.requires.may
+
+pub returns-clause-told : goal.returns-clause-told
+returns-clause-told c = (cpu_heard c.args.seat.now.view _ _ _ c.lay.ensures.change c.load.ensures.told.1).0
+
+pub returns-clause-change : goal.returns-clause-change
+returns-clause-change c = let heard = cpu_heard c.args.seat.now.view _ _ _ c.lay.ensures.change c.load.ensures.told.1 in (heard.1, heard.2)

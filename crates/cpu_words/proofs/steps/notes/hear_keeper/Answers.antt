@@ -1,0 +1,11 @@
+use Rattle.cpu_words.proofs.Notes.{hear_keeper_laid_may, keeper_heard}
+use Rattle.cpu_words.proofs.steps.notes.hear_keeper.Goals as goal
+
+pub load-requires-clause-may : goal.load-requires-clause-may
+load-requires-clause-may c = hear_keeper_laid_may _ c.args.keeper.now.view _ _ c.lay_by_keeper.ensures.change c.requires.may
+
+pub returns-clause-told : goal.returns-clause-told
+returns-clause-told c = (keeper_heard c.args.keeper.now.view _ _ _ c.lay_by_keeper.ensures.change c.load.ensures.told.1).0
+
+pub returns-clause-change : goal.returns-clause-change
+returns-clause-change c = (keeper_heard c.args.keeper.now.view _ _ _ c.lay_by_keeper.ensures.change c.load.ensures.told.1).1

@@ -1,0 +1,8 @@
+use Rattle.passive_core.specs.declared.event.Reply.TheVariants.{Done}
+use Rattle.cpu_words.specs.declared.view.View.TheVariants.{Keeper}
+use Rattle.cpu_words.specs.Steps.{Makes}
+use Rattle.cpu_words.specs.Notes.{KeeperHasHeard}
+use Rattle.cpu_words.proofs.steps.notes.hear_keeper.Given as goal
+
+abbrev pub ghosts-load : goal.ghosts-load
+ghosts-load a = record { tells = λ k n l. Makes a.event Done (Keeper k) (Keeper l) × KeeperHasHeard k l }

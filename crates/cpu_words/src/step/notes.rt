@@ -1,0 +1,75 @@
+//! How a note is cut off a seat that has seen something, and laid beside the view of a seat that is to hear it.
+
+ghost use Rattle.std.specs.Prelude.{◌≡◌};
+ghost use Rattle.cpu_words.specs.Notes.{with_heard, keeper_with_heard};
+
+use crate::law::Words;
+use crate::seat::{CpuSeat, KeeperSeat, NoteSeat};
+use crate::view::View;
+use atomic_table::{Join, Split};
+
+/// A note of a CPU's pass, or to a CPU.
+pub(crate) struct CpuNote;
+
+impl Split<View> for CpuNote {
+    ghost use Rattle.cpu_words.specs.Notes.{as_before, pass_told};
+
+    ghost left = { as_before };
+
+    ghost right = { pass_told };
+}
+
+impl Join<View> for CpuNote {
+    ghost use Rattle.cpu_words.specs.declared.view.View.TheVariants.{Spent};
+    ghost use Rattle.cpu_words.specs.Notes.{beside_cpu};
+
+    ghost both = { beside_cpu };
+
+    ghost spent = { Spent };
+}
+
+/// A note of the history by the keeper, or to the keeper.
+pub(crate) struct KeeperNote;
+
+impl Split<View> for KeeperNote {
+    ghost use Rattle.cpu_words.specs.Notes.{as_before, history_told};
+
+    ghost left = { as_before };
+
+    ghost right = { history_told };
+}
+
+impl Join<View> for KeeperNote {
+    ghost use Rattle.cpu_words.specs.declared.view.View.TheVariants.{Spent};
+    ghost use Rattle.cpu_words.specs.Notes.{beside_keeper};
+
+    ghost both = { beside_keeper };
+
+    ghost spent = { Spent };
+}
+
+/// Lays a note beside a CPU's view, until the next load. This is no event of the core.
+pub(crate) fn lay(words: &Words, seat: &mut CpuSeat, note: NoteSeat)
+    requires table { (seat.old.table ≡ words.now.table) × (note.table ≡ words.now.table) }
+    ensures table { seat.new.table ≡ seat.old.table }
+    ensures change { seat.new.view ≡ with_heard seat.old.view note.view }
+{
+    let NoteSeat { token } = note;
+    words
+        .table
+        .shared
+        .join_seat::<CpuNote>(&mut seat.token, token);
+}
+
+/// The same beside the keeper's view.
+pub(crate) fn lay_by_keeper(words: &Words, keeper: &mut KeeperSeat, note: NoteSeat)
+    requires table { (keeper.old.table ≡ words.now.table) × (note.table ≡ words.now.table) }
+    ensures table { keeper.new.table ≡ keeper.old.table }
+    ensures change { keeper.new.view ≡ keeper_with_heard keeper.old.view note.view }
+{
+    let NoteSeat { token } = note;
+    words
+        .table
+        .shared
+        .join_seat::<KeeperNote>(&mut keeper.token, token);
+}

@@ -1,0 +1,80 @@
+//! Notes: what one seat has seen reaches another. A note is a seat of its own, which knows a prefix of the history.
+
+ghost use Rattle.std.specs.Prelude.{◌≡◌, ◌<◌, Some, None};
+ghost use mathlib.Core.List.{IsPrefix};
+ghost use Rattle.passive_core.specs.declared.event.Event.TheVariants.{Tell, Hear};
+ghost use Rattle.passive_core.specs.declared.event.Reply.TheVariants.{Done};
+ghost use Rattle.passive_core.specs.declared.state.Due.TheVariants.{Rest};
+ghost use Rattle.cpu_words.specs.declared.view.View.TheVariants.{Keeper, Cpu, Note};
+ghost use Rattle.cpu_words.specs.Sections.{IsIdle};
+ghost use Rattle.cpu_words.specs.Steps.{Makes, SplitsBy};
+ghost use Rattle.cpu_words.specs.Notes.{with_heard, keeper_with_heard};
+
+use crate::law::Words;
+use crate::seat::{CpuSeat, KeeperSeat, NoteSeat};
+use crate::step::notes::{CpuNote, KeeperNote};
+use crate::step::{by_cpu, by_keeper, notes};
+use passive_core::Event;
+use std::marker::Brand;
+
+/// CPU `cpu` tells what it has seen: the note has its pass. Condition: the seat is that CPU's, and idle.
+pub fn tell(words: &Words, seat: &mut CpuSeat, cpu: u8) -> NoteSeat
+    requires table { seat.old.table ≡ words.now.table }
+    requires cpu { seat.old.view.id ≡ cpu }
+    requires may { IsIdle seat.old.view }
+    ensures table { result.table ≡ seat.old.table }
+    ensures same { seat.new ≡ seat.old }
+    ensures note { result.view ≡ seat.old.view.pass }
+    ensures event { SplitsBy (Tell (Some cpu)) (Cpu seat.old.view) (Cpu seat.old.view) (Note result.view) }
+{
+    let _cpu = cpu;
+    NoteSeat {
+        token: words.table.shared.split_seat::<CpuNote>(&mut seat.token),
+    }
+}
+
+/// The keeper tells what it has seen: the note has the whole history. Condition: the keeper is at rest.
+pub fn tell_keeper(words: &Words, keeper: &mut KeeperSeat) -> NoteSeat
+    requires table { keeper.old.table ≡ words.now.table }
+    requires may { keeper.old.view.due ≡ Rest }
+    ensures table { result.table ≡ keeper.old.table }
+    ensures same { keeper.new ≡ keeper.old }
+    ensures note { result.view ≡ keeper.old.view.history }
+    ensures event { SplitsBy (Tell None) (Keeper keeper.old.view) (Keeper keeper.old.view) (Note result.view) }
+{
+    NoteSeat {
+        token: words
+            .table
+            .shared
+            .split_seat::<KeeperNote>(&mut keeper.token),
+    }
+}
+
+/// CPU `cpu` hears a note: its pass becomes the whole history, with what the note tells in it. The note is laid beside the seat's view,
+/// and one load of the CPU's section word is the event. Condition: the seat is that CPU's, and idle.
+pub fn hear(words: &Words, seat: &mut CpuSeat, cpu: u8, note: NoteSeat)
+    requires table { (seat.old.table ≡ words.now.table) × (note.table ≡ words.now.table) }
+    requires cpu { (cpu < 8) × (seat.old.view.id ≡ cpu) }
+    requires may { IsIdle seat.old.view }
+    ensures table { seat.new.table ≡ seat.old.table }
+    ensures event { Makes (Hear (Some cpu)) Done (Cpu (with_heard seat.old.view note.view)) (Cpu seat.new.view) }
+    ensures told { IsPrefix note.view seat.new.view.pass }
+    ensures change { IsPrefix seat.old.view.pass seat.new.view.pass × (seat.new.view ≡ record seat.old.view { pass = seat.new.view.pass; heard = note.view }) }
+{
+    notes::lay(words, seat, note);
+    by_cpu::load::<Brand>(words, seat, 80 * cpu as usize, Event::Hear(Some(cpu)));
+}
+
+/// The keeper hears a note: what the note tells is in its history. The note is laid beside the seat's view, and one load of the head is
+/// the event. Condition: the keeper is at rest.
+pub fn hear_keeper(words: &Words, keeper: &mut KeeperSeat, note: NoteSeat)
+    requires table { (keeper.old.table ≡ words.now.table) × (note.table ≡ words.now.table) }
+    requires may { keeper.old.view.due ≡ Rest }
+    ensures table { keeper.new.table ≡ keeper.old.table }
+    ensures event { Makes (Hear None) Done (Keeper (keeper_with_heard keeper.old.view note.view)) (Keeper keeper.new.view) }
+    ensures told { IsPrefix note.view keeper.new.view.history }
+    ensures change { keeper.new.view ≡ keeper_with_heard keeper.old.view note.view }
+{
+    notes::lay_by_keeper(words, keeper, note);
+    by_keeper::load::<Brand>(words, keeper, 648, Event::Hear(None));
+}
