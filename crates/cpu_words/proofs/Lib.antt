@@ -13,3 +13,5 @@ pub mod Storing
 pub mod Hands
 pub mod Counting
 pub mod Locals
+pub mod Seating
+pub mod Opening

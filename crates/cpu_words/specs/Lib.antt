@@ -7,3 +7,4 @@ pub mod Grace
 pub mod Vacating
 pub mod Storing
 pub mod Locals
+pub mod Opening

@@ -3,6 +3,7 @@
 #![tactic(auto)]
 
 mod law;
+mod open;
 mod seat;
 mod step;
 pub mod steps;

@@ -4,3 +4,4 @@ pub(crate) mod by_cpu;
 pub(crate) mod by_keeper;
 pub(crate) mod by_reference;
 pub(crate) mod in_hand;
+pub(crate) mod seats;

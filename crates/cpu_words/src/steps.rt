@@ -4,9 +4,11 @@
 pub mod grace;
 pub mod list;
 pub mod locals;
+pub mod seats;
 pub mod sections;
 
 pub use grace::{look, look_now, snapshot, snapshot_now};
 pub use list::{store_count, store_next, store_record};
 pub use locals::{count_add, count_down, join_ref, split_back, split_ref};
+pub use seats::seat;
 pub use sections::enter;
