@@ -12,3 +12,6 @@ mod view;
 pub use law::{Domain, Picture, Words};
 pub use seat::{CpuSeat, KeeperSeat, NoteSeat, ReferenceSeat};
 pub use view::{CpuView, InHand, KeeperView, Looked, ReferenceView, View};
+
+#[cfg(test)]
+mod tests;

@@ -3,6 +3,7 @@
 ghost use Rattle.std.specs.Prelude.{◌≡◌, ◌↔◌, ◌+◌, ◌≤◌, [], IfOk, IfErr, IsErrOf, IsTrue, false, vec_len, vec_capacity};
 ghost use Rattle.passive_core.specs.Limits.{are_fit};
 ghost use Rattle.passive_core.specs.Refusals.{IsRefusalOfNew};
+ghost use Rattle.cpu_words.specs.Views.{new_keeper};
 ghost use Rattle.cpu_words.specs.Opening.{AreOpening, AreSeats, keeper_with};
 
 use crate::law::Words;
@@ -21,7 +22,7 @@ impl Words {
         settings: Settings,
     ) -> Result<(Words, KeeperSeat, Vec<CpuSeat>), Refusal>
         ensures ok { IfOk result (λ made. IsTrue (are_fit settings) × (made.0.settings ≡ settings)) }
-        ensures keeper { IfOk result (λ made. (made.1.table ≡ made.0.table) × (made.1.view ≡ keeper_with settings settings.cpus)) }
+        ensures keeper { IfOk result (λ made. (made.1.table ≡ made.0.table) × (made.1.view ≡ record (new_keeper settings) { seated = settings.cpus })) }
         ensures seats { IfOk result (λ made. AreSeats made.0.table settings settings.cpus made.2.items) }
         ensures bad { IsErrOf result Refusal.BadSettings ↔ are_fit settings ≡ false }
         ensures err { IfErr result IsRefusalOfNew }
