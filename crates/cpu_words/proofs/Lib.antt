@@ -27,3 +27,5 @@ pub mod Leading
 pub mod Publishing
 pub mod Unpublishing
 pub mod Notes
+pub mod Seating
+pub mod Opening

@@ -14,3 +14,4 @@ pub mod Draining
 pub mod Publishing
 pub mod Keeping
 pub mod Notes
+pub mod Opening

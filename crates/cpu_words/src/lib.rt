@@ -3,6 +3,7 @@
 #![tactic(auto)]
 
 mod law;
+mod open;
 mod seat;
 mod step;
 pub mod steps;
@@ -11,3 +12,6 @@ mod view;
 pub use law::{Domain, Picture, Words};
 pub use seat::{CpuSeat, KeeperSeat, NoteSeat, ReferenceSeat};
 pub use view::{CpuView, InHand, KeeperView, Looked, ReferenceView, View};
+
+#[cfg(test)]
+mod tests;

@@ -7,3 +7,4 @@ pub(crate) mod given_up;
 pub(crate) mod in_hand;
 pub(crate) mod kept;
 pub(crate) mod notes;
+pub(crate) mod seats;

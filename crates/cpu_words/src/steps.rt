@@ -11,6 +11,7 @@ pub mod passive;
 pub mod publishing;
 pub mod reading;
 pub mod search;
+pub mod seats;
 pub mod sections;
 
 pub use drain::{collect, join_keeper, kept_sub, passive_look, total_add, total_sub};
@@ -23,4 +24,5 @@ pub use passive::{load_passive, passive_add, passive_sub};
 pub use publishing::{publish, unpublish};
 pub use reading::load_local;
 pub use search::{load_link, load_searched, seek};
+pub use seats::seat;
 pub use sections::{enter, exit};

@@ -1,0 +1,7 @@
+use Rattle.std.proofs.Common.{◌≡◌, ◌<◌, ◌+◌, ℕ, length, get_or}
+use Rattle.passive_core.specs.State.{bias}
+use Rattle.cpu_words.proofs.open.opening_words.Given as goal
+
+-- all words are 0 but the totals so far
+abbrev pub invariant-loop-t : goal.invariant-loop-t
+invariant-loop-t l = (length l.words ≡ 944) × ((i : ℕ) → i < 912 → get_or l.words i 0 ≡ 0) × ((t : ℕ) → t < l.t → get_or l.words (912 + t) 0 ≡ bias)

@@ -1,0 +1,45 @@
+-- The table at the start, and the seats of the CPUs.
+use Rattle.std.specs.Prelude.{◌≡◌, ℕ, ◌+◌, ◌<◌, List, length, slice_index}
+use mathlib.Core.Option.{some}
+use lib.ListN.{get_elem?}
+use Rattle.atomic_table.specs.Seated.{TableId}
+use Rattle.passive_core.specs.declared.settings.Settings.{Settings}
+use Rattle.passive_core.specs.declared.state.Due.TheVariants.{Rest}
+use Rattle.passive_core.specs.State.{bias}
+use Rattle.cpu_words.specs.declared.view.CpuView.{CpuView}
+use Rattle.cpu_words.specs.declared.view.KeeperView.{KeeperView}
+use Rattle.cpu_words.specs.declared.view.View.{View}
+use Rattle.cpu_words.specs.declared.view.View.TheVariants.{Keeper, Cpu}
+use Rattle.cpu_words.specs.Views.{Seated, new_keeper, new_cpu, keeper_of}
+
+-- the keeper is at rest, and a CPU has no seat yet
+pub record MaySeat (k : KeeperView) : Type 0 where
+  pub rest : k.due ≡ Rest
+  pub left : k.seated < k.settings.cpus
+
+-- one more CPU has its seat
+abbrev pub one_seated : KeeperView → KeeperView
+one_seated k = record k { seated = k.seated + 1 }
+
+-- the keeper's seat and the new CPU's, as the keeper's is cut in two
+
+abbrev pub seating : View → View
+seating v = Keeper (one_seated (keeper_of v))
+
+abbrev pub next_seat : View → View
+next_seat v = Cpu (new_cpu (keeper_of v).settings (keeper_of v).seated)
+
+-- all words are 0 but the totals, which are the bias
+pub record AreOpening (words : List ℕ) : Type 0 where
+  pub size : length words ≡ 944
+  pub unused : (i : ℕ) → i < 912 → slice_index words i ≡ 0
+  pub totals : (t : ℕ) → t < 32 → slice_index words (912 + t) ≡ bias
+
+-- the seats of the first n CPUs, CPU 0 first
+pub record AreSeats (table : TableId) (z : Settings) (n : ℕ) (seats : List (Seated CpuView)) : Type 0 where
+  pub count : length seats ≡ n
+  pub each : (c : ℕ) → c < n → get_elem? seats c ≡ some (record { table = table; view = new_cpu z c })
+
+-- the keeper's view where n CPUs have their seats, and it did nothing else
+abbrev pub keeper_with : Settings → ℕ → KeeperView
+keeper_with z n = record (new_keeper z) { seated = n }

@@ -1,0 +1,80 @@
+//! A new table: its words, the keeper's seat, and a seat for each CPU.
+
+ghost use Rattle.std.specs.Prelude.{◌≡◌, ◌↔◌, ◌+◌, ◌≤◌, [], IfOk, IfErr, IsErrOf, IsTrue, false, vec_len, vec_capacity};
+ghost use Rattle.passive_core.specs.Limits.{are_fit};
+ghost use Rattle.passive_core.specs.Refusals.{IsRefusalOfNew};
+ghost use Rattle.cpu_words.specs.Views.{new_keeper};
+ghost use Rattle.cpu_words.specs.Opening.{AreOpening, AreSeats, keeper_with};
+
+use crate::law::Words;
+use crate::seat::{CpuSeat, KeeperSeat};
+use crate::steps::seat;
+use atomic_table::Table;
+use passive_core::{BIAS, Refusal, Settings};
+use std::alloc::{AllocError, Global};
+
+impl Words {
+    /// The words of a registry with these settings, the keeper's seat, and the seat of each CPU, CPU 0 first. All words are 0 but the
+    /// totals, no entry has been attached, and all CPUs are outside.
+    /// Refused: `BadSettings` where `Settings::check` refuses them, and `NoMemory`.
+    pub fn new(
+        alloc: Global,
+        settings: Settings,
+    ) -> Result<(Words, KeeperSeat, Vec<CpuSeat>), Refusal>
+        ensures ok { IfOk result (λ made. IsTrue (are_fit settings) × (made.0.settings ≡ settings)) }
+        ensures keeper { IfOk result (λ made. (made.1.table ≡ made.0.table) × (made.1.view ≡ record (new_keeper settings) { seated = settings.cpus })) }
+        ensures seats { IfOk result (λ made. AreSeats made.0.table settings settings.cpus made.2.items) }
+        ensures bad { IsErrOf result Refusal.BadSettings ↔ are_fit settings ≡ false }
+        ensures err { IfErr result IsRefusalOfNew }
+    {
+        settings.check()?;
+        match Words::opening(alloc, settings) {
+            Ok(made) => Ok(made),
+            Err(_) => Err(Refusal::NoMemory),
+        }
+    }
+
+    fn opening(
+        alloc: Global,
+        settings: Settings,
+    ) -> Result<(Words, KeeperSeat, Vec<CpuSeat>), AllocError>
+        requires { IsTrue (are_fit settings) }
+        ensures settings { IfOk result (λ made. made.0.settings ≡ settings) }
+        ensures keeper { IfOk result (λ made. (made.1.table ≡ made.0.table) × (made.1.view ≡ keeper_with settings settings.cpus)) }
+        ensures seats { IfOk result (λ made. AreSeats made.0.table settings settings.cpus made.2.items) }
+    {
+        let mut seats = Vec::with_capacity(alloc, settings.cpus as usize)?;
+        let row = opening_words();
+        let (table, token) = Table::of_words(alloc, &row, &settings)?;
+        let words = Words { table, settings };
+        let mut keeper = KeeperSeat { token };
+        seat_all(&words, &mut keeper, &mut seats);
+        Ok((words, keeper, seats))
+    }
+}
+
+/// The words at the start: all 0 but the totals.
+fn opening_words() -> [u64; 944]
+    ensures { AreOpening result }
+{
+    let mut words = [0; 944];
+    for t in 0..32 {
+        words[912 + t] = BIAS;
+    }
+    words
+}
+
+/// Gives each CPU its seat, CPU 0 first. The list has room for them.
+fn seat_all(words: &Words, keeper: &mut KeeperSeat, seats: &mut Vec<CpuSeat>)
+    requires table { keeper.old.table ≡ words.now.table }
+    requires new { keeper.old.view ≡ keeper_with words.now.settings 0 }
+    requires room { (seats.old.items ≡ []) × (vec_len seats.old ≡ 0) × (words.now.settings.cpus ≤ vec_capacity seats.old) }
+    ensures table { keeper.new.table ≡ words.now.table }
+    ensures keeper { keeper.new.view ≡ keeper_with words.now.settings words.now.settings.cpus }
+    ensures seats { AreSeats words.now.table words.now.settings words.now.settings.cpus seats.new.items }
+{
+    let cpus = words.settings.cpus;
+    for _ in 0..cpus {
+        seats.push_reserved(seat(words, keeper));
+    }
+}

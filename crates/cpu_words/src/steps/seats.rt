@@ -1,0 +1,30 @@
+//! The seats of the CPUs: each is cut from the keeper's.
+
+ghost use Rattle.std.specs.Prelude.{◌≡◌, ◌+◌};
+ghost use Rattle.passive_core.specs.declared.event.Event.TheVariants.{Seat};
+ghost use Rattle.cpu_words.specs.declared.view.View.TheVariants.{Keeper, Cpu};
+ghost use Rattle.cpu_words.specs.Views.{new_cpu};
+ghost use Rattle.cpu_words.specs.Steps.{SplitsBy};
+ghost use Rattle.cpu_words.specs.Opening.{MaySeat};
+
+use crate::law::Words;
+use crate::seat::{CpuSeat, KeeperSeat};
+use crate::step::seats::NextSeat;
+
+/// The least CPU without a seat gets its seat, cut from the keeper's.
+/// Condition: the keeper is at rest, and has given out fewer seats than the table has CPUs.
+pub fn seat(words: &Words, keeper: &mut KeeperSeat) -> CpuSeat
+    requires table { keeper.old.table ≡ words.now.table }
+    requires may { MaySeat keeper.old.view }
+    ensures table { (keeper.new.table ≡ keeper.old.table) × (result.table ≡ keeper.old.table) }
+    ensures event { SplitsBy (Seat keeper.old.view.seated) (Keeper keeper.old.view) (Keeper keeper.new.view) (Cpu result.view) }
+    ensures keeper { keeper.new.view ≡ record keeper.old.view { seated = keeper.old.view.seated + 1 } }
+    ensures new { result.view ≡ new_cpu keeper.old.view.settings keeper.old.view.seated }
+{
+    CpuSeat {
+        token: words
+            .table
+            .shared
+            .split_seat::<NextSeat>(&mut keeper.token),
+    }
+}
