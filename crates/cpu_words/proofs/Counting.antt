@@ -23,8 +23,9 @@ use Rattle.passive_core.proofs.Occupied.{not_vacant, one_in, one_number, attache
 use Rattle.cpu_words.specs.declared.view.InHand.{InHand}
 use Rattle.cpu_words.specs.declared.view.CpuView.{CpuView}
 use Rattle.cpu_words.specs.Spots.{Spot, section_of, passive_of, count_of, head_word, next_of, record_of, total_of, word_at}
-use Rattle.cpu_words.specs.Views.{number_at, one_more, own_of, cpu_view, SameHand, HandFits, depth_of, collected_net, collected_one, GivesUp, CpuShown}
+use Rattle.cpu_words.specs.Views.{number_at, with_number, one_more, own_of, cpu_view, SameHand, HandFits, depth_of, collected_net, collected_one, GivesUp, CpuShown}
 use Rattle.cpu_words.specs.Rule.{Agrees, Good}
+use Rattle.cpu_words.specs.Locals.{IsNetCount, IsPlaceCount}
 use Rattle.cpu_words.proofs.Placing.{agrees_set}
 use Rattle.cpu_words.proofs.CpuSteps.{CpuLists, lists_of, with_lists, LeavesOthers}
 use Rattle.cpu_words.proofs.Seeing.{seen_of}
@@ -36,13 +37,34 @@ past_end [] k m = get_or_all k 0 m
 past_end (x ∷ l) k zero = refl
 past_end (x ∷ l) k (suc m) = past_end l k m
 
+with_number_same : (l : List ℕ) (i v : ℕ) → number_at (with_number l i v) i ≡ v
+with_number_same l i v =
+    let size : length (l ++ replicate (suc i) 0) ≡ length l + suc i = length-append l (replicate (suc i) 0) ∙ ap (λ k. length l + k) (length-replicate (suc i) 0) in
+    get_or-set_same (l ++ replicate (suc i) 0) i v 0 (omega arith)
+
+with_number_other : (l : List ℕ) (i v m : ℕ) → m ≢ i → number_at (with_number l i v) m ≡ number_at l m
+with_number_other l i v m ne = get_or-set_other (l ++ replicate (suc i) 0) i m v 0 ne ∙ past_end l (suc i) m
+
 pub one_more_same : (l : List ℕ) (n : ℕ) → number_at (one_more l n) n ≡ suc (number_at l n)
-one_more_same l n =
-    let size : length (l ++ replicate (suc n) 0) ≡ length l + suc n = length-append l (replicate (suc n) 0) ∙ ap (λ k. length l + k) (length-replicate (suc n) 0) in
-    get_or-set_same (l ++ replicate (suc n) 0) n (suc (number_at l n)) 0 (omega arith)
+one_more_same l n = with_number_same l n (suc (number_at l n))
 
 pub one_more_other : (l : List ℕ) (n m : ℕ) → m ≢ n → number_at (one_more l n) m ≡ number_at l m
-one_more_other l n m ne = get_or-set_other (l ++ replicate (suc n) 0) n m (suc (number_at l n)) 0 ne ∙ past_end l (suc n) m
+one_more_other l n m ne = with_number_other l n (suc (number_at l n)) m ne
+
+-- The places
+
+-- what a CPU's place of a slot says of the occupant is its net count for it
+pub place_is : (g : State) (x : CpuView) (t : ℕ) (e : Entry) (w : ℕ) → CpuShown g x → IsIn e (slot_at g.slots t) → IsPlaceCount x t e.number w → IsNetCount x e.number w
+place_is g x t e w had here place = dite (ℕ_discrete (number_at x.met t) e.number)
+    (λ (same : number_at x.met t ≡ e.number). place.met same)
+    (λ (off : number_at x.met t ≢ e.number).
+        let start : w ≡ bias = place.other off in
+        let none : number_at x.acquired e.number + number_at x.released e.number ≡ 0 = not_above _ (λ some_one. off (had.met t e here some_one)) in
+        omega arith)
+  where
+    not_above : (n : ℕ) → (0 < n → ⊥) → n ≡ 0
+    not_above zero none = refl
+    not_above (suc n) none = absurd (none (omega arith))
 
 -- Marks and net counts of one slot
 
@@ -130,11 +152,25 @@ pub record Recount (x : CpuView) (e : Entry) (v : ℕ) (acquired released : List
   pub same_acquired : (m : ℕ) → m ≢ e.number → number_at acquired m ≡ number_at x.acquired m
   pub same_released : (m : ℕ) → m ≢ e.number → number_at released m ≡ number_at x.released m
 
-abbrev pub recounted : State → CpuView → CpuLists → InHand → List ℕ → List ℕ → CpuView
-recounted g x l k acquired released = cpu_view (with_lists g l) x.id (record (own_of x) { hand = k; acquired = acquired; released = released })
+abbrev pub recounted : State → CpuView → ℕ → ℕ → CpuLists → InHand → List ℕ → List ℕ → CpuView
+recounted g x t n l k acquired released = cpu_view (with_lists g l) x.id (record (own_of x) { hand = k; acquired = acquired; released = released; met = with_number x.met t n })
+
+-- after a count for e in the slot t, an occupant that was counted is the one met last in its slot
+met_on : (g : State) (x : CpuView) (e : Entry) (t v : ℕ) (acquired released : List ℕ) → Good g → CpuShown g x → IsIn e (slot_at g.slots t) → Recount x e v acquired released
+    → (u : ℕ) (f : Entry) → IsIn f (slot_at g.slots u) → 0 < number_at acquired f.number + number_at released f.number → number_at (with_number x.met t e.number) u ≡ f.number
+met_on g x e t v acquired released good had here count u f there some_one = dite (ℕ_discrete u t)
+    (λ (on : u ≡ t).
+        let one : f ≡ e = one_in f e (slot_at g.slots t) here (subst (λ j. IsIn f (slot_at g.slots j)) on there) in
+        ap (number_at (with_number x.met t e.number)) on ∙ with_number_same x.met t e.number ∙ ap (λ (j : Entry). j.number) (sym one))
+    (λ (off : u ≢ t).
+        let ne : f.number ≢ e.number = λ is. off (one_number g.history g.slots t u e f good.holds.slots here there is).0 in
+        let a = count.same_acquired f.number ne in
+        let b = count.same_released f.number ne in
+        let before : 0 < number_at x.acquired f.number + number_at x.released f.number = omega arith in
+        with_number_other x.met t e.number u off ∙ had.met u f there before)
 
 pub shown_count : (g : State) (x : CpuView) (e : Entry) (t w v : ℕ) (h : Hand) (locals : List LocalPlace) (k : InHand) (acquired released : List ℕ) → Good g → CpuShown g x → IsIn e (slot_at g.slots t) → t < g.settings.slots
-    → Recount x e v acquired released → SameHand h k → HandFits g.history g.slots g.marks x.id k → CpuShown (with_lists g (count_lists g x.id t w v h locals)) (recounted g x (count_lists g x.id t w v h locals) k acquired released)
+    → Recount x e v acquired released → SameHand h k → HandFits g.history g.slots g.marks x.id k → CpuShown (with_lists g (count_lists g x.id t w v h locals)) (recounted g x t e.number (count_lists g x.id t w v h locals) k acquired released)
 shown_count g x e t w v h locals k acquired released good had here lt count same fits =
     let seen = seen_of g x good had in
     let most : g.settings.cpus ≤ 8 = seen.fit.cpus in
@@ -164,6 +200,7 @@ shown_count g x e t w v h locals k acquired released good had here lt count same
           let ne : n ≢ e.number = λ is. absurd (omega arith) in
           let was = had.later n above in
           (count.same_acquired n ne ∙ was.0, count.same_released n ne ∙ was.1);
+      met = met_on g x e t v acquired released good had here count;
       found = λ f is. subst (λ (p : List Change). IsAttached p f) seen.pass (had.found f (seen.found ∙ is));
       references = λ f among. subst (λ (p : List Change). IsAttached p f) seen.pass (had.references f among);
       heard = had.heard;

@@ -122,6 +122,7 @@ shown_hand g x h locals k good had same fits =
       gone = had.gone;
       nets = had.nets;
       later = had.later;
+      met = had.met;
       found = had.found;
       references = had.references;
       heard = had.heard;

@@ -145,6 +145,10 @@ cpu_shown_on g l y good after leaves had =
           (λ (came : Came g l t e). let net = came.2 y.id (below was good.holds.seats.within) in let none = had.later e.number came.0 in let a = none.0 in let b = none.1 in omega arith)
           (leaves.stay t e here);
       later = λ n above. had.later n (omega arith);
+      met = λ t e here some_one. ⊎_elim
+          (λ (stayed : Stayed g l t e). had.met t e stayed.0 some_one)
+          (λ (came : Came g l t e). let none = had.later e.number came.0 in let a = none.0 in let b = none.1 in absurd (omega arith))
+          (leaves.stay t e here);
       found = had.found;
       references = had.references;
       heard = subst (IsPrefix y.heard) (sym more) (prefix_on y.heard g.history zs had.heard);
@@ -238,6 +242,7 @@ beside_stays g locals due kept seat i mine j (Cpu y) ne sits shown backed = reco
   gone = shown.gone;
   nets = shown.nets;
   later = shown.later;
+  met = shown.met;
   found = shown.found;
   references = shown.references;
   heard = shown.heard;

@@ -135,6 +135,7 @@ cpu_beside x h = record {
     gone = had.gone;
     nets = had.nets;
     later = had.later;
+    met = had.met;
     found = had.found;
     references = had.references;
     heard = told;

@@ -147,6 +147,7 @@ put_shown g x e references m good had known is others attached = record {
   gone = λ n none. others n (λ same. none (e.slot, e, known.here, same)) ∙ had.gone n none;
   nets = had.nets;
   later = had.later;
+  met = had.met;
   found = λ f found. subst (λ (p : List Change). IsAttached p f) pass (had.found f (ap (λ (v : CpuView). v.found) had.is ∙ found));
   references = λ f among. subst (λ (p : List Change). IsAttached p f) pass (attached f among);
   heard = had.heard;

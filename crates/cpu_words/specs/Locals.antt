@@ -10,7 +10,7 @@ use Rattle.cpu_words.specs.declared.view.CpuView.{CpuView}
 use Rattle.cpu_words.specs.declared.view.ReferenceView.{ReferenceView}
 use Rattle.cpu_words.specs.declared.view.View.{View}
 use Rattle.cpu_words.specs.declared.view.View.TheVariants.{Cpu, Reference}
-use Rattle.cpu_words.specs.Views.{number_at, one_more, no_entry, cpu_of, reference_of}
+use Rattle.cpu_words.specs.Views.{number_at, with_number, one_more, no_entry, cpu_of, reference_of}
 use Rattle.cpu_words.specs.Steps.{Makes}
 use Rattle.cpu_words.specs.Sections.{IsIdle}
 
@@ -53,42 +53,49 @@ IsBack x e = x.hand ≡ BackEntry e
 abbrev pub IsNetCount : CpuView → ℕ → ℕ → Type 0
 IsNetCount x n w = w + number_at x.released n ≡ bias + number_at x.acquired n
 
--- the last found entry is n in the slot t, and the CPU's net count for it is below the limit
+-- what the CPU's place of the slot t says of n: its net count over the bias, or the bias where it met another number there
+pub record IsPlaceCount (x : CpuView) (t n w : ℕ) : Type 0 where
+  pub met : number_at x.met t ≡ n → IsNetCount x n w
+  pub other : (number_at x.met t ≡ n → ⊥) → w ≡ bias
+
+-- the last found entry is n in the slot t, and by its place of t the CPU's net count for n is below the limit
 pub record MayCount (x : CpuView) (t n : ℕ) : Type 0 where
   pub idle : IsIdle x
   pub entry : Entry
   pub found : x.found ≡ Some entry
   pub slot : entry.slot ≡ t
   pub number : entry.number ≡ n
-  pub room : number_at x.acquired n < number_at x.released n + x.settings.count_limit
+  pub count : ℕ
+  pub place : IsPlaceCount x t n count
+  pub room : count < bias + x.settings.count_limit
 
--- a reference to the last found entry was counted, and is in the hand
-abbrev pub HasCounted : CpuView → ℕ → CpuView → Type 0
-HasCounted x n y = (e : Entry) × (x.found ≡ Some e) × (e.number ≡ n) × (y ≡ record x { hand = TakingEntry e; acquired = one_more x.acquired n })
+-- a reference to the last found entry, n in the slot t, was counted, and is in the hand
+abbrev pub HasCounted : CpuView → ℕ → ℕ → CpuView → Type 0
+HasCounted x t n y = (e : Entry) × (x.found ≡ Some e) × (e.slot ≡ t) × (e.number ≡ n) × (y ≡ record x { hand = TakingEntry e; acquired = one_more x.acquired n; met = with_number x.met t n })
 
 -- what the addition of 1 to the word w tells
 abbrev pub CountTold : CpuView → ℕ → CpuView → Type 0
-CountTold x w y = (t n : ℕ) → MayCount x t n → HasCounted x n y × IsNetCount x n w
+CountTold x w y = (t n : ℕ) → MayCount x t n → HasCounted x t n y × IsNetCount x n w
 
--- the reference in the hand is to n in the slot t, and w is the CPU's net count for it
+-- the reference in the hand is to n in the slot t, and w is what the CPU's place of t says of n
 pub record MayCountDown (x : CpuView) (t n w : ℕ) : Type 0 where
   pub entry : Entry
   pub giving : IsGiving x entry
   pub slot : entry.slot ≡ t
   pub number : entry.number ≡ n
-  pub net : IsNetCount x n w
+  pub place : IsPlaceCount x t n w
 
--- the reference was counted down, or it stays in the hand, to go back
-abbrev pub HasCountedDown : CpuView → ℕ → CpuView → Type 0
-HasCountedDown x n y = (e : Entry) × IsGiving x e × (e.number ≡ n) × (y ≡ record x { hand = NoEntry; released = one_more x.released n })
+-- the reference, to n in the slot t, was counted down, or it stays in the hand, to go back
+abbrev pub HasCountedDown : CpuView → ℕ → ℕ → CpuView → Type 0
+HasCountedDown x t n y = (e : Entry) × IsGiving x e × (e.slot ≡ t) × (e.number ≡ n) × (y ≡ record x { hand = NoEntry; released = one_more x.released n; met = with_number x.met t n })
 
 abbrev pub HasFoundCollected : CpuView → ℕ → CpuView → Type 0
 HasFoundCollected x n y = (e : Entry) × IsGiving x e × (e.number ≡ n) × (y ≡ with_hand x (BackEntry e))
 
 -- what the compare-exchange from `old` tells, where it found the word w
 abbrev pub DownTold : Event → ℕ → CpuView → ℕ → CpuView → Type 0
-DownTold e old x w y = (t n : ℕ) → MayCountDown x t n old → (0 < old)
-    × (w ≡ old → Makes e (Word w) (Cpu x) (Cpu y) × HasCountedDown x n y)
+DownTold e old x w y = (t n : ℕ) → MayCountDown x t n old → (0 < old) × IsNetCount x n old
+    × (w ≡ old → Makes e (Word w) (Cpu x) (Cpu y) × HasCountedDown x t n y)
     × ((w ≡ old → ⊥) → Makes e Collected (Cpu x) (Cpu y) × HasFoundCollected x n y)
 
 -- the reference has left the hand, and has its seat

@@ -42,9 +42,13 @@ pub record Named : Type 0 where
 abbrev pub number_at : List ℕ → ℕ → ℕ
 number_at l n = slice_index_or l n 0
 
+-- v at i, where the list may end before i
+abbrev pub with_number : List ℕ → ℕ → ℕ → List ℕ
+with_number l i v = slice_set (l ++ replicate (suc i) 0) i v
+
 -- one more at n
 abbrev pub one_more : List ℕ → ℕ → List ℕ
-one_more l n = slice_set (l ++ replicate (suc n) 0) n (suc (number_at l n))
+one_more l n = with_number l n (suc (number_at l n))
 
 abbrev pub is_to : ℕ → Entry → Bool
 is_to n e = e.number == n
@@ -65,6 +69,7 @@ pub record CpuOwn : Type 0 where
   pub references : List Entry
   pub acquired : List ℕ
   pub released : List ℕ
+  pub met : List ℕ
   pub heard : List Change
 
 pub record KeeperOwn : Type 0 where
@@ -75,7 +80,7 @@ pub record KeeperOwn : Type 0 where
   pub heard : List Change
 
 abbrev pub own_of : CpuView → CpuOwn
-own_of x = record { hand = x.hand; references = x.references; acquired = x.acquired; released = x.released; heard = x.heard }
+own_of x = record { hand = x.hand; references = x.references; acquired = x.acquired; released = x.released; met = x.met; heard = x.heard }
 
 abbrev pub keeper_own : KeeperView → KeeperOwn
 keeper_own k = record { counts = k.counts; given_up = k.given_up; looks = k.looks; last_look = k.last_look; heard = k.heard }
@@ -94,6 +99,7 @@ cpu_view g c own = record {
   references = own.references;
   acquired = own.acquired;
   released = own.released;
+  met = own.met;
   heard = own.heard;
 }
 
@@ -153,6 +159,8 @@ pub record CpuShown (g : State) (x : CpuView) : Type 0 where
   -- its net count for an occupant is what it acquired less what it released
   pub nets : (t : ℕ) (e : Entry) → IsIn e (slot_at g.slots t) → count_at g.nets x.id t + number_at x.released e.number ≡ bias + number_at x.acquired e.number
   pub later : (n : ℕ) → length g.history < n → (number_at x.acquired n ≡ 0) × (number_at x.released n ≡ 0)
+  -- an occupant that it has counted is the one that it met last in that slot
+  pub met : (t : ℕ) (e : Entry) → IsIn e (slot_at g.slots t) → 0 < number_at x.acquired e.number + number_at x.released e.number → number_at x.met t ≡ e.number
   -- what it found and refers to is in its pass
   pub found : (e : Entry) → x.found ≡ Some e → IsAttached x.pass e
   pub references : (e : Entry) → Contains x.references e → IsAttached x.pass e
@@ -234,6 +242,7 @@ new_cpu z c = record {
   references = [];
   acquired = [];
   released = [];
+  met = [];
   heard = [];
 }
 

@@ -57,6 +57,8 @@ pub struct CpuView {
     /// By number: the local references that this CPU acquired, and those that it released by its own count.
     pub acquired: LinkedList<u64>,
     pub released: LinkedList<u64>,
+    /// By slot: the number of the entry there that this CPU last counted a reference to, up or down; 0 for none.
+    pub met: LinkedList<u64>,
     /// What a note told, until the next load.
     pub heard: LinkedList<Change>,
 }

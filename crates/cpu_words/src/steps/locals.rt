@@ -19,7 +19,8 @@ use std::marker::Brand;
 
 /// CPU `cpu` counts a local reference to its last found entry, the one with `number` (from 1) in `slot` (from 0), and has it in its hand:
 /// one addition to its count word. It answers the word as it was, which is its net count for that number, over the bias.
-/// Condition: the seat is that CPU's, idle, and its net count for that number is below the count limit.
+/// Condition: the seat is that CPU's, idle, and its net count for that number is below the count limit, by its place of that slot: where it
+/// last counted another number there, it has counted none to this one.
 pub fn count_add(words: &Words, seat: &mut CpuSeat, cpu: u8, slot: u8, number: u64) -> u64
     requires table { seat.old.table ≡ words.now.table }
     requires place { (cpu < 8) × (slot < 32) }
@@ -27,7 +28,7 @@ pub fn count_add(words: &Words, seat: &mut CpuSeat, cpu: u8, slot: u8, number: u
     requires may { MayCount seat.old.view slot number }
     ensures table { seat.new.table ≡ seat.old.table }
     ensures event { Makes (CountAdd cpu) (Word result) (Cpu seat.old.view) (Cpu seat.new.view) }
-    ensures change { HasCounted seat.old.view number seat.new.view }
+    ensures change { HasCounted seat.old.view slot number seat.new.view }
     ensures word { IsNetCount seat.old.view number result }
 {
     let _number = number;
@@ -93,7 +94,8 @@ pub fn join_ref(words: &Words, seat: &mut CpuSeat, cpu: u8, reference: Reference
 /// CPU `cpu` counts the reference in its hand, to the entry with `number` (from 1) in `slot` (from 0), down: one compare-exchange of its
 /// count word from `expected` to one less. It answers the word as it was. Another word than `expected` says that the keeper has collected
 /// it: then the reference stays in the hand, to go back.
-/// Condition: the seat is that CPU's, with such a reference in its hand, and `expected` is its net count for that number, over the bias.
+/// Condition: the seat is that CPU's, with such a reference in its hand, and `expected` is its net count for that number, over the bias, by
+/// its place of that slot: where it last counted another number there, it has counted none to this one, and `expected` is the bias.
 pub fn count_down(
     words: &Words,
     seat: &mut CpuSeat,
@@ -108,7 +110,8 @@ pub fn count_down(
     requires may { MayCountDown seat.old.view slot number expected }
     ensures table { seat.new.table ≡ seat.old.table }
     ensures floor { 0 < expected }
-    ensures counted { result ≡ expected → Makes (CountDown cpu) (Word result) (Cpu seat.old.view) (Cpu seat.new.view) × HasCountedDown seat.old.view number seat.new.view }
+    ensures net { IsNetCount seat.old.view number expected }
+    ensures counted { result ≡ expected → Makes (CountDown cpu) (Word result) (Cpu seat.old.view) (Cpu seat.new.view) × HasCountedDown seat.old.view slot number seat.new.view }
     ensures collected { result ≢ expected → Makes (CountDown cpu) Collected (Cpu seat.old.view) (Cpu seat.new.view) × HasFoundCollected seat.old.view number seat.new.view }
 {
     let _number = number;

@@ -8,8 +8,11 @@ compare_exchange-requires-clause-may c = count_down_may _ _ _ _ _ _ _ c.requires
 pub returns-clause-floor : goal.returns-clause-floor
 returns-clause-floor c = (c.compare_exchange.ensures.told _ _ c.requires.may).0
 
+pub returns-clause-net : goal.returns-clause-net
+returns-clause-net c = (c.compare_exchange.ensures.told _ _ c.requires.may).1
+
 pub returns-clause-counted : goal.returns-clause-counted
-returns-clause-counted c = (c.compare_exchange.ensures.told _ _ c.requires.may).1
+returns-clause-counted c = (c.compare_exchange.ensures.told _ _ c.requires.may).2
 
 pub returns-clause-collected : goal.returns-clause-collected
-returns-clause-collected c = (c.compare_exchange.ensures.told _ _ c.requires.may).2
+returns-clause-collected c = (c.compare_exchange.ensures.told _ _ c.requires.may).3
