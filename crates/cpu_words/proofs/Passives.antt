@@ -330,8 +330,7 @@ load_at z x e k idle among few s r i at fits =
       λ c t n j event place.
           let same_word : k ≡ j = cc in
           let number : e.number ≡ n = cc in
-          let slot : e.slot ≡ t = omega (arith, same_word, place) in
-          (
+          let slot : e.slot ≡ t = omega (arith, same_word, place) in (
             λ f at_ held_.
                 let its = held_known g x f r.good had held_ in
                 let one_slot : e.slot ≡ f.slot = slot ∙ sym at_.slot in
