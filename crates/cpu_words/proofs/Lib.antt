@@ -1,4 +1,5 @@
 pub mod Placing
+pub mod Apart
 pub mod Showing
 pub mod Passes
 pub mod Standing

@@ -32,7 +32,7 @@ use Rattle.cpu_words.specs.Views.{CpuOwn, own_of, cpu_view, depth_of, references
 use Rattle.cpu_words.specs.Rule.{Agrees, Good, Ruled}
 use Rattle.cpu_words.specs.Steps.{Makes, CpuMay}
 use Rattle.cpu_words.specs.Sections.{IsIdle}
-use Rattle.cpu_words.specs.Passives.{MayAdd, MayUse, HasSubtracted, tells_added, tells_subtracted, tells_passive}
+use Rattle.cpu_words.specs.Passives.{MayAdd, MayUse, HasSubtracted, IsAloneAt, tells_added, tells_subtracted, tells_passive}
 use Rattle.cpu_words.proofs.Placing.{agrees_set}
 use Rattle.cpu_words.proofs.Passes.{attached_prefix, taken_is_prefix}
 use Rattle.cpu_words.proofs.CpuSteps.{CpuLists, lists_of, with_lists, LeavesOthers, cpu_makes}
@@ -89,6 +89,13 @@ held_known g x e good had among =
     let one : e ≡ has.1 = one_entry g.history e has.1 mine its.0 (sym has.3) in
     let at : has.0 ≡ e.slot = sym its.1 ∙ sym (ap (λ (f : Entry). f.slot) one) in
     known_in g x e good had (subst (λ (t : ℕ). IsIn e (slot_at g.slots t)) at (subst (λ (f : Entry). IsIn f (slot_at g.slots has.0)) (sym one) has.2)) there
+
+-- the CPU's references into the slot of such an entry are to it
+alone : (g : State) (x : CpuView) (e : Entry) (t n : ℕ) → Good g → CpuShown g x → Known g x e → e.slot ≡ t → e.number ≡ n → IsAloneAt x t n
+alone g x e t n good had known slot number f among same =
+    let its = held_known g x f good had among in
+    let one : f ≡ e = one_in f e (slot_at g.slots e.slot) known.here (subst (λ (u : ℕ). IsIn f (slot_at g.slots u)) (same ∙ sym slot) its.here) in
+    ap (λ (h : Entry). h.number) one ∙ number
 
 -- A step on the CPU's passive word for one slot
 
@@ -245,7 +252,7 @@ add_at z x e idle has room s r i at fits =
           let number : e.number ≡ n = cc in
           let cpu : x.id ≡ c = cc in
           let slot : e.slot ≡ t = omega (arith, cpu, place) in
-          ((e, record { slot = slot; number = number }, known.attached, done.1), omega (arith, slot, known.few), stands ∙ count ∙ ap (λ (k : ℕ). references_to k x.references) number),
+          ((e, record { slot = slot; number = number }, known.attached, done.1), omega (arith, slot, known.few), stands ∙ count ∙ ap (λ (k : ℕ). references_to k x.references) number, alone g x e t n r.good had known slot number),
     )
 
 -- the step, for a slot and a number
@@ -269,7 +276,7 @@ less_of x y m n same is = is ∙ ap (λ (k : ℕ). record x { references = witho
 
 -- the step, for an entry
 sub_at : (z : Settings) (x : CpuView) (e : Entry) → IsIdle x → Contains x.references e
-    → CpuMay z x (80 * x.id + 1 + e.slot) (λ m. (m + (2 ^ 64 - 1)) % 2 ^ 64) (tells_subtracted (PassiveSub x.id e.number))
+    → CpuMay z x (80 * x.id + 1 + e.slot) (λ m. (m + (2 ^ 64 - 1)) % 2 ^ 64) (tells_subtracted (PassiveSub x.id e.number) (80 * x.id + 1 + e.slot))
 sub_at z x e idle among s r i at fits =
     let g = r.g in
     let had : CpuShown g x = (r.shows.fits i (Cpu x) at).1 in
@@ -286,16 +293,18 @@ sub_at z x e idle among s r i at fits =
     let made = sub_allowed g x e r.good had known idle one ∙ (λ k. Some (record { state = with_lists g (put g x.id e.slot (sym next k)); reply = Word (passive_at g.passive x.id e.slot) })) in
     let done = put_makes z s r i x e (without e.number x.references) ((word + (2 ^ 64 - 1)) % 2 ^ 64) (PassiveSub x.id e.number) at known is (λ n off. others_stay e.number n x.references (λ same. off (sym same)))
     (λ f left. had.references f (was_in e.number x.references f left)) made in
-    moved z s i x (80 * x.id + 1 + e.slot) ((word + (2 ^ 64 - 1)) % 2 ^ 64) (tells_subtracted (PassiveSub x.id e.number)) done.0 done.2 (
+    moved z s i x (80 * x.id + 1 + e.slot) ((word + (2 ^ 64 - 1)) % 2 ^ 64) (tells_subtracted (PassiveSub x.id e.number) (80 * x.id + 1 + e.slot)) done.0 done.2 (
       done.3,
-      λ c n event.
+      λ c t n event place.
           let number : e.number ≡ n = cc in
-          (less_of x done.0 e.number n number done.1, stands ∙ count ∙ ap (λ (k : ℕ). references_to k x.references) number),
+          let cpu : x.id ≡ c = cc in
+          let slot : e.slot ≡ t = omega (arith, cpu, place) in
+          (less_of x done.0 e.number n number done.1, stands ∙ count ∙ ap (λ (k : ℕ). references_to k x.references) number, alone g x e t n r.good had known slot number),
     )
 
 -- the step, for a slot and a number
-pub sub_may : (z : Settings) (x : CpuView) (c t n : ℕ) → x.id ≡ c → MayUse x t n → CpuMay z x (80 * c + 1 + t) (λ m. (m + (2 ^ 64 - 1)) % 2 ^ 64) (tells_subtracted (PassiveSub c n))
-sub_may z x c t n id may = subst (λ (p : ℕ × ℕ × ℕ). CpuMay z x (80 * p.0 + 1 + p.1) (λ m. (m + (2 ^ 64 - 1)) % 2 ^ 64) (tells_subtracted (PassiveSub p.0 p.2))) (λ k. (id k, may.at.slot k, may.at.number k))
+pub sub_may : (z : Settings) (x : CpuView) (c t n : ℕ) → x.id ≡ c → MayUse x t n → CpuMay z x (80 * c + 1 + t) (λ m. (m + (2 ^ 64 - 1)) % 2 ^ 64) (tells_subtracted (PassiveSub c n) (80 * c + 1 + t))
+sub_may z x c t n id may = subst (λ (p : ℕ × ℕ × ℕ). CpuMay z x (80 * p.0 + 1 + p.1) (λ m. (m + (2 ^ 64 - 1)) % 2 ^ 64) (tells_subtracted (PassiveSub p.0 p.2) (80 * p.0 + 1 + p.1))) (λ k. (id k, may.at.slot k, may.at.number k))
     (sub_at z x may.entry may.idle may.held)
 
 -- The record of an entry that the CPU refers to
@@ -319,12 +328,16 @@ load_at z x e k idle among few s r i at fits =
     moved z s i x (657 + 8 * e.slot + k) found (tells_passive (LoadRecord (Passive x.id e.number k)) (657 + 8 * e.slot + k)) x done.0 (
       done.1,
       refl,
-      λ c t n j event place f at_ held_.
+      λ c t n j event place.
           let same_word : k ≡ j = cc in
-          let slot : e.slot ≡ t = omega (arith, same_word, place) in
-          let its = held_known g x f r.good had held_ in
-          let one_slot : e.slot ≡ f.slot = slot ∙ sym at_.slot in
-          stands ∙ (λ h. word (row_at g.rows (one_slot h)) (same_word h)) ∙ row_word g f j r.good its.here,
+          let number : e.number ≡ n = cc in
+          let slot : e.slot ≡ t = omega (arith, same_word, place) in (
+            λ f at_ held_.
+                let its = held_known g x f r.good had held_ in
+                let one_slot : e.slot ≡ f.slot = slot ∙ sym at_.slot in
+                stands ∙ (λ h. word (row_at g.rows (one_slot h)) (same_word h)) ∙ row_word g f j r.good its.here,
+            alone g x e t n r.good had known slot number,
+          ),
     )
 
 -- the step, for a slot and a number

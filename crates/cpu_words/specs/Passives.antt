@@ -46,16 +46,20 @@ HasSubtracted x n y = y ≡ record x { references = without n x.references }
 abbrev pub IsWordOf : CpuView → ℕ → ℕ → ℕ → ℕ → Type 0
 IsWordOf x t n k m = (e : Entry) → IsAt e t n → Contains x.references e → m ≡ word (words_of e) k
 
+-- the CPU's references into the slot t are to the entry n alone
+abbrev pub IsAloneAt : CpuView → ℕ → ℕ → Type 0
+IsAloneAt x t n = (f : Entry) → Contains x.references f → f.slot ≡ t → f.number ≡ n
+
 -- What the inner steps are told: of the event and the word's place
 
 abbrev pub tells_added : Event → ℕ → CpuView → ℕ → CpuView → Type 0
 tells_added event i x m y = Makes event (Word m) (Cpu x) (Cpu y)
-    × ((c t n : ℕ) → event ≡ PassiveAdd c n → i ≡ 80 * c + 1 + t → HasAdded x t n y × (t < 32) × (m ≡ references_to n x.references))
+    × ((c t n : ℕ) → event ≡ PassiveAdd c n → i ≡ 80 * c + 1 + t → HasAdded x t n y × (t < 32) × (m ≡ references_to n x.references) × IsAloneAt x t n)
 
-abbrev pub tells_subtracted : Event → CpuView → ℕ → CpuView → Type 0
-tells_subtracted event x m y = Makes event (Word m) (Cpu x) (Cpu y)
-    × ((c n : ℕ) → event ≡ PassiveSub c n → HasSubtracted x n y × (m ≡ references_to n x.references))
+abbrev pub tells_subtracted : Event → ℕ → CpuView → ℕ → CpuView → Type 0
+tells_subtracted event i x m y = Makes event (Word m) (Cpu x) (Cpu y)
+    × ((c t n : ℕ) → event ≡ PassiveSub c n → i ≡ 80 * c + 1 + t → HasSubtracted x n y × (m ≡ references_to n x.references) × IsAloneAt x t n)
 
 abbrev pub tells_passive : Event → ℕ → CpuView → ℕ → CpuView → Type 0
 tells_passive event i x m y = Makes event (Word m) (Cpu x) (Cpu y)
-    × (y ≡ x) × ((c t n k : ℕ) → event ≡ LoadRecord (Passive c n k) → i ≡ 657 + 8 * t + k → IsWordOf x t n k m)
+    × (y ≡ x) × ((c t n k : ℕ) → event ≡ LoadRecord (Passive c n k) → i ≡ 657 + 8 * t + k → IsWordOf x t n k m × IsAloneAt x t n)

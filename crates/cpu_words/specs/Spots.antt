@@ -1,6 +1,7 @@
 -- Where the words lie. The strides are constants, for at most 8 CPUs and 32 slots: no place depends on the settings.
-use Rattle.std.specs.Prelude.{◌≡◌, ℕ, ◌+◌, ◌*◌, ◌<◌, ◌≤◌, ◌⊎◌, List, length, slice_index_or, Option, Some, None}
+use Rattle.std.specs.Prelude.{◌≡◌, ℕ, ◌+◌, ◌*◌, ◌<◌, ◌≤◌, ◌⊎◌, List, IsTrue, length, slice_index_or, Option, Some, None}
 use Rattle.passive_core.specs.declared.settings.Settings.{Settings}
+use Rattle.passive_core.specs.Limits.{are_fit}
 use Rattle.passive_core.specs.State.{State, section_at, row_at, passive_at, count_at, total_at}
 use Rattle.passive_core.specs.Events.{word}
 
@@ -57,3 +58,11 @@ owner (total_of t) = None
 -- nine words or more from one to the other: they share no line of eight words, wherever the block begins
 abbrev pub AreApart : ℕ → ℕ → Type 0
 AreApart i j = (i + 9 ≤ j) ⊎ (j + 9 ≤ i)
+
+-- The words of two CPUs, and a CPU's and the shared ones, are so apart, for all settings that are fit.
+abbrev pub LinesApart : Type 0
+LinesApart = (z : Settings) → IsTrue (are_fit z) → (p q : Spot) → IsSpot z p → IsSpot z q → (owner p ≡ owner q → ⊥) → AreApart (index p) (index q)
+
+-- Two different words are at different places.
+abbrev pub OnePlace : Type 0
+OnePlace = (z : Settings) → IsTrue (are_fit z) → (p q : Spot) → IsSpot z p → IsSpot z q → (p ≡ q → ⊥) → index p ≡ index q → ⊥

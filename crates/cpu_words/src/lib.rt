@@ -3,6 +3,7 @@
 #![tactic(auto)]
 
 mod law;
+mod layout;
 mod open;
 mod seat;
 mod step;
@@ -10,6 +11,7 @@ pub mod steps;
 mod view;
 
 pub use law::{Domain, Picture, Words};
+pub use layout::layout_law;
 pub use seat::{CpuSeat, KeeperSeat, NoteSeat, ReferenceSeat};
 pub use view::{CpuView, InHand, KeeperView, Looked, ReferenceView, View};
 

@@ -7,7 +7,7 @@ ghost use Rattle.passive_core.specs.declared.event.Reply.TheVariants.{Word};
 ghost use Rattle.cpu_words.specs.declared.view.View.TheVariants.{Cpu};
 ghost use Rattle.cpu_words.specs.Views.{references_to};
 ghost use Rattle.cpu_words.specs.Steps.{Makes};
-ghost use Rattle.cpu_words.specs.Passives.{MayAdd, MayUse, HasAdded, HasSubtracted, IsWordOf};
+ghost use Rattle.cpu_words.specs.Passives.{MayAdd, MayUse, HasAdded, HasSubtracted, IsWordOf, IsAloneAt};
 
 use crate::law::Words;
 use crate::seat::CpuSeat;
@@ -16,7 +16,7 @@ use passive_core::{Event, RecordOf};
 use std::marker::Brand;
 
 /// CPU `cpu` gets a passive reference to the entry `number` of slot `slot`, by one addition to its passive word for that slot.
-/// It answers how many it had.
+/// It answers how many it had. Its references into the slot are all to that entry.
 /// Condition: the seat is that CPU's and idle, the entry is its last found one or it has a passive reference to it already, and it
 /// has fewer of them than the passive limit.
 pub fn passive_add(words: &Words, seat: &mut CpuSeat, cpu: u8, slot: u8, number: u64) -> u64
@@ -28,6 +28,7 @@ pub fn passive_add(words: &Words, seat: &mut CpuSeat, cpu: u8, slot: u8, number:
     ensures change { HasAdded seat.old.view slot number seat.new.view }
     ensures slot { slot < 32 }
     ensures count { result ≡ references_to number seat.old.view.references }
+    ensures alone { IsAloneAt seat.old.view slot number }
 {
     let word = 80 * cpu as usize + 1 + slot as usize;
     by_cpu::add::<Brand>(words, seat, word, 1, Event::PassiveAdd(cpu, number))
@@ -44,6 +45,7 @@ pub fn passive_sub(words: &Words, seat: &mut CpuSeat, cpu: u8, slot: u8, number:
     ensures event { Makes (PassiveSub cpu number) (Word result) (Cpu seat.old.view) (Cpu seat.new.view) }
     ensures change { HasSubtracted seat.old.view number seat.new.view }
     ensures count { result ≡ references_to number seat.old.view.references }
+    ensures alone { IsAloneAt seat.old.view slot number }
 {
     let word = 80 * cpu as usize + 1 + slot as usize;
     by_cpu::subtract::<Brand>(words, seat, word, 1, Event::PassiveSub(cpu, number))
@@ -62,6 +64,7 @@ pub fn load_passive(words: &Words, seat: &mut CpuSeat, cpu: u8, slot: u8, number
     ensures event { Makes (LoadRecord (Passive cpu number k)) (Word result) (Cpu seat.old.view) (Cpu seat.new.view) }
     ensures same { seat.new.view ≡ seat.old.view }
     ensures word { IsWordOf seat.old.view slot number k result }
+    ensures alone { IsAloneAt seat.old.view slot number }
 {
     let word = 657 + 8 * slot as usize + k as usize;
     let event = Event::LoadRecord(RecordOf::Passive(cpu, number, k));

@@ -6,4 +6,7 @@ pub load-requires-clause-may : goal.load-requires-clause-may
 load-requires-clause-may c = load_may _ _ _ _ _ _ c.requires.cpu.1 c.requires.place.1 c.requires.may
 
 pub returns-clause-word : goal.returns-clause-word
-returns-clause-word c = c.load.ensures.told.2 c.args.cpu c.args.slot c.args.number c.args.k refl refl
+returns-clause-word c = (c.load.ensures.told.2 c.args.cpu c.args.slot c.args.number c.args.k refl refl).0
+
+pub returns-clause-alone : goal.returns-clause-alone
+returns-clause-alone c = (c.load.ensures.told.2 c.args.cpu c.args.slot c.args.number c.args.k refl refl).1

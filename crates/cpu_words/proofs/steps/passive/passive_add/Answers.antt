@@ -13,3 +13,6 @@ returns-clause-slot c = (c.add.ensures.told.1 c.args.cpu c.args.slot c.args.numb
 
 pub returns-clause-count : goal.returns-clause-count
 returns-clause-count c = (c.add.ensures.told.1 c.args.cpu c.args.slot c.args.number refl refl).2
+
+pub returns-clause-alone : goal.returns-clause-alone
+returns-clause-alone c = (c.add.ensures.told.1 c.args.cpu c.args.slot c.args.number refl refl).3

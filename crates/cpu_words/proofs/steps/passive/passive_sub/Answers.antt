@@ -6,7 +6,10 @@ pub subtract-requires-clause-may : goal.subtract-requires-clause-may
 subtract-requires-clause-may c = sub_may _ _ _ _ _ c.requires.cpu.1 c.requires.may
 
 pub returns-clause-change : goal.returns-clause-change
-returns-clause-change c = (c.subtract.ensures.told.1 c.args.cpu c.args.number refl).0
+returns-clause-change c = (c.subtract.ensures.told.1 c.args.cpu c.args.slot c.args.number refl refl).0
 
 pub returns-clause-count : goal.returns-clause-count
-returns-clause-count c = (c.subtract.ensures.told.1 c.args.cpu c.args.number refl).1
+returns-clause-count c = (c.subtract.ensures.told.1 c.args.cpu c.args.slot c.args.number refl refl).1
+
+pub returns-clause-alone : goal.returns-clause-alone
+returns-clause-alone c = (c.subtract.ensures.told.1 c.args.cpu c.args.slot c.args.number refl refl).2

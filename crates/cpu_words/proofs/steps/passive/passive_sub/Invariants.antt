@@ -2,4 +2,4 @@ use Rattle.cpu_words.specs.Passives.{tells_subtracted}
 use Rattle.cpu_words.proofs.steps.passive.passive_sub.Given as goal
 
 abbrev pub ghosts-subtract : goal.ghosts-subtract
-ghosts-subtract a = record { tells = tells_subtracted a.event }
+ghosts-subtract a = record { tells = tells_subtracted a.event a.word }

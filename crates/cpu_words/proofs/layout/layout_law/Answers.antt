@@ -1,0 +1,8 @@
+use Rattle.cpu_words.proofs.Apart.{lines_apart, one_place}
+use Rattle.cpu_words.proofs.layout.layout_law.Goals as goal
+
+pub returns-clause-lines_apart : goal.returns-clause-lines_apart
+returns-clause-lines_apart c = lines_apart
+
+pub returns-clause-one_place : goal.returns-clause-one_place
+returns-clause-one_place c = one_place
