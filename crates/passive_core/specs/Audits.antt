@@ -5,7 +5,7 @@ use Rattle.passive_core.specs.declared.entry.Entry.{Entry}
 use Rattle.passive_core.specs.declared.state.Slot.{Slot}
 use Rattle.passive_core.specs.declared.state.Slot.TheVariants.{Vacant, Live, Retired}
 use Rattle.passive_core.specs.State.{State, bias, slot_at, total_at}
-use Rattle.passive_core.specs.Invariant.{held_at}
+use Rattle.passive_core.specs.Invariant.{IsIn, held_at}
 
 -- what is said of one entry
 pub record Tally : Type 0 where
@@ -58,3 +58,7 @@ tally_shown b = record { number = b.number; slot = b.slot; held = b.held; locals
 -- the tally is right: it is the number of local references held
 abbrev pub IsHeldRightly : State → Tally → Type 0
 IsHeldRightly s tally = tally.held ≡ pos (held_at s.locals s.hands s.keeps s.due tally.number tally.slot)
+
+-- some slot has a live or retired entry
+abbrev pub IsOccupied : State → Type 0
+IsOccupied s = (t : ℕ) × (e : Entry) × IsIn e (slot_at s.slots t)

@@ -11,7 +11,7 @@ mod run;
 mod search;
 mod sections;
 
-ghost use Rattle.std.specs.Prelude.{◌≡◌, ◌↔◌, ◌++◌, ◌∷◌, [], IfOk, IfErr, IsErrOf, IsTrue, OnErr, OnOk, false, replicate};
+ghost use Rattle.std.specs.Prelude.{◌≡◌, ◌↔◌, ◌++◌, ◌∷◌, ◌<◌, ◌≤◌, [], IfOk, IfErr, IsErrOf, IsTrue, OnErr, OnOk, false, replicate, vec_capacity, vec_len};
 ghost use Rattle.passive_core.specs.Limits.{are_fit};
 ghost use Rattle.passive_core.specs.Refusals.{IsRefusalOfNew};
 ghost use Rattle.passive_core.specs.State.{opening};
@@ -156,5 +156,18 @@ fn grow<T: Drop>(list: &mut Vec<T>, item: T) -> Result<(), StepFault>
     match list.push(item) {
         Ok(()) => Ok(()),
         Err(_) => Err(StepFault::NoMemory),
+    }
+}
+
+/// Makes room for one more item at the end of a list. Refused: `NoMemory`, and only where there is no room.
+fn make_room<T: Drop>(list: &mut Vec<T>) -> Result<(), Refusal>
+    ensures same { list.new.items ≡ list.old.items }
+    ensures room { OnOk result (vec_len list.new < vec_capacity list.new) }
+    ensures full { OnErr result (vec_capacity list.old ≤ vec_len list.old) }
+    ensures refusal { IfErr result (λ refusal. refusal ≡ Refusal.NoMemory) }
+{
+    match list.reserve(1) {
+        Ok(()) => Ok(()),
+        Err(_) => Err(Refusal::NoMemory),
     }
 }

@@ -15,7 +15,7 @@ ghost use Rattle.passive_core.specs.State.{kept_at, local_at};
 use crate::entry::{Entry, Kind, Record};
 use crate::event::Event;
 use crate::machine::search::kind_word;
-use crate::machine::{BIAS, Core};
+use crate::machine::{BIAS, Core, make_room};
 use crate::refusal::Refusal;
 use crate::state::{Key, LocalPlace, RecordWords, Slot};
 
@@ -201,10 +201,7 @@ impl Core {
         ensures same { self.new ≡ self.old }
         ensures refusal { IfErr result (λ refusal. refusal ≡ Refusal.NoMemory) }
     {
-        match self.history.reserve(1) {
-            Ok(()) => Ok(()),
-            Err(_) => Err(Refusal::NoMemory),
-        }
+        make_room(&mut self.history)
     }
 
     /// What `restore` puts back.

@@ -1,7 +1,7 @@
 //! The audit of local references (localcount(9)).
 
-ghost use Rattle.std.specs.Prelude.{◌≡◌, ℕ, ◌+◌, ◌<◌, ◌≤◌, ◌^◌, IfOk, IfErr, All, map, length, pos, neg_ℤ, ◌≤ℤ◌, slice_index_or, true};
-ghost use Rattle.passive_core.specs.Audits.{IsHeldRightly, audit_of, less_bias, local_of, locals_at, sum_of, tally_of, tally_shown};
+ghost use Rattle.std.specs.Prelude.{◌≡◌, ℕ, ◌+◌, ◌<◌, ◌≤◌, ◌^◌, IfOk, IfErr, OnErr, All, map, length, pos, neg_ℤ, ◌≤ℤ◌, slice_index_or, true};
+ghost use Rattle.passive_core.specs.Audits.{IsHeldRightly, IsOccupied, audit_of, less_bias, local_of, locals_at, sum_of, tally_of, tally_shown};
 ghost use Rattle.passive_core.specs.Invariant.{IsIn};
 ghost use Rattle.passive_core.specs.Slots.{at_rest};
 ghost use Rattle.passive_core.specs.State.{bias, slot_at};
@@ -11,16 +11,17 @@ use crate::balance::Balance;
 use crate::machine::{BIAS, Core};
 use crate::refusal::Refusal;
 use crate::state::Slot;
-use std::alloc::{AllocError, Global};
+use std::alloc::AllocError;
 
 impl Core {
     /// What the counts say of each live or retired entry, least slot first (localcount(9)). It makes no event.
-    /// Refused: `NoMemory`.
+    /// Refused: `NoMemory`, and not where there is no such entry.
     pub fn audit(&self) -> Result<Vec<Balance>, Refusal>
         requires { at_rest self.now.due ≡ true }
         ensures answer { IfOk result (λ list. map tally_shown list.items ≡ audit_of self.now) }
         ensures tally { IfOk result (λ list. All (λ b. IsHeldRightly self.now (tally_shown b)) list.items) }
         ensures err { IfErr result (λ refusal. refusal ≡ Refusal.NoMemory) }
+        ensures wanted { OnErr result (IsOccupied self.now) }
     {
         self.balances().map_err(|_| Refusal::NoMemory)
     }
@@ -29,8 +30,9 @@ impl Core {
         requires { at_rest self.now.due ≡ true }
         ensures answer { IfOk result (λ list. map tally_shown list.items ≡ audit_of self.now) }
         ensures tally { IfOk result (λ list. All (λ b. IsHeldRightly self.now (tally_shown b)) list.items) }
+        ensures wanted { OnErr result (IsOccupied self.now) }
     {
-        let mut list = Vec::new(self.allocator());
+        let mut list = Vec::new(*self.history.allocator());
         let slots = self.settings.slots;
         for t in 0..slots {
             match self.slot_at(t) {
@@ -66,16 +68,12 @@ impl Core {
         requires { (e : Entry) × IsIn e (slot_at self.now.slots t) }
         ensures value { IfOk result (λ list. list.items ≡ locals_at self.now t) }
     {
-        let mut list = Vec::new(self.allocator());
+        let mut list = Vec::new(*self.history.allocator());
         let cpus = self.settings.cpus;
         for c in 0..cpus {
             list.push(local_of(self.count_at(c, t)))?;
         }
         Ok(list)
-    }
-
-    fn allocator(&self) -> Global {
-        *self.history.allocator()
     }
 }
 

@@ -11,7 +11,7 @@ ghost use Rattle.passive_core.specs.declared.state.Slot.TheVariants.{Live};
 
 use crate::entry::{Entry, Kind};
 use crate::event::Event;
-use crate::machine::Core;
+use crate::machine::{Core, make_room};
 use crate::name::Name;
 use crate::refusal::Refusal;
 use crate::state::{Key, Slot};
@@ -71,9 +71,7 @@ impl Core {
         ensures err { OnErr result (self.new ≡ self.old) }
         ensures fault { IfErr result (λ refusal. refusal ≡ Refusal.NoMemory) }
     {
-        if self.history.try_reserve(1).is_err() {
-            return Err(Refusal::NoMemory);
-        }
+        make_room(&mut self.history)?;
         let seated = self.seated;
         self.seat_all();
         self.make(Event::Tell(Some(c)));
