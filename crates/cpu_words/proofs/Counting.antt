@@ -37,12 +37,12 @@ past_end [] k m = get_or_all k 0 m
 past_end (x ∷ l) k zero = refl
 past_end (x ∷ l) k (suc m) = past_end l k m
 
-with_number_same : (l : List ℕ) (i v : ℕ) → number_at (with_number l i v) i ≡ v
+pub with_number_same : (l : List ℕ) (i v : ℕ) → number_at (with_number l i v) i ≡ v
 with_number_same l i v =
     let size : length (l ++ replicate (suc i) 0) ≡ length l + suc i = length-append l (replicate (suc i) 0) ∙ ap (λ k. length l + k) (length-replicate (suc i) 0) in
     get_or-set_same (l ++ replicate (suc i) 0) i v 0 (omega arith)
 
-with_number_other : (l : List ℕ) (i v m : ℕ) → m ≢ i → number_at (with_number l i v) m ≡ number_at l m
+pub with_number_other : (l : List ℕ) (i v m : ℕ) → m ≢ i → number_at (with_number l i v) m ≡ number_at l m
 with_number_other l i v m ne = get_or-set_other (l ++ replicate (suc i) 0) i m v 0 ne ∙ past_end l (suc i) m
 
 pub one_more_same : (l : List ℕ) (n : ℕ) → number_at (one_more l n) n ≡ suc (number_at l n)
