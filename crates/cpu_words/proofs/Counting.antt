@@ -37,12 +37,12 @@ past_end [] k m = get_or_all k 0 m
 past_end (x ∷ l) k zero = refl
 past_end (x ∷ l) k (suc m) = past_end l k m
 
-with_number_same : (l : List ℕ) (i v : ℕ) → number_at (with_number l i v) i ≡ v
+pub with_number_same : (l : List ℕ) (i v : ℕ) → number_at (with_number l i v) i ≡ v
 with_number_same l i v =
     let size : length (l ++ replicate (suc i) 0) ≡ length l + suc i = length-append l (replicate (suc i) 0) ∙ ap (λ k. length l + k) (length-replicate (suc i) 0) in
     get_or-set_same (l ++ replicate (suc i) 0) i v 0 (omega arith)
 
-with_number_other : (l : List ℕ) (i v m : ℕ) → m ≢ i → number_at (with_number l i v) m ≡ number_at l m
+pub with_number_other : (l : List ℕ) (i v m : ℕ) → m ≢ i → number_at (with_number l i v) m ≡ number_at l m
 with_number_other l i v m ne = get_or-set_other (l ++ replicate (suc i) 0) i m v 0 ne ∙ past_end l (suc i) m
 
 pub one_more_same : (l : List ℕ) (n : ℕ) → number_at (one_more l n) n ≡ suc (number_at l n)
@@ -58,9 +58,9 @@ pub place_is : (g : State) (x : CpuView) (t : ℕ) (e : Entry) (w : ℕ) → Cpu
 place_is g x t e w had here place = dite (ℕ_discrete (number_at x.met t) e.number)
     (λ (same : number_at x.met t ≡ e.number). place.met same)
     (λ (off : number_at x.met t ≢ e.number).
-        let start : w ≡ bias = place.other off in
-        let none : number_at x.acquired e.number + number_at x.released e.number ≡ 0 = not_above _ (λ some_one. off (had.met t e here some_one)) in
-        omega arith)
+    let start : w ≡ bias = place.other off in
+    let none : number_at x.acquired e.number + number_at x.released e.number ≡ 0 = not_above _ (λ some_one. off (had.met t e here some_one)) in
+    omega arith)
   where
     not_above : (n : ℕ) → (0 < n → ⊥) → n ≡ 0
     not_above zero none = refl
@@ -91,16 +91,16 @@ gives_up_on : (g : State) (c t v : ℕ) (given_up : List ℕ) (u : ℕ) (e : Ent
     → GivesUp g given_up u e.number → GivesUp (record g { nets = with_cell g.nets t c v }) given_up u e.number
 gives_up_on g c t v given_up u e lt used gone p = dite (ℕ_discrete u t)
     (λ (same : u ≡ t).
-        let ms = get_or g.marks u [] in
-        let ns = get_or g.nets u [] in
-        let row : get_or (with_cell g.nets t c v) u [] ≡ set ns c v = ap (λ k. get_or (with_cell g.nets t c v) k []) same ∙ row_here g.nets t c v lt ∙ ap (λ k. set (get_or g.nets k []) c v) (sym same) in
-        let mark : (get_or ms c no_mark).collected ≡ false = ap (λ k. (mark_at g.marks k c).collected) same ∙ used e (ap (slot_at g.slots) (sym same) ∙ gone) in
-        let a = uncollected_sum collected_net ms ns c v (λ n. ap (λ b. cond b v 0) mark ∙ sym (ap (λ b. cond b n 0) mark)) in
-        let b = uncollected_sum collected_one ms ns c v (λ n. refl) in
-        subst (λ r. total_at g.totals u + adding_at u g.due + number_at given_up e.number + bias * sum_by collected_one (zip ms r) ≡ bias * (1 + is_adding_at u g.due) + sum_by collected_net (zip ms r)) (sym row)
-        (ap (λ k. total_at g.totals u + adding_at u g.due + number_at given_up e.number + bias * k) b ∙ p ∙ ap (λ k. bias * (1 + is_adding_at u g.due) + k) (sym a)))
+    let ms = get_or g.marks u [] in
+    let ns = get_or g.nets u [] in
+    let row : get_or (with_cell g.nets t c v) u [] ≡ set ns c v = ap (λ k. get_or (with_cell g.nets t c v) k []) same ∙ row_here g.nets t c v lt ∙ ap (λ k. set (get_or g.nets k []) c v) (sym same) in
+    let mark : (get_or ms c no_mark).collected ≡ false = ap (λ k. (mark_at g.marks k c).collected) same ∙ used e (ap (slot_at g.slots) (sym same) ∙ gone) in
+    let a = uncollected_sum collected_net ms ns c v (λ n. ap (λ b. cond b v 0) mark ∙ sym (ap (λ b. cond b n 0) mark)) in
+    let b = uncollected_sum collected_one ms ns c v (λ n. refl) in
+    subst (λ r. total_at g.totals u + adding_at u g.due + number_at given_up e.number + bias * sum_by collected_one (zip ms r) ≡ bias * (1 + is_adding_at u g.due) + sum_by collected_net (zip ms r)) (sym row)
+    (ap (λ k. total_at g.totals u + adding_at u g.due + number_at given_up e.number + bias * k) b ∙ p ∙ ap (λ k. bias * (1 + is_adding_at u g.due) + k) (sym a)))
     (λ (other : u ≢ t). subst (λ r. total_at g.totals u + adding_at u g.due + number_at given_up e.number + bias * sum_by collected_one (zip (get_or g.marks u []) r) ≡ bias * (1 + is_adding_at u g.due) + sum_by collected_net (zip (get_or g.marks u []) r))
-        (sym (row_other g.nets t c v u other)) p)
+    (sym (row_other g.nets t c v u other)) p)
 
 -- the word of a retired slot that still counts has no collected mark
 pub still_open : (g : State) (c t : ℕ) → IsCounting g.slots g.marks c t → (e : Entry) → slot_at g.slots t ≡ Retired e → (mark_at g.marks t c).collected ≡ false
@@ -160,14 +160,14 @@ met_on : (g : State) (x : CpuView) (e : Entry) (t v : ℕ) (acquired released : 
     → (u : ℕ) (f : Entry) → IsIn f (slot_at g.slots u) → 0 < number_at acquired f.number + number_at released f.number → number_at (with_number x.met t e.number) u ≡ f.number
 met_on g x e t v acquired released good had here count u f there some_one = dite (ℕ_discrete u t)
     (λ (on : u ≡ t).
-        let one : f ≡ e = one_in f e (slot_at g.slots t) here (subst (λ j. IsIn f (slot_at g.slots j)) on there) in
-        ap (number_at (with_number x.met t e.number)) on ∙ with_number_same x.met t e.number ∙ ap (λ (j : Entry). j.number) (sym one))
+    let one : f ≡ e = one_in f e (slot_at g.slots t) here (subst (λ j. IsIn f (slot_at g.slots j)) on there) in
+    ap (number_at (with_number x.met t e.number)) on ∙ with_number_same x.met t e.number ∙ ap (λ (j : Entry). j.number) (sym one))
     (λ (off : u ≢ t).
-        let ne : f.number ≢ e.number = λ is. off (one_number g.history g.slots t u e f good.holds.slots here there is).0 in
-        let a = count.same_acquired f.number ne in
-        let b = count.same_released f.number ne in
-        let before : 0 < number_at x.acquired f.number + number_at x.released f.number = omega arith in
-        with_number_other x.met t e.number u off ∙ had.met u f there before)
+    let ne : f.number ≢ e.number = λ is. off (one_number g.history g.slots t u e f good.holds.slots here there is).0 in
+    let a = count.same_acquired f.number ne in
+    let b = count.same_released f.number ne in
+    let before : 0 < number_at x.acquired f.number + number_at x.released f.number = omega arith in
+    with_number_other x.met t e.number u off ∙ had.met u f there before)
 
 pub shown_count : (g : State) (x : CpuView) (e : Entry) (t w v : ℕ) (h : Hand) (locals : List LocalPlace) (k : InHand) (acquired released : List ℕ) → Good g → CpuShown g x → IsIn e (slot_at g.slots t) → t < g.settings.slots
     → Recount x e v acquired released → SameHand h k → HandFits g.history g.slots g.marks x.id k → CpuShown (with_lists g (count_lists g x.id t w v h locals)) (recounted g x t e.number (count_lists g x.id t w v h locals) k acquired released)

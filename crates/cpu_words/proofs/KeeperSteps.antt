@@ -156,6 +156,7 @@ cpu_shown_on g l y good after leaves had =
   where
     below : {a b c : ℕ} → a < b → b ≤ c → a < c
     below p q = omega arith
+
     left : (g : State) (l : KeeperLists) (y : CpuView) → CpuShown g y → LeavesCpus g l → (n : ℕ) → Occupies g.slots n → (Occupies l.slots n → ⊥) → references_to n y.references ≡ 0
     left g l y had leaves n (t, e, here, is) off = ⊎_elim
         (λ (on : IsIn e (slot_at l.slots t)). absurd (off (t, e, on, is)))

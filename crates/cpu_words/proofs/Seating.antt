@@ -98,6 +98,7 @@ new_shown g good lt =
   where
     self : (n : ℕ) → n ≤ n
     self n = omega arith
+
     more : (n : ℕ) → n < n + 1
     more n = omega arith
 

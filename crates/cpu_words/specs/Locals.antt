@@ -71,7 +71,8 @@ pub record MayCount (x : CpuView) (t n : ℕ) : Type 0 where
 
 -- a reference to the last found entry, n in the slot t, was counted, and is in the hand
 abbrev pub HasCounted : CpuView → ℕ → ℕ → CpuView → Type 0
-HasCounted x t n y = (e : Entry) × (x.found ≡ Some e) × (e.slot ≡ t) × (e.number ≡ n) × (y ≡ record x { hand = TakingEntry e; acquired = one_more x.acquired n; met = with_number x.met t n })
+HasCounted x t n y = (e : Entry) × (x.found ≡ Some e) × (e.slot ≡ t) × (e.number ≡ n)
+    × (y ≡ record x { hand = TakingEntry e; acquired = one_more x.acquired n; met = with_number x.met t n })
 
 -- what the addition of 1 to the word w tells
 abbrev pub CountTold : CpuView → ℕ → CpuView → Type 0
@@ -87,7 +88,8 @@ pub record MayCountDown (x : CpuView) (t n w : ℕ) : Type 0 where
 
 -- the reference, to n in the slot t, was counted down, or it stays in the hand, to go back
 abbrev pub HasCountedDown : CpuView → ℕ → ℕ → CpuView → Type 0
-HasCountedDown x t n y = (e : Entry) × IsGiving x e × (e.slot ≡ t) × (e.number ≡ n) × (y ≡ record x { hand = NoEntry; released = one_more x.released n; met = with_number x.met t n })
+HasCountedDown x t n y = (e : Entry) × IsGiving x e × (e.slot ≡ t) × (e.number ≡ n)
+    × (y ≡ record x { hand = NoEntry; released = one_more x.released n; met = with_number x.met t n })
 
 abbrev pub HasFoundCollected : CpuView → ℕ → CpuView → Type 0
 HasFoundCollected x n y = (e : Entry) × IsGiving x e × (e.number ≡ n) × (y ≡ with_hand x (BackEntry e))
