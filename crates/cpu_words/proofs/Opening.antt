@@ -1,5 +1,5 @@
 -- The state of the core at the start is shown by the words and the keeper's first view; and the seats of the first CPUs.
-use Rattle.std.proofs.Common.{◌≡◌, ◌≢◌, ◌⊎◌, inl, inr, ⊎_elim, ℕ, zero, suc, ◌+◌, ◌<◌, ◌≤◌, Bool, false, List, [], ◌∷◌, ◌++◌, length, replicate, get_or, set, sum_by, IsTrue, refl, sym, ap, ◌∙◌, subst, arith, length-set, length-append, get_or-set_same, get_or-set_other, below_more}
+use Rattle.std.proofs.Common.{◌≡◌, inl, inr, ℕ, zero, suc, ◌+◌, List, [], ◌∷◌, ◌++◌, length, replicate, IsTrue, refl, sym, ap, ◌∙◌, subst, arith, length-append, below_more}
 use Rattle.std.proofs.lemmas.List.{length-replicate, get_or-replicate}
 use Rattle.std.specs.Prelude.{slice_index}
 use mathlib.Core.Option.{some, some-ne-none, some-injective}
@@ -10,13 +10,13 @@ use Rattle.atomic_table.proofs.Lists.{at_longer, at_last}
 use Rattle.passive_core.specs.declared.entry.Entry.{Entry}
 use Rattle.passive_core.specs.declared.settings.Settings.{Settings}
 use Rattle.passive_core.specs.declared.state.RecordWords.{RecordWords}
-use Rattle.passive_core.specs.declared.state.Slot.TheVariants.{Vacant, Live, Retired}
+use Rattle.passive_core.specs.declared.state.Slot.TheVariants.{Vacant}
 use Rattle.passive_core.specs.declared.state.Mark.{Mark}
 use Rattle.passive_core.specs.Limits.{are_fit}
-use Rattle.passive_core.specs.State.{State, bias, no_words, no_mark, slot_at, row_at, mark_at, opening}
+use Rattle.passive_core.specs.State.{bias, no_words, no_mark, slot_at, opening}
 use Rattle.passive_core.specs.Events.{word}
 use Rattle.passive_core.specs.Invariant.{IsIn}
-use Rattle.passive_core.proofs.Fit.{Ranges, ranges}
+use Rattle.passive_core.proofs.Fit.{ranges}
 use Rattle.passive_core.proofs.Cells.{get_or_all, not_vacant}
 use Rattle.passive_core.proofs.MarkKeeps.{cell_all, rows_all}
 use Rattle.passive_core.proofs.Keeping.{opening_holds}
@@ -24,8 +24,8 @@ use Rattle.cpu_words.specs.declared.view.CpuView.{CpuView}
 use Rattle.cpu_words.specs.declared.view.KeeperView.{KeeperView}
 use Rattle.cpu_words.specs.declared.view.View.{View}
 use Rattle.cpu_words.specs.Spots.{Spot, section_of, passive_of, count_of, head_word, next_of, record_of, total_of, index, IsSpot, word_at}
-use Rattle.cpu_words.specs.Views.{Seated, new_keeper, new_cpu, first_view, KeeperShown, Shown}
-use Rattle.cpu_words.specs.Rule.{Agrees, Sits, IsFresh, Good, Ruled}
+use Rattle.cpu_words.specs.Views.{Seated, new_cpu, first_view, Shown}
+use Rattle.cpu_words.specs.Rule.{Sits, Good, Ruled}
 use Rattle.cpu_words.specs.Opening.{AreOpening, AreSeats, keeper_with}
 
 -- no entry is in a slot at the start
@@ -36,12 +36,12 @@ first_good : (z : Settings) → IsTrue (are_fit z) → Good (opening z)
 first_good z fit = record {
   holds = opening_holds z fit;
   fresh = λ c unseated lt. record {
-      section = get_or_all {X = ℕ} z.cpus 0 c;
-      depth = get_or_all {X = ℕ} z.cpus 0 c;
-      seen = get_or_all {X = ℕ} z.cpus 0 c;
-      passive = λ t. cell_all {X = ℕ} z.slots 8 0 t c;
-      nets = λ t e is. absurd (none_in z t e is);
-    };
+    section = get_or_all {X = ℕ} z.cpus 0 c;
+    depth = get_or_all {X = ℕ} z.cpus 0 c;
+    seen = get_or_all {X = ℕ} z.cpus 0 c;
+    passive = λ t. cell_all {X = ℕ} z.slots 8 0 t c;
+    nets = λ t e is. absurd (none_in z t e is);
+  };
 }
 
 -- the words at the start

@@ -1,19 +1,18 @@
 -- A CPU gets its seat: the keeper's seat is cut in two, and the new view is shown since the CPU has made no step.
-use Rattle.std.proofs.Common.{◌≡◌, ◌≢◌, ◌⊎◌, inl, inr, ⊎_elim, ℕ, zero, suc, ◌+◌, ◌<◌, ◌≤◌, ◌==◌, eqb, eq-eqb, ne_eqb, cond, List, [], ◌∷◌, ◌++◌, length, take, get_or, set, sum_by, Option, Some, None, refl, sym, ap, ◌∙◌, subst, arith}
+use Rattle.std.proofs.Common.{◌≡◌, ◌≢◌, ◌⊎◌, inl, inr, ⊎_elim, ℕ, zero, suc, ◌+◌, ◌<◌, ◌≤◌, ◌==◌, eq-eqb, ne_eqb, cond, List, [], ◌∷◌, ◌++◌, length, take, set, Option, Some, None, refl, sym, ap, ◌∙◌, subst, arith}
 use Rattle.std.proofs.lemmas.List.{append-nil}
 use Rattle.std.proofs.lemmas.List.Sums.{sum_by_push}
 use Rattle.std.proofs.lemmas.Bool.{lt-ltb}
 use mathlib.Core.Option.{some, some-ne-none, some-injective}
 use lib.ListN.{get_elem?}
-use Rattle.atomic_table.specs.Table.{State as Table, Splits}
+use Rattle.atomic_table.specs.Table.{Splits}
 use Rattle.passive_core.specs.declared.entry.Entry.{Entry}
 use Rattle.passive_core.specs.declared.settings.Settings.{Settings}
 use Rattle.passive_core.specs.declared.event.Event.TheVariants.{Seat}
 use Rattle.passive_core.specs.declared.event.Reply.TheVariants.{Done}
 use Rattle.passive_core.specs.declared.state.Hand.{Hand}
-use Rattle.passive_core.specs.declared.state.Hand.TheVariants.{Empty}
 use Rattle.passive_core.specs.declared.state.Due.TheVariants.{Rest}
-use Rattle.passive_core.specs.State.{State, begin_at, depth_at, search_at, found_at, hand_at, seen_at, section_at}
+use Rattle.passive_core.specs.State.{State, begin_at, found_at}
 use Rattle.passive_core.specs.Slots.{at_rest}
 use Rattle.passive_core.specs.Events.{step}
 use Rattle.passive_core.specs.Invariant.{Holds}
@@ -23,14 +22,14 @@ use Rattle.cpu_words.specs.declared.view.KeeperView.{KeeperView}
 use Rattle.cpu_words.specs.declared.view.View.{View}
 use Rattle.cpu_words.specs.declared.view.View.TheVariants.{Keeper, Cpu, Reference, Note, Spent}
 use Rattle.cpu_words.specs.Spots.{Spot, section_of, passive_of, count_of, head_word, next_of, record_of, total_of, word_at}
-use Rattle.cpu_words.specs.Views.{SameHand, depth_of, own_of, cpu_view, keeper_own, keeper_view, new_cpu, CpuShown, KeeperShown, Shown, cpu_of, keeper_of}
+use Rattle.cpu_words.specs.Views.{SameHand, own_of, cpu_view, new_cpu, CpuShown, KeeperShown, Shown, cpu_of, keeper_of}
 use Rattle.cpu_words.specs.Rule.{Sits, reference_to, Shows, IsFresh, Good, Ruled}
-use Rattle.cpu_words.specs.Steps.{SplitMakes, SplitsBy}
+use Rattle.cpu_words.specs.Steps.{SplitsBy}
 use Rattle.cpu_words.specs.Opening.{MaySeat, one_seated, seating, next_seat}
-use Rattle.cpu_words.proofs.Showing.{standing_in, shows_set}
+use Rattle.cpu_words.proofs.Showing.{shows_set}
 use Rattle.cpu_words.proofs.Placing.{agrees_same}
 use Rattle.cpu_words.proofs.KeeperSteps.{KeeperLists, keeper_lists, with_keeper, LeavesCpus, keeper_stays, keeper_good_after}
-use Rattle.cpu_words.proofs.KeeperSees.{SeenByKeeper, seen_by_keeper}
+use Rattle.cpu_words.proofs.KeeperSees.{seen_by_keeper}
 
 -- the core with one more CPU seated
 abbrev pub seated_lists : State → KeeperLists

@@ -1,6 +1,6 @@
 //! A new table: its words, the keeper's seat, and a seat for each CPU.
 
-ghost use Rattle.std.specs.Prelude.{◌≡◌, ◌↔◌, ◌+◌, ◌≤◌, [], IfOk, IfErr, IsErrOf, IsTrue, false, vec_len, vec_capacity};
+ghost use Rattle.std.specs.Prelude.{◌≡◌, ◌↔◌, ◌≤◌, [], IfOk, IfErr, IsErrOf, IsTrue, false, vec_len, vec_capacity};
 ghost use Rattle.passive_core.specs.Limits.{are_fit};
 ghost use Rattle.passive_core.specs.Refusals.{IsRefusalOfNew};
 ghost use Rattle.cpu_words.specs.Views.{new_keeper};

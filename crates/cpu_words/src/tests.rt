@@ -57,10 +57,16 @@ fn new_has_a_seat_for_each_cpu(rt: HostRuntime) -> Result<(), Fail> {
 #[test]
 fn new_refuses_bad_settings(rt: HostRuntime) {
     for settings in with_each(MOST, (0, 0, 0), 0) {
-        assert_eq!(rt; Words::new(rt.alloc(), settings).err(), Some(Refusal::BadSettings));
+        assert_eq!(rt;
+            Words::new(rt.alloc(), settings).err(),
+            Some(Refusal::BadSettings)
+        );
     }
     for settings in with_each(LEAST, (9, 33, 1_000_001), 1_099_511_627_777) {
-        assert_eq!(rt; Words::new(rt.alloc(), settings).err(), Some(Refusal::BadSettings));
+        assert_eq!(rt;
+            Words::new(rt.alloc(), settings).err(),
+            Some(Refusal::BadSettings)
+        );
     }
 }
 
@@ -72,7 +78,11 @@ fn new_seats_can_step(rt: HostRuntime) -> Result<(), Fail> {
     if let Some(mut seat) = seats.pop() {
         enter(&words, &mut seat, 1);
     }
-    assert_eq!(rt; look_now(&words, &mut keeper, 0), 0, "the other CPU is outside");
+    assert_eq!(rt;
+        look_now(&words, &mut keeper, 0),
+        0,
+        "the other CPU is outside"
+    );
     assert_eq!(rt; look_now(&words, &mut keeper, 1), 1);
     Ok(())
 }

@@ -1,6 +1,5 @@
-use Rattle.std.proofs.Common.{◌≡◌, ◌≤◌, ◌+◌, List, ap, ◌∙◌, sym, subst}
+use Rattle.std.proofs.Common.{◌≤◌, ◌+◌, List, ap, ◌∙◌, sym, subst}
 use Rattle.cpu_words.specs.declared.view.CpuView.{CpuView}
-use Rattle.cpu_words.specs.declared.view.KeeperView.{KeeperView}
 use Rattle.cpu_words.specs.Views.{Seated}
 use Rattle.cpu_words.specs.Opening.{AreSeats, one_seated}
 use Rattle.cpu_words.proofs.Opening.{more_seats, seat_is}
