@@ -22,9 +22,6 @@ pub fn seat(words: &Words, keeper: &mut KeeperSeat) -> CpuSeat
     ensures new { result.view ≡ new_cpu keeper.old.view.settings keeper.old.view.seated }
 {
     CpuSeat {
-        token: words
-            .table
-            .shared
-            .split_seat::<NextSeat>(&mut keeper.token),
+        token: words.table.shared.split_seat::<NextSeat>(&mut keeper.token),
     }
 }
