@@ -24,7 +24,8 @@ pub fn look(words: &Words, keeper: &mut KeeperSeat, slot: u8, cpu: u8) -> u64
     ensures event { Makes (Look (Some slot) cpu) (Word result) (Keeper keeper.old.view) (Keeper keeper.new.view) }
     ensures change { HasLooked keeper.old.view (Look (Some slot) cpu) (Word result) slot cpu result keeper.new.view }
 {
-    by_keeper::load::<Brand>(words, keeper, 80 * cpu as usize, Event::Look(Some(slot), cpu))
+    let look = Event::Look(Some(slot), cpu);
+    by_keeper::load::<Brand>(words, keeper, 80 * cpu as usize, look)
 }
 
 /// Looks at the section word of CPU `cpu` for no entry: the caller compares it with what `snapshot_now` answered. It is counted as a look.
@@ -50,12 +51,8 @@ pub fn snapshot(words: &Words, keeper: &mut KeeperSeat, slot: u8, cpu: u8) -> u6
     ensures event { Makes (Snapshot (Some slot) cpu) (Word result) (Keeper keeper.old.view) (Keeper keeper.new.view) }
     ensures change { HasSnapshot keeper.old.view slot cpu result keeper.new.view }
 {
-    by_keeper::load::<Brand>(
-        words,
-        keeper,
-        80 * cpu as usize,
-        Event::Snapshot(Some(slot), cpu),
-    )
+    let event = Event::Snapshot(Some(slot), cpu);
+    by_keeper::load::<Brand>(words, keeper, 80 * cpu as usize, event)
 }
 
 /// Takes a snapshot of CPU `cpu` for no entry: its section word now, as `perform` keeps it. It is counted as a look.
@@ -68,10 +65,6 @@ pub fn snapshot_now(words: &Words, keeper: &mut KeeperSeat, cpu: u8) -> u64
     ensures event { Makes (Snapshot None cpu) (Word result) (Keeper keeper.old.view) (Keeper keeper.new.view) }
     ensures change { keeper.new.view ≡ having_looked keeper.old.view (Snapshot None cpu) (Word result) }
 {
-    by_keeper::load::<Brand>(
-        words,
-        keeper,
-        80 * cpu as usize,
-        Event::Snapshot(None, cpu),
-    )
+    let snapshot = Event::Snapshot(None, cpu);
+    by_keeper::load::<Brand>(words, keeper, 80 * cpu as usize, snapshot)
 }

@@ -27,7 +27,8 @@ pub fn store_record(words: &Words, keeper: &mut KeeperSeat, slot: u8, k: u8, val
     ensures change { HasRecordWord keeper.old.view slot k value keeper.new.view }
 {
     let place = 657 + 8 * slot as usize + k as usize;
-    by_keeper::store::<Brand>(words, keeper, place, value, Event::StoreSlot(slot, k, value));
+    let event = Event::StoreSlot(slot, k, value);
+    by_keeper::store::<Brand>(words, keeper, place, value, event);
 }
 
 /// Stores the count word of CPU `cpu` for `slot`. Condition: as for `store_record`.
