@@ -1,8 +1,6 @@
 -- A step of a CPU's seat: what it changes in the core, why the other views stay, and that it is its event.
-use Rattle.std.proofs.Common.{◌≡◌, ◌≢◌, ℕ, ◌+◌, ◌≤◌, ◌<◌, List, length, take, get_or, set, sum_by, Option, Some, None, refl, sym, ap, ◌∙◌, subst, arith, []}
-use Rattle.std.specs.List.{Contains}
+use Rattle.std.proofs.Common.{◌≡◌, ◌≢◌, ℕ, ◌≤◌, ◌<◌, List, length, take, get_or, set, sum_by, Option, Some, None, refl, sym, ap, ◌∙◌, subst, arith, []}
 use mathlib.Core.Option.{some}
-use mathlib.Core.List.{IsPrefix}
 use lib.ListN.{get_elem?}
 use Rattle.atomic_table.specs.Table.{State as Table, keeps, stepped}
 use Rattle.passive_core.specs.declared.entry.Entry.{Entry}
@@ -18,15 +16,15 @@ use Rattle.passive_core.specs.declared.state.LocalPlace.{LocalPlace}
 use Rattle.passive_core.specs.History.{IsAttached}
 use Rattle.passive_core.specs.State.{State, section_at, begin_at, depth_at, seen_at, search_at, found_at, hand_at, slot_at, passive_at, count_at}
 use Rattle.passive_core.specs.Events.{step}
-use Rattle.passive_core.specs.Invariant.{IsIn, standing_of, Holds}
+use Rattle.passive_core.specs.Invariant.{standing_of}
 use Rattle.passive_core.proofs.Keeping.{step_holds}
 use Rattle.cpu_words.specs.declared.view.CpuView.{CpuView}
 use Rattle.cpu_words.specs.declared.view.View.{View}
 use Rattle.cpu_words.specs.declared.view.View.TheVariants.{Keeper, Cpu, Reference, Note, Spent}
-use Rattle.cpu_words.specs.Views.{CpuOwn, own_of, cpu_view, SameHand, depth_of, GivesUp, CpuShown, KeeperShown, Shown}
-use Rattle.cpu_words.specs.Rule.{Agrees, Sits, Shows, IsFresh, Good, Ruled}
+use Rattle.cpu_words.specs.Views.{CpuOwn, own_of, cpu_view, SameHand, depth_of, GivesUp, CpuShown}
+use Rattle.cpu_words.specs.Rule.{Agrees, IsFresh, Good, Ruled}
 use Rattle.cpu_words.specs.Steps.{Makes}
-use Rattle.cpu_words.proofs.Showing.{standing_in, IsBacked, Stay, shows_set}
+use Rattle.cpu_words.proofs.Showing.{standing_in, Stay, shows_set}
 use Rattle.cpu_words.proofs.Passes.{attached_longer}
 
 -- what an event of a CPU can change in the core

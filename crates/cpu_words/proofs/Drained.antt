@@ -1,35 +1,25 @@
 -- The end of a drain on the words: a slot becomes vacant, and what it kept is given up.
-use Rattle.std.proofs.Common.{◌≡◌, ◌≢◌, ◌⊎◌, inl, inr, ⊎_elim, ℕ, ◌+◌, ◌-◌, ◌%◌, ◌^◌, ◌≤◌, ◌<◌, List, [], length, replicate, get_or, set, Option, Some, None, true, eq-eqb, refl, sym, ap, ◌∙◌, subst, arith}
+use Rattle.std.proofs.Common.{◌≡◌, ◌≢◌, ◌⊎◌, inl, inr, ⊎_elim, ℕ, ◌≤◌, ◌<◌, List, [], length, replicate, get_or, set, Option, true, eq-eqb, refl, sym, ap, ◌∙◌, subst, arith}
 use Rattle.std.proofs.lemmas.Bool.{cases_eq, cases_lt}
 use Rattle.std.proofs.lemmas.List.{append-nil, get_or_past}
-use Rattle.std.specs.Prelude.{slice_index}
 use Rattle.passive_core.specs.declared.entry.Entry.{Entry}
-use Rattle.passive_core.specs.declared.settings.Settings.{Settings}
 use Rattle.passive_core.specs.declared.state.Slot.{Slot}
-use Rattle.passive_core.specs.declared.state.Slot.TheVariants.{Vacant, Live, Retired}
+use Rattle.passive_core.specs.declared.state.Slot.TheVariants.{Vacant, Retired}
 use Rattle.passive_core.specs.declared.state.Mark.{Mark}
 use Rattle.passive_core.specs.declared.state.Due.TheVariants.{Rest}
-use Rattle.passive_core.specs.declared.event.Event.TheVariants.{KeptSub}
-use Rattle.passive_core.specs.declared.event.Reply.TheVariants.{Done}
-use Rattle.passive_core.specs.State.{State, bias, slot_at, passive_at, count_at, total_at, kept_at}
-use Rattle.passive_core.specs.Slots.{slot_of, have_passed, are_clear, are_collected, is_iface}
-use Rattle.passive_core.specs.Events.{step, is_drained}
+use Rattle.passive_core.specs.State.{State, bias, slot_at, passive_at, count_at, total_at}
+use Rattle.passive_core.specs.Slots.{have_passed, are_clear, are_collected}
+use Rattle.passive_core.specs.Events.{is_drained}
 use Rattle.passive_core.specs.Invariant.{IsIn, Occupies}
 use Rattle.passive_core.proofs.MarkKeeps.{is_drained_tells}
-use Rattle.passive_core.proofs.Occupied.{written_cases, in_other, in_vacated, one_number, retired_other, slot_has}
+use Rattle.passive_core.proofs.Occupied.{written_cases, in_other, in_vacated, one_number, retired_other}
 use Rattle.passive_core.proofs.Cells.{get_or_all, cell_in_old, slot_other}
-use Rattle.passive_core.proofs.Bounds.{driver_positive}
 use Rattle.cpu_words.specs.declared.view.KeeperView.{KeeperView}
-use Rattle.cpu_words.specs.declared.view.View.TheVariants.{Keeper}
-use Rattle.cpu_words.specs.Spots.{total_of}
-use Rattle.cpu_words.specs.Views.{KeeperOwn, keeper_own, keeper_view, one_more, KeeperShown, GivesUp}
-use Rattle.cpu_words.specs.Rule.{Agrees, Good}
-use Rattle.cpu_words.specs.Steps.{Makes, KeeperMay}
+use Rattle.cpu_words.specs.Views.{KeeperShown}
+use Rattle.cpu_words.specs.Rule.{Good}
 use Rattle.cpu_words.specs.Vacating.{IsDrained}
-use Rattle.cpu_words.specs.Draining.{MayKeptSub, HasKeptSub, KeptSubTold}
-use Rattle.cpu_words.proofs.KeeperSteps.{KeeperLists, keeper_lists, with_keeper, LeavesCpus, keeper_makes}
+use Rattle.cpu_words.proofs.KeeperSteps.{KeeperLists, keeper_lists, LeavesCpus}
 use Rattle.cpu_words.proofs.KeeperSees.{seen_by_keeper}
-use Rattle.cpu_words.proofs.Totals.{total_words, shown_less, later_less}
 
 -- what the core has of a drained slot and its entry
 pub record Drained (g : State) (t : ℕ) (e : Entry) : Type 0 where
@@ -114,4 +104,3 @@ vacated_counts g k t e had drained c u vacant = ⊎_elim
 -- what stands in the other slots
 pub stood : (g : State) (t u : ℕ) (e f : Entry) (x : Slot) → Drained g t e → slot_at (set g.slots t Vacant) u ≡ x → IsIn f x → slot_at g.slots u ≡ x
 stood g t u e f x drained is here = sym (slot_other g.slots t Vacant u (in_vacated g.slots t u e f drained.retired (subst (IsIn f) (sym is) here)).0) ∙ is
-

@@ -1,12 +1,7 @@
 -- Looks and snapshots on the words.
-use Rattle.std.proofs.Common.{◌≡◌, ℕ, suc, ◌+◌, ◌*◌, ◌≤◌, ◌<◌, List, [], ◌∷◌, length, take, get_or, set, Option, Some, None, Bool, true, false, ◌&&◌, ◌==◌, nat_lt, if◌then◌else◌, refl, sym, ap, ◌∙◌, subst, arith}
+use Rattle.std.proofs.Common.{◌≡◌, ℕ, ◌+◌, ◌*◌, ◌<◌, List, Some, None, Bool, true, false, nat_lt, if◌then◌else◌, refl, sym, ap, ◌∙◌, subst, arith}
 use Rattle.std.proofs.lemmas.Bool.{lt-ltb, eq-eqb}
-use Rattle.std.proofs.lemmas.List.{set-get_or}
 use Rattle.std.specs.Prelude.{slice_index}
-use mathlib.Core.Option.{some}
-use lib.ListN.{get_elem?}
-use Rattle.atomic_table.specs.Table.{State as Table, keeps, stepped}
-use Rattle.passive_core.specs.declared.entry.Entry.{Entry}
 use Rattle.passive_core.specs.declared.settings.Settings.{Settings}
 use Rattle.passive_core.specs.declared.state.Slot.{Slot}
 use Rattle.passive_core.specs.declared.state.Slot.TheVariants.{Retired}
@@ -15,22 +10,18 @@ use Rattle.passive_core.specs.declared.state.Due.TheVariants.{Rest, Snapshots}
 use Rattle.passive_core.specs.declared.event.Event.{Event}
 use Rattle.passive_core.specs.declared.event.Event.TheVariants.{Look, Snapshot}
 use Rattle.passive_core.specs.declared.event.Reply.TheVariants.{Word}
-use Rattle.passive_core.specs.State.{State, no_mark, with_cell, section_at, slot_at, mark_at}
-use Rattle.passive_core.specs.Events.{step, guard, taken, may_examine, looked, snapshot_mark}
+use Rattle.passive_core.specs.State.{State, with_cell, section_at, slot_at, mark_at}
+use Rattle.passive_core.specs.Events.{step, looked, snapshot_mark}
 use Rattle.passive_core.specs.Slots.{at_rest}
 use Rattle.passive_core.specs.Invariant.{DueHolds, adding_at, is_adding_at}
-use Rattle.passive_core.proofs.Fit.{Ranges, ranges}
 use Rattle.cpu_words.specs.declared.view.KeeperView.{KeeperView}
-use Rattle.cpu_words.specs.declared.view.View.{View}
 use Rattle.cpu_words.specs.declared.view.View.TheVariants.{Keeper}
-use Rattle.cpu_words.specs.Spots.{Spot, section_of, word_at}
+use Rattle.cpu_words.specs.Spots.{section_of}
 use Rattle.cpu_words.specs.Views.{KeeperOwn, keeper_own, keeper_view, KeeperShown}
-use Rattle.cpu_words.specs.Rule.{Agrees, Good, Ruled}
 use Rattle.cpu_words.specs.Steps.{Makes, KeeperMay}
-use Rattle.cpu_words.specs.Grace.{MayGlance, MayLook, MaySnapshot, HasSnapshot, due_next, HasLooked, LookTold, having_looked}
-use Rattle.cpu_words.proofs.Placing.{agrees_same}
+use Rattle.cpu_words.specs.Grace.{MayGlance, MayLook, MaySnapshot, due_next, LookTold, having_looked}
 use Rattle.cpu_words.proofs.KeeperSteps.{KeeperLists, keeper_lists, with_keeper, leaves_all, keeper_makes}
-use Rattle.cpu_words.proofs.KeeperSees.{SeenByKeeper, seen_by_keeper, loads}
+use Rattle.cpu_words.proofs.KeeperSees.{seen_by_keeper, loads}
 use Rattle.cpu_words.proofs.Marked.{same_collected, shown_marked}
 
 pub look_may : (z : Settings) (k : KeeperView) (t c : ℕ) → MayLook k t c → KeeperMay z k (80 * c) (λ n. n) (λ v n l. Makes (Look (Some t) c) (Word n) (Keeper v) (Keeper l) × LookTold (Look (Some t) c) v n l)
@@ -51,7 +42,7 @@ look_may z k t c may s r i at fits =
     let shown : KeeperShown (with_keeper g l) (keeper_view (with_keeper g l) own) = shown_marked g k t c m g.due own r.good had lt refl (λ u. refl) (λ u. refl) refl refl refl in
     let done = keeper_makes z s r i k (80 * c) w l (Look (Some t) c) (Word w) own at made (leaves_all g l refl refl refl refl (same_collected g t c m refl)) (λ n. refl) refl shown (loads s.words g (with_keeper g l) (80 * c) r.words refl (λ q _. refl)) in
     let change : keeper_view (with_keeper g l) own ≡ record (having_looked k (Look (Some t) c) (Word w)) { marks = with_cell k.marks t c (looked (mark_at k.marks t c) w) } =
-        ap (λ n. record (keeper_view g own) { marks = with_cell g.marks t c (looked (mark_at g.marks t c) n) }) (sym found) ∙ ap (λ (v : KeeperView). record (having_looked v (Look (Some t) c) (Word w)) { marks = with_cell v.marks t c (looked (mark_at v.marks t c) w) }) (sym had.is) in
+    ap (λ n. record (keeper_view g own) { marks = with_cell g.marks t c (looked (mark_at g.marks t c) n) }) (sym found) ∙ ap (λ (v : KeeperView). record (having_looked v (Look (Some t) c) (Word w)) { marks = with_cell v.marks t c (looked (mark_at v.marks t c) w) }) (sym had.is) in
     (Keeper (keeper_view (with_keeper g l) own), done.0, (refl, (done.1, change)))
 
 -- a load of a section word for no entry
@@ -100,8 +91,8 @@ snapshot_may z k t c may s r i at fits =
     let fresh : false ≡ (mark_at g.marks t c).collected = sym (r.good.holds.balance.fresh c t c due) in
     let made : step g (Snapshot (Some t) c) ≡ Some (record { state = with_keeper g l; reply = Word w }) = rw (due, eq-eqb t t refl, eq-eqb c c refl, found) refl in
     let shown : KeeperShown (with_keeper g l) (keeper_view (with_keeper g l) own) = shown_marked g k t c m (due_next g.settings t c) own r.good had lt fresh
-        (λ u. (adds_nothing g.settings t c u).0 ∙ sym (ap (adding_at u) due)) (λ u. (adds_nothing g.settings t c u).1 ∙ sym (ap (is_adding_at u) due)) refl refl refl in
+    (λ u. (adds_nothing g.settings t c u).0 ∙ sym (ap (adding_at u) due)) (λ u. (adds_nothing g.settings t c u).1 ∙ sym (ap (is_adding_at u) due)) refl refl refl in
     let done = keeper_makes z s r i k (80 * c) w l (Snapshot (Some t) c) (Word w) own at made (leaves_all g l refl refl refl refl (same_collected g t c m fresh)) (λ n. refl) refl shown (loads s.words g (with_keeper g l) (80 * c) r.words refl (λ q _. refl)) in
     let change : keeper_view (with_keeper g l) own ≡ record k { marks = with_cell k.marks t c (snapshot_mark w); due = due_next k.settings t c } =
-        ap (λ n. record (keeper_view g own) { marks = with_cell g.marks t c (snapshot_mark n); due = due_next g.settings t c }) (sym found) ∙ ap (λ (v : KeeperView). record v { marks = with_cell v.marks t c (snapshot_mark w); due = due_next v.settings t c }) (sym had.is) in
+    ap (λ n. record (keeper_view g own) { marks = with_cell g.marks t c (snapshot_mark n); due = due_next g.settings t c }) (sym found) ∙ ap (λ (v : KeeperView). record v { marks = with_cell v.marks t c (snapshot_mark w); due = due_next v.settings t c }) (sym had.is) in
     (Keeper (keeper_view (with_keeper g l) own), done.0, (refl, (done.1, change)))

@@ -1,13 +1,7 @@
 -- What the keeper's view tells of the core that shows it.
-use Rattle.std.proofs.Common.{◌≡◌, ℕ, List, length, get_or, set, Option, refl, sym, ap, ◌∙◌, subst}
+use Rattle.std.proofs.Common.{◌≡◌, ℕ, List, set, sym, ap, subst}
 use Rattle.std.proofs.lemmas.List.{set-get_or}
 use Rattle.std.specs.Prelude.{slice_index}
-use Rattle.passive_core.specs.declared.settings.Settings.{Settings}
-use Rattle.passive_core.specs.declared.entry.Change.{Change}
-use Rattle.passive_core.specs.declared.state.Slot.{Slot}
-use Rattle.passive_core.specs.declared.state.Mark.{Mark}
-use Rattle.passive_core.specs.declared.state.Due.{Due}
-use Rattle.passive_core.specs.declared.state.RecordWords.{RecordWords}
 use Rattle.passive_core.specs.State.{State}
 use Rattle.passive_core.proofs.Fit.{Ranges, ranges}
 use Rattle.cpu_words.specs.declared.view.KeeperView.{KeeperView}

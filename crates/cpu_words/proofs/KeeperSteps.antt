@@ -1,9 +1,7 @@
 -- A step of the keeper's seat: what it changes in the core, why the other views stay, and that it is its event.
-use Rattle.std.proofs.Common.{◌≡◌, ◌≢◌, ◌⊎◌, inl, inr, ⊎_elim, ℕ, zero, suc, ◌+◌, ◌≤◌, ◌<◌, List, [], ◌∷◌, ◌++◌, length, take, get_or, set, sum_by, Option, Some, None, Bool, true, refl, sym, ap, ◌∙◌, subst, arith, length-append}
-use Rattle.std.proofs.lemmas.List.Sums.{sum_by-cons}
+use Rattle.std.proofs.Common.{◌≡◌, ◌⊎◌, inl, inr, ⊎_elim, ℕ, ◌+◌, ◌≤◌, ◌<◌, List, [], ◌++◌, length, take, set, sum_by, Option, Some, None, true, refl, sym, ap, ◌∙◌, subst, arith, length-append}
 use Rattle.std.proofs.lemmas.List.{append-nil}
-use Rattle.std.proofs.lemmas.Bool.{cases_eq}
-use Rattle.passive_core.proofs.Sums.{one_at, none_at}
+use Rattle.passive_core.proofs.Sums.{one_at}
 use mathlib.Core.Option.{some}
 use mathlib.Core.List.{IsPrefix}
 use lib.ListN.{get_elem?}
@@ -21,12 +19,11 @@ use Rattle.passive_core.specs.declared.state.Hand.{Hand}
 use Rattle.passive_core.specs.declared.state.Hand.TheVariants.{Empty, Taking, Giving, Back}
 use Rattle.passive_core.specs.declared.state.Due.{Due}
 use Rattle.passive_core.specs.declared.state.LocalPlace.{LocalPlace}
-use Rattle.passive_core.specs.declared.state.LocalPlace.TheVariants.{Free, Standing, Lifted}
 use Rattle.passive_core.specs.History.{IsAttached}
-use Rattle.passive_core.specs.State.{State, bias, hand_at, slot_at, mark_at, passive_at, count_at, local_at, seen_at}
+use Rattle.passive_core.specs.State.{State, bias, hand_at, slot_at, mark_at, passive_at, count_at, seen_at}
 use Rattle.passive_core.specs.Slots.{slot_of}
 use Rattle.passive_core.specs.Events.{step}
-use Rattle.passive_core.specs.Invariant.{IsIn, Occupies, one_if, standing_of, HandHolds, SlotsShow, Holds}
+use Rattle.passive_core.specs.Invariant.{IsIn, Occupies, one_if, standing_of, HandHolds, Holds}
 use Rattle.passive_core.proofs.Occupied.{slot_has, slot_found, fresh_unoccupied}
 use Rattle.passive_core.proofs.Keeping.{step_holds}
 use Rattle.cpu_words.proofs.Standing.{standing_place}
@@ -37,9 +34,9 @@ use Rattle.cpu_words.specs.declared.view.KeeperView.{KeeperView}
 use Rattle.cpu_words.specs.declared.view.ReferenceView.{ReferenceView}
 use Rattle.cpu_words.specs.declared.view.View.{View}
 use Rattle.cpu_words.specs.declared.view.View.TheVariants.{Keeper, Cpu, Reference, Note, Spent}
-use Rattle.cpu_words.specs.Views.{CpuOwn, KeeperOwn, own_of, cpu_view, keeper_view, references_to, is_to, SameHand, HandFits, IsCollectedFor, CpuShown, KeeperShown, ReferenceShown, Shown}
+use Rattle.cpu_words.specs.Views.{KeeperOwn, own_of, cpu_view, keeper_view, references_to, is_to, SameHand, HandFits, CpuShown, KeeperShown}
 use Rattle.cpu_words.specs.Spots.{Spot, section_of, passive_of, count_of, head_word, next_of, record_of, total_of, word_at}
-use Rattle.cpu_words.specs.Rule.{Agrees, Sits, Shows, IsFresh, Good, Ruled, reference_to}
+use Rattle.cpu_words.specs.Rule.{Agrees, IsFresh, Good, Ruled}
 use Rattle.cpu_words.specs.Steps.{Makes}
 use Rattle.cpu_words.proofs.Showing.{standing_in, IsBacked, Stay, shows_set}
 use Rattle.cpu_words.proofs.Passes.{attached_on, prefix_on, take_on}

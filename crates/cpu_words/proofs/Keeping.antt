@@ -1,5 +1,5 @@
 -- Keep by the keeper's seat: a reference's seat is joined into it, for a slot that is vacant or may be taken as vacant.
-use Rattle.std.proofs.Common.{◌≡◌, ◌≢◌, ◌⊎◌, inl, inr, ⊎_elim, ℕ, ◌+◌, ◌≤◌, ◌<◌, List, length, get_or, set, sum_by, Option, Some, None, Bool, true, ◌&&◌, nat_lt, refl, sym, ap, ◌∙◌, subst, arith, get_or-set_same}
+use Rattle.std.proofs.Common.{◌≡◌, ◌≢◌, inl, inr, ⊎_elim, ℕ, ◌≤◌, ◌<◌, List, set, Option, Some, None, true, refl, sym, ap, ◌∙◌, subst, arith, get_or-set_same}
 use Rattle.std.proofs.lemmas.Bool.{lt-ltb}
 use mathlib.Core.Option.{some}
 use lib.ListN.{get_elem?}
@@ -15,10 +15,10 @@ use Rattle.passive_core.specs.declared.state.Slot.{Slot}
 use Rattle.passive_core.specs.declared.state.Slot.TheVariants.{Vacant, Live, Retired}
 use Rattle.passive_core.specs.declared.state.LocalPlace.TheVariants.{Free, Standing}
 use Rattle.passive_core.specs.declared.state.Due.TheVariants.{Rest}
-use Rattle.passive_core.specs.State.{State, slot_at, kept_at, local_at}
+use Rattle.passive_core.specs.State.{slot_at, kept_at}
 use Rattle.passive_core.specs.Slots.{slot_of, is_driver}
 use Rattle.passive_core.specs.Events.{step, is_driver_slot}
-use Rattle.passive_core.specs.Invariant.{IsIn, one_if, standing_of}
+use Rattle.passive_core.specs.Invariant.{IsIn, one_if}
 use Rattle.passive_core.proofs.Numbers.{slot_number}
 use Rattle.passive_core.proofs.Sums.{one_at, local_changed, standing_within}
 use Rattle.passive_core.proofs.Occupied.{in_within}
@@ -26,16 +26,16 @@ use Rattle.cpu_words.specs.declared.view.KeeperView.{KeeperView}
 use Rattle.cpu_words.specs.declared.view.ReferenceView.{ReferenceView}
 use Rattle.cpu_words.specs.declared.view.View.{View}
 use Rattle.cpu_words.specs.declared.view.View.TheVariants.{Keeper, Reference, Spent}
-use Rattle.cpu_words.specs.Views.{is_to, keeper_of, reference_of, KeeperShown, ReferenceShown}
-use Rattle.cpu_words.specs.Rule.{Good, Ruled}
+use Rattle.cpu_words.specs.Views.{is_to, keeper_of, reference_of}
+use Rattle.cpu_words.specs.Rule.{Ruled}
 use Rattle.cpu_words.specs.Steps.{ChangesBy, JoinsBy}
-use Rattle.cpu_words.specs.Vacating.{MayVacate, vacated, vacant_from, as_vacant, MayWrite}
+use Rattle.cpu_words.specs.Vacating.{MayVacate, vacated, vacant_from, as_vacant}
 use Rattle.cpu_words.specs.Keeping.{MayKeep, keeping, IsVacated, with_kept}
 use Rattle.cpu_words.proofs.Placing.{agrees_same}
 use Rattle.cpu_words.proofs.Standing.{standing_place}
 use Rattle.cpu_words.proofs.Showing.{standing_in, backed, shows_join}
-use Rattle.cpu_words.proofs.KeeperSteps.{KeeperLists, keeper_lists, with_keeper, leaves_all, keeper_good_after, beside, beside_stays, beside_words}
-use Rattle.cpu_words.proofs.KeeperSees.{SeenByKeeper, seen_by_keeper}
+use Rattle.cpu_words.proofs.KeeperSteps.{KeeperLists, with_keeper, leaves_all, keeper_good_after, beside, beside_stays, beside_words}
+use Rattle.cpu_words.proofs.KeeperSees.{seen_by_keeper}
 use Rattle.cpu_words.proofs.Vacating.{vacates, vacate_by, with_view, view_here, views_again, same_beside}
 use Rattle.cpu_words.proofs.Reading.{local_here}
 
@@ -99,9 +99,9 @@ takes_at z i k o t v may s r at apart there =
     let both = Keeper (taking k t v) in
     let had = r.shows.fits i (Keeper k) at in
     let was : get_elem? s.views o ≡ some (Reference v) = ⊎_elim
-        (λ (q : (o ≡ i) × (both ≡ Reference v)). absurd (apart q.0))
-        (λ (q : (o ≢ i) × (get_elem? s.views o ≡ some (Reference v))). q.1)
-        (at_set s.views i o both (Reference v) there) in
+    (λ (q : (o ≡ i) × (both ≡ Reference v)). absurd (apart q.0))
+    (λ (q : (o ≢ i) × (get_elem? s.views o ≡ some (Reference v))). q.1)
+    (at_set s.views i o both (Reference v) there) in
     let law = keep_law k t v may g r.good had.1 (r.shows.fits o (Reference v) was).1 (backed g r.seat s.views o (Reference v) r.shows was) in
     let locals = set g.locals law.id Free in
     let kept = set g.keeps t (Some v.entry.number) in record {
@@ -122,7 +122,7 @@ keeps_from z i k u o t v first may s r at apart there =
     let again : set (set s.views i (Keeper u)) i both ≡ set s.views i both = views_again s.views i (Keeper u) both in
     let there' : get_elem? (set (set s.views i (Keeper u)) i both) o ≡ some (Reference v) = ap (λ (l : List View). get_elem? l o) again ∙ there in
     subst (λ (l : List View). Ruled z (record { words = s.words; homes = s.homes; views = set l o Spent })) again
-        (takes_at z i u o t v may (with_view s i (Keeper u)) ruled (view_here s.views i (Keeper k) (Keeper u) at) apart there')
+    (takes_at z i u o t v may (with_view s i (Keeper u)) ruled (view_here s.views i (Keeper k) (Keeper u) at) apart there')
 
 -- what Keep asks, of a slot that is vacant and of one that is drained
 
@@ -147,9 +147,9 @@ kept_is k u t v same = ap (λ (x : KeeperView). taking x t v) same ∙ ap (λ (x
 keeps : (z : Settings) (i : ℕ) (k : KeeperView) (o t : ℕ) (v : ReferenceView) → MayKeep k t v → TableJoins (Ruled z) i (Keeper k) o (Reference v) (Keeper (keeping k t v)) Spent
 keeps z i k o t v may = ⊎_elim
     (λ (vacant : slot_at k.slots t ≡ Vacant). subst (λ (w : KeeperView). TableJoins (Ruled z) i (Keeper k) o (Reference v) (Keeper w) Spent) (kept_is k k t v (vacant_is k t vacant))
-        (takes_at z i k o t v (now_vacant k t v may vacant)))
+    (takes_at z i k o t v (now_vacant k t v may vacant)))
     (λ (drained : MayVacate k t). subst (λ (w : KeeperView). TableJoins (Ruled z) i (Keeper k) o (Reference v) (Keeper w) Spent) (kept_is k (vacated k t) t v (vacated_is k t drained))
-        (keeps_from z i k (vacated k t) o t v (λ s r id at. (vacates z k t drained s r id at).0) (once_vacated k t v may drained)))
+    (keeps_from z i k (vacated k t) o t v (λ s r id at. (vacates z k t drained s r id at).0) (once_vacated k t v may drained)))
     may.write.vacant
 
 pub keep_makes : (k : KeeperView) (t : ℕ) (v : ReferenceView) → MayKeep k t v → JoinsBy (Keep t) (Keeper (as_vacant k t)) (Reference v) (Keeper (keeping k t v))

@@ -1,23 +1,17 @@
 -- A retired interface gives its driver up, on the words.
-use Rattle.std.proofs.Common.{length-set, ◌≡◌, ◌≢◌, ◌⊎◌, inl, inr, ⊎_elim, ℕ, ◌+◌, ◌-◌, ◌%◌, ◌^◌, ◌≤◌, ◌<◌, List, [], length, replicate, get_or, set, Option, Some, None, true, eq-eqb, refl, sym, ap, ◌∙◌, subst, arith}
-use Rattle.std.proofs.lemmas.Bool.{cases_eq, cases_lt}
-use Rattle.std.proofs.lemmas.List.{append-nil, get_or_past}
+use Rattle.std.proofs.Common.{length-set, ◌≡◌, inl, inr, ℕ, ◌+◌, ◌-◌, ◌%◌, ◌^◌, ◌<◌, List, replicate, set, Option, Some, None, true, refl, sym, ap, ◌∙◌, subst, arith}
 use Rattle.std.specs.Prelude.{slice_index}
 use Rattle.passive_core.specs.declared.entry.Entry.{Entry}
 use Rattle.passive_core.specs.declared.settings.Settings.{Settings}
 use Rattle.passive_core.specs.declared.state.Slot.{Slot}
 use Rattle.passive_core.specs.declared.state.Slot.TheVariants.{Vacant, Live, Retired}
-use Rattle.passive_core.specs.declared.state.Mark.{Mark}
-use Rattle.passive_core.specs.declared.state.Due.TheVariants.{Rest}
 use Rattle.passive_core.specs.declared.event.Event.TheVariants.{KeptSub}
 use Rattle.passive_core.specs.declared.event.Reply.TheVariants.{Done}
-use Rattle.passive_core.specs.State.{State, bias, slot_at, passive_at, count_at, total_at, kept_at}
-use Rattle.passive_core.specs.Slots.{slot_of, have_passed, are_clear, are_collected, is_iface}
-use Rattle.passive_core.specs.Events.{step, is_drained}
-use Rattle.passive_core.specs.Invariant.{IsIn, Occupies}
-use Rattle.passive_core.proofs.MarkKeeps.{is_drained_tells}
-use Rattle.passive_core.proofs.Occupied.{written_cases, in_other, in_vacated, one_number, retired_other, slot_has}
-use Rattle.passive_core.proofs.Cells.{get_or_all, cell_in_old, slot_other}
+use Rattle.passive_core.specs.State.{State, slot_at, total_at, kept_at}
+use Rattle.passive_core.specs.Slots.{slot_of, is_iface}
+use Rattle.passive_core.specs.Events.{step}
+use Rattle.passive_core.specs.Invariant.{IsIn}
+use Rattle.passive_core.proofs.Occupied.{slot_has}
 use Rattle.passive_core.proofs.Bounds.{driver_positive}
 use Rattle.cpu_words.specs.declared.view.KeeperView.{KeeperView}
 use Rattle.cpu_words.specs.declared.view.View.TheVariants.{Keeper}
@@ -25,9 +19,8 @@ use Rattle.cpu_words.specs.Spots.{total_of}
 use Rattle.cpu_words.specs.Views.{KeeperOwn, keeper_own, keeper_view, one_more, KeeperShown, GivesUp}
 use Rattle.cpu_words.specs.Rule.{Agrees, Good}
 use Rattle.cpu_words.specs.Steps.{Makes, KeeperMay}
-use Rattle.cpu_words.specs.Vacating.{IsDrained}
 use Rattle.cpu_words.specs.Draining.{MayKeptSub, HasKeptSub, KeptSubTold}
-use Rattle.cpu_words.proofs.KeeperSteps.{KeeperLists, keeper_lists, with_keeper, LeavesCpus, keeper_makes}
+use Rattle.cpu_words.proofs.KeeperSteps.{KeeperLists, with_keeper, keeper_makes}
 use Rattle.cpu_words.proofs.KeeperSees.{seen_by_keeper}
 use Rattle.cpu_words.proofs.Drained.{Drained, drained_of, vacating, vacated_leaves, vacated_counts, stood}
 use Rattle.passive_core.proofs.ListKeeps.{rows_put}

@@ -1,19 +1,19 @@
 -- A mark of one CPU changes: what was collected, and what the keeper's view shows of it.
-use Rattle.std.proofs.Common.{◌≡◌, ◌≢◌, ◌⊎◌, inl, inr, ⊎_elim, ℕ, zero, suc, ◌+◌, ◌*◌, ◌≤◌, ◌<◌, List, [], ◌∷◌, length, get_or, set, sum_by, Option, Some, None, Bool, true, false, if◌then◌else◌, refl, sym, ap, ◌∙◌, subst, arith}
+use Rattle.std.proofs.Common.{◌≡◌, ◌≢◌, inr, ⊎_elim, ℕ, zero, suc, ◌+◌, ◌<◌, List, [], ◌∷◌, length, get_or, set, sum_by, Bool, true, if◌then◌else◌, refl, sym, ap, ◌∙◌, subst, arith}
 use Rattle.std.specs.List.{zip}
 use Rattle.std.proofs.lemmas.List.Sums.{sum_by-cons}
 use Rattle.std.proofs.lemmas.Bool.{cases_eq}
 use Rattle.passive_core.specs.declared.entry.Entry.{Entry}
 use Rattle.passive_core.specs.declared.state.Mark.{Mark}
 use Rattle.passive_core.specs.declared.state.Due.{Due}
-use Rattle.passive_core.specs.State.{State, bias, no_mark, with_cell, cell, mark_at, slot_at, count_at, total_at}
-use Rattle.passive_core.specs.Invariant.{AreRows, IsIn, one_if, adding_at, is_adding_at}
-use Rattle.passive_core.proofs.Cells.{cell_cases, row_here, row_other, cell_here, in_within}
-use Rattle.passive_core.proofs.Fit.{Ranges, ranges}
+use Rattle.passive_core.specs.State.{State, no_mark, with_cell, cell, mark_at, slot_at, count_at, total_at}
+use Rattle.passive_core.specs.Invariant.{AreRows, IsIn, adding_at, is_adding_at}
+use Rattle.passive_core.proofs.Cells.{cell_cases, row_here, row_other, in_within}
+use Rattle.passive_core.proofs.Fit.{ranges}
 use Rattle.passive_core.specs.declared.entry.Change.{Change}
 use mathlib.Core.List.{IsPrefix}
 use Rattle.cpu_words.specs.declared.view.KeeperView.{KeeperView}
-use Rattle.cpu_words.specs.Views.{number_at, KeeperOwn, keeper_own, keeper_view, KeeperShown, GivesUp, collected_net, collected_one}
+use Rattle.cpu_words.specs.Views.{number_at, KeeperOwn, keeper_view, KeeperShown, GivesUp, collected_net, collected_one}
 use Rattle.cpu_words.specs.Rule.{Good}
 
 -- a sum over the marks and net counts of a slot, as one mark changes
@@ -48,7 +48,7 @@ sum_here f g t c m good lt cpu =
     let marks = shape.mark_rows t in_marks in
     let nets = shape.net_rows t in_nets in
     ap (λ (ms : List Mark). sum_by f (zip ms (get_or g.nets t [])) + f (mark_at g.marks t c, count_at g.nets c t)) (row_here g.marks t c m in_marks)
-        ∙ sum_marked f (get_or g.marks t []) (get_or g.nets t []) c m (omega (arith, marks, few, cpu)) (omega (arith, nets, few, cpu))
+    ∙ sum_marked f (get_or g.marks t []) (get_or g.nets t []) c m (omega (arith, marks, few, cpu)) (omega (arith, nets, few, cpu))
 
 pub sum_off : (f : Mark × ℕ → ℕ) (g : State) (t c : ℕ) (m : Mark) (u : ℕ) → u ≢ t → sum_by f (zip (get_or (with_cell g.marks t c m) u []) (get_or g.nets u [])) ≡ sum_by f (zip (get_or g.marks u []) (get_or g.nets u []))
 sum_off f g t c m u off = ap (λ (ms : List Mark). sum_by f (zip ms (get_or g.nets u []))) (row_other g.marks t c m u off)
@@ -61,16 +61,16 @@ gives_up_marked g t c m due given_up good lt same adding is_adding u e here was 
     let b = is_adding u in
     ⊎_elim
     (λ (is : u ≡ t).
-        let lt : t < length g.slots = subst (λ v. v < length g.slots) is (in_within g.slots u e here) in
-        let one = at collected_one (λ x. if x then 1 else 0) (λ x n. refl) lt in
-        let net = at collected_net (λ x. if x then count_at g.nets c t else 0) (λ x n. refl) lt in
-        let p = subst (λ v. sum_by collected_one (zip (get_or (with_cell g.marks t c m) v []) (get_or g.nets v [])) ≡ sum_by collected_one (zip (get_or g.marks v []) (get_or g.nets v []))) (sym is) one in
-        let q = subst (λ v. sum_by collected_net (zip (get_or (with_cell g.marks t c m) v []) (get_or g.nets v [])) ≡ sum_by collected_net (zip (get_or g.marks v []) (get_or g.nets v []))) (sym is) net in
-        omega (arith, was, a, b, p, q))
+    let lt : t < length g.slots = subst (λ v. v < length g.slots) is (in_within g.slots u e here) in
+    let one = at collected_one (λ x. if x then 1 else 0) (λ x n. refl) lt in
+    let net = at collected_net (λ x. if x then count_at g.nets c t else 0) (λ x n. refl) lt in
+    let p = subst (λ v. sum_by collected_one (zip (get_or (with_cell g.marks t c m) v []) (get_or g.nets v [])) ≡ sum_by collected_one (zip (get_or g.marks v []) (get_or g.nets v []))) (sym is) one in
+    let q = subst (λ v. sum_by collected_net (zip (get_or (with_cell g.marks t c m) v []) (get_or g.nets v [])) ≡ sum_by collected_net (zip (get_or g.marks v []) (get_or g.nets v []))) (sym is) net in
+    omega (arith, was, a, b, p, q))
     (λ (off : u ≢ t).
-        let p = sum_off collected_one g t c m u off in
-        let q = sum_off collected_net g t c m u off in
-        omega (arith, was, a, b, p, q))
+    let p = sum_off collected_one g t c m u off in
+    let q = sum_off collected_net g t c m u off in
+    omega (arith, was, a, b, p, q))
     (cases_eq u t)
   where
     at : (f : Mark × ℕ → ℕ) (v : Bool → ℕ) → ((x : Mark) (n : ℕ) → f (x, count_at g.nets c t) ≡ v x.collected) → t < length g.slots → sum_by f (zip (get_or (with_cell g.marks t c m) t []) (get_or g.nets t [])) ≡ sum_by f (zip (get_or g.marks t []) (get_or g.nets t []))

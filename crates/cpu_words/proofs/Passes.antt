@@ -1,11 +1,11 @@
 -- A pass is a prefix of the history: what is attached in it, and how it grows.
-use Rattle.std.proofs.Common.{◌≡◌, ℕ, zero, suc, ◌+◌, ◌≤◌, ◌<◌, List, [], ◌∷◌, ◌++◌, length, take, drop, Some, refl, sym, ap, ◌∙◌, subst, arith, append_assoc}
+use Rattle.std.proofs.Common.{◌≡◌, ℕ, ◌≤◌, List, [], ◌∷◌, ◌++◌, length, take, drop, sym, ap, ◌∙◌, subst, arith, append_assoc}
 use Rattle.std.proofs.lemmas.List.{append-nil, take-append-drop, length-take-le, take_all, take-append-le}
 use mathlib.Core.List.{IsPrefix}
 use Rattle.passive_core.specs.declared.entry.Entry.{Entry}
 use Rattle.passive_core.specs.declared.entry.Change.{Change}
 use Rattle.passive_core.specs.declared.entry.Change.TheVariants.{Attach}
-use Rattle.passive_core.specs.History.{change_at, after_change, IsAttached}
+use Rattle.passive_core.specs.History.{change_at, IsAttached}
 use Rattle.passive_core.proofs.History.{length-after_change, at_old, at_within}
 
 -- what stands in a prefix stands in the whole

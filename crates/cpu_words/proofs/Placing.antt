@@ -1,13 +1,12 @@
 -- Where the words lie: no two share a place, and one step changes one word.
-use Rattle.std.proofs.Common.{◌≡◌, ◌≢◌, ◌⊎◌, ℕ, ◌+◌, ◌*◌, ◌<◌, ◌≤◌, List, length, get_or, set, Option, Some, None, IsTrue, refl, sym, ap, ◌∙◌, subst, arith, length-set, get_or-set_same, get_or-set_other}
-use Rattle.std.specs.Prelude.{slice_index}
+use Rattle.std.proofs.Common.{◌≡◌, ℕ, ◌<◌, List, length, get_or, set, IsTrue, refl, sym, ap, ◌∙◌, subst, arith, length-set, get_or-set_same, get_or-set_other}
 use mathlib.Core.Logic.{dite}
 use native.Mathlib.Decide.{ℕ_discrete}
 use Rattle.passive_core.specs.declared.settings.Settings.{Settings}
 use Rattle.passive_core.specs.Limits.{are_fit}
 use Rattle.passive_core.specs.State.{State}
-use Rattle.passive_core.proofs.Fit.{Ranges, ranges}
-use Rattle.cpu_words.specs.Spots.{Spot, section_of, passive_of, count_of, head_word, next_of, record_of, total_of, index, IsSpot, word_at, owner, AreApart}
+use Rattle.passive_core.proofs.Fit.{ranges}
+use Rattle.cpu_words.specs.Spots.{Spot, section_of, passive_of, count_of, head_word, next_of, record_of, total_of, index, IsSpot, word_at}
 use Rattle.cpu_words.specs.Rule.{Agrees}
 
 -- two words at one place are one word

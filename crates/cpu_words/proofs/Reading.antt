@@ -1,7 +1,6 @@
 -- A seat loads a word, and no view changes.
-use Rattle.std.proofs.Common.{◌≡◌, ⊎_elim, ℕ, suc, ◌+◌, ◌*◌, ◌<◌, List, [], ◌∷◌, Some, sum_by, refl, sym, ap, ◌∙◌, subst, arith}
-use Rattle.std.proofs.lemmas.Bool.{lt-ltb, cases_eq}
-use Rattle.std.proofs.lemmas.List.Sums.{sum_by-cons}
+use Rattle.std.proofs.Common.{◌≡◌, ℕ, ◌+◌, ◌*◌, ◌<◌, [], Some, refl, sym, ap, ◌∙◌, subst, arith}
+use Rattle.std.proofs.lemmas.Bool.{lt-ltb}
 use Rattle.std.specs.Prelude.{slice_index}
 use mathlib.Core.Option.{some}
 use lib.ListN.{get_elem?}
@@ -14,14 +13,13 @@ use Rattle.passive_core.specs.declared.event.RecordOf.TheVariants.{Local}
 use Rattle.passive_core.specs.declared.event.Reply.{Reply}
 use Rattle.passive_core.specs.declared.event.Reply.TheVariants.{Word}
 use Rattle.passive_core.specs.declared.state.RecordWords.{RecordWords}
-use Rattle.passive_core.specs.declared.state.LocalPlace.{LocalPlace}
-use Rattle.passive_core.specs.declared.state.LocalPlace.TheVariants.{Free, Standing, Lifted}
+use Rattle.passive_core.specs.declared.state.LocalPlace.TheVariants.{Standing}
 use Rattle.passive_core.specs.State.{State, slot_at, row_at, local_at}
 use Rattle.passive_core.specs.Slots.{slot_of}
 use Rattle.passive_core.specs.Events.{step, word, words_of}
-use Rattle.passive_core.specs.Invariant.{IsIn, Occupies, standing_of}
+use Rattle.passive_core.specs.Invariant.{IsIn, Occupies}
 use Rattle.passive_core.proofs.History.{one_entry}
-use Rattle.passive_core.proofs.HeldSums.{one_self, one_other}
+use Rattle.passive_core.proofs.HeldSums.{one_self}
 use Rattle.passive_core.proofs.Occupied.{attached_in, in_within}
 use Rattle.passive_core.proofs.Numbers.{slot_number}
 use Rattle.cpu_words.proofs.Standing.{standing_place}

@@ -1,5 +1,5 @@
 -- The views of a table: how they are shown on as one of them changes, is cut in two, or is joined into another.
-use Rattle.std.proofs.Common.{◌≡◌, ◌≢◌, ◌⊎◌, ℕ, zero, suc, ◌+◌, ◌<◌, ◌≤◌, List, [], ◌∷◌, ◌++◌, length, set, sum_by, refl, sym, ap, subst, ⊎_elim, arith}
+use Rattle.std.proofs.Common.{◌≡◌, ◌≢◌, ℕ, zero, suc, ◌+◌, ◌≤◌, List, [], ◌∷◌, ◌++◌, set, sum_by, sym, ap, subst, ⊎_elim, arith}
 use Rattle.std.proofs.lemmas.List.Sums.{sum_by-cons, sum_by_push}
 use mathlib.Core.Option.{some, some-ne-none, some-injective}
 use lib.ListN.{get_elem?}
@@ -7,7 +7,7 @@ use Rattle.atomic_table.proofs.Lists.{at_set, at_snoc}
 use Rattle.passive_core.specs.State.{State}
 use Rattle.passive_core.specs.Invariant.{standing_of}
 use Rattle.cpu_words.specs.declared.view.View.{View}
-use Rattle.cpu_words.specs.declared.view.View.TheVariants.{Keeper, Cpu, Reference, Note, Spent}
+use Rattle.cpu_words.specs.declared.view.View.TheVariants.{Spent}
 use Rattle.cpu_words.specs.Views.{Shown}
 use Rattle.cpu_words.specs.Rule.{Sits, reference_to, Shows}
 
@@ -69,9 +69,9 @@ pub shows_split : (g g' : State) (seat : ℕ → ℕ) (views : List View) (i : �
 shows_split g g' seat views i v left right shows at stay mine sits new count = record {
   fits = λ j u e. ⊎_elim
       (λ (was : get_elem? (set views i left) j ≡ some u). ⊎_elim
-          (λ (x : (j ≡ i) × (left ≡ u)). subst (λ (y : ℕ × View). Sits seat y.0 y.1 × Shown g' y.1) (λ k. (sym x.0 k, x.1 k)) mine)
-          (λ (x : (j ≢ i) × (get_elem? views j ≡ some u)). let had = shows.fits j u x.1 in (had.0, stay j u x.0 had.0 had.1 (backed g seat views j u shows x.1)))
-          (at_set views i j left u was))
+      (λ (x : (j ≡ i) × (left ≡ u)). subst (λ (y : ℕ × View). Sits seat y.0 y.1 × Shown g' y.1) (λ k. (sym x.0 k, x.1 k)) mine)
+      (λ (x : (j ≢ i) × (get_elem? views j ≡ some u)). let had = shows.fits j u x.1 in (had.0, stay j u x.0 had.0 had.1 (backed g seat views j u shows x.1)))
+      (at_set views i j left u was))
       (λ (same : right ≡ u). subst (λ (y : View). Sits seat j y × Shown g' y) same (sits j, new))
       (at_snoc (set views i left) right u j e);
   references = λ n. let a = sum_at (reference_to n) views i v left at in let b = shows.references n in let c = count n in let d = sum_by_push (reference_to n) (set views i left) right in omega arith;
@@ -85,9 +85,9 @@ shows_join g g' seat views i v o u both shows at apart there stay mine count the
   fits = λ j y e. ⊎_elim
       (λ (x : (j ≡ o) × (Spent ≡ y)). subst (λ (z : View). Sits seat j z × Shown g' z) x.1 (tt, tt))
       (λ (x : (j ≢ o) × (get_elem? (set views i both) j ≡ some y)). ⊎_elim
-          (λ (z : (j ≡ i) × (both ≡ y)). subst (λ (p : ℕ × View). Sits seat p.0 p.1 × Shown g' p.1) (λ k. (sym z.0 k, z.1 k)) mine)
-          (λ (z : (j ≢ i) × (get_elem? views j ≡ some y)). let had = shows.fits j y z.1 in (had.0, stay j y z.0 had.0 had.1 (backed g seat views j y shows z.1)))
-          (at_set views i j both y x.1))
+      (λ (z : (j ≡ i) × (both ≡ y)). subst (λ (p : ℕ × View). Sits seat p.0 p.1 × Shown g' p.1) (λ k. (sym z.0 k, z.1 k)) mine)
+      (λ (z : (j ≢ i) × (get_elem? views j ≡ some y)). let had = shows.fits j y z.1 in (had.0, stay j y z.0 had.0 had.1 (backed g seat views j y shows z.1)))
+      (at_set views i j both y x.1))
       (at_set (set views i both) o j Spent y e);
   references = λ n.
       let a = sum_at (reference_to n) views i v both at in

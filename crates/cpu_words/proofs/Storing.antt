@@ -1,33 +1,25 @@
 -- The stores of the keeper into a slot that is vacant, or may be taken as vacant.
-use Rattle.std.proofs.Common.{◌≡◌, ◌≢◌, ◌⊎◌, inl, inr, ⊎_elim, ℕ, zero, suc, ◌+◌, ◌-◌, ◌*◌, ◌≤◌, ◌<◌, List, [], ◌∷◌, length, get_or, set, Option, Some, None, Bool, true, false, ◌&&◌, nat_lt, refl, sym, ap, ◌∙◌, subst, arith, length-set, get_or-set_same, get_or-set_other}
+use Rattle.std.proofs.Common.{◌≡◌, ◌≢◌, inl, inr, ⊎_elim, ℕ, zero, suc, ◌+◌, ◌-◌, ◌*◌, ◌<◌, List, [], length, get_or, set, Some, false, nat_lt, refl, sym, ap, ◌∙◌, subst, arith, length-set, get_or-set_same, get_or-set_other}
 use Rattle.std.proofs.lemmas.Bool.{cases_eq, lt-ltb, le-ltb}
-use Rattle.std.specs.Prelude.{slice_index}
-use mathlib.Core.Option.{some}
-use lib.ListN.{get_elem?}
-use Rattle.atomic_table.specs.Table.{State as Table}
-use Rattle.passive_core.specs.declared.entry.Entry.{Entry}
 use Rattle.passive_core.specs.declared.settings.Settings.{Settings}
-use Rattle.passive_core.specs.declared.event.Event.{Event}
 use Rattle.passive_core.specs.declared.event.Event.TheVariants.{StoreSlot, StoreNext, Vacate}
 use Rattle.passive_core.specs.declared.event.Reply.TheVariants.{Done}
 use Rattle.passive_core.specs.declared.state.RecordWords.{RecordWords}
 use Rattle.passive_core.specs.declared.state.Slot.{Slot}
-use Rattle.passive_core.specs.declared.state.Slot.TheVariants.{Vacant, Live, Retired}
+use Rattle.passive_core.specs.declared.state.Slot.TheVariants.{Vacant}
 use Rattle.passive_core.specs.declared.state.Due.TheVariants.{Rest}
-use Rattle.passive_core.specs.State.{State, no_words, with_cell, cell, slot_at, row_at, count_at}
-use Rattle.passive_core.specs.Events.{step, guard, taken, word, with_word}
-use Rattle.passive_core.specs.Invariant.{AreRows}
-use Rattle.passive_core.proofs.Cells.{by_cell, cell_here, cell_other, cell_cases}
+use Rattle.passive_core.specs.State.{State, no_words, with_cell, slot_at, row_at, count_at}
+use Rattle.passive_core.specs.Events.{step, word, with_word}
+use Rattle.passive_core.proofs.Cells.{by_cell, cell_here, cell_other}
 use Rattle.passive_core.proofs.ListKeeps.{rows_cell}
 use Rattle.passive_core.proofs.Occupied.{in_within}
-use Rattle.passive_core.proofs.Fit.{Ranges, ranges}
+use Rattle.passive_core.proofs.Fit.{ranges}
 use Rattle.cpu_words.specs.declared.view.KeeperView.{KeeperView}
-use Rattle.cpu_words.specs.declared.view.View.{View}
 use Rattle.cpu_words.specs.declared.view.View.TheVariants.{Keeper}
 use Rattle.cpu_words.specs.Spots.{Spot, section_of, passive_of, count_of, head_word, next_of, record_of, total_of, IsSpot, word_at}
 use Rattle.cpu_words.specs.Views.{KeeperOwn, keeper_of, keeper_own, keeper_view, KeeperShown}
-use Rattle.cpu_words.specs.Rule.{Agrees, Good, Ruled}
-use Rattle.cpu_words.specs.Steps.{Makes, Moves, KeeperStores}
+use Rattle.cpu_words.specs.Rule.{Agrees, Good}
+use Rattle.cpu_words.specs.Steps.{Makes, KeeperStores}
 use Rattle.cpu_words.specs.Vacating.{MayVacate, vacated, vacant_from, as_vacant, MayWrite, IsTakenAsVacant}
 use Rattle.cpu_words.specs.Storing.{HasRecordWord, HasCountWord, HasLink}
 use Rattle.cpu_words.proofs.Placing.{agrees_set}
@@ -62,17 +54,17 @@ taking : (z : Settings) (k : KeeperView) (t i v : ℕ) (T : KeeperView → Keepe
     → KeeperStores z k i v (λ x n y. IsTakenAsVacant k t × T (as_vacant k t) y)
 taking z k t i v T may stores = ⊎_elim
     (λ (vacant : slot_at k.slots t ≡ Vacant).
-        let same : k ≡ as_vacant k t = ap (λ (x : Slot). vacant_from x k t) (sym vacant) in
-        λ s r id at fits.
-        let done = stores k (record { rest = may.rest; slot = may.slot; vacant = vacant }) s r id at fits in
-        (done.0, done.1, (done.2.0, (inl vacant, subst (λ (x : KeeperView). T x (keeper_of done.0)) same done.2.1))))
+    let same : k ≡ as_vacant k t = ap (λ (x : Slot). vacant_from x k t) (sym vacant) in
+    λ s r id at fits.
+    let done = stores k (record { rest = may.rest; slot = may.slot; vacant = vacant }) s r id at fits in
+    (done.0, done.1, (done.2.0, (inl vacant, subst (λ (x : KeeperView). T x (keeper_of done.0)) same done.2.1))))
     (λ (drained : MayVacate k t).
-        let retired = drained.drained.retired in
-        let same : vacated k t ≡ as_vacant k t = ap (λ (x : Slot). vacant_from x k t) (sym retired.1) in
-        let now : MayStore (vacated k t) t = record { rest = may.rest; slot = may.slot; vacant = get_or-set_same k.slots t Vacant Vacant (in_within k.slots t retired.0 (inr retired.1)) } in
-        λ s r id at fits.
-        let done = moves_after z (Keeper k) (Keeper (vacated k t)) i (λ _. v) (λ _ w. (w ≡ Keeper (keeper_of w)) × T (vacated k t) (keeper_of w)) (Makes (Vacate t) Done (Keeper k) (Keeper (vacated k t))) (vacates z k t drained) (stores (vacated k t) now) s r id at fits in
-        (done.0, done.1, (done.2.1.0, (inr (subst (λ (x : KeeperView). Makes (Vacate t) Done (Keeper k) (Keeper x)) same done.2.0), subst (λ (x : KeeperView). T x (keeper_of done.0)) same done.2.1.1))))
+    let retired = drained.drained.retired in
+    let same : vacated k t ≡ as_vacant k t = ap (λ (x : Slot). vacant_from x k t) (sym retired.1) in
+    let now : MayStore (vacated k t) t = record { rest = may.rest; slot = may.slot; vacant = get_or-set_same k.slots t Vacant Vacant (in_within k.slots t retired.0 (inr retired.1)) } in
+    λ s r id at fits.
+    let done = moves_after z (Keeper k) (Keeper (vacated k t)) i (λ _. v) (λ _ w. (w ≡ Keeper (keeper_of w)) × T (vacated k t) (keeper_of w)) (Makes (Vacate t) Done (Keeper k) (Keeper (vacated k t))) (vacates z k t drained) (stores (vacated k t) now) s r id at fits in
+    (done.0, done.1, (done.2.1.0, (inr (subst (λ (x : KeeperView). Makes (Vacate t) Done (Keeper k) (Keeper x)) same done.2.0), subst (λ (x : KeeperView). T x (keeper_of done.0)) same done.2.1.1))))
     may.vacant
 
 -- Links
@@ -152,6 +144,7 @@ record_words words g t j v good slot lt agrees = agrees_set words g (with_keeper
   where
     here : row_at (set g.rows t (with_word (row_at g.rows t) j v)) t ≡ with_word (row_at g.rows t) j v
     here = get_or-set_same g.rows t (with_word (row_at g.rows t) j v) no_words (omega (arith, good.holds.shape.rows))
+
     other : (q : Spot) → IsSpot g.settings q → (q ≡ record_of t j → ⊥) → word_at (with_keeper g (with_record g t j v)) q ≡ word_at g q
     other (section_of c) there ne = refl
     other (passive_of c u) there ne = refl
@@ -160,7 +153,7 @@ record_words words g t j v good slot lt agrees = agrees_set words g (with_keeper
     other (next_of u) there ne = refl
     other (record_of u i) there ne = ⊎_elim
         (λ (is : u ≡ t). subst (λ w. word (row_at (set g.rows t (with_word (row_at g.rows t) j v)) w) i ≡ word (row_at g.rows w) i) (sym is)
-            (ap (λ (r : RecordWords). word r i) here ∙ word_else (row_at g.rows t) j i v lt there.1 (λ same. ne ((λ k. record_of (is k) i) ∙ ap (record_of t) same))))
+        (ap (λ (r : RecordWords). word r i) here ∙ word_else (row_at g.rows t) j i v lt there.1 (λ same. ne ((λ k. record_of (is k) i) ∙ ap (record_of t) same))))
         (λ (off : u ≢ t). ap (λ (r : RecordWords). word r i) (get_or-set_other g.rows t u (with_word (row_at g.rows t) j v) no_words off))
         (cases_eq u t)
     other (total_of u) there ne = refl
@@ -193,8 +186,10 @@ count_words words g t c v good slot lt agrees = agrees_set words g (with_keeper 
   where
     within : t < length g.counts
     within = omega (arith, good.holds.shape.counts)
+
     in_row : c < length (get_or g.counts t [])
     in_row = omega (arith, good.holds.shape.count_rows t within, (ranges g.settings good.holds.fit).cpus)
+
     other : (q : Spot) → IsSpot g.settings q → (q ≡ count_of c t → ⊥) → word_at (with_keeper g (with_count g t c v)) q ≡ word_at g q
     other (section_of d) there ne = refl
     other (passive_of d u) there ne = refl
@@ -213,8 +208,8 @@ counts_follow g k t c v good had slot lt d u vacant =
     let row = good.holds.shape.count_rows t in_core in
     let own_row = had.rows t in_own in
     by_cell (λ w e. count_at (with_cell g.counts t c v) e w ≡ count_at (with_cell k.counts t c v) e w) t c u d
-        (cell_here 0 g.counts t c v in_core (omega (arith, row, few, lt)) ∙ sym (cell_here 0 k.counts t c v in_own (omega (arith, own_row, few, lt))))
-        (λ off. cell_other 0 g.counts t c v u d off ∙ had.counts d u vacant ∙ sym (cell_other 0 k.counts t c v u d off))
+    (cell_here 0 g.counts t c v in_core (omega (arith, row, few, lt)) ∙ sym (cell_here 0 k.counts t c v in_own (omega (arith, own_row, few, lt))))
+    (λ off. cell_other 0 g.counts t c v u d off ∙ had.counts d u vacant ∙ sym (cell_other 0 k.counts t c v u d off))
 
 count_may : (z : Settings) (t c v : ℕ) → c < z.cpus → (k : KeeperView) → MayStore k t → KeeperStores z k (80 * c + 33 + t) v (λ x n y. Makes (StoreSlot t (5 + c) v) Done (Keeper x) (Keeper y) × (y ≡ record x { counts = with_cell x.counts t c v }))
 count_may z t c v within k may s r i at fits =

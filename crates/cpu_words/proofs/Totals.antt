@@ -32,14 +32,14 @@ use Rattle.passive_core.proofs.Bounds.{adding_range, adding_within, subtracting_
 use Rattle.cpu_words.specs.declared.view.KeeperView.{KeeperView}
 use Rattle.cpu_words.specs.declared.view.ReferenceView.{ReferenceView}
 use Rattle.cpu_words.specs.declared.view.View.{View}
-use Rattle.cpu_words.specs.declared.view.View.TheVariants.{Keeper, Cpu, Reference, Note, Spent}
+use Rattle.cpu_words.specs.declared.view.View.TheVariants.{Keeper, Reference, Spent}
 use Rattle.cpu_words.specs.Spots.{Spot, section_of, passive_of, count_of, head_word, next_of, record_of, total_of, word_at}
 use Rattle.cpu_words.specs.Views.{KeeperOwn, keeper_own, keeper_view, number_at, one_more, is_to, IsCollectedFor, KeeperShown, ReferenceShown, GivesUp, keeper_of, reference_of}
 use Rattle.cpu_words.specs.Rule.{Agrees, Good, Ruled}
 use Rattle.cpu_words.specs.Steps.{Makes, JoinsBy, KeeperMay, KeeperStores}
 use Rattle.cpu_words.specs.Draining.{MayTotalAdd, TotalAddTold, MayTotalSub, TotalSubTold, MayJoinKeeper, giving_up, with_given_up}
 use Rattle.cpu_words.proofs.Placing.{agrees_set, agrees_same}
-use Rattle.cpu_words.proofs.Showing.{standing_in, backed, Stay, shows_join}
+use Rattle.cpu_words.proofs.Showing.{standing_in, backed, shows_join}
 use Rattle.cpu_words.proofs.KeeperSteps.{beside, beside_stays, beside_words, KeeperLists, keeper_lists, with_keeper, leaves_all, keeper_good_after, keeper_makes}
 use Rattle.cpu_words.proofs.Standing.{standing_place}
 use Rattle.cpu_words.proofs.KeeperSees.{seen_by_keeper}

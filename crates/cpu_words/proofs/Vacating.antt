@@ -1,40 +1,29 @@
 -- Vacate by the keeper's seat: it touches no word, so it is made just before the first word that is stored.
-use Rattle.std.proofs.Common.{◌≡◌, ◌≢◌, ◌⊎◌, inl, inr, ⊎_elim, ℕ, zero, suc, ◌+◌, ◌≤◌, ◌<◌, List, [], ◌∷◌, length, take, get_or, set, replicate, sum_by, Option, Some, None, Bool, true, false, ◌&&◌, refl, sym, ap, ◌∙◌, subst, arith, length-set, get_or-set_same, get_or-set_other}
-use Rattle.std.proofs.lemmas.Bool.{cases_eq, cases_lt}
-use Rattle.std.proofs.lemmas.List.{set-get_or, append-nil}
+use Rattle.std.proofs.Common.{◌≡◌, inl, inr, ℕ, zero, suc, List, [], ◌∷◌, set, replicate, Option, Some, None, refl, sym, ap, ◌∙◌, subst, length-set}
+use Rattle.std.proofs.lemmas.List.{set-get_or}
 use Rattle.std.specs.Prelude.{slice_index}
 use mathlib.Core.Option.{some, some-ne-none}
 use lib.ListN.{get_elem?}
-use Rattle.atomic_table.specs.Table.{State as Table, keeps, stepped}
-use Rattle.atomic_table.proofs.Lists.{set_again}
+use Rattle.atomic_table.specs.Table.{State as Table}
 use Rattle.passive_core.specs.declared.entry.Entry.{Entry}
 use Rattle.passive_core.specs.declared.settings.Settings.{Settings}
 use Rattle.passive_core.specs.declared.event.Event.TheVariants.{Vacate}
 use Rattle.passive_core.specs.declared.event.Reply.TheVariants.{Done}
 use Rattle.passive_core.specs.declared.state.Slot.{Slot}
 use Rattle.passive_core.specs.declared.state.Slot.TheVariants.{Vacant, Live, Retired}
-use Rattle.passive_core.specs.declared.state.Mark.{Mark}
-use Rattle.passive_core.specs.declared.state.Due.TheVariants.{Rest}
-use Rattle.passive_core.specs.State.{State, bias, no_mark, cell, slot_at, mark_at, passive_at, count_at, total_at, kept_at}
-use Rattle.passive_core.specs.Slots.{is_clear, is_collected, are_clear, are_collected, have_passed}
-use Rattle.passive_core.specs.Events.{step, guard, taken, may_vacate, after_vacate}
-use Rattle.passive_core.specs.Invariant.{AreRows, IsIn, Occupies}
-use Rattle.passive_core.proofs.Occupied.{slot_cases, in_other, in_within, in_vacated, retired_other, retired_one, one_number, one_in}
-use Rattle.passive_core.proofs.CountBounds.{all_at}
+use Rattle.passive_core.specs.State.{State, kept_at}
+use Rattle.passive_core.specs.Events.{step, after_vacate}
 use Rattle.passive_core.proofs.ListKeeps.{rows_put}
-use Rattle.passive_core.proofs.Cells.{get_or_all}
-use Rattle.passive_core.proofs.Fit.{Ranges, ranges}
 use Rattle.cpu_words.specs.declared.view.KeeperView.{KeeperView}
 use Rattle.cpu_words.specs.declared.view.View.{View}
 use Rattle.cpu_words.specs.declared.view.View.TheVariants.{Keeper}
-use Rattle.cpu_words.specs.Views.{KeeperOwn, keeper_own, keeper_view, KeeperShown, GivesUp}
-use Rattle.cpu_words.specs.Rule.{Agrees, Good, Ruled}
+use Rattle.cpu_words.specs.Views.{keeper_own, keeper_view, KeeperShown}
+use Rattle.cpu_words.specs.Rule.{Ruled}
 use Rattle.cpu_words.specs.Steps.{ChangesBy, Makes, Moves}
-use Rattle.cpu_words.specs.Vacating.{IsDrained, MayVacate, vacated, vacant_from, as_vacant, MayWrite, IsTakenAsVacant}
-use Rattle.cpu_words.proofs.Placing.{agrees_same}
-use Rattle.cpu_words.proofs.KeeperSteps.{KeeperLists, keeper_lists, with_keeper, keeper_good_after, keeper_makes}
+use Rattle.cpu_words.specs.Vacating.{MayVacate, vacated, vacant_from}
+use Rattle.cpu_words.proofs.KeeperSteps.{KeeperLists, with_keeper, keeper_good_after, keeper_makes}
 use Rattle.cpu_words.proofs.Drained.{Drained, drained_of, vacating, vacated_leaves, vacated_counts, stood}
-use Rattle.cpu_words.proofs.KeeperSees.{SeenByKeeper, seen_by_keeper, loads}
+use Rattle.cpu_words.proofs.KeeperSees.{seen_by_keeper, loads}
 
 -- the state after it, and the keeper's view
 abbrev emptied : State → ℕ → KeeperLists
@@ -93,10 +82,11 @@ vacates z k t may s r i at =
     let w = keeper_view (with_keeper g l) own in
     let n = slice_index s.words 0 in
     let done = keeper_makes z s r i k 0 n l (Vacate t) Done own at made (vacated_leaves g t e g.totals g.keeps r.good drained) (λ m. refl) refl (shown_vacated g k t e had drained)
-        (loads s.words g (with_keeper g l) 0 r.words refl (λ q _. refl)) in
-    let is : w ≡ vacated k t = ap (λ (v : KeeperView). record v { slots = set v.slots t Vacant; counts = set k.counts t (replicate 8 0) }) (sym had.is) in
-    (subst (λ (v : KeeperView). Ruled z (with_view s i (Keeper v))) is (subst (λ (ws : List ℕ). Ruled z (record { words = ws; homes = s.homes; views = set s.views i (Keeper w) })) (set-get_or s.words 0 0) done.0),
-     subst (λ (v : KeeperView). Makes (Vacate t) Done (Keeper k) (Keeper v)) is done.1)
+    (loads s.words g (with_keeper g l) 0 r.words refl (λ q _. refl)) in
+    let is : w ≡ vacated k t = ap (λ (v : KeeperView). record v { slots = set v.slots t Vacant; counts = set k.counts t (replicate 8 0) }) (sym had.is) in (
+      subst (λ (v : KeeperView). Ruled z (with_view s i (Keeper v))) is (subst (λ (ws : List ℕ). Ruled z (record { words = ws; homes = s.homes; views = set s.views i (Keeper w) })) (set-get_or s.words 0 0) done.0),
+      subst (λ (v : KeeperView). Makes (Vacate t) Done (Keeper k) (Keeper v)) is done.1,
+    )
 
 -- a seat's view that is written twice
 pub views_again : (views : List View) (i : ℕ) (v w : View) → set (set views i v) i w ≡ set views i w

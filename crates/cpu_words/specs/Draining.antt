@@ -9,7 +9,7 @@ use Rattle.passive_core.specs.declared.state.Mark.{Mark}
 use Rattle.passive_core.specs.declared.state.Slot.TheVariants.{Vacant, Retired}
 use Rattle.passive_core.specs.declared.state.Due.TheVariants.{Rest, Adding, Subtracting}
 use Rattle.passive_core.specs.State.{bias, with_cell, slot_at, mark_at, total_at, kept_at}
-use Rattle.passive_core.specs.Slots.{slot_of, have_passed, are_clear, are_collected, is_some_collected}
+use Rattle.passive_core.specs.Slots.{slot_of, have_passed, are_clear, is_some_collected}
 use Rattle.passive_core.specs.Events.{cleared, collected}
 use Rattle.cpu_words.specs.declared.view.KeeperView.{KeeperView}
 use Rattle.cpu_words.specs.declared.view.ReferenceView.{ReferenceView}

@@ -1,5 +1,5 @@
 -- Grace by the keeper's seat: snapshots, looks, and what they leave in its view.
-use Rattle.std.specs.Prelude.{◌≡◌, ℕ, suc, ◌+◌, ◌<◌, nat_lt, if◌then◌else◌, List, Option, Some, None}
+use Rattle.std.specs.Prelude.{◌≡◌, ℕ, suc, ◌+◌, ◌<◌, nat_lt, if◌then◌else◌, Some, None}
 use Rattle.passive_core.specs.declared.entry.Entry.{Entry}
 use Rattle.passive_core.specs.declared.event.Event.{Event}
 use Rattle.passive_core.specs.declared.event.Event.TheVariants.{Look, Snapshot}
@@ -11,7 +11,6 @@ use Rattle.passive_core.specs.declared.state.Due.TheVariants.{Rest, Snapshots}
 use Rattle.passive_core.specs.declared.settings.Settings.{Settings}
 use Rattle.passive_core.specs.State.{slot_at, mark_at, with_cell}
 use Rattle.passive_core.specs.Events.{looked, snapshot_mark}
-use Rattle.cpu_words.specs.declared.view.Looked.{Looked}
 use Rattle.cpu_words.specs.declared.view.KeeperView.{KeeperView}
 
 -- the keeper is at rest, and the CPU is one of the table's

@@ -1,10 +1,8 @@
 -- What a step promises: by the seat that steps, on that seat's view alone, just one event of the core.
-use Rattle.std.specs.Prelude.{◌≡◌, ℕ, zero, suc, ◌+◌, ◌<◌, ◌≤◌, ◌^◌, List, [], length, sum_by, slice_index, Option, Some, None}
+use Rattle.std.specs.Prelude.{◌≡◌, ℕ, ◌+◌, ◌<◌, ◌≤◌, [], sum_by, slice_index, Some}
 use mathlib.Core.Option.{some}
-use mathlib.Core.List.{IsPrefix}
 use lib.ListN.{get_elem?}
 use Rattle.atomic_table.specs.Table.{State as Table, Step, Me, keeps, stepped}
-use Rattle.passive_core.specs.declared.entry.Change.{Change}
 use Rattle.passive_core.specs.declared.settings.Settings.{Settings}
 use Rattle.passive_core.specs.declared.event.Event.{Event}
 use Rattle.passive_core.specs.declared.event.Reply.{Reply}
@@ -12,12 +10,11 @@ use Rattle.passive_core.specs.declared.event.Reply.TheVariants.{Done}
 use Rattle.passive_core.specs.State.{State}
 use Rattle.passive_core.specs.Events.{step}
 use Rattle.passive_core.specs.Invariant.{standing_of}
-use Rattle.cpu_words.specs.declared.view.InHand.TheVariants.{Empty as NoEntry}
 use Rattle.cpu_words.specs.declared.view.CpuView.{CpuView}
 use Rattle.cpu_words.specs.declared.view.KeeperView.{KeeperView}
 use Rattle.cpu_words.specs.declared.view.ReferenceView.{ReferenceView}
 use Rattle.cpu_words.specs.declared.view.View.{View}
-use Rattle.cpu_words.specs.declared.view.View.TheVariants.{Keeper, Cpu, Reference, Note, Spent}
+use Rattle.cpu_words.specs.declared.view.View.TheVariants.{Keeper, Cpu, Reference}
 use Rattle.cpu_words.specs.Views.{Shown, cpu_of, keeper_of, reference_of}
 use Rattle.cpu_words.specs.Rule.{Good, Ruled, reference_to}
 

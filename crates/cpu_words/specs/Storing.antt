@@ -1,5 +1,5 @@
 -- The words of a slot that the keeper stores before it publishes an entry there.
-use Rattle.std.specs.Prelude.{◌≡◌, ℕ, ◌+◌, ◌-◌, ◌<◌, List, slice_set}
+use Rattle.std.specs.Prelude.{◌≡◌, ℕ, ◌-◌, slice_set}
 use Rattle.passive_core.specs.declared.event.Event.{Event}
 use Rattle.passive_core.specs.declared.event.Event.TheVariants.{StoreSlot, StoreNext}
 use Rattle.passive_core.specs.State.{row_at, with_cell}

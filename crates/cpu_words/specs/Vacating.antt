@@ -1,5 +1,5 @@
 -- A retired slot with all its marks may be taken as vacant: Vacate touches no word, and shows from the first word that is stored in the slot on.
-use Rattle.std.specs.Prelude.{◌≡◌, ◌⊎◌, ℕ, ◌<◌, List, [], replicate, slice_index_or, slice_set, Option, None, true}
+use Rattle.std.specs.Prelude.{◌≡◌, ◌⊎◌, ℕ, ◌<◌, [], replicate, slice_index_or, slice_set, None, true}
 use Rattle.passive_core.specs.declared.entry.Entry.{Entry}
 use Rattle.passive_core.specs.declared.event.Event.TheVariants.{Vacate}
 use Rattle.passive_core.specs.declared.event.Reply.TheVariants.{Done}

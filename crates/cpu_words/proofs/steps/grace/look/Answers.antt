@@ -1,4 +1,3 @@
-use Rattle.std.proofs.Common.{rules, arith}
 use Rattle.cpu_words.proofs.Grace.{look_may}
 use Rattle.cpu_words.proofs.steps.grace.look.Goals as goal
 

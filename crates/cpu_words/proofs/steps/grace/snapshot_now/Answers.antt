@@ -1,4 +1,3 @@
-use Rattle.std.proofs.Common.{rules, arith}
 use Rattle.cpu_words.proofs.Grace.{snapshot_now_may}
 use Rattle.cpu_words.proofs.steps.grace.snapshot_now.Goals as goal
 

@@ -1,4 +1,3 @@
-use Rattle.std.proofs.Common.{rules, arith}
 use Rattle.cpu_words.proofs.Storing.{store_next_may}
 use Rattle.cpu_words.proofs.steps.list.store_next.Goals as goal
 

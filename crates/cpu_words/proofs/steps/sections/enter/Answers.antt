@@ -1,4 +1,3 @@
-use Rattle.std.proofs.Common.{rules, arith}
 use Rattle.cpu_words.proofs.Sections.{enter_may}
 use Rattle.cpu_words.proofs.steps.sections.enter.Goals as goal
 
