@@ -1,5 +1,5 @@
 -- A CPU: how its plain data agree with what its seat knows.
-use Rattle.std.specs.Prelude.{◌≡◌, ◌≢◌, ◌↔◌, ℕ, ◌+◌, ◌<◌, ◌≤◌, List, length, slice_index_or, Option, Some, None, IsTrue}
+use Rattle.std.specs.Prelude.{◌≡◌, ◌≢◌, ◌↔◌, ℕ, ◌+◌, ◌*◌, ◌<◌, ◌≤◌, List, length, slice_index_or, Option, Some, None, IsTrue}
 use Rattle.std.specs.List.{Contains}
 use Rattle.atomic_table.specs.Seated.{TableId}
 use Rattle.passive_core.specs.declared.entry.Entry.{Entry}
@@ -8,7 +8,7 @@ use Rattle.passive_core.specs.Limits.{are_fit}
 use Rattle.passive_core.specs.History.{IsAttached}
 use Rattle.passive_core.specs.State.{bias}
 use Rattle.cpu_words.specs.declared.view.CpuView.{CpuView}
-use Rattle.cpu_words.specs.Views.{number_at, references_to}
+use Rattle.cpu_words.specs.Views.{number_at, references_to, depth_of}
 use Rattle.cpu_words.specs.Sections.{IsIdle}
 use Rattle.passive_list.specs.declared.place.Place.{Place}
 
@@ -37,23 +37,31 @@ pub record NetAgree (x : CpuView) (places : List Place) : Type 0 where
 
 -- a section is open while its depth isn't 0
 pub record DepthAgrees (begin : Option ℕ) (depth : ℕ) : Type 0 where
-  pub outside : begin ≡ None ↔ depth ≡ 0
+  pub outside : (begin ≡ None) ↔ (depth ≡ 0)
   pub most : depth ≤ 255
+
+-- The word is even outside and odd inside; each section that this CPU has begun, an open one among them, is within the limit.
+pub record SectionAgrees (a : Settings) (x : CpuView) (section : ℕ) : Type 0 where
+  pub is : x.section ≡ section
+  pub begun : ℕ
+  pub word : section + depth_of x.begin ≡ 2 * begun
+  pub limit : begun ≤ a.section_limit
 
 -- the last found entry is in the pass
 pub record FoundAgrees (x : CpuView) (found : Option Entry) : Type 0 where
   pub is : found ≡ x.found
   pub seen : (e : Entry) → x.found ≡ Some e → (e.slot < 32) × IsAttached x.pass e
 
-pub record IsOurCpu (z : TableId) (a : Settings) (table : TableId) (x : CpuView) (id section depth : ℕ) (found : Option Entry) (passive net : List Place) : Type 0 where
-  pub table : table ≡ z
+-- the fields of a CPU of D's table: its seat's table and view, its number, word and depth, the last found entry, and its places
+pub record IsOurCpu (z : TableId) (a : Settings) (t : TableId) (x : CpuView) (c word deep : ℕ) (last : Option Entry) (references nets : List Place) : Type 0 where
+  pub table : t ≡ z
   pub settings : x.settings ≡ a
   pub fit : IsTrue (are_fit a)
-  pub id : x.id ≡ id
-  pub few : id < 8
-  pub section : x.section ≡ section
+  pub id : x.id ≡ c
+  pub few : c < 8
+  pub section : SectionAgrees a x word
   pub idle : IsIdle x
-  pub depth : DepthAgrees x.begin depth
-  pub found : FoundAgrees x found
-  pub passive : PassiveAgree x passive
-  pub net : NetAgree x net
+  pub depth : DepthAgrees x.begin deep
+  pub found : FoundAgrees x last
+  pub passive : PassiveAgree x references
+  pub net : NetAgree x nets

@@ -25,9 +25,26 @@ pub fn enter<D: Domain>(words: &Words, cpu: &mut Cpu<D>) -> Result<(), Refusal>
         return Err(Refusal::TooDeep);
     }
     if cpu.depth == 0 {
-        begin(words, cpu)?;
+        return begin(words, cpu);
     }
     cpu.depth += 1;
+    Ok(())
+}
+
+/// Begins a section, unless this CPU has begun as many as it may.
+fn begin<D: Domain>(words: &Words, cpu: &mut Cpu<D>) -> Result<(), Refusal>
+    requires words { (words.now.table ≡ D.table) × (words.now.settings ≡ D.settings) }
+    requires outside { cpu.old.depth ≡ 0 }
+    ensures ok { IfOk result (λ _. HasEnteredOn cpu.old cpu.new) }
+    ensures refused { IfErr result (λ e. (e ≡ Refusal.SectionsSpent) × (cpu.new ≡ cpu.old) × AreSpent cpu.old.view) }
+    ensures spent { AreSpent cpu.old.view → IsErrOf result Refusal.SectionsSpent }
+{
+    if cpu.section >= 2 * words.settings().section_limit {
+        return Err(Refusal::SectionsSpent);
+    }
+    steps::enter(words, &mut cpu.seat, cpu.id);
+    cpu.section += 1;
+    cpu.depth = 1;
     Ok(())
 }
 
@@ -39,9 +56,19 @@ pub fn exit<D: Domain>(words: &Words, cpu: &mut Cpu<D>)
     ensures { HasExitedOn cpu.old cpu.new }
 {
     if cpu.depth == 1 {
-        steps::exit(words, &mut cpu.seat, cpu.id);
-        cpu.section += 1;
-        cpu.found = None;
+        return end(words, cpu);
     }
     cpu.depth -= 1;
+}
+
+/// Ends the section.
+fn end<D: Domain>(words: &Words, cpu: &mut Cpu<D>)
+    requires words { (words.now.table ≡ D.table) × (words.now.settings ≡ D.settings) }
+    requires last { cpu.old.depth ≡ 1 }
+    ensures { HasExitedOn cpu.old cpu.new }
+{
+    steps::exit(words, &mut cpu.seat, cpu.id);
+    cpu.section += 1;
+    cpu.found = None;
+    cpu.depth = 0;
 }
