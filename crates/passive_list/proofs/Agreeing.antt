@@ -147,3 +147,32 @@ deeper_agrees z a t x c w d n e ps ns our some above below = record {
   passive = our.passive;
   net = our.net;
 }
+
+-- the pass grows, another entry may be the last found one, and a note may have been heard
+pub seen_agrees : (z : TableId) (a : Settings) (t u : TableId) (x y : CpuView) (c w d : ℕ) (e f : Option Entry) (ps ns : List Place) (h : List Change)
+    → IsOurCpu z a t x c w d e ps ns → u ≡ t → IsPrefix x.pass y.pass → y ≡ record x { pass = y.pass; found = f; heard = h }
+    → ((g : Entry) → f ≡ Some g → (g.slot < 32) × IsAttached y.pass g) → IsOurCpu z a u y c w d f ps ns
+seen_agrees z a t u x y c w d e f ps ns h our same longer is seen =
+    let p = y.pass in
+    let z0 : CpuView = record x { pass = p; found = f; heard = h } in
+    let there : IsOurCpu z a u z0 c w d f ps ns = record {
+      table = same ∙ our.table;
+      settings = our.settings;
+      fit = our.fit;
+      id = our.id;
+      few = our.few;
+      section = record { is = our.section.is; begun = our.section.begun; word = our.section.word; limit = our.section.limit };
+      idle = record { search = our.idle.search; hand = our.idle.hand };
+      depth = our.depth;
+      found = record { is = refl; seen = seen };
+      passive = passive_longer x z0 ps refl longer our.passive;
+      net = net_same x z0 ns refl refl refl our.net;
+    } in
+    subst (λ (v : CpuView). IsOurCpu z a u v c w d f ps ns) (sym is) there
+
+pub heard_agrees : (z : TableId) (a : Settings) (t u : TableId) (x y : CpuView) (c w d : ℕ) (e : Option Entry) (ps ns : List Place) (h : List Change)
+    → IsOurCpu z a t x c w d e ps ns → u ≡ t → IsPrefix x.pass y.pass → y ≡ record x { pass = y.pass; heard = h } → IsOurCpu z a u y c w d e ps ns
+heard_agrees z a t u x y c w d e ps ns h our same longer is =
+    let p = y.pass in
+    let as_found : y ≡ record x { pass = p; found = e; heard = h } = is ∙ ap (λ (f : Option Entry). record x { pass = p; found = f; heard = h }) (sym our.found.is) in
+    seen_agrees z a t u x y c w d e e ps ns h our same longer as_found (λ g q. found_longer x p g longer (our.found.seen g (sym our.found.is ∙ q)))

@@ -1,3 +1,4 @@
 pub mod Cpus
 pub mod Sections
 pub mod Lookups
+pub mod Notes

@@ -6,9 +6,11 @@
 #![tactic(auto)]
 
 mod cpu;
+mod notes;
 mod place;
 mod sections;
 
 pub use cpu::Cpu;
+pub use notes::{Note, hear, tell};
 pub use place::Place;
 pub use sections::{enter, exit};
