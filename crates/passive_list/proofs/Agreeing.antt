@@ -17,6 +17,9 @@ use Rattle.cpu_words.specs.Views.{number_at, references_to, depth_of, new_cpu}
 use Rattle.cpu_words.specs.Sections.{HasEntered, HasExited}
 use Rattle.cpu_words.proofs.Passes.{attached_prefix}
 use Rattle.passive_list.specs.declared.place.Place.{Place}
+use Rattle.passive_core.specs.declared.state.Key.{Key}
+use Rattle.passive_core.specs.declared.state.Search.{Search}
+use Rattle.passive_list.specs.Walking.{HasLookedUp}
 use Rattle.passive_list.specs.Cpus.{no_place, place_at, PassiveAgree, NetAgree, DepthAgrees, SectionAgrees, FoundAgrees, IsOurCpu}
 
 -- each place of a new CPU is of no entry
@@ -176,3 +179,11 @@ heard_agrees z a t u x y c w d e ps ns h our same longer is =
     let p = y.pass in
     let as_found : y ≡ record x { pass = p; found = e; heard = h } = is ∙ ap (λ (f : Option Entry). record x { pass = p; found = f; heard = h }) (sym our.found.is) in
     seen_agrees z a t u x y c w d e e ps ns h our same longer as_found (λ g q. found_longer x p g longer (our.found.seen g (sym our.found.is ∙ q)))
+
+-- a lookup is over
+pub looked_up_agrees : (z : TableId) (a : Settings) (t u : TableId) (x y : CpuView) (c w d : ℕ) (e f : Option Entry) (ps ns : List Place) (key : Key)
+    → IsOurCpu z a t x c w d e ps ns → u ≡ t → HasLookedUp key x y f → IsOurCpu z a u y c w d f ps ns
+looked_up_agrees z a t u x y c w d e f ps ns key our same had =
+    let p = y.pass in
+    let is : y ≡ record x { pass = p; found = f } = had.is ∙ ap (λ (s : Option Search). record x { pass = p; search = s; found = f }) (sym our.idle.search) in
+    seen_agrees z a t u x y c w d e f ps ns x.heard our same had.pass is had.seen

@@ -2,3 +2,4 @@ pub mod Cpus
 pub mod Sections
 pub mod Lookups
 pub mod Notes
+pub mod Walking

@@ -6,11 +6,13 @@
 #![tactic(auto)]
 
 mod cpu;
+mod lookup;
 mod notes;
 mod place;
 mod sections;
 
 pub use cpu::Cpu;
+pub use lookup::find;
 pub use notes::{Note, hear, tell};
 pub use place::Place;
 pub use sections::{enter, exit};
