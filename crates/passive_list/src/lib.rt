@@ -16,3 +16,6 @@ pub use lookup::find;
 pub use notes::{Note, hear, tell};
 pub use place::Place;
 pub use sections::{enter, exit};
+
+#[cfg(test)]
+mod tests;
