@@ -1,5 +1,7 @@
 //! The table of words, its one rule, and the type that names a table.
 
+ghost use Rattle.std.specs.Prelude.{◌≡◌};
+
 use crate::view::{CpuView, KeeperView, View};
 use atomic_table::{Play, Table, TableRule};
 use passive_core::Settings;
@@ -34,6 +36,15 @@ impl Model for Words {
     ghost view = { λ w. record { table = w.table.shared.table_id; settings = w.settings } };
 
     ghost invariant = { λ w. (w.settings ≡ w.table.shared.key) × (w.table.shared.table_id.words ≡ 944) };
+}
+
+impl Words {
+    /// What the registry is made for: how large it is, and how far its counts may go.
+    pub fn settings(&self) -> Settings
+        ensures { result ≡ self.now.settings }
+    {
+        self.settings
+    }
 }
 
 /// Names one table and its settings, for contracts: what a lock or a message hands on is known by its type alone.

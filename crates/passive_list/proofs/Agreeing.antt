@@ -1,0 +1,189 @@
+-- A CPU's plain data agree with its view on: as it is made, and over its sections.
+use Rattle.std.proofs.Common.{◌≡◌, ◌≢◌, ℕ, ◌+◌, ◌*◌, ◌<◌, ◌≤◌, List, [], length, replicate, IsTrue, Option, Some, None, refl, sym, ap, ◌∙◌, subst, arith}
+use Rattle.std.specs.Prelude.{◌↔◌}
+use Rattle.std.proofs.lemmas.List.{append-nil}
+use Rattle.std.specs.List.{Contains}
+use mathlib.Core.List.{IsPrefix}
+use Rattle.atomic_table.specs.Seated.{TableId}
+use Rattle.passive_core.specs.declared.entry.Entry.{Entry}
+use Rattle.passive_core.specs.declared.entry.Change.{Change}
+use Rattle.passive_core.specs.declared.settings.Settings.{Settings}
+use Rattle.passive_core.specs.Limits.{are_fit}
+use Rattle.passive_core.specs.History.{IsAttached}
+use Rattle.passive_core.specs.State.{bias}
+use Rattle.passive_core.proofs.Cells.{get_or_all}
+use Rattle.cpu_words.specs.declared.view.CpuView.{CpuView}
+use Rattle.cpu_words.specs.Views.{number_at, references_to, depth_of, new_cpu}
+use Rattle.cpu_words.specs.Sections.{HasEntered, HasExited}
+use Rattle.cpu_words.proofs.Passes.{attached_prefix}
+use Rattle.passive_list.specs.declared.place.Place.{Place}
+use Rattle.passive_core.specs.declared.state.Key.{Key}
+use Rattle.passive_core.specs.declared.state.Search.{Search}
+use Rattle.passive_list.specs.Walking.{HasLookedUp}
+use Rattle.passive_list.specs.Cpus.{no_place, place_at, PassiveAgree, NetAgree, DepthAgrees, SectionAgrees, FoundAgrees, IsOurCpu}
+
+-- each place of a new CPU is of no entry
+blank_number : (t : ℕ) → (place_at (replicate 32 no_place) t).number ≡ 0
+blank_number t = ap (λ (p : Place). p.number) (get_or_all 32 no_place t)
+
+new_passive : (a : Settings) (c : ℕ) → PassiveAgree (new_cpu a c) (replicate 32 no_place)
+new_passive a c = record { size = refl; counts = λ t some. absurd (some (blank_number t)); each = λ e there. absurd (omega (arith, there.1)) }
+
+new_net : (a : Settings) (c : ℕ) → NetAgree (new_cpu a c) (replicate 32 no_place)
+new_net a c = record { size = refl; met = λ t. blank_number t; counts = λ t some. absurd (some (blank_number t)) }
+
+outside : DepthAgrees None 0
+outside = record { outside = (λ _. refl, λ _. refl); most = omega arith }
+
+inside : (b : ℕ) → DepthAgrees (Some b) 1
+inside b = record { outside = (λ (q : Some b ≡ None). cc, λ (q : 1 ≡ 0). absurd (omega arith)); most = omega arith }
+
+-- a new CPU
+pub new_agrees : (z : TableId) (a : Settings) (t : TableId) (c : ℕ) → t ≡ z → IsTrue (are_fit a) → c < 8 → IsOurCpu z a t (new_cpu a c) c 0 0 None (replicate 32 no_place) (replicate 32 no_place)
+new_agrees z a t c table fit few = record {
+  table = table;
+  settings = refl;
+  fit = fit;
+  id = refl;
+  few = few;
+  section = record { is = refl; begun = 0; word = refl; limit = omega arith };
+  idle = record { search = refl; hand = refl };
+  depth = outside;
+  found = record { is = refl; seen = λ e (q : None ≡ Some e). cc };
+  passive = new_passive a c;
+  net = new_net a c;
+}
+
+-- its references stay in a longer pass
+pub passive_longer : (x y : CpuView) (l : List Place) → y.references ≡ x.references → IsPrefix x.pass y.pass → PassiveAgree x l → PassiveAgree y l
+passive_longer x y l same longer agree = record {
+  size = agree.size;
+  counts = λ t some. agree.counts t some ∙ ap (λ es. references_to (place_at l t).number es) (sym same);
+  each = λ e there.
+    let old = agree.each e (subst (λ es. Contains es e) same there) in
+    (old.0, attached_prefix x.pass y.pass e longer old.1, old.2, old.3);
+}
+
+-- its net counts are not of the pass
+pub net_same : (x y : CpuView) (l : List Place) → y.met ≡ x.met → y.acquired ≡ x.acquired → y.released ≡ x.released → NetAgree x l → NetAgree y l
+net_same x y l met acquired released agree = record {
+  size = agree.size;
+  met = λ t. agree.met t ∙ ap (λ m. number_at m t) (sym met);
+  counts = λ t some. ap (λ m. (place_at l t).count + number_at m (place_at l t).number) released ∙ agree.counts t some ∙ ap (λ m. bias + number_at m (place_at l t).number) (sym acquired);
+}
+
+found_longer : (x : CpuView) (p : List Change) (e : Entry) → IsPrefix x.pass p → (e.slot < 32) × IsAttached x.pass e → (e.slot < 32) × IsAttached p e
+found_longer x p e longer old = (old.0, attached_prefix x.pass p e longer old.1)
+
+-- a section begins
+pub entered_agrees : (z : TableId) (a : Settings) (t u : TableId) (x y : CpuView) (c w d : ℕ) (e : Option Entry) (ps ns : List Place)
+    → IsOurCpu z a t x c w d e ps ns → u ≡ t → d ≡ 0 → w < 2 * a.section_limit → HasEntered x y → IsOurCpu z a u y c (w + 1) 1 e ps ns
+entered_agrees z a t u x y c w d e ps ns our same shallow room had =
+    let p = y.pass in
+    let longer : IsPrefix x.pass p = had.0 in
+    let z0 : CpuView = record x { section = x.section + 1; begin = Some (length p); pass = p } in
+    let none : depth_of x.begin ≡ 0 = ap depth_of (our.depth.outside.1 shallow) in
+    let word : w + depth_of x.begin ≡ 2 * our.section.begun = our.section.word in
+    let there : IsOurCpu z a u z0 c (w + 1) 1 e ps ns = record {
+      table = same ∙ our.table;
+      settings = our.settings;
+      fit = our.fit;
+      id = our.id;
+      few = our.few;
+      section = record { is = ap (λ n. n + 1) our.section.is; begun = our.section.begun + 1; word = omega arith; limit = omega arith };
+      idle = record { search = our.idle.search; hand = our.idle.hand };
+      depth = inside (length p);
+      found = record { is = our.found.is; seen = λ f q. found_longer x p f longer (our.found.seen f q) };
+      passive = passive_longer x z0 ps refl longer our.passive;
+      net = net_same x z0 ns refl refl refl our.net;
+    } in
+    subst (λ (v : CpuView). IsOurCpu z a u v c (w + 1) 1 e ps ns) (sym had.1) there
+
+-- the word of an open section has a successor
+pub section_room : (z : TableId) (a : Settings) (t : TableId) (x : CpuView) (c w d : ℕ) (e : Option Entry) (ps ns : List Place) → IsOurCpu z a t x c w d e ps ns → w ≤ 2 * a.section_limit
+section_room z a t x c w d e ps ns our =
+    let word : w + depth_of x.begin ≡ 2 * our.section.begun = our.section.word in
+    let limit : our.section.begun ≤ a.section_limit = our.section.limit in
+    omega arith
+
+-- an open section
+opened : (b : Option ℕ) → b ≢ None → depth_of b ≡ 1
+opened None some = absurd (some refl)
+opened (Some b) some = refl
+
+-- a section ends
+pub exited_agrees : (z : TableId) (a : Settings) (t u : TableId) (x y : CpuView) (c w d : ℕ) (e : Option Entry) (ps ns : List Place)
+    → IsOurCpu z a t x c w d e ps ns → u ≡ t → d ≡ 1 → HasExited x y → IsOurCpu z a u y c (w + 1) 0 None ps ns
+exited_agrees z a t u x y c w d e ps ns our same last had =
+    let some : x.begin ≢ None = λ q. absurd (let none : d ≡ 0 = our.depth.outside.0 q in omega arith) in
+    let z0 : CpuView = record x { section = x.section + 1; begin = None; found = None } in
+    let one : depth_of x.begin ≡ 1 = opened x.begin some in
+    let word : w + depth_of x.begin ≡ 2 * our.section.begun = our.section.word in
+    let there : IsOurCpu z a u z0 c (w + 1) 0 None ps ns = record {
+      table = same ∙ our.table;
+      settings = our.settings;
+      fit = our.fit;
+      id = our.id;
+      few = our.few;
+      section = record { is = ap (λ n. n + 1) our.section.is; begun = our.section.begun; word = omega arith; limit = our.section.limit };
+      idle = record { search = our.idle.search; hand = our.idle.hand };
+      depth = outside;
+      found = record { is = refl; seen = λ f (q : None ≡ Some f). cc };
+      passive = passive_longer x z0 ps refl (([], append-nil x.pass)) our.passive;
+      net = net_same x z0 ns refl refl refl our.net;
+    } in
+    subst (λ (v : CpuView). IsOurCpu z a u v c (w + 1) 0 None ps ns) (sym had) there
+
+-- an inner enter or exit is counted in the depth alone
+pub deeper_agrees : (z : TableId) (a : Settings) (t : TableId) (x : CpuView) (c w d n : ℕ) (e : Option Entry) (ps ns : List Place)
+    → IsOurCpu z a t x c w d e ps ns → x.begin ≢ None → 0 < n → n ≤ 255 → IsOurCpu z a t x c w n e ps ns
+deeper_agrees z a t x c w d n e ps ns our some above below = record {
+  table = our.table;
+  settings = our.settings;
+  fit = our.fit;
+  id = our.id;
+  few = our.few;
+  section = our.section;
+  idle = our.idle;
+  depth = record { outside = (λ q. absurd (some q), λ (q : n ≡ 0). absurd (omega arith)); most = below };
+  found = our.found;
+  passive = our.passive;
+  net = our.net;
+}
+
+-- the pass grows, another entry may be the last found one, and a note may have been heard
+pub seen_agrees : (z : TableId) (a : Settings) (t u : TableId) (x y : CpuView) (c w d : ℕ) (e f : Option Entry) (ps ns : List Place) (h : List Change)
+    → IsOurCpu z a t x c w d e ps ns → u ≡ t → IsPrefix x.pass y.pass → y ≡ record x { pass = y.pass; found = f; heard = h }
+    → ((g : Entry) → f ≡ Some g → (g.slot < 32) × IsAttached y.pass g) → IsOurCpu z a u y c w d f ps ns
+seen_agrees z a t u x y c w d e f ps ns h our same longer is seen =
+    let p = y.pass in
+    let z0 : CpuView = record x { pass = p; found = f; heard = h } in
+    let there : IsOurCpu z a u z0 c w d f ps ns = record {
+      table = same ∙ our.table;
+      settings = our.settings;
+      fit = our.fit;
+      id = our.id;
+      few = our.few;
+      section = record { is = our.section.is; begun = our.section.begun; word = our.section.word; limit = our.section.limit };
+      idle = record { search = our.idle.search; hand = our.idle.hand };
+      depth = our.depth;
+      found = record { is = refl; seen = seen };
+      passive = passive_longer x z0 ps refl longer our.passive;
+      net = net_same x z0 ns refl refl refl our.net;
+    } in
+    subst (λ (v : CpuView). IsOurCpu z a u v c w d f ps ns) (sym is) there
+
+pub heard_agrees : (z : TableId) (a : Settings) (t u : TableId) (x y : CpuView) (c w d : ℕ) (e : Option Entry) (ps ns : List Place) (h : List Change)
+    → IsOurCpu z a t x c w d e ps ns → u ≡ t → IsPrefix x.pass y.pass → y ≡ record x { pass = y.pass; heard = h } → IsOurCpu z a u y c w d e ps ns
+heard_agrees z a t u x y c w d e ps ns h our same longer is =
+    let p = y.pass in
+    let as_found : y ≡ record x { pass = p; found = e; heard = h } = is ∙ ap (λ (f : Option Entry). record x { pass = p; found = f; heard = h }) (sym our.found.is) in
+    seen_agrees z a t u x y c w d e e ps ns h our same longer as_found (λ g q. found_longer x p g longer (our.found.seen g (sym our.found.is ∙ q)))
+
+-- a lookup is over
+pub looked_up_agrees : (z : TableId) (a : Settings) (t u : TableId) (x y : CpuView) (c w d : ℕ) (e f : Option Entry) (ps ns : List Place) (key : Key)
+    → IsOurCpu z a t x c w d e ps ns → u ≡ t → HasLookedUp key x y f → IsOurCpu z a u y c w d f ps ns
+looked_up_agrees z a t u x y c w d e f ps ns key our same had =
+    let p = y.pass in
+    let is : y ≡ record x { pass = p; found = f } = had.is ∙ ap (λ (s : Option Search). record x { pass = p; search = s; found = f }) (sym our.idle.search) in
+    seen_agrees z a t u x y c w d e f ps ns x.heard our same had.pass is had.seen

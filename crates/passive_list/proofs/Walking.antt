@@ -1,0 +1,172 @@
+-- A search: its loads in one slot, and from one slot to the next.
+use Rattle.std.proofs.Common.{◌≡◌, ◌≢◌, ℕ, zero, suc, ◌+◌, ◌-◌, ◌<◌, ◌≤◌, Bool, true, false, List, ◌++◌, length, Option, Some, None, refl, sym, ap, ◌∙◌, subst, arith, append_assoc}
+use mathlib.Core.List.{IsPrefix}
+use Rattle.passive_core.specs.declared.entry.Entry.{Entry}
+use Rattle.passive_core.specs.declared.entry.Change.{Change}
+use Rattle.passive_core.specs.declared.event.Event.{Event}
+use Rattle.passive_core.specs.declared.event.Reply.{Reply}
+use Rattle.passive_core.specs.declared.state.Key.{Key}
+use Rattle.passive_core.specs.declared.state.Place.{Place}
+use Rattle.passive_core.specs.declared.state.Place.TheVariants.{AtHead, AtNext, AtNumber, AtKind, AtHigh, AtLow, AtValue}
+use Rattle.passive_core.specs.declared.state.Loaded.{Loaded}
+use Rattle.passive_core.specs.declared.state.Loaded.TheVariants.{On, Over}
+use Rattle.passive_core.specs.Events.{are_words_of}
+use Rattle.passive_core.specs.History.{IsAttached, IsLawful}
+use Rattle.passive_core.specs.Invariant.{StandsOn}
+use Rattle.passive_core.specs.Loaded.{loaded, judged, entry_with}
+use Rattle.cpu_words.specs.declared.view.CpuView.{CpuView}
+use Rattle.cpu_words.specs.declared.view.View.{View}
+use Rattle.cpu_words.specs.Steps.{Makes}
+use Rattle.cpu_words.specs.declared.view.View.TheVariants.{Cpu}
+use Rattle.cpu_words.specs.Searching.{MayLoadLink, MayLoadSearched, IsAtWord, every_word, searched, HasLoadedLink, HasLoadedWord, HasFollowed, seeking, search_for}
+use Rattle.cpu_words.proofs.Searching.{pass_within}
+use Rattle.passive_list.specs.Walking.{search_at, IsUnderWay, standing, after_visit, HasVisitedFrom, HasVisited, HasTakenFrom, HasTaken, HasMissed, IsOn, IsAtLink, HasLookedUp}
+
+pub prefix_trans : (p q r : List Change) → IsPrefix p q → IsPrefix q r → IsPrefix p r
+prefix_trans p q r a b = (a.0 ++ b.0, sym (append_assoc p a.0 b.0) ∙ ap (λ l. l ++ b.0) a.1 ∙ b.1)
+
+-- One load
+
+-- the search goes on at another place
+on_word : (x y : CpuView) (key : Key) (from : ℕ) (p q : Place) (n w : ℕ) → IsUnderWay x key from p → loaded (search_at key from p) p (every_word n) ≡ Some (On q w) → HasLoadedWord x n y → y ≡ standing x key from q
+on_word x y key from p q n w at on had = (had (search_at key from p) at).is ∙ ap (searched x (search_at key from p)) on
+
+pub goes_on : (x y : CpuView) (key : Key) (from : ℕ) (p q : Place) (n w : ℕ) → IsUnderWay x key from p → loaded (search_at key from p) p (every_word n) ≡ Some (On q w) → HasLoadedWord x n y → IsUnderWay y key from q
+goes_on x y key from p q n w at on had = ap (λ (v : CpuView). v.search) (on_word x y key from p q n w at on had)
+
+pub may_load : (x : CpuView) (key : Key) (from t k : ℕ) (p : Place) → IsUnderWay x key from p → IsAtWord p t k → MayLoadSearched x t k
+may_load x key from t k p at word = record { search = search_at key from p; under_way = at; place = word }
+
+pub may_follow : (x : CpuView) (key : Key) (from t : ℕ) → IsUnderWay x key from (AtNext t) → MayLoadLink x t
+may_follow x key from t at = record { search = search_at key from (AtNext t); under_way = at; place = refl }
+
+-- One slot
+
+judged_at : (t n l : ℕ) (b : Bool) → judged t n l b ≡ On (after_visit t n b) l
+judged_at t n l true = refl
+judged_at t n l false = refl
+
+pub visited : (x y1 y2 y3 y4 : CpuView) (key : Key) (t n k h l : ℕ) → HasLoadedWord x n y1 → HasLoadedWord y1 k y2 → HasLoadedWord y2 h y3 → HasLoadedWord y3 l y4
+    → HasVisited x key t n (are_words_of key k h l) y4
+visited x y1 y2 y3 y4 key t n k h l had1 had2 had3 had4 from at =
+    let is1 : y1 ≡ standing x key from (AtKind t n) = on_word x y1 key from (AtNumber t) (AtKind t n) n n at refl had1 in
+    let at1 : IsUnderWay y1 key from (AtKind t n) = ap (λ (v : CpuView). v.search) is1 in
+    let is2 : y2 ≡ standing y1 key from (AtHigh t n k) = on_word y1 y2 key from (AtKind t n) (AtHigh t n k) k k at1 refl had2 in
+    let at2 : IsUnderWay y2 key from (AtHigh t n k) = ap (λ (v : CpuView). v.search) is2 in
+    let is3 : y3 ≡ standing y2 key from (AtLow t n k h) = on_word y2 y3 key from (AtHigh t n k) (AtLow t n k h) h h at2 refl had3 in
+    let at3 : IsUnderWay y3 key from (AtLow t n k h) = ap (λ (v : CpuView). v.search) is3 in
+    let q = after_visit t n (are_words_of key k h l) in
+    let on : loaded (search_at key from (AtLow t n k h)) (AtLow t n k h) (every_word l) ≡ Some (On q l) = ap Some (judged_at t n l (are_words_of key k h l)) in
+    let is4 : y4 ≡ standing y3 key from q = on_word y3 y4 key from (AtLow t n k h) q l l at3 on had4 in
+    let number = (had1 (search_at key from (AtNumber t)) at).number t refl in
+    record {
+      is = is4 ∙ ap (λ v. standing v key from q) (is3 ∙ ap (λ v. standing v key from (AtLow t n k h)) (is2 ∙ ap (λ v. standing v key from (AtHigh t n k)) is1));
+      entry = number.0;
+      stands = subst (λ (p : List Change). StandsOn p from (length p) t number.0) (ap (λ (v : CpuView). v.pass) is1) number.1;
+      number = number.2;
+    }
+
+pub took : (x y : CpuView) (key : Key) (t n value : ℕ) → HasLoadedWord x value y → HasTaken x key t n (entry_with key t n value) y
+took x y key t n value had from at =
+    let there = had (search_at key from (AtValue t n)) at in
+    let pass : y.pass ≡ x.pass = ap (λ (v : CpuView). v.pass) there.is in
+    record {
+      is = there.is;
+      lawful = subst (λ (p : List Change). IsLawful p from (length p) key (Some (entry_with key t n value))) pass there.holds.0;
+      attached = subst (λ (p : List Change). IsAttached p (entry_with key t n value)) pass there.holds.1;
+    }
+
+-- From one slot to the next
+
+-- the head was loaded
+pub begins : (x y : CpuView) (key : Key) (n last : ℕ) → length y.pass < last → HasFollowed (seeking key x) (search_for key x) n y → IsAtLink key x n last y
+begins x y key zero last few had = record { pass = had.pass; is = had.is; lawful = had.holds }
+begins x y key (suc t) last few had = record { pass = had.pass; is = had.is; slot = had.holds.1; below = λ e stands. omega (arith, stands.begun) }
+
+-- the slot of a link
+pub on_slot : (key : Key) (x y : CpuView) (n last : ℕ) → n ≢ 0 → IsAtLink key x n last y → IsOn key x (n - 1) last y
+on_slot key x y zero last some at = absurd (some refl)
+on_slot key x y (suc t) last some at = let same : suc t - 1 ≡ t = omega arith in subst (λ u. IsOn key x u last y) (sym same) at
+
+pub at_end : (key : Key) (x y : CpuView) (n last : ℕ) → n ≡ 0 → IsAtLink key x n last y → HasMissed key x y
+at_end key x y n last none at = subst (λ m. IsAtLink key x m last y) none at
+
+-- the search is under way there
+pub on_way : (key : Key) (x y : CpuView) (t last : ℕ) → IsOn key x t last y → IsUnderWay y key (length x.pass) (AtNumber t)
+on_way key x y t last on = ap (λ (v : CpuView). v.search) on.is
+
+-- the number there is below the last one
+pub number_falls : (key : Key) (x y z : CpuView) (t n last : ℕ) (b : Bool) → IsOn key x t last y → HasVisited y key t n b z → n < last
+number_falls key x y z t n last b on had =
+    let v = had (length x.pass) (on_way key x y t last on) in
+    omega (arith, on.below v.entry v.stands, v.number)
+
+-- the view after the visit
+left_slot : (key : Key) (x y z : CpuView) (t n last : ℕ) (b : Bool) → IsOn key x t last y → HasVisitedFrom y key (length x.pass) t n b z
+    → z ≡ record x { pass = y.pass; search = Some (search_at key (length x.pass) (after_visit t n b)) }
+left_slot key x y z t n last b on v = v.is ∙ ap (λ u. standing u key (length x.pass) (after_visit t n b)) on.is
+
+-- the link of a slot was loaded
+followed_on : (key : Key) (x y z w : CpuView) (t n m last : ℕ) → IsOn key x t last y → HasVisitedFrom y key (length x.pass) t n false z → HasFollowed z (search_at key (length x.pass) (AtNext t)) m w → IsAtLink key x m n w
+followed_on key x y z w t n zero last on v had =
+    let left = left_slot key x y z t n last false on v in
+    let pass : z.pass ≡ y.pass = ap (λ (u : CpuView). u.pass) left in
+    record {
+      pass = prefix_trans x.pass y.pass w.pass on.pass (subst (λ p. IsPrefix p w.pass) pass had.pass);
+      is = had.is ∙ ap (λ (u : CpuView). record u { pass = w.pass; search = None; found = None }) left;
+      lawful = had.holds;
+    }
+followed_on key x y z w t n (suc u) last on v had =
+    let left = left_slot key x y z t n last false on v in
+    let pass : z.pass ≡ y.pass = ap (λ (u : CpuView). u.pass) left in
+    record {
+      pass = prefix_trans x.pass y.pass w.pass on.pass (subst (λ p. IsPrefix p w.pass) pass had.pass);
+      is = had.is ∙ ap (λ (i : CpuView). record i { pass = w.pass; search = Some (search_at key (length x.pass) (AtNumber u)) }) left;
+      slot = had.holds.1;
+      below = λ f stands.
+        let from_here = subst (λ (p : List Change). StandsOn p (length x.pass) (length p) t v.entry) (sym pass) v.stands in
+        omega (arith, had.descends t refl v.entry f from_here stands, v.number);
+    }
+
+pub follows : (key : Key) (x y z w : CpuView) (t n m last : ℕ) → IsOn key x t last y → HasVisited y key t n false z → HasLoadedLink z m w → IsAtLink key x m n w
+follows key x y z w t n m last on had loaded_link =
+    let v = had (length x.pass) (on_way key x y t last on) in
+    let at : IsUnderWay z key (length x.pass) (AtNext t) = ap (λ (u : CpuView). u.search) v.is in
+    followed_on key x y z w t n m last on v (loaded_link (search_at key (length x.pass) (AtNext t)) at)
+
+-- the search may take the value, or follow the link, where the visit says so
+pub may_take : (key : Key) (x y z : CpuView) (t n last : ℕ) → IsOn key x t last y → HasVisited y key t n true z → IsUnderWay z key (length x.pass) (AtValue t n)
+may_take key x y z t n last on had = ap (λ (u : CpuView). u.search) (had (length x.pass) (on_way key x y t last on)).is
+
+pub may_go : (key : Key) (x y z : CpuView) (t n last : ℕ) → IsOn key x t last y → HasVisited y key t n false z → MayLoadLink z t
+may_go key x y z t n last on had = may_follow z key (length x.pass) t (ap (λ (u : CpuView). u.search) (had (length x.pass) (on_way key x y t last on)).is)
+
+-- it is the same CPU's view
+pub visit_id : (key : Key) (x y z : CpuView) (t n last : ℕ) (b : Bool) → IsOn key x t last y → HasVisited y key t n b z → z.id ≡ y.id
+visit_id key x y z t n last b on had = ap (λ (u : CpuView). u.id) (had (length x.pass) (on_way key x y t last on)).is
+
+pub follow_id : (key : Key) (x w : CpuView) (m n : ℕ) → IsAtLink key x m n w → w.id ≡ x.id
+follow_id key x w zero n at = ap (λ (u : CpuView). u.id) at.is
+follow_id key x w (suc t) n at = ap (λ (u : CpuView). u.id) at.is
+
+-- The whole search
+
+pub missed : (key : Key) (x y : CpuView) → HasMissed key x y → HasLookedUp key x y None
+missed key x y had = record { pass = had.pass; is = had.is; lawful = had.lawful; seen = λ e (q : None ≡ Some e). cc }
+
+pub found : (key : Key) (x y z w : CpuView) (t n last : ℕ) (e : Entry) → e.slot ≡ t → IsOn key x t last y → HasVisited y key t n true z → HasTaken z key t n e w → HasLookedUp key x w (Some e)
+found key x y z w t n last e slot on had taken =
+    let v = had (length x.pass) (on_way key x y t last on) in
+    let left = left_slot key x y z t n last true on v in
+    let f = taken (length x.pass) (ap (λ (u : CpuView). u.search) v.is) in
+    let to_z : w.pass ≡ z.pass = ap (λ (u : CpuView). u.pass) f.is in
+    let to_y : z.pass ≡ y.pass = ap (λ (u : CpuView). u.pass) left in
+    let is0 : w ≡ record x { pass = y.pass; search = None; found = Some e } = f.is ∙ ap (λ (u : CpuView). record u { search = None; found = Some e }) left in
+    record {
+      pass = subst (λ p. IsPrefix x.pass p) (sym (to_z ∙ to_y)) on.pass;
+      is = is0 ∙ ap (λ (p : List Change). record x { pass = p; search = None; found = Some e }) (sym (to_z ∙ to_y));
+      lawful = subst (λ (p : List Change). IsLawful p (length x.pass) (length p) key (Some e)) (sym to_z) f.lawful;
+      seen = λ g (q : Some e ≡ Some g).
+        let same : e ≡ g = cc in
+        subst (λ (i : Entry). (i.slot < 32) × IsAttached w.pass i) same (omega (arith, on.slot, slot), subst (λ (p : List Change). IsAttached p e) (sym to_z) f.attached);
+    }

@@ -1,0 +1,95 @@
+-- The search from slot to slot.
+use Rattle.std.proofs.Common.{◌≡◌, ◌-◌, ◌<◌, ℕ, Bool, true, false, length, refl, ap, sym, ◌∙◌, subst, arith, Some}
+use Rattle.cpu_words.specs.declared.view.CpuView.{CpuView}
+use Rattle.cpu_words.specs.Searching.{key_with}
+use Rattle.passive_list.specs.Walking.{IsAtLink, IsOn, HasVisited}
+use Rattle.passive_list.proofs.Walking.{begins, on_slot, on_way, may_take, may_go, number_falls, follows, found, visit_id, follow_id}
+use Rattle.passive_list.proofs.lookup.look_up.Goals as goal
+
+pub visit-number-requires-clause-may : goal.visit-number-requires-clause-may
+visit-number-requires-clause-may c =
+    let key = key_with c.args.kind c.args.name.now in
+    let x = c.args.seat.now.view in
+    let y = c.loop-link.seat.view in
+    (length x.pass, on_way key x y (c.loop-link.link - 1) c.loop-link.last (on_slot key x y c.loop-link.link c.loop-link.last c.loop-link-test.true c.loop-link.invariant.at))
+
+pub take-entry-requires-clause-cpu : goal.take-entry-requires-clause-cpu
+take-entry-requires-clause-cpu c =
+    let key = key_with c.args.kind c.args.name.now in
+    let x = c.args.seat.now.view in
+    let y = c.loop-link.seat.view in
+    let z = c.visit-number.new.seat.view in
+    let on : IsOn key x (c.loop-link.link - 1) c.loop-link.last y = on_slot key x y c.loop-link.link c.loop-link.last c.loop-link-test.true c.loop-link.invariant.at in
+    (c.requires.cpu.0, visit_id key x y z (c.loop-link.link - 1) c.visit-number.result.0 c.loop-link.last c.visit-number.result.1 on c.visit-number.ensures.change ∙ c.loop-link.invariant.cpu)
+
+pub take-entry-requires-clause-may : goal.take-entry-requires-clause-may
+take-entry-requires-clause-may c =
+    let key = key_with c.args.kind c.args.name.now in
+    let x = c.args.seat.now.view in
+    let y = c.loop-link.seat.view in
+    let z = c.visit-number.new.seat.view in
+    let t = c.loop-link.link - 1 in
+    let n = c.visit-number.result.0 in
+    let on : IsOn key x t c.loop-link.last y = on_slot key x y c.loop-link.link c.loop-link.last c.loop-link-test.true c.loop-link.invariant.at in
+    let had = subst (λ (b : Bool). HasVisited y key t n b z) c.if-is_sought.true c.visit-number.ensures.change in
+    (length x.pass, may_take key x y z t n c.loop-link.last on had)
+
+pub returns-then-is_sought-clause-change : goal.returns-then-is_sought-clause-change
+returns-then-is_sought-clause-change c =
+    let key = key_with c.args.kind c.args.name.now in
+    let x = c.args.seat.now.view in
+    let y = c.loop-link.seat.view in
+    let z = c.visit-number.new.seat.view in
+    let t = c.loop-link.link - 1 in
+    let n = c.visit-number.result.0 in
+    let on : IsOn key x t c.loop-link.last y = on_slot key x y c.loop-link.link c.loop-link.last c.loop-link-test.true c.loop-link.invariant.at in
+    let had = subst (λ (b : Bool). HasVisited y key t n b z) c.if-is_sought.true c.visit-number.ensures.change in
+    found key x y z c.take-entry.new.seat.view t n c.loop-link.last c.take-entry.result c.take-entry.ensures.slot on had c.take-entry.ensures.change
+
+pub load_link-link-requires-clause-cpu : goal.load_link-link-requires-clause-cpu
+load_link-link-requires-clause-cpu c =
+    let key = key_with c.args.kind c.args.name.now in
+    let x = c.args.seat.now.view in
+    let y = c.loop-link.seat.view in
+    let z = c.visit-number.new.seat.view in
+    let on : IsOn key x (c.loop-link.link - 1) c.loop-link.last y = on_slot key x y c.loop-link.link c.loop-link.last c.loop-link-test.true c.loop-link.invariant.at in
+    (c.requires.cpu.0, visit_id key x y z (c.loop-link.link - 1) c.visit-number.result.0 c.loop-link.last c.visit-number.result.1 on c.visit-number.ensures.change ∙ c.loop-link.invariant.cpu)
+
+pub load_link-link-requires-clause-may : goal.load_link-link-requires-clause-may
+load_link-link-requires-clause-may c =
+    let key = key_with c.args.kind c.args.name.now in
+    let x = c.args.seat.now.view in
+    let y = c.loop-link.seat.view in
+    let z = c.visit-number.new.seat.view in
+    let t = c.loop-link.link - 1 in
+    let n = c.visit-number.result.0 in
+    let on : IsOn key x t c.loop-link.last y = on_slot key x y c.loop-link.link c.loop-link.last c.loop-link-test.true c.loop-link.invariant.at in
+    let had = subst (λ (b : Bool). HasVisited y key t n b z) c.if-is_sought.false c.visit-number.ensures.change in
+    may_go key x y z t n c.loop-link.last on had
+
+pub loop-link-smaller : goal.loop-link-smaller
+loop-link-smaller c =
+    let key = key_with c.args.kind c.args.name.now in
+    let x = c.args.seat.now.view in
+    let y = c.loop-link.seat.view in
+    let on : IsOn key x (c.loop-link.link - 1) c.loop-link.last y = on_slot key x y c.loop-link.link c.loop-link.last c.loop-link-test.true c.loop-link.invariant.at in
+    number_falls key x y c.visit-number.new.seat.view (c.loop-link.link - 1) c.visit-number.result.0 c.loop-link.last c.visit-number.result.1 on c.visit-number.ensures.change
+
+pub loop-link-preserved : goal.loop-link-preserved
+loop-link-preserved c =
+    let key = key_with c.args.kind c.args.name.now in
+    let x = c.args.seat.now.view in
+    let y = c.loop-link.seat.view in
+    let z = c.visit-number.new.seat.view in
+    let w = c.load_link-link.new.seat.view in
+    let t = c.loop-link.link - 1 in
+    let n = c.visit-number.result.0 in
+    let m = c.load_link-link.result in
+    let on : IsOn key x t c.loop-link.last y = on_slot key x y c.loop-link.link c.loop-link.last c.loop-link-test.true c.loop-link.invariant.at in
+    let had = subst (λ (b : Bool). HasVisited y key t n b z) c.if-is_sought.false c.visit-number.ensures.change in
+    let at : IsAtLink key x m n w = follows key x y z w t n m c.loop-link.last on had c.load_link-link.ensures.change in
+    record {
+      table = c.load_link-link.ensures.table ∙ c.visit-number.ensures.table ∙ c.loop-link.invariant.table;
+      cpu = follow_id key x w m n at ∙ c.requires.cpu.1;
+      at = at;
+    }

@@ -1,0 +1,14 @@
+use Rattle.std.proofs.Common.{◌≡◌}
+use Rattle.cpu_words.specs.Searching.{key_with}
+use Rattle.passive_list.specs.Walking.{IsAtLink}
+use Rattle.passive_list.proofs.lookup.look_up.Given as goal
+
+abbrev pub invariant-loop-link : goal.invariant-loop-link
+invariant-loop-link l = record {
+  table : l.seat.table ≡ l.fn.seat.table;
+  cpu : l.seat.view.id ≡ l.cpu;
+  at : IsAtLink (key_with l.kind l.name) l.fn.seat.view l.link l.last l.seat.view;
+}
+
+abbrev pub decreases-loop-link : goal.decreases-loop-link
+decreases-loop-link l = l.last

@@ -1,0 +1,5 @@
+pub mod Cpus
+pub mod Sections
+pub mod Lookups
+pub mod Notes
+pub mod Walking

@@ -1,0 +1,131 @@
+//! Lookups in a section: a search along the list, loads alone. No shared word is written, and nobody waits.
+
+ghost use Rattle.std.specs.Prelude.{◌≡◌, ◌≢◌, ◌<◌, None};
+ghost use Rattle.passive_core.specs.Slots.{kind_word};
+ghost use Rattle.passive_core.specs.Events.{are_words_of};
+ghost use Rattle.cpu_words.specs.Searching.{MaySeek, key_with};
+ghost use Rattle.passive_list.specs.Lookups.{HasFound};
+ghost use Rattle.passive_list.specs.Walking.{MayVisit, MayTake, HasVisited, HasTaken, HasLookedUp};
+
+use crate::cpu::Cpu;
+use cpu_words::{CpuSeat, Domain, Words, steps};
+use passive_core::{Entry, Kind, Name, Record};
+
+/// Above every number that an entry can have.
+const ABOVE_ALL: u64 = 1_000_001;
+
+/// Looks an entry up by its kind and name, and keeps the answer as the last found entry: `None` clears it. The answer is the registry's
+/// at some point from what this CPU had seen at the call to what it has seen at the return; a found entry keeps its slot until this
+/// section ends. The steps are loads alone, five for each entry visited, and it takes no memory.
+/// Condition: inside.
+pub fn find<D: Domain>(
+    words: &Words,
+    cpu: &mut Cpu<D>,
+    kind: Kind,
+    name: &Name,
+) -> Option<Entry>
+    requires words { (words.now.table ≡ D.table) × (words.now.settings ≡ D.settings) }
+    requires inside { cpu.old.view.begin ≢ None }
+    ensures { HasFound (key_with kind name.now) cpu.old cpu.new result }
+{
+    let answer = look_up(words, &mut cpu.seat, cpu.id, kind, name);
+    cpu.found = answer;
+    answer
+}
+
+/// The whole search, by the CPU's seat.
+fn look_up(
+    words: &Words,
+    seat: &mut CpuSeat,
+    cpu: u8,
+    kind: Kind,
+    name: &Name,
+) -> Option<Entry>
+    requires table { seat.old.table ≡ words.now.table }
+    requires cpu { (cpu < 8) × (seat.old.view.id ≡ cpu) }
+    requires may { MaySeek seat.old.view }
+    ensures table { seat.new.table ≡ seat.old.table }
+    ensures change { HasLookedUp (key_with kind name.now) seat.old.view seat.new.view result }
+{
+    let mut last = ABOVE_ALL;
+    let mut link = steps::seek(words, seat, cpu, kind, *name);
+    while link != 0 {
+        let slot = (link - 1) as u8;
+        let (number, is_sought) = visit(words, seat, cpu, slot, kind, name);
+        if is_sought {
+            let entry = take(words, seat, cpu, slot, number, kind, name);
+            return Some(entry);
+        }
+        last = number;
+        link = steps::load_link(words, seat, cpu, slot);
+    }
+    None
+}
+
+/// Loads the number, the kind and the name of a slot. It answers the number, and whether kind and name are those sought.
+fn visit(
+    words: &Words,
+    seat: &mut CpuSeat,
+    cpu: u8,
+    slot: u8,
+    kind: Kind,
+    name: &Name,
+) -> (u64, bool)
+    requires table { seat.old.table ≡ words.now.table }
+    requires cpu { (cpu < 8) × (seat.old.view.id ≡ cpu) }
+    requires slot { slot < 32 }
+    requires may { MayVisit seat.old.view (key_with kind name.now) slot }
+    ensures table { seat.new.table ≡ seat.old.table }
+    ensures change { HasVisited seat.old.view (key_with kind name.now) slot result.0 result.1 seat.new.view }
+{
+    let number = steps::load_searched(words, seat, cpu, slot, 0);
+    let found = steps::load_searched(words, seat, cpu, slot, 1);
+    let high = steps::load_searched(words, seat, cpu, slot, 2);
+    let low = steps::load_searched(words, seat, cpu, slot, 3);
+    (number, are_words_of(kind, name, found, high, low))
+}
+
+/// Loads the value of the entry that is sought, which ends the search.
+fn take(
+    words: &Words,
+    seat: &mut CpuSeat,
+    cpu: u8,
+    slot: u8,
+    number: u64,
+    kind: Kind,
+    name: &Name,
+) -> Entry
+    requires table { seat.old.table ≡ words.now.table }
+    requires cpu { (cpu < 8) × (seat.old.view.id ≡ cpu) }
+    requires slot { slot < 32 }
+    requires may { MayTake seat.old.view (key_with kind name.now) slot number }
+    ensures table { seat.new.table ≡ seat.old.table }
+    ensures slot { result.slot ≡ slot }
+    ensures change { HasTaken seat.old.view (key_with kind name.now) slot number result seat.new.view }
+{
+    let value = steps::load_searched(words, seat, cpu, slot, 4);
+    let rec = Record {
+        kind,
+        name: *name,
+        value,
+    };
+    Entry { number, slot, rec }
+}
+
+/// The word of a kind.
+fn kind_word(kind: Kind) -> u64
+    ensures { result ≡ kind_word kind }
+{
+    match kind {
+        Kind::Iface => 1,
+        Kind::Driver => 2,
+    }
+}
+
+/// Whether these are the words of the kind and the name.
+fn are_words_of(kind: Kind, name: &Name, k: u64, h: u64, l: u64) -> bool
+    ensures { result ≡ are_words_of (key_with kind name.now) k h l }
+{
+    let (high, low) = name.words();
+    k == kind_word(kind) && h == high && l == low
+}

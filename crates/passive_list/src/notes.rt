@@ -1,0 +1,51 @@
+//! Notes: what one thread has seen reaches another. A note is sent beside a message, or kept beside what a lock guards.
+
+ghost use Rattle.std.specs.Prelude.{◌≡◌, List};
+ghost use Rattle.passive_core.specs.declared.entry.Change.{Change};
+ghost use Rattle.passive_list.specs.Notes.{HasHeardOn};
+
+use crate::cpu::Cpu;
+use cpu_words::{Domain, NoteSeat, Words, steps};
+use std::marker::{Model, PhantomData};
+
+/// What a CPU or the keeper of the table that D names had seen as it told. To a contract it is that prefix of the history. It moves
+/// between threads, and may be dropped.
+#[derive(Drop)]
+pub struct Note<D: Domain> {
+    pub seat: NoteSeat,
+    pub domain: PhantomData<D>,
+}
+
+impl<D: Domain> Model for Note<D> {
+    ghost use Rattle.std.specs.Prelude.{◌≡◌, List};
+    ghost use Rattle.passive_core.specs.declared.entry.Change.{Change};
+
+    ghost Value = { List Change };
+
+    ghost view = { λ n. n.seat.view };
+
+    ghost invariant = { λ n. n.seat.table ≡ D.table };
+}
+
+/// Tells what this CPU has seen: the note has just its pass. It changes nothing, inside a section or outside.
+pub fn tell<D: Domain>(words: &Words, cpu: &mut Cpu<D>) -> Note<D>
+    requires words { (words.now.table ≡ D.table) × (words.now.settings ≡ D.settings) }
+    ensures note { result ≡ cpu.old.view.pass }
+    ensures same { cpu.new ≡ cpu.old }
+{
+    let seat = steps::tell(words, &mut cpu.seat, cpu.id);
+    Note {
+        seat,
+        domain: PhantomData,
+    }
+}
+
+/// Hears a note: from here on this CPU has seen what the note tells, and every lookup answers from there on. Its pass becomes the whole
+/// history; nothing else changes, inside a section or outside.
+pub fn hear<D: Domain>(words: &Words, cpu: &mut Cpu<D>, note: Note<D>)
+    requires words { (words.now.table ≡ D.table) × (words.now.settings ≡ D.settings) }
+    ensures { HasHeardOn note cpu.old cpu.new }
+{
+    let Note { seat, domain: _ } = note;
+    steps::hear(words, &mut cpu.seat, cpu.id, seat);
+}
