@@ -1,0 +1,4 @@
+pub mod Cpus
+pub mod Sections
+pub mod Lookups
+pub mod Keepers

@@ -1,0 +1,23 @@
+-- Read sections of a CPU, nested: what enter and exit answer and leave.
+use Rattle.std.specs.Prelude.{◌≡◌, ◌≢◌, ℕ, zero, suc, ◌+◌, ◌-◌, ◌*◌, ◌≤◌, List, length, Option, Some, None}
+use mathlib.Core.List.{IsPrefix}
+use Rattle.passive_core.specs.declared.entry.Change.{Change}
+use Rattle.cpu_words.specs.declared.view.CpuView.{CpuView}
+use Rattle.cpu_words.specs.Sections.{HasEntered, HasExited}
+use Rattle.passive_list.specs.Cpus.{OnCpu}
+
+-- the outermost enter begins a section; an inner one is counted, and nothing else
+pub record HasEnteredOn (a b : OnCpu) : Type 0 where
+  pub begun : a.depth ≡ 0 → HasEntered a.view b.view
+  pub inner : a.depth ≢ 0 → b.view ≡ a.view
+  pub depth : b.depth ≡ a.depth + 1
+
+-- the outermost exit ends the section; an inner one is counted, and nothing else
+pub record HasExitedOn (a b : OnCpu) : Type 0 where
+  pub ended : a.depth ≡ 1 → HasExited a.view b.view
+  pub inner : a.depth ≢ 1 → b.view ≡ a.view
+  pub depth : b.depth + 1 ≡ a.depth
+
+-- this CPU has begun as many sections as it may
+abbrev pub AreSpent : CpuView → Type 0
+AreSpent x = 2 * x.settings.section_limit ≤ x.section

@@ -1,0 +1,14 @@
+//! Read sections, lookups, and the keeper's side of both: pserialize(9) over virtual CPUs.
+//!
+//! A reader's code runs on a `Cpu`, which the thread that runs it owns. It enters a section, finds entries, and exits; in the section
+//! no entry that it may have found loses its slot. The writer holds the `Keeper`: it publishes an entry, retires it, and looks at each
+//! CPU until all sections that may hold the entry have ended.
+#![tactic(auto)]
+
+mod cpu;
+mod place;
+mod sections;
+
+pub use cpu::Cpu;
+pub use place::Place;
+pub use sections::{enter, exit};

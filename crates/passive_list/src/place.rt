@@ -1,0 +1,15 @@
+//! What a CPU keeps of the slots: a count for the entry that it met there last.
+
+/// A count, and the number of the entry that it is for; number 0 is of no entry, and the count then is nothing's.
+#[derive(Clone, Copy, Debug, PartialEq, Eq)]
+pub struct Place {
+    pub number: u64,
+    pub count: u64,
+}
+
+impl Place {
+    pub const NONE: Place = Place {
+        number: 0,
+        count: 0,
+    };
+}

@@ -1,0 +1,47 @@
+//! Read sections (pserialize(9)). Sections nest: only the outermost enter and exit step on the words.
+
+ghost use Rattle.std.specs.Prelude.{◌≡◌, ◌≢◌, ◌↔◌, None, IfOk, IfErr, IsErrOf};
+ghost use Rattle.cpu_words.specs.Sections.{HasEntered};
+ghost use Rattle.passive_list.specs.Sections.{HasEnteredOn, HasExitedOn, AreSpent};
+
+use crate::cpu::Cpu;
+use cpu_words::{Domain, Words, steps};
+use passive_core::Refusal;
+
+/// The deepest nesting.
+const DEEPEST: u8 = 255;
+
+/// Enters a section, or the open one once more. Where a section begins, the pass becomes the whole history.
+/// Refused: `TooDeep` where the depth is 255, then `SectionsSpent` where a section would begin and this CPU has begun `section_limit` of
+/// them. Nothing changes then.
+pub fn enter<D: Domain>(words: &Words, cpu: &mut Cpu<D>) -> Result<(), Refusal>
+    requires words { (words.now.table ≡ D.table) × (words.now.settings ≡ D.settings) }
+    ensures ok { IfOk result (λ _. HasEnteredOn cpu.old cpu.new) }
+    ensures refused { IfErr result (λ _. cpu.new ≡ cpu.old) }
+    ensures deep { IsErrOf result Refusal.TooDeep ↔ cpu.old.depth ≡ 255 }
+    ensures spent { IsErrOf result Refusal.SectionsSpent ↔ (cpu.old.depth ≡ 0) × AreSpent cpu.old.view }
+{
+    if cpu.depth == DEEPEST {
+        return Err(Refusal::TooDeep);
+    }
+    if cpu.depth == 0 {
+        begin(words, cpu)?;
+    }
+    cpu.depth += 1;
+    Ok(())
+}
+
+/// Exits the section, or one nesting of it. The exit that ends it clears the last found entry.
+/// Condition: inside.
+pub fn exit<D: Domain>(words: &Words, cpu: &mut Cpu<D>)
+    requires words { (words.now.table ≡ D.table) × (words.now.settings ≡ D.settings) }
+    requires inside { cpu.old.view.begin ≢ None }
+    ensures { HasExitedOn cpu.old cpu.new }
+{
+    if cpu.depth == 1 {
+        steps::exit(words, &mut cpu.seat, cpu.id);
+        cpu.section += 1;
+        cpu.found = None;
+    }
+    cpu.depth -= 1;
+}
