@@ -1,4 +1,3 @@
-pub mod Cpus
-pub mod Sections
-pub mod Lookups
 pub mod Keepers
+pub mod Vacating
+pub mod Links

@@ -5,10 +5,11 @@
 //! CPU until all sections that may hold the entry have ended.
 #![tactic(auto)]
 
-mod cpu;
-mod place;
-mod sections;
+mod grace;
+mod keeper;
+mod links;
+mod vacating;
 
-pub use cpu::Cpu;
-pub use place::Place;
-pub use sections::{enter, exit};
+pub use grace::{glance, look, snapshot};
+pub use keeper::{Keeper, Row, SlotState};
+pub use vacating::vacate;
