@@ -1,2 +1,5 @@
 pub mod Agreeing
 pub mod Walking
+pub mod Rows
+pub mod Marks
+pub mod Leading

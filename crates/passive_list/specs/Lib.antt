@@ -3,3 +3,6 @@ pub mod Sections
 pub mod Lookups
 pub mod Notes
 pub mod Walking
+pub mod Keepers
+pub mod Vacating
+pub mod Links

@@ -6,16 +6,23 @@
 #![tactic(auto)]
 
 mod cpu;
+mod grace;
+mod keeper;
+mod links;
 mod lookup;
 mod notes;
 mod place;
 mod sections;
+mod vacating;
 
 pub use cpu::Cpu;
+pub use grace::{glance, look, snapshot};
+pub use keeper::{Keeper, Row, SlotState};
 pub use lookup::find;
 pub use notes::{Note, hear, tell};
 pub use place::Place;
 pub use sections::{enter, exit};
+pub use vacating::vacate;
 
 #[cfg(test)]
 mod tests;

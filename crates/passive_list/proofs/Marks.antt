@@ -1,0 +1,157 @@
+-- Looks and the end of a drain: one mark or the state of one row changes.
+use Rattle.std.proofs.Common.{◌≡◌, ◌≢◌, inr, ℕ, ◌<◌, ◌≤◌, Bool, true, ◌&&◌, ◌==◌, List, [], length, get_or, set, Option, None, IsTrue, refl, sym, ap, ◌∙◌, subst, arith, length-set, eqb-true}
+use Rattle.std.proofs.lemmas.Bool.{and_parts}
+use Rattle.atomic_table.specs.Seated.{TableId}
+use Rattle.passive_core.specs.declared.entry.Entry.{Entry}
+use Rattle.passive_core.specs.declared.event.Event.{Event}
+use Rattle.passive_core.specs.declared.event.Reply.{Reply}
+use Rattle.passive_core.specs.declared.settings.Settings.{Settings}
+use Rattle.passive_core.specs.declared.state.Mark.{Mark}
+use Rattle.passive_core.specs.declared.state.Slot.{Slot}
+use Rattle.passive_core.specs.declared.state.Slot.TheVariants.{Vacant, Retired}
+use Rattle.passive_core.specs.Slots.{is_retired, have_passed, are_clear, are_collected}
+use Rattle.passive_core.specs.State.{bias, no_mark, with_cell, slot_at, mark_at, kept_at}
+use Rattle.passive_core.proofs.Cells.{row_here, row_other, cell_here}
+use Rattle.passive_core.proofs.Fit.{ranges}
+use Rattle.passive_core.proofs.ListKeeps.{rows_cell}
+use Rattle.passive_core.proofs.Occupied.{is_retired_tells}
+use Rattle.cpu_words.specs.declared.view.KeeperView.{KeeperView}
+use Rattle.cpu_words.specs.Grace.{MayLook, having_looked}
+use Rattle.cpu_words.specs.Vacating.{IsDrained}
+use Rattle.passive_list.specs.declared.keeper.Row.{Row}
+use Rattle.passive_list.specs.Keepers.{OnKeeper, no_row, row_at, states_of, TakenAs, RowAgrees, IsAtRest, RowsAgree, IsOurKeeper}
+use Rattle.passive_list.specs.Vacating.{IsDrainedOn, is_drained_row}
+use Rattle.passive_list.proofs.Rows.{state_at, retired_in, row_stays, rows_set}
+
+-- Looks
+
+-- a slot that is retired in the rows may be looked at
+pub may_look : (a : Settings) (k : KeeperView) (rows : List Row) (t c : ℕ) (e : Entry) → IsAtRest a k → RowsAgree a k rows → slot_at (states_of rows) t ≡ Retired e → c < a.cpus → MayLook k t c
+may_look a k rows t c e rest agree is lt = record {
+  glance = record { rest = rest.rest; cpu = subst (λ (z : Settings). c < z.cpus) (sym rest.settings) lt };
+  retired = (e, (retired_in a k rows t e agree is).1);
+}
+
+abbrev pub marked : KeeperView → Event → Reply → ℕ → ℕ → Mark → KeeperView
+marked k ev r t c m = record (having_looked k ev r) { marks = with_cell k.marks t c m }
+
+abbrev pub row_marked : Row → ℕ → Mark → Row
+row_marked r c m = record { state = r.state; marks = set r.marks c m; total = r.total; keeps = r.keeps }
+
+marked_at_rest : (a : Settings) (k : KeeperView) (ev : Event) (r : Reply) (t c : ℕ) (m : Mark) → IsAtRest a k → IsAtRest a (marked k ev r t c m)
+marked_at_rest a k ev r t c m at = record {
+  settings = at.settings;
+  fit = at.fit;
+  rest = at.rest;
+  seated = at.seated;
+  sized = record {
+    slots = at.sized.slots;
+    marks = length-set k.marks t _ ∙ at.sized.marks;
+    mark_rows = rows_cell k.marks t c m at.sized.mark_rows;
+    keeps = at.sized.keeps;
+    next = at.sized.next;
+    rows = at.sized.rows;
+    totals = at.sized.totals;
+    counts = at.sized.counts;
+    count_rows = at.sized.count_rows;
+  };
+  room = at.room;
+}
+
+marked_rows : (a : Settings) (k : KeeperView) (rows : List Row) (ev : Event) (r : Reply) (t c : ℕ) (m : Mark) (e : Entry) → IsAtRest a k → RowsAgree a k rows → slot_at (states_of rows) t ≡ Retired e
+    → RowsAgree a (marked k ev r t c m) (set rows t (row_marked (row_at rows t) c m))
+marked_rows a k rows ev r t c m e at agree is =
+    let retired = retired_in a k rows t e agree is in
+    let lt = retired.0 in
+    let most = (ranges a at.fit).slots in
+    let had = agree.each t lt in
+    let size = at.sized.marks in
+    rows_set a k (marked k ev r t c m) rows t (row_marked (row_at rows t) c m) lt (omega (arith, lt, most)) agree
+        record {
+          state = subst (TakenAs (marked k ev r t c m) t) (sym (sym (state_at rows t) ∙ is)) retired.1;
+          marks = ap (λ (ms : List Mark). set ms c m) had.marks ∙ sym (row_here k.marks t c m (omega (arith, lt, size)));
+          total = had.total;
+          keeps = had.keeps;
+          unused = had.unused;
+        }
+        (λ u off was. row_stays k (marked k ev r t c m) u (row_at rows u) at.rest refl refl (row_other k.marks t c m u off) refl refl was)
+
+-- after a look the rows agree, where the mark in the row is the mark in the view
+pub looked_keeper : (z : TableId) (a : Settings) (table table' : TableId) (k l : KeeperView) (its : Settings) (rows : List Row) (n : ℕ) (ev : Event) (r : Reply) (t c : ℕ) (m : Mark) (e : Entry)
+    → IsOurKeeper z a table k its rows n → slot_at (states_of rows) t ≡ Retired e → table' ≡ table → l ≡ marked k ev r t c m → IsOurKeeper z a table' l its (set rows t (row_marked (row_at rows t) c m)) n
+looked_keeper z a table table' k l its rows n ev r t c m e our is same change = record {
+  table = same ∙ our.table;
+  settings = our.settings;
+  view = subst (IsAtRest a) (sym change) (marked_at_rest a k ev r t c m our.view);
+  changes = our.changes ∙ sym (ap (λ (x : KeeperView). length x.history) change);
+  rows = subst (λ (x : KeeperView). RowsAgree a x (set rows t (row_marked (row_at rows t) c m))) (sym change) (marked_rows a k rows ev r t c m e our.view our.rows is);
+}
+
+pub looked_mark : (a : Settings) (k l : KeeperView) (rows : List Row) (ev : Event) (r : Reply) (t c : ℕ) (m : Mark) (e : Entry) → IsAtRest a k → RowsAgree a k rows → slot_at (states_of rows) t ≡ Retired e → c < a.cpus → l ≡ marked k ev r t c m → mark_at l.marks t c ≡ m
+looked_mark a k l rows ev r t c m e at agree is cpu change =
+    let lt = (retired_in a k rows t e agree is).0 in
+    let size = at.sized.marks in
+    let few = (ranges a at.fit).cpus in
+    let within : t < length k.marks = omega (arith, lt, size) in
+    let long = at.sized.mark_rows t within in
+    ap (λ (x : KeeperView). mark_at x.marks t c) change ∙ cell_here no_mark k.marks t c m within (omega (arith, long, few, cpu))
+
+-- The end of a drain
+
+abbrev pub row_vacated : Row → Row
+row_vacated r = record { state = Vacant; marks = r.marks; total = r.total; keeps = r.keeps }
+
+pub vacated_keeper : (z : TableId) (a : Settings) (table : TableId) (k : KeeperView) (its : Settings) (rows : List Row) (n t : ℕ) → IsOurKeeper z a table k its rows n → IsDrainedOn (record { view = k; slots = states_of rows }) t → kept_at k.keeps t ≡ None
+    → IsOurKeeper z a table k its (set rows t (row_vacated (row_at rows t))) n
+vacated_keeper z a table k its rows n t our is keeps =
+    let lt = (retired_in a k rows t is.retired.0 our.rows is.retired.1).0 in
+    let most = (ranges a our.view.fit).slots in
+    let had = our.rows.each t lt in
+    record {
+      table = our.table;
+      settings = our.settings;
+      view = our.view;
+      changes = our.changes;
+      rows = rows_set a k k rows t (row_vacated (row_at rows t)) lt (omega (arith, lt, most)) our.rows
+          record {
+            state = inr record { drained = is.drained; keeps_nothing = keeps };
+            marks = had.marks;
+            total = had.total;
+            keeps = had.keeps;
+            unused = λ vacant. had.total ∙ is.drained.total;
+          }
+          (λ u off was. was);
+    }
+
+-- what the row says of a drain is what the view says
+pub drained_tells : (a : Settings) (k : KeeperView) (rows : List Row) (t cpus : ℕ) → IsAtRest a k → RowsAgree a k rows → t < a.slots → cpus ≡ a.cpus → is_drained_row cpus (row_at rows t) ≡ true → IsDrainedOn (record { view = k; slots = states_of rows }) t
+drained_tells a k rows t cpus at agree lt same is =
+    let r = row_at rows t in
+    let had = agree.each t lt in
+    let p = and_parts (is_retired r.state) (have_passed cpus r.marks && (are_clear cpus r.marks && (are_collected cpus r.marks && r.total == bias))) is in
+    let q = and_parts (have_passed cpus r.marks) (are_clear cpus r.marks && (are_collected cpus r.marks && r.total == bias)) p.1 in
+    let s = and_parts (are_clear cpus r.marks) (are_collected cpus r.marks && r.total == bias) q.1 in
+    let v = and_parts (are_collected cpus r.marks) (r.total == bias) s.1 in
+    let retired = is_retired_tells r.state p.0 in
+    let here = state_at rows t ∙ retired.1 in
+    let cpus_are : cpus ≡ k.settings.cpus = same ∙ sym (ap (λ (z : Settings). z.cpus) at.settings) in
+    record {
+      retired = (retired.0, here);
+      drained = record {
+        rest = at.rest;
+        retired = (retired.0, (retired_in a k rows t retired.0 agree here).1);
+        passed = rw (← cpus_are, ← had.marks) q.0;
+        clear = rw (← cpus_are, ← had.marks) s.0;
+        collected = rw (← cpus_are, ← had.marks) v.0;
+        total = sym had.total ∙ eqb-true r.total bias v.1;
+      };
+    }
+
+pub drained_from : (a : Settings) (k : KeeperView) (rows : List Row) (t cpus : ℕ) → IsAtRest a k → RowsAgree a k rows → t < a.slots → cpus ≡ a.cpus → IsDrainedOn (record { view = k; slots = states_of rows }) t → is_drained_row cpus (row_at rows t) ≡ true
+drained_from a k rows t cpus at agree lt same is =
+    let had = agree.each t lt in
+    let d = is.drained in
+    let cpus_are : cpus ≡ k.settings.cpus = same ∙ sym (ap (λ (z : Settings). z.cpus) at.settings) in
+    let state : (row_at rows t).state ≡ Retired is.retired.0 = sym (state_at rows t) ∙ is.retired.1 in
+    let total : (row_at rows t).total ≡ bias = had.total ∙ d.total in
+    rw (state, cpus_are, had.marks, d.passed, d.clear, d.collected, total) refl

@@ -1,0 +1,150 @@
+-- The rows of the keeper: what they say of a view, as one row or the view changes.
+use Rattle.std.proofs.Common.{◌≡◌, ◌≢◌, ◌⊎◌, inl, inr, ⊎_elim, ℕ, zero, suc, ◌+◌, ◌<◌, ◌≤◌, List, [], ◌∷◌, length, get_or, set, replicate, Option, Some, None, Bool, true, false, IsTrue, refl, sym, ap, ◌∙◌, subst, arith, length-set}
+use Rattle.std.proofs.lemmas.Bool.{cases_lt}
+use Rattle.std.proofs.lemmas.List.{length-replicate, get_or-replicate, map-set}
+use Rattle.atomic_table.specs.Seated.{TableId}
+use Rattle.passive_core.specs.declared.entry.Entry.{Entry}
+use Rattle.passive_core.specs.declared.settings.Settings.{Settings}
+use Rattle.passive_core.specs.declared.state.Slot.{Slot}
+use Rattle.passive_core.specs.declared.state.Slot.TheVariants.{Vacant, Live, Retired}
+use Rattle.passive_core.specs.declared.state.Mark.{Mark}
+use Rattle.passive_core.specs.declared.state.Due.TheVariants.{Rest}
+use Rattle.passive_core.specs.Limits.{are_fit}
+use Rattle.passive_core.specs.Slots.{live_count}
+use Rattle.passive_core.specs.State.{bias, no_mark, no_words, slot_at, total_at, kept_at}
+use Rattle.passive_core.proofs.Cells.{get_or_all}
+use Rattle.passive_core.proofs.MarkKeeps.{none_live, rows_all}
+use Rattle.passive_core.proofs.Occupied.{place_cases}
+use Rattle.passive_core.proofs.Fit.{Ranges, ranges}
+use Rattle.cpu_words.specs.declared.view.KeeperView.{KeeperView}
+use Rattle.cpu_words.specs.Opening.{keeper_with}
+use Rattle.cpu_words.specs.Vacating.{IsDrained, MayVacate}
+use Rattle.passive_list.specs.declared.keeper.Row.{Row}
+use Rattle.passive_list.specs.Keepers.{no_row, row_at, state_of, states_of, TakenAs, RowAgrees, AreSized, IsAtRest, RowsAgree, IsOurKeeper}
+
+-- At the start
+
+pub new_at_rest : (a : Settings) → IsTrue (are_fit a) → IsAtRest a (keeper_with a a.cpus)
+new_at_rest a fit = record {
+  settings = refl;
+  fit = fit;
+  rest = refl;
+  seated = refl;
+  sized = record {
+    slots = length-replicate a.slots Vacant;
+    marks = length-replicate a.slots (replicate 8 no_mark);
+    mark_rows = rows_all a.slots (replicate 8 no_mark) refl;
+    keeps = length-replicate a.slots None;
+    next = let none : ℕ = 0 in length-replicate a.slots none;
+    rows = length-replicate a.slots no_words;
+    totals = length-replicate a.slots bias;
+    counts = let none : ℕ = 0 in length-replicate a.slots (replicate 8 none);
+    count_rows = let none : ℕ = 0 in rows_all a.slots (replicate 8 none) refl;
+  };
+  room = let none = none_live a.slots in omega (arith, none);
+}
+
+abbrev pub first_row : Row
+first_row = record { state = Vacant; marks = replicate 8 no_mark; total = bias; keeps = None }
+
+-- what stands in a slot, by its row
+pub state_at : (rows : List Row) (t : ℕ) → slot_at (states_of rows) t ≡ (row_at rows t).state
+state_at [] t = refl
+state_at (r ∷ rows) zero = refl
+state_at (r ∷ rows) (suc t) = state_at rows t
+
+first_states : (n : ℕ) → states_of (replicate n first_row) ≡ replicate n Vacant
+first_states zero = refl
+first_states (suc n) = ap (λ (xs : List Slot). Vacant ∷ xs) (first_states n)
+
+-- such a row agrees with the view at the start
+first_agrees : (a : Settings) (t : ℕ) → t < a.slots → RowAgrees (keeper_with a a.cpus) t first_row
+first_agrees a t lt = record {
+  state = inl (get_or-replicate a.slots t Vacant Vacant lt);
+  marks = sym (get_or-replicate a.slots t (replicate 8 no_mark) [] lt);
+  total = sym (get_or-replicate a.slots t bias 0 lt);
+  keeps = sym (get_or-replicate a.slots t None None lt);
+  unused = λ vacant. refl;
+}
+
+pub new_rows : (a : Settings) → IsTrue (are_fit a) → RowsAgree a (keeper_with a a.cpus) (replicate 32 first_row)
+new_rows a fit =
+    let most = (ranges a fit).slots in
+    let size : length (replicate 32 first_row) ≡ 32 = length-replicate 32 first_row in
+    record {
+      size = size;
+      each = λ t lt. subst (RowAgrees (keeper_with a a.cpus) t) (sym (get_or-replicate 32 t first_row no_row (omega (arith, lt, most)))) (first_agrees a t lt);
+      beyond = λ t past. sym (state_at (replicate 32 first_row) t) ∙ (ap (λ xs. slot_at xs t) (first_states 32) ∙ get_or_all 32 Vacant t);
+    }
+
+-- A row
+
+-- a slot that isn't vacant is one of the table's
+pub not_vacant_within : (a : Settings) (k : KeeperView) (rows : List Row) (t : ℕ) → RowsAgree a k rows → (slot_at (states_of rows) t ≡ Vacant → ⊥) → t < a.slots
+not_vacant_within a k rows t agree some = ⊎_elim
+    (λ (lt : t < a.slots). lt)
+    (λ (past : a.slots ≤ t). absurd (some (state_at rows t ∙ agree.beyond t past)))
+    (cases_lt t a.slots)
+
+-- and what its row says is what the view says
+pub taken_in : (a : Settings) (k : KeeperView) (rows : List Row) (t : ℕ) (x : Slot) → RowsAgree a k rows → slot_at (states_of rows) t ≡ x → (x ≡ Vacant → ⊥) → (t < a.slots) × TakenAs k t x
+taken_in a k rows t x agree is some =
+    let lt = not_vacant_within a k rows t agree (λ v. some (sym is ∙ v)) in
+    (lt, subst (TakenAs k t) (sym (state_at rows t) ∙ is) (agree.each t lt).state)
+
+pub retired_in : (a : Settings) (k : KeeperView) (rows : List Row) (t : ℕ) (e : Entry) → RowsAgree a k rows → slot_at (states_of rows) t ≡ Retired e → (t < a.slots) × (slot_at k.slots t ≡ Retired e)
+retired_in a k rows t e agree is = taken_in a k rows t (Retired e) agree is (λ v. cc)
+
+pub live_in : (a : Settings) (k : KeeperView) (rows : List Row) (t : ℕ) (e : Entry) → RowsAgree a k rows → slot_at (states_of rows) t ≡ Live e → (t < a.slots) × (slot_at k.slots t ≡ Live e)
+live_in a k rows t e agree is = taken_in a k rows t (Live e) agree is (λ v. cc)
+
+-- what a row says goes with what the view says of its slot
+pub row_stays : (k l : KeeperView) (t : ℕ) (r : Row) → l.due ≡ Rest → l.settings ≡ k.settings → slot_at l.slots t ≡ slot_at k.slots t → get_or l.marks t [] ≡ get_or k.marks t []
+    → total_at l.totals t ≡ total_at k.totals t → kept_at l.keeps t ≡ kept_at k.keeps t → RowAgrees k t r → RowAgrees l t r
+row_stays k l t r rest settings slot marks total keeps had = record {
+  state = taken r.state had.state;
+  marks = had.marks ∙ sym marks;
+  total = had.total ∙ sym total;
+  keeps = had.keeps ∙ sym keeps;
+  unused = had.unused;
+}
+  where
+    drained : IsDrained k t → IsDrained l t
+    drained is = record {
+      rest = rest;
+      retired = (is.retired.0, slot ∙ is.retired.1);
+      passed = rw (settings, marks) is.passed;
+      clear = rw (settings, marks) is.clear;
+      collected = rw (settings, marks) is.collected;
+      total = total ∙ is.total;
+    }
+    taken : (x : Slot) → TakenAs k t x → TakenAs l t x
+    taken Vacant is = ⊎_elim
+      (λ (vacant : slot_at k.slots t ≡ Vacant). inl (slot ∙ vacant))
+      (λ (may : MayVacate k t). inr record { drained = drained may.drained; keeps_nothing = keeps ∙ may.keeps_nothing })
+      is
+    taken (Live e) is = slot ∙ is
+    taken (Retired e) is = slot ∙ is
+
+-- one row changes with its slot, and the others stay
+pub rows_set : (a : Settings) (k l : KeeperView) (rows : List Row) (t : ℕ) (r : Row) → t < a.slots → t < 32 → RowsAgree a k rows → RowAgrees l t r → ((u : ℕ) → u ≢ t → RowAgrees k u (row_at rows u) → RowAgrees l u (row_at rows u))
+    → RowsAgree a l (set rows t r)
+rows_set a k l rows t r lt place agree here others = record {
+  size = length-set rows t r ∙ agree.size;
+  each = λ u within. ⊎_elim
+    (λ (is : (u ≡ t) × (row_at (set rows t r) u ≡ r)). subst (RowAgrees l u) (sym is.1) (subst (λ v. RowAgrees l v r) (sym is.0) here))
+    (λ (off : (u ≡ t → ⊥) × (row_at (set rows t r) u ≡ row_at rows u)). subst (RowAgrees l u) (sym off.1) (others u off.0 (agree.each u within)))
+    (place_cases no_row rows t r u (let size = agree.size in omega arith));
+  beyond = λ u past. ⊎_elim
+    (λ (is : (u ≡ t) × (row_at (set rows t r) u ≡ r)). absurd (let e = is.0 in omega (arith, e, past, lt)))
+    (λ (off : (u ≡ t → ⊥) × (row_at (set rows t r) u ≡ row_at rows u)). ap state_of off.1 ∙ agree.beyond u past)
+    (place_cases no_row rows t r u (let size = agree.size in omega arith));
+}
+
+-- all rows stay
+pub rows_stay : (a : Settings) (k l : KeeperView) (rows : List Row) → l.due ≡ Rest → l.settings ≡ k.settings → l.slots ≡ k.slots → l.marks ≡ k.marks → l.totals ≡ k.totals → l.keeps ≡ k.keeps → RowsAgree a k rows → RowsAgree a l rows
+rows_stay a k l rows rest settings slots marks totals keeps agree = record {
+  size = agree.size;
+  each = λ t lt. row_stays k l t (row_at rows t) rest settings (ap (λ x. slot_at x t) slots) (ap (λ x. get_or x t []) marks) (ap (λ x. total_at x t) totals) (ap (λ x. kept_at x t) keeps) (agree.each t lt);
+  beyond = agree.beyond;
+}

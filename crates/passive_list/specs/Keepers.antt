@@ -1,0 +1,80 @@
+-- The keeper: how its plain data agree with what its seat knows.
+use Rattle.std.specs.Prelude.{◌≡◌, ◌⊎◌, ℕ, ◌+◌, ◌<◌, ◌≤◌, List, [], length, map, slice_index_or, None, IsTrue}
+use Rattle.atomic_table.specs.Seated.{TableId}
+use Rattle.passive_core.specs.declared.settings.Settings.{Settings}
+use Rattle.passive_core.specs.declared.state.Slot.{Slot}
+use Rattle.passive_core.specs.declared.state.Slot.TheVariants.{Vacant, Live, Retired}
+use Rattle.passive_core.specs.declared.state.Due.TheVariants.{Rest}
+use Rattle.passive_core.specs.Invariant.{AreRows}
+use Rattle.passive_core.specs.Limits.{are_fit}
+use Rattle.passive_core.specs.Slots.{live_count}
+use Rattle.passive_core.specs.State.{bias, slot_at, total_at, kept_at}
+use Rattle.cpu_words.specs.declared.view.KeeperView.{KeeperView}
+use Rattle.cpu_words.specs.Vacating.{MayVacate}
+use Rattle.passive_list.specs.declared.keeper.Row.{Row}
+
+-- the keeper, to a contract
+pub record OnKeeper : Type 0 where
+  pub view : KeeperView
+  pub slots : List Slot
+
+-- what is past the rows
+abbrev pub no_row : Row
+no_row = record { state = Vacant; marks = []; total = 0; keeps = None }
+
+abbrev pub row_at : List Row → ℕ → Row
+row_at rows t = slice_index_or rows t no_row
+
+abbrev pub state_of : Row → Slot
+state_of r = r.state
+
+abbrev pub states_of : List Row → List Slot
+states_of rows = map state_of rows
+
+-- what the keeper has of the slot t: just what its seat knows, or Vacant where the slot may be taken as vacant
+abbrev pub TakenAs : KeeperView → ℕ → Slot → Type 0
+TakenAs k t Vacant = (slot_at k.slots t ≡ Vacant) ⊎ MayVacate k t
+TakenAs k t (Live e) = slot_at k.slots t ≡ Live e
+TakenAs k t (Retired e) = slot_at k.slots t ≡ Retired e
+
+pub record RowAgrees (k : KeeperView) (t : ℕ) (r : Row) : Type 0 where
+  pub state : TakenAs k t r.state
+  pub marks : r.marks ≡ slice_index_or k.marks t []
+  pub total : r.total ≡ total_at k.totals t
+  pub keeps : r.keeps ≡ kept_at k.keeps t
+  -- nothing is counted in a vacant slot's total
+  pub unused : r.state ≡ Vacant → r.total ≡ bias
+
+-- each slot has its place in each list
+pub record AreSized (n : ℕ) (k : KeeperView) : Type 0 where
+  pub slots : length k.slots ≡ n
+  pub marks : length k.marks ≡ n
+  pub mark_rows : AreRows k.marks
+  pub keeps : length k.keeps ≡ n
+  pub next : length k.next ≡ n
+  pub rows : length k.rows ≡ n
+  pub totals : length k.totals ≡ n
+  pub counts : length k.counts ≡ n
+  pub count_rows : AreRows k.counts
+
+-- of the view alone: it is at rest, and its history has room for the detach of each live entry
+pub record IsAtRest (a : Settings) (k : KeeperView) : Type 0 where
+  pub settings : k.settings ≡ a
+  pub fit : IsTrue (are_fit a)
+  pub rest : k.due ≡ Rest
+  pub seated : k.seated ≡ a.cpus
+  pub sized : AreSized a.slots k
+  pub room : length k.history + live_count k.slots ≤ a.change_limit
+
+-- of the rows: each says what the view says of its slot
+pub record RowsAgree (a : Settings) (k : KeeperView) (rows : List Row) : Type 0 where
+  pub size : length rows ≡ 32
+  pub each : (t : ℕ) → t < a.slots → RowAgrees k t (row_at rows t)
+  pub beyond : (t : ℕ) → a.slots ≤ t → (row_at rows t).state ≡ Vacant
+
+pub record IsOurKeeper (z : TableId) (a : Settings) (seat_table : TableId) (k : KeeperView) (its : Settings) (rs : List Row) (n : ℕ) : Type 0 where
+  pub table : seat_table ≡ z
+  pub settings : its ≡ a
+  pub view : IsAtRest a k
+  pub changes : n ≡ length k.history
+  pub rows : RowsAgree a k rs

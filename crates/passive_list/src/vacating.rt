@@ -1,0 +1,63 @@
+//! The end of a drain: the slot of a retired entry is vacant again.
+
+ghost use Rattle.std.specs.Prelude.{◌≡◌, ◌↔◌, ◌<◌, IsTrue, None, slice_set};
+ghost use Rattle.passive_core.specs.declared.state.Slot.TheVariants.{Vacant};
+ghost use Rattle.passive_core.specs.Slots.{have_passed, are_clear, are_collected};
+ghost use Rattle.passive_core.specs.State.{kept_at};
+ghost use Rattle.passive_list.specs.Vacating.{IsDrainedOn, is_drained_row};
+
+use crate::keeper::{Keeper, Row, SlotState};
+use cpu_words::Domain;
+use passive_core::{BIAS, Mark};
+
+impl<D: Domain> Keeper<D> {
+    /// Whether the entry in `slot` is retired and drained: all CPUs have passed, are clear and collected, and the total stands for no
+    /// local reference.
+    /// Condition: the slot is one of the table's.
+    pub fn is_drained(&self, slot: u8) -> bool
+        requires { slot < D.settings.slots }
+        ensures { IsTrue result ↔ IsDrainedOn self.now slot }
+    {
+        is_drained_row(self.settings.cpus, &self.rows[slot as usize])
+    }
+}
+
+/// Takes the slot of a drained entry as vacant: the event Vacate, which touches no word and shows from the first word that is stored in
+/// the slot on.
+/// Condition: the slot is drained (`Keeper::is_drained`), and keeps nothing (`Keeper::keeps`).
+pub fn vacate<D: Domain>(keeper: &mut Keeper<D>, slot: u8)
+    requires drained { IsDrainedOn keeper.old slot }
+    requires keeps { kept_at keeper.old.view.keeps slot ≡ None }
+    ensures view { keeper.new.view ≡ keeper.old.view }
+    ensures slots { keeper.new.slots ≡ slice_set keeper.old.slots slot Vacant }
+{
+    keeper.rows[slot as usize].state = SlotState::Vacant;
+}
+
+fn is_drained_row(cpus: u8, row: &Row) -> bool
+    ensures { result ≡ is_drained_row cpus row.now }
+{
+    matches!(row.state, SlotState::Retired(_))
+        && have_passed(cpus, &row.marks)
+        && are_clear(cpus, &row.marks)
+        && are_collected(cpus, &row.marks)
+        && row.total == BIAS
+}
+
+fn have_passed(cpus: u8, row: &[Mark]) -> bool
+    ensures { result ≡ have_passed cpus row.now }
+{
+    row.iter().take(cpus as usize).all(|mark| mark.passed)
+}
+
+fn are_clear(cpus: u8, row: &[Mark]) -> bool
+    ensures { result ≡ are_clear cpus row.now }
+{
+    row.iter().take(cpus as usize).all(|mark| mark.clear)
+}
+
+fn are_collected(cpus: u8, row: &[Mark]) -> bool
+    ensures { result ≡ are_collected cpus row.now }
+{
+    row.iter().take(cpus as usize).all(|mark| mark.collected)
+}
