@@ -2,4 +2,3 @@ pub mod Agreeing
 pub mod Walking
 pub mod Rows
 pub mod Marks
-pub mod Leading

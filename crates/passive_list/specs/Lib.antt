@@ -5,4 +5,3 @@ pub mod Notes
 pub mod Walking
 pub mod Keepers
 pub mod Vacating
-pub mod Links

@@ -8,7 +8,6 @@
 mod cpu;
 mod grace;
 mod keeper;
-mod links;
 mod lookup;
 mod notes;
 mod place;
