@@ -13,7 +13,7 @@ use Rattle.cpu_words.specs.Publishing.LeadsBelow.{To_end, To_slot}
 use Rattle.passive_list.specs.declared.keeper.Row.{Row}
 use Rattle.passive_list.specs.declared.links.At.{At}
 use Rattle.passive_list.specs.Keepers.{row_at, state_of, states_of}
-use Rattle.passive_list.specs.Links.{is_newer, newer_of, is_older, older_of, link_to}
+use Rattle.passive_list.specs.Links.{is_newer, newer_of, is_older, older_of, link_to, place_of}
 use Rattle.passive_list.proofs.Rows.{state_at}
 
 -- of the first d slots
@@ -207,17 +207,13 @@ oldest_is : (rows : List Row) (n d : ℕ) → Oldest (states_of rows) n d (oldes
 oldest_is rows n zero = λ u h lt live above. omega (arith, lt)
 oldest_is rows n (suc d) = oldest_more (states_of rows) n d (row_at rows d).state (oldest_to rows n d) (state_at rows d) (oldest_is rows n d)
 
-abbrev pub slot_of_at : Option At → Option ℕ
-slot_of_at None = None
-slot_of_at (Some at) = Some at.slot
-
-before_from : (slots : List Slot) (n d : ℕ) (best : Option At) → ((u : ℕ) (h : Entry) → slot_at slots u ≡ Live h → u < d) → Oldest slots n d best → IsBefore slots n (slot_of_at best)
+before_from : (slots : List Slot) (n d : ℕ) (best : Option At) → ((u : ℕ) (h : Entry) → slot_at slots u ≡ Live h → u < d) → Oldest slots n d best → IsBefore slots n (place_of best)
 before_from slots n d None all had = λ u h live. ⊎_elim (λ (lt : n < h.number). absurd (had u h (all u h live) live lt)) (λ (le : h.number ≤ n). le) (cases_lt n h.number)
 before_from slots n d (Some at) all had = (had.f, had.live, had.above, λ u h live above. had.least u h (all u h live) live above)
 
-place_from : (slots : List Slot) (n : ℕ) (best : Option At) → Oldest slots n 32 best → IsLinkPlace (slot_of_at best)
+place_from : (slots : List Slot) (n : ℕ) (best : Option At) → Oldest slots n 32 best → IsLinkPlace (place_of best)
 place_from slots n None had = tt
 place_from slots n (Some at) had = had.within
 
-pub oldest_before : (rows : List Row) (n : ℕ) → length rows ≡ 32 → IsBefore (states_of rows) n (slot_of_at (oldest_to rows n 32)) × IsLinkPlace (slot_of_at (oldest_to rows n 32))
+pub oldest_before : (rows : List Row) (n : ℕ) → length rows ≡ 32 → IsBefore (states_of rows) n (place_of (oldest_to rows n 32)) × IsLinkPlace (place_of (oldest_to rows n 32))
 oldest_before rows n size = (before_from (states_of rows) n 32 (oldest_to rows n 32) (live_within rows size) (oldest_is rows n 32), place_from (states_of rows) n (oldest_to rows n 32) (oldest_is rows n 32))

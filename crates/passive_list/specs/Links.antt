@@ -28,3 +28,7 @@ older_of n t best (Retired e) = best
 abbrev pub link_to : Option At → ℕ
 link_to None = 0
 link_to (Some at) = at.slot + 1
+
+abbrev pub place_of : Option At → Option ℕ
+place_of None = None
+place_of (Some at) = Some at.slot

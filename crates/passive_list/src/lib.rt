@@ -8,8 +8,12 @@
 mod grace;
 mod keeper;
 mod links;
+mod publishing;
+mod retiring;
 mod vacating;
 
 pub use grace::{glance, look, snapshot};
 pub use keeper::{Keeper, Row, SlotState};
+pub use publishing::publish;
+pub use retiring::retire;
 pub use vacating::vacate;

@@ -1,9 +1,9 @@
 //! The live entries by number: the list is newest first, so they say where each link leads.
 
-ghost use Rattle.std.specs.Prelude.{◌≡◌, IfSome, ◌<◌};
+ghost use Rattle.std.specs.Prelude.{◌≡◌};
 ghost use Rattle.cpu_words.specs.Publishing.{LeadsBelow, IsBefore, IsLinkPlace};
 ghost use Rattle.passive_list.specs.Keepers.{states_of};
-ghost use Rattle.passive_list.specs.Links.{is_newer, newer_of, is_older, older_of, link_to};
+ghost use Rattle.passive_list.specs.Links.{is_newer, newer_of, is_older, older_of, link_to, place_of};
 
 use crate::keeper::{Row, SlotState};
 
@@ -34,6 +34,12 @@ pub(crate) fn slot_above(rows: &[Row; 32], number: u64) -> Option<u8>
     for t in 0..32u8 {
         best = older_of(number, t, best, rows[t as usize].state);
     }
+    place_of(best)
+}
+
+fn place_of(best: Option<At>) -> Option<u8>
+    ensures { result ≡ place_of best }
+{
     match best {
         None => None,
         Some(at) => Some(at.slot),
