@@ -4,3 +4,4 @@ pub mod Leading
 pub mod Preparing
 pub mod Attached
 pub mod Taking
+pub mod Detached
