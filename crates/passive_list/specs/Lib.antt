@@ -5,3 +5,6 @@ pub mod Notes
 pub mod Walking
 pub mod Keepers
 pub mod Vacating
+pub mod Links
+pub mod Publishing
+pub mod Retiring

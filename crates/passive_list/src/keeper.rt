@@ -53,7 +53,7 @@ impl<D: Domain> Model for Keeper<D> {
 }
 
 /// Nothing is known of a CPU.
-const NO_MARK: Mark = Mark {
+pub(crate) const NO_MARK: Mark = Mark {
     snapshot: None,
     passed: false,
     clear: false,

@@ -8,9 +8,12 @@
 mod cpu;
 mod grace;
 mod keeper;
+mod links;
 mod lookup;
 mod notes;
 mod place;
+mod publishing;
+mod retiring;
 mod sections;
 mod vacating;
 
@@ -20,6 +23,8 @@ pub use keeper::{Keeper, Row, SlotState};
 pub use lookup::find;
 pub use notes::{Note, hear, tell};
 pub use place::Place;
+pub use publishing::publish;
+pub use retiring::retire;
 pub use sections::{enter, exit};
 pub use vacating::vacate;
 

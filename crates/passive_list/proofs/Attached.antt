@@ -1,0 +1,320 @@
+-- An entry is published: the keeper may do so, and what it has agrees with what its seat knows then.
+use Rattle.std.proofs.Common.{◌≡◌, ◌⊎◌, inl, inr, ⊎_elim, ℕ, zero, suc, ◌+◌, ◌<◌, ◌≤◌, Bool, true, false, List, [], ◌∷◌, length, get_or, set, replicate, Option, Some, None, IsTrue, refl, sym, ap, ◌∙◌, subst, arith, get_or-set_same, get_or-set_other, length-set}
+use Rattle.std.proofs.lemmas.Bool.{cases_lt}
+use Rattle.std.proofs.lemmas.List.{set-set}
+use Rattle.std.proofs.lemmas.List.Folds.{list_any_at}
+use Rattle.std.proofs.lemmas.List.Sums.{sum_by-cons}
+use Rattle.atomic_table.specs.Seated.{TableId}
+use Rattle.passive_core.specs.declared.entry.Change.{Change}
+use Rattle.passive_core.specs.declared.entry.Change.TheVariants.{Attach}
+use Rattle.passive_core.specs.declared.entry.Entry.{Entry}
+use Rattle.passive_core.specs.declared.entry.Kind.{Kind}
+use Rattle.passive_core.specs.declared.entry.Kind.TheVariants.{Iface, Driver}
+use Rattle.passive_core.specs.declared.entry.Record.{Record}
+use Rattle.passive_core.specs.declared.settings.Settings.{Settings}
+use Rattle.passive_core.specs.declared.state.Key.{Key}
+use Rattle.passive_core.specs.declared.state.Slot.{Slot}
+use Rattle.passive_core.specs.declared.state.Slot.TheVariants.{Vacant, Live, Retired}
+use Rattle.passive_core.specs.declared.state.Due.TheVariants.{Rest}
+use Rattle.passive_core.specs.Attaching.{with_biases, key_of_record}
+use Rattle.passive_core.specs.Events.{entry_if, entry_of, keeps_rightly, kind_of, words_of}
+use Rattle.passive_core.specs.History.{after_change, key_of}
+use Rattle.passive_core.specs.Invariant.{IsIn, one_if}
+use Rattle.passive_core.specs.Names.{is_lawful}
+use Rattle.passive_core.specs.Slots.{is_live, is_live_as, is_taken, kind_word, live_count, same_key}
+use Rattle.passive_core.specs.State.{bias, no_words, row_at as words_at, slot_at, count_at, total_at, kept_at}
+use Rattle.passive_core.proofs.Cells.{slot_here, slot_other}
+use Rattle.passive_core.proofs.Fit.{ranges}
+use Rattle.passive_core.proofs.History.{length-after_change}
+use Rattle.passive_core.proofs.ListKeeps.{live_count_set, rows_put}
+use Rattle.passive_core.proofs.Occupied.{in_within, slot_cases}
+use Rattle.cpu_words.specs.declared.view.KeeperView.{KeeperView}
+use Rattle.cpu_words.specs.Publishing.{LeadsBelow, MayPublish, HasPublished}
+use Rattle.cpu_words.specs.Publishing.LeadsBelow.{To_end, To_slot}
+use Rattle.cpu_words.specs.Vacating.{MayVacate, MayWrite, as_vacant, vacant_from}
+use Rattle.passive_list.specs.declared.keeper.Row.{Row}
+use Rattle.passive_list.specs.Keepers.{OnKeeper, row_at, states_of, TakenAs, AreSized, RowAgrees, IsAtRest, RowsAgree, IsOurKeeper}
+use Rattle.passive_list.specs.Publishing.{with_row, prepared, published, HasAttached}
+use Rattle.passive_list.proofs.Rows.{state_at, live_in, row_stays, rows_set}
+use Rattle.passive_list.proofs.Preparing.{vacant_now, as_vacant_is, biases_size, bias_stored, vacant_sized}
+
+-- Who is live
+
+-- what is live in one list is live in the other
+abbrev pub LiveIn : List Slot → List Slot → Type 0
+LiveIn xs ys = (u : ℕ) (f : Entry) → slot_at xs u ≡ Live f → slot_at ys u ≡ Live f
+
+pub rows_live : (a : Settings) (k : KeeperView) (rows : List Row) → RowsAgree a k rows → LiveIn (states_of rows) k.slots
+rows_live a k rows agree u f live = (live_in a k rows u f agree live).1
+
+pub live_rows : (a : Settings) (k : KeeperView) (rows : List Row) → IsAtRest a k → RowsAgree a k rows → LiveIn k.slots (states_of rows)
+live_rows a k rows at agree u f live =
+    let within = in_within k.slots u f (inl live) in
+    let size = at.sized.slots in
+    state_at rows u ∙ by (row_at rows u).state (agree.each u (omega (arith, within, size))).state
+  where
+    by : (x : Slot) → TakenAs k u x → x ≡ Live f
+    by Vacant is = absurd (⊎_elim
+      (λ (vacant : slot_at k.slots u ≡ Vacant). let q : Slot.Vacant ≡ Live f = sym vacant ∙ live in cc)
+      (λ (may : MayVacate k u). let q : Retired may.drained.retired.0 ≡ Live f = sym may.drained.retired.1 ∙ live in cc)
+      is)
+    by (Live e) is = sym is ∙ live
+    by (Retired e) is = absurd (let q : Retired e ≡ Live f = sym is ∙ live in cc)
+
+vacant_live : (k : KeeperView) (t : ℕ) → LiveIn (as_vacant k t).slots k.slots
+vacant_live k t u f = by (slot_at k.slots t) refl
+  where
+    by : (x : Slot) → slot_at k.slots t ≡ x → slot_at (vacant_from x k t).slots u ≡ Live f → slot_at k.slots u ≡ Live f
+    by Vacant is live = live
+    by (Live e) is live = live
+    by (Retired e) is live = ⊎_elim
+      (λ (here : (u ≡ t) × (slot_at (set k.slots t Vacant) u ≡ Vacant)). absurd (let q : Slot.Vacant ≡ Live f = sym here.1 ∙ live in cc))
+      (λ (off : (u ≡ t → ⊥) × (slot_at (set k.slots t Vacant) u ≡ slot_at k.slots u)). sym off.1 ∙ live)
+      (slot_cases k.slots t Vacant u (in_within k.slots t e (inr is)))
+
+live_vacant : (k : KeeperView) (t : ℕ) → LiveIn k.slots (as_vacant k t).slots
+live_vacant k t u f live = by (slot_at k.slots t) refl
+  where
+    by : (x : Slot) → slot_at k.slots t ≡ x → slot_at (vacant_from x k t).slots u ≡ Live f
+    by Vacant is = live
+    by (Live e) is = live
+    by (Retired e) is = ⊎_elim
+      (λ (here : (u ≡ t) × (slot_at (set k.slots t Vacant) u ≡ Vacant)). absurd (let q : Retired e ≡ Live f = sym is ∙ (ap (slot_at k.slots) (sym here.0) ∙ live) in cc))
+      (λ (off : (u ≡ t → ⊥) × (slot_at (set k.slots t Vacant) u ≡ slot_at k.slots u)). off.1 ∙ live)
+      (slot_cases k.slots t Vacant u (in_within k.slots t e (inr is)))
+
+pub leads_on : (xs ys : List Slot) (n v : ℕ) → LiveIn xs ys → LiveIn ys xs → LeadsBelow xs n v → LeadsBelow ys n v
+leads_on xs ys n v on back (To_end none) = To_end (λ u h live below. none u h (back u h live) below)
+leads_on xs ys n v on back (To_slot t f live below most) = To_slot t f (on t f live) below (λ u h is lt. most u h (back u h is) lt)
+
+-- a live entry of a key takes it
+taken_at : (key : Key) (xs : List Slot) (u : ℕ) (f : Entry) → slot_at xs u ≡ Live f → same_key (key_of f) key ≡ true → is_taken key xs ≡ true
+taken_at key xs u f live same = list_any_at (is_live_as key) xs u Vacant (in_within xs u f (inl live)) (ap (is_live_as key) live ∙ same)
+
+pub free_on : (key : Key) (xs ys : List Slot) → LiveIn ys xs → is_taken key xs ≡ false → is_taken key ys ≡ false
+free_on key xs ys back free = walk ys (λ u f live. off u f (back u f live))
+  where
+    off : (u : ℕ) (f : Entry) → slot_at xs u ≡ Live f → same_key (key_of f) key ≡ false
+    off u f live = by (same_key (key_of f) key) refl
+      where
+        by : (b : Bool) → same_key (key_of f) key ≡ b → b ≡ false
+        by true is = sym (taken_at key xs u f live is) ∙ free
+        by false is = refl
+    first : (y : Slot) → ((f : Entry) → y ≡ Live f → same_key (key_of f) key ≡ false) → is_live_as key y ≡ false
+    first Vacant no_ = refl
+    first (Live f) no_ = no_ f refl
+    first (Retired f) no_ = refl
+    walk : (zs : List Slot) → ((u : ℕ) (f : Entry) → slot_at zs u ≡ Live f → same_key (key_of f) key ≡ false) → is_taken key zs ≡ false
+    walk [] no_ = refl
+    walk (z ∷ zs) no_ = rw (first z (λ f is. no_ zero f is), walk zs (λ u f live. no_ (suc u) f live)) refl
+
+pub count_on : (xs ys : List Slot) → LiveIn xs ys → live_count xs ≤ live_count ys
+count_on [] ys on = omega arith
+count_on (x ∷ xs) [] on =
+    let rest = count_on xs [] (λ u f live. on (suc u) f live) in
+    let split = sum_by-cons (λ (y : Slot). one_if (is_live y)) x xs in
+    let first : one_if (is_live x) ≡ 0 = none x (λ f is. let q : Slot.Vacant ≡ Live f = on zero f is in cc) in
+    omega (arith, rest, split, first)
+  where
+    none : (x : Slot) → ((f : Entry) → x ≡ Live f → ⊥) → one_if (is_live x) ≡ 0
+    none Vacant no_ = refl
+    none (Live f) no_ = absurd (no_ f refl)
+    none (Retired f) no_ = refl
+count_on (x ∷ xs) (y ∷ ys) on =
+    let rest = count_on xs ys (λ u f live. on (suc u) f live) in
+    let split = sum_by-cons (λ (z : Slot). one_if (is_live z)) x xs in
+    let split_y = sum_by-cons (λ (z : Slot). one_if (is_live z)) y ys in
+    let first : one_if (is_live x) ≤ one_if (is_live y) = less x (λ f is. on zero f is) in
+    omega (arith, rest, split, split_y, first)
+  where
+    less : (x : Slot) → ((f : Entry) → x ≡ Live f → y ≡ Live f) → one_if (is_live x) ≤ one_if (is_live y)
+    less Vacant so = omega arith
+    less (Live f) so = rw (so f refl) (omega arith)
+    less (Retired f) so = omega arith
+
+-- The entry by its words
+
+pub entry_is : (e : Entry) → IsTrue (is_lawful e.rec.name) → entry_of e.slot (words_of e) ≡ Some e
+entry_is e lawful = by e.rec.kind
+  where
+    by : (x : Kind) → entry_if e.slot (record { number = e.number; kind = kind_word x; high = e.rec.name.high; low = e.rec.name.low; value = e.rec.value }) (kind_of (kind_word x)) ≡ Some (record { number = e.number; slot = e.slot; rec = record { kind = x; name = e.rec.name; value = e.rec.value } })
+    by Iface = rw (lawful) refl
+    by Driver = rw (lawful) refl
+
+-- Publishing
+
+-- what the keeper is asked for
+pub record Asked (a : Settings) (k : KeeperView) (rows : List Row) (e : Entry) (v : ℕ) : Type 0 where
+  pub at : IsAtRest a k
+  pub agree : RowsAgree a k rows
+  pub slot : e.slot < a.slots
+  pub vacant : slot_at (states_of rows) e.slot ≡ Vacant
+  pub keeps : IsTrue (keeps_rightly (kept_at k.keeps e.slot) e.rec.kind)
+  pub name : IsTrue (is_lawful e.rec.name)
+  pub free : is_taken (key_of e) (states_of rows) ≡ false
+  pub room : length k.history + live_count (states_of rows) + 2 ≤ a.change_limit
+  pub number : e.number ≡ suc (length k.history)
+  pub link : LeadsBelow (states_of rows) e.number v
+
+pub asked_write : (a : Settings) (k : KeeperView) (rows : List Row) (t : ℕ) → IsAtRest a k → RowsAgree a k rows → t < a.slots → slot_at (states_of rows) t ≡ Vacant → MayWrite k t
+asked_write a k rows t at agree lt vacant = record {
+  rest = at.rest;
+  slot = subst (λ (z : Settings). t < z.slots) (sym at.settings) lt;
+  vacant = subst (TakenAs k t) (sym (state_at rows t) ∙ vacant) (agree.each t lt).state;
+}
+
+pub may_publish : (a : Settings) (k : KeeperView) (rows : List Row) (e : Entry) (v : ℕ) → Asked a k rows e v → MayPublish (prepared k e v) e.slot e
+may_publish a k rows e v asked =
+    let at = asked.at in
+    let t = e.slot in
+    let w = as_vacant k t in
+    let is = as_vacant_is k t in
+    let may = asked_write a k rows t at asked.agree asked.slot asked.vacant in
+    let sized = vacant_sized a.slots k t at.sized in
+    let lt = asked.slot in
+    let row_size = at.sized.rows in
+    let next_size = at.sized.next in
+    let count_size = sized.counts in
+    let settings : w.settings ≡ a = ap (λ (x : KeeperView). x.settings) is ∙ at.settings in
+    let history : w.history ≡ k.history = ap (λ (x : KeeperView). x.history) is in
+    let number : e.number ≡ suc (length w.history) = asked.number ∙ sym (ap (λ (h : List Change). suc (length h)) history) in
+    let back : LiveIn w.slots (states_of rows) = λ u f live. live_rows a k rows at asked.agree u f (vacant_live k t u f live) in
+    let on : LiveIn (states_of rows) w.slots = λ u f live. live_vacant k t u f (rows_live a k rows asked.agree u f live) in
+    let had = asked.agree.each t lt in
+    let none : ℕ = 0 in
+    record {
+      rest = ap (λ (x : KeeperView). x.due) is ∙ at.rest;
+      slot = subst (λ (z : Settings). t < z.slots) (sym settings) lt;
+      vacant = vacant_now k t may;
+      entry = ap (entry_of t) (get_or-set_same k.rows t (words_of e) no_words (omega (arith, lt, row_size))) ∙ entry_is e asked.name;
+      number = number;
+      free = free_on (key_of e) (states_of rows) w.slots back asked.free;
+      room = let count = count_on w.slots (states_of rows) back in let long = ap (λ (h : List Change). length h) history in let room = asked.room in let limit = ap (λ (z : Settings). z.change_limit) settings in omega (arith, count, long, room, limit);
+      link = subst (LeadsBelow w.slots (suc (length w.history))) (sym (get_or-set_same k.next t v none (omega (arith, lt, next_size))))
+          (subst (λ (n : ℕ). LeadsBelow w.slots n v) number (leads_on (states_of rows) w.slots e.number v on back asked.link));
+      counts = λ c cpu. bias_stored w.counts t k.settings.cpus c (get_or w.counts t []) (omega (arith, lt, count_size)) (subst (λ (z : Settings). c < z.cpus) (settings ∙ sym at.settings) cpu);
+      total = ap (λ (x : KeeperView). total_at x.totals t) is ∙ (sym had.total ∙ had.unused (sym (state_at rows t) ∙ asked.vacant));
+      keeps = ap (λ (x : KeeperView). keeps_rightly (kept_at x.keeps t) e.rec.kind) is ∙ asked.keeps;
+    }
+
+-- what publishing leaves, in one view
+pub published_is : (k l m : KeeperView) (e : Entry) (v : ℕ) → l ≡ prepared k e v → (f : Entry) × MayPublish l e.slot f × HasPublished l e.slot f m → MayPublish (prepared k e v) e.slot e → m ≡ published k e v
+published_is k l m e v at told may =
+    let t = e.slot in
+    let p = prepared k e v in
+    let f = told.0 in
+    let same : f ≡ e = one f e (sym (ap (λ (x : KeeperView). entry_of t (words_at x.rows t)) (sym at) ∙ told.1.entry) ∙ may.entry) in
+    told.2 ∙ (ap (λ (x : KeeperView). record x { head = t + 1; history = after_change x.history (Attach f); slots = set x.slots t (Live f) }) at
+    ∙ (ap (λ (x : Entry). record p { head = t + 1; history = after_change p.history (Attach x); slots = set p.slots t (Live x) }) same
+    ∙ by (slot_at k.slots t)))
+  where
+    one : (x y : Entry) → Some x ≡ Some y → x ≡ y
+    one x y q = cc
+    made : KeeperView → KeeperView
+    made w = record w {
+      head = e.slot + 1;
+      history = after_change w.history (Attach e);
+      slots = set w.slots e.slot (Live e);
+      next = set k.next e.slot v;
+      rows = set k.rows e.slot (words_of e);
+      counts = set w.counts e.slot (with_biases k.settings.cpus (get_or w.counts e.slot []));
+    }
+    aim : KeeperView → KeeperView
+    aim w = record k {
+      head = e.slot + 1;
+      history = after_change k.history (Attach e);
+      slots = set k.slots e.slot (Live e);
+      next = set k.next e.slot v;
+      rows = set k.rows e.slot (words_of e);
+      counts = set k.counts e.slot (with_biases k.settings.cpus (get_or w.counts e.slot []));
+    }
+    by : (x : Slot) → made (vacant_from x k e.slot) ≡ aim (vacant_from x k e.slot)
+    by Vacant = refl
+    by (Live x) = refl
+    by (Retired x) =
+      let none : ℕ = 0 in
+      let row = with_biases k.settings.cpus (get_or (set k.counts e.slot (replicate 8 none)) e.slot []) in
+      ap (λ (slots : List Slot). record (aim (vacant_from (Retired x) k e.slot)) { slots = slots; counts = set (set k.counts e.slot (replicate 8 none)) e.slot row }) (set-set k.slots e.slot Vacant (Live e))
+      ∙ ap (λ (counts : List (List ℕ)). record (aim (vacant_from (Retired x) k e.slot)) { counts = counts }) (set-set k.counts e.slot (replicate 8 none) row)
+
+abbrev pub row_live : Row → Entry → Row
+row_live r e = record { state = Live e; marks = r.marks; total = r.total; keeps = r.keeps }
+
+published_at_rest : (a : Settings) (k : KeeperView) (rows : List Row) (e : Entry) (v : ℕ) → Asked a k rows e v → IsAtRest a (published k e v)
+published_at_rest a k rows e v asked =
+    let at = asked.at in
+    let t = e.slot in
+    let lt = asked.slot in
+    let sized = vacant_sized a.slots k t at.sized in
+    let few = (ranges a at.fit).cpus in
+    let cpus = ap (λ (z : Settings). z.cpus) at.settings in
+    let wide = sized.counts in
+    let row = get_or (as_vacant k t).counts t [] in
+    let long = sized.count_rows t (omega (arith, lt, wide)) in
+    record {
+      settings = at.settings;
+      fit = at.fit;
+      rest = at.rest;
+      seated = at.seated;
+      sized = record {
+        slots = length-set k.slots t (Live e) ∙ at.sized.slots;
+        marks = at.sized.marks;
+        mark_rows = at.sized.mark_rows;
+        keeps = at.sized.keeps;
+        next = length-set k.next t v ∙ at.sized.next;
+        rows = length-set k.rows t (words_of e) ∙ at.sized.rows;
+        totals = at.sized.totals;
+        counts = length-set k.counts t _ ∙ at.sized.counts;
+        count_rows = rows_put k.counts t (with_biases k.settings.cpus row) (biases_size row k.settings.cpus long (omega (arith, few, cpus))) at.sized.count_rows;
+      };
+      room =
+        let slots_size = at.sized.slots in
+        let more : live_count (set k.slots t (Live e)) + one_if (is_live (slot_at k.slots t)) ≡ live_count k.slots + 1 = live_count_set k.slots t (Live e) (omega (arith, lt, slots_size)) in
+        let count = count_on k.slots (states_of rows) (live_rows a k rows at asked.agree) in
+        let long = length-after_change k.history (Attach e) in
+        let room = asked.room in
+        omega (arith, more, count, long, room);
+    }
+
+pub published_keeper : (z : TableId) (a : Settings) (table table' : TableId) (k l : KeeperView) (its : Settings) (rows : List Row) (n : ℕ) (e : Entry) (v : ℕ) → IsOurKeeper z a table k its rows n → Asked a k rows e v → table' ≡ table → l ≡ published k e v
+    → IsOurKeeper z a table' l its (set rows e.slot (row_live (row_at rows e.slot) e)) (n + 1)
+published_keeper z a table table' k l its rows n e v our asked same change =
+    let at = asked.at in
+    let t = e.slot in
+    let lt = asked.slot in
+    let p = published k e v in
+    let most = (ranges a at.fit).slots in
+    let size = at.sized.slots in
+    let had = asked.agree.each t lt in
+    record {
+      table = same ∙ our.table;
+      settings = our.settings;
+      view = subst (IsAtRest a) (sym change) (published_at_rest a k rows e v asked);
+      changes = let was = our.changes in let long = length-after_change k.history (Attach e) in let now = ap (λ (x : KeeperView). length x.history) change in omega (arith, was, long, now);
+      rows = subst (λ (x : KeeperView). RowsAgree a x (set rows t (row_live (row_at rows t) e))) (sym change) (rows_set a k p rows t (row_live (row_at rows t) e) lt (omega (arith, lt, most)) asked.agree
+          record {
+            state = slot_here k.slots t (Live e) (omega (arith, lt, size));
+            marks = had.marks;
+            total = had.total;
+            keeps = had.keeps;
+            unused = λ vacant. absurd (let q : Live e ≡ Vacant = vacant in cc);
+          }
+          (λ u off was. row_stays k p u (row_at rows u) at.rest refl (slot_other k.slots t (Live e) u off) refl refl refl was));
+    }
+
+-- what is asked of a caller, of the keeper's own view
+pub ask : (z : TableId) (a : Settings) (table : TableId) (k : KeeperView) (its : Settings) (rows : List Row) (n t v : ℕ) (rec : Record) (x : OnKeeper) → IsOurKeeper z a table k its rows n → record { view = k; slots = states_of rows } ≡ x
+    → (t < a.slots) × (slot_at x.slots t ≡ Vacant) → IsTrue (keeps_rightly (kept_at x.view.keeps t) rec.kind) → IsTrue (is_lawful rec.name) → is_taken (key_of_record rec) x.slots ≡ false
+    → length x.view.history + live_count x.slots + 2 ≤ a.change_limit → LeadsBelow (states_of rows) (n + 1) v → Asked a k rows (record { number = n + 1; slot = t; rec = rec }) v
+ask z a table k its rows n t v rec x our is vacant keeps name free room link = record {
+  at = our.view;
+  agree = our.rows;
+  slot = vacant.0;
+  vacant = ap (λ (y : OnKeeper). slot_at y.slots t) is ∙ vacant.1;
+  keeps = ap (λ (y : OnKeeper). keeps_rightly (kept_at y.view.keeps t) rec.kind) is ∙ keeps;
+  name = name;
+  free = ap (λ (y : OnKeeper). is_taken (key_of_record rec) y.slots) is ∙ free;
+  room = subst (λ (y : OnKeeper). length y.view.history + live_count y.slots + 2 ≤ a.change_limit) (sym is) room;
+  number = let changes = our.changes in omega (arith, changes);
+  link = link;
+}

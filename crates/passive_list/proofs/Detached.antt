@@ -1,0 +1,116 @@
+-- An entry is retired: the keeper may unlink it, and what it has agrees with what its seat knows then.
+use Rattle.std.proofs.Common.{◌≡◌, ℕ, zero, suc, ◌+◌, ◌<◌, ◌≤◌, List, [], length, get_or, set, replicate, Option, Some, None, refl, sym, ap, ◌∙◌, subst, arith, get_or-set_same, get_or-set_other, length-set}
+use Rattle.atomic_table.specs.Seated.{TableId}
+use Rattle.passive_core.specs.declared.entry.Change.TheVariants.{Detach}
+use Rattle.passive_core.specs.declared.entry.Entry.{Entry}
+use Rattle.passive_core.specs.declared.settings.Settings.{Settings}
+use Rattle.passive_core.specs.declared.state.Mark.{Mark}
+use Rattle.passive_core.specs.declared.state.Slot.{Slot}
+use Rattle.passive_core.specs.declared.state.Slot.TheVariants.{Vacant, Live, Retired}
+use Rattle.passive_core.specs.Slots.{live_count}
+use Rattle.passive_core.specs.State.{no_mark, slot_at}
+use Rattle.passive_core.proofs.Cells.{slot_here, slot_other}
+use Rattle.passive_core.proofs.Fit.{ranges}
+use Rattle.passive_core.proofs.History.{length-after_change}
+use Rattle.passive_core.proofs.ListKeeps.{live_count_put, rows_put}
+use Rattle.cpu_words.specs.declared.view.KeeperView.{KeeperView}
+use Rattle.cpu_words.specs.Publishing.{LeadsBelow, IsBefore, MayUnpublish, HasUnpublished, having_unpublished, links_with}
+use Rattle.passive_list.specs.declared.keeper.Row.{Row}
+use Rattle.passive_list.specs.Keepers.{row_at, states_of, RowAgrees, IsAtRest, RowsAgree, IsOurKeeper}
+use Rattle.passive_list.specs.Retiring.{with_snapshots}
+use Rattle.passive_list.proofs.Rows.{state_at, live_in, row_stays, rows_set}
+use Rattle.passive_list.proofs.Attached.{LiveIn, rows_live, live_rows, leads_on}
+
+before_on : (xs ys : List Slot) (n : ℕ) (p : Option ℕ) → LiveIn xs ys → LiveIn ys xs → IsBefore xs n p → IsBefore ys n p
+before_on xs ys n None on back was = λ t f live. was t f (back t f live)
+before_on xs ys n (Some q) on back was = (was.0, on q was.0 was.1, was.2, λ u h live above. was.3 u h (back u h live) above)
+
+pub before_in : (a : Settings) (k : KeeperView) (rows : List Row) (n : ℕ) (p : Option ℕ) → IsAtRest a k → RowsAgree a k rows → IsBefore (states_of rows) n p → IsBefore k.slots n p
+before_in a k rows n p at agree was = before_on (states_of rows) k.slots n p (rows_live a k rows agree) (live_rows a k rows at agree) was
+
+pub leads_in : (a : Settings) (k : KeeperView) (rows : List Row) (n v : ℕ) → IsAtRest a k → RowsAgree a k rows → LeadsBelow (states_of rows) n v → LeadsBelow k.slots n v
+leads_in a k rows n v at agree was = leads_on (states_of rows) k.slots n v (rows_live a k rows agree) (live_rows a k rows at agree) was
+
+pub may_unpublish : (a : Settings) (k : KeeperView) (rows : List Row) (t : ℕ) (e : Entry) (p : Option ℕ) (v : ℕ) → IsAtRest a k → RowsAgree a k rows → (row_at rows t).state ≡ Live e → IsBefore (states_of rows) e.number p → LeadsBelow (states_of rows) e.number v → MayUnpublish k t p v
+may_unpublish a k rows t e p v at agree is before link = record {
+  rest = at.rest;
+  e = e;
+  live = (live_in a k rows t e agree (state_at rows t ∙ is)).1;
+  before = before_in a k rows e.number p at agree before;
+  link = leads_in a k rows e.number v at agree link;
+}
+
+-- what retiring leaves, in one view
+abbrev pub detached : KeeperView → ℕ → Entry → Option ℕ → ℕ → List Mark → KeeperView
+detached k t e p v marks = with_snapshots (having_unpublished k t e p v) t marks
+
+pub detached_is : (k l m : KeeperView) (t : ℕ) (e : Entry) (p : Option ℕ) (v : ℕ) (marks : List Mark) → slot_at k.slots t ≡ Live e → HasUnpublished k t p v l → m ≡ with_snapshots l t marks → m ≡ detached k t e p v marks
+detached_is k l m t e p v marks live told taken =
+    let same : told.0 ≡ e = one told.0 e (sym told.1 ∙ live) in
+    taken ∙ ap (λ (x : KeeperView). with_snapshots x t marks) (told.2 ∙ ap (λ (x : Entry). having_unpublished k t x p v) same)
+  where
+    one : (x y : Entry) → Live x ≡ Live y → x ≡ y
+    one x y q = cc
+
+links_size : (next : List ℕ) (p : Option ℕ) (v : ℕ) → length (links_with next p v) ≡ length next
+links_size next None v = refl
+links_size next (Some q) v = length-set next q v
+
+detached_at_rest : (a : Settings) (k : KeeperView) (t : ℕ) (e : Entry) (p : Option ℕ) (v : ℕ) (marks : List Mark) → IsAtRest a k → t < a.slots → slot_at k.slots t ≡ Live e → length marks ≡ 8 → IsAtRest a (detached k t e p v marks)
+detached_at_rest a k t e p v marks at lt live size =
+    let fresh = replicate 8 no_mark in
+    record {
+      settings = at.settings;
+      fit = at.fit;
+      rest = refl;
+      seated = at.seated;
+      sized = record {
+        slots = length-set k.slots t (Retired e) ∙ at.sized.slots;
+        marks = length-set (set k.marks t fresh) t marks ∙ (length-set k.marks t fresh ∙ at.sized.marks);
+        mark_rows = rows_put (set k.marks t fresh) t marks size (rows_put k.marks t fresh refl at.sized.mark_rows);
+        keeps = at.sized.keeps;
+        next = links_size k.next p v ∙ at.sized.next;
+        rows = at.sized.rows;
+        totals = at.sized.totals;
+        counts = at.sized.counts;
+        count_rows = at.sized.count_rows;
+      };
+      room =
+        let slots_size = at.sized.slots in
+        let less : live_count (set k.slots t (Retired e)) + 1 ≡ live_count k.slots + 0 = live_count_put k.slots t (Live e) (Retired e) (omega (arith, lt, slots_size)) live in
+        let long = length-after_change k.history (Detach e.number) in
+        let room = at.room in
+        omega (arith, less, long, room);
+    }
+
+abbrev pub row_retired : Row → Entry → List Mark → Row
+row_retired r e marks = record { state = Retired e; marks = marks; total = r.total; keeps = r.keeps }
+
+pub detached_keeper : (z : TableId) (a : Settings) (table table' : TableId) (k l : KeeperView) (its : Settings) (rows : List Row) (n t : ℕ) (e : Entry) (p : Option ℕ) (v : ℕ) (marks : List Mark) → IsOurKeeper z a table k its rows n → (row_at rows t).state ≡ Live e → length marks ≡ 8
+    → table' ≡ table → l ≡ detached k t e p v marks → IsOurKeeper z a table' l its (set rows t (row_retired (row_at rows t) e marks)) (n + 1)
+detached_keeper z a table table' k l its rows n t e p v marks our is marks_size same change =
+    let at = our.view in
+    let live = live_in a k rows t e our.rows (state_at rows t ∙ is) in
+    let lt = live.0 in
+    let d = detached k t e p v marks in
+    let fresh = replicate 8 no_mark in
+    let most = (ranges a at.fit).slots in
+    let size = at.sized.slots in
+    let wide = at.sized.marks in
+    let long = length-set k.marks t fresh in
+    let had = our.rows.each t lt in
+    record {
+      table = same ∙ our.table;
+      settings = our.settings;
+      view = subst (IsAtRest a) (sym change) (detached_at_rest a k t e p v marks at lt live.1 marks_size);
+      changes = let was = our.changes in let more = length-after_change k.history (Detach e.number) in let now = ap (λ (x : KeeperView). length x.history) change in omega (arith, was, more, now);
+      rows = subst (λ (x : KeeperView). RowsAgree a x (set rows t (row_retired (row_at rows t) e marks))) (sym change) (rows_set a k d rows t (row_retired (row_at rows t) e marks) lt (omega (arith, lt, most)) our.rows
+          record {
+            state = slot_here k.slots t (Retired e) (omega (arith, lt, size));
+            marks = sym (get_or-set_same (set k.marks t fresh) t marks [] (omega (arith, lt, wide, long)));
+            total = had.total;
+            keeps = had.keeps;
+            unused = λ vacant. absurd (let q : Retired e ≡ Vacant = vacant in cc);
+          }
+          (λ u off was. row_stays k d u (row_at rows u) refl refl (slot_other k.slots t (Retired e) u off) (get_or-set_other (set k.marks t fresh) t u marks [] off ∙ get_or-set_other k.marks t u fresh [] off) refl refl was));
+    }

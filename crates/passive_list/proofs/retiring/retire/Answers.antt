@@ -1,0 +1,51 @@
+use Rattle.std.proofs.Common.{◌≡◌, ◌∙◌, sym, ap, subst, set}
+use Rattle.std.proofs.lemmas.List.{map-set}
+use Rattle.passive_core.specs.declared.settings.Settings.{Settings}
+use Rattle.passive_list.specs.Keepers.{OnKeeper, row_at, state_of, states_of}
+use Rattle.passive_list.specs.Retiring.{AreSnapshots, HasDetached}
+use Rattle.passive_list.proofs.Rows.{state_at, live_in}
+use Rattle.passive_list.proofs.Detached.{before_in, leads_in, may_unpublish, detached_is, detached_keeper, row_retired}
+use Rattle.passive_list.proofs.retiring.retire.Goals as goal
+
+pub unpublish-requires-clause-may : goal.unpublish-requires-clause-may
+unpublish-requires-clause-may g c =
+    let inside = c.keeper.inside in
+    may_unpublish g.D.Domain.settings inside.seat.view inside.rows c.args.slot c.in-Live.entry c.slot_above-before.result c.link_below-link.result c.keeper.invariant.view c.keeper.invariant.rows c.in-Live.is c.slot_above-before.ensures.before c.link_below-link.ensures
+
+pub invariant_of-keeper : goal.invariant_of-keeper
+invariant_of-keeper g c =
+    let inside = c.keeper.inside in
+    let k = inside.seat.view in
+    let t = c.args.slot in
+    let e = c.in-Live.entry in
+    let p = c.slot_above-before.result in
+    let v = c.link_below-link.result in
+    let our = c.keeper.invariant in
+    let live = live_in g.D.Domain.settings k inside.rows t e our.rows (state_at inside.rows t ∙ c.in-Live.is) in
+    let is = detached_is k c.unpublish.new.keeper.view c.snapshots-marks.new.seat.view t e p v c.snapshots-marks.result live.1 c.unpublish.ensures.change c.snapshots-marks.ensures.view in
+    detached_keeper g.D.Domain.table g.D.Domain.settings inside.seat.table c.snapshots-marks.new.seat.table k c.snapshots-marks.new.seat.view inside.settings inside.rows inside.changes t e p v c.snapshots-marks.result our c.in-Live.is
+        c.snapshots-marks.ensures.marks.size (c.snapshots-marks.ensures.table ∙ c.unpublish.ensures.table) is
+
+pub returns-clause-change : goal.returns-clause-change
+returns-clause-change g c =
+    let inside = c.keeper.inside in
+    let a = g.D.Domain.settings in
+    let k = inside.seat.view in
+    let t = c.args.slot in
+    let e = c.in-Live.entry in
+    let p = c.slot_above-before.result in
+    let v = c.link_below-link.result in
+    let marks = c.snapshots-marks.result in
+    let our = c.keeper.invariant in
+    let live = live_in a k inside.rows t e our.rows (state_at inside.rows t ∙ c.in-Live.is) in
+    let b : OnKeeper = record { view = c.snapshots-marks.new.seat.view; slots = states_of (set inside.rows t (row_retired (row_at inside.rows t) e marks)) } in
+    subst (λ (x : OnKeeper). HasDetached x t e b) c.keeper.view_is record {
+      before = p;
+      is_before = before_in a k inside.rows e.number p our.view our.rows c.slot_above-before.ensures.before;
+      link = v;
+      leads = leads_in a k inside.rows e.number v our.view our.rows c.link_below-link.ensures;
+      marks = marks;
+      snapshots = subst (λ (z : Settings). AreSnapshots z.cpus marks) (our.settings ∙ sym our.view.settings) c.snapshots-marks.ensures.marks;
+      view = detached_is k c.unpublish.new.keeper.view c.snapshots-marks.new.seat.view t e p v marks live.1 c.unpublish.ensures.change c.snapshots-marks.ensures.view;
+      slots = map-set state_of inside.rows t (row_retired (row_at inside.rows t) e marks);
+    }

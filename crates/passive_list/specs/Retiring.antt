@@ -1,0 +1,36 @@
+-- An entry is retired: what changes of the keeper.
+use Rattle.std.specs.Prelude.{◌≡◌, ℕ, ◌<◌, List, [], length, replicate, slice_index_or, slice_set, Option}
+use Rattle.passive_core.specs.declared.entry.Entry.{Entry}
+use Rattle.passive_core.specs.declared.state.Mark.{Mark}
+use Rattle.passive_core.specs.declared.state.Slot.TheVariants.{Retired}
+use Rattle.passive_core.specs.declared.state.Due.TheVariants.{Rest}
+use Rattle.passive_core.specs.Events.{snapshot_mark}
+use Rattle.passive_core.specs.State.{no_mark}
+use Rattle.cpu_words.specs.declared.view.KeeperView.{KeeperView}
+use Rattle.cpu_words.specs.Publishing.{LeadsBelow, IsBefore, having_unpublished}
+use Rattle.passive_list.specs.Keepers.{OnKeeper}
+
+-- the slot's marks are none, and it has a place for them
+pub record AreFresh (k : KeeperView) (t : ℕ) : Type 0 where
+  pub place : t < length k.marks
+  pub marks : slice_index_or k.marks t [] ≡ replicate 8 no_mark
+
+-- the marks of the first n CPUs are their snapshots
+pub record AreSnapshots (n : ℕ) (marks : List Mark) : Type 0 where
+  pub size : length marks ≡ 8
+  pub each : (c : ℕ) → c < n → (w : ℕ) × (slice_index_or marks c no_mark ≡ snapshot_mark w)
+
+-- the slot t has these marks, and the keeper is at rest
+abbrev pub with_snapshots : KeeperView → ℕ → List Mark → KeeperView
+with_snapshots k t marks = record k { marks = slice_set k.marks t marks; due = Rest }
+
+-- the entry e of the slot t is unlinked and retired, and its marks are the snapshots that were taken
+pub record HasDetached (a : OnKeeper) (t : ℕ) (e : Entry) (b : OnKeeper) : Type 0 where
+  pub before : Option ℕ
+  pub is_before : IsBefore a.view.slots e.number before
+  pub link : ℕ
+  pub leads : LeadsBelow a.view.slots e.number link
+  pub marks : List Mark
+  pub snapshots : AreSnapshots a.view.settings.cpus marks
+  pub view : b.view ≡ with_snapshots (having_unpublished a.view t e before link) t marks
+  pub slots : b.slots ≡ slice_set a.slots t (Retired e)

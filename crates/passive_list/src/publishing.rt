@@ -1,0 +1,99 @@
+//! An entry is published: all words of its slot are stored, and then the head, so that searches find it.
+
+ghost use Rattle.std.specs.Prelude.{◌≡◌, ◌<◌, ◌≤◌, ◌+◌, suc, IsTrue, false, length};
+ghost use Rattle.passive_core.specs.declared.state.Slot.TheVariants.{Vacant};
+ghost use Rattle.passive_core.specs.Attaching.{key_of_record};
+ghost use Rattle.passive_core.specs.Events.{keeps_rightly, words_of};
+ghost use Rattle.passive_core.specs.Names.{is_lawful};
+ghost use Rattle.passive_core.specs.Slots.{is_taken, kind_word, live_count};
+ghost use Rattle.passive_core.specs.State.{slot_at, kept_at};
+ghost use Rattle.cpu_words.specs.Vacating.{MayWrite};
+ghost use Rattle.passive_list.specs.Keepers.{AreSized};
+ghost use Rattle.passive_list.specs.Publishing.{HasAttached, with_row, with_counts, prepared};
+
+use crate::keeper::{Keeper, SlotState};
+use crate::links::link_below;
+use cpu_words::{Domain, KeeperSeat, Words, steps};
+use passive_core::{BIAS, Entry, Kind, Record};
+
+/// Publishes an entry in `slot`: from now on lookups find it, and the history ends with its attach. Its number is how many changes there
+/// are then. It answers the entry.
+/// Condition: the slot is one of the table's and vacant, and keeps a reference exactly if the kind is Iface. The name is lawful, no live
+/// entry has this kind and name, and the history has room for this change and for the detach of each live entry, the new one too.
+pub fn publish<D: Domain>(words: &Words, keeper: &mut Keeper<D>, slot: u8, rec: Record) -> Entry
+    requires words { (words.now.table ≡ D.table) × (words.now.settings ≡ D.settings) }
+    requires vacant { (slot < D.settings.slots) × (slot_at keeper.old.slots slot ≡ Vacant) }
+    requires keeps { IsTrue (keeps_rightly (kept_at keeper.old.view.keeps slot) rec.kind) }
+    requires name { IsTrue (is_lawful rec.name) }
+    requires free { is_taken (key_of_record rec) keeper.old.slots ≡ false }
+    requires room { length keeper.old.view.history + live_count keeper.old.slots + 2 ≤ D.settings.change_limit }
+    ensures entry { result ≡ record { number = suc (length keeper.old.view.history); slot = slot; rec = rec } }
+    ensures change { HasAttached keeper.old result keeper.new }
+{
+    let entry = Entry {
+        number: keeper.changes + 1,
+        slot,
+        rec,
+    };
+    let link = link_below(&keeper.rows, entry.number);
+    let cpus = keeper.settings.cpus;
+    prepare(words, &mut keeper.seat, &entry, cpus, link);
+    steps::publish(words, &mut keeper.seat, slot);
+    keeper.rows[slot as usize].state = SlotState::Live(entry);
+    keeper.changes += 1;
+    entry
+}
+
+/// Stores all words of the entry's slot: its record, its counts and its link.
+fn prepare(words: &Words, seat: &mut KeeperSeat, entry: &Entry, cpus: u8, link: u64)
+    requires table { seat.old.table ≡ words.now.table }
+    requires may { MayWrite seat.old.view entry.now.slot }
+    requires sized { AreSized seat.old.view.settings.slots seat.old.view }
+    requires fit { (seat.old.view.settings.slots ≤ 32) × (cpus ≡ seat.old.view.settings.cpus) × (cpus ≤ 8) }
+    ensures table { seat.new.table ≡ seat.old.table }
+    ensures prepared { seat.new.view ≡ prepared seat.old.view entry.now link }
+{
+    store_row(words, seat, entry);
+    store_counts(words, seat, entry.slot, cpus);
+    steps::store_next(words, seat, entry.slot, link);
+}
+
+fn store_row(words: &Words, seat: &mut KeeperSeat, entry: &Entry)
+    requires table { seat.old.table ≡ words.now.table }
+    requires may { MayWrite seat.old.view entry.now.slot }
+    requires fit { seat.old.view.settings.slots ≤ 32 }
+    ensures table { seat.new.table ≡ seat.old.table }
+    ensures row { seat.new.view ≡ with_row seat.old.view entry.now.slot (words_of entry.now) }
+{
+    let t = entry.slot;
+    let (high, low) = entry.rec.name.words();
+    steps::store_record(words, seat, t, 0, entry.number);
+    steps::store_record(words, seat, t, 1, kind_word(entry.rec.kind));
+    steps::store_record(words, seat, t, 2, high);
+    steps::store_record(words, seat, t, 3, low);
+    steps::store_record(words, seat, t, 4, entry.rec.value);
+}
+
+/// Stores the slot's count words of all CPUs: no reference.
+fn store_counts(words: &Words, seat: &mut KeeperSeat, slot: u8, cpus: u8)
+    requires table { seat.old.table ≡ words.now.table }
+    requires may { MayWrite seat.old.view slot }
+    requires vacant { slot_at seat.old.view.slots slot ≡ Vacant }
+    requires sized { AreSized seat.old.view.settings.slots seat.old.view }
+    requires fit { (seat.old.view.settings.slots ≤ 32) × (cpus ≡ seat.old.view.settings.cpus) × (cpus ≤ 8) }
+    ensures table { seat.new.table ≡ seat.old.table }
+    ensures counts { seat.new.view ≡ with_counts seat.old.view slot cpus }
+{
+    for c in 0..cpus {
+        steps::store_count(words, seat, slot, c, BIAS);
+    }
+}
+
+fn kind_word(kind: Kind) -> u64
+    ensures { result ≡ kind_word kind }
+{
+    match kind {
+        Kind::Iface => 1,
+        Kind::Driver => 2,
+    }
+}

@@ -1,0 +1,60 @@
+//! An entry is retired: it is unlinked, and the section word of each CPU is taken as its snapshot.
+
+ghost use Rattle.std.specs.Prelude.{◌≡◌, ◌<◌, ◌≤◌, None};
+ghost use Rattle.passive_core.specs.declared.entry.Entry.{Entry};
+ghost use Rattle.passive_core.specs.declared.state.Slot.TheVariants.{Live};
+ghost use Rattle.passive_core.specs.declared.state.Due.TheVariants.{Snapshots};
+ghost use Rattle.passive_core.specs.State.{slot_at};
+ghost use Rattle.passive_list.specs.Retiring.{HasDetached, with_snapshots, AreSnapshots, AreFresh};
+
+use crate::keeper::{Keeper, NO_MARK, Row, SlotState};
+use crate::links::{link_below, slot_above};
+use cpu_words::{Domain, KeeperSeat, Words, steps};
+use passive_core::{Entry, Mark};
+
+/// Retires the live entry in `slot`: from now on lookups that begin don't find it, the history ends with its detach, and a section that
+/// may hold it is one that is open at a snapshot. It answers the entry.
+/// Condition: the slot's entry is live.
+pub fn retire<D: Domain>(words: &Words, keeper: &mut Keeper<D>, slot: u8) -> Entry
+    requires words { (words.now.table ≡ D.table) × (words.now.settings ≡ D.settings) }
+    requires live { (e : Entry) × (slot_at keeper.old.slots slot ≡ Live e) }
+    ensures entry { slot_at keeper.old.slots slot ≡ Live result }
+    ensures change { HasDetached keeper.old slot result keeper.new }
+{
+    let row = keeper.rows[slot as usize];
+    let SlotState::Live(entry) = row.state else {
+        unreachable!()
+    };
+    let before = slot_above(&keeper.rows, entry.number);
+    let link = link_below(&keeper.rows, entry.number);
+    steps::unpublish(words, &mut keeper.seat, slot, before, link);
+    let marks = snapshots(words, &mut keeper.seat, slot, keeper.settings.cpus);
+    keeper.rows[slot as usize] = Row {
+        state: SlotState::Retired(entry),
+        marks,
+        ..row
+    };
+    keeper.changes += 1;
+    entry
+}
+
+/// Takes the snapshots of all CPUs, CPU 0 first, and answers the marks with them.
+fn snapshots(words: &Words, seat: &mut KeeperSeat, slot: u8, cpus: u8) -> [Mark; 8]
+    requires table { seat.old.table ≡ words.now.table }
+    requires due { seat.old.view.due ≡ Snapshots slot 0 }
+    requires fresh { AreFresh seat.old.view slot }
+    requires fit { (cpus ≡ seat.old.view.settings.cpus) × (1 ≤ cpus) × (cpus ≤ 8) }
+    ensures table { seat.new.table ≡ seat.old.table }
+    ensures marks { AreSnapshots cpus result }
+    ensures view { seat.new.view ≡ with_snapshots seat.old.view slot result }
+{
+    let mut marks = [NO_MARK; 8];
+    for c in 0..cpus {
+        let word = steps::snapshot(words, seat, slot, c);
+        marks[c as usize] = Mark {
+            snapshot: Some(word),
+            ..NO_MARK
+        };
+    }
+    marks
+}
