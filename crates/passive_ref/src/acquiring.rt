@@ -4,7 +4,7 @@ ghost use Rattle.std.specs.Prelude.{◌≡◌, ◌<◌, IfErr};
 ghost use Rattle.passive_core.specs.Passives.{Answers};
 ghost use Rattle.passive_ref.specs.Psrefs.{MayRefer, IsHeldAt, IsAcquired, IsCopied, IsAdded, HasOneLess, GivesBack, why_full, why_unusable, why_not_acquired, why_not_copied};
 
-use crate::holding::usable_slot;
+use crate::holding::{count_of, usable_slot};
 use crate::psref::Psref;
 use cpu_words::{Domain, Words, steps};
 use passive_core::Refusal;
@@ -75,12 +75,7 @@ fn add<D: Domain>(
     ensures answer { Answers (why_full cpu.old.view number) (IsAdded slot number cpu.old cpu.new) result }
     ensures refused { IfErr result (λ _. cpu.new ≡ cpu.old) }
 {
-    let place = cpu.passive[slot as usize];
-    let count = if place.number == number {
-        place.count
-    } else {
-        0
-    };
+    let count = count_of(cpu, slot, number);
     if count >= words.settings().passive_limit {
         return Err(Refusal::PassiveFull);
     }

@@ -3,7 +3,7 @@
 ghost use Rattle.std.specs.Prelude.{◌≡◌, ◌↔◌, ◌<◌, IsTrue, IfSome, position, length, None};
 ghost use Rattle.cpu_words.specs.Views.{references_to};
 ghost use Rattle.passive_core.specs.Passives.{Answers};
-ghost use Rattle.passive_ref.specs.Psrefs.{IsHeldAt, counts_for, why_unusable};
+ghost use Rattle.passive_ref.specs.Psrefs.{IsHeldAt, MayRefer, counts_for, why_unusable};
 
 use crate::psref::Psref;
 use cpu_words::Domain;
@@ -49,4 +49,17 @@ fn place_for(number: u64, places: &[Place]) -> Option<usize>
     places
         .iter()
         .position(|place| place.number == number && place.count > 0)
+}
+
+/// How many references this CPU has to an entry that it found last or refers to.
+pub(crate) fn count_of<D: Domain>(cpu: &Cpu<D>, slot: u8, number: u64) -> u64
+    requires { MayRefer cpu.now.view slot number }
+    ensures { result ≡ references_to number cpu.now.view.references }
+{
+    let place = cpu.passive[slot as usize];
+    if place.number == number {
+        place.count
+    } else {
+        0
+    }
 }
