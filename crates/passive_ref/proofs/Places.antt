@@ -48,7 +48,7 @@ held_at x ps n t agree few number some =
     let count = agree.counts t ∙ ap (λ k. references_to k x.references) number in
     let one = some_of n x.references (omega (arith, some, count)) in
     let attached = (agree.each one.entry one.among).1 in
-    record { entry = one.entry; at = record { slot = place_of x ps t one.entry agree attached (number ∙ sym one.number); number = one.number }; held = one.among; few = few }
+    record { entry = one.entry; at = record { slot = place_of x ps t one.entry agree attached (number ∙ sym one.number); number = one.number }; held = one.among; attached = attached; few = few }
 
 -- the first place that counts for n
 pub held_here : (x : CpuView) (ps : List Place) (n t : ℕ) → PassiveAgree x ps → position (counts_for n) ps ≡ Some t → IsHeldAt x t n
@@ -96,3 +96,7 @@ uncounted_here x ps t n e agree at attached off = ⊎_elim
     absurd (off (sym (ap (λ u. (place_at ps u).number) slot) ∙ its.2 ∙ one.number)))
     (λ (none : nat_lt 0 (references_to n x.references) ≡ false). let few = ltb-false 0 (references_to n x.references) none in omega (arith, few))
     (cases_Bool (nat_lt 0 (references_to n x.references)))
+
+-- what the CPU refers to has references
+pub held_some : (x : CpuView) (n t : ℕ) → IsHeldAt x t n → 0 < references_to n x.references
+held_some x n t held = counts x.references held.entry n held.held held.at.number

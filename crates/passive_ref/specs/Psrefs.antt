@@ -2,6 +2,7 @@
 use Rattle.std.specs.Prelude.{◌≡◌, ◌⊎◌, ℕ, ◌<◌, ◌==◌, ◌&&◌, nat_lt, Bool, if◌then◌else◌, List, ◌∷◌, Option, Some, None, Result, Ok, Err}
 use Rattle.std.specs.List.{Contains}
 use Rattle.passive_core.specs.declared.entry.Entry.{Entry}
+use Rattle.passive_core.specs.declared.entry.Record.{Record}
 use Rattle.passive_core.specs.declared.refusal.Refusal.{Refusal}
 use Rattle.passive_core.specs.declared.refusal.Refusal.TheVariants.{NothingFound, PassiveFull, WrongCpu, NotHeld}
 use Rattle.passive_core.specs.History.{IsAttached}
@@ -42,6 +43,10 @@ IsCopied n a b p = (e : Entry) × Contains a.view.references e × (e.number ≡ 
 abbrev pub IsAdded : ℕ → ℕ → OnCpu → OnCpu → OnPsref → Type 0
 IsAdded t n a b p = (e : Entry) × IsAt e t n × IsAttached a.view.pass e × IsNew e a b p
 
+-- r is the record of the entry n, to which this CPU refers
+abbrev pub IsRead : CpuView → ℕ → Record → Type 0
+IsRead x n r = (e : Entry) × Contains x.references e × IsAttached x.pass e × (e.number ≡ n) × (r ≡ e.rec)
+
 -- Where a call may be made
 
 -- the CPU refers to the entry n, which is in the slot t
@@ -49,6 +54,7 @@ pub record IsHeldAt (x : CpuView) (t n : ℕ) : Type 0 where
   pub entry : Entry
   pub at : IsAt entry t n
   pub held : Contains x.references entry
+  pub attached : IsAttached x.pass entry
   pub few : t < 32
 
 -- the CPU found the entry n of the slot t last, or refers to it

@@ -14,7 +14,10 @@ use passive_list::{Cpu, Place};
 pub fn held<D: Domain>(cpu: &Cpu<D>, psref: &Psref) -> bool
     ensures { IsTrue result ↔ 0 < references_to psref.now.number cpu.now.view.references }
 {
-    slot_of(cpu, psref.number).is_some()
+    match slot_of(cpu, psref.number) {
+        Some(_) => true,
+        None => false,
+    }
 }
 
 /// The slot of the entry that the reference is to, or why this CPU may not use it.

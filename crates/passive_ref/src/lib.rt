@@ -9,7 +9,9 @@
 mod acquiring;
 mod holding;
 mod psref;
+mod reading;
 
 pub use acquiring::{acquire, copy, release};
 pub use holding::held;
 pub use psref::Psref;
+pub use reading::read;
