@@ -1,5 +1,5 @@
 -- What a CPU's places say of its references: where the entry of a number is, and how many references are to it.
-use Rattle.std.proofs.Common.{◌≡◌, ◌≢◌, ◌⊎◌, ⊎_elim, ℕ, ◌+◌, ◌<◌, List, [], ◌∷◌, length, get_or, Bool, true, false, Option, Some, None, nat_lt, ◌==◌, ◌&&◌, refl, sym, ap, ◌∙◌, subst, arith}
+use Rattle.std.proofs.Common.{◌≡◌, ◌≢◌, ◌⊎◌, ⊎_elim, ℕ, ◌<◌, List, [], ◌∷◌, true, false, Some, None, nat_lt, ◌==◌, refl, sym, ap, ◌∙◌, arith}
 use Rattle.std.proofs.lemmas.Bool.{eq-eqb, eqb-true, lt-ltb, ltb-true, ltb-false, cases_Bool, and_parts}
 use Rattle.std.proofs.lemmas.Option.{none-some}
 use Rattle.std.proofs.lemmas.List.Quantifiers.{position-Some}
@@ -15,7 +15,7 @@ use Rattle.cpu_words.specs.Passives.{IsAt}
 use Rattle.cpu_words.proofs.ReferenceLists.{to_other, in_rest, counts}
 use Rattle.passive_list.specs.declared.place.Place.{Place}
 use Rattle.passive_list.specs.Cpus.{no_place, place_at, PassiveAgree}
-use Rattle.passive_ref.specs.Psrefs.{IsHeldAt, MayRefer, counts_for}
+use Rattle.passive_ref.specs.Psrefs.{IsHeldAt, counts_for}
 
 -- an entry of the list
 pub record Among (n : ℕ) (es : List Entry) : Type 0 where

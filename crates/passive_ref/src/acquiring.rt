@@ -28,11 +28,7 @@ pub fn acquire<D: Domain>(words: &Words, cpu: &mut Cpu<D>) -> Result<Psref, Refu
 /// Acquires a second reference on the first one's CPU, to the same entry; each is released by itself (psref(9)). It needs no section.
 /// Refused, in this order, and nothing has changed: `WrongCpu` where the reference names another CPU; `NotHeld` where this CPU holds no
 /// passive reference to that number; `PassiveFull` where it has `passive_limit` of them.
-pub fn copy<D: Domain>(
-    words: &Words,
-    cpu: &mut Cpu<D>,
-    psref: &Psref,
-) -> Result<Psref, Refusal>
+pub fn copy<D: Domain>(words: &Words, cpu: &mut Cpu<D>, psref: &Psref) -> Result<Psref, Refusal>
     requires words { (words.now.table ≡ D.table) × (words.now.settings ≡ D.settings) }
     ensures answer { Answers (why_not_copied cpu.old.view psref.now.number (why_unusable cpu.old.view psref.now)) (IsCopied psref.now.number cpu.old cpu.new) result }
     ensures refused { IfErr result (λ _. cpu.new ≡ cpu.old) }
@@ -64,12 +60,7 @@ pub fn release<D: Domain>(
 }
 
 /// Adds one reference to an entry that this CPU found last or refers to, unless it has as many as it may.
-fn add<D: Domain>(
-    words: &Words,
-    cpu: &mut Cpu<D>,
-    slot: u8,
-    number: u64,
-) -> Result<Psref, Refusal>
+fn add<D: Domain>(words: &Words, cpu: &mut Cpu<D>, slot: u8, number: u64) -> Result<Psref, Refusal>
     requires words { (words.now.table ≡ D.table) × (words.now.settings ≡ D.settings) }
     requires known { MayRefer cpu.old.view slot number }
     ensures answer { Answers (why_full cpu.old.view number) (IsAdded slot number cpu.old cpu.new) result }

@@ -18,11 +18,7 @@ use passive_list::Cpu;
 /// changes nothing.
 /// Refused, in this order: `WrongCpu` where the reference names another CPU; `NotHeld` where this CPU holds no passive reference to that
 /// number.
-pub fn read<D: Domain>(
-    words: &Words,
-    cpu: &mut Cpu<D>,
-    psref: &Psref,
-) -> Result<Record, Refusal>
+pub fn read<D: Domain>(words: &Words, cpu: &mut Cpu<D>, psref: &Psref) -> Result<Record, Refusal>
     requires words { (words.now.table ≡ D.table) × (words.now.settings ≡ D.settings) }
     ensures answer { Answers (why_unusable cpu.old.view psref.now) (IsRead cpu.old.view psref.now.number) result }
     ensures same { cpu.new ≡ cpu.old }
@@ -62,11 +58,7 @@ fn record_from(kind: u64, high: u64, low: u64, value: u64) -> Record
     requires { are_name_words high low ≡ true }
     ensures { (r : Record) → kind ≡ kind_word r.kind → high ≡ r.name.high → low ≡ r.name.low → value ≡ r.value → result ≡ r }
 {
-    let kind = if kind == 1 {
-        Kind::Iface
-    } else {
-        Kind::Driver
-    };
+    let kind = if kind == 1 { Kind::Iface } else { Kind::Driver };
     match Name::from_words(high, low) {
         Some(name) => Record { kind, name, value },
         None => unreachable!(),

@@ -1,5 +1,5 @@
 -- The last found entry is in the pass.
-use Rattle.std.proofs.Common.{◌≡◌, ◌∙◌, inl, refl, sym, subst}
+use Rattle.std.proofs.Common.{◌∙◌, inl, refl, sym, subst}
 use Rattle.passive_list.specs.Cpus.{OnCpu}
 use Rattle.passive_ref.specs.Psrefs.{MayRefer}
 use Rattle.passive_ref.proofs.acquiring.acquire.Goals as goal

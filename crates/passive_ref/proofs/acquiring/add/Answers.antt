@@ -1,5 +1,5 @@
 -- The data agree with the view as a reference is added.
-use Rattle.std.proofs.Common.{◌≡◌, ◌∙◌, sym, ap}
+use Rattle.std.proofs.Common.{◌∙◌, sym, ap}
 use Rattle.passive_list.specs.Cpus.{OnCpu}
 use Rattle.cpu_words.specs.Views.{references_to}
 use Rattle.passive_ref.proofs.Changing.{added_agrees}

@@ -1,6 +1,5 @@
 -- The data agree with the view as a reference is taken away.
-use Rattle.std.proofs.Common.{◌≡◌, sym, subst}
-use Rattle.std.specs.List.{Contains}
+use Rattle.std.proofs.Common.{sym, subst}
 use Rattle.passive_list.specs.Cpus.{OnCpu}
 use Rattle.passive_ref.specs.Psrefs.{IsHeldAt}
 use Rattle.passive_ref.proofs.Changing.{less_agrees}

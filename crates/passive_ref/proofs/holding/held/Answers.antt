@@ -1,5 +1,5 @@
 -- Where no place counts for the number there is no reference to it.
-use Rattle.std.proofs.Common.{◌≡◌, ◌<◌, IsTrue, false, refl, sym, ap, ◌∙◌, arith}
+use Rattle.std.proofs.Common.{◌≡◌, IsTrue, false, refl, sym, ap, ◌∙◌, arith}
 use Rattle.cpu_words.specs.Views.{references_to}
 use Rattle.passive_ref.specs.Psrefs.{OnPsref}
 use Rattle.passive_ref.proofs.holding.held.Goals as goal
