@@ -337,6 +337,7 @@ load_at z x e k idle among few s r i at fits =
                 let one_slot : e.slot ≡ f.slot = slot ∙ sym at_.slot in
                 stands ∙ (λ h. word (row_at g.rows (one_slot h)) (same_word h)) ∙ row_word g f j r.good its.here,
             alone g x e t n r.good had known slot number,
+            λ f at_ held_. (r.good.holds.rows f.slot f (held_known g x f r.good had held_).here).1,
           ),
     )
 

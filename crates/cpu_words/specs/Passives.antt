@@ -1,11 +1,12 @@
 -- Passive references by a CPU's seat: where it may make the step, and what changes in its view.
-use Rattle.std.specs.Prelude.{◌≡◌, ◌⊎◌, ℕ, ◌+◌, ◌*◌, ◌<◌, ◌∷◌, Some}
+use Rattle.std.specs.Prelude.{◌≡◌, ◌⊎◌, ℕ, ◌+◌, ◌*◌, ◌<◌, ◌∷◌, Some, true}
 use Rattle.std.specs.List.{Contains}
 use Rattle.passive_core.specs.declared.entry.Entry.{Entry}
 use Rattle.passive_core.specs.declared.event.Event.{Event}
 use Rattle.passive_core.specs.declared.event.Event.TheVariants.{PassiveAdd, PassiveSub, LoadRecord}
 use Rattle.passive_core.specs.declared.event.RecordOf.TheVariants.{Passive}
 use Rattle.passive_core.specs.declared.event.Reply.TheVariants.{Word}
+use Rattle.passive_core.specs.Names.{are_name_words}
 use Rattle.passive_core.specs.History.{IsAttached}
 use Rattle.passive_core.specs.Events.{word, words_of}
 use Rattle.cpu_words.specs.declared.view.CpuView.{CpuView}
@@ -46,6 +47,10 @@ HasSubtracted x n y = y ≡ record x { references = without n x.references }
 abbrev pub IsWordOf : CpuView → ℕ → ℕ → ℕ → ℕ → Type 0
 IsWordOf x t n k m = (e : Entry) → IsAt e t n → Contains x.references e → m ≡ word (words_of e) k
 
+-- the entry n in the slot t, to which the CPU refers, has a lawful name
+abbrev pub IsNamed : CpuView → ℕ → ℕ → Type 0
+IsNamed x t n = (e : Entry) → IsAt e t n → Contains x.references e → are_name_words e.rec.name.high e.rec.name.low ≡ true
+
 -- the CPU's references into the slot t are to the entry n alone
 abbrev pub IsAloneAt : CpuView → ℕ → ℕ → Type 0
 IsAloneAt x t n = (f : Entry) → Contains x.references f → f.slot ≡ t → f.number ≡ n
@@ -62,4 +67,4 @@ tells_subtracted event i x m y = Makes event (Word m) (Cpu x) (Cpu y)
 
 abbrev pub tells_passive : Event → ℕ → CpuView → ℕ → CpuView → Type 0
 tells_passive event i x m y = Makes event (Word m) (Cpu x) (Cpu y)
-    × (y ≡ x) × ((c t n k : ℕ) → event ≡ LoadRecord (Passive c n k) → i ≡ 657 + 8 * t + k → IsWordOf x t n k m × IsAloneAt x t n)
+    × (y ≡ x) × ((c t n k : ℕ) → event ≡ LoadRecord (Passive c n k) → i ≡ 657 + 8 * t + k → IsWordOf x t n k m × IsAloneAt x t n × IsNamed x t n)

@@ -26,8 +26,11 @@ use Rattle.passive_list.specs.Cpus.{no_place, place_at, PassiveAgree, NetAgree, 
 blank_number : (t : ℕ) → (place_at (replicate 32 no_place) t).number ≡ 0
 blank_number t = ap (λ (p : Place). p.number) (get_or_all 32 no_place t)
 
+blank_count : (t : ℕ) → (place_at (replicate 32 no_place) t).count ≡ 0
+blank_count t = ap (λ (p : Place). p.count) (get_or_all 32 no_place t)
+
 new_passive : (a : Settings) (c : ℕ) → PassiveAgree (new_cpu a c) (replicate 32 no_place)
-new_passive a c = record { size = refl; counts = λ t some. absurd (some (blank_number t)); each = λ e there. absurd (omega (arith, there.1)) }
+new_passive a c = record { size = refl; counts = λ t. blank_count t; placed = λ t some. absurd (some (blank_number t)); each = λ e there. absurd (omega (arith, there.1)) }
 
 new_net : (a : Settings) (c : ℕ) → NetAgree (new_cpu a c) (replicate 32 no_place)
 new_net a c = record { size = refl; met = λ t. blank_number t; counts = λ t some. absurd (some (blank_number t)) }
@@ -58,7 +61,8 @@ new_agrees z a t c table fit few = record {
 pub passive_longer : (x y : CpuView) (l : List Place) → y.references ≡ x.references → IsPrefix x.pass y.pass → PassiveAgree x l → PassiveAgree y l
 passive_longer x y l same longer agree = record {
   size = agree.size;
-  counts = λ t some. agree.counts t some ∙ ap (λ es. references_to (place_at l t).number es) (sym same);
+  counts = λ t. agree.counts t ∙ ap (λ es. references_to (place_at l t).number es) (sym same);
+  placed = λ t some. let old = agree.placed t some in record { entry = old.entry; attached = attached_prefix x.pass y.pass old.entry longer old.attached; slot = old.slot; number = old.number };
   each = λ e there.
     let old = agree.each e (subst (λ es. Contains es e) same there) in
     (old.0, attached_prefix x.pass y.pass e longer old.1, old.2, old.3);

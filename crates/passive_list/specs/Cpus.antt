@@ -3,6 +3,7 @@ use Rattle.std.specs.Prelude.{◌≡◌, ◌≢◌, ◌↔◌, ℕ, ◌+◌, ◌
 use Rattle.std.specs.List.{Contains}
 use Rattle.atomic_table.specs.Seated.{TableId}
 use Rattle.passive_core.specs.declared.entry.Entry.{Entry}
+use Rattle.passive_core.specs.declared.entry.Change.{Change}
 use Rattle.passive_core.specs.declared.settings.Settings.{Settings}
 use Rattle.passive_core.specs.Limits.{are_fit}
 use Rattle.passive_core.specs.History.{IsAttached}
@@ -23,10 +24,18 @@ no_place = record { number = 0; count = 0 }
 abbrev pub place_at : List Place → ℕ → Place
 place_at places t = slice_index_or places t no_place
 
+-- the place has the number of an entry of the pass, which was attached in that slot
+pub record IsPlaceOf (h : List Change) (t n : ℕ) : Type 0 where
+  pub entry : Entry
+  pub attached : IsAttached h entry
+  pub slot : entry.slot ≡ t
+  pub number : entry.number ≡ n
+
 -- the places of a CPU's passive references: each reference is counted at its entry's slot
 pub record PassiveAgree (x : CpuView) (places : List Place) : Type 0 where
   pub size : length places ≡ 32
-  pub counts : (t : ℕ) → (place_at places t).number ≢ 0 → (place_at places t).count ≡ references_to (place_at places t).number x.references
+  pub counts : (t : ℕ) → (place_at places t).count ≡ references_to (place_at places t).number x.references
+  pub placed : (t : ℕ) → (place_at places t).number ≢ 0 → IsPlaceOf x.pass t (place_at places t).number
   pub each : (e : Entry) → Contains x.references e → (e.slot < 32) × IsAttached x.pass e × ((place_at places e.slot).number ≡ e.number) × (0 < e.number)
 
 -- the places of its net counts: each is for the number that the CPU met last in that slot

@@ -7,7 +7,7 @@ ghost use Rattle.passive_core.specs.declared.event.Reply.TheVariants.{Word};
 ghost use Rattle.cpu_words.specs.declared.view.View.TheVariants.{Cpu};
 ghost use Rattle.cpu_words.specs.Views.{references_to};
 ghost use Rattle.cpu_words.specs.Steps.{Makes};
-ghost use Rattle.cpu_words.specs.Passives.{MayAdd, MayUse, HasAdded, HasSubtracted, IsWordOf, IsAloneAt};
+ghost use Rattle.cpu_words.specs.Passives.{MayAdd, MayUse, HasAdded, HasSubtracted, IsWordOf, IsAloneAt, IsNamed};
 
 use crate::law::Words;
 use crate::seat::CpuSeat;
@@ -52,7 +52,7 @@ pub fn passive_sub(words: &Words, seat: &mut CpuSeat, cpu: u8, slot: u8, number:
 }
 
 /// CPU `cpu` loads word `k` of the record of the entry `number` in slot `slot` by its passive reference: 0 is the number, 1 the kind,
-/// 2 and 3 the name's high and low words, 4 the value.
+/// 2 and 3 the name's high and low words, which are those of a name, 4 the value.
 /// Condition: the seat is that CPU's and idle, and has such a reference; the slot is below 32, as `passive_add` ensures, and `k`
 /// below 5.
 pub fn load_passive(words: &Words, seat: &mut CpuSeat, cpu: u8, slot: u8, number: u64, k: u8) -> u64
@@ -65,6 +65,7 @@ pub fn load_passive(words: &Words, seat: &mut CpuSeat, cpu: u8, slot: u8, number
     ensures same { seat.new.view ≡ seat.old.view }
     ensures word { IsWordOf seat.old.view slot number k result }
     ensures alone { IsAloneAt seat.old.view slot number }
+    ensures name { IsNamed seat.old.view slot number }
 {
     let word = 657 + 8 * slot as usize + k as usize;
     let event = Event::LoadRecord(RecordOf::Passive(cpu, number, k));

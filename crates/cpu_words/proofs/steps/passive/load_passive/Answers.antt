@@ -10,3 +10,6 @@ returns-clause-word c = (c.load.ensures.told.2 c.args.cpu c.args.slot c.args.num
 
 pub returns-clause-alone : goal.returns-clause-alone
 returns-clause-alone c = (c.load.ensures.told.2 c.args.cpu c.args.slot c.args.number c.args.k refl refl).1
+
+pub returns-clause-name : goal.returns-clause-name
+returns-clause-name c = (c.load.ensures.told.2 c.args.cpu c.args.slot c.args.number c.args.k refl refl).2

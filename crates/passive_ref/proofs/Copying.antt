@@ -1,0 +1,34 @@
+-- A reference that was added is to the entry that was known.
+use Rattle.std.proofs.Common.{◌≡◌, ℕ, Option, Some, None, refl, sym, ◌∙◌, subst}
+use Rattle.std.specs.Prelude.{Result, Ok, Err}
+use Rattle.passive_core.specs.declared.entry.Entry.{Entry}
+use Rattle.passive_core.specs.declared.refusal.Refusal.{Refusal}
+use Rattle.passive_core.specs.Passives.{Answers}
+use Rattle.passive_core.specs.History.{IsAttached}
+use Rattle.passive_core.proofs.History.{one_entry}
+use Rattle.passive_list.specs.Cpus.{OnCpu}
+use Rattle.passive_ref.specs.Psrefs.{OnPsref, IsAdded, IsNew, IsAcquired, IsCopied, IsHeldAt, why_full, why_not_acquired, why_not_copied}
+
+-- it is a new reference to that entry
+new_of : (n t : ℕ) (e : Entry) (a b : OnCpu) (p : OnPsref) → IsAttached a.view.pass e → e.number ≡ n → IsAdded t n a b p → IsNew e a b p
+new_of n t e a b p attached number added =
+    let one : added.0 ≡ e = one_entry a.view.pass added.0 e added.2 attached (added.1.number ∙ sym number) in
+    subst (λ (f : Entry). IsNew f a b p) one added.3
+
+-- of a copy
+pub copied : (n t : ℕ) (a b : OnCpu) (why : Option Refusal) (r : Result OnPsref Refusal) → why ≡ None → IsHeldAt a.view t n → Answers (why_full a.view n) (IsAdded t n a b) r
+    → Answers (why_not_copied a.view n why) (IsCopied n a b) r
+copied n t a b why r none held answer = subst (λ (w : Option Refusal). Answers (why_not_copied a.view n w) (IsCopied n a b) r) (sym none) (with_answer r answer)
+  where
+    with_answer : (s : Result OnPsref Refusal) → Answers (why_full a.view n) (IsAdded t n a b) s → Answers (why_full a.view n) (IsCopied n a b) s
+    with_answer (Ok p) had = (had.0, (held.entry, held.held, held.at.number, new_of n t held.entry a b p held.attached held.at.number had.1))
+    with_answer (Err f) had = had
+
+-- of the last found entry
+pub acquired : (e : Entry) (a b : OnCpu) (r : Result OnPsref Refusal) → a.view.found ≡ Some e → IsAttached a.view.pass e → Answers (why_full a.view e.number) (IsAdded e.slot e.number a b) r
+    → Answers (why_not_acquired a.view a.view.found) (IsAcquired a b) r
+acquired e a b r found attached answer = subst (λ (o : Option Entry). Answers (why_not_acquired a.view o) (IsAcquired a b) r) (sym found) (with_answer r answer)
+  where
+    with_answer : (s : Result OnPsref Refusal) → Answers (why_full a.view e.number) (IsAdded e.slot e.number a b) s → Answers (why_full a.view e.number) (IsAcquired a b) s
+    with_answer (Ok p) had = (had.0, (e, found, new_of e.number e.slot e a b p attached refl had.1))
+    with_answer (Err f) had = had

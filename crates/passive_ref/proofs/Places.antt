@@ -1,0 +1,102 @@
+-- What a CPU's places say of its references: where the entry of a number is, and how many references are to it.
+use Rattle.std.proofs.Common.{◌≡◌, ◌≢◌, ◌⊎◌, ⊎_elim, ℕ, ◌<◌, List, [], ◌∷◌, true, false, Some, None, nat_lt, ◌==◌, refl, sym, ap, ◌∙◌, arith}
+use Rattle.std.proofs.lemmas.Bool.{eq-eqb, eqb-true, lt-ltb, ltb-true, ltb-false, cases_Bool, and_parts}
+use Rattle.std.proofs.lemmas.Option.{none-some}
+use Rattle.std.proofs.lemmas.List.Quantifiers.{position-Some}
+use Rattle.std.specs.Prelude.{position}
+use Rattle.std.specs.List.{Contains}
+use Rattle.passive_core.specs.declared.entry.Entry.{Entry}
+use Rattle.passive_core.specs.History.{IsAttached}
+use Rattle.passive_core.proofs.History.{one_entry, at_within}
+use Rattle.passive_core.proofs.Numbers.{position_passes}
+use Rattle.cpu_words.specs.declared.view.CpuView.{CpuView}
+use Rattle.cpu_words.specs.Views.{is_to, references_to}
+use Rattle.cpu_words.specs.Passives.{IsAt}
+use Rattle.cpu_words.proofs.ReferenceLists.{to_other, in_rest, counts}
+use Rattle.passive_list.specs.declared.place.Place.{Place}
+use Rattle.passive_list.specs.Cpus.{no_place, place_at, PassiveAgree}
+use Rattle.passive_ref.specs.Psrefs.{IsHeldAt, counts_for}
+
+-- an entry of the list
+pub record Among (n : ℕ) (es : List Entry) : Type 0 where
+  pub entry : Entry
+  pub among : Contains es entry
+  pub number : entry.number ≡ n
+
+-- where there are references to n, one is in the list
+pub some_of : (n : ℕ) (es : List Entry) → 0 < references_to n es → Among n es
+some_of n [] some = absurd (omega (arith, some))
+some_of n (e ∷ es) some = ⊎_elim
+    (λ (test : is_to n e ≡ true). record { entry = e; among = (0, omega arith, refl); number = eqb-true e.number n test })
+    (λ (test : is_to n e ≡ false).
+    let less = to_other n e es (λ (same : e.number ≡ n). let is : is_to n e ≡ true = eq-eqb e.number n same in cc) in
+    let rest = some_of n es (omega (arith, some, less)) in
+    record { entry = rest.entry; among = in_rest e rest.entry es rest.among; number = rest.number })
+    (cases_Bool (is_to n e))
+
+-- an entry of the pass with the number of a place was attached in its slot
+pub place_of : (x : CpuView) (ps : List Place) (t : ℕ) (e : Entry) → PassiveAgree x ps → IsAttached x.pass e → (place_at ps t).number ≡ e.number → e.slot ≡ t
+place_of x ps t e agree attached same =
+    let above = (at_within x.pass e.number _ attached).0 in
+    let here = agree.placed t (λ (none : (place_at ps t).number ≡ 0). absurd (omega (arith, same, none, above))) in
+    let one : e ≡ here.entry = one_entry x.pass e here.entry attached here.attached (sym same ∙ sym here.number) in
+    ap (λ (f : Entry). f.slot) one ∙ here.slot
+
+-- a place that counts for n is the slot of an entry that the CPU refers to
+pub held_at : (x : CpuView) (ps : List Place) (n t : ℕ) → PassiveAgree x ps → t < 32 → (place_at ps t).number ≡ n → 0 < (place_at ps t).count → IsHeldAt x t n
+held_at x ps n t agree few number some =
+    let count = agree.counts t ∙ ap (λ k. references_to k x.references) number in
+    let one = some_of n x.references (omega (arith, some, count)) in
+    let attached = (agree.each one.entry one.among).1 in
+    record { entry = one.entry; at = record { slot = place_of x ps t one.entry agree attached (number ∙ sym one.number); number = one.number }; held = one.among; attached = attached; few = few }
+
+-- the first place that counts for n
+pub held_here : (x : CpuView) (ps : List Place) (n t : ℕ) → PassiveAgree x ps → position (counts_for n) ps ≡ Some t → IsHeldAt x t n
+held_here x ps n t agree is =
+    let at = position-Some (counts_for n) ps t no_place is in
+    let both = and_parts ((place_at ps t).number == n) (nat_lt 0 (place_at ps t).count) at.1 in
+    let size = agree.size in
+    held_at x ps n t agree (omega (arith, at.0, size))
+    (eqb-true (place_at ps t).number n both.0)
+    (ltb-true 0 (place_at ps t).count both.1)
+
+-- where no place counts for n, the CPU has no reference to it
+pub none_here : (x : CpuView) (ps : List Place) (n : ℕ) → PassiveAgree x ps → position (counts_for n) ps ≡ None → references_to n x.references ≡ 0
+none_here x ps n agree is = ⊎_elim
+    (λ (some : nat_lt 0 (references_to n x.references) ≡ true).
+    let one = some_of n x.references (ltb-true 0 (references_to n x.references) some) in
+    let its = agree.each one.entry one.among in
+    let t = one.entry.slot in
+    let size = agree.size in
+    let number : (place_at ps t).number ≡ n = its.2 ∙ one.number in
+    let more : 0 < references_to n x.references = ltb-true 0 (references_to n x.references) some in
+    let count = agree.counts t ∙ ap (λ k. references_to k x.references) number in
+    let counted : 0 < (place_at ps t).count = omega (arith, count, more) in
+    let test : counts_for n (place_at ps t) ≡ true = rw (eq-eqb (place_at ps t).number n number, lt-ltb 0 (place_at ps t).count counted) refl in
+    let found = position_passes (counts_for n) ps t no_place (omega (arith, its.0, size)) test in
+    absurd (none-some found.0 (sym is ∙ found.1)))
+    (λ (none : nat_lt 0 (references_to n x.references) ≡ false). let few = ltb-false 0 (references_to n x.references) none in omega (arith, few))
+    (cases_Bool (nat_lt 0 (references_to n x.references)))
+
+-- an entry that the CPU found last or refers to is in the pass
+pub known_attached : (x : CpuView) (ps : List Place) (e : Entry) → PassiveAgree x ps → ((f : Entry) → x.found ≡ Some f → IsAttached x.pass f) → (x.found ≡ Some e) ⊎ Contains x.references e → IsAttached x.pass e
+known_attached x ps e agree seen known = ⊎_elim (λ (found : x.found ≡ Some e). seen e found) (λ (among : Contains x.references e). (agree.each e among).1) known
+
+-- the place of such an entry's slot counts its references, or is another's, and it has none
+pub counted_here : (x : CpuView) (ps : List Place) (t n : ℕ) → PassiveAgree x ps → (place_at ps t).number ≡ n → (place_at ps t).count ≡ references_to n x.references
+counted_here x ps t n agree number = agree.counts t ∙ ap (λ k. references_to k x.references) number
+
+pub uncounted_here : (x : CpuView) (ps : List Place) (t n : ℕ) (e : Entry) → PassiveAgree x ps → IsAt e t n → IsAttached x.pass e → (place_at ps t).number ≢ n → references_to n x.references ≡ 0
+uncounted_here x ps t n e agree at attached off = ⊎_elim
+    (λ (some : nat_lt 0 (references_to n x.references) ≡ true).
+    let one = some_of n x.references (ltb-true 0 (references_to n x.references) some) in
+    let its = agree.each one.entry one.among in
+    let same : one.entry ≡ e = one_entry x.pass one.entry e its.1 attached (one.number ∙ sym at.number) in
+    let slot : one.entry.slot ≡ t = ap (λ (f : Entry). f.slot) same ∙ at.slot in
+    absurd (off (sym (ap (λ u. (place_at ps u).number) slot) ∙ its.2 ∙ one.number)))
+    (λ (none : nat_lt 0 (references_to n x.references) ≡ false). let few = ltb-false 0 (references_to n x.references) none in omega (arith, few))
+    (cases_Bool (nat_lt 0 (references_to n x.references)))
+
+-- what the CPU refers to has references
+pub held_some : (x : CpuView) (n t : ℕ) → IsHeldAt x t n → 0 < references_to n x.references
+held_some x n t held = counts x.references held.entry n held.held held.at.number

@@ -1,0 +1,94 @@
+-- Passive references of a CPU (psref(9)): why a call is refused, and what it answers and leaves.
+use Rattle.std.specs.Prelude.{◌≡◌, ◌⊎◌, ℕ, ◌<◌, ◌==◌, ◌&&◌, nat_lt, Bool, if◌then◌else◌, ◌∷◌, Option, Some, None, Result, Ok, Err}
+use Rattle.std.specs.List.{Contains}
+use Rattle.passive_core.specs.declared.entry.Entry.{Entry}
+use Rattle.passive_core.specs.declared.entry.Record.{Record}
+use Rattle.passive_core.specs.declared.refusal.Refusal.{Refusal}
+use Rattle.passive_core.specs.declared.refusal.Refusal.TheVariants.{NothingFound, PassiveFull, WrongCpu, NotHeld}
+use Rattle.passive_core.specs.History.{IsAttached}
+use Rattle.cpu_words.specs.declared.view.CpuView.{CpuView}
+use Rattle.cpu_words.specs.Views.{references_to, without}
+use Rattle.cpu_words.specs.Passives.{IsAt}
+use Rattle.passive_list.specs.declared.place.Place.{Place}
+use Rattle.passive_list.specs.Cpus.{OnCpu}
+
+-- a passive reference, to a contract: the CPU that it was acquired on, and the number of its entry
+pub record OnPsref : Type 0 where
+  pub cpu : ℕ
+  pub number : ℕ
+
+-- one reference more, to the entry e, and nothing else changes
+abbrev pub HasOneMore : Entry → OnCpu → OnCpu → Type 0
+HasOneMore e a b = b ≡ record { view = record a.view { references = e ∷ a.view.references }; depth = a.depth }
+
+-- one reference to n less, and nothing else changes
+abbrev pub HasOneLess : ℕ → OnCpu → OnCpu → Type 0
+HasOneLess n a b = b ≡ record { view = record a.view { references = without n a.view.references }; depth = a.depth }
+
+-- p is a new reference of this CPU, to the entry e
+pub record IsNew (e : Entry) (a b : OnCpu) (p : OnPsref) : Type 0 where
+  pub cpu : p.cpu ≡ a.view.id
+  pub number : p.number ≡ e.number
+  pub after : HasOneMore e a b
+
+-- it is to the last found entry
+abbrev pub IsAcquired : OnCpu → OnCpu → OnPsref → Type 0
+IsAcquired a b p = (e : Entry) × (a.view.found ≡ Some e) × IsNew e a b p
+
+-- it is to the entry n, to which this CPU has a reference
+abbrev pub IsCopied : ℕ → OnCpu → OnCpu → OnPsref → Type 0
+IsCopied n a b p = (e : Entry) × Contains a.view.references e × (e.number ≡ n) × IsNew e a b p
+
+-- it is to the entry n of the slot t, which is in the pass
+abbrev pub IsAdded : ℕ → ℕ → OnCpu → OnCpu → OnPsref → Type 0
+IsAdded t n a b p = (e : Entry) × IsAt e t n × IsAttached a.view.pass e × IsNew e a b p
+
+-- r is the record of the entry n, to which this CPU refers
+abbrev pub IsRead : CpuView → ℕ → Record → Type 0
+IsRead x n r = (e : Entry) × Contains x.references e × IsAttached x.pass e × (e.number ≡ n) × (r ≡ e.rec)
+
+-- Where a call may be made
+
+-- the CPU refers to the entry n, which is in the slot t
+pub record IsHeldAt (x : CpuView) (t n : ℕ) : Type 0 where
+  pub entry : Entry
+  pub at : IsAt entry t n
+  pub held : Contains x.references entry
+  pub attached : IsAttached x.pass entry
+  pub few : t < 32
+
+-- the CPU found the entry n of the slot t last, or refers to it
+pub record MayRefer (x : CpuView) (t n : ℕ) : Type 0 where
+  pub entry : Entry
+  pub at : IsAt entry t n
+  pub known : (x.found ≡ Some entry) ⊎ Contains x.references entry
+  pub few : t < 32
+
+-- the place counts references to n
+abbrev pub counts_for : ℕ → Place → Bool
+counts_for n p = p.number == n && nat_lt 0 p.count
+
+-- Why a call is refused: nothing where it isn't
+
+-- the CPU has as many references to n as it may
+abbrev pub why_full : CpuView → ℕ → Option Refusal
+why_full x n = if nat_lt (references_to n x.references) x.settings.passive_limit then None else Some PassiveFull
+
+-- the CPU may not use the reference: it names another CPU, or this CPU has none to that number
+abbrev pub why_unusable : CpuView → OnPsref → Option Refusal
+why_unusable x p = if p.cpu == x.id then (if nat_lt 0 (references_to p.number x.references) then None else Some NotHeld) else Some WrongCpu
+
+-- of a reference to the last found entry
+abbrev pub why_not_acquired : CpuView → Option Entry → Option Refusal
+why_not_acquired x None = Some NothingFound
+why_not_acquired x (Some e) = why_full x e.number
+
+-- of a second reference to n, where the first may be used or not
+abbrev pub why_not_copied : CpuView → ℕ → Option Refusal → Option Refusal
+why_not_copied x n None = why_full x n
+why_not_copied x n (Some f) = Some f
+
+-- the answer of a call that is refused just where there is a refusal, and gives the reference p back with it, as it was
+abbrev pub GivesBack : {X : Type 0} → Option Refusal → OnPsref → (X → Type 0) → Result X (Refusal × OnPsref) → Type 0
+GivesBack why p P (Ok x) = (why ≡ None) × P x
+GivesBack why p P (Err r) = (why ≡ Some r.0) × (r.1 ≡ p)

@@ -1,0 +1,92 @@
+//! Passive references (psref(9)): acquired, copied and released on one CPU, by one step each on a word of its own.
+
+ghost use Rattle.std.specs.Prelude.{◌≡◌, ◌<◌, IfErr};
+ghost use Rattle.passive_core.specs.Passives.{Answers};
+ghost use Rattle.passive_ref.specs.Psrefs.{MayRefer, IsHeldAt, IsAcquired, IsCopied, IsAdded, HasOneLess, GivesBack, why_full, why_unusable, why_not_acquired, why_not_copied};
+
+use crate::holding::{count_of, usable_slot};
+use crate::psref::Psref;
+use cpu_words::{Domain, Words, steps};
+use passive_core::Refusal;
+use passive_list::{Cpu, Place};
+
+/// Acquires a passive reference to this CPU's last found entry (psref(9)). It outlives the section, and the entry keeps its slot until
+/// it is released.
+/// Refused, in this order, and nothing has changed: `NothingFound` where this CPU has no last found entry; `PassiveFull` where it has
+/// `passive_limit` references to that entry.
+pub fn acquire<D: Domain>(words: &Words, cpu: &mut Cpu<D>) -> Result<Psref, Refusal>
+    requires words { (words.now.table ≡ D.table) × (words.now.settings ≡ D.settings) }
+    ensures answer { Answers (why_not_acquired cpu.old.view cpu.old.view.found) (IsAcquired cpu.old cpu.new) result }
+    ensures refused { IfErr result (λ _. cpu.new ≡ cpu.old) }
+{
+    let Some(found) = cpu.found else {
+        return Err(Refusal::NothingFound);
+    };
+    add(words, cpu, found.slot, found.number)
+}
+
+/// Acquires a second reference on the first one's CPU, to the same entry; each is released by itself (psref(9)). It needs no section.
+/// Refused, in this order, and nothing has changed: `WrongCpu` where the reference names another CPU; `NotHeld` where this CPU holds no
+/// passive reference to that number; `PassiveFull` where it has `passive_limit` of them.
+pub fn copy<D: Domain>(words: &Words, cpu: &mut Cpu<D>, psref: &Psref) -> Result<Psref, Refusal>
+    requires words { (words.now.table ≡ D.table) × (words.now.settings ≡ D.settings) }
+    ensures answer { Answers (why_not_copied cpu.old.view psref.now.number (why_unusable cpu.old.view psref.now)) (IsCopied psref.now.number cpu.old cpu.new) result }
+    ensures refused { IfErr result (λ _. cpu.new ≡ cpu.old) }
+{
+    let slot = usable_slot(cpu, psref)?;
+    add(words, cpu, slot, psref.number)
+}
+
+/// Releases a passive reference, on the CPU that it was acquired on (psref(9)). It needs no section.
+/// Refused, in this order, and nothing has changed: `WrongCpu` where the reference names another CPU; `NotHeld` where this CPU holds no
+/// passive reference to that number. The reference comes back with the refusal.
+pub fn release<D: Domain>(
+    words: &Words,
+    cpu: &mut Cpu<D>,
+    psref: Psref,
+) -> Result<(), (Refusal, Psref)>
+    requires words { (words.now.table ≡ D.table) × (words.now.settings ≡ D.settings) }
+    ensures answer { GivesBack (why_unusable cpu.old.view psref) psref (λ _. HasOneLess psref.number cpu.old cpu.new) result }
+    ensures refused { IfErr result (λ _. cpu.new ≡ cpu.old) }
+{
+    match usable_slot(cpu, &psref) {
+        Ok(slot) => {
+            subtract(words, cpu, slot, psref.number);
+            psref.forget();
+            Ok(())
+        }
+        Err(refusal) => Err((refusal, psref)),
+    }
+}
+
+/// Adds one reference to an entry that this CPU found last or refers to, unless it has as many as it may.
+fn add<D: Domain>(words: &Words, cpu: &mut Cpu<D>, slot: u8, number: u64) -> Result<Psref, Refusal>
+    requires words { (words.now.table ≡ D.table) × (words.now.settings ≡ D.settings) }
+    requires known { MayRefer cpu.old.view slot number }
+    ensures answer { Answers (why_full cpu.old.view number) (IsAdded slot number cpu.old cpu.new) result }
+    ensures refused { IfErr result (λ _. cpu.new ≡ cpu.old) }
+{
+    let count = count_of(cpu, slot, number);
+    if count >= words.settings().passive_limit {
+        return Err(Refusal::PassiveFull);
+    }
+    steps::passive_add(words, &mut cpu.seat, cpu.id, slot, number);
+    cpu.passive[slot as usize] = Place {
+        number,
+        count: count + 1,
+    };
+    Ok(Psref {
+        cpu: cpu.id,
+        number,
+    })
+}
+
+/// Takes away one reference, of those that this CPU has to the entry.
+fn subtract<D: Domain>(words: &Words, cpu: &mut Cpu<D>, slot: u8, number: u64)
+    requires words { (words.now.table ≡ D.table) × (words.now.settings ≡ D.settings) }
+    requires held { IsHeldAt cpu.old.view slot number }
+    ensures { HasOneLess number cpu.old cpu.new }
+{
+    steps::passive_sub(words, &mut cpu.seat, cpu.id, slot, number);
+    cpu.passive[slot as usize].count -= 1;
+}

@@ -1,0 +1,68 @@
+//! What a CPU holds: found in its own plain data, with no step.
+
+ghost use Rattle.std.specs.Prelude.{◌≡◌, ◌↔◌, ◌<◌, IsTrue, IfSome, position, length, None};
+ghost use Rattle.cpu_words.specs.Views.{references_to};
+ghost use Rattle.passive_core.specs.Passives.{Answers};
+ghost use Rattle.passive_ref.specs.Psrefs.{IsHeldAt, MayRefer, counts_for, why_unusable};
+
+use crate::psref::Psref;
+use cpu_words::Domain;
+use passive_core::Refusal;
+use passive_list::{Cpu, Place};
+
+/// Whether this CPU holds a passive reference to that number, whichever CPU the reference names (psref(9)).
+pub fn held<D: Domain>(cpu: &Cpu<D>, psref: &Psref) -> bool
+    ensures { IsTrue result ↔ 0 < references_to psref.now.number cpu.now.view.references }
+{
+    match slot_of(cpu, psref.number) {
+        Some(_) => true,
+        None => false,
+    }
+}
+
+/// The slot of the entry that the reference is to, or why this CPU may not use it.
+pub(crate) fn usable_slot<D: Domain>(cpu: &Cpu<D>, psref: &Psref) -> Result<u8, Refusal>
+    ensures { Answers (why_unusable cpu.now.view psref.now) (λ t. IsHeldAt cpu.now.view t psref.now.number) result }
+{
+    if psref.cpu != cpu.id {
+        return Err(Refusal::WrongCpu);
+    }
+    match slot_of(cpu, psref.number) {
+        Some(slot) => Ok(slot),
+        None => Err(Refusal::NotHeld),
+    }
+}
+
+/// The slot of the entry with that number, where this CPU refers to it.
+fn slot_of<D: Domain>(cpu: &Cpu<D>, number: u64) -> Option<u8>
+    ensures some { IfSome result (λ t. IsHeldAt cpu.now.view t number) }
+    ensures none { result ≡ None → references_to number cpu.now.view.references ≡ 0 }
+{
+    match place_for(number, &cpu.passive) {
+        Some(slot) => Some(slot as u8),
+        None => None,
+    }
+}
+
+/// The first place that counts for that number.
+fn place_for(number: u64, places: &[Place]) -> Option<usize>
+    ensures value { result ≡ position (counts_for number) places.now }
+    ensures within { IfSome result (λ t. t < length places.now) }
+{
+    places
+        .iter()
+        .position(|place| place.number == number && place.count > 0)
+}
+
+/// How many references this CPU has to an entry that it found last or refers to.
+pub(crate) fn count_of<D: Domain>(cpu: &Cpu<D>, slot: u8, number: u64) -> u64
+    requires { MayRefer cpu.now.view slot number }
+    ensures { result ≡ references_to number cpu.now.view.references }
+{
+    let place = cpu.passive[slot as usize];
+    if place.number == number {
+        place.count
+    } else {
+        0
+    }
+}

@@ -1,0 +1,42 @@
+//! What stands for a passive reference that is held.
+
+ghost use Rattle.std.specs.Prelude.{◌≡◌};
+
+use std::marker::Model;
+
+/// A passive reference (psref(9)), of the CPU that acquired it to one entry. It can't be dropped and can't be cloned: it is spent by
+/// `release`, or by `forget`, which leaves the reference held. It says nothing of its registry: a CPU of another one judges it by its
+/// own references to that number.
+pub struct Psref {
+    pub(crate) cpu: u8,
+    pub(crate) number: u64,
+}
+
+impl Model for Psref {
+    ghost use Rattle.passive_ref.specs.Psrefs.{OnPsref};
+
+    ghost Value = { OnPsref };
+
+    ghost view = { λ p. record { cpu = p.cpu; number = p.number } };
+}
+
+impl Psref {
+    /// The CPU, from 0, that it was acquired on, and on which it is released.
+    pub fn cpu(&self) -> u8
+        ensures { result ≡ self.now.cpu }
+    {
+        self.cpu
+    }
+
+    /// The number, from 1, of the entry that it is to.
+    pub fn number(&self) -> u64
+        ensures { result ≡ self.now.number }
+    {
+        self.number
+    }
+
+    /// Gives the value up and leaves the reference held: its CPU never releases it, and the entry keeps its slot for good.
+    pub fn forget(self) {
+        let Psref { cpu: _, number: _ } = self;
+    }
+}

@@ -1,0 +1,66 @@
+//! Reading (psref(9)): the record of an entry that this CPU refers to, by four loads.
+
+ghost use Rattle.std.specs.Prelude.{◌≡◌, ◌<◌, true};
+ghost use Rattle.passive_core.specs.declared.entry.Record.{Record};
+ghost use Rattle.passive_core.specs.Names.{are_name_words};
+ghost use Rattle.passive_core.specs.Passives.{Answers};
+ghost use Rattle.passive_core.specs.Slots.{kind_word};
+ghost use Rattle.cpu_words.specs.Passives.{IsWordOf, IsNamed};
+ghost use Rattle.passive_ref.specs.Psrefs.{IsHeldAt, IsRead, why_unusable};
+
+use crate::holding::usable_slot;
+use crate::psref::Psref;
+use cpu_words::{Domain, Words, steps};
+use passive_core::{Kind, Name, Record, Refusal};
+use passive_list::Cpu;
+
+/// The record of the entry that the reference is to, which stays while the reference is held (psref(9)). It needs no section, and
+/// changes nothing.
+/// Refused, in this order: `WrongCpu` where the reference names another CPU; `NotHeld` where this CPU holds no passive reference to that
+/// number.
+pub fn read<D: Domain>(words: &Words, cpu: &mut Cpu<D>, psref: &Psref) -> Result<Record, Refusal>
+    requires words { (words.now.table ≡ D.table) × (words.now.settings ≡ D.settings) }
+    ensures answer { Answers (why_unusable cpu.old.view psref.now) (IsRead cpu.old.view psref.now.number) result }
+    ensures same { cpu.new ≡ cpu.old }
+{
+    let slot = usable_slot(cpu, psref)?;
+    Ok(load_record(words, cpu, slot, psref.number))
+}
+
+/// Loads words 1 to 4 of the record of an entry that this CPU refers to.
+fn load_record<D: Domain>(words: &Words, cpu: &mut Cpu<D>, slot: u8, number: u64) -> Record
+    requires words { (words.now.table ≡ D.table) × (words.now.settings ≡ D.settings) }
+    requires held { IsHeldAt cpu.old.view slot number }
+    ensures record { IsRead cpu.old.view number result }
+    ensures same { cpu.new ≡ cpu.old }
+{
+    let kind = load_word(words, cpu, slot, number, 1);
+    let high = load_word(words, cpu, slot, number, 2);
+    let low = load_word(words, cpu, slot, number, 3);
+    let value = load_word(words, cpu, slot, number, 4);
+    record_from(kind, high, low, value)
+}
+
+/// Loads one word of that record.
+fn load_word<D: Domain>(words: &Words, cpu: &mut Cpu<D>, slot: u8, number: u64, k: u8) -> u64
+    requires words { (words.now.table ≡ D.table) × (words.now.settings ≡ D.settings) }
+    requires held { IsHeldAt cpu.old.view slot number }
+    requires place { k < 5 }
+    ensures word { IsWordOf cpu.old.view slot number k result }
+    ensures name { IsNamed cpu.old.view slot number }
+    ensures same { cpu.new ≡ cpu.old }
+{
+    steps::load_passive(words, &mut cpu.seat, cpu.id, slot, number, k)
+}
+
+/// The record that has these words.
+fn record_from(kind: u64, high: u64, low: u64, value: u64) -> Record
+    requires { are_name_words high low ≡ true }
+    ensures { (r : Record) → kind ≡ kind_word r.kind → high ≡ r.name.high → low ≡ r.name.low → value ≡ r.value → result ≡ r }
+{
+    let kind = if kind == 1 { Kind::Iface } else { Kind::Driver };
+    match Name::from_words(high, low) {
+        Some(name) => Record { kind, name, value },
+        None => unreachable!(),
+    }
+}
