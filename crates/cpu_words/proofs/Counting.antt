@@ -18,14 +18,14 @@ use Rattle.passive_core.specs.State.{State, bias, no_mark, with_cell, slot_at, m
 use Rattle.passive_core.specs.Invariant.{IsIn, IsCounting, adding_at, is_adding_at}
 use Rattle.passive_core.proofs.Fit.{ranges}
 use Rattle.passive_core.proofs.Cells.{get_or_all, row_here, row_other, cell_here, cell_other}
-use Rattle.passive_core.proofs.History.{at_within}
+use Rattle.passive_core.proofs.History.{at_within, one_entry}
 use Rattle.passive_core.proofs.Occupied.{not_vacant, one_in, one_number, attached_in}
 use Rattle.cpu_words.specs.declared.view.InHand.{InHand}
 use Rattle.cpu_words.specs.declared.view.CpuView.{CpuView}
 use Rattle.cpu_words.specs.Spots.{Spot, section_of, passive_of, count_of, head_word, next_of, record_of, total_of, word_at}
 use Rattle.cpu_words.specs.Views.{number_at, with_number, one_more, own_of, cpu_view, SameHand, HandFits, depth_of, collected_net, collected_one, GivesUp, CpuShown}
 use Rattle.cpu_words.specs.Rule.{Agrees, Good}
-use Rattle.cpu_words.specs.Locals.{IsNetCount, IsPlaceCount}
+use Rattle.cpu_words.specs.Locals.{IsNetCount, IsPlaceCount, IsMetAlone}
 use Rattle.cpu_words.proofs.Placing.{agrees_set}
 use Rattle.cpu_words.proofs.CpuSteps.{CpuLists, lists_of, with_lists, LeavesOthers}
 use Rattle.cpu_words.proofs.Seeing.{seen_of}
@@ -169,6 +169,26 @@ met_on g x e t v acquired released good had here count u f there some_one = dite
     let before : 0 < number_at x.acquired f.number + number_at x.released f.number = omega arith in
     with_number_other x.met t e.number u off ∙ had.met u f there before)
 
+-- after it, what was met in a slot was attached there
+there_on : (g : State) (x : CpuView) (e : Entry) (t : ℕ) → Good g → CpuShown g x → IsIn e (slot_at g.slots t)
+    → (u : ℕ) → number_at (with_number x.met t e.number) u ≢ 0 → (f : Entry) × IsAttached g.history f × (f.number ≡ number_at (with_number x.met t e.number) u) × (f.slot ≡ u)
+there_on g x e t good had here u some_one = dite (ℕ_discrete u t)
+    (λ (on : u ≡ t).
+        let its = attached_in g.history g.slots t e good.holds.slots here in
+        (e, its.0, sym (ap (number_at (with_number x.met t e.number)) on ∙ with_number_same x.met t e.number), its.1 ∙ sym on))
+    (λ (off : u ≢ t).
+        let same : number_at (with_number x.met t e.number) u ≡ number_at x.met u = with_number_other x.met t e.number u off in
+        let f = had.there u (λ none. some_one (same ∙ none)) in
+        (f.0, f.1, f.2 ∙ sym same, f.3))
+
+-- the CPU has met an entry in its own slot alone
+pub met_alone : (g : State) (x : CpuView) (e : Entry) → CpuShown g x → IsAttached g.history e → IsMetAlone x e.slot e.number
+met_alone g x e had attached u same =
+    let begun : 0 < e.number = (at_within g.history e.number (Attach e) attached).0 in
+    let f = had.there u (λ none. absurd (omega arith)) in
+    let one : f.0 ≡ e = one_entry g.history f.0 e f.1 attached (f.2 ∙ same) in
+    sym f.3 ∙ ap (λ (o : Entry). o.slot) one
+
 pub shown_count : (g : State) (x : CpuView) (e : Entry) (t w v : ℕ) (h : Hand) (locals : List LocalPlace) (k : InHand) (acquired released : List ℕ) → Good g → CpuShown g x → IsIn e (slot_at g.slots t) → t < g.settings.slots
     → Recount x e v acquired released → SameHand h k → HandFits g.history g.slots g.marks x.id k → CpuShown (with_lists g (count_lists g x.id t w v h locals)) (recounted g x t e.number (count_lists g x.id t w v h locals) k acquired released)
 shown_count g x e t w v h locals k acquired released good had here lt count same fits =
@@ -201,6 +221,7 @@ shown_count g x e t w v h locals k acquired released good had here lt count same
           let was = had.later n above in
           (count.same_acquired n ne ∙ was.0, count.same_released n ne ∙ was.1);
       met = met_on g x e t v acquired released good had here count;
+      there = there_on g x e t good had here;
       found = λ f is. subst (λ (p : List Change). IsAttached p f) seen.pass (had.found f (seen.found ∙ is));
       references = λ f among. subst (λ (p : List Change). IsAttached p f) seen.pass (had.references f among);
       heard = had.heard;

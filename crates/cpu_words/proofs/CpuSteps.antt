@@ -102,6 +102,7 @@ cpu_stays g l c seat i leaves mine j (Cpu y) ne sits shown backed =
       nets = λ t e here. let same = leaves.nets y.id t other in let was = shown.nets t e here in omega arith;
       later = shown.later;
       met = shown.met;
+      there = shown.there;
       found = shown.found;
       references = shown.references;
       heard = shown.heard;
@@ -184,6 +185,7 @@ shown_on g x l had hands passive nets depth more within found = record {
   nets = λ t e here. let same = ap (λ (p : List (List ℕ)). count_at p x.id t) nets in let was = had.nets t e here in omega arith;
   later = had.later;
   met = had.met;
+  there = had.there;
   found = found;
   references = λ e among. attached_longer g.history (seen_at g x.id) (get_or l.seen x.id 0) e more within (subst (λ (p : List Change). IsAttached p e) (ap (λ (v : CpuView). v.pass) had.is) (had.references e among));
   heard = had.heard;

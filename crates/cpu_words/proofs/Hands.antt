@@ -121,6 +121,7 @@ shown_hand g x h locals k good had same fits =
       nets = had.nets;
       later = had.later;
       met = had.met;
+      there = had.there;
       found = had.found;
       references = had.references;
       heard = had.heard;

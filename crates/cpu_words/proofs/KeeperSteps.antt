@@ -39,7 +39,7 @@ use Rattle.cpu_words.specs.Spots.{Spot, section_of, passive_of, count_of, head_w
 use Rattle.cpu_words.specs.Rule.{Agrees, IsFresh, Good, Ruled}
 use Rattle.cpu_words.specs.Steps.{Makes}
 use Rattle.cpu_words.proofs.Showing.{standing_in, IsBacked, Stay, shows_set}
-use Rattle.cpu_words.proofs.Passes.{attached_on, prefix_on, take_on}
+use Rattle.cpu_words.proofs.Passes.{attached_on, attached_prefix, prefix_on, take_on}
 
 -- what an event of the keeper can change in the core
 pub record KeeperLists : Type 0 where
@@ -146,6 +146,7 @@ cpu_shown_on g l y good after leaves had =
           (λ (stayed : Stayed g l t e). had.met t e stayed.0 some_one)
           (λ (came : Came g l t e). let none = had.later e.number came.0 in let a = none.0 in let b = none.1 in absurd (omega arith))
           (leaves.stay t e here);
+      there = λ t some_one. let e = had.there t some_one in (e.0, attached_prefix g.history l.history e.0 (zs, sym more) e.1, e.2, e.3);
       found = had.found;
       references = had.references;
       heard = subst (IsPrefix y.heard) (sym more) (prefix_on y.heard g.history zs had.heard);
@@ -241,6 +242,7 @@ beside_stays g locals due kept seat i mine j (Cpu y) ne sits shown backed = reco
   nets = shown.nets;
   later = shown.later;
   met = shown.met;
+  there = shown.there;
   found = shown.found;
   references = shown.references;
   heard = shown.heard;

@@ -34,12 +34,12 @@ use Rattle.cpu_words.specs.Spots.{count_of}
 use Rattle.cpu_words.specs.Views.{number_at, with_number, one_more, own_of, cpu_view, HandFits, IsCollectedFor, CpuShown, cpu_of}
 use Rattle.cpu_words.specs.Rule.{Agrees, Good, Ruled}
 use Rattle.cpu_words.specs.Steps.{Makes, CpuMay}
-use Rattle.cpu_words.specs.Locals.{IsNetCount, IsPlaceCount, MayCount, HasCounted, CountTold, MayCountDown, HasCountedDown, HasFoundCollected, DownTold, with_hand}
+use Rattle.cpu_words.specs.Locals.{IsNetCount, IsPlaceCount, IsMetAlone, MayCount, HasCounted, CountTold, MayCountDown, HasCountedDown, HasFoundCollected, DownTold, with_hand}
 use Rattle.cpu_words.proofs.Placing.{agrees_set}
 use Rattle.cpu_words.proofs.CpuSteps.{with_lists, cpu_makes}
 use Rattle.cpu_words.proofs.Seeing.{Seen, seen_of, idle_of}
 use Rattle.cpu_words.proofs.Hands.{giving_hand, hand_lists, leaves_hands, same_words, shown_hand}
-use Rattle.cpu_words.proofs.Counting.{count_lists, one_more_same, one_more_other, place_is, leaves_counts, count_words, Recount, recounted, shown_count}
+use Rattle.cpu_words.proofs.Counting.{count_lists, one_more_same, one_more_other, place_is, met_alone, leaves_counts, count_words, Recount, recounted, shown_count}
 
 -- the slot of the last found entry, and its word, which counts
 found_counts : (g : State) (c : ℕ) (e : Entry) → Good g → found_at g c ≡ Some e → (slot_of g.slots e.number ≡ Some e.slot) × IsIn e (slot_at g.slots e.slot) × IsCounting g.slots g.marks c e.slot
@@ -91,7 +91,9 @@ count_add_at z x e may is s r i at fits =
     let one : e ≡ other.entry = some_same (sym is ∙ other.found) in
     let slot : t ≡ u = ap (λ (f : Entry). f.slot) one ∙ other.slot in
     let number : n ≡ m = ap (λ (f : Entry). f.number) one ∙ other.number in
-    subst (λ (p : ℕ × ℕ). HasCounted x p.0 p.1 y × IsNetCount x p.1 word) (λ k. (slot k, number k)) ((e, is, refl, refl, change), has_net word (count_at g.counts c t) (count_at g.nets c t) (number_at x.released n) (bias + number_at x.acquired n) has same net) in
+    let low : word < bias + x.settings.count_limit = omega arith in
+    subst (λ (p : ℕ × ℕ). HasCounted x p.0 p.1 y × IsNetCount x p.1 word × (word < bias + x.settings.count_limit) × IsMetAlone x p.0 p.1) (λ k. (slot k, number k))
+    ((e, is, refl, refl, change), has_net word (count_at g.counts c t) (count_at g.nets c t) (number_at x.released n) (bias + number_at x.acquired n) has same net, low, met_alone g x e had attached) in
     (Cpu y, done.0, (refl, (done.1, told)))
   where
     some_same : {a b : Entry} → ◌≡◌ {A = Option Entry} (Some a) (Some b) → a ≡ b
@@ -230,8 +232,8 @@ count_down_at z x e old new is place fits is_new s r i at within =
     let less : old - 1 ≡ new = omega arith in
     let word = slice_index s.words (80 * x.id + 33 + e.slot) in
     ⊎_elim
-    (λ (same : word ≡ old). finish word _ (subst (Down z s i x e old word) (less ∙ sym (ap (λ b. either b new word) (eq-eqb word old same))) (down_counted z s r i x e old at is p same)) p.floor p.low)
-    (λ (off : word ≢ old). finish word _ (subst (Down z s i x e old word) (sym (ap (λ b. either b new word) (ne_eqb word old off))) (down_collected z s r i x e old at is p off)) p.floor p.low)
+    (λ (same : word ≡ old). finish word _ (subst (Down z s i x e old word) (less ∙ sym (ap (λ b. either b new word) (eq-eqb word old same))) (down_counted z s r i x e old at is p same)) p.floor p.low (met_alone r.g x e p.had p.attached))
+    (λ (off : word ≢ old). finish word _ (subst (Down z s i x e old word) (sym (ap (λ b. either b new word) (ne_eqb word old off))) (down_collected z s r i x e old at is p off)) p.floor p.low (met_alone r.g x e p.had p.attached))
     (cases_eq word old)
   where
     Goal : ℕ → ℕ → Type 0
@@ -240,8 +242,8 @@ count_down_at z x e old new is place fits is_new s r i at within =
     same_giving_entry : (a b : Entry) → GivingEntry a ≡ GivingEntry b → a ≡ b
     same_giving_entry a b eq = cc
 
-    finish : (w m : ℕ) → Down z s i x e old w m → 0 < old → IsNetCount x e.number old → Goal w m
-    finish w m d floor low = (
+    finish : (w m : ℕ) → Down z s i x e old w m → 0 < old → IsNetCount x e.number old → IsMetAlone x e.slot e.number → Goal w m
+    finish w m d floor low alone = (
       Cpu d.0,
       d.1,
       (
@@ -250,7 +252,7 @@ count_down_at z x e old new is place fits is_new s r i at within =
             let one : e ≡ may.entry = same_giving_entry e may.entry (sym is ∙ may.giving) in
             let slot : e.slot ≡ t = ap (λ (f : Entry). f.slot) one ∙ may.slot in
             let number : e.number ≡ n = ap (λ (f : Entry). f.number) one ∙ may.number in
-            (floor, subst (λ k. IsNetCount x k old) number low, (λ same. let h = d.2 same in (h.0, subst (λ (p : ℕ × ℕ). HasCountedDown x p.0 p.1 d.0) (λ k. (slot k, number k)) h.1)), (λ off. let h = d.3 off in (h.0, subst (λ k. HasFoundCollected x k d.0) number h.1))),
+            (floor, subst (λ k. IsNetCount x k old) number low, subst (λ (p : ℕ × ℕ). IsMetAlone x p.0 p.1) (λ k. (slot k, number k)) alone, (λ same. let h = d.2 same in (h.0, subst (λ (p : ℕ × ℕ). HasCountedDown x p.0 p.1 d.0) (λ k. (slot k, number k)) h.1)), (λ off. let h = d.3 off in (h.0, subst (λ k. HasFoundCollected x k d.0) number h.1))),
       ),
     )
 

@@ -136,6 +136,7 @@ cpu_beside x h = record {
     nets = had.nets;
     later = had.later;
     met = had.met;
+    there = had.there;
     found = had.found;
     references = had.references;
     heard = told;

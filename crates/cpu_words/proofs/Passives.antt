@@ -155,6 +155,7 @@ put_shown g x e references m good had known is others attached = record {
   nets = had.nets;
   later = had.later;
   met = had.met;
+  there = had.there;
   found = λ f found. subst (λ (p : List Change). IsAttached p f) pass (had.found f (ap (λ (v : CpuView). v.found) had.is ∙ found));
   references = λ f among. subst (λ (p : List Change). IsAttached p f) pass (attached f among);
   heard = had.heard;

@@ -1,6 +1,7 @@
 -- A seat loads a word, and no view changes.
-use Rattle.std.proofs.Common.{◌≡◌, ℕ, ◌+◌, ◌*◌, ◌<◌, [], Some, refl, sym, ap, ◌∙◌, subst, arith}
-use Rattle.std.proofs.lemmas.Bool.{lt-ltb}
+use Rattle.std.proofs.Common.{◌≡◌, ⊎_elim, ℕ, suc, ◌+◌, ◌*◌, ◌<◌, List, [], ◌∷◌, Some, IsTrue, sum_by, refl, sym, ap, ◌∙◌, subst, arith}
+use Rattle.std.proofs.lemmas.Bool.{lt-ltb, cases_eq}
+use Rattle.std.proofs.lemmas.List.Sums.{sum_by-cons}
 use Rattle.std.specs.Prelude.{slice_index}
 use mathlib.Core.Option.{some}
 use lib.ListN.{get_elem?}
@@ -15,6 +16,7 @@ use Rattle.passive_core.specs.declared.event.Reply.TheVariants.{Word}
 use Rattle.passive_core.specs.declared.state.RecordWords.{RecordWords}
 use Rattle.passive_core.specs.declared.state.LocalPlace.TheVariants.{Standing}
 use Rattle.passive_core.specs.State.{State, slot_at, row_at, local_at}
+use Rattle.passive_core.specs.Names.{is_lawful}
 use Rattle.passive_core.specs.Slots.{slot_of}
 use Rattle.passive_core.specs.Events.{step, word, words_of}
 use Rattle.passive_core.specs.Invariant.{IsIn, Occupies}
@@ -37,6 +39,10 @@ use Rattle.cpu_words.proofs.Showing.{shows_set, backed}
 -- a word of the record of an entry that has its slot is the entry's
 pub row_word : (g : State) (e : Entry) (k : ℕ) → Good g → IsIn e (slot_at g.slots e.slot) → word (row_at g.rows e.slot) k ≡ word (words_of e) k
 row_word g e k good here = ap (λ (r : RecordWords). word r k) (good.holds.rows e.slot e here).0
+
+-- the name of an entry with a slot is that of some bytes
+pub row_lawful : (g : State) (e : Entry) → Good g → IsIn e (slot_at g.slots e.slot) → IsTrue (is_lawful e.rec.name)
+row_lawful g e good here = (good.holds.rows e.slot e here).1
 
 -- a load that leaves the core and the view keeps the rule, and is its event
 pub keeps_view : (z : Settings) (s : Table ℕ View) (r : Ruled z s) (i : ℕ) (v : View) (p : Spot) (e : Event) (rep : Reply)
@@ -90,6 +96,6 @@ local_may z v t k slot few = subst (λ (u : ℕ). ReferenceMay z v (657 + 8 * u 
         refl,
         λ id j event.
             let same : k ≡ j = cc in
-            ((place.0, subst (λ (h : ℕ). Makes (LoadRecord (Local place.0 h)) (Word found) (Reference v) (Reference v)) same done.1), stands ∙ row_word g e k r.good here ∙ ap (word (words_of e)) same),
+            ((place.0, subst (λ (h : ℕ). Makes (LoadRecord (Local place.0 h)) (Word found) (Reference v) (Reference v)) same done.1), stands ∙ row_word g e k r.good here ∙ ap (word (words_of e)) same, row_lawful g e r.good here),
       ),
     ))

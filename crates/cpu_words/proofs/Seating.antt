@@ -90,6 +90,7 @@ new_shown g good lt =
       nets = λ t e here. let a = fresh.nets t e here in omega arith;
       later = λ n above. (refl, refl);
       met = λ t e here some_one. absurd (omega (arith, some_one));
+      there = λ t some_one. absurd (some_one refl);
       found = λ e is. absurd (let q : ◌≡◌ {A = Option Entry} None (Some e) = is in cc);
       references = λ e among. let lt : among.0 < 0 = among.1 in absurd (omega arith);
       heard = (g.history, refl);

@@ -58,6 +58,10 @@ pub record IsPlaceCount (x : CpuView) (t n w : ℕ) : Type 0 where
   pub met : number_at x.met t ≡ n → IsNetCount x n w
   pub other : (number_at x.met t ≡ n → ⊥) → w ≡ bias
 
+-- the CPU has met n in no other slot than t
+abbrev pub IsMetAlone : CpuView → ℕ → ℕ → Type 0
+IsMetAlone x t n = (u : ℕ) → number_at x.met u ≡ n → u ≡ t
+
 -- the last found entry is n in the slot t, and by its place of t the CPU's net count for n is below the limit
 pub record MayCount (x : CpuView) (t n : ℕ) : Type 0 where
   pub idle : IsIdle x
@@ -76,7 +80,7 @@ HasCounted x t n y = (e : Entry) × (x.found ≡ Some e) × (e.slot ≡ t) × (e
 
 -- what the addition of 1 to the word w tells
 abbrev pub CountTold : CpuView → ℕ → CpuView → Type 0
-CountTold x w y = (t n : ℕ) → MayCount x t n → HasCounted x t n y × IsNetCount x n w
+CountTold x w y = (t n : ℕ) → MayCount x t n → HasCounted x t n y × IsNetCount x n w × (w < bias + x.settings.count_limit) × IsMetAlone x t n
 
 -- the reference in the hand is to n in the slot t, and w is what the CPU's place of t says of n
 pub record MayCountDown (x : CpuView) (t n w : ℕ) : Type 0 where
@@ -96,7 +100,7 @@ HasFoundCollected x n y = (e : Entry) × IsGiving x e × (e.number ≡ n) × (y 
 
 -- what the compare-exchange from `old` tells, where it found the word w
 abbrev pub DownTold : Event → ℕ → CpuView → ℕ → CpuView → Type 0
-DownTold e old x w y = (t n : ℕ) → MayCountDown x t n old → (0 < old) × IsNetCount x n old
+DownTold e old x w y = (t n : ℕ) → MayCountDown x t n old → (0 < old) × IsNetCount x n old × IsMetAlone x t n
     × (w ≡ old → Makes e (Word w) (Cpu x) (Cpu y) × HasCountedDown x t n y)
     × ((w ≡ old → ⊥) → Makes e Collected (Cpu x) (Cpu y) × HasFoundCollected x n y)
 

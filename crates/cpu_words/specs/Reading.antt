@@ -1,9 +1,10 @@
 -- Loads of a record's words by the seat of a local reference.
-use Rattle.std.specs.Prelude.{◌≡◌, ℕ}
+use Rattle.std.specs.Prelude.{◌≡◌, ℕ, IsTrue}
 use Rattle.passive_core.specs.declared.event.Event.{Event}
 use Rattle.passive_core.specs.declared.event.Event.TheVariants.{LoadRecord}
 use Rattle.passive_core.specs.declared.event.RecordOf.TheVariants.{Local}
 use Rattle.passive_core.specs.declared.event.Reply.TheVariants.{Word}
+use Rattle.passive_core.specs.Names.{is_lawful}
 use Rattle.passive_core.specs.Events.{word, words_of}
 use Rattle.cpu_words.specs.declared.view.ReferenceView.{ReferenceView}
 use Rattle.cpu_words.specs.declared.view.View.TheVariants.{Reference}
@@ -11,4 +12,4 @@ use Rattle.cpu_words.specs.Steps.{Makes}
 
 -- What the inner step is told. Which id the core gives the reference is in no view, so the event names any.
 abbrev pub tells_local : Event → ReferenceView → ℕ → Type 0
-tells_local event v m = (id k : ℕ) → event ≡ LoadRecord (Local id k) → ((o : ℕ) × Makes (LoadRecord (Local o k)) (Word m) (Reference v) (Reference v)) × (m ≡ word (words_of v.entry) k)
+tells_local event v m = (id k : ℕ) → event ≡ LoadRecord (Local id k) → ((o : ℕ) × Makes (LoadRecord (Local o k)) (Word m) (Reference v) (Reference v)) × (m ≡ word (words_of v.entry) k) × IsTrue (is_lawful v.entry.rec.name)

@@ -1,5 +1,5 @@
 -- What a view shows of a state of the core.
-use Rattle.std.specs.Prelude.{◌≡◌, ℕ, suc, ◌+◌, ◌*◌, ◌<◌, ◌≤◌, ◌==◌, Bool, true, false, if◌then◌else◌, List, [], ◌∷◌, ◌++◌, length, take, replicate, count_by, sum_by, slice_index_or, slice_set, Option, Some, None}
+use Rattle.std.specs.Prelude.{◌≡◌, ◌≢◌, ℕ, zero, suc, ◌+◌, ◌*◌, ◌<◌, ◌≤◌, ◌==◌, Bool, true, false, if◌then◌else◌, List, [], ◌∷◌, ◌++◌, length, take, replicate, count_by, sum_by, slice_index_or, slice_set, Option, Some, None}
 use Rattle.std.specs.List.{Contains, zip}
 use mathlib.Core.List.{IsPrefix}
 use Rattle.atomic_table.specs.Seated.{TableId}
@@ -160,6 +160,8 @@ pub record CpuShown (g : State) (x : CpuView) : Type 0 where
   pub later : (n : ℕ) → length g.history < n → (number_at x.acquired n ≡ 0) × (number_at x.released n ≡ 0)
   -- an occupant that it has counted is the one that it met last in that slot
   pub met : (t : ℕ) (e : Entry) → IsIn e (slot_at g.slots t) → 0 < number_at x.acquired e.number + number_at x.released e.number → number_at x.met t ≡ e.number
+  -- what it met in a slot was attached there
+  pub there : (t : ℕ) → number_at x.met t ≢ 0 → (e : Entry) × IsAttached g.history e × (e.number ≡ number_at x.met t) × (e.slot ≡ t)
   -- what it found and refers to is in its pass
   pub found : (e : Entry) → x.found ≡ Some e → IsAttached x.pass e
   pub references : (e : Entry) → Contains x.references e → IsAttached x.pass e

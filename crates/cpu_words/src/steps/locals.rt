@@ -1,14 +1,15 @@
 //! Local references (localcount(9)) by a CPU's seat: each is a seat of its own but while it is in the CPU's hand.
 
-ghost use Rattle.std.specs.Prelude.{◌≡◌, ◌≢◌, ◌<◌, Some, None};
+ghost use Rattle.std.specs.Prelude.{◌≡◌, ◌≢◌, ◌+◌, ◌<◌, Some, None};
 ghost use Rattle.passive_core.specs.declared.entry.Entry.{Entry};
+ghost use Rattle.passive_core.specs.State.{bias};
 ghost use Rattle.passive_core.specs.declared.event.Event.TheVariants.{CountAdd, SplitRef, JoinRef, CountDown, SplitBack};
 ghost use Rattle.passive_core.specs.declared.event.Reply.TheVariants.{Word, Collected};
 ghost use Rattle.cpu_words.specs.declared.view.View.TheVariants.{Cpu, Reference};
 ghost use Rattle.cpu_words.specs.declared.view.InHand.TheVariants.{Giving as GivingEntry};
 ghost use Rattle.cpu_words.specs.Sections.{IsIdle};
 ghost use Rattle.cpu_words.specs.Steps.{Makes, SplitsBy, JoinsBy};
-ghost use Rattle.cpu_words.specs.Locals.{IsTaking, IsBack, IsNetCount, MayCount, HasCounted, MayCountDown, HasCountedDown, HasFoundCollected, HasSplit, HasSplitBack, with_hand};
+ghost use Rattle.cpu_words.specs.Locals.{IsTaking, IsBack, IsNetCount, IsMetAlone, MayCount, HasCounted, MayCountDown, HasCountedDown, HasFoundCollected, HasSplit, HasSplitBack, with_hand};
 
 use crate::law::Words;
 use crate::seat::{CpuSeat, ReferenceSeat};
@@ -30,6 +31,8 @@ pub fn count_add(words: &Words, seat: &mut CpuSeat, cpu: u8, slot: u8, number: u
     ensures event { Makes (CountAdd cpu) (Word result) (Cpu seat.old.view) (Cpu seat.new.view) }
     ensures change { HasCounted seat.old.view slot number seat.new.view }
     ensures word { IsNetCount seat.old.view number result }
+    ensures room { result < bias + seat.old.view.settings.count_limit }
+    ensures alone { IsMetAlone seat.old.view slot number }
 {
     let _number = number;
     let word = 80 * cpu as usize + 33 + slot as usize;
@@ -111,6 +114,7 @@ pub fn count_down(
     ensures table { seat.new.table ≡ seat.old.table }
     ensures floor { 0 < expected }
     ensures net { IsNetCount seat.old.view number expected }
+    ensures alone { IsMetAlone seat.old.view slot number }
     ensures counted { result ≡ expected → Makes (CountDown cpu) (Word result) (Cpu seat.old.view) (Cpu seat.new.view) × HasCountedDown seat.old.view slot number seat.new.view }
     ensures collected { result ≢ expected → Makes (CountDown cpu) Collected (Cpu seat.old.view) (Cpu seat.new.view) × HasFoundCollected seat.old.view number seat.new.view }
 {

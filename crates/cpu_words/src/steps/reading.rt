@@ -1,10 +1,11 @@
 //! A record's words, loaded by a local reference (localcount(9)).
 
-ghost use Rattle.std.specs.Prelude.{◌≡◌, ◌<◌, ℕ};
+ghost use Rattle.std.specs.Prelude.{◌≡◌, ◌<◌, ℕ, IsTrue};
 ghost use Rattle.passive_core.specs.declared.event.Event.TheVariants.{LoadRecord};
 ghost use Rattle.passive_core.specs.declared.event.RecordOf.TheVariants.{Local};
 ghost use Rattle.passive_core.specs.declared.event.Reply.TheVariants.{Word};
 ghost use Rattle.passive_core.specs.Events.{word, words_of};
+ghost use Rattle.passive_core.specs.Names.{is_lawful};
 ghost use Rattle.cpu_words.specs.declared.view.View.TheVariants.{Reference};
 ghost use Rattle.cpu_words.specs.Steps.{Makes};
 
@@ -16,6 +17,7 @@ use std::marker::Brand;
 
 /// Loads word `k` of the record of a local reference's entry, which is in slot `slot`: 0 is the number, 1 the kind, 2 and 3 the name's
 /// high and low words, 4 the value.
+/// The name is that of some bytes, as its entry was stored.
 /// Condition: the slot is the entry's and below 32, and `k` is below 5.
 pub fn load_local(words: &Words, seat: &mut ReferenceSeat, slot: u8, k: u8) -> u64
     requires table { seat.old.table ≡ words.now.table }
@@ -24,6 +26,7 @@ pub fn load_local(words: &Words, seat: &mut ReferenceSeat, slot: u8, k: u8) -> u
     ensures same { seat.new ≡ seat.old }
     ensures event { (id : ℕ) × Makes (LoadRecord (Local id k)) (Word result) (Reference seat.old.view) (Reference seat.new.view) }
     ensures word { result ≡ word (words_of seat.old.view.entry) k }
+    ensures name { IsTrue (is_lawful seat.old.view.entry.rec.name) }
 {
     let place = 657 + 8 * slot as usize + k as usize;
     let event = Event::LoadRecord(RecordOf::Local(0, k));

@@ -9,3 +9,9 @@ returns-clause-change c = (c.add.ensures.told.1 _ _ c.requires.may).0
 
 pub returns-clause-word : goal.returns-clause-word
 returns-clause-word c = (c.add.ensures.told.1 _ _ c.requires.may).1
+
+pub returns-clause-room : goal.returns-clause-room
+returns-clause-room c = (c.add.ensures.told.1 _ _ c.requires.may).2
+
+pub returns-clause-alone : goal.returns-clause-alone
+returns-clause-alone c = (c.add.ensures.told.1 _ _ c.requires.may).3

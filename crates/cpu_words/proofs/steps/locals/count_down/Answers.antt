@@ -11,8 +11,11 @@ returns-clause-floor c = (c.compare_exchange.ensures.told _ _ c.requires.may).0
 pub returns-clause-net : goal.returns-clause-net
 returns-clause-net c = (c.compare_exchange.ensures.told _ _ c.requires.may).1
 
+pub returns-clause-alone : goal.returns-clause-alone
+returns-clause-alone c = (c.compare_exchange.ensures.told _ _ c.requires.may).2
+
 pub returns-clause-counted : goal.returns-clause-counted
-returns-clause-counted c = (c.compare_exchange.ensures.told _ _ c.requires.may).2
+returns-clause-counted c = (c.compare_exchange.ensures.told _ _ c.requires.may).3
 
 pub returns-clause-collected : goal.returns-clause-collected
-returns-clause-collected c = (c.compare_exchange.ensures.told _ _ c.requires.may).3
+returns-clause-collected c = (c.compare_exchange.ensures.told _ _ c.requires.may).4

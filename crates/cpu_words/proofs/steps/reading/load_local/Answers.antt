@@ -18,3 +18,6 @@ returns-clause-event c = subst (λ (w : ReferenceView). (o : ℕ) × Makes (Load
 
 pub returns-clause-word : goal.returns-clause-word
 returns-clause-word c = (c.load.ensures.told 0 c.args.k refl).1
+
+pub returns-clause-name : goal.returns-clause-name
+returns-clause-name c = (c.load.ensures.told 0 c.args.k refl).2

@@ -1,0 +1,4 @@
+pub mod Agreeing
+pub mod Acquiring
+pub mod Releasing
+pub mod Recording

@@ -1,0 +1,55 @@
+-- Local references: how their plain data agree with what the seat knows, and what a CPU's calls leave.
+use Rattle.std.specs.Prelude.{◌≡◌, ℕ, ◌+◌, ◌<◌, ◌≤◌, ◌==◌, if◌then◌else◌, Some, None, IsTrue}
+use Rattle.atomic_table.specs.Seated.{TableId}
+use Rattle.passive_core.specs.declared.entry.Entry.{Entry}
+use Rattle.passive_core.specs.declared.entry.Kind.{Kind}
+use Rattle.passive_core.specs.declared.event.Event.TheVariants.{CountDown}
+use Rattle.passive_core.specs.declared.event.Reply.TheVariants.{Collected}
+use Rattle.passive_core.specs.declared.settings.Settings.{Settings}
+use Rattle.passive_core.specs.Limits.{are_fit}
+use Rattle.passive_core.specs.State.{bias}
+use Rattle.cpu_words.specs.declared.view.InHand.TheVariants.{Giving as GivingEntry, Back as BackEntry}
+use Rattle.cpu_words.specs.declared.view.CpuView.{CpuView}
+use Rattle.cpu_words.specs.declared.view.ReferenceView.{ReferenceView}
+use Rattle.cpu_words.specs.declared.view.View.TheVariants.{Cpu}
+use Rattle.cpu_words.specs.Views.{number_at, with_number, one_more}
+use Rattle.cpu_words.specs.Steps.{Makes}
+use Rattle.cpu_words.specs.Locals.{with_hand}
+use Rattle.passive_list.specs.declared.place.Place.{Place}
+use Rattle.passive_list.specs.Cpus.{OnCpu}
+
+-- the fields of a reference of D's table: its seat's table and view, and the number, slot and kind of its entry
+pub record IsOurReference (z : TableId) (a : Settings) (t : TableId) (v : ReferenceView) (n s : ℕ) (k : Kind) : Type 0 where
+  pub table : t ≡ z
+  pub fit : IsTrue (are_fit a)
+  pub number : v.entry.number ≡ n
+  pub slot : v.entry.slot ≡ s
+  pub kind : v.entry.rec.kind ≡ k
+  pub begun : 0 < n
+  pub few : s < 32
+
+-- a number's net count by the place of its slot, over the bias: none where the place is for another number
+abbrev pub net_by : Place → ℕ → ℕ
+net_by p n = if p.number == n then p.count else bias
+
+-- The entry is the one that the CPU met last in its slot, and its own net count for it is at the limit.
+-- Where it met another number there last, it has counted none to this one.
+abbrev pub IsFull : CpuView → Entry → Type 0
+IsFull x e = (number_at x.met e.slot ≡ e.number) × (x.settings.count_limit + number_at x.released e.number ≤ number_at x.acquired e.number)
+
+-- a reference to the last found entry was counted; of the CPU nothing else changes
+pub record HasAcquired (a b : OnCpu) (v : ReferenceView) : Type 0 where
+  pub entry : Entry
+  pub found : a.view.found ≡ Some entry
+  pub is : v ≡ record { entry = entry; collected = None }
+  pub cpu : b ≡ record { view = record a.view { acquired = one_more a.view.acquired entry.number; met = with_number a.view.met entry.slot entry.number }; depth = a.depth }
+
+-- the reference was released by the CPU's own count; of the CPU nothing else changes
+abbrev pub HasReleased : OnCpu → ReferenceView → OnCpu → Type 0
+HasReleased a v b = b ≡ record { view = record a.view { released = one_more a.view.released v.entry.number; met = with_number a.view.met v.entry.slot v.entry.number }; depth = a.depth }
+
+-- the CPU found its count word collected: the reference is to the same entry, and shows it; the CPU is as it was
+pub record HasComeBack (a : OnCpu) (v : ReferenceView) (b : OnCpu) (w : ReferenceView) : Type 0 where
+  pub cpu : b ≡ a
+  pub is : w ≡ record { entry = v.entry; collected = Some a.view.id }
+  pub found : Makes (CountDown a.view.id) Collected (Cpu (with_hand a.view (GivingEntry v.entry))) (Cpu (with_hand a.view (BackEntry v.entry)))

@@ -1,0 +1,45 @@
+//! Acquiring a local reference (localcount(9)).
+
+ghost use Rattle.std.specs.Prelude.{◌≡◌, ◌↔◌, Some, None, IfOk, IfErr, IsErrOf};
+ghost use Rattle.passive_core.specs.declared.entry.Entry.{Entry};
+ghost use Rattle.local_count.specs.References.{HasAcquired, IsFull};
+
+use crate::local_ref::LocalRef;
+use crate::net::net_count;
+use cpu_words::{Domain, Words, steps};
+use passive_core::{BIAS, Refusal};
+use passive_list::{Cpu, Place};
+use std::marker::PhantomData;
+
+/// Acquires a local reference to the CPU's last found entry: the CPU's own net count for it grows by one. Net counts are kept by slot,
+/// for the number met there last; for another number the count is none.
+/// Refused: `NothingFound` where this CPU has no last found entry, then `LocalFull` where its own net count for that entry is
+/// `count_limit`. Nothing changes then.
+pub fn acquire_local<D: Domain>(words: &Words, cpu: &mut Cpu<D>) -> Result<LocalRef<D>, Refusal>
+    requires words { (words.now.table ≡ D.table) × (words.now.settings ≡ D.settings) }
+    ensures ok { IfOk result (λ v. HasAcquired cpu.old cpu.new v) }
+    ensures refused { IfErr result (λ _. cpu.new ≡ cpu.old) }
+    ensures nothing { IsErrOf result Refusal.NothingFound ↔ cpu.old.view.found ≡ None }
+    ensures full { IsErrOf result Refusal.LocalFull ↔ (e : Entry) × (cpu.old.view.found ≡ Some e) × IsFull cpu.old.view e }
+{
+    let Some(entry) = cpu.found else {
+        return Err(Refusal::NothingFound);
+    };
+    let count = net_count(cpu.net[entry.slot as usize], entry.number);
+    if count >= BIAS + words.settings().count_limit {
+        return Err(Refusal::LocalFull);
+    }
+    let word = steps::count_add(words, &mut cpu.seat, cpu.id, entry.slot, entry.number);
+    let seat = steps::split_ref(words, &mut cpu.seat, cpu.id);
+    cpu.net[entry.slot as usize] = Place {
+        number: entry.number,
+        count: word + 1,
+    };
+    Ok(LocalRef {
+        seat,
+        number: entry.number,
+        slot: entry.slot,
+        kind: entry.rec.kind,
+        domain: PhantomData,
+    })
+}

@@ -1,0 +1,17 @@
+//! Local references, which travel between threads: localcount(9) over virtual CPUs.
+//!
+//! A CPU inside a section counts a reference to the entry that it found last, by one addition to its own count word. From there on the
+//! reference is a value with a seat of its own: it may go to another thread and read the entry's record there, and while it lives the
+//! entry keeps its slot. It must be spent. Any CPU releases it by one compare-exchange of its own count word, so one CPU's count says
+//! nothing alone; only their sum does. Where the keeper has collected that word, for a drain, the reference comes back to the caller,
+//! to be released under the interlock.
+#![tactic(auto)]
+
+mod acquire;
+mod local_ref;
+mod net;
+mod release;
+
+pub use acquire::acquire_local;
+pub use local_ref::LocalRef;
+pub use release::try_release;

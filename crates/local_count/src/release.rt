@@ -1,0 +1,50 @@
+//! Releasing a local reference by a CPU's own count (localcount(9)).
+
+ghost use Rattle.std.specs.Prelude.{◌≡◌, IfOk, IfErr};
+ghost use Rattle.local_count.specs.References.{HasReleased, HasComeBack};
+
+use crate::local_ref::LocalRef;
+use crate::net::net_count;
+use cpu_words::{Domain, Words, steps};
+use passive_list::{Cpu, Place};
+use std::marker::PhantomData;
+
+/// Releases a local reference on this CPU, which needn't be the one that acquired it: this CPU's own net count for the entry goes down
+/// by one, and may be negative.
+/// The reference comes back just where the keeper had collected this CPU's count word for its slot: the reference shows that then, and
+/// the CPU is as it was.
+pub fn try_release<D: Domain>(
+    words: &Words,
+    cpu: &mut Cpu<D>,
+    reference: LocalRef<D>,
+) -> Result<(), LocalRef<D>>
+    requires words { (words.now.table ≡ D.table) × (words.now.settings ≡ D.settings) }
+    ensures ok { IfOk result (λ _. HasReleased cpu.old reference cpu.new) }
+    ensures back { IfErr result (λ v. HasComeBack cpu.old reference cpu.new v) }
+{
+    let LocalRef {
+        seat,
+        number,
+        slot,
+        kind,
+        domain: _,
+    } = reference;
+    let count = net_count(cpu.net[slot as usize], number);
+    steps::join_ref(words, &mut cpu.seat, cpu.id, seat);
+    let word = steps::count_down(words, &mut cpu.seat, cpu.id, slot, number, count);
+    if word != count {
+        let seat = steps::split_back(words, &mut cpu.seat, cpu.id);
+        return Err(LocalRef {
+            seat,
+            number,
+            slot,
+            kind,
+            domain: PhantomData,
+        });
+    }
+    cpu.net[slot as usize] = Place {
+        number,
+        count: count - 1,
+    };
+    Ok(())
+}
