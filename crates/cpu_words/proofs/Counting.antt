@@ -174,12 +174,12 @@ there_on : (g : State) (x : CpuView) (e : Entry) (t : ℕ) → Good g → CpuSho
     → (u : ℕ) → number_at (with_number x.met t e.number) u ≢ 0 → (f : Entry) × IsAttached g.history f × (f.number ≡ number_at (with_number x.met t e.number) u) × (f.slot ≡ u)
 there_on g x e t good had here u some_one = dite (ℕ_discrete u t)
     (λ (on : u ≡ t).
-        let its = attached_in g.history g.slots t e good.holds.slots here in
-        (e, its.0, sym (ap (number_at (with_number x.met t e.number)) on ∙ with_number_same x.met t e.number), its.1 ∙ sym on))
+    let its = attached_in g.history g.slots t e good.holds.slots here in
+    (e, its.0, sym (ap (number_at (with_number x.met t e.number)) on ∙ with_number_same x.met t e.number), its.1 ∙ sym on))
     (λ (off : u ≢ t).
-        let same : number_at (with_number x.met t e.number) u ≡ number_at x.met u = with_number_other x.met t e.number u off in
-        let f = had.there u (λ none. some_one (same ∙ none)) in
-        (f.0, f.1, f.2 ∙ sym same, f.3))
+    let same : number_at (with_number x.met t e.number) u ≡ number_at x.met u = with_number_other x.met t e.number u off in
+    let f = had.there u (λ none. some_one (same ∙ none)) in
+    (f.0, f.1, f.2 ∙ sym same, f.3))
 
 -- the CPU has met an entry in its own slot alone
 pub met_alone : (g : State) (x : CpuView) (e : Entry) → CpuShown g x → IsAttached g.history e → IsMetAlone x e.slot e.number

@@ -63,12 +63,12 @@ full_of z a t x c w d o ps ns e n our is count above =
     let limit : x.settings.count_limit ≡ a.count_limit = ap (λ (k : Settings). k.count_limit) our.settings in
     dite (ℕ_discrete (number_at x.met e.slot) e.number)
     (λ (same : number_at x.met e.slot ≡ e.number).
-        let net : n + number_at x.released e.number ≡ bias + number_at x.acquired e.number = place.met same in
-        (same, omega arith))
+    let net : n + number_at x.released e.number ≡ bias + number_at x.acquired e.number = place.met same in
+    (same, omega arith))
     (λ (off : number_at x.met e.slot ≢ e.number).
-        let none : n ≡ bias = place.other off in
-        let one = some_count a our.fit in
-        absurd (omega arith))
+    let none : n ≡ bias = place.other off in
+    let one = some_count a our.fit in
+    absurd (omega arith))
 
 -- What the addition and the cut leave
 

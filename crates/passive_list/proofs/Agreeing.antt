@@ -64,8 +64,8 @@ passive_longer x y l same longer agree = record {
   counts = λ t. agree.counts t ∙ ap (λ es. references_to (place_at l t).number es) (sym same);
   placed = λ t some. let old = agree.placed t some in record { entry = old.entry; attached = attached_prefix x.pass y.pass old.entry longer old.attached; slot = old.slot; number = old.number };
   each = λ e there.
-    let old = agree.each e (subst (λ es. Contains es e) same there) in
-    (old.0, attached_prefix x.pass y.pass e longer old.1, old.2, old.3);
+      let old = agree.each e (subst (λ es. Contains es e) same there) in
+      (old.0, attached_prefix x.pass y.pass e longer old.1, old.2, old.3);
 }
 
 -- its net counts are not of the pass

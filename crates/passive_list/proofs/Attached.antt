@@ -55,9 +55,9 @@ live_rows a k rows at agree u f live =
   where
     by : (x : Slot) → TakenAs k u x → x ≡ Live f
     by Vacant is = absurd (⊎_elim
-      (λ (vacant : slot_at k.slots u ≡ Vacant). let q : Slot.Vacant ≡ Live f = sym vacant ∙ live in cc)
-      (λ (may : MayVacate k u). let q : Retired may.drained.retired.0 ≡ Live f = sym may.drained.retired.1 ∙ live in cc)
-      is)
+        (λ (vacant : slot_at k.slots u ≡ Vacant). let q : Slot.Vacant ≡ Live f = sym vacant ∙ live in cc)
+        (λ (may : MayVacate k u). let q : Retired may.drained.retired.0 ≡ Live f = sym may.drained.retired.1 ∙ live in cc)
+        is)
     by (Live e) is = sym is ∙ live
     by (Retired e) is = absurd (let q : Retired e ≡ Live f = sym is ∙ live in cc)
 
@@ -68,9 +68,9 @@ vacant_live k t u f = by (slot_at k.slots t) refl
     by Vacant is live = live
     by (Live e) is live = live
     by (Retired e) is live = ⊎_elim
-      (λ (here : (u ≡ t) × (slot_at (set k.slots t Vacant) u ≡ Vacant)). absurd (let q : Slot.Vacant ≡ Live f = sym here.1 ∙ live in cc))
-      (λ (off : (u ≡ t → ⊥) × (slot_at (set k.slots t Vacant) u ≡ slot_at k.slots u)). sym off.1 ∙ live)
-      (slot_cases k.slots t Vacant u (in_within k.slots t e (inr is)))
+        (λ (here : (u ≡ t) × (slot_at (set k.slots t Vacant) u ≡ Vacant)). absurd (let q : Slot.Vacant ≡ Live f = sym here.1 ∙ live in cc))
+        (λ (off : (u ≡ t → ⊥) × (slot_at (set k.slots t Vacant) u ≡ slot_at k.slots u)). sym off.1 ∙ live)
+        (slot_cases k.slots t Vacant u (in_within k.slots t e (inr is)))
 
 live_vacant : (k : KeeperView) (t : ℕ) → LiveIn k.slots (as_vacant k t).slots
 live_vacant k t u f live = by (slot_at k.slots t) refl
@@ -79,9 +79,9 @@ live_vacant k t u f live = by (slot_at k.slots t) refl
     by Vacant is = live
     by (Live e) is = live
     by (Retired e) is = ⊎_elim
-      (λ (here : (u ≡ t) × (slot_at (set k.slots t Vacant) u ≡ Vacant)). absurd (let q : Retired e ≡ Live f = sym is ∙ (ap (slot_at k.slots) (sym here.0) ∙ live) in cc))
-      (λ (off : (u ≡ t → ⊥) × (slot_at (set k.slots t Vacant) u ≡ slot_at k.slots u)). off.1 ∙ live)
-      (slot_cases k.slots t Vacant u (in_within k.slots t e (inr is)))
+        (λ (here : (u ≡ t) × (slot_at (set k.slots t Vacant) u ≡ Vacant)). absurd (let q : Retired e ≡ Live f = sym is ∙ (ap (slot_at k.slots) (sym here.0) ∙ live) in cc))
+        (λ (off : (u ≡ t → ⊥) × (slot_at (set k.slots t Vacant) u ≡ slot_at k.slots u)). off.1 ∙ live)
+        (slot_cases k.slots t Vacant u (in_within k.slots t e (inr is)))
 
 pub leads_on : (xs ys : List Slot) (n v : ℕ) → LiveIn xs ys → LiveIn ys xs → LeadsBelow xs n v → LeadsBelow ys n v
 leads_on xs ys n v on back (To_end none) = To_end (λ u h live below. none u h (back u h live) below)
@@ -100,10 +100,12 @@ free_on key xs ys back free = walk ys (λ u f live. off u f (back u f live))
         by : (b : Bool) → same_key (key_of f) key ≡ b → b ≡ false
         by true is = sym (taken_at key xs u f live is) ∙ free
         by false is = refl
+
     first : (y : Slot) → ((f : Entry) → y ≡ Live f → same_key (key_of f) key ≡ false) → is_live_as key y ≡ false
     first Vacant no_ = refl
     first (Live f) no_ = no_ f refl
     first (Retired f) no_ = refl
+
     walk : (zs : List Slot) → ((u : ℕ) (f : Entry) → slot_at zs u ≡ Live f → same_key (key_of f) key ≡ false) → is_taken key zs ≡ false
     walk [] no_ = refl
     walk (z ∷ zs) no_ = rw (first z (λ f is. no_ zero f is), walk zs (λ u f live. no_ (suc u) f live)) refl
@@ -210,6 +212,7 @@ published_is k l m e v at told may =
   where
     one : (x y : Entry) → Some x ≡ Some y → x ≡ y
     one x y q = cc
+
     made : KeeperView → KeeperView
     made w = record w {
       head = e.slot + 1;
@@ -219,6 +222,7 @@ published_is k l m e v at told may =
       rows = set k.rows e.slot (words_of e);
       counts = set w.counts e.slot (with_biases k.settings.cpus (get_or w.counts e.slot []));
     }
+
     aim : KeeperView → KeeperView
     aim w = record k {
       head = e.slot + 1;
@@ -228,14 +232,15 @@ published_is k l m e v at told may =
       rows = set k.rows e.slot (words_of e);
       counts = set k.counts e.slot (with_biases k.settings.cpus (get_or w.counts e.slot []));
     }
+
     by : (x : Slot) → made (vacant_from x k e.slot) ≡ aim (vacant_from x k e.slot)
     by Vacant = refl
     by (Live x) = refl
     by (Retired x) =
-      let none : ℕ = 0 in
-      let row = with_biases k.settings.cpus (get_or (set k.counts e.slot (replicate 8 none)) e.slot []) in
-      ap (λ (slots : List Slot). record (aim (vacant_from (Retired x) k e.slot)) { slots = slots; counts = set (set k.counts e.slot (replicate 8 none)) e.slot row }) (set-set k.slots e.slot Vacant (Live e))
-      ∙ ap (λ (counts : List (List ℕ)). record (aim (vacant_from (Retired x) k e.slot)) { counts = counts }) (set-set k.counts e.slot (replicate 8 none) row)
+        let none : ℕ = 0 in
+        let row = with_biases k.settings.cpus (get_or (set k.counts e.slot (replicate 8 none)) e.slot []) in
+        ap (λ (slots : List Slot). record (aim (vacant_from (Retired x) k e.slot)) { slots = slots; counts = set (set k.counts e.slot (replicate 8 none)) e.slot row }) (set-set k.slots e.slot Vacant (Live e))
+        ∙ ap (λ (counts : List (List ℕ)). record (aim (vacant_from (Retired x) k e.slot)) { counts = counts }) (set-set k.counts e.slot (replicate 8 none) row)
 
 abbrev pub row_live : Row → Entry → Row
 row_live r e = record { state = Live e; marks = r.marks; total = r.total; keeps = r.keeps }
@@ -268,12 +273,12 @@ published_at_rest a k rows e v asked =
         count_rows = rows_put k.counts t (with_biases k.settings.cpus row) (biases_size row k.settings.cpus long (omega (arith, few, cpus))) at.sized.count_rows;
       };
       room =
-        let slots_size = at.sized.slots in
-        let more : live_count (set k.slots t (Live e)) + one_if (is_live (slot_at k.slots t)) ≡ live_count k.slots + 1 = live_count_set k.slots t (Live e) (omega (arith, lt, slots_size)) in
-        let count = count_on k.slots (states_of rows) (live_rows a k rows at asked.agree) in
-        let long = length-after_change k.history (Attach e) in
-        let room = asked.room in
-        omega (arith, more, count, long, room);
+          let slots_size = at.sized.slots in
+          let more : live_count (set k.slots t (Live e)) + one_if (is_live (slot_at k.slots t)) ≡ live_count k.slots + 1 = live_count_set k.slots t (Live e) (omega (arith, lt, slots_size)) in
+          let count = count_on k.slots (states_of rows) (live_rows a k rows at asked.agree) in
+          let long = length-after_change k.history (Attach e) in
+          let room = asked.room in
+          omega (arith, more, count, long, room);
     }
 
 pub published_keeper : (z : TableId) (a : Settings) (table table' : TableId) (k l : KeeperView) (its : Settings) (rows : List Row) (n : ℕ) (e : Entry) (v : ℕ) → IsOurKeeper z a table k its rows n → Asked a k rows e v → table' ≡ table → l ≡ published k e v

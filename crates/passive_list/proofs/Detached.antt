@@ -76,11 +76,11 @@ detached_at_rest a k t e p v marks at lt live size =
         count_rows = at.sized.count_rows;
       };
       room =
-        let slots_size = at.sized.slots in
-        let less : live_count (set k.slots t (Retired e)) + 1 ≡ live_count k.slots + 0 = live_count_put k.slots t (Live e) (Retired e) (omega (arith, lt, slots_size)) live in
-        let long = length-after_change k.history (Detach e.number) in
-        let room = at.room in
-        omega (arith, less, long, room);
+          let slots_size = at.sized.slots in
+          let less : live_count (set k.slots t (Retired e)) + 1 ≡ live_count k.slots + 0 = live_count_put k.slots t (Live e) (Retired e) (omega (arith, lt, slots_size)) live in
+          let long = length-after_change k.history (Detach e.number) in
+          let room = at.room in
+          omega (arith, less, long, room);
     }
 
 abbrev pub row_retired : Row → Entry → List Mark → Row

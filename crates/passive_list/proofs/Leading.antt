@@ -79,43 +79,43 @@ newest_same slots n d x (Some at) here off had = record {
 newest_live : (slots : List Slot) (n d : ℕ) (e : Entry) (best : Option At) → slot_at slots d ≡ Live e → Newest slots n d best → Newest slots n (suc d) (newer_of n d best (Live e))
 newest_live slots n d e None here had = ⊎_elim
     (λ (lt : e.number < n). let test : nat_lt e.number n ≡ true = lt-ltb e.number n lt in
-        rw (test) record {
-          f = e;
-          live = here;
-          number = refl;
-          below = lt;
-          most = λ u h within live below. one_of slots d u e h (λ x. x.number ≤ e.number) here within live (omega arith) (λ before. absurd (had u h before live below));
-        })
+    rw (test) record {
+      f = e;
+      live = here;
+      number = refl;
+      below = lt;
+      most = λ u h within live below. one_of slots d u e h (λ x. x.number ≤ e.number) here within live (omega arith) (λ before. absurd (had u h before live below));
+    })
     (λ (ge : n ≤ e.number). let test : nat_lt e.number n ≡ false = le-ltb e.number n ge in
-        rw (test) (λ u h within live below. one_of slots d u e h (λ x. x.number < n → ⊥) here within live (λ (no_ : e.number < n). omega (arith, no_, ge)) (λ before _. had u h before live below) below))
+    rw (test) (λ u h within live below. one_of slots d u e h (λ x. x.number < n → ⊥) here within live (λ (no_ : e.number < n). omega (arith, no_, ge)) (λ before _. had u h before live below) below))
     (cases_lt e.number n)
 newest_live slots n d e (Some at) here had = ⊎_elim
     (λ (lt : e.number < n). let test : nat_lt e.number n ≡ true = lt-ltb e.number n lt in ⊎_elim
-        (λ (newer : at.number < e.number). let is : nat_lt at.number e.number ≡ true = lt-ltb at.number e.number newer in let number = had.number in
-            rw (test, is) record {
-              f = e;
-              live = here;
-              number = refl;
-              below = lt;
-              most = λ u h within live below. one_of slots d u e h (λ x. x.number ≤ e.number) here within live (omega arith) (λ before. let most = had.most u h before live below in omega (arith, most, newer, number));
-            })
-        (λ (older : e.number ≤ at.number). let is : nat_lt at.number e.number ≡ false = le-ltb at.number e.number older in let number = had.number in
-            rw (test, is) record {
-              f = had.f;
-              live = had.live;
-              number = had.number;
-              below = had.below;
-              most = λ u h within live below. one_of slots d u e h (λ x. x.number ≤ had.f.number) here within live (omega (arith, older, number)) (λ before. had.most u h before live below);
-            })
-        (cases_lt at.number e.number))
+    (λ (newer : at.number < e.number). let is : nat_lt at.number e.number ≡ true = lt-ltb at.number e.number newer in let number = had.number in
+    rw (test, is) record {
+      f = e;
+      live = here;
+      number = refl;
+      below = lt;
+      most = λ u h within live below. one_of slots d u e h (λ x. x.number ≤ e.number) here within live (omega arith) (λ before. let most = had.most u h before live below in omega (arith, most, newer, number));
+    })
+    (λ (older : e.number ≤ at.number). let is : nat_lt at.number e.number ≡ false = le-ltb at.number e.number older in let number = had.number in
+    rw (test, is) record {
+      f = had.f;
+      live = had.live;
+      number = had.number;
+      below = had.below;
+      most = λ u h within live below. one_of slots d u e h (λ x. x.number ≤ had.f.number) here within live (omega (arith, older, number)) (λ before. had.most u h before live below);
+    })
+    (cases_lt at.number e.number))
     (λ (ge : n ≤ e.number). let test : nat_lt e.number n ≡ false = le-ltb e.number n ge in
-        rw (test) record {
-          f = had.f;
-          live = had.live;
-          number = had.number;
-          below = had.below;
-          most = λ u h within live below. one_of slots d u e h (λ x. x.number < n → x.number ≤ had.f.number) here within live (λ (no_ : e.number < n). absurd (omega (arith, no_, ge))) (λ before lt. had.most u h before live lt) below;
-        })
+    rw (test) record {
+      f = had.f;
+      live = had.live;
+      number = had.number;
+      below = had.below;
+      most = λ u h within live below. one_of slots d u e h (λ x. x.number < n → x.number ≤ had.f.number) here within live (λ (no_ : e.number < n). absurd (omega (arith, no_, ge))) (λ before lt. had.most u h before live lt) below;
+    })
     (cases_lt e.number n)
 
 newest_more : (slots : List Slot) (n d : ℕ) (x : Slot) (best : Option At) → slot_at slots d ≡ x → Newest slots n d best → Newest slots n (suc d) (newer_of n d best x)
@@ -155,47 +155,47 @@ oldest_same slots n d x (Some at) here off had = record {
 oldest_live : (slots : List Slot) (n d : ℕ) (e : Entry) (best : Option At) → slot_at slots d ≡ Live e → Oldest slots n d best → Oldest slots n (suc d) (older_of n d best (Live e))
 oldest_live slots n d e None here had = ⊎_elim
     (λ (lt : n < e.number). let test : nat_lt n e.number ≡ true = lt-ltb n e.number lt in
-        rw (test) record {
-          f = e;
-          live = here;
-          number = refl;
-          above = lt;
-          within = omega arith;
-          least = λ u h within live above. one_of slots d u e h (λ x. e.number ≤ x.number) here within live (omega arith) (λ before. absurd (had u h before live above));
-        })
+    rw (test) record {
+      f = e;
+      live = here;
+      number = refl;
+      above = lt;
+      within = omega arith;
+      least = λ u h within live above. one_of slots d u e h (λ x. e.number ≤ x.number) here within live (omega arith) (λ before. absurd (had u h before live above));
+    })
     (λ (ge : e.number ≤ n). let test : nat_lt n e.number ≡ false = le-ltb n e.number ge in
-        rw (test) (λ u h within live above. one_of slots d u e h (λ x. n < x.number → ⊥) here within live (λ (no_ : n < e.number). omega (arith, no_, ge)) (λ before _. had u h before live above) above))
+    rw (test) (λ u h within live above. one_of slots d u e h (λ x. n < x.number → ⊥) here within live (λ (no_ : n < e.number). omega (arith, no_, ge)) (λ before _. had u h before live above) above))
     (cases_lt n e.number)
 oldest_live slots n d e (Some at) here had = ⊎_elim
     (λ (lt : n < e.number). let test : nat_lt n e.number ≡ true = lt-ltb n e.number lt in ⊎_elim
-        (λ (older : e.number < at.number). let is : nat_lt e.number at.number ≡ true = lt-ltb e.number at.number older in let number = had.number in
-            rw (test, is) record {
-              f = e;
-              live = here;
-              number = refl;
-              above = lt;
-              within = omega arith;
-              least = λ u h within live above. one_of slots d u e h (λ x. e.number ≤ x.number) here within live (omega arith) (λ before. let least = had.least u h before live above in omega (arith, least, older, number));
-            })
-        (λ (newer : at.number ≤ e.number). let is : nat_lt e.number at.number ≡ false = le-ltb e.number at.number newer in let number = had.number in let w = had.within in
-            rw (test, is) record {
-              f = had.f;
-              live = had.live;
-              number = had.number;
-              above = had.above;
-              within = omega (arith, w);
-              least = λ u h within live above. one_of slots d u e h (λ x. had.f.number ≤ x.number) here within live (omega (arith, newer, number)) (λ before. had.least u h before live above);
-            })
-        (cases_lt e.number at.number))
+    (λ (older : e.number < at.number). let is : nat_lt e.number at.number ≡ true = lt-ltb e.number at.number older in let number = had.number in
+    rw (test, is) record {
+      f = e;
+      live = here;
+      number = refl;
+      above = lt;
+      within = omega arith;
+      least = λ u h within live above. one_of slots d u e h (λ x. e.number ≤ x.number) here within live (omega arith) (λ before. let least = had.least u h before live above in omega (arith, least, older, number));
+    })
+    (λ (newer : at.number ≤ e.number). let is : nat_lt e.number at.number ≡ false = le-ltb e.number at.number newer in let number = had.number in let w = had.within in
+    rw (test, is) record {
+      f = had.f;
+      live = had.live;
+      number = had.number;
+      above = had.above;
+      within = omega (arith, w);
+      least = λ u h within live above. one_of slots d u e h (λ x. had.f.number ≤ x.number) here within live (omega (arith, newer, number)) (λ before. had.least u h before live above);
+    })
+    (cases_lt e.number at.number))
     (λ (ge : e.number ≤ n). let test : nat_lt n e.number ≡ false = le-ltb n e.number ge in let w = had.within in
-        rw (test) record {
-          f = had.f;
-          live = had.live;
-          number = had.number;
-          above = had.above;
-          within = omega (arith, w);
-          least = λ u h within live above. one_of slots d u e h (λ x. n < x.number → had.f.number ≤ x.number) here within live (λ (no_ : n < e.number). absurd (omega (arith, no_, ge))) (λ before lt. had.least u h before live lt) above;
-        })
+    rw (test) record {
+      f = had.f;
+      live = had.live;
+      number = had.number;
+      above = had.above;
+      within = omega (arith, w);
+      least = λ u h within live above. one_of slots d u e h (λ x. n < x.number → had.f.number ≤ x.number) here within live (λ (no_ : n < e.number). absurd (omega (arith, no_, ge))) (λ before lt. had.least u h before live lt) above;
+    })
     (cases_lt n e.number)
 
 oldest_more : (slots : List Slot) (n d : ℕ) (x : Slot) (best : Option At) → slot_at slots d ≡ x → Oldest slots n d best → Oldest slots n (suc d) (older_of n d best x)

@@ -67,14 +67,14 @@ marked_rows a k rows ev r t c m e at agree is =
     let had = agree.each t lt in
     let size = at.sized.marks in
     rows_set a k (marked k ev r t c m) rows t (row_marked (row_at rows t) c m) lt (omega (arith, lt, most)) agree
-        record {
-          state = subst (TakenAs (marked k ev r t c m) t) (sym (sym (state_at rows t) ∙ is)) retired.1;
-          marks = ap (λ (ms : List Mark). set ms c m) had.marks ∙ sym (row_here k.marks t c m (omega (arith, lt, size)));
-          total = had.total;
-          keeps = had.keeps;
-          unused = had.unused;
-        }
-        (λ u off was. row_stays k (marked k ev r t c m) u (row_at rows u) at.rest refl refl (row_other k.marks t c m u off) refl refl was)
+    record {
+      state = subst (TakenAs (marked k ev r t c m) t) (sym (sym (state_at rows t) ∙ is)) retired.1;
+      marks = ap (λ (ms : List Mark). set ms c m) had.marks ∙ sym (row_here k.marks t c m (omega (arith, lt, size)));
+      total = had.total;
+      keeps = had.keeps;
+      unused = had.unused;
+    }
+    (λ u off was. row_stays k (marked k ev r t c m) u (row_at rows u) at.rest refl refl (row_other k.marks t c m u off) refl refl was)
 
 -- after a look the rows agree, where the mark in the row is the mark in the view
 pub looked_keeper : (z : TableId) (a : Settings) (table table' : TableId) (k l : KeeperView) (its : Settings) (rows : List Row) (n : ℕ) (ev : Event) (r : Reply) (t c : ℕ) (m : Mark) (e : Entry)

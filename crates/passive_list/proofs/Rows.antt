@@ -118,11 +118,12 @@ row_stays k l t r rest settings slot marks total keeps had = record {
       collected = rw (settings, marks) is.collected;
       total = total ∙ is.total;
     }
+
     taken : (x : Slot) → TakenAs k t x → TakenAs l t x
     taken Vacant is = ⊎_elim
-      (λ (vacant : slot_at k.slots t ≡ Vacant). inl (slot ∙ vacant))
-      (λ (may : MayVacate k t). inr record { drained = drained may.drained; keeps_nothing = keeps ∙ may.keeps_nothing })
-      is
+        (λ (vacant : slot_at k.slots t ≡ Vacant). inl (slot ∙ vacant))
+        (λ (may : MayVacate k t). inr record { drained = drained may.drained; keeps_nothing = keeps ∙ may.keeps_nothing })
+        is
     taken (Live e) is = slot ∙ is
     taken (Retired e) is = slot ∙ is
 
@@ -132,13 +133,13 @@ pub rows_set : (a : Settings) (k l : KeeperView) (rows : List Row) (t : ℕ) (r 
 rows_set a k l rows t r lt place agree here others = record {
   size = length-set rows t r ∙ agree.size;
   each = λ u within. ⊎_elim
-    (λ (is : (u ≡ t) × (row_at (set rows t r) u ≡ r)). subst (RowAgrees l u) (sym is.1) (subst (λ v. RowAgrees l v r) (sym is.0) here))
-    (λ (off : (u ≡ t → ⊥) × (row_at (set rows t r) u ≡ row_at rows u)). subst (RowAgrees l u) (sym off.1) (others u off.0 (agree.each u within)))
-    (place_cases no_row rows t r u (let size = agree.size in omega arith));
+      (λ (is : (u ≡ t) × (row_at (set rows t r) u ≡ r)). subst (RowAgrees l u) (sym is.1) (subst (λ v. RowAgrees l v r) (sym is.0) here))
+      (λ (off : (u ≡ t → ⊥) × (row_at (set rows t r) u ≡ row_at rows u)). subst (RowAgrees l u) (sym off.1) (others u off.0 (agree.each u within)))
+      (place_cases no_row rows t r u (let size = agree.size in omega arith));
   beyond = λ u past. ⊎_elim
-    (λ (is : (u ≡ t) × (row_at (set rows t r) u ≡ r)). absurd (let e = is.0 in omega (arith, e, past, lt)))
-    (λ (off : (u ≡ t → ⊥) × (row_at (set rows t r) u ≡ row_at rows u)). ap state_of off.1 ∙ agree.beyond u past)
-    (place_cases no_row rows t r u (let size = agree.size in omega arith));
+      (λ (is : (u ≡ t) × (row_at (set rows t r) u ≡ r)). absurd (let e = is.0 in omega (arith, e, past, lt)))
+      (λ (off : (u ≡ t → ⊥) × (row_at (set rows t r) u ≡ row_at rows u)). ap state_of off.1 ∙ agree.beyond u past)
+      (place_cases no_row rows t r u (let size = agree.size in omega arith));
 }
 
 -- all rows stay

@@ -37,7 +37,7 @@ pub taking_next : (k l m : KeeperView) (t cpus c w : ℕ) (marks : List Mark) �
 taking_next k l m t cpus c w marks fresh same at is =
     let x = snapshot_mark w in
     let here : with_cell (set k.marks t marks) t c x ≡ set k.marks t (set marks c x) =
-        ap (λ (row : List Mark). set (set k.marks t marks) t (set row c x)) (get_or-set_same k.marks t marks [] fresh.place) ∙ set-set k.marks t marks (set marks c x) in
+    ap (λ (row : List Mark). set (set k.marks t marks) t (set row c x)) (get_or-set_same k.marks t marks [] fresh.place) ∙ set-set k.marks t marks (set marks c x) in
     is ∙ (ap (λ (y : KeeperView). record y { marks = with_cell y.marks t c x; due = due_before y.settings.cpus t (c + 1) }) at
     ∙ (ap (λ (ms : List (List Mark)). record k { marks = ms; due = due_before k.settings.cpus t (c + 1) }) here
     ∙ ap (λ (n : ℕ). record k { marks = set k.marks t (set marks c x); due = due_before n t (c + 1) }) (sym same)))
@@ -55,9 +55,9 @@ pub one_taken : (n w : ℕ) (marks : List Mark) → n < 8 → AreSnapshots n mar
 one_taken n w marks few had = record {
   size = length-set marks n (snapshot_mark w) ∙ had.size;
   each = λ c lt. ⊎_elim
-    (λ (is : c ≡ n). (w, ap (λ d. get_or (set marks n (snapshot_mark w)) d no_mark) is ∙ get_or-set_same marks n (snapshot_mark w) no_mark (let size = had.size in omega (arith, size, few))))
-    (λ (off : c ≡ n → ⊥). let was = had.each c (omega (arith, lt, off)) in (was.0, get_or-set_other marks n c (snapshot_mark w) no_mark off ∙ was.1))
-    (cases_eq c n);
+      (λ (is : c ≡ n). (w, ap (λ d. get_or (set marks n (snapshot_mark w)) d no_mark) is ∙ get_or-set_same marks n (snapshot_mark w) no_mark (let size = had.size in omega (arith, size, few))))
+      (λ (off : c ≡ n → ⊥). let was = had.each c (omega (arith, lt, off)) in (was.0, get_or-set_other marks n c (snapshot_mark w) no_mark off ∙ was.1))
+      (cases_eq c n);
 }
 
 pub all_taken : (n m : ℕ) (marks : List Mark) → n ≤ m → AreSnapshots m marks → AreSnapshots n marks

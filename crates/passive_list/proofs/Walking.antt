@@ -124,8 +124,8 @@ followed_on key x y z w t n (suc u) last on v had =
       is = had.is ∙ ap (λ (i : CpuView). record i { pass = w.pass; search = Some (search_at key (length x.pass) (AtNumber u)) }) left;
       slot = had.holds.1;
       below = λ f stands.
-        let from_here = subst (λ (p : List Change). StandsOn p (length x.pass) (length p) t v.entry) (sym pass) v.stands in
-        omega (arith, had.descends t refl v.entry f from_here stands, v.number);
+          let from_here = subst (λ (p : List Change). StandsOn p (length x.pass) (length p) t v.entry) (sym pass) v.stands in
+          omega (arith, had.descends t refl v.entry f from_here stands, v.number);
     }
 
 pub follows : (key : Key) (x y z w : CpuView) (t n m last : ℕ) → IsOn key x t last y → HasVisited y key t n false z → HasLoadedLink z m w → IsAtLink key x m n w
@@ -167,6 +167,6 @@ found key x y z w t n last e slot on had taken =
       is = is0 ∙ ap (λ (p : List Change). record x { pass = p; search = None; found = Some e }) (sym (to_z ∙ to_y));
       lawful = subst (λ (p : List Change). IsLawful p (length x.pass) (length p) key (Some e)) (sym to_z) f.lawful;
       seen = λ g (q : Some e ≡ Some g).
-        let same : e ≡ g = cc in
-        subst (λ (i : Entry). (i.slot < 32) × IsAttached w.pass i) same (omega (arith, on.slot, slot), subst (λ (p : List Change). IsAttached p e) (sym to_z) f.attached);
+          let same : e ≡ g = cc in
+          subst (λ (i : Entry). (i.slot < 32) × IsAttached w.pass i) same (omega (arith, on.slot, slot), subst (λ (p : List Change). IsAttached p e) (sym to_z) f.attached);
     }

@@ -18,12 +18,7 @@ const ABOVE_ALL: u64 = 1_000_001;
 /// at some point from what this CPU had seen at the call to what it has seen at the return; a found entry keeps its slot until this
 /// section ends. The steps are loads alone, five for each entry visited, and it takes no memory.
 /// Condition: inside.
-pub fn find<D: Domain>(
-    words: &Words,
-    cpu: &mut Cpu<D>,
-    kind: Kind,
-    name: &Name,
-) -> Option<Entry>
+pub fn find<D: Domain>(words: &Words, cpu: &mut Cpu<D>, kind: Kind, name: &Name) -> Option<Entry>
     requires words { (words.now.table ≡ D.table) × (words.now.settings ≡ D.settings) }
     requires inside { cpu.old.view.begin ≢ None }
     ensures { HasFound (key_with kind name.now) cpu.old cpu.new result }
@@ -34,13 +29,7 @@ pub fn find<D: Domain>(
 }
 
 /// The whole search, by the CPU's seat.
-fn look_up(
-    words: &Words,
-    seat: &mut CpuSeat,
-    cpu: u8,
-    kind: Kind,
-    name: &Name,
-) -> Option<Entry>
+fn look_up(words: &Words, seat: &mut CpuSeat, cpu: u8, kind: Kind, name: &Name) -> Option<Entry>
     requires table { seat.old.table ≡ words.now.table }
     requires cpu { (cpu < 8) × (seat.old.view.id ≡ cpu) }
     requires may { MaySeek seat.old.view }

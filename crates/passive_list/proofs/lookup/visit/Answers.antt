@@ -43,6 +43,6 @@ pub returns-clause-change : goal.returns-clause-change
 returns-clause-change c =
     let key = key_with c.args.kind c.args.name.now in
     let all = visited c.args.seat.now.view c.load_searched-number.new.seat.view c.load_searched-found.new.seat.view c.load_searched-high.new.seat.view c.load_searched-low.new.seat.view
-        key c.args.slot c.load_searched-number.result c.load_searched-found.result c.load_searched-high.result c.load_searched-low.result
-        c.load_searched-number.ensures.change c.load_searched-found.ensures.change c.load_searched-high.ensures.change c.load_searched-low.ensures.change in
+    key c.args.slot c.load_searched-number.result c.load_searched-found.result c.load_searched-high.result c.load_searched-low.result
+    c.load_searched-number.ensures.change c.load_searched-found.ensures.change c.load_searched-high.ensures.change c.load_searched-low.ensures.change in
     subst (λ (b : Bool). HasVisited c.args.seat.now.view key c.args.slot c.load_searched-number.result b c.load_searched-low.new.seat.view) (sym c.are_words_of.ensures) all

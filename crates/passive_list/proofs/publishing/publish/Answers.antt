@@ -15,7 +15,7 @@ publish-requires-clause-may g c =
     let v = c.link_below-link.result in
     let e : Entry = record { number = inside.changes + 1; slot = c.args.slot; rec = c.args.rec } in
     let asked = ask g.D.Domain.table g.D.Domain.settings inside.seat.table k inside.settings inside.rows inside.changes c.args.slot v c.args.rec c.args.keeper.now c.keeper.invariant c.keeper.view_is
-        c.requires.vacant c.requires.keeps c.requires.name c.requires.free c.requires.room c.link_below-link.ensures in
+    c.requires.vacant c.requires.keeps c.requires.name c.requires.free c.requires.room c.link_below-link.ensures in
     (e, subst (λ (x : KeeperView). MayPublish x c.args.slot e) (sym c.prepare.ensures.prepared) (may_publish g.D.Domain.settings k inside.rows e v asked))
 
 pub invariant_of-keeper : goal.invariant_of-keeper
@@ -25,11 +25,11 @@ invariant_of-keeper g c =
     let v = c.link_below-link.result in
     let e : Entry = record { number = inside.changes + 1; slot = c.args.slot; rec = c.args.rec } in
     let asked = ask g.D.Domain.table g.D.Domain.settings inside.seat.table k inside.settings inside.rows inside.changes c.args.slot v c.args.rec c.args.keeper.now c.keeper.invariant c.keeper.view_is
-        c.requires.vacant c.requires.keeps c.requires.name c.requires.free c.requires.room c.link_below-link.ensures in
+    c.requires.vacant c.requires.keeps c.requires.name c.requires.free c.requires.room c.link_below-link.ensures in
     let may = may_publish g.D.Domain.settings k inside.rows e v asked in
     let is = published_is k c.prepare.new.seat.view c.publish.new.keeper.view e v c.prepare.ensures.prepared c.publish.ensures.change may in
     published_keeper g.D.Domain.table g.D.Domain.settings inside.seat.table c.publish.new.keeper.table k c.publish.new.keeper.view inside.settings inside.rows inside.changes e v c.keeper.invariant asked
-        (c.publish.ensures.table ∙ c.prepare.ensures.table) is
+    (c.publish.ensures.table ∙ c.prepare.ensures.table) is
 
 pub returns-clause-change : goal.returns-clause-change
 returns-clause-change g c =
@@ -39,7 +39,7 @@ returns-clause-change g c =
     let e : Entry = record { number = inside.changes + 1; slot = c.args.slot; rec = c.args.rec } in
     let our = c.keeper.invariant in
     let asked = ask g.D.Domain.table g.D.Domain.settings inside.seat.table k inside.settings inside.rows inside.changes c.args.slot v c.args.rec c.args.keeper.now our c.keeper.view_is
-        c.requires.vacant c.requires.keeps c.requires.name c.requires.free c.requires.room c.link_below-link.ensures in
+    c.requires.vacant c.requires.keeps c.requires.name c.requires.free c.requires.room c.link_below-link.ensures in
     let may = may_publish g.D.Domain.settings k inside.rows e v asked in
     let is = published_is k c.prepare.new.seat.view c.publish.new.keeper.view e v c.prepare.ensures.prepared c.publish.ensures.change may in
     let b : OnKeeper = record { view = c.publish.new.keeper.view; slots = states_of (set inside.rows c.args.slot (row_live (row_at inside.rows c.args.slot) e)) } in

@@ -24,7 +24,7 @@ invariant_of-keeper g c =
     let live = live_in g.D.Domain.settings k inside.rows t e our.rows (state_at inside.rows t ∙ c.in-Live.is) in
     let is = detached_is k c.unpublish.new.keeper.view c.snapshots-marks.new.seat.view t e p v c.snapshots-marks.result live.1 c.unpublish.ensures.change c.snapshots-marks.ensures.view in
     detached_keeper g.D.Domain.table g.D.Domain.settings inside.seat.table c.snapshots-marks.new.seat.table k c.snapshots-marks.new.seat.view inside.settings inside.rows inside.changes t e p v c.snapshots-marks.result our c.in-Live.is
-        c.snapshots-marks.ensures.marks.size (c.snapshots-marks.ensures.table ∙ c.unpublish.ensures.table) is
+    c.snapshots-marks.ensures.marks.size (c.snapshots-marks.ensures.table ∙ c.unpublish.ensures.table) is
 
 pub returns-clause-change : goal.returns-clause-change
 returns-clause-change g c =

@@ -21,7 +21,7 @@ returns-clause-value g c =
     let value : c.load_local-value.result ≡ r.value = c.load_local-value.ensures.word ∙ ap (λ (s : Seated ReferenceView). word (words_of s.view.entry) 4) third in
     let name : c.in-Some.name ≡ r.name = name_read r.name c.in-Some.name _ _ c.load_local-kind.ensures.name high low (sym c.from_words.ensures ∙ c.in-Some.is) in
     let kind : c.if-kind-eq-IFACE.result ≡ r.kind = elim c.if-kind-eq-IFACE.branch [
-      then-kind-eq-IFACE w ↦ w.result-is ∙ sym (iface_word r.kind (sym c.load_local-kind.ensures.word ∙ w.if-kind-eq-IFACE.true))
+      | then-kind-eq-IFACE w ↦ w.result-is ∙ sym (iface_word r.kind (sym c.load_local-kind.ensures.word ∙ w.if-kind-eq-IFACE.true))
       | else-kind-eq-IFACE w ↦ w.result-is ∙ sym (driver_word r.kind (λ q. w.if-kind-eq-IFACE.false (c.load_local-kind.ensures.word ∙ q)))
     ] in
     (λ i. record { kind = kind i; name = name i; value = value i }) ∙ ap (λ (v : ReferenceView). v.entry.rec) c.self.view_is

@@ -13,6 +13,7 @@ returns g c =
     let k = c.self.inside.seat.view in
     let rows = c.self.inside.rows in
     let t = c.args.slot in
-    let cpus = c.self.inside.settings.cpus in
-    (λ is. subst (λ (x : OnKeeper). IsDrainedOn x t) c.self.view_is (drained_tells a k rows t cpus our.view our.rows c.requires same (sym c.is_drained_row.ensures ∙ is)),
-     λ is. c.is_drained_row.ensures ∙ drained_from a k rows t cpus our.view our.rows c.requires same (subst (λ (x : OnKeeper). IsDrainedOn x t) (sym c.self.view_is) is))
+    let cpus = c.self.inside.settings.cpus in (
+      λ is. subst (λ (x : OnKeeper). IsDrainedOn x t) c.self.view_is (drained_tells a k rows t cpus our.view our.rows c.requires same (sym c.is_drained_row.ensures ∙ is)),
+      λ is. c.is_drained_row.ensures ∙ drained_from a k rows t cpus our.view our.rows c.requires same (subst (λ (x : OnKeeper). IsDrainedOn x t) (sym c.self.view_is) is),
+    )
