@@ -1,6 +1,7 @@
 //! The keeper, the writer behind the interlock: its seat, and plain data that agree with what the seat knows.
 
-ghost use Rattle.std.specs.Prelude.{◌≡◌, ◌<◌, IsTrue, length};
+ghost use Rattle.std.specs.Prelude.{◌≡◌, ◌<◌, IsTrue, length, replicate};
+ghost use Rattle.passive_core.specs.declared.state.Slot.TheVariants.{Vacant};
 ghost use Rattle.passive_core.specs.Limits.{are_fit};
 ghost use Rattle.passive_core.specs.State.{slot_at, kept_at};
 ghost use Rattle.cpu_words.specs.Opening.{keeper_with};
@@ -74,7 +75,8 @@ impl<D: Domain> Keeper<D> {
     pub fn of_seat(seat: KeeperSeat, settings: Settings) -> Keeper<D>
         requires table { (seat.table ≡ D.table) × (settings ≡ D.settings) × IsTrue (are_fit settings) }
         requires new { seat.view ≡ keeper_with settings settings.cpus }
-        ensures { result.view ≡ keeper_with settings settings.cpus }
+        ensures view { result.view ≡ keeper_with settings settings.cpus }
+        ensures slots { result.slots ≡ replicate 32 Vacant }
     {
         Keeper {
             seat,

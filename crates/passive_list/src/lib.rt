@@ -8,6 +8,7 @@
 mod cpu;
 mod grace;
 mod keeper;
+mod keeper_notes;
 mod links;
 mod lookup;
 mod notes;
@@ -20,6 +21,7 @@ mod vacating;
 pub use cpu::Cpu;
 pub use grace::{glance, look, snapshot};
 pub use keeper::{Keeper, Row, SlotState};
+pub use keeper_notes::{hear_keeper, tell_keeper};
 pub use lookup::find;
 pub use notes::{Note, hear, tell};
 pub use place::Place;
