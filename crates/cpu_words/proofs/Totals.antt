@@ -40,35 +40,19 @@ use Rattle.cpu_words.specs.Steps.{Makes, JoinsBy, KeeperMay, KeeperStores}
 use Rattle.cpu_words.specs.Draining.{MayTotalAdd, TotalAddTold, MayTotalSub, TotalSubTold, MayJoinKeeper, giving_up, with_given_up}
 use Rattle.cpu_words.proofs.Placing.{agrees_set, agrees_same}
 use Rattle.cpu_words.proofs.Showing.{standing_in, backed, shows_join}
+use Rattle.cpu_words.proofs.Counting.{one_more_same, one_more_other}
 use Rattle.cpu_words.proofs.KeeperSteps.{beside, beside_stays, beside_words, KeeperLists, keeper_lists, with_keeper, leaves_all, keeper_good_after, keeper_makes}
 use Rattle.cpu_words.proofs.Standing.{standing_place}
 use Rattle.cpu_words.proofs.KeeperSees.{seen_by_keeper}
 
 -- Counts by number
 
-longer : (n m : ℕ) (l : List ℕ) → number_at (l ++ replicate m 0) n ≡ number_at l n
-longer n m [] = get_or_all m 0 n
-longer zero m (x ∷ l) = refl
-longer (suc n) m (x ∷ l) = longer n m l
-
-size_all : (m : ℕ) → length {A = ℕ} (replicate m 0) ≡ m
-size_all zero = refl
-size_all (suc m) = ap suc (size_all m)
-
-within : (l : List ℕ) (n : ℕ) → n < length (l ++ replicate (suc n) 0)
-within l n = omega (arith, length-append l (replicate (suc n) 0), size_all (suc n))
-
-pub one_more_here : (l : List ℕ) (n : ℕ) → number_at (one_more l n) n ≡ suc (number_at l n)
-one_more_here l n = get_or-set_same (l ++ replicate (suc n) 0) n (suc (number_at l n)) 0 (within l n)
-
-pub one_more_other : (l : List ℕ) (n m : ℕ) → m ≢ n → number_at (one_more l n) m ≡ number_at l m
-one_more_other l n m off = get_or-set_other (l ++ replicate (suc n) 0) n m (suc (number_at l n)) 0 off ∙ longer m (suc n) l
-
+-- one more at n, and nothing at other numbers
 pub one_more_at : (l : List ℕ) (n m : ℕ) → number_at (one_more l n) m ≡ number_at l m + one_if (m == n)
 one_more_at l n m = ⊎_elim
     (λ (same : m ≡ n).
     let one = one_self m n same in
-    let new = ap (number_at (one_more l n)) same ∙ one_more_here l n in
+    let new = ap (number_at (one_more l n)) same ∙ one_more_same l n in
     let old = ap (number_at l) same in
     omega (arith, one, new, old))
     (λ (off : m ≢ n). let none = one_other m n off in let new = one_more_other l n m off in omega (arith, none, new))
@@ -164,7 +148,7 @@ shown_less g k t e good had here some_left u f there = ⊎_elim
     let same : f ≡ e = Rattle.passive_core.proofs.Occupied.one_in f e (slot_at g.slots t) here (subst (λ v. IsIn f (slot_at g.slots v)) is there) in
     let new_total = ap (total_at (set g.totals t (total_at g.totals t - 1))) is ∙ total_here g.totals t (total_at g.totals t - 1) lt in
     let old_total = ap (total_at g.totals) is in
-    let new = ap (λ (x : Entry). number_at (one_more k.given_up e.number) x.number) same ∙ one_more_here k.given_up e.number in
+    let new = ap (λ (x : Entry). number_at (one_more k.given_up e.number) x.number) same ∙ one_more_same k.given_up e.number in
     let old = ap (λ (x : Entry). number_at k.given_up x.number) same in
     omega (arith, new_total, old_total, new, old, some_left))
     (λ (off : u ≢ t).

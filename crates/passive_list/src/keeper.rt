@@ -18,6 +18,7 @@ pub use passive_core::Slot as SlotState;
 #[derive(Clone, Copy, Debug, PartialEq, Eq)]
 pub struct Row {
     /// What stands there.
+    /// Vacant, or the slot's live or retired entry.
     pub state: SlotState,
     /// Of each CPU, for a retired entry.
     pub marks: [Mark; 8],

@@ -101,8 +101,8 @@ fn take(
     Entry { number, slot, rec }
 }
 
-/// The word of a kind.
-fn kind_word(kind: Kind) -> u64
+/// The word of a kind, as a record has it.
+pub(crate) fn kind_word(kind: Kind) -> u64
     ensures { result ≡ kind_word kind }
 {
     match kind {

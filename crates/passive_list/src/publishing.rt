@@ -5,7 +5,7 @@ ghost use Rattle.passive_core.specs.declared.state.Slot.TheVariants.{Vacant};
 ghost use Rattle.passive_core.specs.Attaching.{key_of_record};
 ghost use Rattle.passive_core.specs.Events.{keeps_rightly, words_of};
 ghost use Rattle.passive_core.specs.Names.{is_lawful};
-ghost use Rattle.passive_core.specs.Slots.{is_taken, kind_word, live_count};
+ghost use Rattle.passive_core.specs.Slots.{is_taken, live_count};
 ghost use Rattle.passive_core.specs.State.{slot_at, kept_at};
 ghost use Rattle.cpu_words.specs.Vacating.{MayWrite};
 ghost use Rattle.passive_list.specs.Keepers.{AreSized};
@@ -13,8 +13,9 @@ ghost use Rattle.passive_list.specs.Publishing.{HasAttached, with_row, with_coun
 
 use crate::keeper::{Keeper, SlotState};
 use crate::links::link_below;
+use crate::lookup::kind_word;
 use cpu_words::{Domain, KeeperSeat, Words, steps};
-use passive_core::{BIAS, Entry, Kind, Record};
+use passive_core::{BIAS, Entry, Record};
 
 /// Publishes an entry in `slot`: from now on lookups find it, and the history ends with its attach. Its number is how many changes there
 /// are then. It answers the entry.
@@ -86,14 +87,5 @@ fn store_counts(words: &Words, seat: &mut KeeperSeat, slot: u8, cpus: u8)
 {
     for c in 0..cpus {
         steps::store_count(words, seat, slot, c, BIAS);
-    }
-}
-
-fn kind_word(kind: Kind) -> u64
-    ensures { result ≡ kind_word kind }
-{
-    match kind {
-        Kind::Iface => 1,
-        Kind::Driver => 2,
     }
 }

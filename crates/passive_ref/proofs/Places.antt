@@ -82,10 +82,7 @@ none_here x ps n agree is = ⊎_elim
 pub known_attached : (x : CpuView) (ps : List Place) (e : Entry) → PassiveAgree x ps → ((f : Entry) → x.found ≡ Some f → IsAttached x.pass f) → (x.found ≡ Some e) ⊎ Contains x.references e → IsAttached x.pass e
 known_attached x ps e agree seen known = ⊎_elim (λ (found : x.found ≡ Some e). seen e found) (λ (among : Contains x.references e). (agree.each e among).1) known
 
--- the place of such an entry's slot counts its references, or is another's, and it has none
-pub counted_here : (x : CpuView) (ps : List Place) (t n : ℕ) → PassiveAgree x ps → (place_at ps t).number ≡ n → (place_at ps t).count ≡ references_to n x.references
-counted_here x ps t n agree number = agree.counts t ∙ ap (λ k. references_to k x.references) number
-
+-- where the place of an entry's slot is of another number, the CPU has no reference to that entry
 pub uncounted_here : (x : CpuView) (ps : List Place) (t n : ℕ) (e : Entry) → PassiveAgree x ps → IsAt e t n → IsAttached x.pass e → (place_at ps t).number ≢ n → references_to n x.references ≡ 0
 uncounted_here x ps t n e agree at attached off = ⊎_elim
     (λ (some : nat_lt 0 (references_to n x.references) ≡ true).
