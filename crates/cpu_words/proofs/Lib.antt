@@ -30,3 +30,4 @@ pub mod Unpublishing
 pub mod Notes
 pub mod Seating
 pub mod Opening
+pub mod Pictures

@@ -32,7 +32,7 @@ use Rattle.cpu_words.specs.Opening.{AreOpening, AreSeats, keeper_with}
 none_in : (z : Settings) (t : ℕ) (e : Entry) → IsIn e (slot_at (replicate z.slots Vacant) t) → ⊥
 none_in z t e is = not_vacant e (slot_at (replicate z.slots Vacant) t) (get_or_all z.slots Vacant t) is
 
-first_good : (z : Settings) → IsTrue (are_fit z) → Good (opening z)
+pub first_good : (z : Settings) → IsTrue (are_fit z) → Good (opening z)
 first_good z fit = record {
   holds = opening_holds z fit;
   fresh = λ c unseated lt. record {
@@ -64,7 +64,7 @@ first_words z words fit are (total_of t) here = are.totals t (omega (arith, rang
 
 -- the keeper's view at the start
 
-first_shown : (z : Settings) → Shown (opening z) (first_view z)
+pub first_shown : (z : Settings) → Shown (opening z) (first_view z)
 first_shown z = record {
   is = refl;
   counts = λ c t vacant. refl;

@@ -143,7 +143,7 @@ seats_of g k may good had =
       keeper = keeper_shown g k had;
     }
 
-seats_by : (k : KeeperView) → MaySeat k → SplitsBy (Seat k.seated) (Keeper k) (Keeper (one_seated k)) (Cpu (new_cpu k.settings k.seated))
+pub seats_by : (k : KeeperView) → MaySeat k → SplitsBy (Seat k.seated) (Keeper k) (Keeper (one_seated k)) (Cpu (new_cpu k.settings k.seated))
 seats_by k may g good had =
     let p = seats_of g k may good had in record {
       after = one_more_seated g;

@@ -8,7 +8,8 @@ use Rattle.passive_core.specs.declared.settings.Settings.{Settings}
 use Rattle.passive_core.specs.State.{State, bias, section_at, depth_at, seen_at, slot_at, passive_at, count_at}
 use Rattle.passive_core.specs.Invariant.{IsIn, one_if, standing_of, Holds}
 use Rattle.cpu_words.specs.Spots.{Spot, index, IsSpot, word_at}
-use Rattle.cpu_words.specs.Views.{Shown, is_to}
+use Rattle.cpu_words.specs.Views.{KeeperShown, Shown, is_to}
+use Rattle.cpu_words.specs.declared.view.KeeperView.{KeeperView}
 use Rattle.cpu_words.specs.declared.view.View.{View}
 use Rattle.cpu_words.specs.declared.view.View.TheVariants.{Keeper, Cpu, Reference, Note, Spent}
 
@@ -50,6 +51,12 @@ pub record IsFresh (g : State) (c : ℕ) : Type 0 where
 pub record Good (g : State) : Type 0 where
   pub holds : Holds g
   pub fresh : (c : ℕ) → g.seated ≤ c → c < g.settings.cpus → IsFresh g c
+
+-- some such state shows the keeper's view
+pub record IsPictured (k : KeeperView) : Type 0 where
+  pub g : State
+  pub good : Good g
+  pub shown : KeeperShown g k
 
 -- there is a state of the core that the table shows
 pub record Ruled (z : Settings) (s : Table ℕ View) : Type 0 where

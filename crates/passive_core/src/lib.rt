@@ -6,6 +6,7 @@ mod entry;
 mod event;
 mod laws;
 mod machine;
+mod marks;
 mod name;
 mod psref;
 mod refusal;
@@ -20,6 +21,9 @@ pub use laws::{
     balance_at_rest, every_run_keeps, grace_law, headline, lawful_answers, safe_reuse, worked_run,
 };
 pub use machine::{BIAS, Core, run_events};
+pub use marks::{
+    are_clear, are_collected, cleared, collected, have_passed, is_some_collected, looked,
+};
 pub use name::{Name, NameFault, name_laws};
 pub use psref::CorePsref;
 pub use refusal::Refusal;

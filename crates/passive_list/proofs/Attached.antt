@@ -31,10 +31,11 @@ use Rattle.passive_core.proofs.Occupied.{in_within, slot_cases}
 use Rattle.cpu_words.specs.declared.view.KeeperView.{KeeperView}
 use Rattle.cpu_words.specs.Publishing.{LeadsBelow, MayPublish, HasPublished}
 use Rattle.cpu_words.specs.Publishing.LeadsBelow.{To_end, To_slot}
+use Rattle.cpu_words.specs.Rule.{IsPictured}
 use Rattle.cpu_words.specs.Vacating.{MayVacate, MayWrite, as_vacant, vacant_from}
 use Rattle.passive_list.specs.declared.keeper.Row.{Row}
 use Rattle.passive_list.specs.Keepers.{OnKeeper, row_at, states_of, TakenAs, AreSized, RowAgrees, IsAtRest, RowsAgree, IsOurKeeper}
-use Rattle.passive_list.specs.Publishing.{with_row, prepared, published, HasAttached}
+use Rattle.passive_list.specs.Publishing.{with_row, prepared, published, MayAttach, HasAttached}
 use Rattle.passive_list.proofs.Rows.{state_at, live_in, row_stays, rows_set}
 use Rattle.passive_list.proofs.Preparing.{vacant_now, as_vacant_is, biases_size, bias_stored, vacant_sized}
 
@@ -145,19 +146,6 @@ entry_is e lawful = by e.rec.kind
 
 -- Publishing
 
--- what the keeper is asked for
-pub record Asked (a : Settings) (k : KeeperView) (rows : List Row) (e : Entry) (v : ℕ) : Type 0 where
-  pub at : IsAtRest a k
-  pub agree : RowsAgree a k rows
-  pub slot : e.slot < a.slots
-  pub vacant : slot_at (states_of rows) e.slot ≡ Vacant
-  pub keeps : IsTrue (keeps_rightly (kept_at k.keeps e.slot) e.rec.kind)
-  pub name : IsTrue (is_lawful e.rec.name)
-  pub free : is_taken (key_of e) (states_of rows) ≡ false
-  pub room : length k.history + live_count (states_of rows) + 2 ≤ a.change_limit
-  pub number : e.number ≡ suc (length k.history)
-  pub link : LeadsBelow (states_of rows) e.number v
-
 pub asked_write : (a : Settings) (k : KeeperView) (rows : List Row) (t : ℕ) → IsAtRest a k → RowsAgree a k rows → t < a.slots → slot_at (states_of rows) t ≡ Vacant → MayWrite k t
 asked_write a k rows t at agree lt vacant = record {
   rest = at.rest;
@@ -165,8 +153,8 @@ asked_write a k rows t at agree lt vacant = record {
   vacant = subst (TakenAs k t) (sym (state_at rows t) ∙ vacant) (agree.each t lt).state;
 }
 
-pub may_publish : (a : Settings) (k : KeeperView) (rows : List Row) (e : Entry) (v : ℕ) → Asked a k rows e v → MayPublish (prepared k e v) e.slot e
-may_publish a k rows e v asked =
+pub may_publish : (a : Settings) (k : KeeperView) (rows : List Row) (e : Entry) (v : ℕ) → MayAttach a k rows e → LeadsBelow (states_of rows) e.number v → MayPublish (prepared k e v) e.slot e
+may_publish a k rows e v asked link =
     let at = asked.at in
     let t = e.slot in
     let w = as_vacant k t in
@@ -193,7 +181,7 @@ may_publish a k rows e v asked =
       free = free_on (key_of e) (states_of rows) w.slots back asked.free;
       room = let count = count_on w.slots (states_of rows) back in let long = ap (λ (h : List Change). length h) history in let room = asked.room in let limit = ap (λ (z : Settings). z.change_limit) settings in omega (arith, count, long, room, limit);
       link = subst (LeadsBelow w.slots (suc (length w.history))) (sym (get_or-set_same k.next t v none (omega (arith, lt, next_size))))
-          (subst (λ (n : ℕ). LeadsBelow w.slots n v) number (leads_on (states_of rows) w.slots e.number v on back asked.link));
+          (subst (λ (n : ℕ). LeadsBelow w.slots n v) number (leads_on (states_of rows) w.slots e.number v on back link));
       counts = λ c cpu. bias_stored w.counts t k.settings.cpus c (get_or w.counts t []) (omega (arith, lt, count_size)) (subst (λ (z : Settings). c < z.cpus) (settings ∙ sym at.settings) cpu);
       total = ap (λ (x : KeeperView). total_at x.totals t) is ∙ (sym had.total ∙ had.unused (sym (state_at rows t) ∙ asked.vacant));
       keeps = ap (λ (x : KeeperView). keeps_rightly (kept_at x.keeps t) e.rec.kind) is ∙ asked.keeps;
@@ -245,7 +233,7 @@ published_is k l m e v at told may =
 abbrev pub row_live : Row → Entry → Row
 row_live r e = record { state = Live e; marks = r.marks; total = r.total; keeps = r.keeps }
 
-published_at_rest : (a : Settings) (k : KeeperView) (rows : List Row) (e : Entry) (v : ℕ) → Asked a k rows e v → IsAtRest a (published k e v)
+published_at_rest : (a : Settings) (k : KeeperView) (rows : List Row) (e : Entry) (v : ℕ) → MayAttach a k rows e → IsAtRest a (published k e v)
 published_at_rest a k rows e v asked =
     let at = asked.at in
     let t = e.slot in
@@ -281,9 +269,9 @@ published_at_rest a k rows e v asked =
           omega (arith, more, count, long, room);
     }
 
-pub published_keeper : (z : TableId) (a : Settings) (table table' : TableId) (k l : KeeperView) (its : Settings) (rows : List Row) (n : ℕ) (e : Entry) (v : ℕ) → IsOurKeeper z a table k its rows n → Asked a k rows e v → table' ≡ table → l ≡ published k e v
+pub published_keeper : (z : TableId) (a : Settings) (table table' : TableId) (k l : KeeperView) (its : Settings) (rows : List Row) (n : ℕ) (e : Entry) (v : ℕ) → IsOurKeeper z a table k its rows n → MayAttach a k rows e → table' ≡ table → l ≡ published k e v → IsPictured l
     → IsOurKeeper z a table' l its (set rows e.slot (row_live (row_at rows e.slot) e)) (n + 1)
-published_keeper z a table table' k l its rows n e v our asked same change =
+published_keeper z a table table' k l its rows n e v our asked same change pictured =
     let at = asked.at in
     let t = e.slot in
     let lt = asked.slot in
@@ -295,6 +283,7 @@ published_keeper z a table table' k l its rows n e v our asked same change =
       table = same ∙ our.table;
       settings = our.settings;
       view = subst (IsAtRest a) (sym change) (published_at_rest a k rows e v asked);
+      pictured = pictured;
       changes = let was = our.changes in let long = length-after_change k.history (Attach e) in let now = ap (λ (x : KeeperView). length x.history) change in omega (arith, was, long, now);
       rows = subst (λ (x : KeeperView). RowsAgree a x (set rows t (row_live (row_at rows t) e))) (sym change) (rows_set a k p rows t (row_live (row_at rows t) e) lt (omega (arith, lt, most)) asked.agree
           record {
@@ -308,10 +297,10 @@ published_keeper z a table table' k l its rows n e v our asked same change =
     }
 
 -- what is asked of a caller, of the keeper's own view
-pub ask : (z : TableId) (a : Settings) (table : TableId) (k : KeeperView) (its : Settings) (rows : List Row) (n t v : ℕ) (rec : Record) (x : OnKeeper) → IsOurKeeper z a table k its rows n → record { view = k; slots = states_of rows } ≡ x
+pub ask : (z : TableId) (a : Settings) (table : TableId) (k : KeeperView) (its : Settings) (rows : List Row) (n t : ℕ) (rec : Record) (x : OnKeeper) → IsOurKeeper z a table k its rows n → record { view = k; slots = states_of rows } ≡ x
     → (t < a.slots) × (slot_at x.slots t ≡ Vacant) → IsTrue (keeps_rightly (kept_at x.view.keeps t) rec.kind) → IsTrue (is_lawful rec.name) → is_taken (key_of_record rec) x.slots ≡ false
-    → length x.view.history + live_count x.slots + 2 ≤ a.change_limit → LeadsBelow (states_of rows) (n + 1) v → Asked a k rows (record { number = n + 1; slot = t; rec = rec }) v
-ask z a table k its rows n t v rec x our is vacant keeps name free room link = record {
+    → length x.view.history + live_count x.slots + 2 ≤ a.change_limit → MayAttach a k rows (record { number = n + 1; slot = t; rec = rec })
+ask z a table k its rows n t rec x our is vacant keeps name free room = record {
   at = our.view;
   agree = our.rows;
   slot = vacant.0;
@@ -321,5 +310,4 @@ ask z a table k its rows n t v rec x our is vacant keeps name free room link = r
   free = ap (λ (y : OnKeeper). is_taken (key_of_record rec) y.slots) is ∙ free;
   room = subst (λ (y : OnKeeper). length y.view.history + live_count y.slots + 2 ≤ a.change_limit) (sym is) room;
   number = let changes = our.changes in omega (arith, changes);
-  link = link;
 }

@@ -15,6 +15,7 @@ use Rattle.passive_core.proofs.History.{length-after_change}
 use Rattle.passive_core.proofs.ListKeeps.{live_count_put, rows_put}
 use Rattle.cpu_words.specs.declared.view.KeeperView.{KeeperView}
 use Rattle.cpu_words.specs.Publishing.{LeadsBelow, IsBefore, MayUnpublish, HasUnpublished, having_unpublished, links_with}
+use Rattle.cpu_words.specs.Rule.{IsPictured}
 use Rattle.passive_list.specs.declared.keeper.Row.{Row}
 use Rattle.passive_list.specs.Keepers.{row_at, states_of, RowAgrees, IsAtRest, RowsAgree, IsOurKeeper}
 use Rattle.passive_list.specs.Retiring.{with_snapshots}
@@ -44,13 +45,14 @@ may_unpublish a k rows t e p v at agree is before link = record {
 abbrev pub detached : KeeperView → ℕ → Entry → Option ℕ → ℕ → List Mark → KeeperView
 detached k t e p v marks = with_snapshots (having_unpublished k t e p v) t marks
 
-pub detached_is : (k l m : KeeperView) (t : ℕ) (e : Entry) (p : Option ℕ) (v : ℕ) (marks : List Mark) → slot_at k.slots t ≡ Live e → HasUnpublished k t p v l → m ≡ with_snapshots l t marks → m ≡ detached k t e p v marks
-detached_is k l m t e p v marks live told taken =
-    let same : told.0 ≡ e = one told.0 e (sym told.1 ∙ live) in
-    taken ∙ ap (λ (x : KeeperView). with_snapshots x t marks) (told.2 ∙ ap (λ (x : Entry). having_unpublished k t x p v) same)
+pub unpublished_is : (k l : KeeperView) (t : ℕ) (e : Entry) (p : Option ℕ) (v : ℕ) → slot_at k.slots t ≡ Live e → HasUnpublished k t p v l → l ≡ having_unpublished k t e p v
+unpublished_is k l t e p v live told = told.2 ∙ ap (λ (x : Entry). having_unpublished k t x p v) (one told.0 e (sym told.1 ∙ live))
   where
     one : (x y : Entry) → Live x ≡ Live y → x ≡ y
     one x y q = cc
+
+pub detached_is : (k l m : KeeperView) (t : ℕ) (e : Entry) (p : Option ℕ) (v : ℕ) (marks : List Mark) → slot_at k.slots t ≡ Live e → HasUnpublished k t p v l → m ≡ with_snapshots l t marks → m ≡ detached k t e p v marks
+detached_is k l m t e p v marks live told taken = taken ∙ ap (λ (x : KeeperView). with_snapshots x t marks) (unpublished_is k l t e p v live told)
 
 links_size : (next : List ℕ) (p : Option ℕ) (v : ℕ) → length (links_with next p v) ≡ length next
 links_size next None v = refl
@@ -87,8 +89,8 @@ abbrev pub row_retired : Row → Entry → List Mark → Row
 row_retired r e marks = record { state = Retired e; marks = marks; total = r.total; keeps = r.keeps }
 
 pub detached_keeper : (z : TableId) (a : Settings) (table table' : TableId) (k l : KeeperView) (its : Settings) (rows : List Row) (n t : ℕ) (e : Entry) (p : Option ℕ) (v : ℕ) (marks : List Mark) → IsOurKeeper z a table k its rows n → (row_at rows t).state ≡ Live e → length marks ≡ 8
-    → table' ≡ table → l ≡ detached k t e p v marks → IsOurKeeper z a table' l its (set rows t (row_retired (row_at rows t) e marks)) (n + 1)
-detached_keeper z a table table' k l its rows n t e p v marks our is marks_size same change =
+    → table' ≡ table → l ≡ detached k t e p v marks → IsPictured l → IsOurKeeper z a table' l its (set rows t (row_retired (row_at rows t) e marks)) (n + 1)
+detached_keeper z a table table' k l its rows n t e p v marks our is marks_size same change pictured =
     let at = our.view in
     let live = live_in a k rows t e our.rows (state_at rows t ∙ is) in
     let lt = live.0 in
@@ -103,6 +105,7 @@ detached_keeper z a table table' k l its rows n t e p v marks our is marks_size 
       table = same ∙ our.table;
       settings = our.settings;
       view = subst (IsAtRest a) (sym change) (detached_at_rest a k t e p v marks at lt live.1 marks_size);
+      pictured = pictured;
       changes = let was = our.changes in let more = length-after_change k.history (Detach e.number) in let now = ap (λ (x : KeeperView). length x.history) change in omega (arith, was, more, now);
       rows = subst (λ (x : KeeperView). RowsAgree a x (set rows t (row_retired (row_at rows t) e marks))) (sym change) (rows_set a k d rows t (row_retired (row_at rows t) e marks) lt (omega (arith, lt, most)) our.rows
           record {

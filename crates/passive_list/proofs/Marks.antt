@@ -17,6 +17,7 @@ use Rattle.passive_core.proofs.ListKeeps.{rows_cell}
 use Rattle.passive_core.proofs.Occupied.{is_retired_tells}
 use Rattle.cpu_words.specs.declared.view.KeeperView.{KeeperView}
 use Rattle.cpu_words.specs.Grace.{MayLook, having_looked}
+use Rattle.cpu_words.specs.Rule.{IsPictured}
 use Rattle.cpu_words.specs.Vacating.{IsDrained}
 use Rattle.passive_list.specs.declared.keeper.Row.{Row}
 use Rattle.passive_list.specs.Keepers.{OnKeeper, no_row, row_at, states_of, TakenAs, RowAgrees, IsAtRest, RowsAgree, IsOurKeeper}
@@ -78,10 +79,11 @@ marked_rows a k rows ev r t c m e at agree is =
 
 -- after a look the rows agree, where the mark in the row is the mark in the view
 pub looked_keeper : (z : TableId) (a : Settings) (table table' : TableId) (k l : KeeperView) (its : Settings) (rows : List Row) (n : ℕ) (ev : Event) (r : Reply) (t c : ℕ) (m : Mark) (e : Entry)
-    → IsOurKeeper z a table k its rows n → slot_at (states_of rows) t ≡ Retired e → table' ≡ table → l ≡ marked k ev r t c m → IsOurKeeper z a table' l its (set rows t (row_marked (row_at rows t) c m)) n
-looked_keeper z a table table' k l its rows n ev r t c m e our is same change = record {
+    → IsOurKeeper z a table k its rows n → slot_at (states_of rows) t ≡ Retired e → table' ≡ table → l ≡ marked k ev r t c m → IsPictured l → IsOurKeeper z a table' l its (set rows t (row_marked (row_at rows t) c m)) n
+looked_keeper z a table table' k l its rows n ev r t c m e our is same change pictured = record {
   table = same ∙ our.table;
   settings = our.settings;
+  pictured = pictured;
   view = subst (IsAtRest a) (sym change) (marked_at_rest a k ev r t c m our.view);
   changes = our.changes ∙ sym (ap (λ (x : KeeperView). length x.history) change);
   rows = subst (λ (x : KeeperView). RowsAgree a x (set rows t (row_marked (row_at rows t) c m))) (sym change) (marked_rows a k rows ev r t c m e our.view our.rows is);
@@ -111,6 +113,7 @@ vacated_keeper z a table k its rows n t our is keeps =
       table = our.table;
       settings = our.settings;
       view = our.view;
+      pictured = our.pictured;
       changes = our.changes;
       rows = rows_set a k k rows t (row_vacated (row_at rows t)) lt (omega (arith, lt, most)) our.rows
           record {

@@ -10,6 +10,7 @@ use Rattle.passive_core.specs.Limits.{are_fit}
 use Rattle.passive_core.specs.Slots.{live_count}
 use Rattle.passive_core.specs.State.{bias, slot_at, total_at, kept_at}
 use Rattle.cpu_words.specs.declared.view.KeeperView.{KeeperView}
+use Rattle.cpu_words.specs.Rule.{IsPictured}
 use Rattle.cpu_words.specs.Vacating.{MayVacate}
 use Rattle.passive_list.specs.declared.keeper.Row.{Row}
 
@@ -76,5 +77,6 @@ pub record IsOurKeeper (z : TableId) (a : Settings) (seat_table : TableId) (k : 
   pub table : seat_table ≡ z
   pub settings : its ≡ a
   pub view : IsAtRest a k
+  pub pictured : IsPictured k
   pub changes : n ≡ length k.history
   pub rows : RowsAgree a k rs

@@ -1,20 +1,25 @@
--- An entry is published, and retired: what changes of the keeper.
-use Rattle.std.specs.Prelude.{◌≡◌, ℕ, suc, ◌+◌, ◌<◌, List, [], length, slice_index_or, slice_set, Option}
+-- An entry is published: what changes of the keeper.
+use Rattle.std.specs.Prelude.{◌≡◌, ℕ, suc, ◌+◌, ◌<◌, ◌≤◌, List, [], length, slice_index_or, slice_set, IsTrue, false}
 use Rattle.passive_core.specs.declared.entry.Entry.{Entry}
-use Rattle.passive_core.specs.declared.entry.Record.{Record}
 use Rattle.passive_core.specs.declared.entry.Change.TheVariants.{Attach}
+use Rattle.passive_core.specs.declared.event.Event.TheVariants.{Publish}
+use Rattle.passive_core.specs.declared.event.Reply.TheVariants.{Done}
+use Rattle.passive_core.specs.declared.settings.Settings.{Settings}
 use Rattle.passive_core.specs.declared.state.RecordWords.{RecordWords}
-use Rattle.passive_core.specs.declared.state.Mark.{Mark}
-use Rattle.passive_core.specs.declared.state.Slot.TheVariants.{Live, Retired}
-use Rattle.passive_core.specs.declared.state.Due.TheVariants.{Rest}
+use Rattle.passive_core.specs.declared.state.Slot.TheVariants.{Vacant, Live}
 use Rattle.passive_core.specs.Attaching.{with_biases}
-use Rattle.passive_core.specs.Events.{words_of, snapshot_mark}
-use Rattle.passive_core.specs.History.{after_change}
-use Rattle.passive_core.specs.State.{no_mark}
+use Rattle.passive_core.specs.Events.{keeps_rightly, words_of}
+use Rattle.passive_core.specs.History.{after_change, key_of}
+use Rattle.passive_core.specs.Names.{is_lawful}
+use Rattle.passive_core.specs.Slots.{is_taken, live_count}
+use Rattle.passive_core.specs.State.{slot_at, kept_at}
 use Rattle.cpu_words.specs.declared.view.KeeperView.{KeeperView}
-use Rattle.cpu_words.specs.Publishing.{LeadsBelow, IsBefore, having_unpublished}
+use Rattle.cpu_words.specs.declared.view.View.TheVariants.{Keeper}
+use Rattle.cpu_words.specs.Publishing.{LeadsBelow}
+use Rattle.cpu_words.specs.Steps.{Makes}
 use Rattle.cpu_words.specs.Vacating.{as_vacant}
-use Rattle.passive_list.specs.Keepers.{OnKeeper}
+use Rattle.passive_list.specs.declared.keeper.Row.{Row}
+use Rattle.passive_list.specs.Keepers.{OnKeeper, IsAtRest, RowsAgree, states_of}
 
 -- Publish
 
@@ -41,9 +46,25 @@ published k e v = record k {
   counts = slice_set k.counts e.slot (with_biases k.settings.cpus (slice_index_or (as_vacant k e.slot).counts e.slot []));
 }
 
--- just that, where the link leads to the newest live entry there was
-pub record HasAttached (a : OnKeeper) (e : Entry) (b : OnKeeper) : Type 0 where
+-- what publishing asks of the keeper's view, its rows and the entry
+pub record MayAttach (a : Settings) (k : KeeperView) (rows : List Row) (e : Entry) : Type 0 where
+  pub at : IsAtRest a k
+  pub agree : RowsAgree a k rows
+  pub slot : e.slot < a.slots
+  pub vacant : slot_at (states_of rows) e.slot ≡ Vacant
+  pub keeps : IsTrue (keeps_rightly (kept_at k.keeps e.slot) e.rec.kind)
+  pub name : IsTrue (is_lawful e.rec.name)
+  pub free : is_taken (key_of e) (states_of rows) ≡ false
+  pub room : length k.history + live_count (states_of rows) + 2 ≤ a.change_limit
+  pub number : e.number ≡ suc (length k.history)
+
+-- just that, where the link leads to the newest live entry there was: all words were stored, and then the event made
+pub record HasEntry (k : KeeperView) (e : Entry) (l : KeeperView) : Type 0 where
   pub link : ℕ
-  pub leads : LeadsBelow a.view.slots e.number link
-  pub view : b.view ≡ published a.view e link
+  pub leads : LeadsBelow k.slots e.number link
+  pub made : Makes (Publish e.slot) Done (Keeper (prepared k e link)) (Keeper l)
+  pub view : l ≡ published k e link
+
+pub record HasAttached (a : OnKeeper) (e : Entry) (b : OnKeeper) : Type 0 where
+  pub entry : HasEntry a.view e b.view
   pub slots : b.slots ≡ slice_set a.slots e.slot (Live e)

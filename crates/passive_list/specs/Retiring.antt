@@ -1,13 +1,17 @@
 -- An entry is retired: what changes of the keeper.
 use Rattle.std.specs.Prelude.{◌≡◌, ℕ, ◌<◌, List, [], length, replicate, slice_index_or, slice_set, Option}
 use Rattle.passive_core.specs.declared.entry.Entry.{Entry}
+use Rattle.passive_core.specs.declared.event.Event.TheVariants.{Unpublish}
+use Rattle.passive_core.specs.declared.event.Reply.TheVariants.{Done}
 use Rattle.passive_core.specs.declared.state.Mark.{Mark}
 use Rattle.passive_core.specs.declared.state.Slot.TheVariants.{Retired}
 use Rattle.passive_core.specs.declared.state.Due.TheVariants.{Rest}
 use Rattle.passive_core.specs.Events.{snapshot_mark}
 use Rattle.passive_core.specs.State.{no_mark}
 use Rattle.cpu_words.specs.declared.view.KeeperView.{KeeperView}
+use Rattle.cpu_words.specs.declared.view.View.TheVariants.{Keeper}
 use Rattle.cpu_words.specs.Publishing.{LeadsBelow, IsBefore, having_unpublished}
+use Rattle.cpu_words.specs.Steps.{Makes}
 use Rattle.passive_list.specs.Keepers.{OnKeeper}
 
 -- the slot's marks are none, and it has a place for them
@@ -30,6 +34,7 @@ pub record HasDetached (a : OnKeeper) (t : ℕ) (e : Entry) (b : OnKeeper) : Typ
   pub is_before : IsBefore a.view.slots e.number before
   pub link : ℕ
   pub leads : LeadsBelow a.view.slots e.number link
+  pub made : Makes (Unpublish t) Done (Keeper a.view) (Keeper (having_unpublished a.view t e before link))
   pub marks : List Mark
   pub snapshots : AreSnapshots a.view.settings.cpus marks
   pub view : b.view ≡ with_snapshots (having_unpublished a.view t e before link) t marks

@@ -5,8 +5,6 @@ ghost use Rattle.passive_core.specs.declared.entry.Entry.{Entry};
 ghost use Rattle.passive_core.specs.declared.event.Event.TheVariants.{Look, Snapshot};
 ghost use Rattle.passive_core.specs.declared.event.Reply.TheVariants.{Word};
 ghost use Rattle.passive_core.specs.declared.state.Slot.TheVariants.{Retired};
-ghost use Rattle.passive_core.specs.Events.{looked};
-ghost use Rattle.passive_core.specs.Slots.{has_changed};
 ghost use Rattle.passive_core.specs.State.{slot_at, mark_at};
 ghost use Rattle.cpu_words.specs.declared.view.View.TheVariants.{Keeper as OfKeeper};
 ghost use Rattle.cpu_words.specs.Grace.{HasLooked, having_looked};
@@ -14,7 +12,7 @@ ghost use Rattle.cpu_words.specs.Steps.{Makes};
 
 use crate::keeper::Keeper;
 use cpu_words::{Domain, Words, steps};
-use passive_core::Mark;
+use passive_core::looked;
 
 /// Looks at the section word of a CPU for the retired entry in `slot`. True where the CPU has passed, by an earlier look or by this one:
 /// its word is even, or differs from its snapshot, so no section of it may hold the entry any more. It is counted as a look.
@@ -57,22 +55,4 @@ pub fn glance<D: Domain>(words: &Words, keeper: &mut Keeper<D>, cpu: u8) -> u64
     ensures slots { keeper.new.slots ≡ keeper.old.slots }
 {
     steps::look_now(words, &mut keeper.seat, cpu)
-}
-
-/// The mark of a CPU once its section word was seen: it has passed where the word is even or differs from the snapshot, and a pass stays.
-fn looked(mark: Mark, word: u64) -> Mark
-    ensures { result ≡ looked mark word }
-{
-    let passed = mark.passed || word % 2 == 0 || has_changed(mark.snapshot, word);
-    Mark { passed, ..mark }
-}
-
-/// The word differs from the snapshot.
-fn has_changed(snapshot: Option<u64>, word: u64) -> bool
-    ensures { result ≡ has_changed snapshot word }
-{
-    match snapshot {
-        None => false,
-        Some(then) => then != word,
-    }
 }

@@ -9,9 +9,9 @@ ghost use Rattle.passive_core.specs.Slots.{is_taken, live_count};
 ghost use Rattle.passive_core.specs.State.{slot_at, kept_at};
 ghost use Rattle.cpu_words.specs.Vacating.{MayWrite};
 ghost use Rattle.passive_list.specs.Keepers.{AreSized};
-ghost use Rattle.passive_list.specs.Publishing.{HasAttached, with_row, with_counts, prepared};
+ghost use Rattle.passive_list.specs.Publishing.{MayAttach, HasEntry, HasAttached, with_row, with_counts, prepared};
 
-use crate::keeper::{Keeper, SlotState};
+use crate::keeper::{Keeper, Row, SlotState};
 use crate::links::link_below;
 use crate::lookup::kind_word;
 use cpu_words::{Domain, KeeperSeat, Words, steps};
@@ -36,13 +36,24 @@ pub fn publish<D: Domain>(words: &Words, keeper: &mut Keeper<D>, slot: u8, rec: 
         slot,
         rec,
     };
-    let link = link_below(&keeper.rows, entry.number);
-    let cpus = keeper.settings.cpus;
-    prepare(words, &mut keeper.seat, &entry, cpus, link);
-    steps::publish(words, &mut keeper.seat, slot);
+    publish_entry(words, &mut keeper.seat, &keeper.rows, &entry);
     keeper.rows[slot as usize].state = SlotState::Live(entry);
     keeper.changes += 1;
     entry
+}
+
+/// Publishes the entry by the keeper's seat alone, as `publish` does, where the rows say what stands in each slot: for calls that have
+/// done another step with the seat, which the rows say already.
+/// Condition: that of `publish`, of the seat and the rows; the entry's number is how many changes there are then.
+pub fn publish_entry(words: &Words, seat: &mut KeeperSeat, rows: &[Row; 32], entry: &Entry)
+    requires table { seat.old.table ≡ words.now.table }
+    requires may { MayAttach words.now.settings seat.old.view rows entry.now }
+    ensures table { seat.new.table ≡ seat.old.table }
+    ensures change { HasEntry seat.old.view entry.now seat.new.view }
+{
+    let link = link_below(rows, entry.number);
+    prepare(words, seat, entry, words.settings().cpus, link);
+    steps::publish(words, seat, entry.slot);
 }
 
 /// Stores all words of the entry's slot: its record, its counts and its link.

@@ -2,13 +2,12 @@
 
 ghost use Rattle.std.specs.Prelude.{◌≡◌, ◌↔◌, ◌<◌, IsTrue, None, slice_set};
 ghost use Rattle.passive_core.specs.declared.state.Slot.TheVariants.{Vacant};
-ghost use Rattle.passive_core.specs.Slots.{have_passed, are_clear, are_collected};
 ghost use Rattle.passive_core.specs.State.{kept_at};
 ghost use Rattle.passive_list.specs.Vacating.{IsDrainedOn, is_drained_row};
 
 use crate::keeper::{Keeper, Row, SlotState};
 use cpu_words::Domain;
-use passive_core::{BIAS, Mark};
+use passive_core::{BIAS, are_clear, are_collected, have_passed};
 
 impl<D: Domain> Keeper<D> {
     /// Whether the entry in `slot` is retired and drained: all CPUs have passed, are clear and collected, and the total stands for no
@@ -42,22 +41,4 @@ fn is_drained_row(cpus: u8, row: &Row) -> bool
         && are_clear(cpus, &row.marks)
         && are_collected(cpus, &row.marks)
         && row.total == BIAS
-}
-
-fn have_passed(cpus: u8, row: &[Mark]) -> bool
-    ensures { result ≡ have_passed cpus row.now }
-{
-    row.iter().take(cpus as usize).all(|mark| mark.passed)
-}
-
-fn are_clear(cpus: u8, row: &[Mark]) -> bool
-    ensures { result ≡ are_clear cpus row.now }
-{
-    row.iter().take(cpus as usize).all(|mark| mark.clear)
-}
-
-fn are_collected(cpus: u8, row: &[Mark]) -> bool
-    ensures { result ≡ are_collected cpus row.now }
-{
-    row.iter().take(cpus as usize).all(|mark| mark.collected)
 }

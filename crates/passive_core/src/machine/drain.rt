@@ -3,13 +3,14 @@
 ghost use Rattle.std.specs.Prelude.{◌≡◌, ◌<◌, IsTrue, Ok};
 ghost use Rattle.passive_core.specs.declared.event.Event.TheVariants.{Collect, TotalAdd, TotalSub, JoinKeeper, Keep, KeptSub, Vacate};
 ghost use Rattle.passive_core.specs.declared.state.Due.TheVariants.{Adding, Subtracting};
-ghost use Rattle.passive_core.specs.Events.{may_collect, collected, may_join_keeper, may_keep, is_driver_slot, is_iface_slot, is_drainable, is_drained, may_vacate};
+ghost use Rattle.passive_core.specs.Events.{may_collect, may_join_keeper, may_keep, is_driver_slot, is_iface_slot, is_drainable, is_drained, may_vacate};
 ghost use Rattle.passive_core.specs.Taken.{Steps};
 
 use crate::entry::Kind;
 use crate::event::{Reply, StepFault};
 use crate::machine::{BIAS, Core};
-use crate::state::{Due, LocalPlace, Mark, Slot};
+use crate::marks::collected;
+use crate::state::{Due, LocalPlace, Slot};
 
 impl Core {
     /// Whether every CPU has passed for the slot and has no passive reference to its entry.
@@ -174,16 +175,6 @@ impl Core {
         }
         self.slots[t as usize] = Slot::Vacant;
         Ok(Reply::Done)
-    }
-}
-
-/// The mark once the CPU's word was collected.
-fn collected(mark: Mark) -> Mark
-    ensures { result ≡ collected mark }
-{
-    Mark {
-        collected: true,
-        ..mark
     }
 }
 

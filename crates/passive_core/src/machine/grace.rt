@@ -2,12 +2,12 @@
 
 ghost use Rattle.std.specs.Prelude.{◌≡◌, ◌<◌, Some, None, IsTrue};
 ghost use Rattle.passive_core.specs.declared.event.Event.TheVariants.{Snapshot, Look};
-ghost use Rattle.passive_core.specs.Events.{may_examine, may_glance, is_snapshot_due, due_after, looked};
-ghost use Rattle.passive_core.specs.Slots.{has_changed};
+ghost use Rattle.passive_core.specs.Events.{may_examine, may_glance, is_snapshot_due, due_after};
 ghost use Rattle.passive_core.specs.Taken.{Steps};
 
 use crate::event::{Reply, StepFault};
 use crate::machine::Core;
+use crate::marks::looked;
 use crate::state::{Due, Mark};
 
 impl Core {
@@ -107,24 +107,5 @@ impl Core {
         let mark = self.mark_at(t, c);
         self.marks[t as usize][c as usize] = looked(mark, word);
         Ok(Reply::Word(word))
-    }
-}
-
-/// The mark after a look at this section word. A pass stays.
-fn looked(mark: Mark, word: u64) -> Mark
-    ensures { result ≡ looked mark word }
-{
-    Mark {
-        passed: mark.passed || word % 2 == 0 || has_changed(mark.snapshot, word),
-        ..mark
-    }
-}
-
-fn has_changed(snapshot: Option<u64>, word: u64) -> bool
-    ensures { result ≡ has_changed snapshot word }
-{
-    match snapshot {
-        Some(seen) => seen != word,
-        None => false,
     }
 }

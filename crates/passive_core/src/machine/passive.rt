@@ -3,14 +3,14 @@
 ghost use Rattle.std.specs.Prelude.{◌≡◌, ◌<◌, IsTrue};
 ghost use Rattle.passive_core.specs.declared.event.Event.TheVariants.{PassiveAdd, PassiveSub, PassiveLook, LoadRecord};
 ghost use Rattle.passive_core.specs.declared.event.RecordOf.TheVariants.{Passive as OfPassive};
-ghost use Rattle.passive_core.specs.Events.{may_add, may_sub, may_look_passive, is_number, cleared};
+ghost use Rattle.passive_core.specs.Events.{may_add, may_sub, may_look_passive, is_number};
 ghost use Rattle.passive_core.specs.Taken.{Steps};
 
 use crate::entry::Entry;
 use crate::event::{Reply, StepFault};
 use crate::machine::Core;
 use crate::machine::reading::word;
-use crate::state::Mark;
+use crate::marks::cleared;
 
 impl Core {
     fn may_add(&self, c: u8, number: u64, t: u8) -> bool
@@ -97,15 +97,5 @@ fn is_number(number: u64, found: &Option<Entry>) -> bool
     match found {
         Some(entry) => entry.number == number,
         None => false,
-    }
-}
-
-/// The mark after a look at this passive word. That it is clear stays.
-fn cleared(mark: Mark, word: u64) -> Mark
-    ensures { result ≡ cleared mark word }
-{
-    Mark {
-        clear: mark.clear || word == 0,
-        ..mark
     }
 }

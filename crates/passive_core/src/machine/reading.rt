@@ -8,6 +8,7 @@ ghost use Rattle.passive_core.specs.State.{section_at, begin_at, depth_at, seen_
 
 use crate::entry::Entry;
 use crate::machine::Core;
+use crate::marks::{are_clear, are_collected, have_passed, is_some_collected};
 use crate::state::{Due, Hand, LocalPlace, Mark, RecordWords, Search, Slot};
 
 impl Core {
@@ -234,30 +235,6 @@ impl Core {
     {
         is_some_collected(self.settings.cpus, &self.marks[t as usize])
     }
-}
-
-fn have_passed(cpus: u8, row: &[Mark]) -> bool
-    ensures { result ≡ have_passed cpus row.now }
-{
-    row.iter().take(cpus as usize).all(|mark| mark.passed)
-}
-
-fn are_clear(cpus: u8, row: &[Mark]) -> bool
-    ensures { result ≡ are_clear cpus row.now }
-{
-    row.iter().take(cpus as usize).all(|mark| mark.clear)
-}
-
-fn are_collected(cpus: u8, row: &[Mark]) -> bool
-    ensures { result ≡ are_collected cpus row.now }
-{
-    row.iter().take(cpus as usize).all(|mark| mark.collected)
-}
-
-fn is_some_collected(cpus: u8, row: &[Mark]) -> bool
-    ensures { result ≡ is_some_collected cpus row.now }
-{
-    row.iter().take(cpus as usize).any(|mark| mark.collected)
 }
 
 fn place_of(number: u64, slots: &[Slot]) -> Option<usize>

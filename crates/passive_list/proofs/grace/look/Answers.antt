@@ -8,6 +8,7 @@ use Rattle.passive_core.specs.declared.state.Slot.TheVariants.{Retired}
 use Rattle.passive_core.specs.State.{no_mark, slot_at, mark_at, with_cell}
 use Rattle.passive_core.specs.Events.{looked}
 use Rattle.cpu_words.specs.Grace.{having_looked}
+use Rattle.cpu_words.proofs.Pictures.{pictured_by}
 use Rattle.passive_list.specs.Keepers.{OnKeeper, no_row, row_at, state_of, states_of}
 use Rattle.passive_list.proofs.Rows.{retired_in}
 use Rattle.passive_list.proofs.Marks.{may_look, marked, row_marked, looked_keeper, looked_mark}
@@ -30,7 +31,7 @@ invariant_of-keeper g c =
     let is : c.looked-mark.result ≡ looked (mark_at k.marks t c.args.cpu) w = c.looked-mark.ensures ∙ ap (λ (ms : List Mark). looked (get_or ms c.args.cpu no_mark) w) had.marks in
     let change = c.look-word.ensures.change ∙ ap (marked k (Look (Some t) c.args.cpu) (Word w) t c.args.cpu) (sym is) in
     looked_keeper g.D.Domain.table a c.keeper.inside.seat.table c.look-word.new.keeper.table k c.look-word.new.keeper.view c.keeper.inside.settings rows c.keeper.inside.changes (Look (Some t) c.args.cpu) (Word w) t c.args.cpu c.looked-mark.result c.requires.retired.0
-    c.keeper.invariant retired c.look-word.ensures.table change
+    c.keeper.invariant retired c.look-word.ensures.table change (pictured_by (Look (Some t) c.args.cpu) (Word w) k c.look-word.new.keeper.view c.look-word.ensures.event)
 
 pub returns-clause-passed : goal.returns-clause-passed
 returns-clause-passed g c =

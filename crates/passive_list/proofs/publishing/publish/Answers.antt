@@ -1,51 +1,37 @@
 use Rattle.std.proofs.Common.{◌≡◌, ◌∙◌, ◌+◌, sym, ap, subst, set}
 use Rattle.std.proofs.lemmas.List.{map-set}
 use Rattle.passive_core.specs.declared.entry.Entry.{Entry}
-use Rattle.cpu_words.specs.declared.view.KeeperView.{KeeperView}
-use Rattle.cpu_words.specs.Publishing.{MayPublish}
+use Rattle.passive_core.specs.declared.event.Event.TheVariants.{Publish}
+use Rattle.passive_core.specs.declared.event.Reply.TheVariants.{Done}
+use Rattle.cpu_words.proofs.Pictures.{pictured_by}
 use Rattle.passive_list.specs.Keepers.{OnKeeper, row_at, state_of, states_of}
-use Rattle.passive_list.specs.Publishing.{HasAttached, published}
-use Rattle.passive_list.proofs.Attached.{ask, may_publish, published_is, published_keeper, row_live, leads_on, rows_live, live_rows}
+use Rattle.passive_list.specs.Publishing.{HasAttached, prepared}
+use Rattle.passive_list.proofs.Attached.{ask, published_keeper, row_live}
 use Rattle.passive_list.proofs.publishing.publish.Goals as goal
 
-pub publish-requires-clause-may : goal.publish-requires-clause-may
-publish-requires-clause-may g c =
+pub publish_entry-requires-clause-may : goal.publish_entry-requires-clause-may
+publish_entry-requires-clause-may g c =
     let inside = c.keeper.inside in
-    let k = inside.seat.view in
-    let v = c.link_below-link.result in
-    let e : Entry = record { number = inside.changes + 1; slot = c.args.slot; rec = c.args.rec } in
-    let asked = ask g.D.Domain.table g.D.Domain.settings inside.seat.table k inside.settings inside.rows inside.changes c.args.slot v c.args.rec c.args.keeper.now c.keeper.invariant c.keeper.view_is
-    c.requires.vacant c.requires.keeps c.requires.name c.requires.free c.requires.room c.link_below-link.ensures in
-    (e, subst (λ (x : KeeperView). MayPublish x c.args.slot e) (sym c.prepare.ensures.prepared) (may_publish g.D.Domain.settings k inside.rows e v asked))
+    ask g.D.Domain.table g.D.Domain.settings inside.seat.table inside.seat.view inside.settings inside.rows inside.changes c.args.slot c.args.rec c.args.keeper.now c.keeper.invariant c.keeper.view_is
+    c.requires.vacant c.requires.keeps c.requires.name c.requires.free c.requires.room
 
 pub invariant_of-keeper : goal.invariant_of-keeper
 invariant_of-keeper g c =
     let inside = c.keeper.inside in
     let k = inside.seat.view in
-    let v = c.link_below-link.result in
     let e : Entry = record { number = inside.changes + 1; slot = c.args.slot; rec = c.args.rec } in
-    let asked = ask g.D.Domain.table g.D.Domain.settings inside.seat.table k inside.settings inside.rows inside.changes c.args.slot v c.args.rec c.args.keeper.now c.keeper.invariant c.keeper.view_is
-    c.requires.vacant c.requires.keeps c.requires.name c.requires.free c.requires.room c.link_below-link.ensures in
-    let may = may_publish g.D.Domain.settings k inside.rows e v asked in
-    let is = published_is k c.prepare.new.seat.view c.publish.new.keeper.view e v c.prepare.ensures.prepared c.publish.ensures.change may in
-    published_keeper g.D.Domain.table g.D.Domain.settings inside.seat.table c.publish.new.keeper.table k c.publish.new.keeper.view inside.settings inside.rows inside.changes e v c.keeper.invariant asked
-    (c.publish.ensures.table ∙ c.prepare.ensures.table) is
+    let asked = ask g.D.Domain.table g.D.Domain.settings inside.seat.table k inside.settings inside.rows inside.changes c.args.slot c.args.rec c.args.keeper.now c.keeper.invariant c.keeper.view_is
+    c.requires.vacant c.requires.keeps c.requires.name c.requires.free c.requires.room in
+    let has = c.publish_entry.ensures.change in
+    published_keeper g.D.Domain.table g.D.Domain.settings inside.seat.table c.publish_entry.new.seat.table k c.publish_entry.new.seat.view inside.settings inside.rows inside.changes e has.link c.keeper.invariant asked
+    c.publish_entry.ensures.table has.view (pictured_by (Publish e.slot) Done (prepared k e has.link) c.publish_entry.new.seat.view has.made)
 
 pub returns-clause-change : goal.returns-clause-change
 returns-clause-change g c =
     let inside = c.keeper.inside in
-    let k = inside.seat.view in
-    let v = c.link_below-link.result in
     let e : Entry = record { number = inside.changes + 1; slot = c.args.slot; rec = c.args.rec } in
-    let our = c.keeper.invariant in
-    let asked = ask g.D.Domain.table g.D.Domain.settings inside.seat.table k inside.settings inside.rows inside.changes c.args.slot v c.args.rec c.args.keeper.now our c.keeper.view_is
-    c.requires.vacant c.requires.keeps c.requires.name c.requires.free c.requires.room c.link_below-link.ensures in
-    let may = may_publish g.D.Domain.settings k inside.rows e v asked in
-    let is = published_is k c.prepare.new.seat.view c.publish.new.keeper.view e v c.prepare.ensures.prepared c.publish.ensures.change may in
-    let b : OnKeeper = record { view = c.publish.new.keeper.view; slots = states_of (set inside.rows c.args.slot (row_live (row_at inside.rows c.args.slot) e)) } in
+    let b : OnKeeper = record { view = c.publish_entry.new.seat.view; slots = states_of (set inside.rows c.args.slot (row_live (row_at inside.rows c.args.slot) e)) } in
     subst (λ (x : OnKeeper). HasAttached x e b) c.keeper.view_is record {
-      link = v;
-      leads = leads_on (states_of inside.rows) k.slots e.number v (rows_live g.D.Domain.settings k inside.rows our.rows) (live_rows g.D.Domain.settings k inside.rows our.view our.rows) c.link_below-link.ensures;
-      view = is;
+      entry = c.publish_entry.ensures.change;
       slots = map-set state_of inside.rows c.args.slot (row_live (row_at inside.rows c.args.slot) e);
     }

@@ -1,0 +1,75 @@
+//! The marks that a keeper has of the CPUs for a retired entry: what a step tells of one, and what is so of all CPUs.
+
+ghost use Rattle.std.specs.Prelude.{◌≡◌};
+ghost use Rattle.passive_core.specs.Events.{looked, cleared, collected};
+ghost use Rattle.passive_core.specs.Slots.{has_changed, have_passed, are_clear, are_collected, is_some_collected};
+
+use crate::state::Mark;
+
+/// The mark after a look at this section word (pserialize(9)): the CPU has passed where the word is even or differs from the snapshot. A
+/// pass stays.
+pub fn looked(mark: Mark, word: u64) -> Mark
+    ensures { result ≡ looked mark word }
+{
+    Mark {
+        passed: mark.passed || word % 2 == 0 || has_changed(mark.snapshot, word),
+        ..mark
+    }
+}
+
+fn has_changed(snapshot: Option<u64>, word: u64) -> bool
+    ensures { result ≡ has_changed snapshot word }
+{
+    match snapshot {
+        Some(seen) => seen != word,
+        None => false,
+    }
+}
+
+/// The mark after a look at this passive word (psref(9)): the CPU is clear where the word is 0. That it is clear stays.
+pub fn cleared(mark: Mark, word: u64) -> Mark
+    ensures { result ≡ cleared mark word }
+{
+    Mark {
+        clear: mark.clear || word == 0,
+        ..mark
+    }
+}
+
+/// The mark once the CPU's count word was collected (localcount(9)).
+pub fn collected(mark: Mark) -> Mark
+    ensures { result ≡ collected mark }
+{
+    Mark {
+        collected: true,
+        ..mark
+    }
+}
+
+/// Whether the first `cpus` CPUs of a row of marks have all passed.
+pub fn have_passed(cpus: u8, row: &[Mark]) -> bool
+    ensures { result ≡ have_passed cpus row.now }
+{
+    row.iter().take(cpus as usize).all(|mark| mark.passed)
+}
+
+/// Whether the first `cpus` CPUs of a row of marks are all clear.
+pub fn are_clear(cpus: u8, row: &[Mark]) -> bool
+    ensures { result ≡ are_clear cpus row.now }
+{
+    row.iter().take(cpus as usize).all(|mark| mark.clear)
+}
+
+/// Whether the count words of the first `cpus` CPUs of a row of marks were all collected.
+pub fn are_collected(cpus: u8, row: &[Mark]) -> bool
+    ensures { result ≡ are_collected cpus row.now }
+{
+    row.iter().take(cpus as usize).all(|mark| mark.collected)
+}
+
+/// Whether one of them was collected.
+pub fn is_some_collected(cpus: u8, row: &[Mark]) -> bool
+    ensures { result ≡ is_some_collected cpus row.now }
+{
+    row.iter().take(cpus as usize).any(|mark| mark.collected)
+}

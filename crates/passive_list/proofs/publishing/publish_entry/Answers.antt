@@ -1,0 +1,30 @@
+use Rattle.std.proofs.Common.{◌≡◌, ◌∙◌, sym, ap, subst}
+use Rattle.passive_core.specs.declared.event.Event.TheVariants.{Publish}
+use Rattle.passive_core.specs.declared.event.Reply.TheVariants.{Done}
+use Rattle.cpu_words.specs.declared.view.KeeperView.{KeeperView}
+use Rattle.cpu_words.specs.declared.view.View.TheVariants.{Keeper}
+use Rattle.cpu_words.specs.Publishing.{MayPublish}
+use Rattle.cpu_words.specs.Steps.{Makes}
+use Rattle.passive_list.specs.Keepers.{states_of}
+use Rattle.passive_list.proofs.Attached.{may_publish, published_is, leads_on, rows_live, live_rows}
+use Rattle.passive_list.proofs.publishing.publish_entry.Goals as goal
+
+pub publish-requires-clause-may : goal.publish-requires-clause-may
+publish-requires-clause-may c =
+    let e = c.args.entry.now in
+    (e, subst (λ (x : KeeperView). MayPublish x e.slot e) (sym c.prepare.ensures.prepared) (may_publish c.args.words.now.settings c.args.seat.now.view c.args.rows e c.link_below-link.result c.requires.may c.link_below-link.ensures))
+
+pub returns-clause-change : goal.returns-clause-change
+returns-clause-change c =
+    let a = c.args.words.now.settings in
+    let k = c.args.seat.now.view in
+    let rows = c.args.rows in
+    let e = c.args.entry.now in
+    let v = c.link_below-link.result in
+    let asked = c.requires.may in
+    let may = may_publish a k rows e v asked c.link_below-link.ensures in record {
+      link = v;
+      leads = leads_on (states_of rows) k.slots e.number v (rows_live a k rows asked.agree) (live_rows a k rows asked.at asked.agree) c.link_below-link.ensures;
+      made = subst (λ (x : KeeperView). Makes (Publish e.slot) Done (Keeper x) (Keeper c.publish.new.keeper.view)) c.prepare.ensures.prepared c.publish.ensures.event;
+      view = published_is k c.prepare.new.seat.view c.publish.new.keeper.view e v c.prepare.ensures.prepared c.publish.ensures.change may;
+    }
