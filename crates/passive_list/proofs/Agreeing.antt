@@ -1,6 +1,5 @@
 -- A CPU's plain data agree with its view on: as it is made, and over its sections.
 use Rattle.std.proofs.Common.{◌≡◌, ◌≢◌, ℕ, ◌+◌, ◌*◌, ◌<◌, ◌≤◌, List, [], length, replicate, IsTrue, Option, Some, None, refl, sym, ap, ◌∙◌, subst, arith}
-use Rattle.std.specs.Prelude.{◌↔◌}
 use Rattle.std.proofs.lemmas.List.{append-nil}
 use Rattle.std.specs.List.{Contains}
 use mathlib.Core.List.{IsPrefix}
@@ -20,7 +19,7 @@ use Rattle.passive_list.specs.declared.place.Place.{Place}
 use Rattle.passive_core.specs.declared.state.Key.{Key}
 use Rattle.passive_core.specs.declared.state.Search.{Search}
 use Rattle.passive_list.specs.Walking.{HasLookedUp}
-use Rattle.passive_list.specs.Cpus.{no_place, place_at, PassiveAgree, NetAgree, DepthAgrees, SectionAgrees, FoundAgrees, IsOurCpu}
+use Rattle.passive_list.specs.Cpus.{no_place, place_at, PassiveAgree, NetAgree, DepthAgrees, IsOurCpu}
 
 -- each place of a new CPU is of no entry
 blank_number : (t : ℕ) → (place_at (replicate 32 no_place) t).number ≡ 0

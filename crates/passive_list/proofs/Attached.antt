@@ -1,6 +1,5 @@
 -- An entry is published: the keeper may do so, and what it has agrees with what its seat knows then.
-use Rattle.std.proofs.Common.{◌≡◌, ◌⊎◌, inl, inr, ⊎_elim, ℕ, zero, suc, ◌+◌, ◌<◌, ◌≤◌, Bool, true, false, List, [], ◌∷◌, length, get_or, set, replicate, Option, Some, None, IsTrue, refl, sym, ap, ◌∙◌, subst, arith, get_or-set_same, get_or-set_other, length-set}
-use Rattle.std.proofs.lemmas.Bool.{cases_lt}
+use Rattle.std.proofs.Common.{◌≡◌, inl, inr, ⊎_elim, ℕ, zero, suc, ◌+◌, ◌<◌, ◌≤◌, Bool, true, false, List, [], ◌∷◌, length, get_or, set, replicate, Some, IsTrue, refl, sym, ap, ◌∙◌, subst, arith, get_or-set_same, length-set}
 use Rattle.std.proofs.lemmas.List.{set-set}
 use Rattle.std.proofs.lemmas.List.Folds.{list_any_at}
 use Rattle.std.proofs.lemmas.List.Sums.{sum_by-cons}
@@ -15,14 +14,13 @@ use Rattle.passive_core.specs.declared.settings.Settings.{Settings}
 use Rattle.passive_core.specs.declared.state.Key.{Key}
 use Rattle.passive_core.specs.declared.state.Slot.{Slot}
 use Rattle.passive_core.specs.declared.state.Slot.TheVariants.{Vacant, Live, Retired}
-use Rattle.passive_core.specs.declared.state.Due.TheVariants.{Rest}
 use Rattle.passive_core.specs.Attaching.{with_biases, key_of_record}
 use Rattle.passive_core.specs.Events.{entry_if, entry_of, keeps_rightly, kind_of, words_of}
 use Rattle.passive_core.specs.History.{after_change, key_of}
-use Rattle.passive_core.specs.Invariant.{IsIn, one_if}
+use Rattle.passive_core.specs.Invariant.{one_if}
 use Rattle.passive_core.specs.Names.{is_lawful}
 use Rattle.passive_core.specs.Slots.{is_live, is_live_as, is_taken, kind_word, live_count, same_key}
-use Rattle.passive_core.specs.State.{bias, no_words, row_at as words_at, slot_at, count_at, total_at, kept_at}
+use Rattle.passive_core.specs.State.{no_words, row_at as words_at, slot_at, total_at, kept_at}
 use Rattle.passive_core.proofs.Cells.{slot_here, slot_other}
 use Rattle.passive_core.proofs.Fit.{ranges}
 use Rattle.passive_core.proofs.History.{length-after_change}
@@ -34,8 +32,8 @@ use Rattle.cpu_words.specs.Publishing.LeadsBelow.{To_end, To_slot}
 use Rattle.cpu_words.specs.Rule.{IsPictured}
 use Rattle.cpu_words.specs.Vacating.{MayVacate, MayWrite, as_vacant, vacant_from}
 use Rattle.passive_list.specs.declared.keeper.Row.{Row}
-use Rattle.passive_list.specs.Keepers.{OnKeeper, row_at, states_of, TakenAs, AreSized, RowAgrees, IsAtRest, RowsAgree, IsOurKeeper}
-use Rattle.passive_list.specs.Publishing.{with_row, prepared, published, MayAttach, HasAttached}
+use Rattle.passive_list.specs.Keepers.{OnKeeper, row_at, states_of, TakenAs, IsAtRest, RowsAgree, IsOurKeeper}
+use Rattle.passive_list.specs.Publishing.{prepared, published, MayAttach}
 use Rattle.passive_list.proofs.Rows.{state_at, live_in, row_stays, rows_set}
 use Rattle.passive_list.proofs.Preparing.{vacant_now, as_vacant_is, biases_size, bias_stored, vacant_sized}
 

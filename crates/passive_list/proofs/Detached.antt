@@ -1,5 +1,5 @@
 -- An entry is retired: the keeper may unlink it, and what it has agrees with what its seat knows then.
-use Rattle.std.proofs.Common.{◌≡◌, ℕ, zero, suc, ◌+◌, ◌<◌, ◌≤◌, List, [], length, get_or, set, replicate, Option, Some, None, refl, sym, ap, ◌∙◌, subst, arith, get_or-set_same, get_or-set_other, length-set}
+use Rattle.std.proofs.Common.{◌≡◌, ℕ, ◌+◌, ◌<◌, List, [], length, set, replicate, Option, Some, None, refl, sym, ap, ◌∙◌, subst, arith, get_or-set_same, get_or-set_other, length-set}
 use Rattle.atomic_table.specs.Seated.{TableId}
 use Rattle.passive_core.specs.declared.entry.Change.TheVariants.{Detach}
 use Rattle.passive_core.specs.declared.entry.Entry.{Entry}
@@ -17,7 +17,7 @@ use Rattle.cpu_words.specs.declared.view.KeeperView.{KeeperView}
 use Rattle.cpu_words.specs.Publishing.{LeadsBelow, IsBefore, MayUnpublish, HasUnpublished, having_unpublished, links_with}
 use Rattle.cpu_words.specs.Rule.{IsPictured}
 use Rattle.passive_list.specs.declared.keeper.Row.{Row}
-use Rattle.passive_list.specs.Keepers.{row_at, states_of, RowAgrees, IsAtRest, RowsAgree, IsOurKeeper}
+use Rattle.passive_list.specs.Keepers.{row_at, states_of, IsAtRest, RowsAgree, IsOurKeeper}
 use Rattle.passive_list.specs.Retiring.{with_snapshots}
 use Rattle.passive_list.proofs.Rows.{state_at, live_in, row_stays, rows_set}
 use Rattle.passive_list.proofs.Attached.{LiveIn, rows_live, live_rows, leads_on}

@@ -1,5 +1,5 @@
 -- The newest live entry below a number and the oldest above it are found by one walk over the slots.
-use Rattle.std.proofs.Common.{◌≡◌, ◌⊎◌, inl, ⊎_elim, ℕ, zero, suc, ◌+◌, ◌<◌, ◌≤◌, Bool, true, false, ◌&&◌, nat_lt, if◌then◌else◌, List, length, Option, Some, None, refl, sym, ap, ◌∙◌, subst, arith, lt-ltb, le-ltb}
+use Rattle.std.proofs.Common.{◌≡◌, inl, ⊎_elim, ℕ, zero, suc, ◌<◌, ◌≤◌, true, false, nat_lt, List, length, Option, Some, None, refl, sym, ap, ◌∙◌, subst, arith, lt-ltb, le-ltb}
 use Rattle.std.proofs.lemmas.Bool.{cases_eq, cases_lt}
 use Rattle.std.proofs.lemmas.List.{length-map}
 use Rattle.std.proofs.Math.Numerals.{add-one}
@@ -13,7 +13,7 @@ use Rattle.cpu_words.specs.Publishing.LeadsBelow.{To_end, To_slot}
 use Rattle.passive_list.specs.declared.keeper.Row.{Row}
 use Rattle.passive_list.specs.declared.links.At.{At}
 use Rattle.passive_list.specs.Keepers.{row_at, state_of, states_of}
-use Rattle.passive_list.specs.Links.{is_newer, newer_of, is_older, older_of, link_to, place_of}
+use Rattle.passive_list.specs.Links.{newer_of, older_of, link_to, place_of}
 use Rattle.passive_list.proofs.Rows.{state_at}
 
 -- of the first d slots

@@ -1,5 +1,5 @@
 -- Looks and the end of a drain: one mark or the state of one row changes.
-use Rattle.std.proofs.Common.{◌≡◌, ◌≢◌, inr, ℕ, ◌<◌, ◌≤◌, Bool, true, ◌&&◌, ◌==◌, List, [], length, get_or, set, Option, None, IsTrue, refl, sym, ap, ◌∙◌, subst, arith, length-set, eqb-true}
+use Rattle.std.proofs.Common.{◌≡◌, inr, ℕ, ◌<◌, true, ◌&&◌, ◌==◌, List, length, set, None, refl, sym, ap, ◌∙◌, subst, arith, length-set, eqb-true}
 use Rattle.std.proofs.lemmas.Bool.{and_parts}
 use Rattle.atomic_table.specs.Seated.{TableId}
 use Rattle.passive_core.specs.declared.entry.Entry.{Entry}
@@ -7,7 +7,6 @@ use Rattle.passive_core.specs.declared.event.Event.{Event}
 use Rattle.passive_core.specs.declared.event.Reply.{Reply}
 use Rattle.passive_core.specs.declared.settings.Settings.{Settings}
 use Rattle.passive_core.specs.declared.state.Mark.{Mark}
-use Rattle.passive_core.specs.declared.state.Slot.{Slot}
 use Rattle.passive_core.specs.declared.state.Slot.TheVariants.{Vacant, Retired}
 use Rattle.passive_core.specs.Slots.{is_retired, have_passed, are_clear, are_collected}
 use Rattle.passive_core.specs.State.{bias, no_mark, with_cell, slot_at, mark_at, kept_at}
@@ -18,9 +17,8 @@ use Rattle.passive_core.proofs.Occupied.{is_retired_tells}
 use Rattle.cpu_words.specs.declared.view.KeeperView.{KeeperView}
 use Rattle.cpu_words.specs.Grace.{MayLook, having_looked}
 use Rattle.cpu_words.specs.Rule.{IsPictured}
-use Rattle.cpu_words.specs.Vacating.{IsDrained}
 use Rattle.passive_list.specs.declared.keeper.Row.{Row}
-use Rattle.passive_list.specs.Keepers.{OnKeeper, no_row, row_at, states_of, TakenAs, RowAgrees, IsAtRest, RowsAgree, IsOurKeeper}
+use Rattle.passive_list.specs.Keepers.{row_at, states_of, TakenAs, IsAtRest, RowsAgree, IsOurKeeper}
 use Rattle.passive_list.specs.Vacating.{IsDrainedOn, is_drained_row}
 use Rattle.passive_list.proofs.Rows.{state_at, retired_in, row_stays, rows_set}
 

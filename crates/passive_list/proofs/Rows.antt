@@ -1,26 +1,23 @@
 -- The rows of the keeper: what they say of a view, as one row or the view changes.
-use Rattle.std.proofs.Common.{◌≡◌, ◌≢◌, ◌⊎◌, inl, inr, ⊎_elim, ℕ, zero, suc, ◌+◌, ◌<◌, ◌≤◌, List, [], ◌∷◌, length, get_or, set, replicate, Option, Some, None, Bool, true, false, IsTrue, refl, sym, ap, ◌∙◌, subst, arith, length-set}
+use Rattle.std.proofs.Common.{◌≡◌, ◌≢◌, inl, inr, ⊎_elim, ℕ, zero, suc, ◌<◌, ◌≤◌, List, [], ◌∷◌, length, get_or, set, replicate, None, IsTrue, refl, sym, ap, ◌∙◌, subst, arith, length-set}
 use Rattle.std.proofs.lemmas.Bool.{cases_lt}
-use Rattle.std.proofs.lemmas.List.{length-replicate, get_or-replicate, map-set}
-use Rattle.atomic_table.specs.Seated.{TableId}
+use Rattle.std.proofs.lemmas.List.{length-replicate, get_or-replicate}
 use Rattle.passive_core.specs.declared.entry.Entry.{Entry}
 use Rattle.passive_core.specs.declared.settings.Settings.{Settings}
 use Rattle.passive_core.specs.declared.state.Slot.{Slot}
 use Rattle.passive_core.specs.declared.state.Slot.TheVariants.{Vacant, Live, Retired}
-use Rattle.passive_core.specs.declared.state.Mark.{Mark}
 use Rattle.passive_core.specs.declared.state.Due.TheVariants.{Rest}
 use Rattle.passive_core.specs.Limits.{are_fit}
-use Rattle.passive_core.specs.Slots.{live_count}
 use Rattle.passive_core.specs.State.{bias, no_mark, no_words, slot_at, total_at, kept_at}
 use Rattle.passive_core.proofs.Cells.{get_or_all}
 use Rattle.passive_core.proofs.MarkKeeps.{none_live, rows_all}
 use Rattle.passive_core.proofs.Occupied.{place_cases}
-use Rattle.passive_core.proofs.Fit.{Ranges, ranges}
+use Rattle.passive_core.proofs.Fit.{ranges}
 use Rattle.cpu_words.specs.declared.view.KeeperView.{KeeperView}
 use Rattle.cpu_words.specs.Opening.{keeper_with}
 use Rattle.cpu_words.specs.Vacating.{IsDrained, MayVacate}
 use Rattle.passive_list.specs.declared.keeper.Row.{Row}
-use Rattle.passive_list.specs.Keepers.{no_row, row_at, state_of, states_of, TakenAs, RowAgrees, AreSized, IsAtRest, RowsAgree, IsOurKeeper}
+use Rattle.passive_list.specs.Keepers.{no_row, row_at, state_of, states_of, TakenAs, RowAgrees, IsAtRest, RowsAgree}
 
 -- At the start
 

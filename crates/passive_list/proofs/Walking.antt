@@ -1,26 +1,19 @@
 -- A search: its loads in one slot, and from one slot to the next.
-use Rattle.std.proofs.Common.{◌≡◌, ◌≢◌, ℕ, zero, suc, ◌+◌, ◌-◌, ◌<◌, ◌≤◌, Bool, true, false, List, ◌++◌, length, Option, Some, None, refl, sym, ap, ◌∙◌, subst, arith, append_assoc}
+use Rattle.std.proofs.Common.{◌≡◌, ◌≢◌, ℕ, zero, suc, ◌-◌, ◌<◌, Bool, true, false, List, ◌++◌, length, Some, None, refl, sym, ap, ◌∙◌, subst, arith, append_assoc}
 use mathlib.Core.List.{IsPrefix}
 use Rattle.passive_core.specs.declared.entry.Entry.{Entry}
 use Rattle.passive_core.specs.declared.entry.Change.{Change}
-use Rattle.passive_core.specs.declared.event.Event.{Event}
-use Rattle.passive_core.specs.declared.event.Reply.{Reply}
 use Rattle.passive_core.specs.declared.state.Key.{Key}
 use Rattle.passive_core.specs.declared.state.Place.{Place}
-use Rattle.passive_core.specs.declared.state.Place.TheVariants.{AtHead, AtNext, AtNumber, AtKind, AtHigh, AtLow, AtValue}
-use Rattle.passive_core.specs.declared.state.Loaded.{Loaded}
-use Rattle.passive_core.specs.declared.state.Loaded.TheVariants.{On, Over}
+use Rattle.passive_core.specs.declared.state.Place.TheVariants.{AtNext, AtNumber, AtKind, AtHigh, AtLow, AtValue}
+use Rattle.passive_core.specs.declared.state.Loaded.TheVariants.{On}
 use Rattle.passive_core.specs.Events.{are_words_of}
 use Rattle.passive_core.specs.History.{IsAttached, IsLawful}
 use Rattle.passive_core.specs.Invariant.{StandsOn}
 use Rattle.passive_core.specs.Loaded.{loaded, judged, entry_with}
 use Rattle.cpu_words.specs.declared.view.CpuView.{CpuView}
-use Rattle.cpu_words.specs.declared.view.View.{View}
-use Rattle.cpu_words.specs.Steps.{Makes}
-use Rattle.cpu_words.specs.declared.view.View.TheVariants.{Cpu}
 use Rattle.cpu_words.specs.Searching.{MayLoadLink, MayLoadSearched, IsAtWord, every_word, searched, HasLoadedLink, HasLoadedWord, HasFollowed, seeking, search_for}
-use Rattle.cpu_words.proofs.Searching.{pass_within}
-use Rattle.passive_list.specs.Walking.{search_at, IsUnderWay, standing, after_visit, HasVisitedFrom, HasVisited, HasTakenFrom, HasTaken, HasMissed, IsOn, IsAtLink, HasLookedUp}
+use Rattle.passive_list.specs.Walking.{search_at, IsUnderWay, standing, after_visit, HasVisitedFrom, HasVisited, HasTaken, HasMissed, IsOn, IsAtLink, HasLookedUp}
 
 pub prefix_trans : (p q r : List Change) → IsPrefix p q → IsPrefix q r → IsPrefix p r
 prefix_trans p q r a b = (a.0 ++ b.0, sym (append_assoc p a.0 b.0) ∙ ap (λ l. l ++ b.0) a.1 ∙ b.1)

@@ -1,8 +1,7 @@
 -- A lookup in a section: what it answers, and what it leaves of the CPU.
-use Rattle.std.specs.Prelude.{◌≡◌, ℕ, List, length, Option, Some}
+use Rattle.std.specs.Prelude.{◌≡◌, length, Option, Some}
 use mathlib.Core.List.{IsPrefix}
 use Rattle.passive_core.specs.declared.entry.Entry.{Entry}
-use Rattle.passive_core.specs.declared.entry.Change.{Change}
 use Rattle.passive_core.specs.declared.state.Key.{Key}
 use Rattle.passive_core.specs.History.{IsAttached, IsLawful}
 use Rattle.passive_list.specs.Cpus.{OnCpu}

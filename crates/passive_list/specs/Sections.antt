@@ -1,7 +1,5 @@
 -- Read sections of a CPU, nested: what enter and exit answer and leave.
-use Rattle.std.specs.Prelude.{◌≡◌, ◌≢◌, ℕ, zero, suc, ◌+◌, ◌-◌, ◌*◌, ◌≤◌, List, length, Option, Some, None}
-use mathlib.Core.List.{IsPrefix}
-use Rattle.passive_core.specs.declared.entry.Change.{Change}
+use Rattle.std.specs.Prelude.{◌≡◌, ◌≢◌, ◌+◌, ◌*◌, ◌≤◌}
 use Rattle.cpu_words.specs.declared.view.CpuView.{CpuView}
 use Rattle.cpu_words.specs.Sections.{HasEntered, HasExited}
 use Rattle.passive_list.specs.Cpus.{OnCpu}

@@ -1,8 +1,7 @@
 -- A search by a CPU's seat, from the head along the links: what one visit of a slot does, and where the search stands between two.
-use Rattle.std.specs.Prelude.{◌≡◌, ℕ, zero, suc, ◌<◌, Bool, true, false, List, length, Option, Some, None}
+use Rattle.std.specs.Prelude.{◌≡◌, ℕ, zero, suc, ◌<◌, Bool, true, false, length, Option, Some, None}
 use mathlib.Core.List.{IsPrefix}
 use Rattle.passive_core.specs.declared.entry.Entry.{Entry}
-use Rattle.passive_core.specs.declared.entry.Change.{Change}
 use Rattle.passive_core.specs.declared.state.Key.{Key}
 use Rattle.passive_core.specs.declared.state.Place.{Place}
 use Rattle.passive_core.specs.declared.state.Place.TheVariants.{AtNext, AtNumber, AtValue}

@@ -47,7 +47,7 @@ pub fn publish<D: Domain>(words: &Words, keeper: &mut Keeper<D>, slot: u8, rec: 
 /// Condition: that of `publish`, of the seat and the rows; the entry's number is how many changes there are then.
 pub fn publish_entry(words: &Words, seat: &mut KeeperSeat, rows: &[Row; 32], entry: &Entry)
     requires table { seat.old.table ≡ words.now.table }
-    requires may { MayAttach words.now.settings seat.old.view rows entry.now }
+    requires may { MayAttach words.now.settings seat.old.view rows.now entry.now }
     ensures table { seat.new.table ≡ seat.old.table }
     ensures change { HasEntry seat.old.view entry.now seat.new.view }
 {

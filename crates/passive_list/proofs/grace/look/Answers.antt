@@ -1,15 +1,12 @@
-use Rattle.std.proofs.Common.{◌≡◌, List, ◌∙◌, sym, ap, get_or, set, refl, None, Some}
-use mathlib.Core.List.{map}
+use Rattle.std.proofs.Common.{◌≡◌, List, ◌∙◌, sym, ap, get_or, refl, Some}
 use Rattle.std.proofs.Math.Seq.{map-set_same}
 use Rattle.passive_core.specs.declared.event.Event.TheVariants.{Look}
 use Rattle.passive_core.specs.declared.event.Reply.TheVariants.{Word}
 use Rattle.passive_core.specs.declared.state.Mark.{Mark}
-use Rattle.passive_core.specs.declared.state.Slot.TheVariants.{Retired}
-use Rattle.passive_core.specs.State.{no_mark, slot_at, mark_at, with_cell}
+use Rattle.passive_core.specs.State.{no_mark, slot_at, mark_at}
 use Rattle.passive_core.specs.Events.{looked}
-use Rattle.cpu_words.specs.Grace.{having_looked}
 use Rattle.cpu_words.proofs.Pictures.{pictured_by}
-use Rattle.passive_list.specs.Keepers.{OnKeeper, no_row, row_at, state_of, states_of}
+use Rattle.passive_list.specs.Keepers.{OnKeeper, no_row, row_at, state_of}
 use Rattle.passive_list.proofs.Rows.{retired_in}
 use Rattle.passive_list.proofs.Marks.{may_look, marked, row_marked, looked_keeper, looked_mark}
 use Rattle.passive_list.proofs.grace.look.Goals as goal

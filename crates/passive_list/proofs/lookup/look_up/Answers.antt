@@ -1,9 +1,8 @@
 -- The search from slot to slot.
-use Rattle.std.proofs.Common.{◌≡◌, ◌-◌, ◌<◌, ℕ, Bool, true, false, length, refl, ap, sym, ◌∙◌, subst, arith, Some}
-use Rattle.cpu_words.specs.declared.view.CpuView.{CpuView}
+use Rattle.std.proofs.Common.{◌-◌, Bool, length, ◌∙◌, subst}
 use Rattle.cpu_words.specs.Searching.{key_with}
 use Rattle.passive_list.specs.Walking.{IsAtLink, IsOn, HasVisited}
-use Rattle.passive_list.proofs.Walking.{begins, on_slot, on_way, may_take, may_go, number_falls, follows, found, visit_id, follow_id}
+use Rattle.passive_list.proofs.Walking.{on_slot, on_way, may_take, may_go, number_falls, follows, found, visit_id, follow_id}
 use Rattle.passive_list.proofs.lookup.look_up.Goals as goal
 
 pub visit-number-requires-clause-may : goal.visit-number-requires-clause-may

@@ -1,8 +1,8 @@
 -- The words of a slot, one after the other.
-use Rattle.std.proofs.Common.{◌≡◌, refl, ap, sym, subst, Bool}
+use Rattle.std.proofs.Common.{refl, sym, subst, Bool}
 use Rattle.passive_core.specs.declared.state.Place.TheVariants.{AtNumber, AtKind, AtHigh, AtLow}
 use Rattle.cpu_words.specs.Searching.{key_with}
-use Rattle.passive_list.specs.Walking.{IsUnderWay, HasVisited}
+use Rattle.passive_list.specs.Walking.{HasVisited}
 use Rattle.passive_list.proofs.Walking.{goes_on, may_load, visited}
 use Rattle.passive_list.proofs.lookup.visit.Goals as goal
 

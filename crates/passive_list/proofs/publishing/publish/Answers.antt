@@ -1,19 +1,22 @@
-use Rattle.std.proofs.Common.{◌≡◌, ◌∙◌, ◌+◌, sym, ap, subst, set}
+use Rattle.std.proofs.Common.{◌+◌, sym, subst, set}
 use Rattle.std.proofs.lemmas.List.{map-set}
 use Rattle.passive_core.specs.declared.entry.Entry.{Entry}
 use Rattle.passive_core.specs.declared.event.Event.TheVariants.{Publish}
 use Rattle.passive_core.specs.declared.event.Reply.TheVariants.{Done}
+use Rattle.passive_core.specs.declared.settings.Settings.{Settings}
 use Rattle.cpu_words.proofs.Pictures.{pictured_by}
 use Rattle.passive_list.specs.Keepers.{OnKeeper, row_at, state_of, states_of}
-use Rattle.passive_list.specs.Publishing.{HasAttached, prepared}
+use Rattle.passive_list.specs.Publishing.{MayAttach, HasAttached, prepared}
 use Rattle.passive_list.proofs.Attached.{ask, published_keeper, row_live}
 use Rattle.passive_list.proofs.publishing.publish.Goals as goal
 
 pub publish_entry-requires-clause-may : goal.publish_entry-requires-clause-may
 publish_entry-requires-clause-may g c =
     let inside = c.keeper.inside in
-    ask g.D.Domain.table g.D.Domain.settings inside.seat.table inside.seat.view inside.settings inside.rows inside.changes c.args.slot c.args.rec c.args.keeper.now c.keeper.invariant c.keeper.view_is
-    c.requires.vacant c.requires.keeps c.requires.name c.requires.free c.requires.room
+    let e : Entry = record { number = inside.changes + 1; slot = c.args.slot; rec = c.args.rec } in
+    subst (λ (a : Settings). MayAttach a inside.seat.view inside.rows e) (sym c.requires.words.1)
+    (ask g.D.Domain.table g.D.Domain.settings inside.seat.table inside.seat.view inside.settings inside.rows inside.changes c.args.slot c.args.rec c.args.keeper.now c.keeper.invariant c.keeper.view_is
+    c.requires.vacant c.requires.keeps c.requires.name c.requires.free c.requires.room)
 
 pub invariant_of-keeper : goal.invariant_of-keeper
 invariant_of-keeper g c =

@@ -1,4 +1,4 @@
-use Rattle.std.proofs.Common.{◌≡◌, ◌∙◌, sym, ap, subst}
+use Rattle.std.proofs.Common.{sym, subst}
 use Rattle.passive_core.specs.declared.event.Event.TheVariants.{Publish}
 use Rattle.passive_core.specs.declared.event.Reply.TheVariants.{Done}
 use Rattle.cpu_words.specs.declared.view.KeeperView.{KeeperView}
@@ -12,13 +12,13 @@ use Rattle.passive_list.proofs.publishing.publish_entry.Goals as goal
 pub publish-requires-clause-may : goal.publish-requires-clause-may
 publish-requires-clause-may c =
     let e = c.args.entry.now in
-    (e, subst (λ (x : KeeperView). MayPublish x e.slot e) (sym c.prepare.ensures.prepared) (may_publish c.args.words.now.settings c.args.seat.now.view c.args.rows e c.link_below-link.result c.requires.may c.link_below-link.ensures))
+    (e, subst (λ (x : KeeperView). MayPublish x e.slot e) (sym c.prepare.ensures.prepared) (may_publish c.args.words.now.settings c.args.seat.now.view c.args.rows.now e c.link_below-link.result c.requires.may c.link_below-link.ensures))
 
 pub returns-clause-change : goal.returns-clause-change
 returns-clause-change c =
     let a = c.args.words.now.settings in
     let k = c.args.seat.now.view in
-    let rows = c.args.rows in
+    let rows = c.args.rows.now in
     let e = c.args.entry.now in
     let v = c.link_below-link.result in
     let asked = c.requires.may in

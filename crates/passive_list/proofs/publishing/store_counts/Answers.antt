@@ -1,4 +1,4 @@
-use Rattle.std.proofs.Common.{◌≡◌, ◌∙◌, arith}
+use Rattle.std.proofs.Common.{◌∙◌, arith}
 use Rattle.passive_list.proofs.Preparing.{counts_next}
 use Rattle.passive_list.proofs.publishing.store_counts.Goals as goal
 

@@ -1,4 +1,3 @@
-use Rattle.std.proofs.Common.{◌≡◌, ap, ◌∙◌}
 use Rattle.passive_core.specs.State.{row_at}
 use Rattle.passive_core.specs.Events.{with_word}
 use Rattle.passive_core.specs.Slots.{kind_word}

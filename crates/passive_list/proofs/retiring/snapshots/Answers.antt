@@ -1,4 +1,4 @@
-use Rattle.std.proofs.Common.{◌≡◌, ◌∙◌, Some, arith}
+use Rattle.std.proofs.Common.{◌∙◌, Some, arith}
 use Rattle.passive_core.specs.declared.event.Event.TheVariants.{Snapshot}
 use Rattle.passive_core.specs.declared.event.Reply.TheVariants.{Word}
 use Rattle.cpu_words.proofs.Pictures.{pictured_by}

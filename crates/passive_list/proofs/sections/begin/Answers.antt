@@ -1,5 +1,5 @@
 -- The data agree with the view as a section begins.
-use Rattle.std.proofs.Common.{◌≡◌, ◌<◌, ◌*◌, arith, ap, sym, ◌∙◌}
+use Rattle.std.proofs.Common.{◌≡◌, ◌<◌, ◌*◌, arith, ap, ◌∙◌}
 use Rattle.passive_core.specs.declared.settings.Settings.{Settings}
 use Rattle.passive_list.specs.Cpus.{OnCpu}
 use Rattle.passive_list.proofs.Agreeing.{entered_agrees}

@@ -1,4 +1,4 @@
-use Rattle.std.proofs.Common.{◌≡◌, ◌∙◌, sym, ap, subst, set, None}
+use Rattle.std.proofs.Common.{◌∙◌, sym, ap, subst, set}
 use Rattle.std.proofs.lemmas.List.{map-set}
 use Rattle.passive_core.specs.declared.state.Slot.TheVariants.{Vacant}
 use Rattle.passive_core.specs.State.{kept_at}

@@ -1,5 +1,5 @@
 -- A new CPU's data agree with the view of its seat.
-use Rattle.std.proofs.Common.{ℕ, subst, sym, replicate, None}
+use Rattle.std.proofs.Common.{subst, sym, replicate, None}
 use Rattle.cpu_words.specs.declared.view.CpuView.{CpuView}
 use Rattle.passive_list.specs.Cpus.{IsOurCpu, no_place}
 use Rattle.passive_list.proofs.Agreeing.{new_agrees}

@@ -1,6 +1,5 @@
-use Rattle.std.proofs.Common.{◌≡◌, ◌∙◌, sym, ap, subst, arith, length, replicate}
+use Rattle.std.proofs.Common.{◌≡◌, sym, ap, subst, arith, length, replicate}
 use Rattle.cpu_words.specs.declared.view.KeeperView.{KeeperView}
-use Rattle.passive_core.specs.declared.settings.Settings.{Settings}
 use Rattle.cpu_words.specs.Rule.{IsPictured}
 use Rattle.cpu_words.proofs.Pictures.{pictured_first}
 use Rattle.passive_list.specs.Keepers.{IsAtRest, RowsAgree}
