@@ -11,6 +11,7 @@ mod name;
 mod psref;
 mod refusal;
 mod settings;
+mod slots;
 mod stage;
 mod state;
 
@@ -28,6 +29,7 @@ pub use name::{Name, NameFault, name_laws};
 pub use psref::CorePsref;
 pub use refusal::Refusal;
 pub use settings::Settings;
+pub use slots::{has_number, is_live, is_live_as, is_plain, is_retired_as, key_of, retired_number};
 pub use stage::Stage;
 pub use state::{Due, Hand, Key, Loaded, LocalPlace, Mark, Place, RecordWords, Search, Slot};
 

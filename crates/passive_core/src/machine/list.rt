@@ -3,17 +3,17 @@
 ghost use Rattle.std.specs.Prelude.{◌≡◌, ◌<◌, ◌≤◌, IsTrue, IfSome, length, take, position, true};
 ghost use Rattle.passive_core.specs.declared.event.Event.TheVariants.{StoreSlot, StoreNext, Publish, Unpublish};
 ghost use Rattle.passive_core.specs.Events.{may_write, with_word, kind_of, entry_if, entry_of, is_bias, are_unused, has_room, keeps_rightly, is_prepared, may_publish};
-ghost use Rattle.passive_core.specs.Slots.{is_taken, is_live_as, is_live, live_count, slot_before, leads_to, same_key, at_rest};
+ghost use Rattle.passive_core.specs.Slots.{is_taken, is_live_as, is_live, live_count, slot_before, leads_to, at_rest};
 ghost use Rattle.std.specs.List.{list_all, zip};
 ghost use Rattle.passive_core.specs.State.{slot_at, row_at};
 ghost use Rattle.passive_core.specs.declared.state.Slot.TheVariants.{Live};
-ghost use Rattle.passive_core.specs.History.{key_of};
 ghost use Rattle.passive_core.specs.Taken.{Steps};
 
 use crate::entry::{Change, Entry, Kind, Record};
 use crate::event::{Reply, StepFault};
 use crate::machine::{BIAS, Core, NO_MARK, grow};
 use crate::name::Name;
+use crate::slots::{is_live, is_live_as, key_of};
 use crate::state::{Due, Key, RecordWords, Slot};
 
 impl Core {
@@ -208,16 +208,6 @@ fn with_word(row: RecordWords, k: u8, v: u64) -> RecordWords
     }
 }
 
-/// What the entry is looked up by.
-pub(crate) fn key_of(entry: &Entry) -> Key
-    ensures { result ≡ key_of entry.now }
-{
-    Key {
-        kind: entry.rec.kind,
-        name: entry.rec.name,
-    }
-}
-
 fn kind_of(word: u64) -> Option<Kind>
     ensures { result ≡ kind_of word }
 {
@@ -245,32 +235,11 @@ fn entry_of(t: u8, row: &RecordWords) -> Option<Entry>
     })
 }
 
-fn is_live_as(key: Key, slot: &Slot) -> bool
-    ensures { result ≡ is_live_as key slot.now }
-{
-    match slot {
-        Slot::Live(entry) => same_key(key_of(entry), key),
-        Slot::Vacant | Slot::Retired(_) => false,
-    }
-}
-
 fn place_live_as(key: Key, slots: &[Slot]) -> Option<usize>
     ensures value { result ≡ position (is_live_as key) slots.now }
     ensures within { IfSome result (λ t. t < length slots.now) }
 {
     slots.iter().position(|slot| is_live_as(key, slot))
-}
-
-fn same_key(a: Key, b: Key) -> bool
-    ensures { result ≡ same_key a b }
-{
-    a.kind == b.kind && a.name == b.name
-}
-
-fn is_live(slot: &Slot) -> bool
-    ensures { result ≡ is_live slot.now }
-{
-    matches!(slot, Slot::Live(_))
 }
 
 fn live_count(slots: &[Slot]) -> usize

@@ -9,6 +9,7 @@ ghost use Rattle.passive_core.specs.State.{section_at, begin_at, depth_at, seen_
 use crate::entry::Entry;
 use crate::machine::Core;
 use crate::marks::{are_clear, are_collected, have_passed, is_some_collected};
+use crate::slots::has_number;
 use crate::state::{Due, Hand, LocalPlace, Mark, RecordWords, Search, Slot};
 
 impl Core {
@@ -242,15 +243,6 @@ fn place_of(number: u64, slots: &[Slot]) -> Option<usize>
     ensures within { IfSome result (λ t. t < length slots.now) }
 {
     slots.iter().position(|slot| has_number(number, slot))
-}
-
-fn has_number(number: u64, slot: &Slot) -> bool
-    ensures { result ≡ has_number number slot.now }
-{
-    match slot {
-        Slot::Vacant => false,
-        Slot::Live(entry) | Slot::Retired(entry) => entry.number == number,
-    }
 }
 
 fn standing(place: &LocalPlace) -> Option<u64>

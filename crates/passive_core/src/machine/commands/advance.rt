@@ -16,6 +16,7 @@ ghost use Rattle.passive_core.specs.State.{count_at, mark_at, slot_at};
 use crate::event::Event;
 use crate::machine::{BIAS, Core};
 use crate::refusal::Refusal;
+use crate::slots::is_retired_as;
 use crate::stage::Stage;
 use crate::state::Slot;
 
@@ -229,13 +230,4 @@ fn retired_place(number: u64, slots: &[Slot]) -> Option<usize>
     ensures within { IfSome result (λ t. t < length slots.now) }
 {
     slots.iter().position(|slot| is_retired_as(number, slot))
-}
-
-fn is_retired_as(number: u64, slot: &Slot) -> bool
-    ensures { result ≡ is_retired_as number slot.now }
-{
-    match slot {
-        Slot::Vacant | Slot::Live(_) => false,
-        Slot::Retired(entry) => entry.number == number,
-    }
 }

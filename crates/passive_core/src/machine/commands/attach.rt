@@ -17,6 +17,7 @@ use crate::event::Event;
 use crate::machine::search::kind_word;
 use crate::machine::{BIAS, Core, make_room};
 use crate::refusal::Refusal;
+use crate::slots::is_plain;
 use crate::state::{Key, LocalPlace, RecordWords, Slot};
 
 /// The words of a slot and the seats as an attach found them.
@@ -325,13 +326,6 @@ fn plain_place(slots: &[Slot], keeps: &[Option<u64>]) -> Option<usize>
         .iter()
         .zip(keeps)
         .position(|(slot, kept)| is_plain(slot, *kept))
-}
-
-/// Whether an attach may take a slot in this state that keeps this.
-fn is_plain(slot: &Slot, kept: Option<u64>) -> bool
-    ensures { result ≡ is_plain (slot.now, kept) }
-{
-    matches!(slot, Slot::Vacant) && kept.is_none()
 }
 
 #[cfg(test)]

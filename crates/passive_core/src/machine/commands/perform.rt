@@ -11,7 +11,7 @@ ghost use Rattle.passive_core.specs.State.{section_at, slot_at};
 use crate::event::{Event, Reply};
 use crate::machine::Core;
 use crate::refusal::Refusal;
-use crate::state::Slot;
+use crate::slots::retired_number;
 
 impl Core {
     /// Waits on behalf of the CPU `c`, for at most `turns` turns, until each section that is open as the call begins has
@@ -190,13 +190,4 @@ fn is_out(snapshot: u64, word: u64) -> bool
     ensures { result ≡ is_out snapshot word }
 {
     word % 2 == 0 || snapshot != word
-}
-
-fn retired_number(slot: Slot) -> Option<u64>
-    ensures { result ≡ retired_number slot }
-{
-    match slot {
-        Slot::Vacant | Slot::Live(_) => None,
-        Slot::Retired(entry) => Some(entry.number),
-    }
 }
