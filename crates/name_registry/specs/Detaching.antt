@@ -1,0 +1,36 @@
+-- Detaching behind the interlock: the entry that a lookup of the history gives now is retired.
+use Rattle.std.specs.Prelude.{◌≡◌, ℕ, length, Option, Some, None, Result, Ok, Err, true, false}
+use mathlib.Core.List.{IsPrefix}
+use Rattle.passive_core.specs.declared.entry.Entry.{Entry}
+use Rattle.passive_core.specs.declared.refusal.Refusal.{Refusal}
+use Rattle.passive_core.specs.declared.refusal.Refusal.TheVariants.{Inside, NotFound}
+use Rattle.passive_core.specs.declared.state.Key.{Key}
+use Rattle.passive_core.specs.declared.state.Slot.TheVariants.{Live}
+use Rattle.passive_core.specs.History.{IsLookup}
+use Rattle.passive_core.specs.State.{slot_at}
+use Rattle.passive_list.specs.Cpus.{OnCpu}
+use Rattle.passive_list.specs.Keepers.{OnKeeper}
+use Rattle.passive_list.specs.Notes.{HasHeardOn}
+use Rattle.passive_list.specs.Retiring.{HasDetached}
+use Rattle.name_registry.specs.Meeting.{is_inside, having_heard, HasSeenDetach}
+
+-- the answer of a lookup now
+abbrev pub IsLookupNow : OnKeeper → Key → Option Entry → Type 0
+IsLookupNow k key answer = IsLookup k.view.history (length k.view.history) key answer
+
+abbrev pub IsDetachRefusal : OnKeeper → OnCpu → Key → Refusal → Type 0
+IsDetachRefusal k x key Inside = is_inside x ≡ true
+IsDetachRefusal k x key NotFound = (is_inside x ≡ false) × IsLookupNow k key None
+IsDetachRefusal k x key _ = ⊥
+
+-- The entry that a lookup of the key gives now. Refused inside a section, and where there is none, in this order.
+abbrev pub IsDetachAnswer : OnKeeper → OnCpu → Key → Result Entry Refusal → Type 0
+IsDetachAnswer k x key (Ok e) = (is_inside x ≡ false) × IsLookupNow k key (Some e) × (slot_at k.slots e.slot ≡ Live e)
+IsDetachAnswer k x key (Err refusal) = IsDetachRefusal k x key refusal
+
+-- the keeper has heard the CPU's pass, e is retired, and the CPU has heard the history with its detach
+pub record HasDetachedFor (a : OnKeeper) (x : OnCpu) (e : Entry) (b : OnKeeper) (y : OnCpu) : Type 0 where
+  pub seen : IsPrefix x.view.pass a.view.history
+  pub keeper : HasDetached (having_heard a x) e.slot e b
+  pub cpu : HasHeardOn b.view.history x y
+  pub own : HasSeenDetach x y e

@@ -1,0 +1,5 @@
+pub mod Meeting
+pub mod Attaching
+pub mod Detaching
+pub mod Auditing
+pub mod Law

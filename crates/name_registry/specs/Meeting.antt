@@ -1,0 +1,32 @@
+-- A call that changes the registry: the keeper hears what the caller's CPU has seen, and then the CPU hears the whole history.
+use Rattle.std.specs.Prelude.{◌≡◌, ℕ, ◌<◌, Bool, length, is_some}
+use mathlib.Core.List.{IsPrefix}
+use Rattle.passive_core.specs.declared.entry.Entry.{Entry}
+use Rattle.passive_core.specs.History.{IsAttached, EndsAt}
+use Rattle.cpu_words.specs.Notes.{keeper_with_heard}
+use Rattle.passive_list.specs.Cpus.{OnCpu}
+use Rattle.passive_list.specs.Keepers.{OnKeeper}
+
+abbrev pub is_inside : OnCpu → Bool
+is_inside x = is_some x.view.begin
+
+-- the keeper as it has heard what the CPU has seen
+abbrev pub having_heard : OnKeeper → OnCpu → OnKeeper
+having_heard a x = record { view = keeper_with_heard a.view x.view.pass; slots = a.slots }
+
+-- the CPU's pass has grown, and nothing else of it changed but what it heard
+pub record HasLearned (x y : OnCpu) : Type 0 where
+  pub pass : IsPrefix x.view.pass y.view.pass
+  pub is : y ≡ record { view = record x.view { pass = y.view.pass; heard = y.view.heard }; depth = x.depth }
+
+-- the attach of e stands after all that the CPU had seen, and the CPU has seen it
+pub record HasSeenAttach (x y : OnCpu) (e : Entry) : Type 0 where
+  pub later : length x.view.pass < e.number
+  pub attached : IsAttached y.view.pass e
+
+-- the detach of e stands after all that the CPU had seen, and the CPU has seen it, and the attach of e
+pub record HasSeenDetach (x y : OnCpu) (e : Entry) : Type 0 where
+  pub end : ℕ
+  pub later : length x.view.pass < end
+  pub ends : EndsAt y.view.pass e.number end
+  pub attached : IsAttached y.view.pass e

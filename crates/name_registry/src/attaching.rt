@@ -1,0 +1,43 @@
+//! Attaching, for a caller that holds the keeper.
+
+ghost use Rattle.std.specs.Prelude.{◌≡◌, IfOk, IfErr, IsTrue, Ok, Err};
+ghost use Rattle.passive_core.specs.declared.entry.Kind.TheVariants.{Iface};
+ghost use Rattle.passive_core.specs.Names.{is_lawful};
+ghost use Rattle.name_registry.specs.Attaching.{attach_answer, attach_iface_answer, HasAttachedFor, HasAttachedIfaceFor};
+
+use crate::meeting::{hear_cpu, show_cpu};
+use crate::plain::slot_for;
+use cpu_words::{Domain, Words};
+use passive_core::{Entry, Kind, Record, Refusal};
+use passive_list::{Cpu, Keeper, publish};
+
+/// Attaches a driver: it gets the next number, from 1, and the least slot, from 0, that is vacant and keeps nothing; lookups that begin
+/// from now on find it, and the caller's CPU has seen its change. No retired slot is freed by it. It takes no memory.
+/// Condition: the name is lawful, as `Name::parse` gives it.
+/// Refused, in this order, and nothing has changed then: `Inside` where the CPU is inside a section; `NeedsDriver` where the record's kind
+/// is Iface; `NameTaken` where a live entry has this kind and name; `NoSlot`; `HistoryFull` where the history has no room for this attach
+/// and the detach of each live entry, the new one too.
+pub fn attach_in<D: Domain>(
+    words: &Words,
+    keeper: &mut Keeper<D>,
+    cpu: &mut Cpu<D>,
+    rec: Record,
+) -> Result<Entry, Refusal>
+    requires words { (words.now.table ≡ D.table) × (words.now.settings ≡ D.settings) }
+    requires name { IsTrue (is_lawful rec.name) }
+    ensures answer { result ≡ attach_answer D.settings keeper.old cpu.old rec }
+    ensures ok { IfOk result (λ e. HasAttachedFor keeper.old cpu.old e keeper.new cpu.new) }
+    ensures refused { IfErr result (λ _. (keeper.new ≡ keeper.old) × (cpu.new ≡ cpu.old)) }
+{
+    if cpu.inside() {
+        return Err(Refusal::Inside);
+    }
+    if rec.kind == Kind::Iface {
+        return Err(Refusal::NeedsDriver);
+    }
+    let slot = slot_for(keeper, rec)?;
+    hear_cpu(words, keeper, cpu);
+    let entry = publish(words, keeper, slot, rec);
+    show_cpu(words, keeper, cpu);
+    Ok(entry)
+}

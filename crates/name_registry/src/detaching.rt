@@ -1,0 +1,50 @@
+//! Detaching, for a caller that holds the keeper.
+
+ghost use Rattle.std.specs.Prelude.{◌≡◌, ◌<◌, IfOk, IfErr, IfSome, position, length};
+ghost use Rattle.passive_core.specs.Slots.{is_live_as};
+ghost use Rattle.name_registry.specs.Detaching.{IsDetachAnswer, HasDetachedFor};
+
+use crate::meeting::{hear_cpu, show_cpu};
+use cpu_words::{Domain, Words};
+use passive_core::{Entry, Key, Kind, Name, Refusal, is_live_as};
+use passive_list::{Cpu, Keeper, retire};
+
+/// Detaches the live entry with the kind and the name, and answers it: lookups that begin from now on don't find it, the caller's CPU has
+/// seen its change, and it is retired, which `advance_in` works on. It takes no memory.
+/// Refused, in this order, and nothing has changed then: `Inside` where the CPU is inside a section; `NotFound` where no live entry has
+/// both.
+pub fn detach_in<D: Domain>(
+    words: &Words,
+    keeper: &mut Keeper<D>,
+    cpu: &mut Cpu<D>,
+    kind: Kind,
+    name: &Name,
+) -> Result<Entry, Refusal>
+    requires words { (words.now.table ≡ D.table) × (words.now.settings ≡ D.settings) }
+    ensures answer { IsDetachAnswer keeper.old cpu.old (record { kind = kind; name = name.now }) result }
+    ensures ok { IfOk result (λ e. HasDetachedFor keeper.old cpu.old e keeper.new cpu.new) }
+    ensures refused { IfErr result (λ _. (keeper.new ≡ keeper.old) × (cpu.new ≡ cpu.old)) }
+{
+    if cpu.inside() {
+        return Err(Refusal::Inside);
+    }
+    let key = Key { kind, name: *name };
+    let Some(slot) = live_place(keeper, key) else {
+        return Err(Refusal::NotFound);
+    };
+    hear_cpu(words, keeper, cpu);
+    let entry = retire(words, keeper, slot);
+    show_cpu(words, keeper, cpu);
+    Ok(entry)
+}
+
+/// The slot of the live entry with this kind and name.
+fn live_place<D: Domain>(keeper: &Keeper<D>, key: Key) -> Option<u8>
+    ensures value { result ≡ position (is_live_as key) keeper.now.slots }
+    ensures within { IfSome result (λ t. t < length keeper.now.slots) }
+{
+    match keeper.rows.iter().position(|row| is_live_as(key, &row.state)) {
+        Some(slot) => Some(slot as u8),
+        None => None,
+    }
+}

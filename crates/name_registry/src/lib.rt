@@ -1,0 +1,12 @@
+//! A registry.
+#![tactic(auto)]
+
+mod attaching;
+mod detaching;
+mod law;
+mod meeting;
+mod plain;
+
+pub use attaching::attach_in;
+pub use detaching::detach_in;
+pub use law::free_interlock;

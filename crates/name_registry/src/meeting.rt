@@ -1,0 +1,30 @@
+//! What the caller's CPU and the keeper have seen reaches the other, by a note each.
+
+ghost use Rattle.std.specs.Prelude.{◌≡◌};
+ghost use mathlib.Core.List.{IsPrefix};
+ghost use Rattle.passive_list.specs.Notes.{HasHeardOn};
+ghost use Rattle.name_registry.specs.Meeting.{having_heard};
+
+use cpu_words::{Domain, Words};
+use passive_list::{Cpu, Keeper, hear, hear_keeper, tell, tell_keeper};
+
+/// The keeper hears what the CPU has seen: from now on it is known to be in the keeper's history.
+pub(crate) fn hear_cpu<D: Domain>(words: &Words, keeper: &mut Keeper<D>, cpu: &mut Cpu<D>)
+    requires words { (words.now.table ≡ D.table) × (words.now.settings ≡ D.settings) }
+    ensures seen { IsPrefix cpu.old.view.pass keeper.new.view.history }
+    ensures keeper { keeper.new ≡ having_heard keeper.old cpu.old }
+    ensures cpu { cpu.new ≡ cpu.old }
+{
+    let note = tell(words, cpu);
+    hear_keeper(words, keeper, note);
+}
+
+/// The CPU hears the whole history: what the keeper did is in its pass.
+pub(crate) fn show_cpu<D: Domain>(words: &Words, keeper: &mut Keeper<D>, cpu: &mut Cpu<D>)
+    requires words { (words.now.table ≡ D.table) × (words.now.settings ≡ D.settings) }
+    ensures keeper { keeper.new ≡ keeper.old }
+    ensures cpu { HasHeardOn keeper.old.view.history cpu.old cpu.new }
+{
+    let note = tell_keeper(words, keeper);
+    hear(words, cpu, note);
+}
