@@ -1,0 +1,60 @@
+//! Collecting (localcount(9)): the count words of a retired entry are added to its slot's total, CPU by CPU.
+
+ghost use Rattle.std.specs.Prelude.{◌≡◌, ◌<◌, ◌+◌, slice_index_or, [], true, false};
+ghost use Rattle.passive_core.specs.declared.entry.Entry.{Entry};
+ghost use Rattle.passive_core.specs.declared.state.Slot.TheVariants.{Retired};
+ghost use Rattle.passive_core.specs.Slots.{have_passed, are_clear, are_collected};
+ghost use Rattle.passive_core.specs.State.{bias, slot_at, mark_at, total_at};
+ghost use Rattle.local_count.specs.Draining.{HasCollectedInto, AreHeld};
+
+use cpu_words::{Domain, Words, steps};
+use passive_core::{BIAS, collected as collected_mark};
+use passive_list::Keeper;
+
+/// Collects the count word of a CPU for the retired entry in `slot`: the word becomes 0, and its net count is added to the slot's total.
+/// From now on a release on that CPU comes back (`try_release`).
+/// Condition: the slot's entry is retired, all CPUs have passed and are clear for it (`Keeper::have_passed`, `Keeper::are_clear`), and
+/// this CPU's word isn't collected yet (`collected`).
+pub fn collect<D: Domain>(words: &Words, keeper: &mut Keeper<D>, slot: u8, cpu: u8)
+    requires words { (words.now.table ≡ D.table) × (words.now.settings ≡ D.settings) }
+    requires cpu { cpu < D.settings.cpus }
+    requires retired { (e : Entry) × (slot_at keeper.old.slots slot ≡ Retired e) }
+    requires passed { have_passed D.settings.cpus (slice_index_or keeper.old.view.marks slot []) ≡ true }
+    requires clear { are_clear D.settings.cpus (slice_index_or keeper.old.view.marks slot []) ≡ true }
+    requires uncollected { (mark_at keeper.old.view.marks slot cpu).collected ≡ false }
+    ensures change { HasCollectedInto keeper.old slot cpu keeper.new }
+{
+    let word = steps::collect(words, &mut keeper.seat, slot, cpu);
+    let row = &mut keeper.rows[slot as usize];
+    let total = row.total + word - BIAS;
+    steps::total_add(words, &mut keeper.seat, slot, total);
+    row.total = total;
+    row.marks[cpu as usize] = collected_mark(row.marks[cpu as usize]);
+}
+
+/// Whether the keeper has collected the count word of a CPU for the retired entry in `slot`.
+/// Condition: the slot and the CPU are of the table.
+pub fn collected<D: Domain>(keeper: &Keeper<D>, slot: u8, cpu: u8) -> bool
+    requires { (slot < D.settings.slots) × (cpu < D.settings.cpus) }
+    ensures { result ≡ (mark_at keeper.now.view.marks slot cpu).collected }
+{
+    keeper.mark(slot, cpu).collected
+}
+
+/// How many local references to the retired entry in `slot` are held: its slot's balance, once all count words are in its total. It takes
+/// no step: the keeper alone writes totals.
+/// Condition: the slot's entry is retired, and all CPUs have passed, are clear and collected for it (`Keeper::have_passed`,
+/// `Keeper::are_clear`, `Keeper::are_collected`).
+pub fn total<D: Domain>(words: &Words, keeper: &mut Keeper<D>, slot: u8) -> u64
+    requires words { (words.now.table ≡ D.table) × (words.now.settings ≡ D.settings) }
+    requires retired { (e : Entry) × (slot_at keeper.old.slots slot ≡ Retired e) }
+    requires passed { have_passed D.settings.cpus (slice_index_or keeper.old.view.marks slot []) ≡ true }
+    requires clear { are_clear D.settings.cpus (slice_index_or keeper.old.view.marks slot []) ≡ true }
+    requires collected { are_collected D.settings.cpus (slice_index_or keeper.old.view.marks slot []) ≡ true }
+    ensures value { result + bias ≡ total_at keeper.old.view.totals slot }
+    ensures held { AreHeld keeper.old.view slot result }
+    ensures same { keeper.new ≡ keeper.old }
+{
+    let _words = words;
+    keeper.rows[slot as usize].total - BIAS
+}

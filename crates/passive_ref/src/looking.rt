@@ -1,0 +1,35 @@
+//! Looks at passive words (psref(9)): the keeper sees, by a load each, that a CPU has no reference to a retired entry any more.
+
+ghost use Rattle.std.specs.Prelude.{◌≡◌, ◌<◌, ℕ, slice_index_or, [], true};
+ghost use Rattle.passive_core.specs.declared.entry.Entry.{Entry};
+ghost use Rattle.passive_core.specs.declared.event.Event.TheVariants.{PassiveLook};
+ghost use Rattle.passive_core.specs.declared.event.Reply.TheVariants.{Word};
+ghost use Rattle.passive_core.specs.declared.state.Slot.TheVariants.{Retired};
+ghost use Rattle.passive_core.specs.Slots.{have_passed};
+ghost use Rattle.passive_core.specs.State.{slot_at, mark_at};
+ghost use Rattle.cpu_words.specs.declared.view.View.TheVariants.{Keeper as OfKeeper};
+ghost use Rattle.cpu_words.specs.Draining.{HasLookedPassive};
+ghost use Rattle.cpu_words.specs.Steps.{Makes};
+
+use cpu_words::{Domain, Words, steps};
+use passive_core::cleared;
+use passive_list::Keeper;
+
+/// Looks at the passive word of a CPU for the retired entry in `slot`. True where the CPU has no passive reference to it left, by an
+/// earlier look or by this one: its word is 0, and no section may acquire one any more. It is counted as a look.
+/// Condition: the slot's entry is retired, the CPU is one of the table's, and all CPUs have passed (`Keeper::have_passed`).
+pub fn look_passive<D: Domain>(words: &Words, keeper: &mut Keeper<D>, slot: u8, cpu: u8) -> bool
+    requires words { (words.now.table ≡ D.table) × (words.now.settings ≡ D.settings) }
+    requires cpu { cpu < D.settings.cpus }
+    requires retired { (e : Entry) × (slot_at keeper.old.slots slot ≡ Retired e) }
+    requires passed { have_passed D.settings.cpus (slice_index_or keeper.old.view.marks slot []) ≡ true }
+    ensures clear { result ≡ (mark_at keeper.new.view.marks slot cpu).clear }
+    ensures change { (w : ℕ) × HasLookedPassive keeper.old.view slot cpu w keeper.new.view
+        × Makes (PassiveLook slot cpu) (Word w) (OfKeeper keeper.old.view) (OfKeeper keeper.new.view) }
+    ensures slots { keeper.new.slots ≡ keeper.old.slots }
+{
+    let word = steps::passive_look(words, &mut keeper.seat, slot, cpu);
+    let mark = cleared(keeper.rows[slot as usize].marks[cpu as usize], word);
+    keeper.rows[slot as usize].marks[cpu as usize] = mark;
+    mark.clear
+}
