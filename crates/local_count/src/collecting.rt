@@ -9,7 +9,7 @@ ghost use Rattle.local_count.specs.Draining.{HasCollectedInto, AreHeld};
 
 use cpu_words::{Domain, Words, steps};
 use passive_core::{BIAS, collected as collected_mark};
-use passive_list::{Keeper, Row};
+use passive_list::Keeper;
 
 /// Collects the count word of a CPU for the retired entry in `slot`: the word becomes 0, and its net count is added to the slot's total.
 /// From now on a release on that CPU comes back (`try_release`).
@@ -25,16 +25,11 @@ pub fn collect<D: Domain>(words: &Words, keeper: &mut Keeper<D>, slot: u8, cpu: 
     ensures change { HasCollectedInto keeper.old slot cpu keeper.new }
 {
     let word = steps::collect(words, &mut keeper.seat, slot, cpu);
-    let row = keeper.rows[slot as usize];
-    let total = row.total + word - BIAS;
-    steps::total_add(words, &mut keeper.seat, slot, total);
-    let mut marks = row.marks;
-    marks[cpu as usize] = collected_mark(marks[cpu as usize]);
-    keeper.rows[slot as usize] = Row {
-        marks,
-        total,
-        ..row
-    };
+    let mut row = keeper.rows[slot as usize];
+    row.total = row.total + word - BIAS;
+    steps::total_add(words, &mut keeper.seat, slot, row.total);
+    row.marks[cpu as usize] = collected_mark(row.marks[cpu as usize]);
+    keeper.rows[slot as usize] = row;
 }
 
 /// Whether the keeper has collected the count word of a CPU for the retired entry in `slot`.

@@ -2,11 +2,11 @@ use Rattle.std.proofs.Common.{◌∙◌, refl, arith}
 use Rattle.local_count.proofs.Collections.{collection_tells, collected_keeper, collected_into}
 use Rattle.local_count.proofs.collecting.collect.Goals as goal
 
-pub overflow_add-total : goal.overflow_add-total
-overflow_add-total g c = let tells = collection_tells _ _ _ _ _ _ _ _ _ _ _ _ _ c.keeper.invariant c.keeper.view_is c.requires.retired.1 c.collect-word.ensures.change c.collect-word.ensures.event in omega (arith, tells.fits)
+pub overflow_add-row : goal.overflow_add-row
+overflow_add-row g c = let tells = collection_tells _ _ _ _ _ _ _ _ _ _ _ _ _ c.keeper.invariant c.keeper.view_is c.requires.retired.1 c.collect-word.ensures.change c.collect-word.ensures.event in omega (arith, tells.fits)
 
-pub overflow_sub-total : goal.overflow_sub-total
-overflow_sub-total g c = (collection_tells _ _ _ _ _ _ _ _ _ _ _ _ _ c.keeper.invariant c.keeper.view_is c.requires.retired.1 c.collect-word.ensures.change c.collect-word.ensures.event).floor
+pub overflow_sub-row : goal.overflow_sub-row
+overflow_sub-row g c = (collection_tells _ _ _ _ _ _ _ _ _ _ _ _ _ c.keeper.invariant c.keeper.view_is c.requires.retired.1 c.collect-word.ensures.change c.collect-word.ensures.event).floor
 
 pub total_add-requires-clause-may : goal.total_add-requires-clause-may
 total_add-requires-clause-may g c = (collection_tells _ _ _ _ _ _ _ _ _ _ _ _ _ c.keeper.invariant c.keeper.view_is c.requires.retired.1 c.collect-word.ensures.change c.collect-word.ensures.event).may
