@@ -17,3 +17,6 @@ pub use acquire::acquire_local;
 pub use interfaces::publish_iface;
 pub use local_ref::LocalRef;
 pub use release::try_release;
+
+#[cfg(test)]
+mod tests;
