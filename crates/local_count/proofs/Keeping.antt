@@ -1,10 +1,9 @@
 -- A slot keeps a reference to its driver: the keeper's rows say so, and an interface may be published there.
-use Rattle.std.proofs.Common.{◌≡◌, ◌≢◌, inl, inr, ⊎_elim, ℕ, suc, ◌+◌, ◌<◌, ◌≤◌, false, List, [], length, get_or, set, Some, None, IsTrue, refl, sym, ap, ◌∙◌, subst, arith, get_or-set_same, get_or-set_other, length-set}
+use Rattle.std.proofs.Common.{◌≡◌, ◌≢◌, inl, ℕ, ◌+◌, ◌<◌, ◌≤◌, false, List, [], length, get_or, set, Some, None, IsTrue, refl, sym, ap, ◌∙◌, subst, arith, get_or-set_same, get_or-set_other, length-set}
 use Rattle.std.proofs.Math.Seq.{map-set_same}
 use Rattle.atomic_table.specs.Seated.{TableId}
 use Rattle.passive_core.specs.declared.entry.Change.{Change}
-use Rattle.passive_core.specs.declared.entry.Entry.{Entry}
-use Rattle.passive_core.specs.declared.entry.Kind.TheVariants.{Iface, Driver}
+use Rattle.passive_core.specs.declared.entry.Kind.TheVariants.{Iface}
 use Rattle.passive_core.specs.declared.entry.Record.{Record}
 use Rattle.passive_core.specs.declared.settings.Settings.{Settings}
 use Rattle.passive_core.specs.declared.state.Slot.{Slot}
@@ -17,7 +16,7 @@ use Rattle.passive_core.proofs.Cells.{slot_other}
 use Rattle.passive_core.proofs.Fit.{ranges}
 use Rattle.cpu_words.specs.declared.view.KeeperView.{KeeperView}
 use Rattle.cpu_words.specs.declared.view.ReferenceView.{ReferenceView}
-use Rattle.cpu_words.specs.Keeping.{MayKeep, keeping}
+use Rattle.cpu_words.specs.Keeping.{keeping}
 use Rattle.cpu_words.specs.Vacating.{as_vacant, vacant_from}
 use Rattle.passive_list.specs.declared.keeper.Row.{Row}
 use Rattle.passive_list.specs.Keepers.{OnKeeper, no_row, row_at, state_of, states_of, TakenAs, IsAtRest, RowsAgree, IsOurKeeper}

@@ -1,5 +1,5 @@
 -- The slot keeps the reference, and then the interface is published there.
-use Rattle.std.proofs.Common.{◌≡◌, ◌+◌, ◌∙◌, List, sym, ap, subst, set}
+use Rattle.std.proofs.Common.{◌+◌, ◌∙◌, List, sym, ap, subst, set}
 use Rattle.std.proofs.lemmas.List.{map-set}
 use Rattle.passive_core.specs.declared.entry.Entry.{Entry}
 use Rattle.passive_core.specs.declared.event.Event.TheVariants.{Keep, Publish}
