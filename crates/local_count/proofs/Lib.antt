@@ -4,3 +4,4 @@ pub mod Releasing
 pub mod Recording
 pub mod Balanced
 pub mod Collections
+pub mod Keeping

@@ -9,11 +9,16 @@
 
 mod acquire;
 mod collecting;
+mod interfaces;
 mod local_ref;
 mod net;
 mod release;
 
 pub use acquire::acquire_local;
 pub use collecting::{collect, collected, total};
+pub use interfaces::publish_iface;
 pub use local_ref::LocalRef;
 pub use release::try_release;
+
+#[cfg(test)]
+mod tests;
