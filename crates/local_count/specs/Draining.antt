@@ -1,13 +1,13 @@
 -- The keeper's side of local references (localcount(9)): what its calls ask, and what they leave of the keeper.
-use Rattle.std.specs.Prelude.{◌≡◌, ◌⊎◌, ℕ, ◌+◌, ◌-◌, slice_set, true, Some}
+use Rattle.std.specs.Prelude.{◌≡◌, ◌⊎◌, ℕ, ◌+◌, ◌-◌, List, slice_set, true, position, Option, Some, None}
 use Rattle.passive_core.specs.declared.entry.Entry.{Entry}
 use Rattle.passive_core.specs.declared.event.Event.TheVariants.{Collect, TotalAdd, TotalSub, JoinKeeper, Keep, KeptSub}
 use Rattle.passive_core.specs.declared.event.Reply.TheVariants.{Done, Word}
 use Rattle.passive_core.specs.declared.state.Slot.TheVariants.{Vacant, Retired}
 use Rattle.passive_core.specs.declared.state.Due.TheVariants.{Adding}
-use Rattle.passive_core.specs.Events.{collected}
+use Rattle.passive_core.specs.Events.{collected as collected_mark}
 use Rattle.passive_core.specs.Invariant.{held_at}
-use Rattle.passive_core.specs.Slots.{is_some_collected}
+use Rattle.passive_core.specs.Slots.{has_number, is_some_collected}
 use Rattle.passive_core.specs.State.{State, bias, with_cell, slot_at, mark_at, total_at}
 use Rattle.cpu_words.specs.declared.view.KeeperView.{KeeperView}
 use Rattle.cpu_words.specs.declared.view.ReferenceView.{ReferenceView}
@@ -18,21 +18,22 @@ use Rattle.cpu_words.specs.Rule.{Good}
 use Rattle.cpu_words.specs.Steps.{Makes, JoinsBy}
 use Rattle.cpu_words.specs.Vacating.{as_vacant}
 use Rattle.cpu_words.specs.Views.{KeeperShown, one_more}
-use Rattle.passive_list.specs.Keepers.{OnKeeper}
+use Rattle.passive_list.specs.declared.keeper.Row.{Row}
+use Rattle.passive_list.specs.Keepers.{OnKeeper, state_of}
 use Rattle.passive_list.specs.Publishing.{HasAttached}
 
 -- Collecting
 
 -- the count word w of the CPU c was collected, and is to be added
 abbrev pub collecting : KeeperView → ℕ → ℕ → ℕ → KeeperView
-collecting k t c w = record k { marks = with_cell k.marks t c (collected (mark_at k.marks t c)); due = Adding t w }
+collecting k t c w = record k { marks = with_cell k.marks t c (collected_mark (mark_at k.marks t c)); due = Adding t w }
 
 -- the word was collected, and added to the total of the slot without its bias; nothing else changes
 pub record HasCollectedInto (a : OnKeeper) (t c : ℕ) (b : OnKeeper) : Type 0 where
   pub word : ℕ
   pub collected : Makes (Collect t c) (Word word) (Keeper a.view) (Keeper (collecting a.view t c word))
   pub added : Makes (TotalAdd t) Done (Keeper (collecting a.view t c word)) (Keeper b.view)
-  pub view : b.view ≡ record a.view { marks = with_cell a.view.marks t c (collected (mark_at a.view.marks t c)); totals = slice_set a.view.totals t (total_at a.view.totals t + word - bias) }
+  pub view : b.view ≡ record a.view { marks = with_cell a.view.marks t c (collected_mark (mark_at a.view.marks t c)); totals = slice_set a.view.totals t (total_at a.view.totals t + word - bias) }
   pub slots : b.slots ≡ a.slots
 
 -- the local references held to the retired entry in the slot t are n, in whatever state of the core shows the keeper's view
@@ -61,6 +62,15 @@ pub record HasAttachedKeeping (a : OnKeeper) (v : ReferenceView) (e : Entry) (b 
   pub vacated : IsVacated a.view e.slot
   pub kept : JoinsBy (Keep e.slot) (Keeper (as_vacant a.view e.slot)) (Reference v) (Keeper (keeping a.view e.slot v))
   pub attached : HasAttached (record { view = keeping a.view e.slot v; slots = a.slots }) e b
+
+-- the row that shows the live or retired entry n
+abbrev pub place_of : ℕ → List Row → Option ℕ
+place_of n rows = position (λ r. has_number n (state_of r)) rows
+
+-- and the one with the number kept
+abbrev pub kept_slot : Option ℕ → List Row → Option ℕ
+kept_slot None rows = None
+kept_slot (Some d) rows = place_of d rows
 
 -- the interface's slot is vacant, and the reference that it kept to the driver in the slot u is given up
 pub record HasFreed (a : OnKeeper) (t : ℕ) (b : OnKeeper) : Type 0 where

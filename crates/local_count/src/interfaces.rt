@@ -1,20 +1,18 @@
 //! Interfaces and the drivers that they keep: an interface holds a local reference to its driver, from its attach until its slot is freed.
 
 ghost use Rattle.std.specs.Prelude.{◌≡◌, ◌<◌, ◌≤◌, ◌+◌, suc, IsTrue, false, length, None};
-ghost use Rattle.passive_core.specs.declared.entry.Entry.{Entry};
 ghost use Rattle.passive_core.specs.declared.entry.Kind.TheVariants.{Iface, Driver};
-ghost use Rattle.passive_core.specs.declared.state.Slot.TheVariants.{Vacant, Retired};
+ghost use Rattle.passive_core.specs.declared.state.Slot.TheVariants.{Vacant};
 ghost use Rattle.passive_core.specs.Attaching.{key_of_record};
 ghost use Rattle.passive_core.specs.Names.{is_lawful};
 ghost use Rattle.passive_core.specs.Slots.{is_taken, live_count};
 ghost use Rattle.passive_core.specs.State.{slot_at, kept_at};
-ghost use Rattle.passive_list.specs.Vacating.{IsDrainedOn};
-ghost use Rattle.local_count.specs.Draining.{HasAttachedKeeping, HasFreed};
+ghost use Rattle.local_count.specs.Draining.{HasAttachedKeeping};
 
 use crate::local_ref::LocalRef;
 use cpu_words::{Domain, Words, steps};
 use passive_core::{Entry, Record};
-use passive_list::{Keeper, Row, SlotState, publish_entry};
+use passive_list::{Keeper, SlotState, publish_entry};
 
 /// Publishes an interface in `slot`, which keeps the reference to its driver from now on: as `publish` does, with the reference spent
 /// before the first word is stored. It answers the entry.
@@ -57,25 +55,4 @@ pub fn publish_iface<D: Domain>(
     keeper.rows[slot as usize].state = SlotState::Live(entry);
     keeper.changes += 1;
     entry
-}
-
-/// Frees the slot of a retired and drained interface: the reference to its driver is given up in the same step.
-/// Condition: the slot is drained (`Keeper::is_drained`), and its entry is an interface.
-pub fn free_iface<D: Domain>(words: &Words, keeper: &mut Keeper<D>, slot: u8)
-    requires words { (words.now.table ≡ D.table) × (words.now.settings ≡ D.settings) }
-    requires drained { IsDrainedOn keeper.old slot }
-    requires iface { (e : Entry) × (slot_at keeper.old.slots slot ≡ Retired e) × (e.rec.kind ≡ Iface) }
-    ensures change { HasFreed keeper.old slot keeper.new }
-{
-    let row = keeper.rows[slot as usize];
-    let Some(driver_slot) = kept_slot(row.keeps, &keeper.rows) else {
-        unreachable!()
-    };
-    steps::kept_sub(words, &mut keeper.seat, slot, driver_slot as u8);
-    keeper.rows[driver_slot].total -= 1;
-    keeper.rows[slot as usize] = Row {
-        state: SlotState::Vacant,
-        keeps: None,
-        ..row
-    };
 }

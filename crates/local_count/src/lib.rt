@@ -8,10 +8,12 @@
 #![tactic(auto)]
 
 mod acquire;
+mod freeing;
 mod local_ref;
 mod net;
 mod release;
 
 pub use acquire::acquire_local;
+pub use freeing::free_iface;
 pub use local_ref::LocalRef;
 pub use release::try_release;

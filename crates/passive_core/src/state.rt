@@ -1,5 +1,8 @@
 //! What the core's state is made of, beside plain words.
 
+ghost use Rattle.std.specs.Prelude.{◌≡◌};
+ghost use Rattle.passive_core.specs.Slots.{has_number};
+
 use crate::entry::{Entry, Kind};
 use crate::name::Name;
 
@@ -27,6 +30,18 @@ pub enum Slot {
     Live(Entry),
     /// An entry that was unlinked, and whose slot isn't free yet.
     Retired(Entry),
+}
+
+impl Slot {
+    /// Whether its live or retired entry has this number.
+    pub fn has_number(&self, number: u64) -> bool
+        ensures { result ≡ has_number number self.now }
+    {
+        match self {
+            Slot::Vacant => false,
+            Slot::Live(entry) | Slot::Retired(entry) => entry.number == number,
+        }
+    }
 }
 
 /// What is known of one CPU and a retired entry.

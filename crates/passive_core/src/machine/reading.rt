@@ -3,7 +3,7 @@
 ghost use Rattle.std.specs.Prelude.{◌≡◌, ◌<◌, ◌^◌, Some, None, IfSome, IsTrue, length, slice_index_or, []};
 ghost use Rattle.passive_core.specs.Events.{is_idle, is_number, word, standing};
 ghost use Rattle.passive_core.specs.Invariant.{Holds};
-ghost use Rattle.passive_core.specs.Slots.{at_rest, slot_of, has_number, is_retired, is_vacant, have_passed, are_clear, are_collected, is_some_collected};
+ghost use Rattle.passive_core.specs.Slots.{at_rest, slot_of, is_retired, is_vacant, have_passed, are_clear, are_collected, is_some_collected};
 ghost use Rattle.passive_core.specs.State.{section_at, begin_at, depth_at, seen_at, found_at, hand_at, search_at, passive_at, count_at, total_at, kept_at, mark_at, row_at, slot_at, local_at};
 
 use crate::entry::Entry;
@@ -241,16 +241,7 @@ fn place_of(number: u64, slots: &[Slot]) -> Option<usize>
     ensures value { result ≡ slot_of slots.now number }
     ensures within { IfSome result (λ t. t < length slots.now) }
 {
-    slots.iter().position(|slot| has_number(number, slot))
-}
-
-fn has_number(number: u64, slot: &Slot) -> bool
-    ensures { result ≡ has_number number slot.now }
-{
-    match slot {
-        Slot::Vacant => false,
-        Slot::Live(entry) | Slot::Retired(entry) => entry.number == number,
-    }
+    slots.iter().position(|slot| slot.has_number(number))
 }
 
 fn standing(place: &LocalPlace) -> Option<u64>
