@@ -3,5 +3,6 @@ pub mod Acquiring
 pub mod Releasing
 pub mod Recording
 pub mod Balanced
+pub mod Collections
 pub mod Subtracting
 pub mod Freed

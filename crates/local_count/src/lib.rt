@@ -8,12 +8,14 @@
 #![tactic(auto)]
 
 mod acquire;
+mod collecting;
 mod freeing;
 mod local_ref;
 mod net;
 mod release;
 
 pub use acquire::acquire_local;
+pub use collecting::{collect, collected, total};
 pub use freeing::free_iface;
 pub use local_ref::LocalRef;
 pub use release::try_release;
