@@ -33,7 +33,7 @@ use Rattle.passive_list.specs.Vacating.{IsDrainedOn}
 use Rattle.passive_list.proofs.Rows.{state_at, taken_in, retired_in, row_stays, rows_set}
 use Rattle.local_count.specs.Draining.{HasFreed, kept_slot, place_of}
 use Rattle.local_count.proofs.Balanced.{IsHeldIn, held_by_slot}
-use Rattle.local_count.proofs.Subtracting.{held_row, row_less, rows_less}
+use Rattle.local_count.proofs.Subtracting.{HeldRow, held_row, row_less, less, less_rows}
 
 -- The driver's row
 
@@ -61,16 +61,12 @@ one_slot k t u e f pictured is also same =
     (one_number g.history g.slots t u e f pictured.good.holds.slots (subst (λ (x : List Slot). IsIn e (slot_at x t)) slots is) (subst (λ (x : List Slot). IsIn f (slot_at x u)) slots also) same).0
 
 -- the row of what is held shows its number
-held_place : (a : Settings) (k : KeeperView) (rows : List Row) (u : ℕ) (f : Entry) → IsPictured k → IsAtRest a k → RowsAgree a k rows → IsHeldIn k u → IsIn f (slot_at k.slots u) → place_of f.number rows ≡ Some u
-held_place a k rows u f pictured at agree held is =
-    let within = held.slot in
-    let same = ap (λ (z : Settings). z.slots) at.settings in
-    let most = (ranges a at.fit).slots in
+held_place : (a : Settings) (k : KeeperView) (rows : List Row) (u : ℕ) (f : Entry) → IsPictured k → RowsAgree a k rows → HeldRow k rows u → IsIn f (slot_at k.slots u) → place_of f.number rows ≡ Some u
+held_place a k rows u f pictured agree row is =
+    let lt = row.slot in
     let size = agree.size in
-    let lt : u < a.slots = omega (arith, within, same) in
-    let x = (row_at rows u).state in
-    let here : IsIn f x = subst (IsIn f) (sym (held_row k u x held (agree.each u lt).state)) is in
-    let found = position_found (λ (r : Row). has_number f.number (state_of r)) no_row rows u (omega (arith, lt, most, size)) (has_it f.number f x here refl) in
+    let here : IsIn f (row_at rows u).state = subst (IsIn f) (sym row.shown) is in
+    let found = position_found (λ (r : Row). has_number f.number (state_of r)) no_row rows u (omega (arith, lt, size)) (has_it f.number f (row_at rows u).state here refl) in
     let shown = place_told a k rows f.number found.0 agree found.1 in
     found.1 ∙ ap (λ (j : ℕ). Some j) (one_slot k u found.0 f shown.0 pictured is shown.1 shown.2)
 
@@ -119,7 +115,7 @@ keeps_on z a table k its rows n t x our is iface =
     let it = keeps_shown k t iface.0 our.pictured our.view.rest retired.1 iface.2 in
     let s = it.1 in (
       it.0,
-      ap (λ (o : Option ℕ). kept_slot o rows) ((our.rows.each t retired.0).keeps ∙ s.keeps.kept) ∙ (ap (λ (m : ℕ). place_of m rows) (sym s.number) ∙ held_place a k rows it.0 s.f our.pictured our.view our.rows s.keeps.held s.here),
+      ap (λ (o : Option ℕ). kept_slot o rows) ((our.rows.each t retired.0).keeps ∙ s.keeps.kept) ∙ (ap (λ (m : ℕ). place_of m rows) (sym s.number) ∙ held_place a k rows it.0 s.f our.pictured our.rows (held_row a k rows it.0 our.view our.rows s.keeps.held) s.here),
       s.keeps,
     )
 
@@ -190,14 +186,14 @@ row_freed r = record { state = Vacant; marks = r.marks; total = r.total; keeps =
 freed_rows : (a : Settings) (k : KeeperView) (rows : List Row) (t d u : ℕ) → IsAtRest a k → RowsAgree a k rows → IsHeldIn k u → u ≢ t → t < a.slots → total_at k.totals t ≡ bias
     → RowsAgree a (freed k t d u) (set (set rows u (row_less (row_at rows u))) t (row_freed (row_at rows t)))
 freed_rows a k rows t d u at agree held off lt total =
-    let m : KeeperView = record k { totals = set k.totals u (total_at k.totals u - 1) } in
-    let l = freed k t d u in
+    let m = less k u k.given_up in
+    let rows' = set rows u (row_less (row_at rows u)) in
     let most = (ranges a at.fit).slots in
     let slot_size = at.sized.slots in
     let keep_size = at.sized.keeps in
     let had = agree.each t lt in
     let stays : total_at m.totals t ≡ total_at k.totals t = total_other k.totals u _ t (λ same. off (sym same)) in
-    rows_set a m l (set rows u (row_less (row_at rows u))) t (row_freed (row_at rows t)) lt (omega (arith, lt, most)) (rows_less a k m rows u at agree held at.rest refl refl refl refl refl)
+    rows_set a m (freed k t d u) rows' t (row_freed (row_at rows t)) lt (omega (arith, lt, most)) (less_rows a k rows u k.given_up at agree (held_row a k rows u at agree held))
     record {
       state = inl (slot_here k.slots t Vacant (omega (arith, lt, slot_size)));
       marks = had.marks;
@@ -205,7 +201,7 @@ freed_rows a k rows t d u at agree held off lt total =
       keeps = sym (get_or-set_same k.keeps t None None (omega (arith, lt, keep_size)));
       unused = λ vacant. had.total ∙ total;
     }
-    (λ v other was. row_stays m l v (row_at (set rows u (row_less (row_at rows u))) v) at.rest refl (slot_other k.slots t Vacant v other) refl refl (get_or-set_other k.keeps t v None None other) was)
+    (λ v other was. row_stays m (freed k t d u) v (row_at rows' v) at.rest refl (slot_other k.slots t Vacant v other) refl refl (get_or-set_other k.keeps t v None None other) was)
 
 pub freed_keeper : (z : TableId) (a : Settings) (table table' : TableId) (k l : KeeperView) (its : Settings) (rows : List Row) (n t u : ℕ) (x : OnKeeper) → IsOurKeeper z a table k its rows n → record { view = k; slots = states_of rows } ≡ x → IsDrainedOn x t → KeepsHeld k t u
     → table' ≡ table → HasKeptSub k t u l → IsPictured l → IsOurKeeper z a table' l its (set (set rows u (row_less (row_at rows u))) t (row_freed (row_at rows t))) n

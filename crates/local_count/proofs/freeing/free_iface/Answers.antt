@@ -4,7 +4,7 @@ use Rattle.passive_core.specs.declared.event.Reply.TheVariants.{Done}
 use Rattle.cpu_words.proofs.Pictures.{pictured_by}
 use Rattle.passive_list.specs.Keepers.{row_at}
 use Rattle.local_count.proofs.Freed.{keeps_on, keeps_at, may_free, freed_keeper, has_freed}
-use Rattle.local_count.proofs.Subtracting.{held_positive}
+use Rattle.local_count.proofs.Subtracting.{held_row}
 use Rattle.local_count.proofs.freeing.free_iface.Goals as goal
 
 pub unreachable-requires : goal.unreachable-requires
@@ -27,7 +27,7 @@ overflow_sub-keeper g c =
     let k = inside.seat.view in
     let u = c.in-Some.driver_slot in
     let keeps = keeps_at g.D.Domain.table g.D.Domain.settings inside.seat.table k inside.settings inside.rows inside.changes c.args.slot u c.args.keeper.now c.keeper.invariant c.keeper.view_is c.requires.iface (sym c.kept_slot.ensures ∙ c.in-Some.is) in
-    held_positive g.D.Domain.settings k inside.rows u c.keeper.invariant.view c.keeper.invariant.rows keeps.held
+    (held_row g.D.Domain.settings k inside.rows u c.keeper.invariant.view c.keeper.invariant.rows keeps.held).positive
 
 pub invariant_of-keeper : goal.invariant_of-keeper
 invariant_of-keeper g c =
