@@ -28,7 +28,7 @@ use Rattle.cpu_words.specs.Draining.{MayPassiveLook, LookedPassiveTold, MayColle
 use Rattle.cpu_words.proofs.Placing.{agrees_set}
 use Rattle.cpu_words.proofs.KeeperSteps.{KeeperLists, keeper_lists, with_keeper, leaves_all, keeper_makes}
 use Rattle.cpu_words.proofs.KeeperSees.{SeenByKeeper, seen_by_keeper, loads}
-use Rattle.cpu_words.proofs.Marked.{same_collected, shown_marked, sum_here, sum_off}
+use Rattle.cpu_words.proofs.Marked.{due_alike, same_collected, shown_marked, sum_here, sum_off}
 
 -- what the core has where the keeper may look at a slot
 record Looking (g : State) (t c : ℕ) : Type 0 where
@@ -66,7 +66,7 @@ passive_look_may z k t c may s r i at fits =
     let l : KeeperLists = record (keeper_lists g) { marks = with_cell g.marks t c m } in
     let own : KeeperOwn = keeper_own (having_looked k (PassiveLook t c) (Word w)) in
     let made : step g (PassiveLook t c) ≡ Some (record { state = with_keeper g l; reply = Word w }) = rw (here.rest, here.retired, lt-ltb c g.settings.cpus here.cpu, passed, found) refl in
-    let shown : KeeperShown (with_keeper g l) (keeper_view (with_keeper g l) own) = shown_marked g k t c m g.due own r.good had here.cpu refl (λ u. refl) (λ u. refl) refl refl refl in
+    let shown : KeeperShown (with_keeper g l) (keeper_view (with_keeper g l) own) = shown_marked g k t c m g.due own r.good had here.cpu refl (due_alike g.due g.due refl) refl refl refl in
     let done = keeper_makes z s r i k place w l (PassiveLook t c) (Word w) own at made (leaves_all g l refl refl refl refl (same_collected g t c m refl)) (λ n. refl) refl shown (loads s.words g (with_keeper g l) place r.words refl (λ q _. refl)) in
     let change : keeper_view (with_keeper g l) own ≡ record (having_looked k (PassiveLook t c) (Word w)) { marks = with_cell k.marks t c (cleared (mark_at k.marks t c) w) } =
     ap (λ n. record (keeper_view g own) { marks = with_cell g.marks t c (cleared (mark_at g.marks t c) n) }) (sym found) ∙ ap (λ (v : KeeperView). record (having_looked v (PassiveLook t c) (Word w)) { marks = with_cell v.marks t c (cleared (mark_at v.marks t c) w) }) (sym had.is) in
@@ -81,8 +81,7 @@ gives_up_collected : (g : State) (t c : ℕ) (given_up : List ℕ) → Good g �
     → (u : ℕ) (e : Entry) → slot_at g.slots u ≡ Retired e → GivesUp g given_up u e.number → GivesUp (with_keeper g (collecting g t c)) given_up u e.number
 gives_up_collected g t c given_up good here still u e retired was =
     let m : Mark = collected (mark_at g.marks t c) in
-    let none : adding_at u g.due ≡ 0 = ap (adding_at u) here.rest in
-    let no : is_adding_at u g.due ≡ 0 = ap (is_adding_at u) here.rest in
+    let rest = due_alike g.due Rest here.rest u in
     ⊎_elim
     (λ (is : u ≡ t). subst (λ v. GivesUp g given_up v e.number → GivesUp (with_keeper g (collecting g t c)) given_up v e.number) (sym is) (at_it is) was)
     (λ (off : u ≢ t).
@@ -91,7 +90,7 @@ gives_up_collected g t c given_up good here still u e retired was =
     let q = sum_off collected_net g t c m u off in
     let a : adding_at u (Adding t (count_at g.counts c t)) ≡ 0 = ap (λ (b : Bool). cond b (count_at g.counts c t) 0) (ne_eqb t u ne) in
     let b : is_adding_at u (Adding t (count_at g.counts c t)) ≡ 0 = one_other t u ne in
-    omega (arith, was, none, no, a, b, p, q))
+    omega (arith, was, rest.0, rest.1, rest.2, a, b, p, q))
     (cases_eq u t)
   where
     at_it : u ≡ t → GivesUp g given_up t e.number → GivesUp (with_keeper g (collecting g t c)) given_up t e.number
@@ -103,11 +102,10 @@ gives_up_collected g t c given_up good here still u e retired was =
         let one_old : collected_one (mark_at g.marks t c, count_at g.nets c t) ≡ 0 = ap (λ (b : Bool). cond b 1 0) still in
         let net_old : collected_net (mark_at g.marks t c, count_at g.nets c t) ≡ 0 = ap (λ (b : Bool). cond b (count_at g.nets c t) 0) still in
         let counted = (good.holds.balance.counted c t here.cpu (here.e, inr (here.retired, still))).0 in
-        let none : adding_at t g.due ≡ 0 = ap (adding_at t) here.rest in
-        let no : is_adding_at t g.due ≡ 0 = ap (is_adding_at t) here.rest in
+        let rest = due_alike g.due Rest here.rest t in
         let a : adding_at t (Adding t (count_at g.counts c t)) ≡ count_at g.counts c t = ap (λ (b : Bool). cond b (count_at g.counts c t) 0) (eq-eqb t t refl) in
         let b : is_adding_at t (Adding t (count_at g.counts c t)) ≡ 1 = one_self t t refl in
-        omega (arith, was, none, no, a, b, one, net, one_old, net_old, counted)
+        omega (arith, was, rest.0, rest.1, rest.2, a, b, one, net, one_old, net_old, counted)
 
 -- what the keeper's view shows after a collection
 shown_collected : (g : State) (k : KeeperView) (t c : ℕ) → Good g → KeeperShown g k → Looking g t c → (mark_at g.marks t c).collected ≡ false

@@ -6,6 +6,7 @@ use Rattle.passive_core.specs.declared.settings.Settings.{Settings}
 use Rattle.passive_core.specs.declared.state.Slot.{Slot}
 use Rattle.passive_core.specs.declared.state.Slot.TheVariants.{Retired}
 use Rattle.passive_core.specs.declared.state.Mark.{Mark}
+use Rattle.passive_core.specs.declared.state.Due.{Due}
 use Rattle.passive_core.specs.declared.state.Due.TheVariants.{Rest, Snapshots}
 use Rattle.passive_core.specs.declared.event.Event.{Event}
 use Rattle.passive_core.specs.declared.event.Event.TheVariants.{Look, Snapshot}
@@ -13,7 +14,7 @@ use Rattle.passive_core.specs.declared.event.Reply.TheVariants.{Word}
 use Rattle.passive_core.specs.State.{State, with_cell, section_at, slot_at, mark_at}
 use Rattle.passive_core.specs.Events.{step, looked, snapshot_mark}
 use Rattle.passive_core.specs.Slots.{at_rest}
-use Rattle.passive_core.specs.Invariant.{DueHolds, adding_at, is_adding_at}
+use Rattle.passive_core.specs.Invariant.{DueHolds}
 use Rattle.cpu_words.specs.declared.view.KeeperView.{KeeperView}
 use Rattle.cpu_words.specs.declared.view.View.TheVariants.{Keeper}
 use Rattle.cpu_words.specs.Spots.{section_of}
@@ -22,7 +23,7 @@ use Rattle.cpu_words.specs.Steps.{Makes, KeeperMay}
 use Rattle.cpu_words.specs.Grace.{MayGlance, MayLook, MaySnapshot, due_next, LookTold, having_looked}
 use Rattle.cpu_words.proofs.KeeperSteps.{KeeperLists, keeper_lists, with_keeper, leaves_all, keeper_makes}
 use Rattle.cpu_words.proofs.KeeperSees.{seen_by_keeper, loads}
-use Rattle.cpu_words.proofs.Marked.{same_collected, shown_marked}
+use Rattle.cpu_words.proofs.Marked.{DueAlike, due_alike, same_collected, shown_marked}
 
 pub look_may : (z : Settings) (k : KeeperView) (t c : ℕ) → MayLook k t c → KeeperMay z k (80 * c) (λ n. n) (λ v n l. Makes (Look (Some t) c) (Word n) (Keeper v) (Keeper l) × LookTold (Look (Some t) c) v n l)
 look_may z k t c may s r i at fits =
@@ -39,7 +40,7 @@ look_may z k t c may s r i at fits =
     let l : KeeperLists = record (keeper_lists g) { marks = with_cell g.marks t c m } in
     let own : KeeperOwn = keeper_own (having_looked k (Look (Some t) c) (Word w)) in
     let made : step g (Look (Some t) c) ≡ Some (record { state = with_keeper g l; reply = Word w }) = rw (rest, retired, lt-ltb c g.settings.cpus lt, found) refl in
-    let shown : KeeperShown (with_keeper g l) (keeper_view (with_keeper g l) own) = shown_marked g k t c m g.due own r.good had lt refl (λ u. refl) (λ u. refl) refl refl refl in
+    let shown : KeeperShown (with_keeper g l) (keeper_view (with_keeper g l) own) = shown_marked g k t c m g.due own r.good had lt refl (due_alike g.due g.due refl) refl refl refl in
     let done = keeper_makes z s r i k (80 * c) w l (Look (Some t) c) (Word w) own at made (leaves_all g l refl refl refl refl (same_collected g t c m refl)) (λ n. refl) refl shown (loads s.words g (with_keeper g l) (80 * c) r.words refl (λ q _. refl)) in
     let change : keeper_view (with_keeper g l) own ≡ record (having_looked k (Look (Some t) c) (Word w)) { marks = with_cell k.marks t c (looked (mark_at k.marks t c) w) } =
     ap (λ n. record (keeper_view g own) { marks = with_cell g.marks t c (looked (mark_at g.marks t c) n) }) (sym found) ∙ ap (λ (v : KeeperView). record (having_looked v (Look (Some t) c) (Word w)) { marks = with_cell v.marks t c (looked (mark_at v.marks t c) w) }) (sym had.is) in
@@ -68,13 +69,13 @@ look_now_may z k c may = glance_may z k c (Look None c) may (λ g rest lt. rw (r
 pub snapshot_now_may : (z : Settings) (k : KeeperView) (c : ℕ) → MayGlance k c → KeeperMay z k (80 * c) (λ n. n) (λ v n l. Makes (Snapshot None c) (Word n) (Keeper v) (Keeper l) × LookTold (Snapshot None c) v n l)
 snapshot_now_may z k c may = glance_may z k c (Snapshot None c) may (λ g rest lt. rw (rest, lt) refl)
 
--- what is due after a snapshot adds nothing
-adds_nothing : (z : Settings) (t c u : ℕ) → (adding_at u (due_next z t c) ≡ 0) × (is_adding_at u (due_next z t c) ≡ 0)
-adds_nothing z t c u = from (nat_lt (c + 1) z.cpus)
+-- snapshots are due, or nothing: no total is to change
+alike_after : (z : Settings) (t c : ℕ) (due : Due) → due ≡ Snapshots t c → DueAlike (due_next z t c) due
+alike_after z t c due is = subst (DueAlike (due_next z t c)) (sym is) (from (nat_lt (c + 1) z.cpus))
   where
-    from : (b : Bool) → (adding_at u (if b then Snapshots t (c + 1) else Rest) ≡ 0) × (is_adding_at u (if b then Snapshots t (c + 1) else Rest) ≡ 0)
-    from true = (refl, refl)
-    from false = (refl, refl)
+    from : (b : Bool) → DueAlike (if b then Snapshots t (c + 1) else Rest) (Snapshots t c)
+    from true u = (refl, refl, refl)
+    from false u = (refl, refl, refl)
 
 pub snapshot_may : (z : Settings) (k : KeeperView) (t c : ℕ) → MaySnapshot k t c → KeeperMay z k (80 * c) (λ n. n) (λ v n l. Makes (Snapshot (Some t) c) (Word n) (Keeper v) (Keeper l) × LookTold (Snapshot (Some t) c) v n l)
 snapshot_may z k t c may s r i at fits =
@@ -90,8 +91,7 @@ snapshot_may z k t c may s r i at fits =
     let own : KeeperOwn = keeper_own k in
     let fresh : false ≡ (mark_at g.marks t c).collected = sym (r.good.holds.balance.fresh c t c due) in
     let made : step g (Snapshot (Some t) c) ≡ Some (record { state = with_keeper g l; reply = Word w }) = rw (due, eq-eqb t t refl, eq-eqb c c refl, found) refl in
-    let shown : KeeperShown (with_keeper g l) (keeper_view (with_keeper g l) own) = shown_marked g k t c m (due_next g.settings t c) own r.good had lt fresh
-    (λ u. (adds_nothing g.settings t c u).0 ∙ sym (ap (adding_at u) due)) (λ u. (adds_nothing g.settings t c u).1 ∙ sym (ap (is_adding_at u) due)) refl refl refl in
+    let shown : KeeperShown (with_keeper g l) (keeper_view (with_keeper g l) own) = shown_marked g k t c m (due_next g.settings t c) own r.good had lt fresh (alike_after g.settings t c g.due due) refl refl refl in
     let done = keeper_makes z s r i k (80 * c) w l (Snapshot (Some t) c) (Word w) own at made (leaves_all g l refl refl refl refl (same_collected g t c m fresh)) (λ n. refl) refl shown (loads s.words g (with_keeper g l) (80 * c) r.words refl (λ q _. refl)) in
     let change : keeper_view (with_keeper g l) own ≡ record k { marks = with_cell k.marks t c (snapshot_mark w); due = due_next k.settings t c } =
     ap (λ n. record (keeper_view g own) { marks = with_cell g.marks t c (snapshot_mark n); due = due_next g.settings t c }) (sym found) ∙ ap (λ (v : KeeperView). record v { marks = with_cell v.marks t c (snapshot_mark w); due = due_next v.settings t c }) (sym had.is) in

@@ -71,11 +71,11 @@ shown_kept_sub g k t d u e good had x = record {
   rows = rows_put k.counts t (replicate 8 0) refl had.rows;
   live_total = λ v f live.
       let was = stood g t v e f (Live f) x.drained live (inl refl) in
-      shown_less g k u x.driver good had x.here x.some_left v f (inl was) ∙ had.live_total v f was;
+      shown_less g k u x.driver good x.here x.some_left v f (inl was) ∙ had.live_total v f was;
   gives_up = λ v f gone.
       let there = stood g t v e f (Retired f) x.drained gone (inr refl) in
       let was : GivesUp g k.given_up v f.number = had.gives_up v f there in
-      let less = shown_less g k u x.driver good had x.here x.some_left v f (inr there) in
+      let less = shown_less g k u x.driver good x.here x.some_left v f (inr there) in
       omega (arith, was, less);
   later = later_less g k u x.driver good had x.here;
   beyond = had.beyond;

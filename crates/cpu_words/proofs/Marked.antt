@@ -7,7 +7,7 @@ use Rattle.passive_core.specs.declared.entry.Entry.{Entry}
 use Rattle.passive_core.specs.declared.state.Mark.{Mark}
 use Rattle.passive_core.specs.declared.state.Due.{Due}
 use Rattle.passive_core.specs.State.{State, no_mark, with_cell, cell, mark_at, slot_at, count_at, total_at}
-use Rattle.passive_core.specs.Invariant.{AreRows, IsIn, adding_at, is_adding_at}
+use Rattle.passive_core.specs.Invariant.{AreRows, IsIn, subtracting_at, adding_at, is_adding_at}
 use Rattle.passive_core.proofs.Cells.{cell_cases, row_here, row_other, in_within}
 use Rattle.passive_core.proofs.Fit.{ranges}
 use Rattle.passive_core.specs.declared.entry.Change.{Change}
@@ -53,12 +53,18 @@ sum_here f g t c m good lt cpu =
 pub sum_off : (f : Mark × ℕ → ℕ) (g : State) (t c : ℕ) (m : Mark) (u : ℕ) → u ≢ t → sum_by f (zip (get_or (with_cell g.marks t c m) u []) (get_or g.nets u [])) ≡ sum_by f (zip (get_or g.marks u []) (get_or g.nets u []))
 sum_off f g t c m u off = ap (λ (ms : List Mark). sum_by f (zip ms (get_or g.nets u []))) (row_other g.marks t c m u off)
 
--- the marks of t change at c, and not whether it was collected; what is due adds nothing
-pub gives_up_marked : (g : State) (t c : ℕ) (m : Mark) (due : Due) (given_up : List ℕ) → Good g → c < g.settings.cpus → m.collected ≡ (mark_at g.marks t c).collected → ((u : ℕ) → adding_at u due ≡ adding_at u g.due) → ((u : ℕ) → is_adding_at u due ≡ is_adding_at u g.due)
+-- what is due is as much for the total of each slot
+abbrev pub DueAlike : Due → Due → Type 0
+DueAlike due was = (u : ℕ) → (adding_at u due ≡ adding_at u was) × (is_adding_at u due ≡ is_adding_at u was) × (subtracting_at u due ≡ subtracting_at u was)
+
+pub due_alike : (due was : Due) → due ≡ was → DueAlike due was
+due_alike due was same u = (ap (adding_at u) same, ap (is_adding_at u) same, ap (subtracting_at u) same)
+
+-- the marks of t change at c, and not whether it was collected; what is due is as much for each total
+pub gives_up_marked : (g : State) (t c : ℕ) (m : Mark) (due : Due) (given_up : List ℕ) → Good g → c < g.settings.cpus → m.collected ≡ (mark_at g.marks t c).collected → DueAlike due g.due
     → (u : ℕ) (e : Entry) → IsIn e (slot_at g.slots u) → GivesUp g given_up u e.number → GivesUp (record g { marks = with_cell g.marks t c m; due = due }) given_up u e.number
-gives_up_marked g t c m due given_up good lt same adding is_adding u e here was =
-    let a = adding u in
-    let b = is_adding u in
+gives_up_marked g t c m due given_up good lt same alike u e here was =
+    let a = alike u in
     ⊎_elim
     (λ (is : u ≡ t).
     let lt : t < length g.slots = subst (λ v. v < length g.slots) is (in_within g.slots u e here) in
@@ -66,11 +72,11 @@ gives_up_marked g t c m due given_up good lt same adding is_adding u e here was 
     let net = at collected_net (λ x. if x then count_at g.nets c t else 0) (λ x n. refl) lt in
     let p = subst (λ v. sum_by collected_one (zip (get_or (with_cell g.marks t c m) v []) (get_or g.nets v [])) ≡ sum_by collected_one (zip (get_or g.marks v []) (get_or g.nets v []))) (sym is) one in
     let q = subst (λ v. sum_by collected_net (zip (get_or (with_cell g.marks t c m) v []) (get_or g.nets v [])) ≡ sum_by collected_net (zip (get_or g.marks v []) (get_or g.nets v []))) (sym is) net in
-    omega (arith, was, a, b, p, q))
+    omega (arith, was, a.0, a.1, a.2, p, q))
     (λ (off : u ≢ t).
     let p = sum_off collected_one g t c m u off in
     let q = sum_off collected_net g t c m u off in
-    omega (arith, was, a, b, p, q))
+    omega (arith, was, a.0, a.1, a.2, p, q))
     (cases_eq u t)
   where
     at : (f : Mark × ℕ → ℕ) (v : Bool → ℕ) → ((x : Mark) (n : ℕ) → f (x, count_at g.nets c t) ≡ v x.collected) → t < length g.slots → sum_by f (zip (get_or (with_cell g.marks t c m) t []) (get_or g.nets t [])) ≡ sum_by f (zip (get_or g.marks t []) (get_or g.nets t []))
@@ -83,15 +89,15 @@ gives_up_marked g t c m due given_up good lt same adding is_adding u e here was 
 
 -- what the keeper's view shows after such a change
 pub shown_marked : (g : State) (k : KeeperView) (t c : ℕ) (m : Mark) (due : Due) (own : KeeperOwn) → Good g → KeeperShown g k → c < g.settings.cpus → m.collected ≡ (mark_at g.marks t c).collected
-    → ((u : ℕ) → adding_at u due ≡ adding_at u g.due) → ((u : ℕ) → is_adding_at u due ≡ is_adding_at u g.due) → own.counts ≡ k.counts → own.given_up ≡ k.given_up → own.heard ≡ k.heard
+    → DueAlike due g.due → own.counts ≡ k.counts → own.given_up ≡ k.given_up → own.heard ≡ k.heard
     → KeeperShown (record g { marks = with_cell g.marks t c m; due = due }) (keeper_view (record g { marks = with_cell g.marks t c m; due = due }) own)
-shown_marked g k t c m due own good had lt same adding is_adding counts given_up heard = record {
+shown_marked g k t c m due own good had lt same alike counts given_up heard = record {
   is = refl;
   counts = λ d u vacant. had.counts d u vacant ∙ ap (λ (x : List (List ℕ)). count_at x d u) (sym counts);
   sized = ap length counts ∙ had.sized;
   rows = subst AreRows (sym counts) had.rows;
   live_total = λ u e live. ap (λ (x : List ℕ). total_at g.totals u + number_at x e.number) given_up ∙ had.live_total u e live;
-  gives_up = λ u e retired. gives_up_marked g t c m due own.given_up good lt same adding is_adding u e (inr retired) (subst (λ (x : List ℕ). GivesUp g x u e.number) (sym given_up) (had.gives_up u e retired));
+  gives_up = λ u e retired. gives_up_marked g t c m due own.given_up good lt same alike u e (inr retired) (subst (λ (x : List ℕ). GivesUp g x u e.number) (sym given_up) (had.gives_up u e retired));
   later = λ n above. ap (λ (x : List ℕ). number_at x n) given_up ∙ had.later n above;
   beyond = λ d u past. ⊎_elim
       (λ (here : (u ≡ t) × (d ≡ c) × (cell no_mark (with_cell g.marks t c m) u d ≡ m)). absurd (let e = here.1 in omega (arith, e, past, lt)))

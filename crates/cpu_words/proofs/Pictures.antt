@@ -1,5 +1,5 @@
 -- The keeper's views that some good state shows: those at the start, and each after a step.
-use Rattle.std.proofs.Common.{◌≡◌, ℕ, zero, suc, ◌+◌, ◌<◌, ◌≤◌, IsTrue, refl, subst, arith}
+use Rattle.std.proofs.Common.{ℕ, zero, suc, ◌≤◌, IsTrue, refl, subst, arith}
 use Rattle.std.proofs.Math.Numerals.{add-one}
 use Rattle.passive_core.specs.declared.event.Event.{Event}
 use Rattle.passive_core.specs.declared.event.Reply.{Reply}

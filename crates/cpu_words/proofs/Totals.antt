@@ -1,5 +1,5 @@
 -- Totals on the words: what was collected is added, and a reference that is given up is subtracted.
-use Rattle.std.proofs.Common.{◌≡◌, ◌≢◌, inl, inr, ⊎_elim, ℕ, zero, suc, ◌+◌, ◌-◌, ◌%◌, ◌^◌, ◌≤◌, ◌<◌, ◌==◌, List, [], ◌∷◌, ◌++◌, length, replicate, get_or, set, Some, Bool, true, false, cond, eq-eqb, ne_eqb, refl, sym, ap, ◌∙◌, subst, arith, get_or-set_same, get_or-set_other, length-append}
+use Rattle.std.proofs.Common.{◌≡◌, ◌≢◌, inl, inr, ⊎_elim, ℕ, ◌+◌, ◌-◌, ◌%◌, ◌^◌, ◌≤◌, ◌<◌, ◌==◌, List, [], length, get_or, set, Some, Bool, true, false, cond, eq-eqb, ne_eqb, refl, sym, ap, ◌∙◌, subst, arith}
 use Rattle.std.proofs.lemmas.Bool.{cases_eq, cases_lt}
 use Rattle.std.specs.Prelude.{slice_index}
 use mathlib.Core.Option.{some}
@@ -18,10 +18,10 @@ use Rattle.passive_core.specs.declared.event.Reply.TheVariants.{Done}
 use Rattle.passive_core.specs.State.{State, bias, no_mark, slot_at, total_at}
 use Rattle.passive_core.specs.Slots.{slot_of, is_collected, is_some_collected}
 use Rattle.passive_core.specs.Events.{step, total_add, total_sub}
-use Rattle.passive_core.specs.Invariant.{IsIn, one_if, adding_at, is_adding_at}
+use Rattle.passive_core.specs.Invariant.{IsIn, one_if, subtracting_at, adding_at, is_adding_at}
 use Rattle.passive_core.proofs.History.{at_within}
-use Rattle.passive_core.proofs.Occupied.{attached_in, one_number}
-use Rattle.passive_core.proofs.Cells.{get_or_all, in_within, total_here, total_other}
+use Rattle.passive_core.proofs.Occupied.{attached_in, one_in, one_number}
+use Rattle.passive_core.proofs.Cells.{in_within, total_here, total_other}
 use Rattle.passive_core.proofs.HeldSums.{one_self, one_other}
 use Rattle.passive_core.proofs.References.{due_adding, due_subtracting}
 use Rattle.passive_core.proofs.MarkKeeps.{mark_place}
@@ -44,6 +44,7 @@ use Rattle.cpu_words.proofs.Counting.{one_more_same, one_more_other}
 use Rattle.cpu_words.proofs.KeeperSteps.{beside, beside_stays, beside_words, KeeperLists, keeper_lists, with_keeper, leaves_all, keeper_good_after, keeper_makes}
 use Rattle.cpu_words.proofs.Standing.{standing_place}
 use Rattle.cpu_words.proofs.KeeperSees.{seen_by_keeper}
+use Rattle.cpu_words.proofs.Marked.{due_alike}
 
 -- Counts by number
 
@@ -105,14 +106,16 @@ shown_added g k t old good had due = record {
         let new_total : total_at (set g.totals t v) u ≡ v = ap (total_at (set g.totals t v)) is ∙ total_here g.totals t v (omega (arith, adding_within g t old good.holds due, good.holds.shape.totals)) in
         let a : adding_at u g.due ≡ old = ap (adding_at u) due ∙ ap (λ (b : Bool). cond b old 0) (eq-eqb t u (sym is)) in
         let b : is_adding_at u g.due ≡ 1 = ap (is_adding_at u) due ∙ one_self t u (sym is) in
+        let none : subtracting_at u g.due ≡ 0 = ap (subtracting_at u) due in
         let range = (adding_range g t old good.holds due).0 in
-        omega (arith, was, old_total, new_total, a, b, range))
+        omega (arith, was, old_total, new_total, a, b, none, range))
         (λ (off : u ≢ t).
         let total = total_other g.totals t v u off in
         let ne : t ≢ u = λ q. off (sym q) in
         let a : adding_at u g.due ≡ 0 = ap (adding_at u) due ∙ ap (λ (b : Bool). cond b old 0) (ne_eqb t u ne) in
         let b : is_adding_at u g.due ≡ 0 = ap (is_adding_at u) due ∙ one_other t u ne in
-        omega (arith, was, total, a, b))
+        let none : subtracting_at u g.due ≡ 0 = ap (subtracting_at u) due in
+        omega (arith, was, total, a, b, none))
         (cases_eq u t)
 
 pub total_add_may : (z : Settings) (k : KeeperView) (t old value : ℕ) → MayTotalAdd k t old value → KeeperStores z k (912 + t) value (λ v n l. Makes (TotalAdd t) Done (Keeper v) (Keeper l) × TotalAddTold (TotalAdd t) v n l)
@@ -136,30 +139,56 @@ total_add_may z k t old value may s r i at fits =
 number_in_history : (g : State) (t : ℕ) (e : Entry) → Good g → IsIn e (slot_at g.slots t) → e.number ≤ length g.history
 number_in_history g t e good here = (at_within g.history e.number (Attach e) (attached_in g.history g.slots t e good.holds.slots here).0).1
 
--- the view's own counts with one reference to n given up
-abbrev pub with_one_less : KeeperView → ℕ → KeeperOwn
-with_one_less k n = keeper_own (record k { given_up = one_more k.given_up n })
+-- 1 at the slot t, where a subtraction is due, and 0 at the others
+abbrev one_due : ℕ → ℕ → ℕ
+one_due t u = subtracting_at u (Subtracting t)
 
--- of the entry e of t a reference is given up: what the totals of all slots show
-pub shown_less : (g : State) (k : KeeperView) (t : ℕ) (e : Entry) → Good g → KeeperShown g k → IsIn e (slot_at g.slots t) → 0 < total_at g.totals t
-    → (u : ℕ) (f : Entry) → IsIn f (slot_at g.slots u) → total_at (set g.totals t (total_at g.totals t - 1)) u + number_at (one_more k.given_up e.number) f.number ≡ total_at g.totals u + number_at k.given_up f.number
-shown_less g k t e good had here some_left u f there = ⊎_elim
+-- one more reference to the entry e of t is given up: what is counted of all occupants
+one_given : (g : State) (t : ℕ) (e : Entry) (given_up : List ℕ) → Good g → IsIn e (slot_at g.slots t)
+    → (u : ℕ) (f : Entry) → IsIn f (slot_at g.slots u) → number_at (one_more given_up e.number) f.number ≡ number_at given_up f.number + one_due t u
+one_given g t e given_up good here u f there =
+    let more = one_more_at given_up e.number f.number in
+    ⊎_elim
     (λ (is : u ≡ t).
-    let same : f ≡ e = Rattle.passive_core.proofs.Occupied.one_in f e (slot_at g.slots t) here (subst (λ v. IsIn f (slot_at g.slots v)) is there) in
-    let new_total = ap (total_at (set g.totals t (total_at g.totals t - 1))) is ∙ total_here g.totals t (total_at g.totals t - 1) lt in
-    let old_total = ap (total_at g.totals) is in
-    let new = ap (λ (x : Entry). number_at (one_more k.given_up e.number) x.number) same ∙ one_more_same k.given_up e.number in
-    let old = ap (λ (x : Entry). number_at k.given_up x.number) same in
-    omega (arith, new_total, old_total, new, old, some_left))
+    let same : f ≡ e = one_in f e (slot_at g.slots t) here (subst (λ v. IsIn f (slot_at g.slots v)) is there) in
+    let a = one_self f.number e.number (ap (λ (x : Entry). x.number) same) in
+    let b = one_self t u (sym is) in
+    omega (arith, more, a, b))
     (λ (off : u ≢ t).
-    let ne : f.number ≢ e.number = λ q. off (one_number g.history g.slots t u e f good.holds.slots here there q).0 in
-    let total = total_other g.totals t (total_at g.totals t - 1) u off in
-    let gave = one_more_other k.given_up e.number f.number ne in
-    omega (arith, total, gave))
+    let a = one_other f.number e.number (λ q. off (one_number g.history g.slots t u e f good.holds.slots here there q).0) in
+    let b = one_other t u (λ q. off (sym q)) in
+    omega (arith, more, a, b))
     (cases_eq u t)
-  where
-    lt : t < length g.totals
-    lt = omega (arith, in_within g.slots t e here, good.holds.shape.slots, good.holds.shape.totals)
+
+-- the total of t is one less: what the totals of all slots were
+one_subtracted : (totals : List ℕ) (t : ℕ) → t < length totals → 0 < total_at totals t → (u : ℕ) → total_at (set totals t (total_at totals t - 1)) u + one_due t u ≡ total_at totals u
+one_subtracted totals t lt some_left u = ⊎_elim
+    (λ (is : u ≡ t).
+    let new = ap (total_at (set totals t (total_at totals t - 1))) is ∙ total_here totals t (total_at totals t - 1) lt in
+    let old = ap (total_at totals) is in
+    let one = one_self t u (sym is) in
+    omega (arith, new, old, one, some_left))
+    (λ (off : u ≢ t).
+    let total = total_other totals t (total_at totals t - 1) u off in
+    let none = one_other t u (λ q. off (sym q)) in
+    omega (arith, total, none))
+    (cases_eq u t)
+
+-- an occupied slot has a total
+total_within : (g : State) (t : ℕ) (e : Entry) → Good g → IsIn e (slot_at g.slots t) → t < length g.totals
+total_within g t e good here = omega (arith, in_within g.slots t e here, good.holds.shape.slots, good.holds.shape.totals)
+
+-- a reference to the entry e of t is given up, and subtracted from the total of t: what the totals of all slots show
+pub shown_less : (g : State) (k : KeeperView) (t : ℕ) (e : Entry) → Good g → IsIn e (slot_at g.slots t) → 0 < total_at g.totals t
+    → (u : ℕ) (f : Entry) → IsIn f (slot_at g.slots u) → total_at (set g.totals t (total_at g.totals t - 1)) u + number_at (one_more k.given_up e.number) f.number ≡ total_at g.totals u + number_at k.given_up f.number
+shown_less g k t e good here some_left u f there =
+    let given = one_given g t e k.given_up good here u f there in
+    let less = one_subtracted g.totals t (total_within g t e good here) some_left u in
+    omega (arith, given, less)
+
+-- a subtraction is due at no live entry's slot
+none_due : (g : State) (t u : ℕ) (e f : Entry) → slot_at g.slots t ≡ Retired e → slot_at g.slots u ≡ Live f → one_due t u ≡ 0
+none_due g t u e f retired live = one_other t u (λ same. let q : Live f ≡ Retired e = sym live ∙ ap (slot_at g.slots) (sym same) ∙ retired in cc)
 
 -- no later entry's references are given up
 pub later_less : (g : State) (k : KeeperView) (t : ℕ) (e : Entry) → Good g → KeeperShown g k → IsIn e (slot_at g.slots t) → (n : ℕ) → length g.history < n → number_at (one_more k.given_up e.number) n ≡ 0
@@ -169,21 +198,22 @@ later_less g k t e good had here n above =
     one_more_other k.given_up e.number n ne ∙ had.later n above
 
 shown_subtracted : (g : State) (k : KeeperView) (t : ℕ) (e : Entry) → Good g → KeeperShown g k → slot_at g.slots t ≡ Retired e → g.due ≡ Subtracting t
-    → KeeperShown (with_keeper g (totalling g t (total_at g.totals t - 1))) (keeper_view (with_keeper g (totalling g t (total_at g.totals t - 1))) (with_one_less k e.number))
+    → KeeperShown (with_keeper g (totalling g t (total_at g.totals t - 1))) (keeper_view (with_keeper g (totalling g t (total_at g.totals t - 1))) (keeper_own k))
 shown_subtracted g k t e good had retired due =
-    let some_left = (subtracting_range g t good.holds due).1 in record {
+    let less = one_subtracted g.totals t (total_within g t e good (inr retired)) (subtracting_range g t good.holds due).1 in record {
       is = refl;
       counts = had.counts;
       sized = had.sized;
       rows = had.rows;
-      live_total = λ u f live. shown_less g k t e good had (inr retired) some_left u f (inl live) ∙ had.live_total u f live;
+      live_total = λ u f live.
+          let was = had.live_total u f live in
+          let none = none_due g t u e f retired live in
+          omega (arith, was, less u, none);
       gives_up = λ u f gone.
           let was : GivesUp g k.given_up u f.number = had.gives_up u f gone in
-          let less = shown_less g k t e good had (inr retired) some_left u f (inr gone) in
-          let none : adding_at u g.due ≡ 0 = ap (adding_at u) due in
-          let no : is_adding_at u g.due ≡ 0 = ap (is_adding_at u) due in
-          omega (arith, was, less, none, no);
-      later = later_less g k t e good had (inr retired);
+          let d = due_alike g.due (Subtracting t) due u in
+          omega (arith, was, less u, d.0, d.1, d.2);
+      later = had.later;
       beyond = had.beyond;
       heard = had.heard;
     }
@@ -202,12 +232,12 @@ total_sub_may z k t may s r i at fits =
     let found : w ≡ total_at g.totals t = r.words.at (total_of t) range.0 in
     let next : (w + (2 ^ 64 - 1)) % 2 ^ 64 ≡ v = omega (arith, found, range.1, fits) in
     let l : KeeperLists = totalling g t v in
-    let own : KeeperOwn = with_one_less k e.number in
+    let own : KeeperOwn = keeper_own k in
     let made : step g (TotalSub t) ≡ Some (record { state = with_keeper g l; reply = Done }) = ap (total_sub g t) due ∙ rw (eq-eqb t t refl) refl in
     let words : Agrees (set s.words (912 + t) ((w + (2 ^ 64 - 1)) % 2 ^ 64)) (with_keeper g l) = subst (λ n. Agrees (set s.words (912 + t) n) (with_keeper g l)) (sym next) (total_words s.words g l t v r.good range.0 r.words refl refl refl refl refl) in
     let done = keeper_makes z s r i k (912 + t) ((w + (2 ^ 64 - 1)) % 2 ^ 64) l (TotalSub t) Done own at made (leaves_all g l refl refl refl refl (λ u d on. on)) (λ n. refl) refl (shown_subtracted g k t e r.good had gone.1 due) words in
-    let change : keeper_view (with_keeper g l) own ≡ record k { totals = set k.totals t (total_at k.totals t - 1); due = Rest; given_up = one_more k.given_up e.number } =
-    ap (λ (x : KeeperView). record x { totals = set x.totals t (total_at x.totals t - 1); due = Rest; given_up = one_more x.given_up e.number }) (sym had.is) in
+    let change : keeper_view (with_keeper g l) own ≡ record k { totals = set k.totals t (total_at k.totals t - 1); due = Rest } =
+    ap (λ (x : KeeperView). record x { totals = set x.totals t (total_at x.totals t - 1); due = Rest }) (sym had.is) in
     (Keeper (keeper_view (with_keeper g l) own), done.0, (refl, (done.1, (e, ap (λ (x : List Slot). slot_at x t) seen.slots ∙ gone.1, change))))
 
 -- References given up under the interlock
@@ -262,17 +292,21 @@ join_keeper_law k v may g good had ref backs =
       made = made;
       good_after = keeper_good_after g l (JoinKeeper id) Done good (leaves_all g l refl refl refl refl (λ u d on. on)) made;
       shown = record {
-        is = ap (λ (x : KeeperView). record x { due = Subtracting t }) had.is;
+        is = ap (λ (x : KeeperView). record x { due = Subtracting t; given_up = one_more x.given_up n }) had.is;
         counts = had.counts;
         sized = had.sized;
         rows = had.rows;
-        live_total = had.live_total;
+        live_total = λ u e live.
+            let was = had.live_total u e live in
+            let given = one_given g t v.entry k.given_up good (inr there.retired) u e (inl live) in
+            let none = none_due g t u v.entry e there.retired live in
+            omega (arith, was, given, none);
         gives_up = λ u e gone.
             let was : GivesUp g k.given_up u e.number = had.gives_up u e gone in
-            let none : adding_at u g.due ≡ 0 = ap (adding_at u) rest in
-            let no : is_adding_at u g.due ≡ 0 = ap (is_adding_at u) rest in
-            omega (arith, was, none, no);
-        later = had.later;
+            let given = one_given g t v.entry k.given_up good (inr there.retired) u e (inr gone) in
+            let d = due_alike g.due Rest rest u in
+            omega (arith, was, given, d.0, d.1, d.2);
+        later = later_less g k t v.entry good had (inr there.retired);
         beyond = had.beyond;
         heard = had.heard;
       };

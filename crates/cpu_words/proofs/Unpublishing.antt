@@ -16,7 +16,7 @@ use Rattle.passive_core.specs.History.{after_change}
 use Rattle.passive_core.specs.State.{State, no_mark, slot_at}
 use Rattle.passive_core.specs.Slots.{slot_before, at_rest}
 use Rattle.passive_core.specs.Events.{step, guard, taken, unpublish, after_unpublish, unlinking, retiring}
-use Rattle.passive_core.specs.Invariant.{IsIn, adding_at, is_adding_at}
+use Rattle.passive_core.specs.Invariant.{IsIn}
 use Rattle.passive_core.proofs.Cells.{cell_in_old, get_or_all}
 use Rattle.passive_core.proofs.History.{length-after_change}
 use Rattle.passive_core.proofs.Occupied.{place_cases, slot_cases, in_unpublished, in_within, live_one}
@@ -32,6 +32,7 @@ use Rattle.cpu_words.proofs.Placing.{agrees_set}
 use Rattle.cpu_words.proofs.KeeperSteps.{KeeperLists, keeper_lists, with_keeper, LeavesCpus, keeper_makes}
 use Rattle.cpu_words.proofs.KeeperSees.{seen_by_keeper}
 use Rattle.cpu_words.proofs.Leading.{one_link, slot_before_is}
+use Rattle.cpu_words.proofs.Marked.{due_alike}
 
 -- what an unpublishing changes
 abbrev pub unpublish_lists : State → ℕ → Entry → Option ℕ → ℕ → KeeperLists
@@ -130,9 +131,8 @@ gives_up_unlinked g k t e p v had may u f retired = ⊎_elim
     let row = get_or-set_other g.marks t u (replicate 8 no_mark) [] off.0 in
     let net = ap (λ (ms : List Mark). sum_by collected_net (zip ms (get_or g.nets u []))) row in
     let one = ap (λ (ms : List Mark). sum_by collected_one (zip ms (get_or g.nets u []))) row in
-    let adding : adding_at u g.due ≡ 0 = ap (adding_at u) may.rest in
-    let is_adding : is_adding_at u g.due ≡ 0 = ap (is_adding_at u) may.rest in
-    omega (arith, was, net, one, adding, is_adding))
+    let rest = due_alike g.due Rest may.rest u in
+    omega (arith, was, net, one, rest.0, rest.1, rest.2))
     (slot_cases g.slots t (Retired e) u may.within)
   where
     here : GivesUp (with_keeper g (unpublish_lists g t e p v)) k.given_up t e.number

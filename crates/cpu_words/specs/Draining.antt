@@ -61,9 +61,9 @@ pub record MayJoinKeeper (k : KeeperView) (v : ReferenceView) : Type 0 where
   pub rest : k.due ≡ Rest
   pub is_collected : ((c : ℕ) × (v.collected ≡ Some c)) ⊎ ((slot_at k.slots v.entry.slot ≡ Retired v.entry) × (is_some_collected k.settings.cpus (row_of k v.entry.slot) ≡ true))
 
--- a reference is to be subtracted from the total of its entry's slot
+-- a reference is given up: it is to be subtracted from the total of its entry's slot
 abbrev pub giving_up : KeeperView → ReferenceView → KeeperView
-giving_up k v = record k { due = Subtracting v.entry.slot }
+giving_up k v = record k { due = Subtracting v.entry.slot; given_up = one_more k.given_up v.entry.number }
 
 abbrev pub with_given_up : View → View → View
 with_given_up v u = Keeper (giving_up (keeper_of v) (reference_of u))
@@ -71,9 +71,9 @@ with_given_up v u = Keeper (giving_up (keeper_of v) (reference_of u))
 abbrev pub MayTotalSub : KeeperView → ℕ → Type 0
 MayTotalSub k t = k.due ≡ Subtracting t
 
--- the slot's total is one less, for a reference to its entry that is given up, and the keeper is at rest
+-- the slot's total is one less, for the reference to its entry that was given up, and the keeper is at rest
 abbrev pub HasSubtracted : KeeperView → ℕ → KeeperView → Type 0
-HasSubtracted k t l = (e : Entry) × (slot_at k.slots t ≡ Retired e) × (l ≡ record k { totals = slice_set k.totals t (total_at k.totals t - 1); due = Rest; given_up = one_more k.given_up e.number })
+HasSubtracted k t l = (e : Entry) × (slot_at k.slots t ≡ Retired e) × (l ≡ record k { totals = slice_set k.totals t (total_at k.totals t - 1); due = Rest })
 
 -- The end of a drain
 

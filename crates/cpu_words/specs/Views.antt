@@ -1,5 +1,5 @@
 -- What a view shows of a state of the core.
-use Rattle.std.specs.Prelude.{◌≡◌, ◌≢◌, ℕ, zero, suc, ◌+◌, ◌*◌, ◌<◌, ◌≤◌, ◌==◌, Bool, true, false, if◌then◌else◌, List, [], ◌∷◌, ◌++◌, length, take, replicate, count_by, sum_by, slice_index_or, slice_set, Option, Some, None}
+use Rattle.std.specs.Prelude.{◌≡◌, ◌≢◌, ℕ, suc, ◌+◌, ◌*◌, ◌<◌, ◌≤◌, ◌==◌, Bool, true, false, if◌then◌else◌, List, [], ◌∷◌, ◌++◌, length, take, replicate, count_by, sum_by, slice_index_or, slice_set, Option, Some, None}
 use Rattle.std.specs.List.{Contains, zip}
 use mathlib.Core.List.{IsPrefix}
 use Rattle.atomic_table.specs.Seated.{TableId}
@@ -15,7 +15,7 @@ use Rattle.passive_core.specs.declared.state.Hand.TheVariants.{Empty, Taking, Gi
 use Rattle.passive_core.specs.declared.state.Due.TheVariants.{Rest}
 use Rattle.passive_core.specs.History.{IsAttached}
 use Rattle.passive_core.specs.State.{State, bias, no_words, no_mark, section_at, begin_at, depth_at, seen_at, search_at, found_at, hand_at, slot_at, mark_at, passive_at, count_at, total_at}
-use Rattle.passive_core.specs.Invariant.{AreRows, IsIn, Occupies, adding_at, is_adding_at}
+use Rattle.passive_core.specs.Invariant.{AreRows, IsIn, Occupies, subtracting_at, adding_at, is_adding_at}
 use Rattle.cpu_words.specs.declared.view.InHand.{InHand}
 use Rattle.cpu_words.specs.declared.view.InHand.TheVariants.{Empty as NoEntry, Taking as TakingEntry, Giving as GivingEntry, Back as BackEntry}
 use Rattle.cpu_words.specs.declared.view.Looked.{Looked}
@@ -175,10 +175,10 @@ collected_net p = if p.0.collected then p.1 else 0
 abbrev pub collected_one : Mark × ℕ → ℕ
 collected_one p = if p.0.collected then 1 else 0
 
--- the total of a retired entry's slot is the net counts collected into it, less the references given up under the interlock
+-- the total of a retired entry's slot is the net counts collected into it, less the references given up under the interlock: one that is given up as the keeper joins it is subtracted by the step after
 abbrev pub GivesUp : State → List ℕ → ℕ → ℕ → Type 0
 GivesUp g given_up t n = let row = zip (slice_index_or g.marks t []) (slice_index_or g.nets t []) in
-    total_at g.totals t + adding_at t g.due + number_at given_up n + bias * sum_by collected_one row ≡ bias * (1 + is_adding_at t g.due) + sum_by collected_net row
+    total_at g.totals t + adding_at t g.due + number_at given_up n + bias * sum_by collected_one row ≡ bias * (1 + is_adding_at t g.due) + sum_by collected_net row + subtracting_at t g.due
 
 pub record KeeperShown (g : State) (k : KeeperView) : Type 0 where
   pub is : k ≡ keeper_view g (keeper_own k)
@@ -186,7 +186,7 @@ pub record KeeperShown (g : State) (k : KeeperView) : Type 0 where
   pub counts : (c t : ℕ) → slot_at g.slots t ≡ Vacant → count_at g.counts c t ≡ count_at k.counts c t
   pub sized : length k.counts ≡ g.settings.slots
   pub rows : AreRows k.counts
-  -- nothing was collected for a live entry: the marks of its slot are an earlier entry's
+  -- nothing was collected for a live entry, and nothing is to be subtracted: the marks of its slot are an earlier entry's
   pub live_total : (t : ℕ) (e : Entry) → slot_at g.slots t ≡ Live e → total_at g.totals t + number_at k.given_up e.number ≡ bias
   pub gives_up : (t : ℕ) (e : Entry) → slot_at g.slots t ≡ Retired e → GivesUp g k.given_up t e.number
   pub later : (n : ℕ) → length g.history < n → number_at k.given_up n ≡ 0

@@ -33,7 +33,7 @@ pub struct KeeperView {
     pub totals: LinkedList<u64>,
     /// The count words of vacant slots, as the keeper stored them; of an occupied slot this says nothing.
     pub counts: LinkedList<LinkedList<u64>>,
-    /// By number: the local references given up under the interlock.
+    /// By number: the local references given up under the interlock; one that is taken in counts before it is subtracted.
     pub given_up: LinkedList<u64>,
     pub looks: u64,
     pub last_look: Option<Looked>,

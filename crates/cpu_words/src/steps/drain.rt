@@ -75,7 +75,7 @@ pub fn total_add(words: &Words, keeper: &mut KeeperSeat, slot: u8, total: u64)
     );
 }
 
-/// Subtracts the local reference that is given up from the total of `slot`.
+/// Subtracts the local reference that was given up from the total of `slot`. It isn't counted again: `join_keeper` counted it as given up.
 /// Condition: the keeper has taken in a reference to the slot's entry, and has not subtracted it yet.
 pub fn total_sub(words: &Words, keeper: &mut KeeperSeat, slot: u8)
     requires table { keeper.old.table ≡ words.now.table }
@@ -88,7 +88,8 @@ pub fn total_sub(words: &Words, keeper: &mut KeeperSeat, slot: u8)
     by_keeper::subtract::<Brand>(words, keeper, 912 + slot as usize, 1, Event::TotalSub(slot));
 }
 
-/// Takes a local reference in, to be given up: its seat is spent, and it is to be subtracted from the total of its entry's slot.
+/// Gives a local reference up by taking it in: its seat is spent, it counts as given up, by its entry's number, from here on, and it is
+/// to be subtracted from the total of its entry's slot.
 /// Condition: the keeper is at rest, and a count word was collected for the reference's entry: a release of the reference found it so, or
 /// the keeper has collected one.
 pub fn join_keeper(words: &Words, keeper: &mut KeeperSeat, reference: ReferenceSeat)
