@@ -6,3 +6,4 @@ pub mod Balanced
 pub mod Collections
 pub mod Subtracting
 pub mod Freed
+pub mod GivenUp

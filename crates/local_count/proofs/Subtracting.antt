@@ -1,5 +1,5 @@
 -- A reference is given up: the total in one row is one less.
-use Rattle.std.proofs.Common.{◌≡◌, ⊎_elim, ℕ, ◌-◌, ◌<◌, ◌≤◌, List, [], set, refl, sym, ap, ◌∙◌, subst, arith}
+use Rattle.std.proofs.Common.{◌≡◌, ⊎_elim, ℕ, ◌-◌, ◌<◌, ◌≤◌, List, [], length, set, refl, sym, ap, ◌∙◌, subst, arith}
 use Rattle.std.proofs.lemmas.List.{set-get_or}
 use Rattle.passive_core.specs.declared.settings.Settings.{Settings}
 use Rattle.passive_core.specs.declared.state.Due.{Due}
@@ -40,6 +40,7 @@ pub record HeldRow (k : KeeperView) (rows : List Row) (t : ℕ) : Type 0 where
   pub shown : (row_at rows t).state ≡ slot_at k.slots t
   pub some : slot_at (states_of rows) t ≡ Vacant → ⊥
   pub positive : 1 ≤ (row_at rows t).total
+  pub size : length (row_at rows t).marks ≡ 8
 
 pub held_row : (a : Settings) (k : KeeperView) (rows : List Row) (t : ℕ) → IsAtRest a k → RowsAgree a k rows → IsHeldIn k t → HeldRow k rows t
 held_row a k rows t at agree held =
@@ -54,6 +55,7 @@ held_row a k rows t at agree held =
       shown = shown;
       some = λ vacant. not_vacant held.e (slot_at k.slots t) (sym shown ∙ (sym (state_at rows t) ∙ vacant)) held.occupied;
       positive = let total = had.total in let some = held.positive in omega (arith, total, some);
+      size = let wide = at.sized.marks in ap (λ (ms : List Mark). length ms) had.marks ∙ at.sized.mark_rows t (omega (arith, within, same, wide));
     }
 
 -- Its total is one less

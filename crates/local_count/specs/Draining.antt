@@ -1,5 +1,5 @@
 -- The keeper's side of local references (localcount(9)): what its calls ask, and what they leave of the keeper.
-use Rattle.std.specs.Prelude.{◌≡◌, ◌⊎◌, ℕ, ◌+◌, ◌-◌, List, slice_set, true, position, Option, Some, None}
+use Rattle.std.specs.Prelude.{◌≡◌, ℕ, ◌+◌, ◌-◌, List, slice_set, position, Option, Some, None}
 use Rattle.passive_core.specs.declared.entry.Entry.{Entry}
 use Rattle.passive_core.specs.declared.event.Event.TheVariants.{Collect, TotalAdd, TotalSub, JoinKeeper, Keep, KeptSub}
 use Rattle.passive_core.specs.declared.event.Reply.TheVariants.{Done, Word}
@@ -7,12 +7,12 @@ use Rattle.passive_core.specs.declared.state.Slot.TheVariants.{Vacant, Retired}
 use Rattle.passive_core.specs.declared.state.Due.TheVariants.{Adding}
 use Rattle.passive_core.specs.Events.{collected as collected_mark}
 use Rattle.passive_core.specs.Invariant.{held_at}
-use Rattle.passive_core.specs.Slots.{has_number, is_some_collected}
+use Rattle.passive_core.specs.Slots.{has_number}
 use Rattle.passive_core.specs.State.{State, bias, with_cell, slot_at, mark_at, total_at}
 use Rattle.cpu_words.specs.declared.view.KeeperView.{KeeperView}
 use Rattle.cpu_words.specs.declared.view.ReferenceView.{ReferenceView}
 use Rattle.cpu_words.specs.declared.view.View.TheVariants.{Keeper, Reference}
-use Rattle.cpu_words.specs.Draining.{giving_up, row_of, HasKeptSub}
+use Rattle.cpu_words.specs.Draining.{giving_up, HasKeptSub}
 use Rattle.cpu_words.specs.Keeping.{IsVacated, keeping}
 use Rattle.cpu_words.specs.Rule.{Good}
 use Rattle.cpu_words.specs.Steps.{Makes, JoinsBy}
@@ -43,10 +43,6 @@ pub record AreHeld (k : KeeperView) (t n : ℕ) : Type 0 where
   pub held : (g : State) → Good g → KeeperShown g k → held_at g.locals g.hands g.keeps g.due e.number t ≡ n
 
 -- Giving up under the interlock
-
--- a release found a count word of the reference's entry collected, or the keeper has collected one for it
-abbrev pub IsFoundCollected : KeeperView → ReferenceView → Type 0
-IsFoundCollected k v = ((c : ℕ) × (v.collected ≡ Some c)) ⊎ ((slot_at k.slots v.entry.slot ≡ Retired v.entry) × (is_some_collected k.settings.cpus (row_of k v.entry.slot) ≡ true))
 
 -- the reference was given up: the total of its entry's slot is one less; nothing else changes
 pub record HasGivenUp (a : OnKeeper) (v : ReferenceView) (b : OnKeeper) : Type 0 where

@@ -1,7 +1,8 @@
 //! Giving a local reference up under the interlock (localcount(9)), where its CPU's count word was collected.
 
 ghost use Rattle.std.specs.Prelude.{◌≡◌};
-ghost use Rattle.local_count.specs.Draining.{IsFoundCollected, HasGivenUp};
+ghost use Rattle.cpu_words.specs.Draining.{IsFoundCollected};
+ghost use Rattle.local_count.specs.Draining.{HasGivenUp};
 
 use crate::local_ref::LocalRef;
 use cpu_words::{Domain, Words, steps};

@@ -10,6 +10,7 @@
 mod acquire;
 mod collecting;
 mod freeing;
+mod giving_up;
 mod local_ref;
 mod net;
 mod release;
@@ -17,5 +18,6 @@ mod release;
 pub use acquire::acquire_local;
 pub use collecting::{collect, collected, total};
 pub use freeing::free_iface;
+pub use giving_up::release_under;
 pub use local_ref::LocalRef;
 pub use release::try_release;
