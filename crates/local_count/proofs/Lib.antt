@@ -7,3 +7,4 @@ pub mod Collections
 pub mod Subtracting
 pub mod Freed
 pub mod GivenUp
+pub mod Keeping
