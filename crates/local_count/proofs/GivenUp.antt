@@ -1,5 +1,5 @@
 -- A reference is given up under the interlock: its entry's row has one to subtract, and what the keeper has agrees with what its seat knows then.
-use Rattle.std.proofs.Common.{◌≡◌, ℕ, ◌-◌, List, length, set, refl, sym, ap, ◌∙◌, subst}
+use Rattle.std.proofs.Common.{◌≡◌, ℕ, ◌-◌, List, set, refl, sym, ap, ◌∙◌, subst}
 use Rattle.std.proofs.Math.Seq.{map-set_same}
 use Rattle.atomic_table.specs.Seated.{TableId}
 use Rattle.passive_core.specs.declared.event.Event.TheVariants.{JoinKeeper, TotalSub}
@@ -7,7 +7,6 @@ use Rattle.passive_core.specs.declared.event.Reply.TheVariants.{Done}
 use Rattle.passive_core.specs.declared.settings.Settings.{Settings}
 use Rattle.passive_core.specs.declared.state.Due.{Due}
 use Rattle.passive_core.specs.declared.state.Due.TheVariants.{Rest}
-use Rattle.passive_core.specs.declared.state.Mark.{Mark}
 use Rattle.passive_core.specs.State.{total_at}
 use Rattle.cpu_words.specs.declared.view.KeeperView.{KeeperView}
 use Rattle.cpu_words.specs.declared.view.ReferenceView.{ReferenceView}
