@@ -56,10 +56,14 @@ pub record MayTotalAdd (k : KeeperView) (t old value : ℕ) : Type 0 where
 abbrev pub HasAdded : KeeperView → ℕ → ℕ → KeeperView → Type 0
 HasAdded k t value l = l ≡ record k { totals = slice_set k.totals t value; due = Rest }
 
--- the keeper is at rest, and a release found a count word of the reference's entry collected, or the keeper has collected one for it
+-- a release found a count word of the reference's entry collected, or the keeper has collected one for it
+abbrev pub IsFoundCollected : KeeperView → ReferenceView → Type 0
+IsFoundCollected k v = ((c : ℕ) × (v.collected ≡ Some c)) ⊎ ((slot_at k.slots v.entry.slot ≡ Retired v.entry) × (is_some_collected k.settings.cpus (row_of k v.entry.slot) ≡ true))
+
+-- and the keeper is at rest
 pub record MayJoinKeeper (k : KeeperView) (v : ReferenceView) : Type 0 where
   pub rest : k.due ≡ Rest
-  pub is_collected : ((c : ℕ) × (v.collected ≡ Some c)) ⊎ ((slot_at k.slots v.entry.slot ≡ Retired v.entry) × (is_some_collected k.settings.cpus (row_of k v.entry.slot) ≡ true))
+  pub is_collected : IsFoundCollected k v
 
 -- a reference is given up: it is to be subtracted from the total of its entry's slot
 abbrev pub giving_up : KeeperView → ReferenceView → KeeperView

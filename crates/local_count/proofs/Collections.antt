@@ -8,7 +8,8 @@ use Rattle.passive_core.specs.declared.event.Reply.TheVariants.{Done, Word}
 use Rattle.passive_core.specs.declared.settings.Settings.{Settings}
 use Rattle.passive_core.specs.declared.state.Due.TheVariants.{Rest}
 use Rattle.passive_core.specs.declared.state.Mark.{Mark}
-use Rattle.passive_core.specs.declared.state.Slot.TheVariants.{Vacant, Retired}
+use Rattle.passive_core.specs.declared.state.Slot.{Slot}
+use Rattle.passive_core.specs.declared.state.Slot.TheVariants.{Vacant, Live, Retired}
 use Rattle.passive_core.specs.Events.{collected}
 use Rattle.passive_core.specs.Slots.{are_collected}
 use Rattle.passive_core.specs.State.{bias, no_mark, slot_at, total_at}
@@ -23,7 +24,7 @@ use Rattle.cpu_words.specs.Steps.{Makes}
 use Rattle.cpu_words.proofs.Pictures.{pictured_by}
 use Rattle.passive_list.specs.declared.keeper.Row.{Row}
 use Rattle.passive_list.specs.Keepers.{OnKeeper, no_row, row_at, state_of, states_of, TakenAs, IsAtRest, RowsAgree, IsOurKeeper}
-use Rattle.passive_list.proofs.Rows.{state_at, retired_in, row_stays, rows_set}
+use Rattle.passive_list.proofs.Rows.{state_at, not_vacant_within, retired_in, row_stays, rows_set}
 use Rattle.local_count.specs.Draining.{collecting, HasCollectedInto, AreHeld}
 use Rattle.local_count.proofs.Balanced.{none_at_rest, total_collected, bias_within, adding_fits}
 
@@ -55,35 +56,40 @@ with_total_at_rest a k t marks total given_up at size = record {
   room = at.room;
 }
 
-with_total_rows : (a : Settings) (k : KeeperView) (rows : List Row) (t : ℕ) (e : Entry) (marks : List Mark) (total : ℕ) (given_up : List ℕ) → IsAtRest a k → RowsAgree a k rows → slot_at (states_of rows) t ≡ Retired e
+pub with_total_rows : (a : Settings) (k : KeeperView) (rows : List Row) (t : ℕ) (marks : List Mark) (total : ℕ) (given_up : List ℕ) → IsAtRest a k → RowsAgree a k rows → (slot_at (states_of rows) t ≡ Vacant → ⊥)
     → RowsAgree a (with_total k t marks total given_up) (set rows t (row_with_total (row_at rows t) marks total))
-with_total_rows a k rows t e marks total given_up at agree is =
+with_total_rows a k rows t marks total given_up at agree some =
     let l = with_total k t marks total given_up in
-    let retired = retired_in a k rows t e agree is in
-    let lt = retired.0 in
+    let lt = not_vacant_within a k rows t agree some in
     let most = (ranges a at.fit).slots in
-    let state : (row_at rows t).state ≡ Retired e = sym (state_at rows t) ∙ is in
+    let had = agree.each t lt in
+    let off : (row_at rows t).state ≡ Vacant → ⊥ = λ vacant. some (state_at rows t ∙ vacant) in
     rows_set a k l rows t (row_with_total (row_at rows t) marks total) lt (omega (arith, lt, most)) agree
     record {
-      state = subst (TakenAs l t) (sym state) retired.1;
+      state = stays (row_at rows t).state off had.state;
       marks = sym (get_or-set_same k.marks t marks [] (let size = at.sized.marks in omega (arith, lt, size)));
       total = sym (total_here k.totals t total (let size = at.sized.totals in omega (arith, lt, size)));
-      keeps = (agree.each t lt).keeps;
-      unused = λ vacant. absurd (let q : Retired e ≡ Vacant = sym state ∙ vacant in cc);
+      keeps = had.keeps;
+      unused = λ vacant. absurd (off vacant);
     }
-    (λ u off was. row_stays k l u (row_at rows u) refl refl refl (get_or-set_other k.marks t u marks [] off) (total_other k.totals t total u off) refl was)
+    (λ u other was. row_stays k l u (row_at rows u) refl refl refl (get_or-set_other k.marks t u marks [] other) (total_other k.totals t total u other) refl was)
+  where
+    stays : (x : Slot) → (x ≡ Vacant → ⊥) → TakenAs k t x → TakenAs (with_total k t marks total given_up) t x
+    stays Vacant off is = absurd (off refl)
+    stays (Live e) off is = is
+    stays (Retired e) off is = is
 
--- the keeper's data agree with such a view, where the slot's entry is retired
-pub with_total_keeper : (z : TableId) (a : Settings) (table table' : TableId) (k l : KeeperView) (its : Settings) (rows : List Row) (n t : ℕ) (e : Entry) (marks : List Mark) (total : ℕ) (given_up : List ℕ)
-    → IsOurKeeper z a table k its rows n → slot_at (states_of rows) t ≡ Retired e → length marks ≡ 8 → table' ≡ table → l ≡ with_total k t marks total given_up → IsPictured l
+-- the keeper's data agree with such a view, where the slot isn't vacant
+pub with_total_keeper : (z : TableId) (a : Settings) (table table' : TableId) (k l : KeeperView) (its : Settings) (rows : List Row) (n t : ℕ) (marks : List Mark) (total : ℕ) (given_up : List ℕ)
+    → IsOurKeeper z a table k its rows n → (slot_at (states_of rows) t ≡ Vacant → ⊥) → length marks ≡ 8 → table' ≡ table → l ≡ with_total k t marks total given_up → IsPictured l
     → IsOurKeeper z a table' l its (set rows t (row_with_total (row_at rows t) marks total)) n
-with_total_keeper z a table table' k l its rows n t e marks total given_up our is size same change pictured = record {
+with_total_keeper z a table table' k l its rows n t marks total given_up our some size same change pictured = record {
   table = same ∙ our.table;
   settings = our.settings;
   view = subst (IsAtRest a) (sym change) (with_total_at_rest a k t marks total given_up our.view size);
   pictured = pictured;
   changes = our.changes ∙ sym (ap (λ (x : KeeperView). length x.history) change);
-  rows = subst (λ (x : KeeperView). RowsAgree a x (set rows t (row_with_total (row_at rows t) marks total))) (sym change) (with_total_rows a k rows t e marks total given_up our.view our.rows is);
+  rows = subst (λ (x : KeeperView). RowsAgree a x (set rows t (row_with_total (row_at rows t) marks total))) (sym change) (with_total_rows a k rows t marks total given_up our.view our.rows some);
 }
 
 -- A collection
@@ -127,7 +133,7 @@ collected_keeper z a table table' k l b its rows n x t c w e m our is retired ch
     let row = (our.rows.each t lt).marks in
     let size = our.view.sized.marks in
     let long : length (set (row_at rows t).marks c m) ≡ 8 = length-set (row_at rows t).marks c m ∙ (ap (λ (ms : List Mark). length ms) row ∙ our.view.sized.mark_rows t (omega (arith, lt, size))) in
-    with_total_keeper z a table table' k b its rows n t e (set (row_at rows t).marks c m) ((row_at rows t).total + w - bias) k.given_up our here long same (added_is k l b rows t c w m row change mark added) (pictured_by (TotalAdd t) Done l b made)
+    with_total_keeper z a table table' k b its rows n t (set (row_at rows t).marks c m) ((row_at rows t).total + w - bias) k.given_up our (λ v. let q : Retired e ≡ Vacant = sym here ∙ v in cc) long same (added_is k l b rows t c w m row change mark added) (pictured_by (TotalAdd t) Done l b made)
 
 pub collected_into : (z : TableId) (a : Settings) (table : TableId) (k l b : KeeperView) (its : Settings) (rows : List Row) (n : ℕ) (x : OnKeeper) (t c w : ℕ) (e : Entry) (r : Row) → IsOurKeeper z a table k its rows n → record { view = k; slots = states_of rows } ≡ x
     → slot_at x.slots t ≡ Retired e → HasCollected k t c w l → Makes (Collect t c) (Word w) (Keeper k) (Keeper l) → HasAdded l t ((row_at rows t).total + w - bias) b → Makes (TotalAdd t) Done (Keeper l) (Keeper b) → r.state ≡ (row_at rows t).state

@@ -4,4 +4,7 @@ pub mod Releasing
 pub mod Recording
 pub mod Balanced
 pub mod Collections
+pub mod Subtracting
+pub mod Freed
+pub mod GivenUp
 pub mod Keeping

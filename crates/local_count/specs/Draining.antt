@@ -1,5 +1,5 @@
 -- The keeper's side of local references (localcount(9)): what its calls ask, and what they leave of the keeper.
-use Rattle.std.specs.Prelude.{◌≡◌, ◌⊎◌, ℕ, ◌+◌, ◌-◌, slice_set, true, Some}
+use Rattle.std.specs.Prelude.{◌≡◌, ℕ, ◌+◌, ◌-◌, List, slice_set, position, Option, Some, None}
 use Rattle.passive_core.specs.declared.entry.Entry.{Entry}
 use Rattle.passive_core.specs.declared.event.Event.TheVariants.{Collect, TotalAdd, TotalSub, JoinKeeper, Keep, KeptSub}
 use Rattle.passive_core.specs.declared.event.Reply.TheVariants.{Done, Word}
@@ -7,18 +7,19 @@ use Rattle.passive_core.specs.declared.state.Slot.TheVariants.{Vacant, Retired}
 use Rattle.passive_core.specs.declared.state.Due.TheVariants.{Adding}
 use Rattle.passive_core.specs.Events.{collected as collected_mark}
 use Rattle.passive_core.specs.Invariant.{held_at}
-use Rattle.passive_core.specs.Slots.{is_some_collected}
+use Rattle.passive_core.specs.Slots.{has_number}
 use Rattle.passive_core.specs.State.{State, bias, with_cell, slot_at, mark_at, total_at}
 use Rattle.cpu_words.specs.declared.view.KeeperView.{KeeperView}
 use Rattle.cpu_words.specs.declared.view.ReferenceView.{ReferenceView}
 use Rattle.cpu_words.specs.declared.view.View.TheVariants.{Keeper, Reference}
-use Rattle.cpu_words.specs.Draining.{giving_up, row_of, HasKeptSub}
+use Rattle.cpu_words.specs.Draining.{giving_up, HasKeptSub}
 use Rattle.cpu_words.specs.Keeping.{IsVacated, keeping}
 use Rattle.cpu_words.specs.Rule.{Good}
 use Rattle.cpu_words.specs.Steps.{Makes, JoinsBy}
 use Rattle.cpu_words.specs.Vacating.{as_vacant}
 use Rattle.cpu_words.specs.Views.{KeeperShown, one_more}
-use Rattle.passive_list.specs.Keepers.{OnKeeper}
+use Rattle.passive_list.specs.declared.keeper.Row.{Row}
+use Rattle.passive_list.specs.Keepers.{OnKeeper, state_of}
 use Rattle.passive_list.specs.Publishing.{HasAttached}
 
 -- Collecting
@@ -43,10 +44,6 @@ pub record AreHeld (k : KeeperView) (t n : ℕ) : Type 0 where
 
 -- Giving up under the interlock
 
--- a release found a count word of the reference's entry collected, or the keeper has collected one for it
-abbrev pub IsFoundCollected : KeeperView → ReferenceView → Type 0
-IsFoundCollected k v = ((c : ℕ) × (v.collected ≡ Some c)) ⊎ ((slot_at k.slots v.entry.slot ≡ Retired v.entry) × (is_some_collected k.settings.cpus (row_of k v.entry.slot) ≡ true))
-
 -- the reference was given up: the total of its entry's slot is one less; nothing else changes
 pub record HasGivenUp (a : OnKeeper) (v : ReferenceView) (b : OnKeeper) : Type 0 where
   pub joined : JoinsBy JoinKeeper (Keeper a.view) (Reference v) (Keeper (giving_up a.view v))
@@ -61,6 +58,15 @@ pub record HasAttachedKeeping (a : OnKeeper) (v : ReferenceView) (e : Entry) (b 
   pub vacated : IsVacated a.view e.slot
   pub kept : JoinsBy (Keep e.slot) (Keeper (as_vacant a.view e.slot)) (Reference v) (Keeper (keeping a.view e.slot v))
   pub attached : HasAttached (record { view = keeping a.view e.slot v; slots = a.slots }) e b
+
+-- the row that shows the live or retired entry n
+abbrev pub place_of : ℕ → List Row → Option ℕ
+place_of n rows = position (λ r. has_number n (state_of r)) rows
+
+-- and the one with the number kept
+abbrev pub kept_slot : Option ℕ → List Row → Option ℕ
+kept_slot None rows = None
+kept_slot (Some d) rows = place_of d rows
 
 -- the interface's slot is vacant, and the reference that it kept to the driver in the slot u is given up
 pub record HasFreed (a : OnKeeper) (t : ℕ) (b : OnKeeper) : Type 0 where

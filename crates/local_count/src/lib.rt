@@ -9,6 +9,8 @@
 
 mod acquire;
 mod collecting;
+mod freeing;
+mod giving_up;
 mod interfaces;
 mod local_ref;
 mod net;
@@ -16,6 +18,8 @@ mod release;
 
 pub use acquire::acquire_local;
 pub use collecting::{collect, collected, total};
+pub use freeing::free_iface;
+pub use giving_up::release_under;
 pub use interfaces::publish_iface;
 pub use local_ref::LocalRef;
 pub use release::try_release;

@@ -1,0 +1,232 @@
+-- A retired interface is freed: the driver that its slot keeps has a row, the keeper may give it up, and what it has agrees with what its seat knows then.
+use Rattle.std.proofs.Common.{◌≡◌, ◌≢◌, inl, inr, ℕ, ◌+◌, ◌-◌, ◌<◌, List, length, set, replicate, Option, Some, None, refl, sym, ap, ◌∙◌, subst, arith, get_or-set_same, get_or-set_other, length-set}
+use Rattle.std.proofs.lemmas.List.{map-set}
+use Rattle.std.proofs.lemmas.List.Quantifiers.{position-Some}
+use Rattle.std.proofs.Math.Seq.{map-set_same}
+use Rattle.atomic_table.specs.Seated.{TableId}
+use Rattle.passive_core.specs.declared.entry.Entry.{Entry}
+use Rattle.passive_core.specs.declared.entry.Kind.TheVariants.{Iface}
+use Rattle.passive_core.specs.declared.event.Event.TheVariants.{KeptSub}
+use Rattle.passive_core.specs.declared.event.Reply.TheVariants.{Done}
+use Rattle.passive_core.specs.declared.settings.Settings.{Settings}
+use Rattle.passive_core.specs.declared.state.Due.TheVariants.{Rest}
+use Rattle.passive_core.specs.declared.state.Slot.{Slot}
+use Rattle.passive_core.specs.declared.state.Slot.TheVariants.{Vacant, Live, Retired}
+use Rattle.passive_core.specs.Invariant.{IsIn, DriversKept}
+use Rattle.passive_core.specs.Slots.{has_number, live_count, slot_of}
+use Rattle.passive_core.specs.State.{bias, slot_at, total_at, kept_at}
+use Rattle.passive_core.proofs.Cells.{slot_here, slot_other, total_other}
+use Rattle.passive_core.proofs.Drivers.{kept_number}
+use Rattle.passive_core.proofs.Fit.{ranges}
+use Rattle.passive_core.proofs.ListKeeps.{live_count_put, rows_put}
+use Rattle.passive_core.proofs.Occupied.{has_it, not_vacant, number_in, one_number, position_found, slot_found, slot_has}
+use Rattle.cpu_words.specs.declared.view.KeeperView.{KeeperView}
+use Rattle.cpu_words.specs.declared.view.View.TheVariants.{Keeper}
+use Rattle.cpu_words.specs.Draining.{MayKeptSub, HasKeptSub}
+use Rattle.cpu_words.specs.Rule.{IsPictured}
+use Rattle.cpu_words.specs.Steps.{Makes}
+use Rattle.cpu_words.specs.Views.{one_more}
+use Rattle.cpu_words.proofs.KeeperSees.{seen_by_keeper}
+use Rattle.passive_list.specs.declared.keeper.Row.{Row}
+use Rattle.passive_list.specs.Keepers.{OnKeeper, no_row, row_at, state_of, states_of, TakenAs, IsAtRest, RowsAgree, IsOurKeeper}
+use Rattle.passive_list.specs.Vacating.{IsDrainedOn}
+use Rattle.passive_list.proofs.Rows.{state_at, taken_in, retired_in, row_stays, rows_set}
+use Rattle.local_count.specs.Draining.{HasFreed, kept_slot, place_of}
+use Rattle.local_count.proofs.Balanced.{IsHeldIn, held_by_slot}
+use Rattle.local_count.proofs.Subtracting.{HeldRow, held_row, row_less, less, less_rows}
+
+-- The driver's row
+
+-- what is taken of a slot that isn't taken as vacant
+taken_is : (k : KeeperView) (t : ℕ) (x : Slot) → (x ≡ Vacant → ⊥) → TakenAs k t x → slot_at k.slots t ≡ x
+taken_is k t Vacant off is = absurd (off refl)
+taken_is k t (Live e) off is = is
+taken_is k t (Retired e) off is = is
+
+-- the row that shows the number has its entry, which is in that slot
+pub place_told : (a : Settings) (k : KeeperView) (rows : List Row) (n u : ℕ) → RowsAgree a k rows → place_of n rows ≡ Some u → (e : Entry) × IsIn e (slot_at k.slots u) × (e.number ≡ n)
+place_told a k rows n u agree found =
+    let at = position-Some (λ (r : Row). has_number n (state_of r)) rows u no_row found in
+    let x = (row_at rows u).state in
+    let has = number_in n x at.1 in
+    let off : x ≡ Vacant → ⊥ = λ v. not_vacant has.0 x v has.1 in
+    let here = taken_in a k rows u x agree (state_at rows u) off in
+    (has.0, subst (IsIn has.0) (sym (taken_is k u x off here.1)) has.1, has.2)
+
+-- a number has one slot
+one_slot : (k : KeeperView) (t u : ℕ) (e f : Entry) → IsPictured k → IsIn e (slot_at k.slots t) → IsIn f (slot_at k.slots u) → f.number ≡ e.number → u ≡ t
+one_slot k t u e f pictured is also same =
+    let g = pictured.g in
+    let slots : k.slots ≡ g.slots = (seen_by_keeper g k pictured.good pictured.shown).slots in
+    (one_number g.history g.slots t u e f pictured.good.holds.slots (subst (λ (x : List Slot). IsIn e (slot_at x t)) slots is) (subst (λ (x : List Slot). IsIn f (slot_at x u)) slots also) same).0
+
+-- the row of what is held shows its number
+held_place : (a : Settings) (k : KeeperView) (rows : List Row) (u : ℕ) (f : Entry) → IsPictured k → RowsAgree a k rows → HeldRow k rows u → IsIn f (slot_at k.slots u) → place_of f.number rows ≡ Some u
+held_place a k rows u f pictured agree row is =
+    let lt = row.slot in
+    let size = agree.size in
+    let here : IsIn f (row_at rows u).state = subst (IsIn f) (sym row.shown) is in
+    let found = position_found (λ (r : Row). has_number f.number (state_of r)) no_row rows u (omega (arith, lt, size)) (has_it f.number f (row_at rows u).state here refl) in
+    let shown = place_told a k rows f.number found.0 agree found.1 in
+    found.1 ∙ ap (λ (j : ℕ). Some j) (one_slot k u found.0 f shown.0 pictured is shown.1 shown.2)
+
+-- the slot t keeps the driver d, which is in the slot u
+pub record KeepsHeld (k : KeeperView) (t u : ℕ) : Type 0 where
+  pub d : ℕ
+  pub kept : kept_at k.keeps t ≡ Some d
+  pub of : slot_of k.slots d ≡ Some u
+  pub other : u ≢ t
+  pub held : IsHeldIn k u
+
+-- and the row of u shows the driver f
+record KeepsShown (k : KeeperView) (t u : ℕ) : Type 0 where
+  keeps : KeepsHeld k t u
+  f : Entry
+  here : IsIn f (slot_at k.slots u)
+  number : f.number ≡ keeps.d
+
+keeps_shown : (k : KeeperView) (t : ℕ) (e : Entry) → IsPictured k → k.due ≡ Rest → slot_at k.slots t ≡ Retired e → e.rec.kind ≡ Iface → (u : ℕ) × KeepsShown k t u
+keeps_shown k t e pictured rest retired kind =
+    let g = pictured.g in
+    let seen = seen_by_keeper g k pictured.good pictured.shown in
+    let keeps : DriversKept k.slots k.keeps = subst (λ (x : List Slot). DriversKept x k.keeps) (sym seen.slots) (subst (DriversKept g.slots) (sym seen.keeps) pictured.good.holds.kept_drivers) in
+    let it = kept_number k.slots k.keeps t e keeps (inr retired) kind in
+    let found = slot_found k.slots it.0 (it.2.0, it.2.1, it.2.2, it.2.3) in
+    let has = (slot_has k.slots it.0 found.0 found.1).1 in
+    let of : slot_of k.slots it.0 ≡ Some it.2.0 = found.1 ∙ ap (λ (j : ℕ). Some j) (one_slot k it.2.0 found.0 it.2.1 has.0 pictured it.2.2 has.1 (has.2 ∙ sym it.2.3)) in (
+      it.2.0,
+      record {
+        keeps = record { d = it.0; kept = it.1; of = of; other = it.2.5; held = held_by_slot k t it.0 it.2.0 pictured rest it.1 of };
+        f = it.2.1;
+        here = it.2.2;
+        number = it.2.3;
+      },
+    )
+
+-- the interface, as the caller has it
+abbrev IsIface : OnKeeper → ℕ → Type 0
+IsIface x t = (e : Entry) × (slot_at x.slots t ≡ Retired e) × (e.rec.kind ≡ Iface)
+
+-- so the slot is found by the rows
+pub keeps_on : (z : TableId) (a : Settings) (table : TableId) (k : KeeperView) (its : Settings) (rows : List Row) (n t : ℕ) (x : OnKeeper) → IsOurKeeper z a table k its rows n → record { view = k; slots = states_of rows } ≡ x → IsIface x t
+    → (u : ℕ) × (kept_slot (row_at rows t).keeps rows ≡ Some u) × KeepsHeld k t u
+keeps_on z a table k its rows n t x our is iface =
+    let retired = retired_in a k rows t iface.0 our.rows (ap (λ (y : OnKeeper). slot_at y.slots t) is ∙ iface.1) in
+    let it = keeps_shown k t iface.0 our.pictured our.view.rest retired.1 iface.2 in
+    let s = it.1 in (
+      it.0,
+      ap (λ (o : Option ℕ). kept_slot o rows) ((our.rows.each t retired.0).keeps ∙ s.keeps.kept) ∙ (ap (λ (m : ℕ). place_of m rows) (sym s.number) ∙ held_place a k rows it.0 s.f our.pictured our.rows (held_row a k rows it.0 our.view our.rows s.keeps.held) s.here),
+      s.keeps,
+    )
+
+-- where they have found u
+pub keeps_at : (z : TableId) (a : Settings) (table : TableId) (k : KeeperView) (its : Settings) (rows : List Row) (n t u : ℕ) (x : OnKeeper) → IsOurKeeper z a table k its rows n → record { view = k; slots = states_of rows } ≡ x → IsIface x t
+    → kept_slot (row_at rows t).keeps rows ≡ Some u → KeepsHeld k t u
+keeps_at z a table k its rows n t u x our is iface found =
+    let it = keeps_on z a table k its rows n t x our is iface in
+    let same : it.0 ≡ u = let q : ◌≡◌ {A = Option ℕ} (Some it.0) (Some u) = sym it.1 ∙ found in cc in
+    subst (KeepsHeld k t) same it.2
+
+-- and the keeper may give the driver up
+pub may_free : (z : TableId) (a : Settings) (table : TableId) (k : KeeperView) (its : Settings) (rows : List Row) (n t u : ℕ) (x : OnKeeper) → IsOurKeeper z a table k its rows n → record { view = k; slots = states_of rows } ≡ x → IsIface x t
+    → IsDrainedOn x t → KeepsHeld k t u → MayKeptSub k t u
+may_free z a table k its rows n t u x our is iface drained keeps =
+    let d = (subst (λ (y : OnKeeper). IsDrainedOn y t) (sym is) drained).drained in
+    let retired = retired_in a k rows t iface.0 our.rows (ap (λ (y : OnKeeper). slot_at y.slots t) is ∙ iface.1) in
+    let one : d.retired.0 ≡ iface.0 = let q : Retired d.retired.0 ≡ Retired iface.0 = sym d.retired.1 ∙ retired.1 in cc in
+    record {
+      drained = d;
+      kind = ap (λ (f : Entry). f.rec.kind) one ∙ iface.2;
+      kept = (keeps.d, (keeps.kept, keeps.of));
+    }
+
+-- The view after it
+
+abbrev pub freed : KeeperView → ℕ → ℕ → ℕ → KeeperView
+freed k t d u = record k {
+  totals = set k.totals u (total_at k.totals u - 1);
+  slots = set k.slots t Vacant;
+  keeps = set k.keeps t None;
+  counts = set k.counts t (replicate 8 0);
+  given_up = one_more k.given_up d;
+}
+
+-- what the step tells
+freed_is : (k l : KeeperView) (t d u : ℕ) → kept_at k.keeps t ≡ Some d → HasKeptSub k t u l → l ≡ freed k t d u
+freed_is k l t d u kept told = told.2 ∙ ap (λ (n : ℕ). freed k t n u) (let q : ◌≡◌ {A = Option ℕ} (Some told.0) (Some d) = sym told.1.0 ∙ kept in cc)
+
+freed_at_rest : (a : Settings) (k : KeeperView) (t d u : ℕ) (e : Entry) → IsAtRest a k → t < a.slots → slot_at k.slots t ≡ Retired e → IsAtRest a (freed k t d u)
+freed_at_rest a k t d u e at lt retired = record {
+  settings = at.settings;
+  fit = at.fit;
+  rest = at.rest;
+  seated = at.seated;
+  sized = record {
+    slots = length-set k.slots t Vacant ∙ at.sized.slots;
+    marks = at.sized.marks;
+    mark_rows = at.sized.mark_rows;
+    keeps = length-set k.keeps t None ∙ at.sized.keeps;
+    next = at.sized.next;
+    rows = at.sized.rows;
+    totals = length-set k.totals u _ ∙ at.sized.totals;
+    counts = length-set k.counts t (replicate 8 0) ∙ at.sized.counts;
+    count_rows = rows_put k.counts t (replicate 8 0) refl at.sized.count_rows;
+  };
+  room =
+      let size = at.sized.slots in
+      let same : live_count (set k.slots t Vacant) + 0 ≡ live_count k.slots + 0 = live_count_put k.slots t (Retired e) Vacant (omega (arith, lt, size)) retired in
+      let room = at.room in
+      omega (arith, same, room);
+}
+
+abbrev pub row_freed : Row → Row
+row_freed r = record { state = Vacant; marks = r.marks; total = r.total; keeps = None }
+
+-- the total of the driver is one less, and then the slot is vacant
+freed_rows : (a : Settings) (k : KeeperView) (rows : List Row) (t d u : ℕ) → IsAtRest a k → RowsAgree a k rows → IsHeldIn k u → u ≢ t → t < a.slots → total_at k.totals t ≡ bias
+    → RowsAgree a (freed k t d u) (set (set rows u (row_less (row_at rows u))) t (row_freed (row_at rows t)))
+freed_rows a k rows t d u at agree held off lt total =
+    let m = less k u k.given_up in
+    let rows' = set rows u (row_less (row_at rows u)) in
+    let most = (ranges a at.fit).slots in
+    let slot_size = at.sized.slots in
+    let keep_size = at.sized.keeps in
+    let had = agree.each t lt in
+    let stays : total_at m.totals t ≡ total_at k.totals t = total_other k.totals u _ t (λ same. off (sym same)) in
+    rows_set a m (freed k t d u) rows' t (row_freed (row_at rows t)) lt (omega (arith, lt, most)) (less_rows a k rows u k.given_up at agree (held_row a k rows u at agree held))
+    record {
+      state = inl (slot_here k.slots t Vacant (omega (arith, lt, slot_size)));
+      marks = had.marks;
+      total = had.total ∙ sym stays;
+      keeps = sym (get_or-set_same k.keeps t None None (omega (arith, lt, keep_size)));
+      unused = λ vacant. had.total ∙ total;
+    }
+    (λ v other was. row_stays m (freed k t d u) v (row_at rows' v) at.rest refl (slot_other k.slots t Vacant v other) refl refl (get_or-set_other k.keeps t v None None other) was)
+
+pub freed_keeper : (z : TableId) (a : Settings) (table table' : TableId) (k l : KeeperView) (its : Settings) (rows : List Row) (n t u : ℕ) (x : OnKeeper) → IsOurKeeper z a table k its rows n → record { view = k; slots = states_of rows } ≡ x → IsDrainedOn x t → KeepsHeld k t u
+    → table' ≡ table → HasKeptSub k t u l → IsPictured l → IsOurKeeper z a table' l its (set (set rows u (row_less (row_at rows u))) t (row_freed (row_at rows t))) n
+freed_keeper z a table table' k l its rows n t u x our is drained keeps same told pictured =
+    let d = subst (λ (y : OnKeeper). IsDrainedOn y t) (sym is) drained in
+    let here = retired_in a k rows t d.retired.0 our.rows d.retired.1 in
+    let change = freed_is k l t keeps.d u keeps.kept told in
+    let after = set (set rows u (row_less (row_at rows u))) t (row_freed (row_at rows t)) in
+    record {
+      table = same ∙ our.table;
+      settings = our.settings;
+      view = subst (IsAtRest a) (sym change) (freed_at_rest a k t keeps.d u d.retired.0 our.view here.0 here.1);
+      pictured = pictured;
+      changes = our.changes ∙ sym (ap (λ (y : KeeperView). length y.history) change);
+      rows = subst (λ (y : KeeperView). RowsAgree a y after) (sym change) (freed_rows a k rows t keeps.d u our.view our.rows keeps.held keeps.other here.0 d.drained.total);
+    }
+
+-- what it leaves of the keeper
+pub has_freed : (k l : KeeperView) (rows : List Row) (t u : ℕ) (r : Row) (x : OnKeeper) → record { view = k; slots = states_of rows } ≡ x → Makes (KeptSub t) Done (Keeper k) (Keeper l) → HasKeptSub k t u l
+    → HasFreed x t (record { view = l; slots = states_of (set (set rows u (row_less (row_at rows u))) t (row_freed r)) })
+has_freed k l rows t u r x is made told =
+    let after = set (set rows u (row_less (row_at rows u))) t (row_freed r) in
+    subst (λ (y : OnKeeper). HasFreed y t (record { view = l; slots = states_of after })) is record {
+      u = u;
+      made = made;
+      view = told;
+      slots = map-set state_of (set rows u (row_less (row_at rows u))) t (row_freed r) ∙ ap (λ (xs : List Slot). set xs t Vacant) (map-set_same state_of rows u (row_less (row_at rows u)) no_row refl);
+    }

@@ -1,0 +1,73 @@
+-- A reference is given up under the interlock: its entry's row has one to subtract, and what the keeper has agrees with what its seat knows then.
+use Rattle.std.proofs.Common.{◌≡◌, ℕ, ◌-◌, List, set, refl, sym, ap, ◌∙◌, subst}
+use Rattle.std.proofs.Math.Seq.{map-set_same}
+use Rattle.atomic_table.specs.Seated.{TableId}
+use Rattle.passive_core.specs.declared.event.Event.TheVariants.{JoinKeeper, TotalSub}
+use Rattle.passive_core.specs.declared.event.Reply.TheVariants.{Done}
+use Rattle.passive_core.specs.declared.settings.Settings.{Settings}
+use Rattle.passive_core.specs.declared.state.Due.{Due}
+use Rattle.passive_core.specs.declared.state.Due.TheVariants.{Rest}
+use Rattle.passive_core.specs.State.{total_at}
+use Rattle.cpu_words.specs.declared.view.KeeperView.{KeeperView}
+use Rattle.cpu_words.specs.declared.view.ReferenceView.{ReferenceView}
+use Rattle.cpu_words.specs.declared.view.View.TheVariants.{Keeper, Reference}
+use Rattle.cpu_words.specs.Draining.{giving_up, HasSubtracted}
+use Rattle.cpu_words.specs.Steps.{Makes, JoinsBy}
+use Rattle.cpu_words.specs.Views.{one_more}
+use Rattle.cpu_words.proofs.Pictures.{pictured_by}
+use Rattle.passive_list.specs.declared.keeper.Row.{Row}
+use Rattle.passive_list.specs.Keepers.{OnKeeper, no_row, row_at, state_of, states_of, IsOurKeeper}
+use Rattle.local_count.specs.Draining.{HasGivenUp}
+use Rattle.local_count.proofs.Balanced.{IsHeldIn, held_given_up}
+use Rattle.local_count.proofs.Collections.{with_total_keeper}
+use Rattle.local_count.proofs.Subtracting.{HeldRow, held_row, less, row_less, less_is}
+
+-- the reference that the keeper takes in is held until it is subtracted
+held_before : (k j l : KeeperView) (v : ReferenceView) → j ≡ giving_up k v → Makes (TotalSub v.entry.slot) Done (Keeper j) (Keeper l) → IsHeldIn k v.entry.slot
+held_before k j l v joined made =
+    let t = v.entry.slot in
+    let there = held_given_up j t record { g = made.g; good = made.good; shown = made.before } (ap (λ (x : KeeperView). x.due) joined) in
+    let held = subst (λ (x : KeeperView). IsHeldIn x t) joined there in
+    record {
+      e = held.e;
+      occupied = held.occupied;
+      slot = held.slot;
+      positive = held.positive;
+      near = held.near;
+      undrained = held.undrained;
+    }
+
+-- so its slot's row has it
+pub given_row : (z : TableId) (a : Settings) (table : TableId) (k j l : KeeperView) (its : Settings) (rows : List Row) (n t : ℕ) (v : ReferenceView) → IsOurKeeper z a table k its rows n → v.entry.slot ≡ t → j ≡ giving_up k v → Makes (TotalSub t) Done (Keeper j) (Keeper l) → HeldRow k rows t
+given_row z a table k j l its rows n t v our slot joined made =
+    let held = held_before k j l v joined (subst (λ (u : ℕ). Makes (TotalSub u) Done (Keeper j) (Keeper l)) (sym slot) made) in
+    held_row a k rows t our.view our.rows (subst (IsHeldIn k) slot held)
+
+-- what the two steps tell
+given_is : (k j l : KeeperView) (t : ℕ) (v : ReferenceView) → k.due ≡ Rest → j ≡ giving_up k v → HasSubtracted j t l → l ≡ less k t (one_more k.given_up v.entry.number)
+given_is k j l t v rest joined told = told.2 ∙ ap (λ (x : KeeperView). record x { totals = set x.totals t (total_at x.totals t - 1); due = Rest }) joined
+    ∙ ap (λ (d : Due). record (less k t (one_more k.given_up v.entry.number)) { due = d }) (sym rest)
+
+pub given_keeper : (z : TableId) (a : Settings) (table table' : TableId) (k j l : KeeperView) (its : Settings) (rows : List Row) (n t : ℕ) (v : ReferenceView) → IsOurKeeper z a table k its rows n → v.entry.slot ≡ t → j ≡ giving_up k v
+    → Makes (TotalSub t) Done (Keeper j) (Keeper l) → HasSubtracted j t l → table' ≡ table → IsOurKeeper z a table' l its (set rows t (row_less (row_at rows t))) n
+given_keeper z a table table' k j l its rows n t v our slot joined made told same =
+    let row = given_row z a table k j l its rows n t v our slot joined made in
+    let given_up = one_more k.given_up v.entry.number in
+    with_total_keeper z a table table' k l its rows n t (row_at rows t).marks ((row_at rows t).total - 1) given_up our row.some row.size same
+    (given_is k j l t v our.view.rest joined told ∙ less_is k rows t given_up our.view.rest row) (pictured_by (TotalSub t) Done j l made)
+
+-- what is left of the keeper
+pub has_given_up : (k j l : KeeperView) (rows : List Row) (t : ℕ) (v w : ReferenceView) (x : OnKeeper) → record { view = k; slots = states_of rows } ≡ x → v ≡ w → k.due ≡ Rest → v.entry.slot ≡ t → j ≡ giving_up k v
+    → JoinsBy JoinKeeper (Keeper k) (Reference v) (Keeper j) → Makes (TotalSub t) Done (Keeper j) (Keeper l) → HasSubtracted j t l
+    → HasGivenUp x w (record { view = l; slots = states_of (set rows t (row_less (row_at rows t))) })
+has_given_up k j l rows t v w x is is_too rest slot joined joins made told =
+    let after = states_of (set rows t (row_less (row_at rows t))) in
+    let s = v.entry.slot in
+    let made_there : Makes (TotalSub s) Done (Keeper j) (Keeper l) = subst (λ (u : ℕ). Makes (TotalSub u) Done (Keeper j) (Keeper l)) (sym slot) made in
+    let told_there : HasSubtracted j s l = subst (λ (u : ℕ). HasSubtracted j u l) (sym slot) told in
+    subst (λ (y : OnKeeper). HasGivenUp y w (record { view = l; slots = after })) is (subst (λ (u : ReferenceView). HasGivenUp (record { view = k; slots = states_of rows }) u (record { view = l; slots = after })) is_too record {
+      joined = subst (λ (y : KeeperView). JoinsBy JoinKeeper (Keeper k) (Reference v) (Keeper y)) joined joins;
+      subtracted = subst (λ (y : KeeperView). Makes (TotalSub s) Done (Keeper y) (Keeper l)) joined made_there;
+      view = given_is k j l s v rest joined told_there;
+      slots = map-set_same state_of rows t (row_less (row_at rows t)) no_row refl;
+    })

@@ -1,0 +1,76 @@
+-- A reference is given up: the total in one row is one less.
+use Rattle.std.proofs.Common.{◌≡◌, ⊎_elim, ℕ, ◌-◌, ◌<◌, ◌≤◌, List, [], length, set, sym, ap, ◌∙◌, subst, arith}
+use Rattle.std.proofs.lemmas.List.{set-get_or}
+use Rattle.passive_core.specs.declared.settings.Settings.{Settings}
+use Rattle.passive_core.specs.declared.state.Due.TheVariants.{Rest}
+use Rattle.passive_core.specs.declared.state.Mark.{Mark}
+use Rattle.passive_core.specs.declared.state.Slot.{Slot}
+use Rattle.passive_core.specs.declared.state.Slot.TheVariants.{Vacant, Live, Retired}
+use Rattle.passive_core.specs.State.{slot_at, total_at}
+use Rattle.passive_core.proofs.Fit.{ranges}
+use Rattle.passive_core.proofs.Occupied.{not_vacant}
+use Rattle.cpu_words.specs.declared.view.KeeperView.{KeeperView}
+use Rattle.cpu_words.specs.Vacating.{MayVacate}
+use Rattle.passive_list.specs.declared.keeper.Row.{Row}
+use Rattle.passive_list.specs.Keepers.{row_at, states_of, RowAgrees, IsAtRest, RowsAgree, TakenAs}
+use Rattle.passive_list.proofs.Rows.{state_at}
+use Rattle.local_count.proofs.Balanced.{IsHeldIn}
+use Rattle.local_count.proofs.Collections.{with_total, row_with_total, with_total_rows}
+
+-- What is held
+
+-- it isn't taken as vacant
+taken_held : (k : KeeperView) (t : ℕ) (x : Slot) → IsHeldIn k t → TakenAs k t x → x ≡ slot_at k.slots t
+taken_held k t Vacant held is = ⊎_elim
+    (λ (vacant : slot_at k.slots t ≡ Vacant). sym vacant)
+    (λ (may : MayVacate k t).
+    let d = may.drained in
+    let more = held.undrained d.retired.0 d.retired.1 d.collected in
+    let total = d.total in
+    absurd (omega (arith, more, total)))
+    is
+taken_held k t (Live e) held is = sym is
+taken_held k t (Retired e) held is = sym is
+
+-- so its row shows it, and one can be subtracted there
+pub record HeldRow (k : KeeperView) (rows : List Row) (t : ℕ) : Type 0 where
+  pub agrees : RowAgrees k t (row_at rows t)
+  pub slot : t < 32
+  pub shown : (row_at rows t).state ≡ slot_at k.slots t
+  pub some : slot_at (states_of rows) t ≡ Vacant → ⊥
+  pub positive : 1 ≤ (row_at rows t).total
+  pub size : length (row_at rows t).marks ≡ 8
+
+pub held_row : (a : Settings) (k : KeeperView) (rows : List Row) (t : ℕ) → IsAtRest a k → RowsAgree a k rows → IsHeldIn k t → HeldRow k rows t
+held_row a k rows t at agree held =
+    let within = held.slot in
+    let same = ap (λ (z : Settings). z.slots) at.settings in
+    let most = (ranges a at.fit).slots in
+    let had = agree.each t (omega (arith, within, same)) in
+    let shown = taken_held k t (row_at rows t).state held had.state in
+    record {
+      agrees = had;
+      slot = omega (arith, within, same, most);
+      shown = shown;
+      some = λ vacant. not_vacant held.e (slot_at k.slots t) (sym shown ∙ (sym (state_at rows t) ∙ vacant)) held.occupied;
+      positive = let total = had.total in let some = held.positive in omega (arith, total, some);
+      size = let wide = at.sized.marks in ap (λ (ms : List Mark). length ms) had.marks ∙ at.sized.mark_rows t (omega (arith, within, same, wide));
+    }
+
+-- Its total is one less
+
+-- and by number the references given up are these
+abbrev pub less : KeeperView → ℕ → List ℕ → KeeperView
+less k t given_up = record k { totals = set k.totals t (total_at k.totals t - 1); given_up = given_up }
+
+abbrev pub row_less : Row → Row
+row_less r = row_with_total r r.marks (r.total - 1)
+
+pub less_is : (k : KeeperView) (rows : List Row) (t : ℕ) (given_up : List ℕ) → k.due ≡ Rest → HeldRow k rows t → less k t given_up ≡ with_total k t (row_at rows t).marks ((row_at rows t).total - 1) given_up
+less_is k rows t given_up rest row =
+    let marks : k.marks ≡ set k.marks t (row_at rows t).marks = sym (set-get_or k.marks t []) ∙ ap (set k.marks t) (sym row.agrees.marks) in
+    λ i. record k { marks = marks i; totals = set k.totals t (sym row.agrees.total i - 1); due = rest i; given_up = given_up }
+
+pub less_rows : (a : Settings) (k : KeeperView) (rows : List Row) (t : ℕ) (given_up : List ℕ) → IsAtRest a k → RowsAgree a k rows → HeldRow k rows t → RowsAgree a (less k t given_up) (set rows t (row_less (row_at rows t)))
+less_rows a k rows t given_up at agree row = subst (λ (x : KeeperView). RowsAgree a x (set rows t (row_less (row_at rows t)))) (sym (less_is k rows t given_up at.rest row))
+    (with_total_rows a k rows t (row_at rows t).marks ((row_at rows t).total - 1) given_up at agree row.some)

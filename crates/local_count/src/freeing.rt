@@ -1,0 +1,51 @@
+//! The end of a retired interface: its slot is vacant again, and the reference to its driver is given up.
+
+ghost use Rattle.std.specs.Prelude.{◌≡◌};
+ghost use Rattle.passive_core.specs.declared.entry.Entry.{Entry};
+ghost use Rattle.passive_core.specs.declared.entry.Kind.TheVariants.{Iface};
+ghost use Rattle.passive_core.specs.declared.state.Slot.TheVariants.{Retired};
+ghost use Rattle.passive_core.specs.State.{slot_at};
+ghost use Rattle.passive_list.specs.Vacating.{IsDrainedOn};
+ghost use Rattle.local_count.specs.Draining.{HasFreed, kept_slot, place_of};
+
+use cpu_words::{Domain, Words, steps};
+use passive_core::has_number;
+use passive_list::{Keeper, Row, SlotState};
+
+/// Frees the slot of a retired and drained interface: the reference to its driver is given up in the same step.
+/// Condition: the slot is drained (`Keeper::is_drained`), and its entry is an interface.
+pub fn free_iface<D: Domain>(words: &Words, keeper: &mut Keeper<D>, slot: u8)
+    requires words { (words.now.table ≡ D.table) × (words.now.settings ≡ D.settings) }
+    requires drained { IsDrainedOn keeper.old slot }
+    requires iface { (e : Entry) × (slot_at keeper.old.slots slot ≡ Retired e) × (e.rec.kind ≡ Iface) }
+    ensures change { HasFreed keeper.old slot keeper.new }
+{
+    let row = keeper.rows[slot as usize];
+    let Some(driver_slot) = kept_slot(row.keeps, &keeper.rows) else {
+        unreachable!()
+    };
+    steps::kept_sub(words, &mut keeper.seat, slot, driver_slot as u8);
+    keeper.rows[driver_slot].total -= 1;
+    keeper.rows[slot as usize] = Row {
+        state: SlotState::Vacant,
+        keeps: None,
+        ..row
+    };
+}
+
+/// The slot whose live or retired entry has the number kept.
+fn kept_slot(keeps: Option<u64>, rows: &[Row; 32]) -> Option<usize>
+    ensures { result ≡ kept_slot keeps rows.now }
+{
+    match keeps {
+        None => None,
+        Some(number) => place_of(number, rows),
+    }
+}
+
+/// The slot whose live or retired entry has this number.
+fn place_of(number: u64, rows: &[Row]) -> Option<usize>
+    ensures { result ≡ place_of number rows.now }
+{
+    rows.iter().position(|row| has_number(number, &row.state))
+}

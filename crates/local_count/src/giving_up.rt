@@ -1,0 +1,29 @@
+//! Giving a local reference up under the interlock (localcount(9)), where its CPU's count word was collected.
+
+ghost use Rattle.std.specs.Prelude.{◌≡◌};
+ghost use Rattle.cpu_words.specs.Draining.{IsFoundCollected};
+ghost use Rattle.local_count.specs.Draining.{HasGivenUp};
+
+use crate::local_ref::LocalRef;
+use cpu_words::{Domain, Words, steps};
+use passive_list::Keeper;
+
+/// Releases a local reference under the interlock: the total of its entry's slot is one less.
+/// Condition: some count word of its slot was collected. `try_release` found it so where it handed the reference back; else the keeper
+/// has the reference's entry retired in its slot (`Keeper::slot`), and `collected` tells.
+pub fn release_under<D: Domain>(words: &Words, keeper: &mut Keeper<D>, reference: LocalRef<D>)
+    requires words { (words.now.table ≡ D.table) × (words.now.settings ≡ D.settings) }
+    requires collected { IsFoundCollected keeper.old.view reference }
+    ensures change { HasGivenUp keeper.old reference keeper.new }
+{
+    let LocalRef {
+        seat,
+        number: _,
+        slot,
+        kind: _,
+        domain: _,
+    } = reference;
+    steps::join_keeper(words, &mut keeper.seat, seat);
+    steps::total_sub(words, &mut keeper.seat, slot);
+    keeper.rows[slot as usize].total -= 1;
+}
