@@ -9,17 +9,18 @@ use Rattle.atomic_table.proofs.Lists.{at_set}
 use Rattle.passive_core.specs.declared.entry.Entry.{Entry}
 use Rattle.passive_core.specs.declared.entry.Change.TheVariants.{Attach}
 use Rattle.passive_core.specs.declared.settings.Settings.{Settings}
+use Rattle.passive_core.specs.declared.state.Mark.{Mark}
 use Rattle.passive_core.specs.declared.state.Slot.{Slot}
 use Rattle.passive_core.specs.declared.state.Slot.TheVariants.{Live, Retired}
 use Rattle.passive_core.specs.declared.state.LocalPlace.TheVariants.{Free, Standing}
 use Rattle.passive_core.specs.declared.state.Due.TheVariants.{Rest, Adding, Subtracting}
 use Rattle.passive_core.specs.declared.event.Event.TheVariants.{TotalAdd, TotalSub, JoinKeeper}
 use Rattle.passive_core.specs.declared.event.Reply.TheVariants.{Done}
-use Rattle.passive_core.specs.State.{State, bias, no_mark, slot_at, total_at}
+use Rattle.passive_core.specs.State.{State, bias, no_mark, slot_at, mark_at, total_at}
 use Rattle.passive_core.specs.Slots.{slot_of, is_collected, is_some_collected}
 use Rattle.passive_core.specs.Events.{step, total_add, total_sub}
 use Rattle.passive_core.specs.Invariant.{IsIn, one_if, subtracting_at, adding_at, is_adding_at}
-use Rattle.passive_core.proofs.History.{at_within}
+use Rattle.passive_core.proofs.History.{at_within, one_entry}
 use Rattle.passive_core.proofs.Occupied.{attached_in, one_in, one_number}
 use Rattle.passive_core.proofs.Cells.{in_within, total_here, total_other}
 use Rattle.passive_core.proofs.HeldSums.{one_self, one_other}
@@ -254,11 +255,7 @@ record CollectedOf (g : State) (v : ReferenceView) : Type 0 where
 collected_of : (g : State) (k : KeeperView) (v : ReferenceView) → Good g → KeeperShown g k → ReferenceShown g v → MayJoinKeeper k v → CollectedOf g v
 collected_of g k v good had ref may = ⊎_elim
     (λ (there : (c : ℕ) × (v.collected ≡ Some c)). by_release there.0 (ref.collected there.0 there.1))
-    (λ (there : (slot_at k.slots v.entry.slot ≡ Retired v.entry) × (is_some_collected k.settings.cpus (get_or k.marks v.entry.slot []) ≡ true)).
-    let seen = seen_by_keeper g k good had in record {
-      retired = sym (ap (λ (x : List Slot). slot_at x v.entry.slot) seen.slots) ∙ there.0;
-      some_one = sym (λ i. is_some_collected (seen.settings i).cpus (get_or (seen.marks i) v.entry.slot [])) ∙ there.1;
-    })
+    (λ (there : (t : ℕ) × (c : ℕ) × (e : Entry) × (slot_at k.slots t ≡ Retired e) × (e.number ≡ v.entry.number) × ((mark_at k.marks t c).collected ≡ true)). by_keeper there.0 there.1 there.2 there.3 there.4 there.5)
     may.is_collected
   where
     by_release : (c : ℕ) → IsCollectedFor g.slots g.marks v.entry c → CollectedOf g v
@@ -271,6 +268,18 @@ collected_of g k v good had ref may = ⊎_elim
           retired = is.0;
           some_one = any_within is_collected g.settings.cpus (get_or g.marks v.entry.slot []) no_mark c lt place.1 is.1;
         }
+
+    by_keeper : (t c : ℕ) (e : Entry) → slot_at k.slots t ≡ Retired e → e.number ≡ v.entry.number → (mark_at k.marks t c).collected ≡ true → CollectedOf g v
+    by_keeper t c e retired number marked =
+        let seen = seen_by_keeper g k good had in
+        let gone : slot_at g.slots t ≡ Retired e = sym (ap (λ (x : List Slot). slot_at x t) seen.slots) ∙ retired in
+        let show = good.holds.slots.retired t e gone in
+        let one : e ≡ v.entry = one_entry g.history e v.entry show.0 ref.attached number in
+        let slot : t ≡ v.entry.slot = sym show.1 ∙ ap (λ (x : Entry). x.slot) one in
+        by_release c (
+          subst (λ (u : ℕ). slot_at g.slots u ≡ Retired v.entry) slot (gone ∙ ap (λ (x : Entry). Retired x) one),
+          subst (λ (u : ℕ). (mark_at g.marks u c).collected ≡ true) slot (ap (λ (x : List (List Mark)). (mark_at x t c).collected) (sym seen.marks) ∙ marked),
+        )
 
 pub join_keeper_law : (k : KeeperView) (v : ReferenceView) → MayJoinKeeper k v → JoinsBy JoinKeeper (Keeper k) (Reference v) (Keeper (giving_up k v))
 join_keeper_law k v may g good had ref backs =

@@ -6,10 +6,11 @@ use Rattle.passive_core.specs.declared.event.Event.{Event}
 use Rattle.passive_core.specs.declared.event.Event.TheVariants.{PassiveLook, Collect, TotalAdd, TotalSub, KeptSub}
 use Rattle.passive_core.specs.declared.event.Reply.TheVariants.{Word}
 use Rattle.passive_core.specs.declared.state.Mark.{Mark}
+use Rattle.passive_core.specs.declared.state.Slot.{Slot}
 use Rattle.passive_core.specs.declared.state.Slot.TheVariants.{Vacant, Retired}
 use Rattle.passive_core.specs.declared.state.Due.TheVariants.{Rest, Adding, Subtracting}
 use Rattle.passive_core.specs.State.{bias, with_cell, slot_at, mark_at, total_at, kept_at}
-use Rattle.passive_core.specs.Slots.{slot_of, have_passed, are_clear, is_some_collected}
+use Rattle.passive_core.specs.Slots.{slot_of, have_passed, are_clear}
 use Rattle.passive_core.specs.Events.{cleared, collected}
 use Rattle.cpu_words.specs.declared.view.KeeperView.{KeeperView}
 use Rattle.cpu_words.specs.declared.view.ReferenceView.{ReferenceView}
@@ -56,14 +57,14 @@ pub record MayTotalAdd (k : KeeperView) (t old value : ℕ) : Type 0 where
 abbrev pub HasAdded : KeeperView → ℕ → ℕ → KeeperView → Type 0
 HasAdded k t value l = l ≡ record k { totals = slice_set k.totals t value; due = Rest }
 
--- a release found a count word of the reference's entry collected, or the keeper has collected one for it
-abbrev pub IsFoundCollected : KeeperView → ReferenceView → Type 0
-IsFoundCollected k v = ((c : ℕ) × (v.collected ≡ Some c)) ⊎ ((slot_at k.slots v.entry.slot ≡ Retired v.entry) × (is_some_collected k.settings.cpus (row_of k v.entry.slot) ≡ true))
+-- a release found a count word of the reference's entry collected, or its number is retired in a slot for which one was collected
+abbrev pub IsFoundCollected : List Slot → List (List Mark) → ReferenceView → Type 0
+IsFoundCollected slots marks v = ((c : ℕ) × (v.collected ≡ Some c)) ⊎ ((t : ℕ) × (c : ℕ) × (e : Entry) × (slot_at slots t ≡ Retired e) × (e.number ≡ v.entry.number) × ((mark_at marks t c).collected ≡ true))
 
 -- and the keeper is at rest
 pub record MayJoinKeeper (k : KeeperView) (v : ReferenceView) : Type 0 where
   pub rest : k.due ≡ Rest
-  pub is_collected : IsFoundCollected k v
+  pub is_collected : IsFoundCollected k.slots k.marks v
 
 -- a reference is given up: it is to be subtracted from the total of its entry's slot
 abbrev pub giving_up : KeeperView → ReferenceView → KeeperView

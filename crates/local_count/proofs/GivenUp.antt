@@ -1,26 +1,41 @@
 -- A reference is given up under the interlock: its entry's row has one to subtract, and what the keeper has agrees with what its seat knows then.
-use Rattle.std.proofs.Common.{◌≡◌, ℕ, ◌-◌, List, set, refl, sym, ap, ◌∙◌, subst}
+use Rattle.std.proofs.Common.{◌≡◌, inl, inr, ⊎_elim, ℕ, ◌-◌, List, set, Some, true, refl, sym, ap, ◌∙◌, subst}
 use Rattle.std.proofs.Math.Seq.{map-set_same}
 use Rattle.atomic_table.specs.Seated.{TableId}
+use Rattle.passive_core.specs.declared.entry.Entry.{Entry}
 use Rattle.passive_core.specs.declared.event.Event.TheVariants.{JoinKeeper, TotalSub}
 use Rattle.passive_core.specs.declared.event.Reply.TheVariants.{Done}
 use Rattle.passive_core.specs.declared.settings.Settings.{Settings}
 use Rattle.passive_core.specs.declared.state.Due.{Due}
 use Rattle.passive_core.specs.declared.state.Due.TheVariants.{Rest}
-use Rattle.passive_core.specs.State.{total_at}
+use Rattle.passive_core.specs.declared.state.Slot.TheVariants.{Retired}
+use Rattle.passive_core.specs.State.{slot_at, mark_at, total_at}
 use Rattle.cpu_words.specs.declared.view.KeeperView.{KeeperView}
 use Rattle.cpu_words.specs.declared.view.ReferenceView.{ReferenceView}
 use Rattle.cpu_words.specs.declared.view.View.TheVariants.{Keeper, Reference}
-use Rattle.cpu_words.specs.Draining.{giving_up, HasSubtracted}
+use Rattle.cpu_words.specs.Draining.{IsFoundCollected, MayJoinKeeper, giving_up, HasSubtracted}
 use Rattle.cpu_words.specs.Steps.{Makes, JoinsBy}
 use Rattle.cpu_words.specs.Views.{one_more}
 use Rattle.cpu_words.proofs.Pictures.{pictured_by}
 use Rattle.passive_list.specs.declared.keeper.Row.{Row}
 use Rattle.passive_list.specs.Keepers.{OnKeeper, no_row, row_at, state_of, states_of, IsOurKeeper}
+use Rattle.passive_list.proofs.Rows.{retired_in}
 use Rattle.local_count.specs.Draining.{HasGivenUp}
 use Rattle.local_count.proofs.Balanced.{IsHeldIn, held_given_up}
 use Rattle.local_count.proofs.Collections.{with_total_keeper}
 use Rattle.local_count.proofs.Subtracting.{HeldRow, held_row, less, row_less, less_is}
+
+-- what the rows say of a collected word, the seat knows
+pub may_take_in : (z : TableId) (a : Settings) (table : TableId) (k : KeeperView) (its : Settings) (rows : List Row) (n : ℕ) (v w : ReferenceView) (x : OnKeeper) → IsOurKeeper z a table k its rows n → record { view = k; slots = states_of rows } ≡ x → v ≡ w
+    → IsFoundCollected x.slots x.view.marks w → MayJoinKeeper k v
+may_take_in z a table k its rows n v w x our is is_too found = record {
+  rest = our.view.rest;
+  is_collected = ⊎_elim
+      (λ (there : (c : ℕ) × (v.collected ≡ Some c)). inl there)
+      (λ (there : (t : ℕ) × (c : ℕ) × (e : Entry) × (slot_at (states_of rows) t ≡ Retired e) × (e.number ≡ v.entry.number) × ((mark_at k.marks t c).collected ≡ true)).
+      inr (there.0, there.1, there.2, (retired_in a k rows there.0 there.2 our.rows there.3).1, there.4, there.5))
+      (subst (λ (y : OnKeeper). IsFoundCollected y.slots y.view.marks v) (sym is) (subst (IsFoundCollected x.slots x.view.marks) (sym is_too) found));
+}
 
 -- the reference that the keeper takes in is held until it is subtracted
 held_before : (k j l : KeeperView) (v : ReferenceView) → j ≡ giving_up k v → Makes (TotalSub v.entry.slot) Done (Keeper j) (Keeper l) → IsHeldIn k v.entry.slot

@@ -10,10 +10,10 @@ use passive_list::Keeper;
 
 /// Releases a local reference under the interlock: the total of its entry's slot is one less.
 /// Condition: some count word of its slot was collected. `try_release` found it so where it handed the reference back; else the keeper
-/// has the reference's entry retired in its slot (`Keeper::slot`), and `collected` tells.
+/// has an entry with the reference's number retired in a slot (`Keeper::slot`), and `collected` tells of some CPU.
 pub fn release_under<D: Domain>(words: &Words, keeper: &mut Keeper<D>, reference: LocalRef<D>)
     requires words { (words.now.table ≡ D.table) × (words.now.settings ≡ D.settings) }
-    requires collected { IsFoundCollected keeper.old.view reference }
+    requires collected { IsFoundCollected keeper.old.slots keeper.old.view.marks reference }
     ensures change { HasGivenUp keeper.old reference keeper.new }
 {
     let LocalRef {

@@ -1,6 +1,12 @@
 use Rattle.std.proofs.Common.{◌∙◌}
-use Rattle.local_count.proofs.GivenUp.{given_row, given_keeper, has_given_up}
+use Rattle.local_count.proofs.GivenUp.{may_take_in, given_row, given_keeper, has_given_up}
 use Rattle.local_count.proofs.giving_up.release_under.Goals as goal
+
+pub join_keeper-requires-clause-may : goal.join_keeper-requires-clause-may
+join_keeper-requires-clause-may g c =
+    let inside = c.keeper.inside in
+    let r = c.reference in
+    may_take_in g.D.Domain.table g.D.Domain.settings inside.seat.table inside.seat.view inside.settings inside.rows inside.changes r.inside.seat.view c.args.reference c.args.keeper.now c.keeper.invariant c.keeper.view_is r.view_is c.requires.collected
 
 pub overflow_sub-keeper : goal.overflow_sub-keeper
 overflow_sub-keeper g c =
