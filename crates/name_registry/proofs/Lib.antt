@@ -1,0 +1,3 @@
+pub mod Attached
+pub mod Heard
+pub mod Rows

@@ -14,7 +14,6 @@ use Rattle.passive_list.specs.Cpus.{OnCpu}
 use Rattle.passive_list.specs.Keepers.{OnKeeper}
 use Rattle.passive_list.specs.Notes.{HasHeardOn}
 use Rattle.passive_list.specs.Publishing.{HasAttached}
-
 use Rattle.name_registry.specs.Meeting.{is_inside, having_heard, HasSeenAttach}
 
 -- the least slot that is vacant and keeps nothing

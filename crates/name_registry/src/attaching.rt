@@ -3,7 +3,7 @@
 ghost use Rattle.std.specs.Prelude.{◌≡◌, IfOk, IfErr, IsTrue, Ok, Err};
 ghost use Rattle.passive_core.specs.declared.entry.Kind.TheVariants.{Iface};
 ghost use Rattle.passive_core.specs.Names.{is_lawful};
-ghost use Rattle.name_registry.specs.Attaching.{attach_answer, attach_iface_answer, HasAttachedFor, HasAttachedIfaceFor};
+ghost use Rattle.name_registry.specs.Attaching.{attach_answer, HasAttachedFor};
 
 use crate::meeting::{hear_cpu, show_cpu};
 use crate::plain::slot_for;

@@ -43,7 +43,11 @@ fn live_place<D: Domain>(keeper: &Keeper<D>, key: Key) -> Option<u8>
     ensures value { result ≡ position (is_live_as key) keeper.now.slots }
     ensures within { IfSome result (λ t. t < length keeper.now.slots) }
 {
-    match keeper.rows.iter().position(|row| is_live_as(key, &row.state)) {
+    match keeper
+        .rows
+        .iter()
+        .position(|row| is_live_as(key, &row.state))
+    {
         Some(slot) => Some(slot as u8),
         None => None,
     }
