@@ -1,5 +1,5 @@
 -- Tests over the keeper's rows are tests over what a contract sees of the keeper.
-use Rattle.std.proofs.Common.{◌≡◌, ℕ, zero, suc, ◌+◌, ◌<◌, ◌≤◌, Bool, not, cond, ◌||◌, List, [], ◌∷◌, length, map, take, Option, Some, None, position, nat_lt, refl, sym, ap, ◌∙◌, arith}
+use Rattle.std.proofs.Common.{◌≡◌, ℕ, suc, ◌+◌, ◌<◌, ◌≤◌, Bool, not, cond, ◌||◌, List, [], ◌∷◌, length, map, take, Option, position, refl, sym, ap, ◌∙◌, arith}
 use Rattle.std.specs.List.{list_any, prefix_len, zip}
 use Rattle.std.proofs.lemmas.List.{length-map}
 use Rattle.atomic_table.specs.Seated.{TableId}

@@ -1,5 +1,5 @@
 -- Attaching behind the interlock: which slot is taken, why a call is refused, and what is left.
-use Rattle.std.specs.Prelude.{◌≡◌, ℕ, suc, ◌+◌, nat_le, position, length, Option, Some, None, Bool, if◌then◌else◌, Result, Ok, Err}
+use Rattle.std.specs.Prelude.{ℕ, suc, ◌+◌, nat_le, position, length, Option, Some, None, Bool, if◌then◌else◌, Result, Ok, Err}
 use Rattle.std.specs.List.{zip}
 use mathlib.Core.List.{IsPrefix}
 use Rattle.passive_core.specs.declared.entry.Entry.{Entry}
