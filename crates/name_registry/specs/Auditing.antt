@@ -1,12 +1,15 @@
 -- What an audit answers (localcount(9)): by the counts of all CPUs and the totals, and that it is the tally.
-use Rattle.std.specs.Prelude.{◌≡◌, ℕ, zero, suc, ◌+◌, ℤ, pos, ◌+ℤ◌, ◌-ℤ◌, Bool, ◌&&◌, List, [], ◌∷◌, ◌++◌, map, length, sum_by, if◌then◌else◌}
+use Rattle.std.specs.Prelude.{◌≡◌, ℕ, zero, suc, ◌+◌, ℤ, pos, ◌+ℤ◌, ◌-ℤ◌, Bool, ◌&&◌, List, [], ◌∷◌, ◌++◌, map, length, sum_by, if◌then◌else◌, slice_index_or}
 use mathlib.Core.Option.{some}
 use lib.ListN.{get_elem?}
+use Rattle.passive_core.specs.declared.entry.Entry.{Entry}
 use Rattle.passive_core.specs.declared.state.Slot.{Slot}
 use Rattle.passive_core.specs.declared.state.Slot.TheVariants.{Vacant, Live, Retired}
 use Rattle.passive_core.specs.Audits.{Tally, less_bias, sum_of}
 use Rattle.passive_core.specs.Slots.{is_retired}
 use Rattle.passive_core.specs.State.{State, slot_at, mark_at, total_at}
+use Rattle.cpu_words.specs.declared.view.CpuView.{CpuView}
+use Rattle.cpu_words.specs.declared.view.KeeperView.{KeeperView}
 use Rattle.cpu_words.specs.Rule.{Good}
 use Rattle.cpu_words.specs.Views.{number_at, CpuShown, KeeperShown}
 use Rattle.passive_list.specs.Cpus.{OnCpu}
