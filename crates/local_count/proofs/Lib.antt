@@ -2,3 +2,4 @@ pub mod Agreeing
 pub mod Acquiring
 pub mod Releasing
 pub mod Recording
+pub mod Keeping

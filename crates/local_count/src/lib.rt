@@ -8,10 +8,15 @@
 #![tactic(auto)]
 
 mod acquire;
+mod interfaces;
 mod local_ref;
 mod net;
 mod release;
 
 pub use acquire::acquire_local;
+pub use interfaces::publish_iface;
 pub use local_ref::LocalRef;
 pub use release::try_release;
+
+#[cfg(test)]
+mod tests;

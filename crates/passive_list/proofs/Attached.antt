@@ -60,7 +60,7 @@ live_rows a k rows at agree u f live =
     by (Live e) is = sym is ∙ live
     by (Retired e) is = absurd (let q : Retired e ≡ Live f = sym is ∙ live in cc)
 
-vacant_live : (k : KeeperView) (t : ℕ) → LiveIn (as_vacant k t).slots k.slots
+pub vacant_live : (k : KeeperView) (t : ℕ) → LiveIn (as_vacant k t).slots k.slots
 vacant_live k t u f = by (slot_at k.slots t) refl
   where
     by : (x : Slot) → slot_at k.slots t ≡ x → slot_at (vacant_from x k t).slots u ≡ Live f → slot_at k.slots u ≡ Live f
@@ -267,9 +267,10 @@ published_at_rest a k rows e v asked =
           omega (arith, more, count, long, room);
     }
 
-pub published_keeper : (z : TableId) (a : Settings) (table table' : TableId) (k l : KeeperView) (its : Settings) (rows : List Row) (n : ℕ) (e : Entry) (v : ℕ) → IsOurKeeper z a table k its rows n → MayAttach a k rows e → table' ≡ table → l ≡ published k e v → IsPictured l
-    → IsOurKeeper z a table' l its (set rows e.slot (row_live (row_at rows e.slot) e)) (n + 1)
-published_keeper z a table table' k l its rows n e v our asked same change pictured =
+-- what the keeper has agrees with what it publishes, whatever step before brought its seat to the view k
+pub published_keeper : (z : TableId) (a : Settings) (table : TableId) (k l : KeeperView) (its : Settings) (rows : List Row) (n : ℕ) (e : Entry) (v : ℕ) → table ≡ z → its ≡ a → n ≡ length k.history → MayAttach a k rows e → l ≡ published k e v → IsPictured l
+    → IsOurKeeper z a table l its (set rows e.slot (row_live (row_at rows e.slot) e)) (n + 1)
+published_keeper z a table k l its rows n e v same settings was asked change pictured =
     let at = asked.at in
     let t = e.slot in
     let lt = asked.slot in
@@ -278,11 +279,11 @@ published_keeper z a table table' k l its rows n e v our asked same change pictu
     let size = at.sized.slots in
     let had = asked.agree.each t lt in
     record {
-      table = same ∙ our.table;
-      settings = our.settings;
+      table = same;
+      settings = settings;
       view = subst (IsAtRest a) (sym change) (published_at_rest a k rows e v asked);
       pictured = pictured;
-      changes = let was = our.changes in let long = length-after_change k.history (Attach e) in let now = ap (λ (x : KeeperView). length x.history) change in omega (arith, was, long, now);
+      changes = let long = length-after_change k.history (Attach e) in let now = ap (λ (x : KeeperView). length x.history) change in omega (arith, was, long, now);
       rows = subst (λ (x : KeeperView). RowsAgree a x (set rows t (row_live (row_at rows t) e))) (sym change) (rows_set a k p rows t (row_live (row_at rows t) e) lt (omega (arith, lt, most)) asked.agree
           record {
             state = slot_here k.slots t (Live e) (omega (arith, lt, size));

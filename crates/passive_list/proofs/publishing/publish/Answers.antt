@@ -1,4 +1,4 @@
-use Rattle.std.proofs.Common.{◌+◌, sym, subst, set}
+use Rattle.std.proofs.Common.{◌+◌, ◌∙◌, sym, subst, set}
 use Rattle.std.proofs.lemmas.List.{map-set}
 use Rattle.passive_core.specs.declared.entry.Entry.{Entry}
 use Rattle.passive_core.specs.declared.event.Event.TheVariants.{Publish}
@@ -26,8 +26,8 @@ invariant_of-keeper g c =
     let asked = ask g.D.Domain.table g.D.Domain.settings inside.seat.table k inside.settings inside.rows inside.changes c.args.slot c.args.rec c.args.keeper.now c.keeper.invariant c.keeper.view_is
     c.requires.vacant c.requires.keeps c.requires.name c.requires.free c.requires.room in
     let has = c.publish_entry.ensures.change in
-    published_keeper g.D.Domain.table g.D.Domain.settings inside.seat.table c.publish_entry.new.seat.table k c.publish_entry.new.seat.view inside.settings inside.rows inside.changes e has.link c.keeper.invariant asked
-    c.publish_entry.ensures.table has.view (pictured_by (Publish e.slot) Done (prepared k e has.link) c.publish_entry.new.seat.view has.made)
+    published_keeper g.D.Domain.table g.D.Domain.settings c.publish_entry.new.seat.table k c.publish_entry.new.seat.view inside.settings inside.rows inside.changes e has.link (c.publish_entry.ensures.table ∙ c.keeper.invariant.table)
+    c.keeper.invariant.settings c.keeper.invariant.changes asked has.view (pictured_by (Publish e.slot) Done (prepared k e has.link) c.publish_entry.new.seat.view has.made)
 
 pub returns-clause-change : goal.returns-clause-change
 returns-clause-change g c =

@@ -1,0 +1,70 @@
+-- The keeper's side of local references (localcount(9)): what its calls ask, and what they leave of the keeper.
+use Rattle.std.specs.Prelude.{◌≡◌, ◌⊎◌, ℕ, ◌+◌, ◌-◌, slice_set, true, Some}
+use Rattle.passive_core.specs.declared.entry.Entry.{Entry}
+use Rattle.passive_core.specs.declared.event.Event.TheVariants.{Collect, TotalAdd, TotalSub, JoinKeeper, Keep, KeptSub}
+use Rattle.passive_core.specs.declared.event.Reply.TheVariants.{Done, Word}
+use Rattle.passive_core.specs.declared.state.Slot.TheVariants.{Vacant, Retired}
+use Rattle.passive_core.specs.declared.state.Due.TheVariants.{Adding}
+use Rattle.passive_core.specs.Events.{collected as collected_mark}
+use Rattle.passive_core.specs.Invariant.{held_at}
+use Rattle.passive_core.specs.Slots.{is_some_collected}
+use Rattle.passive_core.specs.State.{State, bias, with_cell, slot_at, mark_at, total_at}
+use Rattle.cpu_words.specs.declared.view.KeeperView.{KeeperView}
+use Rattle.cpu_words.specs.declared.view.ReferenceView.{ReferenceView}
+use Rattle.cpu_words.specs.declared.view.View.TheVariants.{Keeper, Reference}
+use Rattle.cpu_words.specs.Draining.{giving_up, row_of, HasKeptSub}
+use Rattle.cpu_words.specs.Keeping.{IsVacated, keeping}
+use Rattle.cpu_words.specs.Rule.{Good}
+use Rattle.cpu_words.specs.Steps.{Makes, JoinsBy}
+use Rattle.cpu_words.specs.Vacating.{as_vacant}
+use Rattle.cpu_words.specs.Views.{KeeperShown, one_more}
+use Rattle.passive_list.specs.Keepers.{OnKeeper}
+use Rattle.passive_list.specs.Publishing.{HasAttached}
+
+-- Collecting
+
+-- the count word w of the CPU c was collected, and is to be added
+abbrev pub collecting : KeeperView → ℕ → ℕ → ℕ → KeeperView
+collecting k t c w = record k { marks = with_cell k.marks t c (collected_mark (mark_at k.marks t c)); due = Adding t w }
+
+-- the word was collected, and added to the total of the slot without its bias; nothing else changes
+pub record HasCollectedInto (a : OnKeeper) (t c : ℕ) (b : OnKeeper) : Type 0 where
+  pub word : ℕ
+  pub collected : Makes (Collect t c) (Word word) (Keeper a.view) (Keeper (collecting a.view t c word))
+  pub added : Makes (TotalAdd t) Done (Keeper (collecting a.view t c word)) (Keeper b.view)
+  pub view : b.view ≡ record a.view { marks = with_cell a.view.marks t c (collected_mark (mark_at a.view.marks t c)); totals = slice_set a.view.totals t (total_at a.view.totals t + word - bias) }
+  pub slots : b.slots ≡ a.slots
+
+-- the local references held to the retired entry in the slot t are n, in whatever state of the core shows the keeper's view
+pub record AreHeld (k : KeeperView) (t n : ℕ) : Type 0 where
+  pub e : Entry
+  pub retired : slot_at k.slots t ≡ Retired e
+  pub held : (g : State) → Good g → KeeperShown g k → held_at g.locals g.hands g.keeps g.due e.number t ≡ n
+
+-- Giving up under the interlock
+
+-- a release found a count word of the reference's entry collected, or the keeper has collected one for it
+abbrev pub IsFoundCollected : KeeperView → ReferenceView → Type 0
+IsFoundCollected k v = ((c : ℕ) × (v.collected ≡ Some c)) ⊎ ((slot_at k.slots v.entry.slot ≡ Retired v.entry) × (is_some_collected k.settings.cpus (row_of k v.entry.slot) ≡ true))
+
+-- the reference was given up: the total of its entry's slot is one less; nothing else changes
+pub record HasGivenUp (a : OnKeeper) (v : ReferenceView) (b : OnKeeper) : Type 0 where
+  pub joined : JoinsBy JoinKeeper (Keeper a.view) (Reference v) (Keeper (giving_up a.view v))
+  pub subtracted : Makes (TotalSub v.entry.slot) Done (Keeper (giving_up a.view v)) (Keeper b.view)
+  pub view : b.view ≡ record a.view { totals = slice_set a.view.totals v.entry.slot (total_at a.view.totals v.entry.slot - 1); given_up = one_more a.view.given_up v.entry.number }
+  pub slots : b.slots ≡ a.slots
+
+-- Interfaces
+
+-- the slot keeps the reference, and then the entry is published in it
+pub record HasAttachedKeeping (a : OnKeeper) (v : ReferenceView) (e : Entry) (b : OnKeeper) : Type 0 where
+  pub vacated : IsVacated a.view e.slot
+  pub kept : JoinsBy (Keep e.slot) (Keeper (as_vacant a.view e.slot)) (Reference v) (Keeper (keeping a.view e.slot v))
+  pub attached : HasAttached (record { view = keeping a.view e.slot v; slots = a.slots }) e b
+
+-- the interface's slot is vacant, and the reference that it kept to the driver in the slot u is given up
+pub record HasFreed (a : OnKeeper) (t : ℕ) (b : OnKeeper) : Type 0 where
+  pub u : ℕ
+  pub made : Makes (KeptSub t) Done (Keeper a.view) (Keeper b.view)
+  pub view : HasKeptSub a.view t u b.view
+  pub slots : b.slots ≡ slice_set a.slots t Vacant
