@@ -20,9 +20,13 @@ use Rattle.passive_core.specs.Events.{keeps_rightly}
 use Rattle.passive_core.specs.History.{after_change}
 use Rattle.passive_core.specs.Slots.{is_iface, is_taken}
 use Rattle.passive_core.specs.State.{slot_at, kept_at}
+use Rattle.cpu_words.specs.declared.view.KeeperView.{KeeperView}
+use Rattle.cpu_words.specs.declared.view.ReferenceView.{ReferenceView}
+use Rattle.cpu_words.specs.Keeping.{keeping}
 use Rattle.passive_list.specs.Cpus.{OnCpu}
 use Rattle.passive_list.specs.Keepers.{OnKeeper}
 use Rattle.passive_list.specs.Notes.{HasHeardOn}
+use Rattle.passive_list.proofs.Preparing.{as_vacant_is}
 use Rattle.name_registry.specs.Attaching.{plain_slot, has_room, slot_with_room, slot_for}
 use Rattle.name_registry.specs.Meeting.{having_heard, HasSeenAttach}
 use Rattle.name_registry.proofs.Heard.{seen_attach}
@@ -50,15 +54,15 @@ plain_parts Vacant (Some n) is = absurd (let q : ◌≡◌ {A = Bool} false true
 plain_parts (Live e) kept is = absurd (let q : ◌≡◌ {A = Bool} false true = is in cc)
 plain_parts (Retired e) kept is = absurd (let q : ◌≡◌ {A = Bool} false true = is in cc)
 
--- it is vacant, and keeps nothing
-pub taken_tells : (a : Settings) (k : OnKeeper) (rec : Record) (t : ℕ) → slot_for a k rec ≡ Ok t → (slot_at k.slots t ≡ Vacant) × (kept_at k.view.keeps t ≡ None)
-taken_tells a k rec t is =
+-- it is vacant, and keeps nothing, as it did before the keeper heard the CPU x
+pub taken_tells : (a : Settings) (k : OnKeeper) (x : OnCpu) (m : OnKeeper) (rec : Record) (t : ℕ) → m ≡ having_heard k x → Ok t ≡ slot_for a k rec → (slot_at m.slots t ≡ Vacant) × (kept_at m.view.keeps t ≡ None)
+taken_tells a k x m rec t heard is =
     let keeps = k.view.keeps in
-    let at = position-Some is_plain (zip k.slots keeps) t (Vacant, None) (place_of a k rec t is) in
+    let at = position-Some is_plain (zip k.slots keeps) t (Vacant, None) (place_of a k rec t (sym is)) in
     let size = length-zip k.slots keeps in
     let lt = at.0 in
     let pair = get_or-zip k.slots keeps t (Vacant, None) (omega (arith, lt, size)) (omega (arith, lt, size)) in
-    plain_parts (slot_at k.slots t) (kept_at keeps t) (ap is_plain (sym pair) ∙ at.1)
+    subst (λ (l : OnKeeper). (slot_at l.slots t ≡ Vacant) × (kept_at l.view.keeps t ≡ None)) (sym heard) (plain_parts (slot_at k.slots t) (kept_at keeps t) (ap is_plain (sym pair) ∙ at.1))
 
 -- a driver's slot keeps nothing
 pub driver_keeps : (kept : Option ℕ) (kind : Kind) → kept ≡ None → is_iface kind ≡ false → IsTrue (keeps_rightly kept kind)
@@ -76,3 +80,7 @@ attach_met a x m n e b y heard same seen number after hears = (
   subst (λ (z : OnCpu). HasHeardOn b.view.history z y) same hears,
   seen_attach m.view.history x y e seen number (subst (λ (h : List Change). IsPrefix h y.view.pass) after hears.told),
 )
+
+-- a view whose slot was taken as vacant, and keeps a reference, has the history that it had
+pub keeping_history : (k : KeeperView) (t : ℕ) (v : ReferenceView) → (keeping k t v).history ≡ k.history
+keeping_history k t v = ap (λ (x : KeeperView). x.history) (as_vacant_is k t)
