@@ -1,0 +1,5 @@
+pub mod Attached
+pub mod Balanced
+pub mod Detached
+pub mod Heard
+pub mod Rows

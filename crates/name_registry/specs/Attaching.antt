@@ -1,5 +1,5 @@
 -- Attaching behind the interlock: which slot is taken, why a call is refused, and what is left.
-use Rattle.std.specs.Prelude.{◌≡◌, ℕ, suc, ◌+◌, nat_le, position, length, Option, Some, None, Bool, if◌then◌else◌, Result, Ok, Err}
+use Rattle.std.specs.Prelude.{ℕ, suc, ◌+◌, nat_le, position, length, Option, Some, None, Bool, if◌then◌else◌, Result, Ok, Err}
 use Rattle.std.specs.List.{zip}
 use mathlib.Core.List.{IsPrefix}
 use Rattle.passive_core.specs.declared.entry.Entry.{Entry}
@@ -14,7 +14,7 @@ use Rattle.passive_list.specs.Cpus.{OnCpu}
 use Rattle.passive_list.specs.Keepers.{OnKeeper}
 use Rattle.passive_list.specs.Notes.{HasHeardOn}
 use Rattle.passive_list.specs.Publishing.{HasAttached}
-
+use Rattle.local_count.specs.Draining.{HasAttachedKeeping}
 use Rattle.name_registry.specs.Meeting.{is_inside, having_heard, HasSeenAttach}
 
 -- the least slot that is vacant and keeps nothing
@@ -56,5 +56,11 @@ attach_iface_answer a k x rec v = entry_in k rec (attach_iface_slot a k x rec v)
 pub record HasAttachedFor (a : OnKeeper) (x : OnCpu) (e : Entry) (b : OnKeeper) (y : OnCpu) : Type 0 where
   pub seen : IsPrefix x.view.pass a.view.history
   pub keeper : HasAttached (having_heard a x) e b
+  pub cpu : HasHeardOn b.view.history x y
+  pub own : HasSeenAttach x y e
+
+pub record HasAttachedIfaceFor (a : OnKeeper) (x : OnCpu) (v : ReferenceView) (e : Entry) (b : OnKeeper) (y : OnCpu) : Type 0 where
+  pub seen : IsPrefix x.view.pass a.view.history
+  pub keeper : HasAttachedKeeping (having_heard a x) v e b
   pub cpu : HasHeardOn b.view.history x y
   pub own : HasSeenAttach x y e

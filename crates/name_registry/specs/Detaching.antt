@@ -18,6 +18,11 @@ use Rattle.name_registry.specs.Meeting.{is_inside, having_heard, HasSeenDetach}
 abbrev pub IsLookupNow : OnKeeper → Key → Option Entry → Type 0
 IsLookupNow k key answer = IsLookup k.view.history (length k.view.history) key answer
 
+-- the slot of the entry that it gives, where it gives one
+abbrev pub IsLivePlace : OnKeeper → Key → Option ℕ → Type 0
+IsLivePlace k key None = IsLookupNow k key None
+IsLivePlace k key (Some t) = (e : Entry) × (slot_at k.slots t ≡ Live e) × (e.slot ≡ t) × IsLookupNow k key (Some e)
+
 abbrev pub IsDetachRefusal : OnKeeper → OnCpu → Key → Refusal → Type 0
 IsDetachRefusal k x key Inside = is_inside x ≡ true
 IsDetachRefusal k x key NotFound = (is_inside x ≡ false) × IsLookupNow k key None

@@ -1,4 +1,5 @@
 pub mod Meeting
+pub mod Rows
 pub mod Attaching
 pub mod Detaching
 pub mod Auditing

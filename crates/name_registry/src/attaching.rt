@@ -8,6 +8,7 @@ ghost use Rattle.name_registry.specs.Attaching.{attach_answer, attach_iface_answ
 use crate::meeting::{hear_cpu, show_cpu};
 use crate::plain::slot_for;
 use cpu_words::{Domain, Words};
+use local_count::{LocalRef, publish_iface};
 use passive_core::{Entry, Kind, Record, Refusal};
 use passive_list::{Cpu, Keeper, publish};
 
@@ -38,6 +39,42 @@ pub fn attach_in<D: Domain>(
     let slot = slot_for(keeper, rec)?;
     hear_cpu(words, keeper, cpu);
     let entry = publish(words, keeper, slot, rec);
+    show_cpu(words, keeper, cpu);
+    Ok(entry)
+}
+
+/// Attaches an interface on the driver that the reference is to: its slot keeps the reference until it is freed. Else it is as
+/// `attach_in`.
+/// Condition: the record's kind is Iface, and its name is lawful.
+/// Refused, in this order, and nothing has changed then, and the reference comes back: `Inside` where the CPU is inside a section;
+/// `NeedsDriver` where the reference is to an interface; `NameTaken`; `NoSlot`; `HistoryFull`.
+pub fn attach_iface_in<D: Domain>(
+    words: &Words,
+    keeper: &mut Keeper<D>,
+    cpu: &mut Cpu<D>,
+    rec: Record,
+    reference: LocalRef<D>,
+) -> Result<Entry, (Refusal, LocalRef<D>)>
+    requires words { (words.now.table ≡ D.table) × (words.now.settings ≡ D.settings) }
+    requires kind { rec.kind ≡ Iface }
+    requires name { IsTrue (is_lawful rec.name) }
+    ensures answer { IfOk result (λ e. attach_iface_answer D.settings keeper.old cpu.old rec reference ≡ Ok e) }
+    ensures ok { IfOk result (λ e. HasAttachedIfaceFor keeper.old cpu.old reference e keeper.new cpu.new) }
+    ensures refused { IfErr result (λ back. (attach_iface_answer D.settings keeper.old cpu.old rec reference ≡ Err back.0) × (back.1 ≡ reference)
+        × (keeper.new ≡ keeper.old) × (cpu.new ≡ cpu.old)) }
+{
+    if cpu.inside() {
+        return Err((Refusal::Inside, reference));
+    }
+    if reference.kind() == Kind::Iface {
+        return Err((Refusal::NeedsDriver, reference));
+    }
+    let slot = match slot_for(keeper, rec) {
+        Ok(slot) => slot,
+        Err(refusal) => return Err((refusal, reference)),
+    };
+    hear_cpu(words, keeper, cpu);
+    let entry = publish_iface(words, keeper, slot, rec, reference);
     show_cpu(words, keeper, cpu);
     Ok(entry)
 }

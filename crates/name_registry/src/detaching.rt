@@ -2,12 +2,13 @@
 
 ghost use Rattle.std.specs.Prelude.{◌≡◌, ◌<◌, IfOk, IfErr, IfSome, position, length};
 ghost use Rattle.passive_core.specs.Slots.{is_live_as};
-ghost use Rattle.name_registry.specs.Detaching.{IsDetachAnswer, HasDetachedFor};
+ghost use Rattle.name_registry.specs.Detaching.{IsDetachAnswer, IsLivePlace, HasDetachedFor};
+ghost use Rattle.name_registry.specs.Rows.{is_live_row};
 
 use crate::meeting::{hear_cpu, show_cpu};
 use cpu_words::{Domain, Words};
 use passive_core::{Entry, Key, Kind, Name, Refusal, is_live_as};
-use passive_list::{Cpu, Keeper, retire};
+use passive_list::{Cpu, Keeper, Row, retire};
 
 /// Detaches the live entry with the kind and the name, and answers it: lookups that begin from now on don't find it, the caller's CPU has
 /// seen its change, and it is retired, which `advance_in` works on. It takes no memory.
@@ -38,13 +39,22 @@ pub fn detach_in<D: Domain>(
     Ok(entry)
 }
 
-/// The slot of the live entry with this kind and name.
+/// The slot of the live entry with this kind and name, which a lookup gives now.
+#[tactic(auto, using(crate::proofs::Rows::live_in_rows))]
 fn live_place<D: Domain>(keeper: &Keeper<D>, key: Key) -> Option<u8>
     ensures value { result ≡ position (is_live_as key) keeper.now.slots }
+    ensures lookup { IsLivePlace keeper.now key result }
     ensures within { IfSome result (λ t. t < length keeper.now.slots) }
 {
-    match keeper.rows.iter().position(|row| is_live_as(key, &row.state)) {
+    match place_live_as(&keeper.rows, key) {
         Some(slot) => Some(slot as u8),
         None => None,
     }
+}
+
+fn place_live_as(rows: &[Row], key: Key) -> Option<usize>
+    ensures value { result ≡ position (is_live_row key) rows.now }
+    ensures within { IfSome result (λ t. t < length rows.now) }
+{
+    rows.iter().position(|row| is_live_as(key, &row.state))
 }

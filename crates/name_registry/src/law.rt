@@ -10,5 +10,5 @@ use passive_list::Keeper;
 pub fn free_interlock<D: Domain>(keeper: &Keeper<D>) -> u64
     ensures law { FreeInterlock D.settings keeper.now }
 {
-    keeper.changes()
+    keeper.changes
 }

@@ -7,6 +7,6 @@ mod law;
 mod meeting;
 mod plain;
 
-pub use attaching::attach_in;
+pub use attaching::{attach_iface_in, attach_in};
 pub use detaching::detach_in;
 pub use law::free_interlock;

@@ -1,11 +1,16 @@
 //! The slot that an attach takes, by the keeper's rows.
 
-ghost use Rattle.std.specs.Prelude.{◌≡◌, ◌<◌, IfOk};
-ghost use Rattle.name_registry.specs.Attaching.{slot_for};
+ghost use Rattle.std.specs.Prelude.{◌≡◌, ◌<◌, ◌≤◌, IfOk, IfSome, length, take, position};
+ghost use Rattle.std.specs.List.{list_any};
+ghost use Rattle.passive_core.specs.Attaching.{key_of_record};
+ghost use Rattle.passive_core.specs.Slots.{is_taken, live_count};
+ghost use Rattle.passive_list.specs.Keepers.{states_of};
+ghost use Rattle.name_registry.specs.Attaching.{has_room, plain_slot, slot_for};
+ghost use Rattle.name_registry.specs.Rows.{is_live_row, is_plain_row};
 
 use cpu_words::Domain;
 use passive_core::{Key, Record, Refusal, is_live, is_live_as, is_plain};
-use passive_list::Keeper;
+use passive_list::{Keeper, Row};
 
 /// The least slot that is vacant and keeps nothing.
 /// Refused, in this order: `NameTaken` where a live entry has the record's kind and name; `NoSlot`; `HistoryFull` where the history has no
@@ -14,25 +19,66 @@ pub(crate) fn slot_for<D: Domain>(keeper: &Keeper<D>, rec: Record) -> Result<u8,
     ensures value { result ≡ slot_for D.settings keeper.now rec }
     ensures within { IfOk result (λ t. t < D.settings.slots) }
 {
+    if is_taken(keeper, rec) {
+        return Err(Refusal::NameTaken);
+    }
+    let Some(slot) = plain_slot(keeper) else {
+        return Err(Refusal::NoSlot);
+    };
+    if !has_room(keeper) {
+        return Err(Refusal::HistoryFull);
+    }
+    Ok(slot)
+}
+
+/// Whether a live entry has the record's kind and name.
+#[tactic(auto, using(crate::proofs::Rows::taken_in_rows))]
+fn is_taken<D: Domain>(keeper: &Keeper<D>, rec: Record) -> bool
+    ensures { result ≡ is_taken (key_of_record rec) keeper.now.slots }
+{
     let key = Key {
         kind: rec.kind,
         name: rec.name,
     };
-    if keeper.rows.iter().any(|row| is_live_as(key, &row.state)) {
-        return Err(Refusal::NameTaken);
+    is_live_in(&keeper.rows, key)
+}
+
+fn is_live_in(rows: &[Row], key: Key) -> bool
+    ensures { result ≡ list_any (is_live_row key) rows.now }
+{
+    rows.iter().any(|row| is_live_as(key, &row.state))
+}
+
+/// The least slot that is vacant and keeps nothing.
+fn plain_slot<D: Domain>(keeper: &Keeper<D>) -> Option<u8>
+    ensures value { result ≡ plain_slot keeper.now }
+    ensures within { IfSome result (λ t. t < D.settings.slots) }
+{
+    match plain_place(&keeper.rows, keeper.settings.slots) {
+        Some(slot) => Some(slot as u8),
+        None => None,
     }
-    let slots = keeper.settings.slots as usize;
-    let Some(slot) = keeper
-        .rows
-        .iter()
-        .take(slots)
+}
+
+fn plain_place(rows: &[Row], slots: u8) -> Option<usize>
+    ensures value { result ≡ position is_plain_row (take slots rows.now) }
+    ensures within { IfSome result (λ t. t < slots) }
+{
+    rows.iter()
+        .take(slots as usize)
         .position(|row| is_plain(&row.state, row.keeps))
-    else {
-        return Err(Refusal::NoSlot);
-    };
-    let live = keeper.rows.iter().filter(|row| is_live(&row.state)).count();
-    if keeper.changes + live as u64 + 2 > keeper.settings.change_limit {
-        return Err(Refusal::HistoryFull);
-    }
-    Ok(slot as u8)
+}
+
+/// Whether the history has room for an attach and for the detach of each entry that is live then.
+fn has_room<D: Domain>(keeper: &Keeper<D>) -> bool
+    ensures { result ≡ has_room D.settings keeper.now }
+{
+    keeper.changes + live_count(&keeper.rows) as u64 + 2 <= keeper.settings.change_limit
+}
+
+fn live_count(rows: &[Row]) -> usize
+    ensures value { result ≡ live_count (states_of rows.now) }
+    ensures within { result ≤ length rows.now }
+{
+    rows.iter().filter(|row| is_live(&row.state)).count()
 }

@@ -1,0 +1,25 @@
+-- The free interlock: a keeper at rest is adding nothing, so the balance of each slot is the references held.
+use Rattle.std.proofs.Common.{◌≡◌, ◌∙◌, ◌+◌, ◌*◌, sum_by, sym, subst, arith}
+use Rattle.passive_core.specs.declared.settings.Settings.{Settings}
+use Rattle.passive_core.specs.declared.state.Due.{Due}
+use Rattle.passive_core.specs.declared.state.Due.TheVariants.{Rest}
+use Rattle.passive_core.specs.Invariant.{held_at, adding_at, is_adding_at, itself, one_if_used}
+use Rattle.passive_core.specs.State.{State, bias, total_at}
+use Rattle.cpu_words.specs.declared.view.View.TheVariants.{Keeper}
+use Rattle.cpu_words.specs.Rule.{Good}
+use Rattle.cpu_words.proofs.KeeperSees.{seen_by_keeper}
+use Rattle.passive_list.specs.Keepers.{OnKeeper}
+use Rattle.name_registry.specs.Law.{counts_of, Balanced, FreeInterlock}
+
+at_rest_balanced : (g : State) → Good g → g.due ≡ Rest → Balanced g
+at_rest_balanced g good rest t e is =
+    let row = counts_of g t in
+    let held = held_at g.locals g.hands g.keeps g.due e.number t in
+    let even = subst (λ (d : Due). sum_by itself row + total_at g.totals t + adding_at t d ≡ held + bias * (1 + sum_by one_if_used row + is_adding_at t d)) rest (good.holds.balance.balance t e is).even in
+    omega (arith, even)
+
+pub free_law : (a : Settings) (x : OnKeeper) → x.view.due ≡ Rest → FreeInterlock a x
+free_law a x rest s i ruled at =
+    let g = ruled.g in
+    let shown = (ruled.shows.fits i (Keeper x.view) at).1 in
+    (g, ruled.good, ruled.words, shown, at_rest_balanced g ruled.good (sym (seen_by_keeper g x.view ruled.good shown).due ∙ rest))

@@ -1,0 +1,84 @@
+-- A detach: the keeper's live slots are the entries live in its history, and what the call leaves.
+use Rattle.std.proofs.Common.{◌≡◌, ◌∙◌, inl, ℕ, Some, None, position, List, length, sym, ap, subst}
+use Rattle.std.proofs.lemmas.List.Quantifiers.{position-Some}
+use mathlib.Core.List.{IsPrefix}
+use Rattle.atomic_table.specs.Seated.{TableId}
+use Rattle.passive_core.specs.declared.entry.Change.{Change}
+use Rattle.passive_core.specs.declared.entry.Entry.{Entry}
+use Rattle.passive_core.specs.declared.settings.Settings.{Settings}
+use Rattle.passive_core.specs.declared.state.Key.{Key}
+use Rattle.passive_core.specs.declared.state.Slot.{Slot}
+use Rattle.passive_core.specs.declared.state.Slot.TheVariants.{Live}
+use Rattle.passive_core.specs.History.{IsAttached, IsLiveAt}
+use Rattle.passive_core.specs.Slots.{is_live_as, same_key}
+use Rattle.passive_core.specs.State.{slot_at}
+use Rattle.passive_core.proofs.Detaching.{key_same, live_tells}
+use Rattle.passive_core.proofs.Numbers.{position_fails}
+use Rattle.passive_core.proofs.Occupied.{in_within, live_one}
+use Rattle.cpu_words.specs.declared.view.KeeperView.{KeeperView}
+use Rattle.cpu_words.proofs.KeeperSees.{seen_by_keeper}
+use Rattle.passive_list.specs.declared.keeper.Row.{Row}
+use Rattle.passive_list.specs.Cpus.{OnCpu}
+use Rattle.passive_list.specs.Keepers.{OnKeeper, states_of, IsOurKeeper}
+use Rattle.passive_list.specs.Notes.{HasHeardOn}
+use Rattle.passive_list.specs.Retiring.{HasDetached}
+use Rattle.passive_list.proofs.Attached.{rows_live, live_rows}
+use Rattle.name_registry.specs.Detaching.{IsLookupNow, IsLivePlace, HasDetachedFor}
+use Rattle.name_registry.specs.Meeting.{having_heard}
+use Rattle.name_registry.proofs.Heard.{seen_detach}
+
+-- The live entries
+
+-- the keeper's live slots are the entries that are live now, each in its slot
+pub record ShowsLive (x : OnKeeper) : Type 0 where
+  pub live : (t : ℕ) (e : Entry) → slot_at x.slots t ≡ Live e → IsLiveAt x.view.history (length x.view.history) e × (e.slot ≡ t)
+  pub placed : (e : Entry) → IsLiveAt x.view.history (length x.view.history) e → slot_at x.slots e.slot ≡ Live e
+
+-- by any state of the core that shows its view
+pub keeper_shows : (z : TableId) (a : Settings) (table : TableId) (k : KeeperView) (its : Settings) (rows : List Row) (n : ℕ) (x : OnKeeper) → IsOurKeeper z a table k its rows n → record { view = k; slots = states_of rows } ≡ x → ShowsLive x
+keeper_shows z a table k its rows n x our is =
+    let p = our.pictured in
+    let seen = seen_by_keeper p.g k p.good p.shown in
+    let shown = p.good.holds.slots in
+    subst ShowsLive is record {
+      live = λ t e live. subst (λ (h : List Change). IsLiveAt h (length h) e × (e.slot ≡ t)) (sym seen.history) (shown.live t e (sym (ap (λ (xs : List Slot). slot_at xs t) seen.slots) ∙ rows_live a k rows our.rows t e live));
+      placed = λ e live. live_rows a k rows our.view our.rows e.slot e
+          (ap (λ (xs : List Slot). slot_at xs e.slot) seen.slots ∙ shown.placed e (subst (λ (h : List Change). IsLiveAt h (length h) e) seen.history live));
+    }
+
+-- what stands at the first place with a live entry of the key
+pub place_tells : (x : OnKeeper) (key : Key) (t : ℕ) → ShowsLive x → position (is_live_as key) x.slots ≡ Some t → IsLivePlace x key (Some t)
+place_tells x key t shows at =
+    let found = position-Some (is_live_as key) x.slots t Slot.Vacant at in
+    let live = live_tells key (slot_at x.slots t) found.1 in
+    let shown = shows.live t live.0 live.1 in
+    (live.0, live.1, shown.1, (shown.0, live.2))
+
+-- where there is no such place, a lookup finds none
+pub no_place : (x : OnKeeper) (key : Key) → ShowsLive x → position (is_live_as key) x.slots ≡ None → IsLivePlace x key None
+no_place x key shows none e live same =
+    let placed = shows.placed e live in
+    position_fails (is_live_as key) x.slots e.slot Slot.Vacant none (in_within x.slots e.slot e (inl placed)) (ap (is_live_as key) placed ∙ (ap (λ (k : Key). same_key k key) same ∙ key_same key))
+
+-- the keeper m heard the CPU x, and answers the entry e of that place
+pub place_is : (a : OnKeeper) (x : OnCpu) (m : OnKeeper) (key : Key) (t : ℕ) (e : Entry) → m ≡ having_heard a x → IsLivePlace a key (Some t) → slot_at m.slots t ≡ Live e → IsLookupNow a key (Some e) × (slot_at a.slots e.slot ≡ Live e) × (e.slot ≡ t)
+place_is a x m key t e heard found is =
+    let live : slot_at a.slots t ≡ Live e = subst (λ (k : OnKeeper). slot_at k.slots t ≡ Live e) heard is in
+    let one : found.0 ≡ e = live_one found.0 e (slot_at a.slots t) live (inl found.1) in
+    let slot : e.slot ≡ t = subst (λ (f : Entry). f.slot ≡ t) one found.2 in
+    (subst (λ (f : Entry). IsLookupNow a key (Some f)) one found.3, ap (slot_at a.slots) slot ∙ live, slot)
+
+-- What it leaves
+
+-- The keeper m heard the CPU x, the entry e in the slot t was retired, and the CPU heard the history that the keeper b has then.
+pub detached_for : (a : OnKeeper) (x : OnCpu) (m : OnKeeper) (n : OnCpu) (t : ℕ) (e : Entry) (b : OnKeeper) (y : OnCpu) → m ≡ having_heard a x → n ≡ x → IsPrefix x.view.pass m.view.history → IsAttached a.view.history e → e.slot ≡ t
+    → HasDetached m t e b → HasHeardOn b.view.history n y → HasDetachedFor a x e b y
+detached_for a x m n t e b y heard same seen attached slot has hears =
+    let before = subst (λ (k : OnKeeper). IsPrefix x.view.pass k.view.history) heard seen in
+    let done = subst (λ (u : ℕ). HasDetached (having_heard a x) u e b) (sym slot) (subst (λ (k : OnKeeper). HasDetached k t e b) heard has) in
+    record {
+      seen = before;
+      keeper = done;
+      cpu = subst (λ (z : OnCpu). HasHeardOn b.view.history z y) same hears;
+      own = seen_detach a.view.history x y e before attached (subst (λ (h : List Change). IsPrefix h y.view.pass) (ap (λ (k : KeeperView). k.history) done.view) hears.told);
+    }

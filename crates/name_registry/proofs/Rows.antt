@@ -1,0 +1,60 @@
+-- Tests over the keeper's rows are tests over what a contract sees of the keeper.
+use Rattle.std.proofs.Common.{◌≡◌, ℕ, suc, ◌+◌, ◌<◌, ◌≤◌, Bool, not, cond, ◌||◌, List, [], ◌∷◌, length, map, take, Option, position, refl, sym, ap, ◌∙◌, arith}
+use Rattle.std.specs.List.{list_any, prefix_len, zip}
+use Rattle.std.proofs.lemmas.List.{length-map}
+use Rattle.atomic_table.specs.Seated.{TableId}
+use Rattle.passive_core.specs.declared.settings.Settings.{Settings}
+use Rattle.passive_core.specs.declared.state.Key.{Key}
+use Rattle.passive_core.specs.declared.state.Slot.{Slot}
+use Rattle.passive_core.specs.Attaching.{is_plain}
+use Rattle.passive_core.specs.Slots.{is_live_as, is_taken}
+use Rattle.passive_core.specs.State.{kept_at}
+use Rattle.passive_core.proofs.Fit.{ranges}
+use Rattle.cpu_words.specs.declared.view.KeeperView.{KeeperView}
+use Rattle.passive_list.specs.declared.keeper.Row.{Row}
+use Rattle.passive_list.specs.Keepers.{OnKeeper, row_at, state_of, states_of, IsOurKeeper}
+use Rattle.name_registry.specs.Attaching.{plain_slot}
+use Rattle.name_registry.specs.Rows.{is_live_row, is_plain_row}
+
+any_map : {X Y : Type 0} (p : Y → Bool) (f : X → Y) (xs : List X) → list_any p (map f xs) ≡ list_any (λ x. p (f x)) xs
+any_map p f [] = refl
+any_map p f (x ∷ xs) = ap (λ b. p (f x) || b) (any_map p f xs)
+
+prefix_map : {X Y : Type 0} (p : Y → Bool) (f : X → Y) (xs : List X) → prefix_len p (map f xs) ≡ prefix_len (λ x. p (f x)) xs
+prefix_map p f [] = refl
+prefix_map p f (x ∷ xs) = ap (λ n. cond (p (f x)) (1 + n) 0) (prefix_map p f xs)
+
+position_map : {X Y : Type 0} (p : Y → Bool) (f : X → Y) (xs : List X) → position p (map f xs) ≡ position (λ x. p (f x)) xs
+position_map p f xs = rw (prefix_map (λ y. not (p y)) f xs, length-map xs f) refl
+
+-- the live entry of a kind and name
+
+pub taken_in_rows : (key : Key) (rows : List Row) → is_taken key (states_of rows) ≡ list_any (is_live_row key) rows
+taken_in_rows key rows = any_map (is_live_as key) state_of rows
+
+pub live_in_rows : (key : Key) (rows : List Row) → position (is_live_as key) (states_of rows) ≡ position (is_live_row key) rows
+live_in_rows key rows = position_map (is_live_as key) state_of rows
+
+-- the least plain slot
+
+abbrev pair_of : Row → Slot × Option ℕ
+pair_of r = (r.state, r.keeps)
+
+pairs : (rows : List Row) (keeps : List (Option ℕ)) → length keeps ≤ length rows → ((t : ℕ) → t < length keeps → (row_at rows t).keeps ≡ kept_at keeps t) → zip (states_of rows) keeps ≡ map pair_of (take (length keeps) rows)
+pairs [] [] le each = refl
+pairs [] (x ∷ keeps) le each = absurd (omega (arith, le))
+pairs (r ∷ rows) [] le each = refl
+pairs (r ∷ rows) (x ∷ keeps) le each =
+    let first : r.keeps ≡ x = each 0 (omega arith) in
+    let rest = pairs rows keeps (omega (arith, le)) (λ t lt. each (suc t) (omega (arith, lt))) in
+    rw (rest, first) refl
+
+pub plain_in_rows : (z : TableId) (a : Settings) (table : TableId) (k : KeeperView) (its : Settings) (rows : List Row) (n : ℕ) (x : OnKeeper) → IsOurKeeper z a table k its rows n → record { view = k; slots = states_of rows } ≡ x → position is_plain_row (take its.slots rows) ≡ plain_slot x
+plain_in_rows z a table k its rows n x our is =
+    let size : length k.keeps ≡ a.slots = our.view.sized.keeps in
+    let most = (ranges a our.view.fit).slots in
+    let long = our.rows.size in
+    ap (λ m. position is_plain_row (take m rows)) (ap (λ (s : Settings). s.slots) our.settings ∙ sym size)
+    ∙ (sym (position_map is_plain pair_of (take (length k.keeps) rows))
+    ∙ (ap (position is_plain) (sym (pairs rows k.keeps (omega (arith, size, most, long)) (λ t lt. (our.rows.each t (omega (arith, size, lt))).keeps)))
+    ∙ ap plain_slot is))

@@ -1,0 +1,14 @@
+-- What one row of the keeper says.
+use Rattle.std.specs.Prelude.{Bool}
+use Rattle.passive_core.specs.declared.state.Key.{Key}
+use Rattle.passive_core.specs.Attaching.{is_plain}
+use Rattle.passive_core.specs.Slots.{is_live_as}
+use Rattle.passive_list.specs.declared.keeper.Row.{Row}
+
+-- the slot shows a live entry with this kind and name
+abbrev pub is_live_row : Key → Row → Bool
+is_live_row key r = is_live_as key r.state
+
+-- the slot is vacant and keeps nothing
+abbrev pub is_plain_row : Row → Bool
+is_plain_row r = is_plain (r.state, r.keeps)
