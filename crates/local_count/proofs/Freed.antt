@@ -44,7 +44,7 @@ taken_is k t (Live e) off is = is
 taken_is k t (Retired e) off is = is
 
 -- the row that shows the number has its entry, which is in that slot
-pub place_told : (a : Settings) (k : KeeperView) (rows : List Row) (n u : ℕ) → RowsAgree a k rows → place_of n rows ≡ Some u → (e : Entry) × IsIn e (slot_at k.slots u) × (e.number ≡ n)
+place_told : (a : Settings) (k : KeeperView) (rows : List Row) (n u : ℕ) → RowsAgree a k rows → place_of n rows ≡ Some u → (e : Entry) × IsIn e (slot_at k.slots u) × (e.number ≡ n)
 place_told a k rows n u agree found =
     let at = position-Some (λ (r : Row). has_number n (state_of r)) rows u no_row found in
     let x = (row_at rows u).state in
