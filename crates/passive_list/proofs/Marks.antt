@@ -1,6 +1,7 @@
 -- Looks and the end of a drain: one mark or the state of one row changes.
-use Rattle.std.proofs.Common.{◌≡◌, inr, ℕ, ◌<◌, true, ◌&&◌, ◌==◌, List, length, set, None, refl, sym, ap, ◌∙◌, subst, arith, length-set, eqb-true}
+use Rattle.std.proofs.Common.{◌≡◌, inr, ℕ, ◌<◌, true, ◌&&◌, ◌==◌, List, length, set, get_or, None, refl, sym, ap, ◌∙◌, subst, arith, length-set, eqb-true}
 use Rattle.std.proofs.lemmas.Bool.{and_parts}
+use Rattle.std.proofs.Math.Seq.{map-set_same}
 use Rattle.atomic_table.specs.Seated.{TableId}
 use Rattle.passive_core.specs.declared.entry.Entry.{Entry}
 use Rattle.passive_core.specs.declared.event.Event.{Event}
@@ -15,10 +16,12 @@ use Rattle.passive_core.proofs.Fit.{ranges}
 use Rattle.passive_core.proofs.ListKeeps.{rows_cell}
 use Rattle.passive_core.proofs.Occupied.{is_retired_tells}
 use Rattle.cpu_words.specs.declared.view.KeeperView.{KeeperView}
+use Rattle.cpu_words.specs.declared.view.View.TheVariants.{Keeper}
 use Rattle.cpu_words.specs.Grace.{MayLook, having_looked}
-use Rattle.cpu_words.specs.Rule.{IsPictured}
+use Rattle.cpu_words.specs.Steps.{Makes}
+use Rattle.cpu_words.proofs.Pictures.{pictured_by}
 use Rattle.passive_list.specs.declared.keeper.Row.{Row}
-use Rattle.passive_list.specs.Keepers.{row_at, states_of, TakenAs, IsAtRest, RowsAgree, IsOurKeeper}
+use Rattle.passive_list.specs.Keepers.{no_row, row_at, state_of, states_of, TakenAs, IsAtRest, RowsAgree, IsOurKeeper}
 use Rattle.passive_list.specs.Vacating.{IsDrainedOn, is_drained_row}
 use Rattle.passive_list.proofs.Rows.{state_at, retired_in, row_stays, rows_set}
 
@@ -75,26 +78,40 @@ marked_rows a k rows ev r t c m e at agree is =
     }
     (λ u off was. row_stays k (marked k ev r t c m) u (row_at rows u) at.rest refl refl (row_other k.marks t c m u off) refl refl was)
 
--- after a look the rows agree, where the mark in the row is the mark in the view
-pub looked_keeper : (z : TableId) (a : Settings) (table table' : TableId) (k l : KeeperView) (its : Settings) (rows : List Row) (n : ℕ) (ev : Event) (r : Reply) (t c : ℕ) (m : Mark) (e : Entry)
-    → IsOurKeeper z a table k its rows n → slot_at (states_of rows) t ≡ Retired e → table' ≡ table → l ≡ marked k ev r t c m → IsPictured l → IsOurKeeper z a table' l its (set rows t (row_marked (row_at rows t) c m)) n
-looked_keeper z a table table' k l its rows n ev r t c m e our is same change pictured = record {
-  table = same ∙ our.table;
-  settings = our.settings;
-  pictured = pictured;
-  view = subst (IsAtRest a) (sym change) (marked_at_rest a k ev r t c m our.view);
-  changes = our.changes ∙ sym (ap (λ (x : KeeperView). length x.history) change);
-  rows = subst (λ (x : KeeperView). RowsAgree a x (set rows t (row_marked (row_at rows t) c m))) (sym change) (marked_rows a k rows ev r t c m e our.view our.rows is);
-}
+-- the mark in a retired slot's row is the mark in the view
+row_mark : (a : Settings) (k : KeeperView) (rows : List Row) (t c : ℕ) (e : Entry) → RowsAgree a k rows → slot_at (states_of rows) t ≡ Retired e → get_or (row_at rows t).marks c no_mark ≡ mark_at k.marks t c
+row_mark a k rows t c e agree is = ap (λ (ms : List Mark). get_or ms c no_mark) (agree.each t (retired_in a k rows t e agree is).0).marks
 
-pub looked_mark : (a : Settings) (k l : KeeperView) (rows : List Row) (ev : Event) (r : Reply) (t c : ℕ) (m : Mark) (e : Entry) → IsAtRest a k → RowsAgree a k rows → slot_at (states_of rows) t ≡ Retired e → c < a.cpus → l ≡ marked k ev r t c m → mark_at l.marks t c ≡ m
-looked_mark a k l rows ev r t c m e at agree is cpu change =
+-- after a look that made f of the mark, in the row as in the view, the rows agree
+pub looked_keeper : (z : TableId) (a : Settings) (table table' : TableId) (k l : KeeperView) (its : Settings) (rows : List Row) (n : ℕ) (ev : Event) (r : Reply) (t c : ℕ) (f : Mark → Mark) (m : Mark) (e : Entry)
+    → IsOurKeeper z a table k its rows n → slot_at (states_of rows) t ≡ Retired e → table' ≡ table → m ≡ f (get_or (row_at rows t).marks c no_mark) → l ≡ marked k ev r t c (f (mark_at k.marks t c)) → Makes ev r (Keeper k) (Keeper l)
+    → IsOurKeeper z a table' l its (set rows t (row_marked (row_at rows t) c m)) n
+looked_keeper z a table table' k l its rows n ev r t c f m e our is same made change event =
+    let mark : m ≡ f (mark_at k.marks t c) = made ∙ ap f (row_mark a k rows t c e our.rows is) in
+    let now : l ≡ marked k ev r t c m = change ∙ ap (marked k ev r t c) (sym mark) in
+    record {
+      table = same ∙ our.table;
+      settings = our.settings;
+      pictured = pictured_by ev r k l event;
+      view = subst (IsAtRest a) (sym now) (marked_at_rest a k ev r t c m our.view);
+      changes = our.changes ∙ sym (ap (λ (x : KeeperView). length x.history) now);
+      rows = subst (λ (x : KeeperView). RowsAgree a x (set rows t (row_marked (row_at rows t) c m))) (sym now) (marked_rows a k rows ev r t c m e our.view our.rows is);
+    }
+
+-- the mark that it made is the view's
+pub looked_mark : (a : Settings) (k l : KeeperView) (rows : List Row) (ev : Event) (r : Reply) (t c : ℕ) (f : Mark → Mark) (m : Mark) (e : Entry)
+    → IsAtRest a k → RowsAgree a k rows → slot_at (states_of rows) t ≡ Retired e → c < a.cpus → m ≡ f (get_or (row_at rows t).marks c no_mark) → l ≡ marked k ev r t c (f (mark_at k.marks t c)) → m ≡ mark_at l.marks t c
+looked_mark a k l rows ev r t c f m e at agree is cpu made change =
     let lt = (retired_in a k rows t e agree is).0 in
     let size = at.sized.marks in
     let few = (ranges a at.fit).cpus in
     let within : t < length k.marks = omega (arith, lt, size) in
     let long = at.sized.mark_rows t within in
-    ap (λ (x : KeeperView). mark_at x.marks t c) change ∙ cell_here no_mark k.marks t c m within (omega (arith, long, few, cpu))
+    made ∙ ap f (row_mark a k rows t c e agree is) ∙ sym (ap (λ (x : KeeperView). mark_at x.marks t c) change ∙ cell_here no_mark k.marks t c (f (mark_at k.marks t c)) within (omega (arith, long, few, cpu)))
+
+-- what stands in the slots stays
+pub looked_states : (rows : List Row) (t c : ℕ) (m : Mark) → states_of (set rows t (row_marked (row_at rows t) c m)) ≡ states_of rows
+looked_states rows t c m = map-set_same state_of rows t (row_marked (row_at rows t) c m) no_row refl
 
 -- The end of a drain
 
