@@ -1,0 +1,7 @@
+use std::test::*;
+
+#[test]
+fn nothing(rt: HostRuntime) -> Result<(), Fail> {
+    assert_eq!(rt; 1, 1);
+    Ok(())
+}
