@@ -1,5 +1,5 @@
 -- A CPU's plain data agree with its view on, over its local references.
-use Rattle.std.proofs.Common.{◌≡◌, ◌≢◌, ℕ, ◌+◌, ◌<◌, ◌≤◌, List, length, get_or, set, Option, Some, None, IsTrue, cond, refl, sym, ap, ◌∙◌, subst, arith, get_or-set_same, get_or-set_other, length-set}
+use Rattle.std.proofs.Common.{◌≡◌, ◌≢◌, ℕ, ◌+◌, ◌<◌, List, length, set, Option, cond, refl, sym, ap, ◌∙◌, subst, arith, get_or-set_same, get_or-set_other, length-set}
 use mathlib.Core.Logic.{dite}
 use native.Mathlib.Decide.{ℕ_discrete}
 use Rattle.std.proofs.lemmas.Bool.{eq-eqb, ne_eqb}
@@ -9,7 +9,7 @@ use Rattle.passive_core.specs.declared.settings.Settings.{Settings}
 use Rattle.passive_core.specs.State.{bias}
 use Rattle.cpu_words.specs.declared.view.CpuView.{CpuView}
 use Rattle.cpu_words.specs.Views.{number_at, with_number}
-use Rattle.cpu_words.specs.Locals.{IsNetCount, IsPlaceCount, IsMetAlone}
+use Rattle.cpu_words.specs.Locals.{IsPlaceCount, IsMetAlone}
 use Rattle.cpu_words.proofs.Counting.{with_number_same, with_number_other}
 use Rattle.passive_list.specs.declared.place.Place.{Place}
 use Rattle.local_count.specs.References.{net_by}

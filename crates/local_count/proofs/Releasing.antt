@@ -1,5 +1,5 @@
 -- A CPU releases a local reference: why it may, and what it leaves.
-use Rattle.std.proofs.Common.{◌≡◌, ◌≢◌, ℕ, suc, ◌+◌, ◌-◌, ◌<◌, List, set, Option, Some, None, refl, sym, ap, ◌∙◌, subst, arith}
+use Rattle.std.proofs.Common.{◌≡◌, ℕ, ◌+◌, ◌-◌, ◌<◌, List, set, Option, Some, refl, sym, ap, ◌∙◌, subst, arith}
 use Rattle.atomic_table.specs.Seated.{TableId}
 use Rattle.passive_core.specs.declared.entry.Entry.{Entry}
 use Rattle.passive_core.specs.declared.entry.Kind.{Kind}
@@ -9,7 +9,7 @@ use Rattle.cpu_words.specs.declared.view.CpuView.{CpuView}
 use Rattle.cpu_words.specs.declared.view.ReferenceView.{ReferenceView}
 use Rattle.cpu_words.specs.declared.view.InHand.TheVariants.{Empty as NoEntry, Giving as GivingEntry, Back as BackEntry}
 use Rattle.cpu_words.specs.Views.{number_at, with_number, one_more}
-use Rattle.cpu_words.specs.Locals.{IsNetCount, IsPlaceCount, IsMetAlone, MayCountDown, HasCountedDown, HasFoundCollected, HasSplitBack, with_hand}
+use Rattle.cpu_words.specs.Locals.{IsNetCount, IsMetAlone, MayCountDown, HasCountedDown, HasFoundCollected, HasSplitBack, with_hand}
 use Rattle.cpu_words.proofs.Counting.{one_more_same, one_more_other}
 use Rattle.passive_list.specs.declared.place.Place.{Place}
 use Rattle.passive_list.specs.Cpus.{place_at, IsOurCpu}

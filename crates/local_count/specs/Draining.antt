@@ -5,7 +5,7 @@ use Rattle.passive_core.specs.declared.event.Event.TheVariants.{Collect, TotalAd
 use Rattle.passive_core.specs.declared.event.Reply.TheVariants.{Done, Word}
 use Rattle.passive_core.specs.declared.state.Slot.TheVariants.{Vacant, Retired}
 use Rattle.passive_core.specs.declared.state.Due.TheVariants.{Adding}
-use Rattle.passive_core.specs.Events.{collected}
+use Rattle.passive_core.specs.Events.{collected as collected_mark}
 use Rattle.passive_core.specs.Invariant.{held_at}
 use Rattle.passive_core.specs.Slots.{is_some_collected}
 use Rattle.passive_core.specs.State.{State, bias, with_cell, slot_at, mark_at, total_at}
@@ -25,14 +25,14 @@ use Rattle.passive_list.specs.Publishing.{HasAttached}
 
 -- the count word w of the CPU c was collected, and is to be added
 abbrev pub collecting : KeeperView → ℕ → ℕ → ℕ → KeeperView
-collecting k t c w = record k { marks = with_cell k.marks t c (collected (mark_at k.marks t c)); due = Adding t w }
+collecting k t c w = record k { marks = with_cell k.marks t c (collected_mark (mark_at k.marks t c)); due = Adding t w }
 
 -- the word was collected, and added to the total of the slot without its bias; nothing else changes
 pub record HasCollectedInto (a : OnKeeper) (t c : ℕ) (b : OnKeeper) : Type 0 where
   pub word : ℕ
   pub collected : Makes (Collect t c) (Word word) (Keeper a.view) (Keeper (collecting a.view t c word))
   pub added : Makes (TotalAdd t) Done (Keeper (collecting a.view t c word)) (Keeper b.view)
-  pub view : b.view ≡ record a.view { marks = with_cell a.view.marks t c (collected (mark_at a.view.marks t c)); totals = slice_set a.view.totals t (total_at a.view.totals t + word - bias) }
+  pub view : b.view ≡ record a.view { marks = with_cell a.view.marks t c (collected_mark (mark_at a.view.marks t c)); totals = slice_set a.view.totals t (total_at a.view.totals t + word - bias) }
   pub slots : b.slots ≡ a.slots
 
 -- the local references held to the retired entry in the slot t are n, in whatever state of the core shows the keeper's view

@@ -25,11 +25,11 @@ pub fn collect<D: Domain>(words: &Words, keeper: &mut Keeper<D>, slot: u8, cpu: 
     ensures change { HasCollectedInto keeper.old slot cpu keeper.new }
 {
     let word = steps::collect(words, &mut keeper.seat, slot, cpu);
-    let row = &mut keeper.rows[slot as usize];
-    let total = row.total + word - BIAS;
-    steps::total_add(words, &mut keeper.seat, slot, total);
-    row.total = total;
+    let mut row = keeper.rows[slot as usize];
+    row.total = row.total + word - BIAS;
+    steps::total_add(words, &mut keeper.seat, slot, row.total);
     row.marks[cpu as usize] = collected_mark(row.marks[cpu as usize]);
+    keeper.rows[slot as usize] = row;
 }
 
 /// Whether the keeper has collected the count word of a CPU for the retired entry in `slot`.

@@ -8,10 +8,12 @@
 #![tactic(auto)]
 
 mod acquire;
+mod collecting;
 mod local_ref;
 mod net;
 mod release;
 
 pub use acquire::acquire_local;
+pub use collecting::{collect, collected, total};
 pub use local_ref::LocalRef;
 pub use release::try_release;

@@ -1,0 +1,149 @@
+-- What the keeper's view says of totals: of each good state of the core that shows it, or where there is one (`IsPictured`).
+use Rattle.std.proofs.Common.{◌≡◌, inr, ⊎_elim, ℕ, ◌+◌, ◌^◌, ◌<◌, ◌≤◌, List, [], length, get_or, Option, Some, true, refl, sym, ap, ◌∙◌, subst, arith}
+use Rattle.std.proofs.lemmas.Bool.{cases_lt}
+use Rattle.passive_core.specs.declared.entry.Entry.{Entry}
+use Rattle.passive_core.specs.declared.settings.Settings.{Settings}
+use Rattle.passive_core.specs.declared.state.Due.{Due}
+use Rattle.passive_core.specs.declared.state.Due.TheVariants.{Rest, Adding, Subtracting}
+use Rattle.passive_core.specs.declared.state.Slot.{Slot}
+use Rattle.passive_core.specs.declared.state.Slot.TheVariants.{Vacant, Live, Retired}
+use Rattle.passive_core.specs.Invariant.{IsIn, Balances, held_at, adding_at, is_adding_at, subtracting_at}
+use Rattle.passive_core.specs.Slots.{slot_of, are_collected}
+use Rattle.passive_core.specs.State.{State, bias, slot_at, total_at, kept_at}
+use Rattle.passive_core.proofs.Balancing.{all_collected}
+use Rattle.passive_core.proofs.Bounds.{adding_range}
+use Rattle.passive_core.proofs.CountBounds.{collected_at, total_range}
+use Rattle.passive_core.proofs.CountKeeps.{fit_of}
+use Rattle.passive_core.proofs.Held.{held_kept}
+use Rattle.passive_core.proofs.HeldSums.{one_self}
+use Rattle.passive_core.proofs.Occupied.{in_within, not_vacant, retired_one, slot_has}
+use Rattle.passive_core.proofs.References.{due_subtracting}
+use Rattle.cpu_words.specs.declared.view.KeeperView.{KeeperView}
+use Rattle.cpu_words.specs.Draining.{row_of}
+use Rattle.cpu_words.specs.Vacating.{MayVacate}
+use Rattle.cpu_words.specs.Rule.{Good, IsPictured}
+use Rattle.cpu_words.specs.Views.{KeeperShown}
+use Rattle.cpu_words.proofs.KeeperSees.{seen_by_keeper}
+use Rattle.passive_list.specs.Keepers.{TakenAs}
+
+-- Of one state
+
+-- the local references held to the entry with the number n in the slot t
+abbrev pub held_in : State → ℕ → ℕ → ℕ
+held_in g n t = held_at g.locals g.hands g.keeps g.due n t
+
+-- nothing that was collected of t waits to be added to its total
+abbrev pub NothingToAdd : Due → ℕ → Type 0
+NothingToAdd due t = (adding_at t due ≡ 0) × (is_adding_at t due ≡ 0)
+
+pub none_at_rest : (due : Due) (t : ℕ) → due ≡ Rest → NothingToAdd due t
+none_at_rest due t rest = (ap (adding_at t) rest, ap (is_adding_at t) rest)
+
+pub none_at_subtraction : (due : Due) (t u : ℕ) → due ≡ Subtracting u → NothingToAdd due t
+none_at_subtraction due t u is = (ap (adding_at t) is, ap (is_adding_at t) is)
+
+-- the total of a retired entry's slot is what is held, once all words are collected
+pub total_collected : (g : State) (k : KeeperView) (t : ℕ) (e : Entry) → Good g → KeeperShown g k → NothingToAdd k.due t → slot_at k.slots t ≡ Retired e → are_collected k.settings.cpus (row_of k t) ≡ true
+    → total_at k.totals t ≡ bias + held_in g e.number t
+total_collected g k t e good had none retired all =
+    let seen = seen_by_keeper g k good had in
+    let on = good.holds.balance in
+    let gone : slot_at g.slots t ≡ Retired e = sym (ap (λ (x : List Slot). slot_at x t) seen.slots) ∙ retired in
+    let told : are_collected g.settings.cpus (get_or g.marks t []) ≡ true = sym (λ i. are_collected (seen.settings i).cpus (get_or (seen.marks i) t [])) ∙ all in
+    let row = get_or g.counts t [] in
+    let held = held_in g e.number t in
+    let each : (c : ℕ) → get_or row c 0 ≡ 0 = λ c. ⊎_elim
+    (λ (lt : c < g.settings.cpus). on.emptied c t e gone (collected_at (fit_of g good.holds) t c (in_within g.slots t e (inr gone)) lt told))
+    (λ (ge : g.settings.cpus ≤ c). on.beyond c t ge)
+    (cases_lt c g.settings.cpus) in
+    let adding : adding_at t g.due ≡ 0 = ap (adding_at t) (sym seen.due) ∙ none.0 in
+    let is_adding : is_adding_at t g.due ≡ 0 = ap (is_adding_at t) (sym seen.due) ∙ none.1 in
+    let balance : Balances row (total_at g.totals t) held 0 0 =
+    subst (λ n. Balances row (total_at g.totals t) held 0 n) is_adding (subst (λ n. Balances row (total_at g.totals t) held n (is_adding_at t g.due)) adding (on.balance t e (inr gone))) in
+    ap (λ (x : List ℕ). total_at x t) seen.totals ∙ all_collected row (total_at g.totals t) held each balance
+
+-- the total of a live or retired entry's slot is near the bias
+pub total_near : (g : State) (k : KeeperView) (t : ℕ) (e : Entry) → Good g → KeeperShown g k → NothingToAdd k.due t → IsIn e (slot_at k.slots t)
+    → (bias + held_in g e.number t ≤ total_at k.totals t + 2 ^ 43) × (total_at k.totals t ≤ bias + 2 ^ 43)
+total_near g k t e good had none is =
+    let seen = seen_by_keeper g k good had in
+    let here : IsIn e (slot_at g.slots t) = subst (λ (x : List Slot). IsIn e (slot_at x t)) seen.slots is in
+    let total = ap (λ (x : List ℕ). total_at x t) seen.totals in
+    let range = total_range good.holds.balance (fit_of g good.holds) t e (ap (adding_at t) (sym seen.due) ∙ none.0) (ap (is_adding_at t) (sym seen.due) ∙ none.1) here in
+    (omega (arith, range.0, total), omega (arith, range.1, total))
+
+-- Of the view
+
+-- what was collected is added with nothing lost
+pub adding_fits : (k : KeeperView) (t old : ℕ) → IsPictured k → k.due ≡ Adding t old → (bias ≤ total_at k.totals t + old) × (total_at k.totals t + old < 2 ^ 64)
+adding_fits k t old pictured due =
+    let seen = seen_by_keeper pictured.g k pictured.good pictured.shown in
+    let total = ap (λ (x : List ℕ). total_at x t) seen.totals in
+    let range = adding_range pictured.g t old pictured.good.holds (sym seen.due ∙ due) in
+    (omega (arith, range.0, total), omega (arith, range.1, total))
+
+-- the keeper is at rest, and the slot's entry is retired with all words collected
+pub bias_within : (k : KeeperView) (t : ℕ) (e : Entry) → IsPictured k → k.due ≡ Rest → slot_at k.slots t ≡ Retired e → are_collected k.settings.cpus (row_of k t) ≡ true → bias ≤ total_at k.totals t
+bias_within k t e pictured rest retired all = omega (arith, total_collected pictured.g k t e pictured.good pictured.shown (none_at_rest k.due t rest) retired all)
+
+-- The entry of t, live or retired, is held: one can be subtracted from the total, and t isn't drained.
+pub record IsHeldIn (k : KeeperView) (t : ℕ) : Type 0 where
+  pub e : Entry
+  pub occupied : IsIn e (slot_at k.slots t)
+  pub slot : t < k.settings.slots
+  pub positive : 0 < total_at k.totals t
+  pub near : total_at k.totals t ≤ bias + 2 ^ 43
+  pub undrained : (f : Entry) → slot_at k.slots t ≡ Retired f → are_collected k.settings.cpus (row_of k t) ≡ true → bias < total_at k.totals t
+
+held_from : (g : State) (k : KeeperView) (t : ℕ) (e : Entry) → Good g → KeeperShown g k → NothingToAdd k.due t → IsIn e (slot_at k.slots t) → 0 < held_in g e.number t → IsHeldIn k t
+held_from g k t e good had none is some =
+    let seen = seen_by_keeper g k good had in
+    let near = total_near g k t e good had none is in
+    let in_list = in_within k.slots t e is in
+    let slots = ap (λ (x : List Slot). length x) seen.slots in
+    let size = good.holds.shape.slots in
+    let settings = ap (λ (z : Settings). z.slots) seen.settings in
+    record {
+      e = e;
+      occupied = is;
+      slot = omega (arith, in_list, slots, size, settings);
+      positive = omega (arith, near.0);
+      near = near.1;
+      undrained = λ f retired all.
+          let total = total_collected g k t f good had none retired all in
+          let one : held_in g e.number t ≡ held_in g f.number t = ap (λ (x : Entry). held_in g x.number t) (retired_one e f (slot_at k.slots t) retired is) in
+          omega (arith, total, one, some);
+    }
+
+-- by the reference that the keeper has taken in, to be subtracted
+pub held_given_up : (k : KeeperView) (t : ℕ) → IsPictured k → k.due ≡ Subtracting t → IsHeldIn k t
+held_given_up k t pictured due =
+    let g = pictured.g in
+    let seen = seen_by_keeper g k pictured.good pictured.shown in
+    let of : g.due ≡ Subtracting t = sym seen.due ∙ due in
+    let gone = due_subtracting g.settings.cpus g.slots g.hands g.due g.locals t of pictured.good.holds.references in
+    let one : subtracting_at t g.due ≡ 1 = ap (subtracting_at t) of ∙ one_self t t refl in
+    held_from g k t gone.0 pictured.good pictured.shown (none_at_subtraction k.due t t due) (inr (ap (λ (x : List Slot). slot_at x t) seen.slots ∙ gone.1)) (omega (arith, one))
+
+-- by the reference that the slot s keeps
+pub held_by_slot : (k : KeeperView) (s d t : ℕ) → IsPictured k → k.due ≡ Rest → kept_at k.keeps s ≡ Some d → slot_of k.slots d ≡ Some t → IsHeldIn k t
+held_by_slot k s d t pictured rest keeps of =
+    let g = pictured.g in
+    let seen = seen_by_keeper g k pictured.good pictured.shown in
+    let has = slot_has k.slots d t of in
+    let some : 0 < held_in g d t = held_kept g.locals g.hands g.keeps g.due d t s (ap (λ (x : List (Option ℕ)). kept_at x s) (sym seen.keeps) ∙ keeps) in
+    held_from g k t has.1.0 pictured.good pictured.shown (none_at_rest k.due t rest) has.1.1 (subst (λ (n : ℕ). 0 < held_in g n t) (sym has.1.2) some)
+
+-- the row of such a slot, of a keeper that is at rest or is about to subtract, has just the entry
+pub row_of_held : (k : KeeperView) (due : Due) (t : ℕ) (x : Slot) → IsHeldIn (record k { due = due }) t → TakenAs k t x → slot_at k.slots t ≡ x
+row_of_held k due t Vacant held taken = ⊎_elim
+    (λ (vacant : slot_at k.slots t ≡ Vacant). vacant)
+    (λ (may : MayVacate k t).
+    let over : bias < total_at k.totals t = held.undrained may.drained.retired.0 may.drained.retired.1 may.drained.collected in
+    absurd (let total = may.drained.total in omega (arith, over, total)))
+    taken
+row_of_held k due t (Live e) held taken = taken
+row_of_held k due t (Retired e) held taken = taken
+
+pub held_not_vacant : (k : KeeperView) (t : ℕ) → IsHeldIn k t → slot_at k.slots t ≡ Vacant → ⊥
+held_not_vacant k t held vacant = not_vacant held.e (slot_at k.slots t) vacant held.occupied

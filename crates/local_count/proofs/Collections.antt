@@ -1,0 +1,170 @@
+-- Collections: what the rows say where a count word is collected, and where all are.
+use Rattle.std.proofs.Common.{◌≡◌, ℕ, ◌+◌, ◌-◌, ◌^◌, ◌<◌, ◌≤◌, List, [], length, get_or, set, true, refl, sym, ap, ◌∙◌, subst, arith, length-set, get_or-set_same, get_or-set_other}
+use Rattle.std.proofs.Math.Seq.{map-set_same}
+use Rattle.atomic_table.specs.Seated.{TableId}
+use Rattle.passive_core.specs.declared.entry.Entry.{Entry}
+use Rattle.passive_core.specs.declared.event.Event.TheVariants.{Collect, TotalAdd}
+use Rattle.passive_core.specs.declared.event.Reply.TheVariants.{Done, Word}
+use Rattle.passive_core.specs.declared.settings.Settings.{Settings}
+use Rattle.passive_core.specs.declared.state.Due.TheVariants.{Rest}
+use Rattle.passive_core.specs.declared.state.Mark.{Mark}
+use Rattle.passive_core.specs.declared.state.Slot.TheVariants.{Vacant, Retired}
+use Rattle.passive_core.specs.Events.{collected}
+use Rattle.passive_core.specs.Slots.{are_collected}
+use Rattle.passive_core.specs.State.{bias, no_mark, slot_at, total_at}
+use Rattle.passive_core.proofs.Cells.{total_here, total_other}
+use Rattle.passive_core.proofs.Fit.{ranges}
+use Rattle.passive_core.proofs.ListKeeps.{rows_put}
+use Rattle.cpu_words.specs.declared.view.KeeperView.{KeeperView}
+use Rattle.cpu_words.specs.declared.view.View.TheVariants.{Keeper}
+use Rattle.cpu_words.specs.Draining.{row_of, HasCollected, MayTotalAdd, HasAdded}
+use Rattle.cpu_words.specs.Rule.{IsPictured}
+use Rattle.cpu_words.specs.Steps.{Makes}
+use Rattle.cpu_words.proofs.Pictures.{pictured_by}
+use Rattle.passive_list.specs.declared.keeper.Row.{Row}
+use Rattle.passive_list.specs.Keepers.{OnKeeper, no_row, row_at, state_of, states_of, TakenAs, IsAtRest, RowsAgree, IsOurKeeper}
+use Rattle.passive_list.proofs.Rows.{state_at, retired_in, row_stays, rows_set}
+use Rattle.local_count.specs.Draining.{collecting, HasCollectedInto, AreHeld}
+use Rattle.local_count.proofs.Balanced.{none_at_rest, total_collected, bias_within, adding_fits}
+
+-- The marks and the total of one slot change
+
+abbrev pub with_total : KeeperView → ℕ → List Mark → ℕ → List ℕ → KeeperView
+with_total k t marks total given_up = record k { marks = set k.marks t marks; totals = set k.totals t total; due = Rest; given_up = given_up }
+
+abbrev pub row_with_total : Row → List Mark → ℕ → Row
+row_with_total r marks total = record { state = r.state; marks = marks; total = total; keeps = r.keeps }
+
+with_total_at_rest : (a : Settings) (k : KeeperView) (t : ℕ) (marks : List Mark) (total : ℕ) (given_up : List ℕ) → IsAtRest a k → length marks ≡ 8 → IsAtRest a (with_total k t marks total given_up)
+with_total_at_rest a k t marks total given_up at size = record {
+  settings = at.settings;
+  fit = at.fit;
+  rest = refl;
+  seated = at.seated;
+  sized = record {
+    slots = at.sized.slots;
+    marks = length-set k.marks t marks ∙ at.sized.marks;
+    mark_rows = rows_put k.marks t marks size at.sized.mark_rows;
+    keeps = at.sized.keeps;
+    next = at.sized.next;
+    rows = at.sized.rows;
+    totals = length-set k.totals t total ∙ at.sized.totals;
+    counts = at.sized.counts;
+    count_rows = at.sized.count_rows;
+  };
+  room = at.room;
+}
+
+with_total_rows : (a : Settings) (k : KeeperView) (rows : List Row) (t : ℕ) (e : Entry) (marks : List Mark) (total : ℕ) (given_up : List ℕ) → IsAtRest a k → RowsAgree a k rows → slot_at (states_of rows) t ≡ Retired e
+    → RowsAgree a (with_total k t marks total given_up) (set rows t (row_with_total (row_at rows t) marks total))
+with_total_rows a k rows t e marks total given_up at agree is =
+    let l = with_total k t marks total given_up in
+    let retired = retired_in a k rows t e agree is in
+    let lt = retired.0 in
+    let most = (ranges a at.fit).slots in
+    let state : (row_at rows t).state ≡ Retired e = sym (state_at rows t) ∙ is in
+    rows_set a k l rows t (row_with_total (row_at rows t) marks total) lt (omega (arith, lt, most)) agree
+    record {
+      state = subst (TakenAs l t) (sym state) retired.1;
+      marks = sym (get_or-set_same k.marks t marks [] (let size = at.sized.marks in omega (arith, lt, size)));
+      total = sym (total_here k.totals t total (let size = at.sized.totals in omega (arith, lt, size)));
+      keeps = (agree.each t lt).keeps;
+      unused = λ vacant. absurd (let q : Retired e ≡ Vacant = sym state ∙ vacant in cc);
+    }
+    (λ u off was. row_stays k l u (row_at rows u) refl refl refl (get_or-set_other k.marks t u marks [] off) (total_other k.totals t total u off) refl was)
+
+-- the keeper's data agree with such a view, where the slot's entry is retired
+pub with_total_keeper : (z : TableId) (a : Settings) (table table' : TableId) (k l : KeeperView) (its : Settings) (rows : List Row) (n t : ℕ) (e : Entry) (marks : List Mark) (total : ℕ) (given_up : List ℕ)
+    → IsOurKeeper z a table k its rows n → slot_at (states_of rows) t ≡ Retired e → length marks ≡ 8 → table' ≡ table → l ≡ with_total k t marks total given_up → IsPictured l
+    → IsOurKeeper z a table' l its (set rows t (row_with_total (row_at rows t) marks total)) n
+with_total_keeper z a table table' k l its rows n t e marks total given_up our is size same change pictured = record {
+  table = same ∙ our.table;
+  settings = our.settings;
+  view = subst (IsAtRest a) (sym change) (with_total_at_rest a k t marks total given_up our.view size);
+  pictured = pictured;
+  changes = our.changes ∙ sym (ap (λ (x : KeeperView). length x.history) change);
+  rows = subst (λ (x : KeeperView). RowsAgree a x (set rows t (row_with_total (row_at rows t) marks total))) (sym change) (with_total_rows a k rows t e marks total given_up our.view our.rows is);
+}
+
+-- A collection
+
+-- the word w was collected for the retired entry of t, and is to be added to the total in the slot's row
+pub record CollectionTells (k : KeeperView) (rows : List Row) (t w : ℕ) : Type 0 where
+  pub place : t < 32
+  pub floor : bias ≤ (row_at rows t).total + w
+  pub fits : (row_at rows t).total + w < 2 ^ 64
+  pub may : (old : ℕ) × MayTotalAdd k t old ((row_at rows t).total + w - bias)
+
+pub collection_tells : (z : TableId) (a : Settings) (table : TableId) (k l : KeeperView) (its : Settings) (rows : List Row) (n : ℕ) (x : OnKeeper) (t c w : ℕ) (e : Entry) → IsOurKeeper z a table k its rows n → record { view = k; slots = states_of rows } ≡ x
+    → slot_at x.slots t ≡ Retired e → HasCollected k t c w l → Makes (Collect t c) (Word w) (Keeper k) (Keeper l) → CollectionTells l rows t w
+collection_tells z a table k l its rows n x t c w e our is retired change made =
+    let lt = (retired_in a k rows t e our.rows (ap (λ (y : OnKeeper). slot_at y.slots t) is ∙ retired)).0 in
+    let most = (ranges a our.view.fit).slots in
+    let due = ap (λ (v : KeeperView). v.due) change in
+    let total : (row_at rows t).total ≡ total_at l.totals t = (our.rows.each t lt).total ∙ sym (ap (λ (v : KeeperView). total_at v.totals t) change) in
+    let range = adding_fits l t w (pictured_by (Collect t c) (Word w) k l made) due in
+    record {
+      place = omega (arith, lt, most);
+      floor = omega (arith, range.0, total);
+      fits = omega (arith, range.1, total);
+      may = (w, record { due = due; sum = ap (λ (v : ℕ). v + w - bias) total });
+    }
+
+-- the view after it, and the word is added
+added_is : (k l b : KeeperView) (rows : List Row) (t c w : ℕ) (m : Mark) → (row_at rows t).marks ≡ row_of k t → HasCollected k t c w l → m ≡ collected (get_or (row_at rows t).marks c no_mark) → HasAdded l t ((row_at rows t).total + w - bias) b
+    → b ≡ with_total k t (set (row_at rows t).marks c m) ((row_at rows t).total + w - bias) k.given_up
+added_is k l b rows t c w m row change mark added =
+    let v = (row_at rows t).total + w - bias in
+    added ∙ ap (λ (x : KeeperView). record x { totals = set x.totals t v; due = Rest }) change
+    ∙ sym (ap (λ (x : Mark). with_total k t (set (row_at rows t).marks c x) v k.given_up) mark ∙ ap (λ (ms : List Mark). with_total k t (set ms c (collected (get_or ms c no_mark))) v k.given_up) row)
+
+pub collected_keeper : (z : TableId) (a : Settings) (table table' : TableId) (k l b : KeeperView) (its : Settings) (rows : List Row) (n : ℕ) (x : OnKeeper) (t c w : ℕ) (e : Entry) (m : Mark) → IsOurKeeper z a table k its rows n → record { view = k; slots = states_of rows } ≡ x
+    → slot_at x.slots t ≡ Retired e → HasCollected k t c w l → m ≡ collected (get_or (row_at rows t).marks c no_mark) → HasAdded l t ((row_at rows t).total + w - bias) b → Makes (TotalAdd t) Done (Keeper l) (Keeper b) → table' ≡ table
+    → IsOurKeeper z a table' b its (set rows t (row_with_total (row_at rows t) (set (row_at rows t).marks c m) ((row_at rows t).total + w - bias))) n
+collected_keeper z a table table' k l b its rows n x t c w e m our is retired change mark added made same =
+    let here = ap (λ (y : OnKeeper). slot_at y.slots t) is ∙ retired in
+    let lt = (retired_in a k rows t e our.rows here).0 in
+    let row = (our.rows.each t lt).marks in
+    let size = our.view.sized.marks in
+    let long : length (set (row_at rows t).marks c m) ≡ 8 = length-set (row_at rows t).marks c m ∙ (ap (λ (ms : List Mark). length ms) row ∙ our.view.sized.mark_rows t (omega (arith, lt, size))) in
+    with_total_keeper z a table table' k b its rows n t e (set (row_at rows t).marks c m) ((row_at rows t).total + w - bias) k.given_up our here long same (added_is k l b rows t c w m row change mark added) (pictured_by (TotalAdd t) Done l b made)
+
+pub collected_into : (z : TableId) (a : Settings) (table : TableId) (k l b : KeeperView) (its : Settings) (rows : List Row) (n : ℕ) (x : OnKeeper) (t c w : ℕ) (e : Entry) (r : Row) → IsOurKeeper z a table k its rows n → record { view = k; slots = states_of rows } ≡ x
+    → slot_at x.slots t ≡ Retired e → HasCollected k t c w l → Makes (Collect t c) (Word w) (Keeper k) (Keeper l) → HasAdded l t ((row_at rows t).total + w - bias) b → Makes (TotalAdd t) Done (Keeper l) (Keeper b) → r.state ≡ (row_at rows t).state
+    → HasCollectedInto x t c (record { view = b; slots = states_of (set rows t r) })
+collected_into z a table k l b its rows n x t c w e r our is retired change made added made_too state =
+    let lt = (retired_in a k rows t e our.rows (ap (λ (y : OnKeeper). slot_at y.slots t) is ∙ retired)).0 in
+    let v = (row_at rows t).total + w - bias in
+    let total : v ≡ total_at k.totals t + w - bias = ap (λ (u : ℕ). u + w - bias) (our.rows.each t lt).total in
+    subst (λ (y : OnKeeper). HasCollectedInto y t c (record { view = b; slots = states_of (set rows t r) })) is record {
+      word = w;
+      collected = subst (λ (y : KeeperView). Makes (Collect t c) (Word w) (Keeper k) (Keeper y)) change made;
+      added = subst (λ (y : KeeperView). Makes (TotalAdd t) Done (Keeper y) (Keeper b)) change made_too;
+      view = added ∙ ap (λ (y : KeeperView). record y { totals = set y.totals t v; due = Rest }) change ∙ (λ i. record (collecting k t c w) { totals = set k.totals t (total i); due = sym our.view.rest i });
+      slots = map-set_same state_of rows t r no_row state;
+    }
+
+-- Once all words are collected
+
+pub record TotalTells (k : KeeperView) (t total : ℕ) : Type 0 where
+  pub floor : bias ≤ total
+  pub is : total - bias + bias ≡ total_at k.totals t
+  pub held : AreHeld k t (total - bias)
+
+-- the row of a retired slot has the total, which is the bias and what is held
+pub total_tells : (z : TableId) (a : Settings) (table : TableId) (k : KeeperView) (its : Settings) (rows : List Row) (n : ℕ) (x : OnKeeper) (t : ℕ) (e : Entry) → IsOurKeeper z a table k its rows n → record { view = k; slots = states_of rows } ≡ x
+    → slot_at x.slots t ≡ Retired e → are_collected a.cpus (row_of x.view t) ≡ true → TotalTells x.view t (row_at rows t).total
+total_tells z a table k its rows n x t e our is retired all =
+    let here = retired_in a k rows t e our.rows (ap (λ (y : OnKeeper). slot_at y.slots t) is ∙ retired) in
+    let total : (row_at rows t).total ≡ total_at k.totals t = (our.rows.each t here.0).total in
+    let told : are_collected k.settings.cpus (row_of k t) ≡ true = (λ i. are_collected (our.view.settings i).cpus (row_of (is i).view t)) ∙ all in
+    let floor = bias_within k t e our.pictured our.view.rest here.1 told in
+    subst (λ (y : OnKeeper). TotalTells y.view t (row_at rows t).total) is record {
+      floor = omega (arith, floor, total);
+      is = omega (arith, floor, total);
+      held = record {
+        e = e;
+        retired = here.1;
+        held = λ g good shown. let sum = total_collected g k t e good shown (none_at_rest k.due t our.view.rest) here.1 told in omega (arith, sum, total);
+      };
+    }
