@@ -2,4 +2,4 @@ use Rattle.passive_list.proofs.thread_tests.a_lookup_finds_what_another_thread_p
 
 -- the table that was just made
 abbrev pub ghosts-one_lookup : goal.ghosts-one_lookup
-ghosts-one_lookup g a = record { table = a.words.now.table; settings = a.words.now.settings }
+ghosts-one_lookup g a = record { table = a.table.words.table; settings = a.table.words.settings }
