@@ -2,4 +2,4 @@ use Rattle.reference_tests.proofs.thread_tests.a_reference_is_released_on_anothe
 
 -- the table that was just made
 abbrev pub ghosts-one_reference : goal.ghosts-one_reference
-ghosts-one_reference g a = record { table = a.words.now.table; settings = a.words.now.settings }
+ghosts-one_reference g a = record { table = a.table.words.table; settings = a.table.words.settings }
