@@ -2,6 +2,8 @@ ghost use Rattle.std.specs.Prelude.{◌≡◌, IsTrue, IfOk};
 ghost use Rattle.passive_core.specs.Limits.{are_fit};
 ghost use Rattle.cpu_words.specs.Views.{new_cpu};
 
+mod rows;
+
 use crate::{Cpu, enter, exit, find, hear, tell};
 use cpu_words::{CpuSeat, Domain, Words};
 use passive_core::{Kind, Name, Refusal, Settings};

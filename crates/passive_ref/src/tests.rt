@@ -5,7 +5,7 @@ ghost use Rattle.passive_ref.specs.declared.tests.TheConstants.{SETTINGS};
 
 use crate::{Psref, acquire, copy, held, look_passive, read, release};
 use cpu_words::{CpuSeat, Domain, KeeperSeat, Words};
-use passive_core::{Kind, Name, Record, Refusal, Settings};
+use passive_core::{Entry, Kind, Name, Record, Refusal, Settings};
 use passive_list::{Cpu, Keeper, SlotState, enter, exit, find, look, publish, retire};
 use std::alloc::Global;
 use std::marker::Brand;
@@ -54,7 +54,7 @@ struct Registry<D: Domain> {
     keeper: Keeper<D>,
     first: Cpu<D>,
     second: Cpu<D>,
-    driver: Record,
+    driver: Entry,
     ghost table: { words.table ≡ D.table },
     ghost settings: { words.settings ≡ D.settings },
     ghost sizes: { (D.settings.cpus ≡ 2) × (D.settings.slots ≡ 2) },
@@ -70,35 +70,32 @@ impl<D: Domain> Registry<D> {
             first,
             second,
         } = table;
-        let driver = Record {
+        let rec = Record {
             kind: Kind::Driver,
             name: Name::parse(b"wm0")?,
             value: 1500,
         };
         let mut keeper = Keeper::<D>::of_seat(keeper, SETTINGS);
-        publish(&words, &mut keeper, 0, driver);
+        publish(&words, &mut keeper, 0, rec);
         Ok(Registry {
             words,
             keeper,
             first: Cpu::of_seat(first, 0),
             second: Cpu::of_seat(second, 1),
-            driver,
+            driver: Entry {
+                number: 1,
+                slot: 0,
+                rec,
+            },
         })
     }
 
     /// CPU 0 finds the driver, in its open section.
     fn find<R: Abort>(&mut self, rt: &R) {
         assert!(rt; self.first.inside());
-        let found = find(
-            &self.words,
-            &mut self.first,
-            Kind::Driver,
-            &self.driver.name,
-        );
-        assert_eq!(rt;
-            found.map(|entry| (entry.number, entry.slot, entry.rec)),
-            Some((1, 0, self.driver))
-        );
+        let name = &self.driver.rec.name;
+        let found = find(&self.words, &mut self.first, Kind::Driver, name);
+        assert_eq!(rt; found, Some(self.driver));
     }
 
     /// CPU 0 exits its section.
@@ -188,12 +185,13 @@ fn one_reference<D: Domain, R: Abort>(rt: &R, table: Table) -> Result<(), Fail>
 {
     let registry = &mut Registry::<D>::with_driver(table)?;
     let a = registry.acquired(rt)?;
+    assert_eq!(rt; (a.cpu(), a.number()), (0, 1));
     registry.retire(rt);
     assert_eq!(rt; registry.looks(rt), [true, true]);
     assert_eq!(rt; registry.passive_looks(rt), [false, true]);
     assert_eq!(rt;
         read(&registry.words, &mut registry.first, &a),
-        Ok(registry.driver)
+        Ok(registry.driver.rec)
     );
     registry.release(rt, a);
     assert_eq!(rt; registry.passive_looks(rt), [true, true]);
@@ -261,16 +259,23 @@ fn up_to_the_limit<D: Domain, R: Abort>(rt: &R, table: Table) -> Result<(), Fail
     requires { (table.words.table ≡ D.table) × (table.words.settings ≡ D.settings) }
 {
     let registry = &mut Registry::<D>::with_driver(table)?;
+    enter(&registry.words, &mut registry.first)?;
     assert_eq!(rt;
         refusal(acquire(&registry.words, &mut registry.first)),
         Some(Refusal::NothingFound)
     );
-    registry.acquired(rt)?.forget();
-    let a = registry.acquired(rt)?;
+    registry.find(rt);
+    acquire(&registry.words, &mut registry.first)?.forget();
+    let a = acquire(&registry.words, &mut registry.first)?;
+    assert_eq!(rt;
+        refusal(acquire(&registry.words, &mut registry.first)),
+        Some(Refusal::PassiveFull)
+    );
     assert_eq!(rt;
         refusal(copy(&registry.words, &mut registry.first, &a)),
         Some(Refusal::PassiveFull)
     );
+    registry.exit(rt);
     registry.release(rt, a);
     registry.retire(rt);
     assert_eq!(rt; registry.looks(rt), [true, true]);
@@ -283,7 +288,7 @@ fn up_to_the_limit<D: Domain, R: Abort>(rt: &R, table: Table) -> Result<(), Fail
 }
 
 #[test]
-fn stranger(rt: HostRuntime) -> Result<(), Fail> {
+fn a_reference_of_another_registry(rt: HostRuntime) -> Result<(), Fail> {
     let (own, other) = (opened(rt.alloc())?, opened(rt.alloc())?);
     shown_to_another::<Brand, Brand, _>(&rt, own, other)
 }

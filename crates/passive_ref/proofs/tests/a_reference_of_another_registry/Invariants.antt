@@ -1,4 +1,4 @@
-use Rattle.passive_ref.proofs.tests.stranger.Given as goal
+use Rattle.passive_ref.proofs.tests.a_reference_of_another_registry.Given as goal
 
 -- the two tables that were just made
 abbrev pub ghosts-shown_to_another-D-Domain : goal.ghosts-shown_to_another-D-Domain
