@@ -1,89 +1,49 @@
 //! Tests on two threads: what one publishes, the other finds.
 
 ghost use Rattle.std.specs.Prelude.{◌≡◌, IsTrue, replicate};
+ghost use Rattle.passive_core.specs.declared.entry.Kind.TheVariants.{Driver};
 ghost use Rattle.passive_core.specs.declared.state.Slot.TheVariants.{Vacant};
 ghost use Rattle.passive_core.specs.Names.{is_lawful};
 ghost use Rattle.cpu_words.specs.Opening.{keeper_with};
-ghost use Rattle.cpu_words.specs.Views.{new_cpu};
-ghost use Rattle.passive_list.specs.declared.thread_tests.TheConstants.{TWO_CPUS};
+ghost use Rattle.passive_list.specs.declared.tests.table.TheConstants.{SETTINGS};
 
+use crate::tests::table::{SETTINGS, Table, driver, opened};
 use crate::{Cpu, Keeper, Note, enter, exit, find, hear, publish, tell, tell_keeper};
-use cpu_words::{CpuSeat, Domain, KeeperSeat, Words};
-use passive_core::{Kind, Name, Record, Refusal, Settings};
-use std::alloc::Global;
+use cpu_words::{Domain, KeeperSeat, Words};
+use passive_core::{Kind, Name, Record, Refusal};
 use std::marker::Brand;
 use std::process::Abort;
 use std::sync::atomic::{AtomicBool, Ordering};
 use std::test::*;
 use std::thread::{Threads, join, yield_now};
 
-const TWO_CPUS: Settings = Settings {
-    cpus: 2,
-    slots: 1,
-    change_limit: 2,
-    section_limit: 1 << 40,
-    passive_limit: 1,
-    count_limit: 1,
-};
-
 /// After so many turns a side gives up, and the test fails.
 const TURNS: u32 = 10_000_000;
-
-/// A new table, before it is named.
-#[derive(Drop)]
-struct Table {
-    words: Words,
-    keeper: KeeperSeat,
-    first: CpuSeat,
-    second: CpuSeat,
-    ghost settings: { words.settings ≡ TWO_CPUS },
-    ghost with_keeper: { (keeper.table ≡ words.table) × (keeper.view ≡ keeper_with TWO_CPUS 2) },
-    ghost with_first: { (first.table ≡ words.table) × (first.view ≡ new_cpu TWO_CPUS 0) },
-    ghost with_second: { (second.table ≡ words.table) × (second.view ≡ new_cpu TWO_CPUS 1) },
-}
-
-fn opened(alloc: Global) -> Result<Table, Fail> {
-    let (words, keeper, mut seats) = Words::new(alloc, TWO_CPUS)?;
-    match (seats.pop(), seats.pop()) {
-        (Some(second), Some(first)) => Ok(Table {
-            words,
-            keeper,
-            first,
-            second,
-        }),
-        _ => Err(Fail::from("two seats")),
-    }
-}
 
 /// The keeper of a registry in which nothing was published yet.
 #[derive(Drop)]
 struct NewKeeper<D: Domain> {
     keeper: Keeper<D>,
-    ghost settings: { D.settings ≡ TWO_CPUS },
-    ghost new: { (keeper.view ≡ keeper_with TWO_CPUS 2) × (keeper.slots ≡ replicate 32 Vacant) },
+    ghost settings: { D.settings ≡ SETTINGS },
+    ghost new: { (keeper.view ≡ keeper_with SETTINGS 2) × (keeper.slots ≡ replicate 32 Vacant) },
 }
 
 impl<D: Domain> NewKeeper<D> {
     fn of_seat(seat: KeeperSeat) -> NewKeeper<D>
-        requires domain { (seat.table ≡ D.table) × (D.settings ≡ TWO_CPUS) }
-        requires new { seat.view ≡ keeper_with TWO_CPUS 2 }
+        requires domain { (seat.table ≡ D.table) × (D.settings ≡ SETTINGS) }
+        requires new { seat.view ≡ keeper_with SETTINGS 2 }
     {
         NewKeeper {
-            keeper: Keeper::of_seat(seat, TWO_CPUS),
+            keeper: Keeper::of_seat(seat, SETTINGS),
         }
     }
 
-    /// Publishes the driver of this name. It answers the number, and a note of what the keeper has seen then.
-    fn publish(self, words: &Words, name: Name) -> (u64, Note<D>)
+    /// Publishes the driver. It answers the number, and a note of what the keeper has seen then.
+    fn publish(self, words: &Words, driver: Record) -> (u64, Note<D>)
         requires words { (words.now.table ≡ D.table) × (words.now.settings ≡ D.settings) }
-        requires name { IsTrue (is_lawful name) }
+        requires driver { IsTrue (is_lawful driver.name) × (driver.kind ≡ Driver) }
     {
         let NewKeeper { mut keeper } = self;
-        let driver = Record {
-            kind: Kind::Driver,
-            name,
-            value: 7,
-        };
         let entry = publish(words, &mut keeper, 0, driver);
         (entry.number, tell_keeper(words, &mut keeper))
     }
@@ -109,17 +69,17 @@ fn one_lookup<D: Domain + Send, R: Threads + Abort>(rt: &R, table: Table) -> Res
 {
     let keeper = NewKeeper::<D>::of_seat(table.keeper);
     let cpu = Cpu::<D>::of_seat(table.first, 0);
-    let name = Name::parse(b"wm")?;
+    let driver = driver(b"wm", 7)?;
     let (words, missed) = (&table.words, &AtomicBool::new(false));
     let (found, published) = join(
         rt,
         move || -> Option<u64>
             requires words { (words.now.table ≡ D.table) × (words.now.settings ≡ D.settings) }
-        { find_at_last(words, cpu, &name, missed) },
+        { find_at_last(words, cpu, &driver.name, missed) },
         move || -> Option<u64>
             requires words { (words.now.table ≡ D.table) × (words.now.settings ≡ D.settings) }
-            requires name { IsTrue (is_lawful name) }
-        { publish_once_missed(words, keeper, name, missed) },
+            requires driver { IsTrue (is_lawful driver.name) × (driver.kind ≡ Driver) }
+        { publish_once_missed(words, keeper, driver, missed) },
     );
     assert_eq!(rt; published, Some(1));
     assert_eq!(rt; found, Some(1));
@@ -165,16 +125,16 @@ fn find_in_section<D: Domain>(
 fn publish_once_missed<D: Domain>(
     words: &Words,
     keeper: NewKeeper<D>,
-    name: Name,
+    driver: Record,
     missed: &AtomicBool,
 ) -> Option<u64>
     requires words { (words.now.table ≡ D.table) × (words.now.settings ≡ D.settings) }
-    requires name { IsTrue (is_lawful name) }
+    requires driver { IsTrue (is_lawful driver.name) × (driver.kind ≡ Driver) }
 {
     if !was_set(missed) {
         return None;
     }
-    Some(keeper.publish(words, name).0)
+    Some(keeper.publish(words, driver).0)
 }
 
 /// Waits until the flag is set: false where it gave up.
@@ -200,7 +160,7 @@ fn told_twice<D: Domain + Send, R: Threads + Abort>(rt: &R, table: Table) -> Res
     let keeper = NewKeeper::<D>::of_seat(table.keeper);
     let mut first = Cpu::<D>::of_seat(table.first, 0);
     let mut second = Cpu::<D>::of_seat(table.second, 1);
-    let name = Name::parse(b"wm")?;
+    let driver = driver(b"wm", 7)?;
     let words = &table.words;
     enter(words, &mut first)?;
     enter(words, &mut second)?;
@@ -208,16 +168,16 @@ fn told_twice<D: Domain + Send, R: Threads + Abort>(rt: &R, table: Table) -> Res
         rt,
         move || -> (u64, Note<D>)
             requires words { (words.now.table ≡ D.table) × (words.now.settings ≡ D.settings) }
-            requires name { IsTrue (is_lawful name) }
-        { keeper.publish(words, name) },
+            requires driver { IsTrue (is_lawful driver.name) × (driver.kind ≡ Driver) }
+        { keeper.publish(words, driver) },
         || (),
     );
-    let (found, note) = find_once_told(words, first, &name, note);
+    let (found, note) = find_once_told(words, first, &driver.name, note);
     let ((found_there, _), _) = join(
         rt,
         move || -> (Option<u64>, Note<D>)
             requires words { (words.now.table ≡ D.table) × (words.now.settings ≡ D.settings) }
-        { find_once_told(words, second, &name, note) },
+        { find_once_told(words, second, &driver.name, note) },
         || (),
     );
     assert_eq!(rt; (published, found, found_there), (1, Some(1), Some(1)));
