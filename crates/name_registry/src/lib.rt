@@ -10,3 +10,6 @@ mod plain;
 pub use attaching::{attach_iface_in, attach_in};
 pub use detaching::detach_in;
 pub use law::free_interlock;
+
+#[cfg(test)]
+mod thread_tests;
