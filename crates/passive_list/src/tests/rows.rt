@@ -143,8 +143,10 @@ fn begun_after_the_unlinking<D: Domain, R: Abort>(rt: &R, table: Table) -> Resul
     let entry = publish(&registry.words, &mut registry.keeper, 0, rec);
     assert_eq!(rt; retire(&registry.words, &mut registry.keeper, 0), entry);
     assert_eq!(rt; registry.keeper.slot(0), SlotState::Retired(entry));
-    enter(&registry.words, &mut registry.first)?;
-    assert_eq!(rt; registry.find(rt, &rec.name), None);
+    enter(&registry.words, &mut registry.second)?;
+    assert!(rt; registry.second.inside());
+    let found = find(&registry.words, &mut registry.second, rec.kind, &rec.name);
+    assert_eq!(rt; found, None);
     assert_eq!(rt; registry.looks(rt), [true, true]);
     Ok(())
 }
