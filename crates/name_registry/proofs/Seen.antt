@@ -1,6 +1,7 @@
 -- What a look tells that wasn't passed: the word that the keeper saw.
 use Rattle.std.proofs.Common.{◌≡◌, ◌≢◌, ◌∙◌, ℕ, ◌<◌, ◌%◌, Bool, true, false, not, ◌||◌, ◌==◌, List, Option, Some, None, refl, sym, ap, subst, arith}
 use Rattle.std.proofs.lemmas.Bool.{or_parts, eqb-true, eqb-false}
+use Rattle.passive_core.specs.declared.event.Event.{Event}
 use Rattle.passive_core.specs.declared.event.Event.TheVariants.{Look, PassiveLook}
 use Rattle.passive_core.specs.declared.event.Reply.TheVariants.{Word}
 use Rattle.passive_core.specs.declared.settings.Settings.{Settings}
@@ -17,8 +18,8 @@ use Rattle.cpu_words.specs.Grace.{HasLooked}
 use Rattle.cpu_words.specs.Steps.{Makes}
 use Rattle.cpu_words.proofs.KeeperSees.{seen_by_keeper}
 use Rattle.passive_list.specs.Keepers.{OnKeeper}
-use Rattle.name_registry.specs.Advancing.{MayWork, SeesSection, SeesPassive}
-use Rattle.name_registry.proofs.Worked.{mark_put}
+use Rattle.name_registry.specs.Advancing.{MayWork, HasWorkedFor, HasLookedFor, HasLookedLast, SeesSection, SeesPassive, MeetsGrace, MeetsPassive, PassedBelow, ClearBelow}
+use Rattle.name_registry.proofs.Worked.{mark_put, looked_more, still_passed, still_clear}
 
 odd_if : (w : ℕ) → is_even w ≡ false → w % 2 ≡ 1
 odd_if w is = let off = eqb-false (w % 2) 0 is in omega (arith, off)
@@ -72,4 +73,37 @@ sees_passive z a b t c w may cpu change made unset =
       look = record { more = let looks = ap (λ (l : KeeperView). l.looks) change in omega (arith, looks); last = ap (λ (l : KeeperView). l.last_look) change };
       some = eqb-false w 0 (or_parts m.clear (w == 0) (sym (ap (λ (n : Mark). n.clear) there) ∙ unset)).1;
       unclear = unset;
+    }
+
+-- what was seen since b was seen since a, which was before
+
+looked_since : (a b d : OnKeeper) (t w : ℕ) (ev : Event) → HasWorkedFor a t b → HasLookedLast b.view d.view ev w → HasLookedLast a.view d.view ev w
+looked_since a b d t w ev worked last = record { more = let first = worked.looks in let then = last.more in omega (arith, first, then); last = last.last }
+
+section_since : (a b d : OnKeeper) (t c : ℕ) → HasWorkedFor a t b → SeesSection b t c d → SeesSection a t c d
+section_since a b d t c worked sees = record { word = sees.word; look = looked_since a b d t sees.word _ worked sees.look; odd = sees.odd; snapshot = sees.snapshot; unpassed = sees.unpassed }
+
+passive_since : (a b d : OnKeeper) (t c : ℕ) → HasWorkedFor a t b → SeesPassive b t c d → SeesPassive a t c d
+passive_since a b d t c worked sees = record { word = sees.word; look = looked_since a b d t sees.word _ worked sees.look; some = sees.some; unclear = sees.unclear }
+
+-- The first CPU of all that a look stops at
+
+pub grace_met : (z : Settings) (a b d : OnKeeper) (t c : ℕ) → MayWork z a t → c < z.cpus → HasLookedFor a t b → PassedBelow b.view t c → HasLookedFor b t d → SeesSection b t c d → MeetsGrace a t c d
+grace_met z a b d t c may cpu before passed looked_ sees = record {
+  cpu = subst (λ (s : Settings). c < s.cpus) (sym may.settings) cpu;
+  sees = section_since a b d t c before.worked sees;
+  lesser = still_passed b d t c looked_.worked passed;
+  leaves = looked_more a b d t before looked_;
+}
+
+pub passive_met : (z : Settings) (a b d : OnKeeper) (t c : ℕ) → MayWork z a t → c < z.cpus → PassedBelow a.view t z.cpus → HasLookedFor a t b → ClearBelow b.view t c → HasLookedFor b t d → SeesPassive b t c d → MeetsPassive a t c d
+passive_met z a b d t c may cpu passed before clear looked_ sees =
+    let leaves = looked_more a b d t before looked_ in
+    let settings : d.view.settings ≡ z = ap (λ (k : KeeperView). k.settings) leaves.worked.only ∙ may.settings in
+    record {
+      cpu = subst (λ (s : Settings). c < s.cpus) (sym may.settings) cpu;
+      sees = passive_since a b d t c before.worked sees;
+      passed = subst (λ (s : Settings). PassedBelow d.view t s.cpus) (sym settings) (still_passed a d t z.cpus leaves.worked passed);
+      lesser = still_clear b d t c looked_.worked clear;
+      leaves = leaves;
     }
