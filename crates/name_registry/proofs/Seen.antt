@@ -1,5 +1,5 @@
 -- What a look tells that wasn't passed: the word that the keeper saw.
-use Rattle.std.proofs.Common.{◌≡◌, ◌≢◌, ◌∙◌, ℕ, ◌<◌, ◌%◌, Bool, true, false, not, ◌||◌, ◌==◌, List, Option, Some, None, refl, sym, ap, subst, arith}
+use Rattle.std.proofs.Common.{◌≡◌, ◌∙◌, ℕ, ◌<◌, ◌%◌, Bool, true, false, not, ◌||◌, ◌==◌, List, Option, Some, None, refl, sym, ap, subst, arith}
 use Rattle.std.proofs.lemmas.Bool.{or_parts, eqb-true, eqb-false}
 use Rattle.passive_core.specs.declared.event.Event.{Event}
 use Rattle.passive_core.specs.declared.event.Event.TheVariants.{Look, PassiveLook}

@@ -1,5 +1,5 @@
 -- What looks and collections for a retired entry ask of the keeper, and what they leave.
-use Rattle.std.proofs.Common.{◌≡◌, ◌∙◌, inr, ℕ, ◌<◌, ◌≤◌, Bool, true, false, ◌||◌, ◌==◌, List, [], get_or, Option, Some, None, refl, sym, ap, subst, arith}
+use Rattle.std.proofs.Common.{◌≡◌, ◌∙◌, inr, ℕ, ◌+◌, ◌<◌, Bool, true, false, List, [], get_or, Option, Some, None, refl, sym, ap, subst, arith}
 use Rattle.std.proofs.lemmas.Bool.{or_left}
 use Rattle.atomic_table.specs.Seated.{TableId}
 use Rattle.passive_core.specs.declared.entry.Entry.{Entry}
@@ -8,13 +8,12 @@ use Rattle.passive_core.specs.declared.entry.Kind.TheVariants.{Iface, Driver}
 use Rattle.passive_core.specs.declared.event.Event.{Event}
 use Rattle.passive_core.specs.declared.event.Reply.{Reply}
 use Rattle.passive_core.specs.declared.settings.Settings.{Settings}
-use Rattle.passive_core.specs.declared.state.Due.TheVariants.{Rest}
 use Rattle.passive_core.specs.declared.state.Mark.{Mark}
 use Rattle.passive_core.specs.declared.state.Slot.{Slot}
 use Rattle.passive_core.specs.declared.state.Slot.TheVariants.{Retired}
-use Rattle.passive_core.specs.Advancing.{Grows, MarksGrow}
+use Rattle.passive_core.specs.Advancing.{Grows}
 use Rattle.passive_core.specs.Events.{looked, cleared, collected, keeps_rightly}
-use Rattle.passive_core.specs.Invariant.{IsIn, DriversKept}
+use Rattle.passive_core.specs.Invariant.{DriversKept}
 use Rattle.passive_core.specs.Slots.{have_passed, are_clear, are_collected}
 use Rattle.passive_core.specs.State.{State, bias, opening, slot_at, mark_at, total_at, kept_at, with_cell}
 use Rattle.passive_core.proofs.Advancing.{mark_grows, mark_there, marks_grow_none, marks_grow_more, passed_from, clear_from, collected_from}
@@ -155,9 +154,9 @@ still_clear a b t n worked each c lt = (worked.marks.here c).clear (each c lt)
 pub still_collected : (a b : OnKeeper) (t n : ℕ) → HasWorkedFor a t b → CollectedBelow a.view t n → CollectedBelow b.view t n
 still_collected a b t n worked each c lt = (worked.marks.here c).collected (each c lt)
 
--- nothing is held of a slot with all marks and a total of just the bias
-pub is_drained : (z : Settings) (x : OnKeeper) (t : ℕ) → MayWork z x t → PassedBelow x.view t z.cpus → ClearBelow x.view t z.cpus → CollectedBelow x.view t z.cpus → total_at x.view.totals t ≡ bias → IsDrainedOn x t
-is_drained z x t may passed clear collected total =
+-- a slot with all marks is drained once nothing is held
+pub is_drained : (z : Settings) (x : OnKeeper) (t held : ℕ) → MayWork z x t → PassedBelow x.view t z.cpus → ClearBelow x.view t z.cpus → CollectedBelow x.view t z.cpus → held + bias ≡ total_at x.view.totals t → held ≡ 0 → IsDrainedOn x t
+is_drained z x t held may passed clear collected total none =
     let cpus : x.view.settings.cpus ≡ z.cpus = ap (λ (s : Settings). s.cpus) may.settings in
     record {
       retired = (may.e, may.retired);
@@ -167,6 +166,6 @@ is_drained z x t may passed clear collected total =
         passed = rw cpus (all_passed x.view t z passed);
         clear = rw cpus (all_clear x.view t z clear);
         collected = rw cpus (all_collected x.view t z collected);
-        total = total;
+        total = omega (arith, total, none);
       };
     }

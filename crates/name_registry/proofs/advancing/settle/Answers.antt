@@ -1,5 +1,4 @@
-use Rattle.std.proofs.Common.{◌≡◌, ◌∙◌, refl, sym, ap, subst, arith}
-use Rattle.passive_core.specs.State.{bias, total_at}
+use Rattle.std.proofs.Common.{refl, sym, subst}
 use Rattle.passive_list.specs.Keepers.{OnKeeper}
 use Rattle.passive_list.specs.Vacating.{IsDrainedOn}
 use Rattle.name_registry.specs.Advancing.{HasEnded}
@@ -16,14 +15,12 @@ pub total-held-requires-clause-collected : goal.total-held-requires-clause-colle
 total-held-requires-clause-collected g c = all_collected c.args.keeper.now.view c.args.slot g.D.Domain.settings c.requires.collected
 
 pub free-requires-clause-drained : goal.free-requires-clause-drained
-free-requires-clause-drained g c =
-    let total : total_at c.args.keeper.now.view.totals c.args.slot ≡ bias = let value = c.total-held.ensures.value in let none = c.if-held-ne0.false in omega (arith, value, none) in
-    subst (λ (x : OnKeeper). IsDrainedOn x c.args.slot) (sym c.total-held.ensures.same) (is_drained g.D.Domain.settings c.args.keeper.now c.args.slot c.requires.works c.requires.passed c.requires.clear c.requires.collected total)
+free-requires-clause-drained g c = subst (λ (x : OnKeeper). IsDrainedOn x c.args.slot) (sym c.total-held.ensures.same)
+    (is_drained g.D.Domain.settings c.args.keeper.now c.args.slot c.total-held.result c.requires.works c.requires.passed c.requires.clear c.requires.collected c.total-held.ensures.value c.if-held-ne0.false)
 
 pub returns : goal.returns
-returns g c =
-    let total : total_at c.args.keeper.now.view.totals c.args.slot ≡ bias = let value = c.total-held.ensures.value in let none = c.if-held-ne0.false in omega (arith, value, none) in (
-      refl,
-      is_drained g.D.Domain.settings c.args.keeper.now c.args.slot c.requires.works c.requires.passed c.requires.clear c.requires.collected total,
-      subst (λ (x : OnKeeper). HasEnded x c.args.slot c.free.new.keeper) c.total-held.ensures.same c.free.ensures,
-    )
+returns g c = (
+  refl,
+  is_drained g.D.Domain.settings c.args.keeper.now c.args.slot c.total-held.result c.requires.works c.requires.passed c.requires.clear c.requires.collected c.total-held.ensures.value c.if-held-ne0.false,
+  subst (λ (x : OnKeeper). HasEnded x c.args.slot c.free.new.keeper) c.total-held.ensures.same c.free.ensures,
+)
