@@ -3,3 +3,6 @@ pub mod Balanced
 pub mod Detached
 pub mod Heard
 pub mod Rows
+pub mod Worked
+pub mod Seen
+pub mod Placed

@@ -1,6 +1,7 @@
 //! A registry.
 #![tactic(auto)]
 
+mod advancing;
 mod attaching;
 mod detaching;
 mod law;
@@ -8,6 +9,8 @@ mod meeting;
 mod plain;
 
 pub use attaching::{attach_iface_in, attach_in};
+pub use advancing::advance_in;
+pub use attaching::attach_in;
 pub use detaching::detach_in;
 pub use law::free_interlock;
 
