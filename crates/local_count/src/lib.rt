@@ -18,6 +18,7 @@ pub use acquire::acquire_local;
 pub use collecting::{collect, collected, total};
 pub use interfaces::publish_iface;
 pub use local_ref::LocalRef;
+pub use net::net_count;
 pub use release::try_release;
 
 #[cfg(test)]
