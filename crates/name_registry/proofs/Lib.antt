@@ -6,3 +6,5 @@ pub mod Rows
 pub mod Worked
 pub mod Seen
 pub mod Placed
+pub mod Audits
+pub mod Tallies
