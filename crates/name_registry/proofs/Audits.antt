@@ -1,5 +1,5 @@
 -- What the code of an audit makes, whatever state the views are of.
-use Rattle.std.proofs.Common.{◌≡◌, ◌≢◌, inl, inr, ⊎_elim, ℕ, zero, suc, ◌+◌, ◌^◌, ◌<◌, ◌≤◌, ℤ, pos, ◌+ℤ◌, List, [], ◌∷◌, ◌++◌, length, get_or, map, take, cond, Bool, true, false, refl, sym, ap, ◌∙◌, subst, arith, add-one}
+use Rattle.std.proofs.Common.{◌≡◌, ◌≢◌, inl, inr, ⊎_elim, ℕ, zero, suc, ◌+◌, ◌^◌, ◌<◌, ◌≤◌, ℤ, pos, ◌+ℤ◌, List, [], ◌∷◌, ◌++◌, length, get_or, map, take, cond, false, refl, sym, ap, ◌∙◌, subst, arith, add-one}
 use Rattle.std.specs.List.{All}
 use Rattle.std.proofs.lemmas.Bool.{eq-eqb, ne_eqb}
 use Rattle.std.proofs.lemmas.Int.{ints}
@@ -19,7 +19,7 @@ use Rattle.passive_core.specs.declared.state.Slot.{Slot}
 use Rattle.passive_core.specs.declared.state.Slot.TheVariants.{Vacant, Live, Retired}
 use Rattle.passive_core.specs.Audits.{Tally, less_bias, sum_of, tally_shown}
 use Rattle.passive_core.specs.Invariant.{IsIn}
-use Rattle.passive_core.specs.State.{State, bias, slot_at, total_at}
+use Rattle.passive_core.specs.State.{bias, slot_at, total_at}
 use Rattle.passive_core.proofs.Fit.{ranges}
 use Rattle.passive_core.proofs.History.{at_within}
 use Rattle.passive_core.proofs.Occupied.{attached_in}
@@ -35,7 +35,7 @@ use Rattle.passive_list.proofs.Rows.{live_in, retired_in}
 use Rattle.local_count.specs.References.{net_by}
 use Rattle.local_count.proofs.Agreeing.{place_count}
 use Rattle.local_count.proofs.Balanced.{none_at_rest, total_near}
-use Rattle.name_registry.specs.Auditing.{AreAllCpus, Listed, Occupies, each_at, each_below, is_collected, listed_at, local_by, local_met, locals_met, net_met, net_of, place_of, places_below, tallies_met, tally_met}
+use Rattle.name_registry.specs.Auditing.{AreAllCpus, Listed, Occupies, each_at, each_below, is_collected, local_met, locals_met, net_met, net_of, place_of, places_below, tallies_met, tally_met}
 
 -- The CPUs
 
@@ -173,10 +173,10 @@ counts_met k xs cpus slots list all is = all_met (λ (y : Tally). length y.local
 pub tallies_none : (k : OnKeeper) (xs : List OnCpu) (t : ℕ) (x : Slot) (old new : List Balance) → x ≡ slot_at k.slots t → x ≡ Vacant → new ≡ old → map tally_shown old ≡ tallies_met k xs t → map tally_shown new ≡ tallies_met k xs (t + 1)
 tallies_none k xs t x old new at is same so_far = each_none (tally_met k xs) k.slots t x (map tally_shown new) at is (ap (map tally_shown) same ∙ so_far)
 
-pub tallies_more : (k : OnKeeper) (xs : List OnCpu) (t : ℕ) (x : Slot) (e : Entry) (old new : List Balance) (b : Balance) → x ≡ slot_at k.slots t → IsIn e x → new ≡ old ++ b ∷ [] → map tally_shown old ≡ tallies_met k xs t → tally_shown b ≡ tally_met k xs e.number t
+pub tallies_more : (k : OnKeeper) (xs : List OnCpu) (t : ℕ) (x : Slot) (e : Entry) (old pushed new : List Balance) (b : Balance) → x ≡ slot_at k.slots t → IsIn e x → new ≡ pushed → pushed ≡ old ++ b ∷ [] → map tally_shown old ≡ tallies_met k xs t → tally_shown b ≡ tally_met k xs e.number t
     → map tally_shown new ≡ tallies_met k xs (t + 1)
-tallies_more k xs t x e old new b at is pushed so_far one =
-    ap (map tally_shown) pushed ∙ (map-append tally_shown old (b ∷ []) ∙ each_more (tally_met k xs) k.slots t x e (map tally_shown old) (tally_shown b) at is so_far one)
+tallies_more k xs t x e old pushed new b at is same more so_far one =
+    ap (map tally_shown) (same ∙ more) ∙ (map-append tally_shown old (b ∷ []) ∙ each_more (tally_met k xs) k.slots t x e (map tally_shown old) (tally_shown b) at is so_far one)
 
 -- the CPUs before one have their numbers, and it has its own
 pub ids_more : (xs : List OnCpu) (c : ℕ) (y : OnCpu) → ((k : ℕ) (x : OnCpu) → k < c → get_elem? xs k ≡ some x → x.view.id ≡ k) → y ≡ get_or xs c y → y.view.id ≡ c
