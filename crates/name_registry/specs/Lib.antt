@@ -4,3 +4,4 @@ pub mod Attaching
 pub mod Detaching
 pub mod Auditing
 pub mod Law
+pub mod Opening
