@@ -4,4 +4,7 @@ pub mod Detached
 pub mod Heard
 pub mod Opened
 pub mod Owned
+pub mod Placed
 pub mod Rows
+pub mod Seen
+pub mod Worked

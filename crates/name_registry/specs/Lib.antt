@@ -5,3 +5,4 @@ pub mod Detaching
 pub mod Auditing
 pub mod Law
 pub mod Opening
+pub mod Advancing

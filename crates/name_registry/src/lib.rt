@@ -6,6 +6,7 @@
 //! did to the keeper can be said of these alone, since no contract can name the value of a lock.
 #![tactic(auto)]
 
+mod advancing;
 mod attaching;
 mod blank;
 mod detaching;
@@ -14,6 +15,7 @@ mod meeting;
 mod plain;
 mod registry;
 
+pub use advancing::advance_in;
 pub use attaching::{attach_iface_in, attach_in};
 pub use blank::Blank;
 pub use detaching::detach_in;

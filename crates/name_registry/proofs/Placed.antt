@@ -1,0 +1,31 @@
+-- The place of a retired entry, by the keeper's rows.
+use Rattle.std.proofs.Common.{◌≡◌, ◌∙◌, ℕ, ◌+◌, Bool, not, cond, List, [], ◌∷◌, map, Some, position, refl, sym, ap}
+use Rattle.std.specs.List.{prefix_len}
+use Rattle.std.proofs.lemmas.List.{length-map}
+use Rattle.atomic_table.specs.Seated.{TableId}
+use Rattle.passive_core.specs.declared.settings.Settings.{Settings}
+use Rattle.passive_core.specs.Advancing.{is_retired_as, retired_slot}
+use Rattle.passive_core.proofs.Advancing.{retired_slot_tells}
+use Rattle.cpu_words.specs.declared.view.KeeperView.{KeeperView}
+use Rattle.passive_list.specs.declared.keeper.Row.{Row}
+use Rattle.passive_list.specs.Keepers.{OnKeeper, state_of, states_of, IsOurKeeper}
+use Rattle.name_registry.specs.Advancing.{MayWork, is_retired_row}
+use Rattle.name_registry.proofs.Worked.{may_work}
+
+prefix_map : {X Y : Type 0} (p : Y → Bool) (f : X → Y) (xs : List X) → prefix_len p (map f xs) ≡ prefix_len (λ x. p (f x)) xs
+prefix_map p f [] = refl
+prefix_map p f (x ∷ xs) = ap (λ n. cond (p (f x)) (1 + n) 0) (prefix_map p f xs)
+
+position_map : {X Y : Type 0} (p : Y → Bool) (f : X → Y) (xs : List X) → position p (map f xs) ≡ position (λ x. p (f x)) xs
+position_map p f xs = rw (prefix_map (λ y. not (p y)) f xs, length-map xs f) refl
+
+-- a search over the rows is one over what a contract sees of the keeper
+pub retired_in_rows : (n : ℕ) (rows : List Row) (k : KeeperView) (x : OnKeeper) → record { view = k; slots = states_of rows } ≡ x → position (is_retired_row n) rows ≡ retired_slot x.slots n
+retired_in_rows n rows k x is = sym (position_map (is_retired_as n) state_of rows) ∙ ap (λ (y : OnKeeper). retired_slot y.slots n) is
+
+-- the entry found is one to work on
+pub place_works : (z : TableId) (a : Settings) (table : TableId) (k : KeeperView) (its : Settings) (rows : List Row) (n : ℕ) (x : OnKeeper) (number t : ℕ) → IsOurKeeper z a table k its rows n → record { view = k; slots = states_of rows } ≡ x
+    → position (is_retired_row number) rows ≡ Some t → MayWork a x t
+place_works z a table k its rows n x number t our is found =
+    let e = (retired_slot_tells x.slots number t (sym (retired_in_rows number rows k x is) ∙ found)).1 in
+    may_work z a table k its rows n x t e.0 our is e.1

@@ -1,0 +1,17 @@
+use Rattle.name_registry.proofs.Worked.{worked_none, collection_leaves, collection_marks, all_passed, all_clear}
+use Rattle.name_registry.proofs.advancing.collect_one.Goals as goal
+
+pub collect-requires-clause-passed : goal.collect-requires-clause-passed
+collect-requires-clause-passed g c = all_passed c.args.keeper.now.view c.args.slot g.D.Domain.settings c.requires.passed
+
+pub collect-requires-clause-clear : goal.collect-requires-clause-clear
+collect-requires-clause-clear g c = all_clear c.args.keeper.now.view c.args.slot g.D.Domain.settings c.requires.clear
+
+pub returns-then-collected-clause-leaves : goal.returns-then-collected-clause-leaves
+returns-then-collected-clause-leaves g c = worked_none c.args.keeper.now c.args.slot
+
+pub returns-clause-collected : goal.returns-clause-collected
+returns-clause-collected g c = collection_marks g.D.Domain.settings c.args.keeper.now c.collect.new.keeper c.args.slot c.args.cpu c.requires.works c.requires.cpu c.collect.ensures.change
+
+pub returns-clause-leaves : goal.returns-clause-leaves
+returns-clause-leaves g c = collection_leaves c.args.keeper.now c.collect.new.keeper c.args.slot c.args.cpu c.collect.ensures.change

@@ -1,0 +1,31 @@
+use Rattle.std.proofs.Common.{◌≡◌, ◌∙◌, true, sym, subst, ◌<◌}
+use borrow.Author.Count.{below_more}
+use Rattle.passive_core.specs.declared.settings.Settings.{Settings}
+use Rattle.passive_core.specs.State.{mark_at}
+use Rattle.name_registry.proofs.Seen.{grace_met}
+use Rattle.name_registry.proofs.Worked.{may_work, still_works, looked_more, still_passed}
+use Rattle.name_registry.proofs.advancing.look_at_all.Goals as goal
+
+pub passes-requires-clause-works : goal.passes-requires-clause-works
+passes-requires-clause-works g c =
+    let works = may_work _ _ _ _ _ _ _ c.args.keeper.now c.args.slot c.requires.retired.0 c.keeper.invariant c.keeper.view_is c.requires.retired.1 in
+    still_works g.D.Domain.settings c.args.keeper.now c.loop-cpu.keeper c.args.slot works c.loop-cpu.invariant.leaves.worked
+
+pub returns-then-not-passes-clause-met : goal.returns-then-not-passes-clause-met
+returns-then-not-passes-clause-met g c =
+    let l = c.loop-cpu in
+    let works = may_work _ _ _ _ _ _ _ c.args.keeper.now c.args.slot c.requires.retired.0 c.keeper.invariant c.keeper.view_is c.requires.retired.1 in
+    grace_met g.D.Domain.settings c.args.keeper.now l.keeper c.passes.new.keeper c.args.slot l.cpu works (subst (λ (z : Settings). l.cpu < z.cpus) c.keeper.invariant.settings c.loop-cpu-test.true)
+    l.invariant.leaves l.invariant.passed c.passes.ensures.leaves (c.passes.ensures.sees c.if-not-passes.true)
+
+pub returns-then-not-passes-clause-leaves : goal.returns-then-not-passes-clause-leaves
+returns-then-not-passes-clause-leaves g c = looked_more c.args.keeper.now c.loop-cpu.keeper c.passes.new.keeper c.args.slot c.loop-cpu.invariant.leaves c.passes.ensures.leaves
+
+pub loop-cpu-preserved : goal.loop-cpu-preserved
+loop-cpu-preserved g c =
+    let l = c.loop-cpu in
+    record {
+      leaves = looked_more c.args.keeper.now l.keeper c.passes.new.keeper c.args.slot l.invariant.leaves c.passes.ensures.leaves;
+      passed = below_more (λ d. (mark_at c.passes.new.keeper.view.marks c.args.slot d).passed ≡ true) l.cpu
+          (still_passed l.keeper c.passes.new.keeper c.args.slot l.cpu c.passes.ensures.leaves.worked l.invariant.passed) (sym c.passes.ensures.passed ∙ c.if-not-passes.false);
+    }

@@ -1,0 +1,138 @@
+-- A turn of the work on a retired entry: what it answers is what the keeper saw, and what it leaves.
+use Rattle.std.specs.Prelude.{◌≡◌, ◌≢◌, ◌⊎◌, ℕ, ◌<◌, ◌≤◌, ◌%◌, slice_set, true, false, Some, None, Bool, Result, Ok, Err}
+use Rattle.passive_core.specs.declared.entry.Entry.{Entry}
+use Rattle.passive_core.specs.declared.entry.Kind.TheVariants.{Iface}
+use Rattle.passive_core.specs.declared.event.Event.{Event}
+use Rattle.passive_core.specs.declared.event.Event.TheVariants.{Look, PassiveLook}
+use Rattle.passive_core.specs.declared.event.Reply.TheVariants.{Word}
+use Rattle.passive_core.specs.declared.refusal.Refusal.{Refusal}
+use Rattle.passive_core.specs.declared.refusal.Refusal.TheVariants.{NotRetired}
+use Rattle.passive_core.specs.declared.settings.Settings.{Settings}
+use Rattle.passive_core.specs.declared.stage.Stage.{Stage}
+use Rattle.passive_core.specs.declared.stage.Stage.TheVariants.{Grace, Passive, Local, Freed}
+use Rattle.passive_core.specs.declared.state.Due.TheVariants.{Rest}
+use Rattle.passive_core.specs.declared.state.Slot.TheVariants.{Vacant, Retired}
+use Rattle.passive_core.specs.Advancing.{is_retired_as, retired_slot, MarksGrow}
+use Rattle.passive_core.specs.State.{slot_at, mark_at, total_at, kept_at}
+use Rattle.cpu_words.specs.declared.view.KeeperView.{KeeperView}
+use Rattle.passive_list.specs.declared.keeper.Row.{Row}
+use Rattle.passive_list.specs.Keepers.{OnKeeper}
+use Rattle.passive_list.specs.Vacating.{IsDrainedOn}
+use Rattle.local_count.specs.Draining.{AreHeld, HasFreed}
+
+-- What the work asks, and what it leaves
+
+-- the keeper is at rest, and the entry of the slot t is retired; only an interface's slot keeps a reference
+pub record MayWork (z : Settings) (x : OnKeeper) (t : ℕ) : Type 0 where
+  pub settings : x.view.settings ≡ z
+  pub rest : x.view.due ≡ Rest
+  pub slot : t < z.slots
+  pub e : Entry
+  pub retired : slot_at x.slots t ≡ Retired e
+  pub known : slot_at x.view.slots t ≡ Retired e
+  pub keeps : (d : ℕ) → kept_at x.view.keeps t ≡ Some d → e.rec.kind ≡ Iface
+
+-- looks were made, and words were collected into the total of the slot t: its marks grow, and nothing else changes
+pub record HasWorkedFor (a : OnKeeper) (t : ℕ) (b : OnKeeper) : Type 0 where
+  pub only : b.view ≡ record a.view { marks = b.view.marks; totals = b.view.totals; looks = b.view.looks; last_look = b.view.last_look }
+  pub marks : MarksGrow a.view.marks b.view.marks t
+  pub totals : (u : ℕ) → u ≢ t → total_at b.view.totals u ≡ total_at a.view.totals u
+  pub looks : a.view.looks ≤ b.view.looks
+  pub slots : b.slots ≡ a.slots
+
+-- looks alone were made
+pub record HasLookedFor (a : OnKeeper) (t : ℕ) (b : OnKeeper) : Type 0 where
+  pub worked : HasWorkedFor a t b
+  pub totals : b.view.totals ≡ a.view.totals
+
+-- what is so of the marks of the first n CPUs for the slot t
+
+abbrev pub PassedBelow : KeeperView → ℕ → ℕ → Type 0
+PassedBelow k t n = (c : ℕ) → c < n → (mark_at k.marks t c).passed ≡ true
+
+abbrev pub ClearBelow : KeeperView → ℕ → ℕ → Type 0
+ClearBelow k t n = (c : ℕ) → c < n → (mark_at k.marks t c).clear ≡ true
+
+abbrev pub CollectedBelow : KeeperView → ℕ → ℕ → Type 0
+CollectedBelow k t n = (c : ℕ) → c < n → (mark_at k.marks t c).collected ≡ true
+
+-- What the keeper saw
+
+-- its last look, one that was made since, is this one
+pub record HasLookedLast (a b : KeeperView) (e : Event) (w : ℕ) : Type 0 where
+  pub more : a.looks < b.looks
+  pub last : b.last_look ≡ Some (record { event = e; reply = Word w })
+
+-- it saw the section word of c odd and as in the snapshot: the section that was open then is open, and may hold the entry
+pub record SeesSection (a : OnKeeper) (t c : ℕ) (b : OnKeeper) : Type 0 where
+  pub word : ℕ
+  pub look : HasLookedLast a.view b.view (Look (Some t) c) word
+  pub odd : word % 2 ≡ 1
+  pub snapshot : (mark_at b.view.marks t c).snapshot ≡ Some word
+  pub unpassed : (mark_at b.view.marks t c).passed ≡ false
+
+-- it saw that the passive word of c isn't 0
+pub record SeesPassive (a : OnKeeper) (t c : ℕ) (b : OnKeeper) : Type 0 where
+  pub word : ℕ
+  pub look : HasLookedLast a.view b.view (PassiveLook t c) word
+  pub some : word ≢ 0
+  pub unclear : (mark_at b.view.marks t c).clear ≡ false
+
+-- The stages, of the slot t
+
+-- all CPUs before c have passed
+pub record MeetsGrace (a : OnKeeper) (t c : ℕ) (b : OnKeeper) : Type 0 where
+  pub cpu : c < a.view.settings.cpus
+  pub sees : SeesSection a t c b
+  pub lesser : PassedBelow b.view t c
+  pub leaves : HasLookedFor a t b
+
+-- all CPUs have passed, and those before c are clear
+pub record MeetsPassive (a : OnKeeper) (t c : ℕ) (b : OnKeeper) : Type 0 where
+  pub cpu : c < a.view.settings.cpus
+  pub sees : SeesPassive a t c b
+  pub passed : PassedBelow b.view t b.view.settings.cpus
+  pub lesser : ClearBelow b.view t c
+  pub leaves : HasLookedFor a t b
+
+-- n local references are held, and all marks are set
+pub record MeetsLocal (a : OnKeeper) (t n : ℕ) (b : OnKeeper) : Type 0 where
+  pub some : n ≢ 0
+  pub held : AreHeld b.view t n
+  pub passed : PassedBelow b.view t b.view.settings.cpus
+  pub clear : ClearBelow b.view t b.view.settings.cpus
+  pub collected : CollectedBelow b.view t b.view.settings.cpus
+  pub leaves : HasWorkedFor a t b
+
+-- the slot's end: it is taken as vacant, or, where it keeps a driver, gives that up and is vacant
+abbrev pub HasEnded : OnKeeper → ℕ → OnKeeper → Type 0
+HasEnded m t b = ((kept_at m.view.keeps t ≡ None) × (b.view ≡ m.view) × (b.slots ≡ slice_set m.slots t Vacant)) ⊎ HasFreed m t b
+
+-- the end of the work, at a slot with all marks: so many local references are held and nothing changes, or the slot is drained and ends
+abbrev pub Settles : OnKeeper → ℕ → Stage → OnKeeper → Type 0
+Settles m t (Grace c) b = ⊥
+Settles m t (Passive c) b = ⊥
+Settles m t (Local n) b = (n ≢ 0) × AreHeld m.view t n × (b ≡ m)
+Settles m t (Freed u) b = (u ≡ t) × IsDrainedOn m t × HasEnded m t b
+
+-- the slot was drained, and then came to its end
+pub record MeetsNone (a : OnKeeper) (t : ℕ) (b : OnKeeper) : Type 0 where
+  pub between : OnKeeper
+  pub leaves : HasWorkedFor a t between
+  pub drained : IsDrainedOn between t
+  pub ended : HasEnded between t b
+
+abbrev pub Meets : OnKeeper → ℕ → Stage → OnKeeper → Type 0
+Meets a t (Grace c) b = MeetsGrace a t c b
+Meets a t (Passive c) b = MeetsPassive a t c b
+Meets a t (Local n) b = MeetsLocal a t n b
+Meets a t (Freed u) b = (u ≡ t) × MeetsNone a t b
+
+-- the row of a slot has the retired entry with this number
+abbrev pub is_retired_row : ℕ → Row → Bool
+is_retired_row n r = is_retired_as n r.state
+
+-- What advance answers and leaves.
+abbrev pub HasAdvanced : OnKeeper → ℕ → Result Stage Refusal → OnKeeper → Type 0
+HasAdvanced a n (Ok stage) b = (t : ℕ) × (retired_slot a.slots n ≡ Some t) × Meets a t stage b
+HasAdvanced a n (Err refusal) b = (refusal ≡ NotRetired) × (retired_slot a.slots n ≡ None) × (b ≡ a)
