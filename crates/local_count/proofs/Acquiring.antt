@@ -8,7 +8,9 @@ use Rattle.passive_core.specs.declared.entry.Entry.{Entry}
 use Rattle.passive_core.specs.declared.entry.Change.TheVariants.{Attach}
 use Rattle.passive_core.specs.declared.settings.Settings.{Settings}
 use Rattle.passive_core.specs.Limits.{is_within, are_sizes_fit, are_limits_fit, are_fit}
+use Rattle.passive_core.specs.Invariant.{greatest_limit}
 use Rattle.passive_core.specs.State.{bias}
+use Rattle.passive_core.proofs.Fit.{ranges}
 use Rattle.passive_core.proofs.History.{at_within}
 use Rattle.cpu_words.specs.declared.view.CpuView.{CpuView}
 use Rattle.cpu_words.specs.declared.view.ReferenceView.{ReferenceView}
@@ -99,12 +101,13 @@ acquired_reference z a t u x c w d o ps ns e y k v our is same counted cut =
     subst (λ (r : ReferenceView). IsOurReference z a u r e.number e.slot e.rec.kind) (sym left.is) there
 
 pub acquired_agrees : (z : TableId) (a : Settings) (t u : TableId) (x : CpuView) (c w d : ℕ) (o : Option Entry) (ps ns : List Place) (e : Entry) (y k : CpuView) (v : ReferenceView) (n : ℕ)
-    → IsOurCpu z a t x c w d o ps ns → o ≡ Some e → u ≡ t → HasCounted x e.slot e.number y → HasSplit y k v → IsNetCount x e.number n → IsMetAlone x e.slot e.number
+    → IsOurCpu z a t x c w d o ps ns → o ≡ Some e → u ≡ t → HasCounted x e.slot e.number y → HasSplit y k v → IsNetCount x e.number n → n < bias + x.settings.count_limit → IsMetAlone x e.slot e.number
     → IsOurCpu z a u k c w d o ps (set ns e.slot (record { number = e.number; count = n + 1 }))
-acquired_agrees z a t u x c w d o ps ns e y k v n our is same counted cut net alone =
+acquired_agrees z a t u x c w d o ps ns e y k v n our is same counted cut net room alone =
     let has = found_of z a t x c w d o ps ns e our is in
     let left = acquired_of x y k v e has.found our.idle.hand counted cut in
     let one = one_more_same x.acquired e.number in
     let count : n + 1 + number_at x.released e.number ≡ bias + number_at (one_more x.acquired e.number) e.number = omega (arith, net, one) in
+    let limit : x.settings.count_limit ≤ greatest_limit = subst (λ (k : Settings). k.count_limit ≤ greatest_limit) (sym our.settings) (ranges a our.fit).counts in
     subst (λ (q : CpuView). IsOurCpu z a u q c w d o ps (set ns e.slot (record { number = e.number; count = n + 1 }))) (sym left.view)
-    (counted_agrees z a t u x c w d o ps ns (one_more x.acquired e.number) x.released e.slot e.number (n + 1) our same has.few alone count (λ m off. (one_more_other x.acquired e.number m off, refl)))
+    (counted_agrees z a t u x c w d o ps ns (one_more x.acquired e.number) x.released e.slot e.number (n + 1) our same has.few alone count (omega (arith, room, limit)) (λ m off. (one_more_other x.acquired e.number m off, refl)))

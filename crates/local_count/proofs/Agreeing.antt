@@ -1,11 +1,12 @@
 -- A CPU's plain data agree with its view on, over its local references.
-use Rattle.std.proofs.Common.{◌≡◌, ◌≢◌, ℕ, ◌+◌, ◌<◌, List, length, set, Option, cond, refl, sym, ap, ◌∙◌, subst, arith, get_or-set_same, get_or-set_other, length-set}
+use Rattle.std.proofs.Common.{◌≡◌, ◌≢◌, ℕ, ◌+◌, ◌<◌, ◌≤◌, List, length, set, Option, Bool, true, false, ◌==◌, cond, refl, sym, ap, ◌∙◌, subst, arith, get_or-set_same, get_or-set_other, length-set}
 use mathlib.Core.Logic.{dite}
 use native.Mathlib.Decide.{ℕ_discrete}
 use Rattle.std.proofs.lemmas.Bool.{eq-eqb, ne_eqb}
 use Rattle.atomic_table.specs.Seated.{TableId}
 use Rattle.passive_core.specs.declared.entry.Entry.{Entry}
 use Rattle.passive_core.specs.declared.settings.Settings.{Settings}
+use Rattle.passive_core.specs.Invariant.{greatest_limit}
 use Rattle.passive_core.specs.State.{bias}
 use Rattle.cpu_words.specs.declared.view.CpuView.{CpuView}
 use Rattle.cpu_words.specs.Views.{number_at, with_number}
@@ -32,11 +33,19 @@ place_count x l t n w agree begun is = dite (ℕ_discrete (place_at l t).number 
     (λ (same : (place_at l t).number ≡ n). subst (IsPlaceCount x t n) (sym (is ∙ ap (λ b. cond b (place_at l t).count bias) (eq-eqb (place_at l t).number n same))) (place_here x l t n agree begun same))
     (λ (off : (place_at l t).number ≢ n). subst (IsPlaceCount x t n) (sym (is ∙ ap (λ b. cond b (place_at l t).count bias) (ne_eqb (place_at l t).number n off))) (place_other x l t n agree off))
 
+-- and within the greatest limit
+pub net_most : (x : CpuView) (l : List Place) (t n w : ℕ) → NetAgree x l → w ≡ net_by (place_at l t) n → w ≤ bias + greatest_limit
+net_most x l t n w agree is = subst (λ k. k ≤ bias + greatest_limit) (sym is) (either ((place_at l t).number == n))
+  where
+    either : (b : Bool) → cond b (place_at l t).count bias ≤ bias + greatest_limit
+    either true = agree.most t
+    either false = omega arith
+
 -- The place of a slot is set to a number that was met in no other slot, and its net count
 
-pub net_set : (x y : CpuView) (l : List Place) (t n v : ℕ) → NetAgree x l → t < 32 → IsMetAlone x t n → y.met ≡ with_number x.met t n → v + number_at y.released n ≡ bias + number_at y.acquired n
+pub net_set : (x y : CpuView) (l : List Place) (t n v : ℕ) → NetAgree x l → t < 32 → IsMetAlone x t n → y.met ≡ with_number x.met t n → v + number_at y.released n ≡ bias + number_at y.acquired n → v ≤ bias + greatest_limit
     → ((m : ℕ) → m ≢ n → (number_at y.acquired m ≡ number_at x.acquired m) × (number_at y.released m ≡ number_at x.released m)) → NetAgree y (set l t (record { number = n; count = v }))
-net_set x y l t n v agree lt alone met count same = record { size = length-set l t place ∙ agree.size; met = λ u. found u; counts = λ u some. counted u some }
+net_set x y l t n v agree lt alone met count most same = record { size = length-set l t place ∙ agree.size; met = λ u. found u; counts = λ u some. counted u some; most = λ u. below u }
   where
     place : Place
     place = record { number = n; count = v }
@@ -71,13 +80,18 @@ net_set x y l t n v agree lt alone met count same = record { size = length-set l
         let b : number_at y.released m ≡ number_at x.released m = on.1 in
         subst Counts (sym (other u off)) (ap (λ k. p.count + k) b ∙ was ∙ ap (λ k. bias + k) (sym a)))
 
+    below : (u : ℕ) → (place_at (set l t place) u).count ≤ bias + greatest_limit
+    below u = dite (ℕ_discrete u t)
+        (λ (on : u ≡ t). subst (λ (p : Place). p.count ≤ bias + greatest_limit) (sym (ap (place_at (set l t place)) on ∙ here)) most)
+        (λ (off : u ≢ t). subst (λ (p : Place). p.count ≤ bias + greatest_limit) (sym (other u off)) (agree.most u))
+
 -- The data agree with the view after a count, up or down
 
 pub counted_agrees : (z : TableId) (a : Settings) (t u : TableId) (x : CpuView) (c w d : ℕ) (o : Option Entry) (ps ns : List Place) (acquired released : List ℕ) (s n v : ℕ)
-    → IsOurCpu z a t x c w d o ps ns → u ≡ t → s < 32 → IsMetAlone x s n → v + number_at released n ≡ bias + number_at acquired n
+    → IsOurCpu z a t x c w d o ps ns → u ≡ t → s < 32 → IsMetAlone x s n → v + number_at released n ≡ bias + number_at acquired n → v ≤ bias + greatest_limit
     → ((m : ℕ) → m ≢ n → (number_at acquired m ≡ number_at x.acquired m) × (number_at released m ≡ number_at x.released m))
     → IsOurCpu z a u (record x { acquired = acquired; released = released; met = with_number x.met s n }) c w d o ps (set ns s (record { number = n; count = v }))
-counted_agrees z a t u x c w d o ps ns acquired released s n v our same lt alone count others = record {
+counted_agrees z a t u x c w d o ps ns acquired released s n v our same lt alone count most others = record {
   table = same ∙ our.table;
   settings = our.settings;
   fit = our.fit;
@@ -88,7 +102,7 @@ counted_agrees z a t u x c w d o ps ns acquired released s n v our same lt alone
   depth = our.depth;
   found = record { is = our.found.is; seen = our.found.seen };
   passive = record { size = our.passive.size; counts = our.passive.counts; placed = λ k some. let old = our.passive.placed k some in record { entry = old.entry; attached = old.attached; slot = old.slot; number = old.number }; each = our.passive.each };
-  net = net_set x (record x { acquired = acquired; released = released; met = with_number x.met s n }) ns s n v our.net lt alone refl count others;
+  net = net_set x (record x { acquired = acquired; released = released; met = with_number x.met s n }) ns s n v our.net lt alone refl count most others;
 }
 
 -- the seat's table and view are as they were

@@ -14,7 +14,7 @@ use Rattle.cpu_words.proofs.Counting.{one_more_same, one_more_other}
 use Rattle.passive_list.specs.declared.place.Place.{Place}
 use Rattle.passive_list.specs.Cpus.{place_at, IsOurCpu}
 use Rattle.local_count.specs.References.{IsOurReference, net_by}
-use Rattle.local_count.proofs.Agreeing.{place_count, counted_agrees}
+use Rattle.local_count.proofs.Agreeing.{place_count, net_most, counted_agrees}
 
 -- with the reference in its hand, the CPU may count it down from what its place says
 pub may_count_down : (z : TableId) (a : Settings) (t r : TableId) (x y : CpuView) (c w d : ℕ) (o : Option Entry) (ps ns : List Place) (v : ReferenceView) (n s count : ℕ) (kind : Kind)
@@ -30,15 +30,16 @@ released_of x y w e s n empty joined counted = counted.4 ∙ ap (λ (k : CpuView
     ∙ (λ k. record x { hand = sym empty k; released = one_more x.released n; met = with_number x.met s n })
 
 pub released_agrees : (z : TableId) (a : Settings) (t u r : TableId) (x : CpuView) (c w d : ℕ) (o : Option Entry) (ps ns : List Place) (v : ReferenceView) (n s count : ℕ) (kind : Kind) (y k : CpuView)
-    → IsOurCpu z a t x c w d o ps ns → IsOurReference z a r v n s kind → u ≡ t → y ≡ with_hand x (GivingEntry v.entry) → HasCountedDown y s n k → 0 < count → IsNetCount y n count → IsMetAlone y s n
+    → IsOurCpu z a t x c w d o ps ns → IsOurReference z a r v n s kind → u ≡ t → y ≡ with_hand x (GivingEntry v.entry) → HasCountedDown y s n k → 0 < count → count ≡ net_by (place_at ns s) n → IsNetCount y n count → IsMetAlone y s n
     → IsOurCpu z a u k c w d o ps (set ns s (record { number = n; count = count - 1 }))
-released_agrees z a t u r x c w d o ps ns v n s count kind y k our its same joined counted floor net alone =
+released_agrees z a t u r x c w d o ps ns v n s count kind y k our its same joined counted floor is net alone =
     let was : count + number_at x.released n ≡ bias + number_at x.acquired n = subst (λ (q : CpuView). IsNetCount q n count) joined net in
     let here : IsMetAlone x s n = subst (λ (q : CpuView). IsMetAlone q s n) joined alone in
     let one = one_more_same x.released n in
     let after : count - 1 + number_at (one_more x.released n) n ≡ bias + number_at x.acquired n = omega (arith, was, one, floor) in
+    let most = net_most x ns s n count our.net is in
     subst (λ (q : CpuView). IsOurCpu z a u q c w d o ps (set ns s (record { number = n; count = count - 1 }))) (sym (released_of x y k v.entry s n our.idle.hand joined counted))
-    (counted_agrees z a t u x c w d o ps ns x.acquired (one_more x.released n) s n (count - 1) our same its.few here after (λ m off. (refl, one_more_other x.released n m off)))
+    (counted_agrees z a t u x c w d o ps ns x.acquired (one_more x.released n) s n (count - 1) our same its.few here after (omega (arith, most)) (λ m off. (refl, one_more_other x.released n m off)))
 
 -- What a collected word leaves: the CPU as it was, and the reference again
 

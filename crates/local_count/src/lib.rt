@@ -22,6 +22,7 @@ pub use freeing::free_iface;
 pub use giving_up::release_under;
 pub use interfaces::publish_iface;
 pub use local_ref::LocalRef;
+pub use net::net_count;
 pub use release::try_release;
 
 #[cfg(test)]

@@ -7,7 +7,7 @@ use passive_core::BIAS;
 use passive_list::Place;
 
 /// The net count for `number` that the place of its slot says, over the bias: none where another number was met there last.
-pub(crate) fn net_count(place: Place, number: u64) -> u64
+pub fn net_count(place: Place, number: u64) -> u64
     ensures { result ≡ net_by place number }
 {
     if place.number == number {

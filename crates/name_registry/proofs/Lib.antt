@@ -1,4 +1,5 @@
 pub mod Attached
+pub mod Audits
 pub mod Balanced
 pub mod Detached
 pub mod Heard
@@ -7,4 +8,5 @@ pub mod Owned
 pub mod Placed
 pub mod Rows
 pub mod Seen
+pub mod Tallies
 pub mod Worked

@@ -1,11 +1,13 @@
 -- What an audit answers (localcount(9)): by the counts of all CPUs and the totals, and that it is the tally.
-use Rattle.std.specs.Prelude.{◌≡◌, ℕ, zero, suc, ◌+◌, ℤ, pos, ◌+ℤ◌, ◌-ℤ◌, Bool, ◌&&◌, List, [], ◌∷◌, ◌++◌, map, length, sum_by, if◌then◌else◌, slice_index_or}
+use Rattle.std.specs.Prelude.{◌≡◌, ℕ, zero, suc, ◌+◌, ℤ, pos, ◌+ℤ◌, ◌-ℤ◌, ◌==◌, Bool, ◌&&◌, List, [], ◌∷◌, ◌++◌, map, length, sum_by, if◌then◌else◌, slice_index_or}
 use mathlib.Core.Option.{some}
 use lib.ListN.{get_elem?}
+use Rattle.passive_core.specs.declared.balance.Balance.{Balance}
 use Rattle.passive_core.specs.declared.entry.Entry.{Entry}
 use Rattle.passive_core.specs.declared.state.Slot.{Slot}
 use Rattle.passive_core.specs.declared.state.Slot.TheVariants.{Vacant, Live, Retired}
 use Rattle.passive_core.specs.Audits.{Tally, less_bias, sum_of}
+use Rattle.passive_core.specs.Invariant.{IsIn}
 use Rattle.passive_core.specs.Slots.{is_retired}
 use Rattle.passive_core.specs.State.{State, slot_at, mark_at, total_at}
 use Rattle.cpu_words.specs.declared.view.CpuView.{CpuView}
@@ -28,31 +30,84 @@ net_of n x = pos (number_at x.view.acquired n) -ℤ pos (number_at x.view.releas
 abbrev pub is_collected : OnKeeper → ℕ → ℕ → Bool
 is_collected k t c = is_retired (slot_at k.slots t) && (mark_at k.view.marks t c).collected
 
+-- what the CPU's count adds to the audit of n, where its net count is this
+abbrev pub local_by : OnKeeper → ℕ → ℤ → OnCpu → ℤ
+local_by k t net x = if is_collected k t x.view.id then pos 0 else net
+
 abbrev pub local_of : OnKeeper → ℕ → ℕ → OnCpu → ℤ
-local_of k t n x = if is_collected k t x.view.id then pos 0 else net_of n x
+local_of k t n x = local_by k t (net_of n x) x
 
-abbrev pub locals_of : OnKeeper → ℕ → ℕ → List OnCpu → List ℤ
-locals_of k t n xs = map (local_of k t n) xs
+abbrev pub locals_of : OnKeeper → List OnCpu → ℕ → ℕ → List ℤ
+locals_of k xs t n = map (local_of k t n) xs
 
--- what is said of the entry n in the slot t
-abbrev pub tally_of : OnKeeper → List OnCpu → ℕ → ℕ → Tally
-tally_of k xs n t = record {
+-- what is said of the entry n in the slot t, where the CPUs' counts add these numbers
+abbrev pub tally_by : OnKeeper → List ℤ → ℕ → ℕ → Tally
+tally_by k locals n t = record {
   number = n;
   slot = t;
-  held = sum_of (locals_of k t n xs) +ℤ less_bias (total_at k.view.totals t);
-  locals = locals_of k t n xs;
+  held = sum_of locals +ℤ less_bias (total_at k.view.totals t);
+  locals = locals;
   total = less_bias (total_at k.view.totals t);
 }
 
-abbrev pub tallies_at : OnKeeper → List OnCpu → ℕ → Slot → List Tally
-tallies_at k xs t Vacant = []
-tallies_at k xs t (Live e) = tally_of k xs e.number t ∷ []
-tallies_at k xs t (Retired e) = tally_of k xs e.number t ∷ []
+-- something of each live or retired slot below a number, least first
 
--- of the slots below a number, least first
+abbrev pub each_at : {X : Type 0} → (ℕ → ℕ → X) → ℕ → Slot → List X
+each_at f t Vacant = []
+each_at f t (Live e) = f e.number t ∷ []
+each_at f t (Retired e) = f e.number t ∷ []
+
+abbrev pub each_below : {X : Type 0} → (ℕ → ℕ → X) → List Slot → ℕ → List X
+each_below f slots zero = []
+each_below f slots (suc t) = each_below f slots t ++ each_at f t (slot_at slots t)
+
+-- what is said of the entry n in the slot t
+abbrev pub tally_of : OnKeeper → List OnCpu → ℕ → ℕ → Tally
+tally_of k xs n t = tally_by k (locals_of k xs t n) n t
+
 abbrev pub tallies_below : OnKeeper → List OnCpu → ℕ → List Tally
-tallies_below k xs zero = []
-tallies_below k xs (suc t) = tallies_below k xs t ++ tallies_at k xs t (slot_at k.slots t)
+tallies_below k xs slots = each_below (tally_of k xs) k.slots slots
+
+-- By the CPUs' places: a place says the net count of the number that the CPU met last in its slot; to another number it has counted none.
+
+abbrev pub net_met : ℕ → ℕ → OnCpu → ℤ
+net_met t n x = if number_at x.view.met t == n then net_of n x else pos 0
+
+abbrev pub local_met : OnKeeper → ℕ → ℕ → OnCpu → ℤ
+local_met k t n x = local_by k t (net_met t n x) x
+
+abbrev pub locals_met : OnKeeper → List OnCpu → ℕ → ℕ → List ℤ
+locals_met k xs t n = map (local_met k t n) xs
+
+abbrev pub tally_met : OnKeeper → List OnCpu → ℕ → ℕ → Tally
+tally_met k xs n t = tally_by k (locals_met k xs t n) n t
+
+abbrev pub tallies_met : OnKeeper → List OnCpu → ℕ → List Tally
+tallies_met k xs slots = each_below (tally_met k xs) k.slots slots
+
+-- What the keeper alone says of an entry: its number, its slot, and the slot's total
+
+pub record Listed : Type 0 where
+  pub number : ℕ
+  pub slot : ℕ
+  pub total : ℤ
+
+abbrev pub place_of : Balance → Listed
+place_of b = record { number = b.number; slot = b.slot; total = b.total }
+
+abbrev pub listed_at : OnKeeper → ℕ → ℕ → Listed
+listed_at k n t = record { number = n; slot = t; total = less_bias (total_at k.view.totals t) }
+
+abbrev pub places_below : OnKeeper → ℕ → List Listed
+places_below k slots = each_below (listed_at k) k.slots slots
+
+-- the slot t has the entry n
+abbrev pub Occupies : OnKeeper → ℕ → ℕ → Type 0
+Occupies k t n = (e : Entry) × IsIn e (slot_at k.slots t) × (e.number ≡ n)
+
+-- some slot has an entry
+abbrev pub IsOccupied : OnKeeper → Type 0
+IsOccupied k = (t : ℕ) × (e : Entry) × IsIn e (slot_at k.slots t)
 
 -- The tally of n: local references acquired by all CPUs, less those that they released, less those given up under the interlock.
 

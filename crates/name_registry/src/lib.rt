@@ -8,6 +8,7 @@
 
 mod advancing;
 mod attaching;
+mod auditing;
 mod blank;
 mod detaching;
 mod law;
@@ -17,6 +18,7 @@ mod registry;
 
 pub use advancing::advance_in;
 pub use attaching::{attach_iface_in, attach_in};
+pub use auditing::audit_in;
 pub use blank::Blank;
 pub use detaching::detach_in;
 pub use law::free_interlock;

@@ -21,7 +21,7 @@ pub use event::{Counted, Event, RecordOf, Reply, Short, StepFault};
 pub use laws::{
     balance_at_rest, every_run_keeps, grace_law, headline, lawful_answers, safe_reuse, worked_run,
 };
-pub use machine::{BIAS, Core, run_events};
+pub use machine::{BIAS, Core, less_bias, run_events, sum};
 pub use marks::{
     are_clear, are_collected, cleared, collected, have_passed, is_some_collected, looked,
 };

@@ -22,6 +22,7 @@ use crate::event::StepFault;
 use crate::refusal::Refusal;
 use crate::settings::Settings;
 use crate::state::{Due, Hand, LocalPlace, Mark, RecordWords, Search, Slot};
+pub use commands::{less_bias, sum};
 pub use run::run_events;
 use std::alloc::{AllocError, Global};
 use std::marker::Model;

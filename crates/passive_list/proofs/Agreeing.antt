@@ -32,7 +32,7 @@ new_passive : (a : Settings) (c : ℕ) → PassiveAgree (new_cpu a c) (replicate
 new_passive a c = record { size = refl; counts = λ t. blank_count t; placed = λ t some. absurd (some (blank_number t)); each = λ e there. absurd (omega (arith, there.1)) }
 
 new_net : (a : Settings) (c : ℕ) → NetAgree (new_cpu a c) (replicate 32 no_place)
-new_net a c = record { size = refl; met = λ t. blank_number t; counts = λ t some. absurd (some (blank_number t)) }
+new_net a c = record { size = refl; met = λ t. blank_number t; counts = λ t some. absurd (some (blank_number t)); most = λ t. omega (arith, blank_count t) }
 
 outside : DepthAgrees None 0
 outside = record { outside = (λ _. refl, λ _. refl); most = omega arith }
@@ -73,6 +73,7 @@ net_same x y l met acquired released agree = record {
   size = agree.size;
   met = λ t. agree.met t ∙ ap (λ m. number_at m t) (sym met);
   counts = λ t some. ap (λ m. (place_at l t).count + number_at m (place_at l t).number) released ∙ agree.counts t some ∙ ap (λ m. bias + number_at m (place_at l t).number) (sym acquired);
+  most = agree.most;
 }
 
 found_longer : (x : CpuView) (p : List Change) (e : Entry) → IsPrefix x.pass p → (e.slot < 32) × IsAttached x.pass e → (e.slot < 32) × IsAttached p e

@@ -7,6 +7,7 @@ use Rattle.passive_core.specs.declared.entry.Change.{Change}
 use Rattle.passive_core.specs.declared.settings.Settings.{Settings}
 use Rattle.passive_core.specs.Limits.{are_fit}
 use Rattle.passive_core.specs.History.{IsAttached}
+use Rattle.passive_core.specs.Invariant.{greatest_limit}
 use Rattle.passive_core.specs.State.{bias}
 use Rattle.cpu_words.specs.declared.view.CpuView.{CpuView}
 use Rattle.cpu_words.specs.Views.{number_at, references_to, depth_of}
@@ -43,6 +44,7 @@ pub record NetAgree (x : CpuView) (places : List Place) : Type 0 where
   pub size : length places ≡ 32
   pub met : (t : ℕ) → (place_at places t).number ≡ number_at x.met t
   pub counts : (t : ℕ) → (place_at places t).number ≢ 0 → (place_at places t).count + number_at x.released (place_at places t).number ≡ bias + number_at x.acquired (place_at places t).number
+  pub most : (t : ℕ) → (place_at places t).count ≤ bias + greatest_limit
 
 -- a section is open while its depth isn't 0
 pub record DepthAgrees (begin : Option ℕ) (depth : ℕ) : Type 0 where

@@ -20,6 +20,7 @@ ghost use Rattle.passive_core.specs.Slots.{at_rest};
 
 use crate::event::{Event, Reply};
 use crate::machine::Core;
+pub use audit::{less_bias, sum};
 
 impl Core {
     /// Makes an event that is known to be allowed and grows nothing.

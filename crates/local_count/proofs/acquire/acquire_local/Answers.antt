@@ -37,4 +37,4 @@ pub invariant_of-result : goal.invariant_of-result
 invariant_of-result g c = acquired_reference _ _ _ _ _ _ _ _ _ _ _ _ _ _ _ c.cpu.invariant c.in-Some.is (c.split_ref-seat.ensures.table.1 ∙ c.count_add-word.ensures.table) c.count_add-word.ensures.change c.split_ref-seat.ensures.change
 
 pub invariant_of-cpu : goal.invariant_of-cpu
-invariant_of-cpu g c = acquired_agrees _ _ _ _ _ _ _ _ _ _ _ _ _ _ _ _ c.cpu.invariant c.in-Some.is (c.split_ref-seat.ensures.table.0 ∙ c.count_add-word.ensures.table) c.count_add-word.ensures.change c.split_ref-seat.ensures.change c.count_add-word.ensures.word c.count_add-word.ensures.alone
+invariant_of-cpu g c = acquired_agrees _ _ _ _ _ _ _ _ _ _ _ _ _ _ _ _ c.cpu.invariant c.in-Some.is (c.split_ref-seat.ensures.table.0 ∙ c.count_add-word.ensures.table) c.count_add-word.ensures.change c.split_ref-seat.ensures.change c.count_add-word.ensures.word c.count_add-word.ensures.room c.count_add-word.ensures.alone

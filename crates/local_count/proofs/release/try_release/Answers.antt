@@ -12,4 +12,4 @@ invariant_of-cpu g c =
 pub invariant_of-cpu-2 : goal.invariant_of-cpu-2
 invariant_of-cpu-2 g c =
     let counted = c.count_down-word.ensures.counted c.if-word-count.false in
-    released_agrees _ _ _ _ _ _ _ _ _ _ _ _ _ _ _ _ _ _ _ c.cpu.invariant c.reference.invariant (c.count_down-word.ensures.table ∙ c.join_ref.ensures.table) c.join_ref.ensures.change counted.1 c.count_down-word.ensures.floor c.count_down-word.ensures.net c.count_down-word.ensures.alone
+    released_agrees _ _ _ _ _ _ _ _ _ _ _ _ _ _ _ _ _ _ _ c.cpu.invariant c.reference.invariant (c.count_down-word.ensures.table ∙ c.join_ref.ensures.table) c.join_ref.ensures.change counted.1 c.count_down-word.ensures.floor c.net_count-count.ensures c.count_down-word.ensures.net c.count_down-word.ensures.alone

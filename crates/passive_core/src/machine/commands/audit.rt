@@ -77,7 +77,9 @@ impl Core {
     }
 }
 
-fn less_bias(word: u64) -> i64
+/// What a count word or a total says: how far it is above the bias, or below.
+/// Condition: the word is below 2^60.
+pub fn less_bias(word: u64) -> i64
     requires { word < 2 ^ 60 }
     ensures { result ≡ less_bias word }
 {
@@ -92,7 +94,9 @@ fn local_of(word: u64) -> i64
     if word == 0 { 0 } else { less_bias(word) }
 }
 
-fn sum(numbers: &[i64]) -> i64
+/// The sum of the net counts of an entry's CPUs.
+/// Condition: they are at most 8, each from -2^50 to 2^50.
+pub fn sum(numbers: &[i64]) -> i64
     requires few { length numbers.now ≤ 8 }
     requires low { (k : ℕ) → k < length numbers.now → neg_ℤ (pos (2 ^ 50)) ≤ℤ slice_index_or numbers.now k (pos 0) }
     requires high { (k : ℕ) → k < length numbers.now → slice_index_or numbers.now k (pos 0) ≤ℤ pos (2 ^ 50) }

@@ -1,0 +1,181 @@
+-- In whatever state shows the views, what an audit says is held of an entry is its tally.
+use Rattle.std.proofs.Common.{◌≡◌, ◌≢◌, inl, inr, ⊎_elim, ℕ, zero, suc, ◌+◌, ◌*◌, ◌<◌, ◌≤◌, ◌&&◌, ℤ, pos, ◌+ℤ◌, ◌-ℤ◌, List, [], ◌∷◌, length, get_or, map, fold, cond, sum_by, Bool, true, false, refl, sym, ap, ◌∙◌, subst, arith}
+use Rattle.std.specs.List.{All, zip}
+use Rattle.std.proofs.lemmas.Bool.{eq-eqb, ne_eqb, false≢true}
+use Rattle.std.proofs.lemmas.Int.{ints}
+use Rattle.std.proofs.lemmas.List.Sums.{sum_by-cons}
+use mathlib.Core.Logic.{dite}
+use mathlib.Core.Option.{some}
+use native.Mathlib.Decide.{ℕ_discrete}
+use lib.ListN.{get_elem?}
+use Rattle.atomic_table.specs.Seated.{TableId}
+use Rattle.passive_core.specs.declared.balance.Balance.{Balance}
+use Rattle.passive_core.specs.declared.entry.Entry.{Entry}
+use Rattle.passive_core.specs.declared.settings.Settings.{Settings}
+use Rattle.passive_core.specs.declared.state.Due.TheVariants.{Rest}
+use Rattle.passive_core.specs.declared.state.Mark.{Mark}
+use Rattle.passive_core.specs.declared.state.Slot.{Slot}
+use Rattle.passive_core.specs.declared.state.Slot.TheVariants.{Vacant, Live, Retired}
+use Rattle.passive_core.specs.Audits.{Tally, tally_shown}
+use Rattle.passive_core.specs.Invariant.{IsIn, adding_at, is_adding_at, subtracting_at}
+use Rattle.passive_core.specs.Slots.{is_retired}
+use Rattle.passive_core.specs.State.{State, bias, no_mark, slot_at, mark_at, count_at, total_at}
+use Rattle.passive_core.proofs.Occupied.{in_within}
+use Rattle.cpu_words.specs.declared.view.KeeperView.{KeeperView}
+use Rattle.cpu_words.specs.Locals.{IsPlaceCount}
+use Rattle.cpu_words.specs.Views.{number_at, collected_net, collected_one, CpuShown}
+use Rattle.cpu_words.proofs.Counting.{place_is}
+use Rattle.cpu_words.proofs.KeeperSees.{seen_by_keeper}
+use Rattle.passive_list.specs.Cpus.{OnCpu}
+use Rattle.passive_list.specs.declared.keeper.Row.{Row}
+use Rattle.passive_list.specs.Keepers.{IsOurKeeper, OnKeeper, states_of}
+use Rattle.passive_list.proofs.Rows.{live_in, retired_in}
+use Rattle.name_registry.specs.Auditing.{AreAllCpus, AreShown, IsTallied, acquired_of, is_collected, local_by, local_met, local_of, locals_of, net_met, net_of, released_of, tallies_below, tallies_met, tally, tally_by, tally_met, tally_of}
+use Rattle.name_registry.proofs.Audits.{all_met, each_same}
+
+-- The sum over the CPUs
+
+-- what the keeper has of one CPU: its mark, and its net count
+abbrev nothing : Mark × ℕ
+nothing = (no_mark, 0)
+
+-- the pair says whether the CPU's word was collected, and the net count that was
+record IsDrawn (k : OnKeeper) (t n : ℕ) (p : Mark × ℕ) (x : OnCpu) : Type 0 where
+  mark : is_collected k t x.view.id ≡ p.0.collected
+  net : p.0.collected ≡ true → p.1 + released_of n x ≡ bias + acquired_of n x
+
+-- what is local and what was collected is what the CPU acquired less what it released
+one_cpu : (k : OnKeeper) (t n : ℕ) (p : Mark × ℕ) (x : OnCpu) → IsDrawn k t n p x → local_of k t n x +ℤ pos (collected_net p + released_of n x) ≡ pos (acquired_of n x + bias * collected_one p)
+one_cpu k t n p x drawn = by p.0.collected refl
+  where
+    by : (b : Bool) → p.0.collected ≡ b → local_of k t n x +ℤ pos (collected_net p + released_of n x) ≡ pos (acquired_of n x + bias * collected_one p)
+    by true is =
+        let local : local_of k t n x ≡ pos 0 = ap (λ b. cond b (pos 0) (net_of n x)) (drawn.mark ∙ is) in
+        let net : collected_net p ≡ p.1 = ap (λ b. cond b p.1 0) is in
+        let one : collected_one p ≡ 1 = ap (λ b. cond b 1 0) is in
+        omega (arith, ints, local, net, one, drawn.net is)
+    by false is =
+        let local : local_of k t n x ≡ net_of n x = ap (λ b. cond b (pos 0) (net_of n x)) (drawn.mark ∙ is) in
+        let net : collected_net p ≡ 0 = ap (λ b. cond b p.1 0) is in
+        let one : collected_one p ≡ 0 = ap (λ b. cond b 1 0) is in
+        omega (arith, ints, local, net, one)
+
+-- past the CPUs nothing was collected
+none_past : (row : List (Mark × ℕ)) → ((c : ℕ) → (get_or row c nothing).0.collected ≡ false) → (sum_by collected_net row ≡ 0) × (sum_by collected_one row ≡ 0)
+none_past [] none = (refl, refl)
+none_past (p ∷ row) none =
+    let rest = none_past row (λ c. none (suc c)) in
+    let net : collected_net p ≡ 0 = ap (λ b. cond b p.1 0) (none 0) in
+    let one : collected_one p ≡ 0 = ap (λ b. cond b 1 0) (none 0) in
+    (omega (arith, sum_by-cons collected_net p row, net, rest.0), omega (arith, sum_by-cons collected_one p row, one, rest.1))
+
+sums : (k : OnKeeper) (t n : ℕ) (row : List (Mark × ℕ)) (xs : List OnCpu) (a : ℤ) → ((c : ℕ) (x : OnCpu) → get_elem? xs c ≡ some x → IsDrawn k t n (get_or row c nothing) x) → ((c : ℕ) → length xs ≤ c → (get_or row c nothing).0.collected ≡ false)
+    → fold ◌+ℤ◌ a (locals_of k xs t n) +ℤ pos (sum_by collected_net row + sum_by (released_of n) xs) ≡ a +ℤ pos (sum_by (acquired_of n) xs + bias * sum_by collected_one row)
+sums k t n row [] a each past = let none = none_past row (λ c. past c (omega arith)) in omega (arith, ints, none.0, none.1)
+sums k t n [] (x ∷ xs) a each past =
+    let rest = sums k t n [] xs (a +ℤ local_of k t n x) (λ c y at. each (suc c) y at) (λ c le. refl) in
+    let one = one_cpu k t n nothing x (each 0 x refl) in
+    omega (arith, ints, rest, one, sum_by-cons (released_of n) x xs, sum_by-cons (acquired_of n) x xs)
+sums k t n (p ∷ row) (x ∷ xs) a each past =
+    let rest = sums k t n row xs (a +ℤ local_of k t n x) (λ c y at. each (suc c) y at) (λ c le. past (suc c) (omega (arith, le))) in
+    let one = one_cpu k t n p x (each 0 x refl) in
+    omega (arith, ints, rest, one, sum_by-cons (released_of n) x xs, sum_by-cons (acquired_of n) x xs, sum_by-cons collected_net p row, sum_by-cons collected_one p row)
+
+-- Of a slot in such a state
+
+-- the keeper is at rest, and what it has in its slots its view has too
+pub record IsSettled (a : Settings) (k : OnKeeper) : Type 0 where
+  pub settings : k.view.settings ≡ a
+  pub rest : k.view.due ≡ Rest
+  pub live : (t : ℕ) (e : Entry) → slot_at k.slots t ≡ Live e → slot_at k.view.slots t ≡ Live e
+  pub retired : (t : ℕ) (e : Entry) → slot_at k.slots t ≡ Retired e → slot_at k.view.slots t ≡ Retired e
+
+pub settled_of : (z : TableId) (a : Settings) (table : TableId) (k : KeeperView) (its : Settings) (rows : List Row) (n : ℕ) (x : OnKeeper) → IsOurKeeper z a table k its rows n → record { view = k; slots = states_of rows } ≡ x → IsSettled a x
+settled_of z a table k its rows n x our is = subst (IsSettled a) is record {
+  settings = our.view.settings;
+  rest = our.view.rest;
+  live = λ t e live. (live_in a k rows t e our.rows live).1;
+  retired = λ t e gone. (retired_in a k rows t e our.rows gone).1;
+}
+
+zip_at : (ms : List Mark) (ns : List ℕ) (c : ℕ) → length ms ≡ length ns → get_or (zip ms ns) c nothing ≡ (get_or ms c no_mark, get_or ns c 0)
+zip_at [] [] c same = refl
+zip_at [] (n ∷ ns) c same = absurd (omega (arith, same))
+zip_at (m ∷ ms) [] c same = absurd (omega (arith, same))
+zip_at (m ∷ ms) (n ∷ ns) zero same = refl
+zip_at (m ∷ ms) (n ∷ ns) (suc c) same = zip_at ms ns c (omega (arith, same))
+
+-- a live entry: no word was collected, and the total is the bias less what was given up
+held_live : (k : OnKeeper) (xs : List OnCpu) (g : State) (t : ℕ) (e : Entry) → AreShown g k xs → slot_at k.slots t ≡ Live e → slot_at k.view.slots t ≡ Live e → (tally_of k xs e.number t).held ≡ tally k xs e.number
+held_live k xs g t e shown live there =
+    let seen = seen_by_keeper g k.view shown.good shown.keeper in
+    let each : (c : ℕ) (x : OnCpu) → get_elem? xs c ≡ some x → IsDrawn k t e.number nothing x = λ c x at. record { mark = ap (λ (y : Slot). is_retired y && (mark_at k.view.marks t x.view.id).collected) live; net = λ never. absurd (false≢true never) } in
+    let sum = sums k t e.number [] xs (pos 0) each (λ c le. refl) in
+    let total = shown.keeper.live_total t e (ap (λ (y : List Slot). slot_at y t) (sym seen.slots) ∙ there) in
+    let same = ap (λ (y : List ℕ). total_at y t) seen.totals in
+    omega (arith, ints, sum, total, same)
+
+-- a retired one: the total is what was collected, less what was given up
+held_retired : (a : Settings) (k : OnKeeper) (xs : List OnCpu) (g : State) (t : ℕ) (e : Entry) → IsSettled a k → AreAllCpus a.cpus xs → AreShown g k xs → slot_at k.slots t ≡ Retired e → slot_at k.view.slots t ≡ Retired e → (tally_of k xs e.number t).held ≡ tally k xs e.number
+held_retired a k xs g t e settled all shown gone there =
+    let seen = seen_by_keeper g k.view shown.good shown.keeper in
+    let here : slot_at g.slots t ≡ Retired e = ap (λ (y : List Slot). slot_at y t) (sym seen.slots) ∙ there in
+    let shape = shown.good.holds.shape in
+    let within = in_within g.slots t e (inr here) in
+    let ms = get_or g.marks t [] in
+    let ns = get_or g.nets t [] in
+    let long : length ms ≡ length ns = shape.mark_rows t (omega (arith, within, shape.slots, shape.marks)) ∙ sym (shape.net_rows t (omega (arith, within, shape.slots, shape.nets))) in
+    let at : (c : ℕ) → get_or (zip ms ns) c nothing ≡ (get_or ms c no_mark, get_or ns c 0) = λ c. zip_at ms ns c long in
+    let each : (c : ℕ) (x : OnCpu) → get_elem? xs c ≡ some x → IsDrawn k t e.number (get_or (zip ms ns) c nothing) x = λ c x is.
+        let id = all.each c x is in
+        let net : count_at g.nets x.view.id t + released_of e.number x ≡ bias + acquired_of e.number x = (shown.cpus c x is).nets t e (inr here) in
+        subst (λ (p : Mark × ℕ). IsDrawn k t e.number p x) (sym (at c)) (record {
+          mark = ap (λ (y : Slot). is_retired y && (mark_at k.view.marks t x.view.id).collected) gone ∙ (ap (λ i. (mark_at k.view.marks t i).collected) id ∙ ap (λ (y : List (List Mark)). (mark_at y t c).collected) seen.marks);
+          net = λ _. ap (λ i. count_at g.nets i t + released_of e.number x) (sym id) ∙ net;
+        }) in
+    let cpus : a.cpus ≡ g.settings.cpus = ap (λ (z : Settings). z.cpus) (sym settled.settings ∙ seen.settings) in
+    let sum = sums k t e.number (zip ms ns) xs (pos 0) each (λ c le. ap (λ (p : Mark × ℕ). p.0.collected) (at c) ∙ shown.keeper.beyond c t (omega (arith, le, all.count, cpus))) in
+    let due : g.due ≡ Rest = sym seen.due ∙ settled.rest in
+    let adding : adding_at t g.due ≡ 0 = ap (adding_at t) due in
+    let is_adding : is_adding_at t g.due ≡ 0 = ap (is_adding_at t) due in
+    let subtracting : subtracting_at t g.due ≡ 0 = ap (subtracting_at t) due in
+    let total = shown.keeper.gives_up t e here in
+    let same = ap (λ (y : List ℕ). total_at y t) seen.totals in
+    omega (arith, ints, sum, total, same, adding, is_adding, subtracting)
+
+held_right : (a : Settings) (k : OnKeeper) (xs : List OnCpu) (g : State) (t : ℕ) (e : Entry) → IsSettled a k → AreAllCpus a.cpus xs → AreShown g k xs → IsIn e (slot_at k.slots t) → (tally_of k xs e.number t).held ≡ tally k xs e.number
+held_right a k xs g t e settled all shown is = ⊎_elim
+    (λ (live : slot_at k.slots t ≡ Live e). held_live k xs g t e shown live (settled.live t e live))
+    (λ (gone : slot_at k.slots t ≡ Retired e). held_retired a k xs g t e settled all shown gone (settled.retired t e gone))
+    is
+
+-- A CPU's place says its own net count
+
+own_net : (g : State) (x : OnCpu) (t : ℕ) (e : Entry) → CpuShown g x.view → IsIn e (slot_at g.slots t) → net_met t e.number x ≡ net_of e.number x
+own_net g x t e had here = dite (ℕ_discrete (number_at x.view.met t) e.number)
+    (λ (same : number_at x.view.met t ≡ e.number). ap (λ b. cond b (net_of e.number x) (pos 0)) (eq-eqb (number_at x.view.met t) e.number same))
+    (λ (off : number_at x.view.met t ≢ e.number).
+    let place : IsPlaceCount x.view t e.number bias = record { met = λ same. absurd (off same); other = λ _. refl } in
+    let net = place_is g x.view t e bias had here place in
+    ap (λ b. cond b (net_of e.number x) (pos 0)) (ne_eqb (number_at x.view.met t) e.number off) ∙ omega (arith, ints, net))
+
+locals_same : (f h : OnCpu → ℤ) (xs : List OnCpu) → ((c : ℕ) (x : OnCpu) → get_elem? xs c ≡ some x → f x ≡ h x) → map f xs ≡ map h xs
+locals_same f h [] each = refl
+locals_same f h (x ∷ xs) each = let one = each 0 x refl in let rest = locals_same f h xs (λ c y at. each (suc c) y at) in λ i. one i ∷ rest i
+
+own_tally : (a : Settings) (k : OnKeeper) (xs : List OnCpu) (g : State) (t : ℕ) (e : Entry) → IsSettled a k → AreShown g k xs → IsIn e (slot_at k.slots t) → tally_met k xs e.number t ≡ tally_of k xs e.number t
+own_tally a k xs g t e settled shown is =
+    let seen = seen_by_keeper g k.view shown.good shown.keeper in
+    let there : IsIn e (slot_at k.view.slots t) = ⊎_elim (λ (live : slot_at k.slots t ≡ Live e). inl (settled.live t e live)) (λ (gone : slot_at k.slots t ≡ Retired e). inr (settled.retired t e gone)) is in
+    let here : IsIn e (slot_at g.slots t) = subst (λ (y : List Slot). IsIn e (slot_at y t)) seen.slots there in
+    ap (λ locals. tally_by k locals e.number t)
+    (locals_same (local_met k t e.number) (local_of k t e.number) xs (λ c x at. ap (λ net. local_by k t net x) (own_net g x t e (shown.cpus c x at) here)))
+
+-- What is shown of the list
+
+pub answer_right : (a : Settings) (k : OnKeeper) (xs : List OnCpu) (slots : ℕ) (list : List Balance) → IsSettled a k → map tally_shown list ≡ tallies_met k xs slots → (g : State) → AreShown g k xs → map tally_shown list ≡ tallies_below k xs slots
+answer_right a k xs slots list settled is g shown = is ∙ each_same (tally_met k xs) (tally_of k xs) k.slots slots (λ t e there. own_tally a k xs g t e settled shown there)
+
+pub tally_right : (a : Settings) (k : OnKeeper) (xs : List OnCpu) (slots : ℕ) (list : List Balance) → IsSettled a k → AreAllCpus a.cpus xs → map tally_shown list ≡ tallies_met k xs slots → All (λ (b : Balance). IsTallied k xs (tally_shown b)) list
+tally_right a k xs slots list settled all is = all_met (IsTallied k xs) k xs slots list is
+    (λ t e there g shown. ap (λ (y : Tally). y.held) (own_tally a k xs g t e settled shown there) ∙ held_right a k xs g t e settled all shown there)

@@ -1,0 +1,8 @@
+use Rattle.std.proofs.Common.{◌≡◌, map}
+use Rattle.passive_core.specs.Audits.{tally_shown}
+use Rattle.name_registry.specs.Auditing.{tallies_met}
+use Rattle.name_registry.proofs.auditing.balances.Given as goal
+
+-- what is said of the slots so far
+abbrev pub invariant-loop-t : goal.invariant-loop-t
+invariant-loop-t g l = map tally_shown l.list.items ≡ tallies_met l.keeper l.cpus l.t

@@ -1,0 +1,21 @@
+-- A CPU's place says its net count.
+use Rattle.std.proofs.Common.{◌≡◌, ap, sym, ◌∙◌, subst, arith}
+use Rattle.std.proofs.lemmas.Int.{ints}
+use Rattle.passive_core.proofs.Fit.{ranges}
+use Rattle.passive_list.specs.Cpus.{OnCpu}
+use Rattle.name_registry.specs.Auditing.{net_met}
+use Rattle.name_registry.proofs.Audits.{local_is, net_is}
+use Rattle.name_registry.proofs.auditing.local.Goals as goal
+
+pub is_collected-requires : goal.is_collected-requires
+is_collected-requires g c = (c.requires.0, c.cpu.invariant.few)
+
+pub bounds-cpu-inside-t : goal.bounds-cpu-inside-t
+bounds-cpu-inside-t g c = omega (arith, c.requires.0, (ranges g.D.Domain.settings c.cpu.invariant.fit).slots)
+
+pub returns-else-is_collected-clause-value : goal.returns-else-is_collected-clause-value
+returns-else-is_collected-clause-value g c =
+    let id = ap (λ (x : OnCpu). x.view.id) (sym c.cpu.view_is) ∙ c.cpu.invariant.id in
+    let net = net_is _ c.cpu.inside.depth _ _ _ _ c.cpu.invariant.net c.requires.1 c.net_count.ensures in
+    let says = subst (λ (x : OnCpu). c.less_bias.result ≡ net_met c.args.t c.args.number x) c.cpu.view_is (c.less_bias.ensures ∙ net) in
+    omega (arith, ints, local_is c.args.keeper.now c.args.cpu.now _ _ _ _ id (sym c.is_collected.ensures ∙ c.if-is_collected.false) says, c.less_bias.type_inv)

@@ -1,0 +1,145 @@
+//! The audit of local references (localcount(9)), for a caller that holds the keeper and all CPUs.
+
+ghost use Rattle.std.specs.Prelude.{◌≡◌, ◌↔◌, ◌⊎◌, ◌+ℤ◌, ◌≤ℤ◌, ◌<◌, ◌≤◌, ◌^◌, All, IfOk, IfErr, IsErrOf, IsTrue, OnErr, length, map, neg_ℤ, pos};
+ghost use Rattle.passive_core.specs.Audits.{sum_of, tally_shown};
+ghost use Rattle.passive_core.specs.State.{State};
+ghost use Rattle.name_registry.specs.Auditing.{AreAllCpus, AreShown, IsOccupied, IsTallied, Occupies, is_collected, local_met, locals_met, place_of, places_below, tallies_below, tallies_met, tally_met};
+
+use cpu_words::{Domain, Words};
+use local_count::net_count;
+use passive_core::{Balance, Refusal, Slot, less_bias, sum};
+use passive_list::{Cpu, Keeper};
+use std::alloc::{AllocError, Global};
+
+/// What the counts say of each live or retired entry, least slot first: of each CPU its own net count, 0 where the keeper has collected its
+/// count word, and as total what was collected, less what was given up. It makes no step.
+/// Refused, in this order: `MissingCpu` where the slice isn't CPU 0, 1, .. of this registry in this order; `NoMemory`, and not where there
+/// is no such entry.
+pub fn audit_in<D: Domain>(
+    alloc: Global,
+    words: &Words,
+    keeper: &mut Keeper<D>,
+    cpus: &mut [Cpu<D>],
+) -> Result<Vec<Balance>, Refusal>
+    requires words { (words.now.table ≡ D.table) × (words.now.settings ≡ D.settings) }
+    ensures missing { IsErrOf result Refusal.MissingCpu ↔ (AreAllCpus D.settings.cpus cpus.old → ⊥) }
+    ensures err { IfErr result (λ refusal. (refusal ≡ Refusal.MissingCpu) ⊎ (refusal ≡ Refusal.NoMemory)) }
+    ensures wanted { IsErrOf result Refusal.NoMemory → IsOccupied keeper.old }
+    ensures places { IfOk result (λ list. map place_of list.items ≡ places_below keeper.old D.settings.slots) }
+    ensures sums { IfOk result (λ list. All (λ b. b.held ≡ sum_of b.locals.items +ℤ b.total) list.items) }
+    ensures locals { IfOk result (λ list. All (λ b. length b.locals.items ≡ D.settings.cpus) list.items) }
+    ensures answer { IfOk result (λ list. (g : State) → AreShown g keeper.old cpus.old → map tally_shown list.items ≡ tallies_below keeper.old cpus.old D.settings.slots) }
+    ensures tally { IfOk result (λ list. All (λ b. IsTallied keeper.old cpus.old (tally_shown b)) list.items) }
+    ensures same { (keeper.new ≡ keeper.old) × (cpus.new ≡ cpus.old) }
+{
+    let _words = words;
+    if !are_all(keeper.settings.cpus, cpus) {
+        return Err(Refusal::MissingCpu);
+    }
+    match balances(alloc, keeper, cpus) {
+        Ok(list) => Ok(list),
+        Err(_) => Err(Refusal::NoMemory),
+    }
+}
+
+/// Whether these are so many CPUs, 0, 1, .., in this order.
+fn are_all<D: Domain>(count: u8, cpus: &[Cpu<D>]) -> bool
+    ensures { IsTrue result ↔ AreAllCpus count cpus.now }
+{
+    if cpus.len() != count as usize {
+        return false;
+    }
+    for c in 0..count {
+        if cpus[c as usize].id() != c {
+            return false;
+        }
+    }
+    true
+}
+
+fn balances<D: Domain>(
+    alloc: Global,
+    keeper: &Keeper<D>,
+    cpus: &[Cpu<D>],
+) -> Result<Vec<Balance>, AllocError>
+    requires { length cpus.now ≤ 8 }
+    ensures value { IfOk result (λ list. map tally_shown list.items ≡ tallies_met keeper.now cpus.now D.settings.slots) }
+    ensures wanted { OnErr result (IsOccupied keeper.now) }
+{
+    let mut list = Vec::new(alloc);
+    let slots = keeper.settings.slots;
+    for t in 0..slots {
+        match keeper.slot(t) {
+            Slot::Vacant => (),
+            Slot::Live(entry) | Slot::Retired(entry) => {
+                list.push(balance(alloc, keeper, cpus, t, entry.number)?)?;
+            }
+        }
+    }
+    Ok(list)
+}
+
+/// What the counts say of the entry with `number` in the slot `t`.
+fn balance<D: Domain>(
+    alloc: Global,
+    keeper: &Keeper<D>,
+    cpus: &[Cpu<D>],
+    t: u8,
+    number: u64,
+) -> Result<Balance, AllocError>
+    requires entry { Occupies keeper.now t number }
+    requires few { length cpus.now ≤ 8 }
+    ensures { IfOk result (λ b. tally_shown b ≡ tally_met keeper.now cpus.now number t) }
+{
+    let total = less_bias(keeper.rows[t as usize].total);
+    let locals = locals(alloc, keeper, cpus, t, number)?;
+    let held = sum(&locals) + total;
+    Ok(Balance {
+        number,
+        slot: t,
+        held,
+        locals,
+        total,
+    })
+}
+
+/// Of each CPU its net count for the entry.
+fn locals<D: Domain>(
+    alloc: Global,
+    keeper: &Keeper<D>,
+    cpus: &[Cpu<D>],
+    t: u8,
+    number: u64,
+) -> Result<Vec<i64>, AllocError>
+    requires { (t < D.settings.slots) × (0 < number) }
+    ensures value { IfOk result (λ list. list.items ≡ locals_met keeper.now cpus.now t number) }
+    ensures range { IfOk result (λ list. All (λ z. (neg_ℤ (pos (2 ^ 50)) ≤ℤ z) × (z ≤ℤ pos (2 ^ 50))) list.items) }
+{
+    let mut list = Vec::new(alloc);
+    for cpu in cpus {
+        list.push(local(keeper, cpu, t, number))?;
+    }
+    Ok(list)
+}
+
+/// A CPU's net count for the entry, by its place; 0 where the keeper has collected it.
+fn local<D: Domain>(keeper: &Keeper<D>, cpu: &Cpu<D>, t: u8, number: u64) -> i64
+    requires { (t < D.settings.slots) × (0 < number) }
+    ensures value { result ≡ local_met keeper.now t number cpu.now }
+    ensures range { (neg_ℤ (pos (2 ^ 50)) ≤ℤ result) × (result ≤ℤ pos (2 ^ 50)) }
+{
+    if is_collected(keeper, t, cpu.id) {
+        0
+    } else {
+        less_bias(net_count(cpu.net[t as usize], number))
+    }
+}
+
+/// Whether the keeper has collected the CPU's count word for the entry in the slot `t`.
+fn is_collected<D: Domain>(keeper: &Keeper<D>, t: u8, cpu: u8) -> bool
+    requires { (t < D.settings.slots) × (cpu < 8) }
+    ensures { result ≡ is_collected keeper.now t cpu }
+{
+    let row = keeper.rows[t as usize];
+    matches!(row.state, Slot::Retired(_)) && row.marks[cpu as usize].collected
+}
