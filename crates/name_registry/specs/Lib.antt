@@ -6,3 +6,4 @@ pub mod Auditing
 pub mod Law
 pub mod Opening
 pub mod Advancing
+pub mod Locking

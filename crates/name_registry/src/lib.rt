@@ -10,11 +10,14 @@ mod advancing;
 mod attaching;
 mod auditing;
 mod blank;
+mod destroying;
 mod detaching;
 mod law;
 mod meeting;
+mod performing;
 mod plain;
 mod registry;
+mod releasing;
 
 pub use advancing::advance_in;
 pub use attaching::{attach_iface_in, attach_in};
