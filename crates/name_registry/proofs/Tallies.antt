@@ -127,12 +127,12 @@ held_retired a k xs g t e settled all shown gone there =
     let long : length ms ≡ length ns = shape.mark_rows t (omega (arith, within, shape.slots, shape.marks)) ∙ sym (shape.net_rows t (omega (arith, within, shape.slots, shape.nets))) in
     let at : (c : ℕ) → get_or (zip ms ns) c nothing ≡ (get_or ms c no_mark, get_or ns c 0) = λ c. zip_at ms ns c long in
     let each : (c : ℕ) (x : OnCpu) → get_elem? xs c ≡ some x → IsDrawn k t e.number (get_or (zip ms ns) c nothing) x = λ c x is.
-        let id = all.each c x is in
-        let net : count_at g.nets x.view.id t + released_of e.number x ≡ bias + acquired_of e.number x = (shown.cpus c x is).nets t e (inr here) in
-        subst (λ (p : Mark × ℕ). IsDrawn k t e.number p x) (sym (at c)) (record {
-          mark = ap (λ (y : Slot). is_retired y && (mark_at k.view.marks t x.view.id).collected) gone ∙ (ap (λ i. (mark_at k.view.marks t i).collected) id ∙ ap (λ (y : List (List Mark)). (mark_at y t c).collected) seen.marks);
-          net = λ _. ap (λ i. count_at g.nets i t + released_of e.number x) (sym id) ∙ net;
-        }) in
+    let id = all.each c x is in
+    let net : count_at g.nets x.view.id t + released_of e.number x ≡ bias + acquired_of e.number x = (shown.cpus c x is).nets t e (inr here) in
+    subst (λ (p : Mark × ℕ). IsDrawn k t e.number p x) (sym (at c)) (record {
+      mark = ap (λ (y : Slot). is_retired y && (mark_at k.view.marks t x.view.id).collected) gone ∙ (ap (λ i. (mark_at k.view.marks t i).collected) id ∙ ap (λ (y : List (List Mark)). (mark_at y t c).collected) seen.marks);
+      net = λ _. ap (λ i. count_at g.nets i t + released_of e.number x) (sym id) ∙ net;
+    }) in
     let cpus : a.cpus ≡ g.settings.cpus = ap (λ (z : Settings). z.cpus) (sym settled.settings ∙ seen.settings) in
     let sum = sums k t e.number (zip ms ns) xs (pos 0) each (λ c le. ap (λ (p : Mark × ℕ). p.0.collected) (at c) ∙ shown.keeper.beyond c t (omega (arith, le, all.count, cpus))) in
     let due : g.due ≡ Rest = sym seen.due ∙ settled.rest in

@@ -57,8 +57,7 @@ fn place_retired_as(rows: &[Row], number: u64) -> Option<usize>
 fn advance_slot<D: Domain>(words: &Words, keeper: &mut Keeper<D>, slot: u8) -> Stage
     requires words { (words.now.table ≡ D.table) × (words.now.settings ≡ D.settings) }
     requires works { MayWork D.settings keeper.old slot }
-    ensures met { Meets keeper.old slot result keeper.new }
-    ensures stage { IsStageOf D.settings result }
+    ensures { Meets keeper.old slot result keeper.new }
 {
     if let Some(cpu) = look_at_all(words, keeper, slot) {
         return Stage::Grace(cpu);

@@ -53,7 +53,10 @@ impl Blank {
 
     /// The registry, and its CPUs, CPU 0 first. Condition: D names the blank's table and settings.
     /// Refused: `NoMemory`. The blank comes back then, as it was.
-    pub fn open<D: Domain>(self, alloc: Global) -> Result<(Registry<D>, Vec<Cpu<D>>), (Refusal, Blank)>
+    pub fn open<D: Domain>(
+        self,
+        alloc: Global,
+    ) -> Result<(Registry<D>, Vec<Cpu<D>>), (Refusal, Blank)>
         requires { (self.table ≡ D.table) × (self.settings ≡ D.settings) }
         ensures cpus { IfOk result (λ made. AreNewCpus D.settings D.settings.cpus made.1.items) }
         ensures back { IfErr result (λ back. (back.0 ≡ Refusal.NoMemory) × (back.1 ≡ self)) }
@@ -61,7 +64,11 @@ impl Blank {
         let Ok(mut cpus) = Vec::with_capacity(alloc, self.cpus.len()) else {
             return Err((Refusal::NoMemory, self));
         };
-        let Blank { words, keeper, cpus: seats } = self;
+        let Blank {
+            words,
+            keeper,
+            cpus: seats,
+        } = self;
         let settings = words.settings();
         seat_cpus(seats, &mut cpus);
         let keeper = Mutex::new(Keeper::of_seat(keeper, settings));

@@ -36,16 +36,16 @@ impl<D: Domain> Registry<D> {
 
     /// Glances at the CPUs in so many turns, and takes the lock anew for each. The answer is the least CPU that wasn't seen out of the
     /// section of its snapshot.
-    fn wait_for_sections<R: Wait>(
-        &self,
-        rt: &R,
-        snapshots: &[u64; 8],
-        turns: u32,
-    ) -> Option<u8>
+    fn wait_for_sections<R: Wait>(&self, rt: &R, snapshots: &[u64; 8], turns: u32) -> Option<u8>
         ensures { IfSome result (λ c. c < D.settings.cpus) }
     {
         let mut seen = [false; 8];
-        let mut waited = glance_at_all(&self.words, &mut self.keeper.lock(rt), snapshots, &mut seen);
+        let mut waited = glance_at_all(
+            &self.words,
+            &mut self.keeper.lock(rt),
+            snapshots,
+            &mut seen,
+        );
         for _ in 1..turns {
             if waited.is_none() {
                 return None;
@@ -85,6 +85,7 @@ fn retired_numbers<D: Domain>(keeper: &Keeper<D>) -> [Option<u64>; 32] {
 }
 
 /// One turn: a glance at each CPU that wasn't seen out of the section of its snapshot yet. The answer is the least that still wasn't.
+#[tactic(auto, using(crate::proofs::Owned::least_small))]
 fn glance_at_all<D: Domain>(
     words: &Words,
     keeper: &mut Keeper<D>,

@@ -14,8 +14,8 @@ loop-t-preserved g c =
     let old = c.loop-t.list.items in
     let new = c.match-slot.list.items in
     elim c.match-slot.branch [
-      in-Vacant w ↦ tallies_none k xs t x old new c.slot.ensures w.in-Vacant.is (ap (λ (v : Vec Balance Global). v.items) w.list-is) c.loop-t.invariant
-    | in-Live+in_ok-balance-in-Live+in_ok-push-in-Live w ↦
+      | in-Vacant w ↦ tallies_none k xs t x old new c.slot.ensures w.in-Vacant.is (ap (λ (v : Vec Balance Global). v.items) w.list-is) c.loop-t.invariant
+      | in-Live+in_ok-balance-in-Live+in_ok-push-in-Live w ↦
           let b = w.in_ok-balance-in-Live.field-0 in
           let pushed : new ≡ old ++ b ∷ [] = ap (λ (v : Vec Balance Global). v.items) w.list-is ∙ w.in_ok-push-in-Live.ensures.items in
           tallies_more k xs t x w.in-Live.entry old new b c.slot.ensures w.in-Live.is pushed c.loop-t.invariant w.in_ok-balance-in-Live.ensures
