@@ -1,4 +1,5 @@
 pub mod Attached
+pub mod Audits
 pub mod Balanced
 pub mod Detached
 pub mod Heard
@@ -6,5 +7,6 @@ pub mod Rows
 pub mod Worked
 pub mod Seen
 pub mod Placed
-pub mod Audits
 pub mod Tallies
+pub mod Opened
+pub mod Owned

@@ -4,4 +4,6 @@ pub mod Attaching
 pub mod Detaching
 pub mod Auditing
 pub mod Law
+pub mod Opening
 pub mod Advancing
+pub mod Locking

@@ -1,12 +1,13 @@
 //! The work on a retired entry, for a caller that holds the keeper: one turn, up to the first obstacle.
 
-ghost use Rattle.std.specs.Prelude.{◌≡◌, ◌≢◌, ◌<◌, IfSome, None, position, true, false};
+ghost use Rattle.std.specs.Prelude.{◌≡◌, ◌≢◌, ◌<◌, IfOk, IfSome, None, position, true, false};
 ghost use Rattle.passive_core.specs.declared.entry.Entry.{Entry};
 ghost use Rattle.passive_core.specs.declared.state.Slot.TheVariants.{Retired};
 ghost use Rattle.passive_core.specs.Advancing.{retired_slot};
 ghost use Rattle.passive_core.specs.State.{slot_at, mark_at};
 ghost use Rattle.passive_list.specs.Vacating.{IsDrainedOn};
 ghost use Rattle.name_registry.specs.Advancing.{HasAdvanced, Meets, MeetsGrace, MeetsPassive, HasLookedFor, HasWorkedFor, MayWork, SeesSection, SeesPassive, Settles, HasEnded, PassedBelow, ClearBelow, CollectedBelow, is_retired_row};
+ghost use Rattle.name_registry.specs.Locking.{IsStageOf};
 
 use cpu_words::{Domain, Words};
 use local_count::{collect, collected, free_iface, total};
@@ -26,6 +27,7 @@ pub fn advance_in<D: Domain>(
 ) -> Result<Stage, Refusal>
     requires words { (words.now.table ≡ D.table) × (words.now.settings ≡ D.settings) }
     ensures answer { HasAdvanced keeper.old number result keeper.new }
+    ensures stage { IfOk result (λ stage. IsStageOf D.settings stage) }
 {
     let Some(slot) = retired_place(keeper, number) else {
         return Err(Refusal::NotRetired);
@@ -34,7 +36,7 @@ pub fn advance_in<D: Domain>(
 }
 
 /// The slot of the retired entry with this number.
-fn retired_place<D: Domain>(keeper: &Keeper<D>, number: u64) -> Option<u8>
+pub(crate) fn retired_place<D: Domain>(keeper: &Keeper<D>, number: u64) -> Option<u8>
     ensures value { result ≡ retired_slot keeper.now.slots number }
     ensures works { IfSome result (λ t. MayWork D.settings keeper.now t) }
 {

@@ -23,14 +23,15 @@ pub use laws::{
 };
 pub use machine::{BIAS, Core, less_bias, run_events, sum};
 pub use marks::{
-    are_clear, are_collected, cleared, collected, have_passed, is_some_collected, looked,
+    are_clear, are_collected, cleared, collected, first_unseen, have_passed, is_out,
+    is_some_collected, looked,
 };
 pub use name::{Name, NameFault, name_laws};
 pub use psref::CorePsref;
 pub use refusal::Refusal;
 pub use settings::Settings;
 pub use slots::{has_number, is_live, is_live_as, is_plain, is_retired_as, key_of, retired_number};
-pub use stage::Stage;
+pub use stage::{Stage, destroyed};
 pub use state::{Due, Hand, Key, Loaded, LocalPlace, Mark, Place, RecordWords, Search, Slot};
 
 #[cfg(test)]

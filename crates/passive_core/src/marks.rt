@@ -1,7 +1,10 @@
-//! The marks that a keeper has of the CPUs for a retired entry: what a step tells of one, and what is so of all CPUs.
+//! The marks that a keeper has of the CPUs for a retired entry: what a step tells of one, and what is so of all CPUs. And which CPUs were seen
+//! out of a section, for a wait that is for no entry.
 
-ghost use Rattle.std.specs.Prelude.{◌≡◌};
+ghost use Rattle.std.specs.Prelude.{◌≡◌, ◌≤◌, false, not, slice_index_or};
+ghost use Rattle.passive_core.specs.Advancing.{least_below};
 ghost use Rattle.passive_core.specs.Events.{looked, cleared, collected};
+ghost use Rattle.passive_core.specs.Performing.{is_out};
 ghost use Rattle.passive_core.specs.Slots.{has_changed, have_passed, are_clear, are_collected, is_some_collected};
 
 use crate::state::Mark;
@@ -72,4 +75,24 @@ pub fn is_some_collected(cpus: u8, row: &[Mark]) -> bool
     ensures { result ≡ is_some_collected cpus row.now }
 {
     row.iter().take(cpus as usize).any(|mark| mark.collected)
+}
+
+/// The least CPU, below `cpus`, that wasn't seen.
+pub fn first_unseen(cpus: u8, seen: &[bool; 8]) -> Option<u8>
+    requires { cpus ≤ 8 }
+    ensures { result ≡ least_below (λ c. not (slice_index_or seen.now c false)) cpus }
+{
+    for c in 0..cpus {
+        if !seen[c as usize] {
+            return Some(c);
+        }
+    }
+    None
+}
+
+/// Whether the section word shows its CPU out of the section of the snapshot (pserialize(9)).
+pub fn is_out(snapshot: u64, word: u64) -> bool
+    ensures { result ≡ is_out snapshot word }
+{
+    word % 2 == 0 || snapshot != word
 }

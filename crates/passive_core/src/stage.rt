@@ -1,5 +1,10 @@
 //! How far the destruction of a retired entry has come.
 
+ghost use Rattle.std.specs.Prelude.{◌≡◌};
+ghost use Rattle.passive_core.specs.Advancing.{destroyed};
+
+use crate::refusal::Refusal;
+
 /// What stands between a retired entry and the freeing of its slot, the first in this order.
 #[derive(Clone, Copy, Debug, PartialEq, Eq)]
 pub enum Stage {
@@ -11,4 +16,14 @@ pub enum Stage {
     Local(u64),
     /// Nothing: this slot is vacant again.
     Freed(u8),
+}
+
+/// What a destroy answers by its last stage: the slot that was freed, or the obstacle as a refusal.
+pub fn destroyed(stage: Stage) -> Result<u8, Refusal>
+    ensures { result ≡ destroyed stage }
+{
+    match stage {
+        Stage::Freed(slot) => Ok(slot),
+        held => Err(Refusal::StillHeld(held)),
+    }
 }

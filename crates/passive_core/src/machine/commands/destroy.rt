@@ -1,13 +1,13 @@
 //! Destroying a retired entry.
 
 ghost use Rattle.std.specs.Prelude.{◌≡◌, ◌<◌, ◌≤◌, ℕ, true};
-ghost use Rattle.passive_core.specs.Advancing.{destroyed, destroy_answer, DestroyLeaves};
+ghost use Rattle.passive_core.specs.Advancing.{destroy_answer, DestroyLeaves};
 ghost use Rattle.passive_core.specs.Commands.{may_act};
 ghost use Rattle.passive_core.specs.Slots.{at_rest};
 
 use crate::machine::Core;
 use crate::refusal::Refusal;
-use crate::stage::Stage;
+use crate::stage::{Stage, destroyed};
 
 impl Core {
     /// Advances the retired entry `number` on behalf of the CPU `c`, at most `turns` times (psref_target_destroy of
@@ -38,15 +38,5 @@ impl Core {
             stage = self.advance(number)?;
         }
         destroyed(stage)
-    }
-}
-
-/// The slot that was freed, or the obstacle as a refusal.
-fn destroyed(stage: Stage) -> Result<u8, Refusal>
-    ensures { result ≡ destroyed stage }
-{
-    match stage {
-        Stage::Freed(slot) => Ok(slot),
-        held => Err(Refusal::StillHeld(held)),
     }
 }

@@ -4,12 +4,13 @@ ghost use Rattle.std.specs.Prelude.{◌≡◌, ◌<◌, ◌≤◌, ℕ, true, fa
 ghost use Rattle.passive_core.specs.Advancing.{AllPassed, least_below};
 ghost use Rattle.passive_core.specs.Commands.{may_act};
 ghost use Rattle.passive_core.specs.Events.{is_inside};
-ghost use Rattle.passive_core.specs.Performing.{is_out, retired_number, perform_answer, PerformLeaves, OnlyPasses, AllOutside, AreSeen, AreWords};
+ghost use Rattle.passive_core.specs.Performing.{retired_number, perform_answer, PerformLeaves, OnlyPasses, AllOutside, AreSeen, AreWords};
 ghost use Rattle.passive_core.specs.Slots.{at_rest, is_retired};
 ghost use Rattle.passive_core.specs.State.{section_at, slot_at};
 
 use crate::event::{Event, Reply};
 use crate::machine::Core;
+use crate::marks::{first_unseen, is_out};
 use crate::refusal::Refusal;
 use crate::slots::retired_number;
 
@@ -170,24 +171,4 @@ impl Core {
             self.look_at_all(t);
         }
     }
-}
-
-/// The least CPU that wasn't seen.
-fn first_unseen(cpus: u8, seen: &[bool; 8]) -> Option<u8>
-    requires { cpus ≤ 8 }
-    ensures { result ≡ least_below (λ c. not (slice_index_or seen.now c false)) cpus }
-{
-    for c in 0..cpus {
-        if !seen[c as usize] {
-            return Some(c);
-        }
-    }
-    None
-}
-
-/// Whether the word shows its CPU out of the section of the snapshot.
-fn is_out(snapshot: u64, word: u64) -> bool
-    ensures { result ≡ is_out snapshot word }
-{
-    word % 2 == 0 || snapshot != word
 }

@@ -1,5 +1,5 @@
 use Rattle.std.proofs.Common.{◌≡◌, ◌<◌, ℕ, true, false, slice_index_or}
-use Rattle.passive_core.proofs.machine.commands.perform.first_unseen.Given as goal
+use Rattle.passive_core.proofs.marks.first_unseen.Given as goal
 
 -- the CPUs so far were seen
 abbrev pub invariant-loop-c : goal.invariant-loop-c

@@ -1,0 +1,183 @@
+-- What a caller keeps of a call through the lock, whatever is known of the keeper.
+use Rattle.std.proofs.Common.{◌≡◌, ◌∙◌, ◌⊎◌, ⊎_elim, inl, inr, ℕ, zero, suc, ◌<◌, Bool, true, false, if◌then◌else◌, List, length, Option, Some, None, Result, Ok, Err, IfOk, IfErr, IfSome, refl, sym, ap, subst, arith}
+use Rattle.passive_core.specs.declared.entry.Change.{Change}
+use Rattle.passive_core.specs.declared.entry.Entry.{Entry}
+use Rattle.passive_core.specs.declared.entry.Record.{Record}
+use Rattle.passive_core.specs.declared.refusal.Refusal.{Refusal}
+use Rattle.passive_core.specs.declared.refusal.Refusal.TheVariants.{NoMemory, BadSettings, NameTaken, NoSlot, HistoryFull, NotFound, Inside, SectionsSpent, NothingFound, PassiveFull, WrongCpu, NotHeld, LocalFull, NotRetired, MissingCpu, StillHeld, Waiting, TooDeep, NeedsDriver}
+use Rattle.passive_core.specs.declared.settings.Settings.{Settings}
+use Rattle.passive_core.specs.declared.stage.Stage.{Stage}
+use Rattle.passive_core.specs.declared.stage.Stage.TheVariants.{Grace, Passive, Local, Freed}
+use Rattle.passive_core.specs.declared.state.Key.{Key}
+use Rattle.passive_core.specs.Advancing.{destroyed, least_below, or_next}
+use Rattle.passive_core.specs.Attaching.{key_of_record}
+use Rattle.passive_core.specs.Slots.{is_iface, is_taken}
+use Rattle.cpu_words.specs.declared.view.ReferenceView.{ReferenceView}
+use Rattle.passive_list.specs.Cpus.{OnCpu}
+use Rattle.passive_list.specs.Keepers.{OnKeeper}
+use Rattle.passive_list.specs.Notes.{HasHeardOn}
+use Rattle.name_registry.specs.Advancing.{MayWork, Meets}
+use Rattle.name_registry.specs.Attaching.{attach_answer, attach_iface_answer, entry_in, has_room, plain_slot, slot_for, slot_with_room, HasAttachedFor, HasAttachedIfaceFor}
+use Rattle.name_registry.specs.Detaching.{IsDetachAnswer, IsDetachRefusal, HasDetachedFor}
+use Rattle.name_registry.specs.Locking.{MayAttach, IsAttachRefusal, IsDetachRefusedTo, IsStageOf, IsObstacle, IsDestroyRefusal}
+use Rattle.name_registry.specs.Meeting.{is_inside, HasLearned, HasSeenAttach, HasSeenDetach}
+
+pub learned : (note : List Change) (x y : OnCpu) → HasHeardOn note x y → HasLearned x y
+learned note x y has =
+    let note_is = ap (λ (o : OnCpu). o.view.heard) has.is in record {
+      pass = has.pass;
+      is = subst (λ (l : List Change). y ≡ record { view = record x.view { pass = y.view.pass; heard = l }; depth = x.depth }) (sym note_is) has.is;
+    }
+
+-- Attaching
+
+-- the refusals that hang on the keeper
+abbrev IsSlotRefusal : Refusal → Type 0
+IsSlotRefusal f = (f ≡ NameTaken) ⊎ ((f ≡ NoSlot) ⊎ (f ≡ HistoryFull))
+
+by_room : (room : Bool) (t : ℕ) (f : Refusal) → ◌≡◌ {A = Result ℕ Refusal} (if room then Ok t else Err HistoryFull) (Err f) → IsSlotRefusal f
+by_room true t f is = absurd (let q : ◌≡◌ {A = Result ℕ Refusal} (Ok t) (Err f) = is in cc)
+by_room false t f is = inr (inr (let q : ◌≡◌ {A = Result ℕ Refusal} (Err HistoryFull) (Err f) = is in cc))
+
+by_slot : (z : Settings) (k : OnKeeper) (place : Option ℕ) (f : Refusal) → slot_with_room z k place ≡ Err f → IsSlotRefusal f
+by_slot z k None f is = inr (inl (let q : ◌≡◌ {A = Result ℕ Refusal} (Err NoSlot) (Err f) = is in cc))
+by_slot z k (Some t) f is = by_room (has_room z k) t f is
+
+by_name : (taken : Bool) (z : Settings) (k : OnKeeper) (f : Refusal) → (if taken then Err NameTaken else slot_with_room z k (plain_slot k)) ≡ Err f → IsSlotRefusal f
+by_name true z k f is = inl (let q : ◌≡◌ {A = Result ℕ Refusal} (Err NameTaken) (Err f) = is in cc)
+by_name false z k f is = by_slot z k (plain_slot k) f is
+
+slot_refused : (z : Settings) (k : OnKeeper) (rec : Record) (f : Refusal) → slot_for z k rec ≡ Err f → IsSlotRefusal f
+slot_refused z k rec f is = by_name (is_taken (key_of_record rec) k.slots) z k f is
+
+-- the slot, or the refusal by the CPU and the kind
+abbrev chosen : Bool → Bool → Result ℕ Refusal → Result ℕ Refusal
+chosen inside unfit slot = if inside then Err Inside else (if unfit then Err NeedsDriver else slot)
+
+slot_refusal : (f : Refusal) → IsSlotRefusal f → IsAttachRefusal false false f
+slot_refusal f is = ⊎_elim
+    (λ e. subst (λ (r : Refusal). IsAttachRefusal false false r) (sym e) (refl, refl))
+    (λ or. ⊎_elim
+    (λ e. subst (λ (r : Refusal). IsAttachRefusal false false r) (sym e) (refl, refl))
+    (λ e. subst (λ (r : Refusal). IsAttachRefusal false false r) (sym e) (refl, refl)) or) is
+
+chosen_refusal : (inside unfit : Bool) (slot : Result ℕ Refusal) (f : Refusal) → ((r : Refusal) → slot ≡ Err r → IsSlotRefusal r) → chosen inside unfit slot ≡ Err f → IsAttachRefusal inside unfit f
+chosen_refusal true unfit slot f by is = let q : ◌≡◌ {A = Result ℕ Refusal} (Err Inside) (Err f) = is in let e : Inside ≡ f = cc in subst (λ (r : Refusal). IsAttachRefusal true unfit r) e refl
+chosen_refusal false true slot f by is = let q : ◌≡◌ {A = Result ℕ Refusal} (Err NeedsDriver) (Err f) = is in let e : NeedsDriver ≡ f = cc in subst (λ (r : Refusal). IsAttachRefusal false true r) e (refl, refl)
+chosen_refusal false false slot f by is = slot_refusal f (by f is)
+
+chosen_slot : (inside unfit : Bool) (slot : Result ℕ Refusal) (t : ℕ) → chosen inside unfit slot ≡ Ok t → MayAttach inside unfit
+chosen_slot true unfit slot t is = absurd (let q : ◌≡◌ {A = Result ℕ Refusal} (Err Inside) (Ok t) = is in cc)
+chosen_slot false true slot t is = absurd (let q : ◌≡◌ {A = Result ℕ Refusal} (Err NeedsDriver) (Ok t) = is in cc)
+chosen_slot false false slot t is = (refl, refl)
+
+-- the entry, or the refusal, says the same
+
+entry_given : (k : OnKeeper) (rec : Record) (slot : Result ℕ Refusal) (e : Entry) → entry_in k rec slot ≡ Ok e → (e.rec ≡ rec) × ((t : ℕ) × (slot ≡ Ok t))
+entry_given k rec (Ok t) e is =
+    let q : ◌≡◌ {A = Result Entry Refusal} (Ok (record { number = suc (length k.view.history); slot = t; rec = rec })) (Ok e) = is in
+    let same : record { number = suc (length k.view.history); slot = t; rec = rec } ≡ e = cc in
+    (sym (ap (λ (x : Entry). x.rec) same), (t, refl))
+entry_given k rec (Err f) e is = absurd (let q : ◌≡◌ {A = Result Entry Refusal} (Err f) (Ok e) = is in cc)
+
+entry_refused : (k : OnKeeper) (rec : Record) (slot : Result ℕ Refusal) (f : Refusal) → entry_in k rec slot ≡ Err f → slot ≡ Err f
+entry_refused k rec (Ok t) f is = absurd (let q : ◌≡◌ {A = Result Entry Refusal} (Ok (record { number = suc (length k.view.history); slot = t; rec = rec })) (Err f) = is in cc)
+entry_refused k rec (Err r) f is = let q : ◌≡◌ {A = Result Entry Refusal} (Err r) (Err f) = is in let e : r ≡ f = cc in ap (λ (x : Refusal). Err x) e
+
+entry_may : (k : OnKeeper) (rec : Record) (inside unfit : Bool) (slot : Result ℕ Refusal) (e : Entry) → entry_in k rec (chosen inside unfit slot) ≡ Ok e → MayAttach inside unfit
+entry_may k rec inside unfit slot e is =
+    let given = entry_given k rec (chosen inside unfit slot) e is in
+    chosen_slot inside unfit slot given.1.0 given.1.1
+
+entry_refusal : (z : Settings) (k : OnKeeper) (rec : Record) (inside unfit : Bool) (f : Refusal) → entry_in k rec (chosen inside unfit (slot_for z k rec)) ≡ Err f → IsAttachRefusal inside unfit f
+entry_refusal z k rec inside unfit f is = chosen_refusal inside unfit (slot_for z k rec) f (slot_refused z k rec) (entry_refused k rec (chosen inside unfit (slot_for z k rec)) f is)
+
+pub attach_may : (z : Settings) (k : OnKeeper) (x : OnCpu) (rec : Record) (r : Result Entry Refusal) → r ≡ attach_answer z k x rec → IfOk r (λ _. MayAttach (is_inside x) (is_iface rec.kind))
+attach_may z k x rec (Ok e) is = entry_may k rec (is_inside x) (is_iface rec.kind) (slot_for z k rec) e (sym is)
+attach_may z k x rec (Err f) is = tt
+
+pub attach_owned : (z : Settings) (k b : OnKeeper) (x y : OnCpu) (rec : Record) (r : Result Entry Refusal) → r ≡ attach_answer z k x rec → IfOk r (λ e. HasAttachedFor k x e b y) → IfOk r (λ e. (e.rec ≡ rec) × HasLearned x y × HasSeenAttach x y e)
+attach_owned z k b x y rec (Ok e) is has = ((entry_given k rec (chosen (is_inside x) (is_iface rec.kind) (slot_for z k rec)) e (sym is)).0, learned b.view.history x y has.cpu, has.own)
+attach_owned z k b x y rec (Err f) is has = tt
+
+pub attach_refused : (z : Settings) (k b : OnKeeper) (x y : OnCpu) (rec : Record) (r : Result Entry Refusal) → r ≡ attach_answer z k x rec → IfErr r (λ _. (b ≡ k) × (y ≡ x)) → IfErr r (λ f. IsAttachRefusal (is_inside x) (is_iface rec.kind) f × (y ≡ x))
+attach_refused z k b x y rec (Ok e) is same = tt
+attach_refused z k b x y rec (Err f) is same = (entry_refusal z k rec (is_inside x) (is_iface rec.kind) f (sym is), same.1)
+
+pub iface_may : (z : Settings) (k : OnKeeper) (x : OnCpu) (rec : Record) (v : ReferenceView) (r : Result Entry (Refusal × ReferenceView)) → IfOk r (λ e. attach_iface_answer z k x rec v ≡ Ok e) → IfOk r (λ _. MayAttach (is_inside x) (is_iface v.entry.rec.kind))
+iface_may z k x rec v (Ok e) is = entry_may k rec (is_inside x) (is_iface v.entry.rec.kind) (slot_for z k rec) e is
+iface_may z k x rec v (Err back) is = tt
+
+pub iface_owned : (z : Settings) (k b : OnKeeper) (x y : OnCpu) (rec : Record) (v : ReferenceView) (r : Result Entry (Refusal × ReferenceView)) → IfOk r (λ e. attach_iface_answer z k x rec v ≡ Ok e) → IfOk r (λ e. HasAttachedIfaceFor k x v e b y) → IfOk r (λ e. (e.rec ≡ rec) × HasLearned x y × HasSeenAttach x y e)
+iface_owned z k b x y rec v (Ok e) is has = ((entry_given k rec (chosen (is_inside x) (is_iface v.entry.rec.kind) (slot_for z k rec)) e is).0, learned b.view.history x y has.cpu, has.own)
+iface_owned z k b x y rec v (Err back) is has = tt
+
+pub iface_refused : (z : Settings) (k b : OnKeeper) (x y : OnCpu) (rec : Record) (v : ReferenceView) (r : Result Entry (Refusal × ReferenceView)) → IfErr r (λ back. (attach_iface_answer z k x rec v ≡ Err back.0) × (back.1 ≡ v) × (b ≡ k) × (y ≡ x)) → IfErr r (λ back. IsAttachRefusal (is_inside x) (is_iface v.entry.rec.kind) back.0 × (back.1 ≡ v) × (y ≡ x))
+iface_refused z k b x y rec v (Ok e) is = tt
+iface_refused z k b x y rec v (Err back) is = (entry_refusal z k rec (is_inside x) (is_iface v.entry.rec.kind) back.0 is.0, is.1, is.3)
+
+-- Detaching
+
+detach_refusal : (k : OnKeeper) (x : OnCpu) (key : Key) (f : Refusal) → IsDetachRefusal k x key f → IsDetachRefusedTo (is_inside x) f
+detach_refusal k x key Inside is = is
+detach_refusal k x key NotFound is = is.0
+detach_refusal k x key NoMemory is = absurd is
+detach_refusal k x key BadSettings is = absurd is
+detach_refusal k x key NameTaken is = absurd is
+detach_refusal k x key NoSlot is = absurd is
+detach_refusal k x key HistoryFull is = absurd is
+detach_refusal k x key SectionsSpent is = absurd is
+detach_refusal k x key NothingFound is = absurd is
+detach_refusal k x key PassiveFull is = absurd is
+detach_refusal k x key WrongCpu is = absurd is
+detach_refusal k x key NotHeld is = absurd is
+detach_refusal k x key LocalFull is = absurd is
+detach_refusal k x key NotRetired is = absurd is
+detach_refusal k x key MissingCpu is = absurd is
+detach_refusal k x key (StillHeld stage) is = absurd is
+detach_refusal k x key (Waiting c) is = absurd is
+detach_refusal k x key TooDeep is = absurd is
+detach_refusal k x key NeedsDriver is = absurd is
+
+pub detach_may : (k : OnKeeper) (x : OnCpu) (key : Key) (r : Result Entry Refusal) → IsDetachAnswer k x key r → IfOk r (λ _. is_inside x ≡ false)
+detach_may k x key (Ok e) is = is.0
+detach_may k x key (Err f) is = tt
+
+pub detach_owned : (k b : OnKeeper) (x y : OnCpu) (key : Key) (r : Result Entry Refusal) → IsDetachAnswer k x key r → IfOk r (λ e. HasDetachedFor k x e b y) → IfOk r (λ e. (e.rec.kind ≡ key.kind) × (e.rec.name ≡ key.name) × HasLearned x y × HasSeenDetach x y e)
+detach_owned k b x y key (Ok e) is has = (ap (λ (q : Key). q.kind) is.1.1, ap (λ (q : Key). q.name) is.1.1, learned b.view.history x y has.cpu, has.own)
+detach_owned k b x y key (Err f) is has = tt
+
+pub detach_refused : (k b : OnKeeper) (x y : OnCpu) (key : Key) (r : Result Entry Refusal) → IsDetachAnswer k x key r → IfErr r (λ _. (b ≡ k) × (y ≡ x)) → IfErr r (λ f. IsDetachRefusedTo (is_inside x) f × (y ≡ x))
+detach_refused k b x y key (Ok e) is same = tt
+detach_refused k b x y key (Err f) is same = (detach_refusal k x key f is, same.1)
+
+-- Advancing and destroying
+
+pub met_stage : (z : Settings) (a b : OnKeeper) (t : ℕ) (stage : Stage) → MayWork z a t → Meets a t stage b → IsStageOf z stage
+met_stage z a b t (Grace c) may met = subst (λ (s : Settings). c < s.cpus) may.settings met.cpu
+met_stage z a b t (Passive c) may met = subst (λ (s : Settings). c < s.cpus) may.settings met.cpu
+met_stage z a b t (Local n) may met = met.some
+met_stage z a b t (Freed u) may met = subst (λ (v : ℕ). v < z.slots) (sym met.0) may.slot
+
+pub destroyed_slot : (z : Settings) (inside : Bool) (stage : Stage) → inside ≡ false → IsStageOf z stage → IfOk (destroyed stage) (λ t. (inside ≡ false) × (t < z.slots))
+destroyed_slot z inside (Grace c) out is = tt
+destroyed_slot z inside (Passive c) out is = tt
+destroyed_slot z inside (Local n) out is = tt
+destroyed_slot z inside (Freed t) out is = (out, is)
+
+pub destroyed_held : (z : Settings) (inside : Bool) (stage : Stage) → inside ≡ false → IsStageOf z stage → IfErr (destroyed stage) (λ f. IsDestroyRefusal z inside f)
+destroyed_held z inside (Grace c) out is = (out, is, tt)
+destroyed_held z inside (Passive c) out is = (out, is, tt)
+destroyed_held z inside (Local n) out is = (out, is, tt)
+destroyed_held z inside (Freed t) out is = tt
+
+-- Performing
+
+next_small : (found : Option ℕ) (passes : Bool) (n : ℕ) → IfSome found (λ c. c < n) → IfSome (or_next found passes n) (λ c. c < suc n)
+next_small (Some c) passes n lt = omega (arith, lt)
+next_small None true n none = omega arith
+next_small None false n none = tt
+
+pub least_small : (p : ℕ → Bool) (n : ℕ) → IfSome (least_below p n) (λ c. c < n)
+least_small p zero = tt
+least_small p (suc n) = next_small (least_below p n) (p n) n (least_small p n)

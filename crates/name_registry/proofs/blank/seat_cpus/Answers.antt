@@ -1,0 +1,40 @@
+use Rattle.std.proofs.Common.{◌≡◌, ◌∙◌, ◌<◌, ◌≤◌, ◌+◌, ◌∷◌, ◌++◌, List, [], length, length-append, ap, sym, subst, arith, append_assoc}
+use Rattle.std.specs.Vec.Iter.{into_iter_items}
+use Rattle.passive_core.proofs.Fit.{ranges}
+use Rattle.cpu_words.specs.declared.view.CpuView.{CpuView}
+use Rattle.cpu_words.specs.Views.{Seated, new_cpu}
+use Rattle.passive_list.specs.Cpus.{OnCpu}
+use Rattle.name_registry.specs.Opening.{AreNewCpus}
+use Rattle.name_registry.proofs.Opened.{seat_after, more_cpus}
+use Rattle.name_registry.proofs.blank.seat_cpus.Goals as goal
+
+pub of_seat-requires-clause-table : goal.of_seat-requires-clause-table
+of_seat-requires-clause-table g c =
+    let i = c.loop-seat.invariant in
+    let z = g.D.Domain.settings in
+    let is = i.0 ∙ ap (λ (l : List (Seated CpuView)). c.loop-seat.yielded ++ l) c.in-Some.ensures.steps.0 in
+    let after = seat_after g.D.Domain.table z c.args.seats.items c.loop-seat.yielded (into_iter_items c.next.new.self) c.in-Some.seat c.requires.seats is in
+    (ap (λ (s : Seated CpuView). s.table) after.1, c.requires.fit, omega (arith, after.0, c.len-id.ensures, i.2, ranges z c.requires.fit))
+
+pub of_seat-requires-clause-new : goal.of_seat-requires-clause-new
+of_seat-requires-clause-new g c =
+    let i = c.loop-seat.invariant in
+    let z = g.D.Domain.settings in
+    let is = i.0 ∙ ap (λ (l : List (Seated CpuView)). c.loop-seat.yielded ++ l) c.in-Some.ensures.steps.0 in
+    let after = seat_after g.D.Domain.table z c.args.seats.items c.loop-seat.yielded (into_iter_items c.next.new.self) c.in-Some.seat c.requires.seats is in
+    ap (λ (s : Seated CpuView). s.view) after.1 ∙ ap (λ k. new_cpu z k) (sym (c.len-id.ensures ∙ i.2))
+
+pub loop-seat-preserved : goal.loop-seat-preserved
+loop-seat-preserved g c =
+    let i = c.loop-seat.invariant in
+    let z = g.D.Domain.settings in
+    let seen = c.loop-seat.yielded in
+    let n = length seen in
+    let more = length-append seen (c.in-Some.seat ∷ []) in
+    let new = c.of_seat.ensures ∙ ap (λ k. record { view = new_cpu z k; depth = 0 }) (c.len-id.ensures ∙ i.2) in
+    let are = subst (λ (l : List OnCpu). AreNewCpus z (n + 1) l) (sym c.push_reserved.ensures.items) (more_cpus z n c.loop-seat.cpus.items c.of_seat.result i.1 new) in (
+      i.0 ∙ ap (λ (l : List (Seated CpuView)). seen ++ l) c.in-Some.ensures.steps.0 ∙ sym (append_assoc seen (c.in-Some.seat ∷ []) (into_iter_items c.next.new.self)),
+      subst (λ k. AreNewCpus z k c.push_reserved.new.self.items) (sym more) are,
+      c.push_reserved.ensures.len ∙ ap (λ k. k + 1) i.2 ∙ sym more,
+      subst (λ k. z.cpus ≤ k) (sym c.push_reserved.ensures.capacity) i.3,
+    )

@@ -1,0 +1,23 @@
+-- A registry before it is named, and its CPUs as it is opened.
+use Rattle.std.specs.Prelude.{◌≡◌, ℕ, ◌<◌, List, length, IsTrue}
+use mathlib.Core.Option.{some}
+use lib.ListN.{get_elem?}
+use Rattle.passive_core.specs.declared.settings.Settings.{Settings}
+use Rattle.passive_core.specs.Limits.{are_fit}
+use Rattle.cpu_words.specs.declared.view.CpuView.{CpuView}
+use Rattle.cpu_words.specs.declared.view.KeeperView.{KeeperView}
+use Rattle.cpu_words.specs.Views.{Named, Seated, new_cpu}
+use Rattle.cpu_words.specs.Opening.{AreSeats, keeper_with}
+use Rattle.passive_list.specs.Cpus.{OnCpu}
+
+-- the seats are those of a new table
+pub record IsBlank (w : Named) (k : Seated KeeperView) (xs : List (Seated CpuView)) : Type 0 where
+  pub fit : IsTrue (are_fit w.settings)
+  pub table : k.table ≡ w.table
+  pub keeper : k.view ≡ keeper_with w.settings w.settings.cpus
+  pub seats : AreSeats w.table w.settings w.settings.cpus xs
+
+-- the first n CPUs, CPU 0 first, all outside, and nothing was found or is held
+pub record AreNewCpus (z : Settings) (n : ℕ) (xs : List OnCpu) : Type 0 where
+  pub count : length xs ≡ n
+  pub each : (c : ℕ) → c < n → get_elem? xs c ≡ some (record { view = new_cpu z c; depth = 0 })

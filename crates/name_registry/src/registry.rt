@@ -1,0 +1,122 @@
+//! The registry: the shared words, and a lock round the keeper.
+
+ghost use Rattle.std.specs.Prelude.{◌≡◌, ◌↔◌, ◌⊎◌, ◌+ℤ◌, ◌≤◌, All, IfOk, IfErr, IsErrOf, IsTrue, false, length, map};
+ghost use Rattle.passive_core.specs.Audits.{sum_of, tally_shown};
+ghost use Rattle.passive_core.specs.declared.entry.Kind.TheVariants.{Iface};
+ghost use Rattle.passive_core.specs.Names.{is_lawful};
+ghost use Rattle.passive_core.specs.Slots.{is_iface};
+ghost use Rattle.passive_list.specs.Keepers.{OnKeeper};
+ghost use Rattle.name_registry.specs.Auditing.{AreAllCpus, IsTallied, place_of, places_below};
+ghost use Rattle.name_registry.specs.Locking.{MayAttach, IsAttachRefusal, IsDetachRefusedTo, IsStageOf};
+ghost use Rattle.name_registry.specs.Meeting.{is_inside, HasLearned, HasSeenAttach, HasSeenDetach};
+
+use crate::advancing::advance_in;
+use crate::attaching::{attach_iface_in, attach_in};
+use crate::auditing::audit_in;
+use crate::detaching::detach_in;
+use cpu_words::{Domain, Words};
+use local_count::LocalRef;
+use passive_core::{Balance, Entry, Kind, Name, Record, Refusal, Stage};
+use passive_list::{Cpu, Keeper};
+use std::alloc::Global;
+use std::sync::{Mutex, Wait};
+
+/// A registry of network interfaces and device drivers, of the table that D names. It is shared by reference between threads; each thread
+/// owns the `Cpu` that it runs on.
+#[derive(Drop)]
+pub struct Registry<D: Domain> {
+    pub(crate) words: Words,
+    pub(crate) keeper: Mutex<Keeper<D>>,
+    ghost table: { words.table ≡ D.table },
+    ghost settings: { words.settings ≡ D.settings },
+    ghost few: { D.settings.cpus ≤ 8 },
+}
+
+impl<D: Domain> Registry<D> {
+    /// The shared words, with which sections, lookups and references are made. No call on them waits.
+    pub fn words(&self) -> &Words
+        ensures { (result.now.table ≡ D.table) × (result.now.settings ≡ D.settings) }
+    {
+        &self.words
+    }
+
+    /// Attaches a driver under the interlock, as `attach_in` does; the caller's CPU has seen its change then.
+    /// Condition: the name is lawful, as `Name::parse` gives it.
+    /// Refused, in this order, and nothing has changed then: `Inside` where the CPU is inside a section; `NeedsDriver` where the record's
+    /// kind is Iface; `NameTaken`; `NoSlot`; `HistoryFull`.
+    pub fn attach<R: Wait>(&self, rt: &R, cpu: &mut Cpu<D>, rec: Record) -> Result<Entry, Refusal>
+        requires name { IsTrue (is_lawful rec.name) }
+        ensures may { IfOk result (λ _. MayAttach (is_inside cpu.old) (is_iface rec.kind)) }
+        ensures ok { IfOk result (λ e. (e.rec ≡ rec) × HasLearned cpu.old cpu.new × HasSeenAttach cpu.old cpu.new e) }
+        ensures refused { IfErr result (λ refusal. IsAttachRefusal (is_inside cpu.old) (is_iface rec.kind) refusal × (cpu.new ≡ cpu.old)) }
+    {
+        attach_in(&self.words, &mut self.keeper.lock(rt), cpu, rec)
+    }
+
+    /// Attaches an interface under the interlock, on the driver that the reference is to, as `attach_iface_in` does; the caller's CPU has
+    /// seen its change then.
+    /// Condition: the record's kind is Iface, and its name is lawful.
+    /// Refused, in this order, and nothing has changed then, and the reference comes back: `Inside` where the CPU is inside a section;
+    /// `NeedsDriver` where the reference is to an interface; `NameTaken`; `NoSlot`; `HistoryFull`.
+    pub fn attach_iface<R: Wait>(
+        &self,
+        rt: &R,
+        cpu: &mut Cpu<D>,
+        rec: Record,
+        reference: LocalRef<D>,
+    ) -> Result<Entry, (Refusal, LocalRef<D>)>
+        requires kind { rec.kind ≡ Iface }
+        requires name { IsTrue (is_lawful rec.name) }
+        ensures may { IfOk result (λ _. MayAttach (is_inside cpu.old) (is_iface reference.entry.rec.kind)) }
+        ensures ok { IfOk result (λ e. (e.rec ≡ rec) × HasLearned cpu.old cpu.new × HasSeenAttach cpu.old cpu.new e) }
+        ensures refused { IfErr result (λ back. IsAttachRefusal (is_inside cpu.old) (is_iface reference.entry.rec.kind) back.0 × (back.1 ≡ reference) × (cpu.new ≡ cpu.old)) }
+    {
+        attach_iface_in(&self.words, &mut self.keeper.lock(rt), cpu, rec, reference)
+    }
+
+    /// Detaches the live entry with the kind and the name under the interlock, as `detach_in` does, and answers it; the caller's CPU has
+    /// seen its change then.
+    /// Refused, in this order, and nothing has changed then: `Inside` where the CPU is inside a section; `NotFound` where no live entry has
+    /// both.
+    pub fn detach<R: Wait>(
+        &self,
+        rt: &R,
+        cpu: &mut Cpu<D>,
+        kind: Kind,
+        name: &Name,
+    ) -> Result<Entry, Refusal>
+        ensures may { IfOk result (λ _. is_inside cpu.old ≡ false) }
+        ensures ok { IfOk result (λ e. (e.rec.kind ≡ kind) × (e.rec.name ≡ name.now) × HasLearned cpu.old cpu.new × HasSeenDetach cpu.old cpu.new e) }
+        ensures refused { IfErr result (λ refusal. IsDetachRefusedTo (is_inside cpu.old) refusal × (cpu.new ≡ cpu.old)) }
+    {
+        detach_in(&self.words, &mut self.keeper.lock(rt), cpu, kind, name)
+    }
+
+    /// One turn of the work on the retired entry `number` under the interlock, as `advance_in` does: the answer is the first obstacle, or
+    /// `Freed` with the slot that is vacant again.
+    /// Refused: `NotRetired` where no slot has the retired entry `number`.
+    pub fn advance<R: Wait>(&self, rt: &R, number: u64) -> Result<Stage, Refusal>
+        ensures ok { IfOk result (λ stage. IsStageOf D.settings stage) }
+        ensures refused { IfErr result (λ refusal. refusal ≡ Refusal.NotRetired) }
+    {
+        advance_in(&self.words, &mut self.keeper.lock(rt), number)
+    }
+
+    /// The audit of local references (localcount(9)) under the interlock, as `audit_in` does.
+    /// Refused, in this order: `MissingCpu` where the slice isn't CPU 0, 1, .. of this registry in this order; `NoMemory`.
+    pub fn audit<R: Wait>(
+        &self,
+        rt: &R,
+        alloc: Global,
+        cpus: &mut [Cpu<D>],
+    ) -> Result<Vec<Balance>, Refusal>
+        ensures missing { IsErrOf result Refusal.MissingCpu ↔ (AreAllCpus D.settings.cpus cpus.old → ⊥) }
+        ensures err { IfErr result (λ refusal. (refusal ≡ Refusal.MissingCpu) ⊎ (refusal ≡ Refusal.NoMemory)) }
+        ensures sums { IfOk result (λ list. All (λ b. b.held ≡ sum_of b.locals.items +ℤ b.total) list.items) }
+        ensures locals { IfOk result (λ list. All (λ b. length b.locals.items ≡ D.settings.cpus) list.items) }
+        ensures tally { IfOk result (λ list. (k : OnKeeper) × (map place_of list.items ≡ places_below k D.settings.slots) × All (λ b. IsTallied k cpus.old (tally_shown b)) list.items) }
+        ensures same { cpus.new ≡ cpus.old }
+    {
+        audit_in(alloc, &self.words, &mut self.keeper.lock(rt), cpus)
+    }
+}
