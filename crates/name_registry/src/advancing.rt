@@ -1,6 +1,6 @@
 //! The work on a retired entry, for a caller that holds the keeper: one turn, up to the first obstacle.
 
-ghost use Rattle.std.specs.Prelude.{◌≡◌, ◌≢◌, ◌<◌, IfSome, None, position, true, false};
+ghost use Rattle.std.specs.Prelude.{◌≡◌, ◌<◌, IfSome, None, position, true, false};
 ghost use Rattle.passive_core.specs.declared.entry.Entry.{Entry};
 ghost use Rattle.passive_core.specs.declared.state.Slot.TheVariants.{Retired};
 ghost use Rattle.passive_core.specs.Advancing.{retired_slot};
