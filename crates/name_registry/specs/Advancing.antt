@@ -80,14 +80,14 @@ pub record SeesPassive (a : OnKeeper) (t c : ℕ) (b : OnKeeper) : Type 0 where
 
 -- The stages, of the slot t
 
--- all CPUs before c have passed
+-- it saw a section of c that may hold the entry; all CPUs before c have passed
 pub record MeetsGrace (a : OnKeeper) (t c : ℕ) (b : OnKeeper) : Type 0 where
   pub cpu : c < a.view.settings.cpus
   pub sees : SeesSection a t c b
   pub lesser : PassedBelow b.view t c
   pub leaves : HasLookedFor a t b
 
--- all CPUs have passed, and those before c are clear
+-- it saw that c has a passive reference; all CPUs have passed, and those before c are clear
 pub record MeetsPassive (a : OnKeeper) (t c : ℕ) (b : OnKeeper) : Type 0 where
   pub cpu : c < a.view.settings.cpus
   pub sees : SeesPassive a t c b
