@@ -10,6 +10,7 @@ pub mod Sectioned
 pub mod Published
 pub mod Attached
 pub mod Giving
+pub mod Hitches
 pub mod Changed
 pub mod Walked
 pub mod Referred

@@ -3,6 +3,7 @@
 ghost use Rattle.std.specs.Prelude.{◌≡◌, ◌<◌, ◌≤◌, IfErr, IfOk, IsTrue, OnOk, string_bytes, true};
 ghost use Rattle.passive_core.specs.Names.{is_lawful};
 ghost use Rattle.passive_core.specs.Slots.{is_iface};
+ghost use Rattle.registry_script.specs.Live.{IsLineOf};
 ghost use Rattle.registry_script.specs.Program.{suits};
 ghost use Rattle.registry_script.specs.Registry.{Registry};
 ghost use Rattle.registry_script.specs.Report.{after, text_of};
@@ -25,6 +26,7 @@ pub fn carry_out<S: Session>(
     requires { IsTrue (suits (S.settings session.old) command) }
     ensures settings { S.settings session.new ≡ S.settings session.old }
     ensures line { (r : Registry) → S.shows session.old r → IfOk result (λ text. string_bytes text ≡ text_of r command) }
+    ensures shape { IfOk result (λ text. IsLineOf command (string_bytes text)) }
     ensures shows { (r : Registry) → S.shows session.old r → OnOk result (S.shows session.new (after r command)) }
     ensures memory { IfErr result (λ fault. fault ≡ RunFault.Memory) }
 {
@@ -71,6 +73,7 @@ fn attach<S: Session>(
     requires lawful { IsTrue (is_lawful rec.name) }
     ensures settings { S.settings session.new ≡ S.settings session.old }
     ensures line { (r : Registry) → S.shows session.old r → IfOk result (λ text. string_bytes text ≡ text_of r (Command.Attach cpu rec)) }
+    ensures shape { IfOk result (λ text. IsLineOf (Command.Attach cpu rec) (string_bytes text)) }
     ensures shows { (r : Registry) → S.shows session.old r → OnOk result (S.shows session.new (after r (Command.Attach cpu rec))) }
     ensures memory { IfErr result (λ fault. fault ≡ RunFault.Memory) }
 {
@@ -93,6 +96,7 @@ fn plug<S: Session>(
     requires label { label.place < 26 }
     ensures settings { S.settings session.new ≡ S.settings session.old }
     ensures line { (r : Registry) → S.shows session.old r → IfOk result (λ text. string_bytes text ≡ text_of r (Command.Plug cpu rec label)) }
+    ensures shape { IfOk result (λ text. IsLineOf (Command.Plug cpu rec label) (string_bytes text)) }
     ensures shows { (r : Registry) → S.shows session.old r → OnOk result (S.shows session.new (after r (Command.Plug cpu rec label))) }
     ensures memory { IfErr result (λ fault. fault ≡ RunFault.Memory) }
 {
@@ -112,6 +116,7 @@ fn detach<S: Session>(
     requires { cpu < (S.settings session.old).cpus }
     ensures settings { S.settings session.new ≡ S.settings session.old }
     ensures line { (r : Registry) → S.shows session.old r → IfOk result (λ text. string_bytes text ≡ text_of r (Command.Detach cpu kind name)) }
+    ensures shape { IfOk result (λ text. IsLineOf (Command.Detach cpu kind name) (string_bytes text)) }
     ensures shows { (r : Registry) → S.shows session.old r → OnOk result (S.shows session.new (after r (Command.Detach cpu kind name))) }
     ensures memory { IfErr result (λ fault. fault ≡ RunFault.Memory) }
 {
@@ -125,6 +130,7 @@ fn enter<S: Session>(alloc: Global, session: &mut S, cpu: u8) -> Result<String, 
     requires { cpu < (S.settings session.old).cpus }
     ensures settings { S.settings session.new ≡ S.settings session.old }
     ensures line { (r : Registry) → S.shows session.old r → IfOk result (λ text. string_bytes text ≡ text_of r (Command.Enter cpu)) }
+    ensures shape { IfOk result (λ text. IsLineOf (Command.Enter cpu) (string_bytes text)) }
     ensures shows { (r : Registry) → S.shows session.old r → OnOk result (S.shows session.new (after r (Command.Enter cpu))) }
     ensures memory { IfErr result (λ fault. fault ≡ RunFault.Memory) }
 {
@@ -138,6 +144,7 @@ fn exit<S: Session>(alloc: Global, session: &mut S, cpu: u8) -> Result<String, R
     requires { cpu < (S.settings session.old).cpus }
     ensures settings { S.settings session.new ≡ S.settings session.old }
     ensures line { (r : Registry) → S.shows session.old r → IfOk result (λ text. string_bytes text ≡ text_of r (Command.Exit cpu)) }
+    ensures shape { IfOk result (λ text. IsLineOf (Command.Exit cpu) (string_bytes text)) }
     ensures shows { (r : Registry) → S.shows session.old r → OnOk result (S.shows session.new (after r (Command.Exit cpu))) }
     ensures memory { IfErr result (λ fault. fault ≡ RunFault.Memory) }
 {
@@ -157,6 +164,7 @@ fn find<S: Session>(
     requires { cpu < (S.settings session.old).cpus }
     ensures settings { S.settings session.new ≡ S.settings session.old }
     ensures line { (r : Registry) → S.shows session.old r → IfOk result (λ text. string_bytes text ≡ text_of r (Command.Find cpu kind name)) }
+    ensures shape { IfOk result (λ text. IsLineOf (Command.Find cpu kind name) (string_bytes text)) }
     ensures shows { (r : Registry) → S.shows session.old r → OnOk result (S.shows session.new (after r (Command.Find cpu kind name))) }
     ensures memory { IfErr result (λ fault. fault ≡ RunFault.Memory) }
 {
@@ -176,6 +184,7 @@ fn reference<S: Session>(
     requires label { label.place < 26 }
     ensures settings { S.settings session.new ≡ S.settings session.old }
     ensures line { (r : Registry) → S.shows session.old r → IfOk result (λ text. string_bytes text ≡ text_of r (Command.Reference cpu label)) }
+    ensures shape { IfOk result (λ text. IsLineOf (Command.Reference cpu label) (string_bytes text)) }
     ensures shows { (r : Registry) → S.shows session.old r → OnOk result (S.shows session.new (after r (Command.Reference cpu label))) }
     ensures memory { IfErr result (λ fault. fault ≡ RunFault.Memory) }
 {
@@ -197,6 +206,7 @@ fn copy<S: Session>(
     requires target { target.place < 26 }
     ensures settings { S.settings session.new ≡ S.settings session.old }
     ensures line { (r : Registry) → S.shows session.old r → IfOk result (λ text. string_bytes text ≡ text_of r (Command.Copy cpu source target)) }
+    ensures shape { IfOk result (λ text. IsLineOf (Command.Copy cpu source target) (string_bytes text)) }
     ensures shows { (r : Registry) → S.shows session.old r → OnOk result (S.shows session.new (after r (Command.Copy cpu source target))) }
     ensures memory { IfErr result (λ fault. fault ≡ RunFault.Memory) }
 {
@@ -210,6 +220,7 @@ fn held<S: Session>(alloc: Global, session: &S, cpu: u8, label: Label) -> Result
     requires known { cpu < (S.settings session.now).cpus }
     requires label { label.place < 26 }
     ensures line { (r : Registry) → S.shows session.now r → IfOk result (λ text. string_bytes text ≡ text_of r (Command.Held cpu label)) }
+    ensures shape { IfOk result (λ text. IsLineOf (Command.Held cpu label) (string_bytes text)) }
     ensures memory { IfErr result (λ fault. fault ≡ RunFault.Memory) }
 {
     match session.held(cpu, label) {
@@ -228,6 +239,7 @@ fn read<S: Session>(
     requires label { label.place < 26 }
     ensures settings { S.settings session.new ≡ S.settings session.old }
     ensures line { (r : Registry) → S.shows session.old r → IfOk result (λ text. string_bytes text ≡ text_of r (Command.Read cpu label)) }
+    ensures shape { IfOk result (λ text. IsLineOf (Command.Read cpu label) (string_bytes text)) }
     ensures shows { (r : Registry) → S.shows session.old r → OnOk result (S.shows session.new (after r (Command.Read cpu label))) }
     ensures memory { IfErr result (λ fault. fault ≡ RunFault.Memory) }
 {
@@ -247,6 +259,7 @@ fn release<S: Session>(
     requires label { label.place < 26 }
     ensures settings { S.settings session.new ≡ S.settings session.old }
     ensures line { (r : Registry) → S.shows session.old r → IfOk result (λ text. string_bytes text ≡ text_of r (Command.Release cpu label)) }
+    ensures shape { IfOk result (λ text. IsLineOf (Command.Release cpu label) (string_bytes text)) }
     ensures shows { (r : Registry) → S.shows session.old r → OnOk result (S.shows session.new (after r (Command.Release cpu label))) }
     ensures memory { IfErr result (λ fault. fault ≡ RunFault.Memory) }
 {
@@ -266,6 +279,7 @@ fn count<S: Session>(
     requires label { label.place < 26 }
     ensures settings { S.settings session.new ≡ S.settings session.old }
     ensures line { (r : Registry) → S.shows session.old r → IfOk result (λ text. string_bytes text ≡ text_of r (Command.Count cpu label)) }
+    ensures shape { IfOk result (λ text. IsLineOf (Command.Count cpu label) (string_bytes text)) }
     ensures shows { (r : Registry) → S.shows session.old r → OnOk result (S.shows session.new (after r (Command.Count cpu label))) }
     ensures memory { IfErr result (λ fault. fault ≡ RunFault.Memory) }
 {
@@ -279,6 +293,7 @@ fn peek<S: Session>(alloc: Global, session: &mut S, label: Label) -> Result<Stri
     requires { label.place < 26 }
     ensures settings { S.settings session.new ≡ S.settings session.old }
     ensures line { (r : Registry) → S.shows session.old r → IfOk result (λ text. string_bytes text ≡ text_of r (Command.Peek label)) }
+    ensures shape { IfOk result (λ text. IsLineOf (Command.Peek label) (string_bytes text)) }
     ensures shows { (r : Registry) → S.shows session.old r → OnOk result (S.shows session.new (after r (Command.Peek label))) }
     ensures memory { IfErr result (λ fault. fault ≡ RunFault.Memory) }
 {
@@ -298,6 +313,7 @@ fn uncount<S: Session>(
     requires label { label.place < 26 }
     ensures settings { S.settings session.new ≡ S.settings session.old }
     ensures line { (r : Registry) → S.shows session.old r → IfOk result (λ text. string_bytes text ≡ text_of r (Command.Uncount cpu label)) }
+    ensures shape { IfOk result (λ text. IsLineOf (Command.Uncount cpu label) (string_bytes text)) }
     ensures shows { (r : Registry) → S.shows session.old r → OnOk result (S.shows session.new (after r (Command.Uncount cpu label))) }
     ensures memory { IfErr result (λ fault. fault ≡ RunFault.Memory) }
 {
@@ -310,6 +326,7 @@ fn uncount<S: Session>(
 fn advance<S: Session>(alloc: Global, session: &mut S, number: u64) -> Result<String, RunFault>
     ensures settings { S.settings session.new ≡ S.settings session.old }
     ensures line { (r : Registry) → S.shows session.old r → IfOk result (λ text. string_bytes text ≡ text_of r (Command.Advance number)) }
+    ensures shape { IfOk result (λ text. IsLineOf (Command.Advance number) (string_bytes text)) }
     ensures shows { (r : Registry) → S.shows session.old r → OnOk result (S.shows session.new (after r (Command.Advance number))) }
     ensures memory { IfErr result (λ fault. fault ≡ RunFault.Memory) }
 {
@@ -330,6 +347,7 @@ fn destroy<S: Session>(
     requires some { 1 ≤ turns }
     ensures settings { S.settings session.new ≡ S.settings session.old }
     ensures line { (r : Registry) → S.shows session.old r → IfOk result (λ text. string_bytes text ≡ text_of r (Command.Destroy cpu number turns)) }
+    ensures shape { IfOk result (λ text. IsLineOf (Command.Destroy cpu number turns) (string_bytes text)) }
     ensures shows { (r : Registry) → S.shows session.old r → OnOk result (S.shows session.new (after r (Command.Destroy cpu number turns))) }
     ensures memory { IfErr result (λ fault. fault ≡ RunFault.Memory) }
 {
@@ -349,6 +367,7 @@ fn perform<S: Session>(
     requires some { 1 ≤ turns }
     ensures settings { S.settings session.new ≡ S.settings session.old }
     ensures line { (r : Registry) → S.shows session.old r → IfOk result (λ text. string_bytes text ≡ text_of r (Command.Perform cpu turns)) }
+    ensures shape { IfOk result (λ text. IsLineOf (Command.Perform cpu turns) (string_bytes text)) }
     ensures shows { (r : Registry) → S.shows session.old r → OnOk result (S.shows session.new (after r (Command.Perform cpu turns))) }
     ensures memory { IfErr result (λ fault. fault ≡ RunFault.Memory) }
 {
@@ -361,6 +380,7 @@ fn perform<S: Session>(
 fn audit<S: Session>(alloc: Global, session: &mut S) -> Result<String, RunFault>
     ensures settings { S.settings session.new ≡ S.settings session.old }
     ensures line { (r : Registry) → S.shows session.old r → IfOk result (λ text. string_bytes text ≡ text_of r Command.Audit) }
+    ensures shape { IfOk result (λ text. IsLineOf Command.Audit (string_bytes text)) }
     ensures shows { (r : Registry) → S.shows session.old r → OnOk result (S.shows session.new (after r Command.Audit)) }
     ensures memory { IfErr result (λ fault. fault ≡ RunFault.Memory) }
 {
