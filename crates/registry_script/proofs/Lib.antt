@@ -26,4 +26,5 @@ pub mod SoundFreeing
 pub mod Done
 pub mod DoneReferences
 pub mod Reports
+pub mod Runs
 pub mod SoundCommands

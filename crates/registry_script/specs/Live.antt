@@ -1,7 +1,7 @@
 -- What each command may print, whatever registry it is carried out on: its line, with some values, or why it has no answer.
-use Rattle.std.specs.Prelude.{◌≡◌, ℕ, List, [], ◌∷◌, ◌++◌, true, ◌⊎◌, Result, IfErr}
+use Rattle.std.specs.Prelude.{◌≡◌, ℕ, List, [], ◌∷◌, ◌++◌, Option, true, ◌⊎◌, Result, IfErr}
+use Rattle.std.specs.Io.KnownBytes.{Appends}
 use Rattle.passive_core.specs.Audits.{Tally}
-use Rattle.passive_core.specs.declared.entry.Entry.{Entry}
 use Rattle.passive_core.specs.declared.refusal.Refusal.{Refusal}
 use Rattle.passive_core.specs.declared.refusal.Refusal.TheVariants.{NoMemory, NameTaken, NoSlot, HistoryFull, NotFound, Inside, SectionsSpent, NothingFound, PassiveFull, WrongCpu, NotHeld, LocalFull, NotRetired, StillHeld, Waiting, TooDeep, NeedsDriver}
 use Rattle.passive_core.specs.declared.stage.Stage.{Stage}
@@ -13,6 +13,7 @@ use Rattle.registry_script.specs.declared.script.command.Command.{Command}
 use Rattle.registry_script.specs.declared.script.command.Command.TheVariants.{Domain, Limits, Attach, Plug, Detach, Enter, Exit, Find, Reference, Copy, Held, Read, Release, Count, Peek, Uncount, Advance, Destroy, Perform, Audit}
 use Rattle.registry_script.specs.Lines.{domain_line, limits_line, attached_line, retired_line, section_line, found_line, reference_line, held_line, read_line, released_line, counted_line, peek_line, uncounted_line, stage_line, destroyed_line, performed_line, audit_text}
 use Rattle.registry_script.specs.Report.{answered}
+use Rattle.registry_script.specs.Written.{AppendsPrefix}
 
 -- The refusals of the calls, but for want of memory, which has no line
 
@@ -140,3 +141,11 @@ IsLineOf Audit text = (tallies : List Tally) × (text ≡ audit_text tallies)
 abbrev pub IsRunOf : List Command → List ℕ → Type 0
 IsRunOf [] text = text ≡ []
 IsRunOf (command ∷ commands) text = (first rest : List ℕ) × IsLineOf command first × IsRunOf commands rest × (text ≡ first ++ rest)
+
+-- just that was written
+abbrev pub WritesRun : Option (List ℕ) → Option (List ℕ) → List Command → Type 0
+WritesRun old new commands = (text : List ℕ) × IsRunOf commands text × Appends old new text
+
+-- a front of that was written, and nothing else
+abbrev pub WritesFront : Option (List ℕ) → Option (List ℕ) → List Command → Type 0
+WritesFront old new commands = (text : List ℕ) × IsRunOf commands text × AppendsPrefix old new text
