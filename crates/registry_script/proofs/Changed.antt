@@ -69,7 +69,7 @@ attached_shows s r c rec e holds later on is =
 
 -- what was given and left, of an answer a
 abbrev AttachDone : SessionState → Registry → ℕ → Record → Result Entry Refusal → Type 0
-AttachDone s r c rec result = Gives (hitched result) (hitched (attach_answer r c rec)) × Leaves (hitched result) (with_core s (after_attach s.core c result)) (on_ok r (attach_answer r c rec) (attached r c))
+AttachDone s r c rec result = Gives (hitched result) (hitched (attach_answer r c rec)) × Leaves (hitched result) (Shows (with_core s (after_attach s.core c result)) (on_ok r (attach_answer r c rec) (attached r c)))
 
 attach_by : (s : SessionState) (r : Registry) (c : ℕ) (rec : Record) (a result : Result Entry Refusal) → Holds s.core → Shows s r → core.attach_answer s.core c rec ≡ a → IsAnswer a result → Holds (after_attach s.core c result) → AttachDone s r c rec result
 attach_by s r c rec (Err f) result holds on at is later =
@@ -111,7 +111,7 @@ after_plugging s c x id (Ok e) = record s { core = core.plugged s.core c e id; l
 after_plugging s c x id (Err f) = s
 
 abbrev PlugDone : SessionState → Registry → ℕ → Record → ℕ → ℕ → Result Entry Refusal → Type 0
-PlugDone s r c rec x id result = Gives (hitched result) (plug_answer r c rec x) × Leaves (hitched result) (after_plugging s c x id result) (after_plug r c x (plug_answer r c rec x))
+PlugDone s r c rec x id result = Gives (hitched result) (plug_answer r c rec x) × Leaves (hitched result) (Shows (after_plugging s c x id result) (after_plug r c x (plug_answer r c rec x)))
 
 plug_if : (inside driver : Bool) (given : Result Entry Refusal) (e : Entry) → (if inside then Err Inside else (if driver then given else Err NeedsDriver)) ≡ Ok e → (driver ≡ true) × (given ≡ Ok e)
 plug_if true driver given e is = absurd (let q : ◌≡◌ {A = Result Entry Refusal} (Err Inside) (Ok e) = is in cc)
@@ -217,7 +217,7 @@ detached_by s r c e (Some p) holds later on at = record {
 }
 
 abbrev DetachDone : SessionState → Registry → ℕ → Key → Result Entry Refusal → Type 0
-DetachDone s r c key result = Gives (hitched result) (hitched (detach_answer r c key)) × Leaves (hitched result) (with_core s (after_detach s.core c result)) (on_ok r (detach_answer r c key) (detached r c))
+DetachDone s r c key result = Gives (hitched result) (hitched (detach_answer r c key)) × Leaves (hitched result) (Shows (with_core s (after_detach s.core c result)) (on_ok r (detach_answer r c key) (detached r c)))
 
 -- the answer, where the CPU is outside
 detach_found : (s : SessionState) (r : Registry) (c : ℕ) (key : Key) (found : Option Entry) → Holds s.core → Shows s r → events.is_inside s.core c ≡ false → IsLookupNow s.core key found → detach_answer r c key ≡ found_or found

@@ -37,7 +37,7 @@ use Rattle.registry_script.proofs.Walked.{enter_done, exit_inside, exit_outside,
 
 -- a call gave what is due and left what shows the registry
 abbrev pub Does : {X : Type 0} → Result X Hitch → Result X Hitch → SessionState → Registry → Type 0
-Does given answer s r = Gives given answer × Leaves given s r
+Does given answer s r = Gives given answer × Leaves given (Shows s r)
 
 -- the same of what callers see
 pub seen : (s v : SessionState) (r : Registry) → s ≡ v → Shows v r → Shows s r

@@ -65,7 +65,7 @@ live_number : (s : SessionState) (x id : ℕ) → IsSession s → get_or s.local
 live_number s x id is at = live_place (local_at s.core.locals id) (is.live x id at)
 
 -- what an answer that isn't due leaves
-pub unanswered : {X : Type 0} (given answer : Result X Hitch) (h : Hitch) (s : SessionState) (r : Registry) (f : X → Registry) → answer ≡ Err h → Shows s r → Leaves given s (on_ok r answer f)
+pub unanswered : {X : Type 0} (given answer : Result X Hitch) (h : Hitch) (s : SessionState) (r : Registry) (f : X → Registry) → answer ≡ Err h → Shows s r → Leaves given (Shows s (on_ok r answer f))
 unanswered given answer h s r f is on = leaves given s (on_ok r answer f) (subst (λ (a : Result _ Hitch). Shows s (on_ok r a f)) (sym is) on)
 
 -- an answer that is refused gives and leaves nothing
@@ -182,7 +182,7 @@ count_does s v k r c x id n view is on low small free due left live =
 pub peek_leaves : (s v : SessionState) (k : State) (r : Registry) → s ≡ v → Shows v r → k ≡ all_seated s.core → Shows (with_core s k) r
 peek_leaves s v k r view on left = subst (λ (x : State). Shows (with_core s x) r) (sym left) (seated_shows s r (seen s v r view on))
 
-pub uncount_none : (v : SessionState) (r : Registry) (c x : ℕ) (given : Result ℕ Hitch) → Shows v r → get_or v.locals x None ≡ None → Leaves given v (on_ok r (uncount_answer r x) (uncounted r c x))
+pub uncount_none : (v : SessionState) (r : Registry) (c x : ℕ) (given : Result ℕ Hitch) → Shows v r → get_or v.locals x None ≡ None → Leaves given (Shows v (on_ok r (uncount_answer r x) (uncounted r c x)))
 uncount_none v r c x given on none = unanswered given (uncount_answer r x) NoLabel v r (uncounted r c x) (ap (λ (o : Option ℕ). with_label o (λ n. Ok n)) (label_none v r x on none)) on
 
 pub uncount_leaves : (s v : SessionState) (k : State) (r : Registry) (c x id n : ℕ) → s ≡ v → IsSession s → Shows v r → c < s.core.settings.cpus → x < 26 → get_or s.locals x None ≡ Some id → standing (local_at s.core.locals id) ≡ Some n
@@ -194,7 +194,7 @@ uncount_leaves s v k r c x id n view is on low small at live left =
 
 -- Plug
 
-pub plug_none : (v : SessionState) (r : Registry) (c x : ℕ) (rec : Record) (given : Result Entry Hitch) → Shows v r → get_or v.locals x None ≡ None → Leaves given v (after_plug r c x (plug_answer r c rec x))
+pub plug_none : (v : SessionState) (r : Registry) (c x : ℕ) (rec : Record) (given : Result Entry Hitch) → Shows v r → get_or v.locals x None ≡ None → Leaves given (Shows v (after_plug r c x (plug_answer r c rec x)))
 plug_none v r c x rec given on none = leaves given v (after_plug r c x (plug_answer r c rec x)) (subst (λ (o : Option ℕ). Shows v (on_some r o (λ d. on_ok r (plug_answer r c rec x) (λ e. plugged r c e x d)))) (sym (label_none v r x on none)) on)
 
 pub plug_fails : (s v : SessionState) (k : State) (r : Registry) (c x id : ℕ) (rec : Record) (f : Refusal) (given : Result Entry Hitch) → s ≡ v → IsSession s → Shows v r → x < 26 → get_or s.locals x None ≡ Some id

@@ -13,6 +13,6 @@ pub gives : {X : Type 0} (given answer : Result X Hitch) → answer ≡ given �
 gives (Err (Refused NoMemory)) answer is = tt
 gives given answer is = is
 
-pub leaves : {X : Type 0} (given : Result X Hitch) (s : SessionState) (r : Registry) → Shows s r → Leaves given s r
+pub leaves : {X : Type 0} (given : Result X Hitch) (s : SessionState) (r : Registry) → Shows s r → Leaves given (Shows s r)
 leaves (Err (Refused NoMemory)) s r on = tt
 leaves given s r on = on

@@ -10,6 +10,7 @@ pub mod Sectioned
 pub mod Published
 pub mod Attached
 pub mod Giving
+pub mod Hitches
 pub mod Changed
 pub mod Walked
 pub mod Referred
@@ -25,4 +26,5 @@ pub mod SoundFreeing
 pub mod Done
 pub mod DoneReferences
 pub mod Reports
+pub mod Runs
 pub mod SoundCommands

@@ -39,8 +39,8 @@ pub report_done : (a b : Option (List ℕ)) (whole : List ℕ) (r : Registry) (k
 report_done a b whole r ks i h done = written_all a b whole (rw (drop_of_length-le ks h, report_nil r) at done)
 
 -- the writer was flushed
-pub report_flushed : (a b c : Option (List ℕ)) (text : List ℕ) → Appends a b text → Keeps b c → Appends a c text
-report_flushed a b c text done keeps = written_all a c text (written_kept a b c text [] (record { done = text; split = sym (append-nil text); written = done }) keeps)
+pub flushed : (a b c : Option (List ℕ)) (text : List ℕ) → Appends a b text → Keeps b c → Appends a c text
+flushed a b c text done keeps = written_all a c text (written_kept a b c text [] (record { done = text; split = sym (append-nil text); written = done }) keeps)
 
 pub nothing_yet : (a : Option (List ℕ)) (text : List ℕ) → AppendsPrefix a a text
 nothing_yet a text = (text, written_none a text)

@@ -25,7 +25,7 @@ use Rattle.registry_script.proofs.Giving.{gives, leaves}
 use Rattle.registry_script.proofs.Sectioned.{enter_answers, enter_shows, exit_shows, found_shows, inside_is}
 
 pub enter_done : (s : SessionState) (r : Registry) (c : ℕ) (result : Result (Unit {0}) Refusal) → Holds s.core → Shows s r → c < s.core.settings.cpus → result ≡ core.enter_answer s.core c
-    → Gives (hitched result) (hitched (enter_answer r c)) × Leaves (hitched result) (with_core s (after_enter_command s.core c)) (on_ok r (enter_answer r c) (λ done. entered r c))
+    → Gives (hitched result) (hitched (enter_answer r c)) × Leaves (hitched result) (Shows (with_core s (after_enter_command s.core c)) (on_ok r (enter_answer r c) (λ done. entered r c)))
 enter_done s r c result holds on low is = (
   gives (hitched result) (hitched (enter_answer r c)) (ap hitched (sym (enter_answers s r c on) ∙ sym is)),
   leaves (hitched result) (with_core s (after_enter_command s.core c)) (on_ok r (enter_answer r c) (λ done. entered r c)) (enter_shows s r c holds on low),

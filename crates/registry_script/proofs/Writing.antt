@@ -8,17 +8,17 @@ use Rattle.passive_core.specs.Audits.{Tally}
 use Rattle.registry_script.specs.Lines.{audit_text, balance_line, balance_lines, spaced, spelled}
 use Rattle.registry_script.specs.Written.{Written, AppendsPrefix}
 
-appends_none : (a : Option (List ℕ)) → Appends a a []
+pub appends_none : (a : Option (List ℕ)) → Appends a a []
 appends_none None = tt
 appends_none (Some xs) = sym (append-nil xs)
 
-appends_more : (a b c : Option (List ℕ)) (xs ys : List ℕ) → Appends a b xs → Appends b c ys → Appends a c (xs ++ ys)
+pub appends_more : (a b c : Option (List ℕ)) (xs ys : List ℕ) → Appends a b xs → Appends b c ys → Appends a c (xs ++ ys)
 appends_more None b c xs ys h k = tt
 appends_more (Some ws) None c xs ys h k = absurd h
 appends_more (Some ws) (Some bs) None xs ys h k = absurd k
 appends_more (Some ws) (Some bs) (Some cs) xs ys h k = k ∙ ap (λ z. z ++ ys) h ∙ append_assoc ws xs ys
 
-kept : (a b : Option (List ℕ)) → Keeps a b → Appends a b []
+pub kept : (a b : Option (List ℕ)) → Keeps a b → Appends a b []
 kept None b h = tt
 kept (Some xs) None h = absurd h
 kept (Some xs) (Some ys) h = h ∙ sym (append-nil xs)

@@ -13,4 +13,5 @@ pub mod Shows
 pub mod Given
 pub mod Sound
 pub mod Report
+pub mod Live
 pub mod Laws

@@ -3,10 +3,10 @@
 ghost use Rattle.std.specs.Prelude.{◌≡◌, ◌<◌, ◌≤◌, IfErr, IfOk, IsTrue, OnOk, string_bytes, true};
 ghost use Rattle.passive_core.specs.Names.{is_lawful};
 ghost use Rattle.passive_core.specs.Slots.{is_iface};
+ghost use Rattle.registry_script.specs.Live.{IsLineOf};
 ghost use Rattle.registry_script.specs.Program.{suits};
 ghost use Rattle.registry_script.specs.Registry.{Registry};
 ghost use Rattle.registry_script.specs.Report.{after, text_of};
-ghost use Rattle.registry_script.specs.Shows.{Shows};
 
 use super::lines::{
     attached, audited, destroyed, found, held as held_or_not, hitched, labelled, limited, opened,
@@ -18,11 +18,16 @@ use passive_core::{Kind, Name, Record};
 use std::alloc::Global;
 
 /// Carries out a command, and gives its text: a line, or those of an audit.
-pub fn carry_out(alloc: Global, session: &mut Session, command: Command) -> Result<String, RunFault>
-    requires { IsTrue (suits session.old.core.settings command) }
-    ensures settings { session.new.core.settings ≡ session.old.core.settings }
-    ensures line { (r : Registry) → Shows session.old r → IfOk result (λ text. string_bytes text ≡ text_of r command) }
-    ensures shows { (r : Registry) → Shows session.old r → OnOk result (Shows session.new (after r command)) }
+pub fn carry_out<S: Session>(
+    alloc: Global,
+    session: &mut S,
+    command: Command,
+) -> Result<String, RunFault>
+    requires { IsTrue (suits (S.settings session.old) command) }
+    ensures settings { S.settings session.new ≡ S.settings session.old }
+    ensures line { (r : Registry) → S.shows session.old r → IfOk result (λ text. string_bytes text ≡ text_of r command) }
+    ensures shape { IfOk result (λ text. IsLineOf command (string_bytes text)) }
+    ensures shows { (r : Registry) → S.shows session.old r → OnOk result (S.shows session.new (after r command)) }
     ensures memory { IfErr result (λ fault. fault ≡ RunFault.Memory) }
 {
     match command {
@@ -58,12 +63,18 @@ pub fn carry_out(alloc: Global, session: &mut Session, command: Command) -> Resu
     }
 }
 
-fn attach(alloc: Global, session: &mut Session, cpu: u8, rec: Record) -> Result<String, RunFault>
-    requires known { cpu < session.old.core.settings.cpus }
+fn attach<S: Session>(
+    alloc: Global,
+    session: &mut S,
+    cpu: u8,
+    rec: Record,
+) -> Result<String, RunFault>
+    requires known { cpu < (S.settings session.old).cpus }
     requires lawful { IsTrue (is_lawful rec.name) }
-    ensures settings { session.new.core.settings ≡ session.old.core.settings }
-    ensures line { (r : Registry) → Shows session.old r → IfOk result (λ text. string_bytes text ≡ text_of r (Command.Attach cpu rec)) }
-    ensures shows { (r : Registry) → Shows session.old r → OnOk result (Shows session.new (after r (Command.Attach cpu rec))) }
+    ensures settings { S.settings session.new ≡ S.settings session.old }
+    ensures line { (r : Registry) → S.shows session.old r → IfOk result (λ text. string_bytes text ≡ text_of r (Command.Attach cpu rec)) }
+    ensures shape { IfOk result (λ text. IsLineOf (Command.Attach cpu rec) (string_bytes text)) }
+    ensures shows { (r : Registry) → S.shows session.old r → OnOk result (S.shows session.new (after r (Command.Attach cpu rec))) }
     ensures memory { IfErr result (λ fault. fault ≡ RunFault.Memory) }
 {
     match session.attach(cpu, rec) {
@@ -72,20 +83,21 @@ fn attach(alloc: Global, session: &mut Session, cpu: u8, rec: Record) -> Result<
     }
 }
 
-fn plug(
+fn plug<S: Session>(
     alloc: Global,
-    session: &mut Session,
+    session: &mut S,
     cpu: u8,
     rec: Record,
     label: Label,
 ) -> Result<String, RunFault>
-    requires known { cpu < session.old.core.settings.cpus }
+    requires known { cpu < (S.settings session.old).cpus }
     requires lawful { IsTrue (is_lawful rec.name) }
     requires iface { is_iface rec.kind ≡ true }
     requires label { label.place < 26 }
-    ensures settings { session.new.core.settings ≡ session.old.core.settings }
-    ensures line { (r : Registry) → Shows session.old r → IfOk result (λ text. string_bytes text ≡ text_of r (Command.Plug cpu rec label)) }
-    ensures shows { (r : Registry) → Shows session.old r → OnOk result (Shows session.new (after r (Command.Plug cpu rec label))) }
+    ensures settings { S.settings session.new ≡ S.settings session.old }
+    ensures line { (r : Registry) → S.shows session.old r → IfOk result (λ text. string_bytes text ≡ text_of r (Command.Plug cpu rec label)) }
+    ensures shape { IfOk result (λ text. IsLineOf (Command.Plug cpu rec label) (string_bytes text)) }
+    ensures shows { (r : Registry) → S.shows session.old r → OnOk result (S.shows session.new (after r (Command.Plug cpu rec label))) }
     ensures memory { IfErr result (λ fault. fault ≡ RunFault.Memory) }
 {
     match session.plug(cpu, rec, label) {
@@ -94,17 +106,18 @@ fn plug(
     }
 }
 
-fn detach(
+fn detach<S: Session>(
     alloc: Global,
-    session: &mut Session,
+    session: &mut S,
     cpu: u8,
     kind: Kind,
     name: Name,
 ) -> Result<String, RunFault>
-    requires { cpu < session.old.core.settings.cpus }
-    ensures settings { session.new.core.settings ≡ session.old.core.settings }
-    ensures line { (r : Registry) → Shows session.old r → IfOk result (λ text. string_bytes text ≡ text_of r (Command.Detach cpu kind name)) }
-    ensures shows { (r : Registry) → Shows session.old r → OnOk result (Shows session.new (after r (Command.Detach cpu kind name))) }
+    requires { cpu < (S.settings session.old).cpus }
+    ensures settings { S.settings session.new ≡ S.settings session.old }
+    ensures line { (r : Registry) → S.shows session.old r → IfOk result (λ text. string_bytes text ≡ text_of r (Command.Detach cpu kind name)) }
+    ensures shape { IfOk result (λ text. IsLineOf (Command.Detach cpu kind name) (string_bytes text)) }
+    ensures shows { (r : Registry) → S.shows session.old r → OnOk result (S.shows session.new (after r (Command.Detach cpu kind name))) }
     ensures memory { IfErr result (λ fault. fault ≡ RunFault.Memory) }
 {
     match session.detach(cpu, kind, name) {
@@ -113,11 +126,12 @@ fn detach(
     }
 }
 
-fn enter(alloc: Global, session: &mut Session, cpu: u8) -> Result<String, RunFault>
-    requires { cpu < session.old.core.settings.cpus }
-    ensures settings { session.new.core.settings ≡ session.old.core.settings }
-    ensures line { (r : Registry) → Shows session.old r → IfOk result (λ text. string_bytes text ≡ text_of r (Command.Enter cpu)) }
-    ensures shows { (r : Registry) → Shows session.old r → OnOk result (Shows session.new (after r (Command.Enter cpu))) }
+fn enter<S: Session>(alloc: Global, session: &mut S, cpu: u8) -> Result<String, RunFault>
+    requires { cpu < (S.settings session.old).cpus }
+    ensures settings { S.settings session.new ≡ S.settings session.old }
+    ensures line { (r : Registry) → S.shows session.old r → IfOk result (λ text. string_bytes text ≡ text_of r (Command.Enter cpu)) }
+    ensures shape { IfOk result (λ text. IsLineOf (Command.Enter cpu) (string_bytes text)) }
+    ensures shows { (r : Registry) → S.shows session.old r → OnOk result (S.shows session.new (after r (Command.Enter cpu))) }
     ensures memory { IfErr result (λ fault. fault ≡ RunFault.Memory) }
 {
     match session.enter(cpu) {
@@ -126,11 +140,12 @@ fn enter(alloc: Global, session: &mut Session, cpu: u8) -> Result<String, RunFau
     }
 }
 
-fn exit(alloc: Global, session: &mut Session, cpu: u8) -> Result<String, RunFault>
-    requires { cpu < session.old.core.settings.cpus }
-    ensures settings { session.new.core.settings ≡ session.old.core.settings }
-    ensures line { (r : Registry) → Shows session.old r → IfOk result (λ text. string_bytes text ≡ text_of r (Command.Exit cpu)) }
-    ensures shows { (r : Registry) → Shows session.old r → OnOk result (Shows session.new (after r (Command.Exit cpu))) }
+fn exit<S: Session>(alloc: Global, session: &mut S, cpu: u8) -> Result<String, RunFault>
+    requires { cpu < (S.settings session.old).cpus }
+    ensures settings { S.settings session.new ≡ S.settings session.old }
+    ensures line { (r : Registry) → S.shows session.old r → IfOk result (λ text. string_bytes text ≡ text_of r (Command.Exit cpu)) }
+    ensures shape { IfOk result (λ text. IsLineOf (Command.Exit cpu) (string_bytes text)) }
+    ensures shows { (r : Registry) → S.shows session.old r → OnOk result (S.shows session.new (after r (Command.Exit cpu))) }
     ensures memory { IfErr result (λ fault. fault ≡ RunFault.Memory) }
 {
     match session.exit(cpu) {
@@ -139,17 +154,18 @@ fn exit(alloc: Global, session: &mut Session, cpu: u8) -> Result<String, RunFaul
     }
 }
 
-fn find(
+fn find<S: Session>(
     alloc: Global,
-    session: &mut Session,
+    session: &mut S,
     cpu: u8,
     kind: Kind,
     name: Name,
 ) -> Result<String, RunFault>
-    requires { cpu < session.old.core.settings.cpus }
-    ensures settings { session.new.core.settings ≡ session.old.core.settings }
-    ensures line { (r : Registry) → Shows session.old r → IfOk result (λ text. string_bytes text ≡ text_of r (Command.Find cpu kind name)) }
-    ensures shows { (r : Registry) → Shows session.old r → OnOk result (Shows session.new (after r (Command.Find cpu kind name))) }
+    requires { cpu < (S.settings session.old).cpus }
+    ensures settings { S.settings session.new ≡ S.settings session.old }
+    ensures line { (r : Registry) → S.shows session.old r → IfOk result (λ text. string_bytes text ≡ text_of r (Command.Find cpu kind name)) }
+    ensures shape { IfOk result (λ text. IsLineOf (Command.Find cpu kind name) (string_bytes text)) }
+    ensures shows { (r : Registry) → S.shows session.old r → OnOk result (S.shows session.new (after r (Command.Find cpu kind name))) }
     ensures memory { IfErr result (λ fault. fault ≡ RunFault.Memory) }
 {
     match session.find(cpu, kind, name) {
@@ -158,17 +174,18 @@ fn find(
     }
 }
 
-fn reference(
+fn reference<S: Session>(
     alloc: Global,
-    session: &mut Session,
+    session: &mut S,
     cpu: u8,
     label: Label,
 ) -> Result<String, RunFault>
-    requires known { cpu < session.old.core.settings.cpus }
+    requires known { cpu < (S.settings session.old).cpus }
     requires label { label.place < 26 }
-    ensures settings { session.new.core.settings ≡ session.old.core.settings }
-    ensures line { (r : Registry) → Shows session.old r → IfOk result (λ text. string_bytes text ≡ text_of r (Command.Reference cpu label)) }
-    ensures shows { (r : Registry) → Shows session.old r → OnOk result (Shows session.new (after r (Command.Reference cpu label))) }
+    ensures settings { S.settings session.new ≡ S.settings session.old }
+    ensures line { (r : Registry) → S.shows session.old r → IfOk result (λ text. string_bytes text ≡ text_of r (Command.Reference cpu label)) }
+    ensures shape { IfOk result (λ text. IsLineOf (Command.Reference cpu label) (string_bytes text)) }
+    ensures shows { (r : Registry) → S.shows session.old r → OnOk result (S.shows session.new (after r (Command.Reference cpu label))) }
     ensures memory { IfErr result (λ fault. fault ≡ RunFault.Memory) }
 {
     match session.reference(cpu, label) {
@@ -177,19 +194,20 @@ fn reference(
     }
 }
 
-fn copy(
+fn copy<S: Session>(
     alloc: Global,
-    session: &mut Session,
+    session: &mut S,
     cpu: u8,
     source: Label,
     target: Label,
 ) -> Result<String, RunFault>
-    requires known { cpu < session.old.core.settings.cpus }
+    requires known { cpu < (S.settings session.old).cpus }
     requires source { source.place < 26 }
     requires target { target.place < 26 }
-    ensures settings { session.new.core.settings ≡ session.old.core.settings }
-    ensures line { (r : Registry) → Shows session.old r → IfOk result (λ text. string_bytes text ≡ text_of r (Command.Copy cpu source target)) }
-    ensures shows { (r : Registry) → Shows session.old r → OnOk result (Shows session.new (after r (Command.Copy cpu source target))) }
+    ensures settings { S.settings session.new ≡ S.settings session.old }
+    ensures line { (r : Registry) → S.shows session.old r → IfOk result (λ text. string_bytes text ≡ text_of r (Command.Copy cpu source target)) }
+    ensures shape { IfOk result (λ text. IsLineOf (Command.Copy cpu source target) (string_bytes text)) }
+    ensures shows { (r : Registry) → S.shows session.old r → OnOk result (S.shows session.new (after r (Command.Copy cpu source target))) }
     ensures memory { IfErr result (λ fault. fault ≡ RunFault.Memory) }
 {
     match session.copy(cpu, source, target) {
@@ -198,10 +216,11 @@ fn copy(
     }
 }
 
-fn held(alloc: Global, session: &Session, cpu: u8, label: Label) -> Result<String, RunFault>
-    requires known { cpu < session.now.core.settings.cpus }
+fn held<S: Session>(alloc: Global, session: &S, cpu: u8, label: Label) -> Result<String, RunFault>
+    requires known { cpu < (S.settings session.now).cpus }
     requires label { label.place < 26 }
-    ensures line { (r : Registry) → Shows session.now r → IfOk result (λ text. string_bytes text ≡ text_of r (Command.Held cpu label)) }
+    ensures line { (r : Registry) → S.shows session.now r → IfOk result (λ text. string_bytes text ≡ text_of r (Command.Held cpu label)) }
+    ensures shape { IfOk result (λ text. IsLineOf (Command.Held cpu label) (string_bytes text)) }
     ensures memory { IfErr result (λ fault. fault ≡ RunFault.Memory) }
 {
     match session.held(cpu, label) {
@@ -210,12 +229,18 @@ fn held(alloc: Global, session: &Session, cpu: u8, label: Label) -> Result<Strin
     }
 }
 
-fn read(alloc: Global, session: &mut Session, cpu: u8, label: Label) -> Result<String, RunFault>
-    requires known { cpu < session.old.core.settings.cpus }
+fn read<S: Session>(
+    alloc: Global,
+    session: &mut S,
+    cpu: u8,
+    label: Label,
+) -> Result<String, RunFault>
+    requires known { cpu < (S.settings session.old).cpus }
     requires label { label.place < 26 }
-    ensures settings { session.new.core.settings ≡ session.old.core.settings }
-    ensures line { (r : Registry) → Shows session.old r → IfOk result (λ text. string_bytes text ≡ text_of r (Command.Read cpu label)) }
-    ensures shows { (r : Registry) → Shows session.old r → OnOk result (Shows session.new (after r (Command.Read cpu label))) }
+    ensures settings { S.settings session.new ≡ S.settings session.old }
+    ensures line { (r : Registry) → S.shows session.old r → IfOk result (λ text. string_bytes text ≡ text_of r (Command.Read cpu label)) }
+    ensures shape { IfOk result (λ text. IsLineOf (Command.Read cpu label) (string_bytes text)) }
+    ensures shows { (r : Registry) → S.shows session.old r → OnOk result (S.shows session.new (after r (Command.Read cpu label))) }
     ensures memory { IfErr result (λ fault. fault ≡ RunFault.Memory) }
 {
     match session.read(cpu, label) {
@@ -224,12 +249,18 @@ fn read(alloc: Global, session: &mut Session, cpu: u8, label: Label) -> Result<S
     }
 }
 
-fn release(alloc: Global, session: &mut Session, cpu: u8, label: Label) -> Result<String, RunFault>
-    requires known { cpu < session.old.core.settings.cpus }
+fn release<S: Session>(
+    alloc: Global,
+    session: &mut S,
+    cpu: u8,
+    label: Label,
+) -> Result<String, RunFault>
+    requires known { cpu < (S.settings session.old).cpus }
     requires label { label.place < 26 }
-    ensures settings { session.new.core.settings ≡ session.old.core.settings }
-    ensures line { (r : Registry) → Shows session.old r → IfOk result (λ text. string_bytes text ≡ text_of r (Command.Release cpu label)) }
-    ensures shows { (r : Registry) → Shows session.old r → OnOk result (Shows session.new (after r (Command.Release cpu label))) }
+    ensures settings { S.settings session.new ≡ S.settings session.old }
+    ensures line { (r : Registry) → S.shows session.old r → IfOk result (λ text. string_bytes text ≡ text_of r (Command.Release cpu label)) }
+    ensures shape { IfOk result (λ text. IsLineOf (Command.Release cpu label) (string_bytes text)) }
+    ensures shows { (r : Registry) → S.shows session.old r → OnOk result (S.shows session.new (after r (Command.Release cpu label))) }
     ensures memory { IfErr result (λ fault. fault ≡ RunFault.Memory) }
 {
     match session.release(cpu, label) {
@@ -238,12 +269,18 @@ fn release(alloc: Global, session: &mut Session, cpu: u8, label: Label) -> Resul
     }
 }
 
-fn count(alloc: Global, session: &mut Session, cpu: u8, label: Label) -> Result<String, RunFault>
-    requires known { cpu < session.old.core.settings.cpus }
+fn count<S: Session>(
+    alloc: Global,
+    session: &mut S,
+    cpu: u8,
+    label: Label,
+) -> Result<String, RunFault>
+    requires known { cpu < (S.settings session.old).cpus }
     requires label { label.place < 26 }
-    ensures settings { session.new.core.settings ≡ session.old.core.settings }
-    ensures line { (r : Registry) → Shows session.old r → IfOk result (λ text. string_bytes text ≡ text_of r (Command.Count cpu label)) }
-    ensures shows { (r : Registry) → Shows session.old r → OnOk result (Shows session.new (after r (Command.Count cpu label))) }
+    ensures settings { S.settings session.new ≡ S.settings session.old }
+    ensures line { (r : Registry) → S.shows session.old r → IfOk result (λ text. string_bytes text ≡ text_of r (Command.Count cpu label)) }
+    ensures shape { IfOk result (λ text. IsLineOf (Command.Count cpu label) (string_bytes text)) }
+    ensures shows { (r : Registry) → S.shows session.old r → OnOk result (S.shows session.new (after r (Command.Count cpu label))) }
     ensures memory { IfErr result (λ fault. fault ≡ RunFault.Memory) }
 {
     match session.count(cpu, label) {
@@ -252,11 +289,12 @@ fn count(alloc: Global, session: &mut Session, cpu: u8, label: Label) -> Result<
     }
 }
 
-fn peek(alloc: Global, session: &mut Session, label: Label) -> Result<String, RunFault>
+fn peek<S: Session>(alloc: Global, session: &mut S, label: Label) -> Result<String, RunFault>
     requires { label.place < 26 }
-    ensures settings { session.new.core.settings ≡ session.old.core.settings }
-    ensures line { (r : Registry) → Shows session.old r → IfOk result (λ text. string_bytes text ≡ text_of r (Command.Peek label)) }
-    ensures shows { (r : Registry) → Shows session.old r → OnOk result (Shows session.new (after r (Command.Peek label))) }
+    ensures settings { S.settings session.new ≡ S.settings session.old }
+    ensures line { (r : Registry) → S.shows session.old r → IfOk result (λ text. string_bytes text ≡ text_of r (Command.Peek label)) }
+    ensures shape { IfOk result (λ text. IsLineOf (Command.Peek label) (string_bytes text)) }
+    ensures shows { (r : Registry) → S.shows session.old r → OnOk result (S.shows session.new (after r (Command.Peek label))) }
     ensures memory { IfErr result (λ fault. fault ≡ RunFault.Memory) }
 {
     match session.peek(label) {
@@ -265,12 +303,18 @@ fn peek(alloc: Global, session: &mut Session, label: Label) -> Result<String, Ru
     }
 }
 
-fn uncount(alloc: Global, session: &mut Session, cpu: u8, label: Label) -> Result<String, RunFault>
-    requires known { cpu < session.old.core.settings.cpus }
+fn uncount<S: Session>(
+    alloc: Global,
+    session: &mut S,
+    cpu: u8,
+    label: Label,
+) -> Result<String, RunFault>
+    requires known { cpu < (S.settings session.old).cpus }
     requires label { label.place < 26 }
-    ensures settings { session.new.core.settings ≡ session.old.core.settings }
-    ensures line { (r : Registry) → Shows session.old r → IfOk result (λ text. string_bytes text ≡ text_of r (Command.Uncount cpu label)) }
-    ensures shows { (r : Registry) → Shows session.old r → OnOk result (Shows session.new (after r (Command.Uncount cpu label))) }
+    ensures settings { S.settings session.new ≡ S.settings session.old }
+    ensures line { (r : Registry) → S.shows session.old r → IfOk result (λ text. string_bytes text ≡ text_of r (Command.Uncount cpu label)) }
+    ensures shape { IfOk result (λ text. IsLineOf (Command.Uncount cpu label) (string_bytes text)) }
+    ensures shows { (r : Registry) → S.shows session.old r → OnOk result (S.shows session.new (after r (Command.Uncount cpu label))) }
     ensures memory { IfErr result (λ fault. fault ≡ RunFault.Memory) }
 {
     match session.uncount(cpu, label) {
@@ -279,10 +323,11 @@ fn uncount(alloc: Global, session: &mut Session, cpu: u8, label: Label) -> Resul
     }
 }
 
-fn advance(alloc: Global, session: &mut Session, number: u64) -> Result<String, RunFault>
-    ensures settings { session.new.core.settings ≡ session.old.core.settings }
-    ensures line { (r : Registry) → Shows session.old r → IfOk result (λ text. string_bytes text ≡ text_of r (Command.Advance number)) }
-    ensures shows { (r : Registry) → Shows session.old r → OnOk result (Shows session.new (after r (Command.Advance number))) }
+fn advance<S: Session>(alloc: Global, session: &mut S, number: u64) -> Result<String, RunFault>
+    ensures settings { S.settings session.new ≡ S.settings session.old }
+    ensures line { (r : Registry) → S.shows session.old r → IfOk result (λ text. string_bytes text ≡ text_of r (Command.Advance number)) }
+    ensures shape { IfOk result (λ text. IsLineOf (Command.Advance number) (string_bytes text)) }
+    ensures shows { (r : Registry) → S.shows session.old r → OnOk result (S.shows session.new (after r (Command.Advance number))) }
     ensures memory { IfErr result (λ fault. fault ≡ RunFault.Memory) }
 {
     match session.advance(number) {
@@ -291,18 +336,19 @@ fn advance(alloc: Global, session: &mut Session, number: u64) -> Result<String, 
     }
 }
 
-fn destroy(
+fn destroy<S: Session>(
     alloc: Global,
-    session: &mut Session,
+    session: &mut S,
     cpu: u8,
     number: u64,
     turns: u32,
 ) -> Result<String, RunFault>
-    requires known { cpu < session.old.core.settings.cpus }
+    requires known { cpu < (S.settings session.old).cpus }
     requires some { 1 ≤ turns }
-    ensures settings { session.new.core.settings ≡ session.old.core.settings }
-    ensures line { (r : Registry) → Shows session.old r → IfOk result (λ text. string_bytes text ≡ text_of r (Command.Destroy cpu number turns)) }
-    ensures shows { (r : Registry) → Shows session.old r → OnOk result (Shows session.new (after r (Command.Destroy cpu number turns))) }
+    ensures settings { S.settings session.new ≡ S.settings session.old }
+    ensures line { (r : Registry) → S.shows session.old r → IfOk result (λ text. string_bytes text ≡ text_of r (Command.Destroy cpu number turns)) }
+    ensures shape { IfOk result (λ text. IsLineOf (Command.Destroy cpu number turns) (string_bytes text)) }
+    ensures shows { (r : Registry) → S.shows session.old r → OnOk result (S.shows session.new (after r (Command.Destroy cpu number turns))) }
     ensures memory { IfErr result (λ fault. fault ≡ RunFault.Memory) }
 {
     match session.destroy(cpu, number, turns) {
@@ -311,12 +357,18 @@ fn destroy(
     }
 }
 
-fn perform(alloc: Global, session: &mut Session, cpu: u8, turns: u32) -> Result<String, RunFault>
-    requires known { cpu < session.old.core.settings.cpus }
+fn perform<S: Session>(
+    alloc: Global,
+    session: &mut S,
+    cpu: u8,
+    turns: u32,
+) -> Result<String, RunFault>
+    requires known { cpu < (S.settings session.old).cpus }
     requires some { 1 ≤ turns }
-    ensures settings { session.new.core.settings ≡ session.old.core.settings }
-    ensures line { (r : Registry) → Shows session.old r → IfOk result (λ text. string_bytes text ≡ text_of r (Command.Perform cpu turns)) }
-    ensures shows { (r : Registry) → Shows session.old r → OnOk result (Shows session.new (after r (Command.Perform cpu turns))) }
+    ensures settings { S.settings session.new ≡ S.settings session.old }
+    ensures line { (r : Registry) → S.shows session.old r → IfOk result (λ text. string_bytes text ≡ text_of r (Command.Perform cpu turns)) }
+    ensures shape { IfOk result (λ text. IsLineOf (Command.Perform cpu turns) (string_bytes text)) }
+    ensures shows { (r : Registry) → S.shows session.old r → OnOk result (S.shows session.new (after r (Command.Perform cpu turns))) }
     ensures memory { IfErr result (λ fault. fault ≡ RunFault.Memory) }
 {
     match session.perform(cpu, turns) {
@@ -325,8 +377,11 @@ fn perform(alloc: Global, session: &mut Session, cpu: u8, turns: u32) -> Result<
     }
 }
 
-fn audit(alloc: Global, session: &Session) -> Result<String, RunFault>
-    ensures line { (r : Registry) → Shows session.now r → IfOk result (λ text. string_bytes text ≡ text_of r (Command.Audit)) }
+fn audit<S: Session>(alloc: Global, session: &mut S) -> Result<String, RunFault>
+    ensures settings { S.settings session.new ≡ S.settings session.old }
+    ensures line { (r : Registry) → S.shows session.old r → IfOk result (λ text. string_bytes text ≡ text_of r Command.Audit) }
+    ensures shape { IfOk result (λ text. IsLineOf Command.Audit (string_bytes text)) }
+    ensures shows { (r : Registry) → S.shows session.old r → OnOk result (S.shows session.new (after r Command.Audit)) }
     ensures memory { IfErr result (λ fault. fault ≡ RunFault.Memory) }
 {
     match session.audit() {

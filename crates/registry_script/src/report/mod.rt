@@ -4,14 +4,15 @@ ghost use Rattle.std.specs.Prelude.{◌≡◌, IfErr, IfOk, IsTrue, OnErr, OnOk}
 ghost use Rattle.std.specs.Io.KnownBytes.{Appends};
 ghost use Rattle.std.specs.List.{list_all};
 ghost use Rattle.passive_core.specs.State.{opening};
+ghost use Rattle.registry_script.specs.Live.{WritesFront, WritesRun};
 ghost use Rattle.registry_script.specs.Program.{suits};
 ghost use Rattle.registry_script.specs.Registry.{Registry};
 ghost use Rattle.registry_script.specs.Report.{report, report_from};
 ghost use Rattle.registry_script.specs.Session.{unlabelled};
-ghost use Rattle.registry_script.specs.Shows.{Shows};
 ghost use Rattle.registry_script.specs.Written.{AppendsPrefix, IsWhileRunning};
 
 mod carry;
+mod core_session;
 mod hitch;
 mod lines;
 mod session;
@@ -19,6 +20,7 @@ mod write;
 
 use crate::script::{Command, RunFault, Script};
 use carry::carry_out;
+use core_session::CoreSession;
 use passive_core::{Core, Settings};
 use session::Session;
 use std::alloc::Global;
@@ -32,31 +34,53 @@ pub fn run_core<W: Write>(alloc: Global, script: &Script, writer: &mut W) -> Res
     ensures fault { IfErr result IsWhileRunning }
 {
     let mut session = session_for(alloc, script.settings())?;
-    run_commands(alloc, &mut session, script.commands(), writer)?;
-    writer.flush().map_err(|_| RunFault::Write)
+    run_on(alloc, &mut session, script.commands(), writer)
 }
 
 /// A session over a new core with the settings of a script, which are fit.
-fn session_for(alloc: Global, settings: Settings) -> Result<Session, RunFault>
+fn session_for(alloc: Global, settings: Settings) -> Result<CoreSession, RunFault>
     ensures opening { IfOk result (λ session. session ≡ unlabelled (opening settings)) }
     ensures fault { IfErr result (λ fault. fault ≡ RunFault.Memory) }
 {
     match Core::new(alloc, settings) {
-        Ok(core) => Ok(Session::new(core)),
+        Ok(core) => Ok(CoreSession::new(core)),
         Err(_) => Err(RunFault::Memory),
     }
 }
 
-/// Carries the commands out, and writes the text of each.
-fn run_commands<W: Write>(
+/// Carries the commands of a script out, and writes the text of each, in order, and flushes the writer.
+///
+/// Where the session shows a registry, the texts are the report from there; over any session each text is one
+/// that its command may print.
+fn run_on<S: Session, W: Write>(
     alloc: Global,
-    session: &mut Session,
+    session: &mut S,
     commands: &[Command],
     writer: &mut W,
 ) -> Result<(), RunFault>
-    requires { IsTrue (list_all (suits session.old.core.settings) commands.now) }
-    ensures ok { (r : Registry) → Shows session.old r → OnOk result (Appends (W.contents writer.old) (W.contents writer.new) (report_from r commands.now)) }
-    ensures err { (r : Registry) → Shows session.old r → OnErr result (AppendsPrefix (W.contents writer.old) (W.contents writer.new) (report_from r commands.now)) }
+    requires { IsTrue (list_all (suits (S.settings session.old)) commands.now) }
+    ensures ok { (r : Registry) → S.shows session.old r → OnOk result (Appends (W.contents writer.old) (W.contents writer.new) (report_from r commands.now)) }
+    ensures err { (r : Registry) → S.shows session.old r → OnErr result (AppendsPrefix (W.contents writer.old) (W.contents writer.new) (report_from r commands.now)) }
+    ensures run { OnOk result (WritesRun (W.contents writer.old) (W.contents writer.new) commands.now) }
+    ensures front { OnErr result (WritesFront (W.contents writer.old) (W.contents writer.new) commands.now) }
+    ensures fault { IfErr result IsWhileRunning }
+{
+    run_commands(alloc, session, commands, writer)?;
+    writer.flush().map_err(|_| RunFault::Write)
+}
+
+/// Carries the commands out, and writes the text of each.
+fn run_commands<S: Session, W: Write>(
+    alloc: Global,
+    session: &mut S,
+    commands: &[Command],
+    writer: &mut W,
+) -> Result<(), RunFault>
+    requires { IsTrue (list_all (suits (S.settings session.old)) commands.now) }
+    ensures ok { (r : Registry) → S.shows session.old r → OnOk result (Appends (W.contents writer.old) (W.contents writer.new) (report_from r commands.now)) }
+    ensures err { (r : Registry) → S.shows session.old r → OnErr result (AppendsPrefix (W.contents writer.old) (W.contents writer.new) (report_from r commands.now)) }
+    ensures run { OnOk result (WritesRun (W.contents writer.old) (W.contents writer.new) commands.now) }
+    ensures front { OnErr result (WritesFront (W.contents writer.old) (W.contents writer.new) commands.now) }
     ensures fault { IfErr result IsWhileRunning }
 {
     for command in commands {

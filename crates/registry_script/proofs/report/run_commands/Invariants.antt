@@ -1,13 +1,14 @@
-use Rattle.std.proofs.Common.{◌≡◌, drop}
+use Rattle.std.proofs.Common.{◌≡◌, drop, take}
+use Rattle.registry_script.specs.Live.{WritesRun}
 use Rattle.registry_script.specs.Registry.{Registry}
 use Rattle.registry_script.specs.Report.{report_from}
-use Rattle.registry_script.specs.Shows.{Shows}
 use Rattle.registry_script.specs.Written.{Written}
 use Rattle.registry_script.proofs.report.run_commands.Given as goal
 
--- the texts so far are written, and the session shows the registry that the commands left go on from
+-- the texts so far are written, each one that its command may print; a session that shows a registry shows then the one that the report of the commands left goes on from
 abbrev pub invariant-loop-command : goal.invariant-loop-command
 invariant-loop-command g l = record {
-  settings : l.session.core.settings ≡ l.fn.session.core.settings;
-  so_far : (r : Registry) → Shows l.fn.session r → (q : Registry) × Shows l.session q × Written (g.W.Write.contents l.fn.writer) (g.W.Write.contents l.writer) (report_from r l.commands) (report_from q (drop l.command-index l.commands));
+  settings : g.S.Session.settings l.session ≡ g.S.Session.settings l.fn.session;
+  so_far : (r : Registry) → g.S.Session.shows l.fn.session r → (q : Registry) × g.S.Session.shows l.session q × Written (g.W.Write.contents l.fn.writer) (g.W.Write.contents l.writer) (report_from r l.commands) (report_from q (drop l.command-index l.commands));
+  printed : WritesRun (g.W.Write.contents l.fn.writer) (g.W.Write.contents l.writer) (take l.command-index l.commands);
 }

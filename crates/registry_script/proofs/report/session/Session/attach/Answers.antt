@@ -1,8 +1,0 @@
-use Rattle.registry_script.proofs.Done.{attach_does}
-use Rattle.registry_script.proofs.report.session.Session.attach.Goals as goal
-
-pub returns-clause-answer : goal.returns-clause-answer
-returns-clause-answer c = λ r on. (attach_does (record { core = c.self.inside.core; passives = c.self.inside.passives; locals = c.self.inside.locals }) c.args.self.now c.attach-answer.new.self r c.args.cpu c.args.rec c.attach-answer.result c.as_answer.result c.self.view_is c.self.invariant on c.as_answer.ensures c.attach-answer.ensures.answer c.attach-answer.ensures.after c.at_rest.ensures.holds).0
-
-pub returns-clause-shows : goal.returns-clause-shows
-returns-clause-shows c = λ r on. (attach_does (record { core = c.self.inside.core; passives = c.self.inside.passives; locals = c.self.inside.locals }) c.args.self.now c.attach-answer.new.self r c.args.cpu c.args.rec c.attach-answer.result c.as_answer.result c.self.view_is c.self.invariant on c.as_answer.ensures c.attach-answer.ensures.answer c.attach-answer.ensures.after c.at_rest.ensures.holds).1

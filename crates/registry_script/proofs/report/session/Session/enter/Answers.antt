@@ -1,7 +1,0 @@
-use Rattle.std.proofs.Common.{◌<◌, subst, sym}
-use Rattle.registry_script.specs.Session.{SessionState}
-use Rattle.registry_script.proofs.Done.{enter_does}
-use Rattle.registry_script.proofs.report.session.Session.enter.Goals as goal
-
-pub returns-clause-shows : goal.returns-clause-shows
-returns-clause-shows c = λ r on. (enter_does (record { core = c.self.inside.core; passives = c.self.inside.passives; locals = c.self.inside.locals }) c.args.self.now c.enter-answer.new.self r c.args.cpu c.enter-answer.result c.as_answer.result c.self.view_is c.self.invariant on c.as_answer.ensures (subst (λ (x : SessionState). c.args.cpu < x.core.settings.cpus) (sym c.self.view_is) c.requires) c.enter-answer.ensures.answer c.enter-answer.ensures.after).1

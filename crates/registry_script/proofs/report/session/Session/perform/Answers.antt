@@ -1,8 +1,0 @@
-use Rattle.registry_script.proofs.Done.{perform_does}
-use Rattle.registry_script.proofs.report.session.Session.perform.Goals as goal
-
-pub returns-clause-answer : goal.returns-clause-answer
-returns-clause-answer c = λ r on. (perform_does (record { core = c.self.inside.core; passives = c.self.inside.passives; locals = c.self.inside.locals }) c.args.self.now c.perform-answer.new.self r c.args.cpu c.perform-answer.result c.as_answer.result c.self.view_is on c.as_answer.ensures c.perform-answer.ensures.answer c.perform-answer.ensures.after).0
-
-pub returns-clause-shows : goal.returns-clause-shows
-returns-clause-shows c = λ r on. (perform_does (record { core = c.self.inside.core; passives = c.self.inside.passives; locals = c.self.inside.locals }) c.args.self.now c.perform-answer.new.self r c.args.cpu c.perform-answer.result c.as_answer.result c.self.view_is on c.as_answer.ensures c.perform-answer.ensures.answer c.perform-answer.ensures.after).1
