@@ -23,8 +23,8 @@ pub fn carry_out<S: Session>(
     session: &mut S,
     command: Command,
 ) -> Result<String, RunFault>
-    requires { IsTrue (suits (S.settings session.old) command) }
-    ensures settings { S.settings session.new ≡ S.settings session.old }
+    requires { IsTrue (suits (S.settings (S.kept session.old)) command) }
+    ensures kept { S.kept session.new ≡ S.kept session.old }
     ensures line { (r : Registry) → S.shows session.old r → IfOk result (λ text. string_bytes text ≡ text_of r command) }
     ensures shape { IfOk result (λ text. IsLineOf command (string_bytes text)) }
     ensures shows { (r : Registry) → S.shows session.old r → OnOk result (S.shows session.new (after r command)) }
@@ -69,9 +69,9 @@ fn attach<S: Session>(
     cpu: u8,
     rec: Record,
 ) -> Result<String, RunFault>
-    requires known { cpu < (S.settings session.old).cpus }
+    requires known { cpu < (S.settings (S.kept session.old)).cpus }
     requires lawful { IsTrue (is_lawful rec.name) }
-    ensures settings { S.settings session.new ≡ S.settings session.old }
+    ensures kept { S.kept session.new ≡ S.kept session.old }
     ensures line { (r : Registry) → S.shows session.old r → IfOk result (λ text. string_bytes text ≡ text_of r (Command.Attach cpu rec)) }
     ensures shape { IfOk result (λ text. IsLineOf (Command.Attach cpu rec) (string_bytes text)) }
     ensures shows { (r : Registry) → S.shows session.old r → OnOk result (S.shows session.new (after r (Command.Attach cpu rec))) }
@@ -90,11 +90,11 @@ fn plug<S: Session>(
     rec: Record,
     label: Label,
 ) -> Result<String, RunFault>
-    requires known { cpu < (S.settings session.old).cpus }
+    requires known { cpu < (S.settings (S.kept session.old)).cpus }
     requires lawful { IsTrue (is_lawful rec.name) }
     requires iface { is_iface rec.kind ≡ true }
     requires label { label.place < 26 }
-    ensures settings { S.settings session.new ≡ S.settings session.old }
+    ensures kept { S.kept session.new ≡ S.kept session.old }
     ensures line { (r : Registry) → S.shows session.old r → IfOk result (λ text. string_bytes text ≡ text_of r (Command.Plug cpu rec label)) }
     ensures shape { IfOk result (λ text. IsLineOf (Command.Plug cpu rec label) (string_bytes text)) }
     ensures shows { (r : Registry) → S.shows session.old r → OnOk result (S.shows session.new (after r (Command.Plug cpu rec label))) }
@@ -113,8 +113,8 @@ fn detach<S: Session>(
     kind: Kind,
     name: Name,
 ) -> Result<String, RunFault>
-    requires { cpu < (S.settings session.old).cpus }
-    ensures settings { S.settings session.new ≡ S.settings session.old }
+    requires { cpu < (S.settings (S.kept session.old)).cpus }
+    ensures kept { S.kept session.new ≡ S.kept session.old }
     ensures line { (r : Registry) → S.shows session.old r → IfOk result (λ text. string_bytes text ≡ text_of r (Command.Detach cpu kind name)) }
     ensures shape { IfOk result (λ text. IsLineOf (Command.Detach cpu kind name) (string_bytes text)) }
     ensures shows { (r : Registry) → S.shows session.old r → OnOk result (S.shows session.new (after r (Command.Detach cpu kind name))) }
@@ -127,8 +127,8 @@ fn detach<S: Session>(
 }
 
 fn enter<S: Session>(alloc: Global, session: &mut S, cpu: u8) -> Result<String, RunFault>
-    requires { cpu < (S.settings session.old).cpus }
-    ensures settings { S.settings session.new ≡ S.settings session.old }
+    requires { cpu < (S.settings (S.kept session.old)).cpus }
+    ensures kept { S.kept session.new ≡ S.kept session.old }
     ensures line { (r : Registry) → S.shows session.old r → IfOk result (λ text. string_bytes text ≡ text_of r (Command.Enter cpu)) }
     ensures shape { IfOk result (λ text. IsLineOf (Command.Enter cpu) (string_bytes text)) }
     ensures shows { (r : Registry) → S.shows session.old r → OnOk result (S.shows session.new (after r (Command.Enter cpu))) }
@@ -141,8 +141,8 @@ fn enter<S: Session>(alloc: Global, session: &mut S, cpu: u8) -> Result<String, 
 }
 
 fn exit<S: Session>(alloc: Global, session: &mut S, cpu: u8) -> Result<String, RunFault>
-    requires { cpu < (S.settings session.old).cpus }
-    ensures settings { S.settings session.new ≡ S.settings session.old }
+    requires { cpu < (S.settings (S.kept session.old)).cpus }
+    ensures kept { S.kept session.new ≡ S.kept session.old }
     ensures line { (r : Registry) → S.shows session.old r → IfOk result (λ text. string_bytes text ≡ text_of r (Command.Exit cpu)) }
     ensures shape { IfOk result (λ text. IsLineOf (Command.Exit cpu) (string_bytes text)) }
     ensures shows { (r : Registry) → S.shows session.old r → OnOk result (S.shows session.new (after r (Command.Exit cpu))) }
@@ -161,8 +161,8 @@ fn find<S: Session>(
     kind: Kind,
     name: Name,
 ) -> Result<String, RunFault>
-    requires { cpu < (S.settings session.old).cpus }
-    ensures settings { S.settings session.new ≡ S.settings session.old }
+    requires { cpu < (S.settings (S.kept session.old)).cpus }
+    ensures kept { S.kept session.new ≡ S.kept session.old }
     ensures line { (r : Registry) → S.shows session.old r → IfOk result (λ text. string_bytes text ≡ text_of r (Command.Find cpu kind name)) }
     ensures shape { IfOk result (λ text. IsLineOf (Command.Find cpu kind name) (string_bytes text)) }
     ensures shows { (r : Registry) → S.shows session.old r → OnOk result (S.shows session.new (after r (Command.Find cpu kind name))) }
@@ -180,9 +180,9 @@ fn reference<S: Session>(
     cpu: u8,
     label: Label,
 ) -> Result<String, RunFault>
-    requires known { cpu < (S.settings session.old).cpus }
+    requires known { cpu < (S.settings (S.kept session.old)).cpus }
     requires label { label.place < 26 }
-    ensures settings { S.settings session.new ≡ S.settings session.old }
+    ensures kept { S.kept session.new ≡ S.kept session.old }
     ensures line { (r : Registry) → S.shows session.old r → IfOk result (λ text. string_bytes text ≡ text_of r (Command.Reference cpu label)) }
     ensures shape { IfOk result (λ text. IsLineOf (Command.Reference cpu label) (string_bytes text)) }
     ensures shows { (r : Registry) → S.shows session.old r → OnOk result (S.shows session.new (after r (Command.Reference cpu label))) }
@@ -201,10 +201,10 @@ fn copy<S: Session>(
     source: Label,
     target: Label,
 ) -> Result<String, RunFault>
-    requires known { cpu < (S.settings session.old).cpus }
+    requires known { cpu < (S.settings (S.kept session.old)).cpus }
     requires source { source.place < 26 }
     requires target { target.place < 26 }
-    ensures settings { S.settings session.new ≡ S.settings session.old }
+    ensures kept { S.kept session.new ≡ S.kept session.old }
     ensures line { (r : Registry) → S.shows session.old r → IfOk result (λ text. string_bytes text ≡ text_of r (Command.Copy cpu source target)) }
     ensures shape { IfOk result (λ text. IsLineOf (Command.Copy cpu source target) (string_bytes text)) }
     ensures shows { (r : Registry) → S.shows session.old r → OnOk result (S.shows session.new (after r (Command.Copy cpu source target))) }
@@ -217,7 +217,7 @@ fn copy<S: Session>(
 }
 
 fn held<S: Session>(alloc: Global, session: &S, cpu: u8, label: Label) -> Result<String, RunFault>
-    requires known { cpu < (S.settings session.now).cpus }
+    requires known { cpu < (S.settings (S.kept session.now)).cpus }
     requires label { label.place < 26 }
     ensures line { (r : Registry) → S.shows session.now r → IfOk result (λ text. string_bytes text ≡ text_of r (Command.Held cpu label)) }
     ensures shape { IfOk result (λ text. IsLineOf (Command.Held cpu label) (string_bytes text)) }
@@ -235,9 +235,9 @@ fn read<S: Session>(
     cpu: u8,
     label: Label,
 ) -> Result<String, RunFault>
-    requires known { cpu < (S.settings session.old).cpus }
+    requires known { cpu < (S.settings (S.kept session.old)).cpus }
     requires label { label.place < 26 }
-    ensures settings { S.settings session.new ≡ S.settings session.old }
+    ensures kept { S.kept session.new ≡ S.kept session.old }
     ensures line { (r : Registry) → S.shows session.old r → IfOk result (λ text. string_bytes text ≡ text_of r (Command.Read cpu label)) }
     ensures shape { IfOk result (λ text. IsLineOf (Command.Read cpu label) (string_bytes text)) }
     ensures shows { (r : Registry) → S.shows session.old r → OnOk result (S.shows session.new (after r (Command.Read cpu label))) }
@@ -255,9 +255,9 @@ fn release<S: Session>(
     cpu: u8,
     label: Label,
 ) -> Result<String, RunFault>
-    requires known { cpu < (S.settings session.old).cpus }
+    requires known { cpu < (S.settings (S.kept session.old)).cpus }
     requires label { label.place < 26 }
-    ensures settings { S.settings session.new ≡ S.settings session.old }
+    ensures kept { S.kept session.new ≡ S.kept session.old }
     ensures line { (r : Registry) → S.shows session.old r → IfOk result (λ text. string_bytes text ≡ text_of r (Command.Release cpu label)) }
     ensures shape { IfOk result (λ text. IsLineOf (Command.Release cpu label) (string_bytes text)) }
     ensures shows { (r : Registry) → S.shows session.old r → OnOk result (S.shows session.new (after r (Command.Release cpu label))) }
@@ -275,9 +275,9 @@ fn count<S: Session>(
     cpu: u8,
     label: Label,
 ) -> Result<String, RunFault>
-    requires known { cpu < (S.settings session.old).cpus }
+    requires known { cpu < (S.settings (S.kept session.old)).cpus }
     requires label { label.place < 26 }
-    ensures settings { S.settings session.new ≡ S.settings session.old }
+    ensures kept { S.kept session.new ≡ S.kept session.old }
     ensures line { (r : Registry) → S.shows session.old r → IfOk result (λ text. string_bytes text ≡ text_of r (Command.Count cpu label)) }
     ensures shape { IfOk result (λ text. IsLineOf (Command.Count cpu label) (string_bytes text)) }
     ensures shows { (r : Registry) → S.shows session.old r → OnOk result (S.shows session.new (after r (Command.Count cpu label))) }
@@ -291,7 +291,7 @@ fn count<S: Session>(
 
 fn peek<S: Session>(alloc: Global, session: &mut S, label: Label) -> Result<String, RunFault>
     requires { label.place < 26 }
-    ensures settings { S.settings session.new ≡ S.settings session.old }
+    ensures kept { S.kept session.new ≡ S.kept session.old }
     ensures line { (r : Registry) → S.shows session.old r → IfOk result (λ text. string_bytes text ≡ text_of r (Command.Peek label)) }
     ensures shape { IfOk result (λ text. IsLineOf (Command.Peek label) (string_bytes text)) }
     ensures shows { (r : Registry) → S.shows session.old r → OnOk result (S.shows session.new (after r (Command.Peek label))) }
@@ -309,9 +309,9 @@ fn uncount<S: Session>(
     cpu: u8,
     label: Label,
 ) -> Result<String, RunFault>
-    requires known { cpu < (S.settings session.old).cpus }
+    requires known { cpu < (S.settings (S.kept session.old)).cpus }
     requires label { label.place < 26 }
-    ensures settings { S.settings session.new ≡ S.settings session.old }
+    ensures kept { S.kept session.new ≡ S.kept session.old }
     ensures line { (r : Registry) → S.shows session.old r → IfOk result (λ text. string_bytes text ≡ text_of r (Command.Uncount cpu label)) }
     ensures shape { IfOk result (λ text. IsLineOf (Command.Uncount cpu label) (string_bytes text)) }
     ensures shows { (r : Registry) → S.shows session.old r → OnOk result (S.shows session.new (after r (Command.Uncount cpu label))) }
@@ -324,7 +324,7 @@ fn uncount<S: Session>(
 }
 
 fn advance<S: Session>(alloc: Global, session: &mut S, number: u64) -> Result<String, RunFault>
-    ensures settings { S.settings session.new ≡ S.settings session.old }
+    ensures kept { S.kept session.new ≡ S.kept session.old }
     ensures line { (r : Registry) → S.shows session.old r → IfOk result (λ text. string_bytes text ≡ text_of r (Command.Advance number)) }
     ensures shape { IfOk result (λ text. IsLineOf (Command.Advance number) (string_bytes text)) }
     ensures shows { (r : Registry) → S.shows session.old r → OnOk result (S.shows session.new (after r (Command.Advance number))) }
@@ -343,9 +343,9 @@ fn destroy<S: Session>(
     number: u64,
     turns: u32,
 ) -> Result<String, RunFault>
-    requires known { cpu < (S.settings session.old).cpus }
+    requires known { cpu < (S.settings (S.kept session.old)).cpus }
     requires some { 1 ≤ turns }
-    ensures settings { S.settings session.new ≡ S.settings session.old }
+    ensures kept { S.kept session.new ≡ S.kept session.old }
     ensures line { (r : Registry) → S.shows session.old r → IfOk result (λ text. string_bytes text ≡ text_of r (Command.Destroy cpu number turns)) }
     ensures shape { IfOk result (λ text. IsLineOf (Command.Destroy cpu number turns) (string_bytes text)) }
     ensures shows { (r : Registry) → S.shows session.old r → OnOk result (S.shows session.new (after r (Command.Destroy cpu number turns))) }
@@ -363,9 +363,9 @@ fn perform<S: Session>(
     cpu: u8,
     turns: u32,
 ) -> Result<String, RunFault>
-    requires known { cpu < (S.settings session.old).cpus }
+    requires known { cpu < (S.settings (S.kept session.old)).cpus }
     requires some { 1 ≤ turns }
-    ensures settings { S.settings session.new ≡ S.settings session.old }
+    ensures kept { S.kept session.new ≡ S.kept session.old }
     ensures line { (r : Registry) → S.shows session.old r → IfOk result (λ text. string_bytes text ≡ text_of r (Command.Perform cpu turns)) }
     ensures shape { IfOk result (λ text. IsLineOf (Command.Perform cpu turns) (string_bytes text)) }
     ensures shows { (r : Registry) → S.shows session.old r → OnOk result (S.shows session.new (after r (Command.Perform cpu turns))) }
@@ -378,7 +378,7 @@ fn perform<S: Session>(
 }
 
 fn audit<S: Session>(alloc: Global, session: &mut S) -> Result<String, RunFault>
-    ensures settings { S.settings session.new ≡ S.settings session.old }
+    ensures kept { S.kept session.new ≡ S.kept session.old }
     ensures line { (r : Registry) → S.shows session.old r → IfOk result (λ text. string_bytes text ≡ text_of r Command.Audit) }
     ensures shape { IfOk result (λ text. IsLineOf Command.Audit (string_bytes text)) }
     ensures shows { (r : Registry) → S.shows session.old r → OnOk result (S.shows session.new (after r Command.Audit)) }

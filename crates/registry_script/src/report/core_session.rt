@@ -73,9 +73,14 @@ fn as_answer<X>(answer: Result<X, Refusal>) -> Result<X, Hitch>
 }
 
 impl Session for CoreSession {
+    ghost use Rattle.passive_core.specs.declared.settings.Settings.{Settings};
     ghost use Rattle.registry_script.specs.Shows.{Shows};
 
-    ghost settings = { λ s. s.core.settings };
+    ghost Kept = { Settings };
+
+    ghost kept = { λ s. s.core.settings };
+
+    ghost settings = { λ settings. settings };
 
     ghost shows = { Shows };
 

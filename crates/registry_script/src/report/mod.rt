@@ -1,4 +1,4 @@
-//! The engine over the core: each command in order, and its line.
+//! The run of a script: each command in order, and its line. The core carries the commands out.
 
 ghost use Rattle.std.specs.Prelude.{◌≡◌, IfErr, IfOk, IsTrue, OnErr, OnOk};
 ghost use Rattle.std.specs.Io.KnownBytes.{Appends};
@@ -58,7 +58,8 @@ fn run_on<S: Session, W: Write>(
     commands: &[Command],
     writer: &mut W,
 ) -> Result<(), RunFault>
-    requires { IsTrue (list_all (suits (S.settings session.old)) commands.now) }
+    requires { IsTrue (list_all (suits (S.settings (S.kept session.old))) commands.now) }
+    ensures kept { S.kept session.new ≡ S.kept session.old }
     ensures ok { (r : Registry) → S.shows session.old r → OnOk result (Appends (W.contents writer.old) (W.contents writer.new) (report_from r commands.now)) }
     ensures err { (r : Registry) → S.shows session.old r → OnErr result (AppendsPrefix (W.contents writer.old) (W.contents writer.new) (report_from r commands.now)) }
     ensures run { OnOk result (WritesRun (W.contents writer.old) (W.contents writer.new) commands.now) }
@@ -76,7 +77,8 @@ fn run_commands<S: Session, W: Write>(
     commands: &[Command],
     writer: &mut W,
 ) -> Result<(), RunFault>
-    requires { IsTrue (list_all (suits (S.settings session.old)) commands.now) }
+    requires { IsTrue (list_all (suits (S.settings (S.kept session.old))) commands.now) }
+    ensures kept { S.kept session.new ≡ S.kept session.old }
     ensures ok { (r : Registry) → S.shows session.old r → OnOk result (Appends (W.contents writer.old) (W.contents writer.new) (report_from r commands.now)) }
     ensures err { (r : Registry) → S.shows session.old r → OnErr result (AppendsPrefix (W.contents writer.old) (W.contents writer.new) (report_from r commands.now)) }
     ensures run { OnOk result (WritesRun (W.contents writer.old) (W.contents writer.new) commands.now) }

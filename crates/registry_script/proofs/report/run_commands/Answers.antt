@@ -8,13 +8,13 @@ use Rattle.registry_script.proofs.Writing.{appends_none, written_none}
 use Rattle.registry_script.proofs.report.run_commands.Goals as goal
 
 pub loop-command-init : goal.loop-command-init
-loop-command-init g c = record { settings = refl; so_far = λ r on. (r, on, written_none (g.W.Write.contents c.args.writer.now) (report_from r c.args.commands.now)); printed = ([], refl, appends_none (g.W.Write.contents c.args.writer.now)) }
+loop-command-init g c = record { kept = refl; so_far = λ r on. (r, on, written_none (g.W.Write.contents c.args.writer.now) (report_from r c.args.commands.now)); printed = ([], refl, appends_none (g.W.Write.contents c.args.writer.now)) }
 
 pub loop-command-preserved : goal.loop-command-preserved
 loop-command-preserved g c =
     let l = c.loop-command in
     record {
-      settings = c.carry_out.ensures.settings ∙ l.invariant.settings;
+      kept = c.carry_out.ensures.kept ∙ l.invariant.kept;
       so_far = λ r on.
           let p = l.invariant.so_far r on in (
             _,

@@ -8,7 +8,7 @@ use Rattle.registry_script.proofs.report.run_commands.Given as goal
 -- the texts so far are written, each one that its command may print; a session that shows a registry shows then the one that the report of the commands left goes on from
 abbrev pub invariant-loop-command : goal.invariant-loop-command
 invariant-loop-command g l = record {
-  settings : g.S.Session.settings l.session ≡ g.S.Session.settings l.fn.session;
+  kept : g.S.Session.kept l.session ≡ g.S.Session.kept l.fn.session;
   so_far : (r : Registry) → g.S.Session.shows l.fn.session r → (q : Registry) × g.S.Session.shows l.session q × Written (g.W.Write.contents l.fn.writer) (g.W.Write.contents l.writer) (report_from r l.commands) (report_from q (drop l.command-index l.commands));
   printed : WritesRun (g.W.Write.contents l.fn.writer) (g.W.Write.contents l.writer) (take l.command-index l.commands);
 }
