@@ -1,6 +1,6 @@
 //! Why the program ends with another status than 0.
 
-use passive_core::Refusal;
+use passive_core::{NameFault, Refusal};
 use std::alloc::{AllocError, AllocFailed};
 use std::io;
 use thiserror::Error;
@@ -16,6 +16,8 @@ pub enum Failure {
     Memory,
     #[error("refused: {0}")]
     Refused(Refusal),
+    #[error("no name: {0}")]
+    BadName(NameFault),
 }
 
 impl Failure {
@@ -25,7 +27,7 @@ impl Failure {
             Failure::Usage => 2,
             Failure::System => 3,
             Failure::Memory => 4,
-            Failure::Refused(_) => 5,
+            Failure::Refused(_) | Failure::BadName(_) => 5,
         }
     }
 }
@@ -54,5 +56,11 @@ impl<T: Drop> From<AllocFailed<T>> for Failure {
 impl From<Refusal> for Failure {
     fn from(refusal: Refusal) -> Failure {
         Failure::Refused(refusal)
+    }
+}
+
+impl From<NameFault> for Failure {
+    fn from(fault: NameFault) -> Failure {
+        Failure::BadName(fault)
     }
 }

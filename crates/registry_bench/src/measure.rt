@@ -1,11 +1,11 @@
 //! Runs of many threads, and their times.
 
-ghost use Rattle.std.specs.Prelude.{◌≡◌, ◌×◌, IsTrue};
+ghost use Rattle.std.specs.Prelude.{◌≡◌, IsTrue};
 ghost use Rattle.passive_core.specs.Limits.{are_fit};
 ghost use Rattle.cpu_words.specs.Opening.{AreSeats, keeper_with};
 
 use crate::failure::Failure;
-use crate::loops::make;
+use crate::loops::{leave, make, prepare};
 use crate::opening::{cpus_of, publish_all, settings_for};
 use crate::plan::{Operation, Plan};
 use cpu_words::{CpuSeat, Domain, KeeperSeat, Words};
@@ -73,7 +73,9 @@ fn measure_on<D: Domain + Send + Sync, R: Threads + Wait + Clock + Sync>(
     let all = thread::map_vec(
         rt,
         cpus,
-        &|cpu| run(rt, words, cpu, &names, operation, count),
+        &|cpu: Cpu<D>| -> io::Result<Ran>
+            requires { (words.now.table ≡ D.table) × (words.now.settings ≡ D.settings) }
+        { run(rt, words, cpu, &names, operation, count) },
     )?;
     together(all)
 }
@@ -89,9 +91,11 @@ fn run<D: Domain, R: Wait + Clock>(
 ) -> io::Result<Ran>
     requires words { (words.now.table ≡ D.table) × (words.now.settings ≡ D.settings) }
 {
+    prepare(words, &mut cpu, names, operation);
     let began = Instant::now(rt)?;
     let right = make(rt, words, &mut cpu, names, operation, count);
     let ended = Instant::now(rt)?;
+    leave(words, &mut cpu);
     Ok(Ran {
         right: u64::from(right),
         began,

@@ -1,10 +1,12 @@
 //! A registry to measure: its settings, its CPUs, and its entries, the drivers `d00`, `d01` and so on.
 
-ghost use Rattle.std.specs.Prelude.{◌≡◌, ◌<◌, IsTrue, length};
+ghost use Rattle.std.specs.Prelude.{◌≡◌, ◌<◌, IsTrue};
+ghost use Rattle.std.specs.List.{list_any};
 ghost use Rattle.passive_core.specs.Attaching.{key_of_record};
 ghost use Rattle.passive_core.specs.Limits.{are_fit};
-ghost use Rattle.passive_core.specs.Slots.{is_taken};
+ghost use Rattle.passive_core.specs.Slots.{is_taken, is_live_as};
 ghost use Rattle.cpu_words.specs.Opening.{AreSeats};
+ghost use Rattle.passive_list.specs.Keepers.{states_of};
 
 use crate::failure::Failure;
 use crate::plan::{MOST_ENTRIES, Plan};
@@ -52,6 +54,7 @@ pub fn publish_all<D: Domain>(
     keeper: &mut Keeper<D>,
 ) -> Result<Vec<Name>, Failure>
     requires words { (words.now.table ≡ D.table) × (words.now.settings ≡ D.settings) }
+    requires fit { IsTrue (are_fit D.settings) }
 {
     let mut names = Vec::new(alloc);
     for slot in 0..keeper.settings.slots {
@@ -63,11 +66,10 @@ pub fn publish_all<D: Domain>(
 /// Publishes the entry of a slot. Refused: `NoSlot`, `NameTaken` and `HistoryFull`, where the keeper has done anything else before.
 fn publish_in<D: Domain>(words: &Words, keeper: &mut Keeper<D>, slot: u8) -> Result<Name, Failure>
     requires words { (words.now.table ≡ D.table) × (words.now.settings ≡ D.settings) }
+    requires fit { IsTrue (are_fit D.settings) }
     requires slot { slot < D.settings.slots }
 {
-    let Ok(name) = Name::parse(&[b'd', b'0' + slot / 10, b'0' + slot % 10]) else {
-        unreachable!()
-    };
+    let name = Name::parse(&[b'd', b'0' + slot / 10, b'0' + slot % 10])?;
     let rec = Record {
         kind: Kind::Driver,
         name,
@@ -87,9 +89,18 @@ fn publish_in<D: Domain>(words: &Words, keeper: &mut Keeper<D>, slot: u8) -> Res
 }
 
 /// Whether a live entry has the record's kind and name.
-fn is_taken(rows: &[Row], rec: &Record) -> bool {
-    rows.iter().any(|row| match row.state {
+fn is_taken(rows: &[Row], rec: &Record) -> bool
+    ensures { result ≡ list_any (λ r. is_live_as (key_of_record rec.now) r.state) rows.now }
+{
+    rows.iter().any(|row| is_live_as(rec, row.state))
+}
+
+/// Whether a live entry stands there that has the record's kind and name.
+fn is_live_as(rec: &Record, state: SlotState) -> bool
+    ensures { result ≡ is_live_as (key_of_record rec.now) state }
+{
+    match state {
         SlotState::Live(entry) => entry.rec.kind == rec.kind && entry.rec.name == rec.name,
-        _ => false,
-    })
+        SlotState::Vacant | SlotState::Retired(_) => false,
+    }
 }
