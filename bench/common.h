@@ -30,6 +30,7 @@ struct contender {
 
 extern const struct contender hand_padded;
 extern const struct contender hand_packed;
+extern const struct contender hand_pointed;
 extern const struct contender urcu_memb;
 extern const struct contender urcu_mb;
 extern const struct contender epoch;
