@@ -1,9 +1,9 @@
 -- The words of a record say the record.
-use Rattle.std.proofs.Common.{◌≡◌, ◌≢◌, ℕ, Option, Some, None, Bool, true, IsTrue, cond, refl, sym, ap, ◌∙◌, subst, arith}
+use Rattle.std.proofs.Common.{◌≡◌, ◌≢◌, ℕ, Option, Some, None, IsTrue, cond, refl, sym, ap, ◌∙◌, arith}
 use Rattle.passive_core.specs.declared.entry.Kind.{Kind}
 use Rattle.passive_core.specs.declared.entry.Kind.TheVariants.{Iface, Driver}
 use Rattle.passive_core.specs.declared.name.Name.{Name}
-use Rattle.passive_core.specs.Names.{is_lawful, are_name_words, named_by_words}
+use Rattle.passive_core.specs.Names.{is_lawful, named_by_words}
 use Rattle.passive_core.specs.Slots.{kind_word}
 
 -- a kind's word says the kind

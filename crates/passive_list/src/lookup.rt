@@ -4,10 +4,12 @@ ghost use Rattle.std.specs.Prelude.{◌≡◌, ◌≢◌, ◌<◌, None, IfSome}
 ghost use Rattle.passive_core.specs.Slots.{kind_word};
 ghost use Rattle.passive_core.specs.Events.{are_words_of};
 ghost use Rattle.cpu_words.specs.Searching.{MaySeek, key_with};
+ghost use Rattle.passive_list.specs.Cpus.{IsKept};
 ghost use Rattle.passive_list.specs.Lookups.{HasFound};
 ghost use Rattle.passive_list.specs.Walking.{MayVisit, HasVisited, HasLookedUp, entry_seen};
 
 use crate::cpu::Cpu;
+use crate::place::Found;
 use cpu_words::{CpuSeat, Domain, Words, steps};
 use passive_core::{Entry, Kind, Name, Record};
 
@@ -38,27 +40,28 @@ struct Seen {
 
 /// Keeps what a search found, and answers it. The entry is put together here, once and from words: it has bytes between its fields, and
 /// handing it on from call to call takes longer than the search.
-fn keep(found: &mut Option<Entry>, seen: Option<Seen>, kind: Kind, name: Name) -> Option<Entry>
+fn keep(found: &mut Found, seen: Option<Seen>, kind: Kind, name: Name) -> Option<Entry>
     requires slot { IfSome seen (λ s. s.slot < 32) }
-    ensures kept { found.new ≡ result }
+    ensures kept { IsKept found.new result }
     ensures entry { result ≡ entry_seen (key_with kind name) seen }
 {
     let Some(seen) = seen else {
-        *found = None;
+        found.number = 0;
         return None;
     };
+    found.number = seen.number;
+    found.slot = seen.slot as u8;
+    found.kind = kind;
     let rec = Record {
         kind,
         name,
         value: seen.value,
     };
-    let entry = Entry {
+    Some(Entry {
         number: seen.number,
         slot: seen.slot as u8,
         rec,
-    };
-    *found = Some(entry);
-    Some(entry)
+    })
 }
 
 /// The whole search, by the CPU's seat.

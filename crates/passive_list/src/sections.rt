@@ -67,7 +67,7 @@ fn end<D: Domain>(words: &Words, cpu: &mut Cpu<D>)
     requires last { cpu.old.depth ≡ 1 }
     ensures { HasExitedOn cpu.old cpu.new }
 {
-    cpu.found = None;
+    cpu.found.number = 0;
     cpu.depth = 0;
     cpu.section += 1;
     steps::exit(words, &mut cpu.seat, cpu.id);

@@ -1,7 +1,7 @@
 -- A CPU's data agree with its view over a release, and so do those of a reference that comes back.
-use Rattle.std.proofs.Common.{◌≡◌, ◌∙◌, refl, sym, ap}
+use Rattle.std.proofs.Common.{◌∙◌}
 use Rattle.local_count.proofs.Agreeing.{same_agrees}
-use Rattle.local_count.proofs.Releasing.{may_count_down, released_agrees, come_back, back_agrees}
+use Rattle.local_count.proofs.Releasing.{released_agrees, come_back}
 use Rattle.local_count.proofs.release.try_release.Goals as goal
 
 pub invariant_of-cpu : goal.invariant_of-cpu

@@ -1,5 +1,5 @@
 -- The data agree with the view as a lookup is over.
-use Rattle.std.proofs.Common.{◌∙◌, Option, subst, sym}
+use Rattle.std.proofs.Common.{Option, subst, sym}
 use Rattle.passive_core.specs.declared.entry.Entry.{Entry}
 use Rattle.cpu_words.specs.Searching.{key_with}
 use Rattle.passive_list.specs.Walking.{HasLookedUp}
@@ -13,5 +13,5 @@ keep-requires g c = record { slot = slot_seen (key_with c.args.kind c.args.name.
 pub invariant_of-cpu : goal.invariant_of-cpu
 invariant_of-cpu g c =
     let key = key_with c.args.kind c.args.name.now in
-    let had = subst (λ (e : Option Entry). HasLookedUp key c.cpu.inside.seat.view c.look_up-seen.new.seat.view e) (sym (c.keep.ensures.kept ∙ c.keep.ensures.entry)) c.look_up-seen.ensures.change in
-    looked_up_agrees _ _ _ _ _ _ _ _ _ _ _ _ _ _ c.cpu.invariant c.look_up-seen.ensures.table had
+    let had = subst (λ (e : Option Entry). HasLookedUp key c.cpu.inside.seat.view c.look_up-seen.new.seat.view e) (sym c.keep.ensures.entry) c.look_up-seen.ensures.change in
+    looked_up_agrees _ _ _ _ _ _ _ _ _ _ _ _ _ _ _ c.cpu.invariant c.look_up-seen.ensures.table c.keep.ensures.kept had
