@@ -18,6 +18,8 @@ pub enum Failure {
     Refused(Refusal),
     #[error("no name: {0}")]
     BadName(NameFault),
+    #[error("a wrong answer")]
+    Wrong,
 }
 
 impl Failure {
@@ -27,7 +29,7 @@ impl Failure {
             Failure::Usage => 2,
             Failure::System => 3,
             Failure::Memory => 4,
-            Failure::Refused(_) | Failure::BadName(_) => 5,
+            Failure::Refused(_) | Failure::BadName(_) | Failure::Wrong => 5,
         }
     }
 }

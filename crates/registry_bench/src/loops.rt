@@ -1,6 +1,6 @@
 //! The loops that are measured. Each answers how many operations it made before the first that went wrong.
 
-ghost use Rattle.std.specs.Prelude.{◌≡◌, ◌<◌, length};
+ghost use Rattle.std.specs.Prelude.{◌≡◌};
 
 use crate::plan::Operation;
 use cpu_words::{Domain, Words};

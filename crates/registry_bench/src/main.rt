@@ -11,11 +11,17 @@ use failure::Failure;
 use measure::measure;
 use plan::{MOST_ENTRIES, MOST_THREADS, Operation, Plan};
 use std::alloc::Global;
+use std::env;
 use std::process::ExitCode;
 use std::rt::{Clock, Env};
 use std::sync::Wait;
 use std::thread::Threads;
-use std::{env, io};
+
+/// The operations of each thread where the arguments say none.
+const OPERATIONS: u32 = 1_000_000;
+
+/// The entries of the list where the arguments say none.
+const ENTRIES: u8 = 8;
 
 /// What the arguments ask for.
 #[derive(Clone, Copy, Debug, PartialEq, Eq)]
@@ -62,12 +68,7 @@ fn chosen(rt: &(impl Env + Alloc<A = Global>)) -> Result<Task, Failure> {
     }
 }
 
-/// The operations of each thread where the arguments say none.
-const OPERATIONS: u32 = 1_000_000;
-
-/// The entries of the list where the arguments say none.
-const ENTRIES: u8 = 8;
-
+/// Prints a line for each count of threads, one after the other.
 fn run_every<R: Print + Alloc<A = Global> + Threads + Wait + Clock + Sync>(
     rt: &R,
 ) -> Result<(), Failure> {
@@ -82,7 +83,7 @@ fn run_every<R: Print + Alloc<A = Global> + Threads + Wait + Clock + Sync>(
     Ok(())
 }
 
-/// Prints the nanoseconds of each operation, on one line.
+/// Prints the nanoseconds of each operation on one line.
 fn run_one<R: Print + Alloc<A = Global> + Threads + Wait + Clock + Sync>(
     rt: &R,
     plan: Plan,
@@ -120,3 +121,6 @@ fn check<R: Print + Alloc<A = Global> + Threads + Wait + Clock + Sync>(
     }
     Ok(())
 }
+
+#[cfg(test)]
+mod tests;

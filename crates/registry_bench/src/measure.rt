@@ -9,14 +9,14 @@ use crate::loops::{leave, make, prepare};
 use crate::opening::{cpus_of, publish_all, settings_for};
 use crate::plan::{Operation, Plan};
 use cpu_words::{CpuSeat, Domain, KeeperSeat, Words};
-use passive_core::Name;
+use passive_core::{Name, Refusal};
 use passive_list::{Cpu, Keeper};
 use std::alloc::Global;
 use std::marker::Brand;
 use std::rt::Clock;
 use std::sync::Wait;
 use std::thread::Threads;
-use std::time::{Duration, Instant};
+use std::time::Instant;
 use std::{io, thread};
 
 /// What a thread, or all of them, did: how many operations went as they should, and when the first began and the last ended.
@@ -43,7 +43,8 @@ impl Ran {
     }
 }
 
-/// Makes the operation in all threads of the plan at once, on a registry of its own.
+/// Makes the operation in all threads of the plan at once, on a registry of its own. Refused: `Wrong`, where one of them didn't go as it
+/// should.
 pub fn measure<R: Threads + Wait + Clock + Sync>(
     rt: &R,
     alloc: Global,
@@ -51,9 +52,14 @@ pub fn measure<R: Threads + Wait + Clock + Sync>(
     operation: Operation,
 ) -> Result<Ran, Failure> {
     let (words, keeper, seats) = Words::new(alloc, settings_for(plan))?;
-    measure_on::<Brand, R>(rt, alloc, &words, keeper, seats, plan.operations, operation)
+    let ran = measure_on::<Brand, R>(rt, alloc, &words, keeper, seats, plan.operations, operation)?;
+    if ran.right != u64::from(plan.threads) * u64::from(plan.operations) {
+        return Err(Failure::Wrong);
+    }
+    Ok(ran)
 }
 
+/// The same, on this table.
 fn measure_on<D: Domain + Send + Sync, R: Threads + Wait + Clock + Sync>(
     rt: &R,
     alloc: Global,
@@ -113,5 +119,5 @@ fn together(all: Vec<io::Result<Ran>>) -> Result<Ran, Failure> {
             None => ran,
         });
     }
-    sum.ok_or(Failure::Usage)
+    sum.ok_or(Failure::Refused(Refusal::BadSettings))
 }
