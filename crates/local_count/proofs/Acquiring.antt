@@ -16,38 +16,31 @@ use Rattle.cpu_words.specs.declared.view.CpuView.{CpuView}
 use Rattle.cpu_words.specs.declared.view.ReferenceView.{ReferenceView}
 use Rattle.cpu_words.specs.declared.view.InHand.TheVariants.{Empty as NoEntry, Taking as TakingEntry}
 use Rattle.cpu_words.specs.Views.{number_at, with_number, one_more}
-use Rattle.cpu_words.specs.Locals.{IsNetCount, IsMetAlone, MayCount, HasCounted, HasSplit}
+use Rattle.cpu_words.specs.Locals.{IsNetCount, IsPlaceCount, IsMetAlone, MayCount, HasCounted, HasSplit}
 use Rattle.cpu_words.proofs.Counting.{one_more_same, one_more_other}
+use Rattle.passive_list.specs.declared.place.Found.{Found}
 use Rattle.passive_list.specs.declared.place.Place.{Place}
 use Rattle.passive_list.specs.Cpus.{place_at, IsOurCpu}
+use Rattle.passive_list.proofs.Agreeing.{IsFoundAs}
 use Rattle.local_count.specs.References.{IsOurReference, IsFull, net_by}
 use Rattle.local_count.proofs.Agreeing.{place_count, counted_agrees}
 
--- the last found entry has a slot below 32, and a number
-pub record Found (x : CpuView) (e : Entry) : Type 0 where
-  pub found : x.found ≡ Some e
-  pub few : e.slot < 32
-  pub begun : 0 < e.number
+begun_of : (x : CpuView) (k : Found) → IsFoundAs x k → 0 < k.number
+begun_of x k kept = let begun = (at_within x.pass kept.entry.number (Attach kept.entry) kept.attached).0 in omega (arith, begun, kept.number)
 
-pub found_of : (z : TableId) (a : Settings) (t : TableId) (x : CpuView) (c w d : ℕ) (o : Option Entry) (ps ns : List Place) (e : Entry) → IsOurCpu z a t x c w d o ps ns → o ≡ Some e → Found x e
-found_of z a t x c w d o ps ns e our is =
-    let found = sym our.found.is ∙ is in
-    let seen = our.found.seen e found in record { found = found; few = seen.0; begun = (at_within x.pass e.number (Attach e) seen.1).0 }
-
--- below the limit the CPU may count it
-pub may_count : (z : TableId) (a : Settings) (t : TableId) (x : CpuView) (c w d : ℕ) (o : Option Entry) (ps ns : List Place) (e : Entry) (n : ℕ)
-    → IsOurCpu z a t x c w d o ps ns → o ≡ Some e → n ≡ net_by (place_at ns e.slot) e.number → n < bias + a.count_limit → MayCount x e.slot e.number
-may_count z a t x c w d o ps ns e n our is count room =
-    let has = found_of z a t x c w d o ps ns e our is in record {
-      idle = our.idle;
-      entry = e;
-      found = has.found;
-      slot = refl;
-      number = refl;
-      count = n;
-      place = place_count x ns e.slot e.number n our.net has.begun count;
-      room = subst (λ (k : Settings). n < bias + k.count_limit) (sym our.settings) room;
-    }
+-- below the limit the CPU may count the last found entry, which it keeps as k
+pub may_count : (z : TableId) (a : Settings) (t : TableId) (x : CpuView) (c w d : ℕ) (k : Found) (ps ns : List Place) (n : ℕ)
+    → IsOurCpu z a t x c w d k ps ns → IsFoundAs x k → n ≡ net_by (place_at ns k.slot) k.number → n < bias + a.count_limit → MayCount x k.slot k.number
+may_count z a t x c w d k ps ns n our kept count room = record {
+  idle = our.idle;
+  entry = kept.entry;
+  found = kept.found;
+  slot = sym kept.slot;
+  number = sym kept.number;
+  count = n;
+  place = place_count x ns k.slot k.number n our.net (begun_of x k kept) count;
+  room = subst (λ (b : Settings). n < bias + b.count_limit) (sym our.settings) room;
+}
 
 -- settings that are fit allow one reference
 some_count : (a : Settings) → IsTrue (are_fit a) → 1 ≤ a.count_limit
@@ -57,12 +50,12 @@ some_count a fit =
     leb-true 1 a.count_limit (and_parts (nat_le 1 a.count_limit) (nat_le a.count_limit (2 ^ 40)) limits.1).0
 
 -- else it is full
-pub full_of : (z : TableId) (a : Settings) (t : TableId) (x : CpuView) (c w d : ℕ) (o : Option Entry) (ps ns : List Place) (e : Entry) (n : ℕ)
-    → IsOurCpu z a t x c w d o ps ns → o ≡ Some e → n ≡ net_by (place_at ns e.slot) e.number → bias + a.count_limit ≤ n → IsFull x e
-full_of z a t x c w d o ps ns e n our is count above =
-    let has = found_of z a t x c w d o ps ns e our is in
-    let place = place_count x ns e.slot e.number n our.net has.begun count in
-    let limit : x.settings.count_limit ≡ a.count_limit = ap (λ (k : Settings). k.count_limit) our.settings in
+pub full_of : (z : TableId) (a : Settings) (t : TableId) (x : CpuView) (c w d : ℕ) (k : Found) (ps ns : List Place) (n : ℕ) (kept : IsFoundAs x k)
+    → IsOurCpu z a t x c w d k ps ns → n ≡ net_by (place_at ns k.slot) k.number → bias + a.count_limit ≤ n → IsFull x kept.entry
+full_of z a t x c w d k ps ns n kept our count above =
+    let e = kept.entry in
+    let place : IsPlaceCount x e.slot e.number n = subst (λ (p : ℕ × ℕ). IsPlaceCount x p.0 p.1 n) (λ i. (kept.slot i, kept.number i)) (place_count x ns k.slot k.number n our.net (begun_of x k kept) count) in
+    let limit : x.settings.count_limit ≡ a.count_limit = ap (λ (b : Settings). b.count_limit) our.settings in
     dite (ℕ_discrete (number_at x.met e.slot) e.number)
     (λ (same : number_at x.met e.slot ≡ e.number).
     let net : n + number_at x.released e.number ≡ bias + number_at x.acquired e.number = place.met same in
@@ -92,22 +85,27 @@ acquired_of x y w v e found empty counted cut =
     same_some : (f g : Entry) → ◌≡◌ {A = Option Entry} (Some f) (Some g) → f ≡ g
     same_some f g q = cc
 
-pub acquired_reference : (z : TableId) (a : Settings) (t u : TableId) (x : CpuView) (c w d : ℕ) (o : Option Entry) (ps ns : List Place) (e : Entry) (y k : CpuView) (v : ReferenceView)
-    → IsOurCpu z a t x c w d o ps ns → o ≡ Some e → u ≡ t → HasCounted x e.slot e.number y → HasSplit y k v → IsOurReference z a u v e.number e.slot e.rec.kind
-acquired_reference z a t u x c w d o ps ns e y k v our is same counted cut =
-    let has = found_of z a t x c w d o ps ns e our is in
-    let left = acquired_of x y k v e has.found our.idle.hand counted cut in
-    let there : IsOurReference z a u (record { entry = e; collected = None }) e.number e.slot e.rec.kind = record { table = same ∙ our.table; fit = our.fit; number = refl; slot = refl; kind = refl; begun = has.begun; few = has.few } in
-    subst (λ (r : ReferenceView). IsOurReference z a u r e.number e.slot e.rec.kind) (sym left.is) there
+-- the step counted the entry that is kept as k
+counted_it : (x y : CpuView) (k : Found) (kept : IsFoundAs x k) → HasCounted x k.slot k.number y → HasCounted x kept.entry.slot kept.entry.number y
+counted_it x y k kept = subst (λ (p : ℕ × ℕ). HasCounted x p.0 p.1 y) (λ i. (kept.slot i, kept.number i))
 
-pub acquired_agrees : (z : TableId) (a : Settings) (t u : TableId) (x : CpuView) (c w d : ℕ) (o : Option Entry) (ps ns : List Place) (e : Entry) (y k : CpuView) (v : ReferenceView) (n : ℕ)
-    → IsOurCpu z a t x c w d o ps ns → o ≡ Some e → u ≡ t → HasCounted x e.slot e.number y → HasSplit y k v → IsNetCount x e.number n → n < bias + x.settings.count_limit → IsMetAlone x e.slot e.number
-    → IsOurCpu z a u k c w d o ps (set ns e.slot (record { number = e.number; count = n + 1 }))
-acquired_agrees z a t u x c w d o ps ns e y k v n our is same counted cut net room alone =
-    let has = found_of z a t x c w d o ps ns e our is in
-    let left = acquired_of x y k v e has.found our.idle.hand counted cut in
-    let one = one_more_same x.acquired e.number in
-    let count : n + 1 + number_at x.released e.number ≡ bias + number_at (one_more x.acquired e.number) e.number = omega (arith, net, one) in
-    let limit : x.settings.count_limit ≤ greatest_limit = subst (λ (k : Settings). k.count_limit ≤ greatest_limit) (sym our.settings) (ranges a our.fit).counts in
-    subst (λ (q : CpuView). IsOurCpu z a u q c w d o ps (set ns e.slot (record { number = e.number; count = n + 1 }))) (sym left.view)
-    (counted_agrees z a t u x c w d o ps ns (one_more x.acquired e.number) x.released e.slot e.number (n + 1) our same has.few alone count (omega (arith, room, limit)) (λ m off. (one_more_other x.acquired e.number m off, refl)))
+pub acquired_reference : (z : TableId) (a : Settings) (t u : TableId) (x : CpuView) (c w d : ℕ) (k : Found) (ps ns : List Place) (y l : CpuView) (v : ReferenceView)
+    → IsOurCpu z a t x c w d k ps ns → IsFoundAs x k → u ≡ t → HasCounted x k.slot k.number y → HasSplit y l v → IsOurReference z a u v k.number k.slot k.kind
+acquired_reference z a t u x c w d k ps ns y l v our kept same counted cut =
+    let left = acquired_of x y l v kept.entry kept.found our.idle.hand (counted_it x y k kept counted) cut in
+    let there : IsOurReference z a u (record { entry = kept.entry; collected = None }) k.number k.slot k.kind =
+    record { table = same ∙ our.table; fit = our.fit; number = sym kept.number; slot = sym kept.slot; kind = sym kept.kind; begun = begun_of x k kept; few = kept.few } in
+    subst (λ (r : ReferenceView). IsOurReference z a u r k.number k.slot k.kind) (sym left.is) there
+
+pub acquired_agrees : (z : TableId) (a : Settings) (t u : TableId) (x : CpuView) (c w d : ℕ) (k : Found) (ps ns : List Place) (y l : CpuView) (v : ReferenceView) (n : ℕ)
+    → IsOurCpu z a t x c w d k ps ns → IsFoundAs x k → u ≡ t → HasCounted x k.slot k.number y → HasSplit y l v → IsNetCount x k.number n → n < bias + x.settings.count_limit → IsMetAlone x k.slot k.number
+    → IsOurCpu z a u l c w d k ps (set ns k.slot (record { number = k.number; count = n + 1 }))
+acquired_agrees z a t u x c w d k ps ns y l v n our kept same counted cut net room alone =
+    let left = acquired_of x y l v kept.entry kept.found our.idle.hand (counted_it x y k kept counted) cut in
+    let view : l ≡ record x { acquired = one_more x.acquired k.number; met = with_number x.met k.slot k.number } =
+    left.view ∙ (λ i. record x { acquired = one_more x.acquired (sym kept.number i); met = with_number x.met (sym kept.slot i) (sym kept.number i) }) in
+    let one = one_more_same x.acquired k.number in
+    let count : n + 1 + number_at x.released k.number ≡ bias + number_at (one_more x.acquired k.number) k.number = omega (arith, net, one) in
+    let limit : x.settings.count_limit ≤ greatest_limit = subst (λ (b : Settings). b.count_limit ≤ greatest_limit) (sym our.settings) (ranges a our.fit).counts in
+    subst (λ (q : CpuView). IsOurCpu z a u q c w d k ps (set ns k.slot (record { number = k.number; count = n + 1 }))) (sym view)
+    (counted_agrees z a t u x c w d k ps ns (one_more x.acquired k.number) x.released k.slot k.number (n + 1) our same kept.few alone count (omega (arith, room, limit)) (λ m off. (one_more_other x.acquired k.number m off, refl)))

@@ -1,10 +1,9 @@
 -- A CPU's plain data agree with its view on, over its local references.
-use Rattle.std.proofs.Common.{◌≡◌, ◌≢◌, ℕ, ◌+◌, ◌<◌, ◌≤◌, List, length, set, Option, Bool, true, false, ◌==◌, cond, refl, sym, ap, ◌∙◌, subst, arith, get_or-set_same, get_or-set_other, length-set}
+use Rattle.std.proofs.Common.{◌≡◌, ◌≢◌, ℕ, ◌+◌, ◌<◌, ◌≤◌, List, length, set, Bool, true, false, ◌==◌, cond, refl, sym, ap, ◌∙◌, subst, arith, get_or-set_same, get_or-set_other, length-set}
 use mathlib.Core.Logic.{dite}
 use native.Mathlib.Decide.{ℕ_discrete}
 use Rattle.std.proofs.lemmas.Bool.{eq-eqb, ne_eqb}
 use Rattle.atomic_table.specs.Seated.{TableId}
-use Rattle.passive_core.specs.declared.entry.Entry.{Entry}
 use Rattle.passive_core.specs.declared.settings.Settings.{Settings}
 use Rattle.passive_core.specs.Invariant.{greatest_limit}
 use Rattle.passive_core.specs.State.{bias}
@@ -12,6 +11,7 @@ use Rattle.cpu_words.specs.declared.view.CpuView.{CpuView}
 use Rattle.cpu_words.specs.Views.{number_at, with_number}
 use Rattle.cpu_words.specs.Locals.{IsPlaceCount, IsMetAlone}
 use Rattle.cpu_words.proofs.Counting.{with_number_same, with_number_other}
+use Rattle.passive_list.specs.declared.place.Found.{Found}
 use Rattle.passive_list.specs.declared.place.Place.{Place}
 use Rattle.local_count.specs.References.{net_by}
 use Rattle.passive_list.specs.Cpus.{no_place, place_at, NetAgree, IsOurCpu}
@@ -87,7 +87,7 @@ net_set x y l t n v agree lt alone met count most same = record { size = length-
 
 -- The data agree with the view after a count, up or down
 
-pub counted_agrees : (z : TableId) (a : Settings) (t u : TableId) (x : CpuView) (c w d : ℕ) (o : Option Entry) (ps ns : List Place) (acquired released : List ℕ) (s n v : ℕ)
+pub counted_agrees : (z : TableId) (a : Settings) (t u : TableId) (x : CpuView) (c w d : ℕ) (o : Found) (ps ns : List Place) (acquired released : List ℕ) (s n v : ℕ)
     → IsOurCpu z a t x c w d o ps ns → u ≡ t → s < 32 → IsMetAlone x s n → v + number_at released n ≡ bias + number_at acquired n → v ≤ bias + greatest_limit
     → ((m : ℕ) → m ≢ n → (number_at acquired m ≡ number_at x.acquired m) × (number_at released m ≡ number_at x.released m))
     → IsOurCpu z a u (record x { acquired = acquired; released = released; met = with_number x.met s n }) c w d o ps (set ns s (record { number = n; count = v }))
@@ -106,5 +106,5 @@ counted_agrees z a t u x c w d o ps ns acquired released s n v our same lt alone
 }
 
 -- the seat's table and view are as they were
-pub same_agrees : (z : TableId) (a : Settings) (t u : TableId) (x y : CpuView) (c w d : ℕ) (o : Option Entry) (ps ns : List Place) → IsOurCpu z a t x c w d o ps ns → u ≡ t → y ≡ x → IsOurCpu z a u y c w d o ps ns
+pub same_agrees : (z : TableId) (a : Settings) (t u : TableId) (x y : CpuView) (c w d : ℕ) (o : Found) (ps ns : List Place) → IsOurCpu z a t x c w d o ps ns → u ≡ t → y ≡ x → IsOurCpu z a u y c w d o ps ns
 same_agrees z a t u x y c w d o ps ns our same view = subst (λ (p : TableId × CpuView). IsOurCpu z a p.0 p.1 c w d o ps ns) (λ k. (sym same k, sym view k)) our

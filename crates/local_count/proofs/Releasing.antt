@@ -1,5 +1,5 @@
 -- A CPU releases a local reference: why it may, and what it leaves.
-use Rattle.std.proofs.Common.{◌≡◌, ℕ, ◌+◌, ◌-◌, ◌<◌, List, set, Option, Some, refl, sym, ap, ◌∙◌, subst, arith}
+use Rattle.std.proofs.Common.{◌≡◌, ℕ, ◌+◌, ◌-◌, ◌<◌, List, set, Some, refl, sym, ap, ◌∙◌, subst, arith}
 use Rattle.atomic_table.specs.Seated.{TableId}
 use Rattle.passive_core.specs.declared.entry.Entry.{Entry}
 use Rattle.passive_core.specs.declared.entry.Kind.{Kind}
@@ -11,13 +11,14 @@ use Rattle.cpu_words.specs.declared.view.InHand.TheVariants.{Empty as NoEntry, G
 use Rattle.cpu_words.specs.Views.{number_at, with_number, one_more}
 use Rattle.cpu_words.specs.Locals.{IsNetCount, IsMetAlone, MayCountDown, HasCountedDown, HasFoundCollected, HasSplitBack, with_hand}
 use Rattle.cpu_words.proofs.Counting.{one_more_same, one_more_other}
+use Rattle.passive_list.specs.declared.place.Found.{Found}
 use Rattle.passive_list.specs.declared.place.Place.{Place}
 use Rattle.passive_list.specs.Cpus.{place_at, IsOurCpu}
 use Rattle.local_count.specs.References.{IsOurReference, net_by}
 use Rattle.local_count.proofs.Agreeing.{place_count, net_most, counted_agrees}
 
 -- with the reference in its hand, the CPU may count it down from what its place says
-pub may_count_down : (z : TableId) (a : Settings) (t r : TableId) (x y : CpuView) (c w d : ℕ) (o : Option Entry) (ps ns : List Place) (v : ReferenceView) (n s count : ℕ) (kind : Kind)
+pub may_count_down : (z : TableId) (a : Settings) (t r : TableId) (x y : CpuView) (c w d : ℕ) (o : Found) (ps ns : List Place) (v : ReferenceView) (n s count : ℕ) (kind : Kind)
     → IsOurCpu z a t x c w d o ps ns → IsOurReference z a r v n s kind → y ≡ with_hand x (GivingEntry v.entry) → count ≡ net_by (place_at ns s) n → MayCountDown y s n count
 may_count_down z a t r x y c w d o ps ns v n s count kind our its joined is =
     let place = place_count x ns s n count our.net its.begun is in
@@ -29,7 +30,7 @@ pub released_of : (x y w : CpuView) (e : Entry) (s n : ℕ) → x.hand ≡ NoEnt
 released_of x y w e s n empty joined counted = counted.4 ∙ ap (λ (k : CpuView). record k { hand = NoEntry; released = one_more k.released n; met = with_number k.met s n }) joined
     ∙ (λ k. record x { hand = sym empty k; released = one_more x.released n; met = with_number x.met s n })
 
-pub released_agrees : (z : TableId) (a : Settings) (t u r : TableId) (x : CpuView) (c w d : ℕ) (o : Option Entry) (ps ns : List Place) (v : ReferenceView) (n s count : ℕ) (kind : Kind) (y k : CpuView)
+pub released_agrees : (z : TableId) (a : Settings) (t u r : TableId) (x : CpuView) (c w d : ℕ) (o : Found) (ps ns : List Place) (v : ReferenceView) (n s count : ℕ) (kind : Kind) (y k : CpuView)
     → IsOurCpu z a t x c w d o ps ns → IsOurReference z a r v n s kind → u ≡ t → y ≡ with_hand x (GivingEntry v.entry) → HasCountedDown y s n k → 0 < count → count ≡ net_by (place_at ns s) n → IsNetCount y n count → IsMetAlone y s n
     → IsOurCpu z a u k c w d o ps (set ns s (record { number = n; count = count - 1 }))
 released_agrees z a t u r x c w d o ps ns v n s count kind y k our its same joined counted floor is net alone =

@@ -22,24 +22,25 @@ pub fn acquire_local<D: Domain>(words: &Words, cpu: &mut Cpu<D>) -> Result<Local
     ensures nothing { IsErrOf result Refusal.NothingFound ↔ cpu.old.view.found ≡ None }
     ensures full { IsErrOf result Refusal.LocalFull ↔ (e : Entry) × (cpu.old.view.found ≡ Some e) × IsFull cpu.old.view e }
 {
-    let Some(entry) = cpu.found else {
+    let found = cpu.found;
+    if found.number == 0 {
         return Err(Refusal::NothingFound);
-    };
-    let count = net_count(cpu.net[entry.slot as usize], entry.number);
+    }
+    let count = net_count(cpu.net[found.slot as usize], found.number);
     if count >= BIAS + words.settings().count_limit {
         return Err(Refusal::LocalFull);
     }
-    let word = steps::count_add(words, &mut cpu.seat, cpu.id, entry.slot, entry.number);
+    let word = steps::count_add(words, &mut cpu.seat, cpu.id, found.slot, found.number);
     let seat = steps::split_ref(words, &mut cpu.seat, cpu.id);
-    cpu.net[entry.slot as usize] = Place {
-        number: entry.number,
+    cpu.net[found.slot as usize] = Place {
+        number: found.number,
         count: word + 1,
     };
     Ok(LocalRef {
         seat,
-        number: entry.number,
-        slot: entry.slot,
-        kind: entry.rec.kind,
+        number: found.number,
+        slot: found.slot,
+        kind: found.kind,
         domain: PhantomData,
     })
 }

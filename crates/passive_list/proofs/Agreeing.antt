@@ -6,20 +6,23 @@ use mathlib.Core.List.{IsPrefix}
 use Rattle.atomic_table.specs.Seated.{TableId}
 use Rattle.passive_core.specs.declared.entry.Entry.{Entry}
 use Rattle.passive_core.specs.declared.entry.Change.{Change}
+use Rattle.passive_core.specs.declared.entry.Change.TheVariants.{Attach}
 use Rattle.passive_core.specs.declared.settings.Settings.{Settings}
 use Rattle.passive_core.specs.Limits.{are_fit}
 use Rattle.passive_core.specs.History.{IsAttached}
 use Rattle.passive_core.specs.State.{bias}
 use Rattle.passive_core.proofs.Cells.{get_or_all}
+use Rattle.passive_core.proofs.History.{at_within}
 use Rattle.cpu_words.specs.declared.view.CpuView.{CpuView}
 use Rattle.cpu_words.specs.Views.{number_at, references_to, depth_of, new_cpu}
 use Rattle.cpu_words.specs.Sections.{HasEntered, HasExited}
 use Rattle.cpu_words.proofs.Passes.{attached_prefix}
+use Rattle.passive_list.specs.declared.place.Found.{Found}
 use Rattle.passive_list.specs.declared.place.Place.{Place}
 use Rattle.passive_core.specs.declared.state.Key.{Key}
 use Rattle.passive_core.specs.declared.state.Search.{Search}
 use Rattle.passive_list.specs.Walking.{HasLookedUp}
-use Rattle.passive_list.specs.Cpus.{no_place, place_at, PassiveAgree, NetAgree, DepthAgrees, IsOurCpu}
+use Rattle.passive_list.specs.Cpus.{no_place, no_found, place_at, PassiveAgree, NetAgree, DepthAgrees, IsKept, FoundAgrees, IsOurCpu}
 
 -- each place of a new CPU is of no entry
 blank_number : (t : ℕ) → (place_at (replicate 32 no_place) t).number ≡ 0
@@ -41,7 +44,7 @@ inside : (b : ℕ) → DepthAgrees (Some b) 1
 inside b = record { outside = (λ (q : Some b ≡ None). cc, λ (q : 1 ≡ 0). absurd (omega arith)); most = omega arith }
 
 -- a new CPU
-pub new_agrees : (z : TableId) (a : Settings) (t : TableId) (c : ℕ) → t ≡ z → IsTrue (are_fit a) → c < 8 → IsOurCpu z a t (new_cpu a c) c 0 0 None (replicate 32 no_place) (replicate 32 no_place)
+pub new_agrees : (z : TableId) (a : Settings) (t : TableId) (c : ℕ) → t ≡ z → IsTrue (are_fit a) → c < 8 → IsOurCpu z a t (new_cpu a c) c 0 0 no_found (replicate 32 no_place) (replicate 32 no_place)
 new_agrees z a t c table fit few = record {
   table = table;
   settings = refl;
@@ -80,7 +83,7 @@ found_longer : (x : CpuView) (p : List Change) (e : Entry) → IsPrefix x.pass p
 found_longer x p e longer old = (old.0, attached_prefix x.pass p e longer old.1)
 
 -- a section begins
-pub entered_agrees : (z : TableId) (a : Settings) (t u : TableId) (x y : CpuView) (c w d : ℕ) (e : Option Entry) (ps ns : List Place)
+pub entered_agrees : (z : TableId) (a : Settings) (t u : TableId) (x y : CpuView) (c w d : ℕ) (e : Found) (ps ns : List Place)
     → IsOurCpu z a t x c w d e ps ns → u ≡ t → d ≡ 0 → w < 2 * a.section_limit → HasEntered x y → IsOurCpu z a u y c (w + 1) 1 e ps ns
 entered_agrees z a t u x y c w d e ps ns our same shallow room had =
     let p = y.pass in
@@ -104,7 +107,7 @@ entered_agrees z a t u x y c w d e ps ns our same shallow room had =
     subst (λ (v : CpuView). IsOurCpu z a u v c (w + 1) 1 e ps ns) (sym had.1) there
 
 -- the word of an open section has a successor
-pub section_room : (z : TableId) (a : Settings) (t : TableId) (x : CpuView) (c w d : ℕ) (e : Option Entry) (ps ns : List Place) → IsOurCpu z a t x c w d e ps ns → w ≤ 2 * a.section_limit
+pub section_room : (z : TableId) (a : Settings) (t : TableId) (x : CpuView) (c w d : ℕ) (e : Found) (ps ns : List Place) → IsOurCpu z a t x c w d e ps ns → w ≤ 2 * a.section_limit
 section_room z a t x c w d e ps ns our =
     let word : w + depth_of x.begin ≡ 2 * our.section.begun = our.section.word in
     let limit : our.section.begun ≤ a.section_limit = our.section.limit in
@@ -116,14 +119,14 @@ opened None some = absurd (some refl)
 opened (Some b) some = refl
 
 -- a section ends
-pub exited_agrees : (z : TableId) (a : Settings) (t u : TableId) (x y : CpuView) (c w d : ℕ) (e : Option Entry) (ps ns : List Place)
-    → IsOurCpu z a t x c w d e ps ns → u ≡ t → d ≡ 1 → HasExited x y → IsOurCpu z a u y c (w + 1) 0 None ps ns
+pub exited_agrees : (z : TableId) (a : Settings) (t u : TableId) (x y : CpuView) (c w d : ℕ) (e : Found) (ps ns : List Place)
+    → IsOurCpu z a t x c w d e ps ns → u ≡ t → d ≡ 1 → HasExited x y → IsOurCpu z a u y c (w + 1) 0 (record e { number = 0 }) ps ns
 exited_agrees z a t u x y c w d e ps ns our same last had =
     let some : x.begin ≢ None = λ q. absurd (let none : d ≡ 0 = our.depth.outside.0 q in omega arith) in
     let z0 : CpuView = record x { section = x.section + 1; begin = None; found = None } in
     let one : depth_of x.begin ≡ 1 = opened x.begin some in
     let word : w + depth_of x.begin ≡ 2 * our.section.begun = our.section.word in
-    let there : IsOurCpu z a u z0 c (w + 1) 0 None ps ns = record {
+    let there : IsOurCpu z a u z0 c (w + 1) 0 (record e { number = 0 }) ps ns = record {
       table = same ∙ our.table;
       settings = our.settings;
       fit = our.fit;
@@ -136,10 +139,10 @@ exited_agrees z a t u x y c w d e ps ns our same last had =
       passive = passive_longer x z0 ps refl (([], append-nil x.pass)) our.passive;
       net = net_same x z0 ns refl refl refl our.net;
     } in
-    subst (λ (v : CpuView). IsOurCpu z a u v c (w + 1) 0 None ps ns) (sym had) there
+    subst (λ (v : CpuView). IsOurCpu z a u v c (w + 1) 0 (record e { number = 0 }) ps ns) (sym had) there
 
 -- an inner enter or exit is counted in the depth alone
-pub deeper_agrees : (z : TableId) (a : Settings) (t : TableId) (x : CpuView) (c w d n : ℕ) (e : Option Entry) (ps ns : List Place)
+pub deeper_agrees : (z : TableId) (a : Settings) (t : TableId) (x : CpuView) (c w d n : ℕ) (e : Found) (ps ns : List Place)
     → IsOurCpu z a t x c w d e ps ns → x.begin ≢ None → 0 < n → n ≤ 255 → IsOurCpu z a t x c w n e ps ns
 deeper_agrees z a t x c w d n e ps ns our some above below = record {
   table = our.table;
@@ -156,13 +159,13 @@ deeper_agrees z a t x c w d n e ps ns our some above below = record {
 }
 
 -- the pass grows, another entry may be the last found one, and a note may have been heard
-pub seen_agrees : (z : TableId) (a : Settings) (t u : TableId) (x y : CpuView) (c w d : ℕ) (e f : Option Entry) (ps ns : List Place) (h : List Change)
-    → IsOurCpu z a t x c w d e ps ns → u ≡ t → IsPrefix x.pass y.pass → y ≡ record x { pass = y.pass; found = f; heard = h }
-    → ((g : Entry) → f ≡ Some g → (g.slot < 32) × IsAttached y.pass g) → IsOurCpu z a u y c w d f ps ns
-seen_agrees z a t u x y c w d e f ps ns h our same longer is seen =
+pub seen_agrees : (z : TableId) (a : Settings) (t u : TableId) (x y : CpuView) (c w d : ℕ) (e k : Found) (f : Option Entry) (ps ns : List Place) (h : List Change)
+    → IsOurCpu z a t x c w d e ps ns → u ≡ t → IsPrefix x.pass y.pass → y ≡ record x { pass = y.pass; found = f; heard = h } → IsKept k f
+    → ((g : Entry) → f ≡ Some g → (g.slot < 32) × IsAttached y.pass g) → IsOurCpu z a u y c w d k ps ns
+seen_agrees z a t u x y c w d e k f ps ns h our same longer is kept seen =
     let p = y.pass in
     let z0 : CpuView = record x { pass = p; found = f; heard = h } in
-    let there : IsOurCpu z a u z0 c w d f ps ns = record {
+    let there : IsOurCpu z a u z0 c w d k ps ns = record {
       table = same ∙ our.table;
       settings = our.settings;
       fit = our.fit;
@@ -171,23 +174,50 @@ seen_agrees z a t u x y c w d e f ps ns h our same longer is seen =
       section = record { is = our.section.is; begun = our.section.begun; word = our.section.word; limit = our.section.limit };
       idle = record { search = our.idle.search; hand = our.idle.hand };
       depth = our.depth;
-      found = record { is = refl; seen = seen };
+      found = record { is = kept; seen = seen };
       passive = passive_longer x z0 ps refl longer our.passive;
       net = net_same x z0 ns refl refl refl our.net;
     } in
-    subst (λ (v : CpuView). IsOurCpu z a u v c w d f ps ns) (sym is) there
+    subst (λ (v : CpuView). IsOurCpu z a u v c w d k ps ns) (sym is) there
 
-pub heard_agrees : (z : TableId) (a : Settings) (t u : TableId) (x y : CpuView) (c w d : ℕ) (e : Option Entry) (ps ns : List Place) (h : List Change)
+pub heard_agrees : (z : TableId) (a : Settings) (t u : TableId) (x y : CpuView) (c w d : ℕ) (e : Found) (ps ns : List Place) (h : List Change)
     → IsOurCpu z a t x c w d e ps ns → u ≡ t → IsPrefix x.pass y.pass → y ≡ record x { pass = y.pass; heard = h } → IsOurCpu z a u y c w d e ps ns
 heard_agrees z a t u x y c w d e ps ns h our same longer is =
-    let p = y.pass in
-    let as_found : y ≡ record x { pass = p; found = e; heard = h } = is ∙ ap (λ (f : Option Entry). record x { pass = p; found = f; heard = h }) (sym our.found.is) in
-    seen_agrees z a t u x y c w d e e ps ns h our same longer as_found (λ g q. found_longer x p g longer (our.found.seen g (sym our.found.is ∙ q)))
+    seen_agrees z a t u x y c w d e e x.found ps ns h our same longer is our.found.is (λ g q. found_longer x y.pass g longer (our.found.seen g q))
 
 -- a lookup is over
-pub looked_up_agrees : (z : TableId) (a : Settings) (t u : TableId) (x y : CpuView) (c w d : ℕ) (e f : Option Entry) (ps ns : List Place) (key : Key)
-    → IsOurCpu z a t x c w d e ps ns → u ≡ t → HasLookedUp key x y f → IsOurCpu z a u y c w d f ps ns
-looked_up_agrees z a t u x y c w d e f ps ns key our same had =
+pub looked_up_agrees : (z : TableId) (a : Settings) (t u : TableId) (x y : CpuView) (c w d : ℕ) (e k : Found) (f : Option Entry) (ps ns : List Place) (key : Key)
+    → IsOurCpu z a t x c w d e ps ns → u ≡ t → IsKept k f → HasLookedUp key x y f → IsOurCpu z a u y c w d k ps ns
+looked_up_agrees z a t u x y c w d e k f ps ns key our same kept had =
     let p = y.pass in
     let is : y ≡ record x { pass = p; found = f } = had.is ∙ ap (λ (s : Option Search). record x { pass = p; search = s; found = f }) (sym our.idle.search) in
-    seen_agrees z a t u x y c w d e f ps ns x.heard our same had.pass is had.seen
+    seen_agrees z a t u x y c w d e k f ps ns x.heard our same had.pass is kept had.seen
+
+-- The last found entry, by what is kept of it
+
+pub record IsFoundAs (x : CpuView) (k : Found) : Type 0 where
+  pub entry : Entry
+  pub found : x.found ≡ Some entry
+  pub number : k.number ≡ entry.number
+  pub slot : k.slot ≡ entry.slot
+  pub kind : k.kind ≡ entry.rec.kind
+  pub few : k.slot < 32
+  pub attached : IsAttached x.pass entry
+
+pub found_as : (x : CpuView) (k : Found) → FoundAgrees x k → k.number ≢ 0 → IsFoundAs x k
+found_as x k agree some = by_cases x.found agree.is refl
+  where
+    by_cases : (f : Option Entry) → IsKept k f → x.found ≡ f → IsFoundAs x k
+    by_cases None none is = absurd (some none)
+    by_cases (Some e) kept is =
+        let seen = agree.seen e is in
+        record { entry = e; found = is; number = kept.0; slot = kept.1; kind = kept.2; few = omega (arith, kept.1, seen.0); attached = seen.1 }
+
+pub found_none : (x : CpuView) (k : Found) → FoundAgrees x k → k.number ≡ 0 → x.found ≡ None
+found_none x k agree none = by_cases x.found agree.is refl
+  where
+    by_cases : (f : Option Entry) → IsKept k f → x.found ≡ f → x.found ≡ None
+    by_cases None kept is = is
+    by_cases (Some e) kept is =
+        let begun = (at_within x.pass e.number (Attach e) (agree.seen e is).1).0 in
+        absurd (omega (arith, kept.0, begun, none))

@@ -1,5 +1,5 @@
 -- A search: its loads in one slot, and from one slot to the next.
-use Rattle.std.proofs.Common.{◌≡◌, ◌≢◌, ℕ, zero, suc, ◌-◌, ◌<◌, Bool, true, false, List, ◌++◌, length, Some, None, refl, sym, ap, ◌∙◌, subst, arith, append_assoc}
+use Rattle.std.proofs.Common.{◌≡◌, ◌≢◌, ℕ, zero, suc, ◌-◌, ◌<◌, Bool, true, false, List, ◌++◌, length, Option, Some, None, IfSome, refl, sym, ap, ◌∙◌, subst, arith, append_assoc}
 use mathlib.Core.List.{IsPrefix}
 use Rattle.passive_core.specs.declared.entry.Entry.{Entry}
 use Rattle.passive_core.specs.declared.entry.Change.{Change}
@@ -13,7 +13,8 @@ use Rattle.passive_core.specs.Invariant.{StandsOn}
 use Rattle.passive_core.specs.Loaded.{loaded, judged, entry_with}
 use Rattle.cpu_words.specs.declared.view.CpuView.{CpuView}
 use Rattle.cpu_words.specs.Searching.{MayLoadLink, MayLoadSearched, IsAtWord, every_word, searched, HasLoadedLink, HasLoadedWord, HasFollowed, seeking, search_for}
-use Rattle.passive_list.specs.Walking.{search_at, IsUnderWay, standing, after_visit, HasVisitedFrom, HasVisited, HasTaken, HasMissed, IsOn, IsAtLink, HasLookedUp}
+use Rattle.passive_list.specs.declared.lookup.Seen.{Seen}
+use Rattle.passive_list.specs.Walking.{entry_seen, search_at, IsUnderWay, standing, after_visit, HasVisitedFrom, HasVisited, HasTaken, HasMissed, IsOn, IsAtLink, HasLookedUp}
 
 pub prefix_trans : (p q r : List Change) → IsPrefix p q → IsPrefix q r → IsPrefix p r
 prefix_trans p q r a b = (a.0 ++ b.0, sym (append_assoc p a.0 b.0) ∙ ap (λ l. l ++ b.0) a.1 ∙ b.1)
@@ -59,7 +60,7 @@ visited x y1 y2 y3 y4 key t n k h l had1 had2 had3 had4 from at =
       number = number.2;
     }
 
-pub took : (x y : CpuView) (key : Key) (t n value : ℕ) → HasLoadedWord x value y → HasTaken x key t n (entry_with key t n value) y
+took : (x y : CpuView) (key : Key) (t n value : ℕ) → HasLoadedWord x value y → HasTaken x key t n (entry_with key t n value) y
 took x y key t n value had from at =
     let there = had (search_at key from (AtValue t n)) at in
     let pass : y.pass ≡ x.pass = ap (λ (v : CpuView). v.pass) there.is in
@@ -128,8 +129,8 @@ follows key x y z w t n m last on had loaded_link =
     followed_on key x y z w t n m last on v (loaded_link (search_at key (length x.pass) (AtNext t)) at)
 
 -- the search may take the value, or follow the link, where the visit says so
-pub may_take : (key : Key) (x y z : CpuView) (t n last : ℕ) → IsOn key x t last y → HasVisited y key t n true z → IsUnderWay z key (length x.pass) (AtValue t n)
-may_take key x y z t n last on had = ap (λ (u : CpuView). u.search) (had (length x.pass) (on_way key x y t last on)).is
+pub may_take : (key : Key) (x y z : CpuView) (t n last : ℕ) → IsOn key x t last y → HasVisited y key t n true z → MayLoadSearched z t 4
+may_take key x y z t n last on had = may_load z key (length x.pass) t 4 (AtValue t n) (ap (λ (u : CpuView). u.search) (had (length x.pass) (on_way key x y t last on)).is) (refl, refl)
 
 pub may_go : (key : Key) (x y z : CpuView) (t n last : ℕ) → IsOn key x t last y → HasVisited y key t n false z → MayLoadLink z t
 may_go key x y z t n last on had = may_follow z key (length x.pass) t (ap (λ (u : CpuView). u.search) (had (length x.pass) (on_way key x y t last on)).is)
@@ -147,8 +148,10 @@ follow_id key x w (suc t) n at = ap (λ (u : CpuView). u.id) at.is
 pub missed : (key : Key) (x y : CpuView) → HasMissed key x y → HasLookedUp key x y None
 missed key x y had = record { pass = had.pass; is = had.is; lawful = had.lawful; seen = λ e (q : None ≡ Some e). cc }
 
-pub found : (key : Key) (x y z w : CpuView) (t n last : ℕ) (e : Entry) → e.slot ≡ t → IsOn key x t last y → HasVisited y key t n true z → HasTaken z key t n e w → HasLookedUp key x w (Some e)
-found key x y z w t n last e slot on had taken =
+pub found : (key : Key) (x y z w : CpuView) (t n value last : ℕ) → IsOn key x t last y → HasVisited y key t n true z → HasLoadedWord z value w → HasLookedUp key x w (Some (entry_with key t n value))
+found key x y z w t n value last on had last_word =
+    let e = entry_with key t n value in
+    let taken = took z w key t n value last_word in
     let v = had (length x.pass) (on_way key x y t last on) in
     let left = left_slot key x y z t n last true on v in
     let f = taken (length x.pass) (ap (λ (u : CpuView). u.search) v.is) in
@@ -161,5 +164,10 @@ found key x y z w t n last e slot on had taken =
       lawful = subst (λ (p : List Change). IsLawful p (length x.pass) (length p) key (Some e)) (sym to_z) f.lawful;
       seen = λ g (q : Some e ≡ Some g).
           let same : e ≡ g = cc in
-          subst (λ (i : Entry). (i.slot < 32) × IsAttached w.pass i) same (omega (arith, on.slot, slot), subst (λ (p : List Change). IsAttached p e) (sym to_z) f.attached);
+          subst (λ (i : Entry). (i.slot < 32) × IsAttached w.pass i) same (on.slot, subst (λ (p : List Change). IsAttached p e) (sym to_z) f.attached);
     }
+
+-- the slot of what a search found
+pub slot_seen : (key : Key) (x y : CpuView) (s : Option Seen) → HasLookedUp key x y (entry_seen key s) → IfSome s (λ (r : Seen). r.slot < 32)
+slot_seen key x y None had = tt
+slot_seen key x y (Some r) had = (had.seen (entry_with key r.slot r.number r.value) refl).0

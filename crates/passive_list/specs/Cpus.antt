@@ -4,6 +4,7 @@ use Rattle.std.specs.List.{Contains}
 use Rattle.atomic_table.specs.Seated.{TableId}
 use Rattle.passive_core.specs.declared.entry.Entry.{Entry}
 use Rattle.passive_core.specs.declared.entry.Change.{Change}
+use Rattle.passive_core.specs.declared.entry.Kind.TheVariants.{Driver}
 use Rattle.passive_core.specs.declared.settings.Settings.{Settings}
 use Rattle.passive_core.specs.Limits.{are_fit}
 use Rattle.passive_core.specs.History.{IsAttached}
@@ -12,6 +13,7 @@ use Rattle.passive_core.specs.State.{bias}
 use Rattle.cpu_words.specs.declared.view.CpuView.{CpuView}
 use Rattle.cpu_words.specs.Views.{number_at, references_to, depth_of}
 use Rattle.cpu_words.specs.Sections.{IsIdle}
+use Rattle.passive_list.specs.declared.place.Found.{Found}
 use Rattle.passive_list.specs.declared.place.Place.{Place}
 
 -- a CPU, to a contract
@@ -58,13 +60,21 @@ pub record SectionAgrees (a : Settings) (x : CpuView) (section : ℕ) : Type 0 w
   pub word : section + depth_of x.begin ≡ 2 * begun
   pub limit : begun ≤ a.section_limit
 
+abbrev pub no_found : Found
+no_found = record { number = 0; slot = 0; kind = Driver }
+
+-- what is kept of an entry, or that there is none
+abbrev pub IsKept : Found → Option Entry → Type 0
+IsKept f None = f.number ≡ 0
+IsKept f (Some e) = (f.number ≡ e.number) × (f.slot ≡ e.slot) × (f.kind ≡ e.rec.kind)
+
 -- the last found entry is in the pass
-pub record FoundAgrees (x : CpuView) (found : Option Entry) : Type 0 where
-  pub is : found ≡ x.found
+pub record FoundAgrees (x : CpuView) (found : Found) : Type 0 where
+  pub is : IsKept found x.found
   pub seen : (e : Entry) → x.found ≡ Some e → (e.slot < 32) × IsAttached x.pass e
 
 -- the fields of a CPU of D's table: its seat's table and view, its number, word and depth, the last found entry, and its places
-pub record IsOurCpu (z : TableId) (a : Settings) (t : TableId) (x : CpuView) (c word deep : ℕ) (last : Option Entry) (references nets : List Place) : Type 0 where
+pub record IsOurCpu (z : TableId) (a : Settings) (t : TableId) (x : CpuView) (c word deep : ℕ) (last : Found) (references nets : List Place) : Type 0 where
   pub table : t ≡ z
   pub settings : x.settings ≡ a
   pub fit : IsTrue (are_fit a)

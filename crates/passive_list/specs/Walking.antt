@@ -8,7 +8,9 @@ use Rattle.passive_core.specs.declared.state.Place.TheVariants.{AtNext, AtNumber
 use Rattle.passive_core.specs.declared.state.Search.{Search}
 use Rattle.passive_core.specs.History.{IsAttached, IsLawful}
 use Rattle.passive_core.specs.Invariant.{StandsOn}
+use Rattle.passive_core.specs.Loaded.{entry_with}
 use Rattle.cpu_words.specs.declared.view.CpuView.{CpuView}
+use Rattle.passive_list.specs.declared.lookup.Seen.{Seen}
 
 -- the search for the key, begun where the pass had `from` changes, at the place p
 abbrev pub search_at : Key → ℕ → Place → Search
@@ -21,12 +23,9 @@ IsUnderWay x key from p = x.search ≡ Some (search_at key from p)
 abbrev pub standing : CpuView → Key → ℕ → Place → CpuView
 standing x key from p = record x { search = Some (search_at key from p) }
 
--- the search is to visit the slot t, or to load its value or its link
+-- the search is to visit the slot t
 abbrev pub MayVisit : CpuView → Key → ℕ → Type 0
 MayVisit x key t = (from : ℕ) × IsUnderWay x key from (AtNumber t)
-
-abbrev pub MayTake : CpuView → Key → ℕ → ℕ → Type 0
-MayTake x key t n = (from : ℕ) × IsUnderWay x key from (AtValue t n)
 
 -- where the search goes on after the words of the entry n in the slot t
 abbrev pub after_visit : ℕ → ℕ → Bool → Place
@@ -69,6 +68,11 @@ pub record IsOn (key : Key) (x : CpuView) (t last : ℕ) (y : CpuView) : Type 0 
 abbrev pub IsAtLink : Key → CpuView → ℕ → ℕ → CpuView → Type 0
 IsAtLink key x zero last y = HasMissed key x y
 IsAtLink key x (suc t) last y = IsOn key x t last y
+
+-- the entry whose words the search for the key found
+abbrev pub entry_seen : Key → Option Seen → Option Entry
+entry_seen key None = None
+entry_seen key (Some s) = Some (entry_with key s.slot s.number s.value)
 
 -- the whole search, by the view before and after
 pub record HasLookedUp (key : Key) (x y : CpuView) (answer : Option Entry) : Type 0 where

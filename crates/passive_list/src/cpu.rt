@@ -5,9 +5,8 @@ ghost use Rattle.cpu_words.specs.Views.{new_cpu};
 ghost use Rattle.passive_core.specs.Limits.{are_fit};
 ghost use Rattle.passive_list.specs.Cpus.{OnCpu, IsOurCpu};
 
-use crate::place::Place;
+use crate::place::{Found, Place};
 use cpu_words::{CpuSeat, Domain};
-use passive_core::Entry;
 use std::marker::{Model, PhantomData};
 
 /// A virtual CPU of the table that D names. To a contract it is what its seat knows, and the depth of its section.
@@ -22,7 +21,7 @@ pub struct Cpu<D: Domain> {
     /// 0 outside, else how many enters are open.
     pub depth: u8,
     /// The entry that its last lookup in the open section found.
-    pub found: Option<Entry>,
+    pub found: Found,
     /// By slot: its passive references.
     pub passive: [Place; 32],
     /// By slot: its net count of local references, over the bias.
@@ -53,7 +52,7 @@ impl<D: Domain> Cpu<D> {
             id,
             section: 0,
             depth: 0,
-            found: None,
+            found: Found::NONE,
             passive: [Place::NONE; 32],
             net: [Place::NONE; 32],
             domain: PhantomData,

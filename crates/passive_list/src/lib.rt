@@ -25,7 +25,7 @@ pub use keeper::{Keeper, Row, SlotState};
 pub use keeper_notes::{hear_keeper, tell_keeper};
 pub use lookup::find;
 pub use notes::{Note, hear, tell};
-pub use place::Place;
+pub use place::{Found, Place};
 pub use publishing::{publish, publish_entry};
 pub use retiring::retire;
 pub use sections::{enter, exit};

@@ -1,13 +1,15 @@
 //! Lookups in a section: a search along the list, loads alone. No shared word is written, and nobody waits.
 
-ghost use Rattle.std.specs.Prelude.{◌≡◌, ◌≢◌, ◌<◌, None};
+ghost use Rattle.std.specs.Prelude.{◌≡◌, ◌≢◌, ◌<◌, None, IfSome};
 ghost use Rattle.passive_core.specs.Slots.{kind_word};
 ghost use Rattle.passive_core.specs.Events.{are_words_of};
 ghost use Rattle.cpu_words.specs.Searching.{MaySeek, key_with};
+ghost use Rattle.passive_list.specs.Cpus.{IsKept};
 ghost use Rattle.passive_list.specs.Lookups.{HasFound};
-ghost use Rattle.passive_list.specs.Walking.{MayVisit, MayTake, HasVisited, HasTaken, HasLookedUp};
+ghost use Rattle.passive_list.specs.Walking.{MayVisit, HasVisited, HasLookedUp, entry_seen};
 
 use crate::cpu::Cpu;
+use crate::place::Found;
 use cpu_words::{CpuSeat, Domain, Words, steps};
 use passive_core::{Entry, Kind, Name, Record};
 
@@ -23,27 +25,65 @@ pub fn find<D: Domain>(words: &Words, cpu: &mut Cpu<D>, kind: Kind, name: &Name)
     requires inside { cpu.old.view.begin ≢ None }
     ensures { HasFound (key_with kind name.now) cpu.old cpu.new result }
 {
-    let answer = look_up(words, &mut cpu.seat, cpu.id, kind, name);
-    cpu.found = answer;
-    answer
+    let name = *name;
+    let seen = look_up(words, &mut cpu.seat, cpu.id, kind, name);
+    keep(&mut cpu.found, seen, kind, name)
+}
+
+/// The words of an entry that a search found.
+#[derive(Clone, Copy)]
+struct Seen {
+    number: u64,
+    slot: u64,
+    value: u64,
+}
+
+/// Keeps what a search found, and answers it. The entry is put together here, once and from words: it has bytes between its fields, and
+/// handing it on from call to call takes longer than the search.
+fn keep(found: &mut Found, seen: Option<Seen>, kind: Kind, name: Name) -> Option<Entry>
+    requires slot { IfSome seen (λ s. s.slot < 32) }
+    ensures kept { IsKept found.new result }
+    ensures entry { result ≡ entry_seen (key_with kind name) seen }
+{
+    let Some(seen) = seen else {
+        found.number = 0;
+        return None;
+    };
+    found.number = seen.number;
+    found.slot = seen.slot as u8;
+    found.kind = kind;
+    let rec = Record {
+        kind,
+        name,
+        value: seen.value,
+    };
+    Some(Entry {
+        number: seen.number,
+        slot: seen.slot as u8,
+        rec,
+    })
 }
 
 /// The whole search, by the CPU's seat.
-fn look_up(words: &Words, seat: &mut CpuSeat, cpu: u8, kind: Kind, name: &Name) -> Option<Entry>
+fn look_up(words: &Words, seat: &mut CpuSeat, cpu: u8, kind: Kind, name: Name) -> Option<Seen>
     requires table { seat.old.table ≡ words.now.table }
     requires cpu { (cpu < 8) × (seat.old.view.id ≡ cpu) }
     requires may { MaySeek seat.old.view }
     ensures table { seat.new.table ≡ seat.old.table }
-    ensures change { HasLookedUp (key_with kind name.now) seat.old.view seat.new.view result }
+    ensures change { HasLookedUp (key_with kind name) seat.old.view seat.new.view (entry_seen (key_with kind name) result) }
 {
     let mut last = ABOVE_ALL;
-    let mut link = steps::seek(words, seat, cpu, kind, *name);
+    let mut link = steps::seek(words, seat, cpu, kind, name);
     while link != 0 {
         let slot = (link - 1) as u8;
         let (number, is_sought) = visit(words, seat, cpu, slot, kind, name);
         if is_sought {
-            let entry = take(words, seat, cpu, slot, number, kind, name);
-            return Some(entry);
+            let value = steps::load_searched(words, seat, cpu, slot, 4);
+            return Some(Seen {
+                number,
+                slot: link - 1,
+                value,
+            });
         }
         last = number;
         link = steps::load_link(words, seat, cpu, slot);
@@ -58,47 +98,20 @@ fn visit(
     cpu: u8,
     slot: u8,
     kind: Kind,
-    name: &Name,
+    name: Name,
 ) -> (u64, bool)
     requires table { seat.old.table ≡ words.now.table }
     requires cpu { (cpu < 8) × (seat.old.view.id ≡ cpu) }
     requires slot { slot < 32 }
-    requires may { MayVisit seat.old.view (key_with kind name.now) slot }
+    requires may { MayVisit seat.old.view (key_with kind name) slot }
     ensures table { seat.new.table ≡ seat.old.table }
-    ensures change { HasVisited seat.old.view (key_with kind name.now) slot result.0 result.1 seat.new.view }
+    ensures change { HasVisited seat.old.view (key_with kind name) slot result.0 result.1 seat.new.view }
 {
     let number = steps::load_searched(words, seat, cpu, slot, 0);
     let found = steps::load_searched(words, seat, cpu, slot, 1);
     let high = steps::load_searched(words, seat, cpu, slot, 2);
     let low = steps::load_searched(words, seat, cpu, slot, 3);
     (number, are_words_of(kind, name, found, high, low))
-}
-
-/// Loads the value of the entry that is sought, which ends the search.
-fn take(
-    words: &Words,
-    seat: &mut CpuSeat,
-    cpu: u8,
-    slot: u8,
-    number: u64,
-    kind: Kind,
-    name: &Name,
-) -> Entry
-    requires table { seat.old.table ≡ words.now.table }
-    requires cpu { (cpu < 8) × (seat.old.view.id ≡ cpu) }
-    requires slot { slot < 32 }
-    requires may { MayTake seat.old.view (key_with kind name.now) slot number }
-    ensures table { seat.new.table ≡ seat.old.table }
-    ensures slot { result.slot ≡ slot }
-    ensures change { HasTaken seat.old.view (key_with kind name.now) slot number result seat.new.view }
-{
-    let value = steps::load_searched(words, seat, cpu, slot, 4);
-    let rec = Record {
-        kind,
-        name: *name,
-        value,
-    };
-    Entry { number, slot, rec }
 }
 
 /// The word of a kind, as a record has it.
@@ -112,8 +125,8 @@ pub(crate) fn kind_word(kind: Kind) -> u64
 }
 
 /// Whether these are the words of the kind and the name.
-fn are_words_of(kind: Kind, name: &Name, k: u64, h: u64, l: u64) -> bool
-    ensures { result ≡ are_words_of (key_with kind name.now) k h l }
+fn are_words_of(kind: Kind, name: Name, k: u64, h: u64, l: u64) -> bool
+    ensures { result ≡ are_words_of (key_with kind name) k h l }
 {
     let (high, low) = name.words();
     k == kind_word(kind) && h == high && l == low

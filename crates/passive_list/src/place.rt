@@ -1,4 +1,7 @@
-//! What a CPU keeps of the slots: a count for the entry that it met there last.
+//! What a CPU keeps of entries: of the slots a count for the entry that it met there last, and of the entry that it found last what
+//! references to it are made of.
+
+use passive_core::Kind;
 
 /// A count, and the number of the entry that it is for; number 0 is of no entry, and the count then is nothing's.
 #[derive(Clone, Copy, Debug, PartialEq, Eq)]
@@ -14,5 +17,25 @@ impl Place {
     pub const NONE: Place = Place {
         number: 0,
         count: 0,
+    };
+}
+
+/// The last found entry; number 0 is of no entry, and the rest then is nothing's. It is kept without its record, since each section
+/// stores and clears it: each store there is paid for, by the atomic operation that ends the section.
+#[derive(Clone, Copy, Debug, PartialEq, Eq)]
+pub struct Found {
+    /// From 1; 0 for no entry.
+    pub number: u64,
+    /// From 0.
+    pub slot: u8,
+    pub kind: Kind,
+}
+
+impl Found {
+    /// No entry.
+    pub const NONE: Found = Found {
+        number: 0,
+        slot: 0,
+        kind: Kind::Driver,
     };
 }

@@ -67,8 +67,8 @@ fn end<D: Domain>(words: &Words, cpu: &mut Cpu<D>)
     requires last { cpu.old.depth ≡ 1 }
     ensures { HasExitedOn cpu.old cpu.new }
 {
-    steps::exit(words, &mut cpu.seat, cpu.id);
-    cpu.section += 1;
-    cpu.found = None;
+    cpu.found.number = 0;
     cpu.depth = 0;
+    cpu.section += 1;
+    steps::exit(words, &mut cpu.seat, cpu.id);
 }

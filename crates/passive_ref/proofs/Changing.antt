@@ -1,5 +1,5 @@
 -- A CPU's plain data agree with its view as one reference is added, or taken away.
-use Rattle.std.proofs.Common.{◌≡◌, ◌≢◌, ⊎_elim, ℕ, ◌+◌, ◌-◌, ◌<◌, List, ◌∷◌, length, set, Option, get_or-set_same, get_or-set_other, refl, sym, ap, ◌∙◌, subst, arith}
+use Rattle.std.proofs.Common.{◌≡◌, ◌≢◌, ⊎_elim, ℕ, ◌+◌, ◌-◌, ◌<◌, List, ◌∷◌, length, set, get_or-set_same, get_or-set_other, refl, sym, ap, ◌∙◌, subst, arith}
 use Rattle.std.proofs.lemmas.Bool.{cases_eq}
 use Rattle.std.proofs.lemmas.List.{length-set}
 use Rattle.std.specs.List.{Contains}
@@ -12,6 +12,7 @@ use Rattle.cpu_words.specs.declared.view.CpuView.{CpuView}
 use Rattle.cpu_words.specs.Views.{references_to, without}
 use Rattle.cpu_words.specs.Passives.{IsAt, IsAloneAt, HasAdded, HasSubtracted}
 use Rattle.cpu_words.proofs.ReferenceLists.{to_same, to_other, in_cons, counts, one_less, others_stay, was_in}
+use Rattle.passive_list.specs.declared.place.Found.{Found}
 use Rattle.passive_list.specs.declared.place.Place.{Place}
 use Rattle.passive_list.specs.Cpus.{no_place, place_at, IsPlaceOf, PassiveAgree, IsOurCpu}
 use Rattle.passive_list.proofs.Agreeing.{net_same}
@@ -134,7 +135,7 @@ less_passive x ps e t n agree at among = record { size = length-set ps t new ∙
         (old.0, old.1, same_number f.slot ∙ old.2, old.3)
 
 -- a CPU with other references, and places that agree with them
-with_references : (z : TableId) (a : Settings) (t u : TableId) (x : CpuView) (c w d : ℕ) (o : Option Entry) (ps qs ns : List Place) (references : List Entry)
+with_references : (z : TableId) (a : Settings) (t u : TableId) (x : CpuView) (c w d : ℕ) (o : Found) (ps qs ns : List Place) (references : List Entry)
     → IsOurCpu z a t x c w d o ps ns → u ≡ t → PassiveAgree (record x { references = references }) qs → IsOurCpu z a u (record x { references = references }) c w d o qs ns
 with_references z a t u x c w d o ps qs ns references our same agree = record {
   table = same ∙ our.table;
@@ -151,14 +152,14 @@ with_references z a t u x c w d o ps qs ns references our same agree = record {
 }
 
 -- a reference was added
-pub added_agrees : (z : TableId) (a : Settings) (t u : TableId) (x y : CpuView) (c w d : ℕ) (o : Option Entry) (ps ns : List Place) (s n m : ℕ)
+pub added_agrees : (z : TableId) (a : Settings) (t u : TableId) (x y : CpuView) (c w d : ℕ) (o : Found) (ps ns : List Place) (s n m : ℕ)
     → IsOurCpu z a t x c w d o ps ns → u ≡ t → HasAdded x s n y → s < 32 → IsAloneAt x s n → m ≡ references_to n x.references
     → IsOurCpu z a u y c w d o (set ps s (record { number = n; count = m + 1 })) ns
 added_agrees z a t u x y c w d o ps ns s n m our same had few alone is = subst (λ (v : CpuView). IsOurCpu z a u v c w d o (set ps s (record { number = n; count = m + 1 })) ns) (sym had.3)
     (with_references z a t u x c w d o ps (set ps s (record { number = n; count = m + 1 })) ns (had.0 ∷ x.references) our same (added_passive x ps had.0 s n m our.passive had.1 had.2 few alone is))
 
 -- a reference was taken away
-pub less_agrees : (z : TableId) (a : Settings) (t u : TableId) (x y : CpuView) (c w d : ℕ) (o : Option Entry) (ps ns : List Place) (e : Entry) (s n : ℕ)
+pub less_agrees : (z : TableId) (a : Settings) (t u : TableId) (x y : CpuView) (c w d : ℕ) (o : Found) (ps ns : List Place) (e : Entry) (s n : ℕ)
     → IsOurCpu z a t x c w d o ps ns → u ≡ t → IsAt e s n → Contains x.references e → HasSubtracted x n y
     → IsOurCpu z a u y c w d o (set ps s (record { number = (place_at ps s).number; count = (place_at ps s).count - 1 })) ns
 less_agrees z a t u x y c w d o ps ns e s n our same at among had = subst (λ (v : CpuView). IsOurCpu z a u v c w d o (set ps s (record { number = (place_at ps s).number; count = (place_at ps s).count - 1 })) ns) (sym had)

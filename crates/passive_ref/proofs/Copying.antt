@@ -1,12 +1,15 @@
 -- A reference that was added is to the entry that was known.
-use Rattle.std.proofs.Common.{◌≡◌, ℕ, Option, Some, None, refl, sym, ◌∙◌, subst}
+use Rattle.std.proofs.Common.{◌≡◌, ℕ, Option, None, refl, sym, ◌∙◌, subst}
 use Rattle.std.specs.Prelude.{Result, Ok, Err}
 use Rattle.passive_core.specs.declared.entry.Entry.{Entry}
 use Rattle.passive_core.specs.declared.refusal.Refusal.{Refusal}
+use Rattle.passive_core.specs.declared.refusal.Refusal.TheVariants.{NothingFound}
 use Rattle.passive_core.specs.Passives.{Answers}
 use Rattle.passive_core.specs.History.{IsAttached}
 use Rattle.passive_core.proofs.History.{one_entry}
+use Rattle.passive_list.specs.declared.place.Found.{Found}
 use Rattle.passive_list.specs.Cpus.{OnCpu}
+use Rattle.passive_list.proofs.Agreeing.{IsFoundAs}
 use Rattle.passive_ref.specs.Psrefs.{OnPsref, IsAdded, IsNew, IsAcquired, IsCopied, IsHeldAt, why_full, why_not_acquired, why_not_copied}
 
 -- it is a new reference to that entry
@@ -24,11 +27,13 @@ copied n t a b why r none held answer = subst (λ (w : Option Refusal). Answers 
     with_answer (Ok p) had = (had.0, (held.entry, held.held, held.at.number, new_of n t held.entry a b p held.attached held.at.number had.1))
     with_answer (Err f) had = had
 
--- of the last found entry
-pub acquired : (e : Entry) (a b : OnCpu) (r : Result OnPsref Refusal) → a.view.found ≡ Some e → IsAttached a.view.pass e → Answers (why_full a.view e.number) (IsAdded e.slot e.number a b) r
-    → Answers (why_not_acquired a.view a.view.found) (IsAcquired a b) r
-acquired e a b r found attached answer = subst (λ (o : Option Entry). Answers (why_not_acquired a.view o) (IsAcquired a b) r) (sym found) (with_answer r answer)
+-- of the last found entry, by what is kept of it
+pub acquired : (k : Found) (a b : OnCpu) (r : Result OnPsref Refusal) → IsFoundAs a.view k → Answers (why_full a.view k.number) (IsAdded k.slot k.number a b) r → Answers (why_not_acquired a.view a.view.found) (IsAcquired a b) r
+acquired k a b r kept answer = subst (λ (o : Option Entry). Answers (why_not_acquired a.view o) (IsAcquired a b) r) (sym kept.found) (subst (λ n. Answers (why_full a.view n) (IsAcquired a b) r) kept.number (with_answer r answer))
   where
-    with_answer : (s : Result OnPsref Refusal) → Answers (why_full a.view e.number) (IsAdded e.slot e.number a b) s → Answers (why_full a.view e.number) (IsAcquired a b) s
-    with_answer (Ok p) had = (had.0, (e, found, new_of e.number e.slot e a b p attached refl had.1))
+    with_answer : (s : Result OnPsref Refusal) → Answers (why_full a.view k.number) (IsAdded k.slot k.number a b) s → Answers (why_full a.view k.number) (IsAcquired a b) s
+    with_answer (Ok p) had = (had.0, (kept.entry, kept.found, new_of k.number k.slot kept.entry a b p kept.attached (sym kept.number) had.1))
     with_answer (Err f) had = had
+
+pub not_acquired : (a b : OnCpu) → a.view.found ≡ None → Answers (why_not_acquired a.view a.view.found) (IsAcquired a b) (Err NothingFound)
+not_acquired a b none = subst (λ (o : Option Entry). Answers (why_not_acquired a.view o) (IsAcquired a b) (Err NothingFound)) (sym none) refl

@@ -19,9 +19,10 @@ pub fn acquire<D: Domain>(words: &Words, cpu: &mut Cpu<D>) -> Result<Psref, Refu
     ensures answer { Answers (why_not_acquired cpu.old.view cpu.old.view.found) (IsAcquired cpu.old cpu.new) result }
     ensures refused { IfErr result (λ _. cpu.new ≡ cpu.old) }
 {
-    let Some(found) = cpu.found else {
+    let found = cpu.found;
+    if found.number == 0 {
         return Err(Refusal::NothingFound);
-    };
+    }
     add(words, cpu, found.slot, found.number)
 }
 

@@ -1,40 +1,56 @@
 -- A CPU's data agree with its view over an acquire, and so do the reference's.
-use Rattle.std.proofs.Common.{◌≡◌, ◌+◌, ◌<◌, ◌≤◌, refl, ap, ◌∙◌, subst, arith, Some}
+use Rattle.std.proofs.Common.{◌≡◌, ◌+◌, ◌<◌, ◌≤◌, refl, ap, ◌∙◌, subst, sym, arith, Some, None}
 use Rattle.passive_core.specs.declared.settings.Settings.{Settings}
 use Rattle.passive_core.specs.declared.entry.Entry.{Entry}
 use Rattle.passive_core.specs.State.{bias}
 use Rattle.passive_list.specs.Cpus.{OnCpu}
+use Rattle.passive_list.proofs.Agreeing.{found_as, found_none}
 use Rattle.cpu_words.specs.declared.view.CpuView.{CpuView}
 use Rattle.local_count.specs.References.{IsFull}
-use Rattle.local_count.proofs.Acquiring.{found_of, may_count, full_of, acquired_reference, acquired_agrees}
+use Rattle.local_count.proofs.Acquiring.{may_count, full_of, acquired_reference, acquired_agrees}
 use Rattle.local_count.proofs.acquire.acquire_local.Goals as goal
 
-pub bounds-cpu-inside-entry : goal.bounds-cpu-inside-entry
-bounds-cpu-inside-entry g c = (found_of _ _ _ _ _ _ _ _ _ _ _ c.cpu.invariant c.in-Some.is).few
+pub returns-then-found-eq0-clause-nothing : goal.returns-then-found-eq0-clause-nothing
+returns-then-found-eq0-clause-nothing g c =
+    let none = subst (λ (o : OnCpu). o.view.found ≡ None) c.cpu.view_is (found_none _ _ c.cpu.invariant.found c.if-found-eq0.true) in
+    (λ _. none, λ _. refl)
+
+pub returns-then-found-eq0-clause-full : goal.returns-then-found-eq0-clause-full
+returns-then-found-eq0-clause-full g c =
+    let none = subst (λ (o : OnCpu). o.view.found ≡ None) c.cpu.view_is (found_none _ _ c.cpu.invariant.found c.if-found-eq0.true) in
+    (λ q. cc, λ some. let clash : None ≡ Some some.0 = sym none ∙ some.1 in cc)
+
+pub bounds-cpu-inside-found : goal.bounds-cpu-inside-found
+bounds-cpu-inside-found g c = (found_as _ _ c.cpu.invariant.found c.if-found-eq0.false).few
 
 pub returns-then-count-settings-clause-full : goal.returns-then-count-settings-clause-full
 returns-then-count-settings-clause-full g c =
     let limit : c.settings.result.count_limit ≡ g.D.Domain.settings.count_limit = ap (λ (z : Settings). z.count_limit) (c.settings.ensures ∙ c.requires.words.1) in
     let above : bias + g.D.Domain.settings.count_limit ≤ c.net_count-count.result = omega (arith, c.if-count-settings.true) in
     let view : c.cpu.inside.seat.view ≡ c.args.cpu.now.view = ap (λ (o : OnCpu). o.view) c.cpu.view_is in
-    let found = (found_of _ _ _ _ _ _ _ _ _ _ _ c.cpu.invariant c.in-Some.is).found in
-    let full = full_of _ _ _ _ _ _ _ _ _ _ _ _ c.cpu.invariant c.in-Some.is c.net_count-count.ensures above in
-    (λ _. subst (λ (x : CpuView). (e : Entry) × (x.found ≡ Some e) × IsFull x e) view (c.in-Some.entry, found, full), λ _. refl)
+    let kept = found_as _ _ c.cpu.invariant.found c.if-found-eq0.false in
+    let full = full_of _ _ _ _ _ _ _ _ _ _ _ kept c.cpu.invariant c.net_count-count.ensures above in
+    (λ _. subst (λ (x : CpuView). (e : Entry) × (x.found ≡ Some e) × IsFull x e) view (kept.entry, kept.found, full), λ _. refl)
 
 pub count_add-word-requires-clause-place : goal.count_add-word-requires-clause-place
-count_add-word-requires-clause-place g c = (c.cpu.invariant.few, (found_of _ _ _ _ _ _ _ _ _ _ _ c.cpu.invariant c.in-Some.is).few)
+count_add-word-requires-clause-place g c = (c.cpu.invariant.few, (found_as _ _ c.cpu.invariant.found c.if-found-eq0.false).few)
 
 pub count_add-word-requires-clause-may : goal.count_add-word-requires-clause-may
 count_add-word-requires-clause-may g c =
     let limit : c.settings.result.count_limit ≡ g.D.Domain.settings.count_limit = ap (λ (z : Settings). z.count_limit) (c.settings.ensures ∙ c.requires.words.1) in
     let room : c.net_count-count.result < bias + g.D.Domain.settings.count_limit = omega (arith, c.if-count-settings.false) in
-    may_count _ _ _ _ _ _ _ _ _ _ _ _ c.cpu.invariant c.in-Some.is c.net_count-count.ensures room
+    may_count _ _ _ _ _ _ _ _ _ _ _ c.cpu.invariant (found_as _ _ c.cpu.invariant.found c.if-found-eq0.false) c.net_count-count.ensures room
 
-pub bounds-cpu-inside-entry-2 : goal.bounds-cpu-inside-entry-2
-bounds-cpu-inside-entry-2 g c = (found_of _ _ _ _ _ _ _ _ _ _ _ c.cpu.invariant c.in-Some.is).few
+pub bounds-cpu-inside-found-2 : goal.bounds-cpu-inside-found-2
+bounds-cpu-inside-found-2 g c = (found_as _ _ c.cpu.invariant.found c.if-found-eq0.false).few
 
 pub invariant_of-result : goal.invariant_of-result
-invariant_of-result g c = acquired_reference _ _ _ _ _ _ _ _ _ _ _ _ _ _ _ c.cpu.invariant c.in-Some.is (c.split_ref-seat.ensures.table.1 ∙ c.count_add-word.ensures.table) c.count_add-word.ensures.change c.split_ref-seat.ensures.change
+invariant_of-result g c =
+    let kept = found_as _ _ c.cpu.invariant.found c.if-found-eq0.false in
+    acquired_reference _ _ _ _ _ _ _ _ _ _ _ _ _ _ c.cpu.invariant kept (c.split_ref-seat.ensures.table.1 ∙ c.count_add-word.ensures.table) c.count_add-word.ensures.change c.split_ref-seat.ensures.change
 
 pub invariant_of-cpu : goal.invariant_of-cpu
-invariant_of-cpu g c = acquired_agrees _ _ _ _ _ _ _ _ _ _ _ _ _ _ _ _ c.cpu.invariant c.in-Some.is (c.split_ref-seat.ensures.table.0 ∙ c.count_add-word.ensures.table) c.count_add-word.ensures.change c.split_ref-seat.ensures.change c.count_add-word.ensures.word c.count_add-word.ensures.room c.count_add-word.ensures.alone
+invariant_of-cpu g c =
+    let kept = found_as _ _ c.cpu.invariant.found c.if-found-eq0.false in
+    acquired_agrees _ _ _ _ _ _ _ _ _ _ _ _ _ _ _ c.cpu.invariant kept (c.split_ref-seat.ensures.table.0 ∙ c.count_add-word.ensures.table) c.count_add-word.ensures.change c.split_ref-seat.ensures.change c.count_add-word.ensures.word
+    c.count_add-word.ensures.room c.count_add-word.ensures.alone

@@ -7,23 +7,23 @@ use Rattle.passive_list.proofs.lookup.look_up.Goals as goal
 
 pub visit-number-requires-clause-may : goal.visit-number-requires-clause-may
 visit-number-requires-clause-may c =
-    let key = key_with c.args.kind c.args.name.now in
+    let key = key_with c.args.kind c.args.name in
     let x = c.args.seat.now.view in
     let y = c.loop-link.seat.view in
     (length x.pass, on_way key x y (c.loop-link.link - 1) c.loop-link.last (on_slot key x y c.loop-link.link c.loop-link.last c.loop-link-test.true c.loop-link.invariant.at))
 
-pub take-entry-requires-clause-cpu : goal.take-entry-requires-clause-cpu
-take-entry-requires-clause-cpu c =
-    let key = key_with c.args.kind c.args.name.now in
+pub load_searched-value-requires-clause-cpu : goal.load_searched-value-requires-clause-cpu
+load_searched-value-requires-clause-cpu c =
+    let key = key_with c.args.kind c.args.name in
     let x = c.args.seat.now.view in
     let y = c.loop-link.seat.view in
     let z = c.visit-number.new.seat.view in
     let on : IsOn key x (c.loop-link.link - 1) c.loop-link.last y = on_slot key x y c.loop-link.link c.loop-link.last c.loop-link-test.true c.loop-link.invariant.at in
     (c.requires.cpu.0, visit_id key x y z (c.loop-link.link - 1) c.visit-number.result.0 c.loop-link.last c.visit-number.result.1 on c.visit-number.ensures.change ∙ c.loop-link.invariant.cpu)
 
-pub take-entry-requires-clause-may : goal.take-entry-requires-clause-may
-take-entry-requires-clause-may c =
-    let key = key_with c.args.kind c.args.name.now in
+pub load_searched-value-requires-clause-may : goal.load_searched-value-requires-clause-may
+load_searched-value-requires-clause-may c =
+    let key = key_with c.args.kind c.args.name in
     let x = c.args.seat.now.view in
     let y = c.loop-link.seat.view in
     let z = c.visit-number.new.seat.view in
@@ -31,11 +31,11 @@ take-entry-requires-clause-may c =
     let n = c.visit-number.result.0 in
     let on : IsOn key x t c.loop-link.last y = on_slot key x y c.loop-link.link c.loop-link.last c.loop-link-test.true c.loop-link.invariant.at in
     let had = subst (λ (b : Bool). HasVisited y key t n b z) c.if-is_sought.true c.visit-number.ensures.change in
-    (length x.pass, may_take key x y z t n c.loop-link.last on had)
+    may_take key x y z t n c.loop-link.last on had
 
 pub returns-then-is_sought-clause-change : goal.returns-then-is_sought-clause-change
 returns-then-is_sought-clause-change c =
-    let key = key_with c.args.kind c.args.name.now in
+    let key = key_with c.args.kind c.args.name in
     let x = c.args.seat.now.view in
     let y = c.loop-link.seat.view in
     let z = c.visit-number.new.seat.view in
@@ -43,11 +43,11 @@ returns-then-is_sought-clause-change c =
     let n = c.visit-number.result.0 in
     let on : IsOn key x t c.loop-link.last y = on_slot key x y c.loop-link.link c.loop-link.last c.loop-link-test.true c.loop-link.invariant.at in
     let had = subst (λ (b : Bool). HasVisited y key t n b z) c.if-is_sought.true c.visit-number.ensures.change in
-    found key x y z c.take-entry.new.seat.view t n c.loop-link.last c.take-entry.result c.take-entry.ensures.slot on had c.take-entry.ensures.change
+    found key x y z c.load_searched-value.new.seat.view t n c.load_searched-value.result c.loop-link.last on had c.load_searched-value.ensures.change
 
 pub load_link-link-requires-clause-cpu : goal.load_link-link-requires-clause-cpu
 load_link-link-requires-clause-cpu c =
-    let key = key_with c.args.kind c.args.name.now in
+    let key = key_with c.args.kind c.args.name in
     let x = c.args.seat.now.view in
     let y = c.loop-link.seat.view in
     let z = c.visit-number.new.seat.view in
@@ -56,7 +56,7 @@ load_link-link-requires-clause-cpu c =
 
 pub load_link-link-requires-clause-may : goal.load_link-link-requires-clause-may
 load_link-link-requires-clause-may c =
-    let key = key_with c.args.kind c.args.name.now in
+    let key = key_with c.args.kind c.args.name in
     let x = c.args.seat.now.view in
     let y = c.loop-link.seat.view in
     let z = c.visit-number.new.seat.view in
@@ -68,7 +68,7 @@ load_link-link-requires-clause-may c =
 
 pub loop-link-smaller : goal.loop-link-smaller
 loop-link-smaller c =
-    let key = key_with c.args.kind c.args.name.now in
+    let key = key_with c.args.kind c.args.name in
     let x = c.args.seat.now.view in
     let y = c.loop-link.seat.view in
     let on : IsOn key x (c.loop-link.link - 1) c.loop-link.last y = on_slot key x y c.loop-link.link c.loop-link.last c.loop-link-test.true c.loop-link.invariant.at in
@@ -76,7 +76,7 @@ loop-link-smaller c =
 
 pub loop-link-preserved : goal.loop-link-preserved
 loop-link-preserved c =
-    let key = key_with c.args.kind c.args.name.now in
+    let key = key_with c.args.kind c.args.name in
     let x = c.args.seat.now.view in
     let y = c.loop-link.seat.view in
     let z = c.visit-number.new.seat.view in

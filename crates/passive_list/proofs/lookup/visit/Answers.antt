@@ -8,7 +8,7 @@ use Rattle.passive_list.proofs.lookup.visit.Goals as goal
 
 pub load_searched-found-requires-clause-may : goal.load_searched-found-requires-clause-may
 load_searched-found-requires-clause-may c =
-    let key = key_with c.args.kind c.args.name.now in
+    let key = key_with c.args.kind c.args.name in
     let from = c.requires.may.0 in
     let t = c.args.slot in
     let n = c.load_searched-number.result in
@@ -17,7 +17,7 @@ load_searched-found-requires-clause-may c =
 
 pub load_searched-high-requires-clause-may : goal.load_searched-high-requires-clause-may
 load_searched-high-requires-clause-may c =
-    let key = key_with c.args.kind c.args.name.now in
+    let key = key_with c.args.kind c.args.name in
     let from = c.requires.may.0 in
     let t = c.args.slot in
     let n = c.load_searched-number.result in
@@ -28,7 +28,7 @@ load_searched-high-requires-clause-may c =
 
 pub load_searched-low-requires-clause-may : goal.load_searched-low-requires-clause-may
 load_searched-low-requires-clause-may c =
-    let key = key_with c.args.kind c.args.name.now in
+    let key = key_with c.args.kind c.args.name in
     let from = c.requires.may.0 in
     let t = c.args.slot in
     let n = c.load_searched-number.result in
@@ -41,7 +41,7 @@ load_searched-low-requires-clause-may c =
 
 pub returns-clause-change : goal.returns-clause-change
 returns-clause-change c =
-    let key = key_with c.args.kind c.args.name.now in
+    let key = key_with c.args.kind c.args.name in
     let all = visited c.args.seat.now.view c.load_searched-number.new.seat.view c.load_searched-found.new.seat.view c.load_searched-high.new.seat.view c.load_searched-low.new.seat.view
     key c.args.slot c.load_searched-number.result c.load_searched-found.result c.load_searched-high.result c.load_searched-low.result
     c.load_searched-number.ensures.change c.load_searched-found.ensures.change c.load_searched-high.ensures.change c.load_searched-low.ensures.change in

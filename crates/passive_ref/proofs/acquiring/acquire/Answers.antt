@@ -1,12 +1,21 @@
 -- The last found entry is in the pass.
-use Rattle.std.proofs.Common.{◌∙◌, inl, refl, sym, subst}
+use Rattle.std.proofs.Common.{◌≡◌, inl, sym, subst, None}
 use Rattle.passive_list.specs.Cpus.{OnCpu}
-use Rattle.passive_ref.specs.Psrefs.{MayRefer}
+use Rattle.passive_list.proofs.Agreeing.{IsFoundAs, found_as, found_none}
+use Rattle.passive_ref.proofs.Copying.{acquired, not_acquired}
 use Rattle.passive_ref.proofs.acquiring.acquire.Goals as goal
+
+pub returns-then-found-eq0-clause-answer : goal.returns-then-found-eq0-clause-answer
+returns-then-found-eq0-clause-answer g c =
+    let none = subst (λ (o : OnCpu). o.view.found ≡ None) c.cpu.view_is (found_none _ _ c.cpu.invariant.found c.if-found-eq0.true) in
+    not_acquired c.args.cpu.now c.args.cpu.now none
 
 pub add-requires-clause-known : goal.add-requires-clause-known
 add-requires-clause-known g c =
-    let our = c.cpu.invariant.found in
-    let found = sym our.is ∙ c.in-Some.is in
-    subst (λ (o : OnCpu). MayRefer o.view c.in-Some.found.slot c.in-Some.found.number) c.cpu.view_is
-    (record { entry = c.in-Some.found; at = record { slot = refl; number = refl }; known = inl found; few = (our.seen c.in-Some.found found).0 })
+    let kept = subst (λ (o : OnCpu). IsFoundAs o.view c.cpu.inside.found) c.cpu.view_is (found_as _ _ c.cpu.invariant.found c.if-found-eq0.false) in
+    record { entry = kept.entry; at = record { slot = sym kept.slot; number = sym kept.number }; known = inl kept.found; few = kept.few }
+
+pub returns-clause-answer : goal.returns-clause-answer
+returns-clause-answer g c =
+    let kept = subst (λ (o : OnCpu). IsFoundAs o.view c.cpu.inside.found) c.cpu.view_is (found_as _ _ c.cpu.invariant.found c.if-found-eq0.false) in
+    acquired c.cpu.inside.found c.args.cpu.now _ _ kept c.add.ensures.answer

@@ -1,0 +1,47 @@
+/* What all contenders share: what a run is asked for, and how its threads are started and timed. */
+#ifndef BENCH_COMMON_H
+#define BENCH_COMMON_H
+
+#include <stdint.h>
+
+enum { MOST_THREADS = 8, MOST_ENTRIES = 32 };
+
+/* How many threads (1 to 8) make how many operations each, on a list of how many entries (1 to 32). */
+struct plan {
+    unsigned threads;
+    unsigned entries;
+    uint64_t operations;
+};
+
+/* Makes `count` operations on behalf of a thread, numbered from 0. It answers how many went as they should. */
+typedef uint64_t operations(unsigned thread, uint64_t count);
+
+/* A way to protect lookups. `begin` and `end` are called by each thread, around its operations.
+   Where it has no step for an operation, that one is NULL. */
+struct contender {
+    const char *name;
+    void (*open)(const struct plan *plan);
+    void (*begin)(unsigned thread);
+    void (*end)(unsigned thread);
+    operations *lookups;
+    operations *passives;
+    operations *locals;
+};
+
+extern const struct contender hand_padded;
+extern const struct contender hand_packed;
+extern const struct contender hand_pointed;
+extern const struct contender urcu_memb;
+extern const struct contender urcu_mb;
+extern const struct contender epoch;
+extern const struct contender rwlock;
+extern const struct contender mutex;
+
+/* Makes the operations in all threads of the plan at once. It answers the nanoseconds that one takes its thread: the time from the first
+   thread's first operation to the last thread's last, over the operations of one thread. An operation that went wrong ends the program. */
+double nanoseconds_each(const struct contender *contender, operations *make, const struct plan *plan);
+
+/* Ends the program, with status 1. */
+_Noreturn void fail(const char *what);
+
+#endif

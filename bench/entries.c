@@ -1,0 +1,42 @@
+#include "entries.h"
+
+struct key keys[MOST_ENTRIES];
+unsigned entries;
+_Atomic(struct node *) newest;
+
+static struct node nodes[MOST_ENTRIES];
+
+static uint64_t high_word(unsigned i)
+{
+    const unsigned char name[8] = { 'd', (unsigned char)('0' + i / 10), (unsigned char)('0' + i % 10) };
+    uint64_t word = 0;
+
+    for (size_t k = 0; k < sizeof name; k++)
+        word = word << 8 | name[k];
+    return word;
+}
+
+void make_keys(const struct plan *plan)
+{
+    entries = plan->entries;
+    for (unsigned i = 0; i < entries; i++)
+        keys[i] = (struct key){ .kind = DRIVER, .high = high_word(i), .low = 0 };
+}
+
+void make_list(const struct plan *plan)
+{
+    make_keys(plan);
+    atomic_store(&newest, NULL);
+    for (unsigned i = 0; i < entries; i++) {
+        nodes[i].number = i + 1;
+        nodes[i].key = keys[i];
+        nodes[i].value = i;
+        atomic_store(&nodes[i].next, atomic_load(&newest));
+        atomic_store(&newest, &nodes[i]);
+    }
+}
+
+void do_nothing(unsigned thread)
+{
+    (void)thread;
+}

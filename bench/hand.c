@@ -1,0 +1,208 @@
+/* The steps of our registry, written by hand over the same words, each a sequentially consistent atomic operation.
+   Padded: the words of a CPU are 80 words from the next CPU's, as ours are. Packed: each CPU's word lies beside the next CPU's. Pointed: padded,
+   in a block made at run time, whose pointer is loaded at each step, as that of our table is. */
+#include "entries.h"
+
+#include <stdlib.h>
+
+enum layout { PADDED, PACKED, POINTED };
+
+enum { HEAD = 648, NEXT = 656, RECORD = 657, WORDS = 912 };
+
+#define BIAS (UINT64_C(1) << 48)
+
+static _Alignas(64) _Atomic uint64_t words[WORDS];
+static _Atomic uint64_t *block;
+
+INLINE _Atomic uint64_t *word(enum layout layout, uint64_t place)
+{
+    return layout == POINTED ? &block[place] : &words[place];
+}
+
+/* The word `place` of a CPU: 0 the section, from 1 on its passive words by slot, from 33 on its count words by slot. */
+INLINE _Atomic uint64_t *own_word(enum layout layout, unsigned cpu, unsigned place)
+{
+    return word(layout, layout == PACKED ? 8 * place + cpu : 80 * cpu + place);
+}
+
+INLINE _Atomic uint64_t *passive_word(enum layout layout, unsigned cpu, unsigned slot)
+{
+    return own_word(layout, cpu, 1 + slot);
+}
+
+INLINE _Atomic uint64_t *count_word(enum layout layout, unsigned cpu, unsigned slot)
+{
+    return own_word(layout, cpu, 33 + slot);
+}
+
+INLINE void publish(enum layout layout, unsigned slot)
+{
+    _Atomic uint64_t *record = word(layout, RECORD + 8 * slot);
+
+    atomic_store(&record[0], slot + 1);
+    atomic_store(&record[1], keys[slot].kind);
+    atomic_store(&record[2], keys[slot].high);
+    atomic_store(&record[3], keys[slot].low);
+    atomic_store(&record[4], slot);
+    atomic_store(word(layout, NEXT + 8 * slot), atomic_load(word(layout, HEAD)));
+    atomic_store(word(layout, HEAD), slot + 1);
+}
+
+INLINE void open_words(enum layout layout, const struct plan *plan)
+{
+    make_keys(plan);
+    for (unsigned i = 0; i < WORDS; i++)
+        atomic_store(word(layout, i), 0);
+    for (unsigned cpu = 0; cpu < MOST_THREADS; cpu++)
+        for (unsigned slot = 0; slot < MOST_ENTRIES; slot++)
+            atomic_store(count_word(layout, cpu, slot), BIAS);
+    for (unsigned i = 0; i < entries; i++)
+        publish(layout, i);
+}
+
+/* The value of the entry with that key: five loads for each entry visited, and one more for the value. */
+INLINE uint64_t find(enum layout layout, const struct key *key)
+{
+    uint64_t link = atomic_load(word(layout, HEAD));
+
+    while (link != 0) {
+        uint64_t place = 8 * (link - 1);
+        uint64_t number = atomic_load(word(layout, RECORD + place));
+        uint64_t kind = atomic_load(word(layout, RECORD + place + 1));
+        uint64_t high = atomic_load(word(layout, RECORD + place + 2));
+        uint64_t low = atomic_load(word(layout, RECORD + place + 3));
+
+        (void)number;
+        if (is_key(key, kind, high, low))
+            return atomic_load(word(layout, RECORD + place + 4));
+        link = atomic_load(word(layout, NEXT + place));
+    }
+    return UINT64_MAX;
+}
+
+INLINE uint64_t look_up(enum layout layout, unsigned cpu, const struct key *key)
+{
+    uint64_t value;
+
+    atomic_fetch_add(own_word(layout, cpu, 0), 1);
+    value = find(layout, key);
+    atomic_fetch_add(own_word(layout, cpu, 0), 1);
+    return value;
+}
+
+/* Acquires and releases passive references to the entry in slot 0. */
+INLINE uint64_t passives(enum layout layout, unsigned cpu, uint64_t count)
+{
+    uint64_t right = 0;
+
+    for (uint64_t made = 0; made < count; made++) {
+        uint64_t before = atomic_fetch_add(passive_word(layout, cpu, 0), 1);
+        uint64_t held = atomic_fetch_sub(passive_word(layout, cpu, 0), 1);
+
+        right += held == before + 1;
+    }
+    return right;
+}
+
+/* Acquires and releases local references to the entry in slot 0. */
+INLINE uint64_t locals(enum layout layout, unsigned cpu, uint64_t count)
+{
+    uint64_t right = 0;
+
+    for (uint64_t made = 0; made < count; made++) {
+        uint64_t held = atomic_fetch_add(count_word(layout, cpu, 0), 1) + 1;
+
+        right += atomic_compare_exchange_strong(count_word(layout, cpu, 0), &held, held - 1);
+    }
+    return right;
+}
+
+static void padded_open(const struct plan *plan)
+{
+    open_words(PADDED, plan);
+}
+
+static uint64_t padded_look_up(unsigned cpu, const struct key *key)
+{
+    return look_up(PADDED, cpu, key);
+}
+
+static uint64_t padded_lookups(unsigned cpu, uint64_t count)
+{
+    return in_turn(cpu, count, padded_look_up);
+}
+
+static uint64_t padded_passives(unsigned cpu, uint64_t count)
+{
+    return passives(PADDED, cpu, count);
+}
+
+static uint64_t padded_locals(unsigned cpu, uint64_t count)
+{
+    return locals(PADDED, cpu, count);
+}
+
+const struct contender hand_padded = {
+    "hand-padded", padded_open, do_nothing, do_nothing, padded_lookups, padded_passives, padded_locals,
+};
+
+static void packed_open(const struct plan *plan)
+{
+    open_words(PACKED, plan);
+}
+
+static uint64_t packed_look_up(unsigned cpu, const struct key *key)
+{
+    return look_up(PACKED, cpu, key);
+}
+
+static uint64_t packed_lookups(unsigned cpu, uint64_t count)
+{
+    return in_turn(cpu, count, packed_look_up);
+}
+
+static uint64_t packed_passives(unsigned cpu, uint64_t count)
+{
+    return passives(PACKED, cpu, count);
+}
+
+static uint64_t packed_locals(unsigned cpu, uint64_t count)
+{
+    return locals(PACKED, cpu, count);
+}
+
+const struct contender hand_packed = {
+    "hand-packed", packed_open, do_nothing, do_nothing, packed_lookups, packed_passives, packed_locals,
+};
+
+static void pointed_open(const struct plan *plan)
+{
+    block = aligned_alloc(64, sizeof words);
+    if (block == NULL)
+        fail("out of memory");
+    open_words(POINTED, plan);
+}
+
+static uint64_t pointed_look_up(unsigned cpu, const struct key *key)
+{
+    return look_up(POINTED, cpu, key);
+}
+
+static uint64_t pointed_lookups(unsigned cpu, uint64_t count)
+{
+    return in_turn(cpu, count, pointed_look_up);
+}
+
+static uint64_t pointed_passives(unsigned cpu, uint64_t count)
+{
+    return passives(POINTED, cpu, count);
+}
+
+static uint64_t pointed_locals(unsigned cpu, uint64_t count)
+{
+    return locals(POINTED, cpu, count);
+}
+
+const struct contender hand_pointed = {
+    "hand-pointed", pointed_open, do_nothing, do_nothing, pointed_lookups, pointed_passives, pointed_locals,
+};

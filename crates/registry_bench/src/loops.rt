@@ -1,0 +1,146 @@
+//! The loops that are measured. Each answers how many operations it made before the first that went wrong.
+
+ghost use Rattle.std.specs.Prelude.{◌≡◌};
+
+use crate::plan::Operation;
+use cpu_words::{Domain, Words};
+use local_count::{LocalRef, acquire_local, try_release};
+use passive_core::{Kind, Name};
+use passive_list::{Cpu, enter, exit, find};
+use passive_ref::{acquire, release};
+use std::sync::Wait;
+
+/// Makes the operation `count` times. Each name is that of an entry whose value is the name's place; references are to the first.
+pub fn make<D: Domain, R: Wait>(
+    rt: &R,
+    words: &Words,
+    cpu: &mut Cpu<D>,
+    names: &[Name],
+    operation: Operation,
+    count: u32,
+) -> u32
+    requires words { (words.now.table ≡ D.table) × (words.now.settings ≡ D.settings) }
+{
+    match operation {
+        Operation::Lookup => look_up_all(words, cpu, names, count),
+        Operation::Passive => refer_passively(words, cpu, count),
+        Operation::Local => refer_locally(rt, words, cpu, count),
+    }
+}
+
+/// Begins a section in which the first entry was found, for what acquires references to it; lookups begin their own.
+pub fn prepare<D: Domain>(words: &Words, cpu: &mut Cpu<D>, names: &[Name], operation: Operation)
+    requires words { (words.now.table ≡ D.table) × (words.now.settings ≡ D.settings) }
+{
+    if operation == Operation::Lookup {
+        return;
+    }
+    if let Some(name) = names.first() {
+        begin_at(words, cpu, name);
+    }
+}
+
+/// Looks the names up in turn, each in a section of its own, until an answer is wrong.
+fn look_up_all<D: Domain>(words: &Words, cpu: &mut Cpu<D>, names: &[Name], count: u32) -> u32
+    requires words { (words.now.table ≡ D.table) × (words.now.settings ≡ D.settings) }
+{
+    let mut place = 0;
+    for made in 0..count {
+        if place >= names.len() || look_up(words, cpu, &names[place]) != Some(place as u64) {
+            return made;
+        }
+        place = if place + 1 < names.len() {
+            place + 1
+        } else {
+            0
+        };
+    }
+    count
+}
+
+/// Enters, finds the driver and exits. It answers the value found.
+fn look_up<D: Domain>(words: &Words, cpu: &mut Cpu<D>, name: &Name) -> Option<u64>
+    requires words { (words.now.table ≡ D.table) × (words.now.settings ≡ D.settings) }
+{
+    if enter(words, cpu).is_err() || !cpu.inside() {
+        return None;
+    }
+    let found = find(words, cpu, Kind::Driver, name);
+    leave(words, cpu);
+    found.map(|entry| entry.rec.value)
+}
+
+/// Acquires and releases passive references to the last found entry, until one is refused.
+fn refer_passively<D: Domain>(words: &Words, cpu: &mut Cpu<D>, count: u32) -> u32
+    requires words { (words.now.table ≡ D.table) × (words.now.settings ≡ D.settings) }
+{
+    for made in 0..count {
+        if !passive_pair(words, cpu) {
+            return made;
+        }
+    }
+    count
+}
+
+fn passive_pair<D: Domain>(words: &Words, cpu: &mut Cpu<D>) -> bool
+    requires words { (words.now.table ≡ D.table) × (words.now.settings ≡ D.settings) }
+{
+    let Ok(reference) = acquire(words, cpu) else {
+        return false;
+    };
+    match release(words, cpu, reference) {
+        Ok(()) => true,
+        Err((_, reference)) => {
+            reference.forget();
+            false
+        }
+    }
+}
+
+/// Acquires and releases local references to the last found entry, until one is refused.
+fn refer_locally<D: Domain, R: Wait>(rt: &R, words: &Words, cpu: &mut Cpu<D>, count: u32) -> u32
+    requires words { (words.now.table ≡ D.table) × (words.now.settings ≡ D.settings) }
+{
+    for made in 0..count {
+        if !local_pair(rt, words, cpu) {
+            return made;
+        }
+    }
+    count
+}
+
+fn local_pair<D: Domain, R: Wait>(rt: &R, words: &Words, cpu: &mut Cpu<D>) -> bool
+    requires words { (words.now.table ≡ D.table) × (words.now.settings ≡ D.settings) }
+{
+    let Ok(reference) = acquire_local(words, cpu) else {
+        return false;
+    };
+    match try_release(words, cpu, reference) {
+        Ok(()) => true,
+        Err(reference) => hold(rt, reference),
+    }
+}
+
+/// Holds a local reference for ever: it must be spent, and comes back only from a drain, which nobody begins here.
+fn hold<D: Domain, R: Wait>(rt: &R, _reference: LocalRef<D>) -> bool {
+    for _ in rt.forever() {}
+    unreachable!()
+}
+
+/// Begins a section and finds the entry in it, so that references to it can be acquired.
+fn begin_at<D: Domain>(words: &Words, cpu: &mut Cpu<D>, name: &Name)
+    requires words { (words.now.table ≡ D.table) × (words.now.settings ≡ D.settings) }
+{
+    if enter(words, cpu).is_ok() && cpu.inside() {
+        find(words, cpu, Kind::Driver, name);
+    }
+}
+
+/// Ends the section, where there is one.
+pub fn leave<D: Domain>(words: &Words, cpu: &mut Cpu<D>)
+    requires words { (words.now.table ≡ D.table) × (words.now.settings ≡ D.settings) }
+{
+    if cpu.inside() {
+        exit(words, cpu);
+    }
+}
