@@ -1,5 +1,5 @@
 -- What the code of an audit makes, whatever state the views are of.
-use Rattle.std.proofs.Common.{◌≡◌, ◌≢◌, inl, inr, ⊎_elim, ℕ, zero, suc, ◌+◌, ◌^◌, ◌<◌, ◌≤◌, ℤ, pos, ◌+ℤ◌, List, [], ◌∷◌, ◌++◌, length, get_or, map, take, cond, Bool, true, false, refl, sym, ap, ◌∙◌, subst, arith, add-one}
+use Rattle.std.proofs.Common.{◌≡◌, ◌≢◌, inl, inr, ⊎_elim, ℕ, zero, suc, ◌+◌, ◌^◌, ◌<◌, ◌≤◌, ℤ, pos, ◌+ℤ◌, List, [], ◌∷◌, ◌++◌, length, get_or, map, take, cond, false, refl, sym, ap, ◌∙◌, subst, arith, add-one}
 use Rattle.std.specs.List.{All}
 use Rattle.std.proofs.lemmas.Bool.{eq-eqb, ne_eqb}
 use Rattle.std.proofs.lemmas.Int.{ints}
@@ -19,7 +19,7 @@ use Rattle.passive_core.specs.declared.state.Slot.{Slot}
 use Rattle.passive_core.specs.declared.state.Slot.TheVariants.{Vacant, Live, Retired}
 use Rattle.passive_core.specs.Audits.{Tally, less_bias, sum_of, tally_shown}
 use Rattle.passive_core.specs.Invariant.{IsIn}
-use Rattle.passive_core.specs.State.{State, bias, slot_at, total_at}
+use Rattle.passive_core.specs.State.{bias, slot_at, total_at}
 use Rattle.passive_core.proofs.Fit.{ranges}
 use Rattle.passive_core.proofs.History.{at_within}
 use Rattle.passive_core.proofs.Occupied.{attached_in}
@@ -35,7 +35,7 @@ use Rattle.passive_list.proofs.Rows.{live_in, retired_in}
 use Rattle.local_count.specs.References.{net_by}
 use Rattle.local_count.proofs.Agreeing.{place_count}
 use Rattle.local_count.proofs.Balanced.{none_at_rest, total_near}
-use Rattle.name_registry.specs.Auditing.{AreAllCpus, Listed, Occupies, each_at, each_below, is_collected, listed_at, local_by, local_met, locals_met, net_met, net_of, place_of, places_below, tallies_met, tally_met}
+use Rattle.name_registry.specs.Auditing.{AreAllCpus, Listed, Occupies, each_at, each_below, is_collected, local_met, locals_met, net_met, net_of, place_of, places_below, tallies_met, tally_met}
 
 -- The CPUs
 

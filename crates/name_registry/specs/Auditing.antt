@@ -1,5 +1,5 @@
 -- What an audit answers (localcount(9)): by the counts of all CPUs and the totals, and that it is the tally.
-use Rattle.std.specs.Prelude.{◌≡◌, ℕ, zero, suc, ◌+◌, ℤ, pos, ◌+ℤ◌, ◌-ℤ◌, ◌==◌, Bool, ◌&&◌, List, [], ◌∷◌, ◌++◌, map, length, sum_by, if◌then◌else◌, slice_index_or}
+use Rattle.std.specs.Prelude.{◌≡◌, ℕ, zero, suc, ◌+◌, ℤ, pos, ◌+ℤ◌, ◌-ℤ◌, ◌==◌, Bool, ◌&&◌, List, [], ◌∷◌, ◌++◌, map, length, sum_by, if◌then◌else◌}
 use mathlib.Core.Option.{some}
 use lib.ListN.{get_elem?}
 use Rattle.passive_core.specs.declared.balance.Balance.{Balance}
@@ -10,8 +10,6 @@ use Rattle.passive_core.specs.Audits.{Tally, less_bias, sum_of}
 use Rattle.passive_core.specs.Invariant.{IsIn}
 use Rattle.passive_core.specs.Slots.{is_retired}
 use Rattle.passive_core.specs.State.{State, slot_at, mark_at, total_at}
-use Rattle.cpu_words.specs.declared.view.CpuView.{CpuView}
-use Rattle.cpu_words.specs.declared.view.KeeperView.{KeeperView}
 use Rattle.cpu_words.specs.Rule.{Good}
 use Rattle.cpu_words.specs.Views.{number_at, CpuShown, KeeperShown}
 use Rattle.passive_list.specs.Cpus.{OnCpu}

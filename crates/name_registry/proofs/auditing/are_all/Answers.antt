@@ -1,5 +1,5 @@
 -- Whether the slice is all CPUs.
-use Rattle.std.proofs.Common.{◌≡◌, ◌∙◌, sym, arith, rules}
+use Rattle.std.proofs.Common.{◌∙◌, sym, arith, rules}
 use Rattle.std.proofs.lemmas.Bool.{false≢true}
 use Rattle.atomic_table.proofs.Lists.{at_index}
 use Rattle.name_registry.proofs.Audits.{cpu_at, ids_more}

@@ -1,5 +1,5 @@
 -- One CPU more.
-use Rattle.std.proofs.Common.{◌≡◌, ◌^◌, ◌∙◌, ◌++◌, ◌∷◌, [], ◌≤ℤ◌, neg_ℤ, pos, ap, arith, List, ℤ}
+use Rattle.std.proofs.Common.{◌≡◌, ◌^◌, ◌∙◌, ◌++◌, ◌∷◌, [], ◌≤ℤ◌, neg_ℤ, pos, ap, arith, ℤ}
 use Rattle.std.proofs.lemmas.Int.{ints}
 use Rattle.std.proofs.lemmas.List.Elements.{All-push, All-same}
 use Rattle.name_registry.specs.Auditing.{local_met}
