@@ -173,10 +173,10 @@ counts_met k xs cpus slots list all is = all_met (λ (y : Tally). length y.local
 pub tallies_none : (k : OnKeeper) (xs : List OnCpu) (t : ℕ) (x : Slot) (old new : List Balance) → x ≡ slot_at k.slots t → x ≡ Vacant → new ≡ old → map tally_shown old ≡ tallies_met k xs t → map tally_shown new ≡ tallies_met k xs (t + 1)
 tallies_none k xs t x old new at is same so_far = each_none (tally_met k xs) k.slots t x (map tally_shown new) at is (ap (map tally_shown) same ∙ so_far)
 
-pub tallies_more : (k : OnKeeper) (xs : List OnCpu) (t : ℕ) (x : Slot) (e : Entry) (old new : List Balance) (b : Balance) → x ≡ slot_at k.slots t → IsIn e x → new ≡ old ++ b ∷ [] → map tally_shown old ≡ tallies_met k xs t → tally_shown b ≡ tally_met k xs e.number t
+pub tallies_more : (k : OnKeeper) (xs : List OnCpu) (t : ℕ) (x : Slot) (e : Entry) (old pushed new : List Balance) (b : Balance) → x ≡ slot_at k.slots t → IsIn e x → new ≡ pushed → pushed ≡ old ++ b ∷ [] → map tally_shown old ≡ tallies_met k xs t → tally_shown b ≡ tally_met k xs e.number t
     → map tally_shown new ≡ tallies_met k xs (t + 1)
-tallies_more k xs t x e old new b at is pushed so_far one =
-    ap (map tally_shown) pushed ∙ (map-append tally_shown old (b ∷ []) ∙ each_more (tally_met k xs) k.slots t x e (map tally_shown old) (tally_shown b) at is so_far one)
+tallies_more k xs t x e old pushed new b at is same more so_far one =
+    ap (map tally_shown) (same ∙ more) ∙ (map-append tally_shown old (b ∷ []) ∙ each_more (tally_met k xs) k.slots t x e (map tally_shown old) (tally_shown b) at is so_far one)
 
 -- the CPUs before one have their numbers, and it has its own
 pub ids_more : (xs : List OnCpu) (c : ℕ) (y : OnCpu) → ((k : ℕ) (x : OnCpu) → k < c → get_elem? xs k ≡ some x → x.view.id ≡ k) → y ≡ get_or xs c y → y.view.id ≡ c

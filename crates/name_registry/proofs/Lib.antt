@@ -3,10 +3,10 @@ pub mod Audits
 pub mod Balanced
 pub mod Detached
 pub mod Heard
+pub mod Rows
+pub mod Worked
+pub mod Seen
+pub mod Placed
+pub mod Tallies
 pub mod Opened
 pub mod Owned
-pub mod Placed
-pub mod Rows
-pub mod Seen
-pub mod Tallies
-pub mod Worked

@@ -26,3 +26,6 @@ pub use blank::Blank;
 pub use detaching::detach_in;
 pub use law::free_interlock;
 pub use registry::Registry;
+
+#[cfg(test)]
+mod thread_tests;

@@ -33,3 +33,5 @@ pub use vacating::vacate;
 
 #[cfg(test)]
 mod tests;
+#[cfg(test)]
+mod thread_tests;

@@ -3,6 +3,7 @@ ghost use Rattle.passive_core.specs.Limits.{are_fit};
 ghost use Rattle.cpu_words.specs.Views.{new_cpu};
 
 mod rows;
+pub(crate) mod table;
 
 use crate::{Cpu, enter, exit, find, hear, tell};
 use cpu_words::{CpuSeat, Domain, Words};

@@ -1,58 +1,20 @@
 //! Rows of commands, each on a table of its own: what lookups find, and what looks see.
 
-ghost use Rattle.std.specs.Prelude.{◌≡◌, IsTrue, IfOk, replicate};
-ghost use Rattle.passive_core.specs.declared.entry.Kind.TheVariants.{Driver};
+ghost use Rattle.std.specs.Prelude.{◌≡◌, replicate};
 ghost use Rattle.passive_core.specs.declared.state.Slot.TheVariants.{Vacant};
-ghost use Rattle.passive_core.specs.Names.{is_lawful};
 ghost use Rattle.cpu_words.specs.Opening.{keeper_with};
-ghost use Rattle.cpu_words.specs.Views.{new_cpu};
-ghost use Rattle.passive_list.specs.declared.tests.rows.TheConstants.{SETTINGS};
+ghost use Rattle.passive_list.specs.declared.tests.table.TheConstants.{SETTINGS};
 
+use super::table::{SETTINGS, Table, driver, opened};
 use crate::{
     Cpu, Keeper, SlotState, enter, exit, find, glance, hear, hear_keeper, look, publish, retire,
     snapshot, tell, tell_keeper,
 };
-use cpu_words::{CpuSeat, Domain, KeeperSeat, Words};
-use passive_core::{Entry, Kind, Name, NameFault, Record, Settings};
-use std::alloc::Global;
+use cpu_words::{Domain, Words};
+use passive_core::{Entry, Kind, Name};
 use std::marker::Brand;
 use std::process::Abort;
 use std::test::*;
-
-const SETTINGS: Settings = Settings {
-    cpus: 2,
-    slots: 2,
-    change_limit: 10,
-    section_limit: 10,
-    passive_limit: 1,
-    count_limit: 1,
-};
-
-/// A new table, before it is named.
-#[derive(Drop)]
-struct Table {
-    words: Words,
-    keeper: KeeperSeat,
-    first: CpuSeat,
-    second: CpuSeat,
-    ghost settings: { words.settings ≡ SETTINGS },
-    ghost with_keeper: { (keeper.table ≡ words.table) × (keeper.view ≡ keeper_with SETTINGS 2) },
-    ghost with_first: { (first.table ≡ words.table) × (first.view ≡ new_cpu SETTINGS 0) },
-    ghost with_second: { (second.table ≡ words.table) × (second.view ≡ new_cpu SETTINGS 1) },
-}
-
-fn opened(alloc: Global) -> Result<Table, Fail> {
-    let (words, keeper, mut seats) = Words::new(alloc, SETTINGS)?;
-    match (seats.pop(), seats.pop()) {
-        (Some(second), Some(first)) => Ok(Table {
-            words,
-            keeper,
-            first,
-            second,
-        }),
-        _ => Err(Fail::from("two seats")),
-    }
-}
 
 /// A registry of two CPUs and two slots.
 #[derive(Drop)]
@@ -105,16 +67,6 @@ impl<D: Domain> Registry<D> {
         let first = look(&self.words, &mut self.keeper, 0, 0);
         [first, look(&self.words, &mut self.keeper, 0, 1)]
     }
-}
-
-fn driver(name: &[u8], value: u64) -> Result<Record, NameFault>
-    ensures { IfOk result (λ rec. IsTrue (is_lawful rec.name) × (rec.kind ≡ Driver)) }
-{
-    Ok(Record {
-        kind: Kind::Driver,
-        name: Name::parse(name)?,
-        value,
-    })
 }
 
 #[test]
@@ -191,8 +143,10 @@ fn begun_after_the_unlinking<D: Domain, R: Abort>(rt: &R, table: Table) -> Resul
     let entry = publish(&registry.words, &mut registry.keeper, 0, rec);
     assert_eq!(rt; retire(&registry.words, &mut registry.keeper, 0), entry);
     assert_eq!(rt; registry.keeper.slot(0), SlotState::Retired(entry));
-    enter(&registry.words, &mut registry.first)?;
-    assert_eq!(rt; registry.find(rt, &rec.name), None);
+    enter(&registry.words, &mut registry.second)?;
+    assert!(rt; registry.second.inside());
+    let found = find(&registry.words, &mut registry.second, rec.kind, &rec.name);
+    assert_eq!(rt; found, None);
     assert_eq!(rt; registry.looks(rt), [true, true]);
     Ok(())
 }

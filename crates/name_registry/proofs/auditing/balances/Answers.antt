@@ -1,5 +1,5 @@
 -- One slot more.
-use Rattle.std.proofs.Common.{◌≡◌, ◌++◌, ◌∷◌, [], ap, ◌∙◌, Vec, Global}
+use Rattle.std.proofs.Common.{ap, Vec, Global}
 use Rattle.passive_core.specs.declared.balance.Balance.{Balance}
 use Rattle.name_registry.proofs.Audits.{tallies_more, tallies_none}
 use Rattle.name_registry.proofs.auditing.balances.Goals.{in-Vacant, in-Live+in_ok-balance-in-Live+in_ok-push-in-Live}
@@ -16,7 +16,6 @@ loop-t-preserved g c =
     elim c.match-slot.branch [
       | in-Vacant w ↦ tallies_none k xs t x old new c.slot.ensures w.in-Vacant.is (ap (λ (v : Vec Balance Global). v.items) w.list-is) c.loop-t.invariant
       | in-Live+in_ok-balance-in-Live+in_ok-push-in-Live w ↦
-          let b = w.in_ok-balance-in-Live.field-0 in
-          let pushed : new ≡ old ++ b ∷ [] = ap (λ (v : Vec Balance Global). v.items) w.list-is ∙ w.in_ok-push-in-Live.ensures.items in
-          tallies_more k xs t x w.in-Live.entry old new b c.slot.ensures w.in-Live.is pushed c.loop-t.invariant w.in_ok-balance-in-Live.ensures
+          tallies_more k xs t x w.in-Live.entry old w.push.new.self.items new w.in_ok-balance-in-Live.field-0 c.slot.ensures w.in-Live.is (ap (λ (v : Vec Balance Global). v.items) w.list-is) w.in_ok-push-in-Live.ensures.items
+          c.loop-t.invariant w.in_ok-balance-in-Live.ensures
     ]
