@@ -1,5 +1,5 @@
 -- What a caller keeps of a call through the lock, whatever is known of the keeper.
-use Rattle.std.proofs.Common.{◌≡◌, ◌∙◌, ◌⊎◌, ⊎_elim, inl, inr, ℕ, zero, suc, ◌<◌, Bool, true, false, if◌then◌else◌, List, length, Option, Some, None, Result, Ok, Err, IfOk, IfErr, IfSome, refl, sym, ap, subst, arith}
+use Rattle.std.proofs.Common.{◌≡◌, ◌⊎◌, ⊎_elim, inl, inr, ℕ, zero, suc, ◌<◌, Bool, true, false, if◌then◌else◌, List, length, Option, Some, None, Result, Ok, Err, IfOk, IfErr, IfSome, refl, sym, ap, subst, arith}
 use Rattle.passive_core.specs.declared.entry.Change.{Change}
 use Rattle.passive_core.specs.declared.entry.Entry.{Entry}
 use Rattle.passive_core.specs.declared.entry.Record.{Record}
@@ -19,7 +19,7 @@ use Rattle.passive_list.specs.Notes.{HasHeardOn}
 use Rattle.name_registry.specs.Advancing.{MayWork, Meets}
 use Rattle.name_registry.specs.Attaching.{attach_answer, attach_iface_answer, entry_in, has_room, plain_slot, slot_for, slot_with_room, HasAttachedFor, HasAttachedIfaceFor}
 use Rattle.name_registry.specs.Detaching.{IsDetachAnswer, IsDetachRefusal, HasDetachedFor}
-use Rattle.name_registry.specs.Locking.{MayAttach, IsAttachRefusal, IsDetachRefusedTo, IsStageOf, IsObstacle, IsDestroyRefusal}
+use Rattle.name_registry.specs.Locking.{MayAttach, IsAttachRefusal, IsDetachRefusedTo, IsStageOf, IsDestroyRefusal}
 use Rattle.name_registry.specs.Meeting.{is_inside, HasLearned, HasSeenAttach, HasSeenDetach}
 
 pub learned : (note : List Change) (x y : OnCpu) → HasHeardOn note x y → HasLearned x y

@@ -28,4 +28,6 @@ pub use law::free_interlock;
 pub use registry::Registry;
 
 #[cfg(test)]
+mod tests;
+#[cfg(test)]
 mod thread_tests;
