@@ -1,6 +1,6 @@
 //! Acquiring a local reference (localcount(9)).
 
-ghost use Rattle.std.specs.Prelude.{◌≡◌, ◌↔◌, Some, None, IfOk, IfErr, IsErrOf};
+ghost use Rattle.std.specs.Prelude.{◌≡◌, ◌↔◌, ◌⊎◌, Some, None, IfOk, IfErr, IsErrOf};
 ghost use Rattle.passive_core.specs.declared.entry.Entry.{Entry};
 ghost use Rattle.local_count.specs.References.{HasAcquired, IsFull};
 
@@ -21,6 +21,7 @@ pub fn acquire_local<D: Domain>(words: &Words, cpu: &mut Cpu<D>) -> Result<Local
     ensures refused { IfErr result (λ _. cpu.new ≡ cpu.old) }
     ensures nothing { IsErrOf result Refusal.NothingFound ↔ cpu.old.view.found ≡ None }
     ensures full { IsErrOf result Refusal.LocalFull ↔ (e : Entry) × (cpu.old.view.found ≡ Some e) × IsFull cpu.old.view e }
+    ensures no_other { IfErr result (λ refusal. (refusal ≡ Refusal.NothingFound) ⊎ (refusal ≡ Refusal.LocalFull)) }
 {
     let found = cpu.found;
     if found.number == 0 {

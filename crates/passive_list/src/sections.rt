@@ -1,6 +1,6 @@
 //! Read sections (pserialize(9)). Sections nest: only the outermost enter and exit step on the words.
 
-ghost use Rattle.std.specs.Prelude.{◌≡◌, ◌≢◌, ◌↔◌, None, IfOk, IfErr, IsErrOf};
+ghost use Rattle.std.specs.Prelude.{◌≡◌, ◌≢◌, ◌↔◌, ◌⊎◌, None, IfOk, IfErr, IsErrOf};
 ghost use Rattle.cpu_words.specs.Sections.{HasEntered};
 ghost use Rattle.passive_list.specs.Sections.{HasEnteredOn, HasExitedOn, AreSpent};
 
@@ -20,6 +20,7 @@ pub fn enter<D: Domain>(words: &Words, cpu: &mut Cpu<D>) -> Result<(), Refusal>
     ensures refused { IfErr result (λ _. cpu.new ≡ cpu.old) }
     ensures deep { IsErrOf result Refusal.TooDeep ↔ cpu.old.depth ≡ 255 }
     ensures spent { IsErrOf result Refusal.SectionsSpent ↔ (cpu.old.depth ≡ 0) × AreSpent cpu.old.view }
+    ensures no_other { IfErr result (λ refusal. (refusal ≡ Refusal.TooDeep) ⊎ (refusal ≡ Refusal.SectionsSpent)) }
 {
     if cpu.depth == DEEPEST {
         return Err(Refusal::TooDeep);
