@@ -4,11 +4,8 @@ ghost use Rattle.std.specs.Prelude.{◌≡◌};
 ghost use Rattle.local_count.specs.References.{IsOurReference};
 
 use cpu_words::{Domain, ReferenceSeat, Words, steps};
-use passive_core::{Kind, Name, Record};
+use passive_core::{Kind, Record, record_from};
 use std::marker::{Model, PhantomData};
-
-/// The kind's word in an interface's record.
-const IFACE: u64 = 1;
 
 /// A local reference (localcount(9)) to an entry of the table that D names. While it lives, its entry keeps its slot. It moves between
 /// threads, and can't be dropped: it is spent by a release. To a contract it is what its seat knows: its entry, and the CPU whose count
@@ -60,17 +57,6 @@ impl<D: Domain> LocalRef<D> {
         let high = steps::load_local(words, &mut self.seat, self.slot, 2);
         let low = steps::load_local(words, &mut self.seat, self.slot, 3);
         let value = steps::load_local(words, &mut self.seat, self.slot, 4);
-        let Some(name) = Name::from_words(high, low) else {
-            unreachable!()
-        };
-        Record {
-            kind: if kind == IFACE {
-                Kind::Iface
-            } else {
-                Kind::Driver
-            },
-            name,
-            value,
-        }
+        record_from(kind, high, low, value)
     }
 }

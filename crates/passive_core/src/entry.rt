@@ -1,5 +1,10 @@
 //! What a registry keeps: records, entries, and the changes of its history.
 
+ghost use Rattle.std.specs.Prelude.{◌≡◌, true};
+ghost use Rattle.passive_core.specs.Names.{are_name_words};
+ghost use Rattle.passive_core.specs.Slots.{kind_word};
+ghost use Rattle.passive_core.specs.declared.entry.Record.{Record};
+
 use crate::name::Name;
 
 /// What an entry is: a network interface or a device driver.
@@ -40,4 +45,17 @@ pub enum Change {
     Attach(Entry),
     /// The entry with this number was unlinked.
     Detach(u64),
+}
+
+/// The record whose four words are these, as a slot has them: the kind's word (1 for an interface, 2 for a driver), the name's two, the
+/// value.
+pub fn record_from(kind: u64, high: u64, low: u64, value: u64) -> Record
+    requires { are_name_words high low ≡ true }
+    ensures { (r : Record) → kind ≡ kind_word r.kind → high ≡ r.name.high → low ≡ r.name.low → value ≡ r.value → result ≡ r }
+{
+    let kind = if kind == 1 { Kind::Iface } else { Kind::Driver };
+    match Name::from_words(high, low) {
+        Some(name) => Record { kind, name, value },
+        None => unreachable!(),
+    }
 }

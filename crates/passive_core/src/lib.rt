@@ -16,7 +16,7 @@ mod stage;
 mod state;
 
 pub use balance::Balance;
-pub use entry::{Change, Entry, Kind, Record};
+pub use entry::{Change, Entry, Kind, Record, record_from};
 pub use event::{Counted, Event, RecordOf, Reply, Short, StepFault};
 pub use laws::{
     balance_at_rest, every_run_keeps, grace_law, headline, lawful_answers, safe_reuse, worked_run,

@@ -1,17 +1,14 @@
 //! Reading (psref(9)): the record of an entry that this CPU refers to, by four loads.
 
-ghost use Rattle.std.specs.Prelude.{◌≡◌, ◌<◌, true};
-ghost use Rattle.passive_core.specs.declared.entry.Record.{Record};
-ghost use Rattle.passive_core.specs.Names.{are_name_words};
+ghost use Rattle.std.specs.Prelude.{◌≡◌, ◌<◌};
 ghost use Rattle.passive_core.specs.Passives.{Answers};
-ghost use Rattle.passive_core.specs.Slots.{kind_word};
 ghost use Rattle.cpu_words.specs.Passives.{IsWordOf, IsNamed};
 ghost use Rattle.passive_ref.specs.Psrefs.{IsHeldAt, IsRead, why_unusable};
 
 use crate::holding::usable_slot;
 use crate::psref::Psref;
 use cpu_words::{Domain, Words, steps};
-use passive_core::{Kind, Name, Record, Refusal};
+use passive_core::{Record, Refusal, record_from};
 use passive_list::Cpu;
 
 /// The record of the entry that the reference is to, which stays while the reference is held (psref(9)). It needs no section, and
@@ -51,16 +48,4 @@ fn load_word<D: Domain>(words: &Words, cpu: &mut Cpu<D>, slot: u8, number: u64, 
     ensures same { cpu.new ≡ cpu.old }
 {
     steps::load_passive(words, &mut cpu.seat, cpu.id, slot, number, k)
-}
-
-/// The record that has these words.
-fn record_from(kind: u64, high: u64, low: u64, value: u64) -> Record
-    requires { are_name_words high low ≡ true }
-    ensures { (r : Record) → kind ≡ kind_word r.kind → high ≡ r.name.high → low ≡ r.name.low → value ≡ r.value → result ≡ r }
-{
-    let kind = if kind == 1 { Kind::Iface } else { Kind::Driver };
-    match Name::from_words(high, low) {
-        Some(name) => Record { kind, name, value },
-        None => unreachable!(),
-    }
 }

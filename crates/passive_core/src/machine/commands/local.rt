@@ -8,9 +8,8 @@ ghost use Rattle.passive_core.specs.Passives.{IsRecordOf};
 ghost use Rattle.passive_core.specs.Slots.{at_rest, slot_of};
 ghost use Rattle.passive_core.specs.State.{bias, found_at, local_at};
 
-use crate::entry::Record;
+use crate::entry::{Record, record_from};
 use crate::event::{Event, RecordOf, Reply};
-use crate::machine::commands::passive::record_from;
 use crate::machine::{BIAS, Core};
 use crate::refusal::Refusal;
 

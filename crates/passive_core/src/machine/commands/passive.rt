@@ -5,16 +5,13 @@ ghost use Rattle.passive_core.specs.Commands.{all_seated, may_act};
 ghost use Rattle.passive_core.specs.Events.{is_idle, is_number, load_record, taken};
 ghost use Rattle.passive_core.specs.Invariant.{Holds};
 ghost use Rattle.passive_core.specs.State.{found_at};
-ghost use Rattle.passive_core.specs.Slots.{at_rest, kind_word, slot_of};
-ghost use Rattle.passive_core.specs.Names.{are_name_words};
-ghost use Rattle.passive_core.specs.declared.entry.Record.{Record};
+ghost use Rattle.passive_core.specs.Slots.{at_rest, slot_of};
 ghost use Rattle.passive_core.specs.declared.event.Reply.TheVariants.{Word};
 ghost use Rattle.passive_core.specs.Passives.{passive_of, acquired, refusal_of, copied, Answers, IsOneMore, IsOneLess, IsRecordOf, IsWordLoad, after_acquire, after_release, after_read, with_one_more, with_one_less};
 
-use crate::entry::{Kind, Record};
+use crate::entry::{Record, record_from};
 use crate::event::{Event, RecordOf, Reply};
 use crate::machine::Core;
-use crate::name::Name;
 use crate::psref::CorePsref;
 use crate::refusal::Refusal;
 
@@ -223,17 +220,5 @@ impl Core {
         } else {
             Some(Refusal::NotHeld)
         }
-    }
-}
-
-/// The record that has these words.
-pub(crate) fn record_from(kind: u64, high: u64, low: u64, value: u64) -> Record
-    requires { are_name_words high low ≡ true }
-    ensures { (r : Record) → kind ≡ kind_word r.kind → high ≡ r.name.high → low ≡ r.name.low → value ≡ r.value → result ≡ r }
-{
-    let kind = if kind == 1 { Kind::Iface } else { Kind::Driver };
-    match Name::from_words(high, low) {
-        Some(name) => Record { kind, name, value },
-        None => unreachable!(),
     }
 }
