@@ -1,32 +1,29 @@
 -- What looks, collections and the end of a slot's use tell and leave.
-use Rattle.std.proofs.Common.{◌≡◌, ℕ, zero, suc, ◌+◌, ◌-◌, ◌*◌, ◌%◌, ◌<◌, ◌≤◌, ◌⊎◌, inl, inr, ⊎_elim, List, [], ◌∷◌, length, get_or, set, take, Option, Some, None, Bool, true, false, not, ◌&&◌, ◌||◌, ◌==◌, Result, Ok, refl, sym, ap, subst, ◌∙◌, arith, nat_lt, get_or-set_same, get_or-set_other, add-zero, IsSome}
+use Rattle.std.proofs.Common.{◌≡◌, ℕ, zero, suc, ◌+◌, ◌-◌, ◌%◌, ◌<◌, ◌≤◌, inr, ⊎_elim, List, [], ◌∷◌, length, get_or, set, take, Option, Some, None, Bool, true, false, not, ◌&&◌, ◌||◌, ◌==◌, Result, Ok, refl, sym, ap, subst, ◌∙◌, arith, nat_lt, get_or-set_same, get_or-set_other, add-zero, IsSome}
 use Rattle.std.specs.Prelude.{is_some, is_none}
 use Rattle.std.specs.List.{list_all}
-use Rattle.std.proofs.lemmas.Bool.{and_parts, cases_lt, cases_eq, eqb-true, eq-eqb, lt-ltb}
+use Rattle.std.proofs.lemmas.Bool.{cases_lt, cases_eq, eqb-true, eq-eqb, lt-ltb}
 use Rattle.std.proofs.lemmas.Option.{same_Some}
 use Rattle.passive_core.specs.declared.entry.Entry.{Entry}
-use Rattle.passive_core.specs.declared.event.Event.{Event}
-use Rattle.passive_core.specs.declared.event.Event.TheVariants.{Look, PassiveLook, Collect, TotalAdd, KeptSub, Vacate}
+use Rattle.passive_core.specs.declared.event.Event.TheVariants.{Look, PassiveLook, Collect, TotalAdd, KeptSub}
 use Rattle.passive_core.specs.declared.event.Reply.{Reply}
 use Rattle.passive_core.specs.declared.event.Reply.TheVariants.{Done}
-use Rattle.passive_core.specs.declared.state.Due.{Due}
-use Rattle.passive_core.specs.declared.state.Due.TheVariants.{Rest, Snapshots, Adding}
+use Rattle.passive_core.specs.declared.state.Due.TheVariants.{Rest, Snapshots}
 use Rattle.passive_core.specs.declared.state.Mark.{Mark}
 use Rattle.passive_core.specs.declared.state.Slot.{Slot}
 use Rattle.passive_core.specs.declared.state.Slot.TheVariants.{Vacant, Live, Retired}
 use Rattle.passive_core.specs.declared.refusal.Refusal.{Refusal}
 use Rattle.passive_core.specs.declared.stage.Stage.{Stage}
 use Rattle.passive_core.specs.declared.stage.Stage.TheVariants.{Grace, Passive, Local, Freed}
-use Rattle.passive_core.specs.Advancing.{AdvanceLeaves, AllClear, AllCollected, AllPassed, Empties, Gathers, Grows, HoldersAreOpen, LeavesMarks, MarksGrow, MarksPass, Passes, SameElsewhere, StageLeaves, advance_answer, given_up, has_passive, is_open_since, is_retired_as, is_snapshot, least_below, or_next, plain_stage, retired_slot, stage_of}
+use Rattle.passive_core.specs.Advancing.{AdvanceLeaves, AllClear, AllCollected, AllPassed, Empties, Gathers, Grows, HoldersAreOpen, LeavesMarks, MarksGrow, MarksPass, Passes, SameElsewhere, StageLeaves, advance_answer, given_up, has_passive, is_open_since, is_retired_as, is_snapshot, least_below, plain_stage, retired_slot, stage_of}
 use Rattle.passive_core.specs.Commands.{all_seated, may_act}
-use Rattle.passive_core.specs.Events.{Outcome, guard, taken, with_some, step, looked, cleared, collected, after_look, after_look_passive, after_collect, after_total, after_kept_sub, after_vacate, may_collect, may_examine, may_look_passive, may_vacate, is_drainable, is_drained, is_iface_slot, keeps_rightly}
-use Rattle.passive_core.specs.History.{EndsAt, MayHold}
-use Rattle.passive_core.specs.Invariant.{Holds, IsIn, one_if, held_at}
-use Rattle.passive_core.specs.Slots.{are_clear, are_collected, at_rest, has_changed, has_number, have_passed, is_clear, is_collected, is_empty, is_even, is_iface, is_passed, is_retired, slot_of}
+use Rattle.passive_core.specs.Events.{Outcome, guard, taken, step, looked, cleared, collected, after_look, after_look_passive, after_collect, after_total, after_kept_sub, after_vacate, may_collect, may_examine, may_look_passive, may_vacate, is_drainable, is_drained, is_iface_slot, keeps_rightly}
+use Rattle.passive_core.specs.Invariant.{Holds, one_if, held_at}
+use Rattle.passive_core.specs.Slots.{are_clear, are_collected, at_rest, has_changed, has_number, have_passed, is_clear, is_collected, is_empty, is_even, is_passed, is_retired, slot_of}
 use Rattle.passive_core.specs.State.{State, bias, section_at, begin_at, count_at, hand_at, kept_at, mark_at, no_mark, passive_at, search_at, slot_at, total_at, with_cell}
 use Rattle.passive_core.proofs.Fit.{ranges}
 use Rattle.passive_core.proofs.Marking.{row_cases}
-use Rattle.passive_core.proofs.Occupied.{at_rest_tells, in_within, is_retired_tells, number_in, has_it, one_number, slot_found, slot_has}
+use Rattle.passive_core.proofs.Occupied.{at_rest_tells, in_within, is_retired_tells, number_in, has_it, one_number, slot_found}
 use Rattle.passive_core.proofs.Bounds.{driver_positive}
 use Rattle.passive_core.proofs.CountBounds.{all_collected}
 use Rattle.passive_core.proofs.Drivers.{kept_found}

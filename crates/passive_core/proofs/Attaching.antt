@@ -1,6 +1,6 @@
 -- Attaches: the words that are stored, the slot that is taken, and why the entry may be linked.
-use Rattle.std.proofs.Common.{◌≡◌, ℕ, zero, suc, ◌+◌, ◌-◌, ◌<◌, ◌≤◌, ⊎_elim, List, [], ◌∷◌, ◌++◌, length, get_or, set, take, drop, replicate, get_or-set_same, length-append, Option, Some, None, Bool, true, false, not, ◌&&◌, ◌==◌, is_none, nat_lt, nat_le, nat_eq, IsTrue, refl, sym, add-one, ap, subst, ◌∙◌, arith, lt-ltb, eq-eqb}
-use Rattle.std.specs.Prelude.{if◌then◌else◌, position, Result, Ok, Err}
+use Rattle.std.proofs.Common.{◌≡◌, ℕ, zero, suc, ◌+◌, ◌-◌, ◌<◌, ◌≤◌, ⊎_elim, List, [], ◌∷◌, ◌++◌, length, get_or, set, take, drop, replicate, get_or-set_same, Option, Some, None, Bool, true, false, not, ◌&&◌, ◌==◌, is_none, nat_lt, IsTrue, refl, sym, add-one, ap, subst, ◌∙◌, arith, lt-ltb, eq-eqb}
+use Rattle.std.specs.Prelude.{if◌then◌else◌, Result, Ok, Err}
 use Rattle.std.specs.List.{list_all, zip}
 use Rattle.std.proofs.Math.Seq.{drop-cons}
 use Rattle.std.proofs.lemmas.Bool.{and_from, and_parts, cases_lt, le-ltb}
@@ -29,7 +29,7 @@ use Rattle.passive_core.specs.History.{key_of}
 use Rattle.passive_core.specs.Invariant.{Holds}
 use Rattle.passive_core.specs.Names.{are_name_words, is_lawful}
 use Rattle.passive_core.specs.Slots.{at_rest, is_iface, is_taken, is_vacant, slot_of}
-use Rattle.passive_core.specs.State.{State, bias, kept_at, local_at, no_words, row_at, slot_at, total_at, with_cell}
+use Rattle.passive_core.specs.State.{State, bias, kept_at, local_at, no_words, row_at, slot_at, total_at}
 use Rattle.passive_core.proofs.CountKeeps.{keep_keeps}
 use Rattle.passive_core.proofs.Fit.{ranges}
 use Rattle.passive_core.proofs.ListKeeps.{may_write_tells}

@@ -1,5 +1,5 @@
 -- What an audit rests on.
-use Rattle.std.proofs.Common.{◌≡◌, ℕ, zero, suc, ◌+◌, ◌-◌, ◌*◌, ◌^◌, ◌<◌, ◌≤◌, ◌⊎◌, inl, inr, ⊎_elim, ℤ, pos, ◌+ℤ◌, ◌-ℤ◌, ◌≤ℤ◌, neg_ℤ, List, [], ◌∷◌, ◌++◌, length, get_or, map, take, fold, refl, sym, ap, subst, ◌∙◌, add-one, arith, sum_by, Bool, true, ne_eqb}
+use Rattle.std.proofs.Common.{◌≡◌, ℕ, zero, suc, ◌+◌, ◌*◌, ◌^◌, ◌<◌, ◌≤◌, ◌⊎◌, inl, inr, ⊎_elim, ℤ, pos, ◌+ℤ◌, ◌≤ℤ◌, neg_ℤ, List, [], ◌∷◌, ◌++◌, length, get_or, map, take, fold, refl, sym, ap, subst, ◌∙◌, add-one, arith, sum_by, Bool, true, ne_eqb}
 use Rattle.std.specs.Prelude.{if◌then◌else◌}
 use Rattle.std.specs.List.{All}
 use Rattle.std.proofs.lemmas.Int.{ints}
@@ -8,14 +8,12 @@ use Rattle.std.proofs.lemmas.List.Elements.{All-cons, All-head, All-nil, All-tai
 use Rattle.std.proofs.lemmas.List.Sums.{sum_by-cons}
 use Rattle.passive_core.specs.declared.balance.Balance.{Balance}
 use Rattle.passive_core.specs.declared.entry.Entry.{Entry}
-use Rattle.passive_core.specs.declared.state.Due.{Due}
-use Rattle.passive_core.specs.declared.state.Due.TheVariants.{Rest}
 use Rattle.passive_core.specs.declared.state.Slot.{Slot}
 use Rattle.passive_core.specs.declared.state.Slot.TheVariants.{Vacant, Live, Retired}
 use Rattle.passive_core.specs.State.{State, bias, count_at, mark_at, slot_at, total_at}
 use Rattle.passive_core.specs.Slots.{at_rest}
 use Rattle.passive_core.specs.Audits.{IsHeldRightly, Tally, audit_of, less_bias, local_of, locals_at, sum_of, tallies_at, tallies_below, tally_of, tally_shown}
-use Rattle.passive_core.specs.Invariant.{Holds, IsCounting, IsIn, adding_at, held_at, is_adding_at, itself, one_if_used}
+use Rattle.passive_core.specs.Invariant.{Holds, IsCounting, IsIn, adding_at, is_adding_at, itself, one_if_used}
 use Rattle.passive_core.proofs.CountBounds.{total_at_rest, word_ceiling, word_floor}
 use Rattle.passive_core.proofs.CountKeeps.{fit_of}
 use Rattle.passive_core.proofs.Counts.{counting_cases}

@@ -1,7 +1,7 @@
 -- The live entry with a key is the one that a lookup of it gives now; and the row of marks, while its snapshots are taken.
-use Rattle.std.proofs.Common.{◌≡◌, ℕ, zero, suc, ◌+◌, ◌-◌, ◌<◌, ◌≤◌, ◌⊎◌, inl, inr, ⊎_elim, List, [], ◌∷◌, ◌++◌, length, get_or, set, map, take, replicate, Option, Some, None, Bool, true, false, ◌&&◌, nat_eq, nat_lt, refl, sym, ap, subst, ◌∙◌, arith, eqb-true, get_or-set_same}
+use Rattle.std.proofs.Common.{◌≡◌, ℕ, suc, ◌+◌, ◌-◌, ◌<◌, inl, inr, List, [], ◌∷◌, ◌++◌, length, get_or, set, map, take, replicate, Option, Some, None, Bool, true, false, nat_eq, nat_lt, refl, sym, ap, subst, ◌∙◌, arith, eqb-true, get_or-set_same}
 use Rattle.std.specs.Prelude.{if◌then◌else◌, position}
-use Rattle.std.proofs.lemmas.Bool.{and_parts, cases_lt, eq-eqb, lt-ltb, le-ltb}
+use Rattle.std.proofs.lemmas.Bool.{and_parts, eq-eqb, lt-ltb, le-ltb}
 use Rattle.std.proofs.lemmas.List.{append_assoc, length-map, length-take-le, map_more, set-set, set-get_or, set_at, take_all}
 use Rattle.std.proofs.lemmas.List.Quantifiers.{position-Some}
 use Rattle.passive_core.specs.declared.entry.Entry.{Entry}
@@ -16,9 +16,9 @@ use Rattle.passive_core.specs.declared.state.Mark.{Mark}
 use Rattle.passive_core.specs.declared.state.Slot.{Slot}
 use Rattle.passive_core.specs.declared.state.Slot.TheVariants.{Vacant, Live, Retired}
 use Rattle.passive_core.specs.Commands.{all_seated, may_act}
-use Rattle.passive_core.specs.Detaching.{IsLookupNow, detached, snapped, snapshot_row}
-use Rattle.passive_core.specs.Events.{after_seeing, after_snapshot, after_unpublish, due_after, guard, is_idle, is_snapshot_due, retiring, snapshot_mark, taken, unlinking}
-use Rattle.passive_core.specs.History.{key_of, IsLiveAt}
+use Rattle.passive_core.specs.Detaching.{IsLookupNow, detached, snapped}
+use Rattle.passive_core.specs.Events.{after_seeing, after_snapshot, after_unpublish, guard, is_idle, is_snapshot_due, retiring, snapshot_mark, taken, unlinking}
+use Rattle.passive_core.specs.History.{key_of}
 use Rattle.passive_core.specs.Invariant.{DueHolds, Holds}
 use Rattle.passive_core.specs.Slots.{at_rest, is_live_as, slot_before, same_key, same_kind, same_name}
 use Rattle.passive_core.specs.State.{State, no_mark, section_at, slot_at}

@@ -1,5 +1,5 @@
 -- Safe reuse over runs, and drivers that outlive their interfaces.
-use Rattle.std.proofs.Common.{◌≡◌, ℕ, ◌+◌, ◌≤◌, ◌⊎◌, ⊎_elim, List, [], ◌∷◌, ◌++◌, length, Some, sym, ap, subst, ◌∙◌, arith}
+use Rattle.std.proofs.Common.{◌≡◌, ℕ, ◌≤◌, ⊎_elim, List, [], ◌∷◌, ◌++◌, length, Some, sym, ap, subst, ◌∙◌, arith}
 use Rattle.passive_core.specs.declared.entry.Change.{Change}
 use Rattle.passive_core.specs.declared.event.Event.{Event}
 use Rattle.passive_core.specs.State.{State, opening, kept_at}

@@ -1,7 +1,7 @@
 -- Sections that were seen to have ended, and looks for all retired entries.
-use Rattle.std.proofs.Common.{◌≡◌, ℕ, zero, suc, ◌+◌, ◌%◌, ◌<◌, ◌≤◌, inr, ⊎_elim, List, [], length, get_or, set, Option, Some, None, Bool, true, false, not, ◌&&◌, ◌||◌, ◌==◌, refl, sym, ap, subst, ◌∙◌, arith, get_or-set_same, get_or-set_other}
+use Rattle.std.proofs.Common.{◌≡◌, ℕ, zero, suc, ◌+◌, ◌%◌, ◌<◌, ◌≤◌, inr, ⊎_elim, List, length, get_or, set, Option, Some, None, Bool, true, false, not, ◌&&◌, ◌||◌, ◌==◌, refl, sym, ap, subst, ◌∙◌, arith, get_or-set_same, get_or-set_other}
 use Rattle.std.specs.Prelude.{is_some}
-use Rattle.std.proofs.lemmas.Bool.{cases_lt, cases_eq, eq-eqb, ne_eqb}
+use Rattle.std.proofs.lemmas.Bool.{cases_lt, cases_eq, eq-eqb}
 use Rattle.std.proofs.lemmas.Option.{none-some, same_Some}
 use Rattle.passive_core.specs.declared.entry.Entry.{Entry}
 use Rattle.passive_core.specs.declared.state.Mark.{Mark}
@@ -11,11 +11,11 @@ use Rattle.passive_core.specs.Advancing.{AllPassed, MarksPass, Passes, is_open_s
 use Rattle.passive_core.specs.Events.{is_inside}
 use Rattle.passive_core.specs.Invariant.{Holds}
 use Rattle.passive_core.specs.Performing.{AllOutside, OnlyPasses, is_out, retired_number}
-use Rattle.passive_core.specs.Slots.{is_even, is_retired}
+use Rattle.passive_core.specs.Slots.{is_retired}
 use Rattle.passive_core.specs.State.{State, begin_at, mark_at, no_mark, section_at, slot_at}
-use Rattle.passive_core.proofs.Advancing.{marks_pass_none, none_below, only_marks, passes_none, retired_slot_tells}
+use Rattle.passive_core.proofs.Advancing.{none_below, only_marks, passes_none, retired_slot_tells}
 use Rattle.passive_core.proofs.Numbers.{position_passes}
-use Rattle.passive_core.proofs.Occupied.{in_within, is_retired_tells, one_number}
+use Rattle.passive_core.proofs.Occupied.{in_within, one_number}
 
 -- A word that hasn't changed is out of its section just where the CPU is outside.
 

@@ -1,8 +1,8 @@
 -- How far the destruction of a retired entry has come, in plain terms, and what the keeper's work on it leaves.
-use Rattle.std.specs.Prelude.{◌≡◌, ℕ, zero, suc, ◌+◌, ◌-◌, ◌<◌, ◌==◌, nat_lt, List, [], position, Option, Some, None, Bool, true, false, ◌&&◌, Result, Ok, Err, if◌then◌else◌, slice_index_or, slice_set}
+use Rattle.std.specs.Prelude.{◌≡◌, ℕ, zero, suc, ◌+◌, ◌<◌, ◌==◌, nat_lt, List, [], position, Option, Some, None, Bool, true, false, ◌&&◌, Result, Ok, Err, if◌then◌else◌, slice_index_or, slice_set}
 use Rattle.passive_core.specs.declared.entry.Entry.{Entry}
 use Rattle.passive_core.specs.declared.refusal.Refusal.{Refusal}
-use Rattle.passive_core.specs.declared.refusal.Refusal.TheVariants.{Inside, NotRetired, StillHeld, Waiting}
+use Rattle.passive_core.specs.declared.refusal.Refusal.TheVariants.{Inside, NotRetired, StillHeld}
 use Rattle.passive_core.specs.declared.stage.Stage.{Stage}
 use Rattle.passive_core.specs.declared.stage.Stage.TheVariants.{Grace, Passive, Local, Freed}
 use Rattle.passive_core.specs.declared.state.Mark.{Mark}

@@ -1,5 +1,5 @@
 -- What a detach answers, and what it leaves.
-use Rattle.std.specs.Prelude.{◌≡◌, ℕ, ◌-◌, List, ◌++◌, map, length, replicate, Option, Some, None, Result, Ok, Err, Bool, true, false, slice_set}
+use Rattle.std.specs.Prelude.{◌≡◌, ℕ, ◌-◌, List, ◌++◌, map, length, replicate, Option, Some, None, Result, Ok, Err, true, false, slice_set}
 use Rattle.passive_core.specs.declared.entry.Entry.{Entry}
 use Rattle.passive_core.specs.declared.refusal.Refusal.{Refusal}
 use Rattle.passive_core.specs.declared.refusal.Refusal.TheVariants.{NoMemory, Inside, NotFound}

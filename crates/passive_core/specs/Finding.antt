@@ -1,5 +1,5 @@
 -- What a lookup leaves.
-use Rattle.std.specs.Prelude.{ℕ, List, Option, Some, None, length, slice_set}
+use Rattle.std.specs.Prelude.{ℕ, Option, length, slice_set}
 use Rattle.passive_core.specs.declared.entry.Entry.{Entry}
 use Rattle.passive_core.specs.declared.state.Place.{Place}
 use Rattle.passive_core.specs.declared.state.Place.TheVariants.{AtHead, AtNext, AtNumber, AtKind, AtHigh, AtLow, AtValue}

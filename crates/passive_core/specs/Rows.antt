@@ -1,5 +1,5 @@
 -- Two worked rows, event by event: a search along the frozen link of an unlinked entry, and a reference given back while its count is collected.
-use Rattle.std.specs.Prelude.{◌≡◌, ℕ, ◌+◌, List, ◌∷◌, [], ◌++◌, replicate, Option, Some, None}
+use Rattle.std.specs.Prelude.{◌≡◌, ℕ, List, ◌∷◌, [], ◌++◌, replicate, Option, Some, None}
 use Rattle.passive_core.specs.declared.entry.Kind.TheVariants.{Driver}
 use Rattle.passive_core.specs.declared.entry.Entry.{Entry}
 use Rattle.passive_core.specs.declared.name.Name.{Name}

@@ -1,12 +1,10 @@
-use Rattle.std.proofs.Common.{◌≡◌, ℕ, Option, Some, Bool, true, refl, sym, ap, subst, ◌∙◌, Ok}
-use Rattle.passive_core.specs.declared.entry.Entry.{Entry}
-use Rattle.passive_core.specs.declared.state.Slot.{Slot}
+use Rattle.std.proofs.Common.{◌≡◌, true, sym, ap, subst, ◌∙◌, Ok}
 use Rattle.passive_core.specs.declared.state.Slot.TheVariants.{Retired}
 use Rattle.passive_core.specs.declared.stage.Stage.{Stage}
-use Rattle.passive_core.specs.Advancing.{HoldersAreOpen, plain_stage, retired_slot, stage_in, StageLeaves}
-use Rattle.passive_core.specs.Commands.{all_seated, may_act}
+use Rattle.passive_core.specs.Advancing.{plain_stage, stage_in}
+use Rattle.passive_core.specs.Commands.{may_act}
 use Rattle.passive_core.specs.Invariant.{Holds}
-use Rattle.passive_core.specs.Slots.{at_rest, is_retired}
+use Rattle.passive_core.specs.Slots.{is_retired}
 use Rattle.passive_core.specs.State.{State, slot_at}
 use Rattle.passive_core.proofs.Advancing.{acts_seated, holders_are_open, retired_slot_tells, stage_acts}
 use Rattle.passive_core.proofs.machine.Core.advance.Goals as goal

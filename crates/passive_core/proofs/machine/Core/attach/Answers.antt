@@ -1,4 +1,4 @@
-use Rattle.std.proofs.Common.{◌≡◌, true, ap, subst, sym, ◌∙◌}
+use Rattle.std.proofs.Common.{◌≡◌, true, subst, sym, ◌∙◌}
 use Rattle.passive_core.specs.Commands.{may_act}
 use Rattle.passive_core.specs.Invariant.{Holds}
 use Rattle.passive_core.proofs.Attaching.{call_acts, call_restored, driver_links}

@@ -1,9 +1,6 @@
-use Rattle.std.proofs.Common.{◌≡◌, None, true, ap, subst, sym, ◌∙◌}
-use Rattle.passive_core.specs.Attaching.{keeping, restored}
-use Rattle.passive_core.specs.Commands.{all_seated, may_act}
-use Rattle.passive_core.specs.Events.{may_write}
+use Rattle.std.proofs.Common.{◌≡◌, true, subst, sym, ◌∙◌}
+use Rattle.passive_core.specs.Commands.{may_act}
 use Rattle.passive_core.specs.Invariant.{Holds}
-use Rattle.passive_core.specs.State.{State, kept_at}
 use Rattle.passive_core.proofs.Attaching.{PlugSteps, call_acts, iface_links, plug_restored, plug_words_restored}
 use Rattle.passive_core.proofs.machine.Core.attach_iface.Goals as goal
 

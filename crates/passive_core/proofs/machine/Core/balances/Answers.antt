@@ -1,4 +1,4 @@
-use Rattle.std.proofs.Common.{◌≡◌, ◌∙◌, ap, arith, subst, sym}
+use Rattle.std.proofs.Common.{◌≡◌, ◌∙◌, ap, arith, subst}
 use Rattle.passive_core.specs.State.{State}
 use Rattle.passive_core.specs.Audits.{tallies_below}
 use Rattle.passive_core.specs.Invariant.{Holds}

@@ -1,4 +1,4 @@
-use Rattle.std.proofs.Common.{◌≡◌, ◌∙◌, ap, subst, sym}
+use Rattle.std.proofs.Common.{◌∙◌, ap, subst, sym}
 use Rattle.passive_core.specs.Invariant.{Holds}
 use Rattle.passive_core.specs.Events.{step}
 use Rattle.passive_core.specs.Locals.{is_counting, with_count_less}

@@ -1,7 +1,4 @@
-use Rattle.std.proofs.Common.{◌≡◌, ℕ, Bool, true, false, refl, sym, ap, subst, ◌∙◌, Ok}
-use Rattle.passive_core.specs.declared.stage.Stage.{Stage}
-use Rattle.passive_core.specs.Advancing.{AdvanceLeaves, advance_answer}
-use Rattle.passive_core.specs.State.{State}
+use Rattle.std.proofs.Common.{sym, ◌∙◌}
 use Rattle.passive_core.proofs.Advancing.{advance_again, answer_again, not_freed, same_Ok}
 use Rattle.passive_core.proofs.machine.Core.destroy.Goals as goal
 

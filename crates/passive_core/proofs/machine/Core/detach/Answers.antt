@@ -1,10 +1,5 @@
-use Rattle.std.proofs.Common.{◌≡◌, ℕ, Bool, true, refl, sym, ap, subst, ◌∙◌}
-use Rattle.passive_core.specs.Commands.{all_seated, may_act}
-use Rattle.passive_core.specs.Detaching.{detached}
+use Rattle.std.proofs.Common.{refl, subst}
 use Rattle.passive_core.specs.Invariant.{Holds}
-use Rattle.passive_core.specs.State.{State, slot_at}
-use Rattle.passive_core.specs.declared.entry.Entry.{Entry}
-use Rattle.passive_core.specs.declared.state.Slot.TheVariants.{Live}
 use Rattle.passive_core.proofs.Acting.{acting_idle}
 use Rattle.passive_core.proofs.Detaching.{detached_is, detached_ready, detached_settings, snapped_idle, snapped_told, unlinked_blank}
 use Rattle.passive_core.proofs.machine.Core.detach.Goals as goal

@@ -1,6 +1,6 @@
-use Rattle.std.proofs.Common.{◌≡◌, ℕ, ◌<◌, length, Option, Some, None, Bool, true, false, ◌&&◌, refl, sym, ap, subst, ◌∙◌, arith}
+use Rattle.std.proofs.Common.{◌≡◌, ℕ, ◌<◌, length, Option, Some, None, Bool, true, ◌&&◌, refl, sym, ap, subst, ◌∙◌, arith}
 use Rattle.passive_core.specs.Commands.{all_seated, may_act}
-use Rattle.passive_core.specs.Events.{Outcome, guard, taken, after_seek, is_inside, is_idle, may_seek}
+use Rattle.passive_core.specs.Events.{guard, taken, after_seek, is_inside, may_seek}
 use Rattle.passive_core.specs.Finding.{after_find, next_load}
 use Rattle.passive_core.specs.Invariant.{Holds}
 use Rattle.passive_core.specs.State.{State, search_at}

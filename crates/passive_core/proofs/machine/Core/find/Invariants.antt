@@ -1,4 +1,3 @@
-use Rattle.std.proofs.Common.{◌≡◌}
 use Rattle.passive_core.specs.Commands.{all_seated}
 use Rattle.passive_core.specs.State.{search_at}
 use Rattle.passive_core.proofs.Finding.{Walks, left}

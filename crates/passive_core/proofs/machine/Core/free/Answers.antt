@@ -1,16 +1,9 @@
-use Rattle.std.proofs.Common.{◌≡◌, ℕ, ◌+◌, ◌-◌, ◌<◌, ◌≤◌, Bool, true, false, not, refl, sym, ap, subst, ◌∙◌, arith, List, Option, Some, None, IsSome, IsTrue}
-use Rattle.passive_core.specs.declared.entry.Entry.{Entry}
-use Rattle.passive_core.specs.declared.state.Mark.{Mark}
-use Rattle.passive_core.specs.declared.state.Slot.{Slot}
-use Rattle.passive_core.specs.declared.state.Slot.TheVariants.{Vacant, Retired}
+use Rattle.std.proofs.Common.{◌≡◌, sym, subst, ◌∙◌, Some, None}
 use Rattle.passive_core.specs.declared.event.Reply.TheVariants.{Done}
-use Rattle.passive_core.specs.declared.stage.Stage.{Stage}
-use Rattle.passive_core.specs.declared.stage.Stage.TheVariants.{Grace, Passive, Local, Freed}
-use Rattle.passive_core.specs.Advancing.{AllClear, AllCollected, AllPassed, Empties, Gathers, MarksGrow, has_passive, is_open_since}
-use Rattle.passive_core.specs.Events.{after_collect, after_kept_sub, after_look, after_look_passive, after_total, after_vacate, cleared, collected, is_drained, looked, may_collect, may_look_passive, may_vacate, step}
-use Rattle.passive_core.specs.Invariant.{Holds, held_at}
-use Rattle.passive_core.specs.State.{State, bias, count_at, kept_at, mark_at, passive_at, section_at, slot_at, total_at}
-use Rattle.passive_core.specs.declared.event.Event.TheVariants.{KeptSub, Vacate}
+use Rattle.passive_core.specs.Events.{after_kept_sub, after_vacate, may_vacate, step}
+use Rattle.passive_core.specs.Invariant.{Holds}
+use Rattle.passive_core.specs.State.{kept_at}
+use Rattle.passive_core.specs.declared.event.Event.TheVariants.{KeptSub}
 use Rattle.passive_core.proofs.Advancing.{allowed, gave_up, gives_up, guard_some, guard_state, kept_slot, left_by, none_is, some_is, vacated, vacates}
 use Rattle.passive_core.proofs.machine.Core.free.Goals as goal
 

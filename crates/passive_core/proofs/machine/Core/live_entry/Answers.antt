@@ -1,10 +1,6 @@
-use Rattle.std.proofs.Common.{◌≡◌, ℕ, Option, Some, None, sym, ap, subst, ◌∙◌}
+use Rattle.std.proofs.Common.{sym, subst, ◌∙◌}
 use Rattle.passive_core.specs.Detaching.{IsLookupNow}
 use Rattle.passive_core.specs.Invariant.{Holds}
-use Rattle.passive_core.specs.State.{State, slot_at}
-use Rattle.passive_core.specs.declared.entry.Entry.{Entry}
-use Rattle.passive_core.specs.declared.state.Slot.{Slot}
-use Rattle.passive_core.specs.declared.state.Slot.TheVariants.{Live}
 use Rattle.passive_core.proofs.Detaching.{place_is, place_live, no_place_lookup}
 use Rattle.passive_core.proofs.machine.Core.live_entry.Goals as goal
 

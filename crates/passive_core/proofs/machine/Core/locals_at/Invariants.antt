@@ -1,4 +1,4 @@
-use Rattle.std.proofs.Common.{◌≡◌, List, [], map, take, slice_index_or}
+use Rattle.std.proofs.Common.{◌≡◌, [], map, take, slice_index_or}
 use Rattle.passive_core.specs.Audits.{local_of}
 use Rattle.passive_core.proofs.machine.Core.locals_at.Given as goal
 

@@ -1,6 +1,6 @@
-use Rattle.std.proofs.Common.{◌≡◌, ℕ, ◌<◌, ◌≤◌, Bool, true, false, not, refl, sym, ap, subst, ◌∙◌, arith, Some}
+use Rattle.std.proofs.Common.{◌≡◌, ◌<◌, ◌≤◌, true, false, sym, subst, ◌∙◌, arith}
 use borrow.Author.Count.{below_more}
-use Rattle.passive_core.specs.Advancing.{is_open_since, MarksPass}
+use Rattle.passive_core.specs.Advancing.{is_open_since}
 use Rattle.passive_core.specs.State.{State, mark_at}
 use Rattle.passive_core.proofs.Advancing.{least_is, none_below, not_false, not_true, only_marks, open_same, marks_pass_more}
 use Rattle.passive_core.proofs.machine.Core.look_at_all.Goals as goal

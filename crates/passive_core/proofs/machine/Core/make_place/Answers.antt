@@ -1,11 +1,6 @@
-use Rattle.std.proofs.Common.{◌≡◌, ◌∙◌, Err, List, None, Ok, OnOk, Option, Result, ap, length, position, subst, sym}
-use Rattle.passive_core.specs.State.{State}
-use Rattle.passive_core.specs.Events.{is_free, least_id}
-use Rattle.passive_core.specs.Invariant.{Holds}
-use Rattle.passive_core.specs.Locals.{free_added}
+use Rattle.std.proofs.Common.{◌∙◌, ap, position, sym}
+use Rattle.passive_core.specs.Events.{is_free}
 use Rattle.passive_core.specs.Shown.{shown}
-use Rattle.passive_core.specs.declared.event.StepFault.{StepFault}
-use Rattle.passive_core.specs.declared.state.LocalPlace.{LocalPlace}
 use Rattle.passive_core.proofs.Locals.{grown_holds, grown_room}
 use Rattle.passive_core.proofs.machine.Core.make_place.Goals as goal
 

@@ -1,15 +1,8 @@
-use Rattle.std.proofs.Common.{◌≡◌, ℕ, suc, ◌+◌, ◌<◌, ◌≤◌, Bool, true, false, not, refl, sym, ap, subst, ◌∙◌, arith, List, length, get_or, slice_index_or, slice_set, length-set, Option, Some, None, Ok, Err, Result}
+use Rattle.std.proofs.Common.{◌≡◌, sym, ap, subst, ◌∙◌, Some}
 use Rattle.std.proofs.lemmas.Option.{none-some, same_Some}
-use Rattle.passive_core.specs.declared.entry.Entry.{Entry}
-use Rattle.passive_core.specs.declared.refusal.Refusal.{Refusal}
-use Rattle.passive_core.specs.declared.state.Slot.{Slot}
-use Rattle.passive_core.specs.Advancing.{AllPassed, MarksPass, is_open_since, least_below, retired_slot}
-use Rattle.passive_core.specs.Commands.{all_seated, may_act}
-use Rattle.passive_core.specs.Events.{is_inside}
+use Rattle.passive_core.specs.Advancing.{AllPassed, retired_slot}
 use Rattle.passive_core.specs.Invariant.{Holds}
-use Rattle.passive_core.specs.Performing.{AllOutside, AreSeen, AreWords, OnlyPasses, is_out, perform_answer, retired_number, waiting_for}
-use Rattle.passive_core.specs.Slots.{at_rest, is_retired}
-use Rattle.passive_core.specs.State.{State, mark_at, section_at, slot_at}
+use Rattle.passive_core.specs.Slots.{is_retired}
 use Rattle.passive_core.proofs.Advancing.{retired_slot_tells}
 use Rattle.passive_core.proofs.Performing.{none_open, only_one, retired_found}
 use Rattle.passive_core.proofs.machine.Core.pass_entry.Goals as goal

@@ -1,9 +1,9 @@
-use Rattle.std.proofs.Common.{◌≡◌, ℕ, ◌<◌, Bool, true, not, refl, sym, ap, subst, ◌∙◌, List}
+use Rattle.std.proofs.Common.{◌≡◌, sym, ap, subst, ◌∙◌}
 use Rattle.passive_core.specs.declared.state.Mark.{Mark}
-use Rattle.passive_core.specs.Advancing.{is_open_since, MarksPass}
+use Rattle.passive_core.specs.Advancing.{MarksPass}
 use Rattle.passive_core.specs.Events.{after_look, looked}
 use Rattle.passive_core.specs.Invariant.{Holds}
-use Rattle.passive_core.specs.State.{State, section_at, slot_at, mark_at}
+use Rattle.passive_core.specs.State.{State, section_at, mark_at}
 use Rattle.passive_core.proofs.Advancing.{look_is, look_marks, look_passes, mark_there, passed_left}
 use Rattle.passive_core.proofs.machine.Core.passes.Goals as goal
 

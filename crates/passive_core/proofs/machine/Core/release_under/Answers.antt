@@ -1,5 +1,4 @@
-use Rattle.std.proofs.Common.{◌≡◌, ◌∙◌, IsSome, Option, Some, None, ap, refl, subst, sym}
-use Rattle.std.proofs.lemmas.Option.{none-some}
+use Rattle.std.proofs.Common.{◌∙◌, refl, subst, sym}
 use Rattle.passive_core.specs.Invariant.{Holds}
 use Rattle.passive_core.specs.Events.{step}
 use Rattle.passive_core.specs.declared.event.Event.TheVariants.{JoinKeeper}

@@ -1,4 +1,4 @@
-use Rattle.std.proofs.Common.{◌≡◌, subst}
+use Rattle.std.proofs.Common.{subst}
 use Rattle.passive_core.specs.Invariant.{Holds}
 use Rattle.passive_core.proofs.Entering.{seated_acts, seated_idle}
 use Rattle.passive_core.proofs.machine.Core.seat_for.Goals as goal

@@ -1,4 +1,4 @@
-use Rattle.std.proofs.Common.{◌≡◌, ◌<◌, ◌≤◌, true, sym, ap, subst, ◌∙◌, arith}
+use Rattle.std.proofs.Common.{◌<◌, sym, ap, subst, ◌∙◌, arith}
 use Rattle.passive_core.specs.Shown.{shown}
 use Rattle.passive_core.specs.State.{State}
 use Rattle.passive_core.specs.Events.{is_inside}

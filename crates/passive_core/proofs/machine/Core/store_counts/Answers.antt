@@ -1,4 +1,4 @@
-use Rattle.std.proofs.Common.{◌≡◌, ◌<◌, true, ap, subst, sym, ◌∙◌, arith}
+use Rattle.std.proofs.Common.{◌<◌, subst, arith}
 use Rattle.passive_core.specs.State.{State}
 use Rattle.passive_core.specs.Invariant.{Holds}
 use Rattle.passive_core.proofs.Attaching.{counts_stored}

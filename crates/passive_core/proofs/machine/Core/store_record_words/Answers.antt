@@ -1,8 +1,7 @@
-use Rattle.std.proofs.Common.{◌≡◌, ap, subst, ◌∙◌}
-use Rattle.passive_core.specs.State.{State, row_at}
-use Rattle.passive_core.specs.Events.{after_row_store, with_word}
+use Rattle.passive_core.specs.State.{row_at}
+use Rattle.passive_core.specs.Events.{with_word}
 use Rattle.passive_core.specs.Slots.{kind_word}
-use Rattle.passive_core.proofs.Attaching.{row_first, row_next, with_row}
+use Rattle.passive_core.proofs.Attaching.{row_first, row_next}
 use Rattle.passive_core.proofs.machine.Core.store_record_words.Goals as goal
 
 pub returns : goal.returns

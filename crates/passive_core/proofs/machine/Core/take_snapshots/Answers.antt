@@ -1,5 +1,4 @@
-use Rattle.std.proofs.Common.{◌≡◌, ℕ, ◌+◌, ◌<◌, Some, Bool, true, false, refl, sym, ap, subst, ◌∙◌, arith}
-use Rattle.passive_core.specs.Detaching.{snapped}
+use Rattle.std.proofs.Common.{◌≡◌, ◌<◌, refl, ap, subst, ◌∙◌, arith}
 use Rattle.passive_core.specs.Invariant.{Holds}
 use Rattle.passive_core.specs.State.{State}
 use Rattle.passive_core.proofs.Detaching.{snap_allowed, snap_turns, snapping, snapping_ends, snapping_starts}
