@@ -1,6 +1,6 @@
 use crate::{
-    Name, NameFault, Refusal, Settings, Stage, balance_at_rest, every_run_keeps, grace_law,
-    headline, lawful_answers, name_laws, safe_reuse, worked_run,
+    Kind, Name, NameFault, Record, Refusal, Settings, Stage, balance_at_rest, every_run_keeps,
+    grace_law, headline, lawful_answers, name_laws, record_from, safe_reuse, worked_run,
 };
 use std::test::Fail;
 
@@ -49,6 +49,21 @@ fn words_of_no_name(rt: HostRuntime) {
     for (high, low) in no_names {
         assert_eq!(rt; Name::from_words(high, low), None, "at {high}, {low}");
     }
+}
+
+#[test]
+fn records_of_their_words(rt: HostRuntime) -> Result<(), Fail> {
+    let name = Name::parse(b"abcdefgh1")?;
+    let (high, low) = name.words();
+    for (word, kind) in [(1, Kind::Iface), (2, Kind::Driver)] {
+        let rec = Record {
+            kind,
+            name,
+            value: 7,
+        };
+        assert_eq!(rt; record_from(word, high, low, 7), rec, "by word {word}");
+    }
+    Ok(())
 }
 
 const LEAST: Settings = Settings {

@@ -7,6 +7,7 @@ ghost use Rattle.passive_core.specs.Slots.{at_rest};
 use crate::balance::Balance;
 use crate::entry::{Entry, Kind, Record};
 use crate::event::{Event, RecordOf, Reply, StepFault};
+use crate::machine::commands::rows::USUAL;
 use crate::machine::{BIAS, Core};
 use crate::name::Name;
 use crate::psref::CorePsref;
@@ -15,15 +16,6 @@ use crate::settings::Settings;
 use crate::stage::Stage;
 use std::process::Abort;
 use std::test::Fail;
-
-const LIMITS: Settings = Settings {
-    cpus: 2,
-    slots: 2,
-    change_limit: 1000,
-    section_limit: 1000,
-    passive_limit: 100,
-    count_limit: 100,
-};
 
 /// A core whose CPUs have their seats.
 fn opened(rt: &HostRuntime, settings: Settings) -> Result<Core, Fail> {
@@ -173,7 +165,7 @@ fn audit(rt: &impl Abort, core: &Core, held: i64, locals: &[i64], total: i64) ->
 
 #[test]
 fn passive_reference(rt: HostRuntime) -> Result<(), Fail> {
-    let mut core = opened(&rt, LIMITS)?;
+    let mut core = opened(&rt, USUAL)?;
     attach(&mut core, 0, b"wm0", 1500)?;
     core.step(Event::Enter(0))?;
     assert!(rt; find(&mut core, 0, b"wm0")?.is_some());
@@ -190,7 +182,7 @@ fn passive_reference(rt: HostRuntime) -> Result<(), Fail> {
 
 #[test]
 fn copied_reference(rt: HostRuntime) -> Result<(), Fail> {
-    let mut core = opened(&rt, LIMITS)?;
+    let mut core = opened(&rt, USUAL)?;
     attach(&mut core, 0, b"wm0", 1500)?;
     core.step(Event::Enter(0))?;
     assert!(rt; find(&mut core, 0, b"wm0")?.is_some());
@@ -207,7 +199,7 @@ fn copied_reference(rt: HostRuntime) -> Result<(), Fail> {
 
 #[test]
 fn wrong_cpu(rt: HostRuntime) -> Result<(), Fail> {
-    let mut core = opened(&rt, LIMITS)?;
+    let mut core = opened(&rt, USUAL)?;
     attach(&mut core, 0, b"wm0", 1500)?;
     core.step(Event::Enter(0))?;
     assert!(rt; find(&mut core, 0, b"wm0")?.is_some());
@@ -223,7 +215,7 @@ fn wrong_cpu(rt: HostRuntime) -> Result<(), Fail> {
 fn own_multiset(rt: HostRuntime) -> Result<(), Fail> {
     let settings = Settings {
         passive_limit: 1,
-        ..LIMITS
+        ..USUAL
     };
     let mut core = opened(&rt, settings)?;
     attach(&mut core, 0, b"wm", 7)?;
@@ -245,7 +237,7 @@ fn own_multiset(rt: HostRuntime) -> Result<(), Fail> {
 
 #[test]
 fn travelling_count(rt: HostRuntime) -> Result<(), Fail> {
-    let mut core = opened(&rt, LIMITS)?;
+    let mut core = opened(&rt, USUAL)?;
     attach(&mut core, 0, b"wm", 7)?;
     core.step(Event::Enter(0))?;
     assert!(rt; find(&mut core, 0, b"wm")?.is_some());
@@ -259,7 +251,7 @@ fn travelling_count(rt: HostRuntime) -> Result<(), Fail> {
 
 #[test]
 fn collected_release(rt: HostRuntime) -> Result<(), Fail> {
-    let mut core = opened(&rt, LIMITS)?;
+    let mut core = opened(&rt, USUAL)?;
     attach(&mut core, 0, b"wm", 7)?;
     core.step(Event::Enter(0))?;
     assert!(rt; find(&mut core, 0, b"wm")?.is_some());
@@ -279,7 +271,7 @@ fn collected_release(rt: HostRuntime) -> Result<(), Fail> {
 fn own_net_count(rt: HostRuntime) -> Result<(), Fail> {
     let settings = Settings {
         count_limit: 1,
-        ..LIMITS
+        ..USUAL
     };
     let mut core = opened(&rt, settings)?;
     attach(&mut core, 0, b"wm", 7)?;
@@ -330,7 +322,7 @@ fn late_calls(rt: HostRuntime) -> Result<(), Fail> {
         section_limit: 2,
         passive_limit: 1,
         count_limit: 1,
-        ..LIMITS
+        ..USUAL
     };
     let mut core = opened(&rt, settings)?;
     attach(&mut core, 0, b"wm", 7)?;
@@ -353,7 +345,7 @@ fn late_calls(rt: HostRuntime) -> Result<(), Fail> {
 
 #[test]
 fn nothing_there(rt: HostRuntime) -> Result<(), Fail> {
-    let mut core = opened(&rt, LIMITS)?;
+    let mut core = opened(&rt, USUAL)?;
     core.step(Event::Enter(0))?;
     core.step(Event::Exit(0))?;
     assert_eq!(rt; acquire(&rt, &mut core, 0), Err(Refusal::NothingFound));

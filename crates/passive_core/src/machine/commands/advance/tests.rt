@@ -2,22 +2,13 @@
 
 use crate::entry::Kind;
 use crate::event::{Event, RecordOf, Reply, StepFault};
+use crate::machine::commands::rows::USUAL;
 use crate::machine::{BIAS, Core};
 use crate::name::Name;
 use crate::refusal::Refusal;
-use crate::settings::Settings;
 use crate::stage::Stage;
 use std::process::Abort;
 use std::test::Fail;
-
-const USUAL: Settings = Settings {
-    cpus: 2,
-    slots: 2,
-    change_limit: 1000,
-    section_limit: 1000,
-    passive_limit: 100,
-    count_limit: 100,
-};
 
 fn make(core: &mut Core, events: &[Event]) -> Result<(), Fail> {
     for event in events {

@@ -3,20 +3,12 @@
 use crate::entry::{Entry, Kind, Record};
 use crate::event::{Event, RecordOf, Reply};
 use crate::machine::Core;
+use crate::machine::commands::rows::USUAL;
 use crate::name::Name;
 use crate::refusal::Refusal;
 use crate::settings::Settings;
 use std::process::Abort;
 use std::test::Fail;
-
-const USUAL: Settings = Settings {
-    cpus: 2,
-    slots: 2,
-    change_limit: 1000,
-    section_limit: 1000,
-    passive_limit: 100,
-    count_limit: 100,
-};
 
 /// A command's conditions are tested before it is given.
 fn attach(

@@ -1,3 +1,4 @@
+use crate::machine::commands::rows::USUAL;
 use crate::machine::{BIAS, Core};
 use crate::{Entry, Event, Kind, Name, Record, RecordOf, Reply, Settings, StepFault};
 use std::alloc::Global;
@@ -16,17 +17,7 @@ pub(crate) fn driver(name: &[u8], value: u64) -> Result<Record, Fail> {
 
 /// A core with 2 CPUs, seated, and this many slots.
 pub(crate) fn seated(alloc: Global, slots: u8) -> Result<Core, Fail> {
-    let mut core = Core::new(
-        alloc,
-        Settings {
-            cpus: 2,
-            slots,
-            change_limit: 1000,
-            section_limit: 1000,
-            passive_limit: 100,
-            count_limit: 100,
-        },
-    )?;
+    let mut core = Core::new(alloc, Settings { slots, ..USUAL })?;
     core.step(Event::Seat(0))?;
     core.step(Event::Seat(1))?;
     Ok(core)
