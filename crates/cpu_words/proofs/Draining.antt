@@ -15,7 +15,7 @@ use Rattle.passive_core.specs.Slots.{have_passed, are_clear}
 use Rattle.passive_core.specs.Events.{step, cleared, collected}
 use Rattle.passive_core.specs.Invariant.{adding_at, is_adding_at}
 use Rattle.passive_core.proofs.Fit.{ranges}
-use Rattle.passive_core.proofs.Cells.{cell_cases, cell_here, cell_other, in_within}
+use Rattle.passive_core.proofs.Cells.{cell_cases, cell_here, cell_other}
 use Rattle.passive_core.proofs.HeldSums.{one_self, one_other}
 use Rattle.cpu_words.specs.declared.view.KeeperView.{KeeperView}
 use Rattle.cpu_words.specs.declared.view.View.TheVariants.{Keeper}
@@ -29,6 +29,7 @@ use Rattle.cpu_words.proofs.Placing.{agrees_set}
 use Rattle.cpu_words.proofs.KeeperSteps.{KeeperLists, keeper_lists, with_keeper, leaves_all, keeper_makes}
 use Rattle.cpu_words.proofs.KeeperSees.{SeenByKeeper, seen_by_keeper, loads}
 use Rattle.cpu_words.proofs.Marked.{due_alike, same_collected, shown_marked, sum_here, sum_off}
+use Rattle.passive_core.proofs.Occupied.{in_within}
 
 -- what the core has where the keeper may look at a slot
 record Looking (g : State) (t c : ℕ) : Type 0 where

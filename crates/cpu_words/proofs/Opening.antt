@@ -17,7 +17,7 @@ use Rattle.passive_core.specs.State.{bias, no_words, no_mark, slot_at, opening}
 use Rattle.passive_core.specs.Events.{word}
 use Rattle.passive_core.specs.Invariant.{IsIn}
 use Rattle.passive_core.proofs.Fit.{ranges}
-use Rattle.passive_core.proofs.Cells.{get_or_all, not_vacant}
+use Rattle.passive_core.proofs.Cells.{get_or_all}
 use Rattle.passive_core.proofs.MarkKeeps.{cell_all, rows_all}
 use Rattle.passive_core.proofs.Keeping.{opening_holds}
 use Rattle.cpu_words.specs.declared.view.CpuView.{CpuView}
@@ -27,6 +27,7 @@ use Rattle.cpu_words.specs.Spots.{Spot, section_of, passive_of, count_of, head_w
 use Rattle.cpu_words.specs.Views.{Seated, new_cpu, first_view, Shown}
 use Rattle.cpu_words.specs.Rule.{Sits, Good, Ruled}
 use Rattle.cpu_words.specs.Opening.{AreOpening, AreSeats, keeper_with}
+use Rattle.passive_core.proofs.Occupied.{not_vacant}
 
 -- no entry is in a slot at the start
 none_in : (z : Settings) (t : ℕ) (e : Entry) → IsIn e (slot_at (replicate z.slots Vacant) t) → ⊥

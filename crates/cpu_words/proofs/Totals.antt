@@ -21,8 +21,8 @@ use Rattle.passive_core.specs.Slots.{slot_of, is_collected, is_some_collected}
 use Rattle.passive_core.specs.Events.{step, total_add, total_sub}
 use Rattle.passive_core.specs.Invariant.{IsIn, one_if, subtracting_at, adding_at, is_adding_at}
 use Rattle.passive_core.proofs.History.{at_within, one_entry}
-use Rattle.passive_core.proofs.Occupied.{attached_in, one_in, one_number}
-use Rattle.passive_core.proofs.Cells.{in_within, total_here, total_other}
+use Rattle.passive_core.proofs.Occupied.{attached_in, one_in, one_number, in_within}
+use Rattle.passive_core.proofs.Cells.{total_here, total_other}
 use Rattle.passive_core.proofs.HeldSums.{one_self, one_other}
 use Rattle.passive_core.proofs.References.{due_adding, due_subtracting}
 use Rattle.passive_core.proofs.MarkKeeps.{mark_place}

@@ -8,16 +8,13 @@ use Rattle.passive_core.specs.declared.event.Reply.{Reply}
 use Rattle.passive_core.specs.Invariant.{Holds}
 use Rattle.passive_core.specs.Slots.{is_empty}
 use Rattle.passive_core.specs.State.{State, search_at, hand_at}
-
-is_none_tells : {X : Type 0} (o : Option X) → is_none o ≡ true → o ≡ None
-is_none_tells None is = refl
-is_none_tells (Some x) is = absurd (let q : ◌≡◌ {A = Bool} false true = is in cc)
+use Rattle.passive_core.proofs.SectionKeeps.{none_from}
 
 -- an idle CPU has no search
 pub idle_unsearching : (s : State) (c : ℕ) → is_idle s c ≡ true → search_at s c ≡ None
 idle_unsearching s c idle =
     let p = and_parts (nat_lt c s.seated) (is_none (search_at s c) && is_empty (hand_at s c)) idle in
-    is_none_tells (search_at s c) (and_parts (is_none (search_at s c)) (is_empty (hand_at s c)) p.1).0
+    none_from (search_at s c) (and_parts (is_none (search_at s c)) (is_empty (hand_at s c)) p.1).0
 
 -- has no search, and nothing in its hand
 IsFree : State → ℕ → Type 0

@@ -16,11 +16,11 @@ use Rattle.passive_core.specs.declared.refusal.Refusal.{Refusal}
 use Rattle.passive_core.specs.declared.stage.Stage.{Stage}
 use Rattle.passive_core.specs.declared.stage.Stage.TheVariants.{Grace, Passive, Local, Freed}
 use Rattle.passive_core.specs.Advancing.{AdvanceLeaves, AllClear, AllCollected, AllPassed, Empties, Gathers, Grows, HoldersAreOpen, LeavesMarks, MarksGrow, MarksPass, Passes, SameElsewhere, StageLeaves, advance_answer, given_up, has_passive, is_open_since, is_retired_as, is_snapshot, least_below, plain_stage, retired_slot, stage_of}
-use Rattle.passive_core.specs.Commands.{all_seated, may_act}
+use Rattle.passive_core.specs.Commands.{may_act}
 use Rattle.passive_core.specs.Events.{Outcome, guard, taken, step, looked, cleared, collected, after_look, after_look_passive, after_collect, after_total, after_kept_sub, after_vacate, may_collect, may_examine, may_look_passive, may_vacate, is_drainable, is_drained, is_iface_slot, keeps_rightly}
 use Rattle.passive_core.specs.Invariant.{Holds, one_if, held_at}
-use Rattle.passive_core.specs.Slots.{are_clear, are_collected, at_rest, has_changed, has_number, have_passed, is_clear, is_collected, is_empty, is_even, is_passed, is_retired, slot_of}
-use Rattle.passive_core.specs.State.{State, bias, section_at, begin_at, count_at, hand_at, kept_at, mark_at, no_mark, passive_at, search_at, slot_at, total_at, with_cell}
+use Rattle.passive_core.specs.Slots.{are_clear, are_collected, at_rest, has_changed, has_number, have_passed, is_clear, is_collected, is_even, is_passed, is_retired, slot_of}
+use Rattle.passive_core.specs.State.{State, bias, section_at, begin_at, count_at, kept_at, mark_at, no_mark, passive_at, slot_at, total_at, with_cell}
 use Rattle.passive_core.proofs.Fit.{ranges}
 use Rattle.passive_core.proofs.Marking.{row_cases}
 use Rattle.passive_core.proofs.Occupied.{at_rest_tells, in_within, is_retired_tells, number_in, has_it, one_number, slot_found}
@@ -32,11 +32,7 @@ use Rattle.passive_core.proofs.Searching.{within_some}
 use Rattle.std.proofs.lemmas.List.{set-get_or}
 use Rattle.std.proofs.lemmas.List.Quantifiers.{position-Some}
 use Rattle.std.proofs.lemmas.Bool.{ne_eqb, cases_Bool}
-
--- an event that was made left the state that its test guards
-pub guard_state : (b : Bool) (s t : State) (r q : Reply) → b ≡ true → guard b (taken s r) ≡ Some (record { state = t; reply = q }) → t ≡ s
-guard_state true s t r q is made = let same : ◌≡◌ {A = Outcome} (record { state = s; reply = r }) (record { state = t; reply = q }) = same_Some _ _ made in sym (ap (λ (o : Outcome). o.state) same)
-guard_state false s t r q is made = absurd (let f : ◌≡◌ {A = Bool} false true = is in cc)
+use Rattle.passive_core.proofs.Acting.{made_is}
 
 -- an event whose test passes is allowed
 pub guard_some : (b : Bool) (s : State) (r : Reply) → b ≡ true → IsSome (guard b (taken s r))
@@ -183,7 +179,7 @@ pub open_same : (s n : State) (t c : ℕ) → n ≡ record s { marks = n.marks }
 open_same s n t c only marks = rw (ap (λ (x : State). x.begins) only, ap (λ (x : State). x.section) only, (marks.here c).snapshot) refl
 
 pub look_is : (s n : State) (t c : ℕ) (r : Reply) → at_rest s.due ≡ true → is_retired (slot_at s.slots t) ≡ true → c < s.settings.cpus → step s (Look (Some t) c) ≡ Some (record { state = n; reply = r }) → n ≡ after_look s t c
-look_is s n t c r rest gone lt made = guard_state (may_examine s t c) (after_look s t c) n _ r (examines s t c rest gone lt) made
+look_is s n t c r rest gone lt made = made_is (may_examine s t c) (after_look s t c) n _ r (examines s t c rest gone lt) made
 
 -- changes of marks alone, one after the other
 pub only_marks : (s m n : State) → m ≡ record s { marks = m.marks } → n ≡ record m { marks = n.marks } → n ≡ record s { marks = n.marks }
@@ -254,7 +250,7 @@ pub examines_passive : (s : State) (t c : ℕ) → at_rest s.due ≡ true → is
 examines_passive s t c rest gone passed lt = and_both (may_examine s t c) _ (examines s t c rest gone lt) (passed_from s t passed)
 
 pub passive_look_is : (s n : State) (t c : ℕ) (r : Reply) → at_rest s.due ≡ true → is_retired (slot_at s.slots t) ≡ true → AllPassed s t → c < s.settings.cpus → step s (PassiveLook t c) ≡ Some (record { state = n; reply = r }) → n ≡ after_look_passive s t c
-passive_look_is s n t c r rest gone passed lt made = guard_state (may_look_passive s t c) (after_look_passive s t c) n _ r (examines_passive s t c rest gone passed lt) made
+passive_look_is s n t c r rest gone passed lt made = made_is (may_look_passive s t c) (after_look_passive s t c) n _ r (examines_passive s t c rest gone passed lt) made
 
 pub passive_look_marks : (s : State) (t c : ℕ) → MarksGrow s.marks (after_look_passive s t c).marks t
 passive_look_marks s t c = mark_grows s.marks t c (cleared (mark_at s.marks t c) (passive_at s.passive c t))
@@ -267,7 +263,7 @@ collects s t c rest gone passed clear lt yet = and_both (may_examine s t c) _ (e
 
 pub collect_is : (s n : State) (t c : ℕ) (r : Reply) → at_rest s.due ≡ true → is_retired (slot_at s.slots t) ≡ true → AllPassed s t → AllClear s t → c < s.settings.cpus → (mark_at s.marks t c).collected ≡ false
     → step s (Collect t c) ≡ Some (record { state = n; reply = r }) → n ≡ after_collect s t c
-collect_is s n t c r rest gone passed clear lt yet made = guard_state (may_collect s t c) (after_collect s t c) n _ r (collects s t c rest gone passed clear lt yet) made
+collect_is s n t c r rest gone passed clear lt yet made = made_is (may_collect s t c) (after_collect s t c) n _ r (collects s t c rest gone passed clear lt yet) made
 
 -- a word was collected, and is to be added
 pub adds : (s m : State) (t c : ℕ) → m ≡ after_collect s t c → step m (TotalAdd t) ≡ Some (record { state = after_total (after_collect s t c) t (total_at s.totals t + count_at s.counts c t - bias); reply = Done })
@@ -403,10 +399,6 @@ passive_same s n t c only = ap (λ (x : State). has_passive x t c) only
 pub collected_there : (s n : State) (t c : ℕ) → Holds s → t < s.settings.slots → c < s.settings.cpus → n ≡ after_total (after_collect s t c) t (total_at s.totals t + count_at s.counts c t - bias) → (mark_at n.marks t c).collected ≡ true
 collected_there s n t c on lt low is = ap (λ (x : State). (mark_at x.marks t c).collected) is ∙ ap (λ (m : Mark). m.collected) (mark_there s t c (collected (mark_at s.marks t c)) on lt low)
 
-pub some_is : {X : Type 0} (o : Option X) → is_some o ≡ true → (x : X) × (o ≡ Some x)
-some_is None is = absurd (let q : ◌≡◌ {A = Bool} false true = is in cc)
-some_is (Some x) is = (x, refl)
-
 pub none_is : {X : Type 0} (o : Option X) → is_some o ≡ false → o ≡ None
 none_is None is = refl
 none_is (Some x) is = absurd (let q : ◌≡◌ {A = Bool} true false = is in cc)
@@ -424,17 +416,6 @@ acts_idle : (lt : Bool) (cpus : ℕ) (before none empty : Bool) → (before ≡ 
 acts_idle false cpus before none empty out acts = refl
 acts_idle true cpus true none empty out acts = acts
 acts_idle true cpus false none empty out acts = out refl
-
--- a CPU that may act still may once all have their seats
-pub acts_seated : (s : State) (d : ℕ) → Holds s → may_act s d ≡ true → may_act (all_seated s) d ≡ true
-acts_seated s d on acts = acts_idle (nat_lt d s.settings.cpus) 0 (nat_lt d s.seated) (is_none (search_at s d)) (is_empty (hand_at s d))
-    (λ out.
-    let past : s.seated ≤ d = ⊎_elim
-    (λ (lt : d < s.seated). absurd (let q : ◌≡◌ {A = Bool} true false = sym (lt-ltb d s.seated lt) ∙ out in cc))
-    (λ (ge : s.seated ≤ d). ge)
-    (cases_lt d s.seated) in
-    and_both (is_none (search_at s d)) (is_empty (hand_at s d)) (ap is_none (on.seats.unsearching d past)) (ap is_empty (on.seats.empty d past)))
-    acts
 
 -- and nothing of what an advance leaves keeps it from that
 pub stage_acts : (s n : State) (t d : ℕ) (stage : Stage) → s.seated ≡ s.settings.cpus → StageLeaves s n t stage → may_act s d ≡ true → may_act n d ≡ true

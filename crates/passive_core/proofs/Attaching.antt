@@ -21,7 +21,7 @@ use Rattle.passive_core.specs.declared.state.LocalPlace.{LocalPlace}
 use Rattle.passive_core.specs.declared.state.LocalPlace.TheVariants.{Free, Standing, Lifted}
 use Rattle.passive_core.specs.declared.state.RecordWords.{RecordWords}
 use Rattle.passive_core.specs.declared.state.Slot.{Slot}
-use Rattle.passive_core.specs.declared.state.Slot.TheVariants.{Vacant, Live, Retired}
+use Rattle.passive_core.specs.declared.state.Slot.TheVariants.{Vacant}
 use Rattle.passive_core.specs.Attaching.{entry_in, given_back, given_entry, is_driver_in, is_driver_number, is_plain, is_to_driver, keeping, key_of_record, next_entry, plain_slot, prepared, restored, with_biases, words_before}
 use Rattle.passive_core.specs.Commands.{all_seated, may_act}
 use Rattle.passive_core.specs.Events.{Outcome, after_count_store, after_keep, after_publish, after_row_store, after_seeing, are_unused, entry_of, has_room, is_bias, is_driver_slot, is_prepared, keeps_rightly, may_keep, may_publish, may_write, standing, step, with_word, words_of}
@@ -107,11 +107,6 @@ counts_stored s now next r t c on write lt at is =
     state_or (Some o) = o.state
 
 -- The slot.
-
-vacant_from : (x : Slot) → is_vacant x ≡ true → x ≡ Vacant
-vacant_from Vacant is = refl
-vacant_from (Live e) is = absurd (let q : ◌≡◌ {A = Bool} false true = is in cc)
-vacant_from (Retired e) is = absurd (let q : ◌≡◌ {A = Bool} false true = is in cc)
 
 -- a plain slot is vacant and keeps nothing
 pub plain_tells : (s : State) (t : ℕ) → Holds s → plain_slot s ≡ Some t → (t < s.settings.slots) × (is_vacant (slot_at s.slots t) ≡ true) × (kept_at s.keeps t ≡ None)

@@ -1,14 +1,10 @@
 -- What the invariant says of the ranges that the code's arithmetic and places need, where an event is allowed.
-use Rattle.std.proofs.Common.{◌≡◌, ℕ, ◌+◌, ◌^◌, ◌<◌, ◌≤◌, inr, ⊎_elim, List, length, get_or, Some, true, sym, ◌∙◌, arith}
-use Rattle.std.proofs.lemmas.List.{get_or_past}
-use Rattle.std.proofs.lemmas.Bool.{cases_lt}
+use Rattle.std.proofs.Common.{◌≡◌, ℕ, ◌+◌, ◌^◌, ◌<◌, ◌≤◌, inr, length, get_or, Some, true, sym, ◌∙◌, arith}
 use Rattle.passive_core.specs.declared.entry.Entry.{Entry}
 use Rattle.passive_core.specs.declared.state.Hand.TheVariants.{Empty, Taking, Giving, Back}
-use Rattle.passive_core.specs.declared.state.LocalPlace.{LocalPlace}
-use Rattle.passive_core.specs.declared.state.LocalPlace.TheVariants.{Free, Lifted}
 use Rattle.passive_core.specs.declared.state.Due.TheVariants.{Adding, Subtracting}
 use Rattle.passive_core.specs.declared.state.Search.{Search}
-use Rattle.passive_core.specs.State.{State, bias, hand_at, found_at, slot_at, count_at, total_at, kept_at, local_at, search_at}
+use Rattle.passive_core.specs.State.{State, bias, hand_at, found_at, slot_at, count_at, total_at, kept_at, search_at}
 use Rattle.passive_core.specs.Slots.{slot_of}
 use Rattle.passive_core.specs.Events.{is_drained}
 use Rattle.passive_core.specs.Invariant.{IsIn, Holds}
@@ -21,25 +17,19 @@ use Rattle.passive_core.proofs.Occupied.{slot_has, in_within}
 use Rattle.passive_core.proofs.References.{giving_holds, back_holds, due_adding, due_subtracting}
 use Rattle.passive_core.proofs.Searching.{search_walks, place_within}
 use Rattle.passive_core.specs.Loaded.{SlotWithin}
-
--- a place that isn't free is in the list
-local_within : (locals : List LocalPlace) (id c : ℕ) → local_at locals id ≡ Lifted c → id < length locals
-local_within locals id c at = ⊎_elim
-    (λ (lt : id < length locals). lt)
-    (λ (ge : length locals ≤ id). absurd (let q : Free ≡ Lifted c = sym (get_or_past locals id Free ge) ∙ at in cc))
-    (cases_lt id (length locals))
+use Rattle.passive_core.proofs.Sums.{lifted_within}
 
 -- what is given up has its place, its CPU and its slot
 pub giving_within : (s : State) (c n id : ℕ) → Holds s → hand_at s c ≡ Giving n id → (c < s.settings.cpus) × (id < length s.locals)
 giving_within s c n id on hand = (
   hand_within s c on (λ empty. let q : Giving n id ≡ Empty = sym hand ∙ empty in cc),
-  local_within s.locals id c (giving_holds s.settings.cpus s.slots s.hands s.due s.locals c n id hand on.references).1,
+  lifted_within s.locals id c (giving_holds s.settings.cpus s.slots s.hands s.due s.locals c n id hand on.references).1,
 )
 
 pub back_within : (s : State) (c n id : ℕ) → Holds s → hand_at s c ≡ Back n id → (c < s.settings.cpus) × (id < length s.locals)
 back_within s c n id on hand = (
   hand_within s c on (λ empty. let q : Back n id ≡ Empty = sym hand ∙ empty in cc),
-  local_within s.locals id c (back_holds s.settings.cpus s.slots s.hands s.due s.locals c n id hand on.references).1,
+  lifted_within s.locals id c (back_holds s.settings.cpus s.slots s.hands s.due s.locals c n id hand on.references).1,
 )
 
 pub taking_within : (s : State) (c n : ℕ) → Holds s → hand_at s c ≡ Taking n → c < s.settings.cpus

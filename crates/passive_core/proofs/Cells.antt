@@ -1,12 +1,13 @@
 -- Places of rows, of slots and of totals, after one is written.
 use Rattle.std.proofs.Common.{◌≡◌, ℕ, zero, suc, ◌<◌, ◌≤◌, ◌⊎◌, inl, inr, ⊎_elim, List, [], length, get_or, set, replicate, refl, sym, ap, subst, ◌∙◌, get_or-set_same, get_or-set_other}
-use Rattle.std.proofs.lemmas.List.{set_past, get_or_past}
+use Rattle.std.proofs.lemmas.List.{set_past}
 use Rattle.std.proofs.lemmas.Bool.{cases_lt, cases_eq}
 use Rattle.passive_core.specs.declared.entry.Entry.{Entry}
 use Rattle.passive_core.specs.declared.state.Slot.{Slot}
 use Rattle.passive_core.specs.declared.state.Slot.TheVariants.{Vacant, Live, Retired}
 use Rattle.passive_core.specs.State.{cell, with_cell, slot_at, total_at}
 use Rattle.passive_core.specs.Invariant.{IsIn}
+use Rattle.passive_core.proofs.Occupied.{not_vacant}
 
 -- it is the place that was written, or another
 pub by_place : (P : ℕ → Type 0) (c j : ℕ) → P c → ((j ≡ c → ⊥) → P j) → P j
@@ -74,13 +75,6 @@ get_or_all zero x i = refl
 get_or_all (suc n) x zero = refl
 get_or_all (suc n) x (suc i) = get_or_all n x i
 
--- a vacant slot has no entry
-pub not_vacant : (f : Entry) (x : Slot) → x ≡ Vacant → IsIn f x → ⊥
-not_vacant f x vacant is = ⊎_elim
-    (λ (live : x ≡ Live f). let q : Live f ≡ Vacant = sym live ∙ vacant in cc)
-    (λ (gone : x ≡ Retired f). let q : Retired f ≡ Vacant = sym gone ∙ vacant in cc)
-    is
-
 -- a slot has one entry
 pub one_in : (e f : Entry) (x : Slot) → IsIn e x → IsIn f x → f ≡ e
 one_in e f x first second = ⊎_elim
@@ -93,13 +87,6 @@ one_in e f x first second = ⊎_elim
     (λ (too : x ≡ Retired f). let q : Retired f ≡ Retired e = sym too ∙ retired in cc)
     second)
     first
-
--- an occupied slot is in the list
-pub in_within : (slots : List Slot) (t : ℕ) (e : Entry) → IsIn e (slot_at slots t) → t < length slots
-in_within slots t e is = ⊎_elim
-    (λ (lt : t < length slots). lt)
-    (λ (ge : length slots ≤ t). absurd (not_vacant e (slot_at slots t) (get_or_past slots t Vacant ge) is))
-    (cases_lt t (length slots))
 
 -- the slot that was written, and the others
 pub slot_here : (slots : List Slot) (t : ℕ) (x : Slot) → t < length slots → slot_at (set slots t x) t ≡ x

@@ -3,7 +3,7 @@ use Rattle.std.proofs.Common.{Bool, List, Option, Some, [], ap, arith, false, ge
 use Rattle.std.proofs.lemmas.Bool.{and_parts, cases_Bool, eq-eqb, eqb-true}
 use Rattle.std.specs.Prelude.{if◌then◌else◌, is_none, nat_lt}
 use Rattle.passive_core.proofs.Counts as C
-use Rattle.passive_core.proofs.ListKeeps.{CountsOf, may_write_tells, rows_cell}
+use Rattle.passive_core.proofs.ListKeeps.{CountsOf, may_write_tells, rows_cell, false_from}
 use Rattle.passive_core.proofs.MarkKeeps.{mark_place, may_examine_tells}
 use Rattle.passive_core.proofs.Marking.{list_all_within, marks_write, snapshots_marked}
 use Rattle.passive_core.proofs.Occupied.{at_rest_tells, one_number, slot_has, slot_its}
@@ -240,10 +240,6 @@ split_back_keeps s c n id on hand =
     let lifted = (back_holds s.settings.cpus s.slots s.hands s.due s.locals c n id hand on.references).1 in
     hands_keep s c Empty (set s.locals id (Standing n)) on (C.split_back on.balance c n id (omega (arith, lt, on.shape.hands)) hand lifted) (split_back_refers s c n id hand (refers_of s on))
 
-not_from : (b : Bool) → not b ≡ true → b ≡ false
-not_from false is = refl
-not_from true is = absurd (let q : ◌≡◌ {A = Bool} false true = is in cc)
-
 pub collect_keeps : (s : State) (t c : ℕ) → Holds s → may_collect s t c ≡ true → Holds (after_collect s t c)
 collect_keeps s t c on may =
     let p = and_parts (may_examine s t c) (is_drainable s t && not (mark_at s.marks t c).collected) may in
@@ -252,7 +248,7 @@ collect_keeps s t c on may =
     let told = may_examine_tells s t c p.0 in
     let place = mark_place s t c told.2.0 on told.2.1 told.1 in
     let clear : (mark_at s.marks t c).clear ≡ true = list_all_within is_clear (get_or s.marks t []) s.settings.cpus c no_mark d.1 told.1 place.1 in
-    let still : (mark_at s.marks t c).collected ≡ false = not_from (mark_at s.marks t c).collected q.1 in
+    let still : (mark_at s.marks t c).collected ≡ false = false_from (mark_at s.marks t c).collected q.1 in
     let refers : Refers (after_collect s t c) = collect_refers s t c may (refers_of s on) in
     let stand = snapshots_marked s.settings.cpus s.slots s.marks s.due t c (collected (mark_at s.marks t c)) refl on.snapshots in
     record {

@@ -20,7 +20,8 @@ use Rattle.passive_core.specs.Events.{least_id, with_local, collected}
 use Rattle.passive_core.specs.Invariant.{IsIn, AreRows, HasShape, Balances, IsCounting, CountsHold, one_if, standing_of, in_hand, kept_of, subtracting_at, adding_at, is_adding_at, held_at, greatest_limit}
 use Rattle.passive_core.proofs.Sums.{one_at, none_at, standing_within, lifted_within, local_changed, hand_changed, kept_changed, local_added}
 use Rattle.passive_core.proofs.Balancing.{AreWords, word_floor, counted_up, counted_down, added, subtracted, published, collected as word_collected}
-use Rattle.passive_core.proofs.Cells.{by_place, by_cell, row_here, row_other, cell_here, cell_other, cell_cases, cell_in_new, cell_in_old, get_or_all, not_vacant, one_in, in_within, slot_here, slot_other, not_vacated, total_here, total_other}
+use Rattle.passive_core.proofs.Cells.{by_place, by_cell, row_here, row_other, cell_here, cell_other, cell_cases, cell_in_new, cell_in_old, get_or_all, one_in, slot_here, slot_other, not_vacated, total_here, total_other}
+use Rattle.passive_core.proofs.Occupied.{not_vacant, in_within}
 
 -- the lengths and limits that the lemmas need
 pub record CountsFit (z : Settings) (slots : List Slot) (marks : List (List Mark)) (counts nets : List (List ℕ)) (totals : List ℕ) (hands : List Hand) (keeps : List (Option ℕ)) : Type 0 where

@@ -16,7 +16,7 @@ use Rattle.passive_core.specs.Events.{keeps_rightly, is_driver_slot, is_iface_sl
 use Rattle.passive_core.specs.Invariant.{IsIn, SlotsShow, held_at, DriversKept}
 use Rattle.passive_core.proofs.Occupied.{written_cases, in_other, in_written, in_within, not_vacant, live_one, retired_one, one_in, in_published, in_unpublished, in_vacated, one_number, slot_has}
 use Rattle.passive_core.proofs.HeldSums.{Unreferred, unreferred}
-use Rattle.passive_core.proofs.References.{all_same}
+use Rattle.passive_core.proofs.Cells.{get_or_all}
 
 -- the driver d has its slot
 abbrev pub HasDriver : List Slot → ℕ → Type 0
@@ -82,7 +82,7 @@ rightly_none : (k : Option ℕ) → keeps_rightly k Driver ≡ true → k ≡ No
 rightly_none None right = refl
 rightly_none (Some d) right = absurd (let q : ◌≡◌ {A = Bool} false true = right in cc)
 
-rightly_some : (k : Option ℕ) → keeps_rightly k Iface ≡ true → (d : ℕ) × (k ≡ Some d)
+pub rightly_some : (k : Option ℕ) → keeps_rightly k Iface ≡ true → (d : ℕ) × (k ≡ Some d)
 rightly_some None right = absurd (let q : ◌≡◌ {A = Bool} false true = right in cc)
 rightly_some (Some d) right = (d, refl)
 
@@ -178,6 +178,6 @@ drivers_keep slots keeps t n u vacant found test kept = record {
 
 pub drivers_opening : (slots others : ℕ) → DriversKept (replicate slots Vacant) (replicate others None)
 drivers_opening slots others = record {
-  rightly = λ t e is. absurd (not_vacant e (slot_at (replicate slots Vacant) t) (all_same slots Vacant t) is);
-  drivers = λ t d at. absurd (let q : ◌≡◌ {A = Option ℕ} (Some d) None = sym at ∙ all_same others None t in cc);
+  rightly = λ t e is. absurd (not_vacant e (slot_at (replicate slots Vacant) t) (get_or_all slots Vacant t) is);
+  drivers = λ t d at. absurd (let q : ◌≡◌ {A = Option ℕ} (Some d) None = sym at ∙ get_or_all others None t in cc);
 }

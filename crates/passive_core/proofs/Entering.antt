@@ -2,9 +2,9 @@
 use Rattle.std.proofs.Common.{◌≡◌, ℕ, ◌<◌, ◌≤◌, ⊎_elim, List, length, set, get_or, get_or-set_same, get_or-set_other, length-set, Option, Some, None, Bool, true, false, not, ◌&&◌, ◌||◌, is_none, nat_lt, refl, sym, ap, ◌∙◌, arith, lt-ltb}
 use Rattle.std.proofs.lemmas.Bool.{and_from, cases_eq, cases_lt}
 use Rattle.passive_core.proofs.SectionKeeps.{cpus_keep, some_from}
-use Rattle.passive_core.specs.Commands.{all_seated, may_act}
+use Rattle.passive_core.specs.Commands.{may_act}
 use Rattle.passive_core.specs.Entering.{with_depth}
-use Rattle.passive_core.specs.Events.{is_idle, is_inside}
+use Rattle.passive_core.specs.Events.{is_inside}
 use Rattle.passive_core.specs.Invariant.{Holds, SectionsShow}
 use Rattle.passive_core.specs.Slots.{is_empty}
 use Rattle.passive_core.specs.State.{State, depth_at, hand_at, search_at, begin_at}
@@ -34,13 +34,6 @@ acts_if false f is = refl
 -- one that is free may act, seated or not
 pub free_acts : (s : State) (c : ℕ) → is_free s c ≡ true → may_act s c ≡ true
 free_acts s c free = acts_if (nat_lt c s.seated) (is_free s c) free
-
--- once all are seated, a CPU that may act is idle
-pub seated_idle : (s : State) (c : ℕ) → Holds s → c < s.settings.cpus → may_act s c ≡ true → is_idle (all_seated s) c ≡ true
-seated_idle s c on lt may = and_from (nat_lt c s.settings.cpus) (is_free s c) (lt-ltb c s.settings.cpus lt) (acts_free s c on may)
-
-pub seated_acts : (s : State) (c : ℕ) → Holds s → may_act s c ≡ true → may_act (all_seated s) c ≡ true
-seated_acts s c on may = free_acts (all_seated s) c (acts_free s c on may)
 
 sections_depth : (z : Settings) (h : List Change) (section : List ℕ) (begins : List (Option ℕ)) (depths seen : List ℕ) (c b depth : ℕ)
     → c < length depths → get_or begins c None ≡ Some b → 1 ≤ depth → depth ≤ 255 → SectionsShow z h section begins depths seen → SectionsShow z h section begins (set depths c depth) seen

@@ -6,11 +6,12 @@ use Rattle.std.proofs.lemmas.Bool.{cases_lt}
 use Rattle.passive_core.specs.declared.state.Hand.{Hand}
 use Rattle.passive_core.specs.declared.state.Hand.TheVariants.{Empty, Taking, Giving, Back}
 use Rattle.passive_core.specs.declared.state.LocalPlace.{LocalPlace}
-use Rattle.passive_core.specs.declared.state.LocalPlace.TheVariants.{Free, Standing, Lifted}
+use Rattle.passive_core.specs.declared.state.LocalPlace.TheVariants.{Free, Standing}
 use Rattle.passive_core.specs.declared.state.Due.{Due}
 use Rattle.passive_core.specs.State.{local_at, kept_at}
 use Rattle.passive_core.specs.Invariant.{standing_of, in_hand, kept_of, subtracting_at, held_at}
 use Rattle.passive_core.proofs.Sums.{one_at, none_at}
+use Rattle.passive_core.proofs.HeldSums.{standing_not, kept_not}
 
 -- what a sum counts at one place
 at_some : {X : Type 0} (f : X → ℕ) (xs : List X) (i : ℕ) (d x : X) → f d ≡ 0 → get_or xs i d ≡ x → 0 < f x → 0 < sum_by f xs
@@ -42,21 +43,11 @@ held_back locals hands keeps due n t c id at = held_in_hand locals hands keeps d
 pub held_kept : (locals : List LocalPlace) (hands : List Hand) (keeps : List (Option ℕ)) (due : Due) (n t u : ℕ) → kept_at keeps u ≡ Some n → 0 < held_at locals hands keeps due n t
 held_kept locals hands keeps due n t u at = omega (arith, at_some (kept_of n) keeps u None (Some n) refl at (omega (arith, one_at n n refl)))
 
--- a number that stands nowhere is not held
-none_standing : (n : ℕ) (p : LocalPlace) → (p ≡ Standing n → ⊥) → standing_of n p ≡ 0
-none_standing n Free off = refl
-none_standing n (Standing m) off = none_at m n (λ same. off (ap Standing same))
-none_standing n (Lifted c) off = refl
-
 none_in_hand : (n : ℕ) (h : Hand) → (h ≡ Taking n → ⊥) → ((id : ℕ) → h ≡ Giving n id → ⊥) → ((id : ℕ) → h ≡ Back n id → ⊥) → in_hand n h ≡ 0
 none_in_hand n Empty taking giving back = refl
 none_in_hand n (Taking m) taking giving back = none_at m n (λ same. taking (ap Taking same))
 none_in_hand n (Giving m id) taking giving back = none_at m n (λ same. giving id (ap (λ (k : ℕ). Giving k id) same))
 none_in_hand n (Back m id) taking giving back = none_at m n (λ same. back id (ap (λ (k : ℕ). Back k id) same))
-
-none_kept : (n : ℕ) (o : Option ℕ) → (o ≡ Some n → ⊥) → kept_of n o ≡ 0
-none_kept n None off = refl
-none_kept n (Some m) off = none_at m n (λ same. off (ap Some same))
 
 pub none_held : (locals : List LocalPlace) (hands : List Hand) (keeps : List (Option ℕ)) (due : Due) (n t : ℕ) → ((id : ℕ) → local_at locals id ≡ Standing n → ⊥)
     → ((c : ℕ) → get_or hands c Empty ≡ Taking n → ⊥) → ((c id : ℕ) → get_or hands c Empty ≡ Giving n id → ⊥) → ((c id : ℕ) → get_or hands c Empty ≡ Back n id → ⊥)
@@ -65,7 +56,7 @@ none_held locals hands keeps due n t standing taking giving back kept still =
     omega (
       arith,
       still,
-      at_none (standing_of n) locals Free (λ id. none_standing n (local_at locals id) (standing id)),
+      at_none (standing_of n) locals Free (λ id. standing_not n (local_at locals id) (standing id)),
       at_none (in_hand n) hands Empty (λ c. none_in_hand n (get_or hands c Empty) (taking c) (giving c) (back c)),
-      at_none (kept_of n) keeps None (λ u. none_kept n (kept_at keeps u) (kept u)),
+      at_none (kept_of n) keeps None (λ u. kept_not n (kept_at keeps u) (kept u)),
     )

@@ -50,7 +50,7 @@ standing_counts n locals id at = counted (standing_of n) Free locals id (λ free
 pub none_standing : (n : ℕ) (locals : List LocalPlace) → sum_by (standing_of n) locals ≡ 0 → (id : ℕ) → local_at locals id ≡ Standing n → ⊥
 none_standing n locals sum id at = let one = standing_counts n locals id at in omega (arith, one, sum)
 
-standing_not : (n : ℕ) (p : LocalPlace) → (p ≡ Standing n → ⊥) → standing_of n p ≡ 0
+pub standing_not : (n : ℕ) (p : LocalPlace) → (p ≡ Standing n → ⊥) → standing_of n p ≡ 0
 standing_not n Free off = refl
 standing_not n (Standing m) off = one_other m n (λ same. off (ap (λ (k : ℕ). Standing k) same))
 standing_not n (Lifted c) off = refl
@@ -85,7 +85,7 @@ no_hand n hands none = uncounted (in_hand n) Empty hands (λ c. hand_not n (get_
 
 -- Kept ones
 
-kept_not : (n : ℕ) (k : Option ℕ) → (k ≡ Some n → ⊥) → kept_of n k ≡ 0
+pub kept_not : (n : ℕ) (k : Option ℕ) → (k ≡ Some n → ⊥) → kept_of n k ≡ 0
 kept_not n None off = refl
 kept_not n (Some m) off = one_other m n (λ same. off (ap (λ (k : ℕ). Some k) same))
 

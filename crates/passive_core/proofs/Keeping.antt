@@ -11,8 +11,8 @@ use Rattle.passive_core.proofs.Fit.{ranges}
 use Rattle.passive_core.proofs.HeldSums.{published_held}
 use Rattle.passive_core.proofs.ListKeeps as L
 use Rattle.passive_core.proofs.MarkKeeps as M
-use Rattle.passive_core.proofs.Occupied.{in_within}
-use Rattle.passive_core.proofs.References.{references_snapshot, references_unpublish, standing_tells}
+use Rattle.passive_core.proofs.Occupied.{in_within, at_rest_tells}
+use Rattle.passive_core.proofs.References.{references_snapshot, references_unpublish, standing_tells, snapshot_due_tells}
 use Rattle.passive_core.proofs.Referring.{Refers, kept_sub_refers, opening_refers, publish_refers, vacate_refers}
 use Rattle.passive_core.proofs.SearchKeeps.{link_keeps, record_keeps, seek_keeps}
 use Rattle.passive_core.proofs.SectionKeeps.{enter_keeps, exit_keeps, hear_keeps, seat_keeps}
@@ -64,7 +64,7 @@ publish_keeps s t e on is may =
 
 pub unpublish_keeps : (s : State) (t : ℕ) (e : Entry) → Holds s → slot_at s.slots t ≡ Live e → at_rest s.due ≡ true → Holds (after_unpublish s t e)
 unpublish_keeps s t e on is rest = L.unpublish_keeps s t e on is rest
-    (C.unpublish on.balance (fit_of s on) t e (L.rest_from s.due rest) is)
+    (C.unpublish on.balance (fit_of s on) t e (at_rest_tells s.due rest) is)
     (references_unpublish s.settings.cpus s.slots s.hands s.due s.locals t e (ranges s.settings on.fit).some_cpu is on.references)
     (drivers_unpublish s.slots s.keeps t e is on.kept_drivers)
 
@@ -72,7 +72,7 @@ unpublish_keeps s t e on is rest = L.unpublish_keeps s t e on is rest
 
 pub snapshot_keeps : (s : State) (t c : ℕ) → Holds s → is_snapshot_due s.due t c ≡ true → Holds (after_snapshot s t c)
 snapshot_keeps s t c on is =
-    let due : s.due ≡ Snapshots t c = M.due_from s.due t c is in
+    let due : s.due ≡ Snapshots t c = snapshot_due_tells s.due t c is in
     M.snapshot_keeps s t c on is
     (C.snapshot on.balance c t (snapshot_mark (section_at s c)) due refl)
     (references_snapshot s.settings.cpus s.slots s.hands s.due s.locals t c due on.references)

@@ -10,8 +10,8 @@ use Rattle.passive_core.specs.Slots.{at_rest}
 use Rattle.passive_core.specs.Invariant.{Holds, IsIn, IsCounting, held_at, subtracting_at, adding_at, is_adding_at}
 use Rattle.passive_core.specs.Picture.{number_in, waiting_of}
 use Rattle.passive_core.specs.Laws.{after, occupant_of, held_of, IsBalanced, BalancesAtRest, BalanceAtRest}
-use Rattle.passive_core.proofs.ListKeeps.{rest_from}
 use Rattle.passive_core.proofs.LawsReuse.{every_run_keeps, number_is}
+use Rattle.passive_core.proofs.Occupied.{at_rest_tells}
 
 vacant_number : (x : Slot) → number_in x ≡ None → x ≡ Vacant
 vacant_number Vacant is = refl
@@ -36,7 +36,7 @@ entry_balanced s t e on rest is =
 pub slot_balanced : (s : State) (t n : ℕ) → Holds s → at_rest s.due ≡ true → occupant_of s t ≡ Some n → IsBalanced s t n
 slot_balanced s t n on rest is =
     let e = number_is (slot_at s.slots t) n is in
-    subst (IsBalanced s t) e.2 (entry_balanced s t e.0 on (rest_from s.due rest) e.1)
+    subst (IsBalanced s t) e.2 (entry_balanced s t e.0 on (at_rest_tells s.due rest) e.1)
 
 pub vacant_balanced : (s : State) (t : ℕ) → Holds s → t < s.settings.slots → occupant_of s t ≡ None → total_at s.totals t ≡ bias
 vacant_balanced s t on lt is = on.balance.vacant t (omega (arith, lt, on.shape.slots)) (vacant_number (slot_at s.slots t) is)
@@ -55,7 +55,7 @@ balances_at_rest s on rest = record {
       (λ (gone : slot_at s.slots t ≡ Retired e). emptied s c t e (mark_at s.marks t c).collected on gone refl off)
       is;
   beyond = on.balance.beyond;
-  held = λ t n is. held_same s n t (rest_from s.due rest);
+  held = λ t n is. held_same s n t (at_rest_tells s.due rest);
 }
 
 pub balance_at_rest : BalanceAtRest

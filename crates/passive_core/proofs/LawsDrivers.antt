@@ -10,8 +10,9 @@ use Rattle.passive_core.proofs.Keeping.{step_keeps, after_keeps}
 use Rattle.passive_core.proofs.Occupied.{attached_in}
 use Rattle.passive_core.proofs.History.{at_within}
 use Rattle.passive_core.proofs.LawsSteps.{step_sort, after_more}
-use Rattle.passive_core.proofs.LawsReuse.{every_run_keeps, number_is, goes, comes, given_vacant, keeps_same, goes_or_stays, keeps_one}
+use Rattle.passive_core.proofs.LawsReuse.{every_run_keeps, number_is, goes, comes, given_vacant, keeps_same, goes_or_stays}
 use Rattle.passive_core.proofs.LawsAnswers.{history_grows}
+use Rattle.passive_core.proofs.Drivers.{rightly_some}
 
 after_holds : (s : State) (e : Event) → Holds s → Holds (after_event s e)
 after_holds s e on = after_keeps s (step s e) on (step_keeps s e on)
@@ -73,7 +74,7 @@ reuses_safely s on = record {
 
 outlive_interfaces : (s : State) → Holds s → OutliveInterfaces s
 outlive_interfaces s on = record {
-  keeps = λ t e is kind. keeps_one (kept_at s.keeps t) (ap (keeps_rightly (kept_at s.keeps t)) (sym kind) ∙ on.kept_drivers.rightly t e is);
+  keeps = λ t e is kind. rightly_some (kept_at s.keeps t) (ap (keeps_rightly (kept_at s.keeps t)) (sym kind) ∙ on.kept_drivers.rightly t e is);
   stands = λ t d is. on.kept_drivers.drivers t d is;
   stays = λ event t u d keeps is. stays s event t u d on keeps is;
   same = λ event t n is now. keeps_same s event (step s event) t n on (step_sort s event on) is now;

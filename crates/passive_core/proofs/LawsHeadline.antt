@@ -17,8 +17,8 @@ use Rattle.passive_core.specs.Laws.{after, IsAllowed, occupant_of, destroyed_slo
 use Rattle.passive_core.proofs.History.{one_entry}
 use Rattle.passive_core.proofs.Occupied.{attached_in, slot_occupied}
 use Rattle.passive_core.proofs.HeldSums.{one_other, no_standing, no_hand, unoccupied}
-use Rattle.passive_core.proofs.RefiningEntries.{drained}
-use Rattle.passive_core.proofs.LawsReuse.{every_run_keeps, in_number, goes_or_stays, given_vacant, destroyed_drained}
+use Rattle.passive_core.proofs.RefiningEntries.{drained, number_of}
+use Rattle.passive_core.proofs.LawsReuse.{every_run_keeps, goes_or_stays, given_vacant, destroyed_drained}
 use Rattle.passive_core.proofs.LawsAnswers.{answers_lawful, search_begun}
 use Rattle.passive_core.proofs.LawsBalance.{slot_balanced, vacant_balanced}
 
@@ -54,7 +54,7 @@ elsewhere : (s : State) (e : Entry) → Holds s → IsAttached s.history e → (
 elsewhere s e on attached off is =
     let was = attached_in s.history s.slots is.0 is.1 on.slots is.2 in
     let one : is.1 ≡ e = one_entry s.history is.1 e was.0 attached is.3 in
-    off (ap (occupant_of s) (ap (λ (f : Entry). f.slot) (sym one) ∙ was.1) ∙ (in_number (slot_at s.slots is.0) is.1 is.2 ∙ ap (λ (k : ℕ). Some k) is.3))
+    off (ap (occupant_of s) (ap (λ (f : Entry). f.slot) (sym one) ∙ was.1) ∙ (number_of (slot_at s.slots is.0) is.1 is.2 ∙ ap (λ (k : ℕ). Some k) is.3))
 
 destroyed : (s : State) (event : Event) (e : Entry) → Holds s → destroyed_slot event ≡ Some e.slot → IsAllowed s event → IsAttached s.history e → IsUnheld (picture s) e.number
 destroyed s event e on of allowed attached = ⊎_elim

@@ -2,7 +2,6 @@
 use Rattle.std.proofs.Common.{◌≡◌, ℕ, suc, ◌+◌, ◌-◌, ◌≤◌, ◌⊎◌, inl, inr, ⊎_elim, List, length, get_or, set, Option, Some, None, Bool, true, false, not, ◌&&◌, ◌==◌, nat_lt, if◌then◌else◌, IsSome, refl, sym, ap, subst, ◌∙◌, arith, get_or-set_same, get_or-set_other}
 use Rattle.std.proofs.lemmas.Bool.{and_parts, cases_eq, eqb-true}
 use Rattle.std.proofs.lemmas.Option.{none-some, same_Some}
-use Rattle.passive_core.specs.declared.entry.Kind.TheVariants.{Iface}
 use Rattle.passive_core.specs.declared.entry.Entry.{Entry}
 use Rattle.passive_core.specs.declared.event.Event.{Event}
 use Rattle.passive_core.specs.declared.event.Event.TheVariants.{StoreSlot, StoreNext, Publish, Keep, KeptSub, Vacate}
@@ -18,8 +17,7 @@ use Rattle.passive_core.specs.Model.{IsUnheld}
 use Rattle.passive_core.specs.Picture.{number_in, picture}
 use Rattle.passive_core.specs.Ran.{rested}
 use Rattle.passive_core.specs.Laws.{after, IsAllowed, occupant_of, destroyed_slot, given_slot, EveryRunKeeps}
-use Rattle.passive_core.proofs.Keeping.{ran_keeps}
-use Rattle.passive_core.proofs.Refining.{opening_stands}
+use Rattle.passive_core.proofs.Keeping.{ran_keeps, opening_holds}
 use Rattle.passive_core.proofs.RefiningEntries.{Drained, drained}
 use Rattle.passive_core.proofs.Occupied.{written_cases, in_within}
 use Rattle.passive_core.proofs.ListKeeps.{may_write_tells}
@@ -29,13 +27,9 @@ use Rattle.passive_core.proofs.LawsSteps.{Sort, Refused, Left, Entered, Exited, 
 -- Every run keeps the invariant.
 
 pub every_run_keeps : EveryRunKeeps
-every_run_keeps z events fit = ran_keeps (rested (opening z)) events (opening_stands z fit)
+every_run_keeps z events fit = ran_keeps (rested (opening z)) events (opening_holds z fit)
 
 -- Occupants
-
--- an entry in a slot is its occupant, and the other way round
-pub in_number : (x : Slot) (e : Entry) → IsIn e x → number_in x ≡ Some e.number
-in_number x e is = ⊎_elim (λ (live : x ≡ Live e). ap number_in live) (λ (gone : x ≡ Retired e). ap number_in gone) is
 
 pub number_is : (x : Slot) (n : ℕ) → number_in x ≡ Some n → (e : Entry) × IsIn e x × (e.number ≡ n)
 number_is Vacant n is = absurd (none-some n is)
@@ -217,7 +211,3 @@ goes_or_stays (Some m) n = ⊎_elim
     (λ (same : m ≡ n). inl (ap (λ (k : ℕ). Some k) same))
     (λ (off : m ≡ n → ⊥). inr (λ is. off (same_Some m n is)))
     (cases_eq m n)
-
-pub keeps_one : (x : Option ℕ) → keeps_rightly x Iface ≡ true → (d : ℕ) × (x ≡ Some d)
-keeps_one None right = absurd (let q : ◌≡◌ {A = Bool} false true = right in cc)
-keeps_one (Some d) right = (d, refl)

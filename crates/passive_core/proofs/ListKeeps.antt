@@ -10,24 +10,24 @@ use Rattle.passive_core.proofs.Growing.{found_old, searches_old, sections_old}
 use Rattle.passive_core.proofs.History.{length-after_change}
 use Rattle.passive_core.proofs.Marking.{marks_detach, snapshots_detach}
 use Rattle.passive_core.proofs.Passive.{passive_attach, passive_detach}
-use Rattle.passive_core.proofs.Publishing.{held_attach, legal_attach, links_attach, list_attach, marks_attach, not_vacant, rows_attach, slots_attach, snapshots_attach}
+use Rattle.passive_core.proofs.Publishing.{held_attach, legal_attach, links_attach, list_attach, marks_attach, rows_attach, slots_attach, snapshots_attach}
 use Rattle.passive_core.proofs.Unlinking.{before_leads, head_leads, head_leads_on, held_detach, legal_detach, link_to, links_detach, list_unlink_head, list_unlink_mid, rows_detach, slots_detach, within_live}
 use Rattle.passive_core.specs.Events.{after_link_store, after_publish, after_row_store, after_unpublish, are_unused, entry_if, entry_of, has_room, keeps_rightly, kind_of, may_publish, may_write, retiring, unlinking, with_word, words_of}
 use Rattle.passive_core.specs.History.{after_change, key_of}
 use Rattle.passive_core.specs.Invariant.{AreRows, CountsHold, DriversKept, HasShape, Holds, IsIn, Leads, LinksStay, ListShows, ReferencesHold, RowsShow, SnapshotsStand, one_if}
 use Rattle.passive_core.specs.Names.{are_name_words}
-use Rattle.passive_core.specs.Slots.{at_rest, is_live, is_live_as, is_retired, is_taken, is_vacant, kind_word, live_count, same_key, same_kind, same_name, slot_before}
+use Rattle.passive_core.specs.Slots.{at_rest, is_live, is_live_as, is_taken, is_vacant, kind_word, live_count, same_key, same_kind, same_name, slot_before}
 use Rattle.passive_core.specs.State.{State, bias, kept_at, no_mark, no_words, row_at, slot_at}
 use Rattle.passive_core.specs.declared.entry.Change.TheVariants.{Attach, Detach}
 use Rattle.passive_core.specs.declared.entry.Entry.{Entry}
 use Rattle.passive_core.specs.declared.entry.Kind.{Kind}
 use Rattle.passive_core.specs.declared.entry.Kind.TheVariants.{Driver, Iface}
-use Rattle.passive_core.specs.declared.state.Due.{Due}
-use Rattle.passive_core.specs.declared.state.Due.TheVariants.{Adding, Rest, Snapshots, Subtracting}
+use Rattle.passive_core.specs.declared.state.Due.TheVariants.{Rest}
 use Rattle.passive_core.specs.declared.state.Key.{Key}
 use Rattle.passive_core.specs.declared.state.RecordWords.{RecordWords}
 use Rattle.passive_core.specs.declared.state.Slot.{Slot}
 use Rattle.passive_core.specs.declared.state.Slot.TheVariants.{Live, Retired, Vacant}
+use Rattle.passive_core.proofs.Occupied.{not_vacant, is_vacant_tells, at_rest_tells}
 
 -- the clauses that other files keep, at a state
 abbrev pub CountsOf : State → Type 0
@@ -39,24 +39,7 @@ ReferencesOf s = ReferencesHold s.settings.cpus s.slots s.hands s.due s.locals
 abbrev pub DriversOf : State → Type 0
 DriversOf s = DriversKept s.slots s.keeps
 
--- What the tests tell.
-pub vacant_from : (x : Slot) → is_vacant x ≡ true → x ≡ Vacant
-vacant_from Vacant is = refl
-vacant_from (Live e) is = absurd (let q : ◌≡◌ {A = Bool} false true = is in cc)
-vacant_from (Retired e) is = absurd (let q : ◌≡◌ {A = Bool} false true = is in cc)
-
-pub retired_from : (x : Slot) → is_retired x ≡ true → (e : Entry) × (x ≡ Retired e)
-retired_from Vacant is = absurd (let q : ◌≡◌ {A = Bool} false true = is in cc)
-retired_from (Live e) is = absurd (let q : ◌≡◌ {A = Bool} false true = is in cc)
-retired_from (Retired e) is = (e, refl)
-
-pub rest_from : (d : Due) → at_rest d ≡ true → d ≡ Rest
-rest_from Rest is = refl
-rest_from (Snapshots t c) is = absurd (let q : ◌≡◌ {A = Bool} false true = is in cc)
-rest_from (Adding t old) is = absurd (let q : ◌≡◌ {A = Bool} false true = is in cc)
-rest_from (Subtracting t) is = absurd (let q : ◌≡◌ {A = Bool} false true = is in cc)
-
-false_from : (b : Bool) → not b ≡ true → b ≡ false
+pub false_from : (b : Bool) → not b ≡ true → b ≡ false
 false_from false is = refl
 false_from true is = absurd (let q : ◌≡◌ {A = Bool} false true = is in cc)
 
@@ -65,7 +48,7 @@ pub may_write_tells : (s : State) (t : ℕ) → HasShape s → may_write s t ≡
 may_write_tells s t shape may =
     let p = and_parts (at_rest s.due) (nat_lt t s.settings.slots && is_vacant (slot_at s.slots t)) may in
     let q = and_parts (nat_lt t s.settings.slots) (is_vacant (slot_at s.slots t)) p.1 in
-    (rest_from s.due p.0, omega (arith, ltb-true t s.settings.slots q.0, shape.slots), vacant_from (slot_at s.slots t) q.1)
+    (at_rest_tells s.due p.0, omega (arith, ltb-true t s.settings.slots q.0, shape.slots), is_vacant_tells (slot_at s.slots t) q.1)
 
 same_kind_own : (k : Kind) → same_kind k k ≡ true
 same_kind_own Iface = refl
@@ -368,7 +351,7 @@ fit_unlinked s e head next on at rest shape list links counts references drivers
       held = held_detach s.history s.slots s.begins e at on.held;
       frozen_links = links;
       grace = marks_detach s.history s.slots s.marks s.section s.begins e 8 at (on.shape.marks ∙ sym on.shape.slots) on.slots on.grace;
-      snapshots = snapshots_detach s.settings.cpus s.slots s.marks e 8 lt (subst (SnapshotsStand s.settings.cpus s.slots s.marks) (rest_from s.due rest) on.snapshots);
+      snapshots = snapshots_detach s.settings.cpus s.slots s.marks e 8 lt (subst (SnapshotsStand s.settings.cpus s.slots s.marks) (at_rest_tells s.due rest) on.snapshots);
       seats = on.seats;
       sections = sections_old s.settings s.history (Detach e.number) s.section s.begins s.depths s.seen on.sections;
       searches = searches_old s.settings s.history (Detach e.number) s.section s.begins s.depths s.seen s.searches on.sections on.searches;

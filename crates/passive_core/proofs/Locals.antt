@@ -26,8 +26,8 @@ use Rattle.passive_core.specs.Locals.{count_in, free_added, is_counting, local_s
 use Rattle.passive_core.proofs.CountKeeps.{counts_keep, empty_from}
 use Rattle.passive_core.proofs.Counts.{counting_cases, held_stays}
 use Rattle.passive_core.proofs.Fit.{ranges}
-use Rattle.passive_core.proofs.Numbers.{entry_attached, number_slot, occupied_slot, position_fails}
-use Rattle.passive_core.proofs.Occupied.{at_rest_tells}
+use Rattle.passive_core.proofs.Numbers.{entry_attached, occupied_slot, position_fails}
+use Rattle.passive_core.proofs.Occupied.{at_rest_tells, slot_has}
 use Rattle.passive_core.proofs.Passives.{Shows, both, found_slot, is_some, made, may_still}
 use Rattle.passive_core.proofs.References.{references_places, standing_tells}
 
@@ -141,7 +141,7 @@ pub record Collected_at (s : State) (c t : ℕ) : Type 0 where
 
 pub count_cases : (s : State) (c n t : ℕ) → Holds s → slot_of s.slots n ≡ Some t → c < s.settings.cpus → Counts s c t ⊎ Collected_at s c t
 count_cases s c n t on of low =
-    let has = number_slot s.slots n t of in
+    let has = slot_has s.slots n t of in
     let e = has.1.0 in
     ⊎_elim
     (λ (counting : IsCounting s.slots s.marks c t).
@@ -261,7 +261,7 @@ joined_keeper s c id n t on low rest live of off =
     (λ (is : Counts s c t). absurd (let q : ◌≡◌ {A = Bool} true false = sym is.some ∙ none in cc))
     (λ (is : Collected_at s c t).
     keeper_joins s id n t live of (both (is_retired (slot_at s.slots t)) (at_rest s.due && is_some_collected s.settings.cpus (get_or s.marks t [])) is.retired
-    (both (at_rest s.due) (is_some_collected s.settings.cpus (get_or s.marks t [])) rest (some_collected s c t on low (number_slot s.slots n t of).0 is.collected))))
+    (both (at_rest s.due) (is_some_collected s.settings.cpus (get_or s.marks t [])) rest (some_collected s c t on low (slot_has s.slots n t of).0 is.collected))))
     (count_cases s c n t on of low)
 
 totals_sub : (s : State) (id t : ℕ) → step (after_join_keeper s id t) (TotalSub t) ≡ taken (after_total (after_join_keeper s id t) t (total_at s.totals t - 1)) Done
@@ -281,7 +281,7 @@ subtracted s v w id t r rest is was =
 pub local_shows : (s : State) (id n : ℕ) → Holds s → standing (local_at s.locals id) ≡ Some n → Shows s n (load_local s id)
 local_shows s id n on live =
     let t = live_slot s id n on live in
-    let has = number_slot s.slots n t.0 t.1 in
+    let has = slot_has s.slots n t.0 t.1 in
     let e = has.1.0 in
     let row = on.rows t.0 e has.1.1 in
     record {

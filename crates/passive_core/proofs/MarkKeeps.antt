@@ -5,11 +5,9 @@ use Rattle.std.proofs.lemmas.List.{get_or_past, length-replicate}
 use Rattle.std.proofs.lemmas.Option.{none-some}
 use Rattle.std.specs.Prelude.{IsTrue, is_none, nat_lt, ◌==◌}
 use Rattle.passive_core.proofs.History.{at_empty}
-use Rattle.passive_core.proofs.ListKeeps.{CountsOf, DriversOf, ReferencesOf, live_count_put, rest_from, retired_from, rows_cell}
-use Rattle.passive_core.proofs.Marking.{get_or_all, held_vacate, links_vacate, list_all_within, list_vacate, marks_look, marks_snapshot, marks_vacate, marks_write, rows_vacate, slots_vacate, snapshots_marked, snapshots_taken, snapshots_vacate}
-use Rattle.passive_core.proofs.Numbers.{number_slot}
+use Rattle.passive_core.proofs.ListKeeps.{CountsOf, DriversOf, ReferencesOf, live_count_put, rows_cell}
+use Rattle.passive_core.proofs.Marking.{held_vacate, links_vacate, list_all_within, list_vacate, marks_look, marks_snapshot, marks_vacate, marks_write, rows_vacate, slots_vacate, snapshots_marked, snapshots_taken, snapshots_vacate}
 use Rattle.passive_core.proofs.Passive.{found_not_passed, passive_counted, passive_marked, passive_vacate}
-use Rattle.passive_core.proofs.Publishing.{not_vacant}
 use Rattle.passive_core.proofs.Unlinking.{within_retired}
 use Rattle.passive_core.specs.Events.{after_add, after_kept_sub, after_look, after_look_passive, after_snapshot, after_sub, after_vacate, cleared, due_after, is_drainable, is_drained, is_idle, is_number, is_snapshot_due, looked, may_add, may_examine, may_look_passive, may_sub, may_vacate, snapshot_mark}
 use Rattle.passive_core.specs.Invariant.{AreRows, DueHolds, Holds, IsIn, MarksHold, PassiveShow, SnapshotsStand, To_end}
@@ -21,11 +19,14 @@ use Rattle.passive_core.specs.declared.entry.Change.TheVariants.{Attach, Detach}
 use Rattle.passive_core.specs.declared.entry.Entry.{Entry}
 use Rattle.passive_core.specs.declared.settings.Settings.{Settings}
 use Rattle.passive_core.specs.declared.state.Due.{Due}
-use Rattle.passive_core.specs.declared.state.Due.TheVariants.{Adding, Rest, Snapshots, Subtracting}
+use Rattle.passive_core.specs.declared.state.Due.TheVariants.{Rest, Snapshots}
 use Rattle.passive_core.specs.declared.state.Hand.TheVariants.{Empty}
 use Rattle.passive_core.specs.declared.state.Mark.{Mark}
 use Rattle.passive_core.specs.declared.state.Slot.{Slot}
 use Rattle.passive_core.specs.declared.state.Slot.TheVariants.{Live, Retired, Vacant}
+use Rattle.passive_core.proofs.Occupied.{not_vacant, slot_has, is_retired_tells, at_rest_tells}
+use Rattle.passive_core.proofs.References.{snapshot_due_tells}
+use Rattle.passive_core.proofs.Cells.{get_or_all}
 
 -- no more CPUs than a row has places
 pub cpus_fit : (z : Settings) → IsTrue (are_fit z) → z.cpus ≤ 8
@@ -78,15 +79,6 @@ marks_keep s marks due on size rows grace snapshots passive counts references = 
   kept_drivers = on.kept_drivers;
 }
 
--- the snapshot that is due
-pub due_from : (d : Due) (t c : ℕ) → is_snapshot_due d t c ≡ true → d ≡ Snapshots t c
-due_from Rest t c is = absurd (let q : ◌≡◌ {A = Bool} false true = is in cc)
-due_from (Snapshots a b) t c is =
-    let p = and_parts (a == t) (b == c) is in
-    ap (λ (k : ℕ). Snapshots k b) (eqb-true a t p.0) ∙ ap (λ (k : ℕ). Snapshots t k) (eqb-true b c p.1)
-due_from (Adding a old) t c is = absurd (let q : ◌≡◌ {A = Bool} false true = is in cc)
-due_from (Subtracting a) t c is = absurd (let q : ◌≡◌ {A = Bool} false true = is in cc)
-
 -- the place of a CPU in the marks of a retired slot
 pub mark_place : (s : State) (t c : ℕ) (e : Entry) → Holds s → slot_at s.slots t ≡ Retired e → c < s.settings.cpus → (t < length s.marks) × (c < length (get_or s.marks t []))
 mark_place s t c e on is low =
@@ -96,7 +88,7 @@ mark_place s t c e on is low =
 pub snapshot_keeps : (s : State) (t c : ℕ) → Holds s → is_snapshot_due s.due t c ≡ true
     → CountsOf (after_snapshot s t c) → ReferencesOf (after_snapshot s t c) → Holds (after_snapshot s t c)
 snapshot_keeps s t c on is counts references =
-    let due : s.due ≡ Snapshots t c = due_from s.due t c is in
+    let due : s.due ≡ Snapshots t c = snapshot_due_tells s.due t c is in
     let there : DueHolds s.settings.cpus s.slots (Snapshots t c) = subst (DueHolds s.settings.cpus s.slots) due on.references.due_at in
     let place = mark_place s t c there.1.0 on there.1.1 there.0 in
     marks_keep s (with_cell s.marks t c (snapshot_mark (section_at s c))) (due_after s t c) on
@@ -123,7 +115,7 @@ pub may_examine_tells : (s : State) (t c : ℕ) → may_examine s t c ≡ true �
 may_examine_tells s t c may =
     let p = and_parts (at_rest s.due) (nat_lt c s.settings.cpus && is_retired (slot_at s.slots t)) may in
     let q = and_parts (nat_lt c s.settings.cpus) (is_retired (slot_at s.slots t)) p.1 in
-    (rest_from s.due p.0, ltb-true c s.settings.cpus q.0, retired_from (slot_at s.slots t) q.1)
+    (at_rest_tells s.due p.0, ltb-true c s.settings.cpus q.0, is_retired_tells (slot_at s.slots t) q.1)
 
 pub look_passive_keeps : (s : State) (t c : ℕ) → Holds s → may_look_passive s t c ≡ true → CountsOf (after_look_passive s t c) → Holds (after_look_passive s t c)
 look_passive_keeps s t c on may counts =
@@ -203,7 +195,7 @@ add_keeps s c n t on of may =
     let q = and_parts (is_number n (found_at s c) || nat_lt 0 (passive_at s.passive c t)) (nat_lt (passive_at s.passive c t) s.settings.passive_limit) p.1 in
     let low : c < s.settings.cpus = idle_within s c on p.0 in
     let fits : passive_at s.passive c t < s.settings.passive_limit = ltb-true (passive_at s.passive c t) s.settings.passive_limit q.1 in
-    let there = number_slot s.slots n t of in
+    let there = slot_has s.slots n t of in
     passive_keep s c t (passive_at s.passive c t + 1) on (passive_counted s.settings.cpus s.settings.passive_limit s.slots s.marks s.passive c t (passive_at s.passive c t + 1) low (omega (arith, fits))
     (λ vacant. not_vacant there.1.0 (slot_at s.slots t) vacant there.1.1)
     (λ e gone clear. ⊎_elim
@@ -240,9 +232,9 @@ is_drained_tells s t on is =
     let p2 = and_parts (is_drainable s t) (are_collected s.settings.cpus row && total_at s.totals t == bias) p1.1 in
     let p3 = and_parts (are_collected s.settings.cpus row) (total_at s.totals t == bias) p2.1 in
     let p4 = and_parts (have_passed s.settings.cpus row) (are_clear s.settings.cpus row) p2.0 in
-    let gone : (e : Entry) × (slot_at s.slots t ≡ Retired e) = retired_from (slot_at s.slots t) p1.0 in
+    let gone : (e : Entry) × (slot_at s.slots t ≡ Retired e) = is_retired_tells (slot_at s.slots t) p1.0 in
     let place : (c : ℕ) → c < s.settings.cpus → c < length row = λ c low. (mark_place s t c gone.0 on gone.1 low).1 in (
-      rest_from s.due p.0,
+      at_rest_tells s.due p.0,
       gone,
       λ c low. list_all_within is_passed row s.settings.cpus c no_mark p4.0 low (place c low),
       λ c low. list_all_within is_clear row s.settings.cpus c no_mark p4.1 low (place c low),

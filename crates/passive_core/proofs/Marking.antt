@@ -5,7 +5,6 @@ use Rattle.std.proofs.lemmas.List.{set_past}
 use Rattle.std.proofs.lemmas.Option.{same_Some}
 use Rattle.std.specs.List.{list_all}
 use Rattle.std.specs.Prelude.{if◌then◌else◌, nat_lt}
-use Rattle.passive_core.proofs.Publishing.{not_vacant, slot_cases}
 use Rattle.passive_core.proofs.Unlinking.{end_before, gone_before, within_live}
 use Rattle.passive_core.specs.Events.{looked, snapshot_mark}
 use Rattle.passive_core.specs.History.{EndsAt, IsLiveAt, after_change}
@@ -22,12 +21,8 @@ use Rattle.passive_core.specs.declared.state.Mark.{Mark}
 use Rattle.passive_core.specs.declared.state.RecordWords.{RecordWords}
 use Rattle.passive_core.specs.declared.state.Slot.{Slot}
 use Rattle.passive_core.specs.declared.state.Slot.TheVariants.{Live, Retired, Vacant}
-
--- each place of such a list shows x, and so does each place past its end
-pub get_or_all : {X : Type 0} (n : ℕ) (x : X) (i : ℕ) → get_or (replicate n x) i x ≡ x
-get_or_all zero x i = refl
-get_or_all (suc n) x zero = refl
-get_or_all (suc n) x (suc i) = get_or_all n x i
+use Rattle.passive_core.proofs.Occupied.{slot_cases, not_vacant}
+use Rattle.passive_core.proofs.Cells.{get_or_all}
 
 -- a fresh row of marks
 pub marks_detach : (h : List Change) (slots : List Slot) (marks : List (List Mark)) (section : List ℕ) (begins : List (Option ℕ)) (e : Entry) (n : ℕ) → slot_at slots e.slot ≡ Live e → length marks ≡ length slots → SlotsShow h slots

@@ -1,8 +1,7 @@
 -- Which slot has the entry with a number.
-use Rattle.std.proofs.Common.{Bool, List, None, Some, ap, arith, false, get_or, inl, inr, length, refl, sym, true, ℕ, ⊎_elim, ◌<◌, ◌∙◌, ◌≡◌, ◌≤◌}
-use Rattle.std.proofs.lemmas.Bool.{cases_lt, eq-eqb, eqb-true, lt-ltb}
+use Rattle.std.proofs.Common.{Bool, List, None, Some, ap, arith, false, get_or, length, refl, sym, true, ℕ, ⊎_elim, ◌<◌, ◌∙◌, ◌≡◌, ◌≤◌}
+use Rattle.std.proofs.lemmas.Bool.{cases_lt, eq-eqb, lt-ltb}
 use Rattle.std.proofs.lemmas.List.{get_or_past}
-use Rattle.std.proofs.lemmas.List.Quantifiers.{position-Some}
 use Rattle.std.proofs.lemmas.List.Sums.{fails_before_first}
 use Rattle.std.proofs.lemmas.Option.{none-some}
 use Rattle.std.specs.List.{position_or_len}
@@ -16,6 +15,7 @@ use Rattle.passive_core.specs.declared.entry.Change.{Change}
 use Rattle.passive_core.specs.declared.entry.Entry.{Entry}
 use Rattle.passive_core.specs.declared.state.Slot.{Slot}
 use Rattle.passive_core.specs.declared.state.Slot.TheVariants.{Live, Retired, Vacant}
+use Rattle.passive_core.proofs.Occupied.{slot_has}
 
 -- where a place passes, one is found
 pub position_passes : {X : Type 0} (p : X → Bool) (xs : List X) (k : ℕ) (d : X) → k < length xs → p (get_or xs k d) ≡ true → (i : ℕ) × (position p xs ≡ Some i)
@@ -27,17 +27,6 @@ position_passes p xs k d lt passes = ⊎_elim
 -- and where none is found, no place passes
 pub position_fails : {X : Type 0} (p : X → Bool) (xs : List X) (k : ℕ) (d : X) → position p xs ≡ None → k < length xs → p (get_or xs k d) ≡ true → ⊥
 position_fails p xs k d none lt passes = let i = position_passes p xs k d lt passes in none-some i.0 (sym none ∙ i.1)
-
-has_entry : (n : ℕ) (x : Slot) → has_number n x ≡ true → (e : Entry) × IsIn e x × (e.number ≡ n)
-has_entry n Vacant is = absurd (let q : ◌≡◌ {A = Bool} false true = is in cc)
-has_entry n (Live e) is = (e, inl refl, eqb-true e.number n is)
-has_entry n (Retired e) is = (e, inr refl, eqb-true e.number n is)
-
--- the slot of a number has an entry with it
-pub number_slot : (slots : List Slot) (n t : ℕ) → slot_of slots n ≡ Some t → (t < length slots) × ((e : Entry) × IsIn e (slot_at slots t) × (e.number ≡ n))
-number_slot slots n t is =
-    let at = position-Some (has_number n) slots t Vacant is in
-    (at.0, has_entry n (slot_at slots t) at.1)
 
 -- an entry in a slot is attached, in that slot
 pub entry_attached : (h : List Change) (slots : List Slot) (e : Entry) (t : ℕ) → SlotsShow h slots → IsIn e (slot_at slots t) → IsAttached h e × (e.slot ≡ t)
@@ -74,7 +63,7 @@ has_own e x is = ⊎_elim
 pub slot_number : (h : List Change) (slots : List Slot) (e : Entry) (t : ℕ) → SlotsShow h slots → IsIn e (slot_at slots t) → slot_of slots e.number ≡ Some t
 slot_number h slots e t show is =
     let found = position_passes (has_number e.number) slots t Vacant (within_in slots e t is) (has_own e (slot_at slots t) is) in
-    let there = number_slot slots e.number found.0 found.1 in
+    let there = slot_has slots e.number found.0 found.1 in
     let one = one_number h slots there.1.0 e found.0 t show there.1.1 is there.1.2 in
     found.1 ∙ ap (λ (k : ℕ). Some k) one.1
 

@@ -2,8 +2,8 @@
 use Rattle.std.proofs.Common.{Bool, List, None, Option, Some, [], ap, arith, false, get_or, get_or-set_other, get_or-set_same, inr, length, refl, replicate, set, subst, sym, true, ℕ, ⊎_elim, ◌<◌, ◌∙◌, ◌≡◌, ◌≤◌, ◌⊎◌}
 use Rattle.std.proofs.lemmas.Bool.{cases_lt, eqb-true}
 use Rattle.passive_core.proofs.History.{one_entry}
-use Rattle.passive_core.proofs.Marking.{get_or_all, row_cases, vacated_before}
-use Rattle.passive_core.proofs.Publishing.{retired_before, slot_cases}
+use Rattle.passive_core.proofs.Marking.{row_cases, vacated_before}
+use Rattle.passive_core.proofs.Publishing.{retired_before}
 use Rattle.passive_core.proofs.Unlinking.{gone_before}
 use Rattle.passive_core.specs.Events.{is_number}
 use Rattle.passive_core.specs.History.{EndsAt}
@@ -14,6 +14,8 @@ use Rattle.passive_core.specs.declared.entry.Entry.{Entry}
 use Rattle.passive_core.specs.declared.state.Mark.{Mark}
 use Rattle.passive_core.specs.declared.state.Slot.{Slot}
 use Rattle.passive_core.specs.declared.state.Slot.TheVariants.{Live, Retired, Vacant}
+use Rattle.passive_core.proofs.Occupied.{slot_cases}
+use Rattle.passive_core.proofs.Cells.{get_or_all}
 
 pub passive_attach : (cpus limit : ℕ) (slots : List Slot) (marks : List (List Mark)) (passive : List (List ℕ)) (e : Entry) → e.slot < length slots → PassiveShow cpus limit slots marks passive → PassiveShow cpus limit (set slots e.slot (Live e)) marks passive
 passive_attach cpus limit slots marks passive e lt p = record {

@@ -1,22 +1,24 @@
 -- What the commands on passive references rest on.
-use Rattle.std.proofs.Common.{◌≡◌, ℕ, ◌+◌, ◌-◌, ◌<◌, ◌≤◌, ◌⊎◌, inl, inr, ⊎_elim, Option, Some, None, IsSome, Bool, true, false, not, ◌&&◌, ◌||◌, nat_lt, is_none, refl, sym, ap, subst, ◌∙◌}
-use Rattle.std.proofs.lemmas.Bool.{or_right, cases_lt, lt-ltb, le-ltb}
+use Rattle.std.proofs.Common.{◌≡◌, ℕ, ◌+◌, ◌-◌, ◌<◌, ◌≤◌, ◌⊎◌, inl, inr, ⊎_elim, Option, Some, None, IsSome, Bool, true, false, not, ◌&&◌, ◌||◌, nat_lt, refl, sym, ap, subst, ◌∙◌}
+use Rattle.std.proofs.lemmas.Bool.{or_right, cases_lt, le-ltb}
 use Rattle.passive_core.specs.declared.entry.Entry.{Entry}
 use Rattle.passive_core.specs.declared.event.Event.TheVariants.{PassiveAdd, PassiveSub}
 use Rattle.passive_core.specs.declared.event.Reply.{Reply}
 use Rattle.passive_core.specs.declared.event.Reply.TheVariants.{Word}
-use Rattle.passive_core.specs.State.{State, search_at, found_at, hand_at, passive_at, row_at, with_cell}
+use Rattle.passive_core.specs.State.{State, found_at, passive_at, row_at, with_cell}
 use Rattle.passive_core.specs.History.{IsAttached}
 use Rattle.passive_core.specs.Names.{are_name_words}
-use Rattle.passive_core.specs.Slots.{is_empty, slot_of}
+use Rattle.passive_core.specs.Slots.{slot_of}
 use Rattle.passive_core.specs.Events.{Outcome, is_idle, is_number, after_add, after_sub, load_passive, state_after, step, taken, word, words_of}
 use Rattle.passive_core.specs.Invariant.{Holds}
 use Rattle.passive_core.specs.Commands.{all_seated, may_act}
 use Rattle.passive_core.specs.Picture.{passive_in}
 use Rattle.passive_core.specs.Passives.{IsOneLess, IsOneMore, passive_of, with_one_more, with_one_less}
-use Rattle.passive_core.proofs.Numbers.{entry_attached, number_slot, occupied_slot}
+use Rattle.passive_core.proofs.Numbers.{entry_attached, occupied_slot}
 use Rattle.passive_core.proofs.Passive.{found_number}
 use Rattle.passive_core.proofs.RefiningReferences.{passive_put}
+use Rattle.passive_core.proofs.Occupied.{slot_has}
+use Rattle.passive_core.proofs.Acting.{acting_idle}
 
 -- A CPU that may act is idle once all have their seats.
 
@@ -28,16 +30,10 @@ pub both : (a b : Bool) → a ≡ true → b ≡ true → (a && b) ≡ true
 both true b is too = too
 both false b is too = is
 
-pub acts : (s : State) (c : ℕ) → Holds s → c < s.settings.cpus → may_act s c ≡ true → is_idle (all_seated s) c ≡ true
-acts s c on low may = both (nat_lt c s.settings.cpus) (is_none (search_at s c) && is_empty (hand_at s c)) (lt-ltb c s.settings.cpus low) (⊎_elim
-    (λ (lt : c < s.seated). was_idle (nat_lt c s.seated) (is_none (search_at s c) && is_empty (hand_at s c)) (lt-ltb c s.seated lt) may)
-    (λ (ge : s.seated ≤ c). rw (on.seats.unsearching c ge, on.seats.empty c ge) refl)
-    (cases_lt c s.seated))
-
 -- and a CPU that might act before still may
 pub may_still : (s : State) → Holds s → (d : ℕ) → may_act s d ≡ true → may_act (all_seated s) d ≡ true
 may_still s on d may = ⊎_elim
-    (λ (lt : d < s.settings.cpus). or_right (not (nat_lt d s.settings.cpus)) (is_idle (all_seated s) d) (acts s d on lt may))
+    (λ (lt : d < s.settings.cpus). or_right (not (nat_lt d s.settings.cpus)) (is_idle (all_seated s) d) (acting_idle s d on lt may))
     (λ (ge : s.settings.cpus ≤ d). let out : nat_lt d s.settings.cpus ≡ false = le-ltb d s.settings.cpus ge in rw out refl)
     (cases_lt d s.settings.cpus)
 
@@ -146,7 +142,7 @@ loads_at s c n t k e of idle some few row = rw (of, idle, some, few, row) refl
 pub passive_shows : (s : State) (c n : ℕ) → Holds s → is_idle s c ≡ true → nat_lt 0 (passive_of s c n) ≡ true → Shows s n (load_passive s c n)
 passive_shows s c n on idle held =
     let t = held_slot s.passive c (slot_of s.slots n) held in
-    let has = number_slot s.slots n t.0 t.1 in
+    let has = slot_has s.slots n t.0 t.1 in
     let e = has.1.0 in
     let row = on.rows t.0 e has.1.1 in
     let some : nat_lt 0 (passive_at s.passive c t.0) ≡ true = subst (λ (o : Option ℕ). nat_lt 0 (passive_in s.passive c o) ≡ true) t.1 held in

@@ -16,6 +16,7 @@ use Rattle.passive_core.specs.declared.state.Mark.{Mark}
 use Rattle.passive_core.specs.declared.state.RecordWords.{RecordWords}
 use Rattle.passive_core.specs.declared.state.Slot.{Slot}
 use Rattle.passive_core.specs.declared.state.Slot.TheVariants.{Live, Retired, Vacant}
+use Rattle.passive_core.proofs.Occupied.{slot_cases, in_other, not_vacant, live_one}
 
 pub legal_attach : (h : List Change) (e : Entry) → IsLegal h → e.number ≡ suc (length h)
     → ((f : Entry) → IsLiveAt h (length h) f → key_of f ≡ key_of e → ⊥) → ((f : Entry) → IsLiveAt h (length h) f → f.slot ≡ e.slot → ⊥) → IsLegal (after_change h (Attach e))
@@ -83,13 +84,6 @@ leads_attach h e n _ number le (To_entry g live lt most) = To_entry g (still_liv
     (λ (old : IsLiveAt h (length h) f). most f old low)
     (live_cases h e f number lf))
 
--- a slot after a write to t, at another slot
-pub slot_cases : (slots : List Slot) (t : ℕ) (x : Slot) (u : ℕ) → t < length slots → ((u ≡ t) × (slot_at (set slots t x) u ≡ x)) ⊎ ((u ≡ t → ⊥) × (slot_at (set slots t x) u ≡ slot_at slots u))
-slot_cases slots t x u lt = ⊎_elim
-    (λ (same : u ≡ t). inl (same, ap (λ (k : ℕ). get_or (set slots t x) k Vacant) same ∙ get_or-set_same slots t x Vacant lt))
-    (λ (off : u ≡ t → ⊥). inr (off, get_or-set_other slots t u x Vacant off))
-    (cases_eq u t)
-
 pub slots_attach : (h : List Change) (slots : List Slot) (e : Entry) → IsLegal h → e.slot < length slots → slot_at slots e.slot ≡ Vacant → e.number ≡ suc (length h)
     → SlotsShow h slots → SlotsShow (after_change h (Attach e)) (set slots e.slot (Live e))
 slots_attach h slots e legal lt vacant number show =
@@ -119,27 +113,10 @@ slots_attach h slots e legal lt vacant number show =
           (slot_cases slots e.slot (Live e) u lt);
     }
 
--- an entry in a slot that isn't the one written
-pub in_other : (slots : List Slot) (t : ℕ) (x : Slot) (f : Entry) (u : ℕ) → (u ≡ t → ⊥) → IsIn f (slot_at slots u) → IsIn f (slot_at (set slots t x) u)
-in_other slots t x f u off is = subst (IsIn f) (sym (get_or-set_other slots t u x Vacant off)) is
-
--- a vacant slot has no entry
-pub not_vacant : (f : Entry) (x : Slot) → x ≡ Vacant → IsIn f x → ⊥
-not_vacant f x vacant is = ⊎_elim
-    (λ (live : x ≡ Live f). let q : Live f ≡ Vacant = sym live ∙ vacant in cc)
-    (λ (gone : x ≡ Retired f). let q : Retired f ≡ Vacant = sym gone ∙ vacant in cc)
-    is
-
-pub is_live_one : (f e : Entry) (x : Slot) → x ≡ Live e → IsIn f x → f ≡ e
-is_live_one f e x at is = ⊎_elim
-    (λ (live : x ≡ Live f). let q : Live f ≡ Live e = sym live ∙ at in cc)
-    (λ (gone : x ≡ Retired f). absurd (let q : Retired f ≡ Live e = sym gone ∙ at in cc))
-    is
-
 pub rows_attach : (slots : List Slot) (rows : List RecordWords) (e : Entry) → e.slot < length slots → row_at rows e.slot ≡ words_of e → are_name_words e.rec.name.high e.rec.name.low ≡ true → RowsShow slots rows → RowsShow (set slots e.slot (Live e)) rows
 rows_attach slots rows e lt row name show u f is = ⊎_elim
     (λ (same : (u ≡ e.slot) × (slot_at (set slots e.slot (Live e)) u ≡ Live e)).
-    let one : f ≡ e = is_live_one f e (slot_at (set slots e.slot (Live e)) u) same.1 is in
+    let one : f ≡ e = live_one f e (slot_at (set slots e.slot (Live e)) u) same.1 is in
     (ap (row_at rows) same.0 ∙ (row ∙ ap words_of (sym one)), ap (λ (g : Entry). are_name_words g.rec.name.high g.rec.name.low) one ∙ name))
     (λ (off : (u ≡ e.slot → ⊥) × (slot_at (set slots e.slot (Live e)) u ≡ slot_at slots u)). show u f (subst (IsIn f) off.1 is))
     (slot_cases slots e.slot (Live e) u lt)

@@ -1,5 +1,5 @@
 -- Each event keeps what is so of local references: places, hands, and what the keeper must do next.
-use Rattle.std.proofs.Common.{◌≡◌, ℕ, zero, suc, ◌+◌, ◌<◌, ◌≤◌, ◌==◌, ◌⊎◌, inl, inr, ⊎_elim, List, [], ◌∷◌, ◌++◌, length, get_or, set, replicate, nat_lt, if◌then◌else◌, Bool, true, false, Option, Some, None, position, refl, sym, ap, subst, ◌∙◌, arith, length-set, get_or-set_same, get_or-set_other}
+use Rattle.std.proofs.Common.{◌≡◌, ℕ, ◌+◌, ◌<◌, ◌≤◌, ◌==◌, ◌⊎◌, inl, inr, ⊎_elim, List, [], ◌∷◌, ◌++◌, length, get_or, set, replicate, nat_lt, if◌then◌else◌, Bool, true, false, Option, Some, None, position, refl, sym, ap, subst, ◌∙◌, arith, length-set, get_or-set_same, get_or-set_other}
 use Rattle.std.proofs.lemmas.List.{get_or_past, get_or_append_left, get_or_push, length_push}
 use Rattle.std.proofs.lemmas.List.Quantifiers.{position-Some}
 use Rattle.std.proofs.lemmas.Bool.{cases_lt, cases_eq, and_parts, eqb-true, cond_both, ltb-true, ltb-false}
@@ -18,6 +18,7 @@ use Rattle.passive_core.specs.Events.{is_snapshot_due, standing, is_free, id_if,
 use Rattle.passive_core.specs.Invariant.{Occupies, held_at, HandHolds, DueHolds, ReferencesHold, SeatsShow}
 use Rattle.passive_core.proofs.Occupied.{place_cases, place_within, written_cases, in_within, occupies_publish, occupies_unpublish, occupies_vacate}
 use Rattle.passive_core.proofs.HeldSums.{number_of, Unreferred, unreferred}
+use Rattle.passive_core.proofs.Cells.{get_or_all}
 
 -- Slots change, places and hands stay.
 
@@ -331,15 +332,10 @@ standing_tells (Lifted c) n is = absurd (let q : ◌≡◌ {A = Option ℕ} None
 
 -- The opening
 
-pub all_same : {X : Type 0} (n : ℕ) (x : X) (i : ℕ) → get_or (replicate n x) i x ≡ x
-all_same zero x i = refl
-all_same (suc n) x zero = refl
-all_same (suc n) x (suc i) = all_same n x i
-
 pub references_opening : (cpus slots : ℕ) → ReferencesHold cpus (replicate slots Vacant) (replicate cpus Empty) Rest []
 references_opening cpus slots = record {
   standing = λ id n at. absurd (let q : Free ≡ Standing n = at in cc);
-  in_hands = λ c. subst (HandHolds (replicate slots Vacant) [] c) (sym (all_same cpus Empty c)) tt;
+  in_hands = λ c. subst (HandHolds (replicate slots Vacant) [] c) (sym (get_or_all cpus Empty c)) tt;
   due_at = tt;
 }
 
@@ -368,24 +364,6 @@ seats_hand cpus seated begins searches hands c h lt seats = record {
   empty = λ d ge. get_or-set_other hands c d h Empty (λ same. omega (arith, lt, ge, same)) ∙ seats.empty d ge;
 }
 
-pub seats_search : (cpus seated : ℕ) (begins : List (Option ℕ)) (searches : List (Option Search)) (hands : List Hand) (c : ℕ) (q : Option Search) → c < seated
-    → SeatsShow cpus seated begins searches hands → SeatsShow cpus seated begins (set searches c q) hands
-seats_search cpus seated begins searches hands c q lt seats = record {
-  within = seats.within;
-  outside = seats.outside;
-  unsearching = λ d ge. get_or-set_other searches c d q None (λ same. omega (arith, lt, ge, same)) ∙ seats.unsearching d ge;
-  empty = seats.empty;
-}
-
-pub seats_begin : (cpus seated : ℕ) (begins : List (Option ℕ)) (searches : List (Option Search)) (hands : List Hand) (c : ℕ) (b : Option ℕ) → c < seated
-    → SeatsShow cpus seated begins searches hands → SeatsShow cpus seated (set begins c b) searches hands
-seats_begin cpus seated begins searches hands c b lt seats = record {
-  within = seats.within;
-  outside = λ d ge. get_or-set_other begins c d b None (λ same. omega (arith, lt, ge, same)) ∙ seats.outside d ge;
-  unsearching = seats.unsearching;
-  empty = seats.empty;
-}
-
 -- one more CPU has its seat
 pub seats_seat : (cpus seated : ℕ) (begins : List (Option ℕ)) (searches : List (Option Search)) (hands : List Hand) (c : ℕ) → c ≡ seated → c < cpus → SeatsShow cpus seated begins searches hands → SeatsShow cpus (c + 1) begins searches hands
 seats_seat cpus seated begins searches hands c is lt seats = record {
@@ -398,7 +376,7 @@ seats_seat cpus seated begins searches hands c is lt seats = record {
 pub seats_opening : (cpus : ℕ) → SeatsShow cpus 0 (replicate cpus None) (replicate cpus None) (replicate cpus Empty)
 seats_opening cpus = record {
   within = omega arith;
-  outside = λ c ge. all_same cpus None c;
-  unsearching = λ c ge. all_same cpus None c;
-  empty = λ c ge. all_same cpus Empty c;
+  outside = λ c ge. get_or_all cpus None c;
+  unsearching = λ c ge. get_or_all cpus None c;
+  empty = λ c ge. get_or_all cpus Empty c;
 }

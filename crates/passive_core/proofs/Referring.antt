@@ -16,8 +16,9 @@ use Rattle.passive_core.specs.Slots.{slot_of, slot_before, is_vacant, is_retired
 use Rattle.passive_core.specs.Events.{may_write, may_examine, after_publish, keeps_rightly, retiring, unlinking, after_unpublish, is_snapshot_due, after_snapshot, is_idle, after_count_add, after_split, after_hand, after_count_down, after_collected, may_collect, after_collect, after_total, may_join_keeper, after_join_keeper, is_driver_slot, may_keep, after_keep, is_drained, after_kept_sub, after_vacate, after_seat, after_enter, after_exit, after_seek, after_seeing, going_on, search_over}
 use Rattle.passive_core.specs.Invariant.{held_at, ReferencesHold, DriversKept, SeatsShow}
 use Rattle.passive_core.proofs.Occupied.{is_vacant_tells, is_retired_tells, at_rest_tells, slot_occupied}
-use Rattle.passive_core.proofs.References.{references_publish, references_unpublish, snapshot_due_tells, references_snapshot, references_vacate, references_kept_sub, references_count_add, references_split, references_join, references_count_down, references_collected, references_split_back, references_collect, references_total, references_join_keeper, references_keep, references_opening, hand_seated, search_seated, seats_hand, seats_begin, seats_search, seats_seat, seats_opening}
+use Rattle.passive_core.proofs.References.{references_publish, references_unpublish, snapshot_due_tells, references_snapshot, references_vacate, references_kept_sub, references_count_add, references_split, references_join, references_count_down, references_collected, references_split_back, references_collect, references_total, references_join_keeper, references_keep, references_opening, hand_seated, search_seated, seats_hand, seats_seat, seats_opening}
 use Rattle.passive_core.proofs.Drivers.{drivers_publish, drivers_unpublish, drivers_vacate, drivers_kept_sub, drivers_keep, drivers_opening}
+use Rattle.passive_core.proofs.Sections.{seats_search, seats_begin}
 
 -- the three clauses, of a state
 pub record Refers (s : State) : Type 0 where

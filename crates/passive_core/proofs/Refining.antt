@@ -1,5 +1,5 @@
 -- Every event makes steps of the model.
-use Rattle.std.proofs.Common.{◌≡◌, ℕ, ◌+◌, ◌-◌, List, [], ◌∷◌, replicate, Option, Some, None, Bool, true, false, ◌&&◌, ◌==◌, nat_lt, if◌then◌else◌, IsTrue, refl, sym, ap, subst, ◌∙◌, arith, eqb-true}
+use Rattle.std.proofs.Common.{◌≡◌, ℕ, ◌+◌, ◌-◌, List, [], ◌∷◌, replicate, Option, Some, None, Bool, true, false, ◌&&◌, ◌==◌, nat_lt, if◌then◌else◌, refl, sym, ap, subst, ◌∙◌, arith, eqb-true}
 use Rattle.std.proofs.lemmas.Bool.{and_parts}
 use Rattle.passive_core.specs.declared.entry.Entry.{Entry}
 use Rattle.passive_core.specs.declared.settings.Settings.{Settings}
@@ -16,7 +16,6 @@ use Rattle.passive_core.specs.declared.state.Hand.TheVariants.{Empty, Taking, Gi
 use Rattle.passive_core.specs.declared.state.LocalPlace.TheVariants.{Lifted}
 use Rattle.passive_core.specs.declared.state.Due.{Due}
 use Rattle.passive_core.specs.declared.state.Due.TheVariants.{Rest, Snapshots, Adding, Subtracting}
-use Rattle.passive_core.specs.Limits.{are_fit}
 use Rattle.passive_core.specs.State.{State, opening, bias, section_at, search_at, found_at, slot_at, row_at, passive_at, count_at, total_at, hand_at, kept_at, local_at}
 use Rattle.passive_core.specs.Slots.{slot_of, at_rest}
 use Rattle.passive_core.specs.Events
@@ -27,10 +26,8 @@ use Rattle.passive_core.specs.Model.{Model, empty_model, IsModelRun, Stays}
 use Rattle.passive_core.specs.Picture.{passive_in, lookup_of, number_in, picture, EveryRunIsModelRun}
 use Rattle.passive_core.proofs.Occupied.{at_rest_tells}
 use Rattle.passive_core.proofs.References.{standing_tells}
-use Rattle.passive_core.proofs.Keeping.{step_holds}
-use Rattle.passive_core.proofs.Counts
-use Rattle.passive_core.proofs.Referring.{opening_refers}
-use Rattle.passive_core.proofs.MarkKeeps.{opening_holds, cell_all}
+use Rattle.passive_core.proofs.Keeping.{step_holds, opening_holds}
+use Rattle.passive_core.proofs.MarkKeeps.{cell_all}
 use Rattle.passive_core.proofs.Cells.{get_or_all}
 use Rattle.passive_core.proofs.HeldSums.{number_of, no_hand}
 use Rattle.passive_core.proofs.Picturing.{Makes, makes_guard, makes_some, same_model, join_runs}
@@ -214,10 +211,6 @@ opening_pictured z = same_model (picture (opening z)) empty_model (record {
     no_sum : (n : ℕ) → (picture (opening z)).locals n ≡ 0
     no_sum n = omega (arith, no_hand n (replicate z.cpus Empty) (λ c named. let q : ◌≡◌ {A = Option ℕ} None (Some n) = ap number_of (sym (get_or_all z.cpus Empty c)) ∙ named in cc))
 
--- the invariant holds in the opening state of fit settings
-pub opening_stands : (z : Settings) → IsTrue (are_fit z) → Holds (opening z)
-opening_stands z fit = let refers = opening_refers z in opening_holds z fit (Counts.opening z) refers.references refers.kept_drivers
-
 -- an event more, made or passed over
 turned_holds : (r : Ran) (o : Option Outcome) → Holds r.state → ((t : State) (reply : Reply) → o ≡ Some (record { state = t; reply = reply }) → Holds t) → Holds (turned r o).state
 turned_holds r None on now = on
@@ -235,4 +228,4 @@ ran_refines r (e ∷ es) on =
     (turned_refines r (step r.state e) now (step_makes r.state e on)) (ran_refines (turned r (step r.state e)) es now)
 
 pub every_run_is_model_run : EveryRunIsModelRun
-every_run_is_model_run z events fit = subst (λ (m : Model). IsModelRun m (picture (ran (rested (opening z)) events).state)) (opening_pictured z) (ran_refines (rested (opening z)) events (opening_stands z fit))
+every_run_is_model_run z events fit = subst (λ (m : Model). IsModelRun m (picture (ran (rested (opening z)) events).state)) (opening_pictured z) (ran_refines (rested (opening z)) events (opening_holds z fit))

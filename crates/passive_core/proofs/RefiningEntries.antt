@@ -148,7 +148,7 @@ unpublish_refines s t e on now rest at = unlinked_refines s t e (slot_before s.s
 
 -- Keep
 
-number_of : (x : Slot) (e : Entry) → IsIn e x → number_in x ≡ Some e.number
+pub number_of : (x : Slot) (e : Entry) → IsIn e x → number_in x ≡ Some e.number
 number_of x e is = ⊎_elim (λ (live : x ≡ Live e). ap number_in live) (λ (gone : x ≡ Retired e). ap number_in gone) is
 
 pub keep_refines : (s : State) (t id n u : ℕ) → Holds s → local_at s.locals id ≡ Standing n → slot_of s.slots n ≡ Some u → may_keep s t u ≡ true → IsModelRun (picture s) (picture (after_keep s t id n))

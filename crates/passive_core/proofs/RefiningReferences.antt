@@ -11,7 +11,7 @@ use Rattle.passive_core.specs.declared.state.LocalPlace.TheVariants.{Free, Stand
 use Rattle.passive_core.specs.declared.state.Due.{Due}
 use Rattle.passive_core.specs.declared.state.Due.TheVariants.{Rest, Snapshots, Adding, Subtracting}
 use Rattle.passive_core.specs.State.{State, with_cell, slot_at, found_at, hand_at, passive_at, count_at, local_at}
-use Rattle.passive_core.specs.Slots.{slot_of, has_number, is_empty}
+use Rattle.passive_core.specs.Slots.{slot_of, has_number}
 use Rattle.passive_core.specs.Events.{is_idle, is_number, may_add, after_add, may_sub, after_sub, may_count, after_count_add, least_id, with_local, after_split, after_hand, after_count_down, after_collected, is_snapshot_due, after_snapshot, due_after, after_look, after_look_passive, may_collect, after_collect, after_total, may_join_keeper, may_join, after_join_keeper}
 use Rattle.passive_core.specs.Invariant.{Holds, DueHolds, one_if}
 use Rattle.passive_core.specs.Model.{put, Model, IsModelRun, Stays}
@@ -25,6 +25,7 @@ use Rattle.passive_core.proofs.Passive.{found_number}
 use Rattle.passive_core.proofs.References.{snapshot_due_tells, giving_holds, back_holds, hand_seated}
 use Rattle.passive_core.proofs.Sums.{one_at, none_at, standing_within, lifted_within, local_changed, hand_changed, local_added}
 use Rattle.passive_core.proofs.Picturing.{Alike, no_step, one_step, put_is, put_twice}
+use Rattle.passive_core.proofs.CountKeeps.{empty_from}
 
 -- Passive references
 
@@ -159,13 +160,6 @@ locals_less s n hands due locals less =
       occupants = λ t. refl;
       keeps = λ t. refl;
     })
-
--- an idle CPU has nothing in its hand
-empty_from : (h : Hand) → is_empty h ≡ true → h ≡ Empty
-empty_from Empty is = refl
-empty_from (Taking n) is = absurd (let q : ◌≡◌ {A = Bool} false true = is in cc)
-empty_from (Giving n id) is = absurd (let q : ◌≡◌ {A = Bool} false true = is in cc)
-empty_from (Back n id) is = absurd (let q : ◌≡◌ {A = Bool} false true = is in cc)
 
 idle_hand : (s : State) (c : ℕ) → is_idle s c ≡ true → hand_at s c ≡ Empty
 idle_hand s c ok = empty_from (hand_at s c) (idle_parts s c ok).2

@@ -12,8 +12,7 @@ use Rattle.passive_core.specs.declared.event.Reply.{Reply}
 use Rattle.passive_core.specs.declared.event.Reply.TheVariants.{Done, Word, Found, Missed, Ref, Collected}
 use Rattle.passive_core.specs.declared.state.Key.{Key}
 use Rattle.passive_core.specs.declared.state.RecordWords.{RecordWords}
-use Rattle.passive_core.specs.declared.state.Slot.{Slot}
-use Rattle.passive_core.specs.declared.state.Slot.TheVariants.{Vacant, Live, Retired}
+use Rattle.passive_core.specs.declared.state.Slot.TheVariants.{Live, Retired}
 use Rattle.passive_core.specs.declared.state.Place.{Place}
 use Rattle.passive_core.specs.declared.state.Place.TheVariants.{AtHead, AtNext, AtNumber, AtKind, AtHigh, AtLow, AtValue}
 use Rattle.passive_core.specs.declared.state.Search.{Search}
@@ -25,6 +24,7 @@ use Rattle.passive_core.specs.Loaded.{SlotWithin}
 use Rattle.passive_core.specs.Invariant.{IsIn, SearchHolds, SearchesHold, FoundHold, StandsOn, AllBelow, PlaceHolds, Holds}
 use Rattle.passive_core.proofs.History.{at_within, one_entry}
 use Rattle.passive_core.proofs.Lookup.{Ahead, No_more, One_more, step_ahead, all_below_later, found_lawful, missed_lawful, find_exact}
+use Rattle.passive_core.proofs.Occupied.{in_within}
 
 -- a place that shows something is within the list
 pub within_some : {X : Type 0} (xs : List (Option X)) (c : ℕ) (x : X) → get_or xs c None ≡ Some x → c < length xs
@@ -67,18 +67,6 @@ found_some h begins found c b f cf in_ may hold j e is = ⊎_elim
     (b, ap (λ (k : ℕ). get_or begins k None) same ∙ in_, subst (MayHold h b) one may))
     (λ (other : j ≡ c → ⊥). hold j e (simp get_or-set_other at is))
     (cases_eq j c)
-
--- a slot in which an entry stands is in range
-pub in_within : (slots : List Slot) (t : ℕ) (e : Entry) → IsIn e (slot_at slots t) → t < length slots
-in_within slots t e is = ⊎_elim
-    (λ (lt : t < length slots). lt)
-    (λ (ge : length slots ≤ t).
-    let vacant : slot_at slots t ≡ Vacant = get_or_past slots t Vacant ge in
-    absurd (⊎_elim
-    (λ (live : slot_at slots t ≡ Live e). let q : Live e ≡ Vacant = sym live ∙ vacant in cc)
-    (λ (gone : slot_at slots t ≡ Retired e). let q : Retired e ≡ Vacant = sym gone ∙ vacant in cc)
-    is))
-    (cases_lt t (length slots))
 
 -- a walk of c from `from`: its section began before, and nothing of it is yet to come
 pub record Walks (s : State) (c from : ℕ) : Type 0 where

@@ -9,7 +9,6 @@ use Rattle.std.specs.Prelude.{◌==◌}
 use Rattle.passive_core.proofs.Growing.{hold_was, leads_old}
 use Rattle.passive_core.proofs.History.{at_cases, at_new, at_within, attached_old, ends_old, length-after_change, live_down, live_old, live_was, one_end, one_entry}
 use Rattle.passive_core.proofs.Numbers.{position_fails}
-use Rattle.passive_core.proofs.Publishing.{is_live_one, slot_cases}
 use Rattle.passive_core.specs.History.{EndsAt, IsAttached, IsLegal, IsLiveAt, after_change, change_at}
 use Rattle.passive_core.specs.Invariant.{HeldStay, IsIn, Leads, LinksStay, ListShows, RowsShow, SlotsShow, To_end, To_entry}
 use Rattle.passive_core.specs.Slots.{is_live, leads_to, slot_before}
@@ -20,6 +19,7 @@ use Rattle.passive_core.specs.declared.entry.Entry.{Entry}
 use Rattle.passive_core.specs.declared.state.RecordWords.{RecordWords}
 use Rattle.passive_core.specs.declared.state.Slot.{Slot}
 use Rattle.passive_core.specs.declared.state.Slot.TheVariants.{Live, Retired, Vacant}
+use Rattle.passive_core.proofs.Occupied.{slot_cases, live_one}
 
 -- an attach is an older one
 pub attached_before : (h : List Change) (n : ℕ) (f : Entry) → IsAttached (after_change h (Detach n)) f → (f.number ≤ length h) × IsAttached h f
@@ -224,7 +224,7 @@ held_detach h slots begins e at held c b f is hold =
     let was : IsIn f (slot_at slots f.slot) = held c b f is (hold_was h (Detach e.number) b f hold (attached_before h e.number f hold.attached).0) in
     ⊎_elim
     (λ (same : (f.slot ≡ e.slot) × (slot_at (set slots e.slot (Retired e)) f.slot ≡ Retired e)).
-    let one : f ≡ e = is_live_one f e (slot_at slots f.slot) (ap (slot_at slots) same.0 ∙ at) was in
+    let one : f ≡ e = live_one f e (slot_at slots f.slot) (ap (slot_at slots) same.0 ∙ at) was in
     inr (same.1 ∙ ap Retired (sym one)))
     (λ (off : (f.slot ≡ e.slot → ⊥) × (slot_at (set slots e.slot (Retired e)) f.slot ≡ slot_at slots f.slot)). subst (IsIn f) (sym off.1) was)
     (slot_cases slots e.slot (Retired e) f.slot lt)

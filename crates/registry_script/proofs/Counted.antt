@@ -22,8 +22,8 @@ use Rattle.passive_core.proofs.CountKeeps.{held_counting}
 use Rattle.passive_core.proofs.Fit.{ranges}
 use Rattle.passive_core.proofs.History.{at_within}
 use Rattle.passive_core.proofs.Locals.{live_slot, slot_is}
-use Rattle.passive_core.proofs.Numbers.{entry_attached, number_slot}
-use Rattle.passive_core.proofs.Occupied.{one_number}
+use Rattle.passive_core.proofs.Numbers.{entry_attached}
+use Rattle.passive_core.proofs.Occupied.{one_number, slot_has}
 use Rattle.passive_core.proofs.Passives.{found_slot}
 use Rattle.passive_core.proofs.Picturing.{put_here, put_is, put_other}
 use Rattle.passive_core.proofs.References.{least_free, least_within, standing_tells, with_local_other, with_local_same}
@@ -71,7 +71,7 @@ record HasWords (s : State) (c n t : ℕ) : Type 0 where
 
 has_words : (s : State) (c n t : ℕ) → Holds s → c < s.settings.cpus → slot_of s.slots n ≡ Some t → HasWords s c n t
 has_words s c n t on low of =
-    let at = number_slot s.slots n t of in
+    let at = slot_has s.slots n t of in
     let within = at_within s.history at.1.0.number _ (entry_attached s.history s.slots at.1.0 t on.slots at.1.1).0 in
     let few = (ranges s.settings on.fit).cpus in
     let counts : t < length s.counts = omega (arith, at.0, on.shape.slots, on.shape.counts) in

@@ -11,7 +11,6 @@ use Rattle.passive_core.specs.declared.stage.Stage.TheVariants.{Grace, Passive, 
 use Rattle.passive_core.specs.Advancing.{least_below, stage_of}
 use Rattle.passive_core.specs.History.{EndsAt}
 use Rattle.passive_core.specs.Model.{Model, put, with_locals, IsUnheld, Stays, Goes_on, Gives_up, Uncounts, Vacates}
-use Rattle.passive_core.proofs.Advancing.{some_is}
 use Rattle.passive_core.proofs.History.{at_within}
 use Rattle.passive_core.proofs.Performing.{least_none}
 use Rattle.passive_core.proofs.Picturing.{put_here, put_is, put_other, two_steps}
@@ -22,6 +21,7 @@ use Rattle.registry_script.specs.Sound.{IsSound, IsSoundModel, IsLawfulTurn}
 use Rattle.registry_script.specs.Turns.{after_advance, after_destroy, freed, staged}
 use Rattle.registry_script.proofs.Lookups.{end_tells}
 use Rattle.registry_script.proofs.Sound.{count_none, idle_turn, is_this_own, is_this_tells, labelled_counts, least_some, not_ok, ok_turn, put_none, same_ok, still_beside}
+use Rattle.passive_core.proofs.SectionKeeps.{some_from}
 
 -- What a stage tells
 
@@ -73,7 +73,7 @@ free_tells r n t on is =
     let at = stage_tells r n (retired_slot r n) (Freed t) is in
     let own : at.0 ≡ t = (freed_tells at.0 t (least_below (has_section r n) r.settings.cpus) (least_below (has_passive r n) r.settings.cpus) (held r n) at.2).3 in
     let retired = retired_tells (has_ended r.model.history n) (slot_of r n) at.0 at.1 in
-    let end = some_is (end_of r.model.history n) retired.0 in
+    let end = some_from (end_of r.model.history n) retired.0 in
     let ends : EndsAt r.model.history n end.0 = end_tells r.model.history n end.0 end.1 in
     let found = least_some (λ u. is_this n (r.model.occupants u)) r.settings.slots at.0 retired.1 in
     record {

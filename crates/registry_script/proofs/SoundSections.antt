@@ -8,7 +8,7 @@ use Rattle.passive_core.specs.declared.settings.Settings.{Settings}
 use Rattle.passive_core.specs.declared.state.Key.{Key}
 use Rattle.passive_core.specs.History.{IsLawful, IsLiveAt, IsLookup}
 use Rattle.passive_core.specs.Model.{Lookup, Model, put, IsModelRun, Stays, Goes_on, Answers, Enters, Exits, Seeks, Sees}
-use Rattle.passive_core.proofs.Advancing.{none_is, some_is}
+use Rattle.passive_core.proofs.Advancing.{none_is}
 use Rattle.passive_core.proofs.History.{at_within}
 use Rattle.passive_core.proofs.Picturing.{Alike, put_here, put_is, put_other, same_model}
 use Rattle.registry_script.specs.declared.report.hitch.Hitch.{Hitch}
@@ -19,6 +19,7 @@ use Rattle.registry_script.specs.Sound.{IsSound, IsSoundModel, IsLawfulTurn}
 use Rattle.registry_script.specs.Turns.{begun_section, entered, exited, looked_up, on_ok, seeing}
 use Rattle.registry_script.proofs.Lookups.{lookup_is}
 use Rattle.registry_script.proofs.Sound.{ok_turn, put_capped, put_cases, put_none, same_ok, still_there, then_ok}
+use Rattle.passive_core.proofs.SectionKeeps.{some_from}
 
 -- Enter
 
@@ -84,7 +85,7 @@ end_keeps z m labels c on = record {
 pub exited_lawful : (r : Registry) (c : ℕ) (stays : Bool) → IsSound r → exit_answer r c ≡ Ok stays → IsLawfulTurn r (exited r c stays)
 exited_lawful r c true on is = (on, Stays, refl)
 exited_lawful r c false on is =
-    let inside = some_is (r.model.sections c) (then_ok (is_inside r c) NotInside (Ok (not (r.depths c == 1))) false is).0 in
+    let inside = some_from (r.model.sections c) (then_ok (is_inside r c) NotInside (Ok (not (r.depths c == 1))) false is).0 in
     (end_keeps r.settings r.model r.local_labels c on, Goes_on r.model _ Stays (Exits c inside.0 inside.1 (on.unsearching c)), refl)
 
 pub exit_turn : (r : Registry) (c : ℕ) → IsSound r → IsLawfulTurn r (on_ok r (exit_answer r c) (exited r c))
@@ -153,7 +154,7 @@ find_run r c b key on in_ =
 pub found_lawful : (r : Registry) (c : ℕ) (key : Key) (answer : Option Entry) → IsSound r → find_answer r c key ≡ Ok answer → IsLawfulTurn r (looked_up r c answer)
 found_lawful r c key answer on is =
     let parts = then_ok (is_inside r c) NotInside (Ok (lookup_now r key)) answer is in
-    let inside = some_is (r.model.sections c) parts.0 in
+    let inside = some_from (r.model.sections c) parts.0 in
     let now : lookup_now r key ≡ answer = same_ok {E = Hitch} (lookup_now r key) answer parts.1 in
     subst (λ (o : Option Entry). IsLawfulTurn r (looked_up r c o)) now
     (find_keeps r.settings r.model r.local_labels c inside.0 (lookup_now r key) on inside.1 (λ e found. lookup_live r key e on found), find_run r c inside.0 key on inside.1, refl)

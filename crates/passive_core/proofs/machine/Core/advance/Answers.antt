@@ -6,7 +6,8 @@ use Rattle.passive_core.specs.Commands.{may_act}
 use Rattle.passive_core.specs.Invariant.{Holds}
 use Rattle.passive_core.specs.Slots.{is_retired}
 use Rattle.passive_core.specs.State.{State, slot_at}
-use Rattle.passive_core.proofs.Advancing.{acts_seated, holders_are_open, retired_slot_tells, stage_acts}
+use Rattle.passive_core.proofs.Advancing.{holders_are_open, retired_slot_tells, stage_acts}
+use Rattle.passive_core.proofs.Acting.{acting_on}
 use Rattle.passive_core.proofs.machine.Core.advance.Goals as goal
 
 pub returns-in_default-clause-holders : goal.returns-in_default-clause-holders
@@ -33,5 +34,5 @@ returns-clause-holders c = holders_are_open c.args.self.now (subst Holds c.self.
 pub returns-clause-ready : goal.returns-clause-ready
 returns-clause-ready c = λ d acts.
     let s = c.args.self.now in
-    let seated : may_act c.seat_all.new.self d ≡ true = ap (λ (x : State). may_act x d) c.seat_all.ensures ∙ acts_seated s d (subst Holds c.self.view_is c.self.invariant) acts in
+    let seated : may_act c.seat_all.new.self d ≡ true = ap (λ (x : State). may_act x d) c.seat_all.ensures ∙ acting_on s d (subst Holds c.self.view_is c.self.invariant) acts in
     stage_acts c.seat_all.new.self c.advance_slot.new.self c.in-Some.t d c.advance_slot.result (ap (λ (x : State). x.seated) c.seat_all.ensures ∙ sym (ap (λ (x : State). x.settings.cpus) c.seat_all.ensures)) c.advance_slot.ensures.after seated

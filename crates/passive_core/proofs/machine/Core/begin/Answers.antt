@@ -3,13 +3,14 @@ use Rattle.passive_core.specs.State.{State}
 use Rattle.passive_core.specs.Events.{is_idle}
 use Rattle.passive_core.specs.Invariant.{Holds}
 use Rattle.passive_core.specs.Commands.{may_act}
-use Rattle.passive_core.proofs.Passives.{acts, may_still}
+use Rattle.passive_core.proofs.Passives.{may_still}
+use Rattle.passive_core.proofs.Acting.{acting_idle}
 use Rattle.passive_core.proofs.machine.Core.begin.Goals as goal
 
 pub returns-clause-idle : goal.returns-clause-idle
 returns-clause-idle c = λ d low may.
     let on = subst Holds c.self.view_is c.self.invariant in
-    subst (λ (x : State). is_idle x d ≡ true) (sym c.seat_all.ensures) (acts c.args.self.now d on low may)
+    subst (λ (x : State). is_idle x d ≡ true) (sym c.seat_all.ensures) (acting_idle c.args.self.now d on low may)
 
 pub returns-clause-ready : goal.returns-clause-ready
 returns-clause-ready c = λ d may.

@@ -4,14 +4,16 @@ use Rattle.passive_core.specs.Events.{after_kept_sub, after_vacate, may_vacate, 
 use Rattle.passive_core.specs.Invariant.{Holds}
 use Rattle.passive_core.specs.State.{kept_at}
 use Rattle.passive_core.specs.declared.event.Event.TheVariants.{KeptSub}
-use Rattle.passive_core.proofs.Advancing.{allowed, gave_up, gives_up, guard_some, guard_state, kept_slot, left_by, none_is, some_is, vacated, vacates}
+use Rattle.passive_core.proofs.Advancing.{allowed, gave_up, gives_up, guard_some, kept_slot, left_by, none_is, vacated, vacates}
+use Rattle.passive_core.proofs.Acting.{made_is}
+use Rattle.passive_core.proofs.SectionKeeps.{some_from}
 use Rattle.passive_core.proofs.machine.Core.free.Goals as goal
 
 pub make-requires-clause-allowed : goal.make-requires-clause-allowed
 make-requires-clause-allowed c =
     let s = c.args.self.now in
     let on : Holds s = subst Holds c.self.view_is c.self.invariant in
-    let d = some_is c.kept_at.result (sym c.is_some.ensures ∙ c.if-is_some.true) in
+    let d = some_from c.kept_at.result (sym c.is_some.ensures ∙ c.if-is_some.true) in
     let kept : kept_at s.keeps c.args.t ≡ Some d.0 = sym c.kept_at.ensures.value ∙ d.1 in
     let u = kept_slot s c.args.t d.0 on kept in
     allowed (step s (KeptSub c.args.t)) _ (gives_up s c.args.t d.0 u.0 on kept u.1 c.requires.drained)
@@ -20,7 +22,7 @@ pub returns-then-is_some : goal.returns-then-is_some
 returns-then-is_some c =
     let s = c.args.self.now in
     let on : Holds s = subst Holds c.self.view_is c.self.invariant in
-    let d = some_is c.kept_at.result (sym c.is_some.ensures ∙ c.if-is_some.true) in
+    let d = some_from c.kept_at.result (sym c.is_some.ensures ∙ c.if-is_some.true) in
     let kept : kept_at s.keeps c.args.t ≡ Some d.0 = sym c.kept_at.ensures.value ∙ d.1 in
     let u = kept_slot s c.args.t d.0 on kept in
     gave_up s c.make.new.self c.args.t d.0 u.0 on kept u.1 c.requires.drained
@@ -37,4 +39,4 @@ returns c =
     let s = c.args.self.now in
     let on : Holds s = subst Holds c.self.view_is c.self.invariant in
     let none : kept_at s.keeps c.args.t ≡ None = sym c.kept_at.ensures.value ∙ none_is c.kept_at.result (sym c.is_some.ensures ∙ c.if-is_some.false) in
-    vacated s c.make-2.new.self c.args.t on none c.requires.drained (guard_state (may_vacate s c.args.t) (after_vacate s c.args.t) c.make-2.new.self Done c.make-2.result (vacates s c.args.t none c.requires.drained) c.make-2.ensures)
+    vacated s c.make-2.new.self c.args.t on none c.requires.drained (made_is (may_vacate s c.args.t) (after_vacate s c.args.t) c.make-2.new.self Done c.make-2.result (vacates s c.args.t none c.requires.drained) c.make-2.ensures)

@@ -6,15 +6,15 @@ use Rattle.passive_core.specs.Invariant.{Holds}
 use Rattle.passive_core.specs.Performing.{AllOutside, OnlyPasses, retired_number}
 use Rattle.passive_core.specs.Slots.{is_retired}
 use Rattle.passive_core.specs.State.{State, slot_at}
-use Rattle.passive_core.proofs.Advancing.{acts_seated}
 use Rattle.passive_core.proofs.Performing.{least_none}
+use Rattle.passive_core.proofs.Acting.{acting_on}
 use Rattle.passive_core.proofs.machine.Core.perform.Goals as goal
 
 pub returns-in-Some-clause-ready : goal.returns-in-Some-clause-ready
 returns-in-Some-clause-ready c = λ d acts.
     let s = c.args.self.now in
     let seated : c.wait_for_sections.new.self ≡ all_seated s = c.wait_for_sections.ensures.same ∙ c.seat_all.ensures in
-    ap (λ (x : State). may_act x d) seated ∙ acts_seated s d (subst Holds c.self.view_is c.self.invariant) acts
+    ap (λ (x : State). may_act x d) seated ∙ acting_on s d (subst Holds c.self.view_is c.self.invariant) acts
 
 pub pass_all-requires-clause-outside : goal.pass_all-requires-clause-outside
 pass_all-requires-clause-outside c =
@@ -53,5 +53,5 @@ pub returns-clause-ready : goal.returns-clause-ready
 returns-clause-ready c = λ d acts.
     let s = c.args.self.now in
     let seated : c.wait_for_sections.new.self ≡ all_seated s = c.wait_for_sections.ensures.same ∙ c.seat_all.ensures in
-    let before : may_act c.wait_for_sections.new.self d ≡ true = ap (λ (x : State). may_act x d) seated ∙ acts_seated s d (subst Holds c.self.view_is c.self.invariant) acts in
+    let before : may_act c.wait_for_sections.new.self d ≡ true = ap (λ (x : State). may_act x d) seated ∙ acting_on s d (subst Holds c.self.view_is c.self.invariant) acts in
     ap (λ (x : State). may_act x d) c.pass_all.ensures.only.only ∙ before

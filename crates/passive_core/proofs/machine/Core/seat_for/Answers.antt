@@ -1,14 +1,14 @@
 use Rattle.std.proofs.Common.{subst}
 use Rattle.passive_core.specs.Invariant.{Holds}
-use Rattle.passive_core.proofs.Entering.{seated_acts, seated_idle}
+use Rattle.passive_core.proofs.Acting.{acting_idle, acting_on}
 use Rattle.passive_core.proofs.machine.Core.seat_for.Goals as goal
 
 pub returns-clause-idle : goal.returns-clause-idle
 returns-clause-idle c =
     let on = subst Holds c.self.view_is c.self.invariant in
-    rw c.seat_all.ensures (seated_idle c.args.self.now c.args.c on c.requires.known c.requires.ready)
+    rw c.seat_all.ensures (acting_idle c.args.self.now c.args.c on c.requires.known c.requires.ready)
 
 pub returns-clause-ready : goal.returns-clause-ready
 returns-clause-ready c d may =
     let on = subst Holds c.self.view_is c.self.invariant in
-    rw c.seat_all.ensures (seated_acts c.args.self.now d on may)
+    rw c.seat_all.ensures (acting_on c.args.self.now d on may)
