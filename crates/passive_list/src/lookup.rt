@@ -75,7 +75,7 @@ fn look_up(words: &Words, seat: &mut CpuSeat, cpu: u8, kind: Kind, name: Name) -
     let mut last = ABOVE_ALL;
     let mut link = steps::seek(words, seat, cpu, kind, name);
     while link != 0 {
-        let slot = (link - 1) as u8;
+        let slot = (link - 1) as usize;
         let (number, is_sought) = visit(words, seat, cpu, slot, kind, name);
         if is_sought {
             let value = steps::load_searched(words, seat, cpu, slot, 4);
@@ -96,7 +96,7 @@ fn visit(
     words: &Words,
     seat: &mut CpuSeat,
     cpu: u8,
-    slot: u8,
+    slot: usize,
     kind: Kind,
     name: Name,
 ) -> (u64, bool)
