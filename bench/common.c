@@ -1,6 +1,8 @@
 #include "common.h"
 
 #include <pthread.h>
+#include <sched.h>
+#include <stdatomic.h>
 #include <stdio.h>
 #include <stdlib.h>
 #include <time.h>
@@ -9,9 +11,9 @@
 struct work {
     const struct contender *contender;
     operations *make;
+    const struct plan *plan;
     pthread_t thread;
     unsigned number;
-    uint64_t count;
     uint64_t right;
     double began;
     double ended;
@@ -32,13 +34,25 @@ static double now(void)
     return (double)time.tv_sec * 1e9 + (double)time.tv_nsec;
 }
 
+/* How many threads of a run have come. */
+static _Atomic unsigned come;
+
+/* Waits until all threads have come, so that they begin at once. */
+static void meet(unsigned threads)
+{
+    atomic_fetch_add(&come, 1);
+    while (atomic_load(&come) < threads)
+        sched_yield();
+}
+
 static void *run(void *argument)
 {
     struct work *work = argument;
 
     work->contender->begin(work->number);
+    meet(work->plan->threads);
     work->began = now();
-    work->right = work->make(work->number, work->count);
+    work->right = work->make(work->number, work->plan->operations);
     work->ended = now();
     work->contender->end(work->number);
     return NULL;
@@ -60,6 +74,7 @@ static double span(const struct work *works, unsigned threads)
 
 static void start(struct work *works, const struct plan *plan)
 {
+    atomic_store(&come, 0);
     for (unsigned i = 0; i < plan->threads; i++)
         if (pthread_create(&works[i].thread, NULL, run, &works[i]) != 0)
             fail("no thread");
@@ -83,8 +98,8 @@ double nanoseconds_each(const struct contender *contender, operations *make, con
         works[i] = (struct work){
             .contender = contender,
             .make = make,
+            .plan = plan,
             .number = i,
-            .count = plan->operations,
         };
     start(works, plan);
     join(works, plan);

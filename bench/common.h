@@ -37,7 +37,7 @@ extern const struct contender epoch;
 extern const struct contender rwlock;
 extern const struct contender mutex;
 
-/* Makes the operations in all threads of the plan at once. It answers the nanoseconds that one takes its thread: the time from the first
+/* Makes the operations in all threads of the plan at once: each begins when all have come. It answers the nanoseconds that one takes its thread: the time from the first
    thread's first operation to the last thread's last, over the operations of one thread. An operation that went wrong ends the program. */
 double nanoseconds_each(const struct contender *contender, operations *make, const struct plan *plan);
 

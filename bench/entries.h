@@ -69,4 +69,20 @@ INLINE uint64_t in_turn(unsigned thread, uint64_t count, uint64_t (*look_up)(uns
     return right;
 }
 
+/* Lookups in the list, each between the statements ENTER and LEAVE, which may speak of `thread`: the function NAME_lookups. */
+#define LISTED_LOOKUPS(NAME, ENTER, LEAVE) \
+    static uint64_t NAME##_look_up(unsigned thread, const struct key *key) \
+    { \
+        uint64_t value; \
+        (void)thread; \
+        ENTER; \
+        value = listed_value(key); \
+        LEAVE; \
+        return value; \
+    } \
+    static uint64_t NAME##_lookups(unsigned thread, uint64_t count) \
+    { \
+        return in_turn(thread, count, NAME##_look_up); \
+    }
+
 #endif

@@ -14,19 +14,6 @@ static void open_epoch(const struct plan *plan)
         ck_epoch_register(&global, &records[i], NULL);
 }
 
-static uint64_t look_up(unsigned thread, const struct key *key)
-{
-    uint64_t value;
+LISTED_LOOKUPS(epoch, ck_epoch_begin(&records[thread], NULL), ck_epoch_end(&records[thread], NULL))
 
-    ck_epoch_begin(&records[thread], NULL);
-    value = listed_value(key);
-    ck_epoch_end(&records[thread], NULL);
-    return value;
-}
-
-static uint64_t lookups(unsigned thread, uint64_t count)
-{
-    return in_turn(thread, count, look_up);
-}
-
-const struct contender epoch = { "ck_epoch", open_epoch, do_nothing, do_nothing, lookups, NULL, NULL };
+const struct contender epoch = { "ck_epoch", open_epoch, do_nothing, do_nothing, epoch_lookups, NULL, NULL };

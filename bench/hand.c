@@ -48,9 +48,18 @@ INLINE void publish(enum layout layout, unsigned slot)
     atomic_store(word(layout, HEAD), slot + 1);
 }
 
+static void make_block(void)
+{
+    block = aligned_alloc(64, sizeof words);
+    if (block == NULL)
+        fail("out of memory");
+}
+
 INLINE void open_words(enum layout layout, const struct plan *plan)
 {
     make_keys(plan);
+    if (layout == POINTED)
+        make_block();
     for (unsigned i = 0; i < WORDS; i++)
         atomic_store(word(layout, i), 0);
     for (unsigned cpu = 0; cpu < MOST_THREADS; cpu++)
@@ -117,92 +126,32 @@ INLINE uint64_t locals(enum layout layout, unsigned cpu, uint64_t count)
     return right;
 }
 
-static void padded_open(const struct plan *plan)
-{
-    open_words(PADDED, plan);
-}
+/* The functions of one layout, which are compiled for it alone, and its contender. */
+#define HAND(NAME, LAYOUT, TITLE) \
+    static void NAME##_open(const struct plan *plan) \
+    { \
+        open_words(LAYOUT, plan); \
+    } \
+    static uint64_t NAME##_look_up(unsigned cpu, const struct key *key) \
+    { \
+        return look_up(LAYOUT, cpu, key); \
+    } \
+    static uint64_t NAME##_lookups(unsigned cpu, uint64_t count) \
+    { \
+        return in_turn(cpu, count, NAME##_look_up); \
+    } \
+    static uint64_t NAME##_passives(unsigned cpu, uint64_t count) \
+    { \
+        return passives(LAYOUT, cpu, count); \
+    } \
+    static uint64_t NAME##_locals(unsigned cpu, uint64_t count) \
+    { \
+        return locals(LAYOUT, cpu, count); \
+    } \
+    const struct contender hand_##NAME = { \
+        TITLE, NAME##_open, do_nothing, do_nothing, NAME##_lookups, NAME##_passives, NAME##_locals, \
+    }
 
-static uint64_t padded_look_up(unsigned cpu, const struct key *key)
-{
-    return look_up(PADDED, cpu, key);
-}
-
-static uint64_t padded_lookups(unsigned cpu, uint64_t count)
-{
-    return in_turn(cpu, count, padded_look_up);
-}
-
-static uint64_t padded_passives(unsigned cpu, uint64_t count)
-{
-    return passives(PADDED, cpu, count);
-}
-
-static uint64_t padded_locals(unsigned cpu, uint64_t count)
-{
-    return locals(PADDED, cpu, count);
-}
-
-const struct contender hand_padded = {
-    "hand-padded", padded_open, do_nothing, do_nothing, padded_lookups, padded_passives, padded_locals,
-};
-
-static void packed_open(const struct plan *plan)
-{
-    open_words(PACKED, plan);
-}
-
-static uint64_t packed_look_up(unsigned cpu, const struct key *key)
-{
-    return look_up(PACKED, cpu, key);
-}
-
-static uint64_t packed_lookups(unsigned cpu, uint64_t count)
-{
-    return in_turn(cpu, count, packed_look_up);
-}
-
-static uint64_t packed_passives(unsigned cpu, uint64_t count)
-{
-    return passives(PACKED, cpu, count);
-}
-
-static uint64_t packed_locals(unsigned cpu, uint64_t count)
-{
-    return locals(PACKED, cpu, count);
-}
-
-const struct contender hand_packed = {
-    "hand-packed", packed_open, do_nothing, do_nothing, packed_lookups, packed_passives, packed_locals,
-};
-
-static void pointed_open(const struct plan *plan)
-{
-    block = aligned_alloc(64, sizeof words);
-    if (block == NULL)
-        fail("out of memory");
-    open_words(POINTED, plan);
-}
-
-static uint64_t pointed_look_up(unsigned cpu, const struct key *key)
-{
-    return look_up(POINTED, cpu, key);
-}
-
-static uint64_t pointed_lookups(unsigned cpu, uint64_t count)
-{
-    return in_turn(cpu, count, pointed_look_up);
-}
-
-static uint64_t pointed_passives(unsigned cpu, uint64_t count)
-{
-    return passives(POINTED, cpu, count);
-}
-
-static uint64_t pointed_locals(unsigned cpu, uint64_t count)
-{
-    return locals(POINTED, cpu, count);
-}
-
-const struct contender hand_pointed = {
-    "hand-pointed", pointed_open, do_nothing, do_nothing, pointed_lookups, pointed_passives, pointed_locals,
-};
+HAND(padded, PADDED, "hand-padded");
+HAND(packed, PACKED, "hand-packed");
+HAND(pointed, POINTED, "hand-pointed");

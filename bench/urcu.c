@@ -6,62 +6,20 @@
 
 #include "entries.h"
 
-static void memb_begin(unsigned thread)
-{
-    (void)thread;
-    urcu_memb_register_thread();
-}
+/* The functions of one flavour, and its contender. */
+#define FLAVOUR(NAME, TITLE) \
+    static void NAME##_begin(unsigned thread) \
+    { \
+        (void)thread; \
+        urcu_##NAME##_register_thread(); \
+    } \
+    static void NAME##_end(unsigned thread) \
+    { \
+        (void)thread; \
+        urcu_##NAME##_unregister_thread(); \
+    } \
+    LISTED_LOOKUPS(NAME, urcu_##NAME##_read_lock(), urcu_##NAME##_read_unlock()) \
+    const struct contender urcu_##NAME = { TITLE, make_list, NAME##_begin, NAME##_end, NAME##_lookups, NULL, NULL }
 
-static void memb_end(unsigned thread)
-{
-    (void)thread;
-    urcu_memb_unregister_thread();
-}
-
-static uint64_t memb_look_up(unsigned thread, const struct key *key)
-{
-    uint64_t value;
-
-    (void)thread;
-    urcu_memb_read_lock();
-    value = listed_value(key);
-    urcu_memb_read_unlock();
-    return value;
-}
-
-static uint64_t memb_lookups(unsigned thread, uint64_t count)
-{
-    return in_turn(thread, count, memb_look_up);
-}
-
-static void mb_begin(unsigned thread)
-{
-    (void)thread;
-    urcu_mb_register_thread();
-}
-
-static void mb_end(unsigned thread)
-{
-    (void)thread;
-    urcu_mb_unregister_thread();
-}
-
-static uint64_t mb_look_up(unsigned thread, const struct key *key)
-{
-    uint64_t value;
-
-    (void)thread;
-    urcu_mb_read_lock();
-    value = listed_value(key);
-    urcu_mb_read_unlock();
-    return value;
-}
-
-static uint64_t mb_lookups(unsigned thread, uint64_t count)
-{
-    return in_turn(thread, count, mb_look_up);
-}
-
-const struct contender urcu_memb = { "urcu-memb", make_list, memb_begin, memb_end, memb_lookups, NULL, NULL };
-
-const struct contender urcu_mb = { "urcu-mb", make_list, mb_begin, mb_end, mb_lookups, NULL, NULL };
+FLAVOUR(memb, "urcu-memb");
+FLAVOUR(mb, "urcu-mb");

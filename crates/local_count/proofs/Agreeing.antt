@@ -97,7 +97,7 @@ counted_agrees z a t u x c w d o ps ns acquired released s n v our same lt alone
   fit = our.fit;
   id = our.id;
   few = our.few;
-  section = record { is = our.section.is; begun = our.section.begun; word = our.section.word; limit = our.section.limit };
+  section = record { word = our.section.word; limit = our.section.limit };
   idle = record { search = our.idle.search; hand = our.idle.hand };
   depth = our.depth;
   found = record { is = our.found.is; seen = our.found.seen };

@@ -51,7 +51,7 @@ new_agrees z a t c table fit few = record {
   fit = fit;
   id = refl;
   few = few;
-  section = record { is = refl; begun = 0; word = refl; limit = omega arith };
+  section = record { word = refl; limit = omega arith };
   idle = record { search = refl; hand = refl };
   depth = outside;
   found = record { is = refl; seen = λ e (q : None ≡ Some e). cc };
@@ -84,34 +84,27 @@ found_longer x p e longer old = (old.0, attached_prefix x.pass p e longer old.1)
 
 -- a section begins
 pub entered_agrees : (z : TableId) (a : Settings) (t u : TableId) (x y : CpuView) (c w d : ℕ) (e : Found) (ps ns : List Place)
-    → IsOurCpu z a t x c w d e ps ns → u ≡ t → d ≡ 0 → w < 2 * a.section_limit → HasEntered x y → IsOurCpu z a u y c (w + 1) 1 e ps ns
+    → IsOurCpu z a t x c w d e ps ns → u ≡ t → d ≡ 0 → w < a.section_limit → HasEntered x y → IsOurCpu z a u y c w 1 e ps ns
 entered_agrees z a t u x y c w d e ps ns our same shallow room had =
     let p = y.pass in
     let longer : IsPrefix x.pass p = had.0 in
     let z0 : CpuView = record x { section = x.section + 1; begin = Some (length p); pass = p } in
     let none : depth_of x.begin ≡ 0 = ap depth_of (our.depth.outside.1 shallow) in
-    let word : w + depth_of x.begin ≡ 2 * our.section.begun = our.section.word in
-    let there : IsOurCpu z a u z0 c (w + 1) 1 e ps ns = record {
+    let word : x.section ≡ 2 * w + depth_of x.begin = our.section.word in
+    let there : IsOurCpu z a u z0 c w 1 e ps ns = record {
       table = same ∙ our.table;
       settings = our.settings;
       fit = our.fit;
       id = our.id;
       few = our.few;
-      section = record { is = ap (λ n. n + 1) our.section.is; begun = our.section.begun + 1; word = omega arith; limit = omega arith };
+      section = record { word = omega arith; limit = omega arith };
       idle = record { search = our.idle.search; hand = our.idle.hand };
       depth = inside (length p);
       found = record { is = our.found.is; seen = λ f q. found_longer x p f longer (our.found.seen f q) };
       passive = passive_longer x z0 ps refl longer our.passive;
       net = net_same x z0 ns refl refl refl our.net;
     } in
-    subst (λ (v : CpuView). IsOurCpu z a u v c (w + 1) 1 e ps ns) (sym had.1) there
-
--- the word of an open section has a successor
-pub section_room : (z : TableId) (a : Settings) (t : TableId) (x : CpuView) (c w d : ℕ) (e : Found) (ps ns : List Place) → IsOurCpu z a t x c w d e ps ns → w ≤ 2 * a.section_limit
-section_room z a t x c w d e ps ns our =
-    let word : w + depth_of x.begin ≡ 2 * our.section.begun = our.section.word in
-    let limit : our.section.begun ≤ a.section_limit = our.section.limit in
-    omega arith
+    subst (λ (v : CpuView). IsOurCpu z a u v c w 1 e ps ns) (sym had.1) there
 
 -- an open section
 opened : (b : Option ℕ) → b ≢ None → depth_of b ≡ 1
@@ -125,14 +118,15 @@ exited_agrees z a t u x y c w d e ps ns our same last had =
     let some : x.begin ≢ None = λ q. absurd (let none : d ≡ 0 = our.depth.outside.0 q in omega arith) in
     let z0 : CpuView = record x { section = x.section + 1; begin = None; found = None } in
     let one : depth_of x.begin ≡ 1 = opened x.begin some in
-    let word : w + depth_of x.begin ≡ 2 * our.section.begun = our.section.word in
+    let word : x.section ≡ 2 * w + depth_of x.begin = our.section.word in
+    let limit : w + depth_of x.begin ≤ a.section_limit = our.section.limit in
     let there : IsOurCpu z a u z0 c (w + 1) 0 (record e { number = 0 }) ps ns = record {
       table = same ∙ our.table;
       settings = our.settings;
       fit = our.fit;
       id = our.id;
       few = our.few;
-      section = record { is = ap (λ n. n + 1) our.section.is; begun = our.section.begun; word = omega arith; limit = our.section.limit };
+      section = record { word = omega arith; limit = omega arith };
       idle = record { search = our.idle.search; hand = our.idle.hand };
       depth = outside;
       found = record { is = refl; seen = λ f (q : None ≡ Some f). cc };
@@ -171,7 +165,7 @@ seen_agrees z a t u x y c w d e k f ps ns h our same longer is kept seen =
       fit = our.fit;
       id = our.id;
       few = our.few;
-      section = record { is = our.section.is; begun = our.section.begun; word = our.section.word; limit = our.section.limit };
+      section = record { word = our.section.word; limit = our.section.limit };
       idle = record { search = our.idle.search; hand = our.idle.hand };
       depth = our.depth;
       found = record { is = kept; seen = seen };

@@ -54,11 +54,9 @@ pub record DepthAgrees (begin : Option ℕ) (depth : ℕ) : Type 0 where
   pub most : depth ≤ 255
 
 -- The word is even outside and odd inside; each section that this CPU has begun, an open one among them, is within the limit.
-pub record SectionAgrees (a : Settings) (x : CpuView) (section : ℕ) : Type 0 where
-  pub is : x.section ≡ section
-  pub begun : ℕ
-  pub word : section + depth_of x.begin ≡ 2 * begun
-  pub limit : begun ≤ a.section_limit
+pub record SectionAgrees (a : Settings) (x : CpuView) (ended : ℕ) : Type 0 where
+  pub word : x.section ≡ 2 * ended + depth_of x.begin
+  pub limit : ended + depth_of x.begin ≤ a.section_limit
 
 abbrev pub no_found : Found
 no_found = record { number = 0; slot = 0; kind = Driver }
@@ -73,14 +71,14 @@ pub record FoundAgrees (x : CpuView) (found : Found) : Type 0 where
   pub is : IsKept found x.found
   pub seen : (e : Entry) → x.found ≡ Some e → (e.slot < 32) × IsAttached x.pass e
 
--- the fields of a CPU of D's table: its seat's table and view, its number, word and depth, the last found entry, and its places
-pub record IsOurCpu (z : TableId) (a : Settings) (t : TableId) (x : CpuView) (c word deep : ℕ) (last : Found) (references nets : List Place) : Type 0 where
+-- the fields of a CPU of D's table: its seat's table and view, its number, ended sections and depth, the last found entry, and its places
+pub record IsOurCpu (z : TableId) (a : Settings) (t : TableId) (x : CpuView) (c ended deep : ℕ) (last : Found) (references nets : List Place) : Type 0 where
   pub table : t ≡ z
   pub settings : x.settings ≡ a
   pub fit : IsTrue (are_fit a)
   pub id : x.id ≡ c
   pub few : c < 8
-  pub section : SectionAgrees a x word
+  pub section : SectionAgrees a x ended
   pub idle : IsIdle x
   pub depth : DepthAgrees x.begin deep
   pub found : FoundAgrees x last

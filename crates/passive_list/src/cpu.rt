@@ -16,8 +16,8 @@ pub struct Cpu<D: Domain> {
     pub seat: CpuSeat,
     /// The CPU's number, from 0.
     pub id: u8,
-    /// Its section word: even outside, odd inside.
-    pub section: u64,
+    /// The sections that it has ended: its section word is twice that, and one more inside.
+    pub ended: u64,
     /// 0 outside, else how many enters are open.
     pub depth: u8,
     /// The entry that its last lookup in the open section found.
@@ -36,7 +36,7 @@ impl<D: Domain> Model for Cpu<D> {
 
     ghost view = { λ c. record { view = c.seat.view; depth = c.depth } };
 
-    ghost invariant = { λ c. IsOurCpu D.table D.settings c.seat.table c.seat.view c.id c.section c.depth c.found c.passive c.net };
+    ghost invariant = { λ c. IsOurCpu D.table D.settings c.seat.table c.seat.view c.id c.ended c.depth c.found c.passive c.net };
 }
 
 impl<D: Domain> Cpu<D> {
@@ -50,7 +50,7 @@ impl<D: Domain> Cpu<D> {
         Cpu {
             seat,
             id,
-            section: 0,
+            ended: 0,
             depth: 0,
             found: Found::NONE,
             passive: [Place::NONE; 32],

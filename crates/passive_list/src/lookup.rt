@@ -75,7 +75,7 @@ fn look_up(words: &Words, seat: &mut CpuSeat, cpu: u8, kind: Kind, name: Name) -
     let mut last = ABOVE_ALL;
     let mut link = steps::seek(words, seat, cpu, kind, name);
     while link != 0 {
-        let slot = (link - 1) as u8;
+        let slot = (link - 1) as usize;
         let (number, is_sought) = visit(words, seat, cpu, slot, kind, name);
         if is_sought {
             let value = steps::load_searched(words, seat, cpu, slot, 4);
@@ -96,7 +96,7 @@ fn visit(
     words: &Words,
     seat: &mut CpuSeat,
     cpu: u8,
-    slot: u8,
+    slot: usize,
     kind: Kind,
     name: Name,
 ) -> (u64, bool)
@@ -124,10 +124,10 @@ pub(crate) fn kind_word(kind: Kind) -> u64
     }
 }
 
-/// Whether these are the words of the kind and the name.
+/// Whether these are the words of the kind and the name. The name differs first from one entry to the next.
 fn are_words_of(kind: Kind, name: Name, k: u64, h: u64, l: u64) -> bool
     ensures { result ≡ are_words_of (key_with kind name) k h l }
 {
     let (high, low) = name.words();
-    k == kind_word(kind) && h == high && l == low
+    h == high && l == low && k == kind_word(kind)
 }

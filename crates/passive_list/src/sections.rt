@@ -40,11 +40,10 @@ fn begin<D: Domain>(words: &Words, cpu: &mut Cpu<D>) -> Result<(), Refusal>
     ensures refused { IfErr result (λ e. (e ≡ Refusal.SectionsSpent) × (cpu.new ≡ cpu.old) × AreSpent cpu.old.view) }
     ensures spent { AreSpent cpu.old.view → IsErrOf result Refusal.SectionsSpent }
 {
-    if cpu.section >= 2 * words.settings().section_limit {
+    if cpu.ended >= words.settings().section_limit {
         return Err(Refusal::SectionsSpent);
     }
     steps::enter(words, &mut cpu.seat, cpu.id);
-    cpu.section += 1;
     cpu.depth = 1;
     Ok(())
 }
@@ -62,14 +61,14 @@ pub fn exit<D: Domain>(words: &Words, cpu: &mut Cpu<D>)
     cpu.depth -= 1;
 }
 
-/// Ends the section.
+/// Ends the section. The plain data change after the step: an atomic operation waits for each store that stands before it.
 fn end<D: Domain>(words: &Words, cpu: &mut Cpu<D>)
     requires words { (words.now.table ≡ D.table) × (words.now.settings ≡ D.settings) }
     requires last { cpu.old.depth ≡ 1 }
     ensures { HasExitedOn cpu.old cpu.new }
 {
+    steps::exit(words, &mut cpu.seat, cpu.id);
     cpu.found.number = 0;
     cpu.depth = 0;
-    cpu.section += 1;
-    steps::exit(words, &mut cpu.seat, cpu.id);
+    cpu.ended += 1;
 }

@@ -143,7 +143,7 @@ with_references z a t u x c w d o ps qs ns references our same agree = record {
   fit = our.fit;
   id = our.id;
   few = our.few;
-  section = record { is = our.section.is; begun = our.section.begun; word = our.section.word; limit = our.section.limit };
+  section = record { word = our.section.word; limit = our.section.limit };
   idle = record { search = our.idle.search; hand = our.idle.hand };
   depth = our.depth;
   found = record { is = our.found.is; seen = our.found.seen };

@@ -15,9 +15,14 @@ use std::alloc::Global;
 use std::marker::Brand;
 use std::rt::Clock;
 use std::sync::Wait;
+use std::sync::atomic::AtomicU64;
+use std::sync::atomic::Ordering::SeqCst;
 use std::thread::Threads;
 use std::time::Instant;
 use std::{io, thread};
+
+/// How often a thread yields at most while it waits for the others.
+const PATIENCE: u32 = 1_000_000;
 
 /// What a thread, or all of them, did: how many operations went as they should, and when the first began and the last ended.
 #[derive(Clone, Copy)]
@@ -76,14 +81,30 @@ fn measure_on<D: Domain + Send + Sync, R: Threads + Wait + Clock + Sync>(
     let mut keeper = Keeper::<D>::of_seat(keeper, words.settings());
     let names = publish_all(alloc, words, &mut keeper)?;
     let cpus = cpus_of::<D>(alloc, words, seats)?;
+    let threads = cpus.len() as u64;
+    let come = AtomicU64::new(0);
     let all = thread::map_vec(
         rt,
         cpus,
         &|cpu: Cpu<D>| -> io::Result<Ran>
             requires { (words.now.table ≡ D.table) × (words.now.settings ≡ D.settings) }
-        { run(rt, words, cpu, &names, operation, count) },
+        {
+            meet(&come, threads);
+            run(rt, words, cpu, &names, operation, count)
+        },
     )?;
     together(all)
+}
+
+/// Waits until all threads have come, so that they begin at once; not for ever, since where no thread can be made they come one by one.
+fn meet(come: &AtomicU64, threads: u64) {
+    come.fetch_add(1, SeqCst);
+    for _ in 0..PATIENCE {
+        if come.load(SeqCst) >= threads {
+            return;
+        }
+        thread::yield_now();
+    }
 }
 
 /// What one thread does.

@@ -1,4 +1,5 @@
 //! Searches by kind and name: Seek and LoadLink along the links, LoadRecord over the record words of a slot. Each is one load.
+//! Slots are as wide as an address here: to widen a byte would stand between a link's load and the next one.
 
 ghost use Rattle.std.specs.Prelude.{◌≡◌, ◌<◌};
 ghost use Rattle.passive_core.specs.declared.event.Event.TheVariants.{Seek, LoadLink, LoadRecord};
@@ -30,7 +31,9 @@ pub fn seek(words: &Words, seat: &mut CpuSeat, cpu: u8, kind: Kind, name: Name) 
 
 /// The search of CPU `cpu` loads the link of `slot`: a slot plus 1, or 0 where no entry has the kind and the name.
 /// Condition: the seat is that CPU's, and its search stands at that link; slots count from 0.
-pub fn load_link(words: &Words, seat: &mut CpuSeat, cpu: u8, slot: u8) -> u64
+/// The place is written by the link that led to the slot, `slot + 1`, and is known a subtraction earlier than those of the record: so the
+/// processor makes this load, for which the next entry waits, before those.
+pub fn load_link(words: &Words, seat: &mut CpuSeat, cpu: u8, slot: usize) -> u64
     requires table { seat.old.table ≡ words.now.table }
     requires cpu { (cpu < 8) × (seat.old.view.id ≡ cpu) }
     requires slot { slot < 32 }
@@ -39,13 +42,13 @@ pub fn load_link(words: &Words, seat: &mut CpuSeat, cpu: u8, slot: u8) -> u64
     ensures event { Makes (LoadLink cpu) (link_answer result) (Cpu seat.old.view) (Cpu seat.new.view) }
     ensures change { HasLoadedLink seat.old.view result seat.new.view }
 {
-    by_cpu::load::<Brand>(words, seat, 656 + 8 * slot as usize, Event::LoadLink(cpu))
+    by_cpu::load::<Brand>(words, seat, 648 + 8 * (slot + 1), Event::LoadLink(cpu))
 }
 
 /// The search of CPU `cpu` loads record word `k` of `slot`: 0 the number, 1 the kind, 2 and 3 the words of the name, and where these
 /// are those sought 4, the value, which ends the search. It answers the word.
 /// Condition: the seat is that CPU's, and its search stands at that word; slots count from 0.
-pub fn load_searched(words: &Words, seat: &mut CpuSeat, cpu: u8, slot: u8, k: u8) -> u64
+pub fn load_searched(words: &Words, seat: &mut CpuSeat, cpu: u8, slot: usize, k: u8) -> u64
     requires table { seat.old.table ≡ words.now.table }
     requires cpu { (cpu < 8) × (seat.old.view.id ≡ cpu) }
     requires slot { (slot < 32) × (k < 5) }
@@ -57,7 +60,7 @@ pub fn load_searched(words: &Words, seat: &mut CpuSeat, cpu: u8, slot: u8, k: u8
     by_cpu::load::<Brand>(
         words,
         seat,
-        657 + 8 * slot as usize + k as usize,
+        657 + 8 * slot + k as usize,
         Event::LoadRecord(RecordOf::Search(cpu)),
     )
 }
