@@ -1,30 +1,39 @@
 #!/bin/bash
-# Refuses each allocation of the memory tests of passive_core in turn, the 1st, the 2nd and so on: want of memory must
-# be answered as such, change nothing, and the call made again must answer as it would have at first.
+# Refuses each allocation of the memory tests in turn, the 1st, the 2nd and so on: want of memory must be answered as such, change
+# nothing, and the call made again must answer as it would have at first.
 #
-# The merge gate can't refuse memory, so it doesn't run this; run it by hand after a change of what allocates.
+# The merge gate can't refuse memory, so it doesn't run this; run it by hand after a change of what allocates. Without arguments it goes
+# over each crate that has memory tests; else over the crates named.
 # Each test runs in a process of its own, with a count of its own, and notes a refusal that it met. A run without a
 # note, after one with a note, is past the last allocation of every test.
 set -u
-cd "$(dirname "$0")/../crates/passive_core" || exit 2
+cd "$(dirname "$0")/../crates" || exit 2
+[[ $# -gt 0 ]] || set -- passive_core name_registry
 
-met=0
-for ((n = 1; ; n++)); do
-    output=$(rt try --test --fail-alloc "$n" -- memory_tests 2>&1)
-    if [[ $? -ne 0 || $output != *"test result: ok"* ]]; then
-        printf '%s\n' "$output"
-        echo "allocation $n: a test failed"
-        exit 1
+# One crate, in whose folder this runs.
+refuse() {
+    local met=0 n output notes
+    for ((n = 1; ; n++)); do
+        output=$(rt try --test --fail-alloc "$n" -- memory_tests 2>&1)
+        if [[ $? -ne 0 || $output != *"test result: ok"* ]]; then
+            printf '%s\n' "$output"
+            echo "$1, allocation $n: a test failed"
+            return 1
+        fi
+        notes=$(grep -B 1 'refused memory: ' <<<"$output" | grep -v '^--$')
+        if [[ -z $notes ]]; then
+            break
+        fi
+        met=$n
+        printf '%s, allocation %s\n%s\n' "$1" "$n" "$notes"
+    done
+    if [[ $met -eq 0 ]]; then
+        echo "$1: no allocation was refused"
+        return 1
     fi
-    notes=$(grep -B 1 'refused memory: ' <<<"$output" | grep -v '^--$')
-    if [[ -z $notes ]]; then
-        break
-    fi
-    met=$n
-    printf 'allocation %s\n%s\n' "$n" "$notes"
+    echo "$1: allocations refused: $met, and every test passed"
+}
+
+for crate in "$@"; do
+    (cd "$crate" && refuse "$crate") || exit 1
 done
-if [[ $met -eq 0 ]]; then
-    echo "no allocation was refused"
-    exit 1
-fi
-echo "allocations refused: $met, and every test passed"

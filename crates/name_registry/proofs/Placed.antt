@@ -1,7 +1,5 @@
 -- The place of a retired entry, by the keeper's rows.
-use Rattle.std.proofs.Common.{◌≡◌, ◌∙◌, ℕ, ◌+◌, Bool, not, cond, List, [], ◌∷◌, map, Some, position, refl, sym, ap}
-use Rattle.std.specs.List.{prefix_len}
-use Rattle.std.proofs.lemmas.List.{length-map}
+use Rattle.std.proofs.Common.{◌≡◌, ◌∙◌, ℕ, List, Some, position, sym, ap}
 use Rattle.atomic_table.specs.Seated.{TableId}
 use Rattle.passive_core.specs.declared.settings.Settings.{Settings}
 use Rattle.passive_core.specs.Advancing.{is_retired_as, retired_slot}
@@ -10,14 +8,8 @@ use Rattle.cpu_words.specs.declared.view.KeeperView.{KeeperView}
 use Rattle.passive_list.specs.declared.keeper.Row.{Row}
 use Rattle.passive_list.specs.Keepers.{OnKeeper, state_of, states_of, IsOurKeeper}
 use Rattle.name_registry.specs.Advancing.{MayWork, is_retired_row}
+use Rattle.name_registry.proofs.Rows.{position_map}
 use Rattle.name_registry.proofs.Worked.{may_work}
-
-prefix_map : {X Y : Type 0} (p : Y → Bool) (f : X → Y) (xs : List X) → prefix_len p (map f xs) ≡ prefix_len (λ x. p (f x)) xs
-prefix_map p f [] = refl
-prefix_map p f (x ∷ xs) = ap (λ n. cond (p (f x)) (1 + n) 0) (prefix_map p f xs)
-
-position_map : {X Y : Type 0} (p : Y → Bool) (f : X → Y) (xs : List X) → position p (map f xs) ≡ position (λ x. p (f x)) xs
-position_map p f xs = rw (prefix_map (λ y. not (p y)) f xs, length-map xs f) refl
 
 -- a search over the rows is one over what a contract sees of the keeper
 pub retired_in_rows : (n : ℕ) (rows : List Row) (k : KeeperView) (x : OnKeeper) → record { view = k; slots = states_of rows } ≡ x → position (is_retired_row n) rows ≡ retired_slot x.slots n

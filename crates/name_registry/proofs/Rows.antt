@@ -24,7 +24,7 @@ prefix_map : {X Y : Type 0} (p : Y → Bool) (f : X → Y) (xs : List X) → pre
 prefix_map p f [] = refl
 prefix_map p f (x ∷ xs) = ap (λ n. cond (p (f x)) (1 + n) 0) (prefix_map p f xs)
 
-position_map : {X Y : Type 0} (p : Y → Bool) (f : X → Y) (xs : List X) → position p (map f xs) ≡ position (λ x. p (f x)) xs
+pub position_map : {X Y : Type 0} (p : Y → Bool) (f : X → Y) (xs : List X) → position p (map f xs) ≡ position (λ x. p (f x)) xs
 position_map p f xs = rw (prefix_map (λ y. not (p y)) f xs, length-map xs f) refl
 
 -- the live entry of a kind and name

@@ -1,8 +1,9 @@
 -- In whatever state shows the views, what an audit says is held of an entry is its tally.
-use Rattle.std.proofs.Common.{◌≡◌, ◌≢◌, inl, inr, ⊎_elim, ℕ, zero, suc, ◌+◌, ◌*◌, ◌≤◌, ◌&&◌, ℤ, pos, ◌+ℤ◌, List, [], ◌∷◌, length, get_or, map, fold, cond, sum_by, Bool, true, false, refl, sym, ap, ◌∙◌, subst, arith}
-use Rattle.std.specs.List.{All, zip}
-use Rattle.std.proofs.lemmas.Bool.{eq-eqb, ne_eqb, false≢true}
+use Rattle.std.proofs.Common.{◌≡◌, ◌≢◌, inl, inr, ⊎_elim, ℕ, zero, suc, ◌+◌, ◌*◌, ◌<◌, ◌≤◌, ◌&&◌, ℤ, pos, ◌+ℤ◌, List, [], ◌∷◌, length, get_or, map, fold, cond, sum_by, Bool, true, false, refl, sym, ap, ◌∙◌, subst, arith}
+use Rattle.std.specs.List.{zip}
+use Rattle.std.proofs.lemmas.Bool.{cases_lt, eq-eqb, ne_eqb, false≢true}
 use Rattle.std.proofs.lemmas.Int.{ints}
+use Rattle.std.proofs.lemmas.List.{get_or_past}
 use Rattle.std.proofs.lemmas.List.Sums.{sum_by-cons}
 use mathlib.Core.Logic.{dite}
 use mathlib.Core.Option.{some}
@@ -15,7 +16,7 @@ use Rattle.passive_core.specs.declared.settings.Settings.{Settings}
 use Rattle.passive_core.specs.declared.state.Due.TheVariants.{Rest}
 use Rattle.passive_core.specs.declared.state.Mark.{Mark}
 use Rattle.passive_core.specs.declared.state.Slot.{Slot}
-use Rattle.passive_core.specs.declared.state.Slot.TheVariants.{Live, Retired}
+use Rattle.passive_core.specs.declared.state.Slot.TheVariants.{Vacant, Live, Retired}
 use Rattle.passive_core.specs.Audits.{Tally, tally_shown}
 use Rattle.passive_core.specs.Invariant.{IsIn, adding_at, is_adding_at, subtracting_at}
 use Rattle.passive_core.specs.Slots.{is_retired}
@@ -28,9 +29,9 @@ use Rattle.cpu_words.proofs.Counting.{place_is}
 use Rattle.cpu_words.proofs.KeeperSees.{seen_by_keeper}
 use Rattle.passive_list.specs.Cpus.{OnCpu}
 use Rattle.passive_list.specs.declared.keeper.Row.{Row}
-use Rattle.passive_list.specs.Keepers.{IsOurKeeper, OnKeeper, states_of}
-use Rattle.passive_list.proofs.Rows.{live_in, retired_in}
-use Rattle.name_registry.specs.Auditing.{AreAllCpus, AreShown, IsTallied, acquired_of, is_collected, local_by, local_met, local_of, locals_of, net_met, net_of, released_of, tallies_below, tallies_met, tally, tally_by, tally_met, tally_of}
+use Rattle.passive_list.specs.Keepers.{IsAtRest, IsOurKeeper, OnKeeper, RowsAgree, TakenAs, states_of}
+use Rattle.passive_list.proofs.Rows.{state_at}
+use Rattle.name_registry.specs.Auditing.{AreAllCpus, AreShown, IsAuditOf, IsKeeperOf, IsTallied, acquired_of, is_collected, local_by, local_met, local_of, locals_of, net_met, net_of, released_of, tallies_met, tally, tally_by, tally_met, tally_of}
 use Rattle.name_registry.proofs.Audits.{all_met, each_same}
 
 -- The sum over the CPUs
@@ -83,20 +84,24 @@ sums k t n (p ∷ row) (x ∷ xs) a each past =
 
 -- Of a slot in such a state
 
--- the keeper is at rest, and what it has in its slots its view has too
-pub record IsSettled (a : Settings) (k : OnKeeper) : Type 0 where
-  pub settings : k.view.settings ≡ a
-  pub rest : k.view.due ≡ Rest
-  pub live : (t : ℕ) (e : Entry) → slot_at k.slots t ≡ Live e → slot_at k.view.slots t ≡ Live e
-  pub retired : (t : ℕ) (e : Entry) → slot_at k.slots t ≡ Retired e → slot_at k.view.slots t ≡ Retired e
+taken_at : (a : Settings) (k : KeeperView) (rows : List Row) (t : ℕ) → IsAtRest a k → RowsAgree a k rows → TakenAs k t (slot_at (states_of rows) t)
+taken_at a k rows t view agree = ⊎_elim
+    (λ (lt : t < a.slots). subst (TakenAs k t) (sym (state_at rows t)) (agree.each t lt).state)
+    (λ (past : a.slots ≤ t).
+    let none : slot_at k.slots t ≡ Vacant = get_or_past k.slots t Vacant (omega (arith, view.sized.slots, past)) in
+    subst (TakenAs k t) (sym (state_at rows t ∙ agree.beyond t past)) (inl none))
+    (cases_lt t a.slots)
 
-pub settled_of : (z : TableId) (a : Settings) (table : TableId) (k : KeeperView) (its : Settings) (rows : List Row) (n : ℕ) (x : OnKeeper) → IsOurKeeper z a table k its rows n → record { view = k; slots = states_of rows } ≡ x → IsSettled a x
-settled_of z a table k its rows n x our is = subst (IsSettled a) is record {
-  settings = our.view.settings;
-  rest = our.view.rest;
-  live = λ t e live. (live_in a k rows t e our.rows live).1;
-  retired = λ t e gone. (retired_in a k rows t e our.rows gone).1;
+pub known_keeper : (z : TableId) (a : Settings) (table : TableId) (k : KeeperView) (its : Settings) (rows : List Row) (n : ℕ) (x : OnKeeper) → IsOurKeeper z a table k its rows n → record { view = k; slots = states_of rows } ≡ x → IsKeeperOf a x
+known_keeper z a table k its rows n x our is = subst (IsKeeperOf a) is record {
+  view = our.view;
+  pictured = our.pictured;
+  slots = λ t. taken_at a k rows t our.view our.rows;
 }
+
+-- an entry that it has in a slot is there in its view
+there_too : (a : Settings) (k : OnKeeper) (t : ℕ) (e : Entry) → IsKeeperOf a k → IsIn e (slot_at k.slots t) → IsIn e (slot_at k.view.slots t)
+there_too a k t e known is = ⊎_elim (λ (live : slot_at k.slots t ≡ Live e). inl (subst (TakenAs k.view t) live (known.slots t))) (λ (gone : slot_at k.slots t ≡ Retired e). inr (subst (TakenAs k.view t) gone (known.slots t))) is
 
 zip_at : (ms : List Mark) (ns : List ℕ) (c : ℕ) → length ms ≡ length ns → get_or (zip ms ns) c nothing ≡ (get_or ms c no_mark, get_or ns c 0)
 zip_at [] [] c same = refl
@@ -116,8 +121,8 @@ held_live k xs g t e shown live there =
     omega (arith, ints, sum, total, same)
 
 -- a retired one: the total is what was collected, less what was given up
-held_retired : (a : Settings) (k : OnKeeper) (xs : List OnCpu) (g : State) (t : ℕ) (e : Entry) → IsSettled a k → AreAllCpus a.cpus xs → AreShown g k xs → slot_at k.slots t ≡ Retired e → slot_at k.view.slots t ≡ Retired e → (tally_of k xs e.number t).held ≡ tally k xs e.number
-held_retired a k xs g t e settled all shown gone there =
+held_retired : (a : Settings) (k : OnKeeper) (xs : List OnCpu) (g : State) (t : ℕ) (e : Entry) → IsKeeperOf a k → AreAllCpus a.cpus xs → AreShown g k xs → slot_at k.slots t ≡ Retired e → slot_at k.view.slots t ≡ Retired e → (tally_of k xs e.number t).held ≡ tally k xs e.number
+held_retired a k xs g t e known all shown gone there =
     let seen = seen_by_keeper g k.view shown.good shown.keeper in
     let here : slot_at g.slots t ≡ Retired e = ap (λ (y : List Slot). slot_at y t) (sym seen.slots) ∙ there in
     let shape = shown.good.holds.shape in
@@ -133,9 +138,9 @@ held_retired a k xs g t e settled all shown gone there =
       mark = ap (λ (y : Slot). is_retired y && (mark_at k.view.marks t x.view.id).collected) gone ∙ (ap (λ i. (mark_at k.view.marks t i).collected) id ∙ ap (λ (y : List (List Mark)). (mark_at y t c).collected) seen.marks);
       net = λ _. ap (λ i. count_at g.nets i t + released_of e.number x) (sym id) ∙ net;
     }) in
-    let cpus : a.cpus ≡ g.settings.cpus = ap (λ (z : Settings). z.cpus) (sym settled.settings ∙ seen.settings) in
+    let cpus : a.cpus ≡ g.settings.cpus = ap (λ (z : Settings). z.cpus) (sym known.view.settings ∙ seen.settings) in
     let sum = sums k t e.number (zip ms ns) xs (pos 0) each (λ c le. ap (λ (p : Mark × ℕ). p.0.collected) (at c) ∙ shown.keeper.beyond c t (omega (arith, le, all.count, cpus))) in
-    let due : g.due ≡ Rest = sym seen.due ∙ settled.rest in
+    let due : g.due ≡ Rest = sym seen.due ∙ known.view.rest in
     let adding : adding_at t g.due ≡ 0 = ap (adding_at t) due in
     let is_adding : is_adding_at t g.due ≡ 0 = ap (is_adding_at t) due in
     let subtracting : subtracting_at t g.due ≡ 0 = ap (subtracting_at t) due in
@@ -143,10 +148,10 @@ held_retired a k xs g t e settled all shown gone there =
     let same = ap (λ (y : List ℕ). total_at y t) seen.totals in
     omega (arith, ints, sum, total, same, adding, is_adding, subtracting)
 
-held_right : (a : Settings) (k : OnKeeper) (xs : List OnCpu) (g : State) (t : ℕ) (e : Entry) → IsSettled a k → AreAllCpus a.cpus xs → AreShown g k xs → IsIn e (slot_at k.slots t) → (tally_of k xs e.number t).held ≡ tally k xs e.number
-held_right a k xs g t e settled all shown is = ⊎_elim
-    (λ (live : slot_at k.slots t ≡ Live e). held_live k xs g t e shown live (settled.live t e live))
-    (λ (gone : slot_at k.slots t ≡ Retired e). held_retired a k xs g t e settled all shown gone (settled.retired t e gone))
+held_right : (a : Settings) (k : OnKeeper) (xs : List OnCpu) (g : State) (t : ℕ) (e : Entry) → IsKeeperOf a k → AreAllCpus a.cpus xs → AreShown g k xs → IsIn e (slot_at k.slots t) → (tally_of k xs e.number t).held ≡ tally k xs e.number
+held_right a k xs g t e known all shown is = ⊎_elim
+    (λ (live : slot_at k.slots t ≡ Live e). held_live k xs g t e shown live (subst (TakenAs k.view t) live (known.slots t)))
+    (λ (gone : slot_at k.slots t ≡ Retired e). held_retired a k xs g t e known all shown gone (subst (TakenAs k.view t) gone (known.slots t)))
     is
 
 -- A CPU's place says its own net count
@@ -163,19 +168,21 @@ locals_same : (f h : OnCpu → ℤ) (xs : List OnCpu) → ((c : ℕ) (x : OnCpu)
 locals_same f h [] each = refl
 locals_same f h (x ∷ xs) each = let one = each 0 x refl in let rest = locals_same f h xs (λ c y at. each (suc c) y at) in λ i. one i ∷ rest i
 
-own_tally : (a : Settings) (k : OnKeeper) (xs : List OnCpu) (g : State) (t : ℕ) (e : Entry) → IsSettled a k → AreShown g k xs → IsIn e (slot_at k.slots t) → tally_met k xs e.number t ≡ tally_of k xs e.number t
-own_tally a k xs g t e settled shown is =
+own_tally : (a : Settings) (k : OnKeeper) (xs : List OnCpu) (g : State) (t : ℕ) (e : Entry) → IsKeeperOf a k → AreShown g k xs → IsIn e (slot_at k.slots t) → tally_met k xs e.number t ≡ tally_of k xs e.number t
+own_tally a k xs g t e known shown is =
     let seen = seen_by_keeper g k.view shown.good shown.keeper in
-    let there : IsIn e (slot_at k.view.slots t) = ⊎_elim (λ (live : slot_at k.slots t ≡ Live e). inl (settled.live t e live)) (λ (gone : slot_at k.slots t ≡ Retired e). inr (settled.retired t e gone)) is in
+    let there = there_too a k t e known is in
     let here : IsIn e (slot_at g.slots t) = subst (λ (y : List Slot). IsIn e (slot_at y t)) seen.slots there in
     ap (λ locals. tally_by k locals e.number t)
     (locals_same (local_met k t e.number) (local_of k t e.number) xs (λ c x at. ap (λ net. local_by k t net x) (own_net g x t e (shown.cpus c x at) here)))
 
 -- What is shown of the list
 
-pub answer_right : (a : Settings) (k : OnKeeper) (xs : List OnCpu) (slots : ℕ) (list : List Balance) → IsSettled a k → map tally_shown list ≡ tallies_met k xs slots → (g : State) → AreShown g k xs → map tally_shown list ≡ tallies_below k xs slots
-answer_right a k xs slots list settled is g shown = is ∙ each_same (tally_met k xs) (tally_of k xs) k.slots slots (λ t e there. own_tally a k xs g t e settled shown there)
-
-pub tally_right : (a : Settings) (k : OnKeeper) (xs : List OnCpu) (slots : ℕ) (list : List Balance) → IsSettled a k → AreAllCpus a.cpus xs → map tally_shown list ≡ tallies_met k xs slots → All (λ (b : Balance). IsTallied k xs (tally_shown b)) list
-tally_right a k xs slots list settled all is = all_met (IsTallied k xs) k xs slots list is
-    (λ t e there g shown. ap (λ (y : Tally). y.held) (own_tally a k xs g t e settled shown there) ∙ held_right a k xs g t e settled all shown there)
+pub audit_right : (a : Settings) (k : OnKeeper) (xs : List OnCpu) (list : List Balance) → IsKeeperOf a k → AreAllCpus a.cpus xs → map tally_shown list ≡ tallies_met k xs a.slots → IsAuditOf a k xs list
+audit_right a k xs list known all met = record {
+  keeper = known;
+  met = met;
+  answer = λ g shown. met ∙ each_same (tally_met k xs) (tally_of k xs) k.slots a.slots (λ t e there. own_tally a k xs g t e known shown there);
+  tally = all_met (IsTallied k xs) k xs a.slots list met
+      (λ t e there g shown. ap (λ (y : Tally). y.held) (own_tally a k xs g t e known shown there) ∙ held_right a k xs g t e known all shown there);
+}

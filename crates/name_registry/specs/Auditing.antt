@@ -1,19 +1,20 @@
 -- What an audit answers (localcount(9)): by the counts of all CPUs and the totals, and that it is the tally.
-use Rattle.std.specs.Prelude.{◌≡◌, ℕ, zero, suc, ◌+◌, ℤ, pos, ◌+ℤ◌, ◌-ℤ◌, ◌==◌, Bool, ◌&&◌, List, [], ◌∷◌, ◌++◌, map, length, sum_by, if◌then◌else◌}
+use Rattle.std.specs.Prelude.{◌≡◌, ℕ, zero, suc, ◌+◌, ℤ, pos, ◌+ℤ◌, ◌-ℤ◌, ◌==◌, All, Bool, ◌&&◌, List, [], ◌∷◌, ◌++◌, map, length, sum_by, if◌then◌else◌}
 use mathlib.Core.Option.{some}
 use lib.ListN.{get_elem?}
 use Rattle.passive_core.specs.declared.balance.Balance.{Balance}
 use Rattle.passive_core.specs.declared.entry.Entry.{Entry}
+use Rattle.passive_core.specs.declared.settings.Settings.{Settings}
 use Rattle.passive_core.specs.declared.state.Slot.{Slot}
 use Rattle.passive_core.specs.declared.state.Slot.TheVariants.{Vacant, Live, Retired}
-use Rattle.passive_core.specs.Audits.{Tally, less_bias, sum_of}
+use Rattle.passive_core.specs.Audits.{Tally, less_bias, sum_of, tally_shown}
 use Rattle.passive_core.specs.Invariant.{IsIn}
 use Rattle.passive_core.specs.Slots.{is_retired}
 use Rattle.passive_core.specs.State.{State, slot_at, mark_at, total_at}
-use Rattle.cpu_words.specs.Rule.{Good}
+use Rattle.cpu_words.specs.Rule.{Good, IsPictured}
 use Rattle.cpu_words.specs.Views.{number_at, CpuShown, KeeperShown}
 use Rattle.passive_list.specs.Cpus.{OnCpu}
-use Rattle.passive_list.specs.Keepers.{OnKeeper}
+use Rattle.passive_list.specs.Keepers.{IsAtRest, OnKeeper, TakenAs}
 
 -- the slice is CPU 0, 1, .., in this order
 pub record AreAllCpus (cpus : ℕ) (xs : List OnCpu) : Type 0 where
@@ -127,3 +128,18 @@ pub record AreShown (g : State) (k : OnKeeper) (xs : List OnCpu) : Type 0 where
 -- What is held is the tally, whatever state the views are of.
 abbrev pub IsTallied : OnKeeper → List OnCpu → Tally → Type 0
 IsTallied k xs b = (g : State) → AreShown g k xs → b.held ≡ tally k xs b.number
+
+-- What is known of the keeper behind the lock, which no contract can name: it is at rest, some state of the core shows its view, and in its slots it has what its view has, or nothing where an entry may be vacated.
+pub record IsKeeperOf (z : Settings) (k : OnKeeper) : Type 0 where
+  pub view : IsAtRest z k.view
+  pub pictured : IsPictured k.view
+  pub slots : (t : ℕ) → TakenAs k.view t (slot_at k.slots t)
+
+-- What is answered of the keeper k and all CPUs.
+pub record IsAuditOf (z : Settings) (k : OnKeeper) (xs : List OnCpu) (list : List Balance) : Type 0 where
+  pub keeper : IsKeeperOf z k
+  -- of each slot with an entry: the CPUs' own counts by their places, and the keeper's total
+  pub met : map tally_shown list ≡ tallies_met k xs z.slots
+  -- whatever state the views are of, these are the net counts, and what is held is the tally
+  pub answer : (g : State) → AreShown g k xs → map tally_shown list ≡ tallies_below k xs z.slots
+  pub tally : All (λ b. IsTallied k xs (tally_shown b)) list

@@ -2,8 +2,7 @@
 
 ghost use Rattle.std.specs.Prelude.{◌≡◌, ◌↔◌, ◌⊎◌, ◌+ℤ◌, ◌≤ℤ◌, ◌<◌, ◌≤◌, ◌^◌, All, IfOk, IfErr, IsErrOf, IsTrue, OnErr, length, map, neg_ℤ, pos};
 ghost use Rattle.passive_core.specs.Audits.{sum_of, tally_shown};
-ghost use Rattle.passive_core.specs.State.{State};
-ghost use Rattle.name_registry.specs.Auditing.{AreAllCpus, AreShown, IsOccupied, IsTallied, Occupies, is_collected, local_met, locals_met, place_of, places_below, tallies_below, tallies_met, tally_met};
+ghost use Rattle.name_registry.specs.Auditing.{AreAllCpus, IsAuditOf, IsOccupied, Occupies, is_collected, local_met, locals_met, place_of, places_below, tallies_met, tally_met};
 
 use cpu_words::{Domain, Words};
 use local_count::net_count;
@@ -28,8 +27,7 @@ pub fn audit_in<D: Domain>(
     ensures places { IfOk result (λ list. map place_of list.items ≡ places_below keeper.old D.settings.slots) }
     ensures sums { IfOk result (λ list. All (λ b. b.held ≡ sum_of b.locals.items +ℤ b.total) list.items) }
     ensures locals { IfOk result (λ list. All (λ b. length b.locals.items ≡ D.settings.cpus) list.items) }
-    ensures answer { IfOk result (λ list. (g : State) → AreShown g keeper.old cpus.old → map tally_shown list.items ≡ tallies_below keeper.old cpus.old D.settings.slots) }
-    ensures tally { IfOk result (λ list. All (λ b. IsTallied keeper.old cpus.old (tally_shown b)) list.items) }
+    ensures answer { IfOk result (λ list. IsAuditOf D.settings keeper.old cpus.old list.items) }
     ensures same { (keeper.new ≡ keeper.old) × (cpus.new ≡ cpus.old) }
 {
     let _words = words;

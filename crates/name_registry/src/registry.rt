@@ -1,12 +1,12 @@
 //! The registry: the shared words, and a lock round the keeper.
 
-ghost use Rattle.std.specs.Prelude.{◌≡◌, ◌↔◌, ◌⊎◌, ◌+ℤ◌, ◌≤◌, All, IfOk, IfErr, IsErrOf, IsTrue, false, length, map};
-ghost use Rattle.passive_core.specs.Audits.{sum_of, tally_shown};
+ghost use Rattle.std.specs.Prelude.{◌≡◌, ◌↔◌, ◌⊎◌, ◌+ℤ◌, ◌≤◌, All, IfOk, IfErr, IsErrOf, IsTrue, false, length};
+ghost use Rattle.passive_core.specs.Audits.{sum_of};
 ghost use Rattle.passive_core.specs.declared.entry.Kind.TheVariants.{Iface};
 ghost use Rattle.passive_core.specs.Names.{is_lawful};
 ghost use Rattle.passive_core.specs.Slots.{is_iface};
 ghost use Rattle.passive_list.specs.Keepers.{OnKeeper};
-ghost use Rattle.name_registry.specs.Auditing.{AreAllCpus, IsTallied, place_of, places_below};
+ghost use Rattle.name_registry.specs.Auditing.{AreAllCpus, IsAuditOf};
 ghost use Rattle.name_registry.specs.Locking.{MayAttach, IsAttachRefusal, IsDetachRefusedTo, IsStageOf};
 ghost use Rattle.name_registry.specs.Meeting.{is_inside, HasLearned, HasSeenAttach, HasSeenDetach};
 
@@ -102,7 +102,11 @@ impl<D: Domain> Registry<D> {
         advance_in(&self.words, &mut self.keeper.lock(rt), number)
     }
 
-    /// The audit of local references (localcount(9)) under the interlock, as `audit_in` does.
+    /// The audit of local references (localcount(9)) under the interlock, as `audit_in` does: of each live or retired slot, least first,
+    /// each CPU's own net count, by its place, or 0 where the keeper has collected it, the keeper's total, and their sum, which is held.
+    /// No contract can name the keeper: the answer is right for one that is at rest, that some state of the core shows, and that may have
+    /// any history. What is held is the tally in each state that shows this keeper and these CPUs together; that there is one, as there
+    /// is in every run, no call can say, since a step on the words knows the view of its own seat alone.
     /// Refused, in this order: `MissingCpu` where the slice isn't CPU 0, 1, .. of this registry in this order; `NoMemory`.
     pub fn audit<R: Wait>(
         &self,
@@ -114,7 +118,7 @@ impl<D: Domain> Registry<D> {
         ensures err { IfErr result (λ refusal. (refusal ≡ Refusal.MissingCpu) ⊎ (refusal ≡ Refusal.NoMemory)) }
         ensures sums { IfOk result (λ list. All (λ b. b.held ≡ sum_of b.locals.items +ℤ b.total) list.items) }
         ensures locals { IfOk result (λ list. All (λ b. length b.locals.items ≡ D.settings.cpus) list.items) }
-        ensures tally { IfOk result (λ list. (k : OnKeeper) × (map place_of list.items ≡ places_below k D.settings.slots) × All (λ b. IsTallied k cpus.old (tally_shown b)) list.items) }
+        ensures tally { IfOk result (λ list. (k : OnKeeper) × IsAuditOf D.settings k cpus.old list.items) }
         ensures same { cpus.new ≡ cpus.old }
     {
         audit_in(alloc, &self.words, &mut self.keeper.lock(rt), cpus)

@@ -1,3 +1,5 @@
 mod bench;
+mod elsewhere;
+mod memory_tests;
 mod references;
 mod rows;

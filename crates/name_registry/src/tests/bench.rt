@@ -15,17 +15,18 @@ use std::process::Abort;
 use std::sync::Wait;
 use std::test::Fail;
 
+pub(crate) const USUAL: Settings = Settings {
+    cpus: 2,
+    slots: 2,
+    change_limit: 1000,
+    section_limit: 1000,
+    passive_limit: 100,
+    count_limit: 100,
+};
+
 /// The words of a registry of two CPUs with so many slots, before it is named.
 pub(crate) fn blank(alloc: Global, slots: u8) -> Result<Blank, Refusal> {
-    let settings = Settings {
-        cpus: 2,
-        slots,
-        change_limit: 1000,
-        section_limit: 1000,
-        passive_limit: 100,
-        count_limit: 100,
-    };
-    Blank::new(alloc, settings)
+    Blank::new(alloc, Settings { slots, ..USUAL })
 }
 
 pub(crate) fn named(kind: Kind, name: &[u8], value: u64) -> Result<Record, NameFault>
@@ -36,6 +37,18 @@ pub(crate) fn named(kind: Kind, name: &[u8], value: u64) -> Result<Record, NameF
         name: Name::parse(name)?,
         value,
     })
+}
+
+/// What an audit says of an entry: the number, the slot, what is held, CPU 0's count and CPU 1's, and the total.
+pub(crate) fn line(balance: &Balance) -> (u64, u8, i64, Option<i64>, Option<i64>, i64) {
+    (
+        balance.number,
+        balance.slot,
+        balance.held,
+        balance.locals.get(0).copied(),
+        balance.locals.get(1).copied(),
+        balance.total,
+    )
 }
 
 /// A registry and its two CPUs.
@@ -49,9 +62,13 @@ impl<D: Domain> Bench<D> {
     pub(crate) fn open(alloc: Global, blank: Blank) -> Result<Bench<D>, Fail>
         requires { (blank.table ≡ D.table) × (blank.settings ≡ D.settings) }
     {
-        let Ok((registry, mut cpus)) = blank.open::<D>(alloc) else {
+        let Ok((registry, cpus)) = blank.open::<D>(alloc) else {
             return Err(Fail::from("an open registry"));
         };
+        Bench::of(registry, cpus)
+    }
+
+    pub(crate) fn of(registry: Registry<D>, mut cpus: Vec<Cpu<D>>) -> Result<Bench<D>, Fail> {
         let (Some(second), Some(first)) = (cpus.pop(), cpus.pop()) else {
             return Err(Fail::from("two CPUs"));
         };

@@ -3,7 +3,7 @@
 ghost use Rattle.std.specs.Prelude.{◌≡◌};
 
 use crate::Blank;
-use crate::tests::bench::{Bench, blank, named};
+use crate::tests::bench::{Bench, blank, line, named};
 use cpu_words::Domain;
 use passive_core::{Balance, Entry, Kind, Refusal, Stage};
 use std::alloc::Global;
@@ -12,17 +12,10 @@ use std::process::Abort;
 use std::sync::Wait;
 use std::test::*;
 
-/// What an audit says of its one entry: the number, the slot, what is held, CPU 0's count and CPU 1's, and the total.
-fn line(list: &Vec<Balance>) -> Option<(u64, u8, i64, Option<i64>, Option<i64>, i64)> {
+/// What an audit says of its one entry.
+fn only_line(list: &Vec<Balance>) -> Option<(u64, u8, i64, Option<i64>, Option<i64>, i64)> {
     match list.as_slice() {
-        [balance] => Some((
-            balance.number,
-            balance.slot,
-            balance.held,
-            balance.locals.get(0).copied(),
-            balance.locals.get(1).copied(),
-            balance.total,
-        )),
+        [balance] => Some(line(balance)),
         _ => None,
     }
 }
@@ -45,9 +38,9 @@ fn released_elsewhere<D: Domain, R: Wait + Abort>(
     let x = bench.counted(rt, 0, &wm)?;
     let held = bench.audit(rt, alloc);
     bench.uncount(rt, 1, x);
-    assert_eq!(rt; line(&held?), Some((1, 0, 1, Some(1), Some(0), 0)));
+    assert_eq!(rt; only_line(&held?), Some((1, 0, 1, Some(1), Some(0), 0)));
     assert_eq!(rt;
-        line(&bench.audit(rt, alloc)?),
+        only_line(&bench.audit(rt, alloc)?),
         Some((1, 0, 0, Some(1), Some(-1), 0))
     );
     Ok(())
@@ -97,7 +90,7 @@ fn released_under_the_interlock<D: Domain, R: Wait + Abort>(
     bench.uncount(rt, 1, x);
     assert_eq!(rt; retired?.number, 1);
     assert_eq!(rt; stage, Ok(Stage::Local(1)));
-    assert_eq!(rt; line(&held?), Some((1, 0, 1, Some(0), Some(0), 1)));
+    assert_eq!(rt; only_line(&held?), Some((1, 0, 1, Some(0), Some(0), 1)));
     assert_eq!(rt; bench.advance(rt, 1), Ok(Stage::Freed(0)));
     Ok(())
 }

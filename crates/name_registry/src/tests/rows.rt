@@ -3,9 +3,9 @@
 ghost use Rattle.std.specs.Prelude.{◌≡◌};
 
 use crate::Blank;
-use crate::tests::bench::{Bench, blank, named};
+use crate::tests::bench::{Bench, USUAL, blank, named};
 use cpu_words::Domain;
-use passive_core::{Entry, Kind, Refusal, Stage};
+use passive_core::{Entry, Kind, Refusal, Settings, Stage};
 use std::alloc::Global;
 use std::marker::Brand;
 use std::process::Abort;
@@ -69,6 +69,43 @@ fn one_slot<D: Domain, R: Wait + Abort>(rt: &R, alloc: Global, blank: Blank) -> 
             rec: vga
         }
     );
+    Ok(())
+}
+
+#[test]
+fn bad_settings(rt: HostRuntime) -> Result<(), Fail> {
+    for slots in [0, 33] {
+        assert!(rt; matches!(blank(rt.alloc(), slots), Err(Refusal::BadSettings)));
+    }
+    Ok(())
+}
+
+#[test]
+fn room_for_detach(rt: HostRuntime) -> Result<(), Fail> {
+    let blank = Blank::new(
+        rt.alloc(),
+        Settings {
+            change_limit: 3,
+            ..USUAL
+        },
+    )?;
+    three_changes::<Brand, _>(&rt, rt.alloc(), blank)
+}
+
+fn three_changes<D: Domain, R: Wait + Abort>(
+    rt: &R,
+    alloc: Global,
+    blank: Blank,
+) -> Result<(), Fail>
+    requires { (blank.table ≡ D.table) × (blank.settings ≡ D.settings) }
+{
+    let bench = &mut Bench::<D>::open(alloc, blank)?;
+    let wm = named(Kind::Driver, b"wm", 7)?;
+    let vga = named(Kind::Driver, b"vga", 8)?;
+    assert_eq!(rt; bench.attach(rt, 0, wm)?.number, 1);
+    assert_eq!(rt; bench.attach(rt, 0, vga), Err(Refusal::HistoryFull));
+    assert_eq!(rt; bench.detach(rt, 0, &wm)?.number, 1);
+    assert_eq!(rt; bench.attach(rt, 0, wm), Err(Refusal::HistoryFull));
     Ok(())
 }
 

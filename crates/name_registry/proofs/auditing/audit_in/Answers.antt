@@ -3,7 +3,7 @@ use Rattle.std.proofs.Common.{subst}
 use Rattle.passive_core.specs.declared.settings.Settings.{Settings}
 use Rattle.name_registry.specs.Auditing.{AreAllCpus}
 use Rattle.name_registry.proofs.Audits.{counts_met, places_met, sums_met}
-use Rattle.name_registry.proofs.Tallies.{answer_right, settled_of, tally_right}
+use Rattle.name_registry.proofs.Tallies.{audit_right, known_keeper}
 use Rattle.name_registry.proofs.auditing.audit_in.Goals as goal
 
 pub returns-in-Ok-clause-places : goal.returns-in-Ok-clause-places
@@ -19,9 +19,5 @@ returns-in-Ok-clause-locals g c =
 
 pub returns-in-Ok-clause-answer : goal.returns-in-Ok-clause-answer
 returns-in-Ok-clause-answer g c =
-    answer_right g.D.Domain.settings c.args.keeper.now c.args.cpus.now g.D.Domain.settings.slots c.in-Ok.list.items (settled_of _ _ _ _ _ _ _ _ c.keeper.invariant c.keeper.view_is) c.in-Ok.ensures.value
-
-pub returns-in-Ok-clause-tally : goal.returns-in-Ok-clause-tally
-returns-in-Ok-clause-tally g c =
     let all = subst (λ (z : Settings). AreAllCpus z.cpus c.args.cpus.now) c.keeper.invariant.settings (c.are_all.ensures.0 c.if-not-are_all.false) in
-    tally_right g.D.Domain.settings c.args.keeper.now c.args.cpus.now g.D.Domain.settings.slots c.in-Ok.list.items (settled_of _ _ _ _ _ _ _ _ c.keeper.invariant c.keeper.view_is) all c.in-Ok.ensures.value
+    audit_right g.D.Domain.settings c.args.keeper.now c.args.cpus.now c.in-Ok.list.items (known_keeper _ _ _ _ _ _ _ _ c.keeper.invariant c.keeper.view_is) all c.in-Ok.ensures.value

@@ -8,21 +8,16 @@ use Rattle.name_registry.specs.Opening.{AreNewCpus}
 use Rattle.name_registry.proofs.Opened.{seat_after, more_cpus}
 use Rattle.name_registry.proofs.blank.seat_cpus.Goals as goal
 
-pub of_seat-requires-clause-table : goal.of_seat-requires-clause-table
-of_seat-requires-clause-table g c =
+pub of_seat-requires : goal.of_seat-requires
+of_seat-requires g c =
     let i = c.loop-seat.invariant in
     let z = g.D.Domain.settings in
     let is = i.0 ∙ ap (λ (l : List (Seated CpuView)). c.loop-seat.yielded ++ l) c.in-Some.ensures.steps.0 in
     let after = seat_after g.D.Domain.table z c.args.seats.items c.loop-seat.yielded (into_iter_items c.next.new.self) c.in-Some.seat c.requires.seats is in
-    (ap (λ (s : Seated CpuView). s.table) after.1, c.requires.fit, omega (arith, after.0, c.len-id.ensures, i.2, ranges z c.requires.fit))
-
-pub of_seat-requires-clause-new : goal.of_seat-requires-clause-new
-of_seat-requires-clause-new g c =
-    let i = c.loop-seat.invariant in
-    let z = g.D.Domain.settings in
-    let is = i.0 ∙ ap (λ (l : List (Seated CpuView)). c.loop-seat.yielded ++ l) c.in-Some.ensures.steps.0 in
-    let after = seat_after g.D.Domain.table z c.args.seats.items c.loop-seat.yielded (into_iter_items c.next.new.self) c.in-Some.seat c.requires.seats is in
-    ap (λ (s : Seated CpuView). s.view) after.1 ∙ ap (λ k. new_cpu z k) (sym (c.len-id.ensures ∙ i.2))
+    record {
+      table = (ap (λ (s : Seated CpuView). s.table) after.1, c.requires.fit, omega (arith, after.0, c.len-id.ensures, i.2, ranges z c.requires.fit));
+      new = ap (λ (s : Seated CpuView). s.view) after.1 ∙ ap (λ k. new_cpu z k) (sym (c.len-id.ensures ∙ i.2));
+    }
 
 pub loop-seat-preserved : goal.loop-seat-preserved
 loop-seat-preserved g c =
