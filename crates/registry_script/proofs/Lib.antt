@@ -27,4 +27,5 @@ pub mod Done
 pub mod DoneReferences
 pub mod Reports
 pub mod Runs
+pub mod AllCpus
 pub mod SoundCommands
