@@ -14,4 +14,5 @@ pub mod Given
 pub mod Sound
 pub mod Report
 pub mod Live
+pub mod LiveCalls
 pub mod Laws

@@ -15,6 +15,8 @@ mod carry;
 mod core_session;
 mod hitch;
 mod lines;
+mod live_calls;
+mod live_session;
 mod session;
 mod write;
 
