@@ -15,4 +15,5 @@ pub mod Sound
 pub mod Report
 pub mod Live
 pub mod Ran
+pub mod LiveCalls
 pub mod Laws

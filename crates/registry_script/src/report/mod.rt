@@ -17,6 +17,7 @@ mod core_session;
 mod hitch;
 mod lines;
 mod live;
+mod live_calls;
 mod live_session;
 mod session;
 mod write;
