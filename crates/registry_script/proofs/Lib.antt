@@ -29,3 +29,5 @@ pub mod Reports
 pub mod Runs
 pub mod AllCpus
 pub mod SoundCommands
+pub mod LiveHitches
+pub mod LiveCpus

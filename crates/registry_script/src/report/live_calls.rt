@@ -28,6 +28,7 @@ pub fn leave<D: Domain>(words: &Words, cpu: &mut Cpu<D>) -> Result<bool, Hitch>
     requires words { (words.now.table ≡ D.table) × (words.now.settings ≡ D.settings) }
     ensures answer { Decides (why_outside cpu.old) (λ stays. HasExitedOn cpu.old cpu.new × (IsTrue stays ↔ cpu.new.view.begin ≢ None)) result }
     ensures refused { IfErr result (λ _. cpu.new ≡ cpu.old) }
+    ensures id { cpu.new.view.id ≡ cpu.old.view.id }
 {
     if !cpu.inside() {
         return Err(Hitch::NotInside);
@@ -46,6 +47,7 @@ pub fn look_up<D: Domain>(
     requires words { (words.now.table ≡ D.table) × (words.now.settings ≡ D.settings) }
     ensures answer { Decides (why_outside cpu.old) (HasFound (key_with kind name.now) cpu.old cpu.new) result }
     ensures refused { IfErr result (λ _. cpu.new ≡ cpu.old) }
+    ensures id { cpu.new.view.id ≡ cpu.old.view.id }
 {
     if !cpu.inside() {
         return Err(Hitch::NotInside);
@@ -73,6 +75,7 @@ pub fn refer<D: Domain>(
     requires words { (words.now.table ≡ D.table) × (words.now.settings ≡ D.settings) }
     ensures answer { Decides (unless_taken (is_some place.old) (why_not_acquired cpu.old.view cpu.old.view.found)) (λ n. Has place.new (λ p. (p.number ≡ n) × IsAcquired cpu.old cpu.new p)) result }
     ensures refused { IfErr result (λ _. (place.new ≡ place.old) × (cpu.new ≡ cpu.old)) }
+    ensures id { cpu.new.view.id ≡ cpu.old.view.id }
 {
     if place.is_some() {
         return Err(Hitch::LabelTaken);
@@ -94,6 +97,7 @@ pub fn copied<D: Domain>(
     requires words { (words.now.table ≡ D.table) × (words.now.settings ≡ D.settings) }
     ensures answer { Decides (unless_free source.now (λ q. unless_taken taken (why_not_copied cpu.old.view q.number (why_unusable cpu.old.view q)))) (λ p. Has source.now (λ q. IsCopied q.number cpu.old cpu.new p)) result }
     ensures refused { IfErr result (λ _. cpu.new ≡ cpu.old) }
+    ensures id { cpu.new.view.id ≡ cpu.old.view.id }
 {
     let Some(psref) = source else {
         return Err(Hitch::NoLabel);
@@ -145,6 +149,7 @@ pub fn let_go<D: Domain>(
     ensures answer { Decides (unless_free place.old (λ p. refused_by (why_unusable cpu.old.view p))) (λ n. Has place.old (λ p. (p.number ≡ n) × HasOneLess n cpu.old cpu.new)) result }
     ensures free { IfOk result (λ _. place.new ≡ None) }
     ensures refused { IfErr result (λ _. (place.new ≡ place.old) × (cpu.new ≡ cpu.old)) }
+    ensures id { cpu.new.view.id ≡ cpu.old.view.id }
 {
     let Some(psref) = place.take() else {
         return Err(Hitch::NoLabel);
@@ -171,6 +176,7 @@ pub fn count_one<D: Domain>(
     ensures taken { IsErrOf result Hitch.LabelTaken ↔ IsTrue (is_some place.old) }
     ensures refused { IfErr result (λ h. (place.new ≡ place.old) × (cpu.new ≡ cpu.old)) }
     ensures no_other { IfErr result (λ h. (h ≡ Hitch.LabelTaken) ⊎ ((h ≡ Hitch.Refused Refusal.NothingFound) ⊎ (h ≡ Hitch.Refused Refusal.LocalFull))) }
+    ensures id { cpu.new.view.id ≡ cpu.old.view.id }
 {
     if place.is_some() {
         return Err(Hitch::LabelTaken);
@@ -209,6 +215,7 @@ pub fn uncount_one<D: Domain, R: Wait>(
     ensures answer { Decides (unless_free place.old (λ _. None)) (λ n. Has place.old (λ v. (v.entry.number ≡ n) × (HasReleased cpu.old v cpu.new ⊎ (cpu.new ≡ cpu.old)))) result }
     ensures free { place.new ≡ None }
     ensures refused { IfErr result (λ _. cpu.new ≡ cpu.old) }
+    ensures id { cpu.new.view.id ≡ cpu.old.view.id }
 {
     let Some(reference) = place.take() else {
         return Err(Hitch::NoLabel);
@@ -233,14 +240,15 @@ pub fn plug_in<D: Domain, R: Wait>(
     ensures free { IfOk result (λ _. place.new ≡ None) }
     ensures refused { IfErr result (λ _. (place.new ≡ place.old) × (cpu.new ≡ cpu.old)) }
     ensures why { IfErr result (IsPlugHitch cpu.old place.old) }
+    ensures id { cpu.new.view.id ≡ cpu.old.view.id }
 {
     let Some(reference) = place.take() else {
         return Err(Hitch::NoLabel);
     };
     match registry.attach_iface(rt, cpu, rec, reference) {
         Ok(entry) => Ok(entry),
-        Err((refusal, back)) => {
-            fill(place, back);
+        Err((refusal, unspent)) => {
+            fill(place, unspent);
             Err(Hitch::Refused(refusal))
         }
     }

@@ -244,8 +244,11 @@ impl<'a, D: Domain, R: Wait> Session for LiveSession<'a, D, R> {
     }
 
     fn held(&self, cpu: u8, label: Label) -> Result<bool, Hitch> {
+        let passives = &self.passives;
         let cpus = &*self.cpus;
-        holds(&cpus[cpu as usize], &self.passives[label.place as usize])
+        let cpu = &cpus[cpu as usize];
+        let place = &passives[label.place as usize];
+        holds(cpu, place)
     }
 
     fn read(&mut self, cpu: u8, label: Label) -> Result<Reading, Hitch> {
@@ -276,7 +279,8 @@ impl<'a, D: Domain, R: Wait> Session for LiveSession<'a, D, R> {
 
     fn peek(&mut self, label: Label) -> Result<Reading, Hitch> {
         let registry = self.registry;
-        let place = &mut self.locals[label.place as usize];
+        let locals = &mut self.locals;
+        let place = &mut locals[label.place as usize];
         peek_at(registry.words(), place)
     }
 
