@@ -1,6 +1,6 @@
 //! Calls of the runs on parsed scripts: the row found, and what a run leaves on a registry that the test made.
 
-ghost use Rattle.std.specs.Prelude.{◌≡◌};
+ghost use Rattle.std.specs.Prelude.{◌≡◌, IfOk};
 ghost use Rattle.name_registry.specs.Auditing.{AreAllCpus};
 
 use super::ends::{End, sipping};
@@ -49,7 +49,7 @@ fn attach_wm<D: Domain, R: Wait>(
     cpus: &mut [Cpu<D>],
 ) -> Result<(), Fail>
     requires cpus { AreAllCpus D.settings.cpus cpus.old }
-    ensures cpus { AreAllCpus D.settings.cpus cpus.new }
+    ensures cpus { IfOk result (λ _. AreAllCpus D.settings.cpus cpus.new) }
 {
     let rec = Record {
         kind: Kind::Driver,
