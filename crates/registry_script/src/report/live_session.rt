@@ -160,7 +160,7 @@ fn release_passive<D: Domain>(registry: &Registry<D>, cpus: &mut [Cpu<D>], place
 }
 
 impl<'a, D: Domain, R: Wait> Session for LiveSession<'a, D, R> {
-    ghost use Rattle.std.specs.Prelude.{ℕ, ⊥};
+    ghost use Rattle.std.specs.Prelude.{ℕ};
 
     // which slice of CPUs the session has
     ghost Kept = { ℕ };
