@@ -29,5 +29,4 @@ pub mod Reports
 pub mod Runs
 pub mod AllCpus
 pub mod SoundCommands
-pub mod LiveHitches
 pub mod LiveCpus
