@@ -11,7 +11,7 @@ use thiserror::Error;
 /// Why the program ends with another status than 0; its text is the line on standard error.
 #[derive(Clone, Copy, Debug, PartialEq, Eq, Error)]
 enum Failure {
-    #[error("usage: registry_run core")]
+    #[error("usage: registry_run core | live")]
     Usage,
     #[error("{0}")]
     Run(RunFault),
@@ -19,9 +19,14 @@ enum Failure {
 
 fn main(rt: HostRuntime) -> ExitCode {
     let ended = match chosen_engine(&rt) {
-        Ok(engine) => run(rt.alloc(), engine, &mut rt.reader(), &mut io::writer(&rt)).map_err(
-            Failure::Run,
-        ),
+        Ok(engine) => run(
+            &rt,
+            rt.alloc(),
+            engine,
+            &mut rt.reader(),
+            &mut io::writer(&rt),
+        )
+        .map_err(Failure::Run),
         Err(failure) => Err(failure),
     };
     match ended {
@@ -41,6 +46,7 @@ fn chosen_engine(rt: &(impl Env + Alloc)) -> Result<Engine, Failure> {
     let is_last = words.next().is_none();
     match word {
         Some(word) if is_last && word.as_str() == "core" => Ok(Engine::Core),
+        Some(word) if is_last && word.as_str() == "live" => Ok(Engine::Live),
         _ => Err(Failure::Usage),
     }
 }

@@ -11,7 +11,7 @@ fn failures_and_their_statuses(rt: HostRuntime) -> Result<(), Fail> {
         cause: Cause::BadCpu,
     };
     let rows = [
-        (Failure::Usage, "usage: registry_run core", 2),
+        (Failure::Usage, "usage: registry_run core | live", 2),
         (
             Failure::Run(RunFault::Script(fault)),
             "script fault: line 65537: BadCpu",

@@ -2,11 +2,13 @@
 use Rattle.std.proofs.Common.{◌≡◌, ℕ, ◌<◌, List, ◌++◌, length, true, nat_lt, Option, None, Some, IfSome, Result, Ok, Err, refl, ap, sym, ◌∙◌, arith, append-nil, length-append, inl, inr}
 use Rattle.std.proofs.lemmas.Bool.{cases_lt}
 use Rattle.std.proofs.lemmas.Bool.Decides.{nat_tests}
+use Rattle.registry_script.specs.declared.engine.Engine.{Engine}
 use Rattle.registry_script.specs.declared.script.fault.RunFault.{RunFault}
 use Rattle.registry_script.specs.declared.script.fault.RunFault.TheVariants as run
 use Rattle.registry_script.specs.declared.script.fault.Cause.TheVariants.{TooLong}
 use Rattle.registry_script.specs.Grammar.{parsed}
-use Rattle.registry_script.specs.Written.{WasRead, Ran, RanOn}
+use Rattle.registry_script.specs.Ran.{Ran, RanOn}
+use Rattle.registry_script.specs.Written.{WasRead}
 
 too_long : (text : List ℕ) → 65536 < length text → parsed text ≡ Err (record { line = 1; cause = TooLong })
 unfolding parsed
@@ -21,14 +23,14 @@ same_script input text (Some more) h = elim (cases_lt 65536 (length text)) [
   | inr short ↦ ap parsed (sym (h.given ∙ ap (λ z. text ++ z) (h.whole short) ∙ append-nil text))
 ]
 
-known : (input : List ℕ) (rest old new : Option (List ℕ)) (r : Result (Unit {0}) RunFault) → Ran (Some input) rest old new r → RanOn input old new r
-known input rest old new (Ok u) (text, read, program, says, written) = (program, sym (same_script input text rest read) ∙ says, written)
-known input rest old new (Err (run.Script fault)) (text, read, says, keeps) = (sym (same_script input text rest read) ∙ says, keeps)
-known input rest old new (Err run.Read) h = h
-known input rest old new (Err run.Write) (text, read, program, says, written) = (program, sym (same_script input text rest read) ∙ says, written)
-known input rest old new (Err run.Memory) (inl keeps) = inl keeps
-known input rest old new (Err run.Memory) (inr (text, read, program, says, written)) = inr (program, sym (same_script input text rest read) ∙ says, written)
+known : (engine : Engine) (input : List ℕ) (rest old new : Option (List ℕ)) (r : Result (Unit {0}) RunFault) → Ran engine (Some input) rest old new r → RanOn engine input old new r
+known engine input rest old new (Ok u) (text, read, program, says, written) = (program, sym (same_script input text rest read) ∙ says, written)
+known engine input rest old new (Err (run.Script fault)) (text, read, says, keeps) = (sym (same_script input text rest read) ∙ says, keeps)
+known engine input rest old new (Err run.Read) h = h
+known engine input rest old new (Err run.Write) (text, read, program, says, written) = (program, sym (same_script input text rest read) ∙ says, written)
+known engine input rest old new (Err run.Memory) (inl keeps) = inl keeps
+known engine input rest old new (Err run.Memory) (inr (text, read, program, says, written)) = inr (program, sym (same_script input text rest read) ∙ says, written)
 
-pub ran_known : (left rest old new : Option (List ℕ)) (r : Result (Unit {0}) RunFault) → Ran left rest old new r → IfSome left (λ input. RanOn input old new r)
-ran_known None rest old new r h = tt
-ran_known (Some input) rest old new r h = known input rest old new r h
+pub ran_known : (engine : Engine) (left rest old new : Option (List ℕ)) (r : Result (Unit {0}) RunFault) → Ran engine left rest old new r → IfSome left (λ input. RanOn engine input old new r)
+ran_known engine None rest old new r h = tt
+ran_known engine (Some input) rest old new r h = known engine input rest old new r h

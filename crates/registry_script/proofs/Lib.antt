@@ -27,4 +27,6 @@ pub mod Done
 pub mod DoneReferences
 pub mod Reports
 pub mod Runs
+pub mod AllCpus
 pub mod SoundCommands
+pub mod LiveCpus

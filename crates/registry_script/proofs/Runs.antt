@@ -7,7 +7,7 @@ use Rattle.registry_script.specs.declared.script.command.Command.{Command}
 use Rattle.registry_script.specs.declared.script.command.Command.TheVariants.{Domain, Limits, Attach, Plug, Detach, Enter, Exit, Find, Reference, Copy, Held, Read, Release, Count, Peek, Uncount, Advance, Destroy, Perform, Audit}
 use Rattle.registry_script.specs.Live.{IsLineOf, IsRunOf, WritesFront, WritesRun}
 use Rattle.registry_script.specs.Written.{AppendsPrefix}
-use Rattle.registry_script.proofs.Writing.{appends_more, written_prefix}
+use Rattle.registry_script.proofs.Writing.{appends_more, written_none, written_prefix}
 
 -- each command has a line
 some_line : (command : Command) → (text : List ℕ) × IsLineOf command text
@@ -73,3 +73,7 @@ run_so_far a b ks i (done, run, written) = let left = some_run (drop i ks) in (d
 -- no command is left
 pub run_done : (a b : Option (List ℕ)) (ks : List Command) (i : ℕ) → length ks ≤ i → WritesRun a b (take i ks) → WritesRun a b ks
 run_done a b ks i above done = rw (take_all i ks above) at done
+
+-- nothing is written
+pub run_not_begun : (a : Option (List ℕ)) (ks : List Command) → WritesFront a a ks
+run_not_begun a ks = let all = some_run ks in (all.0, all.1, (all.0, written_none a all.0))

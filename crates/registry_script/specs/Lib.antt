@@ -14,4 +14,6 @@ pub mod Given
 pub mod Sound
 pub mod Report
 pub mod Live
+pub mod Ran
+pub mod LiveCalls
 pub mod Laws

@@ -1,12 +1,14 @@
 //! From the bytes that are read to the bytes that are written.
 
 ghost use Rattle.std.specs.Prelude.{◌≡◌, IfOk, IfErr, IfSome};
-ghost use Rattle.registry_script.specs.Written.{WasRead, Ran, RanOn, IsWhileReading};
+ghost use Rattle.registry_script.specs.Ran.{Ran, RanOn};
+ghost use Rattle.registry_script.specs.Written.{WasRead, IsWhileReading};
 
-use crate::report::run_core;
+use crate::report::{run_core, run_live};
 use crate::script::{ParseFault, RunFault, parse_script};
 use std::alloc::Global;
 use std::io::{Read, Write};
+use std::sync::Wait;
 
 /// One byte more than a script may have.
 const LIMIT: usize = 65_537;
@@ -16,35 +18,40 @@ const LIMIT: usize = 65_537;
 pub enum Engine {
     /// The pure machine.
     Core,
+    /// A registry that is running.
+    Live,
 }
 
-/// Reads a script whole, runs it, and writes its report. After a fault of the script or of the reader
-/// nothing has been written.
+/// Reads a script whole, runs it with the engine, and writes its report. After a fault of the script or of the
+/// reader nothing has been written.
 #[tactic(auto, using(crate::proofs::Known::ran_known))]
-pub fn run<R: Read, W: Write>(
+pub fn run<H: Wait, R: Read, W: Write>(
+    rt: &H,
     alloc: Global,
     engine: Engine,
     reader: &mut R,
     writer: &mut W,
 ) -> Result<(), RunFault>
-    ensures ran { Ran (R.remaining reader.old) (R.remaining reader.new) (W.contents writer.old) (W.contents writer.new) result }
-    ensures known { IfSome (R.remaining reader.old) (λ input. RanOn input (W.contents writer.old) (W.contents writer.new) result) }
+    ensures ran { Ran engine (R.remaining reader.old) (R.remaining reader.new) (W.contents writer.old) (W.contents writer.new) result }
+    ensures known { IfSome (R.remaining reader.old) (λ input. RanOn engine input (W.contents writer.old) (W.contents writer.new) result) }
 {
-    run_script(alloc, engine, reader, writer)
+    run_script(rt, alloc, engine, reader, writer)
 }
 
-fn run_script<R: Read, W: Write>(
+fn run_script<H: Wait, R: Read, W: Write>(
+    rt: &H,
     alloc: Global,
     engine: Engine,
     reader: &mut R,
     writer: &mut W,
 ) -> Result<(), RunFault>
-    ensures { Ran (R.remaining reader.old) (R.remaining reader.new) (W.contents writer.old) (W.contents writer.new) result }
+    ensures { Ran engine (R.remaining reader.old) (R.remaining reader.new) (W.contents writer.old) (W.contents writer.new) result }
 {
     let text = read_script(alloc, reader)?;
     match parse_script(alloc, &text) {
         Ok(script) => match engine {
             Engine::Core => run_core(alloc, &script, writer),
+            Engine::Live => run_live(rt, alloc, &script, writer),
         },
         Err(ParseFault::Script(fault)) => Err(RunFault::Script(fault)),
         Err(ParseFault::Memory) => Err(RunFault::Memory),

@@ -3,12 +3,11 @@
 ghost use Rattle.std.specs.Prelude.{◌≡◌, ◌<◌};
 ghost use Rattle.passive_core.specs.Commands.{IsQuiet};
 ghost use Rattle.registry_script.specs.Session.{filled, labelled, unlabelled};
-ghost use Rattle.registry_script.specs.Answers.{hitched};
 
-use super::hitch::Hitch;
+use super::hitch::{Hitch, as_answer};
 use super::session::{Reading, Session};
 use crate::script::Label;
-use passive_core::{Balance, Core, CorePsref, Entry, Kind, Name, Record, Refusal, Stage};
+use passive_core::{Balance, Core, CorePsref, Entry, Kind, Name, Record, Stage};
 use std::marker::Model;
 
 /// A core, and the references that labels stand for.
@@ -59,16 +58,6 @@ impl CoreSession {
         ensures { result ≡ filled (labelled self.now.locals label.place) }
     {
         self.locals[label.place as usize].ok_or(Hitch::NoLabel)
-    }
-}
-
-/// What a call answered, as a command's answer.
-fn as_answer<X>(answer: Result<X, Refusal>) -> Result<X, Hitch>
-    ensures { result ≡ hitched answer }
-{
-    match answer {
-        Ok(x) => Ok(x),
-        Err(refusal) => Err(Hitch::Refused(refusal)),
     }
 }
 

@@ -2,6 +2,7 @@
 
 ghost use Rattle.std.specs.Prelude.{◌≡◌};
 ghost use Rattle.registry_script.specs.declared.report.hitch.Hitch.TheVariants as hitch;
+ghost use Rattle.registry_script.specs.Answers.{hitched};
 
 use passive_core::Refusal;
 
@@ -23,5 +24,15 @@ impl From<Refusal> for Hitch {
 
     fn from(refusal: Refusal) -> Hitch {
         Hitch::Refused(refusal)
+    }
+}
+
+/// What a call answered, as a command's answer.
+pub fn as_answer<X>(answer: Result<X, Refusal>) -> Result<X, Hitch>
+    ensures { result ≡ hitched answer }
+{
+    match answer {
+        Ok(x) => Ok(x),
+        Err(refusal) => Err(Hitch::Refused(refusal)),
     }
 }

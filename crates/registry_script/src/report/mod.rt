@@ -1,4 +1,5 @@
-//! The run of a script: each command in order, and its line. The core carries the commands out.
+//! The run of a script: each command in order, and its line. The core carries the commands out, or a registry that is
+//! running.
 
 ghost use Rattle.std.specs.Prelude.{◌≡◌, IfErr, IfOk, IsTrue, OnErr, OnOk};
 ghost use Rattle.std.specs.Io.KnownBytes.{Appends};
@@ -15,6 +16,9 @@ mod carry;
 mod core_session;
 mod hitch;
 mod lines;
+mod live;
+mod live_calls;
+mod live_session;
 mod session;
 mod write;
 
@@ -26,6 +30,8 @@ use session::Session;
 use std::alloc::Global;
 use std::io::Write;
 use write::write_text;
+
+pub use live::{run_live, run_live_on};
 
 /// Runs a script over the core, and writes its report: the text of each command, in order.
 pub fn run_core<W: Write>(alloc: Global, script: &Script, writer: &mut W) -> Result<(), RunFault>

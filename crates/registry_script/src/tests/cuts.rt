@@ -1,8 +1,11 @@
 //! A script that is cut after each byte: its first fault and nothing written, or the report of what is left.
 
-use super::outcome;
+use super::{ENGINES, outcome};
+use crate::engine::Engine;
 use crate::script::{Cause, RunFault, ScriptFault};
 use std::alloc::{AllocError, Global};
+use std::process::Abort;
+use std::sync::Wait;
 use std::test::Fail;
 
 const SCRIPT: &[u8] = b"# x\ndomain 2 2\nexit 0\nfind 1 driver wm\nadvance 7\n";
@@ -29,18 +32,24 @@ fn answer(cut: usize) -> Result<usize, ScriptFault> {
     Err(ScriptFault { line, cause })
 }
 
-#[test]
-fn cut_after_each_byte(rt: HostRuntime) {
-    assert_eq!(rt; (SCRIPT.len(), REPORT.len()), (49, 52));
+fn cut_under<R: Wait + Abort>(rt: &R, alloc: Global, engine: Engine) {
     for cut in 0..=49 {
-        let (written, result) = outcome(rt.alloc(), &SCRIPT[..cut]);
+        let (written, result) = outcome(rt, alloc, engine, &SCRIPT[..cut]);
         let (front, end) = match answer(cut) {
             Ok(front) => (front, Ok(())),
             Err(fault) => (0, Err(RunFault::Script(fault))),
         };
-        assert_eq!(rt; result, end, "cut at {cut}");
-        assert_eq!(rt; written.len(), front, "cut at {cut}");
-        assert!(rt; REPORT.starts_with(&written), "cut at {cut}");
+        assert_eq!(rt; result, end, "cut at {cut}, {engine:?}");
+        assert_eq!(rt; written.len(), front, "cut at {cut}, {engine:?}");
+        assert!(rt; REPORT.starts_with(&written), "cut at {cut}, {engine:?}");
+    }
+}
+
+#[test]
+fn cut_after_each_byte(rt: HostRuntime) {
+    assert_eq!(rt; (SCRIPT.len(), REPORT.len()), (49, 52));
+    for engine in ENGINES {
+        cut_under(&rt, rt.alloc(), engine);
     }
 }
 
@@ -115,15 +124,17 @@ pub fn cut_script(
 }
 
 /// The first cut in a line after which the run ends otherwise, or writes though it ends with a fault.
-fn first_missed(
+fn first_missed<R: Wait>(
+    rt: &R,
     alloc: Global,
+    engine: Engine,
     before: &[u8],
     row: Line,
     number: u32,
 ) -> Result<Option<usize>, AllocError> {
     for cut in 0..=row.0.len() {
         let script = cut_script(alloc, before, row, cut)?;
-        let (written, result) = outcome(alloc, &script);
+        let (written, result) = outcome(rt, alloc, engine, &script);
         let end = end_of_cut(row, number, cut);
         if result != end || written.is_empty() != end.is_err() {
             return Ok(Some(cut));
@@ -132,14 +143,25 @@ fn first_missed(
     Ok(None)
 }
 
-#[test]
-fn ends_of_all_limits_cut_after_each_byte(rt: HostRuntime) -> Result<(), Fail> {
-    let mut script = Vec::new(rt.alloc());
+fn all_limits_cut_under<R: Wait + Abort>(
+    rt: &R,
+    alloc: Global,
+    engine: Engine,
+) -> Result<(), Fail> {
+    let mut script = Vec::new(alloc);
     for (row, number) in LINES.into_iter().zip(1..) {
-        let missed = first_missed(rt.alloc(), &script, row, number)?;
-        assert_eq!(rt; missed, None, "in line {number}");
+        let missed = first_missed(rt, alloc, engine, &script, row, number)?;
+        assert_eq!(rt; missed, None, "in line {number}, {engine:?}");
         script.extend_from_slice(row.0.as_bytes())?;
         script.push(b'\n')?;
+    }
+    Ok(())
+}
+
+#[test]
+fn ends_of_all_limits_cut_after_each_byte(rt: HostRuntime) -> Result<(), Fail> {
+    for engine in ENGINES {
+        all_limits_cut_under(&rt, rt.alloc(), engine)?;
     }
     Ok(())
 }

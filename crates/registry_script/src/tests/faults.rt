@@ -1,10 +1,12 @@
 //! The faults of scripts: the rows bare-domain, script-faults, more-script-faults and outer-limits, and each cause
 //! once for each command that can have it.
 
-use super::{lines, outcome};
+use super::{ENGINES, lines, outcome};
+use crate::engine::Engine;
 use crate::script::{Cause, Command, Label, RunFault, ScriptFault, parse_script};
 use passive_core::{Kind, Name, Record, Settings};
 use std::alloc::{AllocError, Global};
+use std::sync::Wait;
 use std::test::Fail;
 
 /// A script, and the line and the cause of its first fault.
@@ -151,21 +153,29 @@ const REFERENCES: [Row; 29] = [
     ("domain 2 2; ref 0 a; ref 0 z; exit 2", 4, Cause::BadCpu),
 ];
 
-/// A script's fault, and whether nothing was written.
-fn fault_of(alloc: Global, script: &[u8]) -> (Result<(), RunFault>, bool) {
-    let (written, result) = outcome(alloc, script);
-    (result, written.is_empty())
+/// How a run ends, and whether nothing was written: under the core, and under the live engine.
+type Ends = [(Result<(), RunFault>, bool); 2];
+
+/// How the runs of the script end.
+fn ends_of<R: Wait>(rt: &R, alloc: Global, script: &[u8]) -> Ends {
+    let core = outcome(rt, alloc, Engine::Core, script);
+    let live = outcome(rt, alloc, Engine::Live, script);
+    [(core.1, core.0.is_empty()), (live.1, live.0.is_empty())]
 }
 
-fn fault(line: u32, cause: Cause) -> (Result<(), RunFault>, bool) {
-    (Err(RunFault::Script(ScriptFault { line, cause })), true)
+fn fault(line: u32, cause: Cause) -> Ends {
+    [(Err(RunFault::Script(ScriptFault { line, cause })), true); 2]
 }
 
 /// The first of the scripts that has another fault, or after whose fault something was written.
-fn first_missed(alloc: Global, rows: &[Row]) -> Result<Option<&'static str>, AllocError> {
+fn first_missed<R: Wait>(
+    rt: &R,
+    alloc: Global,
+    rows: &[Row],
+) -> Result<Option<&'static str>, AllocError> {
     for (row, line, cause) in rows {
         let script = lines(alloc, row)?;
-        if fault_of(alloc, &script) != fault(*line, *cause) {
+        if ends_of(rt, alloc, &script) != fault(*line, *cause) {
             return Ok(Some(*row));
         }
     }
@@ -179,12 +189,14 @@ fn repeated(alloc: Global, byte: u8, count: usize) -> Result<Vec<u8>, AllocError
 
 #[test]
 fn bare_domain(rt: HostRuntime) {
-    let (written, result) = outcome(rt.alloc(), b"domain 2 2".as_slice());
-    assert_eq!(rt; result, Ok(()));
-    assert_eq!(rt; written.as_slice(), b"domain 2 2\n".as_slice());
-    let none = fault_of(rt.alloc(), b"".as_slice());
+    for engine in ENGINES {
+        let (written, result) = outcome(&rt, rt.alloc(), engine, b"domain 2 2".as_slice());
+        assert_eq!(rt; result, Ok(()), "{engine:?}");
+        assert_eq!(rt; written.as_slice(), b"domain 2 2\n".as_slice(), "{engine:?}");
+    }
+    let none = ends_of(&rt, rt.alloc(), b"".as_slice());
     assert_eq!(rt; none, fault(1, Cause::NoDomain));
-    let zero = fault_of(rt.alloc(), b"domain 0 2".as_slice());
+    let zero = ends_of(&rt, rt.alloc(), b"domain 0 2".as_slice());
     assert_eq!(rt; zero, fault(1, Cause::BadSettings));
 }
 
@@ -197,8 +209,8 @@ fn script_faults(rt: HostRuntime) -> Result<(), Fail> {
         ("enter 0", 1, Cause::Misplaced),
         ("domain 2 2; limits 0 1 1 1", 2, Cause::BadSettings),
     ];
-    assert_eq!(rt; first_missed(rt.alloc(), &rows)?, None);
-    let open = fault_of(rt.alloc(), b"domain 2 2\natt".as_slice());
+    assert_eq!(rt; first_missed(&rt, rt.alloc(), &rows)?, None);
+    let open = ends_of(&rt, rt.alloc(), b"domain 2 2\natt".as_slice());
     assert_eq!(rt; open, fault(2, Cause::UnknownCommand));
     Ok(())
 }
@@ -224,7 +236,7 @@ fn more_script_faults(rt: HostRuntime) -> Result<(), Fail> {
         ("# x; ; enter 0", 3, Cause::Misplaced),
         ("domain 2 2; enter\t0", 2, Cause::BadByte),
     ];
-    assert_eq!(rt; first_missed(rt.alloc(), &rows)?, None);
+    assert_eq!(rt; first_missed(&rt, rt.alloc(), &rows)?, None);
     Ok(())
 }
 
@@ -244,14 +256,14 @@ fn outer_limits(rt: HostRuntime) -> Result<(), Fail> {
             Cause::BadSettings,
         ),
     ];
-    assert_eq!(rt; first_missed(rt.alloc(), &rows)?, None);
+    assert_eq!(rt; first_missed(&rt, rt.alloc(), &rows)?, None);
     for script in [
         b"domain 8 32".as_slice(),
         b"domain 1 1\n".as_slice(),
         b"domain 2 1\nlimits 1 1099511627776 1 1\n".as_slice(),
         b"domain 2 1\nlimits 1000000 1 1099511627776 1099511627776".as_slice(),
     ] {
-        assert_eq!(rt; fault_of(rt.alloc(), script), (Ok(()), false));
+        assert_eq!(rt; ends_of(&rt, rt.alloc(), script), [(Ok(()), false); 2]);
     }
     Ok(())
 }
@@ -259,38 +271,38 @@ fn outer_limits(rt: HostRuntime) -> Result<(), Fail> {
 #[test]
 fn long_lines(rt: HostRuntime) -> Result<(), Fail> {
     let mut long = repeated(rt.alloc(), b'x', 121)?;
-    assert_eq!(rt; fault_of(rt.alloc(), &long), fault(1, Cause::LongLine));
+    assert_eq!(rt; ends_of(&rt, rt.alloc(), &long), fault(1, Cause::LongLine));
     if let Some(byte) = long.get_mut(7) {
         *byte = 200;
     }
-    assert_eq!(rt; fault_of(rt.alloc(), &long), fault(1, Cause::LongLine));
+    assert_eq!(rt; ends_of(&rt, rt.alloc(), &long), fault(1, Cause::LongLine));
 
     let mut comment = repeated(rt.alloc(), b'#', 121)?;
-    assert_eq!(rt; fault_of(rt.alloc(), &comment), fault(1, Cause::LongLine));
+    assert_eq!(rt; ends_of(&rt, rt.alloc(), &comment), fault(1, Cause::LongLine));
     let _last = comment.pop();
-    assert_eq!(rt; fault_of(rt.alloc(), &comment), fault(1, Cause::NoDomain));
+    assert_eq!(rt; ends_of(&rt, rt.alloc(), &comment), fault(1, Cause::NoDomain));
     if let Some(byte) = comment.get_mut(7) {
         *byte = 200;
     }
-    assert_eq!(rt; fault_of(rt.alloc(), &comment), fault(1, Cause::BadByte));
+    assert_eq!(rt; ends_of(&rt, rt.alloc(), &comment), fault(1, Cause::BadByte));
     Ok(())
 }
 
 #[test]
 fn too_long(rt: HostRuntime) -> Result<(), Fail> {
     let mut script = repeated(rt.alloc(), b'\n', 65_536)?;
-    assert_eq!(rt; fault_of(rt.alloc(), &script), fault(1, Cause::NoDomain));
+    assert_eq!(rt; ends_of(&rt, rt.alloc(), &script), fault(1, Cause::NoDomain));
     script.push(200)?;
-    assert_eq!(rt; fault_of(rt.alloc(), &script), fault(1, Cause::TooLong));
+    assert_eq!(rt; ends_of(&rt, rt.alloc(), &script), fault(1, Cause::TooLong));
     Ok(())
 }
 
 #[test]
 fn causes_in_order(rt: HostRuntime) -> Result<(), Fail> {
-    assert_eq!(rt; first_missed(rt.alloc(), &ORDER)?, None);
-    assert_eq!(rt; first_missed(rt.alloc(), &SETTINGS)?, None);
-    assert_eq!(rt; first_missed(rt.alloc(), &ENTRIES)?, None);
-    assert_eq!(rt; first_missed(rt.alloc(), &REFERENCES)?, None);
+    assert_eq!(rt; first_missed(&rt, rt.alloc(), &ORDER)?, None);
+    assert_eq!(rt; first_missed(&rt, rt.alloc(), &SETTINGS)?, None);
+    assert_eq!(rt; first_missed(&rt, rt.alloc(), &ENTRIES)?, None);
+    assert_eq!(rt; first_missed(&rt, rt.alloc(), &REFERENCES)?, None);
     Ok(())
 }
 
@@ -303,10 +315,12 @@ fn bytes_of_a_line(rt: HostRuntime) {
         b"# \xff".as_slice(),
         b"\tatt".as_slice(),
     ] {
-        assert_eq!(rt; fault_of(rt.alloc(), script), fault(1, Cause::BadByte));
+        assert_eq!(rt; ends_of(&rt, rt.alloc(), script), fault(1, Cause::BadByte));
     }
     let spaces = outcome(
+        &rt,
         rt.alloc(),
+        Engine::Core,
         b"\n   \n #~!\n  domain   002  2 \n #".as_slice(),
     );
     assert_eq!(rt; spaces.1, Ok(()));

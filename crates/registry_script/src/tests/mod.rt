@@ -1,5 +1,6 @@
 //! Tests of what no contract says: worked rows, and readers and writers that fail.
 
+mod calls;
 mod cut_reports;
 mod cuts;
 mod ends;
@@ -9,6 +10,10 @@ mod rows;
 use crate::engine::{Engine, run};
 use crate::script::RunFault;
 use std::alloc::{AllocError, Global};
+use std::sync::Wait;
+
+/// Both engines. They write the same wherever nobody else uses the registry that is running.
+const ENGINES: [Engine; 2] = [Engine::Core, Engine::Live];
 
 /// The lines of a row, each ended, where `; ` stands between two lines.
 fn lines(alloc: Global, row: &str) -> Result<Vec<u8>, AllocError> {
@@ -20,10 +25,15 @@ fn lines(alloc: Global, row: &str) -> Result<Vec<u8>, AllocError> {
     Ok(text)
 }
 
-/// What the core writes on a script, and how the run ends.
-fn outcome(alloc: Global, script: &[u8]) -> (Vec<u8>, Result<(), RunFault>) {
+/// What the engine writes on a script, and how the run ends.
+fn outcome<R: Wait>(
+    rt: &R,
+    alloc: Global,
+    engine: Engine,
+    script: &[u8],
+) -> (Vec<u8>, Result<(), RunFault>) {
     let mut input = script;
     let mut written = Vec::new(alloc);
-    let result = run(alloc, Engine::Core, &mut input, &mut written);
+    let result = run(rt, alloc, engine, &mut input, &mut written);
     (written, result)
 }

@@ -1,8 +1,12 @@
-//! Each row of scripts with its report, the runs that are built by a loop, and all of them one byte a call.
+//! Each row of scripts with its report, the runs that are built by a loop, and all of them one byte a call: under both
+//! engines the same bytes.
 
 use super::ends::dripped;
-use super::{lines, outcome};
+use super::{ENGINES, lines, outcome};
+use crate::engine::Engine;
 use std::alloc::{AllocError, Global};
+use std::process::Abort;
+use std::sync::Wait;
 use std::test::Fail;
 
 /// The name of a row, its script and its report.
@@ -147,28 +151,41 @@ const ROWS: [Row; 28] = [
     ),
 ];
 
-#[test]
-fn rows_of_the_core(rt: HostRuntime) -> Result<(), Fail> {
+/// Runs each row, at once and one byte a call.
+fn run_rows<R: Wait + Abort>(rt: &R, alloc: Global, engine: Engine) -> Result<(), Fail> {
     for (name, script, report) in ROWS {
-        let script = lines(rt.alloc(), script)?;
-        let report = lines(rt.alloc(), report)?;
-        let (written, result) = outcome(rt.alloc(), &script);
-        assert_eq!(rt; result, Ok(()), "at {name}");
-        assert_eq!(rt; written.as_slice(), report.as_slice(), "at {name}");
+        let script = lines(alloc, script)?;
+        let report = lines(alloc, report)?;
+        writes(rt, alloc, engine, &script, &report, name);
     }
     Ok(())
 }
 
+/// The run of the script writes the report, and ends well; so it does one byte a call.
+fn writes<R: Wait + Abort>(
+    rt: &R,
+    alloc: Global,
+    engine: Engine,
+    script: &[u8],
+    report: &[u8],
+    name: &str,
+) {
+    let (written, result) = outcome(rt, alloc, engine, script);
+    assert_eq!(rt; result, Ok(()), "at {name}, {engine:?}");
+    assert_eq!(rt; written.as_slice(), report, "at {name}, {engine:?}");
+    let (written, result) = dripped(rt, alloc, engine, script);
+    assert_eq!(rt; result, Ok(()), "at {name}, {engine:?}, one byte a call");
+    assert_eq!(rt; written.as_slice(), report, "at {name}, {engine:?}, one byte a call");
+}
+
 #[test]
-fn rows_one_byte_a_call(rt: HostRuntime) -> Result<(), Fail> {
-    for (name, script, report) in ROWS {
-        let script = lines(rt.alloc(), script)?;
-        let report = lines(rt.alloc(), report)?;
-        let (written, result) = dripped(rt.alloc(), &script);
-        assert_eq!(rt; result, Ok(()), "at {name}");
-        assert_eq!(rt; written.as_slice(), report.as_slice(), "at {name}");
-    }
-    Ok(())
+fn rows_of_the_core(rt: HostRuntime) -> Result<(), Fail> {
+    run_rows(&rt, rt.alloc(), Engine::Core)
+}
+
+#[test]
+fn rows_of_the_live_engine(rt: HostRuntime) -> Result<(), Fail> {
+    run_rows(&rt, rt.alloc(), Engine::Live)
 }
 
 /// Adds the same line so many times.
@@ -200,12 +217,9 @@ fn too_deep_row(alloc: Global) -> Result<(Vec<u8>, Vec<u8>), AllocError> {
 #[test]
 fn too_deep(rt: HostRuntime) -> Result<(), Fail> {
     let (script, report) = too_deep_row(rt.alloc())?;
-    let (written, result) = outcome(rt.alloc(), &script);
-    assert_eq!(rt; result, Ok(()));
-    assert_eq!(rt; written.as_slice(), report.as_slice());
-    let (written, result) = dripped(rt.alloc(), &script);
-    assert_eq!(rt; result, Ok(()));
-    assert_eq!(rt; written.as_slice(), report.as_slice());
+    for engine in ENGINES {
+        writes(&rt, rt.alloc(), engine, &script, &report, "too-deep");
+    }
     Ok(())
 }
 
@@ -228,11 +242,15 @@ fn all_slots_row(alloc: Global) -> Result<(Vec<u8>, Vec<u8>), AllocError> {
 #[test]
 fn outer_limits_of_slots(rt: HostRuntime) -> Result<(), Fail> {
     let (script, report) = all_slots_row(rt.alloc())?;
-    let (written, result) = outcome(rt.alloc(), &script);
-    assert_eq!(rt; result, Ok(()));
-    assert_eq!(rt; written.as_slice(), report.as_slice());
-    let (written, result) = dripped(rt.alloc(), &script);
-    assert_eq!(rt; result, Ok(()));
-    assert_eq!(rt; written.as_slice(), report.as_slice());
+    for engine in ENGINES {
+        writes(
+            &rt,
+            rt.alloc(),
+            engine,
+            &script,
+            &report,
+            "outer-limits, all slots",
+        );
+    }
     Ok(())
 }

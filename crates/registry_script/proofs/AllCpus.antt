@@ -1,0 +1,17 @@
+-- The CPUs of a registry that was just opened are all of them.
+use Rattle.std.proofs.Common.{◌≡◌, ℕ, ◌<◌, List, sym, ap, ◌∙◌, arith}
+use mathlib.Core.Option.{some-injective}
+use Rattle.passive_core.specs.declared.settings.Settings.{Settings}
+use Rattle.cpu_words.specs.Views.{new_cpu}
+use Rattle.passive_list.specs.Cpus.{OnCpu}
+use Rattle.name_registry.specs.Auditing.{AreAllCpus}
+use Rattle.name_registry.specs.Opening.{AreNewCpus}
+use Rattle.name_registry.proofs.Audits.{cpu_at}
+
+pub new_are_all : (z : Settings) (xs : List OnCpu) → AreNewCpus z z.cpus xs → AreAllCpus z.cpus xs
+new_are_all z xs new = record {
+  count = new.count;
+  each = λ c x at.
+      let below : c < z.cpus = omega (arith, (cpu_at xs c x x at).0, new.count) in
+      ap (λ (y : OnCpu). y.view.id) (some-injective x (record { view = new_cpu z c; depth = 0 }) (sym at ∙ new.each c below));
+}

@@ -1,0 +1,49 @@
+-- What a run did: from what the reader has left before and after, and what the writer holds before and after, to how it ended.
+use Rattle.std.specs.Prelude.{◌≡◌, ℕ, List, Option, Result, Ok, Err, ◌⊎◌}
+use Rattle.std.specs.Io.KnownBytes.{Appends, Keeps}
+use Rattle.registry_script.specs.declared.engine.Engine.{Engine}
+use Rattle.registry_script.specs.declared.engine.Engine.TheVariants.{Core, Live}
+use Rattle.registry_script.specs.declared.script.fault.RunFault.{RunFault}
+use Rattle.registry_script.specs.declared.script.fault.RunFault.TheVariants as run
+use Rattle.registry_script.specs.Grammar.{parsed}
+use Rattle.registry_script.specs.Live.{WritesFront, WritesRun}
+use Rattle.registry_script.specs.Program.{Program}
+use Rattle.registry_script.specs.Report.{report}
+use Rattle.registry_script.specs.Written.{AppendsPrefix, WasRead}
+
+-- what the engine writes of a script, and nothing else: over the core its report, over a registry that is running a line for each command
+abbrev pub WritesWhole : Engine → Option (List ℕ) → Option (List ℕ) → Program → Type 0
+WritesWhole Core old new program = Appends old new (report program)
+WritesWhole Live old new program = WritesRun old new program.commands
+
+-- a prefix of that
+abbrev pub WritesPrefix : Engine → Option (List ℕ) → Option (List ℕ) → Program → Type 0
+WritesPrefix Core old new program = AppendsPrefix old new (report program)
+WritesPrefix Live old new program = WritesFront old new program.commands
+
+-- this is so of the script that was read
+abbrev pub OfRead : Option (List ℕ) → Option (List ℕ) → (Program → Type 0) → Type 0
+OfRead left rest does = (text : List ℕ) × WasRead left rest text × (program : Program) × (parsed text ≡ Ok program) × does program
+
+abbrev pub Ran : Engine → Option (List ℕ) → Option (List ℕ) → Option (List ℕ) → Option (List ℕ) → Result (Unit {0}) RunFault → Type 0
+-- all that is due was written
+Ran engine left rest old new (Ok u) = OfRead left rest (WritesWhole engine old new)
+-- nothing was written, and this is the first fault of what was read
+Ran engine left rest old new (Err (run.Script fault)) = (text : List ℕ) × WasRead left rest text × (parsed text ≡ Err fault) × Keeps old new
+Ran engine left rest old new (Err run.Read) = Keeps old new
+-- a prefix was written
+Ran engine left rest old new (Err run.Write) = OfRead left rest (WritesPrefix engine old new)
+-- so it is where memory ran out, unless that came before the first line
+Ran engine left rest old new (Err run.Memory) = Keeps old new ⊎ OfRead left rest (WritesPrefix engine old new)
+
+-- the same against all that the reader had left, where that is known
+
+abbrev pub OfInput : List ℕ → (Program → Type 0) → Type 0
+OfInput input does = (program : Program) × (parsed input ≡ Ok program) × does program
+
+abbrev pub RanOn : Engine → List ℕ → Option (List ℕ) → Option (List ℕ) → Result (Unit {0}) RunFault → Type 0
+RanOn engine input old new (Ok u) = OfInput input (WritesWhole engine old new)
+RanOn engine input old new (Err (run.Script fault)) = (parsed input ≡ Err fault) × Keeps old new
+RanOn engine input old new (Err run.Read) = Keeps old new
+RanOn engine input old new (Err run.Write) = OfInput input (WritesPrefix engine old new)
+RanOn engine input old new (Err run.Memory) = Keeps old new ⊎ OfInput input (WritesPrefix engine old new)
