@@ -1,25 +1,22 @@
-//! Runs a script on standard input, and writes its report to standard output.
+//! Runs a script on standard input and writes its report to standard output, or runs a storm and prints what it found.
 #![tactic(auto)]
 
-use registry_script::{Engine, RunFault, run};
-use std::io::ErrorKind;
+mod failure;
+mod task;
+
+use failure::Failure;
+use registry_script::{OpenGate, StormSum, run, storm};
+use std::alloc::Global;
 use std::process::ExitCode;
 use std::rt::Env;
+use std::sync::Wait;
+use std::thread::Threads;
 use std::{env, io};
-use thiserror::Error;
-
-/// Why the program ends with another status than 0; its text is the line on standard error.
-#[derive(Clone, Copy, Debug, PartialEq, Eq, Error)]
-enum Failure {
-    #[error("usage: registry_run core | live")]
-    Usage,
-    #[error("{0}")]
-    Run(RunFault),
-}
+use task::{Plan, Task};
 
 fn main(rt: HostRuntime) -> ExitCode {
-    let ended = match chosen_engine(&rt) {
-        Ok(engine) => run(
+    let ended = match chosen(&rt) {
+        Ok(Task::Script(engine)) => run(
             &rt,
             rt.alloc(),
             engine,
@@ -27,45 +24,49 @@ fn main(rt: HostRuntime) -> ExitCode {
             &mut io::writer(&rt),
         )
         .map_err(Failure::Run),
+        Ok(Task::Storm(plan)) => run_storm(&rt, plan),
         Err(failure) => Err(failure),
     };
     match ended {
         Ok(()) => ExitCode::SUCCESS,
         Err(failure) => {
             rt.eprintln(failure).ok();
-            ExitCode::from(status(failure))
+            ExitCode::from(failure.status())
         }
     }
 }
 
-/// The engine that the one argument names.
-fn chosen_engine(rt: &(impl Env + Alloc)) -> Result<Engine, Failure> {
-    let mut words = env::args(rt).map_err(without_arguments)?;
+/// The task that the arguments name.
+fn chosen(rt: &(impl Env + Alloc<A = Global>)) -> Result<Task, Failure> {
+    let mut words = env::args(rt).map_err(Failure::without_arguments)?;
     let _program = words.next();
-    let word = words.next();
-    let is_last = words.next().is_none();
-    match word {
-        Some(word) if is_last && word.as_str() == "core" => Ok(Engine::Core),
-        Some(word) if is_last && word.as_str() == "live" => Ok(Engine::Live),
-        _ => Err(Failure::Usage),
-    }
+    let words = [words.next(), words.next(), words.next(), words.next()];
+    Task::parse([
+        words[0].as_deref(),
+        words[1].as_deref(),
+        words[2].as_deref(),
+        words[3].as_deref(),
+    ])
+    .ok_or(Failure::Usage)
 }
 
-/// The arguments couldn't be read.
-fn without_arguments(error: io::Error) -> Failure {
-    match error.kind() {
-        ErrorKind::OutOfMemory => Failure::Run(RunFault::Memory),
-        _ => Failure::Usage,
-    }
-}
-
-/// The exit status of a failure.
-fn status(failure: Failure) -> u8 {
-    match failure {
-        Failure::Usage | Failure::Run(RunFault::Script(_)) => 2,
-        Failure::Run(RunFault::Read | RunFault::Write) => 3,
-        Failure::Run(RunFault::Memory) => 4,
-    }
+/// Prints what a storm found, a number a line.
+fn run_storm<R: Print + Alloc<A = Global> + Threads + Wait + Sync>(
+    rt: &R,
+    plan: Plan,
+) -> Result<(), Failure> {
+    let StormSum {
+        cpus,
+        turns,
+        lookups,
+        references,
+        wrong,
+        held,
+    } = storm(rt, rt.alloc(), plan.cpus, plan.turns, &OpenGate)?;
+    println!(rt;
+        "storm {cpus} {turns}\nlookups {lookups}\nreferences {references}\nwrong {wrong}\nheld {held}"
+    )
+    .map_err(Failure::unprinted)
 }
 
 #[cfg(test)]

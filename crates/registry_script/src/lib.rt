@@ -9,7 +9,9 @@ mod script;
 pub use engine::{Engine, run};
 pub use laws::report_laws;
 pub use report::{run_core, run_live, run_live_on};
-pub use script::{Cause, Command, Label, ParseFault, RunFault, Script, ScriptFault, parse_script};
+pub use script::{
+    Cause, Command, Label, ParseFault, RunFault, Script, ScriptFault, parse_number, parse_script,
+};
 
 #[cfg(test)]
 mod tests;

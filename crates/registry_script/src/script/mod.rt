@@ -12,3 +12,4 @@ pub use command::Command;
 pub use fault::{Cause, ParseFault, RunFault, ScriptFault};
 pub use label::Label;
 pub use script::{Script, parse_script};
+pub use words::number as parse_number;

@@ -5,6 +5,7 @@ mod cut_reports;
 mod cuts;
 mod ends;
 mod faults;
+mod memory_tests;
 mod rows;
 
 use crate::engine::{Engine, run};
