@@ -58,7 +58,7 @@ fn status(failure: Failure) -> u8 {
     match failure {
         Failure::Usage | Failure::Run(RunFault::Script(_)) => 2,
         Failure::Run(RunFault::Read | RunFault::Write) => 3,
-        Failure::Run(RunFault::Memory) => 4,
+        Failure::Run(RunFault::Memory | RunFault::NoThread) => 4,
     }
 }
 

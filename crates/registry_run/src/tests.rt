@@ -20,6 +20,7 @@ fn failures_and_their_statuses(rt: HostRuntime) -> Result<(), Fail> {
         (Failure::Run(RunFault::Read), "read fault", 3),
         (Failure::Run(RunFault::Write), "write fault", 3),
         (Failure::Run(RunFault::Memory), "out of memory", 4),
+        (Failure::Run(RunFault::NoThread), "no thread", 4),
     ];
     for (failure, text, code) in rows {
         let said = format!(in rt.alloc(); "{failure}")?;

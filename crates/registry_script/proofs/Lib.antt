@@ -28,3 +28,4 @@ pub mod DoneReferences
 pub mod Reports
 pub mod Runs
 pub mod SoundCommands
+pub mod Storming

@@ -15,3 +15,4 @@ pub mod Sound
 pub mod Report
 pub mod Live
 pub mod Laws
+pub mod Storms

@@ -5,11 +5,13 @@ mod engine;
 mod laws;
 mod report;
 mod script;
+mod storms;
 
 pub use engine::{Engine, run};
 pub use laws::report_laws;
 pub use report::run_core;
 pub use script::{Cause, Command, Label, ParseFault, RunFault, Script, ScriptFault, parse_script};
+pub use storms::{Gate, OpenGate, StormSum, storm};
 
 #[cfg(test)]
 mod tests;

@@ -5,6 +5,7 @@ mod cuts;
 mod ends;
 mod faults;
 mod rows;
+mod storms;
 
 use crate::engine::{Engine, run};
 use crate::script::RunFault;
