@@ -31,10 +31,10 @@ pub record IsInside (n : ℕ) (x : OnCpu) : Type 0 where
   pub depth : x.depth ≡ 1
 
 -- a storm's sum is of so many CPUs and turns, with two lookups in each turn of each CPU
-pub record IsSumOf (cpus turns : ℕ) (sum : StormSum) : Type 0 where
-  pub cpus : sum.cpus ≡ cpus
-  pub turns : sum.turns ≡ turns
-  pub lookups : sum.lookups ≡ 2 * cpus * turns
+pub record IsSumOf (c t : ℕ) (sum : StormSum) : Type 0 where
+  pub cpus : sum.cpus ≡ c
+  pub turns : sum.turns ≡ t
+  pub lookups : sum.lookups ≡ 2 * t * c
 
 -- the faults that a storm may end with
 abbrev pub IsOfStorm : RunFault → Type 0

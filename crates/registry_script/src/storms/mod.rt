@@ -1,6 +1,7 @@
 //! A storm: workers on all CPUs look up, refer and release at once, while one of them attaches and detaches an interface.
 
-ghost use Rattle.std.specs.Prelude.{◌≡◌, ◌+◌, ◌*◌, ◌≤◌, IfOk, IfErr, All, length};
+ghost use Rattle.std.specs.Prelude.{◌≡◌, ◌+◌, ◌*◌, ◌≤◌, IfOk, IfErr, All, length, vec_len};
+ghost use Rattle.name_registry.specs.Opening.{AreNewCpus};
 ghost use Rattle.registry_script.specs.Storms.{IsOfStorm, IsOutside, IsSumOf, settings_of};
 
 mod baskets;
@@ -70,7 +71,7 @@ fn storm_on<D: Domain + Send + Sync, R: Threads + Wait + Sync, G: Gate + Sync>(
     let Ok((registry, mut cpus)) = blank.open::<D>(alloc) else {
         return Err(RunFault::Memory);
     };
-    let mut first = cpus.remove(0);
+    let mut first = take_first(plan, &mut cpus);
     let entry = registry.attach(rt, &mut first, plan.driver());
     let mut done = blow(rt, alloc, &registry, plan, gate, &mut first, &mut cpus)?;
     done.counts.judge(plan.is_driver(entry.ok()));
@@ -88,6 +89,17 @@ fn storm_on<D: Domain + Send + Sync, R: Threads + Wait + Sync, G: Gate + Sync>(
     finish(rt, alloc, &registry, plan, &mut cpus, done.counts)
 }
 
+/// Takes CPU 0 out of the CPUs of a new registry.
+fn take_first<D: Domain>(plan: Plan, cpus: &mut Vec<Cpu<D>>) -> Cpu<D>
+    requires settings { D.settings ≡ settings_of plan.cpus }
+    requires new { AreNewCpus D.settings D.settings.cpus cpus.old.items }
+    ensures first { IsOutside 0 result }
+    ensures others { All (IsOutside 0) cpus.new.items × (vec_len cpus.new + 1 ≡ plan.cpus) }
+{
+    let _plan = plan;
+    cpus.remove(0)
+}
+
 /// All turns of all workers; then what is left in the baskets is released on CPU 0.
 fn blow<D: Domain + Send + Sync, R: Threads + Wait + Sync, G: Gate + Sync>(
     rt: &R,
@@ -100,7 +112,7 @@ fn blow<D: Domain + Send + Sync, R: Threads + Wait + Sync, G: Gate + Sync>(
 ) -> Result<Done, RunFault>
     requires first { IsOutside 0 first.old }
     requires others { All (IsOutside 0) others.old × (length others.old + 1 ≡ plan.cpus) }
-    ensures ok { IfOk result (λ done. done.counts.lookups ≡ 2 * plan.cpus * plan.turns) }
+    ensures ok { IfOk result (λ done. done.counts.lookups ≡ 2 * plan.turns * plan.cpus) }
     ensures err { IfErr result IsOfStorm }
 {
     let baskets = Baskets::new();
@@ -127,7 +139,7 @@ fn finish<D: Domain, R: Wait>(
     cpus: &mut [Cpu<D>],
     counts: Counts,
 ) -> Result<StormSum, RunFault>
-    requires { counts.lookups ≡ 2 * plan.cpus * plan.turns }
+    requires { counts.lookups ≡ 2 * plan.turns * plan.cpus }
     ensures ok { IfOk result (λ sum. IsSumOf plan.cpus plan.turns sum) }
     ensures err { IfErr result IsOfStorm }
 {

@@ -34,7 +34,7 @@ pub fn work_all<D: Domain + Send + Sync, R: Threads + Wait + Sync, G: Gate + Syn
 ) -> Result<Done, RunFault>
     requires first { IsOutside 0 first.old }
     requires others { All (IsOutside 0) others.old × (length others.old + 1 ≡ shared.now.plan.cpus) }
-    ensures ok { IfOk result (λ done. done.counts.lookups ≡ 2 * shared.now.plan.cpus * shared.now.plan.turns) }
+    ensures ok { IfOk result (λ done. done.counts.lookups ≡ 2 * shared.now.plan.turns * shared.now.plan.cpus) }
     ensures err { IfErr result IsOfStorm }
 {
     thread::scope(
@@ -43,7 +43,7 @@ pub fn work_all<D: Domain + Send + Sync, R: Threads + Wait + Sync, G: Gate + Syn
         move |scope| -> Result<Done, RunFault>
             requires first { IsOutside 0 first.now }
             requires others { All (IsOutside 0) others.now × (length others.now + 1 ≡ shared.now.plan.cpus) }
-            ensures ok { IfOk result (λ done. done.counts.lookups ≡ 2 * shared.entry.now.plan.cpus * shared.entry.now.plan.turns) }
+            ensures ok { IfOk result (λ done. done.counts.lookups ≡ 2 * shared.entry.now.plan.turns * shared.entry.now.plan.cpus) }
             ensures err { IfErr result IsOfStorm }
         {
             let turns = Turns(shared.plan.turns);

@@ -1,5 +1,5 @@
 use Rattle.std.specs.Prelude.{◌≡◌, ◌≤◌, All, vec_len, vec_capacity}
-use Rattle.registry_script.proofs.fn.storms.workers.work_all.scope.Given as goal
+use Rattle.registry_script.proofs.storms.workers.fn.work_all.scope.Given as goal
 
 -- the workers of the CPUs so far were started, and there is room for the rest
 abbrev pub invariant-loop-cpu : goal.invariant-loop-cpu
