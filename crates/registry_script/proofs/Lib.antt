@@ -30,3 +30,4 @@ pub mod Runs
 pub mod AllCpus
 pub mod SoundCommands
 pub mod LiveCpus
+pub mod Storming

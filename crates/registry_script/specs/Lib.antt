@@ -17,3 +17,4 @@ pub mod Live
 pub mod Ran
 pub mod LiveCalls
 pub mod Laws
+pub mod Storms

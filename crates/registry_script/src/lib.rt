@@ -5,6 +5,7 @@ mod engine;
 mod laws;
 mod report;
 mod script;
+mod storms;
 
 pub use engine::{Engine, run};
 pub use laws::report_laws;
@@ -12,6 +13,7 @@ pub use report::{run_core, run_live, run_live_on};
 pub use script::{
     Cause, Command, Label, ParseFault, RunFault, Script, ScriptFault, parse_number, parse_script,
 };
+pub use storms::{Gate, OpenGate, StormSum, storm};
 
 #[cfg(test)]
 mod tests;

@@ -86,6 +86,9 @@ pub enum RunFault {
     /// Memory was refused; a front of the report was written.
     #[error("out of memory")]
     Memory,
+    /// A storm's worker couldn't be started.
+    #[error("no thread")]
+    NoThread,
 }
 
 impl From<AllocError> for RunFault {

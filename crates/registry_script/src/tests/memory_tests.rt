@@ -6,7 +6,7 @@
 use super::ends::{REPORT, SCRIPT};
 use crate::engine::{Engine, run};
 use crate::script::RunFault;
-use crate::storm::{OpenGate, StormSum, storm};
+use crate::storms::{OpenGate, StormSum, storm};
 use std::alloc::Global;
 use std::io;
 use std::io::{ErrorKind, Write};

@@ -7,6 +7,7 @@ mod ends;
 mod faults;
 mod memory_tests;
 mod rows;
+mod storms;
 
 use crate::engine::{Engine, run};
 use crate::script::RunFault;
