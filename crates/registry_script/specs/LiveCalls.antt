@@ -1,9 +1,12 @@
 -- The calls of a session over a running registry: why a command has no answer, and what stands in a label's place.
-use Rattle.std.specs.Prelude.{◌≡◌, Bool, true, false, Option, Some, None, Result, Ok, Err, if◌then◌else◌}
+use Rattle.std.specs.Prelude.{◌≡◌, Bool, List, slice_set, true, false, Option, Some, None, Result, Ok, Err, if◌then◌else◌}
+use mathlib.Core.Option.{some}
+use lib.ListN.{get_elem?}
 use Rattle.passive_core.specs.declared.refusal.Refusal.{Refusal}
 use Rattle.passive_core.specs.Slots.{is_iface}
 use Rattle.cpu_words.specs.declared.view.ReferenceView.{ReferenceView}
 use Rattle.passive_list.specs.Cpus.{OnCpu}
+use Rattle.passive_ref.specs.Psrefs.{HasOneLess, OnPsref, why_unusable}
 use Rattle.name_registry.specs.Locking.{IsAttachRefusal}
 use Rattle.name_registry.specs.Meeting.{is_inside}
 use Rattle.registry_script.specs.declared.report.hitch.Hitch.{Hitch}
@@ -42,3 +45,7 @@ abbrev pub IsPlugHitch : OnCpu → Option ReferenceView → Hitch → Type 0
 IsPlugHitch x None NoLabel = Unit {0}
 IsPlugHitch x (Some v) (Refused f) = IsAttachRefusal (is_inside x) (is_iface v.entry.rec.kind) f
 IsPlugHitch x place h = ⊥
+
+-- its own CPU has released the reference, where it may, and the others are as they were
+abbrev pub IsGivenBack : List OnCpu → List OnCpu → OnPsref → Type 0
+IsGivenBack xs ys p = (x : OnCpu) → get_elem? xs p.cpu ≡ some x → why_unusable x.view p ≡ None → (y : OnCpu) × HasOneLess p.number x y × (ys ≡ slice_set xs p.cpu y)

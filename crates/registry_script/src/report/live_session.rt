@@ -1,7 +1,8 @@
 //! A script's run over a registry that is running: its CPUs, and the references that labels stand for.
 
-ghost use Rattle.std.specs.Prelude.{◌≡◌, ◌<◌, None, replicate};
+ghost use Rattle.std.specs.Prelude.{◌≡◌, ◌<◌, IfSome, None, replicate};
 ghost use Rattle.name_registry.specs.Auditing.{AreAllCpus};
+ghost use Rattle.registry_script.specs.LiveCalls.{IsGivenBack};
 
 use super::hitch::{Hitch, as_answer};
 use super::live_calls::{
@@ -143,7 +144,8 @@ fn release_passives<D: Domain>(
 /// forgotten.
 fn release_passive<D: Domain>(registry: &Registry<D>, cpus: &mut [Cpu<D>], place: Option<Psref>)
     requires { AreAllCpus D.settings.cpus cpus.old }
-    ensures { AreAllCpus D.settings.cpus cpus.new }
+    ensures all { AreAllCpus D.settings.cpus cpus.new }
+    ensures released { IfSome place (IsGivenBack cpus.old cpus.new) }
 {
     let Some(psref) = place else {
         return;
