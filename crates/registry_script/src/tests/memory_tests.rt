@@ -3,13 +3,20 @@
 //! Where memory is ample these tests compare reports alone. `tools/refuse-memory.sh` refuses each of their allocations in turn; each
 //! refusal that is met is noted on standard error.
 
+ghost use Rattle.std.specs.Prelude.{◌≡◌, IfOk};
+
 use super::ends::{REPORT, SCRIPT};
 use crate::engine::{Engine, run};
-use crate::script::RunFault;
+use crate::report::run_live_on;
+use crate::script::{ParseFault, RunFault, Script, parse_script};
 use crate::storms::{OpenGate, StormSum, storm};
+use cpu_words::Domain;
+use name_registry::Blank;
+use passive_core::Refusal;
 use std::alloc::Global;
 use std::io;
 use std::io::{ErrorKind, Write};
+use std::marker::Brand;
 use std::process::Abort;
 use std::sync::Wait;
 use std::test::Fail;
@@ -110,5 +117,84 @@ fn a_storm_may_be_refused_memory(rt: HostRuntime) -> Result<(), Fail> {
     eprintln!(rt; "refused memory: a storm")?;
     assert!(rt; sum == Err(RunFault::Memory) || sum == Err(RunFault::NoThread));
     assert_eq!(rt; least_storm(&rt, rt.alloc()), Ok(wanted));
+    Ok(())
+}
+
+/// An audit, and the row found: their scripts and reports.
+const AUDIT: (&[u8], &[u8]) = (b"domain 2 2\naudit\n", b"domain 2 2\nempty\n");
+const FOUND: (&[u8], &[u8]) = (
+    b"domain 2 2\nattach 0 driver wm0 1500\nenter 0\nfind 0 driver wm0\n",
+    b"domain 2 2\nattached 1 slot 0\ninside\nfound 1 slot 0 value 1500\n",
+);
+
+/// The script; where memory is refused, it is parsed once more.
+fn parsed<R: Abort + AllocGlobal + Eprint>(rt: &R, text: &[u8]) -> Result<Script, Fail> {
+    match parse_script(rt.alloc(), text) {
+        Err(fault) => {
+            eprintln!(rt; "refused memory: a script")?;
+            assert_eq!(rt; fault, ParseFault::Memory);
+            Ok(parse_script(rt.alloc(), text)?)
+        }
+        Ok(script) => Ok(script),
+    }
+}
+
+/// A blank for the script; where memory is refused, it is made once more.
+fn blank_for<R: Abort + AllocGlobal + Eprint>(rt: &R, script: &Script) -> Result<Blank, Fail>
+    ensures { IfOk result (λ blank. blank.settings ≡ script.now.settings) }
+{
+    match Blank::new(rt.alloc(), script.settings()) {
+        Err(refusal) => {
+            eprintln!(rt; "refused memory: a blank")?;
+            assert_eq!(rt; refusal, Refusal::NoMemory);
+            Ok(Blank::new(rt.alloc(), script.settings())?)
+        }
+        Ok(blank) => Ok(blank),
+    }
+}
+
+#[test]
+fn a_run_on_a_registry_may_be_refused_memory(rt: HostRuntime) -> Result<(), Fail> {
+    let audit = parsed(&rt, AUDIT.0)?;
+    let blank = blank_for(&rt, &audit)?;
+    let found = parsed(&rt, FOUND.0)?;
+    if found.settings() != audit.settings() {
+        return Err(Fail::from("one registry"));
+    }
+    audited_and_found::<Brand, _>(&rt, blank, &audit, &found)
+}
+
+/// An audit of the registry that is empty; then it answers the row found, whether memory was refused to the audit or not.
+fn audited_and_found<D: Domain, R: Wait + Abort + AllocGlobal + Eprint>(
+    rt: &R,
+    blank: Blank,
+    audit: &Script,
+    found: &Script,
+) -> Result<(), Fail>
+    requires table { (blank.table ≡ D.table) × (blank.settings ≡ D.settings) }
+    requires settings { (audit.now.settings ≡ D.settings) × (found.now.settings ≡ D.settings) }
+{
+    let (registry, mut cpus) = match blank.open::<D>(rt.alloc()) {
+        Ok(opened) => opened,
+        Err((refusal, back)) => {
+            eprintln!(rt; "refused memory: a registry")?;
+            assert_eq!(rt; refusal, Refusal::NoMemory);
+            match back.open::<D>(rt.alloc()) {
+                Ok(opened) => opened,
+                Err((refusal, _)) => return Err(Fail::from(refusal)),
+            }
+        }
+    };
+    for (script, report) in [(audit, AUDIT.1), (found, FOUND.1)] {
+        let mut page = Page::new();
+        let ended = run_live_on(rt, rt.alloc(), &registry, &mut cpus, script, &mut page);
+        if ended.is_ok() {
+            assert_eq!(rt; page.written(), report);
+            continue;
+        }
+        eprintln!(rt; "refused memory: a run on a registry")?;
+        assert_eq!(rt; ended, Err(RunFault::Memory));
+        assert!(rt; report.starts_with(page.written()), "a prefix of the report");
+    }
     Ok(())
 }
