@@ -184,7 +184,7 @@ follows z s r i x spot m n q at under found link tells above =
 same_next : (s t : ℕ) → AtNext s ≡ AtNext t → s ≡ t
 same_next s t e = cc
 
-pub load_link_may : (z : Settings) (x : CpuView) (c t : ℕ) → x.id ≡ c → MayLoadLink x t
+load_link_may : (z : Settings) (x : CpuView) (c t : ℕ) → x.id ≡ c → MayLoadLink x t
     → CpuMay z x (656 + 8 * t) (λ n. n) (λ v n y. Makes (LoadLink c) (link_answer n) (Cpu v) (Cpu y) × HasLoadedLink v n y)
 load_link_may z x c t id may = subst (λ d. CpuMay z x (656 + 8 * t) (λ n. n) (λ v n y. Makes (LoadLink d) (link_answer n) (Cpu v) (Cpu y) × HasLoadedLink v n y)) id
     (λ s r i at fits.
@@ -214,6 +214,12 @@ load_link_may z x c t id may = subst (λ d. CpuMay z x (656 + 8 * t) (λ n. n) (
         → (y : CpuView) × Ruled z (stepped s spot m i [] (Cpu y) keeps) × Makes (LoadLink x.id) (link_answer m) (Cpu x) (Cpu y) × HasFollowed x q m y
         → (w : View) × Ruled z (stepped s spot m i [] w keeps) × ((w ≡ Cpu (cpu_of w)) × (Makes (LoadLink x.id) (link_answer m) (Cpu x) (Cpu (cpu_of w)) × HasLoadedLink x m (cpu_of w)))
     told z s i x spot m q under done = (Cpu done.0, done.1, (refl, (done.2, λ p is. subst (λ (o : Search). HasFollowed x o m done.0) (same_Some q p (sym under ∙ is)) done.3)))
+
+-- the same, of the link that led to the slot
+pub load_link_may_by : (z : Settings) (x : CpuView) (c t i : ℕ) → 656 + 8 * t ≡ i → x.id ≡ c → MayLoadLink x t
+    → CpuMay z x i (λ n. n) (λ v n y. Makes (LoadLink c) (link_answer n) (Cpu v) (Cpu y) × HasLoadedLink v n y)
+load_link_may_by z x c t i place id may =
+    subst (λ (j : ℕ). CpuMay z x j (λ n. n) (λ v n y. Makes (LoadLink c) (link_answer n) (Cpu v) (Cpu y) × HasLoadedLink v n y)) place (load_link_may z x c t id may)
 
 -- Seek touches no word: it is made with the load of the head
 

@@ -86,7 +86,7 @@ fn look_up(words: &Words, seat: &mut CpuSeat, cpu: u8, kind: Kind, name: Name) -
             });
         }
         last = number;
-        link = steps::load_link(words, seat, cpu, slot);
+        link = steps::load_link(words, seat, cpu, link);
     }
     None
 }
