@@ -215,10 +215,10 @@ load_link_may z x c t id may = subst (λ d. CpuMay z x (656 + 8 * t) (λ n. n) (
         → (w : View) × Ruled z (stepped s spot m i [] w keeps) × ((w ≡ Cpu (cpu_of w)) × (Makes (LoadLink x.id) (link_answer m) (Cpu x) (Cpu (cpu_of w)) × HasLoadedLink x m (cpu_of w)))
     told z s i x spot m q under done = (Cpu done.0, done.1, (refl, (done.2, λ p is. subst (λ (o : Search). HasFollowed x o m done.0) (same_Some q p (sym under ∙ is)) done.3)))
 
--- the same, of a place that is written otherwise
-pub load_link_may_at : (z : Settings) (x : CpuView) (c t i : ℕ) → 656 + 8 * t ≡ i → x.id ≡ c → MayLoadLink x t
+-- the same, of the link that led to the slot
+pub load_link_may_by : (z : Settings) (x : CpuView) (c t i : ℕ) → 656 + 8 * t ≡ i → x.id ≡ c → MayLoadLink x t
     → CpuMay z x i (λ n. n) (λ v n y. Makes (LoadLink c) (link_answer n) (Cpu v) (Cpu y) × HasLoadedLink v n y)
-load_link_may_at z x c t i place id may =
+load_link_may_by z x c t i place id may =
     subst (λ (j : ℕ). CpuMay z x j (λ n. n) (λ v n y. Makes (LoadLink c) (link_answer n) (Cpu v) (Cpu y) × HasLoadedLink v n y)) place (load_link_may z x c t id may)
 
 -- Seek touches no word: it is made with the load of the head

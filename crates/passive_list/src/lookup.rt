@@ -86,7 +86,7 @@ fn look_up(words: &Words, seat: &mut CpuSeat, cpu: u8, kind: Kind, name: Name) -
             });
         }
         last = number;
-        link = steps::load_link(words, seat, cpu, slot);
+        link = steps::load_link(words, seat, cpu, link);
     }
     None
 }
@@ -124,10 +124,10 @@ pub(crate) fn kind_word(kind: Kind) -> u64
     }
 }
 
-/// Whether these are the words of the kind and the name. The name differs first from one entry to the next.
+/// Whether these are the words of the kind and the name.
 fn are_words_of(kind: Kind, name: Name, k: u64, h: u64, l: u64) -> bool
     ensures { result ≡ are_words_of (key_with kind name) k h l }
 {
     let (high, low) = name.words();
-    h == high && l == low && k == kind_word(kind)
+    k == kind_word(kind) && h == high && l == low
 }

@@ -1,7 +1,7 @@
 //! Searches by kind and name: Seek and LoadLink along the links, LoadRecord over the record words of a slot. Each is one load.
 //! Slots are as wide as an address here: to widen a byte would stand between a link's load and the next one.
 
-ghost use Rattle.std.specs.Prelude.{◌≡◌, ◌<◌};
+ghost use Rattle.std.specs.Prelude.{◌≡◌, ◌<◌, ◌≤◌, ◌-◌};
 ghost use Rattle.passive_core.specs.declared.event.Event.TheVariants.{Seek, LoadLink, LoadRecord};
 ghost use Rattle.passive_core.specs.declared.event.RecordOf.TheVariants.{Search as OfSearch};
 ghost use Rattle.passive_core.specs.declared.event.Reply.TheVariants.{Done};
@@ -29,20 +29,19 @@ pub fn seek(words: &Words, seat: &mut CpuSeat, cpu: u8, kind: Kind, name: Name) 
     by_cpu::load::<Brand>(words, seat, 648, Event::Seek(cpu, kind, name))
 }
 
-/// The search of CPU `cpu` loads the link of `slot`: a slot plus 1, or 0 where no entry has the kind and the name.
-/// Condition: the seat is that CPU's, and its search stands at that link; slots count from 0.
-/// The place is written by the link that led to the slot, `slot + 1`, and is known a subtraction earlier than those of the record: so the
-/// processor makes this load, for which the next entry waits, before those.
-pub fn load_link(words: &Words, seat: &mut CpuSeat, cpu: u8, slot: usize) -> u64
+/// The search of CPU `cpu` loads the link of the slot that `link` led to, `link - 1`: a slot plus 1, or 0 where no entry has the kind and
+/// the name. Condition: the seat is that CPU's, and its search stands at the link of that slot; slots count from 0.
+/// By the link the place is known a subtraction earlier than the record's: so this load, for which the next entry waits, goes first.
+pub fn load_link(words: &Words, seat: &mut CpuSeat, cpu: u8, link: u64) -> u64
     requires table { seat.old.table ≡ words.now.table }
     requires cpu { (cpu < 8) × (seat.old.view.id ≡ cpu) }
-    requires slot { slot < 32 }
-    requires may { MayLoadLink seat.old.view slot }
+    requires slot { (0 < link) × (link ≤ 32) }
+    requires may { MayLoadLink seat.old.view (link - 1) }
     ensures table { seat.new.table ≡ seat.old.table }
     ensures event { Makes (LoadLink cpu) (link_answer result) (Cpu seat.old.view) (Cpu seat.new.view) }
     ensures change { HasLoadedLink seat.old.view result seat.new.view }
 {
-    by_cpu::load::<Brand>(words, seat, 648 + 8 * (slot + 1), Event::LoadLink(cpu))
+    by_cpu::load::<Brand>(words, seat, 648 + 8 * link as usize, Event::LoadLink(cpu))
 }
 
 /// The search of CPU `cpu` loads record word `k` of `slot`: 0 the number, 1 the kind, 2 and 3 the words of the name, and where these
