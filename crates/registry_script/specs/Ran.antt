@@ -35,6 +35,8 @@ Ran engine left rest old new (Err run.Read) = Keeps old new
 Ran engine left rest old new (Err run.Write) = OfRead left rest (WritesPrefix engine old new)
 -- so it is where memory ran out, unless that came before the first line
 Ran engine left rest old new (Err run.Memory) = Keeps old new ⊎ OfRead left rest (WritesPrefix engine old new)
+-- no run of a script starts a thread
+Ran engine left rest old new (Err run.NoThread) = ⊥
 
 -- the same against all that the reader had left, where that is known
 
@@ -47,3 +49,4 @@ RanOn engine input old new (Err (run.Script fault)) = (parsed input ≡ Err faul
 RanOn engine input old new (Err run.Read) = Keeps old new
 RanOn engine input old new (Err run.Write) = OfInput input (WritesPrefix engine old new)
 RanOn engine input old new (Err run.Memory) = Keeps old new ⊎ OfInput input (WritesPrefix engine old new)
+RanOn engine input old new (Err run.NoThread) = ⊥
