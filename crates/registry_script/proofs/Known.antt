@@ -30,6 +30,7 @@ known engine input rest old new (Err run.Read) h = h
 known engine input rest old new (Err run.Write) (text, read, program, says, written) = (program, sym (same_script input text rest read) ∙ says, written)
 known engine input rest old new (Err run.Memory) (inl keeps) = inl keeps
 known engine input rest old new (Err run.Memory) (inr (text, read, program, says, written)) = inr (program, sym (same_script input text rest read) ∙ says, written)
+known engine input rest old new (Err run.NoThread) h = h
 
 pub ran_known : (engine : Engine) (left rest old new : Option (List ℕ)) (r : Result (Unit {0}) RunFault) → Ran engine left rest old new r → IfSome left (λ input. RanOn engine input old new r)
 ran_known engine None rest old new r h = tt
