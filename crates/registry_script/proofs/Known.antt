@@ -28,6 +28,7 @@ known input rest old new (Err run.Read) h = h
 known input rest old new (Err run.Write) (text, read, program, says, written) = (program, sym (same_script input text rest read) ∙ says, written)
 known input rest old new (Err run.Memory) (inl keeps) = inl keeps
 known input rest old new (Err run.Memory) (inr (text, read, program, says, written)) = inr (program, sym (same_script input text rest read) ∙ says, written)
+known input rest old new (Err run.NoThread) h = h
 
 pub ran_known : (left rest old new : Option (List ℕ)) (r : Result (Unit {0}) RunFault) → Ran left rest old new r → IfSome left (λ input. RanOn input old new r)
 ran_known None rest old new r h = tt

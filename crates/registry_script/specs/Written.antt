@@ -46,6 +46,8 @@ Ran left rest old new (Err run.Read) = Keeps old new
 Ran left rest old new (Err run.Write) = (text : List ℕ) × WasRead left rest text × (program : Program) × (parsed text ≡ Ok program) × AppendsPrefix old new (report program)
 -- so it is where memory ran out, unless that came before the first line
 Ran left rest old new (Err run.Memory) = Keeps old new ⊎ ((text : List ℕ) × WasRead left rest text × (program : Program) × (parsed text ≡ Ok program) × AppendsPrefix old new (report program))
+-- a run starts no thread
+Ran left rest old new (Err run.NoThread) = ⊥
 
 -- the same against all that the reader had left, where that is known
 abbrev pub RanOn : List ℕ → Option (List ℕ) → Option (List ℕ) → Result (Unit {0}) RunFault → Type 0
@@ -54,3 +56,4 @@ RanOn input old new (Err (run.Script fault)) = (parsed input ≡ Err fault) × K
 RanOn input old new (Err run.Read) = Keeps old new
 RanOn input old new (Err run.Write) = (program : Program) × (parsed input ≡ Ok program) × AppendsPrefix old new (report program)
 RanOn input old new (Err run.Memory) = Keeps old new ⊎ ((program : Program) × (parsed input ≡ Ok program) × AppendsPrefix old new (report program))
+RanOn input old new (Err run.NoThread) = ⊥
