@@ -1,5 +1,8 @@
 -- A storm: how far a CPU has come in its turns.
 use Rattle.std.specs.Prelude.{◌≡◌, ◌≢◌, ℕ, ◌*◌, ◌≤◌, None}
+use Rattle.passive_core.specs.declared.entry.Kind.TheVariants.{Driver}
+use Rattle.passive_core.specs.declared.entry.Record.{Record}
+use Rattle.passive_core.specs.declared.name.Name.{Name}
 use Rattle.passive_core.specs.declared.settings.Settings.{Settings}
 use Rattle.passive_list.specs.Cpus.{OnCpu}
 use Rattle.registry_script.specs.declared.script.fault.RunFault.{RunFault}
@@ -9,6 +12,10 @@ use Rattle.registry_script.specs.declared.storms.sum.StormSum.{StormSum}
 -- the settings of a storm's registry
 abbrev pub settings_of : ℕ → Settings
 settings_of cpus = record { cpus = cpus; slots = 4; change_limit = 1000000; section_limit = 1099511627776; passive_limit = 4; count_limit = 1099511627776 }
+
+-- the record of the driver, by its name
+abbrev pub driver_record : Name → Record
+driver_record name = record { kind = Driver; name = name; value = 7 }
 
 -- the section is as it was, and so is its word
 pub record SameSection (a b : OnCpu) : Type 0 where

@@ -145,8 +145,9 @@ fn finish<D: Domain, R: Wait>(
 {
     let mut counts = counts;
     let held = held_of_driver(rt, alloc, registry, cpus, &mut counts)?;
-    if let Some(cpu) = cpus.first_mut() {
-        close_driver(rt, registry, plan, cpu, &mut counts);
+    match cpus.first_mut() {
+        Some(cpu) => close_driver(rt, registry, plan, cpu, &mut counts),
+        None => counts.judge(false),
     }
     Ok(StormSum {
         cpus: plan.cpus,

@@ -1,9 +1,9 @@
 //! What all workers of a storm have in common.
 
-ghost use Rattle.std.specs.Prelude.{◌≡◌, ◌≤◌, IsTrue};
+ghost use Rattle.std.specs.Prelude.{◌≡◌, ◌↔◌, ◌<◌, ◌≤◌, IsTrue, [], ◌∷◌, Some, IfSome, Ok};
 ghost use Rattle.passive_core.specs.declared.entry.Kind.TheVariants.{Iface};
-ghost use Rattle.passive_core.specs.Names.{is_lawful};
-ghost use Rattle.registry_script.specs.Storms.{settings_of};
+ghost use Rattle.passive_core.specs.Names.{is_lawful, named};
+ghost use Rattle.registry_script.specs.Storms.{driver_record, settings_of};
 
 use passive_core::{Entry, Kind, Name, Record, Settings};
 
@@ -21,6 +21,7 @@ pub struct Plan {
     pub driver: Name,
     pub iface: Name,
     ghost some: { (1 ≤ cpus) × (cpus ≤ 8) × (1 ≤ turns) × (turns ≤ 100000) },
+    ghost names: { (named (100 ∷ 114 ∷ 118 ∷ []) ≡ Ok driver) × (named (119 ∷ 109 ∷ 48 ∷ []) ≡ Ok iface) },
     ghost lawful: { IsTrue (is_lawful driver) × IsTrue (is_lawful iface) },
 }
 
@@ -43,7 +44,8 @@ impl Plan {
 
     /// The record of the driver.
     pub fn driver(&self) -> Record
-        ensures { IsTrue (is_lawful result.name) }
+        ensures value { result ≡ driver_record self.now.driver }
+        ensures lawful { IsTrue (is_lawful result.name) }
     {
         Record {
             kind: Kind::Driver,
@@ -54,7 +56,8 @@ impl Plan {
 
     /// The record of the interface that is attached in a turn.
     pub fn iface(&self, turn: u32) -> Record
-        ensures { (result.kind ≡ Iface) × IsTrue (is_lawful result.name) }
+        ensures value { result ≡ record { kind = Iface; name = self.now.iface; value = turn } }
+        ensures lawful { IsTrue (is_lawful result.name) }
     {
         Record {
             kind: Kind::Iface,
@@ -64,7 +67,9 @@ impl Plan {
     }
 
     /// Whether this is the driver, which is the first entry of the registry.
-    pub fn is_driver(&self, entry: Option<Entry>) -> bool {
+    pub fn is_driver(&self, entry: Option<Entry>) -> bool
+        ensures { IsTrue result ↔ entry ≡ Some (record { number = 1; slot = 0; rec = driver_record self.now.driver }) }
+    {
         entry
             == Some(Entry {
                 number: 1,
@@ -74,7 +79,9 @@ impl Plan {
     }
 
     /// Whether no interface was found, or one that was attached in some turn.
-    pub fn is_iface(&self, entry: Option<Entry>) -> bool {
+    pub fn is_iface(&self, entry: Option<Entry>) -> bool
+        ensures { IsTrue result ↔ IfSome entry (λ e. e.rec.value < self.now.turns) }
+    {
         match entry {
             Some(entry) => entry.rec.value < u64::from(self.turns),
             None => true,
