@@ -25,13 +25,12 @@ mod write;
 use crate::script::{Command, RunFault, Script};
 use carry::carry_out;
 use core_session::CoreSession;
+pub use live::{run_live, run_live_on};
 use passive_core::{Core, Settings};
 use session::Session;
 use std::alloc::Global;
 use std::io::Write;
 use write::write_text;
-
-pub use live::{run_live, run_live_on};
 
 /// Runs a script over the core, and writes its report: the text of each command, in order.
 pub fn run_core<W: Write>(alloc: Global, script: &Script, writer: &mut W) -> Result<(), RunFault>

@@ -56,8 +56,8 @@ fn attach_wm<D: Domain, R: Wait>(
         name: Name::parse(b"wm".as_slice())?,
         value: 7,
     };
-    if cpus.is_empty() {
-        return Err(Fail::from("a CPU"));
+    if cpus.len() < 2 {
+        return Err(Fail::from("two CPUs"));
     }
     let cpu = &mut cpus[0];
     registry.attach(rt, cpu, rec)?;
@@ -122,6 +122,7 @@ fn run_to_the_end<D: Domain, R: Wait + Abort>(
 /// What the first of these scripts has written where it holds both references inside its section, and where it has left
 /// the section.
 const INSIDE: &str = "domain 2 2; inside; found 1 slot 0 value 7; ref a 1";
+
 const OUTSIDE: &str = "domain 2 2; inside; found 1 slot 0 value 7; ref a 1; count x 1";
 
 #[test]

@@ -154,7 +154,11 @@ fn reader_fails_under<R: Wait + Abort>(rt: &R, alloc: Global, engine: Engine) {
         };
         let mut written = Vec::new(alloc);
         let result = run(rt, alloc, engine, &mut reader, &mut written);
-        assert_eq!(rt; result, Err(RunFault::Read), "at call {failing}, {engine:?}");
+        assert_eq!(rt;
+            result,
+            Err(RunFault::Read),
+            "at call {failing}, {engine:?}"
+        );
         assert!(rt; written.is_empty());
         assert_eq!(rt; reader.calls, failing + 1);
     }
@@ -193,7 +197,11 @@ fn writer_ends_under<R: Wait + Abort>(rt: &R, alloc: Global, engine: Engine, end
         let mut reader = SCRIPT;
         let mut writer = sipping(alloc, ending, end);
         let result = run(rt, alloc, engine, &mut reader, &mut writer);
-        assert_eq!(rt; result, Err(RunFault::Write), "at call {ending}, {engine:?}");
+        assert_eq!(rt;
+            result,
+            Err(RunFault::Write),
+            "at call {ending}, {engine:?}"
+        );
         assert_eq!(rt; writer.taken.as_slice(), &REPORT[..ending]);
         assert_eq!(rt; writer.calls, ending + 1);
     }

@@ -192,7 +192,11 @@ fn bare_domain(rt: HostRuntime) {
     for engine in ENGINES {
         let (written, result) = outcome(&rt, rt.alloc(), engine, b"domain 2 2".as_slice());
         assert_eq!(rt; result, Ok(()), "{engine:?}");
-        assert_eq!(rt; written.as_slice(), b"domain 2 2\n".as_slice(), "{engine:?}");
+        assert_eq!(rt;
+            written.as_slice(),
+            b"domain 2 2\n".as_slice(),
+            "{engine:?}"
+        );
     }
     let none = ends_of(&rt, rt.alloc(), b"".as_slice());
     assert_eq!(rt; none, fault(1, Cause::NoDomain));
@@ -278,20 +282,32 @@ fn long_lines(rt: HostRuntime) -> Result<(), Fail> {
     assert_eq!(rt; ends_of(&rt, rt.alloc(), &long), fault(1, Cause::LongLine));
 
     let mut comment = repeated(rt.alloc(), b'#', 121)?;
-    assert_eq!(rt; ends_of(&rt, rt.alloc(), &comment), fault(1, Cause::LongLine));
+    assert_eq!(rt;
+        ends_of(&rt, rt.alloc(), &comment),
+        fault(1, Cause::LongLine)
+    );
     let _last = comment.pop();
-    assert_eq!(rt; ends_of(&rt, rt.alloc(), &comment), fault(1, Cause::NoDomain));
+    assert_eq!(rt;
+        ends_of(&rt, rt.alloc(), &comment),
+        fault(1, Cause::NoDomain)
+    );
     if let Some(byte) = comment.get_mut(7) {
         *byte = 200;
     }
-    assert_eq!(rt; ends_of(&rt, rt.alloc(), &comment), fault(1, Cause::BadByte));
+    assert_eq!(rt;
+        ends_of(&rt, rt.alloc(), &comment),
+        fault(1, Cause::BadByte)
+    );
     Ok(())
 }
 
 #[test]
 fn too_long(rt: HostRuntime) -> Result<(), Fail> {
     let mut script = repeated(rt.alloc(), b'\n', 65_536)?;
-    assert_eq!(rt; ends_of(&rt, rt.alloc(), &script), fault(1, Cause::NoDomain));
+    assert_eq!(rt;
+        ends_of(&rt, rt.alloc(), &script),
+        fault(1, Cause::NoDomain)
+    );
     script.push(200)?;
     assert_eq!(rt; ends_of(&rt, rt.alloc(), &script), fault(1, Cause::TooLong));
     Ok(())

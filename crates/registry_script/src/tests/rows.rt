@@ -175,7 +175,11 @@ fn writes<R: Wait + Abort>(
     assert_eq!(rt; written.as_slice(), report, "at {name}, {engine:?}");
     let (written, result) = dripped(rt, alloc, engine, script);
     assert_eq!(rt; result, Ok(()), "at {name}, {engine:?}, one byte a call");
-    assert_eq!(rt; written.as_slice(), report, "at {name}, {engine:?}, one byte a call");
+    assert_eq!(rt;
+        written.as_slice(),
+        report,
+        "at {name}, {engine:?}, one byte a call"
+    );
 }
 
 #[test]
