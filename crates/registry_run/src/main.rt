@@ -65,8 +65,7 @@ fn run_storm<R: Print + Alloc<A = Global> + Threads + Wait + Sync>(
     } = storm(rt, rt.alloc(), plan.cpus, plan.turns, &OpenGate)?;
     println!(rt;
         "storm {cpus} {turns}\nlookups {lookups}\nreferences {references}\nwrong {wrong}\nheld {held}"
-    )
-    .map_err(Failure::unprinted)
+    ).map_err(Failure::unprinted)
 }
 
 #[cfg(test)]

@@ -39,8 +39,14 @@ fn failures_and_their_statuses(rt: HostRuntime) -> Result<(), Fail> {
 fn tasks_by_their_words(rt: HostRuntime) {
     let storm = |cpus, turns| Some(Task::Storm(Plan { cpus, turns }));
     let rows = [
-        ([Some("core"), None, None, None], Some(Task::Script(Engine::Core))),
-        ([Some("live"), None, None, None], Some(Task::Script(Engine::Live))),
+        (
+            [Some("core"), None, None, None],
+            Some(Task::Script(Engine::Core)),
+        ),
+        (
+            [Some("live"), None, None, None],
+            Some(Task::Script(Engine::Live)),
+        ),
         ([Some("storm"), Some("1"), Some("1"), None], storm(1, 1)),
         (
             [Some("storm"), Some("8"), Some("100000"), None],
@@ -70,7 +76,12 @@ fn words_that_name_no_task(rt: HostRuntime) {
         [Some("storm"), Some("1"), Some(""), None],
         [Some("storm"), Some("258"), Some("1"), None],
         [Some("storm"), Some("1"), Some("4294967297"), None],
-        [Some("storm"), Some("1"), Some("000000000000000000001"), None],
+        [
+            Some("storm"),
+            Some("1"),
+            Some("000000000000000000001"),
+            None,
+        ],
         [Some("storm"), Some("2"), Some("3"), Some("4")],
     ];
     for words in rows {

@@ -77,7 +77,10 @@ fn survives<R: Wait + Abort + AllocGlobal + Eprint>(rt: &R, engine: Engine) -> R
     }
     eprintln!(rt; "refused memory: a run")?;
     assert_eq!(rt; result, Err(RunFault::Memory));
-    assert!(rt; REPORT.starts_with(page.written()), "a prefix of the report");
+    assert!(rt;
+        REPORT.starts_with(page.written()),
+        "a prefix of the report"
+    );
     let (page, result) = run_all_limits(rt, rt.alloc(), engine);
     assert_eq!(rt; result, Ok(()));
     assert_eq!(rt; page.written(), REPORT);
@@ -122,6 +125,7 @@ fn a_storm_may_be_refused_memory(rt: HostRuntime) -> Result<(), Fail> {
 
 /// An audit, and the row found: their scripts and reports.
 const AUDIT: (&[u8], &[u8]) = (b"domain 2 2\naudit\n", b"domain 2 2\nempty\n");
+
 const FOUND: (&[u8], &[u8]) = (
     b"domain 2 2\nattach 0 driver wm0 1500\nenter 0\nfind 0 driver wm0\n",
     b"domain 2 2\nattached 1 slot 0\ninside\nfound 1 slot 0 value 1500\n",
@@ -194,7 +198,10 @@ fn audited_and_found<D: Domain, R: Wait + Abort + AllocGlobal + Eprint>(
         }
         eprintln!(rt; "refused memory: a run on a registry")?;
         assert_eq!(rt; ended, Err(RunFault::Memory));
-        assert!(rt; report.starts_with(page.written()), "a prefix of the report");
+        assert!(rt;
+            report.starts_with(page.written()),
+            "a prefix of the report"
+        );
     }
     Ok(())
 }
