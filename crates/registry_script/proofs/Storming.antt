@@ -1,9 +1,8 @@
 -- The CPUs of a storm's new registry.
-use Rattle.std.proofs.Common.{◌≡◌, ◌∙◌, ℕ, zero, suc, ◌+◌, ◌<◌, List, [], ◌∷◌, length, drop, All, slice_index_or, refl, sym, ap, subst, arith}
+use Rattle.std.proofs.Common.{◌≡◌, ℕ, zero, suc, ◌<◌, List, [], ◌∷◌, length, drop, All, slice_index_or, refl, sym, ap, subst, arith}
 use mathlib.Core.Option.{some, some-injective}
 use lib.ListN.{get_elem?}
 use Rattle.passive_core.specs.declared.settings.Settings.{Settings}
-use Rattle.cpu_words.specs.Views.{new_cpu}
 use Rattle.passive_list.specs.Cpus.{OnCpu}
 use Rattle.name_registry.specs.Opening.{AreNewCpus}
 use Rattle.registry_script.specs.Storms.{IsOutside, settings_of}

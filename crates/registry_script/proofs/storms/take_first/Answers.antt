@@ -1,4 +1,4 @@
-use Rattle.std.proofs.Common.{◌≡◌, ◌+◌, ◌<◌, length, sym, ap, subst, arith}
+use Rattle.std.proofs.Common.{sym, ap, subst, arith}
 use Rattle.passive_core.specs.declared.settings.Settings.{Settings}
 use Rattle.passive_list.specs.Cpus.{OnCpu}
 use Rattle.registry_script.specs.Storms.{IsOutside}

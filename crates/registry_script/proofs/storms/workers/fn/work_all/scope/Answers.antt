@@ -1,4 +1,4 @@
-use Rattle.std.proofs.Common.{rules, arith, ◌≡◌, ◌+◌, ◌*◌, ◌∙◌, ℕ, sym, ap, vec_len}
+use Rattle.std.proofs.Common.{arith, ◌≡◌, ◌+◌, ◌*◌, ℕ, ap, vec_len}
 use Rattle.registry_script.proofs.storms.workers.fn.work_all.scope.Goals as goal
 
 -- one CPU's lookups, and those of the n others
