@@ -110,9 +110,23 @@ fn run_to_the_end<D: Domain, R: Wait + Abort>(
     let Ok((registry, mut cpus)) = blank.open::<D>(alloc) else {
         return Err(Fail::from("an open registry"));
     };
-    attach_wm(rt, &registry, &mut cpus)?;
+    run_and_free(rt, alloc, &registry, &mut cpus, script, report)
+}
+
+fn run_and_free<D: Domain, R: Wait + Abort>(
+    rt: &R,
+    alloc: Global,
+    registry: &Registry<D>,
+    cpus: &mut [Cpu<D>],
+    script: &Script,
+    report: &[u8],
+) -> Result<(), Fail>
+    requires settings { script.now.settings ≡ D.settings }
+    requires cpus { AreAllCpus D.settings.cpus cpus.old }
+{
+    attach_wm(rt, registry, cpus)?;
     let mut written = Vec::new(alloc);
-    let ended = run_live_on(rt, alloc, &registry, &mut cpus, script, &mut written);
+    let ended = run_live_on(rt, alloc, registry, cpus, script, &mut written);
     assert_eq!(rt; ended, Ok(()));
     assert_eq!(rt; written.as_slice(), report);
     assert_eq!(rt; registry.advance(rt, 1), Ok(Stage::Freed(0)));
@@ -161,12 +175,27 @@ fn run_to_a_fault<D: Domain, R: Wait + Abort>(
     let Ok((registry, mut cpus)) = blank.open::<D>(alloc) else {
         return Err(Fail::from("an open registry"));
     };
-    attach_wm(rt, &registry, &mut cpus)?;
+    run_and_detach(rt, alloc, &registry, &mut cpus, script, front, stage)
+}
+
+fn run_and_detach<D: Domain, R: Wait + Abort>(
+    rt: &R,
+    alloc: Global,
+    registry: &Registry<D>,
+    cpus: &mut [Cpu<D>],
+    script: &Script,
+    front: &[u8],
+    stage: Stage,
+) -> Result<(), Fail>
+    requires settings { script.now.settings ≡ D.settings }
+    requires cpus { AreAllCpus D.settings.cpus cpus.old }
+{
+    attach_wm(rt, registry, cpus)?;
     let mut writer = sipping(alloc, front.len(), End::Fails);
-    let ended = run_live_on(rt, alloc, &registry, &mut cpus, script, &mut writer);
+    let ended = run_live_on(rt, alloc, registry, cpus, script, &mut writer);
     assert_eq!(rt; ended, Err(RunFault::Write));
     assert_eq!(rt; writer.taken.as_slice(), front);
-    let [first, second] = cpus.as_mut_slice() else {
+    let [first, second] = cpus else {
         return Err(Fail::from("two CPUs"));
     };
     registry.detach(rt, second, Kind::Driver, &Name::parse(b"wm".as_slice())?)?;

@@ -4,6 +4,8 @@
 //! refusal that is met is noted on standard error.
 
 ghost use Rattle.std.specs.Prelude.{◌≡◌, IfOk};
+ghost use Rattle.name_registry.specs.Auditing.{AreAllCpus};
+ghost use Rattle.name_registry.specs.Opening.{AreNewCpus};
 
 use super::ends::{REPORT, SCRIPT};
 use crate::engine::{Engine, run};
@@ -11,8 +13,9 @@ use crate::report::run_live_on;
 use crate::script::{ParseFault, RunFault, Script, parse_script};
 use crate::storms::{OpenGate, StormSum, storm};
 use cpu_words::Domain;
-use name_registry::Blank;
+use name_registry::{Blank, Registry};
 use passive_core::Refusal;
+use passive_list::Cpu;
 use std::alloc::Global;
 use std::io;
 use std::io::{ErrorKind, Write};
@@ -178,30 +181,64 @@ fn audited_and_found<D: Domain, R: Wait + Abort + AllocGlobal + Eprint>(
     requires table { (blank.table ≡ D.table) × (blank.settings ≡ D.settings) }
     requires settings { (audit.now.settings ≡ D.settings) × (found.now.settings ≡ D.settings) }
 {
-    let (registry, mut cpus) = match blank.open::<D>(rt.alloc()) {
-        Ok(opened) => opened,
-        Err((refusal, back)) => {
-            eprintln!(rt; "refused memory: a registry")?;
-            assert_eq!(rt; refusal, Refusal::NoMemory);
-            match back.open::<D>(rt.alloc()) {
-                Ok(opened) => opened,
-                Err((refusal, _)) => return Err(Fail::from(refusal)),
-            }
-        }
+    let Ok((registry, mut cpus)) = opened::<D, R>(rt, blank) else {
+        return Err(Fail::from("an open registry"));
     };
-    for (script, report) in [(audit, AUDIT.1), (found, FOUND.1)] {
-        let mut page = Page::new();
-        let ended = run_live_on(rt, rt.alloc(), &registry, &mut cpus, script, &mut page);
-        if ended.is_ok() {
-            assert_eq!(rt; page.written(), report);
-            continue;
+    run_both(rt, &registry, &mut cpus, audit, found)
+}
+
+/// The open registry; where memory is refused, the blank that comes back is opened.
+fn opened<D: Domain, R: Abort + AllocGlobal + Eprint>(
+    rt: &R,
+    blank: Blank,
+) -> Result<(Registry<D>, Vec<Cpu<D>>), (Refusal, Blank)>
+    requires { (blank.table ≡ D.table) × (blank.settings ≡ D.settings) }
+    ensures cpus { IfOk result (λ made. AreNewCpus D.settings D.settings.cpus made.1.items) }
+{
+    match blank.open::<D>(rt.alloc()) {
+        Ok(opened) => Ok(opened),
+        Err((refusal, back)) => {
+            eprintln!(rt; "refused memory: a registry").ok();
+            assert_eq!(rt; refusal, Refusal::NoMemory);
+            back.open::<D>(rt.alloc())
         }
-        eprintln!(rt; "refused memory: a run on a registry")?;
-        assert_eq!(rt; ended, Err(RunFault::Memory));
-        assert!(rt;
-            report.starts_with(page.written()),
-            "a prefix of the report"
-        );
     }
+}
+
+fn run_both<D: Domain, R: Wait + Abort + AllocGlobal + Eprint>(
+    rt: &R,
+    registry: &Registry<D>,
+    cpus: &mut [Cpu<D>],
+    audit: &Script,
+    found: &Script,
+) -> Result<(), Fail>
+    requires settings { (audit.now.settings ≡ D.settings) × (found.now.settings ≡ D.settings) }
+    requires cpus { AreAllCpus D.settings.cpus cpus.old }
+{
+    run_on_it(rt, registry, cpus, audit, AUDIT.1)?;
+    run_on_it(rt, registry, cpus, found, FOUND.1)
+}
+
+/// The run of the script on the registry writes the report, or a prefix of it where memory is refused.
+fn run_on_it<D: Domain, R: Wait + Abort + AllocGlobal + Eprint>(
+    rt: &R,
+    registry: &Registry<D>,
+    cpus: &mut [Cpu<D>],
+    script: &Script,
+    report: &[u8],
+) -> Result<(), Fail>
+    requires settings { script.now.settings ≡ D.settings }
+    requires cpus { AreAllCpus D.settings.cpus cpus.old }
+    ensures cpus { IfOk result (λ _. AreAllCpus D.settings.cpus cpus.new) }
+{
+    let mut page = Page::new();
+    let ended = run_live_on(rt, rt.alloc(), registry, cpus, script, &mut page);
+    if ended.is_ok() {
+        assert_eq!(rt; page.written(), report);
+        return Ok(());
+    }
+    eprintln!(rt; "refused memory: a run on a registry")?;
+    assert_eq!(rt; ended, Err(RunFault::Memory));
+    assert!(rt; report.starts_with(page.written()), "a prefix of the report");
     Ok(())
 }
