@@ -239,6 +239,9 @@ fn run_on_it<D: Domain, R: Wait + Abort + AllocGlobal + Eprint>(
     }
     eprintln!(rt; "refused memory: a run on a registry")?;
     assert_eq!(rt; ended, Err(RunFault::Memory));
-    assert!(rt; report.starts_with(page.written()), "a prefix of the report");
+    assert!(rt;
+        report.starts_with(page.written()),
+        "a prefix of the report"
+    );
     Ok(())
 }
