@@ -14,6 +14,3 @@ pub use script::{
     Cause, Command, Label, ParseFault, RunFault, Script, ScriptFault, parse_number, parse_script,
 };
 pub use storms::{Gate, OpenGate, StormSum, storm};
-
-#[cfg(test)]
-mod tests;

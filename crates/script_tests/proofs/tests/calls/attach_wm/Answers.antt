@@ -1,6 +1,6 @@
 use Rattle.std.proofs.Common.{◌<◌, arith, get_or}
 use Rattle.registry_script.proofs.LiveCpus.{all_with, attached_id}
-use Rattle.registry_script.proofs.tests.calls.attach_wm.Goals as goal
+use Rattle.script_tests.proofs.tests.calls.attach_wm.Goals as goal
 
 pub returns : goal.returns
 returns g c =

@@ -5,12 +5,11 @@ ghost use Rattle.name_registry.specs.Auditing.{AreAllCpus};
 
 use super::ends::{End, sipping};
 use super::{ENGINES, lines, outcome};
-use crate::report::{run_core, run_live, run_live_on};
-use crate::script::{RunFault, Script, parse_script};
 use cpu_words::Domain;
 use name_registry::{Blank, Registry};
 use passive_core::{Kind, Name, Record, Stage};
 use passive_list::{Cpu, exit};
+use registry_script::{RunFault, Script, parse_script, run_core, run_live, run_live_on};
 use std::alloc::Global;
 use std::marker::Brand;
 use std::process::Abort;

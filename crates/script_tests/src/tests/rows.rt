@@ -3,7 +3,7 @@
 
 use super::ends::dripped;
 use super::{ENGINES, lines, outcome};
-use crate::engine::Engine;
+use registry_script::Engine;
 use std::alloc::{AllocError, Global};
 use std::process::Abort;
 use std::sync::Wait;

@@ -8,14 +8,13 @@ ghost use Rattle.name_registry.specs.Auditing.{AreAllCpus};
 ghost use Rattle.name_registry.specs.Opening.{AreNewCpus};
 
 use super::ends::{REPORT, SCRIPT};
-use crate::engine::{Engine, run};
-use crate::report::run_live_on;
-use crate::script::{ParseFault, RunFault, Script, parse_script};
-use crate::storms::{OpenGate, StormSum, storm};
 use cpu_words::Domain;
 use name_registry::{Blank, Registry};
 use passive_core::Refusal;
 use passive_list::Cpu;
+use registry_script::{
+    Engine, OpenGate, ParseFault, RunFault, Script, StormSum, parse_script, run, run_live_on, storm,
+};
 use std::alloc::Global;
 use std::io;
 use std::io::{ErrorKind, Write};

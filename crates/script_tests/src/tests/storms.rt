@@ -1,6 +1,6 @@
 //! Storms: their sums, and that the workers of all CPUs are at work at once.
 
-use crate::storms::{Gate, OpenGate, StormSum, storm};
+use registry_script::{Gate, OpenGate, StormSum, storm};
 use std::alloc::Global;
 use std::sync::Wait;
 use std::sync::atomic::{AtomicBool, AtomicU64, Ordering};

@@ -1,5 +1,5 @@
 use Rattle.registry_script.proofs.AllCpus.{new_are_all}
-use Rattle.registry_script.proofs.tests.memory_tests.audited_and_found.Goals as goal
+use Rattle.script_tests.proofs.tests.memory_tests.audited_and_found.Goals as goal
 
 pub run_both-requires-clause-cpus : goal.run_both-requires-clause-cpus
 run_both-requires-clause-cpus g c = rw c.deref_mut.ensures.value (new_are_all g.D.Domain.settings c.in-Ok.cpus.items c.in-Ok.ensures.cpus)

@@ -1,8 +1,7 @@
 //! A script that is cut after each byte: its first fault and nothing written, or the report of what is left.
 
 use super::{ENGINES, outcome};
-use crate::engine::Engine;
-use crate::script::{Cause, RunFault, ScriptFault};
+use registry_script::{Cause, Engine, RunFault, ScriptFault};
 use std::alloc::{AllocError, Global};
 use std::process::Abort;
 use std::sync::Wait;

@@ -9,8 +9,7 @@ mod memory_tests;
 mod rows;
 mod storms;
 
-use crate::engine::{Engine, run};
-use crate::script::RunFault;
+use registry_script::{Engine, RunFault, run};
 use std::alloc::{AllocError, Global};
 use std::sync::Wait;
 

@@ -1,4 +1,4 @@
-use Rattle.registry_script.proofs.tests.memory_tests.a_run_on_a_registry_may_be_refused_memory.Given as goal
+use Rattle.script_tests.proofs.tests.memory_tests.a_run_on_a_registry_may_be_refused_memory.Given as goal
 
 -- the registry that was just made
 abbrev pub ghosts-audited_and_found : goal.ghosts-audited_and_found

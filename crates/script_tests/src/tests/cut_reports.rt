@@ -2,7 +2,7 @@
 
 use super::cuts::{LINES, Line, cut_script, end_of_cut};
 use super::{ENGINES, outcome};
-use crate::engine::Engine;
+use registry_script::Engine;
 use std::alloc::{AllocError, Global};
 use std::process::Abort;
 use std::sync::Wait;

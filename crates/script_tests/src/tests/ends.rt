@@ -1,8 +1,7 @@
 //! Readers and writers that give or take little, fail, or never end.
 
 use super::ENGINES;
-use crate::engine::{Engine, run};
-use crate::script::{Cause, RunFault, ScriptFault};
+use registry_script::{Cause, Engine, RunFault, ScriptFault, run};
 use std::alloc::Global;
 use std::io;
 use std::io::{ErrorKind, Read, Write};
