@@ -37,25 +37,30 @@ fn failures_and_their_statuses(rt: HostRuntime) -> Result<(), Fail> {
 
 #[test]
 fn tasks_by_their_words(rt: HostRuntime) {
-    let storm = |cpus, turns| Some(Task::Storm(Plan { cpus, turns }));
+    let least = Plan { cpus: 1, turns: 1 };
+    let small = Plan { cpus: 2, turns: 3 };
+    let greatest = Plan {
+        cpus: 8,
+        turns: 100_000,
+    };
     let rows = [
+        ([Some("core"), None, None, None], Task::Script(Engine::Core)),
+        ([Some("live"), None, None, None], Task::Script(Engine::Live)),
         (
-            [Some("core"), None, None, None],
-            Some(Task::Script(Engine::Core)),
+            [Some("storm"), Some("1"), Some("1"), None],
+            Task::Storm(least),
         ),
         (
-            [Some("live"), None, None, None],
-            Some(Task::Script(Engine::Live)),
+            [Some("storm"), Some("02"), Some("003"), None],
+            Task::Storm(small),
         ),
-        ([Some("storm"), Some("1"), Some("1"), None], storm(1, 1)),
         (
             [Some("storm"), Some("8"), Some("100000"), None],
-            storm(8, 100_000),
+            Task::Storm(greatest),
         ),
-        ([Some("storm"), Some("02"), Some("003"), None], storm(2, 3)),
     ];
     for (words, task) in rows {
-        assert_eq!(rt; Task::parse(words), task);
+        assert_eq!(rt; Task::parse(words), Some(task));
     }
 }
 
