@@ -8,7 +8,7 @@
 # note, after one with a note, is past the last allocation of every test.
 set -u
 cd "$(dirname "$0")/../crates" || exit 2
-[[ $# -gt 0 ]] || set -- passive_core name_registry registry_script
+[[ $# -gt 0 ]] || set -- passive_core name_registry script_tests
 
 # One crate, in whose folder this runs.
 refuse() {
