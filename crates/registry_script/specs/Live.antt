@@ -4,8 +4,7 @@ use Rattle.std.specs.Io.KnownBytes.{Appends}
 use Rattle.passive_core.specs.Audits.{Tally}
 use Rattle.passive_core.specs.declared.refusal.Refusal.{Refusal}
 use Rattle.passive_core.specs.declared.refusal.Refusal.TheVariants.{NoMemory, NameTaken, NoSlot, HistoryFull, NotFound, Inside, SectionsSpent, NothingFound, PassiveFull, WrongCpu, NotHeld, LocalFull, NotRetired, StillHeld, Waiting, TooDeep, NeedsDriver}
-use Rattle.passive_core.specs.declared.stage.Stage.{Stage}
-use Rattle.passive_core.specs.declared.stage.Stage.TheVariants.{Freed}
+use Rattle.name_registry.specs.Locking.{IsObstacle}
 use Rattle.registry_script.specs.declared.report.hitch.Hitch.{Hitch}
 use Rattle.registry_script.specs.declared.report.hitch.Hitch.TheVariants.{NoLabel, LabelTaken, NotInside, Refused}
 use Rattle.registry_script.specs.declared.report.session.Reading.{Reading}
@@ -61,11 +60,6 @@ IsOfAcquireLocal _ = ⊥
 abbrev pub IsOfAdvance : Refusal → Type 0
 IsOfAdvance NotRetired = Unit {0}
 IsOfAdvance _ = ⊥
-
--- what stands in the way of a slot's being vacant again
-abbrev pub IsObstacle : Stage → Type 0
-IsObstacle (Freed slot) = ⊥
-IsObstacle _ = Unit {0}
 
 abbrev pub IsOfDestroy : Refusal → Type 0
 IsOfDestroy Inside = Unit {0}

@@ -22,8 +22,8 @@ pub enum Engine {
     Live,
 }
 
-/// Reads a script whole, runs it with the engine, and writes its report. After a fault of the script or of the
-/// reader nothing has been written.
+/// Reads a script whole, runs it with the engine, and writes its report.
+/// Refused: `Read` and `Script`, and nothing was written; `Write` and `Memory`, and a front of the report was written.
 #[tactic(auto, using(crate::proofs::Known::ran_known))]
 pub fn run<H: Wait, R: Read, W: Write>(
     rt: &H,

@@ -17,7 +17,8 @@ use std::marker::Brand;
 use std::sync::Wait;
 
 /// Runs a script over a new registry of its own, and writes the text of each command, in order.
-/// `Memory` also where the registry couldn't be made; nothing was written then.
+/// Refused: `Memory` where the registry couldn't be made, and nothing was written; `Memory` or `Write` in a run, and a
+/// front of the report was written.
 pub fn run_live<R: Wait, W: Write>(
     rt: &R,
     alloc: Global,
@@ -57,6 +58,7 @@ fn run_on_blank<D: Domain, R: Wait, W: Write>(
 /// Runs a script over a registry that others may use too, and writes the text of each command, in order.
 /// At the end, and after a fault, all references that the run still holds are given back, and nothing is printed for
 /// them; a section that is open stays open.
+/// Refused: `Memory` or `Write`, and a front of the report was written.
 /// Condition: the registry has the script's settings, and the slice is all its CPUs in order; so it is afterwards.
 pub fn run_live_on<D: Domain, R: Wait, W: Write>(
     rt: &R,

@@ -96,6 +96,7 @@ fn take_first<D: Domain>(plan: Plan, cpus: &mut Vec<Cpu<D>>) -> Cpu<D>
     ensures first { IsOutside 0 result }
     ensures others { All (IsOutside 0) cpus.new.items × (vec_len cpus.new + 1 ≡ plan.cpus) }
 {
+    // Reading it opens what its type keeps: a storm has a CPU 0.
     let _plan = plan;
     cpus.remove(0)
 }
