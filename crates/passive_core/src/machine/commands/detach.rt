@@ -97,6 +97,3 @@ impl Core {
         }
     }
 }
-
-#[cfg(test)]
-mod tests;

@@ -59,6 +59,3 @@ impl Core {
         }
     }
 }
-
-#[cfg(test)]
-pub(crate) mod tests;
