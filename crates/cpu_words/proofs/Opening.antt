@@ -94,9 +94,6 @@ opens z words fit are = record {
 
 -- the seats of the first CPUs
 
-pub no_seats : (table : TableId) (z : Settings) → AreSeats table z 0 []
-no_seats table z = record { count = refl; each = λ c lt. absurd (omega arith) }
-
 pub more_seats : (table : TableId) (z : Settings) (n : ℕ) (seats : List (Seated CpuView)) (new : Seated CpuView) → AreSeats table z n seats → new ≡ record { table = table; view = new_cpu z n } → AreSeats table z (n + 1) (seats ++ new ∷ [])
 more_seats table z n seats new are is =
     let size : length seats ≡ n = are.count in record {

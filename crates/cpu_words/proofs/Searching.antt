@@ -14,7 +14,6 @@ use Rattle.passive_core.specs.declared.entry.Entry.{Entry}
 use Rattle.passive_core.specs.declared.entry.Change.{Change}
 use Rattle.passive_core.specs.declared.entry.Change.TheVariants.{Detach}
 use Rattle.passive_core.specs.declared.settings.Settings.{Settings}
-use Rattle.passive_core.specs.declared.event.Event.{Event}
 use Rattle.passive_core.specs.declared.event.Event.TheVariants.{Seek, LoadLink, LoadRecord}
 use Rattle.passive_core.specs.declared.event.RecordOf.TheVariants.{Search as OfSearch}
 use Rattle.passive_core.specs.declared.event.Reply.{Reply}
@@ -441,27 +440,9 @@ load_searched_may z x c t k id may = subst (λ d. CpuMay z x (657 + 8 * t + k) (
 
 -- For the callers of these steps
 
--- a link that isn't 0 names a slot, and the search goes on there
-pub link_names : (z : Settings) (q : Search) (n : ℕ) (p : List Change) → n ≢ 0 → LinkHolds z q n p → (n - 1 < z.slots) × (n - 1 < 32)
-link_names z q zero p ne holds = absurd (ne refl)
-link_names z q (suc t) p ne holds = (omega (arith, holds.0), omega (arith, holds.1))
-
 pub followed_on : (x : CpuView) (q : Search) (n : ℕ) (p : List Change) → n ≢ 0 → followed x q n p ≡ record x { pass = p; search = Some (moved q (AtNumber (n - 1))) }
 followed_on x q zero p ne = absurd (ne refl)
 followed_on x q (suc t) p ne = let same : suc t - 1 ≡ t = omega arith in ap (λ u. record x { pass = p; search = Some (moved q (AtNumber u)) }) (sym same)
-
--- no number in a pass is above the greatest change limit
-pub pass_within : (e : Event) (r : Reply) (v : View) (y : CpuView) → Makes e r v (Cpu y) → length y.pass ≤ 1000000
-pass_within e r v y made =
-    let g = made.after in
-    let had : CpuShown g y = made.shown in
-    let seen = seen_of g y made.good_after had in
-    let size : length y.pass ≡ seen_at g y.id = ap (λ (p : List Change). length p) seen.pass ∙ length-take-le (seen_at g y.id) g.history seen.within in
-    omega (arith, size, seen.within, made.good_after.holds.room, ranges g.settings made.good_after.holds.fit)
-
--- An entry's number is below each bound of those that the search may stand on, and from its link on the numbers are below it: a search ends.
-pub number_below : (x y : CpuView) (q : Search) (t n bound : ℕ) → q.place ≡ AtNumber t → HasSearched x q n y → ((e : Entry) → MayStandOn y.pass q t e → e.number < bound) → n < bound
-number_below x y q t n bound place had below = let there = had.number t place in omega (arith, below there.0 there.1, there.2)
 
 pub link_below : (x y : CpuView) (q : Search) (s t n : ℕ) → q.place ≡ AtNext s → HasFollowed x q (suc t) y → ((e : Entry) × MayStandOn x.pass q s e × (e.number ≡ n)) → (f : Entry) → MayStandOn y.pass q t f → f.number < n
 link_below x y q s t n place had there f stands = omega (arith, had.descends s place there.0 f there.1 stands, there.2)

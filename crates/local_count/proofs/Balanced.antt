@@ -6,7 +6,7 @@ use Rattle.passive_core.specs.declared.settings.Settings.{Settings}
 use Rattle.passive_core.specs.declared.state.Due.{Due}
 use Rattle.passive_core.specs.declared.state.Due.TheVariants.{Rest, Adding, Subtracting}
 use Rattle.passive_core.specs.declared.state.Slot.{Slot}
-use Rattle.passive_core.specs.declared.state.Slot.TheVariants.{Vacant, Live, Retired}
+use Rattle.passive_core.specs.declared.state.Slot.TheVariants.{Retired}
 use Rattle.passive_core.specs.Invariant.{IsIn, Balances, held_at, adding_at, is_adding_at, subtracting_at}
 use Rattle.passive_core.specs.Slots.{slot_of, are_collected}
 use Rattle.passive_core.specs.State.{State, bias, slot_at, total_at, kept_at}
@@ -16,15 +16,13 @@ use Rattle.passive_core.proofs.CountBounds.{collected_at, total_range}
 use Rattle.passive_core.proofs.CountKeeps.{fit_of}
 use Rattle.passive_core.proofs.Held.{held_kept}
 use Rattle.passive_core.proofs.HeldSums.{one_self}
-use Rattle.passive_core.proofs.Occupied.{in_within, not_vacant, retired_one, slot_has}
+use Rattle.passive_core.proofs.Occupied.{in_within, retired_one, slot_has}
 use Rattle.passive_core.proofs.References.{due_subtracting}
 use Rattle.cpu_words.specs.declared.view.KeeperView.{KeeperView}
 use Rattle.cpu_words.specs.Draining.{row_of}
-use Rattle.cpu_words.specs.Vacating.{MayVacate}
 use Rattle.cpu_words.specs.Rule.{Good, IsPictured}
 use Rattle.cpu_words.specs.Views.{KeeperShown}
 use Rattle.cpu_words.proofs.KeeperSees.{seen_by_keeper}
-use Rattle.passive_list.specs.Keepers.{TakenAs}
 
 -- Of one state
 
@@ -133,17 +131,3 @@ held_by_slot k s d t pictured rest keeps of =
     let has = slot_has k.slots d t of in
     let some : 0 < held_in g d t = held_kept g.locals g.hands g.keeps g.due d t s (ap (λ (x : List (Option ℕ)). kept_at x s) (sym seen.keeps) ∙ keeps) in
     held_from g k t has.1.0 pictured.good pictured.shown (none_at_rest k.due t rest) has.1.1 (subst (λ (n : ℕ). 0 < held_in g n t) (sym has.1.2) some)
-
--- the row of such a slot, of a keeper that is at rest or is about to subtract, has just the entry
-pub row_of_held : (k : KeeperView) (due : Due) (t : ℕ) (x : Slot) → IsHeldIn (record k { due = due }) t → TakenAs k t x → slot_at k.slots t ≡ x
-row_of_held k due t Vacant held taken = ⊎_elim
-    (λ (vacant : slot_at k.slots t ≡ Vacant). vacant)
-    (λ (may : MayVacate k t).
-    let over : bias < total_at k.totals t = held.undrained may.drained.retired.0 may.drained.retired.1 may.drained.collected in
-    absurd (let total = may.drained.total in omega (arith, over, total)))
-    taken
-row_of_held k due t (Live e) held taken = taken
-row_of_held k due t (Retired e) held taken = taken
-
-pub held_not_vacant : (k : KeeperView) (t : ℕ) → IsHeldIn k t → slot_at k.slots t ≡ Vacant → ⊥
-held_not_vacant k t held vacant = not_vacant held.e (slot_at k.slots t) vacant held.occupied

@@ -9,21 +9,13 @@ use Rattle.cpu_words.specs.declared.view.CpuView.{CpuView}
 use Rattle.cpu_words.specs.declared.view.ReferenceView.{ReferenceView}
 use Rattle.cpu_words.specs.declared.view.InHand.TheVariants.{Empty as NoEntry, Giving as GivingEntry, Back as BackEntry}
 use Rattle.cpu_words.specs.Views.{number_at, with_number, one_more}
-use Rattle.cpu_words.specs.Locals.{IsNetCount, IsMetAlone, MayCountDown, HasCountedDown, HasFoundCollected, HasSplitBack, with_hand}
+use Rattle.cpu_words.specs.Locals.{IsNetCount, IsMetAlone, HasCountedDown, HasFoundCollected, HasSplitBack, with_hand}
 use Rattle.cpu_words.proofs.Counting.{one_more_same, one_more_other}
 use Rattle.passive_list.specs.declared.place.Found.{Found}
 use Rattle.passive_list.specs.declared.place.Place.{Place}
 use Rattle.passive_list.specs.Cpus.{place_at, IsOurCpu}
 use Rattle.local_count.specs.References.{IsOurReference, net_by}
-use Rattle.local_count.proofs.Agreeing.{place_count, net_most, counted_agrees}
-
--- with the reference in its hand, the CPU may count it down from what its place says
-pub may_count_down : (z : TableId) (a : Settings) (t r : TableId) (x y : CpuView) (c w d : ℕ) (o : Found) (ps ns : List Place) (v : ReferenceView) (n s count : ℕ) (kind : Kind)
-    → IsOurCpu z a t x c w d o ps ns → IsOurReference z a r v n s kind → y ≡ with_hand x (GivingEntry v.entry) → count ≡ net_by (place_at ns s) n → MayCountDown y s n count
-may_count_down z a t r x y c w d o ps ns v n s count kind our its joined is =
-    let place = place_count x ns s n count our.net its.begun is in
-    let there : MayCountDown (with_hand x (GivingEntry v.entry)) s n count = record { entry = v.entry; giving = refl; slot = its.slot; number = its.number; place = record { met = place.met; other = place.other } } in
-    subst (λ (q : CpuView). MayCountDown q s n count) (sym joined) there
+use Rattle.local_count.proofs.Agreeing.{net_most, counted_agrees}
 
 -- what the count leaves
 pub released_of : (x y w : CpuView) (e : Entry) (s n : ℕ) → x.hand ≡ NoEntry → y ≡ with_hand x (GivingEntry e) → HasCountedDown y s n w → w ≡ record x { released = one_more x.released n; met = with_number x.met s n }
@@ -63,9 +55,3 @@ come_back x y k w e n v empty joined found cut =
 
     same_back : (f g : Entry) → BackEntry f ≡ BackEntry g → f ≡ g
     same_back f g q = cc
-
--- the reference's data agree with its seat again
-pub back_agrees : (z : TableId) (a : Settings) (r u : TableId) (v : ReferenceView) (n s i : ℕ) (kind : Kind) (w : ReferenceView) → IsOurReference z a r v n s kind → u ≡ r → w ≡ record { entry = v.entry; collected = Some i } → IsOurReference z a u w n s kind
-back_agrees z a r u v n s i kind w its same is =
-    let there : IsOurReference z a u (record { entry = v.entry; collected = Some i }) n s kind = record { table = same ∙ its.table; fit = its.fit; number = its.number; slot = its.slot; kind = its.kind; begun = its.begun; few = its.few } in
-    subst (λ (q : ReferenceView). IsOurReference z a u q n s kind) (sym is) there

@@ -23,9 +23,6 @@ seat_after table z all before after s are is =
     let there = ap (λ (l : List (Seated CpuView)). get_elem? l n) is ∙ at_seam before s after in
     (long, some-injective _ _ (sym there ∙ are.each n long))
 
-pub no_cpus : (z : Settings) → AreNewCpus z 0 []
-no_cpus z = record { count = refl; each = λ c lt. absurd (omega arith) }
-
 pub more_cpus : (z : Settings) (n : ℕ) (xs : List OnCpu) (x : OnCpu) → AreNewCpus z n xs → x ≡ record { view = new_cpu z n; depth = 0 } → AreNewCpus z (n + 1) (xs ++ x ∷ [])
 more_cpus z n xs x are is =
     let size : length xs ≡ n = are.count in record {

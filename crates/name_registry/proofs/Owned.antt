@@ -16,10 +16,9 @@ use Rattle.cpu_words.specs.declared.view.ReferenceView.{ReferenceView}
 use Rattle.passive_list.specs.Cpus.{OnCpu}
 use Rattle.passive_list.specs.Keepers.{OnKeeper}
 use Rattle.passive_list.specs.Notes.{HasHeardOn}
-use Rattle.name_registry.specs.Advancing.{MayWork, Meets}
 use Rattle.name_registry.specs.Attaching.{attach_answer, attach_iface_answer, entry_in, has_room, plain_slot, slot_for, slot_with_room, HasAttachedFor, HasAttachedIfaceFor}
 use Rattle.name_registry.specs.Detaching.{IsDetachAnswer, IsDetachRefusal, HasDetachedFor}
-use Rattle.name_registry.specs.Locking.{MayAttach, IsAttachRefusal, IsDetachRefusedTo, IsStageOf, IsDestroyRefusal}
+use Rattle.name_registry.specs.Locking.{MayAttach, IsAttachRefusal, IsDetachRefusedTo, IsStageOf}
 use Rattle.name_registry.specs.Meeting.{is_inside, HasLearned, HasSeenAttach, HasSeenDetach}
 
 pub learned : (note : List Change) (x y : OnCpu) → HasHeardOn note x y → HasLearned x y
@@ -153,23 +152,11 @@ detach_refused k b x y key (Err f) is same = (detach_refusal k x key f is, same.
 
 -- Advancing and destroying
 
-pub met_stage : (z : Settings) (a b : OnKeeper) (t : ℕ) (stage : Stage) → MayWork z a t → Meets a t stage b → IsStageOf z stage
-met_stage z a b t (Grace c) may met = subst (λ (s : Settings). c < s.cpus) may.settings met.cpu
-met_stage z a b t (Passive c) may met = subst (λ (s : Settings). c < s.cpus) may.settings met.cpu
-met_stage z a b t (Local n) may met = met.some
-met_stage z a b t (Freed u) may met = subst (λ (v : ℕ). v < z.slots) (sym met.0) may.slot
-
 pub destroyed_slot : (z : Settings) (inside : Bool) (stage : Stage) → inside ≡ false → IsStageOf z stage → IfOk (destroyed stage) (λ t. (inside ≡ false) × (t < z.slots))
 destroyed_slot z inside (Grace c) out is = tt
 destroyed_slot z inside (Passive c) out is = tt
 destroyed_slot z inside (Local n) out is = tt
 destroyed_slot z inside (Freed t) out is = (out, is)
-
-pub destroyed_held : (z : Settings) (inside : Bool) (stage : Stage) → inside ≡ false → IsStageOf z stage → IfErr (destroyed stage) (λ f. IsDestroyRefusal z inside f)
-destroyed_held z inside (Grace c) out is = (out, is, tt)
-destroyed_held z inside (Passive c) out is = (out, is, tt)
-destroyed_held z inside (Local n) out is = (out, is, tt)
-destroyed_held z inside (Freed t) out is = tt
 
 -- Performing
 

@@ -135,23 +135,6 @@ exited_agrees z a t u x y c w d e ps ns our same last had =
     } in
     subst (λ (v : CpuView). IsOurCpu z a u v c (w + 1) 0 (record e { number = 0 }) ps ns) (sym had) there
 
--- an inner enter or exit is counted in the depth alone
-pub deeper_agrees : (z : TableId) (a : Settings) (t : TableId) (x : CpuView) (c w d n : ℕ) (e : Found) (ps ns : List Place)
-    → IsOurCpu z a t x c w d e ps ns → x.begin ≢ None → 0 < n → n ≤ 255 → IsOurCpu z a t x c w n e ps ns
-deeper_agrees z a t x c w d n e ps ns our some above below = record {
-  table = our.table;
-  settings = our.settings;
-  fit = our.fit;
-  id = our.id;
-  few = our.few;
-  section = our.section;
-  idle = our.idle;
-  depth = record { outside = (λ q. absurd (some q), λ (q : n ≡ 0). absurd (omega arith)); most = below };
-  found = our.found;
-  passive = our.passive;
-  net = our.net;
-}
-
 -- the pass grows, another entry may be the last found one, and a note may have been heard
 pub seen_agrees : (z : TableId) (a : Settings) (t u : TableId) (x y : CpuView) (c w d : ℕ) (e k : Found) (f : Option Entry) (ps ns : List Place) (h : List Change)
     → IsOurCpu z a t x c w d e ps ns → u ≡ t → IsPrefix x.pass y.pass → y ≡ record x { pass = y.pass; found = f; heard = h } → IsKept k f

@@ -1,7 +1,7 @@
 -- The words of a slot before its entry is published: a slot that is written stays vacant, and each store is a line more.
 use Rattle.std.proofs.Common.{◌≡◌, inl, inr, ⊎_elim, ℕ, ◌+◌, ◌<◌, ◌≤◌, List, [], ◌∷◌, ◌++◌, length, drop, get_or, set, replicate, refl, sym, ap, ◌∙◌, subst, arith, get_or-set_same, length-set}
 use Rattle.std.proofs.lemmas.Bool.{cases_lt}
-use Rattle.std.proofs.lemmas.List.{length-replicate, replicate_more, set-get_or, set-set, set_at, set_past, append_assoc, length-append, length-drop, get_or_append_left, get_or-replicate}
+use Rattle.std.proofs.lemmas.List.{length-replicate, replicate_more, set-set, set_at, set_past, append_assoc, length-append, length-drop, get_or_append_left, get_or-replicate}
 use Rattle.std.proofs.Math.Seq.{drop-cons}
 use Rattle.std.proofs.Math.Numerals.{add-one}
 use Rattle.passive_core.specs.declared.entry.Entry.{Entry}
@@ -83,9 +83,6 @@ biases_more row c lt =
     ap (λ (xs : List ℕ). set (replicate c bias ++ xs) c bias) next
     ∙ (set_at (replicate c bias) (get_or row c 0) (drop (c + 1) row) bias c (length-replicate c bias)
     ∙ (sym (append_assoc (replicate c bias) (bias ∷ []) (drop (c + 1) row)) ∙ ap (λ (xs : List ℕ). xs ++ drop (c + 1) row) (replicate_more c bias)))
-
-pub counts_first : (k : KeeperView) (t : ℕ) → k ≡ with_counts k t 0
-counts_first k t = ap (λ (counts : List (List ℕ)). record k { counts = counts }) (sym (set-get_or k.counts t []))
 
 counts_set : (k : KeeperView) (t c : ℕ) → t < length k.counts → c < length (get_or k.counts t []) → with_cell (with_counts k t c).counts t c bias ≡ (with_counts k t (c + 1)).counts
 counts_set k t c low lt =

@@ -138,11 +138,3 @@ rows_set a k l rows t r lt place agree here others = record {
       (λ (off : (u ≡ t → ⊥) × (row_at (set rows t r) u ≡ row_at rows u)). ap state_of off.1 ∙ agree.beyond u past)
       (place_cases no_row rows t r u (let size = agree.size in omega arith));
 }
-
--- all rows stay
-pub rows_stay : (a : Settings) (k l : KeeperView) (rows : List Row) → l.due ≡ Rest → l.settings ≡ k.settings → l.slots ≡ k.slots → l.marks ≡ k.marks → l.totals ≡ k.totals → l.keeps ≡ k.keeps → RowsAgree a k rows → RowsAgree a l rows
-rows_stay a k l rows rest settings slots marks totals keeps agree = record {
-  size = agree.size;
-  each = λ t lt. row_stays k l t (row_at rows t) rest settings (ap (λ x. slot_at x t) slots) (ap (λ x. get_or x t []) marks) (ap (λ x. total_at x t) totals) (ap (λ x. kept_at x t) keeps) (agree.each t lt);
-  beyond = agree.beyond;
-}

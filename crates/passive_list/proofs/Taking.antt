@@ -1,7 +1,7 @@
 -- The snapshots of all CPUs are taken, one after the other.
-use Rattle.std.proofs.Common.{◌≡◌, ⊎_elim, ℕ, ◌+◌, ◌<◌, ◌≤◌, true, false, nat_lt, if◌then◌else◌, List, [], get_or, set, replicate, refl, sym, ap, ◌∙◌, arith, get_or-set_same, get_or-set_other, length-set, lt-ltb, le-ltb}
+use Rattle.std.proofs.Common.{◌≡◌, ⊎_elim, ℕ, ◌+◌, ◌<◌, ◌≤◌, true, nat_lt, if◌then◌else◌, List, [], get_or, set, refl, sym, ap, ◌∙◌, arith, get_or-set_same, get_or-set_other, length-set, lt-ltb}
 use Rattle.std.proofs.lemmas.Bool.{cases_eq}
-use Rattle.std.proofs.lemmas.List.{set-get_or, set-set}
+use Rattle.std.proofs.lemmas.List.{set-set}
 use Rattle.passive_core.specs.declared.state.Due.{Due}
 use Rattle.passive_core.specs.declared.state.Due.TheVariants.{Rest, Snapshots}
 use Rattle.passive_core.specs.declared.state.Mark.{Mark}
@@ -9,7 +9,7 @@ use Rattle.passive_core.specs.Events.{snapshot_mark}
 use Rattle.passive_core.specs.State.{no_mark, with_cell}
 use Rattle.cpu_words.specs.declared.view.KeeperView.{KeeperView}
 use Rattle.cpu_words.specs.Grace.{HasSnapshot}
-use Rattle.passive_list.specs.Retiring.{AreFresh, AreSnapshots, with_snapshots}
+use Rattle.passive_list.specs.Retiring.{AreFresh, AreSnapshots}
 
 -- what is due before the snapshot of c
 abbrev pub due_before : ℕ → ℕ → ℕ → Due
@@ -18,14 +18,6 @@ due_before cpus t c = if nat_lt c cpus then Snapshots t c else Rest
 -- the marks so far are in the slot t
 abbrev pub taking : KeeperView → ℕ → ℕ → ℕ → List Mark → KeeperView
 taking k t cpus c marks = record k { marks = set k.marks t marks; due = due_before cpus t c }
-
-pub taking_first : (k : KeeperView) (t cpus : ℕ) → AreFresh k t → k.due ≡ Snapshots t 0 → 1 ≤ cpus → k ≡ taking k t cpus 0 (replicate 8 no_mark)
-taking_first k t cpus fresh due some =
-    let none : ℕ = 0 in
-    let test : nat_lt none cpus ≡ true = lt-ltb none cpus (omega (arith, some)) in
-    let first : due_before cpus t none ≡ Snapshots t none = rw (test) refl in
-    let marks : k.marks ≡ set k.marks t (replicate 8 no_mark) = sym (set-get_or k.marks t []) ∙ ap (set k.marks t) fresh.marks in
-    ap (λ (ms : List (List Mark)). record k { marks = ms }) marks ∙ ap (λ (d : Due). record k { marks = set k.marks t (replicate 8 no_mark); due = d }) (due ∙ sym first)
 
 pub due_is : (k l : KeeperView) (t cpus c : ℕ) (marks : List Mark) → l ≡ taking k t cpus c marks → c < cpus → l.due ≡ Snapshots t c
 due_is k l t cpus c marks at lt =
@@ -41,15 +33,6 @@ taking_next k l m t cpus c w marks fresh same at is =
     ∙ (ap (λ (ms : List (List Mark)). record k { marks = ms; due = due_before k.settings.cpus t (c + 1) }) here
     ∙ ap (λ (n : ℕ). record k { marks = set k.marks t (set marks c x); due = due_before n t (c + 1) }) (sym same)))
 
-pub taking_all : (k l : KeeperView) (t cpus c : ℕ) (marks : List Mark) → cpus ≤ c → l ≡ taking k t cpus c marks → l ≡ with_snapshots k t marks
-taking_all k l t cpus c marks past at =
-    let test : nat_lt c cpus ≡ false = le-ltb c cpus past in
-    let due : due_before cpus t c ≡ Rest = rw (test) refl in
-    at ∙ ap (λ (d : Due). record k { marks = set k.marks t marks; due = d }) due
-
-pub none_taken : AreSnapshots 0 (replicate 8 no_mark)
-none_taken = record { size = refl; each = λ c lt. absurd (omega (arith, lt)) }
-
 pub one_taken : (n w : ℕ) (marks : List Mark) → n < 8 → AreSnapshots n marks → AreSnapshots (n + 1) (set marks n (snapshot_mark w))
 one_taken n w marks few had = record {
   size = length-set marks n (snapshot_mark w) ∙ had.size;
@@ -58,6 +41,3 @@ one_taken n w marks few had = record {
       (λ (off : c ≡ n → ⊥). let was = had.each c (omega (arith, lt, off)) in (was.0, get_or-set_other marks n c (snapshot_mark w) no_mark off ∙ was.1))
       (cases_eq c n);
 }
-
-pub all_taken : (n m : ℕ) (marks : List Mark) → n ≤ m → AreSnapshots m marks → AreSnapshots n marks
-all_taken n m marks few had = record { size = had.size; each = λ c lt. had.each c (omega (arith, lt, few)) }

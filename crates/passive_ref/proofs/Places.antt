@@ -93,7 +93,3 @@ uncounted_here x ps t n e agree at attached off = ⊎_elim
     absurd (off (sym (ap (λ u. (place_at ps u).number) slot) ∙ its.2 ∙ one.number)))
     (λ (none : nat_lt 0 (references_to n x.references) ≡ false). let few = ltb-false 0 (references_to n x.references) none in omega (arith, few))
     (cases_Bool (nat_lt 0 (references_to n x.references)))
-
--- what the CPU refers to has references
-pub held_some : (x : CpuView) (n t : ℕ) → IsHeldAt x t n → 0 < references_to n x.references
-held_some x n t held = counts x.references held.entry n held.held held.at.number

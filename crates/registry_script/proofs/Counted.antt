@@ -1,23 +1,21 @@
 -- Local references: the registry that the session shows answers and changes as the core does.
-use Rattle.std.proofs.Common.{◌≡◌, ℕ, ◌+◌, ◌-◌, ◌<◌, ◌≤◌, ◌⊎◌, inl, inr, ⊎_elim, List, [], length, length-set, get_or, set, get_or-set_same, get_or-set_other, Option, Some, None, Bool, true, false, not, is_some, nat_lt, refl, sym, ap, subst, ◌∙◌, arith, sum_by}
+use Rattle.std.proofs.Common.{◌≡◌, ℕ, ◌+◌, ◌-◌, ◌<◌, ◌≤◌, ◌⊎◌, inl, inr, ⊎_elim, List, [], length, get_or, set, get_or-set_same, get_or-set_other, Option, Some, None, Bool, true, false, not, is_some, nat_lt, refl, sym, ap, subst, ◌∙◌, arith, sum_by}
 use Rattle.std.specs.Prelude.{if◌then◌else◌, Result, Ok, Err}
 use Rattle.std.proofs.lemmas.Bool.{cases_Bool, cases_eq, cases_lt, lt-ltb, le-ltb}
-use Rattle.std.proofs.lemmas.Option.{none-some, same_Some}
+use Rattle.std.proofs.lemmas.Option.{none-some}
 use Rattle.passive_core.specs.declared.entry.Entry.{Entry}
-use Rattle.passive_core.specs.declared.entry.Record.{Record}
 use Rattle.passive_core.specs.declared.refusal.Refusal.{Refusal}
 use Rattle.passive_core.specs.declared.refusal.Refusal.TheVariants.{LocalFull, NoMemory, NothingFound}
 use Rattle.passive_core.specs.declared.state.LocalPlace.{LocalPlace}
 use Rattle.passive_core.specs.declared.state.LocalPlace.TheVariants.{Free, Standing}
 use Rattle.passive_core.specs.State.{State, bias, count_at, found_at, local_at, slot_at, total_at, with_cell}
 use Rattle.passive_core.specs.Slots.{slot_of}
-use Rattle.passive_core.specs.Commands.{IsQuiet, all_seated}
+use Rattle.passive_core.specs.Commands.{all_seated}
 use Rattle.passive_core.specs.Events.{least_id, standing, with_local}
 use Rattle.passive_core.specs.Invariant.{Holds, IsIn, SlotsShow, standing_of}
-use Rattle.passive_core.specs.Locals.{IsCounted, after_acquire_local, after_counting, after_release_local, count_in, count_refusal, is_counting, is_live_local, local_slot, with_count_less, with_count_more, with_total_less}
+use Rattle.passive_core.specs.Locals.{IsCounted, after_acquire_local, after_counting, after_release_local, count_in, count_refusal, is_counting, local_slot, with_count_less, with_count_more, with_total_less}
 use Rattle.passive_core.specs.Model.{put, with_locals}
-use Rattle.passive_core.specs.Passives.{IsRecordOf}
-use Rattle.passive_core.proofs.Cells.{by_cell, by_place, cell_here, cell_other, one_in}
+use Rattle.passive_core.proofs.Cells.{by_cell, cell_here, cell_other, one_in}
 use Rattle.passive_core.proofs.CountKeeps.{held_counting}
 use Rattle.passive_core.proofs.Fit.{ranges}
 use Rattle.passive_core.proofs.History.{at_within}
@@ -28,13 +26,11 @@ use Rattle.passive_core.proofs.Passives.{found_slot}
 use Rattle.passive_core.proofs.Picturing.{put_here, put_is, put_other}
 use Rattle.passive_core.proofs.References.{least_free, least_within, standing_tells, with_local_other, with_local_same}
 use Rattle.passive_core.proofs.Sums.{local_added, local_changed, none_at, one_at, standing_within}
-use Rattle.registry_script.specs.declared.report.session.Reading.{Reading}
-use Rattle.registry_script.specs.Answers.{count_answer, counted, hitched, may_count, peek_answer, reading, uncount_answer, unless, with_label}
+use Rattle.registry_script.specs.Answers.{counted, may_count, uncount_answer, unless, with_label}
 use Rattle.registry_script.specs.Registry.{Registry}
 use Rattle.registry_script.specs.Session.{IsSession, SessionState}
 use Rattle.registry_script.specs.Shows.{Shows, ShowsTallies, number_at}
 use Rattle.registry_script.specs.Turns.{counting, put_at, uncounted}
-use Rattle.registry_script.proofs.Referred.{at_free_label, read_of, reading_is}
 
 -- In general
 
@@ -190,13 +186,6 @@ pub counted_is : (s : SessionState) (r : Registry) (c : ℕ) → Holds s.core �
     → counted r c (r.model.found c) ≡ unless (count_refusal s.core c (found_at s.core c)) (found_number (found_at s.core c))
 counted_is s r c holds on low = ap (counted r c) (on.model.last_found c) ∙ counted_by s r c (found_at s.core c) holds on low refl
 
--- a count for a free label
-pub count_answers : (s : SessionState) (r : Registry) (c x : ℕ) → Holds s.core → Shows s r → c < s.core.settings.cpus → get_or s.locals x None ≡ None
-    → count_answer r c x ≡ hitched (unless (count_refusal s.core c (found_at s.core c)) (found_number (found_at s.core c)))
-count_answers s r c x holds on low free =
-    at_free_label (r.local_labels x) (hitched (counted r c (r.model.found c))) (on.labels.local x ∙ ap (number_at s.core.locals) free)
-    ∙ ap hitched (counted_is s r c holds on low)
-
 -- what was found where the count isn't refused
 found_from : (s : State) (c : ℕ) (o : Option Entry) → count_refusal s c o ≡ None → (e : Entry) × (o ≡ Some e)
 found_from s c None is = absurd (none-some NothingFound (sym is))
@@ -224,12 +213,6 @@ label_is s r x id n on at live = on.labels.local x ∙ (ap (number_at s.core.loc
 
 pub label_none : (s : SessionState) (r : Registry) (x : ℕ) → Shows s r → get_or s.locals x None ≡ None → r.local_labels x ≡ None
 label_none s r x on at = on.labels.local x ∙ ap (number_at s.core.locals) at
-
-pub peek_answers : (s : SessionState) (r : Registry) (x id n : ℕ) (rec : Record) → Shows s r → get_or s.locals x None ≡ Some id → standing (local_at s.core.locals id) ≡ Some n → IsRecordOf s.core.history n rec
-    → peek_answer r x ≡ Ok (read_of n rec)
-peek_answers s r x id n rec on at live is =
-    ap (λ (o : Option ℕ). with_label o (λ m. Ok (reading r m))) (label_is s r x id n on at live)
-    ∙ ap (λ (v : Reading). Ok v) (sym (reading_is s r n rec on is))
 
 pub uncount_answers : (s : SessionState) (r : Registry) (x id n : ℕ) → Shows s r → get_or s.locals x None ≡ Some id → standing (local_at s.core.locals id) ≡ Some n → uncount_answer r x ≡ Ok n
 uncount_answers s r x id n on at live = ap (λ (o : Option ℕ). with_label o (λ m. Ok m)) (label_is s r x id n on at live)
@@ -264,39 +247,6 @@ labels_added places ids labels x n within live shows =
     (λ y off. shows y ∙ (number_stays places now (get_or ids y None) (λ id at. stays_added places (Standing n) id (live y id at))
     ∙ ap (number_at now) (sym (get_or-set_other ids x y (Some (least_id places)) None off))))
 
-live_added : (places : List LocalPlace) (ids : List (Option ℕ)) (x n : ℕ) → x < length ids → AreLive places ids → AreLive (with_local places (least_id places) (Standing n)) (set ids x (Some (least_id places)))
-live_added places ids x n within live y = by_place (λ y. (id : ℕ) → get_or (set ids x (Some (least_id places))) y None ≡ Some id → is_some (standing (local_at (with_local places (least_id places) (Standing n)) id)) ≡ true) x y
-    (λ id at.
-    let same : least_id places ≡ id = same_Some (least_id places) id (sym (get_or-set_same ids x (Some (least_id places)) None within) ∙ at) in
-    ap (λ (p : LocalPlace). is_some (standing p)) (ap (local_at (with_local places (least_id places) (Standing n))) (sym same) ∙ with_local_same places (least_id places) (Standing n) (least_within places)))
-    (λ off id at.
-    let was = live y id (sym (get_or-set_other ids x y (Some (least_id places)) None off) ∙ at) in
-    ap (λ (p : LocalPlace). is_some (standing p)) (stays_added places (Standing n) id was) ∙ was)
-
--- a label for a fresh id stays apart from the others
-new_label : (places : List LocalPlace) (ids : List (Option ℕ)) (x y id : ℕ) → x < length ids → AreLive places ids → get_or (set ids x (Some (least_id places))) x None ≡ Some id → get_or (set ids x (Some (least_id places))) y None ≡ Some id → (y ≡ x → ⊥) → ⊥
-new_label places ids x y id within live here there off =
-    let same : least_id places ≡ id = same_Some (least_id places) id (sym (get_or-set_same ids x (Some (least_id places)) None within) ∙ here) in
-    least_dead places id (live y id (sym (get_or-set_other ids x y (Some (least_id places)) None off) ∙ there)) (sym same)
-
-apart_added : (places : List LocalPlace) (ids : List (Option ℕ)) (x : ℕ) → x < length ids → AreLive places ids → AreApart ids → AreApart (set ids x (Some (least_id places)))
-apart_added places ids x within live apart y z id first second = ⊎_elim
-    (λ (a : y ≡ x). ⊎_elim
-    (λ (b : z ≡ x). a ∙ sym b)
-    (λ (b : z ≡ x → ⊥). absurd (new_label places ids x z id within live (ap (λ (k : ℕ). get_or (set ids x (Some (least_id places))) k None) (sym a) ∙ first) second b))
-    (cases_eq z x))
-    (λ (a : y ≡ x → ⊥). ⊎_elim
-    (λ (b : z ≡ x). absurd (new_label places ids x y id within live (ap (λ (k : ℕ). get_or (set ids x (Some (least_id places))) k None) (sym b) ∙ second) first a))
-    (λ (b : z ≡ x → ⊥). apart y z id (sym (get_or-set_other ids x y (Some (least_id places)) None a) ∙ first) (sym (get_or-set_other ids x z (Some (least_id places)) None b) ∙ second))
-    (cases_eq z x))
-    (cases_eq y x)
-
--- a label that is emptied
-emptied_else : (ids : List (Option ℕ)) (x y id : ℕ) → x < length ids → get_or (set ids x None) y None ≡ Some id → (y ≡ x → ⊥) × (get_or ids y None ≡ Some id)
-emptied_else ids x y id within at =
-    let off : y ≡ x → ⊥ = λ same. none-some id (sym (get_or-set_same ids x None None within) ∙ (ap (λ (k : ℕ). get_or (set ids x None) k None) (sym same) ∙ at)) in
-    (off, sym (get_or-set_other ids x y None None off) ∙ at)
-
 -- another label's reference stays where this one's is given up
 stays_removed : (places : List LocalPlace) (ids : List (Option ℕ)) (x id y k : ℕ) → get_or ids x None ≡ Some id → AreApart ids → (y ≡ x → ⊥) → get_or ids y None ≡ Some k → local_at (set places id Free) k ≡ local_at places k
 stays_removed places ids x id y k here apart off at = get_or-set_other places id k Free Free (λ same. off (apart y x id (at ∙ ap (λ (j : ℕ). Some j) same) here))
@@ -307,14 +257,6 @@ labels_removed places ids labels x id within here apart shows = put_is labels (�
     (sym (ap (number_at (set places id Free)) (get_or-set_same ids x None None within)))
     (λ y off. shows y ∙ (number_stays places (set places id Free) (get_or ids y None) (λ k at. stays_removed places ids x id y k here apart off at)
     ∙ ap (number_at (set places id Free)) (sym (get_or-set_other ids x y None None off))))
-
-live_removed : (places : List LocalPlace) (ids : List (Option ℕ)) (x id : ℕ) → x < length ids → get_or ids x None ≡ Some id → AreLive places ids → AreApart ids → AreLive (set places id Free) (set ids x None)
-live_removed places ids x id within here live apart y k at =
-    let was = emptied_else ids x y k within at in
-    ap (λ (p : LocalPlace). is_some (standing p)) (stays_removed places ids x id y k here apart was.0 was.1) ∙ live y k was.1
-
-apart_removed : (ids : List (Option ℕ)) (x : ℕ) → x < length ids → AreApart ids → AreApart (set ids x None)
-apart_removed ids x within apart y z id first second = apart y z id (emptied_else ids x y id within first).1 (emptied_else ids x z id within second).1
 
 -- What is left
 
@@ -488,61 +430,3 @@ release_local_shows s r c x id n session on low within label live =
     λ i. if sym by i then with_count_less (all_seated s.core) c id (sym slot i) else with_total_less (all_seated s.core) id (sym slot i) in
     subst (λ (core : State). Shows (record s { core = core; locals = set s.locals x None }) (uncounted r c x n)) after
     (less_by s r c x id n of.0 (r.drained n) session on low within label (standing_tells (local_at s.core.locals id) n live) of.1 refl)
-
--- Sessions
-
--- with another reference the labels still stand for live ones, and no two for one
-pub acquire_local_live : (s : SessionState) (c x : ℕ) (e : Entry) → IsSession s → x < length s.locals → found_at s.core c ≡ Some e
-    → (y id : ℕ) → get_or (set s.locals x (Some (least_id s.core.locals))) y None ≡ Some id → is_live_local (after_counting s.core c (found_at s.core c)) id ≡ true
-acquire_local_live s c x e session within found =
-    let at = found_slot s.core c e session.holds found in
-    subst (λ (o : Option Entry). (y id : ℕ) → get_or (set s.locals x (Some (least_id s.core.locals))) y None ≡ Some id → is_live_local (after_counting s.core c o) id ≡ true) (sym found)
-    (subst (λ (o : Option ℕ). (y id : ℕ) → get_or (set s.locals x (Some (least_id s.core.locals))) y None ≡ Some id → is_live_local (with_count_more s.core c e.number o) id ≡ true) (sym at.1)
-    (live_added s.core.locals s.locals x e.number within session.live))
-
-pub acquire_local_apart : (s : SessionState) (x : ℕ) → IsSession s → x < length s.locals
-    → (y z id : ℕ) → get_or (set s.locals x (Some (least_id s.core.locals))) y None ≡ Some id → get_or (set s.locals x (Some (least_id s.core.locals))) z None ≡ Some id → y ≡ z
-acquire_local_apart s x session within = apart_added s.core.locals s.locals x within session.live session.apart
-
--- the places after a release, however it is counted
-released_places : (s : SessionState) (c id t : ℕ) (b : Bool) → (if b then with_count_less (all_seated s.core) c id (Some t) else with_total_less (all_seated s.core) id (Some t)).locals ≡ set s.core.locals id Free
-released_places s c id t true = refl
-released_places s c id t false = refl
-
-places_released : (s : SessionState) (c id n : ℕ) → Holds s.core → standing (local_at s.core.locals id) ≡ Some n → (after_release_local s.core c id).locals ≡ set s.core.locals id Free
-places_released s c id n holds live =
-    let of = live_slot s.core id n holds live in
-    ap (λ (o : Option ℕ). (if is_counting s.core c (local_slot s.core id) then with_count_less (all_seated s.core) c id o else with_total_less (all_seated s.core) id o).locals) (slot_is s.core id n of.0 live of.1)
-    ∙ released_places s c id of.0 (is_counting s.core c (local_slot s.core id))
-
-pub release_local_live : (s : SessionState) (c x id n : ℕ) → IsSession s → x < length s.locals → get_or s.locals x None ≡ Some id → standing (local_at s.core.locals id) ≡ Some n
-    → (y k : ℕ) → get_or (set s.locals x None) y None ≡ Some k → is_live_local (after_release_local s.core c id) k ≡ true
-release_local_live s c x id n session within label live =
-    subst (λ (places : List LocalPlace). AreLive places (set s.locals x None)) (sym (places_released s c id n session.holds live))
-    (live_removed s.core.locals s.locals x id within label session.live session.apart)
-
-pub release_local_apart : (s : SessionState) (x : ℕ) → IsSession s → x < length s.locals
-    → (y z id : ℕ) → get_or (set s.locals x None) y None ≡ Some id → get_or (set s.locals x None) z None ≡ Some id → y ≡ z
-release_local_apart s x session within = apart_removed s.locals x within session.apart
-
-pub acquire_local_session : (s : SessionState) (c x : ℕ) (e : Entry) → IsSession s → x < length s.locals → found_at s.core c ≡ Some e → Holds (after_counting s.core c (found_at s.core c)) → IsQuiet (after_counting s.core c (found_at s.core c))
-    → IsSession (record s { core = after_counting s.core c (found_at s.core c); locals = set s.locals x (Some (least_id s.core.locals)) })
-acquire_local_session s c x e session within found holds quiet = record {
-  holds = holds;
-  quiet = quiet;
-  passive_labels = session.passive_labels;
-  local_labels = length-set s.locals x (Some (least_id s.core.locals)) ∙ session.local_labels;
-  live = acquire_local_live s c x e session within found;
-  apart = acquire_local_apart s x session within;
-}
-
-pub release_local_session : (s : SessionState) (c x id n : ℕ) → IsSession s → x < length s.locals → get_or s.locals x None ≡ Some id → standing (local_at s.core.locals id) ≡ Some n → Holds (after_release_local s.core c id) → IsQuiet (after_release_local s.core c id)
-    → IsSession (record s { core = after_release_local s.core c id; locals = set s.locals x None })
-release_local_session s c x id n session within label live holds quiet = record {
-  holds = holds;
-  quiet = quiet;
-  passive_labels = session.passive_labels;
-  local_labels = length-set s.locals x None ∙ session.local_labels;
-  live = release_local_live s c x id n session within label live;
-  apart = release_local_apart s x session within;
-}

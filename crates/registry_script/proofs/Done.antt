@@ -1,5 +1,5 @@
 -- What a call of a session gave and left, from what the core's call did: `v` is the session as its callers see it, `k` the core afterwards.
-use Rattle.std.proofs.Common.{◌≡◌, ℕ, ◌<◌, Option, Bool, true, false, refl, sym, ap, subst, ◌∙◌}
+use Rattle.std.proofs.Common.{◌≡◌, ℕ, ◌<◌, Option, Bool, true, refl, sym, ap, subst, ◌∙◌}
 use Rattle.std.specs.Prelude.{IfOk, Result, Ok, Err}
 use Rattle.passive_core.specs.declared.entry.Entry.{Entry}
 use Rattle.passive_core.specs.declared.entry.Record.{Record}
@@ -22,7 +22,6 @@ use Rattle.passive_core.specs.Performing as performing
 use Rattle.passive_core.specs.Performing.{PerformLeaves}
 use Rattle.passive_core.specs.State.{State, slot_at}
 use Rattle.registry_script.specs.declared.report.hitch.Hitch.{Hitch}
-use Rattle.registry_script.specs.declared.report.hitch.Hitch.TheVariants.{NotInside}
 use Rattle.registry_script.specs.Answers.{advance_answer, attach_answer, destroy_answer, detach_answer, enter_answer, exit_answer, find_answer, hitched, perform_answer}
 use Rattle.registry_script.specs.Given.{Gives, Leaves}
 use Rattle.registry_script.specs.Registry.{Registry}
@@ -33,7 +32,7 @@ use Rattle.registry_script.proofs.Changed.{attach_done, detach_done}
 use Rattle.registry_script.proofs.Giving.{gives, leaves}
 use Rattle.registry_script.proofs.Sessions.{detached_locals}
 use Rattle.registry_script.proofs.Staged.{advance_answers, advance_shows, destroy_answers, destroy_shows, perform_answers, perform_shows}
-use Rattle.registry_script.proofs.Walked.{enter_done, exit_inside, exit_outside, find_inside, find_outside}
+use Rattle.registry_script.proofs.Walked.{enter_done, exit_inside, find_inside}
 
 -- a call gave what is due and left what shows the registry
 abbrev pub Does : {X : Type 0} → Result X Hitch → Result X Hitch → SessionState → Registry → Type 0
@@ -100,21 +99,11 @@ perform_does s v k r c result given view on told due left =
 
 -- Exits and lookups
 
-pub exit_refused : (s v : SessionState) (r : Registry) (c : ℕ) → s ≡ v → Shows v r → events.is_inside s.core c ≡ false → Does {X = Bool} (Err NotInside) (exit_answer r c) v (on_ok r (exit_answer r c) (exited r c))
-exit_refused s v r c view on out =
-    let does = exit_outside s r c (seen s v r view on) out in
-    (does.0, subst (λ (x : SessionState). Shows x (on_ok r (exit_answer r c) (exited r c))) view does.1)
-
 pub exit_does : (s v : SessionState) (k : State) (r : Registry) (c : ℕ) (stays : Bool) → s ≡ v → IsSession s → Shows v r → c < s.core.settings.cpus → events.is_inside s.core c ≡ true → k ≡ after_exit_command s.core c → stays ≡ events.is_inside k c
     → Does (Ok stays) (exit_answer r c) (with_core s k) (on_ok r (exit_answer r c) (exited r c))
 exit_does s v k r c stays view is on low in_ left open_ =
     let does = exit_inside s r c stays is.holds (seen s v r view on) low in_ (open_ ∙ ap (λ (x : State). events.is_inside x c) left) in
     (does.0, subst (λ (x : State). Shows (with_core s x) (on_ok r (exit_answer r c) (exited r c))) (sym left) does.1)
-
-pub find_refused : (s v : SessionState) (r : Registry) (c : ℕ) (key : Key) → s ≡ v → Shows v r → events.is_inside s.core c ≡ false → Does {X = Option Entry} (Err NotInside) (find_answer r c key) v (on_ok r (find_answer r c key) (looked_up r c))
-find_refused s v r c key view on out =
-    let does = find_outside s r c key (seen s v r view on) out in
-    (does.0, subst (λ (x : SessionState). Shows x (on_ok r (find_answer r c key) (looked_up r c))) view does.1)
 
 pub find_does : (s v : SessionState) (k : State) (r : Registry) (c : ℕ) (key : Key) (found : Option Entry) → s ≡ v → IsSession s → Shows v r → c < s.core.settings.cpus → events.is_inside s.core c ≡ true → IsLookupNow s.core key found
     → k ≡ after_find (all_seated s.core) c found → Does (Ok found) (find_answer r c key) (with_core s k) (on_ok r (find_answer r c key) (looked_up r c))

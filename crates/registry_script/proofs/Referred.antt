@@ -21,7 +21,7 @@ use Rattle.passive_core.specs.Passives as core
 use Rattle.passive_core.specs.Passives.{Answers, IsRecordOf, acquired, copied, passive_of, refusal_of, with_one_less, with_one_more}
 use Rattle.passive_core.proofs.Passives.{counted_less, counted_more}
 use Rattle.registry_script.specs.declared.report.hitch.Hitch.{Hitch}
-use Rattle.registry_script.specs.declared.report.hitch.Hitch.TheVariants.{LabelTaken, NoLabel}
+use Rattle.registry_script.specs.declared.report.hitch.Hitch.TheVariants.{LabelTaken}
 use Rattle.registry_script.specs.declared.report.session.Reading.{Reading}
 use Rattle.registry_script.specs.Answers.{acquire_answer, copy_answer, held_answer, hitched, if_free, misuse, one_more, read_answer, reading, reference_answer, release_answer, unless, with_label}
 use Rattle.registry_script.specs.Changes.{value_in, value_of}
@@ -48,10 +48,6 @@ pub answers_image : {X Y : Type 0} (refusal : Option Refusal) (P : X → Type 0)
     → Answers refusal P result → ((x : X) → P x → f x ≡ y) → image f result ≡ unless refusal (Ok y)
 answers_image {X} {Y} refusal P f y (Ok x) is one = ap (λ (v : Y). Ok v) (one x is.1) ∙ ap (λ (o : Option Refusal). unless o (Ok y)) (sym is.0)
 answers_image {X} {Y} refusal P f y (Err e) is one = ap (λ (o : Option Refusal). unless o (Ok y)) (sym is)
-
--- functions that agree still do with one value put
-pub put_agrees : {X : Type 0} (f g : ℕ → X) (i : ℕ) (x y : X) → ((j : ℕ) → f j ≡ g j) → x ≡ y → (j : ℕ) → put f i x j ≡ put g i y j
-put_agrees f g i x y same value j = λ k. put (λ n. same n k) i (value k) j
 
 pub put_both : {X : Type 0} (f g : ℕ → ℕ → X) (c n : ℕ) (x y : X) → ((d m : ℕ) → f d m ≡ g d m) → x ≡ y → (d m : ℕ) → put f c (put (f c) n x) d m ≡ put g c (put (g c) n y) d m
 put_both f g c n x y same value d m = λ k. put (λ i. λ j. same i j k) c (put (λ j. same c j k) n (value k)) d m
@@ -255,9 +251,6 @@ passive_label_is s r a o on at = on.labels.passive a ∙ at
 pub at_label : {L X : Type 0} (label : Option L) (l : L) (f : L → Result X Hitch) → label ≡ Some l → with_label label f ≡ f l
 at_label {L} label l f is = ap (λ (o : Option L). with_label o f) is
 
-pub at_no_label : {L X : Type 0} (label : Option L) (f : L → Result X Hitch) → label ≡ None → with_label label f ≡ Err NoLabel
-at_no_label {L} label f is = ap (λ (o : Option L). with_label o f) is
-
 pub at_free_label : {L X : Type 0} (label : Option L) (answer : Result X Hitch) → label ≡ None → if_free label answer ≡ answer
 at_free_label {L} label answer is = ap (λ (o : Option L). if_free o answer) is
 
@@ -313,19 +306,7 @@ more_places : (s : State) (c : ℕ) (o : Option ℕ) → (with_one_more s c o).l
 more_places s c None = refl
 more_places s c (Some t) = refl
 
-less_places : (s : State) (c : ℕ) (o : Option ℕ) → (with_one_less s c o).locals ≡ s.locals
-less_places s c None = refl
-less_places s c (Some t) = refl
-
 -- the commands on passive references leave the local ones
 pub acquire_places : (s : State) (c : ℕ) (result : Result CorePsref Refusal) → (core.after_acquire s c result).locals ≡ s.locals
 acquire_places s c (Ok p) = more_places s c (slot_of s.slots p.number)
 acquire_places s c (Err f) = refl
-
-pub release_places : {X : Type 0} (s : State) (c n : ℕ) (result : Result X Refusal) → (core.after_release s c n result).locals ≡ s.locals
-release_places s c n (Ok x) = less_places s c (slot_of s.slots n)
-release_places s c n (Err f) = refl
-
-pub read_places : {X : Type 0} (s : State) (result : Result X Refusal) → (core.after_read s result).locals ≡ s.locals
-read_places s (Ok x) = refl
-read_places s (Err f) = refl

@@ -30,10 +30,6 @@ pub report_stopped : (a b c : Option (List ℕ)) (whole : List ℕ) (r : Registr
 report_stopped a b c whole r ks i d text h done is more =
     written_prefix a b c whole (text_of r (get_or ks i d)) (report_from (after r (get_or ks i d)) (drop (i + 1) ks)) (rw (report_at r ks i d h) at done) (rw is at more)
 
--- what is written so far is a prefix
-pub report_so_far : (a b : Option (List ℕ)) (whole rest : List ℕ) → Written a b whole rest → AppendsPrefix a b whole
-report_so_far a b whole rest done = (rest, done)
-
 -- no command is left
 pub report_done : (a b : Option (List ℕ)) (whole : List ℕ) (r : Registry) (ks : List Command) (i : ℕ) → length ks ≤ i → Written a b whole (report_from r (drop i ks)) → Appends a b whole
 report_done a b whole r ks i h done = written_all a b whole (rw (drop_of_length-le ks h, report_nil r) at done)

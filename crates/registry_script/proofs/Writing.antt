@@ -5,7 +5,7 @@ use Rattle.std.specs.Io.KnownBytes.{Appends, Keeps}
 use Rattle.std.specs.Prelude.{codes}
 use Rattle.std.specs.Fmt.{decimal, signed_decimal}
 use Rattle.passive_core.specs.Audits.{Tally}
-use Rattle.registry_script.specs.Lines.{audit_text, balance_line, balance_lines, spaced, spelled}
+use Rattle.registry_script.specs.Lines.{balance_line, balance_lines, spaced, spelled}
 use Rattle.registry_script.specs.Written.{Written, AppendsPrefix}
 
 pub appends_none : (a : Option (List ℕ)) → Appends a a []
@@ -72,10 +72,6 @@ spaced_step xs i d below = rw (take_more xs i d below, map-append) (spaced_appen
 
 pub lines_step : {X : Type 0} (f : X → Tally) (xs : List X) (i : ℕ) (d : X) → i < length xs → balance_lines (map f (take (i + 1) xs)) ≡ balance_lines (map f (take i xs)) ++ balance_line (f (get_or xs i d))
 lines_step f xs i d below = rw (take_more xs i d below, map-append) (lines_append (map f (take i xs)) (f (get_or xs i d)))
-
-pub audit_is : {X : Type 0} (f : X → Tally) (xs : List X) → (xs ≡ [] → ⊥) → audit_text (map f xs) ≡ balance_lines (map f xs)
-audit_is f [] some = absurd (some refl)
-audit_is f (x ∷ xs) some = refl
 
 pub balance_is : (t : Tally) → balance_line t ≡ codes "slot " ++ (decimal t.slot ++ (codes " number " ++ (decimal t.number ++ (codes " held " ++ (signed_decimal t.held ++ (codes " locals" ++ (spaced (map signed_decimal t.locals) ++ (codes " total " ++ (signed_decimal t.total ++ (10 ∷ []))))))))))
 balance_is t = ap (λ (z : List ℕ). codes "slot " ++ (decimal t.slot ++ (codes " number " ++ (decimal t.number ++ (codes " held " ++ (signed_decimal t.held ++ (32 ∷ z)))))))
