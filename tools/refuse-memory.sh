@@ -4,16 +4,20 @@
 #
 # The merge gate can't refuse memory, so it doesn't run this; run it by hand after a change of what allocates. Without arguments it goes
 # over each crate that has memory tests; else over the crates named.
-# Each test runs in a process of its own, with a count of its own, and notes a refusal that it met. A run without a
-# note, after one with a note, is past the last allocation of every test.
+# Each test runs in a process of its own, with a count of its own, and notes a refusal that it met. Some refusals meet nobody: a list that is
+# collected and is refused room for as many as it expects asks again, for one. Such come few in a row, so many runs without a note are past the
+# last allocation of every test.
 set -u
 cd "$(dirname "$0")/../crates" || exit 2
-[[ $# -gt 0 ]] || set -- passive_core name_registry script_tests
+[[ $# -gt 0 ]] || set -- core_tests name_registry script_tests
+
+# More than the refusals in a row that meet nobody.
+many=16
 
 # One crate, in whose folder this runs.
 refuse() {
-    local met=0 n output notes
-    for ((n = 1; ; n++)); do
+    local met=0 last=0 n output notes
+    for ((n = 1; n <= last + many; n++)); do
         output=$(rt try --test --fail-alloc "$n" -- memory_tests 2>&1)
         if [[ $? -ne 0 || $output != *"test result: ok"* ]]; then
             printf '%s\n' "$output"
@@ -21,17 +25,17 @@ refuse() {
             return 1
         fi
         notes=$(grep -B 1 'refused memory: ' <<<"$output" | grep -v '^--$')
-        if [[ -z $notes ]]; then
-            break
+        if [[ -n $notes ]]; then
+            last=$n
+            met=$((met + 1))
+            printf '%s, allocation %s\n%s\n' "$1" "$n" "$notes"
         fi
-        met=$n
-        printf '%s, allocation %s\n%s\n' "$1" "$n" "$notes"
     done
     if [[ $met -eq 0 ]]; then
         echo "$1: no allocation was refused"
         return 1
     fi
-    echo "$1: allocations refused: $met, and every test passed"
+    echo "$1: allocations refused: $met, the last the ${last}th, and every test passed"
 }
 
 for crate in "$@"; do
