@@ -7,6 +7,9 @@
 #include <stdlib.h>
 #include <time.h>
 
+/* How many times fewer operations a thread makes before it is timed. By then the scheduler has given each thread a processor. */
+enum { WARMING = 3 };
+
 /* What one thread of a run is given, and when it began and ended. */
 struct work {
     const struct contender *contender;
@@ -50,6 +53,7 @@ static void *run(void *argument)
     struct work *work = argument;
 
     work->contender->begin(work->number);
+    work->make(work->number, work->plan->operations / WARMING);
     meet(work->plan->threads);
     work->began = now();
     work->right = work->make(work->number, work->plan->operations);

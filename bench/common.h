@@ -31,14 +31,16 @@ struct contender {
 extern const struct contender hand_padded;
 extern const struct contender hand_packed;
 extern const struct contender hand_pointed;
+extern const struct contender hand_kept;
 extern const struct contender urcu_memb;
 extern const struct contender urcu_mb;
 extern const struct contender epoch;
 extern const struct contender rwlock;
 extern const struct contender mutex;
 
-/* Makes the operations in all threads of the plan at once: each begins when all have come. It answers the nanoseconds that one takes its thread: the time from the first
-   thread's first operation to the last thread's last, over the operations of one thread. An operation that went wrong ends the program. */
+/* Makes the operations in all threads of the plan at once: each makes some that don't count, and begins when all have. It answers the
+   nanoseconds that one takes its thread: the time from the first thread's first operation to the last thread's last, over the operations of
+   one thread. An operation that went wrong ends the program. */
 double nanoseconds_each(const struct contender *contender, operations *make, const struct plan *plan);
 
 /* Ends the program, with status 1. */

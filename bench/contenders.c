@@ -6,7 +6,7 @@
 #include <string.h>
 
 static const struct contender *const contenders[] = {
-    &hand_padded, &hand_packed, &hand_pointed, &urcu_memb, &urcu_mb, &epoch, &rwlock, &mutex,
+    &hand_padded, &hand_packed, &hand_pointed, &hand_kept, &urcu_memb, &urcu_mb, &epoch, &rwlock, &mutex,
 };
 
 enum { CONTENDERS = sizeof contenders / sizeof contenders[0] };

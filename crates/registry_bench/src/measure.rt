@@ -24,6 +24,9 @@ use std::{io, thread};
 /// How often a thread yields at most while it waits for the others.
 const PATIENCE: u32 = 1_000_000;
 
+/// How many times fewer operations a thread makes before it is timed. By then the scheduler has given each thread a processor.
+const WARMING: u32 = 3;
+
 /// What a thread, or all of them, did: how many operations went as they should, and when the first began and the last ended.
 #[derive(Clone, Copy)]
 pub struct Ran {
@@ -82,32 +85,45 @@ fn measure_on<D: Domain + Send + Sync, R: Threads + Wait + Clock + Sync>(
     let names = publish_all(alloc, words, &mut keeper)?;
     let cpus = cpus_of::<D>(alloc, words, seats)?;
     let threads = cpus.len() as u64;
-    let come = AtomicU64::new(0);
+    let gate = Gate::new(threads);
     let all = thread::map_vec(
         rt,
         cpus,
         &|cpu: Cpu<D>| -> io::Result<Ran>
             requires { (words.now.table ≡ D.table) × (words.now.settings ≡ D.settings) }
-        {
-            meet(&come, threads);
-            run(rt, words, cpu, &names, operation, count)
-        },
+        { run(rt, words, cpu, &names, operation, count, &gate) },
     )?;
     together(all)
 }
 
-/// Waits until all threads have come, so that they begin at once; not for ever, since where no thread can be made they come one by one.
-fn meet(come: &AtomicU64, threads: u64) {
-    come.fetch_add(1, SeqCst);
-    for _ in 0..PATIENCE {
-        if come.load(SeqCst) >= threads {
-            return;
+/// Where the threads of a run wait for one another, so that they begin at once.
+#[derive(Drop)]
+struct Gate {
+    come: AtomicU64,
+    threads: u64,
+}
+
+impl Gate {
+    fn new(threads: u64) -> Gate {
+        Gate {
+            come: AtomicU64::new(0),
+            threads,
         }
-        thread::yield_now();
+    }
+
+    /// Waits until all threads have come; not for ever, since where no thread can be made they come one by one.
+    fn pass(&self) {
+        self.come.fetch_add(1, SeqCst);
+        for _ in 0..PATIENCE {
+            if self.come.load(SeqCst) >= self.threads {
+                return;
+            }
+            thread::yield_now();
+        }
     }
 }
 
-/// What one thread does.
+/// What one thread does: some operations that don't count, and then, when all threads have made theirs, those that do.
 fn run<D: Domain, R: Wait + Clock>(
     rt: &R,
     words: &Words,
@@ -115,10 +131,13 @@ fn run<D: Domain, R: Wait + Clock>(
     names: &[Name],
     operation: Operation,
     count: u32,
+    gate: &Gate,
 ) -> io::Result<Ran>
     requires words { (words.now.table ≡ D.table) × (words.now.settings ≡ D.settings) }
 {
     prepare(words, &mut cpu, names, operation);
+    make(rt, words, &mut cpu, names, operation, count / WARMING);
+    gate.pass();
     let began = Instant::now(rt)?;
     let right = make(rt, words, &mut cpu, names, operation, count);
     let ended = Instant::now(rt)?;
