@@ -133,6 +133,9 @@ passed_left s t c on rest gone lt passed =
 pub passes_none : (m : Mark) → Passes m m
 passes_none m = record { snapshot = refl; passed = λ x. x; clear = refl; collected = refl }
 
+pub marks_pass_none : (marks : List (List Mark)) (t : ℕ) → MarksPass marks marks t
+marks_pass_none marks t = record { elsewhere = λ u off. refl; here = λ c. passes_none (mark_at marks t c) }
+
 pub marks_pass_more : (a b d : List (List Mark)) (t : ℕ) → MarksPass a b t → MarksPass b d t → MarksPass a d t
 marks_pass_more a b d t x y = record {
   elsewhere = λ u off. y.elsewhere u off ∙ x.elsewhere u off;
@@ -215,6 +218,12 @@ marks_grow_none marks t = record { elsewhere = λ u off. refl; here = λ c. grow
 pub marks_grow_more : (a b d : List (List Mark)) (t : ℕ) → MarksGrow a b t → MarksGrow b d t → MarksGrow a d t
 marks_grow_more a b d t x y = record { elsewhere = λ u off. y.elsewhere u off ∙ x.elsewhere u off; here = λ c. grows_more (mark_at a t c) (mark_at b t c) (mark_at d t c) (x.here c) (y.here c) }
 
+pub passing_grows : (a b : List (List Mark)) (t : ℕ) → MarksPass a b t → MarksGrow a b t
+passing_grows a b t x = record {
+  elsewhere = x.elsewhere;
+  here = λ c. record { snapshot = (x.here c).snapshot; passed = (x.here c).passed; clear = λ p. (x.here c).clear ∙ p; collected = λ p. (x.here c).collected ∙ p };
+}
+
 pub mark_grows : (marks : List (List Mark)) (t c : ℕ) (m : Mark) → Grows (mark_at marks t c) m → MarksGrow marks (with_cell marks t c m) t
 mark_grows marks t c m grows = record { elsewhere = row_elsewhere marks t c m; here = mark_written Grows marks t c m grows_none grows }
 
@@ -270,6 +279,17 @@ added s n t c rest is =
       counts = row_elsewhere s.counts t c 0;
       totals = λ u off. get_or-set_other s.totals t u v 0 off;
     })
+
+pub gathers_none : (s : State) (t : ℕ) → Gathers s s t
+gathers_none s t = record { only = refl; marks = marks_grow_none s.marks t; counts = λ u off. refl; totals = λ u off. refl }
+
+pub gathers_more : (a b d : State) (t : ℕ) → Gathers a b t → Gathers b d t → Gathers a d t
+gathers_more a b d t x y = record {
+  only = subst (λ (z : State). d ≡ record z { marks = d.marks; counts = d.counts; totals = d.totals }) x.only y.only;
+  marks = marks_grow_more a.marks b.marks d.marks t x.marks y.marks;
+  counts = λ u off. y.counts u off ∙ x.counts u off;
+  totals = λ u off. y.totals u off ∙ x.totals u off;
+}
 
 -- once all words are collected, the total says what is held
 pub gathered_total : (s : State) (t : ℕ) (e : Entry) → Holds s → at_rest s.due ≡ true → slot_at s.slots t ≡ Retired e → AllCollected s t → total_at s.totals t ≡ bias + held_at s.locals s.hands s.keeps s.due e.number t
@@ -391,6 +411,11 @@ pub free_stage : (t held : ℕ) → held ≡ 0 → Freed t ≡ stage_of t None N
 free_stage t held none = ap (stage_of t None None) (sym none)
 
 -- Seats
+
+acts_idle : (lt : Bool) (cpus : ℕ) (before none empty : Bool) → (before ≡ false → none && empty ≡ true) → (not before || (before && (none && empty))) ≡ true → (not lt || (lt && (none && empty))) ≡ true
+acts_idle false cpus before none empty out acts = refl
+acts_idle true cpus true none empty out acts = acts
+acts_idle true cpus false none empty out acts = out refl
 
 -- and nothing of what an advance leaves keeps it from that
 pub stage_acts : (s n : State) (t d : ℕ) (stage : Stage) → s.seated ≡ s.settings.cpus → StageLeaves s n t stage → may_act s d ≡ true → may_act n d ≡ true

@@ -74,6 +74,9 @@ biases_more row c lt =
 abbrev pub with_counts : State → ℕ → ℕ → State
 with_counts s t c = record s { counts = set s.counts t (with_biases c (get_or s.counts t [])) }
 
+pub counts_first : (s : State) (t : ℕ) → s ≡ with_counts s t 0
+counts_first s t = ap (λ (counts : List (List ℕ)). record s { counts = counts }) (sym (set-get_or s.counts t []))
+
 pub counts_next : (s : State) (t c : ℕ) → t < length s.counts → c < length (get_or s.counts t []) → after_count_store (with_counts s t c) t c bias ≡ with_counts s t (c + 1)
 counts_next s t c low lt =
     let row = get_or s.counts t [] in

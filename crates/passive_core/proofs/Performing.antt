@@ -26,6 +26,9 @@ out_shown w (Some b) outside inside = rw (ap (λ (k : ℕ). k == 0) (inside b re
 pub seen_out : (s : State) (c : ℕ) → Holds s → is_out (section_at s c) (section_at s c) ≡ not (is_inside s c)
 seen_out s c on = out_shown (section_at s c) (begin_at s c) (λ out. (on.sections.outside c out).0) (λ b in_. (on.sections.inside c b in_).0)
 
+pub not_out : (b : Bool) → b ≡ false → true ≡ not b
+not_out b is = ap not (sym is)
+
 pub sound_out : (a b : Bool) → a ≡ not b → a ≡ true → b ≡ false
 sound_out a false same is = refl
 sound_out a true same is = absurd (let q : ◌≡◌ {A = Bool} false true = sym same ∙ is in cc)
@@ -74,6 +77,9 @@ none_open s t outside = none_below (is_open_since s t) s.settings.cpus (λ c lt.
 
 -- Marks that come to say passed
 
+pub only_none : (s : State) → OnlyPasses s s
+only_none s = record { only = refl; marks = λ t c. passes_none (mark_at s.marks t c); elsewhere = λ t is. refl }
+
 pub only_more : (s m n : State) → OnlyPasses s m → OnlyPasses m n → OnlyPasses s n
 only_more s m n x y = record {
   only = only_marks s m n x.only y.only;
@@ -99,11 +105,19 @@ only_one s n t gone only marks = record {
 pub still_passed : (s n : State) (t : ℕ) → OnlyPasses s n → AllPassed s t → AllPassed n t
 still_passed s n t only passed c lt = (only.marks t c).passed (passed c (subst (λ (z : State). c < z.settings.cpus) only.only lt))
 
+pub still_outside : (s n : State) → OnlyPasses s n → AllOutside s → AllOutside n
+still_outside s n only outside c lt = ap (λ (z : State). is_inside z c) only.only ∙ outside c (subst (λ (z : State). c < z.settings.cpus) only.only lt)
+
 -- the slot of a retired entry's number is its own
 retired_is : (n : ℕ) (x : Slot) → is_retired x ≡ true → Some n ≡ retired_number x → (e : Entry) × (x ≡ Retired e) × (e.number ≡ n)
 retired_is n Vacant gone is = absurd (let q : ◌≡◌ {A = Bool} false true = gone in cc)
 retired_is n (Live e) gone is = absurd (let q : ◌≡◌ {A = Bool} false true = gone in cc)
 retired_is n (Retired e) gone is = (e, refl, sym (same_Some n e.number is))
+
+pub has_retired_number : (x : Slot) → is_retired x ≡ true → None ≡ retired_number x → ⊥
+has_retired_number Vacant gone is = let q : ◌≡◌ {A = Bool} false true = gone in cc
+has_retired_number (Live e) gone is = let q : ◌≡◌ {A = Bool} false true = gone in cc
+has_retired_number (Retired e) gone is = none-some e.number is
 
 pub retired_found : (s : State) (t n : ℕ) → Holds s → is_retired (slot_at s.slots t) ≡ true → Some n ≡ retired_number (slot_at s.slots t) → retired_slot s.slots n ≡ Some t
 retired_found s t n on gone is =

@@ -230,6 +230,12 @@ drained s t n on ok is =
       };
     }
 
+pub unheld_when_drained : (s : State) (t n : ℕ) → Holds s → is_drained s t ≡ true → number_in (slot_at s.slots t) ≡ Some n → IsUnheld (picture s) n
+unheld_when_drained s t n on ok is = (drained s t n on ok is).unheld
+
+pub unheld_at_vacate : (s : State) (t n : ℕ) → Holds s → may_vacate s t ≡ true → number_in (slot_at s.slots t) ≡ Some n → IsUnheld (picture s) n
+unheld_at_vacate s t n on ok is = unheld_when_drained s t n on (and_parts _ (is_drained s t) ok).1 is
+
 -- the occupant of a drained slot
 occupant_of : (s : State) (t : ℕ) → Holds s → is_drained s t ≡ true → (n : ℕ) × (number_in (slot_at s.slots t) ≡ Some n)
 occupant_of s t on ok = let told = is_drained_tells s t on ok in (told.1.0.number, ap number_in told.1.1)

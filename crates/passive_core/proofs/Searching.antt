@@ -19,7 +19,7 @@ use Rattle.passive_core.specs.declared.state.Search.{Search}
 use Rattle.passive_core.specs.History.{key_of, EndsAt, MayHold, IsLookup, IsLawful}
 use Rattle.passive_core.specs.State.{State, slot_at, row_at, seen_at, search_at, begin_at}
 use Rattle.passive_core.specs.Slots.{kind_word}
-use Rattle.passive_core.specs.Events.{Outcome, after_seeing, going_on, link_loaded, load_link, load_searched, compared, are_words_of, entry_found, words_of}
+use Rattle.passive_core.specs.Events.{Outcome, after_seeing, after_seek, going_on, link_loaded, load_link, load_searched, compared, are_words_of, entry_found, words_of}
 use Rattle.passive_core.specs.Loaded.{SlotWithin}
 use Rattle.passive_core.specs.Invariant.{IsIn, SearchHolds, SearchesHold, FoundHold, StandsOn, AllBelow, PlaceHolds, Holds}
 use Rattle.passive_core.proofs.History.{at_within, one_entry}
@@ -394,6 +394,14 @@ record_sees s c q (AtKind t n) (inr all) = (refl, all)
 record_sees s c q (AtHigh t n k) (inr all) = (refl, all)
 record_sees s c q (AtLow t n k x) (inr all) = compared_sees s c q t n (row_at s.rows t).low (are_words_of q.key k x (row_at s.rows t).low) all
 record_sees s c q (AtValue t n) (inr all) = (refl, all)
+
+-- a search that was just begun
+pub find_starts : (s : State) (c : ℕ) (key : Key) → Holds s → c < s.settings.cpus → Finds (after_seek s c key) c (record { key = key; start = seen_at s c; place = AtHead })
+find_starts s c key on lt = record {
+  searching = get_or-set_same s.searches c (Some (record { key = key; start = seen_at s c; place = AtHead })) None (omega (arith, on.shape.searches));
+  stands = tt;
+  seen = inl refl;
+}
 
 pub find_link : (s : State) (c : ℕ) (q : Search) → Holds s → Finds s c q → FindSteps c q (weight s q.place) (load_link s c q q.place)
 find_link s c q on finds = find_steps s c q (weight s q.place) (load_link s c q q.place) (link_sees s c q q.place on finds.searching)

@@ -33,3 +33,6 @@ pub use settings::Settings;
 pub use slots::{has_number, is_live, is_live_as, is_plain, is_retired_as, key_of, retired_number};
 pub use stage::{Stage, destroyed};
 pub use state::{Due, Hand, Key, Loaded, LocalPlace, Mark, Place, RecordWords, Search, Slot};
+
+#[cfg(test)]
+mod tests;

@@ -9,7 +9,6 @@ ghost use Rattle.passive_core.specs.State.{section_at, begin_at, depth_at, seen_
 use crate::entry::Entry;
 use crate::machine::Core;
 use crate::marks::{are_clear, are_collected, have_passed, is_some_collected};
-use crate::settings::Settings;
 use crate::slots::has_number;
 use crate::state::{Due, Hand, LocalPlace, Mark, RecordWords, Search, Slot};
 
@@ -161,15 +160,8 @@ impl Core {
         }
     }
 
-    /// The settings that it was made with.
-    pub fn settings(&self) -> Settings
-        ensures { result ≡ self.now.settings }
-    {
-        self.settings
-    }
-
     /// How many changes there were.
-    pub fn changes(&self) -> u64
+    pub(crate) fn changes(&self) -> u64
         ensures value { result ≡ length self.now.history }
         ensures room { result < 9223372036854775808 }
     {

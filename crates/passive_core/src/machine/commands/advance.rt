@@ -1,5 +1,8 @@
 //! How far the destruction of a retired entry comes: one turn of the keeper's work on it.
 
+#[cfg(test)]
+mod tests;
+
 ghost use Rattle.std.specs.Prelude.{◌≡◌, ◌<◌, IfSome, ℕ, Some, None, true, false, not, length};
 ghost use Rattle.passive_core.specs.declared.entry.Entry.{Entry as AnEntry};
 ghost use Rattle.passive_core.specs.declared.state.Slot.TheVariants.{Retired};

@@ -97,3 +97,6 @@ impl Core {
         }
     }
 }
+
+#[cfg(test)]
+mod tests;

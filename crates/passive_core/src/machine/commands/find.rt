@@ -59,3 +59,6 @@ impl Core {
         }
     }
 }
+
+#[cfg(test)]
+pub(crate) mod tests;

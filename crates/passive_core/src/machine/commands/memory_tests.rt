@@ -3,17 +3,18 @@
 //! Where memory is ample these tests compare answers alone. `tools/refuse-memory.sh` refuses each of their allocations in
 //! turn; each refusal that is met is noted on standard error.
 
-use super::asks::{Ask, Line, Tally, Told, USUAL, give, run};
-use super::finding::driver;
-use passive_core::{
-    BIAS, Core, Counted, Entry, Event, Kind, Name, Record, RecordOf, Refusal, Reply, Settings,
-    run_events,
-};
+use crate::entry::{Entry, Kind, Record};
+use crate::event::{Counted, Event, RecordOf, Reply};
+use crate::machine::commands::find::tests::driver;
+use crate::machine::commands::rows::{Ask, Line, Tally, Told, USUAL, give, run};
+use crate::machine::{BIAS, Core, run_events};
+use crate::name::Name;
+use crate::refusal::Refusal;
+use crate::settings::Settings;
 use std::process::Abort;
 use std::test::Fail;
 
-/// Of four slots 0 and 2 have live drivers, 1 has a retired one, and 3 is vacant. The history has four changes, as many as a list has room
-/// for at first: the next one grows it.
+/// Of four slots 0 and 2 have live drivers, 1 has a retired one, and 3 is vacant. The history is as long as its memory.
 const STOCK: [(u8, Ask); 4] = [
     (0, Ask::Attach(Kind::Driver, b"wm0", 1500)),
     (0, Ask::Attach(Kind::Driver, b"vga", 8)),
@@ -41,6 +42,11 @@ fn give_all(rt: &impl Abort, core: &mut Core, asks: &[(u8, Ask)]) -> Result<(), 
 fn stocked(rt: &(impl Abort + AllocGlobal), more: &[(u8, Ask)]) -> Result<Core, Refusal> {
     let mut core = Core::new(rt.alloc(), Settings { slots: 4, ..USUAL })?;
     give_all(rt, &mut core, &STOCK)?;
+    assert_eq!(rt;
+        core.history.len(),
+        core.history.capacity(),
+        "the next change grows it"
+    );
     give_all(rt, &mut core, more)?;
     Ok(core)
 }
@@ -54,13 +60,46 @@ fn prepared(rt: &(impl Abort + AllocGlobal + Eprint), more: &[(u8, Ask)]) -> Res
     Ok(stocked(rt, more)?)
 }
 
-/// The core answers CPU 1 as one that these commands leave.
+/// Whether all that the two cores keep is the same.
+fn are_same(a: &Core, b: &Core) -> bool {
+    have_same_words(a, b) && have_same_views(a, b)
+}
+
+fn have_same_words(a: &Core, b: &Core) -> bool {
+    a.section.as_slice() == b.section.as_slice()
+        && a.head == b.head
+        && a.next.as_slice() == b.next.as_slice()
+        && a.rows.as_slice() == b.rows.as_slice()
+        && a.passive.as_slice() == b.passive.as_slice()
+        && a.counts.as_slice() == b.counts.as_slice()
+        && a.totals.as_slice() == b.totals.as_slice()
+        && a.history.as_slice() == b.history.as_slice()
+        && a.locals.as_slice() == b.locals.as_slice()
+}
+
+fn have_same_views(a: &Core, b: &Core) -> bool {
+    a.seated == b.seated
+        && a.begins.as_slice() == b.begins.as_slice()
+        && a.depths.as_slice() == b.depths.as_slice()
+        && a.seen.as_slice() == b.seen.as_slice()
+        && a.searches.as_slice() == b.searches.as_slice()
+        && a.found.as_slice() == b.found.as_slice()
+        && a.hands.as_slice() == b.hands.as_slice()
+        && a.nets.as_slice() == b.nets.as_slice()
+        && a.slots.as_slice() == b.slots.as_slice()
+        && a.marks.as_slice() == b.marks.as_slice()
+        && a.keeps.as_slice() == b.keeps.as_slice()
+        && a.due == b.due
+}
+
+/// The core is as these commands leave it, and answers CPU 1 so.
 fn stands(
     rt: &(impl Abort + AllocGlobal + Eprint),
     core: &mut Core,
     more: &[(u8, Ask)],
 ) -> Result<(), Fail> {
     let mut twin = stocked(rt, more)?;
+    assert!(rt; are_same(core, &twin), "the refusal has changed nothing");
     let audit = give(rt, &mut twin, 1, Ask::Audit);
     let rec = driver(b"wm0", 1500)?;
     let wm = Entry {
@@ -281,11 +320,7 @@ fn finished(
     );
     let mut twin = Core::new(rt.alloc(), USUAL)?;
     let before = run_events(&mut twin, &events[..done])?;
-    assert_eq!(rt;
-        core.changes(),
-        twin.changes(),
-        "the events before it are made"
-    );
+    assert!(rt; are_same(core, &twin), "the events before it are made");
     let after = run_events(core, &events[done..])?;
     Ok(Counted {
         taken: before.taken.saturating_add(after.taken),

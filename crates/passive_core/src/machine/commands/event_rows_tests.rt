@@ -1,9 +1,12 @@
 //! Worked rows, event by event: a collection that overtakes a release, and marks that come in their order.
 
-use super::asks::{Ask, Told, USUAL, give, run};
-use super::finding::driver;
-use super::rows::with_found;
-use passive_core::{Core, Counted, Entry, Event, Kind, Reply, Settings, run_events};
+use crate::entry::{Entry, Kind};
+use crate::event::{Counted, Event, Reply};
+use crate::machine::commands::find::tests::driver;
+use crate::machine::commands::rows::{Ask, Told, USUAL, give, run};
+use crate::machine::commands::rows_tests::with_found;
+use crate::machine::{Core, run_events};
+use crate::settings::Settings;
 use std::process::Abort;
 use std::test::Fail;
 

@@ -1,5 +1,7 @@
-use super::finding::{attach, driver, find, seated};
-use passive_core::{Core, Entry, Event, Kind, Name, RecordOf, Refusal, Reply, Stage};
+use crate::machine::Core;
+use crate::machine::commands::find::tests::{attach, driver, find, seated};
+use crate::state::{Mark, Slot};
+use crate::{Entry, Event, Kind, Name, RecordOf, Refusal, Reply};
 use std::process::Abort;
 use std::test::Fail;
 
@@ -11,26 +13,20 @@ fn detach(
     name: &[u8],
 ) -> Result<Result<Entry, Refusal>, Fail> {
     let name = Name::parse(name)?;
-    let known = c < core.settings().cpus;
+    let known = c < core.settings.cpus;
     assert!(rt; known, "CPU {c} is known");
     let free = core.at_rest() && core.idle(c);
     assert!(rt; free, "CPU {c} may act");
     Ok(core.detach(c, Kind::Driver, &name))
 }
 
-/// One turn of the keeper's work, where a command may be given.
-fn advance(rt: &impl Abort, core: &mut Core, number: u64) -> Result<Stage, Refusal> {
-    assert!(rt; core.at_rest(), "no operation is half done");
-    core.advance(number)
-}
-
 /// A section begun after the unlinking finds nothing.
 #[test]
 fn late_section(rt: HostRuntime) -> Result<(), Fail> {
     let mut core = seated(rt.alloc(), 2)?;
-    let entry = attach(&mut core, 0, 0, driver(b"wm", 7)?)?;
+    let entry = attach(&mut core, 0, driver(b"wm", 7)?)?;
     assert_eq!(rt; detach(&rt, &mut core, 0, b"wm")?, Ok(entry));
-    assert_eq!(rt; detach(&rt, &mut core, 0, b"wm")?, Err(Refusal::NotFound));
+    assert_eq!(rt; core.slot_at(0), Slot::Retired(entry));
     core.step(Event::Enter(1))?;
     assert_eq!(rt; find(&rt, &mut core, 1, b"wm")?, None);
     Ok(())
@@ -39,7 +35,7 @@ fn late_section(rt: HostRuntime) -> Result<(), Fail> {
 #[test]
 fn refusals_of_detach(rt: HostRuntime) -> Result<(), Fail> {
     let mut core = seated(rt.alloc(), 2)?;
-    let entry = attach(&mut core, 0, 0, driver(b"wm", 7)?)?;
+    let entry = attach(&mut core, 0, driver(b"wm", 7)?)?;
     core.step(Event::Enter(0))?;
     assert_eq!(rt; detach(&rt, &mut core, 0, b"vga")?, Err(Refusal::Inside));
     assert_eq!(rt; detach(&rt, &mut core, 1, b"vga")?, Err(Refusal::NotFound));
@@ -50,19 +46,25 @@ fn refusals_of_detach(rt: HostRuntime) -> Result<(), Fail> {
     Ok(())
 }
 
-/// The snapshots are of the section words after the unlinking: CPU 0 is inside, and CPU 1 is not.
+/// The snapshots are of the section words after the unlinking.
 #[test]
 fn snapshots_of_a_detach(rt: HostRuntime) -> Result<(), Fail> {
     let mut core = seated(rt.alloc(), 2)?;
-    attach(&mut core, 0, 0, driver(b"wm", 7)?)?;
+    attach(&mut core, 0, driver(b"wm", 7)?)?;
     core.step(Event::Enter(0))?;
     assert!(rt;
         detach(&rt, &mut core, 1, b"wm")?.is_ok(),
         "the entry is live"
     );
-    assert_eq!(rt; advance(&rt, &mut core, 1), Ok(Stage::Grace(0)));
-    core.step(Event::Exit(0))?;
-    assert_eq!(rt; advance(&rt, &mut core, 1), Ok(Stage::Freed(0)));
+    for (mark, word) in core.marks[0].iter().zip([1, 0]) {
+        let snapped = Mark {
+            snapshot: Some(word),
+            passed: false,
+            clear: false,
+            collected: false,
+        };
+        assert_eq!(rt; *mark, snapped);
+    }
     Ok(())
 }
 
@@ -70,9 +72,9 @@ fn snapshots_of_a_detach(rt: HostRuntime) -> Result<(), Fail> {
 #[test]
 fn frozen_link(rt: HostRuntime) -> Result<(), Fail> {
     let mut core = seated(rt.alloc(), 3)?;
-    let sought = attach(&mut core, 0, 0, driver(b"wm0", 10)?)?;
-    attach(&mut core, 1, 1, driver(b"wm1", 11)?)?;
-    attach(&mut core, 2, 2, driver(b"wm2", 12)?)?;
+    let sought = attach(&mut core, 0, driver(b"wm0", 10)?)?;
+    attach(&mut core, 1, driver(b"wm1", 11)?)?;
+    attach(&mut core, 2, driver(b"wm2", 12)?)?;
     core.step(Event::Enter(0))?;
     core.step(Event::Seek(0, Kind::Driver, sought.rec.name))?;
     let link = Event::LoadLink(0);

@@ -1,7 +1,6 @@
-use super::asks::USUAL;
-use passive_core::{
-    BIAS, Core, Entry, Event, Kind, Name, Record, RecordOf, Refusal, Reply, Settings, StepFault,
-};
+use crate::machine::commands::rows::USUAL;
+use crate::machine::{BIAS, Core};
+use crate::{Entry, Event, Kind, Name, Record, RecordOf, Reply, Settings, StepFault};
 use std::alloc::Global;
 use std::process::Abort;
 use std::test::Fail;
@@ -24,13 +23,8 @@ pub(crate) fn seated(alloc: Global, slots: u8) -> Result<Core, Fail> {
     Ok(core)
 }
 
-/// Attaches a record in a vacant slot by single events, before what the link leads to: the newest slot plus 1, or 0.
-pub(crate) fn attach(
-    core: &mut Core,
-    slot: u8,
-    link: u64,
-    rec: Record,
-) -> Result<Entry, StepFault> {
+/// Attaches a record in a vacant slot by single events.
+pub(crate) fn attach(core: &mut Core, slot: u8, rec: Record) -> Result<Entry, StepFault> {
     let (high, low) = rec.name.words();
     let kind = match rec.kind {
         Kind::Iface => 1,
@@ -41,7 +35,8 @@ pub(crate) fn attach(
     for (k, word) in words.iter().enumerate() {
         core.step(Event::StoreSlot(slot, k as u8, *word))?;
     }
-    core.step(Event::StoreNext(slot, link))?;
+    let head = core.head;
+    core.step(Event::StoreNext(slot, head))?;
     core.step(Event::Publish(slot))?;
     Ok(Entry { number, slot, rec })
 }
@@ -54,7 +49,7 @@ pub(crate) fn find(
     name: &[u8],
 ) -> Result<Option<Entry>, Fail> {
     let name = Name::parse(name)?;
-    let known = c < core.settings().cpus;
+    let known = c < core.settings.cpus;
     assert!(rt; known, "CPU {c} is known");
     let free = core.at_rest() && core.idle(c);
     assert!(rt; free, "CPU {c} may act");
@@ -63,32 +58,23 @@ pub(crate) fn find(
     Ok(core.find(c, Kind::Driver, &name))
 }
 
-/// Acquires a passive reference, where a command may be given: the number that it is to.
-fn acquired(rt: &impl Abort, core: &mut Core, c: u8) -> Result<u64, Refusal> {
-    assert!(rt;
-        c < core.settings().cpus && core.at_rest() && core.idle(c),
-        "CPU {c} may act"
-    );
-    Ok(core.acquire(c)?.number)
-}
-
 #[test]
 fn found(rt: HostRuntime) -> Result<(), Fail> {
     let mut core = seated(rt.alloc(), 2)?;
-    let entry = attach(&mut core, 0, 0, driver(b"wm0", 1500)?)?;
+    let entry = attach(&mut core, 0, driver(b"wm0", 1500)?)?;
     core.step(Event::Enter(0))?;
     assert_eq!(rt; find(&rt, &mut core, 0, b"wm0")?, Some(entry));
-    assert_eq!(rt; acquired(&rt, &mut core, 0), Ok(1));
+    assert_eq!(rt; core.found_at(0), Some(entry));
     assert_eq!(rt; find(&rt, &mut core, 0, b"wm1")?, None);
-    assert_eq!(rt; acquired(&rt, &mut core, 0), Err(Refusal::NothingFound));
+    assert_eq!(rt; core.found_at(0), None);
     Ok(())
 }
 
 #[test]
 fn second_half_of_name(rt: HostRuntime) -> Result<(), Fail> {
     let mut core = seated(rt.alloc(), 2)?;
-    let first = attach(&mut core, 0, 0, driver(b"abcdefgh1", 1)?)?;
-    let second = attach(&mut core, 1, 1, driver(b"abcdefgh2", 2)?)?;
+    let first = attach(&mut core, 0, driver(b"abcdefgh1", 1)?)?;
+    let second = attach(&mut core, 1, driver(b"abcdefgh2", 2)?)?;
     core.step(Event::Enter(0))?;
     assert_eq!(rt; find(&rt, &mut core, 0, b"abcdefgh2")?, Some(second));
     assert_eq!(rt; find(&rt, &mut core, 0, b"abcdefgh1")?, Some(first));
@@ -101,10 +87,10 @@ fn second_half_of_name(rt: HostRuntime) -> Result<(), Fail> {
 #[test]
 fn resumed_search(rt: HostRuntime) -> Result<(), Fail> {
     let mut core = seated(rt.alloc(), 2)?;
-    let old = attach(&mut core, 0, 0, driver(b"wm", 7)?)?;
+    let old = attach(&mut core, 0, driver(b"wm", 7)?)?;
     core.step(Event::Enter(0))?;
     assert_eq!(rt; find(&rt, &mut core, 0, b"wm")?, Some(old));
-    let new = attach(&mut core, 1, 1, driver(b"vga", 8)?)?;
+    let new = attach(&mut core, 1, driver(b"vga", 8)?)?;
     assert_eq!(rt; find(&rt, &mut core, 0, b"vga")?, Some(new));
     assert_eq!(rt; find(&rt, &mut core, 0, b"wm")?, Some(old));
     Ok(())
@@ -115,7 +101,7 @@ fn resumed_search(rt: HostRuntime) -> Result<(), Fail> {
 fn loads_of_a_lookup(rt: HostRuntime) -> Result<(), Fail> {
     let mut core = seated(rt.alloc(), 2)?;
     let rec = driver(b"wm0", 1500)?;
-    let entry = attach(&mut core, 0, 0, rec)?;
+    let entry = attach(&mut core, 0, rec)?;
     core.step(Event::Enter(0))?;
     core.step(Event::Seek(0, Kind::Driver, rec.name))?;
     assert_eq!(rt; core.step(Event::LoadLink(0)), Ok(Reply::Word(1)));

@@ -4,11 +4,16 @@ ghost use Rattle.std.specs.Prelude.{◌≡◌, ◌<◌, IsTrue, true};
 ghost use Rattle.passive_core.specs.Commands.{may_act};
 ghost use Rattle.passive_core.specs.Slots.{at_rest};
 
-use super::asks::USUAL;
-use passive_core::{
-    BIAS, Balance, Core, CorePsref, Entry, Event, Kind, Name, Record, RecordOf, Refusal, Reply,
-    Settings, Stage, StepFault,
-};
+use crate::balance::Balance;
+use crate::entry::{Entry, Kind, Record};
+use crate::event::{Event, RecordOf, Reply, StepFault};
+use crate::machine::commands::rows::USUAL;
+use crate::machine::{BIAS, Core};
+use crate::name::Name;
+use crate::psref::CorePsref;
+use crate::refusal::Refusal;
+use crate::settings::Settings;
+use crate::stage::Stage;
 use std::process::Abort;
 use std::test::Fail;
 
@@ -21,28 +26,28 @@ fn opened(rt: &HostRuntime, settings: Settings) -> Result<Core, Fail> {
     Ok(core)
 }
 
-/// Attaches the first driver.
 fn attach(core: &mut Core, t: u8, name: &[u8], value: u64) -> Result<(), Fail> {
     let name = Name::parse(name)?;
     let words = name.words();
     let number = core.changes() + 1;
+    let head = core.head;
     for (k, word) in [(0, number), (1, 2), (2, words.0), (3, words.1), (4, value)] {
         core.step(Event::StoreSlot(t, k, word))?;
     }
-    let cpus = core.settings().cpus;
+    let cpus = core.settings.cpus;
     for c in 0..8 {
         if c < cpus {
             core.step(Event::StoreSlot(t, 5 + c, BIAS))?;
         }
     }
-    core.step(Event::StoreNext(t, 0))?;
+    core.step(Event::StoreNext(t, head))?;
     core.step(Event::Publish(t))?;
     Ok(())
 }
 
 fn detach(core: &mut Core, t: u8) -> Result<(), Fail> {
     core.step(Event::Unpublish(t))?;
-    let cpus = core.settings().cpus;
+    let cpus = core.settings.cpus;
     for c in 0..cpus {
         core.step(Event::Snapshot(Some(t), c))?;
     }
@@ -67,7 +72,7 @@ fn find(core: &mut Core, c: u8, name: &[u8]) -> Result<Option<Entry>, Fail> {
 
 /// What holds the retired entry up, or that its slot is free now.
 fn advance(core: &mut Core, t: u8) -> Result<Stage, Fail> {
-    let cpus = core.settings().cpus;
+    let cpus = core.settings.cpus;
     for c in 0..cpus {
         core.step(Event::Look(Some(t), c))?;
     }
@@ -95,7 +100,7 @@ fn may(core: &Core, c: u8) -> bool
     ensures rest { IsTrue result → at_rest core.now.due ≡ true }
     ensures ready { IsTrue result → may_act core.now c ≡ true }
 {
-    c < core.settings().cpus && core.at_rest() && core.idle(c)
+    c < core.settings.cpus && core.at_rest() && core.idle(c)
 }
 
 fn acquire(rt: &impl Abort, core: &mut Core, c: u8) -> Result<CorePsref, Refusal> {

@@ -1,7 +1,12 @@
 //! Worked rows of the keeper's commands; attaches, detaches, lookups and references are made by single events.
 
-use super::asks::USUAL;
-use passive_core::{BIAS, Core, Event, Kind, Name, RecordOf, Refusal, Reply, Stage, StepFault};
+use crate::entry::Kind;
+use crate::event::{Event, RecordOf, Reply, StepFault};
+use crate::machine::commands::rows::USUAL;
+use crate::machine::{BIAS, Core};
+use crate::name::Name;
+use crate::refusal::Refusal;
+use crate::stage::Stage;
 use std::process::Abort;
 use std::test::Fail;
 
@@ -112,14 +117,14 @@ fn destroy(
     number: u64,
     turns: u32,
 ) -> Result<u8, Refusal> {
-    assert!(rt; c < core.settings().cpus, "a CPU of the core");
+    assert!(rt; c < core.settings.cpus, "a CPU of the core");
     assert!(rt; core.at_rest() && core.idle(c), "destroy {number}");
     assert!(rt; turns >= 1, "turns of {number}");
     core.destroy(c, number, turns)
 }
 
 fn perform(rt: &impl Abort, core: &mut Core, c: u8, turns: u32) -> Result<(), Refusal> {
-    assert!(rt; c < core.settings().cpus, "a CPU of the core");
+    assert!(rt; c < core.settings.cpus, "a CPU of the core");
     assert!(rt; core.at_rest() && core.idle(c), "perform {c}");
     assert!(rt; turns >= 1, "turns of {c}");
     core.perform(c, turns)

@@ -4,10 +4,15 @@ ghost use Rattle.std.specs.Prelude.{◌≡◌, ◌<◌, true};
 ghost use Rattle.passive_core.specs.Commands.{may_act};
 ghost use Rattle.passive_core.specs.Slots.{at_rest};
 
-use passive_core::{
-    Balance, Core, CorePsref, Entry, Event, Kind, Name, Record, Refusal, Reply, Settings, Stage,
-    StepFault,
-};
+use crate::balance::Balance;
+use crate::entry::{Entry, Kind, Record};
+use crate::event::{Event, Reply, StepFault};
+use crate::machine::Core;
+use crate::name::Name;
+use crate::psref::CorePsref;
+use crate::refusal::Refusal;
+use crate::settings::Settings;
+use crate::stage::Stage;
 use std::process::Abort;
 
 /// Two CPUs, two slots, and limits that no row meets.
@@ -93,7 +98,7 @@ pub(crate) fn give(rt: &impl Abort, core: &mut Core, c: u8, ask: Ask) -> Answer 
     if let Ask::Step(event) = ask {
         return step(core, event);
     }
-    assert!(rt; c < core.settings().cpus, "a CPU of the core");
+    assert!(rt; c < core.settings.cpus, "a CPU of the core");
     assert!(rt; core.at_rest() && core.idle(c), "{ask:?} on CPU {c}");
     match ask {
         Ask::Attach(kind, text, value) => {
@@ -188,7 +193,7 @@ fn plug(rt: &impl Abort, core: &mut Core, c: u8, text: &[u8], value: u64, id: u6
         name: Name::parse(text).expect(rt, "a name"),
         value,
     };
-    assert!(rt; core.live(id), "reference {id}");
+    assert!(rt; core.standing_at(id).is_some(), "reference {id}");
     core.attach_iface(c, rec, id).map(Told::Entry)
 }
 

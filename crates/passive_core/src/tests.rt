@@ -1,4 +1,4 @@
-use passive_core::{
+use crate::{
     Kind, Name, NameFault, Record, Refusal, Settings, Stage, balance_at_rest, every_run_keeps,
     grace_law, headline, lawful_answers, name_laws, record_from, safe_reuse, worked_run,
 };

@@ -1,7 +1,12 @@
 //! Worked rows, by commands where they are here and by single events elsewhere.
 
-use super::asks::USUAL;
-use passive_core::{Core, Entry, Event, Kind, Name, Record, RecordOf, Refusal, Reply, Settings};
+use crate::entry::{Entry, Kind, Record};
+use crate::event::{Event, RecordOf, Reply};
+use crate::machine::Core;
+use crate::machine::commands::rows::USUAL;
+use crate::name::Name;
+use crate::refusal::Refusal;
+use crate::settings::Settings;
 use std::process::Abort;
 use std::test::Fail;
 
@@ -14,7 +19,7 @@ fn attach(
     value: u64,
 ) -> Result<Result<Entry, Refusal>, Fail> {
     let name = Name::parse(text)?;
-    assert!(rt; c < core.settings().cpus, "a CPU of the core");
+    assert!(rt; c < core.settings.cpus, "a CPU of the core");
     assert!(rt; core.at_rest() && core.idle(c), "attach {value}");
     Ok(core.attach(
         c,
@@ -35,9 +40,9 @@ fn plug(
     id: u64,
 ) -> Result<Result<Entry, Refusal>, Fail> {
     let name = Name::parse(text)?;
-    assert!(rt; c < core.settings().cpus, "a CPU of the core");
+    assert!(rt; c < core.settings.cpus, "a CPU of the core");
     assert!(rt; core.at_rest() && core.idle(c), "plug {value}");
-    assert!(rt; core.live(id), "reference {id}");
+    assert!(rt; core.standing_at(id).is_some(), "reference {id}");
     Ok(core.attach_iface(
         c,
         Record {
@@ -50,20 +55,20 @@ fn plug(
 }
 
 fn enter(rt: &impl Abort, core: &mut Core, c: u8) -> Result<(), Refusal> {
-    assert!(rt; c < core.settings().cpus, "a CPU of the core");
+    assert!(rt; c < core.settings.cpus, "a CPU of the core");
     assert!(rt; core.at_rest() && core.idle(c), "enter {c}");
     core.enter(c)
 }
 
 fn exit(rt: &impl Abort, core: &mut Core, c: u8) {
-    assert!(rt; c < core.settings().cpus, "a CPU of the core");
+    assert!(rt; c < core.settings.cpus, "a CPU of the core");
     assert!(rt; core.at_rest() && core.idle(c), "exit {c}");
     assert!(rt; core.inside(c), "exit {c}");
     core.exit(c);
 }
 
 fn depth(rt: &impl Abort, core: &Core, c: u8) -> u8 {
-    assert!(rt; c < core.settings().cpus, "a CPU of the core");
+    assert!(rt; c < core.settings.cpus, "a CPU of the core");
     core.depth(c)
 }
 
@@ -91,20 +96,20 @@ fn count(core: &mut Core, c: u8) -> Result<Reply, Fail> {
 
 fn detach(core: &mut Core, t: u8) -> Result<(), Fail> {
     core.step(Event::Unpublish(t))?;
-    for c in 0..core.settings().cpus {
+    for c in 0..core.settings.cpus {
         core.step(Event::Snapshot(Some(t), c))?;
     }
     Ok(())
 }
 
 fn free(core: &mut Core, t: u8) -> Result<(), Fail> {
-    for c in 0..core.settings().cpus {
+    for c in 0..core.settings.cpus {
         core.step(Event::Look(Some(t), c))?;
     }
-    for c in 0..core.settings().cpus {
+    for c in 0..core.settings.cpus {
         core.step(Event::PassiveLook(t, c))?;
     }
-    for c in 0..core.settings().cpus {
+    for c in 0..core.settings.cpus {
         core.step(Event::Collect(t, c))?;
         core.step(Event::TotalAdd(t))?;
     }

@@ -2,9 +2,14 @@
 //!
 //! A passive reference is its CPU and number, and a local one its id; a row that nests 255 sections stands elsewhere.
 
-use super::asks::{Ask, Tally, Told, USUAL, run};
-use super::finding::driver;
-use passive_core::{Core, CorePsref, Entry, Kind, Record, Refusal, Settings, Stage};
+use crate::entry::{Entry, Kind, Record};
+use crate::machine::Core;
+use crate::machine::commands::find::tests::driver;
+use crate::machine::commands::rows::{Ask, Tally, Told, USUAL, run};
+use crate::psref::CorePsref;
+use crate::refusal::Refusal;
+use crate::settings::Settings;
+use crate::stage::Stage;
 use std::process::Abort;
 use std::test::Fail;
 
