@@ -1,9 +1,9 @@
 -- The words of two owners are at least nine words apart.
 use Rattle.std.proofs.Common.{◌≡◌, inl, inr, ⊎_elim, ℕ, ◌+◌, ◌*◌, ◌<◌, ◌≤◌, Option, Some, None, IsTrue, refl, sym, ap, arith}
 use Rattle.std.proofs.lemmas.Bool.{cases_order}
-use Rattle.passive_core.specs.declared.settings.Settings.{Settings}
-use Rattle.passive_core.specs.Limits.{are_fit}
-use Rattle.passive_core.proofs.Fit.{ranges}
+use Rattle.registry_values.specs.declared.settings.Settings.{Settings}
+use Rattle.registry_values.specs.Limits.{are_fit}
+use Rattle.registry_values.proofs.Fit.{ranges}
 use Rattle.cpu_words.specs.Spots.{Spot, section_of, passive_of, count_of, head_word, next_of, record_of, total_of, index, IsSpot, owner, AreApart, LinesApart, OnePlace}
 use Rattle.cpu_words.proofs.Placing.{same_spot}
 

@@ -5,21 +5,24 @@ use Rattle.std.proofs.lemmas.List.{length-replicate}
 use Rattle.std.proofs.lemmas.List.Sums.{sum_by-cons}
 use mathlib.Core.Logic.{dite}
 use native.Mathlib.Decide.{ℕ_discrete}
-use Rattle.passive_core.specs.declared.entry.Entry.{Entry}
-use Rattle.passive_core.specs.declared.entry.Change.{Change}
-use Rattle.passive_core.specs.declared.entry.Change.TheVariants.{Attach}
-use Rattle.passive_core.specs.declared.state.Slot.TheVariants.{Live, Retired}
-use Rattle.passive_core.specs.declared.state.Mark.{Mark}
-use Rattle.passive_core.specs.declared.state.Hand.{Hand}
-use Rattle.passive_core.specs.declared.state.Hand.TheVariants.{Empty}
-use Rattle.passive_core.specs.declared.state.LocalPlace.{LocalPlace}
-use Rattle.passive_core.specs.History.{IsAttached}
-use Rattle.passive_core.specs.State.{State, bias, no_mark, with_cell, slot_at, mark_at, count_at, total_at}
-use Rattle.passive_core.specs.Invariant.{IsIn, IsCounting, subtracting_at, adding_at, is_adding_at}
-use Rattle.passive_core.proofs.Fit.{ranges}
-use Rattle.passive_core.proofs.Cells.{get_or_all, row_here, row_other, cell_here, cell_other}
-use Rattle.passive_core.proofs.History.{at_within, one_entry}
-use Rattle.passive_core.proofs.Occupied.{not_vacant, one_in, one_number, attached_in}
+use Rattle.registry_values.specs.declared.entry.Entry.{Entry}
+use Rattle.registry_values.specs.declared.entry.Change.{Change}
+use Rattle.registry_values.specs.declared.entry.Change.TheVariants.{Attach}
+use Rattle.registry_values.specs.declared.slot.Slot.TheVariants.{Live, Retired}
+use Rattle.registry_values.specs.declared.mark.Mark.{Mark}
+use Rattle.protocol.specs.declared.state.Hand.{Hand}
+use Rattle.protocol.specs.declared.state.Hand.TheVariants.{Empty}
+use Rattle.protocol.specs.declared.state.LocalPlace.{LocalPlace}
+use Rattle.protocol.specs.History.{IsAttached}
+use Rattle.protocol.specs.State.{State, with_cell, mark_at, count_at, total_at}
+use Rattle.registry_values.specs.Balances.{bias}
+use Rattle.registry_values.specs.Marks.{no_mark}
+use Rattle.registry_values.specs.Slots.{slot_at}
+use Rattle.protocol.specs.Invariant.{IsIn, IsCounting, subtracting_at, adding_at, is_adding_at}
+use Rattle.registry_values.proofs.Fit.{ranges}
+use Rattle.protocol.proofs.Cells.{get_or_all, row_here, row_other, cell_here, cell_other}
+use Rattle.protocol.proofs.History.{at_within, one_entry}
+use Rattle.protocol.proofs.Occupied.{not_vacant, one_in, one_number, attached_in}
 use Rattle.cpu_words.specs.declared.view.InHand.{InHand}
 use Rattle.cpu_words.specs.declared.view.CpuView.{CpuView}
 use Rattle.cpu_words.specs.Spots.{Spot, section_of, passive_of, count_of, head_word, next_of, record_of, total_of, word_at}

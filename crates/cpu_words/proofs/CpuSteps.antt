@@ -3,21 +3,22 @@ use Rattle.std.proofs.Common.{◌≡◌, ◌≢◌, ℕ, ◌≤◌, ◌<◌, Lis
 use mathlib.Core.Option.{some}
 use lib.ListN.{get_elem?}
 use Rattle.atomic_table.specs.Table.{State as Table, keeps, stepped}
-use Rattle.passive_core.specs.declared.entry.Entry.{Entry}
-use Rattle.passive_core.specs.declared.entry.Change.{Change}
-use Rattle.passive_core.specs.declared.settings.Settings.{Settings}
-use Rattle.passive_core.specs.declared.event.Event.{Event}
-use Rattle.passive_core.specs.declared.event.Reply.{Reply}
-use Rattle.passive_core.specs.declared.state.Slot.TheVariants.{Vacant, Retired}
-use Rattle.passive_core.specs.declared.state.Search.{Search}
-use Rattle.passive_core.specs.declared.state.Hand.{Hand}
-use Rattle.passive_core.specs.declared.state.Hand.TheVariants.{Empty}
-use Rattle.passive_core.specs.declared.state.LocalPlace.{LocalPlace}
-use Rattle.passive_core.specs.History.{IsAttached}
-use Rattle.passive_core.specs.State.{State, section_at, begin_at, depth_at, seen_at, search_at, found_at, hand_at, slot_at, passive_at, count_at}
-use Rattle.passive_core.specs.Events.{step}
-use Rattle.passive_core.specs.Invariant.{standing_of}
-use Rattle.passive_core.proofs.Keeping.{step_holds}
+use Rattle.registry_values.specs.declared.entry.Entry.{Entry}
+use Rattle.registry_values.specs.declared.entry.Change.{Change}
+use Rattle.registry_values.specs.declared.settings.Settings.{Settings}
+use Rattle.protocol.specs.declared.event.Event.{Event}
+use Rattle.protocol.specs.declared.event.Reply.{Reply}
+use Rattle.registry_values.specs.declared.slot.Slot.TheVariants.{Vacant, Retired}
+use Rattle.protocol.specs.declared.state.Search.{Search}
+use Rattle.protocol.specs.declared.state.Hand.{Hand}
+use Rattle.protocol.specs.declared.state.Hand.TheVariants.{Empty}
+use Rattle.protocol.specs.declared.state.LocalPlace.{LocalPlace}
+use Rattle.protocol.specs.History.{IsAttached}
+use Rattle.protocol.specs.State.{State, section_at, begin_at, depth_at, seen_at, search_at, found_at, hand_at, passive_at, count_at}
+use Rattle.registry_values.specs.Slots.{slot_at}
+use Rattle.protocol.specs.Events.{step}
+use Rattle.protocol.specs.Invariant.{standing_of}
+use Rattle.protocol.proofs.Keeping.{step_holds}
 use Rattle.cpu_words.specs.declared.view.CpuView.{CpuView}
 use Rattle.cpu_words.specs.declared.view.View.{View}
 use Rattle.cpu_words.specs.declared.view.View.TheVariants.{Keeper, Cpu, Reference, Note, Spent}

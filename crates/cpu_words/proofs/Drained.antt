@@ -2,18 +2,20 @@
 use Rattle.std.proofs.Common.{◌≡◌, ◌≢◌, ◌⊎◌, inl, inr, ⊎_elim, ℕ, ◌≤◌, ◌<◌, List, [], length, replicate, get_or, set, Option, true, eq-eqb, refl, sym, ap, ◌∙◌, subst, arith}
 use Rattle.std.proofs.lemmas.Bool.{cases_eq, cases_lt}
 use Rattle.std.proofs.lemmas.List.{append-nil, get_or_past}
-use Rattle.passive_core.specs.declared.entry.Entry.{Entry}
-use Rattle.passive_core.specs.declared.state.Slot.{Slot}
-use Rattle.passive_core.specs.declared.state.Slot.TheVariants.{Vacant, Retired}
-use Rattle.passive_core.specs.declared.state.Mark.{Mark}
-use Rattle.passive_core.specs.declared.state.Due.TheVariants.{Rest}
-use Rattle.passive_core.specs.State.{State, bias, slot_at, passive_at, count_at, total_at}
-use Rattle.passive_core.specs.Slots.{have_passed, are_clear, are_collected}
-use Rattle.passive_core.specs.Events.{is_drained}
-use Rattle.passive_core.specs.Invariant.{IsIn, Occupies}
-use Rattle.passive_core.proofs.MarkKeeps.{is_drained_tells}
-use Rattle.passive_core.proofs.Occupied.{written_cases, in_other, in_vacated, one_number, retired_other}
-use Rattle.passive_core.proofs.Cells.{get_or_all, cell_in_old, slot_other}
+use Rattle.registry_values.specs.declared.entry.Entry.{Entry}
+use Rattle.registry_values.specs.declared.slot.Slot.{Slot}
+use Rattle.registry_values.specs.declared.slot.Slot.TheVariants.{Vacant, Retired}
+use Rattle.registry_values.specs.declared.mark.Mark.{Mark}
+use Rattle.protocol.specs.declared.state.Due.TheVariants.{Rest}
+use Rattle.protocol.specs.State.{State, passive_at, count_at, total_at}
+use Rattle.registry_values.specs.Balances.{bias}
+use Rattle.registry_values.specs.Slots.{slot_at}
+use Rattle.registry_values.specs.Marks.{have_passed, are_clear, are_collected}
+use Rattle.protocol.specs.Events.{is_drained}
+use Rattle.protocol.specs.Invariant.{IsIn, Occupies}
+use Rattle.protocol.proofs.MarkKeeps.{is_drained_tells}
+use Rattle.protocol.proofs.Occupied.{written_cases, in_other, in_vacated, one_number, retired_other}
+use Rattle.protocol.proofs.Cells.{get_or_all, cell_in_old, slot_other}
 use Rattle.cpu_words.specs.declared.view.KeeperView.{KeeperView}
 use Rattle.cpu_words.specs.Views.{KeeperShown}
 use Rattle.cpu_words.specs.Rule.{Good}

@@ -2,21 +2,22 @@
 use Rattle.std.proofs.Common.{◌≡◌, ◌≢◌, inr, ⊎_elim, ℕ, ◌+◌, ◌*◌, ◌<◌, List, [], length, get_or, set, Some, Bool, true, false, cond, eq-eqb, ne_eqb, refl, sym, ap, ◌∙◌, subst, arith}
 use Rattle.std.proofs.lemmas.Bool.{lt-ltb, cases_eq}
 use Rattle.std.specs.Prelude.{slice_index}
-use Rattle.passive_core.specs.declared.entry.Entry.{Entry}
-use Rattle.passive_core.specs.declared.settings.Settings.{Settings}
-use Rattle.passive_core.specs.declared.state.Slot.{Slot}
-use Rattle.passive_core.specs.declared.state.Slot.TheVariants.{Vacant, Retired}
-use Rattle.passive_core.specs.declared.state.Mark.{Mark}
-use Rattle.passive_core.specs.declared.state.Due.TheVariants.{Rest, Adding}
-use Rattle.passive_core.specs.declared.event.Event.TheVariants.{PassiveLook, Collect}
-use Rattle.passive_core.specs.declared.event.Reply.TheVariants.{Word}
-use Rattle.passive_core.specs.State.{State, no_mark, cell, with_cell, slot_at, mark_at, passive_at, count_at}
-use Rattle.passive_core.specs.Slots.{have_passed, are_clear}
-use Rattle.passive_core.specs.Events.{step, cleared, collected}
-use Rattle.passive_core.specs.Invariant.{adding_at, is_adding_at}
-use Rattle.passive_core.proofs.Fit.{ranges}
-use Rattle.passive_core.proofs.Cells.{cell_cases, cell_here, cell_other}
-use Rattle.passive_core.proofs.HeldSums.{one_self, one_other}
+use Rattle.registry_values.specs.declared.entry.Entry.{Entry}
+use Rattle.registry_values.specs.declared.settings.Settings.{Settings}
+use Rattle.registry_values.specs.declared.slot.Slot.{Slot}
+use Rattle.registry_values.specs.declared.slot.Slot.TheVariants.{Vacant, Retired}
+use Rattle.registry_values.specs.declared.mark.Mark.{Mark}
+use Rattle.protocol.specs.declared.state.Due.TheVariants.{Rest, Adding}
+use Rattle.protocol.specs.declared.event.Event.TheVariants.{PassiveLook, Collect}
+use Rattle.protocol.specs.declared.event.Reply.TheVariants.{Word}
+use Rattle.protocol.specs.State.{State, cell, with_cell, mark_at, passive_at, count_at}
+use Rattle.registry_values.specs.Marks.{no_mark, have_passed, are_clear, cleared, collected}
+use Rattle.registry_values.specs.Slots.{slot_at}
+use Rattle.protocol.specs.Events.{step}
+use Rattle.protocol.specs.Invariant.{adding_at, is_adding_at}
+use Rattle.registry_values.proofs.Fit.{ranges}
+use Rattle.protocol.proofs.Cells.{cell_cases, cell_here, cell_other}
+use Rattle.protocol.proofs.HeldSums.{one_self, one_other}
 use Rattle.cpu_words.specs.declared.view.KeeperView.{KeeperView}
 use Rattle.cpu_words.specs.declared.view.View.TheVariants.{Keeper}
 use Rattle.cpu_words.specs.Spots.{Spot, section_of, passive_of, count_of, head_word, next_of, record_of, total_of, word_at}
@@ -29,7 +30,7 @@ use Rattle.cpu_words.proofs.Placing.{agrees_set}
 use Rattle.cpu_words.proofs.KeeperSteps.{KeeperLists, keeper_lists, with_keeper, leaves_all, keeper_makes}
 use Rattle.cpu_words.proofs.KeeperSees.{SeenByKeeper, seen_by_keeper, loads}
 use Rattle.cpu_words.proofs.Marked.{due_alike, same_collected, shown_marked, sum_here, sum_off}
-use Rattle.passive_core.proofs.Occupied.{in_within}
+use Rattle.protocol.proofs.Occupied.{in_within}
 
 -- what the core has where the keeper may look at a slot
 record Looking (g : State) (t c : ℕ) : Type 0 where

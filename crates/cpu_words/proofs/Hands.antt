@@ -4,23 +4,23 @@ use mathlib.Core.Option.{some}
 use lib.ListN.{get_elem?}
 use Rattle.atomic_table.specs.Table.{Splits, Joins}
 use Rattle.atomic_table.proofs.Lists.{at_set}
-use Rattle.passive_core.specs.declared.entry.Entry.{Entry}
-use Rattle.passive_core.specs.declared.settings.Settings.{Settings}
-use Rattle.passive_core.specs.declared.event.Event.{Event}
-use Rattle.passive_core.specs.declared.event.Event.TheVariants.{SplitRef, JoinRef, SplitBack}
-use Rattle.passive_core.specs.declared.event.Reply.{Reply}
-use Rattle.passive_core.specs.declared.event.Reply.TheVariants.{Done, Ref}
-use Rattle.passive_core.specs.declared.state.Hand.{Hand}
-use Rattle.passive_core.specs.declared.state.Hand.TheVariants.{Empty, Taking, Giving, Back}
-use Rattle.passive_core.specs.declared.state.LocalPlace.{LocalPlace}
-use Rattle.passive_core.specs.declared.state.LocalPlace.TheVariants.{Standing, Lifted}
-use Rattle.passive_core.specs.History.{IsAttached}
-use Rattle.passive_core.specs.State.{State, hand_at, local_at}
-use Rattle.passive_core.specs.Events.{step, standing, least_id, with_local, split_ref, split_back}
-use Rattle.passive_core.specs.Invariant.{one_if, standing_of}
-use Rattle.passive_core.proofs.Bounds.{back_within}
-use Rattle.passive_core.proofs.References.{back_holds}
-use Rattle.passive_core.proofs.Sums.{one_at, local_changed, local_added, standing_within}
+use Rattle.registry_values.specs.declared.entry.Entry.{Entry}
+use Rattle.registry_values.specs.declared.settings.Settings.{Settings}
+use Rattle.protocol.specs.declared.event.Event.{Event}
+use Rattle.protocol.specs.declared.event.Event.TheVariants.{SplitRef, JoinRef, SplitBack}
+use Rattle.protocol.specs.declared.event.Reply.{Reply}
+use Rattle.protocol.specs.declared.event.Reply.TheVariants.{Done, Ref}
+use Rattle.protocol.specs.declared.state.Hand.{Hand}
+use Rattle.protocol.specs.declared.state.Hand.TheVariants.{Empty, Taking, Giving, Back}
+use Rattle.protocol.specs.declared.state.LocalPlace.{LocalPlace}
+use Rattle.protocol.specs.declared.state.LocalPlace.TheVariants.{Standing, Lifted}
+use Rattle.protocol.specs.History.{IsAttached}
+use Rattle.protocol.specs.State.{State, hand_at, local_at}
+use Rattle.protocol.specs.Events.{step, standing, least_id, with_local, split_ref, split_back}
+use Rattle.protocol.specs.Invariant.{one_if, standing_of}
+use Rattle.protocol.proofs.Bounds.{back_within}
+use Rattle.protocol.proofs.References.{back_holds}
+use Rattle.protocol.proofs.Sums.{one_at, local_changed, local_added, standing_within}
 use Rattle.cpu_words.proofs.Standing.{standing_place}
 use Rattle.cpu_words.specs.declared.view.InHand.{InHand}
 use Rattle.cpu_words.specs.declared.view.InHand.TheVariants.{Empty as NoEntry, Taking as TakingEntry, Giving as GivingEntry, Back as BackEntry}

@@ -2,8 +2,8 @@
 use Rattle.std.proofs.Common.{◌≡◌, ℕ, List, set, sym, ap, subst}
 use Rattle.std.proofs.lemmas.List.{set-get_or}
 use Rattle.std.specs.Prelude.{slice_index}
-use Rattle.passive_core.specs.State.{State}
-use Rattle.passive_core.proofs.Fit.{Ranges, ranges}
+use Rattle.protocol.specs.State.{State}
+use Rattle.registry_values.proofs.Fit.{Ranges, ranges}
 use Rattle.cpu_words.specs.declared.view.KeeperView.{KeeperView}
 use Rattle.cpu_words.specs.Spots.{Spot, IsSpot, word_at}
 use Rattle.cpu_words.specs.Views.{KeeperShown}

@@ -3,25 +3,24 @@ use Rattle.std.proofs.Common.{◌≡◌, ◌≢◌, inl, inr, ⊎_elim, ℕ, ◌
 use Rattle.std.proofs.lemmas.Bool.{lt-ltb}
 use mathlib.Core.Option.{some}
 use lib.ListN.{get_elem?}
-use Rattle.atomic_table.specs.Table.{State as Table}
-use Rattle.atomic_table.specs.Table.{Joins as TableJoins}
+use Rattle.atomic_table.specs.Table.{State as Table, Joins as TableJoins}
 use Rattle.atomic_table.proofs.Lists.{at_set}
-use Rattle.passive_core.specs.declared.entry.Entry.{Entry}
-use Rattle.passive_core.specs.declared.entry.Kind.TheVariants.{Driver}
-use Rattle.passive_core.specs.declared.settings.Settings.{Settings}
-use Rattle.passive_core.specs.declared.event.Event.TheVariants.{Keep, Vacate}
-use Rattle.passive_core.specs.declared.event.Reply.TheVariants.{Done}
-use Rattle.passive_core.specs.declared.state.Slot.{Slot}
-use Rattle.passive_core.specs.declared.state.Slot.TheVariants.{Vacant, Live, Retired}
-use Rattle.passive_core.specs.declared.state.LocalPlace.TheVariants.{Free, Standing}
-use Rattle.passive_core.specs.declared.state.Due.TheVariants.{Rest}
-use Rattle.passive_core.specs.State.{slot_at, kept_at}
-use Rattle.passive_core.specs.Slots.{slot_of, is_driver}
-use Rattle.passive_core.specs.Events.{step, is_driver_slot}
-use Rattle.passive_core.specs.Invariant.{IsIn, one_if}
-use Rattle.passive_core.proofs.Numbers.{slot_number}
-use Rattle.passive_core.proofs.Sums.{one_at, local_changed, standing_within}
-use Rattle.passive_core.proofs.Occupied.{in_within}
+use Rattle.registry_values.specs.declared.entry.Entry.{Entry}
+use Rattle.registry_values.specs.declared.entry.Kind.TheVariants.{Driver}
+use Rattle.registry_values.specs.declared.settings.Settings.{Settings}
+use Rattle.protocol.specs.declared.event.Event.TheVariants.{Keep, Vacate}
+use Rattle.protocol.specs.declared.event.Reply.TheVariants.{Done}
+use Rattle.registry_values.specs.declared.slot.Slot.{Slot}
+use Rattle.registry_values.specs.declared.slot.Slot.TheVariants.{Vacant, Live, Retired}
+use Rattle.protocol.specs.declared.state.LocalPlace.TheVariants.{Free, Standing}
+use Rattle.protocol.specs.declared.state.Due.TheVariants.{Rest}
+use Rattle.registry_values.specs.Slots.{slot_at, slot_of, is_driver}
+use Rattle.protocol.specs.State.{kept_at}
+use Rattle.protocol.specs.Events.{step, is_driver_slot}
+use Rattle.protocol.specs.Invariant.{IsIn, one_if}
+use Rattle.protocol.proofs.Numbers.{slot_number}
+use Rattle.protocol.proofs.Sums.{one_at, local_changed, standing_within}
+use Rattle.protocol.proofs.Occupied.{in_within}
 use Rattle.cpu_words.specs.declared.view.KeeperView.{KeeperView}
 use Rattle.cpu_words.specs.declared.view.ReferenceView.{ReferenceView}
 use Rattle.cpu_words.specs.declared.view.View.{View}

@@ -1,18 +1,18 @@
 -- A retired interface gives its driver up, on the words.
 use Rattle.std.proofs.Common.{length-set, ◌≡◌, inl, inr, ℕ, ◌+◌, ◌-◌, ◌%◌, ◌^◌, ◌<◌, List, replicate, set, Option, Some, None, true, refl, sym, ap, ◌∙◌, subst, arith}
 use Rattle.std.specs.Prelude.{slice_index}
-use Rattle.passive_core.specs.declared.entry.Entry.{Entry}
-use Rattle.passive_core.specs.declared.settings.Settings.{Settings}
-use Rattle.passive_core.specs.declared.state.Slot.{Slot}
-use Rattle.passive_core.specs.declared.state.Slot.TheVariants.{Vacant, Live, Retired}
-use Rattle.passive_core.specs.declared.event.Event.TheVariants.{KeptSub}
-use Rattle.passive_core.specs.declared.event.Reply.TheVariants.{Done}
-use Rattle.passive_core.specs.State.{State, slot_at, total_at, kept_at}
-use Rattle.passive_core.specs.Slots.{slot_of, is_iface}
-use Rattle.passive_core.specs.Events.{step}
-use Rattle.passive_core.specs.Invariant.{IsIn}
-use Rattle.passive_core.proofs.Occupied.{slot_has}
-use Rattle.passive_core.proofs.Bounds.{driver_positive}
+use Rattle.registry_values.specs.declared.entry.Entry.{Entry}
+use Rattle.registry_values.specs.declared.settings.Settings.{Settings}
+use Rattle.registry_values.specs.declared.slot.Slot.{Slot}
+use Rattle.registry_values.specs.declared.slot.Slot.TheVariants.{Vacant, Live, Retired}
+use Rattle.protocol.specs.declared.event.Event.TheVariants.{KeptSub}
+use Rattle.protocol.specs.declared.event.Reply.TheVariants.{Done}
+use Rattle.protocol.specs.State.{State, total_at, kept_at}
+use Rattle.registry_values.specs.Slots.{slot_at, slot_of, is_iface}
+use Rattle.protocol.specs.Events.{step}
+use Rattle.protocol.specs.Invariant.{IsIn}
+use Rattle.protocol.proofs.Occupied.{slot_has}
+use Rattle.protocol.proofs.Bounds.{driver_positive}
 use Rattle.cpu_words.specs.declared.view.KeeperView.{KeeperView}
 use Rattle.cpu_words.specs.declared.view.View.TheVariants.{Keeper}
 use Rattle.cpu_words.specs.Spots.{total_of}
@@ -23,7 +23,7 @@ use Rattle.cpu_words.specs.Draining.{MayKeptSub, HasKeptSub, KeptSubTold}
 use Rattle.cpu_words.proofs.KeeperSteps.{KeeperLists, with_keeper, keeper_makes}
 use Rattle.cpu_words.proofs.KeeperSees.{seen_by_keeper}
 use Rattle.cpu_words.proofs.Drained.{Drained, drained_of, vacating, vacated_leaves, vacated_counts, stood}
-use Rattle.passive_core.proofs.ListKeeps.{rows_put}
+use Rattle.protocol.proofs.ListKeeps.{rows_put}
 use Rattle.cpu_words.proofs.Totals.{total_words, shown_less, later_less}
 
 -- the driver in u, whose reference the slot t kept

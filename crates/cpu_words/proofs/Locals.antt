@@ -6,26 +6,27 @@ use mathlib.Core.Option.{some}
 use lib.ListN.{get_elem?}
 use prog.Atomic.{either}
 use Rattle.atomic_table.specs.Table.{State as Table, keeps, stepped}
-use Rattle.passive_core.specs.declared.entry.Entry.{Entry}
-use Rattle.passive_core.specs.declared.settings.Settings.{Settings}
-use Rattle.passive_core.specs.declared.event.Event.TheVariants.{CountAdd, CountDown}
-use Rattle.passive_core.specs.declared.event.Reply.TheVariants.{Word, Collected}
-use Rattle.passive_core.specs.declared.state.Slot.TheVariants.{Retired}
-use Rattle.passive_core.specs.declared.state.Hand.TheVariants.{Empty, Taking, Giving, Back}
-use Rattle.passive_core.specs.declared.state.LocalPlace.TheVariants.{Free, Lifted}
-use Rattle.passive_core.specs.History.{IsAttached}
-use Rattle.passive_core.specs.State.{State, bias, found_at, hand_at, slot_at, mark_at, count_at}
-use Rattle.passive_core.specs.Slots.{slot_of}
-use Rattle.passive_core.specs.Events.{step}
-use Rattle.passive_core.specs.Invariant.{IsIn, IsCounting}
-use Rattle.passive_core.proofs.Bounds.{giving_within}
-use Rattle.passive_core.proofs.Counts.{counting_cases, is_counting}
-use Rattle.passive_core.proofs.CountKeeps.{held_counting}
-use Rattle.passive_core.proofs.History.{one_entry}
-use Rattle.passive_core.proofs.Numbers.{slot_number}
-use Rattle.passive_core.proofs.Occupied.{attached_in, in_within}
-use Rattle.passive_core.proofs.References.{giving_holds}
-use Rattle.passive_core.proofs.Sums.{local_changed}
+use Rattle.registry_values.specs.declared.entry.Entry.{Entry}
+use Rattle.registry_values.specs.declared.settings.Settings.{Settings}
+use Rattle.protocol.specs.declared.event.Event.TheVariants.{CountAdd, CountDown}
+use Rattle.protocol.specs.declared.event.Reply.TheVariants.{Word, Collected}
+use Rattle.registry_values.specs.declared.slot.Slot.TheVariants.{Retired}
+use Rattle.protocol.specs.declared.state.Hand.TheVariants.{Empty, Taking, Giving, Back}
+use Rattle.protocol.specs.declared.state.LocalPlace.TheVariants.{Free, Lifted}
+use Rattle.protocol.specs.History.{IsAttached}
+use Rattle.protocol.specs.State.{State, found_at, hand_at, mark_at, count_at}
+use Rattle.registry_values.specs.Balances.{bias}
+use Rattle.registry_values.specs.Slots.{slot_at, slot_of}
+use Rattle.protocol.specs.Events.{step}
+use Rattle.protocol.specs.Invariant.{IsIn, IsCounting}
+use Rattle.protocol.proofs.Bounds.{giving_within}
+use Rattle.protocol.proofs.Counts.{counting_cases, is_counting}
+use Rattle.protocol.proofs.CountKeeps.{held_counting}
+use Rattle.protocol.proofs.History.{one_entry}
+use Rattle.protocol.proofs.Numbers.{slot_number}
+use Rattle.protocol.proofs.Occupied.{attached_in, in_within}
+use Rattle.protocol.proofs.References.{giving_holds}
+use Rattle.protocol.proofs.Sums.{local_changed}
 use Rattle.cpu_words.specs.declared.view.InHand.TheVariants.{Empty as NoEntry, Taking as TakingEntry, Giving as GivingEntry, Back as BackEntry}
 use Rattle.cpu_words.specs.declared.view.CpuView.{CpuView}
 use Rattle.cpu_words.specs.declared.view.View.{View}

@@ -3,19 +3,21 @@ use Rattle.std.proofs.Common.{◌≡◌, ◌≢◌, inr, ⊎_elim, ℕ, zero, su
 use Rattle.std.specs.List.{zip}
 use Rattle.std.proofs.lemmas.List.Sums.{sum_by-cons}
 use Rattle.std.proofs.lemmas.Bool.{cases_eq}
-use Rattle.passive_core.specs.declared.entry.Entry.{Entry}
-use Rattle.passive_core.specs.declared.state.Mark.{Mark}
-use Rattle.passive_core.specs.declared.state.Due.{Due}
-use Rattle.passive_core.specs.State.{State, no_mark, with_cell, cell, mark_at, slot_at, count_at, total_at}
-use Rattle.passive_core.specs.Invariant.{AreRows, IsIn, subtracting_at, adding_at, is_adding_at}
-use Rattle.passive_core.proofs.Cells.{cell_cases, row_here, row_other}
-use Rattle.passive_core.proofs.Fit.{ranges}
-use Rattle.passive_core.specs.declared.entry.Change.{Change}
+use Rattle.registry_values.specs.declared.entry.Entry.{Entry}
+use Rattle.registry_values.specs.declared.mark.Mark.{Mark}
+use Rattle.protocol.specs.declared.state.Due.{Due}
+use Rattle.protocol.specs.State.{State, with_cell, cell, mark_at, count_at, total_at}
+use Rattle.registry_values.specs.Marks.{no_mark}
+use Rattle.registry_values.specs.Slots.{slot_at}
+use Rattle.protocol.specs.Invariant.{AreRows, IsIn, subtracting_at, adding_at, is_adding_at}
+use Rattle.protocol.proofs.Cells.{cell_cases, row_here, row_other}
+use Rattle.registry_values.proofs.Fit.{ranges}
+use Rattle.registry_values.specs.declared.entry.Change.{Change}
 use mathlib.Core.List.{IsPrefix}
 use Rattle.cpu_words.specs.declared.view.KeeperView.{KeeperView}
 use Rattle.cpu_words.specs.Views.{number_at, KeeperOwn, keeper_view, KeeperShown, GivesUp, collected_net, collected_one}
 use Rattle.cpu_words.specs.Rule.{Good}
-use Rattle.passive_core.proofs.Occupied.{in_within}
+use Rattle.protocol.proofs.Occupied.{in_within}
 
 -- a sum over the marks and net counts of a slot, as one mark changes
 pub sum_marked : (f : Mark × ℕ → ℕ) (ms : List Mark) (ns : List ℕ) (c : ℕ) (m : Mark) → c < length ms → c < length ns

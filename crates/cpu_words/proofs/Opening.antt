@@ -7,19 +7,22 @@ use lib.ListN.{get_elem?}
 use Rattle.atomic_table.specs.Seated.{TableId}
 use Rattle.atomic_table.specs.Table.{opening as opening_table}
 use Rattle.atomic_table.proofs.Lists.{at_longer, at_last}
-use Rattle.passive_core.specs.declared.entry.Entry.{Entry}
-use Rattle.passive_core.specs.declared.settings.Settings.{Settings}
-use Rattle.passive_core.specs.declared.state.RecordWords.{RecordWords}
-use Rattle.passive_core.specs.declared.state.Slot.TheVariants.{Vacant}
-use Rattle.passive_core.specs.declared.state.Mark.{Mark}
-use Rattle.passive_core.specs.Limits.{are_fit}
-use Rattle.passive_core.specs.State.{bias, no_words, no_mark, slot_at, opening}
-use Rattle.passive_core.specs.Events.{word}
-use Rattle.passive_core.specs.Invariant.{IsIn}
-use Rattle.passive_core.proofs.Fit.{ranges}
-use Rattle.passive_core.proofs.Cells.{get_or_all}
-use Rattle.passive_core.proofs.MarkKeeps.{cell_all, rows_all}
-use Rattle.passive_core.proofs.Keeping.{opening_holds}
+use Rattle.registry_values.specs.declared.entry.Entry.{Entry}
+use Rattle.registry_values.specs.declared.settings.Settings.{Settings}
+use Rattle.protocol.specs.declared.state.RecordWords.{RecordWords}
+use Rattle.registry_values.specs.declared.slot.Slot.TheVariants.{Vacant}
+use Rattle.registry_values.specs.declared.mark.Mark.{Mark}
+use Rattle.registry_values.specs.Limits.{are_fit}
+use Rattle.registry_values.specs.Balances.{bias}
+use Rattle.protocol.specs.State.{no_words, opening}
+use Rattle.registry_values.specs.Marks.{no_mark}
+use Rattle.registry_values.specs.Slots.{slot_at}
+use Rattle.protocol.specs.Events.{word}
+use Rattle.protocol.specs.Invariant.{IsIn}
+use Rattle.registry_values.proofs.Fit.{ranges}
+use Rattle.protocol.proofs.Cells.{get_or_all}
+use Rattle.protocol.proofs.MarkKeeps.{cell_all, rows_all}
+use Rattle.protocol.proofs.Keeping.{opening_holds}
 use Rattle.cpu_words.specs.declared.view.CpuView.{CpuView}
 use Rattle.cpu_words.specs.declared.view.KeeperView.{KeeperView}
 use Rattle.cpu_words.specs.declared.view.View.{View}
@@ -27,7 +30,7 @@ use Rattle.cpu_words.specs.Spots.{Spot, section_of, passive_of, count_of, head_w
 use Rattle.cpu_words.specs.Views.{Seated, new_cpu, first_view, Shown}
 use Rattle.cpu_words.specs.Rule.{Sits, Good, Ruled}
 use Rattle.cpu_words.specs.Opening.{AreOpening, AreSeats, keeper_with}
-use Rattle.passive_core.proofs.Occupied.{not_vacant}
+use Rattle.protocol.proofs.Occupied.{not_vacant}
 
 -- no entry is in a slot at the start
 none_in : (z : Settings) (t : ℕ) (e : Entry) → IsIn e (slot_at (replicate z.slots Vacant) t) → ⊥

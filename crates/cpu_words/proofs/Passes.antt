@@ -2,11 +2,11 @@
 use Rattle.std.proofs.Common.{◌≡◌, ℕ, ◌≤◌, List, [], ◌∷◌, ◌++◌, length, take, drop, sym, ap, ◌∙◌, subst, arith, append_assoc}
 use Rattle.std.proofs.lemmas.List.{append-nil, take-append-drop, length-take-le, take_all, take-append-le}
 use mathlib.Core.List.{IsPrefix}
-use Rattle.passive_core.specs.declared.entry.Entry.{Entry}
-use Rattle.passive_core.specs.declared.entry.Change.{Change}
-use Rattle.passive_core.specs.declared.entry.Change.TheVariants.{Attach}
-use Rattle.passive_core.specs.History.{change_at, IsAttached}
-use Rattle.passive_core.proofs.History.{length-after_change, at_old, at_within}
+use Rattle.registry_values.specs.declared.entry.Entry.{Entry}
+use Rattle.registry_values.specs.declared.entry.Change.{Change}
+use Rattle.registry_values.specs.declared.entry.Change.TheVariants.{Attach}
+use Rattle.protocol.specs.History.{change_at, IsAttached}
+use Rattle.protocol.proofs.History.{length-after_change, at_old, at_within}
 
 -- what stands in a prefix stands in the whole
 pub at_prefix : (p zs : List Change) (k : ℕ) → k ≤ length p → change_at (p ++ zs) k ≡ change_at p k

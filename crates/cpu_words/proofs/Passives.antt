@@ -8,22 +8,22 @@ use mathlib.Core.Option.{some}
 use mathlib.Core.List.{IsPrefix}
 use lib.ListN.{get_elem?}
 use Rattle.atomic_table.specs.Table.{State as Table, keeps, stepped}
-use Rattle.passive_core.specs.declared.entry.Entry.{Entry}
-use Rattle.passive_core.specs.declared.entry.Change.{Change}
-use Rattle.passive_core.specs.declared.settings.Settings.{Settings}
-use Rattle.passive_core.specs.declared.event.Event.{Event}
-use Rattle.passive_core.specs.declared.event.Event.TheVariants.{PassiveAdd, PassiveSub, LoadRecord}
-use Rattle.passive_core.specs.declared.event.RecordOf.TheVariants.{Passive}
-use Rattle.passive_core.specs.declared.event.Reply.TheVariants.{Word}
-use Rattle.passive_core.specs.History.{IsAttached}
-use Rattle.passive_core.specs.State.{State, with_cell, begin_at, depth_at, seen_at, found_at, slot_at, row_at, passive_at}
-use Rattle.passive_core.specs.Slots.{slot_of}
-use Rattle.passive_core.specs.Events.{step, is_number, after_add, after_sub, word}
-use Rattle.passive_core.specs.Invariant.{IsIn, Occupies}
-use Rattle.passive_core.proofs.History.{one_entry}
-use Rattle.passive_core.proofs.Cells.{cell_here, cell_other}
-use Rattle.passive_core.proofs.Occupied.{attached_in, one_in, in_within, one_number, slot_occupied, slot_found}
-use Rattle.passive_core.proofs.Numbers.{slot_number}
+use Rattle.registry_values.specs.declared.entry.Entry.{Entry}
+use Rattle.registry_values.specs.declared.entry.Change.{Change}
+use Rattle.registry_values.specs.declared.settings.Settings.{Settings}
+use Rattle.protocol.specs.declared.event.Event.{Event}
+use Rattle.protocol.specs.declared.event.Event.TheVariants.{PassiveAdd, PassiveSub, LoadRecord}
+use Rattle.protocol.specs.declared.event.RecordOf.TheVariants.{Passive}
+use Rattle.protocol.specs.declared.event.Reply.TheVariants.{Word}
+use Rattle.protocol.specs.History.{IsAttached}
+use Rattle.protocol.specs.State.{State, with_cell, begin_at, depth_at, seen_at, found_at, row_at, passive_at}
+use Rattle.registry_values.specs.Slots.{slot_at, slot_of}
+use Rattle.protocol.specs.Events.{step, is_number, after_add, after_sub, word}
+use Rattle.protocol.specs.Invariant.{IsIn, Occupies}
+use Rattle.protocol.proofs.History.{one_entry}
+use Rattle.protocol.proofs.Cells.{cell_here, cell_other}
+use Rattle.protocol.proofs.Occupied.{attached_in, one_in, in_within, one_number, slot_occupied, slot_found}
+use Rattle.protocol.proofs.Numbers.{slot_number}
 use Rattle.cpu_words.specs.declared.view.CpuView.{CpuView}
 use Rattle.cpu_words.specs.declared.view.View.{View}
 use Rattle.cpu_words.specs.declared.view.View.TheVariants.{Cpu}

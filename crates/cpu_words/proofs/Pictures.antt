@@ -1,11 +1,11 @@
 -- The keeper's views that some good state shows: those at the start, and each after a step.
 use Rattle.std.proofs.Common.{ℕ, zero, suc, ◌≤◌, IsTrue, refl, subst, arith}
 use Rattle.std.proofs.Math.Numerals.{add-one}
-use Rattle.passive_core.specs.declared.event.Event.{Event}
-use Rattle.passive_core.specs.declared.event.Reply.{Reply}
-use Rattle.passive_core.specs.declared.settings.Settings.{Settings}
-use Rattle.passive_core.specs.Limits.{are_fit}
-use Rattle.passive_core.specs.State.{opening}
+use Rattle.protocol.specs.declared.event.Event.{Event}
+use Rattle.protocol.specs.declared.event.Reply.{Reply}
+use Rattle.registry_values.specs.declared.settings.Settings.{Settings}
+use Rattle.registry_values.specs.Limits.{are_fit}
+use Rattle.protocol.specs.State.{opening}
 use Rattle.cpu_words.specs.declared.view.KeeperView.{KeeperView}
 use Rattle.cpu_words.specs.declared.view.View.TheVariants.{Keeper}
 use Rattle.cpu_words.specs.Opening.{keeper_with}

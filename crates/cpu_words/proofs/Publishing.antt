@@ -3,25 +3,26 @@ use Rattle.std.proofs.Common.{◌≡◌, inl, inr, ⊎_elim, ℕ, zero, suc, ◌
 use Rattle.std.specs.List.{zip, list_all}
 use Rattle.std.proofs.lemmas.Bool.{and_from, lt-ltb, le-leb, eq-eqb}
 use Rattle.std.proofs.lemmas.List.{get_or-replicate}
-use Rattle.passive_core.specs.declared.entry.Entry.{Entry}
-use Rattle.passive_core.specs.declared.entry.Change.{Change}
-use Rattle.passive_core.specs.declared.entry.Change.TheVariants.{Attach}
-use Rattle.passive_core.specs.declared.settings.Settings.{Settings}
-use Rattle.passive_core.specs.declared.state.Slot.{Slot}
-use Rattle.passive_core.specs.declared.state.Slot.TheVariants.{Vacant, Live, Retired}
-use Rattle.passive_core.specs.declared.state.Due.TheVariants.{Rest}
-use Rattle.passive_core.specs.declared.state.RecordWords.{RecordWords}
-use Rattle.passive_core.specs.declared.event.Event.TheVariants.{Publish}
-use Rattle.passive_core.specs.declared.event.Reply.TheVariants.{Done}
-use Rattle.passive_core.specs.History.{after_change, key_of}
-use Rattle.passive_core.specs.State.{State, bias, slot_at, row_at, count_at, total_at, kept_at}
-use Rattle.passive_core.specs.Slots.{is_taken, live_count}
-use Rattle.passive_core.specs.Events.{step, entry_of, is_bias, keeps_rightly}
-use Rattle.passive_core.specs.Invariant.{IsIn}
-use Rattle.passive_core.proofs.Cells.{cell_in_new, cell_in_old}
-use Rattle.passive_core.proofs.Fit.{ranges}
-use Rattle.passive_core.proofs.History.{length-after_change}
-use Rattle.passive_core.proofs.Occupied.{slot_cases, in_other, in_published, not_vacant}
+use Rattle.registry_values.specs.declared.entry.Entry.{Entry}
+use Rattle.registry_values.specs.declared.entry.Change.{Change}
+use Rattle.registry_values.specs.declared.entry.Change.TheVariants.{Attach}
+use Rattle.registry_values.specs.declared.settings.Settings.{Settings}
+use Rattle.registry_values.specs.declared.slot.Slot.{Slot}
+use Rattle.registry_values.specs.declared.slot.Slot.TheVariants.{Vacant, Live, Retired}
+use Rattle.protocol.specs.declared.state.Due.TheVariants.{Rest}
+use Rattle.protocol.specs.declared.state.RecordWords.{RecordWords}
+use Rattle.protocol.specs.declared.event.Event.TheVariants.{Publish}
+use Rattle.protocol.specs.declared.event.Reply.TheVariants.{Done}
+use Rattle.protocol.specs.History.{after_change}
+use Rattle.registry_values.specs.Slots.{key_of, slot_at, is_taken, live_count}
+use Rattle.protocol.specs.State.{State, row_at, count_at, total_at, kept_at}
+use Rattle.registry_values.specs.Balances.{bias}
+use Rattle.protocol.specs.Events.{step, entry_of, is_bias, keeps_rightly}
+use Rattle.protocol.specs.Invariant.{IsIn}
+use Rattle.protocol.proofs.Cells.{cell_in_new, cell_in_old}
+use Rattle.registry_values.proofs.Fit.{ranges}
+use Rattle.protocol.proofs.History.{length-after_change}
+use Rattle.protocol.proofs.Occupied.{slot_cases, in_other, in_published, not_vacant}
 use Rattle.cpu_words.specs.declared.view.KeeperView.{KeeperView}
 use Rattle.cpu_words.specs.declared.view.View.TheVariants.{Keeper}
 use Rattle.cpu_words.specs.Spots.{Spot, section_of, passive_of, count_of, head_word, next_of, record_of, total_of, IsSpot, word_at}

@@ -5,24 +5,24 @@ use Rattle.std.specs.Prelude.{slice_index}
 use mathlib.Core.Option.{some}
 use lib.ListN.{get_elem?}
 use Rattle.atomic_table.specs.Table.{State as Table, keeps, stepped}
-use Rattle.passive_core.specs.declared.entry.Entry.{Entry}
-use Rattle.passive_core.specs.declared.settings.Settings.{Settings}
-use Rattle.passive_core.specs.declared.event.Event.{Event}
-use Rattle.passive_core.specs.declared.event.Event.TheVariants.{LoadRecord}
-use Rattle.passive_core.specs.declared.event.RecordOf.TheVariants.{Local}
-use Rattle.passive_core.specs.declared.event.Reply.{Reply}
-use Rattle.passive_core.specs.declared.event.Reply.TheVariants.{Word}
-use Rattle.passive_core.specs.declared.state.RecordWords.{RecordWords}
-use Rattle.passive_core.specs.declared.state.LocalPlace.TheVariants.{Standing}
-use Rattle.passive_core.specs.State.{State, slot_at, row_at, local_at}
-use Rattle.passive_core.specs.Names.{is_lawful}
-use Rattle.passive_core.specs.Slots.{slot_of}
-use Rattle.passive_core.specs.Events.{step, word, words_of}
-use Rattle.passive_core.specs.Invariant.{IsIn, Occupies}
-use Rattle.passive_core.proofs.History.{one_entry}
-use Rattle.passive_core.proofs.HeldSums.{one_self}
-use Rattle.passive_core.proofs.Occupied.{attached_in, in_within}
-use Rattle.passive_core.proofs.Numbers.{slot_number}
+use Rattle.registry_values.specs.declared.entry.Entry.{Entry}
+use Rattle.registry_values.specs.declared.settings.Settings.{Settings}
+use Rattle.protocol.specs.declared.event.Event.{Event}
+use Rattle.protocol.specs.declared.event.Event.TheVariants.{LoadRecord}
+use Rattle.protocol.specs.declared.event.RecordOf.TheVariants.{Local}
+use Rattle.protocol.specs.declared.event.Reply.{Reply}
+use Rattle.protocol.specs.declared.event.Reply.TheVariants.{Word}
+use Rattle.protocol.specs.declared.state.RecordWords.{RecordWords}
+use Rattle.protocol.specs.declared.state.LocalPlace.TheVariants.{Standing}
+use Rattle.protocol.specs.State.{State, row_at, local_at}
+use Rattle.registry_values.specs.Slots.{slot_at, slot_of}
+use Rattle.registry_values.specs.Names.{is_lawful}
+use Rattle.protocol.specs.Events.{step, word, words_of}
+use Rattle.protocol.specs.Invariant.{IsIn, Occupies}
+use Rattle.protocol.proofs.History.{one_entry}
+use Rattle.protocol.proofs.HeldSums.{one_self}
+use Rattle.protocol.proofs.Occupied.{attached_in, in_within}
+use Rattle.protocol.proofs.Numbers.{slot_number}
 use Rattle.cpu_words.proofs.Standing.{standing_place}
 use Rattle.cpu_words.specs.declared.view.ReferenceView.{ReferenceView}
 use Rattle.cpu_words.specs.declared.view.View.{View}

@@ -8,35 +8,36 @@ use mathlib.Core.Option.{some, some-ne-none}
 use mathlib.Core.List.{IsPrefix}
 use lib.ListN.{get_elem?}
 use Rattle.atomic_table.specs.Table.{State as Table, keeps, stepped}
-use Rattle.passive_core.specs.declared.name.Name.{Name}
-use Rattle.passive_core.specs.declared.entry.Kind.{Kind}
-use Rattle.passive_core.specs.declared.entry.Entry.{Entry}
-use Rattle.passive_core.specs.declared.entry.Change.{Change}
-use Rattle.passive_core.specs.declared.entry.Change.TheVariants.{Detach}
-use Rattle.passive_core.specs.declared.settings.Settings.{Settings}
-use Rattle.passive_core.specs.declared.event.Event.TheVariants.{Seek, LoadLink, LoadRecord}
-use Rattle.passive_core.specs.declared.event.RecordOf.TheVariants.{Search as OfSearch}
-use Rattle.passive_core.specs.declared.event.Reply.{Reply}
-use Rattle.passive_core.specs.declared.event.Reply.TheVariants.{Done}
-use Rattle.passive_core.specs.declared.state.Key.{Key}
-use Rattle.passive_core.specs.declared.state.Place.{Place}
-use Rattle.passive_core.specs.declared.state.Place.TheVariants.{AtHead, AtNext, AtNumber, AtKind, AtHigh, AtLow, AtValue}
-use Rattle.passive_core.specs.declared.state.RecordWords.{RecordWords}
-use Rattle.passive_core.specs.declared.state.Search.{Search}
-use Rattle.passive_core.specs.declared.state.Loaded.{Loaded}
-use Rattle.passive_core.specs.declared.state.Loaded.TheVariants.{On, Over}
-use Rattle.passive_core.specs.History.{change_at, IsAttached, EndsAt, IsLiveAt, IsLawful}
-use Rattle.passive_core.specs.State.{State, begin_at, seen_at, search_at, found_at, slot_at, row_at}
-use Rattle.passive_core.specs.Events.{step, with_some, load_link, link_loaded, load_searched, are_words_of, word}
-use Rattle.passive_core.specs.Loaded.{loaded, judged, entry_with, row_of_place, outcome_of, SlotWithin}
-use Rattle.passive_core.specs.Invariant.{StandsOn, Holds, PlaceHolds}
-use Rattle.passive_core.proofs.Fit.{ranges}
-use Rattle.passive_core.proofs.Bounds.{search_within}
-use Rattle.passive_core.proofs.History.{at_within}
-use Rattle.passive_core.proofs.Loading.{loaded_is}
-use Rattle.passive_core.proofs.SearchKeeps.{IsAnswer, Answers, record_answers}
-use Rattle.passive_core.proofs.Cells.{one_in}
-use Rattle.passive_core.proofs.Searching.{Walks, stands_in, words_stand, search_walks, LinkTells, link_tells, head_ahead, at_next_ahead}
+use Rattle.registry_values.specs.declared.name.Name.{Name}
+use Rattle.registry_values.specs.declared.entry.Kind.{Kind}
+use Rattle.registry_values.specs.declared.entry.Entry.{Entry}
+use Rattle.registry_values.specs.declared.entry.Change.{Change}
+use Rattle.registry_values.specs.declared.entry.Change.TheVariants.{Detach}
+use Rattle.registry_values.specs.declared.settings.Settings.{Settings}
+use Rattle.protocol.specs.declared.event.Event.TheVariants.{Seek, LoadLink, LoadRecord}
+use Rattle.protocol.specs.declared.event.RecordOf.TheVariants.{Search as OfSearch}
+use Rattle.protocol.specs.declared.event.Reply.{Reply}
+use Rattle.protocol.specs.declared.event.Reply.TheVariants.{Done}
+use Rattle.registry_values.specs.declared.slot.Key.{Key}
+use Rattle.protocol.specs.declared.state.Place.{Place}
+use Rattle.protocol.specs.declared.state.Place.TheVariants.{AtHead, AtNext, AtNumber, AtKind, AtHigh, AtLow, AtValue}
+use Rattle.protocol.specs.declared.state.RecordWords.{RecordWords}
+use Rattle.protocol.specs.declared.state.Search.{Search}
+use Rattle.protocol.specs.declared.state.Loaded.{Loaded}
+use Rattle.protocol.specs.declared.state.Loaded.TheVariants.{On, Over}
+use Rattle.protocol.specs.History.{change_at, IsAttached, EndsAt, IsLiveAt, IsLawful}
+use Rattle.protocol.specs.State.{State, begin_at, seen_at, search_at, found_at, row_at}
+use Rattle.registry_values.specs.Slots.{slot_at}
+use Rattle.protocol.specs.Events.{step, with_some, load_link, link_loaded, load_searched, are_words_of, word}
+use Rattle.protocol.specs.Loaded.{loaded, judged, entry_with, row_of_place, outcome_of, SlotWithin}
+use Rattle.protocol.specs.Invariant.{StandsOn, Holds, PlaceHolds}
+use Rattle.registry_values.proofs.Fit.{ranges}
+use Rattle.protocol.proofs.Bounds.{search_within}
+use Rattle.protocol.proofs.History.{at_within}
+use Rattle.protocol.proofs.Loading.{loaded_is}
+use Rattle.protocol.proofs.SearchKeeps.{IsAnswer, Answers, record_answers}
+use Rattle.protocol.proofs.Cells.{one_in}
+use Rattle.protocol.proofs.Searching.{Walks, stands_in, words_stand, search_walks, LinkTells, link_tells, head_ahead, at_next_ahead}
 use Rattle.cpu_words.specs.declared.view.CpuView.{CpuView}
 use Rattle.cpu_words.specs.declared.view.View.{View}
 use Rattle.cpu_words.specs.declared.view.View.TheVariants.{Cpu}

@@ -1,11 +1,11 @@
 -- What a CPU's view tells of the core that shows it.
 use Rattle.std.proofs.Common.{◌≡◌, ◌≤◌, ◌<◌, length, take, None, true, refl, sym, ap, ◌∙◌, subst, arith}
 use Rattle.std.proofs.lemmas.Bool.{lt-ltb}
-use Rattle.passive_core.specs.declared.state.Hand.{Hand}
-use Rattle.passive_core.specs.declared.state.Hand.TheVariants.{Empty, Taking, Giving, Back}
-use Rattle.passive_core.specs.State.{State, section_at, begin_at, seen_at, search_at, found_at, hand_at}
-use Rattle.passive_core.specs.Events.{is_idle}
-use Rattle.passive_core.proofs.Fit.{Ranges, ranges}
+use Rattle.protocol.specs.declared.state.Hand.{Hand}
+use Rattle.protocol.specs.declared.state.Hand.TheVariants.{Empty, Taking, Giving, Back}
+use Rattle.protocol.specs.State.{State, section_at, begin_at, seen_at, search_at, found_at, hand_at}
+use Rattle.protocol.specs.Events.{is_idle}
+use Rattle.registry_values.proofs.Fit.{Ranges, ranges}
 use Rattle.cpu_words.specs.declared.view.InHand.TheVariants.{Empty as NoEntry}
 use Rattle.cpu_words.specs.declared.view.CpuView.{CpuView}
 use Rattle.cpu_words.specs.Views.{SameHand, CpuShown}

@@ -4,8 +4,8 @@ use Rattle.std.proofs.lemmas.List.Sums.{sum_by-cons, sum_by_push}
 use mathlib.Core.Option.{some, some-ne-none, some-injective}
 use lib.ListN.{get_elem?}
 use Rattle.atomic_table.proofs.Lists.{at_set, at_snoc}
-use Rattle.passive_core.specs.State.{State}
-use Rattle.passive_core.specs.Invariant.{standing_of}
+use Rattle.protocol.specs.State.{State}
+use Rattle.protocol.specs.Invariant.{standing_of}
 use Rattle.cpu_words.specs.declared.view.View.{View}
 use Rattle.cpu_words.specs.declared.view.View.TheVariants.{Spent}
 use Rattle.cpu_words.specs.Views.{Shown}

@@ -2,11 +2,11 @@
 use Rattle.std.proofs.Common.{◌≡◌, ◌≢◌, ⊎_elim, ℕ, zero, suc, ◌<◌, List, [], ◌∷◌, sum_by, ap, arith}
 use Rattle.std.proofs.lemmas.List.Sums.{sum_by-cons}
 use Rattle.std.proofs.lemmas.Bool.{cases_eq}
-use Rattle.passive_core.specs.declared.state.LocalPlace.{LocalPlace}
-use Rattle.passive_core.specs.declared.state.LocalPlace.TheVariants.{Free, Standing, Lifted}
-use Rattle.passive_core.specs.State.{local_at}
-use Rattle.passive_core.specs.Invariant.{standing_of}
-use Rattle.passive_core.proofs.Sums.{none_at}
+use Rattle.protocol.specs.declared.state.LocalPlace.{LocalPlace}
+use Rattle.protocol.specs.declared.state.LocalPlace.TheVariants.{Free, Standing, Lifted}
+use Rattle.protocol.specs.State.{local_at}
+use Rattle.protocol.specs.Invariant.{standing_of}
+use Rattle.protocol.proofs.Sums.{none_at}
 
 -- a place where a live reference to n stands
 pub standing_place : (n : ℕ) (locals : List LocalPlace) → 0 < sum_by (standing_of n) locals → (id : ℕ) × (local_at locals id ≡ Standing n)

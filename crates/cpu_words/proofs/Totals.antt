@@ -6,30 +6,32 @@ use mathlib.Core.Option.{some}
 use lib.ListN.{get_elem?}
 use Rattle.atomic_table.specs.Table.{Joins as TableJoins}
 use Rattle.atomic_table.proofs.Lists.{at_set}
-use Rattle.passive_core.specs.declared.entry.Entry.{Entry}
-use Rattle.passive_core.specs.declared.entry.Change.TheVariants.{Attach}
-use Rattle.passive_core.specs.declared.settings.Settings.{Settings}
-use Rattle.passive_core.specs.declared.state.Mark.{Mark}
-use Rattle.passive_core.specs.declared.state.Slot.{Slot}
-use Rattle.passive_core.specs.declared.state.Slot.TheVariants.{Live, Retired}
-use Rattle.passive_core.specs.declared.state.LocalPlace.TheVariants.{Free, Standing}
-use Rattle.passive_core.specs.declared.state.Due.TheVariants.{Rest, Adding, Subtracting}
-use Rattle.passive_core.specs.declared.event.Event.TheVariants.{TotalAdd, TotalSub, JoinKeeper}
-use Rattle.passive_core.specs.declared.event.Reply.TheVariants.{Done}
-use Rattle.passive_core.specs.State.{State, bias, no_mark, slot_at, mark_at, total_at}
-use Rattle.passive_core.specs.Slots.{slot_of, is_collected, is_some_collected}
-use Rattle.passive_core.specs.Events.{step, total_add, total_sub}
-use Rattle.passive_core.specs.Invariant.{IsIn, one_if, subtracting_at, adding_at, is_adding_at}
-use Rattle.passive_core.proofs.History.{at_within, one_entry}
-use Rattle.passive_core.proofs.Occupied.{attached_in, one_in, one_number, in_within}
-use Rattle.passive_core.proofs.Cells.{total_here, total_other}
-use Rattle.passive_core.proofs.HeldSums.{one_self, one_other}
-use Rattle.passive_core.proofs.References.{due_adding, due_subtracting}
-use Rattle.passive_core.proofs.MarkKeeps.{mark_place}
-use Rattle.passive_core.proofs.Numbers.{slot_number}
-use Rattle.passive_core.proofs.Locals.{any_within}
-use Rattle.passive_core.proofs.Sums.{local_changed, standing_within}
-use Rattle.passive_core.proofs.Bounds.{adding_range, adding_within, subtracting_range}
+use Rattle.registry_values.specs.declared.entry.Entry.{Entry}
+use Rattle.registry_values.specs.declared.entry.Change.TheVariants.{Attach}
+use Rattle.registry_values.specs.declared.settings.Settings.{Settings}
+use Rattle.registry_values.specs.declared.mark.Mark.{Mark}
+use Rattle.registry_values.specs.declared.slot.Slot.{Slot}
+use Rattle.registry_values.specs.declared.slot.Slot.TheVariants.{Live, Retired}
+use Rattle.protocol.specs.declared.state.LocalPlace.TheVariants.{Free, Standing}
+use Rattle.protocol.specs.declared.state.Due.TheVariants.{Rest, Adding, Subtracting}
+use Rattle.protocol.specs.declared.event.Event.TheVariants.{TotalAdd, TotalSub, JoinKeeper}
+use Rattle.protocol.specs.declared.event.Reply.TheVariants.{Done}
+use Rattle.protocol.specs.State.{State, mark_at, total_at}
+use Rattle.registry_values.specs.Balances.{bias}
+use Rattle.registry_values.specs.Marks.{no_mark, is_collected, is_some_collected}
+use Rattle.registry_values.specs.Slots.{slot_at, slot_of}
+use Rattle.protocol.specs.Events.{step, total_add, total_sub}
+use Rattle.protocol.specs.Invariant.{IsIn, one_if, subtracting_at, adding_at, is_adding_at}
+use Rattle.protocol.proofs.History.{at_within, one_entry}
+use Rattle.protocol.proofs.Occupied.{attached_in, one_in, one_number, in_within}
+use Rattle.protocol.proofs.Cells.{total_here, total_other}
+use Rattle.protocol.proofs.HeldSums.{one_self, one_other}
+use Rattle.protocol.proofs.References.{due_adding, due_subtracting}
+use Rattle.protocol.proofs.MarkKeeps.{mark_place}
+use Rattle.protocol.proofs.Numbers.{slot_number}
+use Rattle.protocol.proofs.MarkRows.{any_within}
+use Rattle.protocol.proofs.Sums.{local_changed, standing_within}
+use Rattle.protocol.proofs.Bounds.{adding_range, adding_within, subtracting_range}
 use Rattle.cpu_words.specs.declared.view.KeeperView.{KeeperView}
 use Rattle.cpu_words.specs.declared.view.ReferenceView.{ReferenceView}
 use Rattle.cpu_words.specs.declared.view.View.{View}

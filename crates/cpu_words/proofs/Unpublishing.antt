@@ -2,24 +2,25 @@
 use Rattle.std.proofs.Common.{◌≡◌, inl, inr, ⊎_elim, ℕ, zero, suc, ◌<◌, List, [], ◌∷◌, length, replicate, get_or, set, sum_by, Option, Some, None, refl, sym, ap, ◌∙◌, subst, arith, get_or-set_same, get_or-set_other}
 use Rattle.std.specs.List.{zip}
 use Rattle.std.proofs.lemmas.List.Sums.{sum_by-cons}
-use Rattle.passive_core.specs.declared.entry.Entry.{Entry}
-use Rattle.passive_core.specs.declared.entry.Change.TheVariants.{Detach}
-use Rattle.passive_core.specs.declared.settings.Settings.{Settings}
-use Rattle.passive_core.specs.declared.state.Slot.{Slot}
-use Rattle.passive_core.specs.declared.state.Slot.TheVariants.{Vacant, Live, Retired}
-use Rattle.passive_core.specs.declared.state.Mark.{Mark}
-use Rattle.passive_core.specs.declared.state.Due.{Due}
-use Rattle.passive_core.specs.declared.state.Due.TheVariants.{Rest, Snapshots}
-use Rattle.passive_core.specs.declared.event.Event.TheVariants.{Unpublish}
-use Rattle.passive_core.specs.declared.event.Reply.TheVariants.{Done}
-use Rattle.passive_core.specs.History.{after_change}
-use Rattle.passive_core.specs.State.{State, no_mark, slot_at}
-use Rattle.passive_core.specs.Slots.{slot_before, at_rest}
-use Rattle.passive_core.specs.Events.{step, guard, taken, unpublish, after_unpublish, unlinking, retiring}
-use Rattle.passive_core.specs.Invariant.{IsIn}
-use Rattle.passive_core.proofs.Cells.{cell_in_old, get_or_all}
-use Rattle.passive_core.proofs.History.{length-after_change}
-use Rattle.passive_core.proofs.Occupied.{place_cases, slot_cases, in_unpublished, in_within, live_one}
+use Rattle.registry_values.specs.declared.entry.Entry.{Entry}
+use Rattle.registry_values.specs.declared.entry.Change.TheVariants.{Detach}
+use Rattle.registry_values.specs.declared.settings.Settings.{Settings}
+use Rattle.registry_values.specs.declared.slot.Slot.{Slot}
+use Rattle.registry_values.specs.declared.slot.Slot.TheVariants.{Vacant, Live, Retired}
+use Rattle.registry_values.specs.declared.mark.Mark.{Mark}
+use Rattle.protocol.specs.declared.state.Due.{Due}
+use Rattle.protocol.specs.declared.state.Due.TheVariants.{Rest, Snapshots}
+use Rattle.protocol.specs.declared.event.Event.TheVariants.{Unpublish}
+use Rattle.protocol.specs.declared.event.Reply.TheVariants.{Done}
+use Rattle.protocol.specs.History.{after_change}
+use Rattle.protocol.specs.State.{State, at_rest}
+use Rattle.registry_values.specs.Marks.{no_mark}
+use Rattle.registry_values.specs.Slots.{slot_at, slot_before}
+use Rattle.protocol.specs.Events.{step, guard, taken, unpublish, after_unpublish, unlinking, retiring}
+use Rattle.protocol.specs.Invariant.{IsIn}
+use Rattle.protocol.proofs.Cells.{cell_in_old, get_or_all}
+use Rattle.protocol.proofs.History.{length-after_change}
+use Rattle.protocol.proofs.Occupied.{place_cases, slot_cases, in_unpublished, in_within, live_one}
 use Rattle.cpu_words.specs.declared.view.KeeperView.{KeeperView}
 use Rattle.cpu_words.specs.declared.view.View.TheVariants.{Keeper}
 use Rattle.cpu_words.specs.Spots.{Spot, section_of, passive_of, count_of, head_word, next_of, record_of, total_of, word_at}

@@ -1,17 +1,18 @@
 -- Draining by the keeper's seat (psref(9), localcount(9)): where it may make the step, and what changes in its view.
 use Rattle.std.specs.Prelude.{◌≡◌, ℕ, ◌+◌, ◌-◌, ◌⊎◌, List, [], replicate, slice_index_or, slice_set, true, false, Some, None}
-use Rattle.passive_core.specs.declared.entry.Entry.{Entry}
-use Rattle.passive_core.specs.declared.entry.Kind.TheVariants.{Iface}
-use Rattle.passive_core.specs.declared.event.Event.{Event}
-use Rattle.passive_core.specs.declared.event.Event.TheVariants.{PassiveLook, Collect, TotalAdd, TotalSub, KeptSub}
-use Rattle.passive_core.specs.declared.event.Reply.TheVariants.{Word}
-use Rattle.passive_core.specs.declared.state.Mark.{Mark}
-use Rattle.passive_core.specs.declared.state.Slot.{Slot}
-use Rattle.passive_core.specs.declared.state.Slot.TheVariants.{Vacant, Retired}
-use Rattle.passive_core.specs.declared.state.Due.TheVariants.{Rest, Adding, Subtracting}
-use Rattle.passive_core.specs.State.{bias, with_cell, slot_at, mark_at, total_at, kept_at}
-use Rattle.passive_core.specs.Slots.{slot_of, have_passed, are_clear}
-use Rattle.passive_core.specs.Events.{cleared, collected}
+use Rattle.registry_values.specs.declared.entry.Entry.{Entry}
+use Rattle.registry_values.specs.declared.entry.Kind.TheVariants.{Iface}
+use Rattle.protocol.specs.declared.event.Event.{Event}
+use Rattle.protocol.specs.declared.event.Event.TheVariants.{PassiveLook, Collect, TotalAdd, TotalSub, KeptSub}
+use Rattle.protocol.specs.declared.event.Reply.TheVariants.{Word}
+use Rattle.registry_values.specs.declared.mark.Mark.{Mark}
+use Rattle.registry_values.specs.declared.slot.Slot.{Slot}
+use Rattle.registry_values.specs.declared.slot.Slot.TheVariants.{Vacant, Retired}
+use Rattle.protocol.specs.declared.state.Due.TheVariants.{Rest, Adding, Subtracting}
+use Rattle.registry_values.specs.Balances.{bias}
+use Rattle.protocol.specs.State.{with_cell, mark_at, total_at, kept_at}
+use Rattle.registry_values.specs.Slots.{slot_at, slot_of}
+use Rattle.registry_values.specs.Marks.{have_passed, are_clear, cleared, collected}
 use Rattle.cpu_words.specs.declared.view.KeeperView.{KeeperView}
 use Rattle.cpu_words.specs.declared.view.ReferenceView.{ReferenceView}
 use Rattle.cpu_words.specs.declared.view.View.{View}

@@ -1,9 +1,10 @@
 -- A slot keeps a reference to a driver: the reference's seat is joined into the keeper's.
 use Rattle.std.specs.Prelude.{◌≡◌, ◌⊎◌, ℕ, slice_set, Some, None}
-use Rattle.passive_core.specs.declared.entry.Kind.TheVariants.{Driver}
-use Rattle.passive_core.specs.declared.event.Event.TheVariants.{Vacate}
-use Rattle.passive_core.specs.declared.state.Slot.TheVariants.{Vacant}
-use Rattle.passive_core.specs.State.{slot_at, kept_at}
+use Rattle.registry_values.specs.declared.entry.Kind.TheVariants.{Driver}
+use Rattle.protocol.specs.declared.event.Event.TheVariants.{Vacate}
+use Rattle.registry_values.specs.declared.slot.Slot.TheVariants.{Vacant}
+use Rattle.registry_values.specs.Slots.{slot_at}
+use Rattle.protocol.specs.State.{kept_at}
 use Rattle.cpu_words.specs.declared.view.KeeperView.{KeeperView}
 use Rattle.cpu_words.specs.declared.view.ReferenceView.{ReferenceView}
 use Rattle.cpu_words.specs.declared.view.View.{View}

@@ -1,16 +1,18 @@
 -- Publish and Unpublish by the keeper's seat: one store of a link each, which the keeper knows from the live numbers of its own view.
 use Rattle.std.specs.Prelude.{◌≡◌, ℕ, suc, ◌+◌, ◌*◌, ◌<◌, ◌≤◌, true, false, List, length, replicate, slice_index_or, slice_set, Option, Some, None}
-use Rattle.passive_core.specs.declared.entry.Entry.{Entry}
-use Rattle.passive_core.specs.declared.entry.Change.TheVariants.{Attach, Detach}
-use Rattle.passive_core.specs.declared.event.Event.{Event}
-use Rattle.passive_core.specs.declared.event.Event.TheVariants.{Publish, Unpublish}
-use Rattle.passive_core.specs.declared.state.Slot.{Slot}
-use Rattle.passive_core.specs.declared.state.Slot.TheVariants.{Vacant, Live, Retired}
-use Rattle.passive_core.specs.declared.state.Due.TheVariants.{Rest, Snapshots}
-use Rattle.passive_core.specs.History.{after_change, key_of}
-use Rattle.passive_core.specs.State.{bias, no_mark, slot_at, row_at, count_at, total_at, kept_at}
-use Rattle.passive_core.specs.Slots.{is_taken, live_count}
-use Rattle.passive_core.specs.Events.{entry_of, keeps_rightly}
+use Rattle.registry_values.specs.declared.entry.Entry.{Entry}
+use Rattle.registry_values.specs.declared.entry.Change.TheVariants.{Attach, Detach}
+use Rattle.protocol.specs.declared.event.Event.{Event}
+use Rattle.protocol.specs.declared.event.Event.TheVariants.{Publish, Unpublish}
+use Rattle.registry_values.specs.declared.slot.Slot.{Slot}
+use Rattle.registry_values.specs.declared.slot.Slot.TheVariants.{Vacant, Live, Retired}
+use Rattle.protocol.specs.declared.state.Due.TheVariants.{Rest, Snapshots}
+use Rattle.protocol.specs.History.{after_change}
+use Rattle.registry_values.specs.Slots.{key_of, slot_at, is_taken, live_count}
+use Rattle.registry_values.specs.Balances.{bias}
+use Rattle.registry_values.specs.Marks.{no_mark}
+use Rattle.protocol.specs.State.{row_at, count_at, total_at, kept_at}
+use Rattle.protocol.specs.Events.{entry_of, keeps_rightly}
 use Rattle.cpu_words.specs.declared.view.KeeperView.{KeeperView}
 
 -- the link x leads to the greatest live number below n, or to the end where there is none

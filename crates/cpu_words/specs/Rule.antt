@@ -3,10 +3,12 @@ use Rattle.std.specs.Prelude.{◌≡◌, ℕ, ◌<◌, ◌≤◌, List, length, 
 use mathlib.Core.Option.{some}
 use lib.ListN.{get_elem?}
 use Rattle.atomic_table.specs.Table.{State as Table}
-use Rattle.passive_core.specs.declared.entry.Entry.{Entry}
-use Rattle.passive_core.specs.declared.settings.Settings.{Settings}
-use Rattle.passive_core.specs.State.{State, bias, section_at, depth_at, seen_at, slot_at, passive_at, count_at}
-use Rattle.passive_core.specs.Invariant.{IsIn, one_if, standing_of, Holds}
+use Rattle.registry_values.specs.declared.entry.Entry.{Entry}
+use Rattle.registry_values.specs.declared.settings.Settings.{Settings}
+use Rattle.protocol.specs.State.{State, section_at, depth_at, seen_at, passive_at, count_at}
+use Rattle.registry_values.specs.Balances.{bias}
+use Rattle.registry_values.specs.Slots.{slot_at}
+use Rattle.protocol.specs.Invariant.{IsIn, one_if, standing_of, Holds}
 use Rattle.cpu_words.specs.Spots.{Spot, index, IsSpot, word_at}
 use Rattle.cpu_words.specs.Views.{KeeperShown, Shown, is_to}
 use Rattle.cpu_words.specs.declared.view.KeeperView.{KeeperView}

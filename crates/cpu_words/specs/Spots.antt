@@ -1,9 +1,9 @@
 -- Where the words lie. The strides are constants, for at most 8 CPUs and 32 slots: no place depends on the settings.
 use Rattle.std.specs.Prelude.{◌≡◌, ℕ, ◌+◌, ◌*◌, ◌<◌, ◌≤◌, ◌⊎◌, IsTrue, slice_index_or, Option, Some, None}
-use Rattle.passive_core.specs.declared.settings.Settings.{Settings}
-use Rattle.passive_core.specs.Limits.{are_fit}
-use Rattle.passive_core.specs.State.{State, section_at, row_at, passive_at, count_at, total_at}
-use Rattle.passive_core.specs.Events.{word}
+use Rattle.registry_values.specs.declared.settings.Settings.{Settings}
+use Rattle.registry_values.specs.Limits.{are_fit}
+use Rattle.protocol.specs.State.{State, section_at, row_at, passive_at, count_at, total_at}
+use Rattle.protocol.specs.Events.{word}
 
 -- a word of the table: a CPU's section, its passive and count words for each slot, the head, and a slot's link, record words and total
 pub data Spot : Type 0 where

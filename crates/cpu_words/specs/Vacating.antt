@@ -1,13 +1,15 @@
 -- A retired slot with all its marks may be taken as vacant: Vacate touches no word, and shows from the first word that is stored in the slot on.
 use Rattle.std.specs.Prelude.{◌≡◌, ◌⊎◌, ℕ, ◌<◌, [], replicate, slice_index_or, slice_set, None, true}
-use Rattle.passive_core.specs.declared.entry.Entry.{Entry}
-use Rattle.passive_core.specs.declared.event.Event.TheVariants.{Vacate}
-use Rattle.passive_core.specs.declared.event.Reply.TheVariants.{Done}
-use Rattle.passive_core.specs.declared.state.Slot.{Slot}
-use Rattle.passive_core.specs.declared.state.Slot.TheVariants.{Vacant, Live, Retired}
-use Rattle.passive_core.specs.declared.state.Due.TheVariants.{Rest}
-use Rattle.passive_core.specs.State.{bias, slot_at, total_at, kept_at}
-use Rattle.passive_core.specs.Slots.{have_passed, are_clear, are_collected}
+use Rattle.registry_values.specs.declared.entry.Entry.{Entry}
+use Rattle.protocol.specs.declared.event.Event.TheVariants.{Vacate}
+use Rattle.protocol.specs.declared.event.Reply.TheVariants.{Done}
+use Rattle.registry_values.specs.declared.slot.Slot.{Slot}
+use Rattle.registry_values.specs.declared.slot.Slot.TheVariants.{Vacant, Live, Retired}
+use Rattle.protocol.specs.declared.state.Due.TheVariants.{Rest}
+use Rattle.registry_values.specs.Balances.{bias}
+use Rattle.registry_values.specs.Slots.{slot_at}
+use Rattle.protocol.specs.State.{total_at, kept_at}
+use Rattle.registry_values.specs.Marks.{have_passed, are_clear, are_collected}
 use Rattle.cpu_words.specs.declared.view.KeeperView.{KeeperView}
 use Rattle.cpu_words.specs.declared.view.View.TheVariants.{Keeper}
 use Rattle.cpu_words.specs.Steps.{Makes}

@@ -4,7 +4,7 @@ ghost use Rattle.std.specs.Prelude.{◌≡◌};
 
 use crate::view::{CpuView, KeeperView, View};
 use atomic_table::{Play, Table, TableRule};
-use passive_core::Settings;
+use registry_values::Settings;
 use std::alloc::Global;
 use std::marker::{Brand, Model, PhantomData};
 
@@ -50,7 +50,7 @@ impl Words {
 /// Names one table and its settings, for contracts: what a lock or a message hands on is known by its type alone.
 pub trait Domain {
     ghost use Rattle.atomic_table.specs.Seated.{TableId};
-    ghost use Rattle.passive_core.specs.declared.settings.Settings.{Settings};
+    ghost use Rattle.registry_values.specs.declared.settings.Settings.{Settings};
 
     ghost table: { TableId };
 

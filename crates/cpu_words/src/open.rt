@@ -1,8 +1,8 @@
 //! A new table: its words, the keeper's seat, and a seat for each CPU.
 
 ghost use Rattle.std.specs.Prelude.{◌≡◌, ◌↔◌, ◌≤◌, [], IfOk, IfErr, IsErrOf, IsTrue, false, vec_len, vec_capacity};
-ghost use Rattle.passive_core.specs.Limits.{are_fit};
-ghost use Rattle.passive_core.specs.Refusals.{IsRefusalOfNew};
+ghost use Rattle.registry_values.specs.Limits.{are_fit};
+ghost use Rattle.registry_values.specs.Refusals.{IsRefusalOfNew};
 ghost use Rattle.cpu_words.specs.Views.{new_keeper};
 ghost use Rattle.cpu_words.specs.Opening.{AreOpening, AreSeats, keeper_with};
 
@@ -10,7 +10,7 @@ use crate::law::Words;
 use crate::seat::{CpuSeat, KeeperSeat};
 use crate::steps::seat;
 use atomic_table::Table;
-use passive_core::{BIAS, Refusal, Settings};
+use registry_values::{BIAS, Refusal, Settings};
 use std::alloc::{AllocError, Global};
 
 impl Words {

@@ -1,6 +1,6 @@
 use crate::Words;
 use crate::steps::{enter, look_now};
-use passive_core::{Refusal, Settings};
+use registry_values::{Refusal, Settings};
 use std::test::Fail;
 
 const LEAST: Settings = Settings {

@@ -1,7 +1,8 @@
 //! What the seats know. Contracts alone speak of these types: no value of them is ever made, so their lists take no memory and their
 //! counts have no last value.
 
-use passive_core::{Change, Due, Entry, Event, Mark, RecordWords, Reply, Search, Settings, Slot};
+use protocol::{Due, Event, RecordWords, Reply, Search};
+use registry_values::{Change, Entry, Mark, Settings, Slot};
 use std::collections::LinkedList;
 
 /// What is in a CPU's hand, by entry. The ids that the core gives its references are in no view.

@@ -4,14 +4,14 @@ use Rattle.std.proofs.lemmas.Bool.{and_parts}
 use mathlib.Core.Logic.{dite}
 use native.Mathlib.Decide.{ℕ_discrete}
 use Rattle.atomic_table.specs.Seated.{TableId}
-use Rattle.passive_core.specs.declared.entry.Entry.{Entry}
-use Rattle.passive_core.specs.declared.entry.Change.TheVariants.{Attach}
-use Rattle.passive_core.specs.declared.settings.Settings.{Settings}
-use Rattle.passive_core.specs.Limits.{is_within, are_sizes_fit, are_limits_fit, are_fit}
-use Rattle.passive_core.specs.Invariant.{greatest_limit}
-use Rattle.passive_core.specs.State.{bias}
-use Rattle.passive_core.proofs.Fit.{ranges}
-use Rattle.passive_core.proofs.History.{at_within}
+use Rattle.registry_values.specs.declared.entry.Entry.{Entry}
+use Rattle.registry_values.specs.declared.entry.Change.TheVariants.{Attach}
+use Rattle.registry_values.specs.declared.settings.Settings.{Settings}
+use Rattle.registry_values.specs.Limits.{is_within, are_sizes_fit, are_limits_fit, are_fit}
+use Rattle.protocol.specs.Invariant.{greatest_limit}
+use Rattle.registry_values.specs.Balances.{bias}
+use Rattle.registry_values.proofs.Fit.{ranges}
+use Rattle.protocol.proofs.History.{at_within}
 use Rattle.cpu_words.specs.declared.view.CpuView.{CpuView}
 use Rattle.cpu_words.specs.declared.view.ReferenceView.{ReferenceView}
 use Rattle.cpu_words.specs.declared.view.InHand.TheVariants.{Empty as NoEntry, Taking as TakingEntry}

@@ -4,9 +4,9 @@ use mathlib.Core.Logic.{dite}
 use native.Mathlib.Decide.{ℕ_discrete}
 use Rattle.std.proofs.lemmas.Bool.{eq-eqb, ne_eqb}
 use Rattle.atomic_table.specs.Seated.{TableId}
-use Rattle.passive_core.specs.declared.settings.Settings.{Settings}
-use Rattle.passive_core.specs.Invariant.{greatest_limit}
-use Rattle.passive_core.specs.State.{bias}
+use Rattle.registry_values.specs.declared.settings.Settings.{Settings}
+use Rattle.protocol.specs.Invariant.{greatest_limit}
+use Rattle.registry_values.specs.Balances.{bias}
 use Rattle.cpu_words.specs.declared.view.CpuView.{CpuView}
 use Rattle.cpu_words.specs.Views.{number_at, with_number}
 use Rattle.cpu_words.specs.Locals.{IsPlaceCount, IsMetAlone}

@@ -1,23 +1,25 @@
 -- What the keeper's view says of totals: of each good state of the core that shows it, or where there is one (`IsPictured`).
 use Rattle.std.proofs.Common.{◌≡◌, inr, ⊎_elim, ℕ, ◌+◌, ◌^◌, ◌<◌, ◌≤◌, List, [], length, get_or, Option, Some, true, refl, sym, ap, ◌∙◌, subst, arith}
 use Rattle.std.proofs.lemmas.Bool.{cases_lt}
-use Rattle.passive_core.specs.declared.entry.Entry.{Entry}
-use Rattle.passive_core.specs.declared.settings.Settings.{Settings}
-use Rattle.passive_core.specs.declared.state.Due.{Due}
-use Rattle.passive_core.specs.declared.state.Due.TheVariants.{Rest, Adding, Subtracting}
-use Rattle.passive_core.specs.declared.state.Slot.{Slot}
-use Rattle.passive_core.specs.declared.state.Slot.TheVariants.{Retired}
-use Rattle.passive_core.specs.Invariant.{IsIn, Balances, held_at, adding_at, is_adding_at, subtracting_at}
-use Rattle.passive_core.specs.Slots.{slot_of, are_collected}
-use Rattle.passive_core.specs.State.{State, bias, slot_at, total_at, kept_at}
-use Rattle.passive_core.proofs.Balancing.{all_collected}
-use Rattle.passive_core.proofs.Bounds.{adding_range}
-use Rattle.passive_core.proofs.CountBounds.{collected_at, total_range}
-use Rattle.passive_core.proofs.CountKeeps.{fit_of}
-use Rattle.passive_core.proofs.Held.{held_kept}
-use Rattle.passive_core.proofs.HeldSums.{one_self}
-use Rattle.passive_core.proofs.Occupied.{in_within, retired_one, slot_has}
-use Rattle.passive_core.proofs.References.{due_subtracting}
+use Rattle.registry_values.specs.declared.entry.Entry.{Entry}
+use Rattle.registry_values.specs.declared.settings.Settings.{Settings}
+use Rattle.protocol.specs.declared.state.Due.{Due}
+use Rattle.protocol.specs.declared.state.Due.TheVariants.{Rest, Adding, Subtracting}
+use Rattle.registry_values.specs.declared.slot.Slot.{Slot}
+use Rattle.registry_values.specs.declared.slot.Slot.TheVariants.{Retired}
+use Rattle.protocol.specs.Invariant.{IsIn, Balances, held_at, adding_at, is_adding_at, subtracting_at}
+use Rattle.registry_values.specs.Slots.{slot_of, slot_at}
+use Rattle.registry_values.specs.Marks.{are_collected}
+use Rattle.protocol.specs.State.{State, total_at, kept_at}
+use Rattle.registry_values.specs.Balances.{bias}
+use Rattle.protocol.proofs.Balancing.{all_collected}
+use Rattle.protocol.proofs.Bounds.{adding_range}
+use Rattle.protocol.proofs.CountBounds.{collected_at, total_range}
+use Rattle.protocol.proofs.CountKeeps.{fit_of}
+use Rattle.protocol.proofs.Held.{held_kept}
+use Rattle.protocol.proofs.HeldSums.{one_self}
+use Rattle.protocol.proofs.Occupied.{in_within, retired_one, slot_has}
+use Rattle.protocol.proofs.References.{due_subtracting}
 use Rattle.cpu_words.specs.declared.view.KeeperView.{KeeperView}
 use Rattle.cpu_words.specs.Draining.{row_of}
 use Rattle.cpu_words.specs.Rule.{Good, IsPictured}

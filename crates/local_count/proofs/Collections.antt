@@ -2,20 +2,21 @@
 use Rattle.std.proofs.Common.{◌≡◌, ℕ, ◌+◌, ◌-◌, ◌^◌, ◌<◌, ◌≤◌, List, [], length, get_or, set, true, refl, sym, ap, ◌∙◌, subst, arith, length-set, get_or-set_same, get_or-set_other}
 use Rattle.std.proofs.Math.Seq.{map-set_same}
 use Rattle.atomic_table.specs.Seated.{TableId}
-use Rattle.passive_core.specs.declared.entry.Entry.{Entry}
-use Rattle.passive_core.specs.declared.event.Event.TheVariants.{Collect, TotalAdd}
-use Rattle.passive_core.specs.declared.event.Reply.TheVariants.{Done, Word}
-use Rattle.passive_core.specs.declared.settings.Settings.{Settings}
-use Rattle.passive_core.specs.declared.state.Due.TheVariants.{Rest}
-use Rattle.passive_core.specs.declared.state.Mark.{Mark}
-use Rattle.passive_core.specs.declared.state.Slot.{Slot}
-use Rattle.passive_core.specs.declared.state.Slot.TheVariants.{Vacant, Live, Retired}
-use Rattle.passive_core.specs.Events.{collected}
-use Rattle.passive_core.specs.Slots.{are_collected}
-use Rattle.passive_core.specs.State.{bias, no_mark, slot_at, total_at}
-use Rattle.passive_core.proofs.Cells.{total_here, total_other}
-use Rattle.passive_core.proofs.Fit.{ranges}
-use Rattle.passive_core.proofs.ListKeeps.{rows_put}
+use Rattle.registry_values.specs.declared.entry.Entry.{Entry}
+use Rattle.protocol.specs.declared.event.Event.TheVariants.{Collect, TotalAdd}
+use Rattle.protocol.specs.declared.event.Reply.TheVariants.{Done, Word}
+use Rattle.registry_values.specs.declared.settings.Settings.{Settings}
+use Rattle.protocol.specs.declared.state.Due.TheVariants.{Rest}
+use Rattle.registry_values.specs.declared.mark.Mark.{Mark}
+use Rattle.registry_values.specs.declared.slot.Slot.{Slot}
+use Rattle.registry_values.specs.declared.slot.Slot.TheVariants.{Vacant, Live, Retired}
+use Rattle.registry_values.specs.Marks.{collected, are_collected, no_mark}
+use Rattle.registry_values.specs.Balances.{bias}
+use Rattle.registry_values.specs.Slots.{slot_at}
+use Rattle.protocol.specs.State.{total_at}
+use Rattle.protocol.proofs.Cells.{total_here, total_other}
+use Rattle.registry_values.proofs.Fit.{ranges}
+use Rattle.protocol.proofs.ListKeeps.{rows_put}
 use Rattle.cpu_words.specs.declared.view.KeeperView.{KeeperView}
 use Rattle.cpu_words.specs.declared.view.View.TheVariants.{Keeper}
 use Rattle.cpu_words.specs.Draining.{row_of, HasCollected, MayTotalAdd, HasAdded}

@@ -4,22 +4,23 @@ use Rattle.std.proofs.lemmas.List.{map-set}
 use Rattle.std.proofs.lemmas.List.Quantifiers.{position-Some}
 use Rattle.std.proofs.Math.Seq.{map-set_same}
 use Rattle.atomic_table.specs.Seated.{TableId}
-use Rattle.passive_core.specs.declared.entry.Entry.{Entry}
-use Rattle.passive_core.specs.declared.entry.Kind.TheVariants.{Iface}
-use Rattle.passive_core.specs.declared.event.Event.TheVariants.{KeptSub}
-use Rattle.passive_core.specs.declared.event.Reply.TheVariants.{Done}
-use Rattle.passive_core.specs.declared.settings.Settings.{Settings}
-use Rattle.passive_core.specs.declared.state.Due.TheVariants.{Rest}
-use Rattle.passive_core.specs.declared.state.Slot.{Slot}
-use Rattle.passive_core.specs.declared.state.Slot.TheVariants.{Vacant, Live, Retired}
-use Rattle.passive_core.specs.Invariant.{IsIn, DriversKept}
-use Rattle.passive_core.specs.Slots.{has_number, live_count, slot_of}
-use Rattle.passive_core.specs.State.{bias, slot_at, total_at, kept_at}
-use Rattle.passive_core.proofs.Cells.{slot_here, slot_other, total_other}
-use Rattle.passive_core.proofs.Drivers.{kept_number}
-use Rattle.passive_core.proofs.Fit.{ranges}
-use Rattle.passive_core.proofs.ListKeeps.{live_count_put, rows_put}
-use Rattle.passive_core.proofs.Occupied.{has_it, not_vacant, number_in, one_number, position_found, slot_found, slot_has}
+use Rattle.registry_values.specs.declared.entry.Entry.{Entry}
+use Rattle.registry_values.specs.declared.entry.Kind.TheVariants.{Iface}
+use Rattle.protocol.specs.declared.event.Event.TheVariants.{KeptSub}
+use Rattle.protocol.specs.declared.event.Reply.TheVariants.{Done}
+use Rattle.registry_values.specs.declared.settings.Settings.{Settings}
+use Rattle.protocol.specs.declared.state.Due.TheVariants.{Rest}
+use Rattle.registry_values.specs.declared.slot.Slot.{Slot}
+use Rattle.registry_values.specs.declared.slot.Slot.TheVariants.{Vacant, Live, Retired}
+use Rattle.protocol.specs.Invariant.{IsIn, DriversKept}
+use Rattle.registry_values.specs.Slots.{has_number, live_count, slot_of, slot_at}
+use Rattle.registry_values.specs.Balances.{bias}
+use Rattle.protocol.specs.State.{total_at, kept_at}
+use Rattle.protocol.proofs.Cells.{slot_here, slot_other, total_other}
+use Rattle.protocol.proofs.Drivers.{kept_number}
+use Rattle.registry_values.proofs.Fit.{ranges}
+use Rattle.protocol.proofs.ListKeeps.{live_count_put, rows_put}
+use Rattle.protocol.proofs.Occupied.{has_it, not_vacant, number_in, one_number, position_found, slot_found, slot_has}
 use Rattle.cpu_words.specs.declared.view.KeeperView.{KeeperView}
 use Rattle.cpu_words.specs.declared.view.View.TheVariants.{Keeper}
 use Rattle.cpu_words.specs.Draining.{MayKeptSub, HasKeptSub}

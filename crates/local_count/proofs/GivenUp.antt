@@ -2,14 +2,15 @@
 use Rattle.std.proofs.Common.{◌≡◌, inl, inr, ⊎_elim, ℕ, ◌-◌, List, set, Some, true, refl, sym, ap, ◌∙◌, subst}
 use Rattle.std.proofs.Math.Seq.{map-set_same}
 use Rattle.atomic_table.specs.Seated.{TableId}
-use Rattle.passive_core.specs.declared.entry.Entry.{Entry}
-use Rattle.passive_core.specs.declared.event.Event.TheVariants.{JoinKeeper, TotalSub}
-use Rattle.passive_core.specs.declared.event.Reply.TheVariants.{Done}
-use Rattle.passive_core.specs.declared.settings.Settings.{Settings}
-use Rattle.passive_core.specs.declared.state.Due.{Due}
-use Rattle.passive_core.specs.declared.state.Due.TheVariants.{Rest}
-use Rattle.passive_core.specs.declared.state.Slot.TheVariants.{Retired}
-use Rattle.passive_core.specs.State.{slot_at, mark_at, total_at}
+use Rattle.registry_values.specs.declared.entry.Entry.{Entry}
+use Rattle.protocol.specs.declared.event.Event.TheVariants.{JoinKeeper, TotalSub}
+use Rattle.protocol.specs.declared.event.Reply.TheVariants.{Done}
+use Rattle.registry_values.specs.declared.settings.Settings.{Settings}
+use Rattle.protocol.specs.declared.state.Due.{Due}
+use Rattle.protocol.specs.declared.state.Due.TheVariants.{Rest}
+use Rattle.registry_values.specs.declared.slot.Slot.TheVariants.{Retired}
+use Rattle.registry_values.specs.Slots.{slot_at}
+use Rattle.protocol.specs.State.{mark_at, total_at}
 use Rattle.cpu_words.specs.declared.view.KeeperView.{KeeperView}
 use Rattle.cpu_words.specs.declared.view.ReferenceView.{ReferenceView}
 use Rattle.cpu_words.specs.declared.view.View.TheVariants.{Keeper, Reference}

@@ -1,14 +1,15 @@
 -- The keeper's side of local references (localcount(9)): what its calls ask, and what they leave of the keeper.
 use Rattle.std.specs.Prelude.{◌≡◌, ℕ, ◌+◌, ◌-◌, List, slice_set, position, Option, Some, None}
-use Rattle.passive_core.specs.declared.entry.Entry.{Entry}
-use Rattle.passive_core.specs.declared.event.Event.TheVariants.{Collect, TotalAdd, TotalSub, JoinKeeper, Keep, KeptSub}
-use Rattle.passive_core.specs.declared.event.Reply.TheVariants.{Done, Word}
-use Rattle.passive_core.specs.declared.state.Slot.TheVariants.{Vacant, Retired}
-use Rattle.passive_core.specs.declared.state.Due.TheVariants.{Adding}
-use Rattle.passive_core.specs.Events.{collected as collected_mark}
-use Rattle.passive_core.specs.Invariant.{held_at}
-use Rattle.passive_core.specs.Slots.{has_number}
-use Rattle.passive_core.specs.State.{State, bias, with_cell, slot_at, mark_at, total_at}
+use Rattle.registry_values.specs.declared.entry.Entry.{Entry}
+use Rattle.protocol.specs.declared.event.Event.TheVariants.{Collect, TotalAdd, TotalSub, JoinKeeper, Keep, KeptSub}
+use Rattle.protocol.specs.declared.event.Reply.TheVariants.{Done, Word}
+use Rattle.registry_values.specs.declared.slot.Slot.TheVariants.{Vacant, Retired}
+use Rattle.protocol.specs.declared.state.Due.TheVariants.{Adding}
+use Rattle.registry_values.specs.Marks.{collected as collected_mark}
+use Rattle.protocol.specs.Invariant.{held_at}
+use Rattle.registry_values.specs.Slots.{has_number, slot_at}
+use Rattle.protocol.specs.State.{State, with_cell, mark_at, total_at}
+use Rattle.registry_values.specs.Balances.{bias}
 use Rattle.cpu_words.specs.declared.view.KeeperView.{KeeperView}
 use Rattle.cpu_words.specs.declared.view.ReferenceView.{ReferenceView}
 use Rattle.cpu_words.specs.declared.view.View.TheVariants.{Keeper, Reference}

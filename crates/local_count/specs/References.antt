@@ -1,13 +1,13 @@
 -- Local references: how their plain data agree with what the seat knows, and what a CPU's calls leave.
 use Rattle.std.specs.Prelude.{◌≡◌, ℕ, ◌+◌, ◌<◌, ◌≤◌, ◌==◌, if◌then◌else◌, Some, None, IsTrue}
 use Rattle.atomic_table.specs.Seated.{TableId}
-use Rattle.passive_core.specs.declared.entry.Entry.{Entry}
-use Rattle.passive_core.specs.declared.entry.Kind.{Kind}
-use Rattle.passive_core.specs.declared.event.Event.TheVariants.{CountDown}
-use Rattle.passive_core.specs.declared.event.Reply.TheVariants.{Collected}
-use Rattle.passive_core.specs.declared.settings.Settings.{Settings}
-use Rattle.passive_core.specs.Limits.{are_fit}
-use Rattle.passive_core.specs.State.{bias}
+use Rattle.registry_values.specs.declared.entry.Entry.{Entry}
+use Rattle.registry_values.specs.declared.entry.Kind.{Kind}
+use Rattle.protocol.specs.declared.event.Event.TheVariants.{CountDown}
+use Rattle.protocol.specs.declared.event.Reply.TheVariants.{Collected}
+use Rattle.registry_values.specs.declared.settings.Settings.{Settings}
+use Rattle.registry_values.specs.Limits.{are_fit}
+use Rattle.registry_values.specs.Balances.{bias}
 use Rattle.cpu_words.specs.declared.view.InHand.TheVariants.{Giving as GivingEntry, Back as BackEntry}
 use Rattle.cpu_words.specs.declared.view.CpuView.{CpuView}
 use Rattle.cpu_words.specs.declared.view.ReferenceView.{ReferenceView}

@@ -1,14 +1,14 @@
 //! Acquiring a local reference (localcount(9)).
 
 ghost use Rattle.std.specs.Prelude.{◌≡◌, ◌↔◌, ◌⊎◌, Some, None, IfOk, IfErr, IsErrOf};
-ghost use Rattle.passive_core.specs.declared.entry.Entry.{Entry};
+ghost use Rattle.registry_values.specs.declared.entry.Entry.{Entry};
 ghost use Rattle.local_count.specs.References.{HasAcquired, IsFull};
 
 use crate::local_ref::LocalRef;
 use crate::net::net_count;
 use cpu_words::{Domain, Words, steps};
-use passive_core::{BIAS, Refusal};
 use passive_list::{Cpu, Place};
+use registry_values::{BIAS, Refusal};
 use std::marker::PhantomData;
 
 /// Acquires a local reference to the CPU's last found entry: the CPU's own net count for it grows by one. Net counts are kept by slot,

@@ -1,15 +1,17 @@
 //! Collecting (localcount(9)): the count words of a retired entry are added to its slot's total, CPU by CPU.
 
 ghost use Rattle.std.specs.Prelude.{◌≡◌, ◌<◌, ◌+◌, slice_index_or, [], true, false};
-ghost use Rattle.passive_core.specs.declared.entry.Entry.{Entry};
-ghost use Rattle.passive_core.specs.declared.state.Slot.TheVariants.{Retired};
-ghost use Rattle.passive_core.specs.Slots.{have_passed, are_clear, are_collected};
-ghost use Rattle.passive_core.specs.State.{bias, slot_at, mark_at, total_at};
+ghost use Rattle.registry_values.specs.declared.entry.Entry.{Entry};
+ghost use Rattle.registry_values.specs.declared.slot.Slot.TheVariants.{Retired};
+ghost use Rattle.registry_values.specs.Marks.{have_passed, are_clear, are_collected};
+ghost use Rattle.registry_values.specs.Balances.{bias};
+ghost use Rattle.registry_values.specs.Slots.{slot_at};
+ghost use Rattle.protocol.specs.State.{mark_at, total_at};
 ghost use Rattle.local_count.specs.Draining.{HasCollectedInto, AreHeld};
 
 use cpu_words::{Domain, Words, steps};
-use passive_core::{BIAS, collected as collected_mark};
 use passive_list::Keeper;
+use registry_values::{BIAS, collected as collected_mark};
 
 /// Collects the count word of a CPU for the retired entry in `slot`: the word becomes 0, and its net count is added to the slot's total.
 /// From now on a release on that CPU comes back (`try_release`).

@@ -1,16 +1,16 @@
 //! The end of a retired interface: its slot is vacant again, and the reference to its driver is given up.
 
 ghost use Rattle.std.specs.Prelude.{◌≡◌};
-ghost use Rattle.passive_core.specs.declared.entry.Entry.{Entry};
-ghost use Rattle.passive_core.specs.declared.entry.Kind.TheVariants.{Iface};
-ghost use Rattle.passive_core.specs.declared.state.Slot.TheVariants.{Retired};
-ghost use Rattle.passive_core.specs.State.{slot_at};
+ghost use Rattle.registry_values.specs.declared.entry.Entry.{Entry};
+ghost use Rattle.registry_values.specs.declared.entry.Kind.TheVariants.{Iface};
+ghost use Rattle.registry_values.specs.declared.slot.Slot.TheVariants.{Retired};
+ghost use Rattle.registry_values.specs.Slots.{slot_at};
 ghost use Rattle.passive_list.specs.Vacating.{IsDrainedOn};
 ghost use Rattle.local_count.specs.Draining.{HasFreed, kept_slot, place_of};
 
 use cpu_words::{Domain, Words, steps};
-use passive_core::has_number;
 use passive_list::{Keeper, Row, SlotState};
+use registry_values::has_number;
 
 /// Frees the slot of a retired and drained interface: the reference to its driver is given up in the same step.
 /// Condition: the slot is drained (`Keeper::is_drained`), and its entry is an interface.

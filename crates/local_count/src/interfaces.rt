@@ -1,18 +1,17 @@
 //! Interfaces and the drivers that they keep: an interface holds a local reference to its driver, from its attach until its slot is freed.
 
 ghost use Rattle.std.specs.Prelude.{◌≡◌, ◌<◌, ◌≤◌, ◌+◌, suc, IsTrue, false, length, None};
-ghost use Rattle.passive_core.specs.declared.entry.Kind.TheVariants.{Iface, Driver};
-ghost use Rattle.passive_core.specs.declared.state.Slot.TheVariants.{Vacant};
-ghost use Rattle.passive_core.specs.Attaching.{key_of_record};
-ghost use Rattle.passive_core.specs.Names.{is_lawful};
-ghost use Rattle.passive_core.specs.Slots.{is_taken, live_count};
-ghost use Rattle.passive_core.specs.State.{slot_at, kept_at};
+ghost use Rattle.registry_values.specs.declared.entry.Kind.TheVariants.{Iface, Driver};
+ghost use Rattle.registry_values.specs.declared.slot.Slot.TheVariants.{Vacant};
+ghost use Rattle.registry_values.specs.Slots.{key_of_record, is_taken, live_count, slot_at};
+ghost use Rattle.registry_values.specs.Names.{is_lawful};
+ghost use Rattle.protocol.specs.State.{kept_at};
 ghost use Rattle.local_count.specs.Draining.{HasAttachedKeeping};
 
 use crate::local_ref::LocalRef;
 use cpu_words::{Domain, Words, steps};
-use passive_core::{Entry, Record};
 use passive_list::{Keeper, SlotState, publish_entry};
+use registry_values::{Entry, Record};
 
 /// Publishes an interface in `slot`, which keeps the reference to its driver from now on: as `publish` does, with the reference spent
 /// before the first word is stored. It answers the entry.

@@ -4,7 +4,7 @@ ghost use Rattle.std.specs.Prelude.{◌≡◌};
 ghost use Rattle.local_count.specs.References.{IsOurReference};
 
 use cpu_words::{Domain, ReferenceSeat, Words, steps};
-use passive_core::{Kind, Record, record_from};
+use registry_values::{Kind, Record, record_from};
 use std::marker::{Model, PhantomData};
 
 /// A local reference (localcount(9)) to an entry of the table that D names. While it lives, its entry keeps its slot. It moves between

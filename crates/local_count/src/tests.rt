@@ -1,13 +1,13 @@
 ghost use Rattle.std.specs.Prelude.{◌≡◌, IsTrue, IfOk};
-ghost use Rattle.passive_core.specs.Limits.{are_fit};
-ghost use Rattle.passive_core.specs.Names.{is_lawful};
+ghost use Rattle.registry_values.specs.Limits.{are_fit};
+ghost use Rattle.registry_values.specs.Names.{is_lawful};
 ghost use Rattle.cpu_words.specs.Opening.{keeper_with};
 ghost use Rattle.cpu_words.specs.Views.{new_cpu};
 
 use crate::{acquire_local, publish_iface};
 use cpu_words::{CpuSeat, Domain, KeeperSeat, Words};
-use passive_core::{Kind, Name, Record, Settings};
 use passive_list::{Cpu, Keeper, SlotState, enter, find, publish};
+use registry_values::{Kind, Name, Record, Settings};
 use std::alloc::Global;
 use std::marker::Brand;
 use std::process::Abort;

@@ -4,22 +4,21 @@ use Rattle.std.specs.List.{zip}
 use Rattle.std.proofs.lemmas.List.Quantifiers.{position-Some}
 use Rattle.std.proofs.lemmas.Slice.Zip.{get_or-zip, length-zip}
 use mathlib.Core.List.{IsPrefix}
-use Rattle.passive_core.specs.declared.entry.Change.{Change}
-use Rattle.passive_core.specs.declared.entry.Change.TheVariants.{Attach}
-use Rattle.passive_core.specs.declared.entry.Entry.{Entry}
-use Rattle.passive_core.specs.declared.entry.Kind.{Kind}
-use Rattle.passive_core.specs.declared.entry.Kind.TheVariants.{Iface, Driver}
-use Rattle.passive_core.specs.declared.entry.Record.{Record}
-use Rattle.passive_core.specs.declared.refusal.Refusal.{Refusal}
-use Rattle.passive_core.specs.declared.refusal.Refusal.TheVariants.{NameTaken, NoSlot, HistoryFull}
-use Rattle.passive_core.specs.declared.settings.Settings.{Settings}
-use Rattle.passive_core.specs.declared.state.Slot.{Slot}
-use Rattle.passive_core.specs.declared.state.Slot.TheVariants.{Vacant, Live, Retired}
-use Rattle.passive_core.specs.Attaching.{is_plain, key_of_record}
-use Rattle.passive_core.specs.Events.{keeps_rightly}
-use Rattle.passive_core.specs.History.{after_change}
-use Rattle.passive_core.specs.Slots.{is_iface, is_taken}
-use Rattle.passive_core.specs.State.{slot_at, kept_at}
+use Rattle.registry_values.specs.declared.entry.Change.{Change}
+use Rattle.registry_values.specs.declared.entry.Change.TheVariants.{Attach}
+use Rattle.registry_values.specs.declared.entry.Entry.{Entry}
+use Rattle.registry_values.specs.declared.entry.Kind.{Kind}
+use Rattle.registry_values.specs.declared.entry.Kind.TheVariants.{Iface, Driver}
+use Rattle.registry_values.specs.declared.entry.Record.{Record}
+use Rattle.registry_values.specs.declared.refusal.Refusal.{Refusal}
+use Rattle.registry_values.specs.declared.refusal.Refusal.TheVariants.{NameTaken, NoSlot, HistoryFull}
+use Rattle.registry_values.specs.declared.settings.Settings.{Settings}
+use Rattle.registry_values.specs.declared.slot.Slot.{Slot}
+use Rattle.registry_values.specs.declared.slot.Slot.TheVariants.{Vacant, Live, Retired}
+use Rattle.registry_values.specs.Slots.{is_plain, key_of_record, is_iface, is_taken, slot_at}
+use Rattle.protocol.specs.Events.{keeps_rightly}
+use Rattle.protocol.specs.History.{after_change}
+use Rattle.protocol.specs.State.{kept_at}
 use Rattle.cpu_words.specs.declared.view.KeeperView.{KeeperView}
 use Rattle.cpu_words.specs.declared.view.ReferenceView.{ReferenceView}
 use Rattle.cpu_words.specs.Keeping.{keeping}

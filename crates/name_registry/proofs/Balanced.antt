@@ -1,10 +1,11 @@
 -- The free interlock: a keeper at rest is adding nothing, so the balance of each slot is the references held.
 use Rattle.std.proofs.Common.{◌≡◌, ◌∙◌, ◌+◌, ◌*◌, sum_by, sym, subst, arith}
-use Rattle.passive_core.specs.declared.settings.Settings.{Settings}
-use Rattle.passive_core.specs.declared.state.Due.{Due}
-use Rattle.passive_core.specs.declared.state.Due.TheVariants.{Rest}
-use Rattle.passive_core.specs.Invariant.{held_at, adding_at, is_adding_at, itself, one_if_used}
-use Rattle.passive_core.specs.State.{State, bias, total_at}
+use Rattle.registry_values.specs.declared.settings.Settings.{Settings}
+use Rattle.protocol.specs.declared.state.Due.{Due}
+use Rattle.protocol.specs.declared.state.Due.TheVariants.{Rest}
+use Rattle.protocol.specs.Invariant.{held_at, adding_at, is_adding_at, itself, one_if_used}
+use Rattle.protocol.specs.State.{State, total_at}
+use Rattle.registry_values.specs.Balances.{bias}
 use Rattle.cpu_words.specs.declared.view.View.TheVariants.{Keeper}
 use Rattle.cpu_words.specs.Rule.{Good}
 use Rattle.cpu_words.proofs.KeeperSees.{seen_by_keeper}

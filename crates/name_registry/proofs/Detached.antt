@@ -3,18 +3,17 @@ use Rattle.std.proofs.Common.{◌≡◌, ◌∙◌, inl, ℕ, Some, None, positi
 use Rattle.std.proofs.lemmas.List.Quantifiers.{position-Some}
 use mathlib.Core.List.{IsPrefix}
 use Rattle.atomic_table.specs.Seated.{TableId}
-use Rattle.passive_core.specs.declared.entry.Change.{Change}
-use Rattle.passive_core.specs.declared.entry.Entry.{Entry}
-use Rattle.passive_core.specs.declared.settings.Settings.{Settings}
-use Rattle.passive_core.specs.declared.state.Key.{Key}
-use Rattle.passive_core.specs.declared.state.Slot.{Slot}
-use Rattle.passive_core.specs.declared.state.Slot.TheVariants.{Live}
-use Rattle.passive_core.specs.History.{IsAttached, IsLiveAt}
-use Rattle.passive_core.specs.Slots.{is_live_as, same_key}
-use Rattle.passive_core.specs.State.{slot_at}
-use Rattle.passive_core.proofs.Detaching.{key_same, live_tells}
-use Rattle.passive_core.proofs.Numbers.{position_fails}
-use Rattle.passive_core.proofs.Occupied.{in_within, live_one}
+use Rattle.registry_values.specs.declared.entry.Change.{Change}
+use Rattle.registry_values.specs.declared.entry.Entry.{Entry}
+use Rattle.registry_values.specs.declared.settings.Settings.{Settings}
+use Rattle.registry_values.specs.declared.slot.Key.{Key}
+use Rattle.registry_values.specs.declared.slot.Slot.{Slot}
+use Rattle.registry_values.specs.declared.slot.Slot.TheVariants.{Live}
+use Rattle.protocol.specs.History.{IsAttached, IsLiveAt}
+use Rattle.registry_values.specs.Slots.{is_live_as, same_key, slot_at}
+use Rattle.registry_values.proofs.Slots.{key_same, live_tells}
+use Rattle.protocol.proofs.Numbers.{position_fails}
+use Rattle.protocol.proofs.Occupied.{in_within, live_one}
 use Rattle.cpu_words.specs.declared.view.KeeperView.{KeeperView}
 use Rattle.cpu_words.proofs.KeeperSees.{seen_by_keeper}
 use Rattle.passive_list.specs.declared.keeper.Row.{Row}

@@ -2,11 +2,11 @@
 use Rattle.std.proofs.Common.{◌≡◌, ◌∙◌, ℕ, suc, ◌≤◌, List, length, Some, sym, ap, arith}
 use Rattle.std.proofs.lemmas.List.{length-append}
 use mathlib.Core.List.{IsPrefix}
-use Rattle.passive_core.specs.declared.entry.Change.{Change}
-use Rattle.passive_core.specs.declared.entry.Change.TheVariants.{Attach, Detach}
-use Rattle.passive_core.specs.declared.entry.Entry.{Entry}
-use Rattle.passive_core.specs.History.{after_change, change_at, IsAttached}
-use Rattle.passive_core.proofs.History.{at_new, attached_old, at_within}
+use Rattle.registry_values.specs.declared.entry.Change.{Change}
+use Rattle.registry_values.specs.declared.entry.Change.TheVariants.{Attach, Detach}
+use Rattle.registry_values.specs.declared.entry.Entry.{Entry}
+use Rattle.protocol.specs.History.{after_change, change_at, IsAttached}
+use Rattle.protocol.proofs.History.{at_new, attached_old, at_within}
 use Rattle.cpu_words.proofs.Passes.{at_prefix, attached_prefix}
 use Rattle.passive_list.specs.Cpus.{OnCpu}
 use Rattle.name_registry.specs.Meeting.{HasSeenAttach, HasSeenDetach}

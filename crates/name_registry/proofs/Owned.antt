@@ -1,17 +1,17 @@
 -- What a caller keeps of a call through the lock, whatever is known of the keeper.
 use Rattle.std.proofs.Common.{◌≡◌, ◌⊎◌, ⊎_elim, inl, inr, ℕ, zero, suc, ◌<◌, Bool, true, false, if◌then◌else◌, List, length, Option, Some, None, Result, Ok, Err, IfOk, IfErr, IfSome, refl, sym, ap, subst, arith}
-use Rattle.passive_core.specs.declared.entry.Change.{Change}
-use Rattle.passive_core.specs.declared.entry.Entry.{Entry}
-use Rattle.passive_core.specs.declared.entry.Record.{Record}
-use Rattle.passive_core.specs.declared.refusal.Refusal.{Refusal}
-use Rattle.passive_core.specs.declared.refusal.Refusal.TheVariants.{NoMemory, BadSettings, NameTaken, NoSlot, HistoryFull, NotFound, Inside, SectionsSpent, NothingFound, PassiveFull, WrongCpu, NotHeld, LocalFull, NotRetired, MissingCpu, StillHeld, Waiting, TooDeep, NeedsDriver}
-use Rattle.passive_core.specs.declared.settings.Settings.{Settings}
-use Rattle.passive_core.specs.declared.stage.Stage.{Stage}
-use Rattle.passive_core.specs.declared.stage.Stage.TheVariants.{Grace, Passive, Local, Freed}
-use Rattle.passive_core.specs.declared.state.Key.{Key}
-use Rattle.passive_core.specs.Advancing.{destroyed, least_below, or_next}
-use Rattle.passive_core.specs.Attaching.{key_of_record}
-use Rattle.passive_core.specs.Slots.{is_iface, is_taken}
+use Rattle.registry_values.specs.declared.entry.Change.{Change}
+use Rattle.registry_values.specs.declared.entry.Entry.{Entry}
+use Rattle.registry_values.specs.declared.entry.Record.{Record}
+use Rattle.registry_values.specs.declared.refusal.Refusal.{Refusal}
+use Rattle.registry_values.specs.declared.refusal.Refusal.TheVariants.{NoMemory, BadSettings, NameTaken, NoSlot, HistoryFull, NotFound, Inside, SectionsSpent, NothingFound, PassiveFull, WrongCpu, NotHeld, LocalFull, NotRetired, MissingCpu, StillHeld, Waiting, TooDeep, NeedsDriver}
+use Rattle.registry_values.specs.declared.settings.Settings.{Settings}
+use Rattle.registry_values.specs.declared.stage.Stage.{Stage}
+use Rattle.registry_values.specs.declared.stage.Stage.TheVariants.{Grace, Passive, Local, Freed}
+use Rattle.registry_values.specs.declared.slot.Key.{Key}
+use Rattle.registry_values.specs.Stages.{destroyed}
+use Rattle.registry_values.specs.Marks.{least_below, or_next}
+use Rattle.registry_values.specs.Slots.{key_of_record, is_iface, is_taken}
 use Rattle.cpu_words.specs.declared.view.ReferenceView.{ReferenceView}
 use Rattle.passive_list.specs.Cpus.{OnCpu}
 use Rattle.passive_list.specs.Keepers.{OnKeeper}

@@ -1,9 +1,9 @@
 -- The place of a retired entry, by the keeper's rows.
 use Rattle.std.proofs.Common.{◌≡◌, ◌∙◌, ℕ, List, Some, position, sym, ap}
 use Rattle.atomic_table.specs.Seated.{TableId}
-use Rattle.passive_core.specs.declared.settings.Settings.{Settings}
-use Rattle.passive_core.specs.Advancing.{is_retired_as, retired_slot}
-use Rattle.passive_core.proofs.Advancing.{retired_slot_tells}
+use Rattle.registry_values.specs.declared.settings.Settings.{Settings}
+use Rattle.registry_values.specs.Slots.{is_retired_as, retired_slot}
+use Rattle.registry_values.proofs.Slots.{retired_slot_tells}
 use Rattle.cpu_words.specs.declared.view.KeeperView.{KeeperView}
 use Rattle.passive_list.specs.declared.keeper.Row.{Row}
 use Rattle.passive_list.specs.Keepers.{OnKeeper, state_of, states_of, IsOurKeeper}

@@ -1,16 +1,16 @@
 -- What a look tells that wasn't passed: the word that the keeper saw.
 use Rattle.std.proofs.Common.{◌≡◌, ◌∙◌, ℕ, ◌<◌, ◌%◌, Bool, true, false, not, ◌||◌, ◌==◌, List, Option, Some, None, refl, sym, ap, subst, arith}
 use Rattle.std.proofs.lemmas.Bool.{or_parts, eqb-true, eqb-false}
-use Rattle.passive_core.specs.declared.event.Event.{Event}
-use Rattle.passive_core.specs.declared.event.Event.TheVariants.{Look, PassiveLook}
-use Rattle.passive_core.specs.declared.event.Reply.TheVariants.{Word}
-use Rattle.passive_core.specs.declared.settings.Settings.{Settings}
-use Rattle.passive_core.specs.declared.state.Mark.{Mark}
-use Rattle.passive_core.specs.declared.state.Slot.{Slot}
-use Rattle.passive_core.specs.Events.{looked, cleared}
-use Rattle.passive_core.specs.Slots.{is_even, has_changed, is_retired, at_rest}
-use Rattle.passive_core.specs.State.{mark_at, slot_at}
-use Rattle.passive_core.proofs.Advancing.{snapshot_stands}
+use Rattle.protocol.specs.declared.event.Event.{Event}
+use Rattle.protocol.specs.declared.event.Event.TheVariants.{Look, PassiveLook}
+use Rattle.protocol.specs.declared.event.Reply.TheVariants.{Word}
+use Rattle.registry_values.specs.declared.settings.Settings.{Settings}
+use Rattle.registry_values.specs.declared.mark.Mark.{Mark}
+use Rattle.registry_values.specs.declared.slot.Slot.{Slot}
+use Rattle.registry_values.specs.Marks.{looked, cleared, is_even, has_changed}
+use Rattle.registry_values.specs.Slots.{is_retired, slot_at}
+use Rattle.protocol.specs.State.{at_rest, mark_at}
+use Rattle.protocol.proofs.MarkRows.{snapshot_stands}
 use Rattle.cpu_words.specs.declared.view.KeeperView.{KeeperView}
 use Rattle.cpu_words.specs.declared.view.View.TheVariants.{Keeper}
 use Rattle.cpu_words.specs.Draining.{HasLookedPassive}

@@ -10,18 +10,19 @@ use mathlib.Core.Option.{some}
 use native.Mathlib.Decide.{ℕ_discrete}
 use lib.ListN.{get_elem?}
 use Rattle.atomic_table.specs.Seated.{TableId}
-use Rattle.passive_core.specs.declared.balance.Balance.{Balance}
-use Rattle.passive_core.specs.declared.entry.Entry.{Entry}
-use Rattle.passive_core.specs.declared.settings.Settings.{Settings}
-use Rattle.passive_core.specs.declared.state.Due.TheVariants.{Rest}
-use Rattle.passive_core.specs.declared.state.Mark.{Mark}
-use Rattle.passive_core.specs.declared.state.Slot.{Slot}
-use Rattle.passive_core.specs.declared.state.Slot.TheVariants.{Vacant, Live, Retired}
-use Rattle.passive_core.specs.Audits.{Tally, tally_shown}
-use Rattle.passive_core.specs.Invariant.{IsIn, adding_at, is_adding_at, subtracting_at}
-use Rattle.passive_core.specs.Slots.{is_retired}
-use Rattle.passive_core.specs.State.{State, bias, no_mark, slot_at, mark_at, count_at, total_at}
-use Rattle.passive_core.proofs.Occupied.{in_within}
+use Rattle.registry_values.specs.declared.balance.Balance.{Balance}
+use Rattle.registry_values.specs.declared.entry.Entry.{Entry}
+use Rattle.registry_values.specs.declared.settings.Settings.{Settings}
+use Rattle.protocol.specs.declared.state.Due.TheVariants.{Rest}
+use Rattle.registry_values.specs.declared.mark.Mark.{Mark}
+use Rattle.registry_values.specs.declared.slot.Slot.{Slot}
+use Rattle.registry_values.specs.declared.slot.Slot.TheVariants.{Vacant, Live, Retired}
+use Rattle.registry_values.specs.Balances.{Tally, tally_shown, bias}
+use Rattle.protocol.specs.Invariant.{IsIn, adding_at, is_adding_at, subtracting_at}
+use Rattle.registry_values.specs.Slots.{is_retired, slot_at}
+use Rattle.protocol.specs.State.{State, mark_at, count_at, total_at}
+use Rattle.registry_values.specs.Marks.{no_mark}
+use Rattle.protocol.proofs.Occupied.{in_within}
 use Rattle.cpu_words.specs.declared.view.KeeperView.{KeeperView}
 use Rattle.cpu_words.specs.Locals.{IsPlaceCount}
 use Rattle.cpu_words.specs.Views.{number_at, collected_net, collected_one, CpuShown}

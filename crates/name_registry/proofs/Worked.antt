@@ -2,22 +2,23 @@
 use Rattle.std.proofs.Common.{◌≡◌, ◌∙◌, inr, ℕ, ◌+◌, ◌<◌, Bool, true, false, List, [], get_or, Option, Some, None, refl, sym, ap, subst, arith}
 use Rattle.std.proofs.lemmas.Bool.{or_left}
 use Rattle.atomic_table.specs.Seated.{TableId}
-use Rattle.passive_core.specs.declared.entry.Entry.{Entry}
-use Rattle.passive_core.specs.declared.entry.Kind.{Kind}
-use Rattle.passive_core.specs.declared.entry.Kind.TheVariants.{Iface, Driver}
-use Rattle.passive_core.specs.declared.event.Event.{Event}
-use Rattle.passive_core.specs.declared.event.Reply.{Reply}
-use Rattle.passive_core.specs.declared.settings.Settings.{Settings}
-use Rattle.passive_core.specs.declared.state.Mark.{Mark}
-use Rattle.passive_core.specs.declared.state.Slot.{Slot}
-use Rattle.passive_core.specs.declared.state.Slot.TheVariants.{Retired}
-use Rattle.passive_core.specs.Advancing.{Grows}
-use Rattle.passive_core.specs.Events.{looked, cleared, collected, keeps_rightly}
-use Rattle.passive_core.specs.Invariant.{DriversKept}
-use Rattle.passive_core.specs.Slots.{have_passed, are_clear, are_collected}
-use Rattle.passive_core.specs.State.{State, bias, opening, slot_at, mark_at, total_at, kept_at, with_cell}
-use Rattle.passive_core.proofs.Advancing.{mark_grows, mark_there, marks_grow_none, marks_grow_more, passed_from, clear_from, collected_from}
-use Rattle.passive_core.proofs.Cells.{total_other}
+use Rattle.registry_values.specs.declared.entry.Entry.{Entry}
+use Rattle.registry_values.specs.declared.entry.Kind.{Kind}
+use Rattle.registry_values.specs.declared.entry.Kind.TheVariants.{Iface, Driver}
+use Rattle.protocol.specs.declared.event.Event.{Event}
+use Rattle.protocol.specs.declared.event.Reply.{Reply}
+use Rattle.registry_values.specs.declared.settings.Settings.{Settings}
+use Rattle.registry_values.specs.declared.mark.Mark.{Mark}
+use Rattle.registry_values.specs.declared.slot.Slot.{Slot}
+use Rattle.registry_values.specs.declared.slot.Slot.TheVariants.{Retired}
+use Rattle.registry_values.specs.Marks.{Grows, looked, cleared, collected, have_passed, are_clear, are_collected}
+use Rattle.protocol.specs.Events.{keeps_rightly}
+use Rattle.protocol.specs.Invariant.{DriversKept}
+use Rattle.protocol.specs.State.{State, opening, mark_at, total_at, kept_at, with_cell}
+use Rattle.registry_values.specs.Balances.{bias}
+use Rattle.registry_values.specs.Slots.{slot_at}
+use Rattle.protocol.proofs.MarkRows.{mark_grows, mark_there, marks_grow_none, marks_grow_more, passed_from, clear_from, collected_from}
+use Rattle.protocol.proofs.Cells.{total_other}
 use Rattle.cpu_words.specs.declared.view.KeeperView.{KeeperView}
 use Rattle.cpu_words.specs.declared.view.View.TheVariants.{Keeper}
 use Rattle.cpu_words.specs.Rule.{IsPictured}

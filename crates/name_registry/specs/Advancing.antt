@@ -1,19 +1,20 @@
 -- A turn of the work on a retired entry: what it answers is what the keeper saw, and what it leaves.
 use Rattle.std.specs.Prelude.{◌≡◌, ◌≢◌, ◌⊎◌, ℕ, ◌<◌, ◌≤◌, ◌%◌, slice_set, true, false, Some, None, Bool, Result, Ok, Err}
-use Rattle.passive_core.specs.declared.entry.Entry.{Entry}
-use Rattle.passive_core.specs.declared.entry.Kind.TheVariants.{Iface}
-use Rattle.passive_core.specs.declared.event.Event.{Event}
-use Rattle.passive_core.specs.declared.event.Event.TheVariants.{Look, PassiveLook}
-use Rattle.passive_core.specs.declared.event.Reply.TheVariants.{Word}
-use Rattle.passive_core.specs.declared.refusal.Refusal.{Refusal}
-use Rattle.passive_core.specs.declared.refusal.Refusal.TheVariants.{NotRetired}
-use Rattle.passive_core.specs.declared.settings.Settings.{Settings}
-use Rattle.passive_core.specs.declared.stage.Stage.{Stage}
-use Rattle.passive_core.specs.declared.stage.Stage.TheVariants.{Grace, Passive, Local, Freed}
-use Rattle.passive_core.specs.declared.state.Due.TheVariants.{Rest}
-use Rattle.passive_core.specs.declared.state.Slot.TheVariants.{Vacant, Retired}
-use Rattle.passive_core.specs.Advancing.{is_retired_as, retired_slot, MarksGrow}
-use Rattle.passive_core.specs.State.{slot_at, mark_at, total_at, kept_at}
+use Rattle.registry_values.specs.declared.entry.Entry.{Entry}
+use Rattle.registry_values.specs.declared.entry.Kind.TheVariants.{Iface}
+use Rattle.protocol.specs.declared.event.Event.{Event}
+use Rattle.protocol.specs.declared.event.Event.TheVariants.{Look, PassiveLook}
+use Rattle.protocol.specs.declared.event.Reply.TheVariants.{Word}
+use Rattle.registry_values.specs.declared.refusal.Refusal.{Refusal}
+use Rattle.registry_values.specs.declared.refusal.Refusal.TheVariants.{NotRetired}
+use Rattle.registry_values.specs.declared.settings.Settings.{Settings}
+use Rattle.registry_values.specs.declared.stage.Stage.{Stage}
+use Rattle.registry_values.specs.declared.stage.Stage.TheVariants.{Grace, Passive, Local, Freed}
+use Rattle.protocol.specs.declared.state.Due.TheVariants.{Rest}
+use Rattle.registry_values.specs.declared.slot.Slot.TheVariants.{Vacant, Retired}
+use Rattle.registry_values.specs.Slots.{is_retired_as, retired_slot, slot_at}
+use Rattle.protocol.specs.Marking.{MarksGrow}
+use Rattle.protocol.specs.State.{mark_at, total_at, kept_at}
 use Rattle.cpu_words.specs.declared.view.KeeperView.{KeeperView}
 use Rattle.passive_list.specs.declared.keeper.Row.{Row}
 use Rattle.passive_list.specs.Keepers.{OnKeeper}

@@ -2,15 +2,15 @@
 use Rattle.std.specs.Prelude.{◌≡◌, ℕ, zero, suc, ◌+◌, ℤ, pos, ◌+ℤ◌, ◌-ℤ◌, ◌==◌, All, Bool, ◌&&◌, List, [], ◌∷◌, ◌++◌, map, length, sum_by, if◌then◌else◌}
 use mathlib.Core.Option.{some}
 use lib.ListN.{get_elem?}
-use Rattle.passive_core.specs.declared.balance.Balance.{Balance}
-use Rattle.passive_core.specs.declared.entry.Entry.{Entry}
-use Rattle.passive_core.specs.declared.settings.Settings.{Settings}
-use Rattle.passive_core.specs.declared.state.Slot.{Slot}
-use Rattle.passive_core.specs.declared.state.Slot.TheVariants.{Vacant, Live, Retired}
-use Rattle.passive_core.specs.Audits.{Tally, less_bias, sum_of, tally_shown}
-use Rattle.passive_core.specs.Invariant.{IsIn}
-use Rattle.passive_core.specs.Slots.{is_retired}
-use Rattle.passive_core.specs.State.{State, slot_at, mark_at, total_at}
+use Rattle.registry_values.specs.declared.balance.Balance.{Balance}
+use Rattle.registry_values.specs.declared.entry.Entry.{Entry}
+use Rattle.registry_values.specs.declared.settings.Settings.{Settings}
+use Rattle.registry_values.specs.declared.slot.Slot.{Slot}
+use Rattle.registry_values.specs.declared.slot.Slot.TheVariants.{Vacant, Live, Retired}
+use Rattle.registry_values.specs.Balances.{Tally, less_bias, sum_of, tally_shown}
+use Rattle.protocol.specs.Invariant.{IsIn}
+use Rattle.registry_values.specs.Slots.{is_retired, slot_at}
+use Rattle.protocol.specs.State.{State, mark_at, total_at}
 use Rattle.cpu_words.specs.Rule.{Good, IsPictured}
 use Rattle.cpu_words.specs.Views.{number_at, CpuShown, KeeperShown}
 use Rattle.passive_list.specs.Cpus.{OnCpu}

@@ -1,13 +1,13 @@
 -- Detaching behind the interlock: the entry that a lookup of the history gives now is retired.
 use Rattle.std.specs.Prelude.{◌≡◌, ℕ, length, Option, Some, None, Result, Ok, Err, true, false}
 use mathlib.Core.List.{IsPrefix}
-use Rattle.passive_core.specs.declared.entry.Entry.{Entry}
-use Rattle.passive_core.specs.declared.refusal.Refusal.{Refusal}
-use Rattle.passive_core.specs.declared.refusal.Refusal.TheVariants.{Inside, NotFound}
-use Rattle.passive_core.specs.declared.state.Key.{Key}
-use Rattle.passive_core.specs.declared.state.Slot.TheVariants.{Live}
-use Rattle.passive_core.specs.History.{IsLookup}
-use Rattle.passive_core.specs.State.{slot_at}
+use Rattle.registry_values.specs.declared.entry.Entry.{Entry}
+use Rattle.registry_values.specs.declared.refusal.Refusal.{Refusal}
+use Rattle.registry_values.specs.declared.refusal.Refusal.TheVariants.{Inside, NotFound}
+use Rattle.registry_values.specs.declared.slot.Key.{Key}
+use Rattle.registry_values.specs.declared.slot.Slot.TheVariants.{Live}
+use Rattle.protocol.specs.History.{IsLookup}
+use Rattle.registry_values.specs.Slots.{slot_at}
 use Rattle.passive_list.specs.Cpus.{OnCpu}
 use Rattle.passive_list.specs.Keepers.{OnKeeper}
 use Rattle.passive_list.specs.Notes.{HasHeardOn}

@@ -1,10 +1,10 @@
 -- What a caller keeps of a call through the lock, whose value no contract can name: its CPU, and which refusals there may be.
 use Rattle.std.specs.Prelude.{◌≡◌, ◌≢◌, ◌<◌, Bool, true, false}
-use Rattle.passive_core.specs.declared.refusal.Refusal.{Refusal}
-use Rattle.passive_core.specs.declared.refusal.Refusal.TheVariants.{NameTaken, NoSlot, HistoryFull, Inside, NeedsDriver, NotFound, NotRetired, StillHeld, Waiting}
-use Rattle.passive_core.specs.declared.settings.Settings.{Settings}
-use Rattle.passive_core.specs.declared.stage.Stage.{Stage}
-use Rattle.passive_core.specs.declared.stage.Stage.TheVariants.{Grace, Passive, Local, Freed}
+use Rattle.registry_values.specs.declared.refusal.Refusal.{Refusal}
+use Rattle.registry_values.specs.declared.refusal.Refusal.TheVariants.{NameTaken, NoSlot, HistoryFull, Inside, NeedsDriver, NotFound, NotRetired, StillHeld, Waiting}
+use Rattle.registry_values.specs.declared.settings.Settings.{Settings}
+use Rattle.registry_values.specs.declared.stage.Stage.{Stage}
+use Rattle.registry_values.specs.declared.stage.Stage.TheVariants.{Grace, Passive, Local, Freed}
 
 -- An attach is refused by the CPU and the kind exactly, in this order; else by what is attached.
 

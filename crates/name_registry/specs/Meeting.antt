@@ -1,8 +1,8 @@
 -- A call that changes the registry: the keeper hears what the caller's CPU has seen, and then the CPU hears the whole history.
 use Rattle.std.specs.Prelude.{◌≡◌, ℕ, ◌<◌, Bool, length, is_some}
 use mathlib.Core.List.{IsPrefix}
-use Rattle.passive_core.specs.declared.entry.Entry.{Entry}
-use Rattle.passive_core.specs.History.{IsAttached, EndsAt}
+use Rattle.registry_values.specs.declared.entry.Entry.{Entry}
+use Rattle.protocol.specs.History.{IsAttached, EndsAt}
 use Rattle.cpu_words.specs.Notes.{keeper_with_heard}
 use Rattle.passive_list.specs.Cpus.{OnCpu}
 use Rattle.passive_list.specs.Keepers.{OnKeeper}

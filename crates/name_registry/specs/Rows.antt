@@ -1,8 +1,7 @@
 -- What one row of the keeper says.
 use Rattle.std.specs.Prelude.{Bool}
-use Rattle.passive_core.specs.declared.state.Key.{Key}
-use Rattle.passive_core.specs.Attaching.{is_plain}
-use Rattle.passive_core.specs.Slots.{is_live_as}
+use Rattle.registry_values.specs.declared.slot.Key.{Key}
+use Rattle.registry_values.specs.Slots.{is_plain, is_live_as}
 use Rattle.passive_list.specs.declared.keeper.Row.{Row}
 
 -- the slot shows a live entry with this kind and name

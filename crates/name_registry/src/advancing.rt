@@ -1,19 +1,19 @@
 //! The work on a retired entry, for a caller that holds the keeper: one turn, up to the first obstacle.
 
 ghost use Rattle.std.specs.Prelude.{◌≡◌, ◌≢◌, ◌<◌, IfOk, IfSome, None, position, true, false};
-ghost use Rattle.passive_core.specs.declared.entry.Entry.{Entry};
-ghost use Rattle.passive_core.specs.declared.state.Slot.TheVariants.{Retired};
-ghost use Rattle.passive_core.specs.Advancing.{retired_slot};
-ghost use Rattle.passive_core.specs.State.{slot_at, mark_at};
+ghost use Rattle.registry_values.specs.declared.entry.Entry.{Entry};
+ghost use Rattle.registry_values.specs.declared.slot.Slot.TheVariants.{Retired};
+ghost use Rattle.registry_values.specs.Slots.{retired_slot, slot_at};
+ghost use Rattle.protocol.specs.State.{mark_at};
 ghost use Rattle.passive_list.specs.Vacating.{IsDrainedOn};
 ghost use Rattle.name_registry.specs.Advancing.{HasAdvanced, Meets, MeetsGrace, MeetsPassive, HasLookedFor, HasWorkedFor, MayWork, SeesSection, SeesPassive, Settles, HasEnded, PassedBelow, ClearBelow, CollectedBelow, is_retired_row};
 ghost use Rattle.name_registry.specs.Locking.{IsStageOf};
 
 use cpu_words::{Domain, Words};
 use local_count::{collect, collected, free_iface, total};
-use passive_core::{Refusal, Stage, is_retired_as};
 use passive_list::{Keeper, Row, look, vacate};
 use passive_ref::look_passive;
+use registry_values::{Refusal, Stage, is_retired_as};
 
 /// One turn of the work on the retired entry `number`, up to the first obstacle, which is the answer, the least CPU first: `Grace` of a
 /// CPU with a section that may hold the entry (pserialize(9)), `Passive` of a CPU with a passive reference to it (psref(9)), or `Local`

@@ -1,16 +1,16 @@
 //! Attaching, for a caller that holds the keeper.
 
 ghost use Rattle.std.specs.Prelude.{◌≡◌, IfOk, IfErr, IsTrue, Ok, Err};
-ghost use Rattle.passive_core.specs.declared.entry.Kind.TheVariants.{Iface};
-ghost use Rattle.passive_core.specs.Names.{is_lawful};
+ghost use Rattle.registry_values.specs.declared.entry.Kind.TheVariants.{Iface};
+ghost use Rattle.registry_values.specs.Names.{is_lawful};
 ghost use Rattle.name_registry.specs.Attaching.{attach_answer, attach_iface_answer, HasAttachedFor, HasAttachedIfaceFor};
 
 use crate::meeting::{hear_cpu, show_cpu};
 use crate::plain::slot_for;
 use cpu_words::{Domain, Words};
 use local_count::{LocalRef, publish_iface};
-use passive_core::{Entry, Kind, Record, Refusal};
 use passive_list::{Cpu, Keeper, publish};
+use registry_values::{Entry, Kind, Record, Refusal};
 
 /// Attaches a driver: it gets the next number, from 1, and the least slot, from 0, that is vacant and keeps nothing; lookups that begin
 /// from now on find it, and the caller's CPU has seen its change. No retired slot is freed by it. It takes no memory.

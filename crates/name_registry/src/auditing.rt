@@ -1,13 +1,13 @@
 //! The audit of local references (localcount(9)), for a caller that holds the keeper and all CPUs.
 
 ghost use Rattle.std.specs.Prelude.{◌≡◌, ◌↔◌, ◌⊎◌, ◌+ℤ◌, ◌≤ℤ◌, ◌<◌, ◌≤◌, ◌^◌, All, IfOk, IfErr, IsErrOf, IsTrue, OnErr, length, map, neg_ℤ, pos};
-ghost use Rattle.passive_core.specs.Audits.{sum_of, tally_shown};
+ghost use Rattle.registry_values.specs.Balances.{sum_of, tally_shown};
 ghost use Rattle.name_registry.specs.Auditing.{AreAllCpus, IsAuditOf, IsOccupied, Occupies, is_collected, local_met, locals_met, place_of, places_below, tallies_met, tally_met};
 
 use cpu_words::{Domain, Words};
 use local_count::net_count;
-use passive_core::{Balance, Refusal, Slot, less_bias, sum};
 use passive_list::{Cpu, Keeper};
+use registry_values::{Balance, Refusal, Slot, less_bias, sum};
 use std::alloc::{AllocError, Global};
 
 /// What the counts say of each live or retired entry, least slot first: of each CPU its own net count, 0 where the keeper has collected its

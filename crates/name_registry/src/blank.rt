@@ -1,16 +1,16 @@
 //! The words and seats of a registry that isn't named yet.
 
 ghost use Rattle.std.specs.Prelude.{◌≡◌, ◌↔◌, ◌≤◌, [], IfOk, IfErr, IsErrOf, IsTrue, false, vec_len, vec_capacity};
-ghost use Rattle.passive_core.specs.Limits.{are_fit};
-ghost use Rattle.passive_core.specs.Refusals.{IsRefusalOfNew};
-ghost use Rattle.passive_core.specs.declared.refusal.Refusal.TheVariants.{NoMemory};
+ghost use Rattle.registry_values.specs.Limits.{are_fit};
+ghost use Rattle.registry_values.specs.Refusals.{IsRefusalOfNew};
+ghost use Rattle.registry_values.specs.declared.refusal.Refusal.TheVariants.{NoMemory};
 ghost use Rattle.cpu_words.specs.Opening.{AreSeats};
 ghost use Rattle.name_registry.specs.Opening.{IsBlank, AreNewCpus};
 
 use crate::registry::Registry;
 use cpu_words::{CpuSeat, Domain, KeeperSeat, Words};
-use passive_core::{Refusal, Settings};
 use passive_list::{Cpu, Keeper};
+use registry_values::{Refusal, Settings};
 use std::alloc::Global;
 use std::marker::Model;
 use std::sync::Mutex;

@@ -6,8 +6,8 @@ ghost use Rattle.name_registry.specs.Meeting.{is_inside};
 
 use crate::registry::Registry;
 use cpu_words::Domain;
-use passive_core::{Refusal, Stage, destroyed};
 use passive_list::Cpu;
+use registry_values::{Refusal, Stage, destroyed};
 use std::sync::Wait;
 
 impl<D: Domain> Registry<D> {

@@ -1,14 +1,14 @@
 //! Detaching, for a caller that holds the keeper.
 
 ghost use Rattle.std.specs.Prelude.{◌≡◌, ◌<◌, IfOk, IfErr, IfSome, position, length};
-ghost use Rattle.passive_core.specs.Slots.{is_live_as};
+ghost use Rattle.registry_values.specs.Slots.{is_live_as};
 ghost use Rattle.name_registry.specs.Detaching.{IsDetachAnswer, IsLivePlace, HasDetachedFor};
 ghost use Rattle.name_registry.specs.Rows.{is_live_row};
 
 use crate::meeting::{hear_cpu, show_cpu};
 use cpu_words::{Domain, Words};
-use passive_core::{Entry, Key, Kind, Name, Refusal, is_live_as};
 use passive_list::{Cpu, Keeper, Row, retire};
+use registry_values::{Entry, Key, Kind, Name, Refusal, is_live_as};
 
 /// Detaches the live entry with the kind and the name, and answers it: lookups that begin from now on don't find it, the caller's CPU has
 /// seen its change, and it is retired, which `advance_in` works on. It takes no memory.

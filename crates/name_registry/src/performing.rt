@@ -7,8 +7,8 @@ ghost use Rattle.name_registry.specs.Meeting.{is_inside};
 use crate::advancing::{look_at_all, retired_place};
 use crate::registry::Registry;
 use cpu_words::{Domain, Words};
-use passive_core::{Refusal, first_unseen, is_out, retired_number};
 use passive_list::{Cpu, Keeper, glance, snapshot};
+use registry_values::{Refusal, first_unseen, is_out, retired_number};
 use std::sync::Wait;
 
 impl<D: Domain> Registry<D> {

@@ -2,15 +2,14 @@
 
 ghost use Rattle.std.specs.Prelude.{◌≡◌, ◌<◌, ◌≤◌, IfOk, IfSome, length, take, position};
 ghost use Rattle.std.specs.List.{list_any};
-ghost use Rattle.passive_core.specs.Attaching.{key_of_record};
-ghost use Rattle.passive_core.specs.Slots.{is_taken, live_count};
+ghost use Rattle.registry_values.specs.Slots.{key_of_record, is_taken, live_count};
 ghost use Rattle.passive_list.specs.Keepers.{states_of};
 ghost use Rattle.name_registry.specs.Attaching.{has_room, plain_slot, slot_for};
 ghost use Rattle.name_registry.specs.Rows.{is_live_row, is_plain_row};
 
 use cpu_words::Domain;
-use passive_core::{Key, Record, Refusal, is_live, is_live_as, is_plain};
 use passive_list::{Keeper, Row};
+use registry_values::{Key, Record, Refusal, is_live, is_live_as, is_plain};
 
 /// The least slot that is vacant and keeps nothing.
 /// Refused, in this order: `NameTaken` where a live entry has the record's kind and name; `NoSlot`; `HistoryFull` where the history has no

@@ -1,10 +1,10 @@
 //! The registry: the shared words, and a lock round the keeper.
 
 ghost use Rattle.std.specs.Prelude.{◌≡◌, ◌↔◌, ◌⊎◌, ◌+ℤ◌, ◌≤◌, All, IfOk, IfErr, IsErrOf, IsTrue, false, length};
-ghost use Rattle.passive_core.specs.Audits.{sum_of};
-ghost use Rattle.passive_core.specs.declared.entry.Kind.TheVariants.{Iface};
-ghost use Rattle.passive_core.specs.Names.{is_lawful};
-ghost use Rattle.passive_core.specs.Slots.{is_iface};
+ghost use Rattle.registry_values.specs.Balances.{sum_of};
+ghost use Rattle.registry_values.specs.declared.entry.Kind.TheVariants.{Iface};
+ghost use Rattle.registry_values.specs.Names.{is_lawful};
+ghost use Rattle.registry_values.specs.Slots.{is_iface};
 ghost use Rattle.passive_list.specs.Keepers.{OnKeeper};
 ghost use Rattle.name_registry.specs.Auditing.{AreAllCpus, IsAuditOf};
 ghost use Rattle.name_registry.specs.Locking.{MayAttach, IsAttachRefusal, IsDetachRefusedTo, IsStageOf};
@@ -16,8 +16,8 @@ use crate::auditing::audit_in;
 use crate::detaching::detach_in;
 use cpu_words::{Domain, Words};
 use local_count::LocalRef;
-use passive_core::{Balance, Entry, Kind, Name, Record, Refusal, Stage};
 use passive_list::{Cpu, Keeper};
+use registry_values::{Balance, Entry, Kind, Name, Record, Refusal, Stage};
 use std::alloc::Global;
 use std::sync::{Mutex, Wait};
 

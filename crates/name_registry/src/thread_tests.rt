@@ -1,18 +1,18 @@
 //! A test on two threads: a local reference goes from one to the other.
 
 ghost use Rattle.std.specs.Prelude.{◌≡◌, ◌<◌};
-ghost use Rattle.passive_core.specs.declared.entry.Entry.{Entry};
-ghost use Rattle.passive_core.specs.declared.state.Slot.TheVariants.{Retired};
-ghost use Rattle.passive_core.specs.State.{slot_at};
+ghost use Rattle.registry_values.specs.declared.entry.Entry.{Entry};
+ghost use Rattle.registry_values.specs.declared.slot.Slot.TheVariants.{Retired};
+ghost use Rattle.registry_values.specs.Slots.{slot_at};
 ghost use Rattle.cpu_words.specs.Opening.{keeper_with};
 ghost use Rattle.cpu_words.specs.Views.{new_cpu};
 ghost use Rattle.name_registry.specs.declared.thread_tests.TheConstants.{TWO_CPUS};
 
 use cpu_words::{CpuSeat, Domain, KeeperSeat, Words};
 use local_count::{LocalRef, acquire_local, collect, collected, total, try_release};
-use passive_core::{Kind, Name, Record, Settings};
 use passive_list::{Cpu, Keeper, enter, exit, find, look, publish, retire};
 use passive_ref::look_passive;
+use registry_values::{Kind, Name, Record, Settings};
 use std::alloc::Global;
 use std::marker::Brand;
 use std::process::Abort;

@@ -3,12 +3,11 @@ use Rattle.std.proofs.Common.{◌≡◌, ℕ, ◌<◌, ◌≤◌, ⊎_elim, Opti
 use Rattle.std.specs.Prelude.{is_none}
 use Rattle.std.proofs.lemmas.Bool.{and_parts, cases_lt, lt-ltb, le-ltb}
 use Rattle.passive_core.specs.Commands.{all_seated, may_act}
-use Rattle.passive_core.specs.Events.{Outcome, guard, is_idle, taken}
-use Rattle.passive_core.specs.declared.event.Reply.{Reply}
-use Rattle.passive_core.specs.Invariant.{Holds}
-use Rattle.passive_core.specs.Slots.{is_empty}
-use Rattle.passive_core.specs.State.{State, search_at, hand_at}
-use Rattle.passive_core.proofs.SectionKeeps.{none_from}
+use Rattle.protocol.specs.Events.{Outcome, guard, is_idle, taken}
+use Rattle.protocol.specs.declared.event.Reply.{Reply}
+use Rattle.protocol.specs.Invariant.{Holds}
+use Rattle.protocol.specs.State.{is_empty, State, search_at, hand_at}
+use Rattle.protocol.proofs.SectionKeeps.{none_from}
 
 -- an idle CPU has no search
 pub idle_unsearching : (s : State) (c : ℕ) → is_idle s c ≡ true → search_at s c ≡ None

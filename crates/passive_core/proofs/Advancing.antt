@@ -1,38 +1,36 @@
 -- What looks, collections and the end of a slot's use tell and leave.
-use Rattle.std.proofs.Common.{◌≡◌, ℕ, zero, suc, ◌+◌, ◌-◌, ◌%◌, ◌<◌, ◌≤◌, inr, ⊎_elim, List, [], ◌∷◌, length, get_or, set, take, Option, Some, None, Bool, true, false, not, ◌&&◌, ◌||◌, ◌==◌, Result, Ok, refl, sym, ap, subst, ◌∙◌, arith, nat_lt, get_or-set_same, get_or-set_other, add-zero, IsSome}
+use Rattle.std.proofs.Common.{◌≡◌, ℕ, zero, suc, ◌+◌, ◌-◌, ◌%◌, ◌<◌, ◌≤◌, inr, ⊎_elim, List, [], ◌∷◌, length, get_or, set, Option, Some, None, Bool, true, false, not, ◌&&◌, ◌||◌, ◌==◌, Result, Ok, refl, sym, ap, subst, ◌∙◌, arith, nat_lt, get_or-set_same, get_or-set_other, add-zero, IsSome}
 use Rattle.std.specs.Prelude.{is_some, is_none}
-use Rattle.std.specs.List.{list_all}
-use Rattle.std.proofs.lemmas.Bool.{cases_lt, cases_eq, eqb-true, eq-eqb, lt-ltb}
+use Rattle.std.proofs.lemmas.Bool.{cases_lt, cases_eq, eqb-true, eq-eqb, lt-ltb, ne_eqb, cases_Bool, and_from}
 use Rattle.std.proofs.lemmas.Option.{same_Some}
-use Rattle.passive_core.specs.declared.entry.Entry.{Entry}
-use Rattle.passive_core.specs.declared.event.Event.TheVariants.{Look, PassiveLook, Collect, TotalAdd, KeptSub}
-use Rattle.passive_core.specs.declared.event.Reply.{Reply}
-use Rattle.passive_core.specs.declared.event.Reply.TheVariants.{Done}
-use Rattle.passive_core.specs.declared.state.Due.TheVariants.{Rest, Snapshots}
-use Rattle.passive_core.specs.declared.state.Mark.{Mark}
-use Rattle.passive_core.specs.declared.state.Slot.{Slot}
-use Rattle.passive_core.specs.declared.state.Slot.TheVariants.{Vacant, Live, Retired}
-use Rattle.passive_core.specs.declared.refusal.Refusal.{Refusal}
-use Rattle.passive_core.specs.declared.stage.Stage.{Stage}
-use Rattle.passive_core.specs.declared.stage.Stage.TheVariants.{Grace, Passive, Local, Freed}
-use Rattle.passive_core.specs.Advancing.{AdvanceLeaves, AllClear, AllCollected, AllPassed, Empties, Gathers, Grows, HoldersAreOpen, LeavesMarks, MarksGrow, MarksPass, Passes, SameElsewhere, StageLeaves, advance_answer, given_up, has_passive, is_open_since, is_retired_as, is_snapshot, least_below, plain_stage, retired_slot, stage_of}
+use Rattle.registry_values.specs.declared.entry.Entry.{Entry}
+use Rattle.protocol.specs.declared.event.Event.TheVariants.{Look, PassiveLook, Collect, TotalAdd, KeptSub}
+use Rattle.protocol.specs.declared.event.Reply.{Reply}
+use Rattle.protocol.specs.declared.event.Reply.TheVariants.{Done}
+use Rattle.registry_values.specs.declared.mark.Mark.{Mark}
+use Rattle.registry_values.specs.declared.slot.Slot.{Slot}
+use Rattle.registry_values.specs.declared.slot.Slot.TheVariants.{Retired}
+use Rattle.registry_values.specs.declared.refusal.Refusal.{Refusal}
+use Rattle.registry_values.specs.declared.stage.Stage.{Stage}
+use Rattle.registry_values.specs.declared.stage.Stage.TheVariants.{Grace, Passive, Local, Freed}
+use Rattle.passive_core.specs.Advancing.{AdvanceLeaves, Empties, Gathers, HoldersAreOpen, LeavesMarks, MarksPass, Passes, StageLeaves, advance_answer, given_up, has_passive, is_open_since, is_snapshot, plain_stage, stage_of}
+use Rattle.protocol.specs.Marking.{AllClear, AllCollected, AllPassed, MarksGrow}
+use Rattle.registry_values.specs.Marks.{least_below, looked, cleared, collected, are_collected, has_changed, have_passed, is_even}
+use Rattle.registry_values.specs.Slots.{retired_slot, has_number, is_retired, slot_of, slot_at}
 use Rattle.passive_core.specs.Commands.{may_act}
-use Rattle.passive_core.specs.Events.{Outcome, guard, taken, step, looked, cleared, collected, after_look, after_look_passive, after_collect, after_total, after_kept_sub, after_vacate, may_collect, may_examine, may_look_passive, may_vacate, is_drainable, is_drained, is_iface_slot, keeps_rightly}
-use Rattle.passive_core.specs.Invariant.{Holds, one_if, held_at}
-use Rattle.passive_core.specs.Slots.{are_clear, are_collected, at_rest, has_changed, has_number, have_passed, is_clear, is_collected, is_even, is_passed, is_retired, slot_of}
-use Rattle.passive_core.specs.State.{State, bias, section_at, begin_at, count_at, kept_at, mark_at, no_mark, passive_at, slot_at, total_at, with_cell}
-use Rattle.passive_core.proofs.Fit.{ranges}
-use Rattle.passive_core.proofs.Marking.{row_cases}
-use Rattle.passive_core.proofs.Occupied.{at_rest_tells, in_within, is_retired_tells, number_in, has_it, one_number, slot_found}
-use Rattle.passive_core.proofs.Bounds.{driver_positive}
-use Rattle.passive_core.proofs.CountBounds.{all_collected}
-use Rattle.passive_core.proofs.Drivers.{kept_found}
-use Rattle.passive_core.proofs.MarkKeeps.{is_drained_tells}
-use Rattle.passive_core.proofs.Searching.{within_some}
+use Rattle.protocol.specs.Events.{Outcome, guard, taken, step, after_look, after_look_passive, after_collect, after_total, after_kept_sub, after_vacate, may_collect, may_examine, may_look_passive, may_vacate, is_drainable, is_drained, is_iface_slot, keeps_rightly}
+use Rattle.protocol.specs.Invariant.{Holds, one_if, held_at}
+use Rattle.protocol.specs.State.{at_rest, State, section_at, begin_at, count_at, kept_at, mark_at, passive_at, total_at}
+use Rattle.registry_values.specs.Balances.{bias}
+use Rattle.protocol.proofs.Occupied.{at_rest_tells, in_within, is_retired_tells, number_in, has_it, one_number, slot_found}
+use Rattle.protocol.proofs.Bounds.{driver_positive}
+use Rattle.protocol.proofs.CountBounds.{all_collected}
+use Rattle.protocol.proofs.Drivers.{kept_found}
+use Rattle.protocol.proofs.MarkKeeps.{is_drained_tells}
+use Rattle.protocol.proofs.Searching.{within_some}
 use Rattle.std.proofs.lemmas.List.{set-get_or}
-use Rattle.std.proofs.lemmas.List.Quantifiers.{position-Some}
-use Rattle.std.proofs.lemmas.Bool.{ne_eqb, cases_Bool}
 use Rattle.passive_core.proofs.Acting.{made_is}
+use Rattle.protocol.proofs.MarkRows.{clear_from, collected_from, mark_grows, mark_there, mark_written, marks_grow_more, marks_grow_none, passed_from, row_elsewhere, snapshot_stands}
 
 -- an event whose test passes is allowed
 pub guard_some : (b : Bool) (s : State) (r : Reply) → b ≡ true → IsSome (guard b (taken s r))
@@ -46,10 +44,6 @@ allowed (Some y) x is = refl
 -- and what it left is known
 pub left_by : (o : Option Outcome) (s t : State) (r q : Reply) → o ≡ Some (record { state = s; reply = r }) → o ≡ Some (record { state = t; reply = q }) → t ≡ s
 left_by o s t r q is made = let same : ◌≡◌ {A = Outcome} (record { state = s; reply = r }) (record { state = t; reply = q }) = same_Some _ _ (sym is ∙ made) in sym (ap (λ (x : Outcome). x.state) same)
-
-pub and_both : (a b : Bool) → a ≡ true → b ≡ true → (a && b) ≡ true
-and_both true b x y = y
-and_both false b x y = x
 
 pub or_last : (a b : Bool) → b ≡ true → (a || b) ≡ true
 or_last true b y = refl
@@ -74,24 +68,10 @@ not_true true r is at = absurd (let q : ◌≡◌ {A = Bool} false true = sym is
 
 -- The least number that passes.
 
-pub none_below : (p : ℕ → Bool) (n : ℕ) → ((d : ℕ) → d < n → p d ≡ false) → least_below p n ≡ None
-none_below p zero all = refl
-none_below p (suc n) all = rw (none_below p n (λ d lt. all d (omega arith)), all n (omega arith)) refl
-
-pub least_is : (p : ℕ → Bool) (c n : ℕ) → c < n → p c ≡ true → ((d : ℕ) → d < c → p d ≡ false) → least_below p n ≡ Some c
-least_is p c zero lt is all = absurd (omega arith)
-least_is p c (suc n) lt is all = ⊎_elim
-    (λ (low : c < n). rw (least_is p c n low is all) refl)
-    (λ (ge : n ≤ c).
-    let same : c ≡ n = omega arith in
-    let here : p n ≡ true = ap p (sym same) ∙ is in
-    rw (none_below p n (λ d below. all d (omega arith)), here) (ap (λ (k : ℕ). Some k) (sym same)))
-    (cases_lt c n)
-
 -- Looks
 
 pub examines : (s : State) (t c : ℕ) → at_rest s.due ≡ true → is_retired (slot_at s.slots t) ≡ true → c < s.settings.cpus → may_examine s t c ≡ true
-examines s t c rest gone lt = and_both (at_rest s.due) _ rest (and_both (nat_lt c s.settings.cpus) _ (lt-ltb c s.settings.cpus lt) gone)
+examines s t c rest gone lt = and_from (at_rest s.due) _ rest (and_from (nat_lt c s.settings.cpus) _ (lt-ltb c s.settings.cpus lt) gone)
 
 -- a look passes just where the section isn't the one of the snapshot
 shows_passed : (m : Mark) (w x : ℕ) (begin : Option ℕ) → m.snapshot ≡ Some x → (begin ≡ None → w % 2 ≡ 0) → ((b : ℕ) → begin ≡ Some b → w % 2 ≡ 1) → ((b : ℕ) → begin ≡ Some b → m.passed ≡ true → w ≡ x → ⊥)
@@ -107,11 +87,6 @@ shows_passed m w x (Some b) snap outside inside left =
 shows_left : (m : Mark) (w x : ℕ) (begin : Option ℕ) → m.snapshot ≡ Some x → ((b : ℕ) → begin ≡ Some b → m.passed ≡ true → w ≡ x → ⊥) → m.passed ≡ true → true ≡ not (is_some begin && is_snapshot m.snapshot w)
 shows_left m w x None snap left passed = refl
 shows_left m w x (Some b) snap left passed = rw snap (sym (not_so (x == w) (λ same. left b refl passed (sym (eqb-true x w same)))))
-
-pub snapshot_stands : (s : State) (t c : ℕ) → Holds s → at_rest s.due ≡ true → is_retired (slot_at s.slots t) ≡ true → c < s.settings.cpus → (w : ℕ) × ((mark_at s.marks t c).snapshot ≡ Some w)
-snapshot_stands s t c on rest gone lt =
-    let e = is_retired_tells (slot_at s.slots t) gone in
-    on.snapshots t c e.0 e.1 lt (λ due. let q : Rest ≡ Snapshots t due.0 = sym (at_rest_tells s.due rest) ∙ due.1 in cc)
 
 pub look_passes : (s : State) (t c : ℕ) → Holds s → at_rest s.due ≡ true → is_retired (slot_at s.slots t) ≡ true → c < s.settings.cpus
     → (looked (mark_at s.marks t c) (section_at s c)).passed ≡ not (is_open_since s t c)
@@ -147,17 +122,6 @@ marks_pass_more a b d t x y = record {
   };
 }
 
--- one mark of a row is written
-pub mark_written : (P : Mark → Mark → Type 0) (marks : List (List Mark)) (t c : ℕ) (m : Mark) → ((x : Mark) → P x x) → P (mark_at marks t c) m → (j : ℕ) → P (mark_at marks t j) (mark_at (with_cell marks t c m) t j)
-mark_written P marks t c m same new j = ⊎_elim
-    (λ (here : (t ≡ t) × (j ≡ c) × (mark_at (with_cell marks t c m) t j ≡ m)).
-    subst (λ (x : Mark). P (mark_at marks t j) x) (sym here.2) (subst (λ (k : ℕ). P (mark_at marks t k) m) (sym here.1) new))
-    (λ (old : mark_at (with_cell marks t c m) t j ≡ mark_at marks t j). subst (λ (x : Mark). P (mark_at marks t j) x) (sym old) (same (mark_at marks t j)))
-    (row_cases no_mark marks t c m t j)
-
-pub row_elsewhere : {X : Type 0} (rows : List (List X)) (t c : ℕ) (x : X) → SameElsewhere rows (with_cell rows t c x) t
-row_elsewhere rows t c x u off = get_or-set_other rows t u (set (get_or rows t []) c x) [] off
-
 pub look_marks : (s : State) (t c : ℕ) → MarksPass s.marks (after_look s t c).marks t
 look_marks s t c =
     let m : Mark = mark_at s.marks t c in
@@ -166,13 +130,6 @@ look_marks s t c =
       here = mark_written Passes s.marks t c (looked m (section_at s c)) passes_none
           (record { snapshot = refl; passed = λ p. ap (λ (b : Bool). b || (is_even (section_at s c) || has_changed m.snapshot (section_at s c))) p; clear = refl; collected = refl });
     }
-
--- what is written is there
-pub mark_there : (s : State) (t c : ℕ) (m : Mark) → Holds s → t < s.settings.slots → c < s.settings.cpus → mark_at (with_cell s.marks t c m) t c ≡ m
-mark_there s t c m on ts lt =
-    let tm : t < length s.marks = omega (arith, on.shape.marks) in
-    let cm : c < length (get_or s.marks t []) = omega (arith, on.shape.mark_rows t tm, (ranges s.settings on.fit).cpus, lt) in
-    ap (λ (r : List Mark). get_or r c no_mark) (get_or-set_same s.marks t (set (get_or s.marks t []) c m) [] tm) ∙ get_or-set_same (get_or s.marks t []) c m no_mark cm
 
 -- a section stays open while only marks for the slot change
 pub open_same : (s n : State) (t c : ℕ) → n ≡ record s { marks = n.marks } → MarksPass s.marks n.marks t → is_open_since n t c ≡ is_open_since s t c
@@ -187,45 +144,16 @@ only_marks s m n first then = subst (λ (x : State). n ≡ record x { marks = n.
 
 -- Tests of the marks of all CPUs
 
-all_from : (p : Mark → Bool) (n : ℕ) (row : List Mark) → ((c : ℕ) → c < n → p (get_or row c no_mark) ≡ true) → list_all p (take n row) ≡ true
-all_from p zero row each = refl
-all_from p (suc n) [] each = refl
-all_from p (suc n) (x ∷ row) each = and_both (p x) (list_all p (take n row)) (each 0 (omega arith)) (all_from p n row (λ c lt. each (suc c) (omega arith)))
-
-pub passed_from : (s : State) (t : ℕ) → AllPassed s t → have_passed s.settings.cpus (get_or s.marks t []) ≡ true
-passed_from s t all = all_from is_passed s.settings.cpus (get_or s.marks t []) all
-
-pub clear_from : (s : State) (t : ℕ) → AllClear s t → are_clear s.settings.cpus (get_or s.marks t []) ≡ true
-clear_from s t all = all_from is_clear s.settings.cpus (get_or s.marks t []) all
-
-pub collected_from : (s : State) (t : ℕ) → AllCollected s t → are_collected s.settings.cpus (get_or s.marks t []) ≡ true
-collected_from s t all = all_from is_collected s.settings.cpus (get_or s.marks t []) all
-
 pub drainable_from : (s : State) (t : ℕ) → AllPassed s t → AllClear s t → is_drainable s t ≡ true
-drainable_from s t passed clear = and_both (have_passed s.settings.cpus (get_or s.marks t [])) _ (passed_from s t passed) (clear_from s t clear)
+drainable_from s t passed clear = and_from (have_passed s.settings.cpus (get_or s.marks t [])) _ (passed_from s t passed) (clear_from s t clear)
 
 -- Marks that grow
-
-pub grows_none : (m : Mark) → Grows m m
-grows_none m = record { snapshot = refl; passed = λ x. x; clear = λ x. x; collected = λ x. x }
-
-pub grows_more : (a b d : Mark) → Grows a b → Grows b d → Grows a d
-grows_more a b d x y = record { snapshot = y.snapshot ∙ x.snapshot; passed = λ p. y.passed (x.passed p); clear = λ p. y.clear (x.clear p); collected = λ p. y.collected (x.collected p) }
-
-pub marks_grow_none : (marks : List (List Mark)) (t : ℕ) → MarksGrow marks marks t
-marks_grow_none marks t = record { elsewhere = λ u off. refl; here = λ c. grows_none (mark_at marks t c) }
-
-pub marks_grow_more : (a b d : List (List Mark)) (t : ℕ) → MarksGrow a b t → MarksGrow b d t → MarksGrow a d t
-marks_grow_more a b d t x y = record { elsewhere = λ u off. y.elsewhere u off ∙ x.elsewhere u off; here = λ c. grows_more (mark_at a t c) (mark_at b t c) (mark_at d t c) (x.here c) (y.here c) }
 
 pub passing_grows : (a b : List (List Mark)) (t : ℕ) → MarksPass a b t → MarksGrow a b t
 passing_grows a b t x = record {
   elsewhere = x.elsewhere;
   here = λ c. record { snapshot = (x.here c).snapshot; passed = (x.here c).passed; clear = λ p. (x.here c).clear ∙ p; collected = λ p. (x.here c).collected ∙ p };
 }
-
-pub mark_grows : (marks : List (List Mark)) (t c : ℕ) (m : Mark) → Grows (mark_at marks t c) m → MarksGrow marks (with_cell marks t c m) t
-mark_grows marks t c m grows = record { elsewhere = row_elsewhere marks t c m; here = mark_written Grows marks t c m grows_none grows }
 
 -- Looks at passive words
 
@@ -247,7 +175,7 @@ clear_left s t c on gone clear =
     sym (ap (λ (w : ℕ). not (nat_lt 0 w)) (on.passive.clear c t e.0 e.1 clear).1)
 
 pub examines_passive : (s : State) (t c : ℕ) → at_rest s.due ≡ true → is_retired (slot_at s.slots t) ≡ true → AllPassed s t → c < s.settings.cpus → may_look_passive s t c ≡ true
-examines_passive s t c rest gone passed lt = and_both (may_examine s t c) _ (examines s t c rest gone lt) (passed_from s t passed)
+examines_passive s t c rest gone passed lt = and_from (may_examine s t c) _ (examines s t c rest gone lt) (passed_from s t passed)
 
 pub passive_look_is : (s n : State) (t c : ℕ) (r : Reply) → at_rest s.due ≡ true → is_retired (slot_at s.slots t) ≡ true → AllPassed s t → c < s.settings.cpus → step s (PassiveLook t c) ≡ Some (record { state = n; reply = r }) → n ≡ after_look_passive s t c
 passive_look_is s n t c r rest gone passed lt made = made_is (may_look_passive s t c) (after_look_passive s t c) n _ r (examines_passive s t c rest gone passed lt) made
@@ -259,7 +187,7 @@ passive_look_marks s t c = mark_grows s.marks t c (cleared (mark_at s.marks t c)
 -- Collections
 
 pub collects : (s : State) (t c : ℕ) → at_rest s.due ≡ true → is_retired (slot_at s.slots t) ≡ true → AllPassed s t → AllClear s t → c < s.settings.cpus → (mark_at s.marks t c).collected ≡ false → may_collect s t c ≡ true
-collects s t c rest gone passed clear lt yet = and_both (may_examine s t c) _ (examines s t c rest gone lt) (and_both (is_drainable s t) _ (drainable_from s t passed clear) (ap not yet))
+collects s t c rest gone passed clear lt yet = and_from (may_examine s t c) _ (examines s t c rest gone lt) (and_from (is_drainable s t) _ (drainable_from s t passed clear) (ap not yet))
 
 pub collect_is : (s n : State) (t c : ℕ) (r : Reply) → at_rest s.due ≡ true → is_retired (slot_at s.slots t) ≡ true → AllPassed s t → AllClear s t → c < s.settings.cpus → (mark_at s.marks t c).collected ≡ false
     → step s (Collect t c) ≡ Some (record { state = n; reply = r }) → n ≡ after_collect s t c
@@ -307,11 +235,11 @@ gathered_words s t on gone all c =
 
 pub drained_from : (s : State) (t : ℕ) → at_rest s.due ≡ true → is_retired (slot_at s.slots t) ≡ true → AllPassed s t → AllClear s t → AllCollected s t → total_at s.totals t ≡ bias → is_drained s t ≡ true
 drained_from s t rest gone passed clear all total =
-    and_both (at_rest s.due) _ rest (and_both (is_retired (slot_at s.slots t)) _ gone (and_both (is_drainable s t) _ (drainable_from s t passed clear)
-    (and_both (are_collected s.settings.cpus (get_or s.marks t [])) _ (collected_from s t all) (eq-eqb (total_at s.totals t) bias total))))
+    and_from (at_rest s.due) _ rest (and_from (is_retired (slot_at s.slots t)) _ gone (and_from (is_drainable s t) _ (drainable_from s t passed clear)
+    (and_from (are_collected s.settings.cpus (get_or s.marks t [])) _ (collected_from s t all) (eq-eqb (total_at s.totals t) bias total))))
 
 pub vacates : (s : State) (t : ℕ) → kept_at s.keeps t ≡ None → is_drained s t ≡ true → may_vacate s t ≡ true
-vacates s t none drained = and_both (is_none (kept_at s.keeps t)) _ (ap is_none none) drained
+vacates s t none drained = and_from (is_none (kept_at s.keeps t)) _ (ap is_none none) drained
 
 pub vacated : (s n : State) (t : ℕ) → Holds s → kept_at s.keeps t ≡ None → is_drained s t ≡ true → n ≡ after_vacate s t → Empties s n t
 vacated s n t on none drained is =
@@ -366,16 +294,6 @@ gave_up s n t d u on kept of drained is =
 
 -- Retired entries
 
-retired_as : (n : ℕ) (x : Slot) → is_retired_as n x ≡ true → (e : Entry) × (x ≡ Retired e) × (e.number ≡ n)
-retired_as n Vacant is = absurd (let q : ◌≡◌ {A = Bool} false true = is in cc)
-retired_as n (Live e) is = absurd (let q : ◌≡◌ {A = Bool} false true = is in cc)
-retired_as n (Retired e) is = (e, refl, eqb-true e.number n is)
-
-pub retired_slot_tells : (slots : List Slot) (n t : ℕ) → retired_slot slots n ≡ Some t → (t < length slots) × ((e : Entry) × (slot_at slots t ≡ Retired e) × (e.number ≡ n))
-retired_slot_tells slots n t is =
-    let at = position-Some (is_retired_as n) slots t Vacant is in
-    (at.0, retired_as n (slot_at slots t) at.1)
-
 -- an open section that may hold a retired entry was open as its snapshot was taken
 still_open : (begin x : Option ℕ) (b w now : ℕ) → begin ≡ Some b → x ≡ Some w → now ≡ w → (is_some begin && is_snapshot x now) ≡ true
 still_open begin x b w now in_ snap same = rw (in_, snap) (eq-eqb w now (sym same))
@@ -398,10 +316,6 @@ passive_same s n t c only = ap (λ (x : State). has_passive x t c) only
 -- a word that was collected is marked so
 pub collected_there : (s n : State) (t c : ℕ) → Holds s → t < s.settings.slots → c < s.settings.cpus → n ≡ after_total (after_collect s t c) t (total_at s.totals t + count_at s.counts c t - bias) → (mark_at n.marks t c).collected ≡ true
 collected_there s n t c on lt low is = ap (λ (x : State). (mark_at x.marks t c).collected) is ∙ ap (λ (m : Mark). m.collected) (mark_there s t c (collected (mark_at s.marks t c)) on lt low)
-
-pub none_is : {X : Type 0} (o : Option X) → is_some o ≡ false → o ≡ None
-none_is None is = refl
-none_is (Some x) is = absurd (let q : ◌≡◌ {A = Bool} true false = is in cc)
 
 pub local_stage : (t k held : ℕ) → k ≡ held → (held ≡ 0 → ⊥) → Local k ≡ stage_of t None None held
 local_stage t k zero same some = absurd (some refl)

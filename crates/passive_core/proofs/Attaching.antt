@@ -7,33 +7,33 @@ use Rattle.std.proofs.lemmas.Bool.{and_from, and_parts, cases_lt, le-ltb}
 use Rattle.std.proofs.lemmas.List.{length-replicate, replicate_more, set-get_or, set-set, set_at, set_past, take-replicate, take-append-le, append_assoc}
 use Rattle.std.proofs.lemmas.List.Quantifiers.{position-Some}
 use Rattle.std.proofs.lemmas.Slice.Zip.{get_or-zip, length-zip}
-use Rattle.passive_core.specs.declared.entry.Entry.{Entry}
-use Rattle.passive_core.specs.declared.entry.Kind.{Kind}
-use Rattle.passive_core.specs.declared.entry.Kind.TheVariants.{Iface, Driver}
-use Rattle.passive_core.specs.declared.entry.Record.{Record}
-use Rattle.passive_core.specs.declared.event.Event.TheVariants.{StoreSlot, Publish}
-use Rattle.passive_core.specs.declared.event.Reply.{Reply}
-use Rattle.passive_core.specs.declared.event.Reply.TheVariants.{Done}
+use Rattle.registry_values.specs.declared.entry.Entry.{Entry}
+use Rattle.registry_values.specs.declared.entry.Kind.{Kind}
+use Rattle.registry_values.specs.declared.entry.Kind.TheVariants.{Iface, Driver}
+use Rattle.registry_values.specs.declared.entry.Record.{Record}
+use Rattle.protocol.specs.declared.event.Event.TheVariants.{StoreSlot, Publish}
+use Rattle.protocol.specs.declared.event.Reply.{Reply}
+use Rattle.protocol.specs.declared.event.Reply.TheVariants.{Done}
 use Rattle.passive_core.specs.declared.machine.commands.attach.Before.{Before}
-use Rattle.passive_core.specs.declared.refusal.Refusal.{Refusal}
-use Rattle.passive_core.specs.declared.refusal.Refusal.TheVariants.{NameTaken, NoSlot, HistoryFull}
-use Rattle.passive_core.specs.declared.state.LocalPlace.{LocalPlace}
-use Rattle.passive_core.specs.declared.state.LocalPlace.TheVariants.{Free, Standing, Lifted}
-use Rattle.passive_core.specs.declared.state.RecordWords.{RecordWords}
-use Rattle.passive_core.specs.declared.state.Slot.{Slot}
-use Rattle.passive_core.specs.declared.state.Slot.TheVariants.{Vacant}
-use Rattle.passive_core.specs.Attaching.{entry_in, given_back, given_entry, is_driver_in, is_driver_number, is_plain, is_to_driver, keeping, key_of_record, next_entry, plain_slot, prepared, restored, with_biases, words_before}
+use Rattle.registry_values.specs.declared.refusal.Refusal.{Refusal}
+use Rattle.registry_values.specs.declared.refusal.Refusal.TheVariants.{NameTaken, NoSlot, HistoryFull}
+use Rattle.protocol.specs.declared.state.LocalPlace.{LocalPlace}
+use Rattle.protocol.specs.declared.state.LocalPlace.TheVariants.{Free, Standing, Lifted}
+use Rattle.protocol.specs.declared.state.RecordWords.{RecordWords}
+use Rattle.registry_values.specs.declared.slot.Slot.{Slot}
+use Rattle.registry_values.specs.declared.slot.Slot.TheVariants.{Vacant}
+use Rattle.passive_core.specs.Attaching.{entry_in, given_back, given_entry, is_driver_in, is_driver_number, is_to_driver, keeping, next_entry, plain_slot, prepared, restored, words_before}
+use Rattle.registry_values.specs.Slots.{is_plain, key_of_record, key_of, is_iface, is_taken, is_vacant, slot_of, slot_at}
+use Rattle.protocol.specs.State.{with_biases, at_rest, State, kept_at, local_at, no_words, row_at, total_at}
 use Rattle.passive_core.specs.Commands.{all_seated, may_act}
-use Rattle.passive_core.specs.Events.{Outcome, after_count_store, after_keep, after_publish, after_row_store, after_seeing, are_unused, entry_of, has_room, is_bias, is_driver_slot, is_prepared, keeps_rightly, may_keep, may_publish, may_write, standing, step, with_word, words_of}
-use Rattle.passive_core.specs.History.{key_of}
-use Rattle.passive_core.specs.Invariant.{Holds}
-use Rattle.passive_core.specs.Names.{are_name_words, is_lawful}
-use Rattle.passive_core.specs.Slots.{at_rest, is_iface, is_taken, is_vacant, slot_of}
-use Rattle.passive_core.specs.State.{State, bias, kept_at, local_at, no_words, row_at, slot_at, total_at}
-use Rattle.passive_core.proofs.CountKeeps.{keep_keeps}
-use Rattle.passive_core.proofs.Fit.{ranges}
-use Rattle.passive_core.proofs.ListKeeps.{may_write_tells}
-use Rattle.passive_core.proofs.SectionKeeps.{cpus_keep, none_from}
+use Rattle.protocol.specs.Events.{Outcome, after_count_store, after_keep, after_publish, after_row_store, after_seeing, are_unused, entry_of, has_room, is_bias, is_driver_slot, is_prepared, keeps_rightly, may_keep, may_publish, may_write, standing, step, with_word, words_of}
+use Rattle.protocol.specs.Invariant.{Holds}
+use Rattle.registry_values.specs.Names.{are_name_words, is_lawful}
+use Rattle.registry_values.specs.Balances.{bias}
+use Rattle.protocol.proofs.CountKeeps.{keep_keeps}
+use Rattle.registry_values.proofs.Fit.{ranges}
+use Rattle.protocol.proofs.ListKeeps.{may_write_tells}
+use Rattle.protocol.proofs.SectionKeeps.{cpus_keep, none_from}
 
 -- The record words.
 

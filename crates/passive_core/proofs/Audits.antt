@@ -6,19 +6,20 @@ use Rattle.std.proofs.lemmas.Int.{ints}
 use Rattle.std.proofs.lemmas.List.{append-nil, map-append, take_more}
 use Rattle.std.proofs.lemmas.List.Elements.{All-cons, All-head, All-nil, All-tail}
 use Rattle.std.proofs.lemmas.List.Sums.{sum_by-cons}
-use Rattle.passive_core.specs.declared.balance.Balance.{Balance}
-use Rattle.passive_core.specs.declared.entry.Entry.{Entry}
-use Rattle.passive_core.specs.declared.state.Slot.{Slot}
-use Rattle.passive_core.specs.declared.state.Slot.TheVariants.{Vacant, Live, Retired}
-use Rattle.passive_core.specs.State.{State, bias, count_at, mark_at, slot_at, total_at}
-use Rattle.passive_core.specs.Slots.{at_rest}
-use Rattle.passive_core.specs.Audits.{IsHeldRightly, Tally, audit_of, less_bias, local_of, locals_at, sum_of, tallies_at, tallies_below, tally_of, tally_shown}
-use Rattle.passive_core.specs.Invariant.{Holds, IsCounting, IsIn, adding_at, is_adding_at, itself, one_if_used}
-use Rattle.passive_core.proofs.CountBounds.{total_at_rest, word_ceiling, word_floor}
-use Rattle.passive_core.proofs.CountKeeps.{fit_of}
-use Rattle.passive_core.proofs.Counts.{counting_cases}
-use Rattle.passive_core.proofs.Fit.{ranges}
-use Rattle.passive_core.proofs.Occupied.{at_rest_tells, in_within}
+use Rattle.registry_values.specs.declared.balance.Balance.{Balance}
+use Rattle.registry_values.specs.declared.entry.Entry.{Entry}
+use Rattle.registry_values.specs.declared.slot.Slot.{Slot}
+use Rattle.registry_values.specs.declared.slot.Slot.TheVariants.{Vacant, Live, Retired}
+use Rattle.protocol.specs.State.{State, count_at, mark_at, total_at, at_rest}
+use Rattle.registry_values.specs.Balances.{bias, Tally, less_bias, local_of, sum_of, tally_shown}
+use Rattle.registry_values.specs.Slots.{slot_at}
+use Rattle.passive_core.specs.Audits.{IsHeldRightly, audit_of, locals_at, tallies_at, tallies_below, tally_of}
+use Rattle.protocol.specs.Invariant.{Holds, IsCounting, IsIn, adding_at, is_adding_at, itself, one_if_used}
+use Rattle.protocol.proofs.CountBounds.{total_at_rest, word_ceiling, word_floor}
+use Rattle.protocol.proofs.CountKeeps.{fit_of}
+use Rattle.protocol.proofs.Counts.{counting_cases}
+use Rattle.registry_values.proofs.Fit.{ranges}
+use Rattle.protocol.proofs.Occupied.{at_rest_tells, in_within}
 
 -- The sum of what the words say.
 

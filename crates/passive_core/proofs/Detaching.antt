@@ -1,60 +1,32 @@
 -- The live entry with a key is the one that a lookup of it gives now; and the row of marks, while its snapshots are taken.
-use Rattle.std.proofs.Common.{◌≡◌, ℕ, suc, ◌+◌, ◌-◌, ◌<◌, inl, inr, List, [], ◌∷◌, ◌++◌, length, get_or, set, map, take, replicate, Option, Some, None, Bool, true, false, nat_eq, nat_lt, refl, sym, ap, subst, ◌∙◌, arith, eqb-true, get_or-set_same}
+use Rattle.std.proofs.Common.{◌≡◌, ℕ, suc, ◌+◌, ◌-◌, ◌<◌, inl, inr, List, [], ◌∷◌, ◌++◌, length, get_or, set, map, take, replicate, Option, Some, None, Bool, true, false, nat_lt, refl, sym, ap, subst, ◌∙◌, arith, get_or-set_same}
 use Rattle.std.specs.Prelude.{if◌then◌else◌, position}
-use Rattle.std.proofs.lemmas.Bool.{and_parts, eq-eqb, lt-ltb, le-ltb}
+use Rattle.std.proofs.lemmas.Bool.{eq-eqb, lt-ltb, le-ltb}
 use Rattle.std.proofs.lemmas.List.{append_assoc, length-map, length-take-le, map_more, set-set, set-get_or, set_at, take_all}
 use Rattle.std.proofs.lemmas.List.Quantifiers.{position-Some}
-use Rattle.passive_core.specs.declared.entry.Entry.{Entry}
-use Rattle.passive_core.specs.declared.entry.Kind.{Kind}
-use Rattle.passive_core.specs.declared.entry.Kind.TheVariants.{Iface, Driver}
-use Rattle.passive_core.specs.declared.event.Reply.{Reply}
-use Rattle.passive_core.specs.declared.event.Reply.TheVariants.{Done, Word}
-use Rattle.passive_core.specs.declared.state.Due.{Due}
-use Rattle.passive_core.specs.declared.state.Due.TheVariants.{Rest, Snapshots}
-use Rattle.passive_core.specs.declared.state.Key.{Key}
-use Rattle.passive_core.specs.declared.state.Mark.{Mark}
-use Rattle.passive_core.specs.declared.state.Slot.{Slot}
-use Rattle.passive_core.specs.declared.state.Slot.TheVariants.{Vacant, Live, Retired}
+use Rattle.registry_values.specs.declared.entry.Entry.{Entry}
+use Rattle.protocol.specs.declared.event.Reply.{Reply}
+use Rattle.protocol.specs.declared.event.Reply.TheVariants.{Done, Word}
+use Rattle.protocol.specs.declared.state.Due.{Due}
+use Rattle.protocol.specs.declared.state.Due.TheVariants.{Rest, Snapshots}
+use Rattle.registry_values.specs.declared.slot.Key.{Key}
+use Rattle.registry_values.specs.declared.mark.Mark.{Mark}
+use Rattle.registry_values.specs.declared.slot.Slot.{Slot}
+use Rattle.registry_values.specs.declared.slot.Slot.TheVariants.{Vacant, Live}
 use Rattle.passive_core.specs.Commands.{all_seated, may_act}
 use Rattle.passive_core.specs.Detaching.{IsLookupNow, detached, snapped}
-use Rattle.passive_core.specs.Events.{after_seeing, after_snapshot, after_unpublish, guard, is_idle, is_snapshot_due, retiring, snapshot_mark, taken, unlinking}
-use Rattle.passive_core.specs.History.{key_of}
-use Rattle.passive_core.specs.Invariant.{DueHolds, Holds}
-use Rattle.passive_core.specs.Slots.{at_rest, is_live_as, slot_before, same_key, same_kind, same_name}
-use Rattle.passive_core.specs.State.{State, no_mark, section_at, slot_at}
+use Rattle.protocol.specs.Events.{after_seeing, after_snapshot, after_unpublish, guard, is_idle, is_snapshot_due, retiring, snapshot_mark, taken, unlinking}
+use Rattle.protocol.specs.Invariant.{DueHolds, Holds}
+use Rattle.protocol.specs.State.{at_rest, State, section_at}
+use Rattle.registry_values.specs.Slots.{is_live_as, slot_before, same_key, slot_at}
+use Rattle.registry_values.specs.Marks.{no_mark}
 use Rattle.passive_core.proofs.Acting.{acting_on, made_is}
-use Rattle.passive_core.proofs.Fit.{ranges}
-use Rattle.passive_core.proofs.Numbers.{position_fails}
-use Rattle.passive_core.proofs.Occupied.{in_within, live_one}
+use Rattle.registry_values.proofs.Fit.{ranges}
+use Rattle.protocol.proofs.Numbers.{position_fails}
+use Rattle.protocol.proofs.Occupied.{in_within, live_one}
+use Rattle.registry_values.proofs.Slots.{key_same, live_tells}
 
 -- Live entries and keys
-
-kind_from : (a b : Kind) → same_kind a b ≡ true → a ≡ b
-kind_from Iface Iface is = refl
-kind_from Iface Driver is = absurd (let q : ◌≡◌ {A = Bool} false true = is in cc)
-kind_from Driver Iface is = absurd (let q : ◌≡◌ {A = Bool} false true = is in cc)
-kind_from Driver Driver is = refl
-
-kind_same : (a : Kind) → same_kind a a ≡ true
-kind_same Iface = refl
-kind_same Driver = refl
-
-pub key_from : (a b : Key) → same_key a b ≡ true → a ≡ b
-key_from a b is =
-    let p = and_parts (same_kind a.kind b.kind) (same_name a.name b.name) is in
-    let n = and_parts (nat_eq a.name.high b.name.high) (nat_eq a.name.low b.name.low) p.1 in
-    let kind : a.kind ≡ b.kind = kind_from a.kind b.kind p.0 in
-    let high : a.name.high ≡ b.name.high = eqb-true a.name.high b.name.high n.0 in
-    let low : a.name.low ≡ b.name.low = eqb-true a.name.low b.name.low n.1 in
-    λ i. record { kind = kind i; name = record { high = high i; low = low i } }
-
-pub key_same : (a : Key) → same_key a a ≡ true
-key_same a = rw (kind_same a.kind, eq-eqb a.name.high a.name.high refl, eq-eqb a.name.low a.name.low refl) refl
-
-pub live_tells : (key : Key) (x : Slot) → is_live_as key x ≡ true → (e : Entry) × (x ≡ Live e) × (key_of e ≡ key)
-live_tells key Vacant is = absurd (let q : ◌≡◌ {A = Bool} false true = is in cc)
-live_tells key (Live e) is = (e, refl, key_from (key_of e) key is)
-live_tells key (Retired e) is = absurd (let q : ◌≡◌ {A = Bool} false true = is in cc)
 
 -- what stands at the first place with a live entry of the key
 pub place_lookup : (s : State) (key : Key) (t : ℕ) → Holds s → position (is_live_as key) s.slots ≡ Some t → (e : Entry) × (slot_at s.slots t ≡ Live e) × IsLookupNow s key (Some e) × (slot_at s.slots e.slot ≡ Live e)

@@ -1,15 +1,14 @@
 -- Sections by command: who may act, and which depths may stand.
 use Rattle.std.proofs.Common.{◌≡◌, ℕ, ◌<◌, ◌≤◌, ⊎_elim, List, length, set, get_or, get_or-set_same, get_or-set_other, length-set, Option, Some, None, Bool, true, false, not, ◌&&◌, ◌||◌, is_none, nat_lt, refl, sym, ap, ◌∙◌, arith, lt-ltb}
 use Rattle.std.proofs.lemmas.Bool.{and_from, cases_eq, cases_lt}
-use Rattle.passive_core.proofs.SectionKeeps.{cpus_keep, some_from}
+use Rattle.protocol.proofs.SectionKeeps.{cpus_keep, some_from}
 use Rattle.passive_core.specs.Commands.{may_act}
 use Rattle.passive_core.specs.Entering.{with_depth}
-use Rattle.passive_core.specs.Events.{is_inside}
-use Rattle.passive_core.specs.Invariant.{Holds, SectionsShow}
-use Rattle.passive_core.specs.Slots.{is_empty}
-use Rattle.passive_core.specs.State.{State, depth_at, hand_at, search_at, begin_at}
-use Rattle.passive_core.specs.declared.settings.Settings.{Settings}
-use Rattle.passive_core.specs.declared.entry.Change.{Change}
+use Rattle.protocol.specs.Events.{is_inside}
+use Rattle.protocol.specs.Invariant.{Holds, SectionsShow}
+use Rattle.protocol.specs.State.{is_empty, State, depth_at, hand_at, search_at, begin_at}
+use Rattle.registry_values.specs.declared.settings.Settings.{Settings}
+use Rattle.registry_values.specs.declared.entry.Change.{Change}
 
 -- no search is under way, and the hand is empty
 abbrev pub is_free : State → ℕ → Bool

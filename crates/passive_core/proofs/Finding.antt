@@ -1,21 +1,21 @@
 -- The walk of a lookup that nothing disturbs: what each load leaves, and what the last one answers.
 use Rattle.std.proofs.Common.{◌≡◌, ℕ, zero, suc, ◌<◌, ◌⊎◌, inl, inr, ⊎_elim, List, length, get_or, set, Option, Some, None, Bool, true, false, refl, sym, ap, subst, ◌∙◌, arith, get_or-set_same}
 use Rattle.std.proofs.lemmas.List.{set-set, set-get_or}
-use Rattle.passive_core.specs.declared.entry.Change.{Change}
-use Rattle.passive_core.specs.declared.entry.Entry.{Entry}
-use Rattle.passive_core.specs.declared.event.Reply.{Reply}
-use Rattle.passive_core.specs.declared.event.Reply.TheVariants.{Done, Word, Found, Missed, Ref, Collected}
-use Rattle.passive_core.specs.declared.state.Key.{Key}
-use Rattle.passive_core.specs.declared.state.Place.{Place}
-use Rattle.passive_core.specs.declared.state.Place.TheVariants.{AtHead, AtNext, AtNumber, AtKind, AtHigh, AtLow, AtValue}
-use Rattle.passive_core.specs.declared.state.Search.{Search}
-use Rattle.passive_core.specs.History.{IsLookup}
-use Rattle.passive_core.specs.Invariant.{Holds}
-use Rattle.passive_core.specs.State.{State, seen_at, search_at, row_at}
-use Rattle.passive_core.specs.Events.{Outcome, guard, taken, may_seek, after_seeing, after_seek, going_on, search_over, link_loaded, load_link, load_searched, compared, are_words_of, entry_found}
+use Rattle.registry_values.specs.declared.entry.Change.{Change}
+use Rattle.registry_values.specs.declared.entry.Entry.{Entry}
+use Rattle.protocol.specs.declared.event.Reply.{Reply}
+use Rattle.protocol.specs.declared.event.Reply.TheVariants.{Done, Word, Found, Missed, Ref, Collected}
+use Rattle.registry_values.specs.declared.slot.Key.{Key}
+use Rattle.protocol.specs.declared.state.Place.{Place}
+use Rattle.protocol.specs.declared.state.Place.TheVariants.{AtHead, AtNext, AtNumber, AtKind, AtHigh, AtLow, AtValue}
+use Rattle.protocol.specs.declared.state.Search.{Search}
+use Rattle.protocol.specs.History.{IsLookup}
+use Rattle.protocol.specs.Invariant.{Holds}
+use Rattle.protocol.specs.State.{State, seen_at, search_at, row_at}
+use Rattle.protocol.specs.Events.{Outcome, guard, taken, may_seek, after_seeing, after_seek, going_on, search_over, link_loaded, load_link, load_searched, compared, are_words_of, entry_found}
 use Rattle.passive_core.specs.Finding.{after_find, load_at, next_load}
 use Rattle.passive_core.proofs.Acting.{made_is}
-use Rattle.passive_core.proofs.Searching.{Finds, FindSteps, IsFindStep, find_link, find_record, placed, searching_within, seen_now, weight}
+use Rattle.protocol.proofs.Searching.{Finds, FindSteps, IsFindStep, find_link, find_record, placed, searching_within, seen_now, weight}
 
 -- the state s of a walk of c that began in b
 pub record Walking (b s : State) (c : ℕ) : Type 0 where

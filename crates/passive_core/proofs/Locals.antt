@@ -1,35 +1,38 @@
 -- What the commands on local references rest on.
-use Rattle.std.proofs.Common.{◌≡◌, ℕ, zero, suc, ◌+◌, ◌-◌, ◌<◌, ◌≤◌, ◌⊎◌, inl, inr, ⊎_elim, List, [], ◌∷◌, ◌++◌, length, length-set, get_or, set, take, cond, position, Option, Some, None, IsSome, Result, Ok, Err, OnOk, OnErr, Bool, true, false, ◌&&◌, ◌||◌, nat_lt, nat_eq, refl, sym, ap, subst, ◌∙◌, arith, sum_by, get_or-set_same, ne_eqb}
+use Rattle.std.proofs.Common.{◌≡◌, ℕ, zero, suc, ◌+◌, ◌-◌, ◌<◌, ◌≤◌, ◌⊎◌, inl, inr, ⊎_elim, List, [], ◌∷◌, ◌++◌, length, length-set, get_or, set, cond, position, Option, Some, None, IsSome, Result, Ok, Err, OnOk, OnErr, Bool, true, false, ◌&&◌, ◌||◌, nat_lt, nat_eq, refl, sym, ap, subst, ◌∙◌, arith, sum_by, get_or-set_same, ne_eqb}
 use Rattle.std.specs.Prelude.{if◌then◌else◌, is_none}
-use Rattle.std.specs.List.{list_any, position_or_len}
+use Rattle.std.specs.List.{position_or_len}
 use Rattle.std.proofs.lemmas.List.{get_or_append_left, get_or_past, get_or_push, length_push, set-get_or}
 use Rattle.std.proofs.lemmas.List.Sums.{position_or_len_is, sum_by_push}
 use Rattle.std.proofs.lemmas.List.Quantifiers.{position-Some}
 use Rattle.std.proofs.lemmas.List.Folds.{position_or_len_push}
 use Rattle.std.proofs.lemmas.Bool.{and_parts, cases_eq, cases_lt, eq-eqb, lt-ltb, le-ltb}
-use Rattle.passive_core.specs.declared.entry.Entry.{Entry}
-use Rattle.passive_core.specs.declared.event.Event.TheVariants.{CountAdd, SplitRef, JoinRef, CountDown, SplitBack, JoinKeeper, TotalSub}
-use Rattle.passive_core.specs.declared.event.Reply.{Reply}
-use Rattle.passive_core.specs.declared.event.Reply.TheVariants.{Done, Word, Ref, Collected}
-use Rattle.passive_core.specs.declared.state.Due.{Due}
-use Rattle.passive_core.specs.declared.state.Hand.{Hand}
-use Rattle.passive_core.specs.declared.state.Hand.TheVariants.{Empty, Taking, Giving, Back}
-use Rattle.passive_core.specs.declared.state.LocalPlace.{LocalPlace}
-use Rattle.passive_core.specs.declared.state.LocalPlace.TheVariants.{Free, Standing, Lifted}
-use Rattle.passive_core.specs.declared.state.Slot.TheVariants.{Retired}
-use Rattle.passive_core.specs.State.{State, bias, count_at, found_at, hand_at, local_at, mark_at, no_mark, row_at, search_at, slot_at, total_at}
-use Rattle.passive_core.specs.Slots.{at_rest, is_collected, is_empty, is_retired, is_some_collected, slot_of}
-use Rattle.passive_core.specs.Events.{Outcome, after_collected, after_count, after_count_add, after_count_down, after_hand, after_join_keeper, after_split, after_total, id_if, is_free, is_idle, least_id, load_local, may_join_keeper, split_ref, standing, state_after, step, taken, with_local, word, words_of}
-use Rattle.passive_core.specs.Invariant.{Holds, IsCounting, standing_of}
+use Rattle.registry_values.specs.declared.entry.Entry.{Entry}
+use Rattle.protocol.specs.declared.event.Event.TheVariants.{CountAdd, SplitRef, JoinRef, CountDown, SplitBack, JoinKeeper, TotalSub}
+use Rattle.protocol.specs.declared.event.Reply.{Reply}
+use Rattle.protocol.specs.declared.event.Reply.TheVariants.{Done, Word, Ref, Collected}
+use Rattle.protocol.specs.declared.state.Due.{Due}
+use Rattle.protocol.specs.declared.state.Hand.{Hand}
+use Rattle.protocol.specs.declared.state.Hand.TheVariants.{Empty, Taking, Giving, Back}
+use Rattle.protocol.specs.declared.state.LocalPlace.{LocalPlace}
+use Rattle.protocol.specs.declared.state.LocalPlace.TheVariants.{Free, Standing, Lifted}
+use Rattle.registry_values.specs.declared.slot.Slot.TheVariants.{Retired}
+use Rattle.protocol.specs.State.{State, count_at, found_at, hand_at, local_at, mark_at, row_at, search_at, total_at, at_rest, is_empty}
+use Rattle.registry_values.specs.Balances.{bias}
+use Rattle.registry_values.specs.Marks.{no_mark, is_collected, is_some_collected}
+use Rattle.registry_values.specs.Slots.{slot_at, is_retired, slot_of}
+use Rattle.protocol.specs.Events.{Outcome, after_collected, after_count, after_count_add, after_count_down, after_hand, after_join_keeper, after_split, after_total, id_if, is_free, is_idle, least_id, load_local, may_join_keeper, split_ref, standing, state_after, step, taken, with_local, word, words_of}
+use Rattle.protocol.specs.Invariant.{Holds, IsCounting, standing_of}
 use Rattle.passive_core.specs.Commands.{all_seated, may_act}
 use Rattle.passive_core.specs.Locals.{count_in, free_added, is_counting, local_slot, slot_if, with_count_less, with_count_more, with_room, with_total_less}
-use Rattle.passive_core.proofs.CountKeeps.{counts_keep, empty_from}
-use Rattle.passive_core.proofs.Counts.{counting_cases, held_stays}
-use Rattle.passive_core.proofs.Fit.{ranges}
-use Rattle.passive_core.proofs.Numbers.{entry_attached, occupied_slot, position_fails}
-use Rattle.passive_core.proofs.Occupied.{at_rest_tells, slot_has}
+use Rattle.protocol.proofs.CountKeeps.{counts_keep, empty_from}
+use Rattle.protocol.proofs.Counts.{counting_cases, held_stays}
+use Rattle.registry_values.proofs.Fit.{ranges}
+use Rattle.protocol.proofs.Numbers.{entry_attached, occupied_slot, position_fails}
+use Rattle.protocol.proofs.Occupied.{at_rest_tells, slot_has}
 use Rattle.passive_core.proofs.Passives.{Shows, both, found_slot, is_some, made, may_still}
-use Rattle.passive_core.proofs.References.{references_places, standing_tells}
+use Rattle.protocol.proofs.References.{references_places, standing_tells}
+use Rattle.protocol.proofs.MarkRows.{any_within}
 
 -- Lists.
 
@@ -41,12 +44,6 @@ set_twice (z ∷ xs) (suc i) x y = ap (λ (ys : List _). z ∷ ys) (set_twice xs
 -- a place that is written and then written back
 pub set_back : {X : Type 0} (xs : List X) (i : ℕ) (x y d : X) → get_or xs i d ≡ y → set (set xs i x) i y ≡ xs
 set_back xs i x y d is = set_twice xs i x y ∙ (ap (set xs i) (sym is) ∙ set-get_or xs i d)
-
-pub any_within : {X : Type 0} (p : X → Bool) (n : ℕ) (row : List X) (d : X) (c : ℕ) → c < n → c < length row → p (get_or row c d) ≡ true → list_any p (take n row) ≡ true
-any_within p n [] d c lt within is = absurd (omega arith)
-any_within p zero (x ∷ row) d c lt within is = absurd (omega arith)
-any_within p (suc n) (x ∷ row) d zero lt within is = rw is refl
-any_within p (suc n) (x ∷ row) d (suc c) lt within is = rw (any_within p n row d c (omega arith) (omega arith) is) (elim (p x) as (λ (b : Bool). (b || true) ≡ true) [ true ↦ refl | false ↦ refl ])
 
 -- A list of places with a free one added.
 

@@ -1,23 +1,23 @@
 -- What the commands on passive references rest on.
 use Rattle.std.proofs.Common.{◌≡◌, ℕ, ◌+◌, ◌-◌, ◌<◌, ◌≤◌, ◌⊎◌, inl, inr, ⊎_elim, Option, Some, None, IsSome, Bool, true, false, not, ◌&&◌, ◌||◌, nat_lt, refl, sym, ap, subst, ◌∙◌}
 use Rattle.std.proofs.lemmas.Bool.{or_right, cases_lt, le-ltb}
-use Rattle.passive_core.specs.declared.entry.Entry.{Entry}
-use Rattle.passive_core.specs.declared.event.Event.TheVariants.{PassiveAdd, PassiveSub}
-use Rattle.passive_core.specs.declared.event.Reply.{Reply}
-use Rattle.passive_core.specs.declared.event.Reply.TheVariants.{Word}
-use Rattle.passive_core.specs.State.{State, found_at, passive_at, row_at, with_cell}
-use Rattle.passive_core.specs.History.{IsAttached}
-use Rattle.passive_core.specs.Names.{are_name_words}
-use Rattle.passive_core.specs.Slots.{slot_of}
-use Rattle.passive_core.specs.Events.{Outcome, is_idle, is_number, after_add, after_sub, load_passive, state_after, step, taken, word, words_of}
-use Rattle.passive_core.specs.Invariant.{Holds}
+use Rattle.registry_values.specs.declared.entry.Entry.{Entry}
+use Rattle.protocol.specs.declared.event.Event.TheVariants.{PassiveAdd, PassiveSub}
+use Rattle.protocol.specs.declared.event.Reply.{Reply}
+use Rattle.protocol.specs.declared.event.Reply.TheVariants.{Word}
+use Rattle.protocol.specs.State.{State, found_at, passive_at, row_at, with_cell}
+use Rattle.protocol.specs.History.{IsAttached}
+use Rattle.registry_values.specs.Names.{are_name_words}
+use Rattle.registry_values.specs.Slots.{slot_of}
+use Rattle.protocol.specs.Events.{Outcome, is_idle, is_number, after_add, after_sub, load_passive, state_after, step, taken, word, words_of}
+use Rattle.protocol.specs.Invariant.{Holds}
 use Rattle.passive_core.specs.Commands.{all_seated, may_act}
-use Rattle.passive_core.specs.Picture.{passive_in}
+use Rattle.protocol.specs.Picture.{passive_in}
 use Rattle.passive_core.specs.Passives.{IsOneLess, IsOneMore, passive_of, with_one_more, with_one_less}
-use Rattle.passive_core.proofs.Numbers.{entry_attached, occupied_slot}
-use Rattle.passive_core.proofs.Passive.{found_number}
-use Rattle.passive_core.proofs.RefiningReferences.{passive_put}
-use Rattle.passive_core.proofs.Occupied.{slot_has}
+use Rattle.protocol.proofs.Numbers.{entry_attached, occupied_slot}
+use Rattle.protocol.proofs.Passive.{found_number}
+use Rattle.protocol.proofs.RefiningReferences.{passive_put}
+use Rattle.protocol.proofs.Occupied.{slot_has}
 use Rattle.passive_core.proofs.Acting.{acting_idle}
 
 -- A CPU that may act is idle once all have their seats.

@@ -1,21 +1,25 @@
 -- Sections that were seen to have ended, and looks for all retired entries.
-use Rattle.std.proofs.Common.{◌≡◌, ℕ, zero, suc, ◌+◌, ◌%◌, ◌<◌, ◌≤◌, inr, ⊎_elim, List, length, get_or, set, Option, Some, None, Bool, true, false, not, ◌&&◌, ◌||◌, ◌==◌, refl, sym, ap, subst, ◌∙◌, arith, get_or-set_same, get_or-set_other}
+use Rattle.std.proofs.Common.{◌≡◌, ℕ, ◌+◌, ◌%◌, ◌<◌, ◌≤◌, inr, ⊎_elim, List, length, get_or, set, Option, Some, None, Bool, true, false, not, ◌&&◌, ◌||◌, ◌==◌, refl, sym, ap, subst, ◌∙◌, arith, get_or-set_same, get_or-set_other}
 use Rattle.std.specs.Prelude.{is_some}
-use Rattle.std.proofs.lemmas.Bool.{cases_lt, cases_eq, eq-eqb}
+use Rattle.std.proofs.lemmas.Bool.{cases_eq, eq-eqb}
 use Rattle.std.proofs.lemmas.Option.{none-some, same_Some}
-use Rattle.passive_core.specs.declared.entry.Entry.{Entry}
-use Rattle.passive_core.specs.declared.state.Mark.{Mark}
-use Rattle.passive_core.specs.declared.state.Slot.{Slot}
-use Rattle.passive_core.specs.declared.state.Slot.TheVariants.{Vacant, Live, Retired}
-use Rattle.passive_core.specs.Advancing.{AllPassed, MarksPass, Passes, is_open_since, is_retired_as, is_snapshot, least_below, or_next, retired_slot}
-use Rattle.passive_core.specs.Events.{is_inside}
-use Rattle.passive_core.specs.Invariant.{Holds}
-use Rattle.passive_core.specs.Performing.{AllOutside, OnlyPasses, is_out, retired_number}
-use Rattle.passive_core.specs.Slots.{is_retired}
-use Rattle.passive_core.specs.State.{State, begin_at, mark_at, no_mark, section_at, slot_at}
-use Rattle.passive_core.proofs.Advancing.{none_below, only_marks, passes_none, retired_slot_tells}
-use Rattle.passive_core.proofs.Numbers.{position_passes}
-use Rattle.passive_core.proofs.Occupied.{in_within, one_number}
+use Rattle.registry_values.specs.declared.entry.Entry.{Entry}
+use Rattle.registry_values.specs.declared.mark.Mark.{Mark}
+use Rattle.registry_values.specs.declared.slot.Slot.{Slot}
+use Rattle.registry_values.specs.declared.slot.Slot.TheVariants.{Vacant, Live, Retired}
+use Rattle.protocol.specs.Marking.{AllPassed}
+use Rattle.passive_core.specs.Advancing.{MarksPass, Passes, is_open_since, is_snapshot}
+use Rattle.registry_values.specs.Slots.{is_retired_as, retired_slot, retired_number, is_retired, slot_at}
+use Rattle.registry_values.specs.Marks.{least_below, is_out, no_mark}
+use Rattle.protocol.specs.Events.{is_inside}
+use Rattle.protocol.specs.Invariant.{Holds}
+use Rattle.passive_core.specs.Performing.{AllOutside, OnlyPasses}
+use Rattle.protocol.specs.State.{State, begin_at, mark_at, section_at}
+use Rattle.registry_values.proofs.Least.{none_below}
+use Rattle.passive_core.proofs.Advancing.{only_marks, passes_none}
+use Rattle.registry_values.proofs.Slots.{retired_slot_tells}
+use Rattle.protocol.proofs.Numbers.{position_passes}
+use Rattle.protocol.proofs.Occupied.{in_within, one_number}
 
 -- A word that hasn't changed is out of its section just where the CPU is outside.
 
@@ -36,26 +40,6 @@ sound_out a true same is = absurd (let q : ◌≡◌ {A = Bool} false true = sym
 pub not_not : (a b : Bool) → a ≡ not b → not a ≡ b
 not_not a true same = ap not same
 not_not a false same = ap not same
-
--- the least that passes one test passes another that agrees below the bound
-pub least_agrees : (p q : ℕ → Bool) (n : ℕ) → ((c : ℕ) → c < n → p c ≡ q c) → least_below p n ≡ least_below q n
-least_agrees p q zero same = refl
-least_agrees p q (suc n) same = rw (least_agrees p q n (λ c lt. same c (omega arith)), same n (omega arith)) refl
-
-next_none : (o : Option ℕ) (b : Bool) (n : ℕ) → or_next o b n ≡ None → (o ≡ None) × (b ≡ false)
-next_none (Some c) b n is = absurd (none-some c (sym is))
-next_none None true n is = absurd (none-some n (sym is))
-next_none None false n is = (refl, refl)
-
--- where none was found, none passes
-pub least_none : (p : ℕ → Bool) (n : ℕ) → least_below p n ≡ None → (c : ℕ) → c < n → p c ≡ false
-least_none p zero is c lt = absurd (omega arith)
-least_none p (suc n) is c lt =
-    let parts = next_none (least_below p n) (p n) n is in
-    ⊎_elim
-    (λ (low : c < n). least_none p n parts.0 c low)
-    (λ (ge : n ≤ c). let same : c ≡ n = omega (arith, lt, ge) in ap p same ∙ parts.1)
-    (cases_lt c n)
 
 -- a place of a row that was written
 pub written_below : {X : Type 0} (d : X) (P : ℕ → X → Type 0) (xs : List X) (i : ℕ) (x : X) → i < length xs → ((k : ℕ) → k < i → P k (get_or xs k d)) → P i x → (k : ℕ) → k < i + 1 → P k (get_or (set xs i x) k d)

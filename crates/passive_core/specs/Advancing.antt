@@ -1,39 +1,22 @@
 -- How far the destruction of a retired entry has come, in plain terms, and what the keeper's work on it leaves.
-use Rattle.std.specs.Prelude.{◌≡◌, ℕ, zero, suc, ◌+◌, ◌<◌, ◌==◌, nat_lt, List, [], position, Option, Some, None, Bool, true, false, ◌&&◌, Result, Ok, Err, if◌then◌else◌, slice_index_or, slice_set}
-use Rattle.passive_core.specs.declared.entry.Entry.{Entry}
-use Rattle.passive_core.specs.declared.refusal.Refusal.{Refusal}
-use Rattle.passive_core.specs.declared.refusal.Refusal.TheVariants.{Inside, NotRetired, StillHeld}
-use Rattle.passive_core.specs.declared.stage.Stage.{Stage}
-use Rattle.passive_core.specs.declared.stage.Stage.TheVariants.{Grace, Passive, Local, Freed}
-use Rattle.passive_core.specs.declared.state.Mark.{Mark}
-use Rattle.passive_core.specs.declared.state.Slot.{Slot}
-use Rattle.passive_core.specs.declared.state.Slot.TheVariants.{Vacant, Live, Retired}
-use Rattle.passive_core.specs.History.{MayHold}
-use Rattle.passive_core.specs.State.{State, bias, section_at, begin_at, slot_at, mark_at, passive_at, count_at, total_at, kept_at}
-use Rattle.passive_core.specs.Slots.{has_number}
-use Rattle.passive_core.specs.Events.{is_inside}
-use Rattle.passive_core.specs.Invariant.{held_at, one_if}
-
--- the least number that passes, of those already looked through and one more
-abbrev pub or_next : Option ℕ → Bool → ℕ → Option ℕ
-or_next (Some c) b n = Some c
-or_next None true n = Some n
-or_next None false n = None
-
--- the least number below a bound that passes
-abbrev pub least_below : (ℕ → Bool) → ℕ → Option ℕ
-least_below p zero = None
-least_below p (suc n) = or_next (least_below p n) (p n) n
-
--- the retired entry with this number is here
-abbrev pub is_retired_as : ℕ → Slot → Bool
-is_retired_as n Vacant = false
-is_retired_as n (Live e) = false
-is_retired_as n (Retired e) = e.number == n
-
--- the slot whose retired entry is n
-abbrev pub retired_slot : List Slot → ℕ → Option ℕ
-retired_slot slots n = position (is_retired_as n) slots
+use Rattle.std.specs.Prelude.{◌≡◌, ℕ, zero, suc, ◌+◌, ◌<◌, ◌==◌, nat_lt, List, [], Option, Some, None, Bool, true, false, ◌&&◌, Result, Ok, Err, if◌then◌else◌, slice_set}
+use Rattle.registry_values.specs.declared.entry.Entry.{Entry}
+use Rattle.registry_values.specs.declared.refusal.Refusal.{Refusal}
+use Rattle.registry_values.specs.declared.refusal.Refusal.TheVariants.{Inside, NotRetired, StillHeld}
+use Rattle.registry_values.specs.declared.stage.Stage.{Stage}
+use Rattle.registry_values.specs.declared.stage.Stage.TheVariants.{Grace, Passive, Local, Freed}
+use Rattle.registry_values.specs.declared.mark.Mark.{Mark}
+use Rattle.registry_values.specs.declared.slot.Slot.{Slot}
+use Rattle.registry_values.specs.declared.slot.Slot.TheVariants.{Vacant, Retired}
+use Rattle.protocol.specs.History.{MayHold}
+use Rattle.protocol.specs.State.{State, section_at, begin_at, mark_at, passive_at, count_at, total_at, kept_at}
+use Rattle.registry_values.specs.Balances.{bias}
+use Rattle.registry_values.specs.Slots.{slot_at, has_number, retired_slot}
+use Rattle.protocol.specs.Events.{is_inside}
+use Rattle.protocol.specs.Invariant.{held_at, one_if}
+use Rattle.protocol.specs.Marking.{MarksGrow, SameElsewhere}
+use Rattle.registry_values.specs.Marks.{least_below}
+use Rattle.registry_values.specs.Stages.{destroyed_if}
 
 -- the word is that of the snapshot
 abbrev pub is_snapshot : Option ℕ → ℕ → Bool
@@ -71,37 +54,12 @@ advance_answer s n = stage_in s n (retired_slot s.slots n)
 abbrev pub HoldersAreOpen : State → Type 0
 HoldersAreOpen s = (t c b : ℕ) (e : Entry) → slot_at s.slots t ≡ Retired e → begin_at s c ≡ Some b → MayHold s.history b e → is_open_since s t c ≡ true
 
--- a mark of one CPU for a retired entry: its snapshot and what was so once stay
-pub record Grows (old new : Mark) : Type 0 where
-  pub snapshot : new.snapshot ≡ old.snapshot
-  pub passed : old.passed ≡ true → new.passed ≡ true
-  pub clear : old.clear ≡ true → new.clear ≡ true
-  pub collected : old.collected ≡ true → new.collected ≡ true
-
 -- a mark that may only have come to say passed
 pub record Passes (old new : Mark) : Type 0 where
   pub snapshot : new.snapshot ≡ old.snapshot
   pub passed : old.passed ≡ true → new.passed ≡ true
   pub clear : new.clear ≡ old.clear
   pub collected : new.collected ≡ old.collected
-
--- what is so of the marks of all CPUs for the slot t
-abbrev pub AllPassed : State → ℕ → Type 0
-AllPassed s t = (c : ℕ) → c < s.settings.cpus → (mark_at s.marks t c).passed ≡ true
-
-abbrev pub AllClear : State → ℕ → Type 0
-AllClear s t = (c : ℕ) → c < s.settings.cpus → (mark_at s.marks t c).clear ≡ true
-
-abbrev pub AllCollected : State → ℕ → Type 0
-AllCollected s t = (c : ℕ) → c < s.settings.cpus → (mark_at s.marks t c).collected ≡ true
-
--- the rows of other slots are as they were
-abbrev pub SameElsewhere : {X : Type 0} → List (List X) → List (List X) → ℕ → Type 0
-SameElsewhere old new t = (u : ℕ) → (u ≡ t → ⊥) → slice_index_or new u [] ≡ slice_index_or old u []
-
-pub record MarksGrow (old new : List (List Mark)) (t : ℕ) : Type 0 where
-  pub elsewhere : SameElsewhere old new t
-  pub here : (c : ℕ) → Grows (mark_at old t c) (mark_at new t c)
 
 -- the same, where nothing but looks at section words was done
 pub record MarksPass (old new : List (List Mark)) (t : ℕ) : Type 0 where
@@ -167,17 +125,6 @@ StageLeaves old new t (Freed u) = LeavesFree old new t
 abbrev pub AdvanceLeaves : State → State → ℕ → Result Stage Refusal → Type 0
 AdvanceLeaves old new n (Err refusal) = new ≡ old
 AdvanceLeaves old new n (Ok stage) = (t : ℕ) × (retired_slot old.slots n ≡ Some t) × StageLeaves old new t stage
-
--- Destroying an entry: the answer of an advance, where what stands in the way is a refusal.
-abbrev pub destroyed : Stage → Result ℕ Refusal
-destroyed (Grace c) = Err (StillHeld (Grace c))
-destroyed (Passive c) = Err (StillHeld (Passive c))
-destroyed (Local k) = Err (StillHeld (Local k))
-destroyed (Freed t) = Ok t
-
-abbrev pub destroyed_if : Result Stage Refusal → Result ℕ Refusal
-destroyed_if (Err refusal) = Err refusal
-destroyed_if (Ok stage) = destroyed stage
 
 -- The answer of destroy.
 abbrev pub destroy_answer : State → ℕ → ℕ → Result ℕ Refusal

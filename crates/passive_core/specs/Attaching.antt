@@ -1,31 +1,22 @@
 -- What an attach answers, and what it leaves.
-use Rattle.std.specs.Prelude.{◌≡◌, ℕ, ◌+◌, List, [], ◌++◌, replicate, drop, position, Option, Some, None, is_none, Bool, false, ◌&&◌, ◌⊎◌, if◌then◌else◌, Result, Ok, Err, length, slice_index_or, slice_set}
+use Rattle.std.specs.Prelude.{◌≡◌, ℕ, ◌+◌, List, [], ◌++◌, position, Option, Some, None, Bool, false, ◌&&◌, ◌⊎◌, if◌then◌else◌, Result, Ok, Err, length, slice_index_or, slice_set}
 use Rattle.std.specs.List.{zip}
-use Rattle.passive_core.specs.declared.entry.Entry.{Entry}
-use Rattle.passive_core.specs.declared.entry.Record.{Record}
-use Rattle.passive_core.specs.declared.refusal.Refusal.{Refusal}
-use Rattle.passive_core.specs.declared.refusal.Refusal.TheVariants.{NoMemory, NameTaken, NoSlot, HistoryFull, Inside, NeedsDriver}
-use Rattle.passive_core.specs.declared.state.Key.{Key}
-use Rattle.passive_core.specs.declared.state.LocalPlace.{LocalPlace}
-use Rattle.passive_core.specs.declared.state.LocalPlace.TheVariants.{Free}
+use Rattle.registry_values.specs.declared.entry.Entry.{Entry}
+use Rattle.registry_values.specs.declared.entry.Record.{Record}
+use Rattle.registry_values.specs.declared.refusal.Refusal.{Refusal}
+use Rattle.registry_values.specs.declared.refusal.Refusal.TheVariants.{NoMemory, NameTaken, NoSlot, HistoryFull, Inside, NeedsDriver}
+use Rattle.protocol.specs.declared.state.LocalPlace.{LocalPlace}
+use Rattle.protocol.specs.declared.state.LocalPlace.TheVariants.{Free}
 use Rattle.passive_core.specs.declared.machine.commands.attach.Before.{Before}
-use Rattle.passive_core.specs.declared.state.Slot.{Slot}
+use Rattle.registry_values.specs.declared.slot.Slot.{Slot}
 use Rattle.passive_core.specs.Commands.{all_seated}
-use Rattle.passive_core.specs.Events.{is_inside, is_driver_slot, standing, words_of, has_room, after_seeing, after_publish}
-use Rattle.passive_core.specs.Slots.{is_vacant, is_iface, is_taken, slot_of}
-use Rattle.passive_core.specs.State.{State, bias, slot_at, row_at, local_at}
-
--- a slot that an attach may take: it is vacant and keeps nothing
-abbrev pub is_plain : Slot × Option ℕ → Bool
-is_plain p = is_vacant p.0 && is_none p.1
+use Rattle.protocol.specs.Events.{is_inside, is_driver_slot, standing, words_of, has_room, after_seeing, after_publish}
+use Rattle.registry_values.specs.Slots.{is_iface, is_taken, slot_of, slot_at, is_plain, key_of_record}
+use Rattle.protocol.specs.State.{State, row_at, local_at, with_biases}
 
 -- the least of them
 abbrev pub plain_slot : State → Option ℕ
 plain_slot s = position is_plain (zip s.slots s.keeps)
-
--- what a record is looked up by
-abbrev pub key_of_record : Record → Key
-key_of_record rec = record { kind = rec.kind; name = rec.name }
 
 -- the entry of the next change
 abbrev pub next_entry : State → Record → ℕ → Entry
@@ -62,10 +53,6 @@ attach_iface_answer s c rec id = if is_inside s c then Err Inside else (if is_to
 abbrev pub IsAnswer : Result Entry Refusal → Result Entry Refusal → Type 0
 IsAnswer (Ok e) answer = (answer ≡ Ok e) ⊎ (answer ≡ Err NoMemory)
 IsAnswer (Err refusal) answer = answer ≡ Err refusal
-
--- the count words of the first CPUs stand for no reference
-abbrev pub with_biases : ℕ → List ℕ → List ℕ
-with_biases cpus row = replicate cpus bias ++ drop cpus row
 
 -- the words of e's slot are stored: its record, its counts, and its link to the entry that is the newest now
 abbrev pub prepared : State → Entry → State

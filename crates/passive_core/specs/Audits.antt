@@ -1,32 +1,15 @@
 -- What an audit of the counts answers (localcount(9)).
-use Rattle.std.specs.Prelude.{◌≡◌, ℕ, zero, suc, ◌==◌, ℤ, pos, ◌+ℤ◌, ◌-ℤ◌, fold, map, take, List, [], ◌∷◌, ◌++◌, if◌then◌else◌, slice_index_or}
-use Rattle.passive_core.specs.declared.balance.Balance.{Balance}
-use Rattle.passive_core.specs.declared.entry.Entry.{Entry}
-use Rattle.passive_core.specs.declared.state.Slot.{Slot}
-use Rattle.passive_core.specs.declared.state.Slot.TheVariants.{Vacant, Live, Retired}
-use Rattle.passive_core.specs.State.{State, bias, slot_at, total_at}
-use Rattle.passive_core.specs.Invariant.{IsIn, held_at}
-
--- what is said of one entry
-pub record Tally : Type 0 where
-  pub number : ℕ
-  pub slot : ℕ
-  pub held : ℤ
-  pub locals : List ℤ
-  pub total : ℤ
-
-abbrev pub less_bias : ℕ → ℤ
-less_bias w = pos w -ℤ pos bias
-
--- the net count that a count word says; a collected word says nothing
-abbrev pub local_of : ℕ → ℤ
-local_of w = if w == 0 then pos 0 else less_bias w
+use Rattle.std.specs.Prelude.{◌≡◌, ℕ, zero, suc, ◌==◌, ℤ, pos, ◌+ℤ◌, ◌-ℤ◌, map, take, List, [], ◌∷◌, ◌++◌, if◌then◌else◌, slice_index_or}
+use Rattle.registry_values.specs.declared.entry.Entry.{Entry}
+use Rattle.registry_values.specs.declared.slot.Slot.{Slot}
+use Rattle.registry_values.specs.declared.slot.Slot.TheVariants.{Vacant, Live, Retired}
+use Rattle.protocol.specs.State.{State, total_at}
+use Rattle.registry_values.specs.Slots.{slot_at}
+use Rattle.protocol.specs.Invariant.{IsIn, held_at}
+use Rattle.registry_values.specs.Balances.{Tally, less_bias, local_of, sum_of}
 
 abbrev pub locals_at : State → ℕ → List ℤ
 locals_at s t = map local_of (take s.settings.cpus (slice_index_or s.counts t []))
-
-abbrev pub sum_of : List ℤ → ℤ
-sum_of numbers = fold ◌+ℤ◌ (pos 0) numbers
 
 abbrev pub tally_of : State → ℕ → ℕ → Tally
 tally_of s n t = record {
@@ -51,9 +34,6 @@ tallies_below s (suc t) = tallies_below s t ++ tallies_at s t (slot_at s.slots t
 -- of each live or retired slot
 abbrev pub audit_of : State → List Tally
 audit_of s = tallies_below s s.settings.slots
-
-abbrev pub tally_shown : Balance → Tally
-tally_shown b = record { number = b.number; slot = b.slot; held = b.held; locals = b.locals.items; total = b.total }
 
 -- the tally is right: it is the number of local references held
 abbrev pub IsHeldRightly : State → Tally → Type 0

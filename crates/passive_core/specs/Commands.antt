@@ -1,8 +1,7 @@
 -- What commands begin with.
 use Rattle.std.specs.Prelude.{◌≡◌, ℕ, Bool, true, not, ◌||◌, nat_lt}
-use Rattle.passive_core.specs.State.{State}
-use Rattle.passive_core.specs.Slots.{at_rest}
-use Rattle.passive_core.specs.Events.{is_idle}
+use Rattle.protocol.specs.State.{State, at_rest}
+use Rattle.protocol.specs.Events.{is_idle}
 
 -- a command may be given to a CPU that is idle or not yet seated
 abbrev pub may_act : State → ℕ → Bool

@@ -1,15 +1,16 @@
 -- What a detach answers, and what it leaves.
 use Rattle.std.specs.Prelude.{◌≡◌, ℕ, ◌-◌, List, ◌++◌, map, length, replicate, Option, Some, None, Result, Ok, Err, true, false, slice_set}
-use Rattle.passive_core.specs.declared.entry.Entry.{Entry}
-use Rattle.passive_core.specs.declared.refusal.Refusal.{Refusal}
-use Rattle.passive_core.specs.declared.refusal.Refusal.TheVariants.{NoMemory, Inside, NotFound}
-use Rattle.passive_core.specs.declared.state.Due.TheVariants.{Rest}
-use Rattle.passive_core.specs.declared.state.Key.{Key}
-use Rattle.passive_core.specs.declared.state.Mark.{Mark}
+use Rattle.registry_values.specs.declared.entry.Entry.{Entry}
+use Rattle.registry_values.specs.declared.refusal.Refusal.{Refusal}
+use Rattle.registry_values.specs.declared.refusal.Refusal.TheVariants.{NoMemory, Inside, NotFound}
+use Rattle.protocol.specs.declared.state.Due.TheVariants.{Rest}
+use Rattle.registry_values.specs.declared.slot.Key.{Key}
+use Rattle.registry_values.specs.declared.mark.Mark.{Mark}
 use Rattle.passive_core.specs.Commands.{all_seated}
-use Rattle.passive_core.specs.Events.{is_inside, after_seeing, after_unpublish, snapshot_mark}
-use Rattle.passive_core.specs.History.{IsLookup}
-use Rattle.passive_core.specs.State.{State, no_mark}
+use Rattle.protocol.specs.Events.{is_inside, after_seeing, after_unpublish, snapshot_mark}
+use Rattle.protocol.specs.History.{IsLookup}
+use Rattle.protocol.specs.State.{State}
+use Rattle.registry_values.specs.Marks.{no_mark}
 
 -- of each CPU its section word as the snapshot, and no marks
 abbrev pub snapshot_row : State → List Mark

@@ -1,10 +1,10 @@
 -- What the commands that begin and end sections answer, and what they leave.
 use Rattle.std.specs.Prelude.{ℕ, ◌+◌, ◌-◌, ◌*◌, ◌==◌, nat_lt, Bool, not, ◌&&◌, if◌then◌else◌, Result, Ok, Err, is_ok, slice_set}
-use Rattle.passive_core.specs.declared.refusal.Refusal.{Refusal}
-use Rattle.passive_core.specs.declared.refusal.Refusal.TheVariants.{TooDeep, SectionsSpent}
+use Rattle.registry_values.specs.declared.refusal.Refusal.{Refusal}
+use Rattle.registry_values.specs.declared.refusal.Refusal.TheVariants.{TooDeep, SectionsSpent}
 use Rattle.passive_core.specs.Commands.{all_seated}
-use Rattle.passive_core.specs.Events.{is_inside, is_outside, after_enter, after_exit}
-use Rattle.passive_core.specs.State.{State, section_at, depth_at}
+use Rattle.protocol.specs.Events.{is_inside, is_outside, after_enter, after_exit}
+use Rattle.protocol.specs.State.{State, section_at, depth_at}
 
 -- the CPU has begun fewer outermost sections than it may
 abbrev pub may_begin : State → ℕ → Bool

@@ -1,11 +1,11 @@
 -- What a lookup leaves.
 use Rattle.std.specs.Prelude.{ℕ, Option, length, slice_set}
-use Rattle.passive_core.specs.declared.entry.Entry.{Entry}
-use Rattle.passive_core.specs.declared.state.Place.{Place}
-use Rattle.passive_core.specs.declared.state.Place.TheVariants.{AtHead, AtNext, AtNumber, AtKind, AtHigh, AtLow, AtValue}
-use Rattle.passive_core.specs.declared.state.Search.{Search}
-use Rattle.passive_core.specs.State.{State, row_at}
-use Rattle.passive_core.specs.Events.{Outcome, with_some, load_link, load_searched}
+use Rattle.registry_values.specs.declared.entry.Entry.{Entry}
+use Rattle.protocol.specs.declared.state.Place.{Place}
+use Rattle.protocol.specs.declared.state.Place.TheVariants.{AtHead, AtNext, AtNumber, AtKind, AtHigh, AtLow, AtValue}
+use Rattle.protocol.specs.declared.state.Search.{Search}
+use Rattle.protocol.specs.State.{State, row_at}
+use Rattle.protocol.specs.Events.{Outcome, with_some, load_link, load_searched}
 
 -- the whole history is seen, and the answer is the last found entry
 abbrev pub after_find : State → ℕ → Option Entry → State

@@ -1,19 +1,19 @@
 -- What the commands on passive references answer and leave (psref(9)).
 use Rattle.std.specs.Prelude.{◌≡◌, ℕ, ◌+◌, ◌-◌, ◌==◌, nat_lt, List, Option, Some, None, Result, Ok, Err, if◌then◌else◌}
-use Rattle.passive_core.specs.declared.entry.Entry.{Entry}
-use Rattle.passive_core.specs.declared.entry.Change.{Change}
-use Rattle.passive_core.specs.declared.entry.Record.{Record}
-use Rattle.passive_core.specs.declared.event.RecordOf.{RecordOf}
-use Rattle.passive_core.specs.declared.event.Reply.TheVariants.{Word}
+use Rattle.registry_values.specs.declared.entry.Entry.{Entry}
+use Rattle.registry_values.specs.declared.entry.Change.{Change}
+use Rattle.registry_values.specs.declared.entry.Record.{Record}
+use Rattle.protocol.specs.declared.event.RecordOf.{RecordOf}
+use Rattle.protocol.specs.declared.event.Reply.TheVariants.{Word}
 use Rattle.passive_core.specs.declared.psref.CorePsref.{CorePsref}
-use Rattle.passive_core.specs.declared.refusal.Refusal.{Refusal}
-use Rattle.passive_core.specs.declared.refusal.Refusal.TheVariants.{NothingFound, PassiveFull, WrongCpu, NotHeld}
-use Rattle.passive_core.specs.History.{IsAttached}
-use Rattle.passive_core.specs.State.{State}
-use Rattle.passive_core.specs.Slots.{slot_of}
-use Rattle.passive_core.specs.Events.{after_add, after_sub, load_record, taken}
-use Rattle.passive_core.specs.Model.{put}
-use Rattle.passive_core.specs.Picture.{passive_in}
+use Rattle.registry_values.specs.declared.refusal.Refusal.{Refusal}
+use Rattle.registry_values.specs.declared.refusal.Refusal.TheVariants.{NothingFound, PassiveFull, WrongCpu, NotHeld}
+use Rattle.protocol.specs.History.{IsAttached}
+use Rattle.protocol.specs.State.{State}
+use Rattle.registry_values.specs.Slots.{slot_of}
+use Rattle.protocol.specs.Events.{after_add, after_sub, load_record, taken}
+use Rattle.protocol.specs.Model.{put}
+use Rattle.protocol.specs.Picture.{passive_in}
 use Rattle.passive_core.specs.Commands.{all_seated}
 
 -- how many passive references the CPU c has to the entry n
@@ -44,11 +44,6 @@ refusal_of s c p = if p.cpu == c then (if nat_lt 0 (passive_of s c p.number) the
 abbrev pub copied : State → ℕ → ℕ → Option Refusal → Result CorePsref Refusal
 copied s c n None = one_more s c n
 copied s c n (Some refusal) = Err refusal
-
--- the answer of a call that is refused just where there is a refusal
-abbrev pub Answers : {X : Type 0} → Option Refusal → (X → Type 0) → Result X Refusal → Type 0
-Answers refusal P (Ok x) = (refusal ≡ None) × P x
-Answers refusal P (Err f) = refusal ≡ Some f
 
 -- the record of the entry that was attached under the number n
 abbrev pub IsRecordOf : List Change → ℕ → Record → Type 0

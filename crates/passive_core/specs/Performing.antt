@@ -1,24 +1,14 @@
 -- Waiting until each section that was open has ended (pserialize(9)): the answer, and what it leaves.
 use Rattle.std.specs.Prelude.{◌≡◌, ℕ, ◌<◌, ◌==◌, List, [], Option, Some, None, Bool, true, false, not, ◌||◌, Result, Ok, Err, if◌then◌else◌, slice_index_or}
-use Rattle.passive_core.specs.declared.refusal.Refusal.{Refusal}
-use Rattle.passive_core.specs.declared.refusal.Refusal.TheVariants.{Inside, Waiting}
-use Rattle.passive_core.specs.declared.state.Slot.{Slot}
-use Rattle.passive_core.specs.declared.state.Slot.TheVariants.{Vacant, Live, Retired}
-use Rattle.passive_core.specs.State.{State, section_at, slot_at, mark_at}
-use Rattle.passive_core.specs.Slots.{is_even, is_retired}
-use Rattle.passive_core.specs.Events.{is_inside}
+use Rattle.registry_values.specs.declared.refusal.Refusal.{Refusal}
+use Rattle.registry_values.specs.declared.refusal.Refusal.TheVariants.{Inside, Waiting}
+use Rattle.protocol.specs.State.{State, section_at, mark_at}
+use Rattle.registry_values.specs.Slots.{slot_at, is_retired}
+use Rattle.protocol.specs.Events.{is_inside}
 use Rattle.passive_core.specs.Commands.{all_seated}
-use Rattle.passive_core.specs.Advancing.{AllPassed, Passes, least_below}
-
--- the word shows its CPU out of the section of the snapshot
-abbrev pub is_out : ℕ → ℕ → Bool
-is_out snapshot w = is_even w || not (snapshot == w)
-
--- the number of the retired entry here
-abbrev pub retired_number : Slot → Option ℕ
-retired_number Vacant = None
-retired_number (Live e) = None
-retired_number (Retired e) = Some e.number
+use Rattle.protocol.specs.Marking.{AllPassed}
+use Rattle.passive_core.specs.Advancing.{Passes}
+use Rattle.registry_values.specs.Marks.{least_below}
 
 abbrev pub waiting_for : Option ℕ → Result (Unit {0}) Refusal
 waiting_for None = Ok tt

@@ -1,6 +1,6 @@
 -- The state that a core shows.
 use Rattle.passive_core.specs.declared.machine.Core.TheInside.{Inside}
-use Rattle.passive_core.specs.State.{State}
+use Rattle.protocol.specs.State.{State}
 
 abbrev pub shown : Inside → State
 shown a = record {

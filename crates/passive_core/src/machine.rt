@@ -12,23 +12,16 @@ mod search;
 mod sections;
 
 ghost use Rattle.std.specs.Prelude.{◌≡◌, ◌↔◌, ◌++◌, ◌∷◌, ◌<◌, ◌≤◌, [], IfOk, IfErr, IsErrOf, IsTrue, OnErr, OnOk, false, replicate, vec_capacity, vec_len};
-ghost use Rattle.passive_core.specs.Limits.{are_fit};
-ghost use Rattle.passive_core.specs.Refusals.{IsRefusalOfNew};
-ghost use Rattle.passive_core.specs.State.{opening};
+ghost use Rattle.registry_values.specs.Limits.{are_fit};
+ghost use Rattle.registry_values.specs.Refusals.{IsRefusalOfNew};
+ghost use Rattle.protocol.specs.State.{opening};
 ghost use Rattle.passive_core.specs.Commands.{IsQuiet};
 
-use crate::entry::{Change, Entry};
-use crate::event::StepFault;
-use crate::refusal::Refusal;
-use crate::settings::Settings;
-use crate::state::{Due, Hand, LocalPlace, Mark, RecordWords, Search, Slot};
-pub use commands::{less_bias, sum};
+use protocol::{Due, Hand, LocalPlace, RecordWords, Search, StepFault};
+use registry_values::{BIAS, Change, Entry, Mark, NO_MARK, Refusal, Settings, Slot};
 pub use run::run_events;
 use std::alloc::{AllocError, Global};
 use std::marker::Model;
-
-/// A count of nothing: a count word is this and the CPU's net count, or 0 once collected.
-pub const BIAS: u64 = 1 << 48;
 
 /// The words of no entry.
 const NO_WORDS: RecordWords = RecordWords {
@@ -37,14 +30,6 @@ const NO_WORDS: RecordWords = RecordWords {
     high: 0,
     low: 0,
     value: 0,
-};
-
-/// No snapshot and no mark.
-const NO_MARK: Mark = Mark {
-    snapshot: None,
-    passed: false,
-    clear: false,
-    collected: false,
 };
 
 /// The machine: the words, and what stands beside them.
@@ -75,12 +60,12 @@ pub struct Core {
 }
 
 impl Model for Core {
-    ghost use Rattle.passive_core.specs.State.{State};
+    ghost use Rattle.protocol.specs.State.{State};
 
     ghost Value = { State };
 
     ghost use Rattle.passive_core.specs.Shown.{shown};
-    ghost use Rattle.passive_core.specs.Invariant.{Holds};
+    ghost use Rattle.protocol.specs.Invariant.{Holds};
 
     ghost view = { shown };
 

@@ -1,6 +1,8 @@
-use crate::{
-    Kind, Name, NameFault, Record, Refusal, Settings, Stage, balance_at_rest, every_run_keeps,
-    grace_law, headline, lawful_answers, name_laws, record_from, safe_reuse, worked_run,
+use protocol::{
+    balance_at_rest, every_run_keeps, grace_law, headline, lawful_answers, safe_reuse, worked_run,
+};
+use registry_values::{
+    Kind, Name, NameFault, Record, Refusal, Settings, Stage, name_laws, record_from,
 };
 use std::test::Fail;
 

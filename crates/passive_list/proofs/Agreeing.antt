@@ -4,23 +4,23 @@ use Rattle.std.proofs.lemmas.List.{append-nil}
 use Rattle.std.specs.List.{Contains}
 use mathlib.Core.List.{IsPrefix}
 use Rattle.atomic_table.specs.Seated.{TableId}
-use Rattle.passive_core.specs.declared.entry.Entry.{Entry}
-use Rattle.passive_core.specs.declared.entry.Change.{Change}
-use Rattle.passive_core.specs.declared.entry.Change.TheVariants.{Attach}
-use Rattle.passive_core.specs.declared.settings.Settings.{Settings}
-use Rattle.passive_core.specs.Limits.{are_fit}
-use Rattle.passive_core.specs.History.{IsAttached}
-use Rattle.passive_core.specs.State.{bias}
-use Rattle.passive_core.proofs.Cells.{get_or_all}
-use Rattle.passive_core.proofs.History.{at_within}
+use Rattle.registry_values.specs.declared.entry.Entry.{Entry}
+use Rattle.registry_values.specs.declared.entry.Change.{Change}
+use Rattle.registry_values.specs.declared.entry.Change.TheVariants.{Attach}
+use Rattle.registry_values.specs.declared.settings.Settings.{Settings}
+use Rattle.registry_values.specs.Limits.{are_fit}
+use Rattle.protocol.specs.History.{IsAttached}
+use Rattle.registry_values.specs.Balances.{bias}
+use Rattle.protocol.proofs.Cells.{get_or_all}
+use Rattle.protocol.proofs.History.{at_within}
 use Rattle.cpu_words.specs.declared.view.CpuView.{CpuView}
 use Rattle.cpu_words.specs.Views.{number_at, references_to, depth_of, new_cpu}
 use Rattle.cpu_words.specs.Sections.{HasEntered, HasExited}
 use Rattle.cpu_words.proofs.Passes.{attached_prefix}
 use Rattle.passive_list.specs.declared.place.Found.{Found}
 use Rattle.passive_list.specs.declared.place.Place.{Place}
-use Rattle.passive_core.specs.declared.state.Key.{Key}
-use Rattle.passive_core.specs.declared.state.Search.{Search}
+use Rattle.registry_values.specs.declared.slot.Key.{Key}
+use Rattle.protocol.specs.declared.state.Search.{Search}
 use Rattle.passive_list.specs.Walking.{HasLookedUp}
 use Rattle.passive_list.specs.Cpus.{no_place, no_found, place_at, PassiveAgree, NetAgree, DepthAgrees, IsKept, FoundAgrees, IsOurCpu}
 

@@ -4,28 +4,27 @@ use Rattle.std.proofs.lemmas.List.{set-set}
 use Rattle.std.proofs.lemmas.List.Folds.{list_any_at}
 use Rattle.std.proofs.lemmas.List.Sums.{sum_by-cons}
 use Rattle.atomic_table.specs.Seated.{TableId}
-use Rattle.passive_core.specs.declared.entry.Change.{Change}
-use Rattle.passive_core.specs.declared.entry.Change.TheVariants.{Attach}
-use Rattle.passive_core.specs.declared.entry.Entry.{Entry}
-use Rattle.passive_core.specs.declared.entry.Kind.{Kind}
-use Rattle.passive_core.specs.declared.entry.Kind.TheVariants.{Iface, Driver}
-use Rattle.passive_core.specs.declared.entry.Record.{Record}
-use Rattle.passive_core.specs.declared.settings.Settings.{Settings}
-use Rattle.passive_core.specs.declared.state.Key.{Key}
-use Rattle.passive_core.specs.declared.state.Slot.{Slot}
-use Rattle.passive_core.specs.declared.state.Slot.TheVariants.{Vacant, Live, Retired}
-use Rattle.passive_core.specs.Attaching.{with_biases, key_of_record}
-use Rattle.passive_core.specs.Events.{entry_if, entry_of, keeps_rightly, kind_of, words_of}
-use Rattle.passive_core.specs.History.{after_change, key_of}
-use Rattle.passive_core.specs.Invariant.{one_if}
-use Rattle.passive_core.specs.Names.{is_lawful}
-use Rattle.passive_core.specs.Slots.{is_live, is_live_as, is_taken, kind_word, live_count, same_key}
-use Rattle.passive_core.specs.State.{no_words, row_at as words_at, slot_at, total_at, kept_at}
-use Rattle.passive_core.proofs.Cells.{slot_here, slot_other}
-use Rattle.passive_core.proofs.Fit.{ranges}
-use Rattle.passive_core.proofs.History.{length-after_change}
-use Rattle.passive_core.proofs.ListKeeps.{live_count_set, rows_put}
-use Rattle.passive_core.proofs.Occupied.{in_within, slot_cases}
+use Rattle.registry_values.specs.declared.entry.Change.{Change}
+use Rattle.registry_values.specs.declared.entry.Change.TheVariants.{Attach}
+use Rattle.registry_values.specs.declared.entry.Entry.{Entry}
+use Rattle.registry_values.specs.declared.entry.Kind.{Kind}
+use Rattle.registry_values.specs.declared.entry.Kind.TheVariants.{Iface, Driver}
+use Rattle.registry_values.specs.declared.entry.Record.{Record}
+use Rattle.registry_values.specs.declared.settings.Settings.{Settings}
+use Rattle.registry_values.specs.declared.slot.Key.{Key}
+use Rattle.registry_values.specs.declared.slot.Slot.{Slot}
+use Rattle.registry_values.specs.declared.slot.Slot.TheVariants.{Vacant, Live, Retired}
+use Rattle.protocol.specs.State.{with_biases, no_words, row_at as words_at, total_at, kept_at}
+use Rattle.registry_values.specs.Slots.{key_of_record, key_of, is_live, is_live_as, is_taken, kind_word, live_count, same_key, slot_at}
+use Rattle.protocol.specs.Events.{entry_if, entry_of, keeps_rightly, kind_of, words_of}
+use Rattle.protocol.specs.History.{after_change}
+use Rattle.protocol.specs.Invariant.{one_if}
+use Rattle.registry_values.specs.Names.{is_lawful}
+use Rattle.protocol.proofs.Cells.{slot_here, slot_other}
+use Rattle.registry_values.proofs.Fit.{ranges}
+use Rattle.protocol.proofs.History.{length-after_change}
+use Rattle.protocol.proofs.ListKeeps.{live_count_set, rows_put}
+use Rattle.protocol.proofs.Occupied.{in_within, slot_cases}
 use Rattle.cpu_words.specs.declared.view.KeeperView.{KeeperView}
 use Rattle.cpu_words.specs.Publishing.{LeadsBelow, MayPublish, HasPublished}
 use Rattle.cpu_words.specs.Publishing.LeadsBelow.{To_end, To_slot}

@@ -1,18 +1,18 @@
 -- An entry is retired: the keeper may unlink it, and what it has agrees with what its seat knows then.
 use Rattle.std.proofs.Common.{◌≡◌, ℕ, ◌+◌, ◌<◌, List, [], length, set, replicate, Option, Some, None, refl, sym, ap, ◌∙◌, subst, arith, get_or-set_same, get_or-set_other, length-set}
 use Rattle.atomic_table.specs.Seated.{TableId}
-use Rattle.passive_core.specs.declared.entry.Change.TheVariants.{Detach}
-use Rattle.passive_core.specs.declared.entry.Entry.{Entry}
-use Rattle.passive_core.specs.declared.settings.Settings.{Settings}
-use Rattle.passive_core.specs.declared.state.Mark.{Mark}
-use Rattle.passive_core.specs.declared.state.Slot.{Slot}
-use Rattle.passive_core.specs.declared.state.Slot.TheVariants.{Vacant, Live, Retired}
-use Rattle.passive_core.specs.Slots.{live_count}
-use Rattle.passive_core.specs.State.{no_mark, slot_at}
-use Rattle.passive_core.proofs.Cells.{slot_here, slot_other}
-use Rattle.passive_core.proofs.Fit.{ranges}
-use Rattle.passive_core.proofs.History.{length-after_change}
-use Rattle.passive_core.proofs.ListKeeps.{live_count_put, rows_put}
+use Rattle.registry_values.specs.declared.entry.Change.TheVariants.{Detach}
+use Rattle.registry_values.specs.declared.entry.Entry.{Entry}
+use Rattle.registry_values.specs.declared.settings.Settings.{Settings}
+use Rattle.registry_values.specs.declared.mark.Mark.{Mark}
+use Rattle.registry_values.specs.declared.slot.Slot.{Slot}
+use Rattle.registry_values.specs.declared.slot.Slot.TheVariants.{Vacant, Live, Retired}
+use Rattle.registry_values.specs.Slots.{live_count, slot_at}
+use Rattle.registry_values.specs.Marks.{no_mark}
+use Rattle.protocol.proofs.Cells.{slot_here, slot_other}
+use Rattle.registry_values.proofs.Fit.{ranges}
+use Rattle.protocol.proofs.History.{length-after_change}
+use Rattle.protocol.proofs.ListKeeps.{live_count_put, rows_put}
 use Rattle.cpu_words.specs.declared.view.KeeperView.{KeeperView}
 use Rattle.cpu_words.specs.Publishing.{LeadsBelow, IsBefore, MayUnpublish, HasUnpublished, having_unpublished, links_with}
 use Rattle.cpu_words.specs.Rule.{IsPictured}

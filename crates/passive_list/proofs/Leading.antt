@@ -3,11 +3,11 @@ use Rattle.std.proofs.Common.{◌≡◌, inl, ⊎_elim, ℕ, zero, suc, ◌<◌,
 use Rattle.std.proofs.lemmas.Bool.{cases_eq, cases_lt}
 use Rattle.std.proofs.lemmas.List.{length-map}
 use Rattle.std.proofs.Math.Numerals.{add-one}
-use Rattle.passive_core.specs.declared.entry.Entry.{Entry}
-use Rattle.passive_core.specs.declared.state.Slot.{Slot}
-use Rattle.passive_core.specs.declared.state.Slot.TheVariants.{Vacant, Live, Retired}
-use Rattle.passive_core.specs.State.{slot_at}
-use Rattle.passive_core.proofs.Occupied.{in_within}
+use Rattle.registry_values.specs.declared.entry.Entry.{Entry}
+use Rattle.registry_values.specs.declared.slot.Slot.{Slot}
+use Rattle.registry_values.specs.declared.slot.Slot.TheVariants.{Vacant, Live, Retired}
+use Rattle.registry_values.specs.Slots.{slot_at}
+use Rattle.protocol.proofs.Occupied.{in_within}
 use Rattle.cpu_words.specs.Publishing.{LeadsBelow, IsBefore, IsLinkPlace}
 use Rattle.cpu_words.specs.Publishing.LeadsBelow.{To_end, To_slot}
 use Rattle.passive_list.specs.declared.keeper.Row.{Row}

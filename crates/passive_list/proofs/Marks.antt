@@ -3,18 +3,20 @@ use Rattle.std.proofs.Common.{◌≡◌, inr, ℕ, ◌<◌, true, ◌&&◌, ◌=
 use Rattle.std.proofs.lemmas.Bool.{and_parts}
 use Rattle.std.proofs.Math.Seq.{map-set_same}
 use Rattle.atomic_table.specs.Seated.{TableId}
-use Rattle.passive_core.specs.declared.entry.Entry.{Entry}
-use Rattle.passive_core.specs.declared.event.Event.{Event}
-use Rattle.passive_core.specs.declared.event.Reply.{Reply}
-use Rattle.passive_core.specs.declared.settings.Settings.{Settings}
-use Rattle.passive_core.specs.declared.state.Mark.{Mark}
-use Rattle.passive_core.specs.declared.state.Slot.TheVariants.{Vacant, Retired}
-use Rattle.passive_core.specs.Slots.{is_retired, have_passed, are_clear, are_collected}
-use Rattle.passive_core.specs.State.{bias, no_mark, with_cell, slot_at, mark_at, kept_at}
-use Rattle.passive_core.proofs.Cells.{row_here, row_other, cell_here}
-use Rattle.passive_core.proofs.Fit.{ranges}
-use Rattle.passive_core.proofs.ListKeeps.{rows_cell}
-use Rattle.passive_core.proofs.Occupied.{is_retired_tells}
+use Rattle.registry_values.specs.declared.entry.Entry.{Entry}
+use Rattle.protocol.specs.declared.event.Event.{Event}
+use Rattle.protocol.specs.declared.event.Reply.{Reply}
+use Rattle.registry_values.specs.declared.settings.Settings.{Settings}
+use Rattle.registry_values.specs.declared.mark.Mark.{Mark}
+use Rattle.registry_values.specs.declared.slot.Slot.TheVariants.{Vacant, Retired}
+use Rattle.registry_values.specs.Slots.{is_retired, slot_at}
+use Rattle.registry_values.specs.Marks.{have_passed, are_clear, are_collected, no_mark}
+use Rattle.registry_values.specs.Balances.{bias}
+use Rattle.protocol.specs.State.{with_cell, mark_at, kept_at}
+use Rattle.protocol.proofs.Cells.{row_here, row_other, cell_here}
+use Rattle.registry_values.proofs.Fit.{ranges}
+use Rattle.protocol.proofs.ListKeeps.{rows_cell}
+use Rattle.protocol.proofs.Occupied.{is_retired_tells}
 use Rattle.cpu_words.specs.declared.view.KeeperView.{KeeperView}
 use Rattle.cpu_words.specs.declared.view.View.TheVariants.{Keeper}
 use Rattle.cpu_words.specs.Grace.{MayLook, having_looked}

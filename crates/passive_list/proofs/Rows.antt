@@ -2,17 +2,20 @@
 use Rattle.std.proofs.Common.{◌≡◌, ◌≢◌, inl, inr, ⊎_elim, ℕ, zero, suc, ◌<◌, ◌≤◌, List, [], ◌∷◌, length, get_or, set, replicate, None, IsTrue, refl, sym, ap, ◌∙◌, subst, arith, length-set}
 use Rattle.std.proofs.lemmas.Bool.{cases_lt}
 use Rattle.std.proofs.lemmas.List.{length-replicate, get_or-replicate}
-use Rattle.passive_core.specs.declared.entry.Entry.{Entry}
-use Rattle.passive_core.specs.declared.settings.Settings.{Settings}
-use Rattle.passive_core.specs.declared.state.Slot.{Slot}
-use Rattle.passive_core.specs.declared.state.Slot.TheVariants.{Vacant, Live, Retired}
-use Rattle.passive_core.specs.declared.state.Due.TheVariants.{Rest}
-use Rattle.passive_core.specs.Limits.{are_fit}
-use Rattle.passive_core.specs.State.{bias, no_mark, no_words, slot_at, total_at, kept_at}
-use Rattle.passive_core.proofs.Cells.{get_or_all}
-use Rattle.passive_core.proofs.MarkKeeps.{none_live, rows_all}
-use Rattle.passive_core.proofs.Occupied.{place_cases}
-use Rattle.passive_core.proofs.Fit.{ranges}
+use Rattle.registry_values.specs.declared.entry.Entry.{Entry}
+use Rattle.registry_values.specs.declared.settings.Settings.{Settings}
+use Rattle.registry_values.specs.declared.slot.Slot.{Slot}
+use Rattle.registry_values.specs.declared.slot.Slot.TheVariants.{Vacant, Live, Retired}
+use Rattle.protocol.specs.declared.state.Due.TheVariants.{Rest}
+use Rattle.registry_values.specs.Limits.{are_fit}
+use Rattle.registry_values.specs.Balances.{bias}
+use Rattle.registry_values.specs.Marks.{no_mark}
+use Rattle.protocol.specs.State.{no_words, total_at, kept_at}
+use Rattle.registry_values.specs.Slots.{slot_at}
+use Rattle.protocol.proofs.Cells.{get_or_all}
+use Rattle.protocol.proofs.MarkKeeps.{none_live, rows_all}
+use Rattle.protocol.proofs.Occupied.{place_cases}
+use Rattle.registry_values.proofs.Fit.{ranges}
 use Rattle.cpu_words.specs.declared.view.KeeperView.{KeeperView}
 use Rattle.cpu_words.specs.Opening.{keeper_with}
 use Rattle.cpu_words.specs.Vacating.{IsDrained, MayVacate}

@@ -2,11 +2,12 @@
 use Rattle.std.proofs.Common.{◌≡◌, ⊎_elim, ℕ, ◌+◌, ◌<◌, ◌≤◌, true, nat_lt, if◌then◌else◌, List, [], get_or, set, refl, sym, ap, ◌∙◌, arith, get_or-set_same, get_or-set_other, length-set, lt-ltb}
 use Rattle.std.proofs.lemmas.Bool.{cases_eq}
 use Rattle.std.proofs.lemmas.List.{set-set}
-use Rattle.passive_core.specs.declared.state.Due.{Due}
-use Rattle.passive_core.specs.declared.state.Due.TheVariants.{Rest, Snapshots}
-use Rattle.passive_core.specs.declared.state.Mark.{Mark}
-use Rattle.passive_core.specs.Events.{snapshot_mark}
-use Rattle.passive_core.specs.State.{no_mark, with_cell}
+use Rattle.protocol.specs.declared.state.Due.{Due}
+use Rattle.protocol.specs.declared.state.Due.TheVariants.{Rest, Snapshots}
+use Rattle.registry_values.specs.declared.mark.Mark.{Mark}
+use Rattle.protocol.specs.Events.{snapshot_mark}
+use Rattle.registry_values.specs.Marks.{no_mark}
+use Rattle.protocol.specs.State.{with_cell}
 use Rattle.cpu_words.specs.declared.view.KeeperView.{KeeperView}
 use Rattle.cpu_words.specs.Grace.{HasSnapshot}
 use Rattle.passive_list.specs.Retiring.{AreFresh, AreSnapshots}

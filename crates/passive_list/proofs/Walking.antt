@@ -1,16 +1,16 @@
 -- A search: its loads in one slot, and from one slot to the next.
 use Rattle.std.proofs.Common.{◌≡◌, ◌≢◌, ℕ, zero, suc, ◌-◌, ◌<◌, Bool, true, false, List, ◌++◌, length, Option, Some, None, IfSome, refl, sym, ap, ◌∙◌, subst, arith, append_assoc}
 use mathlib.Core.List.{IsPrefix}
-use Rattle.passive_core.specs.declared.entry.Entry.{Entry}
-use Rattle.passive_core.specs.declared.entry.Change.{Change}
-use Rattle.passive_core.specs.declared.state.Key.{Key}
-use Rattle.passive_core.specs.declared.state.Place.{Place}
-use Rattle.passive_core.specs.declared.state.Place.TheVariants.{AtNext, AtNumber, AtKind, AtHigh, AtLow, AtValue}
-use Rattle.passive_core.specs.declared.state.Loaded.TheVariants.{On}
-use Rattle.passive_core.specs.Events.{are_words_of}
-use Rattle.passive_core.specs.History.{IsAttached, IsLawful}
-use Rattle.passive_core.specs.Invariant.{StandsOn}
-use Rattle.passive_core.specs.Loaded.{loaded, judged, entry_with}
+use Rattle.registry_values.specs.declared.entry.Entry.{Entry}
+use Rattle.registry_values.specs.declared.entry.Change.{Change}
+use Rattle.registry_values.specs.declared.slot.Key.{Key}
+use Rattle.protocol.specs.declared.state.Place.{Place}
+use Rattle.protocol.specs.declared.state.Place.TheVariants.{AtNext, AtNumber, AtKind, AtHigh, AtLow, AtValue}
+use Rattle.protocol.specs.declared.state.Loaded.TheVariants.{On}
+use Rattle.protocol.specs.Events.{are_words_of}
+use Rattle.protocol.specs.History.{IsAttached, IsLawful}
+use Rattle.protocol.specs.Invariant.{StandsOn}
+use Rattle.protocol.specs.Loaded.{loaded, judged, entry_with}
 use Rattle.cpu_words.specs.declared.view.CpuView.{CpuView}
 use Rattle.cpu_words.specs.Searching.{MayLoadLink, MayLoadSearched, IsAtWord, every_word, searched, HasLoadedLink, HasLoadedWord, HasFollowed, seeking, search_for}
 use Rattle.passive_list.specs.declared.lookup.Seen.{Seen}

@@ -1,14 +1,15 @@
 -- The keeper: how its plain data agree with what its seat knows.
 use Rattle.std.specs.Prelude.{◌≡◌, ◌⊎◌, ℕ, ◌+◌, ◌<◌, ◌≤◌, List, [], length, map, slice_index_or, None, IsTrue}
 use Rattle.atomic_table.specs.Seated.{TableId}
-use Rattle.passive_core.specs.declared.settings.Settings.{Settings}
-use Rattle.passive_core.specs.declared.state.Slot.{Slot}
-use Rattle.passive_core.specs.declared.state.Slot.TheVariants.{Vacant, Live, Retired}
-use Rattle.passive_core.specs.declared.state.Due.TheVariants.{Rest}
-use Rattle.passive_core.specs.Invariant.{AreRows}
-use Rattle.passive_core.specs.Limits.{are_fit}
-use Rattle.passive_core.specs.Slots.{live_count}
-use Rattle.passive_core.specs.State.{bias, slot_at, total_at, kept_at}
+use Rattle.registry_values.specs.declared.settings.Settings.{Settings}
+use Rattle.registry_values.specs.declared.slot.Slot.{Slot}
+use Rattle.registry_values.specs.declared.slot.Slot.TheVariants.{Vacant, Live, Retired}
+use Rattle.protocol.specs.declared.state.Due.TheVariants.{Rest}
+use Rattle.protocol.specs.Invariant.{AreRows}
+use Rattle.registry_values.specs.Limits.{are_fit}
+use Rattle.registry_values.specs.Slots.{live_count, slot_at}
+use Rattle.registry_values.specs.Balances.{bias}
+use Rattle.protocol.specs.State.{total_at, kept_at}
 use Rattle.cpu_words.specs.declared.view.KeeperView.{KeeperView}
 use Rattle.cpu_words.specs.Rule.{IsPictured}
 use Rattle.cpu_words.specs.Vacating.{MayVacate}

@@ -1,9 +1,9 @@
 -- A lookup in a section: what it answers, and what it leaves of the CPU.
 use Rattle.std.specs.Prelude.{◌≡◌, length, Option, Some}
 use mathlib.Core.List.{IsPrefix}
-use Rattle.passive_core.specs.declared.entry.Entry.{Entry}
-use Rattle.passive_core.specs.declared.state.Key.{Key}
-use Rattle.passive_core.specs.History.{IsAttached, IsLawful}
+use Rattle.registry_values.specs.declared.entry.Entry.{Entry}
+use Rattle.registry_values.specs.declared.slot.Key.{Key}
+use Rattle.protocol.specs.History.{IsAttached, IsLawful}
 use Rattle.passive_list.specs.Cpus.{OnCpu}
 
 -- just the pass and the last found entry change; the answer is the registry's at some point not before what the CPU had seen

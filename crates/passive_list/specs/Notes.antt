@@ -1,7 +1,7 @@
 -- Notes: what one CPU has seen reaches another, or the keeper.
 use Rattle.std.specs.Prelude.{◌≡◌, List}
 use mathlib.Core.List.{IsPrefix}
-use Rattle.passive_core.specs.declared.entry.Change.{Change}
+use Rattle.registry_values.specs.declared.entry.Change.{Change}
 use Rattle.passive_list.specs.Cpus.{OnCpu}
 
 -- the pass is a longer prefix of the history, with what the note tells in it; nothing else changes but what was heard

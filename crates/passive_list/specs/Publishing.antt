@@ -1,18 +1,17 @@
 -- An entry is published: what changes of the keeper.
 use Rattle.std.specs.Prelude.{◌≡◌, ℕ, suc, ◌+◌, ◌<◌, ◌≤◌, List, [], length, slice_index_or, slice_set, IsTrue, false}
-use Rattle.passive_core.specs.declared.entry.Entry.{Entry}
-use Rattle.passive_core.specs.declared.entry.Change.TheVariants.{Attach}
-use Rattle.passive_core.specs.declared.event.Event.TheVariants.{Publish}
-use Rattle.passive_core.specs.declared.event.Reply.TheVariants.{Done}
-use Rattle.passive_core.specs.declared.settings.Settings.{Settings}
-use Rattle.passive_core.specs.declared.state.RecordWords.{RecordWords}
-use Rattle.passive_core.specs.declared.state.Slot.TheVariants.{Vacant, Live}
-use Rattle.passive_core.specs.Attaching.{with_biases}
-use Rattle.passive_core.specs.Events.{keeps_rightly, words_of}
-use Rattle.passive_core.specs.History.{after_change, key_of}
-use Rattle.passive_core.specs.Names.{is_lawful}
-use Rattle.passive_core.specs.Slots.{is_taken, live_count}
-use Rattle.passive_core.specs.State.{slot_at, kept_at}
+use Rattle.registry_values.specs.declared.entry.Entry.{Entry}
+use Rattle.registry_values.specs.declared.entry.Change.TheVariants.{Attach}
+use Rattle.protocol.specs.declared.event.Event.TheVariants.{Publish}
+use Rattle.protocol.specs.declared.event.Reply.TheVariants.{Done}
+use Rattle.registry_values.specs.declared.settings.Settings.{Settings}
+use Rattle.protocol.specs.declared.state.RecordWords.{RecordWords}
+use Rattle.registry_values.specs.declared.slot.Slot.TheVariants.{Vacant, Live}
+use Rattle.protocol.specs.State.{with_biases, kept_at}
+use Rattle.protocol.specs.Events.{keeps_rightly, words_of}
+use Rattle.protocol.specs.History.{after_change}
+use Rattle.registry_values.specs.Slots.{key_of, is_taken, live_count, slot_at}
+use Rattle.registry_values.specs.Names.{is_lawful}
 use Rattle.cpu_words.specs.declared.view.KeeperView.{KeeperView}
 use Rattle.cpu_words.specs.declared.view.View.TheVariants.{Keeper}
 use Rattle.cpu_words.specs.Publishing.{LeadsBelow}

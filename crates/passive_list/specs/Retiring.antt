@@ -1,13 +1,13 @@
 -- An entry is retired: what changes of the keeper.
 use Rattle.std.specs.Prelude.{◌≡◌, ℕ, ◌<◌, List, [], length, replicate, slice_index_or, slice_set, Option}
-use Rattle.passive_core.specs.declared.entry.Entry.{Entry}
-use Rattle.passive_core.specs.declared.event.Event.TheVariants.{Unpublish}
-use Rattle.passive_core.specs.declared.event.Reply.TheVariants.{Done}
-use Rattle.passive_core.specs.declared.state.Mark.{Mark}
-use Rattle.passive_core.specs.declared.state.Slot.TheVariants.{Retired}
-use Rattle.passive_core.specs.declared.state.Due.TheVariants.{Rest}
-use Rattle.passive_core.specs.Events.{snapshot_mark}
-use Rattle.passive_core.specs.State.{no_mark}
+use Rattle.registry_values.specs.declared.entry.Entry.{Entry}
+use Rattle.protocol.specs.declared.event.Event.TheVariants.{Unpublish}
+use Rattle.protocol.specs.declared.event.Reply.TheVariants.{Done}
+use Rattle.registry_values.specs.declared.mark.Mark.{Mark}
+use Rattle.registry_values.specs.declared.slot.Slot.TheVariants.{Retired}
+use Rattle.protocol.specs.declared.state.Due.TheVariants.{Rest}
+use Rattle.protocol.specs.Events.{snapshot_mark}
+use Rattle.registry_values.specs.Marks.{no_mark}
 use Rattle.cpu_words.specs.declared.view.KeeperView.{KeeperView}
 use Rattle.cpu_words.specs.declared.view.View.TheVariants.{Keeper}
 use Rattle.cpu_words.specs.Publishing.{LeadsBelow, IsBefore, having_unpublished}

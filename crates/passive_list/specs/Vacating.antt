@@ -1,9 +1,10 @@
 -- A retired slot that is drained, as the keeper has it.
 use Rattle.std.specs.Prelude.{◌≡◌, ℕ, Bool, ◌&&◌, ◌==◌}
-use Rattle.passive_core.specs.declared.entry.Entry.{Entry}
-use Rattle.passive_core.specs.declared.state.Slot.TheVariants.{Retired}
-use Rattle.passive_core.specs.State.{bias, slot_at}
-use Rattle.passive_core.specs.Slots.{is_retired, have_passed, are_clear, are_collected}
+use Rattle.registry_values.specs.declared.entry.Entry.{Entry}
+use Rattle.registry_values.specs.declared.slot.Slot.TheVariants.{Retired}
+use Rattle.registry_values.specs.Balances.{bias}
+use Rattle.registry_values.specs.Slots.{slot_at, is_retired}
+use Rattle.registry_values.specs.Marks.{have_passed, are_clear, are_collected}
 use Rattle.cpu_words.specs.Vacating.{IsDrained}
 use Rattle.passive_list.specs.declared.keeper.Row.{Row}
 use Rattle.passive_list.specs.Keepers.{OnKeeper}

@@ -1,14 +1,14 @@
 -- A search by a CPU's seat, from the head along the links: what one visit of a slot does, and where the search stands between two.
 use Rattle.std.specs.Prelude.{◌≡◌, ℕ, zero, suc, ◌<◌, Bool, true, false, length, Option, Some, None}
 use mathlib.Core.List.{IsPrefix}
-use Rattle.passive_core.specs.declared.entry.Entry.{Entry}
-use Rattle.passive_core.specs.declared.state.Key.{Key}
-use Rattle.passive_core.specs.declared.state.Place.{Place}
-use Rattle.passive_core.specs.declared.state.Place.TheVariants.{AtNext, AtNumber, AtValue}
-use Rattle.passive_core.specs.declared.state.Search.{Search}
-use Rattle.passive_core.specs.History.{IsAttached, IsLawful}
-use Rattle.passive_core.specs.Invariant.{StandsOn}
-use Rattle.passive_core.specs.Loaded.{entry_with}
+use Rattle.registry_values.specs.declared.entry.Entry.{Entry}
+use Rattle.registry_values.specs.declared.slot.Key.{Key}
+use Rattle.protocol.specs.declared.state.Place.{Place}
+use Rattle.protocol.specs.declared.state.Place.TheVariants.{AtNext, AtNumber, AtValue}
+use Rattle.protocol.specs.declared.state.Search.{Search}
+use Rattle.protocol.specs.History.{IsAttached, IsLawful}
+use Rattle.protocol.specs.Invariant.{StandsOn}
+use Rattle.protocol.specs.Loaded.{entry_with}
 use Rattle.cpu_words.specs.declared.view.CpuView.{CpuView}
 use Rattle.passive_list.specs.declared.lookup.Seen.{Seen}
 

@@ -2,7 +2,7 @@
 
 ghost use Rattle.std.specs.Prelude.{◌≡◌, ◌≢◌, ◌↔◌, ◌<◌, IsTrue, replicate, None};
 ghost use Rattle.cpu_words.specs.Views.{new_cpu};
-ghost use Rattle.passive_core.specs.Limits.{are_fit};
+ghost use Rattle.registry_values.specs.Limits.{are_fit};
 ghost use Rattle.passive_list.specs.Cpus.{OnCpu, IsOurCpu};
 
 use crate::place::{Found, Place};

@@ -1,18 +1,19 @@
 //! Grace (pserialize(9)): the keeper looks at the section words of the CPUs, a load each.
 
 ghost use Rattle.std.specs.Prelude.{◌≡◌, ◌<◌, ℕ, Some, None};
-ghost use Rattle.passive_core.specs.declared.entry.Entry.{Entry};
-ghost use Rattle.passive_core.specs.declared.event.Event.TheVariants.{Look, Snapshot};
-ghost use Rattle.passive_core.specs.declared.event.Reply.TheVariants.{Word};
-ghost use Rattle.passive_core.specs.declared.state.Slot.TheVariants.{Retired};
-ghost use Rattle.passive_core.specs.State.{slot_at, mark_at};
+ghost use Rattle.registry_values.specs.declared.entry.Entry.{Entry};
+ghost use Rattle.protocol.specs.declared.event.Event.TheVariants.{Look, Snapshot};
+ghost use Rattle.protocol.specs.declared.event.Reply.TheVariants.{Word};
+ghost use Rattle.registry_values.specs.declared.slot.Slot.TheVariants.{Retired};
+ghost use Rattle.registry_values.specs.Slots.{slot_at};
+ghost use Rattle.protocol.specs.State.{mark_at};
 ghost use Rattle.cpu_words.specs.declared.view.View.TheVariants.{Keeper as OfKeeper};
 ghost use Rattle.cpu_words.specs.Grace.{HasLooked, having_looked};
 ghost use Rattle.cpu_words.specs.Steps.{Makes};
 
 use crate::keeper::Keeper;
 use cpu_words::{Domain, Words, steps};
-use passive_core::looked;
+use registry_values::looked;
 
 /// Looks at the section word of a CPU for the retired entry in `slot`. True where the CPU has passed, by an earlier look or by this one:
 /// its word is even, or differs from its snapshot, so no section of it may hold the entry any more. It is counted as a look.

@@ -1,18 +1,19 @@
 //! The keeper, the writer behind the interlock: its seat, and plain data that agree with what the seat knows.
 
 ghost use Rattle.std.specs.Prelude.{◌≡◌, ◌<◌, IsTrue, length, replicate};
-ghost use Rattle.passive_core.specs.declared.state.Slot.TheVariants.{Vacant};
-ghost use Rattle.passive_core.specs.Limits.{are_fit};
-ghost use Rattle.passive_core.specs.State.{slot_at, kept_at};
+ghost use Rattle.registry_values.specs.declared.slot.Slot.TheVariants.{Vacant};
+ghost use Rattle.registry_values.specs.Limits.{are_fit};
+ghost use Rattle.registry_values.specs.Slots.{slot_at};
+ghost use Rattle.protocol.specs.State.{kept_at};
 ghost use Rattle.cpu_words.specs.Opening.{keeper_with};
 ghost use Rattle.passive_list.specs.Keepers.{states_of};
 
 use cpu_words::{Domain, KeeperSeat};
-use passive_core::{BIAS, Mark, Settings};
+use registry_values::{BIAS, Mark, Settings};
 use std::marker::{Model, PhantomData};
 
 /// What stands in a slot, as the keeper has it: a slot that was retired and drained is `Vacant` once it was vacated.
-pub use passive_core::Slot as SlotState;
+pub use registry_values::Slot as SlotState;
 
 /// What the keeper has of a slot.
 #[derive(Clone, Copy, Debug, PartialEq, Eq)]

@@ -1,8 +1,8 @@
 //! Lookups in a section: a search along the list, loads alone. No shared word is written, and nobody waits.
 
 ghost use Rattle.std.specs.Prelude.{◌≡◌, ◌≢◌, ◌<◌, None, IfSome};
-ghost use Rattle.passive_core.specs.Slots.{kind_word};
-ghost use Rattle.passive_core.specs.Events.{are_words_of};
+ghost use Rattle.registry_values.specs.Slots.{kind_word};
+ghost use Rattle.protocol.specs.Events.{are_words_of};
 ghost use Rattle.cpu_words.specs.Searching.{MaySeek, key_with};
 ghost use Rattle.passive_list.specs.Cpus.{IsKept};
 ghost use Rattle.passive_list.specs.Lookups.{HasFound};
@@ -11,7 +11,7 @@ ghost use Rattle.passive_list.specs.Walking.{MayVisit, HasVisited, HasLookedUp, 
 use crate::cpu::Cpu;
 use crate::place::Found;
 use cpu_words::{CpuSeat, Domain, Words, steps};
-use passive_core::{Entry, Kind, Name, Record};
+use registry_values::{Entry, Kind, Name, Record};
 
 /// Above every number that an entry can have.
 const ABOVE_ALL: u64 = 1_000_001;

@@ -1,12 +1,12 @@
 //! What the keeper has of the CPUs for a retired entry: tests for the conditions of looks, of a drain and of its end.
 
 ghost use Rattle.std.specs.Prelude.{◌≡◌, ◌<◌, slice_index_or, []};
-ghost use Rattle.passive_core.specs.Slots.{have_passed, are_clear, are_collected};
-ghost use Rattle.passive_core.specs.State.{mark_at};
+ghost use Rattle.registry_values.specs.Marks.{have_passed, are_clear, are_collected};
+ghost use Rattle.protocol.specs.State.{mark_at};
 
 use crate::keeper::Keeper;
 use cpu_words::Domain;
-use passive_core::{Mark, are_clear, are_collected, have_passed};
+use registry_values::{Mark, are_clear, are_collected, have_passed};
 
 impl<D: Domain> Keeper<D> {
     /// The mark of a CPU for the retired entry in `slot`; for another slot it says nothing.

@@ -1,7 +1,7 @@
 //! Notes: what one thread has seen reaches another. A note is sent beside a message, or kept beside what a lock guards.
 
 ghost use Rattle.std.specs.Prelude.{◌≡◌, List};
-ghost use Rattle.passive_core.specs.declared.entry.Change.{Change};
+ghost use Rattle.registry_values.specs.declared.entry.Change.{Change};
 ghost use Rattle.passive_list.specs.Notes.{HasHeardOn};
 
 use crate::cpu::Cpu;
@@ -18,7 +18,7 @@ pub struct Note<D: Domain> {
 
 impl<D: Domain> Model for Note<D> {
     ghost use Rattle.std.specs.Prelude.{◌≡◌, List};
-    ghost use Rattle.passive_core.specs.declared.entry.Change.{Change};
+    ghost use Rattle.registry_values.specs.declared.entry.Change.{Change};
 
     ghost Value = { List Change };
 

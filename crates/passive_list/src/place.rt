@@ -1,7 +1,7 @@
 //! What a CPU keeps of entries: of the slots a count for the entry that it met there last, and of the entry that it found last what
 //! references to it are made of.
 
-use passive_core::Kind;
+use registry_values::Kind;
 
 /// A count, and the number of the entry that it is for; number 0 is of no entry, and the count then is nothing's.
 #[derive(Clone, Copy, Debug, PartialEq, Eq)]

@@ -1,12 +1,11 @@
 //! An entry is published: all words of its slot are stored, and then the head, so that searches find it.
 
 ghost use Rattle.std.specs.Prelude.{◌≡◌, ◌<◌, ◌≤◌, ◌+◌, suc, IsTrue, false, length};
-ghost use Rattle.passive_core.specs.declared.state.Slot.TheVariants.{Vacant};
-ghost use Rattle.passive_core.specs.Attaching.{key_of_record};
-ghost use Rattle.passive_core.specs.Events.{keeps_rightly, words_of};
-ghost use Rattle.passive_core.specs.Names.{is_lawful};
-ghost use Rattle.passive_core.specs.Slots.{is_taken, live_count};
-ghost use Rattle.passive_core.specs.State.{slot_at, kept_at};
+ghost use Rattle.registry_values.specs.declared.slot.Slot.TheVariants.{Vacant};
+ghost use Rattle.registry_values.specs.Slots.{key_of_record, is_taken, live_count, slot_at};
+ghost use Rattle.protocol.specs.Events.{keeps_rightly, words_of};
+ghost use Rattle.registry_values.specs.Names.{is_lawful};
+ghost use Rattle.protocol.specs.State.{kept_at};
 ghost use Rattle.cpu_words.specs.Vacating.{MayWrite};
 ghost use Rattle.passive_list.specs.Keepers.{AreSized};
 ghost use Rattle.passive_list.specs.Publishing.{MayAttach, HasEntry, HasAttached, with_row, with_counts, prepared};
@@ -15,7 +14,7 @@ use crate::keeper::{Keeper, Row, SlotState};
 use crate::links::link_below;
 use crate::lookup::kind_word;
 use cpu_words::{Domain, KeeperSeat, Words, steps};
-use passive_core::{BIAS, Entry, Record};
+use registry_values::{BIAS, Entry, Record};
 
 /// Publishes an entry in `slot`: from now on lookups find it, and the history ends with its attach. Its number is how many changes there
 /// are then. It answers the entry.

@@ -1,17 +1,17 @@
 //! An entry is retired: it is unlinked, and the section word of each CPU is taken as its snapshot.
 
 ghost use Rattle.std.specs.Prelude.{◌≡◌, ◌<◌, ◌≤◌, None};
-ghost use Rattle.passive_core.specs.declared.entry.Entry.{Entry};
-ghost use Rattle.passive_core.specs.declared.state.Slot.TheVariants.{Live};
-ghost use Rattle.passive_core.specs.declared.state.Due.TheVariants.{Snapshots};
-ghost use Rattle.passive_core.specs.State.{slot_at};
+ghost use Rattle.registry_values.specs.declared.entry.Entry.{Entry};
+ghost use Rattle.registry_values.specs.declared.slot.Slot.TheVariants.{Live};
+ghost use Rattle.protocol.specs.declared.state.Due.TheVariants.{Snapshots};
+ghost use Rattle.registry_values.specs.Slots.{slot_at};
 ghost use Rattle.cpu_words.specs.Rule.{IsPictured};
 ghost use Rattle.passive_list.specs.Retiring.{HasDetached, with_snapshots, AreSnapshots, AreFresh};
 
 use crate::keeper::{Keeper, NO_MARK, Row, SlotState};
 use crate::links::{link_below, slot_above};
 use cpu_words::{Domain, KeeperSeat, Words, steps};
-use passive_core::{Entry, Mark};
+use registry_values::{Entry, Mark};
 
 /// Retires the live entry in `slot`: from now on lookups that begin don't find it, the history ends with its detach, and a section that
 /// may hold it is one that is open at a snapshot. It answers the entry.

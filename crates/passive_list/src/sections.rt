@@ -6,7 +6,7 @@ ghost use Rattle.passive_list.specs.Sections.{HasEnteredOn, HasExitedOn, AreSpen
 
 use crate::cpu::Cpu;
 use cpu_words::{Domain, Words, steps};
-use passive_core::Refusal;
+use registry_values::Refusal;
 
 /// The deepest nesting.
 const DEEPEST: u8 = 255;

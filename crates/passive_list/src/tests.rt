@@ -1,5 +1,5 @@
 ghost use Rattle.std.specs.Prelude.{◌≡◌, IsTrue, IfOk};
-ghost use Rattle.passive_core.specs.Limits.{are_fit};
+ghost use Rattle.registry_values.specs.Limits.{are_fit};
 ghost use Rattle.cpu_words.specs.Views.{new_cpu};
 
 mod rows;
@@ -7,7 +7,7 @@ pub(crate) mod table;
 
 use crate::{Cpu, enter, exit, find, hear, tell};
 use cpu_words::{CpuSeat, Domain, Words};
-use passive_core::{Kind, Name, Refusal, Settings};
+use registry_values::{Kind, Name, Refusal, Settings};
 use std::alloc::Global;
 use std::marker::Brand;
 use std::process::Abort;

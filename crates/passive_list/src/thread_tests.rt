@@ -1,16 +1,16 @@
 //! Tests on two threads: what one publishes, the other finds.
 
 ghost use Rattle.std.specs.Prelude.{◌≡◌, IsTrue, replicate};
-ghost use Rattle.passive_core.specs.declared.entry.Kind.TheVariants.{Driver};
-ghost use Rattle.passive_core.specs.declared.state.Slot.TheVariants.{Vacant};
-ghost use Rattle.passive_core.specs.Names.{is_lawful};
+ghost use Rattle.registry_values.specs.declared.entry.Kind.TheVariants.{Driver};
+ghost use Rattle.registry_values.specs.declared.slot.Slot.TheVariants.{Vacant};
+ghost use Rattle.registry_values.specs.Names.{is_lawful};
 ghost use Rattle.cpu_words.specs.Opening.{keeper_with};
 ghost use Rattle.passive_list.specs.declared.tests.table.TheConstants.{SETTINGS};
 
 use crate::tests::table::{SETTINGS, Table, driver, opened};
 use crate::{Cpu, Keeper, Note, enter, exit, find, hear, publish, tell, tell_keeper};
 use cpu_words::{Domain, KeeperSeat, Words};
-use passive_core::{Kind, Name, Record, Refusal};
+use registry_values::{Kind, Name, Record, Refusal};
 use std::marker::Brand;
 use std::process::Abort;
 use std::sync::atomic::{AtomicBool, Ordering};

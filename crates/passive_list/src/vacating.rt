@@ -1,13 +1,13 @@
 //! The end of a drain: the slot of a retired entry is vacant again.
 
 ghost use Rattle.std.specs.Prelude.{◌≡◌, ◌↔◌, ◌<◌, IsTrue, None, slice_set};
-ghost use Rattle.passive_core.specs.declared.state.Slot.TheVariants.{Vacant};
-ghost use Rattle.passive_core.specs.State.{kept_at};
+ghost use Rattle.registry_values.specs.declared.slot.Slot.TheVariants.{Vacant};
+ghost use Rattle.protocol.specs.State.{kept_at};
 ghost use Rattle.passive_list.specs.Vacating.{IsDrainedOn, is_drained_row};
 
 use crate::keeper::{Keeper, Row, SlotState};
 use cpu_words::Domain;
-use passive_core::{BIAS, are_clear, are_collected, have_passed};
+use registry_values::{BIAS, are_clear, are_collected, have_passed};
 
 impl<D: Domain> Keeper<D> {
     /// Whether the entry in `slot` is retired and drained: all CPUs have passed, are clear and collected, and the total stands for no

@@ -1,12 +1,12 @@
 -- A reference that was added is to the entry that was known.
 use Rattle.std.proofs.Common.{◌≡◌, ℕ, Option, None, refl, sym, ◌∙◌, subst}
 use Rattle.std.specs.Prelude.{Result, Ok, Err}
-use Rattle.passive_core.specs.declared.entry.Entry.{Entry}
-use Rattle.passive_core.specs.declared.refusal.Refusal.{Refusal}
-use Rattle.passive_core.specs.declared.refusal.Refusal.TheVariants.{NothingFound}
-use Rattle.passive_core.specs.Passives.{Answers}
-use Rattle.passive_core.specs.History.{IsAttached}
-use Rattle.passive_core.proofs.History.{one_entry}
+use Rattle.registry_values.specs.declared.entry.Entry.{Entry}
+use Rattle.registry_values.specs.declared.refusal.Refusal.{Refusal}
+use Rattle.registry_values.specs.declared.refusal.Refusal.TheVariants.{NothingFound}
+use Rattle.registry_values.specs.Refusals.{Answers}
+use Rattle.protocol.specs.History.{IsAttached}
+use Rattle.protocol.proofs.History.{one_entry}
 use Rattle.passive_list.specs.declared.place.Found.{Found}
 use Rattle.passive_list.specs.Cpus.{OnCpu}
 use Rattle.passive_list.proofs.Agreeing.{IsFoundAs}

@@ -5,10 +5,10 @@ use Rattle.std.proofs.lemmas.Option.{none-some}
 use Rattle.std.proofs.lemmas.List.Quantifiers.{position-Some}
 use Rattle.std.specs.Prelude.{position}
 use Rattle.std.specs.List.{Contains}
-use Rattle.passive_core.specs.declared.entry.Entry.{Entry}
-use Rattle.passive_core.specs.History.{IsAttached}
-use Rattle.passive_core.proofs.History.{one_entry, at_within}
-use Rattle.passive_core.proofs.Numbers.{position_passes}
+use Rattle.registry_values.specs.declared.entry.Entry.{Entry}
+use Rattle.protocol.specs.History.{IsAttached}
+use Rattle.protocol.proofs.History.{one_entry, at_within}
+use Rattle.protocol.proofs.Numbers.{position_passes}
 use Rattle.cpu_words.specs.declared.view.CpuView.{CpuView}
 use Rattle.cpu_words.specs.Views.{is_to, references_to}
 use Rattle.cpu_words.specs.Passives.{IsAt}

@@ -1,7 +1,7 @@
 -- The words of a record, loaded while the CPU's view stays as it was.
 use Rattle.std.proofs.Common.{◌≡◌, ℕ, true, ◌∙◌, subst}
-use Rattle.passive_core.specs.Names.{are_name_words}
-use Rattle.passive_core.specs.Events.{word, words_of}
+use Rattle.registry_values.specs.Names.{are_name_words}
+use Rattle.protocol.specs.Events.{word, words_of}
 use Rattle.cpu_words.specs.Passives.{IsWordOf, IsNamed}
 use Rattle.passive_list.specs.Cpus.{OnCpu}
 use Rattle.passive_ref.specs.Psrefs.{IsHeldAt}

@@ -1,14 +1,14 @@
 //! Passive references (psref(9)): acquired, copied and released on one CPU, by one step each on a word of its own.
 
 ghost use Rattle.std.specs.Prelude.{◌≡◌, ◌<◌, IfErr};
-ghost use Rattle.passive_core.specs.Passives.{Answers};
+ghost use Rattle.registry_values.specs.Refusals.{Answers};
 ghost use Rattle.passive_ref.specs.Psrefs.{MayRefer, IsHeldAt, IsAcquired, IsCopied, IsAdded, HasOneLess, GivesBack, why_full, why_unusable, why_not_acquired, why_not_copied};
 
 use crate::holding::{count_of, usable_slot};
 use crate::psref::Psref;
 use cpu_words::{Domain, Words, steps};
-use passive_core::Refusal;
 use passive_list::{Cpu, Place};
+use registry_values::Refusal;
 
 /// Acquires a passive reference to this CPU's last found entry (psref(9)). It outlives the section, and the entry keeps its slot until
 /// it is released.

@@ -2,13 +2,13 @@
 
 ghost use Rattle.std.specs.Prelude.{◌≡◌, ◌↔◌, ◌<◌, IsTrue, IfSome, position, length, None};
 ghost use Rattle.cpu_words.specs.Views.{references_to};
-ghost use Rattle.passive_core.specs.Passives.{Answers};
+ghost use Rattle.registry_values.specs.Refusals.{Answers};
 ghost use Rattle.passive_ref.specs.Psrefs.{IsHeldAt, MayRefer, counts_for, why_unusable};
 
 use crate::psref::Psref;
 use cpu_words::Domain;
-use passive_core::Refusal;
 use passive_list::{Cpu, Place};
+use registry_values::Refusal;
 
 /// Whether this CPU holds a passive reference to that number, whichever CPU the reference names (psref(9)).
 pub fn held<D: Domain>(cpu: &Cpu<D>, psref: &Psref) -> bool

@@ -1,19 +1,20 @@
 //! Looks at passive words (psref(9)): the keeper sees, by a load each, that a CPU has no reference to a retired entry any more.
 
 ghost use Rattle.std.specs.Prelude.{◌≡◌, ◌<◌, ℕ, slice_index_or, [], true};
-ghost use Rattle.passive_core.specs.declared.entry.Entry.{Entry};
-ghost use Rattle.passive_core.specs.declared.event.Event.TheVariants.{PassiveLook};
-ghost use Rattle.passive_core.specs.declared.event.Reply.TheVariants.{Word};
-ghost use Rattle.passive_core.specs.declared.state.Slot.TheVariants.{Retired};
-ghost use Rattle.passive_core.specs.Slots.{have_passed};
-ghost use Rattle.passive_core.specs.State.{slot_at, mark_at};
+ghost use Rattle.registry_values.specs.declared.entry.Entry.{Entry};
+ghost use Rattle.protocol.specs.declared.event.Event.TheVariants.{PassiveLook};
+ghost use Rattle.protocol.specs.declared.event.Reply.TheVariants.{Word};
+ghost use Rattle.registry_values.specs.declared.slot.Slot.TheVariants.{Retired};
+ghost use Rattle.registry_values.specs.Marks.{have_passed};
+ghost use Rattle.registry_values.specs.Slots.{slot_at};
+ghost use Rattle.protocol.specs.State.{mark_at};
 ghost use Rattle.cpu_words.specs.declared.view.View.TheVariants.{Keeper as OfKeeper};
 ghost use Rattle.cpu_words.specs.Draining.{HasLookedPassive};
 ghost use Rattle.cpu_words.specs.Steps.{Makes};
 
 use cpu_words::{Domain, Words, steps};
-use passive_core::cleared;
 use passive_list::Keeper;
+use registry_values::cleared;
 
 /// Looks at the passive word of a CPU for the retired entry in `slot`. True where the CPU has no passive reference to it left, by an
 /// earlier look or by this one: its word is 0, and no section may acquire one any more. It is counted as a look.

@@ -1,15 +1,15 @@
 //! Reading (psref(9)): the record of an entry that this CPU refers to, by four loads.
 
 ghost use Rattle.std.specs.Prelude.{◌≡◌, ◌<◌};
-ghost use Rattle.passive_core.specs.Passives.{Answers};
+ghost use Rattle.registry_values.specs.Refusals.{Answers};
 ghost use Rattle.cpu_words.specs.Passives.{IsWordOf, IsNamed};
 ghost use Rattle.passive_ref.specs.Psrefs.{IsHeldAt, IsRead, why_unusable};
 
 use crate::holding::usable_slot;
 use crate::psref::Psref;
 use cpu_words::{Domain, Words, steps};
-use passive_core::{Record, Refusal, record_from};
 use passive_list::Cpu;
+use registry_values::{Record, Refusal, record_from};
 
 /// The record of the entry that the reference is to, which stays while the reference is held (psref(9)). It needs no section, and
 /// changes nothing.

@@ -5,8 +5,8 @@ ghost use Rattle.passive_ref.specs.declared.tests.TheConstants.{SETTINGS};
 
 use crate::{Psref, acquire, copy, held, look_passive, read, release};
 use cpu_words::{CpuSeat, Domain, KeeperSeat, Words};
-use passive_core::{Entry, Kind, Name, Record, Refusal, Settings};
 use passive_list::{Cpu, Keeper, SlotState, enter, exit, find, look, publish, retire};
+use registry_values::{Entry, Kind, Name, Record, Refusal, Settings};
 use std::alloc::Global;
 use std::marker::Brand;
 use std::process::Abort;

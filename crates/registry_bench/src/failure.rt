@@ -1,6 +1,6 @@
 //! Why the program ends with another status than 0.
 
-use passive_core::{NameFault, Refusal};
+use registry_values::{NameFault, Refusal};
 use std::alloc::{AllocError, AllocFailed};
 use std::io;
 use thiserror::Error;

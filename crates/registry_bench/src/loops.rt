@@ -5,9 +5,9 @@ ghost use Rattle.std.specs.Prelude.{◌≡◌};
 use crate::plan::Operation;
 use cpu_words::{Domain, Words};
 use local_count::{LocalRef, acquire_local, try_release};
-use passive_core::{Kind, Name};
 use passive_list::{Cpu, enter, exit, find};
 use passive_ref::{acquire, release};
+use registry_values::{Kind, Name};
 use std::sync::Wait;
 
 /// Makes the operation `count` times. Each name is that of an entry whose value is the name's place; references are to the first.

@@ -1,7 +1,7 @@
 //! Runs of many threads, and their times.
 
 ghost use Rattle.std.specs.Prelude.{◌≡◌, IsTrue};
-ghost use Rattle.passive_core.specs.Limits.{are_fit};
+ghost use Rattle.registry_values.specs.Limits.{are_fit};
 ghost use Rattle.cpu_words.specs.Opening.{AreSeats, keeper_with};
 
 use crate::failure::Failure;
@@ -9,8 +9,8 @@ use crate::loops::{leave, make, prepare};
 use crate::opening::{cpus_of, publish_all, settings_for};
 use crate::plan::{Operation, Plan};
 use cpu_words::{CpuSeat, Domain, KeeperSeat, Words};
-use passive_core::{Name, Refusal};
 use passive_list::{Cpu, Keeper};
+use registry_values::{Name, Refusal};
 use std::alloc::Global;
 use std::marker::Brand;
 use std::rt::Clock;

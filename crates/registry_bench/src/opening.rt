@@ -2,17 +2,16 @@
 
 ghost use Rattle.std.specs.Prelude.{◌≡◌, ◌<◌, IsTrue};
 ghost use Rattle.std.specs.List.{list_any};
-ghost use Rattle.passive_core.specs.Attaching.{key_of_record};
-ghost use Rattle.passive_core.specs.Limits.{are_fit};
-ghost use Rattle.passive_core.specs.Slots.{is_taken, is_live_as};
+ghost use Rattle.registry_values.specs.Slots.{key_of_record, is_taken, is_live_as};
+ghost use Rattle.registry_values.specs.Limits.{are_fit};
 ghost use Rattle.cpu_words.specs.Opening.{AreSeats};
 ghost use Rattle.passive_list.specs.Keepers.{states_of};
 
 use crate::failure::Failure;
 use crate::plan::{MOST_ENTRIES, Plan};
 use cpu_words::{CpuSeat, Domain, Words};
-use passive_core::{Kind, Name, Record, Refusal, Settings};
 use passive_list::{Cpu, Keeper, Row, SlotState, publish};
+use registry_values::{Kind, Name, Record, Refusal, Settings};
 use std::alloc::{AllocError, Global};
 
 /// How often a CPU may do a thing: more often than is ever measured.

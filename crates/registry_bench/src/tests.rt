@@ -2,7 +2,7 @@
 
 use crate::failure::Failure;
 use crate::plan::Plan;
-use passive_core::{NameFault, Refusal};
+use registry_values::{NameFault, Refusal};
 use std::alloc::Global;
 use std::test::Fail;
 

@@ -3,37 +3,37 @@ use Rattle.std.proofs.Common.{◌≡◌, ℕ, suc, ◌+◌, ◌-◌, ◌<◌, in
 use Rattle.std.specs.Prelude.{if◌then◌else◌, nat_le, Ok, Err}
 use Rattle.std.specs.List.{list_any, zip}
 use Rattle.std.proofs.lemmas.Slice.Zip.{length-zip, get_or-zip}
-use Rattle.passive_core.specs.declared.entry.Entry.{Entry}
-use Rattle.passive_core.specs.declared.entry.Record.{Record}
-use Rattle.passive_core.specs.declared.entry.Change.{Change}
-use Rattle.passive_core.specs.declared.entry.Change.TheVariants.{Attach}
-use Rattle.passive_core.specs.declared.refusal.Refusal.TheVariants.{NameTaken, HistoryFull, Inside, NeedsDriver}
-use Rattle.passive_core.specs.declared.state.Key.{Key}
-use Rattle.passive_core.specs.declared.state.LocalPlace.{LocalPlace}
-use Rattle.passive_core.specs.declared.state.LocalPlace.TheVariants.{Free, Standing}
-use Rattle.passive_core.specs.declared.state.Slot.{Slot}
-use Rattle.passive_core.specs.declared.state.Slot.TheVariants.{Vacant, Live, Retired}
-use Rattle.passive_core.specs.declared.settings.Settings.{Settings}
-use Rattle.passive_core.specs.Advancing.{least_below}
+use Rattle.registry_values.specs.declared.entry.Entry.{Entry}
+use Rattle.registry_values.specs.declared.entry.Record.{Record}
+use Rattle.registry_values.specs.declared.entry.Change.{Change}
+use Rattle.registry_values.specs.declared.entry.Change.TheVariants.{Attach}
+use Rattle.registry_values.specs.declared.refusal.Refusal.TheVariants.{NameTaken, HistoryFull, Inside, NeedsDriver}
+use Rattle.registry_values.specs.declared.slot.Key.{Key}
+use Rattle.protocol.specs.declared.state.LocalPlace.{LocalPlace}
+use Rattle.protocol.specs.declared.state.LocalPlace.TheVariants.{Free, Standing}
+use Rattle.registry_values.specs.declared.slot.Slot.{Slot}
+use Rattle.registry_values.specs.declared.slot.Slot.TheVariants.{Vacant, Live, Retired}
+use Rattle.registry_values.specs.declared.settings.Settings.{Settings}
+use Rattle.registry_values.specs.Marks.{least_below}
 use Rattle.passive_core.specs.Attaching as core
-use Rattle.passive_core.specs.Attaching.{key_of_record, linked, prepared, with_biases}
+use Rattle.registry_values.specs.Slots.{key_of_record, is_vacant, is_iface, is_live_as, is_taken, live_count, slot_of, slot_at}
+use Rattle.passive_core.specs.Attaching.{linked}
 use Rattle.passive_core.specs.Commands.{all_seated}
 use Rattle.passive_core.specs.Detaching.{IsLookupNow}
-use Rattle.passive_core.specs.Events as events
-use Rattle.passive_core.specs.History.{after_change}
-use Rattle.passive_core.specs.Invariant.{Holds, IsIn, Occupies, SlotsShow, standing_of}
-use Rattle.passive_core.specs.Model.{put}
-use Rattle.passive_core.specs.Picture.{number_in, passive_in}
-use Rattle.passive_core.specs.Slots.{is_vacant, is_iface, is_live_as, is_taken, live_count, slot_of}
-use Rattle.passive_core.specs.State.{State, local_at, slot_at, kept_at, passive_at}
-use Rattle.passive_core.proofs.Detaching.{live_tells}
-use Rattle.passive_core.proofs.Fit.{ranges}
-use Rattle.passive_core.proofs.ListKeeps.{taken_from}
-use Rattle.passive_core.proofs.Occupied.{attached_in, slot_found, slot_has, in_other, in_published, not_vacant}
-use Rattle.passive_core.proofs.Picturing.{put_is}
-use Rattle.passive_core.proofs.Sums.{local_changed, none_at, one_at, standing_within}
-use Rattle.passive_core.proofs.RefiningEntries.{passive_moved}
-use Rattle.passive_core.proofs.Performing.{least_agrees}
+use Rattle.protocol.specs.Events as events
+use Rattle.protocol.specs.History.{after_change}
+use Rattle.protocol.specs.Invariant.{Holds, IsIn, Occupies, SlotsShow, standing_of}
+use Rattle.protocol.specs.Model.{put}
+use Rattle.protocol.specs.Picture.{number_in, passive_in}
+use Rattle.protocol.specs.State.{State, local_at, kept_at, passive_at}
+use Rattle.registry_values.proofs.Slots.{live_tells}
+use Rattle.registry_values.proofs.Fit.{ranges}
+use Rattle.protocol.proofs.ListKeeps.{taken_from}
+use Rattle.protocol.proofs.Occupied.{attached_in, slot_found, slot_has, in_other, in_published, not_vacant}
+use Rattle.protocol.proofs.Picturing.{put_is}
+use Rattle.protocol.proofs.Sums.{local_changed, none_at, one_at, standing_within}
+use Rattle.protocol.proofs.RefiningEntries.{passive_moved}
+use Rattle.registry_values.proofs.Least.{least_agrees}
 use Rattle.registry_script.specs.Changes.{lookup, live_entries, is_driver_entry, is_driver_number}
 use Rattle.registry_script.specs.Answers.{attach_iface_answer, is_plain, lookup_now, plain_slot, has_room, entry_in, given_entry, attach_answer}
 use Rattle.registry_script.specs.Registry.{Registry}

@@ -3,17 +3,19 @@ use Rattle.std.proofs.Common.{◌≡◌, ℕ, zero, suc, ◌<◌, ◌≤◌, inl
 use Rattle.std.specs.Prelude.{if◌then◌else◌}
 use Rattle.std.proofs.lemmas.Int.{ints}
 use Rattle.std.proofs.lemmas.List.{map_more}
-use Rattle.passive_core.specs.declared.entry.Entry.{Entry}
-use Rattle.passive_core.specs.declared.state.Slot.{Slot}
-use Rattle.passive_core.specs.declared.state.Slot.TheVariants.{Vacant, Live, Retired}
+use Rattle.registry_values.specs.declared.entry.Entry.{Entry}
+use Rattle.registry_values.specs.declared.slot.Slot.{Slot}
+use Rattle.registry_values.specs.declared.slot.Slot.TheVariants.{Vacant, Live, Retired}
 use Rattle.passive_core.specs.Audits as core
-use Rattle.passive_core.specs.Audits.{Tally, audit_of, less_bias, local_of}
-use Rattle.passive_core.specs.Invariant.{IsIn, adding_at, is_adding_at}
-use Rattle.passive_core.specs.Picture.{number_in}
-use Rattle.passive_core.specs.State.{count_at, slot_at, total_at}
+use Rattle.registry_values.specs.Balances.{Tally, less_bias, local_of}
+use Rattle.passive_core.specs.Audits.{audit_of}
+use Rattle.protocol.specs.Invariant.{IsIn, adding_at, is_adding_at}
+use Rattle.protocol.specs.Picture.{number_in}
+use Rattle.protocol.specs.State.{count_at, total_at}
+use Rattle.registry_values.specs.Slots.{slot_at}
 use Rattle.passive_core.proofs.Audits.{rightly, row_long}
-use Rattle.passive_core.proofs.Occupied.{at_rest_tells}
-use Rattle.passive_core.proofs.Sums.{words-at-zero}
+use Rattle.protocol.proofs.Occupied.{at_rest_tells}
+use Rattle.protocol.proofs.Sums.{words-at-zero}
 use Rattle.registry_script.specs.Answers.{audit_answer, held, list_below, net_count, tallies_below, tallies_in, tally_of}
 use Rattle.registry_script.specs.Registry.{Registry}
 use Rattle.registry_script.specs.Session.{IsSession, SessionState}

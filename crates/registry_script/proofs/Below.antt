@@ -4,12 +4,11 @@ use Rattle.std.proofs.lemmas.Option.{none-some, same_Some}
 use Rattle.std.proofs.Common.{◌∙◌, ◌≡◌, ℕ, zero, suc, ◌+◌, ◌<◌, List, [], ◌∷◌, length, get_or, Option, Some, None, Bool, true, false, refl, sym, arith, position, sum_by}
 use Rattle.std.proofs.lemmas.List.Quantifiers.{position-Some}
 use Rattle.std.proofs.lemmas.List.Sums.{sum_by-cons}
-use Rattle.passive_core.specs.Advancing.{least_below, or_next}
-use Rattle.passive_core.specs.Invariant.{kept_of, one_if}
-use Rattle.passive_core.specs.State.{kept_at}
-use Rattle.passive_core.proofs.Advancing.{least_is, none_below}
-use Rattle.passive_core.proofs.Numbers.{position_fails}
-use Rattle.passive_core.proofs.Performing.{least_none}
+use Rattle.registry_values.specs.Marks.{least_below, or_next}
+use Rattle.protocol.specs.Invariant.{kept_of, one_if}
+use Rattle.protocol.specs.State.{kept_at}
+use Rattle.registry_values.proofs.Least.{least_is, none_below, least_none}
+use Rattle.protocol.proofs.Numbers.{position_fails}
 use Rattle.registry_script.specs.Answers.{count_below, is_this}
 use Rattle.registry_script.proofs.Sound.{least_some}
 

@@ -3,34 +3,35 @@ use Rattle.std.proofs.Common.{◌≡◌, ℕ, suc, ◌<◌, inl, inr, ⊎_elim, 
 use Rattle.std.specs.Prelude.{IsTrue, if◌then◌else◌, Result, Ok, Err}
 use Rattle.std.proofs.lemmas.Bool.{cases_eq}
 use Rattle.std.proofs.lemmas.List.{set-set}
-use Rattle.passive_core.specs.declared.entry.Entry.{Entry}
-use Rattle.passive_core.specs.declared.entry.Record.{Record}
-use Rattle.passive_core.specs.declared.entry.Change.{Change}
-use Rattle.passive_core.specs.declared.entry.Change.TheVariants.{Detach}
-use Rattle.passive_core.specs.declared.refusal.Refusal.{Refusal}
-use Rattle.passive_core.specs.declared.refusal.Refusal.TheVariants.{NoMemory, NotFound, Inside, NeedsDriver}
-use Rattle.passive_core.specs.declared.state.Key.{Key}
-use Rattle.passive_core.specs.declared.state.LocalPlace.TheVariants.{Standing}
-use Rattle.passive_core.specs.declared.state.Mark.{Mark}
-use Rattle.passive_core.specs.declared.state.Slot.TheVariants.{Vacant, Live, Retired}
+use Rattle.registry_values.specs.declared.entry.Entry.{Entry}
+use Rattle.registry_values.specs.declared.entry.Record.{Record}
+use Rattle.registry_values.specs.declared.entry.Change.{Change}
+use Rattle.registry_values.specs.declared.entry.Change.TheVariants.{Detach}
+use Rattle.registry_values.specs.declared.refusal.Refusal.{Refusal}
+use Rattle.registry_values.specs.declared.refusal.Refusal.TheVariants.{NoMemory, NotFound, Inside, NeedsDriver}
+use Rattle.registry_values.specs.declared.slot.Key.{Key}
+use Rattle.protocol.specs.declared.state.LocalPlace.TheVariants.{Standing}
+use Rattle.registry_values.specs.declared.mark.Mark.{Mark}
+use Rattle.registry_values.specs.declared.slot.Slot.TheVariants.{Vacant, Live, Retired}
 use Rattle.passive_core.specs.Attaching as core
 use Rattle.passive_core.specs.Attaching.{IsAnswer, after_attach, after_attach_iface}
 use Rattle.passive_core.specs.Commands.{all_seated}
 use Rattle.passive_core.specs.Detaching.{IsDetachAnswer, IsDetachRefusal, IsLookupNow, after_detach, snapped, snapshot_row}
-use Rattle.passive_core.specs.Events as events
-use Rattle.passive_core.specs.Events.{after_seeing, retiring, unlinking}
-use Rattle.passive_core.specs.History.{EndsAt, after_change}
-use Rattle.passive_core.specs.Invariant.{Holds, IsIn, SlotsShow}
-use Rattle.passive_core.specs.Model.{put}
-use Rattle.passive_core.specs.Names.{is_lawful}
-use Rattle.passive_core.specs.Picture.{number_in, passive_in}
-use Rattle.passive_core.specs.Slots.{is_iface, slot_before, slot_of}
-use Rattle.passive_core.specs.State.{State, no_mark, local_at, slot_at}
+use Rattle.protocol.specs.Events as events
+use Rattle.protocol.specs.Events.{after_seeing, retiring, unlinking}
+use Rattle.protocol.specs.History.{EndsAt, after_change}
+use Rattle.protocol.specs.Invariant.{Holds, IsIn, SlotsShow}
+use Rattle.protocol.specs.Model.{put}
+use Rattle.registry_values.specs.Names.{is_lawful}
+use Rattle.protocol.specs.Picture.{number_in, passive_in}
+use Rattle.registry_values.specs.Slots.{is_iface, slot_before, slot_of, slot_at}
+use Rattle.protocol.specs.State.{State, local_at}
+use Rattle.registry_values.specs.Marks.{no_mark}
 use Rattle.passive_core.proofs.Attaching.{given_tells, plain_tells, seated_keeps, iface_links}
-use Rattle.passive_core.proofs.History.{at_within}
-use Rattle.passive_core.proofs.Occupied.{is_vacant_tells, in_other, in_unpublished, in_within, in_written, live_one}
-use Rattle.passive_core.proofs.Picturing.{unwritten}
-use Rattle.passive_core.proofs.RefiningEntries.{passive_moved}
+use Rattle.protocol.proofs.History.{at_within}
+use Rattle.protocol.proofs.Occupied.{is_vacant_tells, in_other, in_unpublished, in_within, in_written, live_one}
+use Rattle.protocol.proofs.Picturing.{unwritten}
+use Rattle.protocol.proofs.RefiningEntries.{passive_moved}
 use Rattle.registry_script.specs.Answers.{attach_answer, attach_iface_answer, detach_answer, found_or, hitched, lookup_now, plug_answer, with_label}
 use Rattle.registry_script.specs.declared.report.hitch.Hitch.{Hitch}
 use Rattle.registry_script.specs.declared.report.hitch.Hitch.TheVariants.{Refused}

@@ -3,29 +3,30 @@ use Rattle.std.proofs.Common.{◌≡◌, ℕ, ◌+◌, ◌-◌, ◌<◌, ◌≤�
 use Rattle.std.specs.Prelude.{if◌then◌else◌, Result, Ok, Err}
 use Rattle.std.proofs.lemmas.Bool.{cases_Bool, cases_eq, cases_lt, lt-ltb, le-ltb}
 use Rattle.std.proofs.lemmas.Option.{none-some}
-use Rattle.passive_core.specs.declared.entry.Entry.{Entry}
-use Rattle.passive_core.specs.declared.refusal.Refusal.{Refusal}
-use Rattle.passive_core.specs.declared.refusal.Refusal.TheVariants.{LocalFull, NoMemory, NothingFound}
-use Rattle.passive_core.specs.declared.state.LocalPlace.{LocalPlace}
-use Rattle.passive_core.specs.declared.state.LocalPlace.TheVariants.{Free, Standing}
-use Rattle.passive_core.specs.State.{State, bias, count_at, found_at, local_at, slot_at, total_at, with_cell}
-use Rattle.passive_core.specs.Slots.{slot_of}
+use Rattle.registry_values.specs.declared.entry.Entry.{Entry}
+use Rattle.registry_values.specs.declared.refusal.Refusal.{Refusal}
+use Rattle.registry_values.specs.declared.refusal.Refusal.TheVariants.{LocalFull, NoMemory, NothingFound}
+use Rattle.protocol.specs.declared.state.LocalPlace.{LocalPlace}
+use Rattle.protocol.specs.declared.state.LocalPlace.TheVariants.{Free, Standing}
+use Rattle.protocol.specs.State.{State, count_at, found_at, local_at, total_at, with_cell}
+use Rattle.registry_values.specs.Balances.{bias}
+use Rattle.registry_values.specs.Slots.{slot_at, slot_of}
 use Rattle.passive_core.specs.Commands.{all_seated}
-use Rattle.passive_core.specs.Events.{least_id, standing, with_local}
-use Rattle.passive_core.specs.Invariant.{Holds, IsIn, SlotsShow, standing_of}
+use Rattle.protocol.specs.Events.{least_id, standing, with_local}
+use Rattle.protocol.specs.Invariant.{Holds, IsIn, SlotsShow, standing_of}
 use Rattle.passive_core.specs.Locals.{IsCounted, after_acquire_local, after_counting, after_release_local, count_in, count_refusal, is_counting, local_slot, with_count_less, with_count_more, with_total_less}
-use Rattle.passive_core.specs.Model.{put, with_locals}
-use Rattle.passive_core.proofs.Cells.{by_cell, cell_here, cell_other, one_in}
-use Rattle.passive_core.proofs.CountKeeps.{held_counting}
-use Rattle.passive_core.proofs.Fit.{ranges}
-use Rattle.passive_core.proofs.History.{at_within}
+use Rattle.protocol.specs.Model.{put, with_locals}
+use Rattle.protocol.proofs.Cells.{by_cell, cell_here, cell_other, one_in}
+use Rattle.protocol.proofs.CountKeeps.{held_counting}
+use Rattle.registry_values.proofs.Fit.{ranges}
+use Rattle.protocol.proofs.History.{at_within}
 use Rattle.passive_core.proofs.Locals.{live_slot, slot_is}
-use Rattle.passive_core.proofs.Numbers.{entry_attached}
-use Rattle.passive_core.proofs.Occupied.{one_number, slot_has}
+use Rattle.protocol.proofs.Numbers.{entry_attached}
+use Rattle.protocol.proofs.Occupied.{one_number, slot_has}
 use Rattle.passive_core.proofs.Passives.{found_slot}
-use Rattle.passive_core.proofs.Picturing.{put_here, put_is, put_other}
-use Rattle.passive_core.proofs.References.{least_free, least_within, standing_tells, with_local_other, with_local_same}
-use Rattle.passive_core.proofs.Sums.{local_added, local_changed, none_at, one_at, standing_within}
+use Rattle.protocol.proofs.Picturing.{put_here, put_is, put_other}
+use Rattle.protocol.proofs.References.{least_free, least_within, standing_tells, with_local_other, with_local_same}
+use Rattle.protocol.proofs.Sums.{local_added, local_changed, none_at, one_at, standing_within}
 use Rattle.registry_script.specs.Answers.{counted, may_count, uncount_answer, unless, with_label}
 use Rattle.registry_script.specs.Registry.{Registry}
 use Rattle.registry_script.specs.Session.{IsSession, SessionState}

@@ -1,12 +1,12 @@
 -- What a call of a session gave and left, from what the core's call did: `v` is the session as its callers see it, `k` the core afterwards.
 use Rattle.std.proofs.Common.{◌≡◌, ℕ, ◌<◌, Option, Bool, true, refl, sym, ap, subst, ◌∙◌}
 use Rattle.std.specs.Prelude.{IfOk, Result, Ok, Err}
-use Rattle.passive_core.specs.declared.entry.Entry.{Entry}
-use Rattle.passive_core.specs.declared.entry.Record.{Record}
-use Rattle.passive_core.specs.declared.refusal.Refusal.{Refusal}
-use Rattle.passive_core.specs.declared.stage.Stage.{Stage}
-use Rattle.passive_core.specs.declared.state.Key.{Key}
-use Rattle.passive_core.specs.declared.state.Slot.TheVariants.{Live}
+use Rattle.registry_values.specs.declared.entry.Entry.{Entry}
+use Rattle.registry_values.specs.declared.entry.Record.{Record}
+use Rattle.registry_values.specs.declared.refusal.Refusal.{Refusal}
+use Rattle.registry_values.specs.declared.stage.Stage.{Stage}
+use Rattle.registry_values.specs.declared.slot.Key.{Key}
+use Rattle.registry_values.specs.declared.slot.Slot.TheVariants.{Live}
 use Rattle.passive_core.specs.Advancing as advancing
 use Rattle.passive_core.specs.Advancing.{AdvanceLeaves, DestroyLeaves}
 use Rattle.passive_core.specs.Attaching as attaching
@@ -15,12 +15,13 @@ use Rattle.passive_core.specs.Detaching.{IsDetachAnswer, IsLookupNow, after_deta
 use Rattle.passive_core.specs.Commands.{all_seated}
 use Rattle.passive_core.specs.Entering as entering
 use Rattle.passive_core.specs.Entering.{after_enter_command, after_exit_command}
-use Rattle.passive_core.specs.Events as events
+use Rattle.protocol.specs.Events as events
 use Rattle.passive_core.specs.Finding.{after_find}
-use Rattle.passive_core.specs.Invariant.{Holds}
+use Rattle.protocol.specs.Invariant.{Holds}
 use Rattle.passive_core.specs.Performing as performing
 use Rattle.passive_core.specs.Performing.{PerformLeaves}
-use Rattle.passive_core.specs.State.{State, slot_at}
+use Rattle.protocol.specs.State.{State}
+use Rattle.registry_values.specs.Slots.{slot_at}
 use Rattle.registry_script.specs.declared.report.hitch.Hitch.{Hitch}
 use Rattle.registry_script.specs.Answers.{advance_answer, attach_answer, destroy_answer, detach_answer, enter_answer, exit_answer, find_answer, hitched, perform_answer}
 use Rattle.registry_script.specs.Given.{Gives, Leaves}

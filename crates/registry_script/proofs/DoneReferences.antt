@@ -2,23 +2,24 @@
 use Rattle.std.proofs.Common.{◌≡◌, ℕ, ◌<◌, ⊎_elim, get_or, set, Option, Some, None, Bool, true, false, nat_lt, refl, sym, ap, subst, ◌∙◌, arith}
 use Rattle.std.proofs.lemmas.Option.{same_Some}
 use Rattle.std.specs.Prelude.{[], is_ok, IsErr, IsErrAnd, IsTrue, Result, Ok, Err}
-use Rattle.passive_core.specs.declared.entry.Entry.{Entry}
-use Rattle.passive_core.specs.declared.entry.Record.{Record}
+use Rattle.registry_values.specs.declared.entry.Entry.{Entry}
+use Rattle.registry_values.specs.declared.entry.Record.{Record}
 use Rattle.passive_core.specs.declared.psref.CorePsref.{CorePsref}
-use Rattle.passive_core.specs.declared.refusal.Refusal.{Refusal}
-use Rattle.passive_core.specs.declared.refusal.Refusal.TheVariants.{NoMemory}
-use Rattle.passive_core.specs.declared.state.LocalPlace.TheVariants.{Standing}
+use Rattle.registry_values.specs.declared.refusal.Refusal.{Refusal}
+use Rattle.registry_values.specs.declared.refusal.Refusal.TheVariants.{NoMemory}
+use Rattle.protocol.specs.declared.state.LocalPlace.TheVariants.{Standing}
 use Rattle.passive_core.specs.Attaching as attaching
 use Rattle.passive_core.specs.Attaching.{IsAnswer, after_attach_iface}
 use Rattle.passive_core.specs.Commands.{all_seated}
-use Rattle.passive_core.specs.Events.{least_id, standing, with_local}
-use Rattle.passive_core.specs.Invariant.{Holds}
+use Rattle.protocol.specs.Events.{least_id, standing, with_local}
+use Rattle.protocol.specs.Invariant.{Holds}
 use Rattle.passive_core.specs.Locals.{IsCounted, after_acquire_local, after_counting, with_count_more, after_release_local, count_refusal}
-use Rattle.passive_core.specs.Names.{is_lawful}
+use Rattle.registry_values.specs.Names.{is_lawful}
 use Rattle.passive_core.specs.Passives as core
-use Rattle.passive_core.specs.Passives.{Answers, IsRecordOf, acquired, copied, passive_of, refusal_of}
-use Rattle.passive_core.specs.Slots.{is_iface}
-use Rattle.passive_core.specs.State.{State, found_at, local_at}
+use Rattle.registry_values.specs.Refusals.{Answers}
+use Rattle.passive_core.specs.Passives.{IsRecordOf, acquired, copied, passive_of, refusal_of}
+use Rattle.registry_values.specs.Slots.{is_iface}
+use Rattle.protocol.specs.State.{State, found_at, local_at}
 use Rattle.passive_core.proofs.Passives.{found_slot}
 use Rattle.registry_script.specs.declared.report.hitch.Hitch.{Hitch}
 use Rattle.registry_script.specs.declared.report.hitch.Hitch.TheVariants.{NoLabel, Refused}

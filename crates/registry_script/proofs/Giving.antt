@@ -1,7 +1,7 @@
 -- An answer that is the one due is given, and what shows the registry is left.
 use Rattle.std.proofs.Common.{◌≡◌}
 use Rattle.std.specs.Prelude.{Result, Err}
-use Rattle.passive_core.specs.declared.refusal.Refusal.TheVariants.{NoMemory}
+use Rattle.registry_values.specs.declared.refusal.Refusal.TheVariants.{NoMemory}
 use Rattle.registry_script.specs.declared.report.hitch.Hitch.{Hitch}
 use Rattle.registry_script.specs.declared.report.hitch.Hitch.TheVariants.{Refused}
 use Rattle.registry_script.specs.Given.{Gives, Leaves}

@@ -1,16 +1,17 @@
 -- The core refuses each command only as the command may be refused.
 use Rattle.std.proofs.Common.{◌≡◌, ℕ, Option, None, Some, Bool, true, false, inl, inr, refl, ap, ◌∙◌}
 use Rattle.std.specs.Prelude.{IfErr, Result, Ok, Err, if◌then◌else◌}
-use Rattle.passive_core.specs.declared.entry.Entry.{Entry}
-use Rattle.passive_core.specs.declared.entry.Record.{Record}
-use Rattle.passive_core.specs.declared.refusal.Refusal.{Refusal}
-use Rattle.passive_core.specs.declared.stage.Stage.{Stage}
-use Rattle.passive_core.specs.declared.stage.Stage.TheVariants.{Grace, Passive, Local, Freed}
-use Rattle.passive_core.specs.Advancing.{destroy_answer, destroyed, destroyed_if, stage_in}
+use Rattle.registry_values.specs.declared.entry.Entry.{Entry}
+use Rattle.registry_values.specs.declared.entry.Record.{Record}
+use Rattle.registry_values.specs.declared.refusal.Refusal.{Refusal}
+use Rattle.registry_values.specs.declared.stage.Stage.{Stage}
+use Rattle.registry_values.specs.declared.stage.Stage.TheVariants.{Grace, Passive, Local, Freed}
+use Rattle.passive_core.specs.Advancing.{destroy_answer, stage_in}
+use Rattle.registry_values.specs.Stages.{destroyed, destroyed_if}
 use Rattle.passive_core.specs.Attaching.{IsAnswer, attach_answer, attach_iface_answer, entry_in, given_entry}
 use Rattle.passive_core.specs.Entering.{enter_answer}
 use Rattle.passive_core.specs.Performing.{perform_answer, waiting_for}
-use Rattle.passive_core.specs.State.{State}
+use Rattle.protocol.specs.State.{State}
 use Rattle.registry_script.specs.declared.report.hitch.Hitch.{Hitch}
 use Rattle.registry_script.specs.declared.report.hitch.Hitch.TheVariants.{Refused}
 use Rattle.registry_script.specs.declared.script.command.Command.{Command}

@@ -6,11 +6,11 @@ use Rattle.std.specs.Prelude.{IfErr, IfOk, IfSome, Result, Ok, Err, is_some}
 use mathlib.Core.Option.{some}
 use lib.ListN.{get_elem?}
 use Rattle.atomic_table.proofs.Lists.{at_index, at_set}
-use Rattle.passive_core.specs.declared.entry.Entry.{Entry}
-use Rattle.passive_core.specs.declared.entry.Kind.{Kind}
-use Rattle.passive_core.specs.declared.entry.Record.{Record}
-use Rattle.passive_core.specs.declared.name.Name.{Name}
-use Rattle.passive_core.specs.declared.refusal.Refusal.{Refusal}
+use Rattle.registry_values.specs.declared.entry.Entry.{Entry}
+use Rattle.registry_values.specs.declared.entry.Kind.{Kind}
+use Rattle.registry_values.specs.declared.entry.Record.{Record}
+use Rattle.registry_values.specs.declared.name.Name.{Name}
+use Rattle.registry_values.specs.declared.refusal.Refusal.{Refusal}
 use Rattle.cpu_words.specs.declared.view.CpuView.{CpuView}
 use Rattle.cpu_words.specs.declared.view.ReferenceView.{ReferenceView}
 use Rattle.local_count.specs.References.{HasReleased}

@@ -4,16 +4,16 @@ use Rattle.std.specs.Prelude.{slice_get, position, if◌then◌else◌, ◌==◌
 use Rattle.std.proofs.lemmas.Bool.{cases_eq, eq-eqb}
 use Rattle.std.proofs.lemmas.Option.{same_Some, none-some, get_or_from_slice_get, slice_get-get_or}
 use Rattle.std.proofs.lemmas.List.Quantifiers.{position-Some}
-use Rattle.passive_core.specs.declared.entry.Entry.{Entry}
-use Rattle.passive_core.specs.declared.entry.Change.{Change}
-use Rattle.passive_core.specs.declared.entry.Change.TheVariants.{Attach, Detach}
-use Rattle.passive_core.specs.declared.state.Key.{Key}
-use Rattle.passive_core.specs.History.{key_of, change_at, IsAttached, EndsAt, IsLiveAt, IsLegal, IsLookup}
-use Rattle.passive_core.specs.Events.{is_number}
-use Rattle.passive_core.specs.Slots.{same_key}
-use Rattle.passive_core.proofs.History.{ends_after, one_end, one_live, at_within}
-use Rattle.passive_core.proofs.Detaching.{key_from, key_same}
-use Rattle.passive_core.proofs.Numbers.{position_fails}
+use Rattle.registry_values.specs.declared.entry.Entry.{Entry}
+use Rattle.registry_values.specs.declared.entry.Change.{Change}
+use Rattle.registry_values.specs.declared.entry.Change.TheVariants.{Attach, Detach}
+use Rattle.registry_values.specs.declared.slot.Key.{Key}
+use Rattle.registry_values.specs.Slots.{key_of, same_key}
+use Rattle.protocol.specs.History.{change_at, IsAttached, EndsAt, IsLiveAt, IsLegal, IsLookup}
+use Rattle.protocol.specs.Events.{is_number}
+use Rattle.protocol.proofs.History.{ends_after, one_end, one_live, at_within}
+use Rattle.registry_values.proofs.Slots.{key_from, key_same}
+use Rattle.protocol.proofs.Numbers.{position_fails}
 use Rattle.registry_script.specs.Changes.{answer_after, lookup, is_end_of, end_of, counted_on, entry_of, attached_by}
 
 -- One change more

@@ -1,16 +1,16 @@
 -- A session that begins shows the registry that a script begins with.
 use Rattle.std.proofs.Common.{◌≡◌, ℕ, [], replicate, Option, Some, None, is_some, refl, sym, ap, subst, ◌∙◌, arith}
 use Rattle.std.proofs.lemmas.Option.{none-some}
-use Rattle.passive_core.specs.declared.entry.Entry.{Entry}
-use Rattle.passive_core.specs.declared.settings.Settings.{Settings}
-use Rattle.passive_core.specs.declared.state.Slot.TheVariants.{Vacant}
-use Rattle.passive_core.specs.Invariant.{IsIn, one_if}
-use Rattle.passive_core.specs.Picture.{number_in, passive_in}
-use Rattle.passive_core.specs.Slots.{slot_of}
-use Rattle.passive_core.specs.State.{opening, slot_at}
-use Rattle.passive_core.proofs.Cells.{get_or_all}
-use Rattle.passive_core.proofs.MarkKeeps.{none_live}
-use Rattle.passive_core.proofs.Occupied.{not_vacant, slot_has}
+use Rattle.registry_values.specs.declared.entry.Entry.{Entry}
+use Rattle.registry_values.specs.declared.settings.Settings.{Settings}
+use Rattle.registry_values.specs.declared.slot.Slot.TheVariants.{Vacant}
+use Rattle.protocol.specs.Invariant.{IsIn, one_if}
+use Rattle.protocol.specs.Picture.{number_in, passive_in}
+use Rattle.registry_values.specs.Slots.{slot_of, slot_at}
+use Rattle.protocol.specs.State.{opening}
+use Rattle.protocol.proofs.Cells.{get_or_all}
+use Rattle.protocol.proofs.MarkKeeps.{none_live}
+use Rattle.protocol.proofs.Occupied.{not_vacant, slot_has}
 use Rattle.registry_script.specs.Registry.{opened}
 use Rattle.registry_script.specs.Session.{SessionState, unlabelled}
 use Rattle.registry_script.specs.Shows.{Shows, number_at}

@@ -4,7 +4,7 @@ use Rattle.std.proofs.Math.ListN.{drop_of_length-le}
 use Rattle.std.proofs.lemmas.List.{get_or-map, length-map}
 use Rattle.std.proofs.lemmas.List.Folds.{list_all-append}
 use Rattle.std.specs.List.{list_all}
-use Rattle.passive_core.specs.declared.settings.Settings.{Settings}
+use Rattle.registry_values.specs.declared.settings.Settings.{Settings}
 use Rattle.registry_script.specs.declared.script.command.Command.{Command}
 use Rattle.registry_script.specs.declared.script.command.Command.TheVariants.{Domain, Limits}
 use Rattle.registry_script.specs.declared.script.place.Place.{Place}

@@ -3,20 +3,22 @@ use Rattle.std.proofs.Common.{◌≡◌, ℕ, suc, ◌+◌, ◌<◌, ◌≤◌, 
 use Rattle.std.specs.Prelude.{not}
 use Rattle.std.proofs.lemmas.List.{get_or-replicate, get_or_append_left, length-replicate}
 use Rattle.std.proofs.lemmas.List.Sums.{sum_by-append}
-use Rattle.passive_core.specs.declared.entry.Entry.{Entry}
-use Rattle.passive_core.specs.declared.entry.Change.{Change}
-use Rattle.passive_core.specs.declared.entry.Change.TheVariants.{Attach, Detach}
-use Rattle.passive_core.specs.declared.state.Mark.{Mark}
-use Rattle.passive_core.specs.declared.state.Slot.{Slot}
-use Rattle.passive_core.specs.declared.state.Slot.TheVariants.{Vacant, Live, Retired}
-use Rattle.passive_core.specs.Attaching.{with_biases}
-use Rattle.passive_core.specs.History.{EndsAt, after_change, change_at}
-use Rattle.passive_core.specs.Invariant.{IsIn}
-use Rattle.passive_core.specs.State.{bias, no_mark, slot_at, count_at, total_at}
-use Rattle.passive_core.proofs.Cells.{cell_in_new, cell_in_old}
-use Rattle.passive_core.proofs.History.{at_cases, length-after_change}
-use Rattle.passive_core.proofs.ListKeeps.{live_count_put}
-use Rattle.passive_core.proofs.Occupied.{in_published, in_unpublished, not_vacant, slot_cases}
+use Rattle.registry_values.specs.declared.entry.Entry.{Entry}
+use Rattle.registry_values.specs.declared.entry.Change.{Change}
+use Rattle.registry_values.specs.declared.entry.Change.TheVariants.{Attach, Detach}
+use Rattle.registry_values.specs.declared.mark.Mark.{Mark}
+use Rattle.registry_values.specs.declared.slot.Slot.{Slot}
+use Rattle.registry_values.specs.declared.slot.Slot.TheVariants.{Vacant, Live, Retired}
+use Rattle.protocol.specs.State.{with_biases, count_at, total_at}
+use Rattle.protocol.specs.History.{EndsAt, after_change, change_at}
+use Rattle.protocol.specs.Invariant.{IsIn}
+use Rattle.registry_values.specs.Balances.{bias}
+use Rattle.registry_values.specs.Marks.{no_mark}
+use Rattle.registry_values.specs.Slots.{slot_at}
+use Rattle.protocol.proofs.Cells.{cell_in_new, cell_in_old}
+use Rattle.protocol.proofs.History.{at_cases, length-after_change}
+use Rattle.protocol.proofs.ListKeeps.{live_count_put}
+use Rattle.protocol.proofs.Occupied.{in_published, in_unpublished, not_vacant, slot_cases}
 use Rattle.registry_script.specs.Changes.{is_attach}
 use Rattle.registry_script.specs.Shows.{CountsLive, IsFresh, ShowsTallies, SnapshotsFollow}
 

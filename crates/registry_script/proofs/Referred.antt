@@ -3,22 +3,23 @@ use Rattle.std.proofs.Common.{◌≡◌, ℕ, ◌+◌, ◌-◌, ◌<◌, List, l
 use Rattle.std.specs.Prelude.{if◌then◌else◌, ◌==◌, Result, Ok, Err}
 use Rattle.std.proofs.lemmas.Bool.{eq-eqb, or_left, or_right}
 use Rattle.std.proofs.lemmas.Option.{none-some}
-use Rattle.passive_core.specs.declared.entry.Entry.{Entry}
-use Rattle.passive_core.specs.declared.entry.Change.{Change}
-use Rattle.passive_core.specs.declared.entry.Record.{Record}
+use Rattle.registry_values.specs.declared.entry.Entry.{Entry}
+use Rattle.registry_values.specs.declared.entry.Change.{Change}
+use Rattle.registry_values.specs.declared.entry.Record.{Record}
 use Rattle.passive_core.specs.declared.psref.CorePsref.{CorePsref}
-use Rattle.passive_core.specs.declared.refusal.Refusal.{Refusal}
-use Rattle.passive_core.specs.declared.refusal.Refusal.TheVariants.{NothingFound, PassiveFull, WrongCpu, NotHeld}
-use Rattle.passive_core.specs.declared.state.LocalPlace.{LocalPlace}
-use Rattle.passive_core.specs.State.{State, found_at, local_at}
-use Rattle.passive_core.specs.Slots.{slot_of}
+use Rattle.registry_values.specs.declared.refusal.Refusal.{Refusal}
+use Rattle.registry_values.specs.declared.refusal.Refusal.TheVariants.{NothingFound, PassiveFull, WrongCpu, NotHeld}
+use Rattle.protocol.specs.declared.state.LocalPlace.{LocalPlace}
+use Rattle.protocol.specs.State.{State, found_at, local_at}
+use Rattle.registry_values.specs.Slots.{slot_of}
 use Rattle.passive_core.specs.Commands.{IsQuiet, all_seated}
-use Rattle.passive_core.specs.Events.{is_number, standing}
-use Rattle.passive_core.specs.Invariant.{Holds}
-use Rattle.passive_core.specs.Model.{put, with_passive}
-use Rattle.passive_core.specs.Picture.{passive_in}
+use Rattle.protocol.specs.Events.{is_number, standing}
+use Rattle.protocol.specs.Invariant.{Holds}
+use Rattle.protocol.specs.Model.{put, with_passive}
+use Rattle.protocol.specs.Picture.{passive_in}
 use Rattle.passive_core.specs.Passives as core
-use Rattle.passive_core.specs.Passives.{Answers, IsRecordOf, acquired, copied, passive_of, refusal_of, with_one_less, with_one_more}
+use Rattle.registry_values.specs.Refusals.{Answers}
+use Rattle.passive_core.specs.Passives.{IsRecordOf, acquired, copied, passive_of, refusal_of, with_one_less, with_one_more}
 use Rattle.passive_core.proofs.Passives.{counted_less, counted_more}
 use Rattle.registry_script.specs.declared.report.hitch.Hitch.{Hitch}
 use Rattle.registry_script.specs.declared.report.hitch.Hitch.TheVariants.{LabelTaken}

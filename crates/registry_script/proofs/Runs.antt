@@ -2,7 +2,7 @@
 use Rattle.std.proofs.Common.{ℕ, ◌+◌, ◌<◌, ◌≤◌, List, [], ◌∷◌, ◌++◌, length, take, drop, get_or, Option, None, true, Ok, refl, sym, ap, ◌∙◌, append_assoc, append-nil, take-append-drop}
 use Rattle.std.proofs.lemmas.List.{take_all, take_more}
 use Rattle.std.specs.Io.KnownBytes.{Appends}
-use Rattle.passive_core.specs.declared.stage.Stage.TheVariants.{Freed}
+use Rattle.registry_values.specs.declared.stage.Stage.TheVariants.{Freed}
 use Rattle.registry_script.specs.declared.script.command.Command.{Command}
 use Rattle.registry_script.specs.declared.script.command.Command.TheVariants.{Domain, Limits, Attach, Plug, Detach, Enter, Exit, Find, Reference, Copy, Held, Read, Release, Count, Peek, Uncount, Advance, Destroy, Perform, Audit}
 use Rattle.registry_script.specs.Live.{IsLineOf, IsRunOf, WritesFront, WritesRun}

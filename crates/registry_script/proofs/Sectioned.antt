@@ -3,28 +3,28 @@ use Rattle.std.proofs.Common.{◌≡◌, ℕ, ◌+◌, ◌-◌, ◌*◌, ◌<◌
 use Rattle.std.specs.Prelude.{if◌then◌else◌, ◌==◌, Result, Ok, Err, is_ok}
 use Rattle.std.proofs.lemmas.Bool.{cases_eq}
 use Rattle.std.proofs.lemmas.Option.{none-some}
-use Rattle.passive_core.specs.declared.entry.Entry.{Entry}
-use Rattle.passive_core.specs.declared.entry.Change.{Change}
-use Rattle.passive_core.specs.declared.refusal.Refusal.{Refusal}
-use Rattle.passive_core.specs.declared.refusal.Refusal.TheVariants.{TooDeep, SectionsSpent}
-use Rattle.passive_core.specs.declared.state.Mark.{Mark}
-use Rattle.passive_core.specs.declared.state.Slot.{Slot}
-use Rattle.passive_core.specs.State.{section_at, begin_at, depth_at, mark_at}
+use Rattle.registry_values.specs.declared.entry.Entry.{Entry}
+use Rattle.registry_values.specs.declared.entry.Change.{Change}
+use Rattle.registry_values.specs.declared.refusal.Refusal.{Refusal}
+use Rattle.registry_values.specs.declared.refusal.Refusal.TheVariants.{TooDeep, SectionsSpent}
+use Rattle.registry_values.specs.declared.mark.Mark.{Mark}
+use Rattle.registry_values.specs.declared.slot.Slot.{Slot}
+use Rattle.protocol.specs.State.{section_at, begin_at, depth_at, mark_at}
 use Rattle.passive_core.specs.Commands.{all_seated}
 use Rattle.passive_core.specs.Entering as core
 use Rattle.passive_core.specs.Entering.{with_depth, after_enter_command, after_exit_command}
-use Rattle.passive_core.specs.Events as events
+use Rattle.protocol.specs.Events as events
 use Rattle.passive_core.specs.Finding.{after_find}
-use Rattle.passive_core.specs.Invariant.{Holds, MarksHold, one_if}
-use Rattle.passive_core.specs.Model.{put}
-use Rattle.passive_core.proofs.SectionKeeps.{some_from}
+use Rattle.protocol.specs.Invariant.{Holds, MarksHold, one_if}
+use Rattle.protocol.specs.Model.{put}
+use Rattle.protocol.proofs.SectionKeeps.{some_from}
 use Rattle.registry_script.specs.Answers.{is_inside, enter_answer, may_begin}
 use Rattle.registry_script.specs.Registry.{Registry}
 use Rattle.registry_script.specs.Session.{SessionState, with_core}
 use Rattle.registry_script.specs.Shows.{Shows, SnapshotsFollow}
 use Rattle.registry_script.specs.Turns.{on_ok, entered, exited, begun_section, ended_section, looked_up}
-use Rattle.passive_core.proofs.Cells.{by_place}
-use Rattle.passive_core.proofs.Picturing.{put_here, put_other}
+use Rattle.protocol.proofs.Cells.{by_place}
+use Rattle.protocol.proofs.Picturing.{put_here, put_other}
 use Rattle.registry_script.proofs.Showing.{put_shows, twice_less}
 
 -- who is inside

@@ -2,20 +2,20 @@
 use Rattle.std.proofs.Common.{◌≡◌, ℕ, ◌<◌, ◌⊎◌, inl, inr, ⊎_elim, zero, suc, List, length, replicate, Bool, true, false, Option, Some, None, if◌then◌else◌, refl, sym, ap, ◌∙◌, arith, length-set, get_or-set_same, get_or-set_other, Ok}
 use Rattle.std.specs.Prelude.{is_some, slice_index_or, slice_set}
 use Rattle.std.proofs.lemmas.Bool.{cases_eq}
-use Rattle.passive_core.specs.declared.entry.Entry.{Entry}
-use Rattle.passive_core.specs.declared.state.LocalPlace.{LocalPlace}
-use Rattle.passive_core.specs.declared.state.LocalPlace.TheVariants.{Free, Standing, Lifted}
-use Rattle.passive_core.specs.Slots.{at_rest, slot_before}
-use Rattle.passive_core.specs.State.{State, found_at, local_at}
+use Rattle.registry_values.specs.declared.entry.Entry.{Entry}
+use Rattle.protocol.specs.declared.state.LocalPlace.{LocalPlace}
+use Rattle.protocol.specs.declared.state.LocalPlace.TheVariants.{Free, Standing, Lifted}
+use Rattle.protocol.specs.State.{at_rest, State, found_at, local_at}
+use Rattle.registry_values.specs.Slots.{slot_before}
 use Rattle.passive_core.specs.Commands.{IsQuiet, all_seated, may_act}
 use Rattle.passive_core.specs.Detaching.{detached}
 use Rattle.passive_core.specs.Entering.{with_depth}
-use Rattle.passive_core.specs.Events.{after_exit, least_id, standing, unlinking, with_local}
-use Rattle.passive_core.specs.Invariant.{Holds}
+use Rattle.protocol.specs.Events.{after_exit, least_id, standing, unlinking, with_local}
+use Rattle.protocol.specs.Invariant.{Holds}
 use Rattle.passive_core.specs.Locals.{after_counting, count_refusal, is_live_local, local_slot, with_count_less, with_total_less}
 use Rattle.passive_core.proofs.Locals.{live_slot, slot_is}
 use Rattle.passive_core.proofs.Passives.{found_slot}
-use Rattle.passive_core.proofs.References.{least_free, least_stays, least_within, with_local_same}
+use Rattle.protocol.proofs.References.{least_free, least_stays, least_within, with_local_same}
 use Rattle.registry_script.specs.Session.{SessionState, IsSession, filled}
 
 -- What the core's commands leave of the places of local references

@@ -5,21 +5,21 @@ use Rattle.std.proofs.lemmas.Bool.{cases_eq, cases_lt, eq-eqb, ne_eqb}
 use Rattle.std.specs.List.{All}
 use Rattle.std.proofs.lemmas.List.Elements.{All-head, All-tail}
 use Rattle.std.proofs.lemmas.Option.{none-some, same_Some}
-use Rattle.passive_core.specs.Advancing.{least_below, or_next}
-use Rattle.passive_core.specs.Invariant.{one_if}
-use Rattle.passive_core.specs.Model.{put, Stays}
-use Rattle.passive_core.proofs.Picturing.{join_runs, put_here, put_other}
-use Rattle.passive_core.specs.declared.refusal.Refusal.{Refusal}
+use Rattle.registry_values.specs.Marks.{least_below, or_next}
+use Rattle.protocol.specs.Invariant.{one_if}
+use Rattle.protocol.specs.Model.{put, Stays}
+use Rattle.protocol.proofs.Picturing.{join_runs, put_here, put_other}
+use Rattle.registry_values.specs.declared.refusal.Refusal.{Refusal}
 use Rattle.registry_script.specs.declared.report.hitch.Hitch.{Hitch}
 use Rattle.registry_script.specs.declared.report.hitch.Hitch.TheVariants.{Refused}
 use Rattle.registry_script.specs.Answers.{count_below, hitched, is_this}
 use Rattle.registry_script.specs.Registry.{Registry, opened}
 use Rattle.registry_script.specs.Sound.{after_each, labels_for, IsSound, IsLawfulTurn}
 use Rattle.registry_script.specs.Turns.{on_ok}
-use Rattle.passive_core.specs.declared.settings.Settings.{Settings}
-use Rattle.passive_core.specs.declared.entry.Change.TheVariants.{Attach, Detach}
-use Rattle.passive_core.specs.History.{IsLegal}
-use Rattle.passive_core.proofs.History.{at_empty}
+use Rattle.registry_values.specs.declared.settings.Settings.{Settings}
+use Rattle.registry_values.specs.declared.entry.Change.TheVariants.{Attach, Detach}
+use Rattle.protocol.specs.History.{IsLegal}
+use Rattle.protocol.proofs.History.{at_empty}
 
 -- A function with one value put
 

@@ -3,27 +3,26 @@ use Rattle.std.proofs.Common.{◌≡◌, ℕ, suc, ◌<◌, ◌≤◌, ⊎_elim,
 use Rattle.std.specs.Prelude.{Ok}
 use Rattle.std.proofs.lemmas.Bool.{and_parts, cases_lt}
 use Rattle.std.proofs.lemmas.Option.{none-some}
-use Rattle.passive_core.specs.declared.entry.Kind.{Kind}
-use Rattle.passive_core.specs.declared.entry.Kind.TheVariants.{Iface, Driver}
-use Rattle.passive_core.specs.declared.entry.Entry.{Entry}
-use Rattle.passive_core.specs.declared.entry.Change.TheVariants.{Attach, Detach}
-use Rattle.passive_core.specs.declared.entry.Record.{Record}
-use Rattle.passive_core.specs.declared.refusal.Refusal.{Refusal}
-use Rattle.passive_core.specs.declared.refusal.Refusal.TheVariants.{NameTaken, NoSlot, HistoryFull, Inside, NeedsDriver, NotFound}
-use Rattle.passive_core.specs.declared.settings.Settings.{Settings}
-use Rattle.passive_core.specs.declared.state.Key.{Key}
-use Rattle.passive_core.specs.Attaching.{key_of_record}
-use Rattle.passive_core.specs.Events.{keeps_rightly}
-use Rattle.passive_core.specs.History.{after_change, change_at, IsLegal, IsLiveAt, IsLookup}
-use Rattle.passive_core.specs.Model.{Model, put, IsDriverHere, Stays, Goes_on, Attaches, Detaches, Keeps, Sees}
-use Rattle.passive_core.specs.Slots.{is_iface, is_driver}
-use Rattle.passive_core.proofs.Advancing.{none_is}
-use Rattle.passive_core.proofs.Growing.{hold_was, hold_old}
-use Rattle.passive_core.proofs.History.{at_new, at_within, attached_old, length-after_change, one_entry}
-use Rattle.passive_core.proofs.Picturing.{put_here}
-use Rattle.passive_core.proofs.Publishing.{legal_attach, live_cases}
-use Rattle.passive_core.proofs.SectionKeeps.{none_from}
-use Rattle.passive_core.proofs.Unlinking.{attached_before, legal_detach, was_there}
+use Rattle.registry_values.specs.declared.entry.Kind.{Kind}
+use Rattle.registry_values.specs.declared.entry.Kind.TheVariants.{Iface, Driver}
+use Rattle.registry_values.specs.declared.entry.Entry.{Entry}
+use Rattle.registry_values.specs.declared.entry.Change.TheVariants.{Attach, Detach}
+use Rattle.registry_values.specs.declared.entry.Record.{Record}
+use Rattle.registry_values.specs.declared.refusal.Refusal.{Refusal}
+use Rattle.registry_values.specs.declared.refusal.Refusal.TheVariants.{NameTaken, NoSlot, HistoryFull, Inside, NeedsDriver, NotFound}
+use Rattle.registry_values.specs.declared.settings.Settings.{Settings}
+use Rattle.registry_values.specs.declared.slot.Key.{Key}
+use Rattle.registry_values.specs.Slots.{key_of_record, is_iface, is_driver}
+use Rattle.protocol.specs.Events.{keeps_rightly}
+use Rattle.protocol.specs.History.{after_change, change_at, IsLegal, IsLiveAt, IsLookup}
+use Rattle.protocol.specs.Model.{Model, put, IsDriverHere, Stays, Goes_on, Attaches, Detaches, Keeps, Sees}
+use Rattle.registry_values.proofs.Least.{none_is}
+use Rattle.protocol.proofs.Growing.{hold_was, hold_old}
+use Rattle.protocol.proofs.History.{at_new, at_within, attached_old, length-after_change, one_entry}
+use Rattle.protocol.proofs.Picturing.{put_here}
+use Rattle.protocol.proofs.Publishing.{legal_attach, live_cases}
+use Rattle.protocol.proofs.SectionKeeps.{none_from}
+use Rattle.protocol.proofs.Unlinking.{attached_before, legal_detach, was_there}
 use Rattle.registry_script.specs.Answers.{attach_answer, attach_iface_answer, detach_answer, entry_in, found_or, given_entry, has_room, hitched, is_inside, is_plain, lookup_now, next_entry, plain_slot, plug_answer, with_label}
 use Rattle.registry_script.specs.Changes.{entry_of, is_driver_entry, is_driver_number}
 use Rattle.registry_script.specs.Registry.{Registry}

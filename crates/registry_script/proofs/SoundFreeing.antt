@@ -3,17 +3,18 @@ use Rattle.std.proofs.Common.{◌≡◌, ℕ, zero, suc, ◌+◌, ◌-◌, ◌<�
 use Rattle.std.specs.Prelude.{Ok, if◌then◌else◌}
 use Rattle.std.proofs.lemmas.Bool.{both_ways, cases_lt, lt-ltb}
 use Rattle.std.proofs.lemmas.Option.{none-some}
-use Rattle.passive_core.specs.declared.refusal.Refusal.{Refusal}
-use Rattle.passive_core.specs.declared.refusal.Refusal.TheVariants.{NotRetired}
-use Rattle.passive_core.specs.declared.settings.Settings.{Settings}
-use Rattle.passive_core.specs.declared.stage.Stage.{Stage}
-use Rattle.passive_core.specs.declared.stage.Stage.TheVariants.{Grace, Passive, Local, Freed}
-use Rattle.passive_core.specs.Advancing.{least_below, stage_of}
-use Rattle.passive_core.specs.History.{EndsAt}
-use Rattle.passive_core.specs.Model.{Model, put, with_locals, IsUnheld, Stays, Goes_on, Gives_up, Uncounts, Vacates}
-use Rattle.passive_core.proofs.History.{at_within}
-use Rattle.passive_core.proofs.Performing.{least_none}
-use Rattle.passive_core.proofs.Picturing.{put_here, put_is, put_other, two_steps}
+use Rattle.registry_values.specs.declared.refusal.Refusal.{Refusal}
+use Rattle.registry_values.specs.declared.refusal.Refusal.TheVariants.{NotRetired}
+use Rattle.registry_values.specs.declared.settings.Settings.{Settings}
+use Rattle.registry_values.specs.declared.stage.Stage.{Stage}
+use Rattle.registry_values.specs.declared.stage.Stage.TheVariants.{Grace, Passive, Local, Freed}
+use Rattle.registry_values.specs.Marks.{least_below}
+use Rattle.passive_core.specs.Advancing.{stage_of}
+use Rattle.protocol.specs.History.{EndsAt}
+use Rattle.protocol.specs.Model.{Model, put, with_locals, IsUnheld, Stays, Goes_on, Gives_up, Uncounts, Vacates}
+use Rattle.protocol.proofs.History.{at_within}
+use Rattle.registry_values.proofs.Least.{least_none}
+use Rattle.protocol.proofs.Picturing.{put_here, put_is, put_other, two_steps}
 use Rattle.registry_script.specs.Answers.{advance_answer, has_passive, has_section, held, is_inside, is_this, plain_stage, retired_slot, slot_of, stage_in}
 use Rattle.registry_script.specs.Changes.{end_of, has_ended, may_hold}
 use Rattle.registry_script.specs.Registry.{Registry}
@@ -21,7 +22,7 @@ use Rattle.registry_script.specs.Sound.{IsSound, IsSoundModel, IsLawfulTurn}
 use Rattle.registry_script.specs.Turns.{after_advance, after_destroy, freed, staged}
 use Rattle.registry_script.proofs.Lookups.{end_tells}
 use Rattle.registry_script.proofs.Sound.{count_none, idle_turn, is_this_own, is_this_tells, labelled_counts, least_some, not_ok, ok_turn, put_none, same_ok, still_beside}
-use Rattle.passive_core.proofs.SectionKeeps.{some_from}
+use Rattle.protocol.proofs.SectionKeeps.{some_from}
 
 -- What a stage tells
 

@@ -2,12 +2,12 @@
 use Rattle.std.proofs.Common.{◌≡◌, ℕ, suc, ◌+◌, ◌-◌, ◌<◌, ⊎_elim, Option, Some, None, Bool, true, false, nat_lt, refl, sym, ap, subst, ◌∙◌, arith, ltb-true}
 use Rattle.std.specs.Prelude.{Result, Ok, if◌then◌else◌, ◌==◌}
 use Rattle.std.proofs.lemmas.Option.{none-some, same_Some}
-use Rattle.passive_core.specs.declared.entry.Entry.{Entry}
+use Rattle.registry_values.specs.declared.entry.Entry.{Entry}
 use Rattle.passive_core.specs.declared.psref.CorePsref.{CorePsref}
-use Rattle.passive_core.specs.declared.refusal.Refusal.{Refusal}
-use Rattle.passive_core.specs.declared.refusal.Refusal.TheVariants.{LocalFull, NothingFound, NotHeld, PassiveFull, WrongCpu}
-use Rattle.passive_core.specs.declared.settings.Settings.{Settings}
-use Rattle.passive_core.specs.Model.{Model, put, with_locals, with_passive, Stays, Goes_on, Acquires, Copies, Counts, Releases, Uncounts}
+use Rattle.registry_values.specs.declared.refusal.Refusal.{Refusal}
+use Rattle.registry_values.specs.declared.refusal.Refusal.TheVariants.{LocalFull, NothingFound, NotHeld, PassiveFull, WrongCpu}
+use Rattle.registry_values.specs.declared.settings.Settings.{Settings}
+use Rattle.protocol.specs.Model.{Model, put, with_locals, with_passive, Stays, Goes_on, Acquires, Copies, Counts, Releases, Uncounts}
 use Rattle.registry_script.specs.declared.report.hitch.Hitch.{Hitch}
 use Rattle.registry_script.specs.declared.report.hitch.Hitch.TheVariants.{LabelTaken, NoLabel}
 use Rattle.registry_script.specs.Answers as answers

@@ -2,15 +2,15 @@
 use Rattle.std.proofs.Common.{◌≡◌, ℕ, ◌+◌, ◌<◌, ⊎_elim, length, Option, Some, None, Bool, true, false, not, refl, sym, ap, subst, ◌∙◌, arith}
 use Rattle.std.specs.Prelude.{Ok, if◌then◌else◌, ◌==◌}
 use Rattle.std.proofs.lemmas.Option.{same_Some}
-use Rattle.passive_core.specs.declared.entry.Entry.{Entry}
-use Rattle.passive_core.specs.declared.entry.Change.TheVariants.{Attach}
-use Rattle.passive_core.specs.declared.settings.Settings.{Settings}
-use Rattle.passive_core.specs.declared.state.Key.{Key}
-use Rattle.passive_core.specs.History.{IsLawful, IsLiveAt, IsLookup}
-use Rattle.passive_core.specs.Model.{Lookup, Model, put, IsModelRun, Stays, Goes_on, Answers, Enters, Exits, Seeks, Sees}
-use Rattle.passive_core.proofs.Advancing.{none_is}
-use Rattle.passive_core.proofs.History.{at_within}
-use Rattle.passive_core.proofs.Picturing.{Alike, put_here, put_is, put_other, same_model}
+use Rattle.registry_values.specs.declared.entry.Entry.{Entry}
+use Rattle.registry_values.specs.declared.entry.Change.TheVariants.{Attach}
+use Rattle.registry_values.specs.declared.settings.Settings.{Settings}
+use Rattle.registry_values.specs.declared.slot.Key.{Key}
+use Rattle.protocol.specs.History.{IsLawful, IsLiveAt, IsLookup}
+use Rattle.protocol.specs.Model.{Lookup, Model, put, IsModelRun, Stays, Goes_on, Answers, Enters, Exits, Seeks, Sees}
+use Rattle.registry_values.proofs.Least.{none_is}
+use Rattle.protocol.proofs.History.{at_within}
+use Rattle.protocol.proofs.Picturing.{Alike, put_here, put_is, put_other, same_model}
 use Rattle.registry_script.specs.declared.report.hitch.Hitch.{Hitch}
 use Rattle.registry_script.specs.declared.report.hitch.Hitch.TheVariants.{NotInside}
 use Rattle.registry_script.specs.Answers.{enter_answer, exit_answer, find_answer, is_inside, lookup_now}
@@ -19,7 +19,7 @@ use Rattle.registry_script.specs.Sound.{IsSound, IsSoundModel, IsLawfulTurn}
 use Rattle.registry_script.specs.Turns.{begun_section, entered, exited, looked_up, on_ok, seeing}
 use Rattle.registry_script.proofs.Lookups.{lookup_is}
 use Rattle.registry_script.proofs.Sound.{ok_turn, put_capped, put_cases, put_none, same_ok, still_there, then_ok}
-use Rattle.passive_core.proofs.SectionKeeps.{some_from}
+use Rattle.protocol.proofs.SectionKeeps.{some_from}
 
 -- Enter
 

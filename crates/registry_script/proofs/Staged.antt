@@ -3,41 +3,44 @@ use Rattle.std.proofs.Common.{◌≡◌, ℕ, zero, suc, ◌+◌, ◌<◌, ◌�
 use Rattle.std.specs.Prelude.{if◌then◌else◌, is_some, Result, Ok, Err}
 use Rattle.std.proofs.lemmas.Bool.{and_parts, cases_Bool, cases_eq, cases_lt, eq-eqb, ne_eqb, lt-ltb, le-ltb}
 use Rattle.std.proofs.lemmas.Option.{none-some}
-use Rattle.passive_core.specs.declared.entry.Entry.{Entry}
-use Rattle.passive_core.specs.declared.entry.Change.{Change}
-use Rattle.passive_core.specs.declared.entry.Change.TheVariants.{Attach, Detach}
-use Rattle.passive_core.specs.declared.refusal.Refusal.{Refusal}
-use Rattle.passive_core.specs.declared.refusal.Refusal.TheVariants.{Inside}
-use Rattle.passive_core.specs.declared.stage.Stage.{Stage}
-use Rattle.passive_core.specs.declared.stage.Stage.TheVariants.{Freed, Grace, Local, Passive}
-use Rattle.passive_core.specs.declared.state.Hand.{Hand}
-use Rattle.passive_core.specs.declared.state.Hand.TheVariants.{Empty, Taking, Giving, Back}
-use Rattle.passive_core.specs.declared.state.Mark.{Mark}
-use Rattle.passive_core.specs.declared.state.Slot.{Slot}
-use Rattle.passive_core.specs.declared.state.Slot.TheVariants.{Vacant, Live, Retired}
+use Rattle.registry_values.specs.declared.entry.Entry.{Entry}
+use Rattle.registry_values.specs.declared.entry.Change.{Change}
+use Rattle.registry_values.specs.declared.entry.Change.TheVariants.{Attach, Detach}
+use Rattle.registry_values.specs.declared.refusal.Refusal.{Refusal}
+use Rattle.registry_values.specs.declared.refusal.Refusal.TheVariants.{Inside}
+use Rattle.registry_values.specs.declared.stage.Stage.{Stage}
+use Rattle.registry_values.specs.declared.stage.Stage.TheVariants.{Freed, Grace, Local, Passive}
+use Rattle.protocol.specs.declared.state.Hand.{Hand}
+use Rattle.protocol.specs.declared.state.Hand.TheVariants.{Empty, Taking, Giving, Back}
+use Rattle.registry_values.specs.declared.mark.Mark.{Mark}
+use Rattle.registry_values.specs.declared.slot.Slot.{Slot}
+use Rattle.registry_values.specs.declared.slot.Slot.TheVariants.{Vacant, Live, Retired}
 use Rattle.passive_core.specs.Advancing as core
-use Rattle.passive_core.specs.Advancing.{AdvanceLeaves, DestroyLeaves, LeavesFree, LeavesMarks, LeavesTotal, MarksGrow, SameElsewhere, StageLeaves, destroyed, destroyed_if, is_open_since, is_retired_as, is_snapshot, least_below, stage_of}
+use Rattle.passive_core.specs.Advancing.{AdvanceLeaves, DestroyLeaves, LeavesFree, LeavesMarks, LeavesTotal, StageLeaves, is_open_since, is_snapshot, stage_of}
+use Rattle.protocol.specs.Marking.{MarksGrow, SameElsewhere}
+use Rattle.registry_values.specs.Stages.{destroyed, destroyed_if}
+use Rattle.registry_values.specs.Slots.{is_retired_as, has_number, is_retired, slot_at}
+use Rattle.registry_values.specs.Marks.{least_below, no_mark}
 use Rattle.passive_core.specs.Commands.{IsQuiet, all_seated}
-use Rattle.passive_core.specs.Events as events
-use Rattle.passive_core.specs.Invariant.{Holds, IsIn, SlotsShow, held_at, in_hand, one_if, subtracting_at}
-use Rattle.passive_core.specs.Model.{put}
+use Rattle.protocol.specs.Events as events
+use Rattle.protocol.specs.Invariant.{Holds, IsIn, SlotsShow, held_at, in_hand, one_if, subtracting_at}
+use Rattle.protocol.specs.Model.{put}
 use Rattle.passive_core.specs.Performing as performing
 use Rattle.passive_core.specs.Performing.{PerformLeaves, waiting_for}
-use Rattle.passive_core.specs.Picture.{number_in, passive_in}
-use Rattle.passive_core.specs.Slots.{has_number, is_empty, is_retired}
-use Rattle.passive_core.specs.State.{State, begin_at, count_at, hand_at, kept_at, mark_at, no_mark, passive_at, section_at, slot_at, total_at}
-use Rattle.passive_core.proofs.Advancing.{none_below, retired_slot_tells, snapshot_stands}
+use Rattle.protocol.specs.Picture.{number_in, passive_in}
+use Rattle.protocol.specs.State.{is_empty, State, begin_at, count_at, hand_at, kept_at, mark_at, passive_at, section_at, total_at}
+use Rattle.registry_values.proofs.Least.{none_below, least_none, least_agrees}
+use Rattle.registry_values.proofs.Slots.{retired_slot_tells}
+use Rattle.protocol.proofs.MarkRows.{snapshot_stands}
 use Rattle.passive_core.proofs.Entering.{acts_free}
-use Rattle.passive_core.proofs.HeldSums.{no_hand, number_of}
-use Rattle.passive_core.proofs.History.{at_within}
-use Rattle.passive_core.proofs.ListKeeps.{live_count_put}
-use Rattle.passive_core.proofs.Numbers.{slot_number}
-use Rattle.passive_core.proofs.Occupied.{at_rest_tells, attached_in, has_it, in_other, in_vacated, in_within, one_in, one_number}
-use Rattle.passive_core.proofs.Performing.{least_none}
-use Rattle.passive_core.proofs.Picturing.{put_here, put_is, put_other, unwritten}
-use Rattle.passive_core.proofs.RefiningEntries.{passive_moved}
-use Rattle.passive_core.proofs.Searching.{within_some}
-use Rattle.passive_core.proofs.Performing.{least_agrees}
+use Rattle.protocol.proofs.HeldSums.{no_hand, number_of}
+use Rattle.protocol.proofs.History.{at_within}
+use Rattle.protocol.proofs.ListKeeps.{live_count_put}
+use Rattle.protocol.proofs.Numbers.{slot_number}
+use Rattle.protocol.proofs.Occupied.{at_rest_tells, attached_in, has_it, in_other, in_vacated, in_within, one_in, one_number}
+use Rattle.protocol.proofs.Picturing.{put_here, put_is, put_other, unwritten}
+use Rattle.protocol.proofs.RefiningEntries.{passive_moved}
+use Rattle.protocol.proofs.Searching.{within_some}
 use Rattle.registry_script.specs.Answers.{advance_answer, count_below, destroy_answer, is_inside, perform_answer, has_passive, has_section, held, is_this, plain_stage, retired_slot, stage_in}
 use Rattle.registry_script.specs.Changes.{end_of, has_ended, may_hold}
 use Rattle.registry_script.specs.Registry.{Registry}

@@ -1,17 +1,17 @@
 -- The commands on sections and lookups: what they give and leave.
 use Rattle.std.proofs.Common.{◌≡◌, ℕ, ◌<◌, Option, None, Bool, true, false, not, is_some, sym, ap, subst, ◌∙◌}
 use Rattle.std.specs.Prelude.{if◌then◌else◌, ◌==◌, Result, Ok, Err}
-use Rattle.passive_core.specs.declared.entry.Entry.{Entry}
-use Rattle.passive_core.specs.declared.refusal.Refusal.{Refusal}
-use Rattle.passive_core.specs.declared.state.Key.{Key}
+use Rattle.registry_values.specs.declared.entry.Entry.{Entry}
+use Rattle.registry_values.specs.declared.refusal.Refusal.{Refusal}
+use Rattle.registry_values.specs.declared.slot.Key.{Key}
 use Rattle.passive_core.specs.Commands.{all_seated}
 use Rattle.passive_core.specs.Detaching.{IsLookupNow}
 use Rattle.passive_core.specs.Entering as core
 use Rattle.passive_core.specs.Entering.{after_enter_command, after_exit_command}
-use Rattle.passive_core.specs.Events as events
+use Rattle.protocol.specs.Events as events
 use Rattle.passive_core.specs.Finding.{after_find}
-use Rattle.passive_core.specs.Invariant.{Holds}
-use Rattle.passive_core.proofs.Picturing.{put_here}
+use Rattle.protocol.specs.Invariant.{Holds}
+use Rattle.protocol.proofs.Picturing.{put_here}
 use Rattle.registry_script.specs.declared.report.hitch.Hitch.{Hitch}
 use Rattle.registry_script.specs.declared.report.hitch.Hitch.TheVariants.{NotInside}
 use Rattle.registry_script.specs.Answers.{enter_answer, exit_answer, find_answer, hitched, is_inside, lookup_now}

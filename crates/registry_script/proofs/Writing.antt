@@ -4,7 +4,7 @@ use Rattle.std.proofs.lemmas.List.{map-append, take_all, take_more}
 use Rattle.std.specs.Io.KnownBytes.{Appends, Keeps}
 use Rattle.std.specs.Prelude.{codes}
 use Rattle.std.specs.Fmt.{decimal, signed_decimal}
-use Rattle.passive_core.specs.Audits.{Tally}
+use Rattle.registry_values.specs.Balances.{Tally}
 use Rattle.registry_script.specs.Lines.{balance_line, balance_lines, spaced, spelled}
 use Rattle.registry_script.specs.Written.{Written, AppendsPrefix}
 

@@ -1,18 +1,19 @@
 -- What each command answers: by lookups in the history, the plain slot, the plain stage, and who holds what.
 use Rattle.std.specs.Prelude.{ℕ, zero, suc, ◌+◌, ◌==◌, nat_lt, nat_le, List, [], ◌∷◌, ◌++◌, length, Option, Some, None, is_none, is_some, Bool, false, not, ◌&&◌, Result, Ok, Err, if◌then◌else◌, ℤ, pos, neg_ℤ, ◌-ℤ◌}
-use Rattle.passive_core.specs.declared.entry.Entry.{Entry}
-use Rattle.passive_core.specs.declared.entry.Record.{Record}
+use Rattle.registry_values.specs.declared.entry.Entry.{Entry}
+use Rattle.registry_values.specs.declared.entry.Record.{Record}
 use Rattle.passive_core.specs.declared.psref.CorePsref.{CorePsref}
-use Rattle.passive_core.specs.declared.refusal.Refusal.{Refusal}
-use Rattle.passive_core.specs.declared.refusal.Refusal.TheVariants as refusal
-use Rattle.passive_core.specs.declared.stage.Stage.{Stage}
-use Rattle.passive_core.specs.declared.state.Key.{Key}
-use Rattle.passive_core.specs.Advancing.{least_below, stage_of, destroyed_if}
-use Rattle.passive_core.specs.Attaching.{key_of_record}
-use Rattle.passive_core.specs.Audits.{Tally}
-use Rattle.passive_core.specs.Invariant.{one_if}
+use Rattle.registry_values.specs.declared.refusal.Refusal.{Refusal}
+use Rattle.registry_values.specs.declared.refusal.Refusal.TheVariants as refusal
+use Rattle.registry_values.specs.declared.stage.Stage.{Stage}
+use Rattle.registry_values.specs.declared.slot.Key.{Key}
+use Rattle.registry_values.specs.Marks.{least_below}
+use Rattle.passive_core.specs.Advancing.{stage_of}
+use Rattle.registry_values.specs.Stages.{destroyed_if}
+use Rattle.registry_values.specs.Slots.{key_of_record, is_iface}
+use Rattle.registry_values.specs.Balances.{Tally}
+use Rattle.protocol.specs.Invariant.{one_if}
 use Rattle.passive_core.specs.Performing.{waiting_for}
-use Rattle.passive_core.specs.Slots.{is_iface}
 use Rattle.registry_script.specs.declared.report.session.Reading.{Reading}
 use Rattle.registry_script.specs.declared.report.hitch.Hitch.{Hitch}
 use Rattle.registry_script.specs.declared.report.hitch.Hitch.TheVariants.{NoLabel, LabelTaken, NotInside, Refused}

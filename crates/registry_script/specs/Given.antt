@@ -1,6 +1,6 @@
 -- What a call gave and left, against the answer and the registry that are due.
 use Rattle.std.specs.Prelude.{◌≡◌, Result, Err}
-use Rattle.passive_core.specs.declared.refusal.Refusal.TheVariants.{NoMemory}
+use Rattle.registry_values.specs.declared.refusal.Refusal.TheVariants.{NoMemory}
 use Rattle.registry_script.specs.declared.report.hitch.Hitch.{Hitch}
 use Rattle.registry_script.specs.declared.report.hitch.Hitch.TheVariants.{Refused}
 

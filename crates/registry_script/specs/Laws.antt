@@ -1,10 +1,10 @@
 -- The laws of the report's definition, in the words of histories and model runs.
 use Rattle.std.specs.Prelude.{◌≡◌, ℕ, ◌<◌, ◌↔◌, List, Some, Bool, true, false}
-use Rattle.passive_core.specs.declared.entry.Change.{Change}
-use Rattle.passive_core.specs.declared.state.Key.{Key}
-use Rattle.passive_core.specs.Advancing.{least_below}
-use Rattle.passive_core.specs.History.{EndsAt, IsLegal, IsLookup}
-use Rattle.passive_core.specs.Model.{empty_model, IsModelRun}
+use Rattle.registry_values.specs.declared.entry.Change.{Change}
+use Rattle.registry_values.specs.declared.slot.Key.{Key}
+use Rattle.registry_values.specs.Marks.{least_below}
+use Rattle.protocol.specs.History.{EndsAt, IsLegal, IsLookup}
+use Rattle.protocol.specs.Model.{empty_model, IsModelRun}
 use Rattle.registry_script.specs.Changes.{end_of, lookup}
 use Rattle.registry_script.specs.Program.{Program, IsProgram}
 use Rattle.registry_script.specs.Registry.{opened}

@@ -1,9 +1,9 @@
 -- What each command may print, whatever registry it is carried out on: its line, with some values, or why it has no answer.
 use Rattle.std.specs.Prelude.{◌≡◌, ℕ, List, [], ◌∷◌, ◌++◌, Option, true, ◌⊎◌, Result, IfErr}
 use Rattle.std.specs.Io.KnownBytes.{Appends}
-use Rattle.passive_core.specs.Audits.{Tally}
-use Rattle.passive_core.specs.declared.refusal.Refusal.{Refusal}
-use Rattle.passive_core.specs.declared.refusal.Refusal.TheVariants.{NoMemory, NameTaken, NoSlot, HistoryFull, NotFound, Inside, SectionsSpent, NothingFound, PassiveFull, WrongCpu, NotHeld, LocalFull, NotRetired, StillHeld, Waiting, TooDeep, NeedsDriver}
+use Rattle.registry_values.specs.Balances.{Tally}
+use Rattle.registry_values.specs.declared.refusal.Refusal.{Refusal}
+use Rattle.registry_values.specs.declared.refusal.Refusal.TheVariants.{NoMemory, NameTaken, NoSlot, HistoryFull, NotFound, Inside, SectionsSpent, NothingFound, PassiveFull, WrongCpu, NotHeld, LocalFull, NotRetired, StillHeld, Waiting, TooDeep, NeedsDriver}
 use Rattle.name_registry.specs.Locking.{IsObstacle}
 use Rattle.registry_script.specs.declared.report.hitch.Hitch.{Hitch}
 use Rattle.registry_script.specs.declared.report.hitch.Hitch.TheVariants.{NoLabel, LabelTaken, NotInside, Refused}

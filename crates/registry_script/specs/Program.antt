@@ -1,10 +1,10 @@
 -- What a script says, and the lines of it so far.
 use Rattle.std.specs.Prelude.{◌≡◌, ℕ, nat_lt, Bool, true, false, ◌&&◌, ◌||◌, List, [], ◌∷◌, ◌++◌, Option, Some, None, IsTrue}
 use Rattle.std.specs.List.{list_all}
-use Rattle.passive_core.specs.declared.settings.Settings.{Settings}
-use Rattle.passive_core.specs.Limits.{are_fit, is_within}
-use Rattle.passive_core.specs.Names.{is_lawful}
-use Rattle.passive_core.specs.Slots.{is_iface}
+use Rattle.registry_values.specs.declared.settings.Settings.{Settings}
+use Rattle.registry_values.specs.Limits.{are_fit, is_within}
+use Rattle.registry_values.specs.Names.{is_lawful}
+use Rattle.registry_values.specs.Slots.{is_iface}
 use Rattle.registry_script.specs.declared.script.label.Label.{Label}
 use Rattle.registry_script.specs.declared.script.place.Place.{Place}
 use Rattle.registry_script.specs.declared.script.place.Place.TheVariants.{First, Second, Later}

@@ -2,9 +2,9 @@
 use Rattle.std.specs.Prelude.{◌≡◌, ℕ, true, List, length, Option, Some, None, Result, Ok, Err, replicate, slice_index_or}
 use Rattle.passive_core.specs.declared.psref.CorePsref.{CorePsref}
 use Rattle.passive_core.specs.Commands.{IsQuiet}
-use Rattle.passive_core.specs.Invariant.{Holds}
+use Rattle.protocol.specs.Invariant.{Holds}
 use Rattle.passive_core.specs.Locals.{is_live_local}
-use Rattle.passive_core.specs.State.{State}
+use Rattle.protocol.specs.State.{State}
 use Rattle.registry_script.specs.declared.report.hitch.Hitch.{Hitch}
 use Rattle.registry_script.specs.declared.report.hitch.Hitch.TheVariants.{NoLabel}
 

@@ -1,9 +1,9 @@
 -- A storm: how far a CPU has come in its turns.
 use Rattle.std.specs.Prelude.{◌≡◌, ◌≢◌, ℕ, ◌*◌, ◌≤◌, None}
-use Rattle.passive_core.specs.declared.entry.Kind.TheVariants.{Driver}
-use Rattle.passive_core.specs.declared.entry.Record.{Record}
-use Rattle.passive_core.specs.declared.name.Name.{Name}
-use Rattle.passive_core.specs.declared.settings.Settings.{Settings}
+use Rattle.registry_values.specs.declared.entry.Kind.TheVariants.{Driver}
+use Rattle.registry_values.specs.declared.entry.Record.{Record}
+use Rattle.registry_values.specs.declared.name.Name.{Name}
+use Rattle.registry_values.specs.declared.settings.Settings.{Settings}
 use Rattle.passive_list.specs.Cpus.{OnCpu}
 use Rattle.registry_script.specs.declared.script.fault.RunFault.{RunFault}
 use Rattle.registry_script.specs.declared.script.fault.RunFault.TheVariants as run

@@ -7,7 +7,7 @@ ghost use Rattle.cpu_words.specs.Steps.{CpuMay};
 
 use crate::law::{CpuPlay, CpuTale, Words};
 use crate::seat::CpuSeat;
-use passive_core::Event;
+use protocol::Event;
 
 /// Adds to a word. It answers the word as it was.
 pub(crate) fn add<T: CpuTale>(

@@ -5,7 +5,7 @@ ghost use Rattle.cpu_words.specs.Steps.{KeeperMay, KeeperStores};
 
 use crate::law::{KeeperPlay, KeeperTale, Words};
 use crate::seat::KeeperSeat;
-use passive_core::Event;
+use protocol::Event;
 
 /// Loads a word.
 pub(crate) fn load<T: KeeperTale>(

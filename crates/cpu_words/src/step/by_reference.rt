@@ -5,7 +5,7 @@ ghost use Rattle.cpu_words.specs.Steps.{ReferenceMay};
 
 use crate::law::{ReferencePlay, ReferenceTale, Words};
 use crate::seat::ReferenceSeat;
-use passive_core::Event;
+use protocol::Event;
 
 /// Loads a word.
 pub(crate) fn load<T: ReferenceTale>(

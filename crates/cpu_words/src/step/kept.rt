@@ -1,7 +1,7 @@
 //! A local reference that a slot keeps: its seat is joined into the keeper's, for a slot that the caller names.
 
 ghost use Rattle.std.specs.Prelude.{◌≡◌};
-ghost use Rattle.passive_core.specs.declared.event.Event.TheVariants.{Keep};
+ghost use Rattle.protocol.specs.declared.event.Event.TheVariants.{Keep};
 ghost use Rattle.cpu_words.specs.declared.view.View.TheVariants.{Keeper, Reference};
 ghost use Rattle.cpu_words.specs.Steps.{JoinsBy};
 ghost use Rattle.cpu_words.specs.Vacating.{as_vacant};

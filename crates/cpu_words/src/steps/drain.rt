@@ -2,8 +2,8 @@
 //! into the total, and references found collected are given up by the total.
 
 ghost use Rattle.std.specs.Prelude.{◌≡◌, ◌<◌, ℕ};
-ghost use Rattle.passive_core.specs.declared.event.Event.TheVariants.{PassiveLook, Collect, TotalAdd, TotalSub, JoinKeeper, KeptSub};
-ghost use Rattle.passive_core.specs.declared.event.Reply.TheVariants.{Done, Word};
+ghost use Rattle.protocol.specs.declared.event.Event.TheVariants.{PassiveLook, Collect, TotalAdd, TotalSub, JoinKeeper, KeptSub};
+ghost use Rattle.protocol.specs.declared.event.Reply.TheVariants.{Done, Word};
 ghost use Rattle.cpu_words.specs.declared.view.View.TheVariants.{Keeper, Reference};
 ghost use Rattle.cpu_words.specs.Steps.{Makes, JoinsBy};
 ghost use Rattle.cpu_words.specs.Draining.{MayPassiveLook, HasLookedPassive, MayCollect, HasCollected, MayTotalAdd, HasAdded, MayTotalSub, HasSubtracted, MayJoinKeeper, giving_up, MayKeptSub, HasKeptSub};
@@ -12,7 +12,7 @@ use crate::law::Words;
 use crate::seat::{KeeperSeat, ReferenceSeat};
 use crate::step::by_keeper;
 use crate::step::given_up::GivenUp;
-use passive_core::Event;
+use protocol::Event;
 use std::marker::Brand;
 
 /// Looks at the passive word of CPU `cpu` for the retired entry in `slot`: the CPU is clear where the word is 0. It answers the word, and

@@ -1,8 +1,8 @@
 //! Grace (pserialize(9)): what the keeper's seat sees of the CPUs' section words, a load each.
 
 ghost use Rattle.std.specs.Prelude.{◌≡◌, ◌<◌, Some, None};
-ghost use Rattle.passive_core.specs.declared.event.Event.TheVariants.{Look, Snapshot};
-ghost use Rattle.passive_core.specs.declared.event.Reply.TheVariants.{Word};
+ghost use Rattle.protocol.specs.declared.event.Event.TheVariants.{Look, Snapshot};
+ghost use Rattle.protocol.specs.declared.event.Reply.TheVariants.{Word};
 ghost use Rattle.cpu_words.specs.declared.view.View.TheVariants.{Keeper};
 ghost use Rattle.cpu_words.specs.Steps.{Makes};
 ghost use Rattle.cpu_words.specs.Grace.{MayGlance, MayLook, MaySnapshot, HasLooked, HasSnapshot, having_looked};
@@ -10,7 +10,7 @@ ghost use Rattle.cpu_words.specs.Grace.{MayGlance, MayLook, MaySnapshot, HasLook
 use crate::law::Words;
 use crate::seat::KeeperSeat;
 use crate::step::by_keeper;
-use passive_core::Event;
+use protocol::Event;
 use std::marker::Brand;
 
 /// Looks at the section word of CPU `cpu` for the retired entry in `slot`: the CPU has passed where the word is even or differs from its

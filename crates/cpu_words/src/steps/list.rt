@@ -1,8 +1,8 @@
 //! The words of a slot that the keeper's seat stores before it links an entry: StoreSlot and StoreNext, a store each.
 
 ghost use Rattle.std.specs.Prelude.{◌≡◌, ◌<◌, ◌+◌};
-ghost use Rattle.passive_core.specs.declared.event.Event.TheVariants.{StoreSlot, StoreNext};
-ghost use Rattle.passive_core.specs.declared.event.Reply.TheVariants.{Done};
+ghost use Rattle.protocol.specs.declared.event.Event.TheVariants.{StoreSlot, StoreNext};
+ghost use Rattle.protocol.specs.declared.event.Reply.TheVariants.{Done};
 ghost use Rattle.cpu_words.specs.declared.view.View.TheVariants.{Keeper};
 ghost use Rattle.cpu_words.specs.Steps.{Makes};
 ghost use Rattle.cpu_words.specs.Vacating.{MayWrite, IsTakenAsVacant, as_vacant};
@@ -11,7 +11,7 @@ ghost use Rattle.cpu_words.specs.Storing.{HasRecordWord, HasCountWord, HasLink};
 use crate::law::Words;
 use crate::seat::KeeperSeat;
 use crate::step::by_keeper;
-use passive_core::Event;
+use protocol::Event;
 use std::marker::Brand;
 
 /// Stores record word `k` (0 number, 1 kind, 2 and 3 the name, 4 value) of `slot`.

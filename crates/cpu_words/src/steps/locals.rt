@@ -1,10 +1,10 @@
 //! Local references (localcount(9)) by a CPU's seat: each is a seat of its own but while it is in the CPU's hand.
 
 ghost use Rattle.std.specs.Prelude.{◌≡◌, ◌≢◌, ◌+◌, ◌<◌, Some, None};
-ghost use Rattle.passive_core.specs.declared.entry.Entry.{Entry};
-ghost use Rattle.passive_core.specs.State.{bias};
-ghost use Rattle.passive_core.specs.declared.event.Event.TheVariants.{CountAdd, SplitRef, JoinRef, CountDown, SplitBack};
-ghost use Rattle.passive_core.specs.declared.event.Reply.TheVariants.{Word, Collected};
+ghost use Rattle.registry_values.specs.declared.entry.Entry.{Entry};
+ghost use Rattle.registry_values.specs.Balances.{bias};
+ghost use Rattle.protocol.specs.declared.event.Event.TheVariants.{CountAdd, SplitRef, JoinRef, CountDown, SplitBack};
+ghost use Rattle.protocol.specs.declared.event.Reply.TheVariants.{Word, Collected};
 ghost use Rattle.cpu_words.specs.declared.view.View.TheVariants.{Cpu, Reference};
 ghost use Rattle.cpu_words.specs.declared.view.InHand.TheVariants.{Giving as GivingEntry};
 ghost use Rattle.cpu_words.specs.Sections.{IsIdle};
@@ -15,7 +15,7 @@ use crate::law::Words;
 use crate::seat::{CpuSeat, ReferenceSeat};
 use crate::step::by_cpu;
 use crate::step::in_hand::InHandReference;
-use passive_core::Event;
+use protocol::Event;
 use std::marker::Brand;
 
 /// CPU `cpu` counts a local reference to its last found entry, the one with `number` (from 1) in `slot` (from 0), and has it in its hand:

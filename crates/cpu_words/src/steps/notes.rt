@@ -2,9 +2,9 @@
 
 ghost use Rattle.std.specs.Prelude.{◌≡◌, ◌<◌, Some, None};
 ghost use mathlib.Core.List.{IsPrefix};
-ghost use Rattle.passive_core.specs.declared.event.Event.TheVariants.{Tell, Hear};
-ghost use Rattle.passive_core.specs.declared.event.Reply.TheVariants.{Done};
-ghost use Rattle.passive_core.specs.declared.state.Due.TheVariants.{Rest};
+ghost use Rattle.protocol.specs.declared.event.Event.TheVariants.{Tell, Hear};
+ghost use Rattle.protocol.specs.declared.event.Reply.TheVariants.{Done};
+ghost use Rattle.protocol.specs.declared.state.Due.TheVariants.{Rest};
 ghost use Rattle.cpu_words.specs.declared.view.View.TheVariants.{Keeper, Cpu, Note};
 ghost use Rattle.cpu_words.specs.Sections.{IsIdle};
 ghost use Rattle.cpu_words.specs.Steps.{Makes, SplitsBy};
@@ -14,7 +14,7 @@ use crate::law::Words;
 use crate::seat::{CpuSeat, KeeperSeat, NoteSeat};
 use crate::step::notes::{CpuNote, KeeperNote};
 use crate::step::{by_cpu, by_keeper, notes};
-use passive_core::Event;
+use protocol::Event;
 use std::marker::Brand;
 
 /// CPU `cpu` tells what it has seen: the note has its pass. Condition: the seat is that CPU's, and idle.

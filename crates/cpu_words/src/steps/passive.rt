@@ -1,9 +1,9 @@
 //! Passive references (psref(9)): each counted in a passive word of the CPU that has it, one word for each slot.
 
 ghost use Rattle.std.specs.Prelude.{◌≡◌, ◌<◌};
-ghost use Rattle.passive_core.specs.declared.event.Event.TheVariants.{PassiveAdd, PassiveSub, LoadRecord};
-ghost use Rattle.passive_core.specs.declared.event.RecordOf.TheVariants.{Passive};
-ghost use Rattle.passive_core.specs.declared.event.Reply.TheVariants.{Word};
+ghost use Rattle.protocol.specs.declared.event.Event.TheVariants.{PassiveAdd, PassiveSub, LoadRecord};
+ghost use Rattle.protocol.specs.declared.event.RecordOf.TheVariants.{Passive};
+ghost use Rattle.protocol.specs.declared.event.Reply.TheVariants.{Word};
 ghost use Rattle.cpu_words.specs.declared.view.View.TheVariants.{Cpu};
 ghost use Rattle.cpu_words.specs.Views.{references_to};
 ghost use Rattle.cpu_words.specs.Steps.{Makes};
@@ -12,7 +12,7 @@ ghost use Rattle.cpu_words.specs.Passives.{MayAdd, MayUse, HasAdded, HasSubtract
 use crate::law::Words;
 use crate::seat::CpuSeat;
 use crate::step::by_cpu;
-use passive_core::{Event, RecordOf};
+use protocol::{Event, RecordOf};
 use std::marker::Brand;
 
 /// CPU `cpu` gets a passive reference to the entry `number` of slot `slot`, by one addition to its passive word for that slot.

@@ -2,9 +2,9 @@
 //! that leads to it.
 
 ghost use Rattle.std.specs.Prelude.{◌≡◌, ◌<◌, Some, None};
-ghost use Rattle.passive_core.specs.declared.entry.Entry.{Entry};
-ghost use Rattle.passive_core.specs.declared.event.Event.TheVariants.{Publish, Unpublish};
-ghost use Rattle.passive_core.specs.declared.event.Reply.TheVariants.{Done};
+ghost use Rattle.registry_values.specs.declared.entry.Entry.{Entry};
+ghost use Rattle.protocol.specs.declared.event.Event.TheVariants.{Publish, Unpublish};
+ghost use Rattle.protocol.specs.declared.event.Reply.TheVariants.{Done};
 ghost use Rattle.cpu_words.specs.declared.view.View.TheVariants.{Keeper};
 ghost use Rattle.cpu_words.specs.Steps.{Makes};
 ghost use Rattle.cpu_words.specs.Publishing.{MayPublish, HasPublished, MayUnpublish, HasUnpublished, IsLinkPlace, link_index};
@@ -12,7 +12,7 @@ ghost use Rattle.cpu_words.specs.Publishing.{MayPublish, HasPublished, MayUnpubl
 use crate::law::Words;
 use crate::seat::KeeperSeat;
 use crate::step::by_keeper;
-use passive_core::Event;
+use protocol::Event;
 use std::marker::Brand;
 
 /// Publishes the entry whose words the vacant slot `slot` has: the head is stored, from now on searches find the entry, and the history

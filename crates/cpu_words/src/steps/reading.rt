@@ -1,18 +1,18 @@
 //! A record's words, loaded by a local reference (localcount(9)).
 
 ghost use Rattle.std.specs.Prelude.{◌≡◌, ◌<◌, ℕ, IsTrue};
-ghost use Rattle.passive_core.specs.declared.event.Event.TheVariants.{LoadRecord};
-ghost use Rattle.passive_core.specs.declared.event.RecordOf.TheVariants.{Local};
-ghost use Rattle.passive_core.specs.declared.event.Reply.TheVariants.{Word};
-ghost use Rattle.passive_core.specs.Events.{word, words_of};
-ghost use Rattle.passive_core.specs.Names.{is_lawful};
+ghost use Rattle.protocol.specs.declared.event.Event.TheVariants.{LoadRecord};
+ghost use Rattle.protocol.specs.declared.event.RecordOf.TheVariants.{Local};
+ghost use Rattle.protocol.specs.declared.event.Reply.TheVariants.{Word};
+ghost use Rattle.protocol.specs.Events.{word, words_of};
+ghost use Rattle.registry_values.specs.Names.{is_lawful};
 ghost use Rattle.cpu_words.specs.declared.view.View.TheVariants.{Reference};
 ghost use Rattle.cpu_words.specs.Steps.{Makes};
 
 use crate::law::Words;
 use crate::seat::ReferenceSeat;
 use crate::step::by_reference;
-use passive_core::{Event, RecordOf};
+use protocol::{Event, RecordOf};
 use std::marker::Brand;
 
 /// Loads word `k` of the record of a local reference's entry, which is in slot `slot`: 0 is the number, 1 the kind, 2 and 3 the name's

@@ -2,9 +2,9 @@
 //! Slots are as wide as an address here: to widen a byte would stand between a link's load and the next one.
 
 ghost use Rattle.std.specs.Prelude.{◌≡◌, ◌<◌, ◌≤◌, ◌-◌};
-ghost use Rattle.passive_core.specs.declared.event.Event.TheVariants.{Seek, LoadLink, LoadRecord};
-ghost use Rattle.passive_core.specs.declared.event.RecordOf.TheVariants.{Search as OfSearch};
-ghost use Rattle.passive_core.specs.declared.event.Reply.TheVariants.{Done};
+ghost use Rattle.protocol.specs.declared.event.Event.TheVariants.{Seek, LoadLink, LoadRecord};
+ghost use Rattle.protocol.specs.declared.event.RecordOf.TheVariants.{Search as OfSearch};
+ghost use Rattle.protocol.specs.declared.event.Reply.TheVariants.{Done};
 ghost use Rattle.cpu_words.specs.declared.view.View.TheVariants.{Cpu};
 ghost use Rattle.cpu_words.specs.Steps.{Makes};
 ghost use Rattle.cpu_words.specs.Searching.{MaySeek, key_with, search_for, seeking, MayLoadLink, link_answer, HasFollowed, HasLoadedLink, MayLoadSearched, made_of, loaded_answer, HasLoadedWord};
@@ -12,7 +12,8 @@ ghost use Rattle.cpu_words.specs.Searching.{MaySeek, key_with, search_for, seeki
 use crate::law::Words;
 use crate::seat::CpuSeat;
 use crate::step::by_cpu;
-use passive_core::{Event, Kind, Name, RecordOf};
+use protocol::{Event, RecordOf};
+use registry_values::{Kind, Name};
 use std::marker::Brand;
 
 /// CPU `cpu` begins a search for a kind and a name, and loads the head of the list: a slot plus 1, or 0 where no entry has them.

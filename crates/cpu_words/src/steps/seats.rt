@@ -1,7 +1,7 @@
 //! The seats of the CPUs: each is cut from the keeper's.
 
 ghost use Rattle.std.specs.Prelude.{◌≡◌, ◌+◌};
-ghost use Rattle.passive_core.specs.declared.event.Event.TheVariants.{Seat};
+ghost use Rattle.protocol.specs.declared.event.Event.TheVariants.{Seat};
 ghost use Rattle.cpu_words.specs.declared.view.View.TheVariants.{Keeper, Cpu};
 ghost use Rattle.cpu_words.specs.Views.{new_cpu};
 ghost use Rattle.cpu_words.specs.Steps.{SplitsBy};

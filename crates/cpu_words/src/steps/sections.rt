@@ -1,8 +1,8 @@
 //! Read sections (pserialize(9)): Enter and Exit, each one addition to the CPU's section word.
 
 ghost use Rattle.std.specs.Prelude.{◌≡◌, ◌<◌, ◌*◌, None, Some};
-ghost use Rattle.passive_core.specs.declared.event.Event.TheVariants.{Enter, Exit};
-ghost use Rattle.passive_core.specs.declared.event.Reply.TheVariants.{Done};
+ghost use Rattle.protocol.specs.declared.event.Event.TheVariants.{Enter, Exit};
+ghost use Rattle.protocol.specs.declared.event.Reply.TheVariants.{Done};
 ghost use Rattle.cpu_words.specs.declared.view.View.TheVariants.{Cpu};
 ghost use Rattle.cpu_words.specs.Steps.{Makes};
 ghost use Rattle.cpu_words.specs.Sections.{MayEnter, HasEntered, MayExit, HasExited};
@@ -10,7 +10,7 @@ ghost use Rattle.cpu_words.specs.Sections.{MayEnter, HasEntered, MayExit, HasExi
 use crate::law::Words;
 use crate::seat::CpuSeat;
 use crate::step::by_cpu;
-use passive_core::Event;
+use protocol::Event;
 use std::marker::Brand;
 
 /// CPU `cpu` begins a section: its section word becomes odd, and its pass the whole history.

@@ -1,15 +1,15 @@
 //! What tests begin with: a registry of two CPUs, and what a row does with it.
 
 ghost use Rattle.std.specs.Prelude.{◌≡◌, ◌<◌, ◌≤◌, IsTrue, IfOk};
-ghost use Rattle.passive_core.specs.declared.entry.Kind.TheVariants.{Iface};
-ghost use Rattle.passive_core.specs.Names.{is_lawful};
+ghost use Rattle.registry_values.specs.declared.entry.Kind.TheVariants.{Iface};
+ghost use Rattle.registry_values.specs.Names.{is_lawful};
 
 use crate::{Blank, Registry};
 use cpu_words::Domain;
 use local_count::{LocalRef, acquire_local};
-use passive_core::{Balance, Entry, Kind, Name, NameFault, Record, Refusal, Settings, Stage};
 use passive_list::{Cpu, enter, exit, find};
 use passive_ref::{Psref, acquire, release};
+use registry_values::{Balance, Entry, Kind, Name, NameFault, Record, Refusal, Settings, Stage};
 use std::alloc::Global;
 use std::process::Abort;
 use std::sync::Wait;

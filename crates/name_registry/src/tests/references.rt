@@ -5,7 +5,7 @@ ghost use Rattle.std.specs.Prelude.{◌≡◌};
 use crate::Blank;
 use crate::tests::bench::{Bench, blank, line, named};
 use cpu_words::Domain;
-use passive_core::{Balance, Entry, Kind, Refusal, Stage};
+use registry_values::{Balance, Entry, Kind, Refusal, Stage};
 use std::alloc::Global;
 use std::marker::Brand;
 use std::process::Abort;

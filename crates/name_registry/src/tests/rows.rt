@@ -5,7 +5,7 @@ ghost use Rattle.std.specs.Prelude.{◌≡◌};
 use crate::Blank;
 use crate::tests::bench::{Bench, USUAL, blank, named};
 use cpu_words::Domain;
-use passive_core::{Entry, Kind, Refusal, Settings, Stage};
+use registry_values::{Entry, Kind, Refusal, Settings, Stage};
 use std::alloc::Global;
 use std::marker::Brand;
 use std::process::Abort;

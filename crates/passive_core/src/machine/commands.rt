@@ -15,12 +15,11 @@ mod sections;
 
 ghost use Rattle.std.specs.Prelude.{◌≡◌, ◌<◌, IsSome, Some, false, true};
 ghost use Rattle.passive_core.specs.Commands.{all_seated};
-ghost use Rattle.passive_core.specs.Events.{step, grows};
-ghost use Rattle.passive_core.specs.Slots.{at_rest};
+ghost use Rattle.protocol.specs.Events.{step, grows};
+ghost use Rattle.protocol.specs.State.{at_rest};
 
-use crate::event::{Event, Reply};
 use crate::machine::Core;
-pub use audit::{less_bias, sum};
+use protocol::{Event, Reply};
 
 impl Core {
     /// Makes an event that is known to be allowed and grows nothing.

@@ -1,16 +1,14 @@
 //! Draining: the keeper collects count words into totals, keeps drivers' references, and frees slots.
 
 ghost use Rattle.std.specs.Prelude.{◌≡◌, ◌<◌, IsTrue, Ok};
-ghost use Rattle.passive_core.specs.declared.event.Event.TheVariants.{Collect, TotalAdd, TotalSub, JoinKeeper, Keep, KeptSub, Vacate};
-ghost use Rattle.passive_core.specs.declared.state.Due.TheVariants.{Adding, Subtracting};
-ghost use Rattle.passive_core.specs.Events.{may_collect, may_join_keeper, may_keep, is_driver_slot, is_iface_slot, is_drainable, is_drained, may_vacate};
-ghost use Rattle.passive_core.specs.Taken.{Steps};
+ghost use Rattle.protocol.specs.declared.event.Event.TheVariants.{Collect, TotalAdd, TotalSub, JoinKeeper, Keep, KeptSub, Vacate};
+ghost use Rattle.protocol.specs.declared.state.Due.TheVariants.{Adding, Subtracting};
+ghost use Rattle.protocol.specs.Events.{may_collect, may_join_keeper, may_keep, is_driver_slot, is_iface_slot, is_drainable, is_drained, may_vacate};
+ghost use Rattle.protocol.specs.Taken.{Steps};
 
-use crate::entry::Kind;
-use crate::event::{Reply, StepFault};
-use crate::machine::{BIAS, Core};
-use crate::marks::collected;
-use crate::state::{Due, LocalPlace, Slot};
+use crate::machine::Core;
+use protocol::{Due, LocalPlace, Reply, StepFault};
+use registry_values::{BIAS, Kind, Slot, collected};
 
 impl Core {
     /// Whether every CPU has passed for the slot and has no passive reference to its entry.

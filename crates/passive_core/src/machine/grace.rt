@@ -1,14 +1,13 @@
 //! Grace periods: snapshots of section words and looks at them, and looks at passive words.
 
 ghost use Rattle.std.specs.Prelude.{◌≡◌, ◌<◌, Some, None, IsTrue};
-ghost use Rattle.passive_core.specs.declared.event.Event.TheVariants.{Snapshot, Look};
-ghost use Rattle.passive_core.specs.Events.{may_examine, may_glance, is_snapshot_due, due_after};
-ghost use Rattle.passive_core.specs.Taken.{Steps};
+ghost use Rattle.protocol.specs.declared.event.Event.TheVariants.{Snapshot, Look};
+ghost use Rattle.protocol.specs.Events.{may_examine, may_glance, is_snapshot_due, due_after};
+ghost use Rattle.protocol.specs.Taken.{Steps};
 
-use crate::event::{Reply, StepFault};
 use crate::machine::Core;
-use crate::marks::looked;
-use crate::state::{Due, Mark};
+use protocol::{Due, Reply, StepFault};
+use registry_values::{Mark, looked};
 
 impl Core {
     /// Whether the keeper is at rest and the CPU is in range.

@@ -1,20 +1,19 @@
 //! The list: a vacant slot's words, the store that links its entry, and the store that unlinks it.
 
 ghost use Rattle.std.specs.Prelude.{◌≡◌, ◌<◌, ◌≤◌, IsTrue, IfSome, length, take, position, true};
-ghost use Rattle.passive_core.specs.declared.event.Event.TheVariants.{StoreSlot, StoreNext, Publish, Unpublish};
-ghost use Rattle.passive_core.specs.Events.{may_write, with_word, kind_of, entry_if, entry_of, is_bias, are_unused, has_room, keeps_rightly, is_prepared, may_publish};
-ghost use Rattle.passive_core.specs.Slots.{is_taken, is_live_as, is_live, live_count, slot_before, leads_to, at_rest};
+ghost use Rattle.protocol.specs.declared.event.Event.TheVariants.{StoreSlot, StoreNext, Publish, Unpublish};
+ghost use Rattle.protocol.specs.Events.{may_write, with_word, kind_of, entry_if, entry_of, is_bias, are_unused, has_room, keeps_rightly, is_prepared, may_publish};
+ghost use Rattle.registry_values.specs.Slots.{is_taken, is_live_as, is_live, live_count, slot_before, leads_to, slot_at};
+ghost use Rattle.protocol.specs.State.{at_rest, row_at};
 ghost use Rattle.std.specs.List.{list_all, zip};
-ghost use Rattle.passive_core.specs.State.{slot_at, row_at};
-ghost use Rattle.passive_core.specs.declared.state.Slot.TheVariants.{Live};
-ghost use Rattle.passive_core.specs.Taken.{Steps};
+ghost use Rattle.registry_values.specs.declared.slot.Slot.TheVariants.{Live};
+ghost use Rattle.protocol.specs.Taken.{Steps};
 
-use crate::entry::{Change, Entry, Kind, Record};
-use crate::event::{Reply, StepFault};
-use crate::machine::{BIAS, Core, NO_MARK, grow};
-use crate::name::Name;
-use crate::slots::{is_live, is_live_as, key_of};
-use crate::state::{Due, Key, RecordWords, Slot};
+use crate::machine::{Core, grow};
+use protocol::{Due, RecordWords, Reply, StepFault};
+use registry_values::{
+    BIAS, Change, Entry, Key, Kind, NO_MARK, Name, Record, Slot, is_live, is_live_as, key_of,
+};
 
 impl Core {
     /// Whether the keeper is at rest and the slot is in range and vacant.

@@ -1,20 +1,20 @@
 //! Local references: counted by CPU, split off into seats of their own, and given back on any CPU.
 
 ghost use Rattle.std.specs.Prelude.{◌≡◌, ◌<◌, ◌≤◌, IfErr, IfSome, OnErr, OnOk, Some, None, Ok, length, position};
-ghost use Rattle.passive_core.specs.declared.event.Reply.TheVariants.{Ref};
+ghost use Rattle.protocol.specs.declared.event.Reply.TheVariants.{Ref};
 ghost use Rattle.passive_core.specs.Locals.{with_room};
-ghost use Rattle.passive_core.specs.declared.event.Event.TheVariants.{CountAdd, SplitRef, JoinRef, CountDown, SplitBack, LoadRecord};
-ghost use Rattle.passive_core.specs.declared.event.RecordOf.TheVariants.{Local as OfLocal};
-ghost use Rattle.passive_core.specs.declared.state.Hand.TheVariants.{Taking, Giving, Back};
-ghost use Rattle.passive_core.specs.Events.{may_count, is_free, least_id, exchange, step, with_local};
-ghost use Rattle.passive_core.specs.State.{hand_at};
-ghost use Rattle.passive_core.specs.Slots.{slot_of};
-ghost use Rattle.passive_core.specs.Taken.{Steps};
+ghost use Rattle.protocol.specs.declared.event.Event.TheVariants.{CountAdd, SplitRef, JoinRef, CountDown, SplitBack, LoadRecord};
+ghost use Rattle.protocol.specs.declared.event.RecordOf.TheVariants.{Local as OfLocal};
+ghost use Rattle.protocol.specs.declared.state.Hand.TheVariants.{Taking, Giving, Back};
+ghost use Rattle.protocol.specs.Events.{may_count, is_free, least_id, exchange, step, with_local};
+ghost use Rattle.protocol.specs.State.{hand_at};
+ghost use Rattle.registry_values.specs.Slots.{slot_of};
+ghost use Rattle.protocol.specs.Taken.{Steps};
 
-use crate::event::{Reply, StepFault};
 use crate::machine::reading::word;
-use crate::machine::{BIAS, Core, grow};
-use crate::state::{Hand, LocalPlace};
+use crate::machine::{Core, grow};
+use protocol::{Hand, LocalPlace, Reply, StepFault};
+use registry_values::BIAS;
 
 impl Core {
     /// A word of the record that a live local reference is to.

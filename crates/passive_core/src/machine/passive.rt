@@ -1,16 +1,15 @@
 //! Passive references: each CPU counts its own, slot by slot.
 
 ghost use Rattle.std.specs.Prelude.{◌≡◌, ◌<◌, IsTrue};
-ghost use Rattle.passive_core.specs.declared.event.Event.TheVariants.{PassiveAdd, PassiveSub, PassiveLook, LoadRecord};
-ghost use Rattle.passive_core.specs.declared.event.RecordOf.TheVariants.{Passive as OfPassive};
-ghost use Rattle.passive_core.specs.Events.{may_add, may_sub, may_look_passive, is_number};
-ghost use Rattle.passive_core.specs.Taken.{Steps};
+ghost use Rattle.protocol.specs.declared.event.Event.TheVariants.{PassiveAdd, PassiveSub, PassiveLook, LoadRecord};
+ghost use Rattle.protocol.specs.declared.event.RecordOf.TheVariants.{Passive as OfPassive};
+ghost use Rattle.protocol.specs.Events.{may_add, may_sub, may_look_passive, is_number};
+ghost use Rattle.protocol.specs.Taken.{Steps};
 
-use crate::entry::Entry;
-use crate::event::{Reply, StepFault};
 use crate::machine::Core;
 use crate::machine::reading::word;
-use crate::marks::cleared;
+use protocol::{Reply, StepFault};
+use registry_values::{Entry, cleared};
 
 impl Core {
     fn may_add(&self, c: u8, number: u64, t: u8) -> bool

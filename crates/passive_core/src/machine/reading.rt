@@ -1,16 +1,17 @@
 //! The words and marks of a core, one at a time, and what their places are.
 
 ghost use Rattle.std.specs.Prelude.{◌≡◌, ◌<◌, ◌^◌, Some, None, IfSome, IsTrue, length, slice_index_or, []};
-ghost use Rattle.passive_core.specs.Events.{is_idle, is_number, word, standing};
-ghost use Rattle.passive_core.specs.Invariant.{Holds};
-ghost use Rattle.passive_core.specs.Slots.{at_rest, slot_of, has_number, is_retired, is_vacant, have_passed, are_clear, are_collected, is_some_collected};
-ghost use Rattle.passive_core.specs.State.{section_at, begin_at, depth_at, seen_at, found_at, hand_at, search_at, passive_at, count_at, total_at, kept_at, mark_at, row_at, slot_at, local_at};
+ghost use Rattle.protocol.specs.Events.{is_idle, is_number, word, standing};
+ghost use Rattle.protocol.specs.Invariant.{Holds};
+ghost use Rattle.protocol.specs.State.{at_rest, section_at, begin_at, depth_at, seen_at, found_at, hand_at, search_at, passive_at, count_at, total_at, kept_at, mark_at, row_at, local_at};
+ghost use Rattle.registry_values.specs.Slots.{slot_of, has_number, is_retired, is_vacant, slot_at};
+ghost use Rattle.registry_values.specs.Marks.{have_passed, are_clear, are_collected, is_some_collected};
 
-use crate::entry::Entry;
 use crate::machine::Core;
-use crate::marks::{are_clear, are_collected, have_passed, is_some_collected};
-use crate::slots::has_number;
-use crate::state::{Due, Hand, LocalPlace, Mark, RecordWords, Search, Slot};
+use protocol::{Due, Hand, LocalPlace, RecordWords, Search};
+use registry_values::{
+    Entry, Mark, Slot, are_clear, are_collected, has_number, have_passed, is_some_collected,
+};
 
 impl Core {
     pub(crate) fn section_at(&self, c: u8) -> u64

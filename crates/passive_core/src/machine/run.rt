@@ -1,12 +1,12 @@
 //! One event after the other.
 
 ghost use Rattle.std.specs.Prelude.{◌≡◌, ◌<◌, IfOk, IfErr, take, length, slice_index_or};
-ghost use Rattle.passive_core.specs.Taken.{Steps, WantsMemory};
-ghost use Rattle.passive_core.specs.Ran.{ran, rested};
-ghost use Rattle.passive_core.specs.declared.event.Event.TheVariants.{LoadRecord, Seat};
+ghost use Rattle.protocol.specs.Taken.{Steps, WantsMemory};
+ghost use Rattle.protocol.specs.Ran.{ran, rested};
+ghost use Rattle.protocol.specs.declared.event.Event.TheVariants.{LoadRecord, Seat};
 
-use crate::event::{Counted, Event, RecordOf, Reply, Short, StepFault};
 use crate::machine::Core;
+use protocol::{Counted, Event, RecordOf, Reply, Short, StepFault};
 
 impl Core {
     /// Makes one event. Refused, in this order: `NotAllowed` exactly where the event's condition fails; `NoMemory` where

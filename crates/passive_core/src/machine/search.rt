@@ -1,19 +1,17 @@
 //! Searches: from the head along the links, and in each slot over its record words.
 
 ghost use Rattle.std.specs.Prelude.{◌≡◌, ◌<◌, ◌≤◌, Some, IsTrue, length};
-ghost use Rattle.passive_core.specs.declared.event.Event.TheVariants.{Seek, LoadLink, LoadRecord};
-ghost use Rattle.passive_core.specs.declared.event.RecordOf.TheVariants.{Search as OfSearch};
-ghost use Rattle.passive_core.specs.Events.{may_seek, are_words_of, going_on, search_over, link_loaded};
-ghost use Rattle.passive_core.specs.Invariant.{Holds};
-ghost use Rattle.passive_core.specs.Slots.{kind_word};
-ghost use Rattle.passive_core.specs.Loaded.{SlotWithin, loaded, row_of_place, entry_with};
-ghost use Rattle.passive_core.specs.Taken.{Keeps, Steps};
+ghost use Rattle.protocol.specs.declared.event.Event.TheVariants.{Seek, LoadLink, LoadRecord};
+ghost use Rattle.protocol.specs.declared.event.RecordOf.TheVariants.{Search as OfSearch};
+ghost use Rattle.protocol.specs.Events.{may_seek, are_words_of, going_on, search_over, link_loaded};
+ghost use Rattle.protocol.specs.Invariant.{Holds};
+ghost use Rattle.registry_values.specs.Slots.{kind_word};
+ghost use Rattle.protocol.specs.Loaded.{SlotWithin, loaded, row_of_place, entry_with};
+ghost use Rattle.protocol.specs.Taken.{Keeps, Steps};
 
-use crate::entry::{Entry, Kind, Record};
-use crate::event::{Reply, StepFault};
 use crate::machine::{Core, NO_WORDS};
-use crate::name::Name;
-use crate::state::{Key, Loaded, Place, RecordWords, Search};
+use protocol::{Loaded, Place, RecordWords, Reply, Search, StepFault};
+use registry_values::{Entry, Key, Kind, Name, Record};
 
 impl Core {
     fn may_seek(&self, c: u8) -> bool

@@ -1,12 +1,12 @@
 //! Seats, sections and notes: the steps of a CPU that touch its section word or its pass alone.
 
 ghost use Rattle.std.specs.Prelude.{◌≡◌, ◌<◌, Some, IsTrue};
-ghost use Rattle.passive_core.specs.declared.event.Event.TheVariants.{Seat, Enter, Exit, Tell, Hear};
-ghost use Rattle.passive_core.specs.Events.{may_seat, may_enter, may_exit};
-ghost use Rattle.passive_core.specs.Taken.{Steps};
+ghost use Rattle.protocol.specs.declared.event.Event.TheVariants.{Seat, Enter, Exit, Tell, Hear};
+ghost use Rattle.protocol.specs.Events.{may_seat, may_enter, may_exit};
+ghost use Rattle.protocol.specs.Taken.{Steps};
 
-use crate::event::{Reply, StepFault};
 use crate::machine::Core;
+use protocol::{Reply, StepFault};
 
 impl Core {
     fn may_seat(&self, c: u8) -> bool

@@ -1,7 +1,7 @@
 //! Rows of commands, each on a table of its own: what lookups find, and what looks see.
 
 ghost use Rattle.std.specs.Prelude.{◌≡◌, replicate};
-ghost use Rattle.passive_core.specs.declared.state.Slot.TheVariants.{Vacant};
+ghost use Rattle.registry_values.specs.declared.slot.Slot.TheVariants.{Vacant};
 ghost use Rattle.cpu_words.specs.Opening.{keeper_with};
 ghost use Rattle.passive_list.specs.declared.tests.table.TheConstants.{SETTINGS};
 
@@ -11,7 +11,7 @@ use crate::{
     snapshot, tell, tell_keeper,
 };
 use cpu_words::{Domain, Words};
-use passive_core::{Entry, Kind, Name};
+use registry_values::{Entry, Kind, Name};
 use std::marker::Brand;
 use std::process::Abort;
 use std::test::*;

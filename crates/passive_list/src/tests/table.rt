@@ -1,14 +1,14 @@
 //! What tests begin with: a new table of two CPUs and two slots, and a driver to be attached.
 
 ghost use Rattle.std.specs.Prelude.{◌≡◌, IsTrue, IfOk};
-ghost use Rattle.passive_core.specs.declared.entry.Kind.TheVariants.{Driver};
-ghost use Rattle.passive_core.specs.Names.{is_lawful};
+ghost use Rattle.registry_values.specs.declared.entry.Kind.TheVariants.{Driver};
+ghost use Rattle.registry_values.specs.Names.{is_lawful};
 ghost use Rattle.cpu_words.specs.Opening.{keeper_with};
 ghost use Rattle.cpu_words.specs.Views.{new_cpu};
 ghost use Rattle.passive_list.specs.declared.tests.table.TheConstants.{SETTINGS};
 
 use cpu_words::{CpuSeat, KeeperSeat, Words};
-use passive_core::{Kind, Name, NameFault, Record, Settings};
+use registry_values::{Kind, Name, NameFault, Record, Settings};
 use std::alloc::Global;
 use std::test::Fail;
 

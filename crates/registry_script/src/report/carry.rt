@@ -1,8 +1,8 @@
 //! Commands, carried out by a session.
 
 ghost use Rattle.std.specs.Prelude.{◌≡◌, ◌<◌, ◌≤◌, IfErr, IfOk, IsTrue, OnOk, string_bytes, true};
-ghost use Rattle.passive_core.specs.Names.{is_lawful};
-ghost use Rattle.passive_core.specs.Slots.{is_iface};
+ghost use Rattle.registry_values.specs.Names.{is_lawful};
+ghost use Rattle.registry_values.specs.Slots.{is_iface};
 ghost use Rattle.registry_script.specs.Live.{IsLineOf};
 ghost use Rattle.registry_script.specs.Program.{suits};
 ghost use Rattle.registry_script.specs.Registry.{Registry};
@@ -14,7 +14,7 @@ use super::lines::{
 };
 use super::session::Session;
 use crate::script::{Command, Label, RunFault};
-use passive_core::{Kind, Name, Record};
+use registry_values::{Kind, Name, Record};
 use std::alloc::Global;
 
 /// Carries out a command, and gives its text: a line, or those of an audit.

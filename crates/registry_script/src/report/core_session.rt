@@ -7,7 +7,8 @@ ghost use Rattle.registry_script.specs.Session.{filled, labelled, unlabelled};
 use super::hitch::{Hitch, as_answer};
 use super::session::{Reading, Session};
 use crate::script::Label;
-use passive_core::{Balance, Core, CorePsref, Entry, Kind, Name, Record, Stage};
+use passive_core::{Core, CorePsref};
+use registry_values::{Balance, Entry, Kind, Name, Record, Stage};
 use std::marker::Model;
 
 /// A core, and the references that labels stand for.
@@ -62,7 +63,7 @@ impl CoreSession {
 }
 
 impl Session for CoreSession {
-    ghost use Rattle.passive_core.specs.declared.settings.Settings.{Settings};
+    ghost use Rattle.registry_values.specs.declared.settings.Settings.{Settings};
     ghost use Rattle.registry_script.specs.Shows.{Shows};
 
     ghost Kept = { Settings };

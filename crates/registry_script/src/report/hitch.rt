@@ -4,7 +4,7 @@ ghost use Rattle.std.specs.Prelude.{◌≡◌};
 ghost use Rattle.registry_script.specs.declared.report.hitch.Hitch.TheVariants as hitch;
 ghost use Rattle.registry_script.specs.Answers.{hitched};
 
-use passive_core::Refusal;
+use registry_values::Refusal;
 
 /// Why a command has no answer of its own.
 #[derive(Clone, Copy, Debug, PartialEq, Eq)]

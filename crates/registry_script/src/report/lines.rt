@@ -2,13 +2,13 @@
 
 ghost use Rattle.std.specs.Prelude.{◌≡◌, ◌<◌, ◌+◌, ◌++◌, IfOk, IfErr, IsErrOf, None, Some, map, string_bytes, ◌∷◌, [], codes};
 ghost use Rattle.std.specs.Fmt.{signed_decimal};
-ghost use Rattle.passive_core.specs.Audits.{tally_shown};
+ghost use Rattle.registry_values.specs.Balances.{tally_shown};
 ghost use Rattle.registry_script.specs.Lines.{spelled, ended, spaced, domain_line, limits_line, attached_line, retired_line, found_line, section_line, label_line, held_line, reading_line, destroyed_line, balance_line, balance_lines, audit_text, stage_words, refused_line, hitch_line};
 
 use super::hitch::Hitch;
 use super::session::Reading;
 use crate::script::{Label, RunFault};
-use passive_core::{Balance, Entry, Refusal, Stage};
+use registry_values::{Balance, Entry, Refusal, Stage};
 use std::alloc::Global;
 
 /// These words, and the end of the line.

@@ -5,9 +5,9 @@ ghost use Rattle.cpu_words.specs.Searching.{key_with};
 ghost use Rattle.cpu_words.specs.Views.{references_to};
 ghost use Rattle.local_count.specs.References.{HasAcquired, HasReleased};
 ghost use Rattle.name_registry.specs.Meeting.{HasLearned, HasSeenAttach};
-ghost use Rattle.passive_core.specs.Names.{is_lawful};
-ghost use Rattle.passive_core.specs.Slots.{is_iface};
-ghost use Rattle.passive_core.specs.declared.entry.Record.{Record};
+ghost use Rattle.registry_values.specs.Names.{is_lawful};
+ghost use Rattle.registry_values.specs.Slots.{is_iface};
+ghost use Rattle.registry_values.specs.declared.entry.Record.{Record};
 ghost use Rattle.passive_list.specs.Lookups.{HasFound};
 ghost use Rattle.passive_list.specs.Sections.{HasExitedOn};
 ghost use Rattle.passive_ref.specs.Psrefs.{HasOneLess, IsAcquired, IsCopied, IsRead, why_not_acquired, why_not_copied, why_unusable};
@@ -18,9 +18,9 @@ use super::session::Reading;
 use cpu_words::{Domain, Words};
 use local_count::{LocalRef, acquire_local};
 use name_registry::Registry;
-use passive_core::{Entry, Kind, Name, Record, Refusal};
 use passive_list::{Cpu, exit, find};
 use passive_ref::{Psref, acquire, copy, held, read, release};
+use registry_values::{Entry, Kind, Name, Record, Refusal};
 use std::sync::Wait;
 
 /// The CPU exits its section; whether the section stays open. Outside no call is made.

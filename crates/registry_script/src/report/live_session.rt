@@ -14,9 +14,9 @@ use crate::script::Label;
 use cpu_words::Domain;
 use local_count::LocalRef;
 use name_registry::Registry;
-use passive_core::{Balance, Entry, Kind, Name, Record, Stage};
 use passive_list::{Cpu, enter};
 use passive_ref::{Psref, release};
+use registry_values::{Balance, Entry, Kind, Name, Record, Stage};
 use std::alloc::Global;
 use std::sync::Wait;
 

@@ -4,7 +4,7 @@
 ghost use Rattle.std.specs.Prelude.{◌≡◌, IfErr, IfOk, IsTrue, OnErr, OnOk};
 ghost use Rattle.std.specs.Io.KnownBytes.{Appends};
 ghost use Rattle.std.specs.List.{list_all};
-ghost use Rattle.passive_core.specs.State.{opening};
+ghost use Rattle.protocol.specs.State.{opening};
 ghost use Rattle.registry_script.specs.Live.{WritesFront, WritesRun};
 ghost use Rattle.registry_script.specs.Program.{suits};
 ghost use Rattle.registry_script.specs.Registry.{Registry};
@@ -26,7 +26,8 @@ use crate::script::{Command, RunFault, Script};
 use carry::carry_out;
 use core_session::CoreSession;
 pub use live::{run_live, run_live_on};
-use passive_core::{Core, Settings};
+use passive_core::Core;
+use registry_values::Settings;
 use session::Session;
 use std::alloc::Global;
 use std::io::Write;

@@ -1,10 +1,10 @@
 //! What carries the commands of a script out: over the pure machine, or over a registry that is running.
 
 ghost use Rattle.std.specs.Prelude.{◌≡◌, ◌<◌, ◌≤◌, IfErr, IfOk, IsTrue, map, true};
-ghost use Rattle.passive_core.specs.declared.refusal.Refusal.TheVariants as refusal;
-ghost use Rattle.passive_core.specs.Audits.{tally_shown};
-ghost use Rattle.passive_core.specs.Names.{is_lawful};
-ghost use Rattle.passive_core.specs.Slots.{is_iface};
+ghost use Rattle.registry_values.specs.declared.refusal.Refusal.TheVariants as refusal;
+ghost use Rattle.registry_values.specs.Balances.{tally_shown};
+ghost use Rattle.registry_values.specs.Names.{is_lawful};
+ghost use Rattle.registry_values.specs.Slots.{is_iface};
 ghost use Rattle.registry_script.specs.declared.report.hitch.Hitch.TheVariants as hitch;
 ghost use Rattle.registry_script.specs.declared.script.command.Command.TheVariants as command;
 ghost use Rattle.registry_script.specs.Answers.{advance_answer, attach_answer, audit_answer, copy_answer, count_answer, destroy_answer, detach_answer, enter_answer, exit_answer, find_answer, held_answer, hitched, peek_answer, perform_answer, plug_answer, read_answer, reference_answer, release_answer, uncount_answer};
@@ -15,7 +15,7 @@ ghost use Rattle.registry_script.specs.Report.{after};
 
 use super::hitch::Hitch;
 use crate::script::Label;
-use passive_core::{Balance, Entry, Kind, Name, Record, Stage};
+use registry_values::{Balance, Entry, Kind, Name, Record, Stage};
 
 /// The number of the entry that a reference is to, and the value that its record has.
 #[derive(Clone, Copy, Debug, PartialEq, Eq)]
@@ -32,7 +32,7 @@ pub struct Reading {
 /// Where a session shows the registry that the report speaks of, each answer is the report's. A session over
 /// a registry that others use too shows none.
 pub trait Session {
-    ghost use Rattle.passive_core.specs.declared.settings.Settings.{Settings};
+    ghost use Rattle.registry_values.specs.declared.settings.Settings.{Settings};
     ghost use Rattle.registry_script.specs.Registry.{Registry};
 
     // What no command changes: the settings of the registry, and whatever else a session says of itself.

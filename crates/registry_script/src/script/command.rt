@@ -1,7 +1,7 @@
 //! The commands of a script.
 
 use super::label::Label;
-use passive_core::{Kind, Name, Record};
+use registry_values::{Kind, Name, Record};
 
 /// The command that the first word of a line names.
 #[derive(Clone, Copy, Debug, PartialEq, Eq)]

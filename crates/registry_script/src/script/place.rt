@@ -4,7 +4,7 @@ ghost use Rattle.std.specs.Prelude.{◌≡◌};
 ghost use Rattle.registry_script.specs.Program.{settings_for, with_limits, settings_after, place_after};
 
 use super::command::Command;
-use passive_core::Settings;
+use registry_values::Settings;
 
 /// Where the next command stands, with the settings that the commands before it give.
 #[derive(Clone, Copy, Debug, PartialEq, Eq)]

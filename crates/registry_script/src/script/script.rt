@@ -2,7 +2,7 @@
 
 ghost use Rattle.std.specs.Prelude.{◌≡◌, ◌+◌, ◌<◌, ◌≤◌, ◌^◌, IfOk, IfSome, IfErr, OnErr, IsTrue, Some, None, Ok, length, map};
 ghost use Rattle.std.specs.List.{list_all};
-ghost use Rattle.passive_core.specs.Limits.{are_fit};
+ghost use Rattle.registry_values.specs.Limits.{are_fit};
 ghost use Rattle.registry_script.specs.Program.{Program, Plan, blank, suits, may_follow, with_command};
 ghost use Rattle.registry_script.specs.Grammar.{line_of, plan_of, finished, parsed};
 ghost use Rattle.registry_script.specs.Parsing.{LineTakes, LineGives, ParseGives};
@@ -12,7 +12,7 @@ use super::fault::{Cause, LineFault, ParseFault, ScriptFault};
 use super::parse::line;
 use super::place::Place;
 use super::words::lines;
-use passive_core::Settings;
+use registry_values::Settings;
 use std::alloc::Global;
 use std::marker::Model;
 

@@ -8,8 +8,8 @@ use crate::storms::sum::Counts;
 use cpu_words::Domain;
 use local_count::{LocalRef, acquire_local};
 use name_registry::Registry;
-use passive_core::{Entry, Kind, Refusal, Stage};
 use passive_list::{Cpu, enter, exit, find};
+use registry_values::{Entry, Kind, Refusal, Stage};
 use std::sync::Wait;
 
 /// The interface while it is live, and what was retired.

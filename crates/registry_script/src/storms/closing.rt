@@ -8,8 +8,8 @@ use crate::storms::plan::Plan;
 use crate::storms::sum::Counts;
 use cpu_words::Domain;
 use name_registry::Registry;
-use passive_core::{Balance, Kind, Refusal};
 use passive_list::Cpu;
+use registry_values::{Balance, Kind, Refusal};
 use std::alloc::Global;
 use std::sync::Wait;
 

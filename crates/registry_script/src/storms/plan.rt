@@ -1,11 +1,11 @@
 //! What all workers of a storm have in common.
 
 ghost use Rattle.std.specs.Prelude.{◌≡◌, ◌↔◌, ◌<◌, ◌≤◌, IsTrue, [], ◌∷◌, Some, IfSome, Ok};
-ghost use Rattle.passive_core.specs.declared.entry.Kind.TheVariants.{Iface};
-ghost use Rattle.passive_core.specs.Names.{is_lawful, named};
+ghost use Rattle.registry_values.specs.declared.entry.Kind.TheVariants.{Iface};
+ghost use Rattle.registry_values.specs.Names.{is_lawful, named};
 ghost use Rattle.registry_script.specs.Storms.{driver_record, settings_of};
 
-use passive_core::{Entry, Kind, Name, Record, Settings};
+use registry_values::{Entry, Kind, Name, Record, Settings};
 
 /// How many slots the registry of a storm has.
 pub const SLOTS: u8 = 4;

@@ -11,9 +11,9 @@ use crate::storms::sum::Counts;
 use cpu_words::{Domain, Words};
 use local_count::{LocalRef, acquire_local};
 use name_registry::Registry;
-use passive_core::Kind;
 use passive_list::{Cpu, enter, exit, find};
 use passive_ref::{Psref, acquire, read, release};
+use registry_values::Kind;
 use std::sync::Wait;
 
 /// What workers share: the registry, the baskets, what is to be done, and the gate.

@@ -2,8 +2,8 @@
 //! once for each command that can have it.
 
 use super::{ENGINES, lines, outcome};
-use passive_core::{Kind, Name, Record, Settings};
 use registry_script::{Cause, Command, Engine, Label, RunFault, ScriptFault, parse_script};
+use registry_values::{Kind, Name, Record, Settings};
 use std::alloc::{AllocError, Global};
 use std::sync::Wait;
 use std::test::Fail;

@@ -10,11 +10,11 @@ ghost use Rattle.name_registry.specs.Opening.{AreNewCpus};
 use super::ends::{REPORT, SCRIPT};
 use cpu_words::Domain;
 use name_registry::{Blank, Registry};
-use passive_core::Refusal;
 use passive_list::Cpu;
 use registry_script::{
     Engine, OpenGate, ParseFault, RunFault, Script, StormSum, parse_script, run, run_live_on, storm,
 };
+use registry_values::Refusal;
 use std::alloc::Global;
 use std::io;
 use std::io::{ErrorKind, Write};

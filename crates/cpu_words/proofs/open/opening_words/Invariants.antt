@@ -1,5 +1,5 @@
 use Rattle.std.proofs.Common.{◌≡◌, ◌<◌, ◌+◌, ℕ, length, get_or}
-use Rattle.passive_core.specs.State.{bias}
+use Rattle.registry_values.specs.Balances.{bias}
 use Rattle.cpu_words.proofs.open.opening_words.Given as goal
 
 -- all words are 0 but the totals so far

@@ -1,8 +1,8 @@
 -- A CPU's data agree with its view over an acquire, and so do the reference's.
 use Rattle.std.proofs.Common.{◌≡◌, ◌+◌, ◌<◌, ◌≤◌, refl, ap, ◌∙◌, subst, sym, arith, Some, None}
-use Rattle.passive_core.specs.declared.settings.Settings.{Settings}
-use Rattle.passive_core.specs.declared.entry.Entry.{Entry}
-use Rattle.passive_core.specs.State.{bias}
+use Rattle.registry_values.specs.declared.settings.Settings.{Settings}
+use Rattle.registry_values.specs.declared.entry.Entry.{Entry}
+use Rattle.registry_values.specs.Balances.{bias}
 use Rattle.passive_list.specs.Cpus.{OnCpu}
 use Rattle.passive_list.proofs.Agreeing.{found_as, found_none}
 use Rattle.cpu_words.specs.declared.view.CpuView.{CpuView}

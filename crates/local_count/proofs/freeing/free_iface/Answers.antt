@@ -1,6 +1,6 @@
 use Rattle.std.proofs.Common.{sym, ◌∙◌}
-use Rattle.passive_core.specs.declared.event.Event.TheVariants.{KeptSub}
-use Rattle.passive_core.specs.declared.event.Reply.TheVariants.{Done}
+use Rattle.protocol.specs.declared.event.Event.TheVariants.{KeptSub}
+use Rattle.protocol.specs.declared.event.Reply.TheVariants.{Done}
 use Rattle.cpu_words.proofs.Pictures.{pictured_by}
 use Rattle.passive_list.specs.Keepers.{row_at}
 use Rattle.local_count.proofs.Freed.{keeps_on, keeps_at, may_free, freed_keeper, has_freed}

@@ -1,7 +1,7 @@
 use Rattle.std.proofs.Common.{◌≡◌, ◌∙◌, true, sym, subst, ◌<◌}
 use borrow.Author.Count.{below_more}
-use Rattle.passive_core.specs.declared.settings.Settings.{Settings}
-use Rattle.passive_core.specs.State.{mark_at}
+use Rattle.registry_values.specs.declared.settings.Settings.{Settings}
+use Rattle.protocol.specs.State.{mark_at}
 use Rattle.name_registry.proofs.Seen.{grace_met}
 use Rattle.name_registry.proofs.Worked.{may_work, still_works, looked_more, still_passed}
 use Rattle.name_registry.proofs.advancing.look_at_all.Goals as goal

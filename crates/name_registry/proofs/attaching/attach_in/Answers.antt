@@ -1,5 +1,5 @@
 use Rattle.std.proofs.Common.{rules, ◌≡◌, false, sym, ap, subst}
-use Rattle.passive_core.specs.Slots.{is_iface}
+use Rattle.registry_values.specs.Slots.{is_iface}
 use Rattle.cpu_words.specs.declared.view.KeeperView.{KeeperView}
 use Rattle.passive_list.specs.Keepers.{OnKeeper}
 use Rattle.passive_list.specs.Publishing.{HasAttached}

@@ -1,6 +1,6 @@
 -- What is said of all entries.
 use Rattle.std.proofs.Common.{subst}
-use Rattle.passive_core.specs.declared.settings.Settings.{Settings}
+use Rattle.registry_values.specs.declared.settings.Settings.{Settings}
 use Rattle.name_registry.specs.Auditing.{AreAllCpus}
 use Rattle.name_registry.proofs.Audits.{counts_met, places_met, sums_met}
 use Rattle.name_registry.proofs.Tallies.{audit_right, known_keeper}

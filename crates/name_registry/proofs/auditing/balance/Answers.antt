@@ -1,7 +1,7 @@
 -- What is said of one entry.
 use Rattle.std.proofs.Common.{ap, ◌∙◌, arith}
 use Rattle.std.proofs.lemmas.Int.{ints}
-use Rattle.passive_core.specs.Audits.{less_bias, sum_of}
+use Rattle.registry_values.specs.Balances.{less_bias, sum_of}
 use Rattle.name_registry.proofs.Audits.{has, tally_is}
 use Rattle.name_registry.proofs.auditing.balance.Goals as goal
 

@@ -1,5 +1,5 @@
 use Rattle.std.proofs.Common.{◌≡◌, map}
-use Rattle.passive_core.specs.Audits.{tally_shown}
+use Rattle.registry_values.specs.Balances.{tally_shown}
 use Rattle.name_registry.specs.Auditing.{tallies_met}
 use Rattle.name_registry.proofs.auditing.balances.Given as goal
 

@@ -1,7 +1,7 @@
 -- A CPU's place says its net count.
 use Rattle.std.proofs.Common.{◌≡◌, ap, sym, ◌∙◌, subst, arith}
 use Rattle.std.proofs.lemmas.Int.{ints}
-use Rattle.passive_core.proofs.Fit.{ranges}
+use Rattle.registry_values.proofs.Fit.{ranges}
 use Rattle.passive_list.specs.Cpus.{OnCpu}
 use Rattle.name_registry.specs.Auditing.{net_met}
 use Rattle.name_registry.proofs.Audits.{local_is, net_is}

@@ -1,5 +1,5 @@
 use Rattle.std.proofs.Common.{rules, ◌≡◌, ◌∙◌, false, sym, ap, subst}
-use Rattle.passive_core.specs.State.{slot_at}
+use Rattle.registry_values.specs.Slots.{slot_at}
 use Rattle.passive_list.specs.Keepers.{OnKeeper}
 use Rattle.name_registry.specs.Detaching.{HasDetachedFor}
 use Rattle.name_registry.specs.Meeting.{is_inside}

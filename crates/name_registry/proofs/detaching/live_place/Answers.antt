@@ -1,5 +1,5 @@
 use Rattle.std.proofs.Common.{◌∙◌, position, sym, ap}
-use Rattle.passive_core.specs.Slots.{is_live_as}
+use Rattle.registry_values.specs.Slots.{is_live_as}
 use Rattle.passive_list.specs.Keepers.{OnKeeper}
 use Rattle.name_registry.proofs.Detached.{keeper_shows, place_tells, no_place}
 use Rattle.name_registry.proofs.Rows.{live_in_rows}

@@ -1,5 +1,5 @@
 use Rattle.std.proofs.Common.{◌≡◌, subst}
-use Rattle.passive_core.specs.declared.state.Due.TheVariants.{Rest}
+use Rattle.protocol.specs.declared.state.Due.TheVariants.{Rest}
 use Rattle.passive_list.specs.Keepers.{OnKeeper}
 use Rattle.name_registry.proofs.Balanced.{free_law}
 use Rattle.name_registry.proofs.law.free_interlock.Goals as goal

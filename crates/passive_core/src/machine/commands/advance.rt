@@ -4,21 +4,20 @@
 mod tests;
 
 ghost use Rattle.std.specs.Prelude.{◌≡◌, ◌<◌, IfSome, ℕ, Some, None, true, false, not, length};
-ghost use Rattle.passive_core.specs.declared.entry.Entry.{Entry as AnEntry};
-ghost use Rattle.passive_core.specs.declared.state.Slot.TheVariants.{Retired};
-ghost use Rattle.passive_core.specs.Advancing.{is_retired_as, retired_slot, is_open_since, has_passive, least_below, advance_answer, plain_stage, stage_of, AdvanceLeaves, StageLeaves, Settles, Empties, Gathers, HoldersAreOpen, MarksGrow, MarksPass, AllPassed, AllClear, AllCollected};
+ghost use Rattle.registry_values.specs.declared.entry.Entry.{Entry as AnEntry};
+ghost use Rattle.registry_values.specs.declared.slot.Slot.TheVariants.{Retired};
+ghost use Rattle.registry_values.specs.Slots.{is_retired_as, retired_slot, is_retired, slot_at};
+ghost use Rattle.passive_core.specs.Advancing.{is_open_since, has_passive, advance_answer, plain_stage, stage_of, AdvanceLeaves, StageLeaves, Settles, Empties, Gathers, HoldersAreOpen, MarksPass};
+ghost use Rattle.registry_values.specs.Marks.{least_below};
+ghost use Rattle.protocol.specs.Marking.{MarksGrow, AllPassed, AllClear, AllCollected};
 ghost use Rattle.passive_core.specs.Commands.{may_act};
-ghost use Rattle.passive_core.specs.Events.{is_drained};
-ghost use Rattle.passive_core.specs.Invariant.{held_at};
-ghost use Rattle.passive_core.specs.Slots.{at_rest, is_retired};
-ghost use Rattle.passive_core.specs.State.{count_at, mark_at, slot_at};
+ghost use Rattle.protocol.specs.Events.{is_drained};
+ghost use Rattle.protocol.specs.Invariant.{held_at};
+ghost use Rattle.protocol.specs.State.{at_rest, count_at, mark_at};
 
-use crate::event::Event;
-use crate::machine::{BIAS, Core};
-use crate::refusal::Refusal;
-use crate::slots::is_retired_as;
-use crate::stage::Stage;
-use crate::state::Slot;
+use crate::machine::Core;
+use protocol::Event;
+use registry_values::{BIAS, Refusal, Slot, Stage, is_retired_as};
 
 impl Core {
     /// One turn of the work on the retired entry `number`, up to the first obstacle, which is the answer (the least CPU

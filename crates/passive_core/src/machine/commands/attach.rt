@@ -2,23 +2,20 @@
 
 ghost use Rattle.std.specs.Prelude.{◌≡◌, ◌<◌, ◌+◌, ℕ, IfErr, IfOk, IfSome, IsSome, IsTrue, None, OnErr, OnOk, Ok, Some, [], length, position, slice_set, slice_index_or, true};
 ghost use Rattle.std.specs.List.{zip};
-ghost use Rattle.passive_core.specs.declared.event.Event.TheVariants.{Publish};
-ghost use Rattle.passive_core.specs.declared.event.Reply.TheVariants.{Done};
-ghost use Rattle.passive_core.specs.Attaching.{IsAnswer, after_attach, after_attach_iface, attach_answer, attach_iface_answer, given_back, given_entry, is_plain, is_to_driver, keeping, plain_slot, prepared, restored, with_biases, words_before};
+ghost use Rattle.protocol.specs.declared.event.Event.TheVariants.{Publish};
+ghost use Rattle.protocol.specs.declared.event.Reply.TheVariants.{Done};
+ghost use Rattle.passive_core.specs.Attaching.{IsAnswer, after_attach, after_attach_iface, attach_answer, attach_iface_answer, given_back, given_entry, is_to_driver, keeping, plain_slot, prepared, restored, words_before};
+ghost use Rattle.registry_values.specs.Slots.{is_plain, is_iface};
+ghost use Rattle.protocol.specs.State.{with_biases, at_rest, kept_at, local_at};
 ghost use Rattle.passive_core.specs.Commands.{all_seated, may_act};
-ghost use Rattle.passive_core.specs.Events.{after_publish, after_row_store, after_seeing, is_idle, may_write, standing, step, words_of};
-ghost use Rattle.passive_core.specs.Invariant.{Holds};
-ghost use Rattle.passive_core.specs.Names.{is_lawful};
-ghost use Rattle.passive_core.specs.Slots.{at_rest, is_iface};
-ghost use Rattle.passive_core.specs.State.{kept_at, local_at};
+ghost use Rattle.protocol.specs.Events.{after_publish, after_row_store, after_seeing, is_idle, may_write, standing, step, words_of};
+ghost use Rattle.protocol.specs.Invariant.{Holds};
+ghost use Rattle.registry_values.specs.Names.{is_lawful};
 
-use crate::entry::{Entry, Kind, Record};
-use crate::event::Event;
 use crate::machine::search::kind_word;
-use crate::machine::{BIAS, Core, make_room};
-use crate::refusal::Refusal;
-use crate::slots::is_plain;
-use crate::state::{Key, LocalPlace, RecordWords, Slot};
+use crate::machine::{Core, make_room};
+use protocol::{Event, LocalPlace, RecordWords};
+use registry_values::{BIAS, Entry, Key, Kind, Record, Refusal, Slot, is_plain};
 
 /// The words of a slot and the seats as an attach found them.
 #[derive(Clone, Copy)]

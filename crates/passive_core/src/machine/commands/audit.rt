@@ -1,16 +1,15 @@
 //! The audit of local references (localcount(9)).
 
 ghost use Rattle.std.specs.Prelude.{◌≡◌, ℕ, ◌+◌, ◌<◌, ◌≤◌, ◌^◌, IfOk, IfErr, OnErr, All, map, length, pos, neg_ℤ, ◌≤ℤ◌, slice_index_or, true};
-ghost use Rattle.passive_core.specs.Audits.{IsHeldRightly, IsOccupied, audit_of, less_bias, local_of, locals_at, sum_of, tally_of, tally_shown};
-ghost use Rattle.passive_core.specs.Invariant.{IsIn};
-ghost use Rattle.passive_core.specs.Slots.{at_rest};
-ghost use Rattle.passive_core.specs.State.{bias, slot_at};
-ghost use Rattle.passive_core.specs.declared.entry.Entry.{Entry};
+ghost use Rattle.passive_core.specs.Audits.{IsHeldRightly, IsOccupied, audit_of, locals_at, tally_of};
+ghost use Rattle.registry_values.specs.Balances.{less_bias, local_of, sum_of, tally_shown, bias};
+ghost use Rattle.protocol.specs.Invariant.{IsIn};
+ghost use Rattle.protocol.specs.State.{at_rest};
+ghost use Rattle.registry_values.specs.Slots.{slot_at};
+ghost use Rattle.registry_values.specs.declared.entry.Entry.{Entry};
 
-use crate::balance::Balance;
-use crate::machine::{BIAS, Core};
-use crate::refusal::Refusal;
-use crate::state::Slot;
+use crate::machine::Core;
+use registry_values::{BIAS, Balance, Refusal, Slot, less_bias, local_of, sum};
 use std::alloc::AllocError;
 
 impl Core {
@@ -75,38 +74,4 @@ impl Core {
         }
         Ok(list)
     }
-}
-
-/// What a count word or a total says: how far it is above the bias, or below.
-/// Condition: the word is below 2^60.
-pub fn less_bias(word: u64) -> i64
-    requires { word < 2 ^ 60 }
-    ensures { result ≡ less_bias word }
-{
-    word as i64 - BIAS as i64
-}
-
-/// The net count that a count word says; a collected one says nothing.
-fn local_of(word: u64) -> i64
-    requires { word < 2 ^ 60 }
-    ensures { result ≡ local_of word }
-{
-    if word == 0 { 0 } else { less_bias(word) }
-}
-
-/// The sum of the net counts of an entry's CPUs.
-/// Condition: they are at most 8, each from -2^50 to 2^50.
-pub fn sum(numbers: &[i64]) -> i64
-    requires few { length numbers.now ≤ 8 }
-    requires low { (k : ℕ) → k < length numbers.now → neg_ℤ (pos (2 ^ 50)) ≤ℤ slice_index_or numbers.now k (pos 0) }
-    requires high { (k : ℕ) → k < length numbers.now → slice_index_or numbers.now k (pos 0) ≤ℤ pos (2 ^ 50) }
-    ensures value { result ≡ sum_of numbers.now }
-    ensures least { neg_ℤ (pos (2 ^ 53)) ≤ℤ result }
-    ensures most { result ≤ℤ pos (2 ^ 53) }
-{
-    let mut sum = 0;
-    for number in numbers {
-        sum += *number;
-    }
-    sum
 }

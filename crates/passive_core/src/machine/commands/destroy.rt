@@ -3,11 +3,10 @@
 ghost use Rattle.std.specs.Prelude.{◌≡◌, ◌<◌, ◌≤◌, ℕ, true};
 ghost use Rattle.passive_core.specs.Advancing.{destroy_answer, DestroyLeaves};
 ghost use Rattle.passive_core.specs.Commands.{may_act};
-ghost use Rattle.passive_core.specs.Slots.{at_rest};
+ghost use Rattle.protocol.specs.State.{at_rest};
 
 use crate::machine::Core;
-use crate::refusal::Refusal;
-use crate::stage::{Stage, destroyed};
+use registry_values::{Refusal, Stage, destroyed};
 
 impl Core {
     /// Advances the retired entry `number` on behalf of the CPU `c`, at most `turns` times (psref_target_destroy of

@@ -3,18 +3,16 @@
 ghost use Rattle.std.specs.Prelude.{◌≡◌, ◌<◌, ℕ, IfErr, IfOk, IfSome, OnErr, OnOk, replicate, slice_index_or, [], true};
 ghost use Rattle.passive_core.specs.Commands.{all_seated, may_act};
 ghost use Rattle.passive_core.specs.Detaching.{after_detach, snapped, IsDetachAnswer, IsLookupNow};
-ghost use Rattle.passive_core.specs.Events.{after_unpublish, is_idle};
-ghost use Rattle.passive_core.specs.Slots.{at_rest};
-ghost use Rattle.passive_core.specs.State.{no_mark, slot_at};
-ghost use Rattle.passive_core.specs.declared.state.Due.TheVariants.{Snapshots};
-ghost use Rattle.passive_core.specs.declared.state.Slot.TheVariants.{Live};
+ghost use Rattle.protocol.specs.Events.{after_unpublish, is_idle};
+ghost use Rattle.protocol.specs.State.{at_rest};
+ghost use Rattle.registry_values.specs.Marks.{no_mark};
+ghost use Rattle.registry_values.specs.Slots.{slot_at};
+ghost use Rattle.protocol.specs.declared.state.Due.TheVariants.{Snapshots};
+ghost use Rattle.registry_values.specs.declared.slot.Slot.TheVariants.{Live};
 
-use crate::entry::{Entry, Kind};
-use crate::event::Event;
 use crate::machine::{Core, make_room};
-use crate::name::Name;
-use crate::refusal::Refusal;
-use crate::state::{Key, Slot};
+use protocol::Event;
+use registry_values::{Entry, Key, Kind, Name, Refusal, Slot};
 
 impl Core {
     /// Unlinks the live entry with the kind and the name, on CPU `c` (from 0), and answers it. It is retired then, with

@@ -1,12 +1,11 @@
 //! Worked rows, event by event: a collection that overtakes a release, and marks that come in their order.
 
-use crate::entry::{Entry, Kind};
-use crate::event::{Counted, Event, Reply};
 use crate::machine::commands::find::tests::driver;
 use crate::machine::commands::rows::{Ask, Told, USUAL, give, run};
 use crate::machine::commands::rows_tests::with_found;
 use crate::machine::{Core, run_events};
-use crate::settings::Settings;
+use protocol::{Counted, Event, Reply};
+use registry_values::{Entry, Kind, Settings};
 use std::process::Abort;
 use std::test::Fail;
 

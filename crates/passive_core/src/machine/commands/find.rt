@@ -2,18 +2,15 @@
 
 ghost use Rattle.std.specs.Prelude.{◌≡◌, ◌<◌, ℕ, IsSome, Some, length, true};
 ghost use Rattle.passive_core.specs.Commands.{all_seated, may_act};
-ghost use Rattle.passive_core.specs.Events.{is_inside};
+ghost use Rattle.protocol.specs.Events.{is_inside};
 ghost use Rattle.passive_core.specs.Finding.{after_find, next_load};
-ghost use Rattle.passive_core.specs.History.{IsLookup};
-ghost use Rattle.passive_core.specs.Invariant.{Holds};
-ghost use Rattle.passive_core.specs.Slots.{at_rest};
-ghost use Rattle.passive_core.specs.State.{search_at};
+ghost use Rattle.protocol.specs.History.{IsLookup};
+ghost use Rattle.protocol.specs.Invariant.{Holds};
+ghost use Rattle.protocol.specs.State.{at_rest, search_at};
 
-use crate::entry::{Entry, Kind};
-use crate::event::{Event, RecordOf, Reply};
 use crate::machine::Core;
-use crate::name::Name;
-use crate::state::{Place, Search};
+use protocol::{Event, Place, RecordOf, Reply, Search};
+use registry_values::{Entry, Kind, Name};
 
 impl Core {
     /// Looks the kind and the name up, inside a section of CPU `c` (from 0): the live entry that has both, or `None`

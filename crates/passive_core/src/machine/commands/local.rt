@@ -2,16 +2,16 @@
 
 ghost use Rattle.std.specs.Prelude.{◌≡◌, ℕ, ◌+◌, ◌<◌, nat_lt, IsTrue, Some, false, true};
 ghost use Rattle.passive_core.specs.Commands.{all_seated, may_act};
-ghost use Rattle.passive_core.specs.Events.{is_idle, standing};
+ghost use Rattle.protocol.specs.Events.{is_idle, standing};
 ghost use Rattle.passive_core.specs.Locals.{IsCounted, after_acquire_local, after_release_local, count_in, count_refusal, is_counting, is_live_local, local_slot, with_count_less, with_total_less};
 ghost use Rattle.passive_core.specs.Passives.{IsRecordOf};
-ghost use Rattle.passive_core.specs.Slots.{at_rest, slot_of};
-ghost use Rattle.passive_core.specs.State.{bias, found_at, local_at};
+ghost use Rattle.protocol.specs.State.{at_rest, found_at, local_at};
+ghost use Rattle.registry_values.specs.Slots.{slot_of};
+ghost use Rattle.registry_values.specs.Balances.{bias};
 
-use crate::entry::{Record, record_from};
-use crate::event::{Event, RecordOf, Reply};
-use crate::machine::{BIAS, Core};
-use crate::refusal::Refusal;
+use crate::machine::Core;
+use protocol::{Event, RecordOf, Reply};
+use registry_values::{BIAS, Record, Refusal, record_from};
 
 impl Core {
     /// Acquires a local reference to the CPU's last found entry (localcount(9)), and answers its id: the least, from 0, that

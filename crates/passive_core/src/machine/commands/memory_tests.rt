@@ -3,14 +3,11 @@
 //! Where memory is ample these tests compare answers alone. `tools/refuse-memory.sh` refuses each of their allocations in
 //! turn; each refusal that is met is noted on standard error.
 
-use crate::entry::{Entry, Kind, Record};
-use crate::event::{Counted, Event, RecordOf, Reply};
 use crate::machine::commands::find::tests::driver;
 use crate::machine::commands::rows::{Ask, Line, Tally, Told, USUAL, give, run};
-use crate::machine::{BIAS, Core, run_events};
-use crate::name::Name;
-use crate::refusal::Refusal;
-use crate::settings::Settings;
+use crate::machine::{Core, run_events};
+use protocol::{Counted, Event, RecordOf, Reply};
+use registry_values::{BIAS, Entry, Kind, Name, Record, Refusal, Settings};
 use std::process::Abort;
 use std::test::Fail;
 

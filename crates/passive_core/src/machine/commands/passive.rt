@@ -2,18 +2,18 @@
 
 ghost use Rattle.std.specs.Prelude.{◌≡◌, ℕ, ◌<◌, ◌||◌, nat_lt, IfOk, Option, Some, None, true};
 ghost use Rattle.passive_core.specs.Commands.{all_seated, may_act};
-ghost use Rattle.passive_core.specs.Events.{is_idle, is_number, load_record, taken};
-ghost use Rattle.passive_core.specs.Invariant.{Holds};
-ghost use Rattle.passive_core.specs.State.{found_at};
-ghost use Rattle.passive_core.specs.Slots.{at_rest, slot_of};
-ghost use Rattle.passive_core.specs.declared.event.Reply.TheVariants.{Word};
-ghost use Rattle.passive_core.specs.Passives.{passive_of, acquired, refusal_of, copied, Answers, IsOneMore, IsOneLess, IsRecordOf, IsWordLoad, after_acquire, after_release, after_read, with_one_more, with_one_less};
+ghost use Rattle.protocol.specs.Events.{is_idle, is_number, load_record, taken};
+ghost use Rattle.protocol.specs.Invariant.{Holds};
+ghost use Rattle.protocol.specs.State.{found_at, at_rest};
+ghost use Rattle.registry_values.specs.Slots.{slot_of};
+ghost use Rattle.protocol.specs.declared.event.Reply.TheVariants.{Word};
+ghost use Rattle.passive_core.specs.Passives.{passive_of, acquired, refusal_of, copied, IsOneMore, IsOneLess, IsRecordOf, IsWordLoad, after_acquire, after_release, after_read, with_one_more, with_one_less};
+ghost use Rattle.registry_values.specs.Refusals.{Answers};
 
-use crate::entry::{Record, record_from};
-use crate::event::{Event, RecordOf, Reply};
 use crate::machine::Core;
 use crate::psref::CorePsref;
-use crate::refusal::Refusal;
+use protocol::{Event, RecordOf, Reply};
+use registry_values::{Record, Refusal, record_from};
 
 impl Core {
     /// Acquires a passive reference to the CPU's last found entry (psref(9)). It outlives the section, and the entry's slot

@@ -1,18 +1,17 @@
 //! Waiting until each section that was open has ended.
 
 ghost use Rattle.std.specs.Prelude.{◌≡◌, ◌<◌, ◌≤◌, ℕ, true, false, not, slice_index_or, Some, None};
-ghost use Rattle.passive_core.specs.Advancing.{AllPassed, least_below};
+ghost use Rattle.protocol.specs.Marking.{AllPassed};
+ghost use Rattle.registry_values.specs.Marks.{least_below};
 ghost use Rattle.passive_core.specs.Commands.{may_act};
-ghost use Rattle.passive_core.specs.Events.{is_inside};
-ghost use Rattle.passive_core.specs.Performing.{retired_number, perform_answer, PerformLeaves, OnlyPasses, AllOutside, AreSeen, AreWords};
-ghost use Rattle.passive_core.specs.Slots.{at_rest, is_retired};
-ghost use Rattle.passive_core.specs.State.{section_at, slot_at};
+ghost use Rattle.protocol.specs.Events.{is_inside};
+ghost use Rattle.registry_values.specs.Slots.{retired_number, is_retired, slot_at};
+ghost use Rattle.passive_core.specs.Performing.{perform_answer, PerformLeaves, OnlyPasses, AllOutside, AreSeen, AreWords};
+ghost use Rattle.protocol.specs.State.{at_rest, section_at};
 
-use crate::event::{Event, Reply};
 use crate::machine::Core;
-use crate::marks::{first_unseen, is_out};
-use crate::refusal::Refusal;
-use crate::slots::retired_number;
+use protocol::{Event, Reply};
+use registry_values::{Refusal, first_unseen, is_out, retired_number};
 
 impl Core {
     /// Waits on behalf of the CPU `c`, for at most `turns` turns, until each section that is open as the call begins has

@@ -2,18 +2,13 @@
 
 ghost use Rattle.std.specs.Prelude.{◌≡◌, ◌<◌, IsTrue, true};
 ghost use Rattle.passive_core.specs.Commands.{may_act};
-ghost use Rattle.passive_core.specs.Slots.{at_rest};
+ghost use Rattle.protocol.specs.State.{at_rest};
 
-use crate::balance::Balance;
-use crate::entry::{Entry, Kind, Record};
-use crate::event::{Event, RecordOf, Reply, StepFault};
+use crate::machine::Core;
 use crate::machine::commands::rows::USUAL;
-use crate::machine::{BIAS, Core};
-use crate::name::Name;
 use crate::psref::CorePsref;
-use crate::refusal::Refusal;
-use crate::settings::Settings;
-use crate::stage::Stage;
+use protocol::{Event, RecordOf, Reply, StepFault};
+use registry_values::{BIAS, Balance, Entry, Kind, Name, Record, Refusal, Settings, Stage};
 use std::process::Abort;
 use std::test::Fail;
 

@@ -2,17 +2,12 @@
 
 ghost use Rattle.std.specs.Prelude.{◌≡◌, ◌<◌, true};
 ghost use Rattle.passive_core.specs.Commands.{may_act};
-ghost use Rattle.passive_core.specs.Slots.{at_rest};
+ghost use Rattle.protocol.specs.State.{at_rest};
 
-use crate::balance::Balance;
-use crate::entry::{Entry, Kind, Record};
-use crate::event::{Event, Reply, StepFault};
 use crate::machine::Core;
-use crate::name::Name;
 use crate::psref::CorePsref;
-use crate::refusal::Refusal;
-use crate::settings::Settings;
-use crate::stage::Stage;
+use protocol::{Event, Reply, StepFault};
+use registry_values::{Balance, Entry, Kind, Name, Record, Refusal, Settings, Stage};
 use std::process::Abort;
 
 /// Two CPUs, two slots, and limits that no row meets.

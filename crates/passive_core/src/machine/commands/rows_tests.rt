@@ -2,14 +2,11 @@
 //!
 //! A passive reference is its CPU and number, and a local one its id; a row that nests 255 sections stands elsewhere.
 
-use crate::entry::{Entry, Kind, Record};
 use crate::machine::Core;
 use crate::machine::commands::find::tests::driver;
 use crate::machine::commands::rows::{Ask, Tally, Told, USUAL, run};
 use crate::psref::CorePsref;
-use crate::refusal::Refusal;
-use crate::settings::Settings;
-use crate::stage::Stage;
+use registry_values::{Entry, Kind, Record, Refusal, Settings, Stage};
 use std::process::Abort;
 use std::test::Fail;
 

@@ -3,13 +3,12 @@
 ghost use Rattle.std.specs.Prelude.{◌≡◌, ◌<◌, ◌≤◌, ℕ, true};
 ghost use Rattle.passive_core.specs.Commands.{all_seated, may_act};
 ghost use Rattle.passive_core.specs.Entering.{enter_answer, after_enter_command, after_exit_command, with_depth};
-ghost use Rattle.passive_core.specs.Events.{is_idle, is_inside};
-ghost use Rattle.passive_core.specs.Slots.{at_rest};
-ghost use Rattle.passive_core.specs.State.{depth_at};
+ghost use Rattle.protocol.specs.Events.{is_idle, is_inside};
+ghost use Rattle.protocol.specs.State.{at_rest, depth_at};
 
-use crate::event::Event;
 use crate::machine::Core;
-use crate::refusal::Refusal;
+use protocol::Event;
+use registry_values::Refusal;
 
 /// How deep a section may be nested.
 const DEEPEST: u8 = 255;

@@ -1,8 +1,8 @@
 -- A look at a section word makes `looked` of the CPU's mark.
 use Rattle.std.proofs.Common.{◌∙◌, ap}
-use Rattle.passive_core.specs.declared.state.Mark.{Mark}
-use Rattle.passive_core.specs.State.{slot_at}
-use Rattle.passive_core.specs.Events.{looked}
+use Rattle.registry_values.specs.declared.mark.Mark.{Mark}
+use Rattle.registry_values.specs.Slots.{slot_at}
+use Rattle.registry_values.specs.Marks.{looked}
 use Rattle.passive_list.specs.Keepers.{OnKeeper}
 use Rattle.passive_list.proofs.Marks.{may_look, looked_keeper, looked_mark, looked_states}
 use Rattle.passive_list.proofs.grace.look.Goals as goal

@@ -1,6 +1,6 @@
 -- The data agree with the view as a lookup is over.
 use Rattle.std.proofs.Common.{Option, subst, sym}
-use Rattle.passive_core.specs.declared.entry.Entry.{Entry}
+use Rattle.registry_values.specs.declared.entry.Entry.{Entry}
 use Rattle.cpu_words.specs.Searching.{key_with}
 use Rattle.passive_list.specs.Walking.{HasLookedUp}
 use Rattle.passive_list.proofs.Agreeing.{looked_up_agrees}

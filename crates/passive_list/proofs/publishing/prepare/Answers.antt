@@ -1,6 +1,6 @@
 use Rattle.std.proofs.Common.{◌∙◌, ◌≤◌, sym, ap, subst}
-use Rattle.passive_core.specs.declared.settings.Settings.{Settings}
-use Rattle.passive_core.specs.Events.{words_of}
+use Rattle.registry_values.specs.declared.settings.Settings.{Settings}
+use Rattle.protocol.specs.Events.{words_of}
 use Rattle.passive_list.proofs.Preparing.{row_may, row_settings, sized_after, vacant_after, counts_may, prepared_from}
 use Rattle.passive_list.proofs.publishing.prepare.Goals as goal
 

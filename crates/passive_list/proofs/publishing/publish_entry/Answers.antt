@@ -1,6 +1,6 @@
 use Rattle.std.proofs.Common.{sym, subst}
-use Rattle.passive_core.specs.declared.event.Event.TheVariants.{Publish}
-use Rattle.passive_core.specs.declared.event.Reply.TheVariants.{Done}
+use Rattle.protocol.specs.declared.event.Event.TheVariants.{Publish}
+use Rattle.protocol.specs.declared.event.Reply.TheVariants.{Done}
 use Rattle.cpu_words.specs.declared.view.KeeperView.{KeeperView}
 use Rattle.cpu_words.specs.declared.view.View.TheVariants.{Keeper}
 use Rattle.cpu_words.specs.Publishing.{MayPublish}

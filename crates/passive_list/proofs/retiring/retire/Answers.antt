@@ -1,8 +1,8 @@
 use Rattle.std.proofs.Common.{◌∙◌, sym, subst, set}
 use Rattle.std.proofs.lemmas.List.{map-set}
-use Rattle.passive_core.specs.declared.settings.Settings.{Settings}
-use Rattle.passive_core.specs.declared.event.Event.TheVariants.{Unpublish}
-use Rattle.passive_core.specs.declared.event.Reply.TheVariants.{Done}
+use Rattle.registry_values.specs.declared.settings.Settings.{Settings}
+use Rattle.protocol.specs.declared.event.Event.TheVariants.{Unpublish}
+use Rattle.protocol.specs.declared.event.Reply.TheVariants.{Done}
 use Rattle.cpu_words.specs.declared.view.KeeperView.{KeeperView}
 use Rattle.cpu_words.specs.declared.view.View.TheVariants.{Keeper}
 use Rattle.cpu_words.specs.Steps.{Makes}

@@ -1,6 +1,6 @@
 -- The data agree with the view as a section begins.
 use Rattle.std.proofs.Common.{◌≡◌, ◌<◌, arith, ap, ◌∙◌}
-use Rattle.passive_core.specs.declared.settings.Settings.{Settings}
+use Rattle.registry_values.specs.declared.settings.Settings.{Settings}
 use Rattle.passive_list.specs.Cpus.{OnCpu}
 use Rattle.passive_list.proofs.Agreeing.{entered_agrees}
 use Rattle.passive_list.proofs.sections.begin.Goals as goal

@@ -1,7 +1,7 @@
 use Rattle.std.proofs.Common.{◌∙◌, sym, ap, subst, set}
 use Rattle.std.proofs.lemmas.List.{map-set}
-use Rattle.passive_core.specs.declared.state.Slot.TheVariants.{Vacant}
-use Rattle.passive_core.specs.State.{kept_at}
+use Rattle.registry_values.specs.declared.slot.Slot.TheVariants.{Vacant}
+use Rattle.protocol.specs.State.{kept_at}
 use Rattle.passive_list.specs.Keepers.{OnKeeper, row_at, state_of}
 use Rattle.passive_list.specs.Vacating.{IsDrainedOn}
 use Rattle.passive_list.proofs.Marks.{row_vacated, vacated_keeper}

@@ -1,8 +1,8 @@
 -- A look at a passive word makes `cleared` of the CPU's mark.
 use Rattle.std.proofs.Common.{◌∙◌, ap}
-use Rattle.passive_core.specs.declared.state.Mark.{Mark}
-use Rattle.passive_core.specs.State.{slot_at}
-use Rattle.passive_core.specs.Events.{cleared}
+use Rattle.registry_values.specs.declared.mark.Mark.{Mark}
+use Rattle.registry_values.specs.Slots.{slot_at}
+use Rattle.registry_values.specs.Marks.{cleared}
 use Rattle.passive_list.specs.Keepers.{OnKeeper}
 use Rattle.passive_list.proofs.Marks.{looked_keeper, looked_mark, looked_states}
 use Rattle.passive_ref.proofs.looking.look_passive.Goals as goal

@@ -1,5 +1,5 @@
 use Rattle.std.proofs.Common.{◌∙◌, ◌<◌, ap, arith, sym}
-use Rattle.passive_core.proofs.Fit.{ranges}
+use Rattle.registry_values.proofs.Fit.{ranges}
 use Rattle.cpu_words.specs.declared.view.CpuView.{CpuView}
 use Rattle.cpu_words.specs.Views.{Seated, new_cpu}
 use Rattle.registry_bench.proofs.Seats.{all_left, take_last}

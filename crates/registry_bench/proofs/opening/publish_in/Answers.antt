@@ -1,8 +1,8 @@
 use Rattle.std.proofs.Common.{◌∙◌, ap, arith, sym}
-use Rattle.passive_core.proofs.Fit.{ranges}
-use Rattle.passive_core.specs.declared.entry.Kind.TheVariants.{Driver}
-use Rattle.passive_core.specs.declared.state.Key.{Key}
-use Rattle.passive_core.specs.Slots.{is_taken}
+use Rattle.registry_values.proofs.Fit.{ranges}
+use Rattle.registry_values.specs.declared.entry.Kind.TheVariants.{Driver}
+use Rattle.registry_values.specs.declared.slot.Key.{Key}
+use Rattle.registry_values.specs.Slots.{is_taken}
 use Rattle.passive_list.specs.Keepers.{OnKeeper}
 use Rattle.registry_bench.proofs.Seats.{taken_in_rows}
 use Rattle.registry_bench.proofs.opening.publish_in.Goals as goal

@@ -1,5 +1,5 @@
 use Rattle.std.proofs.Common.{sym, ap, subst, arith}
-use Rattle.passive_core.specs.declared.settings.Settings.{Settings}
+use Rattle.registry_values.specs.declared.settings.Settings.{Settings}
 use Rattle.passive_list.specs.Cpus.{OnCpu}
 use Rattle.registry_script.specs.Storms.{IsOutside}
 use Rattle.registry_script.proofs.Storming.{new_outside, rest_outside}

@@ -3,12 +3,12 @@
 ghost use Rattle.std.specs.Prelude.{◌≡◌, IfOk, IsTrue, map, ◌<◌, ◌≤◌};
 ghost use Rattle.registry_script.specs.Grammar.{cpu_of, kind_of, name_if, turns_of, label_of, cpu_label_of, cpu_label_words};
 ghost use Rattle.registry_script.specs.Program.{is_label, are_turns};
-ghost use Rattle.passive_core.specs.Names.{named, is_lawful};
+ghost use Rattle.registry_values.specs.Names.{named, is_lawful};
 
 use crate::script::fault::Cause;
 use crate::script::label::Label;
 use crate::script::words::number;
-use passive_core::{Kind, Name, Settings};
+use registry_values::{Kind, Name, Settings};
 
 /// A number below the number of CPUs.
 #[tactic(auto, unfolding(crate::specs::Grammar::cpu_of))]

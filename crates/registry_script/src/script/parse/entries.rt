@@ -9,7 +9,7 @@ use crate::script::command::Command;
 use crate::script::fault::Cause;
 use crate::script::place::Place;
 use crate::script::words::number;
-use passive_core::{Kind, Record, Settings};
+use registry_values::{Kind, Record, Settings};
 
 pub fn attach(settings: Settings, arguments: &[&[u8]]) -> Result<Command, Cause>
     ensures said { result ≡ attach_of settings (map (λ x. x.now) arguments.now) }

@@ -9,7 +9,7 @@ use super::arguments::{cpu, cpu_and_label, label};
 use crate::script::command::Command;
 use crate::script::fault::Cause;
 use crate::script::place::Place;
-use passive_core::Settings;
+use registry_values::Settings;
 
 #[tactic(auto, unfolding(crate::specs::Grammar::reference_of))]
 pub fn reference(settings: Settings, arguments: &[&[u8]]) -> Result<Command, Cause>

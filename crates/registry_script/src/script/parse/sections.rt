@@ -8,7 +8,7 @@ use super::arguments::{cpu, turns};
 use crate::script::command::Command;
 use crate::script::fault::Cause;
 use crate::script::place::Place;
-use passive_core::Settings;
+use registry_values::Settings;
 
 #[tactic(auto, unfolding(crate::specs::Grammar::enter_of))]
 pub fn enter(settings: Settings, arguments: &[&[u8]]) -> Result<Command, Cause>

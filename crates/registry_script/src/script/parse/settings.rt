@@ -3,13 +3,13 @@
 ghost use Rattle.std.specs.Prelude.{◌≡◌, IfOk, IsTrue, map};
 ghost use Rattle.registry_script.specs.Grammar.{fitting, domain_of, limits_of, limits_words};
 ghost use Rattle.registry_script.specs.Program.{settings_for, with_limits, may_follow};
-ghost use Rattle.passive_core.specs.Limits.{are_fit};
+ghost use Rattle.registry_values.specs.Limits.{are_fit};
 
 use crate::script::command::Command;
 use crate::script::fault::Cause;
 use crate::script::place::{Place, settings_for, with_limits};
 use crate::script::words::number;
-use passive_core::Settings;
+use registry_values::Settings;
 
 #[tactic(auto, unfolding(crate::specs::Grammar::domain_of))]
 pub fn domain(arguments: &[&[u8]]) -> Result<Command, Cause>

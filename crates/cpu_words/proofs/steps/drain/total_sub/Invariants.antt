@@ -1,4 +1,4 @@
-use Rattle.passive_core.specs.declared.event.Reply.TheVariants.{Done}
+use Rattle.protocol.specs.declared.event.Reply.TheVariants.{Done}
 use Rattle.cpu_words.specs.declared.view.View.TheVariants.{Keeper}
 use Rattle.cpu_words.specs.Steps.{Makes}
 use Rattle.cpu_words.specs.Draining.{TotalSubTold}

@@ -1,7 +1,7 @@
 use Rattle.std.proofs.Common.{ℕ, refl, sym, ap, subst}
-use Rattle.passive_core.specs.declared.event.Event.TheVariants.{LoadRecord}
-use Rattle.passive_core.specs.declared.event.RecordOf.TheVariants.{Local}
-use Rattle.passive_core.specs.declared.event.Reply.TheVariants.{Word}
+use Rattle.protocol.specs.declared.event.Event.TheVariants.{LoadRecord}
+use Rattle.protocol.specs.declared.event.RecordOf.TheVariants.{Local}
+use Rattle.protocol.specs.declared.event.Reply.TheVariants.{Word}
 use Rattle.cpu_words.specs.declared.view.ReferenceView.{ReferenceView}
 use Rattle.cpu_words.specs.declared.view.View.TheVariants.{Reference}
 use Rattle.cpu_words.specs.Views.{Seated}

@@ -1,7 +1,7 @@
 -- The four words are the record.
 use Rattle.std.proofs.Common.{◌≡◌, ◌∙◌, ap}
-use Rattle.passive_core.specs.Events.{word, words_of}
-use Rattle.passive_core.specs.Names.{are_name_words}
+use Rattle.protocol.specs.Events.{word, words_of}
+use Rattle.registry_values.specs.Names.{are_name_words}
 use Rattle.cpu_words.specs.declared.view.ReferenceView.{ReferenceView}
 use Rattle.cpu_words.specs.Views.{Seated}
 use Rattle.local_count.proofs.local_ref.LocalRef.record.Goals as goal

@@ -1,11 +1,10 @@
 use Rattle.std.proofs.Common.{◌≡◌, ◌∙◌, ◌<◌, Bool, None, Some, ap, subst, sym, true}
 use Rattle.std.specs.Prelude.{if◌then◌else◌}
-use Rattle.passive_core.specs.State.{State}
-use Rattle.passive_core.specs.Slots.{at_rest}
+use Rattle.protocol.specs.State.{State, at_rest}
 use Rattle.passive_core.specs.Commands.{all_seated, may_act}
-use Rattle.passive_core.specs.Invariant.{Holds}
+use Rattle.protocol.specs.Invariant.{Holds}
 use Rattle.passive_core.specs.Locals.{after_counting, count_refusal, with_count_more}
-use Rattle.passive_core.specs.declared.refusal.Refusal.TheVariants.{LocalFull}
+use Rattle.registry_values.specs.declared.refusal.Refusal.TheVariants.{LocalFull}
 use Rattle.passive_core.proofs.Locals.{acquires, count_allowed, more_count_ready}
 use Rattle.passive_core.proofs.machine.Core.acquire_local.Goals as goal
 

@@ -1,5 +1,5 @@
 use Rattle.std.proofs.Common.{subst, sym}
-use Rattle.passive_core.specs.State.{State}
+use Rattle.protocol.specs.State.{State}
 use Rattle.passive_core.specs.Passives.{IsOneMore}
 use Rattle.passive_core.proofs.Passives.{add_allowed, added, counted_more}
 use Rattle.passive_core.proofs.machine.Core.add_passive.Goals as goal

@@ -1,12 +1,13 @@
 use Rattle.std.proofs.Common.{◌≡◌, true, sym, ap, subst, ◌∙◌, Ok}
-use Rattle.passive_core.specs.declared.state.Slot.TheVariants.{Retired}
-use Rattle.passive_core.specs.declared.stage.Stage.{Stage}
+use Rattle.registry_values.specs.declared.slot.Slot.TheVariants.{Retired}
+use Rattle.registry_values.specs.declared.stage.Stage.{Stage}
 use Rattle.passive_core.specs.Advancing.{plain_stage, stage_in}
 use Rattle.passive_core.specs.Commands.{may_act}
-use Rattle.passive_core.specs.Invariant.{Holds}
-use Rattle.passive_core.specs.Slots.{is_retired}
-use Rattle.passive_core.specs.State.{State, slot_at}
-use Rattle.passive_core.proofs.Advancing.{holders_are_open, retired_slot_tells, stage_acts}
+use Rattle.protocol.specs.Invariant.{Holds}
+use Rattle.registry_values.specs.Slots.{is_retired, slot_at}
+use Rattle.protocol.specs.State.{State}
+use Rattle.passive_core.proofs.Advancing.{holders_are_open, stage_acts}
+use Rattle.registry_values.proofs.Slots.{retired_slot_tells}
 use Rattle.passive_core.proofs.Acting.{acting_on}
 use Rattle.passive_core.proofs.machine.Core.advance.Goals as goal
 

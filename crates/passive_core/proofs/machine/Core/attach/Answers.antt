@@ -1,6 +1,6 @@
 use Rattle.std.proofs.Common.{◌≡◌, true, subst, sym, ◌∙◌}
 use Rattle.passive_core.specs.Commands.{may_act}
-use Rattle.passive_core.specs.Invariant.{Holds}
+use Rattle.protocol.specs.Invariant.{Holds}
 use Rattle.passive_core.proofs.Attaching.{call_acts, call_restored, driver_links}
 use Rattle.passive_core.proofs.machine.Core.attach.Goals as goal
 

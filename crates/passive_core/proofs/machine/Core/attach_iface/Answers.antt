@@ -1,6 +1,6 @@
 use Rattle.std.proofs.Common.{◌≡◌, true, subst, sym, ◌∙◌}
 use Rattle.passive_core.specs.Commands.{may_act}
-use Rattle.passive_core.specs.Invariant.{Holds}
+use Rattle.protocol.specs.Invariant.{Holds}
 use Rattle.passive_core.proofs.Attaching.{PlugSteps, call_acts, iface_links, plug_restored, plug_words_restored}
 use Rattle.passive_core.proofs.machine.Core.attach_iface.Goals as goal
 

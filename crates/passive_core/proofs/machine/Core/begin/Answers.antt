@@ -1,7 +1,7 @@
 use Rattle.std.proofs.Common.{◌≡◌, subst, sym, true}
-use Rattle.passive_core.specs.State.{State}
-use Rattle.passive_core.specs.Events.{is_idle}
-use Rattle.passive_core.specs.Invariant.{Holds}
+use Rattle.protocol.specs.State.{State}
+use Rattle.protocol.specs.Events.{is_idle}
+use Rattle.protocol.specs.Invariant.{Holds}
 use Rattle.passive_core.specs.Commands.{may_act}
 use Rattle.passive_core.proofs.Passives.{may_still}
 use Rattle.passive_core.proofs.Acting.{acting_idle}

@@ -1,10 +1,12 @@
 use Rattle.std.proofs.Common.{◌≡◌, sym, ap, subst, ◌∙◌}
-use Rattle.passive_core.specs.declared.state.Mark.{Mark}
-use Rattle.passive_core.specs.Advancing.{MarksGrow}
-use Rattle.passive_core.specs.Events.{after_look_passive, cleared, may_look_passive}
-use Rattle.passive_core.specs.Invariant.{Holds}
-use Rattle.passive_core.specs.State.{State, mark_at, passive_at}
-use Rattle.passive_core.proofs.Advancing.{clear_left, examines_passive, guard_some, mark_there, passive_clears, passive_look_is, passive_look_marks}
+use Rattle.registry_values.specs.declared.mark.Mark.{Mark}
+use Rattle.protocol.specs.Marking.{MarksGrow}
+use Rattle.protocol.specs.Events.{after_look_passive, may_look_passive}
+use Rattle.registry_values.specs.Marks.{cleared}
+use Rattle.protocol.specs.Invariant.{Holds}
+use Rattle.protocol.specs.State.{State, mark_at, passive_at}
+use Rattle.passive_core.proofs.Advancing.{clear_left, examines_passive, guard_some, passive_clears, passive_look_is, passive_look_marks}
+use Rattle.protocol.proofs.MarkRows.{mark_there}
 use Rattle.passive_core.proofs.machine.Core.clears.Goals as goal
 
 pub returns-then-mark_at-clause-answer : goal.returns-then-mark_at-clause-answer

@@ -1,10 +1,10 @@
 use Rattle.std.proofs.Common.{◌≡◌, false, sym, ap, subst, ◌∙◌}
-use Rattle.passive_core.specs.declared.state.Mark.{Mark}
-use Rattle.passive_core.specs.declared.event.Event.TheVariants.{TotalAdd}
-use Rattle.passive_core.specs.declared.event.Reply.TheVariants.{Done}
-use Rattle.passive_core.specs.Events.{may_collect, step}
-use Rattle.passive_core.specs.Invariant.{Holds}
-use Rattle.passive_core.specs.State.{mark_at}
+use Rattle.registry_values.specs.declared.mark.Mark.{Mark}
+use Rattle.protocol.specs.declared.event.Event.TheVariants.{TotalAdd}
+use Rattle.protocol.specs.declared.event.Reply.TheVariants.{Done}
+use Rattle.protocol.specs.Events.{may_collect, step}
+use Rattle.protocol.specs.Invariant.{Holds}
+use Rattle.protocol.specs.State.{mark_at}
 use Rattle.passive_core.proofs.Advancing.{added, adds, collect_is, collected_there, collects, guard_some, left_by}
 use Rattle.passive_core.proofs.machine.Core.collect.Goals as goal
 

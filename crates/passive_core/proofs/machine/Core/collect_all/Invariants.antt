@@ -1,5 +1,5 @@
 use Rattle.std.proofs.Common.{◌≡◌, ◌<◌, ℕ, true}
-use Rattle.passive_core.specs.State.{mark_at}
+use Rattle.protocol.specs.State.{mark_at}
 use Rattle.passive_core.specs.Advancing.{Gathers}
 use Rattle.passive_core.proofs.machine.Core.collect_all.Given as goal
 

@@ -1,7 +1,7 @@
 use Rattle.std.proofs.Common.{◌≡◌, ℕ, true, Ok}
 use Rattle.passive_core.specs.Advancing.{AdvanceLeaves, advance_answer}
 use Rattle.passive_core.specs.Commands.{may_act}
-use Rattle.passive_core.specs.Slots.{at_rest}
+use Rattle.protocol.specs.State.{at_rest}
 use Rattle.passive_core.proofs.machine.Core.destroy.Given as goal
 
 -- the turns so far are as one

@@ -1,5 +1,5 @@
 use Rattle.std.proofs.Common.{refl, subst}
-use Rattle.passive_core.specs.Invariant.{Holds}
+use Rattle.protocol.specs.Invariant.{Holds}
 use Rattle.passive_core.proofs.Acting.{acting_idle}
 use Rattle.passive_core.proofs.Detaching.{detached_is, detached_ready, detached_settings, snapped_idle, snapped_told, unlinked_blank}
 use Rattle.passive_core.proofs.machine.Core.detach.Goals as goal

@@ -1,14 +1,13 @@
-use Rattle.std.proofs.Common.{◌≡◌, ◌<◌, length, [], true, false, refl, sym, ap, ◌∙◌, arith, rules}
+use Rattle.std.proofs.Common.{◌≡◌, ◌<◌, length, [], true, false, refl, sym, ap, ◌∙◌, arith, rules, nat_eq, eq-eqb, ne_eqb}
 use Rattle.std.proofs.lemmas.List.{get_or_read}
-use Rattle.passive_core.specs.State.{State, hand_at, count_at}
+use Rattle.protocol.specs.State.{State, hand_at, count_at}
 use Rattle.passive_core.specs.Shown.{shown}
-use Rattle.passive_core.specs.Slots.{slot_of}
-use Rattle.passive_core.specs.declared.event.Event.TheVariants.{CountDown}
-use Rattle.passive_core.specs.declared.event.Reply.TheVariants.{Word, Collected}
-use Rattle.passive_core.proofs.Keeping.{step_holds}
+use Rattle.registry_values.specs.Slots.{slot_of}
+use Rattle.protocol.specs.declared.event.Event.TheVariants.{CountDown}
+use Rattle.protocol.specs.declared.event.Reply.TheVariants.{Word, Collected}
+use Rattle.protocol.proofs.Keeping.{step_holds}
 use Rattle.passive_core.proofs.machine.Core.exchange.Goals as goal
-use Rattle.std.proofs.Common.{nat_eq, eq-eqb, ne_eqb}
-use Rattle.passive_core.proofs.Bounds.{counting_positive}
+use Rattle.protocol.proofs.Bounds.{counting_positive}
 
 pub overflow_sub-word : goal.overflow_sub-word
 overflow_sub-word c =

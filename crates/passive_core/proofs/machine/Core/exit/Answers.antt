@@ -1,5 +1,5 @@
 use Rattle.std.proofs.Common.{subst, arith}
-use Rattle.passive_core.specs.Invariant.{Holds}
+use Rattle.protocol.specs.Invariant.{Holds}
 use Rattle.passive_core.proofs.Entering.{depth_range}
 use Rattle.passive_core.proofs.machine.Core.exit.Goals as goal
 

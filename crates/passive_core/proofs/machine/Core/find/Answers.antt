@@ -1,13 +1,13 @@
 use Rattle.std.proofs.Common.{◌≡◌, ℕ, ◌<◌, length, Option, Some, None, Bool, true, ◌&&◌, refl, sym, ap, subst, ◌∙◌, arith}
 use Rattle.passive_core.specs.Commands.{all_seated, may_act}
-use Rattle.passive_core.specs.Events.{guard, taken, after_seek, is_inside, may_seek}
+use Rattle.protocol.specs.Events.{guard, taken, after_seek, is_inside, may_seek}
 use Rattle.passive_core.specs.Finding.{after_find, next_load}
-use Rattle.passive_core.specs.Invariant.{Holds}
-use Rattle.passive_core.specs.State.{State, search_at}
-use Rattle.passive_core.specs.declared.entry.Entry.{Entry}
-use Rattle.passive_core.specs.declared.event.Reply.{Reply}
-use Rattle.passive_core.specs.declared.event.Reply.TheVariants.{Done, Found, Missed}
-use Rattle.passive_core.specs.declared.state.Key.{Key}
+use Rattle.protocol.specs.Invariant.{Holds}
+use Rattle.protocol.specs.State.{State, search_at}
+use Rattle.registry_values.specs.declared.entry.Entry.{Entry}
+use Rattle.protocol.specs.declared.event.Reply.{Reply}
+use Rattle.protocol.specs.declared.event.Reply.TheVariants.{Done, Found, Missed}
+use Rattle.registry_values.specs.declared.slot.Key.{Key}
 use Rattle.passive_core.proofs.Acting.{acting_idle, acting_on, idle_unsearching}
 use Rattle.passive_core.proofs.Finding.{IsTurn, Walks, left, load_turns, seek_starts, walk_goes_on}
 use Rattle.passive_core.proofs.machine.Core.find.Goals as goal

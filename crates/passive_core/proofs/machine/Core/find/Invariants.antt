@@ -1,5 +1,5 @@
 use Rattle.passive_core.specs.Commands.{all_seated}
-use Rattle.passive_core.specs.State.{search_at}
+use Rattle.protocol.specs.State.{search_at}
 use Rattle.passive_core.proofs.Finding.{Walks, left}
 use Rattle.passive_core.proofs.machine.Core.find.Given as goal
 

@@ -1,11 +1,11 @@
 use Rattle.std.proofs.Common.{◌≡◌, ℕ, ◌-◌, suc, length, sym, ap, subst, ◌∙◌, arith}
-use Rattle.passive_core.specs.State.{State}
+use Rattle.protocol.specs.State.{State}
 use Rattle.passive_core.specs.Shown.{shown}
-use Rattle.passive_core.specs.declared.event.Reply.TheVariants.{Word}
+use Rattle.protocol.specs.declared.event.Reply.TheVariants.{Word}
 use Rattle.passive_core.proofs.machine.Core.follow.Goals as goal
-use Rattle.passive_core.specs.Events.{link_loaded, going_on, after_seeing, taken}
-use Rattle.passive_core.specs.Taken.{Keeps}
-use Rattle.passive_core.specs.declared.state.Place.TheVariants.{AtNumber}
+use Rattle.protocol.specs.Events.{link_loaded, going_on, after_seeing, taken}
+use Rattle.protocol.specs.Taken.{Keeps}
+use Rattle.protocol.specs.declared.state.Place.TheVariants.{AtNumber}
 
 pub invariant_of-self-else-link-eq0 : goal.invariant_of-self-else-link-eq0
 invariant_of-self-else-link-eq0 c =

@@ -1,12 +1,13 @@
 use Rattle.std.proofs.Common.{◌≡◌, sym, subst, ◌∙◌, Some, None}
-use Rattle.passive_core.specs.declared.event.Reply.TheVariants.{Done}
-use Rattle.passive_core.specs.Events.{after_kept_sub, after_vacate, may_vacate, step}
-use Rattle.passive_core.specs.Invariant.{Holds}
-use Rattle.passive_core.specs.State.{kept_at}
-use Rattle.passive_core.specs.declared.event.Event.TheVariants.{KeptSub}
-use Rattle.passive_core.proofs.Advancing.{allowed, gave_up, gives_up, guard_some, kept_slot, left_by, none_is, vacated, vacates}
+use Rattle.protocol.specs.declared.event.Reply.TheVariants.{Done}
+use Rattle.protocol.specs.Events.{after_kept_sub, after_vacate, may_vacate, step}
+use Rattle.protocol.specs.Invariant.{Holds}
+use Rattle.protocol.specs.State.{kept_at}
+use Rattle.protocol.specs.declared.event.Event.TheVariants.{KeptSub}
+use Rattle.passive_core.proofs.Advancing.{allowed, gave_up, gives_up, guard_some, kept_slot, left_by, vacated, vacates}
+use Rattle.registry_values.proofs.Least.{none_is}
 use Rattle.passive_core.proofs.Acting.{made_is}
-use Rattle.passive_core.proofs.SectionKeeps.{some_from}
+use Rattle.protocol.proofs.SectionKeeps.{some_from}
 use Rattle.passive_core.proofs.machine.Core.free.Goals as goal
 
 pub make-requires-clause-allowed : goal.make-requires-clause-allowed

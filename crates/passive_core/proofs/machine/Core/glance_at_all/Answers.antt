@@ -1,7 +1,7 @@
 use Rattle.std.proofs.Common.{◌≡◌, ◌<◌, true, false, not, ap, ◌∙◌, arith, length, length-set}
-use Rattle.passive_core.specs.Events.{is_inside}
-use Rattle.passive_core.specs.State.{State}
-use Rattle.passive_core.proofs.Fit.{ranges}
+use Rattle.protocol.specs.Events.{is_inside}
+use Rattle.protocol.specs.State.{State}
+use Rattle.registry_values.proofs.Fit.{ranges}
 use Rattle.passive_core.proofs.Performing.{sound_out, written_below, written_each}
 use Rattle.passive_core.proofs.machine.Core.glance_at_all.Goals as goal
 

@@ -1,14 +1,14 @@
 use Rattle.std.proofs.Common.{length, List, Some, sym, ap, subst, ◌∙◌}
-use Rattle.passive_core.specs.State.{State, search_at}
+use Rattle.protocol.specs.State.{State, search_at}
 use Rattle.passive_core.specs.Shown.{shown}
 use Rattle.passive_core.proofs.machine.Core.load_searched.Goals as goal
-use Rattle.passive_core.proofs.Loading.{loaded_keeps}
-use Rattle.passive_core.proofs.Bounds.{search_within}
-use Rattle.passive_core.specs.Invariant.{Holds}
-use Rattle.passive_core.specs.Loaded.{SlotWithin, loaded, row_of_place}
-use Rattle.passive_core.specs.declared.state.RecordWords.{RecordWords}
-use Rattle.passive_core.specs.Events.{going_on, search_over}
-use Rattle.passive_core.specs.declared.state.Loaded.TheVariants.{On, Over}
+use Rattle.protocol.proofs.Loading.{loaded_keeps}
+use Rattle.protocol.proofs.Bounds.{search_within}
+use Rattle.protocol.specs.Invariant.{Holds}
+use Rattle.protocol.specs.Loaded.{SlotWithin, loaded, row_of_place}
+use Rattle.protocol.specs.declared.state.RecordWords.{RecordWords}
+use Rattle.protocol.specs.Events.{going_on, search_over}
+use Rattle.protocol.specs.declared.state.Loaded.TheVariants.{On, Over}
 
 pub row_of_place-row-requires : goal.row_of_place-row-requires
 row_of_place-row-requires c =

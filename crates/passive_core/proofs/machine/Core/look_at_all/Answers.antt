@@ -1,8 +1,9 @@
 use Rattle.std.proofs.Common.{◌≡◌, ◌<◌, ◌≤◌, true, false, sym, subst, ◌∙◌, arith}
 use borrow.Author.Count.{below_more}
 use Rattle.passive_core.specs.Advancing.{is_open_since}
-use Rattle.passive_core.specs.State.{State, mark_at}
-use Rattle.passive_core.proofs.Advancing.{least_is, none_below, not_false, not_true, only_marks, open_same, marks_pass_more}
+use Rattle.protocol.specs.State.{State, mark_at}
+use Rattle.registry_values.proofs.Least.{least_is, none_below}
+use Rattle.passive_core.proofs.Advancing.{not_false, not_true, only_marks, open_same, marks_pass_more}
 use Rattle.passive_core.proofs.machine.Core.look_at_all.Goals as goal
 
 pub returns-then-not-passes-clause-answer : goal.returns-then-not-passes-clause-answer

@@ -1,5 +1,5 @@
 use Rattle.std.proofs.Common.{◌≡◌, ◌<◌, ℕ, true, false}
-use Rattle.passive_core.specs.State.{mark_at}
+use Rattle.protocol.specs.State.{mark_at}
 use Rattle.passive_core.specs.Advancing.{MarksPass, is_open_since}
 use Rattle.passive_core.proofs.machine.Core.look_at_all.Given as goal
 

@@ -1,8 +1,10 @@
 use Rattle.std.proofs.Common.{◌≡◌, ◌<◌, ◌≤◌, true, false, sym, subst, ◌∙◌, arith}
 use Rattle.passive_core.specs.Advancing.{has_passive}
-use Rattle.passive_core.specs.State.{State, mark_at}
+use Rattle.protocol.specs.State.{State, mark_at}
 use borrow.Author.Count.{below_more}
-use Rattle.passive_core.proofs.Advancing.{least_is, marks_grow_more, none_below, not_false, not_true, only_marks, passive_same}
+use Rattle.registry_values.proofs.Least.{least_is, none_below}
+use Rattle.protocol.proofs.MarkRows.{marks_grow_more}
+use Rattle.passive_core.proofs.Advancing.{not_false, not_true, only_marks, passive_same}
 use Rattle.passive_core.proofs.machine.Core.look_at_passive.Goals as goal
 
 pub returns-then-not-clears-clause-answer : goal.returns-then-not-clears-clause-answer

@@ -1,6 +1,7 @@
 use Rattle.std.proofs.Common.{◌≡◌, ◌<◌, ℕ, true, false}
-use Rattle.passive_core.specs.State.{mark_at}
-use Rattle.passive_core.specs.Advancing.{MarksGrow, has_passive}
+use Rattle.protocol.specs.State.{mark_at}
+use Rattle.protocol.specs.Marking.{MarksGrow}
+use Rattle.passive_core.specs.Advancing.{has_passive}
 use Rattle.passive_core.proofs.machine.Core.look_at_passive.Given as goal
 
 -- the CPUs so far are clear, and only marks for the slot have changed

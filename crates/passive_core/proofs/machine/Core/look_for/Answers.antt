@@ -1,11 +1,11 @@
 use Rattle.std.proofs.Common.{◌<◌, length, [], Some, refl, sym, ap, ◌∙◌, rules}
 use Rattle.std.proofs.lemmas.List.{get_or_read}
-use Rattle.passive_core.specs.State.{State, section_at, mark_at}
+use Rattle.protocol.specs.State.{State, section_at, mark_at}
 use Rattle.passive_core.specs.Shown.{shown}
-use Rattle.passive_core.specs.Events.{may_examine}
-use Rattle.passive_core.specs.declared.event.Event.TheVariants.{Look}
-use Rattle.passive_core.specs.declared.event.Reply.TheVariants.{Word}
-use Rattle.passive_core.proofs.Keeping.{step_holds}
+use Rattle.protocol.specs.Events.{may_examine}
+use Rattle.protocol.specs.declared.event.Event.TheVariants.{Look}
+use Rattle.protocol.specs.declared.event.Reply.TheVariants.{Word}
+use Rattle.protocol.proofs.Keeping.{step_holds}
 use Rattle.passive_core.proofs.machine.Core.look_for.Goals as goal
 
 pub invariant_of-self : goal.invariant_of-self

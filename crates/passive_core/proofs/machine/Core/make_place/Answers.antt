@@ -1,5 +1,5 @@
 use Rattle.std.proofs.Common.{◌∙◌, ap, position, sym}
-use Rattle.passive_core.specs.Events.{is_free}
+use Rattle.protocol.specs.Events.{is_free}
 use Rattle.passive_core.specs.Shown.{shown}
 use Rattle.passive_core.proofs.Locals.{grown_holds, grown_room}
 use Rattle.passive_core.proofs.machine.Core.make_place.Goals as goal

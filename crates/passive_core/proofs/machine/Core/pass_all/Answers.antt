@@ -1,12 +1,10 @@
-use Rattle.std.proofs.Common.{◌≡◌, ℕ, ◌<◌, ◌≤◌, true, sym, ap, subst, ◌∙◌, arith, length}
-use Rattle.std.proofs.Common.{inr, ⊎_elim}
+use Rattle.std.proofs.Common.{◌≡◌, ℕ, ◌<◌, ◌≤◌, true, sym, ap, subst, ◌∙◌, arith, length, inr, ⊎_elim}
 use Rattle.std.proofs.lemmas.Bool.{cases_eq}
-use Rattle.passive_core.specs.Advancing.{AllPassed}
-use Rattle.passive_core.specs.Invariant.{Holds}
-use Rattle.passive_core.specs.Performing.{retired_number}
-use Rattle.passive_core.specs.Slots.{is_retired}
-use Rattle.passive_core.specs.State.{State, slot_at}
-use Rattle.passive_core.proofs.Occupied.{in_within, is_retired_tells}
+use Rattle.protocol.specs.Marking.{AllPassed}
+use Rattle.protocol.specs.Invariant.{Holds}
+use Rattle.registry_values.specs.Slots.{retired_number, is_retired, slot_at}
+use Rattle.protocol.specs.State.{State}
+use Rattle.protocol.proofs.Occupied.{in_within, is_retired_tells}
 use Rattle.passive_core.proofs.Performing.{only_more, still_passed}
 use Rattle.passive_core.proofs.machine.Core.pass_all.Goals as goal
 

@@ -1,9 +1,9 @@
 use Rattle.std.proofs.Common.{◌≡◌, sym, ap, subst, ◌∙◌, Some}
 use Rattle.std.proofs.lemmas.Option.{none-some, same_Some}
-use Rattle.passive_core.specs.Advancing.{AllPassed, retired_slot}
-use Rattle.passive_core.specs.Invariant.{Holds}
-use Rattle.passive_core.specs.Slots.{is_retired}
-use Rattle.passive_core.proofs.Advancing.{retired_slot_tells}
+use Rattle.protocol.specs.Marking.{AllPassed}
+use Rattle.registry_values.specs.Slots.{retired_slot, is_retired}
+use Rattle.protocol.specs.Invariant.{Holds}
+use Rattle.registry_values.proofs.Slots.{retired_slot_tells}
 use Rattle.passive_core.proofs.Performing.{none_open, only_one, retired_found}
 use Rattle.passive_core.proofs.machine.Core.pass_entry.Goals as goal
 

@@ -1,10 +1,12 @@
 use Rattle.std.proofs.Common.{◌≡◌, sym, ap, subst, ◌∙◌}
-use Rattle.passive_core.specs.declared.state.Mark.{Mark}
+use Rattle.registry_values.specs.declared.mark.Mark.{Mark}
 use Rattle.passive_core.specs.Advancing.{MarksPass}
-use Rattle.passive_core.specs.Events.{after_look, looked}
-use Rattle.passive_core.specs.Invariant.{Holds}
-use Rattle.passive_core.specs.State.{State, section_at, mark_at}
-use Rattle.passive_core.proofs.Advancing.{look_is, look_marks, look_passes, mark_there, passed_left}
+use Rattle.protocol.specs.Events.{after_look}
+use Rattle.registry_values.specs.Marks.{looked}
+use Rattle.protocol.specs.Invariant.{Holds}
+use Rattle.protocol.specs.State.{State, section_at, mark_at}
+use Rattle.passive_core.proofs.Advancing.{look_is, look_marks, look_passes, passed_left}
+use Rattle.protocol.proofs.MarkRows.{mark_there}
 use Rattle.passive_core.proofs.machine.Core.passes.Goals as goal
 
 pub returns-then-mark_at-clause-answer : goal.returns-then-mark_at-clause-answer

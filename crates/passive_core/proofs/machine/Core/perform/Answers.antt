@@ -1,12 +1,12 @@
 use Rattle.std.proofs.Common.{◌≡◌, ◌<◌, true, false, refl, sym, ap, subst, ◌∙◌, None}
-use Rattle.passive_core.specs.Advancing.{least_below}
+use Rattle.registry_values.specs.Marks.{least_below}
 use Rattle.passive_core.specs.Commands.{all_seated, may_act}
-use Rattle.passive_core.specs.Events.{is_inside}
-use Rattle.passive_core.specs.Invariant.{Holds}
-use Rattle.passive_core.specs.Performing.{AllOutside, OnlyPasses, retired_number}
-use Rattle.passive_core.specs.Slots.{is_retired}
-use Rattle.passive_core.specs.State.{State, slot_at}
-use Rattle.passive_core.proofs.Performing.{least_none}
+use Rattle.protocol.specs.Events.{is_inside}
+use Rattle.protocol.specs.Invariant.{Holds}
+use Rattle.passive_core.specs.Performing.{AllOutside, OnlyPasses}
+use Rattle.registry_values.specs.Slots.{retired_number, is_retired, slot_at}
+use Rattle.protocol.specs.State.{State}
+use Rattle.registry_values.proofs.Least.{least_none}
 use Rattle.passive_core.proofs.Acting.{acting_on}
 use Rattle.passive_core.proofs.machine.Core.perform.Goals as goal
 

@@ -1,9 +1,9 @@
 use Rattle.std.proofs.Common.{refl, ap, ◌∙◌}
-use Rattle.passive_core.specs.State.{State, hand_at}
+use Rattle.protocol.specs.State.{State, hand_at}
 use Rattle.passive_core.specs.Shown.{shown}
-use Rattle.passive_core.specs.declared.event.Event.TheVariants.{SplitBack}
-use Rattle.passive_core.specs.declared.event.Reply.TheVariants.{Ref}
-use Rattle.passive_core.proofs.Keeping.{step_holds}
+use Rattle.protocol.specs.declared.event.Event.TheVariants.{SplitBack}
+use Rattle.protocol.specs.declared.event.Reply.TheVariants.{Ref}
+use Rattle.protocol.proofs.Keeping.{step_holds}
 use Rattle.passive_core.proofs.machine.Core.put_back.Goals as goal
 
 pub invariant_of-self : goal.invariant_of-self

@@ -1,7 +1,7 @@
 use Rattle.std.proofs.Common.{◌≡◌, ◌∙◌, ℕ, Option, Some, refl, subst, sym}
-use Rattle.passive_core.specs.State.{State}
-use Rattle.passive_core.specs.Events.{load_local}
-use Rattle.passive_core.specs.Invariant.{Holds}
+use Rattle.protocol.specs.State.{State}
+use Rattle.protocol.specs.Events.{load_local}
+use Rattle.protocol.specs.Invariant.{Holds}
 use Rattle.passive_core.proofs.Locals.{local_shows}
 use Rattle.passive_core.proofs.Passives.{load_ok, lawful_words, word_is}
 use Rattle.passive_core.proofs.machine.Core.record_by_local.Goals as goal

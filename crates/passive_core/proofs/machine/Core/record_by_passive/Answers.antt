@@ -1,7 +1,7 @@
 use Rattle.std.proofs.Common.{◌∙◌, ℕ, refl, subst}
-use Rattle.passive_core.specs.State.{State}
-use Rattle.passive_core.specs.Events.{load_passive}
-use Rattle.passive_core.specs.Invariant.{Holds}
+use Rattle.protocol.specs.State.{State}
+use Rattle.protocol.specs.Events.{load_passive}
+use Rattle.protocol.specs.Invariant.{Holds}
 use Rattle.passive_core.proofs.Passives.{load_ok, lawful_words, passive_shows, word_is}
 use Rattle.passive_core.proofs.machine.Core.record_by_passive.Goals as goal
 

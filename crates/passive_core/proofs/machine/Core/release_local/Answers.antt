@@ -1,5 +1,5 @@
 use Rattle.std.proofs.Common.{◌≡◌, subst, sym, true}
-use Rattle.passive_core.specs.State.{State}
+use Rattle.protocol.specs.State.{State}
 use Rattle.passive_core.specs.Commands.{may_act}
 use Rattle.passive_core.specs.Locals.{local_slot}
 use Rattle.passive_core.proofs.Locals.{less_count_ready}

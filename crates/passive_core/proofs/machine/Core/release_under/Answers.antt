@@ -1,7 +1,7 @@
 use Rattle.std.proofs.Common.{◌∙◌, refl, subst, sym}
-use Rattle.passive_core.specs.Invariant.{Holds}
-use Rattle.passive_core.specs.Events.{step}
-use Rattle.passive_core.specs.declared.event.Event.TheVariants.{JoinKeeper}
+use Rattle.protocol.specs.Invariant.{Holds}
+use Rattle.protocol.specs.Events.{step}
+use Rattle.protocol.specs.declared.event.Event.TheVariants.{JoinKeeper}
 use Rattle.passive_core.proofs.Locals.{joined_keeper, live_slot, sub_allowed}
 use Rattle.passive_core.proofs.Passives.{is_some, made}
 use Rattle.passive_core.proofs.machine.Core.release_under.Goals as goal

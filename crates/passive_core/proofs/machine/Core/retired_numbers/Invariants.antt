@@ -1,6 +1,5 @@
 use Rattle.std.proofs.Common.{◌≡◌, ◌<◌, ℕ, length, slice_index_or, None}
-use Rattle.passive_core.specs.Performing.{retired_number}
-use Rattle.passive_core.specs.State.{slot_at}
+use Rattle.registry_values.specs.Slots.{retired_number, slot_at}
 use Rattle.passive_core.proofs.machine.Core.retired_numbers.Given as goal
 
 -- the numbers of the slots so far

@@ -1,10 +1,10 @@
 use Rattle.std.proofs.Common.{length, Some, refl, sym, ap, ◌∙◌}
-use Rattle.passive_core.specs.State.{State}
+use Rattle.protocol.specs.State.{State}
 use Rattle.passive_core.specs.Shown.{shown}
-use Rattle.passive_core.specs.Events.{is_idle}
-use Rattle.passive_core.specs.declared.event.Event.TheVariants.{Hear}
-use Rattle.passive_core.specs.declared.event.Reply.TheVariants.{Done}
-use Rattle.passive_core.proofs.Keeping.{step_holds}
+use Rattle.protocol.specs.Events.{is_idle}
+use Rattle.protocol.specs.declared.event.Event.TheVariants.{Hear}
+use Rattle.protocol.specs.declared.event.Reply.TheVariants.{Done}
+use Rattle.protocol.proofs.Keeping.{step_holds}
 use Rattle.passive_core.proofs.machine.Core.see.Goals as goal
 
 pub invariant_of-self : goal.invariant_of-self

@@ -1,8 +1,10 @@
 use Rattle.std.proofs.Common.{◌≡◌, ℕ, ◌+◌, ◌-◌, refl, sym, ap, subst, ◌∙◌, arith}
-use Rattle.passive_core.specs.Invariant.{Holds, held_at}
-use Rattle.passive_core.specs.State.{bias, slot_at, total_at}
+use Rattle.protocol.specs.Invariant.{Holds, held_at}
+use Rattle.registry_values.specs.Balances.{bias}
+use Rattle.registry_values.specs.Slots.{slot_at}
+use Rattle.protocol.specs.State.{total_at}
 use Rattle.passive_core.proofs.Advancing.{drained_from, gathered_total, gathered_words, local_stage, free_stage}
-use Rattle.passive_core.proofs.Occupied.{is_retired_tells}
+use Rattle.protocol.proofs.Occupied.{is_retired_tells}
 use Rattle.passive_core.proofs.machine.Core.settle.Goals as goal
 
 pub overflow_sub-result : goal.overflow_sub-result

@@ -1,5 +1,5 @@
 use Rattle.std.proofs.Common.{◌≡◌, ◌<◌, ℕ, length, slice_index_or}
-use Rattle.passive_core.specs.State.{section_at}
+use Rattle.protocol.specs.State.{section_at}
 use Rattle.passive_core.proofs.machine.Core.snapshot_all.Given as goal
 
 -- the words of the CPUs so far

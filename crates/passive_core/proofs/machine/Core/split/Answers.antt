@@ -1,10 +1,10 @@
 use Rattle.std.proofs.Common.{refl, sym, ap, ◌∙◌}
-use Rattle.passive_core.specs.State.{State, hand_at}
+use Rattle.protocol.specs.State.{State, hand_at}
 use Rattle.passive_core.specs.Shown.{shown}
-use Rattle.passive_core.specs.Events.{least_id}
-use Rattle.passive_core.specs.declared.event.Event.TheVariants.{SplitRef}
-use Rattle.passive_core.specs.declared.event.Reply.TheVariants.{Ref}
-use Rattle.passive_core.proofs.Keeping.{step_holds}
+use Rattle.protocol.specs.Events.{least_id}
+use Rattle.protocol.specs.declared.event.Event.TheVariants.{SplitRef}
+use Rattle.protocol.specs.declared.event.Reply.TheVariants.{Ref}
+use Rattle.protocol.proofs.Keeping.{step_holds}
 use Rattle.passive_core.proofs.machine.Core.split.Goals as goal
 
 pub invariant_of-self-2 : goal.invariant_of-self-2

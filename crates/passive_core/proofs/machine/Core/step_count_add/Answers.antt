@@ -1,14 +1,14 @@
 use Rattle.std.proofs.Common.{◌<◌, length, [], refl, sym, ap, ◌∙◌, arith, rules}
 use Rattle.std.proofs.lemmas.List.{get_or_read}
-use Rattle.passive_core.specs.State.{State, found_at, count_at}
+use Rattle.protocol.specs.State.{State, found_at, count_at}
 use Rattle.passive_core.specs.Shown.{shown}
-use Rattle.passive_core.specs.Slots.{slot_of}
-use Rattle.passive_core.specs.Events.{may_count}
-use Rattle.passive_core.specs.declared.event.Event.TheVariants.{CountAdd}
-use Rattle.passive_core.specs.declared.event.Reply.TheVariants.{Word}
-use Rattle.passive_core.proofs.Keeping.{step_holds}
+use Rattle.registry_values.specs.Slots.{slot_of}
+use Rattle.protocol.specs.Events.{may_count}
+use Rattle.protocol.specs.declared.event.Event.TheVariants.{CountAdd}
+use Rattle.protocol.specs.declared.event.Reply.TheVariants.{Word}
+use Rattle.protocol.proofs.Keeping.{step_holds}
 use Rattle.passive_core.proofs.machine.Core.step_count_add.Goals as goal
-use Rattle.passive_core.proofs.Bounds.{counted_room}
+use Rattle.protocol.proofs.Bounds.{counted_room}
 
 pub overflow_add-word : goal.overflow_add-word
 overflow_add-word c =

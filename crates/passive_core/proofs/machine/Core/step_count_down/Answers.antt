@@ -1,10 +1,10 @@
 use Rattle.std.proofs.Common.{◌<◌, length, sym, subst, ◌∙◌, arith}
 use Rattle.std.proofs.lemmas.List.{get_or_read}
-use Rattle.passive_core.specs.State.{State}
+use Rattle.protocol.specs.State.{State}
 use Rattle.passive_core.specs.Shown.{shown}
 use Rattle.passive_core.proofs.machine.Core.step_count_down.Goals as goal
-use Rattle.passive_core.proofs.Bounds.{giving_within}
-use Rattle.passive_core.specs.declared.state.Hand.TheVariants.{Empty}
+use Rattle.protocol.proofs.Bounds.{giving_within}
+use Rattle.protocol.specs.declared.state.Hand.TheVariants.{Empty}
 
 pub exchange-requires-clause-place : goal.exchange-requires-clause-place
 exchange-requires-clause-place c =

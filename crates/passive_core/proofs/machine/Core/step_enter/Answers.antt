@@ -1,10 +1,10 @@
 use Rattle.std.proofs.Common.{length, refl, sym, ap, ◌∙◌}
-use Rattle.passive_core.specs.State.{State, section_at}
+use Rattle.protocol.specs.State.{State, section_at}
 use Rattle.passive_core.specs.Shown.{shown}
-use Rattle.passive_core.specs.Events.{may_enter}
-use Rattle.passive_core.specs.declared.event.Event.TheVariants.{Enter}
-use Rattle.passive_core.specs.declared.event.Reply.TheVariants.{Done}
-use Rattle.passive_core.proofs.Keeping.{step_holds}
+use Rattle.protocol.specs.Events.{may_enter}
+use Rattle.protocol.specs.declared.event.Event.TheVariants.{Enter}
+use Rattle.protocol.specs.declared.event.Reply.TheVariants.{Done}
+use Rattle.protocol.proofs.Keeping.{step_holds}
 use Rattle.passive_core.proofs.machine.Core.step_enter.Goals as goal
 
 pub invariant_of-self : goal.invariant_of-self

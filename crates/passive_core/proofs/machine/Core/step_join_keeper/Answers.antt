@@ -1,11 +1,11 @@
 use Rattle.std.proofs.Common.{refl, sym, ap, ◌∙◌}
-use Rattle.passive_core.specs.State.{State, local_at}
+use Rattle.protocol.specs.State.{State, local_at}
 use Rattle.passive_core.specs.Shown.{shown}
-use Rattle.passive_core.specs.Slots.{slot_of}
-use Rattle.passive_core.specs.Events.{may_join_keeper, standing}
-use Rattle.passive_core.specs.declared.event.Event.TheVariants.{JoinKeeper}
-use Rattle.passive_core.specs.declared.event.Reply.TheVariants.{Done}
-use Rattle.passive_core.proofs.Keeping.{step_holds}
+use Rattle.registry_values.specs.Slots.{slot_of}
+use Rattle.protocol.specs.Events.{may_join_keeper, standing}
+use Rattle.protocol.specs.declared.event.Event.TheVariants.{JoinKeeper}
+use Rattle.protocol.specs.declared.event.Reply.TheVariants.{Done}
+use Rattle.protocol.proofs.Keeping.{step_holds}
 use Rattle.passive_core.proofs.machine.Core.step_join_keeper.Goals as goal
 
 pub invariant_of-self : goal.invariant_of-self

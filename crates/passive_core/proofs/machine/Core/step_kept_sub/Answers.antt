@@ -1,13 +1,13 @@
 use Rattle.std.proofs.Common.{refl, sym, ap, ◌∙◌, arith}
-use Rattle.passive_core.specs.State.{State, slot_at, total_at, kept_at}
+use Rattle.protocol.specs.State.{State, total_at, kept_at}
+use Rattle.registry_values.specs.Slots.{slot_at, slot_of}
 use Rattle.passive_core.specs.Shown.{shown}
-use Rattle.passive_core.specs.Slots.{slot_of}
-use Rattle.passive_core.specs.Events.{is_drained, is_iface_slot}
-use Rattle.passive_core.specs.declared.event.Event.TheVariants.{KeptSub}
-use Rattle.passive_core.specs.declared.event.Reply.TheVariants.{Done}
-use Rattle.passive_core.proofs.Keeping.{step_holds}
+use Rattle.protocol.specs.Events.{is_drained, is_iface_slot}
+use Rattle.protocol.specs.declared.event.Event.TheVariants.{KeptSub}
+use Rattle.protocol.specs.declared.event.Reply.TheVariants.{Done}
+use Rattle.protocol.proofs.Keeping.{step_holds}
 use Rattle.passive_core.proofs.machine.Core.step_kept_sub.Goals as goal
-use Rattle.passive_core.proofs.Bounds.{driver_positive}
+use Rattle.protocol.proofs.Bounds.{driver_positive}
 
 pub overflow_sub-total : goal.overflow_sub-total
 overflow_sub-total c =

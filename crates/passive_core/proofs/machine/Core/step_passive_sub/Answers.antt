@@ -1,12 +1,12 @@
 use Rattle.std.proofs.Common.{◌<◌, length, [], refl, sym, ap, ◌∙◌, rules}
 use Rattle.std.proofs.lemmas.List.{get_or_read}
-use Rattle.passive_core.specs.State.{State, passive_at}
+use Rattle.protocol.specs.State.{State, passive_at}
 use Rattle.passive_core.specs.Shown.{shown}
-use Rattle.passive_core.specs.Slots.{slot_of}
-use Rattle.passive_core.specs.Events.{may_sub}
-use Rattle.passive_core.specs.declared.event.Event.TheVariants.{PassiveSub}
-use Rattle.passive_core.specs.declared.event.Reply.TheVariants.{Word}
-use Rattle.passive_core.proofs.Keeping.{step_holds}
+use Rattle.registry_values.specs.Slots.{slot_of}
+use Rattle.protocol.specs.Events.{may_sub}
+use Rattle.protocol.specs.declared.event.Event.TheVariants.{PassiveSub}
+use Rattle.protocol.specs.declared.event.Reply.TheVariants.{Word}
+use Rattle.protocol.proofs.Keeping.{step_holds}
 use Rattle.passive_core.proofs.machine.Core.step_passive_sub.Goals as goal
 
 pub invariant_of-self : goal.invariant_of-self

@@ -1,10 +1,10 @@
 use Rattle.std.proofs.Common.{refl, sym, ap, ◌∙◌}
-use Rattle.passive_core.specs.State.{State, row_at}
+use Rattle.protocol.specs.State.{State, row_at}
 use Rattle.passive_core.specs.Shown.{shown}
-use Rattle.passive_core.specs.Events.{may_publish, entry_of}
-use Rattle.passive_core.specs.declared.event.Event.TheVariants.{Publish}
-use Rattle.passive_core.specs.declared.event.Reply.TheVariants.{Done}
-use Rattle.passive_core.proofs.Keeping.{step_holds}
+use Rattle.protocol.specs.Events.{may_publish, entry_of}
+use Rattle.protocol.specs.declared.event.Event.TheVariants.{Publish}
+use Rattle.protocol.specs.declared.event.Reply.TheVariants.{Done}
+use Rattle.protocol.proofs.Keeping.{step_holds}
 use Rattle.passive_core.proofs.machine.Core.step_publish.Goals as goal
 
 pub invariant_of-self-2 : goal.invariant_of-self-2

@@ -1,10 +1,10 @@
 use Rattle.std.proofs.Common.{refl, sym, ap, ◌∙◌}
-use Rattle.passive_core.specs.State.{State}
+use Rattle.protocol.specs.State.{State}
 use Rattle.passive_core.specs.Shown.{shown}
-use Rattle.passive_core.specs.Events.{may_seat}
-use Rattle.passive_core.specs.declared.event.Event.TheVariants.{Seat}
-use Rattle.passive_core.specs.declared.event.Reply.TheVariants.{Done}
-use Rattle.passive_core.proofs.Keeping.{step_holds}
+use Rattle.protocol.specs.Events.{may_seat}
+use Rattle.protocol.specs.declared.event.Event.TheVariants.{Seat}
+use Rattle.protocol.specs.declared.event.Reply.TheVariants.{Done}
+use Rattle.protocol.proofs.Keeping.{step_holds}
 use Rattle.passive_core.proofs.machine.Core.step_seat.Goals as goal
 
 pub invariant_of-self : goal.invariant_of-self

@@ -1,13 +1,12 @@
-use Rattle.std.proofs.Common.{◌≡◌, ◌-◌, ◌<◌, length, [], true, false, refl, sym, ap, ◌∙◌, arith, rules}
+use Rattle.std.proofs.Common.{◌≡◌, ◌-◌, ◌<◌, length, [], true, false, refl, sym, ap, ◌∙◌, arith, rules, nat_lt}
 use Rattle.std.proofs.lemmas.List.{get_or_read}
-use Rattle.passive_core.specs.State.{State}
+use Rattle.protocol.specs.State.{State}
 use Rattle.passive_core.specs.Shown.{shown}
-use Rattle.passive_core.specs.Events.{may_write}
-use Rattle.passive_core.specs.declared.event.Event.TheVariants.{StoreSlot}
-use Rattle.passive_core.specs.declared.event.Reply.TheVariants.{Done}
-use Rattle.passive_core.proofs.Keeping.{step_holds}
+use Rattle.protocol.specs.Events.{may_write}
+use Rattle.protocol.specs.declared.event.Event.TheVariants.{StoreSlot}
+use Rattle.protocol.specs.declared.event.Reply.TheVariants.{Done}
+use Rattle.protocol.proofs.Keeping.{step_holds}
 use Rattle.passive_core.proofs.machine.Core.store_count.Goals as goal
-use Rattle.std.proofs.Common.{nat_lt}
 use Rattle.std.proofs.lemmas.Bool.{lt-ltb, le-ltb}
 
 pub invariant_of-self : goal.invariant_of-self

@@ -1,6 +1,6 @@
 use Rattle.std.proofs.Common.{◌<◌, subst, arith}
-use Rattle.passive_core.specs.State.{State}
-use Rattle.passive_core.specs.Invariant.{Holds}
+use Rattle.protocol.specs.State.{State}
+use Rattle.protocol.specs.Invariant.{Holds}
 use Rattle.passive_core.proofs.Attaching.{counts_stored}
 use Rattle.passive_core.proofs.machine.Core.store_counts.Goals as goal
 

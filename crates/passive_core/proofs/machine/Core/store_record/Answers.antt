@@ -1,12 +1,11 @@
-use Rattle.std.proofs.Common.{◌≡◌, true, refl, sym, ap, ◌∙◌}
-use Rattle.passive_core.specs.State.{State, row_at}
+use Rattle.std.proofs.Common.{◌≡◌, true, refl, sym, ap, ◌∙◌, nat_lt, lt-ltb}
+use Rattle.protocol.specs.State.{State, row_at}
 use Rattle.passive_core.specs.Shown.{shown}
-use Rattle.passive_core.specs.Events.{may_write}
-use Rattle.passive_core.specs.declared.event.Event.TheVariants.{StoreSlot}
-use Rattle.passive_core.specs.declared.event.Reply.TheVariants.{Done}
-use Rattle.passive_core.proofs.Keeping.{step_holds}
+use Rattle.protocol.specs.Events.{may_write}
+use Rattle.protocol.specs.declared.event.Event.TheVariants.{StoreSlot}
+use Rattle.protocol.specs.declared.event.Reply.TheVariants.{Done}
+use Rattle.protocol.proofs.Keeping.{step_holds}
 use Rattle.passive_core.proofs.machine.Core.store_record.Goals as goal
-use Rattle.std.proofs.Common.{nat_lt, lt-ltb}
 
 pub invariant_of-self : goal.invariant_of-self
 invariant_of-self c =

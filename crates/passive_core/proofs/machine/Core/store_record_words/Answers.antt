@@ -1,6 +1,6 @@
-use Rattle.passive_core.specs.State.{row_at}
-use Rattle.passive_core.specs.Events.{with_word}
-use Rattle.passive_core.specs.Slots.{kind_word}
+use Rattle.protocol.specs.State.{row_at}
+use Rattle.protocol.specs.Events.{with_word}
+use Rattle.registry_values.specs.Slots.{kind_word}
 use Rattle.passive_core.proofs.Attaching.{row_first, row_next}
 use Rattle.passive_core.proofs.machine.Core.store_record_words.Goals as goal
 

@@ -1,12 +1,11 @@
-use Rattle.std.proofs.Common.{◌≡◌, true, refl, sym, ap, ◌∙◌, arith}
-use Rattle.passive_core.specs.State.{State, total_at}
+use Rattle.std.proofs.Common.{◌≡◌, true, refl, sym, ap, ◌∙◌, arith, nat_eq, eq-eqb}
+use Rattle.protocol.specs.State.{State, total_at}
 use Rattle.passive_core.specs.Shown.{shown}
-use Rattle.passive_core.specs.declared.event.Event.TheVariants.{TotalSub}
-use Rattle.passive_core.specs.declared.event.Reply.TheVariants.{Done}
-use Rattle.passive_core.proofs.Keeping.{step_holds}
+use Rattle.protocol.specs.declared.event.Event.TheVariants.{TotalSub}
+use Rattle.protocol.specs.declared.event.Reply.TheVariants.{Done}
+use Rattle.protocol.proofs.Keeping.{step_holds}
 use Rattle.passive_core.proofs.machine.Core.subtract_from_total.Goals as goal
-use Rattle.std.proofs.Common.{nat_eq, eq-eqb}
-use Rattle.passive_core.proofs.Bounds.{subtracting_range}
+use Rattle.protocol.proofs.Bounds.{subtracting_range}
 
 pub overflow_sub-total : goal.overflow_sub-total
 overflow_sub-total c =

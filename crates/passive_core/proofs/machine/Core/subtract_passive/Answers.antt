@@ -1,5 +1,5 @@
 use Rattle.std.proofs.Common.{subst, sym}
-use Rattle.passive_core.specs.State.{State}
+use Rattle.protocol.specs.State.{State}
 use Rattle.passive_core.specs.Passives.{IsOneLess}
 use Rattle.passive_core.proofs.Passives.{sub_allowed, subbed, counted_less}
 use Rattle.passive_core.proofs.machine.Core.subtract_passive.Goals as goal

@@ -1,11 +1,11 @@
 use Rattle.std.proofs.Common.{◌<◌, length, [], Some, refl, sym, ap, ◌∙◌, rules}
 use Rattle.std.proofs.lemmas.List.{get_or_read}
-use Rattle.passive_core.specs.State.{State, section_at}
+use Rattle.protocol.specs.State.{State, section_at}
 use Rattle.passive_core.specs.Shown.{shown}
-use Rattle.passive_core.specs.Events.{is_snapshot_due, due_after}
-use Rattle.passive_core.specs.declared.event.Event.TheVariants.{Snapshot}
-use Rattle.passive_core.specs.declared.event.Reply.TheVariants.{Word}
-use Rattle.passive_core.proofs.Keeping.{step_holds}
+use Rattle.protocol.specs.Events.{is_snapshot_due, due_after}
+use Rattle.protocol.specs.declared.event.Event.TheVariants.{Snapshot}
+use Rattle.protocol.specs.declared.event.Reply.TheVariants.{Word}
+use Rattle.protocol.proofs.Keeping.{step_holds}
 use Rattle.passive_core.proofs.machine.Core.take_snapshot.Goals as goal
 
 pub invariant_of-self : goal.invariant_of-self

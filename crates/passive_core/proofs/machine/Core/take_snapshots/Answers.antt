@@ -1,6 +1,6 @@
 use Rattle.std.proofs.Common.{◌≡◌, ◌<◌, refl, ap, subst, ◌∙◌, arith}
-use Rattle.passive_core.specs.Invariant.{Holds}
-use Rattle.passive_core.specs.State.{State}
+use Rattle.protocol.specs.Invariant.{Holds}
+use Rattle.protocol.specs.State.{State}
 use Rattle.passive_core.proofs.Detaching.{snap_allowed, snap_turns, snapping, snapping_ends, snapping_starts}
 use Rattle.passive_core.proofs.machine.Core.take_snapshots.Goals as goal
 

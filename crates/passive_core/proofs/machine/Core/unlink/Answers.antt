@@ -1,10 +1,10 @@
 use Rattle.std.proofs.Common.{get_or, refl, sym, ap, ◌∙◌}
-use Rattle.passive_core.specs.State.{State, slot_at}
+use Rattle.protocol.specs.State.{State, at_rest}
+use Rattle.registry_values.specs.Slots.{slot_at, slot_before}
 use Rattle.passive_core.specs.Shown.{shown}
-use Rattle.passive_core.specs.Slots.{at_rest, slot_before}
-use Rattle.passive_core.specs.declared.event.Event.TheVariants.{Unpublish}
-use Rattle.passive_core.specs.declared.event.Reply.TheVariants.{Done}
-use Rattle.passive_core.proofs.Keeping.{step_holds}
+use Rattle.protocol.specs.declared.event.Event.TheVariants.{Unpublish}
+use Rattle.protocol.specs.declared.event.Reply.TheVariants.{Done}
+use Rattle.protocol.proofs.Keeping.{step_holds}
 use Rattle.passive_core.proofs.machine.Core.unlink.Goals as goal
 use Rattle.passive_core.proofs.machine.Core.unlink.Goals.{in-Some, in-None}
 

@@ -1,8 +1,9 @@
 use Rattle.std.proofs.Common.{◌<◌, false, not, ap, subst, ◌∙◌, slice_index_or}
-use Rattle.passive_core.specs.Advancing.{least_below}
-use Rattle.passive_core.specs.Events.{is_inside}
-use Rattle.passive_core.specs.State.{State}
-use Rattle.passive_core.proofs.Performing.{least_agrees, not_not}
+use Rattle.registry_values.specs.Marks.{least_below}
+use Rattle.protocol.specs.Events.{is_inside}
+use Rattle.protocol.specs.State.{State}
+use Rattle.registry_values.proofs.Least.{least_agrees}
+use Rattle.passive_core.proofs.Performing.{not_not}
 use Rattle.passive_core.proofs.machine.Core.wait_for_sections.Goals as goal
 
 pub returns-clause-answer : goal.returns-clause-answer

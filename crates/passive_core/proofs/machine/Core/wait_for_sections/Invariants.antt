@@ -1,5 +1,5 @@
 use Rattle.std.proofs.Common.{◌≡◌, ℕ, true, false, slice_index_or}
-use Rattle.passive_core.specs.Events.{is_inside}
+use Rattle.protocol.specs.Events.{is_inside}
 use Rattle.passive_core.specs.Performing.{AreSeen}
 use Rattle.passive_core.proofs.machine.Core.wait_for_sections.Given as goal
 

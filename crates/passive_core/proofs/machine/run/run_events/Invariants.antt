@@ -1,5 +1,5 @@
 use Rattle.std.proofs.Common.{◌≡◌, ◌+◌, take}
-use Rattle.passive_core.specs.Ran.{ran, rested}
+use Rattle.protocol.specs.Ran.{ran, rested}
 use Rattle.passive_core.proofs.machine.run.run_events.Given as goal
 
 -- the state and the counts are those of the events so far

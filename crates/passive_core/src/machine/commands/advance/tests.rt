@@ -1,12 +1,9 @@
 //! Worked rows of the keeper's commands; attaches, detaches, lookups and references are made by single events.
 
-use crate::entry::Kind;
-use crate::event::{Event, RecordOf, Reply, StepFault};
+use crate::machine::Core;
 use crate::machine::commands::rows::USUAL;
-use crate::machine::{BIAS, Core};
-use crate::name::Name;
-use crate::refusal::Refusal;
-use crate::stage::Stage;
+use protocol::{Event, RecordOf, Reply, StepFault};
+use registry_values::{BIAS, Kind, Name, Refusal, Stage};
 use std::process::Abort;
 use std::test::Fail;
 

@@ -1,12 +1,9 @@
 //! Worked rows, by commands where they are here and by single events elsewhere.
 
-use crate::entry::{Entry, Kind, Record};
-use crate::event::{Event, RecordOf, Reply};
 use crate::machine::Core;
 use crate::machine::commands::rows::USUAL;
-use crate::name::Name;
-use crate::refusal::Refusal;
-use crate::settings::Settings;
+use protocol::{Event, RecordOf, Reply};
+use registry_values::{Entry, Kind, Name, Record, Refusal, Settings};
 use std::process::Abort;
 use std::test::Fail;
 

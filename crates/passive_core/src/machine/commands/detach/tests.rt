@@ -1,7 +1,7 @@
 use crate::machine::Core;
 use crate::machine::commands::find::tests::{attach, driver, find, seated};
-use crate::state::{Mark, Slot};
-use crate::{Entry, Event, Kind, Name, RecordOf, Refusal, Reply};
+use protocol::{Event, RecordOf, Reply};
+use registry_values::{Entry, Kind, Mark, Name, Refusal, Slot};
 use std::process::Abort;
 use std::test::Fail;
 

@@ -1,6 +1,7 @@
+use crate::machine::Core;
 use crate::machine::commands::rows::USUAL;
-use crate::machine::{BIAS, Core};
-use crate::{Entry, Event, Kind, Name, Record, RecordOf, Reply, Settings, StepFault};
+use protocol::{Event, RecordOf, Reply, StepFault};
+use registry_values::{BIAS, Entry, Kind, Name, Record, Settings};
 use std::alloc::Global;
 use std::process::Abort;
 use std::test::Fail;

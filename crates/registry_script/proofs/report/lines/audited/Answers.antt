@@ -1,6 +1,6 @@
 use Rattle.std.proofs.Common.{List, ℕ, ◌++◌, ◌∙◌, ap, map, sym, take}
-use Rattle.passive_core.specs.Audits.{tally_shown}
-use Rattle.passive_core.specs.declared.balance.Balance.{Balance}
+use Rattle.registry_values.specs.Balances.{tally_shown}
+use Rattle.registry_values.specs.declared.balance.Balance.{Balance}
 use Rattle.registry_script.specs.Lines.{balance_line, balance_lines}
 use Rattle.registry_script.proofs.Writing.{lines_step}
 use Rattle.registry_script.proofs.report.lines.audited.Goals as goal

@@ -1,6 +1,6 @@
 use Rattle.std.proofs.Common.{◌≡◌, map, take}
 use Rattle.std.specs.Prelude.{string_bytes}
-use Rattle.passive_core.specs.Audits.{tally_shown}
+use Rattle.registry_values.specs.Balances.{tally_shown}
 use Rattle.registry_script.specs.Lines.{balance_lines}
 use Rattle.registry_script.proofs.report.lines.audited.Given as goal
 

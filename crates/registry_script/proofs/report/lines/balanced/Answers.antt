@@ -1,7 +1,7 @@
 use Rattle.std.proofs.Common.{List, ℤ, ℕ, [], ◌∷◌, ◌++◌, ◌∙◌, ap, map, sym}
 use Rattle.std.specs.Prelude.{codes}
 use Rattle.std.specs.Fmt.{decimal, signed_decimal}
-use Rattle.passive_core.specs.Audits.{tally_shown}
+use Rattle.registry_values.specs.Balances.{tally_shown}
 use Rattle.registry_script.specs.Lines.{spaced}
 use Rattle.registry_script.proofs.Writing.{balance_is}
 use Rattle.registry_script.proofs.report.lines.balanced.Goals as goal

@@ -1,5 +1,5 @@
 use Rattle.std.proofs.Common.{get_or}
-use Rattle.passive_core.proofs.Fit.{ranges}
+use Rattle.registry_values.proofs.Fit.{ranges}
 use Rattle.registry_script.proofs.LiveCpus.{all_with, uncounted_id}
 use Rattle.registry_script.proofs.report.live_session.release_local.Goals as goal
 

@@ -1,10 +1,9 @@
-use Rattle.std.proofs.Common.{None, ◌<◌, ap, subst, sym, ◌∙◌}
+use Rattle.std.proofs.Common.{None, ◌<◌, ap, subst, sym, ◌∙◌, Ok, Some, length-set, slice_set}
 use Rattle.std.specs.Prelude.{slice_index_or}
 use Rattle.registry_script.specs.Session.{SessionState}
 use Rattle.registry_script.proofs.DoneReferences.{copy_does, copy_fails, free_label, told_err}
 use Rattle.registry_script.proofs.Sessions.{filled_tells}
-use Rattle.std.proofs.Common.{Ok, Some, length-set, slice_set}
-use Rattle.passive_core.specs.State.{State}
+use Rattle.protocol.specs.State.{State}
 use Rattle.registry_script.proofs.Referred.{acquire_places, same_session}
 use Rattle.registry_script.proofs.report.core_session.CoreSessionSession.copy.Goals as goal
 

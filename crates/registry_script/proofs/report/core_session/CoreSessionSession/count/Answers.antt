@@ -1,10 +1,9 @@
 use Rattle.std.proofs.Common.{None, ap, subst, sym, ◌<◌, ◌∙◌}
-use Rattle.passive_core.specs.State.{State}
+use Rattle.protocol.specs.State.{State}
 use Rattle.registry_script.proofs.Sessions.{counted_locals, new_live, taken_up}
 use Rattle.std.specs.Prelude.{slice_index_or}
-use Rattle.registry_script.specs.Session.{SessionState}
+use Rattle.registry_script.specs.Session.{SessionState, IsSession}
 use Rattle.registry_script.proofs.DoneReferences.{count_does, count_fails, free_label, taken_label, taken_leaves, told_err}
-use Rattle.registry_script.specs.Session.{IsSession}
 use Rattle.registry_script.proofs.report.core_session.CoreSessionSession.count.Goals as goal
 
 pub number-requires : goal.number-requires

@@ -1,5 +1,5 @@
 use Rattle.std.proofs.Common.{ap, ◌∙◌}
-use Rattle.passive_core.specs.State.{State}
+use Rattle.protocol.specs.State.{State}
 use Rattle.registry_script.proofs.Done.{detach_does, detach_places}
 use Rattle.registry_script.proofs.Sessions.{same_places}
 use Rattle.registry_script.proofs.report.core_session.CoreSessionSession.detach.Goals as goal

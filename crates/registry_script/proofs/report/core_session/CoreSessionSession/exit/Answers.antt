@@ -1,7 +1,6 @@
-use Rattle.std.proofs.Common.{ap, ◌∙◌}
-use Rattle.passive_core.specs.State.{State}
+use Rattle.std.proofs.Common.{ap, ◌∙◌, ◌<◌, subst, sym}
+use Rattle.protocol.specs.State.{State}
 use Rattle.registry_script.proofs.Sessions.{exited_locals, same_places}
-use Rattle.std.proofs.Common.{◌<◌, subst, sym}
 use Rattle.registry_script.specs.Session.{SessionState}
 use Rattle.registry_script.proofs.Done.{exit_does}
 use Rattle.registry_script.proofs.report.core_session.CoreSessionSession.exit.Goals as goal

@@ -1,6 +1,6 @@
 use Rattle.std.proofs.Common.{None, ap, subst, sym, ◌<◌, ◌∙◌}
 use Rattle.std.specs.Prelude.{slice_index_or}
-use Rattle.passive_core.specs.State.{State}
+use Rattle.protocol.specs.State.{State}
 use Rattle.registry_script.specs.Session.{SessionState}
 use Rattle.registry_script.proofs.Sessions.{filled_tells, given_up, released_locals}
 use Rattle.registry_script.proofs.DoneReferences.{uncount_leaves, uncount_none, unfilled}

@@ -1,9 +1,0 @@
-use Rattle.passive_core.proofs.LawsReuse.{every_run_keeps}
-use Rattle.passive_core.proofs.Refining.{every_run_is_model_run}
-use Rattle.passive_core.proofs.laws.every_run_keeps.Goals as goal
-
-pub returns-clause-keeps : goal.returns-clause-keeps
-returns-clause-keeps c = every_run_keeps
-
-pub returns-clause-modelled : goal.returns-clause-modelled
-returns-clause-modelled c = every_run_is_model_run

@@ -1,8 +1,0 @@
-use Rattle.passive_core.proofs.LawsRows.{frozen_link, collect_race}
-use Rattle.passive_core.proofs.laws.worked_run.Goals as goal
-
-pub returns-clause-frozen_link : goal.returns-clause-frozen_link
-returns-clause-frozen_link c = frozen_link
-
-pub returns-clause-collect_race : goal.returns-clause-collect_race
-returns-clause-collect_race c = collect_race

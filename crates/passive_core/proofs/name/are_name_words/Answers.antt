@@ -1,7 +1,0 @@
-use Rattle.std.proofs.Common.{ap, ◌∙◌}
-use Rattle.passive_core.specs.Names.{is_padded, are_name_words}
-use Rattle.passive_core.proofs.name.are_name_words.Goals as goal
-
-pub returns : goal.returns
-unfolding are_name_words
-returns c = c.is_padded.ensures ∙ ap is_padded c.bytes_of-bytes.ensures

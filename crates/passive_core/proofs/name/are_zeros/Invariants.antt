@@ -1,7 +1,0 @@
-use Rattle.std.proofs.Common.{◌≡◌, drop}
-use Rattle.passive_core.specs.Names.{are_zeros}
-use Rattle.passive_core.proofs.name.are_zeros.Given as goal
-
--- zero bytes so far
-abbrev pub invariant-loop-b : goal.invariant-loop-b
-invariant-loop-b l = are_zeros (drop l.b-index l.bytes) ≡ are_zeros l.bytes

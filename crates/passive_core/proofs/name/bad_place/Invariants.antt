@@ -1,7 +1,0 @@
-use Rattle.std.proofs.Common.{◌≡◌, drop}
-use Rattle.passive_core.specs.Names.{bad_place}
-use Rattle.passive_core.proofs.name.bad_place.Given as goal
-
--- no bad byte so far
-abbrev pub invariant-loop-i : goal.invariant-loop-i
-invariant-loop-i l = bad_place l.i (drop l.i l.bytes) ≡ bad_place 0 l.bytes

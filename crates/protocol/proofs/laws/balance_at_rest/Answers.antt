@@ -1,0 +1,5 @@
+use Rattle.protocol.proofs.LawsBalance.{balance_at_rest}
+use Rattle.protocol.proofs.laws.balance_at_rest.Goals as goal
+
+pub returns : goal.returns
+returns c = balance_at_rest

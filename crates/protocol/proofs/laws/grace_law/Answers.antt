@@ -1,0 +1,5 @@
+use Rattle.protocol.proofs.LawsGrace.{grace_law}
+use Rattle.protocol.proofs.laws.grace_law.Goals as goal
+
+pub returns : goal.returns
+returns c = grace_law

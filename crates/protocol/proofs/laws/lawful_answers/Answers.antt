@@ -1,0 +1,5 @@
+use Rattle.protocol.proofs.LawsAnswers.{lawful_answers}
+use Rattle.protocol.proofs.laws.lawful_answers.Goals as goal
+
+pub returns : goal.returns
+returns c = lawful_answers

@@ -1,0 +1,202 @@
+-- The laws of the core, over every list of events.
+use Rattle.std.specs.Prelude.{◌≡◌, ℕ, suc, ◌+◌, ◌*◌, ◌%◌, ◌<◌, ◌≤◌, ◌⊎◌, IsTrue, IsSome, List, [], ◌∷◌, ◌++◌, length, sum_by, Option, Some, None, true, slice_index_or}
+use Rattle.registry_values.specs.declared.entry.Kind.TheVariants.{Iface, Driver}
+use Rattle.registry_values.specs.declared.entry.Entry.{Entry}
+use Rattle.registry_values.specs.declared.entry.Change.{Change}
+use Rattle.registry_values.specs.declared.settings.Settings.{Settings}
+use Rattle.protocol.specs.declared.event.Event.{Event}
+use Rattle.protocol.specs.declared.event.Event.TheVariants.{Exit, Seek, LoadLink, LoadRecord, StoreSlot, StoreNext, Publish, Keep, KeptSub, Vacate}
+use Rattle.protocol.specs.declared.event.RecordOf.TheVariants.{Search as OfSearch}
+use Rattle.protocol.specs.declared.event.Reply.{Reply}
+use Rattle.protocol.specs.declared.event.Reply.TheVariants.{Done, Word, Found, Missed, Ref, Collected}
+use Rattle.protocol.specs.declared.state.Search.{Search}
+use Rattle.registry_values.specs.Limits.{are_fit}
+use Rattle.protocol.specs.History.{IsAttached, EndsAt, IsLawful}
+use Rattle.protocol.specs.State.{State, opening, section_at, begin_at, seen_at, search_at, count_at, total_at, kept_at, at_rest}
+use Rattle.registry_values.specs.Balances.{bias}
+use Rattle.registry_values.specs.Slots.{slot_at}
+use Rattle.protocol.specs.Events.{Outcome, step, state_after}
+use Rattle.protocol.specs.Invariant.{Holds, IsIn, IsCounting, kept_of, held_at, one_if_used, itself}
+use Rattle.protocol.specs.Ran.{ran, rested}
+use Rattle.protocol.specs.Model.{IsUnheld}
+use Rattle.protocol.specs.Picture.{number_in, picture}
+
+-- the state after a list of events; those that aren't allowed are passed over
+abbrev pub after : State → List Event → State
+after s events = (ran (rested s) events).state
+
+-- the state after one event more, allowed or not
+abbrev pub after_event : State → Event → State
+after_event s event = state_after s (step s event)
+
+abbrev pub IsAllowed : State → Event → Type 0
+IsAllowed s event = IsSome (step s event)
+
+-- so it is in every state that events reach from the opening of fit settings
+abbrev pub Always : (State → Type 0) → Type 0
+Always P = (z : Settings) (events : List Event) → IsTrue (are_fit z) → P (after (opening z) events)
+
+-- every list of events, allowed or not, keeps the core invariant
+abbrev pub EveryRunKeeps : Type 0
+EveryRunKeeps = Always Holds
+
+-- Safe reuse
+
+-- the number of the slot's occupant, live or retired
+abbrev pub occupant_of : State → ℕ → Option ℕ
+occupant_of s t = number_in (slot_at s.slots t)
+
+-- the slot that an event destroys
+abbrev pub destroyed_slot : Event → Option ℕ
+destroyed_slot (Vacate t) = Some t
+destroyed_slot (KeptSub t) = Some t
+destroyed_slot _ = None
+
+-- the slot that an event gives again, or makes ready for that
+abbrev pub given_slot : Event → Option ℕ
+given_slot (StoreSlot t k v) = Some t
+given_slot (StoreNext t v) = Some t
+given_slot (Keep t id) = Some t
+given_slot (Publish t) = Some t
+given_slot _ = None
+
+pub record ReusesSafely (s : State) : Type 0 where
+  -- an occupant goes only by Vacate or KeptSub of its slot, when it was detached and nothing holds it
+  pub goes : (event : Event) (t n : ℕ) → occupant_of s t ≡ Some n → (occupant_of (after_event s event) t ≡ Some n → ⊥)
+      → (destroyed_slot event ≡ Some t) × ((p : ℕ) × EndsAt s.history n p) × IsUnheld (picture s) n
+  -- one comes only by Publish, into a slot without one, and its number is new
+  pub comes : (event : Event) (t n : ℕ) → (occupant_of s t ≡ Some n → ⊥) → occupant_of (after_event s event) t ≡ Some n
+      → (event ≡ Publish t) × (occupant_of s t ≡ None) × (n ≡ suc (length s.history))
+  -- only a slot without an occupant is given again
+  pub given : (event : Event) (t : ℕ) → given_slot event ≡ Some t → IsAllowed s event → occupant_of s t ≡ None
+  -- a number of the history that doesn't have a slot never has it again
+  pub never : (later : List Event) (t n : ℕ) → n ≤ length s.history → (occupant_of s t ≡ Some n → ⊥) → occupant_of (after s later) t ≡ Some n → ⊥
+
+-- a slot's occupant goes only without holders, and comes only into a slot without one
+abbrev pub SafeReuse : Type 0
+SafeReuse = Always ReusesSafely
+
+pub record OutliveInterfaces (s : State) : Type 0 where
+  -- a live or retired interface keeps a reference
+  pub keeps : (t : ℕ) (e : Entry) → IsIn e (slot_at s.slots t) → e.rec.kind ≡ Iface → (d : ℕ) × (kept_at s.keeps t ≡ Some d)
+  -- what a slot keeps is a driver that has its slot
+  pub stands : (t d : ℕ) → kept_at s.keeps t ≡ Some d → (u : ℕ) × (e : Entry) × IsIn e (slot_at s.slots u) × (e.number ≡ d) × (e.rec.kind ≡ Driver)
+  -- and no event takes that slot from it
+  pub stays : (event : Event) (t u d : ℕ) → kept_at s.keeps t ≡ Some d → occupant_of s u ≡ Some d → occupant_of (after_event s event) u ≡ Some d
+  -- an interface keeps the same driver as long as it has its slot
+  pub same : (event : Event) (t n : ℕ) → occupant_of s t ≡ Some n → occupant_of (after_event s event) t ≡ Some n → kept_at (after_event s event).keeps t ≡ kept_at s.keeps t
+  -- so while an interface has its slot t, its driver has its slot u
+  pub throughout : (later : List Event) (t u n d : ℕ) → occupant_of s t ≡ Some n → kept_at s.keeps t ≡ Some d → occupant_of s u ≡ Some d → occupant_of (after s later) t ≡ Some n
+      → (kept_at (after s later).keeps t ≡ Some d) × (occupant_of (after s later) u ≡ Some d)
+
+-- drivers outlive their interfaces
+abbrev pub DriversOutlive : Type 0
+DriversOutlive = Always OutliveInterfaces
+
+-- Lawful answers
+
+-- the answer of a lookup, if a reply is one
+abbrev pub answer_of : Reply → Option (Option Entry)
+answer_of Done = None
+answer_of (Word w) = None
+answer_of (Found e) = Some (Some e)
+answer_of Missed = Some None
+answer_of (Ref id) = None
+answer_of Collected = None
+
+-- the event is a load by the search of c
+abbrev pub IsLoadOf : ℕ → Event → Type 0
+IsLoadOf c event = (event ≡ LoadLink c) ⊎ (event ≡ LoadRecord (OfSearch c))
+
+-- the answer ends a search of some CPU, and is the registry's at some point from the search's start to the end of the CPU's new pass
+pub record IsAnswered (s : State) (event : Event) (o : Outcome) (answer : Option Entry) : Type 0 where
+  pub cpu : ℕ
+  pub search : Search
+  pub loads : IsLoadOf cpu event
+  pub under_way : search_at s cpu ≡ Some search
+  pub lawful : IsLawful o.state.history search.start (seen_at o.state cpu) search.key answer
+
+-- a search of c was under way before the event with this start and key, or began at it with the length of the pass as its start
+abbrev pub HasBegun : State → Event → ℕ → Search → Type 0
+HasBegun s event c q = ((old : Search) × (search_at s c ≡ Some old) × (old.start ≡ q.start) × (old.key ≡ q.key))
+    ⊎ ((event ≡ Seek c q.key.kind q.key.name) × (q.start ≡ seen_at s c))
+
+pub record AnswersLawfully (s : State) : Type 0 where
+  -- each Found and each Missed, of any event, is a lawful answer
+  pub answers : (event : Event) (o : Outcome) (answer : Option Entry) → step s event ≡ Some o → answer_of o.reply ≡ Some answer → IsAnswered s event o answer
+  -- a search has from its Seek on its start, the length of the pass, and its key
+  pub begun : (event : Event) (c : ℕ) (q : Search) → search_at (after_event s event) c ≡ Some q → HasBegun s event c q
+  -- each pass is a prefix of the one history, passes only grow, and so does the history
+  pub prefix : (c : ℕ) → seen_at s c ≤ length s.history
+  pub passes : (event : Event) (c : ℕ) → seen_at s c ≤ seen_at (after_event s event) c
+  pub history : (event : Event) → (more : List Change) × ((after_event s event).history ≡ s.history ++ more)
+
+-- each answer of a lookup is lawful
+abbrev pub LawfulAnswers : Type 0
+LawfulAnswers = Always AnswersLawfully
+
+-- Balance
+
+-- the sum of a slot's count words, and how many of them aren't collected; a collected one is 0
+abbrev pub words_at : State → ℕ → ℕ
+words_at s t = sum_by itself (slice_index_or s.counts t [])
+
+abbrev pub uncollected_at : State → ℕ → ℕ
+uncollected_at s t = sum_by one_if_used (slice_index_or s.counts t [])
+
+-- the local references held to n: the model's, and those that slots keep
+abbrev pub held_of : State → ℕ → ℕ
+held_of s n = (picture s).locals n + sum_by (kept_of n) s.keeps
+
+-- the words that aren't collected and the total, less a bias for each of them, are the local references held
+abbrev pub IsBalanced : State → ℕ → ℕ → Type 0
+IsBalanced s t n = words_at s t + total_at s.totals t ≡ held_of s n + bias * (uncollected_at s t + 1)
+
+pub record BalancesAtRest (s : State) : Type 0 where
+  pub balanced : (t n : ℕ) → occupant_of s t ≡ Some n → IsBalanced s t n
+  -- a slot without an occupant has no balance
+  pub vacant : (t : ℕ) → t < s.settings.slots → occupant_of s t ≡ None → total_at s.totals t ≡ bias
+  -- a word is 0 where it was collected or its CPU isn't there, else it is the bias and the CPU's net count
+  pub counted : (c t : ℕ) → c < s.settings.cpus → IsCounting s.slots s.marks c t → (count_at s.counts c t ≡ count_at s.nets c t) × (0 < count_at s.counts c t)
+  pub emptied : (c t : ℕ) (e : Entry) → IsIn e (slot_at s.slots t) → (IsCounting s.slots s.marks c t → ⊥) → count_at s.counts c t ≡ 0
+  pub beyond : (c t : ℕ) → s.settings.cpus ≤ c → count_at s.counts c t ≡ 0
+  -- the references held as the invariant counts them are those of the model
+  pub held : (t n : ℕ) → occupant_of s t ≡ Some n → held_at s.locals s.hands s.keeps s.due n t ≡ held_of s n
+
+-- whenever the keeper is at rest the balance of each slot is its local references held
+abbrev pub BalanceAtRest : Type 0
+BalanceAtRest = Always (λ s. at_rest s.due ≡ true → BalancesAtRest s)
+
+-- The grace law
+
+-- among the events that go on from s is an allowed Exit of c
+abbrev pub HasExit : State → ℕ → List Event → Type 0
+HasExit s c [] = ⊥
+HasExit s c (event ∷ events) = ((event ≡ Exit c) × IsAllowed s event) ⊎ HasExit (after_event s event) c events
+
+-- the word is even, or another one than it was
+abbrev pub HasMoved : ℕ → ℕ → Type 0
+HasMoved old new = (new % 2 ≡ 0) ⊎ (new ≡ old → ⊥)
+
+-- where a CPU's word is even or another one than it was, the section that was open isn't open any more: there was its exit
+abbrev pub GraceLaw : Type 0
+GraceLaw = Always (λ s. (c b : ℕ) (later : List Event) → begin_at s c ≡ Some b → HasMoved (section_at s c) (section_at (after s later) c) → HasExit s c later)
+
+-- The headline
+
+pub record IsSafe (s : State) : Type 0 where
+  -- no slot is destroyed while a read section that may have found an entry of it, a passive reference, a local reference or a kept one holds that entry
+  pub destroyed : (event : Event) (e : Entry) → destroyed_slot event ≡ Some e.slot → IsAllowed s event → IsAttached s.history e → IsUnheld (picture s) e.number
+  -- and none is given again
+  pub given : (event : Event) (e : Entry) → given_slot event ≡ Some e.slot → IsAllowed s event → IsAttached s.history e → IsUnheld (picture s) e.number
+  -- at rest each slot's balance is exactly its local references held
+  pub balanced : at_rest s.due ≡ true → (t n : ℕ) → occupant_of s t ≡ Some n → IsBalanced s t n
+  pub vacant : at_rest s.due ≡ true → (t : ℕ) → t < s.settings.slots → occupant_of s t ≡ None → total_at s.totals t ≡ bias
+  -- each lookup's answer is the registry's at some point of its one history, not before its search's start
+  pub answered : (event : Event) (o : Outcome) (answer : Option Entry) → step s event ≡ Some o → answer_of o.reply ≡ Some answer → IsAnswered s event o answer
+  -- which is what the caller had seen at its Seek
+  pub begun : (event : Event) (c : ℕ) (q : Search) → search_at (after_event s event) c ≡ Some q → HasBegun s event c q
+
+-- Over every list of events no slot is destroyed or given again while a read section that may have found it, a passive reference or a local reference holds it; whenever the keeper is at rest each slot's balance is exactly its local references held; and each lookup's answer is the registry's at some point of its one history, not before what the caller had seen.
+abbrev pub Headline : Type 0
+Headline = Always IsSafe

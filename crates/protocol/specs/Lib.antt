@@ -1,0 +1,12 @@
+pub mod Events
+pub mod History
+pub mod Invariant
+pub mod Laws
+pub mod Loaded
+pub mod Marking
+pub mod Model
+pub mod Picture
+pub mod Ran
+pub mod Rows
+pub mod State
+pub mod Taken

@@ -1,0 +1,57 @@
+-- The picture of a core state: the model state that it shows.
+use Rattle.std.specs.Prelude.{ℕ, ◌+◌, List, Option, Some, None, IsTrue, sum_by, if◌then◌else◌}
+use Rattle.protocol.specs.declared.event.Event.{Event}
+use Rattle.registry_values.specs.declared.settings.Settings.{Settings}
+use Rattle.registry_values.specs.declared.slot.Slot.{Slot}
+use Rattle.registry_values.specs.declared.slot.Slot.TheVariants.{Vacant, Live, Retired}
+use Rattle.protocol.specs.declared.state.Search.{Search}
+use Rattle.protocol.specs.declared.state.Due.{Due}
+use Rattle.protocol.specs.declared.state.Due.TheVariants.{Rest, Snapshots, Adding, Subtracting}
+use Rattle.registry_values.specs.Limits.{are_fit}
+use Rattle.protocol.specs.State.{State, begin_at, seen_at, search_at, found_at, kept_at, passive_at, opening}
+use Rattle.registry_values.specs.Slots.{slot_at, has_number, slot_of}
+use Rattle.protocol.specs.Invariant.{standing_of, in_hand}
+use Rattle.protocol.specs.Ran.{ran, rested}
+use Rattle.protocol.specs.Model.{Model, Lookup, empty_model, IsModelRun}
+
+abbrev pub lookup_of : Option Search → Option Lookup
+lookup_of None = None
+lookup_of (Some q) = Some (record { key = q.key; start = q.start })
+
+abbrev pub number_in : Slot → Option ℕ
+number_in Vacant = None
+number_in (Live e) = Some e.number
+number_in (Retired e) = Some e.number
+
+-- the passive references of c to what stands in that slot
+abbrev pub passive_in : List (List ℕ) → ℕ → Option ℕ → ℕ
+passive_in passive c None = 0
+passive_in passive c (Some t) = passive_at passive c t
+
+-- a reference that the keeper joined and hasn't subtracted yet
+abbrev pub waiting_of : List Slot → ℕ → Due → ℕ
+waiting_of slots n Rest = 0
+waiting_of slots n (Snapshots t c) = 0
+waiting_of slots n (Adding t old) = 0
+waiting_of slots n (Subtracting t) = if has_number n (slot_at slots t) then 1 else 0
+
+-- the local references to n that no slot keeps: live, in a hand, or waiting for the keeper
+abbrev pub locals_of : State → ℕ → ℕ
+locals_of s n = sum_by (standing_of n) s.locals + sum_by (in_hand n) s.hands + waiting_of s.slots n s.due
+
+abbrev pub picture : State → Model
+picture s = record {
+  history = s.history;
+  sections = λ c. begin_at s c;
+  passes = λ c. seen_at s c;
+  lookups = λ c. lookup_of (search_at s c);
+  found = λ c. found_at s c;
+  passive = λ c n. passive_in s.passive c (slot_of s.slots n);
+  locals = λ n. locals_of s n;
+  occupants = λ t. number_in (slot_at s.slots t);
+  keeps = λ t. kept_at s.keeps t;
+}
+
+-- For fit settings and every list of events, the picture is reached by a run of the model.
+abbrev pub EveryRunIsModelRun : Type 0
+EveryRunIsModelRun = (z : Settings) (events : List Event) → IsTrue (are_fit z) → IsModelRun empty_model (picture (ran (rested (opening z)) events).state)

@@ -1,0 +1,193 @@
+-- Two worked rows, event by event: a search along the frozen link of an unlinked entry, and a reference given back while its count is collected.
+use Rattle.std.specs.Prelude.{◌≡◌, ℕ, List, ◌∷◌, [], ◌++◌, replicate, Option, Some, None}
+use Rattle.registry_values.specs.declared.entry.Kind.TheVariants.{Driver}
+use Rattle.registry_values.specs.declared.entry.Entry.{Entry}
+use Rattle.registry_values.specs.declared.name.Name.{Name}
+use Rattle.registry_values.specs.declared.settings.Settings.{Settings}
+use Rattle.protocol.specs.declared.event.Event.{Event}
+use Rattle.protocol.specs.declared.event.Event.TheVariants.{Seat, Enter, Exit, Seek, LoadLink, LoadRecord, StoreSlot, StoreNext, Publish, Unpublish, Tell, Hear, Snapshot, Look, PassiveLook, CountAdd, SplitRef, JoinRef, CountDown, SplitBack, Collect, TotalAdd, JoinKeeper, TotalSub, Vacate}
+use Rattle.protocol.specs.declared.event.RecordOf.TheVariants.{Search as OfSearch}
+use Rattle.protocol.specs.declared.event.Reply.{Reply}
+use Rattle.protocol.specs.declared.event.Reply.TheVariants.{Done, Word, Found, Ref, Collected}
+use Rattle.registry_values.specs.declared.entry.Change.TheVariants.{Attach, Detach}
+use Rattle.registry_values.specs.declared.slot.Slot.TheVariants.{Vacant, Live, Retired}
+use Rattle.protocol.specs.declared.state.Place.TheVariants.{AtHigh}
+use Rattle.registry_values.specs.declared.mark.Mark.{Mark}
+use Rattle.registry_values.specs.Slots.{key_of, kind_word}
+use Rattle.protocol.specs.State.{State, opening}
+use Rattle.registry_values.specs.Balances.{bias}
+use Rattle.registry_values.specs.Marks.{no_mark}
+use Rattle.protocol.specs.Events.{Outcome, step, state_after, words_of, snapshot_mark}
+use Rattle.protocol.specs.Ran.{ran, rested}
+use Rattle.protocol.specs.Laws.{after}
+
+abbrev pub reply_of : Option Outcome → Option Reply
+reply_of None = None
+reply_of (Some o) = Some o.reply
+
+-- the replies of all events in order; None where one isn't allowed
+abbrev pub replies : State → List Event → List (Option Reply)
+replies s [] = []
+replies s (e ∷ es) = reply_of (step s e) ∷ replies (state_after s (step s e)) es
+
+-- so many times Done
+abbrev pub done : ℕ → List (Option Reply)
+done n = replicate n (Some Done)
+
+-- one reply
+abbrev pub loads : ℕ → List (Option Reply)
+loads w = Some (Word w) ∷ []
+
+-- an attach of the entry e by c: its words, the count words of all CPUs, its link and the link to it, and a note
+abbrev pub attaching : ℕ → Entry → ℕ → List Event → List Event
+attaching c e link counts = StoreSlot e.slot 0 e.number ∷ StoreSlot e.slot 1 (kind_word e.rec.kind) ∷ StoreSlot e.slot 2 e.rec.name.high ∷ StoreSlot e.slot 3 e.rec.name.low ∷ StoreSlot e.slot 4 e.rec.value
+    ∷ (counts ++ StoreNext e.slot link ∷ Publish e.slot ∷ Tell None ∷ Hear (Some c) ∷ [])
+
+-- the events lead from one state to the other, and these are their replies
+abbrev pub Gives : State → List Event → List (Option Reply) → State → Type 0
+Gives s events answers t = (replies s events ≡ answers) × (after s events ≡ t)
+
+-- Frozen link
+
+abbrev pub two_cpus : Settings
+two_cpus = record { cpus = 2; slots = 3; change_limit = 1000; section_limit = 1000; passive_limit = 100; count_limit = 100 }
+
+abbrev pub wm0 : Name
+wm0 = record { high = 8605587239533019136; low = 0 }
+
+abbrev pub wm1 : Name
+wm1 = record { high = 8605588339044646912; low = 0 }
+
+abbrev pub wm2 : Name
+wm2 = record { high = 8605589438556274688; low = 0 }
+
+-- the three drivers
+abbrev pub driver : ℕ → ℕ → Name → ℕ → Entry
+driver n t name value = record { number = n; slot = t; rec = record { kind = Driver; name = name; value = value } }
+
+abbrev pub first : Entry
+first = driver 1 0 wm0 10
+
+abbrev pub second : Entry
+second = driver 2 1 wm1 11
+
+abbrev pub third : Entry
+third = driver 3 2 wm2 12
+
+-- the detach of the slot t by CPU 1
+abbrev pub detaching : ℕ → List Event
+detaching t = Unpublish t ∷ Snapshot (Some t) 0 ∷ Snapshot (Some t) 1 ∷ Tell None ∷ Hear (Some 1) ∷ []
+
+-- what advance tries for the slot t: CPU 0 hasn't passed
+abbrev pub trying : ℕ → List Event
+trying t = Look (Some t) 0 ∷ PassiveLook t 0 ∷ Collect t 0 ∷ Vacate t ∷ []
+
+abbrev pub tried : List (Option Reply)
+tried = Some (Word 1) ∷ None ∷ None ∷ None ∷ []
+
+-- the freeing of the slot t
+abbrev pub freeing : ℕ → List Event
+freeing t = Look (Some t) 0 ∷ Look (Some t) 1 ∷ PassiveLook t 0 ∷ PassiveLook t 1 ∷ Collect t 0 ∷ TotalAdd t ∷ Collect t 1 ∷ TotalAdd t ∷ Vacate t ∷ []
+
+abbrev pub freed : List (Option Reply)
+freed = Some (Word 2) ∷ Some (Word 0) ∷ Some (Word 0) ∷ Some (Word 0) ∷ Some (Word bias) ∷ Some Done ∷ Some (Word bias) ∷ Some Done ∷ Some Done ∷ []
+
+-- wm0, wm1 and wm2 are attached in the slots 0, 1 and 2
+abbrev pub attaches : List Event
+attaches = Seat 0 ∷ Seat 1
+    ∷ (attaching 1 first 0 (StoreSlot 0 5 bias ∷ StoreSlot 0 6 bias ∷ [])
+    ++ attaching 1 second 1 (StoreSlot 1 5 bias ∷ StoreSlot 1 6 bias ∷ [])
+    ++ attaching 1 third 2 (StoreSlot 2 5 bias ∷ StoreSlot 2 6 bias ∷ []))
+
+abbrev pub all_three : State
+all_three = record (opening two_cpus) {
+  head = 3;
+  next = 0 ∷ 1 ∷ 2 ∷ [];
+  rows = words_of first ∷ words_of second ∷ words_of third ∷ [];
+  counts = replicate 3 (bias ∷ bias ∷ replicate 6 0);
+  history = Attach first ∷ Attach second ∷ Attach third ∷ [];
+  seated = 2;
+  seen = 0 ∷ 3 ∷ [];
+  nets = replicate 3 (replicate 8 bias);
+  slots = Live first ∷ Live second ∷ Live third ∷ [];
+}
+
+-- CPU 0 seeks wm0, goes past wm2 and has loaded two words of wm1
+abbrev pub search_begins : List Event
+search_begins = Enter 0 ∷ Seek 0 Driver wm0 ∷ LoadLink 0 ∷ LoadRecord (OfSearch 0) ∷ LoadRecord (OfSearch 0) ∷ LoadRecord (OfSearch 0) ∷ LoadRecord (OfSearch 0) ∷ LoadLink 0 ∷ LoadRecord (OfSearch 0) ∷ LoadRecord (OfSearch 0) ∷ []
+
+abbrev pub searching : State
+searching = record all_three {
+  section = 1 ∷ 0 ∷ [];
+  begins = Some 3 ∷ None ∷ [];
+  depths = 1 ∷ 0 ∷ [];
+  seen = 3 ∷ 3 ∷ [];
+  searches = Some (record { key = key_of first; start = 3; place = AtHigh 1 2 2 }) ∷ None ∷ [];
+}
+
+-- wm1 and then wm0 are detached, and neither slot is freed: CPU 0 hasn't passed
+abbrev pub detaches : List Event
+detaches = detaching 1 ++ detaching 0 ++ trying 1 ++ trying 0
+
+abbrev pub marks_taken : List Mark
+marks_taken = snapshot_mark 1 ∷ snapshot_mark 0 ∷ replicate 6 no_mark
+
+-- the link of wm1 is frozen
+abbrev pub unlinked : State
+unlinked = record searching {
+  next = 0 ∷ 1 ∷ 0 ∷ [];
+  history = Attach first ∷ Attach second ∷ Attach third ∷ Detach 2 ∷ Detach 1 ∷ [];
+  seen = 3 ∷ 5 ∷ [];
+  slots = Retired first ∷ Retired second ∷ Live third ∷ [];
+  marks = marks_taken ∷ marks_taken ∷ replicate 8 no_mark ∷ [];
+}
+
+-- the search goes on along it and finds wm0
+abbrev pub search_goes_on : List Event
+search_goes_on = LoadRecord (OfSearch 0) ∷ LoadRecord (OfSearch 0) ∷ LoadLink 0 ∷ LoadRecord (OfSearch 0) ∷ LoadRecord (OfSearch 0) ∷ LoadRecord (OfSearch 0) ∷ LoadRecord (OfSearch 0) ∷ LoadRecord (OfSearch 0) ∷ []
+
+abbrev pub has_found : State
+has_found = record unlinked { seen = 5 ∷ 5 ∷ []; searches = None ∷ None ∷ []; found = Some first ∷ None ∷ [] }
+
+-- after its exit both slots are freed
+abbrev pub frees : List Event
+frees = Exit 0 ∷ (freeing 1 ++ freeing 0)
+
+-- the row frozen-link
+pub record FrozenLink : Type 0 where
+  pub attached : Gives (opening two_cpus) attaches (done 35) all_three
+  pub begun : Gives all_three search_begins (done 2 ++ loads 3 ++ loads 3 ++ loads 2 ++ loads wm2.high ++ loads 0 ++ loads 2 ++ loads 2 ++ loads 2) searching
+  pub detached : Gives searching detaches (done 1 ++ loads 1 ++ loads 0 ++ done 3 ++ loads 1 ++ loads 0 ++ done 2 ++ tried ++ tried) unlinked
+  pub gone_on : Gives unlinked search_goes_on (loads wm1.high ++ loads 0 ++ loads 1 ++ loads 1 ++ loads 2 ++ loads wm0.high ++ loads 0 ++ Some (Found first) ∷ []) has_found
+  pub is_freed : replies has_found frees ≡ Some Done ∷ (freed ++ freed)
+  pub are_vacant : (after has_found frees).slots ≡ Vacant ∷ Vacant ∷ Live third ∷ []
+
+-- Collect race
+
+abbrev pub one_cpu : Settings
+one_cpu = record { cpus = 1; slots = 1; change_limit = 1000; section_limit = 1000; passive_limit = 100; count_limit = 100 }
+
+abbrev pub wm : Name
+wm = record { high = 8605534462974885888; low = 0 }
+
+abbrev pub wm_entry : Entry
+wm_entry = driver 1 0 wm 7
+
+-- wm is attached with the value 7, found, counted, and detached after the exit
+abbrev pub counted_and_detached : List Event
+counted_and_detached = Seat 0 ∷ (attaching 0 wm_entry 0 (StoreSlot 0 5 bias ∷ [])
+    ++ Enter 0 ∷ Seek 0 Driver wm ∷ LoadLink 0 ∷ LoadRecord (OfSearch 0) ∷ LoadRecord (OfSearch 0) ∷ LoadRecord (OfSearch 0) ∷ LoadRecord (OfSearch 0) ∷ LoadRecord (OfSearch 0)
+    ∷ CountAdd 0 ∷ SplitRef 0 ∷ Exit 0 ∷ Unpublish 0 ∷ Snapshot (Some 0) 0 ∷ [])
+
+abbrev pub before_race : State
+before_race = after (opening one_cpu) counted_and_detached
+
+-- the CPU has the reference in its hand when its word is collected
+abbrev pub race_events : List Event
+race_events = Look (Some 0) 0 ∷ PassiveLook 0 0 ∷ JoinRef 0 0 ∷ Collect 0 0 ∷ CountDown 0 ∷ TotalAdd 0 ∷ Vacate 0 ∷ SplitBack 0 ∷ JoinKeeper 0 ∷ TotalSub 0 ∷ Vacate 0 ∷ []
+
+-- the row collect-race
+pub record CollectRace : Type 0 where
+  pub detached : replies (opening one_cpu) counted_and_detached ≡ done 13 ++ loads 1 ++ loads 1 ++ loads 2 ++ loads wm.high ++ loads 0 ++ Some (Found wm_entry) ∷ loads bias ++ Some (Ref 0) ∷ Some Done ∷ Some Done ∷ loads 2
+  pub race : replies before_race race_events ≡ Some (Word 2) ∷ Some (Word 0) ∷ Some Done ∷ Some (Word 281474976710657) ∷ Some Collected ∷ Some Done ∷ None ∷ Some (Ref 0) ∷ Some Done ∷ Some Done ∷ Some Done ∷ []
+  pub counted : (ran (rested before_race) race_events).counted ≡ record { taken = 10; refused = 1; last = Some Done }

@@ -1,0 +1,140 @@
+-- The state of the core: its words, and what stands beside them.
+use Rattle.std.specs.Prelude.{ℕ, List, [], false, Option, None, replicate, slice_index_or, slice_set, ◌+◌, ◌%◌, ◌==◌, Bool, true, ◌&&◌, ◌≡◌, ◌++◌, drop, ◌⊎◌, if◌then◌else◌}
+use Rattle.registry_values.specs.declared.entry.Entry.{Entry}
+use Rattle.registry_values.specs.declared.entry.Change.{Change}
+use Rattle.registry_values.specs.declared.settings.Settings.{Settings}
+use Rattle.protocol.specs.declared.state.RecordWords.{RecordWords}
+use Rattle.registry_values.specs.declared.slot.Slot.{Slot}
+use Rattle.registry_values.specs.declared.slot.Slot.TheVariants.{Vacant}
+use Rattle.registry_values.specs.declared.mark.Mark.{Mark}
+use Rattle.protocol.specs.declared.state.Search.{Search}
+use Rattle.protocol.specs.declared.state.Hand.{Hand}
+use Rattle.protocol.specs.declared.state.Hand.TheVariants.{Empty, Taking, Giving, Back}
+use Rattle.protocol.specs.declared.state.LocalPlace.{LocalPlace}
+use Rattle.protocol.specs.declared.state.LocalPlace.TheVariants.{Free}
+use Rattle.protocol.specs.declared.state.Due.{Due}
+use Rattle.protocol.specs.declared.state.Due.TheVariants.{Rest, Snapshots, Adding, Subtracting}
+use Rattle.registry_values.specs.Balances.{bias}
+use Rattle.registry_values.specs.Marks.{no_mark}
+
+pub record State : Type 0 where
+  pub settings : Settings
+  -- words: one for each CPU, one, one for each slot, one for each slot and CPU
+  pub section : List ℕ
+  pub head : ℕ
+  pub next : List ℕ
+  pub rows : List RecordWords
+  pub passive : List (List ℕ)
+  pub counts : List (List ℕ)
+  pub totals : List ℕ
+  -- beside them
+  pub history : List Change
+  pub seated : ℕ
+  pub begins : List (Option ℕ)
+  pub depths : List ℕ
+  pub seen : List ℕ
+  pub searches : List (Option Search)
+  pub found : List (Option Entry)
+  pub hands : List Hand
+  pub nets : List (List ℕ)
+  pub slots : List Slot
+  pub marks : List (List Mark)
+  pub keeps : List (Option ℕ)
+  pub due : Due
+  pub locals : List LocalPlace
+
+abbrev pub no_words : RecordWords
+no_words = record { number = 0; kind = 0; high = 0; low = 0; value = 0 }
+
+-- the place of a CPU in the row of a slot, and a row with another value there
+abbrev pub cell : {X : Type 0} → X → List (List X) → ℕ → ℕ → X
+cell x rows t c = slice_index_or (slice_index_or rows t []) c x
+
+abbrev pub with_cell : {X : Type 0} → List (List X) → ℕ → ℕ → X → List (List X)
+with_cell rows t c x = slice_set rows t (slice_set (slice_index_or rows t []) c x)
+
+abbrev pub section_at : State → ℕ → ℕ
+section_at s c = slice_index_or s.section c 0
+
+abbrev pub begin_at : State → ℕ → Option ℕ
+begin_at s c = slice_index_or s.begins c None
+
+abbrev pub depth_at : State → ℕ → ℕ
+depth_at s c = slice_index_or s.depths c 0
+
+abbrev pub seen_at : State → ℕ → ℕ
+seen_at s c = slice_index_or s.seen c 0
+
+abbrev pub search_at : State → ℕ → Option Search
+search_at s c = slice_index_or s.searches c None
+
+abbrev pub found_at : State → ℕ → Option Entry
+found_at s c = slice_index_or s.found c None
+
+abbrev pub hand_at : State → ℕ → Hand
+hand_at s c = slice_index_or s.hands c Empty
+
+abbrev pub row_at : List RecordWords → ℕ → RecordWords
+row_at rows t = slice_index_or rows t no_words
+
+abbrev pub mark_at : List (List Mark) → ℕ → ℕ → Mark
+mark_at marks t c = cell no_mark marks t c
+
+-- passive references of the CPU c to what stands in t
+abbrev pub passive_at : List (List ℕ) → ℕ → ℕ → ℕ
+passive_at passive c t = cell 0 passive t c
+
+abbrev pub count_at : List (List ℕ) → ℕ → ℕ → ℕ
+count_at counts c t = cell 0 counts t c
+
+abbrev pub total_at : List ℕ → ℕ → ℕ
+total_at totals t = slice_index_or totals t 0
+
+abbrev pub kept_at : List (Option ℕ) → ℕ → Option ℕ
+kept_at keeps t = slice_index_or keeps t None
+
+abbrev pub local_at : List LocalPlace → ℕ → LocalPlace
+local_at locals id = slice_index_or locals id Free
+
+-- all words are 0 but the totals, all slots are vacant, and no CPU has its seat
+abbrev pub opening : Settings → State
+opening z = record {
+  settings = z;
+  section = replicate z.cpus 0;
+  head = 0;
+  next = replicate z.slots 0;
+  rows = replicate z.slots no_words;
+  passive = replicate z.slots (replicate 8 0);
+  counts = replicate z.slots (replicate 8 0);
+  totals = replicate z.slots bias;
+  history = [];
+  seated = 0;
+  begins = replicate z.cpus None;
+  depths = replicate z.cpus 0;
+  seen = replicate z.cpus 0;
+  searches = replicate z.cpus None;
+  found = replicate z.cpus None;
+  hands = replicate z.cpus Empty;
+  nets = replicate z.slots (replicate 8 0);
+  slots = replicate z.slots Vacant;
+  marks = replicate z.slots (replicate 8 no_mark);
+  keeps = replicate z.slots None;
+  due = Rest;
+  locals = [];
+}
+
+abbrev pub is_empty : Hand → Bool
+is_empty Empty = true
+is_empty (Taking n) = false
+is_empty (Giving n id) = false
+is_empty (Back n id) = false
+
+abbrev pub at_rest : Due → Bool
+at_rest Rest = true
+at_rest (Snapshots t c) = false
+at_rest (Adding t old) = false
+at_rest (Subtracting t) = false
+
+-- the count words of the first CPUs stand for no reference
+abbrev pub with_biases : ℕ → List ℕ → List ℕ
+with_biases cpus row = replicate cpus bias ++ drop cpus row

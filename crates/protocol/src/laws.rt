@@ -1,0 +1,52 @@
+//! The laws of the core, over every list of events: functions that do nothing, whose contracts are the laws.
+
+ghost use Rattle.protocol.specs.Laws.{BalanceAtRest, DriversOutlive, EveryRunKeeps, GraceLaw, Headline, LawfulAnswers, SafeReuse};
+ghost use Rattle.protocol.specs.Picture.{EveryRunIsModelRun};
+ghost use Rattle.protocol.specs.Rows.{CollectRace, FrozenLink};
+
+/// Does nothing; its contract says the headline for the core. Over every list of events no slot is destroyed or given
+/// again while a read section that may have found it, a passive reference, a local reference or a kept one holds it;
+/// whenever the keeper is at rest each slot's balance is exactly its local references held; and each lookup's answer
+/// is the registry's at some point of its one history, not before what the caller had seen.
+pub fn headline()
+    ensures { Headline }
+{}
+
+/// Does nothing; its contract says what every list of events keeps, allowed or not. `keeps`: the core invariant.
+/// `modelled`: the picture of the state is reached by a run of the model.
+pub fn every_run_keeps()
+    ensures keeps { EveryRunKeeps }
+    ensures modelled { EveryRunIsModelRun }
+{}
+
+/// Does nothing; its contract says when a slot is used again. `reuse`: an occupant goes only by `Vacate` or `KeptSub`,
+/// detached and without a holder, and comes only by `Publish` into a slot without one. `drivers`: no driver's slot goes
+/// while an interface that keeps the driver is live or retired.
+pub fn safe_reuse()
+    ensures reuse { SafeReuse }
+    ensures drivers { DriversOutlive }
+{}
+
+/// Does nothing; its contract says that each answer of a lookup is the registry's at some point from the search's start
+/// to the CPU's new pass.
+pub fn lawful_answers()
+    ensures { LawfulAnswers }
+{}
+
+/// Does nothing; its contract says that at rest the balance of each slot is its local references held.
+pub fn balance_at_rest()
+    ensures { BalanceAtRest }
+{}
+
+/// Does nothing; its contract says that a section which was open has had its exit where the CPU's word is even or
+/// another one than it was.
+pub fn grace_law()
+    ensures { GraceLaw }
+{}
+
+/// Does nothing; its contract says what two lists of events reply. `frozen_link`: a search goes on along the frozen link
+/// of an unlinked entry. `collect_race`: a reference is given back while its count is collected.
+pub fn worked_run()
+    ensures frozen_link { FrozenLink }
+    ensures collect_race { CollectRace }
+{}

@@ -1,0 +1,4 @@
+pub mod Fit
+pub mod Least
+pub mod Names
+pub mod Slots

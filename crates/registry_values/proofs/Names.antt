@@ -1,0 +1,196 @@
+-- How the bytes of a name and its two words hang together.
+use Rattle.std.proofs.Common.{◌≡◌, ℕ, ◌+◌, ◌-◌, ◌<◌, ◌==◌, zero, suc, Bool, true, false, ◌&&◌, List, [], ◌∷◌, ◌++◌, length, get_or, take, drop, replicate, Option, Some, None, is_none, if◌then◌else◌, nat_le, refl, ap, ap₂, sym, ◌∙◌, arith, ◌⊎◌, length-append, length-drop, length-take-le, take-append-drop, inl, inr}
+use Rattle.std.proofs.lemmas.Bool.{and_parts, and_from}
+use Rattle.std.proofs.lemmas.Bool.Decides.{nat_tests}
+use Rattle.std.proofs.lemmas.List.{length-replicate}
+use Rattle.std.proofs.lemmas.Nat.{be_bytes_8, from_be_bytes-to_be_bytes_8}
+use Rattle.std.specs.Int.{w64, from_be_bytes, to_be_bytes}
+use Rattle.registry_values.specs.declared.name.Name.{Name}
+use Rattle.registry_values.specs.Names.{is_allowed, bad_place, is_name, padded, high_word, low_word, bytes_of, are_zeros, is_rest, is_padded, are_name_words, RoundTrip, IsWritten}
+
+-- ---- one byte
+
+-- a byte that may stand somewhere isn't zero
+above_zero : (place b : ℕ) → is_allowed place b ≡ true → (b == 0) ≡ false
+above_zero place b h = grind (arith, nat_tests)
+
+is_byte : (place b : ℕ) → is_allowed place b ≡ true → b < 256
+is_byte place b h = grind (arith, nat_tests)
+
+-- after the first place they are all alike
+later : (place b : ℕ) → is_allowed (place + 1) b ≡ is_allowed 1 b
+later place b = grind (arith, nat_tests)
+
+is_zero : (b : ℕ) → (b == 0) ≡ true → b ≡ 0
+is_zero b h = grind (arith, nat_tests)
+
+-- ---- lists whose items are bytes
+
+Small : List ℕ → Type 0
+Small xs = (i : ℕ) → get_or xs i 0 < 256
+
+small_none : Small []
+unfolding Small
+small_none i = omega arith
+
+small_more : (b : ℕ) (xs : List ℕ) → b < 256 → Small xs → Small (b ∷ xs)
+unfolding Small
+small_more b xs first rest zero = first
+small_more b xs first rest (suc i) = rest i
+
+small_take : (n : ℕ) (xs : List ℕ) → Small xs → Small (take n xs)
+unfolding Small
+small_take zero xs h i = omega arith
+small_take (suc n) [] h i = omega arith
+small_take (suc n) (x ∷ xs) h zero = h 0
+small_take (suc n) (x ∷ xs) h (suc i) = small_take n xs (λ k. h (suc k)) i
+
+small_drop : (n : ℕ) (xs : List ℕ) → Small xs → Small (drop n xs)
+unfolding Small
+small_drop zero xs h i = h i
+small_drop (suc n) [] h i = omega arith
+small_drop (suc n) (x ∷ xs) h i = small_drop n xs (λ k. h (suc k)) i
+
+-- ---- zero bytes
+
+zeros_are_zeros : (n : ℕ) → are_zeros (replicate n 0) ≡ true
+zeros_are_zeros zero = refl
+zeros_are_zeros (suc n) = zeros_are_zeros n
+
+only_zeros : (xs : List ℕ) → are_zeros xs ≡ true → xs ≡ replicate (length xs) 0
+only_zeros [] h = refl
+only_zeros (b ∷ xs) h =
+    let parts = and_parts (b == 0) (are_zeros xs) h in
+    ap₂ (λ (x : ℕ) (ys : List ℕ). x ∷ ys) (is_zero b parts.0) (only_zeros xs parts.1)
+
+-- ---- from the bytes of a name to 16 bytes
+
+-- what `bad_place` says of the bytes after one
+good_rest : (t : Bool) (i : ℕ) (o : Option ℕ) → is_none (if t then o else Some i) ≡ true → (t ≡ true) × (is_none o ≡ true)
+good_rest true i o h = (refl, h)
+good_rest false i o h = (cc, cc)
+
+rest_padded : (i : ℕ) (bs : List ℕ) (n : ℕ) → is_none (bad_place (i + 1) bs) ≡ true → is_rest (bs ++ replicate (suc n) 0) ≡ true
+rest_padded i [] n h = zeros_are_zeros n
+rest_padded i (b ∷ bs) n h =
+    let parts = good_rest (is_allowed (i + 1) b) (i + 1) (bad_place (i + 1 + 1) bs) h in
+    let here : is_allowed 1 b ≡ true = sym (later i b) ∙ parts.0 in
+    rw (above_zero 1 b here, here) (rest_padded (i + 1) bs n parts.1)
+
+-- the parts of `is_name`
+name_parts : (b : ℕ) (bs : List ℕ) → is_name (b ∷ bs) ≡ true → (length bs < 15) × (is_allowed 0 b ≡ true) × (is_none (bad_place 1 bs) ≡ true)
+name_parts b bs h =
+    let parts = and_parts (nat_le 1 (suc (length bs)) && nat_le (suc (length bs)) 15) (is_none (bad_place 0 (b ∷ bs))) h in
+    let sizes = and_parts (nat_le 1 (suc (length bs))) (nat_le (suc (length bs)) 15) parts.0 in
+    let size : nat_le (suc (length bs)) 15 ≡ true = sizes.1 in
+    let bytes = good_rest (is_allowed 0 b) 0 (bad_place 1 bs) parts.1 in
+    let below : length bs < 15 = grind (arith, nat_tests) in
+    (below, bytes.0, bytes.1)
+
+name_padded : (bytes : List ℕ) → is_name bytes ≡ true → is_padded (padded bytes) ≡ true
+name_padded [] h = absurd (cc)
+name_padded (b ∷ bs) h =
+    let parts = name_parts b bs h in
+    let below : length bs < 15 = parts.0 in
+    let left : 16 - suc (length bs) ≡ suc (14 - length bs) = omega arith in
+    and_from (is_allowed 0 b) (is_rest (bs ++ replicate (16 - suc (length bs)) 0)) parts.1
+    (rw left (rest_padded 0 bs (14 - length bs) parts.2))
+
+padded_length : (bytes : List ℕ) → is_name bytes ≡ true → length (padded bytes) ≡ 16
+padded_length [] h = absurd (cc)
+padded_length (b ∷ bs) h =
+    let below : length bs < 15 = (name_parts b bs h).0 in
+    omega (arith, length-append (b ∷ bs) (replicate (16 - suc (length bs)) 0), length-replicate {A = ℕ} (16 - suc (length bs)) 0)
+
+-- ---- from 16 bytes to two words and back
+
+-- the two ways on in `is_rest`
+rest_ways : (t z a r : Bool) → (if t then z else a && r) ≡ true → ((t ≡ true) × (z ≡ true)) ⊎ ((a ≡ true) × (r ≡ true))
+rest_ways true z a r h = inl (refl, h)
+rest_ways false z a r h = inr (and_parts a r h)
+
+small_zeros : (xs : List ℕ) → are_zeros xs ≡ true → Small xs
+small_zeros [] h = small_none
+small_zeros (b ∷ xs) h =
+    let parts = and_parts (b == 0) (are_zeros xs) h in
+    let e : b ≡ 0 = is_zero b parts.0 in
+    small_more b xs (omega arith) (small_zeros xs parts.1)
+
+small_rest : (xs : List ℕ) → is_rest xs ≡ true → Small xs
+small_rest [] h = small_none
+small_rest (b ∷ xs) h =
+    elim (rest_ways (b == 0) (are_zeros xs) (is_allowed 1 b) (is_rest xs) h) [
+      | inl ends ↦
+          let e : b ≡ 0 = is_zero b ends.0 in
+          small_more b xs (omega arith) (small_zeros xs ends.1)
+      | inr goes ↦ small_more b xs (is_byte 1 b goes.0) (small_rest xs goes.1)
+    ]
+
+small_padded : (xs : List ℕ) → is_padded xs ≡ true → Small xs
+small_padded [] h = absurd (cc)
+small_padded (b ∷ xs) h =
+    let parts = and_parts (is_allowed 0 b) (is_rest xs) h in
+    small_more b xs (is_byte 0 b parts.0) (small_rest xs parts.1)
+
+half : (xs : List ℕ) → length xs ≡ 8 → Small xs → to_be_bytes w64 (from_be_bytes w64 xs) ≡ xs
+unfolding Small
+half xs size h = be_bytes_8 xs _ size h refl
+
+halves : (xs : List ℕ) → length xs ≡ 16 → Small xs → bytes_of (from_be_bytes w64 (take 8 xs)) (from_be_bytes w64 (drop 8 xs)) ≡ xs
+halves xs size h =
+    let front : length (take 8 xs) ≡ 8 = length-take-le 8 xs (omega arith) in
+    let back : length (drop 8 xs) ≡ 8 = omega (arith, length-drop 8 xs) in
+    ap₂ (λ (a b : List ℕ). a ++ b) (half (take 8 xs) front (small_take 8 xs h)) (half (drop 8 xs) back (small_drop 8 xs h)) ∙ take-append-drop 8 xs
+
+-- a name's words are lawful
+pub lawful_words : (bytes : List ℕ) → is_name bytes ≡ true → are_name_words (high_word bytes) (low_word bytes) ≡ true
+unfolding are_name_words
+lawful_words bytes h =
+    let good = name_padded bytes h in
+    ap is_padded (halves (padded bytes) (padded_length bytes h) (small_padded (padded bytes) good)) ∙ good
+
+pub round_trip : RoundTrip
+round_trip bytes h = rw (lawful_words bytes h) refl
+
+-- ---- from two words to the bytes of a name
+
+-- what stands before the zero bytes
+rest_text : (xs : List ℕ) → is_rest xs ≡ true → (bs : List ℕ) × (n : ℕ) × (xs ≡ bs ++ replicate (suc n) 0) × ((i : ℕ) → is_none (bad_place (i + 1) bs) ≡ true)
+rest_text [] h = absurd (cc)
+rest_text (b ∷ xs) h =
+    elim (rest_ways (b == 0) (are_zeros xs) (is_allowed 1 b) (is_rest xs) h) [
+      | inl ends ↦ ([], length xs, ap₂ (λ (x : ℕ) (ys : List ℕ). x ∷ ys) (is_zero b ends.0) (only_zeros xs ends.1), λ i. refl)
+      | inr goes ↦
+          let text = rest_text xs goes.1 in
+          (b ∷ text.0, text.1, ap (λ ys. b ∷ ys) text.2, λ i. let here : is_allowed (i + 1) b ≡ true = later i b ∙ goes.0 in rw here (text.3 (i + 1)))
+    ]
+
+name_from : (b : ℕ) (bs : List ℕ) → length bs < 15 → is_allowed 0 b ≡ true → is_none (bad_place 1 bs) ≡ true → is_name (b ∷ bs) ≡ true
+name_from b bs below first rest =
+    let size : (nat_le 1 (suc (length bs)) && nat_le (suc (length bs)) 15) ≡ true = grind (arith, nat_tests) in
+    and_from (nat_le 1 (suc (length bs)) && nat_le (suc (length bs)) 15) (is_none (bad_place 0 (b ∷ bs))) size (rw first rest)
+
+padded_text : (xs : List ℕ) → is_padded xs ≡ true → length xs ≡ 16 → (bytes : List ℕ) × (is_name bytes ≡ true) × (padded bytes ≡ xs)
+padded_text [] h size = absurd (cc)
+padded_text (b ∷ xs) h size =
+    let parts = and_parts (is_allowed 0 b) (is_rest xs) h in
+    let text = rest_text xs parts.1 in
+    let sum : length xs ≡ length text.0 + suc text.1 = ap length text.2 ∙ length-append text.0 (replicate (suc text.1) 0) ∙ ap (λ n. length text.0 + n) (length-replicate {A = ℕ} (suc text.1) 0) in
+    let left : 16 - suc (length text.0) ≡ suc text.1 = omega arith in
+    let below : length text.0 < 15 = omega arith in
+    (b ∷ text.0, name_from b text.0 below parts.0 (text.3 0), ap (λ ys. b ∷ ys) (rw left (sym text.2)))
+
+-- what `named_by_words` does with a test
+opened : (t : Bool) (n m : Name) → (if t then Some n else None) ≡ Some m → (t ≡ true) × (n ≡ m)
+opened true n m h = (refl, cc)
+opened false n m h = (cc, cc)
+
+pub written : IsWritten
+unfolding are_name_words
+written high low name high_fits low_fits h =
+    let open_test = opened (are_name_words high low) (record { high = high; low = low }) name h in
+    let text = padded_text (bytes_of high low) open_test.0 refl in
+    let named_from : List ℕ → Name = λ p. record { high = from_be_bytes w64 (take 8 p); low = from_be_bytes w64 (drop 8 p) } in
+    let back : named_from (bytes_of high low) ≡ record { high = high; low = low } =
+    ap₂ (λ (a b : ℕ). record { high = a; low = b }) (from_be_bytes-to_be_bytes_8 high high_fits) (from_be_bytes-to_be_bytes_8 low low_fits) in
+    (text.0, text.1, ap named_from text.2 ∙ back ∙ open_test.1)

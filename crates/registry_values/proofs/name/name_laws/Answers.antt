@@ -1,0 +1,8 @@
+use Rattle.registry_values.proofs.Names.{round_trip, written}
+use Rattle.registry_values.proofs.name.name_laws.Goals as goal
+
+pub returns-clause-round_trip : goal.returns-clause-round_trip
+returns-clause-round_trip c = round_trip
+
+pub returns-clause-written : goal.returns-clause-written
+returns-clause-written c = written

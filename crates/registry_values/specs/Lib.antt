@@ -1,0 +1,7 @@
+pub mod Balances
+pub mod Limits
+pub mod Marks
+pub mod Names
+pub mod Refusals
+pub mod Slots
+pub mod Stages

@@ -1,0 +1,61 @@
+//! What a registry keeps: records, entries, and the changes of its history.
+
+ghost use Rattle.std.specs.Prelude.{◌≡◌, true};
+ghost use Rattle.registry_values.specs.Names.{are_name_words};
+ghost use Rattle.registry_values.specs.Slots.{kind_word};
+ghost use Rattle.registry_values.specs.declared.entry.Record.{Record};
+
+use crate::name::Name;
+
+/// What an entry is: a network interface or a device driver.
+#[derive(Clone, Copy, Debug, PartialEq, Eq)]
+pub enum Kind {
+    /// A network interface.
+    Iface,
+    /// A device driver.
+    Driver,
+}
+
+/// What an entry says: its kind, its name and a value that the registry only hands on.
+#[derive(Clone, Copy, Debug, PartialEq, Eq)]
+pub struct Record {
+    /// Interface or driver.
+    pub kind: Kind,
+    /// Unique among the live entries of its kind.
+    pub name: Name,
+    /// Any number; the registry doesn't look at it.
+    pub value: u64,
+}
+
+/// An entry of the registry, the target of psref(9). Two entries are the same if their numbers are.
+#[derive(Clone, Copy, Debug, PartialEq, Eq)]
+pub struct Entry {
+    /// The position, from 1, of its attach in the history.
+    pub number: u64,
+    /// The slot, from 0, that it was attached in.
+    pub slot: u8,
+    /// What it says.
+    pub rec: Record,
+}
+
+/// One change of the registry; all changes in their order are its history.
+#[derive(Clone, Copy, Debug, PartialEq, Eq)]
+pub enum Change {
+    /// The entry was linked.
+    Attach(Entry),
+    /// The entry with this number was unlinked.
+    Detach(u64),
+}
+
+/// The record whose four words are these, as a slot has them: the kind's word (1 for an interface, 2 for a driver), the name's two, the
+/// value.
+pub fn record_from(kind: u64, high: u64, low: u64, value: u64) -> Record
+    requires { are_name_words high low ≡ true }
+    ensures { (r : Record) → kind ≡ kind_word r.kind → high ≡ r.name.high → low ≡ r.name.low → value ≡ r.value → result ≡ r }
+{
+    let kind = if kind == 1 { Kind::Iface } else { Kind::Driver };
+    match Name::from_words(high, low) {
+        Some(name) => Record { kind, name, value },
+        None => unreachable!(),
+    }
+}

@@ -1,0 +1,26 @@
+//! The plain values of the registry: names, records and settings; why a call was refused; and what is judged of one slot, of the marks that
+//! a keeper has of the CPUs, and of count words. Nothing here has a state.
+#![tactic(auto)]
+
+mod balance;
+mod entry;
+mod mark;
+mod name;
+mod refusal;
+mod settings;
+mod slot;
+mod stage;
+
+pub use balance::{BIAS, Balance, less_bias, local_of, sum};
+pub use entry::{Change, Entry, Kind, Record, record_from};
+pub use mark::{
+    Mark, NO_MARK, are_clear, are_collected, cleared, collected, first_unseen, have_passed, is_out,
+    is_some_collected, looked,
+};
+pub use name::{Name, NameFault, name_laws};
+pub use refusal::Refusal;
+pub use settings::Settings;
+pub use slot::{
+    Key, Slot, has_number, is_live, is_live_as, is_plain, is_retired_as, key_of, retired_number,
+};
+pub use stage::{Stage, destroyed};
