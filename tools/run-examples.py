@@ -1,0 +1,97 @@
+#!/usr/bin/env python3
+"""Runs the examples of the documents over both engines, and compares what the program says.
+
+An example is a fenced block `script`, and the next fenced block after it: `report`, what the program must print, with nothing on standard
+error and status 0; or `fault`, what it must say on standard error, with nothing printed and status 2. Without file names the examples are
+those of docs/SCRIPTS.md. The program is ./registry_run, which is built first where that is needed, or the one that
+--program names. With --try nothing is proved: `rt try` compiles the program anew for each engine. The last line counts the runs.
+"""
+import argparse
+import pathlib
+import re
+import subprocess
+import sys
+import tempfile
+
+ROOT = pathlib.Path(__file__).resolve().parent.parent
+ENGINES = ("core", "live")
+WANTED = {"report": lambda text: (0, text, ""), "fault": lambda text: (2, "", text)}
+
+
+def blocks(text):
+    """The line, the word and the text of each fenced block."""
+    word = None
+    for number, line in enumerate(text.split("\n"), 1):
+        if not line.startswith("```"):
+            if word is not None:
+                body.append(line + "\n")
+        elif word is None:
+            start, word, body = number, line[3:], []
+        else:
+            yield start, word, "".join(body)
+            word = None
+
+
+def examples(path):
+    """The place, as scripts-70 for line 70 of SCRIPTS.md, the script, the word and the text of the answer of each example."""
+    waiting = None
+    for line, word, text in blocks(path.read_bytes().decode()):
+        if waiting and word not in WANTED:
+            sys.exit(f"{path.name}:{waiting[0]}: a script without a report or a fault after it")
+        if waiting:
+            yield f"{path.stem.lower()}-{waiting[0]}", waiting[1], word, text
+        elif word in WANTED:
+            sys.exit(f"{path.name}:{line}: a {word} without a script before it")
+        waiting = (line, text) if word == "script" else None
+    if waiting:
+        sys.exit(f"{path.name}:{waiting[0]}: a script without a report or a fault after it")
+
+
+def said(program, engine, found):
+    """What the program says of each example: status, standard output and standard error."""
+    for _, script, _, _ in found:
+        ended = subprocess.run([program, engine], input=script.encode(), stdout=subprocess.PIPE, stderr=subprocess.PIPE)
+        yield ended.returncode, ended.stdout.decode(), ended.stderr.decode()
+
+
+def said_when_tried(engine, found):
+    """The same by `rt try`, which prints a heading before each output, and a line after what stands on standard error."""
+    with tempfile.TemporaryDirectory() as folder:
+        for place, script, _, _ in found:
+            pathlib.Path(folder, place).write_bytes(script.encode())
+        command = ["rt", "try", "--cases", folder, "--", engine]
+        ended = subprocess.run(command, cwd=ROOT / "crates/registry_run", stdout=subprocess.PIPE, stderr=subprocess.PIPE)
+    printed = re.split(r"^== (\S+)\n", ended.stdout.decode(), flags=re.M)
+    outputs = dict(zip(printed[1::2], printed[2::2]))
+    complained = re.split(r"^case=(\S+) run=ended status=(\d+) .*\n", ended.stderr.decode(), flags=re.M)
+    errors = {place: (int(status), text) for text, place, status in zip(complained[::3], complained[1::3], complained[2::3])}
+    for place, _, _, _ in found:
+        if place not in outputs or place not in errors:
+            sys.exit(f"{place}: rt try says nothing of it\n{ended.stderr.decode()}")
+        status, error = errors[place]
+        yield status, outputs[place], error
+
+
+def main():
+    parser = argparse.ArgumentParser(description=__doc__.split("\n")[0])
+    parser.add_argument("--program", default=ROOT / "registry_run", help="the program that is run")
+    parser.add_argument("--try", dest="tried", action="store_true", help="compile by rt try, without proofs")
+    parser.add_argument("files", nargs="*", type=pathlib.Path, default=[ROOT / "docs/SCRIPTS.md"])
+    options = parser.parse_args()
+    found = [example for path in options.files for example in examples(path)]
+    passed = failed = 0
+    for engine in ENGINES:
+        answers = said_when_tried(engine, found) if options.tried else said(options.program, engine, found)
+        for (place, _, word, text), answer in zip(found, answers):
+            if answer == WANTED[word](text):
+                passed += 1
+            else:
+                failed += 1
+                status, printed, complained = answer
+                print(f"{place} {engine}: status {status}, and it said\n{printed}{complained}and not\n{text}", end="")
+    print(f"{passed} passed, {failed} failed")
+    sys.exit(failed != 0)
+
+
+if __name__ == "__main__":
+    main()
