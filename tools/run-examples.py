@@ -3,7 +3,7 @@
 
 An example is a fenced block `script`, and the next fenced block after it: `report`, what the program must print, with nothing on standard
 error and status 0; or `fault`, what it must say on standard error, with nothing printed and status 2. Without file names the examples are
-those of docs/SCRIPTS.md. The program is ./registry_run, which is built first where that is needed, or the one that
+those of docs/SCRIPTS.md and docs/NETBSD.md. The program is ./registry_run, which is built first where that is needed, or the one that
 --program names. With --try nothing is proved: `rt try` compiles the program anew for each engine. The last line counts the runs.
 """
 import argparse
@@ -76,7 +76,7 @@ def main():
     parser = argparse.ArgumentParser(description=__doc__.split("\n")[0])
     parser.add_argument("--program", default=ROOT / "registry_run", help="the program that is run")
     parser.add_argument("--try", dest="tried", action="store_true", help="compile by rt try, without proofs")
-    parser.add_argument("files", nargs="*", type=pathlib.Path, default=[ROOT / "docs/SCRIPTS.md"])
+    parser.add_argument("files", nargs="*", type=pathlib.Path, default=[ROOT / "docs/SCRIPTS.md", ROOT / "docs/NETBSD.md"])
     options = parser.parse_args()
     found = [example for path in options.files for example in examples(path)]
     passed = failed = 0
