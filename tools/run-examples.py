@@ -2,9 +2,10 @@
 """Runs the examples of the documents over both engines, and compares what the program says.
 
 An example is a fenced block `script`, and the next fenced block after it: `report`, what the program must print, with nothing on standard
-error and status 0; or `fault`, what it must say on standard error, with nothing printed and status 2. Without file names the examples are
-those of docs/SCRIPTS.md and docs/NETBSD.md. The program is ./registry_run, which is built first where that is needed, or the one that
---program names. With --try nothing is proved: `rt try` compiles the program anew for each engine. The last line counts the runs.
+error and status 0; or `fault`, what it must say on standard error, with nothing printed and status 2. A file NAME.txt is one example, with
+NAME.report beside it. Without file names the examples are those of docs/SCRIPTS.md, docs/NETBSD.md and examples/. The program is
+./registry_run, which is built first where that is needed, or the one that --program names. With --try nothing is proved: `rt try` compiles
+the program anew for each engine. The last line counts the runs.
 """
 import argparse
 import pathlib
@@ -16,6 +17,7 @@ import tempfile
 ROOT = pathlib.Path(__file__).resolve().parent.parent
 ENGINES = ("core", "live")
 WANTED = {"report": lambda text: (0, text, ""), "fault": lambda text: (2, "", text)}
+FILES = [ROOT / "docs/SCRIPTS.md", ROOT / "docs/NETBSD.md", *sorted((ROOT / "examples").glob("*.txt"))]
 
 
 def blocks(text):
@@ -34,6 +36,9 @@ def blocks(text):
 
 def examples(path):
     """The place, as scripts-70 for line 70 of SCRIPTS.md, the script, the word and the text of the answer of each example."""
+    if path.suffix == ".txt":
+        yield path.stem, path.read_bytes().decode(), "report", path.with_suffix(".report").read_bytes().decode()
+        return
     waiting = None
     for line, word, text in blocks(path.read_bytes().decode()):
         if waiting and word not in WANTED:
@@ -74,14 +79,15 @@ def said_when_tried(engine, found):
 
 def main():
     parser = argparse.ArgumentParser(description=__doc__.split("\n")[0])
-    parser.add_argument("--program", default=ROOT / "registry_run", help="the program that is run")
+    parser.add_argument("--program", default=ROOT / "registry_run", type=pathlib.Path, help="the program that is run")
     parser.add_argument("--try", dest="tried", action="store_true", help="compile by rt try, without proofs")
-    parser.add_argument("files", nargs="*", type=pathlib.Path, default=[ROOT / "docs/SCRIPTS.md", ROOT / "docs/NETBSD.md"])
+    parser.add_argument("files", nargs="*", type=pathlib.Path, default=FILES)
     options = parser.parse_args()
+    program = options.program.resolve()
     found = [example for path in options.files for example in examples(path)]
     passed = failed = 0
     for engine in ENGINES:
-        answers = said_when_tried(engine, found) if options.tried else said(options.program, engine, found)
+        answers = said_when_tried(engine, found) if options.tried else said(program, engine, found)
         for (place, _, word, text), answer in zip(found, answers):
             if answer == WANTED[word](text):
                 passed += 1
