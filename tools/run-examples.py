@@ -3,7 +3,7 @@
 
 An example is a fenced block `script`, and the next fenced block after it: `report`, what the program must print, with nothing on standard
 error and status 0; or `fault`, what it must say on standard error, with nothing printed and status 2. A file NAME.txt is one example, with
-NAME.report beside it. Without file names the examples are those of docs/SCRIPTS.md, docs/NETBSD.md and examples/. The program is
+NAME.report beside it. Without file names the examples are those of docs/ and examples/. The program is
 ./registry_run, which is built first where that is needed, or the one that --program names. With --try nothing is proved: `rt try` compiles
 the program anew for each engine. The last line counts the runs.
 """
@@ -17,7 +17,7 @@ import tempfile
 ROOT = pathlib.Path(__file__).resolve().parent.parent
 ENGINES = ("core", "live")
 WANTED = {"report": lambda text: (0, text, ""), "fault": lambda text: (2, "", text)}
-FILES = [ROOT / "docs/SCRIPTS.md", ROOT / "docs/NETBSD.md", *sorted((ROOT / "examples").glob("*.txt"))]
+FILES = [*sorted((ROOT / "docs").glob("*.md")), *sorted((ROOT / "examples").glob("*.txt"))]
 
 
 def blocks(text):
