@@ -1,0 +1,111 @@
+#!/usr/bin/env python3
+"""Tries the wrong bodies that the merge gate doesn't try (docs/EDITS.md).
+
+    tools/try-edits.py prover [CRATE | CRATE/EDIT]..    crates/CRATE/must-fail-by-hand/EDIT.edit: the prover must refuse each
+    tools/try-edits.py tests  [CRATE | CRATE/EDIT]..    crates/CRATE/must-fail-tests/EDIT.edit: a test of CRATE must fail under each
+
+Without names it goes over all of them. It works on a copy of the tree, says of each edit whether it was refused and by what, and ends with
+'N passed, M failed'.
+"""
+import pathlib
+import shutil
+import subprocess
+import sys
+import tempfile
+
+ROOT = pathlib.Path(__file__).resolve().parent.parent
+FOLDERS = {"prover": "must-fail-by-hand", "tests": "must-fail-tests"}
+
+
+def chosen(folder, words):
+    """The edits that the words name, by their crates."""
+    edits = {}
+    for word in words or sorted(it.parent.name for it in ROOT.glob(f"crates/*/{folder}")):
+        crate, _, name = word.partition("/")
+        found = sorted((ROOT / "crates" / crate / folder).glob(f"{name or '*'}.edit"))
+        if not found:
+            sys.exit(f"no edit {word} in {folder}/")
+        edits.setdefault(crate, []).extend(found)
+    return edits
+
+
+def by_prover(tree, crate, edits):
+    """Lets rt try the edits in place of those of the gate; for each, whether it was refused, and what is said of it."""
+    folder = tree / "crates" / crate / "must-fail"
+    shutil.rmtree(folder, ignore_errors=True)
+    folder.mkdir()
+    for edit in edits:
+        shutil.copy(edit, folder)
+    ran = subprocess.run(["rt", "must-fail", crate], cwd=tree, stdout=subprocess.PIPE, stderr=subprocess.STDOUT, text=True)
+    for edit in edits:
+        label = f"must-fail {crate}/{edit.name}: "
+        said = next((line.partition(label)[2] for line in ran.stdout.splitlines() if label in line), "not tried: " + ran.stdout[-300:])
+        yield edit, said.startswith("refused"), said
+
+
+def changes(edit):
+    """The file, the old and the new text of each change of an edit."""
+    file = old = None
+    for line in edit.read_text().splitlines():
+        key, _, text = line.partition(": ")
+        if key == "file":
+            file = text
+        elif key == "old":
+            old = text
+        elif key.rstrip(":") == "new":
+            yield file, old, text
+
+
+def applied(tree, edit):
+    """Applies the edit, and answers the files' text as it was."""
+    before = {}
+    for file, old, new in changes(edit):
+        path = tree / file
+        text = path.read_text()
+        before.setdefault(path, text)
+        if text.count(old) != 1:
+            sys.exit(f"{edit.name}: stands {text.count(old)} times in {file}: {old}")
+        path.write_text(text.replace(old, new))
+    return before
+
+
+def failures(tree, crate):
+    """Whether the tests of the crate fail, as they must, and what they say."""
+    ran = subprocess.run(["rt", "try", "--test"], cwd=tree / "crates" / crate, stdout=subprocess.PIPE, stderr=subprocess.STDOUT, text=True)
+    lines = ran.stdout.splitlines()
+    if not any(line.startswith("tests: ") for line in lines):
+        return False, "it doesn't compile: " + " ".join(lines[:4])
+    if ran.returncode == 0:
+        return False, "NOT REFUSED: all tests pass"
+    failed = [line.split()[1] for line in lines if line.startswith("test ") and line.endswith(" FAILED")]
+    return True, "refused by " + (", ".join(failed) or lines[-1])
+
+
+def by_tests(tree, crate, edits):
+    """Runs the tests under each edit in turn; its files are named from the tree's top."""
+    for edit in edits:
+        before = applied(tree, edit)
+        yield edit, *failures(tree, crate)
+        for path, text in before.items():
+            path.write_text(text)
+
+
+def main():
+    if len(sys.argv) < 2 or sys.argv[1] not in FOLDERS:
+        sys.exit(__doc__)
+    kind = sys.argv[1]
+    tries = by_prover if kind == "prover" else by_tests
+    kept = shutil.ignore_patterns(".git") if kind == "prover" else shutil.ignore_patterns("out", ".git")
+    passed = failed = 0
+    with tempfile.TemporaryDirectory() as folder:
+        tree = pathlib.Path(folder) / "tree"
+        shutil.copytree(ROOT, tree, ignore=kept)
+        for crate, edits in chosen(FOLDERS[kind], sys.argv[2:]).items():
+            for edit, refused, said in tries(tree, crate, edits):
+                passed, failed = passed + refused, failed + (not refused)
+                print(f"{crate}/{edit.stem}: {said}", flush=True)
+    print(f"{passed} passed, {failed} failed")
+    sys.exit(failed > 0)
+
+
+main()
