@@ -42,15 +42,22 @@ def part_of(words):
     return crate, "tests" if "--test" in words else "proofs"
 
 
-def look(seen):
-    """Notes the processor seconds of each check that runs now; a check's own copies count with it once they have ended."""
+def is_below(pid, top):
+    """Whether the process was started by `top`, or by one that was."""
+    while pid > 1 and pid != top:
+        pid, _ = stat_of(pid)
+    return pid == top
+
+
+def look(top, seen):
+    """Notes the processor seconds of each check below `top` that runs now; a check's own copies count with it once they have ended."""
     for pid in filter(str.isdigit, os.listdir("/proc")):
         try:
             words = words_of(pid)
             if not is_check(words):
                 continue
             parent, seconds = stat_of(pid)
-            if is_check(words_of(parent)):
+            if is_check(words_of(parent)) or not is_below(parent, top):
                 continue
         except (OSError, ValueError, IndexError):
             continue
@@ -77,7 +84,7 @@ def main():
     start, seen = time.monotonic(), {}
     ran = subprocess.Popen(sys.argv[1:] or ["rt", "ci"])
     while ran.poll() is None:
-        look(seen)
+        look(ran.pid, seen)
         time.sleep(0.25)
     used = resource.getrusage(resource.RUSAGE_CHILDREN)
     clock, whole = (time.monotonic() - start) / 60, (used.ru_utime + used.ru_stime) / 60
