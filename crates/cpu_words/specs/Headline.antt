@@ -86,7 +86,7 @@ pub record IsFree (z : Settings) (s : Table ℕ View) (h : List Change) (e : Ent
   pub unheld : IsUnheld (picture (after (opening z) run.events)) e.number
   pub seats : (j : ℕ) (v : View) → get_elem? s.views j ≡ some v → SeatHolds h e v → ⊥
 
--- the keeper's seat has all marks of the slot t, and its total is even: its entry is free
+-- the keeper's seat has all marks of the slot t, and its total is just the bias: its entry is free
 abbrev pub DrainedIsFree : Type 0
 DrainedIsFree = (z : Settings) (s : Table ℕ View) (i t : ℕ) (k : KeeperView) → Ruled z s → get_elem? s.views i ≡ some (Keeper k)
     → (drained : IsDrained k t) → IsFree z s k.history drained.retired.0

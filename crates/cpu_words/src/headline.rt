@@ -13,7 +13,7 @@ pub fn running_headline()
 {}
 
 /// Does nothing; its contract says what the keeper's marks tell of all seats, between any two steps of whatever threads. `drained`: where
-/// all marks of a retired slot are set and its total is even, nothing holds its entry: no open section of any CPU may hold it, no CPU has
+/// all marks of a retired slot are set and its total is just the bias, nothing holds its entry: no open section of any CPU may hold it, no CPU has
 /// a passive reference to it or one in its hand, no seat is a local reference to it, and no slot keeps one. `marked`: what one CPU's marks
 /// tell. It passed: no open section of it may hold the entry. It is clear: it has no passive reference to it, and its passive word is 0.
 /// It is collected: its count word is 0. `found`: a CPU's last found entry may be held by that CPU's open section.
