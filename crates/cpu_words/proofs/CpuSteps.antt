@@ -26,6 +26,7 @@ use Rattle.cpu_words.specs.Views.{CpuOwn, own_of, cpu_view, SameHand, depth_of, 
 use Rattle.cpu_words.specs.Rule.{Agrees, IsFresh, Good, Ruled}
 use Rattle.cpu_words.specs.Steps.{Makes}
 use Rattle.cpu_words.proofs.Showing.{standing_in, Stay, shows_set}
+use Rattle.cpu_words.proofs.Reaching.{reached_more}
 use Rattle.cpu_words.proofs.Passes.{attached_longer}
 
 -- what an event of a CPU can change in the core
@@ -145,6 +146,7 @@ cpu_makes z s r i x word m l e rep own at made leaves count heard shown words =
         seat = r.seat;
         settings = r.settings;
         good = good;
+        reached = reached_more z g g' e rep r.reached made;
         words = words;
         shows = shows_set g g' r.seat s.views i (Cpu x) (Cpu y) r.shows at (cpu_stays g l x.id r.seat i leaves had.0) (had.0, shown) (λ n. let h = count n in omega arith);
       },

@@ -21,6 +21,7 @@ use Rattle.protocol.specs.Invariant.{one_if, standing_of}
 use Rattle.protocol.proofs.Bounds.{back_within}
 use Rattle.protocol.proofs.References.{back_holds}
 use Rattle.protocol.proofs.Sums.{one_at, local_changed, local_added, standing_within}
+use Rattle.cpu_words.proofs.Reaching.{reached_more}
 use Rattle.cpu_words.proofs.Standing.{standing_place}
 use Rattle.cpu_words.specs.declared.view.InHand.{InHand}
 use Rattle.cpu_words.specs.declared.view.InHand.TheVariants.{Empty as NoEntry, Taking as TakingEntry, Giving as GivingEntry, Back as BackEntry}
@@ -164,6 +165,7 @@ splits z i x e leaves s r at =
       seat = r.seat;
       settings = r.settings;
       good = good_after g l x.id e p.r r.good after had.1.seated m.made;
+      reached = reached_more z g (with_lists g l) e p.r r.reached m.made;
       words = agrees_same s.words g (with_lists g l) r.words refl (λ q there. same_words g x.id m.h m.locals q);
       shows = shows_split g (with_lists g l) r.seat s.views i (Cpu x) (emptied (Cpu x)) (cut_off (Cpu x)) r.shows at (cpu_stays g l x.id r.seat i after had.0)
           (had.0, shown_hand g x m.h m.locals NoEntry r.good had.1 m.same m.fits) (λ j. tt) (record { attached = p.right.attached; collected = p.right.collected }) (λ n. let h = p.count n in omega arith);
@@ -291,6 +293,7 @@ joins z i o x v idle s r at apart there =
       seat = r.seat;
       settings = r.settings;
       good = good_after g l x.id (JoinRef x.id p.id) Done r.good after had.1.seated m.made;
+      reached = reached_more z g (with_lists g l) (JoinRef x.id p.id) Done r.reached m.made;
       words = agrees_same s.words g (with_lists g l) r.words refl (λ q there. same_words g x.id m.h m.locals q);
       shows = shows_join g (with_lists g l) r.seat s.views i (Cpu x) o (Reference v) both r.shows at apart was (cpu_stays g l x.id r.seat i after had.0)
           (had.0, shown_hand g x m.h m.locals (GivingEntry v.entry) r.good had.1 m.same m.fits) (λ n. let h = p.count n in omega arith) there;

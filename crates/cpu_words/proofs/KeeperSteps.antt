@@ -27,6 +27,7 @@ use Rattle.protocol.specs.Events.{step}
 use Rattle.protocol.specs.Invariant.{IsIn, Occupies, one_if, standing_of, HandHolds, Holds}
 use Rattle.protocol.proofs.Occupied.{slot_has, slot_found, fresh_unoccupied}
 use Rattle.protocol.proofs.Keeping.{step_holds}
+use Rattle.cpu_words.proofs.Reaching.{reached_more}
 use Rattle.cpu_words.proofs.Standing.{standing_place}
 use Rattle.cpu_words.specs.declared.view.InHand.{InHand}
 use Rattle.cpu_words.specs.declared.view.InHand.TheVariants.{Empty as NoEntry, Taking as TakingEntry, Giving as GivingEntry, Back as BackEntry}
@@ -208,6 +209,7 @@ keeper_makes z s r i k word m l e rep own at made leaves count heard shown words
         seat = r.seat;
         settings = r.settings;
         good = good;
+        reached = reached_more z g g' e rep r.reached made;
         words = words;
         shows = shows_set g g' r.seat s.views i (Keeper k) (Keeper w) r.shows at (keeper_stays g l r.seat i r.good good.holds leaves count had.0) (had.0, shown) (λ n. let h = count n in omega arith);
       },

@@ -31,6 +31,7 @@ use Rattle.cpu_words.specs.Steps.{ChangesBy, JoinsBy}
 use Rattle.cpu_words.specs.Vacating.{MayVacate, vacated, vacant_from, as_vacant}
 use Rattle.cpu_words.specs.Keeping.{MayKeep, keeping, IsVacated, with_kept}
 use Rattle.cpu_words.proofs.Placing.{agrees_same}
+use Rattle.cpu_words.proofs.Reaching.{reached_more}
 use Rattle.cpu_words.proofs.Standing.{standing_place}
 use Rattle.cpu_words.proofs.Showing.{standing_in, backed, shows_join}
 use Rattle.cpu_words.proofs.KeeperSteps.{KeeperLists, with_keeper, leaves_all, keeper_good_after, beside, beside_stays, beside_words}
@@ -108,6 +109,7 @@ takes_at z i k o t v may s r at apart there =
       seat = r.seat;
       settings = r.settings;
       good = law.good_after;
+      reached = reached_more z g law.after (Keep t law.id) Done r.reached law.made;
       words = agrees_same s.words g law.after r.words refl (λ q _. beside_words g locals g.due kept q);
       shows = shows_join g law.after r.seat s.views i (Keeper k) o (Reference v) both r.shows at apart was (beside_stays g locals g.due kept r.seat i had.0) (had.0, law.shown) law.count there;
     }

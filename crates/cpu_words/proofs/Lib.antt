@@ -2,6 +2,7 @@ pub mod Placing
 pub mod Apart
 pub mod Showing
 pub mod Passes
+pub mod Reaching
 pub mod Standing
 pub mod CpuSteps
 pub mod Seeing
@@ -31,3 +32,6 @@ pub mod Notes
 pub mod Seating
 pub mod Opening
 pub mod Pictures
+pub mod Safety
+pub mod Holders
+pub mod Honest

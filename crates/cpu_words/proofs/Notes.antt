@@ -23,6 +23,7 @@ use Rattle.cpu_words.specs.Rule.{Sits, reference_to, Good, Ruled}
 use Rattle.cpu_words.specs.Steps.{Makes, SplitsBy, CpuMay, KeeperMay}
 use Rattle.cpu_words.specs.Sections.{IsIdle}
 use Rattle.cpu_words.specs.Notes.{pass_told, history_told, with_heard, keeper_with_heard, beside_cpu, beside_keeper, HasHeard, KeeperHasHeard}
+use Rattle.cpu_words.proofs.Reaching.{reached_more}
 use Rattle.cpu_words.proofs.Showing.{Stay, shows_split, shows_join}
 use Rattle.cpu_words.proofs.Passes.{taken_is_prefix, prefix_longer, take_whole}
 use Rattle.cpu_words.proofs.Seeing.{seen_of, idle_of}
@@ -55,13 +56,15 @@ tells_by e v h tells g good had =
 splits : (z : Settings) (i : ℕ) (e : Event) (v : View) (h : List Change) → Tells e v h → Splits (Ruled z) i v v (Note h)
 splits z i e v h tells s r at =
     let g = r.g in
-    let had = r.shows.fits i v at in record {
+    let had = r.shows.fits i v at in
+    let told = tells g r.good had.1 in record {
       g = g;
       seat = r.seat;
       settings = r.settings;
       good = r.good;
+      reached = reached_more z g g e Done r.reached told.0;
       words = r.words;
-      shows = shows_split g g r.seat s.views i v v (Note h) r.shows at (own_view_alone g r.seat i) had (λ j. tt) (tells g r.good had.1).1 (λ n. omega arith);
+      shows = shows_split g g r.seat s.views i v v (Note h) r.shows at (own_view_alone g r.seat i) had (λ j. tt) told.1 (λ n. omega arith);
     }
 
 cpu_tells : (x : CpuView) (c : ℕ) → x.id ≡ c → IsIdle x → Tells (Tell (Some c)) (Cpu x) x.pass
@@ -117,6 +120,7 @@ joins z i o v both h beside s r at apart there =
       seat = r.seat;
       settings = r.settings;
       good = r.good;
+      reached = r.reached;
       words = r.words;
       shows = shows_join g g r.seat s.views i v o (Note h) both r.shows at apart was (own_view_alone g r.seat i) (beside.sits r.seat i had.0, beside.shown g had.1 told)
           (λ n. let same = beside.references n in omega arith) there;

@@ -30,6 +30,7 @@ use Rattle.cpu_words.specs.Spots.{Spot, section_of, passive_of, count_of, head_w
 use Rattle.cpu_words.specs.Views.{Seated, new_cpu, first_view, Shown}
 use Rattle.cpu_words.specs.Rule.{Sits, Good, Ruled}
 use Rattle.cpu_words.specs.Opening.{AreOpening, AreSeats, keeper_with}
+use Rattle.cpu_words.proofs.Reaching.{reached_first}
 use Rattle.protocol.proofs.Occupied.{not_vacant}
 
 -- no entry is in a slot at the start
@@ -87,6 +88,7 @@ opens z words fit are = record {
   seat = λ _. 0;
   settings = refl;
   good = first_good z fit;
+  reached = reached_first z;
   words = record { size = are.size; at = first_words z words fit are };
   shows = record { fits = one; references = λ n. refl };
 }

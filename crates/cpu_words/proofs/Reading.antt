@@ -32,6 +32,7 @@ use Rattle.cpu_words.specs.Views.{ReferenceShown}
 use Rattle.cpu_words.specs.Rule.{Good, Ruled}
 use Rattle.cpu_words.specs.Steps.{OneSeat, Makes, ReferenceMay}
 use Rattle.cpu_words.specs.Reading.{tells_local}
+use Rattle.cpu_words.proofs.Reaching.{reached_more}
 use Rattle.cpu_words.proofs.Placing.{agrees_set}
 use Rattle.cpu_words.proofs.Showing.{shows_set, backed}
 
@@ -55,6 +56,7 @@ keeps_view z s r i v p e rep at there made same =
         seat = r.seat;
         settings = r.settings;
         good = r.good;
+        reached = reached_more z g g e rep r.reached made;
         words = agrees_set s.words g g p (slice_index s.words (index p)) r.good.holds.fit r.words refl there (sym (r.words.at p there)) (λ q also ne. refl);
         shows = shows_set g g r.seat s.views i v v r.shows at (λ j u ne sits shown backed. shown) had (λ n. refl);
       },

@@ -25,6 +25,7 @@ use Rattle.cpu_words.specs.Views.{SameHand, own_of, cpu_view, new_cpu, CpuShown,
 use Rattle.cpu_words.specs.Rule.{Sits, reference_to, Shows, IsFresh, Good, Ruled}
 use Rattle.cpu_words.specs.Steps.{SplitsBy}
 use Rattle.cpu_words.specs.Opening.{MaySeat, one_seated, seating, next_seat}
+use Rattle.cpu_words.proofs.Reaching.{reached_more}
 use Rattle.cpu_words.proofs.Showing.{shows_set}
 use Rattle.cpu_words.proofs.Placing.{agrees_same}
 use Rattle.cpu_words.proofs.KeeperSteps.{KeeperLists, keeper_lists, with_keeper, LeavesCpus, keeper_stays, keeper_good_after}
@@ -210,6 +211,7 @@ splits z i k may s r at =
       seat = seat';
       settings = r.settings;
       good = p.good;
+      reached = reached_more z g g' (Seat g.seated) Done r.reached p.made;
       words = agrees_same s.words g g' r.words refl (λ q there. same_words g q);
       shows = shows_push g' seat' views (next_seat (Keeper k)) changed (here, p.new) (λ n. refl);
     }

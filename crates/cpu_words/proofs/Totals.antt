@@ -41,6 +41,7 @@ use Rattle.cpu_words.specs.Views.{KeeperOwn, keeper_own, keeper_view, number_at,
 use Rattle.cpu_words.specs.Rule.{Agrees, Good, Ruled}
 use Rattle.cpu_words.specs.Steps.{Makes, JoinsBy, KeeperMay, KeeperStores}
 use Rattle.cpu_words.specs.Draining.{MayTotalAdd, TotalAddTold, MayTotalSub, TotalSubTold, MayJoinKeeper, giving_up, with_given_up}
+use Rattle.cpu_words.proofs.Reaching.{reached_more}
 use Rattle.cpu_words.proofs.Placing.{agrees_set, agrees_same}
 use Rattle.cpu_words.proofs.Showing.{standing_in, backed, shows_join}
 use Rattle.cpu_words.proofs.Counting.{one_more_same, one_more_other}
@@ -340,6 +341,7 @@ joins_at z i k o v may s r at apart there =
       seat = r.seat;
       settings = r.settings;
       good = law.good_after;
+      reached = reached_more z g law.after (JoinKeeper law.id) Done r.reached law.made;
       words = agrees_same s.words g law.after r.words refl (λ q _. beside_words g (set g.locals law.id Free) (Subtracting v.entry.slot) g.keeps q);
       shows = shows_join g law.after r.seat s.views i (Keeper k) o (Reference v) both r.shows at apart was (beside_stays g (set g.locals law.id Free) (Subtracting v.entry.slot) g.keeps r.seat i had.0) (had.0, law.shown) law.count there;
     }

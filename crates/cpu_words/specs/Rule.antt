@@ -1,14 +1,16 @@
--- The rule of the table, the running picture: its words and the views of all seats show a state of the core.
+-- The rule of the table, the running picture: its words and the views of all seats show a state of the core, and a list of events leads to it.
 use Rattle.std.specs.Prelude.{◌≡◌, ℕ, ◌<◌, ◌≤◌, List, length, sum_by, slice_index}
 use mathlib.Core.Option.{some}
 use lib.ListN.{get_elem?}
 use Rattle.atomic_table.specs.Table.{State as Table}
 use Rattle.registry_values.specs.declared.entry.Entry.{Entry}
 use Rattle.registry_values.specs.declared.settings.Settings.{Settings}
-use Rattle.protocol.specs.State.{State, section_at, depth_at, seen_at, passive_at, count_at}
+use Rattle.protocol.specs.declared.event.Event.{Event}
+use Rattle.protocol.specs.State.{State, opening, section_at, depth_at, seen_at, passive_at, count_at}
 use Rattle.registry_values.specs.Balances.{bias}
 use Rattle.registry_values.specs.Slots.{slot_at}
 use Rattle.protocol.specs.Invariant.{IsIn, one_if, standing_of, Holds}
+use Rattle.protocol.specs.Laws.{after}
 use Rattle.cpu_words.specs.Spots.{Spot, index, IsSpot, word_at}
 use Rattle.cpu_words.specs.Views.{KeeperShown, Shown, is_to}
 use Rattle.cpu_words.specs.declared.view.KeeperView.{KeeperView}
@@ -60,11 +62,17 @@ pub record IsPictured (k : KeeperView) : Type 0 where
   pub good : Good g
   pub shown : KeeperShown g k
 
--- there is a state of the core that the table shows
+-- a list of events leads from the opening of the settings to the state
+pub record Reached (z : Settings) (g : State) : Type 0 where
+  pub events : List Event
+  pub run : g ≡ after (opening z) events
+
+-- there is a state of the core that the table shows, and events lead to it
 pub record Ruled (z : Settings) (s : Table ℕ View) : Type 0 where
   pub g : State
   pub seat : ℕ → ℕ
   pub settings : g.settings ≡ z
   pub good : Good g
+  pub reached : Reached z g
   pub words : Agrees s.words g
   pub shows : Shows g seat s.views

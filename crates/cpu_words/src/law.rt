@@ -8,7 +8,8 @@ use registry_values::Settings;
 use std::alloc::Global;
 use std::marker::{Brand, Model, PhantomData};
 
-/// The rule: the words and the views of all seats show a state of the core, the running picture.
+/// The rule: the words and the views of all seats show a state of the core, the running picture, and a list of events leads to it from the
+/// opening.
 pub struct Picture;
 
 impl TableRule<u8, View, Settings> for Picture {

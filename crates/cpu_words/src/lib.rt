@@ -1,7 +1,8 @@
 //! The words of a registry as a table of atomic words, under one rule: between any two steps the words and the views of all seats
-//! show a state of the core.
+//! show a state of the core, and a list of events leads to it.
 #![tactic(auto)]
 
+mod headline;
 mod law;
 mod layout;
 mod open;
@@ -10,6 +11,7 @@ mod step;
 pub mod steps;
 mod view;
 
+pub use headline::{honest_marks, running_headline};
 pub use law::{Domain, Picture, Words};
 pub use layout::layout_law;
 pub use seat::{CpuSeat, KeeperSeat, NoteSeat, ReferenceSeat};

@@ -1,13 +1,17 @@
 -- The free interlock: a keeper at rest is adding nothing, so the balance of each slot is the references held.
-use Rattle.std.proofs.Common.{◌≡◌, ◌∙◌, ◌+◌, ◌*◌, sum_by, sym, subst, arith}
+use Rattle.std.proofs.Common.{◌≡◌, ◌∙◌, ◌+◌, ◌*◌, sum_by, sym, ap, subst, arith}
 use Rattle.registry_values.specs.declared.settings.Settings.{Settings}
 use Rattle.protocol.specs.declared.state.Due.{Due}
 use Rattle.protocol.specs.declared.state.Due.TheVariants.{Rest}
 use Rattle.protocol.specs.Invariant.{held_at, adding_at, is_adding_at, itself, one_if_used}
-use Rattle.protocol.specs.State.{State, total_at}
+use Rattle.protocol.specs.State.{State, opening, total_at, at_rest}
+use Rattle.protocol.specs.Laws.{after}
 use Rattle.registry_values.specs.Balances.{bias}
 use Rattle.cpu_words.specs.declared.view.View.TheVariants.{Keeper}
 use Rattle.cpu_words.specs.Rule.{Good}
+use Rattle.cpu_words.specs.Views.{KeeperShown}
+use Rattle.cpu_words.specs.Headline.{RunsLawfully}
+use Rattle.cpu_words.proofs.Safety.{runs_lawfully}
 use Rattle.cpu_words.proofs.KeeperSees.{seen_by_keeper}
 use Rattle.passive_list.specs.Keepers.{OnKeeper}
 use Rattle.name_registry.specs.Law.{counts_of, Balanced, FreeInterlock}
@@ -21,6 +25,13 @@ at_rest_balanced g good rest t e is =
 
 pub free_law : (a : Settings) (x : OnKeeper) → x.view.due ≡ Rest → FreeInterlock a x
 free_law a x rest s i ruled at =
-    let g = ruled.g in
-    let shown = (ruled.shows.fits i (Keeper x.view) at).1 in
-    (g, ruled.good, ruled.words, shown, at_rest_balanced g ruled.good (sym (seen_by_keeper g x.view ruled.good shown).due ∙ rest))
+    let run : RunsLawfully a s = runs_lawfully a s ruled in
+    let g : State = after (opening a) run.events in
+    let shown : KeeperShown g x.view = (run.shows.fits i (Keeper x.view) at).1 in
+    let due : g.due ≡ Rest = sym (seen_by_keeper g x.view run.good shown).due ∙ rest in
+    record {
+      run = run;
+      keeper = shown;
+      balanced = at_rest_balanced g run.good due;
+      at_rest = run.laws.balance (ap at_rest due);
+    }

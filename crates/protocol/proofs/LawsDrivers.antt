@@ -64,7 +64,7 @@ throughout s (e ∷ es) t u n d on is keeps stands last =
     (λ (off : occupant_of (after_event s e) t ≡ Some n → ⊥). absurd (never (after_event s e) es t n (after_holds s e on) (omega (arith, old, grows)) off also))
     (goes_or_stays (occupant_of (after_event s e) t) n)
 
-reuses_safely : (s : State) → Holds s → ReusesSafely s
+pub reuses_safely : (s : State) → Holds s → ReusesSafely s
 reuses_safely s on = record {
   goes = λ event t n is off. goes s event (step s event) t n on (step_sort s event on) is off;
   comes = λ event t n off is. comes s event (step s event) t n on (step_sort s event on) off is;
@@ -72,7 +72,7 @@ reuses_safely s on = record {
   never = λ later t n old off is. never s later t n on old off is;
 }
 
-outlive_interfaces : (s : State) → Holds s → OutliveInterfaces s
+pub outlive_interfaces : (s : State) → Holds s → OutliveInterfaces s
 outlive_interfaces s on = record {
   keeps = λ t e is kind. rightly_some (kept_at s.keeps t) (ap (keeps_rightly (kept_at s.keeps t)) (sym kind) ∙ on.kept_drivers.rightly t e is);
   stands = λ t d is. on.kept_drivers.drivers t d is;

@@ -7,7 +7,7 @@ use Rattle.protocol.specs.declared.event.Event.TheVariants.{Exit}
 use Rattle.protocol.specs.State.{State, opening, section_at, begin_at}
 use Rattle.protocol.specs.Events.{Outcome, step, state_after, is_idle, is_outside}
 use Rattle.protocol.specs.Invariant.{Holds}
-use Rattle.protocol.specs.Laws.{after, after_event, HasExit, GraceLaw}
+use Rattle.protocol.specs.Laws.{after, after_event, HasExit, EndsByExit, GraceLaw}
 use Rattle.protocol.proofs.Keeping.{step_keeps, after_keeps}
 use Rattle.protocol.proofs.SectionKeeps.{none_from}
 use Rattle.protocol.proofs.LawsSteps.{Sort, Refused, Left, Entered, Exited, Sought, Heard, Searched, Published, Unpublished, Kept, Gave_up, Vacated, step_sort, after_more}
@@ -58,11 +58,8 @@ stays_or_exits s c b (e ∷ es) on in_ = ⊎_elim
     (λ (exit : (e ≡ Exit c) × IsSome (step s e)). inr (inl exit))
     (stays_open s c b e (step s e) (step_sort s e on) in_)
 
-pub grace_law : GraceLaw
-grace_law z events fit c b later in_ moved =
-    let s : State = after (opening z) events in
-    let on : Holds s = every_run_keeps z events fit in
-    ⊎_elim
+pub ends_by_exit : (s : State) → Holds s → EndsByExit s
+ends_by_exit s on c b later in_ moved = ⊎_elim
     (λ (same : Same c s (after s later)).
     let odd = (on.sections.inside c b in_).0 in
     absurd (⊎_elim
@@ -71,3 +68,6 @@ grace_law z events fit c b later in_ moved =
     moved))
     (λ (exits : HasExit s c later). exits)
     (stays_or_exits s c b later on in_)
+
+pub grace_law : GraceLaw
+grace_law z events fit = ends_by_exit (after (opening z) events) (every_run_keeps z events fit)

@@ -66,7 +66,7 @@ given : (s : State) (event : Event) (e : Entry) → Holds s → given_slot event
 given s event e on of allowed attached =
     unheld_unoccupied s e on attached (elsewhere s e on attached (λ is. none-some e.number (sym (given_vacant s event e.slot on of allowed) ∙ is)))
 
-is_safe : (s : State) → Holds s → IsSafe s
+pub is_safe : (s : State) → Holds s → IsSafe s
 is_safe s on = record {
   destroyed = λ event e of allowed attached. destroyed s event e on of allowed attached;
   given = λ event e of allowed attached. given s event e on of allowed attached;

@@ -17,6 +17,7 @@ pub mod LawsGrace
 pub mod LawsHeadline
 pub mod LawsReuse
 pub mod LawsRows
+pub mod LawsState
 pub mod LawsSteps
 pub mod ListKeeps
 pub mod Loading

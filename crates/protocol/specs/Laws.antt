@@ -18,7 +18,7 @@ use Rattle.registry_values.specs.Slots.{slot_at}
 use Rattle.protocol.specs.Events.{Outcome, step, state_after}
 use Rattle.protocol.specs.Invariant.{Holds, IsIn, IsCounting, kept_of, held_at, one_if_used, itself}
 use Rattle.protocol.specs.Ran.{ran, rested}
-use Rattle.protocol.specs.Model.{IsUnheld}
+use Rattle.protocol.specs.Model.{IsUnheld, IsModelRun}
 use Rattle.protocol.specs.Picture.{number_in, picture}
 
 -- the state after a list of events; those that aren't allowed are passed over
@@ -179,8 +179,11 @@ abbrev pub HasMoved : ℕ → ℕ → Type 0
 HasMoved old new = (new % 2 ≡ 0) ⊎ (new ≡ old → ⊥)
 
 -- where a CPU's word is even or another one than it was, the section that was open isn't open any more: there was its exit
+abbrev pub EndsByExit : State → Type 0
+EndsByExit s = (c b : ℕ) (later : List Event) → begin_at s c ≡ Some b → HasMoved (section_at s c) (section_at (after s later) c) → HasExit s c later
+
 abbrev pub GraceLaw : Type 0
-GraceLaw = Always (λ s. (c b : ℕ) (later : List Event) → begin_at s c ≡ Some b → HasMoved (section_at s c) (section_at (after s later) c) → HasExit s c later)
+GraceLaw = Always EndsByExit
 
 -- The headline
 
@@ -200,3 +203,21 @@ pub record IsSafe (s : State) : Type 0 where
 -- Over every list of events no slot is destroyed or given again while a read section that may have found it, a passive reference or a local reference holds it; whenever the keeper is at rest each slot's balance is exactly its local references held; and each lookup's answer is the registry's at some point of its one history, not before what the caller had seen.
 abbrev pub Headline : Type 0
 Headline = Always IsSafe
+
+-- The laws of one state
+
+-- all laws of a state: of its next event, and of every list of events that goes on from it
+pub record ObeysLaws (s : State) : Type 0 where
+  pub safe : IsSafe s
+  pub reuse : ReusesSafely s
+  pub drivers : OutliveInterfaces s
+  pub answers : AnswersLawfully s
+  pub balance : at_rest s.due ≡ true → BalancesAtRest s
+  pub grace : EndsByExit s
+  -- the invariant goes on, and so does the run of the model
+  pub keeps : (later : List Event) → Holds (after s later)
+  pub modelled : (later : List Event) → IsModelRun (picture s) (picture (after s later))
+
+-- the invariant is enough for them, whatever led to the state
+abbrev pub InvariantSuffices : Type 0
+InvariantSuffices = (s : State) → Holds s → ObeysLaws s

@@ -1,6 +1,7 @@
-//! The laws of the core, over every list of events: functions that do nothing, whose contracts are the laws.
+//! The laws of the core, over every list of events and of every state with the core invariant: functions that do nothing, whose contracts are
+//! the laws.
 
-ghost use Rattle.protocol.specs.Laws.{BalanceAtRest, DriversOutlive, EveryRunKeeps, GraceLaw, Headline, LawfulAnswers, SafeReuse};
+ghost use Rattle.protocol.specs.Laws.{BalanceAtRest, DriversOutlive, EveryRunKeeps, GraceLaw, Headline, InvariantSuffices, LawfulAnswers, SafeReuse};
 ghost use Rattle.protocol.specs.Picture.{EveryRunIsModelRun};
 ghost use Rattle.protocol.specs.Rows.{CollectRace, FrozenLink};
 
@@ -42,6 +43,13 @@ pub fn balance_at_rest()
 /// another one than it was.
 pub fn grace_law()
     ensures { GraceLaw }
+{}
+
+/// Does nothing; its contract says that the core invariant is enough for all laws, whatever led to the state: the headline, safe reuse and
+/// lawful answers of its next event, balance at rest, and of every list of events that goes on from it the grace law, the invariant and
+/// the run of the model. A `Core` always has the invariant, also after a call whose events aren't told.
+pub fn invariant_suffices()
+    ensures { InvariantSuffices }
 {}
 
 /// Does nothing; its contract says what two lists of events reply. `frozen_link`: a search goes on along the frozen link

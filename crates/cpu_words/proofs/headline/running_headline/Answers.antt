@@ -1,0 +1,9 @@
+use Rattle.cpu_words.proofs.Safety.{running_headline}
+use Rattle.cpu_words.proofs.Holders.{held_have_slots}
+use Rattle.cpu_words.proofs.headline.running_headline.Goals as goal
+
+pub returns-clause-run : goal.returns-clause-run
+returns-clause-run c = running_headline
+
+pub returns-clause-held : goal.returns-clause-held
+returns-clause-held c = held_have_slots

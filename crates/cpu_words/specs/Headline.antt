@@ -1,0 +1,108 @@
+-- The laws of the protocol on the words: whatever threads did, a list of events leads to a state that the words and all views show, and that state obeys all laws. So what a seat holds has its slot, and marks are honest.
+use Rattle.std.specs.Prelude.{◌≡◌, ◌⊎◌, ℕ, ◌<◌, List, Some, true, slice_index}
+use mathlib.Core.Option.{some}
+use lib.ListN.{get_elem?}
+use Rattle.atomic_table.specs.Table.{State as Table}
+use Rattle.registry_values.specs.declared.entry.Entry.{Entry}
+use Rattle.registry_values.specs.declared.entry.Change.{Change}
+use Rattle.registry_values.specs.declared.mark.Mark.{Mark}
+use Rattle.registry_values.specs.declared.settings.Settings.{Settings}
+use Rattle.registry_values.specs.declared.slot.Slot.TheVariants.{Retired}
+use Rattle.registry_values.specs.Slots.{slot_at}
+use Rattle.protocol.specs.declared.event.Event.{Event}
+use Rattle.protocol.specs.History.{IsAttached, MayHold}
+use Rattle.protocol.specs.State.{opening, mark_at, kept_at}
+use Rattle.protocol.specs.Invariant.{IsIn}
+use Rattle.protocol.specs.Model.{empty_model, IsUnheld, IsModelRun}
+use Rattle.protocol.specs.Picture.{picture}
+use Rattle.protocol.specs.Laws.{after, ObeysLaws}
+use Rattle.cpu_words.specs.declared.view.InHand.{InHand}
+use Rattle.cpu_words.specs.declared.view.InHand.TheVariants.{Empty, Taking, Giving, Back}
+use Rattle.cpu_words.specs.declared.view.CpuView.{CpuView}
+use Rattle.cpu_words.specs.declared.view.KeeperView.{KeeperView}
+use Rattle.cpu_words.specs.declared.view.View.{View}
+use Rattle.cpu_words.specs.declared.view.View.TheVariants.{Keeper, Cpu, Reference, Note, Spent}
+use Rattle.cpu_words.specs.Spots.{passive_of, count_of, index}
+use Rattle.cpu_words.specs.Views.{references_to}
+use Rattle.cpu_words.specs.Rule.{Agrees, Shows, Good, Ruled}
+use Rattle.cpu_words.specs.Vacating.{IsDrained}
+
+-- The headline of the running words
+
+-- a list of events from the opening, and a seat for each CPU, such that the state after the events is what the table shows; and it obeys the laws
+pub record RunsLawfully (z : Settings) (s : Table ℕ View) : Type 0 where
+  pub events : List Event
+  pub seat : ℕ → ℕ
+  -- the words and the views of all seats show the state
+  pub settings : (after (opening z) events).settings ≡ z
+  pub words : Agrees s.words (after (opening z) events)
+  pub shows : Shows (after (opening z) events) seat s.views
+  -- it has the core invariant, and a CPU without a seat has made no step
+  pub good : Good (after (opening z) events)
+  -- a run of the model reaches its picture
+  pub modelled : IsModelRun empty_model (picture (after (opening z) events))
+  -- the headline, safe reuse, drivers that outlive interfaces, lawful answers, balance at rest and the grace law
+  pub laws : ObeysLaws (after (opening z) events)
+
+-- so it is between any two steps
+abbrev pub RunningHeadline : Type 0
+RunningHeadline = (z : Settings) (s : Table ℕ View) → Ruled z s → RunsLawfully z s
+
+-- Holders: h is the keeper's history
+
+-- an open section of the CPU may hold e
+abbrev pub SectionMayHold : List Change → Entry → CpuView → Type 0
+SectionMayHold h e x = (b : ℕ) × (x.begin ≡ Some b) × MayHold h b e
+
+-- a reference to n is in the hand
+abbrev pub IsInHand : ℕ → InHand → Type 0
+IsInHand n Empty = ⊥
+IsInHand n (Taking e) = e.number ≡ n
+IsInHand n (Giving e) = e.number ≡ n
+IsInHand n (Back e) = e.number ≡ n
+
+-- a CPU's open section may hold e, or it has a passive reference to e, or a local one in its hand
+abbrev pub CpuHolds : List Change → Entry → CpuView → Type 0
+CpuHolds h e x = SectionMayHold h e x ⊎ (0 < references_to e.number x.references) ⊎ IsInHand e.number x.hand
+
+-- what the seat knows of holds e: a CPU; a local reference to e; a slot of the keeper's that keeps one
+abbrev pub SeatHolds : List Change → Entry → View → Type 0
+SeatHolds h e (Keeper k) = (t : ℕ) × (kept_at k.keeps t ≡ Some e.number)
+SeatHolds h e (Cpu x) = CpuHolds h e x
+SeatHolds h e (Reference v) = v.entry.number ≡ e.number
+SeatHolds h e (Note l) = ⊥
+SeatHolds h e Spent = ⊥
+
+-- an entry that some seat holds has its slot, live or retired
+abbrev pub HeldHaveSlots : Type 0
+HeldHaveSlots = (z : Settings) (s : Table ℕ View) (i j : ℕ) (k : KeeperView) (v : View) (e : Entry) → Ruled z s → get_elem? s.views i ≡ some (Keeper k) → get_elem? s.views j ≡ some v
+    → IsAttached k.history e → SeatHolds k.history e v → IsIn e (slot_at k.slots e.slot)
+
+-- Honest marks
+
+-- nothing holds e: in the state that the table shows, and no seat
+pub record IsFree (z : Settings) (s : Table ℕ View) (h : List Change) (e : Entry) : Type 0 where
+  pub run : RunsLawfully z s
+  pub unheld : IsUnheld (picture (after (opening z) run.events)) e.number
+  pub seats : (j : ℕ) (v : View) → get_elem? s.views j ≡ some v → SeatHolds h e v → ⊥
+
+-- the keeper's seat has all marks of the slot t, and its total is just the bias: its entry is free
+abbrev pub DrainedIsFree : Type 0
+DrainedIsFree = (z : Settings) (s : Table ℕ View) (i t : ℕ) (k : KeeperView) → Ruled z s → get_elem? s.views i ≡ some (Keeper k)
+    → (drained : IsDrained k t) → IsFree z s k.history drained.retired.0
+
+-- what the mark m of one CPU at the slot t of e tells: of its view, and of its own words for the slot
+pub record MarkTells (words : List ℕ) (h : List Change) (t : ℕ) (e : Entry) (m : Mark) (x : CpuView) : Type 0 where
+  pub passed : m.passed ≡ true → SectionMayHold h e x → ⊥
+  pub clear : m.clear ≡ true → (m.passed ≡ true) × (references_to e.number x.references ≡ 0) × (slice_index words (index (passive_of x.id t)) ≡ 0)
+  pub collected : m.collected ≡ true → (m.clear ≡ true) × (slice_index words (index (count_of x.id t)) ≡ 0)
+
+-- each mark of a retired entry's slot is so of its CPU
+abbrev pub MarksAreHonest : Type 0
+MarksAreHonest = (z : Settings) (s : Table ℕ View) (i j t : ℕ) (k : KeeperView) (x : CpuView) (e : Entry) → Ruled z s → get_elem? s.views i ≡ some (Keeper k) → get_elem? s.views j ≡ some (Cpu x)
+    → slot_at k.slots t ≡ Retired e → MarkTells s.words k.history t e (mark_at k.marks t x.id) x
+
+-- what a CPU found last its open section may hold
+abbrev pub FoundIsHeld : Type 0
+FoundIsHeld = (z : Settings) (s : Table ℕ View) (i j : ℕ) (k : KeeperView) (x : CpuView) (e : Entry) → Ruled z s → get_elem? s.views i ≡ some (Keeper k) → get_elem? s.views j ≡ some (Cpu x)
+    → x.found ≡ Some e → SectionMayHold k.history e x
