@@ -1,6 +1,8 @@
--- An attach: what the slot that it takes tells, and what the call leaves.
-use Rattle.std.proofs.Common.{◌≡◌, ◌∙◌, ℕ, suc, Bool, true, false, if◌then◌else◌, Option, Some, None, List, length, Result, Ok, Err, IsTrue, refl, sym, ap, subst, arith}
+-- An attach: what the entry that is given tells, and what the call leaves.
+use Rattle.std.proofs.Common.{◌≡◌, ◌∙◌, ℕ, suc, ◌+◌, ◌≤◌, Bool, true, false, Option, Some, None, List, length, Ok, IsTrue, refl, sym, ap, subst, arith, add-one, leb-true}
+use Rattle.std.specs.Prelude.{◌≢◌, ◌↔◌, is_some}
 use Rattle.std.specs.List.{zip}
+use Rattle.std.proofs.lemmas.Option.{none-some}
 use Rattle.std.proofs.lemmas.List.Quantifiers.{position-Some}
 use Rattle.std.proofs.lemmas.Slice.Zip.{get_or-zip, length-zip}
 use mathlib.Core.List.{IsPrefix}
@@ -10,12 +12,11 @@ use Rattle.registry_values.specs.declared.entry.Entry.{Entry}
 use Rattle.registry_values.specs.declared.entry.Kind.{Kind}
 use Rattle.registry_values.specs.declared.entry.Kind.TheVariants.{Iface, Driver}
 use Rattle.registry_values.specs.declared.entry.Record.{Record}
-use Rattle.registry_values.specs.declared.refusal.Refusal.{Refusal}
-use Rattle.registry_values.specs.declared.refusal.Refusal.TheVariants.{NameTaken, NoSlot, HistoryFull}
 use Rattle.registry_values.specs.declared.settings.Settings.{Settings}
 use Rattle.registry_values.specs.declared.slot.Slot.{Slot}
 use Rattle.registry_values.specs.declared.slot.Slot.TheVariants.{Vacant, Live, Retired}
-use Rattle.registry_values.specs.Slots.{is_plain, key_of_record, is_iface, is_taken, slot_at}
+use Rattle.registry_values.specs.Slots.{is_plain, key_of_record, is_iface, is_taken, live_count, slot_at}
+use Rattle.registry_values.proofs.Answers.{given_tells}
 use Rattle.protocol.specs.Events.{keeps_rightly}
 use Rattle.protocol.specs.History.{after_change}
 use Rattle.protocol.specs.State.{kept_at}
@@ -26,26 +27,11 @@ use Rattle.passive_list.specs.Cpus.{OnCpu}
 use Rattle.passive_list.specs.Keepers.{OnKeeper}
 use Rattle.passive_list.specs.Notes.{HasHeardOn}
 use Rattle.passive_list.proofs.Preparing.{as_vacant_is}
-use Rattle.name_registry.specs.Attaching.{plain_slot, has_room, slot_with_room, slot_for}
+use Rattle.name_registry.specs.Attaching.{given_entry, plain_slot, room_of}
 use Rattle.name_registry.specs.Meeting.{having_heard, HasSeenAttach}
 use Rattle.name_registry.proofs.Heard.{seen_attach}
 
--- The slot that it takes
-
-place_if : (a : Settings) (k : OnKeeper) (place : Option ℕ) (t : ℕ) → slot_with_room a k place ≡ Ok t → place ≡ Some t
-place_if a k None t is = absurd (let q : ◌≡◌ {A = Result ℕ Refusal} (Err NoSlot) (Ok t) = is in cc)
-place_if a k (Some u) t is = by (has_room a k) is
-  where
-    by : (b : Bool) → ◌≡◌ {A = Result ℕ Refusal} (if b then Ok u else Err HistoryFull) (Ok t) → Some u ≡ Some t
-    by true is = let q : ◌≡◌ {A = Result ℕ Refusal} (Ok u) (Ok t) = is in cc
-    by false is = absurd (let q : ◌≡◌ {A = Result ℕ Refusal} (Err HistoryFull) (Ok t) = is in cc)
-
-place_of : (a : Settings) (k : OnKeeper) (rec : Record) (t : ℕ) → slot_for a k rec ≡ Ok t → plain_slot k ≡ Some t
-place_of a k rec t is = by (is_taken (key_of_record rec) k.slots) is
-  where
-    by : (b : Bool) → ◌≡◌ {A = Result ℕ Refusal} (if b then Err NameTaken else slot_with_room a k (plain_slot k)) (Ok t) → plain_slot k ≡ Some t
-    by true is = absurd (let q : ◌≡◌ {A = Result ℕ Refusal} (Err NameTaken) (Ok t) = is in cc)
-    by false is = place_if a k (plain_slot k) t is
+-- The entry that is given
 
 plain_parts : (x : Slot) (kept : Option ℕ) → is_plain (x, kept) ≡ true → (x ≡ Vacant) × (kept ≡ None)
 plain_parts Vacant None is = (refl, refl)
@@ -53,20 +39,52 @@ plain_parts Vacant (Some n) is = absurd (let q : ◌≡◌ {A = Bool} false true
 plain_parts (Live e) kept is = absurd (let q : ◌≡◌ {A = Bool} false true = is in cc)
 plain_parts (Retired e) kept is = absurd (let q : ◌≡◌ {A = Bool} false true = is in cc)
 
--- it is vacant, and keeps nothing, as it did before the keeper heard the CPU x
-pub taken_tells : (a : Settings) (k : OnKeeper) (x : OnCpu) (m : OnKeeper) (rec : Record) (t : ℕ) → m ≡ having_heard k x → Ok t ≡ slot_for a k rec → (slot_at m.slots t ≡ Vacant) × (kept_at m.view.keeps t ≡ None)
-taken_tells a k x m rec t heard is =
+-- what is so of the entry that was given, where the keeper m has heard a CPU since: it may be published in its slot
+pub record MayTake (a : Settings) (m : OnKeeper) (rec : Record) (e : Entry) : Type 0 where
+  pub vacant : slot_at m.slots e.slot ≡ Vacant
+  pub nothing : kept_at m.view.keeps e.slot ≡ None
+  pub free : is_taken (key_of_record rec) m.slots ≡ false
+  pub room : length m.view.history + live_count m.slots + 2 ≤ a.change_limit
+  pub entry : record { number = suc (length m.view.history); slot = e.slot; rec = rec } ≡ e
+
+given_takes : (a : Settings) (k : OnKeeper) (rec : Record) (e : Entry) → given_entry a k rec ≡ Ok e → MayTake a k rec e
+given_takes a k rec e is =
     let keeps = k.view.keeps in
-    let at = position-Some is_plain (zip k.slots keeps) t (Vacant, None) (place_of a k rec t (sym is)) in
+    let told = given_tells (is_taken (key_of_record rec) k.slots) (plain_slot k) (room_of a k) rec e is in
+    let at = position-Some is_plain (zip k.slots keeps) e.slot (Vacant, None) told.place in
     let size = length-zip k.slots keeps in
     let lt = at.0 in
-    let pair = get_or-zip k.slots keeps t (Vacant, None) (omega (arith, lt, size)) (omega (arith, lt, size)) in
-    subst (λ (l : OnKeeper). (slot_at l.slots t ≡ Vacant) × (kept_at l.view.keeps t ≡ None)) (sym heard) (plain_parts (slot_at k.slots t) (kept_at keeps t) (ap is_plain (sym pair) ∙ at.1))
+    let pair = get_or-zip k.slots keeps e.slot (Vacant, None) (omega (arith, lt, size)) (omega (arith, lt, size)) in
+    let parts = plain_parts (slot_at k.slots e.slot) (kept_at keeps e.slot) (ap is_plain (sym pair) ∙ at.1) in
+    record {
+      vacant = parts.0;
+      nothing = parts.1;
+      free = told.free;
+      room = leb-true (length k.view.history + live_count k.slots + 2) a.change_limit told.fits;
+      entry = ap (λ (n : ℕ). record { number = n; slot = e.slot; rec = rec }) (sym (add-one (length k.view.history))) ∙ sym told.entry;
+    }
+
+-- it was given before the keeper heard the CPU x
+pub taken_tells : (a : Settings) (k : OnKeeper) (x : OnCpu) (m : OnKeeper) (rec : Record) (e : Entry) → m ≡ having_heard k x → given_entry a k rec ≡ Ok e → MayTake a m rec e
+taken_tells a k x m rec e heard is =
+    let takes = given_takes a k rec e is in
+    subst (λ (l : OnKeeper). MayTake a l rec e) (sym heard) (record { vacant = takes.vacant; nothing = takes.nothing; free = takes.free; room = takes.room; entry = takes.entry })
 
 -- a driver's slot keeps nothing
 pub driver_keeps : (kept : Option ℕ) (kind : Kind) → kept ≡ None → is_iface kind ≡ false → IsTrue (keeps_rightly kept kind)
 driver_keeps kept Iface none other = absurd (let q : ◌≡◌ {A = Bool} true false = other in cc)
 driver_keeps kept Driver none other = ap (λ (o : Option ℕ). keeps_rightly o Driver) none
+
+pub a_driver : (kind : Kind) → is_iface kind ≡ false → kind ≡ Driver
+a_driver Iface other = absurd (let q : ◌≡◌ {A = Bool} true false = other in cc)
+a_driver Driver other = refl
+
+-- the test for being inside a section
+pub inside_is : (b : Bool) (begin : Option ℕ) → (IsTrue b ↔ begin ≢ None) → b ≡ is_some begin
+inside_is true None test = absurd (test.0 refl refl)
+inside_is true (Some n) test = refl
+inside_is false None test = refl
+inside_is false (Some n) test = test.1 (λ none. none-some n (sym none))
 
 -- What it leaves
 

@@ -1,5 +1,6 @@
 -- What a caller keeps of a call through the lock, whatever is known of the keeper.
 use Rattle.std.proofs.Common.{◌≡◌, ◌⊎◌, ⊎_elim, inl, inr, ℕ, zero, suc, ◌<◌, Bool, true, false, if◌then◌else◌, List, length, Option, Some, None, Result, Ok, Err, IfOk, IfErr, IfSome, refl, sym, ap, subst, arith}
+use Rattle.registry_values.specs.declared.answer.Room.{Room}
 use Rattle.registry_values.specs.declared.entry.Change.{Change}
 use Rattle.registry_values.specs.declared.entry.Entry.{Entry}
 use Rattle.registry_values.specs.declared.entry.Record.{Record}
@@ -9,16 +10,19 @@ use Rattle.registry_values.specs.declared.settings.Settings.{Settings}
 use Rattle.registry_values.specs.declared.stage.Stage.{Stage}
 use Rattle.registry_values.specs.declared.stage.Stage.TheVariants.{Grace, Passive, Local, Freed}
 use Rattle.registry_values.specs.declared.slot.Key.{Key}
+use Rattle.registry_values.specs.Answers as answers
+use Rattle.registry_values.specs.Answers.{entry_in, has_room, next_entry, waiting_for}
 use Rattle.registry_values.specs.Stages.{destroyed}
 use Rattle.registry_values.specs.Marks.{least_below, or_next}
 use Rattle.registry_values.specs.Slots.{key_of_record, is_iface, is_taken}
+use Rattle.registry_values.proofs.Answers.{attach_tells, given_tells}
 use Rattle.cpu_words.specs.declared.view.ReferenceView.{ReferenceView}
 use Rattle.passive_list.specs.Cpus.{OnCpu}
 use Rattle.passive_list.specs.Keepers.{OnKeeper}
 use Rattle.passive_list.specs.Notes.{HasHeardOn}
-use Rattle.name_registry.specs.Attaching.{attach_answer, attach_iface_answer, entry_in, has_room, plain_slot, slot_for, slot_with_room, HasAttachedFor, HasAttachedIfaceFor}
+use Rattle.name_registry.specs.Attaching.{attach_answer, attach_iface_answer, given_entry, plain_slot, room_of, HasAttachedFor, HasAttachedIfaceFor}
 use Rattle.name_registry.specs.Detaching.{IsDetachAnswer, IsDetachRefusal, HasDetachedFor}
-use Rattle.name_registry.specs.Locking.{MayAttach, IsAttachRefusal, IsDetachRefusedTo, IsStageOf}
+use Rattle.name_registry.specs.Locking.{MayAttach, IsAttachRefusal, IsDetachRefusedTo, IsPerformRefusal, IsStageOf}
 use Rattle.name_registry.specs.Meeting.{is_inside, HasLearned, HasSeenAttach, HasSeenDetach}
 
 pub learned : (note : List Change) (x y : OnCpu) → HasHeardOn note x y → HasLearned x y
@@ -31,89 +35,68 @@ learned note x y has =
 -- Attaching
 
 -- the refusals that hang on the keeper
-abbrev IsSlotRefusal : Refusal → Type 0
-IsSlotRefusal f = (f ≡ NameTaken) ⊎ ((f ≡ NoSlot) ⊎ (f ≡ HistoryFull))
+abbrev IsGivenRefusal : Refusal → Type 0
+IsGivenRefusal f = (f ≡ NameTaken) ⊎ ((f ≡ NoSlot) ⊎ (f ≡ HistoryFull))
 
-by_room : (room : Bool) (t : ℕ) (f : Refusal) → ◌≡◌ {A = Result ℕ Refusal} (if room then Ok t else Err HistoryFull) (Err f) → IsSlotRefusal f
-by_room true t f is = absurd (let q : ◌≡◌ {A = Result ℕ Refusal} (Ok t) (Err f) = is in cc)
-by_room false t f is = inr (inr (let q : ◌≡◌ {A = Result ℕ Refusal} (Err HistoryFull) (Err f) = is in cc))
+by_room : (room : Bool) (e : Entry) (f : Refusal) → ◌≡◌ {A = Result Entry Refusal} (if room then Ok e else Err HistoryFull) (Err f) → IsGivenRefusal f
+by_room true e f is = absurd (let q : ◌≡◌ {A = Result Entry Refusal} (Ok e) (Err f) = is in cc)
+by_room false e f is = inr (inr (let q : ◌≡◌ {A = Result Entry Refusal} (Err HistoryFull) (Err f) = is in cc))
 
-by_slot : (z : Settings) (k : OnKeeper) (place : Option ℕ) (f : Refusal) → slot_with_room z k place ≡ Err f → IsSlotRefusal f
-by_slot z k None f is = inr (inl (let q : ◌≡◌ {A = Result ℕ Refusal} (Err NoSlot) (Err f) = is in cc))
-by_slot z k (Some t) f is = by_room (has_room z k) t f is
+by_slot : (plain : Option ℕ) (room : Room) (rec : Record) (f : Refusal) → entry_in plain room rec ≡ Err f → IsGivenRefusal f
+by_slot None room rec f is = inr (inl (let q : ◌≡◌ {A = Result Entry Refusal} (Err NoSlot) (Err f) = is in cc))
+by_slot (Some t) room rec f is = by_room (has_room room) (next_entry room.changes rec t) f is
 
-by_name : (taken : Bool) (z : Settings) (k : OnKeeper) (f : Refusal) → (if taken then Err NameTaken else slot_with_room z k (plain_slot k)) ≡ Err f → IsSlotRefusal f
-by_name true z k f is = inl (let q : ◌≡◌ {A = Result ℕ Refusal} (Err NameTaken) (Err f) = is in cc)
-by_name false z k f is = by_slot z k (plain_slot k) f is
+by_name : (taken : Bool) (plain : Option ℕ) (room : Room) (rec : Record) (f : Refusal) → answers.given_entry taken plain room rec ≡ Err f → IsGivenRefusal f
+by_name true plain room rec f is = inl (let q : ◌≡◌ {A = Result Entry Refusal} (Err NameTaken) (Err f) = is in cc)
+by_name false plain room rec f is = by_slot plain room rec f is
 
-slot_refused : (z : Settings) (k : OnKeeper) (rec : Record) (f : Refusal) → slot_for z k rec ≡ Err f → IsSlotRefusal f
-slot_refused z k rec f is = by_name (is_taken (key_of_record rec) k.slots) z k f is
+given_refused : (z : Settings) (k : OnKeeper) (rec : Record) (f : Refusal) → given_entry z k rec ≡ Err f → IsGivenRefusal f
+given_refused z k rec f is = by_name (is_taken (key_of_record rec) k.slots) (plain_slot k) (room_of z k) rec f is
 
--- the slot, or the refusal by the CPU and the kind
-abbrev chosen : Bool → Bool → Result ℕ Refusal → Result ℕ Refusal
-chosen inside unfit slot = if inside then Err Inside else (if unfit then Err NeedsDriver else slot)
-
-slot_refusal : (f : Refusal) → IsSlotRefusal f → IsAttachRefusal false false f
-slot_refusal f is = ⊎_elim
+given_refusal : (f : Refusal) → IsGivenRefusal f → IsAttachRefusal false false f
+given_refusal f is = ⊎_elim
     (λ e. subst (λ (r : Refusal). IsAttachRefusal false false r) (sym e) (refl, refl))
     (λ or. ⊎_elim
     (λ e. subst (λ (r : Refusal). IsAttachRefusal false false r) (sym e) (refl, refl))
     (λ e. subst (λ (r : Refusal). IsAttachRefusal false false r) (sym e) (refl, refl)) or) is
 
-chosen_refusal : (inside unfit : Bool) (slot : Result ℕ Refusal) (f : Refusal) → ((r : Refusal) → slot ≡ Err r → IsSlotRefusal r) → chosen inside unfit slot ≡ Err f → IsAttachRefusal inside unfit f
-chosen_refusal true unfit slot f by is = let q : ◌≡◌ {A = Result ℕ Refusal} (Err Inside) (Err f) = is in let e : Inside ≡ f = cc in subst (λ (r : Refusal). IsAttachRefusal true unfit r) e refl
-chosen_refusal false true slot f by is = let q : ◌≡◌ {A = Result ℕ Refusal} (Err NeedsDriver) (Err f) = is in let e : NeedsDriver ≡ f = cc in subst (λ (r : Refusal). IsAttachRefusal false true r) e (refl, refl)
-chosen_refusal false false slot f by is = slot_refusal f (by f is)
+entry_refusal : (inside unfit : Bool) (given : Result Entry Refusal) (f : Refusal) → ((r : Refusal) → given ≡ Err r → IsGivenRefusal r) → answers.attach_answer inside unfit given ≡ Err f → IsAttachRefusal inside unfit f
+entry_refusal true unfit given f by is = let q : ◌≡◌ {A = Result Entry Refusal} (Err Inside) (Err f) = is in let e : Inside ≡ f = cc in subst (λ (r : Refusal). IsAttachRefusal true unfit r) e refl
+entry_refusal false true given f by is = let q : ◌≡◌ {A = Result Entry Refusal} (Err NeedsDriver) (Err f) = is in let e : NeedsDriver ≡ f = cc in subst (λ (r : Refusal). IsAttachRefusal false true r) e (refl, refl)
+entry_refusal false false given f by is = given_refusal f (by f is)
 
-chosen_slot : (inside unfit : Bool) (slot : Result ℕ Refusal) (t : ℕ) → chosen inside unfit slot ≡ Ok t → MayAttach inside unfit
-chosen_slot true unfit slot t is = absurd (let q : ◌≡◌ {A = Result ℕ Refusal} (Err Inside) (Ok t) = is in cc)
-chosen_slot false true slot t is = absurd (let q : ◌≡◌ {A = Result ℕ Refusal} (Err NeedsDriver) (Ok t) = is in cc)
-chosen_slot false false slot t is = (refl, refl)
+entry_may : (inside unfit : Bool) (given : Result Entry Refusal) (e : Entry) → answers.attach_answer inside unfit given ≡ Ok e → MayAttach inside unfit
+entry_may inside unfit given e is = let told = attach_tells inside unfit given e is in (told.0, told.1)
 
--- the entry, or the refusal, says the same
-
-entry_given : (k : OnKeeper) (rec : Record) (slot : Result ℕ Refusal) (e : Entry) → entry_in k rec slot ≡ Ok e → (e.rec ≡ rec) × ((t : ℕ) × (slot ≡ Ok t))
-entry_given k rec (Ok t) e is =
-    let q : ◌≡◌ {A = Result Entry Refusal} (Ok (record { number = suc (length k.view.history); slot = t; rec = rec })) (Ok e) = is in
-    let same : record { number = suc (length k.view.history); slot = t; rec = rec } ≡ e = cc in
-    (sym (ap (λ (x : Entry). x.rec) same), (t, refl))
-entry_given k rec (Err f) e is = absurd (let q : ◌≡◌ {A = Result Entry Refusal} (Err f) (Ok e) = is in cc)
-
-entry_refused : (k : OnKeeper) (rec : Record) (slot : Result ℕ Refusal) (f : Refusal) → entry_in k rec slot ≡ Err f → slot ≡ Err f
-entry_refused k rec (Ok t) f is = absurd (let q : ◌≡◌ {A = Result Entry Refusal} (Ok (record { number = suc (length k.view.history); slot = t; rec = rec })) (Err f) = is in cc)
-entry_refused k rec (Err r) f is = let q : ◌≡◌ {A = Result Entry Refusal} (Err r) (Err f) = is in let e : r ≡ f = cc in ap (λ (x : Refusal). Err x) e
-
-entry_may : (k : OnKeeper) (rec : Record) (inside unfit : Bool) (slot : Result ℕ Refusal) (e : Entry) → entry_in k rec (chosen inside unfit slot) ≡ Ok e → MayAttach inside unfit
-entry_may k rec inside unfit slot e is =
-    let given = entry_given k rec (chosen inside unfit slot) e is in
-    chosen_slot inside unfit slot given.1.0 given.1.1
-
-entry_refusal : (z : Settings) (k : OnKeeper) (rec : Record) (inside unfit : Bool) (f : Refusal) → entry_in k rec (chosen inside unfit (slot_for z k rec)) ≡ Err f → IsAttachRefusal inside unfit f
-entry_refusal z k rec inside unfit f is = chosen_refusal inside unfit (slot_for z k rec) f (slot_refused z k rec) (entry_refused k rec (chosen inside unfit (slot_for z k rec)) f is)
+-- the entry is of the record
+entry_rec : (z : Settings) (k : OnKeeper) (rec : Record) (inside unfit : Bool) (e : Entry) → answers.attach_answer inside unfit (given_entry z k rec) ≡ Ok e → e.rec ≡ rec
+entry_rec z k rec inside unfit e is =
+    let given = (attach_tells inside unfit (given_entry z k rec) e is).2 in
+    ap (λ (x : Entry). x.rec) (given_tells (is_taken (key_of_record rec) k.slots) (plain_slot k) (room_of z k) rec e given).entry
 
 pub attach_may : (z : Settings) (k : OnKeeper) (x : OnCpu) (rec : Record) (r : Result Entry Refusal) → r ≡ attach_answer z k x rec → IfOk r (λ _. MayAttach (is_inside x) (is_iface rec.kind))
-attach_may z k x rec (Ok e) is = entry_may k rec (is_inside x) (is_iface rec.kind) (slot_for z k rec) e (sym is)
+attach_may z k x rec (Ok e) is = entry_may (is_inside x) (is_iface rec.kind) (given_entry z k rec) e (sym is)
 attach_may z k x rec (Err f) is = tt
 
 pub attach_owned : (z : Settings) (k b : OnKeeper) (x y : OnCpu) (rec : Record) (r : Result Entry Refusal) → r ≡ attach_answer z k x rec → IfOk r (λ e. HasAttachedFor k x e b y) → IfOk r (λ e. (e.rec ≡ rec) × HasLearned x y × HasSeenAttach x y e)
-attach_owned z k b x y rec (Ok e) is has = ((entry_given k rec (chosen (is_inside x) (is_iface rec.kind) (slot_for z k rec)) e (sym is)).0, learned b.view.history x y has.cpu, has.own)
+attach_owned z k b x y rec (Ok e) is has = (entry_rec z k rec (is_inside x) (is_iface rec.kind) e (sym is), learned b.view.history x y has.cpu, has.own)
 attach_owned z k b x y rec (Err f) is has = tt
 
 pub attach_refused : (z : Settings) (k b : OnKeeper) (x y : OnCpu) (rec : Record) (r : Result Entry Refusal) → r ≡ attach_answer z k x rec → IfErr r (λ _. (b ≡ k) × (y ≡ x)) → IfErr r (λ f. IsAttachRefusal (is_inside x) (is_iface rec.kind) f × (y ≡ x))
 attach_refused z k b x y rec (Ok e) is same = tt
-attach_refused z k b x y rec (Err f) is same = (entry_refusal z k rec (is_inside x) (is_iface rec.kind) f (sym is), same.1)
+attach_refused z k b x y rec (Err f) is same = (entry_refusal (is_inside x) (is_iface rec.kind) (given_entry z k rec) f (given_refused z k rec) (sym is), same.1)
 
 pub iface_may : (z : Settings) (k : OnKeeper) (x : OnCpu) (rec : Record) (v : ReferenceView) (r : Result Entry (Refusal × ReferenceView)) → IfOk r (λ e. attach_iface_answer z k x rec v ≡ Ok e) → IfOk r (λ _. MayAttach (is_inside x) (is_iface v.entry.rec.kind))
-iface_may z k x rec v (Ok e) is = entry_may k rec (is_inside x) (is_iface v.entry.rec.kind) (slot_for z k rec) e is
+iface_may z k x rec v (Ok e) is = entry_may (is_inside x) (is_iface v.entry.rec.kind) (given_entry z k rec) e is
 iface_may z k x rec v (Err back) is = tt
 
 pub iface_owned : (z : Settings) (k b : OnKeeper) (x y : OnCpu) (rec : Record) (v : ReferenceView) (r : Result Entry (Refusal × ReferenceView)) → IfOk r (λ e. attach_iface_answer z k x rec v ≡ Ok e) → IfOk r (λ e. HasAttachedIfaceFor k x v e b y) → IfOk r (λ e. (e.rec ≡ rec) × HasLearned x y × HasSeenAttach x y e)
-iface_owned z k b x y rec v (Ok e) is has = ((entry_given k rec (chosen (is_inside x) (is_iface v.entry.rec.kind) (slot_for z k rec)) e is).0, learned b.view.history x y has.cpu, has.own)
+iface_owned z k b x y rec v (Ok e) is has = (entry_rec z k rec (is_inside x) (is_iface v.entry.rec.kind) e is, learned b.view.history x y has.cpu, has.own)
 iface_owned z k b x y rec v (Err back) is has = tt
 
 pub iface_refused : (z : Settings) (k b : OnKeeper) (x y : OnCpu) (rec : Record) (v : ReferenceView) (r : Result Entry (Refusal × ReferenceView)) → IfErr r (λ back. (attach_iface_answer z k x rec v ≡ Err back.0) × (back.1 ≡ v) × (b ≡ k) × (y ≡ x)) → IfErr r (λ back. IsAttachRefusal (is_inside x) (is_iface v.entry.rec.kind) back.0 × (back.1 ≡ v) × (y ≡ x))
 iface_refused z k b x y rec v (Ok e) is = tt
-iface_refused z k b x y rec v (Err back) is = (entry_refusal z k rec (is_inside x) (is_iface v.entry.rec.kind) back.0 is.0, is.1, is.3)
+iface_refused z k b x y rec v (Err back) is = (entry_refusal (is_inside x) (is_iface v.entry.rec.kind) (given_entry z k rec) back.0 (given_refused z k rec) is.0, is.1, is.3)
 
 -- Detaching
 
@@ -168,3 +151,7 @@ next_small None false n none = tt
 pub least_small : (p : ℕ → Bool) (n : ℕ) → IfSome (least_below p n) (λ c. c < n)
 least_small p zero = tt
 least_small p (suc n) = next_small (least_below p n) (p n) n (least_small p n)
+
+pub waiting_refused : (z : Settings) (inside : Bool) (o : Option ℕ) → inside ≡ false → IfSome o (λ c. c < z.cpus) → IfErr (waiting_for o) (λ f. IsPerformRefusal z inside f)
+waiting_refused z inside None out small = tt
+waiting_refused z inside (Some c) out small = (out, small)

@@ -6,11 +6,11 @@ ghost use Rattle.registry_values.specs.Names.{is_lawful};
 ghost use Rattle.name_registry.specs.Attaching.{attach_answer, attach_iface_answer, HasAttachedFor, HasAttachedIfaceFor};
 
 use crate::meeting::{hear_cpu, show_cpu};
-use crate::plain::slot_for;
+use crate::plain::entry_for;
 use cpu_words::{Domain, Words};
 use local_count::{LocalRef, publish_iface};
 use passive_list::{Cpu, Keeper, publish};
-use registry_values::{Entry, Kind, Record, Refusal};
+use registry_values::{Entry, Record, Refusal, attach_answer, is_iface};
 
 /// Attaches a driver: it gets the next number, from 1, and the least slot, from 0, that is vacant and keeps nothing; lookups that begin
 /// from now on find it, and the caller's CPU has seen its change. No retired slot is freed by it. It takes no memory.
@@ -30,15 +30,10 @@ pub fn attach_in<D: Domain>(
     ensures ok { IfOk result (λ e. HasAttachedFor keeper.old cpu.old e keeper.new cpu.new) }
     ensures refused { IfErr result (λ _. (keeper.new ≡ keeper.old) × (cpu.new ≡ cpu.old)) }
 {
-    if cpu.inside() {
-        return Err(Refusal::Inside);
-    }
-    if rec.kind == Kind::Iface {
-        return Err(Refusal::NeedsDriver);
-    }
-    let slot = slot_for(keeper, rec)?;
+    let given = entry_for(keeper, rec);
+    let entry = attach_answer(cpu.inside(), is_iface(rec.kind), given)?;
     hear_cpu(words, keeper, cpu);
-    let entry = publish(words, keeper, slot, rec);
+    let entry = publish(words, keeper, entry.slot, rec);
     show_cpu(words, keeper, cpu);
     Ok(entry)
 }
@@ -63,18 +58,13 @@ pub fn attach_iface_in<D: Domain>(
     ensures refused { IfErr result (λ back. (attach_iface_answer D.settings keeper.old cpu.old rec reference ≡ Err back.0) × (back.1 ≡ reference)
         × (keeper.new ≡ keeper.old) × (cpu.new ≡ cpu.old)) }
 {
-    if cpu.inside() {
-        return Err((Refusal::Inside, reference));
-    }
-    if reference.kind() == Kind::Iface {
-        return Err((Refusal::NeedsDriver, reference));
-    }
-    let slot = match slot_for(keeper, rec) {
-        Ok(slot) => slot,
+    let given = entry_for(keeper, rec);
+    let entry = match attach_answer(cpu.inside(), is_iface(reference.kind()), given) {
+        Ok(entry) => entry,
         Err(refusal) => return Err((refusal, reference)),
     };
     hear_cpu(words, keeper, cpu);
-    let entry = publish_iface(words, keeper, slot, rec, reference);
+    let entry = publish_iface(words, keeper, entry.slot, rec, reference);
     show_cpu(words, keeper, cpu);
     Ok(entry)
 }

@@ -8,7 +8,7 @@ use crate::advancing::{look_at_all, retired_place};
 use crate::registry::Registry;
 use cpu_words::{Domain, Words};
 use passive_list::{Cpu, Keeper, glance, snapshot};
-use registry_values::{Refusal, first_unseen, is_out, retired_number};
+use registry_values::{Refusal, first_unseen, is_out, retired_number, waiting_for};
 use std::sync::Wait;
 
 impl<D: Domain> Registry<D> {
@@ -27,9 +27,7 @@ impl<D: Domain> Registry<D> {
             return Err(Refusal::Inside);
         }
         let (snapshots, retired) = begin(&self.words, &mut self.keeper.lock(rt));
-        if let Some(waited) = self.wait_for_sections(rt, &snapshots, turns) {
-            return Err(Refusal::Waiting(waited));
-        }
+        waiting_for(self.wait_for_sections(rt, &snapshots, turns))?;
         pass_all(&self.words, &mut self.keeper.lock(rt), &retired);
         Ok(())
     }

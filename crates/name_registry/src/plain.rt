@@ -1,33 +1,24 @@
-//! The slot that an attach takes, by the keeper's rows.
+//! The entry that an attach makes, by the keeper's rows.
 
 ghost use Rattle.std.specs.Prelude.{◌≡◌, ◌<◌, ◌≤◌, IfOk, IfSome, length, take, position};
 ghost use Rattle.std.specs.List.{list_any};
 ghost use Rattle.registry_values.specs.Slots.{key_of_record, is_taken, live_count};
 ghost use Rattle.passive_list.specs.Keepers.{states_of};
-ghost use Rattle.name_registry.specs.Attaching.{has_room, plain_slot, slot_for};
+ghost use Rattle.name_registry.specs.Attaching.{given_entry, plain_slot, room_of};
 ghost use Rattle.name_registry.specs.Rows.{is_live_row, is_plain_row};
 
 use cpu_words::Domain;
 use passive_list::{Keeper, Row};
-use registry_values::{Key, Record, Refusal, is_live, is_live_as, is_plain};
+use registry_values::{
+    Entry, Key, Record, Refusal, Room, given_entry, is_live, is_live_as, is_plain,
+};
 
-/// The least slot that is vacant and keeps nothing.
-/// Refused, in this order: `NameTaken` where a live entry has the record's kind and name; `NoSlot`; `HistoryFull` where the history has no
-/// room for this attach and the detach of each live entry, the new one too.
-pub(crate) fn slot_for<D: Domain>(keeper: &Keeper<D>, rec: Record) -> Result<u8, Refusal>
-    ensures value { result ≡ slot_for D.settings keeper.now rec }
-    ensures within { IfOk result (λ t. t < D.settings.slots) }
+/// The entry that an attach of the record makes. Refused, in this order: `NameTaken`, `NoSlot`, `HistoryFull`.
+pub(crate) fn entry_for<D: Domain>(keeper: &Keeper<D>, rec: Record) -> Result<Entry, Refusal>
+    ensures value { result ≡ given_entry D.settings keeper.now rec }
+    ensures within { IfOk result (λ entry. entry.slot < D.settings.slots) }
 {
-    if is_taken(keeper, rec) {
-        return Err(Refusal::NameTaken);
-    }
-    let Some(slot) = plain_slot(keeper) else {
-        return Err(Refusal::NoSlot);
-    };
-    if !has_room(keeper) {
-        return Err(Refusal::HistoryFull);
-    }
-    Ok(slot)
+    given_entry(rec, is_taken(keeper, rec), plain_slot(keeper), room(keeper))
 }
 
 /// Whether a live entry has the record's kind and name.
@@ -68,11 +59,15 @@ fn plain_place(rows: &[Row], slots: u8) -> Option<usize>
         .position(|row| is_plain(&row.state, row.keeps))
 }
 
-/// Whether the history has room for an attach and for the detach of each entry that is live then.
-fn has_room<D: Domain>(keeper: &Keeper<D>) -> bool
-    ensures { result ≡ has_room D.settings keeper.now }
+/// What an attach asks of the history.
+fn room<D: Domain>(keeper: &Keeper<D>) -> Room
+    ensures { result ≡ room_of D.settings keeper.now }
 {
-    keeper.changes + live_count(&keeper.rows) as u64 + 2 <= keeper.settings.change_limit
+    Room {
+        changes: keeper.changes,
+        live: live_count(&keeper.rows) as u8,
+        limit: keeper.settings.change_limit,
+    }
 }
 
 fn live_count(rows: &[Row]) -> usize

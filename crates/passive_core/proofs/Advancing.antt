@@ -13,9 +13,10 @@ use Rattle.registry_values.specs.declared.slot.Slot.TheVariants.{Retired}
 use Rattle.registry_values.specs.declared.refusal.Refusal.{Refusal}
 use Rattle.registry_values.specs.declared.stage.Stage.{Stage}
 use Rattle.registry_values.specs.declared.stage.Stage.TheVariants.{Grace, Passive, Local, Freed}
-use Rattle.passive_core.specs.Advancing.{AdvanceLeaves, Empties, Gathers, HoldersAreOpen, LeavesMarks, MarksPass, Passes, StageLeaves, advance_answer, given_up, has_passive, is_open_since, is_snapshot, plain_stage, stage_of}
+use Rattle.passive_core.specs.Advancing.{AdvanceLeaves, Empties, Gathers, HoldersAreOpen, LeavesMarks, MarksPass, Passes, StageLeaves, advance_answer, given_up, has_passive, is_open_since, is_snapshot, plain_stage}
 use Rattle.protocol.specs.Marking.{AllClear, AllCollected, AllPassed, MarksGrow}
 use Rattle.registry_values.specs.Marks.{least_below, looked, cleared, collected, are_collected, has_changed, have_passed, is_even}
+use Rattle.registry_values.specs.Stages.{stage_of}
 use Rattle.registry_values.specs.Slots.{retired_slot, has_number, is_retired, slot_of, slot_at}
 use Rattle.passive_core.specs.Commands.{may_act}
 use Rattle.protocol.specs.Events.{Outcome, guard, taken, step, after_look, after_look_passive, after_collect, after_total, after_kept_sub, after_vacate, may_collect, may_examine, may_look_passive, may_vacate, is_drainable, is_drained, is_iface_slot, keeps_rightly}

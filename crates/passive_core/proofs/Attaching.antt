@@ -1,6 +1,6 @@
 -- Attaches: the words that are stored, the slot that is taken, and why the entry may be linked.
 use Rattle.std.proofs.Common.{◌≡◌, ℕ, zero, suc, ◌+◌, ◌-◌, ◌<◌, ◌≤◌, ⊎_elim, List, [], ◌∷◌, ◌++◌, length, get_or, set, take, drop, replicate, get_or-set_same, Option, Some, None, Bool, true, false, not, ◌&&◌, ◌==◌, is_none, nat_lt, IsTrue, refl, sym, add-one, ap, subst, ◌∙◌, arith, lt-ltb, eq-eqb}
-use Rattle.std.specs.Prelude.{if◌then◌else◌, Result, Ok, Err}
+use Rattle.std.specs.Prelude.{Result, Ok, Err}
 use Rattle.std.specs.List.{list_all, zip}
 use Rattle.std.proofs.Math.Seq.{drop-cons}
 use Rattle.std.proofs.lemmas.Bool.{and_from, and_parts, cases_lt, le-ltb}
@@ -16,17 +16,18 @@ use Rattle.protocol.specs.declared.event.Reply.{Reply}
 use Rattle.protocol.specs.declared.event.Reply.TheVariants.{Done}
 use Rattle.passive_core.specs.declared.machine.commands.attach.Before.{Before}
 use Rattle.registry_values.specs.declared.refusal.Refusal.{Refusal}
-use Rattle.registry_values.specs.declared.refusal.Refusal.TheVariants.{NameTaken, NoSlot, HistoryFull}
 use Rattle.protocol.specs.declared.state.LocalPlace.{LocalPlace}
 use Rattle.protocol.specs.declared.state.LocalPlace.TheVariants.{Free, Standing, Lifted}
 use Rattle.protocol.specs.declared.state.RecordWords.{RecordWords}
 use Rattle.registry_values.specs.declared.slot.Slot.{Slot}
 use Rattle.registry_values.specs.declared.slot.Slot.TheVariants.{Vacant}
-use Rattle.passive_core.specs.Attaching.{entry_in, given_back, given_entry, is_driver_in, is_driver_number, is_to_driver, keeping, next_entry, plain_slot, prepared, restored, words_before}
+use Rattle.passive_core.specs.Attaching.{IsAnswer, given_back, given_entry, is_driver_in, is_driver_number, is_to_driver, keeping, plain_slot, prepared, restored, words_before}
+use Rattle.registry_values.specs.Answers.{attach_answer, next_entry}
+use Rattle.registry_values.proofs.Answers as answers
 use Rattle.registry_values.specs.Slots.{is_plain, key_of_record, key_of, is_iface, is_taken, is_vacant, slot_of, slot_at}
 use Rattle.protocol.specs.State.{with_biases, at_rest, State, kept_at, local_at, no_words, row_at, total_at}
 use Rattle.passive_core.specs.Commands.{all_seated, may_act}
-use Rattle.protocol.specs.Events.{Outcome, after_count_store, after_keep, after_publish, after_row_store, after_seeing, are_unused, entry_of, has_room, is_bias, is_driver_slot, is_prepared, keeps_rightly, may_keep, may_publish, may_write, standing, step, with_word, words_of}
+use Rattle.protocol.specs.Events.{Outcome, after_count_store, after_keep, after_publish, after_row_store, after_seeing, are_unused, entry_of, has_room, room_of, is_bias, is_driver_slot, is_prepared, keeps_rightly, may_keep, may_publish, may_write, standing, step, with_word, words_of}
 use Rattle.protocol.specs.Invariant.{Holds}
 use Rattle.registry_values.specs.Names.{are_name_words, is_lawful}
 use Rattle.registry_values.specs.Balances.{bias}
@@ -121,37 +122,26 @@ plain_tells s t on is =
 
 -- what is so where an entry is given
 pub record IsGiven (s : State) (rec : Record) (e : Entry) : Type 0 where
-  pub entry : e ≡ next_entry s rec e.slot
+  pub entry : e ≡ next_entry (length s.history) rec e.slot
   pub free : is_taken (key_of_record rec) s.slots ≡ false
   pub plain : plain_slot s ≡ Some e.slot
   pub room : has_room s ≡ true
 
-free_if : (taken : Bool) (rest : Result Entry Refusal) (e : Entry) → (if taken then Err NameTaken else rest) ≡ Ok e → (taken ≡ false) × (rest ≡ Ok e)
-free_if true rest e is = absurd (let q : ◌≡◌ {A = Result Entry Refusal} (Err NameTaken) (Ok e) = is in cc)
-free_if false rest e is = (refl, is)
-
-room_if : (room : Bool) (e f : Entry) → ◌≡◌ {A = Result Entry Refusal} (if room then Ok f else Err HistoryFull) (Ok e) → (room ≡ true) × (e ≡ f)
-room_if true e f is = (refl, let q : ◌≡◌ {A = Result Entry Refusal} (Ok f) (Ok e) = is in cc)
-room_if false e f is = absurd (let q : ◌≡◌ {A = Result Entry Refusal} (Err HistoryFull) (Ok e) = is in cc)
-
-place_if : (s : State) (rec : Record) (place : Option ℕ) (e : Entry) → entry_in s rec place ≡ Ok e → (place ≡ Some e.slot) × (has_room s ≡ true) × (e ≡ next_entry s rec e.slot)
-place_if s rec None e is = absurd (let q : ◌≡◌ {A = Result Entry Refusal} (Err NoSlot) (Ok e) = is in cc)
-place_if s rec (Some t) e is =
-    let room = room_if (has_room s) e (next_entry s rec t) is in
-    let at : e.slot ≡ t = ap (λ (x : Entry). x.slot) room.1 in
-    (ap Some (sym at), room.0, room.1 ∙ ap (next_entry s rec) (sym at))
-
 pub given_tells : (s : State) (rec : Record) (e : Entry) → given_entry s rec ≡ Ok e → IsGiven s rec e
 given_tells s rec e is =
-    let free = free_if (is_taken (key_of_record rec) s.slots) (entry_in s rec (plain_slot s)) e is in
-    let place = place_if s rec (plain_slot s) e free.1 in
-    record { entry = place.2; free = free.0; plain = place.0; room = place.1 }
+    let told = answers.given_tells (is_taken (key_of_record rec) s.slots) (plain_slot s) (room_of s) rec e is in
+    record { entry = told.entry; free = told.free; plain = told.place; room = told.fits }
 
 pub given_writes : (s : State) (rec : Record) (e : Entry) → Holds s → at_rest s.due ≡ true → IsGiven s rec e → may_write s e.slot ≡ true
 given_writes s rec e on rest given =
     let plain = plain_tells s e.slot on given.plain in
     and_from (at_rest s.due) (nat_lt e.slot s.settings.slots && is_vacant (slot_at s.slots e.slot)) rest
     (and_from (nat_lt e.slot s.settings.slots) (is_vacant (slot_at s.slots e.slot)) (lt-ltb e.slot s.settings.slots plain.0) plain.1)
+
+-- A refused attach: the answer is that of the parts.
+pub answer_refused : (inside unfit x y : Bool) (given g : Result Entry Refusal) (f : Refusal) → inside ≡ x → unfit ≡ y → given ≡ g → ◌≡◌ {A = Result Entry Refusal} (Err f) (attach_answer inside unfit given)
+    → IsAnswer (attach_answer x y g) (Err f)
+answer_refused inside unfit x y given g f caller fit same is = subst (λ (r : Result Entry Refusal). IsAnswer r (Err f)) (is ∙ (λ i. attach_answer (caller i) (fit i) (same i))) refl
 
 -- Linking.
 
@@ -245,7 +235,7 @@ pub record MayLink (s : State) (e : Entry) : Type 0 where
   pub links : step (prepared s e) (Publish e.slot) ≡ Some (record { state = after_publish (prepared s e) e.slot e; reply = Done })
 
 -- what a given entry is, in a state with the same history and slots
-may_link : (s : State) (rec : Record) (e : Entry) → Holds s → may_write s e.slot ≡ true → e ≡ next_entry s rec e.slot → is_taken (key_of_record rec) s.slots ≡ false → has_room s ≡ true
+may_link : (s : State) (rec : Record) (e : Entry) → Holds s → may_write s e.slot ≡ true → e ≡ next_entry (length s.history) rec e.slot → is_taken (key_of_record rec) s.slots ≡ false → has_room s ≡ true
     → IsTrue (is_lawful rec.name) → keeps_rightly (kept_at s.keeps e.slot) rec.kind ≡ true → MayLink s e
 may_link s rec e on writes is free room lawful keeps =
     let same : e.rec ≡ rec = ap (λ (x : Entry). x.rec) is in

@@ -1,8 +1,8 @@
 -- How far the destruction of a retired entry has come, in plain terms, and what the keeper's work on it leaves.
-use Rattle.std.specs.Prelude.{◌≡◌, ℕ, zero, suc, ◌+◌, ◌<◌, ◌==◌, nat_lt, List, [], Option, Some, None, Bool, true, false, ◌&&◌, Result, Ok, Err, if◌then◌else◌, slice_set}
+use Rattle.std.specs.Prelude.{◌≡◌, ℕ, ◌+◌, ◌<◌, ◌==◌, nat_lt, List, [], Option, Some, None, Bool, true, false, ◌&&◌, Result, Ok, Err, slice_set}
 use Rattle.registry_values.specs.declared.entry.Entry.{Entry}
 use Rattle.registry_values.specs.declared.refusal.Refusal.{Refusal}
-use Rattle.registry_values.specs.declared.refusal.Refusal.TheVariants.{Inside, NotRetired, StillHeld}
+use Rattle.registry_values.specs.declared.refusal.Refusal.TheVariants.{StillHeld}
 use Rattle.registry_values.specs.declared.stage.Stage.{Stage}
 use Rattle.registry_values.specs.declared.stage.Stage.TheVariants.{Grace, Passive, Local, Freed}
 use Rattle.registry_values.specs.declared.mark.Mark.{Mark}
@@ -16,7 +16,8 @@ use Rattle.protocol.specs.Events.{is_inside}
 use Rattle.protocol.specs.Invariant.{held_at, one_if}
 use Rattle.protocol.specs.Marking.{MarksGrow, SameElsewhere}
 use Rattle.registry_values.specs.Marks.{least_below}
-use Rattle.registry_values.specs.Stages.{destroyed_if}
+use Rattle.registry_values.specs.Stages as stages
+use Rattle.registry_values.specs.Stages.{stage_of}
 
 -- the word is that of the snapshot
 abbrev pub is_snapshot : Option ℕ → ℕ → Bool
@@ -31,20 +32,12 @@ is_open_since s t c = is_inside s c && is_snapshot (mark_at s.marks t c).snapsho
 abbrev pub has_passive : State → ℕ → ℕ → Bool
 has_passive s t c = nat_lt 0 (passive_at s.passive c t)
 
--- the first obstacle of the three; a number of local references that is 0 is none
-abbrev pub stage_of : ℕ → Option ℕ → Option ℕ → ℕ → Stage
-stage_of t (Some c) passive locals = Grace c
-stage_of t None (Some c) locals = Passive c
-stage_of t None None zero = Freed t
-stage_of t None None (suc k) = Local (suc k)
-
 -- what stands between the retired entry n in the slot t and the freeing of t
 abbrev pub plain_stage : State → ℕ → ℕ → Stage
 plain_stage s t n = stage_of t (least_below (is_open_since s t) s.settings.cpus) (least_below (has_passive s t) s.settings.cpus) (held_at s.locals s.hands s.keeps s.due n t)
 
 abbrev pub stage_in : State → ℕ → Option ℕ → Result Stage Refusal
-stage_in s n None = Err NotRetired
-stage_in s n (Some t) = Ok (plain_stage s t n)
+stage_in s n place = stages.stage_in (λ t. plain_stage s t n) place
 
 -- The answer of advance.
 abbrev pub advance_answer : State → ℕ → Result Stage Refusal
@@ -128,7 +121,7 @@ AdvanceLeaves old new n (Ok stage) = (t : ℕ) × (retired_slot old.slots n ≡ 
 
 -- The answer of destroy.
 abbrev pub destroy_answer : State → ℕ → ℕ → Result ℕ Refusal
-destroy_answer s c n = if is_inside s c then Err Inside else destroyed_if (advance_answer s n)
+destroy_answer s c n = stages.destroy_answer (is_inside s c) (advance_answer s n)
 
 -- What a destroy leaves, by its answer: what an advance does that met this obstacle, or freed the slot.
 abbrev pub HeldLeaves : State → State → ℕ → Refusal → Type 0

@@ -1,37 +1,29 @@
 -- What an attach answers, and what it leaves.
-use Rattle.std.specs.Prelude.{◌≡◌, ℕ, ◌+◌, List, [], ◌++◌, position, Option, Some, None, Bool, false, ◌&&◌, ◌⊎◌, if◌then◌else◌, Result, Ok, Err, length, slice_index_or, slice_set}
-use Rattle.std.specs.List.{zip}
+use Rattle.std.specs.Prelude.{◌≡◌, ℕ, ◌+◌, List, [], ◌++◌, Option, Some, None, Bool, false, not, ◌&&◌, ◌⊎◌, Result, Ok, Err, slice_index_or, slice_set}
 use Rattle.registry_values.specs.declared.entry.Entry.{Entry}
 use Rattle.registry_values.specs.declared.entry.Record.{Record}
 use Rattle.registry_values.specs.declared.refusal.Refusal.{Refusal}
-use Rattle.registry_values.specs.declared.refusal.Refusal.TheVariants.{NoMemory, NameTaken, NoSlot, HistoryFull, Inside, NeedsDriver}
+use Rattle.registry_values.specs.declared.refusal.Refusal.TheVariants.{NoMemory}
 use Rattle.protocol.specs.declared.state.LocalPlace.{LocalPlace}
 use Rattle.protocol.specs.declared.state.LocalPlace.TheVariants.{Free}
 use Rattle.passive_core.specs.declared.machine.commands.attach.Before.{Before}
 use Rattle.registry_values.specs.declared.slot.Slot.{Slot}
 use Rattle.passive_core.specs.Commands.{all_seated}
-use Rattle.protocol.specs.Events.{is_inside, is_driver_slot, standing, words_of, has_room, after_seeing, after_publish}
-use Rattle.registry_values.specs.Slots.{is_iface, is_taken, slot_of, slot_at, is_plain, key_of_record}
+use Rattle.protocol.specs.Events.{is_inside, is_driver_slot, standing, words_of, room_of, after_seeing, after_publish}
+use Rattle.registry_values.specs.Answers as answers
+use Rattle.registry_values.specs.Slots.{is_iface, is_taken, slot_of, slot_at, key_of_record}
 use Rattle.protocol.specs.State.{State, row_at, local_at, with_biases}
 
--- the least of them
 abbrev pub plain_slot : State → Option ℕ
-plain_slot s = position is_plain (zip s.slots s.keeps)
+plain_slot s = answers.plain_slot s.slots s.keeps
 
--- the entry of the next change
-abbrev pub next_entry : State → Record → ℕ → Entry
-next_entry s rec t = record { number = length s.history + 1; slot = t; rec = rec }
-
-abbrev pub entry_in : State → Record → Option ℕ → Result Entry Refusal
-entry_in s rec None = Err NoSlot
-entry_in s rec (Some t) = if has_room s then Ok (next_entry s rec t) else Err HistoryFull
-
--- The entry that an attach of the record makes. Refused where its kind and name are taken, no slot is plain, or the history has no room.
+-- the entry that an attach of the record makes
 abbrev pub given_entry : State → Record → Result Entry Refusal
-given_entry s rec = if is_taken (key_of_record rec) s.slots then Err NameTaken else entry_in s rec (plain_slot s)
+given_entry s rec = answers.given_entry (is_taken (key_of_record rec) s.slots) (plain_slot s) (room_of s) rec
 
+-- the record of an interface is unfit
 abbrev pub attach_answer : State → ℕ → Record → Result Entry Refusal
-attach_answer s c rec = if is_inside s c then Err Inside else (if is_iface rec.kind then Err NeedsDriver else given_entry s rec)
+attach_answer s c rec = answers.attach_answer (is_inside s c) (is_iface rec.kind) (given_entry s rec)
 
 -- the entry with this number is a driver
 abbrev pub is_driver_in : List Slot → Option ℕ → Bool
@@ -46,8 +38,9 @@ is_driver_number slots (Some n) = is_driver_in slots (slot_of slots n)
 abbrev pub is_to_driver : State → ℕ → Bool
 is_to_driver s id = is_driver_number s.slots (standing (local_at s.locals id))
 
+-- a reference that isn't to a driver is unfit
 abbrev pub attach_iface_answer : State → ℕ → Record → ℕ → Result Entry Refusal
-attach_iface_answer s c rec id = if is_inside s c then Err Inside else (if is_to_driver s id then given_entry s rec else Err NeedsDriver)
+attach_iface_answer s c rec id = answers.attach_answer (is_inside s c) (not (is_to_driver s id)) (given_entry s rec)
 
 -- the answer is the one given; or, where that is an entry, memory was refused
 abbrev pub IsAnswer : Result Entry Refusal → Result Entry Refusal → Type 0

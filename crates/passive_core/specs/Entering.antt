@@ -1,7 +1,7 @@
 -- What the commands that begin and end sections answer, and what they leave.
-use Rattle.std.specs.Prelude.{ℕ, ◌+◌, ◌-◌, ◌*◌, ◌==◌, nat_lt, Bool, not, ◌&&◌, if◌then◌else◌, Result, Ok, Err, is_ok, slice_set}
+use Rattle.std.specs.Prelude.{ℕ, ◌+◌, ◌-◌, ◌*◌, ◌==◌, nat_lt, Bool, if◌then◌else◌, Result, is_ok, slice_set}
 use Rattle.registry_values.specs.declared.refusal.Refusal.{Refusal}
-use Rattle.registry_values.specs.declared.refusal.Refusal.TheVariants.{TooDeep, SectionsSpent}
+use Rattle.registry_values.specs.Answers as answers
 use Rattle.passive_core.specs.Commands.{all_seated}
 use Rattle.protocol.specs.Events.{is_inside, is_outside, after_enter, after_exit}
 use Rattle.protocol.specs.State.{State, section_at, depth_at}
@@ -10,9 +10,8 @@ use Rattle.protocol.specs.State.{State, section_at, depth_at}
 abbrev pub may_begin : State → ℕ → Bool
 may_begin s c = nat_lt (section_at s c) (2 * s.settings.section_limit)
 
--- refused at depth 255, and outside a section where the CPU may not begin one more
 abbrev pub enter_answer : State → ℕ → Result Unit Refusal
-enter_answer s c = if depth_at s c == 255 then Err TooDeep else (if is_outside s c && not (may_begin s c) then Err SectionsSpent else Ok tt)
+enter_answer s c = answers.enter_answer (depth_at s c) (is_outside s c) (may_begin s c)
 
 -- the section's depth is another; its word and its begin stay
 abbrev pub with_depth : State → ℕ → ℕ → State

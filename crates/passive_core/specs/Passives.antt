@@ -1,5 +1,5 @@
 -- What the commands on passive references answer and leave (psref(9)).
-use Rattle.std.specs.Prelude.{◌≡◌, ℕ, ◌+◌, ◌-◌, ◌==◌, nat_lt, List, Option, Some, None, Result, Ok, Err, if◌then◌else◌}
+use Rattle.std.specs.Prelude.{◌≡◌, ℕ, ◌+◌, ◌-◌, ◌==◌, nat_lt, List, Option, Some, None, Result, Ok, Err}
 use Rattle.registry_values.specs.declared.entry.Entry.{Entry}
 use Rattle.registry_values.specs.declared.entry.Change.{Change}
 use Rattle.registry_values.specs.declared.entry.Record.{Record}
@@ -7,9 +7,10 @@ use Rattle.protocol.specs.declared.event.RecordOf.{RecordOf}
 use Rattle.protocol.specs.declared.event.Reply.TheVariants.{Word}
 use Rattle.passive_core.specs.declared.psref.CorePsref.{CorePsref}
 use Rattle.registry_values.specs.declared.refusal.Refusal.{Refusal}
-use Rattle.registry_values.specs.declared.refusal.Refusal.TheVariants.{NothingFound, PassiveFull, WrongCpu, NotHeld}
+use Rattle.registry_values.specs.declared.refusal.Refusal.TheVariants.{NothingFound}
 use Rattle.protocol.specs.History.{IsAttached}
 use Rattle.protocol.specs.State.{State}
+use Rattle.registry_values.specs.Answers.{unless, why_full, why_unusable}
 use Rattle.registry_values.specs.Slots.{slot_of}
 use Rattle.protocol.specs.Events.{after_add, after_sub, load_record, taken}
 use Rattle.protocol.specs.Model.{put}
@@ -29,21 +30,20 @@ IsOneLess old new c n = (d m : ℕ) → passive_of new d m ≡ put (passive_of o
 
 -- one reference more of c to n, unless c has as many as it may
 abbrev pub one_more : State → ℕ → ℕ → Result CorePsref Refusal
-one_more s c n = if nat_lt (passive_of s c n) s.settings.passive_limit then Ok (record { cpu = c; number = n }) else Err PassiveFull
+one_more s c n = unless (why_full (passive_of s c n) s.settings.passive_limit) (Ok (record { cpu = c; number = n }))
 
 -- a reference of c to its last found entry
 abbrev pub acquired : State → ℕ → Option Entry → Result CorePsref Refusal
 acquired s c None = Err NothingFound
 acquired s c (Some e) = one_more s c e.number
 
--- why c may not use a reference: it is another CPU's, or c holds none to that number
+-- why c may not use a reference
 abbrev pub refusal_of : State → ℕ → CorePsref → Option Refusal
-refusal_of s c p = if p.cpu == c then (if nat_lt 0 (passive_of s c p.number) then None else Some NotHeld) else Some WrongCpu
+refusal_of s c p = why_unusable (p.cpu == c) (nat_lt 0 (passive_of s c p.number))
 
 -- a second reference to n, unless the first may not be used
 abbrev pub copied : State → ℕ → ℕ → Option Refusal → Result CorePsref Refusal
-copied s c n None = one_more s c n
-copied s c n (Some refusal) = Err refusal
+copied s c n refusal = unless refusal (one_more s c n)
 
 -- the record of the entry that was attached under the number n
 abbrev pub IsRecordOf : List Change → ℕ → Record → Type 0

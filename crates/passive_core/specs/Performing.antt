@@ -1,22 +1,19 @@
 -- Waiting until each section that was open has ended (pserialize(9)): the answer, and what it leaves.
-use Rattle.std.specs.Prelude.{◌≡◌, ℕ, ◌<◌, ◌==◌, List, [], Option, Some, None, Bool, true, false, not, ◌||◌, Result, Ok, Err, if◌then◌else◌, slice_index_or}
+use Rattle.std.specs.Prelude.{◌≡◌, ℕ, ◌<◌, ◌==◌, List, [], Option, Some, None, Bool, true, false, not, ◌||◌, Result, Ok, Err, slice_index_or}
 use Rattle.registry_values.specs.declared.refusal.Refusal.{Refusal}
-use Rattle.registry_values.specs.declared.refusal.Refusal.TheVariants.{Inside, Waiting}
+use Rattle.registry_values.specs.declared.refusal.Refusal.TheVariants.{Waiting}
 use Rattle.protocol.specs.State.{State, section_at, mark_at}
 use Rattle.registry_values.specs.Slots.{slot_at, is_retired}
 use Rattle.protocol.specs.Events.{is_inside}
 use Rattle.passive_core.specs.Commands.{all_seated}
 use Rattle.protocol.specs.Marking.{AllPassed}
 use Rattle.passive_core.specs.Advancing.{Passes}
+use Rattle.registry_values.specs.Answers as answers
 use Rattle.registry_values.specs.Marks.{least_below}
-
-abbrev pub waiting_for : Option ℕ → Result (Unit {0}) Refusal
-waiting_for None = Ok tt
-waiting_for (Some c) = Err (Waiting c)
 
 -- The answer of perform: whether the caller is inside a section, else the least CPU that is.
 abbrev pub perform_answer : State → ℕ → Result (Unit {0}) Refusal
-perform_answer s c = if is_inside s c then Err Inside else waiting_for (least_below (is_inside s) s.settings.cpus)
+perform_answer s c = answers.perform_answer (is_inside s c) (least_below (is_inside s) s.settings.cpus)
 
 -- marks may have come to say passed, for retired entries alone
 pub record OnlyPasses (old new : State) : Type 0 where

@@ -9,7 +9,7 @@ ghost use Rattle.cpu_words.specs.Opening.{keeper_with};
 ghost use Rattle.passive_list.specs.Keepers.{states_of};
 
 use cpu_words::{Domain, KeeperSeat};
-use registry_values::{BIAS, Mark, Settings};
+use registry_values::{BIAS, Mark, NO_MARK, Settings};
 use std::marker::{Model, PhantomData};
 
 /// What stands in a slot, as the keeper has it: a slot that was retired and drained is `Vacant` once it was vacated.
@@ -54,14 +54,6 @@ impl<D: Domain> Model for Keeper<D> {
 
     ghost invariant = { λ k. IsOurKeeper D.table D.settings k.seat.table k.seat.view k.settings k.rows k.changes };
 }
-
-/// Nothing is known of a CPU.
-pub(crate) const NO_MARK: Mark = Mark {
-    snapshot: None,
-    passed: false,
-    clear: false,
-    collected: false,
-};
 
 /// A slot that nothing was ever in.
 const NO_ROW: Row = Row {

@@ -1,7 +1,6 @@
 //! Lookups in a section: a search along the list, loads alone. No shared word is written, and nobody waits.
 
 ghost use Rattle.std.specs.Prelude.{◌≡◌, ◌≢◌, ◌<◌, None, IfSome};
-ghost use Rattle.registry_values.specs.Slots.{kind_word};
 ghost use Rattle.protocol.specs.Events.{are_words_of};
 ghost use Rattle.cpu_words.specs.Searching.{MaySeek, key_with};
 ghost use Rattle.passive_list.specs.Cpus.{IsKept};
@@ -11,7 +10,7 @@ ghost use Rattle.passive_list.specs.Walking.{MayVisit, HasVisited, HasLookedUp, 
 use crate::cpu::Cpu;
 use crate::place::Found;
 use cpu_words::{CpuSeat, Domain, Words, steps};
-use registry_values::{Entry, Kind, Name, Record};
+use registry_values::{Entry, Kind, Name, Record, kind_word};
 
 /// Above every number that an entry can have.
 const ABOVE_ALL: u64 = 1_000_001;
@@ -112,16 +111,6 @@ fn visit(
     let high = steps::load_searched(words, seat, cpu, slot, 2);
     let low = steps::load_searched(words, seat, cpu, slot, 3);
     (number, are_words_of(kind, name, found, high, low))
-}
-
-/// The word of a kind, as a record has it.
-pub(crate) fn kind_word(kind: Kind) -> u64
-    ensures { result ≡ kind_word kind }
-{
-    match kind {
-        Kind::Iface => 1,
-        Kind::Driver => 2,
-    }
 }
 
 /// Whether these are the words of the kind and the name.

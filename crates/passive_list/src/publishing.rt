@@ -12,9 +12,8 @@ ghost use Rattle.passive_list.specs.Publishing.{MayAttach, HasEntry, HasAttached
 
 use crate::keeper::{Keeper, Row, SlotState};
 use crate::links::link_below;
-use crate::lookup::kind_word;
 use cpu_words::{Domain, KeeperSeat, Words, steps};
-use registry_values::{BIAS, Entry, Record};
+use registry_values::{BIAS, Entry, Record, kind_word};
 
 /// Publishes an entry in `slot`: from now on lookups find it, and the history ends with its attach. Its number is how many changes there
 /// are then. It answers the entry.

@@ -8,10 +8,10 @@ ghost use Rattle.registry_values.specs.Slots.{slot_at};
 ghost use Rattle.cpu_words.specs.Rule.{IsPictured};
 ghost use Rattle.passive_list.specs.Retiring.{HasDetached, with_snapshots, AreSnapshots, AreFresh};
 
-use crate::keeper::{Keeper, NO_MARK, Row, SlotState};
+use crate::keeper::{Keeper, Row, SlotState};
 use crate::links::{link_below, slot_above};
 use cpu_words::{Domain, KeeperSeat, Words, steps};
-use registry_values::{Entry, Mark};
+use registry_values::{Entry, Mark, NO_MARK};
 
 /// Retires the live entry in `slot`: from now on lookups that begin don't find it, the history ends with its detach, and a section that
 /// may hold it is one that is open at a snapshot. It answers the entry.

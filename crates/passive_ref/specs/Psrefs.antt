@@ -1,10 +1,11 @@
 -- Passive references of a CPU (psref(9)): why a call is refused, and what it answers and leaves.
-use Rattle.std.specs.Prelude.{◌≡◌, ◌⊎◌, ℕ, ◌<◌, ◌==◌, ◌&&◌, nat_lt, Bool, if◌then◌else◌, ◌∷◌, Option, Some, None, Result, Ok, Err}
+use Rattle.std.specs.Prelude.{◌≡◌, ◌⊎◌, ℕ, ◌<◌, ◌==◌, ◌&&◌, nat_lt, Bool, ◌∷◌, Option, Some, None, Result, Ok, Err}
 use Rattle.std.specs.List.{Contains}
 use Rattle.registry_values.specs.declared.entry.Entry.{Entry}
 use Rattle.registry_values.specs.declared.entry.Record.{Record}
 use Rattle.registry_values.specs.declared.refusal.Refusal.{Refusal}
-use Rattle.registry_values.specs.declared.refusal.Refusal.TheVariants.{NothingFound, PassiveFull, WrongCpu, NotHeld}
+use Rattle.registry_values.specs.declared.refusal.Refusal.TheVariants.{NothingFound}
+use Rattle.registry_values.specs.Answers as answers
 use Rattle.protocol.specs.History.{IsAttached}
 use Rattle.cpu_words.specs.declared.view.CpuView.{CpuView}
 use Rattle.cpu_words.specs.Views.{references_to, without}
@@ -72,11 +73,11 @@ counts_for n p = p.number == n && nat_lt 0 p.count
 
 -- the CPU has as many references to n as it may
 abbrev pub why_full : CpuView → ℕ → Option Refusal
-why_full x n = if nat_lt (references_to n x.references) x.settings.passive_limit then None else Some PassiveFull
+why_full x n = answers.why_full (references_to n x.references) x.settings.passive_limit
 
 -- the CPU may not use the reference: it names another CPU, or this CPU has none to that number
 abbrev pub why_unusable : CpuView → OnPsref → Option Refusal
-why_unusable x p = if p.cpu == x.id then (if nat_lt 0 (references_to p.number x.references) then None else Some NotHeld) else Some WrongCpu
+why_unusable x p = answers.why_unusable (p.cpu == x.id) (nat_lt 0 (references_to p.number x.references))
 
 -- of a reference to the last found entry
 abbrev pub why_not_acquired : CpuView → Option Entry → Option Refusal

@@ -1,6 +1,7 @@
 -- The events, a line each: where it is allowed, the state that it leaves, and its reply.
-use Rattle.std.specs.Prelude.{ℕ, zero, suc, ◌+◌, ◌-◌, ◌*◌, ◌==◌, nat_lt, nat_le, List, ◌∷◌, [], ◌++◌, length, replicate, position, Option, Some, None, is_none, is_some, Bool, true, false, not, ◌&&◌, ◌||◌, if◌then◌else◌, slice_index_or, slice_set, take}
+use Rattle.std.specs.Prelude.{ℕ, zero, suc, ◌+◌, ◌-◌, ◌*◌, ◌==◌, nat_lt, List, ◌∷◌, [], ◌++◌, length, replicate, position, Option, Some, None, is_none, is_some, Bool, true, false, not, ◌&&◌, ◌||◌, if◌then◌else◌, slice_index_or, slice_set, take}
 use Rattle.std.specs.List.{list_all}
+use Rattle.registry_values.specs.declared.answer.Room.{Room}
 use Rattle.registry_values.specs.declared.entry.Kind.{Kind}
 use Rattle.registry_values.specs.declared.entry.Kind.TheVariants.{Iface, Driver}
 use Rattle.registry_values.specs.declared.entry.Entry.{Entry}
@@ -26,6 +27,7 @@ use Rattle.protocol.specs.declared.state.LocalPlace.TheVariants.{Free, Standing,
 use Rattle.protocol.specs.declared.state.Due.{Due}
 use Rattle.protocol.specs.declared.state.Due.TheVariants.{Rest, Snapshots, Adding, Subtracting}
 use Rattle.protocol.specs.History.{after_change}
+use Rattle.registry_values.specs.Answers as answers
 use Rattle.registry_values.specs.Slots.{key_of, slot_at, kind_word, is_iface, is_driver, is_vacant, is_retired, is_taken, live_count, slot_of, slot_before}
 use Rattle.registry_values.specs.Names.{are_name_words}
 use Rattle.protocol.specs.State.{State, with_cell, section_at, begin_at, depth_at, seen_at, search_at, found_at, hand_at, row_at, mark_at, passive_at, count_at, total_at, kept_at, local_at, is_empty, at_rest}
@@ -234,8 +236,12 @@ is_bias w = w == bias
 abbrev pub are_unused : State → ℕ → Bool
 are_unused s t = list_all is_bias (take s.settings.cpus (slice_index_or s.counts t [])) && total_at s.totals t == bias
 
+-- what an attach asks of the history
+abbrev pub room_of : State → Room
+room_of s = record { changes = length s.history; live = live_count s.slots; limit = s.settings.change_limit }
+
 abbrev pub has_room : State → Bool
-has_room s = nat_le (length s.history + live_count s.slots + 2) s.settings.change_limit
+has_room s = answers.has_room (room_of s)
 
 -- the slot keeps a reference exactly if the kind is iface
 abbrev pub keeps_rightly : Option ℕ → Kind → Bool

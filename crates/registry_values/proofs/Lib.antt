@@ -1,3 +1,4 @@
+pub mod Answers
 pub mod Fit
 pub mod Least
 pub mod Names

@@ -1,3 +1,4 @@
+pub mod Answers
 pub mod Balances
 pub mod Limits
 pub mod Marks

@@ -2,7 +2,7 @@
 
 ghost use Rattle.std.specs.Prelude.{◌≡◌, true};
 ghost use Rattle.registry_values.specs.Names.{are_name_words};
-ghost use Rattle.registry_values.specs.Slots.{kind_word};
+ghost use Rattle.registry_values.specs.Slots.{is_iface, kind_word};
 ghost use Rattle.registry_values.specs.declared.entry.Record.{Record};
 
 use crate::name::Name;
@@ -47,8 +47,24 @@ pub enum Change {
     Detach(u64),
 }
 
-/// The record whose four words are these, as a slot has them: the kind's word (1 for an interface, 2 for a driver), the name's two, the
-/// value.
+/// Whether the kind is that of an interface.
+pub fn is_iface(kind: Kind) -> bool
+    ensures { result ≡ is_iface kind }
+{
+    kind == Kind::Iface
+}
+
+/// The word of a kind: 1 for an interface, 2 for a driver.
+pub fn kind_word(kind: Kind) -> u64
+    ensures { result ≡ kind_word kind }
+{
+    match kind {
+        Kind::Iface => 1,
+        Kind::Driver => 2,
+    }
+}
+
+/// The record whose four words are these, as a slot has them: the kind's word (`kind_word`), the name's two, the value.
 pub fn record_from(kind: u64, high: u64, low: u64, value: u64) -> Record
     requires { are_name_words high low ≡ true }
     ensures { (r : Record) → kind ≡ kind_word r.kind → high ≡ r.name.high → low ≡ r.name.low → value ≡ r.value → result ≡ r }

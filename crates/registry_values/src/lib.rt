@@ -1,7 +1,8 @@
-//! The plain values of the registry: names, records and settings; why a call was refused; and what is judged of one slot, of the marks that
-//! a keeper has of the CPUs, and of count words. Nothing here has a state.
+//! The plain values of the registry: names, records and settings; why a call was refused; what is judged of one slot, of the marks that a
+//! keeper has of the CPUs, and of count words; and what a call answers by such values. Nothing here has a state.
 #![tactic(auto)]
 
+mod answer;
 mod balance;
 mod entry;
 mod mark;
@@ -11,8 +12,11 @@ mod settings;
 mod slot;
 mod stage;
 
+pub use answer::{
+    Room, attach_answer, enter_answer, given_entry, has_room, waiting_for, why_full, why_unusable,
+};
 pub use balance::{BIAS, Balance, less_bias, local_of, sum};
-pub use entry::{Change, Entry, Kind, Record, record_from};
+pub use entry::{Change, Entry, Kind, Record, is_iface, kind_word, record_from};
 pub use mark::{
     Mark, NO_MARK, are_clear, are_collected, cleared, collected, first_unseen, have_passed, is_out,
     is_some_collected, looked,
@@ -23,4 +27,4 @@ pub use settings::Settings;
 pub use slot::{
     Key, Slot, has_number, is_live, is_live_as, is_plain, is_retired_as, key_of, retired_number,
 };
-pub use stage::{Stage, destroyed};
+pub use stage::{Stage, destroyed, settled};

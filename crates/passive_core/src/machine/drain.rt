@@ -176,7 +176,8 @@ impl Core {
     }
 }
 
-fn is_driver_slot(slot: &Slot) -> bool
+/// Whether the slot's entry, live or retired, is a driver.
+pub(crate) fn is_driver_slot(slot: &Slot) -> bool
     ensures { result ≡ is_driver_slot slot.now }
 {
     match slot {

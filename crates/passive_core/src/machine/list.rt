@@ -2,7 +2,7 @@
 
 ghost use Rattle.std.specs.Prelude.{◌≡◌, ◌<◌, ◌≤◌, IsTrue, IfSome, length, take, position, true};
 ghost use Rattle.protocol.specs.declared.event.Event.TheVariants.{StoreSlot, StoreNext, Publish, Unpublish};
-ghost use Rattle.protocol.specs.Events.{may_write, with_word, kind_of, entry_if, entry_of, is_bias, are_unused, has_room, keeps_rightly, is_prepared, may_publish};
+ghost use Rattle.protocol.specs.Events.{may_write, with_word, kind_of, entry_if, entry_of, is_bias, are_unused, room_of, keeps_rightly, is_prepared, may_publish};
 ghost use Rattle.registry_values.specs.Slots.{is_taken, is_live_as, is_live, live_count, slot_before, leads_to, slot_at};
 ghost use Rattle.protocol.specs.State.{at_rest, row_at};
 ghost use Rattle.std.specs.List.{list_all, zip};
@@ -12,7 +12,8 @@ ghost use Rattle.protocol.specs.Taken.{Steps};
 use crate::machine::{Core, grow};
 use protocol::{Due, RecordWords, Reply, StepFault};
 use registry_values::{
-    BIAS, Change, Entry, Key, Kind, NO_MARK, Name, Record, Slot, is_live, is_live_as, key_of,
+    BIAS, Change, Entry, Key, Kind, NO_MARK, Name, Record, Room, Slot, has_room, is_live,
+    is_live_as, key_of,
 };
 
 impl Core {
@@ -85,18 +86,15 @@ impl Core {
         }
     }
 
-    pub(crate) fn live_count(&self) -> usize
-        ensures value { result ≡ live_count self.now.slots }
-        ensures within { result ≤ 32 }
+    /// What an attach asks of the history.
+    pub(crate) fn room(&self) -> Room
+        ensures { result ≡ room_of self.now }
     {
-        live_count(&self.slots)
-    }
-
-    /// Whether the history has room for an attach and for the detach of each entry that is live then.
-    pub(crate) fn has_room(&self) -> bool
-        ensures { result ≡ has_room self.now }
-    {
-        self.changes() + self.live_count() as u64 + 2 <= self.settings.change_limit
+        Room {
+            changes: self.changes(),
+            live: live_count(&self.slots) as u8,
+            limit: self.settings.change_limit,
+        }
     }
 
     fn are_unused(&self, t: u8) -> bool
@@ -113,7 +111,7 @@ impl Core {
         self.may_write(t)
             && entry.number == self.changes() + 1
             && !self.is_taken(key_of(entry))
-            && self.has_room()
+            && has_room(self.room())
             && self.is_prepared(t, entry.rec.kind)
     }
 

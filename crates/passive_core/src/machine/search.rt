@@ -5,13 +5,12 @@ ghost use Rattle.protocol.specs.declared.event.Event.TheVariants.{Seek, LoadLink
 ghost use Rattle.protocol.specs.declared.event.RecordOf.TheVariants.{Search as OfSearch};
 ghost use Rattle.protocol.specs.Events.{may_seek, are_words_of, going_on, search_over, link_loaded};
 ghost use Rattle.protocol.specs.Invariant.{Holds};
-ghost use Rattle.registry_values.specs.Slots.{kind_word};
 ghost use Rattle.protocol.specs.Loaded.{SlotWithin, loaded, row_of_place, entry_with};
 ghost use Rattle.protocol.specs.Taken.{Keeps, Steps};
 
 use crate::machine::{Core, NO_WORDS};
 use protocol::{Loaded, Place, RecordWords, Reply, Search, StepFault};
-use registry_values::{Entry, Key, Kind, Name, Record};
+use registry_values::{Entry, Key, Kind, Name, Record, kind_word};
 
 impl Core {
     fn may_seek(&self, c: u8) -> bool
@@ -148,16 +147,6 @@ fn loaded(search: &Search, row: &RecordWords) -> Option<Loaded>
             }
         }
         Place::AtValue(t, n) => Some(Loaded::Over(entry_found(search.key, t, n, row.value))),
-    }
-}
-
-/// The word of a kind.
-pub(crate) fn kind_word(kind: Kind) -> u64
-    ensures { result ≡ kind_word kind }
-{
-    match kind {
-        Kind::Iface => 1,
-        Kind::Driver => 2,
     }
 }
 

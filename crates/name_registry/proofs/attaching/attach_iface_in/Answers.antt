@@ -1,22 +1,48 @@
-use Rattle.std.proofs.Common.{◌∙◌, sym, ap, subst, List}
+use Rattle.std.proofs.Common.{◌∙◌, ◌<◌, Result, Ok, IfOk, refl, sym, ap, subst, List}
+use Rattle.registry_values.specs.declared.entry.Entry.{Entry}
+use Rattle.registry_values.specs.declared.refusal.Refusal.{Refusal}
 use Rattle.registry_values.specs.declared.entry.Change.{Change}
 use Rattle.registry_values.specs.declared.entry.Change.TheVariants.{Attach}
 use Rattle.protocol.specs.History.{after_change}
+use Rattle.registry_values.specs.Answers.{attach_answer}
+use Rattle.registry_values.specs.Slots.{is_iface}
 use Rattle.cpu_words.specs.declared.view.KeeperView.{KeeperView}
 use Rattle.passive_list.specs.Keepers.{OnKeeper}
 use Rattle.local_count.specs.Draining.{HasAttachedKeeping}
 use Rattle.name_registry.specs.Attaching.{HasAttachedIfaceFor}
-use Rattle.name_registry.proofs.Attached.{taken_tells, attach_met, keeping_history}
+use Rattle.name_registry.proofs.Attached.{a_driver, inside_is, taken_tells, attach_met, keeping_history}
 use Rattle.name_registry.proofs.attaching.attach_iface_in.Goals as goal
 
 pub publish_iface-entry-requires-clause-vacant : goal.publish_iface-entry-requires-clause-vacant
 publish_iface-entry-requires-clause-vacant g c =
-    let tells = taken_tells g.D.Domain.settings c.args.keeper.now c.args.cpu.now c.hear_cpu.new.keeper c.args.rec c.in-Ok.slot c.hear_cpu.ensures.keeper c.in-Ok.ensures.value in
-    (c.in-Ok.ensures.within, tells.0)
+    let takes = taken_tells g.D.Domain.settings c.args.keeper.now c.args.cpu.now c.hear_cpu.new.keeper c.args.rec c.in-Ok.entry c.hear_cpu.ensures.keeper (sym c.entry_for-given.ensures.value ∙ c.in-Ok.ensures.fit.2) in
+    (subst (λ (r : Result Entry Refusal). IfOk r (λ e. e.slot < g.D.Domain.settings.slots)) c.in-Ok.ensures.fit.2 c.entry_for-given.ensures.within, takes.vacant)
+
+pub publish_iface-entry-requires-clause-free : goal.publish_iface-entry-requires-clause-free
+publish_iface-entry-requires-clause-free g c =
+    (taken_tells g.D.Domain.settings c.args.keeper.now c.args.cpu.now c.hear_cpu.new.keeper c.args.rec c.in-Ok.entry c.hear_cpu.ensures.keeper (sym c.entry_for-given.ensures.value ∙ c.in-Ok.ensures.fit.2)).free
+
+pub publish_iface-entry-requires-clause-room : goal.publish_iface-entry-requires-clause-room
+publish_iface-entry-requires-clause-room g c =
+    (taken_tells g.D.Domain.settings c.args.keeper.now c.args.cpu.now c.hear_cpu.new.keeper c.args.rec c.in-Ok.entry c.hear_cpu.ensures.keeper (sym c.entry_for-given.ensures.value ∙ c.in-Ok.ensures.fit.2)).room
 
 pub publish_iface-entry-requires-clause-nothing : goal.publish_iface-entry-requires-clause-nothing
 publish_iface-entry-requires-clause-nothing g c =
-    (taken_tells g.D.Domain.settings c.args.keeper.now c.args.cpu.now c.hear_cpu.new.keeper c.args.rec c.in-Ok.slot c.hear_cpu.ensures.keeper c.in-Ok.ensures.value).1
+    (taken_tells g.D.Domain.settings c.args.keeper.now c.args.cpu.now c.hear_cpu.new.keeper c.args.rec c.in-Ok.entry c.hear_cpu.ensures.keeper (sym c.entry_for-given.ensures.value ∙ c.in-Ok.ensures.fit.2)).nothing
+
+pub publish_iface-entry-requires-clause-driver : goal.publish_iface-entry-requires-clause-driver
+publish_iface-entry-requires-clause-driver g c = a_driver _ (ap is_iface (sym c.kind.ensures) ∙ (sym c.is_iface.ensures ∙ c.in-Ok.ensures.fit.1))
+
+pub returns-clause-answer : goal.returns-clause-answer
+returns-clause-answer g c =
+    let takes = taken_tells g.D.Domain.settings c.args.keeper.now c.args.cpu.now c.hear_cpu.new.keeper c.args.rec c.in-Ok.entry c.hear_cpu.ensures.keeper (sym c.entry_for-given.ensures.value ∙ c.in-Ok.ensures.fit.2) in
+    let inside = inside_is c.inside.result c.args.cpu.now.view.begin c.inside.ensures in
+    sym (ap (λ (e : Entry). Ok e) (c.publish_iface-entry.ensures.entry ∙ takes.entry) ∙ (c.in-Ok.ensures.value ∙ (λ i. attach_answer (inside i) ((c.is_iface.ensures ∙ ap is_iface c.kind.ensures) i) (c.entry_for-given.ensures.value i))))
+
+pub returns-in-Err-clause-refused : goal.returns-in-Err-clause-refused
+returns-in-Err-clause-refused g c =
+    let inside = inside_is c.inside.result c.args.cpu.now.view.begin c.inside.ensures in
+    (sym (c.in-Err.ensures.value ∙ (λ i. attach_answer (inside i) ((c.is_iface.ensures ∙ ap is_iface c.kind.ensures) i) (c.entry_for-given.ensures.value i))), refl, refl, refl)
 
 pub returns-clause-ok : goal.returns-clause-ok
 returns-clause-ok g c =

@@ -1,22 +1,43 @@
-use Rattle.std.proofs.Common.{rules, ◌≡◌, false, sym, ap, subst}
-use Rattle.registry_values.specs.Slots.{is_iface}
+use Rattle.std.proofs.Common.{◌≡◌, ◌∙◌, ◌<◌, Result, Ok, IfOk, sym, ap, subst}
+use Rattle.registry_values.specs.declared.entry.Entry.{Entry}
+use Rattle.registry_values.specs.declared.refusal.Refusal.{Refusal}
+use Rattle.registry_values.specs.Answers.{attach_answer}
+use Rattle.registry_values.proofs.Answers.{handed_on}
 use Rattle.cpu_words.specs.declared.view.KeeperView.{KeeperView}
 use Rattle.passive_list.specs.Keepers.{OnKeeper}
 use Rattle.passive_list.specs.Publishing.{HasAttached}
 use Rattle.name_registry.specs.Attaching.{HasAttachedFor}
-use Rattle.name_registry.proofs.Attached.{taken_tells, driver_keeps, attach_met}
+use Rattle.name_registry.proofs.Attached.{inside_is, taken_tells, driver_keeps, attach_met}
 use Rattle.name_registry.proofs.attaching.attach_in.Goals as goal
 
 pub publish-entry-requires-clause-vacant : goal.publish-entry-requires-clause-vacant
 publish-entry-requires-clause-vacant g c =
-    let tells = taken_tells g.D.Domain.settings c.args.keeper.now c.args.cpu.now c.hear_cpu.new.keeper c.args.rec c.in_ok-slot.slot c.hear_cpu.ensures.keeper c.in_ok-slot.ensures.value in
-    (c.in_ok-slot.ensures.within, tells.0)
+    let takes = taken_tells g.D.Domain.settings c.args.keeper.now c.args.cpu.now c.hear_cpu.new.keeper c.args.rec c.in_ok-entry.entry c.hear_cpu.ensures.keeper (sym c.entry_for-given.ensures.value ∙ c.in_ok-entry.ensures.fit.2) in
+    (subst (λ (r : Result Entry Refusal). IfOk r (λ e. e.slot < g.D.Domain.settings.slots)) c.in_ok-entry.ensures.fit.2 c.entry_for-given.ensures.within, takes.vacant)
+
+pub publish-entry-requires-clause-free : goal.publish-entry-requires-clause-free
+publish-entry-requires-clause-free g c =
+    (taken_tells g.D.Domain.settings c.args.keeper.now c.args.cpu.now c.hear_cpu.new.keeper c.args.rec c.in_ok-entry.entry c.hear_cpu.ensures.keeper (sym c.entry_for-given.ensures.value ∙ c.in_ok-entry.ensures.fit.2)).free
+
+pub publish-entry-requires-clause-room : goal.publish-entry-requires-clause-room
+publish-entry-requires-clause-room g c =
+    (taken_tells g.D.Domain.settings c.args.keeper.now c.args.cpu.now c.hear_cpu.new.keeper c.args.rec c.in_ok-entry.entry c.hear_cpu.ensures.keeper (sym c.entry_for-given.ensures.value ∙ c.in_ok-entry.ensures.fit.2)).room
 
 pub publish-entry-requires-clause-keeps : goal.publish-entry-requires-clause-keeps
 publish-entry-requires-clause-keeps g c =
-    let tells = taken_tells g.D.Domain.settings c.args.keeper.now c.args.cpu.now c.hear_cpu.new.keeper c.args.rec c.in_ok-slot.slot c.hear_cpu.ensures.keeper c.in_ok-slot.ensures.value in
-    let other : is_iface c.args.rec.kind ≡ false = search rules in
-    driver_keeps _ c.args.rec.kind tells.1 other
+    let takes = taken_tells g.D.Domain.settings c.args.keeper.now c.args.cpu.now c.hear_cpu.new.keeper c.args.rec c.in_ok-entry.entry c.hear_cpu.ensures.keeper (sym c.entry_for-given.ensures.value ∙ c.in_ok-entry.ensures.fit.2) in
+    driver_keeps _ c.args.rec.kind takes.nothing (sym c.is_iface.ensures ∙ c.in_ok-entry.ensures.fit.1)
+
+pub returns-clause-answer : goal.returns-clause-answer
+returns-clause-answer g c =
+    let takes = taken_tells g.D.Domain.settings c.args.keeper.now c.args.cpu.now c.hear_cpu.new.keeper c.args.rec c.in_ok-entry.entry c.hear_cpu.ensures.keeper (sym c.entry_for-given.ensures.value ∙ c.in_ok-entry.ensures.fit.2) in
+    let inside = inside_is c.inside.result c.args.cpu.now.view.begin c.inside.ensures in
+    ap (λ (e : Entry). Ok e) (c.publish-entry.ensures.entry ∙ takes.entry) ∙ (c.in_ok-entry.ensures.value ∙ (λ i. attach_answer (inside i) (c.is_iface.ensures i) (c.entry_for-given.ensures.value i)))
+
+pub returns-in_err-entry-clause-answer : goal.returns-in_err-entry-clause-answer
+returns-in_err-entry-clause-answer g c =
+    let inside = inside_is c.inside.result c.args.cpu.now.view.begin c.inside.ensures in
+    handed_on c.from_residual.result c.in_err-entry.field-0.0 c.from_residual.ensures.0 c.from_residual.ensures.1 ∙ (c.in_err-entry.ensures.value ∙ (λ i. attach_answer (inside i) (c.is_iface.ensures i) (c.entry_for-given.ensures.value i)))
 
 pub returns-clause-ok : goal.returns-clause-ok
 returns-clause-ok g c =

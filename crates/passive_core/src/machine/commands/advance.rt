@@ -7,8 +7,9 @@ ghost use Rattle.std.specs.Prelude.{◌≡◌, ◌<◌, IfSome, ℕ, Some, None,
 ghost use Rattle.registry_values.specs.declared.entry.Entry.{Entry as AnEntry};
 ghost use Rattle.registry_values.specs.declared.slot.Slot.TheVariants.{Retired};
 ghost use Rattle.registry_values.specs.Slots.{is_retired_as, retired_slot, is_retired, slot_at};
-ghost use Rattle.passive_core.specs.Advancing.{is_open_since, has_passive, advance_answer, plain_stage, stage_of, AdvanceLeaves, StageLeaves, Settles, Empties, Gathers, HoldersAreOpen, MarksPass};
+ghost use Rattle.passive_core.specs.Advancing.{is_open_since, has_passive, advance_answer, plain_stage, AdvanceLeaves, StageLeaves, Settles, Empties, Gathers, HoldersAreOpen, MarksPass};
 ghost use Rattle.registry_values.specs.Marks.{least_below};
+ghost use Rattle.registry_values.specs.Stages.{stage_of};
 ghost use Rattle.protocol.specs.Marking.{MarksGrow, AllPassed, AllClear, AllCollected};
 ghost use Rattle.passive_core.specs.Commands.{may_act};
 ghost use Rattle.protocol.specs.Events.{is_drained};

@@ -12,10 +12,13 @@ ghost use Rattle.protocol.specs.Events.{after_publish, after_row_store, after_se
 ghost use Rattle.protocol.specs.Invariant.{Holds};
 ghost use Rattle.registry_values.specs.Names.{is_lawful};
 
-use crate::machine::search::kind_word;
+use crate::machine::drain::is_driver_slot;
 use crate::machine::{Core, make_room};
 use protocol::{Event, LocalPlace, RecordWords};
-use registry_values::{BIAS, Entry, Key, Kind, Record, Refusal, Slot, is_plain};
+use registry_values::{
+    BIAS, Entry, Key, Record, Refusal, Slot, attach_answer, given_entry, is_iface, is_plain,
+    kind_word,
+};
 
 /// The words of a slot and the seats as an attach found them.
 #[derive(Clone, Copy)]
@@ -44,13 +47,8 @@ impl Core {
         ensures ready { (d : ℕ) → may_act self.old d ≡ true → may_act self.new d ≡ true }
     {
         let _ = &self.settings;
-        if self.inside(c) {
-            return Err(Refusal::Inside);
-        }
-        if is_iface(rec.kind) {
-            return Err(Refusal::NeedsDriver);
-        }
-        let entry = self.given_entry(rec)?;
+        let given = self.given_entry(rec);
+        let entry = attach_answer(self.inside(c), is_iface(rec.kind), given)?;
         self.make_room()?;
         let before = self.words_before(entry.slot);
         self.begin_change(c);
@@ -86,13 +84,8 @@ impl Core {
         ensures ready { (d : ℕ) → may_act self.old d ≡ true → may_act self.new d ≡ true }
     {
         let _ = &self.settings;
-        if self.inside(c) {
-            return Err(Refusal::Inside);
-        }
-        if !self.is_to_driver(id) {
-            return Err(Refusal::NeedsDriver);
-        }
-        let entry = self.given_entry(rec)?;
+        let given = self.given_entry(rec);
+        let entry = attach_answer(self.inside(c), !self.is_to_driver(id), given)?;
         self.make_room()?;
         let before = self.words_before(entry.slot);
         let place = self.local_at(id);
@@ -155,10 +148,7 @@ impl Core {
         let Some(t) = self.slot_of(number) else {
             return false;
         };
-        match self.slot_at(t) {
-            Slot::Vacant => false,
-            Slot::Live(entry) | Slot::Retired(entry) => entry.rec.kind == Kind::Driver,
-        }
+        is_driver_slot(&self.slot_at(t))
     }
 
     /// The least slot that is vacant and keeps nothing.
@@ -181,17 +171,7 @@ impl Core {
             kind: rec.kind,
             name: rec.name,
         };
-        if self.is_taken(key) {
-            return Err(Refusal::NameTaken);
-        }
-        let Some(slot) = self.plain_slot() else {
-            return Err(Refusal::NoSlot);
-        };
-        if !self.has_room() {
-            return Err(Refusal::HistoryFull);
-        }
-        let number = self.changes() + 1;
-        Ok(Entry { number, slot, rec })
+        given_entry(rec, self.is_taken(key), self.plain_slot(), self.room())
     }
 
     /// Makes room for one more change. Refused: `NoMemory`. Nothing that the core shows changes.
@@ -307,12 +287,6 @@ impl Core {
             Err(_) => Err(Refusal::NoMemory),
         }
     }
-}
-
-fn is_iface(kind: Kind) -> bool
-    ensures { result ≡ is_iface kind }
-{
-    kind == Kind::Iface
 }
 
 fn plain_place(slots: &[Slot], keeps: &[Option<u64>]) -> Option<usize>

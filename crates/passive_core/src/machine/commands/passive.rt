@@ -8,12 +8,13 @@ ghost use Rattle.protocol.specs.State.{found_at, at_rest};
 ghost use Rattle.registry_values.specs.Slots.{slot_of};
 ghost use Rattle.protocol.specs.declared.event.Reply.TheVariants.{Word};
 ghost use Rattle.passive_core.specs.Passives.{passive_of, acquired, refusal_of, copied, IsOneMore, IsOneLess, IsRecordOf, IsWordLoad, after_acquire, after_release, after_read, with_one_more, with_one_less};
+ghost use Rattle.registry_values.specs.Answers.{why_full};
 ghost use Rattle.registry_values.specs.Refusals.{Answers};
 
 use crate::machine::Core;
 use crate::psref::CorePsref;
 use protocol::{Event, RecordOf, Reply};
-use registry_values::{Record, Refusal, record_from};
+use registry_values::{Record, Refusal, record_from, why_full, why_unusable};
 
 impl Core {
     /// Acquires a passive reference to the CPU's last found entry (psref(9)). It outlives the section, and the entry's slot
@@ -35,8 +36,8 @@ impl Core {
         let Some(found) = self.found_at(c) else {
             return Err(Refusal::NothingFound);
         };
-        if !self.has_passive_room(c, found.number) {
-            return Err(Refusal::PassiveFull);
+        if let Some(refusal) = self.why_full(c, found.number) {
+            return Err(refusal);
         }
         self.add_passive(c, found.number);
         Ok(CorePsref {
@@ -63,8 +64,8 @@ impl Core {
         if let Some(refusal) = self.refusal_of(c, psref) {
             return Err(refusal);
         }
-        if !self.has_passive_room(c, psref.number) {
-            return Err(Refusal::PassiveFull);
+        if let Some(refusal) = self.why_full(c, psref.number) {
+            return Err(refusal);
         }
         self.add_passive(c, psref.number);
         Ok(psref)
@@ -200,12 +201,13 @@ impl Core {
         }
     }
 
-    /// Whether the CPU may have one passive reference more to that number.
-    fn has_passive_room(&self, c: u8, number: u64) -> bool
+    /// Why the CPU may not have one passive reference more to that number.
+    fn why_full(&self, c: u8, number: u64) -> Option<Refusal>
         requires { c < self.now.settings.cpus }
-        ensures { result ≡ nat_lt (passive_of self.now c number) self.now.settings.passive_limit }
+        ensures value { result ≡ why_full (passive_of self.now c number) self.now.settings.passive_limit }
+        ensures room { result ≡ None → nat_lt (passive_of self.now c number) self.now.settings.passive_limit ≡ true }
     {
-        self.passive_of(c, number) < self.settings.passive_limit
+        why_full(self.passive_of(c, number), self.settings.passive_limit)
     }
 
     /// Why the CPU may not use the reference.
@@ -213,12 +215,6 @@ impl Core {
         requires { c < self.now.settings.cpus }
         ensures { result ≡ refusal_of self.now c psref }
     {
-        if psref.cpu != c {
-            Some(Refusal::WrongCpu)
-        } else if self.held(c, psref) {
-            None
-        } else {
-            Some(Refusal::NotHeld)
-        }
+        why_unusable(psref.cpu == c, self.held(c, psref))
     }
 }

@@ -11,7 +11,7 @@ ghost use Rattle.protocol.specs.State.{at_rest, section_at};
 
 use crate::machine::Core;
 use protocol::{Event, Reply};
-use registry_values::{Refusal, first_unseen, is_out, retired_number};
+use registry_values::{Refusal, first_unseen, is_out, retired_number, waiting_for};
 
 impl Core {
     /// Waits on behalf of the CPU `c`, for at most `turns` turns, until each section that is open as the call begins has
@@ -36,9 +36,7 @@ impl Core {
         }
         let retired = self.retired_numbers();
         self.seat_all();
-        if let Some(d) = self.wait_for_sections(turns) {
-            return Err(Refusal::Waiting(d));
-        }
+        waiting_for(self.wait_for_sections(turns))?;
         self.pass_all(&retired);
         Ok(())
     }

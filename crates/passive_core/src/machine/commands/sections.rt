@@ -2,16 +2,13 @@
 
 ghost use Rattle.std.specs.Prelude.{◌≡◌, ◌<◌, ◌≤◌, ℕ, true};
 ghost use Rattle.passive_core.specs.Commands.{all_seated, may_act};
-ghost use Rattle.passive_core.specs.Entering.{enter_answer, after_enter_command, after_exit_command, with_depth};
+ghost use Rattle.passive_core.specs.Entering.{enter_answer, may_begin, after_enter_command, after_exit_command, with_depth};
 ghost use Rattle.protocol.specs.Events.{is_idle, is_inside};
 ghost use Rattle.protocol.specs.State.{at_rest, depth_at};
 
 use crate::machine::Core;
 use protocol::Event;
-use registry_values::Refusal;
-
-/// How deep a section may be nested.
-const DEEPEST: u8 = 255;
+use registry_values::{Refusal, enter_answer};
 
 impl Core {
     /// Whether the CPU is inside a section.
@@ -54,15 +51,11 @@ impl Core {
         ensures ready { (d : ℕ) → may_act self.old d ≡ true → may_act self.new d ≡ true }
     {
         let depth = self.depth(c);
-        if depth == DEEPEST {
-            return Err(Refusal::TooDeep);
-        }
-        if self.inside(c) {
+        let inside = self.inside(c);
+        enter_answer(depth, !inside, self.may_begin(c))?;
+        if inside {
             self.set_depth(c, depth + 1);
             return Ok(());
-        }
-        if self.section_at(c) >= 2 * self.settings.section_limit {
-            return Err(Refusal::SectionsSpent);
         }
         self.seat_for(c);
         self.make(Event::Enter(c));
@@ -90,6 +83,14 @@ impl Core {
         } else {
             self.set_depth(c, depth - 1);
         }
+    }
+
+    /// Whether the CPU has begun fewer sections than it may.
+    fn may_begin(&self, c: u8) -> bool
+        requires { c < self.now.settings.cpus }
+        ensures { result ≡ may_begin self.now c }
+    {
+        self.section_at(c) < 2 * self.settings.section_limit
     }
 
     /// Seats every CPU for a command of this one, which is idle then.

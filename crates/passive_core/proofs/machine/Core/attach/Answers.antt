@@ -1,15 +1,25 @@
 use Rattle.std.proofs.Common.{◌≡◌, true, subst, sym, ◌∙◌}
+use Rattle.std.specs.Prelude.{Result}
+use Rattle.registry_values.specs.declared.entry.Entry.{Entry}
+use Rattle.registry_values.specs.declared.refusal.Refusal.{Refusal}
+use Rattle.registry_values.proofs.Answers.{handed_on}
+use Rattle.passive_core.specs.Attaching.{IsAnswer, attach_answer}
 use Rattle.passive_core.specs.Commands.{may_act}
 use Rattle.protocol.specs.Invariant.{Holds}
-use Rattle.passive_core.proofs.Attaching.{call_acts, call_restored, driver_links}
+use Rattle.passive_core.proofs.Attaching.{answer_refused, call_acts, call_restored, driver_links}
 use Rattle.passive_core.proofs.machine.Core.attach.Goals as goal
+
+pub returns-in_err-entry-clause-answer : goal.returns-in_err-entry-clause-answer
+returns-in_err-entry-clause-answer c = subst (λ (r : Result Entry Refusal). IsAnswer (attach_answer c.args.self.now c.args.c c.args.rec) r)
+    (sym (handed_on c.from_residual.result c.in_err-entry.field-0.0 c.from_residual.ensures.0 c.from_residual.ensures.1))
+    (answer_refused _ _ _ _ _ _ _ c.inside.ensures c.is_iface.ensures c.given_entry-given.ensures.value c.in_err-entry.ensures.value)
 
 pub prepare-requires : goal.prepare-requires
 prepare-requires c =
     let s = c.args.self.now in
     let e = c.in_ok-entry.entry in
     let on = subst Holds c.self.view_is c.self.invariant in
-    let may = driver_links s c.args.rec e on c.requires.rest (sym c.in_ok-entry.ensures.value) (sym c.is_iface.ensures ∙ c.if-is_iface.false) c.requires.lawful in
+    let may = driver_links s c.args.rec e on c.requires.rest (sym c.given_entry-given.ensures.value ∙ c.in_ok-entry.ensures.fit.2) (sym c.is_iface.ensures ∙ c.in_ok-entry.ensures.fit.1) c.requires.lawful in
     rw (c.begin_change.ensures.after, c.in_ok-make_room.ensures.same) may.writes
 
 pub link-requires : goal.link-requires
@@ -17,7 +27,7 @@ link-requires c =
     let s = c.args.self.now in
     let e = c.in_ok-entry.entry in
     let on = subst Holds c.self.view_is c.self.invariant in
-    let may = driver_links s c.args.rec e on c.requires.rest (sym c.in_ok-entry.ensures.value) (sym c.is_iface.ensures ∙ c.if-is_iface.false) c.requires.lawful in
+    let may = driver_links s c.args.rec e on c.requires.rest (sym c.given_entry-given.ensures.value ∙ c.in_ok-entry.ensures.fit.2) (sym c.is_iface.ensures ∙ c.in_ok-entry.ensures.fit.1) c.requires.lawful in
     rw (c.prepare.ensures, c.begin_change.ensures.after, c.in_ok-make_room.ensures.same) may.links
 
 pub restore-requires-clause-holds : goal.restore-requires-clause-holds

@@ -1,35 +1,46 @@
-use Rattle.std.proofs.Common.{◌≡◌, true, subst, sym, ◌∙◌}
+use Rattle.std.proofs.Common.{◌≡◌, true, not, subst, sym, ap, ◌∙◌}
+use Rattle.std.proofs.lemmas.Bool.{not-false}
+use Rattle.std.specs.Prelude.{Result}
+use Rattle.registry_values.specs.declared.entry.Entry.{Entry}
+use Rattle.registry_values.specs.declared.refusal.Refusal.{Refusal}
+use Rattle.registry_values.proofs.Answers.{handed_on}
+use Rattle.passive_core.specs.Attaching.{IsAnswer, attach_iface_answer}
 use Rattle.passive_core.specs.Commands.{may_act}
 use Rattle.protocol.specs.Invariant.{Holds}
-use Rattle.passive_core.proofs.Attaching.{PlugSteps, call_acts, iface_links, plug_restored, plug_words_restored}
+use Rattle.passive_core.proofs.Attaching.{PlugSteps, answer_refused, call_acts, iface_links, plug_restored, plug_words_restored}
 use Rattle.passive_core.proofs.machine.Core.attach_iface.Goals as goal
+
+pub returns-in_err-entry-clause-answer : goal.returns-in_err-entry-clause-answer
+returns-in_err-entry-clause-answer c = subst (λ (r : Result Entry Refusal). IsAnswer (attach_iface_answer c.args.self.now c.args.c c.args.rec c.args.id) r)
+    (sym (handed_on c.from_residual.result c.in_err-entry.field-0.0 c.from_residual.ensures.0 c.from_residual.ensures.1))
+    (answer_refused _ _ _ _ _ _ _ c.inside.ensures (ap not c.is_to_driver.ensures) c.given_entry-given.ensures.value c.in_err-entry.ensures.value)
 
 pub keep-requires-clause-write : goal.keep-requires-clause-write
 keep-requires-clause-write c =
     let s = c.args.self.now in
     let on = subst Holds c.self.view_is c.self.invariant in
-    let may = iface_links s c.args.rec c.in_ok-entry.entry c.args.id on c.requires.rest (sym c.in_ok-entry.ensures.value) (sym c.is_to_driver.ensures ∙ c.if-not-is_to_driver.false) c.requires.iface c.requires.lawful in
+    let may = iface_links s c.args.rec c.in_ok-entry.entry c.args.id on c.requires.rest (sym c.given_entry-given.ensures.value ∙ c.in_ok-entry.ensures.fit.2) (sym c.is_to_driver.ensures ∙ not-false c.is_to_driver.result c.in_ok-entry.ensures.fit.1) c.requires.iface c.requires.lawful in
     rw (c.begin_change.ensures.after, c.in_ok-make_room.ensures.same) may.writes
 
 pub keep-requires-clause-nothing : goal.keep-requires-clause-nothing
 keep-requires-clause-nothing c =
     let s = c.args.self.now in
     let on = subst Holds c.self.view_is c.self.invariant in
-    let may = iface_links s c.args.rec c.in_ok-entry.entry c.args.id on c.requires.rest (sym c.in_ok-entry.ensures.value) (sym c.is_to_driver.ensures ∙ c.if-not-is_to_driver.false) c.requires.iface c.requires.lawful in
+    let may = iface_links s c.args.rec c.in_ok-entry.entry c.args.id on c.requires.rest (sym c.given_entry-given.ensures.value ∙ c.in_ok-entry.ensures.fit.2) (sym c.is_to_driver.ensures ∙ not-false c.is_to_driver.result c.in_ok-entry.ensures.fit.1) c.requires.iface c.requires.lawful in
     rw (c.begin_change.ensures.after, c.in_ok-make_room.ensures.same) may.empty
 
 pub prepare-requires : goal.prepare-requires
 prepare-requires c =
     let s = c.args.self.now in
     let on = subst Holds c.self.view_is c.self.invariant in
-    let may = iface_links s c.args.rec c.in_ok-entry.entry c.args.id on c.requires.rest (sym c.in_ok-entry.ensures.value) (sym c.is_to_driver.ensures ∙ c.if-not-is_to_driver.false) c.requires.iface c.requires.lawful in
+    let may = iface_links s c.args.rec c.in_ok-entry.entry c.args.id on c.requires.rest (sym c.given_entry-given.ensures.value ∙ c.in_ok-entry.ensures.fit.2) (sym c.is_to_driver.ensures ∙ not-false c.is_to_driver.result c.in_ok-entry.ensures.fit.1) c.requires.iface c.requires.lawful in
     rw (c.keep.ensures, c.begin_change.ensures.after, c.in_ok-make_room.ensures.same) may.links.writes
 
 pub link-requires : goal.link-requires
 link-requires c =
     let s = c.args.self.now in
     let on = subst Holds c.self.view_is c.self.invariant in
-    let may = iface_links s c.args.rec c.in_ok-entry.entry c.args.id on c.requires.rest (sym c.in_ok-entry.ensures.value) (sym c.is_to_driver.ensures ∙ c.if-not-is_to_driver.false) c.requires.iface c.requires.lawful in
+    let may = iface_links s c.args.rec c.in_ok-entry.entry c.args.id on c.requires.rest (sym c.given_entry-given.ensures.value ∙ c.in_ok-entry.ensures.fit.2) (sym c.is_to_driver.ensures ∙ not-false c.is_to_driver.result c.in_ok-entry.ensures.fit.1) c.requires.iface c.requires.lawful in
     rw (c.prepare.ensures, c.keep.ensures, c.begin_change.ensures.after, c.in_ok-make_room.ensures.same) may.links.links
 
 pub restore-requires-clause-holds : goal.restore-requires-clause-holds
@@ -37,7 +48,7 @@ restore-requires-clause-holds c =
     let s = c.args.self.now in
     let e = c.in_ok-entry.entry in
     let on = subst Holds c.self.view_is c.self.invariant in
-    let may = iface_links s c.args.rec e c.args.id on c.requires.rest (sym c.in_ok-entry.ensures.value) (sym c.is_to_driver.ensures ∙ c.if-not-is_to_driver.false) c.requires.iface c.requires.lawful in
+    let may = iface_links s c.args.rec e c.args.id on c.requires.rest (sym c.given_entry-given.ensures.value ∙ c.in_ok-entry.ensures.fit.2) (sym c.is_to_driver.ensures ∙ not-false c.is_to_driver.result c.in_ok-entry.ensures.fit.1) c.requires.iface c.requires.lawful in
     let steps : PlugSteps s c.make_room.new.self c.begin_change.new.self c.keep.new.self c.prepare.new.self c.link.new.self e c.args.id c.words_before-before.result = record {
       same = c.in_ok-make_room.ensures.same;
       saved = c.words_before-before.ensures;
@@ -53,7 +64,7 @@ give_back-requires-clause-holds c =
     let s = c.args.self.now in
     let e = c.in_ok-entry.entry in
     let on = subst Holds c.self.view_is c.self.invariant in
-    let may = iface_links s c.args.rec e c.args.id on c.requires.rest (sym c.in_ok-entry.ensures.value) (sym c.is_to_driver.ensures ∙ c.if-not-is_to_driver.false) c.requires.iface c.requires.lawful in
+    let may = iface_links s c.args.rec e c.args.id on c.requires.rest (sym c.given_entry-given.ensures.value ∙ c.in_ok-entry.ensures.fit.2) (sym c.is_to_driver.ensures ∙ not-false c.is_to_driver.result c.in_ok-entry.ensures.fit.1) c.requires.iface c.requires.lawful in
     let steps : PlugSteps s c.make_room.new.self c.begin_change.new.self c.keep.new.self c.prepare.new.self c.link.new.self e c.args.id c.words_before-before.result = record {
       same = c.in_ok-make_room.ensures.same;
       saved = c.words_before-before.ensures;
@@ -70,7 +81,7 @@ returns-in-Err-clause-after c =
     let s = c.args.self.now in
     let e = c.in_ok-entry.entry in
     let on = subst Holds c.self.view_is c.self.invariant in
-    let may = iface_links s c.args.rec e c.args.id on c.requires.rest (sym c.in_ok-entry.ensures.value) (sym c.is_to_driver.ensures ∙ c.if-not-is_to_driver.false) c.requires.iface c.requires.lawful in
+    let may = iface_links s c.args.rec e c.args.id on c.requires.rest (sym c.given_entry-given.ensures.value ∙ c.in_ok-entry.ensures.fit.2) (sym c.is_to_driver.ensures ∙ not-false c.is_to_driver.result c.in_ok-entry.ensures.fit.1) c.requires.iface c.requires.lawful in
     let steps : PlugSteps s c.make_room.new.self c.begin_change.new.self c.keep.new.self c.prepare.new.self c.link.new.self e c.args.id c.words_before-before.result = record {
       same = c.in_ok-make_room.ensures.same;
       saved = c.words_before-before.ensures;

@@ -1,4 +1,5 @@
 use Rattle.std.proofs.Common.{◌≡◌, ◌<◌, true, false, refl, sym, ap, subst, ◌∙◌, None}
+use Rattle.registry_values.specs.Answers.{waiting_for}
 use Rattle.registry_values.specs.Marks.{least_below}
 use Rattle.passive_core.specs.Commands.{all_seated, may_act}
 use Rattle.protocol.specs.Events.{is_inside}
@@ -6,21 +7,28 @@ use Rattle.protocol.specs.Invariant.{Holds}
 use Rattle.passive_core.specs.Performing.{AllOutside, OnlyPasses}
 use Rattle.registry_values.specs.Slots.{retired_number, is_retired, slot_at}
 use Rattle.protocol.specs.State.{State}
+use Rattle.registry_values.proofs.Answers.{handed_on}
 use Rattle.registry_values.proofs.Least.{least_none}
 use Rattle.passive_core.proofs.Acting.{acting_on}
 use Rattle.passive_core.proofs.machine.Core.perform.Goals as goal
 
-pub returns-in-Some-clause-ready : goal.returns-in-Some-clause-ready
-returns-in-Some-clause-ready c = λ d acts.
+pub returns-in_err-waiting_for-clause-ready : goal.returns-in_err-waiting_for-clause-ready
+returns-in_err-waiting_for-clause-ready c = λ d acts.
     let s = c.args.self.now in
     let seated : c.wait_for_sections.new.self ≡ all_seated s = c.wait_for_sections.ensures.same ∙ c.seat_all.ensures in
     ap (λ (x : State). may_act x d) seated ∙ acting_on s d (subst Holds c.self.view_is c.self.invariant) acts
+
+pub returns-in_err-waiting_for-clause-answer : goal.returns-in_err-waiting_for-clause-answer
+returns-in_err-waiting_for-clause-answer c =
+    let least : c.wait_for_sections.result ≡ least_below (is_inside c.args.self.now) c.args.self.now.settings.cpus = c.wait_for_sections.ensures.answer ∙ ap (λ (x : State). least_below (is_inside x) x.settings.cpus) c.seat_all.ensures in
+    let outside : is_inside c.args.self.now c.args.c ≡ false = sym c.inside.ensures ∙ c.if-inside.false in
+    rw outside (handed_on c.from_residual.result c.in_err-waiting_for.field-0.0 c.from_residual.ensures.0 c.from_residual.ensures.1 ∙ (c.in_err-waiting_for.ensures.value ∙ ap waiting_for least))
 
 pub pass_all-requires-clause-outside : goal.pass_all-requires-clause-outside
 pass_all-requires-clause-outside c =
     let s = c.args.self.now in
     let seated : c.wait_for_sections.new.self ≡ all_seated s = c.wait_for_sections.ensures.same ∙ c.seat_all.ensures in
-    let none : least_below (is_inside s) s.settings.cpus ≡ None = ap (λ (x : State). least_below (is_inside x) x.settings.cpus) (sym c.seat_all.ensures) ∙ (sym c.wait_for_sections.ensures.answer ∙ c.in_default.is) in
+    let none : least_below (is_inside s) s.settings.cpus ≡ None = ap (λ (x : State). least_below (is_inside x) x.settings.cpus) (sym c.seat_all.ensures) ∙ (sym c.wait_for_sections.ensures.answer ∙ c.in_ok-waiting_for.ensures.none) in
     subst AllOutside (sym seated) (least_none (is_inside s) s.settings.cpus none)
 
 pub pass_all-requires-clause-numbers : goal.pass_all-requires-clause-numbers
@@ -33,7 +41,7 @@ pub returns-clause-answer : goal.returns-clause-answer
 returns-clause-answer c =
     let s = c.args.self.now in
     let seated : c.wait_for_sections.new.self ≡ all_seated s = c.wait_for_sections.ensures.same ∙ c.seat_all.ensures in
-    let none : least_below (is_inside s) s.settings.cpus ≡ None = ap (λ (x : State). least_below (is_inside x) x.settings.cpus) (sym c.seat_all.ensures) ∙ (sym c.wait_for_sections.ensures.answer ∙ c.in_default.is) in
+    let none : least_below (is_inside s) s.settings.cpus ≡ None = ap (λ (x : State). least_below (is_inside x) x.settings.cpus) (sym c.seat_all.ensures) ∙ (sym c.wait_for_sections.ensures.answer ∙ c.in_ok-waiting_for.ensures.none) in
     let outside : is_inside s c.args.c ≡ false = sym c.inside.ensures ∙ c.if-inside.false in
     rw (outside, none) refl
 

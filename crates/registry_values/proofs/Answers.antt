@@ -1,0 +1,42 @@
+-- What the answer of an attach says of its parts, where it is an entry.
+use Rattle.std.proofs.Common.{◌≡◌, ℕ, Bool, true, false, Option, Some, None, Result, Ok, Err, if◌then◌else◌, refl, sym, ap, ◌∙◌}
+use Rattle.std.specs.Prelude.{IsErr, IsErrAnd}
+use Rattle.registry_values.specs.declared.answer.Room.{Room}
+use Rattle.registry_values.specs.declared.entry.Entry.{Entry}
+use Rattle.registry_values.specs.declared.entry.Record.{Record}
+use Rattle.registry_values.specs.declared.refusal.Refusal.{Refusal}
+use Rattle.registry_values.specs.declared.refusal.Refusal.TheVariants.{NameTaken, NoSlot, HistoryFull, Inside, NeedsDriver}
+use Rattle.registry_values.specs.Answers.{has_room, next_entry, entry_in, given_entry, attach_answer}
+
+-- what is so where an entry is given
+pub record IsGiven (taken : Bool) (plain : Option ℕ) (room : Room) (rec : Record) (e : Entry) : Type 0 where
+  pub free : taken ≡ false
+  pub place : plain ≡ Some e.slot
+  pub fits : has_room room ≡ true
+  pub entry : e ≡ next_entry room.changes rec e.slot
+
+room_if : (b : Bool) (e f : Entry) → ◌≡◌ {A = Result Entry Refusal} (if b then Ok f else Err HistoryFull) (Ok e) → (b ≡ true) × (e ≡ f)
+room_if true e f is = (refl, let q : ◌≡◌ {A = Result Entry Refusal} (Ok f) (Ok e) = is in cc)
+room_if false e f is = absurd (let q : ◌≡◌ {A = Result Entry Refusal} (Err HistoryFull) (Ok e) = is in cc)
+
+place_if : (plain : Option ℕ) (room : Room) (rec : Record) (e : Entry) → entry_in plain room rec ≡ Ok e → IsGiven false plain room rec e
+place_if None room rec e is = absurd (let q : ◌≡◌ {A = Result Entry Refusal} (Err NoSlot) (Ok e) = is in cc)
+place_if (Some t) room rec e is =
+    let told = room_if (has_room room) e (next_entry room.changes rec t) is in
+    let at : e.slot ≡ t = ap (λ (x : Entry). x.slot) told.1 in
+    record { free = refl; place = ap Some (sym at); fits = told.0; entry = told.1 ∙ ap (next_entry room.changes rec) (sym at) }
+
+pub given_tells : (taken : Bool) (plain : Option ℕ) (room : Room) (rec : Record) (e : Entry) → given_entry taken plain room rec ≡ Ok e → IsGiven taken plain room rec e
+given_tells true plain room rec e is = absurd (let q : ◌≡◌ {A = Result Entry Refusal} (Err NameTaken) (Ok e) = is in cc)
+given_tells false plain room rec e is = place_if plain room rec e is
+
+-- the caller is outside, the entry fits the call, and it is the one given
+pub attach_tells : (inside unfit : Bool) (given : Result Entry Refusal) (e : Entry) → attach_answer inside unfit given ≡ Ok e → (inside ≡ false) × (unfit ≡ false) × (given ≡ Ok e)
+attach_tells true unfit given e is = absurd (let q : ◌≡◌ {A = Result Entry Refusal} (Err Inside) (Ok e) = is in cc)
+attach_tells false true given e is = absurd (let q : ◌≡◌ {A = Result Entry Refusal} (Err NeedsDriver) (Ok e) = is in cc)
+attach_tells false false given e is = (refl, refl, is)
+
+-- a refusal that a `?` hands on is the one that came
+pub handed_on : {X : Type 0} (result : Result X Refusal) (f : Refusal) → IsErr result → IsErrAnd result (λ r. r ≡ f) → result ≡ Err f
+handed_on (Ok x) f is and = absurd (let q : ◌≡◌ {A = Bool} false true = is in cc)
+handed_on (Err r) f is and = ap (λ (g : Refusal). Err g) and

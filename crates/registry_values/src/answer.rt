@@ -1,0 +1,125 @@
+//! What a call answers, by plain values: where the caller is, what stands in the slots, and how far the history and the counts have come.
+
+ghost use Rattle.std.specs.Prelude.{◌≡◌, ◌<◌, nat_lt, IfOk, Ok, Some, None, true, false};
+ghost use Rattle.registry_values.specs.Answers.{attach_answer, enter_answer, given_entry, has_room, waiting_for, why_full, why_unusable};
+
+use crate::entry::{Entry, Record};
+use crate::refusal::Refusal;
+
+/// How deep a section may be nested.
+const DEEPEST: u8 = 255;
+
+/// What an attach asks of the history.
+#[derive(Clone, Copy, Debug, PartialEq, Eq)]
+pub struct Room {
+    /// How many changes there were: attaches and detaches.
+    pub changes: u64,
+    /// How many entries are live.
+    pub live: u8,
+    /// How many changes the history may have.
+    pub limit: u64,
+}
+
+/// Whether the history has room for an attach and for the detach of each entry that is live then.
+pub fn has_room(room: Room) -> bool
+    ensures { result ≡ has_room room }
+{
+    let wanted = u64::from(room.live) + 2;
+    wanted <= room.limit && room.changes <= room.limit - wanted
+}
+
+/// The entry that an attach of the record makes: its number is that of the next change, from 1, and its slot is the least plain one.
+/// Refused, in this order: `NameTaken` where a live entry has its kind and name; `NoSlot` where no slot is plain; `HistoryFull` where the
+/// history has no room for this attach and the detach of each entry that is live then.
+pub fn given_entry(
+    rec: Record,
+    is_taken: bool,
+    plain: Option<u8>,
+    room: Room,
+) -> Result<Entry, Refusal>
+    ensures value { result ≡ given_entry is_taken plain room rec }
+    ensures slot { IfOk result (λ entry. plain ≡ Some entry.slot) }
+{
+    if is_taken {
+        return Err(Refusal::NameTaken);
+    }
+    let Some(slot) = plain else {
+        return Err(Refusal::NoSlot);
+    };
+    if !has_room(room) {
+        return Err(Refusal::HistoryFull);
+    }
+    let number = room.changes + 1;
+    Ok(Entry { number, slot, rec })
+}
+
+/// What an attach answers, by the entry that is given. Refused, in this order: `Inside` where the caller's CPU is inside a section;
+/// `NeedsDriver` where the call isn't for such an entry or such a reference; then as `given` is.
+pub fn attach_answer(
+    inside: bool,
+    unfit: bool,
+    given: Result<Entry, Refusal>,
+) -> Result<Entry, Refusal>
+    ensures value { result ≡ attach_answer inside unfit given }
+    ensures fit { IfOk result (λ entry. (inside ≡ false) × (unfit ≡ false) × (given ≡ Ok entry)) }
+{
+    if inside {
+        return Err(Refusal::Inside);
+    }
+    if unfit {
+        return Err(Refusal::NeedsDriver);
+    }
+    given
+}
+
+/// What an enter answers (pserialize(9)), on a CPU whose section has this depth. Refused, in this order: `TooDeep` where the depth is 255;
+/// `SectionsSpent` where a section would begin and the CPU may not begin one more.
+pub fn enter_answer(depth: u8, outside: bool, may_begin: bool) -> Result<(), Refusal>
+    ensures value { result ≡ enter_answer depth outside may_begin }
+    ensures may { IfOk result (λ _. (depth < 255) × (outside ≡ true → may_begin ≡ true)) }
+{
+    if depth == DEEPEST {
+        return Err(Refusal::TooDeep);
+    }
+    if outside && !may_begin {
+        return Err(Refusal::SectionsSpent);
+    }
+    Ok(())
+}
+
+/// What a wait answers whose least CPU that wasn't seen out of its section is this one (pserialize(9)). Refused: `Waiting`.
+pub fn waiting_for(first: Option<u8>) -> Result<(), Refusal>
+    ensures value { result ≡ waiting_for first }
+    ensures none { IfOk result (λ _. first ≡ None) }
+{
+    match first {
+        Some(cpu) => Err(Refusal::Waiting(cpu)),
+        None => Ok(()),
+    }
+}
+
+/// Why a CPU may not have one passive reference more to an entry, of which it has so many (psref(9)): `PassiveFull` at the limit.
+pub fn why_full(count: u64, limit: u64) -> Option<Refusal>
+    ensures value { result ≡ why_full count limit }
+    ensures room { result ≡ None → nat_lt count limit ≡ true }
+{
+    if count < limit {
+        None
+    } else {
+        Some(Refusal::PassiveFull)
+    }
+}
+
+/// Why a CPU may not use a passive reference (psref(9)): `WrongCpu` where the reference names another CPU, then `NotHeld` where this CPU
+/// holds none to that number.
+pub fn why_unusable(is_own: bool, is_held: bool) -> Option<Refusal>
+    ensures { result ≡ why_unusable is_own is_held }
+{
+    if !is_own {
+        return Some(Refusal::WrongCpu);
+    }
+    if !is_held {
+        return Some(Refusal::NotHeld);
+    }
+    None
+}
