@@ -8,4 +8,5 @@ pub mod Finding
 pub mod Locals
 pub mod Passives
 pub mod Performing
+pub mod Sameness
 pub mod Shown

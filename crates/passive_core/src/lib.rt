@@ -15,6 +15,3 @@ pub use registry_values::{
     BIAS, Balance, Change, Entry, Key, Kind, Mark, Name, NameFault, Record, Refusal, Settings,
     Slot, Stage, name_laws, record_from,
 };
-
-#[cfg(test)]
-mod tests;

@@ -8,6 +8,7 @@ mod local;
 mod passive;
 mod reading;
 mod run;
+mod sameness;
 mod search;
 mod sections;
 

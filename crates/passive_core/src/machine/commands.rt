@@ -45,14 +45,3 @@ impl Core {
         }
     }
 }
-
-#[cfg(test)]
-mod event_rows_tests;
-#[cfg(test)]
-mod memory_tests;
-#[cfg(test)]
-mod reference_tests;
-#[cfg(test)]
-mod rows;
-#[cfg(test)]
-mod rows_tests;

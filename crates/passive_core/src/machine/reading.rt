@@ -10,10 +10,26 @@ ghost use Rattle.registry_values.specs.Marks.{have_passed, are_clear, are_collec
 use crate::machine::Core;
 use protocol::{Due, Hand, LocalPlace, RecordWords, Search};
 use registry_values::{
-    Entry, Mark, Slot, are_clear, are_collected, has_number, have_passed, is_some_collected,
+    Entry, Mark, Settings, Slot, are_clear, are_collected, has_number, have_passed,
+    is_some_collected,
 };
 
 impl Core {
+    /// The settings that the core was made with.
+    pub fn settings(&self) -> Settings
+        ensures { result ≡ self.now.settings }
+    {
+        self.settings
+    }
+
+    /// The link at the head of the list: 1 more than the slot of the entry that was linked last, or 0 where the list is
+    /// empty.
+    pub fn head(&self) -> u64
+        ensures { result ≡ self.now.head }
+    {
+        self.head
+    }
+
     pub(crate) fn section_at(&self, c: u8) -> u64
         requires { c < self.now.settings.cpus }
         ensures value { result ≡ section_at self.now c }
@@ -54,7 +70,8 @@ impl Core {
         }
     }
 
-    pub(crate) fn found_at(&self, c: u8) -> Option<Entry>
+    /// The last found entry of the CPU, from 0; none where the CPU isn't known.
+    pub fn found_at(&self, c: u8) -> Option<Entry>
         ensures value { result ≡ found_at self.now c }
         ensures within { IfSome result (λ _. c < self.now.settings.cpus) }
     {
@@ -75,7 +92,8 @@ impl Core {
         }
     }
 
-    pub(crate) fn slot_at(&self, t: u8) -> Slot
+    /// What stands in the slot, from 0; vacant where the slot isn't known.
+    pub fn slot_at(&self, t: u8) -> Slot
         ensures value { result ≡ slot_at self.now.slots t }
     {
         if t < self.settings.slots {
@@ -99,7 +117,8 @@ impl Core {
         self.rows[t as usize]
     }
 
-    pub(crate) fn mark_at(&self, t: u8, c: u8) -> Mark
+    /// What the keeper has noted of the CPU, from 0, for the entry that is retired in the slot, from 0.
+    pub fn mark_at(&self, t: u8, c: u8) -> Mark
         requires slot { t < self.now.settings.slots }
         requires cpu { c < self.now.settings.cpus }
         ensures { result ≡ mark_at self.now.marks t c }
@@ -161,12 +180,17 @@ impl Core {
         }
     }
 
-    /// How many changes there were.
-    pub(crate) fn changes(&self) -> u64
+    /// How many changes the history has: attaches and detaches.
+    pub fn changes(&self) -> u64
         ensures value { result ≡ length self.now.history }
         ensures room { result < 9223372036854775808 }
     {
         self.history.len() as u64
+    }
+
+    /// Whether the next change asks for memory: the history is as long as what it has. No contract speaks of memory.
+    pub fn is_full(&self) -> bool {
+        self.history.len() == self.history.capacity()
     }
 
     /// Whether no operation of the keeper is half done.

@@ -1,8 +1,5 @@
 //! How far the destruction of a retired entry comes: one turn of the keeper's work on it.
 
-#[cfg(test)]
-mod tests;
-
 ghost use Rattle.std.specs.Prelude.{◌≡◌, ◌<◌, IfSome, ℕ, Some, None, true, false, not, length};
 ghost use Rattle.registry_values.specs.declared.entry.Entry.{Entry as AnEntry};
 ghost use Rattle.registry_values.specs.declared.slot.Slot.TheVariants.{Retired};

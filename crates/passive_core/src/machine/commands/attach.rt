@@ -298,6 +298,3 @@ fn plain_place(slots: &[Slot], keeps: &[Option<u64>]) -> Option<usize>
         .zip(keeps)
         .position(|(slot, kept)| is_plain(slot, *kept))
 }
-
-#[cfg(test)]
-mod tests;

@@ -95,6 +95,3 @@ impl Core {
         }
     }
 }
-
-#[cfg(test)]
-mod tests;

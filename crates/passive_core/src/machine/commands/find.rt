@@ -56,6 +56,3 @@ impl Core {
         }
     }
 }
-
-#[cfg(test)]
-pub(crate) mod tests;

@@ -1,3 +1,7 @@
+//! Names, records, settings, refusals and laws by their public calls.
+
+use super::data::USUAL;
+use passive_core::Core;
 use protocol::{
     balance_at_rest, every_run_keeps, grace_law, headline, lawful_answers, safe_reuse, worked_run,
 };
@@ -167,4 +171,31 @@ fn laws_end(_rt: HostRuntime) {
     balance_at_rest();
     grace_law();
     worked_run();
+}
+
+#[test]
+fn outer_settings(rt: HostRuntime) {
+    let most = 1_099_511_627_776;
+    let outside = [
+        Settings { cpus: 0, ..USUAL },
+        Settings { cpus: 9, ..USUAL },
+        Settings { slots: 33, ..USUAL },
+        Settings {
+            change_limit: 1_000_001,
+            ..USUAL
+        },
+        Settings {
+            section_limit: most + 1,
+            ..USUAL
+        },
+    ];
+    for settings in outside {
+        let made = Core::new(rt.alloc(), settings);
+        assert!(rt; matches!(made, Err(Refusal::BadSettings)), "{settings:?}");
+    }
+    let widest = Settings {
+        section_limit: most,
+        ..USUAL
+    };
+    assert!(rt; Core::new(rt.alloc(), widest).is_ok());
 }

@@ -1,0 +1,285 @@
+//! Want of memory: a refused call has changed nothing, and made again it answers as it would have at first.
+//!
+//! Where memory is ample these tests compare answers alone. `tools/refuse-memory.sh` refuses each of their allocations in
+//! turn; each refusal that is met is noted on standard error.
+
+use super::bench::{Ask, Line, Rec, Tally, Told, run};
+use super::data::{USUAL, VGA, WM0, WM0_IFACE};
+use super::give::give;
+use super::made::Made;
+use passive_core::{
+    BIAS, Core, Counted, Event, Kind, Name, RecordOf, Refusal, Reply, Settings, run_events,
+};
+use std::process::Abort;
+use std::test::Fail;
+
+const TTY: Rec = Rec {
+    kind: Kind::Driver,
+    text: b"tty",
+    value: 9,
+};
+
+const DISK: Rec = Rec {
+    kind: Kind::Driver,
+    text: b"disk",
+    value: 10,
+};
+
+const FOUR_SLOTS: Settings = Settings { slots: 4, ..USUAL };
+
+/// Of four slots 0 and 2 have live drivers, 1 has a retired one, and 3 is vacant. The history is as long as its memory.
+const STOCK: [Line; 4] = [
+    (0, Ask::Attach(WM0), Ok(Told::Entry(1, 0, WM0))),
+    (0, Ask::Attach(VGA), Ok(Told::Entry(2, 1, VGA))),
+    (1, Ask::Detach(VGA), Ok(Told::Entry(2, 1, VGA))),
+    (0, Ask::Attach(TTY), Ok(Told::Entry(4, 2, TTY))),
+];
+
+/// CPU 0 has found the driver wm0, as entry 1 in slot 0.
+const FOUND: [Line; 2] = [
+    (0, Ask::Enter, Ok(Told::Depth(1))),
+    (0, Ask::Find(WM0), Ok(Told::Found(1, 0, WM0))),
+];
+
+/// It holds a local reference to it, and is outside.
+const COUNTED: [Line; 4] = [
+    (0, Ask::Enter, Ok(Told::Depth(1))),
+    (0, Ask::Find(WM0), Ok(Told::Found(1, 0, WM0))),
+    (0, Ask::Count, Ok(Told::Local(0, 1))),
+    (0, Ask::Exit, Ok(Told::Depth(0))),
+];
+
+fn note(rt: &impl Eprint, what: &str) -> Result<(), Fail> {
+    eprintln!(rt; "refused memory: {what}")?;
+    Ok(())
+}
+
+/// Asks these lines, up to the first that is refused.
+fn give_all(rt: &impl Abort, core: &mut Core, lines: &[Line]) -> Result<(), Refusal> {
+    for (k, (c, ask, wanted)) in lines.iter().enumerate() {
+        let answer = give(rt, core, *c, *ask);
+        if answer == Err(Refusal::NoMemory) {
+            return Err(Refusal::NoMemory);
+        }
+        assert!(rt; answer == *wanted, "line {k}");
+    }
+    Ok(())
+}
+
+fn stocked(rt: &(impl Abort + AllocGlobal), more: &[Line]) -> Result<Core, Refusal> {
+    let mut core = Core::new(rt.alloc(), FOUR_SLOTS)?;
+    give_all(rt, &mut core, &STOCK)?;
+    assert!(rt; core.is_full(), "the next change grows the history");
+    give_all(rt, &mut core, more)?;
+    Ok(core)
+}
+
+/// The core after these lines; where memory is refused, it is made once more.
+fn prepared(rt: &(impl Abort + AllocGlobal + Eprint), more: &[Line]) -> Result<Core, Fail> {
+    if let Ok(core) = stocked(rt, more) {
+        return Ok(core);
+    }
+    note(rt, "setup")?;
+    Ok(stocked(rt, more)?)
+}
+
+/// The core is as these lines leave it, and answers CPU 1 so.
+fn stands(rt: &(impl Abort + AllocGlobal), core: &mut Core, more: &[Line]) -> Result<(), Fail> {
+    let mut twin = stocked(rt, more)?;
+    assert!(rt; core.is_same(&twin), "the refusal has changed nothing");
+    let audit = give(rt, &mut twin, 1, Ask::Audit);
+    let lines = [
+        (1, Ask::Audit, audit),
+        (1, Ask::Attach(WM0), Err(Refusal::NameTaken)),
+        (1, Ask::Enter, Ok(Told::Depth(1))),
+        (1, Ask::Find(WM0), Ok(Told::Found(1, 0, WM0))),
+        (1, Ask::Exit, Ok(Told::Depth(0))),
+        (1, Ask::Audit, audit),
+    ];
+    run(rt, core, "after the refusal", &lines);
+    Ok(())
+}
+
+/// The answer to the last line of a row, which may be refused memory once; a row's settings are those of the stock.
+fn survives(
+    rt: &(impl Abort + AllocGlobal + Eprint),
+    name: &str,
+    more: &[Line],
+    line: Line,
+) -> Result<(), Fail> {
+    let mut core = prepared(rt, more)?;
+    let (c, ask, wanted) = line;
+    let mut answer = give(rt, &mut core, c, ask);
+    if answer == Err(Refusal::NoMemory) {
+        note(rt, name)?;
+        stands(rt, &mut core, more)?;
+        answer = give(rt, &mut core, c, ask);
+    }
+    assert!(rt; answer == wanted, "{name}");
+    Ok(())
+}
+
+/// A new core with the usual settings, where memory may be refused once.
+fn new_core(rt: &(impl Abort + AllocGlobal + Eprint), name: &str) -> Result<Core, Fail> {
+    let made = Core::new(rt.alloc(), USUAL);
+    if !matches!(made, Err(Refusal::NoMemory)) {
+        return Ok(made?);
+    }
+    note(rt, name)?;
+    Ok(Core::new(rt.alloc(), USUAL)?)
+}
+
+#[test]
+fn new(rt: HostRuntime) -> Result<(), Fail> {
+    let mut core = new_core(&rt, "Core::new")?;
+    let (c, ask, wanted) = STOCK[0];
+    let mut answer = give(&rt, &mut core, c, ask);
+    if answer == Err(Refusal::NoMemory) {
+        note(&rt, "the first attach")?;
+        answer = give(&rt, &mut core, c, ask);
+    }
+    assert!(rt; answer == wanted, "the first attach");
+    run(&rt, &mut core, "new", &FOUND);
+    Ok(())
+}
+
+#[test]
+fn step_publish(rt: HostRuntime) -> Result<(), Fail> {
+    let words = (
+        0,
+        Ask::Make(Made::Words(3, DISK)),
+        Ok(Told::Entry(5, 3, DISK)),
+    );
+    let publish = (0, Ask::Step(Event::Publish(3)), Ok(Told::Done));
+    survives(&rt, "step_publish", &[words], publish)
+}
+
+#[test]
+fn step_unpublish(rt: HostRuntime) -> Result<(), Fail> {
+    let unpublish = (0, Ask::Step(Event::Unpublish(0)), Ok(Told::Done));
+    survives(&rt, "step_unpublish", &[], unpublish)
+}
+
+#[test]
+fn step_split_ref(rt: HostRuntime) -> Result<(), Fail> {
+    let [enter, find] = FOUND;
+    let count = (
+        0,
+        Ask::Make(Made::All(&[Event::CountAdd(0)])),
+        Ok(Told::Done),
+    );
+    let split = (0, Ask::Step(Event::SplitRef(0)), Ok(Told::Ref(0)));
+    survives(&rt, "step_split_ref", &[enter, find, count], split)
+}
+
+#[test]
+fn attach(rt: HostRuntime) -> Result<(), Fail> {
+    let line = (0, Ask::Attach(DISK), Ok(Told::Entry(5, 3, DISK)));
+    survives(&rt, "attach", &[], line)
+}
+
+#[test]
+fn attach_iface(rt: HostRuntime) -> Result<(), Fail> {
+    let line = (0, Ask::Plug(WM0_IFACE, 0), Ok(Told::Entry(5, 3, WM0_IFACE)));
+    survives(&rt, "attach_iface", &COUNTED, line)
+}
+
+#[test]
+fn detach(rt: HostRuntime) -> Result<(), Fail> {
+    let line = (0, Ask::Detach(WM0), Ok(Told::Entry(1, 0, WM0)));
+    survives(&rt, "detach", &[], line)
+}
+
+#[test]
+fn acquire_local(rt: HostRuntime) -> Result<(), Fail> {
+    let line = (0, Ask::Count, Ok(Told::Local(0, 1)));
+    survives(&rt, "acquire_local", &FOUND, line)
+}
+
+#[test]
+fn audit(rt: HostRuntime) -> Result<(), Fail> {
+    let first = Tally {
+        number: 1,
+        slot: 0,
+        held: 1,
+        locals: [1, 0],
+        total: 0,
+    };
+    let line = (0, Ask::Audit, Ok(Told::Audit(3, Some(first))));
+    survives(&rt, "audit", &COUNTED, line)
+}
+
+/// The driver wm is attached in slot 0, found, counted and detached; the first vacate isn't allowed.
+fn events() -> Result<[Event; 26], Fail> {
+    let name = Name::parse(b"wm")?;
+    let (high, low) = name.words();
+    let load = Event::LoadRecord(RecordOf::Search(0));
+    Ok([
+        Event::Seat(0),
+        Event::Seat(1),
+        Event::Vacate(0),
+        Event::StoreSlot(0, 0, 1),
+        Event::StoreSlot(0, 1, 2),
+        Event::StoreSlot(0, 2, high),
+        Event::StoreSlot(0, 3, low),
+        Event::StoreSlot(0, 4, 7),
+        Event::StoreSlot(0, 5, BIAS),
+        Event::StoreSlot(0, 6, BIAS),
+        Event::StoreNext(0, 0),
+        Event::Publish(0),
+        Event::Enter(0),
+        Event::Seek(0, Kind::Driver, name),
+        Event::LoadLink(0),
+        load,
+        load,
+        load,
+        load,
+        load,
+        Event::CountAdd(0),
+        Event::SplitRef(0),
+        Event::Exit(0),
+        Event::Unpublish(0),
+        Event::Snapshot(Some(0), 0),
+        Event::Snapshot(Some(0), 1),
+    ])
+}
+
+/// All events are made, where memory is refused once too.
+fn finished(
+    rt: &(impl Abort + AllocGlobal + Eprint),
+    core: &mut Core,
+    events: &[Event],
+) -> Result<Counted, Fail> {
+    let done = match run_events(core, events) {
+        Ok(counted) => return Ok(counted),
+        Err(short) => short.done,
+    };
+    eprintln!(rt; "refused memory: event {done} of run_events")?;
+    assert!(rt; done < events.len(), "an event of the list");
+    assert!(rt;
+        matches!(events[done], Event::Publish(_) | Event::SplitRef(_)),
+        "an event that grows a list"
+    );
+    let mut twin = Core::new(rt.alloc(), USUAL)?;
+    let before = run_events(&mut twin, &events[..done])?;
+    assert!(rt; core.is_same(&twin), "the events before it are made");
+    let after = run_events(core, &events[done..])?;
+    Ok(Counted {
+        taken: before.taken.saturating_add(after.taken),
+        refused: before.refused.saturating_add(after.refused),
+        last: after.last,
+    })
+}
+
+#[test]
+fn list_of_events(rt: HostRuntime) -> Result<(), Fail> {
+    let mut core = new_core(&rt, "setup")?;
+    let counted = finished(&rt, &mut core, &events()?)?;
+    let expected = Counted {
+        taken: 25,
+        refused: 1,
+        last: Some(Reply::Word(0)),
+    };
+    assert!(rt; counted == expected, "one event isn't allowed");
+    Ok(())
+}
