@@ -9,7 +9,7 @@
 # last allocation of every test.
 set -u
 cd "$(dirname "$0")/../crates" || exit 2
-[[ $# -gt 0 ]] || set -- core_tests name_registry script_tests
+[[ $# -gt 0 ]] || set -- core_tests call_tests script_tests
 
 # More than the refusals in a row that meet nobody.
 many=16

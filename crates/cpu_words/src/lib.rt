@@ -16,6 +16,3 @@ pub use law::{Domain, Picture, Words};
 pub use layout::layout_law;
 pub use seat::{CpuSeat, KeeperSeat, NoteSeat, ReferenceSeat};
 pub use view::{CpuView, InHand, KeeperView, Looked, ReferenceView, View};
-
-#[cfg(test)]
-mod tests;

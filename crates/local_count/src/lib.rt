@@ -24,6 +24,3 @@ pub use interfaces::publish_iface;
 pub use local_ref::LocalRef;
 pub use net::net_count;
 pub use release::try_release;
-
-#[cfg(test)]
-mod tests;

@@ -26,8 +26,3 @@ pub use blank::Blank;
 pub use detaching::detach_in;
 pub use law::free_interlock;
 pub use registry::Registry;
-
-#[cfg(test)]
-mod tests;
-#[cfg(test)]
-mod thread_tests;

@@ -30,8 +30,3 @@ pub use publishing::{publish, publish_entry};
 pub use retiring::retire;
 pub use sections::{enter, exit};
 pub use vacating::vacate;
-
-#[cfg(test)]
-mod tests;
-#[cfg(test)]
-mod thread_tests;

@@ -20,6 +20,3 @@ pub use holding::held;
 pub use looking::look_passive;
 pub use psref::Psref;
 pub use reading::read;
-
-#[cfg(test)]
-mod tests;

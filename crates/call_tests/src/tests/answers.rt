@@ -1,0 +1,97 @@
+//! What the calls of rows answer.
+
+use registry_values::{Balance, Entry, Record, Refusal, Slot, Stage};
+use std::process::Abort;
+
+/// What a call answers.
+#[derive(Clone, Copy, Debug, PartialEq)]
+pub(crate) enum Answer {
+    Done,
+    Refused(Refusal),
+    /// Nothing was found, or nothing stands there.
+    Nothing,
+    /// The entry with this number, in this slot.
+    At(u64, u8),
+    /// The retired entry with this number, in this slot.
+    RetiredAt(u64, u8),
+    /// How the destruction of an entry has come on.
+    Come(Stage),
+    /// A word, a number, or a depth.
+    Number(u64),
+    /// Whether it is so.
+    Is(bool),
+    /// A reference names this CPU and this number.
+    Names(u8, u64),
+    /// What a look at CPU 0 answers, and one at CPU 1.
+    Looks(bool, bool),
+    /// What an audit says of its one entry.
+    Audited(Line),
+}
+
+/// What an audit says of an entry.
+#[derive(Clone, Copy, Debug, PartialEq)]
+pub(crate) struct Line {
+    pub(crate) number: u64,
+    pub(crate) slot: u8,
+    pub(crate) held: i64,
+    /// CPU 0's count, and CPU 1's.
+    pub(crate) locals: [i64; 2],
+    pub(crate) total: i64,
+}
+
+/// The line of a balance, which has a count of each of the two CPUs.
+pub(crate) fn line_of<R: Abort>(rt: &R, balance: &Balance) -> Line {
+    let [first, second] = balance.locals.as_slice() else {
+        panic!(rt; "two counts");
+    };
+    Line {
+        number: balance.number,
+        slot: balance.slot,
+        held: balance.held,
+        locals: [*first, *second],
+        total: balance.total,
+    }
+}
+
+/// What an audit answers that has one entry at most.
+pub(crate) fn audited<R: Abort>(rt: &R, list: &[Balance]) -> Answer {
+    match list {
+        [] => Answer::Nothing,
+        [balance] => Answer::Audited(line_of(rt, balance)),
+        _ => panic!(rt; "more than one entry"),
+    }
+}
+
+/// Done, or why it was refused.
+pub(crate) fn done(answer: Result<(), Refusal>) -> Answer {
+    match answer {
+        Ok(()) => Answer::Done,
+        Err(refusal) => Answer::Refused(refusal),
+    }
+}
+
+/// The entry, whose record must be this one.
+pub(crate) fn entry<R: Abort>(rt: &R, answer: Result<Entry, Refusal>, rec: Record) -> Answer {
+    match answer {
+        Ok(entry) => at(rt, entry, rec),
+        Err(refusal) => Answer::Refused(refusal),
+    }
+}
+
+/// Where the entry is, whose record must be this one.
+pub(crate) fn at<R: Abort>(rt: &R, entry: Entry, rec: Record) -> Answer {
+    assert_eq!(rt; entry.rec, rec);
+    Answer::At(entry.number, entry.slot)
+}
+
+/// What stands in a slot: nothing, or an entry whose record must be this one.
+pub(crate) fn standing<R: Abort>(rt: &R, slot: Slot, rec: Record) -> Answer {
+    match slot {
+        Slot::Vacant => Answer::Nothing,
+        Slot::Live(entry) => at(rt, entry, rec),
+        Slot::Retired(entry) => {
+            assert_eq!(rt; entry.rec, rec);
+            Answer::RetiredAt(entry.number, entry.slot)
+        }
+    }
+}

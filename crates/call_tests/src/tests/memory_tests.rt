@@ -1,0 +1,166 @@
+//! Want of memory: a blank that can't be opened comes back and opens then, and after a refused audit the registry answers as before.
+//!
+//! Where memory is ample these tests compare answers alone. `tools/refuse-memory.sh` refuses each of their allocations in
+//! turn; each refusal that is met is noted on standard error.
+
+ghost use Rattle.std.specs.Prelude.{◌≡◌};
+
+use super::answers::Answer::{self, At, Done};
+use super::answers::{Line, line_of};
+use super::bench::Call::{Attach, Uncount};
+use super::bench::Step::{self, First, FirstReads, Second, SecondReads};
+use super::bench::{Bench, blank};
+use super::readers::Held;
+use super::readers::Reader::{Count, Enter, Exit, Find};
+use super::records::{DRIVER_WM0, VGA, WM};
+use cpu_words::Domain;
+use name_registry::Blank;
+use registry_values::{Balance, Refusal};
+use std::alloc::Global;
+use std::marker::Brand;
+use std::process::Abort;
+use std::sync::Wait;
+use std::test::*;
+
+/// CPU 0 attaches a driver, and CPU 1 finds it in a section.
+const FOUND: &[(Step, Answer)] = &[
+    (First(Attach(DRIVER_WM0)), At(1, 0)),
+    (SecondReads(Enter), Done),
+    (SecondReads(Find(DRIVER_WM0)), At(1, 0)),
+    (SecondReads(Exit), Done),
+];
+
+/// CPU 0 attaches two drivers, and acquires a local reference to the second.
+const COUNTED: &[(Step, Answer)] = &[
+    (First(Attach(WM)), At(1, 0)),
+    (First(Attach(VGA)), At(2, 1)),
+    (FirstReads(Enter), Done),
+    (FirstReads(Find(VGA)), At(2, 1)),
+    (FirstReads(Count), Done),
+    (FirstReads(Exit), Done),
+];
+
+/// The registry answers as before: CPU 1 finds the second driver.
+const AS_BEFORE: &[(Step, Answer)] = &[
+    (SecondReads(Enter), Done),
+    (SecondReads(Find(VGA)), At(2, 1)),
+    (SecondReads(Exit), Done),
+];
+
+/// CPU 1 releases the local reference.
+const RELEASED: &[(Step, Answer)] = &[(Second(Uncount), Done)];
+
+fn note(rt: &impl Eprint, what: &str) -> Result<(), Fail> {
+    eprintln!(rt; "refused memory: {what}")?;
+    Ok(())
+}
+
+/// A blank; where memory is refused, it is made once more.
+fn made(rt: &impl Eprint, alloc: Global) -> Result<Blank, Fail> {
+    match blank(alloc, 2, 1000) {
+        Err(Refusal::NoMemory) => {
+            note(rt, "Blank::new")?;
+            Ok(blank(alloc, 2, 1000)?)
+        }
+        answer => Ok(answer?),
+    }
+}
+
+/// The open registry; where memory is refused, the blank that comes back is opened.
+fn opened<D: Domain, R: Abort + Eprint>(
+    rt: &R,
+    alloc: Global,
+    blank: Blank,
+) -> Result<Bench<D>, Fail>
+    requires { (blank.table ≡ D.table) × (blank.settings ≡ D.settings) }
+{
+    let (refusal, back) = match blank.open::<D>(alloc) {
+        Ok((registry, cpus)) => return Bench::of(registry, cpus),
+        Err(refused) => refused,
+    };
+    assert_eq!(rt; refusal, Refusal::NoMemory);
+    note(rt, "Blank::open")?;
+    Bench::open(alloc, back)
+}
+
+#[test]
+fn open(rt: HostRuntime) -> Result<(), Fail> {
+    found_once_open::<Brand, _>(&rt, rt.alloc(), made(&rt, rt.alloc())?)
+}
+
+fn found_once_open<D: Domain, R: Wait + Abort + Eprint>(
+    rt: &R,
+    alloc: Global,
+    blank: Blank,
+) -> Result<(), Fail>
+    requires { (blank.table ≡ D.table) × (blank.settings ≡ D.settings) }
+{
+    let mut bench = opened::<D, _>(rt, alloc, blank)?;
+    let mut refs = Held::nothing();
+    bench.follow(rt, alloc, &mut refs, "open", FOUND);
+    refs.end(rt);
+    Ok(())
+}
+
+#[test]
+fn audit(rt: HostRuntime) -> Result<(), Fail> {
+    audited_again::<Brand, _>(&rt, rt.alloc(), made(&rt, rt.alloc())?)
+}
+
+/// Of two drivers one has a local reference.
+fn audited_again<D: Domain, R: Wait + Abort + Eprint>(
+    rt: &R,
+    alloc: Global,
+    blank: Blank,
+) -> Result<(), Fail>
+    requires { (blank.table ≡ D.table) × (blank.settings ≡ D.settings) }
+{
+    let mut bench = opened::<D, _>(rt, alloc, blank)?;
+    let mut refs = Held::nothing();
+    bench.follow(rt, alloc, &mut refs, "audit", COUNTED);
+    let list = audited(rt, alloc, &mut bench, &mut refs);
+    bench.follow(rt, alloc, &mut refs, "audit, released", RELEASED);
+    refs.end(rt);
+    let list = list?;
+    let [first, second] = list.as_slice() else {
+        panic!(rt; "two entries");
+    };
+    assert_eq!(rt;
+        line_of(rt, first),
+        Line {
+            number: 1,
+            slot: 0,
+            held: 0,
+            locals: [0, 0],
+            total: 0
+        }
+    );
+    assert_eq!(rt;
+        line_of(rt, second),
+        Line {
+            number: 2,
+            slot: 1,
+            held: 1,
+            locals: [1, 0],
+            total: 0
+        }
+    );
+    Ok(())
+}
+
+/// An audit, made again where memory is refused; the registry answers as before in between.
+fn audited<D: Domain, R: Wait + Abort + Eprint>(
+    rt: &R,
+    alloc: Global,
+    bench: &mut Bench<D>,
+    refs: &mut Held<D>,
+) -> Result<Vec<Balance>, Fail> {
+    match bench.registry.audit(rt, alloc, &mut bench.cpus) {
+        Err(Refusal::NoMemory) => {
+            note(rt, "Registry::audit")?;
+            bench.follow(rt, alloc, refs, "audit, refused memory", AS_BEFORE);
+            Ok(bench.registry.audit(rt, alloc, &mut bench.cpus)?)
+        }
+        answer => Ok(answer?),
+    }
+}

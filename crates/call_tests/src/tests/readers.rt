@@ -1,0 +1,229 @@
+//! What a CPU does with the words alone: sections, lookups, and references that a row holds.
+
+ghost use Rattle.std.specs.Prelude.{◌≡◌};
+
+use super::answers::{Answer, at, done};
+use super::records::{Wanted, record};
+use cpu_words::{Domain, Words};
+use local_count::{LocalRef, acquire_local};
+use passive_list::{Cpu, enter, exit, find, hear, tell};
+use passive_ref::{Psref, acquire, copy, held, read, release};
+use registry_values::{Record, Refusal};
+use std::process::Abort;
+
+/// A call on the words by a CPU.
+#[derive(Clone, Copy)]
+pub(crate) enum Reader {
+    /// The CPU's number.
+    Id,
+    /// How many enters are open.
+    Depth,
+    Enter,
+    Exit,
+    Find(Wanted),
+    /// It hears a note of its own.
+    HearItself,
+    /// It acquires a local reference to what it found last.
+    Count,
+    /// It acquires a passive reference to what it found last.
+    Acquire,
+    /// It copies the passive reference. Once that is released, or forgotten, the copy stands for it.
+    Copy,
+    /// What the passive reference names.
+    Reference,
+    /// It reads this record by the passive reference.
+    Read(Wanted),
+    /// Whether it holds the passive reference.
+    Holds,
+    Release,
+    Forget,
+}
+
+/// The references that a row holds.
+pub(crate) struct Held<D: Domain> {
+    local: Option<LocalRef<D>>,
+    passive: Option<Psref>,
+    copied: Option<Psref>,
+}
+
+impl<D: Domain> Held<D> {
+    pub(crate) fn nothing() -> Held<D> {
+        Held {
+            local: None,
+            passive: None,
+            copied: None,
+        }
+    }
+
+    /// At its end a row holds nothing.
+    pub(crate) fn end<R: Abort>(self, rt: &R) {
+        let Held {
+            local,
+            passive,
+            copied,
+        } = self;
+        none(rt, local);
+        none(rt, passive);
+        none(rt, copied);
+    }
+
+    pub(crate) fn take_local<R: Abort>(&mut self, rt: &R) -> LocalRef<D> {
+        match self.local.take() {
+            Some(reference) => reference,
+            None => panic!(rt; "no local reference"),
+        }
+    }
+
+    /// Hands the passive reference on.
+    pub(crate) fn hand_passive<E: Domain, R: Abort>(&mut self, rt: &R, other: &mut Held<E>) {
+        put(rt, &mut other.passive, self.take_passive(rt));
+    }
+
+    fn passive<R: Abort>(&self, rt: &R) -> &Psref {
+        match &self.passive {
+            Some(psref) => psref,
+            None => panic!(rt; "no passive reference"),
+        }
+    }
+
+    fn take_passive<R: Abort>(&mut self, rt: &R) -> Psref {
+        match self.passive.take() {
+            Some(psref) => psref,
+            None => panic!(rt; "no passive reference"),
+        }
+    }
+
+    /// The copy stands for the reference that is gone.
+    fn use_copy<R: Abort>(&mut self, rt: &R) {
+        if let Some(psref) = self.copied.take() {
+            put(rt, &mut self.passive, psref);
+        }
+    }
+}
+
+/// Puts a reference where none is.
+fn put<T, R: Abort>(rt: &R, place: &mut Option<T>, reference: T) {
+    none(rt, place.replace(reference));
+}
+
+/// No reference is there.
+fn none<T, R: Abort>(rt: &R, place: Option<T>) {
+    let None = place else {
+        panic!(rt; "a reference is held")
+    };
+}
+
+/// What the call answers.
+pub(crate) fn by_reader<D: Domain, R: Abort>(
+    rt: &R,
+    words: &Words,
+    cpu: &mut Cpu<D>,
+    refs: &mut Held<D>,
+    call: Reader,
+) -> Answer
+    requires words { (words.now.table ≡ D.table) × (words.now.settings ≡ D.settings) }
+{
+    match call {
+        Reader::Id => Answer::Number(u64::from(cpu.id())),
+        Reader::Depth => depth(rt, cpu),
+        Reader::Enter => done(enter(words, cpu)),
+        Reader::Exit => exited(rt, words, cpu),
+        Reader::Find(wanted) => found(rt, words, cpu, record(rt, wanted)),
+        Reader::HearItself => heard(words, cpu),
+        Reader::Count => kept(rt, &mut refs.local, acquire_local(words, cpu)),
+        Reader::Acquire => kept(rt, &mut refs.passive, acquire(words, cpu)),
+        Reader::Copy => {
+            let answer = copy(words, cpu, refs.passive(rt));
+            kept(rt, &mut refs.copied, answer)
+        }
+        Reader::Reference => Answer::Names(refs.passive(rt).cpu(), refs.passive(rt).number()),
+        Reader::Read(wanted) => {
+            let answer = read(words, cpu, refs.passive(rt));
+            same(rt, answer, record(rt, wanted))
+        }
+        Reader::Holds => Answer::Is(held(cpu, refs.passive(rt))),
+        Reader::Release => released(rt, words, cpu, refs),
+        Reader::Forget => forgotten(rt, refs),
+    }
+}
+
+/// The CPU's depth, which is 0 exactly outside.
+fn depth<D: Domain, R: Abort>(rt: &R, cpu: &Cpu<D>) -> Answer {
+    let depth = cpu.depth();
+    assert_eq!(rt; cpu.inside(), depth > 0);
+    Answer::Number(u64::from(depth))
+}
+
+/// The CPU exits its section, or one nesting of it.
+fn exited<D: Domain, R: Abort>(rt: &R, words: &Words, cpu: &mut Cpu<D>) -> Answer
+    requires words { (words.now.table ≡ D.table) × (words.now.settings ≡ D.settings) }
+{
+    assert!(rt; cpu.inside());
+    exit(words, cpu);
+    Answer::Done
+}
+
+/// The CPU looks the record's kind and name up, in its open section.
+fn found<D: Domain, R: Abort>(rt: &R, words: &Words, cpu: &mut Cpu<D>, rec: Record) -> Answer
+    requires words { (words.now.table ≡ D.table) × (words.now.settings ≡ D.settings) }
+{
+    assert!(rt; cpu.inside());
+    match find(words, cpu, rec.kind, &rec.name) {
+        Some(entry) => at(rt, entry, rec),
+        None => Answer::Nothing,
+    }
+}
+
+/// The CPU hears a note of its own.
+fn heard<D: Domain>(words: &Words, cpu: &mut Cpu<D>) -> Answer
+    requires words { (words.now.table ≡ D.table) × (words.now.settings ≡ D.settings) }
+{
+    let note = tell(words, cpu);
+    hear(words, cpu, note);
+    Answer::Done
+}
+
+/// Keeps the reference, or says why there is none.
+fn kept<T, R: Abort>(rt: &R, place: &mut Option<T>, answer: Result<T, Refusal>) -> Answer {
+    match answer {
+        Ok(reference) => {
+            put(rt, place, reference);
+            Answer::Done
+        }
+        Err(refusal) => Answer::Refused(refusal),
+    }
+}
+
+/// What was read is this record, or it was refused.
+fn same<R: Abort>(rt: &R, answer: Result<Record, Refusal>, rec: Record) -> Answer {
+    done(answer.map(|read| assert_eq!(rt; read, rec)))
+}
+
+/// The CPU releases the passive reference. Where that is refused, the reference comes back.
+fn released<D: Domain, R: Abort>(
+    rt: &R,
+    words: &Words,
+    cpu: &mut Cpu<D>,
+    refs: &mut Held<D>,
+) -> Answer
+    requires words { (words.now.table ≡ D.table) × (words.now.settings ≡ D.settings) }
+{
+    let psref = refs.take_passive(rt);
+    match release(words, cpu, psref) {
+        Ok(()) => {
+            refs.use_copy(rt);
+            Answer::Done
+        }
+        Err((refusal, back)) => {
+            put(rt, &mut refs.passive, back);
+            Answer::Refused(refusal)
+        }
+    }
+}
+
+/// The row gives the passive reference up, which stays held.
+fn forgotten<D: Domain, R: Abort>(rt: &R, refs: &mut Held<D>) -> Answer {
+    refs.take_passive(rt).forget();
+    refs.use_copy(rt);
+    Answer::Done
+}

@@ -1,0 +1,40 @@
+//! A section that is nested as deep as it may be.
+
+ghost use Rattle.std.specs.Prelude.{◌≡◌};
+
+use super::table::{Seats, Table, opened};
+use cpu_words::Domain;
+use passive_list::{enter, exit};
+use registry_values::Refusal;
+use std::marker::Brand;
+use std::process::Abort;
+use std::test::*;
+
+#[test]
+fn sections_nest_to_the_deepest(rt: HostRuntime) -> Result<(), Fail> {
+    nested::<Brand, _>(&rt, opened(rt.alloc(), 1)?)
+}
+
+fn nested<D: Domain, R: Abort>(rt: &R, table: Table) -> Result<(), Fail>
+    requires { (table.words.table ≡ D.table) × (table.words.settings ≡ D.settings) }
+{
+    let Seats {
+        words,
+        mut first,
+        ..
+    } = Seats::<D>::of(table);
+    for before in 0..255u8 {
+        assert_eq!(rt; first.depth(), before);
+        enter(&words, &mut first)?;
+    }
+    assert_eq!(rt; first.depth(), 255);
+    assert_eq!(rt; enter(&words, &mut first), Err(Refusal::TooDeep));
+    assert_eq!(rt; first.depth(), 255);
+    for ended in 0..255u8 {
+        assert!(rt; first.inside());
+        exit(&words, &mut first);
+        assert_eq!(rt; first.depth(), 254 - ended);
+    }
+    assert!(rt; !first.inside());
+    Ok(())
+}

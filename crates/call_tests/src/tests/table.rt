@@ -1,0 +1,126 @@
+//! What rows on the bare words begin with, a new table of two CPUs and two slots, before it is named and after.
+
+ghost use Rattle.std.specs.Prelude.{◌≡◌, IsTrue};
+ghost use Rattle.registry_values.specs.Limits.{are_fit};
+ghost use Rattle.cpu_words.specs.Opening.{keeper_with};
+ghost use Rattle.cpu_words.specs.Views.{new_cpu};
+
+use super::answers::Answer;
+use super::keepers::{Writer, by_keeper};
+use super::readers::{Held, Reader, by_reader};
+use cpu_words::{CpuSeat, Domain, KeeperSeat, Words};
+use passive_list::{Cpu, Keeper, hear, hear_keeper, tell, tell_keeper};
+use registry_values::Settings;
+use std::alloc::Global;
+use std::process::Abort;
+use std::test::Fail;
+
+/// A new table, before it is named.
+#[derive(Drop)]
+pub(crate) struct Table {
+    pub(crate) words: Words,
+    pub(crate) keeper: KeeperSeat,
+    pub(crate) first: CpuSeat,
+    pub(crate) second: CpuSeat,
+    ghost fit: { IsTrue (are_fit words.settings) },
+    ghost cpus: { words.settings.cpus ≡ 2 },
+    ghost with_keeper: { (keeper.table ≡ words.table) × (keeper.view ≡ keeper_with words.settings words.settings.cpus) },
+    ghost with_first: { (first.table ≡ words.table) × (first.view ≡ new_cpu words.settings 0) },
+    ghost with_second: { (second.table ≡ words.table) × (second.view ≡ new_cpu words.settings 1) },
+}
+
+/// A table in which each CPU may begin so many sections, and have two passive references and one local reference to an entry.
+pub(crate) fn opened(alloc: Global, section_limit: u64) -> Result<Table, Fail> {
+    let settings = Settings {
+        cpus: 2,
+        slots: 2,
+        change_limit: 1000,
+        section_limit,
+        passive_limit: 2,
+        count_limit: 1,
+    };
+    let (words, keeper, mut seats) = Words::new(alloc, settings)?;
+    match (seats.pop(), seats.pop()) {
+        (Some(second), Some(first)) => Ok(Table {
+            words,
+            keeper,
+            first,
+            second,
+        }),
+        _ => Err(Fail::from("two seats")),
+    }
+}
+
+/// A table that D names: its words, its keeper and its two CPUs.
+#[derive(Drop)]
+pub(crate) struct Seats<D: Domain> {
+    pub(crate) words: Words,
+    pub(crate) keeper: Keeper<D>,
+    pub(crate) first: Cpu<D>,
+    pub(crate) second: Cpu<D>,
+    ghost named: { (words.table ≡ D.table) × (words.settings ≡ D.settings) },
+}
+
+impl<D: Domain> Seats<D> {
+    pub(crate) fn of(table: Table) -> Seats<D>
+        requires { (table.words.table ≡ D.table) × (table.words.settings ≡ D.settings) }
+    {
+        let Table {
+            words,
+            keeper,
+            first,
+            second,
+        } = table;
+        let settings = words.settings();
+        Seats {
+            words,
+            keeper: Keeper::of_seat(keeper, settings),
+            first: Cpu::of_seat(first, 0),
+            second: Cpu::of_seat(second, 1),
+        }
+    }
+
+    /// Each step answers as the row says.
+    pub(crate) fn follow<R: Abort>(
+        &mut self,
+        rt: &R,
+        refs: &mut Held<D>,
+        name: &str,
+        steps: &[(Step, Answer)],
+    ) {
+        for (n, (step, answer)) in steps.iter().enumerate() {
+            assert_eq!(rt; self.take(rt, refs, *step), *answer, "at {name}, step {n}");
+        }
+    }
+
+    fn take<R: Abort>(&mut self, rt: &R, refs: &mut Held<D>, step: Step) -> Answer {
+        let words = &self.words;
+        match step {
+            Step::First(call) => by_reader(rt, words, &mut self.first, refs, call),
+            Step::Second(call) => by_reader(rt, words, &mut self.second, refs, call),
+            Step::Keeper(call) => by_keeper(rt, words, &mut self.keeper, refs, call),
+            Step::Tell => {
+                let note = tell_keeper(words, &mut self.keeper);
+                hear(words, &mut self.first, note);
+                Answer::Done
+            }
+            Step::Hear => {
+                let note = tell(words, &mut self.first);
+                hear_keeper(words, &mut self.keeper, note);
+                Answer::Done
+            }
+        }
+    }
+}
+
+/// A call on the words by CPU 0, by CPU 1 or by the keeper, or a note between the keeper and CPU 0.
+#[derive(Clone, Copy)]
+pub(crate) enum Step {
+    First(Reader),
+    Second(Reader),
+    Keeper(Writer),
+    /// The keeper tells CPU 0.
+    Tell,
+    /// The keeper hears CPU 0.
+    Hear,
+}

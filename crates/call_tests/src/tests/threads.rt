@@ -1,0 +1,289 @@
+//! Tests on two threads: what one publishes, the other finds; and a local reference goes from one to the other.
+
+ghost use Rattle.std.specs.Prelude.{◌≡◌, IsTrue};
+ghost use Rattle.registry_values.specs.Names.{is_lawful};
+
+use super::keepers::{looked, passive_look, published, retired};
+use super::records::{WM, record};
+use super::table::{Seats, Table, opened};
+use cpu_words::{Domain, Words};
+use local_count::{LocalRef, acquire_local, collect, collected, total, try_release};
+use passive_list::{Cpu, Keeper, Note, SlotState, enter, exit, find, hear, tell, tell_keeper};
+use registry_values::{Kind, Name, Record, Refusal};
+use std::marker::Brand;
+use std::process::Abort;
+use std::sync::atomic::{AtomicBool, Ordering};
+use std::test::*;
+use std::thread::{Threads, join, yield_now};
+
+/// After so many turns a side gives up, and the test fails.
+const TURNS: u32 = 10_000_000;
+
+/// How many sections a CPU may begin: more than it has turns.
+const SECTIONS: u64 = 1 << 40;
+
+/// The number of the driver that a lookup finds, in the open section.
+fn number_found<D: Domain>(words: &Words, cpu: &mut Cpu<D>, name: &Name) -> Option<u64>
+    requires words { (words.now.table ≡ D.table) × (words.now.settings ≡ D.settings) }
+{
+    if !cpu.inside() {
+        return None;
+    }
+    find(words, cpu, Kind::Driver, name).map(|entry| entry.number)
+}
+
+#[test]
+fn a_lookup_finds_what_another_thread_publishes(rt: HostRuntime) -> Result<(), Fail> {
+    one_lookup::<Brand, _>(&rt, opened(rt.alloc(), SECTIONS)?);
+    Ok(())
+}
+
+fn one_lookup<D: Domain + Send, R: Threads + Abort + Sync>(rt: &R, table: Table)
+    requires { (table.words.table ≡ D.table) × (table.words.settings ≡ D.settings) }
+{
+    let Seats {
+        words,
+        keeper,
+        first,
+        ..
+    } = Seats::<D>::of(table);
+    let driver = record(rt, WM);
+    let (words, missed) = (&words, &AtomicBool::new(false));
+    let (found, published) = join(
+        rt,
+        move || -> Option<u64>
+            requires words { (words.now.table ≡ D.table) × (words.now.settings ≡ D.settings) }
+        { find_at_last(words, first, &driver.name, missed) },
+        move || -> Option<u64>
+            requires words { (words.now.table ≡ D.table) × (words.now.settings ≡ D.settings) }
+            requires driver { IsTrue (is_lawful driver.name) }
+        { publish_once_missed(rt, words, keeper, driver, missed) },
+    );
+    assert_eq!(rt; published, Some(1));
+    assert_eq!(rt; found, Some(1));
+}
+
+/// Looks the driver up, in a section each time, until it is found. It sets the flag where it isn't, and answers the number found.
+fn find_at_last<D: Domain>(
+    words: &Words,
+    mut cpu: Cpu<D>,
+    name: &Name,
+    missed: &AtomicBool,
+) -> Option<u64>
+    requires words { (words.now.table ≡ D.table) × (words.now.settings ≡ D.settings) }
+{
+    for _ in 0..TURNS {
+        let found = find_in_section(words, &mut cpu, name).ok()?;
+        if found.is_some() {
+            return found;
+        }
+        missed.store(true, Ordering::SeqCst);
+    }
+    None
+}
+
+/// Enters, looks the driver up, and exits.
+fn find_in_section<D: Domain>(
+    words: &Words,
+    cpu: &mut Cpu<D>,
+    name: &Name,
+) -> Result<Option<u64>, Refusal>
+    requires words { (words.now.table ≡ D.table) × (words.now.settings ≡ D.settings) }
+{
+    enter(words, cpu)?;
+    let found = number_found(words, cpu, name);
+    if cpu.inside() {
+        exit(words, cpu);
+    }
+    Ok(found)
+}
+
+/// Waits until the flag is set, and then publishes the driver. It answers the number.
+fn publish_once_missed<D: Domain, R: Abort>(
+    rt: &R,
+    words: &Words,
+    mut keeper: Keeper<D>,
+    driver: Record,
+    missed: &AtomicBool,
+) -> Option<u64>
+    requires words { (words.now.table ≡ D.table) × (words.now.settings ≡ D.settings) }
+    requires driver { IsTrue (is_lawful driver.name) }
+{
+    if !was_set(missed) {
+        return None;
+    }
+    Some(published(rt, words, &mut keeper, 0, driver).number)
+}
+
+/// Waits until the flag is set: false where it gave up.
+fn was_set(flag: &AtomicBool) -> bool {
+    for _ in 0..TURNS {
+        if flag.load(Ordering::SeqCst) {
+            return true;
+        }
+        yield_now();
+    }
+    false
+}
+
+#[test]
+fn a_note_tells_another_thread_what_was_published(rt: HostRuntime) -> Result<(), Fail> {
+    told_twice::<Brand, _>(&rt, opened(rt.alloc(), SECTIONS)?)
+}
+
+/// Both sections begin before the driver is published. One CPU hears of it from the keeper, the other from that CPU.
+fn told_twice<D: Domain + Send, R: Threads + Abort + Sync>(rt: &R, table: Table) -> Result<(), Fail>
+    requires { (table.words.table ≡ D.table) × (table.words.settings ≡ D.settings) }
+{
+    let Seats {
+        words,
+        keeper,
+        mut first,
+        mut second,
+    } = Seats::<D>::of(table);
+    let driver = record(rt, WM);
+    let words = &words;
+    enter(words, &mut first)?;
+    enter(words, &mut second)?;
+    let ((published, note), _) = join(
+        rt,
+        move || -> (u64, Note<D>)
+            requires words { (words.now.table ≡ D.table) × (words.now.settings ≡ D.settings) }
+            requires driver { IsTrue (is_lawful driver.name) }
+        { publish_and_tell(rt, words, keeper, driver) },
+        || (),
+    );
+    let (found, note) = find_once_told(words, first, &driver.name, note);
+    let ((found_there, _), _) = join(
+        rt,
+        move || -> (Option<u64>, Note<D>)
+            requires words { (words.now.table ≡ D.table) × (words.now.settings ≡ D.settings) }
+        { find_once_told(words, second, &driver.name, note) },
+        || (),
+    );
+    assert_eq!(rt; (published, found, found_there), (1, Some(1), Some(1)));
+    Ok(())
+}
+
+/// Publishes the driver. It answers the number, and a note of what the keeper has seen then.
+fn publish_and_tell<D: Domain, R: Abort>(
+    rt: &R,
+    words: &Words,
+    mut keeper: Keeper<D>,
+    driver: Record,
+) -> (u64, Note<D>)
+    requires words { (words.now.table ≡ D.table) × (words.now.settings ≡ D.settings) }
+    requires driver { IsTrue (is_lawful driver.name) }
+{
+    let entry = published(rt, words, &mut keeper, 0, driver);
+    (entry.number, tell_keeper(words, &mut keeper))
+}
+
+/// Hears the note in the open section, and looks the driver up. It answers the number found, and a note of what the CPU has seen then.
+fn find_once_told<D: Domain>(
+    words: &Words,
+    mut cpu: Cpu<D>,
+    name: &Name,
+    note: Note<D>,
+) -> (Option<u64>, Note<D>)
+    requires words { (words.now.table ≡ D.table) × (words.now.settings ≡ D.settings) }
+{
+    hear(words, &mut cpu, note);
+    let found = number_found(words, &mut cpu, name);
+    (found, tell(words, &mut cpu))
+}
+
+#[test]
+fn a_reference_is_released_on_another_thread(rt: HostRuntime) -> Result<(), Fail> {
+    one_reference::<Brand, _>(&rt, opened(rt.alloc(), 1)?);
+    Ok(())
+}
+
+/// CPU 0 acquires the reference, and another thread reads and releases it on CPU 1. Then nobody holds the entry.
+fn one_reference<D: Domain + Send, R: Threads + Abort + Sync>(rt: &R, table: Table)
+    requires { (table.words.table ≡ D.table) × (table.words.settings ≡ D.settings) }
+{
+    let Seats {
+        words,
+        mut keeper,
+        mut first,
+        second,
+    } = Seats::<D>::of(table);
+    let driver = record(rt, WM);
+    let words = &words;
+    published(rt, words, &mut keeper, 0, driver);
+    let mut held = acquired(words, &mut first, &driver.name);
+    let lent = &mut held;
+    let (read, _) = join(
+        rt,
+        move || -> Option<(u64, Kind, Record)>
+            requires words { (words.now.table ≡ D.table) × (words.now.settings ≡ D.settings) }
+        { read_and_release(rt, words, second, lent) },
+        || (),
+    );
+    let None = held else {
+        panic!(rt; "the reference was not taken")
+    };
+    assert_eq!(rt; read, Some((1, Kind::Driver, driver)));
+    retired(rt, words, &mut keeper);
+    assert_eq!(rt; total_once_drained(rt, words, &mut keeper), 0);
+}
+
+/// Finds the driver in a section, and acquires a local reference to it.
+fn acquired<D: Domain>(words: &Words, cpu: &mut Cpu<D>, name: &Name) -> Option<LocalRef<D>>
+    requires words { (words.now.table ≡ D.table) × (words.now.settings ≡ D.settings) }
+{
+    enter(words, cpu).ok()?;
+    if !cpu.inside() {
+        return None;
+    }
+    find(words, cpu, Kind::Driver, name);
+    let reference = acquire_local(words, cpu).ok();
+    exit(words, cpu);
+    reference
+}
+
+/// Takes the reference, reads it, and releases it on this CPU. It answers the number, the kind and the record that it read.
+fn read_and_release<D: Domain, R: Abort>(
+    rt: &R,
+    words: &Words,
+    mut cpu: Cpu<D>,
+    held: &mut Option<LocalRef<D>>,
+) -> Option<(u64, Kind, Record)>
+    requires words { (words.now.table ≡ D.table) × (words.now.settings ≡ D.settings) }
+{
+    let mut reference = held.take()?;
+    let (number, kind) = (reference.number(), reference.kind());
+    let rec = reference.record(words);
+    match try_release(words, &mut cpu, reference) {
+        Ok(()) => Some((number, kind, rec)),
+        Err(_back) => panic!(rt; "the reference came back"),
+    }
+}
+
+/// Drains the retired driver as far as looks and collections go. It answers how many local references to it are held.
+fn total_once_drained<D: Domain, R: Abort>(rt: &R, words: &Words, keeper: &mut Keeper<D>) -> u64
+    requires words { (words.now.table ≡ D.table) × (words.now.settings ≡ D.settings) }
+{
+    assert!(rt; looked(rt, words, keeper, 0));
+    assert!(rt; looked(rt, words, keeper, 1));
+    assert!(rt; passive_look(rt, words, keeper, 0));
+    assert!(rt; passive_look(rt, words, keeper, 1));
+    collect_once_clear(rt, words, keeper, 0);
+    collect_once_clear(rt, words, keeper, 1);
+    assert!(rt; 0 < keeper.settings.slots);
+    assert!(rt; matches!(keeper.slot(0), SlotState::Retired(_)));
+    assert!(rt; keeper.have_passed(0) && keeper.are_clear(0) && keeper.are_collected(0));
+    total(words, keeper, 0)
+}
+
+/// Collects the CPU's count word for the retired driver.
+fn collect_once_clear<D: Domain, R: Abort>(rt: &R, words: &Words, keeper: &mut Keeper<D>, cpu: u8)
+    requires words { (words.now.table ≡ D.table) × (words.now.settings ≡ D.settings) }
+{
+    assert!(rt; cpu < keeper.settings.cpus);
+    assert!(rt; 0 < keeper.settings.slots);
+    assert!(rt; matches!(keeper.slot(0), SlotState::Retired(_)));
+    assert!(rt; keeper.have_passed(0) && keeper.are_clear(0) && !collected(keeper, 0, cpu));
+    collect(words, keeper, 0, cpu);
+}

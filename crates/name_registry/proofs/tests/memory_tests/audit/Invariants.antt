@@ -1,5 +1,0 @@
-use Rattle.name_registry.proofs.tests.memory_tests.audit.Given as goal
-
--- the registry that was just made
-abbrev pub ghosts-audited_again : goal.ghosts-audited_again
-ghosts-audited_again g a = record { table = a.blank.table; settings = a.blank.settings }

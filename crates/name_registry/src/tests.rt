@@ -1,5 +1,0 @@
-mod bench;
-mod elsewhere;
-mod memory_tests;
-mod references;
-mod rows;

@@ -1,8 +1,0 @@
-use Rattle.passive_ref.proofs.tests.a_reference_of_another_registry.Given as goal
-
--- the two tables that were just made
-abbrev pub ghosts-shown_to_another-D-Domain : goal.ghosts-shown_to_another-D-Domain
-ghosts-shown_to_another-D-Domain g a = record { table = a.own.words.table; settings = a.own.words.settings }
-
-abbrev pub ghosts-shown_to_another-E-Domain : goal.ghosts-shown_to_another-E-Domain
-ghosts-shown_to_another-E-Domain g a = record { table = a.other.words.table; settings = a.other.words.settings }
