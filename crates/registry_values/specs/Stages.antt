@@ -1,9 +1,14 @@
--- What a destroy answers by its last stage.
+-- What a destroy answers by its last stage, and which stages stand in its way.
 use Rattle.std.specs.Prelude.{◌≡◌, ℕ, ◌+◌, ◌<◌, ◌==◌, [], ◌&&◌, Result, Ok, Err, if◌then◌else◌}
 use Rattle.registry_values.specs.declared.refusal.Refusal.{Refusal}
 use Rattle.registry_values.specs.declared.refusal.Refusal.TheVariants.{StillHeld}
 use Rattle.registry_values.specs.declared.stage.Stage.{Stage}
 use Rattle.registry_values.specs.declared.stage.Stage.TheVariants.{Grace, Passive, Local, Freed}
+
+-- the stage isn't the end
+abbrev pub IsObstacle : Stage → Type 0
+IsObstacle (Freed t) = ⊥
+IsObstacle _ = Unit {0}
 
 -- Destroying an entry: the answer of an advance, where what stands in the way is a refusal.
 abbrev pub destroyed : Stage → Result ℕ Refusal
