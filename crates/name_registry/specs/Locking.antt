@@ -3,6 +3,7 @@ use Rattle.std.specs.Prelude.{◌≡◌, ◌≢◌, ◌<◌, Bool, true, false}
 use Rattle.registry_values.specs.declared.refusal.Refusal.{Refusal}
 use Rattle.registry_values.specs.declared.refusal.Refusal.TheVariants.{NameTaken, NoSlot, HistoryFull, Inside, NeedsDriver, NotFound, NotRetired, StillHeld, Waiting}
 use Rattle.registry_values.specs.declared.settings.Settings.{Settings}
+use Rattle.registry_values.specs.Stages.{IsObstacle}
 use Rattle.registry_values.specs.declared.stage.Stage.{Stage}
 use Rattle.registry_values.specs.declared.stage.Stage.TheVariants.{Grace, Passive, Local, Freed}
 
@@ -31,11 +32,6 @@ IsStageOf z (Grace c) = c < z.cpus
 IsStageOf z (Passive c) = c < z.cpus
 IsStageOf z (Local n) = n ≢ 0
 IsStageOf z (Freed t) = t < z.slots
-
--- the stage isn't the end
-abbrev pub IsObstacle : Stage → Type 0
-IsObstacle (Freed t) = ⊥
-IsObstacle _ = Unit {0}
 
 -- A destroy is refused by the CPU exactly; else as the work on the entry is, or by the last obstacle.
 abbrev pub IsDestroyRefusal : Settings → Bool → Refusal → Type 0

@@ -3,12 +3,12 @@ use Rattle.std.proofs.Common.{◌≡◌, ℕ, ◌<◌, List, ◌++◌, length, t
 use Rattle.std.proofs.lemmas.Bool.{cases_lt}
 use Rattle.std.proofs.lemmas.Bool.Decides.{nat_tests}
 use Rattle.registry_script.specs.declared.engine.Engine.{Engine}
-use Rattle.registry_script.specs.declared.script.fault.RunFault.{RunFault}
-use Rattle.registry_script.specs.declared.script.fault.RunFault.TheVariants as run
-use Rattle.registry_script.specs.declared.script.fault.Cause.TheVariants.{TooLong}
-use Rattle.registry_script.specs.Grammar.{parsed}
+use Rattle.registry_language.specs.declared.fault.RunFault.{RunFault}
+use Rattle.registry_language.specs.declared.fault.RunFault.TheVariants as run
+use Rattle.registry_language.specs.declared.fault.Cause.TheVariants.{TooLong}
+use Rattle.registry_language.specs.Grammar.{parsed}
 use Rattle.registry_script.specs.Ran.{Ran, RanOn}
-use Rattle.registry_script.specs.Written.{WasRead}
+use Rattle.registry_script.specs.Reads.{WasRead}
 
 too_long : (text : List ℕ) → 65536 < length text → parsed text ≡ Err (record { line = 1; cause = TooLong })
 unfolding parsed

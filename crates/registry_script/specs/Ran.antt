@@ -3,13 +3,14 @@ use Rattle.std.specs.Prelude.{◌≡◌, ℕ, List, Option, Result, Ok, Err, ◌
 use Rattle.std.specs.Io.KnownBytes.{Appends, Keeps}
 use Rattle.registry_script.specs.declared.engine.Engine.{Engine}
 use Rattle.registry_script.specs.declared.engine.Engine.TheVariants.{Core, Live}
-use Rattle.registry_script.specs.declared.script.fault.RunFault.{RunFault}
-use Rattle.registry_script.specs.declared.script.fault.RunFault.TheVariants as run
-use Rattle.registry_script.specs.Grammar.{parsed}
-use Rattle.registry_script.specs.Live.{WritesFront, WritesRun}
-use Rattle.registry_script.specs.Program.{Program}
-use Rattle.registry_script.specs.Report.{report}
-use Rattle.registry_script.specs.Written.{AppendsPrefix, WasRead}
+use Rattle.registry_language.specs.declared.fault.RunFault.{RunFault}
+use Rattle.registry_language.specs.declared.fault.RunFault.TheVariants as run
+use Rattle.registry_language.specs.Grammar.{parsed}
+use Rattle.registry_report.specs.Printed.{WritesFront, WritesRun}
+use Rattle.registry_language.specs.Program.{Program}
+use Rattle.registry_report.specs.Report.{report}
+use Rattle.registry_report.specs.Written.{AppendsPrefix}
+use Rattle.registry_script.specs.Reads.{WasRead}
 
 -- what the engine writes of a script, and nothing else: over the core its report, over a registry that is running a line for each command
 abbrev pub WritesWhole : Engine → Option (List ℕ) → Option (List ℕ) → Program → Type 0

@@ -2,10 +2,11 @@
 
 ghost use Rattle.std.specs.Prelude.{◌≡◌, IfOk, IfErr, IfSome};
 ghost use Rattle.registry_script.specs.Ran.{Ran, RanOn};
-ghost use Rattle.registry_script.specs.Written.{WasRead, IsWhileReading};
+ghost use Rattle.registry_script.specs.Reads.{WasRead, IsWhileReading};
 
-use crate::report::{run_core, run_live};
-use crate::script::{ParseFault, RunFault, parse_script};
+use registry_language::{ParseFault, RunFault, parse_script};
+use registry_live::run_live;
+use registry_report::run_core;
 use std::alloc::Global;
 use std::io::{Read, Write};
 use std::sync::Wait;

@@ -1,16 +1,13 @@
-//! Scripts of registry commands: their language, their report, and the runs that write it.
+//! Scripts of registry commands, from bytes to bytes: read, parsed, run by an engine, and written. The language, the report, the runs and the
+//! storm are crates of their own, and what callers use of them is here too.
 #![tactic(auto)]
 
 mod engine;
-mod laws;
-mod report;
-mod script;
-mod storms;
 
 pub use engine::{Engine, run};
-pub use laws::report_laws;
-pub use report::{run_core, run_live, run_live_on};
-pub use script::{
+pub use registry_language::{
     Cause, Command, Label, ParseFault, RunFault, Script, ScriptFault, parse_number, parse_script,
 };
-pub use storms::{Gate, OpenGate, StormSum, storm};
+pub use registry_live::{run_live, run_live_on};
+pub use registry_report::{report_laws, run_core};
+pub use registry_storm::{Gate, OpenGate, StormSum, storm};

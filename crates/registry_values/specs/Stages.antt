@@ -17,6 +17,11 @@ abbrev pub stage_in : (ℕ → Stage) → Option ℕ → Result Stage Refusal
 stage_in stage None = Err NotRetired
 stage_in stage (Some t) = Ok (stage t)
 
+-- the stage isn't the end
+abbrev pub IsObstacle : Stage → Type 0
+IsObstacle (Freed t) = ⊥
+IsObstacle _ = Unit {0}
+
 -- Destroying an entry: the answer of an advance, where what stands in the way is a refusal.
 abbrev pub destroyed : Stage → Result ℕ Refusal
 destroyed (Grace c) = Err (StillHeld (Grace c))

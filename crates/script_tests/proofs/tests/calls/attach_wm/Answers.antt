@@ -1,5 +1,5 @@
 use Rattle.std.proofs.Common.{◌<◌, arith, get_or}
-use Rattle.registry_script.proofs.LiveCpus.{all_with, attached_id}
+use Rattle.registry_live.proofs.LiveCpus.{all_with, attached_id}
 use Rattle.script_tests.proofs.tests.calls.attach_wm.Goals as goal
 
 pub returns : goal.returns

@@ -1,4 +1,4 @@
-use Rattle.registry_script.proofs.AllCpus.{new_are_all}
+use Rattle.registry_live.proofs.AllCpus.{new_are_all}
 use Rattle.script_tests.proofs.tests.calls.run_to_a_fault.Goals as goal
 
 pub run_and_detach-requires-clause-cpus : goal.run_and_detach-requires-clause-cpus

@@ -1,4 +1,4 @@
-use Rattle.registry_script.proofs.AllCpus.{new_are_all}
+use Rattle.registry_live.proofs.AllCpus.{new_are_all}
 use Rattle.script_tests.proofs.tests.calls.run_to_the_end.Goals as goal
 
 pub run_and_free-requires-clause-cpus : goal.run_and_free-requires-clause-cpus

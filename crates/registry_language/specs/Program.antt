@@ -1,0 +1,118 @@
+-- What a script says, and the lines of it so far.
+use Rattle.std.specs.Prelude.{◌≡◌, ℕ, nat_lt, Bool, true, false, ◌&&◌, ◌||◌, List, [], ◌∷◌, ◌++◌, Option, Some, None, IsTrue}
+use Rattle.std.specs.List.{list_all}
+use Rattle.registry_values.specs.declared.settings.Settings.{Settings}
+use Rattle.registry_values.specs.Limits.{are_fit, is_within}
+use Rattle.registry_values.specs.Names.{is_lawful}
+use Rattle.registry_values.specs.Slots.{is_iface}
+use Rattle.registry_language.specs.declared.label.Label.{Label}
+use Rattle.registry_language.specs.declared.place.Place.{Place}
+use Rattle.registry_language.specs.declared.place.Place.TheVariants.{First, Second, Later}
+use Rattle.registry_language.specs.declared.command.Command.{Command}
+use Rattle.registry_language.specs.declared.command.Command.TheVariants.{Domain, Limits, Attach, Plug, Detach, Enter, Exit, Find, Reference, Copy, Held, Read, Release, Count, Peek, Uncount, Advance, Destroy, Perform, Audit}
+
+pub record Program : Type 0 where
+  pub settings : Settings
+  pub commands : List Command
+
+-- where the next command stands, and the commands before it
+pub record Plan : Type 0 where
+  pub place : Place
+  pub commands : List Command
+
+abbrev pub blank : Plan
+blank = record { place = First; commands = [] }
+
+-- the limits of a script that gives none
+abbrev pub settings_for : ℕ → ℕ → Settings
+settings_for cpus slots = record { cpus = cpus; slots = slots; change_limit = 1000; section_limit = 1000; passive_limit = 100; count_limit = 100 }
+
+-- the same registry with other limits
+abbrev pub with_limits : Settings → ℕ → ℕ → ℕ → ℕ → Settings
+with_limits s changes sections passive count = record s { change_limit = changes; section_limit = sections; passive_limit = passive; count_limit = count }
+
+-- a letter
+abbrev pub is_label : Label → Bool
+is_label label = nat_lt label.place 26
+
+-- how many turns a call may be given
+abbrev pub are_turns : ℕ → Bool
+are_turns n = is_within 1 1000 n
+
+-- the CPU is one of so many, and the other words are lawful
+abbrev pub suits_cpus : ℕ → Command → Bool
+suits_cpus cpus (Domain c slots) = true
+suits_cpus cpus (Limits changes sections passive count) = true
+suits_cpus cpus (Attach cpu rec) = nat_lt cpu cpus && is_lawful rec.name
+suits_cpus cpus (Plug cpu rec label) = nat_lt cpu cpus && is_lawful rec.name && is_iface rec.kind && is_label label
+suits_cpus cpus (Detach cpu kind name) = nat_lt cpu cpus
+suits_cpus cpus (Enter cpu) = nat_lt cpu cpus
+suits_cpus cpus (Exit cpu) = nat_lt cpu cpus
+suits_cpus cpus (Find cpu kind name) = nat_lt cpu cpus
+suits_cpus cpus (Reference cpu label) = nat_lt cpu cpus && is_label label
+suits_cpus cpus (Copy cpu source target) = nat_lt cpu cpus && is_label source && is_label target
+suits_cpus cpus (Held cpu label) = nat_lt cpu cpus && is_label label
+suits_cpus cpus (Read cpu label) = nat_lt cpu cpus && is_label label
+suits_cpus cpus (Release cpu label) = nat_lt cpu cpus && is_label label
+suits_cpus cpus (Count cpu label) = nat_lt cpu cpus && is_label label
+suits_cpus cpus (Peek label) = is_label label
+suits_cpus cpus (Uncount cpu label) = nat_lt cpu cpus && is_label label
+suits_cpus cpus (Advance number) = true
+suits_cpus cpus (Destroy cpu number turns) = nat_lt cpu cpus && are_turns turns
+suits_cpus cpus (Perform cpu turns) = nat_lt cpu cpus && are_turns turns
+suits_cpus cpus Audit = true
+
+-- all that carrying the command out needs
+abbrev pub suits : Settings → Command → Bool
+suits s command = suits_cpus s.cpus command
+
+-- domain, with settings that can be used
+abbrev pub begins : Command → Bool
+begins (Domain cpus slots) = are_fit (settings_for cpus slots)
+begins _ = false
+
+-- limits that can be used
+abbrev pub limits_rightly : Settings → Command → Bool
+limits_rightly s (Limits changes sections passive count) = are_fit (with_limits s changes sections passive count)
+limits_rightly s _ = false
+
+-- a command of the run, neither domain nor limits, that suits the settings
+abbrev pub is_of_run : Settings → Command → Bool
+is_of_run s (Domain cpus slots) = false
+is_of_run s (Limits changes sections passive count) = false
+is_of_run s command = suits s command
+
+-- a command that may come there: domain comes first, and limits second or not at all
+abbrev pub may_follow : Place → Command → Bool
+may_follow First command = begins command
+may_follow (Second s) command = limits_rightly s command || is_of_run s command
+may_follow (Later s) command = is_of_run s command
+
+-- the settings with the limits that the command gives
+abbrev pub settings_after : Settings → Command → Settings
+settings_after s (Limits changes sections passive count) = with_limits s changes sections passive count
+settings_after s _ = s
+
+-- where the next command stands
+abbrev pub place_after : Place → Command → Place
+place_after First (Domain cpus slots) = Second (settings_for cpus slots)
+place_after First _ = First
+place_after (Second s) command = Later (settings_after s command)
+place_after (Later s) command = Later s
+
+abbrev pub with_command : Plan → Option Command → Plan
+with_command p None = p
+with_command p (Some command) = record { place = place_after p.place command; commands = p.commands ++ command ∷ [] }
+
+pub record IsProgram (p : Program) : Type 0 where
+  pub fit : IsTrue (are_fit p.settings)
+  pub suited : IsTrue (list_all (suits p.settings) p.commands)
+
+-- the commands so far are those of a program
+abbrev pub AreBefore : Place → List Command → Type 0
+AreBefore First commands = commands ≡ []
+AreBefore (Second s) commands = IsProgram (record { settings = s; commands = commands })
+AreBefore (Later s) commands = IsProgram (record { settings = s; commands = commands })
+
+abbrev pub IsPlan : Plan → Type 0
+IsPlan p = AreBefore p.place p.commands

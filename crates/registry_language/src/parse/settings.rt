@@ -1,0 +1,88 @@
+//! The commands that give the settings: `domain` and `limits`.
+
+ghost use Rattle.std.specs.Prelude.{◌≡◌, IfOk, IsTrue, map};
+ghost use Rattle.registry_language.specs.Grammar.{fitting, domain_of, limits_of, limits_words};
+ghost use Rattle.registry_language.specs.Program.{settings_for, with_limits, may_follow};
+ghost use Rattle.registry_values.specs.Limits.{are_fit};
+
+use crate::command::Command;
+use crate::fault::Cause;
+use crate::place::{Place, settings_for, with_limits};
+use crate::words::number;
+use registry_values::Settings;
+
+#[tactic(auto, unfolding(crate::specs::Grammar::domain_of))]
+pub fn domain(arguments: &[&[u8]]) -> Result<Command, Cause>
+    ensures said { result ≡ domain_of (map (λ x. x.now) arguments.now) }
+    ensures follows { IfOk result (λ command. IsTrue (may_follow Place.First command)) }
+{
+    let [cpus, slots] = arguments else {
+        return Err(Cause::WrongCount);
+    };
+    let cpus = number(cpus).ok_or(Cause::BadNumber)?;
+    let slots = number(slots).ok_or(Cause::BadNumber)?;
+    sized(cpus, slots)
+}
+
+/// The command of settings that are tested before they are narrowed.
+fn sized(cpus: u64, slots: u64) -> Result<Command, Cause>
+    ensures said { result ≡ fitting (settings_for cpus slots) (Command.Domain cpus slots) }
+    ensures follows { IfOk result (λ command. IsTrue (may_follow Place.First command)) }
+{
+    if cpus > 8 || slots > 32 {
+        return Err(Cause::BadSettings);
+    }
+    let cpus = cpus as u8;
+    let slots = slots as u8;
+    fitting(settings_for(cpus, slots), Command::Domain { cpus, slots })
+}
+
+/// The command, where the settings after it can be used.
+fn fitting(settings: Settings, command: Command) -> Result<Command, Cause>
+    ensures said { result ≡ fitting settings command }
+    ensures fit { IfOk result (λ taken. IsTrue (are_fit settings)) }
+    ensures same { IfOk result (λ taken. taken ≡ command) }
+{
+    match settings.check() {
+        Ok(()) => Ok(command),
+        Err(_) => Err(Cause::BadSettings),
+    }
+}
+
+pub fn limits(settings: Settings, arguments: &[&[u8]]) -> Result<Command, Cause>
+    ensures said { result ≡ limits_of settings (map (λ x. x.now) arguments.now) }
+    ensures follows { IfOk result (λ command. IsTrue (may_follow (Place.Second settings) command)) }
+{
+    match arguments {
+        [changes, sections, passive, count] => {
+            limits_words(settings, changes, sections, passive, count)
+        }
+        _ => Err(Cause::WrongCount),
+    }
+}
+
+#[tactic(auto, unfolding(crate::specs::Grammar::limits_words))]
+fn limits_words(
+    settings: Settings,
+    first: &[u8],
+    second: &[u8],
+    third: &[u8],
+    fourth: &[u8],
+) -> Result<Command, Cause>
+    ensures said { result ≡ limits_words settings first.now second.now third.now fourth.now }
+    ensures follows { IfOk result (λ command. IsTrue (may_follow (Place.Second settings) command)) }
+{
+    let changes = number(first).ok_or(Cause::BadNumber)?;
+    let sections = number(second).ok_or(Cause::BadNumber)?;
+    let passive = number(third).ok_or(Cause::BadNumber)?;
+    let count = number(fourth).ok_or(Cause::BadNumber)?;
+    fitting(
+        with_limits(settings, changes, sections, passive, count),
+        Command::Limits {
+            changes,
+            sections,
+            passive,
+            count,
+        },
+    )
+}

@@ -1,0 +1,2 @@
+pub mod AllCpus
+pub mod LiveCpus

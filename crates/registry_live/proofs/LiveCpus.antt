@@ -1,0 +1,78 @@
+-- All CPUs of a registry stay all CPUs, where one of them has changed and keeps its number.
+use Rattle.std.proofs.Common.{◌≡◌, ◌≢◌, ◌⊎◌, ⊎_elim, inl, inr, ℕ, ◌<◌, Bool, List, get_or, set, Option, Some, refl, sym, ap, ◌∙◌, subst, arith}
+use Rattle.std.proofs.lemmas.Bool.{cases_eq, false≢true}
+use Rattle.std.proofs.lemmas.List.{length-set}
+use Rattle.std.specs.Prelude.{IfErr, IfOk, IfSome, Result, Ok, Err, is_some}
+use mathlib.Core.Option.{some}
+use lib.ListN.{get_elem?}
+use Rattle.atomic_table.proofs.Lists.{at_index, at_set}
+use Rattle.registry_values.specs.declared.entry.Entry.{Entry}
+use Rattle.registry_values.specs.declared.entry.Kind.{Kind}
+use Rattle.registry_values.specs.declared.entry.Record.{Record}
+use Rattle.registry_values.specs.declared.name.Name.{Name}
+use Rattle.registry_values.specs.declared.refusal.Refusal.{Refusal}
+use Rattle.cpu_words.specs.declared.view.CpuView.{CpuView}
+use Rattle.cpu_words.specs.declared.view.ReferenceView.{ReferenceView}
+use Rattle.local_count.specs.References.{HasReleased}
+use Rattle.passive_list.specs.Cpus.{OnCpu}
+use Rattle.passive_list.specs.Sections.{HasEnteredOn}
+use Rattle.passive_ref.specs.Psrefs.{GivesBack, HasOneLess, OnPsref, why_unusable}
+use Rattle.name_registry.specs.Auditing.{AreAllCpus}
+use Rattle.name_registry.specs.Locking.{IsAttachRefusal, IsDetachRefusedTo}
+use Rattle.name_registry.specs.Meeting.{HasLearned, HasSeenAttach, HasSeenDetach}
+use Rattle.name_registry.proofs.Audits.{cpu_at}
+use Rattle.registry_live.specs.Calls.{IsGivenBack}
+
+pub all_with : (n : ℕ) (xs : List OnCpu) (c : ℕ) (x y : OnCpu) → AreAllCpus n xs → c < n → x ≡ get_or xs c x → y.view.id ≡ (get_or xs c x).view.id → AreAllCpus n (set xs c y)
+all_with n xs c x y all known is same = record { count = length-set xs c y ∙ all.count; each = each }
+  where
+    there : get_elem? xs c ≡ some x
+    there = let count = all.count in at_index xs c x (omega (arith, known, count)) is
+
+    each : (k : ℕ) (z : OnCpu) → get_elem? (set xs c y) k ≡ some z → z.view.id ≡ k
+    each k z at = ⊎_elim
+        (λ (here : (k ≡ c) × (y ≡ z)). ap (λ (u : OnCpu). u.view.id) (sym here.1) ∙ same ∙ ap (λ (u : OnCpu). u.view.id) (sym is) ∙ all.each c x there ∙ sym here.0)
+        (λ (off : (k ≢ c) × (get_elem? xs k ≡ some z)). all.each k z off.1)
+        (at_set xs c k y z at)
+
+-- The number that a CPU keeps, of each call
+
+pub attached_id : (a b : OnCpu) (rec : Record) (inside unfit : Bool) (answer : Result Entry Refusal) → IfOk answer (λ e. (e.rec ≡ rec) × HasLearned a b × HasSeenAttach a b e) → IfErr answer (λ f. IsAttachRefusal inside unfit f × (b ≡ a)) → b.view.id ≡ a.view.id
+attached_id a b rec inside unfit (Ok e) ok refused = ap (λ (x : OnCpu). x.view.id) ok.1.is
+attached_id a b rec inside unfit (Err f) ok refused = ap (λ (x : OnCpu). x.view.id) refused.1
+
+pub detached_id : (a b : OnCpu) (kind : Kind) (name : Name) (inside : Bool) (answer : Result Entry Refusal) → IfOk answer (λ e. (e.rec.kind ≡ kind) × (e.rec.name ≡ name) × HasLearned a b × HasSeenDetach a b e) → IfErr answer (λ f. IsDetachRefusedTo inside f × (b ≡ a))
+    → b.view.id ≡ a.view.id
+detached_id a b kind name inside (Ok e) ok refused = ap (λ (x : OnCpu). x.view.id) ok.2.is
+detached_id a b kind name inside (Err f) ok refused = ap (λ (x : OnCpu). x.view.id) refused.1
+
+once_entered : (a b : OnCpu) → HasEnteredOn a b → b.view.id ≡ a.view.id
+once_entered a b left = ⊎_elim
+    (λ (first : a.depth ≡ 0). ap (λ (x : CpuView). x.id) (left.begun first).1)
+    (λ (inner : a.depth ≢ 0). ap (λ (x : CpuView). x.id) (left.inner inner))
+    (cases_eq a.depth 0)
+
+pub entered_id : (a b : OnCpu) (answer : Result (Unit {0}) Refusal) → IfOk answer (λ done. HasEnteredOn a b) → IfErr answer (λ f. b ≡ a) → b.view.id ≡ a.view.id
+entered_id a b (Ok done) ok refused = once_entered a b ok
+entered_id a b (Err f) ok refused = ap (λ (x : OnCpu). x.view.id) refused
+
+pub uncounted_id : (a b : OnCpu) (v : ReferenceView) → HasReleased a v b ⊎ (b ≡ a) → b.view.id ≡ a.view.id
+uncounted_id a b v (inl is) = ap (λ (x : OnCpu). x.view.id) is
+uncounted_id a b v (inr is) = ap (λ (x : OnCpu). x.view.id) is
+
+pub released_id : {X : Type 0} (a b : OnCpu) (p : OnPsref) (why : Option Refusal) (answer : Result X (Refusal × OnPsref)) → GivesBack why p (λ x. HasOneLess p.number a b) answer → IfErr answer (λ e. b ≡ a) → b.view.id ≡ a.view.id
+released_id a b p why (Ok x) is refused = ap (λ (y : OnCpu). y.view.id) is.1
+released_id a b p why (Err e) is refused = ap (λ (y : OnCpu). y.view.id) refused
+
+-- What becomes of a passive reference that is given back
+
+once_back : {X : Type 0} (xs : List OnCpu) (x y : OnCpu) (p : OnPsref) (answer : Result X (Refusal × OnPsref)) → GivesBack (why_unusable (get_or xs p.cpu x).view p) p (λ d. HasOneLess p.number (get_or xs p.cpu x) y) answer → IsGivenBack xs (set xs p.cpu y) p
+once_back xs x y p (Ok d) given = λ (z : OnCpu) at may. (y, subst (λ (u : OnCpu). HasOneLess p.number u y) (cpu_at xs p.cpu z x at).1 given.1, refl)
+once_back xs x y p (Err e) given = λ (z : OnCpu) at may. absurd (false≢true (sym (ap is_some (sym given.0 ∙ ap (λ (u : OnCpu). why_unusable u.view p) (cpu_at xs p.cpu z x at).1 ∙ may))))
+
+-- its own CPU releases it
+pub one_back : {X : Type 0} (xs : List OnCpu) (x y : OnCpu) (p : OnPsref) (place : Option OnPsref) (n : ℕ) (answer : Result X (Refusal × OnPsref)) → place ≡ Some p → n ≡ p.cpu
+    → GivesBack (why_unusable (get_or xs n x).view p) p (λ d. HasOneLess p.number (get_or xs n x) y) answer → IfSome place (IsGivenBack xs (set xs n y))
+one_back xs x y p place n answer here is given =
+    let back = once_back xs x y p answer (subst (λ k. GivesBack (why_unusable (get_or xs k x).view p) p (λ d. HasOneLess p.number (get_or xs k x) y) answer) is given) in
+    subst (λ (o : Option OnPsref). IfSome o (IsGivenBack xs (set xs n y))) (sym here) (subst (λ k. IsGivenBack xs (set xs k y) p) (sym is) back)

@@ -1,0 +1,16 @@
+use Rattle.std.proofs.Common.{arith, get_or}
+use Rattle.registry_live.proofs.LiveCpus.{all_with, one_back, released_id}
+use Rattle.registry_live.proofs.session.release_passive.Goals as goal
+
+pub returns-in_default-release-clause-all : goal.returns-in_default-release-clause-all
+returns-in_default-release-clause-all g c =
+    all_with _ c.args.cpus.now c.cpu-at.result c.index-cpus-at.result c.release.new.cpu c.requires (omega (arith, c.if-at-cpus.false, c.requires.count)) c.index-cpus-at.is
+    (released_id (get_or c.args.cpus.now c.cpu-at.result c.index-cpus-at.result) c.release.new.cpu c.in-Some.psref _ c.release.result c.release.ensures.answer c.release.ensures.refused)
+
+pub returns-in-Err-clause-released : goal.returns-in-Err-clause-released
+returns-in-Err-clause-released g c =
+    one_back c.args.cpus.now c.index-cpus-at.result c.release.new.cpu c.in-Some.psref c.args.place c.cpu-at.result c.release.result c.in-Some.is c.cpu-at.ensures c.release.ensures.answer
+
+pub returns-in_default-release-clause-released : goal.returns-in_default-release-clause-released
+returns-in_default-release-clause-released g c =
+    one_back c.args.cpus.now c.index-cpus-at.result c.release.new.cpu c.in-Some.psref c.args.place c.cpu-at.result c.release.result c.in-Some.is c.cpu-at.ensures c.release.ensures.answer

@@ -1,0 +1,51 @@
+-- The calls of a session over a running registry: why a command has no answer, and what stands in a label's place.
+use Rattle.std.specs.Prelude.{◌≡◌, Bool, List, slice_set, true, false, Option, Some, None, Result, Ok, Err, if◌then◌else◌}
+use mathlib.Core.Option.{some}
+use lib.ListN.{get_elem?}
+use Rattle.registry_values.specs.declared.refusal.Refusal.{Refusal}
+use Rattle.registry_values.specs.Slots.{is_iface}
+use Rattle.cpu_words.specs.declared.view.ReferenceView.{ReferenceView}
+use Rattle.passive_list.specs.Cpus.{OnCpu}
+use Rattle.passive_ref.specs.Psrefs.{HasOneLess, OnPsref, why_unusable}
+use Rattle.name_registry.specs.Locking.{IsAttachRefusal}
+use Rattle.name_registry.specs.Meeting.{is_inside}
+use Rattle.registry_report.specs.declared.hitch.Hitch.{Hitch}
+use Rattle.registry_report.specs.declared.hitch.Hitch.TheVariants.{NoLabel, LabelTaken, NotInside, Refused}
+
+-- there is an answer just where nothing stands against it
+abbrev pub Decides : {X : Type 0} → Option Hitch → (X → Type 0) → Result X Hitch → Type 0
+Decides why P (Ok x) = (why ≡ None) × P x
+Decides why P (Err h) = why ≡ Some h
+
+-- the CPU is outside its section
+abbrev pub why_outside : OnCpu → Option Hitch
+why_outside x = if is_inside x then None else Some NotInside
+
+-- the call is refused
+abbrev pub refused_by : Option Refusal → Option Hitch
+refused_by None = None
+refused_by (Some f) = Some (Refused f)
+
+-- the place to be filled is taken, or else the call is refused
+abbrev pub unless_taken : Bool → Option Refusal → Option Hitch
+unless_taken true why = Some LabelTaken
+unless_taken false why = refused_by why
+
+-- the place is free, or else what stands against the use of its reference
+abbrev pub unless_free : {X : Type 0} → Option X → (X → Option Hitch) → Option Hitch
+unless_free None why = Some NoLabel
+unless_free (Some x) why = why x
+
+-- the place has a reference, of which this is so
+abbrev pub Has : {X : Type 0} → Option X → (X → Type 0) → Type 0
+Has {X} place P = (x : X) × (place ≡ Some x) × P x
+
+-- why an interface isn't attached on the driver that the reference in the place is to
+abbrev pub IsPlugHitch : OnCpu → Option ReferenceView → Hitch → Type 0
+IsPlugHitch x None NoLabel = Unit {0}
+IsPlugHitch x (Some v) (Refused f) = IsAttachRefusal (is_inside x) (is_iface v.entry.rec.kind) f
+IsPlugHitch x place h = ⊥
+
+-- its own CPU has released the reference, where it may, and the others are as they were
+abbrev pub IsGivenBack : List OnCpu → List OnCpu → OnPsref → Type 0
+IsGivenBack xs ys p = (x : OnCpu) → get_elem? xs p.cpu ≡ some x → why_unusable x.view p ≡ None → (y : OnCpu) × HasOneLess p.number x y × (ys ≡ slice_set xs p.cpu y)

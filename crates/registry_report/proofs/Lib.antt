@@ -1,0 +1,6 @@
+pub mod Below
+pub mod Lookups
+pub mod calls
+pub mod shows
+pub mod sound
+pub mod written

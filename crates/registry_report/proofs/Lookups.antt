@@ -1,0 +1,165 @@
+-- A lookup computed change by change is the one of the history, and the end of an entry is where it is detached.
+use Rattle.std.proofs.Common.{◌≡◌, ℕ, zero, suc, ◌<◌, ◌≤◌, ⊎_elim, List, length, get_or, Option, Some, None, Bool, true, false, refl, sym, ap, subst, ◌∙◌, arith, eqb-true}
+use Rattle.std.specs.Prelude.{slice_get, position, if◌then◌else◌, ◌==◌}
+use Rattle.std.proofs.lemmas.Bool.{cases_eq, eq-eqb}
+use Rattle.std.proofs.lemmas.Option.{same_Some, none-some, get_or_from_slice_get, slice_get-get_or}
+use Rattle.std.proofs.lemmas.List.Quantifiers.{position-Some}
+use Rattle.registry_values.specs.declared.entry.Entry.{Entry}
+use Rattle.registry_values.specs.declared.entry.Change.{Change}
+use Rattle.registry_values.specs.declared.entry.Change.TheVariants.{Attach, Detach}
+use Rattle.registry_values.specs.declared.slot.Key.{Key}
+use Rattle.registry_values.specs.Slots.{key_of, same_key}
+use Rattle.protocol.specs.History.{change_at, IsAttached, EndsAt, IsLiveAt, IsLegal, IsLookup}
+use Rattle.protocol.specs.Events.{is_number}
+use Rattle.protocol.proofs.History.{ends_after, one_end, one_live, at_within}
+use Rattle.registry_values.proofs.Slots.{key_from, key_same}
+use Rattle.protocol.proofs.Numbers.{position_fails}
+use Rattle.registry_report.specs.Changes.{answer_after, lookup, is_end_of, end_of, counted_on, entry_of, attached_by}
+
+-- One change more
+
+-- who is live stays so, unless this change is the end
+live_on : (h : List Change) (k : ℕ) (e : Entry) → IsLiveAt h k e → (EndsAt h e.number (suc k) → ⊥) → IsLiveAt h (suc k) e
+live_on h k e live on = record {
+  attached = live.attached;
+  begun = omega (arith, live.begun);
+  unended = λ p x. ⊎_elim
+      (λ (at : p ≡ suc k). absurd (on (subst (EndsAt h e.number) at x)))
+      (λ (off : p ≡ suc k → ⊥). let later : k < p = live.unended p x in omega arith)
+      (cases_eq p (suc k));
+}
+
+-- who is live was so, unless this change is the attach
+live_back : (h : List Change) (k : ℕ) (e : Entry) → IsLiveAt h (suc k) e → (e.number ≡ suc k → ⊥) → IsLiveAt h k e
+live_back h k e live old = record {
+  attached = live.attached;
+  begun = let le : e.number ≤ suc k = live.begun in omega (arith, old);
+  unended = λ p x. let later : suc k < p = live.unended p x in omega arith;
+}
+
+-- who is attached at a position where something else stands isn't
+not_here : (h : List Change) (k : ℕ) (e : Entry) (x : Option Change) → IsAttached h e → change_at h k ≡ x → (x ≡ Some (Attach e) → ⊥) → e.number ≡ k → ⊥
+not_here h k e x att is other at = other (sym is ∙ (ap (change_at h) (sym at) ∙ att))
+
+attach_ends : (f : Entry) (n : ℕ) → ◌≡◌ {A = Option Change} (Some (Attach f)) (Some (Detach n)) → ⊥
+attach_ends f n p = cc
+
+detach_attaches : (n : ℕ) (f : Entry) → ◌≡◌ {A = Option Change} (Some (Detach n)) (Some (Attach f)) → ⊥
+detach_attaches n f p = cc
+
+same_end : (m n : ℕ) → ◌≡◌ {A = Option Change} (Some (Detach m)) (Some (Detach n)) → m ≡ n
+same_end m n p = cc
+
+same_attach : (e f : Entry) → ◌≡◌ {A = Option Change} (Some (Attach e)) (Some (Attach f)) → e ≡ f
+same_attach e f p = cc
+
+-- nothing happens at this position
+idle_step : (h : List Change) (key : Key) (k : ℕ) (a : Option Entry) → change_at h (suc k) ≡ None → IsLookup h k key a → IsLookup h (suc k) key a
+idle_step h key k None is was = λ e live same. was e (live_back h k e live (not_here h (suc k) e None live.attached is (λ (q : ◌≡◌ {A = Option Change} None (Some (Attach e))). none-some (Attach e) q))) same
+idle_step h key k (Some e) is was = (live_on h k e was.0 (λ (q : EndsAt h e.number (suc k)). none-some (Detach e.number) (sym is ∙ q)), was.1)
+
+-- an entry with another key is attached
+other_step : (h : List Change) (key : Key) (k : ℕ) (f : Entry) (a : Option Entry) → change_at h (suc k) ≡ Some (Attach f) → (key_of f ≡ key → ⊥) → IsLookup h k key a → IsLookup h (suc k) key a
+other_step h key k f None is other was = λ e live same. was e
+    (live_back h k e live (not_here h (suc k) e (Some (Attach f)) live.attached is (λ (q : ◌≡◌ {A = Option Change} (Some (Attach f)) (Some (Attach e))). other (ap key_of (same_attach f e q) ∙ same)))) same
+other_step h key k f (Some e) is other was = (live_on h k e was.0 (λ (q : EndsAt h e.number (suc k)). attach_ends f e.number (sym is ∙ q)), was.1)
+
+-- one with the key is
+attach_step : (h : List Change) → IsLegal h → (key : Key) (k : ℕ) (f : Entry) → change_at h (suc k) ≡ Some (Attach f) → key_of f ≡ key → IsLookup h (suc k) key (Some f)
+attach_step h legal key k f is same =
+    let number : f.number ≡ suc k = legal.numbered (suc k) f is in (
+      record {
+        attached = ap (change_at h) number ∙ is;
+        begun = omega arith;
+        unended = λ p x. subst (λ (n : ℕ). n < p) number (ends_after h legal f.number p x);
+      },
+      same,
+    )
+
+-- the answer ends
+end_step : (h : List Change) → IsLegal h → (key : Key) (k n : ℕ) (e : Entry) → change_at h (suc k) ≡ Some (Detach n) → e.number ≡ n → IsLookup h k key (Some e) → IsLookup h (suc k) key None
+end_step h legal key k n e is number was f live same =
+    let old : IsLiveAt h k f = live_back h k f live (not_here h (suc k) f (Some (Detach n)) live.attached is (detach_attaches n f)) in
+    let one : f ≡ e = one_live h legal k f e old was.0 (same ∙ sym was.1) in
+    let late : suc k < suc k = live.unended (suc k) (is ∙ ap (λ (m : ℕ). Some (Detach m)) (sym number ∙ ap (λ (g : Entry). g.number) (sym one))) in
+    omega arith
+
+-- another entry does
+beside_step : (h : List Change) (key : Key) (k n : ℕ) (a : Option Entry) → change_at h (suc k) ≡ Some (Detach n) → is_number n a ≡ false → IsLookup h k key a → IsLookup h (suc k) key a
+beside_step h key k n None is other was = λ e live same. was e (live_back h k e live (not_here h (suc k) e (Some (Detach n)) live.attached is (detach_attaches n e))) same
+beside_step h key k n (Some e) is other was = (
+  live_on h k e was.0 (λ (q : EndsAt h e.number (suc k)).
+      let same : n ≡ e.number = same_end n e.number (sym is ∙ q) in
+      let yes : (e.number == n) ≡ true = eq-eqb e.number n (sym same) in
+      let no : ◌≡◌ {A = Bool} true false = sym yes ∙ other in cc),
+  was.1,
+)
+
+detach_step : (h : List Change) → IsLegal h → (key : Key) (k n : ℕ) (a : Option Entry) (b : Bool) → change_at h (suc k) ≡ Some (Detach n) → is_number n a ≡ b → IsLookup h k key a → IsLookup h (suc k) key (if b then None else a)
+detach_step h legal key k n a false is test was = beside_step h key k n a is test was
+detach_step h legal key k n None true is test was = absurd (let q : ◌≡◌ {A = Bool} false true = test in cc)
+detach_step h legal key k n (Some e) true is test was = end_step h legal key k n e is (eqb-true e.number n test) was
+
+key_step : (h : List Change) → IsLegal h → (key : Key) (k : ℕ) (f : Entry) (a : Option Entry) (b : Bool) → change_at h (suc k) ≡ Some (Attach f) → same_key (key_of f) key ≡ b → IsLookup h k key a → IsLookup h (suc k) key (if b then Some f else a)
+key_step h legal key k f a true is test was = attach_step h legal key k f is (key_from (key_of f) key test)
+key_step h legal key k f a false is test was = other_step h key k f a is
+    (λ (same : key_of f ≡ key). let q : ◌≡◌ {A = Bool} true false = sym (ap (λ (x : Key). same_key x key) same ∙ key_same key) ∙ test in cc) was
+
+change_step : (h : List Change) → IsLegal h → (key : Key) (k : ℕ) (a : Option Entry) (x : Option Change) → change_at h (suc k) ≡ x → IsLookup h k key a → IsLookup h (suc k) key (answer_after key a x)
+change_step h legal key k a None is was = idle_step h key k a is was
+change_step h legal key k a (Some (Attach f)) is was = key_step h legal key k f a (same_key (key_of f) key) is refl was
+change_step h legal key k a (Some (Detach n)) is was = detach_step h legal key k n a (is_number n a) is refl was
+
+-- What is computed change by change is the lookup at each point.
+pub lookup_is : (h : List Change) → IsLegal h → (key : Key) (k : ℕ) → IsLookup h k key (lookup h key k)
+lookup_is h legal key zero = λ e live same. let low : e.number ≤ 0 = live.begun in let some : 0 < e.number = (at_within h e.number (Attach e) live.attached).0 in omega arith
+lookup_is h legal key (suc k) = change_step h legal key k (lookup h key k) (change_at h (suc k)) refl (lookup_is h legal key k)
+
+-- A lookup has one answer.
+pub one_lookup : (h : List Change) → IsLegal h → (k : ℕ) (key : Key) (a b : Option Entry) → IsLookup h k key a → IsLookup h k key b → a ≡ b
+one_lookup h legal k key None None is also = refl
+one_lookup h legal k key None (Some e) is also = absurd (is e also.0 also.1)
+one_lookup h legal k key (Some e) None is also = absurd (also e is.0 is.1)
+one_lookup h legal k key (Some e) (Some f) is also = ap (λ (g : Entry). Some g) (one_live h legal k e f is.0 also.0 (is.1 ∙ sym also.1))
+
+-- Ends
+
+end_from : (n : ℕ) (x : Change) → is_end_of n x ≡ true → x ≡ Detach n
+end_from n (Attach e) is = absurd (let q : ◌≡◌ {A = Bool} false true = is in cc)
+end_from n (Detach m) is = ap (λ (j : ℕ). Detach j) (eqb-true m n is)
+
+end_at : (h : List Change) (n i : ℕ) → position (is_end_of n) h ≡ Some i → EndsAt h n (suc i)
+unfolding change_at
+end_at h n i at =
+    let found = position-Some (is_end_of n) h i (Detach n) at in
+    slice_get-get_or h i (Detach n) found.0 ∙ ap (λ (x : Change). Some x) (end_from n (get_or h i (Detach n)) found.1)
+
+counted_from : (o : Option ℕ) (p : ℕ) → counted_on o ≡ Some p → (i : ℕ) × (o ≡ Some i) × (p ≡ suc i)
+counted_from None p is = absurd (none-some p is)
+counted_from (Some i) p is = (i, refl, same_Some p (suc i) (sym is))
+
+-- where an end is computed, the entry ends there
+pub end_tells : (h : List Change) (n p : ℕ) → end_of h n ≡ Some p → EndsAt h n p
+end_tells h n p is =
+    let at = counted_from (position (is_end_of n) h) p is in
+    subst (EndsAt h n) (sym at.2) (end_at h n at.0 at.1)
+
+ends_position : (h : List Change) (n p : ℕ) → EndsAt h n p → (i : ℕ) × (p ≡ suc i) × (i < length h) × (slice_get h i ≡ Some (Detach n))
+unfolding change_at
+ends_position h n zero x = absurd (none-some (Detach n) x)
+ends_position h n (suc i) x = (i, refl, (let w = (at_within h (suc i) (Detach n) x).1 in omega arith), x)
+
+end_somewhere : (h : List Change) → IsLegal h → (n p : ℕ) → EndsAt h n p → (o : Option ℕ) → position (is_end_of n) h ≡ o → counted_on o ≡ Some p
+end_somewhere h legal n p x None at =
+    let w = ends_position h n p x in
+    let here : is_end_of n (get_or h w.0 (Detach n)) ≡ true = ap (is_end_of n) (get_or_from_slice_get h w.0 (Detach n) (Detach n) w.3) ∙ eq-eqb n n refl in
+    absurd (position_fails (is_end_of n) h w.0 (Detach n) at w.2 here)
+end_somewhere h legal n p x (Some i) at = ap (λ (k : ℕ). Some k) (one_end h legal n (suc i) p (end_at h n i at) x)
+
+-- and the end of an entry is the one computed
+pub end_is : (h : List Change) → IsLegal h → (n p : ℕ) → EndsAt h n p → end_of h n ≡ Some p
+end_is h legal n p x = end_somewhere h legal n p x (position (is_end_of n) h) refl
+
+-- The entry with a number is the one attached.
+pub entry_is : (h : List Change) (e : Entry) → IsAttached h e → entry_of h e.number ≡ Some e
+entry_is h e att = ap attached_by att

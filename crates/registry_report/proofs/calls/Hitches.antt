@@ -1,0 +1,71 @@
+-- The core refuses each command only as the command may be refused.
+use Rattle.std.proofs.Common.{◌≡◌, ℕ, Option, None, Some, Bool, true, false, inl, inr, refl, ap, ◌∙◌}
+use Rattle.std.specs.Prelude.{IfErr, Result, Ok, Err, if◌then◌else◌}
+use Rattle.registry_values.specs.declared.entry.Entry.{Entry}
+use Rattle.registry_values.specs.declared.entry.Record.{Record}
+use Rattle.registry_values.specs.declared.refusal.Refusal.{Refusal}
+use Rattle.registry_values.specs.declared.stage.Stage.{Stage}
+use Rattle.registry_values.specs.declared.stage.Stage.TheVariants.{Grace, Passive, Local, Freed}
+use Rattle.passive_core.specs.Advancing.{destroy_answer, stage_in}
+use Rattle.registry_values.specs.Stages.{destroyed, destroyed_if}
+use Rattle.passive_core.specs.Attaching.{IsAnswer, attach_answer, attach_iface_answer, entry_in, given_entry}
+use Rattle.passive_core.specs.Entering.{enter_answer}
+use Rattle.passive_core.specs.Performing.{perform_answer, waiting_for}
+use Rattle.protocol.specs.State.{State}
+use Rattle.registry_report.specs.declared.hitch.Hitch.{Hitch}
+use Rattle.registry_report.specs.declared.hitch.Hitch.TheVariants.{Refused}
+use Rattle.registry_language.specs.declared.command.Command.{Command}
+use Rattle.registry_report.specs.Answers.{hitched}
+use Rattle.registry_report.specs.Printed.{IsHitchOf, IsOfAttach, IsOfDestroy, IsOfEnter, IsOfPerform, MayHitch}
+
+-- a refusal by a test
+if_refused : {X : Type 0} (P : Refusal → Type 0) (b : Bool) (x y : Result X Refusal) → IfErr x P → IfErr y P → IfErr (if b then x else y) P
+if_refused P true x y h k = h
+if_refused P false x y h k = k
+
+entry_refused : (s : State) (rec : Record) (o : Option ℕ) → IfErr (entry_in s rec o) IsOfAttach
+entry_refused s rec None = tt
+entry_refused s rec (Some t) = search if_refused
+
+given_refused : (s : State) (rec : Record) → IfErr (given_entry s rec) IsOfAttach
+given_refused s rec = search (if_refused, entry_refused)
+
+pub attach_refused : (s : State) (c : ℕ) (rec : Record) → IfErr (attach_answer s c rec) IsOfAttach
+attach_refused s c rec = search (if_refused, given_refused)
+
+pub attach_iface_refused : (s : State) (c : ℕ) (rec : Record) (id : ℕ) → IfErr (attach_iface_answer s c rec id) IsOfAttach
+attach_iface_refused s c rec id = search (if_refused, given_refused)
+
+pub enter_refused : (s : State) (c : ℕ) → IfErr (enter_answer s c) IsOfEnter
+enter_refused s c = search if_refused
+
+destroyed_refused : (stage : Stage) → IfErr (destroyed stage) IsOfDestroy
+destroyed_refused (Grace c) = tt
+destroyed_refused (Passive c) = tt
+destroyed_refused (Local k) = tt
+destroyed_refused (Freed t) = tt
+
+stage_refused : (s : State) (n : ℕ) (o : Option ℕ) → IfErr (destroyed_if (stage_in s n o)) IsOfDestroy
+stage_refused s n None = tt
+stage_refused s n (Some t) = destroyed_refused _
+
+pub destroy_refused : (s : State) (c n : ℕ) → IfErr (destroy_answer s c n) IsOfDestroy
+destroy_refused s c n = search (if_refused, stage_refused)
+
+waiting_refused : (o : Option ℕ) → IfErr (waiting_for o) IsOfPerform
+waiting_refused None = tt
+waiting_refused (Some c) = tt
+
+pub perform_refused : (s : State) (c : ℕ) → IfErr (perform_answer s c) IsOfPerform
+perform_refused s c = search (if_refused, waiting_refused)
+
+-- a call that was refused as its command may be
+pub hitch_is : {X : Type 0} (command : Command) (given : Result X Hitch) (result answer : Result X Refusal) → given ≡ hitched result → result ≡ answer → IfErr answer (λ f. IsHitchOf command (Refused f)) → IfErr given (MayHitch command)
+hitch_is command given result (Ok x) told is h = rw (told ∙ ap hitched is) tt
+hitch_is command given result (Err f) told is h = rw (told ∙ ap hitched is) (inr h)
+
+-- the same of a call that may want memory
+pub attach_hitch : (command : Command) (given : Result Entry Hitch) (result answer : Result Entry Refusal) → given ≡ hitched result → IsAnswer answer result → IfErr answer (λ f. IsHitchOf command (Refused f)) → IfErr given (MayHitch command)
+attach_hitch command given result (Ok e) told (inl is) h = rw (told ∙ ap hitched is) tt
+attach_hitch command given result (Ok e) told (inr none) h = rw (told ∙ ap hitched none) (inl refl)
+attach_hitch command given result (Err f) told is h = rw (told ∙ ap hitched is) (inr h)

@@ -1,0 +1,214 @@
+-- Attach, plug and detach: the registry that the session shows answers and changes as the core does.
+use Rattle.std.proofs.Common.{◌≡◌, ℕ, suc, ◌+◌, ◌-◌, ◌<◌, inl, inr, ⊎_elim, List, ◌∷◌, [], length, get_or, set, get_or-set_same, get_or-set_other, Option, Some, None, Bool, true, false, is_some, is_none, ◌&&◌, ◌||◌, refl, sym, ap, ◌∙◌, arith, sum_by}
+use Rattle.std.specs.Prelude.{if◌then◌else◌, nat_le, Ok, Err}
+use Rattle.std.specs.List.{list_any, zip}
+use Rattle.std.proofs.lemmas.Slice.Zip.{length-zip, get_or-zip}
+use Rattle.registry_values.specs.declared.entry.Entry.{Entry}
+use Rattle.registry_values.specs.declared.entry.Record.{Record}
+use Rattle.registry_values.specs.declared.entry.Change.{Change}
+use Rattle.registry_values.specs.declared.entry.Change.TheVariants.{Attach}
+use Rattle.registry_values.specs.declared.refusal.Refusal.TheVariants.{NameTaken, HistoryFull, Inside, NeedsDriver}
+use Rattle.registry_values.specs.declared.slot.Key.{Key}
+use Rattle.protocol.specs.declared.state.LocalPlace.{LocalPlace}
+use Rattle.protocol.specs.declared.state.LocalPlace.TheVariants.{Free, Standing}
+use Rattle.registry_values.specs.declared.slot.Slot.{Slot}
+use Rattle.registry_values.specs.declared.slot.Slot.TheVariants.{Vacant, Live, Retired}
+use Rattle.registry_values.specs.declared.settings.Settings.{Settings}
+use Rattle.registry_values.specs.Marks.{least_below}
+use Rattle.passive_core.specs.Attaching as core
+use Rattle.registry_values.specs.Slots as slots
+use Rattle.registry_values.specs.Slots.{key_of_record, is_vacant, is_iface, is_live_as, is_taken, live_count, slot_of, slot_at}
+use Rattle.passive_core.specs.Attaching.{linked}
+use Rattle.passive_core.specs.Commands.{all_seated}
+use Rattle.passive_core.specs.Detaching.{IsLookupNow}
+use Rattle.protocol.specs.Events as events
+use Rattle.protocol.specs.History.{after_change}
+use Rattle.protocol.specs.Invariant.{Holds, IsIn, Occupies, SlotsShow, standing_of}
+use Rattle.protocol.specs.Model.{put}
+use Rattle.protocol.specs.Picture.{number_in, passive_in}
+use Rattle.protocol.specs.State.{State, local_at, kept_at, passive_at}
+use Rattle.registry_values.proofs.Slots.{live_tells}
+use Rattle.registry_values.proofs.Fit.{ranges}
+use Rattle.protocol.proofs.ListKeeps.{taken_from}
+use Rattle.protocol.proofs.Occupied.{attached_in, slot_found, slot_has, in_other, in_published, not_vacant}
+use Rattle.protocol.proofs.Picturing.{put_is}
+use Rattle.protocol.proofs.Sums.{local_changed, none_at, one_at, standing_within}
+use Rattle.protocol.proofs.RefiningEntries.{passive_moved}
+use Rattle.registry_values.proofs.Least.{least_agrees}
+use Rattle.registry_report.specs.Changes.{lookup, live_entries, is_driver_entry, is_driver_number}
+use Rattle.registry_report.specs.Answers.{attach_iface_answer, is_plain, lookup_now, plain_slot, has_room, entry_in, given_entry, attach_answer}
+use Rattle.registry_report.specs.Registry.{Registry}
+use Rattle.registry_report.specs.Session.{SessionState, with_core, IsSession}
+use Rattle.registry_report.specs.Shows.{Shows, number_at}
+use Rattle.registry_report.specs.Turns.{attached, keeping}
+use Rattle.registry_report.proofs.Below.{position_is}
+use Rattle.registry_report.proofs.Lookups.{entry_is, lookup_is, one_lookup}
+use Rattle.registry_report.proofs.shows.Published.{published_tallies, attach_counts, attach_follows}
+use Rattle.registry_report.proofs.shows.Sectioned.{inside_is}
+use Rattle.registry_report.proofs.shows.Showing.{put_shows}
+
+-- Answers
+
+-- the lookup now is that of the core's history
+pub now_is : (s : SessionState) (r : Registry) (key : Key) → Holds s.core → Shows s r → (answer : Option Entry) → IsLookupNow s.core key answer → lookup_now r key ≡ answer
+now_is s r key holds on answer is =
+    ap (λ (h : List Change). lookup h key (length h)) on.model.history
+    ∙ one_lookup s.core.history holds.legal (length s.core.history) key (lookup s.core.history key (length s.core.history)) answer (lookup_is s.core.history holds.legal key (length s.core.history)) is
+
+abbrev PlaceOf : {X : Type 0} → (X → Bool) → X → List X → Type 0
+PlaceOf p d xs = (i : ℕ) × (i < length xs) × (p (get_or xs i d) ≡ true)
+
+place_by : {X : Type 0} (p : X → Bool) (d x : X) (xs : List X) (b : Bool) → p x ≡ b → (list_any p xs ≡ true → PlaceOf p d xs) → (b || list_any p xs) ≡ true → PlaceOf p d (x ∷ xs)
+place_by p d x xs true at rest any = (0, omega arith, at)
+place_by p d x xs false at rest any = let later = rest any in (suc later.0, omega (arith, later.1), later.2)
+
+any_place : {X : Type 0} (p : X → Bool) (d : X) (xs : List X) → list_any p xs ≡ true → PlaceOf p d xs
+any_place p d [] is = absurd (let q : ◌≡◌ {A = Bool} false true = is in cc)
+any_place p d (x ∷ xs) is = place_by p d x xs (p x) refl (any_place p d xs) is
+
+taken_when : (s : State) (key : Key) (b : Bool) → Holds s → is_taken key s.slots ≡ b → IsLookupNow s key None → false ≡ b
+taken_when s key false holds is none = refl
+taken_when s key true holds is none =
+    let at = any_place (is_live_as key) Vacant s.slots is in
+    let live = live_tells key (slot_at s.slots at.0) at.2 in
+    absurd (none live.0 (holds.slots.live at.0 live.0 live.1).0 live.2)
+
+taken_by : (s : State) (key : Key) (a : Option Entry) → Holds s → IsLookupNow s key a → is_taken key s.slots ≡ is_some a
+taken_by s key None holds is = sym (taken_when s key (is_taken key s.slots) holds refl is)
+taken_by s key (Some e) holds is = taken_from key s.slots e.slot e (holds.slots.placed e is.0) is.1
+
+-- whether the kind and the name are taken
+pub taken_is : (s : SessionState) (r : Registry) (key : Key) → Holds s.core → Shows s r → is_taken key s.core.slots ≡ is_some (lookup_now r key)
+taken_is s r key holds on =
+    taken_by s.core key (lookup s.core.history key (length s.core.history)) holds (lookup_is s.core.history holds.legal key (length s.core.history))
+    ∙ ap (λ (h : List Change). is_some (lookup h key (length h))) (sym on.model.history)
+
+vacant_is : (x : Slot) → is_vacant x ≡ is_none (number_in x)
+vacant_is Vacant = refl
+vacant_is (Live e) = refl
+vacant_is (Retired e) = refl
+
+plain_at : (s : SessionState) (r : Registry) (t : ℕ) → Shows s r → slots.is_plain (slot_at s.core.slots t, kept_at s.core.keeps t) ≡ is_plain r t
+plain_at s r t on = λ i. (vacant_is (slot_at s.core.slots t) ∙ ap is_none (sym (on.model.occupants t))) i && is_none (sym (on.model.kept t) i)
+
+pub plain_is : (s : SessionState) (r : Registry) → Holds s.core → Shows s r → core.plain_slot s.core ≡ plain_slot r
+plain_is s r holds on =
+    let size : length s.core.keeps ≡ length s.core.slots = omega (arith, holds.shape.keeps, holds.shape.slots) in
+    let all : length (zip s.core.slots s.core.keeps) ≡ r.settings.slots = omega (arith, length-zip s.core.slots s.core.keeps, holds.shape.slots, ap (λ (z : Settings). z.slots) on.settings) in
+    position_is slots.is_plain (zip s.core.slots s.core.keeps) (Vacant, None)
+    ∙ (least_agrees (λ t. slots.is_plain (get_or (zip s.core.slots s.core.keeps) t (Vacant, None))) (is_plain r) (length (zip s.core.slots s.core.keeps))
+    (λ t lt. ap slots.is_plain (get_or-zip s.core.slots s.core.keeps t (Vacant, None) (omega (arith, length-zip s.core.slots s.core.keeps)) (omega (arith, length-zip s.core.slots s.core.keeps)))
+    ∙ plain_at s r t on)
+    ∙ ap (least_below (is_plain r)) all)
+
+pub room_is : (s : SessionState) (r : Registry) → Shows s r → events.has_room s.core ≡ has_room r
+room_is s r on =
+    let live : live_count s.core.slots ≡ live_entries s.core.history = omega (arith, on.live) in
+    ap (λ (k : ℕ). nat_le (length s.core.history + k + 2) s.core.settings.change_limit) live
+    ∙ sym (λ i. nat_le (length (on.model.history i) + live_entries (on.model.history i) + 2) (on.settings i).change_limit)
+
+entry_by : (s : SessionState) (r : Registry) (rec : Record) (t : Option ℕ) → Shows s r → core.entry_in s.core rec t ≡ entry_in r rec t
+entry_by s r rec None on = refl
+entry_by s r rec (Some t) on = λ i. if room_is s r on i then Ok (record { number = length (sym on.model.history i) + 1; slot = t; rec = rec }) else Err HistoryFull
+
+pub given_is : (s : SessionState) (r : Registry) (rec : Record) → Holds s.core → Shows s r → core.given_entry s.core rec ≡ given_entry r rec
+given_is s r rec holds on =
+    let place : core.entry_in s.core rec (core.plain_slot s.core) ≡ entry_in r rec (plain_slot r) = entry_by s r rec (core.plain_slot s.core) on ∙ ap (entry_in r rec) (plain_is s r holds on) in
+    λ i. if taken_is s r (key_of_record rec) holds on i then Err NameTaken else place i
+
+pub attach_answers : (s : SessionState) (r : Registry) (c : ℕ) (rec : Record) → Holds s.core → Shows s r → core.attach_answer s.core c rec ≡ attach_answer r c rec
+attach_answers s r c rec holds on = λ i. if sym (inside_is s r c on) i then Err Inside else (if is_iface rec.kind then Err NeedsDriver else given_is s r rec holds on i)
+
+-- What an attach leaves
+
+-- passive references to who stands somewhere stay
+published_passive : (s : State) (e : Entry) (c n : ℕ) → Holds s → SlotsShow (after_change s.history (Attach e)) (set s.slots e.slot (Live e)) → e.slot < length s.slots → slot_at s.slots e.slot ≡ Vacant
+    → passive_in s.passive c (slot_of s.slots n) ≡ passive_in s.passive c (slot_of (set s.slots e.slot (Live e)) n)
+published_passive s e c n on later lt vacant = passive_moved s.history (after_change s.history (Attach e)) s.slots (set s.slots e.slot (Live e)) s.passive c n on.slots later
+    (λ u at. inl (at.0, in_other s.slots e.slot (Live e) at.0 u (λ same. not_vacant at.0 (slot_at s.slots u) (ap (slot_at s.slots) same ∙ vacant) at.1) at.1, at.2))
+    (λ u at. ⊎_elim
+    (λ (new : (u ≡ e.slot) × (at.0 ≡ e)). inr (ap (passive_at s.passive c) new.0 ∙ on.passive.vacant c e.slot vacant))
+    (λ (old : IsIn at.0 (slot_at s.slots u)). inl (at.0, old, at.2))
+    (in_published s.slots e.slot u e at.0 lt at.1))
+
+-- an entry is linked in a vacant slot, under the next number
+pub linked_shows : (s : SessionState) (r : Registry) (c : ℕ) (e : Entry) → Holds s.core → Holds (linked s.core c e) → Shows s r → e.slot < length s.core.slots → slot_at s.core.slots e.slot ≡ Vacant → e.number ≡ suc (length s.core.history)
+    → Shows (with_core s (linked s.core c e)) (attached r c e)
+linked_shows s r c e holds later on lt vacant number = record {
+  settings = on.settings;
+  model = record {
+    history = ap (λ (h : List Change). after_change h (Attach e)) on.model.history;
+    sections = on.model.sections;
+    last_found = on.model.last_found;
+    held = λ j n. on.model.held j n ∙ published_passive s.core e j n holds later.slots lt vacant;
+    counted = on.model.counted;
+    occupants = put_is r.model.occupants (λ t. number_in (slot_at (set s.core.slots e.slot (Live e)) t)) e.slot (Some e.number)
+        (sym (ap number_in (get_or-set_same s.core.slots e.slot (Live e) Vacant lt)))
+        (λ t off. on.model.occupants t ∙ sym (ap number_in (get_or-set_other s.core.slots e.slot t (Live e) Vacant off)));
+    kept = on.model.kept;
+  };
+  sections = on.sections;
+  live = attach_counts s.core.history s.core.slots e lt vacant on.live;
+  grace = attach_follows s.core.history s.core.slots s.core.marks s.core.section s.core.begins e lt vacant on.grace;
+  tallies = published_tallies s.core.settings.cpus s.core.history s.core.slots s.core.counts s.core.nets s.core.totals r.acquired r.released r.given_up r.drained e
+      (ranges s.core.settings holds.fit).cpus lt (omega (arith, holds.shape.slots, holds.shape.counts)) (omega (arith, holds.shape.slots, holds.shape.nets)) vacant number (holds.balance.vacant e.slot lt vacant) on.tallies;
+  labels = on.labels;
+}
+
+-- Plug
+
+-- what a label's reference is to is a driver
+driver_in : (h : List Change) (slots : List Slot) (t : ℕ) (e : Entry) → SlotsShow h slots → IsIn e (slot_at slots t) → events.is_driver_slot (slot_at slots t) ≡ is_driver_number h e.number
+driver_in h slots t e on is = ⊎_elim
+    (λ (live : slot_at slots t ≡ Live e). ap events.is_driver_slot live ∙ sym (ap is_driver_entry (entry_is h e (attached_in h slots t e on is).0)))
+    (λ (gone : slot_at slots t ≡ Retired e). ap events.is_driver_slot gone ∙ sym (ap is_driver_entry (entry_is h e (attached_in h slots t e on is).0)))
+    is
+
+driver_at : (s : State) (n : ℕ) → Holds s → Occupies s.slots n → core.is_driver_in s.slots (slot_of s.slots n) ≡ is_driver_number s.history n
+driver_at s n holds is =
+    let t = slot_found s.slots n is in
+    let has = slot_has s.slots n t.0 t.1 in
+    ap (core.is_driver_in s.slots) t.1 ∙ (driver_in s.history s.slots t.0 has.1.0 holds.slots has.1.1 ∙ ap (is_driver_number s.history) has.1.2)
+
+pub driver_is : (s : SessionState) (r : Registry) (id n : ℕ) → Holds s.core → Shows s r → local_at s.core.locals id ≡ Standing n → core.is_to_driver s.core id ≡ is_driver_number r.model.history n
+driver_is s r id n holds on at =
+    ap (λ (p : LocalPlace). core.is_driver_number s.core.slots (events.standing p)) at
+    ∙ (driver_at s.core n holds (holds.references.standing id n at) ∙ ap (λ (h : List Change). is_driver_number h n) (sym on.model.history))
+
+pub attach_iface_answers : (s : SessionState) (r : Registry) (c : ℕ) (rec : Record) (id n : ℕ) → Holds s.core → Shows s r → local_at s.core.locals id ≡ Standing n → core.attach_iface_answer s.core c rec id ≡ attach_iface_answer r c rec n
+attach_iface_answers s r c rec id n holds on at = λ i. if sym (inside_is s r c on) i then Err Inside else (if driver_is s r id n holds on at i then given_is s r rec holds on i else Err NeedsDriver)
+
+-- a label's reference is gone with its place, and the others stand
+label_gone : (s : SessionState) (r : Registry) (x id : ℕ) → IsSession s → Shows s r → x < 26 → get_or s.locals x None ≡ Some id
+    → (y : ℕ) → put r.local_labels x None y ≡ number_at (set s.core.locals id Free) (get_or (set s.locals x None) y None)
+label_gone s r x id is on small at = put_is r.local_labels (λ y. number_at (set s.core.locals id Free) (get_or (set s.locals x None) y None)) x None
+    (sym (ap (number_at (set s.core.locals id Free)) (get_or-set_same s.locals x None None (omega (arith, is.local_labels)))))
+    (λ y off. on.labels.local y
+    ∙ (others y off (get_or s.locals y None) refl ∙ sym (ap (number_at (set s.core.locals id Free)) (get_or-set_other s.locals x y None None off))))
+  where
+    others : (y : ℕ) → (y ≡ x → ⊥) → (o : Option ℕ) → get_or s.locals y None ≡ o → number_at s.core.locals o ≡ number_at (set s.core.locals id Free) o
+    others y off None there = refl
+    others y off (Some j) there = ap events.standing (sym (get_or-set_other s.core.locals id j Free Free (λ (same : j ≡ id). off (is.apart y x id (there ∙ ap (λ (k : ℕ). Some k) same) at))))
+
+-- the slot took the reference over
+pub keeping_shows : (s : SessionState) (r : Registry) (t x id n : ℕ) → IsSession s → Shows s r → t < s.core.settings.slots → x < 26 → get_or s.locals x None ≡ Some id → local_at s.core.locals id ≡ Standing n
+    → Shows (record s { core = core.keeping (all_seated s.core) t id; locals = set s.locals x None }) (record r { model = keeping r.model t n; local_labels = put r.local_labels x None })
+keeping_shows s r t x id n is on low small at place = record {
+  settings = on.settings;
+  model = record {
+    history = on.model.history;
+    sections = on.model.sections;
+    last_found = on.model.last_found;
+    held = on.model.held;
+    counted = put_is r.model.locals (λ m. sum_by (standing_of m) (set s.core.locals id Free)) n (r.model.locals n - 1)
+        (omega (arith, on.model.counted n, local_changed n s.core.locals id (Standing n) Free (standing_within s.core.locals id n place) place, one_at n n refl))
+        (λ m off. omega (arith, on.model.counted m, local_changed m s.core.locals id (Standing n) Free (standing_within s.core.locals id n place) place, none_at n m (λ same. off (sym same))));
+    occupants = on.model.occupants;
+    kept = put_shows r.model.keeps None s.core.keeps t (Some n) (events.standing (local_at s.core.locals id)) (omega (arith, is.holds.shape.keeps)) on.model.kept (sym (ap events.standing place));
+  };
+  sections = on.sections;
+  live = on.live;
+  grace = on.grace;
+  tallies = on.tallies;
+  labels = record { passive = on.labels.passive; local = label_gone s r x id is on small at };
+}

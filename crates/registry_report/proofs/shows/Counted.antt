@@ -1,0 +1,433 @@
+-- Local references: the registry that the session shows answers and changes as the core does.
+use Rattle.std.proofs.Common.{◌≡◌, ℕ, ◌+◌, ◌-◌, ◌<◌, ◌≤◌, ◌⊎◌, inl, inr, ⊎_elim, List, [], length, get_or, set, get_or-set_same, get_or-set_other, Option, Some, None, Bool, true, false, not, is_some, nat_lt, refl, sym, ap, subst, ◌∙◌, arith, sum_by}
+use Rattle.std.specs.Prelude.{if◌then◌else◌, Result, Ok, Err}
+use Rattle.std.proofs.lemmas.Bool.{cases_Bool, cases_eq, cases_lt, lt-ltb, le-ltb}
+use Rattle.std.proofs.lemmas.Option.{none-some}
+use Rattle.registry_values.specs.declared.entry.Entry.{Entry}
+use Rattle.registry_values.specs.declared.refusal.Refusal.{Refusal}
+use Rattle.registry_values.specs.declared.refusal.Refusal.TheVariants.{LocalFull, NoMemory, NothingFound}
+use Rattle.protocol.specs.declared.state.LocalPlace.{LocalPlace}
+use Rattle.protocol.specs.declared.state.LocalPlace.TheVariants.{Free, Standing}
+use Rattle.protocol.specs.State.{State, count_at, found_at, local_at, total_at, with_cell}
+use Rattle.registry_values.specs.Balances.{bias}
+use Rattle.registry_values.specs.Slots.{slot_at, slot_of}
+use Rattle.passive_core.specs.Commands.{all_seated}
+use Rattle.protocol.specs.Events.{least_id, standing, with_local}
+use Rattle.protocol.specs.Invariant.{Holds, IsIn, SlotsShow, standing_of}
+use Rattle.passive_core.specs.Locals.{IsCounted, after_acquire_local, after_counting, after_release_local, count_in, count_refusal, is_counting, local_slot, with_count_less, with_count_more, with_total_less}
+use Rattle.protocol.specs.Model.{put, with_locals}
+use Rattle.protocol.proofs.Cells.{by_cell, cell_here, cell_other, one_in}
+use Rattle.protocol.proofs.CountKeeps.{held_counting}
+use Rattle.registry_values.proofs.Fit.{ranges}
+use Rattle.protocol.proofs.History.{at_within}
+use Rattle.passive_core.proofs.Locals.{live_slot, slot_is}
+use Rattle.protocol.proofs.Numbers.{entry_attached}
+use Rattle.protocol.proofs.Occupied.{one_number, slot_has}
+use Rattle.passive_core.proofs.Passives.{found_slot}
+use Rattle.protocol.proofs.Picturing.{put_here, put_is, put_other}
+use Rattle.protocol.proofs.References.{least_free, least_within, standing_tells, with_local_other, with_local_same}
+use Rattle.protocol.proofs.Sums.{local_added, local_changed, none_at, one_at, standing_within}
+use Rattle.registry_report.specs.Answers.{counted, may_count, uncount_answer, unless, with_label}
+use Rattle.registry_report.specs.Registry.{Registry}
+use Rattle.registry_report.specs.Session.{IsSession, SessionState}
+use Rattle.registry_report.specs.Shows.{Shows, ShowsTallies, number_at}
+use Rattle.registry_report.specs.Turns.{counting, put_at, uncounted}
+
+-- In general
+
+-- two tests of which each passes where the other does
+same_test : (a b c d : ℕ) → (a < b → c < d) → (b ≤ a → d ≤ c) → nat_lt a b ≡ nat_lt c d
+same_test a b c d less more = ⊎_elim
+    (λ (lt : a < b). lt-ltb a b lt ∙ sym (lt-ltb c d (less lt)))
+    (λ (ge : b ≤ a). le-ltb a b ge ∙ sym (le-ltb c d (more ge)))
+    (cases_lt a b)
+
+-- a function of two numbers with one value put
+pub put_at_here : {X : Type 0} (f : ℕ → ℕ → X) (c n : ℕ) (x : X) → put_at f c n x c n ≡ x
+put_at_here {X} f c n x = ap (λ (g : ℕ → X). g n) (put_here f c (put (f c) n x)) ∙ put_here (f c) n x
+
+pub put_at_other : {X : Type 0} (f : ℕ → ℕ → X) (c n : ℕ) (x : X) (d m : ℕ) → (d ≡ c → m ≡ n → ⊥) → put_at f c n x d m ≡ f d m
+put_at_other {X} f c n x d m off = ⊎_elim
+    (λ (same : d ≡ c). ap (λ (k : ℕ). put_at f c n x k m) same ∙ (ap (λ (g : ℕ → X). g m) (put_here f c (put (f c) n x)) ∙ (put_other (f c) n x m (off same) ∙ ap (λ (k : ℕ). f k m) (sym same))))
+    (λ (no : d ≡ c → ⊥). ap (λ (g : ℕ → X). g m) (put_other f c (put (f c) n x) d no))
+    (cases_eq d c)
+
+-- The place of a count
+
+-- the entry n stands in the slot t, and c has its words for it
+record HasWords (s : State) (c n t : ℕ) : Type 0 where
+  entry : Entry
+  there : IsIn entry (slot_at s.slots t)
+  numbered : entry.number ≡ n
+  old : n ≤ length s.history
+  counts : t < length s.counts
+  count_row : c < length (get_or s.counts t [])
+  nets : t < length s.nets
+  net_row : c < length (get_or s.nets t [])
+  totals : t < length s.totals
+
+has_words : (s : State) (c n t : ℕ) → Holds s → c < s.settings.cpus → slot_of s.slots n ≡ Some t → HasWords s c n t
+has_words s c n t on low of =
+    let at = slot_has s.slots n t of in
+    let within = at_within s.history at.1.0.number _ (entry_attached s.history s.slots at.1.0 t on.slots at.1.1).0 in
+    let few = (ranges s.settings on.fit).cpus in
+    let counts : t < length s.counts = omega (arith, at.0, on.shape.slots, on.shape.counts) in
+    let nets : t < length s.nets = omega (arith, at.0, on.shape.slots, on.shape.nets) in
+    record {
+      entry = at.1.0;
+      there = at.1.1;
+      numbered = at.1.2;
+      old = omega (arith, within.1, at.1.2);
+      counts = counts;
+      count_row = omega (arith, low, few, on.shape.count_rows t counts);
+      nets = nets;
+      net_row = omega (arith, low, few, on.shape.net_rows t nets);
+      totals = omega (arith, at.0, on.shape.slots, on.shape.totals);
+    }
+
+-- who stands in that slot has that number, and who has the number stands there
+is_there : {s : State} {c n t : ℕ} → HasWords s c n t → (u : ℕ) (f : Entry) → IsIn f (slot_at s.slots u) → u ≡ t → f.number ≡ n
+is_there {s} {c} {n} {t} has u f at same = ap (λ (g : Entry). g.number) (one_in has.entry f (slot_at s.slots t) has.there (subst (λ (k : ℕ). IsIn f (slot_at s.slots k)) same at)) ∙ has.numbered
+
+stands_there : {s : State} {c n t : ℕ} → HasWords s c n t → SlotsShow s.history s.slots → (u : ℕ) (f : Entry) → IsIn f (slot_at s.slots u) → f.number ≡ n → u ≡ t
+stands_there {s} {c} {n} {t} has show u f at same = (one_number s.history s.slots t u has.entry f show has.there at (same ∙ sym has.numbered)).0
+
+-- The tallies of a session's core, before and after
+
+abbrev Tallied : State → (ℕ → ℕ → ℕ) → (ℕ → ℕ → ℕ) → (ℕ → ℕ) → (ℕ → Bool) → Type 0
+Tallied s acquired released given_up drained = ShowsTallies s.settings.cpus s.history s.slots s.counts s.nets s.totals acquired released given_up drained
+
+net_is : (s : State) (c n t : ℕ) (acquired released : ℕ → ℕ → ℕ) (given_up : ℕ → ℕ) (drained : ℕ → Bool) → c < s.settings.cpus → HasWords s c n t → Tallied s acquired released given_up drained
+    → count_at s.nets c t + released c n ≡ bias + acquired c n
+net_is s c n t acquired released given_up drained low has on = subst (λ (m : ℕ). count_at s.nets c t + released c m ≡ bias + acquired c m) has.numbered (on.net t c has.entry has.there low)
+
+-- c's own count for n changes, and else nothing does
+record Recounts (acquired released acquired_now released_now : ℕ → ℕ → ℕ) (c n w : ℕ) : Type 0 where
+  net : w + released_now c n ≡ bias + acquired_now c n
+  acquired_else : (d m : ℕ) → (d ≡ c → m ≡ n → ⊥) → acquired_now d m ≡ acquired d m
+  released_else : (d m : ℕ) → (d ≡ c → m ≡ n → ⊥) → released_now d m ≡ released d m
+
+recounted : (s : State) (c n t v w : ℕ) (acquired released acquired_now released_now : ℕ → ℕ → ℕ) (given_up : ℕ → ℕ) (drained : ℕ → Bool)
+    → SlotsShow s.history s.slots → HasWords s c n t → drained n ≡ false → v ≡ w → Recounts acquired released acquired_now released_now c n w → Tallied s acquired released given_up drained
+    → Tallied (record s { counts = with_cell s.counts t c v; nets = with_cell s.nets t c w }) acquired_now released_now given_up drained
+recounted s c n t v w acquired released acquired_now released_now given_up drained show has live same now on =
+    let count_now : count_at (with_cell s.counts t c v) c t ≡ v = cell_here 0 s.counts t c v has.counts has.count_row in
+    let net_now : count_at (with_cell s.nets t c w) c t ≡ w = cell_here 0 s.nets t c w has.nets has.net_row in
+    record {
+      net = λ u d f. by_cell (λ u d. IsIn f (slot_at s.slots u) → d < s.settings.cpus → count_at (with_cell s.nets t c w) d u + released_now d f.number ≡ bias + acquired_now d f.number) t c u d
+          (λ at low. subst (λ (m : ℕ). count_at (with_cell s.nets t c w) c t + released_now c m ≡ bias + acquired_now c m) (sym (is_there has t f at refl)) (omega (arith, net_now, now.net)))
+          (λ off at low.
+          let away : d ≡ c → f.number ≡ n → ⊥ = λ here is. off (stands_there has show u f at is) here in
+          omega (arith, cell_other 0 s.nets t c w u d off, now.acquired_else d f.number away, now.released_else d f.number away, on.net u d f at low));
+      word = λ u d f. by_cell (λ u d. IsIn f (slot_at s.slots u) → d < s.settings.cpus → drained f.number ≡ false → count_at (with_cell s.counts t c v) d u ≡ count_at (with_cell s.nets t c w) d u) t c u d
+          (λ at low dry. count_now ∙ (same ∙ sym net_now))
+          (λ off at low dry. cell_other 0 s.counts t c v u d off ∙ (on.word u d f at low dry ∙ sym (cell_other 0 s.nets t c w u d off)));
+      total = on.total;
+      collected = λ u d f. by_cell (λ u d. IsIn f (slot_at s.slots u) → drained f.number ≡ true → count_at (with_cell s.counts t c v) d u ≡ 0) t c u d
+          (λ at dry. absurd (let q : ◌≡◌ {A = Bool} true false = sym dry ∙ (ap drained (is_there has t f at refl) ∙ live) in cc))
+          (λ off at dry. cell_other 0 s.counts t c v u d off ∙ on.collected u d f at dry);
+      fresh = λ m new.
+          let off : m ≡ n → ⊥ = λ is. absurd (omega (arith, is, new, has.old)) in
+          record {
+            unacquired = λ d. now.acquired_else d m (λ here is. off is) ∙ (on.fresh m new).unacquired d;
+            unreleased = λ d. now.released_else d m (λ here is. off is) ∙ (on.fresh m new).unreleased d;
+            kept = (on.fresh m new).kept;
+            undrained = (on.fresh m new).undrained;
+          };
+    }
+
+-- one local reference to n is given up under the interlock
+given : (s : State) (c n t k : ℕ) (acquired released : ℕ → ℕ → ℕ) (given_up : ℕ → ℕ) (drained : ℕ → Bool)
+    → SlotsShow s.history s.slots → HasWords s c n t → drained n ≡ true → Tallied s acquired released given_up drained
+    → Tallied (record s { totals = set s.totals t k }) acquired released (put given_up n (given_up n + 1)) drained
+given s c n t k acquired released given_up drained show has gone on = record {
+  net = on.net;
+  word = on.word;
+  total = λ u f at dry.
+      let off : f.number ≡ n → ⊥ = λ is. absurd (let q : ◌≡◌ {A = Bool} true false = sym gone ∙ (ap drained (sym is) ∙ dry) in cc) in
+      omega (arith, get_or-set_other s.totals t u k 0 (λ same. off (is_there has u f at same)), put_other given_up n (given_up n + 1) f.number off, on.total u f at dry);
+  collected = on.collected;
+  fresh = λ m new. record {
+    unacquired = (on.fresh m new).unacquired;
+    unreleased = (on.fresh m new).unreleased;
+    kept = put_other given_up n (given_up n + 1) m (λ is. absurd (omega (arith, is, new, has.old))) ∙ (on.fresh m new).kept;
+    undrained = (on.fresh m new).undrained;
+  };
+}
+
+-- Answers
+
+-- the answer of a count that isn't refused
+abbrev pub found_number : Option Entry → Result ℕ Refusal
+found_number None = Err NothingFound
+found_number (Some e) = Ok e.number
+
+may_count_is : (s : SessionState) (r : Registry) (c n t : ℕ) → Holds s.core → Shows s r → c < s.core.settings.cpus → slot_of s.core.slots n ≡ Some t
+    → nat_lt (count_in s.core.nets c (slot_of s.core.slots n)) (bias + s.core.settings.count_limit) ≡ may_count r c n
+may_count_is s r c n t holds on low of =
+    let net = net_is s.core c n t r.acquired r.released r.given_up r.drained low (has_words s.core c n t holds low of) on.tallies in
+    let limit : r.settings.count_limit ≡ s.core.settings.count_limit = ap (λ (z : _). z.count_limit) on.settings in
+    ap (λ (o : Option ℕ). nat_lt (count_in s.core.nets c o) (bias + s.core.settings.count_limit)) of
+    ∙ same_test (count_at s.core.nets c t) (bias + s.core.settings.count_limit) (r.acquired c n) (r.released c n + r.settings.count_limit)
+    (λ lt. omega (arith, net, limit, lt)) (λ ge. omega (arith, net, limit, ge))
+
+unless_if : (b : Bool) (n : ℕ) → (if b then Ok n else Err LocalFull) ≡ unless (if b then None else Some LocalFull) (Ok n)
+unless_if true n = refl
+unless_if false n = refl
+
+counted_by : (s : SessionState) (r : Registry) (c : ℕ) (o : Option Entry) → Holds s.core → Shows s r → c < s.core.settings.cpus → found_at s.core c ≡ o
+    → counted r c o ≡ unless (count_refusal s.core c o) (found_number o)
+counted_by s r c None holds on low found = refl
+counted_by s r c (Some e) holds on low found =
+    let at = found_slot s.core c e holds found in
+    ap (λ (b : Bool). if b then Ok e.number else Err LocalFull) (sym (may_count_is s r c e.number at.0 holds on low at.1))
+    ∙ unless_if (nat_lt (count_in s.core.nets c (slot_of s.core.slots e.number)) (bias + s.core.settings.count_limit)) e.number
+
+pub counted_is : (s : SessionState) (r : Registry) (c : ℕ) → Holds s.core → Shows s r → c < s.core.settings.cpus
+    → counted r c (r.model.found c) ≡ unless (count_refusal s.core c (found_at s.core c)) (found_number (found_at s.core c))
+counted_is s r c holds on low = ap (counted r c) (on.model.last_found c) ∙ counted_by s r c (found_at s.core c) holds on low refl
+
+-- what was found where the count isn't refused
+found_from : (s : State) (c : ℕ) (o : Option Entry) → count_refusal s c o ≡ None → (e : Entry) × (o ≡ Some e)
+found_from s c None is = absurd (none-some NothingFound (sym is))
+found_from s c (Some e) is = (e, refl)
+
+-- a count that isn't refused is of the last found entry
+pub counts_tell : (s : SessionState) (r : Registry) (c : ℕ) → Holds s.core → Shows s r → c < s.core.settings.cpus → count_refusal s.core c (found_at s.core c) ≡ None
+    → (e : Entry) × (found_at s.core c ≡ Some e) × (counted r c (r.model.found c) ≡ Ok e.number)
+counts_tell s r c holds on low none =
+    let found = found_from s.core c (found_at s.core c) none in
+    (found.0, found.1, counted_is s r c holds on low ∙ (ap (λ (o : Option Refusal). unless o (found_number (found_at s.core c))) none ∙ ap found_number found.1))
+
+pub refuses : (s : SessionState) (r : Registry) (c : ℕ) (f : Refusal) → Holds s.core → Shows s r → c < s.core.settings.cpus → count_refusal s.core c (found_at s.core c) ≡ Some f
+    → counted r c (r.model.found c) ≡ Err f
+refuses s r c f holds on low is = counted_is s r c holds on low ∙ ap (λ (o : Option Refusal). unless o (found_number (found_at s.core c))) is
+
+-- memory is refused, or the count is
+pub count_error : (s : State) (refusal : Option Refusal) (f : Refusal) → IsCounted s refusal (Err f) → (f ≡ NoMemory) ⊎ (refusal ≡ Some f)
+count_error s refusal NoMemory is = inl refl
+count_error s refusal f is = inr is
+
+-- a label's number is that of the live reference that it stands for
+pub label_is : (s : SessionState) (r : Registry) (x id n : ℕ) → Shows s r → get_or s.locals x None ≡ Some id → standing (local_at s.core.locals id) ≡ Some n → r.local_labels x ≡ Some n
+label_is s r x id n on at live = on.labels.local x ∙ (ap (number_at s.core.locals) at ∙ live)
+
+pub label_none : (s : SessionState) (r : Registry) (x : ℕ) → Shows s r → get_or s.locals x None ≡ None → r.local_labels x ≡ None
+label_none s r x on at = on.labels.local x ∙ ap (number_at s.core.locals) at
+
+pub uncount_answers : (s : SessionState) (r : Registry) (x id n : ℕ) → Shows s r → get_or s.locals x None ≡ Some id → standing (local_at s.core.locals id) ≡ Some n → uncount_answer r x ≡ Ok n
+uncount_answers s r x id n on at live = ap (λ (o : Option ℕ). with_label o (λ m. Ok m)) (label_is s r x id n on at live)
+
+-- Labels
+
+-- each label stands for a live reference, and no two for one
+abbrev AreLive : List LocalPlace → List (Option ℕ) → Type 0
+AreLive places ids = (x id : ℕ) → get_or ids x None ≡ Some id → is_some (standing (local_at places id)) ≡ true
+
+abbrev AreApart : List (Option ℕ) → Type 0
+AreApart ids = (x y id : ℕ) → get_or ids x None ≡ Some id → get_or ids y None ≡ Some id → x ≡ y
+
+-- the least free id isn't live
+least_dead : (places : List LocalPlace) (id : ℕ) → is_some (standing (local_at places id)) ≡ true → id ≡ least_id places → ⊥
+least_dead places id live is = let q : ◌≡◌ {A = Bool} false true = sym (ap (λ (p : LocalPlace). is_some (standing p)) (ap (local_at places) is ∙ least_free places)) ∙ live in cc
+
+-- a live reference stays where another is added
+stays_added : (places : List LocalPlace) (p : LocalPlace) (id : ℕ) → is_some (standing (local_at places id)) ≡ true → local_at (with_local places (least_id places) p) id ≡ local_at places id
+stays_added places p id live = with_local_other places (least_id places) p id (least_within places) (least_dead places id live)
+
+number_stays : (places places_now : List LocalPlace) (o : Option ℕ) → ((id : ℕ) → o ≡ Some id → local_at places_now id ≡ local_at places id) → number_at places o ≡ number_at places_now o
+number_stays places places_now None same = refl
+number_stays places places_now (Some id) same = ap standing (sym (same id refl))
+
+labels_added : (places : List LocalPlace) (ids : List (Option ℕ)) (labels : ℕ → Option ℕ) (x n : ℕ) → x < length ids → AreLive places ids → ((y : ℕ) → labels y ≡ number_at places (get_or ids y None))
+    → (y : ℕ) → put labels x (Some n) y ≡ number_at (with_local places (least_id places) (Standing n)) (get_or (set ids x (Some (least_id places))) y None)
+labels_added places ids labels x n within live shows =
+    let now = with_local places (least_id places) (Standing n) in
+    put_is labels (λ y. number_at now (get_or (set ids x (Some (least_id places))) y None)) x (Some n)
+    (sym (ap (number_at now) (get_or-set_same ids x (Some (least_id places)) None within) ∙ ap standing (with_local_same places (least_id places) (Standing n) (least_within places))))
+    (λ y off. shows y ∙ (number_stays places now (get_or ids y None) (λ id at. stays_added places (Standing n) id (live y id at))
+    ∙ ap (number_at now) (sym (get_or-set_other ids x y (Some (least_id places)) None off))))
+
+-- another label's reference stays where this one's is given up
+stays_removed : (places : List LocalPlace) (ids : List (Option ℕ)) (x id y k : ℕ) → get_or ids x None ≡ Some id → AreApart ids → (y ≡ x → ⊥) → get_or ids y None ≡ Some k → local_at (set places id Free) k ≡ local_at places k
+stays_removed places ids x id y k here apart off at = get_or-set_other places id k Free Free (λ same. off (apart y x id (at ∙ ap (λ (j : ℕ). Some j) same) here))
+
+labels_removed : (places : List LocalPlace) (ids : List (Option ℕ)) (labels : ℕ → Option ℕ) (x id : ℕ) → x < length ids → get_or ids x None ≡ Some id → AreApart ids → ((y : ℕ) → labels y ≡ number_at places (get_or ids y None))
+    → (y : ℕ) → put labels x None y ≡ number_at (set places id Free) (get_or (set ids x None) y None)
+labels_removed places ids labels x id within here apart shows = put_is labels (λ y. number_at (set places id Free) (get_or (set ids x None) y None)) x None
+    (sym (ap (number_at (set places id Free)) (get_or-set_same ids x None None within)))
+    (λ y off. shows y ∙ (number_stays places (set places id Free) (get_or ids y None) (λ k at. stays_removed places ids x id y k here apart off at)
+    ∙ ap (number_at (set places id Free)) (sym (get_or-set_other ids x y None None off))))
+
+-- What is left
+
+-- counts, totals, live references and their labels change
+changed : (s : SessionState) (r : Registry) (counts nets : List (List ℕ)) (totals : List ℕ) (places : List LocalPlace) (ids : List (Option ℕ)) (n k : ℕ) (acquired released : ℕ → ℕ → ℕ) (given_up : ℕ → ℕ) (labels : ℕ → Option ℕ)
+    → Shows s r → ((m : ℕ) → put r.model.locals n k m ≡ sum_by (standing_of m) places)
+    → Tallied (record s.core { counts = counts; nets = nets; totals = totals }) acquired released given_up r.drained
+    → ((y : ℕ) → labels y ≡ number_at places (get_or ids y None))
+    → Shows (record s { core = record (all_seated s.core) { counts = counts; nets = nets; totals = totals; locals = places }; locals = ids })
+    (record r { model = with_locals r.model n k; acquired = acquired; released = released; given_up = given_up; local_labels = labels })
+changed s r counts nets totals places ids n k acquired released given_up labels on standing tallies stand = record {
+  settings = on.settings;
+  model = record {
+    history = on.model.history;
+    sections = on.model.sections;
+    last_found = on.model.last_found;
+    held = on.model.held;
+    counted = standing;
+    occupants = on.model.occupants;
+    kept = on.model.kept;
+  };
+  sections = on.sections;
+  live = on.live;
+  grace = on.grace;
+  tallies = tallies;
+  labels = record { passive = on.labels.passive; local = stand };
+}
+
+-- what a CPU has found isn't drained: its word for it still counts
+found_undrained : (s : SessionState) (r : Registry) (c t : ℕ) (e : Entry) → Holds s.core → Shows s r → c < s.core.settings.cpus → found_at s.core c ≡ Some e → slot_of s.core.slots e.number ≡ Some t → r.drained e.number ≡ false
+found_undrained s r c t e holds on low found of =
+    let is = held_counting s.core c t e holds found of in
+    let some = (holds.balance.counted c t low is.1).1 in
+    ⊎_elim
+    (λ (dry : r.drained e.number ≡ true). absurd (omega (arith, some, on.tallies.collected t c e is.0 dry)))
+    (λ (live : r.drained e.number ≡ false). live)
+    (cases_Bool (r.drained e.number))
+
+-- the sum of the live references with one more
+more_standing : (s : SessionState) (r : Registry) (n : ℕ) → Shows s r → (m : ℕ) → put r.model.locals n (r.model.locals n + 1) m ≡ sum_by (standing_of m) (with_local s.core.locals (least_id s.core.locals) (Standing n))
+more_standing s r n on = put_is r.model.locals (λ m. sum_by (standing_of m) (with_local s.core.locals (least_id s.core.locals) (Standing n))) n (r.model.locals n + 1)
+    (omega (arith, on.model.counted n, local_added n s.core.locals (Standing n), one_at n n refl))
+    (λ m off. omega (arith, on.model.counted m, local_added m s.core.locals (Standing n), none_at n m (λ same. off (sym same))))
+
+less_standing : (s : SessionState) (r : Registry) (id n : ℕ) → Shows s r → local_at s.core.locals id ≡ Standing n → (m : ℕ) → put r.model.locals n (r.model.locals n - 1) m ≡ sum_by (standing_of m) (set s.core.locals id Free)
+less_standing s r id n on at =
+    let within = standing_within s.core.locals id n at in
+    put_is r.model.locals (λ m. sum_by (standing_of m) (set s.core.locals id Free)) n (r.model.locals n - 1)
+    (omega (arith, on.model.counted n, local_changed n s.core.locals id (Standing n) Free within at, one_at n n refl))
+    (λ m off. omega (arith, on.model.counted m, local_changed m s.core.locals id (Standing n) Free within at, none_at n m (λ same. off (sym same))))
+
+-- one more, counted by c
+more_shows : (s : SessionState) (r : Registry) (c x n t : ℕ) → IsSession s → Shows s r → c < s.core.settings.cpus → x < length s.locals → slot_of s.core.slots n ≡ Some t → r.drained n ≡ false
+    → Shows (record s { core = with_count_more s.core c n (Some t); locals = set s.locals x (Some (least_id s.core.locals)) }) (counting r c x n)
+more_shows s r c x n t session on low within of live =
+    let has = has_words s.core c n t session.holds low of in
+    let net = net_is s.core c n t r.acquired r.released r.given_up r.drained low has on.tallies in
+    let word : count_at s.core.counts c t ≡ count_at s.core.nets c t = on.tallies.word t c has.entry has.there low (ap r.drained has.numbered ∙ live) in
+    changed s r (with_cell s.core.counts t c (count_at s.core.counts c t + 1)) (with_cell s.core.nets t c (count_at s.core.nets c t + 1)) s.core.totals
+    (with_local s.core.locals (least_id s.core.locals) (Standing n)) (set s.locals x (Some (least_id s.core.locals))) n (r.model.locals n + 1)
+    (put_at r.acquired c n (r.acquired c n + 1)) r.released r.given_up (put r.local_labels x (Some n)) on
+    (more_standing s r n on)
+    (recounted s.core c n t (count_at s.core.counts c t + 1) (count_at s.core.nets c t + 1) r.acquired r.released (put_at r.acquired c n (r.acquired c n + 1)) r.released r.given_up r.drained session.holds.slots has live
+    (ap (λ (k : ℕ). k + 1) word)
+    (record {
+      net = omega (arith, net, put_at_here r.acquired c n (r.acquired c n + 1));
+      acquired_else = put_at_other r.acquired c n (r.acquired c n + 1);
+      released_else = λ d m off. refl;
+    })
+    on.tallies)
+    (labels_added s.core.locals s.locals r.local_labels x n within session.live on.labels.local)
+
+-- what an acquire leaves
+pub counting_shows : (s : SessionState) (r : Registry) (c x : ℕ) (e : Entry) → IsSession s → Shows s r → c < s.core.settings.cpus → x < length s.locals → found_at s.core c ≡ Some e
+    → Shows (record s { core = after_counting s.core c (found_at s.core c); locals = set s.locals x (Some (least_id s.core.locals)) }) (counting r c x e.number)
+counting_shows s r c x e session on low within found =
+    let at = found_slot s.core c e session.holds found in
+    subst (λ (o : Option Entry). Shows (record s { core = after_counting s.core c o; locals = set s.locals x (Some (least_id s.core.locals)) }) (counting r c x e.number)) (sym found)
+    (subst (λ (o : Option ℕ). Shows (record s { core = with_count_more s.core c e.number o; locals = set s.locals x (Some (least_id s.core.locals)) }) (counting r c x e.number)) (sym at.1)
+    (more_shows s r c x e.number at.0 session on low within at.1 (found_undrained s r c at.0 e session.holds on low found at.1)))
+
+-- of an acquire that answers id: the entry, the registry's answer, and the session that stands for what that leaves
+pub record Counts (s : SessionState) (r : Registry) (c x id : ℕ) : Type 0 where
+  pub entry : Entry
+  pub found : found_at s.core c ≡ Some entry
+  pub answers : counted r c (r.model.found c) ≡ Ok entry.number
+  pub shows : Shows (record s { core = after_acquire_local s.core c (Ok id); locals = set s.locals x (Some id) }) (counting r c x entry.number)
+
+pub acquire_local_shows : (s : SessionState) (r : Registry) (c x id : ℕ) → IsSession s → Shows s r → c < s.core.settings.cpus → x < length s.locals
+    → IsCounted s.core (count_refusal s.core c (found_at s.core c)) (Ok id) → Counts s r c x id
+acquire_local_shows s r c x id session on low within is =
+    let told = counts_tell s r c session.holds on low is.0 in
+    record {
+      entry = told.0;
+      found = told.1;
+      answers = told.2;
+      shows = subst (λ (k : ℕ). Shows (record s { core = after_counting s.core c (found_at s.core c); locals = set s.locals x (Some k) }) (counting r c x told.0.number)) (sym is.1)
+          (counting_shows s r c x told.0 session on low within told.1);
+    }
+
+-- Releases
+
+-- c's word counts a live reference's entry just until that is drained
+counting_by : (s : SessionState) (r : Registry) (c n t : ℕ) (b : Bool) → Holds s.core → Shows s r → c < s.core.settings.cpus → HasWords s.core c n t → r.drained n ≡ b → nat_lt 0 (count_at s.core.counts c t) ≡ not b
+counting_by s r c n t true holds on low has dry = le-ltb 0 (count_at s.core.counts c t) (omega (arith, on.tallies.collected t c has.entry has.there (ap r.drained has.numbered ∙ dry)))
+counting_by s r c n t false holds on low has live = lt-ltb 0 (count_at s.core.counts c t)
+    (omega (arith, on.tallies.word t c has.entry has.there low (ap r.drained has.numbered ∙ live), holds.balance.used c t has.entry low has.there))
+
+pub counting_is : (s : SessionState) (r : Registry) (c id n : ℕ) → Holds s.core → Shows s r → c < s.core.settings.cpus → standing (local_at s.core.locals id) ≡ Some n → is_counting s.core c (local_slot s.core id) ≡ not (r.drained n)
+counting_is s r c id n holds on low live =
+    let at = live_slot s.core id n holds live in
+    ap (is_counting s.core c) (slot_is s.core id n at.0 live at.1)
+    ∙ counting_by s r c n at.0 (r.drained n) holds on low (has_words s.core c n at.0 holds low at.1) refl
+
+-- one less: by c's own count, or under the interlock
+abbrev uncounted_by : Bool → Registry → ℕ → ℕ → ℕ → Registry
+uncounted_by b r c x n = record r {
+  model = with_locals r.model n (r.model.locals n - 1);
+  released = if b then r.released else put_at r.released c n (r.released c n + 1);
+  given_up = if b then put r.given_up n (r.given_up n + 1) else r.given_up;
+  local_labels = put r.local_labels x None;
+}
+
+own_shows : (s : SessionState) (r : Registry) (c x id n t : ℕ) → IsSession s → Shows s r → c < s.core.settings.cpus → x < length s.locals → get_or s.locals x None ≡ Some id → local_at s.core.locals id ≡ Standing n → slot_of s.core.slots n ≡ Some t
+    → r.drained n ≡ false → Shows (record s { core = with_count_less (all_seated s.core) c id (Some t); locals = set s.locals x None }) (uncounted_by false r c x n)
+own_shows s r c x id n t session on low within label at of live =
+    let has = has_words s.core c n t session.holds low of in
+    let net = net_is s.core c n t r.acquired r.released r.given_up r.drained low has on.tallies in
+    let used = session.holds.balance.used c t has.entry low has.there in
+    let word : count_at s.core.counts c t ≡ count_at s.core.nets c t = on.tallies.word t c has.entry has.there low (ap r.drained has.numbered ∙ live) in
+    changed s r (with_cell s.core.counts t c (count_at s.core.counts c t - 1)) (with_cell s.core.nets t c (count_at s.core.nets c t - 1)) s.core.totals
+    (set s.core.locals id Free) (set s.locals x None) n (r.model.locals n - 1)
+    r.acquired (put_at r.released c n (r.released c n + 1)) r.given_up (put r.local_labels x None) on
+    (less_standing s r id n on at)
+    (recounted s.core c n t (count_at s.core.counts c t - 1) (count_at s.core.nets c t - 1) r.acquired r.released r.acquired (put_at r.released c n (r.released c n + 1)) r.given_up r.drained session.holds.slots has live
+    (ap (λ (k : ℕ). k - 1) word)
+    (record {
+      net = omega (arith, net, used, put_at_here r.released c n (r.released c n + 1));
+      acquired_else = λ d m off. refl;
+      released_else = put_at_other r.released c n (r.released c n + 1);
+    })
+    on.tallies)
+    (labels_removed s.core.locals s.locals r.local_labels x id within label session.apart on.labels.local)
+
+-- the total of a drained entry is one less
+interlock_shows : (s : SessionState) (r : Registry) (c x id n t : ℕ) → IsSession s → Shows s r → c < s.core.settings.cpus → x < length s.locals → get_or s.locals x None ≡ Some id → local_at s.core.locals id ≡ Standing n → slot_of s.core.slots n ≡ Some t
+    → r.drained n ≡ true → Shows (record s { core = with_total_less (all_seated s.core) id (Some t); locals = set s.locals x None }) (uncounted_by true r c x n)
+interlock_shows s r c x id n t session on low within label at of dry =
+    let has = has_words s.core c n t session.holds low of in
+    changed s r s.core.counts s.core.nets (set s.core.totals t (total_at s.core.totals t - 1))
+    (set s.core.locals id Free) (set s.locals x None) n (r.model.locals n - 1)
+    r.acquired r.released (put r.given_up n (r.given_up n + 1)) (put r.local_labels x None) on
+    (less_standing s r id n on at)
+    (given s.core c n t (total_at s.core.totals t - 1) r.acquired r.released r.given_up r.drained session.holds.slots has dry on.tallies)
+    (labels_removed s.core.locals s.locals r.local_labels x id within label session.apart on.labels.local)
+
+less_by : (s : SessionState) (r : Registry) (c x id n t : ℕ) (b : Bool) → IsSession s → Shows s r → c < s.core.settings.cpus → x < length s.locals → get_or s.locals x None ≡ Some id → local_at s.core.locals id ≡ Standing n → slot_of s.core.slots n ≡ Some t
+    → r.drained n ≡ b
+    → Shows (record s { core = if not b then with_count_less (all_seated s.core) c id (Some t) else with_total_less (all_seated s.core) id (Some t); locals = set s.locals x None }) (uncounted_by b r c x n)
+less_by s r c x id n t true session on low within label at of is = interlock_shows s r c x id n t session on low within label at of is
+less_by s r c x id n t false session on low within label at of is = own_shows s r c x id n t session on low within label at of is
+
+-- what a release leaves
+pub release_local_shows : (s : SessionState) (r : Registry) (c x id n : ℕ) → IsSession s → Shows s r → c < s.core.settings.cpus → x < length s.locals → get_or s.locals x None ≡ Some id → standing (local_at s.core.locals id) ≡ Some n
+    → Shows (record s { core = after_release_local s.core c id; locals = set s.locals x None }) (uncounted r c x n)
+release_local_shows s r c x id n session on low within label live =
+    let of = live_slot s.core id n session.holds live in
+    let slot : local_slot s.core id ≡ Some of.0 = slot_is s.core id n of.0 live of.1 in
+    let by : is_counting s.core c (local_slot s.core id) ≡ not (r.drained n) = counting_is s r c id n session.holds on low live in
+    let after : (if not (r.drained n) then with_count_less (all_seated s.core) c id (Some of.0) else with_total_less (all_seated s.core) id (Some of.0)) ≡ after_release_local s.core c id =
+    λ i. if sym by i then with_count_less (all_seated s.core) c id (sym slot i) else with_total_less (all_seated s.core) id (sym slot i) in
+    subst (λ (core : State). Shows (record s { core = core; locals = set s.locals x None }) (uncounted r c x n)) after
+    (less_by s r c x id n of.0 (r.drained n) session on low within label (standing_tells (local_at s.core.locals id) n live) of.1 refl)

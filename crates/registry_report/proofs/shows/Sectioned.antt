@@ -1,0 +1,216 @@
+-- Enter, exit and find: the registry that the session shows answers and changes as the core does.
+use Rattle.std.proofs.Common.{◌≡◌, ℕ, ◌+◌, ◌-◌, ◌*◌, ◌<◌, ◌≤◌, ⊎_elim, List, length, get_or, set, get_or-set_same, get_or-set_other, Option, Some, None, Bool, true, false, not, ◌&&◌, is_some, is_none, refl, sym, ap, subst, ◌∙◌, arith}
+use Rattle.std.specs.Prelude.{if◌then◌else◌, ◌==◌, Result, Ok, Err, is_ok}
+use Rattle.std.proofs.lemmas.Bool.{cases_eq}
+use Rattle.std.proofs.lemmas.Option.{none-some}
+use Rattle.registry_values.specs.declared.entry.Entry.{Entry}
+use Rattle.registry_values.specs.declared.entry.Change.{Change}
+use Rattle.registry_values.specs.declared.refusal.Refusal.{Refusal}
+use Rattle.registry_values.specs.declared.refusal.Refusal.TheVariants.{TooDeep, SectionsSpent}
+use Rattle.registry_values.specs.declared.mark.Mark.{Mark}
+use Rattle.registry_values.specs.declared.slot.Slot.{Slot}
+use Rattle.protocol.specs.State.{section_at, begin_at, depth_at, mark_at}
+use Rattle.passive_core.specs.Commands.{all_seated}
+use Rattle.passive_core.specs.Entering as core
+use Rattle.passive_core.specs.Entering.{with_depth, after_enter_command, after_exit_command}
+use Rattle.protocol.specs.Events as events
+use Rattle.passive_core.specs.Finding.{after_find}
+use Rattle.protocol.specs.Invariant.{Holds, MarksHold, one_if}
+use Rattle.protocol.specs.Model.{put}
+use Rattle.protocol.proofs.SectionKeeps.{some_from}
+use Rattle.registry_report.specs.Answers.{is_inside, enter_answer, may_begin}
+use Rattle.registry_report.specs.Registry.{Registry}
+use Rattle.registry_report.specs.Session.{SessionState, with_core}
+use Rattle.registry_report.specs.Shows.{Shows, SnapshotsFollow}
+use Rattle.registry_report.specs.Turns.{on_ok, entered, exited, begun_section, ended_section, looked_up}
+use Rattle.protocol.proofs.Cells.{by_place}
+use Rattle.protocol.proofs.Picturing.{put_here, put_other}
+use Rattle.registry_report.proofs.shows.Showing.{put_shows, twice_less}
+
+-- who is inside
+pub inside_is : (s : SessionState) (r : Registry) (c : ℕ) → Shows s r → is_inside r c ≡ events.is_inside s.core c
+inside_is s r c on = ap is_some (on.model.sections c)
+
+-- whether the CPU may begin one more section, where it is outside
+spent_is : (s : SessionState) (r : Registry) (c : ℕ) → Shows s r → (o : Option ℕ) → begin_at s.core c ≡ o
+    → (is_none o && not (core.may_begin s.core c)) ≡ (not (is_some o) && not (may_begin r c))
+spent_is s r c on None at =
+    let word : section_at s.core c ≡ 2 * r.begun c = omega (arith, sym (ap (λ (b : Option ℕ). section_at s.core c + one_if (is_some b)) at) ∙ on.sections.turns c) in
+    rw (word, on.settings) (ap not (twice_less (r.begun c) s.core.settings.section_limit))
+spent_is s r c on (Some b) at = refl
+
+pub enter_answers : (s : SessionState) (r : Registry) (c : ℕ) → Shows s r → core.enter_answer s.core c ≡ enter_answer r c
+enter_answers s r c on =
+    let deep : depth_at s.core c ≡ r.depths c = sym (on.sections.deep c) in
+    let spent : (events.is_outside s.core c && not (core.may_begin s.core c)) ≡ (not (is_inside r c) && not (may_begin r c)) =
+    spent_is s r c on (begin_at s.core c) refl ∙ ap (λ (b : Option ℕ). not (is_some b) && not (may_begin r c)) (sym (on.model.sections c)) in
+    λ i. if deep i == 255 then Err TooDeep else (if spent i then Err SectionsSpent else Ok tt)
+
+-- a section that begins has another word than any snapshot
+begun_follows : (h : List Change) (slots : List Slot) (marks : List (List Mark)) (section : List ℕ) (begins : List (Option ℕ)) (c w b : ℕ)
+    → MarksHold h slots marks section begins → c < length section → c < length begins → get_or section c 0 < w → SnapshotsFollow h slots marks section begins → SnapshotsFollow h slots marks (set section c w) (set begins c (Some b))
+begun_follows h slots marks section begins c w b holds sc bc more was t p j d x e at end begun snapshot same = ⊎_elim
+    (λ (here : j ≡ c).
+    let word : get_or (set section c w) j 0 ≡ w = ap (λ (k : ℕ). get_or (set section c w) k 0) here ∙ get_or-set_same section c w 0 sc in
+    let old : x ≤ get_or section c 0 = holds.older t c x e at (subst (λ (k : ℕ). (mark_at marks t k).snapshot ≡ Some x) here snapshot) in
+    omega arith)
+    (λ (off : j ≡ c → ⊥). was t p j d x e at end (sym (get_or-set_other begins c j (Some b) None off) ∙ begun) snapshot (sym (get_or-set_other section c j w 0 off) ∙ same))
+    (cases_eq j c)
+
+-- a section that ends is none
+ended_follows : (h : List Change) (slots : List Slot) (marks : List (List Mark)) (section : List ℕ) (begins : List (Option ℕ)) (c w : ℕ)
+    → c < length begins → SnapshotsFollow h slots marks section begins → SnapshotsFollow h slots marks (set section c w) (set begins c None)
+ended_follows h slots marks section begins c w bc was t p j d x e at end begun snapshot same = ⊎_elim
+    (λ (here : j ≡ c). absurd (none-some d (sym (get_or-set_same begins c None None bc) ∙ (ap (λ (k : ℕ). get_or (set begins c None) k None) (sym here) ∙ begun))))
+    (λ (off : j ≡ c → ⊥). was t p j d x e at end (sym (get_or-set_other begins c j None None off) ∙ begun) snapshot (sym (get_or-set_other section c j w 0 off) ∙ same))
+    (cases_eq j c)
+
+-- the section gets deeper or less deep
+nested_shows : (s : SessionState) (r : Registry) (c depth other : ℕ) → Holds s.core → Shows s r → c < s.core.settings.cpus → depth ≡ other
+    → Shows (with_core s (with_depth s.core c other)) (record r { depths = put r.depths c depth })
+nested_shows s r c depth other holds on lt same = record {
+  settings = on.settings;
+  model = on.model;
+  sections = record { deep = put_shows r.depths 0 s.core.depths c depth other (omega (arith, holds.shape.depths)) on.sections.deep same; turns = on.sections.turns };
+  live = on.live;
+  grace = on.grace;
+  tallies = on.tallies;
+  labels = on.labels;
+}
+
+-- one section more was begun
+begun_turns : (section : List ℕ) (begins : List (Option ℕ)) (begun : ℕ → ℕ) (c b : ℕ) → c < length section → c < length begins → get_or begins c None ≡ None
+    → ((j : ℕ) → get_or section j 0 + one_if (is_some (get_or begins j None)) ≡ 2 * begun j)
+    → (j : ℕ) → get_or (set section c (get_or section c 0 + 1)) j 0 + one_if (is_some (get_or (set begins c (Some b)) j None)) ≡ 2 * put begun c (begun c + 1) j
+begun_turns section begins begun c b sc bc out was j = by_place
+    (λ j. get_or (set section c (get_or section c 0 + 1)) j 0 + one_if (is_some (get_or (set begins c (Some b)) j None)) ≡ 2 * put begun c (begun c + 1) j) c j
+    (let word : get_or (set section c (get_or section c 0 + 1)) c 0 ≡ get_or section c 0 + 1 = get_or-set_same section c (get_or section c 0 + 1) 0 sc in
+    let begin : one_if (is_some (get_or (set begins c (Some b)) c None)) ≡ 1 = ap (λ (o : Option ℕ). one_if (is_some o)) (get_or-set_same begins c (Some b) None bc) in
+    let before : one_if (is_some (get_or begins c None)) ≡ 0 = ap (λ (o : Option ℕ). one_if (is_some o)) out in
+    omega (arith, word, begin, before, was c, put_here begun c (begun c + 1)))
+    (λ off. rw (get_or-set_other section c j (get_or section c 0 + 1) 0 off, get_or-set_other begins c j (Some b) None off, put_other begun c (begun c + 1) j off) (was j))
+
+-- the one that was open ended
+ended_turns : (section : List ℕ) (begins : List (Option ℕ)) (begun : ℕ → ℕ) (c b : ℕ) → c < length section → c < length begins → get_or begins c None ≡ Some b
+    → ((j : ℕ) → get_or section j 0 + one_if (is_some (get_or begins j None)) ≡ 2 * begun j)
+    → (j : ℕ) → get_or (set section c (get_or section c 0 + 1)) j 0 + one_if (is_some (get_or (set begins c None) j None)) ≡ 2 * begun j
+ended_turns section begins begun c b sc bc in_ was j = by_place
+    (λ j. get_or (set section c (get_or section c 0 + 1)) j 0 + one_if (is_some (get_or (set begins c None) j None)) ≡ 2 * begun j) c j
+    (let word : get_or (set section c (get_or section c 0 + 1)) c 0 ≡ get_or section c 0 + 1 = get_or-set_same section c (get_or section c 0 + 1) 0 sc in
+    let now : one_if (is_some (get_or (set begins c None) c None)) ≡ 0 = ap (λ (o : Option ℕ). one_if (is_some o)) (get_or-set_same begins c None None bc) in
+    let before : one_if (is_some (get_or begins c None)) ≡ 1 = ap (λ (o : Option ℕ). one_if (is_some o)) in_ in
+    omega (arith, word, now, before, was c))
+    (λ off. rw (get_or-set_other section c j (get_or section c 0 + 1) 0 off, get_or-set_other begins c j None None off) (was j))
+
+-- the outermost section begins
+begun_shows : (s : SessionState) (r : Registry) (c : ℕ) → Holds s.core → Shows s r → c < s.core.settings.cpus → begin_at s.core c ≡ None
+    → Shows (with_core s (events.after_enter (all_seated s.core) c)) (begun_section r c)
+begun_shows s r c holds on lt out = record {
+  settings = on.settings;
+  model = record {
+    history = on.model.history;
+    sections = put_shows r.model.sections None s.core.begins c (Some (length r.model.history)) (Some (length s.core.history)) (omega (arith, holds.shape.begins)) on.model.sections (ap (λ (h : List Change). Some (length h)) on.model.history);
+    last_found = on.model.last_found;
+    held = on.model.held;
+    counted = on.model.counted;
+    occupants = on.model.occupants;
+    kept = on.model.kept;
+  };
+  sections = record {
+    deep = put_shows r.depths 0 s.core.depths c 1 1 (omega (arith, holds.shape.depths)) on.sections.deep refl;
+    turns = begun_turns s.core.section s.core.begins r.begun c (length s.core.history) (omega (arith, holds.shape.sections)) (omega (arith, holds.shape.begins)) out on.sections.turns;
+  };
+  live = on.live;
+  grace = begun_follows s.core.history s.core.slots s.core.marks s.core.section s.core.begins c (section_at s.core c + 1) (length s.core.history) holds.grace (omega (arith, holds.shape.sections)) (omega (arith, holds.shape.begins)) (omega arith) on.grace;
+  tallies = on.tallies;
+  labels = on.labels;
+}
+
+-- the outermost section ends
+ended_shows : (s : SessionState) (r : Registry) (c b : ℕ) → Holds s.core → Shows s r → c < s.core.settings.cpus → begin_at s.core c ≡ Some b
+    → Shows (with_core s (events.after_exit (all_seated s.core) c)) (ended_section r c)
+ended_shows s r c b holds on lt in_ = record {
+  settings = on.settings;
+  model = record {
+    history = on.model.history;
+    sections = put_shows r.model.sections None s.core.begins c None None (omega (arith, holds.shape.begins)) on.model.sections refl;
+    last_found = put_shows r.model.found None s.core.found c None None (omega (arith, holds.shape.found)) on.model.last_found refl;
+    held = on.model.held;
+    counted = on.model.counted;
+    occupants = on.model.occupants;
+    kept = on.model.kept;
+  };
+  sections = record {
+    deep = put_shows r.depths 0 s.core.depths c 0 0 (omega (arith, holds.shape.depths)) on.sections.deep refl;
+    turns = ended_turns s.core.section s.core.begins r.begun c b (omega (arith, holds.shape.sections)) (omega (arith, holds.shape.begins)) in_ on.sections.turns;
+  };
+  live = on.live;
+  grace = ended_follows s.core.history s.core.slots s.core.marks s.core.section s.core.begins c (section_at s.core c + 1) (omega (arith, holds.shape.begins)) on.grace;
+  tallies = on.tallies;
+  labels = on.labels;
+}
+
+-- Enter
+
+out_from : (o : Option ℕ) → is_some o ≡ false → o ≡ None
+out_from None is = refl
+out_from (Some b) is = absurd (let q : ◌≡◌ {A = Bool} true false = is in cc)
+
+entered_by : (s : SessionState) (r : Registry) (c : ℕ) (b : Bool) → Holds s.core → Shows s r → c < s.core.settings.cpus → events.is_inside s.core c ≡ b
+    → Shows (with_core s (if b then with_depth s.core c (depth_at s.core c + 1) else events.after_enter (all_seated s.core) c)) (if b then record r { depths = put r.depths c (r.depths c + 1) } else begun_section r c)
+entered_by s r c true holds on lt is = nested_shows s r c (r.depths c + 1) (depth_at s.core c + 1) holds on lt (ap (λ (d : ℕ). d + 1) (on.sections.deep c))
+entered_by s r c false holds on lt is = begun_shows s r c holds on lt (out_from (begin_at s.core c) is)
+
+pub entered_shows : (s : SessionState) (r : Registry) (c : ℕ) → Holds s.core → Shows s r → c < s.core.settings.cpus → Shows (with_core s (core.entered s.core c)) (entered r c)
+entered_shows s r c holds on lt =
+    subst (λ (b : Bool). Shows (with_core s (core.entered s.core c)) (if b then record r { depths = put r.depths c (r.depths c + 1) } else begun_section r c)) (sym (inside_is s r c on))
+    (entered_by s r c (events.is_inside s.core c) holds on lt refl)
+
+enter_by : (s : SessionState) (r : Registry) (c : ℕ) (a : Result (Unit {0}) Refusal) → Holds s.core → Shows s r → c < s.core.settings.cpus
+    → Shows (with_core s (if is_ok a then core.entered s.core c else s.core)) (on_ok r a (λ done. entered r c))
+enter_by s r c (Ok done) holds on lt = entered_shows s r c holds on lt
+enter_by s r c (Err f) holds on lt = on
+
+-- what an enter leaves
+pub enter_shows : (s : SessionState) (r : Registry) (c : ℕ) → Holds s.core → Shows s r → c < s.core.settings.cpus
+    → Shows (with_core s (after_enter_command s.core c)) (on_ok r (enter_answer r c) (λ done. entered r c))
+enter_shows s r c holds on lt =
+    subst (λ (a : Result (Unit {0}) Refusal). Shows (with_core s (after_enter_command s.core c)) (on_ok r a (λ done. entered r c))) (enter_answers s r c on)
+    (enter_by s r c (core.enter_answer s.core c) holds on lt)
+
+-- Exit
+
+exit_by : (s : SessionState) (r : Registry) (c b : ℕ) (last : Bool) → Holds s.core → Shows s r → c < s.core.settings.cpus → begin_at s.core c ≡ Some b
+    → Shows (with_core s (if last then events.after_exit (all_seated s.core) c else with_depth s.core c (depth_at s.core c - 1))) (exited r c (not last))
+exit_by s r c b true holds on lt in_ = ended_shows s r c b holds on lt in_
+exit_by s r c b false holds on lt in_ = nested_shows s r c (r.depths c - 1) (depth_at s.core c - 1) holds on lt (ap (λ (d : ℕ). d - 1) (on.sections.deep c))
+
+-- what an exit leaves, inside a section
+pub exit_shows : (s : SessionState) (r : Registry) (c : ℕ) → Holds s.core → Shows s r → c < s.core.settings.cpus → events.is_inside s.core c ≡ true
+    → Shows (with_core s (after_exit_command s.core c)) (exited r c (not (r.depths c == 1)))
+exit_shows s r c holds on lt in_ =
+    let begun = some_from (begin_at s.core c) in_ in
+    subst (λ (d : ℕ). Shows (with_core s (after_exit_command s.core c)) (exited r c (not (d == 1)))) (sym (on.sections.deep c))
+    (exit_by s r c begun.0 (depth_at s.core c == 1) holds on lt begun.1)
+
+-- Find
+
+-- what a lookup leaves
+pub found_shows : (s : SessionState) (r : Registry) (c : ℕ) (answer : Option Entry) → Holds s.core → Shows s r → c < s.core.settings.cpus → Shows (with_core s (after_find (all_seated s.core) c answer)) (looked_up r c answer)
+found_shows s r c answer holds on lt = record {
+  settings = on.settings;
+  model = record {
+    history = on.model.history;
+    sections = on.model.sections;
+    last_found = put_shows r.model.found None s.core.found c answer answer (omega (arith, holds.shape.found)) on.model.last_found refl;
+    held = on.model.held;
+    counted = on.model.counted;
+    occupants = on.model.occupants;
+    kept = on.model.kept;
+  };
+  sections = on.sections;
+  live = on.live;
+  grace = on.grace;
+  tallies = on.tallies;
+  labels = on.labels;
+}

@@ -1,0 +1,236 @@
+-- Attach, plug and detach are runs of lawful steps.
+use Rattle.std.proofs.Common.{◌≡◌, ℕ, suc, ◌<◌, ◌≤◌, ⊎_elim, length, Option, Some, None, Bool, true, false, is_some, is_none, refl, sym, ap, subst, ◌∙◌, arith}
+use Rattle.std.specs.Prelude.{Ok}
+use Rattle.std.proofs.lemmas.Bool.{and_parts, cases_lt}
+use Rattle.std.proofs.lemmas.Option.{none-some}
+use Rattle.registry_values.specs.declared.entry.Kind.{Kind}
+use Rattle.registry_values.specs.declared.entry.Kind.TheVariants.{Iface, Driver}
+use Rattle.registry_values.specs.declared.entry.Entry.{Entry}
+use Rattle.registry_values.specs.declared.entry.Change.TheVariants.{Attach, Detach}
+use Rattle.registry_values.specs.declared.entry.Record.{Record}
+use Rattle.registry_values.specs.declared.refusal.Refusal.{Refusal}
+use Rattle.registry_values.specs.declared.refusal.Refusal.TheVariants.{NameTaken, NoSlot, HistoryFull, Inside, NeedsDriver, NotFound}
+use Rattle.registry_values.specs.declared.settings.Settings.{Settings}
+use Rattle.registry_values.specs.declared.slot.Key.{Key}
+use Rattle.registry_values.specs.Slots.{key_of_record, is_iface, is_driver}
+use Rattle.protocol.specs.Events.{keeps_rightly}
+use Rattle.protocol.specs.History.{after_change, change_at, IsLegal, IsLiveAt, IsLookup}
+use Rattle.protocol.specs.Model.{Model, put, IsDriverHere, Stays, Goes_on, Attaches, Detaches, Keeps, Sees}
+use Rattle.registry_values.proofs.Least.{none_is}
+use Rattle.protocol.proofs.Growing.{hold_was, hold_old}
+use Rattle.protocol.proofs.History.{at_new, at_within, attached_old, length-after_change, one_entry}
+use Rattle.protocol.proofs.Picturing.{put_here}
+use Rattle.protocol.proofs.Publishing.{legal_attach, live_cases}
+use Rattle.protocol.proofs.SectionKeeps.{none_from}
+use Rattle.protocol.proofs.Unlinking.{attached_before, legal_detach, was_there}
+use Rattle.registry_report.specs.Answers.{attach_answer, attach_iface_answer, detach_answer, entry_in, found_or, given_entry, has_room, hitched, is_inside, is_plain, lookup_now, next_entry, plain_slot, plug_answer, with_label}
+use Rattle.registry_report.specs.Changes.{entry_of, is_driver_entry, is_driver_number}
+use Rattle.registry_report.specs.Registry.{Registry}
+use Rattle.registry_report.specs.Sound.{HasSlot, IsSound, IsSoundModel, IsLawfulTurn}
+use Rattle.registry_report.specs.Turns.{after_plug, attached, detached, keeping, on_ok, on_some, plugged, seeing, with_entry}
+use Rattle.registry_report.proofs.Lookups.{entry_is, lookup_is}
+use Rattle.registry_report.proofs.sound.Turns.{dropped_counts, else_ok, hitched_ok, idle_turn, labelled_counts, least_some, not_ok, ok_turn, put_capped, put_cases, put_none, same_ok, still_there, then_ok}
+
+-- One change more
+
+-- a new entry in a vacant slot
+attach_keeps : (z : Settings) (m : Model) (labels : ℕ → Option ℕ) (c : ℕ) (e : Entry) → IsSoundModel z m labels → m.occupants e.slot ≡ None → e.number ≡ suc (length m.history)
+    → IsLegal (after_change m.history (Attach e)) → IsSoundModel z (seeing (with_entry m e) c) labels
+attach_keeps z m labels c e on vacant number legal =
+    let size : length (after_change m.history (Attach e)) ≡ suc (length m.history) = length-after_change m.history (Attach e) in
+    let here : (f : Entry) → f ≡ e → put m.occupants e.slot (Some e.number) f.slot ≡ Some f.number =
+    λ f one. subst (λ (g : Entry). put m.occupants e.slot (Some e.number) g.slot ≡ Some g.number) (sym one) (put_here m.occupants e.slot (Some e.number)) in
+    record {
+      legal = legal;
+      live = λ f live. ⊎_elim
+          (λ (one : f ≡ e). here f one)
+          (λ (old : IsLiveAt m.history (length m.history) f). still_there m.occupants e.slot f.slot (Some e.number) f.number vacant (on.live f old))
+          (live_cases m.history e f number (subst (λ (n : ℕ). IsLiveAt (after_change m.history (Attach e)) n f) size live));
+      held = λ d b f in_ hold. ⊎_elim
+          (λ (lt : f.number < suc (length m.history)). still_there m.occupants e.slot f.slot (Some e.number) f.number vacant (on.held d b f in_ (hold_was m.history (Attach e) b f hold (omega arith))))
+          (λ (ge : suc (length m.history) ≤ f.number).
+          let top : f.number ≤ length (after_change m.history (Attach e)) = (at_within (after_change m.history (Attach e)) f.number (Attach f) hold.attached).1 in
+          here f (one_entry (after_change m.history (Attach e)) f e hold.attached (ap (change_at (after_change m.history (Attach e))) number ∙ at_new m.history (Attach e)) (omega arith)))
+          (cases_lt f.number (suc (length m.history)));
+      begun = λ d b in_. let was = on.begun d b in_ in (was.0, omega (arith, was.1));
+      seen = put_capped m.passes c (length (after_change m.history (Attach e))) (length m.history) on.seen (omega arith);
+      unsearching = on.unsearching;
+      last_found = λ d f is. let was = on.last_found d f is in (was.0, was.1, hold_old m.history (Attach e) was.0 f (on.begun d was.0 was.1).1 was.2);
+      referring = on.referring;
+      keeping = on.keeping;
+      labelled = λ x n is. let was = on.labelled x n is in record {
+        entry = was.entry;
+        attached = attached_old m.history (Attach e) was.entry was.attached;
+        numbered = was.numbered;
+        occupant = still_there m.occupants e.slot was.entry.slot (Some e.number) n vacant was.occupant;
+      };
+      counted = on.counted;
+    }
+
+-- the end of a live entry
+detach_keeps : (z : Settings) (m : Model) (labels : ℕ → Option ℕ) (c : ℕ) (e : Entry) → IsSoundModel z m labels → IsLiveAt m.history (length m.history) e
+    → IsSoundModel z (seeing (record m { history = after_change m.history (Detach e.number) }) c) labels
+detach_keeps z m labels c e on live =
+    let size : length (after_change m.history (Detach e.number)) ≡ suc (length m.history) = length-after_change m.history (Detach e.number) in
+    record {
+      legal = legal_detach m.history e on.legal live;
+      live = λ f now. on.live f (was_there m.history e f (subst (λ (n : ℕ). IsLiveAt (after_change m.history (Detach e.number)) n f) size now)).0;
+      held = λ d b f in_ hold. on.held d b f in_ (hold_was m.history (Detach e.number) b f hold (attached_before m.history e.number f hold.attached).0);
+      begun = λ d b in_. let was = on.begun d b in_ in (was.0, omega (arith, was.1));
+      seen = put_capped m.passes c (length (after_change m.history (Detach e.number))) (length m.history) on.seen (omega arith);
+      unsearching = on.unsearching;
+      last_found = λ d f is. let was = on.last_found d f is in (was.0, was.1, hold_old m.history (Detach e.number) was.0 f (on.begun d was.0 was.1).1 was.2);
+      referring = on.referring;
+      keeping = on.keeping;
+      labelled = λ x n is. let was = on.labelled x n is in record {
+        entry = was.entry;
+        attached = attached_old m.history (Detach e.number) was.entry was.attached;
+        numbered = was.numbered;
+        occupant = was.occupant;
+      };
+      counted = on.counted;
+    }
+
+-- What an attach that isn't refused tells
+
+record Given (r : Registry) (rec : Record) (e : Entry) : Type 0 where
+  new_key : lookup_now r (key_of_record rec) ≡ None
+  within : e.slot < r.settings.slots
+  vacant : r.model.occupants e.slot ≡ None
+  keepless : r.model.keeps e.slot ≡ None
+  number : e.number ≡ suc (length r.model.history)
+  is : e.rec ≡ rec
+
+entry_tells : (r : Registry) (rec : Record) (o : Option ℕ) (e : Entry) → entry_in r rec o ≡ Ok e → (t : ℕ) × (o ≡ Some t) × (next_entry r rec t ≡ e)
+entry_tells r rec None e is = absurd (not_ok NoSlot e is)
+entry_tells r rec (Some t) e is = (t, refl, same_ok {E = Refusal} (next_entry r rec t) e (then_ok (has_room r) HistoryFull (Ok (next_entry r rec t)) e is).1)
+
+given_tells : (r : Registry) (rec : Record) (e : Entry) → given_entry r rec ≡ Ok e → Given r rec e
+given_tells r rec e is =
+    let free = else_ok (is_some (lookup_now r (key_of_record rec))) NameTaken (entry_in r rec (plain_slot r)) e is in
+    let at = entry_tells r rec (plain_slot r) e free.1 in
+    let least = least_some (is_plain r) r.settings.slots at.0 at.1 in
+    let plain = and_parts (is_none (r.model.occupants at.0)) (is_none (r.model.keeps at.0)) least.1 in
+    subst (Given r rec) at.2 (record {
+      new_key = none_is (lookup_now r (key_of_record rec)) free.0;
+      within = least.0;
+      vacant = none_from (r.model.occupants at.0) plain.0;
+      keepless = none_from (r.model.keeps at.0) plain.1;
+      number = omega arith;
+      is = refl;
+    })
+
+given_legal : (r : Registry) (rec : Record) (e : Entry) → IsSound r → Given r rec e → IsLegal (after_change r.model.history (Attach e))
+given_legal r rec e on given =
+    let none : IsLookup r.model.history (length r.model.history) (key_of_record rec) None =
+    subst (IsLookup r.model.history (length r.model.history) (key_of_record rec)) given.new_key (lookup_is r.model.history on.legal (key_of_record rec) (length r.model.history)) in
+    legal_attach r.model.history e on.legal given.number
+    (λ f live same. none f live (same ∙ ap key_of_record given.is))
+    (λ f live same. none-some f.number (sym given.vacant ∙ (ap r.model.occupants (sym same) ∙ on.live f live)))
+
+driver_from : (k : Kind) → is_iface k ≡ false → is_driver k ≡ true
+driver_from Iface is = absurd (let q : ◌≡◌ {A = Bool} true false = is in cc)
+driver_from Driver is = refl
+
+driver_is : (k : Kind) → is_driver k ≡ true → k ≡ Driver
+driver_is Iface is = absurd (let q : ◌≡◌ {A = Bool} false true = is in cc)
+driver_is Driver is = refl
+
+-- Attach
+
+pub attached_lawful : (r : Registry) (c : ℕ) (rec : Record) (e : Entry) → IsSound r → attach_answer r c rec ≡ Ok e → IsLawfulTurn r (attached r c e)
+attached_lawful r c rec e on is =
+    let outside = else_ok (is_inside r c) Inside _ e is in
+    let driver = else_ok (is_iface rec.kind) NeedsDriver (given_entry r rec) e outside.1 in
+    let given = given_tells r rec e driver.1 in
+    let legal = given_legal r rec e on given in
+    let rightly : keeps_rightly (r.model.keeps e.slot) e.rec.kind ≡ true = ap (λ (o : Option ℕ). keeps_rightly o e.rec.kind) given.keepless ∙ driver_from e.rec.kind (ap (λ (x : Record). is_iface x.kind) given.is ∙ driver.0) in
+    let le : r.model.passes c ≤ length (after_change r.model.history (Attach e)) = omega (arith, on.seen c, length-after_change r.model.history (Attach e)) in (
+      attach_keeps r.settings r.model r.local_labels c e on given.vacant given.number legal,
+      Goes_on (with_entry r.model e) _ (Goes_on r.model _ Stays (Attaches e given.vacant legal given.number rightly)) (Sees c (length (after_change r.model.history (Attach e))) le (omega arith)),
+      refl,
+    )
+
+pub attach_turn : (r : Registry) (c : ℕ) (rec : Record) → IsSound r → IsLawfulTurn r (on_ok r (attach_answer r c rec) (attached r c))
+attach_turn r c rec on = ok_turn r (attach_answer r c rec) (attached r c) on (λ e is. attached_lawful r c rec e on is)
+
+-- Plug
+
+-- a slot takes the reference of a label over
+keep_keeps : (z : Settings) (m : Model) (labels : ℕ → Option ℕ) (t x d : ℕ) → IsSoundModel z m labels → t < z.slots → labels x ≡ Some d → IsSoundModel z (keeping m t d) (put labels x None)
+keep_keeps z m labels t x d on lt at = record {
+  legal = on.legal;
+  live = on.live;
+  held = on.held;
+  begun = on.begun;
+  seen = on.seen;
+  unsearching = on.unsearching;
+  last_found = on.last_found;
+  referring = on.referring;
+  keeping = λ u n is. ⊎_elim
+      (λ (here : (u ≡ t) × (put m.keeps t (Some d) u ≡ Some d)). omega (arith, here.0))
+      (λ (off : (u ≡ t → ⊥) × (put m.keeps t (Some d) u ≡ m.keeps u)). on.keeping u n (sym off.1 ∙ is))
+      (put_cases m.keeps t (Some d) u);
+  labelled = λ y n is. on.labelled y n (put_none labels x y n is).1;
+  counted = dropped_counts labels m.locals x d at on.counted;
+}
+
+-- what a label stands for, and is a driver by its number, is one that stands in its slot
+driver_here : (m : Model) (d : ℕ) → HasSlot m.history m.occupants d → is_driver_number m.history d ≡ true → IsDriverHere m d
+driver_here m d has is = record {
+  entry = has.entry;
+  attached = has.attached;
+  numbered = has.numbered;
+  driver = driver_is has.entry.rec.kind (ap is_driver_entry (sym (ap (entry_of m.history) (sym has.numbered) ∙ entry_is m.history has.entry has.attached)) ∙ is);
+  slot = has.entry.slot;
+  occupant = has.occupant;
+}
+
+pub plugged_lawful : (r : Registry) (c : ℕ) (rec : Record) (x d : ℕ) (e : Entry) → IsSound r → is_iface rec.kind ≡ true → r.local_labels x ≡ Some d → attach_iface_answer r c rec d ≡ Ok e → IsLawfulTurn r (plugged r c e x d)
+plugged_lawful r c rec x d e on iface at is =
+    let outside = else_ok (is_inside r c) Inside _ e is in
+    let driver = then_ok (is_driver_number r.model.history d) NeedsDriver (given_entry r rec) e outside.1 in
+    let given = given_tells r rec e driver.1 in
+    let legal = given_legal r rec e on given in
+    let here = driver_here r.model d (on.labelled x d at) driver.0 in
+    let some : 0 < r.model.locals d = omega (arith, labelled_counts r.local_labels x d at, on.counted d (suc x)) in
+    let rightly : keeps_rightly (put r.model.keeps e.slot (Some d) e.slot) e.rec.kind ≡ true =
+    ap (λ (o : Option ℕ). keeps_rightly o e.rec.kind) (put_here r.model.keeps e.slot (Some d)) ∙ (ap (λ (y : Record). is_iface y.kind) given.is ∙ iface) in
+    let le : r.model.passes c ≤ length (after_change r.model.history (Attach e)) = omega (arith, on.seen c, length-after_change r.model.history (Attach e)) in (
+      attach_keeps r.settings (keeping r.model e.slot d) (put r.local_labels x None) c e (keep_keeps r.settings r.model r.local_labels e.slot x d on given.within at) given.vacant given.number legal,
+      Goes_on (with_entry (keeping r.model e.slot d) e) _
+          (Goes_on (keeping r.model e.slot d) _ (Goes_on r.model _ Stays (Keeps e.slot d given.vacant given.keepless here some)) (Attaches e given.vacant legal given.number rightly))
+          (Sees c (length (after_change r.model.history (Attach e))) le (omega arith)),
+      refl,
+    )
+
+plug_by : (r : Registry) (c : ℕ) (rec : Record) (x : ℕ) (o : Option ℕ) → IsSound r → is_iface rec.kind ≡ true → r.local_labels x ≡ o
+    → IsLawfulTurn r (on_some r o (λ d. on_ok r (with_label o (λ d. hitched (attach_iface_answer r c rec d))) (λ e. plugged r c e x d)))
+plug_by r c rec x None on iface at = idle_turn r on
+plug_by r c rec x (Some d) on iface at = ok_turn r (hitched (attach_iface_answer r c rec d)) (λ e. plugged r c e x d) on
+    (λ e is. plugged_lawful r c rec x d e on iface at (hitched_ok (attach_iface_answer r c rec d) e is))
+
+-- a record that is plugged is an interface's
+pub plug_turn : (r : Registry) (c : ℕ) (rec : Record) (x : ℕ) → IsSound r → is_iface rec.kind ≡ true → IsLawfulTurn r (after_plug r c x (plug_answer r c rec x))
+plug_turn r c rec x on iface = plug_by r c rec x (r.local_labels x) on iface refl
+
+-- Detach
+
+found_tells : (o : Option Entry) (e : Entry) → found_or o ≡ Ok e → o ≡ Some e
+found_tells None e is = absurd (not_ok NotFound e is)
+found_tells (Some f) e is = ap (λ (g : Entry). Some g) (same_ok {E = Refusal} f e is)
+
+pub detached_lawful : (r : Registry) (c : ℕ) (key : Key) (e : Entry) → IsSound r → detach_answer r c key ≡ Ok e → IsLawfulTurn r (detached r c e)
+detached_lawful r c key e on is =
+    let outside = else_ok (is_inside r c) Inside (found_or (lookup_now r key)) e is in
+    let found : IsLookup r.model.history (length r.model.history) key (Some e) =
+    subst (IsLookup r.model.history (length r.model.history) key) (found_tells (lookup_now r key) e outside.1) (lookup_is r.model.history on.legal key (length r.model.history)) in
+    let le : r.model.passes c ≤ length (after_change r.model.history (Detach e.number)) = omega (arith, on.seen c, length-after_change r.model.history (Detach e.number)) in (
+      detach_keeps r.settings r.model r.local_labels c e on found.0,
+      Goes_on (record r.model { history = after_change r.model.history (Detach e.number) }) _ (Goes_on r.model _ Stays (Detaches e.number (legal_detach r.model.history e on.legal found.0)))
+          (Sees c (length (after_change r.model.history (Detach e.number))) le (omega arith)),
+      refl,
+    )
+
+pub detach_turn : (r : Registry) (c : ℕ) (key : Key) → IsSound r → IsLawfulTurn r (on_ok r (detach_answer r c key) (detached r c))
+detach_turn r c key on = ok_turn r (detach_answer r c key) (detached r c) on (λ e is. detached_lawful r c key e on is)

@@ -1,0 +1,234 @@
+-- A function with one value put, labels that are counted, least numbers, and answers behind tests: what the turns share.
+use Rattle.std.proofs.Common.{◌≡◌, ℕ, zero, suc, ◌+◌, ◌-◌, ◌<◌, ◌≤◌, ◌⊎◌, inl, inr, ⊎_elim, List, [], ◌∷◌, Option, Some, None, Bool, true, false, refl, sym, ap, subst, ◌∙◌, arith, eqb-true}
+use Rattle.std.specs.Prelude.{Result, Ok, Err, if◌then◌else◌}
+use Rattle.std.proofs.lemmas.Bool.{cases_eq, cases_lt, eq-eqb, ne_eqb}
+use Rattle.std.specs.List.{All}
+use Rattle.std.proofs.lemmas.List.Elements.{All-head, All-tail}
+use Rattle.std.proofs.lemmas.Option.{none-some, same_Some}
+use Rattle.registry_values.specs.Marks.{least_below, or_next}
+use Rattle.protocol.specs.Invariant.{one_if}
+use Rattle.protocol.specs.Model.{put, Stays}
+use Rattle.protocol.proofs.Picturing.{join_runs, put_here, put_other}
+use Rattle.registry_values.specs.declared.refusal.Refusal.{Refusal}
+use Rattle.registry_report.specs.declared.hitch.Hitch.{Hitch}
+use Rattle.registry_report.specs.declared.hitch.Hitch.TheVariants.{Refused}
+use Rattle.registry_report.specs.Answers.{count_below, hitched, is_this}
+use Rattle.registry_report.specs.Registry.{Registry, opened}
+use Rattle.registry_report.specs.Sound.{after_each, labels_for, IsSound, IsLawfulTurn}
+use Rattle.registry_report.specs.Turns.{on_ok}
+use Rattle.registry_values.specs.declared.settings.Settings.{Settings}
+use Rattle.registry_values.specs.declared.entry.Change.TheVariants.{Attach, Detach}
+use Rattle.protocol.specs.History.{IsLegal}
+use Rattle.protocol.proofs.History.{at_empty}
+
+-- A function with one value put
+
+pub put_cases : {X : Type 0} (f : ℕ → X) (i : ℕ) (x : X) (j : ℕ) → ((j ≡ i) × (put f i x j ≡ x)) ⊎ ((j ≡ i → ⊥) × (put f i x j ≡ f j))
+put_cases {X} f i x j = ⊎_elim
+    (λ (same : j ≡ i). inl (same, ap (put f i x) same ∙ put_here f i x))
+    (λ (off : j ≡ i → ⊥). inr (off, put_other f i x j off))
+    (cases_eq j i)
+
+-- what stands where nothing was taken away stood there before
+pub put_none : {X : Type 0} (f : ℕ → Option X) (i j : ℕ) (y : X) → put f i None j ≡ Some y → (j ≡ i → ⊥) × (f j ≡ Some y)
+put_none {X} f i j y is = ⊎_elim
+    (λ (here : (j ≡ i) × (put f i None j ≡ None)). absurd (none-some y (sym here.1 ∙ is)))
+    (λ (off : (j ≡ i → ⊥) × (put f i None j ≡ f j)). (off.0, sym off.1 ∙ is))
+    (put_cases f i None j)
+
+-- a full place stays so, where an empty one is written
+pub still_there : {X : Type 0} (f : ℕ → Option X) (i j : ℕ) (x : Option X) (y : X) → f i ≡ None → f j ≡ Some y → put f i x j ≡ Some y
+still_there {X} f i j x y empty is = put_other f i x j (λ same. none-some y (sym empty ∙ (ap f (sym same) ∙ is))) ∙ is
+
+-- and where one with another value is emptied
+pub still_beside : (f : ℕ → Option ℕ) (i j n k : ℕ) → f i ≡ Some n → f j ≡ Some k → (k ≡ n → ⊥) → put f i None j ≡ Some k
+still_beside f i j n k full is other = put_other f i None j (λ same. other (same_Some k n (sym is ∙ (ap f same ∙ full)))) ∙ is
+
+-- each value is at most n
+pub put_capped : (f : ℕ → ℕ) (i n m : ℕ) → ((j : ℕ) → f j ≤ m) → m ≤ n → (j : ℕ) → put f i n j ≤ n
+put_capped f i n m all le j = ⊎_elim
+    (λ (here : (j ≡ i) × (put f i n j ≡ n)). omega (arith, here.1))
+    (λ (off : (j ≡ i → ⊥) × (put f i n j ≡ f j)). omega (arith, off.1, all j))
+    (put_cases f i n j)
+
+-- Labels
+
+pub is_this_own : (n : ℕ) → is_this n (Some n) ≡ true
+is_this_own n = eq-eqb n n refl
+
+pub is_this_other : (n m : ℕ) → (n ≡ m → ⊥) → is_this m (Some n) ≡ false
+is_this_other n m off = ne_eqb n m off
+
+pub is_this_tells : (n : ℕ) (o : Option ℕ) → is_this n o ≡ true → o ≡ Some n
+is_this_tells n None is = absurd (let q : ◌≡◌ {A = Bool} false true = is in cc)
+is_this_tells n (Some m) is = ap (λ (k : ℕ). Some k) (eqb-true m n is)
+
+-- of labels before x nothing changes
+count_before : (labels : ℕ → Option ℕ) (n x : ℕ) (l : Option ℕ) (k : ℕ) → k ≤ x → labels_for (put labels x l) n k ≡ labels_for labels n k
+count_before labels n x l zero le = refl
+count_before labels n x l (suc k) le =
+    let here : one_if (is_this n (put labels x l k)) ≡ one_if (is_this n (labels k)) = ap (λ (o : Option ℕ). one_if (is_this n o)) (put_other labels x l k (λ same. omega arith)) in
+    omega (arith, here, count_before labels n x l k (omega arith))
+
+-- past x there is what the new one makes of it
+count_past : (labels : ℕ → Option ℕ) (n x : ℕ) (l : Option ℕ) (k : ℕ) → x < k → labels_for (put labels x l) n k + one_if (is_this n (labels x)) ≡ labels_for labels n k + one_if (is_this n l)
+count_past labels n x l zero lt = absurd (omega arith)
+count_past labels n x l (suc k) lt = ⊎_elim
+    (λ (low : x < k).
+    let here : one_if (is_this n (put labels x l k)) ≡ one_if (is_this n (labels k)) = ap (λ (o : Option ℕ). one_if (is_this n o)) (put_other labels x l k (λ same. omega arith)) in
+    omega (arith, here, count_past labels n x l k low))
+    (λ (ge : k ≤ x).
+    let same : k ≡ x = omega arith in
+    let here : one_if (is_this n (put labels x l k)) ≡ one_if (is_this n l) = ap (λ (o : Option ℕ). one_if (is_this n o)) (ap (put labels x l) same ∙ put_here labels x l) in
+    let was : one_if (is_this n (labels k)) ≡ one_if (is_this n (labels x)) = ap (λ (j : ℕ). one_if (is_this n (labels j))) same in
+    omega (arith, here, was, count_before labels n x l k ge))
+    (cases_lt x k)
+
+count_more : (p : ℕ → Bool) (k j : ℕ) → count_below p k ≤ count_below p (k + j)
+count_more p k zero = let same : k + 0 ≡ k = omega arith in omega (arith, ap (count_below p) same)
+count_more p k (suc j) =
+    let same : k + suc j ≡ suc (k + j) = omega arith in
+    omega (arith, ap (count_below p) same, count_more p k j)
+
+-- a number that a label stands for is counted
+pub labelled_counts : (labels : ℕ → Option ℕ) (x n : ℕ) → labels x ≡ Some n → 0 < labels_for labels n (suc x)
+labelled_counts labels x n is =
+    let one : one_if (is_this n (labels x)) ≡ 1 = ap (λ (o : Option ℕ). one_if (is_this n o)) is ∙ ap one_if (is_this_own n) in
+    omega (arith, one)
+
+-- of another number nothing changes
+count_beside : (labels : ℕ → Option ℕ) (n x : ℕ) (l : Option ℕ) (k : ℕ) → is_this n (labels x) ≡ false → is_this n l ≡ false → labels_for (put labels x l) n k ≡ labels_for labels n k
+count_beside labels n x l k was now = ⊎_elim
+    (λ (low : x < k). omega (arith, ap one_if was, ap one_if now, count_past labels n x l k low))
+    (λ (ge : k ≤ x). count_before labels n x l k ge)
+    (cases_lt x k)
+
+-- a label is given up with the reference that it stands for
+pub dropped_counts : (labels : ℕ → Option ℕ) (locals : ℕ → ℕ) (x n : ℕ) → labels x ≡ Some n → ((m k : ℕ) → labels_for labels m k ≤ locals m)
+    → (m k : ℕ) → labels_for (put labels x None) m k ≤ put locals n (locals n - 1) m
+dropped_counts labels locals x n is all m k = ⊎_elim
+    (λ (here : (m ≡ n) × (put locals n (locals n - 1) m ≡ locals n - 1)).
+    let top : ℕ = k + suc x in
+    let more : labels_for (put labels x None) m k ≤ labels_for (put labels x None) m (k + suc x) = count_more (λ y. is_this m (put labels x None y)) k (suc x) in
+    let change = count_past labels m x None (k + suc x) (omega arith) in
+    let one : one_if (is_this m (labels x)) ≡ 1 = ap (λ (o : Option ℕ). one_if (is_this m o)) is ∙ ap one_if (eq-eqb n m (sym here.0)) in
+    omega (arith, more, change, one, here.1, all m (k + suc x), ap locals here.0))
+    (λ (off : (m ≡ n → ⊥) × (put locals n (locals n - 1) m ≡ locals m)).
+    let was : is_this m (labels x) ≡ false = ap (is_this m) is ∙ is_this_other n m (λ same. off.0 (sym same)) in
+    omega (arith, count_beside labels m x None k was refl, off.1, all m k))
+    (put_cases locals n (locals n - 1) m)
+
+-- and one is filled with one more
+pub added_counts : (labels : ℕ → Option ℕ) (locals : ℕ → ℕ) (x n : ℕ) → labels x ≡ None → ((m k : ℕ) → labels_for labels m k ≤ locals m)
+    → (m k : ℕ) → labels_for (put labels x (Some n)) m k ≤ put locals n (locals n + 1) m
+added_counts labels locals x n free all m k = ⊎_elim
+    (λ (here : (m ≡ n) × (put locals n (locals n + 1) m ≡ locals n + 1)).
+    let one : one_if (is_this m (Some n)) ≡ 1 = ap one_if (eq-eqb n m (sym here.0)) in
+    let none : one_if (is_this m (labels x)) ≡ 0 = ap (λ (o : Option ℕ). one_if (is_this m o)) free in
+    ⊎_elim
+    (λ (low : x < k). omega (arith, count_past labels m x (Some n) k low, one, none, here.1, all m k, ap locals here.0))
+    (λ (ge : k ≤ x). omega (arith, count_before labels m x (Some n) k ge, here.1, all m k, ap locals here.0))
+    (cases_lt x k))
+    (λ (off : (m ≡ n → ⊥) × (put locals n (locals n + 1) m ≡ locals m)).
+    omega (arith, count_beside labels m x (Some n) k (ap (is_this m) free) (is_this_other n m (λ same. off.0 (sym same))), off.1, all m k))
+    (put_cases locals n (locals n + 1) m)
+
+-- where none is counted, none passes
+pub count_none : (p : ℕ → Bool) (k t : ℕ) → count_below p k ≡ 0 → t < k → p t ≡ false
+count_none p zero t none lt = absurd (omega arith)
+count_none p (suc k) t none lt = ⊎_elim
+    (λ (low : t < k). count_none p k t (omega (arith, none)) low)
+    (λ (ge : k ≤ t). ap p (let same : t ≡ k = omega arith in same) ∙ no_one (p k) (omega (arith, none)))
+    (cases_lt t k)
+  where
+    no_one : (b : Bool) → one_if b ≡ 0 → b ≡ false
+    no_one true is = absurd (omega (arith, is))
+    no_one false is = refl
+
+count_empty : (n k : ℕ) → labels_for (λ x. None) n k ≡ 0
+count_empty n zero = refl
+count_empty n (suc k) = omega (arith, count_empty n k)
+
+-- Least numbers
+
+next_some : (o : Option ℕ) (b : Bool) (n c : ℕ) → or_next o b n ≡ Some c → (o ≡ Some c) ⊎ ((c ≡ n) × (b ≡ true))
+next_some (Some d) b n c is = inl is
+next_some None true n c is = inr (sym (same_Some n c is), refl)
+next_some None false n c is = absurd (none-some c is)
+
+-- the least number that passes does
+pub least_some : (p : ℕ → Bool) (n c : ℕ) → least_below p n ≡ Some c → (c < n) × (p c ≡ true)
+least_some p zero c is = absurd (none-some c is)
+least_some p (suc n) c is = ⊎_elim
+    (λ (low : least_below p n ≡ Some c). let was = least_some p n c low in (omega (arith, was.0), was.1))
+    (λ (here : (c ≡ n) × (p n ≡ true)). (omega (arith, here.0), ap p here.0 ∙ here.1))
+    (next_some (least_below p n) (p n) n c is)
+
+-- Tests and answers
+
+pub same_ok : {X E : Type 0} (a b : X) → ◌≡◌ {A = Result X E} (Ok a) (Ok b) → a ≡ b
+same_ok a b is = cc
+
+pub not_ok : {X E : Type 0} (f : E) (x : X) → ◌≡◌ {A = Result X E} (Err f) (Ok x) → ⊥
+not_ok f x is = cc
+
+-- an answer that a test refuses, or lets through
+pub else_ok : {X E : Type 0} (b : Bool) (f : E) (answer : Result X E) (x : X) → ◌≡◌ {A = Result X E} (if b then Err f else answer) (Ok x) → (b ≡ false) × (answer ≡ Ok x)
+else_ok true f answer x is = absurd (not_ok f x is)
+else_ok false f answer x is = (refl, is)
+
+pub then_ok : {X E : Type 0} (b : Bool) (f : E) (answer : Result X E) (x : X) → ◌≡◌ {A = Result X E} (if b then answer else Err f) (Ok x) → (b ≡ true) × (answer ≡ Ok x)
+then_ok true f answer x is = (refl, is)
+then_ok false f answer x is = absurd (not_ok f x is)
+
+pub hitched_ok : {X : Type 0} (answer : Result X Refusal) (x : X) → hitched answer ≡ Ok x → answer ≡ Ok x
+hitched_ok (Ok y) x is = ap (λ z. Ok z) (same_ok {E = Hitch} y x is)
+hitched_ok (Err f) x is = absurd (not_ok (Refused f) x is)
+
+-- Turns
+
+-- nothing happens
+pub idle_turn : (r : Registry) → IsSound r → IsLawfulTurn r r
+idle_turn r on = (on, Stays, refl)
+
+-- a turn by an answer is one by each that is Ok
+pub ok_turn : {X E : Type 0} (r : Registry) (answer : Result X E) (f : X → Registry) → IsSound r → ((x : X) → answer ≡ Ok x → IsLawfulTurn r (f x)) → IsLawfulTurn r (on_ok r answer f)
+ok_turn r (Ok x) f on turn = turn x refl
+ok_turn r (Err e) f on turn = idle_turn r on
+
+pub join_turns : (p q r : Registry) → IsLawfulTurn p q → IsLawfulTurn q r → IsLawfulTurn p r
+join_turns p q r first second = (second.0, join_runs p.model q.model r.model first.1 second.1, second.2 ∙ first.2)
+
+-- commands that fit the settings, each of which makes a lawful turn
+pub each_turn : {C : Type 0} (after : Registry → C → Registry) (Fits : Settings → C → Type 0) → ((r : Registry) (x : C) → IsSound r → Fits r.settings x → IsLawfulTurn r (after r x))
+    → (r : Registry) (xs : List C) → IsSound r → All (Fits r.settings) xs → IsLawfulTurn r (after_each after r xs)
+each_turn {C} after Fits turn r [] on fits = idle_turn r on
+each_turn {C} after Fits turn r (x ∷ xs) on fits =
+    let first = turn r x on (All-head (Fits r.settings) x xs fits) in
+    let rest : All (Fits (after r x).settings) xs = subst (λ (z : Settings). All (Fits z) xs) (sym first.2) (All-tail (Fits r.settings) x xs fits) in
+    join_turns r (after r x) (after_each after (after r x) xs) first (each_turn after Fits turn (after r x) xs first.0 rest)
+
+-- As a script begins
+
+none_legal : IsLegal []
+none_legal = record {
+  numbered = λ k e x. absurd (at_empty k (Attach e) x);
+  new_key = λ k e f x live same. at_empty (suc k) (Attach e) x;
+  new_slot = λ k e f x live same. at_empty (suc k) (Attach e) x;
+  ends_live = λ k n x. absurd (at_empty (suc k) (Detach n) x);
+}
+
+pub opened_sound : (z : Settings) → IsSound (opened z)
+opened_sound z = record {
+  legal = none_legal;
+  live = λ e on. absurd (at_empty e.number (Attach e) on.attached);
+  held = λ c b e in_ hold. absurd (none-some b in_);
+  begun = λ c b in_. absurd (none-some b in_);
+  seen = λ c. omega arith;
+  unsearching = λ c. refl;
+  last_found = λ c e is. absurd (none-some e is);
+  referring = λ c n some. absurd (omega (arith, some));
+  keeping = λ t d is. absurd (none-some d is);
+  labelled = λ x n is. absurd (none-some n is);
+  counted = λ n k. omega (arith, count_empty n k);
+}

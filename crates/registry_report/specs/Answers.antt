@@ -1,0 +1,230 @@
+-- What each command answers: by lookups in the history, the plain slot, the plain stage, and who holds what.
+use Rattle.std.specs.Prelude.{ℕ, zero, suc, ◌+◌, ◌==◌, nat_lt, nat_le, List, [], ◌∷◌, ◌++◌, length, Option, Some, None, is_none, is_some, Bool, false, not, ◌&&◌, Result, Ok, Err, if◌then◌else◌, ℤ, pos, neg_ℤ, ◌-ℤ◌}
+use Rattle.registry_values.specs.declared.entry.Entry.{Entry}
+use Rattle.registry_values.specs.declared.entry.Record.{Record}
+use Rattle.passive_core.specs.declared.psref.CorePsref.{CorePsref}
+use Rattle.registry_values.specs.declared.refusal.Refusal.{Refusal}
+use Rattle.registry_values.specs.declared.refusal.Refusal.TheVariants as refusal
+use Rattle.registry_values.specs.declared.stage.Stage.{Stage}
+use Rattle.registry_values.specs.declared.slot.Key.{Key}
+use Rattle.registry_values.specs.Marks.{least_below}
+use Rattle.passive_core.specs.Advancing.{stage_of}
+use Rattle.registry_values.specs.Stages.{destroyed_if}
+use Rattle.registry_values.specs.Slots.{key_of_record, is_iface}
+use Rattle.registry_values.specs.Balances.{Tally}
+use Rattle.protocol.specs.Invariant.{one_if}
+use Rattle.passive_core.specs.Performing.{waiting_for}
+use Rattle.registry_report.specs.declared.session.Reading.{Reading}
+use Rattle.registry_report.specs.declared.hitch.Hitch.{Hitch}
+use Rattle.registry_report.specs.declared.hitch.Hitch.TheVariants.{NoLabel, LabelTaken, NotInside, Refused}
+use Rattle.registry_report.specs.Changes.{lookup, is_driver_number, value_of, end_of, has_ended, live_entries, may_hold}
+use Rattle.registry_report.specs.Registry.{Registry}
+
+-- a call's answer, as a command's
+abbrev pub hitched : {X : Type 0} → Result X Refusal → Result X Hitch
+hitched (Ok x) = Ok x
+hitched (Err f) = Err (Refused f)
+
+-- a refusal, if there is one, else the answer
+abbrev pub unless : {X E : Type 0} → Option E → Result X E → Result X E
+unless None answer = answer
+unless (Some f) answer = Err f
+
+abbrev pub is_inside : Registry → ℕ → Bool
+is_inside r c = is_some (r.model.sections c)
+
+-- what a lookup answers now
+abbrev pub lookup_now : Registry → Key → Option Entry
+lookup_now r key = lookup r.model.history key (length r.model.history)
+
+-- Entries
+
+-- a slot without an occupant that keeps nothing, and the least of them
+abbrev pub is_plain : Registry → ℕ → Bool
+is_plain r t = is_none (r.model.occupants t) && is_none (r.model.keeps t)
+
+abbrev pub plain_slot : Registry → Option ℕ
+plain_slot r = least_below (is_plain r) r.settings.slots
+
+-- room for an attach and for the detach of each entry that is live then
+abbrev pub has_room : Registry → Bool
+has_room r = nat_le (length r.model.history + live_entries r.model.history + 2) r.settings.change_limit
+
+abbrev pub next_entry : Registry → Record → ℕ → Entry
+next_entry r rec t = record { number = length r.model.history + 1; slot = t; rec = rec }
+
+abbrev pub entry_in : Registry → Record → Option ℕ → Result Entry Refusal
+entry_in r rec None = Err refusal.NoSlot
+entry_in r rec (Some t) = if has_room r then Ok (next_entry r rec t) else Err refusal.HistoryFull
+
+abbrev pub given_entry : Registry → Record → Result Entry Refusal
+given_entry r rec = if is_some (lookup_now r (key_of_record rec)) then Err refusal.NameTaken else entry_in r rec (plain_slot r)
+
+abbrev pub attach_answer : Registry → ℕ → Record → Result Entry Refusal
+attach_answer r c rec = if is_inside r c then Err refusal.Inside else (if is_iface rec.kind then Err refusal.NeedsDriver else given_entry r rec)
+
+-- an interface, on the driver with the number d
+abbrev pub attach_iface_answer : Registry → ℕ → Record → ℕ → Result Entry Refusal
+attach_iface_answer r c rec d = if is_inside r c then Err refusal.Inside else (if is_driver_number r.model.history d then given_entry r rec else Err refusal.NeedsDriver)
+
+-- what follows from a label's reference
+abbrev pub with_label : {L X : Type 0} → Option L → (L → Result X Hitch) → Result X Hitch
+with_label None f = Err NoLabel
+with_label (Some l) f = f l
+
+-- a label that is to be filled stands for nothing
+abbrev pub if_free : {L X : Type 0} → Option L → Result X Hitch → Result X Hitch
+if_free None answer = answer
+if_free (Some l) answer = Err LabelTaken
+
+abbrev pub plug_answer : Registry → ℕ → Record → ℕ → Result Entry Hitch
+plug_answer r c rec x = with_label (r.local_labels x) (λ d. hitched (attach_iface_answer r c rec d))
+
+abbrev pub found_or : Option Entry → Result Entry Refusal
+found_or None = Err refusal.NotFound
+found_or (Some e) = Ok e
+
+abbrev pub detach_answer : Registry → ℕ → Key → Result Entry Refusal
+detach_answer r c key = if is_inside r c then Err refusal.Inside else found_or (lookup_now r key)
+
+-- Sections
+
+abbrev pub may_begin : Registry → ℕ → Bool
+may_begin r c = nat_lt (r.begun c) r.settings.section_limit
+
+abbrev pub enter_answer : Registry → ℕ → Result (Unit {0}) Refusal
+enter_answer r c = if r.depths c == 255 then Err refusal.TooDeep else (if not (is_inside r c) && not (may_begin r c) then Err refusal.SectionsSpent else Ok tt)
+
+-- whether the section stays open
+abbrev pub exit_answer : Registry → ℕ → Result Bool Hitch
+exit_answer r c = if is_inside r c then Ok (not (r.depths c == 1)) else Err NotInside
+
+abbrev pub find_answer : Registry → ℕ → Key → Result (Option Entry) Hitch
+find_answer r c key = if is_inside r c then Ok (lookup_now r key) else Err NotInside
+
+-- Passive references
+
+-- one more of c to n
+abbrev pub one_more : Registry → ℕ → ℕ → Result ℕ Refusal
+one_more r c n = if nat_lt (r.model.passive c n) r.settings.passive_limit then Ok n else Err refusal.PassiveFull
+
+-- to what c found last
+abbrev pub acquire_answer : Registry → ℕ → Option Entry → Result ℕ Refusal
+acquire_answer r c None = Err refusal.NothingFound
+acquire_answer r c (Some e) = one_more r c e.number
+
+-- why c may not use a reference: it is another CPU's, or c holds none to that number
+abbrev pub misuse : Registry → ℕ → CorePsref → Option Refusal
+misuse r c p = if p.cpu == c then (if nat_lt 0 (r.model.passive c p.number) then None else Some refusal.NotHeld) else Some refusal.WrongCpu
+
+abbrev pub reference_answer : Registry → ℕ → ℕ → Result ℕ Hitch
+reference_answer r c a = if_free (r.passive_labels a) (hitched (acquire_answer r c (r.model.found c)))
+
+abbrev pub copy_answer : Registry → ℕ → ℕ → ℕ → Result ℕ Hitch
+copy_answer r c a b = with_label (r.passive_labels a) (λ p. if_free (r.passive_labels b) (hitched (unless (misuse r c p) (one_more r c p.number))))
+
+abbrev pub held_answer : Registry → ℕ → ℕ → Result Bool Hitch
+held_answer r c a = with_label (r.passive_labels a) (λ p. Ok (nat_lt 0 (r.model.passive c p.number)))
+
+abbrev pub reading : Registry → ℕ → Reading
+reading r n = record { number = n; value = value_of r.model.history n }
+
+abbrev pub read_answer : Registry → ℕ → ℕ → Result Reading Hitch
+read_answer r c a = with_label (r.passive_labels a) (λ p. hitched (unless (misuse r c p) (Ok (reading r p.number))))
+
+abbrev pub release_answer : Registry → ℕ → ℕ → Result ℕ Hitch
+release_answer r c a = with_label (r.passive_labels a) (λ p. hitched (unless (misuse r c p) (Ok p.number)))
+
+-- Local references
+
+-- c's own net count for n may be one more
+abbrev pub may_count : Registry → ℕ → ℕ → Bool
+may_count r c n = nat_lt (r.acquired c n) (r.released c n + r.settings.count_limit)
+
+abbrev pub counted : Registry → ℕ → Option Entry → Result ℕ Refusal
+counted r c None = Err refusal.NothingFound
+counted r c (Some e) = if may_count r c e.number then Ok e.number else Err refusal.LocalFull
+
+abbrev pub count_answer : Registry → ℕ → ℕ → Result ℕ Hitch
+count_answer r c x = if_free (r.local_labels x) (hitched (counted r c (r.model.found c)))
+
+abbrev pub peek_answer : Registry → ℕ → Result Reading Hitch
+peek_answer r x = with_label (r.local_labels x) (λ n. Ok (reading r n))
+
+abbrev pub uncount_answer : Registry → ℕ → Result ℕ Hitch
+uncount_answer r x = with_label (r.local_labels x) (λ n. Ok n)
+
+-- Destruction
+
+abbrev pub is_this : ℕ → Option ℕ → Bool
+is_this n None = false
+is_this n (Some m) = m == n
+
+-- how many numbers below a bound pass
+abbrev pub count_below : (ℕ → Bool) → ℕ → ℕ
+count_below p zero = 0
+count_below p (suc n) = count_below p n + one_if (p n)
+
+-- the local references to n, those that slots keep among them
+abbrev pub held : Registry → ℕ → ℕ
+held r n = r.model.locals n + count_below (λ t. is_this n (r.model.keeps t)) r.settings.slots
+
+abbrev pub has_section : Registry → ℕ → ℕ → Bool
+has_section r n c = may_hold (r.model.sections c) (end_of r.model.history n)
+
+abbrev pub has_passive : Registry → ℕ → ℕ → Bool
+has_passive r n c = nat_lt 0 (r.model.passive c n)
+
+-- what stands between the retired entry n in the slot t and the freeing of t
+abbrev pub plain_stage : Registry → ℕ → ℕ → Stage
+plain_stage r n t = stage_of t (least_below (has_section r n) r.settings.cpus) (least_below (has_passive r n) r.settings.cpus) (held r n)
+
+-- the slot whose occupant is n
+abbrev pub slot_of : Registry → ℕ → Option ℕ
+slot_of r n = least_below (λ t. is_this n (r.model.occupants t)) r.settings.slots
+
+abbrev pub retired_slot : Registry → ℕ → Option ℕ
+retired_slot r n = if has_ended r.model.history n then slot_of r n else None
+
+abbrev pub stage_in : Registry → ℕ → Option ℕ → Result Stage Refusal
+stage_in r n None = Err refusal.NotRetired
+stage_in r n (Some t) = Ok (plain_stage r n t)
+
+abbrev pub advance_answer : Registry → ℕ → Result Stage Refusal
+advance_answer r n = stage_in r n (retired_slot r n)
+
+abbrev pub destroy_answer : Registry → ℕ → ℕ → Result ℕ Refusal
+destroy_answer r c n = if is_inside r c then Err refusal.Inside else destroyed_if (advance_answer r n)
+
+-- whether the caller is inside a section, else the least CPU that is
+abbrev pub perform_answer : Registry → ℕ → Result (Unit {0}) Refusal
+perform_answer r c = if is_inside r c then Err refusal.Inside else waiting_for (least_below (is_inside r) r.settings.cpus)
+
+-- Audits
+
+-- c's net count for n; nothing once n is drained
+abbrev pub net_count : Registry → ℕ → ℕ → ℤ
+net_count r n c = if r.drained n then pos 0 else pos (r.acquired c n) -ℤ pos (r.released c n)
+
+abbrev pub list_below : {X : Type 0} → (ℕ → X) → ℕ → List X
+list_below f zero = []
+list_below f (suc n) = list_below f n ++ f n ∷ []
+
+-- what was drained, or what was given up, with a minus
+abbrev pub total_of : Registry → ℕ → ℤ
+total_of r n = if r.drained n then pos (held r n) else neg_ℤ (pos (r.given_up n))
+
+abbrev pub tally_of : Registry → ℕ → ℕ → Tally
+tally_of r n t = record { number = n; slot = t; held = pos (held r n); locals = list_below (net_count r n) r.settings.cpus; total = total_of r n }
+
+abbrev pub tallies_in : Registry → ℕ → Option ℕ → List Tally
+tallies_in r t None = []
+tallies_in r t (Some n) = tally_of r n t ∷ []
+
+-- of the slots below a number, least first
+abbrev pub tallies_below : Registry → ℕ → List Tally
+tallies_below r zero = []
+tallies_below r (suc t) = tallies_below r t ++ tallies_in r t (r.model.occupants t)
+
+abbrev pub audit_answer : Registry → List Tally
+audit_answer r = tallies_below r r.settings.slots

@@ -1,0 +1,28 @@
+-- The laws of the report's definition, in the words of histories and model runs.
+use Rattle.std.specs.Prelude.{◌≡◌, ℕ, ◌<◌, ◌↔◌, List, Some, Bool, true, false}
+use Rattle.registry_values.specs.declared.entry.Change.{Change}
+use Rattle.registry_values.specs.declared.slot.Key.{Key}
+use Rattle.registry_values.specs.Marks.{least_below}
+use Rattle.protocol.specs.History.{EndsAt, IsLegal, IsLookup}
+use Rattle.protocol.specs.Model.{empty_model, IsModelRun}
+use Rattle.registry_report.specs.Changes.{end_of, lookup}
+use Rattle.registry_language.specs.Program.{Program, IsProgram}
+use Rattle.registry_report.specs.Registry.{opened}
+use Rattle.registry_report.specs.Report.{after}
+use Rattle.registry_report.specs.Sound.{after_each}
+
+-- Over the commands of every script the registry's model is reached by a run of lawful steps, from the one in which nothing has happened.
+abbrev pub ReportIsModelRun : Type 0
+ReportIsModelRun = (p : Program) → IsProgram p → IsModelRun empty_model (after_each after (opened p.settings) p.commands).model
+
+-- What is computed change by change is the lookup of the history at each point.
+abbrev pub LookupIsExact : Type 0
+LookupIsExact = (h : List Change) → IsLegal h → (key : Key) (k : ℕ) → IsLookup h k key (lookup h key k)
+
+-- The end that is computed is where the entry is detached.
+abbrev pub EndIsExact : Type 0
+EndIsExact = (h : List Change) → IsLegal h → (n p : ℕ) → (end_of h n ≡ Some p) ↔ EndsAt h n p
+
+-- The least number below a bound passes, and none below it does: the plain slot and the first obstacle are least.
+abbrev pub LeastIsLeast : Type 0
+LeastIsLeast = (p : ℕ → Bool) (n c : ℕ) → (least_below p n ≡ Some c) ↔ ((c < n) × (p c ≡ true) × ((d : ℕ) → d < c → p d ≡ false))

@@ -1,0 +1,13 @@
+pub mod Answers
+pub mod Changes
+pub mod Given
+pub mod Laws
+pub mod Lines
+pub mod Printed
+pub mod Registry
+pub mod Report
+pub mod Session
+pub mod Shows
+pub mod Sound
+pub mod Turns
+pub mod Written

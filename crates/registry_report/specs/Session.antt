@@ -1,0 +1,41 @@
+-- The core, and what the labels stand for.
+use Rattle.std.specs.Prelude.{◌≡◌, ℕ, true, List, length, Option, Some, None, Result, Ok, Err, replicate, slice_index_or}
+use Rattle.passive_core.specs.declared.psref.CorePsref.{CorePsref}
+use Rattle.passive_core.specs.Commands.{IsQuiet}
+use Rattle.protocol.specs.Invariant.{Holds}
+use Rattle.passive_core.specs.Locals.{is_live_local}
+use Rattle.protocol.specs.State.{State}
+use Rattle.registry_report.specs.declared.hitch.Hitch.{Hitch}
+use Rattle.registry_report.specs.declared.hitch.Hitch.TheVariants.{NoLabel}
+
+pub record SessionState : Type 0 where
+  pub core : State
+  -- by the place of the label
+  pub passives : List (Option CorePsref)
+  pub locals : List (Option ℕ)
+
+-- with another core
+abbrev pub with_core : SessionState → State → SessionState
+with_core s core = record s { core = core }
+
+-- what a label stands for
+abbrev pub labelled : {X : Type 0} → List (Option X) → ℕ → Option X
+labelled labels x = slice_index_or labels x None
+
+-- each label of local references stands for a live one, and for another than the others do
+pub record IsSession (s : SessionState) : Type 0 where
+  pub quiet : IsQuiet s.core
+  pub holds : Holds s.core
+  pub passive_labels : length s.passives ≡ 26
+  pub local_labels : length s.locals ≡ 26
+  pub live : (x id : ℕ) → slice_index_or s.locals x None ≡ Some id → is_live_local s.core id ≡ true
+  pub apart : (x y id : ℕ) → slice_index_or s.locals x None ≡ Some id → slice_index_or s.locals y None ≡ Some id → x ≡ y
+
+-- no label stands for a reference
+abbrev pub unlabelled : State → SessionState
+unlabelled core = record { core = core; passives = replicate 26 None; locals = replicate 26 None }
+
+-- what a label stands for, if it stands for something
+abbrev pub filled : {X : Type 0} → Option X → Result X Hitch
+filled None = Err NoLabel
+filled (Some x) = Ok x

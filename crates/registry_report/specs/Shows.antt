@@ -1,0 +1,76 @@
+-- What a session shows of a registry: each number and list of the core that an answer depends on, as the registry has it.
+use Rattle.std.specs.Prelude.{◌≡◌, ℕ, ◌+◌, ◌*◌, ◌<◌, List, length, sum_by, count_by, not, Option, Some, None, is_some, Bool, true, false, slice_index_or}
+use Rattle.registry_values.specs.declared.entry.Entry.{Entry}
+use Rattle.registry_values.specs.declared.entry.Change.{Change}
+use Rattle.registry_values.specs.declared.slot.Slot.{Slot}
+use Rattle.registry_values.specs.declared.slot.Slot.TheVariants.{Retired}
+use Rattle.registry_values.specs.declared.mark.Mark.{Mark}
+use Rattle.protocol.specs.declared.state.LocalPlace.{LocalPlace}
+use Rattle.passive_core.specs.declared.psref.CorePsref.{CorePsref}
+use Rattle.registry_values.specs.Balances.{bias}
+use Rattle.registry_values.specs.Slots.{slot_at, live_count, slot_of}
+use Rattle.protocol.specs.State.{mark_at, count_at, total_at, kept_at, local_at}
+use Rattle.protocol.specs.History.{EndsAt}
+use Rattle.protocol.specs.Events.{standing}
+use Rattle.protocol.specs.Invariant.{IsIn, standing_of, one_if}
+use Rattle.protocol.specs.Model.{Model}
+use Rattle.protocol.specs.Picture.{number_in, passive_in}
+use Rattle.registry_report.specs.Changes.{is_attach}
+use Rattle.registry_report.specs.Registry.{Registry}
+use Rattle.registry_report.specs.Session.{SessionState}
+
+-- the history, who found what, who holds what, and what stands in the slots
+pub record ShowsModel (h : List Change) (begins : List (Option ℕ)) (found : List (Option Entry)) (passive : List (List ℕ)) (slots : List Slot) (locals : List LocalPlace) (keeps : List (Option ℕ)) (m : Model) : Type 0 where
+  pub history : m.history ≡ h
+  pub sections : (c : ℕ) → m.sections c ≡ slice_index_or begins c None
+  pub last_found : (c : ℕ) → m.found c ≡ slice_index_or found c None
+  pub held : (c n : ℕ) → m.passive c n ≡ passive_in passive c (slot_of slots n)
+  pub counted : (n : ℕ) → m.locals n ≡ sum_by (standing_of n) locals
+  pub occupants : (t : ℕ) → m.occupants t ≡ number_in (slot_at slots t)
+  pub kept : (t : ℕ) → m.keeps t ≡ kept_at keeps t
+
+-- how deep the sections are, and how many were begun: a word is one more at each outermost enter and exit
+pub record ShowsSections (section depths : List ℕ) (begins : List (Option ℕ)) (nested begun : ℕ → ℕ) : Type 0 where
+  pub deep : (c : ℕ) → nested c ≡ slice_index_or depths c 0
+  pub turns : (c : ℕ) → slice_index_or section c 0 + one_if (is_some (slice_index_or begins c None)) ≡ 2 * begun c
+
+-- attaches less detaches are the live slots
+abbrev pub CountsLive : List Change → List Slot → Type 0
+CountsLive h slots = count_by is_attach h ≡ count_by (λ c. not (is_attach c)) h + live_count slots
+
+-- a section with the snapshot's word was begun before the entry's end
+abbrev pub SnapshotsFollow : List Change → List Slot → List (List Mark) → List ℕ → List (Option ℕ) → Type 0
+SnapshotsFollow h slots marks section begins = (t p c b w : ℕ) (e : Entry) → slot_at slots t ≡ Retired e → EndsAt h e.number p → slice_index_or begins c None ≡ Some b → (mark_at marks t c).snapshot ≡ Some w → slice_index_or section c 0 ≡ w → b < p
+
+-- a number that is to come has no counts
+pub record IsFresh (acquired released : ℕ → ℕ → ℕ) (given_up : ℕ → ℕ) (drained : ℕ → Bool) (n : ℕ) : Type 0 where
+  pub unacquired : (c : ℕ) → acquired c n ≡ 0
+  pub unreleased : (c : ℕ) → released c n ≡ 0
+  pub kept : given_up n ≡ 0
+  pub undrained : drained n ≡ false
+
+-- the net counts are what was acquired less what was released; before the drain each word is its net count and the total what was given up
+pub record ShowsTallies (cpus : ℕ) (h : List Change) (slots : List Slot) (counts nets : List (List ℕ)) (totals : List ℕ) (acquired released : ℕ → ℕ → ℕ) (given_up : ℕ → ℕ) (drained : ℕ → Bool) : Type 0 where
+  pub net : (t c : ℕ) (e : Entry) → IsIn e (slot_at slots t) → c < cpus → count_at nets c t + released c e.number ≡ bias + acquired c e.number
+  pub word : (t c : ℕ) (e : Entry) → IsIn e (slot_at slots t) → c < cpus → drained e.number ≡ false → count_at counts c t ≡ count_at nets c t
+  pub total : (t : ℕ) (e : Entry) → IsIn e (slot_at slots t) → drained e.number ≡ false → total_at totals t + given_up e.number ≡ bias
+  pub collected : (t c : ℕ) (e : Entry) → IsIn e (slot_at slots t) → drained e.number ≡ true → count_at counts c t ≡ 0
+  pub fresh : (n : ℕ) → length h < n → IsFresh acquired released given_up drained n
+
+-- the number that the live reference with an id is to
+abbrev pub number_at : List LocalPlace → Option ℕ → Option ℕ
+number_at places None = None
+number_at places (Some id) = standing (local_at places id)
+
+pub record ShowsLabels (places : List LocalPlace) (passives : List (Option CorePsref)) (locals : List (Option ℕ)) (passive_labels : ℕ → Option CorePsref) (local_labels : ℕ → Option ℕ) : Type 0 where
+  pub passive : (x : ℕ) → passive_labels x ≡ slice_index_or passives x None
+  pub local : (x : ℕ) → local_labels x ≡ number_at places (slice_index_or locals x None)
+
+pub record Shows (s : SessionState) (r : Registry) : Type 0 where
+  pub settings : r.settings ≡ s.core.settings
+  pub model : ShowsModel s.core.history s.core.begins s.core.found s.core.passive s.core.slots s.core.locals s.core.keeps r.model
+  pub sections : ShowsSections s.core.section s.core.depths s.core.begins r.depths r.begun
+  pub live : CountsLive s.core.history s.core.slots
+  pub grace : SnapshotsFollow s.core.history s.core.slots s.core.marks s.core.section s.core.begins
+  pub tallies : ShowsTallies s.core.settings.cpus s.core.history s.core.slots s.core.counts s.core.nets s.core.totals r.acquired r.released r.given_up r.drained
+  pub labels : ShowsLabels s.core.locals s.passives s.locals r.passive_labels r.local_labels

@@ -1,5 +1,0 @@
-use Rattle.registry_script.proofs.DoneReferences.{peek_leaves}
-use Rattle.registry_script.proofs.report.core_session.CoreSessionSession.peek.Goals as goal
-
-pub returns-clause-shows : goal.returns-clause-shows
-returns-clause-shows c = λ r on. peek_leaves (record { core = c.self.inside.core; passives = c.self.inside.passives; locals = c.self.inside.locals }) c.args.self.now c.record-rec.new.self r c.self.view_is on c.record-rec.ensures.after

@@ -1,5 +1,0 @@
-use Rattle.registry_script.proofs.Runs.{run_not_begun}
-use Rattle.registry_script.proofs.report.live.run_live.Goals as goal
-
-pub returns-in-Err-clause-front : goal.returns-in-Err-clause-front
-returns-in-Err-clause-front g c = run_not_begun (g.W.Write.contents c.args.writer.now) c.args.script.now.commands

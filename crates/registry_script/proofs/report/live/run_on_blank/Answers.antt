@@ -1,9 +1,0 @@
-use Rattle.registry_script.proofs.AllCpus.{new_are_all}
-use Rattle.registry_script.proofs.Runs.{run_not_begun}
-use Rattle.registry_script.proofs.report.live.run_on_blank.Goals as goal
-
-pub run_live_on-requires-clause-cpus : goal.run_live_on-requires-clause-cpus
-run_live_on-requires-clause-cpus g c = rw c.deref_mut.ensures.value (new_are_all g.D.Domain.settings c.in-Ok.cpus.items c.in-Ok.ensures.cpus)
-
-pub returns-clause-front : goal.returns-clause-front
-returns-clause-front g c = run_not_begun (g.W.Write.contents c.args.writer.now) c.args.script.now.commands

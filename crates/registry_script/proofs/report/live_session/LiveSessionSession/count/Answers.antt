@@ -1,5 +1,0 @@
-use Rattle.registry_script.proofs.LiveCpus.{all_with}
-use Rattle.registry_script.proofs.report.live_session.LiveSessionSession.count.Goals as goal
-
-pub invariant_of-self : goal.invariant_of-self
-invariant_of-self g c = record { all = all_with _ c.args.self.now.cpus.now c.args.cpu c.index-cpus-cpu.result c.count_one.new.cpu c.args.self.now.all c.requires.known c.index-cpus-cpu.is c.count_one.ensures.id }

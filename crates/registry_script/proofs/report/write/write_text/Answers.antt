@@ -1,5 +1,0 @@
-use Rattle.registry_script.proofs.Writing.{written_step}
-use Rattle.registry_script.proofs.report.write.write_text.Goals as goal
-
-pub loop-rest-preserved : goal.loop-rest-preserved
-loop-rest-preserved g c = written_step _ _ _ _ c.loop-rest.rest.now c.in-Ok.n c.in-Ok.ensures.bound c.loop-rest.invariant c.in-Ok.ensures.bytes

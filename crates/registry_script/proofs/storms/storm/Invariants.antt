@@ -1,5 +1,0 @@
-use Rattle.registry_script.proofs.storms.storm.Given as goal
-
--- the registry that was just made
-abbrev pub ghosts-storm_on : goal.ghosts-storm_on
-ghosts-storm_on g a = record { table = a.blank.table; settings = a.blank.settings }

@@ -1,0 +1,5 @@
+use Rattle.registry_storm.proofs.storms.storm.Given as goal
+
+-- the registry that was just made
+abbrev pub ghosts-storm_on : goal.ghosts-storm_on
+ghosts-storm_on g a = record { table = a.blank.table; settings = a.blank.settings }

@@ -1,0 +1,50 @@
+-- A storm: how far a CPU has come in its turns.
+use Rattle.std.specs.Prelude.{◌≡◌, ◌≢◌, ℕ, ◌*◌, ◌≤◌, None}
+use Rattle.registry_values.specs.declared.entry.Kind.TheVariants.{Driver}
+use Rattle.registry_values.specs.declared.entry.Record.{Record}
+use Rattle.registry_values.specs.declared.name.Name.{Name}
+use Rattle.registry_values.specs.declared.settings.Settings.{Settings}
+use Rattle.passive_list.specs.Cpus.{OnCpu}
+use Rattle.registry_language.specs.declared.fault.RunFault.{RunFault}
+use Rattle.registry_language.specs.declared.fault.RunFault.TheVariants as run
+use Rattle.registry_storm.specs.declared.sum.StormSum.{StormSum}
+
+-- the settings of a storm's registry
+abbrev pub settings_of : ℕ → Settings
+settings_of cpus = record { cpus = cpus; slots = 4; change_limit = 1000000; section_limit = 1099511627776; passive_limit = 4; count_limit = 1099511627776 }
+
+-- the record of the driver, by its name
+abbrev pub driver_record : Name → Record
+driver_record name = record { kind = Driver; name = name; value = 7 }
+
+-- the section is as it was, and so is its word
+pub record SameSection (a b : OnCpu) : Type 0 where
+  pub settings : b.view.settings ≡ a.view.settings
+  pub begin : b.view.begin ≡ a.view.begin
+  pub word : b.view.section ≡ a.view.section
+  pub depth : b.depth ≡ a.depth
+
+-- outside, and the section word is at most n
+pub record IsOutside (n : ℕ) (x : OnCpu) : Type 0 where
+  pub limit : x.view.settings.section_limit ≡ 1099511627776
+  pub word : x.view.section ≤ n
+  pub depth : x.depth ≡ 0
+
+-- inside, not nested, and the section word is at most n
+pub record IsInside (n : ℕ) (x : OnCpu) : Type 0 where
+  pub limit : x.view.settings.section_limit ≡ 1099511627776
+  pub word : x.view.section ≤ n
+  pub begin : x.view.begin ≢ None
+  pub depth : x.depth ≡ 1
+
+-- a storm's sum is of so many CPUs and turns, with two lookups in each turn of each CPU
+pub record IsSumOf (c t : ℕ) (sum : StormSum) : Type 0 where
+  pub cpus : sum.cpus ≡ c
+  pub turns : sum.turns ≡ t
+  pub lookups : sum.lookups ≡ 2 * t * c
+
+-- the faults that a storm may end with
+abbrev pub IsOfStorm : RunFault → Type 0
+IsOfStorm run.Memory = Unit {0}
+IsOfStorm run.NoThread = Unit {0}
+IsOfStorm _ = ⊥

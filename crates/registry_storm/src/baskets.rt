@@ -1,0 +1,104 @@
+//! Baskets in which workers leave local references to one another.
+
+ghost use Rattle.std.specs.Prelude.{◌≡◌, ◌<◌};
+ghost use Rattle.registry_storm.specs.Storms.{SameSection};
+
+use crate::sum::Counts;
+use cpu_words::Domain;
+use local_count::LocalRef;
+use name_registry::Registry;
+use passive_list::Cpu;
+use std::sync::{Mutex, Wait};
+
+/// A place for one local reference.
+type Place<D> = Mutex<Option<LocalRef<D>>>;
+
+/// A place for each CPU that there may be, each under a lock of its own, which is held only to exchange what lies there. They can't be
+/// dropped: what lies in them is spent by `empty`.
+pub struct Baskets<D: Domain> {
+    places: [Place<D>; 8],
+}
+
+impl<D: Domain> Baskets<D> {
+    /// Nothing lies in them.
+    pub fn new() -> Baskets<D> {
+        Baskets {
+            places: [
+                Mutex::new(None),
+                Mutex::new(None),
+                Mutex::new(None),
+                Mutex::new(None),
+                Mutex::new(None),
+                Mutex::new(None),
+                Mutex::new(None),
+                Mutex::new(None),
+            ],
+        }
+    }
+
+    /// Lays the reference into a place, from 0, and takes out what lay there.
+    pub fn exchange<R: Wait>(
+        &self,
+        rt: &R,
+        place: u8,
+        reference: LocalRef<D>,
+    ) -> Option<LocalRef<D>>
+        requires { place < 8 }
+    {
+        self.places[place as usize].lock(rt).replace(reference)
+    }
+
+    /// Releases on this CPU what lies in them, and counts it.
+    pub fn empty<R: Wait>(
+        self,
+        rt: &R,
+        registry: &Registry<D>,
+        cpu: &mut Cpu<D>,
+        counts: &mut Counts,
+    )
+        ensures section { SameSection cpu.old cpu.new }
+        ensures lookups { counts.new.lookups ≡ counts.old.lookups }
+    {
+        let Baskets {
+            places: [first, second, third, fourth, fifth, sixth, seventh, eighth],
+        } = self;
+        empty_place(rt, registry, cpu, counts, first);
+        empty_place(rt, registry, cpu, counts, second);
+        empty_place(rt, registry, cpu, counts, third);
+        empty_place(rt, registry, cpu, counts, fourth);
+        empty_place(rt, registry, cpu, counts, fifth);
+        empty_place(rt, registry, cpu, counts, sixth);
+        empty_place(rt, registry, cpu, counts, seventh);
+        empty_place(rt, registry, cpu, counts, eighth);
+    }
+}
+
+fn empty_place<D: Domain, R: Wait>(
+    rt: &R,
+    registry: &Registry<D>,
+    cpu: &mut Cpu<D>,
+    counts: &mut Counts,
+    place: Place<D>,
+)
+    ensures section { SameSection cpu.old cpu.new }
+    ensures lookups { counts.new.lookups ≡ counts.old.lookups }
+{
+    if let Some(reference) = place.into_inner() {
+        give_back(rt, registry, cpu, counts, reference);
+    }
+}
+
+/// Releases a local reference on this CPU, and counts it.
+pub fn give_back<D: Domain, R: Wait>(
+    rt: &R,
+    registry: &Registry<D>,
+    cpu: &mut Cpu<D>,
+    counts: &mut Counts,
+    reference: LocalRef<D>,
+)
+    ensures section { SameSection cpu.old cpu.new }
+    ensures lookups { counts.new.lookups ≡ counts.old.lookups }
+{
+    registry.release_local(rt, cpu, reference);
+    counts.add_reference();
+}

@@ -1,0 +1,189 @@
+//! What CPU 0 does beside the other workers: it attaches and detaches an interface, and frees what it has detached.
+
+ghost use Rattle.std.specs.Prelude.{◌≡◌, ◌+◌, ◌*◌, ◌<◌};
+ghost use Rattle.registry_storm.specs.Storms.{IsOutside, SameSection};
+
+use crate::plan::{Plan, SLOTS};
+use crate::sum::Counts;
+use cpu_words::Domain;
+use local_count::{LocalRef, acquire_local};
+use name_registry::Registry;
+use passive_list::{Cpu, enter, exit, find};
+use registry_values::{Entry, Kind, Refusal, Stage};
+use std::sync::Wait;
+
+/// The interface while it is live, and what was retired.
+#[derive(Clone, Copy)]
+pub struct Churn {
+    pub live: Option<Entry>,
+    /// By slot: the number of the interface that was retired in it and not yet seen freed, 0 for none. A slot is not given again before
+    /// that, so there is one at most.
+    pub retired: [u64; 4],
+}
+
+impl Churn {
+    /// Nothing was attached yet.
+    pub const NONE: Churn = Churn {
+        live: None,
+        retired: [0; 4],
+    };
+
+    /// CPU 0's part of a turn that the other workers don't have: it attaches the interface, or detaches it where it is live, and then
+    /// works on each interface that it has retired.
+    pub fn make_turn<D: Domain, R: Wait>(
+        &mut self,
+        rt: &R,
+        registry: &Registry<D>,
+        plan: Plan,
+        cpu: &mut Cpu<D>,
+        turn: u32,
+        counts: &mut Counts,
+    )
+        requires turn { turn < 100000 }
+        requires cpu { IsOutside (4 * turn) cpu.old }
+        ensures cpu { IsOutside (4 * turn + 2) cpu.new }
+        ensures counted { counts.new.lookups ≡ counts.old.lookups }
+    {
+        match self.live {
+            Some(entry) => self.detach(rt, registry, plan, cpu, entry, counts),
+            None => self.attach(rt, registry, plan, cpu, turn, counts),
+        }
+        self.advance_all(rt, registry, counts);
+    }
+
+    /// Attaches the interface on the driver. That no slot is vacant is no wrong answer.
+    fn attach<D: Domain, R: Wait>(
+        &mut self,
+        rt: &R,
+        registry: &Registry<D>,
+        plan: Plan,
+        cpu: &mut Cpu<D>,
+        turn: u32,
+        counts: &mut Counts,
+    )
+        requires turn { turn < 100000 }
+        requires cpu { IsOutside (4 * turn) cpu.old }
+        ensures cpu { IsOutside (4 * turn + 2) cpu.new }
+        ensures counted { counts.new.lookups ≡ counts.old.lookups }
+    {
+        let Some(reference) = refer_to_driver(registry, plan, cpu, turn, counts) else {
+            return;
+        };
+        match registry.attach_iface(rt, cpu, plan.iface(turn), reference) {
+            Ok(entry) => self.live = Some(entry),
+            Err((refusal, back)) => {
+                counts.judge(refusal == Refusal::NoSlot);
+                registry.release_local(rt, cpu, back);
+            }
+        }
+    }
+
+    /// Detaches the interface, which is this entry.
+    pub fn detach<D: Domain, R: Wait>(
+        &mut self,
+        rt: &R,
+        registry: &Registry<D>,
+        plan: Plan,
+        cpu: &mut Cpu<D>,
+        entry: Entry,
+        counts: &mut Counts,
+    )
+        ensures section { SameSection cpu.old cpu.new }
+        ensures counted { counts.new.lookups ≡ counts.old.lookups }
+    {
+        let answer = registry.detach(rt, cpu, Kind::Iface, &plan.iface);
+        counts.judge(answer == Ok(entry));
+        let Ok(entry) = answer else { return };
+        self.live = None;
+        match self.retired.get_mut(entry.slot as usize) {
+            Some(place) => {
+                counts.judge(*place == 0);
+                *place = entry.number;
+            }
+            None => counts.judge(false),
+        }
+    }
+
+    /// One turn of the work on each interface that was retired and not yet seen freed.
+    fn advance_all<D: Domain, R: Wait>(
+        &mut self,
+        rt: &R,
+        registry: &Registry<D>,
+        counts: &mut Counts,
+    )
+        ensures { counts.new.lookups ≡ counts.old.lookups }
+    {
+        for slot in 0..SLOTS {
+            self.advance(rt, registry, slot, counts);
+        }
+    }
+
+    /// One turn of the work on the interface that was retired in a slot. Nobody refers to it, so it waits for sections alone.
+    fn advance<D: Domain, R: Wait>(
+        &mut self,
+        rt: &R,
+        registry: &Registry<D>,
+        slot: u8,
+        counts: &mut Counts,
+    )
+        requires { slot < 4 }
+        ensures { counts.new.lookups ≡ counts.old.lookups }
+    {
+        let number = self.retired[slot as usize];
+        if number == 0 {
+            return;
+        }
+        match registry.advance(rt, number) {
+            Ok(Stage::Grace(_)) => (),
+            Ok(Stage::Freed(freed)) => {
+                counts.judge(freed == slot);
+                self.retired[slot as usize] = 0;
+            }
+            Ok(Stage::Passive(_) | Stage::Local(_)) | Err(_) => counts.judge(false),
+        }
+    }
+
+    /// Destroys on this CPU each interface that was retired and not yet seen freed, in one turn each.
+    pub fn destroy_all<D: Domain, R: Wait>(
+        &self,
+        rt: &R,
+        registry: &Registry<D>,
+        cpu: &mut Cpu<D>,
+        counts: &mut Counts,
+    )
+        ensures same { cpu.new ≡ cpu.old }
+        ensures counted { counts.new.lookups ≡ counts.old.lookups }
+    {
+        for slot in 0..SLOTS {
+            let number = self.retired[slot as usize];
+            if number != 0 {
+                counts.judge(registry.destroy(rt, cpu, number, 1) == Ok(slot));
+            }
+        }
+    }
+}
+
+/// A local reference to the driver, acquired in a section of its own. These answers are no lookups and no references of a worker.
+fn refer_to_driver<D: Domain>(
+    registry: &Registry<D>,
+    plan: Plan,
+    cpu: &mut Cpu<D>,
+    turn: u32,
+    counts: &mut Counts,
+) -> Option<LocalRef<D>>
+    requires turn { turn < 100000 }
+    requires cpu { IsOutside (4 * turn) cpu.old }
+    ensures cpu { IsOutside (4 * turn + 2) cpu.new }
+    ensures counted { counts.new.lookups ≡ counts.old.lookups }
+{
+    let words = registry.words();
+    let Ok(()) = enter(words, cpu) else {
+        unreachable!()
+    };
+    let driver = find(words, cpu, Kind::Driver, &plan.driver);
+    counts.judge(plan.is_driver(driver));
+    let reference = acquire_local(words, cpu).ok();
+    counts.judge(reference.is_some());
+    exit(words, cpu);
+    reference
+}

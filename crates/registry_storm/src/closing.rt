@@ -1,0 +1,82 @@
+//! The end of a storm: what is left of it is taken away on CPU 0, and each answer is judged.
+
+ghost use Rattle.std.specs.Prelude.{◌≡◌, IfErr};
+
+use crate::churn::Churn;
+use crate::plan::Plan;
+use crate::sum::Counts;
+use cpu_words::Domain;
+use name_registry::Registry;
+use passive_list::Cpu;
+use registry_language::RunFault;
+use registry_values::{Balance, Kind, Refusal};
+use std::alloc::Global;
+use std::sync::Wait;
+
+/// Detaches and destroys the interfaces that are left.
+pub fn close_ifaces<D: Domain, R: Wait>(
+    rt: &R,
+    registry: &Registry<D>,
+    plan: Plan,
+    cpu: &mut Cpu<D>,
+    churn: Churn,
+    counts: &mut Counts,
+)
+    ensures { counts.new.lookups ≡ counts.old.lookups }
+{
+    let mut churn = churn;
+    if let Some(entry) = churn.live {
+        churn.detach(rt, registry, plan, cpu, entry, counts);
+    }
+    churn.destroy_all(rt, registry, cpu, counts);
+}
+
+/// How many local references to the driver are held, by an audit. Refused: `Memory`.
+pub fn held_of_driver<D: Domain, R: Wait>(
+    rt: &R,
+    alloc: Global,
+    registry: &Registry<D>,
+    cpus: &mut [Cpu<D>],
+    counts: &mut Counts,
+) -> Result<i64, RunFault>
+    ensures memory { IfErr result (λ fault. fault ≡ RunFault.Memory) }
+    ensures counted { counts.new.lookups ≡ counts.old.lookups }
+{
+    match registry.audit(rt, alloc, cpus) {
+        Ok(balances) => Ok(held_in(&balances, counts)),
+        Err(Refusal::NoMemory) => Err(RunFault::Memory),
+        Err(_) => {
+            counts.judge(false);
+            Ok(0)
+        }
+    }
+}
+
+/// The local references held to the only entry, which is the driver.
+fn held_in(balances: &[Balance], counts: &mut Counts) -> i64
+    ensures { counts.new.lookups ≡ counts.old.lookups }
+{
+    counts.judge(balances.len() == 1);
+    match balances.first() {
+        Some(balance) => {
+            counts.judge(balance.number == 1);
+            balance.held
+        }
+        None => 0,
+    }
+}
+
+/// Detaches and destroys the driver.
+pub fn close_driver<D: Domain, R: Wait>(
+    rt: &R,
+    registry: &Registry<D>,
+    plan: Plan,
+    cpu: &mut Cpu<D>,
+    counts: &mut Counts,
+)
+    ensures { counts.new.lookups ≡ counts.old.lookups }
+{
+    let answer = registry.detach(rt, cpu, Kind::Driver, &plan.driver);
+    counts.judge(plan.is_driver(answer.ok()));
+    counts.judge(registry.destroy(rt, cpu, 1, 1) == Ok(0));
+}

@@ -1,0 +1,104 @@
+//! What all workers of a storm have in common.
+
+ghost use Rattle.std.specs.Prelude.{◌≡◌, ◌↔◌, ◌<◌, ◌≤◌, IsTrue, [], ◌∷◌, Some, IfSome, Ok};
+ghost use Rattle.registry_values.specs.declared.entry.Kind.TheVariants.{Iface};
+ghost use Rattle.registry_values.specs.Names.{is_lawful, named};
+ghost use Rattle.registry_storm.specs.Storms.{driver_record, settings_of};
+
+use registry_values::{Entry, Kind, Name, Record, Settings};
+
+/// How many slots the registry of a storm has.
+pub const SLOTS: u8 = 4;
+
+/// The value of the driver.
+const DRIVER_VALUE: u64 = 7;
+
+/// How many CPUs and turns a storm has, and the names of its entries.
+#[derive(Clone, Copy)]
+pub struct Plan {
+    pub cpus: u8,
+    pub turns: u32,
+    pub driver: Name,
+    pub iface: Name,
+    ghost some: { (1 ≤ cpus) × (cpus ≤ 8) × (1 ≤ turns) × (turns ≤ 100000) },
+    ghost names: { (named (100 ∷ 114 ∷ 118 ∷ []) ≡ Ok driver) × (named (119 ∷ 109 ∷ 48 ∷ []) ≡ Ok iface) },
+    ghost lawful: { IsTrue (is_lawful driver) × IsTrue (is_lawful iface) },
+}
+
+impl Plan {
+    /// The plan of a storm over the driver `drv` and the interface `wm0`.
+    pub fn new(cpus: u8, turns: u32) -> Plan
+        requires { (1 ≤ cpus) × (cpus ≤ 8) × (1 ≤ turns) × (turns ≤ 100000) }
+        ensures { (result.cpus ≡ cpus) × (result.turns ≡ turns) }
+    {
+        let (Ok(driver), Ok(iface)) = (Name::parse(b"drv"), Name::parse(b"wm0")) else {
+            unreachable!()
+        };
+        Plan {
+            cpus,
+            turns,
+            driver,
+            iface,
+        }
+    }
+
+    /// The record of the driver.
+    pub fn driver(&self) -> Record
+        ensures value { result ≡ driver_record self.now.driver }
+        ensures lawful { IsTrue (is_lawful result.name) }
+    {
+        Record {
+            kind: Kind::Driver,
+            name: self.driver,
+            value: DRIVER_VALUE,
+        }
+    }
+
+    /// The record of the interface that is attached in a turn.
+    pub fn iface(&self, turn: u32) -> Record
+        ensures value { result ≡ record { kind = Iface; name = self.now.iface; value = turn } }
+        ensures lawful { IsTrue (is_lawful result.name) }
+    {
+        Record {
+            kind: Kind::Iface,
+            name: self.iface,
+            value: u64::from(turn),
+        }
+    }
+
+    /// Whether this is the driver, which is the first entry of the registry.
+    pub fn is_driver(&self, entry: Option<Entry>) -> bool
+        ensures { IsTrue result ↔ entry ≡ Some (record { number = 1; slot = 0; rec = driver_record self.now.driver }) }
+    {
+        entry
+            == Some(Entry {
+                number: 1,
+                slot: 0,
+                rec: self.driver(),
+            })
+    }
+
+    /// Whether no interface was found, or one that was attached in some turn.
+    pub fn is_iface(&self, entry: Option<Entry>) -> bool
+        ensures { IsTrue result ↔ IfSome entry (λ e. e.rec.value < self.now.turns) }
+    {
+        match entry {
+            Some(entry) => entry.rec.value < u64::from(self.turns),
+            None => true,
+        }
+    }
+}
+
+/// The settings of a storm's registry: limits that no storm reaches.
+pub fn settings_of(cpus: u8) -> Settings
+    ensures { result ≡ settings_of cpus }
+{
+    Settings {
+        cpus,
+        slots: SLOTS,
+        change_limit: 1_000_000,
+        section_limit: 1 << 40,
+        passive_limit: 4,
+        count_limit: 1 << 40,
+    }
+}

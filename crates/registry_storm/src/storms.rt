@@ -1,0 +1,151 @@
+//! A storm: workers on all CPUs look up, refer and release at once, while one of them attaches and detaches an interface.
+
+ghost use Rattle.std.specs.Prelude.{◌≡◌, ◌+◌, ◌*◌, ◌≤◌, IfOk, IfErr, All, length, vec_len};
+ghost use Rattle.name_registry.specs.Opening.{AreNewCpus};
+ghost use Rattle.registry_storm.specs.Storms.{IsOfStorm, IsOutside, IsSumOf, settings_of};
+
+use crate::baskets::Baskets;
+use crate::closing::{close_driver, close_ifaces, held_of_driver};
+use crate::gate::Gate;
+use crate::plan::{Plan, settings_of};
+use crate::sum::{Counts, StormSum};
+use crate::worker::{Done, Shared};
+use crate::workers::work_all;
+use cpu_words::Domain;
+use name_registry::{Blank, Registry};
+use passive_list::Cpu;
+use registry_language::RunFault;
+use std::alloc::Global;
+use std::marker::Brand;
+use std::sync::Wait;
+use std::thread::Threads;
+
+/// A storm over a registry of its own: one driver, `drv`, and one worker for each CPU, all at once. In each turn a worker enters a section,
+/// passes the gate in it, looks up the interface `wm0` and then the driver, acquires a passive and a local reference to the driver, exits,
+/// reads the driver's record by both, releases the passive one, and exchanges the local one with what lies in the next CPU's basket, which
+/// it releases on its own CPU. CPU 0 also attaches or detaches the interface in each turn, and works on what it has detached. At the end
+/// everything is released, audited and destroyed on CPU 0.
+/// Condition: 1 to 8 CPUs, and 1 to 100,000 turns.
+/// Refused: `Memory`; `NoThread` where a worker couldn't be started. The workers that were started have ended then.
+pub fn storm<R: Threads + Wait + Sync, G: Gate + Sync>(
+    rt: &R,
+    alloc: Global,
+    cpus: u8,
+    turns: u32,
+    gate: &G,
+) -> Result<StormSum, RunFault>
+    requires cpus { (1 ≤ cpus) × (cpus ≤ 8) }
+    requires turns { (1 ≤ turns) × (turns ≤ 100000) }
+    ensures ok { IfOk result (λ sum. IsSumOf cpus turns sum) }
+    ensures err { IfErr result IsOfStorm }
+{
+    match Blank::new(alloc, settings_of(cpus)) {
+        Ok(blank) => storm_on::<Brand, R, G>(rt, alloc, blank, Plan::new(cpus, turns), gate),
+        Err(_) => Err(RunFault::Memory),
+    }
+}
+
+/// A storm over the registry that is made of the blank.
+fn storm_on<D: Domain + Send + Sync, R: Threads + Wait + Sync, G: Gate + Sync>(
+    rt: &R,
+    alloc: Global,
+    blank: Blank,
+    plan: Plan,
+    gate: &G,
+) -> Result<StormSum, RunFault>
+    requires named { (blank.table ≡ D.table) × (blank.settings ≡ D.settings) }
+    requires settings { D.settings ≡ settings_of plan.cpus }
+    ensures ok { IfOk result (λ sum. IsSumOf plan.cpus plan.turns sum) }
+    ensures err { IfErr result IsOfStorm }
+{
+    let Ok((registry, mut cpus)) = blank.open::<D>(alloc) else {
+        return Err(RunFault::Memory);
+    };
+    let mut first = take_first(plan, &mut cpus);
+    let entry = registry.attach(rt, &mut first, plan.driver());
+    let mut done = blow(rt, alloc, &registry, plan, gate, &mut first, &mut cpus)?;
+    done.counts.judge(plan.is_driver(entry.ok()));
+    close_ifaces(
+        rt,
+        &registry,
+        plan,
+        &mut first,
+        done.churn,
+        &mut done.counts,
+    );
+    if cpus.insert(0, first).is_err() {
+        return Err(RunFault::Memory);
+    }
+    finish(rt, alloc, &registry, plan, &mut cpus, done.counts)
+}
+
+/// Takes CPU 0 out of the CPUs of a new registry.
+fn take_first<D: Domain>(plan: Plan, cpus: &mut Vec<Cpu<D>>) -> Cpu<D>
+    requires settings { D.settings ≡ settings_of plan.cpus }
+    requires new { AreNewCpus D.settings D.settings.cpus cpus.old.items }
+    ensures first { IsOutside 0 result }
+    ensures others { All (IsOutside 0) cpus.new.items × (vec_len cpus.new + 1 ≡ plan.cpus) }
+{
+    // Reading it opens what its type keeps: a storm has a CPU 0.
+    let _plan = plan;
+    cpus.remove(0)
+}
+
+/// All turns of all workers; then what is left in the baskets is released on CPU 0.
+fn blow<D: Domain + Send + Sync, R: Threads + Wait + Sync, G: Gate + Sync>(
+    rt: &R,
+    alloc: Global,
+    registry: &Registry<D>,
+    plan: Plan,
+    gate: &G,
+    first: &mut Cpu<D>,
+    others: &mut [Cpu<D>],
+) -> Result<Done, RunFault>
+    requires first { IsOutside 0 first.old }
+    requires others { All (IsOutside 0) others.old × (length others.old + 1 ≡ plan.cpus) }
+    ensures ok { IfOk result (λ done. done.counts.lookups ≡ 2 * plan.turns * plan.cpus) }
+    ensures err { IfErr result IsOfStorm }
+{
+    let baskets = Baskets::new();
+    let shared = Shared {
+        registry,
+        baskets: &baskets,
+        gate,
+        plan,
+    };
+    let mut left = Counts::NONE;
+    let ended = work_all(rt, alloc, &shared, first, others);
+    baskets.empty(rt, registry, first, &mut left);
+    let mut done = ended?;
+    done.counts.add(left);
+    Ok(done)
+}
+
+/// The audit at the end, and the end of the driver.
+fn finish<D: Domain, R: Wait>(
+    rt: &R,
+    alloc: Global,
+    registry: &Registry<D>,
+    plan: Plan,
+    cpus: &mut [Cpu<D>],
+    counts: Counts,
+) -> Result<StormSum, RunFault>
+    requires { counts.lookups ≡ 2 * plan.turns * plan.cpus }
+    ensures ok { IfOk result (λ sum. IsSumOf plan.cpus plan.turns sum) }
+    ensures err { IfErr result IsOfStorm }
+{
+    let mut counts = counts;
+    let held = held_of_driver(rt, alloc, registry, cpus, &mut counts)?;
+    match cpus.first_mut() {
+        Some(cpu) => close_driver(rt, registry, plan, cpu, &mut counts),
+        None => counts.judge(false),
+    }
+    Ok(StormSum {
+        cpus: plan.cpus,
+        turns: plan.turns,
+        lookups: counts.lookups,
+        references: counts.references,
+        wrong: counts.wrong,
+        held,
+    })
+}
