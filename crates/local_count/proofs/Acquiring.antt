@@ -11,13 +11,13 @@ use Rattle.registry_values.specs.Limits.{is_within, are_sizes_fit, are_limits_fi
 use Rattle.protocol.specs.Invariant.{greatest_limit}
 use Rattle.registry_values.specs.Balances.{bias}
 use Rattle.registry_values.proofs.Fit.{ranges}
-use Rattle.protocol.proofs.History.{at_within}
+use Rattle.protocol.proofs.history.History.{at_within}
 use Rattle.cpu_words.specs.declared.view.CpuView.{CpuView}
 use Rattle.cpu_words.specs.declared.view.ReferenceView.{ReferenceView}
 use Rattle.cpu_words.specs.declared.view.InHand.TheVariants.{Empty as NoEntry, Taking as TakingEntry}
 use Rattle.cpu_words.specs.Views.{number_at, with_number, one_more}
 use Rattle.cpu_words.specs.Locals.{IsNetCount, IsPlaceCount, IsMetAlone, MayCount, HasCounted, HasSplit}
-use Rattle.cpu_words.proofs.Counting.{one_more_same, one_more_other}
+use Rattle.cpu_words.proofs.by_cpu.Counting.{one_more_same, one_more_other}
 use Rattle.passive_list.specs.declared.place.Found.{Found}
 use Rattle.passive_list.specs.declared.place.Place.{Place}
 use Rattle.passive_list.specs.Cpus.{place_at, IsOurCpu}

@@ -10,7 +10,7 @@ use Rattle.registry_values.specs.Balances.{bias}
 use Rattle.cpu_words.specs.declared.view.CpuView.{CpuView}
 use Rattle.cpu_words.specs.Views.{number_at, with_number}
 use Rattle.cpu_words.specs.Locals.{IsPlaceCount, IsMetAlone}
-use Rattle.cpu_words.proofs.Counting.{with_number_same, with_number_other}
+use Rattle.cpu_words.proofs.by_cpu.Counting.{with_number_same, with_number_other}
 use Rattle.passive_list.specs.declared.place.Found.{Found}
 use Rattle.passive_list.specs.declared.place.Place.{Place}
 use Rattle.local_count.specs.References.{net_by}

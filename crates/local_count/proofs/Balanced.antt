@@ -12,19 +12,19 @@ use Rattle.registry_values.specs.Slots.{slot_of, slot_at}
 use Rattle.registry_values.specs.Marks.{are_collected}
 use Rattle.protocol.specs.State.{State, total_at, kept_at}
 use Rattle.registry_values.specs.Balances.{bias}
-use Rattle.protocol.proofs.Balancing.{all_collected}
-use Rattle.protocol.proofs.Bounds.{adding_range}
-use Rattle.protocol.proofs.CountBounds.{collected_at, total_range}
-use Rattle.protocol.proofs.CountKeeps.{fit_of}
-use Rattle.protocol.proofs.Held.{held_kept}
-use Rattle.protocol.proofs.HeldSums.{one_self}
-use Rattle.protocol.proofs.Occupied.{in_within, retired_one, slot_has}
-use Rattle.protocol.proofs.References.{due_subtracting}
+use Rattle.protocol.proofs.counts.Balancing.{all_collected}
+use Rattle.protocol.proofs.counts.Bounds.{adding_range}
+use Rattle.protocol.proofs.counts.CountBounds.{collected_at, total_range}
+use Rattle.protocol.proofs.keeps.CountKeeps.{fit_of}
+use Rattle.protocol.proofs.counts.Held.{held_kept}
+use Rattle.protocol.proofs.counts.HeldSums.{one_self}
+use Rattle.protocol.proofs.slots.Occupied.{in_within, retired_one, slot_has}
+use Rattle.protocol.proofs.keeps.References.{due_subtracting}
 use Rattle.cpu_words.specs.declared.view.KeeperView.{KeeperView}
 use Rattle.cpu_words.specs.Draining.{row_of}
 use Rattle.cpu_words.specs.Rule.{Good, IsPictured}
 use Rattle.cpu_words.specs.Views.{KeeperShown}
-use Rattle.cpu_words.proofs.KeeperSees.{seen_by_keeper}
+use Rattle.cpu_words.proofs.by_keeper.KeeperSees.{seen_by_keeper}
 
 -- Of one state
 

@@ -14,15 +14,15 @@ use Rattle.registry_values.specs.Marks.{collected, are_collected, no_mark}
 use Rattle.registry_values.specs.Balances.{bias}
 use Rattle.registry_values.specs.Slots.{slot_at}
 use Rattle.protocol.specs.State.{total_at}
-use Rattle.protocol.proofs.Cells.{total_here, total_other}
+use Rattle.protocol.proofs.slots.Cells.{total_here, total_other}
 use Rattle.registry_values.proofs.Fit.{ranges}
-use Rattle.protocol.proofs.ListKeeps.{rows_put}
+use Rattle.protocol.proofs.keeps.ListKeeps.{rows_put}
 use Rattle.cpu_words.specs.declared.view.KeeperView.{KeeperView}
 use Rattle.cpu_words.specs.declared.view.View.TheVariants.{Keeper}
 use Rattle.cpu_words.specs.Draining.{row_of, HasCollected, MayTotalAdd, HasAdded}
 use Rattle.cpu_words.specs.Rule.{IsPictured}
 use Rattle.cpu_words.specs.Steps.{Makes}
-use Rattle.cpu_words.proofs.Pictures.{pictured_by}
+use Rattle.cpu_words.proofs.shown.Pictures.{pictured_by}
 use Rattle.passive_list.specs.declared.keeper.Row.{Row}
 use Rattle.passive_list.specs.Keepers.{OnKeeper, no_row, row_at, state_of, states_of, TakenAs, IsAtRest, RowsAgree, IsOurKeeper}
 use Rattle.passive_list.proofs.Rows.{state_at, not_vacant_within, retired_in, row_stays, rows_set}

@@ -16,18 +16,18 @@ use Rattle.protocol.specs.Invariant.{IsIn, DriversKept}
 use Rattle.registry_values.specs.Slots.{has_number, live_count, slot_of, slot_at}
 use Rattle.registry_values.specs.Balances.{bias}
 use Rattle.protocol.specs.State.{total_at, kept_at}
-use Rattle.protocol.proofs.Cells.{slot_here, slot_other, total_other}
-use Rattle.protocol.proofs.Drivers.{kept_number}
+use Rattle.protocol.proofs.slots.Cells.{slot_here, slot_other, total_other}
+use Rattle.protocol.proofs.keeps.Drivers.{kept_number}
 use Rattle.registry_values.proofs.Fit.{ranges}
-use Rattle.protocol.proofs.ListKeeps.{live_count_put, rows_put}
-use Rattle.protocol.proofs.Occupied.{has_it, not_vacant, number_in, one_number, position_found, slot_found, slot_has}
+use Rattle.protocol.proofs.keeps.ListKeeps.{live_count_put, rows_put}
+use Rattle.protocol.proofs.slots.Occupied.{has_it, not_vacant, number_in, one_number, position_found, slot_found, slot_has}
 use Rattle.cpu_words.specs.declared.view.KeeperView.{KeeperView}
 use Rattle.cpu_words.specs.declared.view.View.TheVariants.{Keeper}
 use Rattle.cpu_words.specs.Draining.{MayKeptSub, HasKeptSub}
 use Rattle.cpu_words.specs.Rule.{IsPictured}
 use Rattle.cpu_words.specs.Steps.{Makes}
 use Rattle.cpu_words.specs.Views.{one_more}
-use Rattle.cpu_words.proofs.KeeperSees.{seen_by_keeper}
+use Rattle.cpu_words.proofs.by_keeper.KeeperSees.{seen_by_keeper}
 use Rattle.passive_list.specs.declared.keeper.Row.{Row}
 use Rattle.passive_list.specs.Keepers.{OnKeeper, no_row, row_at, state_of, states_of, TakenAs, IsAtRest, RowsAgree, IsOurKeeper}
 use Rattle.passive_list.specs.Vacating.{IsDrainedOn}

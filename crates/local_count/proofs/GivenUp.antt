@@ -17,7 +17,7 @@ use Rattle.cpu_words.specs.declared.view.View.TheVariants.{Keeper, Reference}
 use Rattle.cpu_words.specs.Draining.{IsFoundCollected, MayJoinKeeper, giving_up, HasSubtracted}
 use Rattle.cpu_words.specs.Steps.{Makes, JoinsBy}
 use Rattle.cpu_words.specs.Views.{one_more}
-use Rattle.cpu_words.proofs.Pictures.{pictured_by}
+use Rattle.cpu_words.proofs.shown.Pictures.{pictured_by}
 use Rattle.passive_list.specs.declared.keeper.Row.{Row}
 use Rattle.passive_list.specs.Keepers.{OnKeeper, no_row, row_at, state_of, states_of, IsOurKeeper}
 use Rattle.passive_list.proofs.Rows.{retired_in}

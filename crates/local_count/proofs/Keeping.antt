@@ -11,7 +11,7 @@ use Rattle.registry_values.specs.declared.slot.Slot.TheVariants.{Vacant, Live, R
 use Rattle.registry_values.specs.Slots.{key_of_record, is_taken, live_count, slot_at}
 use Rattle.registry_values.specs.Names.{is_lawful}
 use Rattle.protocol.specs.State.{total_at, kept_at}
-use Rattle.protocol.proofs.Cells.{slot_other}
+use Rattle.protocol.proofs.slots.Cells.{slot_other}
 use Rattle.registry_values.proofs.Fit.{ranges}
 use Rattle.cpu_words.specs.declared.view.KeeperView.{KeeperView}
 use Rattle.cpu_words.specs.declared.view.ReferenceView.{ReferenceView}

@@ -10,7 +10,7 @@ use Rattle.cpu_words.specs.declared.view.ReferenceView.{ReferenceView}
 use Rattle.cpu_words.specs.declared.view.InHand.TheVariants.{Empty as NoEntry, Giving as GivingEntry, Back as BackEntry}
 use Rattle.cpu_words.specs.Views.{number_at, with_number, one_more}
 use Rattle.cpu_words.specs.Locals.{IsNetCount, IsMetAlone, HasCountedDown, HasFoundCollected, HasSplitBack, with_hand}
-use Rattle.cpu_words.proofs.Counting.{one_more_same, one_more_other}
+use Rattle.cpu_words.proofs.by_cpu.Counting.{one_more_same, one_more_other}
 use Rattle.passive_list.specs.declared.place.Found.{Found}
 use Rattle.passive_list.specs.declared.place.Place.{Place}
 use Rattle.passive_list.specs.Cpus.{place_at, IsOurCpu}

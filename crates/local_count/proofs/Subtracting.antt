@@ -9,7 +9,7 @@ use Rattle.registry_values.specs.declared.slot.Slot.TheVariants.{Vacant, Live, R
 use Rattle.registry_values.specs.Slots.{slot_at}
 use Rattle.protocol.specs.State.{total_at}
 use Rattle.registry_values.proofs.Fit.{ranges}
-use Rattle.protocol.proofs.Occupied.{not_vacant}
+use Rattle.protocol.proofs.slots.Occupied.{not_vacant}
 use Rattle.cpu_words.specs.declared.view.KeeperView.{KeeperView}
 use Rattle.cpu_words.specs.Vacating.{MayVacate}
 use Rattle.passive_list.specs.declared.keeper.Row.{Row}

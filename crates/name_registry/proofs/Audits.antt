@@ -22,12 +22,12 @@ use Rattle.protocol.specs.Invariant.{IsIn}
 use Rattle.registry_values.specs.Slots.{slot_at}
 use Rattle.protocol.specs.State.{total_at}
 use Rattle.registry_values.proofs.Fit.{ranges}
-use Rattle.protocol.proofs.History.{at_within}
-use Rattle.protocol.proofs.Occupied.{attached_in}
+use Rattle.protocol.proofs.history.History.{at_within}
+use Rattle.protocol.proofs.slots.Occupied.{attached_in}
 use Rattle.cpu_words.specs.declared.view.CpuView.{CpuView}
 use Rattle.cpu_words.specs.declared.view.KeeperView.{KeeperView}
 use Rattle.cpu_words.specs.Views.{number_at}
-use Rattle.cpu_words.proofs.KeeperSees.{seen_by_keeper}
+use Rattle.cpu_words.proofs.by_keeper.KeeperSees.{seen_by_keeper}
 use Rattle.passive_list.specs.declared.keeper.Row.{Row}
 use Rattle.passive_list.specs.declared.place.Place.{Place}
 use Rattle.passive_list.specs.Cpus.{NetAgree, OnCpu, place_at}

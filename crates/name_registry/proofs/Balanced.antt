@@ -11,8 +11,8 @@ use Rattle.cpu_words.specs.declared.view.View.TheVariants.{Keeper}
 use Rattle.cpu_words.specs.Rule.{Good}
 use Rattle.cpu_words.specs.Views.{KeeperShown}
 use Rattle.cpu_words.specs.Headline.{RunsLawfully}
-use Rattle.cpu_words.proofs.Safety.{runs_lawfully}
-use Rattle.cpu_words.proofs.KeeperSees.{seen_by_keeper}
+use Rattle.cpu_words.proofs.laws.Safety.{runs_lawfully}
+use Rattle.cpu_words.proofs.by_keeper.KeeperSees.{seen_by_keeper}
 use Rattle.passive_list.specs.Keepers.{OnKeeper}
 use Rattle.name_registry.specs.Law.{counts_of, Balanced, FreeInterlock}
 

@@ -12,10 +12,10 @@ use Rattle.registry_values.specs.declared.slot.Slot.TheVariants.{Live}
 use Rattle.protocol.specs.History.{IsAttached, IsLiveAt}
 use Rattle.registry_values.specs.Slots.{is_live_as, same_key, slot_at}
 use Rattle.registry_values.proofs.Slots.{key_same, live_tells}
-use Rattle.protocol.proofs.Numbers.{position_fails}
-use Rattle.protocol.proofs.Occupied.{in_within, live_one}
+use Rattle.protocol.proofs.slots.Numbers.{position_fails}
+use Rattle.protocol.proofs.slots.Occupied.{in_within, live_one}
 use Rattle.cpu_words.specs.declared.view.KeeperView.{KeeperView}
-use Rattle.cpu_words.proofs.KeeperSees.{seen_by_keeper}
+use Rattle.cpu_words.proofs.by_keeper.KeeperSees.{seen_by_keeper}
 use Rattle.passive_list.specs.declared.keeper.Row.{Row}
 use Rattle.passive_list.specs.Cpus.{OnCpu}
 use Rattle.passive_list.specs.Keepers.{OnKeeper, states_of, IsOurKeeper}

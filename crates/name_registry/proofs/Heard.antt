@@ -6,8 +6,8 @@ use Rattle.registry_values.specs.declared.entry.Change.{Change}
 use Rattle.registry_values.specs.declared.entry.Change.TheVariants.{Attach, Detach}
 use Rattle.registry_values.specs.declared.entry.Entry.{Entry}
 use Rattle.protocol.specs.History.{after_change, change_at, IsAttached}
-use Rattle.protocol.proofs.History.{at_new, attached_old, at_within}
-use Rattle.cpu_words.proofs.Passes.{at_prefix, attached_prefix}
+use Rattle.protocol.proofs.history.History.{at_new, attached_old, at_within}
+use Rattle.cpu_words.proofs.shown.Passes.{at_prefix, attached_prefix}
 use Rattle.passive_list.specs.Cpus.{OnCpu}
 use Rattle.name_registry.specs.Meeting.{HasSeenAttach, HasSeenDetach}
 

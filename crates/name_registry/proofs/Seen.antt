@@ -10,13 +10,13 @@ use Rattle.registry_values.specs.declared.slot.Slot.{Slot}
 use Rattle.registry_values.specs.Marks.{looked, cleared, is_even, has_changed}
 use Rattle.registry_values.specs.Slots.{is_retired, slot_at}
 use Rattle.protocol.specs.State.{at_rest, mark_at}
-use Rattle.protocol.proofs.MarkRows.{snapshot_stands}
+use Rattle.protocol.proofs.slots.MarkRows.{snapshot_stands}
 use Rattle.cpu_words.specs.declared.view.KeeperView.{KeeperView}
 use Rattle.cpu_words.specs.declared.view.View.TheVariants.{Keeper}
 use Rattle.cpu_words.specs.Draining.{HasLookedPassive}
 use Rattle.cpu_words.specs.Grace.{HasLooked}
 use Rattle.cpu_words.specs.Steps.{Makes}
-use Rattle.cpu_words.proofs.KeeperSees.{seen_by_keeper}
+use Rattle.cpu_words.proofs.by_keeper.KeeperSees.{seen_by_keeper}
 use Rattle.passive_list.specs.Keepers.{OnKeeper}
 use Rattle.name_registry.specs.Advancing.{MayWork, HasWorkedFor, HasLookedFor, HasLookedLast, SeesSection, SeesPassive, MeetsGrace, MeetsPassive, PassedBelow, ClearBelow}
 use Rattle.name_registry.proofs.Worked.{mark_put, looked_more, still_passed, still_clear}

@@ -22,12 +22,12 @@ use Rattle.protocol.specs.Invariant.{IsIn, adding_at, is_adding_at, subtracting_
 use Rattle.registry_values.specs.Slots.{is_retired, slot_at}
 use Rattle.protocol.specs.State.{State, mark_at, count_at, total_at}
 use Rattle.registry_values.specs.Marks.{no_mark}
-use Rattle.protocol.proofs.Occupied.{in_within}
+use Rattle.protocol.proofs.slots.Occupied.{in_within}
 use Rattle.cpu_words.specs.declared.view.KeeperView.{KeeperView}
 use Rattle.cpu_words.specs.Locals.{IsPlaceCount}
 use Rattle.cpu_words.specs.Views.{number_at, collected_net, collected_one, CpuShown}
-use Rattle.cpu_words.proofs.Counting.{place_is}
-use Rattle.cpu_words.proofs.KeeperSees.{seen_by_keeper}
+use Rattle.cpu_words.proofs.by_cpu.Counting.{place_is}
+use Rattle.cpu_words.proofs.by_keeper.KeeperSees.{seen_by_keeper}
 use Rattle.passive_list.specs.Cpus.{OnCpu}
 use Rattle.passive_list.specs.declared.keeper.Row.{Row}
 use Rattle.passive_list.specs.Keepers.{IsAtRest, IsOurKeeper, OnKeeper, RowsAgree, TakenAs, states_of}

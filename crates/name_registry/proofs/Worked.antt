@@ -17,13 +17,13 @@ use Rattle.protocol.specs.Invariant.{DriversKept}
 use Rattle.protocol.specs.State.{State, opening, mark_at, total_at, kept_at, with_cell}
 use Rattle.registry_values.specs.Balances.{bias}
 use Rattle.registry_values.specs.Slots.{slot_at}
-use Rattle.protocol.proofs.MarkRows.{mark_grows, mark_there, marks_grow_none, marks_grow_more, passed_from, clear_from, collected_from}
-use Rattle.protocol.proofs.Cells.{total_other}
+use Rattle.protocol.proofs.slots.MarkRows.{mark_grows, mark_there, marks_grow_none, marks_grow_more, passed_from, clear_from, collected_from}
+use Rattle.protocol.proofs.slots.Cells.{total_other}
 use Rattle.cpu_words.specs.declared.view.KeeperView.{KeeperView}
 use Rattle.cpu_words.specs.declared.view.View.TheVariants.{Keeper}
 use Rattle.cpu_words.specs.Rule.{IsPictured}
 use Rattle.cpu_words.specs.Steps.{Makes}
-use Rattle.cpu_words.proofs.KeeperSees.{seen_by_keeper}
+use Rattle.cpu_words.proofs.by_keeper.KeeperSees.{seen_by_keeper}
 use Rattle.passive_list.specs.declared.keeper.Row.{Row}
 use Rattle.passive_list.specs.Keepers.{OnKeeper, states_of, IsOurKeeper}
 use Rattle.passive_list.specs.Vacating.{IsDrainedOn}

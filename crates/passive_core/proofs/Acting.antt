@@ -7,7 +7,7 @@ use Rattle.protocol.specs.Events.{Outcome, guard, is_idle, taken}
 use Rattle.protocol.specs.declared.event.Reply.{Reply}
 use Rattle.protocol.specs.Invariant.{Holds}
 use Rattle.protocol.specs.State.{is_empty, State, search_at, hand_at}
-use Rattle.protocol.proofs.SectionKeeps.{none_from}
+use Rattle.protocol.proofs.keeps.SectionKeeps.{none_from}
 
 -- an idle CPU has no search
 pub idle_unsearching : (s : State) (c : ℕ) → is_idle s c ≡ true → search_at s c ≡ None

@@ -23,15 +23,15 @@ use Rattle.protocol.specs.Events.{Outcome, guard, taken, step, after_look, after
 use Rattle.protocol.specs.Invariant.{Holds, one_if, held_at}
 use Rattle.protocol.specs.State.{at_rest, State, section_at, begin_at, count_at, kept_at, mark_at, passive_at, total_at}
 use Rattle.registry_values.specs.Balances.{bias}
-use Rattle.protocol.proofs.Occupied.{at_rest_tells, in_within, is_retired_tells, number_in, has_it, one_number, slot_found}
-use Rattle.protocol.proofs.Bounds.{driver_positive}
-use Rattle.protocol.proofs.CountBounds.{all_collected}
-use Rattle.protocol.proofs.Drivers.{kept_found}
-use Rattle.protocol.proofs.MarkKeeps.{is_drained_tells}
-use Rattle.protocol.proofs.Searching.{within_some}
+use Rattle.protocol.proofs.slots.Occupied.{at_rest_tells, in_within, is_retired_tells, number_in, has_it, one_number, slot_found}
+use Rattle.protocol.proofs.counts.Bounds.{driver_positive}
+use Rattle.protocol.proofs.counts.CountBounds.{all_collected}
+use Rattle.protocol.proofs.keeps.Drivers.{kept_found}
+use Rattle.protocol.proofs.keeps.MarkKeeps.{is_drained_tells}
+use Rattle.protocol.proofs.keeps.Searching.{within_some}
 use Rattle.std.proofs.lemmas.List.{set-get_or}
 use Rattle.passive_core.proofs.Acting.{made_is}
-use Rattle.protocol.proofs.MarkRows.{clear_from, collected_from, mark_grows, mark_there, mark_written, marks_grow_more, marks_grow_none, passed_from, row_elsewhere, snapshot_stands}
+use Rattle.protocol.proofs.slots.MarkRows.{clear_from, collected_from, mark_grows, mark_there, mark_written, marks_grow_more, marks_grow_none, passed_from, row_elsewhere, snapshot_stands}
 
 -- an event whose test passes is allowed
 pub guard_some : (b : Bool) (s : State) (r : Reply) → b ≡ true → IsSome (guard b (taken s r))

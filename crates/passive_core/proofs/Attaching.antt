@@ -31,10 +31,10 @@ use Rattle.protocol.specs.Events.{Outcome, after_count_store, after_keep, after_
 use Rattle.protocol.specs.Invariant.{Holds}
 use Rattle.registry_values.specs.Names.{are_name_words, is_lawful}
 use Rattle.registry_values.specs.Balances.{bias}
-use Rattle.protocol.proofs.CountKeeps.{keep_keeps}
+use Rattle.protocol.proofs.keeps.CountKeeps.{keep_keeps}
 use Rattle.registry_values.proofs.Fit.{ranges}
-use Rattle.protocol.proofs.ListKeeps.{may_write_tells}
-use Rattle.protocol.proofs.SectionKeeps.{cpus_keep, none_from}
+use Rattle.protocol.proofs.keeps.ListKeeps.{may_write_tells}
+use Rattle.protocol.proofs.keeps.SectionKeeps.{cpus_keep, none_from}
 
 -- The record words.
 

@@ -15,11 +15,11 @@ use Rattle.registry_values.specs.Balances.{bias, Tally, less_bias, local_of, sum
 use Rattle.registry_values.specs.Slots.{slot_at}
 use Rattle.passive_core.specs.Audits.{IsHeldRightly, audit_of, locals_at, tallies_at, tallies_below, tally_of}
 use Rattle.protocol.specs.Invariant.{Holds, IsCounting, IsIn, adding_at, is_adding_at, itself, one_if_used}
-use Rattle.protocol.proofs.CountBounds.{total_at_rest, word_ceiling, word_floor}
-use Rattle.protocol.proofs.CountKeeps.{fit_of}
-use Rattle.protocol.proofs.Counts.{counting_cases}
+use Rattle.protocol.proofs.counts.CountBounds.{total_at_rest, word_ceiling, word_floor}
+use Rattle.protocol.proofs.keeps.CountKeeps.{fit_of}
+use Rattle.protocol.proofs.counts.Counts.{counting_cases}
 use Rattle.registry_values.proofs.Fit.{ranges}
-use Rattle.protocol.proofs.Occupied.{at_rest_tells, in_within}
+use Rattle.protocol.proofs.slots.Occupied.{at_rest_tells, in_within}
 
 -- The sum of what the words say.
 

@@ -22,8 +22,8 @@ use Rattle.registry_values.specs.Slots.{is_live_as, slot_before, same_key, slot_
 use Rattle.registry_values.specs.Marks.{no_mark}
 use Rattle.passive_core.proofs.Acting.{acting_on, made_is}
 use Rattle.registry_values.proofs.Fit.{ranges}
-use Rattle.protocol.proofs.Numbers.{position_fails}
-use Rattle.protocol.proofs.Occupied.{in_within, live_one}
+use Rattle.protocol.proofs.slots.Numbers.{position_fails}
+use Rattle.protocol.proofs.slots.Occupied.{in_within, live_one}
 use Rattle.registry_values.proofs.Slots.{key_same, live_tells}
 
 -- Live entries and keys

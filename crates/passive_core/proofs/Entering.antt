@@ -1,7 +1,7 @@
 -- Sections by command: who may act, and which depths may stand.
 use Rattle.std.proofs.Common.{◌≡◌, ℕ, ◌<◌, ◌≤◌, ⊎_elim, List, length, set, get_or, get_or-set_same, get_or-set_other, length-set, Option, Some, None, Bool, true, false, not, ◌&&◌, ◌||◌, is_none, nat_lt, refl, sym, ap, ◌∙◌, arith, lt-ltb}
 use Rattle.std.proofs.lemmas.Bool.{and_from, cases_eq, cases_lt}
-use Rattle.protocol.proofs.SectionKeeps.{cpus_keep, some_from}
+use Rattle.protocol.proofs.keeps.SectionKeeps.{cpus_keep, some_from}
 use Rattle.passive_core.specs.Commands.{may_act}
 use Rattle.passive_core.specs.Entering.{with_depth}
 use Rattle.protocol.specs.Events.{is_inside}

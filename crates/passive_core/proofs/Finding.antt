@@ -15,7 +15,7 @@ use Rattle.protocol.specs.State.{State, seen_at, search_at, row_at}
 use Rattle.protocol.specs.Events.{Outcome, guard, taken, may_seek, after_seeing, after_seek, going_on, search_over, link_loaded, load_link, load_searched, compared, are_words_of, entry_found}
 use Rattle.passive_core.specs.Finding.{after_find, load_at, next_load}
 use Rattle.passive_core.proofs.Acting.{made_is}
-use Rattle.protocol.proofs.Searching.{Finds, FindSteps, IsFindStep, find_link, find_record, placed, searching_within, seen_now, weight}
+use Rattle.protocol.proofs.keeps.Searching.{Finds, FindSteps, IsFindStep, find_link, find_record, placed, searching_within, seen_now, weight}
 
 -- the state s of a walk of c that began in b
 pub record Walking (b s : State) (c : ℕ) : Type 0 where

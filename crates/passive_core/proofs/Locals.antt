@@ -25,14 +25,14 @@ use Rattle.protocol.specs.Events.{Outcome, after_collected, after_count, after_c
 use Rattle.protocol.specs.Invariant.{Holds, IsCounting, standing_of}
 use Rattle.passive_core.specs.Commands.{all_seated, may_act}
 use Rattle.passive_core.specs.Locals.{count_in, free_added, is_counting, local_slot, slot_if, with_count_less, with_count_more, with_room, with_total_less}
-use Rattle.protocol.proofs.CountKeeps.{counts_keep, empty_from}
-use Rattle.protocol.proofs.Counts.{counting_cases, held_stays}
+use Rattle.protocol.proofs.keeps.CountKeeps.{counts_keep, empty_from}
+use Rattle.protocol.proofs.counts.Counts.{counting_cases, held_stays}
 use Rattle.registry_values.proofs.Fit.{ranges}
-use Rattle.protocol.proofs.Numbers.{entry_attached, occupied_slot, position_fails}
-use Rattle.protocol.proofs.Occupied.{at_rest_tells, slot_has}
+use Rattle.protocol.proofs.slots.Numbers.{entry_attached, occupied_slot, position_fails}
+use Rattle.protocol.proofs.slots.Occupied.{at_rest_tells, slot_has}
 use Rattle.passive_core.proofs.Passives.{Shows, both, found_slot, is_some, made, may_still}
-use Rattle.protocol.proofs.References.{references_places, standing_tells}
-use Rattle.protocol.proofs.MarkRows.{any_within}
+use Rattle.protocol.proofs.keeps.References.{references_places, standing_tells}
+use Rattle.protocol.proofs.slots.MarkRows.{any_within}
 
 -- Lists.
 

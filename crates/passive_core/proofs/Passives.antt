@@ -14,10 +14,10 @@ use Rattle.protocol.specs.Invariant.{Holds}
 use Rattle.passive_core.specs.Commands.{all_seated, may_act}
 use Rattle.protocol.specs.Picture.{passive_in}
 use Rattle.passive_core.specs.Passives.{IsOneLess, IsOneMore, passive_of, with_one_more, with_one_less}
-use Rattle.protocol.proofs.Numbers.{entry_attached, occupied_slot}
-use Rattle.protocol.proofs.Passive.{found_number}
-use Rattle.protocol.proofs.RefiningReferences.{passive_put}
-use Rattle.protocol.proofs.Occupied.{slot_has}
+use Rattle.protocol.proofs.slots.Numbers.{entry_attached, occupied_slot}
+use Rattle.protocol.proofs.keeps.Passive.{found_number}
+use Rattle.protocol.proofs.model.RefiningReferences.{passive_put}
+use Rattle.protocol.proofs.slots.Occupied.{slot_has}
 use Rattle.passive_core.proofs.Acting.{acting_idle}
 
 -- A CPU that may act is idle once all have their seats.

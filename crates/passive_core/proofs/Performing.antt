@@ -18,8 +18,8 @@ use Rattle.protocol.specs.State.{State, begin_at, mark_at, section_at}
 use Rattle.registry_values.proofs.Least.{none_below}
 use Rattle.passive_core.proofs.Advancing.{only_marks, passes_none}
 use Rattle.registry_values.proofs.Slots.{retired_slot_tells}
-use Rattle.protocol.proofs.Numbers.{position_passes}
-use Rattle.protocol.proofs.Occupied.{in_within, one_number}
+use Rattle.protocol.proofs.slots.Numbers.{position_passes}
+use Rattle.protocol.proofs.slots.Occupied.{in_within, one_number}
 
 -- A word that hasn't changed is out of its section just where the CPU is outside.
 

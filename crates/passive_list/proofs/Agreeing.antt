@@ -11,12 +11,12 @@ use Rattle.registry_values.specs.declared.settings.Settings.{Settings}
 use Rattle.registry_values.specs.Limits.{are_fit}
 use Rattle.protocol.specs.History.{IsAttached}
 use Rattle.registry_values.specs.Balances.{bias}
-use Rattle.protocol.proofs.Cells.{get_or_all}
-use Rattle.protocol.proofs.History.{at_within}
+use Rattle.protocol.proofs.slots.Cells.{get_or_all}
+use Rattle.protocol.proofs.history.History.{at_within}
 use Rattle.cpu_words.specs.declared.view.CpuView.{CpuView}
 use Rattle.cpu_words.specs.Views.{number_at, references_to, depth_of, new_cpu}
 use Rattle.cpu_words.specs.Sections.{HasEntered, HasExited}
-use Rattle.cpu_words.proofs.Passes.{attached_prefix}
+use Rattle.cpu_words.proofs.shown.Passes.{attached_prefix}
 use Rattle.passive_list.specs.declared.place.Found.{Found}
 use Rattle.passive_list.specs.declared.place.Place.{Place}
 use Rattle.registry_values.specs.declared.slot.Key.{Key}

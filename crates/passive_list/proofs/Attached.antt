@@ -20,11 +20,11 @@ use Rattle.protocol.specs.Events.{entry_if, entry_of, keeps_rightly, kind_of, wo
 use Rattle.protocol.specs.History.{after_change}
 use Rattle.protocol.specs.Invariant.{one_if}
 use Rattle.registry_values.specs.Names.{is_lawful}
-use Rattle.protocol.proofs.Cells.{slot_here, slot_other}
+use Rattle.protocol.proofs.slots.Cells.{slot_here, slot_other}
 use Rattle.registry_values.proofs.Fit.{ranges}
-use Rattle.protocol.proofs.History.{length-after_change}
-use Rattle.protocol.proofs.ListKeeps.{live_count_set, rows_put}
-use Rattle.protocol.proofs.Occupied.{in_within, slot_cases}
+use Rattle.protocol.proofs.history.History.{length-after_change}
+use Rattle.protocol.proofs.keeps.ListKeeps.{live_count_set, rows_put}
+use Rattle.protocol.proofs.slots.Occupied.{in_within, slot_cases}
 use Rattle.cpu_words.specs.declared.view.KeeperView.{KeeperView}
 use Rattle.cpu_words.specs.Publishing.{LeadsBelow, MayPublish, HasPublished}
 use Rattle.cpu_words.specs.Publishing.LeadsBelow.{To_end, To_slot}

@@ -9,10 +9,10 @@ use Rattle.registry_values.specs.declared.slot.Slot.{Slot}
 use Rattle.registry_values.specs.declared.slot.Slot.TheVariants.{Vacant, Live, Retired}
 use Rattle.registry_values.specs.Slots.{live_count, slot_at}
 use Rattle.registry_values.specs.Marks.{no_mark}
-use Rattle.protocol.proofs.Cells.{slot_here, slot_other}
+use Rattle.protocol.proofs.slots.Cells.{slot_here, slot_other}
 use Rattle.registry_values.proofs.Fit.{ranges}
-use Rattle.protocol.proofs.History.{length-after_change}
-use Rattle.protocol.proofs.ListKeeps.{live_count_put, rows_put}
+use Rattle.protocol.proofs.history.History.{length-after_change}
+use Rattle.protocol.proofs.keeps.ListKeeps.{live_count_put, rows_put}
 use Rattle.cpu_words.specs.declared.view.KeeperView.{KeeperView}
 use Rattle.cpu_words.specs.Publishing.{LeadsBelow, IsBefore, MayUnpublish, HasUnpublished, having_unpublished, links_with}
 use Rattle.cpu_words.specs.Rule.{IsPictured}

@@ -7,7 +7,7 @@ use Rattle.registry_values.specs.declared.entry.Entry.{Entry}
 use Rattle.registry_values.specs.declared.slot.Slot.{Slot}
 use Rattle.registry_values.specs.declared.slot.Slot.TheVariants.{Vacant, Live, Retired}
 use Rattle.registry_values.specs.Slots.{slot_at}
-use Rattle.protocol.proofs.Occupied.{in_within}
+use Rattle.protocol.proofs.slots.Occupied.{in_within}
 use Rattle.cpu_words.specs.Publishing.{LeadsBelow, IsBefore, IsLinkPlace}
 use Rattle.cpu_words.specs.Publishing.LeadsBelow.{To_end, To_slot}
 use Rattle.passive_list.specs.declared.keeper.Row.{Row}

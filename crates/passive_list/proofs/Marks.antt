@@ -13,15 +13,15 @@ use Rattle.registry_values.specs.Slots.{is_retired, slot_at}
 use Rattle.registry_values.specs.Marks.{have_passed, are_clear, are_collected, no_mark}
 use Rattle.registry_values.specs.Balances.{bias}
 use Rattle.protocol.specs.State.{with_cell, mark_at, kept_at}
-use Rattle.protocol.proofs.Cells.{row_here, row_other, cell_here}
+use Rattle.protocol.proofs.slots.Cells.{row_here, row_other, cell_here}
 use Rattle.registry_values.proofs.Fit.{ranges}
-use Rattle.protocol.proofs.ListKeeps.{rows_cell}
-use Rattle.protocol.proofs.Occupied.{is_retired_tells}
+use Rattle.protocol.proofs.keeps.ListKeeps.{rows_cell}
+use Rattle.protocol.proofs.slots.Occupied.{is_retired_tells}
 use Rattle.cpu_words.specs.declared.view.KeeperView.{KeeperView}
 use Rattle.cpu_words.specs.declared.view.View.TheVariants.{Keeper}
 use Rattle.cpu_words.specs.Grace.{MayLook, having_looked}
 use Rattle.cpu_words.specs.Steps.{Makes}
-use Rattle.cpu_words.proofs.Pictures.{pictured_by}
+use Rattle.cpu_words.proofs.shown.Pictures.{pictured_by}
 use Rattle.passive_list.specs.declared.keeper.Row.{Row}
 use Rattle.passive_list.specs.Keepers.{no_row, row_at, state_of, states_of, TakenAs, IsAtRest, RowsAgree, IsOurKeeper}
 use Rattle.passive_list.specs.Vacating.{IsDrainedOn, is_drained_row}

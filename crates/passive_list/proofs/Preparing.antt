@@ -13,9 +13,9 @@ use Rattle.protocol.specs.State.{with_biases, no_words, row_at, count_at, with_c
 use Rattle.protocol.specs.Events.{with_word, words_of}
 use Rattle.registry_values.specs.Balances.{bias}
 use Rattle.registry_values.specs.Slots.{slot_at}
-use Rattle.protocol.proofs.Cells.{slot_here, cell_in_new}
-use Rattle.protocol.proofs.ListKeeps.{rows_put}
-use Rattle.protocol.proofs.Occupied.{in_within}
+use Rattle.protocol.proofs.slots.Cells.{slot_here, cell_in_new}
+use Rattle.protocol.proofs.keeps.ListKeeps.{rows_put}
+use Rattle.protocol.proofs.slots.Occupied.{in_within}
 use Rattle.cpu_words.specs.declared.view.KeeperView.{KeeperView}
 use Rattle.cpu_words.specs.Storing.{HasRecordWord, HasCountWord, HasLink}
 use Rattle.cpu_words.specs.Vacating.{MayVacate, MayWrite, as_vacant, vacant_from}

@@ -12,9 +12,9 @@ use Rattle.registry_values.specs.Balances.{bias}
 use Rattle.registry_values.specs.Marks.{no_mark}
 use Rattle.protocol.specs.State.{no_words, total_at, kept_at}
 use Rattle.registry_values.specs.Slots.{slot_at}
-use Rattle.protocol.proofs.Cells.{get_or_all}
-use Rattle.protocol.proofs.MarkKeeps.{none_live, rows_all}
-use Rattle.protocol.proofs.Occupied.{place_cases}
+use Rattle.protocol.proofs.slots.Cells.{get_or_all}
+use Rattle.protocol.proofs.keeps.MarkKeeps.{none_live, rows_all}
+use Rattle.protocol.proofs.slots.Occupied.{place_cases}
 use Rattle.registry_values.proofs.Fit.{ranges}
 use Rattle.cpu_words.specs.declared.view.KeeperView.{KeeperView}
 use Rattle.cpu_words.specs.Opening.{keeper_with}

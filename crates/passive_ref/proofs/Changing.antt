@@ -7,11 +7,11 @@ use Rattle.atomic_table.specs.Seated.{TableId}
 use Rattle.registry_values.specs.declared.entry.Entry.{Entry}
 use Rattle.registry_values.specs.declared.settings.Settings.{Settings}
 use Rattle.protocol.specs.History.{IsAttached}
-use Rattle.protocol.proofs.History.{at_within}
+use Rattle.protocol.proofs.history.History.{at_within}
 use Rattle.cpu_words.specs.declared.view.CpuView.{CpuView}
 use Rattle.cpu_words.specs.Views.{references_to, without}
 use Rattle.cpu_words.specs.Passives.{IsAt, IsAloneAt, HasAdded, HasSubtracted}
-use Rattle.cpu_words.proofs.ReferenceLists.{to_same, to_other, in_cons, counts, one_less, others_stay, was_in}
+use Rattle.cpu_words.proofs.shown.ReferenceLists.{to_same, to_other, in_cons, counts, one_less, others_stay, was_in}
 use Rattle.passive_list.specs.declared.place.Found.{Found}
 use Rattle.passive_list.specs.declared.place.Place.{Place}
 use Rattle.passive_list.specs.Cpus.{no_place, place_at, IsPlaceOf, PassiveAgree, IsOurCpu}

@@ -6,7 +6,7 @@ use Rattle.registry_values.specs.declared.refusal.Refusal.{Refusal}
 use Rattle.registry_values.specs.declared.refusal.Refusal.TheVariants.{NothingFound}
 use Rattle.registry_values.specs.Refusals.{Answers}
 use Rattle.protocol.specs.History.{IsAttached}
-use Rattle.protocol.proofs.History.{one_entry}
+use Rattle.protocol.proofs.history.History.{one_entry}
 use Rattle.passive_list.specs.declared.place.Found.{Found}
 use Rattle.passive_list.specs.Cpus.{OnCpu}
 use Rattle.passive_list.proofs.Agreeing.{IsFoundAs}

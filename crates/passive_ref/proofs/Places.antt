@@ -7,12 +7,12 @@ use Rattle.std.specs.Prelude.{position}
 use Rattle.std.specs.List.{Contains}
 use Rattle.registry_values.specs.declared.entry.Entry.{Entry}
 use Rattle.protocol.specs.History.{IsAttached}
-use Rattle.protocol.proofs.History.{one_entry, at_within}
-use Rattle.protocol.proofs.Numbers.{position_passes}
+use Rattle.protocol.proofs.history.History.{one_entry, at_within}
+use Rattle.protocol.proofs.slots.Numbers.{position_passes}
 use Rattle.cpu_words.specs.declared.view.CpuView.{CpuView}
 use Rattle.cpu_words.specs.Views.{is_to, references_to}
 use Rattle.cpu_words.specs.Passives.{IsAt}
-use Rattle.cpu_words.proofs.ReferenceLists.{to_other, in_rest, counts}
+use Rattle.cpu_words.proofs.shown.ReferenceLists.{to_other, in_rest, counts}
 use Rattle.passive_list.specs.declared.place.Place.{Place}
 use Rattle.passive_list.specs.Cpus.{no_place, place_at, PassiveAgree}
 use Rattle.passive_ref.specs.Psrefs.{IsHeldAt, counts_for}

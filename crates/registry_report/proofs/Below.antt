@@ -8,7 +8,7 @@ use Rattle.registry_values.specs.Marks.{least_below, or_next}
 use Rattle.protocol.specs.Invariant.{kept_of, one_if}
 use Rattle.protocol.specs.State.{kept_at}
 use Rattle.registry_values.proofs.Least.{least_is, none_below, least_none}
-use Rattle.protocol.proofs.Numbers.{position_fails}
+use Rattle.protocol.proofs.slots.Numbers.{position_fails}
 use Rattle.registry_report.specs.Answers.{count_below, is_this}
 use Rattle.registry_report.proofs.sound.Turns.{least_some}
 

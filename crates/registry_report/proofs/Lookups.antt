@@ -11,9 +11,9 @@ use Rattle.registry_values.specs.declared.slot.Key.{Key}
 use Rattle.registry_values.specs.Slots.{key_of, same_key}
 use Rattle.protocol.specs.History.{change_at, IsAttached, EndsAt, IsLiveAt, IsLegal, IsLookup}
 use Rattle.protocol.specs.Events.{is_number}
-use Rattle.protocol.proofs.History.{ends_after, one_end, one_live, at_within}
+use Rattle.protocol.proofs.history.History.{ends_after, one_end, one_live, at_within}
 use Rattle.registry_values.proofs.Slots.{key_from, key_same}
-use Rattle.protocol.proofs.Numbers.{position_fails}
+use Rattle.protocol.proofs.slots.Numbers.{position_fails}
 use Rattle.registry_report.specs.Changes.{answer_after, lookup, is_end_of, end_of, counted_on, entry_of, attached_by}
 
 -- One change more

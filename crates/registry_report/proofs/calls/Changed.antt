@@ -28,10 +28,10 @@ use Rattle.registry_values.specs.Slots.{is_iface, slot_before, slot_of, slot_at}
 use Rattle.protocol.specs.State.{State, local_at}
 use Rattle.registry_values.specs.Marks.{no_mark}
 use Rattle.passive_core.proofs.Attaching.{given_tells, plain_tells, seated_keeps, iface_links}
-use Rattle.protocol.proofs.History.{at_within}
-use Rattle.protocol.proofs.Occupied.{is_vacant_tells, in_other, in_unpublished, in_within, in_written, live_one}
-use Rattle.protocol.proofs.Picturing.{unwritten}
-use Rattle.protocol.proofs.RefiningEntries.{passive_moved}
+use Rattle.protocol.proofs.history.History.{at_within}
+use Rattle.protocol.proofs.slots.Occupied.{is_vacant_tells, in_other, in_unpublished, in_within, in_written, live_one}
+use Rattle.protocol.proofs.model.Picturing.{unwritten}
+use Rattle.protocol.proofs.model.RefiningEntries.{passive_moved}
 use Rattle.registry_report.specs.Answers.{attach_answer, attach_iface_answer, detach_answer, found_or, hitched, lookup_now, plug_answer, with_label}
 use Rattle.registry_report.specs.declared.hitch.Hitch.{Hitch}
 use Rattle.registry_report.specs.declared.hitch.Hitch.TheVariants.{Refused}

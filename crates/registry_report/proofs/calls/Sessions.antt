@@ -15,7 +15,7 @@ use Rattle.protocol.specs.Invariant.{Holds}
 use Rattle.passive_core.specs.Locals.{after_counting, count_refusal, is_live_local, local_slot, with_count_less, with_total_less}
 use Rattle.passive_core.proofs.Locals.{live_slot, slot_is}
 use Rattle.passive_core.proofs.Passives.{found_slot}
-use Rattle.protocol.proofs.References.{least_free, least_stays, least_within, with_local_same}
+use Rattle.protocol.proofs.keeps.References.{least_free, least_stays, least_within, with_local_same}
 use Rattle.registry_report.specs.Session.{SessionState, IsSession, filled}
 
 -- What the core's commands leave of the places of local references

@@ -11,7 +11,7 @@ use Rattle.passive_core.specs.Entering.{after_enter_command, after_exit_command}
 use Rattle.protocol.specs.Events as events
 use Rattle.passive_core.specs.Finding.{after_find}
 use Rattle.protocol.specs.Invariant.{Holds}
-use Rattle.protocol.proofs.Picturing.{put_here}
+use Rattle.protocol.proofs.model.Picturing.{put_here}
 use Rattle.registry_report.specs.declared.hitch.Hitch.{Hitch}
 use Rattle.registry_report.specs.declared.hitch.Hitch.TheVariants.{NotInside}
 use Rattle.registry_report.specs.Answers.{enter_answer, exit_answer, find_answer, hitched, is_inside, lookup_now}

@@ -29,11 +29,11 @@ use Rattle.protocol.specs.Picture.{number_in, passive_in}
 use Rattle.protocol.specs.State.{State, local_at, kept_at, passive_at}
 use Rattle.registry_values.proofs.Slots.{live_tells}
 use Rattle.registry_values.proofs.Fit.{ranges}
-use Rattle.protocol.proofs.ListKeeps.{taken_from}
-use Rattle.protocol.proofs.Occupied.{attached_in, slot_found, slot_has, in_other, in_published, not_vacant}
-use Rattle.protocol.proofs.Picturing.{put_is}
-use Rattle.protocol.proofs.Sums.{local_changed, none_at, one_at, standing_within}
-use Rattle.protocol.proofs.RefiningEntries.{passive_moved}
+use Rattle.protocol.proofs.keeps.ListKeeps.{taken_from}
+use Rattle.protocol.proofs.slots.Occupied.{attached_in, slot_found, slot_has, in_other, in_published, not_vacant}
+use Rattle.protocol.proofs.model.Picturing.{put_is}
+use Rattle.protocol.proofs.counts.Sums.{local_changed, none_at, one_at, standing_within}
+use Rattle.protocol.proofs.model.RefiningEntries.{passive_moved}
 use Rattle.registry_values.proofs.Least.{least_agrees}
 use Rattle.registry_report.specs.Changes.{lookup, live_entries, is_driver_entry, is_driver_number}
 use Rattle.registry_report.specs.Answers.{attach_iface_answer, is_plain, lookup_now, plain_slot, has_room, entry_in, given_entry, attach_answer}

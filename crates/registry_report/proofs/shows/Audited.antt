@@ -14,8 +14,8 @@ use Rattle.protocol.specs.Picture.{number_in}
 use Rattle.protocol.specs.State.{count_at, total_at}
 use Rattle.registry_values.specs.Slots.{slot_at}
 use Rattle.passive_core.proofs.Audits.{rightly, row_long}
-use Rattle.protocol.proofs.Occupied.{at_rest_tells}
-use Rattle.protocol.proofs.Sums.{words-at-zero}
+use Rattle.protocol.proofs.slots.Occupied.{at_rest_tells}
+use Rattle.protocol.proofs.counts.Sums.{words-at-zero}
 use Rattle.registry_report.specs.Answers.{audit_answer, held, list_below, net_count, tallies_below, tallies_in, tally_of}
 use Rattle.registry_report.specs.Registry.{Registry}
 use Rattle.registry_report.specs.Session.{IsSession, SessionState}

@@ -16,17 +16,17 @@ use Rattle.protocol.specs.Events.{least_id, standing, with_local}
 use Rattle.protocol.specs.Invariant.{Holds, IsIn, SlotsShow, standing_of}
 use Rattle.passive_core.specs.Locals.{IsCounted, after_acquire_local, after_counting, after_release_local, count_in, count_refusal, is_counting, local_slot, with_count_less, with_count_more, with_total_less}
 use Rattle.protocol.specs.Model.{put, with_locals}
-use Rattle.protocol.proofs.Cells.{by_cell, cell_here, cell_other, one_in}
-use Rattle.protocol.proofs.CountKeeps.{held_counting}
+use Rattle.protocol.proofs.slots.Cells.{by_cell, cell_here, cell_other, one_in}
+use Rattle.protocol.proofs.keeps.CountKeeps.{held_counting}
 use Rattle.registry_values.proofs.Fit.{ranges}
-use Rattle.protocol.proofs.History.{at_within}
+use Rattle.protocol.proofs.history.History.{at_within}
 use Rattle.passive_core.proofs.Locals.{live_slot, slot_is}
-use Rattle.protocol.proofs.Numbers.{entry_attached}
-use Rattle.protocol.proofs.Occupied.{one_number, slot_has}
+use Rattle.protocol.proofs.slots.Numbers.{entry_attached}
+use Rattle.protocol.proofs.slots.Occupied.{one_number, slot_has}
 use Rattle.passive_core.proofs.Passives.{found_slot}
-use Rattle.protocol.proofs.Picturing.{put_here, put_is, put_other}
-use Rattle.protocol.proofs.References.{least_free, least_within, standing_tells, with_local_other, with_local_same}
-use Rattle.protocol.proofs.Sums.{local_added, local_changed, none_at, one_at, standing_within}
+use Rattle.protocol.proofs.model.Picturing.{put_here, put_is, put_other}
+use Rattle.protocol.proofs.keeps.References.{least_free, least_within, standing_tells, with_local_other, with_local_same}
+use Rattle.protocol.proofs.counts.Sums.{local_added, local_changed, none_at, one_at, standing_within}
 use Rattle.registry_report.specs.Answers.{counted, may_count, uncount_answer, unless, with_label}
 use Rattle.registry_report.specs.Registry.{Registry}
 use Rattle.registry_report.specs.Session.{IsSession, SessionState}

@@ -8,9 +8,9 @@ use Rattle.protocol.specs.Invariant.{IsIn, one_if}
 use Rattle.protocol.specs.Picture.{number_in, passive_in}
 use Rattle.registry_values.specs.Slots.{slot_of, slot_at}
 use Rattle.protocol.specs.State.{opening}
-use Rattle.protocol.proofs.Cells.{get_or_all}
-use Rattle.protocol.proofs.MarkKeeps.{none_live}
-use Rattle.protocol.proofs.Occupied.{not_vacant, slot_has}
+use Rattle.protocol.proofs.slots.Cells.{get_or_all}
+use Rattle.protocol.proofs.keeps.MarkKeeps.{none_live}
+use Rattle.protocol.proofs.slots.Occupied.{not_vacant, slot_has}
 use Rattle.registry_report.specs.Registry.{opened}
 use Rattle.registry_report.specs.Session.{SessionState, unlabelled}
 use Rattle.registry_report.specs.Shows.{Shows, number_at}

@@ -15,10 +15,10 @@ use Rattle.protocol.specs.Invariant.{IsIn}
 use Rattle.registry_values.specs.Balances.{bias}
 use Rattle.registry_values.specs.Marks.{no_mark}
 use Rattle.registry_values.specs.Slots.{slot_at}
-use Rattle.protocol.proofs.Cells.{cell_in_new, cell_in_old}
-use Rattle.protocol.proofs.History.{at_cases, length-after_change}
-use Rattle.protocol.proofs.ListKeeps.{live_count_put}
-use Rattle.protocol.proofs.Occupied.{in_published, in_unpublished, not_vacant, slot_cases}
+use Rattle.protocol.proofs.slots.Cells.{cell_in_new, cell_in_old}
+use Rattle.protocol.proofs.history.History.{at_cases, length-after_change}
+use Rattle.protocol.proofs.keeps.ListKeeps.{live_count_put}
+use Rattle.protocol.proofs.slots.Occupied.{in_published, in_unpublished, not_vacant, slot_cases}
 use Rattle.registry_report.specs.Changes.{is_attach}
 use Rattle.registry_report.specs.Shows.{CountsLive, IsFresh, ShowsTallies, SnapshotsFollow}
 

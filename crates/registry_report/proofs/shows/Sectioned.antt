@@ -17,14 +17,14 @@ use Rattle.protocol.specs.Events as events
 use Rattle.passive_core.specs.Finding.{after_find}
 use Rattle.protocol.specs.Invariant.{Holds, MarksHold, one_if}
 use Rattle.protocol.specs.Model.{put}
-use Rattle.protocol.proofs.SectionKeeps.{some_from}
+use Rattle.protocol.proofs.keeps.SectionKeeps.{some_from}
 use Rattle.registry_report.specs.Answers.{is_inside, enter_answer, may_begin}
 use Rattle.registry_report.specs.Registry.{Registry}
 use Rattle.registry_report.specs.Session.{SessionState, with_core}
 use Rattle.registry_report.specs.Shows.{Shows, SnapshotsFollow}
 use Rattle.registry_report.specs.Turns.{on_ok, entered, exited, begun_section, ended_section, looked_up}
-use Rattle.protocol.proofs.Cells.{by_place}
-use Rattle.protocol.proofs.Picturing.{put_here, put_other}
+use Rattle.protocol.proofs.slots.Cells.{by_place}
+use Rattle.protocol.proofs.model.Picturing.{put_here, put_other}
 use Rattle.registry_report.proofs.shows.Showing.{put_shows, twice_less}
 
 -- who is inside

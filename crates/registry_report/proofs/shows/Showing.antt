@@ -2,7 +2,7 @@
 use Rattle.std.proofs.Common.{◌≡◌, ℕ, ◌*◌, ◌<◌, ◌≤◌, ⊎_elim, List, length, get_or, set, get_or-set_same, get_or-set_other, nat_lt, sym, ◌∙◌, arith}
 use Rattle.std.proofs.lemmas.Bool.{cases_lt, lt-ltb, le-ltb}
 use Rattle.protocol.specs.Model.{put}
-use Rattle.protocol.proofs.Picturing.{put_is}
+use Rattle.protocol.proofs.model.Picturing.{put_is}
 
 pub put_shows : {X : Type 0} (f : ℕ → X) (d : X) (xs : List X) (c : ℕ) (x y : X) → c < length xs → ((j : ℕ) → f j ≡ get_or xs j d) → x ≡ y → (j : ℕ) → put f c x j ≡ get_or (set xs c y) j d
 put_shows f d xs c x y lt shows same = put_is f (λ j. get_or (set xs c y) j d) c x

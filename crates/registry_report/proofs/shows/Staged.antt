@@ -32,16 +32,16 @@ use Rattle.protocol.specs.Picture.{number_in, passive_in}
 use Rattle.protocol.specs.State.{is_empty, State, begin_at, count_at, hand_at, kept_at, mark_at, passive_at, section_at, total_at}
 use Rattle.registry_values.proofs.Least.{none_below, least_none, least_agrees}
 use Rattle.registry_values.proofs.Slots.{retired_slot_tells}
-use Rattle.protocol.proofs.MarkRows.{snapshot_stands}
+use Rattle.protocol.proofs.slots.MarkRows.{snapshot_stands}
 use Rattle.passive_core.proofs.Entering.{acts_free}
-use Rattle.protocol.proofs.HeldSums.{no_hand, number_of}
-use Rattle.protocol.proofs.History.{at_within}
-use Rattle.protocol.proofs.ListKeeps.{live_count_put}
-use Rattle.protocol.proofs.Numbers.{slot_number}
-use Rattle.protocol.proofs.Occupied.{at_rest_tells, attached_in, has_it, in_other, in_vacated, in_within, one_in, one_number}
-use Rattle.protocol.proofs.Picturing.{put_here, put_is, put_other, unwritten}
-use Rattle.protocol.proofs.RefiningEntries.{passive_moved}
-use Rattle.protocol.proofs.Searching.{within_some}
+use Rattle.protocol.proofs.counts.HeldSums.{no_hand, number_of}
+use Rattle.protocol.proofs.history.History.{at_within}
+use Rattle.protocol.proofs.keeps.ListKeeps.{live_count_put}
+use Rattle.protocol.proofs.slots.Numbers.{slot_number}
+use Rattle.protocol.proofs.slots.Occupied.{at_rest_tells, attached_in, has_it, in_other, in_vacated, in_within, one_in, one_number}
+use Rattle.protocol.proofs.model.Picturing.{put_here, put_is, put_other, unwritten}
+use Rattle.protocol.proofs.model.RefiningEntries.{passive_moved}
+use Rattle.protocol.proofs.keeps.Searching.{within_some}
 use Rattle.registry_report.specs.Answers.{advance_answer, count_below, destroy_answer, is_inside, perform_answer, has_passive, has_section, held, is_this, plain_stage, retired_slot, stage_in}
 use Rattle.registry_report.specs.Changes.{end_of, has_ended, may_hold}
 use Rattle.registry_report.specs.Registry.{Registry}

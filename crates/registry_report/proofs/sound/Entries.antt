@@ -17,12 +17,12 @@ use Rattle.protocol.specs.Events.{keeps_rightly}
 use Rattle.protocol.specs.History.{after_change, change_at, IsLegal, IsLiveAt, IsLookup}
 use Rattle.protocol.specs.Model.{Model, put, IsDriverHere, Stays, Goes_on, Attaches, Detaches, Keeps, Sees}
 use Rattle.registry_values.proofs.Least.{none_is}
-use Rattle.protocol.proofs.Growing.{hold_was, hold_old}
-use Rattle.protocol.proofs.History.{at_new, at_within, attached_old, length-after_change, one_entry}
-use Rattle.protocol.proofs.Picturing.{put_here}
-use Rattle.protocol.proofs.Publishing.{legal_attach, live_cases}
-use Rattle.protocol.proofs.SectionKeeps.{none_from}
-use Rattle.protocol.proofs.Unlinking.{attached_before, legal_detach, was_there}
+use Rattle.protocol.proofs.history.Growing.{hold_was, hold_old}
+use Rattle.protocol.proofs.history.History.{at_new, at_within, attached_old, length-after_change, one_entry}
+use Rattle.protocol.proofs.model.Picturing.{put_here}
+use Rattle.protocol.proofs.keeps.Publishing.{legal_attach, live_cases}
+use Rattle.protocol.proofs.keeps.SectionKeeps.{none_from}
+use Rattle.protocol.proofs.keeps.Unlinking.{attached_before, legal_detach, was_there}
 use Rattle.registry_report.specs.Answers.{attach_answer, attach_iface_answer, detach_answer, entry_in, found_or, given_entry, has_room, hitched, is_inside, is_plain, lookup_now, next_entry, plain_slot, plug_answer, with_label}
 use Rattle.registry_report.specs.Changes.{entry_of, is_driver_entry, is_driver_number}
 use Rattle.registry_report.specs.Registry.{Registry}

@@ -12,9 +12,9 @@ use Rattle.registry_values.specs.Marks.{least_below}
 use Rattle.passive_core.specs.Advancing.{stage_of}
 use Rattle.protocol.specs.History.{EndsAt}
 use Rattle.protocol.specs.Model.{Model, put, with_locals, IsUnheld, Stays, Goes_on, Gives_up, Uncounts, Vacates}
-use Rattle.protocol.proofs.History.{at_within}
+use Rattle.protocol.proofs.history.History.{at_within}
 use Rattle.registry_values.proofs.Least.{least_none}
-use Rattle.protocol.proofs.Picturing.{put_here, put_is, put_other, two_steps}
+use Rattle.protocol.proofs.model.Picturing.{put_here, put_is, put_other, two_steps}
 use Rattle.registry_report.specs.Answers.{advance_answer, has_passive, has_section, held, is_inside, is_this, plain_stage, retired_slot, slot_of, stage_in}
 use Rattle.registry_report.specs.Changes.{end_of, has_ended, may_hold}
 use Rattle.registry_report.specs.Registry.{Registry}
@@ -22,7 +22,7 @@ use Rattle.registry_report.specs.Sound.{IsSound, IsSoundModel, IsLawfulTurn}
 use Rattle.registry_report.specs.Turns.{after_advance, after_destroy, freed, staged}
 use Rattle.registry_report.proofs.Lookups.{end_tells}
 use Rattle.registry_report.proofs.sound.Turns.{count_none, idle_turn, is_this_own, is_this_tells, labelled_counts, least_some, not_ok, ok_turn, put_none, same_ok, still_beside}
-use Rattle.protocol.proofs.SectionKeeps.{some_from}
+use Rattle.protocol.proofs.keeps.SectionKeeps.{some_from}
 
 -- What a stage tells
 

@@ -9,8 +9,8 @@ use Rattle.registry_values.specs.declared.slot.Key.{Key}
 use Rattle.protocol.specs.History.{IsLawful, IsLiveAt, IsLookup}
 use Rattle.protocol.specs.Model.{Lookup, Model, put, IsModelRun, Stays, Goes_on, Answers, Enters, Exits, Seeks, Sees}
 use Rattle.registry_values.proofs.Least.{none_is}
-use Rattle.protocol.proofs.History.{at_within}
-use Rattle.protocol.proofs.Picturing.{Alike, put_here, put_is, put_other, same_model}
+use Rattle.protocol.proofs.history.History.{at_within}
+use Rattle.protocol.proofs.model.Picturing.{Alike, put_here, put_is, put_other, same_model}
 use Rattle.registry_report.specs.declared.hitch.Hitch.{Hitch}
 use Rattle.registry_report.specs.declared.hitch.Hitch.TheVariants.{NotInside}
 use Rattle.registry_report.specs.Answers.{enter_answer, exit_answer, find_answer, is_inside, lookup_now}
@@ -19,7 +19,7 @@ use Rattle.registry_report.specs.Sound.{IsSound, IsSoundModel, IsLawfulTurn}
 use Rattle.registry_report.specs.Turns.{begun_section, entered, exited, looked_up, on_ok, seeing}
 use Rattle.registry_report.proofs.Lookups.{lookup_is}
 use Rattle.registry_report.proofs.sound.Turns.{ok_turn, put_capped, put_cases, put_none, same_ok, still_there, then_ok}
-use Rattle.protocol.proofs.SectionKeeps.{some_from}
+use Rattle.protocol.proofs.keeps.SectionKeeps.{some_from}
 
 -- Enter
 

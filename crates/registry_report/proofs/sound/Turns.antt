@@ -8,7 +8,7 @@ use Rattle.std.proofs.lemmas.Option.{none-some, same_Some}
 use Rattle.registry_values.specs.Marks.{least_below, or_next}
 use Rattle.protocol.specs.Invariant.{one_if}
 use Rattle.protocol.specs.Model.{put, Stays}
-use Rattle.protocol.proofs.Picturing.{join_runs, put_here, put_other}
+use Rattle.protocol.proofs.model.Picturing.{join_runs, put_here, put_other}
 use Rattle.registry_values.specs.declared.refusal.Refusal.{Refusal}
 use Rattle.registry_report.specs.declared.hitch.Hitch.{Hitch}
 use Rattle.registry_report.specs.declared.hitch.Hitch.TheVariants.{Refused}
@@ -19,7 +19,7 @@ use Rattle.registry_report.specs.Turns.{on_ok}
 use Rattle.registry_values.specs.declared.settings.Settings.{Settings}
 use Rattle.registry_values.specs.declared.entry.Change.TheVariants.{Attach, Detach}
 use Rattle.protocol.specs.History.{IsLegal}
-use Rattle.protocol.proofs.History.{at_empty}
+use Rattle.protocol.proofs.history.History.{at_empty}
 
 -- A function with one value put
 

@@ -1,4 +1,4 @@
-use Rattle.cpu_words.proofs.Honest.{drained_is_free, marks_are_honest, found_is_held}
+use Rattle.cpu_words.proofs.laws.Honest.{drained_is_free, marks_are_honest, found_is_held}
 use Rattle.cpu_words.proofs.headline.honest_marks.Goals as goal
 
 pub returns-clause-drained : goal.returns-clause-drained

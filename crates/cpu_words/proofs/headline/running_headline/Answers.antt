@@ -1,5 +1,5 @@
-use Rattle.cpu_words.proofs.Safety.{running_headline}
-use Rattle.cpu_words.proofs.Holders.{held_have_slots}
+use Rattle.cpu_words.proofs.laws.Safety.{running_headline}
+use Rattle.cpu_words.proofs.laws.Holders.{held_have_slots}
 use Rattle.cpu_words.proofs.headline.running_headline.Goals as goal
 
 pub returns-clause-run : goal.returns-clause-run

@@ -1,4 +1,4 @@
-use Rattle.cpu_words.proofs.Apart.{lines_apart, one_place}
+use Rattle.cpu_words.proofs.shown.Apart.{lines_apart, one_place}
 use Rattle.cpu_words.proofs.layout.layout_law.Goals as goal
 
 pub returns-clause-lines_apart : goal.returns-clause-lines_apart

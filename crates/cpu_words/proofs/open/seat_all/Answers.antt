@@ -2,7 +2,7 @@ use Rattle.std.proofs.Common.{◌≤◌, ◌+◌, List, ap, ◌∙◌, sym, subs
 use Rattle.cpu_words.specs.declared.view.CpuView.{CpuView}
 use Rattle.cpu_words.specs.Views.{Seated}
 use Rattle.cpu_words.specs.Opening.{AreSeats, one_seated}
-use Rattle.cpu_words.proofs.Opening.{more_seats, seat_is}
+use Rattle.cpu_words.proofs.seats.Opening.{more_seats, seat_is}
 use Rattle.cpu_words.proofs.open.seat_all.Goals as goal
 
 pub loop-preserved : goal.loop-preserved

@@ -1,7 +1,7 @@
 use Rattle.std.proofs.Common.{sym, ◌∙◌}
 use Rattle.protocol.specs.declared.event.Event.TheVariants.{KeptSub}
 use Rattle.protocol.specs.declared.event.Reply.TheVariants.{Done}
-use Rattle.cpu_words.proofs.Pictures.{pictured_by}
+use Rattle.cpu_words.proofs.shown.Pictures.{pictured_by}
 use Rattle.passive_list.specs.Keepers.{row_at}
 use Rattle.local_count.proofs.Freed.{keeps_on, keeps_at, may_free, freed_keeper, has_freed}
 use Rattle.local_count.proofs.Subtracting.{held_row}

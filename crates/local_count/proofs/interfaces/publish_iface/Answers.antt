@@ -12,7 +12,7 @@ use Rattle.cpu_words.specs.declared.view.ReferenceView.{ReferenceView}
 use Rattle.cpu_words.specs.declared.view.View.TheVariants.{Keeper, Reference}
 use Rattle.cpu_words.specs.Steps.{JoinsBy}
 use Rattle.cpu_words.specs.Vacating.{as_vacant}
-use Rattle.cpu_words.proofs.Pictures.{pictured_by}
+use Rattle.cpu_words.proofs.shown.Pictures.{pictured_by}
 use Rattle.passive_list.specs.Keepers.{OnKeeper, row_at, state_of, states_of}
 use Rattle.passive_list.specs.Publishing.{MayAttach, HasEntry, prepared}
 use Rattle.passive_list.proofs.Attached.{published_keeper, row_live}

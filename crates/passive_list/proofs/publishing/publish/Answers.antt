@@ -4,7 +4,7 @@ use Rattle.registry_values.specs.declared.entry.Entry.{Entry}
 use Rattle.protocol.specs.declared.event.Event.TheVariants.{Publish}
 use Rattle.protocol.specs.declared.event.Reply.TheVariants.{Done}
 use Rattle.registry_values.specs.declared.settings.Settings.{Settings}
-use Rattle.cpu_words.proofs.Pictures.{pictured_by}
+use Rattle.cpu_words.proofs.shown.Pictures.{pictured_by}
 use Rattle.passive_list.specs.Keepers.{OnKeeper, row_at, state_of, states_of}
 use Rattle.passive_list.specs.Publishing.{MayAttach, HasAttached, prepared}
 use Rattle.passive_list.proofs.Attached.{ask, published_keeper, row_live}

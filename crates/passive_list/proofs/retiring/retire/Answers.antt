@@ -6,7 +6,7 @@ use Rattle.protocol.specs.declared.event.Reply.TheVariants.{Done}
 use Rattle.cpu_words.specs.declared.view.KeeperView.{KeeperView}
 use Rattle.cpu_words.specs.declared.view.View.TheVariants.{Keeper}
 use Rattle.cpu_words.specs.Steps.{Makes}
-use Rattle.cpu_words.proofs.Pictures.{pictured_by}
+use Rattle.cpu_words.proofs.shown.Pictures.{pictured_by}
 use Rattle.passive_list.specs.Keepers.{OnKeeper, row_at, state_of, states_of}
 use Rattle.passive_list.specs.Retiring.{AreSnapshots, HasDetached}
 use Rattle.passive_list.proofs.Rows.{state_at, live_in}

@@ -1,7 +1,7 @@
 use Rattle.std.proofs.Common.{◌∙◌, Some, arith}
 use Rattle.protocol.specs.declared.event.Event.TheVariants.{Snapshot}
 use Rattle.protocol.specs.declared.event.Reply.TheVariants.{Word}
-use Rattle.cpu_words.proofs.Pictures.{pictured_by}
+use Rattle.cpu_words.proofs.shown.Pictures.{pictured_by}
 use Rattle.passive_list.proofs.Taking.{taking_next, one_taken}
 use Rattle.passive_list.proofs.retiring.snapshots.Goals as goal
 

@@ -1,5 +1,5 @@
-use Rattle.protocol.proofs.LawsReuse.{every_run_keeps}
-use Rattle.protocol.proofs.Refining.{every_run_is_model_run}
+use Rattle.protocol.proofs.runs.Reuse.{every_run_keeps}
+use Rattle.protocol.proofs.model.Refining.{every_run_is_model_run}
 use Rattle.protocol.proofs.laws.every_run_keeps.Goals as goal
 
 pub returns-clause-keeps : goal.returns-clause-keeps

@@ -1,4 +1,4 @@
-use Rattle.protocol.proofs.LawsHeadline.{headline}
+use Rattle.protocol.proofs.runs.Headline.{headline}
 use Rattle.protocol.proofs.laws.headline.Goals as goal
 
 pub returns : goal.returns

@@ -1,4 +1,4 @@
-use Rattle.protocol.proofs.LawsRows.{frozen_link, collect_race}
+use Rattle.protocol.proofs.runs.Rows.{frozen_link, collect_race}
 use Rattle.protocol.proofs.laws.worked_run.Goals as goal
 
 pub returns-clause-frozen_link : goal.returns-clause-frozen_link

@@ -1,4 +1,4 @@
-use Rattle.cpu_words.proofs.Opening.{opens}
+use Rattle.cpu_words.proofs.seats.Opening.{opens}
 use Rattle.cpu_words.proofs.law.Words.opening.Goals as goal
 
 pub of_words-requires : goal.of_words-requires

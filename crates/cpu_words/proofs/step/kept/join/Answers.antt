@@ -4,7 +4,7 @@ use Rattle.cpu_words.specs.declared.view.KeeperView.{KeeperView}
 use Rattle.cpu_words.specs.declared.view.ReferenceView.{ReferenceView}
 use Rattle.cpu_words.specs.declared.view.View.{View}
 use Rattle.cpu_words.specs.Views.{Seated}
-use Rattle.cpu_words.proofs.Keeping.{keeps_seats, keep_by, is_vacated}
+use Rattle.cpu_words.proofs.by_keeper.Keeping.{keeps_seats, keep_by, is_vacated}
 use Rattle.cpu_words.proofs.step.kept.join.Goals as goal
 
 pub join_seat-requires : goal.join_seat-requires

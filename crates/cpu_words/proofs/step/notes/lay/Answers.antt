@@ -1,7 +1,7 @@
 use Rattle.std.proofs.Common.{rules, arith, ap, ℕ}
 use Rattle.atomic_table.specs.Table.{Me}
 use Rattle.cpu_words.specs.declared.view.View.{View}
-use Rattle.cpu_words.proofs.Notes.{cpu_joins}
+use Rattle.cpu_words.proofs.seats.Notes.{cpu_joins}
 use Rattle.cpu_words.proofs.step.notes.lay.Goals as goal
 
 pub join_seat-requires : goal.join_seat-requires

@@ -1,4 +1,4 @@
-use Rattle.cpu_words.proofs.Draining.{collect_may}
+use Rattle.cpu_words.proofs.by_keeper.Draining.{collect_may}
 use Rattle.cpu_words.proofs.steps.drain.collect.Goals as goal
 
 pub swap-requires-clause-may : goal.swap-requires-clause-may

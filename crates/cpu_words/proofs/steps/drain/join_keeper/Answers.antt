@@ -4,7 +4,7 @@ use Rattle.cpu_words.specs.declared.view.KeeperView.{KeeperView}
 use Rattle.cpu_words.specs.declared.view.ReferenceView.{ReferenceView}
 use Rattle.cpu_words.specs.declared.view.View.{View}
 use Rattle.cpu_words.specs.Views.{Seated}
-use Rattle.cpu_words.proofs.Totals.{joins_keeper, join_keeper_by}
+use Rattle.cpu_words.proofs.by_keeper.Totals.{joins_keeper, join_keeper_by}
 use Rattle.cpu_words.proofs.steps.drain.join_keeper.Goals as goal
 
 pub join_seat-requires : goal.join_seat-requires

@@ -1,4 +1,4 @@
-use Rattle.cpu_words.proofs.KeptDrivers.{kept_sub_may, kept_sub_change}
+use Rattle.cpu_words.proofs.by_keeper.KeptDrivers.{kept_sub_may, kept_sub_change}
 use Rattle.cpu_words.proofs.steps.drain.kept_sub.Goals as goal
 
 pub subtract-requires-clause-may : goal.subtract-requires-clause-may

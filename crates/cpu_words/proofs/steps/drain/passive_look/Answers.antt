@@ -1,4 +1,4 @@
-use Rattle.cpu_words.proofs.Draining.{passive_look_may}
+use Rattle.cpu_words.proofs.by_keeper.Draining.{passive_look_may}
 use Rattle.cpu_words.proofs.steps.drain.passive_look.Goals as goal
 
 pub load-requires-clause-may : goal.load-requires-clause-may

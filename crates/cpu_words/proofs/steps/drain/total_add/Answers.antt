@@ -1,4 +1,4 @@
-use Rattle.cpu_words.proofs.Totals.{total_add_may}
+use Rattle.cpu_words.proofs.by_keeper.Totals.{total_add_may}
 use Rattle.cpu_words.proofs.steps.drain.total_add.Goals as goal
 
 pub store-requires-clause-may : goal.store-requires-clause-may

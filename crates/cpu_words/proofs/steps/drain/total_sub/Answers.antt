@@ -1,4 +1,4 @@
-use Rattle.cpu_words.proofs.Totals.{total_sub_may}
+use Rattle.cpu_words.proofs.by_keeper.Totals.{total_sub_may}
 use Rattle.cpu_words.proofs.steps.drain.total_sub.Goals as goal
 
 pub subtract-requires-clause-may : goal.subtract-requires-clause-may

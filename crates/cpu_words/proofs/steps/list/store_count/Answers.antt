@@ -1,4 +1,4 @@
-use Rattle.cpu_words.proofs.Storing.{store_count_may}
+use Rattle.cpu_words.proofs.by_keeper.Storing.{store_count_may}
 use Rattle.cpu_words.proofs.steps.list.store_count.Goals as goal
 
 pub store-requires-clause-may : goal.store-requires-clause-may

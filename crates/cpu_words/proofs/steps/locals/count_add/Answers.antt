@@ -1,4 +1,4 @@
-use Rattle.cpu_words.proofs.Locals.{count_add_may}
+use Rattle.cpu_words.proofs.by_cpu.Locals.{count_add_may}
 use Rattle.cpu_words.proofs.steps.locals.count_add.Goals as goal
 
 pub add-requires-clause-may : goal.add-requires-clause-may

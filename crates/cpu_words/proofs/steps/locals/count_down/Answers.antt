@@ -1,5 +1,5 @@
 use Rattle.std.proofs.Common.{refl}
-use Rattle.cpu_words.proofs.Locals.{count_down_may}
+use Rattle.cpu_words.proofs.by_cpu.Locals.{count_down_may}
 use Rattle.cpu_words.proofs.steps.locals.count_down.Goals as goal
 
 pub compare_exchange-requires-clause-may : goal.compare_exchange-requires-clause-may

@@ -4,7 +4,7 @@ use Rattle.cpu_words.specs.declared.view.CpuView.{CpuView}
 use Rattle.cpu_words.specs.declared.view.ReferenceView.{ReferenceView}
 use Rattle.cpu_words.specs.declared.view.View.{View}
 use Rattle.cpu_words.specs.Views.{Seated}
-use Rattle.cpu_words.proofs.Hands.{seat_joins, seat_joins_by}
+use Rattle.cpu_words.proofs.by_cpu.Hands.{seat_joins, seat_joins_by}
 use Rattle.cpu_words.proofs.steps.locals.join_ref.Goals as goal
 
 pub join_seat-requires : goal.join_seat-requires

@@ -3,7 +3,7 @@ use Rattle.atomic_table.specs.Table.{Me}
 use Rattle.cpu_words.specs.declared.view.CpuView.{CpuView}
 use Rattle.cpu_words.specs.declared.view.View.{View}
 use Rattle.cpu_words.specs.Views.{Seated}
-use Rattle.cpu_words.proofs.Hands.{seat_splits, seat_splits_by, split_back_leaves}
+use Rattle.cpu_words.proofs.by_cpu.Hands.{seat_splits, seat_splits_by, split_back_leaves}
 use Rattle.cpu_words.proofs.steps.locals.split_back.Goals as goal
 
 pub split_seat-requires : goal.split_seat-requires

@@ -1,4 +1,4 @@
-use Rattle.cpu_words.proofs.Notes.{hear_laid_may, cpu_heard}
+use Rattle.cpu_words.proofs.seats.Notes.{hear_laid_may, cpu_heard}
 use Rattle.cpu_words.proofs.steps.notes.hear.Goals as goal
 
 pub load-requires-clause-may : goal.load-requires-clause-may

@@ -1,4 +1,4 @@
-use Rattle.cpu_words.proofs.Notes.{hear_keeper_laid_may, keeper_heard}
+use Rattle.cpu_words.proofs.seats.Notes.{hear_keeper_laid_may, keeper_heard}
 use Rattle.cpu_words.proofs.steps.notes.hear_keeper.Goals as goal
 
 pub load-requires-clause-may : goal.load-requires-clause-may

@@ -3,7 +3,7 @@ use Rattle.atomic_table.specs.Table.{Me}
 use Rattle.cpu_words.specs.declared.view.CpuView.{CpuView}
 use Rattle.cpu_words.specs.declared.view.View.{View}
 use Rattle.cpu_words.specs.Views.{Seated}
-use Rattle.cpu_words.proofs.Notes.{cpu_splits, cpu_splits_by}
+use Rattle.cpu_words.proofs.seats.Notes.{cpu_splits, cpu_splits_by}
 use Rattle.cpu_words.proofs.steps.notes.tell.Goals as goal
 
 pub split_seat-requires : goal.split_seat-requires

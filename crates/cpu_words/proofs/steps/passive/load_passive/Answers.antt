@@ -1,5 +1,5 @@
 use Rattle.std.proofs.Common.{refl}
-use Rattle.cpu_words.proofs.Passives.{load_may}
+use Rattle.cpu_words.proofs.by_cpu.Passives.{load_may}
 use Rattle.cpu_words.proofs.steps.passive.load_passive.Goals as goal
 
 pub load-requires-clause-may : goal.load-requires-clause-may

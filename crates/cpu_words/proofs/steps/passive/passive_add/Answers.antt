@@ -1,5 +1,5 @@
 use Rattle.std.proofs.Common.{refl}
-use Rattle.cpu_words.proofs.Passives.{add_may}
+use Rattle.cpu_words.proofs.by_cpu.Passives.{add_may}
 use Rattle.cpu_words.proofs.steps.passive.passive_add.Goals as goal
 
 pub add-requires-clause-may : goal.add-requires-clause-may

@@ -1,5 +1,5 @@
 use Rattle.std.proofs.Common.{refl}
-use Rattle.cpu_words.proofs.Passives.{sub_may}
+use Rattle.cpu_words.proofs.by_cpu.Passives.{sub_may}
 use Rattle.cpu_words.proofs.steps.passive.passive_sub.Goals as goal
 
 pub subtract-requires-clause-may : goal.subtract-requires-clause-may

@@ -1,4 +1,4 @@
-use Rattle.cpu_words.proofs.Publishing.{publish_may}
+use Rattle.cpu_words.proofs.by_keeper.Publishing.{publish_may}
 use Rattle.cpu_words.proofs.steps.publishing.publish.Goals as goal
 
 pub store-requires-clause-may : goal.store-requires-clause-may

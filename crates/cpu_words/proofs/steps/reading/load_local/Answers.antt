@@ -6,7 +6,7 @@ use Rattle.cpu_words.specs.declared.view.ReferenceView.{ReferenceView}
 use Rattle.cpu_words.specs.declared.view.View.TheVariants.{Reference}
 use Rattle.cpu_words.specs.Views.{Seated}
 use Rattle.cpu_words.specs.Steps.{Makes}
-use Rattle.cpu_words.proofs.Reading.{local_may}
+use Rattle.cpu_words.proofs.by_cpu.Reading.{local_may}
 use Rattle.cpu_words.proofs.steps.reading.load_local.Goals as goal
 
 pub load-requires-clause-may : goal.load-requires-clause-may

@@ -1,5 +1,5 @@
 use Rattle.std.proofs.Common.{arith}
-use Rattle.cpu_words.proofs.Searching.{load_link_may_by}
+use Rattle.cpu_words.proofs.by_cpu.Searching.{load_link_may_by}
 use Rattle.cpu_words.proofs.steps.search.load_link.Goals as goal
 
 pub load-requires-clause-may : goal.load-requires-clause-may

@@ -1,4 +1,4 @@
-use Rattle.cpu_words.proofs.Searching.{load_searched_may}
+use Rattle.cpu_words.proofs.by_cpu.Searching.{load_searched_may}
 use Rattle.cpu_words.proofs.steps.search.load_searched.Goals as goal
 
 pub load-requires-clause-may : goal.load-requires-clause-may

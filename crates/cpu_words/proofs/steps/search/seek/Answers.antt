@@ -1,4 +1,4 @@
-use Rattle.cpu_words.proofs.Searching.{seek_may}
+use Rattle.cpu_words.proofs.by_cpu.Searching.{seek_may}
 use Rattle.cpu_words.proofs.steps.search.seek.Goals as goal
 
 pub load-requires-clause-may : goal.load-requires-clause-may

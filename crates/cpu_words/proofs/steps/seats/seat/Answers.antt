@@ -3,7 +3,7 @@ use Rattle.atomic_table.specs.Table.{Me}
 use Rattle.cpu_words.specs.declared.view.KeeperView.{KeeperView}
 use Rattle.cpu_words.specs.declared.view.View.{View}
 use Rattle.cpu_words.specs.Views.{Seated}
-use Rattle.cpu_words.proofs.Seating.{seat_splits, seat_splits_by}
+use Rattle.cpu_words.proofs.seats.Seating.{seat_splits, seat_splits_by}
 use Rattle.cpu_words.proofs.steps.seats.seat.Goals as goal
 
 pub split_seat-requires : goal.split_seat-requires

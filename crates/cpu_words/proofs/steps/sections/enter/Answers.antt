@@ -1,4 +1,4 @@
-use Rattle.cpu_words.proofs.Sections.{enter_may}
+use Rattle.cpu_words.proofs.by_cpu.Sections.{enter_may}
 use Rattle.cpu_words.proofs.steps.sections.enter.Goals as goal
 
 pub add-requires-clause-may : goal.add-requires-clause-may

@@ -1,4 +1,4 @@
-use Rattle.cpu_words.proofs.Sections.{exit_may}
+use Rattle.cpu_words.proofs.by_cpu.Sections.{exit_may}
 use Rattle.cpu_words.proofs.steps.sections.exit.Goals as goal
 
 pub add-requires-clause-may : goal.add-requires-clause-may

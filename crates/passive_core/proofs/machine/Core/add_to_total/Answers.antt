@@ -3,9 +3,9 @@ use Rattle.protocol.specs.State.{State, total_at}
 use Rattle.passive_core.specs.Shown.{shown}
 use Rattle.protocol.specs.declared.event.Event.TheVariants.{TotalAdd}
 use Rattle.protocol.specs.declared.event.Reply.TheVariants.{Done}
-use Rattle.protocol.proofs.Keeping.{step_holds}
+use Rattle.protocol.proofs.keeps.Keeping.{step_holds}
 use Rattle.passive_core.proofs.machine.Core.add_to_total.Goals as goal
-use Rattle.protocol.proofs.Bounds.{adding_range}
+use Rattle.protocol.proofs.counts.Bounds.{adding_range}
 
 pub overflow_add-total : goal.overflow_add-total
 overflow_add-total c =

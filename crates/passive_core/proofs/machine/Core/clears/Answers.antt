@@ -6,7 +6,7 @@ use Rattle.registry_values.specs.Marks.{cleared}
 use Rattle.protocol.specs.Invariant.{Holds}
 use Rattle.protocol.specs.State.{State, mark_at, passive_at}
 use Rattle.passive_core.proofs.Advancing.{clear_left, examines_passive, guard_some, passive_clears, passive_look_is, passive_look_marks}
-use Rattle.protocol.proofs.MarkRows.{mark_there}
+use Rattle.protocol.proofs.slots.MarkRows.{mark_there}
 use Rattle.passive_core.proofs.machine.Core.clears.Goals as goal
 
 pub returns-then-mark_at-clause-answer : goal.returns-then-mark_at-clause-answer

@@ -3,10 +3,10 @@ use Rattle.protocol.specs.Invariant.{Holds}
 use Rattle.protocol.specs.Events.{step}
 use Rattle.passive_core.specs.Locals.{is_counting, with_count_less}
 use Rattle.protocol.specs.declared.event.Event.TheVariants.{JoinRef}
-use Rattle.protocol.proofs.CountKeeps.{idle_tells}
+use Rattle.protocol.proofs.keeps.CountKeeps.{idle_tells}
 use Rattle.passive_core.proofs.Locals.{back_allowed, counted_down, down_allowed, down_fell, down_went, gone_back, joins, live_slot, slot_is}
 use Rattle.passive_core.proofs.Passives.{made}
-use Rattle.protocol.proofs.References.{standing_tells}
+use Rattle.protocol.proofs.keeps.References.{standing_tells}
 use Rattle.passive_core.proofs.machine.Core.count_down.Goals as goal
 
 pub make-requires-2-clause-allowed : goal.make-requires-2-clause-allowed

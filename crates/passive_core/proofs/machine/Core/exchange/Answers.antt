@@ -5,9 +5,9 @@ use Rattle.passive_core.specs.Shown.{shown}
 use Rattle.registry_values.specs.Slots.{slot_of}
 use Rattle.protocol.specs.declared.event.Event.TheVariants.{CountDown}
 use Rattle.protocol.specs.declared.event.Reply.TheVariants.{Word, Collected}
-use Rattle.protocol.proofs.Keeping.{step_holds}
+use Rattle.protocol.proofs.keeps.Keeping.{step_holds}
 use Rattle.passive_core.proofs.machine.Core.exchange.Goals as goal
-use Rattle.protocol.proofs.Bounds.{counting_positive}
+use Rattle.protocol.proofs.counts.Bounds.{counting_positive}
 
 pub overflow_sub-word : goal.overflow_sub-word
 overflow_sub-word c =

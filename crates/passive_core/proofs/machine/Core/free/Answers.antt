@@ -7,7 +7,7 @@ use Rattle.protocol.specs.declared.event.Event.TheVariants.{KeptSub}
 use Rattle.passive_core.proofs.Advancing.{allowed, gave_up, gives_up, guard_some, kept_slot, left_by, vacated, vacates}
 use Rattle.registry_values.proofs.Least.{none_is}
 use Rattle.passive_core.proofs.Acting.{made_is}
-use Rattle.protocol.proofs.SectionKeeps.{some_from}
+use Rattle.protocol.proofs.keeps.SectionKeeps.{some_from}
 use Rattle.passive_core.proofs.machine.Core.free.Goals as goal
 
 pub make-requires-clause-allowed : goal.make-requires-clause-allowed

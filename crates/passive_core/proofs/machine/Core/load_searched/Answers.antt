@@ -2,8 +2,8 @@ use Rattle.std.proofs.Common.{length, List, Some, sym, ap, subst, ◌∙◌}
 use Rattle.protocol.specs.State.{State, search_at}
 use Rattle.passive_core.specs.Shown.{shown}
 use Rattle.passive_core.proofs.machine.Core.load_searched.Goals as goal
-use Rattle.protocol.proofs.Loading.{loaded_keeps}
-use Rattle.protocol.proofs.Bounds.{search_within}
+use Rattle.protocol.proofs.keeps.Loading.{loaded_keeps}
+use Rattle.protocol.proofs.counts.Bounds.{search_within}
 use Rattle.protocol.specs.Invariant.{Holds}
 use Rattle.protocol.specs.Loaded.{SlotWithin, loaded, row_of_place}
 use Rattle.protocol.specs.declared.state.RecordWords.{RecordWords}

@@ -3,7 +3,7 @@ use Rattle.passive_core.specs.Advancing.{has_passive}
 use Rattle.protocol.specs.State.{State, mark_at}
 use borrow.Author.Count.{below_more}
 use Rattle.registry_values.proofs.Least.{least_is, none_below}
-use Rattle.protocol.proofs.MarkRows.{marks_grow_more}
+use Rattle.protocol.proofs.slots.MarkRows.{marks_grow_more}
 use Rattle.passive_core.proofs.Advancing.{not_false, not_true, only_marks, passive_same}
 use Rattle.passive_core.proofs.machine.Core.look_at_passive.Goals as goal
 

@@ -4,7 +4,7 @@ use Rattle.protocol.specs.Marking.{AllPassed}
 use Rattle.protocol.specs.Invariant.{Holds}
 use Rattle.registry_values.specs.Slots.{retired_number, is_retired, slot_at}
 use Rattle.protocol.specs.State.{State}
-use Rattle.protocol.proofs.Occupied.{in_within, is_retired_tells}
+use Rattle.protocol.proofs.slots.Occupied.{in_within, is_retired_tells}
 use Rattle.passive_core.proofs.Performing.{only_more, still_passed}
 use Rattle.passive_core.proofs.machine.Core.pass_all.Goals as goal
 

@@ -6,7 +6,7 @@ use Rattle.registry_values.specs.Marks.{looked}
 use Rattle.protocol.specs.Invariant.{Holds}
 use Rattle.protocol.specs.State.{State, section_at, mark_at}
 use Rattle.passive_core.proofs.Advancing.{look_is, look_marks, look_passes, passed_left}
-use Rattle.protocol.proofs.MarkRows.{mark_there}
+use Rattle.protocol.proofs.slots.MarkRows.{mark_there}
 use Rattle.passive_core.proofs.machine.Core.passes.Goals as goal
 
 pub returns-then-mark_at-clause-answer : goal.returns-then-mark_at-clause-answer

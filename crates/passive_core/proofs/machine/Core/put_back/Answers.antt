@@ -3,7 +3,7 @@ use Rattle.protocol.specs.State.{State, hand_at}
 use Rattle.passive_core.specs.Shown.{shown}
 use Rattle.protocol.specs.declared.event.Event.TheVariants.{SplitBack}
 use Rattle.protocol.specs.declared.event.Reply.TheVariants.{Ref}
-use Rattle.protocol.proofs.Keeping.{step_holds}
+use Rattle.protocol.proofs.keeps.Keeping.{step_holds}
 use Rattle.passive_core.proofs.machine.Core.put_back.Goals as goal
 
 pub invariant_of-self : goal.invariant_of-self

@@ -4,7 +4,7 @@ use Rattle.registry_values.specs.Balances.{bias}
 use Rattle.registry_values.specs.Slots.{slot_at}
 use Rattle.protocol.specs.State.{total_at}
 use Rattle.passive_core.proofs.Advancing.{drained_from, gathered_total, gathered_words, local_stage, free_stage}
-use Rattle.protocol.proofs.Occupied.{is_retired_tells}
+use Rattle.protocol.proofs.slots.Occupied.{is_retired_tells}
 use Rattle.passive_core.proofs.machine.Core.settle.Goals as goal
 
 pub overflow_sub-result : goal.overflow_sub-result

@@ -4,7 +4,7 @@ use Rattle.protocol.specs.Events.{least_id}
 use Rattle.passive_core.specs.Shown.{shown}
 use Rattle.protocol.specs.declared.event.Event.TheVariants.{SplitRef}
 use Rattle.protocol.specs.declared.event.Reply.TheVariants.{Ref}
-use Rattle.protocol.proofs.Keeping.{step_holds}
+use Rattle.protocol.proofs.keeps.Keeping.{step_holds}
 use Rattle.passive_core.proofs.machine.Core.split_in_place.Goals as goal
 
 pub invariant_of-self : goal.invariant_of-self

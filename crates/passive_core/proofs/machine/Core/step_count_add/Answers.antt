@@ -6,9 +6,9 @@ use Rattle.registry_values.specs.Slots.{slot_of}
 use Rattle.protocol.specs.Events.{may_count}
 use Rattle.protocol.specs.declared.event.Event.TheVariants.{CountAdd}
 use Rattle.protocol.specs.declared.event.Reply.TheVariants.{Word}
-use Rattle.protocol.proofs.Keeping.{step_holds}
+use Rattle.protocol.proofs.keeps.Keeping.{step_holds}
 use Rattle.passive_core.proofs.machine.Core.step_count_add.Goals as goal
-use Rattle.protocol.proofs.Bounds.{counted_room}
+use Rattle.protocol.proofs.counts.Bounds.{counted_room}
 
 pub overflow_add-word : goal.overflow_add-word
 overflow_add-word c =

@@ -3,7 +3,7 @@ use Rattle.std.proofs.lemmas.List.{get_or_read}
 use Rattle.protocol.specs.State.{State}
 use Rattle.passive_core.specs.Shown.{shown}
 use Rattle.passive_core.proofs.machine.Core.step_count_down.Goals as goal
-use Rattle.protocol.proofs.Bounds.{giving_within}
+use Rattle.protocol.proofs.counts.Bounds.{giving_within}
 use Rattle.protocol.specs.declared.state.Hand.TheVariants.{Empty}
 
 pub exchange-requires-clause-place : goal.exchange-requires-clause-place

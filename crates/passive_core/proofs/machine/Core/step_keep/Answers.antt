@@ -5,7 +5,7 @@ use Rattle.registry_values.specs.Slots.{slot_of}
 use Rattle.protocol.specs.Events.{may_keep, standing}
 use Rattle.protocol.specs.declared.event.Event.TheVariants.{Keep}
 use Rattle.protocol.specs.declared.event.Reply.TheVariants.{Done}
-use Rattle.protocol.proofs.Keeping.{step_holds}
+use Rattle.protocol.proofs.keeps.Keeping.{step_holds}
 use Rattle.passive_core.proofs.machine.Core.step_keep.Goals as goal
 
 pub invariant_of-self : goal.invariant_of-self

@@ -5,9 +5,9 @@ use Rattle.passive_core.specs.Shown.{shown}
 use Rattle.protocol.specs.Events.{is_drained, is_iface_slot}
 use Rattle.protocol.specs.declared.event.Event.TheVariants.{KeptSub}
 use Rattle.protocol.specs.declared.event.Reply.TheVariants.{Done}
-use Rattle.protocol.proofs.Keeping.{step_holds}
+use Rattle.protocol.proofs.keeps.Keeping.{step_holds}
 use Rattle.passive_core.proofs.machine.Core.step_kept_sub.Goals as goal
-use Rattle.protocol.proofs.Bounds.{driver_positive}
+use Rattle.protocol.proofs.counts.Bounds.{driver_positive}
 
 pub overflow_sub-total : goal.overflow_sub-total
 overflow_sub-total c =

@@ -3,7 +3,7 @@ use Rattle.std.proofs.lemmas.List.{get_or_read}
 use Rattle.protocol.specs.State.{State, search_at}
 use Rattle.passive_core.specs.Shown.{shown}
 use Rattle.passive_core.proofs.machine.Core.step_load_link.Goals as goal
-use Rattle.protocol.proofs.Loading.{head_keeps, next_keeps, head_bound, next_bound}
+use Rattle.protocol.proofs.keeps.Loading.{head_keeps, next_keeps, head_bound, next_bound}
 use Rattle.protocol.specs.Events.{link_loaded, load_link, with_some}
 use Rattle.protocol.specs.declared.state.Search.{Search}
 use Rattle.protocol.specs.Taken.{Keeps}

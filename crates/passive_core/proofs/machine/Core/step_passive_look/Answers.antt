@@ -5,7 +5,7 @@ use Rattle.passive_core.specs.Shown.{shown}
 use Rattle.protocol.specs.Events.{may_look_passive}
 use Rattle.protocol.specs.declared.event.Event.TheVariants.{PassiveLook}
 use Rattle.protocol.specs.declared.event.Reply.TheVariants.{Word}
-use Rattle.protocol.proofs.Keeping.{step_holds}
+use Rattle.protocol.proofs.keeps.Keeping.{step_holds}
 use Rattle.passive_core.proofs.machine.Core.step_passive_look.Goals as goal
 
 pub invariant_of-self : goal.invariant_of-self

@@ -6,7 +6,7 @@ use Rattle.registry_values.specs.Slots.{slot_of}
 use Rattle.protocol.specs.Events.{may_sub}
 use Rattle.protocol.specs.declared.event.Event.TheVariants.{PassiveSub}
 use Rattle.protocol.specs.declared.event.Reply.TheVariants.{Word}
-use Rattle.protocol.proofs.Keeping.{step_holds}
+use Rattle.protocol.proofs.keeps.Keeping.{step_holds}
 use Rattle.passive_core.proofs.machine.Core.step_passive_sub.Goals as goal
 
 pub invariant_of-self : goal.invariant_of-self

@@ -4,7 +4,7 @@ use Rattle.passive_core.specs.Shown.{shown}
 use Rattle.protocol.specs.Events.{may_seek}
 use Rattle.protocol.specs.declared.event.Event.TheVariants.{Seek}
 use Rattle.protocol.specs.declared.event.Reply.TheVariants.{Done}
-use Rattle.protocol.proofs.Keeping.{step_holds}
+use Rattle.protocol.proofs.keeps.Keeping.{step_holds}
 use Rattle.passive_core.proofs.machine.Core.step_seek.Goals as goal
 
 pub invariant_of-self : goal.invariant_of-self

@@ -5,7 +5,7 @@ use Rattle.passive_core.specs.Shown.{shown}
 use Rattle.protocol.specs.Events.{may_write}
 use Rattle.protocol.specs.declared.event.Event.TheVariants.{StoreSlot}
 use Rattle.protocol.specs.declared.event.Reply.TheVariants.{Done}
-use Rattle.protocol.proofs.Keeping.{step_holds}
+use Rattle.protocol.proofs.keeps.Keeping.{step_holds}
 use Rattle.passive_core.proofs.machine.Core.store_count.Goals as goal
 use Rattle.std.proofs.lemmas.Bool.{lt-ltb, le-ltb}
 

@@ -4,7 +4,7 @@ use Rattle.passive_core.specs.Shown.{shown}
 use Rattle.protocol.specs.Events.{may_write}
 use Rattle.protocol.specs.declared.event.Event.TheVariants.{StoreSlot}
 use Rattle.protocol.specs.declared.event.Reply.TheVariants.{Done}
-use Rattle.protocol.proofs.Keeping.{step_holds}
+use Rattle.protocol.proofs.keeps.Keeping.{step_holds}
 use Rattle.passive_core.proofs.machine.Core.store_record.Goals as goal
 
 pub invariant_of-self : goal.invariant_of-self

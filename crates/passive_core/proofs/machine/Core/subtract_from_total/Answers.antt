@@ -3,9 +3,9 @@ use Rattle.protocol.specs.State.{State, total_at}
 use Rattle.passive_core.specs.Shown.{shown}
 use Rattle.protocol.specs.declared.event.Event.TheVariants.{TotalSub}
 use Rattle.protocol.specs.declared.event.Reply.TheVariants.{Done}
-use Rattle.protocol.proofs.Keeping.{step_holds}
+use Rattle.protocol.proofs.keeps.Keeping.{step_holds}
 use Rattle.passive_core.proofs.machine.Core.subtract_from_total.Goals as goal
-use Rattle.protocol.proofs.Bounds.{subtracting_range}
+use Rattle.protocol.proofs.counts.Bounds.{subtracting_range}
 
 pub overflow_sub-total : goal.overflow_sub-total
 overflow_sub-total c =

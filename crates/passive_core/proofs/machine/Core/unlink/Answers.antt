@@ -4,7 +4,7 @@ use Rattle.registry_values.specs.Slots.{slot_at, slot_before}
 use Rattle.passive_core.specs.Shown.{shown}
 use Rattle.protocol.specs.declared.event.Event.TheVariants.{Unpublish}
 use Rattle.protocol.specs.declared.event.Reply.TheVariants.{Done}
-use Rattle.protocol.proofs.Keeping.{step_holds}
+use Rattle.protocol.proofs.keeps.Keeping.{step_holds}
 use Rattle.passive_core.proofs.machine.Core.unlink.Goals as goal
 use Rattle.passive_core.proofs.machine.Core.unlink.Goals.{in-Some, in-None}
 

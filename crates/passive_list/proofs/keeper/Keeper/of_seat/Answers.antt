@@ -1,7 +1,7 @@
 use Rattle.std.proofs.Common.{◌≡◌, sym, ap, subst, arith, length, replicate}
 use Rattle.cpu_words.specs.declared.view.KeeperView.{KeeperView}
 use Rattle.cpu_words.specs.Rule.{IsPictured}
-use Rattle.cpu_words.proofs.Pictures.{pictured_first}
+use Rattle.cpu_words.proofs.shown.Pictures.{pictured_first}
 use Rattle.passive_list.specs.Keepers.{IsAtRest, RowsAgree}
 use Rattle.passive_list.proofs.Rows.{first_row, new_at_rest, new_rows}
 use Rattle.passive_list.proofs.keeper.Keeper.of_seat.Goals as goal

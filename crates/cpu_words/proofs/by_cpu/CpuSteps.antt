@@ -1,0 +1,199 @@
+-- A step of a CPU's seat: what it changes in the core, why the other views stay, and that it is its event.
+use Rattle.std.proofs.Common.{◌≡◌, ◌≢◌, ℕ, ◌≤◌, ◌<◌, List, length, take, get_or, set, sum_by, Option, Some, None, refl, sym, ap, ◌∙◌, subst, arith, []}
+use mathlib.Core.Option.{some}
+use lib.ListN.{get_elem?}
+use Rattle.atomic_table.specs.Table.{State as Table, keeps, stepped}
+use Rattle.registry_values.specs.declared.entry.Entry.{Entry}
+use Rattle.registry_values.specs.declared.entry.Change.{Change}
+use Rattle.registry_values.specs.declared.settings.Settings.{Settings}
+use Rattle.protocol.specs.declared.event.Event.{Event}
+use Rattle.protocol.specs.declared.event.Reply.{Reply}
+use Rattle.registry_values.specs.declared.slot.Slot.TheVariants.{Vacant, Retired}
+use Rattle.protocol.specs.declared.state.Search.{Search}
+use Rattle.protocol.specs.declared.state.Hand.{Hand}
+use Rattle.protocol.specs.declared.state.Hand.TheVariants.{Empty}
+use Rattle.protocol.specs.declared.state.LocalPlace.{LocalPlace}
+use Rattle.protocol.specs.History.{IsAttached}
+use Rattle.protocol.specs.State.{State, section_at, begin_at, depth_at, seen_at, search_at, found_at, hand_at, passive_at, count_at}
+use Rattle.registry_values.specs.Slots.{slot_at}
+use Rattle.protocol.specs.Events.{step}
+use Rattle.protocol.specs.Invariant.{standing_of}
+use Rattle.protocol.proofs.keeps.Keeping.{step_holds}
+use Rattle.cpu_words.specs.declared.view.CpuView.{CpuView}
+use Rattle.cpu_words.specs.declared.view.View.{View}
+use Rattle.cpu_words.specs.declared.view.View.TheVariants.{Keeper, Cpu, Reference, Note, Spent}
+use Rattle.cpu_words.specs.Views.{CpuOwn, own_of, cpu_view, SameHand, depth_of, GivesUp, CpuShown}
+use Rattle.cpu_words.specs.Rule.{Agrees, IsFresh, Good, Ruled}
+use Rattle.cpu_words.specs.Steps.{Makes}
+use Rattle.cpu_words.proofs.shown.Showing.{standing_in, Stay, shows_set}
+use Rattle.cpu_words.proofs.laws.Reaching.{reached_more}
+use Rattle.cpu_words.proofs.shown.Passes.{attached_longer}
+
+-- what an event of a CPU can change in the core
+pub record CpuLists : Type 0 where
+  pub section : List ℕ
+  pub begins : List (Option ℕ)
+  pub depths : List ℕ
+  pub seen : List ℕ
+  pub searches : List (Option Search)
+  pub found : List (Option Entry)
+  pub hands : List Hand
+  pub passive : List (List ℕ)
+  pub counts : List (List ℕ)
+  pub nets : List (List ℕ)
+  pub locals : List LocalPlace
+
+abbrev pub lists_of : State → CpuLists
+lists_of g = record { section = g.section; begins = g.begins; depths = g.depths; seen = g.seen; searches = g.searches; found = g.found; hands = g.hands; passive = g.passive; counts = g.counts; nets = g.nets; locals = g.locals }
+
+abbrev pub with_lists : State → CpuLists → State
+with_lists g l = record g { section = l.section; begins = l.begins; depths = l.depths; seen = l.seen; searches = l.searches; found = l.found; hands = l.hands; passive = l.passive; counts = l.counts; nets = l.nets; locals = l.locals }
+
+-- the lists are changed at c alone, and what the keeper counts stays
+pub record LeavesOthers (g : State) (c : ℕ) (l : CpuLists) : Type 0 where
+  pub section : (d : ℕ) → d ≢ c → get_or l.section d 0 ≡ section_at g d
+  pub begins : (d : ℕ) → d ≢ c → get_or l.begins d None ≡ begin_at g d
+  pub depths : (d : ℕ) → d ≢ c → get_or l.depths d 0 ≡ depth_at g d
+  pub seen : (d : ℕ) → d ≢ c → get_or l.seen d 0 ≡ seen_at g d
+  pub searches : (d : ℕ) → d ≢ c → get_or l.searches d None ≡ search_at g d
+  pub found : (d : ℕ) → d ≢ c → get_or l.found d None ≡ found_at g d
+  pub hands : (d : ℕ) → d ≢ c → get_or l.hands d Empty ≡ hand_at g d
+  pub passive : (d t : ℕ) → d ≢ c → passive_at l.passive d t ≡ passive_at g.passive d t
+  pub nets : (d t : ℕ) → d ≢ c → count_at l.nets d t ≡ count_at g.nets d t
+  pub vacant : (d t : ℕ) → slot_at g.slots t ≡ Vacant → count_at l.counts d t ≡ count_at g.counts d t
+  pub gives_up : (given_up : List ℕ) (t : ℕ) (e : Entry) → slot_at g.slots t ≡ Retired e → GivesUp g given_up t e.number → GivesUp (with_lists g l) given_up t e.number
+
+other_view : (g : State) (l : CpuLists) (c d : ℕ) (own : CpuOwn) → LeavesOthers g c l → d ≢ c → cpu_view g d own ≡ cpu_view (with_lists g l) d own
+other_view g l c d own leaves ne n = record {
+  settings = g.settings;
+  id = d;
+  section = sym (leaves.section d ne) n;
+  begin = sym (leaves.begins d ne) n;
+  pass = take (sym (leaves.seen d ne) n) g.history;
+  search = sym (leaves.searches d ne) n;
+  found = sym (leaves.found d ne) n;
+  hand = own.hand;
+  references = own.references;
+  acquired = own.acquired;
+  released = own.released;
+  met = own.met;
+  heard = own.heard;
+}
+
+pub cpu_stays : (g : State) (l : CpuLists) (c : ℕ) (seat : ℕ → ℕ) (i : ℕ) → LeavesOthers g c l → i ≡ seat c → Stay g (with_lists g l) seat i
+cpu_stays g l c seat i leaves mine j (Keeper k) ne sits shown backed = record {
+  is = shown.is;
+  counts = λ d t vacant. leaves.vacant d t vacant ∙ shown.counts d t vacant;
+  sized = shown.sized;
+  rows = shown.rows;
+  live_total = shown.live_total;
+  gives_up = λ t e here. leaves.gives_up k.given_up t e here (shown.gives_up t e here);
+  later = shown.later;
+  beyond = shown.beyond;
+  heard = shown.heard;
+}
+cpu_stays g l c seat i leaves mine j (Cpu y) ne sits shown backed =
+    let other : y.id ≢ c = λ e. ne (sits ∙ ap seat e ∙ sym mine) in record {
+      seated = shown.seated;
+      is = shown.is ∙ other_view g l c y.id (own_of y) leaves other;
+      hand = subst (λ h. SameHand h y.hand) (sym (leaves.hands y.id other)) shown.hand;
+      in_hand = shown.in_hand;
+      depth = leaves.depths y.id other ∙ shown.depth;
+      passive = λ t e here. leaves.passive y.id t other ∙ shown.passive t e here;
+      gone = shown.gone;
+      nets = λ t e here. let same = leaves.nets y.id t other in let was = shown.nets t e here in omega arith;
+      later = shown.later;
+      met = shown.met;
+      there = shown.there;
+      found = shown.found;
+      references = shown.references;
+      heard = shown.heard;
+    }
+cpu_stays g l c seat i leaves mine j (Reference v) ne sits shown backed = record { attached = shown.attached; collected = shown.collected }
+cpu_stays g l c seat i leaves mine j (Note h) ne sits shown backed = shown
+cpu_stays g l c seat i leaves mine j Spent ne sits shown backed = tt
+
+pub fresh_stays : (g : State) (l : CpuLists) (c : ℕ) → LeavesOthers g c l → c < g.seated → (d : ℕ) → g.seated ≤ d → IsFresh g d → IsFresh (with_lists g l) d
+fresh_stays g l c leaves lt d le fresh =
+    let other : d ≢ c = λ e. absurd (omega arith) in record {
+      section = leaves.section d other ∙ fresh.section;
+      depth = leaves.depths d other ∙ fresh.depth;
+      seen = leaves.seen d other ∙ fresh.seen;
+      passive = λ t. leaves.passive d t other ∙ fresh.passive t;
+      nets = λ t e here. leaves.nets d t other ∙ fresh.nets t e here;
+    }
+
+pub good_after : (g : State) (l : CpuLists) (c : ℕ) (e : Event) (r : Reply) → Good g → LeavesOthers g c l → c < g.seated → step g e ≡ Some (record { state = with_lists g l; reply = r }) → Good (with_lists g l)
+good_after g l c e r good leaves lt made = record {
+  holds = step_holds g (with_lists g l) e r good.holds made;
+  fresh = λ d le within. fresh_stays g l c leaves lt d le (good.fresh d le within);
+}
+
+-- a CPU's step on a word keeps the rule, and is its event
+pub cpu_makes : (z : Settings) (s : Table ℕ View) (r : Ruled z s) (i : ℕ) (x : CpuView) (word m : ℕ) (l : CpuLists) (e : Event) (rep : Reply) (own : CpuOwn)
+    → get_elem? s.views i ≡ some (Cpu x) → step r.g e ≡ Some (record { state = with_lists r.g l; reply = rep }) → LeavesOthers r.g x.id l
+    → ((n : ℕ) → sum_by (standing_of n) l.locals ≡ standing_in n r.g) → own.heard ≡ x.heard → CpuShown (with_lists r.g l) (cpu_view (with_lists r.g l) x.id own) → Agrees (set s.words word m) (with_lists r.g l)
+    → Ruled z (stepped s word m i [] (Cpu (cpu_view (with_lists r.g l) x.id own)) keeps) × Makes e rep (Cpu x) (Cpu (cpu_view (with_lists r.g l) x.id own))
+cpu_makes z s r i x word m l e rep own at made leaves count heard shown words =
+    let g = r.g in
+    let g' = with_lists g l in
+    let y = cpu_view g' x.id own in
+    let had = r.shows.fits i (Cpu x) at in
+    let was : CpuShown g x = had.1 in
+    let good = good_after g l x.id e rep r.good leaves was.seated made in (
+      record {
+        g = g';
+        seat = r.seat;
+        settings = r.settings;
+        good = good;
+        reached = reached_more z g g' e rep r.reached made;
+        words = words;
+        shows = shows_set g g' r.seat s.views i (Cpu x) (Cpu y) r.shows at (cpu_stays g l x.id r.seat i leaves had.0) (had.0, shown) (λ n. let h = count n in omega arith);
+      },
+      record { g = g; after = g'; good = r.good; good_after = good; before = was; made = made; shown = shown; same = (sym (ap (λ (v : CpuView). v.settings) was.is), refl, heard) },
+    )
+
+-- A step that leaves the CPU's hand, its references and its counts
+
+pub same_counts : (g : State) (c : ℕ) (l : CpuLists) → l.hands ≡ g.hands → l.passive ≡ g.passive → l.counts ≡ g.counts → l.nets ≡ g.nets
+    → ((d : ℕ) → d ≢ c → get_or l.section d 0 ≡ section_at g d) → ((d : ℕ) → d ≢ c → get_or l.begins d None ≡ begin_at g d) → ((d : ℕ) → d ≢ c → get_or l.depths d 0 ≡ depth_at g d)
+    → ((d : ℕ) → d ≢ c → get_or l.seen d 0 ≡ seen_at g d) → ((d : ℕ) → d ≢ c → get_or l.searches d None ≡ search_at g d) → ((d : ℕ) → d ≢ c → get_or l.found d None ≡ found_at g d) → LeavesOthers g c l
+same_counts g c l hands passive counts nets section begins depths seen searches found = record {
+  section = section;
+  begins = begins;
+  depths = depths;
+  seen = seen;
+  searches = searches;
+  found = found;
+  hands = λ d ne. ap (λ (h : List Hand). get_or h d Empty) hands;
+  passive = λ d t ne. ap (λ (p : List (List ℕ)). passive_at p d t) passive;
+  nets = λ d t ne. ap (λ (p : List (List ℕ)). count_at p d t) nets;
+  vacant = λ d t vacant. ap (λ (p : List (List ℕ)). count_at p d t) counts;
+  gives_up = λ given_up t e here p. subst (λ (n : List (List ℕ)). GivesUp (record g { nets = n }) given_up t e.number) (sym nets) p;
+}
+
+-- the CPU sees at least what it saw, and what it has found is in its pass
+pub shown_on : (g : State) (x : CpuView) (l : CpuLists) → CpuShown g x → l.hands ≡ g.hands → l.passive ≡ g.passive → l.nets ≡ g.nets
+    → get_or l.depths x.id 0 ≡ depth_of (get_or l.begins x.id None) → seen_at g x.id ≤ get_or l.seen x.id 0 → get_or l.seen x.id 0 ≤ length g.history
+    → ((e : Entry) → get_or l.found x.id None ≡ Some e → IsAttached (take (get_or l.seen x.id 0) g.history) e)
+    → CpuShown (with_lists g l) (cpu_view (with_lists g l) x.id (own_of x))
+shown_on g x l had hands passive nets depth more within found = record {
+  seated = had.seated;
+  is = refl;
+  hand = subst (λ (h : List Hand). SameHand (get_or h x.id Empty) x.hand) (sym hands) had.hand;
+  in_hand = had.in_hand;
+  depth = depth;
+  passive = λ t e here. ap (λ (p : List (List ℕ)). passive_at p x.id t) passive ∙ had.passive t e here;
+  gone = had.gone;
+  nets = λ t e here. let same = ap (λ (p : List (List ℕ)). count_at p x.id t) nets in let was = had.nets t e here in omega arith;
+  later = had.later;
+  met = had.met;
+  there = had.there;
+  found = found;
+  references = λ e among. attached_longer g.history (seen_at g x.id) (get_or l.seen x.id 0) e more within (subst (λ (p : List Change). IsAttached p e) (ap (λ (v : CpuView). v.pass) had.is) (had.references e among));
+  heard = had.heard;
+}
+
+-- what the CPU had found stays in its pass
+pub found_on : (g : State) (x : CpuView) (n : ℕ) → CpuShown g x → seen_at g x.id ≤ n → n ≤ length g.history → (e : Entry) → found_at g x.id ≡ Some e → IsAttached (take n g.history) e
+found_on g x n had more within e is = attached_longer g.history (seen_at g x.id) n e more within (subst (λ (p : List Change). IsAttached p e) (ap (λ (v : CpuView). v.pass) had.is) (had.found e (ap (λ (v : CpuView). v.found) had.is ∙ is)))

@@ -1,0 +1,310 @@
+-- What is in a CPU's hand changes, and the places of references: why the other views stay, and what a split or a join of the CPU's seat makes.
+use Rattle.std.proofs.Common.{◌≡◌, ◌≢◌, ⊎_elim, ℕ, ◌+◌, ◌<◌, ◌≤◌, ◌==◌, List, set, sum_by, Option, Some, None, refl, sym, ap, ◌∙◌, subst, arith, get_or-set_same, get_or-set_other}
+use mathlib.Core.Option.{some}
+use lib.ListN.{get_elem?}
+use Rattle.atomic_table.specs.Table.{Splits, Joins}
+use Rattle.atomic_table.proofs.Lists.{at_set}
+use Rattle.registry_values.specs.declared.entry.Entry.{Entry}
+use Rattle.registry_values.specs.declared.settings.Settings.{Settings}
+use Rattle.protocol.specs.declared.event.Event.{Event}
+use Rattle.protocol.specs.declared.event.Event.TheVariants.{SplitRef, JoinRef, SplitBack}
+use Rattle.protocol.specs.declared.event.Reply.{Reply}
+use Rattle.protocol.specs.declared.event.Reply.TheVariants.{Done, Ref}
+use Rattle.protocol.specs.declared.state.Hand.{Hand}
+use Rattle.protocol.specs.declared.state.Hand.TheVariants.{Empty, Taking, Giving, Back}
+use Rattle.protocol.specs.declared.state.LocalPlace.{LocalPlace}
+use Rattle.protocol.specs.declared.state.LocalPlace.TheVariants.{Standing, Lifted}
+use Rattle.protocol.specs.History.{IsAttached}
+use Rattle.protocol.specs.State.{State, hand_at, local_at}
+use Rattle.protocol.specs.Events.{step, standing, least_id, with_local, split_ref, split_back}
+use Rattle.protocol.specs.Invariant.{one_if, standing_of}
+use Rattle.protocol.proofs.counts.Bounds.{back_within}
+use Rattle.protocol.proofs.keeps.References.{back_holds}
+use Rattle.protocol.proofs.counts.Sums.{one_at, local_changed, local_added, standing_within}
+use Rattle.cpu_words.proofs.laws.Reaching.{reached_more}
+use Rattle.cpu_words.proofs.shown.Standing.{standing_place}
+use Rattle.cpu_words.specs.declared.view.InHand.{InHand}
+use Rattle.cpu_words.specs.declared.view.InHand.TheVariants.{Empty as NoEntry, Taking as TakingEntry, Giving as GivingEntry, Back as BackEntry}
+use Rattle.cpu_words.specs.declared.view.CpuView.{CpuView}
+use Rattle.cpu_words.specs.declared.view.ReferenceView.{ReferenceView}
+use Rattle.cpu_words.specs.declared.view.View.{View}
+use Rattle.cpu_words.specs.declared.view.View.TheVariants.{Cpu, Reference, Spent}
+use Rattle.cpu_words.specs.Spots.{Spot, section_of, passive_of, count_of, head_word, next_of, record_of, total_of, word_at}
+use Rattle.cpu_words.specs.Views.{is_to, SameHand, HandFits, IsCollectedFor, CpuShown, ReferenceShown, cpu_of, reference_of}
+use Rattle.cpu_words.specs.Rule.{reference_to, Good, Ruled}
+use Rattle.cpu_words.specs.Steps.{SplitsBy, JoinsBy}
+use Rattle.cpu_words.specs.Sections.{IsIdle}
+use Rattle.cpu_words.specs.Locals.{with_hand, reference_in, emptied, cut_off, taking_in, IsTaking, IsBack}
+use Rattle.cpu_words.proofs.shown.Showing.{standing_in, backed, shows_split, shows_join}
+use Rattle.cpu_words.proofs.shown.Placing.{agrees_same}
+use Rattle.cpu_words.proofs.by_cpu.CpuSteps.{CpuLists, lists_of, with_lists, LeavesOthers, cpu_stays, good_after}
+use Rattle.cpu_words.proofs.shown.Seeing.{seen_of, idle_of}
+
+-- another hand of the CPU c, and other places of references
+abbrev pub hand_lists : State → ℕ → Hand → List LocalPlace → CpuLists
+hand_lists g c h locals = record (lists_of g) { hands = set g.hands c h; locals = locals }
+
+abbrev pub handed : State → ℕ → Hand → List LocalPlace → State
+handed g c h locals = with_lists g (hand_lists g c h locals)
+
+pub leaves_hands : (g : State) (c : ℕ) (h : Hand) (locals : List LocalPlace) → LeavesOthers g c (hand_lists g c h locals)
+leaves_hands g c h locals = record {
+  section = λ d ne. refl;
+  begins = λ d ne. refl;
+  depths = λ d ne. refl;
+  seen = λ d ne. refl;
+  searches = λ d ne. refl;
+  found = λ d ne. refl;
+  hands = λ d ne. get_or-set_other g.hands c d h Empty ne;
+  passive = λ d t ne. refl;
+  nets = λ d t ne. refl;
+  vacant = λ d t vacant. refl;
+  gives_up = λ given_up t e gone p. p;
+}
+
+-- no word is a hand's
+pub same_words : (g : State) (c : ℕ) (h : Hand) (locals : List LocalPlace) (q : Spot) → word_at (handed g c h locals) q ≡ word_at g q
+same_words g c h locals (section_of d) = refl
+same_words g c h locals (passive_of d t) = refl
+same_words g c h locals (count_of d t) = refl
+same_words g c h locals head_word = refl
+same_words g c h locals (next_of t) = refl
+same_words g c h locals (record_of t k) = refl
+same_words g c h locals (total_of t) = refl
+
+-- the hands that are of one kind and one number
+
+pub same_taking : (h : Hand) (e : Entry) → SameHand h (TakingEntry e) → h ≡ Taking e.number
+same_taking Empty e same = absurd same
+same_taking (Taking n) e same = ap Taking same
+same_taking (Giving n id) e same = absurd same
+same_taking (Back n id) e same = absurd same
+
+pub same_giving : (h : Hand) (e : Entry) → SameHand h (GivingEntry e) → (id : ℕ) × (h ≡ Giving e.number id)
+same_giving Empty e same = absurd same
+same_giving (Taking n) e same = absurd same
+same_giving (Giving n id) e same = (id, ap (λ m. Giving m id) same)
+same_giving (Back n id) e same = absurd same
+
+pub same_back : (h : Hand) (e : Entry) → SameHand h (BackEntry e) → (id : ℕ) × (h ≡ Back e.number id)
+same_back Empty e same = absurd same
+same_back (Taking n) e same = absurd same
+same_back (Giving n id) e same = absurd same
+same_back (Back n id) e same = (id, ap (λ m. Back m id) same)
+
+pub taking_hand : (g : State) (x : CpuView) (e : Entry) → CpuShown g x → IsTaking x e → hand_at g x.id ≡ Taking e.number
+taking_hand g x e had is = same_taking (hand_at g x.id) e (subst (SameHand (hand_at g x.id)) is had.hand)
+
+pub giving_hand : (g : State) (x : CpuView) (e : Entry) → CpuShown g x → x.hand ≡ GivingEntry e → (id : ℕ) × (hand_at g x.id ≡ Giving e.number id)
+giving_hand g x e had is = same_giving (hand_at g x.id) e (subst (SameHand (hand_at g x.id)) is had.hand)
+
+pub back_hand : (g : State) (x : CpuView) (e : Entry) → CpuShown g x → IsBack x e → (id : ℕ) × (hand_at g x.id ≡ Back e.number id)
+back_hand g x e had is = same_back (hand_at g x.id) e (subst (SameHand (hand_at g x.id)) is had.hand)
+
+-- an event of the CPU that changes its hand, to k, and the places of references
+pub record HandStep (g : State) (x : CpuView) (e : Event) (r : Reply) (k : InHand) : Type 0 where
+  pub h : Hand
+  pub locals : List LocalPlace
+  pub made : step g e ≡ Some (record { state = handed g x.id h locals; reply = r })
+  pub same : SameHand h k
+  pub fits : HandFits g.history g.slots g.marks x.id k
+
+pub shown_hand : (g : State) (x : CpuView) (h : Hand) (locals : List LocalPlace) (k : InHand) → Good g → CpuShown g x → SameHand h k → HandFits g.history g.slots g.marks x.id k → CpuShown (handed g x.id h locals) (with_hand x k)
+shown_hand g x h locals k good had same fits =
+    let seen = seen_of g x good had in record {
+      seated = had.seated;
+      is = ap (λ (v : CpuView). with_hand v k) had.is;
+      hand = subst (λ j. SameHand j k) (sym (get_or-set_same g.hands x.id h Empty seen.in_hands)) same;
+      in_hand = fits;
+      depth = had.depth;
+      passive = had.passive;
+      gone = had.gone;
+      nets = had.nets;
+      later = had.later;
+      met = had.met;
+      there = had.there;
+      found = had.found;
+      references = had.references;
+      heard = had.heard;
+    }
+
+-- A reference leaves the hand
+
+-- the event that takes the reference out of the CPU's hand, and what it leaves
+pub record Leaving (e : Event) (x : CpuView) (g : State) : Type 0 where
+  pub r : Reply
+  pub step : HandStep g x e r NoEntry
+  pub right : ReferenceShown g (reference_in x.id x.hand)
+  pub count : (n : ℕ) → one_if (is_to n (reference_in x.id x.hand).entry) + standing_in n g ≡ sum_by (standing_of n) step.locals
+
+abbrev pub LeavesHand : Event → CpuView → Type 0
+LeavesHand e x = (g : State) → Good g → CpuShown g x → Leaving e x g
+
+splits_by : (x : CpuView) (e : Event) → LeavesHand e x → SplitsBy e (Cpu x) (emptied (Cpu x)) (cut_off (Cpu x))
+splits_by x e leaves g good had =
+    let p = leaves g good had in
+    let m = p.step in record {
+      after = handed g x.id m.h m.locals;
+      reply = p.r;
+      made = m.made;
+      good_after = good_after g (hand_lists g x.id m.h m.locals) x.id e p.r good (leaves_hands g x.id m.h m.locals) had.seated m.made;
+      shown = shown_hand g x m.h m.locals NoEntry good had m.same m.fits;
+      shown_right = record { attached = p.right.attached; collected = p.right.collected };
+      count = λ n. let h = p.count n in omega arith;
+    }
+
+splits : (z : Settings) (i : ℕ) (x : CpuView) (e : Event) → LeavesHand e x → Splits (Ruled z) i (Cpu x) (emptied (Cpu x)) (cut_off (Cpu x))
+splits z i x e leaves s r at =
+    let g = r.g in
+    let had = r.shows.fits i (Cpu x) at in
+    let p = leaves g r.good had.1 in
+    let m = p.step in
+    let l = hand_lists g x.id m.h m.locals in
+    let after = leaves_hands g x.id m.h m.locals in record {
+      g = with_lists g l;
+      seat = r.seat;
+      settings = r.settings;
+      good = good_after g l x.id e p.r r.good after had.1.seated m.made;
+      reached = reached_more z g (with_lists g l) e p.r r.reached m.made;
+      words = agrees_same s.words g (with_lists g l) r.words refl (λ q there. same_words g x.id m.h m.locals q);
+      shows = shows_split g (with_lists g l) r.seat s.views i (Cpu x) (emptied (Cpu x)) (cut_off (Cpu x)) r.shows at (cpu_stays g l x.id r.seat i after had.0)
+          (had.0, shown_hand g x m.h m.locals NoEntry r.good had.1 m.same m.fits) (λ j. tt) (record { attached = p.right.attached; collected = p.right.collected }) (λ n. let h = p.count n in omega arith);
+    }
+
+-- the same of a seat, whose view is a CPU's
+
+pub seat_splits : (z : Settings) (i : ℕ) (v : View) (x : CpuView) (e : Event) → v ≡ Cpu (cpu_of v) → cpu_of v ≡ x → LeavesHand e x → Splits (Ruled z) i v (emptied v) (cut_off v)
+seat_splits z i v x e is view leaves = subst (λ u. Splits (Ruled z) i u (emptied u) (cut_off u)) (sym (is ∙ ap Cpu view)) (splits z i x e leaves)
+
+pub seat_splits_by : (v a b : View) (x : CpuView) (e : Event) → cpu_of v ≡ x → a ≡ emptied v → b ≡ cut_off v → LeavesHand e x → SplitsBy e (Cpu x) (Cpu (cpu_of a)) (Reference (reference_of b))
+seat_splits_by v a b x e view left right leaves =
+    let p : cpu_of a ≡ with_hand x NoEntry = ap cpu_of left ∙ ap (λ (u : CpuView). with_hand u NoEntry) view in
+    let q : reference_of b ≡ reference_in x.id x.hand = ap reference_of right ∙ ap (λ (u : CpuView). reference_in u.id u.hand) view in
+    subst (λ (w : CpuView × ReferenceView). SplitsBy e (Cpu x) (Cpu w.0) (Reference w.1)) (λ k. (sym p k, sym q k)) (splits_by x e leaves)
+
+pub split_ref_leaves : (x : CpuView) (c : ℕ) → x.id ≡ c → (e : Entry) × IsTaking x e → LeavesHand (SplitRef c) x
+split_ref_leaves x c id may = subst (λ d. LeavesHand (SplitRef d) x) id (λ g good had.
+    let e = may.0 in
+    let n = e.number in
+    let hand = taking_hand g x e had may.1 in
+    let attached : IsAttached g.history e = subst (HandFits g.history g.slots g.marks x.id) may.1 had.in_hand in
+    let there : reference_in x.id x.hand ≡ record { entry = e; collected = None } = ap (reference_in x.id) may.1 in record {
+      r = Ref (least_id g.locals);
+      step = record {
+        h = Empty;
+        locals = with_local g.locals (least_id g.locals) (Standing n);
+        made = ap (split_ref g x.id) hand;
+        same = tt;
+        fits = tt;
+      };
+      right = subst (ReferenceShown g) (sym there) (record { attached = attached; collected = λ d no. absurd (let q : ◌≡◌ {A = Option ℕ} None (Some d) = no in cc) });
+      count = λ k. let a = local_added k g.locals (Standing n) in let b : one_if (is_to k (reference_in x.id x.hand).entry) ≡ one_if (n == k) = ap (λ (v : ReferenceView). one_if (is_to k v.entry)) there in omega arith;
+    })
+
+pub split_back_leaves : (x : CpuView) (c : ℕ) → x.id ≡ c → (e : Entry) × IsBack x e → LeavesHand (SplitBack c) x
+split_back_leaves x c id may = subst (λ d. LeavesHand (SplitBack d) x) id (λ g good had.
+    let e = may.0 in
+    let n = e.number in
+    let was = back_hand g x e had may.1 in
+    let place = was.0 in
+    let lifted = (back_holds g.settings.cpus g.slots g.hands g.due g.locals x.id n place was.1 good.holds.references).1 in
+    let within = (back_within g x.id n place good.holds was.1).1 in
+    let fits : IsAttached g.history e × IsCollectedFor g.slots g.marks e x.id = subst (HandFits g.history g.slots g.marks x.id) may.1 had.in_hand in
+    let there : reference_in x.id x.hand ≡ record { entry = e; collected = Some x.id } = ap (reference_in x.id) may.1 in record {
+      r = Ref place;
+      step = record {
+        h = Empty;
+        locals = set g.locals place (Standing n);
+        made = ap (split_back g x.id) was.1;
+        same = tt;
+        fits = tt;
+      };
+      right = subst (ReferenceShown g) (sym there) (record { attached = fits.0; collected = λ d is. subst (IsCollectedFor g.slots g.marks e) (some_same is) fits.1 });
+      count = λ k.
+          let a = local_changed k g.locals place (Lifted x.id) (Standing n) within lifted in
+          let b : one_if (is_to k (reference_in x.id x.hand).entry) ≡ one_if (n == k) = ap (λ (v : ReferenceView). one_if (is_to k v.entry)) there in
+          omega arith;
+    })
+  where
+    some_same : {c d : ℕ} → ◌≡◌ {A = Option ℕ} (Some c) (Some d) → c ≡ d
+    some_same is = cc
+
+-- A reference goes into the hand
+
+-- the event that puts a reference into the CPU's hand, and what it leaves
+pub record Coming (c : ℕ) (x : CpuView) (e : Entry) (g : State) : Type 0 where
+  pub id : ℕ
+  pub step : HandStep g x (JoinRef c id) Done (GivingEntry e)
+  pub count : (n : ℕ) → sum_by (standing_of n) step.locals + one_if (is_to n e) ≡ standing_in n g
+
+coming : (x : CpuView) (c : ℕ) → x.id ≡ c → IsIdle x → (e : Entry) (g : State) → Good g → CpuShown g x → IsAttached g.history e → 0 < standing_in e.number g → Coming c x e g
+coming x c id idle e g good had attached some_one =
+    let n = e.number in
+    let place = standing_place n g.locals some_one in
+    let p = place.0 in
+    let stands : standing (local_at g.locals p) ≡ Some n = ap standing place.1 in
+    let seen = seen_of g x good had in subst (λ d. Coming d x e g) id (record {
+      id = p;
+      step = record {
+        h = Giving n p;
+        locals = set g.locals p (Lifted x.id);
+        made = rw (stands, idle_of g x seen had idle) refl;
+        same = refl;
+        fits = attached;
+      };
+      count = λ k. let a = local_changed k g.locals p (Standing n) (Lifted x.id) (standing_within g.locals p n place.1) place.1 in omega arith;
+    })
+
+-- the core has the reference that the seat stands for
+stands_for : (g : State) (v : ReferenceView) → ((n : ℕ) → reference_to n (Reference v) ≤ standing_in n g) → 0 < standing_in v.entry.number g
+stands_for g v has =
+    let n = v.entry.number in
+    let one : one_if (is_to n v.entry) ≡ 1 = one_at n n refl in
+    let some_one : one_if (is_to n v.entry) ≤ standing_in n g = has n in
+    omega arith
+
+joins_by : (x : CpuView) (c : ℕ) (v : ReferenceView) → x.id ≡ c → IsIdle x → JoinsBy (JoinRef c) (Cpu x) (Reference v) (taking_in (Cpu x) (Reference v))
+joins_by x c v id idle g good had shown has =
+    let p = coming x c id idle v.entry g good had shown.attached (stands_for g v has) in
+    let m = p.step in record {
+      id = p.id;
+      after = handed g x.id m.h m.locals;
+      made = m.made;
+      good_after = good_after g (hand_lists g x.id m.h m.locals) x.id (JoinRef c p.id) Done good (leaves_hands g x.id m.h m.locals) had.seated m.made;
+      shown = shown_hand g x m.h m.locals (GivingEntry v.entry) good had m.same m.fits;
+      count = λ n. let h = p.count n in omega arith;
+    }
+
+joins : (z : Settings) (i o : ℕ) (x : CpuView) (v : ReferenceView) → IsIdle x → Joins (Ruled z) i (Cpu x) o (Reference v) (taking_in (Cpu x) (Reference v)) Spent
+joins z i o x v idle s r at apart there =
+    let g = r.g in
+    let both = taking_in (Cpu x) (Reference v) in
+    let had = r.shows.fits i (Cpu x) at in
+    let was : get_elem? s.views o ≡ some (Reference v) = ⊎_elim
+    (λ (t : (o ≡ i) × (both ≡ Reference v)). absurd (apart t.0))
+    (λ (t : (o ≢ i) × (get_elem? s.views o ≡ some (Reference v))). t.1)
+    (at_set s.views i o both (Reference v) there) in
+    let shown : ReferenceShown g v = (r.shows.fits o (Reference v) was).1 in
+    let p = coming x x.id refl idle v.entry g r.good had.1 shown.attached (stands_for g v (backed g r.seat s.views o (Reference v) r.shows was)) in
+    let m = p.step in
+    let l = hand_lists g x.id m.h m.locals in
+    let after = leaves_hands g x.id m.h m.locals in record {
+      g = with_lists g l;
+      seat = r.seat;
+      settings = r.settings;
+      good = good_after g l x.id (JoinRef x.id p.id) Done r.good after had.1.seated m.made;
+      reached = reached_more z g (with_lists g l) (JoinRef x.id p.id) Done r.reached m.made;
+      words = agrees_same s.words g (with_lists g l) r.words refl (λ q there. same_words g x.id m.h m.locals q);
+      shows = shows_join g (with_lists g l) r.seat s.views i (Cpu x) o (Reference v) both r.shows at apart was (cpu_stays g l x.id r.seat i after had.0)
+          (had.0, shown_hand g x m.h m.locals (GivingEntry v.entry) r.good had.1 m.same m.fits) (λ n. let h = p.count n in omega arith) there;
+    }
+
+-- the same of two seats, whose views are a CPU's and a reference's
+
+pub seat_joins : (z : Settings) (i o : ℕ) (v u : View) (x : CpuView) → v ≡ Cpu (cpu_of v) → cpu_of v ≡ x → u ≡ Reference (reference_of u) → IsIdle x → Joins (Ruled z) i v o u (taking_in v u) Spent
+seat_joins z i o v u x is view that idle = subst (λ (p : View × View). Joins (Ruled z) i p.0 o p.1 (taking_in p.0 p.1) Spent) (λ k. (sym (is ∙ ap Cpu view) k, sym that k)) (joins z i o x (reference_of u) idle)
+
+pub seat_joins_by : (v a : View) (x : CpuView) (c : ℕ) (u : View) (w : ReferenceView) → cpu_of v ≡ x → reference_of u ≡ w → a ≡ taking_in v u → x.id ≡ c → IsIdle x → JoinsBy (JoinRef c) (Cpu x) (Reference w) (Cpu (cpu_of a))
+seat_joins_by v a x c u w view that both id idle =
+    let p : cpu_of a ≡ with_hand x (GivingEntry w.entry) = ap cpu_of both ∙ (λ k. with_hand (view k) (GivingEntry (that k).entry)) in
+    subst (λ (y : CpuView). JoinsBy (JoinRef c) (Cpu x) (Reference w) (Cpu y)) (sym p) (joins_by x c w id idle)

@@ -1,0 +1,263 @@
+-- CountAdd and CountDown on the words.
+use Rattle.std.proofs.Common.{◌≡◌, ◌≢◌, ⊎_elim, ℕ, ◌+◌, ◌-◌, ◌*◌, ◌%◌, ◌^◌, ◌==◌, ◌<◌, ◌≤◌, [], set, Option, Some, true, refl, sym, ap, ◌∙◌, subst, arith}
+use Rattle.std.specs.Prelude.{slice_index}
+use Rattle.std.proofs.lemmas.Bool.{lt-ltb, eq-eqb, ne_eqb, cases_eq}
+use mathlib.Core.Option.{some}
+use lib.ListN.{get_elem?}
+use prog.Atomic.{either}
+use Rattle.atomic_table.specs.Table.{State as Table, keeps, stepped}
+use Rattle.registry_values.specs.declared.entry.Entry.{Entry}
+use Rattle.registry_values.specs.declared.settings.Settings.{Settings}
+use Rattle.protocol.specs.declared.event.Event.TheVariants.{CountAdd, CountDown}
+use Rattle.protocol.specs.declared.event.Reply.TheVariants.{Word, Collected}
+use Rattle.registry_values.specs.declared.slot.Slot.TheVariants.{Retired}
+use Rattle.protocol.specs.declared.state.Hand.TheVariants.{Empty, Taking, Giving, Back}
+use Rattle.protocol.specs.declared.state.LocalPlace.TheVariants.{Free, Lifted}
+use Rattle.protocol.specs.History.{IsAttached}
+use Rattle.protocol.specs.State.{State, found_at, hand_at, mark_at, count_at}
+use Rattle.registry_values.specs.Balances.{bias}
+use Rattle.registry_values.specs.Slots.{slot_at, slot_of}
+use Rattle.protocol.specs.Events.{step}
+use Rattle.protocol.specs.Invariant.{IsIn, IsCounting}
+use Rattle.protocol.proofs.counts.Bounds.{giving_within}
+use Rattle.protocol.proofs.counts.Counts.{counting_cases, is_counting}
+use Rattle.protocol.proofs.keeps.CountKeeps.{held_counting}
+use Rattle.protocol.proofs.history.History.{one_entry}
+use Rattle.protocol.proofs.slots.Numbers.{slot_number}
+use Rattle.protocol.proofs.slots.Occupied.{attached_in, in_within}
+use Rattle.protocol.proofs.keeps.References.{giving_holds}
+use Rattle.protocol.proofs.counts.Sums.{local_changed}
+use Rattle.cpu_words.specs.declared.view.InHand.TheVariants.{Empty as NoEntry, Taking as TakingEntry, Giving as GivingEntry, Back as BackEntry}
+use Rattle.cpu_words.specs.declared.view.CpuView.{CpuView}
+use Rattle.cpu_words.specs.declared.view.View.{View}
+use Rattle.cpu_words.specs.declared.view.View.TheVariants.{Cpu}
+use Rattle.cpu_words.specs.Spots.{count_of}
+use Rattle.cpu_words.specs.Views.{number_at, with_number, one_more, own_of, cpu_view, HandFits, IsCollectedFor, CpuShown, cpu_of}
+use Rattle.cpu_words.specs.Rule.{Agrees, Good, Ruled}
+use Rattle.cpu_words.specs.Steps.{Makes, CpuMay}
+use Rattle.cpu_words.specs.Locals.{IsNetCount, IsPlaceCount, IsMetAlone, MayCount, HasCounted, CountTold, MayCountDown, HasCountedDown, HasFoundCollected, DownTold, with_hand}
+use Rattle.cpu_words.proofs.shown.Placing.{agrees_set}
+use Rattle.cpu_words.proofs.by_cpu.CpuSteps.{with_lists, cpu_makes}
+use Rattle.cpu_words.proofs.shown.Seeing.{Seen, seen_of, idle_of}
+use Rattle.cpu_words.proofs.by_cpu.Hands.{giving_hand, hand_lists, leaves_hands, same_words, shown_hand}
+use Rattle.cpu_words.proofs.by_cpu.Counting.{count_lists, one_more_same, one_more_other, place_is, met_alone, leaves_counts, count_words, Recount, recounted, shown_count}
+
+-- the slot of the last found entry, and its word, which counts
+found_counts : (g : State) (c : ℕ) (e : Entry) → Good g → found_at g c ≡ Some e → (slot_of g.slots e.number ≡ Some e.slot) × IsIn e (slot_at g.slots e.slot) × IsCounting g.slots g.marks c e.slot
+found_counts g c e good found =
+    let holds = good.holds in
+    let held = holds.last_found c e found in
+    let there : IsIn e (slot_at g.slots e.slot) = holds.held c held.0 e held.1 held.2 in
+    let slot = slot_number g.history g.slots e e.slot holds.slots there in
+    (slot, there, (held_counting g c e.slot e holds found slot).1)
+
+count_add_at : (z : Settings) (x : CpuView) (e : Entry) → MayCount x e.slot e.number → x.found ≡ Some e
+    → CpuMay z x (80 * x.id + 33 + e.slot) (λ m. (m + 1) % 2 ^ 64) (λ v m y. Makes (CountAdd x.id) (Word m) (Cpu v) (Cpu y) × CountTold v m y)
+count_add_at z x e may is s r i at fits =
+    let g = r.g in
+    let c = x.id in
+    let t = e.slot in
+    let n = e.number in
+    let had : CpuShown g x = (r.shows.fits i (Cpu x) at).1 in
+    let seen = seen_of g x r.good had in
+    let found : found_at g c ≡ Some e = sym seen.found ∙ is in
+    let counts = found_counts g c e r.good found in
+    let there : t < g.settings.slots = omega (arith, in_within g.slots t e counts.1, r.good.holds.shape.slots) in
+    let word = slice_index s.words (80 * c + 33 + t) in
+    let has : word ≡ count_at g.counts c t = r.words.at (count_of c t) (seen.lt, there) in
+    let same : count_at g.counts c t ≡ count_at g.nets c t = (r.good.holds.balance.counted c t seen.lt counts.2).0 in
+    let net : count_at g.nets c t + number_at x.released n ≡ bias + number_at x.acquired n = had.nets t e counts.1 in
+    let limit = ap (λ (a : Settings). a.count_limit) seen.settings in
+    let is_net : may.count + number_at x.released n ≡ bias + number_at x.acquired n = place_is g x t e may.count had counts.1 may.place in
+    let below : may.count < bias + x.settings.count_limit = may.room in
+    let room : count_at g.nets c t < bias + g.settings.count_limit = omega arith in
+    let most : g.settings.count_limit ≤ 1099511627776 = seen.fit.counts in
+    let next : (word + 1) % 2 ^ 64 ≡ count_at g.counts c t + 1 = omega arith in
+    let l = count_lists g c t (count_at g.counts c t + 1) (count_at g.nets c t + 1) (Taking n) g.locals in
+    let acquired = one_more x.acquired n in
+    let after : Recount x e (count_at g.nets c t + 1) acquired x.released = record {
+      net = let a = one_more_same x.acquired n in omega arith;
+      same_acquired = λ m ne. one_more_other x.acquired n m ne;
+      same_released = λ m ne. refl;
+    } in
+    let attached : IsAttached g.history e = (attached_in g.history g.slots t e r.good.holds.slots counts.1).0 in
+    let shown = shown_count g x e t (count_at g.counts c t + 1) (count_at g.nets c t + 1) (Taking n) g.locals (TakingEntry e) acquired x.released r.good had counts.1 there after refl attached in
+    let made : step g (CountAdd c) ≡ Some (record { state = with_lists g l; reply = Word word }) = rw (found, counts.0, idle_of g x seen had may.idle, lt-ltb (count_at g.nets c t) (bias + g.settings.count_limit) room, has) refl in
+    let words = subst (λ m. Agrees (set s.words (80 * c + 33 + t) m) (with_lists g l)) (sym next) (count_words s.words g c t (count_at g.counts c t + 1) (count_at g.nets c t + 1) (Taking n) g.locals r.good r.words seen.lt there) in
+    let done = cpu_makes z s r i x (80 * c + 33 + t) ((word + 1) % 2 ^ 64) l (CountAdd c) (Word word) (record (own_of x) { hand = TakingEntry e; acquired = acquired; met = with_number x.met t n }) at made
+    (leaves_counts g c t (count_at g.counts c t + 1) (count_at g.nets c t + 1) (Taking n) g.locals e r.good counts.1 there counts.2) (λ k. refl) refl shown words in
+    let y = recounted g x t n l (TakingEntry e) acquired x.released in
+    let change : y ≡ record x { hand = TakingEntry e; acquired = acquired; met = with_number x.met t n } = ap (λ (v : CpuView). record v { hand = TakingEntry e; acquired = acquired; met = with_number x.met t n }) (sym had.is) in
+    let told : CountTold x word y = λ u m other.
+    let one : e ≡ other.entry = some_same (sym is ∙ other.found) in
+    let slot : t ≡ u = ap (λ (f : Entry). f.slot) one ∙ other.slot in
+    let number : n ≡ m = ap (λ (f : Entry). f.number) one ∙ other.number in
+    let low : word < bias + x.settings.count_limit = omega arith in
+    subst (λ (p : ℕ × ℕ). HasCounted x p.0 p.1 y × IsNetCount x p.1 word × (word < bias + x.settings.count_limit) × IsMetAlone x p.0 p.1) (λ k. (slot k, number k))
+    ((e, is, refl, refl, change), has_net word (count_at g.counts c t) (count_at g.nets c t) (number_at x.released n) (bias + number_at x.acquired n) has same net, low, met_alone g x e had attached) in
+    (Cpu y, done.0, (refl, (done.1, told)))
+  where
+    some_same : {a b : Entry} → ◌≡◌ {A = Option Entry} (Some a) (Some b) → a ≡ b
+    some_same eq = cc
+
+    has_net : (a b d p q : ℕ) → a ≡ b → b ≡ d → d + p ≡ q → a + p ≡ q
+    has_net a b d p q u v w = omega arith
+
+-- the place of an entry's slot, where the slot and the number are the entry's
+place_at : (x : CpuView) (e : Entry) (t n w : ℕ) → e.slot ≡ t → e.number ≡ n → IsPlaceCount x t n w → IsPlaceCount x e.slot e.number w
+place_at x e t n w slot number place = subst (λ (p : ℕ × ℕ). IsPlaceCount x p.0 p.1 w) (λ k. (sym slot k, sym number k)) place
+
+pub count_add_may : (z : Settings) (x : CpuView) (c t n : ℕ) → x.id ≡ c → MayCount x t n → CpuMay z x (80 * c + 33 + t) (λ m. (m + 1) % 2 ^ 64) (λ v m y. Makes (CountAdd c) (Word m) (Cpu v) (Cpu y) × CountTold v m y)
+count_add_may z x c t n id may = subst (λ (p : ℕ × ℕ). CpuMay z x (80 * p.0 + 33 + p.1) (λ m. (m + 1) % 2 ^ 64) (λ v m y. Makes (CountAdd p.0) (Word m) (Cpu v) (Cpu y) × CountTold v m y)) (λ k. (id k, may.slot k))
+    (count_add_at z x may.entry (record { idle = may.idle; entry = may.entry; found = may.found; slot = refl; number = refl; count = may.count; place = place_at x may.entry t n may.count may.slot may.number may.place; room = may.room }) may.found)
+
+-- an entry in a hand that gives it up has its slot
+in_hand_there : (g : State) (c id : ℕ) (e : Entry) → Good g → IsAttached g.history e → hand_at g c ≡ Giving e.number id → IsIn e (slot_at g.slots e.slot)
+in_hand_there g c id e good attached hand =
+    let holds = good.holds in
+    let o = (giving_holds g.settings.cpus g.slots g.hands g.due g.locals c e.number id hand holds.references).0 in
+    let u = o.0 in
+    let f = o.1 in
+    let here : IsIn f (slot_at g.slots u) = o.2 in
+    let shows = attached_in g.history g.slots u f holds.slots here in
+    let one : f ≡ e = one_entry g.history f e shows.0 attached o.3 in
+    subst (λ (h : Entry). IsIn h (slot_at g.slots h.slot)) one (subst (λ k. IsIn f (slot_at g.slots k)) (sym shows.1) here)
+
+-- what a CPU with a reference to e to be given up sees of its word, where its place says `old`
+record Giver (g : State) (x : CpuView) (e : Entry) (old : ℕ) : Type 0 where
+  pub had : CpuShown g x
+  pub seen : Seen g x
+  pub attached : IsAttached g.history e
+  pub id : ℕ
+  pub hand : hand_at g x.id ≡ Giving e.number id
+  pub here : IsIn e (slot_at g.slots e.slot)
+  pub there : e.slot < g.settings.slots
+  pub slot : slot_of g.slots e.number ≡ Some e.slot
+  pub low : IsNetCount x e.number old
+  pub net : count_at g.nets x.id e.slot ≡ old
+  pub floor : 0 < old
+
+giver : (g : State) (x : CpuView) (e : Entry) (old : ℕ) → Good g → CpuShown g x → x.hand ≡ GivingEntry e → IsPlaceCount x e.slot e.number old → Giver g x e old
+giver g x e old good had is place =
+    let seen = seen_of g x good had in
+    let attached : IsAttached g.history e = subst (HandFits g.history g.slots g.marks x.id) is had.in_hand in
+    let hand = giving_hand g x e had is in
+    let here = in_hand_there g x.id hand.0 e good attached hand.1 in
+    let low : old + number_at x.released e.number ≡ bias + number_at x.acquired e.number = place_is g x e.slot e old had here place in
+    let net : count_at g.nets x.id e.slot + number_at x.released e.number ≡ bias + number_at x.acquired e.number = had.nets e.slot e here in
+    let same : count_at g.nets x.id e.slot ≡ old = omega arith in
+    let some_one : 0 < count_at g.nets x.id e.slot = good.holds.balance.used x.id e.slot e seen.lt here in record {
+      had = had;
+      seen = seen;
+      attached = attached;
+      id = hand.0;
+      hand = hand.1;
+      here = here;
+      there = omega (arith, in_within g.slots e.slot e here, good.holds.shape.slots);
+      slot = slot_number g.history g.slots e e.slot good.holds.slots here;
+      low = low;
+      net = same;
+      floor = omega arith;
+    }
+
+-- what the step from `old` must leave and tell, where it found w
+abbrev Down : Settings → Table ℕ View → ℕ → CpuView → Entry → ℕ → ℕ → ℕ → Type 0
+Down z s i x e old w m = (y : CpuView) × Ruled z (stepped s (80 * x.id + 33 + e.slot) m i [] (Cpu y) keeps)
+    × (w ≡ old → Makes (CountDown x.id) (Word w) (Cpu x) (Cpu y) × HasCountedDown x e.slot e.number y)
+    × ((w ≡ old → ⊥) → Makes (CountDown x.id) Collected (Cpu x) (Cpu y) × HasFoundCollected x e.number y)
+
+-- the word is the net count: one reference is released
+down_counted : (z : Settings) (s : Table ℕ View) (r : Ruled z s) (i : ℕ) (x : CpuView) (e : Entry) (old : ℕ) → get_elem? s.views i ≡ some (Cpu x) → x.hand ≡ GivingEntry e → Giver r.g x e old
+    → slice_index s.words (80 * x.id + 33 + e.slot) ≡ old → Down z s i x e old (slice_index s.words (80 * x.id + 33 + e.slot)) (old - 1)
+down_counted z s r i x e old at is p found =
+    let g = r.g in
+    let c = x.id in
+    let t = e.slot in
+    let n = e.number in
+    let word = slice_index s.words (80 * c + 33 + t) in
+    let has : word ≡ count_at g.counts c t = r.words.at (count_of c t) (p.seen.lt, p.there) in
+    let same : count_at g.counts c t ≡ count_at g.nets c t = sym has ∙ found ∙ sym p.net in
+    let counting = is_counting r.good.holds.balance c t e p.seen.lt p.here same in
+    let net : count_at g.nets c t ≡ old = p.net in
+    let floor : 0 < old = p.floor in
+    let lifted = (giving_holds g.settings.cpus g.slots g.hands g.due g.locals c n p.id p.hand r.good.holds.references).1 in
+    let within = (giving_within g c n p.id r.good.holds p.hand).1 in
+    let locals = set g.locals p.id Free in
+    let l = count_lists g c t (count_at g.counts c t - 1) (count_at g.nets c t - 1) Empty locals in
+    let released = one_more x.released n in
+    let was : count_at g.nets c t + number_at x.released n ≡ bias + number_at x.acquired n = p.had.nets t e p.here in
+    let after : Recount x e (count_at g.nets c t - 1) x.acquired released = record {
+      net = let a = one_more_same x.released n in omega arith;
+      same_acquired = λ m ne. refl;
+      same_released = λ m ne. one_more_other x.released n m ne;
+    } in
+    let shown = shown_count g x e t (count_at g.counts c t - 1) (count_at g.nets c t - 1) Empty locals NoEntry x.acquired released r.good p.had p.here p.there after tt tt in
+    let made : step g (CountDown c) ≡ Some (record { state = with_lists g l; reply = Word word }) = rw (p.hand, p.slot, eq-eqb (count_at g.counts c t) (count_at g.nets c t) same, has) refl in
+    let next : count_at g.counts c t - 1 ≡ old - 1 = ap (λ k. k - 1) (same ∙ net) in
+    let words = subst (λ m. Agrees (set s.words (80 * c + 33 + t) m) (with_lists g l)) next (count_words s.words g c t (count_at g.counts c t - 1) (count_at g.nets c t - 1) Empty locals r.good r.words p.seen.lt p.there) in
+    let done = cpu_makes z s r i x (80 * c + 33 + t) (old - 1) l (CountDown c) (Word word) (record (own_of x) { hand = NoEntry; released = released; met = with_number x.met t n }) at made
+    (leaves_counts g c t (count_at g.counts c t - 1) (count_at g.nets c t - 1) Empty locals e r.good p.here p.there counting)
+    (λ k. let a = local_changed k g.locals p.id (Lifted c) Free within lifted in omega arith) refl shown words in
+    let y = recounted g x t n l NoEntry x.acquired released in
+    let change : y ≡ record x { hand = NoEntry; released = released; met = with_number x.met t n } = ap (λ (v : CpuView). record v { hand = NoEntry; released = released; met = with_number x.met t n }) (sym p.had.is) in
+    (y, done.0, (λ _. (done.1, (e, is, refl, refl, change))), (λ ne. absurd (ne found)))
+
+-- the word isn't the net count: it was collected, and the reference goes back
+down_collected : (z : Settings) (s : Table ℕ View) (r : Ruled z s) (i : ℕ) (x : CpuView) (e : Entry) (old : ℕ) → get_elem? s.views i ≡ some (Cpu x) → x.hand ≡ GivingEntry e → Giver r.g x e old
+    → slice_index s.words (80 * x.id + 33 + e.slot) ≢ old → Down z s i x e old (slice_index s.words (80 * x.id + 33 + e.slot)) (slice_index s.words (80 * x.id + 33 + e.slot))
+down_collected z s r i x e old at is p off =
+    let g = r.g in
+    let c = x.id in
+    let t = e.slot in
+    let n = e.number in
+    let word = slice_index s.words (80 * c + 33 + t) in
+    let has : word ≡ count_at g.counts c t = r.words.at (count_of c t) (p.seen.lt, p.there) in
+    let differs : count_at g.counts c t ≢ count_at g.nets c t = λ same. off (has ∙ same ∙ p.net) in
+    let gone : IsCollectedFor g.slots g.marks e c = ⊎_elim
+    (λ (counting : IsCounting g.slots g.marks c t). absurd (differs (r.good.holds.balance.counted c t p.seen.lt counting).0))
+    (λ (gone : (slot_at g.slots t ≡ Retired e) × ((mark_at g.marks t c).collected ≡ true)). gone)
+    (counting_cases g.slots g.marks c t e p.here) in
+    let l = hand_lists g c (Back n p.id) g.locals in
+    let shown = shown_hand g x (Back n p.id) g.locals (BackEntry e) r.good p.had refl (p.attached, gone) in
+    let view : with_hand x (BackEntry e) ≡ cpu_view (with_lists g l) c (record (own_of x) { hand = BackEntry e }) = ap (λ (v : CpuView). with_hand v (BackEntry e)) p.had.is in
+    let made : step g (CountDown c) ≡ Some (record { state = with_lists g l; reply = Collected }) = rw (p.hand, p.slot, ne_eqb (count_at g.counts c t) (count_at g.nets c t) differs) refl in
+    let words = agrees_set s.words g (with_lists g l) (count_of c t) word r.good.holds.fit r.words refl (p.seen.lt, p.there) (sym has) (λ q there ne. same_words g c (Back n p.id) g.locals q) in
+    let done = cpu_makes z s r i x (80 * c + 33 + t) word l (CountDown c) Collected (record (own_of x) { hand = BackEntry e }) at made (leaves_hands g c (Back n p.id) g.locals) (λ k. refl) refl (subst (CpuShown (with_lists g l)) view shown) words in
+    (cpu_view (with_lists g l) c (record (own_of x) { hand = BackEntry e }), done.0, (λ same. absurd (off same)), (λ _. (done.1, (e, is, refl, sym view))))
+
+count_down_at : (z : Settings) (x : CpuView) (e : Entry) (old new : ℕ) → x.hand ≡ GivingEntry e → IsPlaceCount x e.slot e.number old → old < 2 ^ 64 → new ≡ (old + (2 ^ 64 - 1)) % 2 ^ 64
+    → CpuMay z x (80 * x.id + 33 + e.slot) (λ m. either (m == old) new m) (DownTold (CountDown x.id) old)
+count_down_at z x e old new is place fits is_new s r i at within =
+    let p = giver r.g x e old r.good (r.shows.fits i (Cpu x) at).1 is place in
+    let floor : 0 < old = p.floor in
+    let less : old - 1 ≡ new = omega arith in
+    let word = slice_index s.words (80 * x.id + 33 + e.slot) in
+    ⊎_elim
+    (λ (same : word ≡ old). finish word _ (subst (Down z s i x e old word) (less ∙ sym (ap (λ b. either b new word) (eq-eqb word old same))) (down_counted z s r i x e old at is p same)) p.floor p.low (met_alone r.g x e p.had p.attached))
+    (λ (off : word ≢ old). finish word _ (subst (Down z s i x e old word) (sym (ap (λ b. either b new word) (ne_eqb word old off))) (down_collected z s r i x e old at is p off)) p.floor p.low (met_alone r.g x e p.had p.attached))
+    (cases_eq word old)
+  where
+    Goal : ℕ → ℕ → Type 0
+    Goal w m = (v : View) × Ruled z (stepped s (80 * x.id + 33 + e.slot) m i [] v keeps) × ((v ≡ Cpu (cpu_of v)) × DownTold (CountDown x.id) old x w (cpu_of v))
+
+    same_giving_entry : (a b : Entry) → GivingEntry a ≡ GivingEntry b → a ≡ b
+    same_giving_entry a b eq = cc
+
+    finish : (w m : ℕ) → Down z s i x e old w m → 0 < old → IsNetCount x e.number old → IsMetAlone x e.slot e.number → Goal w m
+    finish w m d floor low alone = (
+      Cpu d.0,
+      d.1,
+      (
+        refl,
+        λ t n may.
+            let one : e ≡ may.entry = same_giving_entry e may.entry (sym is ∙ may.giving) in
+            let slot : e.slot ≡ t = ap (λ (f : Entry). f.slot) one ∙ may.slot in
+            let number : e.number ≡ n = ap (λ (f : Entry). f.number) one ∙ may.number in
+            (floor, subst (λ k. IsNetCount x k old) number low, subst (λ (p : ℕ × ℕ). IsMetAlone x p.0 p.1) (λ k. (slot k, number k)) alone, (λ same. let h = d.2 same in (h.0, subst (λ (p : ℕ × ℕ). HasCountedDown x p.0 p.1 d.0) (λ k. (slot k, number k)) h.1)), (λ off. let h = d.3 off in (h.0, subst (λ k. HasFoundCollected x k d.0) number h.1))),
+      ),
+    )
+
+pub count_down_may : (z : Settings) (x : CpuView) (c t n old new : ℕ) → x.id ≡ c → MayCountDown x t n old → old < 2 ^ 64 → new ≡ (old + (2 ^ 64 - 1)) % 2 ^ 64
+    → CpuMay z x (80 * c + 33 + t) (λ m. either (m == old) new m) (DownTold (CountDown c) old)
+count_down_may z x c t n old new id may fits is_new = subst (λ (p : ℕ × ℕ). CpuMay z x (80 * p.0 + 33 + p.1) (λ m. either (m == old) new m) (DownTold (CountDown p.0) old)) (λ k. (id k, may.slot k))
+    (count_down_at z x may.entry old new may.giving (place_at x may.entry t n old may.slot may.number may.place) fits is_new)

@@ -1,0 +1,348 @@
+-- Passive references on the words.
+use Rattle.std.proofs.Common.{◌≡◌, ◌⊎◌, ⊎_elim, ℕ, ◌+◌, ◌-◌, ◌*◌, ◌%◌, ◌^◌, ◌<◌, List, [], ◌∷◌, length, take, set, Option, Some, None, true, ◌||◌, nat_lt, refl, sym, ap, ◌∙◌, subst, arith}
+use Rattle.std.proofs.lemmas.Bool.{lt-ltb, eq-eqb, or_left, or_right, cases_eq}
+use Rattle.std.proofs.lemmas.Option.{none-some}
+use Rattle.std.specs.List.{Contains}
+use Rattle.std.specs.Prelude.{slice_index}
+use mathlib.Core.Option.{some}
+use mathlib.Core.List.{IsPrefix}
+use lib.ListN.{get_elem?}
+use Rattle.atomic_table.specs.Table.{State as Table, keeps, stepped}
+use Rattle.registry_values.specs.declared.entry.Entry.{Entry}
+use Rattle.registry_values.specs.declared.entry.Change.{Change}
+use Rattle.registry_values.specs.declared.settings.Settings.{Settings}
+use Rattle.protocol.specs.declared.event.Event.{Event}
+use Rattle.protocol.specs.declared.event.Event.TheVariants.{PassiveAdd, PassiveSub, LoadRecord}
+use Rattle.protocol.specs.declared.event.RecordOf.TheVariants.{Passive}
+use Rattle.protocol.specs.declared.event.Reply.TheVariants.{Word}
+use Rattle.protocol.specs.History.{IsAttached}
+use Rattle.protocol.specs.State.{State, with_cell, begin_at, depth_at, seen_at, found_at, row_at, passive_at}
+use Rattle.registry_values.specs.Slots.{slot_at, slot_of}
+use Rattle.protocol.specs.Events.{step, is_number, after_add, after_sub, word}
+use Rattle.protocol.specs.Invariant.{IsIn, Occupies}
+use Rattle.protocol.proofs.history.History.{one_entry}
+use Rattle.protocol.proofs.slots.Cells.{cell_here, cell_other}
+use Rattle.protocol.proofs.slots.Occupied.{attached_in, one_in, in_within, one_number, slot_occupied, slot_found}
+use Rattle.protocol.proofs.slots.Numbers.{slot_number}
+use Rattle.cpu_words.specs.declared.view.CpuView.{CpuView}
+use Rattle.cpu_words.specs.declared.view.View.{View}
+use Rattle.cpu_words.specs.declared.view.View.TheVariants.{Cpu}
+use Rattle.cpu_words.specs.Spots.{Spot, section_of, passive_of, count_of, head_word, next_of, record_of, total_of, word_at}
+use Rattle.cpu_words.specs.Views.{CpuOwn, own_of, cpu_view, depth_of, references_to, without, CpuShown, cpu_of}
+use Rattle.cpu_words.specs.Rule.{Agrees, Good, Ruled}
+use Rattle.cpu_words.specs.Steps.{Makes, CpuMay}
+use Rattle.cpu_words.specs.Sections.{IsIdle}
+use Rattle.cpu_words.specs.Passives.{MayAdd, MayUse, HasSubtracted, IsAloneAt, tells_added, tells_subtracted, tells_passive}
+use Rattle.cpu_words.proofs.shown.Placing.{agrees_set}
+use Rattle.cpu_words.proofs.shown.Passes.{attached_prefix, taken_is_prefix}
+use Rattle.cpu_words.proofs.by_cpu.CpuSteps.{CpuLists, lists_of, with_lists, LeavesOthers, cpu_makes}
+use Rattle.cpu_words.proofs.by_cpu.Reading.{row_word, keeps_view}
+use Rattle.cpu_words.proofs.shown.Seeing.{Seen, seen_of, idle_of}
+use Rattle.cpu_words.proofs.shown.ReferenceLists.{to_same, to_other, in_cons, counts, one_less, others_stay, was_in}
+
+-- The entries that a CPU may refer to
+
+-- the slot of a number, if it can't be that no slot has it
+occupied : (g : State) (n : ℕ) (o : Option ℕ) → slot_of g.slots n ≡ o → ((Occupies g.slots n → ⊥) → ⊥) → Occupies g.slots n
+occupied g n None is must = absurd (must (λ has. let t = slot_found g.slots n has in none-some t.0 (sym is ∙ t.1)))
+occupied g n (Some t) is must = slot_occupied g.slots n t is
+
+-- an entry that has its slot, and how the CPU's word for that slot counts
+pub record Known (g : State) (x : CpuView) (e : Entry) : Type 0 where
+  pub here : IsIn e (slot_at g.slots e.slot)
+  pub lt : e.slot < g.settings.slots
+  pub few : e.slot < 32
+  pub of : slot_of g.slots e.number ≡ Some e.slot
+  pub count : passive_at g.passive x.id e.slot ≡ references_to e.number x.references
+  pub attached : IsAttached x.pass e
+
+-- what is known of an entry that has its slot and is in the pass
+known_in : (g : State) (x : CpuView) (e : Entry) → Good g → CpuShown g x → IsIn e (slot_at g.slots e.slot) → IsAttached x.pass e → Known g x e
+known_in g x e good had here there =
+    let within = in_within g.slots e.slot e here in
+    let fit = (seen_of g x good had).fit in
+    let lt : e.slot < g.settings.slots = omega (arith, within, good.holds.shape.slots) in record {
+      here = here;
+      lt = lt;
+      few = omega (arith, lt, fit.slots);
+      of = slot_number g.history g.slots e e.slot good.holds.slots here;
+      count = had.passive e.slot e here;
+      attached = there;
+    }
+
+-- what was found last: the open section may hold it, and so it has its slot
+pub found_known : (g : State) (x : CpuView) (e : Entry) → Good g → CpuShown g x → x.found ≡ Some e → Known g x e
+found_known g x e good had is =
+    let found : found_at g x.id ≡ Some e = sym (ap (λ (v : CpuView). v.found) had.is) ∙ is in
+    let open_ = good.holds.last_found x.id e found in
+    known_in g x e good had (good.holds.held x.id open_.0 e open_.1 open_.2) (had.found e is)
+
+-- what the CPU refers to: its references to a number that no slot has are none
+pub held_known : (g : State) (x : CpuView) (e : Entry) → Good g → CpuShown g x → Contains x.references e → Known g x e
+held_known g x e good had among =
+    let some = counts x.references e e.number among refl in
+    let has = occupied g e.number (slot_of g.slots e.number) refl (λ none. let zero_ = had.gone e.number none in omega (arith, some, zero_)) in
+    let there = had.references e among in
+    let pass : x.pass ≡ take (seen_at g x.id) g.history = ap (λ (v : CpuView). v.pass) had.is in
+    let its = attached_in g.history g.slots has.0 has.1 good.holds.slots has.2 in
+    let mine = attached_prefix x.pass g.history e (subst (λ (p : List Change). IsPrefix p g.history) (sym pass) (taken_is_prefix (seen_at g x.id) g.history)) there in
+    let one : e ≡ has.1 = one_entry g.history e has.1 mine its.0 (sym has.3) in
+    let at : has.0 ≡ e.slot = sym its.1 ∙ sym (ap (λ (f : Entry). f.slot) one) in
+    known_in g x e good had (subst (λ (t : ℕ). IsIn e (slot_at g.slots t)) at (subst (λ (f : Entry). IsIn f (slot_at g.slots has.0)) (sym one) has.2)) there
+
+-- the CPU's references into the slot of such an entry are to it
+alone : (g : State) (x : CpuView) (e : Entry) (t n : ℕ) → Good g → CpuShown g x → Known g x e → e.slot ≡ t → e.number ≡ n → IsAloneAt x t n
+alone g x e t n good had known slot number f among same =
+    let its = held_known g x f good had among in
+    let one : f ≡ e = one_in f e (slot_at g.slots e.slot) known.here (subst (λ (u : ℕ). IsIn f (slot_at g.slots u)) (same ∙ sym slot) its.here) in
+    ap (λ (h : Entry). h.number) one ∙ number
+
+-- A step on the CPU's passive word for one slot
+
+-- the CPU c has m as its passive word for the slot t
+abbrev put : State → ℕ → ℕ → ℕ → CpuLists
+put g c t m = record (lists_of g) { passive = with_cell g.passive t c m }
+
+-- of the other CPUs nothing changes
+put_leaves : (g : State) (c t m : ℕ) → LeavesOthers g c (put g c t m)
+put_leaves g c t m = record {
+  section = λ d ne. refl;
+  begins = λ d ne. refl;
+  depths = λ d ne. refl;
+  seen = λ d ne. refl;
+  searches = λ d ne. refl;
+  found = λ d ne. refl;
+  hands = λ d ne. refl;
+  passive = λ d u ne. cell_other 0 g.passive t c m u d (λ _ same. ne same);
+  nets = λ d u ne. refl;
+  vacant = λ d u vacant. refl;
+  gives_up = λ given_up u e here p. p;
+}
+
+-- one word changes
+put_words : (words : List ℕ) (g : State) (c t m : ℕ) → Good g → c < g.settings.cpus → t < g.settings.slots → passive_at (with_cell g.passive t c m) c t ≡ m → Agrees words g → Agrees (set words (80 * c + 1 + t) m) (with_lists g (put g c t m))
+put_words words g c t m good lt within is agrees = agrees_set words g (with_lists g (put g c t m)) (passive_of c t) m good.holds.fit agrees refl (lt, within) is (λ q there ne. other q ne)
+  where
+    other : (q : Spot) → (q ≡ passive_of c t → ⊥) → word_at (with_lists g (put g c t m)) q ≡ word_at g q
+    other (section_of d) ne = refl
+    other (passive_of d u) ne = cell_other 0 g.passive t c m u d (λ (one : u ≡ t) (two : d ≡ c). ne (ap (λ (k : ℕ). passive_of k u) two ∙ ap (passive_of c) one))
+    other (count_of d u) ne = refl
+    other head_word ne = refl
+    other (next_of u) ne = refl
+    other (record_of u k) ne = refl
+    other (total_of u) ne = refl
+
+-- the word is in the state
+put_here : (g : State) (x : CpuView) (t m : ℕ) → Good g → Seen g x → t < g.settings.slots → passive_at (with_cell g.passive t x.id m) x.id t ≡ m
+put_here g x t m good seen within =
+    let shape = good.holds.shape in
+    let rows : t < length g.passive = omega (arith, within, shape.passive) in
+    let row = shape.passive_rows t rows in
+    cell_here 0 g.passive t x.id m rows (omega (arith, row, seen.lt, seen.fit.cpus))
+
+-- the CPU's word for the slot of e counts other references, to e alone more or less
+pub put_shown : (g : State) (x : CpuView) (e : Entry) (references : List Entry) (m : ℕ) → Good g → CpuShown g x → Known g x e → m ≡ references_to e.number references
+    → ((n : ℕ) → (e.number ≡ n → ⊥) → references_to n references ≡ references_to n x.references) → ((f : Entry) → Contains references f → IsAttached x.pass f)
+    → CpuShown (with_lists g (put g x.id e.slot m)) (cpu_view (with_lists g (put g x.id e.slot m)) x.id (record (own_of x) { references = references }))
+put_shown g x e references m good had known is others attached = record {
+  seated = had.seated;
+  is = refl;
+  hand = had.hand;
+  in_hand = had.in_hand;
+  depth = depth;
+  passive = passive;
+  gone = λ n none. others n (λ same. none (e.slot, e, known.here, same)) ∙ had.gone n none;
+  nets = had.nets;
+  later = had.later;
+  met = had.met;
+  there = had.there;
+  found = λ f found. subst (λ (p : List Change). IsAttached p f) pass (had.found f (ap (λ (v : CpuView). v.found) had.is ∙ found));
+  references = λ f among. subst (λ (p : List Change). IsAttached p f) pass (attached f among);
+  heard = had.heard;
+}
+  where
+    seen : Seen g x
+    seen = seen_of g x good had
+
+    pass : x.pass ≡ take (seen_at g x.id) g.history
+    pass = seen.pass
+
+    depth : depth_at g x.id ≡ depth_of (begin_at g x.id)
+    depth = had.depth ∙ ap depth_of seen.begin
+
+    passive : (t : ℕ) (f : Entry) → IsIn f (slot_at g.slots t) → passive_at (with_cell g.passive e.slot x.id m) x.id t ≡ references_to f.number references
+    passive t f here = ⊎_elim
+        (λ (same : t ≡ e.slot).
+        let one : f ≡ e = one_in f e (slot_at g.slots e.slot) known.here (subst (λ (u : ℕ). IsIn f (slot_at g.slots u)) same here) in
+        ap (λ (u : ℕ). passive_at (with_cell g.passive e.slot x.id m) x.id u) same ∙ put_here g x e.slot m good seen known.lt ∙ is ∙ ap (λ (h : Entry). references_to h.number references) (sym one))
+        (λ (off : t ≡ e.slot → ⊥).
+        cell_other 0 g.passive e.slot x.id m t x.id (λ same _. off same) ∙ had.passive t f here
+        ∙ sym (others f.number (λ same. off (one_number g.history g.slots e.slot t e f good.holds.slots known.here here (sym same)).0)))
+        (cases_eq t e.slot)
+
+-- the word as it is in the table
+put_word : (words : List ℕ) (g : State) (x : CpuView) (e : Entry) → Good g → CpuShown g x → Known g x e → Agrees words g → slice_index words (80 * x.id + 1 + e.slot) ≡ passive_at g.passive x.id e.slot
+put_word words g x e good had known agrees = agrees.at (passive_of x.id e.slot) ((seen_of g x good had).lt, known.lt)
+
+-- such a step keeps the rule, and is its event
+put_makes : (z : Settings) (s : Table ℕ View) (r : Ruled z s) (i : ℕ) (x : CpuView) (e : Entry) (references : List Entry) (m : ℕ) (event : Event)
+    → get_elem? s.views i ≡ some (Cpu x) → Known r.g x e → m ≡ references_to e.number references
+    → ((n : ℕ) → (e.number ≡ n → ⊥) → references_to n references ≡ references_to n x.references) → ((f : Entry) → Contains references f → IsAttached x.pass f)
+    → step r.g event ≡ Some (record { state = with_lists r.g (put r.g x.id e.slot m); reply = Word (passive_at r.g.passive x.id e.slot) })
+    → (y : CpuView) × (y ≡ record x { references = references }) × Ruled z (stepped s (80 * x.id + 1 + e.slot) m i [] (Cpu y) keeps) × Makes event (Word (slice_index s.words (80 * x.id + 1 + e.slot))) (Cpu x) (Cpu y)
+put_makes z s r i x e references m event at known is others attached made =
+    let g = r.g in
+    let had : CpuShown g x = (r.shows.fits i (Cpu x) at).1 in
+    let seen = seen_of g x r.good had in
+    let l = put g x.id e.slot m in
+    let own : CpuOwn = record (own_of x) { references = references } in
+    let shown = put_shown g x e references m r.good had known is others attached in
+    let words = put_words s.words g x.id e.slot m r.good seen.lt known.lt (put_here g x e.slot m r.good seen known.lt) r.words in
+    let stands = put_word s.words g x e r.good had known r.words in
+    let made' : step g event ≡ Some (record { state = with_lists g l; reply = Word (slice_index s.words (80 * x.id + 1 + e.slot)) }) = made ∙ (λ k. Some (record { state = with_lists g l; reply = Word (sym stands k) })) in
+    let done = cpu_makes z s r i x (80 * x.id + 1 + e.slot) m l event (Word (slice_index s.words (80 * x.id + 1 + e.slot))) own at made' (put_leaves g x.id e.slot m) (λ k. refl) refl shown words in
+    let change : cpu_view (with_lists g l) x.id own ≡ record x { references = references } = ap (λ (v : CpuView). record v { references = references }) (sym had.is) in
+    (cpu_view (with_lists g l) x.id own, change, done.0, done.1)
+
+-- a CPU's seat has a view after
+moved : (z : Settings) (s : Table ℕ View) (i : ℕ) (x : CpuView) (p m : ℕ) (tells : CpuView → ℕ → CpuView → Type 0) (y : CpuView) → Ruled z (stepped s p m i [] (Cpu y) keeps) → tells x (slice_index s.words p) y
+    → (w : View) × Ruled z (stepped s p m i [] w keeps) × ((w ≡ Cpu (cpu_of w)) × tells x (slice_index s.words p) (cpu_of w))
+moved z s i x p m tells y ruled told = (Cpu y, ruled, (refl, told))
+
+-- One reference more
+
+-- the core allows the addition
+add_allowed : (g : State) (x : CpuView) (e : Entry) → Good g → CpuShown g x → Known g x e → IsIdle x → (x.found ≡ Some e) ⊎ Contains x.references e → references_to e.number x.references < x.settings.passive_limit
+    → step g (PassiveAdd x.id e.number) ≡ Some (record { state = after_add g x.id e.slot; reply = Word (passive_at g.passive x.id e.slot) })
+add_allowed g x e good had known idle has room =
+    let seen = seen_of g x good had in
+    let count = known.count in
+    let limit = ap (λ (a : Settings). a.passive_limit) seen.settings in
+    let below : passive_at g.passive x.id e.slot < g.settings.passive_limit = omega (arith, count, limit, room) in
+    let known_to : (is_number e.number (found_at g x.id) || nat_lt 0 (passive_at g.passive x.id e.slot)) ≡ true = ⊎_elim
+    (λ (found : x.found ≡ Some e). or_left _ _ (ap (is_number e.number) (sym seen.found ∙ found) ∙ eq-eqb e.number e.number refl))
+    (λ (among : Contains x.references e). let one = counts x.references e e.number among refl in or_right _ _ (lt-ltb 0 (passive_at g.passive x.id e.slot) (omega (arith, count, one))))
+    has in
+    rw (known.of, idle_of g x seen had idle, known_to, lt-ltb (passive_at g.passive x.id e.slot) g.settings.passive_limit below) refl
+
+-- an entry that was found last, or that the CPU refers to
+known_of : (g : State) (x : CpuView) (e : Entry) → Good g → CpuShown g x → (x.found ≡ Some e) ⊎ Contains x.references e → Known g x e
+known_of g x e good had has = ⊎_elim (found_known g x e good had) (held_known g x e good had) has
+
+-- the step, for an entry
+add_at : (z : Settings) (x : CpuView) (e : Entry) → IsIdle x → (x.found ≡ Some e) ⊎ Contains x.references e → references_to e.number x.references < x.settings.passive_limit
+    → CpuMay z x (80 * x.id + 1 + e.slot) (λ m. (m + 1) % 2 ^ 64) (tells_added (PassiveAdd x.id e.number) (80 * x.id + 1 + e.slot))
+add_at z x e idle has room s r i at fits =
+    let g = r.g in
+    let had : CpuShown g x = (r.shows.fits i (Cpu x) at).1 in
+    let seen = seen_of g x r.good had in
+    let known = known_of g x e r.good had has in
+    let word = slice_index s.words (80 * x.id + 1 + e.slot) in
+    let stands : word ≡ passive_at g.passive x.id e.slot = put_word s.words g x e r.good had known r.words in
+    let count = known.count in
+    let limit = ap (λ (a : Settings). a.passive_limit) seen.settings in
+    let more = to_same e.number e x.references refl in
+    let next : (word + 1) % 2 ^ 64 ≡ passive_at g.passive x.id e.slot + 1 = omega (arith, stands, count, room, limit, seen.fit.passive) in
+    let is : (word + 1) % 2 ^ 64 ≡ references_to e.number (e ∷ x.references) = omega (arith, next, count, more) in
+    let made = add_allowed g x e r.good had known idle has room ∙ (λ k. Some (record { state = with_lists g (put g x.id e.slot (sym next k)); reply = Word (passive_at g.passive x.id e.slot) })) in
+    let done = put_makes z s r i x e (e ∷ x.references) ((word + 1) % 2 ^ 64) (PassiveAdd x.id e.number) at known is (λ n off. to_other n e x.references off)
+    (λ f among. ⊎_elim (λ (here : e ≡ f). subst (IsAttached x.pass) here known.attached) (λ (later : Contains x.references f). had.references f later) (in_cons e f x.references among)) made in
+    moved z s i x (80 * x.id + 1 + e.slot) ((word + 1) % 2 ^ 64) (tells_added (PassiveAdd x.id e.number) (80 * x.id + 1 + e.slot)) done.0 done.2 (
+      done.3,
+      λ c t n event place.
+          let number : e.number ≡ n = cc in
+          let cpu : x.id ≡ c = cc in
+          let slot : e.slot ≡ t = omega (arith, cpu, place) in
+          ((e, record { slot = slot; number = number }, known.attached, done.1), omega (arith, slot, known.few), stands ∙ count ∙ ap (λ (k : ℕ). references_to k x.references) number, alone g x e t n r.good had known slot number),
+    )
+
+-- the step, for a slot and a number
+pub add_may : (z : Settings) (x : CpuView) (c t n : ℕ) → x.id ≡ c → MayAdd x t n → CpuMay z x (80 * c + 1 + t) (λ m. (m + 1) % 2 ^ 64) (tells_added (PassiveAdd c n) (80 * c + 1 + t))
+add_may z x c t n id may = subst (λ (p : ℕ × ℕ × ℕ). CpuMay z x (80 * p.0 + 1 + p.1) (λ m. (m + 1) % 2 ^ 64) (tells_added (PassiveAdd p.0 p.2) (80 * p.0 + 1 + p.1))) (λ k. (id k, may.at.slot k, may.at.number k))
+    (add_at z x may.entry may.idle may.known (subst (λ (k : ℕ). references_to k x.references < x.settings.passive_limit) (sym may.at.number) may.room))
+
+-- One reference less
+
+-- the core allows the subtraction
+sub_allowed : (g : State) (x : CpuView) (e : Entry) → Good g → CpuShown g x → Known g x e → IsIdle x → 0 < references_to e.number x.references
+    → step g (PassiveSub x.id e.number) ≡ Some (record { state = after_sub g x.id e.slot; reply = Word (passive_at g.passive x.id e.slot) })
+sub_allowed g x e good had known idle one =
+    let count = known.count in
+    let held : nat_lt 0 (passive_at g.passive x.id e.slot) ≡ true = lt-ltb 0 (passive_at g.passive x.id e.slot) (omega (arith, count, one)) in
+    rw (known.of, idle_of g x (seen_of g x good had) had idle, held) refl
+
+-- the number may be written in another way
+less_of : (x y : CpuView) (m n : ℕ) → m ≡ n → y ≡ record x { references = without m x.references } → HasSubtracted x n y
+less_of x y m n same is = is ∙ ap (λ (k : ℕ). record x { references = without k x.references }) same
+
+-- the step, for an entry
+sub_at : (z : Settings) (x : CpuView) (e : Entry) → IsIdle x → Contains x.references e
+    → CpuMay z x (80 * x.id + 1 + e.slot) (λ m. (m + (2 ^ 64 - 1)) % 2 ^ 64) (tells_subtracted (PassiveSub x.id e.number) (80 * x.id + 1 + e.slot))
+sub_at z x e idle among s r i at fits =
+    let g = r.g in
+    let had : CpuShown g x = (r.shows.fits i (Cpu x) at).1 in
+    let seen = seen_of g x r.good had in
+    let known = held_known g x e r.good had among in
+    let word = slice_index s.words (80 * x.id + 1 + e.slot) in
+    let stands : word ≡ passive_at g.passive x.id e.slot = put_word s.words g x e r.good had known r.words in
+    let count = known.count in
+    let one = counts x.references e e.number among refl in
+    let limited = r.good.holds.passive.limited x.id e.slot in
+    let less = one_less e.number x.references one in
+    let next : (word + (2 ^ 64 - 1)) % 2 ^ 64 ≡ passive_at g.passive x.id e.slot - 1 = omega (arith, stands, count, one, limited, seen.fit.passive) in
+    let is : (word + (2 ^ 64 - 1)) % 2 ^ 64 ≡ references_to e.number (without e.number x.references) = omega (arith, next, count, less) in
+    let made = sub_allowed g x e r.good had known idle one ∙ (λ k. Some (record { state = with_lists g (put g x.id e.slot (sym next k)); reply = Word (passive_at g.passive x.id e.slot) })) in
+    let done = put_makes z s r i x e (without e.number x.references) ((word + (2 ^ 64 - 1)) % 2 ^ 64) (PassiveSub x.id e.number) at known is (λ n off. others_stay e.number n x.references (λ same. off (sym same)))
+    (λ f left. had.references f (was_in e.number x.references f left)) made in
+    moved z s i x (80 * x.id + 1 + e.slot) ((word + (2 ^ 64 - 1)) % 2 ^ 64) (tells_subtracted (PassiveSub x.id e.number) (80 * x.id + 1 + e.slot)) done.0 done.2 (
+      done.3,
+      λ c t n event place.
+          let number : e.number ≡ n = cc in
+          let cpu : x.id ≡ c = cc in
+          let slot : e.slot ≡ t = omega (arith, cpu, place) in
+          (less_of x done.0 e.number n number done.1, stands ∙ count ∙ ap (λ (k : ℕ). references_to k x.references) number, alone g x e t n r.good had known slot number),
+    )
+
+-- the step, for a slot and a number
+pub sub_may : (z : Settings) (x : CpuView) (c t n : ℕ) → x.id ≡ c → MayUse x t n → CpuMay z x (80 * c + 1 + t) (λ m. (m + (2 ^ 64 - 1)) % 2 ^ 64) (tells_subtracted (PassiveSub c n) (80 * c + 1 + t))
+sub_may z x c t n id may = subst (λ (p : ℕ × ℕ × ℕ). CpuMay z x (80 * p.0 + 1 + p.1) (λ m. (m + (2 ^ 64 - 1)) % 2 ^ 64) (tells_subtracted (PassiveSub p.0 p.2) (80 * p.0 + 1 + p.1))) (λ k. (id k, may.at.slot k, may.at.number k))
+    (sub_at z x may.entry may.idle may.held)
+
+-- The record of an entry that the CPU refers to
+
+-- the step, for an entry
+load_at : (z : Settings) (x : CpuView) (e : Entry) (k : ℕ) → IsIdle x → Contains x.references e → k < 5
+    → CpuMay z x (657 + 8 * e.slot + k) (λ m. m) (tells_passive (LoadRecord (Passive x.id e.number k)) (657 + 8 * e.slot + k))
+load_at z x e k idle among few s r i at fits =
+    let g = r.g in
+    let had : CpuShown g x = (r.shows.fits i (Cpu x) at).1 in
+    let seen = seen_of g x r.good had in
+    let known = held_known g x e r.good had among in
+    let found = slice_index s.words (657 + 8 * e.slot + k) in
+    let stands : found ≡ word (row_at g.rows e.slot) k = r.words.at (record_of e.slot k) (known.lt, few) in
+    let count = known.count in
+    let one = counts x.references e e.number among refl in
+    let held : nat_lt 0 (passive_at g.passive x.id e.slot) ≡ true = lt-ltb 0 (passive_at g.passive x.id e.slot) (omega (arith, count, one)) in
+    let made : step g (LoadRecord (Passive x.id e.number k)) ≡ Some (record { state = g; reply = Word found }) =
+    rw (known.of, idle_of g x seen had idle, held, lt-ltb k 5 few) (λ j. Some (record { state = g; reply = Word (sym stands j) })) in
+    let done = keeps_view z s r i (Cpu x) (record_of e.slot k) (LoadRecord (Passive x.id e.number k)) (Word found) at (known.lt, few) made (refl, refl, refl) in
+    moved z s i x (657 + 8 * e.slot + k) found (tells_passive (LoadRecord (Passive x.id e.number k)) (657 + 8 * e.slot + k)) x done.0 (
+      done.1,
+      refl,
+      λ c t n j event place.
+          let same_word : k ≡ j = cc in
+          let number : e.number ≡ n = cc in
+          let slot : e.slot ≡ t = omega (arith, same_word, place) in (
+            λ f at_ held_.
+                let its = held_known g x f r.good had held_ in
+                let one_slot : e.slot ≡ f.slot = slot ∙ sym at_.slot in
+                stands ∙ (λ h. word (row_at g.rows (one_slot h)) (same_word h)) ∙ row_word g f j r.good its.here,
+            alone g x e t n r.good had known slot number,
+            λ f at_ held_. (r.good.holds.rows f.slot f (held_known g x f r.good had held_).here).1,
+          ),
+    )
+
+-- the step, for a slot and a number
+pub load_may : (z : Settings) (x : CpuView) (c t n k : ℕ) → x.id ≡ c → k < 5 → MayUse x t n → CpuMay z x (657 + 8 * t + k) (λ m. m) (tells_passive (LoadRecord (Passive c n k)) (657 + 8 * t + k))
+load_may z x c t n k id few may = subst (λ (p : ℕ × ℕ × ℕ). CpuMay z x (657 + 8 * p.1 + k) (λ m. m) (tells_passive (LoadRecord (Passive p.0 p.2 k)) (657 + 8 * p.1 + k))) (λ j. (id j, may.at.slot j, may.at.number j))
+    (load_at z x may.entry k may.idle may.held few)

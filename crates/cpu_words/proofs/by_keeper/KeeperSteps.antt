@@ -1,0 +1,264 @@
+-- A step of the keeper's seat: what it changes in the core, why the other views stay, and that it is its event.
+use Rattle.std.proofs.Common.{◌≡◌, ◌⊎◌, inl, inr, ⊎_elim, ℕ, ◌+◌, ◌≤◌, ◌<◌, List, [], ◌++◌, length, take, set, sum_by, Option, Some, None, true, refl, sym, ap, ◌∙◌, subst, arith, length-append}
+use Rattle.std.proofs.lemmas.List.{append-nil}
+use Rattle.protocol.proofs.counts.Sums.{one_at}
+use mathlib.Core.Option.{some}
+use mathlib.Core.List.{IsPrefix}
+use lib.ListN.{get_elem?}
+use Rattle.atomic_table.specs.Table.{State as Table, keeps, stepped}
+use Rattle.registry_values.specs.declared.entry.Entry.{Entry}
+use Rattle.registry_values.specs.declared.entry.Change.{Change}
+use Rattle.registry_values.specs.declared.settings.Settings.{Settings}
+use Rattle.protocol.specs.declared.event.Event.{Event}
+use Rattle.protocol.specs.declared.event.Reply.{Reply}
+use Rattle.protocol.specs.declared.state.RecordWords.{RecordWords}
+use Rattle.registry_values.specs.declared.slot.Slot.{Slot}
+use Rattle.registry_values.specs.declared.slot.Slot.TheVariants.{Retired}
+use Rattle.registry_values.specs.declared.mark.Mark.{Mark}
+use Rattle.protocol.specs.declared.state.Hand.{Hand}
+use Rattle.protocol.specs.declared.state.Hand.TheVariants.{Empty, Taking, Giving, Back}
+use Rattle.protocol.specs.declared.state.Due.{Due}
+use Rattle.protocol.specs.declared.state.LocalPlace.{LocalPlace}
+use Rattle.protocol.specs.History.{IsAttached}
+use Rattle.protocol.specs.State.{State, hand_at, mark_at, passive_at, count_at, seen_at}
+use Rattle.registry_values.specs.Balances.{bias}
+use Rattle.registry_values.specs.Slots.{slot_at, slot_of}
+use Rattle.protocol.specs.Events.{step}
+use Rattle.protocol.specs.Invariant.{IsIn, Occupies, one_if, standing_of, HandHolds, Holds}
+use Rattle.protocol.proofs.slots.Occupied.{slot_has, slot_found, fresh_unoccupied}
+use Rattle.protocol.proofs.keeps.Keeping.{step_holds}
+use Rattle.cpu_words.proofs.laws.Reaching.{reached_more}
+use Rattle.cpu_words.proofs.shown.Standing.{standing_place}
+use Rattle.cpu_words.specs.declared.view.InHand.{InHand}
+use Rattle.cpu_words.specs.declared.view.InHand.TheVariants.{Empty as NoEntry, Taking as TakingEntry, Giving as GivingEntry, Back as BackEntry}
+use Rattle.cpu_words.specs.declared.view.CpuView.{CpuView}
+use Rattle.cpu_words.specs.declared.view.KeeperView.{KeeperView}
+use Rattle.cpu_words.specs.declared.view.ReferenceView.{ReferenceView}
+use Rattle.cpu_words.specs.declared.view.View.{View}
+use Rattle.cpu_words.specs.declared.view.View.TheVariants.{Keeper, Cpu, Reference, Note, Spent}
+use Rattle.cpu_words.specs.Views.{KeeperOwn, own_of, cpu_view, keeper_view, references_to, is_to, SameHand, HandFits, CpuShown, KeeperShown}
+use Rattle.cpu_words.specs.Spots.{Spot, section_of, passive_of, count_of, head_word, next_of, record_of, total_of, word_at}
+use Rattle.cpu_words.specs.Rule.{Agrees, IsFresh, Good, Ruled}
+use Rattle.cpu_words.specs.Steps.{Makes}
+use Rattle.cpu_words.proofs.shown.Showing.{standing_in, IsBacked, Stay, shows_set}
+use Rattle.cpu_words.proofs.shown.Passes.{attached_on, attached_prefix, prefix_on, take_on}
+
+-- what an event of the keeper can change in the core
+pub record KeeperLists : Type 0 where
+  pub head : ℕ
+  pub next : List ℕ
+  pub rows : List RecordWords
+  pub counts : List (List ℕ)
+  pub totals : List ℕ
+  pub history : List Change
+  pub seated : ℕ
+  pub nets : List (List ℕ)
+  pub slots : List Slot
+  pub marks : List (List Mark)
+  pub keeps : List (Option ℕ)
+  pub due : Due
+  pub locals : List LocalPlace
+
+abbrev pub keeper_lists : State → KeeperLists
+keeper_lists g = record { head = g.head; next = g.next; rows = g.rows; counts = g.counts; totals = g.totals; history = g.history; seated = g.seated; nets = g.nets; slots = g.slots; marks = g.marks; keeps = g.keeps; due = g.due; locals = g.locals }
+
+abbrev pub with_keeper : State → KeeperLists → State
+with_keeper g l = record g { head = l.head; next = l.next; rows = l.rows; counts = l.counts; totals = l.totals; history = l.history; seated = l.seated; nets = l.nets; slots = l.slots; marks = l.marks; keeps = l.keeps; due = l.due; locals = l.locals }
+
+-- an occupant that was there, and one that came
+abbrev pub Stayed : State → KeeperLists → ℕ → Entry → Type 0
+Stayed g l t e = IsIn e (slot_at g.slots t) × ((c : ℕ) → count_at l.nets c t ≡ count_at g.nets c t)
+
+abbrev pub Came : State → KeeperLists → ℕ → Entry → Type 0
+Came g l t e = (length g.history < e.number) × ((c : ℕ) → passive_at g.passive c t ≡ 0) × ((c : ℕ) → c < g.settings.cpus → count_at l.nets c t ≡ bias)
+
+-- the history grows, who comes is new, and who goes leaves no passive reference; what was collected stays so
+pub record LeavesCpus (g : State) (l : KeeperLists) : Type 0 where
+  pub seated : g.seated ≤ l.seated
+  pub more : (zs : List Change) × (l.history ≡ g.history ++ zs)
+  pub stay : (t : ℕ) (e : Entry) → IsIn e (slot_at l.slots t) → Stayed g l t e ⊎ Came g l t e
+  pub go : (t : ℕ) (e : Entry) → IsIn e (slot_at g.slots t) → IsIn e (slot_at l.slots t) ⊎ ((c : ℕ) → passive_at g.passive c t ≡ 0)
+  pub collected : (t c : ℕ) (e : Entry) → slot_at g.slots t ≡ Retired e → (mark_at g.marks t c).collected ≡ true → Occupies l.slots e.number → (slot_at l.slots t ≡ Retired e) × ((mark_at l.marks t c).collected ≡ true)
+
+-- a reference that a seat stands for has its slot
+pub reference_occupies : (g : State) (v : ReferenceView) → Holds g → IsBacked g (Reference v) → Occupies g.slots v.entry.number
+reference_occupies g v holds backed =
+    let n = v.entry.number in
+    let one : one_if (is_to n v.entry) ≡ 1 = one_at n n refl in
+    let some_one : one_if (is_to n v.entry) ≤ standing_in n g = backed n in
+    let place = standing_place n g.locals (omega arith) in
+    holds.references.standing place.0 n place.1
+
+-- what is in a hand has its slot
+hand_occupies : (slots : List Slot) (locals : List LocalPlace) (c : ℕ) (h : Hand) (e : Entry) → HandHolds slots locals c h → SameHand h (BackEntry e) → Occupies slots e.number
+hand_occupies slots locals c Empty e holds same = absurd same
+hand_occupies slots locals c (Taking n) e holds same = absurd same
+hand_occupies slots locals c (Giving n id) e holds same = absurd same
+hand_occupies slots locals c (Back n id) e holds same = subst (Occupies slots) same holds.0
+
+abbrev Collected : State → KeeperLists → Type 0
+Collected g l = (t c : ℕ) (e : Entry) → slot_at g.slots t ≡ Retired e → (mark_at g.marks t c).collected ≡ true → Occupies l.slots e.number → (slot_at l.slots t ≡ Retired e) × ((mark_at l.marks t c).collected ≡ true)
+
+hand_on : (g : State) (l : KeeperLists) (zs : List Change) (c : ℕ) (h : Hand) (x : InHand) → l.history ≡ g.history ++ zs → Collected g l → HandHolds l.slots l.locals c h → SameHand h x → HandFits g.history g.slots g.marks c x → HandFits l.history l.slots l.marks c x
+hand_on g l zs c h NoEntry more stays holds same fits = tt
+hand_on g l zs c h (TakingEntry e) more stays holds same fits = subst (λ (k : List Change). IsAttached k e) (sym more) (attached_on g.history zs e fits)
+hand_on g l zs c h (GivingEntry e) more stays holds same fits = subst (λ (k : List Change). IsAttached k e) (sym more) (attached_on g.history zs e fits)
+hand_on g l zs c h (BackEntry e) more stays holds same fits = (
+  subst (λ (k : List Change). IsAttached k e) (sym more) (attached_on g.history zs e fits.0),
+  stays e.slot c e fits.1.0 fits.1.1 (hand_occupies l.slots l.locals c h e holds same),
+)
+
+-- a number is in a slot or in none
+pub occupied_or_not : (slots : List Slot) (n : ℕ) → Occupies slots n ⊎ (Occupies slots n → ⊥)
+occupied_or_not slots n = from (slot_of slots n) refl
+  where
+    from : (o : Option ℕ) → slot_of slots n ≡ o → Occupies slots n ⊎ (Occupies slots n → ⊥)
+    from None is = inr (λ there. let f = slot_found slots n there in let q : ◌≡◌ {A = Option ℕ} None (Some f.0) = sym is ∙ f.1 in absurd (let r : None ≡ Some f.0 = q in cc))
+    from (Some t) is = let h = slot_has slots n t is in inl (t, h.1.0, h.1.1, h.1.2)
+
+-- a CPU's view is shown on after a step of the keeper
+pub cpu_shown_on : (g : State) (l : KeeperLists) (y : CpuView) → Good g → Holds (with_keeper g l) → LeavesCpus g l → CpuShown g y → CpuShown (with_keeper g l) y
+cpu_shown_on g l y good after leaves had =
+    let zs = leaves.more.0 in
+    let more : l.history ≡ g.history ++ zs = leaves.more.1 in
+    let longer : length l.history ≡ length g.history + length zs = ap length more ∙ length-append g.history zs in
+    let seats : g.seated ≤ l.seated = leaves.seated in
+    let was : y.id < g.seated = had.seated in
+    let within : seen_at g y.id ≤ length g.history = good.holds.sections.prefix y.id in
+    let pass : take (seen_at g y.id) g.history ≡ take (seen_at g y.id) l.history = sym (take_on (seen_at g y.id) g.history zs within) ∙ ap (take (seen_at g y.id)) (sym more) in record {
+      seated = omega arith;
+      is = had.is ∙ (λ k. record (cpu_view g y.id (own_of y)) { pass = pass k });
+      hand = had.hand;
+      in_hand = hand_on g l zs y.id (hand_at g y.id) y.hand more leaves.collected (after.references.in_hands y.id) had.hand had.in_hand;
+      depth = had.depth;
+      passive = λ t e here. ⊎_elim
+          (λ (stayed : Stayed g l t e). had.passive t e stayed.0)
+          (λ (came : Came g l t e). came.1 y.id ∙ sym (had.gone e.number (fresh_unoccupied g.history g.slots e.number good.holds.slots came.0)))
+          (leaves.stay t e here);
+      gone = λ n off. ⊎_elim
+          (λ (there : Occupies g.slots n). left g l y had leaves n there off)
+          (λ (not_there : Occupies g.slots n → ⊥). had.gone n not_there)
+          (occupied_or_not g.slots n);
+      nets = λ t e here. ⊎_elim
+          (λ (stayed : Stayed g l t e). let same = stayed.1 y.id in let b = had.nets t e stayed.0 in omega arith)
+          (λ (came : Came g l t e). let net = came.2 y.id (below was good.holds.seats.within) in let none = had.later e.number came.0 in let a = none.0 in let b = none.1 in omega arith)
+          (leaves.stay t e here);
+      later = λ n above. had.later n (omega arith);
+      met = λ t e here some_one. ⊎_elim
+          (λ (stayed : Stayed g l t e). had.met t e stayed.0 some_one)
+          (λ (came : Came g l t e). let none = had.later e.number came.0 in let a = none.0 in let b = none.1 in absurd (omega arith))
+          (leaves.stay t e here);
+      there = λ t some_one. let e = had.there t some_one in (e.0, attached_prefix g.history l.history e.0 (zs, sym more) e.1, e.2, e.3);
+      found = had.found;
+      references = had.references;
+      heard = subst (IsPrefix y.heard) (sym more) (prefix_on y.heard g.history zs had.heard);
+    }
+  where
+    below : {a b c : ℕ} → a < b → b ≤ c → a < c
+    below p q = omega arith
+
+    left : (g : State) (l : KeeperLists) (y : CpuView) → CpuShown g y → LeavesCpus g l → (n : ℕ) → Occupies g.slots n → (Occupies l.slots n → ⊥) → references_to n y.references ≡ 0
+    left g l y had leaves n (t, e, here, is) off = ⊎_elim
+        (λ (on : IsIn e (slot_at l.slots t)). absurd (off (t, e, on, is)))
+        (λ (none : (c : ℕ) → passive_at g.passive c t ≡ 0). ap (λ m. references_to m y.references) (sym is) ∙ sym (had.passive t e here) ∙ none y.id)
+        (leaves.go t e here)
+
+pub keeper_stays : (g : State) (l : KeeperLists) (seat : ℕ → ℕ) (i : ℕ) → Good g → Holds (with_keeper g l) → LeavesCpus g l → ((n : ℕ) → sum_by (standing_of n) l.locals ≡ standing_in n g) → i ≡ 0 → Stay g (with_keeper g l) seat i
+keeper_stays g l seat i good after leaves count mine j (Keeper k) ne sits shown backed = absurd (ne (sits ∙ sym mine))
+keeper_stays g l seat i good after leaves count mine j (Cpu y) ne sits shown backed = cpu_shown_on g l y good after leaves shown
+keeper_stays g l seat i good after leaves count mine j (Reference v) ne sits shown backed =
+    let there : Occupies l.slots v.entry.number = reference_occupies (with_keeper g l) v after (λ n. let a = backed n in let b = count n in omega arith) in record {
+      attached = subst (λ (k : List Change). IsAttached k v.entry) (sym leaves.more.1) (attached_on g.history leaves.more.0 v.entry shown.attached);
+      collected = λ c is. let was = shown.collected c is in leaves.collected v.entry.slot c v.entry was.0 was.1 there;
+    }
+keeper_stays g l seat i good after leaves count mine j (Note h) ne sits shown backed = subst (IsPrefix h) (sym leaves.more.1) (prefix_on h g.history leaves.more.0 shown)
+keeper_stays g l seat i good after leaves count mine j Spent ne sits shown backed = tt
+
+pub unseated_stays : (g : State) (l : KeeperLists) → LeavesCpus g l → (c : ℕ) → c < g.settings.cpus → IsFresh g c → IsFresh (with_keeper g l) c
+unseated_stays g l leaves c lt fresh = record {
+  section = fresh.section;
+  depth = fresh.depth;
+  seen = fresh.seen;
+  passive = fresh.passive;
+  nets = λ t e here. ⊎_elim (λ (stayed : Stayed g l t e). stayed.1 c ∙ fresh.nets t e stayed.0) (λ (came : Came g l t e). came.2 c lt) (leaves.stay t e here);
+}
+
+pub keeper_good_after : (g : State) (l : KeeperLists) (e : Event) (r : Reply) → Good g → LeavesCpus g l → step g e ≡ Some (record { state = with_keeper g l; reply = r }) → Good (with_keeper g l)
+keeper_good_after g l e r good leaves made = record {
+  holds = step_holds g (with_keeper g l) e r good.holds made;
+  fresh = λ c le lt. unseated_stays g l leaves c lt (good.fresh c (le_trans leaves.seated le) lt);
+}
+  where
+    le_trans : {a b c : ℕ} → a ≤ b → b ≤ c → a ≤ c
+    le_trans p q = omega arith
+
+-- the keeper's step on a word keeps the rule, and is its event
+pub keeper_makes : (z : Settings) (s : Table ℕ View) (r : Ruled z s) (i : ℕ) (k : KeeperView) (word m : ℕ) (l : KeeperLists) (e : Event) (rep : Reply) (own : KeeperOwn)
+    → get_elem? s.views i ≡ some (Keeper k) → step r.g e ≡ Some (record { state = with_keeper r.g l; reply = rep }) → LeavesCpus r.g l
+    → ((n : ℕ) → sum_by (standing_of n) l.locals ≡ standing_in n r.g) → own.heard ≡ k.heard → KeeperShown (with_keeper r.g l) (keeper_view (with_keeper r.g l) own) → Agrees (set s.words word m) (with_keeper r.g l)
+    → Ruled z (stepped s word m i [] (Keeper (keeper_view (with_keeper r.g l) own)) keeps) × Makes e rep (Keeper k) (Keeper (keeper_view (with_keeper r.g l) own))
+keeper_makes z s r i k word m l e rep own at made leaves count heard shown words =
+    let g = r.g in
+    let g' = with_keeper g l in
+    let w = keeper_view g' own in
+    let had = r.shows.fits i (Keeper k) at in
+    let was : KeeperShown g k = had.1 in
+    let good = keeper_good_after g l e rep r.good leaves made in (
+      record {
+        g = g';
+        seat = r.seat;
+        settings = r.settings;
+        good = good;
+        reached = reached_more z g g' e rep r.reached made;
+        words = words;
+        shows = shows_set g g' r.seat s.views i (Keeper k) (Keeper w) r.shows at (keeper_stays g l r.seat i r.good good.holds leaves count had.0) (had.0, shown) (λ n. let h = count n in omega arith);
+      },
+      record { g = g; after = g'; good = r.good; good_after = good; before = was; made = made; shown = shown; same = (sym (ap (λ (v : KeeperView). v.settings) was.is), heard) },
+    )
+
+-- a step that leaves the history, the slots, the counts and what was collected
+pub leaves_all : (g : State) (l : KeeperLists) → l.history ≡ g.history → l.seated ≡ g.seated → l.slots ≡ g.slots → l.nets ≡ g.nets
+    → ((t c : ℕ) → (mark_at g.marks t c).collected ≡ true → (mark_at l.marks t c).collected ≡ true) → LeavesCpus g l
+leaves_all g l history seated slots nets collected = record {
+  seated = omega (arith, seated);
+  more = ([], history ∙ sym (append-nil g.history));
+  stay = λ t e here. inl (subst (λ (x : List Slot). IsIn e (slot_at x t)) slots here, (λ c. ap (λ (n : List (List ℕ)). count_at n c t) nets));
+  go = λ t e here. inl (subst (λ (x : List Slot). IsIn e (slot_at x t)) (sym slots) here);
+  collected = λ t c e retired is there. (subst (λ (x : List Slot). slot_at x t ≡ Retired e) (sym slots) retired, collected t c is);
+}
+
+-- Other places of references, another thing that is due, and other references that slots keep: no other view speaks of them, and no word is theirs.
+
+abbrev pub beside : State → List LocalPlace → Due → List (Option ℕ) → KeeperLists
+beside g locals due kept = record (keeper_lists g) { locals = locals; due = due; keeps = kept }
+
+pub beside_stays : (g : State) (locals : List LocalPlace) (due : Due) (kept : List (Option ℕ)) (seat : ℕ → ℕ) (i : ℕ) → i ≡ 0 → Stay g (with_keeper g (beside g locals due kept)) seat i
+beside_stays g locals due kept seat i mine j (Keeper k) ne sits shown backed = absurd (ne (sits ∙ sym mine))
+beside_stays g locals due kept seat i mine j (Cpu y) ne sits shown backed = record {
+  seated = shown.seated;
+  is = shown.is;
+  hand = shown.hand;
+  in_hand = shown.in_hand;
+  depth = shown.depth;
+  passive = shown.passive;
+  gone = shown.gone;
+  nets = shown.nets;
+  later = shown.later;
+  met = shown.met;
+  there = shown.there;
+  found = shown.found;
+  references = shown.references;
+  heard = shown.heard;
+}
+beside_stays g locals due kept seat i mine j (Reference v) ne sits shown backed = record { attached = shown.attached; collected = shown.collected }
+beside_stays g locals due kept seat i mine j (Note h) ne sits shown backed = shown
+beside_stays g locals due kept seat i mine j Spent ne sits shown backed = tt
+
+pub beside_words : (g : State) (locals : List LocalPlace) (due : Due) (kept : List (Option ℕ)) (q : Spot) → word_at (with_keeper g (beside g locals due kept)) q ≡ word_at g q
+beside_words g locals due kept (section_of d) = refl
+beside_words g locals due kept (passive_of d u) = refl
+beside_words g locals due kept (count_of d u) = refl
+beside_words g locals due kept head_word = refl
+beside_words g locals due kept (next_of u) = refl
+beside_words g locals due kept (record_of u j) = refl
+beside_words g locals due kept (total_of u) = refl

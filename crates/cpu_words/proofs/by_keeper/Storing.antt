@@ -1,0 +1,237 @@
+-- The stores of the keeper into a slot that is vacant, or may be taken as vacant.
+use Rattle.std.proofs.Common.{◌≡◌, ◌≢◌, inl, inr, ⊎_elim, ℕ, zero, suc, ◌+◌, ◌-◌, ◌*◌, ◌<◌, List, [], length, get_or, set, Some, false, nat_lt, refl, sym, ap, ◌∙◌, subst, arith, length-set, get_or-set_same, get_or-set_other}
+use Rattle.std.proofs.lemmas.Bool.{cases_eq, lt-ltb, le-ltb}
+use Rattle.registry_values.specs.declared.settings.Settings.{Settings}
+use Rattle.protocol.specs.declared.event.Event.TheVariants.{StoreSlot, StoreNext, Vacate}
+use Rattle.protocol.specs.declared.event.Reply.TheVariants.{Done}
+use Rattle.protocol.specs.declared.state.RecordWords.{RecordWords}
+use Rattle.registry_values.specs.declared.slot.Slot.{Slot}
+use Rattle.registry_values.specs.declared.slot.Slot.TheVariants.{Vacant}
+use Rattle.protocol.specs.declared.state.Due.TheVariants.{Rest}
+use Rattle.protocol.specs.State.{State, no_words, with_cell, row_at, count_at}
+use Rattle.registry_values.specs.Slots.{slot_at}
+use Rattle.protocol.specs.Events.{step, word, with_word}
+use Rattle.protocol.proofs.slots.Cells.{by_cell, cell_here, cell_other}
+use Rattle.protocol.proofs.keeps.ListKeeps.{rows_cell}
+use Rattle.protocol.proofs.slots.Occupied.{in_within}
+use Rattle.registry_values.proofs.Fit.{ranges}
+use Rattle.cpu_words.specs.declared.view.KeeperView.{KeeperView}
+use Rattle.cpu_words.specs.declared.view.View.TheVariants.{Keeper}
+use Rattle.cpu_words.specs.Spots.{Spot, section_of, passive_of, count_of, head_word, next_of, record_of, total_of, IsSpot, word_at}
+use Rattle.cpu_words.specs.Views.{KeeperOwn, keeper_of, keeper_own, keeper_view, KeeperShown}
+use Rattle.cpu_words.specs.Rule.{Agrees, Good}
+use Rattle.cpu_words.specs.Steps.{Makes, KeeperStores}
+use Rattle.cpu_words.specs.Vacating.{MayVacate, vacated, vacant_from, as_vacant, MayWrite, IsTakenAsVacant}
+use Rattle.cpu_words.specs.Storing.{HasRecordWord, HasCountWord, HasLink}
+use Rattle.cpu_words.proofs.shown.Placing.{agrees_set}
+use Rattle.cpu_words.proofs.by_keeper.KeeperSteps.{KeeperLists, keeper_lists, with_keeper, leaves_all, keeper_makes}
+use Rattle.cpu_words.proofs.by_keeper.KeeperSees.{SeenByKeeper, seen_by_keeper}
+use Rattle.cpu_words.proofs.by_keeper.Vacating.{vacates, moves_after, same_beside}
+
+-- the keeper is at rest, and the slot is vacant
+record MayStore (k : KeeperView) (t : ℕ) : Type 0 where
+  pub rest : k.due ≡ Rest
+  pub slot : t < k.settings.slots
+  pub vacant : slot_at k.slots t ≡ Vacant
+
+-- what such a store needs of the core
+record Stores (g : State) (k : KeeperView) (t : ℕ) : Type 0 where
+  pub seen : SeenByKeeper g k
+  pub rest : g.due ≡ Rest
+  pub slot : t < g.settings.slots
+  pub vacant : slot_at g.slots t ≡ Vacant
+
+stores_of : (g : State) (k : KeeperView) (t : ℕ) → Good g → KeeperShown g k → MayStore k t → Stores g k t
+stores_of g k t good had may =
+    let seen = seen_by_keeper g k good had in record {
+      seen = seen;
+      rest = sym seen.due ∙ may.rest;
+      slot = subst (λ (z : Settings). t < z.slots) seen.settings may.slot;
+      vacant = ap (λ (x : List Slot). slot_at x t) (sym seen.slots) ∙ may.vacant;
+    }
+
+-- a store into a slot that may be taken as vacant, from one into a vacant slot
+taking : (z : Settings) (k : KeeperView) (t i v : ℕ) (T : KeeperView → KeeperView → Type 0) → MayWrite k t → ((x : KeeperView) → MayStore x t → KeeperStores z x i v (λ x n y. T x y))
+    → KeeperStores z k i v (λ x n y. IsTakenAsVacant k t × T (as_vacant k t) y)
+taking z k t i v T may stores = ⊎_elim
+    (λ (vacant : slot_at k.slots t ≡ Vacant).
+    let same : k ≡ as_vacant k t = ap (λ (x : Slot). vacant_from x k t) (sym vacant) in
+    λ s r id at fits.
+    let done = stores k (record { rest = may.rest; slot = may.slot; vacant = vacant }) s r id at fits in
+    (done.0, done.1, (done.2.0, (inl vacant, subst (λ (x : KeeperView). T x (keeper_of done.0)) same done.2.1))))
+    (λ (drained : MayVacate k t).
+    let retired = drained.drained.retired in
+    let same : vacated k t ≡ as_vacant k t = ap (λ (x : Slot). vacant_from x k t) (sym retired.1) in
+    let now : MayStore (vacated k t) t = record { rest = may.rest; slot = may.slot; vacant = get_or-set_same k.slots t Vacant Vacant (in_within k.slots t retired.0 (inr retired.1)) } in
+    λ s r id at fits.
+    let done = moves_after z (Keeper k) (Keeper (vacated k t)) i (λ _. v) (λ _ w. (w ≡ Keeper (keeper_of w)) × T (vacated k t) (keeper_of w)) (Makes (Vacate t) Done (Keeper k) (Keeper (vacated k t))) (vacates z k t drained) (stores (vacated k t) now) s r id at fits in
+    (done.0, done.1, (done.2.1.0, (inr (subst (λ (x : KeeperView). Makes (Vacate t) Done (Keeper k) (Keeper x)) same done.2.0), subst (λ (x : KeeperView). T x (keeper_of done.0)) same done.2.1.1))))
+    may.vacant
+
+-- Links
+
+link_words : (words : List ℕ) (g : State) (t v : ℕ) → Good g → t < g.settings.slots → Agrees words g → Agrees (set words (656 + 8 * t) v) (with_keeper g (record (keeper_lists g) { next = set g.next t v }))
+link_words words g t v good slot agrees = agrees_set words g (with_keeper g (record (keeper_lists g) { next = set g.next t v })) (next_of t) v good.holds.fit agrees refl slot (get_or-set_same g.next t v 0 (omega (arith, good.holds.shape.links))) other
+  where
+    other : (q : Spot) → IsSpot g.settings q → (q ≡ next_of t → ⊥) → word_at (with_keeper g (record (keeper_lists g) { next = set g.next t v })) q ≡ word_at g q
+    other (section_of c) here ne = refl
+    other (passive_of c u) here ne = refl
+    other (count_of c u) here ne = refl
+    other head_word here ne = refl
+    other (next_of u) here ne = get_or-set_other g.next t u v 0 (λ is. ne (ap next_of is))
+    other (record_of u j) here ne = refl
+    other (total_of u) here ne = refl
+
+link_may : (z : Settings) (t v : ℕ) (k : KeeperView) → MayStore k t → KeeperStores z k (656 + 8 * t) v (λ x n y. Makes (StoreNext t v) Done (Keeper x) (Keeper y) × (y ≡ record x { next = set x.next t v }))
+link_may z t v k may s r i at fits =
+    let g = r.g in
+    let had : KeeperShown g k = (r.shows.fits i (Keeper k) at).1 in
+    let on = stores_of g k t r.good had may in
+    let l : KeeperLists = record (keeper_lists g) { next = set g.next t v } in
+    let own = keeper_own k in
+    let made : step g (StoreNext t v) ≡ Some (record { state = with_keeper g l; reply = Done }) = rw (on.rest, lt-ltb t g.settings.slots on.slot, on.vacant) refl in
+    let shown : KeeperShown (with_keeper g l) (keeper_view (with_keeper g l) own) = record { is = refl; counts = had.counts; sized = had.sized; rows = had.rows; live_total = had.live_total; gives_up = had.gives_up; later = had.later; beyond = had.beyond; heard = had.heard } in
+    let done = keeper_makes z s r i k (656 + 8 * t) v l (StoreNext t v) Done own at made (leaves_all g l refl refl refl refl (λ u d is. is)) (λ n. refl) refl shown (link_words s.words g t v r.good on.slot r.words) in
+    (Keeper (keeper_view (with_keeper g l) own), done.0, (refl, (done.1, ap (λ (x : KeeperView). record x { next = set x.next t v }) (sym had.is))))
+
+pub store_next_may : (z : Settings) (k : KeeperView) (t v : ℕ) → MayWrite k t → KeeperStores z k (656 + 8 * t) v (λ x n y. IsTakenAsVacant x t × Makes (StoreNext t v) Done (Keeper (as_vacant x t)) (Keeper y) × HasLink x t v y)
+store_next_may z k t v may s r i at fits =
+    let done = taking z k t (656 + 8 * t) v (λ x y. Makes (StoreNext t v) Done (Keeper x) (Keeper y) × (y ≡ record x { next = set x.next t v })) may (link_may z t v) s r i at fits in
+    let same = (same_beside (slot_at k.slots t) k t).0 in
+    (done.0, done.1, (done.2.0, (done.2.1.0, done.2.1.1.0, done.2.1.1.1 ∙ ap (λ (n : List ℕ). record (as_vacant k t) { next = set n t v }) same)))
+
+-- Record words
+
+-- the word j of a record, and the others
+word_here : (r : RecordWords) (j v : ℕ) → j < 5 → word (with_word r j v) j ≡ v
+word_here r zero v lt = refl
+word_here r (suc zero) v lt = refl
+word_here r (suc (suc zero)) v lt = refl
+word_here r (suc (suc (suc zero))) v lt = refl
+word_here r (suc (suc (suc (suc j)))) v lt = refl
+
+word_else : (r : RecordWords) (j i v : ℕ) → j < 5 → i < 5 → i ≢ j → word (with_word r j v) i ≡ word r i
+word_else r zero zero v lt below ne = absurd (ne refl)
+word_else r zero (suc zero) v lt below ne = refl
+word_else r zero (suc (suc zero)) v lt below ne = refl
+word_else r zero (suc (suc (suc zero))) v lt below ne = refl
+word_else r zero (suc (suc (suc (suc i)))) v lt below ne = refl
+word_else r (suc zero) zero v lt below ne = refl
+word_else r (suc zero) (suc zero) v lt below ne = absurd (ne refl)
+word_else r (suc zero) (suc (suc zero)) v lt below ne = refl
+word_else r (suc zero) (suc (suc (suc zero))) v lt below ne = refl
+word_else r (suc zero) (suc (suc (suc (suc i)))) v lt below ne = refl
+word_else r (suc (suc zero)) zero v lt below ne = refl
+word_else r (suc (suc zero)) (suc zero) v lt below ne = refl
+word_else r (suc (suc zero)) (suc (suc zero)) v lt below ne = absurd (ne refl)
+word_else r (suc (suc zero)) (suc (suc (suc zero))) v lt below ne = refl
+word_else r (suc (suc zero)) (suc (suc (suc (suc i)))) v lt below ne = refl
+word_else r (suc (suc (suc zero))) zero v lt below ne = refl
+word_else r (suc (suc (suc zero))) (suc zero) v lt below ne = refl
+word_else r (suc (suc (suc zero))) (suc (suc zero)) v lt below ne = refl
+word_else r (suc (suc (suc zero))) (suc (suc (suc zero))) v lt below ne = absurd (ne refl)
+word_else r (suc (suc (suc zero))) (suc (suc (suc (suc i)))) v lt below ne = refl
+word_else r (suc (suc (suc (suc j)))) zero v lt below ne = refl
+word_else r (suc (suc (suc (suc j)))) (suc zero) v lt below ne = refl
+word_else r (suc (suc (suc (suc j)))) (suc (suc zero)) v lt below ne = refl
+word_else r (suc (suc (suc (suc j)))) (suc (suc (suc zero))) v lt below ne = refl
+word_else r (suc (suc (suc (suc j)))) (suc (suc (suc (suc i)))) v lt below ne = absurd (ne (omega arith))
+
+abbrev with_record : State → ℕ → ℕ → ℕ → KeeperLists
+with_record g t j v = record (keeper_lists g) { rows = set g.rows t (with_word (row_at g.rows t) j v) }
+
+record_words : (words : List ℕ) (g : State) (t j v : ℕ) → Good g → t < g.settings.slots → j < 5 → Agrees words g → Agrees (set words (657 + 8 * t + j) v) (with_keeper g (with_record g t j v))
+record_words words g t j v good slot lt agrees = agrees_set words g (with_keeper g (with_record g t j v)) (record_of t j) v good.holds.fit agrees refl (slot, lt) (ap (λ (r : RecordWords). word r j) here ∙ word_here (row_at g.rows t) j v lt) other
+  where
+    here : row_at (set g.rows t (with_word (row_at g.rows t) j v)) t ≡ with_word (row_at g.rows t) j v
+    here = get_or-set_same g.rows t (with_word (row_at g.rows t) j v) no_words (omega (arith, good.holds.shape.rows))
+
+    other : (q : Spot) → IsSpot g.settings q → (q ≡ record_of t j → ⊥) → word_at (with_keeper g (with_record g t j v)) q ≡ word_at g q
+    other (section_of c) there ne = refl
+    other (passive_of c u) there ne = refl
+    other (count_of c u) there ne = refl
+    other head_word there ne = refl
+    other (next_of u) there ne = refl
+    other (record_of u i) there ne = ⊎_elim
+        (λ (is : u ≡ t). subst (λ w. word (row_at (set g.rows t (with_word (row_at g.rows t) j v)) w) i ≡ word (row_at g.rows w) i) (sym is)
+        (ap (λ (r : RecordWords). word r i) here ∙ word_else (row_at g.rows t) j i v lt there.1 (λ same. ne ((λ k. record_of (is k) i) ∙ ap (record_of t) same))))
+        (λ (off : u ≢ t). ap (λ (r : RecordWords). word r i) (get_or-set_other g.rows t u (with_word (row_at g.rows t) j v) no_words off))
+        (cases_eq u t)
+    other (total_of u) there ne = refl
+
+record_may : (z : Settings) (t j v : ℕ) → j < 5 → (k : KeeperView) → MayStore k t → KeeperStores z k (657 + 8 * t + j) v (λ x n y. Makes (StoreSlot t j v) Done (Keeper x) (Keeper y) × (y ≡ record x { rows = set x.rows t (with_word (row_at x.rows t) j v) }))
+record_may z t j v lt k may s r i at fits =
+    let g = r.g in
+    let had : KeeperShown g k = (r.shows.fits i (Keeper k) at).1 in
+    let on = stores_of g k t r.good had may in
+    let l = with_record g t j v in
+    let own = keeper_own k in
+    let made : step g (StoreSlot t j v) ≡ Some (record { state = with_keeper g l; reply = Done }) = rw (lt-ltb j 5 lt, on.rest, lt-ltb t g.settings.slots on.slot, on.vacant) refl in
+    let shown : KeeperShown (with_keeper g l) (keeper_view (with_keeper g l) own) = record { is = refl; counts = had.counts; sized = had.sized; rows = had.rows; live_total = had.live_total; gives_up = had.gives_up; later = had.later; beyond = had.beyond; heard = had.heard } in
+    let done = keeper_makes z s r i k (657 + 8 * t + j) v l (StoreSlot t j v) Done own at made (leaves_all g l refl refl refl refl (λ u d is. is)) (λ n. refl) refl shown (record_words s.words g t j v r.good on.slot lt r.words) in
+    (Keeper (keeper_view (with_keeper g l) own), done.0, (refl, (done.1, ap (λ (x : KeeperView). record x { rows = set x.rows t (with_word (row_at x.rows t) j v) }) (sym had.is))))
+
+pub store_record_may : (z : Settings) (k : KeeperView) (t j v : ℕ) → j < 5 → MayWrite k t → KeeperStores z k (657 + 8 * t + j) v (λ x n y. IsTakenAsVacant x t × Makes (StoreSlot t j v) Done (Keeper (as_vacant x t)) (Keeper y) × HasRecordWord x t j v y)
+store_record_may z k t j v lt may s r i at fits =
+    let done = taking z k t (657 + 8 * t + j) v (λ x y. Makes (StoreSlot t j v) Done (Keeper x) (Keeper y) × (y ≡ record x { rows = set x.rows t (with_word (row_at x.rows t) j v) })) may (record_may z t j v lt) s r i at fits in
+    let same = (same_beside (slot_at k.slots t) k t).1 in
+    (done.0, done.1, (done.2.0, (done.2.1.0, done.2.1.1.0, done.2.1.1.1 ∙ ap (λ (n : List RecordWords). record (as_vacant k t) { rows = set n t (with_word (row_at n t) j v) }) same)))
+
+-- Count words
+
+abbrev with_count : State → ℕ → ℕ → ℕ → KeeperLists
+with_count g t c v = record (keeper_lists g) { counts = with_cell g.counts t c v }
+
+count_words : (words : List ℕ) (g : State) (t c v : ℕ) → Good g → t < g.settings.slots → c < g.settings.cpus → Agrees words g → Agrees (set words (80 * c + 33 + t) v) (with_keeper g (with_count g t c v))
+count_words words g t c v good slot lt agrees = agrees_set words g (with_keeper g (with_count g t c v)) (count_of c t) v good.holds.fit agrees refl (lt, slot) (cell_here 0 g.counts t c v within in_row) other
+  where
+    within : t < length g.counts
+    within = omega (arith, good.holds.shape.counts)
+
+    in_row : c < length (get_or g.counts t [])
+    in_row = omega (arith, good.holds.shape.count_rows t within, (ranges g.settings good.holds.fit).cpus)
+
+    other : (q : Spot) → IsSpot g.settings q → (q ≡ count_of c t → ⊥) → word_at (with_keeper g (with_count g t c v)) q ≡ word_at g q
+    other (section_of d) there ne = refl
+    other (passive_of d u) there ne = refl
+    other (count_of d u) there ne = cell_other 0 g.counts t c v u d (λ at_slot at_cpu. ne ((λ k. count_of (at_cpu k) u) ∙ ap (count_of c) at_slot))
+    other head_word there ne = refl
+    other (next_of u) there ne = refl
+    other (record_of u i) there ne = refl
+    other (total_of u) there ne = refl
+
+-- the keeper's own row of count words follows
+counts_follow : (g : State) (k : KeeperView) (t c v : ℕ) → Good g → KeeperShown g k → t < g.settings.slots → c < g.settings.cpus → (d u : ℕ) → slot_at g.slots u ≡ Vacant → count_at (with_cell g.counts t c v) d u ≡ count_at (with_cell k.counts t c v) d u
+counts_follow g k t c v good had slot lt d u vacant =
+    let in_core : t < length g.counts = omega (arith, good.holds.shape.counts) in
+    let in_own : t < length k.counts = omega (arith, had.sized) in
+    let few = (ranges g.settings good.holds.fit).cpus in
+    let row = good.holds.shape.count_rows t in_core in
+    let own_row = had.rows t in_own in
+    by_cell (λ w e. count_at (with_cell g.counts t c v) e w ≡ count_at (with_cell k.counts t c v) e w) t c u d
+    (cell_here 0 g.counts t c v in_core (omega (arith, row, few, lt)) ∙ sym (cell_here 0 k.counts t c v in_own (omega (arith, own_row, few, lt))))
+    (λ off. cell_other 0 g.counts t c v u d off ∙ had.counts d u vacant ∙ sym (cell_other 0 k.counts t c v u d off))
+
+count_may : (z : Settings) (t c v : ℕ) → c < z.cpus → (k : KeeperView) → MayStore k t → KeeperStores z k (80 * c + 33 + t) v (λ x n y. Makes (StoreSlot t (5 + c) v) Done (Keeper x) (Keeper y) × (y ≡ record x { counts = with_cell x.counts t c v }))
+count_may z t c v within k may s r i at fits =
+    let g = r.g in
+    let had : KeeperShown g k = (r.shows.fits i (Keeper k) at).1 in
+    let on = stores_of g k t r.good had may in
+    let lt : c < g.settings.cpus = subst (λ (a : Settings). c < a.cpus) (sym r.settings) within in
+    let l = with_count g t c v in
+    let own : KeeperOwn = record (keeper_own k) { counts = with_cell k.counts t c v } in
+    let past : nat_lt (5 + c) 5 ≡ false = le-ltb (5 + c) 5 (omega arith) in
+    let back : (5 + c) - 5 ≡ c = omega arith in
+    let made : step g (StoreSlot t (5 + c) v) ≡ Some (record { state = with_keeper g l; reply = Done }) = rw (past, back, on.rest, lt-ltb t g.settings.slots on.slot, on.vacant, lt-ltb c g.settings.cpus lt) refl in
+    let shown : KeeperShown (with_keeper g l) (keeper_view (with_keeper g l) own) = record { is = refl; counts = counts_follow g k t c v r.good had on.slot lt; sized = length-set k.counts t _ ∙ had.sized; rows = rows_cell k.counts t c v had.rows; live_total = had.live_total; gives_up = had.gives_up; later = had.later; beyond = had.beyond; heard = had.heard } in
+    let done = keeper_makes z s r i k (80 * c + 33 + t) v l (StoreSlot t (5 + c) v) Done own at made (leaves_all g l refl refl refl refl (λ u d is. is)) (λ n. refl) refl shown (count_words s.words g t c v r.good on.slot lt r.words) in
+    (Keeper (keeper_view (with_keeper g l) own), done.0, (refl, (done.1, ap (λ (x : KeeperView). record x { counts = with_cell k.counts t c v }) (sym had.is))))
+
+pub store_count_may : (z : Settings) (k : KeeperView) (t c v : ℕ) → c < k.settings.cpus → MayWrite k t
+    → KeeperStores z k (80 * c + 33 + t) v (λ x n y. IsTakenAsVacant x t × Makes (StoreSlot t (5 + c) v) Done (Keeper (as_vacant x t)) (Keeper y) × HasCountWord x t ((5 + c) - 5) v y)
+store_count_may z k t c v lt may s r i at fits =
+    let seen = seen_by_keeper r.g k r.good (r.shows.fits i (Keeper k) at).1 in
+    let within : c < z.cpus = subst (λ (a : Settings). c < a.cpus) (seen.settings ∙ r.settings) lt in
+    let done = taking z k t (80 * c + 33 + t) v (λ x y. Makes (StoreSlot t (5 + c) v) Done (Keeper x) (Keeper y) × (y ≡ record x { counts = with_cell x.counts t c v })) may (count_may z t c v within) s r i at fits in
+    let back : c ≡ (5 + c) - 5 = omega arith in
+    (done.0, done.1, (done.2.0, (done.2.1.0, done.2.1.1.0, done.2.1.1.1 ∙ ap (λ d. record (as_vacant k t) { counts = with_cell (as_vacant k t).counts t d v }) back)))

@@ -1,0 +1,360 @@
+-- Totals on the words: what was collected is added, and a reference that is given up is subtracted.
+use Rattle.std.proofs.Common.{◌≡◌, ◌≢◌, inl, inr, ⊎_elim, ℕ, ◌+◌, ◌-◌, ◌%◌, ◌^◌, ◌≤◌, ◌<◌, ◌==◌, List, [], length, get_or, set, Some, Bool, true, false, cond, eq-eqb, ne_eqb, refl, sym, ap, ◌∙◌, subst, arith}
+use Rattle.std.proofs.lemmas.Bool.{cases_eq, cases_lt}
+use Rattle.std.specs.Prelude.{slice_index}
+use mathlib.Core.Option.{some}
+use lib.ListN.{get_elem?}
+use Rattle.atomic_table.specs.Table.{Joins as TableJoins}
+use Rattle.atomic_table.proofs.Lists.{at_set}
+use Rattle.registry_values.specs.declared.entry.Entry.{Entry}
+use Rattle.registry_values.specs.declared.entry.Change.TheVariants.{Attach}
+use Rattle.registry_values.specs.declared.settings.Settings.{Settings}
+use Rattle.registry_values.specs.declared.mark.Mark.{Mark}
+use Rattle.registry_values.specs.declared.slot.Slot.{Slot}
+use Rattle.registry_values.specs.declared.slot.Slot.TheVariants.{Live, Retired}
+use Rattle.protocol.specs.declared.state.LocalPlace.TheVariants.{Free, Standing}
+use Rattle.protocol.specs.declared.state.Due.TheVariants.{Rest, Adding, Subtracting}
+use Rattle.protocol.specs.declared.event.Event.TheVariants.{TotalAdd, TotalSub, JoinKeeper}
+use Rattle.protocol.specs.declared.event.Reply.TheVariants.{Done}
+use Rattle.protocol.specs.State.{State, mark_at, total_at}
+use Rattle.registry_values.specs.Balances.{bias}
+use Rattle.registry_values.specs.Marks.{no_mark, is_collected, is_some_collected}
+use Rattle.registry_values.specs.Slots.{slot_at, slot_of}
+use Rattle.protocol.specs.Events.{step, total_add, total_sub}
+use Rattle.protocol.specs.Invariant.{IsIn, one_if, subtracting_at, adding_at, is_adding_at}
+use Rattle.protocol.proofs.history.History.{at_within, one_entry}
+use Rattle.protocol.proofs.slots.Occupied.{attached_in, one_in, one_number, in_within}
+use Rattle.protocol.proofs.slots.Cells.{total_here, total_other}
+use Rattle.protocol.proofs.counts.HeldSums.{one_self, one_other}
+use Rattle.protocol.proofs.keeps.References.{due_adding, due_subtracting}
+use Rattle.protocol.proofs.keeps.MarkKeeps.{mark_place}
+use Rattle.protocol.proofs.slots.Numbers.{slot_number}
+use Rattle.protocol.proofs.slots.MarkRows.{any_within}
+use Rattle.protocol.proofs.counts.Sums.{local_changed, standing_within}
+use Rattle.protocol.proofs.counts.Bounds.{adding_range, adding_within, subtracting_range}
+use Rattle.cpu_words.specs.declared.view.KeeperView.{KeeperView}
+use Rattle.cpu_words.specs.declared.view.ReferenceView.{ReferenceView}
+use Rattle.cpu_words.specs.declared.view.View.{View}
+use Rattle.cpu_words.specs.declared.view.View.TheVariants.{Keeper, Reference, Spent}
+use Rattle.cpu_words.specs.Spots.{Spot, section_of, passive_of, count_of, head_word, next_of, record_of, total_of, word_at}
+use Rattle.cpu_words.specs.Views.{KeeperOwn, keeper_own, keeper_view, number_at, one_more, is_to, IsCollectedFor, KeeperShown, ReferenceShown, GivesUp, keeper_of, reference_of}
+use Rattle.cpu_words.specs.Rule.{Agrees, Good, Ruled}
+use Rattle.cpu_words.specs.Steps.{Makes, JoinsBy, KeeperMay, KeeperStores}
+use Rattle.cpu_words.specs.Draining.{MayTotalAdd, TotalAddTold, MayTotalSub, TotalSubTold, MayJoinKeeper, giving_up, with_given_up}
+use Rattle.cpu_words.proofs.laws.Reaching.{reached_more}
+use Rattle.cpu_words.proofs.shown.Placing.{agrees_set, agrees_same}
+use Rattle.cpu_words.proofs.shown.Showing.{standing_in, backed, shows_join}
+use Rattle.cpu_words.proofs.by_cpu.Counting.{one_more_same, one_more_other}
+use Rattle.cpu_words.proofs.by_keeper.KeeperSteps.{beside, beside_stays, beside_words, KeeperLists, keeper_lists, with_keeper, leaves_all, keeper_good_after, keeper_makes}
+use Rattle.cpu_words.proofs.shown.Standing.{standing_place}
+use Rattle.cpu_words.proofs.by_keeper.KeeperSees.{seen_by_keeper}
+use Rattle.cpu_words.proofs.by_keeper.Marked.{due_alike}
+
+-- Counts by number
+
+-- one more at n, and nothing at other numbers
+pub one_more_at : (l : List ℕ) (n m : ℕ) → number_at (one_more l n) m ≡ number_at l m + one_if (m == n)
+one_more_at l n m = ⊎_elim
+    (λ (same : m ≡ n).
+    let one = one_self m n same in
+    let new = ap (number_at (one_more l n)) same ∙ one_more_same l n in
+    let old = ap (number_at l) same in
+    omega (arith, one, new, old))
+    (λ (off : m ≢ n). let none = one_other m n off in let new = one_more_other l n m off in omega (arith, none, new))
+    (cases_eq m n)
+
+-- the words after a total was written
+pub total_words : (words : List ℕ) (g : State) (l : KeeperLists) (t v : ℕ) → Good g → t < g.settings.slots → Agrees words g
+    → l.head ≡ g.head → l.next ≡ g.next → l.rows ≡ g.rows → l.counts ≡ g.counts → l.totals ≡ set g.totals t v → Agrees (set words (912 + t) v) (with_keeper g l)
+total_words words g l t v good slot agrees head next rows counts totals = agrees_set words g (with_keeper g l) (total_of t) v good.holds.fit agrees refl slot
+    (ap (λ (x : List ℕ). total_at x t) totals ∙ total_here g.totals t v (omega (arith, slot, good.holds.shape.totals))) (λ q _ ne. other q ne)
+  where
+    other : (q : Spot) → (q ≡ total_of t → ⊥) → word_at (with_keeper g l) q ≡ word_at g q
+    other (section_of d) ne = refl
+    other (passive_of d u) ne = refl
+    other (count_of d u) ne = ap (λ (x : List (List ℕ)). word_at (record g { counts = x }) (count_of d u)) counts
+    other head_word ne = head
+    other (next_of u) ne = ap (λ (x : List ℕ). get_or x u 0) next
+    other (record_of u j) ne = λ i. word_at (record g { rows = rows i }) (record_of u j)
+    other (total_of u) ne = ap (λ (x : List ℕ). total_at x u) totals ∙ total_other g.totals t v u (λ e. ne (ap total_of e))
+
+-- the total of the slot t is written, and the keeper is at rest
+abbrev totalling : State → ℕ → ℕ → KeeperLists
+totalling g t v = record (keeper_lists g) { totals = set g.totals t v; due = Rest }
+
+-- what the keeper's view shows of it
+shown_added : (g : State) (k : KeeperView) (t old : ℕ) → Good g → KeeperShown g k → g.due ≡ Adding t old
+    → KeeperShown (with_keeper g (totalling g t (total_at g.totals t + old - bias))) (keeper_view (with_keeper g (totalling g t (total_at g.totals t + old - bias))) (keeper_own k))
+shown_added g k t old good had due = record {
+  is = refl;
+  counts = had.counts;
+  sized = had.sized;
+  rows = had.rows;
+  live_total = λ u e live. ap (λ n. n + number_at k.given_up e.number) (total_other g.totals t v u (λ same. let q : Live e ≡ Retired gone.0 = sym live ∙ ap (slot_at g.slots) same ∙ gone.1 in cc)) ∙ had.live_total u e live;
+  gives_up = λ u e retired. each u e (had.gives_up u e retired);
+  later = had.later;
+  beyond = had.beyond;
+  heard = had.heard;
+}
+  where
+    v : ℕ
+    v = total_at g.totals t + old - bias
+
+    gone : (e : Entry) × (slot_at g.slots t ≡ Retired e)
+    gone = due_adding g.settings.cpus g.slots g.hands g.due g.locals t old due good.holds.references
+
+    each : (u : ℕ) (e : Entry) → GivesUp g k.given_up u e.number → GivesUp (with_keeper g (totalling g t v)) k.given_up u e.number
+    each u e was = ⊎_elim
+        (λ (is : u ≡ t).
+        let old_total : total_at g.totals u ≡ total_at g.totals t = ap (total_at g.totals) is in
+        let new_total : total_at (set g.totals t v) u ≡ v = ap (total_at (set g.totals t v)) is ∙ total_here g.totals t v (omega (arith, adding_within g t old good.holds due, good.holds.shape.totals)) in
+        let a : adding_at u g.due ≡ old = ap (adding_at u) due ∙ ap (λ (b : Bool). cond b old 0) (eq-eqb t u (sym is)) in
+        let b : is_adding_at u g.due ≡ 1 = ap (is_adding_at u) due ∙ one_self t u (sym is) in
+        let none : subtracting_at u g.due ≡ 0 = ap (subtracting_at u) due in
+        let range = (adding_range g t old good.holds due).0 in
+        omega (arith, was, old_total, new_total, a, b, none, range))
+        (λ (off : u ≢ t).
+        let total = total_other g.totals t v u off in
+        let ne : t ≢ u = λ q. off (sym q) in
+        let a : adding_at u g.due ≡ 0 = ap (adding_at u) due ∙ ap (λ (b : Bool). cond b old 0) (ne_eqb t u ne) in
+        let b : is_adding_at u g.due ≡ 0 = ap (is_adding_at u) due ∙ one_other t u ne in
+        let none : subtracting_at u g.due ≡ 0 = ap (subtracting_at u) due in
+        omega (arith, was, total, a, b, none))
+        (cases_eq u t)
+
+pub total_add_may : (z : Settings) (k : KeeperView) (t old value : ℕ) → MayTotalAdd k t old value → KeeperStores z k (912 + t) value (λ v n l. Makes (TotalAdd t) Done (Keeper v) (Keeper l) × TotalAddTold (TotalAdd t) v n l)
+total_add_may z k t old value may s r i at fits =
+    let g = r.g in
+    let had : KeeperShown g k = (r.shows.fits i (Keeper k) at).1 in
+    let seen = seen_by_keeper g k r.good had in
+    let due : g.due ≡ Adding t old = sym seen.due ∙ may.due in
+    let v = total_at g.totals t + old - bias in
+    let is : value ≡ v = may.sum ∙ ap (λ (x : List ℕ). total_at x t + old - bias) seen.totals in
+    let l : KeeperLists = totalling g t v in
+    let own : KeeperOwn = keeper_own k in
+    let made : step g (TotalAdd t) ≡ Some (record { state = with_keeper g l; reply = Done }) = ap (total_add g t) due ∙ rw (eq-eqb t t refl) refl in
+    let words : Agrees (set s.words (912 + t) value) (with_keeper g l) = subst (λ n. Agrees (set s.words (912 + t) n) (with_keeper g l)) (sym is) (total_words s.words g l t v r.good (adding_within g t old r.good.holds due) r.words refl refl refl refl refl) in
+    let done = keeper_makes z s r i k (912 + t) value l (TotalAdd t) Done own at made (leaves_all g l refl refl refl refl (λ u d on. on)) (λ n. refl) refl (shown_added g k t old r.good had due) words in
+    let change : keeper_view (with_keeper g l) own ≡ record k { totals = set k.totals t value; due = Rest } =
+    ap (λ n. record (keeper_view g own) { totals = set g.totals t n; due = Rest }) (sym is) ∙ ap (λ (x : KeeperView). record x { totals = set x.totals t value; due = Rest }) (sym had.is) in
+    (Keeper (keeper_view (with_keeper g l) own), done.0, (refl, (done.1, change)))
+
+-- an entry's number is one of the history's
+number_in_history : (g : State) (t : ℕ) (e : Entry) → Good g → IsIn e (slot_at g.slots t) → e.number ≤ length g.history
+number_in_history g t e good here = (at_within g.history e.number (Attach e) (attached_in g.history g.slots t e good.holds.slots here).0).1
+
+-- 1 at the slot t, where a subtraction is due, and 0 at the others
+abbrev one_due : ℕ → ℕ → ℕ
+one_due t u = subtracting_at u (Subtracting t)
+
+-- one more reference to the entry e of t is given up: what is counted of all occupants
+one_given : (g : State) (t : ℕ) (e : Entry) (given_up : List ℕ) → Good g → IsIn e (slot_at g.slots t)
+    → (u : ℕ) (f : Entry) → IsIn f (slot_at g.slots u) → number_at (one_more given_up e.number) f.number ≡ number_at given_up f.number + one_due t u
+one_given g t e given_up good here u f there =
+    let more = one_more_at given_up e.number f.number in
+    ⊎_elim
+    (λ (is : u ≡ t).
+    let same : f ≡ e = one_in f e (slot_at g.slots t) here (subst (λ v. IsIn f (slot_at g.slots v)) is there) in
+    let a = one_self f.number e.number (ap (λ (x : Entry). x.number) same) in
+    let b = one_self t u (sym is) in
+    omega (arith, more, a, b))
+    (λ (off : u ≢ t).
+    let a = one_other f.number e.number (λ q. off (one_number g.history g.slots t u e f good.holds.slots here there q).0) in
+    let b = one_other t u (λ q. off (sym q)) in
+    omega (arith, more, a, b))
+    (cases_eq u t)
+
+-- the total of t is one less: what the totals of all slots were
+one_subtracted : (totals : List ℕ) (t : ℕ) → t < length totals → 0 < total_at totals t → (u : ℕ) → total_at (set totals t (total_at totals t - 1)) u + one_due t u ≡ total_at totals u
+one_subtracted totals t lt some_left u = ⊎_elim
+    (λ (is : u ≡ t).
+    let new = ap (total_at (set totals t (total_at totals t - 1))) is ∙ total_here totals t (total_at totals t - 1) lt in
+    let old = ap (total_at totals) is in
+    let one = one_self t u (sym is) in
+    omega (arith, new, old, one, some_left))
+    (λ (off : u ≢ t).
+    let total = total_other totals t (total_at totals t - 1) u off in
+    let none = one_other t u (λ q. off (sym q)) in
+    omega (arith, total, none))
+    (cases_eq u t)
+
+-- an occupied slot has a total
+total_within : (g : State) (t : ℕ) (e : Entry) → Good g → IsIn e (slot_at g.slots t) → t < length g.totals
+total_within g t e good here = omega (arith, in_within g.slots t e here, good.holds.shape.slots, good.holds.shape.totals)
+
+-- a reference to the entry e of t is given up, and subtracted from the total of t: what the totals of all slots show
+pub shown_less : (g : State) (k : KeeperView) (t : ℕ) (e : Entry) → Good g → IsIn e (slot_at g.slots t) → 0 < total_at g.totals t
+    → (u : ℕ) (f : Entry) → IsIn f (slot_at g.slots u) → total_at (set g.totals t (total_at g.totals t - 1)) u + number_at (one_more k.given_up e.number) f.number ≡ total_at g.totals u + number_at k.given_up f.number
+shown_less g k t e good here some_left u f there =
+    let given = one_given g t e k.given_up good here u f there in
+    let less = one_subtracted g.totals t (total_within g t e good here) some_left u in
+    omega (arith, given, less)
+
+-- a subtraction is due at no live entry's slot
+none_due : (g : State) (t u : ℕ) (e f : Entry) → slot_at g.slots t ≡ Retired e → slot_at g.slots u ≡ Live f → one_due t u ≡ 0
+none_due g t u e f retired live = one_other t u (λ same. let q : Live f ≡ Retired e = sym live ∙ ap (slot_at g.slots) (sym same) ∙ retired in cc)
+
+-- no later entry's references are given up
+pub later_less : (g : State) (k : KeeperView) (t : ℕ) (e : Entry) → Good g → KeeperShown g k → IsIn e (slot_at g.slots t) → (n : ℕ) → length g.history < n → number_at (one_more k.given_up e.number) n ≡ 0
+later_less g k t e good had here n above =
+    let le = number_in_history g t e good here in
+    let ne : n ≢ e.number = λ same. absurd (omega (arith, le, above, same)) in
+    one_more_other k.given_up e.number n ne ∙ had.later n above
+
+shown_subtracted : (g : State) (k : KeeperView) (t : ℕ) (e : Entry) → Good g → KeeperShown g k → slot_at g.slots t ≡ Retired e → g.due ≡ Subtracting t
+    → KeeperShown (with_keeper g (totalling g t (total_at g.totals t - 1))) (keeper_view (with_keeper g (totalling g t (total_at g.totals t - 1))) (keeper_own k))
+shown_subtracted g k t e good had retired due =
+    let less = one_subtracted g.totals t (total_within g t e good (inr retired)) (subtracting_range g t good.holds due).1 in record {
+      is = refl;
+      counts = had.counts;
+      sized = had.sized;
+      rows = had.rows;
+      live_total = λ u f live.
+          let was = had.live_total u f live in
+          let none = none_due g t u e f retired live in
+          omega (arith, was, less u, none);
+      gives_up = λ u f gone.
+          let was : GivesUp g k.given_up u f.number = had.gives_up u f gone in
+          let d = due_alike g.due (Subtracting t) due u in
+          omega (arith, was, less u, d.0, d.1, d.2);
+      later = had.later;
+      beyond = had.beyond;
+      heard = had.heard;
+    }
+
+pub total_sub_may : (z : Settings) (k : KeeperView) (t : ℕ) → MayTotalSub k t → KeeperMay z k (912 + t) (λ n. (n + (2 ^ 64 - 1)) % 2 ^ 64) (λ v n l. Makes (TotalSub t) Done (Keeper v) (Keeper l) × TotalSubTold (TotalSub t) v l)
+total_sub_may z k t may s r i at fits =
+    let g = r.g in
+    let had : KeeperShown g k = (r.shows.fits i (Keeper k) at).1 in
+    let seen = seen_by_keeper g k r.good had in
+    let due : g.due ≡ Subtracting t = sym seen.due ∙ may in
+    let range = subtracting_range g t r.good.holds due in
+    let gone = due_subtracting g.settings.cpus g.slots g.hands g.due g.locals t due r.good.holds.references in
+    let e = gone.0 in
+    let v = total_at g.totals t - 1 in
+    let w = slice_index s.words (912 + t) in
+    let found : w ≡ total_at g.totals t = r.words.at (total_of t) range.0 in
+    let next : (w + (2 ^ 64 - 1)) % 2 ^ 64 ≡ v = omega (arith, found, range.1, fits) in
+    let l : KeeperLists = totalling g t v in
+    let own : KeeperOwn = keeper_own k in
+    let made : step g (TotalSub t) ≡ Some (record { state = with_keeper g l; reply = Done }) = ap (total_sub g t) due ∙ rw (eq-eqb t t refl) refl in
+    let words : Agrees (set s.words (912 + t) ((w + (2 ^ 64 - 1)) % 2 ^ 64)) (with_keeper g l) = subst (λ n. Agrees (set s.words (912 + t) n) (with_keeper g l)) (sym next) (total_words s.words g l t v r.good range.0 r.words refl refl refl refl refl) in
+    let done = keeper_makes z s r i k (912 + t) ((w + (2 ^ 64 - 1)) % 2 ^ 64) l (TotalSub t) Done own at made (leaves_all g l refl refl refl refl (λ u d on. on)) (λ n. refl) refl (shown_subtracted g k t e r.good had gone.1 due) words in
+    let change : keeper_view (with_keeper g l) own ≡ record k { totals = set k.totals t (total_at k.totals t - 1); due = Rest } =
+    ap (λ (x : KeeperView). record x { totals = set x.totals t (total_at x.totals t - 1); due = Rest }) (sym had.is) in
+    (Keeper (keeper_view (with_keeper g l) own), done.0, (refl, (done.1, (e, ap (λ (x : List Slot). slot_at x t) seen.slots ∙ gone.1, change))))
+
+-- References given up under the interlock
+
+-- a reference is the keeper's, and is to be subtracted from the total of t
+abbrev joining : State → ℕ → ℕ → KeeperLists
+joining g id t = beside g (set g.locals id Free) (Subtracting t) g.keeps
+
+-- a count word was collected for the reference's entry, which is retired
+record CollectedOf (g : State) (v : ReferenceView) : Type 0 where
+  retired : slot_at g.slots v.entry.slot ≡ Retired v.entry
+  some_one : is_some_collected g.settings.cpus (get_or g.marks v.entry.slot []) ≡ true
+
+collected_of : (g : State) (k : KeeperView) (v : ReferenceView) → Good g → KeeperShown g k → ReferenceShown g v → MayJoinKeeper k v → CollectedOf g v
+collected_of g k v good had ref may = ⊎_elim
+    (λ (there : (c : ℕ) × (v.collected ≡ Some c)). by_release there.0 (ref.collected there.0 there.1))
+    (λ (there : (t : ℕ) × (c : ℕ) × (e : Entry) × (slot_at k.slots t ≡ Retired e) × (e.number ≡ v.entry.number) × ((mark_at k.marks t c).collected ≡ true)). by_keeper there.0 there.1 there.2 there.3 there.4 there.5)
+    may.is_collected
+  where
+    by_release : (c : ℕ) → IsCollectedFor g.slots g.marks v.entry c → CollectedOf g v
+    by_release c is =
+        let lt : c < g.settings.cpus = ⊎_elim
+        (λ (low : c < g.settings.cpus). low)
+        (λ (past : g.settings.cpus ≤ c). absurd (let q : ◌≡◌ {A = Bool} false true = sym (had.beyond c v.entry.slot past) ∙ is.1 in cc))
+        (cases_lt c g.settings.cpus) in
+        let place = mark_place g v.entry.slot c v.entry good.holds is.0 lt in record {
+          retired = is.0;
+          some_one = any_within is_collected g.settings.cpus (get_or g.marks v.entry.slot []) no_mark c lt place.1 is.1;
+        }
+
+    by_keeper : (t c : ℕ) (e : Entry) → slot_at k.slots t ≡ Retired e → e.number ≡ v.entry.number → (mark_at k.marks t c).collected ≡ true → CollectedOf g v
+    by_keeper t c e retired number marked =
+        let seen = seen_by_keeper g k good had in
+        let gone : slot_at g.slots t ≡ Retired e = sym (ap (λ (x : List Slot). slot_at x t) seen.slots) ∙ retired in
+        let show = good.holds.slots.retired t e gone in
+        let one : e ≡ v.entry = one_entry g.history e v.entry show.0 ref.attached number in
+        let slot : t ≡ v.entry.slot = sym show.1 ∙ ap (λ (x : Entry). x.slot) one in
+        by_release c (
+          subst (λ (u : ℕ). slot_at g.slots u ≡ Retired v.entry) slot (gone ∙ ap (λ (x : Entry). Retired x) one),
+          subst (λ (u : ℕ). (mark_at g.marks u c).collected ≡ true) slot (ap (λ (x : List (List Mark)). (mark_at x t c).collected) (sym seen.marks) ∙ marked),
+        )
+
+pub join_keeper_law : (k : KeeperView) (v : ReferenceView) → MayJoinKeeper k v → JoinsBy JoinKeeper (Keeper k) (Reference v) (Keeper (giving_up k v))
+join_keeper_law k v may g good had ref backs =
+    let n = v.entry.number in
+    let t = v.entry.slot in
+    let there = collected_of g k v good had ref may in
+    let seen = seen_by_keeper g k good had in
+    let rest : g.due ≡ Rest = sym seen.due ∙ may.rest in
+    let one : one_if (is_to n v.entry) ≡ 1 = one_self n n refl in
+    let some_one : one_if (is_to n v.entry) ≤ standing_in n g = backs n in
+    let place = standing_place n g.locals (omega arith) in
+    let id = place.0 in
+    let of : slot_of g.slots n ≡ Some t = slot_number g.history g.slots v.entry t good.holds.slots (inr there.retired) in
+    let l : KeeperLists = joining g id t in
+    let made : step g (JoinKeeper id) ≡ Some (record { state = with_keeper g l; reply = Done }) = rw (place.1, of, there.retired, rest, there.some_one) refl in
+    record {
+      id = id;
+      after = with_keeper g l;
+      made = made;
+      good_after = keeper_good_after g l (JoinKeeper id) Done good (leaves_all g l refl refl refl refl (λ u d on. on)) made;
+      shown = record {
+        is = ap (λ (x : KeeperView). record x { due = Subtracting t; given_up = one_more x.given_up n }) had.is;
+        counts = had.counts;
+        sized = had.sized;
+        rows = had.rows;
+        live_total = λ u e live.
+            let was = had.live_total u e live in
+            let given = one_given g t v.entry k.given_up good (inr there.retired) u e (inl live) in
+            let none = none_due g t u v.entry e there.retired live in
+            omega (arith, was, given, none);
+        gives_up = λ u e gone.
+            let was : GivesUp g k.given_up u e.number = had.gives_up u e gone in
+            let given = one_given g t v.entry k.given_up good (inr there.retired) u e (inr gone) in
+            let d = due_alike g.due Rest rest u in
+            omega (arith, was, given, d.0, d.1, d.2);
+        later = later_less g k t v.entry good had (inr there.retired);
+        beyond = had.beyond;
+        heard = had.heard;
+      };
+      count = λ m. let a = local_changed m g.locals id (Standing n) Free (standing_within g.locals id n place.1) place.1 in omega arith;
+    }
+
+joins_at : (z : Settings) (i : ℕ) (k : KeeperView) (o : ℕ) (v : ReferenceView) → MayJoinKeeper k v → TableJoins (Ruled z) i (Keeper k) o (Reference v) (Keeper (giving_up k v)) Spent
+unfolding join_keeper_law
+joins_at z i k o v may s r at apart there =
+    let g = r.g in
+    let both = Keeper (giving_up k v) in
+    let had = r.shows.fits i (Keeper k) at in
+    let was : get_elem? s.views o ≡ some (Reference v) = ⊎_elim
+    (λ (q : (o ≡ i) × (both ≡ Reference v)). absurd (apart q.0))
+    (λ (q : (o ≢ i) × (get_elem? s.views o ≡ some (Reference v))). q.1)
+    (at_set s.views i o both (Reference v) there) in
+    let law = join_keeper_law k v may g r.good had.1 (r.shows.fits o (Reference v) was).1 (backed g r.seat s.views o (Reference v) r.shows was) in
+    record {
+      g = law.after;
+      seat = r.seat;
+      settings = r.settings;
+      good = law.good_after;
+      reached = reached_more z g law.after (JoinKeeper law.id) Done r.reached law.made;
+      words = agrees_same s.words g law.after r.words refl (λ q _. beside_words g (set g.locals law.id Free) (Subtracting v.entry.slot) g.keeps q);
+      shows = shows_join g law.after r.seat s.views i (Keeper k) o (Reference v) both r.shows at apart was (beside_stays g (set g.locals law.id Free) (Subtracting v.entry.slot) g.keeps r.seat i had.0) (had.0, law.shown) law.count there;
+    }
+
+-- the same of seats' views
+pub joins_keeper : (z : Settings) (i : ℕ) (x : View) (o : ℕ) (u : View) (k : KeeperView) (v : ReferenceView) → x ≡ Keeper (keeper_of x) → keeper_of x ≡ k → u ≡ Reference (reference_of u) → reference_of u ≡ v → MayJoinKeeper k v
+    → TableJoins (Ruled z) i x o u (with_given_up x u) Spent
+joins_keeper z i x o u k v keeper k_is ref v_is may =
+    let x_is : x ≡ Keeper k = keeper ∙ ap Keeper k_is in
+    let u_is : u ≡ Reference v = ref ∙ ap Reference v_is in
+    subst (λ (p : View × View). TableJoins (Ruled z) i p.0 o p.1 (with_given_up p.0 p.1) Spent) (λ j. (sym x_is j, sym u_is j)) (joins_at z i k o v may)
+
+pub join_keeper_by : (x u y : View) (k : KeeperView) (v : ReferenceView) → keeper_of x ≡ k → reference_of u ≡ v → y ≡ with_given_up x u → MayJoinKeeper k v → JoinsBy JoinKeeper (Keeper k) (Reference v) (Keeper (keeper_of y))
+join_keeper_by x u y k v k_is v_is y_is may =
+    let is : keeper_of y ≡ giving_up k v = ap keeper_of y_is ∙ (λ j. giving_up (k_is j) (v_is j)) in
+    subst (λ w. JoinsBy JoinKeeper (Keeper k) (Reference v) (Keeper w)) (sym is) (join_keeper_law k v may)

@@ -1,0 +1,108 @@
+-- Vacate by the keeper's seat: it touches no word, so it is made just before the first word that is stored.
+use Rattle.std.proofs.Common.{◌≡◌, inl, inr, ℕ, zero, suc, List, [], ◌∷◌, set, replicate, Option, Some, None, refl, sym, ap, ◌∙◌, subst, length-set}
+use Rattle.std.proofs.lemmas.List.{set-get_or}
+use Rattle.std.specs.Prelude.{slice_index}
+use mathlib.Core.Option.{some, some-ne-none}
+use lib.ListN.{get_elem?}
+use Rattle.atomic_table.specs.Table.{State as Table}
+use Rattle.registry_values.specs.declared.entry.Entry.{Entry}
+use Rattle.registry_values.specs.declared.settings.Settings.{Settings}
+use Rattle.protocol.specs.declared.event.Event.TheVariants.{Vacate}
+use Rattle.protocol.specs.declared.event.Reply.TheVariants.{Done}
+use Rattle.registry_values.specs.declared.slot.Slot.{Slot}
+use Rattle.registry_values.specs.declared.slot.Slot.TheVariants.{Vacant, Live, Retired}
+use Rattle.protocol.specs.State.{State, kept_at}
+use Rattle.protocol.specs.Events.{step, after_vacate}
+use Rattle.protocol.proofs.keeps.ListKeeps.{rows_put}
+use Rattle.cpu_words.specs.declared.view.KeeperView.{KeeperView}
+use Rattle.cpu_words.specs.declared.view.View.{View}
+use Rattle.cpu_words.specs.declared.view.View.TheVariants.{Keeper}
+use Rattle.cpu_words.specs.Views.{keeper_own, keeper_view, KeeperShown}
+use Rattle.cpu_words.specs.Rule.{Ruled}
+use Rattle.cpu_words.specs.Steps.{ChangesBy, Makes, Moves}
+use Rattle.cpu_words.specs.Vacating.{MayVacate, vacated, vacant_from}
+use Rattle.cpu_words.proofs.by_keeper.KeeperSteps.{KeeperLists, with_keeper, keeper_good_after, keeper_makes}
+use Rattle.cpu_words.proofs.by_keeper.Drained.{Drained, drained_of, vacating, vacated_leaves, vacated_counts, stood}
+use Rattle.cpu_words.proofs.by_keeper.KeeperSees.{seen_by_keeper, loads}
+
+-- the state after it, and the keeper's view
+abbrev emptied : State → ℕ → KeeperLists
+emptied g t = vacating g t g.totals g.keeps
+
+shown_vacated : (g : State) (k : KeeperView) (t : ℕ) (e : Entry) → KeeperShown g k → Drained g t e → KeeperShown (with_keeper g (emptied g t)) (keeper_view (with_keeper g (emptied g t)) (keeper_own (vacated k t)))
+shown_vacated g k t e had drained = record {
+  is = refl;
+  counts = vacated_counts g k t e had drained;
+  sized = length-set k.counts t (replicate 8 0) ∙ had.sized;
+  rows = rows_put k.counts t (replicate 8 0) refl had.rows;
+  live_total = λ u f live. had.live_total u f (stood g t u e f (Live f) drained live (inl refl));
+  gives_up = λ u f gone. had.gives_up u f (stood g t u e f (Retired f) drained gone (inr refl));
+  later = had.later;
+  beyond = had.beyond;
+  heard = had.heard;
+}
+
+-- the table with another view of the seat i
+abbrev pub with_view : Table ℕ View → ℕ → View → Table ℕ View
+with_view s i v = record s { views = set s.views i v }
+
+-- Vacate is the change of the view alone
+pub vacate_by : (k : KeeperView) (t : ℕ) → MayVacate k t → ChangesBy (Vacate t) (Keeper k) (Keeper (vacated k t))
+vacate_by k t may g good had =
+    let drained = drained_of g k t good had may.drained in
+    let e = may.drained.retired.0 in
+    let keeps_none : kept_at g.keeps t ≡ None = ap (λ (x : List (Option ℕ)). kept_at x t) (sym (seen_by_keeper g k good had).keeps) ∙ may.keeps_nothing in
+    let made : step g (Vacate t) ≡ Some (record { state = after_vacate g t; reply = Done }) = rw (keeps_none, drained.is) refl in
+    let is : keeper_view (with_keeper g (emptied g t)) (keeper_own (vacated k t)) ≡ vacated k t = ap (λ (v : KeeperView). record v { slots = set v.slots t Vacant; counts = set k.counts t (replicate 8 0) }) (sym had.is) in
+    record {
+      after = with_keeper g (emptied g t);
+      made = made;
+      good_after = keeper_good_after g (emptied g t) (Vacate t) Done good (vacated_leaves g t e g.totals g.keeps good drained) made;
+      shown = subst (λ (v : KeeperView). KeeperShown (with_keeper g (emptied g t)) v) is (shown_vacated g k t e had drained);
+    }
+
+-- the words beside its counts stay as a slot is taken as vacant
+pub same_beside : (x : Slot) (k : KeeperView) (t : ℕ) → ((vacant_from x k t).next ≡ k.next) × ((vacant_from x k t).rows ≡ k.rows) × ((vacant_from x k t).keeps ≡ k.keeps)
+same_beside Vacant k t = (refl, refl, refl)
+same_beside (Live e) k t = (refl, refl, refl)
+same_beside (Retired e) k t = (refl, refl, refl)
+
+-- the rule holds on as the keeper takes a drained slot as vacant
+pub vacates : (z : Settings) (k : KeeperView) (t : ℕ) → MayVacate k t → (s : Table ℕ View) → Ruled z s → (i : ℕ) → get_elem? s.views i ≡ some (Keeper k)
+    → Ruled z (with_view s i (Keeper (vacated k t))) × Makes (Vacate t) Done (Keeper k) (Keeper (vacated k t))
+vacates z k t may s r i at =
+    let g = r.g in
+    let had : KeeperShown g k = (r.shows.fits i (Keeper k) at).1 in
+    let drained = drained_of g k t r.good had may.drained in
+    let e = may.drained.retired.0 in
+    let keeps_none : kept_at g.keeps t ≡ None = ap (λ (x : List (Option ℕ)). kept_at x t) (sym (seen_by_keeper g k r.good had).keeps) ∙ may.keeps_nothing in
+    let made : step g (Vacate t) ≡ Some (record { state = after_vacate g t; reply = Done }) = rw (keeps_none, drained.is) refl in
+    let l : KeeperLists = emptied g t in
+    let own = keeper_own (vacated k t) in
+    let w = keeper_view (with_keeper g l) own in
+    let n = slice_index s.words 0 in
+    let done = keeper_makes z s r i k 0 n l (Vacate t) Done own at made (vacated_leaves g t e g.totals g.keeps r.good drained) (λ m. refl) refl (shown_vacated g k t e had drained)
+    (loads s.words g (with_keeper g l) 0 r.words refl (λ q _. refl)) in
+    let is : w ≡ vacated k t = ap (λ (v : KeeperView). record v { slots = set v.slots t Vacant; counts = set k.counts t (replicate 8 0) }) (sym had.is) in (
+      subst (λ (v : KeeperView). Ruled z (with_view s i (Keeper v))) is (subst (λ (ws : List ℕ). Ruled z (record { words = ws; homes = s.homes; views = set s.views i (Keeper w) })) (set-get_or s.words 0 0) done.0),
+      subst (λ (v : KeeperView). Makes (Vacate t) Done (Keeper k) (Keeper v)) is done.1,
+    )
+
+-- a seat's view that is written twice
+pub views_again : (views : List View) (i : ℕ) (v w : View) → set (set views i v) i w ≡ set views i w
+views_again [] i v w = refl
+views_again (x ∷ xs) zero v w = refl
+views_again (x ∷ xs) (suc i) v w = ap (λ l. x ∷ l) (views_again xs i v w)
+
+pub view_here : (views : List View) (i : ℕ) (v w : View) → get_elem? views i ≡ some v → get_elem? (set views i w) i ≡ some w
+view_here [] i v w e = absurd (some-ne-none v (sym e))
+view_here (x ∷ xs) zero v w e = refl
+view_here (x ∷ xs) (suc i) v w e = view_here xs i v w e
+
+-- a step that may be made by the view with a change that touches no word may be made by the view before it
+pub moves_after : (z : Settings) (v u : View) (i : ℕ) (f : ℕ → ℕ) (tells : ℕ → View → Type 0) (T : Type 0)
+    → ((s : Table ℕ View) → Ruled z s → (id : ℕ) → get_elem? s.views id ≡ some v → Ruled z (with_view s id u) × T) → Moves z u i f tells → Moves z v i f (λ n w. T × tells n w)
+moves_after z v u i f tells T first then s r id at fits =
+    let a = first s r id at in
+    let b = then (with_view s id u) a.0 id (view_here s.views id v u at) fits in
+    (b.0, subst (λ (views : List View). Ruled z (record { words = set s.words i (f (slice_index s.words i)); homes = s.homes; views = views })) (views_again s.views id u b.0) b.1, (a.1, b.2))

@@ -1,0 +1,4 @@
+pub mod Holders
+pub mod Honest
+pub mod Reaching
+pub mod Safety

@@ -1,0 +1,29 @@
+-- The headline of the running words: what the protocol's laws say of the state that the table shows.
+use Rattle.std.proofs.Common.{◌≡◌, ℕ, IsTrue, subst}
+use Rattle.atomic_table.specs.Table.{State as Table}
+use Rattle.registry_values.specs.declared.settings.Settings.{Settings}
+use Rattle.registry_values.specs.Limits.{are_fit}
+use Rattle.protocol.specs.State.{State}
+use Rattle.protocol.proofs.runs.Reuse.{every_run_keeps}
+use Rattle.protocol.proofs.runs.State.{obeys_laws}
+use Rattle.protocol.proofs.model.Refining.{every_run_is_model_run}
+use Rattle.cpu_words.specs.declared.view.View.{View}
+use Rattle.cpu_words.specs.Rule.{Agrees, Shows, Good, Ruled}
+use Rattle.cpu_words.specs.Headline.{RunsLawfully, RunningHeadline}
+
+pub runs_lawfully : (z : Settings) (s : Table ℕ View) → Ruled z s → RunsLawfully z s
+runs_lawfully z s r =
+    let run = r.reached.run in
+    let fit : IsTrue (are_fit z) = subst (λ (a : Settings). IsTrue (are_fit a)) r.settings r.good.holds.fit in record {
+      events = r.reached.events;
+      seat = r.seat;
+      settings = subst (λ (g : State). g.settings ≡ z) run r.settings;
+      words = subst (λ (g : State). Agrees s.words g) run r.words;
+      shows = subst (λ (g : State). Shows g r.seat s.views) run r.shows;
+      good = subst (λ (g : State). Good g) run r.good;
+      modelled = every_run_is_model_run z r.reached.events fit;
+      laws = obeys_laws _ (every_run_keeps z r.reached.events fit);
+    }
+
+pub running_headline : RunningHeadline
+running_headline z s r = runs_lawfully z s r

@@ -1,0 +1,230 @@
+-- Notes on the words: what a seat has seen is told and heard.
+use Rattle.std.proofs.Common.{◌≡◌, ◌≢◌, ⊎_elim, ℕ, ◌*◌, ◌≤◌, List, length, take, get_or, set, Some, None, refl, sym, ap, ◌∙◌, subst, arith, get_or-set_same, get_or-set_other}
+use Rattle.std.specs.Prelude.{slice_index}
+use mathlib.Core.Option.{some}
+use mathlib.Core.List.{IsPrefix}
+use lib.ListN.{get_elem?}
+use Rattle.atomic_table.specs.Table.{Splits, Joins}
+use Rattle.atomic_table.proofs.Lists.{at_set}
+use Rattle.registry_values.specs.declared.entry.Change.{Change}
+use Rattle.registry_values.specs.declared.settings.Settings.{Settings}
+use Rattle.protocol.specs.declared.event.Event.{Event}
+use Rattle.protocol.specs.declared.event.Event.TheVariants.{Tell, Hear}
+use Rattle.protocol.specs.declared.event.Reply.TheVariants.{Done}
+use Rattle.protocol.specs.declared.state.Due.TheVariants.{Rest}
+use Rattle.protocol.specs.State.{State, seen_at}
+use Rattle.protocol.specs.Events.{step}
+use Rattle.cpu_words.specs.declared.view.CpuView.{CpuView}
+use Rattle.cpu_words.specs.declared.view.KeeperView.{KeeperView}
+use Rattle.cpu_words.specs.declared.view.View.{View}
+use Rattle.cpu_words.specs.declared.view.View.TheVariants.{Keeper, Cpu, Note, Spent}
+use Rattle.cpu_words.specs.Views.{KeeperOwn, own_of, cpu_view, keeper_own, keeper_view, depth_of, CpuShown, KeeperShown, Shown, cpu_of, keeper_of, note_of}
+use Rattle.cpu_words.specs.Rule.{Sits, reference_to, Good, Ruled}
+use Rattle.cpu_words.specs.Steps.{Makes, SplitsBy, CpuMay, KeeperMay}
+use Rattle.cpu_words.specs.Sections.{IsIdle}
+use Rattle.cpu_words.specs.Notes.{pass_told, history_told, with_heard, keeper_with_heard, beside_cpu, beside_keeper, HasHeard, KeeperHasHeard}
+use Rattle.cpu_words.proofs.laws.Reaching.{reached_more}
+use Rattle.cpu_words.proofs.shown.Showing.{Stay, shows_split, shows_join}
+use Rattle.cpu_words.proofs.shown.Passes.{taken_is_prefix, prefix_longer, take_whole}
+use Rattle.cpu_words.proofs.shown.Seeing.{seen_of, idle_of}
+use Rattle.cpu_words.proofs.by_cpu.CpuSteps.{CpuLists, lists_of, with_lists, same_counts, shown_on, found_on, cpu_makes}
+use Rattle.cpu_words.proofs.by_keeper.KeeperSteps.{keeper_lists, with_keeper, leaves_all, keeper_makes}
+use Rattle.cpu_words.proofs.by_keeper.KeeperSees.{seen_by_keeper, loads}
+
+-- where a seat's own view alone changes, the core stays, and each other view is shown as it was
+pub own_view_alone : (g : State) (seat : ℕ → ℕ) (i : ℕ) → Stay g g seat i
+own_view_alone g seat i j u ne sits shown backed = shown
+
+-- Telling
+
+-- the event that tells, and that what is told is of the history
+abbrev pub Tells : Event → View → List Change → Type 0
+Tells e v h = (g : State) → Good g → Shown g v → (step g e ≡ Some (record { state = g; reply = Done })) × IsPrefix h g.history
+
+tells_by : (e : Event) (v : View) (h : List Change) → Tells e v h → SplitsBy e v v (Note h)
+tells_by e v h tells g good had =
+    let p = tells g good had in record {
+      after = g;
+      reply = Done;
+      made = p.0;
+      good_after = good;
+      shown = had;
+      shown_right = p.1;
+      count = λ n. omega arith;
+    }
+
+splits : (z : Settings) (i : ℕ) (e : Event) (v : View) (h : List Change) → Tells e v h → Splits (Ruled z) i v v (Note h)
+splits z i e v h tells s r at =
+    let g = r.g in
+    let had = r.shows.fits i v at in
+    let told = tells g r.good had.1 in record {
+      g = g;
+      seat = r.seat;
+      settings = r.settings;
+      good = r.good;
+      reached = reached_more z g g e Done r.reached told.0;
+      words = r.words;
+      shows = shows_split g g r.seat s.views i v v (Note h) r.shows at (own_view_alone g r.seat i) had (λ j. tt) told.1 (λ n. omega arith);
+    }
+
+cpu_tells : (x : CpuView) (c : ℕ) → x.id ≡ c → IsIdle x → Tells (Tell (Some c)) (Cpu x) x.pass
+cpu_tells x c id idle = subst (λ d. Tells (Tell (Some d)) (Cpu x) x.pass) id (λ g good had.
+    let seen = seen_of g x good had in
+    (rw (idle_of g x seen had idle) refl, subst (λ p. IsPrefix p g.history) (sym seen.pass) (taken_is_prefix (seen_at g x.id) g.history)))
+
+keeper_tells : (k : KeeperView) → k.due ≡ Rest → Tells (Tell None) (Keeper k) k.history
+keeper_tells k may g good had =
+    let seen = seen_by_keeper g k good had in
+    let rest : g.due ≡ Rest = sym seen.due ∙ may in
+    (rw (rest) refl, subst (λ h. IsPrefix h g.history) (sym seen.history) (whole g.history))
+  where
+    whole : (h : List Change) → IsPrefix h h
+    whole h = subst (λ p. IsPrefix p h) (take_whole h) (taken_is_prefix (length h) h)
+
+-- the same of a seat
+
+pub cpu_splits : (z : Settings) (i : ℕ) (v : View) (x : CpuView) (c : ℕ) → v ≡ Cpu (cpu_of v) → cpu_of v ≡ x → x.id ≡ c → IsIdle x → Splits (Ruled z) i v v (pass_told v)
+cpu_splits z i v x c is view id idle = subst (λ u. Splits (Ruled z) i u u (pass_told u)) (sym (is ∙ ap Cpu view)) (splits z i (Tell (Some c)) (Cpu x) x.pass (cpu_tells x c id idle))
+
+pub cpu_splits_by : (v a : View) (x : CpuView) (c : ℕ) → cpu_of v ≡ x → a ≡ pass_told v → x.id ≡ c → IsIdle x → SplitsBy (Tell (Some c)) (Cpu x) (Cpu x) (Note (note_of a))
+cpu_splits_by v a x c view right id idle =
+    let p : note_of a ≡ x.pass = ap note_of right ∙ ap (λ (u : CpuView). u.pass) view in
+    subst (λ h. SplitsBy (Tell (Some c)) (Cpu x) (Cpu x) (Note h)) (sym p) (tells_by (Tell (Some c)) (Cpu x) x.pass (cpu_tells x c id idle))
+
+pub keeper_splits : (z : Settings) (i : ℕ) (v : View) (k : KeeperView) → v ≡ Keeper (keeper_of v) → keeper_of v ≡ k → k.due ≡ Rest → Splits (Ruled z) i v v (history_told v)
+keeper_splits z i v k is view may = subst (λ u. Splits (Ruled z) i u u (history_told u)) (sym (is ∙ ap Keeper view)) (splits z i (Tell None) (Keeper k) k.history (keeper_tells k may))
+
+pub keeper_splits_by : (v a : View) (k : KeeperView) → keeper_of v ≡ k → a ≡ history_told v → k.due ≡ Rest → SplitsBy (Tell None) (Keeper k) (Keeper k) (Note (note_of a))
+keeper_splits_by v a k view right may =
+    let p : note_of a ≡ k.history = ap note_of right ∙ ap (λ (u : KeeperView). u.history) view in
+    subst (λ h. SplitsBy (Tell None) (Keeper k) (Keeper k) (Note h)) (sym p) (tells_by (Tell None) (Keeper k) k.history (keeper_tells k may))
+
+-- Hearing: the note is laid beside the view, and the core stays
+
+-- the seat's view with the note beside it
+pub record Beside (v both : View) (h : List Change) : Type 0 where
+  pub sits : (seat : ℕ → ℕ) (i : ℕ) → Sits seat i v → Sits seat i both
+  pub shown : (g : State) → Shown g v → IsPrefix h g.history → Shown g both
+  pub references : (n : ℕ) → reference_to n both ≡ reference_to n v
+
+joins : (z : Settings) (i o : ℕ) (v both : View) (h : List Change) → Beside v both h → Joins (Ruled z) i v o (Note h) both Spent
+joins z i o v both h beside s r at apart there =
+    let g = r.g in
+    let had = r.shows.fits i v at in
+    let was : get_elem? s.views o ≡ some (Note h) = ⊎_elim
+    (λ (t : (o ≡ i) × (both ≡ Note h)). absurd (apart t.0))
+    (λ (t : (o ≢ i) × (get_elem? s.views o ≡ some (Note h))). t.1)
+    (at_set s.views i o both (Note h) there) in
+    let told : IsPrefix h g.history = (r.shows.fits o (Note h) was).1 in record {
+      g = g;
+      seat = r.seat;
+      settings = r.settings;
+      good = r.good;
+      reached = r.reached;
+      words = r.words;
+      shows = shows_join g g r.seat s.views i v o (Note h) both r.shows at apart was (own_view_alone g r.seat i) (beside.sits r.seat i had.0, beside.shown g had.1 told)
+          (λ n. let same = beside.references n in omega arith) there;
+    }
+
+cpu_beside : (x : CpuView) (h : List Change) → Beside (Cpu x) (Cpu (with_heard x h)) h
+cpu_beside x h = record {
+  sits = λ seat i here. here;
+  shown = λ g had told. record {
+    seated = had.seated;
+    is = ap (λ (v : CpuView). with_heard v h) had.is;
+    hand = had.hand;
+    in_hand = had.in_hand;
+    depth = had.depth;
+    passive = had.passive;
+    gone = had.gone;
+    nets = had.nets;
+    later = had.later;
+    met = had.met;
+    there = had.there;
+    found = had.found;
+    references = had.references;
+    heard = told;
+  };
+  references = λ n. refl;
+}
+
+keeper_beside : (k : KeeperView) (h : List Change) → Beside (Keeper k) (Keeper (keeper_with_heard k h)) h
+keeper_beside k h = record {
+  sits = λ seat i here. here;
+  shown = λ g had told. record {
+    is = ap (λ (v : KeeperView). keeper_with_heard v h) had.is;
+    counts = had.counts;
+    sized = had.sized;
+    rows = had.rows;
+    live_total = had.live_total;
+    gives_up = had.gives_up;
+    later = had.later;
+    beyond = had.beyond;
+    heard = told;
+  };
+  references = λ n. refl;
+}
+
+-- the same of two seats, whose views are a CPU's or the keeper's, and a note
+
+pub cpu_joins : (z : Settings) (i o : ℕ) (v u : View) → v ≡ Cpu (cpu_of v) → u ≡ Note (note_of u) → Joins (Ruled z) i v o u (beside_cpu v u) Spent
+cpu_joins z i o v u is that = subst (λ (p : View × View). Joins (Ruled z) i p.0 o p.1 (beside_cpu p.0 p.1) Spent) (λ k. (sym is k, sym that k))
+    (joins z i o (Cpu (cpu_of v)) (beside_cpu (Cpu (cpu_of v)) (Note (note_of u))) (note_of u) (cpu_beside (cpu_of v) (note_of u)))
+
+pub keeper_joins : (z : Settings) (i o : ℕ) (v u : View) → v ≡ Keeper (keeper_of v) → u ≡ Note (note_of u) → Joins (Ruled z) i v o u (beside_keeper v u) Spent
+keeper_joins z i o v u is that = subst (λ (p : View × View). Joins (Ruled z) i p.0 o p.1 (beside_keeper p.0 p.1) Spent) (λ k. (sym is k, sym that k))
+    (joins z i o (Keeper (keeper_of v)) (beside_keeper (Keeper (keeper_of v)) (Note (note_of u))) (note_of u) (keeper_beside (keeper_of v) (note_of u)))
+
+-- The load that hears
+
+pub hear_may : (z : Settings) (x : CpuView) (c : ℕ) → x.id ≡ c → IsIdle x → CpuMay z x (80 * c) (λ n. n) (λ v n y. Makes (Hear (Some c)) Done (Cpu v) (Cpu y) × HasHeard v y)
+hear_may z x c id idle = subst (λ d. CpuMay z x (80 * d) (λ n. n) (λ v n y. Makes (Hear (Some d)) Done (Cpu v) (Cpu y) × HasHeard v y)) id
+    (λ s r i at fits.
+    let g = r.g in
+    let had : CpuShown g x = (r.shows.fits i (Cpu x) at).1 in
+    let seen = seen_of g x r.good had in
+    let n = length g.history in
+    let l : CpuLists = record (lists_of g) { seen = set g.seen x.id n } in
+    let y = cpu_view (with_lists g l) x.id (own_of x) in
+    let sees : get_or l.seen x.id 0 ≡ n = get_or-set_same g.seen x.id n 0 seen.in_seen in
+    let more : seen_at g x.id ≤ get_or l.seen x.id 0 = omega (arith, seen.within, sees) in
+    let within : get_or l.seen x.id 0 ≤ n = omega (arith, sees) in
+    let passes : y.pass ≡ g.history = ap (λ k. take k g.history) sees ∙ take_whole g.history in
+    let made : step g (Hear (Some x.id)) ≡ Some (record { state = with_lists g l; reply = Done }) = rw (idle_of g x seen had idle) refl in
+    let leaves = same_counts g x.id l refl refl refl refl (λ d ne. refl) (λ d ne. refl) (λ d ne. refl) (λ d ne. get_or-set_other g.seen x.id d _ 0 ne) (λ d ne. refl) (λ d ne. refl) in
+    let shown = shown_on g x l had refl refl refl (had.depth ∙ ap depth_of seen.begin) more within (found_on g x (get_or l.seen x.id 0) had more within) in
+    let words = loads s.words g (with_lists g l) (80 * x.id) r.words refl (λ q _. refl) in
+    let done = cpu_makes z s r i x (80 * x.id) (slice_index s.words (80 * x.id)) l (Hear (Some x.id)) Done (own_of x) at made leaves (λ k. refl) refl shown words in
+    let told : IsPrefix x.heard y.pass = subst (IsPrefix x.heard) (sym passes) had.heard in
+    let longer : IsPrefix x.pass y.pass = subst (λ p. IsPrefix p y.pass) (sym seen.pass) (prefix_longer g.history (seen_at g x.id) (get_or l.seen x.id 0) more within) in
+    let change : y ≡ record x { pass = y.pass } = ap (λ (v : CpuView). record v { pass = y.pass }) (sym had.is) in
+    (Cpu y, done.0, (refl, (done.1, (told, longer, change)))))
+
+pub hear_keeper_may : (z : Settings) (k : KeeperView) → k.due ≡ Rest → KeeperMay z k 648 (λ n. n) (λ v n l. Makes (Hear None) Done (Keeper v) (Keeper l) × KeeperHasHeard v l)
+hear_keeper_may z k may s r i at fits =
+    let g = r.g in
+    let had : KeeperShown g k = (r.shows.fits i (Keeper k) at).1 in
+    let seen = seen_by_keeper g k r.good had in
+    let rest : g.due ≡ Rest = sym seen.due ∙ may in
+    let l = keeper_lists g in
+    let own : KeeperOwn = keeper_own k in
+    let made : step g (Hear None) ≡ Some (record { state = with_keeper g l; reply = Done }) = rw (rest) refl in
+    let shown : KeeperShown (with_keeper g l) (keeper_view (with_keeper g l) own) = record { is = refl; counts = had.counts; sized = had.sized; rows = had.rows; live_total = had.live_total; gives_up = had.gives_up; later = had.later; beyond = had.beyond; heard = had.heard } in
+    let done = keeper_makes z s r i k 648 (slice_index s.words 648) l (Hear None) Done own at made (leaves_all g l refl refl refl refl (λ t d is. is)) (λ n. refl) refl shown (loads s.words g (with_keeper g l) 648 r.words refl (λ q _. refl)) in
+    (Keeper (keeper_view (with_keeper g l) own), done.0, (refl, (done.1, (had.heard, sym had.is))))
+
+-- the same of a seat with the note beside its view
+
+pub hear_laid_may : (z : Settings) (x y : CpuView) (h : List Change) (c : ℕ) → y ≡ with_heard x h → x.id ≡ c → IsIdle x → CpuMay z y (80 * c) (λ n. n) (λ v n w. Makes (Hear (Some c)) Done (Cpu v) (Cpu w) × HasHeard v w)
+hear_laid_may z x y h c laid id idle = hear_may z y c (ap (λ (v : CpuView). v.id) laid ∙ id) (record { search = ap (λ (v : CpuView). v.search) laid ∙ idle.search; hand = ap (λ (v : CpuView). v.hand) laid ∙ idle.hand })
+
+pub hear_keeper_laid_may : (z : Settings) (k l : KeeperView) (h : List Change) → l ≡ keeper_with_heard k h → k.due ≡ Rest → KeeperMay z l 648 (λ n. n) (λ v n w. Makes (Hear None) Done (Keeper v) (Keeper w) × KeeperHasHeard v w)
+hear_keeper_laid_may z k l h laid may = hear_keeper_may z l (ap (λ (v : KeeperView). v.due) laid ∙ may)
+
+-- what was heard is what the note told
+
+pub cpu_heard : (x y w : CpuView) (h : List Change) → y ≡ with_heard x h → HasHeard y w → IsPrefix h w.pass × IsPrefix x.pass w.pass × (w ≡ record x { pass = w.pass; heard = h })
+cpu_heard x y w h laid heard = subst (λ v. HasHeard v w) laid heard
+
+pub keeper_heard : (k l w : KeeperView) (h : List Change) → l ≡ keeper_with_heard k h → KeeperHasHeard l w → IsPrefix h w.history × (w ≡ keeper_with_heard k h)
+keeper_heard k l w h laid heard = subst (λ v. KeeperHasHeard v w) laid heard

@@ -1,0 +1,113 @@
+-- The state of the core at the start is shown by the words and the keeper's first view; and the seats of the first CPUs.
+use Rattle.std.proofs.Common.{◌≡◌, inl, inr, ℕ, zero, suc, ◌+◌, List, [], ◌∷◌, ◌++◌, length, replicate, IsTrue, refl, sym, ap, ◌∙◌, subst, arith, length-append, below_more}
+use Rattle.std.proofs.lemmas.List.{length-replicate, get_or-replicate}
+use Rattle.std.specs.Prelude.{slice_index}
+use mathlib.Core.Option.{some, some-ne-none, some-injective}
+use lib.ListN.{get_elem?}
+use Rattle.atomic_table.specs.Seated.{TableId}
+use Rattle.atomic_table.specs.Table.{opening as opening_table}
+use Rattle.atomic_table.proofs.Lists.{at_longer, at_last}
+use Rattle.registry_values.specs.declared.entry.Entry.{Entry}
+use Rattle.registry_values.specs.declared.settings.Settings.{Settings}
+use Rattle.protocol.specs.declared.state.RecordWords.{RecordWords}
+use Rattle.registry_values.specs.declared.slot.Slot.TheVariants.{Vacant}
+use Rattle.registry_values.specs.declared.mark.Mark.{Mark}
+use Rattle.registry_values.specs.Limits.{are_fit}
+use Rattle.registry_values.specs.Balances.{bias}
+use Rattle.protocol.specs.State.{no_words, opening}
+use Rattle.registry_values.specs.Marks.{no_mark}
+use Rattle.registry_values.specs.Slots.{slot_at}
+use Rattle.protocol.specs.Events.{word}
+use Rattle.protocol.specs.Invariant.{IsIn}
+use Rattle.registry_values.proofs.Fit.{ranges}
+use Rattle.protocol.proofs.slots.Cells.{get_or_all}
+use Rattle.protocol.proofs.keeps.MarkKeeps.{cell_all, rows_all}
+use Rattle.protocol.proofs.keeps.Keeping.{opening_holds}
+use Rattle.cpu_words.specs.declared.view.CpuView.{CpuView}
+use Rattle.cpu_words.specs.declared.view.KeeperView.{KeeperView}
+use Rattle.cpu_words.specs.declared.view.View.{View}
+use Rattle.cpu_words.specs.Spots.{Spot, section_of, passive_of, count_of, head_word, next_of, record_of, total_of, index, IsSpot, word_at}
+use Rattle.cpu_words.specs.Views.{Seated, new_cpu, first_view, Shown}
+use Rattle.cpu_words.specs.Rule.{Sits, Good, Ruled}
+use Rattle.cpu_words.specs.Opening.{AreOpening, AreSeats, keeper_with}
+use Rattle.cpu_words.proofs.laws.Reaching.{reached_first}
+use Rattle.protocol.proofs.slots.Occupied.{not_vacant}
+
+-- no entry is in a slot at the start
+none_in : (z : Settings) (t : ℕ) (e : Entry) → IsIn e (slot_at (replicate z.slots Vacant) t) → ⊥
+none_in z t e is = not_vacant e (slot_at (replicate z.slots Vacant) t) (get_or_all z.slots Vacant t) is
+
+pub first_good : (z : Settings) → IsTrue (are_fit z) → Good (opening z)
+first_good z fit = record {
+  holds = opening_holds z fit;
+  fresh = λ c unseated lt. record {
+    section = get_or_all {X = ℕ} z.cpus 0 c;
+    depth = get_or_all {X = ℕ} z.cpus 0 c;
+    seen = get_or_all {X = ℕ} z.cpus 0 c;
+    passive = λ t. cell_all {X = ℕ} z.slots 8 0 t c;
+    nets = λ t e is. absurd (none_in z t e is);
+  };
+}
+
+-- the words at the start
+
+no_word : (k : ℕ) → word no_words k ≡ 0
+no_word zero = refl
+no_word (suc zero) = refl
+no_word (suc (suc zero)) = refl
+no_word (suc (suc (suc zero))) = refl
+no_word (suc (suc (suc (suc k)))) = refl
+
+first_words : (z : Settings) (words : List ℕ) → IsTrue (are_fit z) → AreOpening words → (p : Spot) → IsSpot z p → slice_index words (index p) ≡ word_at (opening z) p
+first_words z words fit are (section_of c) here = are.unused (index (section_of c)) (omega (arith, ranges z fit)) ∙ sym (get_or_all {X = ℕ} z.cpus 0 c)
+first_words z words fit are (passive_of c t) here = are.unused (index (passive_of c t)) (omega (arith, ranges z fit, here)) ∙ sym (cell_all {X = ℕ} z.slots 8 0 t c)
+first_words z words fit are (count_of c t) here = are.unused (index (count_of c t)) (omega (arith, ranges z fit, here)) ∙ sym (cell_all {X = ℕ} z.slots 8 0 t c)
+first_words z words fit are head_word here = are.unused (index head_word) (omega arith)
+first_words z words fit are (next_of t) here = are.unused (index (next_of t)) (omega (arith, ranges z fit)) ∙ sym (get_or_all {X = ℕ} z.slots 0 t)
+first_words z words fit are (record_of t k) here = are.unused (index (record_of t k)) (omega (arith, ranges z fit, here)) ∙ sym (ap (λ (r : RecordWords). word r k) (get_or_all z.slots no_words t) ∙ no_word k)
+first_words z words fit are (total_of t) here = are.totals t (omega (arith, ranges z fit)) ∙ sym (get_or-replicate z.slots t bias 0 here)
+
+-- the keeper's view at the start
+
+pub first_shown : (z : Settings) → Shown (opening z) (first_view z)
+first_shown z = record {
+  is = refl;
+  counts = λ c t vacant. refl;
+  sized = length-replicate z.slots (replicate 8 0);
+  rows = rows_all z.slots (replicate 8 0) refl;
+  live_total = λ t e is. absurd (none_in z t e (inl is));
+  gives_up = λ t e is. absurd (none_in z t e (inr is));
+  later = λ n above. refl;
+  beyond = λ c t past. ap (λ (m : Mark). m.collected) (cell_all z.slots 8 no_mark t c);
+  heard = ([], refl);
+}
+
+pub opens : (z : Settings) (words : List ℕ) → IsTrue (are_fit z) → AreOpening words → Ruled z (opening_table words [] (first_view z))
+opens z words fit are = record {
+  g = opening z;
+  seat = λ _. 0;
+  settings = refl;
+  good = first_good z fit;
+  reached = reached_first z;
+  words = record { size = are.size; at = first_words z words fit are };
+  shows = record { fits = one; references = λ n. refl };
+}
+  where
+    one : (i : ℕ) (v : View) → get_elem? (first_view z ∷ []) i ≡ some v → Sits (λ _. 0) i v × Shown (opening z) v
+    one zero v e = subst (λ (u : View). Sits (λ _. 0) 0 u × Shown (opening z) u) (some-injective _ _ e) (refl, first_shown z)
+    one (suc i) v e = absurd (some-ne-none v (sym e))
+
+-- the seats of the first CPUs
+
+pub more_seats : (table : TableId) (z : Settings) (n : ℕ) (seats : List (Seated CpuView)) (new : Seated CpuView) → AreSeats table z n seats → new ≡ record { table = table; view = new_cpu z n } → AreSeats table z (n + 1) (seats ++ new ∷ [])
+more_seats table z n seats new are is =
+    let size : length seats ≡ n = are.count in record {
+      count = length-append seats (new ∷ []) ∙ ap (λ k. k + 1) size;
+      each = below_more _ n
+          (λ c lt. at_longer seats (new ∷ []) c (record { table = table; view = new_cpu z c }) (are.each c lt))
+          (at_last seats new n size ∙ ap some is);
+    }
+
+-- the seat that is cut from the seat of a keeper that has seated n CPUs
+pub seat_is : (new : Seated CpuView) (table : TableId) (z : Settings) (n : ℕ) (k : KeeperView) → new.table ≡ table → new.view ≡ new_cpu k.settings k.seated → k ≡ keeper_with z n → new ≡ record { table = table; view = new_cpu z n }
+seat_is new table z n k at view is i = record { table = at i; view = (view ∙ ap (λ (u : KeeperView). new_cpu u.settings u.seated) is) i }

@@ -1,0 +1,370 @@
+-- The events on local references keep the invariant.
+use Rattle.std.proofs.Common.{Bool, List, Option, Some, [], ap, arith, false, get_or, inl, inr, length, length-set, ltb-true, not, refl, set, subst, sym, true, ℕ, ⊎_elim, ◌&&◌, ◌+◌, ◌-◌, ◌<◌, ◌∙◌, ◌≡◌, ◌==◌}
+use Rattle.std.proofs.lemmas.Bool.{and_parts, cases_Bool, eq-eqb, eqb-true}
+use Rattle.std.specs.Prelude.{if◌then◌else◌, is_none, nat_lt}
+use Rattle.protocol.proofs.counts.Counts as C
+use Rattle.protocol.proofs.keeps.ListKeeps.{CountsOf, may_write_tells, rows_cell, false_from}
+use Rattle.protocol.proofs.keeps.MarkKeeps.{mark_place, may_examine_tells}
+use Rattle.protocol.proofs.keeps.Marking.{list_all_within, marks_write, snapshots_marked}
+use Rattle.protocol.proofs.slots.Occupied.{at_rest_tells, one_number, slot_has, slot_its}
+use Rattle.protocol.proofs.keeps.Passive.{found_not_passed, passive_marked}
+use Rattle.protocol.proofs.keeps.References.{back_holds, due_adding, due_subtracting, giving_holds, hand_seated}
+use Rattle.protocol.proofs.keeps.Referring.{Refers, collect_refers, collected_refers, count_add_refers, count_down_refers, join_keeper_refers, join_refers, keep_refers, split_back_refers, split_refers, total_refers}
+use Rattle.protocol.proofs.keeps.SectionKeeps.{none_from}
+use Rattle.protocol.specs.Events.{after_collect, after_collected, after_count_add, after_count_down, after_count_store, after_hand, after_join_keeper, after_keep, after_split, after_total, exchange, is_drainable, is_driver_slot, is_idle, is_number, least_id, may_collect, may_count, may_examine, may_join, may_join_keeper, may_keep, may_write, taken, with_local}
+use Rattle.registry_values.specs.Marks.{collected, are_clear, have_passed, is_clear, is_some_collected, no_mark}
+use Rattle.protocol.specs.Invariant.{AreRows, Holds, IsCounting, IsIn, SnapshotsStand}
+use Rattle.protocol.specs.State.{at_rest, is_empty, State, count_at, found_at, hand_at, kept_at, local_at, mark_at, search_at, total_at, with_cell}
+use Rattle.registry_values.specs.Slots.{is_retired, slot_of, slot_at}
+use Rattle.registry_values.specs.Balances.{bias}
+use Rattle.protocol.specs.Taken.{Keeps}
+use Rattle.registry_values.specs.declared.entry.Entry.{Entry}
+use Rattle.protocol.specs.declared.event.Reply.TheVariants.{Collected, Word}
+use Rattle.protocol.specs.declared.state.Due.{Due}
+use Rattle.protocol.specs.declared.state.Due.TheVariants.{Adding, Rest, Snapshots, Subtracting}
+use Rattle.protocol.specs.declared.state.Hand.{Hand}
+use Rattle.protocol.specs.declared.state.Hand.TheVariants.{Back, Empty, Giving, Taking}
+use Rattle.protocol.specs.declared.state.LocalPlace.{LocalPlace}
+use Rattle.protocol.specs.declared.state.LocalPlace.TheVariants.{Free, Lifted, Standing}
+use Rattle.registry_values.specs.declared.slot.Slot.TheVariants.{Live, Retired}
+
+-- the state with other counts and references
+abbrev pub with_counts : State → List (List ℕ) → List (List ℕ) → List ℕ → List Hand → List (Option ℕ) → Due → List LocalPlace → State
+with_counts s counts nets totals hands keeps due locals = record s { counts = counts; nets = nets; totals = totals; hands = hands; keeps = keeps; due = due; locals = locals }
+
+-- their lengths
+pub record SizesStay (s : State) (counts nets : List (List ℕ)) (totals : List ℕ) (hands : List Hand) (keeps : List (Option ℕ)) : Type 0 where
+  pub count_size : length counts ≡ s.settings.slots
+  pub count_rows : AreRows counts
+  pub net_size : length nets ≡ s.settings.slots
+  pub net_rows : AreRows nets
+  pub total_size : length totals ≡ s.settings.slots
+  pub hand_size : length hands ≡ s.settings.cpus
+  pub keep_size : length keeps ≡ s.settings.slots
+
+-- an event that writes no other lists keeps the invariant
+pub counts_keep : (s : State) (counts nets : List (List ℕ)) (totals : List ℕ) (hands : List Hand) (keeps : List (Option ℕ)) (due : Due) (locals : List LocalPlace)
+    → Holds s → SizesStay s counts nets totals hands keeps → SnapshotsStand s.settings.cpus s.slots s.marks due
+    → CountsOf (with_counts s counts nets totals hands keeps due locals) → Refers (with_counts s counts nets totals hands keeps due locals) → Holds (with_counts s counts nets totals hands keeps due locals)
+counts_keep s counts nets totals hands keeps due locals on sizes snapshots balance refers = record {
+  fit = on.fit;
+  shape = record {
+    sections = on.shape.sections;
+    links = on.shape.links;
+    rows = on.shape.rows;
+    passive = on.shape.passive;
+    passive_rows = on.shape.passive_rows;
+    counts = sizes.count_size;
+    count_rows = sizes.count_rows;
+    totals = sizes.total_size;
+    begins = on.shape.begins;
+    depths = on.shape.depths;
+    seen = on.shape.seen;
+    searches = on.shape.searches;
+    found = on.shape.found;
+    hands = sizes.hand_size;
+    nets = sizes.net_size;
+    net_rows = sizes.net_rows;
+    slots = on.shape.slots;
+    marks = on.shape.marks;
+    mark_rows = on.shape.mark_rows;
+    keeps = sizes.keep_size;
+  };
+  legal = on.legal;
+  room = on.room;
+  slots = on.slots;
+  rows = on.rows;
+  list = on.list;
+  held = on.held;
+  frozen_links = on.frozen_links;
+  grace = on.grace;
+  snapshots = snapshots;
+  seats = refers.seats;
+  sections = on.sections;
+  searches = on.searches;
+  last_found = on.last_found;
+  passive = on.passive;
+  balance = balance;
+  references = refers.references;
+  kept_drivers = refers.kept_drivers;
+}
+
+-- the three clauses on references
+pub refers_of : (s : State) → Holds s → Refers s
+refers_of s on = record { references = on.references; kept_drivers = on.kept_drivers; seats = on.seats }
+
+-- the lengths and limits of the counts
+pub fit_of : (s : State) → Holds s → C.CountsFit s.settings s.slots s.marks s.counts s.nets s.totals s.hands s.keeps
+fit_of s on = C.counts_fit s on.fit on.shape
+
+-- where no snapshot is due, all stand
+pub snapshots_all : (s : State) (next : Due) → ((t d : ℕ) → s.due ≡ Snapshots t d → ⊥) → Holds s → SnapshotsStand s.settings.cpus s.slots s.marks next
+snapshots_all s next none on t c e is low later = on.snapshots t c e is low (λ due. none t due.0 due.1)
+
+pub not_at_rest : (due : Due) (t d : ℕ) → due ≡ Rest → due ≡ Snapshots t d → ⊥
+not_at_rest due t d rest is = let q : Rest ≡ Snapshots t d = sym rest ∙ is in cc
+
+-- What the tests tell.
+pub empty_from : (h : Hand) → is_empty h ≡ true → h ≡ Empty
+empty_from Empty is = refl
+empty_from (Taking n) is = absurd (let q : ◌≡◌ {A = Bool} false true = is in cc)
+empty_from (Giving n id) is = absurd (let q : ◌≡◌ {A = Bool} false true = is in cc)
+empty_from (Back n id) is = absurd (let q : ◌≡◌ {A = Bool} false true = is in cc)
+
+-- an idle CPU is in range with nothing in its hand
+pub idle_tells : (s : State) (c : ℕ) → Holds s → is_idle s c ≡ true → (c < s.settings.cpus) × (hand_at s c ≡ Empty)
+idle_tells s c on idle =
+    let p = and_parts (nat_lt c s.seated) (is_none (search_at s c) && is_empty (hand_at s c)) idle in
+    let q = and_parts (is_none (search_at s c)) (is_empty (hand_at s c)) p.1 in
+    (omega (arith, ltb-true c s.seated p.0, on.seats.within), empty_from (hand_at s c) q.1)
+
+-- a CPU with something in its hand is in range
+pub hand_within : (s : State) (c : ℕ) → Holds s → (hand_at s c ≡ Empty → ⊥) → c < s.settings.cpus
+hand_within s c on off =
+    let lt : c < s.seated = hand_seated s.settings.cpus s.seated s.begins s.searches s.hands c off on.seats in
+    omega (arith, lt, on.seats.within)
+
+-- the slot that a number has is the only one
+pub only_slot : (s : State) (t n : ℕ) (e : Entry) → Holds s → IsIn e (slot_at s.slots t) → e.number ≡ n → (u : ℕ) (f : Entry) → IsIn f (slot_at s.slots u) → f.number ≡ n → u ≡ t
+only_slot s t n e on is number u f also same = (one_number s.history s.slots t u e f on.slots is also (same ∙ sym number)).0
+
+-- A store to a count word of a vacant slot.
+pub count_store_keeps : (s : State) (t c v : ℕ) → Holds s → may_write s t ≡ true → c < s.settings.cpus → Holds (after_count_store s t c v)
+count_store_keeps s t c v on may lt =
+    let told = may_write_tells s t on.shape may in
+    counts_keep s (with_cell s.counts t c v) s.nets s.totals s.hands s.keeps s.due s.locals on (record {
+      count_size = length-set s.counts t _ ∙ on.shape.counts;
+      count_rows = rows_cell s.counts t c v on.shape.count_rows;
+      net_size = on.shape.nets;
+      net_rows = on.shape.net_rows;
+      total_size = on.shape.totals;
+      hand_size = on.shape.hands;
+      keep_size = on.shape.keeps;
+    })
+    on.snapshots (C.count_store on.balance c t v lt told.2) (record { references = on.references; kept_drivers = on.kept_drivers; seats = on.seats })
+
+-- the word for an entry that the open section may hold counts
+pub held_counting : (s : State) (c t : ℕ) (e : Entry) → Holds s → found_at s c ≡ Some e → slot_of s.slots e.number ≡ Some t → IsIn e (slot_at s.slots t) × IsCounting s.slots s.marks c t
+held_counting s c t e on found of =
+    let open_ = on.last_found c e found in
+    let there : IsIn e (slot_at s.slots e.slot) = on.held c open_.0 e open_.1 open_.2 in
+    let same : t ≡ e.slot = slot_its s.history s.slots e.slot t e on.slots there of in
+    let here : IsIn e (slot_at s.slots t) = subst (λ (k : ℕ). IsIn e (slot_at s.slots k)) (sym same) there in (
+      here,
+      (
+        e,
+        ⊎_elim
+            (λ (live : slot_at s.slots t ≡ Live e). inl live)
+            (λ (gone : slot_at s.slots t ≡ Retired e). inr (
+              gone,
+              ⊎_elim
+                  (λ (done : (mark_at s.marks t c).collected ≡ true).
+                  absurd (found_not_passed s.history s.slots s.marks s.section s.begins s.found c t e on.slots on.grace on.last_found gone
+                  (ap (is_number e.number) found ∙ eq-eqb e.number e.number refl)
+                  (on.passive.clear c t e gone (on.passive.collected c t e gone done)).0))
+                  (λ (still : (mark_at s.marks t c).collected ≡ false). still)
+                  (cases_Bool (mark_at s.marks t c).collected),
+            ))
+            here,
+      ),
+    )
+
+pub count_add_keeps : (s : State) (c t : ℕ) (e : Entry) → Holds s → found_at s c ≡ Some e → slot_of s.slots e.number ≡ Some t → may_count s c t ≡ true → Holds (after_count_add s c e.number t)
+count_add_keeps s c t e on found of may =
+    let p = and_parts (is_idle s c) (nat_lt (count_at s.nets c t) (bias + s.settings.count_limit)) may in
+    let idle = idle_tells s c on p.0 in
+    let fits : count_at s.nets c t < bias + s.settings.count_limit = ltb-true (count_at s.nets c t) (bias + s.settings.count_limit) p.1 in
+    let counting = held_counting s c t e on found of in
+    counts_keep s (with_cell s.counts t c (count_at s.counts c t + 1)) (with_cell s.nets t c (count_at s.nets c t + 1)) s.totals (set s.hands c (Taking e.number)) s.keeps s.due s.locals on (record {
+      count_size = length-set s.counts t _ ∙ on.shape.counts;
+      count_rows = rows_cell s.counts t c (count_at s.counts c t + 1) on.shape.count_rows;
+      net_size = length-set s.nets t _ ∙ on.shape.nets;
+      net_rows = rows_cell s.nets t c (count_at s.nets c t + 1) on.shape.net_rows;
+      total_size = on.shape.totals;
+      hand_size = length-set s.hands c (Taking e.number) ∙ on.shape.hands;
+      keep_size = on.shape.keeps;
+    })
+    on.snapshots
+    (C.count_add on.balance (fit_of s on) c t e.number e idle.0 counting.0 refl (only_slot s t e.number e on counting.0 refl) counting.1 idle.1 fits)
+    (count_add_refers s c e.number t p.0 of (refers_of s on))
+
+-- the hands and places are all that is written
+hands_keep : (s : State) (c : ℕ) (h : Hand) (locals : List LocalPlace) → Holds s → CountsOf (with_counts s s.counts s.nets s.totals (set s.hands c h) s.keeps s.due locals)
+    → Refers (with_counts s s.counts s.nets s.totals (set s.hands c h) s.keeps s.due locals) → Holds (with_counts s s.counts s.nets s.totals (set s.hands c h) s.keeps s.due locals)
+hands_keep s c h locals on balance refers = counts_keep s s.counts s.nets s.totals (set s.hands c h) s.keeps s.due locals on (record {
+  count_size = on.shape.counts;
+  count_rows = on.shape.count_rows;
+  net_size = on.shape.nets;
+  net_rows = on.shape.net_rows;
+  total_size = on.shape.totals;
+  hand_size = length-set s.hands c h ∙ on.shape.hands;
+  keep_size = on.shape.keeps;
+}) on.snapshots balance refers
+
+pub split_keeps : (s : State) (c n : ℕ) → Holds s → hand_at s c ≡ Taking n → Holds (after_split s c n)
+split_keeps s c n on hand =
+    let lt : c < s.settings.cpus = hand_within s c on (λ empty. let q : Taking n ≡ Empty = sym hand ∙ empty in cc) in
+    hands_keep s c Empty (with_local s.locals (least_id s.locals) (Standing n)) on (C.split_ref on.balance c n (omega (arith, lt, on.shape.hands)) hand) (split_refers s c n hand (refers_of s on))
+
+pub join_keeps : (s : State) (c n id : ℕ) → Holds s → local_at s.locals id ≡ Standing n → is_idle s c ≡ true → Holds (after_hand s c (Giving n id) id (Lifted c))
+join_keeps s c n id on at idle =
+    let told = idle_tells s c on idle in
+    hands_keep s c (Giving n id) (set s.locals id (Lifted c)) on (C.join_ref on.balance c n id (omega (arith, told.0, on.shape.hands)) told.1 at) (join_refers s c n id idle at (refers_of s on))
+
+-- the word isn't collected, and one is counted down
+pub count_down_keeps : (s : State) (c n id t : ℕ) → Holds s → hand_at s c ≡ Giving n id → slot_of s.slots n ≡ Some t → count_at s.counts c t ≡ count_at s.nets c t → Holds (after_count_down s c t id)
+count_down_keeps s c n id t on hand of same =
+    let lt : c < s.settings.cpus = hand_within s c on (λ empty. let q : Giving n id ≡ Empty = sym hand ∙ empty in cc) in
+    let lifted = (giving_holds s.settings.cpus s.slots s.hands s.due s.locals c n id hand on.references).1 in
+    let has = slot_has s.slots n t of in
+    counts_keep s (with_cell s.counts t c (count_at s.counts c t - 1)) (with_cell s.nets t c (count_at s.nets c t - 1)) s.totals (set s.hands c Empty) s.keeps s.due (set s.locals id Free) on (record {
+      count_size = length-set s.counts t _ ∙ on.shape.counts;
+      count_rows = rows_cell s.counts t c (count_at s.counts c t - 1) on.shape.count_rows;
+      net_size = length-set s.nets t _ ∙ on.shape.nets;
+      net_rows = rows_cell s.nets t c (count_at s.nets c t - 1) on.shape.net_rows;
+      total_size = on.shape.totals;
+      hand_size = length-set s.hands c Empty ∙ on.shape.hands;
+      keep_size = on.shape.keeps;
+    })
+    on.snapshots
+    (C.count_down on.balance (fit_of s on) c t n id has.1.0 lt has.1.1 has.1.2 (only_slot s t n has.1.0 on has.1.1 has.1.2) (C.is_counting on.balance c t has.1.0 lt has.1.1 same) hand lifted)
+    (count_down_refers s c n id t hand (refers_of s on))
+
+-- the word is collected, and the reference stays
+pub collected_keeps : (s : State) (c n id : ℕ) → Holds s → hand_at s c ≡ Giving n id → Holds (after_collected s c n id)
+collected_keeps s c n id on hand =
+    let lt : c < s.settings.cpus = hand_within s c on (λ empty. let q : Giving n id ≡ Empty = sym hand ∙ empty in cc) in
+    hands_keep s c (Back n id) s.locals on (C.found_collected on.balance c n id (omega (arith, lt, on.shape.hands)) hand) (collected_refers s c n id hand (refers_of s on))
+
+pub split_back_keeps : (s : State) (c n id : ℕ) → Holds s → hand_at s c ≡ Back n id → Holds (after_hand s c Empty id (Standing n))
+split_back_keeps s c n id on hand =
+    let lt : c < s.settings.cpus = hand_within s c on (λ empty. let q : Back n id ≡ Empty = sym hand ∙ empty in cc) in
+    let lifted = (back_holds s.settings.cpus s.slots s.hands s.due s.locals c n id hand on.references).1 in
+    hands_keep s c Empty (set s.locals id (Standing n)) on (C.split_back on.balance c n id (omega (arith, lt, on.shape.hands)) hand lifted) (split_back_refers s c n id hand (refers_of s on))
+
+pub collect_keeps : (s : State) (t c : ℕ) → Holds s → may_collect s t c ≡ true → Holds (after_collect s t c)
+collect_keeps s t c on may =
+    let p = and_parts (may_examine s t c) (is_drainable s t && not (mark_at s.marks t c).collected) may in
+    let q = and_parts (is_drainable s t) (not (mark_at s.marks t c).collected) p.1 in
+    let d = and_parts (have_passed s.settings.cpus (get_or s.marks t [])) (are_clear s.settings.cpus (get_or s.marks t [])) q.0 in
+    let told = may_examine_tells s t c p.0 in
+    let place = mark_place s t c told.2.0 on told.2.1 told.1 in
+    let clear : (mark_at s.marks t c).clear ≡ true = list_all_within is_clear (get_or s.marks t []) s.settings.cpus c no_mark d.1 told.1 place.1 in
+    let still : (mark_at s.marks t c).collected ≡ false = false_from (mark_at s.marks t c).collected q.1 in
+    let refers : Refers (after_collect s t c) = collect_refers s t c may (refers_of s on) in
+    let stand = snapshots_marked s.settings.cpus s.slots s.marks s.due t c (collected (mark_at s.marks t c)) refl on.snapshots in
+    record {
+      fit = on.fit;
+      shape = record {
+        sections = on.shape.sections;
+        links = on.shape.links;
+        rows = on.shape.rows;
+        passive = on.shape.passive;
+        passive_rows = on.shape.passive_rows;
+        counts = length-set s.counts t _ ∙ on.shape.counts;
+        count_rows = rows_cell s.counts t c 0 on.shape.count_rows;
+        totals = on.shape.totals;
+        begins = on.shape.begins;
+        depths = on.shape.depths;
+        seen = on.shape.seen;
+        searches = on.shape.searches;
+        found = on.shape.found;
+        hands = on.shape.hands;
+        nets = on.shape.nets;
+        net_rows = on.shape.net_rows;
+        slots = on.shape.slots;
+        marks = length-set s.marks t _ ∙ on.shape.marks;
+        mark_rows = rows_cell s.marks t c (collected (mark_at s.marks t c)) on.shape.mark_rows;
+        keeps = on.shape.keeps;
+      };
+      legal = on.legal;
+      room = on.room;
+      slots = on.slots;
+      rows = on.rows;
+      list = on.list;
+      held = on.held;
+      frozen_links = on.frozen_links;
+      grace = marks_write s.history s.slots s.marks s.section s.begins t c (collected (mark_at s.marks t c))
+          (λ p b e is ends in_ holds. on.grace.passed t p c b e is ends in_ holds) (λ p b w e is ends in_ snap off. on.grace.changed t p c b w e is ends in_ snap off)
+          (λ w e is snap. on.grace.older t c w e is snap) (λ b w e is in_ holds snap same. on.grace.left t c b w e is in_ holds snap same) on.grace;
+      snapshots = λ u j e is low later. stand u j e is low (λ due. not_at_rest s.due u due.0 told.0 due.1);
+      seats = refers.seats;
+      sections = on.sections;
+      searches = on.searches;
+      last_found = on.last_found;
+      passive = passive_marked s.settings.cpus s.settings.passive_limit s.slots s.marks s.passive t c (collected (mark_at s.marks t c))
+          (λ e is holds. on.passive.clear c t e is holds) (λ e is holds. clear) on.passive;
+      balance = C.collect on.balance (fit_of s on) c t told.2.0 told.1 told.0 told.2.1 still;
+      references = refers.references;
+      kept_drivers = refers.kept_drivers;
+    }
+
+-- a total is all that is written, and the keeper is at rest again
+total_keeps : (s : State) (t v : ℕ) → Holds s → ((u d : ℕ) → s.due ≡ Snapshots u d → ⊥) → CountsOf (after_total s t v) → Holds (after_total s t v)
+total_keeps s t v on none balance = counts_keep s s.counts s.nets (set s.totals t v) s.hands s.keeps Rest s.locals on (record {
+  count_size = on.shape.counts;
+  count_rows = on.shape.count_rows;
+  net_size = on.shape.nets;
+  net_rows = on.shape.net_rows;
+  total_size = length-set s.totals t v ∙ on.shape.totals;
+  hand_size = on.shape.hands;
+  keep_size = on.shape.keeps;
+})
+    (snapshots_all s Rest none on) balance (total_refers s t v (refers_of s on))
+
+pub total_add_keeps : (s : State) (t old : ℕ) → Holds s → s.due ≡ Adding t old → Holds (after_total s t (total_at s.totals t + old - bias))
+total_add_keeps s t old on due =
+    let gone = due_adding s.settings.cpus s.slots s.hands s.due s.locals t old due on.references in
+    total_keeps s t (total_at s.totals t + old - bias) on (λ u d is. let q : Adding t old ≡ Snapshots u d = sym due ∙ is in cc)
+    (C.total_add on.balance (fit_of s on) t old gone.0 due (inr gone.1))
+
+pub total_sub_keeps : (s : State) (t : ℕ) → Holds s → s.due ≡ Subtracting t → Holds (after_total s t (total_at s.totals t - 1))
+total_sub_keeps s t on due =
+    let gone = due_subtracting s.settings.cpus s.slots s.hands s.due s.locals t due on.references in
+    total_keeps s t (total_at s.totals t - 1) on (λ u d is. let q : Subtracting t ≡ Snapshots u d = sym due ∙ is in cc)
+    (C.total_sub on.balance (fit_of s on) t gone.0 due (inr gone.1))
+
+pub join_keeper_keeps : (s : State) (id n t : ℕ) → Holds s → local_at s.locals id ≡ Standing n → slot_of s.slots n ≡ Some t → may_join_keeper s t ≡ true → Holds (after_join_keeper s id t)
+join_keeper_keeps s id n t on at of may =
+    let p = and_parts (is_retired (slot_at s.slots t)) (may_join s t) may in
+    let q = and_parts (at_rest s.due) (is_some_collected s.settings.cpus (get_or s.marks t [])) p.1 in
+    let rest : s.due ≡ Rest = at_rest_tells s.due q.0 in
+    let has = slot_has s.slots n t of in
+    counts_keep s s.counts s.nets s.totals s.hands s.keeps (Subtracting t) (set s.locals id Free) on (record {
+      count_size = on.shape.counts;
+      count_rows = on.shape.count_rows;
+      net_size = on.shape.nets;
+      net_rows = on.shape.net_rows;
+      total_size = on.shape.totals;
+      hand_size = on.shape.hands;
+      keep_size = on.shape.keeps;
+    })
+    (snapshots_all s (Subtracting t) (λ u d is. not_at_rest s.due u d rest is) on)
+    (C.join_keeper on.balance t n id has.1.0 rest has.1.1 has.1.2 (only_slot s t n has.1.0 on has.1.1 has.1.2) at)
+    (join_keeper_refers s id n t at may (refers_of s on))
+
+pub keep_keeps : (s : State) (t id n u : ℕ) → Holds s → local_at s.locals id ≡ Standing n → slot_of s.slots n ≡ Some u → may_keep s t u ≡ true → Holds (after_keep s t id n)
+keep_keeps s t id n u on at of may =
+    let p = and_parts (may_write s t) (is_none (kept_at s.keeps t) && is_driver_slot (slot_at s.slots u)) may in
+    let q = and_parts (is_none (kept_at s.keeps t)) (is_driver_slot (slot_at s.slots u)) p.1 in
+    let told = may_write_tells s t on.shape p.0 in
+    counts_keep s s.counts s.nets s.totals s.hands (set s.keeps t (Some n)) s.due (set s.locals id Free) on (record {
+      count_size = on.shape.counts;
+      count_rows = on.shape.count_rows;
+      net_size = on.shape.nets;
+      net_rows = on.shape.net_rows;
+      total_size = on.shape.totals;
+      hand_size = on.shape.hands;
+      keep_size = length-set s.keeps t (Some n) ∙ on.shape.keeps;
+    })
+    on.snapshots
+    (C.keep on.balance t n id (omega (arith, told.1, on.shape.slots, on.shape.keeps)) (none_from (kept_at s.keeps t) q.0) at)
+    (keep_refers s t id n u at of may (refers_of s on))
+
+-- the word decides between counting down and handing back
+pub exchange_keeps : (s : State) (c n id t : ℕ) → Holds s → hand_at s c ≡ Giving n id → slot_of s.slots n ≡ Some t → Keeps (exchange s c n id t)
+exchange_keeps s c n id t on hand of = go (count_at s.counts c t == count_at s.nets c t) refl
+  where
+    go : (b : Bool) → (count_at s.counts c t == count_at s.nets c t) ≡ b → Keeps (if b then taken (after_count_down s c t id) (Word (count_at s.counts c t)) else taken (after_collected s c n id) Collected)
+    go true is = count_down_keeps s c n id t on hand of (eqb-true (count_at s.counts c t) (count_at s.nets c t) is)
+    go false is = collected_keeps s c n id on hand

@@ -1,0 +1,398 @@
+-- The keeper's events on the list keep the invariant: stores to a vacant slot, Publish and Unpublish.
+use Rattle.std.proofs.Common.{Bool, List, None, Option, Some, [], ap, arith, false, get_or, get_or-set_other, get_or-set_same, inl, inr, length, length-set, ltb-true, not, refl, replicate, set, subst, suc, sym, true, zero, ℕ, ⊎_elim, ◌&&◌, ◌+◌, ◌<◌, ◌∙◌, ◌≡◌, ◌≢◌, ◌≤◌}
+use Rattle.std.proofs.lemmas.Bool.{and_from, and_parts, cases_eq, cases_lt, eq-eqb, eqb-true, leb-true}
+use Rattle.std.proofs.lemmas.List.{set_past}
+use Rattle.std.proofs.lemmas.List.Folds.{list_any_at}
+use Rattle.std.proofs.lemmas.List.Sums.{sum_by-set}
+use Rattle.std.proofs.lemmas.Option.{none-some, same_Some}
+use Rattle.std.specs.Prelude.{if◌then◌else◌, nat_lt, ◌==◌}
+use Rattle.protocol.proofs.history.Growing.{found_old, searches_old, sections_old}
+use Rattle.protocol.proofs.history.History.{length-after_change}
+use Rattle.protocol.proofs.keeps.Marking.{marks_detach, snapshots_detach}
+use Rattle.protocol.proofs.keeps.Passive.{passive_attach, passive_detach}
+use Rattle.protocol.proofs.keeps.Publishing.{held_attach, legal_attach, links_attach, list_attach, marks_attach, rows_attach, slots_attach, snapshots_attach}
+use Rattle.protocol.proofs.keeps.Unlinking.{before_leads, head_leads, head_leads_on, held_detach, legal_detach, link_to, links_detach, list_unlink_head, list_unlink_mid, rows_detach, slots_detach, within_live}
+use Rattle.protocol.specs.Events.{after_link_store, after_publish, after_row_store, after_unpublish, are_unused, entry_if, entry_of, has_room, keeps_rightly, kind_of, may_publish, may_write, retiring, unlinking, with_word, words_of}
+use Rattle.protocol.specs.History.{after_change}
+use Rattle.registry_values.specs.Slots.{key_of, is_live, is_live_as, is_taken, is_vacant, kind_word, live_count, same_key, same_kind, same_name, slot_before, slot_at}
+use Rattle.protocol.specs.Invariant.{AreRows, CountsHold, DriversKept, HasShape, Holds, IsIn, Leads, LinksStay, ListShows, ReferencesHold, RowsShow, SnapshotsStand, one_if}
+use Rattle.registry_values.specs.Names.{are_name_words}
+use Rattle.protocol.specs.State.{at_rest, State, kept_at, no_words, row_at}
+use Rattle.registry_values.specs.Balances.{bias}
+use Rattle.registry_values.specs.Marks.{no_mark}
+use Rattle.registry_values.specs.declared.entry.Change.TheVariants.{Attach, Detach}
+use Rattle.registry_values.specs.declared.entry.Entry.{Entry}
+use Rattle.registry_values.specs.declared.entry.Kind.{Kind}
+use Rattle.registry_values.specs.declared.entry.Kind.TheVariants.{Driver, Iface}
+use Rattle.protocol.specs.declared.state.Due.TheVariants.{Rest}
+use Rattle.registry_values.specs.declared.slot.Key.{Key}
+use Rattle.protocol.specs.declared.state.RecordWords.{RecordWords}
+use Rattle.registry_values.specs.declared.slot.Slot.{Slot}
+use Rattle.registry_values.specs.declared.slot.Slot.TheVariants.{Live, Retired, Vacant}
+use Rattle.protocol.proofs.slots.Occupied.{not_vacant, is_vacant_tells, at_rest_tells}
+
+-- the clauses that other files keep, at a state
+abbrev pub CountsOf : State → Type 0
+CountsOf s = CountsHold s.settings s.slots s.marks s.counts s.nets s.totals s.hands s.keeps s.due s.locals
+
+abbrev pub ReferencesOf : State → Type 0
+ReferencesOf s = ReferencesHold s.settings.cpus s.slots s.hands s.due s.locals
+
+abbrev pub DriversOf : State → Type 0
+DriversOf s = DriversKept s.slots s.keeps
+
+pub false_from : (b : Bool) → not b ≡ true → b ≡ false
+false_from false is = refl
+false_from true is = absurd (let q : ◌≡◌ {A = Bool} false true = is in cc)
+
+-- the slot that may be written is in range and vacant, and the keeper at rest
+pub may_write_tells : (s : State) (t : ℕ) → HasShape s → may_write s t ≡ true → (s.due ≡ Rest) × (t < length s.slots) × (slot_at s.slots t ≡ Vacant)
+may_write_tells s t shape may =
+    let p = and_parts (at_rest s.due) (nat_lt t s.settings.slots && is_vacant (slot_at s.slots t)) may in
+    let q = and_parts (nat_lt t s.settings.slots) (is_vacant (slot_at s.slots t)) p.1 in
+    (at_rest_tells s.due p.0, omega (arith, ltb-true t s.settings.slots q.0, shape.slots), is_vacant_tells (slot_at s.slots t) q.1)
+
+same_kind_own : (k : Kind) → same_kind k k ≡ true
+same_kind_own Iface = refl
+same_kind_own Driver = refl
+
+same_key_own : (k : Key) → same_key k k ≡ true
+same_key_own k = and_from (same_kind k.kind k.kind) (same_name k.name k.name) (same_kind_own k.kind)
+    (and_from (k.name.high == k.name.high) (k.name.low == k.name.low) (eq-eqb k.name.high k.name.high refl) (eq-eqb k.name.low k.name.low refl))
+
+-- a live entry with the key shows that it is taken
+pub taken_from : (key : Key) (slots : List Slot) (t : ℕ) (f : Entry) → slot_at slots t ≡ Live f → key_of f ≡ key → is_taken key slots ≡ true
+taken_from key slots t f at same = list_any_at (is_live_as key) slots t Vacant (within_live slots t f at)
+    (ap (is_live_as key) at ∙ (ap (λ (k : Key). same_key k key) same ∙ same_key_own key))
+
+-- how many are live after a write
+pub live_count_set : (slots : List Slot) (t : ℕ) (x : Slot) → t < length slots → live_count (set slots t x) + one_if (is_live (slot_at slots t)) ≡ live_count slots + one_if (is_live x)
+live_count_set slots t x lt = sum_by-set (λ (y : Slot). if is_live y then 1 else 0) slots t x Vacant lt
+
+pub live_count_put : (slots : List Slot) (t : ℕ) (x y : Slot) → t < length slots → slot_at slots t ≡ x → live_count (set slots t y) + one_if (is_live x) ≡ live_count slots + one_if (is_live y)
+live_count_put slots t x y lt at = subst (λ (z : Slot). live_count (set slots t y) + one_if (is_live z) ≡ live_count slots + one_if (is_live y)) at (live_count_set slots t y lt)
+
+-- a row with a place for each CPU is written
+pub rows_put : {X : Type 0} (rows : List (List X)) (t : ℕ) (row : List X) → length row ≡ 8 → AreRows rows → AreRows (set rows t row)
+rows_put {X} rows t row size are u lt = ⊎_elim
+    (λ (same : u ≡ t). ap (λ (k : ℕ). length (get_or (set rows t row) k [])) same ∙ (ap (λ (r : List X). length r) (get_or-set_same rows t row [] (omega (arith, length-set rows t row))) ∙ size))
+    (λ (off : u ≡ t → ⊥). ap (λ (r : List X). length r) (get_or-set_other rows t u row [] off) ∙ are u (omega (arith, length-set rows t row)))
+    (cases_eq u t)
+
+-- and so where one place of a row is
+pub rows_cell : {X : Type 0} (rows : List (List X)) (t c : ℕ) (x : X) → AreRows rows → AreRows (set rows t (set (get_or rows t []) c x))
+rows_cell {X} rows t c x are u lt = ⊎_elim
+    (λ (in_ : t < length rows). rows_put rows t (set (get_or rows t []) c x) (length-set (get_or rows t []) c x ∙ are t in_) are u lt)
+    (λ (out : length rows ≤ t). let same = set_past rows t (set (get_or rows t []) c x) out in
+    ap (λ (r : List (List X)). length (get_or r u [])) same ∙ are u (subst (λ (r : List (List X)). u < length r) same lt))
+    (cases_lt t (length rows))
+
+-- a write to a vacant slot's words
+rows_store : (slots : List Slot) (rows : List RecordWords) (t : ℕ) (r : RecordWords) → slot_at slots t ≡ Vacant → RowsShow slots rows → RowsShow slots (set rows t r)
+rows_store slots rows t r vacant show u f is =
+    let off : u ≢ t = λ same. not_vacant f (slot_at slots u) (ap (slot_at slots) same ∙ vacant) is in
+    let was = show u f is in
+    (get_or-set_other rows t u r no_words off ∙ was.0, was.1)
+
+pub row_store_keeps : (s : State) (t k v : ℕ) → Holds s → may_write s t ≡ true → Holds (after_row_store s t k v)
+row_store_keeps s t k v on may =
+    let told = may_write_tells s t on.shape may in
+    record {
+      fit = on.fit;
+      shape = record {
+        sections = on.shape.sections;
+        links = on.shape.links;
+        rows = length-set s.rows t (with_word (row_at s.rows t) k v) ∙ on.shape.rows;
+        passive = on.shape.passive;
+        passive_rows = on.shape.passive_rows;
+        counts = on.shape.counts;
+        count_rows = on.shape.count_rows;
+        totals = on.shape.totals;
+        begins = on.shape.begins;
+        depths = on.shape.depths;
+        seen = on.shape.seen;
+        searches = on.shape.searches;
+        found = on.shape.found;
+        hands = on.shape.hands;
+        nets = on.shape.nets;
+        net_rows = on.shape.net_rows;
+        slots = on.shape.slots;
+        marks = on.shape.marks;
+        mark_rows = on.shape.mark_rows;
+        keeps = on.shape.keeps;
+      };
+      legal = on.legal;
+      room = on.room;
+      slots = on.slots;
+      rows = rows_store s.slots s.rows t (with_word (row_at s.rows t) k v) told.2 on.rows;
+      list = on.list;
+      held = on.held;
+      frozen_links = on.frozen_links;
+      grace = on.grace;
+      snapshots = on.snapshots;
+      seats = on.seats;
+      sections = on.sections;
+      searches = on.searches;
+      last_found = on.last_found;
+      passive = on.passive;
+      balance = on.balance;
+      references = on.references;
+      kept_drivers = on.kept_drivers;
+    }
+
+pub link_store_keeps : (s : State) (t v : ℕ) → Holds s → may_write s t ≡ true → Holds (after_link_store s t v)
+link_store_keeps s t v on may =
+    let told = may_write_tells s t on.shape may in
+    let same : (u : ℕ) (f : Entry) → IsIn f (slot_at s.slots u) → get_or (set s.next t v) u 0 ≡ get_or s.next u 0 =
+    λ u f is. get_or-set_other s.next t u v 0 (λ same. not_vacant f (slot_at s.slots u) (ap (slot_at s.slots) same ∙ told.2) is) in
+    record {
+      fit = on.fit;
+      shape = record {
+        sections = on.shape.sections;
+        links = length-set s.next t v ∙ on.shape.links;
+        rows = on.shape.rows;
+        passive = on.shape.passive;
+        passive_rows = on.shape.passive_rows;
+        counts = on.shape.counts;
+        count_rows = on.shape.count_rows;
+        totals = on.shape.totals;
+        begins = on.shape.begins;
+        depths = on.shape.depths;
+        seen = on.shape.seen;
+        searches = on.shape.searches;
+        found = on.shape.found;
+        hands = on.shape.hands;
+        nets = on.shape.nets;
+        net_rows = on.shape.net_rows;
+        slots = on.shape.slots;
+        marks = on.shape.marks;
+        mark_rows = on.shape.mark_rows;
+        keeps = on.shape.keeps;
+      };
+      legal = on.legal;
+      room = on.room;
+      slots = on.slots;
+      rows = on.rows;
+      list = record { first = on.list.first; links = λ u f is. subst (Leads s.history (length s.history) f.number) (sym (same u f (inl is))) (on.list.links u f is) };
+      held = on.held;
+      frozen_links = λ u p c b f is ends in_ low. subst (Leads s.history p f.number) (sym (same u f (inr is))) (on.frozen_links u p c b f is ends in_ low);
+      grace = on.grace;
+      snapshots = on.snapshots;
+      seats = on.seats;
+      sections = on.sections;
+      searches = on.searches;
+      last_found = on.last_found;
+      passive = on.passive;
+      balance = on.balance;
+      references = on.references;
+      kept_drivers = on.kept_drivers;
+    }
+
+kind_from : (w : ℕ) (k : Kind) → kind_of w ≡ Some k → w ≡ kind_word k
+kind_from zero k is = absurd (none-some k is)
+kind_from (suc zero) k is = ap kind_word (same_Some Iface k is)
+kind_from (suc (suc zero)) k is = ap kind_word (same_Some Driver k is)
+kind_from (suc (suc (suc n))) k is = absurd (none-some k is)
+
+some_if : {X : Type 0} (b : Bool) (x y : X) → (if b then Some x else None) ≡ Some y → (b ≡ true) × (x ≡ y)
+some_if true x y is = (refl, same_Some x y is)
+some_if false x y is = absurd (none-some y is)
+
+-- the words of a row are its entry's
+pub entry_shows : (t : ℕ) (r : RecordWords) (e : Entry) → entry_of t r ≡ Some e → (e.slot ≡ t) × (r ≡ words_of e) × (are_name_words e.rec.name.high e.rec.name.low ≡ true)
+entry_shows t r e is = go (kind_of r.kind) refl is
+  where
+    go : (o : Option Kind) → kind_of r.kind ≡ o → entry_if t r o ≡ Some e → (e.slot ≡ t) × (r ≡ words_of e) × (are_name_words e.rec.name.high e.rec.name.low ≡ true)
+    go None kind same = absurd (none-some e same)
+    go (Some k) kind same =
+        let told = some_if (are_name_words r.high r.low) (record { number = r.number; slot = t; rec = record { kind = k; name = record { high = r.high; low = r.low }; value = r.value } }) e same in
+        let word : r.kind ≡ kind_word k = kind_from r.kind k kind in (
+          ap (λ (f : Entry). f.slot) (sym told.1),
+          ap (λ (w : ℕ). record { number = r.number; kind = w; high = r.high; low = r.low; value = r.value }) word ∙ ap words_of told.1,
+          subst (λ (f : Entry). are_name_words f.rec.name.high f.rec.name.low ≡ true) told.1 told.0,
+        )
+
+-- an entry is published in its own slot
+publish_own : (s : State) (e : Entry) → Holds s → row_at s.rows e.slot ≡ words_of e → are_name_words e.rec.name.high e.rec.name.low ≡ true → may_publish s e.slot e ≡ true
+    → CountsOf (after_publish s e.slot e) → ReferencesOf (after_publish s e.slot e) → DriversOf (after_publish s e.slot e) → Holds (after_publish s e.slot e)
+publish_own s e on row name may counts references drivers =
+    let p0 = and_parts (may_write s e.slot) (e.number == length s.history + 1 && (not (is_taken (key_of e) s.slots)
+    && (has_room s && (get_or s.next e.slot 0 == s.head && (are_unused s e.slot && keeps_rightly (kept_at s.keeps e.slot) e.rec.kind))))) may in
+    let p1 = and_parts (e.number == length s.history + 1) (not (is_taken (key_of e) s.slots)
+    && (has_room s && (get_or s.next e.slot 0 == s.head && (are_unused s e.slot && keeps_rightly (kept_at s.keeps e.slot) e.rec.kind)))) p0.1 in
+    let p2 = and_parts (not (is_taken (key_of e) s.slots)) (has_room s && (get_or s.next e.slot 0 == s.head && (are_unused s e.slot && keeps_rightly (kept_at s.keeps e.slot) e.rec.kind))) p1.1 in
+    let p3 = and_parts (has_room s) (get_or s.next e.slot 0 == s.head && (are_unused s e.slot && keeps_rightly (kept_at s.keeps e.slot) e.rec.kind)) p2.1 in
+    let p4 = and_parts (get_or s.next e.slot 0 == s.head) (are_unused s e.slot && keeps_rightly (kept_at s.keeps e.slot) e.rec.kind) p3.1 in
+    let told = may_write_tells s e.slot on.shape p0.0 in
+    let lt : e.slot < length s.slots = told.1 in
+    let vacant : slot_at s.slots e.slot ≡ Vacant = told.2 in
+    let number : e.number ≡ suc (length s.history) = omega (arith, eqb-true e.number (length s.history + 1) p1.0) in
+    let link : get_or s.next e.slot 0 ≡ s.head = eqb-true (get_or s.next e.slot 0) s.head p4.0 in
+    let free : is_taken (key_of e) s.slots ≡ false = false_from (is_taken (key_of e) s.slots) p2.0 in
+    let fits : length s.history + live_count s.slots + 2 ≤ s.settings.change_limit = leb-true (length s.history + live_count s.slots + 2) s.settings.change_limit p3.0 in
+    let more : live_count (set s.slots e.slot (Live e)) + 0 ≡ live_count s.slots + 1 = live_count_put s.slots e.slot Vacant (Live e) lt vacant in
+    let size : length (after_change s.history (Attach e)) ≡ suc (length s.history) = length-after_change s.history (Attach e) in
+    record {
+      fit = on.fit;
+      shape = record {
+        sections = on.shape.sections;
+        links = on.shape.links;
+        rows = on.shape.rows;
+        passive = on.shape.passive;
+        passive_rows = on.shape.passive_rows;
+        counts = on.shape.counts;
+        count_rows = on.shape.count_rows;
+        totals = on.shape.totals;
+        begins = on.shape.begins;
+        depths = on.shape.depths;
+        seen = on.shape.seen;
+        searches = on.shape.searches;
+        found = on.shape.found;
+        hands = on.shape.hands;
+        nets = length-set s.nets e.slot (replicate 8 bias) ∙ on.shape.nets;
+        net_rows = rows_put s.nets e.slot (replicate 8 bias) refl on.shape.net_rows;
+        slots = length-set s.slots e.slot (Live e) ∙ on.shape.slots;
+        marks = on.shape.marks;
+        mark_rows = on.shape.mark_rows;
+        keeps = on.shape.keeps;
+      };
+      legal = legal_attach s.history e on.legal number
+          (λ f live same. let q : ◌≡◌ {A = Bool} true false = sym (taken_from (key_of e) s.slots f.slot f (on.slots.placed f live) same) ∙ free in cc)
+          (λ f live same. let q : Live f ≡ Vacant = sym (on.slots.placed f live) ∙ (ap (slot_at s.slots) same ∙ vacant) in cc);
+      room = omega (arith, size, more, fits);
+      slots = slots_attach s.history s.slots e on.legal lt vacant number on.slots;
+      rows = rows_attach s.slots s.rows e lt row name on.rows;
+      list = subst (λ (n : ℕ). ListShows (after_change s.history (Attach e)) (set s.slots e.slot (Live e)) n s.next) (omega arith) (list_attach s.history s.slots s.head s.next e on.legal lt number link on.slots on.list);
+      held = held_attach s.history s.slots s.begins e lt vacant number on.held;
+      frozen_links = links_attach s.history s.slots s.next s.begins e lt on.frozen_links;
+      grace = marks_attach s.history s.slots s.marks s.section s.begins e lt on.grace;
+      snapshots = snapshots_attach s.settings.cpus s.slots s.marks s.due e lt on.snapshots;
+      seats = on.seats;
+      sections = sections_old s.settings s.history (Attach e) s.section s.begins s.depths s.seen on.sections;
+      searches = searches_old s.settings s.history (Attach e) s.section s.begins s.depths s.seen s.searches on.sections on.searches;
+      last_found = found_old s.settings s.history (Attach e) s.section s.begins s.depths s.seen s.found on.sections on.last_found;
+      passive = passive_attach s.settings.cpus s.settings.passive_limit s.slots s.marks s.passive e lt on.passive;
+      balance = counts;
+      references = references;
+      kept_drivers = drivers;
+    }
+
+pub publish_keeps : (s : State) (t : ℕ) (e : Entry) → Holds s → entry_of t (row_at s.rows t) ≡ Some e → may_publish s t e ≡ true
+    → CountsOf (after_publish s t e) → ReferencesOf (after_publish s t e) → DriversOf (after_publish s t e) → Holds (after_publish s t e)
+publish_keeps s t e on is =
+    let told = entry_shows t (row_at s.rows t) e is in
+    subst (λ (u : ℕ). row_at s.rows u ≡ words_of e → may_publish s u e ≡ true → CountsOf (after_publish s u e) → ReferencesOf (after_publish s u e) → DriversOf (after_publish s u e) → Holds (after_publish s u e))
+    told.0 (λ row may counts references drivers. publish_own s e on row told.2 may counts references drivers) told.1
+
+-- the shape after an unlinking, by either store
+shape_unlinked : (s : State) (e : Entry) (o : Option ℕ) → HasShape s → HasShape (retiring (unlinking s e.slot o) e.slot e)
+shape_unlinked s e None shape = record {
+  sections = shape.sections;
+  links = shape.links;
+  rows = shape.rows;
+  passive = shape.passive;
+  passive_rows = shape.passive_rows;
+  counts = shape.counts;
+  count_rows = shape.count_rows;
+  totals = shape.totals;
+  begins = shape.begins;
+  depths = shape.depths;
+  seen = shape.seen;
+  searches = shape.searches;
+  found = shape.found;
+  hands = shape.hands;
+  nets = shape.nets;
+  net_rows = shape.net_rows;
+  slots = length-set s.slots e.slot (Retired e) ∙ shape.slots;
+  marks = length-set s.marks e.slot (replicate 8 no_mark) ∙ shape.marks;
+  mark_rows = rows_put s.marks e.slot (replicate 8 no_mark) refl shape.mark_rows;
+  keeps = shape.keeps;
+}
+shape_unlinked s e (Some p) shape = record {
+  sections = shape.sections;
+  links = length-set s.next p (get_or s.next e.slot 0) ∙ shape.links;
+  rows = shape.rows;
+  passive = shape.passive;
+  passive_rows = shape.passive_rows;
+  counts = shape.counts;
+  count_rows = shape.count_rows;
+  totals = shape.totals;
+  begins = shape.begins;
+  depths = shape.depths;
+  seen = shape.seen;
+  searches = shape.searches;
+  found = shape.found;
+  hands = shape.hands;
+  nets = shape.nets;
+  net_rows = shape.net_rows;
+  slots = length-set s.slots e.slot (Retired e) ∙ shape.slots;
+  marks = length-set s.marks e.slot (replicate 8 no_mark) ∙ shape.marks;
+  mark_rows = rows_put s.marks e.slot (replicate 8 no_mark) refl shape.mark_rows;
+  keeps = shape.keeps;
+}
+
+-- the first store leaves all but the head and one link
+fit_unlinked : (s : State) (e : Entry) (head : ℕ) (next : List ℕ) → Holds s → slot_at s.slots e.slot ≡ Live e → at_rest s.due ≡ true
+    → HasShape (retiring (record s { head = head; next = next }) e.slot e)
+    → ListShows (after_change s.history (Detach e.number)) (set s.slots e.slot (Retired e)) head next
+    → LinksStay (after_change s.history (Detach e.number)) (set s.slots e.slot (Retired e)) next s.begins
+    → CountsOf (retiring s e.slot e) → ReferencesOf (retiring s e.slot e) → DriversOf (retiring s e.slot e) → Holds (retiring (record s { head = head; next = next }) e.slot e)
+fit_unlinked s e head next on at rest shape list links counts references drivers =
+    let lt : e.slot < length s.slots = within_live s.slots e.slot e at in
+    let lm : e.slot < length s.marks = omega (arith, on.shape.slots, on.shape.marks) in
+    let less : live_count (set s.slots e.slot (Retired e)) + 1 ≡ live_count s.slots + 0 = live_count_put s.slots e.slot (Live e) (Retired e) lt at in
+    let size : length (after_change s.history (Detach e.number)) ≡ suc (length s.history) = length-after_change s.history (Detach e.number) in
+    record {
+      fit = on.fit;
+      shape = shape;
+      legal = legal_detach s.history e on.legal (on.slots.live e.slot e at).0;
+      room = omega (arith, size, less, on.room);
+      slots = slots_detach s.history s.slots e on.legal at on.slots;
+      rows = rows_detach s.slots s.rows e at on.rows;
+      list = list;
+      held = held_detach s.history s.slots s.begins e at on.held;
+      frozen_links = links;
+      grace = marks_detach s.history s.slots s.marks s.section s.begins e 8 at (on.shape.marks ∙ sym on.shape.slots) on.slots on.grace;
+      snapshots = snapshots_detach s.settings.cpus s.slots s.marks e 8 lt (subst (SnapshotsStand s.settings.cpus s.slots s.marks) (at_rest_tells s.due rest) on.snapshots);
+      seats = on.seats;
+      sections = sections_old s.settings s.history (Detach e.number) s.section s.begins s.depths s.seen on.sections;
+      searches = searches_old s.settings s.history (Detach e.number) s.section s.begins s.depths s.seen s.searches on.sections on.searches;
+      last_found = found_old s.settings s.history (Detach e.number) s.section s.begins s.depths s.seen s.found on.sections on.last_found;
+      passive = passive_detach s.settings.cpus s.settings.passive_limit s.slots s.marks s.passive e 8 lt lm on.passive;
+      balance = counts;
+      references = references;
+      kept_drivers = drivers;
+    }
+
+-- an entry is unlinked from its own slot
+unlink_own : (s : State) (e : Entry) (o : Option ℕ) → Holds s → slot_at s.slots e.slot ≡ Live e → at_rest s.due ≡ true → slot_before s.slots s.next e.slot ≡ o
+    → CountsOf (retiring s e.slot e) → ReferencesOf (retiring s e.slot e) → DriversOf (retiring s e.slot e) → Holds (retiring (unlinking s e.slot o) e.slot e)
+unlink_own s e None on at rest is counts references drivers =
+    let size : length s.next ≡ length s.slots = on.shape.links ∙ sym on.shape.slots in
+    let first : s.head ≡ suc e.slot = head_leads s.history s.slots s.head s.next e on.slots on.list size at is in
+    fit_unlinked s e (get_or s.next e.slot 0) s.next on at rest (shape_unlinked s e None on.shape)
+    (list_unlink_head s.history s.slots s.head s.next e at on.slots first on.list)
+    (links_detach s.history s.slots s.head s.next s.next s.begins e on.legal at on.slots on.list (λ u f x y. refl) on.frozen_links)
+    counts references drivers
+unlink_own s e (Some p) on at rest is counts references drivers =
+    let size : length s.next ≡ length s.slots = on.shape.links ∙ sym on.shape.slots in
+    let g = before_leads s.slots s.next e.slot p size is in
+    let off : s.head ≡ suc e.slot → ⊥ = head_leads_on s.history s.slots s.head s.next e g.0 p on.slots on.list at g.1 g.2 in
+    let kept : (u : ℕ) (f : Entry) → IsIn f (slot_at s.slots u) → ((slot_at s.slots u ≡ Live f) → (u ≡ e.slot)) → get_or (set s.next p (get_or s.next e.slot 0)) u 0 ≡ get_or s.next u 0
+    = λ u f x only. get_or-set_other s.next p u (get_or s.next e.slot 0) 0 (λ same. ⊎_elim
+    (λ (live : slot_at s.slots u ≡ Live f).
+    let word : get_or s.next e.slot 0 ≡ suc e.slot = ap (λ (k : ℕ). get_or s.next k 0) (sym (only live) ∙ same) ∙ g.2 in
+    omega (arith, (link_to s.history s.slots e e.number (get_or s.next e.slot 0) on.slots at word (on.list.links e.slot e at)).0))
+    (λ (gone : slot_at s.slots u ≡ Retired f). let q : Live g.0 ≡ Retired f = sym g.1 ∙ (ap (slot_at s.slots) (sym same) ∙ gone) in cc)
+    x) in
+    fit_unlinked s e s.head (set s.next p (get_or s.next e.slot 0)) on at rest (shape_unlinked s e (Some p) on.shape)
+    (list_unlink_mid s.history s.slots s.head s.next e g.0 p at on.slots size off g.1 g.2 on.list)
+    (links_detach s.history s.slots s.head s.next (set s.next p (get_or s.next e.slot 0)) s.begins e on.legal at on.slots on.list kept on.frozen_links)
+    counts references drivers
+
+pub unpublish_keeps : (s : State) (t : ℕ) (e : Entry) → Holds s → slot_at s.slots t ≡ Live e → at_rest s.due ≡ true
+    → CountsOf (retiring s t e) → ReferencesOf (retiring s t e) → DriversOf (retiring s t e) → Holds (after_unpublish s t e)
+unpublish_keeps s t e on is rest =
+    let slot : e.slot ≡ t = (on.slots.live t e is).1 in
+    subst (λ (u : ℕ). slot_at s.slots u ≡ Live e → CountsOf (retiring s u e) → ReferencesOf (retiring s u e) → DriversOf (retiring s u e) → Holds (after_unpublish s u e))
+    slot (λ at counts references drivers. unlink_own s e (slot_before s.slots s.next e.slot) on at rest refl counts references drivers) is

@@ -1,0 +1,54 @@
+-- What the loads of a search do to the state, by what they make of the words.
+use Rattle.std.proofs.Common.{◌≡◌, ℕ, zero, suc, ◌<◌, ◌≤◌, length, get_or, Option, Some, Bool, true, false, refl, subst, arith}
+use Rattle.protocol.specs.declared.state.Place.{Place}
+use Rattle.protocol.specs.declared.state.Place.TheVariants.{AtHead, AtNext, AtNumber, AtKind, AtHigh, AtLow, AtValue}
+use Rattle.protocol.specs.declared.state.Search.{Search}
+use Rattle.protocol.specs.declared.state.Loaded.{Loaded}
+use Rattle.registry_values.specs.declared.slot.Key.{Key}
+use Rattle.protocol.specs.State.{State, search_at, row_at}
+use Rattle.protocol.specs.Events.{load_link, load_searched, link_loaded, compared, are_words_of}
+use Rattle.protocol.specs.Invariant.{Holds, PlaceHolds}
+use Rattle.protocol.specs.Loaded.{loaded, judged, row_of_place, outcome_of}
+use Rattle.protocol.specs.Taken.{Keeps}
+use Rattle.protocol.proofs.keeps.SearchKeeps.{link_keeps, record_keeps}
+use Rattle.protocol.proofs.keeps.Searching.{LinkTells, head_ahead, at_next_ahead, link_tells, search_walks, Walks}
+
+compared_is : (s : State) (c : ℕ) (q : Search) (t n l : ℕ) (b : Bool) → compared s c q t n l b ≡ outcome_of s c q (Some (judged t n l b))
+compared_is s c q t n l true = refl
+compared_is s c q t n l false = refl
+
+pub loaded_is : (s : State) (c : ℕ) (q : Search) (place : Place) → load_searched s c q place (row_at s.rows) ≡ outcome_of s c q (loaded q place (row_of_place s.rows place))
+loaded_is s c q AtHead = refl
+loaded_is s c q (AtNext t) = refl
+loaded_is s c q (AtNumber t) = refl
+loaded_is s c q (AtKind t n) = refl
+loaded_is s c q (AtHigh t n k) = refl
+loaded_is s c q (AtLow t n k h) = compared_is s c q t n (row_at s.rows t).low (are_words_of q.key k h (row_at s.rows t).low)
+loaded_is s c q (AtValue t n) = refl
+
+-- a load keeps the invariant, by what it made of the word
+pub loaded_keeps : (s : State) (c : ℕ) (q : Search) (x : Option Loaded) → Holds s → search_at s c ≡ Some q → loaded q q.place (row_of_place s.rows q.place) ≡ x → Keeps (outcome_of s c q x)
+loaded_keeps s c q x on is load = subst (λ (y : Option Loaded). Keeps (outcome_of s c q y)) load (subst Keeps (loaded_is s c q q.place) (record_keeps s c q on is))
+
+pub head_keeps : (s : State) (c : ℕ) (q : Search) → Holds s → search_at s c ≡ Some q → q.place ≡ AtHead → Keeps (link_loaded s c q s.head)
+head_keeps s c q on is at = subst (λ (p : Place). Keeps (load_link s c q p)) at (link_keeps s c q on is)
+
+pub next_keeps : (s : State) (c t : ℕ) (q : Search) → Holds s → search_at s c ≡ Some q → q.place ≡ AtNext t → Keeps (link_loaded s c q (get_or s.next t 0))
+next_keeps s c t q on is at = subst (λ (p : Place). Keeps (load_link s c q p)) at (link_keeps s c q on is)
+
+tells_bound : (s : State) (from n x : ℕ) (key : Key) → LinkTells s from key n x → x ≤ length s.slots
+tells_bound s from n zero key tells = omega arith
+tells_bound s from n (suc t) key tells = tells.4
+
+-- a link that a search follows is in range
+pub head_bound : (s : State) (c : ℕ) (q : Search) → Holds s → search_at s c ≡ Some q → s.head ≤ s.settings.slots
+head_bound s c q on is =
+    let walk : Walks s c q.start = search_walks s c q on is in
+    omega (arith, on.shape.slots, tells_bound s q.start (suc (length s.history)) s.head q.key (link_tells s c q.start (suc (length s.history)) s.head q.key on walk (head_ahead s q.start q.key on walk.by_now)))
+
+pub next_bound : (s : State) (c t : ℕ) (q : Search) → Holds s → search_at s c ≡ Some q → q.place ≡ AtNext t → (t < s.settings.slots) × (get_or s.next t 0 ≤ s.settings.slots)
+next_bound s c t q on is at =
+    let walk : Walks s c q.start = search_walks s c q on is in
+    let p = subst (PlaceHolds s.history q.start (get_or s.seen c 0) q.key) at (on.searches c q is).stands in
+    let ahead = at_next_ahead s c q.start (get_or s.seen c 0) t q.key on walk (on.sections.prefix c) p in
+    (omega (arith, ahead.0, on.shape.links), omega (arith, on.shape.slots, tells_bound s q.start p.0.number (get_or s.next t 0) q.key (link_tells s c q.start p.0.number (get_or s.next t 0) q.key on walk ahead.1)))

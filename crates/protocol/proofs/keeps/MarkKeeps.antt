@@ -1,0 +1,413 @@
+-- Snapshots, looks, passive references and the end of a slot's use keep the invariant; the opening state has it.
+use Rattle.std.proofs.Common.{Bool, List, None, Option, Some, [], ap, arith, false, get_or, length, length-set, ltb-true, refl, replicate, set, subst, suc, sym, true, zero, ℕ, ⊎_elim, ◌%◌, ◌&&◌, ◌+◌, ◌-◌, ◌<◌, ◌||◌, ◌∙◌, ◌≡◌, ◌≤◌}
+use Rattle.std.proofs.lemmas.Bool.{and_parts, cases_lt, eqb-true, or_cases}
+use Rattle.std.proofs.lemmas.List.{get_or_past, length-replicate}
+use Rattle.std.proofs.lemmas.Option.{none-some}
+use Rattle.std.specs.Prelude.{IsTrue, is_none, nat_lt, ◌==◌}
+use Rattle.protocol.proofs.history.History.{at_empty}
+use Rattle.protocol.proofs.keeps.ListKeeps.{CountsOf, DriversOf, ReferencesOf, live_count_put, rows_cell}
+use Rattle.protocol.proofs.keeps.Marking.{held_vacate, links_vacate, list_all_within, list_vacate, marks_look, marks_snapshot, marks_vacate, marks_write, rows_vacate, slots_vacate, snapshots_marked, snapshots_taken, snapshots_vacate}
+use Rattle.protocol.proofs.keeps.Passive.{found_not_passed, passive_counted, passive_marked, passive_vacate}
+use Rattle.protocol.proofs.keeps.Unlinking.{within_retired}
+use Rattle.protocol.specs.Events.{after_add, after_kept_sub, after_look, after_look_passive, after_snapshot, after_sub, after_vacate, due_after, is_drainable, is_drained, is_idle, is_number, is_snapshot_due, may_add, may_examine, may_look_passive, may_sub, may_vacate, snapshot_mark}
+use Rattle.registry_values.specs.Marks.{cleared, looked, are_clear, are_collected, has_changed, have_passed, is_clear, is_collected, is_even, is_passed, no_mark}
+use Rattle.protocol.specs.Invariant.{AreRows, DueHolds, Holds, IsIn, MarksHold, PassiveShow, SnapshotsStand, To_end}
+use Rattle.registry_values.proofs.Fit.{ranges}
+use Rattle.registry_values.specs.Limits.{are_fit}
+use Rattle.protocol.specs.State.{at_rest, is_empty, State, found_at, hand_at, kept_at, mark_at, no_words, opening, passive_at, search_at, section_at, total_at, with_cell}
+use Rattle.registry_values.specs.Slots.{is_retired, live_count, slot_of, slot_at}
+use Rattle.registry_values.specs.Balances.{bias}
+use Rattle.registry_values.specs.declared.entry.Change.TheVariants.{Attach, Detach}
+use Rattle.registry_values.specs.declared.entry.Entry.{Entry}
+use Rattle.registry_values.specs.declared.settings.Settings.{Settings}
+use Rattle.protocol.specs.declared.state.Due.{Due}
+use Rattle.protocol.specs.declared.state.Due.TheVariants.{Rest, Snapshots}
+use Rattle.protocol.specs.declared.state.Hand.TheVariants.{Empty}
+use Rattle.registry_values.specs.declared.mark.Mark.{Mark}
+use Rattle.registry_values.specs.declared.slot.Slot.{Slot}
+use Rattle.registry_values.specs.declared.slot.Slot.TheVariants.{Live, Retired, Vacant}
+use Rattle.protocol.proofs.slots.Occupied.{not_vacant, slot_has, is_retired_tells, at_rest_tells}
+use Rattle.protocol.proofs.keeps.References.{snapshot_due_tells}
+use Rattle.protocol.proofs.slots.Cells.{get_or_all}
+
+-- no more CPUs than a row has places
+pub cpus_fit : (z : Settings) → IsTrue (are_fit z) → z.cpus ≤ 8
+cpus_fit z fit = (ranges z fit).cpus
+
+-- the marks are all that is written, and what is due
+marks_keep : (s : State) (marks : List (List Mark)) (due : Due) → Holds s → length marks ≡ length s.marks → AreRows marks
+    → MarksHold s.history s.slots marks s.section s.begins → SnapshotsStand s.settings.cpus s.slots marks due → PassiveShow s.settings.cpus s.settings.passive_limit s.slots marks s.passive
+    → CountsOf (record s { marks = marks; due = due }) → ReferencesOf (record s { marks = marks; due = due }) → Holds (record s { marks = marks; due = due })
+marks_keep s marks due on size rows grace snapshots passive counts references = record {
+  fit = on.fit;
+  shape = record {
+    sections = on.shape.sections;
+    links = on.shape.links;
+    rows = on.shape.rows;
+    passive = on.shape.passive;
+    passive_rows = on.shape.passive_rows;
+    counts = on.shape.counts;
+    count_rows = on.shape.count_rows;
+    totals = on.shape.totals;
+    begins = on.shape.begins;
+    depths = on.shape.depths;
+    seen = on.shape.seen;
+    searches = on.shape.searches;
+    found = on.shape.found;
+    hands = on.shape.hands;
+    nets = on.shape.nets;
+    net_rows = on.shape.net_rows;
+    slots = on.shape.slots;
+    marks = size ∙ on.shape.marks;
+    mark_rows = rows;
+    keeps = on.shape.keeps;
+  };
+  legal = on.legal;
+  room = on.room;
+  slots = on.slots;
+  rows = on.rows;
+  list = on.list;
+  held = on.held;
+  frozen_links = on.frozen_links;
+  grace = grace;
+  snapshots = snapshots;
+  seats = on.seats;
+  sections = on.sections;
+  searches = on.searches;
+  last_found = on.last_found;
+  passive = passive;
+  balance = counts;
+  references = references;
+  kept_drivers = on.kept_drivers;
+}
+
+-- the place of a CPU in the marks of a retired slot
+pub mark_place : (s : State) (t c : ℕ) (e : Entry) → Holds s → slot_at s.slots t ≡ Retired e → c < s.settings.cpus → (t < length s.marks) × (c < length (get_or s.marks t []))
+mark_place s t c e on is low =
+    let lt : t < length s.marks = omega (arith, within_retired s.slots t e is, on.shape.slots, on.shape.marks) in
+    (lt, omega (arith, on.shape.mark_rows t lt, cpus_fit s.settings on.fit))
+
+pub snapshot_keeps : (s : State) (t c : ℕ) → Holds s → is_snapshot_due s.due t c ≡ true
+    → CountsOf (after_snapshot s t c) → ReferencesOf (after_snapshot s t c) → Holds (after_snapshot s t c)
+snapshot_keeps s t c on is counts references =
+    let due : s.due ≡ Snapshots t c = snapshot_due_tells s.due t c is in
+    let there : DueHolds s.settings.cpus s.slots (Snapshots t c) = subst (DueHolds s.settings.cpus s.slots) due on.references.due_at in
+    let place = mark_place s t c there.1.0 on there.1.1 there.0 in
+    marks_keep s (with_cell s.marks t c (snapshot_mark (section_at s c))) (due_after s t c) on
+    (length-set s.marks t _) (rows_cell s.marks t c (snapshot_mark (section_at s c)) on.shape.mark_rows)
+    (marks_snapshot s.history s.slots s.marks s.section s.begins t c on.grace)
+    (snapshots_taken s.settings.cpus s.slots s.marks t c (section_at s c) place.0 place.1 (subst (SnapshotsStand s.settings.cpus s.slots s.marks) due on.snapshots))
+    (passive_marked s.settings.cpus s.settings.passive_limit s.slots s.marks s.passive t c (snapshot_mark (section_at s c))
+    (λ e is holds. absurd (let q : ◌≡◌ {A = Bool} false true = holds in cc)) (λ e is holds. absurd (let q : ◌≡◌ {A = Bool} false true = holds in cc)) on.passive)
+    counts references
+
+pub look_keeps : (s : State) (t c : ℕ) → Holds s → may_examine s t c ≡ true → CountsOf (after_look s t c) → Holds (after_look s t c)
+look_keeps s t c on may counts =
+    marks_keep s (with_cell s.marks t c (looked (mark_at s.marks t c) (section_at s c))) s.due on
+    (length-set s.marks t _) (rows_cell s.marks t c (looked (mark_at s.marks t c) (section_at s c)) on.shape.mark_rows)
+    (marks_look s.settings s.history s.slots s.marks s.section s.begins s.depths s.seen t c on.sections on.grace)
+    (snapshots_marked s.settings.cpus s.slots s.marks s.due t c (looked (mark_at s.marks t c) (section_at s c)) refl on.snapshots)
+    (passive_marked s.settings.cpus s.settings.passive_limit s.slots s.marks s.passive t c (looked (mark_at s.marks t c) (section_at s c))
+    (λ e is holds. let was = on.passive.clear c t e is holds in (ap (λ (b : Bool). b || (is_even (section_at s c) || has_changed (mark_at s.marks t c).snapshot (section_at s c))) was.0, was.1))
+    (λ e is holds. on.passive.collected c t e is holds) on.passive)
+    counts on.references
+
+-- what a slot that may be examined shows
+pub may_examine_tells : (s : State) (t c : ℕ) → may_examine s t c ≡ true → (s.due ≡ Rest) × (c < s.settings.cpus) × ((e : Entry) × (slot_at s.slots t ≡ Retired e))
+may_examine_tells s t c may =
+    let p = and_parts (at_rest s.due) (nat_lt c s.settings.cpus && is_retired (slot_at s.slots t)) may in
+    let q = and_parts (nat_lt c s.settings.cpus) (is_retired (slot_at s.slots t)) p.1 in
+    (at_rest_tells s.due p.0, ltb-true c s.settings.cpus q.0, is_retired_tells (slot_at s.slots t) q.1)
+
+pub look_passive_keeps : (s : State) (t c : ℕ) → Holds s → may_look_passive s t c ≡ true → CountsOf (after_look_passive s t c) → Holds (after_look_passive s t c)
+look_passive_keeps s t c on may counts =
+    let p = and_parts (may_examine s t c) (have_passed s.settings.cpus (get_or s.marks t [])) may in
+    let told = may_examine_tells s t c p.0 in
+    let place = mark_place s t c told.2.0 on told.2.1 told.1 in
+    let passed : (mark_at s.marks t c).passed ≡ true = list_all_within is_passed (get_or s.marks t []) s.settings.cpus c no_mark p.1 told.1 place.1 in
+    marks_keep s (with_cell s.marks t c (cleared (mark_at s.marks t c) (passive_at s.passive c t))) s.due on
+    (length-set s.marks t _) (rows_cell s.marks t c (cleared (mark_at s.marks t c) (passive_at s.passive c t)) on.shape.mark_rows)
+    (marks_write s.history s.slots s.marks s.section s.begins t c (cleared (mark_at s.marks t c) (passive_at s.passive c t))
+    (λ p b e is ends in_ holds. on.grace.passed t p c b e is ends in_ holds) (λ p b w e is ends in_ snap off. on.grace.changed t p c b w e is ends in_ snap off)
+    (λ w e is snap. on.grace.older t c w e is snap) (λ b w e is in_ holds snap same. on.grace.left t c b w e is in_ holds snap same) on.grace)
+    (snapshots_marked s.settings.cpus s.slots s.marks s.due t c (cleared (mark_at s.marks t c) (passive_at s.passive c t)) refl on.snapshots)
+    (passive_marked s.settings.cpus s.settings.passive_limit s.slots s.marks s.passive t c (cleared (mark_at s.marks t c) (passive_at s.passive c t))
+    (λ e is holds. (
+      passed,
+      ⊎_elim
+          (λ (before : (mark_at s.marks t c).clear ≡ true). (on.passive.clear c t e is before).1)
+          (λ (now : (passive_at s.passive c t == 0) ≡ true). eqb-true (passive_at s.passive c t) 0 now)
+          (or_cases (mark_at s.marks t c).clear (passive_at s.passive c t == 0) holds),
+    ))
+    (λ e is holds. ap (λ (b : Bool). b || (passive_at s.passive c t == 0)) (on.passive.collected c t e is holds)) on.passive)
+    counts on.references
+
+-- a passive word is all that is written
+passive_keep : (s : State) (c t n : ℕ) → Holds s → PassiveShow s.settings.cpus s.settings.passive_limit s.slots s.marks (with_cell s.passive t c n) → Holds (record s { passive = with_cell s.passive t c n })
+passive_keep s c t n on p = record {
+  fit = on.fit;
+  shape = record {
+    sections = on.shape.sections;
+    links = on.shape.links;
+    rows = on.shape.rows;
+    passive = length-set s.passive t _ ∙ on.shape.passive;
+    passive_rows = rows_cell s.passive t c n on.shape.passive_rows;
+    counts = on.shape.counts;
+    count_rows = on.shape.count_rows;
+    totals = on.shape.totals;
+    begins = on.shape.begins;
+    depths = on.shape.depths;
+    seen = on.shape.seen;
+    searches = on.shape.searches;
+    found = on.shape.found;
+    hands = on.shape.hands;
+    nets = on.shape.nets;
+    net_rows = on.shape.net_rows;
+    slots = on.shape.slots;
+    marks = on.shape.marks;
+    mark_rows = on.shape.mark_rows;
+    keeps = on.shape.keeps;
+  };
+  legal = on.legal;
+  room = on.room;
+  slots = on.slots;
+  rows = on.rows;
+  list = on.list;
+  held = on.held;
+  frozen_links = on.frozen_links;
+  grace = on.grace;
+  snapshots = on.snapshots;
+  seats = on.seats;
+  sections = on.sections;
+  searches = on.searches;
+  last_found = on.last_found;
+  passive = p;
+  balance = on.balance;
+  references = on.references;
+  kept_drivers = on.kept_drivers;
+}
+
+-- an idle CPU is in range
+pub idle_within : (s : State) (c : ℕ) → Holds s → is_idle s c ≡ true → c < s.settings.cpus
+idle_within s c on idle = omega (arith, ltb-true c s.seated (and_parts (nat_lt c s.seated) (is_none (search_at s c) && is_empty (hand_at s c)) idle).0, on.seats.within)
+
+pub add_keeps : (s : State) (c n t : ℕ) → Holds s → slot_of s.slots n ≡ Some t → may_add s c n t ≡ true → Holds (after_add s c t)
+add_keeps s c n t on of may =
+    let p = and_parts (is_idle s c) ((is_number n (found_at s c) || nat_lt 0 (passive_at s.passive c t)) && nat_lt (passive_at s.passive c t) s.settings.passive_limit) may in
+    let q = and_parts (is_number n (found_at s c) || nat_lt 0 (passive_at s.passive c t)) (nat_lt (passive_at s.passive c t) s.settings.passive_limit) p.1 in
+    let low : c < s.settings.cpus = idle_within s c on p.0 in
+    let fits : passive_at s.passive c t < s.settings.passive_limit = ltb-true (passive_at s.passive c t) s.settings.passive_limit q.1 in
+    let there = slot_has s.slots n t of in
+    passive_keep s c t (passive_at s.passive c t + 1) on (passive_counted s.settings.cpus s.settings.passive_limit s.slots s.marks s.passive c t (passive_at s.passive c t + 1) low (omega (arith, fits))
+    (λ vacant. not_vacant there.1.0 (slot_at s.slots t) vacant there.1.1)
+    (λ e gone clear. ⊎_elim
+    (λ (f : is_number n (found_at s c) ≡ true).
+    let same : there.1.0 ≡ e = is_retired_one there.1.0 e (slot_at s.slots t) gone there.1.1 in
+    let number : n ≡ e.number = sym there.1.2 ∙ ap (λ (g : Entry). g.number) same in
+    found_not_passed s.history s.slots s.marks s.section s.begins s.found c t e on.slots on.grace on.last_found gone (ap (λ (k : ℕ). is_number k (found_at s c)) (sym number) ∙ f) (on.passive.clear c t e gone clear).0)
+    (λ (h : nat_lt 0 (passive_at s.passive c t) ≡ true). omega (arith, ltb-true 0 (passive_at s.passive c t) h, (on.passive.clear c t e gone clear).1))
+    (or_cases (is_number n (found_at s c)) (nat_lt 0 (passive_at s.passive c t)) q.0))
+    on.passive)
+  where
+    is_retired_one : (f e : Entry) (x : Slot) → x ≡ Retired e → IsIn f x → f ≡ e
+    is_retired_one f e x at is = ⊎_elim
+        (λ (live : x ≡ Live f). absurd (let q : Live f ≡ Retired e = sym live ∙ at in cc))
+        (λ (gone : x ≡ Retired f). let q : Retired f ≡ Retired e = sym gone ∙ at in cc)
+        is
+
+pub sub_keeps : (s : State) (c t : ℕ) → Holds s → may_sub s c t ≡ true → Holds (after_sub s c t)
+sub_keeps s c t on may =
+    let p = and_parts (is_idle s c) (nat_lt 0 (passive_at s.passive c t)) may in
+    let some : 0 < passive_at s.passive c t = ltb-true 0 (passive_at s.passive c t) p.1 in
+    passive_keep s c t (passive_at s.passive c t - 1) on (passive_counted s.settings.cpus s.settings.passive_limit s.slots s.marks s.passive c t (passive_at s.passive c t - 1)
+    (idle_within s c on p.0) (omega (arith, on.passive.limited c t))
+    (λ vacant. omega (arith, some, on.passive.vacant c t vacant)) (λ e gone clear. omega (arith, some, (on.passive.clear c t e gone clear).1)) on.passive)
+
+-- what a drained slot shows
+pub is_drained_tells : (s : State) (t : ℕ) → Holds s → is_drained s t ≡ true
+    → (s.due ≡ Rest) × ((e : Entry) × (slot_at s.slots t ≡ Retired e)) × ((c : ℕ) → c < s.settings.cpus → (mark_at s.marks t c).passed ≡ true) × ((c : ℕ) → c < s.settings.cpus → (mark_at s.marks t c).clear ≡ true)
+    × ((c : ℕ) → c < s.settings.cpus → (mark_at s.marks t c).collected ≡ true) × (total_at s.totals t ≡ bias)
+is_drained_tells s t on is =
+    let row : List Mark = get_or s.marks t [] in
+    let p = and_parts (at_rest s.due) (is_retired (slot_at s.slots t) && (is_drainable s t && (are_collected s.settings.cpus row && total_at s.totals t == bias))) is in
+    let p1 = and_parts (is_retired (slot_at s.slots t)) (is_drainable s t && (are_collected s.settings.cpus row && total_at s.totals t == bias)) p.1 in
+    let p2 = and_parts (is_drainable s t) (are_collected s.settings.cpus row && total_at s.totals t == bias) p1.1 in
+    let p3 = and_parts (are_collected s.settings.cpus row) (total_at s.totals t == bias) p2.1 in
+    let p4 = and_parts (have_passed s.settings.cpus row) (are_clear s.settings.cpus row) p2.0 in
+    let gone : (e : Entry) × (slot_at s.slots t ≡ Retired e) = is_retired_tells (slot_at s.slots t) p1.0 in
+    let place : (c : ℕ) → c < s.settings.cpus → c < length row = λ c low. (mark_place s t c gone.0 on gone.1 low).1 in (
+      at_rest_tells s.due p.0,
+      gone,
+      λ c low. list_all_within is_passed row s.settings.cpus c no_mark p4.0 low (place c low),
+      λ c low. list_all_within is_clear row s.settings.cpus c no_mark p4.1 low (place c low),
+      λ c low. list_all_within is_collected row s.settings.cpus c no_mark p3.0 low (place c low),
+      eqb-true (total_at s.totals t) bias p3.1,
+    )
+
+-- a drained slot becomes vacant; what slots keep and their totals may change beside it
+pub vacated_keeps : (s : State) (t : ℕ) (totals : List ℕ) (keeps : List (Option ℕ)) → Holds s → is_drained s t ≡ true → length totals ≡ length s.totals → length keeps ≡ length s.keeps
+    → CountsOf (record s { totals = totals; slots = set s.slots t Vacant; keeps = keeps }) → ReferencesOf (record s { totals = totals; slots = set s.slots t Vacant; keeps = keeps })
+    → DriversOf (record s { totals = totals; slots = set s.slots t Vacant; keeps = keeps }) → Holds (record s { totals = totals; slots = set s.slots t Vacant; keeps = keeps })
+vacated_keeps s t totals keeps on drained total_size keep_size counts references drivers =
+    let told = is_drained_tells s t on drained in
+    let gone : (e : Entry) × (slot_at s.slots t ≡ Retired e) = told.1 in
+    let lt : t < length s.slots = within_retired s.slots t gone.0 gone.1 in
+    let same : live_count (set s.slots t Vacant) + 0 ≡ live_count s.slots + 0 = live_count_put s.slots t (Retired gone.0) Vacant lt gone.1 in
+    record {
+      fit = on.fit;
+      shape = record {
+        sections = on.shape.sections;
+        links = on.shape.links;
+        rows = on.shape.rows;
+        passive = on.shape.passive;
+        passive_rows = on.shape.passive_rows;
+        counts = on.shape.counts;
+        count_rows = on.shape.count_rows;
+        totals = total_size ∙ on.shape.totals;
+        begins = on.shape.begins;
+        depths = on.shape.depths;
+        seen = on.shape.seen;
+        searches = on.shape.searches;
+        found = on.shape.found;
+        hands = on.shape.hands;
+        nets = on.shape.nets;
+        net_rows = on.shape.net_rows;
+        slots = length-set s.slots t Vacant ∙ on.shape.slots;
+        marks = on.shape.marks;
+        mark_rows = on.shape.mark_rows;
+        keeps = keep_size ∙ on.shape.keeps;
+      };
+      legal = on.legal;
+      room = omega (arith, same, on.room);
+      slots = slots_vacate s.history s.slots t gone.0 lt gone.1 on.slots;
+      rows = rows_vacate s.slots s.rows t lt on.rows;
+      list = list_vacate s.history s.slots s.head s.next t lt on.list;
+      held = held_vacate s.history s.slots s.marks s.section s.begins t gone.0 lt gone.1 on.slots
+          (λ c b is. told.2 c (omega (arith, within_begin s.begins c b is, on.shape.begins))) on.grace on.held;
+      frozen_links = links_vacate s.history s.slots s.next s.begins t lt on.frozen_links;
+      grace = marks_vacate s.history s.slots s.marks s.section s.begins t lt on.grace;
+      snapshots = snapshots_vacate s.settings.cpus s.slots s.marks s.due t lt on.snapshots;
+      seats = on.seats;
+      sections = on.sections;
+      searches = on.searches;
+      last_found = on.last_found;
+      passive = passive_vacate s.settings.cpus s.settings.passive_limit s.slots s.marks s.passive t gone.0 lt gone.1 told.3 on.passive;
+      balance = counts;
+      references = references;
+      kept_drivers = drivers;
+    }
+  where
+    within_begin : (xs : List (Option ℕ)) (c b : ℕ) → get_or xs c None ≡ Some b → c < length xs
+    within_begin xs c b is = ⊎_elim
+        (λ (lt : c < length xs). lt)
+        (λ (ge : length xs ≤ c). absurd (none-some b (sym (get_or_past xs c None ge) ∙ is)))
+        (cases_lt c (length xs))
+
+pub vacate_keeps : (s : State) (t : ℕ) → Holds s → may_vacate s t ≡ true
+    → CountsOf (after_vacate s t) → ReferencesOf (after_vacate s t) → DriversOf (after_vacate s t) → Holds (after_vacate s t)
+vacate_keeps s t on may counts references drivers =
+    vacated_keeps s t s.totals s.keeps on (and_parts (is_none (kept_at s.keeps t)) (is_drained s t) may).1 refl refl counts references drivers
+
+pub kept_sub_keeps : (s : State) (t u : ℕ) → Holds s → is_drained s t ≡ true
+    → CountsOf (after_kept_sub s t u) → ReferencesOf (after_kept_sub s t u) → DriversOf (after_kept_sub s t u) → Holds (after_kept_sub s t u)
+kept_sub_keeps s t u on drained counts references drivers =
+    vacated_keeps s t (set s.totals u (total_at s.totals u - 1)) (set s.keeps t None) on drained (length-set s.totals u _) (length-set s.keeps t None) counts references drivers
+
+-- the opening state
+pub none_live : (n : ℕ) → live_count (replicate n Vacant) ≡ 0
+none_live zero = refl
+none_live (suc n) = none_live n
+
+pub cell_all : {X : Type 0} (n m : ℕ) (x : X) (t c : ℕ) → get_or (get_or (replicate n (replicate m x)) t []) c x ≡ x
+cell_all zero m x t c = refl
+cell_all (suc n) m x zero c = get_or_all m x c
+cell_all (suc n) m x (suc t) c = cell_all n m x t c
+
+pub rows_all : {X : Type 0} (n : ℕ) (row : List X) → length row ≡ 8 → AreRows (replicate n row)
+rows_all zero row size t lt = absurd (omega arith)
+rows_all (suc n) row size zero lt = size
+rows_all (suc n) row size (suc t) lt = rows_all n row size t (omega arith)
+
+pub opening_holds : (z : Settings) → IsTrue (are_fit z) → CountsOf (opening z) → ReferencesOf (opening z) → DriversOf (opening z) → Holds (opening z)
+opening_holds z fit counts references drivers =
+    let vacant : (t : ℕ) → slot_at (replicate z.slots Vacant) t ≡ Vacant = λ t. get_or_all z.slots Vacant t in
+    let not_live : (t : ℕ) (e : Entry) → slot_at (replicate z.slots Vacant) t ≡ Live e → ⊥ = λ t e is. (let q : Vacant ≡ Live e = sym (vacant t) ∙ is in cc) in
+    let not_retired : (t : ℕ) (e : Entry) → slot_at (replicate z.slots Vacant) t ≡ Retired e → ⊥ = λ t e is. (let q : Vacant ≡ Retired e = sym (vacant t) ∙ is in cc) in
+    let outside : (c b : ℕ) → get_or (replicate z.cpus None) c None ≡ Some b → ⊥ = λ c b is. none-some b (sym (get_or_all z.cpus None c) ∙ is) in
+    record {
+      fit = fit;
+      shape = record {
+        sections = length-replicate z.cpus 0;
+        links = length-replicate z.slots 0;
+        rows = length-replicate z.slots no_words;
+        passive = length-replicate z.slots (replicate 8 0);
+        passive_rows = rows_all z.slots (replicate 8 0) refl;
+        counts = length-replicate z.slots (replicate 8 0);
+        count_rows = rows_all z.slots (replicate 8 0) refl;
+        totals = length-replicate z.slots bias;
+        begins = length-replicate z.cpus None;
+        depths = length-replicate z.cpus 0;
+        seen = length-replicate z.cpus 0;
+        searches = length-replicate z.cpus None;
+        found = length-replicate z.cpus None;
+        hands = length-replicate z.cpus Empty;
+        nets = length-replicate z.slots (replicate 8 0);
+        net_rows = rows_all z.slots (replicate 8 0) refl;
+        slots = length-replicate z.slots Vacant;
+        marks = length-replicate z.slots (replicate 8 no_mark);
+        mark_rows = rows_all z.slots (replicate 8 no_mark) refl;
+        keeps = length-replicate z.slots None;
+      };
+      legal = record {
+        numbered = λ k e x. absurd (at_empty k (Attach e) x);
+        new_key = λ k e f x live same. at_empty (suc k) (Attach e) x;
+        new_slot = λ k e f x live same. at_empty (suc k) (Attach e) x;
+        ends_live = λ k n x. absurd (at_empty (suc k) (Detach n) x);
+      };
+      room = omega (arith, none_live z.slots);
+      slots = record {
+        live = λ t e is. absurd (not_live t e is);
+        placed = λ e live. absurd (at_empty e.number (Attach e) live.attached);
+        retired = λ t e is. absurd (not_retired t e is);
+      };
+      rows = λ t e is. absurd (not_vacant e (slot_at (replicate z.slots Vacant) t) (vacant t) is);
+      list = record {
+        first = To_end (λ f live lt. at_empty f.number (Attach f) live.attached);
+        links = λ t e is. absurd (not_live t e is);
+      };
+      held = λ c b e is hold. absurd (at_empty e.number (Attach e) hold.attached);
+      frozen_links = λ t p c b e is. absurd (not_retired t e is);
+      grace = record {
+        passed = λ t p c b e is. absurd (not_retired t e is);
+        changed = λ t p c b w e is. absurd (not_retired t e is);
+        older = λ t c w e is. absurd (not_retired t e is);
+        left = λ t c b w e is. absurd (not_retired t e is);
+      };
+      snapshots = λ t c e is. absurd (not_retired t e is);
+      seats = record {
+        within = omega arith;
+        outside = λ c past. get_or_all z.cpus None c;
+        unsearching = λ c past. get_or_all z.cpus None c;
+        empty = λ c past. get_or_all z.cpus Empty c;
+      };
+      sections = record {
+        outside = λ c is. (ap (λ (n : ℕ). n % 2) (get_or_all {X = ℕ} z.cpus 0 c), get_or_all {X = ℕ} z.cpus 0 c);
+        inside = λ c b is. absurd (outside c b is);
+        deep = λ c. omega (arith, get_or_all {X = ℕ} z.cpus 0 c);
+        begun = λ c b is. absurd (outside c b is);
+        prefix = λ c. omega (arith, get_or_all {X = ℕ} z.cpus 0 c);
+        limited = λ c. omega (arith, get_or_all {X = ℕ} z.cpus 0 c);
+      };
+      searches = λ c q is. absurd (none-some q (sym (get_or_all z.cpus None c) ∙ is));
+      last_found = λ c e is. absurd (none-some e (sym (get_or_all z.cpus None c) ∙ is));
+      passive = record {
+        vacant = λ c t is. cell_all {X = ℕ} z.slots 8 0 t c;
+        clear = λ c t e is. absurd (not_retired t e is);
+        collected = λ c t e is. absurd (not_retired t e is);
+        beyond = λ c t past. cell_all {X = ℕ} z.slots 8 0 t c;
+        limited = λ c t. omega (arith, cell_all {X = ℕ} z.slots 8 0 t c);
+      };
+      balance = counts;
+      references = references;
+      kept_drivers = drivers;
+    }

@@ -1,0 +1,286 @@
+-- Snapshots, looks and the end of a slot's use.
+use Rattle.std.proofs.Common.{Bool, List, None, Option, Some, [], ap, arith, false, get_or, get_or-set_other, get_or-set_same, inl, inr, length, not, refl, replicate, set, subst, suc, sym, take, true, zero, ℕ, ⊎_elim, ◌%◌, ◌+◌, ◌<◌, ◌||◌, ◌∙◌, ◌∷◌, ◌≡◌, ◌≢◌, ◌≤◌, ◌⊎◌}
+use Rattle.std.proofs.lemmas.Bool.{and_parts, cases_eq, cases_lt, eq-eqb, eqb-true, lt-ltb, or_cases}
+use Rattle.std.proofs.lemmas.List.{set_past}
+use Rattle.std.proofs.lemmas.Option.{same_Some}
+use Rattle.std.specs.List.{list_all}
+use Rattle.std.specs.Prelude.{if◌then◌else◌, nat_lt}
+use Rattle.protocol.proofs.keeps.Unlinking.{end_before, gone_before, within_live}
+use Rattle.registry_values.specs.Marks.{looked, has_changed, is_even, no_mark}
+use Rattle.protocol.specs.Events.{snapshot_mark}
+use Rattle.protocol.specs.History.{EndsAt, IsLiveAt, after_change}
+use Rattle.protocol.specs.Invariant.{HeldStay, IsIn, IsSnapshotDue, LinksStay, ListShows, MarksHold, RowsShow, SectionsShow, SlotsShow, SnapshotsStand}
+use Rattle.protocol.specs.State.{mark_at}
+use Rattle.registry_values.specs.Slots.{slot_at}
+use Rattle.registry_values.specs.declared.entry.Change.{Change}
+use Rattle.registry_values.specs.declared.entry.Change.TheVariants.{Detach}
+use Rattle.registry_values.specs.declared.entry.Entry.{Entry}
+use Rattle.registry_values.specs.declared.settings.Settings.{Settings}
+use Rattle.protocol.specs.declared.state.Due.{Due}
+use Rattle.protocol.specs.declared.state.Due.TheVariants.{Rest, Snapshots}
+use Rattle.registry_values.specs.declared.mark.Mark.{Mark}
+use Rattle.protocol.specs.declared.state.RecordWords.{RecordWords}
+use Rattle.registry_values.specs.declared.slot.Slot.{Slot}
+use Rattle.registry_values.specs.declared.slot.Slot.TheVariants.{Live, Retired, Vacant}
+use Rattle.protocol.proofs.slots.Occupied.{slot_cases, not_vacant}
+use Rattle.protocol.proofs.slots.Cells.{get_or_all}
+
+-- a fresh row of marks
+pub marks_detach : (h : List Change) (slots : List Slot) (marks : List (List Mark)) (section : List ℕ) (begins : List (Option ℕ)) (e : Entry) (n : ℕ) → slot_at slots e.slot ≡ Live e → length marks ≡ length slots → SlotsShow h slots
+    → MarksHold h slots marks section begins → MarksHold (after_change h (Detach e.number)) (set slots e.slot (Retired e)) (set marks e.slot (replicate n no_mark)) section begins
+marks_detach h slots marks section begins e n at size show m =
+    let lt : e.slot < length slots = within_live slots e.slot e at in
+    let lm : e.slot < length marks = omega arith in
+    let le : IsLiveAt h (length h) e = (show.live e.slot e at).0 in
+    let fresh : (u j : ℕ) → u ≡ e.slot → mark_at (set marks e.slot (replicate n no_mark)) u j ≡ no_mark = λ u j same.
+    ap (λ (k : ℕ). get_or (get_or (set marks e.slot (replicate n no_mark)) k []) j no_mark) same
+    ∙ (ap (λ (r : List Mark). get_or r j no_mark) (get_or-set_same marks e.slot (replicate n no_mark) [] lm) ∙ get_or_all n no_mark j) in
+    let kept : (u j : ℕ) → (u ≡ e.slot → ⊥) → mark_at (set marks e.slot (replicate n no_mark)) u j ≡ mark_at marks u j = λ u j off.
+    ap (λ (r : List Mark). get_or r j no_mark) (get_or-set_other marks e.slot u (replicate n no_mark) [] off) in
+    record {
+      passed = λ u p c b f is ends in_ holds. ⊎_elim
+          (λ (same : (u ≡ e.slot) × (f ≡ e)). absurd (let q : ◌≡◌ {A = Bool} false true = sym (ap (λ (x : Mark). x.passed) (fresh u c same.0)) ∙ holds in cc))
+          (λ (off : (u ≡ e.slot → ⊥) × (slot_at slots u ≡ Retired f)).
+          m.passed u p c b f off.1 (end_before h slots e f u p show le off.1 ends).1 in_ (sym (ap (λ (x : Mark). x.passed) (kept u c off.0)) ∙ holds))
+          (gone_before slots e f u lt is);
+      changed = λ u p c b w f is ends in_ snap differs. ⊎_elim
+          (λ (same : (u ≡ e.slot) × (f ≡ e)). absurd (let q : ◌≡◌ {A = Option ℕ} None (Some w) = sym (ap (λ (x : Mark). x.snapshot) (fresh u c same.0)) ∙ snap in cc))
+          (λ (off : (u ≡ e.slot → ⊥) × (slot_at slots u ≡ Retired f)).
+          m.changed u p c b w f off.1 (end_before h slots e f u p show le off.1 ends).1 in_ (sym (ap (λ (x : Mark). x.snapshot) (kept u c off.0)) ∙ snap) differs)
+          (gone_before slots e f u lt is);
+      older = λ u c w f is snap. ⊎_elim
+          (λ (same : (u ≡ e.slot) × (f ≡ e)). absurd (let q : ◌≡◌ {A = Option ℕ} None (Some w) = sym (ap (λ (x : Mark). x.snapshot) (fresh u c same.0)) ∙ snap in cc))
+          (λ (off : (u ≡ e.slot → ⊥) × (slot_at slots u ≡ Retired f)). m.older u c w f off.1 (sym (ap (λ (x : Mark). x.snapshot) (kept u c off.0)) ∙ snap))
+          (gone_before slots e f u lt is);
+      left = λ u c b w f is in_ holds snap now. ⊎_elim
+          (λ (same : (u ≡ e.slot) × (f ≡ e)). let q : ◌≡◌ {A = Bool} false true = sym (ap (λ (x : Mark). x.passed) (fresh u c same.0)) ∙ holds in cc)
+          (λ (off : (u ≡ e.slot → ⊥) × (slot_at slots u ≡ Retired f)).
+          m.left u c b w f off.1 in_ (sym (ap (λ (x : Mark). x.passed) (kept u c off.0)) ∙ holds) (sym (ap (λ (x : Mark). x.snapshot) (kept u c off.0)) ∙ snap) now)
+          (gone_before slots e f u lt is);
+    }
+
+-- one place of one row is written
+pub row_cases : {X : Type 0} (d : X) (rows : List (List X)) (t c : ℕ) (m : X) (u j : ℕ)
+    → ((u ≡ t) × (j ≡ c) × (get_or (get_or (set rows t (set (get_or rows t []) c m)) u []) j d ≡ m)) ⊎ (get_or (get_or (set rows t (set (get_or rows t []) c m)) u []) j d ≡ get_or (get_or rows u []) j d)
+row_cases {X} d rows t c m u j =
+    let new : List (List X) = set rows t (set (get_or rows t []) c m) in
+    ⊎_elim
+    (λ (lt : t < length rows). ⊎_elim
+    (λ (same : u ≡ t).
+    let row : get_or new u [] ≡ set (get_or rows t []) c m = ap (λ (k : ℕ). get_or new k []) same ∙ get_or-set_same rows t (set (get_or rows t []) c m) [] lt in
+    ⊎_elim
+    (λ (here : j ≡ c). ⊎_elim
+    (λ (cl : c < length (get_or rows t [])). inl (
+      same,
+      here,
+      ap (λ (r : List X). get_or r j d) row ∙ (ap (λ (k : ℕ). get_or (set (get_or rows t []) c m) k d) here ∙ get_or-set_same (get_or rows t []) c m d cl),
+    ))
+    (λ (ge : length (get_or rows t []) ≤ c). inr (ap (λ (r : List X). get_or r j d) (row ∙ (set_past (get_or rows t []) c m ge ∙ ap (λ (k : ℕ). get_or rows k []) (sym same)))))
+    (cases_lt c (length (get_or rows t []))))
+    (λ (off : j ≡ c → ⊥). inr (ap (λ (r : List X). get_or r j d) row
+    ∙ (get_or-set_other (get_or rows t []) c j m d off ∙ ap (λ (k : ℕ). get_or (get_or rows k []) j d) (sym same))))
+    (cases_eq j c))
+    (λ (off : u ≡ t → ⊥). inr (ap (λ (r : List X). get_or r j d) (get_or-set_other rows t u (set (get_or rows t []) c m) [] off)))
+    (cases_eq u t))
+    (λ (ge : length rows ≤ t). inr (ap (λ (x : List (List X)). get_or (get_or x u []) j d) (set_past rows t (set (get_or rows t []) c m) ge)))
+    (cases_lt t (length rows))
+
+-- A mark is written that says no more than is so.
+pub marks_write : (h : List Change) (slots : List Slot) (marks : List (List Mark)) (section : List ℕ) (begins : List (Option ℕ)) (t c : ℕ) (m : Mark)
+    → ((p b : ℕ) (e : Entry) → slot_at slots t ≡ Retired e → EndsAt h e.number p → get_or begins c None ≡ Some b → m.passed ≡ true → p ≤ b)
+    → ((p b w : ℕ) (e : Entry) → slot_at slots t ≡ Retired e → EndsAt h e.number p → get_or begins c None ≡ Some b → m.snapshot ≡ Some w → (get_or section c 0 ≡ w → ⊥) → p ≤ b)
+    → ((w : ℕ) (e : Entry) → slot_at slots t ≡ Retired e → m.snapshot ≡ Some w → w ≤ get_or section c 0)
+    → ((b w : ℕ) (e : Entry) → slot_at slots t ≡ Retired e → get_or begins c None ≡ Some b → m.passed ≡ true → m.snapshot ≡ Some w → get_or section c 0 ≡ w → ⊥)
+    → MarksHold h slots marks section begins → MarksHold h slots (set marks t (set (get_or marks t []) c m)) section begins
+marks_write h slots marks section begins t c m passes changes olds lefts was = record {
+  passed = λ u p j b e is ends in_ holds. ⊎_elim
+      (λ (same : (u ≡ t) × (j ≡ c) × (mark_at (set marks t (set (get_or marks t []) c m)) u j ≡ m)).
+      passes p b e (ap (slot_at slots) (sym same.0) ∙ is) ends (ap (λ (k : ℕ). get_or begins k None) (sym same.1) ∙ in_) (ap (λ (x : Mark). x.passed) (sym same.2) ∙ holds))
+      (λ (old : mark_at (set marks t (set (get_or marks t []) c m)) u j ≡ mark_at marks u j).
+      was.passed u p j b e is ends in_ (ap (λ (x : Mark). x.passed) (sym old) ∙ holds))
+      (row_cases no_mark marks t c m u j);
+  changed = λ u p j b w e is ends in_ snap differs. ⊎_elim
+      (λ (same : (u ≡ t) × (j ≡ c) × (mark_at (set marks t (set (get_or marks t []) c m)) u j ≡ m)).
+      changes p b w e (ap (slot_at slots) (sym same.0) ∙ is) ends (ap (λ (k : ℕ). get_or begins k None) (sym same.1) ∙ in_) (ap (λ (x : Mark). x.snapshot) (sym same.2) ∙ snap)
+      (λ x. differs (ap (λ (k : ℕ). get_or section k 0) same.1 ∙ x)))
+      (λ (old : mark_at (set marks t (set (get_or marks t []) c m)) u j ≡ mark_at marks u j).
+      was.changed u p j b w e is ends in_ (ap (λ (x : Mark). x.snapshot) (sym old) ∙ snap) differs)
+      (row_cases no_mark marks t c m u j);
+  older = λ u j w e is snap. ⊎_elim
+      (λ (same : (u ≡ t) × (j ≡ c) × (mark_at (set marks t (set (get_or marks t []) c m)) u j ≡ m)).
+      let word : get_or section j 0 ≡ get_or section c 0 = ap (λ (k : ℕ). get_or section k 0) same.1 in
+      omega (arith, olds w e (ap (slot_at slots) (sym same.0) ∙ is) (ap (λ (x : Mark). x.snapshot) (sym same.2) ∙ snap)))
+      (λ (old : mark_at (set marks t (set (get_or marks t []) c m)) u j ≡ mark_at marks u j). was.older u j w e is (ap (λ (x : Mark). x.snapshot) (sym old) ∙ snap))
+      (row_cases no_mark marks t c m u j);
+  left = λ u j b w e is in_ holds snap now. ⊎_elim
+      (λ (same : (u ≡ t) × (j ≡ c) × (mark_at (set marks t (set (get_or marks t []) c m)) u j ≡ m)).
+      lefts b w e (ap (slot_at slots) (sym same.0) ∙ is) (ap (λ (k : ℕ). get_or begins k None) (sym same.1) ∙ in_) (ap (λ (x : Mark). x.passed) (sym same.2) ∙ holds)
+      (ap (λ (x : Mark). x.snapshot) (sym same.2) ∙ snap) (ap (λ (k : ℕ). get_or section k 0) (sym same.1) ∙ now))
+      (λ (old : mark_at (set marks t (set (get_or marks t []) c m)) u j ≡ mark_at marks u j).
+      was.left u j b w e is in_ (ap (λ (x : Mark). x.passed) (sym old) ∙ holds) (ap (λ (x : Mark). x.snapshot) (sym old) ∙ snap) now)
+      (row_cases no_mark marks t c m u j);
+}
+
+-- the snapshot is the word itself
+pub marks_snapshot : (h : List Change) (slots : List Slot) (marks : List (List Mark)) (section : List ℕ) (begins : List (Option ℕ)) (t c : ℕ)
+    → MarksHold h slots marks section begins → MarksHold h slots (set marks t (set (get_or marks t []) c (snapshot_mark (get_or section c 0)))) section begins
+marks_snapshot h slots marks section begins t c was = marks_write h slots marks section begins t c (snapshot_mark (get_or section c 0))
+    (λ p b e is ends in_ holds. absurd (let q : ◌≡◌ {A = Bool} false true = holds in cc))
+    (λ p b w e is ends in_ snap differs. absurd (differs (same_Some (get_or section c 0) w snap)))
+    (λ w e is snap. omega (arith, same_Some (get_or section c 0) w snap))
+    (λ b w e is in_ holds snap now. let q : ◌≡◌ {A = Bool} false true = holds in cc)
+    was
+
+changed_word : (x : Option ℕ) (w : ℕ) → has_changed x w ≡ true → (v : ℕ) × (x ≡ Some v) × (w ≡ v → ⊥)
+changed_word None w holds = absurd (let q : ◌≡◌ {A = Bool} false true = holds in cc)
+changed_word (Some v) w holds = (v, refl, λ same. let q : ◌≡◌ {A = Bool} false true = sym (ap not (eq-eqb v w (sym same))) ∙ holds in cc)
+
+-- a look passes only where the word is even or differs from the snapshot
+pub marks_look : (z : Settings) (h : List Change) (slots : List Slot) (marks : List (List Mark)) (section : List ℕ) (begins : List (Option ℕ)) (depths seen : List ℕ) (t c : ℕ) → SectionsShow z h section begins depths seen
+    → MarksHold h slots marks section begins → MarksHold h slots (set marks t (set (get_or marks t []) c (looked (mark_at marks t c) (get_or section c 0)))) section begins
+marks_look z h slots marks section begins depths seen t c shown was = marks_write h slots marks section begins t c (looked (mark_at marks t c) (get_or section c 0))
+    (λ p b e is ends in_ holds. ⊎_elim
+    (λ (before : (mark_at marks t c).passed ≡ true). was.passed t p c b e is ends in_ before)
+    (λ (now : (is_even (get_or section c 0) || has_changed (mark_at marks t c).snapshot (get_or section c 0)) ≡ true). ⊎_elim
+    (λ (even : is_even (get_or section c 0) ≡ true). absurd (omega (arith, eqb-true (get_or section c 0 % 2) 0 even, (shown.inside c b in_).0)))
+    (λ (changed : has_changed (mark_at marks t c).snapshot (get_or section c 0) ≡ true).
+    let w = changed_word (mark_at marks t c).snapshot (get_or section c 0) changed in
+    was.changed t p c b w.0 e is ends in_ w.1 w.2)
+    (or_cases (is_even (get_or section c 0)) (has_changed (mark_at marks t c).snapshot (get_or section c 0)) now))
+    (or_cases (mark_at marks t c).passed (is_even (get_or section c 0) || has_changed (mark_at marks t c).snapshot (get_or section c 0)) holds))
+    (λ p b w e is ends in_ snap differs. was.changed t p c b w e is ends in_ snap differs)
+    (λ w e is snap. was.older t c w e is snap)
+    (λ b x e is in_ holds snap same. ⊎_elim
+    (λ (before : (mark_at marks t c).passed ≡ true). was.left t c b x e is in_ before snap same)
+    (λ (now : (is_even (get_or section c 0) || has_changed (mark_at marks t c).snapshot (get_or section c 0)) ≡ true). ⊎_elim
+    (λ (even : is_even (get_or section c 0) ≡ true). omega (arith, eqb-true (get_or section c 0 % 2) 0 even, (shown.inside c b in_).0))
+    (λ (changed : has_changed (mark_at marks t c).snapshot (get_or section c 0) ≡ true).
+    let w = changed_word (mark_at marks t c).snapshot (get_or section c 0) changed in
+    w.2 (same ∙ same_Some x w.0 (sym snap ∙ w.1)))
+    (or_cases (is_even (get_or section c 0)) (has_changed (mark_at marks t c).snapshot (get_or section c 0)) now))
+    (or_cases (mark_at marks t c).passed (is_even (get_or section c 0) || has_changed (mark_at marks t c).snapshot (get_or section c 0)) holds))
+    was
+
+-- Snapshots: a fresh row of marks has none, and all are due.
+pub snapshots_detach : (cpus : ℕ) (slots : List Slot) (marks : List (List Mark)) (e : Entry) (n : ℕ) → e.slot < length slots → SnapshotsStand cpus slots marks Rest
+    → SnapshotsStand cpus (set slots e.slot (Retired e)) (set marks e.slot (replicate n no_mark)) (Snapshots e.slot 0)
+snapshots_detach cpus slots marks e n lt stand u c f is low later = ⊎_elim
+    (λ (same : (u ≡ e.slot) × (f ≡ e)). absurd (later (0, ap (λ (k : ℕ). Snapshots k 0) (sym same.0), omega arith)))
+    (λ (off : (u ≡ e.slot → ⊥) × (slot_at slots u ≡ Retired f)).
+    let was = stand u c f off.1 low (λ due. let q : Rest ≡ Snapshots u due.0 = due.1 in cc) in
+    (was.0, ap (λ (r : List Mark). (get_or r c no_mark).snapshot) (get_or-set_other marks e.slot u (replicate n no_mark) [] off.0) ∙ was.1))
+    (gone_before slots e f u lt is)
+
+-- the place that was written
+pub cell_written : {X : Type 0} (d : X) (rows : List (List X)) (t c : ℕ) (m : X) → t < length rows → c < length (get_or rows t []) → get_or (get_or (set rows t (set (get_or rows t []) c m)) t []) c d ≡ m
+cell_written {X} d rows t c m lt cl = ap (λ (r : List X). get_or r c d) (get_or-set_same rows t (set (get_or rows t []) c m) [] lt) ∙ get_or-set_same (get_or rows t []) c m d cl
+
+-- the snapshot that was due is taken, and the next one is due
+pub snapshots_taken : (cpus : ℕ) (slots : List Slot) (marks : List (List Mark)) (t c w : ℕ) → t < length marks → c < length (get_or marks t []) → SnapshotsStand cpus slots marks (Snapshots t c)
+    → SnapshotsStand cpus slots (set marks t (set (get_or marks t []) c (snapshot_mark w))) (if nat_lt (c + 1) cpus then Snapshots t (c + 1) else Rest)
+snapshots_taken cpus slots marks t c w lt cl stand u j e is low later = ⊎_elim
+    (λ (new : (u ≡ t) × (j ≡ c) × (mark_at (set marks t (set (get_or marks t []) c (snapshot_mark w))) u j ≡ snapshot_mark w)). (w, ap (λ (m : Mark). m.snapshot) new.2))
+    (λ (old : mark_at (set marks t (set (get_or marks t []) c (snapshot_mark w))) u j ≡ mark_at marks u j).
+    ⊎_elim
+    (λ (here : (u ≡ t) × (j ≡ c)). (
+      w,
+      ap (λ (k : ℕ). (mark_at (set marks t (set (get_or marks t []) c (snapshot_mark w))) k j).snapshot) here.0
+          ∙ (ap (λ (k : ℕ). (mark_at (set marks t (set (get_or marks t []) c (snapshot_mark w))) t k).snapshot) here.1 ∙ ap (λ (m : Mark). m.snapshot) (cell_written no_mark marks t c (snapshot_mark w) lt cl)),
+    ))
+    (λ (off : (u ≡ t) × (j ≡ c) → ⊥).
+    let was = stand u j e is low (λ due. later_due off due) in
+    (was.0, ap (λ (m : Mark). m.snapshot) old ∙ was.1))
+    pair_cases)
+    (row_cases no_mark marks t c (snapshot_mark w) u j)
+  where
+    pair_cases : ((u ≡ t) × (j ≡ c)) ⊎ ((u ≡ t) × (j ≡ c) → ⊥)
+    pair_cases = ⊎_elim
+        (λ (x : u ≡ t). ⊎_elim (λ (y : j ≡ c). inl (x, y)) (λ (y : j ≡ c → ⊥). inr (λ p. y p.1)) (cases_eq j c))
+        (λ (x : u ≡ t → ⊥). inr (λ p. x p.0))
+        (cases_eq u t)
+
+    later_due : ((u ≡ t) × (j ≡ c) → ⊥) → IsSnapshotDue (Snapshots t c) u j → ⊥
+    later_due off due =
+        let q : Snapshots t c ≡ Snapshots u due.0 = due.1 in
+        let slot : t ≡ u = cc in
+        let first : c ≡ due.0 = cc in
+        let apart : j ≢ c = λ same. off (sym slot, same) in
+        let more : c + 1 < cpus = omega (arith, due.2, apart, first, low) in
+        later (c + 1, ap (λ (b : Bool). if b then Snapshots t (c + 1) else Rest) (lt-ltb (c + 1) cpus more) ∙ ap (λ (k : ℕ). Snapshots k (c + 1)) slot, omega (arith, due.2, apart, first))
+
+-- what is due changes, and no snapshot that was due is taken for done
+pub snapshots_due : (cpus : ℕ) (slots : List Slot) (marks : List (List Mark)) (due now : Due) → ((t c : ℕ) → IsSnapshotDue due t c → IsSnapshotDue now t c) → SnapshotsStand cpus slots marks due → SnapshotsStand cpus slots marks now
+snapshots_due cpus slots marks due now still stand t c e is low later = stand t c e is low (λ d. later (still t c d))
+
+-- a mark is written that keeps its snapshot
+pub snapshots_marked : (cpus : ℕ) (slots : List Slot) (marks : List (List Mark)) (due : Due) (t c : ℕ) (m : Mark) → m.snapshot ≡ (mark_at marks t c).snapshot → SnapshotsStand cpus slots marks due
+    → SnapshotsStand cpus slots (set marks t (set (get_or marks t []) c m)) due
+snapshots_marked cpus slots marks due t c m same stand u j e is low later =
+    let was = stand u j e is low later in
+    ⊎_elim
+    (λ (new : (u ≡ t) × (j ≡ c) × (mark_at (set marks t (set (get_or marks t []) c m)) u j ≡ m)).
+    (was.0, ap (λ (x : Mark). x.snapshot) new.2 ∙ (same ∙ (ap (λ (k : ℕ). (mark_at marks k c).snapshot) (sym new.0) ∙ (ap (λ (k : ℕ). (mark_at marks u k).snapshot) (sym new.1) ∙ was.1)))))
+    (λ (old : mark_at (set marks t (set (get_or marks t []) c m)) u j ≡ mark_at marks u j). (was.0, ap (λ (x : Mark). x.snapshot) old ∙ was.1))
+    (row_cases no_mark marks t c m u j)
+
+-- A slot becomes vacant.
+pub vacated_before : (slots : List Slot) (t u : ℕ) (f : Entry) → t < length slots → IsIn f (slot_at (set slots t Vacant) u) → (u ≡ t → ⊥) × (slot_at (set slots t Vacant) u ≡ slot_at slots u)
+vacated_before slots t u f lt is = ⊎_elim
+    (λ (same : (u ≡ t) × (slot_at (set slots t Vacant) u ≡ Vacant)). absurd (not_vacant f (slot_at (set slots t Vacant) u) same.1 is))
+    (λ (off : (u ≡ t → ⊥) × (slot_at (set slots t Vacant) u ≡ slot_at slots u)). off)
+    (slot_cases slots t Vacant u lt)
+
+pub slots_vacate : (h : List Change) (slots : List Slot) (t : ℕ) (e : Entry) → t < length slots → slot_at slots t ≡ Retired e → SlotsShow h slots → SlotsShow h (set slots t Vacant)
+slots_vacate h slots t e lt at show = record {
+  live = λ u f is. show.live u f (sym (vacated_before slots t u f lt (inl is)).1 ∙ is);
+  placed = λ f live.
+      let was : slot_at slots f.slot ≡ Live f = show.placed f live in
+      let off : f.slot ≢ t = λ same. (let q : Live f ≡ Retired e = sym was ∙ (ap (slot_at slots) same ∙ at) in cc) in
+      get_or-set_other slots t f.slot Vacant Vacant off ∙ was;
+  retired = λ u f is. show.retired u f (sym (vacated_before slots t u f lt (inr is)).1 ∙ is);
+}
+
+pub rows_vacate : (slots : List Slot) (rows : List RecordWords) (t : ℕ) → t < length slots → RowsShow slots rows → RowsShow (set slots t Vacant) rows
+rows_vacate slots rows t lt show u f is = show u f (subst (IsIn f) (vacated_before slots t u f lt is).1 is)
+
+pub list_vacate : (h : List Change) (slots : List Slot) (head : ℕ) (next : List ℕ) (t : ℕ) → t < length slots → ListShows h slots head next → ListShows h (set slots t Vacant) head next
+list_vacate h slots head next t lt list = record { first = list.first; links = λ u f is. list.links u f (sym (vacated_before slots t u f lt (inl is)).1 ∙ is) }
+
+pub links_vacate : (h : List Change) (slots : List Slot) (next : List ℕ) (begins : List (Option ℕ)) (t : ℕ) → t < length slots → LinksStay h slots next begins → LinksStay h (set slots t Vacant) next begins
+links_vacate h slots next begins t lt links u p c b f is = links u p c b f (sym (vacated_before slots t u f lt (inr is)).1 ∙ is)
+
+pub marks_vacate : (h : List Change) (slots : List Slot) (marks : List (List Mark)) (section : List ℕ) (begins : List (Option ℕ)) (t : ℕ) → t < length slots → MarksHold h slots marks section begins → MarksHold h (set slots t Vacant) marks section begins
+marks_vacate h slots marks section begins t lt m = record {
+  passed = λ u p c b f is. m.passed u p c b f (sym (vacated_before slots t u f lt (inr is)).1 ∙ is);
+  changed = λ u p c b w f is. m.changed u p c b w f (sym (vacated_before slots t u f lt (inr is)).1 ∙ is);
+  older = λ u c w f is. m.older u c w f (sym (vacated_before slots t u f lt (inr is)).1 ∙ is);
+  left = λ u c b w f is. m.left u c b w f (sym (vacated_before slots t u f lt (inr is)).1 ∙ is);
+}
+
+-- No section may hold an entry for which every CPU has passed.
+pub held_vacate : (h : List Change) (slots : List Slot) (marks : List (List Mark)) (section : List ℕ) (begins : List (Option ℕ)) (t : ℕ) (e : Entry) → t < length slots → slot_at slots t ≡ Retired e → SlotsShow h slots
+    → ((c b : ℕ) → get_or begins c None ≡ Some b → (mark_at marks t c).passed ≡ true) → MarksHold h slots marks section begins → HeldStay h slots begins → HeldStay h (set slots t Vacant) begins
+held_vacate h slots marks section begins t e lt at show all m held c b f is hold =
+    let was : IsIn f (slot_at slots f.slot) = held c b f is hold in
+    ⊎_elim
+    (λ (same : (f.slot ≡ t) × (slot_at (set slots t Vacant) f.slot ≡ Vacant)).
+    let there : slot_at slots f.slot ≡ Retired e = ap (slot_at slots) same.0 ∙ at in
+    absurd (⊎_elim
+    (λ (live : slot_at slots f.slot ≡ Live f). let q : Live f ≡ Retired e = sym live ∙ there in cc)
+    (λ (gone : slot_at slots f.slot ≡ Retired f).
+    let end = (show.retired f.slot f gone).2 in
+    let here : slot_at slots t ≡ Retired f = ap (slot_at slots) (sym same.0) ∙ gone in
+    omega (arith, m.passed t end.0 c b f here end.1 is (all c b is), hold.unended end.0 end.1))
+    was))
+    (λ (off : (f.slot ≡ t → ⊥) × (slot_at (set slots t Vacant) f.slot ≡ slot_at slots f.slot)). subst (IsIn f) (sym off.1) was)
+    (slot_cases slots t Vacant f.slot lt)
+
+-- what a test passes of each of the first n
+pub list_all_within : {X : Type 0} (p : X → Bool) (xs : List X) (n i : ℕ) (d : X) → list_all p (take n xs) ≡ true → i < n → i < length xs → p (get_or xs i d) ≡ true
+list_all_within p [] n i d all lt in_ = absurd (omega arith)
+list_all_within p (x ∷ xs) zero i d all lt in_ = absurd (omega arith)
+list_all_within p (x ∷ xs) (suc n) zero d all lt in_ = (and_parts (p x) (list_all p (take n xs)) all).0
+list_all_within p (x ∷ xs) (suc n) (suc i) d all lt in_ = list_all_within p xs n i d (and_parts (p x) (list_all p (take n xs)) all).1 (omega arith) (omega arith)
+
+pub snapshots_vacate : (cpus : ℕ) (slots : List Slot) (marks : List (List Mark)) (due : Due) (t : ℕ) → t < length slots → SnapshotsStand cpus slots marks due → SnapshotsStand cpus (set slots t Vacant) marks due
+snapshots_vacate cpus slots marks due t lt stand u c f is = stand u c f (sym (vacated_before slots t u f lt (inr is)).1 ∙ is)

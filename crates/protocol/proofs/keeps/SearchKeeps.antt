@@ -1,0 +1,190 @@
+-- Seek and the loads of a search keep the invariant, and their answers are lawful.
+use Rattle.std.proofs.Common.{◌≡◌, ℕ, zero, suc, ◌<◌, List, length, get_or, set, Option, Some, None, Bool, true, false, refl, sym, subst, arith, get_or-set_same, length-set}
+use Rattle.std.proofs.lemmas.Bool.{and_parts}
+use Rattle.registry_values.specs.declared.entry.Entry.{Entry}
+use Rattle.protocol.specs.declared.event.Reply.{Reply}
+use Rattle.protocol.specs.declared.event.Reply.TheVariants.{Done, Word, Found, Missed, Ref, Collected}
+use Rattle.registry_values.specs.declared.slot.Key.{Key}
+use Rattle.protocol.specs.declared.state.Place.{Place}
+use Rattle.protocol.specs.declared.state.Place.TheVariants.{AtHead, AtNext, AtNumber, AtKind, AtHigh, AtLow, AtValue}
+use Rattle.protocol.specs.declared.state.Search.{Search}
+use Rattle.registry_values.specs.declared.entry.Change.{Change}
+use Rattle.protocol.specs.History.{MayHold, IsLawful}
+use Rattle.protocol.specs.State.{State, begin_at, seen_at, search_at, row_at}
+use Rattle.protocol.specs.Events.{Outcome, is_idle, is_inside, may_seek, after_seek, after_seeing, going_on, search_over, link_loaded, load_link, load_searched, compared, are_words_of, entry_found}
+use Rattle.protocol.specs.Invariant.{StandsOn, PlaceHolds, SearchHolds, Holds}
+use Rattle.protocol.proofs.keeps.Sections.{seats_search, seated_search}
+use Rattle.protocol.specs.Taken.{Keeps}
+use Rattle.protocol.proofs.keeps.SectionKeeps.{some_from, idle_parts, cpus_keep, see_keeps}
+use Rattle.protocol.proofs.keeps.Searching.{within_some, searches_over, searches_on, found_none, found_some, Walks, search_walks, head_ahead, next_ahead, LinkTells, link_tells, goes_on, found_is, weight, IsStep, Steps, load_link_steps, load_searched_steps}
+
+-- the invariant after an event, if it was allowed
+
+-- a reply that ends a search is a lawful answer
+abbrev pub IsAnswer : List Change → ℕ → ℕ → Key → Reply → Type 0
+IsAnswer h from to key Done = Unit {0}
+IsAnswer h from to key (Word w) = Unit {0}
+IsAnswer h from to key (Found e) = IsLawful h from to key (Some e)
+IsAnswer h from to key Missed = IsLawful h from to key None
+IsAnswer h from to key (Ref id) = Unit {0}
+IsAnswer h from to key Collected = Unit {0}
+
+-- the search q of the CPU c began at its start; what ends it is lawful
+abbrev pub Answers : ℕ → Search → Option Outcome → Type 0
+Answers c q None = Unit {0}
+Answers c q (Some o) = IsAnswer o.state.history q.start (seen_at o.state c) q.key o.reply
+
+-- the search of a seated CPU is q now
+searching_keeps : (s : State) (c : ℕ) (q : Search) → Holds s → c < s.seated → SearchHolds s.history (begin_at s c) (seen_at s c) q → Holds (record s { searches = set s.searches c (Some q) })
+searching_keeps s c q on lt now =
+    let cs : c < length s.searches = omega (arith, on.shape.searches, on.seats.within) in
+    cpus_keep s s.seated s.section s.begins s.depths s.seen (set s.searches c (Some q)) s.found on (record {
+      section_size = refl;
+      begin_size = refl;
+      depth_size = refl;
+      seen_size = refl;
+      search_size = length-set s.searches c (Some q);
+      found_size = refl;
+      held = on.held;
+      frozen_links = on.frozen_links;
+      grace = on.grace;
+      seats = seats_search s.settings.cpus s.seated s.begins s.searches s.hands c (Some q) lt on.seats;
+      sections = on.sections;
+      searching = searches_on s.history s.begins s.seen s.searches c q cs now on.searches;
+      last_found = on.last_found;
+    })
+
+pub seek_keeps : (s : State) (c : ℕ) (key : Key) → Holds s → may_seek s c ≡ true → Holds (after_seek s c key)
+seek_keeps s c key on ok =
+    let p = and_parts (is_idle s c) (is_inside s c) ok in
+    let idle = idle_parts s c p.0 in
+    let in_ : (b : ℕ) × (begin_at s c ≡ Some b) = some_from (begin_at s c) p.1 in
+    searching_keeps s c (record { key = key; start = seen_at s c; place = AtHead }) on idle.0
+    (record { begun = (in_.0, in_.1, on.sections.begun c in_.0 in_.1); started = omega arith; stands = tt })
+
+-- a search goes on, at a place that holds
+pub going_on_keeps : (s : State) (c : ℕ) (q : Search) (place : Place) → Holds s → search_at s c ≡ Some q
+    → PlaceHolds s.history q.start (seen_at s c) q.key place → Holds (going_on s c q place)
+going_on_keeps s c q place on is p =
+    let was : SearchHolds s.history (begin_at s c) (seen_at s c) q = on.searches c q is in
+    searching_keeps s c (record { key = q.key; start = q.start; place = place }) on (seated_search s.settings.cpus s.seated s.begins s.searches s.hands c q on.seats is)
+    (record { begun = was.begun; started = was.started; stands = p })
+
+-- a search is over, without an entry or with one that the section may hold
+pub search_missed_keeps : (s : State) (c : ℕ) (q : Search) → Holds s → search_at s c ≡ Some q → Holds (search_over s c None)
+search_missed_keeps s c q on is =
+    let lt : c < s.seated = seated_search s.settings.cpus s.seated s.begins s.searches s.hands c q on.seats is in
+    let cs : c < length s.searches = within_some s.searches c q is in
+    let cf : c < length s.found = omega (arith, on.shape.found, on.shape.searches) in
+    cpus_keep s s.seated s.section s.begins s.depths s.seen (set s.searches c None) (set s.found c None) on (record {
+      section_size = refl;
+      begin_size = refl;
+      depth_size = refl;
+      seen_size = refl;
+      search_size = length-set s.searches c None;
+      found_size = length-set s.found c None;
+      held = on.held;
+      frozen_links = on.frozen_links;
+      grace = on.grace;
+      seats = seats_search s.settings.cpus s.seated s.begins s.searches s.hands c None lt on.seats;
+      sections = on.sections;
+      searching = searches_over s.history s.begins s.seen s.searches c cs on.searches;
+      last_found = found_none s.history s.begins s.found c cf on.last_found;
+    })
+
+pub search_found_keeps : (s : State) (c b : ℕ) (q : Search) (e : Entry) → Holds s → search_at s c ≡ Some q → begin_at s c ≡ Some b → MayHold s.history b e → Holds (search_over s c (Some e))
+search_found_keeps s c b q e on is in_ may =
+    let lt : c < s.seated = seated_search s.settings.cpus s.seated s.begins s.searches s.hands c q on.seats is in
+    let cs : c < length s.searches = within_some s.searches c q is in
+    let cf : c < length s.found = omega (arith, on.shape.found, on.shape.searches) in
+    cpus_keep s s.seated s.section s.begins s.depths s.seen (set s.searches c None) (set s.found c (Some e)) on (record {
+      section_size = refl;
+      begin_size = refl;
+      depth_size = refl;
+      seen_size = refl;
+      search_size = length-set s.searches c None;
+      found_size = length-set s.found c (Some e);
+      held = on.held;
+      frozen_links = on.frozen_links;
+      grace = on.grace;
+      seats = seats_search s.settings.cpus s.seated s.begins s.searches s.hands c None lt on.seats;
+      sections = on.sections;
+      searching = searches_over s.history s.begins s.seen s.searches c cs on.searches;
+      last_found = found_some s.history s.begins s.found c b e cf in_ may on.last_found;
+    })
+
+link_loaded_keeps : (s : State) (c n : ℕ) (q : Search) (x : ℕ) → Holds s → search_at s c ≡ Some q → LinkTells s q.start q.key n x → Keeps (link_loaded s c q x)
+link_loaded_keeps s c n q zero on is tells =
+    let lt : c < s.settings.cpus = omega (arith, within_some s.searches c q is, on.shape.searches) in
+    search_missed_keeps (after_seeing s c) c q (see_keeps s c on lt) is
+link_loaded_keeps s c n q (suc t) on is tells =
+    let lt : c < s.settings.cpus = omega (arith, within_some s.searches c q is, on.shape.searches) in
+    let cw : c < length s.seen = omega (arith, on.shape.seen) in
+    going_on_keeps (after_seeing s c) c q (AtNumber t) (see_keeps s c on lt) is
+    (subst (λ (to : ℕ). PlaceHolds s.history q.start to q.key (AtNumber t)) (sym (get_or-set_same s.seen c (length s.history) 0 cw)) (tells.0, tells.1, tells.2))
+
+load_link_keeps : (s : State) (c : ℕ) (q : Search) (place : Place) → Holds s → search_at s c ≡ Some q
+    → PlaceHolds s.history q.start (seen_at s c) q.key place → Keeps (load_link s c q place)
+load_link_keeps s c q AtHead on is p =
+    let walk : Walks s c q.start = search_walks s c q on is in
+    link_loaded_keeps s c (suc (length s.history)) q s.head on is (link_tells s c q.start (suc (length s.history)) s.head q.key on walk (head_ahead s q.start q.key on walk.by_now))
+load_link_keeps s c q (AtNext t) on is p =
+    let walk : Walks s c q.start = search_walks s c q on is in
+    link_loaded_keeps s c p.0.number q (get_or s.next t 0) on is
+    (link_tells s c q.start p.0.number (get_or s.next t 0) q.key on walk (next_ahead s c q.start (seen_at s c) t q.key p.0 on walk (on.sections.prefix c) p.1 p.2))
+load_link_keeps s c q (AtNumber t) on is p = tt
+load_link_keeps s c q (AtKind t n) on is p = tt
+load_link_keeps s c q (AtHigh t n k) on is p = tt
+load_link_keeps s c q (AtLow t n k x) on is p = tt
+load_link_keeps s c q (AtValue t n) on is p = tt
+
+pub link_keeps : (s : State) (c : ℕ) (q : Search) → Holds s → search_at s c ≡ Some q → Keeps (load_link s c q q.place)
+link_keeps s c q on is = load_link_keeps s c q q.place on is (on.searches c q is).stands
+
+compared_keeps : (s : State) (c : ℕ) (q : Search) (t n l : ℕ) (b : Bool) → Holds s → search_at s c ≡ Some q
+    → (b ≡ true → PlaceHolds s.history q.start (seen_at s c) q.key (AtValue t n)) → (b ≡ false → PlaceHolds s.history q.start (seen_at s c) q.key (AtNext t)) → Keeps (compared s c q t n l b)
+compared_keeps s c q t n l true on is right wrong = going_on_keeps s c q (AtValue t n) on is (right refl)
+compared_keeps s c q t n l false on is right wrong = going_on_keeps s c q (AtNext t) on is (wrong refl)
+
+load_searched_keeps : (s : State) (c : ℕ) (q : Search) (place : Place) → Holds s → search_at s c ≡ Some q
+    → PlaceHolds s.history q.start (seen_at s c) q.key place → Keeps (load_searched s c q place (row_at s.rows))
+load_searched_keeps s c q AtHead on is p = tt
+load_searched_keeps s c q (AtNext t) on is p = tt
+load_searched_keeps s c q (AtNumber t) on is p =
+    going_on_keeps s c q (AtKind t (row_at s.rows t).number) on is (goes_on s c q.start (seen_at s c) q.key (AtNumber t) on (search_walks s c q on is) p)
+load_searched_keeps s c q (AtKind t n) on is p =
+    going_on_keeps s c q (AtHigh t n (row_at s.rows t).kind) on is (goes_on s c q.start (seen_at s c) q.key (AtKind t n) on (search_walks s c q on is) p)
+load_searched_keeps s c q (AtHigh t n k) on is p =
+    going_on_keeps s c q (AtLow t n k (row_at s.rows t).high) on is (goes_on s c q.start (seen_at s c) q.key (AtHigh t n k) on (search_walks s c q on is) p)
+load_searched_keeps s c q (AtLow t n k x) on is p =
+    let next = goes_on s c q.start (seen_at s c) q.key (AtLow t n k x) on (search_walks s c q on is) p in
+    compared_keeps s c q t n (row_at s.rows t).low (are_words_of q.key k x (row_at s.rows t).low) on is next.0 next.1
+load_searched_keeps s c q (AtValue t n) on is p =
+    let walk : Walks s c q.start = search_walks s c q on is in
+    let e : Entry = entry_found q t n (row_at s.rows t).value in
+    let same : p.0 ≡ e = found_is s c q.start (seen_at s c) t n q p.0 on walk p.1 p.2 p.3 in
+    let stands : StandsOn s.history q.start (seen_at s c) t e = subst (StandsOn s.history q.start (seen_at s c) t) same p.1 in
+    search_found_keeps s c walk.begin q e on is walk.open_since (record { attached = stands.attached; unended = λ p x. omega (arith, stands.unended p x, walk.since) })
+
+pub record_keeps : (s : State) (c : ℕ) (q : Search) → Holds s → search_at s c ≡ Some q → Keeps (load_searched s c q q.place (row_at s.rows))
+record_keeps s c q on is = load_searched_keeps s c q q.place on is (on.searches c q is).stands
+
+-- The reply of a load that ends a search is lawful.
+pub step_answers : (c : ℕ) (q : Search) (n : ℕ) (o : Option Outcome) → Steps c q.start q n o → Answers c q o
+step_answers c q n None steps = tt
+step_answers c q n (Some o) steps = go o.reply steps
+  where
+    go : (r : Reply) → IsStep o.state c q.start q n r → IsAnswer o.state.history q.start (seen_at o.state c) q.key r
+    go Done is = tt
+    go (Word w) is = tt
+    go (Found e) is = is
+    go Missed is = is
+    go (Ref id) is = tt
+    go Collected is = tt
+
+pub link_answers : (s : State) (c : ℕ) (q : Search) → Holds s → search_at s c ≡ Some q → Answers c q (load_link s c q q.place)
+link_answers s c q on is = step_answers c q (weight s q.place) (load_link s c q q.place) (load_link_steps s c q.start q q.place on (search_walks s c q on is) is (on.searches c q is).stands)
+
+pub record_answers : (s : State) (c : ℕ) (q : Search) → Holds s → search_at s c ≡ Some q → Answers c q (load_searched s c q q.place (row_at s.rows))
+record_answers s c q on is =
+    step_answers c q (weight s q.place) (load_searched s c q q.place (row_at s.rows)) (load_searched_steps s c q.start q q.place on (search_walks s c q on is) (on.searches c q is).started is (on.searches c q is).stands)

@@ -1,0 +1,415 @@
+-- A walk over links: what each load leaves holds, and what ends it is lawful.
+use Rattle.std.proofs.Common.{◌≡◌, ℕ, zero, suc, ◌+◌, ◌*◌, ◌<◌, ◌≤◌, ◌⊎◌, inl, inr, ⊎_elim, List, length, get_or, set, Option, Some, None, Bool, true, false, ◌&&◌, nat_eq, refl, sym, ap, subst, ◌∙◌, arith, get_or-set_same, get_or-set_other, eqb-true}
+use Rattle.std.proofs.lemmas.Option.{same_Some, none-some}
+use Rattle.std.proofs.lemmas.List.{get_or_past}
+use Rattle.std.proofs.lemmas.Bool.{cases_lt, cases_eq, and_parts}
+use Rattle.registry_values.specs.declared.entry.Kind.{Kind}
+use Rattle.registry_values.specs.declared.entry.Kind.TheVariants.{Iface, Driver}
+use Rattle.registry_values.specs.declared.entry.Entry.{Entry}
+use Rattle.registry_values.specs.declared.entry.Change.{Change}
+use Rattle.registry_values.specs.declared.entry.Change.TheVariants.{Attach, Detach}
+use Rattle.protocol.specs.declared.event.Reply.{Reply}
+use Rattle.protocol.specs.declared.event.Reply.TheVariants.{Done, Word, Found, Missed, Ref, Collected}
+use Rattle.registry_values.specs.declared.slot.Key.{Key}
+use Rattle.protocol.specs.declared.state.RecordWords.{RecordWords}
+use Rattle.registry_values.specs.declared.slot.Slot.TheVariants.{Live, Retired}
+use Rattle.protocol.specs.declared.state.Place.{Place}
+use Rattle.protocol.specs.declared.state.Place.TheVariants.{AtHead, AtNext, AtNumber, AtKind, AtHigh, AtLow, AtValue}
+use Rattle.protocol.specs.declared.state.Search.{Search}
+use Rattle.registry_values.specs.Slots.{key_of, slot_at, kind_word}
+use Rattle.protocol.specs.History.{EndsAt, MayHold, IsLookup, IsLawful}
+use Rattle.protocol.specs.State.{State, row_at, seen_at, search_at, begin_at}
+use Rattle.protocol.specs.Events.{Outcome, after_seeing, after_seek, going_on, link_loaded, load_link, load_searched, compared, are_words_of, entry_found, words_of}
+use Rattle.protocol.specs.Loaded.{SlotWithin}
+use Rattle.protocol.specs.Invariant.{IsIn, SearchHolds, SearchesHold, FoundHold, StandsOn, AllBelow, PlaceHolds, Holds}
+use Rattle.protocol.proofs.history.History.{at_within, one_entry}
+use Rattle.protocol.proofs.history.Lookup.{Ahead, No_more, One_more, step_ahead, all_below_later, found_lawful, missed_lawful, find_exact}
+use Rattle.protocol.proofs.slots.Occupied.{in_within}
+
+-- a place that shows something is within the list
+pub within_some : {X : Type 0} (xs : List (Option X)) (c : ℕ) (x : X) → get_or xs c None ≡ Some x → c < length xs
+within_some xs c x is = ⊎_elim
+    (λ (lt : c < length xs). lt)
+    (λ (ge : length xs ≤ c). absurd (none-some x (sym (get_or_past xs c None ge) ∙ is)))
+    (cases_lt c (length xs))
+
+-- c's search is over
+pub searches_over : (h : List Change) (begins : List (Option ℕ)) (seen : List ℕ) (searches : List (Option Search)) (c : ℕ) → c < length searches
+    → SearchesHold h begins seen searches → SearchesHold h begins seen (set searches c None)
+searches_over h begins seen searches c cs hold j q is = ⊎_elim
+    (λ (same : j ≡ c). absurd (none-some q (sym (get_or-set_same searches c None None cs) ∙ (ap (λ (k : ℕ). get_or (set searches c None) k None) (sym same) ∙ is))))
+    (λ (other : j ≡ c → ⊥). hold j q (simp get_or-set_other at is))
+    (cases_eq j c)
+
+-- c's search is q now
+pub searches_on : (h : List Change) (begins : List (Option ℕ)) (seen : List ℕ) (searches : List (Option Search)) (c : ℕ) (q : Search) → c < length searches
+    → SearchHolds h (get_or begins c None) (get_or seen c 0) q
+    → SearchesHold h begins seen searches → SearchesHold h begins seen (set searches c (Some q))
+searches_on h begins seen searches c q cs now hold j r is = ⊎_elim
+    (λ (same : j ≡ c).
+    let one : q ≡ r = same_Some q r (sym (get_or-set_same searches c (Some q) None cs) ∙ (ap (λ (k : ℕ). get_or (set searches c (Some q)) k None) (sym same) ∙ is)) in
+    subst (λ (k : ℕ). SearchHolds h (get_or begins k None) (get_or seen k 0) r) (sym same) (subst (SearchHolds h (get_or begins c None) (get_or seen c 0)) one now))
+    (λ (other : j ≡ c → ⊥). hold j r (simp get_or-set_other at is))
+    (cases_eq j c)
+
+-- a lookup's answer becomes the last found entry
+pub found_none : (h : List Change) (begins : List (Option ℕ)) (found : List (Option Entry)) (c : ℕ) → c < length found → FoundHold h begins found → FoundHold h begins (set found c None)
+found_none h begins found c cf hold j e is = ⊎_elim
+    (λ (same : j ≡ c). absurd (none-some e (sym (get_or-set_same found c None None cf) ∙ (ap (λ (k : ℕ). get_or (set found c None) k None) (sym same) ∙ is))))
+    (λ (other : j ≡ c → ⊥). hold j e (simp get_or-set_other at is))
+    (cases_eq j c)
+
+pub found_some : (h : List Change) (begins : List (Option ℕ)) (found : List (Option Entry)) (c b : ℕ) (f : Entry) → c < length found
+    → get_or begins c None ≡ Some b → MayHold h b f → FoundHold h begins found → FoundHold h begins (set found c (Some f))
+found_some h begins found c b f cf in_ may hold j e is = ⊎_elim
+    (λ (same : j ≡ c).
+    let one : f ≡ e = same_Some f e (sym (get_or-set_same found c (Some f) None cf) ∙ (ap (λ (k : ℕ). get_or (set found c (Some f)) k None) (sym same) ∙ is)) in
+    (b, ap (λ (k : ℕ). get_or begins k None) same ∙ in_, subst (MayHold h b) one may))
+    (λ (other : j ≡ c → ⊥). hold j e (simp get_or-set_other at is))
+    (cases_eq j c)
+
+-- a walk of c from `from`: its section began before, and nothing of it is yet to come
+pub record Walks (s : State) (c from : ℕ) : Type 0 where
+  pub begin : ℕ
+  pub open_since : begin_at s c ≡ Some begin
+  pub since : begin ≤ from
+  pub by_now : from ≤ length s.history
+
+-- a search walks from its start
+pub search_walks : (s : State) (c : ℕ) (q : Search) → Holds s → search_at s c ≡ Some q → Walks s c q.start
+search_walks s c q on is =
+    let was : SearchHolds s.history (begin_at s c) (seen_at s c) q = on.searches c q is in
+    record { begin = was.begun.0; open_since = was.begun.1; since = was.begun.2; by_now = omega (arith, was.started, on.sections.prefix c) }
+
+-- a search walks from the end of the history too
+pub walks_now : (s : State) (c : ℕ) (q : Search) → Holds s → search_at s c ≡ Some q → Walks s c (length s.history)
+walks_now s c q on is =
+    let was : SearchHolds s.history (begin_at s c) (seen_at s c) q = on.searches c q is in
+    record { begin = was.begun.0; open_since = was.begun.1; since = omega (arith, was.begun.2, was.started, on.sections.prefix c); by_now = omega arith }
+
+-- an entry that a walk stands on has its slot
+pub stands_in : (s : State) (c from to t : ℕ) (e : Entry) → Holds s → Walks s c from → StandsOn s.history from to t e → IsIn e (slot_at s.slots t)
+stands_in s c from to t e on walk stands =
+    subst (λ (u : ℕ). IsIn e (slot_at s.slots u)) stands.at
+    (on.held c walk.begin e walk.open_since (record { attached = stands.attached; unended = λ p x. omega (arith, stands.unended p x, walk.since) }))
+
+pub stands_within : (s : State) (c from to t : ℕ) (e : Entry) → Holds s → Walks s c from → StandsOn s.history from to t e → t < length s.slots
+stands_within s c from to t e on walk stands = in_within s.slots t e (stands_in s c from to t e on walk stands)
+
+-- the words of the entry that a walk stands on
+pub words_stand : (s : State) (c from to t : ℕ) (e : Entry) → Holds s → Walks s c from → StandsOn s.history from to t e → row_at s.rows t ≡ words_of e
+words_stand s c from to t e on walk stands = (on.rows t e (stands_in s c from to t e on walk stands)).0
+
+-- the slot that a walk reads is in range
+pub place_within : (s : State) (c from to : ℕ) (key : Key) (place : Place) → Holds s → Walks s c from → PlaceHolds s.history from to key place → SlotWithin place (length s.slots)
+place_within s c from to key AtHead on walk p = tt
+place_within s c from to key (AtNext t) on walk p = stands_within s c from to t p.0 on walk p.1
+place_within s c from to key (AtNumber t) on walk p = stands_within s c from to t p.0 on walk p.1
+place_within s c from to key (AtKind t n) on walk p = stands_within s c from to t p.0 on walk p.1
+place_within s c from to key (AtHigh t n k) on walk p = stands_within s c from to t p.0 on walk p.1
+place_within s c from to key (AtLow t n k x) on walk p = stands_within s c from to t p.0 on walk p.1
+place_within s c from to key (AtValue t n) on walk p = stands_within s c from to t p.0 on walk p.1
+
+-- the head leads on
+pub head_ahead : (s : State) (from : ℕ) (key : Key) → Holds s → from ≤ length s.history → Ahead s.history from (length s.history) key (suc (length s.history)) s.head
+head_ahead s from key on le =
+    step_ahead s.history from (length s.history) (length s.history) (suc (length s.history)) key s.head le (omega arith)
+    (λ f live un same. omega (arith, (at_within s.history f.number (Attach f) live.attached).1))
+    on.list.first
+
+-- and so does the link of the entry that the walk stands on, a live one or a retired one, to a smaller number
+pub next_ahead : (s : State) (c from to t : ℕ) (key : Key) (e : Entry) → Holds s → Walks s c from → to ≤ length s.history
+    → StandsOn s.history from to t e → AllBelow s.history from to key e.number → Ahead s.history from (length s.history) key e.number (get_or s.next t 0)
+next_ahead s c from to t key e on walk le stands below =
+    let later : AllBelow s.history from (length s.history) key e.number = all_below_later s.history from to (length s.history) key e.number le below in
+    ⊎_elim
+    (λ (live : slot_at s.slots t ≡ Live e).
+    step_ahead s.history from (length s.history) (length s.history) e.number key (get_or s.next t 0) walk.by_now (omega arith) later (on.list.links t e live))
+    (λ (gone : slot_at s.slots t ≡ Retired e).
+    let end : (p : ℕ) × EndsAt s.history e.number p = (on.slots.retired t e gone).2 in
+    let past : from < end.0 = stands.unended end.0 end.1 in
+    step_ahead s.history from end.0 (length s.history) e.number key (get_or s.next t 0)
+    (omega arith) (at_within s.history end.0 (Detach e.number) end.1).1 later
+    (on.frozen_links t end.0 c walk.begin e gone end.1 walk.open_since (omega (arith, walk.since))))
+    (stands_in s c from to t e on walk stands)
+
+-- the link at the place of a walk, and what it leads to
+pub at_next_ahead : (s : State) (c from to t : ℕ) (key : Key) → Holds s → Walks s c from → to ≤ length s.history → (p : PlaceHolds s.history from to key (AtNext t))
+    → (t < length s.next) × Ahead s.history from (length s.history) key p.0.number (get_or s.next t 0)
+at_next_ahead s c from to t key on walk le p =
+    let lt : t < length s.slots = stands_within s c from to t p.0 on walk p.1 in
+    (omega (arith, on.shape.slots, on.shape.links), next_ahead s c from to t key p.0 on walk le p.1 p.2)
+
+-- a link that isn't the end leads to a slot in range, to a number below n, and the walk holds there
+abbrev pub GoesTo : State → ℕ → Key → ℕ → ℕ → Type 0
+GoesTo s from key n t = (e : Entry) × StandsOn s.history from (length s.history) t e × AllBelow s.history from (length s.history) key (suc e.number) × (e.number < n) × (t < length s.slots)
+
+-- what a link tells: the end of the walk, or where it goes
+abbrev pub LinkTells : State → ℕ → Key → ℕ → ℕ → Type 0
+LinkTells s from key n zero = IsLawful s.history from (length s.history) key None
+LinkTells s from key n (suc t) = GoesTo s from key n t
+
+pub link_tells : (s : State) (c from n x : ℕ) (key : Key) → Holds s → Walks s c from → Ahead s.history from (length s.history) key n x → LinkTells s from key n x
+link_tells s c from n zero key on walk (No_more below) = missed_lawful s.history on.legal from (length s.history) key walk.by_now below
+link_tells s c from n _ key on walk (One_more e stands lt below) = (e, stands, below, lt, stands_within s c from (length s.history) e.slot e on walk stands)
+
+-- what is left of a walk at a place: it falls with each load
+abbrev pub weight : State → Place → ℕ
+weight s AtHead = 6 * (length s.history + 1)
+weight s (AtNext t) = 6 * (row_at s.rows t).number
+weight s (AtNumber t) = 6 * (row_at s.rows t).number + 5
+weight s (AtKind t n) = 6 * (row_at s.rows t).number + 4
+weight s (AtHigh t n k) = 6 * (row_at s.rows t).number + 3
+weight s (AtLow t n k x) = 6 * (row_at s.rows t).number + 2
+weight s (AtValue t n) = 6 * (row_at s.rows t).number + 1
+
+-- the search q, at another place
+abbrev pub placed : Search → Place → Search
+placed q place = record { key = q.key; start = q.start; place = place }
+
+-- What a load leaves of a walk of c for the key of q from `from`, which had n left: a place that holds, with less left, or a lawful answer.
+abbrev pub IsStep : State → ℕ → ℕ → Search → ℕ → Reply → Type 0
+IsStep s c from q n Done = Unit {0}
+IsStep s c from q n (Word w) = (place : Place) × (search_at s c ≡ Some (placed q place)) × PlaceHolds s.history from (seen_at s c) q.key place × (weight s place < n)
+IsStep s c from q n (Found e) = IsLawful s.history from (seen_at s c) q.key (Some e)
+IsStep s c from q n Missed = IsLawful s.history from (seen_at s c) q.key None
+IsStep s c from q n (Ref id) = Unit {0}
+IsStep s c from q n Collected = Unit {0}
+
+abbrev pub Steps : ℕ → ℕ → Search → ℕ → Option Outcome → Type 0
+Steps c from q n None = Unit {0}
+Steps c from q n (Some o) = IsStep o.state c from q n o.reply
+
+-- the pass of c is the whole history
+pub seen_now : (s : State) (c : ℕ) → Holds s → c < s.settings.cpus → seen_at (after_seeing s c) c ≡ length s.history
+seen_now s c on lt = get_or-set_same s.seen c (length s.history) 0 (omega (arith, on.shape.seen))
+
+-- a CPU that searches is in range
+pub searching_within : (s : State) (c : ℕ) (q : Search) → Holds s → search_at s c ≡ Some q → c < s.settings.cpus
+searching_within s c q on is = omega (arith, within_some s.searches c q is, on.shape.searches)
+
+-- the search of c is q at another place now
+search_placed : (s : State) (c : ℕ) (q : Search) (place : Place) → search_at s c ≡ Some q → search_at (going_on s c q place) c ≡ Some (placed q place)
+search_placed s c q place is = get_or-set_same s.searches c (Some (placed q place)) None (within_some s.searches c q is)
+
+link_steps : (s : State) (c from : ℕ) (q : Search) (n x : ℕ) → Holds s → Walks s c from → search_at s c ≡ Some q → LinkTells s from q.key n x → Steps c from q (6 * n) (link_loaded s c q x)
+link_steps s c from q n zero on walk is tells =
+    subst (λ (to : ℕ). IsLawful s.history from to q.key None) (sym (seen_now s c on (searching_within s c q on is))) tells
+link_steps s c from q n (suc t) on walk is tells =
+    let number : (row_at s.rows t).number ≡ tells.0.number = ap (λ (r : RecordWords). r.number) (words_stand s c from (length s.history) t tells.0 on walk tells.1) in (
+      AtNumber t,
+      search_placed s c q (AtNumber t) is,
+      subst (λ (to : ℕ). PlaceHolds s.history from to q.key (AtNumber t)) (sym (seen_now s c on (searching_within s c q on is))) (tells.0, tells.1, tells.2),
+      omega (arith, tells.3),
+    )
+
+-- LoadLink: the walk holds at the new place, and a miss is lawful.
+pub load_link_steps : (s : State) (c from : ℕ) (q : Search) (place : Place) → Holds s → Walks s c from → search_at s c ≡ Some q
+    → PlaceHolds s.history from (seen_at s c) q.key place → Steps c from q (weight s place) (load_link s c q place)
+load_link_steps s c from q AtHead on walk is p =
+    subst (λ (n : ℕ). Steps c from q (6 * n) (link_loaded s c q s.head)) (next_number (length s.history))
+    (link_steps s c from q (suc (length s.history)) s.head on walk is (link_tells s c from (suc (length s.history)) s.head q.key on walk (head_ahead s from q.key on walk.by_now)))
+  where
+    next_number : (n : ℕ) → suc n ≡ n + 1
+    next_number n = omega arith
+load_link_steps s c from q (AtNext t) on walk is p =
+    let number : (row_at s.rows t).number ≡ p.0.number = ap (λ (r : RecordWords). r.number) (words_stand s c from (seen_at s c) t p.0 on walk p.1) in
+    subst (λ (n : ℕ). Steps c from q (6 * n) (link_loaded s c q (get_or s.next t 0))) (sym number)
+    (link_steps s c from q p.0.number (get_or s.next t 0) on walk is
+    (link_tells s c from p.0.number (get_or s.next t 0) q.key on walk (next_ahead s c from (seen_at s c) t q.key p.0 on walk (on.sections.prefix c) p.1 p.2)))
+load_link_steps s c from q (AtNumber t) on walk is p = tt
+load_link_steps s c from q (AtKind t n) on walk is p = tt
+load_link_steps s c from q (AtHigh t n k) on walk is p = tt
+load_link_steps s c from q (AtLow t n k x) on walk is p = tt
+load_link_steps s c from q (AtValue t n) on walk is p = tt
+
+-- Words and keys.
+kind_from_word : (a b : Kind) → kind_word a ≡ kind_word b → a ≡ b
+kind_from_word Iface Iface is = refl
+kind_from_word Iface Driver is = absurd (omega (arith, is))
+kind_from_word Driver Iface is = absurd (omega (arith, is))
+kind_from_word Driver Driver is = refl
+
+pub key_from_words : (key : Key) (e : Entry) → are_words_of key (kind_word e.rec.kind) e.rec.name.high e.rec.name.low ≡ true → key ≡ key_of e
+key_from_words key e holds =
+    let a = and_parts (nat_eq (kind_word e.rec.kind) (kind_word key.kind)) (nat_eq e.rec.name.high key.name.high && nat_eq e.rec.name.low key.name.low) holds in
+    let b = and_parts (nat_eq e.rec.name.high key.name.high) (nat_eq e.rec.name.low key.name.low) a.1 in
+    let kind : key.kind ≡ e.rec.kind = sym (kind_from_word e.rec.kind key.kind (eqb-true (kind_word e.rec.kind) (kind_word key.kind) a.0)) in
+    let high : key.name.high ≡ e.rec.name.high = sym (eqb-true e.rec.name.high key.name.high b.0) in
+    let low : key.name.low ≡ e.rec.name.low = sym (eqb-true e.rec.name.low key.name.low b.1) in
+    λ i. record { kind = kind i; name = record { high = high i; low = low i } }
+
+pub key_to_words : (key : Key) → are_words_of key (kind_word key.kind) key.name.high key.name.low ≡ true
+key_to_words key = grind arith
+
+-- the entry that a walk stands on has another key: what is left is below it
+pub key_differs : (s : State) (from to t : ℕ) (key : Key) (e : Entry) → StandsOn s.history from to t e → AllBelow s.history from to key (suc e.number)
+    → are_words_of key (kind_word e.rec.kind) e.rec.name.high e.rec.name.low ≡ false → AllBelow s.history from to key e.number
+key_differs s from to t key e stands below test f live un same = ⊎_elim
+    (λ (lt : f.number < e.number). lt)
+    (λ (ge : e.number ≤ f.number).
+    let number : f.number ≡ e.number = omega (arith, below f live un same) in
+    let one : f ≡ e = one_entry s.history f e live.attached stands.attached number in
+    let is : key ≡ key_of e = sym same ∙ ap key_of one in
+    let yes : are_words_of key (kind_word e.rec.kind) e.rec.name.high e.rec.name.low ≡ true =
+    subst (λ (k : Key). are_words_of key (kind_word k.kind) k.name.high k.name.low ≡ true) is (key_to_words key) in
+    let no : ◌≡◌ {A = Bool} true false = sym yes ∙ test in
+    absurd cc)
+    (cases_lt f.number e.number)
+
+-- the walk stands on just the entry that is answered
+pub found_is : (s : State) (c from to t n : ℕ) (q : Search) (e : Entry) → Holds s → Walks s c from → StandsOn s.history from to t e → n ≡ e.number → q.key ≡ key_of e
+    → e ≡ entry_found q t n (row_at s.rows t).value
+found_is s c from to t n q e on walk stands number same =
+    let row : row_at s.rows t ≡ words_of e = words_stand s c from to t e on walk stands in
+    λ i. record { number = sym number i; slot = stands.at i; rec = record { kind = (sym same i).kind; name = (sym same i).name; value = (sym row i).value } }
+
+-- the place to which the load of a record word leads
+abbrev pub GoesOn : State → ℕ → ℕ → Key → Place → Type 0
+GoesOn s from to key AtHead = Unit {0}
+GoesOn s from to key (AtNext t) = Unit {0}
+GoesOn s from to key (AtNumber t) = PlaceHolds s.history from to key (AtKind t (row_at s.rows t).number)
+GoesOn s from to key (AtKind t n) = PlaceHolds s.history from to key (AtHigh t n (row_at s.rows t).kind)
+GoesOn s from to key (AtHigh t n k) = PlaceHolds s.history from to key (AtLow t n k (row_at s.rows t).high)
+GoesOn s from to key (AtLow t n k x) = ((are_words_of key k x (row_at s.rows t).low ≡ true) → PlaceHolds s.history from to key (AtValue t n))
+    × ((are_words_of key k x (row_at s.rows t).low ≡ false) → PlaceHolds s.history from to key (AtNext t))
+GoesOn s from to key (AtValue t n) = Unit {0}
+
+pub goes_on : (s : State) (c from to : ℕ) (key : Key) (place : Place) → Holds s → Walks s c from → PlaceHolds s.history from to key place → GoesOn s from to key place
+goes_on s c from to key AtHead on walk p = tt
+goes_on s c from to key (AtNext t) on walk p = tt
+goes_on s c from to key (AtNumber t) on walk p =
+    let row : row_at s.rows t ≡ words_of p.0 = words_stand s c from to t p.0 on walk p.1 in
+    (p.0, p.1, p.2, ap (λ (r : RecordWords). r.number) row)
+goes_on s c from to key (AtKind t n) on walk p =
+    let row : row_at s.rows t ≡ words_of p.0 = words_stand s c from to t p.0 on walk p.1 in
+    (p.0, p.1, p.2, p.3, ap (λ (r : RecordWords). r.kind) row)
+goes_on s c from to key (AtHigh t n k) on walk p =
+    let row : row_at s.rows t ≡ words_of p.0 = words_stand s c from to t p.0 on walk p.1 in
+    (p.0, p.1, p.2, p.3, p.4, ap (λ (r : RecordWords). r.high) row)
+goes_on s c from to key (AtLow t n k x) on walk p =
+    let row : row_at s.rows t ≡ words_of p.0 = words_stand s c from to t p.0 on walk p.1 in
+    let test : are_words_of key (kind_word p.0.rec.kind) p.0.rec.name.high p.0.rec.name.low ≡ are_words_of key k x (row_at s.rows t).low =
+    λ i. are_words_of key (sym p.4 i) (sym p.5 i) (sym row i).low in
+    (λ right. (p.0, p.1, p.3, key_from_words key p.0 (test ∙ right)), λ wrong. (p.0, p.1, key_differs s from to t key p.0 p.1 p.2 (test ∙ wrong)))
+goes_on s c from to key (AtValue t n) on walk p = tt
+
+-- what a found entry is
+pub found_tells : (s : State) (c from to t n : ℕ) (q : Search) → Holds s → Walks s c from → from ≤ to → PlaceHolds s.history from to q.key (AtValue t n)
+    → IsLawful s.history from to q.key (Some (entry_found q t n (row_at s.rows t).value))
+found_tells s c from to t n q on walk le p =
+    let same : p.0 ≡ entry_found q t n (row_at s.rows t).value = found_is s c from to t n q p.0 on walk p.1 p.2 p.3 in
+    found_lawful s.history on.legal from to t (entry_found q t n (row_at s.rows t).value) q.key le (subst (StandsOn s.history from to t) same p.1) refl
+
+compared_steps : (s : State) (c from : ℕ) (q : Search) (t n l left : ℕ) (b : Bool) → search_at s c ≡ Some q → left ≡ 6 * (row_at s.rows t).number + 2
+    → (b ≡ true → PlaceHolds s.history from (seen_at s c) q.key (AtValue t n)) → (b ≡ false → PlaceHolds s.history from (seen_at s c) q.key (AtNext t)) → Steps c from q left (compared s c q t n l b)
+compared_steps s c from q t n l left true is weighs right wrong = (AtValue t n, search_placed s c q (AtValue t n) is, right refl, omega arith)
+compared_steps s c from q t n l left false is weighs right wrong = (AtNext t, search_placed s c q (AtNext t) is, wrong refl, omega arith)
+
+-- LoadRecord: the walk holds at the new place, and what is found is lawful.
+pub load_searched_steps : (s : State) (c from : ℕ) (q : Search) (place : Place) → Holds s → Walks s c from → from ≤ seen_at s c → search_at s c ≡ Some q
+    → PlaceHolds s.history from (seen_at s c) q.key place → Steps c from q (weight s place) (load_searched s c q place (row_at s.rows))
+load_searched_steps s c from q AtHead on walk le is p = tt
+load_searched_steps s c from q (AtNext t) on walk le is p = tt
+load_searched_steps s c from q (AtNumber t) on walk le is p =
+    (AtKind t (row_at s.rows t).number, search_placed s c q (AtKind t (row_at s.rows t).number) is, goes_on s c from (seen_at s c) q.key (AtNumber t) on walk p, omega arith)
+load_searched_steps s c from q (AtKind t n) on walk le is p =
+    (AtHigh t n (row_at s.rows t).kind, search_placed s c q (AtHigh t n (row_at s.rows t).kind) is, goes_on s c from (seen_at s c) q.key (AtKind t n) on walk p, omega arith)
+load_searched_steps s c from q (AtHigh t n k) on walk le is p =
+    (AtLow t n k (row_at s.rows t).high, search_placed s c q (AtLow t n k (row_at s.rows t).high) is, goes_on s c from (seen_at s c) q.key (AtHigh t n k) on walk p, omega arith)
+load_searched_steps s c from q (AtLow t n k x) on walk le is p =
+    let next = goes_on s c from (seen_at s c) q.key (AtLow t n k x) on walk p in
+    compared_steps s c from q t n (row_at s.rows t).low (weight s (AtLow t n k x)) (are_words_of q.key k x (row_at s.rows t).low) is refl next.0 next.1
+load_searched_steps s c from q (AtValue t n) on walk le is p = found_tells s c from (seen_at s c) t n q on walk le p
+
+-- An undisturbed walk: the search q of c answers for the whole history.
+pub record Finds (s : State) (c : ℕ) (q : Search) : Type 0 where
+  pub searching : search_at s c ≡ Some q
+  pub stands : PlaceHolds s.history (length s.history) (seen_at s c) q.key q.place
+  pub seen : (q.place ≡ AtHead) ⊎ (seen_at s c ≡ length s.history)
+
+-- what a load leaves of it: less of it, or the answer of a lookup over the whole history
+abbrev pub IsFindStep : State → ℕ → Search → ℕ → Reply → Type 0
+IsFindStep s c q n Done = Unit {0}
+IsFindStep s c q n (Word w) = (place : Place) × Finds s c (placed q place) × (weight s place < n)
+IsFindStep s c q n (Found e) = IsLookup s.history (length s.history) q.key (Some e)
+IsFindStep s c q n Missed = IsLookup s.history (length s.history) q.key None
+IsFindStep s c q n (Ref id) = Unit {0}
+IsFindStep s c q n Collected = Unit {0}
+
+abbrev pub FindSteps : ℕ → Search → ℕ → Option Outcome → Type 0
+FindSteps c q n None = Unit {0}
+FindSteps c q n (Some o) = IsFindStep o.state c q n o.reply
+
+-- a step after which all of an unchanged history is seen
+abbrev Sees : State → ℕ → Option Outcome → Type 0
+Sees s c None = Unit {0}
+Sees s c (Some o) = (o.state.history ≡ s.history) × (seen_at o.state c ≡ length s.history)
+
+find_steps : (s : State) (c : ℕ) (q : Search) (n : ℕ) (o : Option Outcome) → Sees s c o → Steps c (length s.history) q n o → FindSteps c q n o
+find_steps s c q n None sees steps = tt
+find_steps s c q n (Some o) sees steps = go o.reply steps
+  where
+    from : length s.history ≡ length o.state.history
+    from = ap length (sym sees.0)
+
+    all : seen_at o.state c ≡ length o.state.history
+    all = sees.1 ∙ from
+
+    exact : (answer : Option Entry) → IsLawful o.state.history (length s.history) (seen_at o.state c) q.key answer → IsLookup o.state.history (length o.state.history) q.key answer
+    exact answer lawful = find_exact o.state.history (length o.state.history) q.key answer
+        (subst (λ (k : ℕ). IsLawful o.state.history k (length o.state.history) q.key answer) from (subst (λ (k : ℕ). IsLawful o.state.history (length s.history) k q.key answer) all lawful))
+
+    go : (r : Reply) → IsStep o.state c (length s.history) q n r → IsFindStep o.state c q n r
+    go Done is = tt
+    go (Word w) is = (is.0, record { searching = is.1; stands = subst (λ (k : ℕ). PlaceHolds o.state.history k (seen_at o.state c) q.key is.0) from is.2; seen = inr all }, is.3)
+    go (Found e) is = exact (Some e) is
+    go Missed is = exact None is
+    go (Ref id) is = tt
+    go Collected is = tt
+
+loaded_sees : (s : State) (c : ℕ) (q : Search) (x : ℕ) → Holds s → search_at s c ≡ Some q → Sees s c (link_loaded s c q x)
+loaded_sees s c q zero on is = (refl, seen_now s c on (searching_within s c q on is))
+loaded_sees s c q (suc t) on is = (refl, seen_now s c on (searching_within s c q on is))
+
+link_sees : (s : State) (c : ℕ) (q : Search) (place : Place) → Holds s → search_at s c ≡ Some q → Sees s c (load_link s c q place)
+link_sees s c q AtHead on is = loaded_sees s c q s.head on is
+link_sees s c q (AtNext t) on is = loaded_sees s c q (get_or s.next t 0) on is
+link_sees s c q (AtNumber t) on is = tt
+link_sees s c q (AtKind t n) on is = tt
+link_sees s c q (AtHigh t n k) on is = tt
+link_sees s c q (AtLow t n k x) on is = tt
+link_sees s c q (AtValue t n) on is = tt
+
+compared_sees : (s : State) (c : ℕ) (q : Search) (t n l : ℕ) (b : Bool) → seen_at s c ≡ length s.history → Sees s c (compared s c q t n l b)
+compared_sees s c q t n l true all = (refl, all)
+compared_sees s c q t n l false all = (refl, all)
+
+record_sees : (s : State) (c : ℕ) (q : Search) (place : Place) → (place ≡ AtHead) ⊎ (seen_at s c ≡ length s.history) → Sees s c (load_searched s c q place (row_at s.rows))
+record_sees s c q place (inl head) = subst (λ (p : Place). Sees s c (load_searched s c q p (row_at s.rows))) (sym head) tt
+record_sees s c q AtHead (inr all) = tt
+record_sees s c q (AtNext t) (inr all) = tt
+record_sees s c q (AtNumber t) (inr all) = (refl, all)
+record_sees s c q (AtKind t n) (inr all) = (refl, all)
+record_sees s c q (AtHigh t n k) (inr all) = (refl, all)
+record_sees s c q (AtLow t n k x) (inr all) = compared_sees s c q t n (row_at s.rows t).low (are_words_of q.key k x (row_at s.rows t).low) all
+record_sees s c q (AtValue t n) (inr all) = (refl, all)
+
+-- a search that was just begun
+pub find_starts : (s : State) (c : ℕ) (key : Key) → Holds s → c < s.settings.cpus → Finds (after_seek s c key) c (record { key = key; start = seen_at s c; place = AtHead })
+find_starts s c key on lt = record {
+  searching = get_or-set_same s.searches c (Some (record { key = key; start = seen_at s c; place = AtHead })) None (omega (arith, on.shape.searches));
+  stands = tt;
+  seen = inl refl;
+}
+
+pub find_link : (s : State) (c : ℕ) (q : Search) → Holds s → Finds s c q → FindSteps c q (weight s q.place) (load_link s c q q.place)
+find_link s c q on finds = find_steps s c q (weight s q.place) (load_link s c q q.place) (link_sees s c q q.place on finds.searching)
+    (load_link_steps s c (length s.history) q q.place on (walks_now s c q on finds.searching) finds.searching finds.stands)
+
+pub find_record : (s : State) (c : ℕ) (q : Search) → Holds s → Finds s c q → FindSteps c q (weight s q.place) (load_searched s c q q.place (row_at s.rows))
+find_record s c q on finds = ⊎_elim
+    (λ (head : q.place ≡ AtHead). subst (λ (p : Place). FindSteps c q (weight s p) (load_searched s c q p (row_at s.rows))) (sym head) tt)
+    (λ (all : seen_at s c ≡ length s.history). find_steps s c q (weight s q.place) (load_searched s c q q.place (row_at s.rows)) (record_sees s c q q.place finds.seen)
+    (load_searched_steps s c (length s.history) q q.place on (walks_now s c q on finds.searching) (omega arith) finds.searching finds.stands))
+    finds.seen

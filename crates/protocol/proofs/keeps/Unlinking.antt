@@ -1,0 +1,321 @@
+-- An entry is unlinked, in the middle of the list or at its head.
+use Rattle.std.proofs.Common.{Bool, List, None, Option, Some, ap, arith, false, get_or, get_or-set_other, get_or-set_same, inl, inr, length, refl, set, subst, suc, sym, true, zero, ℕ, ⊎_elim, ◌+◌, ◌<◌, ◌∙◌, ◌≡◌, ◌≢◌, ◌≤◌, ◌⊎◌}
+use Rattle.std.proofs.lemmas.Bool.{and_from, and_parts, cases_eq, cases_lt, eq-eqb, eqb-true}
+use Rattle.std.proofs.lemmas.List.{get_or_past}
+use Rattle.std.proofs.lemmas.List.Quantifiers.{position-Some}
+use Rattle.std.proofs.lemmas.Slice.Zip.{get_or-zip, length-zip}
+use Rattle.std.specs.List.{zip}
+use Rattle.std.specs.Prelude.{◌==◌}
+use Rattle.protocol.proofs.history.Growing.{hold_was, leads_old}
+use Rattle.protocol.proofs.history.History.{at_cases, at_new, at_within, attached_old, ends_old, length-after_change, live_down, live_old, live_was, one_end, one_entry}
+use Rattle.protocol.proofs.slots.Numbers.{position_fails}
+use Rattle.protocol.specs.History.{EndsAt, IsAttached, IsLegal, IsLiveAt, after_change, change_at}
+use Rattle.protocol.specs.Invariant.{HeldStay, IsIn, Leads, LinksStay, ListShows, RowsShow, SlotsShow, To_end, To_entry}
+use Rattle.registry_values.specs.Slots.{is_live, leads_to, slot_before, slot_at}
+use Rattle.registry_values.specs.declared.entry.Change.{Change}
+use Rattle.registry_values.specs.declared.entry.Change.TheVariants.{Attach, Detach}
+use Rattle.registry_values.specs.declared.entry.Entry.{Entry}
+use Rattle.protocol.specs.declared.state.RecordWords.{RecordWords}
+use Rattle.registry_values.specs.declared.slot.Slot.{Slot}
+use Rattle.registry_values.specs.declared.slot.Slot.TheVariants.{Live, Retired, Vacant}
+use Rattle.protocol.proofs.slots.Occupied.{slot_cases, live_one}
+
+-- an attach is an older one
+pub attached_before : (h : List Change) (n : ℕ) (f : Entry) → IsAttached (after_change h (Detach n)) f → (f.number ≤ length h) × IsAttached h f
+attached_before h n f x = ⊎_elim
+    (λ (old : record { old : f.number ≤ length h; was : change_at h f.number ≡ Some (Attach f) }). (old.old, old.was))
+    (λ (new : record { new : f.number ≡ suc (length h); is : Attach f ≡ Detach n }). absurd (let q : Attach f ≡ Detach n = new.is in cc))
+    (at_cases h (Detach n) f.number (Attach f) x)
+
+pub legal_detach : (h : List Change) (e : Entry) → IsLegal h → IsLiveAt h (length h) e → IsLegal (after_change h (Detach e.number))
+legal_detach h e legal live = record {
+  numbered = λ k f x. ⊎_elim
+      (λ (old : record { old : k ≤ length h; was : change_at h k ≡ Some (Attach f) }). legal.numbered k f old.was)
+      (λ (new : record { new : k ≡ suc (length h); is : Attach f ≡ Detach e.number }). absurd (let q : Attach f ≡ Detach e.number = new.is in cc))
+      (at_cases h (Detach e.number) k (Attach f) x);
+  new_key = λ k f g x lg same. ⊎_elim
+      (λ (old : record { old : suc k ≤ length h; was : change_at h (suc k) ≡ Some (Attach f) }). legal.new_key k f g old.was (live_was h (Detach e.number) k g (omega (arith, old.old)) lg) same)
+      (λ (new : record { new : suc k ≡ suc (length h); is : Attach f ≡ Detach e.number }). absurd (let q : Attach f ≡ Detach e.number = new.is in cc))
+      (at_cases h (Detach e.number) (suc k) (Attach f) x);
+  new_slot = λ k f g x lg same. ⊎_elim
+      (λ (old : record { old : suc k ≤ length h; was : change_at h (suc k) ≡ Some (Attach f) }). legal.new_slot k f g old.was (live_was h (Detach e.number) k g (omega (arith, old.old)) lg) same)
+      (λ (new : record { new : suc k ≡ suc (length h); is : Attach f ≡ Detach e.number }). absurd (let q : Attach f ≡ Detach e.number = new.is in cc))
+      (at_cases h (Detach e.number) (suc k) (Attach f) x);
+  ends_live = λ k n x. ⊎_elim
+      (λ (old : record { old : suc k ≤ length h; was : change_at h (suc k) ≡ Some (Detach n) }).
+      let l : (f : Entry) × IsLiveAt h k f × (f.number ≡ n) = legal.ends_live k n old.was in
+      (l.0, live_old h (Detach e.number) k l.0 (omega (arith, old.old)) l.1, l.2))
+      (λ (new : record { new : suc k ≡ suc (length h); is : Detach n ≡ Detach e.number }).
+      let now : length h ≡ k = omega (arith, new.new) in
+      let same : e.number ≡ n = let q : Detach n ≡ Detach e.number = new.is in cc in
+      (e, live_old h (Detach e.number) k e (omega arith) (subst (λ (m : ℕ). IsLiveAt h m e) now live), same))
+      (at_cases h (Detach e.number) (suc k) (Detach n) x);
+}
+
+-- what is live after the detach: all that was, but for e
+pub still_there : (h : List Change) (e f : Entry) → IsLiveAt h (length h) f → f.number ≢ e.number → IsLiveAt (after_change h (Detach e.number)) (suc (length h)) f
+still_there h e f live off = record {
+  attached = attached_old h (Detach e.number) f live.attached;
+  begun = omega (arith, live.begun);
+  unended = λ p x. ⊎_elim
+      (λ (old : record { old : p ≤ length h; was : change_at h p ≡ Some (Detach f.number) }). absurd (omega (arith, live.unended p old.was, old.old)))
+      (λ (new : record { new : p ≡ suc (length h); is : Detach f.number ≡ Detach e.number }). absurd (off (let q : Detach f.number ≡ Detach e.number = new.is in cc)))
+      (at_cases h (Detach e.number) p (Detach f.number) x);
+}
+
+pub was_there : (h : List Change) (e f : Entry) → IsLiveAt (after_change h (Detach e.number)) (suc (length h)) f → IsLiveAt h (length h) f × (f.number ≢ e.number)
+was_there h e f live =
+    let att = attached_before h e.number f live.attached in (
+      live_was h (Detach e.number) (length h) f (omega arith) (live_down (after_change h (Detach e.number)) (suc (length h)) (length h) f live att.0 (omega arith)),
+      λ same. omega (arith, live.unended (suc (length h)) (at_new h (Detach e.number) ∙ ap (λ (n : ℕ). Some (Detach n)) (sym same))),
+    )
+
+-- a link that doesn't lead to e leads on as it did
+pub leads_past : (h : List Change) (e : Entry) (n x : ℕ) → IsLiveAt h (length h) e → (x ≡ suc e.slot → ⊥) → Leads h (length h) n x → Leads (after_change h (Detach e.number)) (suc (length h)) n x
+leads_past h e n zero le off (To_end none) = To_end (λ f live lt. none f (was_there h e f live).0 lt)
+leads_past h e n _ le off (To_entry g live lt most) = To_entry g
+    (still_there h e g live (λ same. off (ap (λ (i : Entry). suc i.slot) (one_entry h g e live.attached le.attached same)))) lt
+    (λ f lf low. most f (was_there h e f lf).0 low)
+
+-- of a link below e the same holds
+pub leads_under : (h : List Change) (e : Entry) (n x : ℕ) → n ≤ e.number → Leads h (length h) n x → Leads (after_change h (Detach e.number)) (suc (length h)) n x
+leads_under h e n zero le (To_end none) = To_end (λ f live lt. none f (was_there h e f live).0 lt)
+leads_under h e n _ le (To_entry g live lt most) = To_entry g (still_there h e g live (omega arith)) lt (λ f lf low. most f (was_there h e f lf).0 low)
+
+-- and a link that led to e takes e's own link
+pub leads_over : (h : List Change) (e : Entry) (n y : ℕ) → e.number < n → ((f : Entry) → IsLiveAt h (length h) f → f.number < n → f.number ≤ e.number)
+    → Leads h (length h) e.number y → Leads (after_change h (Detach e.number)) (suc (length h)) n y
+leads_over h e n zero lt top (To_end none) = To_end (λ f live low. none f (was_there h e f live).0 (omega (arith, top f (was_there h e f live).0 low, (was_there h e f live).1)))
+leads_over h e n _ lt top (To_entry g live under most) = To_entry g (still_there h e g live (omega arith)) (omega arith)
+    (λ f lf low. most f (was_there h e f lf).0 (omega (arith, top f (was_there h e f lf).0 low, (was_there h e f lf).1)))
+
+-- what a link to the slot of e says of e
+pub link_to : (h : List Change) (slots : List Slot) (e : Entry) (n x : ℕ) → SlotsShow h slots → slot_at slots e.slot ≡ Live e → x ≡ suc e.slot → Leads h (length h) n x
+    → (e.number < n) × ((f : Entry) → IsLiveAt h (length h) f → f.number < n → f.number ≤ e.number)
+link_to h slots e n zero show at is (To_end none) = absurd (omega arith)
+link_to h slots e n _ show at is (To_entry g live lt most) =
+    let same : g.slot ≡ e.slot = omega arith in
+    let one : g ≡ e = let q : Live g ≡ Live e = sym (show.placed g live) ∙ (ap (slot_at slots) same ∙ at) in cc in
+    (subst (λ (i : Entry). i.number < n) one lt, subst (λ (i : Entry). (f : Entry) → IsLiveAt h (length h) f → f.number < n → f.number ≤ i.number) one most)
+
+-- Some link leads to each live entry.
+pub find_link : (h : List Change) (slots : List Slot) (head : ℕ) (next : List ℕ) (e : Entry) → SlotsShow h slots → ListShows h slots head next → IsLiveAt h (length h) e
+    → (fuel n x : ℕ) → n ≤ e.number + fuel → e.number < n → Leads h (length h) n x
+    → (x ≡ suc e.slot) ⊎ ((g : Entry) × (slot_at slots g.slot ≡ Live g) × (get_or next g.slot 0 ≡ suc e.slot))
+find_link h slots head next e show list live zero n x le lt l = absurd (omega arith)
+find_link h slots head next e show list live (suc fuel) n zero le lt (To_end none) = absurd (none e live lt)
+find_link h slots head next e show list live (suc fuel) n _ le lt (To_entry g lg low most) =
+    let at : slot_at slots g.slot ≡ Live g = show.placed g lg in
+    let above : e.number ≤ g.number = most e live lt in
+    ⊎_elim
+    (λ (same : g.number ≡ e.number). inl (ap (λ (i : Entry). suc i.slot) (one_entry h g e lg.attached live.attached same)))
+    (λ (off : g.number ≡ e.number → ⊥). ⊎_elim
+    (λ (here : get_or next g.slot 0 ≡ suc e.slot). inr (g, at, here))
+    (λ (further : (i : Entry) × (slot_at slots i.slot ≡ Live i) × (get_or next i.slot 0 ≡ suc e.slot)). inr further)
+    (find_link h slots head next e show list live fuel g.number (get_or next g.slot 0) (omega arith) (omega arith) (list.links g.slot g at)))
+    (cases_eq g.number e.number)
+
+pub live_entry : (x : Slot) → is_live x ≡ true → (g : Entry) × (x ≡ Live g)
+live_entry Vacant is = absurd (let q : ◌≡◌ {A = Bool} false true = is in cc)
+live_entry (Live e) is = (e, refl)
+live_entry (Retired e) is = absurd (let q : ◌≡◌ {A = Bool} false true = is in cc)
+
+pub within_live : (slots : List Slot) (t : ℕ) (e : Entry) → slot_at slots t ≡ Live e → t < length slots
+within_live slots t e is = ⊎_elim
+    (λ (lt : t < length slots). lt)
+    (λ (ge : length slots ≤ t). absurd (let q : Vacant ≡ Live e = sym (get_or_past slots t Vacant ge) ∙ is in cc))
+    (cases_lt t (length slots))
+
+pub within_retired : (slots : List Slot) (t : ℕ) (e : Entry) → slot_at slots t ≡ Retired e → t < length slots
+within_retired slots t e is = ⊎_elim
+    (λ (lt : t < length slots). lt)
+    (λ (ge : length slots ≤ t). absurd (let q : Vacant ≡ Retired e = sym (get_or_past slots t Vacant ge) ∙ is in cc))
+    (cases_lt t (length slots))
+
+zip_at : (slots : List Slot) (next : List ℕ) (u : ℕ) → length next ≡ length slots → u < length slots → (u < length (zip slots next)) × (get_or (zip slots next) u (Vacant, 0) ≡ (slot_at slots u, get_or next u 0))
+zip_at slots next u size lt = (omega (arith, length-zip slots next), get_or-zip slots next u (Vacant, 0) lt (omega arith))
+
+-- the slot before t is a live one whose link leads to t
+pub before_leads : (slots : List Slot) (next : List ℕ) (t p : ℕ) → length next ≡ length slots → slot_before slots next t ≡ Some p → (g : Entry) × (slot_at slots p ≡ Live g) × (get_or next p 0 ≡ suc t)
+before_leads slots next t p size is =
+    let at = position-Some (leads_to (t + 1)) (zip slots next) p (Vacant, 0) is in
+    let pair = zip_at slots next p size (omega (arith, at.0, length-zip slots next)) in
+    let test : leads_to (t + 1) (slot_at slots p, get_or next p 0) ≡ true = subst (λ (q : Slot × ℕ). leads_to (t + 1) q ≡ true) pair.1 at.1 in
+    let parts = and_parts (is_live (slot_at slots p)) (get_or next p 0 == (t + 1)) test in
+    let g = live_entry (slot_at slots p) parts.0 in
+    (g.0, g.1, omega (arith, eqb-true (get_or next p 0) (t + 1) parts.1))
+
+-- where there is none, the head leads to e
+pub head_leads : (h : List Change) (slots : List Slot) (head : ℕ) (next : List ℕ) (e : Entry) → SlotsShow h slots → ListShows h slots head next → length next ≡ length slots → slot_at slots e.slot ≡ Live e
+    → slot_before slots next e.slot ≡ None → head ≡ suc e.slot
+head_leads h slots head next e show list size at none =
+    let live : IsLiveAt h (length h) e = (show.live e.slot e at).0 in
+    ⊎_elim
+    (λ (here : head ≡ suc e.slot). here)
+    (λ (there : (g : Entry) × (slot_at slots g.slot ≡ Live g) × (get_or next g.slot 0 ≡ suc e.slot)).
+    let pair = zip_at slots next there.0.slot size (within_live slots there.0.slot there.0 there.1) in
+    let test : leads_to (e.slot + 1) (slot_at slots there.0.slot, get_or next there.0.slot 0) ≡ true =
+    and_from (is_live (slot_at slots there.0.slot)) (get_or next there.0.slot 0 == (e.slot + 1)) (ap is_live there.1) (eq-eqb (get_or next there.0.slot 0) (e.slot + 1) (omega (arith, there.2))) in
+    absurd (position_fails (leads_to (e.slot + 1)) (zip slots next) there.0.slot (Vacant, 0) none pair.0 (subst (λ (q : Slot × ℕ). leads_to (e.slot + 1) q ≡ true) (sym pair.1) test)))
+    (find_link h slots head next e show list live (suc (length h)) (suc (length h)) head (omega arith) (omega (arith, live.begun)) list.first)
+
+-- where there is one, the head doesn't
+pub head_leads_on : (h : List Change) (slots : List Slot) (head : ℕ) (next : List ℕ) (e g : Entry) (p : ℕ) → SlotsShow h slots → ListShows h slots head next → slot_at slots e.slot ≡ Live e
+    → slot_at slots p ≡ Live g → get_or next p 0 ≡ suc e.slot → head ≡ suc e.slot → ⊥
+head_leads_on h slots head next e g p show list at before_at before_to is =
+    let lg = show.live p g before_at in
+    let top = link_to h slots e (suc (length h)) head show at is list.first in
+    let low = link_to h slots e g.number (get_or next p 0) show at before_to (list.links p g before_at) in
+    omega (arith, low.0, top.1 g lg.0 (omega (arith, lg.0.begun)))
+
+-- What is live after the detach is in another slot, and was live.
+pub live_before : (slots : List Slot) (e f : Entry) (u : ℕ) → e.slot < length slots → slot_at (set slots e.slot (Retired e)) u ≡ Live f → (u ≡ e.slot → ⊥) × (slot_at slots u ≡ Live f)
+live_before slots e f u lt is = ⊎_elim
+    (λ (same : (u ≡ e.slot) × (slot_at (set slots e.slot (Retired e)) u ≡ Retired e)). absurd (let q : Live f ≡ Retired e = sym is ∙ same.1 in cc))
+    (λ (off : (u ≡ e.slot → ⊥) × (slot_at (set slots e.slot (Retired e)) u ≡ slot_at slots u)). (off.0, sym off.1 ∙ is))
+    (slot_cases slots e.slot (Retired e) u lt)
+
+pub gone_before : (slots : List Slot) (e f : Entry) (u : ℕ) → e.slot < length slots → slot_at (set slots e.slot (Retired e)) u ≡ Retired f
+    → ((u ≡ e.slot) × (f ≡ e)) ⊎ ((u ≡ e.slot → ⊥) × (slot_at slots u ≡ Retired f))
+gone_before slots e f u lt is = ⊎_elim
+    (λ (same : (u ≡ e.slot) × (slot_at (set slots e.slot (Retired e)) u ≡ Retired e)). inl (same.0, (let q : Retired f ≡ Retired e = sym is ∙ same.1 in cc)))
+    (λ (off : (u ≡ e.slot → ⊥) × (slot_at (set slots e.slot (Retired e)) u ≡ slot_at slots u)). inr (off.0, sym off.1 ∙ is))
+    (slot_cases slots e.slot (Retired e) u lt)
+
+pub slots_detach : (h : List Change) (slots : List Slot) (e : Entry) → IsLegal h → slot_at slots e.slot ≡ Live e → SlotsShow h slots → SlotsShow (after_change h (Detach e.number)) (set slots e.slot (Retired e))
+slots_detach h slots e legal at show =
+    let lt : e.slot < length slots = within_live slots e.slot e at in
+    let le : IsLiveAt h (length h) e = (show.live e.slot e at).0 in
+    let size : length (after_change h (Detach e.number)) ≡ suc (length h) = length-after_change h (Detach e.number) in
+    record {
+      live = λ u f is.
+          let was = live_before slots e f u lt is in
+          let lf = show.live u f was.1 in
+          let off : f.number ≢ e.number = λ same. was.0 (sym lf.1 ∙ ap (λ (g : Entry). g.slot) (one_entry h f e lf.0.attached le.attached same)) in
+          (subst (λ (n : ℕ). IsLiveAt (after_change h (Detach e.number)) n f) (sym size) (still_there h e f lf.0 off), lf.1);
+      placed = λ f live.
+          let was = was_there h e f (subst (λ (n : ℕ). IsLiveAt (after_change h (Detach e.number)) n f) size live) in
+          let now : slot_at slots f.slot ≡ Live f = show.placed f was.0 in
+          let off : f.slot ≢ e.slot = λ same. was.1 (let q : Live f ≡ Live e = sym now ∙ (ap (slot_at slots) same ∙ at) in let one : f ≡ e = cc in ap (λ (g : Entry). g.number) one) in
+          get_or-set_other slots e.slot f.slot (Retired e) Vacant off ∙ now;
+      retired = λ u f is. ⊎_elim
+          (λ (same : (u ≡ e.slot) × (f ≡ e)). subst (λ (g : Entry). IsAttached (after_change h (Detach e.number)) g × (g.slot ≡ u) × ((p : ℕ) × EndsAt (after_change h (Detach e.number)) g.number p)) (sym same.1)
+          (attached_old h (Detach e.number) e le.attached, sym same.0, (suc (length h), at_new h (Detach e.number))))
+          (λ (off : (u ≡ e.slot → ⊥) × (slot_at slots u ≡ Retired f)).
+          let was = show.retired u f off.1 in
+          (attached_old h (Detach e.number) f was.0, was.1, (was.2.0, ends_old h (Detach e.number) f.number was.2.0 was.2.1)))
+          (gone_before slots e f u lt is);
+    }
+
+pub rows_detach : (slots : List Slot) (rows : List RecordWords) (e : Entry) → slot_at slots e.slot ≡ Live e → RowsShow slots rows → RowsShow (set slots e.slot (Retired e)) rows
+rows_detach slots rows e at show u f is = ⊎_elim
+    (λ (live : slot_at (set slots e.slot (Retired e)) u ≡ Live f). show u f (inl (live_before slots e f u (within_live slots e.slot e at) live).1))
+    (λ (gone : slot_at (set slots e.slot (Retired e)) u ≡ Retired f). ⊎_elim
+    (λ (same : (u ≡ e.slot) × (f ≡ e)). show u f (inl (ap (slot_at slots) same.0 ∙ (at ∙ ap Live (sym same.1)))))
+    (λ (off : (u ≡ e.slot → ⊥) × (slot_at slots u ≡ Retired f)). show u f (inr off.1))
+    (gone_before slots e f u (within_live slots e.slot e at) gone))
+    is
+
+pub held_detach : (h : List Change) (slots : List Slot) (begins : List (Option ℕ)) (e : Entry) → slot_at slots e.slot ≡ Live e → HeldStay h slots begins
+    → HeldStay (after_change h (Detach e.number)) (set slots e.slot (Retired e)) begins
+held_detach h slots begins e at held c b f is hold =
+    let lt : e.slot < length slots = within_live slots e.slot e at in
+    let was : IsIn f (slot_at slots f.slot) = held c b f is (hold_was h (Detach e.number) b f hold (attached_before h e.number f hold.attached).0) in
+    ⊎_elim
+    (λ (same : (f.slot ≡ e.slot) × (slot_at (set slots e.slot (Retired e)) f.slot ≡ Retired e)).
+    let one : f ≡ e = live_one f e (slot_at slots f.slot) (ap (slot_at slots) same.0 ∙ at) was in
+    inr (same.1 ∙ ap Retired (sym one)))
+    (λ (off : (f.slot ≡ e.slot → ⊥) × (slot_at (set slots e.slot (Retired e)) f.slot ≡ slot_at slots f.slot)). subst (IsIn f) (sym off.1) was)
+    (slot_cases slots e.slot (Retired e) f.slot lt)
+
+-- The end of another entry is an older one.
+pub end_before : (h : List Change) (slots : List Slot) (e f : Entry) (u p : ℕ) → SlotsShow h slots → IsLiveAt h (length h) e → slot_at slots u ≡ Retired f → EndsAt (after_change h (Detach e.number)) f.number p
+    → (p ≤ length h) × EndsAt h f.number p
+end_before h slots e f u p show le gone ends = ⊎_elim
+    (λ (old : record { old : p ≤ length h; was : change_at h p ≡ Some (Detach f.number) }). (old.old, old.was))
+    (λ (new : record { new : p ≡ suc (length h); is : Detach f.number ≡ Detach e.number }).
+    let was = (show.retired u f gone).2 in
+    let same : f.number ≡ e.number = let q : Detach f.number ≡ Detach e.number = new.is in cc in
+    let x : EndsAt h e.number was.0 = subst (λ (n : ℕ). EndsAt h n was.0) same was.1 in
+    absurd (omega (arith, le.unended was.0 x, (at_within h was.0 (Detach e.number) x).1)))
+    (at_cases h (Detach e.number) p (Detach f.number) ends)
+
+-- the links of unlinked entries, where only links of live slots may have been written
+pub links_detach : (h : List Change) (slots : List Slot) (head : ℕ) (next now : List ℕ) (begins : List (Option ℕ)) (e : Entry) → IsLegal h → slot_at slots e.slot ≡ Live e → SlotsShow h slots → ListShows h slots head next
+    → ((u : ℕ) (f : Entry) → IsIn f (slot_at slots u) → ((slot_at slots u ≡ Live f) → (u ≡ e.slot)) → get_or now u 0 ≡ get_or next u 0)
+    → LinksStay h slots next begins → LinksStay (after_change h (Detach e.number)) (set slots e.slot (Retired e)) now begins
+links_detach h slots head next now begins e legal at show list kept links u p c b f is ends in_ low =
+    let lt : e.slot < length slots = within_live slots e.slot e at in
+    let le : IsLiveAt h (length h) e = (show.live e.slot e at).0 in
+    ⊎_elim
+    (λ (same : (u ≡ e.slot) × (f ≡ e)).
+    let there : slot_at slots u ≡ Live f = ap (slot_at slots) same.0 ∙ (at ∙ ap Live (sym same.1)) in
+    let word : get_or now u 0 ≡ get_or next u 0 = kept u f (inl there) (λ x. same.0) in
+    let when : p ≡ suc (length h) = one_end (after_change h (Detach e.number)) (legal_detach h e legal le) f.number p (suc (length h)) ends (at_new h (Detach e.number) ∙ ap (λ (g : Entry). Some (Detach g.number)) (sym same.1)) in
+    let under : Leads (after_change h (Detach e.number)) (suc (length h)) f.number (get_or next u 0) = leads_under h e f.number (get_or next u 0) (omega (arith, ap (λ (g : Entry). g.number) same.1)) (list.links u f there) in
+    subst (λ (k : ℕ). Leads (after_change h (Detach e.number)) k f.number (get_or now u 0)) (sym when) (subst (Leads (after_change h (Detach e.number)) (suc (length h)) f.number) (sym word) under))
+    (λ (off : (u ≡ e.slot → ⊥) × (slot_at slots u ≡ Retired f)).
+    let was = end_before h slots e f u p show le off.1 ends in
+    let word : get_or now u 0 ≡ get_or next u 0 = kept u f (inr off.1) (λ x. absurd (let q : Live f ≡ Retired f = sym x ∙ off.1 in cc)) in
+    subst (Leads (after_change h (Detach e.number)) p f.number) (sym word) (leads_old h (Detach e.number) p f.number (get_or next u 0) was.0 (links u p c b f off.1 was.1 in_ low)))
+    (gone_before slots e f u lt is)
+
+-- The list without e: e was the first.
+pub list_unlink_head : (h : List Change) (slots : List Slot) (head : ℕ) (next : List ℕ) (e : Entry) → slot_at slots e.slot ≡ Live e → SlotsShow h slots → head ≡ suc e.slot → ListShows h slots head next
+    → ListShows (after_change h (Detach e.number)) (set slots e.slot (Retired e)) (get_or next e.slot 0) next
+list_unlink_head h slots head next e at show is list =
+    let lt : e.slot < length slots = within_live slots e.slot e at in
+    let le : IsLiveAt h (length h) e = (show.live e.slot e at).0 in
+    let size : length (after_change h (Detach e.number)) ≡ suc (length h) = length-after_change h (Detach e.number) in
+    let top = link_to h slots e (suc (length h)) head show at is list.first in
+    record {
+      first = subst (λ (n : ℕ). Leads (after_change h (Detach e.number)) n (suc n) (get_or next e.slot 0)) (sym size)
+          (leads_over h e (suc (suc (length h))) (get_or next e.slot 0) (omega arith) (λ f lf low. top.1 f lf (omega (arith, lf.begun))) (list.links e.slot e at));
+      links = λ u f live.
+          let was = live_before slots e f u lt live in
+          let lf = show.live u f was.1 in
+          subst (λ (n : ℕ). Leads (after_change h (Detach e.number)) n f.number (get_or next u 0)) (sym size)
+          (leads_past h e f.number (get_or next u 0) le (λ x.
+          let to = link_to h slots e f.number (get_or next u 0) show at x (list.links u f was.1) in
+          omega (arith, to.0, top.1 f lf.0 (omega (arith, lf.0.begun)))) (list.links u f was.1));
+    }
+
+-- The list without e: the link of the live entry before it was written.
+pub list_unlink_mid : (h : List Change) (slots : List Slot) (head : ℕ) (next : List ℕ) (e g : Entry) (q : ℕ) → slot_at slots e.slot ≡ Live e → SlotsShow h slots → length next ≡ length slots → (head ≡ suc e.slot → ⊥)
+    → slot_at slots q ≡ Live g → get_or next q 0 ≡ suc e.slot → ListShows h slots head next
+    → ListShows (after_change h (Detach e.number)) (set slots e.slot (Retired e)) head (set next q (get_or next e.slot 0))
+list_unlink_mid h slots head next e g q at show same_size off before_at before_to list =
+    let lt : e.slot < length slots = within_live slots e.slot e at in
+    let le : IsLiveAt h (length h) e = (show.live e.slot e at).0 in
+    let lg = show.live q g before_at in
+    let ql : q < length next = omega (arith, within_live slots q g before_at) in
+    let size : length (after_change h (Detach e.number)) ≡ suc (length h) = length-after_change h (Detach e.number) in
+    let top = link_to h slots e g.number (get_or next q 0) show at before_to (list.links q g before_at) in
+    record {
+      first = subst (λ (n : ℕ). Leads (after_change h (Detach e.number)) n (suc n) head) (sym size)
+          (leads_first head (leads_past h e (suc (length h)) head le off list.first));
+      links = λ u f live.
+          let was = live_before slots e f u lt live in
+          let lf = show.live u f was.1 in
+          subst (λ (n : ℕ). Leads (after_change h (Detach e.number)) n f.number (get_or (set next q (get_or next e.slot 0)) u 0)) (sym size)
+          (⊎_elim
+          (λ (same : u ≡ q).
+          let one : g ≡ f = let x : Live g ≡ Live f = sym before_at ∙ (ap (slot_at slots) (sym same) ∙ was.1) in cc in
+          let word : get_or (set next q (get_or next e.slot 0)) u 0 ≡ get_or next e.slot 0 = ap (λ (k : ℕ). get_or (set next q (get_or next e.slot 0)) k 0) same ∙ get_or-set_same next q (get_or next e.slot 0) 0 ql in
+          subst (λ (i : Entry). Leads (after_change h (Detach e.number)) (suc (length h)) i.number (get_or (set next q (get_or next e.slot 0)) u 0)) one
+          (subst (Leads (after_change h (Detach e.number)) (suc (length h)) g.number) (sym word) (leads_over h e g.number (get_or next e.slot 0) top.0 top.1 (list.links e.slot e at))))
+          (λ (other : u ≡ q → ⊥).
+          subst (Leads (after_change h (Detach e.number)) (suc (length h)) f.number) (sym (get_or-set_other next q u (get_or next e.slot 0) 0 other))
+          (leads_past h e f.number (get_or next u 0) le (λ x.
+          let to = link_to h slots e f.number (get_or next u 0) show at x (list.links u f was.1) in
+          let apart : f.number ≢ g.number = λ same. other (sym lf.1 ∙ (ap (λ (i : Entry). i.slot) (one_entry h f g lf.0.attached lg.0.attached same) ∙ lg.1)) in
+          ⊎_elim
+          (λ (low : f.number < g.number). omega (arith, top.1 f lf.0 low, to.0))
+          (λ (high : g.number ≤ f.number). omega (arith, to.1 g lg.0 (omega arith), top.0))
+          (cases_lt f.number g.number)) (list.links u f was.1)))
+          (cases_eq u q));
+    }
+  where
+    leads_first : (x : ℕ) → Leads (after_change h (Detach e.number)) (suc (length h)) (suc (length h)) x → Leads (after_change h (Detach e.number)) (suc (length h)) (suc (suc (length h))) x
+    leads_first zero (To_end none) = To_end (λ f live low. none f live (omega (arith, (was_there h e f live).0.begun)))
+    leads_first _ (To_entry i live low most) = To_entry i live (omega arith) (λ f lf high. most f lf (omega (arith, (was_there h e f lf).0.begun)))

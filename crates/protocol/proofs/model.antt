@@ -1,0 +1,5 @@
+pub mod Picturing
+pub mod Refining
+pub mod RefiningEntries
+pub mod RefiningReferences
+pub mod RefiningSections

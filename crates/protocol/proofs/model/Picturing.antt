@@ -1,0 +1,95 @@
+-- When two model states are the same, what written lists show, and runs of few steps.
+use Rattle.std.proofs.Common.{◌≡◌, ℕ, ◌<◌, ◌≤◌, ◌⊎◌, ⊎_elim, List, length, get_or, set, cond, Bool, true, false, Option, Some, None, refl, sym, ap, subst, ◌∙◌, get_or-set_same, get_or-set_other}
+use Rattle.std.proofs.lemmas.Bool.{cases_eq, eq-eqb, ne_eqb}
+use Rattle.protocol.specs.Events.{Outcome, guard, with_some}
+use Rattle.protocol.specs.Invariant.{Holds}
+use Rattle.protocol.specs.Model.{put, Model, IsModelStep, IsModelRun, Stays, Goes_on}
+use Rattle.protocol.specs.Picture.{picture}
+use Rattle.protocol.proofs.slots.Occupied.{written_cases}
+
+-- two model states that agree place by place
+pub record Alike (a b : Model) : Type 0 where
+  pub history : a.history ≡ b.history
+  pub sections : (c : ℕ) → a.sections c ≡ b.sections c
+  pub passes : (c : ℕ) → a.passes c ≡ b.passes c
+  pub lookups : (c : ℕ) → a.lookups c ≡ b.lookups c
+  pub found : (c : ℕ) → a.found c ≡ b.found c
+  pub passive : (c n : ℕ) → a.passive c n ≡ b.passive c n
+  pub locals : (n : ℕ) → a.locals n ≡ b.locals n
+  pub occupants : (t : ℕ) → a.occupants t ≡ b.occupants t
+  pub keeps : (t : ℕ) → a.keeps t ≡ b.keeps t
+
+-- are equal, by function extensionality
+pub same_model : (a b : Model) → Alike a b → a ≡ b
+same_model a b alike = λ i. record {
+  history = alike.history i;
+  sections = λ c. alike.sections c i;
+  passes = λ c. alike.passes c i;
+  lookups = λ c. alike.lookups c i;
+  found = λ c. alike.found c i;
+  passive = λ c n. alike.passive c n i;
+  locals = λ n. alike.locals n i;
+  occupants = λ t. alike.occupants t i;
+  keeps = λ t. alike.keeps t i;
+}
+
+-- the pictures are equal: no step
+pub no_step : (a b : Model) → Alike a b → IsModelRun a b
+no_step a b alike = subst (IsModelRun a) (same_model a b alike) Stays
+
+pub one_step : (m a b : Model) → IsModelStep m a → Alike a b → IsModelRun m b
+one_step m a b step alike = subst (IsModelRun m) (same_model a b alike) (Goes_on m a Stays step)
+
+pub two_steps : (m a n b : Model) → IsModelStep m a → IsModelStep a n → Alike n b → IsModelRun m b
+two_steps m a n b first second alike = subst (IsModelRun m) (same_model n b alike) (Goes_on a n (Goes_on m a Stays first) second)
+
+-- runs one after the other
+pub join_runs : (a b c : Model) → IsModelRun a b → IsModelRun b c → IsModelRun a c
+join_runs a b _ first Stays = first
+join_runs a b _ first (Goes_on d e rest step) = Goes_on d e (join_runs a b d first rest) step
+
+-- a function with one value put
+pub put_here : {X : Type 0} (f : ℕ → X) (i : ℕ) (x : X) → put f i x i ≡ x
+put_here f i x = ap (λ (b : Bool). cond b x (f i)) (eq-eqb i i refl)
+
+pub put_other : {X : Type 0} (f : ℕ → X) (i : ℕ) (x : X) (j : ℕ) → (j ≡ i → ⊥) → put f i x j ≡ f j
+put_other f i x j off = ap (λ (b : Bool). cond b x (f j)) (ne_eqb j i off)
+
+-- is g where g has that value and is f elsewhere
+pub put_is : {X : Type 0} (f g : ℕ → X) (i : ℕ) (x : X) → x ≡ g i → ((j : ℕ) → (j ≡ i → ⊥) → f j ≡ g j) → (j : ℕ) → put f i x j ≡ g j
+put_is f g i x here off j = ⊎_elim
+    (λ (same : j ≡ i). ap (put f i x) same ∙ (put_here f i x ∙ (here ∙ ap g (sym same))))
+    (λ (no : j ≡ i → ⊥). put_other f i x j no ∙ off j no)
+    (cases_eq j i)
+
+pub put_twice : {X : Type 0} (f g : ℕ → ℕ → X) (c n : ℕ) (x : X) → x ≡ g c n → ((m : ℕ) → (m ≡ n → ⊥) → f c m ≡ g c m) → ((j m : ℕ) → (j ≡ c → ⊥) → f j m ≡ g j m)
+    → (j m : ℕ) → put f c (put (f c) n x) j m ≡ g j m
+put_twice {X} f g c n x here beside off j m = ⊎_elim
+    (λ (same : j ≡ c). ap (λ (k : ℕ). put f c (put (f c) n x) k m) same ∙ (ap (λ (h : ℕ → X). h m) (put_here f c (put (f c) n x)) ∙ (put_is (f c) (g c) n x here beside m ∙ ap (λ (k : ℕ). g k m) (sym same))))
+    (λ (no : j ≡ c → ⊥). ap (λ (h : ℕ → X). h m) (put_other f c (put (f c) n x) j no) ∙ off j m no)
+    (cases_eq j c)
+
+-- a list after a write shows the function with one value put
+pub written : {X Y : Type 0} (f : X → Y) (d : X) (xs : List X) (c : ℕ) (x : X) → c < length xs → (j : ℕ) → put (λ k. f (get_or xs k d)) c (f x) j ≡ f (get_or (set xs c x) j d)
+written f d xs c x lt j = put_is (λ k. f (get_or xs k d)) (λ k. f (get_or (set xs c x) k d)) c (f x)
+    (ap f (sym (get_or-set_same xs c x d lt))) (λ k off. ap f (sym (get_or-set_other xs c k x d off))) j
+
+-- or the same function, where what it shows of that place stays
+pub unwritten : {X Y : Type 0} (f : X → Y) (d : X) (xs : List X) (c : ℕ) (x : X) → f (get_or xs c d) ≡ f x → (j : ℕ) → f (get_or xs j d) ≡ f (get_or (set xs c x) j d)
+unwritten f d xs c x stays j = ⊎_elim
+    (λ (here : (j ≡ c) × (get_or (set xs c x) j d ≡ x)). ap (λ (k : ℕ). f (get_or xs k d)) here.0 ∙ (stays ∙ ap f (sym here.1)))
+    (λ (off : ((j ≡ c → ⊥) ⊎ (length xs ≤ c)) × (get_or (set xs c x) j d ≡ get_or xs j d)). ap f (sym off.1))
+    (written_cases d xs c x j)
+
+-- what an outcome must give: from the invariant after it, a run from m to its picture
+abbrev pub Makes : Model → Option Outcome → Type 0
+Makes m None = Unit {0}
+Makes m (Some o) = Holds o.state → IsModelRun m (picture o.state)
+
+pub makes_guard : (m : Model) (b : Bool) (o : Option Outcome) → (b ≡ true → Makes m o) → Makes m (guard b o)
+makes_guard m true o made = made refl
+makes_guard m false o made = tt
+
+pub makes_some : {X : Type 0} (m : Model) (o : Option X) (f : X → Option Outcome) → ((x : X) → o ≡ Some x → Makes m (f x)) → Makes m (with_some o f)
+makes_some m None f made = tt
+makes_some m (Some x) f made = made x refl

@@ -1,0 +1,290 @@
+-- The events that attach, detach, keep and vacate make steps of the model.
+use Rattle.std.proofs.Common.{◌≡◌, ℕ, suc, ◌+◌, ◌-◌, ◌<◌, ◌≤◌, ◌⊎◌, inl, inr, ⊎_elim, List, length, get_or, set, Option, Some, None, true, not, ◌&&◌, ◌==◌, refl, sym, ap, subst, ◌∙◌, arith, sum_by, eqb-true}
+use Rattle.std.proofs.lemmas.Bool.{and_parts, cases_eq, cases_lt}
+use Rattle.std.proofs.lemmas.Option.{none-some, same_Some}
+use Rattle.registry_values.specs.declared.entry.Entry.{Entry}
+use Rattle.registry_values.specs.declared.entry.Change.{Change}
+use Rattle.registry_values.specs.declared.entry.Change.TheVariants.{Attach, Detach}
+use Rattle.registry_values.specs.declared.slot.Slot.{Slot}
+use Rattle.registry_values.specs.declared.slot.Slot.TheVariants.{Vacant, Live, Retired}
+use Rattle.protocol.specs.declared.state.LocalPlace.TheVariants.{Free, Standing}
+use Rattle.protocol.specs.declared.state.Due.{Due}
+use Rattle.protocol.specs.declared.state.Due.TheVariants.{Rest}
+use Rattle.protocol.specs.History.{after_change, IsLegal, EndsAt}
+use Rattle.registry_values.specs.Slots.{key_of, slot_at, slot_of, slot_before, is_taken}
+use Rattle.protocol.specs.State.{State, row_at, passive_at, kept_at, local_at}
+use Rattle.protocol.specs.Events.{after_row_store, after_count_store, after_link_store, may_write, has_room, are_unused, keeps_rightly, entry_of, may_publish, after_publish, retiring, unlinking, after_unpublish, is_driver_slot, may_keep, after_keep, is_drained, after_kept_sub, may_vacate, after_vacate}
+use Rattle.protocol.specs.Invariant.{Holds, IsIn, SlotsShow, held_at, standing_of, in_hand}
+use Rattle.protocol.specs.Model.{put, Model, IsUnheld, IsDriverHere, IsModelRun, Stays}
+use Rattle.protocol.specs.Model
+use Rattle.protocol.specs.Picture.{number_in, passive_in, waiting_of, locals_of, picture}
+use Rattle.protocol.proofs.history.History.{one_entry}
+use Rattle.protocol.proofs.keeps.Searching.{within_some}
+use Rattle.protocol.proofs.slots.Occupied.{in_other, in_written, not_vacant, live_one, in_within, in_published, in_unpublished, in_vacated, attached_in, slot_has}
+use Rattle.protocol.proofs.slots.Numbers.{slot_number}
+use Rattle.protocol.proofs.keeps.SectionKeeps.{none_from}
+use Rattle.protocol.proofs.keeps.ListKeeps.{may_write_tells, entry_shows}
+use Rattle.protocol.proofs.keeps.MarkKeeps.{is_drained_tells}
+use Rattle.protocol.proofs.counts.CountBounds.{none_held_at_bias}
+use Rattle.protocol.proofs.keeps.Drivers.{HasDriver, slot_has_driver}
+use Rattle.protocol.proofs.counts.HeldSums.{unreferred, standing_counts}
+use Rattle.protocol.proofs.counts.Sums.{one_at, none_at, standing_within, local_changed}
+use Rattle.protocol.proofs.model.Picturing.{one_step, two_steps, put_here, put_other, put_is, written, unwritten}
+
+-- Slots change, and the references that a number has stay.
+
+-- the entry n is in the slot u
+abbrev pub At : List Slot → ℕ → ℕ → Type 0
+At slots n u = (e : Entry) × IsIn e (slot_at slots u) × (e.number ≡ n)
+
+pub own_slot : (h : List Change) (slots : List Slot) (n u : ℕ) → SlotsShow h slots → At slots n u → slot_of slots n ≡ Some u
+own_slot h slots n u show at = ap (slot_of slots) (sym at.2) ∙ slot_number h slots at.0 u show at.1
+
+-- where the slot of a number stays, or has no passive references
+pub passive_moved : (h k : List Change) (slots others : List Slot) (passive : List (List ℕ)) (c n : ℕ) → SlotsShow h slots → SlotsShow k others
+    → ((u : ℕ) → At slots n u → At others n u ⊎ (passive_at passive c u ≡ 0)) → ((u : ℕ) → At others n u → At slots n u ⊎ (passive_at passive c u ≡ 0))
+    → passive_in passive c (slot_of slots n) ≡ passive_in passive c (slot_of others n)
+passive_moved h k slots others passive c n show later forth back = go (slot_of slots n) (slot_of others n) refl refl
+  where
+    go : (o p : Option ℕ) → slot_of slots n ≡ o → slot_of others n ≡ p → passive_in passive c o ≡ passive_in passive c p
+    go None None before after = refl
+    go None (Some v) before after = ⊎_elim
+        (λ (at : At slots n v). absurd (none-some v (sym before ∙ own_slot h slots n v show at)))
+        (λ (none : passive_at passive c v ≡ 0). sym none)
+        (back v (slot_has others n v after).1)
+    go (Some u) None before after = ⊎_elim
+        (λ (at : At others n u). absurd (none-some u (sym after ∙ own_slot k others n u later at)))
+        (λ (none : passive_at passive c u ≡ 0). none)
+        (forth u (slot_has slots n u before).1)
+    go (Some u) (Some v) before after = ⊎_elim
+        (λ (at : At others n u). ap (passive_at passive c) (same_Some u v (sym (own_slot k others n u later at) ∙ after)))
+        (λ (none : passive_at passive c u ≡ 0). ⊎_elim
+        (λ (at : At slots n v). ap (passive_at passive c) (same_Some u v (sym before ∙ own_slot h slots n v show at)))
+        (λ (also : passive_at passive c v ≡ 0). none ∙ sym also)
+        (back v (slot_has others n v after).1))
+        (forth u (slot_has slots n u before).1)
+
+-- at rest no reference waits for the keeper
+waiting_rest : (slots : List Slot) (n : ℕ) (due : Due) → due ≡ Rest → waiting_of slots n due ≡ 0
+waiting_rest slots n due is = ap (waiting_of slots n) is
+
+-- Stores to a vacant slot show nothing.
+
+pub row_store_refines : (s : State) (t k v : ℕ) → IsModelRun (picture s) (picture (after_row_store s t k v))
+row_store_refines s t k v = Stays
+
+pub count_store_refines : (s : State) (t c v : ℕ) → IsModelRun (picture s) (picture (after_count_store s t c v))
+count_store_refines s t c v = Stays
+
+pub link_store_refines : (s : State) (t v : ℕ) → IsModelRun (picture s) (picture (after_link_store s t v))
+link_store_refines s t v = Stays
+
+-- Publish and Unpublish
+
+publish_own : (s : State) (e : Entry) → Holds s → Holds (after_publish s e.slot e) → may_publish s e.slot e ≡ true → IsModelRun (picture s) (picture (after_publish s e.slot e))
+publish_own s e on now ok =
+    let p0 = and_parts (may_write s e.slot) (e.number == length s.history + 1 && (not (is_taken (key_of e) s.slots)
+    && (has_room s && (get_or s.next e.slot 0 == s.head && (are_unused s e.slot && keeps_rightly (kept_at s.keeps e.slot) e.rec.kind))))) ok in
+    let p1 = and_parts (e.number == length s.history + 1) (not (is_taken (key_of e) s.slots)
+    && (has_room s && (get_or s.next e.slot 0 == s.head && (are_unused s e.slot && keeps_rightly (kept_at s.keeps e.slot) e.rec.kind)))) p0.1 in
+    let p2 = and_parts (not (is_taken (key_of e) s.slots)) (has_room s && (get_or s.next e.slot 0 == s.head && (are_unused s e.slot && keeps_rightly (kept_at s.keeps e.slot) e.rec.kind))) p1.1 in
+    let p3 = and_parts (has_room s) (get_or s.next e.slot 0 == s.head && (are_unused s e.slot && keeps_rightly (kept_at s.keeps e.slot) e.rec.kind)) p2.1 in
+    let p4 = and_parts (get_or s.next e.slot 0 == s.head) (are_unused s e.slot && keeps_rightly (kept_at s.keeps e.slot) e.rec.kind) p3.1 in
+    let p5 = and_parts (are_unused s e.slot) (keeps_rightly (kept_at s.keeps e.slot) e.rec.kind) p4.1 in
+    let told = may_write_tells s e.slot on.shape p0.0 in
+    let lt : e.slot < length s.slots = told.1 in
+    let vacant : slot_at s.slots e.slot ≡ Vacant = told.2 in
+    let number : e.number ≡ suc (length s.history) = omega (arith, eqb-true e.number (length s.history + 1) p1.0) in
+    one_step (picture s) _ (picture (after_publish s e.slot e)) (Model.Attaches e (ap number_in vacant) now.legal number p5.1) (record {
+      history = refl;
+      sections = λ c. refl;
+      passes = λ c. refl;
+      lookups = λ c. refl;
+      found = λ c. refl;
+      passive = λ c n. passive_moved s.history (after_change s.history (Attach e)) s.slots (set s.slots e.slot (Live e)) s.passive c n on.slots now.slots
+          (λ u at. inl (at.0, in_other s.slots e.slot (Live e) at.0 u (λ same. not_vacant at.0 (slot_at s.slots u) (ap (slot_at s.slots) same ∙ vacant) at.1) at.1, at.2))
+          (λ u at. ⊎_elim
+          (λ (new : (u ≡ e.slot) × (at.0 ≡ e)). inr (ap (passive_at s.passive c) new.0 ∙ on.passive.vacant c e.slot vacant))
+          (λ (old : IsIn at.0 (slot_at s.slots u)). inl (at.0, old, at.2))
+          (in_published s.slots e.slot u e at.0 lt at.1));
+      locals = λ n. ap (λ (w : ℕ). sum_by (standing_of n) s.locals + sum_by (in_hand n) s.hands + w) (waiting_rest s.slots n s.due told.0 ∙ sym (waiting_rest (set s.slots e.slot (Live e)) n s.due told.0));
+      occupants = written number_in Vacant s.slots e.slot (Live e) lt;
+      keeps = λ t. refl;
+    })
+
+pub publish_refines : (s : State) (t : ℕ) (e : Entry) → Holds s → Holds (after_publish s t e) → entry_of t (row_at s.rows t) ≡ Some e → may_publish s t e ≡ true → IsModelRun (picture s) (picture (after_publish s t e))
+publish_refines s t e on now is ok =
+    subst (λ (u : ℕ). Holds (after_publish s u e) → may_publish s u e ≡ true → IsModelRun (picture s) (picture (after_publish s u e)))
+    (entry_shows t (row_at s.rows t) e is).0 (λ later may. publish_own s e on later may) now ok
+
+retiring_refines : (s : State) (t : ℕ) (e : Entry) → Holds s → s.due ≡ Rest → slot_at s.slots t ≡ Live e → IsLegal (after_change s.history (Detach e.number)) → SlotsShow (after_change s.history (Detach e.number)) (set s.slots t (Retired e))
+    → IsModelRun (picture s) (picture (retiring s t e))
+retiring_refines s t e on rest at legal later =
+    one_step (picture s) _ (picture (retiring s t e)) (Model.Detaches e.number legal) (record {
+      history = refl;
+      sections = λ c. refl;
+      passes = λ c. refl;
+      lookups = λ c. refl;
+      found = λ c. refl;
+      passive = λ c n. passive_moved s.history (after_change s.history (Detach e.number)) s.slots (set s.slots t (Retired e)) s.passive c n on.slots later
+          (λ u was. ⊎_elim
+          (λ (same : u ≡ t).
+          let one : was.0 ≡ e = live_one was.0 e (slot_at s.slots t) at (subst (λ (k : ℕ). IsIn was.0 (slot_at s.slots k)) same was.1) in
+          inl (e, subst (λ (k : ℕ). IsIn e (slot_at (set s.slots t (Retired e)) k)) (sym same) (in_written s.slots t (Retired e) e (in_within s.slots t e (inl at)) (inr refl)), ap (λ (f : Entry). f.number) (sym one) ∙ was.2))
+          (λ (off : u ≡ t → ⊥). inl (was.0, in_other s.slots t (Retired e) was.0 u off was.1, was.2))
+          (cases_eq u t))
+          (λ u was. inl (was.0, in_unpublished s.slots t u e was.0 at was.1, was.2));
+      locals = λ n. ap (λ (w : ℕ). sum_by (standing_of n) s.locals + sum_by (in_hand n) s.hands + w) (waiting_rest s.slots n s.due rest);
+      occupants = unwritten number_in Vacant s.slots t (Retired e) (ap number_in at);
+      keeps = λ u. refl;
+    })
+
+unlinked_refines : (s : State) (t : ℕ) (e : Entry) (before : Option ℕ) → Holds s → Holds (retiring (unlinking s t before) t e) → s.due ≡ Rest → slot_at s.slots t ≡ Live e → IsModelRun (picture s) (picture (retiring (unlinking s t before) t e))
+unlinked_refines s t e None on now rest at = retiring_refines s t e on rest at now.legal now.slots
+unlinked_refines s t e (Some p) on now rest at = retiring_refines s t e on rest at now.legal now.slots
+
+pub unpublish_refines : (s : State) (t : ℕ) (e : Entry) → Holds s → Holds (after_unpublish s t e) → s.due ≡ Rest → slot_at s.slots t ≡ Live e → IsModelRun (picture s) (picture (after_unpublish s t e))
+unpublish_refines s t e on now rest at = unlinked_refines s t e (slot_before s.slots s.next t) on now rest at
+
+-- Keep
+
+pub number_of : (x : Slot) (e : Entry) → IsIn e x → number_in x ≡ Some e.number
+number_of x e is = ⊎_elim (λ (live : x ≡ Live e). ap number_in live) (λ (gone : x ≡ Retired e). ap number_in gone) is
+
+pub keep_refines : (s : State) (t id n u : ℕ) → Holds s → local_at s.locals id ≡ Standing n → slot_of s.slots n ≡ Some u → may_keep s t u ≡ true → IsModelRun (picture s) (picture (after_keep s t id n))
+keep_refines s t id n u on at of ok =
+    let p = and_parts (may_write s t) _ ok in
+    let p1 = and_parts _ (is_driver_slot (slot_at s.slots u)) p.1 in
+    let told = may_write_tells s t on.shape p.0 in
+    let has : HasDriver s.slots n = slot_has_driver s.slots n u of p1.1 in
+    let lt : id < length s.locals = standing_within s.locals id n at in
+    let changed = λ (i : ℕ). local_changed i s.locals id (Standing n) Free lt at in
+    let here : IsDriverHere (picture s) n = record {
+      entry = has.1;
+      attached = (attached_in s.history s.slots has.0 has.1 on.slots has.2).0;
+      numbered = has.3;
+      driver = has.4;
+      slot = has.0;
+      occupant = number_of (slot_at s.slots has.0) has.1 has.2 ∙ ap (λ (k : ℕ). Some k) has.3;
+    } in
+    one_step (picture s) _ (picture (after_keep s t id n))
+    (Model.Keeps t n (ap number_in told.2) (none_from (kept_at s.keeps t) p1.0) here (omega (arith, standing_counts n s.locals id at)))
+    (record {
+      history = refl;
+      sections = λ c. refl;
+      passes = λ c. refl;
+      lookups = λ c. refl;
+      found = λ c. refl;
+      passive = λ c i. refl;
+      locals = put_is (λ i. locals_of s i) (λ i. locals_of (after_keep s t id n) i) n (locals_of s n - 1)
+          (omega (arith, changed n, one_at n n refl))
+          (λ i off. omega (arith, changed i, none_at n i (λ same. off (sym same))));
+      occupants = λ v. refl;
+      keeps = written (λ (x : Option ℕ). x) None s.keeps t (Some n) (omega (arith, told.1, on.shape.slots, on.shape.keeps));
+    })
+
+-- Vacate and KeptSub
+
+-- a drained slot's occupant is detached, and nothing of the four kinds holds it
+pub record Drained (s : State) (t n : ℕ) : Type 0 where
+  pub due : s.due ≡ Rest
+  pub entry : Entry
+  pub number : entry.number ≡ n
+  pub gone : slot_at s.slots t ≡ Retired entry
+  pub position : ℕ
+  pub ended : EndsAt s.history n position
+  pub passive : (c : ℕ) → passive_at s.passive c t ≡ 0
+  pub unheld : IsUnheld (picture s) n
+
+pub drained : (s : State) (t n : ℕ) → Holds s → is_drained s t ≡ true → number_in (slot_at s.slots t) ≡ Some n → Drained s t n
+drained s t n on ok is =
+    let told = is_drained_tells s t on ok in
+    let e : Entry = told.1.0 in
+    let at : slot_at s.slots t ≡ Retired e = told.1.1 in
+    let number : e.number ≡ n = same_Some e.number n (sym (ap number_in at) ∙ is) in
+    let was = on.slots.retired t e at in
+    let end : EndsAt s.history n was.2.0 = subst (λ (k : ℕ). EndsAt s.history k was.2.0) number was.2.1 in
+    let none : held_at s.locals s.hands s.keeps s.due e.number t ≡ 0 = none_held_at_bias on.balance t e told.0 at told.4 told.5 in
+    let free : held_at s.locals s.hands s.keeps s.due n t ≡ 0 = subst (λ (k : ℕ). held_at s.locals s.hands s.keeps s.due k t ≡ 0) number none in
+    let words : (c : ℕ) → passive_at s.passive c t ≡ 0 = λ c. ⊎_elim
+    (λ (low : c < s.settings.cpus). (on.passive.clear c t e at (told.3 c low)).1)
+    (λ (past : s.settings.cpus ≤ c). on.passive.beyond c t past)
+    (cases_lt c s.settings.cpus) in
+    record {
+      due = told.0;
+      entry = e;
+      number = number;
+      gone = at;
+      position = was.2.0;
+      ended = end;
+      passive = words;
+      unheld = record {
+        sections = λ c b f in_ may same.
+            let one : f ≡ e = one_entry s.history f e may.attached was.0 (same ∙ sym number) in
+            let low : c < s.settings.cpus = omega (arith, within_some s.begins c b in_, on.shape.begins) in
+            let ends : EndsAt s.history f.number was.2.0 = subst (λ (g : Entry). EndsAt s.history g.number was.2.0) (sym one) was.2.1 in
+            omega (arith, may.unended was.2.0 ends, on.grace.passed t was.2.0 c b e at was.2.1 in_ (told.2 c low));
+        passive = λ c. ap (passive_in s.passive c) (own_slot s.history s.slots n t on.slots (e, inr at, number)) ∙ words c;
+        locals = omega (arith, free, waiting_rest s.slots n s.due told.0);
+        keeps = (unreferred s.locals s.hands s.keeps s.due n t free).unkept;
+      };
+    }
+
+pub unheld_when_drained : (s : State) (t n : ℕ) → Holds s → is_drained s t ≡ true → number_in (slot_at s.slots t) ≡ Some n → IsUnheld (picture s) n
+unheld_when_drained s t n on ok is = (drained s t n on ok is).unheld
+
+pub unheld_at_vacate : (s : State) (t n : ℕ) → Holds s → may_vacate s t ≡ true → number_in (slot_at s.slots t) ≡ Some n → IsUnheld (picture s) n
+unheld_at_vacate s t n on ok is = unheld_when_drained s t n on (and_parts _ (is_drained s t) ok).1 is
+
+-- the occupant of a drained slot
+occupant_of : (s : State) (t : ℕ) → Holds s → is_drained s t ≡ true → (n : ℕ) × (number_in (slot_at s.slots t) ≡ Some n)
+occupant_of s t on ok = let told = is_drained_tells s t on ok in (told.1.0.number, ap number_in told.1.1)
+
+-- the slot of a drained entry becomes vacant
+pub vacated_passive : (s : State) (t n : ℕ) → Holds s → Drained s t n → SlotsShow s.history (set s.slots t Vacant)
+    → (c i : ℕ) → passive_in s.passive c (slot_of s.slots i) ≡ passive_in s.passive c (slot_of (set s.slots t Vacant) i)
+vacated_passive s t n on d later c i = passive_moved s.history s.history s.slots (set s.slots t Vacant) s.passive c i on.slots later
+    (λ u was. ⊎_elim
+    (λ (same : u ≡ t). inr (ap (passive_at s.passive c) same ∙ d.passive c))
+    (λ (off : u ≡ t → ⊥). inl (was.0, in_other s.slots t Vacant was.0 u off was.1, was.2))
+    (cases_eq u t))
+    (λ u was. inl (was.0, (in_vacated s.slots t u d.entry was.0 d.gone was.1).1, was.2))
+
+vacated_locals : (s : State) (t n : ℕ) → Drained s t n → (i : ℕ) → locals_of s i ≡ locals_of (record s { slots = set s.slots t Vacant }) i
+vacated_locals s t n d i = ap (λ (w : ℕ). sum_by (standing_of i) s.locals + sum_by (in_hand i) s.hands + w) (waiting_rest s.slots i s.due d.due ∙ sym (waiting_rest (set s.slots t Vacant) i s.due d.due))
+
+pub vacate_refines : (s : State) (t : ℕ) → Holds s → Holds (after_vacate s t) → may_vacate s t ≡ true → IsModelRun (picture s) (picture (after_vacate s t))
+vacate_refines s t on now ok =
+    let p = and_parts _ (is_drained s t) ok in
+    let n = occupant_of s t on p.1 in
+    let d : Drained s t n.0 = drained s t n.0 on p.1 n.1 in
+    one_step (picture s) _ (picture (after_vacate s t)) (Model.Vacates t n.0 d.position n.1 d.ended d.unheld (none_from (kept_at s.keeps t) p.0)) (record {
+      history = refl;
+      sections = λ c. refl;
+      passes = λ c. refl;
+      lookups = λ c. refl;
+      found = λ c. refl;
+      passive = vacated_passive s t n.0 on d now.slots;
+      locals = vacated_locals s t n.0 d;
+      occupants = written number_in Vacant s.slots t Vacant (in_within s.slots t d.entry (inr d.gone));
+      keeps = λ u. refl;
+    })
+
+pub kept_sub_refines : (s : State) (t u k : ℕ) → Holds s → Holds (after_kept_sub s t u) → kept_at s.keeps t ≡ Some k → is_drained s t ≡ true → IsModelRun (picture s) (picture (after_kept_sub s t u))
+kept_sub_refines s t u k on now kept ok =
+    let n = occupant_of s t on ok in
+    let d : Drained s t n.0 = drained s t n.0 on ok n.1 in
+    let some : (put (λ i. locals_of s i) k (locals_of s k + 1)) k ≡ locals_of s k + 1 = put_here (λ i. locals_of s i) k (locals_of s k + 1) in
+    two_steps (picture s) _ _ (picture (after_kept_sub s t u)) (Model.Gives_up t n.0 d.position k n.1 d.ended d.unheld kept) (Model.Uncounts k (omega (arith, some))) (record {
+      history = refl;
+      sections = λ c. refl;
+      passes = λ c. refl;
+      lookups = λ c. refl;
+      found = λ c. refl;
+      passive = vacated_passive s t n.0 on d now.slots;
+      locals = put_is (put (λ i. locals_of s i) k (locals_of s k + 1)) (λ i. locals_of (after_kept_sub s t u) i) k (put (λ i. locals_of s i) k (locals_of s k + 1) k - 1)
+          (omega (arith, some, vacated_locals s t n.0 d k))
+          (λ i off. put_other (λ j. locals_of s j) k (locals_of s k + 1) i off ∙ vacated_locals s t n.0 d i);
+      occupants = written number_in Vacant s.slots t Vacant (in_within s.slots t d.entry (inr d.gone));
+      keeps = written (λ (x : Option ℕ). x) None s.keeps t None (within_some s.keeps t k kept);
+    })

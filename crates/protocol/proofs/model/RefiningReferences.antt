@@ -1,0 +1,249 @@
+-- The events of passive and local references make steps of the model.
+use Rattle.std.proofs.Common.{◌≡◌, ℕ, ◌+◌, ◌-◌, ◌<◌, inr, ⊎_elim, List, [], length, get_or, set, Option, Some, None, Bool, true, false, ◌&&◌, ◌||◌, ◌==◌, nat_lt, if◌then◌else◌, refl, sym, ap, subst, ◌∙◌, arith, ltb-true}
+use Rattle.std.proofs.lemmas.Bool.{and_parts, or_cases}
+use Rattle.registry_values.specs.declared.entry.Entry.{Entry}
+use Rattle.registry_values.specs.declared.slot.Slot.{Slot}
+use Rattle.registry_values.specs.declared.slot.Slot.TheVariants.{Retired}
+use Rattle.protocol.specs.declared.state.Hand.{Hand}
+use Rattle.protocol.specs.declared.state.Hand.TheVariants.{Empty, Taking, Giving, Back}
+use Rattle.protocol.specs.declared.state.LocalPlace.{LocalPlace}
+use Rattle.protocol.specs.declared.state.LocalPlace.TheVariants.{Free, Standing, Lifted}
+use Rattle.protocol.specs.declared.state.Due.{Due}
+use Rattle.protocol.specs.declared.state.Due.TheVariants.{Rest, Snapshots, Adding, Subtracting}
+use Rattle.protocol.specs.State.{State, with_cell, found_at, hand_at, passive_at, count_at, local_at}
+use Rattle.registry_values.specs.Slots.{slot_at, slot_of, has_number}
+use Rattle.protocol.specs.Events.{is_idle, is_number, may_add, after_add, may_sub, after_sub, may_count, after_count_add, least_id, with_local, after_split, after_hand, after_count_down, after_collected, is_snapshot_due, after_snapshot, due_after, after_look, after_look_passive, may_collect, after_collect, after_total, may_join_keeper, may_join, after_join_keeper}
+use Rattle.protocol.specs.Invariant.{Holds, DueHolds, one_if}
+use Rattle.protocol.specs.Model.{put, Model, IsModelRun, Stays}
+use Rattle.protocol.specs.Model
+use Rattle.protocol.specs.Picture.{passive_in, waiting_of, locals_of, picture}
+use Rattle.protocol.proofs.slots.Cells.{cell_here, cell_other}
+use Rattle.protocol.proofs.slots.Occupied.{one_in, slot_has, is_retired_tells, at_rest_tells}
+use Rattle.protocol.proofs.keeps.SectionKeeps.{idle_parts}
+use Rattle.protocol.proofs.keeps.MarkKeeps.{cpus_fit, idle_within, may_examine_tells}
+use Rattle.protocol.proofs.keeps.Passive.{found_number}
+use Rattle.protocol.proofs.keeps.References.{snapshot_due_tells, giving_holds, back_holds, hand_seated}
+use Rattle.protocol.proofs.counts.Sums.{one_at, none_at, standing_within, lifted_within, local_changed, hand_changed, local_added}
+use Rattle.protocol.proofs.model.Picturing.{Alike, no_step, one_step, put_is, put_twice}
+use Rattle.protocol.proofs.keeps.CountKeeps.{empty_from}
+
+-- Passive references
+
+-- a write of a cell leaves what another CPU or slot has
+passive_beside : (passive : List (List ℕ)) (t c v j : ℕ) (o : Option ℕ) → ((u : ℕ) → o ≡ Some u → u ≡ t → j ≡ c → ⊥) → passive_in passive j o ≡ passive_in (with_cell passive t c v) j o
+passive_beside passive t c v j None off = refl
+passive_beside passive t c v j (Some u) off = sym (cell_other 0 passive t c v u j (off u refl))
+
+-- two numbers with one slot are one
+one_slot : (slots : List Slot) (m n t : ℕ) → slot_of slots n ≡ Some t → slot_of slots m ≡ Some t → m ≡ n
+one_slot slots m n t first second =
+    let a = slot_has slots n t first in
+    let b = slot_has slots m t second in
+    sym b.1.2 ∙ (ap (λ (e : Entry). e.number) (one_in b.1.0 a.1.0 (slot_at slots t) a.1.1 b.1.1) ∙ a.1.2)
+
+pub passive_put : (s : State) (c n t v : ℕ) → Holds s → c < s.settings.cpus → slot_of s.slots n ≡ Some t
+    → (j m : ℕ) → put (λ k. λ i. passive_in s.passive k (slot_of s.slots i)) c (put (λ i. passive_in s.passive c (slot_of s.slots i)) n v) j m ≡ passive_in (with_cell s.passive t c v) j (slot_of s.slots m)
+passive_put s c n t v on low is =
+    let tp : t < length s.passive = omega (arith, (slot_has s.slots n t is).0, on.shape.slots, on.shape.passive) in
+    let cp : c < length (get_or s.passive t []) = omega (arith, on.shape.passive_rows t tp, low, cpus_fit s.settings on.fit) in
+    put_twice (λ k. λ i. passive_in s.passive k (slot_of s.slots i)) (λ k. λ i. passive_in (with_cell s.passive t c v) k (slot_of s.slots i)) c n v
+    (sym (ap (passive_in (with_cell s.passive t c v) c) is ∙ cell_here 0 s.passive t c v tp cp))
+    (λ m off. passive_beside s.passive t c v c (slot_of s.slots m) (λ u at same here. off (one_slot s.slots m n t is (at ∙ ap (λ (k : ℕ). Some k) same))))
+    (λ j m off. passive_beside s.passive t c v j (slot_of s.slots m) (λ u at same here. off here))
+
+pub add_refines : (s : State) (c n t : ℕ) → Holds s → slot_of s.slots n ≡ Some t → may_add s c n t ≡ true → IsModelRun (picture s) (picture (after_add s c t))
+add_refines s c n t on is ok =
+    let p = and_parts (is_idle s c) ((is_number n (found_at s c) || nat_lt 0 (passive_at s.passive c t)) && nat_lt (passive_at s.passive c t) s.settings.passive_limit) ok in
+    let q = and_parts (is_number n (found_at s c) || nat_lt 0 (passive_at s.passive c t)) (nat_lt (passive_at s.passive c t) s.settings.passive_limit) p.1 in
+    let was : passive_in s.passive c (slot_of s.slots n) ≡ passive_at s.passive c t = ap (passive_in s.passive c) is in
+    let made : (m : ℕ) → m ≡ n → Alike (record (picture s) { passive = put (picture s).passive c (put ((picture s).passive c) m ((picture s).passive c m + 1)) }) (picture (after_add s c t)) = λ m same. record {
+      history = refl;
+      sections = λ j. refl;
+      passes = λ j. refl;
+      lookups = λ j. refl;
+      found = λ j. refl;
+      passive = λ j i. ap (λ (k : ℕ). put (λ x. λ y. passive_in s.passive x (slot_of s.slots y)) c (put (λ y. passive_in s.passive c (slot_of s.slots y)) k (passive_in s.passive c (slot_of s.slots k) + 1)) j i) same
+          ∙ (ap (λ (v : ℕ). put (λ x. λ y. passive_in s.passive x (slot_of s.slots y)) c (put (λ y. passive_in s.passive c (slot_of s.slots y)) n (v + 1)) j i) was
+          ∙ passive_put s c n t (passive_at s.passive c t + 1) on (idle_within s c on p.0) is j i);
+      locals = λ i. refl;
+      occupants = λ u. refl;
+      keeps = λ u. refl;
+    } in
+    ⊎_elim
+    (λ (f : is_number n (found_at s c) ≡ true).
+    let e = found_number n (found_at s c) f in
+    one_step (picture s) _ (picture (after_add s c t)) (Model.Acquires c e.0 e.1) (made e.0.number e.2))
+    (λ (h : nat_lt 0 (passive_at s.passive c t) ≡ true).
+    one_step (picture s) _ (picture (after_add s c t)) (Model.Copies c n (omega (arith, ltb-true 0 (passive_at s.passive c t) h, was))) (made n refl))
+    (or_cases (is_number n (found_at s c)) (nat_lt 0 (passive_at s.passive c t)) q.0)
+
+pub sub_refines : (s : State) (c n t : ℕ) → Holds s → slot_of s.slots n ≡ Some t → may_sub s c t ≡ true → IsModelRun (picture s) (picture (after_sub s c t))
+sub_refines s c n t on is ok =
+    let p = and_parts (is_idle s c) (nat_lt 0 (passive_at s.passive c t)) ok in
+    let was : passive_in s.passive c (slot_of s.slots n) ≡ passive_at s.passive c t = ap (passive_in s.passive c) is in
+    one_step (picture s) _ (picture (after_sub s c t)) (Model.Releases c n (omega (arith, ltb-true 0 (passive_at s.passive c t) p.1, was))) (record {
+      history = refl;
+      sections = λ j. refl;
+      passes = λ j. refl;
+      lookups = λ j. refl;
+      found = λ j. refl;
+      passive = λ j i. ap (λ (v : ℕ). put (λ x. λ y. passive_in s.passive x (slot_of s.slots y)) c (put (λ y. passive_in s.passive c (slot_of s.slots y)) n (v - 1)) j i) was
+          ∙ passive_put s c n t (passive_at s.passive c t - 1) on (idle_within s c on p.0) is j i;
+      locals = λ i. refl;
+      occupants = λ u. refl;
+      keeps = λ u. refl;
+    })
+
+-- Local references
+
+-- what the keeper must do next waits only where it must subtract
+waiting_else : (slots : List Slot) (n : ℕ) (due next : Due) → due ≡ next → waiting_of slots n next ≡ 0 → waiting_of slots n due ≡ 0
+waiting_else slots n due next is none = ap (waiting_of slots n) is ∙ none
+
+-- at a retired entry it waits for a reference to that one
+waiting_one : (slots : List Slot) (n t : ℕ) (e : Entry) (due : Due) → slot_at slots t ≡ Retired e → due ≡ Subtracting t → waiting_of slots n due ≡ one_if (e.number == n)
+waiting_one slots n t e due at is = ap (waiting_of slots n) is ∙ ap (λ (x : Slot). if has_number n x then 1 else 0) at
+
+-- only local references change, and agree
+locals_alike : (s : State) (hands : List Hand) (due : Due) (locals : List LocalPlace)
+    → ((n : ℕ) → locals_of s n ≡ locals_of (record s { hands = hands; due = due; locals = locals }) n) → Alike (picture s) (picture (record s { hands = hands; due = due; locals = locals }))
+locals_alike s hands due locals same = record {
+  history = refl;
+  sections = λ c. refl;
+  passes = λ c. refl;
+  lookups = λ c. refl;
+  found = λ c. refl;
+  passive = λ c n. refl;
+  locals = same;
+  occupants = λ t. refl;
+  keeps = λ t. refl;
+}
+
+locals_same : (s : State) (hands : List Hand) (due : Due) (locals : List LocalPlace)
+    → ((n : ℕ) → locals_of s n ≡ locals_of (record s { hands = hands; due = due; locals = locals }) n) → IsModelRun (picture s) (picture (record s { hands = hands; due = due; locals = locals }))
+locals_same s hands due locals same = no_step _ _ (locals_alike s hands due locals same)
+
+-- one reference more
+locals_more : (s : State) (c : ℕ) (e : Entry) (hands : List Hand) (due : Due) (locals : List LocalPlace) → found_at s c ≡ Some e
+    → ((n : ℕ) → locals_of (record s { hands = hands; due = due; locals = locals }) n ≡ locals_of s n + one_if (e.number == n))
+    → IsModelRun (picture s) (picture (record s { hands = hands; due = due; locals = locals }))
+locals_more s c e hands due locals found more =
+    one_step (picture s) _ (picture (record s { hands = hands; due = due; locals = locals })) (Model.Counts c e found) (record {
+      history = refl;
+      sections = λ j. refl;
+      passes = λ j. refl;
+      lookups = λ j. refl;
+      found = λ j. refl;
+      passive = λ j i. refl;
+      locals = put_is (λ i. locals_of s i) (λ i. locals_of (record s { hands = hands; due = due; locals = locals }) i) e.number (locals_of s e.number + 1)
+          (omega (arith, more e.number, one_at e.number e.number refl))
+          (λ i off. omega (arith, more i, none_at e.number i (λ same. off (sym same))));
+      occupants = λ t. refl;
+      keeps = λ t. refl;
+    })
+
+-- one reference less
+locals_less : (s : State) (n : ℕ) (hands : List Hand) (due : Due) (locals : List LocalPlace)
+    → ((i : ℕ) → locals_of (record s { hands = hands; due = due; locals = locals }) i + one_if (n == i) ≡ locals_of s i)
+    → IsModelRun (picture s) (picture (record s { hands = hands; due = due; locals = locals }))
+locals_less s n hands due locals less =
+    one_step (picture s) _ (picture (record s { hands = hands; due = due; locals = locals })) (Model.Uncounts n (omega (arith, less n, one_at n n refl))) (record {
+      history = refl;
+      sections = λ j. refl;
+      passes = λ j. refl;
+      lookups = λ j. refl;
+      found = λ j. refl;
+      passive = λ j i. refl;
+      locals = put_is (λ i. locals_of s i) (λ i. locals_of (record s { hands = hands; due = due; locals = locals }) i) n (locals_of s n - 1)
+          (omega (arith, less n, one_at n n refl))
+          (λ i off. omega (arith, less i, none_at n i (λ same. off (sym same))));
+      occupants = λ t. refl;
+      keeps = λ t. refl;
+    })
+
+idle_hand : (s : State) (c : ℕ) → is_idle s c ≡ true → hand_at s c ≡ Empty
+idle_hand s c ok = empty_from (hand_at s c) (idle_parts s c ok).2
+
+-- a hand that isn't empty is a CPU's
+hand_within : (s : State) (c : ℕ) (h : Hand) → Holds s → hand_at s c ≡ h → (h ≡ Empty → ⊥) → c < length s.hands
+hand_within s c h on is full = omega (arith, hand_seated s.settings.cpus s.seated s.begins s.searches s.hands c (λ empty. full (sym is ∙ empty)) on.seats, on.seats.within, on.shape.hands)
+
+pub count_add_refines : (s : State) (c t : ℕ) (e : Entry) → Holds s → found_at s c ≡ Some e → may_count s c t ≡ true → IsModelRun (picture s) (picture (after_count_add s c e.number t))
+count_add_refines s c t e on found ok =
+    let idle = (and_parts (is_idle s c) _ ok).0 in
+    let lt : c < length s.hands = omega (arith, idle_within s c on idle, on.shape.hands) in
+    locals_more s c e (set s.hands c (Taking e.number)) s.due s.locals found
+    (λ n. omega (arith, hand_changed n s.hands c Empty (Taking e.number) lt (idle_hand s c idle)))
+
+pub split_refines : (s : State) (c n : ℕ) → Holds s → hand_at s c ≡ Taking n → IsModelRun (picture s) (picture (after_split s c n))
+split_refines s c n on hand =
+    let lt : c < length s.hands = hand_within s c (Taking n) on hand (λ is. let q : Taking n ≡ Empty = is in cc) in
+    locals_same s (set s.hands c Empty) s.due (with_local s.locals (least_id s.locals) (Standing n))
+    (λ i. omega (arith, hand_changed i s.hands c (Taking n) Empty lt hand, local_added i s.locals (Standing n)))
+
+pub join_refines : (s : State) (c n id : ℕ) → Holds s → is_idle s c ≡ true → local_at s.locals id ≡ Standing n → IsModelRun (picture s) (picture (after_hand s c (Giving n id) id (Lifted c)))
+join_refines s c n id on idle at =
+    let lt : c < length s.hands = omega (arith, idle_within s c on idle, on.shape.hands) in
+    locals_same s (set s.hands c (Giving n id)) s.due (set s.locals id (Lifted c))
+    (λ i. omega (arith, hand_changed i s.hands c Empty (Giving n id) lt (idle_hand s c idle), local_changed i s.locals id (Standing n) (Lifted c) (standing_within s.locals id n at) at))
+
+pub count_down_refines : (s : State) (c n id t : ℕ) → Holds s → hand_at s c ≡ Giving n id → IsModelRun (picture s) (picture (after_count_down s c t id))
+count_down_refines s c n id t on hand =
+    let lt : c < length s.hands = hand_within s c (Giving n id) on hand (λ is. let q : Giving n id ≡ Empty = is in cc) in
+    let lifted = (giving_holds s.settings.cpus s.slots s.hands s.due s.locals c n id hand on.references).1 in
+    locals_less s n (set s.hands c Empty) s.due (set s.locals id Free)
+    (λ i. omega (arith, hand_changed i s.hands c (Giving n id) Empty lt hand, local_changed i s.locals id (Lifted c) Free (lifted_within s.locals id c lifted) lifted))
+
+pub collected_refines : (s : State) (c n id : ℕ) → Holds s → hand_at s c ≡ Giving n id → IsModelRun (picture s) (picture (after_collected s c n id))
+collected_refines s c n id on hand =
+    let lt : c < length s.hands = hand_within s c (Giving n id) on hand (λ is. let q : Giving n id ≡ Empty = is in cc) in
+    locals_same s (set s.hands c (Back n id)) s.due s.locals
+    (λ i. omega (arith, hand_changed i s.hands c (Giving n id) (Back n id) lt hand))
+
+pub split_back_refines : (s : State) (c n id : ℕ) → Holds s → hand_at s c ≡ Back n id → IsModelRun (picture s) (picture (after_hand s c Empty id (Standing n)))
+split_back_refines s c n id on hand =
+    let lt : c < length s.hands = hand_within s c (Back n id) on hand (λ is. let q : Back n id ≡ Empty = is in cc) in
+    let lifted = (back_holds s.settings.cpus s.slots s.hands s.due s.locals c n id hand on.references).1 in
+    locals_same s (set s.hands c Empty) s.due (set s.locals id (Standing n))
+    (λ i. omega (arith, hand_changed i s.hands c (Back n id) Empty lt hand, local_changed i s.locals id (Lifted c) (Standing n) (lifted_within s.locals id c lifted) lifted))
+
+-- What the keeper does with marks, counts and totals.
+
+waiting_snapshots : (slots : List Slot) (n t c : ℕ) (b : Bool) → waiting_of slots n (if b then Snapshots t c else Rest) ≡ 0
+waiting_snapshots slots n t c true = refl
+waiting_snapshots slots n t c false = refl
+
+pub snapshot_refines : (s : State) (t c : ℕ) → is_snapshot_due s.due t c ≡ true → IsModelRun (picture s) (picture (after_snapshot s t c))
+snapshot_refines s t c ok =
+    locals_same s s.hands (due_after s t c) s.locals
+    (λ n. omega (arith, waiting_else s.slots n s.due (Snapshots t c) (snapshot_due_tells s.due t c ok) refl, waiting_snapshots s.slots n t (c + 1) (nat_lt (c + 1) s.settings.cpus)))
+
+pub look_refines : (s : State) (t c : ℕ) → IsModelRun (picture s) (picture (after_look s t c))
+look_refines s t c = Stays
+
+pub look_passive_refines : (s : State) (t c : ℕ) → IsModelRun (picture s) (picture (after_look_passive s t c))
+look_passive_refines s t c = Stays
+
+pub collect_refines : (s : State) (t c : ℕ) → may_collect s t c ≡ true → IsModelRun (picture s) (picture (after_collect s t c))
+collect_refines s t c ok =
+    let rest = (may_examine_tells s t c (and_parts _ _ ok).0).0 in
+    locals_same s s.hands (Adding t (count_at s.counts c t)) s.locals (λ n. omega (arith, waiting_else s.slots n s.due Rest rest refl))
+
+pub total_add_refines : (s : State) (t old v : ℕ) → s.due ≡ Adding t old → IsModelRun (picture s) (picture (after_total s t v))
+total_add_refines s t old v is = locals_same s s.hands Rest s.locals (λ n. omega (arith, waiting_else s.slots n s.due (Adding t old) is refl))
+
+pub total_sub_refines : (s : State) (t v : ℕ) → Holds s → s.due ≡ Subtracting t → IsModelRun (picture s) (picture (after_total s t v))
+total_sub_refines s t v on is =
+    let gone : (e : Entry) × (slot_at s.slots t ≡ Retired e) = subst (DueHolds s.settings.cpus s.slots) is on.references.due_at in
+    locals_less s gone.0.number s.hands Rest s.locals (λ i. omega (arith, waiting_one s.slots i t gone.0 s.due gone.1 is))
+
+pub join_keeper_refines : (s : State) (id n t : ℕ) → Holds s → local_at s.locals id ≡ Standing n → slot_of s.slots n ≡ Some t → may_join_keeper s t ≡ true → IsModelRun (picture s) (picture (after_join_keeper s id t))
+join_keeper_refines s id n t on at of ok =
+    let p = and_parts _ (may_join s t) ok in
+    let rest : s.due ≡ Rest = at_rest_tells s.due (and_parts _ _ p.1).0 in
+    let gone : (e : Entry) × (slot_at s.slots t ≡ Retired e) = is_retired_tells (slot_at s.slots t) p.0 in
+    let has = slot_has s.slots n t of in
+    let same : gone.0.number ≡ n = ap (λ (e : Entry). e.number) (one_in gone.0 has.1.0 (slot_at s.slots t) has.1.1 (inr gone.1)) ∙ has.1.2 in
+    locals_same s s.hands (Subtracting t) (set s.locals id Free)
+    (λ i. let one : one_if (gone.0.number == i) ≡ one_if (n == i) = ap (λ (k : ℕ). one_if (k == i)) same in
+    omega (arith, one, waiting_else s.slots i s.due Rest rest refl, waiting_one s.slots i t gone.0 (Subtracting t) gone.1 refl, local_changed i s.locals id (Standing n) Free (standing_within s.locals id n at) at))

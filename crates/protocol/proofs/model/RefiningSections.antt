@@ -1,0 +1,182 @@
+-- Seats, sections, notes and lookups make steps of the model.
+use Rattle.std.proofs.Common.{◌≡◌, ℕ, zero, suc, ◌*◌, ◌<◌, length, get_or, Option, Some, None, Bool, true, false, ◌&&◌, nat_eq, nat_lt, refl, ap, subst, arith}
+use Rattle.std.proofs.lemmas.Bool.{and_parts}
+use Rattle.registry_values.specs.declared.entry.Entry.{Entry}
+use Rattle.registry_values.specs.declared.slot.Key.{Key}
+use Rattle.protocol.specs.declared.state.RecordWords.{RecordWords}
+use Rattle.protocol.specs.declared.state.Place.{Place}
+use Rattle.protocol.specs.declared.state.Place.TheVariants.{AtHead, AtNext, AtNumber, AtKind, AtHigh, AtLow, AtValue}
+use Rattle.protocol.specs.declared.state.Search.{Search}
+use Rattle.protocol.specs.History.{IsLawful}
+use Rattle.protocol.specs.State.{State, section_at, begin_at, depth_at, seen_at, search_at, row_at}
+use Rattle.protocol.specs.Events.{is_idle, is_outside, is_inside, after_seat, may_enter, after_enter, may_exit, after_exit, after_seeing, may_seek, after_seek, going_on, search_over, link_loaded, load_link, load_searched, compared, are_words_of, entry_found}
+use Rattle.protocol.specs.Invariant.{Holds}
+use Rattle.protocol.specs.Model.{Model, IsModelStep, IsModelRun, Stays, Goes_on}
+use Rattle.protocol.specs.Model
+use Rattle.protocol.specs.Picture.{lookup_of, picture}
+use Rattle.protocol.proofs.keeps.Searching.{within_some}
+use Rattle.protocol.proofs.keeps.SectionKeeps.{none_from, some_from, idle_parts}
+use Rattle.protocol.proofs.keeps.MarkKeeps.{idle_within}
+use Rattle.protocol.proofs.keeps.SearchKeeps.{Answers, link_answers, record_answers}
+use Rattle.protocol.proofs.model.Picturing.{Alike, Makes, same_model, no_step, one_step, written, unwritten}
+
+pub seat_refines : (s : State) (c : ℕ) → IsModelRun (picture s) (picture (after_seat s c))
+seat_refines s c = Stays
+
+pub enter_refines : (s : State) (c : ℕ) → Holds s → may_enter s c ≡ true → IsModelRun (picture s) (picture (after_enter s c))
+enter_refines s c on ok =
+    let p = and_parts (is_idle s c) (is_outside s c && nat_lt (section_at s c) (2 * s.settings.section_limit)) ok in
+    let p1 = and_parts (is_outside s c) (nat_lt (section_at s c) (2 * s.settings.section_limit)) p.1 in
+    let lt : c < s.settings.cpus = idle_within s c on p.0 in
+    one_step (picture s) _ (picture (after_enter s c)) (Model.Enters c (none_from (begin_at s c) p1.0)) (record {
+      history = refl;
+      sections = written (λ (x : Option ℕ). x) None s.begins c (Some (length s.history)) (omega (arith, lt, on.shape.begins));
+      passes = written (λ (x : ℕ). x) 0 s.seen c (length s.history) (omega (arith, lt, on.shape.seen));
+      lookups = λ j. refl;
+      found = λ j. refl;
+      passive = λ j n. refl;
+      locals = λ n. refl;
+      occupants = λ t. refl;
+      keeps = λ t. refl;
+    })
+
+pub exit_refines : (s : State) (c : ℕ) → Holds s → may_exit s c ≡ true → IsModelRun (picture s) (picture (after_exit s c))
+exit_refines s c on ok =
+    let p = and_parts (is_idle s c) (is_inside s c && nat_eq (depth_at s c) 1) ok in
+    let p1 = and_parts (is_inside s c) (nat_eq (depth_at s c) 1) p.1 in
+    let idle = idle_parts s c p.0 in
+    let in_ : (b : ℕ) × (begin_at s c ≡ Some b) = some_from (begin_at s c) p1.0 in
+    let lt : c < s.settings.cpus = idle_within s c on p.0 in
+    one_step (picture s) _ (picture (after_exit s c)) (Model.Exits c in_.0 in_.1 (ap lookup_of idle.1)) (record {
+      history = refl;
+      sections = written (λ (x : Option ℕ). x) None s.begins c None (omega (arith, lt, on.shape.begins));
+      passes = λ j. refl;
+      lookups = λ j. refl;
+      found = written (λ (x : Option Entry). x) None s.found c None (omega (arith, lt, on.shape.found));
+      passive = λ j n. refl;
+      locals = λ n. refl;
+      occupants = λ t. refl;
+      keeps = λ t. refl;
+    })
+
+-- the pass of a CPU grows to the whole history
+see_step : (s : State) (c : ℕ) → Holds s → c < s.settings.cpus → IsModelStep (picture s) (picture (after_seeing s c))
+see_step s c on lt = subst (IsModelStep (picture s))
+    (same_model _ (picture (after_seeing s c)) (record {
+      history = refl;
+      sections = λ j. refl;
+      passes = written (λ (x : ℕ). x) 0 s.seen c (length s.history) (omega (arith, lt, on.shape.seen));
+      lookups = λ j. refl;
+      found = λ j. refl;
+      passive = λ j n. refl;
+      locals = λ n. refl;
+      occupants = λ t. refl;
+      keeps = λ t. refl;
+    }))
+    (Model.Sees c (length s.history) (on.sections.prefix c) (omega arith))
+
+pub seeing_refines : (s : State) (c : ℕ) → Holds s → c < s.settings.cpus → IsModelRun (picture s) (picture (after_seeing s c))
+seeing_refines s c on lt = Goes_on _ _ Stays (see_step s c on lt)
+
+pub hear_refines : (s : State) (c : ℕ) → Holds s → is_idle s c ≡ true → IsModelRun (picture s) (picture (after_seeing s c))
+hear_refines s c on ok = seeing_refines s c on (idle_within s c on ok)
+
+pub seek_refines : (s : State) (c : ℕ) (key : Key) → Holds s → may_seek s c ≡ true → IsModelRun (picture s) (picture (after_seek s c key))
+seek_refines s c key on ok =
+    let p = and_parts (is_idle s c) (is_inside s c) ok in
+    let idle = idle_parts s c p.0 in
+    let in_ : (b : ℕ) × (begin_at s c ≡ Some b) = some_from (begin_at s c) p.1 in
+    let lt : c < s.settings.cpus = idle_within s c on p.0 in
+    one_step (picture s) _ (picture (after_seek s c key)) (Model.Seeks c in_.0 key in_.1 (ap lookup_of idle.1)) (record {
+      history = refl;
+      sections = λ j. refl;
+      passes = λ j. refl;
+      lookups = written lookup_of None s.searches c (Some (record { key = key; start = seen_at s c; place = AtHead })) (omega (arith, lt, on.shape.searches));
+      found = λ j. refl;
+      passive = λ j n. refl;
+      locals = λ n. refl;
+      occupants = λ t. refl;
+      keeps = λ t. refl;
+    })
+
+-- a lookup is over, with a lawful answer
+over_step : (s : State) (c : ℕ) (q : Search) (answer : Option Entry) → c < length s.found → search_at s c ≡ Some q
+    → IsLawful s.history q.start (seen_at s c) q.key answer → IsModelStep (picture s) (picture (search_over s c answer))
+over_step s c q answer lt is lawful = subst (IsModelStep (picture s))
+    (same_model _ (picture (search_over s c answer)) (record {
+      history = refl;
+      sections = λ j. refl;
+      passes = λ j. refl;
+      lookups = written lookup_of None s.searches c None (within_some s.searches c q is);
+      found = written (λ (x : Option Entry). x) None s.found c answer lt;
+      passive = λ j n. refl;
+      locals = λ n. refl;
+      occupants = λ t. refl;
+      keeps = λ t. refl;
+    }))
+    (Model.Answers c (record { key = q.key; start = q.start }) answer (ap lookup_of is) lawful)
+
+pub over_refines : (s : State) (c : ℕ) (q : Search) (answer : Option Entry) → Holds s → search_at s c ≡ Some q
+    → IsLawful s.history q.start (seen_at s c) q.key answer → IsModelRun (picture s) (picture (search_over s c answer))
+over_refines s c q answer on is lawful = Goes_on _ _ Stays (over_step s c q answer (omega (arith, within_some s.searches c q is, on.shape.searches, on.shape.found)) is lawful)
+
+-- a search that goes on shows nothing
+going_on_alike : (s : State) (c : ℕ) (q : Search) (place : Place) → search_at s c ≡ Some q → Alike (picture s) (picture (going_on s c q place))
+going_on_alike s c q place is = record {
+  history = refl;
+  sections = λ j. refl;
+  passes = λ j. refl;
+  lookups = unwritten lookup_of None s.searches c (Some (record { key = q.key; start = q.start; place = place })) (ap lookup_of is);
+  found = λ j. refl;
+  passive = λ j n. refl;
+  locals = λ n. refl;
+  occupants = λ t. refl;
+  keeps = λ t. refl;
+}
+
+pub going_on_refines : (s : State) (c : ℕ) (q : Search) (place : Place) → search_at s c ≡ Some q → IsModelRun (picture s) (picture (going_on s c q place))
+going_on_refines s c q place is = no_step (picture s) (picture (going_on s c q place)) (going_on_alike s c q place is)
+
+-- The loads of a search.
+
+pub missed_refines : (s : State) (c : ℕ) (q : Search) → Holds s → search_at s c ≡ Some q → IsLawful s.history q.start (seen_at (after_seeing s c) c) q.key None → IsModelRun (picture s) (picture (search_over (after_seeing s c) c None))
+missed_refines s c q on is lawful =
+    let within = within_some s.searches c q is in
+    Goes_on _ _ (seeing_refines s c on (omega (arith, within, on.shape.searches))) (over_step (after_seeing s c) c q None (omega (arith, within, on.shape.searches, on.shape.found)) is lawful)
+
+pub followed_refines : (s : State) (c : ℕ) (q : Search) (t : ℕ) → Holds s → search_at s c ≡ Some q → IsModelRun (picture s) (picture (going_on (after_seeing s c) c q (AtNumber t)))
+followed_refines s c q t on is =
+    one_step (picture s) (picture (after_seeing s c)) (picture (going_on (after_seeing s c) c q (AtNumber t))) (see_step s c on (omega (arith, within_some s.searches c q is, on.shape.searches)))
+    (going_on_alike (after_seeing s c) c q (AtNumber t) is)
+
+link_loaded_makes : (s : State) (c : ℕ) (q : Search) (x : ℕ) → Holds s → search_at s c ≡ Some q → Answers c q (link_loaded s c q x) → Makes (picture s) (link_loaded s c q x)
+link_loaded_makes s c q zero on is lawful = λ now. missed_refines s c q on is lawful
+link_loaded_makes s c q (suc t) on is lawful = λ now. followed_refines s c q t on is
+
+load_link_makes : (s : State) (c : ℕ) (q : Search) (place : Place) → Holds s → search_at s c ≡ Some q → Answers c q (load_link s c q place) → Makes (picture s) (load_link s c q place)
+load_link_makes s c q AtHead on is lawful = link_loaded_makes s c q s.head on is lawful
+load_link_makes s c q (AtNext t) on is lawful = link_loaded_makes s c q (get_or s.next t 0) on is lawful
+load_link_makes s c q (AtNumber t) on is lawful = tt
+load_link_makes s c q (AtKind t n) on is lawful = tt
+load_link_makes s c q (AtHigh t n k) on is lawful = tt
+load_link_makes s c q (AtLow t n k h) on is lawful = tt
+load_link_makes s c q (AtValue t n) on is lawful = tt
+
+pub link_makes : (s : State) (c : ℕ) (q : Search) → Holds s → search_at s c ≡ Some q → Makes (picture s) (load_link s c q q.place)
+link_makes s c q on is = load_link_makes s c q q.place on is (link_answers s c q on is)
+
+compared_makes : (s : State) (c : ℕ) (q : Search) (t n l : ℕ) (b : Bool) → search_at s c ≡ Some q → Makes (picture s) (compared s c q t n l b)
+compared_makes s c q t n l true is = λ now. going_on_refines s c q (AtValue t n) is
+compared_makes s c q t n l false is = λ now. going_on_refines s c q (AtNext t) is
+
+load_searched_makes : (s : State) (c : ℕ) (q : Search) (place : Place) (row : ℕ → RecordWords) → Holds s → search_at s c ≡ Some q → Answers c q (load_searched s c q place row) → Makes (picture s) (load_searched s c q place row)
+load_searched_makes s c q AtHead row on is lawful = tt
+load_searched_makes s c q (AtNext t) row on is lawful = tt
+load_searched_makes s c q (AtNumber t) row on is lawful = λ now. going_on_refines s c q (AtKind t (row t).number) is
+load_searched_makes s c q (AtKind t n) row on is lawful = λ now. going_on_refines s c q (AtHigh t n (row t).kind) is
+load_searched_makes s c q (AtHigh t n k) row on is lawful = λ now. going_on_refines s c q (AtLow t n k (row t).high) is
+load_searched_makes s c q (AtLow t n k h) row on is lawful = compared_makes s c q t n (row t).low (are_words_of q.key k h (row t).low) is
+load_searched_makes s c q (AtValue t n) row on is lawful = λ now. over_refines s c q (Some (entry_found q t n (row t).value)) on is lawful
+
+pub record_makes : (s : State) (c : ℕ) (q : Search) → Holds s → search_at s c ≡ Some q → Makes (picture s) (load_searched s c q q.place (row_at s.rows))
+record_makes s c q on is = load_searched_makes s c q q.place (row_at s.rows) on is (record_answers s c q on is)

@@ -1,0 +1,10 @@
+pub mod Answers
+pub mod Balance
+pub mod Drivers
+pub mod Grace
+pub mod Headline
+pub mod Reuse
+pub mod Rows
+pub mod Runs
+pub mod State
+pub mod Steps

@@ -1,0 +1,27 @@
+-- All laws of a state with the invariant.
+use Rattle.protocol.specs.State.{State}
+use Rattle.protocol.specs.Invariant.{Holds}
+use Rattle.protocol.specs.Ran.{rested}
+use Rattle.protocol.specs.Laws.{ObeysLaws, InvariantSuffices}
+use Rattle.protocol.proofs.keeps.Keeping.{ran_keeps}
+use Rattle.protocol.proofs.runs.Headline.{is_safe}
+use Rattle.protocol.proofs.runs.Drivers.{reuses_safely, outlive_interfaces}
+use Rattle.protocol.proofs.runs.Answers.{answers_lawfully}
+use Rattle.protocol.proofs.runs.Balance.{balances_at_rest}
+use Rattle.protocol.proofs.runs.Grace.{ends_by_exit}
+use Rattle.protocol.proofs.model.Refining.{ran_refines}
+
+pub obeys_laws : (s : State) → Holds s → ObeysLaws s
+obeys_laws s on = record {
+  safe = is_safe s on;
+  reuse = reuses_safely s on;
+  drivers = outlive_interfaces s on;
+  answers = answers_lawfully s on;
+  balance = λ rest. balances_at_rest s on rest;
+  grace = ends_by_exit s on;
+  keeps = λ later. ran_keeps (rested s) later on;
+  modelled = λ later. ran_refines (rested s) later on;
+}
+
+pub invariant_suffices : InvariantSuffices
+invariant_suffices s on = obeys_laws s on

@@ -1,0 +1,251 @@
+-- What each event does to the history, the slots, the sections, the passes and the searches.
+use Rattle.std.proofs.Common.{◌≡◌, ℕ, zero, suc, ◌⊎◌, inl, inr, List, [], ◌∷◌, get_or, set, Option, Some, None, Bool, true, false, ◌==◌, nat_lt, if◌then◌else◌, refl, sym, ap, ◌∙◌}
+use Rattle.std.proofs.lemmas.Bool.{and_parts}
+use Rattle.registry_values.specs.declared.entry.Kind.{Kind}
+use Rattle.registry_values.specs.declared.entry.Entry.{Entry}
+use Rattle.registry_values.specs.declared.entry.Change.TheVariants.{Detach}
+use Rattle.registry_values.specs.declared.name.Name.{Name}
+use Rattle.protocol.specs.declared.event.Event.{Event}
+use Rattle.protocol.specs.declared.event.Event.TheVariants.{Seat, Enter, Exit, Seek, LoadLink, LoadRecord, StoreSlot, StoreNext, Publish, Unpublish, Tell, Hear, Snapshot, Look, PassiveAdd, PassiveSub, PassiveLook, CountAdd, SplitRef, JoinRef, CountDown, SplitBack, Collect, TotalAdd, JoinKeeper, TotalSub, Keep, KeptSub, Vacate}
+use Rattle.protocol.specs.declared.event.RecordOf.{RecordOf}
+use Rattle.protocol.specs.declared.event.RecordOf.TheVariants.{Search as OfSearch, Passive as OfPassive, Local as OfLocal}
+use Rattle.protocol.specs.declared.event.Reply.{Reply}
+use Rattle.protocol.specs.declared.event.Reply.TheVariants.{Done}
+use Rattle.registry_values.specs.declared.slot.Slot.{Slot}
+use Rattle.registry_values.specs.declared.slot.Slot.TheVariants.{Vacant, Live, Retired}
+use Rattle.protocol.specs.declared.state.Hand.{Hand}
+use Rattle.protocol.specs.declared.state.Hand.TheVariants.{Empty, Taking, Giving, Back}
+use Rattle.protocol.specs.declared.state.Due.{Due}
+use Rattle.protocol.specs.declared.state.Due.TheVariants.{Rest, Snapshots, Adding, Subtracting}
+use Rattle.protocol.specs.declared.state.Place.{Place}
+use Rattle.protocol.specs.declared.state.Place.TheVariants.{AtHead, AtNext, AtNumber, AtKind, AtHigh, AtLow, AtValue}
+use Rattle.protocol.specs.declared.state.Search.{Search}
+use Rattle.protocol.specs.History.{after_change}
+use Rattle.protocol.specs.State.{State, search_at, found_at, hand_at, row_at, count_at, kept_at, local_at}
+use Rattle.registry_values.specs.Slots.{slot_at, slot_of, slot_before}
+use Rattle.protocol.specs.Events
+use Rattle.protocol.specs.Events.{Outcome, guard, taken, with_some, step, state_after, is_idle, may_enter, after_enter, may_exit, after_exit, may_seek, after_seek, after_seeing, load_link, load_searched, link_loaded, compared, are_words_of, entry_of, may_publish, after_publish, unlinking, retiring, after_unpublish, may_keep, after_keep, is_drained, after_kept_sub, may_vacate, after_vacate}
+use Rattle.protocol.specs.Invariant.{Holds}
+use Rattle.protocol.specs.Ran.{Ran, ran, rested, turned}
+use Rattle.protocol.specs.Laws.{after, after_event, answer_of, IsLoadOf}
+use Rattle.protocol.proofs.keeps.SearchKeeps.{Answers, link_answers, record_answers}
+
+-- all of them stay, and the reply is no answer
+pub record Leaves (s : State) (o : Outcome) : Type 0 where
+  pub history : o.state.history ≡ s.history
+  pub slots : o.state.slots ≡ s.slots
+  pub keeps : o.state.keeps ≡ s.keeps
+  pub section : o.state.section ≡ s.section
+  pub begins : o.state.begins ≡ s.begins
+  pub seen : o.state.seen ≡ s.seen
+  pub searches : o.state.searches ≡ s.searches
+  pub reply : answer_of o.reply ≡ None
+
+-- the search of c is over, or is at another place
+abbrev pub IsOn : State → ℕ → Search → State → Type 0
+IsOn s c q t = (t.searches ≡ set s.searches c None) ⊎ ((p : Place) × (t.searches ≡ set s.searches c (Some (record { key = q.key; start = q.start; place = p }))))
+
+-- a load by the search q of c
+pub record Loads (s : State) (c : ℕ) (q : Search) (t : State) : Type 0 where
+  pub history : t.history ≡ s.history
+  pub slots : t.slots ≡ s.slots
+  pub keeps : t.keeps ≡ s.keeps
+  pub section : t.section ≡ s.section
+  pub begins : t.begins ≡ s.begins
+  pub seen : (t.seen ≡ s.seen) ⊎ (t.seen ≡ (after_seeing s c).seen)
+  pub searches : IsOn s c q t
+
+-- the entry e of t is retired
+pub record Retires (s : State) (t : ℕ) (e : Entry) (n : State) : Type 0 where
+  pub history : n.history ≡ after_change s.history (Detach e.number)
+  pub slots : n.slots ≡ set s.slots t (Retired e)
+  pub keeps : n.keeps ≡ s.keeps
+  pub section : n.section ≡ s.section
+  pub begins : n.begins ≡ s.begins
+  pub seen : n.seen ≡ s.seen
+  pub searches : n.searches ≡ s.searches
+
+-- what an event does; `Left` are those that leave all of it
+pub data Sort (s : State) : Event → Option Outcome → Type 0 where
+  Refused : (e : Event) → Sort s e None
+  Left : (e : Event) (o : Outcome) → Leaves s o → Sort s e (Some o)
+  Entered : (c : ℕ) → may_enter s c ≡ true → Sort s (Enter c) (taken (after_enter s c) Done)
+  Exited : (c : ℕ) → may_exit s c ≡ true → Sort s (Exit c) (taken (after_exit s c) Done)
+  Sought : (c : ℕ) (kind : Kind) (name : Name) → may_seek s c ≡ true → Sort s (Seek c kind name) (taken (after_seek s c (record { kind = kind; name = name })) Done)
+  Heard : (c : ℕ) → is_idle s c ≡ true → Sort s (Hear (Some c)) (taken (after_seeing s c) Done)
+  Searched : (e : Event) (c : ℕ) (q : Search) (o : Outcome) → IsLoadOf c e → search_at s c ≡ Some q → Loads s c q o.state → Answers c q (Some o) → Sort s e (Some o)
+  Published : (t : ℕ) (e : Entry) → entry_of t (row_at s.rows t) ≡ Some e → may_publish s t e ≡ true → Sort s (Publish t) (taken (after_publish s t e) Done)
+  Unpublished : (t : ℕ) (e : Entry) (n : State) → slot_at s.slots t ≡ Live e → Retires s t e n → Sort s (Unpublish t) (taken n Done)
+  Kept : (t id n u : ℕ) → may_keep s t u ≡ true → Sort s (Keep t id) (taken (after_keep s t id n) Done)
+  Gave_up : (t d u : ℕ) → kept_at s.keeps t ≡ Some d → slot_of s.slots d ≡ Some u → is_drained s t ≡ true → Sort s (KeptSub t) (taken (after_kept_sub s t u) Done)
+  Vacated : (t : ℕ) → may_vacate s t ≡ true → Sort s (Vacate t) (taken (after_vacate s t) Done)
+
+-- an event that leaves all of them
+left : (s t : State) (e : Event) (r : Reply) → Leaves s (record { state = t; reply = r }) → Sort s e (taken t r)
+left s t e r same = Left e (record { state = t; reply = r }) same
+
+sort_guard : (s : State) (e : Event) (b : Bool) (o : Option Outcome) → (b ≡ true → Sort s e o) → Sort s e (guard b o)
+sort_guard s e true o sort = sort refl
+sort_guard s e false o sort = Refused e
+
+sort_some : {X : Type 0} (s : State) (e : Event) (x : Option X) (f : X → Option Outcome) → ((y : X) → x ≡ Some y → Sort s e (f y)) → Sort s e (with_some x f)
+sort_some s e None f sort = Refused e
+sort_some s e (Some y) f sort = sort y refl
+
+sort_if : (s : State) (e : Event) (b : Bool) (o p : Option Outcome) → Sort s e o → Sort s e p → Sort s e (if b then o else p)
+sort_if s e true o p first second = first
+sort_if s e false o p first second = second
+
+-- Searches
+
+load_sort : (s t : State) (e : Event) (c : ℕ) (q : Search) (r : Reply) → IsLoadOf c e → search_at s c ≡ Some q → Loads s c q t → Answers c q (taken t r) → Sort s e (taken t r)
+load_sort s t e c q r of is loads answers = Searched e c q (record { state = t; reply = r }) of is loads answers
+
+over_loads : (s : State) (c : ℕ) (q : Search) (answer : Option Entry) → Loads s c q (Events.search_over s c answer)
+over_loads s c q answer = record { history = refl; slots = refl; keeps = refl; section = refl; begins = refl; seen = inl refl; searches = inl refl }
+
+on_loads : (s : State) (c : ℕ) (q : Search) (p : Place) → Loads s c q (Events.going_on s c q p)
+on_loads s c q p = record { history = refl; slots = refl; keeps = refl; section = refl; begins = refl; seen = inl refl; searches = inr (p, refl) }
+
+link_loaded_sort : (s : State) (c : ℕ) (q : Search) (x : ℕ) → search_at s c ≡ Some q → Answers c q (link_loaded s c q x) → Sort s (LoadLink c) (link_loaded s c q x)
+link_loaded_sort s c q zero is answers = load_sort s _ (LoadLink c) c q _ (inl refl) is (record { history = refl; slots = refl; keeps = refl; section = refl; begins = refl; seen = inr refl; searches = inl refl }) answers
+link_loaded_sort s c q (suc t) is answers = load_sort s _ (LoadLink c) c q _ (inl refl) is (record { history = refl; slots = refl; keeps = refl; section = refl; begins = refl; seen = inr refl; searches = inr (AtNumber t, refl) }) answers
+
+load_link_sort : (s : State) (c : ℕ) (q : Search) (place : Place) → search_at s c ≡ Some q → Answers c q (load_link s c q place) → Sort s (LoadLink c) (load_link s c q place)
+load_link_sort s c q AtHead is answers = link_loaded_sort s c q s.head is answers
+load_link_sort s c q (AtNext t) is answers = link_loaded_sort s c q (get_or s.next t 0) is answers
+load_link_sort s c q (AtNumber t) is answers = Refused (LoadLink c)
+load_link_sort s c q (AtKind t n) is answers = Refused (LoadLink c)
+load_link_sort s c q (AtHigh t n k) is answers = Refused (LoadLink c)
+load_link_sort s c q (AtLow t n k h) is answers = Refused (LoadLink c)
+load_link_sort s c q (AtValue t n) is answers = Refused (LoadLink c)
+
+compared_sort : (s : State) (c : ℕ) (q : Search) (t n l : ℕ) (b : Bool) → search_at s c ≡ Some q → Answers c q (compared s c q t n l b) → Sort s (LoadRecord (OfSearch c)) (compared s c q t n l b)
+compared_sort s c q t n l true is answers = load_sort s _ (LoadRecord (OfSearch c)) c q _ (inr refl) is (on_loads s c q (AtValue t n)) answers
+compared_sort s c q t n l false is answers = load_sort s _ (LoadRecord (OfSearch c)) c q _ (inr refl) is (on_loads s c q (AtNext t)) answers
+
+searched_sort : (s : State) (c : ℕ) (q : Search) (place : Place) → search_at s c ≡ Some q → Answers c q (load_searched s c q place (row_at s.rows)) → Sort s (LoadRecord (OfSearch c)) (load_searched s c q place (row_at s.rows))
+searched_sort s c q AtHead is answers = Refused (LoadRecord (OfSearch c))
+searched_sort s c q (AtNext t) is answers = Refused (LoadRecord (OfSearch c))
+searched_sort s c q (AtNumber t) is answers = load_sort s _ (LoadRecord (OfSearch c)) c q _ (inr refl) is (on_loads s c q (AtKind t (row_at s.rows t).number)) answers
+searched_sort s c q (AtKind t n) is answers = load_sort s _ (LoadRecord (OfSearch c)) c q _ (inr refl) is (on_loads s c q (AtHigh t n (row_at s.rows t).kind)) answers
+searched_sort s c q (AtHigh t n k) is answers = load_sort s _ (LoadRecord (OfSearch c)) c q _ (inr refl) is (on_loads s c q (AtLow t n k (row_at s.rows t).high)) answers
+searched_sort s c q (AtLow t n k h) is answers = compared_sort s c q t n (row_at s.rows t).low (are_words_of q.key k h (row_at s.rows t).low) is answers
+searched_sort s c q (AtValue t n) is answers = load_sort s _ (LoadRecord (OfSearch c)) c q _ (inr refl) is (over_loads s c q (Some (Events.entry_found q t n (row_at s.rows t).value))) answers
+
+record_sort : (s : State) (of : RecordOf) → Holds s → Sort s (LoadRecord of) (Events.load_record s of)
+record_sort s (OfSearch c) on = sort_some s (LoadRecord (OfSearch c)) (search_at s c) _ (λ q is. searched_sort s c q q.place is (record_answers s c q on is))
+record_sort s (OfPassive c n k) on = sort_some s (LoadRecord (OfPassive c n k)) (slot_of s.slots n) _ (λ t of. sort_guard s (LoadRecord (OfPassive c n k)) _ _ (λ may. left s s (LoadRecord (OfPassive c n k)) _ (record { history = refl; slots = refl; keeps = refl; section = refl; begins = refl; seen = refl; searches = refl; reply = refl })))
+record_sort s (OfLocal id k) on = sort_some s (LoadRecord (OfLocal id k)) (Events.standing (local_at s.locals id)) _ (λ n at. sort_some s (LoadRecord (OfLocal id k)) (slot_of s.slots n) _ (λ t of. sort_guard s (LoadRecord (OfLocal id k)) _ _ (λ may. left s s (LoadRecord (OfLocal id k)) _ (record { history = refl; slots = refl; keeps = refl; section = refl; begins = refl; seen = refl; searches = refl; reply = refl }))))
+
+-- The events that take cases
+
+store_sort : (s : State) (t k v : ℕ) → Sort s (StoreSlot t k v) (Events.store_slot s t k v)
+store_sort s t k v = sort_if s (StoreSlot t k v) (nat_lt k 5) _ _
+    (sort_guard s (StoreSlot t k v) _ _ (λ may. left s _ (StoreSlot t k v) Done (record { history = refl; slots = refl; keeps = refl; section = refl; begins = refl; seen = refl; searches = refl; reply = refl })))
+    (sort_guard s (StoreSlot t k v) _ _ (λ may. left s _ (StoreSlot t k v) Done (record { history = refl; slots = refl; keeps = refl; section = refl; begins = refl; seen = refl; searches = refl; reply = refl })))
+
+unlinking_retires : (s : State) (t : ℕ) (e : Entry) (before : Option ℕ) → Retires s t e (retiring (unlinking s t before) t e)
+unlinking_retires s t e None = record { history = refl; slots = refl; keeps = refl; section = refl; begins = refl; seen = refl; searches = refl }
+unlinking_retires s t e (Some p) = record { history = refl; slots = refl; keeps = refl; section = refl; begins = refl; seen = refl; searches = refl }
+
+unpublish_sort : (s : State) (t : ℕ) (x : Slot) → slot_at s.slots t ≡ x → Sort s (Unpublish t) (Events.unpublish s t x)
+unpublish_sort s t Vacant is = Refused (Unpublish t)
+unpublish_sort s t (Live e) is = sort_guard s (Unpublish t) _ _ (λ rest. Unpublished t e (after_unpublish s t e) is (unlinking_retires s t e (slot_before s.slots s.next t)))
+unpublish_sort s t (Retired e) is = Refused (Unpublish t)
+
+tell_sort : (s : State) (to : Option ℕ) → Sort s (Tell to) (Events.tell s to)
+tell_sort s None = sort_guard s (Tell None) _ _ (λ may. left s s (Tell None) Done (record { history = refl; slots = refl; keeps = refl; section = refl; begins = refl; seen = refl; searches = refl; reply = refl }))
+tell_sort s (Some c) = sort_guard s (Tell (Some c)) _ _ (λ may. left s s (Tell (Some c)) Done (record { history = refl; slots = refl; keeps = refl; section = refl; begins = refl; seen = refl; searches = refl; reply = refl }))
+
+hear_sort : (s : State) (to : Option ℕ) → Sort s (Hear to) (Events.hear s to)
+hear_sort s None = sort_guard s (Hear None) _ _ (λ may. left s s (Hear None) Done (record { history = refl; slots = refl; keeps = refl; section = refl; begins = refl; seen = refl; searches = refl; reply = refl }))
+hear_sort s (Some c) = sort_guard s (Hear (Some c)) _ _ (λ may. Heard c may)
+
+snapshot_sort : (s : State) (to : Option ℕ) (c : ℕ) → Sort s (Snapshot to c) (Events.snapshot s to c)
+snapshot_sort s None c = sort_guard s (Snapshot None c) _ _ (λ may. left s s (Snapshot None c) _ (record { history = refl; slots = refl; keeps = refl; section = refl; begins = refl; seen = refl; searches = refl; reply = refl }))
+snapshot_sort s (Some t) c = sort_guard s (Snapshot (Some t) c) _ _ (λ may. left s _ (Snapshot (Some t) c) _ (record { history = refl; slots = refl; keeps = refl; section = refl; begins = refl; seen = refl; searches = refl; reply = refl }))
+
+look_sort : (s : State) (to : Option ℕ) (c : ℕ) → Sort s (Look to c) (Events.look s to c)
+look_sort s None c = sort_guard s (Look None c) _ _ (λ may. left s s (Look None c) _ (record { history = refl; slots = refl; keeps = refl; section = refl; begins = refl; seen = refl; searches = refl; reply = refl }))
+look_sort s (Some t) c = sort_guard s (Look (Some t) c) _ _ (λ may. left s _ (Look (Some t) c) _ (record { history = refl; slots = refl; keeps = refl; section = refl; begins = refl; seen = refl; searches = refl; reply = refl }))
+
+split_sort : (s : State) (c : ℕ) (h : Hand) → Sort s (SplitRef c) (Events.split_ref s c h)
+split_sort s c Empty = Refused (SplitRef c)
+split_sort s c (Taking n) = left s _ (SplitRef c) _ (record { history = refl; slots = refl; keeps = refl; section = refl; begins = refl; seen = refl; searches = refl; reply = refl })
+split_sort s c (Giving n id) = Refused (SplitRef c)
+split_sort s c (Back n id) = Refused (SplitRef c)
+
+count_down_sort : (s : State) (c : ℕ) (h : Hand) → Sort s (CountDown c) (Events.count_down s c h)
+count_down_sort s c Empty = Refused (CountDown c)
+count_down_sort s c (Taking n) = Refused (CountDown c)
+count_down_sort s c (Giving n id) = sort_some s (CountDown c) (slot_of s.slots n) _ (λ t of. sort_if s (CountDown c) (count_at s.counts c t == count_at s.nets c t) _ _
+    (left s _ (CountDown c) _ (record { history = refl; slots = refl; keeps = refl; section = refl; begins = refl; seen = refl; searches = refl; reply = refl })) (left s _ (CountDown c) _ (record { history = refl; slots = refl; keeps = refl; section = refl; begins = refl; seen = refl; searches = refl; reply = refl })))
+count_down_sort s c (Back n id) = Refused (CountDown c)
+
+split_back_sort : (s : State) (c : ℕ) (h : Hand) → Sort s (SplitBack c) (Events.split_back s c h)
+split_back_sort s c Empty = Refused (SplitBack c)
+split_back_sort s c (Taking n) = Refused (SplitBack c)
+split_back_sort s c (Giving n id) = Refused (SplitBack c)
+split_back_sort s c (Back n id) = left s _ (SplitBack c) _ (record { history = refl; slots = refl; keeps = refl; section = refl; begins = refl; seen = refl; searches = refl; reply = refl })
+
+total_add_sort : (s : State) (t : ℕ) (due : Due) → Sort s (TotalAdd t) (Events.total_add s t due)
+total_add_sort s t Rest = Refused (TotalAdd t)
+total_add_sort s t (Snapshots u c) = Refused (TotalAdd t)
+total_add_sort s t (Adding u old) = sort_guard s (TotalAdd t) _ _ (λ may. left s _ (TotalAdd t) Done (record { history = refl; slots = refl; keeps = refl; section = refl; begins = refl; seen = refl; searches = refl; reply = refl }))
+total_add_sort s t (Subtracting u) = Refused (TotalAdd t)
+
+total_sub_sort : (s : State) (t : ℕ) (due : Due) → Sort s (TotalSub t) (Events.total_sub s t due)
+total_sub_sort s t Rest = Refused (TotalSub t)
+total_sub_sort s t (Snapshots u c) = Refused (TotalSub t)
+total_sub_sort s t (Adding u old) = Refused (TotalSub t)
+total_sub_sort s t (Subtracting u) = sort_guard s (TotalSub t) _ _ (λ may. left s _ (TotalSub t) Done (record { history = refl; slots = refl; keeps = refl; section = refl; begins = refl; seen = refl; searches = refl; reply = refl }))
+
+-- Each event
+
+pub step_sort : (s : State) (e : Event) → Holds s → Sort s e (step s e)
+step_sort s (Seat c) on = sort_guard s (Seat c) _ _ (λ may. left s _ (Seat c) Done (record { history = refl; slots = refl; keeps = refl; section = refl; begins = refl; seen = refl; searches = refl; reply = refl }))
+step_sort s (Enter c) on = sort_guard s (Enter c) _ _ (λ may. Entered c may)
+step_sort s (Exit c) on = sort_guard s (Exit c) _ _ (λ may. Exited c may)
+step_sort s (Seek c kind name) on = sort_guard s (Seek c kind name) _ _ (λ may. Sought c kind name may)
+step_sort s (LoadLink c) on = sort_some s (LoadLink c) (search_at s c) _ (λ q is. load_link_sort s c q q.place is (link_answers s c q on is))
+step_sort s (LoadRecord of) on = record_sort s of on
+step_sort s (StoreSlot t k v) on = store_sort s t k v
+step_sort s (StoreNext t v) on = sort_guard s (StoreNext t v) _ _ (λ may. left s _ (StoreNext t v) Done (record { history = refl; slots = refl; keeps = refl; section = refl; begins = refl; seen = refl; searches = refl; reply = refl }))
+step_sort s (Publish t) on = sort_some s (Publish t) (entry_of t (row_at s.rows t)) _ (λ e is. sort_guard s (Publish t) _ _ (λ may. Published t e is may))
+step_sort s (Unpublish t) on = unpublish_sort s t (slot_at s.slots t) refl
+step_sort s (Tell to) on = tell_sort s to
+step_sort s (Hear to) on = hear_sort s to
+step_sort s (Snapshot to c) on = snapshot_sort s to c
+step_sort s (Look to c) on = look_sort s to c
+step_sort s (PassiveAdd c n) on = sort_some s (PassiveAdd c n) (slot_of s.slots n) _ (λ t of. sort_guard s (PassiveAdd c n) _ _ (λ may. left s _ (PassiveAdd c n) _ (record { history = refl; slots = refl; keeps = refl; section = refl; begins = refl; seen = refl; searches = refl; reply = refl })))
+step_sort s (PassiveSub c n) on = sort_some s (PassiveSub c n) (slot_of s.slots n) _ (λ t of. sort_guard s (PassiveSub c n) _ _ (λ may. left s _ (PassiveSub c n) _ (record { history = refl; slots = refl; keeps = refl; section = refl; begins = refl; seen = refl; searches = refl; reply = refl })))
+step_sort s (PassiveLook t c) on = sort_guard s (PassiveLook t c) _ _ (λ may. left s _ (PassiveLook t c) _ (record { history = refl; slots = refl; keeps = refl; section = refl; begins = refl; seen = refl; searches = refl; reply = refl }))
+step_sort s (CountAdd c) on = sort_some s (CountAdd c) (found_at s c) _ (λ e is. sort_some s (CountAdd c) (slot_of s.slots e.number) _ (λ t of. sort_guard s (CountAdd c) _ _ (λ may. left s _ (CountAdd c) _ (record { history = refl; slots = refl; keeps = refl; section = refl; begins = refl; seen = refl; searches = refl; reply = refl }))))
+step_sort s (SplitRef c) on = split_sort s c (hand_at s c)
+step_sort s (JoinRef c id) on = sort_some s (JoinRef c id) (Events.standing (local_at s.locals id)) _ (λ n at. sort_guard s (JoinRef c id) _ _ (λ may. left s _ (JoinRef c id) Done (record { history = refl; slots = refl; keeps = refl; section = refl; begins = refl; seen = refl; searches = refl; reply = refl })))
+step_sort s (CountDown c) on = count_down_sort s c (hand_at s c)
+step_sort s (SplitBack c) on = split_back_sort s c (hand_at s c)
+step_sort s (Collect t c) on = sort_guard s (Collect t c) _ _ (λ may. left s _ (Collect t c) _ (record { history = refl; slots = refl; keeps = refl; section = refl; begins = refl; seen = refl; searches = refl; reply = refl }))
+step_sort s (TotalAdd t) on = total_add_sort s t s.due
+step_sort s (JoinKeeper id) on = sort_some s (JoinKeeper id) (Events.standing (local_at s.locals id)) _ (λ n at. sort_some s (JoinKeeper id) (slot_of s.slots n) _ (λ t of. sort_guard s (JoinKeeper id) _ _ (λ may. left s _ (JoinKeeper id) Done (record { history = refl; slots = refl; keeps = refl; section = refl; begins = refl; seen = refl; searches = refl; reply = refl }))))
+step_sort s (TotalSub t) on = total_sub_sort s t s.due
+step_sort s (Keep t id) on = sort_some s (Keep t id) (Events.standing (local_at s.locals id)) _ (λ n at. sort_some s (Keep t id) (slot_of s.slots n) _ (λ u of. sort_guard s (Keep t id) _ _ (λ may. Kept t id n u may)))
+step_sort s (KeptSub t) on = sort_some s (KeptSub t) (kept_at s.keeps t) _ (λ d is. sort_some s (KeptSub t) (slot_of s.slots d) _ (λ u of. sort_guard s (KeptSub t) _ _ (λ may. Gave_up t d u is of (and_parts _ (is_drained s t) may).1)))
+step_sort s (Vacate t) on = sort_guard s (Vacate t) _ _ (λ may. Vacated t may)
+
+-- Runs
+
+-- the counts of a run don't matter to its state
+turned_state : (r : Ran) (o : Option Outcome) → (turned r o).state ≡ state_after r.state o
+turned_state r None = refl
+turned_state r (Some o) = refl
+
+pub same_states : (q r : Ran) (es : List Event) → q.state ≡ r.state → (ran q es).state ≡ (ran r es).state
+same_states q r [] same = same
+same_states q r (e ∷ es) same = same_states (turned q (step q.state e)) (turned r (step r.state e)) es
+    (turned_state q (step q.state e) ∙ (ap (λ (s : State). state_after s (step s e)) same ∙ sym (turned_state r (step r.state e))))
+
+-- one event, and then the others
+pub after_more : (s : State) (e : Event) (es : List Event) → after s (e ∷ es) ≡ after (after_event s e) es
+after_more s e es = same_states (turned (rested s) (step s e)) (rested (after_event s e)) es (turned_state (rested s) (step s e))

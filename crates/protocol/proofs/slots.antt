@@ -1,0 +1,5 @@
+pub mod Cells
+pub mod MarkRows
+pub mod Numbers
+pub mod Occupied
+pub mod Places

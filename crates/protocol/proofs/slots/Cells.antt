@@ -1,0 +1,108 @@
+-- Places of rows, of slots and of totals, after one is written.
+use Rattle.std.proofs.Common.{◌≡◌, ℕ, zero, suc, ◌<◌, ◌≤◌, ◌⊎◌, inl, inr, ⊎_elim, List, [], length, get_or, set, replicate, refl, sym, ap, subst, ◌∙◌, get_or-set_same, get_or-set_other}
+use Rattle.std.proofs.lemmas.List.{set_past}
+use Rattle.std.proofs.lemmas.Bool.{cases_lt, cases_eq}
+use Rattle.registry_values.specs.declared.entry.Entry.{Entry}
+use Rattle.registry_values.specs.declared.slot.Slot.{Slot}
+use Rattle.registry_values.specs.declared.slot.Slot.TheVariants.{Vacant, Live, Retired}
+use Rattle.protocol.specs.State.{cell, with_cell, total_at}
+use Rattle.registry_values.specs.Slots.{slot_at}
+use Rattle.protocol.specs.Invariant.{IsIn}
+use Rattle.protocol.proofs.slots.Occupied.{not_vacant}
+
+-- it is the place that was written, or another
+pub by_place : (P : ℕ → Type 0) (c j : ℕ) → P c → ((j ≡ c → ⊥) → P j) → P j
+by_place P c j here other = ⊎_elim (λ (same : j ≡ c). subst P (sym same) here) (λ (off : j ≡ c → ⊥). other off) (cases_eq j c)
+
+-- the same of a place in a row
+pub by_cell : (P : ℕ → ℕ → Type 0) (t c u j : ℕ) → P t c → ((u ≡ t → j ≡ c → ⊥) → P u j) → P u j
+by_cell P t c u j here other = ⊎_elim
+    (λ (same : u ≡ t). ⊎_elim
+    (λ (too : j ≡ c). subst (λ (k : ℕ). P k j) (sym same) (subst (P t) (sym too) here))
+    (λ (off : j ≡ c → ⊥). other (λ _ is. off is))
+    (cases_eq j c))
+    (λ (off : u ≡ t → ⊥). other (λ is _. off is))
+    (cases_eq u t)
+
+-- the row that was written, and the others
+pub row_here : {X : Type 0} (rows : List (List X)) (t c : ℕ) (x : X) → t < length rows → get_or (with_cell rows t c x) t [] ≡ set (get_or rows t []) c x
+row_here rows t c x lt = get_or-set_same rows t (set (get_or rows t []) c x) [] lt
+
+pub row_other : {X : Type 0} (rows : List (List X)) (t c : ℕ) (x : X) (u : ℕ) → (u ≡ t → ⊥) → get_or (with_cell rows t c x) u [] ≡ get_or rows u []
+row_other rows t c x u off = get_or-set_other rows t u (set (get_or rows t []) c x) [] off
+
+pub cell_here : {X : Type 0} (d : X) (rows : List (List X)) (t c : ℕ) (x : X) → t < length rows → c < length (get_or rows t []) → cell d (with_cell rows t c x) t c ≡ x
+cell_here {X} d rows t c x lt cl = ap (λ (r : List X). get_or r c d) (row_here rows t c x lt) ∙ get_or-set_same (get_or rows t []) c x d cl
+
+pub cell_other : {X : Type 0} (d : X) (rows : List (List X)) (t c : ℕ) (x : X) (u j : ℕ) → (u ≡ t → j ≡ c → ⊥) → cell d (with_cell rows t c x) u j ≡ cell d rows u j
+cell_other {X} d rows t c x u j off = ⊎_elim
+    (λ (same : u ≡ t). ⊎_elim
+    (λ (lt : t < length rows).
+    ap (λ (k : ℕ). cell d (with_cell rows t c x) k j) same ∙ (ap (λ (r : List X). get_or r j d) (row_here rows t c x lt)
+    ∙ (get_or-set_other (get_or rows t []) c j x d (off same) ∙ ap (λ (k : ℕ). cell d rows k j) (sym same))))
+    (λ (ge : length rows ≤ t). ap (λ (r : List (List X)). cell d r u j) (set_past rows t (set (get_or rows t []) c x) ge))
+    (cases_lt t (length rows)))
+    (λ (away : u ≡ t → ⊥). ap (λ (r : List X). get_or r j d) (row_other rows t c x u away))
+    (cases_eq u t)
+
+-- what was written, or what stood there
+pub cell_cases : {X : Type 0} (d : X) (rows : List (List X)) (t c : ℕ) (x : X) (u j : ℕ) → ((u ≡ t) × (j ≡ c) × (cell d (with_cell rows t c x) u j ≡ x)) ⊎ (cell d (with_cell rows t c x) u j ≡ cell d rows u j)
+cell_cases {X} d rows t c x u j = ⊎_elim
+    (λ (same : u ≡ t). ⊎_elim
+    (λ (too : j ≡ c). ⊎_elim
+    (λ (lt : t < length rows). ⊎_elim
+    (λ (cl : c < length (get_or rows t [])).
+    inl (same, too, ap (λ (k : ℕ). cell d (with_cell rows t c x) k j) same ∙ (ap (λ (k : ℕ). cell d (with_cell rows t c x) t k) too ∙ cell_here d rows t c x lt cl)))
+    (λ (ge : length (get_or rows t []) ≤ c).
+    inr (ap (λ (k : ℕ). cell d (with_cell rows t c x) k j) same ∙ (ap (λ (r : List X). get_or r j d) (row_here rows t c x lt ∙ set_past (get_or rows t []) c x ge) ∙ ap (λ (k : ℕ). cell d rows k j) (sym same))))
+    (cases_lt c (length (get_or rows t []))))
+    (λ (ge : length rows ≤ t). inr (ap (λ (r : List (List X)). cell d r u j) (set_past rows t (set (get_or rows t []) c x) ge)))
+    (cases_lt t (length rows)))
+    (λ (off : j ≡ c → ⊥). inr (cell_other d rows t c x u j (λ _ is. off is)))
+    (cases_eq j c))
+    (λ (off : u ≡ t → ⊥). inr (cell_other d rows t c x u j (λ is _. off is)))
+    (cases_eq u t)
+
+-- a row that was written whole
+pub cell_in_new : {X : Type 0} (d : X) (rows : List (List X)) (t : ℕ) (row : List X) (j : ℕ) → t < length rows → cell d (set rows t row) t j ≡ get_or row j d
+cell_in_new {X} d rows t row j lt = ap (λ (r : List X). get_or r j d) (get_or-set_same rows t row [] lt)
+
+pub cell_in_old : {X : Type 0} (d : X) (rows : List (List X)) (t : ℕ) (row : List X) (u j : ℕ) → (u ≡ t → ⊥) → cell d (set rows t row) u j ≡ cell d rows u j
+cell_in_old {X} d rows t row u j off = ap (λ (r : List X). get_or r j d) (get_or-set_other rows t u row [] off)
+
+-- each place of such a list shows x, and so does each place past its end
+pub get_or_all : {X : Type 0} (n : ℕ) (x : X) (i : ℕ) → get_or (replicate n x) i x ≡ x
+get_or_all zero x i = refl
+get_or_all (suc n) x zero = refl
+get_or_all (suc n) x (suc i) = get_or_all n x i
+
+-- a slot has one entry
+pub one_in : (e f : Entry) (x : Slot) → IsIn e x → IsIn f x → f ≡ e
+one_in e f x first second = ⊎_elim
+    (λ (live : x ≡ Live e). ⊎_elim
+    (λ (too : x ≡ Live f). let q : Live f ≡ Live e = sym too ∙ live in cc)
+    (λ (gone : x ≡ Retired f). absurd (let q : Retired f ≡ Live e = sym gone ∙ live in cc))
+    second)
+    (λ (retired : x ≡ Retired e). ⊎_elim
+    (λ (live : x ≡ Live f). absurd (let q : Live f ≡ Retired e = sym live ∙ retired in cc))
+    (λ (too : x ≡ Retired f). let q : Retired f ≡ Retired e = sym too ∙ retired in cc)
+    second)
+    first
+
+-- the slot that was written, and the others
+pub slot_here : (slots : List Slot) (t : ℕ) (x : Slot) → t < length slots → slot_at (set slots t x) t ≡ x
+slot_here slots t x lt = get_or-set_same slots t x Vacant lt
+
+pub slot_other : (slots : List Slot) (t : ℕ) (x : Slot) (u : ℕ) → (u ≡ t → ⊥) → slot_at (set slots t x) u ≡ slot_at slots u
+slot_other slots t x u off = get_or-set_other slots t u x Vacant off
+
+-- a slot that isn't the one made vacant
+pub not_vacated : (slots : List Slot) (t : ℕ) (u : ℕ) (f : Entry) → t < length slots → IsIn f (slot_at (set slots t Vacant) u) → u ≡ t → ⊥
+not_vacated slots t u f lt is same = not_vacant f (slot_at (set slots t Vacant) u) (ap (slot_at (set slots t Vacant)) same ∙ slot_here slots t Vacant lt) is
+
+-- the total that was written, and the others
+pub total_here : (totals : List ℕ) (t v : ℕ) → t < length totals → total_at (set totals t v) t ≡ v
+total_here totals t v lt = get_or-set_same totals t v 0 lt
+
+pub total_other : (totals : List ℕ) (t v u : ℕ) → (u ≡ t → ⊥) → total_at (set totals t v) u ≡ total_at totals u
+total_other totals t v u off = get_or-set_other totals t u v 0 off
