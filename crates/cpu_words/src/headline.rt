@@ -2,21 +2,21 @@
 
 ghost use Rattle.cpu_words.specs.Headline.{DrainedIsFree, FoundIsHeld, HeldHaveSlots, MarksAreHonest, RunningHeadline};
 
-/// Does nothing; its contract says the headline of the running words, between any two steps of whatever threads. `run`: there is a list of
-/// events from the opening such that the words and the views of all seats show the state after it. That state has the core invariant, a run
-/// of the model reaches its picture, and it obeys all laws of the protocol: the headline, safe reuse, drivers that outlive their interfaces,
-/// lawful answers, balance at rest and the grace law. `held`: an entry that a CPU's open section may hold, or to which a CPU has a passive
-/// reference, or a CPU, a seat or a slot has a local one, has its slot.
+/// Does nothing; its contract says the headline of the running words, between any two steps of whatever threads. `run`: there is a list
+/// of events from the opening such that the words and the views of all seats show the state after it. That state has the core invariant,
+/// a run of the model reaches its picture, and it obeys all laws of the protocol: the headline, safe reuse, drivers that outlive their
+/// interfaces, lawful answers, balance at rest and the grace law. `held`: an entry that a CPU's open section may hold, or to which a CPU
+/// has a passive reference, or a CPU, a seat or a slot has a local one, has its slot.
 pub fn running_headline()
     ensures run { RunningHeadline }
     ensures held { HeldHaveSlots }
 {}
 
 /// Does nothing; its contract says what the keeper's marks tell of all seats, between any two steps of whatever threads. `drained`: where
-/// all marks of a retired slot are set and its total is just the bias, nothing holds its entry: no open section of any CPU may hold it, no CPU has
-/// a passive reference to it or one in its hand, no seat is a local reference to it, and no slot keeps one. `marked`: what one CPU's marks
-/// tell. It passed: no open section of it may hold the entry. It is clear: it has no passive reference to it, and its passive word is 0.
-/// It is collected: its count word is 0. `found`: a CPU's last found entry may be held by that CPU's open section.
+/// all marks of a retired slot are set and its total is just the bias, nothing holds its entry: no open section of any CPU may hold it,
+/// no CPU has a passive reference to it or one in its hand, no seat is a local reference to it, and no slot keeps one. `marked`: what one
+/// CPU's marks tell. It passed: no open section of it may hold the entry. It is clear: it has no passive reference to it, and its passive
+/// word is 0. It is collected: its count word is 0. `found`: a CPU's last found entry may be held by that CPU's open section.
 pub fn honest_marks()
     ensures drained { DrainedIsFree }
     ensures marked { MarksAreHonest }
