@@ -27,4 +27,4 @@ pub use settings::Settings;
 pub use slot::{
     Key, Slot, has_number, is_live, is_live_as, is_plain, is_retired_as, key_of, retired_number,
 };
-pub use stage::{Stage, destroyed, settled};
+pub use stage::{Stage, destroyed};

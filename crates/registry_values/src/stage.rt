@@ -1,7 +1,7 @@
 //! How far the destruction of a retired entry has come.
 
-ghost use Rattle.std.specs.Prelude.{◌≡◌, None};
-ghost use Rattle.registry_values.specs.Stages.{destroyed, stage_of};
+ghost use Rattle.std.specs.Prelude.{◌≡◌};
+ghost use Rattle.registry_values.specs.Stages.{destroyed};
 
 use crate::refusal::Refusal;
 
@@ -16,17 +16,6 @@ pub enum Stage {
     Local(u64),
     /// Nothing: this slot is vacant again.
     Freed(u8),
-}
-
-/// The stage of a slot whose marks are all set: the local references that are held (localcount(9)), or nothing.
-pub fn settled(slot: u8, held: u64) -> Stage
-    ensures { result ≡ stage_of slot None None held }
-{
-    if held == 0 {
-        Stage::Freed(slot)
-    } else {
-        Stage::Local(held)
-    }
 }
 
 /// What a destroy answers by its last stage: the slot that was freed, or the obstacle as a refusal.
