@@ -15,3 +15,4 @@ pub mod Publishing
 pub mod Keeping
 pub mod Notes
 pub mod Opening
+pub mod Domains
