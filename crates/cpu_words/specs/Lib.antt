@@ -16,3 +16,4 @@ pub mod Keeping
 pub mod Notes
 pub mod Opening
 pub mod Headline
+pub mod Domains

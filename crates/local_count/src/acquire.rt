@@ -2,6 +2,7 @@
 
 ghost use Rattle.std.specs.Prelude.{◌≡◌, ◌↔◌, ◌⊎◌, Some, None, IfOk, IfErr, IsErrOf};
 ghost use Rattle.registry_values.specs.declared.entry.Entry.{Entry};
+ghost use Rattle.cpu_words.specs.Domains.{AreWordsOf};
 ghost use Rattle.local_count.specs.References.{HasAcquired, IsFull};
 
 use crate::local_ref::LocalRef;
@@ -16,7 +17,7 @@ use std::marker::PhantomData;
 /// Refused: `NothingFound` where this CPU has no last found entry, then `LocalFull` where its own net count for that entry is
 /// `count_limit`. Nothing changes then.
 pub fn acquire_local<D: Domain>(words: &Words, cpu: &mut Cpu<D>) -> Result<LocalRef<D>, Refusal>
-    requires words { (words.now.table ≡ D.table) × (words.now.settings ≡ D.settings) }
+    requires words { AreWordsOf words.now D.table D.settings }
     ensures ok { IfOk result (λ v. HasAcquired cpu.old cpu.new v) }
     ensures refused { IfErr result (λ _. cpu.new ≡ cpu.old) }
     ensures nothing { IsErrOf result Refusal.NothingFound ↔ cpu.old.view.found ≡ None }

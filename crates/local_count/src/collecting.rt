@@ -7,6 +7,7 @@ ghost use Rattle.registry_values.specs.Marks.{have_passed, are_clear, are_collec
 ghost use Rattle.registry_values.specs.Balances.{bias};
 ghost use Rattle.registry_values.specs.Slots.{slot_at};
 ghost use Rattle.protocol.specs.State.{mark_at, total_at};
+ghost use Rattle.cpu_words.specs.Domains.{AreWordsOf};
 ghost use Rattle.local_count.specs.Draining.{HasCollectedInto, AreHeld};
 
 use cpu_words::{Domain, Words, steps};
@@ -18,7 +19,7 @@ use registry_values::{BIAS, collected as collected_mark};
 /// Condition: the slot's entry is retired, all CPUs have passed and are clear for it (`Keeper::have_passed`, `Keeper::are_clear`), and
 /// this CPU's word isn't collected yet (`collected`).
 pub fn collect<D: Domain>(words: &Words, keeper: &mut Keeper<D>, slot: u8, cpu: u8)
-    requires words { (words.now.table ≡ D.table) × (words.now.settings ≡ D.settings) }
+    requires words { AreWordsOf words.now D.table D.settings }
     requires cpu { cpu < D.settings.cpus }
     requires retired { (e : Entry) × (slot_at keeper.old.slots slot ≡ Retired e) }
     requires passed { have_passed D.settings.cpus (slice_index_or keeper.old.view.marks slot []) ≡ true }
@@ -48,7 +49,7 @@ pub fn collected<D: Domain>(keeper: &Keeper<D>, slot: u8, cpu: u8) -> bool
 /// Condition: the slot's entry is retired, and all CPUs have passed, are clear and collected for it (`Keeper::have_passed`,
 /// `Keeper::are_clear`, `Keeper::are_collected`).
 pub fn total<D: Domain>(words: &Words, keeper: &mut Keeper<D>, slot: u8) -> u64
-    requires words { (words.now.table ≡ D.table) × (words.now.settings ≡ D.settings) }
+    requires words { AreWordsOf words.now D.table D.settings }
     requires retired { (e : Entry) × (slot_at keeper.old.slots slot ≡ Retired e) }
     requires passed { have_passed D.settings.cpus (slice_index_or keeper.old.view.marks slot []) ≡ true }
     requires clear { are_clear D.settings.cpus (slice_index_or keeper.old.view.marks slot []) ≡ true }

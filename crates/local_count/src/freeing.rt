@@ -5,6 +5,7 @@ ghost use Rattle.registry_values.specs.declared.entry.Entry.{Entry};
 ghost use Rattle.registry_values.specs.declared.entry.Kind.TheVariants.{Iface};
 ghost use Rattle.registry_values.specs.declared.slot.Slot.TheVariants.{Retired};
 ghost use Rattle.registry_values.specs.Slots.{slot_at};
+ghost use Rattle.cpu_words.specs.Domains.{AreWordsOf};
 ghost use Rattle.passive_list.specs.Vacating.{IsDrainedOn};
 ghost use Rattle.local_count.specs.Draining.{HasFreed, kept_slot, place_of};
 
@@ -15,7 +16,7 @@ use registry_values::has_number;
 /// Frees the slot of a retired and drained interface: the reference to its driver is given up in the same step.
 /// Condition: the slot is drained (`Keeper::is_drained`), and its entry is an interface.
 pub fn free_iface<D: Domain>(words: &Words, keeper: &mut Keeper<D>, slot: u8)
-    requires words { (words.now.table ≡ D.table) × (words.now.settings ≡ D.settings) }
+    requires words { AreWordsOf words.now D.table D.settings }
     requires drained { IsDrainedOn keeper.old slot }
     requires iface { (e : Entry) × (slot_at keeper.old.slots slot ≡ Retired e) × (e.rec.kind ≡ Iface) }
     ensures change { HasFreed keeper.old slot keeper.new }

@@ -1,6 +1,6 @@
 //! Giving a local reference up under the interlock (localcount(9)), where its CPU's count word was collected.
 
-ghost use Rattle.std.specs.Prelude.{◌≡◌};
+ghost use Rattle.cpu_words.specs.Domains.{AreWordsOf};
 ghost use Rattle.cpu_words.specs.Draining.{IsFoundCollected};
 ghost use Rattle.local_count.specs.Draining.{HasGivenUp};
 
@@ -12,7 +12,7 @@ use passive_list::Keeper;
 /// Condition: some count word of its slot was collected. `try_release` found it so where it handed the reference back; else the keeper
 /// has an entry with the reference's number retired in a slot (`Keeper::slot`), and `collected` tells of some CPU.
 pub fn release_under<D: Domain>(words: &Words, keeper: &mut Keeper<D>, reference: LocalRef<D>)
-    requires words { (words.now.table ≡ D.table) × (words.now.settings ≡ D.settings) }
+    requires words { AreWordsOf words.now D.table D.settings }
     requires collected { IsFoundCollected keeper.old.slots keeper.old.view.marks reference }
     ensures change { HasGivenUp keeper.old reference keeper.new }
 {

@@ -6,6 +6,7 @@ ghost use Rattle.registry_values.specs.declared.slot.Slot.TheVariants.{Vacant};
 ghost use Rattle.registry_values.specs.Slots.{key_of_record, is_taken, live_count, slot_at};
 ghost use Rattle.registry_values.specs.Names.{is_lawful};
 ghost use Rattle.protocol.specs.State.{kept_at};
+ghost use Rattle.cpu_words.specs.Domains.{AreWordsOf};
 ghost use Rattle.local_count.specs.Draining.{HasAttachedKeeping};
 
 use crate::local_ref::LocalRef;
@@ -25,7 +26,7 @@ pub fn publish_iface<D: Domain>(
     rec: Record,
     reference: LocalRef<D>,
 ) -> Entry
-    requires words { (words.now.table ≡ D.table) × (words.now.settings ≡ D.settings) }
+    requires words { AreWordsOf words.now D.table D.settings }
     requires vacant { (slot < D.settings.slots) × (slot_at keeper.old.slots slot ≡ Vacant) }
     requires nothing { kept_at keeper.old.view.keeps slot ≡ None }
     requires kind { rec.kind ≡ Iface }

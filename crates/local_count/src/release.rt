@@ -1,6 +1,7 @@
 //! Releasing a local reference by a CPU's own count (localcount(9)).
 
-ghost use Rattle.std.specs.Prelude.{◌≡◌, IfOk, IfErr};
+ghost use Rattle.std.specs.Prelude.{IfOk, IfErr};
+ghost use Rattle.cpu_words.specs.Domains.{AreWordsOf};
 ghost use Rattle.local_count.specs.References.{HasReleased, HasComeBack};
 
 use crate::local_ref::LocalRef;
@@ -18,7 +19,7 @@ pub fn try_release<D: Domain>(
     cpu: &mut Cpu<D>,
     reference: LocalRef<D>,
 ) -> Result<(), LocalRef<D>>
-    requires words { (words.now.table ≡ D.table) × (words.now.settings ≡ D.settings) }
+    requires words { AreWordsOf words.now D.table D.settings }
     ensures ok { IfOk result (λ _. HasReleased cpu.old reference cpu.new) }
     ensures back { IfErr result (λ v. HasComeBack cpu.old reference cpu.new v) }
 {

@@ -5,6 +5,7 @@ ghost use Rattle.registry_values.specs.declared.entry.Entry.{Entry};
 ghost use Rattle.registry_values.specs.declared.slot.Slot.TheVariants.{Retired};
 ghost use Rattle.registry_values.specs.Slots.{retired_slot, slot_at};
 ghost use Rattle.protocol.specs.State.{mark_at};
+ghost use Rattle.cpu_words.specs.Domains.{AreWordsOf};
 ghost use Rattle.passive_list.specs.Vacating.{IsDrainedOn};
 ghost use Rattle.name_registry.specs.Advancing.{HasAdvanced, Meets, MeetsGrace, MeetsPassive, HasLookedFor, HasWorkedFor, MayWork, SeesSection, SeesPassive, Settles, HasEnded, PassedBelow, ClearBelow, CollectedBelow, is_retired_row};
 ghost use Rattle.name_registry.specs.Locking.{IsStageOf};
@@ -25,7 +26,7 @@ pub fn advance_in<D: Domain>(
     keeper: &mut Keeper<D>,
     number: u64,
 ) -> Result<Stage, Refusal>
-    requires words { (words.now.table ≡ D.table) × (words.now.settings ≡ D.settings) }
+    requires words { AreWordsOf words.now D.table D.settings }
     ensures answer { HasAdvanced keeper.old number result keeper.new }
     ensures stage { IfOk result (λ stage. IsStageOf D.settings stage) }
 {
@@ -55,7 +56,7 @@ fn place_retired_as(rows: &[Row], number: u64) -> Option<usize>
 
 /// The work on the slot's retired entry, up to the first obstacle.
 fn advance_slot<D: Domain>(words: &Words, keeper: &mut Keeper<D>, slot: u8) -> Stage
-    requires words { (words.now.table ≡ D.table) × (words.now.settings ≡ D.settings) }
+    requires words { AreWordsOf words.now D.table D.settings }
     requires works { MayWork D.settings keeper.old slot }
     ensures { Meets keeper.old slot result keeper.new }
 {
@@ -72,7 +73,7 @@ fn advance_slot<D: Domain>(words: &Words, keeper: &mut Keeper<D>, slot: u8) -> S
 /// Looks at the section word of each CPU that hasn't passed for the slot's retired entry, up to the first that doesn't pass: it is the
 /// answer.
 pub(crate) fn look_at_all<D: Domain>(words: &Words, keeper: &mut Keeper<D>, slot: u8) -> Option<u8>
-    requires words { (words.now.table ≡ D.table) × (words.now.settings ≡ D.settings) }
+    requires words { AreWordsOf words.now D.table D.settings }
     requires retired { (e : Entry) × (slot_at keeper.old.slots slot ≡ Retired e) }
     ensures met { IfSome result (λ c. MeetsGrace keeper.old slot c keeper.new) }
     ensures passed { result ≡ None → PassedBelow keeper.new.view slot D.settings.cpus }
@@ -88,7 +89,7 @@ pub(crate) fn look_at_all<D: Domain>(words: &Words, keeper: &mut Keeper<D>, slot
 
 /// Whether the CPU has passed, by an earlier look or by this one.
 fn passes<D: Domain>(words: &Words, keeper: &mut Keeper<D>, slot: u8, cpu: u8) -> bool
-    requires words { (words.now.table ≡ D.table) × (words.now.settings ≡ D.settings) }
+    requires words { AreWordsOf words.now D.table D.settings }
     requires works { MayWork D.settings keeper.old slot }
     requires cpu { cpu < D.settings.cpus }
     ensures passed { result ≡ (mark_at keeper.new.view.marks slot cpu).passed }
@@ -104,7 +105,7 @@ fn passes<D: Domain>(words: &Words, keeper: &mut Keeper<D>, slot: u8, cpu: u8) -
 /// Looks at the passive word of each CPU that isn't clear for the slot's retired entry, up to the first that doesn't become clear: it is
 /// the answer.
 fn look_at_passive<D: Domain>(words: &Words, keeper: &mut Keeper<D>, slot: u8) -> Option<u8>
-    requires words { (words.now.table ≡ D.table) × (words.now.settings ≡ D.settings) }
+    requires words { AreWordsOf words.now D.table D.settings }
     requires works { MayWork D.settings keeper.old slot }
     requires passed { PassedBelow keeper.old.view slot D.settings.cpus }
     ensures met { IfSome result (λ c. MeetsPassive keeper.old slot c keeper.new) }
@@ -121,7 +122,7 @@ fn look_at_passive<D: Domain>(words: &Words, keeper: &mut Keeper<D>, slot: u8) -
 
 /// Whether the CPU is clear, by an earlier look or by this one.
 fn clears<D: Domain>(words: &Words, keeper: &mut Keeper<D>, slot: u8, cpu: u8) -> bool
-    requires words { (words.now.table ≡ D.table) × (words.now.settings ≡ D.settings) }
+    requires words { AreWordsOf words.now D.table D.settings }
     requires works { MayWork D.settings keeper.old slot }
     requires passed { PassedBelow keeper.old.view slot D.settings.cpus }
     requires cpu { cpu < D.settings.cpus }
@@ -137,7 +138,7 @@ fn clears<D: Domain>(words: &Words, keeper: &mut Keeper<D>, slot: u8, cpu: u8) -
 
 /// Collects the count words of all CPUs for the slot's retired entry that aren't collected yet.
 fn collect_all<D: Domain>(words: &Words, keeper: &mut Keeper<D>, slot: u8)
-    requires words { (words.now.table ≡ D.table) × (words.now.settings ≡ D.settings) }
+    requires words { AreWordsOf words.now D.table D.settings }
     requires works { MayWork D.settings keeper.old slot }
     requires passed { PassedBelow keeper.old.view slot D.settings.cpus }
     requires clear { ClearBelow keeper.old.view slot D.settings.cpus }
@@ -151,7 +152,7 @@ fn collect_all<D: Domain>(words: &Words, keeper: &mut Keeper<D>, slot: u8)
 
 /// Collects the count word of the CPU, if that isn't done yet.
 fn collect_one<D: Domain>(words: &Words, keeper: &mut Keeper<D>, slot: u8, cpu: u8)
-    requires words { (words.now.table ≡ D.table) × (words.now.settings ≡ D.settings) }
+    requires words { AreWordsOf words.now D.table D.settings }
     requires works { MayWork D.settings keeper.old slot }
     requires passed { PassedBelow keeper.old.view slot D.settings.cpus }
     requires clear { ClearBelow keeper.old.view slot D.settings.cpus }
@@ -167,7 +168,7 @@ fn collect_one<D: Domain>(words: &Words, keeper: &mut Keeper<D>, slot: u8, cpu: 
 
 /// Frees the slot, whose count words are all collected, where no local reference to its entry is held.
 fn settle<D: Domain>(words: &Words, keeper: &mut Keeper<D>, slot: u8) -> Stage
-    requires words { (words.now.table ≡ D.table) × (words.now.settings ≡ D.settings) }
+    requires words { AreWordsOf words.now D.table D.settings }
     requires works { MayWork D.settings keeper.old slot }
     requires passed { PassedBelow keeper.old.view slot D.settings.cpus }
     requires clear { ClearBelow keeper.old.view slot D.settings.cpus }
@@ -184,7 +185,7 @@ fn settle<D: Domain>(words: &Words, keeper: &mut Keeper<D>, slot: u8) -> Stage
 
 /// Makes the drained slot vacant; where it keeps a reference to a driver, that is given up.
 fn free<D: Domain>(words: &Words, keeper: &mut Keeper<D>, slot: u8)
-    requires words { (words.now.table ≡ D.table) × (words.now.settings ≡ D.settings) }
+    requires words { AreWordsOf words.now D.table D.settings }
     requires works { MayWork D.settings keeper.old slot }
     requires drained { IsDrainedOn keeper.old slot }
     ensures { HasEnded keeper.old slot keeper.new }

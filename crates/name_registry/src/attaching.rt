@@ -3,6 +3,7 @@
 ghost use Rattle.std.specs.Prelude.{◌≡◌, IfOk, IfErr, IsTrue, Ok, Err};
 ghost use Rattle.registry_values.specs.declared.entry.Kind.TheVariants.{Iface};
 ghost use Rattle.registry_values.specs.Names.{is_lawful};
+ghost use Rattle.cpu_words.specs.Domains.{AreWordsOf};
 ghost use Rattle.name_registry.specs.Attaching.{attach_answer, attach_iface_answer, HasAttachedFor, HasAttachedIfaceFor};
 
 use crate::meeting::{hear_cpu, show_cpu};
@@ -24,7 +25,7 @@ pub fn attach_in<D: Domain>(
     cpu: &mut Cpu<D>,
     rec: Record,
 ) -> Result<Entry, Refusal>
-    requires words { (words.now.table ≡ D.table) × (words.now.settings ≡ D.settings) }
+    requires words { AreWordsOf words.now D.table D.settings }
     requires name { IsTrue (is_lawful rec.name) }
     ensures answer { result ≡ attach_answer D.settings keeper.old cpu.old rec }
     ensures ok { IfOk result (λ e. HasAttachedFor keeper.old cpu.old e keeper.new cpu.new) }
@@ -50,7 +51,7 @@ pub fn attach_iface_in<D: Domain>(
     rec: Record,
     reference: LocalRef<D>,
 ) -> Result<Entry, (Refusal, LocalRef<D>)>
-    requires words { (words.now.table ≡ D.table) × (words.now.settings ≡ D.settings) }
+    requires words { AreWordsOf words.now D.table D.settings }
     requires kind { rec.kind ≡ Iface }
     requires name { IsTrue (is_lawful rec.name) }
     ensures answer { IfOk result (λ e. attach_iface_answer D.settings keeper.old cpu.old rec reference ≡ Ok e) }

@@ -2,6 +2,7 @@
 
 ghost use Rattle.std.specs.Prelude.{◌≡◌, ◌↔◌, ◌⊎◌, ◌+ℤ◌, ◌≤ℤ◌, ◌<◌, ◌≤◌, ◌^◌, All, IfOk, IfErr, IsErrOf, IsTrue, OnErr, length, map, neg_ℤ, pos};
 ghost use Rattle.registry_values.specs.Balances.{sum_of, tally_shown};
+ghost use Rattle.cpu_words.specs.Domains.{AreWordsOf};
 ghost use Rattle.name_registry.specs.Auditing.{AreAllCpus, IsAuditOf, IsOccupied, Occupies, is_collected, local_met, locals_met, place_of, places_below, tallies_met, tally_met};
 
 use cpu_words::{Domain, Words};
@@ -20,7 +21,7 @@ pub fn audit_in<D: Domain>(
     keeper: &mut Keeper<D>,
     cpus: &mut [Cpu<D>],
 ) -> Result<Vec<Balance>, Refusal>
-    requires words { (words.now.table ≡ D.table) × (words.now.settings ≡ D.settings) }
+    requires words { AreWordsOf words.now D.table D.settings }
     ensures missing { IsErrOf result Refusal.MissingCpu ↔ (AreAllCpus D.settings.cpus cpus.old → ⊥) }
     ensures err { IfErr result (λ refusal. (refusal ≡ Refusal.MissingCpu) ⊎ (refusal ≡ Refusal.NoMemory)) }
     ensures wanted { IsErrOf result Refusal.NoMemory → IsOccupied keeper.old }

@@ -4,6 +4,7 @@ ghost use Rattle.std.specs.Prelude.{◌≡◌, ◌↔◌, ◌≤◌, [], IfOk, I
 ghost use Rattle.registry_values.specs.Limits.{are_fit};
 ghost use Rattle.registry_values.specs.Refusals.{IsRefusalOfNew};
 ghost use Rattle.registry_values.specs.declared.refusal.Refusal.TheVariants.{NoMemory};
+ghost use Rattle.cpu_words.specs.Domains.{AreWordsOf};
 ghost use Rattle.cpu_words.specs.Opening.{AreSeats};
 ghost use Rattle.name_registry.specs.Opening.{IsBlank, AreNewCpus};
 
@@ -57,7 +58,7 @@ impl Blank {
         self,
         alloc: Global,
     ) -> Result<(Registry<D>, Vec<Cpu<D>>), (Refusal, Blank)>
-        requires { (self.table ≡ D.table) × (self.settings ≡ D.settings) }
+        requires { AreWordsOf self D.table D.settings }
         ensures cpus { IfOk result (λ made. AreNewCpus D.settings D.settings.cpus made.1.items) }
         ensures back { IfErr result (λ back. (back.0 ≡ Refusal.NoMemory) × (back.1 ≡ self)) }
     {

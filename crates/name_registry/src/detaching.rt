@@ -2,6 +2,7 @@
 
 ghost use Rattle.std.specs.Prelude.{◌≡◌, ◌<◌, IfOk, IfErr, IfSome, position, length};
 ghost use Rattle.registry_values.specs.Slots.{is_live_as};
+ghost use Rattle.cpu_words.specs.Domains.{AreWordsOf};
 ghost use Rattle.name_registry.specs.Detaching.{IsDetachAnswer, IsLivePlace, HasDetachedFor};
 ghost use Rattle.name_registry.specs.Rows.{is_live_row};
 
@@ -21,7 +22,7 @@ pub fn detach_in<D: Domain>(
     kind: Kind,
     name: &Name,
 ) -> Result<Entry, Refusal>
-    requires words { (words.now.table ≡ D.table) × (words.now.settings ≡ D.settings) }
+    requires words { AreWordsOf words.now D.table D.settings }
     ensures answer { IsDetachAnswer keeper.old cpu.old (record { kind = kind; name = name.now }) result }
     ensures ok { IfOk result (λ e. HasDetachedFor keeper.old cpu.old e keeper.new cpu.new) }
     ensures refused { IfErr result (λ _. (keeper.new ≡ keeper.old) × (cpu.new ≡ cpu.old)) }

@@ -2,6 +2,7 @@
 
 ghost use Rattle.std.specs.Prelude.{◌≡◌};
 ghost use mathlib.Core.List.{IsPrefix};
+ghost use Rattle.cpu_words.specs.Domains.{AreWordsOf};
 ghost use Rattle.passive_list.specs.Notes.{HasHeardOn};
 ghost use Rattle.name_registry.specs.Meeting.{having_heard};
 
@@ -10,7 +11,7 @@ use passive_list::{Cpu, Keeper, hear, hear_keeper, tell, tell_keeper};
 
 /// The keeper hears what the CPU has seen: from now on it is known to be in the keeper's history.
 pub(crate) fn hear_cpu<D: Domain>(words: &Words, keeper: &mut Keeper<D>, cpu: &mut Cpu<D>)
-    requires words { (words.now.table ≡ D.table) × (words.now.settings ≡ D.settings) }
+    requires words { AreWordsOf words.now D.table D.settings }
     ensures seen { IsPrefix cpu.old.view.pass keeper.new.view.history }
     ensures keeper { keeper.new ≡ having_heard keeper.old cpu.old }
     ensures cpu { cpu.new ≡ cpu.old }
@@ -21,7 +22,7 @@ pub(crate) fn hear_cpu<D: Domain>(words: &Words, keeper: &mut Keeper<D>, cpu: &m
 
 /// The CPU hears the whole history: what the keeper did is in its pass.
 pub(crate) fn show_cpu<D: Domain>(words: &Words, keeper: &mut Keeper<D>, cpu: &mut Cpu<D>)
-    requires words { (words.now.table ≡ D.table) × (words.now.settings ≡ D.settings) }
+    requires words { AreWordsOf words.now D.table D.settings }
     ensures keeper { keeper.new ≡ keeper.old }
     ensures cpu { HasHeardOn keeper.old.view.history cpu.old cpu.new }
 {

@@ -1,6 +1,7 @@
 //! Waiting until each section that was open has ended.
 
 ghost use Rattle.std.specs.Prelude.{◌≡◌, ◌<◌, ◌≤◌, IfOk, IfErr, IfSome, false};
+ghost use Rattle.cpu_words.specs.Domains.{AreWordsOf};
 ghost use Rattle.name_registry.specs.Locking.{IsPerformRefusal};
 ghost use Rattle.name_registry.specs.Meeting.{is_inside};
 
@@ -56,14 +57,14 @@ impl<D: Domain> Registry<D> {
 
 /// The section word of each CPU, and the number of each retired entry, slot by slot.
 fn begin<D: Domain>(words: &Words, keeper: &mut Keeper<D>) -> ([u64; 8], [Option<u64>; 32])
-    requires words { (words.now.table ≡ D.table) × (words.now.settings ≡ D.settings) }
+    requires words { AreWordsOf words.now D.table D.settings }
     requires few { D.settings.cpus ≤ 8 }
 {
     (snapshot_all(words, keeper), retired_numbers(keeper))
 }
 
 fn snapshot_all<D: Domain>(words: &Words, keeper: &mut Keeper<D>) -> [u64; 8]
-    requires words { (words.now.table ≡ D.table) × (words.now.settings ≡ D.settings) }
+    requires words { AreWordsOf words.now D.table D.settings }
     requires few { D.settings.cpus ≤ 8 }
 {
     let cpus = words.settings().cpus;
@@ -90,7 +91,7 @@ fn glance_at_all<D: Domain>(
     snapshots: &[u64; 8],
     seen: &mut [bool; 8],
 ) -> Option<u8>
-    requires words { (words.now.table ≡ D.table) × (words.now.settings ≡ D.settings) }
+    requires words { AreWordsOf words.now D.table D.settings }
     requires few { D.settings.cpus ≤ 8 }
     ensures { IfSome result (λ c. c < D.settings.cpus) }
 {
@@ -106,7 +107,7 @@ fn glance_at_all<D: Domain>(
 
 /// Looks at each CPU for the retired entries with these numbers. One that was freed since is passed over.
 fn pass_all<D: Domain>(words: &Words, keeper: &mut Keeper<D>, numbers: &[Option<u64>; 32])
-    requires words { (words.now.table ≡ D.table) × (words.now.settings ≡ D.settings) }
+    requires words { AreWordsOf words.now D.table D.settings }
 {
     for slot in 0..32 {
         if let Some(number) = numbers[slot] {
@@ -116,7 +117,7 @@ fn pass_all<D: Domain>(words: &Words, keeper: &mut Keeper<D>, numbers: &[Option<
 }
 
 fn pass_entry<D: Domain>(words: &Words, keeper: &mut Keeper<D>, number: u64)
-    requires words { (words.now.table ≡ D.table) × (words.now.settings ≡ D.settings) }
+    requires words { AreWordsOf words.now D.table D.settings }
 {
     if let Some(slot) = retired_place(keeper, number) {
         look_at_all(words, keeper, slot);

@@ -5,6 +5,7 @@ ghost use Rattle.registry_values.specs.Balances.{sum_of};
 ghost use Rattle.registry_values.specs.declared.entry.Kind.TheVariants.{Iface};
 ghost use Rattle.registry_values.specs.Names.{is_lawful};
 ghost use Rattle.registry_values.specs.Slots.{is_iface};
+ghost use Rattle.cpu_words.specs.Domains.{AreWordsOf};
 ghost use Rattle.passive_list.specs.Keepers.{OnKeeper};
 ghost use Rattle.name_registry.specs.Auditing.{AreAllCpus, IsAuditOf};
 ghost use Rattle.name_registry.specs.Locking.{MayAttach, IsAttachRefusal, IsDetachRefusedTo, IsStageOf};
@@ -35,7 +36,7 @@ pub struct Registry<D: Domain> {
 impl<D: Domain> Registry<D> {
     /// The shared words, with which sections, lookups and references are made. No call on them waits.
     pub fn words(&self) -> &Words
-        ensures { (result.now.table ≡ D.table) × (result.now.settings ≡ D.settings) }
+        ensures { AreWordsOf result.now D.table D.settings }
     {
         &self.words
     }

@@ -7,6 +7,7 @@ ghost use Rattle.protocol.specs.declared.event.Reply.TheVariants.{Word};
 ghost use Rattle.registry_values.specs.declared.slot.Slot.TheVariants.{Retired};
 ghost use Rattle.registry_values.specs.Slots.{slot_at};
 ghost use Rattle.protocol.specs.State.{mark_at};
+ghost use Rattle.cpu_words.specs.Domains.{AreWordsOf};
 ghost use Rattle.cpu_words.specs.declared.view.View.TheVariants.{Keeper as OfKeeper};
 ghost use Rattle.cpu_words.specs.Grace.{HasLooked, having_looked};
 ghost use Rattle.cpu_words.specs.Steps.{Makes};
@@ -19,7 +20,7 @@ use registry_values::looked;
 /// its word is even, or differs from its snapshot, so no section of it may hold the entry any more. It is counted as a look.
 /// Condition: the slot's entry is retired, and the CPU is one of the table's.
 pub fn look<D: Domain>(words: &Words, keeper: &mut Keeper<D>, slot: u8, cpu: u8) -> bool
-    requires words { (words.now.table ≡ D.table) × (words.now.settings ≡ D.settings) }
+    requires words { AreWordsOf words.now D.table D.settings }
     requires cpu { cpu < D.settings.cpus }
     requires retired { (e : Entry) × (slot_at keeper.old.slots slot ≡ Retired e) }
     ensures passed { result ≡ (mark_at keeper.new.view.marks slot cpu).passed }
@@ -36,7 +37,7 @@ pub fn look<D: Domain>(words: &Words, keeper: &mut Keeper<D>, slot: u8, cpu: u8)
 /// Takes a snapshot of a CPU's section word for no entry: the word now, even outside a section and odd inside. It is counted as a look.
 /// Condition: the CPU is one of the table's.
 pub fn snapshot<D: Domain>(words: &Words, keeper: &mut Keeper<D>, cpu: u8) -> u64
-    requires words { (words.now.table ≡ D.table) × (words.now.settings ≡ D.settings) }
+    requires words { AreWordsOf words.now D.table D.settings }
     requires cpu { cpu < D.settings.cpus }
     ensures event { Makes (Snapshot None cpu) (Word result) (OfKeeper keeper.old.view) (OfKeeper keeper.new.view) }
     ensures change { keeper.new.view ≡ having_looked keeper.old.view (Snapshot None cpu) (Word result) }
@@ -49,7 +50,7 @@ pub fn snapshot<D: Domain>(words: &Words, keeper: &mut Keeper<D>, cpu: u8) -> u6
 /// look.
 /// Condition: the CPU is one of the table's.
 pub fn glance<D: Domain>(words: &Words, keeper: &mut Keeper<D>, cpu: u8) -> u64
-    requires words { (words.now.table ≡ D.table) × (words.now.settings ≡ D.settings) }
+    requires words { AreWordsOf words.now D.table D.settings }
     requires cpu { cpu < D.settings.cpus }
     ensures event { Makes (Look None cpu) (Word result) (OfKeeper keeper.old.view) (OfKeeper keeper.new.view) }
     ensures change { keeper.new.view ≡ having_looked keeper.old.view (Look None cpu) (Word result) }

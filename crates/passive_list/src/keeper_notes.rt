@@ -2,6 +2,7 @@
 
 ghost use Rattle.std.specs.Prelude.{◌≡◌};
 ghost use mathlib.Core.List.{IsPrefix};
+ghost use Rattle.cpu_words.specs.Domains.{AreWordsOf};
 ghost use Rattle.cpu_words.specs.Notes.{keeper_with_heard};
 
 use crate::keeper::Keeper;
@@ -11,7 +12,7 @@ use std::marker::PhantomData;
 
 /// The keeper tells the history: the note has just that. It changes nothing.
 pub fn tell_keeper<D: Domain>(words: &Words, keeper: &mut Keeper<D>) -> Note<D>
-    requires words { (words.now.table ≡ D.table) × (words.now.settings ≡ D.settings) }
+    requires words { AreWordsOf words.now D.table D.settings }
     ensures note { result ≡ keeper.old.view.history }
     ensures same { keeper.new ≡ keeper.old }
 {
@@ -24,7 +25,7 @@ pub fn tell_keeper<D: Domain>(words: &Words, keeper: &mut Keeper<D>) -> Note<D>
 
 /// The keeper hears a note: what the note tells is in its history. Nothing else changes.
 pub fn hear_keeper<D: Domain>(words: &Words, keeper: &mut Keeper<D>, note: Note<D>)
-    requires words { (words.now.table ≡ D.table) × (words.now.settings ≡ D.settings) }
+    requires words { AreWordsOf words.now D.table D.settings }
     ensures told { IsPrefix note keeper.new.view.history }
     ensures view { keeper.new.view ≡ keeper_with_heard keeper.old.view note }
     ensures slots { keeper.new.slots ≡ keeper.old.slots }

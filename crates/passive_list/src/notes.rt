@@ -2,6 +2,7 @@
 
 ghost use Rattle.std.specs.Prelude.{◌≡◌, List};
 ghost use Rattle.registry_values.specs.declared.entry.Change.{Change};
+ghost use Rattle.cpu_words.specs.Domains.{AreWordsOf};
 ghost use Rattle.passive_list.specs.Notes.{HasHeardOn};
 
 use crate::cpu::Cpu;
@@ -29,7 +30,7 @@ impl<D: Domain> Model for Note<D> {
 
 /// Tells what this CPU has seen: the note has just its pass. It changes nothing, inside a section or outside.
 pub fn tell<D: Domain>(words: &Words, cpu: &mut Cpu<D>) -> Note<D>
-    requires words { (words.now.table ≡ D.table) × (words.now.settings ≡ D.settings) }
+    requires words { AreWordsOf words.now D.table D.settings }
     ensures note { result ≡ cpu.old.view.pass }
     ensures same { cpu.new ≡ cpu.old }
 {
@@ -43,7 +44,7 @@ pub fn tell<D: Domain>(words: &Words, cpu: &mut Cpu<D>) -> Note<D>
 /// Hears a note: from here on this CPU has seen what the note tells, and every lookup answers from there on. Its pass becomes the whole
 /// history; nothing else changes, inside a section or outside.
 pub fn hear<D: Domain>(words: &Words, cpu: &mut Cpu<D>, note: Note<D>)
-    requires words { (words.now.table ≡ D.table) × (words.now.settings ≡ D.settings) }
+    requires words { AreWordsOf words.now D.table D.settings }
     ensures { HasHeardOn note cpu.old cpu.new }
 {
     let Note { seat, domain: _ } = note;

@@ -6,6 +6,7 @@ ghost use Rattle.registry_values.specs.Slots.{key_of_record, is_taken, live_coun
 ghost use Rattle.protocol.specs.Events.{keeps_rightly, words_of};
 ghost use Rattle.registry_values.specs.Names.{is_lawful};
 ghost use Rattle.protocol.specs.State.{kept_at};
+ghost use Rattle.cpu_words.specs.Domains.{AreWordsOf};
 ghost use Rattle.cpu_words.specs.Vacating.{MayWrite};
 ghost use Rattle.passive_list.specs.Keepers.{AreSized};
 ghost use Rattle.passive_list.specs.Publishing.{MayAttach, HasEntry, HasAttached, with_row, with_counts, prepared};
@@ -20,7 +21,7 @@ use registry_values::{BIAS, Entry, Record, kind_word};
 /// Condition: the slot is one of the table's and vacant, and keeps a reference exactly if the kind is Iface. The name is lawful, no live
 /// entry has this kind and name, and the history has room for this change and for the detach of each live entry, the new one too.
 pub fn publish<D: Domain>(words: &Words, keeper: &mut Keeper<D>, slot: u8, rec: Record) -> Entry
-    requires words { (words.now.table ≡ D.table) × (words.now.settings ≡ D.settings) }
+    requires words { AreWordsOf words.now D.table D.settings }
     requires vacant { (slot < D.settings.slots) × (slot_at keeper.old.slots slot ≡ Vacant) }
     requires keeps { IsTrue (keeps_rightly (kept_at keeper.old.view.keeps slot) rec.kind) }
     requires name { IsTrue (is_lawful rec.name) }

@@ -5,6 +5,7 @@ ghost use Rattle.registry_values.specs.declared.entry.Entry.{Entry};
 ghost use Rattle.registry_values.specs.declared.slot.Slot.TheVariants.{Live};
 ghost use Rattle.protocol.specs.declared.state.Due.TheVariants.{Snapshots};
 ghost use Rattle.registry_values.specs.Slots.{slot_at};
+ghost use Rattle.cpu_words.specs.Domains.{AreWordsOf};
 ghost use Rattle.cpu_words.specs.Rule.{IsPictured};
 ghost use Rattle.passive_list.specs.Retiring.{HasDetached, with_snapshots, AreSnapshots, AreFresh};
 
@@ -17,7 +18,7 @@ use registry_values::{Entry, Mark, NO_MARK};
 /// may hold it is one that is open at a snapshot. It answers the entry.
 /// Condition: the slot's entry is live.
 pub fn retire<D: Domain>(words: &Words, keeper: &mut Keeper<D>, slot: u8) -> Entry
-    requires words { (words.now.table ≡ D.table) × (words.now.settings ≡ D.settings) }
+    requires words { AreWordsOf words.now D.table D.settings }
     requires live { (e : Entry) × (slot_at keeper.old.slots slot ≡ Live e) }
     ensures entry { slot_at keeper.old.slots slot ≡ Live result }
     ensures change { HasDetached keeper.old slot result keeper.new }

@@ -1,6 +1,7 @@
 //! Read sections (pserialize(9)). Sections nest: only the outermost enter and exit step on the words.
 
 ghost use Rattle.std.specs.Prelude.{◌≡◌, ◌≢◌, ◌↔◌, ◌⊎◌, None, IfOk, IfErr, IsErrOf};
+ghost use Rattle.cpu_words.specs.Domains.{AreWordsOf};
 ghost use Rattle.cpu_words.specs.Sections.{HasEntered};
 ghost use Rattle.passive_list.specs.Sections.{HasEnteredOn, HasExitedOn, AreSpent};
 
@@ -15,7 +16,7 @@ const DEEPEST: u8 = 255;
 /// Refused: `TooDeep` where the depth is 255, then `SectionsSpent` where a section would begin and this CPU has begun `section_limit` of
 /// them. Nothing changes then.
 pub fn enter<D: Domain>(words: &Words, cpu: &mut Cpu<D>) -> Result<(), Refusal>
-    requires words { (words.now.table ≡ D.table) × (words.now.settings ≡ D.settings) }
+    requires words { AreWordsOf words.now D.table D.settings }
     ensures ok { IfOk result (λ _. HasEnteredOn cpu.old cpu.new) }
     ensures refused { IfErr result (λ _. cpu.new ≡ cpu.old) }
     ensures deep { IsErrOf result Refusal.TooDeep ↔ cpu.old.depth ≡ 255 }
@@ -34,7 +35,7 @@ pub fn enter<D: Domain>(words: &Words, cpu: &mut Cpu<D>) -> Result<(), Refusal>
 
 /// Begins a section, unless this CPU has begun as many as it may.
 fn begin<D: Domain>(words: &Words, cpu: &mut Cpu<D>) -> Result<(), Refusal>
-    requires words { (words.now.table ≡ D.table) × (words.now.settings ≡ D.settings) }
+    requires words { AreWordsOf words.now D.table D.settings }
     requires outside { cpu.old.depth ≡ 0 }
     ensures ok { IfOk result (λ _. HasEnteredOn cpu.old cpu.new) }
     ensures refused { IfErr result (λ e. (e ≡ Refusal.SectionsSpent) × (cpu.new ≡ cpu.old) × AreSpent cpu.old.view) }
@@ -51,7 +52,7 @@ fn begin<D: Domain>(words: &Words, cpu: &mut Cpu<D>) -> Result<(), Refusal>
 /// Exits the section, or one nesting of it. The exit that ends it clears the last found entry.
 /// Condition: inside.
 pub fn exit<D: Domain>(words: &Words, cpu: &mut Cpu<D>)
-    requires words { (words.now.table ≡ D.table) × (words.now.settings ≡ D.settings) }
+    requires words { AreWordsOf words.now D.table D.settings }
     requires inside { cpu.old.view.begin ≢ None }
     ensures { HasExitedOn cpu.old cpu.new }
 {
@@ -63,7 +64,7 @@ pub fn exit<D: Domain>(words: &Words, cpu: &mut Cpu<D>)
 
 /// Ends the section. The plain data change after the step: an atomic operation waits for each store that stands before it.
 fn end<D: Domain>(words: &Words, cpu: &mut Cpu<D>)
-    requires words { (words.now.table ≡ D.table) × (words.now.settings ≡ D.settings) }
+    requires words { AreWordsOf words.now D.table D.settings }
     requires last { cpu.old.depth ≡ 1 }
     ensures { HasExitedOn cpu.old cpu.new }
 {

@@ -2,6 +2,7 @@
 
 ghost use Rattle.std.specs.Prelude.{◌≡◌, ◌<◌, IfErr};
 ghost use Rattle.registry_values.specs.Refusals.{Answers};
+ghost use Rattle.cpu_words.specs.Domains.{AreWordsOf};
 ghost use Rattle.passive_ref.specs.Psrefs.{MayRefer, IsHeldAt, IsAcquired, IsCopied, IsAdded, HasOneLess, GivesBack, why_full, why_unusable, why_not_acquired, why_not_copied};
 
 use crate::holding::{count_of, usable_slot};
@@ -15,7 +16,7 @@ use registry_values::Refusal;
 /// Refused, in this order, and nothing has changed: `NothingFound` where this CPU has no last found entry; `PassiveFull` where it has
 /// `passive_limit` references to that entry.
 pub fn acquire<D: Domain>(words: &Words, cpu: &mut Cpu<D>) -> Result<Psref, Refusal>
-    requires words { (words.now.table ≡ D.table) × (words.now.settings ≡ D.settings) }
+    requires words { AreWordsOf words.now D.table D.settings }
     ensures answer { Answers (why_not_acquired cpu.old.view cpu.old.view.found) (IsAcquired cpu.old cpu.new) result }
     ensures refused { IfErr result (λ _. cpu.new ≡ cpu.old) }
 {
@@ -30,7 +31,7 @@ pub fn acquire<D: Domain>(words: &Words, cpu: &mut Cpu<D>) -> Result<Psref, Refu
 /// Refused, in this order, and nothing has changed: `WrongCpu` where the reference names another CPU; `NotHeld` where this CPU holds no
 /// passive reference to that number; `PassiveFull` where it has `passive_limit` of them.
 pub fn copy<D: Domain>(words: &Words, cpu: &mut Cpu<D>, psref: &Psref) -> Result<Psref, Refusal>
-    requires words { (words.now.table ≡ D.table) × (words.now.settings ≡ D.settings) }
+    requires words { AreWordsOf words.now D.table D.settings }
     ensures answer { Answers (why_not_copied cpu.old.view psref.now.number (why_unusable cpu.old.view psref.now)) (IsCopied psref.now.number cpu.old cpu.new) result }
     ensures refused { IfErr result (λ _. cpu.new ≡ cpu.old) }
 {
@@ -46,7 +47,7 @@ pub fn release<D: Domain>(
     cpu: &mut Cpu<D>,
     psref: Psref,
 ) -> Result<(), (Refusal, Psref)>
-    requires words { (words.now.table ≡ D.table) × (words.now.settings ≡ D.settings) }
+    requires words { AreWordsOf words.now D.table D.settings }
     ensures answer { GivesBack (why_unusable cpu.old.view psref) psref (λ _. HasOneLess psref.number cpu.old cpu.new) result }
     ensures refused { IfErr result (λ _. cpu.new ≡ cpu.old) }
 {
@@ -62,7 +63,7 @@ pub fn release<D: Domain>(
 
 /// Adds one reference to an entry that this CPU found last or refers to, unless it has as many as it may.
 fn add<D: Domain>(words: &Words, cpu: &mut Cpu<D>, slot: u8, number: u64) -> Result<Psref, Refusal>
-    requires words { (words.now.table ≡ D.table) × (words.now.settings ≡ D.settings) }
+    requires words { AreWordsOf words.now D.table D.settings }
     requires known { MayRefer cpu.old.view slot number }
     ensures answer { Answers (why_full cpu.old.view number) (IsAdded slot number cpu.old cpu.new) result }
     ensures refused { IfErr result (λ _. cpu.new ≡ cpu.old) }
@@ -84,7 +85,7 @@ fn add<D: Domain>(words: &Words, cpu: &mut Cpu<D>, slot: u8, number: u64) -> Res
 
 /// Takes away one reference, of those that this CPU has to the entry.
 fn subtract<D: Domain>(words: &Words, cpu: &mut Cpu<D>, slot: u8, number: u64)
-    requires words { (words.now.table ≡ D.table) × (words.now.settings ≡ D.settings) }
+    requires words { AreWordsOf words.now D.table D.settings }
     requires held { IsHeldAt cpu.old.view slot number }
     ensures { HasOneLess number cpu.old cpu.new }
 {

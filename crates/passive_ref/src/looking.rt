@@ -8,6 +8,7 @@ ghost use Rattle.registry_values.specs.declared.slot.Slot.TheVariants.{Retired};
 ghost use Rattle.registry_values.specs.Marks.{have_passed};
 ghost use Rattle.registry_values.specs.Slots.{slot_at};
 ghost use Rattle.protocol.specs.State.{mark_at};
+ghost use Rattle.cpu_words.specs.Domains.{AreWordsOf};
 ghost use Rattle.cpu_words.specs.declared.view.View.TheVariants.{Keeper as OfKeeper};
 ghost use Rattle.cpu_words.specs.Draining.{HasLookedPassive};
 ghost use Rattle.cpu_words.specs.Steps.{Makes};
@@ -20,7 +21,7 @@ use registry_values::cleared;
 /// earlier look or by this one: its word is 0, and no section may acquire one any more. It is counted as a look.
 /// Condition: the slot's entry is retired, the CPU is one of the table's, and all CPUs have passed (`Keeper::have_passed`).
 pub fn look_passive<D: Domain>(words: &Words, keeper: &mut Keeper<D>, slot: u8, cpu: u8) -> bool
-    requires words { (words.now.table ≡ D.table) × (words.now.settings ≡ D.settings) }
+    requires words { AreWordsOf words.now D.table D.settings }
     requires cpu { cpu < D.settings.cpus }
     requires retired { (e : Entry) × (slot_at keeper.old.slots slot ≡ Retired e) }
     requires passed { have_passed D.settings.cpus (slice_index_or keeper.old.view.marks slot []) ≡ true }

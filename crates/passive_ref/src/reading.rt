@@ -2,6 +2,7 @@
 
 ghost use Rattle.std.specs.Prelude.{◌≡◌, ◌<◌};
 ghost use Rattle.registry_values.specs.Refusals.{Answers};
+ghost use Rattle.cpu_words.specs.Domains.{AreWordsOf};
 ghost use Rattle.cpu_words.specs.Passives.{IsWordOf, IsNamed};
 ghost use Rattle.passive_ref.specs.Psrefs.{IsHeldAt, IsRead, why_unusable};
 
@@ -16,7 +17,7 @@ use registry_values::{Record, Refusal, record_from};
 /// Refused, in this order: `WrongCpu` where the reference names another CPU; `NotHeld` where this CPU holds no passive reference to that
 /// number.
 pub fn read<D: Domain>(words: &Words, cpu: &mut Cpu<D>, psref: &Psref) -> Result<Record, Refusal>
-    requires words { (words.now.table ≡ D.table) × (words.now.settings ≡ D.settings) }
+    requires words { AreWordsOf words.now D.table D.settings }
     ensures answer { Answers (why_unusable cpu.old.view psref.now) (IsRead cpu.old.view psref.now.number) result }
     ensures same { cpu.new ≡ cpu.old }
 {
@@ -26,7 +27,7 @@ pub fn read<D: Domain>(words: &Words, cpu: &mut Cpu<D>, psref: &Psref) -> Result
 
 /// Loads words 1 to 4 of the record of an entry that this CPU refers to.
 fn load_record<D: Domain>(words: &Words, cpu: &mut Cpu<D>, slot: u8, number: u64) -> Record
-    requires words { (words.now.table ≡ D.table) × (words.now.settings ≡ D.settings) }
+    requires words { AreWordsOf words.now D.table D.settings }
     requires held { IsHeldAt cpu.old.view slot number }
     ensures record { IsRead cpu.old.view number result }
     ensures same { cpu.new ≡ cpu.old }
@@ -40,7 +41,7 @@ fn load_record<D: Domain>(words: &Words, cpu: &mut Cpu<D>, slot: u8, number: u64
 
 /// Loads one word of that record.
 fn load_word<D: Domain>(words: &Words, cpu: &mut Cpu<D>, slot: u8, number: u64, k: u8) -> u64
-    requires words { (words.now.table ≡ D.table) × (words.now.settings ≡ D.settings) }
+    requires words { AreWordsOf words.now D.table D.settings }
     requires held { IsHeldAt cpu.old.view slot number }
     requires place { k < 5 }
     ensures word { IsWordOf cpu.old.view slot number k result }

@@ -1,6 +1,6 @@
 //! The loops that are measured. Each answers how many operations it made before the first that went wrong.
 
-ghost use Rattle.std.specs.Prelude.{◌≡◌};
+ghost use Rattle.cpu_words.specs.Domains.{AreWordsOf};
 
 use crate::plan::Operation;
 use cpu_words::{Domain, Words};
@@ -19,7 +19,7 @@ pub fn make<D: Domain, R: Wait>(
     operation: Operation,
     count: u32,
 ) -> u32
-    requires words { (words.now.table ≡ D.table) × (words.now.settings ≡ D.settings) }
+    requires words { AreWordsOf words.now D.table D.settings }
 {
     match operation {
         Operation::Lookup => look_up_all(words, cpu, names, count),
@@ -30,7 +30,7 @@ pub fn make<D: Domain, R: Wait>(
 
 /// Begins a section in which the first entry was found, for what acquires references to it; lookups begin their own.
 pub fn prepare<D: Domain>(words: &Words, cpu: &mut Cpu<D>, names: &[Name], operation: Operation)
-    requires words { (words.now.table ≡ D.table) × (words.now.settings ≡ D.settings) }
+    requires words { AreWordsOf words.now D.table D.settings }
 {
     if operation == Operation::Lookup {
         return;
@@ -42,7 +42,7 @@ pub fn prepare<D: Domain>(words: &Words, cpu: &mut Cpu<D>, names: &[Name], opera
 
 /// Looks the names up in turn, each in a section of its own, until an answer is wrong.
 fn look_up_all<D: Domain>(words: &Words, cpu: &mut Cpu<D>, names: &[Name], count: u32) -> u32
-    requires words { (words.now.table ≡ D.table) × (words.now.settings ≡ D.settings) }
+    requires words { AreWordsOf words.now D.table D.settings }
 {
     let mut place = 0;
     for made in 0..count {
@@ -60,7 +60,7 @@ fn look_up_all<D: Domain>(words: &Words, cpu: &mut Cpu<D>, names: &[Name], count
 
 /// Enters, finds the driver and exits. It answers the value found.
 fn look_up<D: Domain>(words: &Words, cpu: &mut Cpu<D>, name: &Name) -> Option<u64>
-    requires words { (words.now.table ≡ D.table) × (words.now.settings ≡ D.settings) }
+    requires words { AreWordsOf words.now D.table D.settings }
 {
     if enter(words, cpu).is_err() || !cpu.inside() {
         return None;
@@ -72,7 +72,7 @@ fn look_up<D: Domain>(words: &Words, cpu: &mut Cpu<D>, name: &Name) -> Option<u6
 
 /// Acquires and releases passive references to the last found entry, until one is refused.
 fn refer_passively<D: Domain>(words: &Words, cpu: &mut Cpu<D>, count: u32) -> u32
-    requires words { (words.now.table ≡ D.table) × (words.now.settings ≡ D.settings) }
+    requires words { AreWordsOf words.now D.table D.settings }
 {
     for made in 0..count {
         if !passive_pair(words, cpu) {
@@ -83,7 +83,7 @@ fn refer_passively<D: Domain>(words: &Words, cpu: &mut Cpu<D>, count: u32) -> u3
 }
 
 fn passive_pair<D: Domain>(words: &Words, cpu: &mut Cpu<D>) -> bool
-    requires words { (words.now.table ≡ D.table) × (words.now.settings ≡ D.settings) }
+    requires words { AreWordsOf words.now D.table D.settings }
 {
     let Ok(reference) = acquire(words, cpu) else {
         return false;
@@ -99,7 +99,7 @@ fn passive_pair<D: Domain>(words: &Words, cpu: &mut Cpu<D>) -> bool
 
 /// Acquires and releases local references to the last found entry, until one is refused.
 fn refer_locally<D: Domain, R: Wait>(rt: &R, words: &Words, cpu: &mut Cpu<D>, count: u32) -> u32
-    requires words { (words.now.table ≡ D.table) × (words.now.settings ≡ D.settings) }
+    requires words { AreWordsOf words.now D.table D.settings }
 {
     for made in 0..count {
         if !local_pair(rt, words, cpu) {
@@ -110,7 +110,7 @@ fn refer_locally<D: Domain, R: Wait>(rt: &R, words: &Words, cpu: &mut Cpu<D>, co
 }
 
 fn local_pair<D: Domain, R: Wait>(rt: &R, words: &Words, cpu: &mut Cpu<D>) -> bool
-    requires words { (words.now.table ≡ D.table) × (words.now.settings ≡ D.settings) }
+    requires words { AreWordsOf words.now D.table D.settings }
 {
     let Ok(reference) = acquire_local(words, cpu) else {
         return false;
@@ -129,7 +129,7 @@ fn hold<D: Domain, R: Wait>(rt: &R, _reference: LocalRef<D>) -> bool {
 
 /// Begins a section and finds the entry in it, so that references to it can be acquired.
 fn begin_at<D: Domain>(words: &Words, cpu: &mut Cpu<D>, name: &Name)
-    requires words { (words.now.table ≡ D.table) × (words.now.settings ≡ D.settings) }
+    requires words { AreWordsOf words.now D.table D.settings }
 {
     if enter(words, cpu).is_ok() && cpu.inside() {
         find(words, cpu, Kind::Driver, name);
@@ -138,7 +138,7 @@ fn begin_at<D: Domain>(words: &Words, cpu: &mut Cpu<D>, name: &Name)
 
 /// Ends the section, where there is one.
 pub fn leave<D: Domain>(words: &Words, cpu: &mut Cpu<D>)
-    requires words { (words.now.table ≡ D.table) × (words.now.settings ≡ D.settings) }
+    requires words { AreWordsOf words.now D.table D.settings }
 {
     if cpu.inside() {
         exit(words, cpu);

@@ -2,6 +2,7 @@
 
 ghost use Rattle.std.specs.Prelude.{◌≡◌, IsTrue};
 ghost use Rattle.registry_values.specs.Limits.{are_fit};
+ghost use Rattle.cpu_words.specs.Domains.{AreWordsOf};
 ghost use Rattle.cpu_words.specs.Opening.{AreSeats, keeper_with};
 
 use crate::failure::Failure;
@@ -77,7 +78,8 @@ fn measure_on<D: Domain + Send + Sync, R: Threads + Wait + Clock + Sync>(
     count: u32,
     operation: Operation,
 ) -> Result<Ran, Failure>
-    requires words { (words.now.table ≡ D.table) × (words.now.settings ≡ D.settings) × IsTrue (are_fit D.settings) }
+    requires words { AreWordsOf words.now D.table D.settings }
+    requires fit { IsTrue (are_fit D.settings) }
     requires keeper { (keeper.table ≡ D.table) × (keeper.view ≡ keeper_with D.settings D.settings.cpus) }
     requires seats { AreSeats D.table D.settings D.settings.cpus seats.items }
 {
@@ -90,7 +92,7 @@ fn measure_on<D: Domain + Send + Sync, R: Threads + Wait + Clock + Sync>(
         rt,
         cpus,
         &|cpu: Cpu<D>| -> io::Result<Ran>
-            requires { (words.now.table ≡ D.table) × (words.now.settings ≡ D.settings) }
+            requires { AreWordsOf words.now D.table D.settings }
         { run(rt, words, cpu, &names, operation, count, &gate) },
     )?;
     together(all)
@@ -133,7 +135,7 @@ fn run<D: Domain, R: Wait + Clock>(
     count: u32,
     gate: &Gate,
 ) -> io::Result<Ran>
-    requires words { (words.now.table ≡ D.table) × (words.now.settings ≡ D.settings) }
+    requires words { AreWordsOf words.now D.table D.settings }
 {
     prepare(words, &mut cpu, names, operation);
     make(rt, words, &mut cpu, names, operation, count / WARMING);

@@ -4,6 +4,7 @@ ghost use Rattle.std.specs.Prelude.{◌≡◌, ◌<◌, IsTrue};
 ghost use Rattle.std.specs.List.{list_any};
 ghost use Rattle.registry_values.specs.Slots.{key_of_record, is_taken, is_live_as};
 ghost use Rattle.registry_values.specs.Limits.{are_fit};
+ghost use Rattle.cpu_words.specs.Domains.{AreWordsOf};
 ghost use Rattle.cpu_words.specs.Opening.{AreSeats};
 ghost use Rattle.passive_list.specs.Keepers.{states_of};
 
@@ -35,7 +36,8 @@ pub fn cpus_of<D: Domain>(
     words: &Words,
     mut seats: Vec<CpuSeat>,
 ) -> Result<Vec<Cpu<D>>, AllocError>
-    requires words { (words.now.table ≡ D.table) × (words.now.settings ≡ D.settings) × IsTrue (are_fit D.settings) }
+    requires words { AreWordsOf words.now D.table D.settings }
+    requires fit { IsTrue (are_fit D.settings) }
     requires seats { AreSeats D.table D.settings D.settings.cpus seats.items }
 {
     let mut cpus = Vec::new(alloc);
@@ -52,7 +54,7 @@ pub fn publish_all<D: Domain>(
     words: &Words,
     keeper: &mut Keeper<D>,
 ) -> Result<Vec<Name>, Failure>
-    requires words { (words.now.table ≡ D.table) × (words.now.settings ≡ D.settings) }
+    requires words { AreWordsOf words.now D.table D.settings }
     requires fit { IsTrue (are_fit D.settings) }
 {
     let mut names = Vec::new(alloc);
@@ -64,7 +66,7 @@ pub fn publish_all<D: Domain>(
 
 /// Publishes the entry of a slot. Refused: `NoSlot`, `NameTaken` and `HistoryFull`, where the keeper has done anything else before.
 fn publish_in<D: Domain>(words: &Words, keeper: &mut Keeper<D>, slot: u8) -> Result<Name, Failure>
-    requires words { (words.now.table ≡ D.table) × (words.now.settings ≡ D.settings) }
+    requires words { AreWordsOf words.now D.table D.settings }
     requires fit { IsTrue (are_fit D.settings) }
     requires slot { slot < D.settings.slots }
 {

@@ -1,7 +1,8 @@
 //! What rows on a registry begin with, a registry of two CPUs and their references, and what a row does with it.
 
-ghost use Rattle.std.specs.Prelude.{◌≡◌, IsTrue};
+ghost use Rattle.std.specs.Prelude.{IsTrue};
 ghost use Rattle.registry_values.specs.Names.{is_lawful};
+ghost use Rattle.cpu_words.specs.Domains.{AreWordsOf};
 
 use super::answers::{Answer, audited, done, entry};
 use super::readers::{Held, Reader, by_reader};
@@ -71,7 +72,7 @@ pub(crate) struct Bench<D: Domain> {
 
 impl<D: Domain> Bench<D> {
     pub(crate) fn open(alloc: Global, blank: Blank) -> Result<Bench<D>, Fail>
-        requires { (blank.table ≡ D.table) × (blank.settings ≡ D.settings) }
+        requires { AreWordsOf blank D.table D.settings }
     {
         let Ok((registry, cpus)) = blank.open::<D>(alloc) else {
             return Err(Fail::from("an open registry"));

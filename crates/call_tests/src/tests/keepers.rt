@@ -7,6 +7,7 @@ ghost use Rattle.registry_values.specs.declared.slot.Slot.TheVariants.{Vacant};
 ghost use Rattle.registry_values.specs.Names.{is_lawful};
 ghost use Rattle.registry_values.specs.Slots.{key_of_record, is_taken, live_count, slot_at};
 ghost use Rattle.protocol.specs.State.{kept_at};
+ghost use Rattle.cpu_words.specs.Domains.{AreWordsOf};
 ghost use Rattle.name_registry.specs.Rows.{is_live_row};
 
 use super::answers::{Answer, at, standing};
@@ -54,7 +55,7 @@ pub(crate) fn by_keeper<D: Domain, R: Abort>(
     refs: &mut Held<D>,
     call: Writer,
 ) -> Answer
-    requires words { (words.now.table ≡ D.table) × (words.now.settings ≡ D.settings) }
+    requires words { AreWordsOf words.now D.table D.settings }
 {
     assert!(rt; 0 < keeper.settings.cpus);
     match call {
@@ -88,7 +89,7 @@ pub(crate) fn published<D: Domain, R: Abort>(
     slot: u8,
     rec: Record,
 ) -> Entry
-    requires words { (words.now.table ≡ D.table) × (words.now.settings ≡ D.settings) }
+    requires words { AreWordsOf words.now D.table D.settings }
     requires name { IsTrue (is_lawful rec.name) }
 {
     assert!(rt; rec.kind == Kind::Driver);
@@ -105,7 +106,7 @@ fn plugged<D: Domain, R: Abort>(
     slot: u8,
     rec: Record,
 ) -> Answer
-    requires words { (words.now.table ≡ D.table) × (words.now.settings ≡ D.settings) }
+    requires words { AreWordsOf words.now D.table D.settings }
     requires name { IsTrue (is_lawful rec.name) }
 {
     let reference = refs.take_local(rt);
@@ -149,7 +150,7 @@ fn is_live_in(rows: &[Row], key: Key) -> bool
 
 /// The keeper retires the driver of slot 0.
 pub(crate) fn retired<D: Domain, R: Abort>(rt: &R, words: &Words, keeper: &mut Keeper<D>) -> Entry
-    requires words { (words.now.table ≡ D.table) × (words.now.settings ≡ D.settings) }
+    requires words { AreWordsOf words.now D.table D.settings }
 {
     assert!(rt; matches!(keeper.slot(0), SlotState::Live(_)));
     retire(words, keeper, 0)
@@ -157,7 +158,7 @@ pub(crate) fn retired<D: Domain, R: Abort>(rt: &R, words: &Words, keeper: &mut K
 
 /// What a look at each CPU's section answers.
 fn looks<D: Domain, R: Abort>(rt: &R, words: &Words, keeper: &mut Keeper<D>) -> Answer
-    requires words { (words.now.table ≡ D.table) × (words.now.settings ≡ D.settings) }
+    requires words { AreWordsOf words.now D.table D.settings }
 {
     let first = looked(rt, words, keeper, 0);
     Answer::Looks(first, looked(rt, words, keeper, 1))
@@ -170,7 +171,7 @@ pub(crate) fn looked<D: Domain, R: Abort>(
     keeper: &mut Keeper<D>,
     cpu: u8,
 ) -> bool
-    requires words { (words.now.table ≡ D.table) × (words.now.settings ≡ D.settings) }
+    requires words { AreWordsOf words.now D.table D.settings }
 {
     assert!(rt; cpu < keeper.settings.cpus);
     assert!(rt; matches!(keeper.slot(0), SlotState::Retired(_)));
@@ -179,7 +180,7 @@ pub(crate) fn looked<D: Domain, R: Abort>(
 
 /// What a look at each CPU's passive references answers, once all CPUs have passed.
 fn passive_looks<D: Domain, R: Abort>(rt: &R, words: &Words, keeper: &mut Keeper<D>) -> Answer
-    requires words { (words.now.table ≡ D.table) × (words.now.settings ≡ D.settings) }
+    requires words { AreWordsOf words.now D.table D.settings }
 {
     let first = passive_look(rt, words, keeper, 0);
     Answer::Looks(first, passive_look(rt, words, keeper, 1))
@@ -192,7 +193,7 @@ pub(crate) fn passive_look<D: Domain, R: Abort>(
     keeper: &mut Keeper<D>,
     cpu: u8,
 ) -> bool
-    requires words { (words.now.table ≡ D.table) × (words.now.settings ≡ D.settings) }
+    requires words { AreWordsOf words.now D.table D.settings }
 {
     assert!(rt; cpu < keeper.settings.cpus);
     assert!(rt; 0 < keeper.settings.slots);

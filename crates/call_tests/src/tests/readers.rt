@@ -1,6 +1,6 @@
 //! What a CPU does with the words alone: sections, lookups, and references that a row holds.
 
-ghost use Rattle.std.specs.Prelude.{◌≡◌};
+ghost use Rattle.cpu_words.specs.Domains.{AreWordsOf};
 
 use super::answers::{Answer, at, done};
 use super::records::{Wanted, record};
@@ -121,7 +121,7 @@ pub(crate) fn by_reader<D: Domain, R: Abort>(
     refs: &mut Held<D>,
     call: Reader,
 ) -> Answer
-    requires words { (words.now.table ≡ D.table) × (words.now.settings ≡ D.settings) }
+    requires words { AreWordsOf words.now D.table D.settings }
 {
     match call {
         Reader::Id => Answer::Number(u64::from(cpu.id())),
@@ -156,7 +156,7 @@ fn depth<D: Domain, R: Abort>(rt: &R, cpu: &Cpu<D>) -> Answer {
 
 /// The CPU exits its section, or one nesting of it.
 fn exited<D: Domain, R: Abort>(rt: &R, words: &Words, cpu: &mut Cpu<D>) -> Answer
-    requires words { (words.now.table ≡ D.table) × (words.now.settings ≡ D.settings) }
+    requires words { AreWordsOf words.now D.table D.settings }
 {
     assert!(rt; cpu.inside());
     exit(words, cpu);
@@ -165,7 +165,7 @@ fn exited<D: Domain, R: Abort>(rt: &R, words: &Words, cpu: &mut Cpu<D>) -> Answe
 
 /// The CPU looks the record's kind and name up, in its open section.
 fn found<D: Domain, R: Abort>(rt: &R, words: &Words, cpu: &mut Cpu<D>, rec: Record) -> Answer
-    requires words { (words.now.table ≡ D.table) × (words.now.settings ≡ D.settings) }
+    requires words { AreWordsOf words.now D.table D.settings }
 {
     assert!(rt; cpu.inside());
     match find(words, cpu, rec.kind, &rec.name) {
@@ -176,7 +176,7 @@ fn found<D: Domain, R: Abort>(rt: &R, words: &Words, cpu: &mut Cpu<D>, rec: Reco
 
 /// The CPU hears a note of its own.
 fn heard<D: Domain>(words: &Words, cpu: &mut Cpu<D>) -> Answer
-    requires words { (words.now.table ≡ D.table) × (words.now.settings ≡ D.settings) }
+    requires words { AreWordsOf words.now D.table D.settings }
 {
     let note = tell(words, cpu);
     hear(words, cpu, note);
@@ -206,7 +206,7 @@ fn released<D: Domain, R: Abort>(
     cpu: &mut Cpu<D>,
     refs: &mut Held<D>,
 ) -> Answer
-    requires words { (words.now.table ≡ D.table) × (words.now.settings ≡ D.settings) }
+    requires words { AreWordsOf words.now D.table D.settings }
 {
     let psref = refs.take_passive(rt);
     match release(words, cpu, psref) {

@@ -1,6 +1,6 @@
 //! Rows of calls on a registry, each on one of its own: sections, slots and turns, and local references.
 
-ghost use Rattle.std.specs.Prelude.{◌≡◌};
+ghost use Rattle.cpu_words.specs.Domains.{AreWordsOf};
 
 use super::answers::Answer::{self, At, Audited, Come, Done, Is, Names, Nothing, Number, Refused};
 use super::answers::Line;
@@ -266,7 +266,7 @@ fn follow<D: Domain, R: Wait + Abort>(
     blank: Blank,
     row: &Row,
 ) -> Result<(), Fail>
-    requires { (blank.table ≡ D.table) × (blank.settings ≡ D.settings) }
+    requires { AreWordsOf blank D.table D.settings }
 {
     let mut bench = Bench::<D>::open(alloc, blank)?;
     let mut refs = Held::nothing();
@@ -319,8 +319,8 @@ fn shown_elsewhere<D: Domain, E: Domain, R: Wait + Abort>(
     here: Blank,
     there: Blank,
 ) -> Result<(), Fail>
-    requires here { (here.table ≡ D.table) × (here.settings ≡ D.settings) }
-    requires there { (there.table ≡ E.table) × (there.settings ≡ E.settings) }
+    requires here { AreWordsOf here D.table D.settings }
+    requires there { AreWordsOf there E.table E.settings }
 {
     let (mut here, mut there) = (
         Bench::<D>::open(alloc, here)?,

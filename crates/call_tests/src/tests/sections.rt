@@ -1,6 +1,6 @@
 //! A section that is nested as deep as it may be.
 
-ghost use Rattle.std.specs.Prelude.{◌≡◌};
+ghost use Rattle.cpu_words.specs.Domains.{AreWordsOf};
 
 use super::table::{Seats, Table, opened};
 use cpu_words::Domain;
@@ -16,7 +16,7 @@ fn sections_nest_to_the_deepest(rt: HostRuntime) -> Result<(), Fail> {
 }
 
 fn nested<D: Domain, R: Abort>(rt: &R, table: Table) -> Result<(), Fail>
-    requires { (table.words.table ≡ D.table) × (table.words.settings ≡ D.settings) }
+    requires { AreWordsOf table.words D.table D.settings }
 {
     let Seats {
         words,

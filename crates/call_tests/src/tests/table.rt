@@ -2,6 +2,7 @@
 
 ghost use Rattle.std.specs.Prelude.{◌≡◌, IsTrue};
 ghost use Rattle.registry_values.specs.Limits.{are_fit};
+ghost use Rattle.cpu_words.specs.Domains.{AreWordsOf};
 ghost use Rattle.cpu_words.specs.Opening.{keeper_with};
 ghost use Rattle.cpu_words.specs.Views.{new_cpu};
 
@@ -58,12 +59,12 @@ pub(crate) struct Seats<D: Domain> {
     pub(crate) keeper: Keeper<D>,
     pub(crate) first: Cpu<D>,
     pub(crate) second: Cpu<D>,
-    ghost named: { (words.table ≡ D.table) × (words.settings ≡ D.settings) },
+    ghost named: { AreWordsOf words D.table D.settings },
 }
 
 impl<D: Domain> Seats<D> {
     pub(crate) fn of(table: Table) -> Seats<D>
-        requires { (table.words.table ≡ D.table) × (table.words.settings ≡ D.settings) }
+        requires { AreWordsOf table.words D.table D.settings }
     {
         let Table {
             words,

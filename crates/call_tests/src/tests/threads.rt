@@ -1,7 +1,8 @@
 //! Tests on two threads: what one publishes, the other finds; and a local reference goes from one to the other.
 
-ghost use Rattle.std.specs.Prelude.{◌≡◌, IsTrue};
+ghost use Rattle.std.specs.Prelude.{IsTrue};
 ghost use Rattle.registry_values.specs.Names.{is_lawful};
+ghost use Rattle.cpu_words.specs.Domains.{AreWordsOf};
 
 use super::keepers::{looked, passive_look, published, retired};
 use super::records::{WM, record};
@@ -24,7 +25,7 @@ const SECTIONS: u64 = 1 << 40;
 
 /// The number of the driver that a lookup finds, in the open section.
 fn number_found<D: Domain>(words: &Words, cpu: &mut Cpu<D>, name: &Name) -> Option<u64>
-    requires words { (words.now.table ≡ D.table) × (words.now.settings ≡ D.settings) }
+    requires words { AreWordsOf words.now D.table D.settings }
 {
     if !cpu.inside() {
         return None;
@@ -39,7 +40,7 @@ fn a_lookup_finds_what_another_thread_publishes(rt: HostRuntime) -> Result<(), F
 }
 
 fn one_lookup<D: Domain + Send, R: Threads + Abort + Sync>(rt: &R, table: Table)
-    requires { (table.words.table ≡ D.table) × (table.words.settings ≡ D.settings) }
+    requires { AreWordsOf table.words D.table D.settings }
 {
     let Seats {
         words,
@@ -52,10 +53,10 @@ fn one_lookup<D: Domain + Send, R: Threads + Abort + Sync>(rt: &R, table: Table)
     let (found, published) = join(
         rt,
         move || -> Option<u64>
-            requires words { (words.now.table ≡ D.table) × (words.now.settings ≡ D.settings) }
+            requires words { AreWordsOf words.now D.table D.settings }
         { find_at_last(words, first, &driver.name, missed) },
         move || -> Option<u64>
-            requires words { (words.now.table ≡ D.table) × (words.now.settings ≡ D.settings) }
+            requires words { AreWordsOf words.now D.table D.settings }
             requires driver { IsTrue (is_lawful driver.name) }
         { publish_once_missed(rt, words, keeper, driver, missed) },
     );
@@ -70,7 +71,7 @@ fn find_at_last<D: Domain>(
     name: &Name,
     missed: &AtomicBool,
 ) -> Option<u64>
-    requires words { (words.now.table ≡ D.table) × (words.now.settings ≡ D.settings) }
+    requires words { AreWordsOf words.now D.table D.settings }
 {
     for _ in 0..TURNS {
         let found = find_in_section(words, &mut cpu, name).ok()?;
@@ -88,7 +89,7 @@ fn find_in_section<D: Domain>(
     cpu: &mut Cpu<D>,
     name: &Name,
 ) -> Result<Option<u64>, Refusal>
-    requires words { (words.now.table ≡ D.table) × (words.now.settings ≡ D.settings) }
+    requires words { AreWordsOf words.now D.table D.settings }
 {
     enter(words, cpu)?;
     let found = number_found(words, cpu, name);
@@ -106,7 +107,7 @@ fn publish_once_missed<D: Domain, R: Abort>(
     driver: Record,
     missed: &AtomicBool,
 ) -> Option<u64>
-    requires words { (words.now.table ≡ D.table) × (words.now.settings ≡ D.settings) }
+    requires words { AreWordsOf words.now D.table D.settings }
     requires driver { IsTrue (is_lawful driver.name) }
 {
     if !was_set(missed) {
@@ -133,7 +134,7 @@ fn a_note_tells_another_thread_what_was_published(rt: HostRuntime) -> Result<(),
 
 /// Both sections begin before the driver is published. One CPU hears of it from the keeper, the other from that CPU.
 fn told_twice<D: Domain + Send, R: Threads + Abort + Sync>(rt: &R, table: Table) -> Result<(), Fail>
-    requires { (table.words.table ≡ D.table) × (table.words.settings ≡ D.settings) }
+    requires { AreWordsOf table.words D.table D.settings }
 {
     let Seats {
         words,
@@ -148,7 +149,7 @@ fn told_twice<D: Domain + Send, R: Threads + Abort + Sync>(rt: &R, table: Table)
     let ((published, note), _) = join(
         rt,
         move || -> (u64, Note<D>)
-            requires words { (words.now.table ≡ D.table) × (words.now.settings ≡ D.settings) }
+            requires words { AreWordsOf words.now D.table D.settings }
             requires driver { IsTrue (is_lawful driver.name) }
         { publish_and_tell(rt, words, keeper, driver) },
         || (),
@@ -157,7 +158,7 @@ fn told_twice<D: Domain + Send, R: Threads + Abort + Sync>(rt: &R, table: Table)
     let ((found_there, _), _) = join(
         rt,
         move || -> (Option<u64>, Note<D>)
-            requires words { (words.now.table ≡ D.table) × (words.now.settings ≡ D.settings) }
+            requires words { AreWordsOf words.now D.table D.settings }
         { find_once_told(words, second, &driver.name, note) },
         || (),
     );
@@ -172,7 +173,7 @@ fn publish_and_tell<D: Domain, R: Abort>(
     mut keeper: Keeper<D>,
     driver: Record,
 ) -> (u64, Note<D>)
-    requires words { (words.now.table ≡ D.table) × (words.now.settings ≡ D.settings) }
+    requires words { AreWordsOf words.now D.table D.settings }
     requires driver { IsTrue (is_lawful driver.name) }
 {
     let entry = published(rt, words, &mut keeper, 0, driver);
@@ -186,7 +187,7 @@ fn find_once_told<D: Domain>(
     name: &Name,
     note: Note<D>,
 ) -> (Option<u64>, Note<D>)
-    requires words { (words.now.table ≡ D.table) × (words.now.settings ≡ D.settings) }
+    requires words { AreWordsOf words.now D.table D.settings }
 {
     hear(words, &mut cpu, note);
     let found = number_found(words, &mut cpu, name);
@@ -201,7 +202,7 @@ fn a_reference_is_released_on_another_thread(rt: HostRuntime) -> Result<(), Fail
 
 /// CPU 0 acquires the reference, and another thread reads and releases it on CPU 1. Then nobody holds the entry.
 fn one_reference<D: Domain + Send, R: Threads + Abort + Sync>(rt: &R, table: Table)
-    requires { (table.words.table ≡ D.table) × (table.words.settings ≡ D.settings) }
+    requires { AreWordsOf table.words D.table D.settings }
 {
     let Seats {
         words,
@@ -217,7 +218,7 @@ fn one_reference<D: Domain + Send, R: Threads + Abort + Sync>(rt: &R, table: Tab
     let (read, _) = join(
         rt,
         move || -> Option<(u64, Kind, Record)>
-            requires words { (words.now.table ≡ D.table) × (words.now.settings ≡ D.settings) }
+            requires words { AreWordsOf words.now D.table D.settings }
         { read_and_release(rt, words, second, lent) },
         || (),
     );
@@ -231,7 +232,7 @@ fn one_reference<D: Domain + Send, R: Threads + Abort + Sync>(rt: &R, table: Tab
 
 /// Finds the driver in a section, and acquires a local reference to it.
 fn acquired<D: Domain>(words: &Words, cpu: &mut Cpu<D>, name: &Name) -> Option<LocalRef<D>>
-    requires words { (words.now.table ≡ D.table) × (words.now.settings ≡ D.settings) }
+    requires words { AreWordsOf words.now D.table D.settings }
 {
     enter(words, cpu).ok()?;
     if !cpu.inside() {
@@ -250,7 +251,7 @@ fn read_and_release<D: Domain, R: Abort>(
     mut cpu: Cpu<D>,
     held: &mut Option<LocalRef<D>>,
 ) -> Option<(u64, Kind, Record)>
-    requires words { (words.now.table ≡ D.table) × (words.now.settings ≡ D.settings) }
+    requires words { AreWordsOf words.now D.table D.settings }
 {
     let mut reference = held.take()?;
     let (number, kind) = (reference.number(), reference.kind());
@@ -263,7 +264,7 @@ fn read_and_release<D: Domain, R: Abort>(
 
 /// Drains the retired driver as far as looks and collections go. It answers how many local references to it are held.
 fn total_once_drained<D: Domain, R: Abort>(rt: &R, words: &Words, keeper: &mut Keeper<D>) -> u64
-    requires words { (words.now.table ≡ D.table) × (words.now.settings ≡ D.settings) }
+    requires words { AreWordsOf words.now D.table D.settings }
 {
     assert!(rt; looked(rt, words, keeper, 0));
     assert!(rt; looked(rt, words, keeper, 1));
@@ -279,7 +280,7 @@ fn total_once_drained<D: Domain, R: Abort>(rt: &R, words: &Words, keeper: &mut K
 
 /// Collects the CPU's count word for the retired driver.
 fn collect_once_clear<D: Domain, R: Abort>(rt: &R, words: &Words, keeper: &mut Keeper<D>, cpu: u8)
-    requires words { (words.now.table ≡ D.table) × (words.now.settings ≡ D.settings) }
+    requires words { AreWordsOf words.now D.table D.settings }
 {
     assert!(rt; cpu < keeper.settings.cpus);
     assert!(rt; 0 < keeper.settings.slots);

@@ -1,6 +1,6 @@
 //! Rows of calls on the bare words, each on a table of its own: sections, lookups, looks, and passive and local references.
 
-ghost use Rattle.std.specs.Prelude.{◌≡◌};
+ghost use Rattle.cpu_words.specs.Domains.{AreWordsOf};
 
 use super::answers::Answer::{
     self, At, Done, Is, Looks, Names, Nothing, Number, Refused, RetiredAt,
@@ -255,7 +255,7 @@ fn run<R: Abort>(rt: &R, alloc: Global, row: &Row) -> Result<(), Fail> {
 }
 
 fn follow<D: Domain, R: Abort>(rt: &R, table: Table, row: &Row)
-    requires { (table.words.table ≡ D.table) × (table.words.settings ≡ D.settings) }
+    requires { AreWordsOf table.words D.table D.settings }
 {
     let mut refs = Held::nothing();
     Seats::<D>::of(table).follow(rt, &mut refs, row.name, row.steps);
@@ -290,8 +290,8 @@ fn a_reference_of_another_registry(rt: HostRuntime) -> Result<(), Fail> {
 }
 
 fn shown_to_another<D: Domain, E: Domain, R: Abort>(rt: &R, own: Table, other: Table)
-    requires own { (own.words.table ≡ D.table) × (own.words.settings ≡ D.settings) }
-    requires other { (other.words.table ≡ E.table) × (other.words.settings ≡ E.settings) }
+    requires own { AreWordsOf own.words D.table D.settings }
+    requires other { AreWordsOf other.words E.table E.settings }
 {
     let (mut own, mut other) = (Seats::<D>::of(own), Seats::<E>::of(other));
     let (mut refs, mut others) = (Held::nothing(), Held::nothing());

@@ -11,13 +11,13 @@ loop-seat-init g c = all_left _ _ _ c.requires.seats
 pub overflow_cast-id : goal.overflow_cast-id
 overflow_cast-id g c =
     let taken = take_last _ _ _ _ _ c.in-Some.ensures.items c.loop-seat.invariant in
-    omega (arith, c.len-id.ensures, c.pop.new.self.ok.0, taken.few, (ranges g.D.Domain.settings c.requires.words.2).cpus)
+    omega (arith, c.len-id.ensures, c.pop.new.self.ok.0, taken.few, (ranges g.D.Domain.settings c.requires.fit).cpus)
 
 pub of_seat-requires-clause-table : goal.of_seat-requires-clause-table
 of_seat-requires-clause-table g c =
     let taken = take_last _ _ _ _ _ c.in-Some.ensures.items c.loop-seat.invariant in
-    let few : c.len-id.result < 8 = omega (arith, c.len-id.ensures, c.pop.new.self.ok.0, taken.few, (ranges g.D.Domain.settings c.requires.words.2).cpus) in
-    (ap (λ (s : Seated CpuView). s.table) taken.last, c.requires.words.2, few)
+    let few : c.len-id.result < 8 = omega (arith, c.len-id.ensures, c.pop.new.self.ok.0, taken.few, (ranges g.D.Domain.settings c.requires.fit).cpus) in
+    (ap (λ (s : Seated CpuView). s.table) taken.last, c.requires.fit, few)
 
 pub of_seat-requires-clause-new : goal.of_seat-requires-clause-new
 of_seat-requires-clause-new g c =
