@@ -82,14 +82,20 @@ fn store(rt: &impl Abort, core: &mut Core, t: u8, rec: Rec) -> Result<Told, Step
     for (k, word) in [(0, number), (1, kind), (2, high), (3, low), (4, rec.value)] {
         core.step(Event::StoreSlot(t, k, word))?;
     }
+    clear_counts(core, t)?;
+    let head = core.head();
+    core.step(Event::StoreNext(t, head))?;
+    Ok(Told::Entry(number, t, rec))
+}
+
+/// The count word of each CPU, which are words 5 and on, stands for no reference.
+fn clear_counts(core: &mut Core, t: u8) -> Result<(), StepFault> {
     for k in 5..13 {
         if k - 5 < core.settings().cpus {
             core.step(Event::StoreSlot(t, k, BIAS))?;
         }
     }
-    let head = core.head();
-    core.step(Event::StoreNext(t, head))?;
-    Ok(Told::Entry(number, t, rec))
+    Ok(())
 }
 
 fn attach(rt: &impl Abort, core: &mut Core, t: u8, rec: Rec) -> Result<Told, StepFault> {
