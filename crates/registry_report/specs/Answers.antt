@@ -1,5 +1,6 @@
 -- What each command answers: by lookups in the history, the plain slot, the plain stage, and who holds what.
-use Rattle.std.specs.Prelude.{ℕ, zero, suc, ◌+◌, ◌==◌, nat_lt, nat_le, List, [], ◌∷◌, ◌++◌, length, Option, Some, None, is_none, is_some, Bool, false, not, ◌&&◌, Result, Ok, Err, if◌then◌else◌, ℤ, pos, neg_ℤ, ◌-ℤ◌}
+use Rattle.std.specs.Prelude.{ℕ, zero, suc, ◌+◌, ◌==◌, nat_lt, List, [], ◌∷◌, ◌++◌, length, Option, Some, None, is_none, is_some, Bool, false, not, ◌&&◌, Result, Ok, Err, if◌then◌else◌, ℤ, pos, neg_ℤ, ◌-ℤ◌}
+use Rattle.registry_values.specs.declared.answer.Room.{Room}
 use Rattle.registry_values.specs.declared.entry.Entry.{Entry}
 use Rattle.registry_values.specs.declared.entry.Record.{Record}
 use Rattle.passive_core.specs.declared.psref.CorePsref.{CorePsref}
@@ -8,12 +9,12 @@ use Rattle.registry_values.specs.declared.refusal.Refusal.TheVariants as refusal
 use Rattle.registry_values.specs.declared.stage.Stage.{Stage}
 use Rattle.registry_values.specs.declared.slot.Key.{Key}
 use Rattle.registry_values.specs.Marks.{least_below}
-use Rattle.passive_core.specs.Advancing.{stage_of}
-use Rattle.registry_values.specs.Stages.{destroyed_if}
+use Rattle.registry_values.specs.Answers as answers
+use Rattle.registry_values.specs.Stages as stages
+use Rattle.registry_values.specs.Stages.{stage_of}
 use Rattle.registry_values.specs.Slots.{key_of_record, is_iface}
 use Rattle.registry_values.specs.Balances.{Tally}
 use Rattle.protocol.specs.Invariant.{one_if}
-use Rattle.passive_core.specs.Performing.{waiting_for}
 use Rattle.registry_report.specs.declared.session.Reading.{Reading}
 use Rattle.registry_report.specs.declared.hitch.Hitch.{Hitch}
 use Rattle.registry_report.specs.declared.hitch.Hitch.TheVariants.{NoLabel, LabelTaken, NotInside, Refused}
@@ -27,8 +28,7 @@ hitched (Err f) = Err (Refused f)
 
 -- a refusal, if there is one, else the answer
 abbrev pub unless : {X E : Type 0} → Option E → Result X E → Result X E
-unless None answer = answer
-unless (Some f) answer = Err f
+unless refusal answer = answers.unless refusal answer
 
 abbrev pub is_inside : Registry → ℕ → Bool
 is_inside r c = is_some (r.model.sections c)
@@ -46,26 +46,20 @@ is_plain r t = is_none (r.model.occupants t) && is_none (r.model.keeps t)
 abbrev pub plain_slot : Registry → Option ℕ
 plain_slot r = least_below (is_plain r) r.settings.slots
 
--- room for an attach and for the detach of each entry that is live then
-abbrev pub has_room : Registry → Bool
-has_room r = nat_le (length r.model.history + live_entries r.model.history + 2) r.settings.change_limit
+-- what an attach asks of the history
+abbrev pub room_of : Registry → Room
+room_of r = record { changes = length r.model.history; live = live_entries r.model.history; limit = r.settings.change_limit }
 
-abbrev pub next_entry : Registry → Record → ℕ → Entry
-next_entry r rec t = record { number = length r.model.history + 1; slot = t; rec = rec }
-
-abbrev pub entry_in : Registry → Record → Option ℕ → Result Entry Refusal
-entry_in r rec None = Err refusal.NoSlot
-entry_in r rec (Some t) = if has_room r then Ok (next_entry r rec t) else Err refusal.HistoryFull
-
+-- the entry that an attach of the record makes
 abbrev pub given_entry : Registry → Record → Result Entry Refusal
-given_entry r rec = if is_some (lookup_now r (key_of_record rec)) then Err refusal.NameTaken else entry_in r rec (plain_slot r)
+given_entry r rec = answers.given_entry (is_some (lookup_now r (key_of_record rec))) (plain_slot r) (room_of r) rec
 
 abbrev pub attach_answer : Registry → ℕ → Record → Result Entry Refusal
-attach_answer r c rec = if is_inside r c then Err refusal.Inside else (if is_iface rec.kind then Err refusal.NeedsDriver else given_entry r rec)
+attach_answer r c rec = answers.attach_answer (is_inside r c) (is_iface rec.kind) (given_entry r rec)
 
 -- an interface, on the driver with the number d
 abbrev pub attach_iface_answer : Registry → ℕ → Record → ℕ → Result Entry Refusal
-attach_iface_answer r c rec d = if is_inside r c then Err refusal.Inside else (if is_driver_number r.model.history d then given_entry r rec else Err refusal.NeedsDriver)
+attach_iface_answer r c rec d = answers.attach_answer (is_inside r c) (not (is_driver_number r.model.history d)) (given_entry r rec)
 
 -- what follows from a label's reference
 abbrev pub with_label : {L X : Type 0} → Option L → (L → Result X Hitch) → Result X Hitch
@@ -93,7 +87,7 @@ abbrev pub may_begin : Registry → ℕ → Bool
 may_begin r c = nat_lt (r.begun c) r.settings.section_limit
 
 abbrev pub enter_answer : Registry → ℕ → Result (Unit {0}) Refusal
-enter_answer r c = if r.depths c == 255 then Err refusal.TooDeep else (if not (is_inside r c) && not (may_begin r c) then Err refusal.SectionsSpent else Ok tt)
+enter_answer r c = answers.enter_answer (r.depths c) (not (is_inside r c)) (may_begin r c)
 
 -- whether the section stays open
 abbrev pub exit_answer : Registry → ℕ → Result Bool Hitch
@@ -106,16 +100,16 @@ find_answer r c key = if is_inside r c then Ok (lookup_now r key) else Err NotIn
 
 -- one more of c to n
 abbrev pub one_more : Registry → ℕ → ℕ → Result ℕ Refusal
-one_more r c n = if nat_lt (r.model.passive c n) r.settings.passive_limit then Ok n else Err refusal.PassiveFull
+one_more r c n = unless (answers.why_full (r.model.passive c n) r.settings.passive_limit) (Ok n)
 
 -- to what c found last
 abbrev pub acquire_answer : Registry → ℕ → Option Entry → Result ℕ Refusal
 acquire_answer r c None = Err refusal.NothingFound
 acquire_answer r c (Some e) = one_more r c e.number
 
--- why c may not use a reference: it is another CPU's, or c holds none to that number
+-- why c may not use a reference
 abbrev pub misuse : Registry → ℕ → CorePsref → Option Refusal
-misuse r c p = if p.cpu == c then (if nat_lt 0 (r.model.passive c p.number) then None else Some refusal.NotHeld) else Some refusal.WrongCpu
+misuse r c p = answers.why_unusable (p.cpu == c) (nat_lt 0 (r.model.passive c p.number))
 
 abbrev pub reference_answer : Registry → ℕ → ℕ → Result ℕ Hitch
 reference_answer r c a = if_free (r.passive_labels a) (hitched (acquire_answer r c (r.model.found c)))
@@ -187,18 +181,17 @@ abbrev pub retired_slot : Registry → ℕ → Option ℕ
 retired_slot r n = if has_ended r.model.history n then slot_of r n else None
 
 abbrev pub stage_in : Registry → ℕ → Option ℕ → Result Stage Refusal
-stage_in r n None = Err refusal.NotRetired
-stage_in r n (Some t) = Ok (plain_stage r n t)
+stage_in r n place = stages.stage_in (plain_stage r n) place
 
 abbrev pub advance_answer : Registry → ℕ → Result Stage Refusal
 advance_answer r n = stage_in r n (retired_slot r n)
 
 abbrev pub destroy_answer : Registry → ℕ → ℕ → Result ℕ Refusal
-destroy_answer r c n = if is_inside r c then Err refusal.Inside else destroyed_if (advance_answer r n)
+destroy_answer r c n = stages.destroy_answer (is_inside r c) (advance_answer r n)
 
 -- whether the caller is inside a section, else the least CPU that is
 abbrev pub perform_answer : Registry → ℕ → Result (Unit {0}) Refusal
-perform_answer r c = if is_inside r c then Err refusal.Inside else waiting_for (least_below (is_inside r) r.settings.cpus)
+perform_answer r c = answers.perform_answer (is_inside r c) (least_below (is_inside r) r.settings.cpus)
 
 -- Audits
 

@@ -1,7 +1,7 @@
 -- The commands that change who is attached: what they give and leave.
 use Rattle.std.proofs.Common.{◌≡◌, ℕ, suc, ◌<◌, inl, inr, ⊎_elim, List, length, get_or, set, replicate, Option, Some, None, Bool, true, false, refl, sym, ap, subst, ◌∙◌, arith}
-use Rattle.std.specs.Prelude.{IsTrue, if◌then◌else◌, Result, Ok, Err}
-use Rattle.std.proofs.lemmas.Bool.{cases_eq}
+use Rattle.std.specs.Prelude.{IsTrue, if◌then◌else◌, not, Result, Ok, Err}
+use Rattle.std.proofs.lemmas.Bool.{cases_eq, not-false}
 use Rattle.std.proofs.lemmas.List.{set-set}
 use Rattle.registry_values.specs.declared.entry.Entry.{Entry}
 use Rattle.registry_values.specs.declared.entry.Record.{Record}
@@ -26,6 +26,7 @@ use Rattle.registry_values.specs.Names.{is_lawful}
 use Rattle.protocol.specs.Picture.{number_in, passive_in}
 use Rattle.registry_values.specs.Slots.{is_iface, slot_before, slot_of, slot_at}
 use Rattle.protocol.specs.State.{State, local_at}
+use Rattle.registry_values.proofs.Answers.{attach_tells}
 use Rattle.registry_values.specs.Marks.{no_mark}
 use Rattle.passive_core.proofs.Attaching.{given_tells, plain_tells, seated_keeps, iface_links}
 use Rattle.protocol.proofs.history.History.{at_within}
@@ -48,11 +49,6 @@ use Rattle.registry_report.proofs.shows.Sectioned.{inside_is}
 -- Attach
 
 -- where an attach is refused the answer is no entry
-given_if : (inside iface : Bool) (given : Result Entry Refusal) (e : Entry) → (if inside then Err Inside else (if iface then Err NeedsDriver else given)) ≡ Ok e → given ≡ Ok e
-given_if true iface given e is = absurd (let q : ◌≡◌ {A = Result Entry Refusal} (Err Inside) (Ok e) = is in cc)
-given_if false true given e is = absurd (let q : ◌≡◌ {A = Result Entry Refusal} (Err NeedsDriver) (Ok e) = is in cc)
-given_if false false given e is = is
-
 attached_shows : (s : SessionState) (r : Registry) (c : ℕ) (rec : Record) (e : Entry) → Holds s.core → Holds (core.attached s.core c e) → Shows s r → core.given_entry s.core rec ≡ Ok e → Shows (with_core s (core.attached s.core c e)) (attached r c e)
 attached_shows s r c rec e holds later on is =
     let given = given_tells s.core rec e is in
@@ -82,7 +78,7 @@ attach_by s r c rec (Err f) result holds on at is later =
 attach_by s r c rec (Ok e) result holds on at is later = ⊎_elim
     (λ (done : result ≡ Ok e).
     let answer : attach_answer r c rec ≡ Ok e = sym (attach_answers s r c rec holds on) ∙ at in
-    let given : core.given_entry s.core rec ≡ Ok e = given_if (events.is_inside s.core c) (is_iface rec.kind) (core.given_entry s.core rec) e at in
+    let given : core.given_entry s.core rec ≡ Ok e = (attach_tells (events.is_inside s.core c) (is_iface rec.kind) (core.given_entry s.core rec) e at).2 in
     let kept : Holds (core.attached s.core c e) = subst (λ (b : Result Entry Refusal). Holds (after_attach s.core c b)) done later in
     subst (AttachDone s r c rec) (sym done)
     (ap hitched answer, subst (λ (b : Result Entry Refusal). Shows (with_core s (core.attached s.core c e)) (on_ok r b (attached r c))) (sym answer) (attached_shows s r c rec e holds kept on given)))
@@ -114,11 +110,6 @@ after_plugging s c x id (Err f) = s
 abbrev PlugDone : SessionState → Registry → ℕ → Record → ℕ → ℕ → Result Entry Refusal → Type 0
 PlugDone s r c rec x id result = Gives (hitched result) (plug_answer r c rec x) × Leaves (hitched result) (Shows (after_plugging s c x id result) (after_plug r c x (plug_answer r c rec x)))
 
-plug_if : (inside driver : Bool) (given : Result Entry Refusal) (e : Entry) → (if inside then Err Inside else (if driver then given else Err NeedsDriver)) ≡ Ok e → (driver ≡ true) × (given ≡ Ok e)
-plug_if true driver given e is = absurd (let q : ◌≡◌ {A = Result Entry Refusal} (Err Inside) (Ok e) = is in cc)
-plug_if false false given e is = absurd (let q : ◌≡◌ {A = Result Entry Refusal} (Err NeedsDriver) (Ok e) = is in cc)
-plug_if false true given e is = (refl, is)
-
 -- the label stands for the driver's number
 label_is : (s : SessionState) (r : Registry) (x id n : ℕ) → Shows s r → get_or s.locals x None ≡ Some id → local_at s.core.locals id ≡ Standing n → r.local_labels x ≡ Some n
 label_is s r x id n on at place = on.labels.local x ∙ (ap (number_at s.core.locals) at ∙ ap events.standing place)
@@ -137,14 +128,14 @@ plug_by s r c rec x id n (Err f) result is on small at place iface lawful answer
 plug_by s r c rec x id n (Ok e) result is on small at place iface lawful answered due later = ⊎_elim
     (λ (done : result ≡ Ok e).
     let label = label_is s r x id n on at place in
-    let parts = plug_if (events.is_inside s.core c) (core.is_to_driver s.core id) (core.given_entry s.core rec) e answered in
+    let parts = attach_tells (events.is_inside s.core c) (not (core.is_to_driver s.core id)) (core.given_entry s.core rec) e answered in
     let answer : plug_answer r c rec x ≡ Ok e = ap (λ (o : Option ℕ). with_label o (λ d. hitched (attach_iface_answer r c rec d))) label ∙ ap hitched (sym (attach_iface_answers s r c rec id n is.holds on place) ∙ answered) in
     let kept : Holds (core.plugged s.core c e id) = subst (λ (b : Result Entry Refusal). Holds (after_attach_iface s.core c id b)) done later in
     subst (PlugDone s r c rec x id) (sym done) (
       answer,
       subst (λ (o : Option ℕ). Shows (after_plugging s c x id (Ok e)) (on_some r o (λ d. on_ok r (plug_answer r c rec x) (λ f. plugged r c f x d)))) (sym label)
           (subst (λ (b : Result Entry Hitch). Shows (after_plugging s c x id (Ok e)) (on_ok r b (λ f. plugged r c f x n))) (sym answer)
-          (plugged_shows s r c rec e x id n is on small at place parts.0 iface lawful kept parts.1)),
+          (plugged_shows s r c rec e x id n is on small at place (not-false (core.is_to_driver s.core id) parts.1) iface lawful kept parts.2)),
     ))
     (λ (full : result ≡ Err NoMemory). subst (PlugDone s r c rec x id) (sym full) (tt, tt))
     due

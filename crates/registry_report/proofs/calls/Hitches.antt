@@ -1,16 +1,18 @@
 -- The core refuses each command only as the command may be refused.
 use Rattle.std.proofs.Common.{◌≡◌, ℕ, Option, None, Some, Bool, true, false, inl, inr, refl, ap, ◌∙◌}
 use Rattle.std.specs.Prelude.{IfErr, Result, Ok, Err, if◌then◌else◌}
+use Rattle.registry_values.specs.declared.answer.Room.{Room}
 use Rattle.registry_values.specs.declared.entry.Entry.{Entry}
 use Rattle.registry_values.specs.declared.entry.Record.{Record}
 use Rattle.registry_values.specs.declared.refusal.Refusal.{Refusal}
 use Rattle.registry_values.specs.declared.stage.Stage.{Stage}
 use Rattle.registry_values.specs.declared.stage.Stage.TheVariants.{Grace, Passive, Local, Freed}
-use Rattle.passive_core.specs.Advancing.{destroy_answer, stage_in}
-use Rattle.registry_values.specs.Stages.{destroyed, destroyed_if}
-use Rattle.passive_core.specs.Attaching.{IsAnswer, attach_answer, attach_iface_answer, entry_in, given_entry}
+use Rattle.passive_core.specs.Advancing.{destroy_answer}
+use Rattle.registry_values.specs.Answers.{entry_in, waiting_for}
+use Rattle.registry_values.specs.Stages.{destroyed, destroyed_if, stage_in}
+use Rattle.passive_core.specs.Attaching.{IsAnswer, attach_answer, attach_iface_answer, given_entry}
 use Rattle.passive_core.specs.Entering.{enter_answer}
-use Rattle.passive_core.specs.Performing.{perform_answer, waiting_for}
+use Rattle.passive_core.specs.Performing.{perform_answer}
 use Rattle.protocol.specs.State.{State}
 use Rattle.registry_report.specs.declared.hitch.Hitch.{Hitch}
 use Rattle.registry_report.specs.declared.hitch.Hitch.TheVariants.{Refused}
@@ -23,9 +25,9 @@ if_refused : {X : Type 0} (P : Refusal → Type 0) (b : Bool) (x y : Result X Re
 if_refused P true x y h k = h
 if_refused P false x y h k = k
 
-entry_refused : (s : State) (rec : Record) (o : Option ℕ) → IfErr (entry_in s rec o) IsOfAttach
-entry_refused s rec None = tt
-entry_refused s rec (Some t) = search if_refused
+entry_refused : (o : Option ℕ) (room : Room) (rec : Record) → IfErr (entry_in o room rec) IsOfAttach
+entry_refused None room rec = tt
+entry_refused (Some t) room rec = search if_refused
 
 given_refused : (s : State) (rec : Record) → IfErr (given_entry s rec) IsOfAttach
 given_refused s rec = search (if_refused, entry_refused)
@@ -45,9 +47,9 @@ destroyed_refused (Passive c) = tt
 destroyed_refused (Local k) = tt
 destroyed_refused (Freed t) = tt
 
-stage_refused : (s : State) (n : ℕ) (o : Option ℕ) → IfErr (destroyed_if (stage_in s n o)) IsOfDestroy
-stage_refused s n None = tt
-stage_refused s n (Some t) = destroyed_refused _
+stage_refused : (stage : ℕ → Stage) (o : Option ℕ) → IfErr (destroyed_if (stage_in stage o)) IsOfDestroy
+stage_refused stage None = tt
+stage_refused stage (Some t) = destroyed_refused (stage t)
 
 pub destroy_refused : (s : State) (c n : ℕ) → IfErr (destroy_answer s c n) IsOfDestroy
 destroy_refused s c n = search (if_refused, stage_refused)

@@ -1,22 +1,22 @@
 -- Attach, plug and detach: the registry that the session shows answers and changes as the core does.
 use Rattle.std.proofs.Common.{◌≡◌, ℕ, suc, ◌+◌, ◌-◌, ◌<◌, inl, inr, ⊎_elim, List, ◌∷◌, [], length, get_or, set, get_or-set_same, get_or-set_other, Option, Some, None, Bool, true, false, is_some, is_none, ◌&&◌, ◌||◌, refl, sym, ap, ◌∙◌, arith, sum_by}
-use Rattle.std.specs.Prelude.{if◌then◌else◌, nat_le, Ok, Err}
+use Rattle.std.specs.Prelude.{not}
 use Rattle.std.specs.List.{list_any, zip}
 use Rattle.std.proofs.lemmas.Slice.Zip.{length-zip, get_or-zip}
 use Rattle.registry_values.specs.declared.entry.Entry.{Entry}
 use Rattle.registry_values.specs.declared.entry.Record.{Record}
 use Rattle.registry_values.specs.declared.entry.Change.{Change}
 use Rattle.registry_values.specs.declared.entry.Change.TheVariants.{Attach}
-use Rattle.registry_values.specs.declared.refusal.Refusal.TheVariants.{NameTaken, HistoryFull, Inside, NeedsDriver}
 use Rattle.registry_values.specs.declared.slot.Key.{Key}
 use Rattle.protocol.specs.declared.state.LocalPlace.{LocalPlace}
 use Rattle.protocol.specs.declared.state.LocalPlace.TheVariants.{Free, Standing}
 use Rattle.registry_values.specs.declared.slot.Slot.{Slot}
 use Rattle.registry_values.specs.declared.slot.Slot.TheVariants.{Vacant, Live, Retired}
 use Rattle.registry_values.specs.declared.settings.Settings.{Settings}
+use Rattle.registry_values.specs.Answers as answers
 use Rattle.registry_values.specs.Marks.{least_below}
 use Rattle.passive_core.specs.Attaching as core
-use Rattle.registry_values.specs.Slots as slots
+use Rattle.registry_values.specs.Slots as values
 use Rattle.registry_values.specs.Slots.{key_of_record, is_vacant, is_iface, is_live_as, is_taken, live_count, slot_of, slot_at}
 use Rattle.passive_core.specs.Attaching.{linked}
 use Rattle.passive_core.specs.Commands.{all_seated}
@@ -36,7 +36,7 @@ use Rattle.protocol.proofs.counts.Sums.{local_changed, none_at, one_at, standing
 use Rattle.protocol.proofs.model.RefiningEntries.{passive_moved}
 use Rattle.registry_values.proofs.Least.{least_agrees}
 use Rattle.registry_report.specs.Changes.{lookup, live_entries, is_driver_entry, is_driver_number}
-use Rattle.registry_report.specs.Answers.{attach_iface_answer, is_plain, lookup_now, plain_slot, has_room, entry_in, given_entry, attach_answer}
+use Rattle.registry_report.specs.Answers.{attach_iface_answer, is_plain, lookup_now, plain_slot, room_of, given_entry, attach_answer}
 use Rattle.registry_report.specs.Registry.{Registry}
 use Rattle.registry_report.specs.Session.{SessionState, with_core, IsSession}
 use Rattle.registry_report.specs.Shows.{Shows, number_at}
@@ -88,36 +88,31 @@ vacant_is Vacant = refl
 vacant_is (Live e) = refl
 vacant_is (Retired e) = refl
 
-plain_at : (s : SessionState) (r : Registry) (t : ℕ) → Shows s r → slots.is_plain (slot_at s.core.slots t, kept_at s.core.keeps t) ≡ is_plain r t
+plain_at : (s : SessionState) (r : Registry) (t : ℕ) → Shows s r → values.is_plain (slot_at s.core.slots t, kept_at s.core.keeps t) ≡ is_plain r t
 plain_at s r t on = λ i. (vacant_is (slot_at s.core.slots t) ∙ ap is_none (sym (on.model.occupants t))) i && is_none (sym (on.model.kept t) i)
 
 pub plain_is : (s : SessionState) (r : Registry) → Holds s.core → Shows s r → core.plain_slot s.core ≡ plain_slot r
 plain_is s r holds on =
     let size : length s.core.keeps ≡ length s.core.slots = omega (arith, holds.shape.keeps, holds.shape.slots) in
     let all : length (zip s.core.slots s.core.keeps) ≡ r.settings.slots = omega (arith, length-zip s.core.slots s.core.keeps, holds.shape.slots, ap (λ (z : Settings). z.slots) on.settings) in
-    position_is slots.is_plain (zip s.core.slots s.core.keeps) (Vacant, None)
-    ∙ (least_agrees (λ t. slots.is_plain (get_or (zip s.core.slots s.core.keeps) t (Vacant, None))) (is_plain r) (length (zip s.core.slots s.core.keeps))
-    (λ t lt. ap slots.is_plain (get_or-zip s.core.slots s.core.keeps t (Vacant, None) (omega (arith, length-zip s.core.slots s.core.keeps)) (omega (arith, length-zip s.core.slots s.core.keeps)))
+    position_is values.is_plain (zip s.core.slots s.core.keeps) (Vacant, None)
+    ∙ (least_agrees (λ t. values.is_plain (get_or (zip s.core.slots s.core.keeps) t (Vacant, None))) (is_plain r) (length (zip s.core.slots s.core.keeps))
+    (λ t lt. ap values.is_plain (get_or-zip s.core.slots s.core.keeps t (Vacant, None) (omega (arith, length-zip s.core.slots s.core.keeps)) (omega (arith, length-zip s.core.slots s.core.keeps)))
     ∙ plain_at s r t on)
     ∙ ap (least_below (is_plain r)) all)
 
-pub room_is : (s : SessionState) (r : Registry) → Shows s r → events.has_room s.core ≡ has_room r
+pub room_is : (s : SessionState) (r : Registry) → Shows s r → events.room_of s.core ≡ room_of r
 room_is s r on =
     let live : live_count s.core.slots ≡ live_entries s.core.history = omega (arith, on.live) in
-    ap (λ (k : ℕ). nat_le (length s.core.history + k + 2) s.core.settings.change_limit) live
-    ∙ sym (λ i. nat_le (length (on.model.history i) + live_entries (on.model.history i) + 2) (on.settings i).change_limit)
-
-entry_by : (s : SessionState) (r : Registry) (rec : Record) (t : Option ℕ) → Shows s r → core.entry_in s.core rec t ≡ entry_in r rec t
-entry_by s r rec None on = refl
-entry_by s r rec (Some t) on = λ i. if room_is s r on i then Ok (record { number = length (sym on.model.history i) + 1; slot = t; rec = rec }) else Err HistoryFull
+    ap (λ (k : ℕ). record { changes = length s.core.history; live = k; limit = s.core.settings.change_limit }) live
+    ∙ sym (λ i. record { changes = length (on.model.history i); live = live_entries (on.model.history i); limit = (on.settings i).change_limit })
 
 pub given_is : (s : SessionState) (r : Registry) (rec : Record) → Holds s.core → Shows s r → core.given_entry s.core rec ≡ given_entry r rec
 given_is s r rec holds on =
-    let place : core.entry_in s.core rec (core.plain_slot s.core) ≡ entry_in r rec (plain_slot r) = entry_by s r rec (core.plain_slot s.core) on ∙ ap (entry_in r rec) (plain_is s r holds on) in
-    λ i. if taken_is s r (key_of_record rec) holds on i then Err NameTaken else place i
+    λ i. answers.given_entry (taken_is s r (key_of_record rec) holds on i) (plain_is s r holds on i) (room_is s r on i) rec
 
 pub attach_answers : (s : SessionState) (r : Registry) (c : ℕ) (rec : Record) → Holds s.core → Shows s r → core.attach_answer s.core c rec ≡ attach_answer r c rec
-attach_answers s r c rec holds on = λ i. if sym (inside_is s r c on) i then Err Inside else (if is_iface rec.kind then Err NeedsDriver else given_is s r rec holds on i)
+attach_answers s r c rec holds on = λ i. answers.attach_answer (sym (inside_is s r c on) i) (is_iface rec.kind) (given_is s r rec holds on i)
 
 -- What an attach leaves
 
@@ -176,7 +171,7 @@ driver_is s r id n holds on at =
     ∙ (driver_at s.core n holds (holds.references.standing id n at) ∙ ap (λ (h : List Change). is_driver_number h n) (sym on.model.history))
 
 pub attach_iface_answers : (s : SessionState) (r : Registry) (c : ℕ) (rec : Record) (id n : ℕ) → Holds s.core → Shows s r → local_at s.core.locals id ≡ Standing n → core.attach_iface_answer s.core c rec id ≡ attach_iface_answer r c rec n
-attach_iface_answers s r c rec id n holds on at = λ i. if sym (inside_is s r c on) i then Err Inside else (if driver_is s r id n holds on at i then given_is s r rec holds on i else Err NeedsDriver)
+attach_iface_answers s r c rec id n holds on at = λ i. answers.attach_answer (sym (inside_is s r c on) i) (not (driver_is s r id n holds on at i)) (given_is s r rec holds on i)
 
 -- a label's reference is gone with its place, and the others stand
 label_gone : (s : SessionState) (r : Registry) (x id : ℕ) → IsSession s → Shows s r → x < 26 → get_or s.locals x None ≡ Some id

@@ -40,10 +40,6 @@ abbrev pub image : {X Y E : Type 0} → (X → Y) → Result X E → Result Y E
 image f (Ok x) = Ok (f x)
 image f (Err e) = Err e
 
-image_if : {X Y E : Type 0} (f : X → Y) (b : Bool) (x : X) (e : E) → image f (if b then Ok x else Err e) ≡ (if b then Ok (f x) else Err e)
-image_if f true x e = refl
-image_if f false x e = refl
-
 -- a call that is refused just where there is a refusal answers its one value, else that refusal
 pub answers_image : {X Y : Type 0} (refusal : Option Refusal) (P : X → Type 0) (f : X → Y) (y : Y) (result : Result X Refusal)
     → Answers refusal P result → ((x : X) → P x → f x ≡ y) → image f result ≡ unless refusal (Ok y)
@@ -68,12 +64,16 @@ misuse_is s r c p on = ap (λ (b : Bool). if p.cpu == c then (if b then None els
 abbrev pub number_if : Result CorePsref Refusal → Result ℕ Refusal
 number_if answer = image (λ p. p.number) answer
 
+number_more : (b : Bool) (p : CorePsref) → number_if (unless (if b then None else Some PassiveFull) (Ok p)) ≡ unless (if b then None else Some PassiveFull) (Ok p.number)
+number_more true p = refl
+number_more false p = refl
+
 pub one_more_is : (s : SessionState) (r : Registry) (c n : ℕ) → Shows s r → number_if (core.one_more s.core c n) ≡ one_more r c n
 one_more_is s r c n on =
     let room : nat_lt (passive_of s.core c n) s.core.settings.passive_limit ≡ nat_lt (r.model.passive c n) r.settings.passive_limit =
     λ i. nat_lt (sym (passive_is s r c n on) i) (sym on.settings i).passive_limit in
-    image_if (λ (p : CorePsref). p.number) (nat_lt (passive_of s.core c n) s.core.settings.passive_limit) (record { cpu = c; number = n }) PassiveFull
-    ∙ ap (λ (b : Bool). if b then Ok n else Err PassiveFull) room
+    number_more (nat_lt (passive_of s.core c n) s.core.settings.passive_limit) (record { cpu = c; number = n })
+    ∙ ap (λ (b : Bool). unless (if b then None else Some PassiveFull) (Ok n)) room
 
 acquired_is : (s : SessionState) (r : Registry) (c : ℕ) (o : Option Entry) → Shows s r → number_if (acquired s.core c o) ≡ acquire_answer r c o
 acquired_is s r c None on = refl
@@ -184,7 +184,7 @@ same_Ok p q is = cc
 Err_Ok : (f : Refusal) (p : CorePsref) → ◌≡◌ {A = Result CorePsref Refusal} (Err f) (Ok p) → ⊥
 Err_Ok f p is = cc
 
-one_by : (b : Bool) (p q : CorePsref) → ◌≡◌ {A = Result CorePsref Refusal} (if b then Ok p else Err PassiveFull) (Ok q) → q ≡ p
+one_by : (b : Bool) (p q : CorePsref) → ◌≡◌ {A = Result CorePsref Refusal} (unless (if b then None else Some PassiveFull) (Ok p)) (Ok q) → q ≡ p
 one_by true p q is = sym (same_Ok p q is)
 one_by false p q is = absurd (Err_Ok PassiveFull q is)
 

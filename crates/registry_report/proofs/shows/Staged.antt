@@ -16,10 +16,11 @@ use Rattle.registry_values.specs.declared.mark.Mark.{Mark}
 use Rattle.registry_values.specs.declared.slot.Slot.{Slot}
 use Rattle.registry_values.specs.declared.slot.Slot.TheVariants.{Vacant, Live, Retired}
 use Rattle.passive_core.specs.Advancing as core
-use Rattle.passive_core.specs.Advancing.{AdvanceLeaves, DestroyLeaves, LeavesFree, LeavesMarks, LeavesTotal, StageLeaves, is_open_since, is_snapshot, stage_of}
+use Rattle.passive_core.specs.Advancing.{AdvanceLeaves, DestroyLeaves, LeavesFree, LeavesMarks, LeavesTotal, StageLeaves, is_open_since, is_snapshot}
+use Rattle.registry_values.specs.Answers.{waiting_for}
 use Rattle.protocol.specs.Marking.{MarksGrow, SameElsewhere}
-use Rattle.registry_values.specs.Stages.{destroyed, destroyed_if}
-use Rattle.registry_values.specs.Slots as slots
+use Rattle.registry_values.specs.Stages.{destroyed, destroyed_if, stage_of}
+use Rattle.registry_values.specs.Slots as values
 use Rattle.registry_values.specs.Slots.{is_retired_as, has_number, is_retired, slot_at}
 use Rattle.registry_values.specs.Marks.{least_below, no_mark}
 use Rattle.passive_core.specs.Commands.{IsQuiet, all_seated}
@@ -27,7 +28,7 @@ use Rattle.protocol.specs.Events as events
 use Rattle.protocol.specs.Invariant.{Holds, IsIn, SlotsShow, held_at, in_hand, one_if, subtracting_at}
 use Rattle.protocol.specs.Model.{put}
 use Rattle.passive_core.specs.Performing as performing
-use Rattle.passive_core.specs.Performing.{PerformLeaves, waiting_for}
+use Rattle.passive_core.specs.Performing.{PerformLeaves}
 use Rattle.protocol.specs.Picture.{number_in, passive_in}
 use Rattle.protocol.specs.State.{is_empty, State, begin_at, count_at, hand_at, kept_at, mark_at, passive_at, section_at, total_at}
 use Rattle.registry_values.proofs.Least.{none_below, least_none, least_agrees}
@@ -117,7 +118,7 @@ none_pass : (b : Bool) (p : ℕ → Bool) (n : ℕ) → least_below (λ t. b && 
 none_pass true p n = refl
 none_pass false p n = none_below (λ t. false) n (λ t lt. refl)
 
-pub retired_slot_is : (s : SessionState) (r : Registry) (n : ℕ) → Holds s.core → Shows s r → slots.retired_slot s.core.slots n ≡ retired_slot r n
+pub retired_slot_is : (s : SessionState) (r : Registry) (n : ℕ) → Holds s.core → Shows s r → values.retired_slot s.core.slots n ≡ retired_slot r n
 retired_slot_is s r n holds on =
     let here : (t : ℕ) → is_retired_as n (slot_at s.core.slots t) ≡ (has_ended s.core.history n && is_this n (number_in (slot_at s.core.slots t))) = λ t. retired_here n (has_ended s.core.history n) (slot_at s.core.slots t)
     (λ e gone same. ap (has_ended s.core.history) (sym same) ∙ ended_is s.core t e holds gone)
@@ -162,7 +163,7 @@ stage_is s r t e is on gone =
     least_agrees (core.has_passive s.core t) (has_passive r e.number) s.core.settings.cpus (λ c lt. ap (nat_lt 0) (sym (passive_is s r t c e is.holds on (inr gone)))) ∙ ap (least_below (has_passive r e.number)) cpus in
     rw (first, second, held_is s r e.number t is on) refl
 
-stage_by : (s : SessionState) (r : Registry) (n : ℕ) (o : Option ℕ) → IsSession s → Shows s r → slots.retired_slot s.core.slots n ≡ o → core.stage_in s.core n o ≡ stage_in r n o
+stage_by : (s : SessionState) (r : Registry) (n : ℕ) (o : Option ℕ) → IsSession s → Shows s r → values.retired_slot s.core.slots n ≡ o → core.stage_in s.core n o ≡ stage_in r n o
 stage_by s r n None is on at = refl
 stage_by s r n (Some t) is on at =
     let told = retired_slot_tells s.core.slots n t at in
@@ -170,7 +171,7 @@ stage_by s r n (Some t) is on at =
 
 -- The answers of an advance are the same.
 pub advance_answers : (s : SessionState) (r : Registry) (n : ℕ) → IsSession s → Shows s r → core.advance_answer s.core n ≡ advance_answer r n
-advance_answers s r n is on = stage_by s r n (slots.retired_slot s.core.slots n) is on refl ∙ ap (stage_in r n) (retired_slot_is s r n is.holds on)
+advance_answers s r n is on = stage_by s r n (values.retired_slot s.core.slots n) is on refl ∙ ap (stage_in r n) (retired_slot_is s r n is.holds on)
 
 -- Marks
 
@@ -383,7 +384,7 @@ unheld_at s k n t u e holds now stage gone left = record {
   now = now;
 }
 
-staged_shows : (s : SessionState) (r : Registry) (k : State) (n t : ℕ) (stage : Stage) → Holds s.core → Holds k → Shows s r → core.plain_stage s.core t n ≡ stage → slots.retired_slot s.core.slots n ≡ Some t → StageLeaves s.core k t stage
+staged_shows : (s : SessionState) (r : Registry) (k : State) (n t : ℕ) (stage : Stage) → Holds s.core → Holds k → Shows s r → core.plain_stage s.core t n ≡ stage → values.retired_slot s.core.slots n ≡ Some t → StageLeaves s.core k t stage
     → Shows (with_core s k) (staged r n stage)
 staged_shows s r k n t (Grace c) holds now on is at left = marks_shows s r k t on left
 staged_shows s r k n t (Passive c) holds now on is at left = marks_shows s r k t on left
@@ -432,7 +433,7 @@ turn_leaves s k n (Some t) left = stage_leaves s k n (core.plain_stage s t n) le
 destroy_by : (s : SessionState) (r : Registry) (k : State) (n : ℕ) (b : Bool) → IsSession s → Holds k → Shows s r → DestroyLeaves s.core k n (if b then Err Inside else destroyed_if (core.advance_answer s.core n))
     → Shows (with_core s k) (if b then r else after_advance r n)
 destroy_by s r k n true is now on left = subst (λ (x : State). Shows (with_core s x) r) (sym left) on
-destroy_by s r k n false is now on left = advance_shows s r k n is now on (turn_leaves s.core k n (slots.retired_slot s.core.slots n) left)
+destroy_by s r k n false is now on left = advance_shows s r k n is now on (turn_leaves s.core k n (values.retired_slot s.core.slots n) left)
 
 -- What a destroy leaves shows what it leaves of the registry.
 pub destroy_shows : (s : SessionState) (r : Registry) (k : State) (c n : ℕ) → IsSession s → Holds k → Shows s r → DestroyLeaves s.core k n (core.destroy_answer s.core c n) → Shows (with_core s k) (after_destroy r c n)

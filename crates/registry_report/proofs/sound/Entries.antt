@@ -1,7 +1,7 @@
 -- Attach, plug and detach are runs of lawful steps.
 use Rattle.std.proofs.Common.{◌≡◌, ℕ, suc, ◌<◌, ◌≤◌, ⊎_elim, length, Option, Some, None, Bool, true, false, is_some, is_none, refl, sym, ap, subst, ◌∙◌, arith}
-use Rattle.std.specs.Prelude.{Ok}
-use Rattle.std.proofs.lemmas.Bool.{and_parts, cases_lt}
+use Rattle.std.specs.Prelude.{Ok, not}
+use Rattle.std.proofs.lemmas.Bool.{and_parts, cases_lt, not-false}
 use Rattle.std.proofs.lemmas.Option.{none-some}
 use Rattle.registry_values.specs.declared.entry.Kind.{Kind}
 use Rattle.registry_values.specs.declared.entry.Kind.TheVariants.{Iface, Driver}
@@ -9,13 +9,14 @@ use Rattle.registry_values.specs.declared.entry.Entry.{Entry}
 use Rattle.registry_values.specs.declared.entry.Change.TheVariants.{Attach, Detach}
 use Rattle.registry_values.specs.declared.entry.Record.{Record}
 use Rattle.registry_values.specs.declared.refusal.Refusal.{Refusal}
-use Rattle.registry_values.specs.declared.refusal.Refusal.TheVariants.{NameTaken, NoSlot, HistoryFull, Inside, NeedsDriver, NotFound}
+use Rattle.registry_values.specs.declared.refusal.Refusal.TheVariants.{Inside, NeedsDriver, NotFound}
 use Rattle.registry_values.specs.declared.settings.Settings.{Settings}
 use Rattle.registry_values.specs.declared.slot.Key.{Key}
 use Rattle.registry_values.specs.Slots.{key_of_record, is_iface, is_driver}
 use Rattle.protocol.specs.Events.{keeps_rightly}
 use Rattle.protocol.specs.History.{after_change, change_at, IsLegal, IsLiveAt, IsLookup}
 use Rattle.protocol.specs.Model.{Model, put, IsDriverHere, Stays, Goes_on, Attaches, Detaches, Keeps, Sees}
+use Rattle.registry_values.proofs.Answers as answers
 use Rattle.registry_values.proofs.Least.{none_is}
 use Rattle.protocol.proofs.history.Growing.{hold_was, hold_old}
 use Rattle.protocol.proofs.history.History.{at_new, at_within, attached_old, length-after_change, one_entry}
@@ -23,13 +24,13 @@ use Rattle.protocol.proofs.model.Picturing.{put_here}
 use Rattle.protocol.proofs.keeps.Publishing.{legal_attach, live_cases}
 use Rattle.protocol.proofs.keeps.SectionKeeps.{none_from}
 use Rattle.protocol.proofs.keeps.Unlinking.{attached_before, legal_detach, was_there}
-use Rattle.registry_report.specs.Answers.{attach_answer, attach_iface_answer, detach_answer, entry_in, found_or, given_entry, has_room, hitched, is_inside, is_plain, lookup_now, next_entry, plain_slot, plug_answer, with_label}
+use Rattle.registry_report.specs.Answers.{attach_answer, attach_iface_answer, detach_answer, found_or, given_entry, hitched, is_inside, is_plain, lookup_now, plain_slot, room_of, plug_answer, with_label}
 use Rattle.registry_report.specs.Changes.{entry_of, is_driver_entry, is_driver_number}
 use Rattle.registry_report.specs.Registry.{Registry}
 use Rattle.registry_report.specs.Sound.{HasSlot, IsSound, IsSoundModel, IsLawfulTurn}
 use Rattle.registry_report.specs.Turns.{after_plug, attached, detached, keeping, on_ok, on_some, plugged, seeing, with_entry}
 use Rattle.registry_report.proofs.Lookups.{entry_is, lookup_is}
-use Rattle.registry_report.proofs.sound.Turns.{dropped_counts, else_ok, hitched_ok, idle_turn, labelled_counts, least_some, not_ok, ok_turn, put_capped, put_cases, put_none, same_ok, still_there, then_ok}
+use Rattle.registry_report.proofs.sound.Turns.{dropped_counts, else_ok, hitched_ok, idle_turn, labelled_counts, least_some, not_ok, ok_turn, put_capped, put_cases, put_none, same_ok, still_there}
 
 -- One change more
 
@@ -101,24 +102,19 @@ record Given (r : Registry) (rec : Record) (e : Entry) : Type 0 where
   number : e.number ≡ suc (length r.model.history)
   is : e.rec ≡ rec
 
-entry_tells : (r : Registry) (rec : Record) (o : Option ℕ) (e : Entry) → entry_in r rec o ≡ Ok e → (t : ℕ) × (o ≡ Some t) × (next_entry r rec t ≡ e)
-entry_tells r rec None e is = absurd (not_ok NoSlot e is)
-entry_tells r rec (Some t) e is = (t, refl, same_ok {E = Refusal} (next_entry r rec t) e (then_ok (has_room r) HistoryFull (Ok (next_entry r rec t)) e is).1)
-
 given_tells : (r : Registry) (rec : Record) (e : Entry) → given_entry r rec ≡ Ok e → Given r rec e
 given_tells r rec e is =
-    let free = else_ok (is_some (lookup_now r (key_of_record rec))) NameTaken (entry_in r rec (plain_slot r)) e is in
-    let at = entry_tells r rec (plain_slot r) e free.1 in
-    let least = least_some (is_plain r) r.settings.slots at.0 at.1 in
-    let plain = and_parts (is_none (r.model.occupants at.0)) (is_none (r.model.keeps at.0)) least.1 in
-    subst (Given r rec) at.2 (record {
-      new_key = none_is (lookup_now r (key_of_record rec)) free.0;
+    let told = answers.given_tells (is_some (lookup_now r (key_of_record rec))) (plain_slot r) (room_of r) rec e is in
+    let least = least_some (is_plain r) r.settings.slots e.slot told.place in
+    let plain = and_parts (is_none (r.model.occupants e.slot)) (is_none (r.model.keeps e.slot)) least.1 in
+    record {
+      new_key = none_is (lookup_now r (key_of_record rec)) told.free;
       within = least.0;
-      vacant = none_from (r.model.occupants at.0) plain.0;
-      keepless = none_from (r.model.keeps at.0) plain.1;
-      number = omega arith;
-      is = refl;
-    })
+      vacant = none_from (r.model.occupants e.slot) plain.0;
+      keepless = none_from (r.model.keeps e.slot) plain.1;
+      number = omega (arith, ap (λ (x : Entry). x.number) told.entry);
+      is = ap (λ (x : Entry). x.rec) told.entry;
+    }
 
 given_legal : (r : Registry) (rec : Record) (e : Entry) → IsSound r → Given r rec e → IsLegal (after_change r.model.history (Attach e))
 given_legal r rec e on given =
@@ -189,10 +185,10 @@ driver_here m d has is = record {
 pub plugged_lawful : (r : Registry) (c : ℕ) (rec : Record) (x d : ℕ) (e : Entry) → IsSound r → is_iface rec.kind ≡ true → r.local_labels x ≡ Some d → attach_iface_answer r c rec d ≡ Ok e → IsLawfulTurn r (plugged r c e x d)
 plugged_lawful r c rec x d e on iface at is =
     let outside = else_ok (is_inside r c) Inside _ e is in
-    let driver = then_ok (is_driver_number r.model.history d) NeedsDriver (given_entry r rec) e outside.1 in
+    let driver = else_ok (not (is_driver_number r.model.history d)) NeedsDriver (given_entry r rec) e outside.1 in
     let given = given_tells r rec e driver.1 in
     let legal = given_legal r rec e on given in
-    let here = driver_here r.model d (on.labelled x d at) driver.0 in
+    let here = driver_here r.model d (on.labelled x d at) (not-false (is_driver_number r.model.history d) driver.0) in
     let some : 0 < r.model.locals d = omega (arith, labelled_counts r.local_labels x d at, on.counted d (suc x)) in
     let rightly : keeps_rightly (put r.model.keeps e.slot (Some d) e.slot) e.rec.kind ≡ true =
     ap (λ (o : Option ℕ). keeps_rightly o e.rec.kind) (put_here r.model.keeps e.slot (Some d)) ∙ (ap (λ (y : Record). is_iface y.kind) given.is ∙ iface) in

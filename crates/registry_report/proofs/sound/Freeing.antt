@@ -9,7 +9,7 @@ use Rattle.registry_values.specs.declared.settings.Settings.{Settings}
 use Rattle.registry_values.specs.declared.stage.Stage.{Stage}
 use Rattle.registry_values.specs.declared.stage.Stage.TheVariants.{Grace, Passive, Local, Freed}
 use Rattle.registry_values.specs.Marks.{least_below}
-use Rattle.passive_core.specs.Advancing.{stage_of}
+use Rattle.registry_values.specs.Stages.{stage_of}
 use Rattle.protocol.specs.History.{EndsAt}
 use Rattle.protocol.specs.Model.{Model, put, with_locals, IsUnheld, Stays, Goes_on, Gives_up, Uncounts, Vacates}
 use Rattle.protocol.proofs.history.History.{at_within}

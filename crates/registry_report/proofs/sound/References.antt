@@ -11,6 +11,7 @@ use Rattle.protocol.specs.Model.{Model, put, with_locals, with_passive, Stays, G
 use Rattle.registry_report.specs.declared.hitch.Hitch.{Hitch}
 use Rattle.registry_report.specs.declared.hitch.Hitch.TheVariants.{LabelTaken, NoLabel}
 use Rattle.registry_report.specs.Answers as answers
+use Rattle.registry_values.specs.Answers.{why_full}
 use Rattle.registry_report.specs.Answers.{acquire_answer, copy_answer, count_answer, hitched, if_free, may_count, misuse, one_more, reference_answer, release_answer, uncount_answer, unless, with_label}
 use Rattle.registry_report.specs.Registry.{Registry}
 use Rattle.registry_report.specs.Sound.{HasSlot, IsSound, IsSoundModel, IsLawfulTurn}
@@ -53,7 +54,7 @@ refer_keeps z m labels c n k on lt = record {
 }
 
 one_more_is : (r : Registry) (c m n : ℕ) → one_more r c m ≡ Ok n → m ≡ n
-one_more_is r c m n is = same_ok {E = Refusal} m n (then_ok (nat_lt (r.model.passive c m) r.settings.passive_limit) PassiveFull (Ok m) n is).1
+one_more_is r c m n is = same_ok {E = Refusal} m n (unless_ok (why_full (r.model.passive c m) r.settings.passive_limit) (Ok m) n is).1
 
 acquire_tells : (r : Registry) (c : ℕ) (o : Option Entry) (n : ℕ) → acquire_answer r c o ≡ Ok n → (e : Entry) × (o ≡ Some e) × (e.number ≡ n)
 acquire_tells r c None n is = absurd (not_ok NothingFound n is)
