@@ -3,7 +3,8 @@
 use super::data::USUAL;
 use passive_core::Core;
 use protocol::{
-    balance_at_rest, every_run_keeps, grace_law, headline, lawful_answers, safe_reuse, worked_run,
+    balance_at_rest, every_run_keeps, grace_law, headline, invariant_suffices, lawful_answers,
+    safe_reuse, worked_run,
 };
 use registry_values::{
     Kind, Name, NameFault, Record, Refusal, Settings, Stage, name_laws, record_from,
@@ -170,6 +171,7 @@ fn laws_end(_rt: HostRuntime) {
     lawful_answers();
     balance_at_rest();
     grace_law();
+    invariant_suffices();
     worked_run();
 }
 
