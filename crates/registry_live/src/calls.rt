@@ -1,6 +1,7 @@
 //! The calls of a session over a running registry, each on one CPU and at the place of one label.
 
 ghost use Rattle.std.specs.Prelude.{◌≡◌, ◌≢◌, ◌↔◌, ◌⊎◌, ◌<◌, IfErr, IfOk, IsErrOf, IsTrue, None, Some, false, is_some, true};
+ghost use Rattle.cpu_words.specs.Domains.{AreWordsOf};
 ghost use Rattle.cpu_words.specs.Searching.{key_with};
 ghost use Rattle.cpu_words.specs.Views.{references_to};
 ghost use Rattle.local_count.specs.References.{HasAcquired, HasReleased};
@@ -24,7 +25,7 @@ use std::sync::Wait;
 
 /// The CPU exits its section; whether the section stays open. Outside no call is made.
 pub fn leave<D: Domain>(words: &Words, cpu: &mut Cpu<D>) -> Result<bool, Hitch>
-    requires words { (words.now.table ≡ D.table) × (words.now.settings ≡ D.settings) }
+    requires words { AreWordsOf words.now D.table D.settings }
     ensures answer { Decides (why_outside cpu.old) (λ stays. HasExitedOn cpu.old cpu.new × (IsTrue stays ↔ cpu.new.view.begin ≢ None)) result }
     ensures refused { IfErr result (λ _. cpu.new ≡ cpu.old) }
     ensures id { cpu.new.view.id ≡ cpu.old.view.id }
@@ -43,7 +44,7 @@ pub fn look_up<D: Domain>(
     kind: Kind,
     name: &Name,
 ) -> Result<Option<Entry>, Hitch>
-    requires words { (words.now.table ≡ D.table) × (words.now.settings ≡ D.settings) }
+    requires words { AreWordsOf words.now D.table D.settings }
     ensures answer { Decides (why_outside cpu.old) (HasFound (key_with kind name.now) cpu.old cpu.new) result }
     ensures refused { IfErr result (λ _. cpu.new ≡ cpu.old) }
     ensures id { cpu.new.view.id ≡ cpu.old.view.id }
@@ -71,7 +72,7 @@ pub fn refer<D: Domain>(
     cpu: &mut Cpu<D>,
     place: &mut Option<Psref>,
 ) -> Result<u64, Hitch>
-    requires words { (words.now.table ≡ D.table) × (words.now.settings ≡ D.settings) }
+    requires words { AreWordsOf words.now D.table D.settings }
     ensures answer { Decides (unless_taken (is_some place.old) (why_not_acquired cpu.old.view cpu.old.view.found)) (λ n. Has place.new (λ p. (p.number ≡ n) × IsAcquired cpu.old cpu.new p)) result }
     ensures refused { IfErr result (λ _. (place.new ≡ place.old) × (cpu.new ≡ cpu.old)) }
     ensures id { cpu.new.view.id ≡ cpu.old.view.id }
@@ -93,7 +94,7 @@ pub fn copied<D: Domain>(
     source: &Option<Psref>,
     taken: bool,
 ) -> Result<Psref, Hitch>
-    requires words { (words.now.table ≡ D.table) × (words.now.settings ≡ D.settings) }
+    requires words { AreWordsOf words.now D.table D.settings }
     ensures answer { Decides (unless_free source.now (λ q. unless_taken taken (why_not_copied cpu.old.view q.number (why_unusable cpu.old.view q)))) (λ p. Has source.now (λ q. IsCopied q.number cpu.old cpu.new p)) result }
     ensures refused { IfErr result (λ _. cpu.new ≡ cpu.old) }
     ensures id { cpu.new.view.id ≡ cpu.old.view.id }
@@ -123,7 +124,7 @@ pub fn read_by<D: Domain>(
     cpu: &mut Cpu<D>,
     place: &Option<Psref>,
 ) -> Result<Reading, Hitch>
-    requires words { (words.now.table ≡ D.table) × (words.now.settings ≡ D.settings) }
+    requires words { AreWordsOf words.now D.table D.settings }
     ensures answer { Decides (unless_free place.now (λ p. refused_by (why_unusable cpu.old.view p))) (λ seen. Has place.now (λ p. (seen.number ≡ p.number) × (rec : Record) × IsRead cpu.old.view p.number rec × (seen.value ≡ rec.value))) result }
     ensures same { cpu.new ≡ cpu.old }
 {
@@ -144,7 +145,7 @@ pub fn let_go<D: Domain>(
     cpu: &mut Cpu<D>,
     place: &mut Option<Psref>,
 ) -> Result<u64, Hitch>
-    requires words { (words.now.table ≡ D.table) × (words.now.settings ≡ D.settings) }
+    requires words { AreWordsOf words.now D.table D.settings }
     ensures answer { Decides (unless_free place.old (λ p. refused_by (why_unusable cpu.old.view p))) (λ n. Has place.old (λ p. (p.number ≡ n) × HasOneLess n cpu.old cpu.new)) result }
     ensures free { IfOk result (λ _. place.new ≡ None) }
     ensures refused { IfErr result (λ _. (place.new ≡ place.old) × (cpu.new ≡ cpu.old)) }
@@ -170,7 +171,7 @@ pub fn count_one<D: Domain>(
     cpu: &mut Cpu<D>,
     place: &mut Option<LocalRef<D>>,
 ) -> Result<u64, Hitch>
-    requires words { (words.now.table ≡ D.table) × (words.now.settings ≡ D.settings) }
+    requires words { AreWordsOf words.now D.table D.settings }
     ensures ok { IfOk result (λ n. Has place.new (λ v. (v.entry.number ≡ n) × HasAcquired cpu.old cpu.new v)) }
     ensures taken { IsErrOf result Hitch.LabelTaken ↔ IsTrue (is_some place.old) }
     ensures refused { IfErr result (λ h. (place.new ≡ place.old) × (cpu.new ≡ cpu.old)) }

@@ -8,7 +8,7 @@ ghost use Rattle.registry_values.specs.Slots.{is_iface};
 ghost use Rattle.registry_report.specs.declared.hitch.Hitch.TheVariants as hitch;
 ghost use Rattle.registry_language.specs.declared.command.Command.TheVariants as command;
 ghost use Rattle.registry_report.specs.Answers.{advance_answer, attach_answer, audit_answer, copy_answer, count_answer, destroy_answer, detach_answer, enter_answer, exit_answer, find_answer, held_answer, hitched, peek_answer, perform_answer, plug_answer, read_answer, reference_answer, release_answer, uncount_answer};
-ghost use Rattle.registry_report.specs.Given.{Gives, Leaves};
+ghost use Rattle.registry_report.specs.Given.{AnswersFor, LeavesFor};
 ghost use Rattle.registry_report.specs.Printed.{MayHitch};
 ghost use Rattle.registry_report.specs.Registry.{Registry};
 ghost use Rattle.registry_report.specs.Report.{after};
@@ -50,8 +50,8 @@ pub trait Session {
         requires known { cpu < (settings (kept self.old)).cpus }
         requires lawful { IsTrue (is_lawful rec.name) }
         ensures kept { kept self.new ≡ kept self.old }
-        ensures answer { (r : Registry) → shows self.old r → Gives result (hitched (attach_answer r cpu rec)) }
-        ensures shows { (r : Registry) → shows self.old r → Leaves result (shows self.new (after r (command.Attach cpu rec))) }
+        ensures answer { AnswersFor (shows self.old) (λ r. hitched (attach_answer r cpu rec)) result }
+        ensures shows { LeavesFor (shows self.old) (shows self.new) (command.Attach cpu rec) result }
         ensures hitch { IfErr result (MayHitch (command.Attach cpu rec)) };
 
     /// The CPU attaches the interface on the driver that the label's local reference is to. The label is free then.
@@ -61,40 +61,40 @@ pub trait Session {
         requires iface { is_iface rec.kind ≡ true }
         requires label { label.place < 26 }
         ensures kept { kept self.new ≡ kept self.old }
-        ensures answer { (r : Registry) → shows self.old r → Gives result (plug_answer r cpu rec label.place) }
-        ensures shows { (r : Registry) → shows self.old r → Leaves result (shows self.new (after r (command.Plug cpu rec label))) }
+        ensures answer { AnswersFor (shows self.old) (λ r. plug_answer r cpu rec label.place) result }
+        ensures shows { LeavesFor (shows self.old) (shows self.new) (command.Plug cpu rec label) result }
         ensures hitch { IfErr result (MayHitch (command.Plug cpu rec label)) };
 
     /// The CPU detaches the live entry of this kind and name.
     fn detach(&mut self, cpu: u8, kind: Kind, name: Name) -> Result<Entry, Hitch>
         requires { cpu < (settings (kept self.old)).cpus }
         ensures kept { kept self.new ≡ kept self.old }
-        ensures answer { (r : Registry) → shows self.old r → Gives result (hitched (detach_answer r cpu (record { kind = kind; name = name }))) }
-        ensures shows { (r : Registry) → shows self.old r → Leaves result (shows self.new (after r (command.Detach cpu kind name))) }
+        ensures answer { AnswersFor (shows self.old) (λ r. hitched (detach_answer r cpu (record { kind = kind; name = name }))) result }
+        ensures shows { LeavesFor (shows self.old) (shows self.new) (command.Detach cpu kind name) result }
         ensures hitch { IfErr result (MayHitch (command.Detach cpu kind name)) };
 
     /// The CPU enters a section.
     fn enter(&mut self, cpu: u8) -> Result<(), Hitch>
         requires { cpu < (settings (kept self.old)).cpus }
         ensures kept { kept self.new ≡ kept self.old }
-        ensures answer { (r : Registry) → shows self.old r → Gives result (hitched (enter_answer r cpu)) }
-        ensures shows { (r : Registry) → shows self.old r → Leaves result (shows self.new (after r (command.Enter cpu))) }
+        ensures answer { AnswersFor (shows self.old) (λ r. hitched (enter_answer r cpu)) result }
+        ensures shows { LeavesFor (shows self.old) (shows self.new) (command.Enter cpu) result }
         ensures hitch { IfErr result (MayHitch (command.Enter cpu)) };
 
     /// The CPU exits its section; whether the section stays open.
     fn exit(&mut self, cpu: u8) -> Result<bool, Hitch>
         requires { cpu < (settings (kept self.old)).cpus }
         ensures kept { kept self.new ≡ kept self.old }
-        ensures answer { (r : Registry) → shows self.old r → Gives result (exit_answer r cpu) }
-        ensures shows { (r : Registry) → shows self.old r → Leaves result (shows self.new (after r (command.Exit cpu))) }
+        ensures answer { AnswersFor (shows self.old) (λ r. exit_answer r cpu) result }
+        ensures shows { LeavesFor (shows self.old) (shows self.new) (command.Exit cpu) result }
         ensures hitch { IfErr result (MayHitch (command.Exit cpu)) };
 
     /// The live entry of this kind and name, as the CPU finds it inside its section.
     fn find(&mut self, cpu: u8, kind: Kind, name: Name) -> Result<Option<Entry>, Hitch>
         requires { cpu < (settings (kept self.old)).cpus }
         ensures kept { kept self.new ≡ kept self.old }
-        ensures answer { (r : Registry) → shows self.old r → Gives result (find_answer r cpu (record { kind = kind; name = name })) }
-        ensures shows { (r : Registry) → shows self.old r → Leaves result (shows self.new (after r (command.Find cpu kind name))) }
+        ensures answer { AnswersFor (shows self.old) (λ r. find_answer r cpu (record { kind = kind; name = name })) result }
+        ensures shows { LeavesFor (shows self.old) (shows self.new) (command.Find cpu kind name) result }
         ensures hitch { IfErr result (MayHitch (command.Find cpu kind name)) };
 
     /// The CPU acquires a passive reference to what it found last; the label stands for it then. The number that it
@@ -103,8 +103,8 @@ pub trait Session {
         requires known { cpu < (settings (kept self.old)).cpus }
         requires label { label.place < 26 }
         ensures kept { kept self.new ≡ kept self.old }
-        ensures answer { (r : Registry) → shows self.old r → Gives result (reference_answer r cpu label.place) }
-        ensures shows { (r : Registry) → shows self.old r → Leaves result (shows self.new (after r (command.Reference cpu label))) }
+        ensures answer { AnswersFor (shows self.old) (λ r. reference_answer r cpu label.place) result }
+        ensures shows { LeavesFor (shows self.old) (shows self.new) (command.Reference cpu label) result }
         ensures hitch { IfErr result (MayHitch (command.Reference cpu label)) };
 
     /// The CPU makes a second passive reference of the source's; the target stands for it then. The number that both
@@ -114,15 +114,15 @@ pub trait Session {
         requires source { source.place < 26 }
         requires target { target.place < 26 }
         ensures kept { kept self.new ≡ kept self.old }
-        ensures answer { (r : Registry) → shows self.old r → Gives result (copy_answer r cpu source.place target.place) }
-        ensures shows { (r : Registry) → shows self.old r → Leaves result (shows self.new (after r (command.Copy cpu source target))) }
+        ensures answer { AnswersFor (shows self.old) (λ r. copy_answer r cpu source.place target.place) result }
+        ensures shows { LeavesFor (shows self.old) (shows self.new) (command.Copy cpu source target) result }
         ensures hitch { IfErr result (MayHitch (command.Copy cpu source target)) };
 
     /// Whether the CPU holds a passive reference to the target of the label's.
     fn held(&self, cpu: u8, label: Label) -> Result<bool, Hitch>
         requires known { cpu < (settings (kept self.now)).cpus }
         requires label { label.place < 26 }
-        ensures answer { (r : Registry) → shows self.now r → Gives result (held_answer r cpu label.place) }
+        ensures answer { AnswersFor (shows self.now) (λ r. held_answer r cpu label.place) result }
         ensures hitch { IfErr result (MayHitch (command.Held cpu label)) };
 
     /// What the CPU reads by the label's passive reference.
@@ -130,8 +130,8 @@ pub trait Session {
         requires known { cpu < (settings (kept self.old)).cpus }
         requires label { label.place < 26 }
         ensures kept { kept self.new ≡ kept self.old }
-        ensures answer { (r : Registry) → shows self.old r → Gives result (read_answer r cpu label.place) }
-        ensures shows { (r : Registry) → shows self.old r → Leaves result (shows self.new (after r (command.Read cpu label))) }
+        ensures answer { AnswersFor (shows self.old) (λ r. read_answer r cpu label.place) result }
+        ensures shows { LeavesFor (shows self.old) (shows self.new) (command.Read cpu label) result }
         ensures hitch { IfErr result (MayHitch (command.Read cpu label)) };
 
     /// The CPU releases the label's passive reference; the label is free then. The number that it was to.
@@ -139,8 +139,8 @@ pub trait Session {
         requires known { cpu < (settings (kept self.old)).cpus }
         requires label { label.place < 26 }
         ensures kept { kept self.new ≡ kept self.old }
-        ensures answer { (r : Registry) → shows self.old r → Gives result (release_answer r cpu label.place) }
-        ensures shows { (r : Registry) → shows self.old r → Leaves result (shows self.new (after r (command.Release cpu label))) }
+        ensures answer { AnswersFor (shows self.old) (λ r. release_answer r cpu label.place) result }
+        ensures shows { LeavesFor (shows self.old) (shows self.new) (command.Release cpu label) result }
         ensures hitch { IfErr result (MayHitch (command.Release cpu label)) };
 
     /// The CPU acquires a local reference to what it found last; the label stands for it then. The number that it is
@@ -149,16 +149,16 @@ pub trait Session {
         requires known { cpu < (settings (kept self.old)).cpus }
         requires label { label.place < 26 }
         ensures kept { kept self.new ≡ kept self.old }
-        ensures answer { (r : Registry) → shows self.old r → Gives result (count_answer r cpu label.place) }
-        ensures shows { (r : Registry) → shows self.old r → Leaves result (shows self.new (after r (command.Count cpu label))) }
+        ensures answer { AnswersFor (shows self.old) (λ r. count_answer r cpu label.place) result }
+        ensures shows { LeavesFor (shows self.old) (shows self.new) (command.Count cpu label) result }
         ensures hitch { IfErr result (MayHitch (command.Count cpu label)) };
 
     /// The record that the label's local reference is to.
     fn peek(&mut self, label: Label) -> Result<Reading, Hitch>
         requires { label.place < 26 }
         ensures kept { kept self.new ≡ kept self.old }
-        ensures answer { (r : Registry) → shows self.old r → Gives result (peek_answer r label.place) }
-        ensures shows { (r : Registry) → shows self.old r → Leaves result (shows self.new (after r (command.Peek label))) }
+        ensures answer { AnswersFor (shows self.old) (λ r. peek_answer r label.place) result }
+        ensures shows { LeavesFor (shows self.old) (shows self.new) (command.Peek label) result }
         ensures hitch { IfErr result (MayHitch (command.Peek label)) };
 
     /// The CPU releases the label's local reference; the label is free then. The number that it was to.
@@ -166,15 +166,15 @@ pub trait Session {
         requires known { cpu < (settings (kept self.old)).cpus }
         requires label { label.place < 26 }
         ensures kept { kept self.new ≡ kept self.old }
-        ensures answer { (r : Registry) → shows self.old r → Gives result (uncount_answer r label.place) }
-        ensures shows { (r : Registry) → shows self.old r → Leaves result (shows self.new (after r (command.Uncount cpu label))) }
+        ensures answer { AnswersFor (shows self.old) (λ r. uncount_answer r label.place) result }
+        ensures shows { LeavesFor (shows self.old) (shows self.new) (command.Uncount cpu label) result }
         ensures hitch { IfErr result (MayHitch (command.Uncount cpu label)) };
 
     /// How far the retired entry with this number comes.
     fn advance(&mut self, number: u64) -> Result<Stage, Hitch>
         ensures kept { kept self.new ≡ kept self.old }
-        ensures answer { (r : Registry) → shows self.old r → Gives result (hitched (advance_answer r number)) }
-        ensures shows { (r : Registry) → shows self.old r → Leaves result (shows self.new (after r (command.Advance number))) }
+        ensures answer { AnswersFor (shows self.old) (λ r. hitched (advance_answer r number)) result }
+        ensures shows { LeavesFor (shows self.old) (shows self.new) (command.Advance number) result }
         ensures hitch { IfErr result (MayHitch (command.Advance number)) };
 
     /// The CPU sees the retired entry with this number off, in so many turns. The slot that is vacant again.
@@ -182,8 +182,8 @@ pub trait Session {
         requires known { cpu < (settings (kept self.old)).cpus }
         requires some { 1 ≤ turns }
         ensures kept { kept self.new ≡ kept self.old }
-        ensures answer { (r : Registry) → shows self.old r → Gives result (hitched (destroy_answer r cpu number)) }
-        ensures shows { (r : Registry) → shows self.old r → Leaves result (shows self.new (after r (command.Destroy cpu number turns))) }
+        ensures answer { AnswersFor (shows self.old) (λ r. hitched (destroy_answer r cpu number)) result }
+        ensures shows { LeavesFor (shows self.old) (shows self.new) (command.Destroy cpu number turns) result }
         ensures hitch { IfErr result (MayHitch (command.Destroy cpu number turns)) };
 
     /// The CPU waits, for so many turns, until no section that is open now is.
@@ -191,8 +191,8 @@ pub trait Session {
         requires known { cpu < (settings (kept self.old)).cpus }
         requires some { 1 ≤ turns }
         ensures kept { kept self.new ≡ kept self.old }
-        ensures answer { (r : Registry) → shows self.old r → Gives result (hitched (perform_answer r cpu)) }
-        ensures shows { (r : Registry) → shows self.old r → Leaves result (shows self.new (after r (command.Perform cpu turns))) }
+        ensures answer { AnswersFor (shows self.old) (λ r. hitched (perform_answer r cpu)) result }
+        ensures shows { LeavesFor (shows self.old) (shows self.new) (command.Perform cpu turns) result }
         ensures hitch { IfErr result (MayHitch (command.Perform cpu turns)) };
 
     /// The balance of each live or retired slot.

@@ -10,4 +10,4 @@ pub use registry_language::{
 };
 pub use registry_live::{run_live, run_live_on};
 pub use registry_report::{report_laws, run_core};
-pub use registry_storm::{Gate, OpenGate, StormSum, storm};
+pub use registry_storm::{Gate, OpenGate, StormDeeds, StormRun, StormSum, storm, storm_run};

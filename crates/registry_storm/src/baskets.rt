@@ -10,8 +10,15 @@ use name_registry::Registry;
 use passive_list::Cpu;
 use std::sync::{Mutex, Wait};
 
+/// A local reference in a basket.
+pub struct Laid<D: Domain> {
+    /// The CPU, from 0, that laid it there.
+    pub by: u8,
+    pub reference: LocalRef<D>,
+}
+
 /// A place for one local reference.
-type Place<D> = Mutex<Option<LocalRef<D>>>;
+type Place<D> = Mutex<Option<Laid<D>>>;
 
 /// A place for each CPU that there may be, each under a lock of its own, which is held only to exchange what lies there. They can't be
 /// dropped: what lies in them is spent by `empty`.
@@ -37,15 +44,17 @@ impl<D: Domain> Baskets<D> {
     }
 
     /// Lays the reference into a place, from 0, and takes out what lay there.
-    pub fn exchange<R: Wait>(
-        &self,
-        rt: &R,
-        place: u8,
-        reference: LocalRef<D>,
-    ) -> Option<LocalRef<D>>
+    pub fn exchange<R: Wait>(&self, rt: &R, place: u8, laid: Laid<D>) -> Option<Laid<D>>
         requires { place < 8 }
     {
-        self.places[place as usize].lock(rt).replace(reference)
+        self.places[place as usize].lock(rt).replace(laid)
+    }
+
+    /// Takes out what lies in a place, from 0.
+    pub fn take<R: Wait>(&self, rt: &R, place: u8) -> Option<Laid<D>>
+        requires { place < 8 }
+    {
+        self.places[place as usize].lock(rt).take()
     }
 
     /// Releases on this CPU what lies in them, and counts it.
@@ -83,7 +92,7 @@ fn empty_place<D: Domain, R: Wait>(
     ensures section { SameSection cpu.old cpu.new }
     ensures lookups { counts.new.lookups ≡ counts.old.lookups }
 {
-    if let Some(reference) = place.into_inner() {
+    if let Some(Laid { by: _by, reference }) = place.into_inner() {
         give_back(rt, registry, cpu, counts, reference);
     }
 }

@@ -4,7 +4,7 @@ ghost use Rattle.std.specs.Prelude.{◌≡◌, ◌+◌, ◌*◌, ◌<◌};
 ghost use Rattle.registry_storm.specs.Storms.{IsOutside, SameSection};
 
 use crate::plan::{Plan, SLOTS};
-use crate::sum::Counts;
+use crate::sum::{Counts, count};
 use cpu_words::Domain;
 use local_count::{LocalRef, acquire_local};
 use name_registry::Registry;
@@ -70,7 +70,10 @@ impl Churn {
             return;
         };
         match registry.attach_iface(rt, cpu, plan.iface(turn), reference) {
-            Ok(entry) => self.live = Some(entry),
+            Ok(entry) => {
+                self.live = Some(entry);
+                count(&mut counts.deeds.attached);
+            }
             Err((refusal, back)) => {
                 counts.judge(refusal == Refusal::NoSlot);
                 registry.release_local(rt, cpu, back);
@@ -137,6 +140,7 @@ impl Churn {
             Ok(Stage::Grace(_)) => (),
             Ok(Stage::Freed(freed)) => {
                 counts.judge(freed == slot);
+                count(&mut counts.deeds.freed);
                 self.retired[slot as usize] = 0;
             }
             Ok(Stage::Passive(_) | Stage::Local(_)) | Err(_) => counts.judge(false),
@@ -157,9 +161,28 @@ impl Churn {
         for slot in 0..SLOTS {
             let number = self.retired[slot as usize];
             if number != 0 {
-                counts.judge(registry.destroy(rt, cpu, number, 1) == Ok(slot));
+                destroy_one(rt, registry, cpu, number, slot, counts);
             }
         }
+    }
+}
+
+/// Destroys on this CPU, in one turn, the entry that was retired in the slot.
+pub fn destroy_one<D: Domain, R: Wait>(
+    rt: &R,
+    registry: &Registry<D>,
+    cpu: &mut Cpu<D>,
+    number: u64,
+    slot: u8,
+    counts: &mut Counts,
+)
+    ensures same { cpu.new ≡ cpu.old }
+    ensures counted { counts.new.lookups ≡ counts.old.lookups }
+{
+    let freed = registry.destroy(rt, cpu, number, 1);
+    counts.judge(freed == Ok(slot));
+    if freed.is_ok() {
+        count(&mut counts.deeds.freed);
     }
 }
 

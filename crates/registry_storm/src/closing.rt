@@ -1,8 +1,9 @@
 //! The end of a storm: what is left of it is taken away on CPU 0, and each answer is judged.
 
 ghost use Rattle.std.specs.Prelude.{◌≡◌, IfErr};
+ghost use Rattle.registry_storm.specs.Sums.{held_first};
 
-use crate::churn::Churn;
+use crate::churn::{Churn, destroy_one};
 use crate::plan::Plan;
 use crate::sum::Counts;
 use cpu_words::Domain;
@@ -54,7 +55,8 @@ pub fn held_of_driver<D: Domain, R: Wait>(
 
 /// The local references held to the only entry, which is the driver.
 fn held_in(balances: &[Balance], counts: &mut Counts) -> i64
-    ensures { counts.new.lookups ≡ counts.old.lookups }
+    ensures held { result ≡ held_first balances.now }
+    ensures counted { counts.new.lookups ≡ counts.old.lookups }
 {
     counts.judge(balances.len() == 1);
     match balances.first() {
@@ -78,5 +80,5 @@ pub fn close_driver<D: Domain, R: Wait>(
 {
     let answer = registry.detach(rt, cpu, Kind::Driver, &plan.driver);
     counts.judge(plan.is_driver(answer.ok()));
-    counts.judge(registry.destroy(rt, cpu, 1, 1) == Ok(0));
+    destroy_one(rt, registry, cpu, 1, 0, counts);
 }

@@ -12,5 +12,5 @@ mod worker;
 mod workers;
 
 pub use gate::{Gate, OpenGate};
-pub use storms::storm;
-pub use sum::StormSum;
+pub use storms::{StormRun, storm, storm_run};
+pub use sum::{StormDeeds, StormSum};

@@ -10,8 +10,8 @@ use registry_values::{Entry, Kind, Name, Record, Settings};
 /// How many slots the registry of a storm has.
 pub const SLOTS: u8 = 4;
 
-/// The value of the driver.
-const DRIVER_VALUE: u64 = 7;
+/// The value of the driver, as every worker expects it.
+pub const DRIVER_VALUE: u64 = 7;
 
 /// How many CPUs and turns a storm has, and the names of its entries.
 #[derive(Clone, Copy)]

@@ -7,23 +7,33 @@ ghost use Rattle.registry_storm.specs.Storms.{IsOfStorm, IsOutside, IsSumOf, set
 use crate::baskets::Baskets;
 use crate::closing::{close_driver, close_ifaces, held_of_driver};
 use crate::gate::Gate;
-use crate::plan::{Plan, settings_of};
-use crate::sum::{Counts, StormSum};
+use crate::plan::{DRIVER_VALUE, Plan, settings_of};
+use crate::sum::{Counts, StormDeeds, StormSum};
 use crate::worker::{Done, Shared};
 use crate::workers::work_all;
 use cpu_words::Domain;
 use name_registry::{Blank, Registry};
 use passive_list::Cpu;
 use registry_language::RunFault;
+use registry_values::Record;
 use std::alloc::Global;
 use std::marker::Brand;
 use std::sync::Wait;
 use std::thread::Threads;
 
+/// What a storm counts, and what was done in it.
+#[derive(Clone, Copy, Debug, PartialEq, Eq)]
+pub struct StormRun {
+    /// The sum that a storm tells.
+    pub sum: StormSum,
+    /// What was done beside.
+    pub deeds: StormDeeds,
+}
+
 /// A storm over a registry of its own: one driver, `drv`, and one worker for each CPU, all at once. In each turn a worker enters a section,
 /// passes the gate in it, looks up the interface `wm0` and then the driver, acquires a passive and a local reference to the driver, exits,
-/// reads the driver's record by both, releases the passive one, and exchanges the local one with what lies in the next CPU's basket, which
-/// it releases on its own CPU. CPU 0 also attaches or detaches the interface in each turn, and works on what it has detached. At the end
+/// reads the driver's record by both, releases the passive one, and exchanges the local one with what lies in the next CPU's basket; what
+/// it gets, and what the CPU before has laid into its own basket, it releases on its own CPU. CPU 0 also attaches or detaches the interface in each turn, and works on what it has detached. At the end
 /// everything is released, audited and destroyed on CPU 0.
 /// Condition: 1 to 8 CPUs, and 1 to 100,000 turns.
 /// Refused: `Memory`; `NoThread` where a worker couldn't be started. The workers that were started have ended then.
@@ -39,8 +49,29 @@ pub fn storm<R: Threads + Wait + Sync, G: Gate + Sync>(
     ensures ok { IfOk result (λ sum. IsSumOf cpus turns sum) }
     ensures err { IfErr result IsOfStorm }
 {
+    let run = storm_run(rt, alloc, cpus, turns, DRIVER_VALUE, gate)?;
+    Ok(run.sum)
+}
+
+/// A storm as `storm` makes it, whose driver is attached with this value; what was done in it is told too. Workers expect 7. With another
+/// value each answer about the driver is wrong: three in each turn of each worker, one before each attach of the interface, and two of
+/// CPU 0 about the driver's own attach and detach. So a bench sees that a storm tells what goes wrong.
+/// Condition and refusals: as of `storm`.
+pub fn storm_run<R: Threads + Wait + Sync, G: Gate + Sync>(
+    rt: &R,
+    alloc: Global,
+    cpus: u8,
+    turns: u32,
+    value: u64,
+    gate: &G,
+) -> Result<StormRun, RunFault>
+    requires cpus { (1 ≤ cpus) × (cpus ≤ 8) }
+    requires turns { (1 ≤ turns) × (turns ≤ 100000) }
+    ensures ok { IfOk result (λ run. IsSumOf cpus turns run.sum) }
+    ensures err { IfErr result IsOfStorm }
+{
     match Blank::new(alloc, settings_of(cpus)) {
-        Ok(blank) => storm_on::<Brand, R, G>(rt, alloc, blank, Plan::new(cpus, turns), gate),
+        Ok(blank) => storm_on::<Brand, R, G>(rt, alloc, blank, Plan::new(cpus, turns), value, gate),
         Err(_) => Err(RunFault::Memory),
     }
 }
@@ -51,18 +82,23 @@ fn storm_on<D: Domain + Send + Sync, R: Threads + Wait + Sync, G: Gate + Sync>(
     alloc: Global,
     blank: Blank,
     plan: Plan,
+    value: u64,
     gate: &G,
-) -> Result<StormSum, RunFault>
+) -> Result<StormRun, RunFault>
     requires named { (blank.table ≡ D.table) × (blank.settings ≡ D.settings) }
     requires settings { D.settings ≡ settings_of plan.cpus }
-    ensures ok { IfOk result (λ sum. IsSumOf plan.cpus plan.turns sum) }
+    ensures ok { IfOk result (λ run. IsSumOf plan.cpus plan.turns run.sum) }
     ensures err { IfErr result IsOfStorm }
 {
     let Ok((registry, mut cpus)) = blank.open::<D>(alloc) else {
         return Err(RunFault::Memory);
     };
     let mut first = take_first(plan, &mut cpus);
-    let entry = registry.attach(rt, &mut first, plan.driver());
+    let driver = Record {
+        value,
+        ..plan.driver()
+    };
+    let entry = registry.attach(rt, &mut first, driver);
     let mut done = blow(rt, alloc, &registry, plan, gate, &mut first, &mut cpus)?;
     done.counts.judge(plan.is_driver(entry.ok()));
     close_ifaces(
@@ -129,9 +165,9 @@ fn finish<D: Domain, R: Wait>(
     plan: Plan,
     cpus: &mut [Cpu<D>],
     counts: Counts,
-) -> Result<StormSum, RunFault>
+) -> Result<StormRun, RunFault>
     requires { counts.lookups ≡ 2 * plan.turns * plan.cpus }
-    ensures ok { IfOk result (λ sum. IsSumOf plan.cpus plan.turns sum) }
+    ensures ok { IfOk result (λ run. IsSumOf plan.cpus plan.turns run.sum) }
     ensures err { IfErr result IsOfStorm }
 {
     let mut counts = counts;
@@ -140,12 +176,16 @@ fn finish<D: Domain, R: Wait>(
         Some(cpu) => close_driver(rt, registry, plan, cpu, &mut counts),
         None => counts.judge(false),
     }
-    Ok(StormSum {
+    let sum = StormSum {
         cpus: plan.cpus,
         turns: plan.turns,
         lookups: counts.lookups,
         references: counts.references,
         wrong: counts.wrong,
         held,
+    };
+    Ok(StormRun {
+        sum,
+        deeds: counts.deeds,
     })
 }

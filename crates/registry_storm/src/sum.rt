@@ -1,6 +1,7 @@
 //! What a storm counts.
 
 ghost use Rattle.std.specs.Prelude.{◌≡◌, ◌+◌, ◌<◌, ◌≤◌, ◌^◌, true, false};
+ghost use Rattle.registry_storm.specs.Sums.{AreAdded, AreDeedsAdded, IsAdded};
 
 /// What all workers of a storm did together.
 #[derive(Clone, Copy, Debug, PartialEq, Eq)]
@@ -19,12 +20,51 @@ pub struct StormSum {
     pub held: i64,
 }
 
+/// What was done in a storm, beside its sum. A storm of one CPU and `t` turns has one number of each.
+#[derive(Clone, Copy, Debug, PartialEq, Eq)]
+pub struct StormDeeds {
+    /// How many lookups of the interface found one: of one CPU every second, the first among them.
+    pub found: u64,
+    /// How many interfaces were attached: of one CPU one in every second turn, the first among them.
+    pub attached: u64,
+    /// How many entries were freed: each interface that was attached, and the driver at the end.
+    pub freed: u64,
+    /// How many records were read by a reference: two in each turn of each worker.
+    pub read: u64,
+    /// How many local references a worker took out of a basket, where another CPU's worker had laid them: of one CPU none, of more at
+    /// least one, and at most one a turn of each.
+    pub handed: u64,
+}
+
+impl StormDeeds {
+    /// Nothing was done.
+    pub const NONE: StormDeeds = StormDeeds {
+        found: 0,
+        attached: 0,
+        freed: 0,
+        read: 0,
+        handed: 0,
+    };
+
+    /// Adds what another worker did.
+    pub fn add(&mut self, other: StormDeeds)
+        ensures { AreDeedsAdded self.old other self.new }
+    {
+        self.found = added(self.found, other.found);
+        self.attached = added(self.attached, other.attached);
+        self.freed = added(self.freed, other.freed);
+        self.read = added(self.read, other.read);
+        self.handed = added(self.handed, other.handed);
+    }
+}
+
 /// What one worker counts, or all of them.
 #[derive(Clone, Copy, Debug, PartialEq, Eq)]
 pub struct Counts {
     pub lookups: u64,
     pub references: u64,
     pub wrong: u64,
+    pub deeds: StormDeeds,
 }
 
 impl Counts {
@@ -33,43 +73,59 @@ impl Counts {
         lookups: 0,
         references: 0,
         wrong: 0,
+        deeds: StormDeeds::NONE,
     };
 
     /// Counts a lookup.
     pub fn add_lookup(&mut self)
         requires { self.old.lookups < 2 ^ 63 }
         ensures lookups { self.new.lookups ≡ self.old.lookups + 1 }
-        ensures others { (self.new.references ≡ self.old.references) × (self.new.wrong ≡ self.old.wrong) }
+        ensures others { (self.new.references ≡ self.old.references) × (self.new.wrong ≡ self.old.wrong) × (self.new.deeds ≡ self.old.deeds) }
     {
         self.lookups += 1;
     }
 
     /// Counts a local reference that was released.
     pub fn add_reference(&mut self)
-        ensures references { self.old.references < 2 ^ 63 → self.new.references ≡ self.old.references + 1 }
-        ensures others { (self.new.lookups ≡ self.old.lookups) × (self.new.wrong ≡ self.old.wrong) }
+        ensures references { IsAdded self.old.references 1 self.new.references }
+        ensures others { (self.new.lookups ≡ self.old.lookups) × (self.new.wrong ≡ self.old.wrong) × (self.new.deeds ≡ self.old.deeds) }
     {
-        self.references = self.references.saturating_add(1);
+        self.references = added(self.references, 1);
     }
 
     /// Counts an answer that isn't the one expected.
     pub fn judge(&mut self, expected: bool)
         ensures right { expected ≡ true → self.new.wrong ≡ self.old.wrong }
-        ensures wrong { expected ≡ false → self.old.wrong < 2 ^ 63 → self.new.wrong ≡ self.old.wrong + 1 }
-        ensures others { (self.new.lookups ≡ self.old.lookups) × (self.new.references ≡ self.old.references) }
+        ensures wrong { expected ≡ false → IsAdded self.old.wrong 1 self.new.wrong }
+        ensures others { (self.new.lookups ≡ self.old.lookups) × (self.new.references ≡ self.old.references) × (self.new.deeds ≡ self.old.deeds) }
     {
         if !expected {
-            self.wrong = self.wrong.saturating_add(1);
+            self.wrong = added(self.wrong, 1);
         }
     }
 
     /// Adds what another worker counted.
     pub fn add(&mut self, other: Counts)
         requires { self.old.lookups + other.lookups < 2 ^ 64 }
-        ensures { self.new.lookups ≡ self.old.lookups + other.lookups }
+        ensures { AreAdded self.old other self.new }
     {
         self.lookups += other.lookups;
-        self.references = self.references.saturating_add(other.references);
-        self.wrong = self.wrong.saturating_add(other.wrong);
+        self.references = added(self.references, other.references);
+        self.wrong = added(self.wrong, other.wrong);
+        self.deeds.add(other.deeds);
     }
+}
+
+/// Counts one more.
+pub fn count(number: &mut u64)
+    ensures { IsAdded number.old 1 number.new }
+{
+    *number = added(*number, 1);
+}
+
+/// The sum of two counts, or the greatest number where there is none.
+fn added(a: u64, b: u64) -> u64
+    ensures { IsAdded a b result }
+{
+    a.saturating_add(b)
 }

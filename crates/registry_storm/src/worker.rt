@@ -1,13 +1,13 @@
 //! A worker: its turns on its own CPU.
 
-ghost use Rattle.std.specs.Prelude.{◌≡◌, ◌≢◌, ◌+◌, ◌*◌, ◌<◌, ◌^◌, None};
+ghost use Rattle.std.specs.Prelude.{◌≡◌, ◌≢◌, ◌+◌, ◌*◌, ◌<◌, ◌≤◌, ◌^◌, None};
 ghost use Rattle.registry_storm.specs.Storms.{IsOutside, SameSection};
 
-use crate::baskets::{Baskets, give_back};
+use crate::baskets::{Baskets, Laid, give_back};
 use crate::churn::Churn;
 use crate::gate::Gate;
 use crate::plan::Plan;
-use crate::sum::Counts;
+use crate::sum::{Counts, count};
 use cpu_words::{Domain, Words};
 use local_count::{LocalRef, acquire_local};
 use name_registry::Registry;
@@ -86,10 +86,17 @@ impl<'a, D: Domain, G: Gate> Shared<'a, D, G> {
         let Ok(()) = enter(words, cpu) else {
             unreachable!()
         };
-        self.gate.pass(cpu.id(), turn);
+        self.pass_gate(cpu, turn);
         let held = self.refer(cpu, counts);
         exit(words, cpu);
         self.let_go(rt, cpu, held, counts);
+    }
+
+    /// Passes the gate. Condition: inside.
+    fn pass_gate(&self, cpu: &Cpu<D>, turn: u32)
+        requires { cpu.now.view.begin ≢ None }
+    {
+        self.gate.pass(cpu.id(), turn);
     }
 
     /// The lookups of a turn, and the references that are acquired after them. Condition: inside.
@@ -104,6 +111,9 @@ impl<'a, D: Domain, G: Gate> Shared<'a, D, G> {
         let iface = find(words, cpu, Kind::Iface, &plan.iface);
         counts.add_lookup();
         counts.judge(plan.is_iface(iface));
+        if iface.is_some() {
+            count(&mut counts.deeds.found);
+        }
         let driver = find(words, cpu, Kind::Driver, &plan.driver);
         counts.add_lookup();
         counts.judge(plan.is_driver(driver));
@@ -136,6 +146,7 @@ impl<'a, D: Domain, G: Gate> Shared<'a, D, G> {
         if let Some(psref) = passive {
             let rec = read(self.registry.words(), cpu, psref);
             counts.judge(psref.number() == 1 && rec == Ok(self.plan.driver()));
+            count(&mut counts.deeds.read);
         }
     }
 
@@ -145,6 +156,7 @@ impl<'a, D: Domain, G: Gate> Shared<'a, D, G> {
         if let Some(reference) = local {
             let rec = reference.record(self.registry.words());
             counts.judge(reference.number() == 1 && rec == self.plan.driver());
+            count(&mut counts.deeds.read);
         }
     }
 
@@ -159,7 +171,8 @@ impl<'a, D: Domain, G: Gate> Shared<'a, D, G> {
         }
     }
 
-    /// Lays the local reference into the next CPU's basket, and releases here what lay there.
+    /// Lays the local reference into the next CPU's basket, and takes what lies in this CPU's own. What was taken out of either is
+    /// released here.
     fn pass_on<R: Wait>(
         &self,
         rt: &R,
@@ -170,10 +183,40 @@ impl<'a, D: Domain, G: Gate> Shared<'a, D, G> {
         ensures section { SameSection cpu.old cpu.new }
         ensures counted { counts.new.lookups ≡ counts.old.lookups }
     {
-        let (cpu_id, last) = (cpu.id(), self.plan.cpus - 1);
-        let next = if cpu_id < last { cpu_id + 1 } else { 0 };
-        if let Some(taken) = self.baskets.exchange(rt, next, reference) {
-            give_back(rt, self.registry, cpu, counts, taken);
+        let own = cpu.id;
+        let next = next_basket(own, self.plan.cpus);
+        let laid = Laid { by: own, reference };
+        let back = self.baskets.exchange(rt, next, laid);
+        let handed = self.baskets.take(rt, own);
+        self.take_in(rt, cpu, back, counts);
+        self.take_in(rt, cpu, handed, counts);
+    }
+
+    /// Releases what was taken out of a basket.
+    fn take_in<R: Wait>(
+        &self,
+        rt: &R,
+        cpu: &mut Cpu<D>,
+        taken: Option<Laid<D>>,
+        counts: &mut Counts,
+    )
+        ensures section { SameSection cpu.old cpu.new }
+        ensures counted { counts.new.lookups ≡ counts.old.lookups }
+    {
+        if let Some(Laid { by, reference }) = taken {
+            if by != cpu.id() {
+                count(&mut counts.deeds.handed);
+            }
+            give_back(rt, self.registry, cpu, counts, reference);
         }
     }
+}
+
+/// The basket of the CPU after this one, and CPU 0's after the last.
+fn next_basket(cpu: u8, cpus: u8) -> u8
+    requires { 1 ≤ cpus }
+    ensures next { cpu + 1 < cpus → result ≡ cpu + 1 }
+    ensures first { cpus ≤ cpu + 1 → result ≡ 0 }
+{
+    if cpu < cpus - 1 { cpu + 1 } else { 0 }
 }

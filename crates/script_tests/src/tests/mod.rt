@@ -7,6 +7,7 @@ mod ends;
 mod faults;
 mod memory_tests;
 mod rows;
+mod storm_deeds;
 mod storms;
 
 use registry_script::{Engine, RunFault, run};

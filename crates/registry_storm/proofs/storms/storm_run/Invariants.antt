@@ -1,4 +1,4 @@
-use Rattle.registry_storm.proofs.storms.storm.Given as goal
+use Rattle.registry_storm.proofs.storms.storm_run.Given as goal
 
 -- the registry that was just made
 abbrev pub ghosts-storm_on : goal.ghosts-storm_on
