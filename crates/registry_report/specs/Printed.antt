@@ -100,9 +100,17 @@ IsHitchOf (Destroy c n turns) (Refused f) = IsOfDestroy f
 IsHitchOf (Perform c turns) (Refused f) = IsOfPerform f
 IsHitchOf _ _ = ⊥
 
--- so it is, or memory was refused
+-- the commands that may want memory: those that make a change of the history, and the one that makes a local reference
+abbrev pub MayWantMemory : Command → Type 0
+MayWantMemory (Attach c rec) = Unit {0}
+MayWantMemory (Plug c rec x) = Unit {0}
+MayWantMemory (Detach c kind name) = Unit {0}
+MayWantMemory (Count c x) = Unit {0}
+MayWantMemory _ = ⊥
+
+-- so it is, or memory was refused to a command that may want any
 abbrev pub MayHitch : Command → Hitch → Type 0
-MayHitch command hitch = (hitch ≡ Refused NoMemory) ⊎ IsHitchOf command hitch
+MayHitch command hitch = (MayWantMemory command × (hitch ≡ Refused NoMemory)) ⊎ IsHitchOf command hitch
 
 -- the line of some answer, or of why there is none
 abbrev pub IsAnswered : {X : Type 0} → (X → List ℕ) → Command → List ℕ → Type 0

@@ -18,7 +18,7 @@ use Rattle.registry_report.specs.declared.hitch.Hitch.{Hitch}
 use Rattle.registry_report.specs.declared.hitch.Hitch.TheVariants.{Refused}
 use Rattle.registry_language.specs.declared.command.Command.{Command}
 use Rattle.registry_report.specs.Answers.{hitched}
-use Rattle.registry_report.specs.Printed.{IsHitchOf, IsOfAttach, IsOfDestroy, IsOfEnter, IsOfPerform, MayHitch}
+use Rattle.registry_report.specs.Printed.{IsHitchOf, IsOfAttach, IsOfDestroy, IsOfEnter, IsOfPerform, MayHitch, MayWantMemory}
 
 -- a refusal by a test
 if_refused : {X : Type 0} (P : Refusal → Type 0) (b : Bool) (x y : Result X Refusal) → IfErr x P → IfErr y P → IfErr (if b then x else y) P
@@ -67,7 +67,7 @@ hitch_is command given result (Ok x) told is h = rw (told ∙ ap hitched is) tt
 hitch_is command given result (Err f) told is h = rw (told ∙ ap hitched is) (inr h)
 
 -- the same of a call that may want memory
-pub attach_hitch : (command : Command) (given : Result Entry Hitch) (result answer : Result Entry Refusal) → given ≡ hitched result → IsAnswer answer result → IfErr answer (λ f. IsHitchOf command (Refused f)) → IfErr given (MayHitch command)
-attach_hitch command given result (Ok e) told (inl is) h = rw (told ∙ ap hitched is) tt
-attach_hitch command given result (Ok e) told (inr none) h = rw (told ∙ ap hitched none) (inl refl)
-attach_hitch command given result (Err f) told is h = rw (told ∙ ap hitched is) (inr h)
+pub attach_hitch : (command : Command) (given : Result Entry Hitch) (result answer : Result Entry Refusal) → MayWantMemory command → given ≡ hitched result → IsAnswer answer result → IfErr answer (λ f. IsHitchOf command (Refused f)) → IfErr given (MayHitch command)
+attach_hitch command given result (Ok e) may told (inl is) h = rw (told ∙ ap hitched is) tt
+attach_hitch command given result (Ok e) may told (inr none) h = rw (told ∙ ap hitched none) (inl (may, refl))
+attach_hitch command given result (Err f) may told is h = rw (told ∙ ap hitched is) (inr h)

@@ -10,4 +10,4 @@ pub returns-clause-shows : goal.returns-clause-shows
 returns-clause-shows c = λ r on. (attach_does (record { core = c.self.inside.core; passives = c.self.inside.passives; locals = c.self.inside.locals }) c.args.self.now c.attach-answer.new.self r c.args.cpu c.args.rec c.attach-answer.result c.as_answer.result c.self.view_is c.self.invariant on c.as_answer.ensures c.attach-answer.ensures.answer c.attach-answer.ensures.after c.at_rest.ensures.holds).1
 
 pub returns-clause-hitch : goal.returns-clause-hitch
-returns-clause-hitch c = attach_hitch (Attach c.args.cpu c.args.rec) c.as_answer.result c.attach-answer.result _ c.as_answer.ensures c.attach-answer.ensures.answer (attach_refused c.self.inside.core c.args.cpu c.args.rec)
+returns-clause-hitch c = attach_hitch (Attach c.args.cpu c.args.rec) c.as_answer.result c.attach-answer.result _ tt c.as_answer.ensures c.attach-answer.ensures.answer (attach_refused c.self.inside.core c.args.cpu c.args.rec)

@@ -31,4 +31,4 @@ pub returns-clause-shows : goal.returns-clause-shows
 returns-clause-shows c = λ r on. (plug_does (record { core = c.self.inside.core; passives = c.self.inside.passives; locals = c.self.inside.locals }) c.args.self.now c.attach_iface-answer.new.self r c.args.cpu c.args.label.place c.in_ok-id.id c.args.rec c.in_ok-entry.entry c.self.view_is c.self.invariant on c.requires.label (ap (λ (s : SessionState). slice_index_or s.locals c.args.label.place None) c.self.view_is ∙ filled_tells _ c.in_ok-id.id c.in_ok-id.ensures) c.requires.iface c.requires.lawful c.in_ok-entry.ensures.answer c.in_ok-entry.ensures.after c.at_rest.ensures.holds).1
 
 pub returns-in_err-entry-clause-hitch : goal.returns-in_err-entry-clause-hitch
-returns-in_err-entry-clause-hitch c = attach_hitch (Plug c.args.cpu c.args.rec c.args.label) c.from_residual-in_err-entry.result (Err c.in_err-entry.field-0.0) _ (told_err _ _ c.from_residual-in_err-entry.ensures.0 c.from_residual-in_err-entry.ensures.1) c.in_err-entry.ensures.answer (attach_iface_refused c.self.inside.core c.args.cpu c.args.rec c.in_ok-id.id)
+returns-in_err-entry-clause-hitch c = attach_hitch (Plug c.args.cpu c.args.rec c.args.label) c.from_residual-in_err-entry.result (Err c.in_err-entry.field-0.0) _ tt (told_err _ _ c.from_residual-in_err-entry.ensures.0 c.from_residual-in_err-entry.ensures.1) c.in_err-entry.ensures.answer (attach_iface_refused c.self.inside.core c.args.cpu c.args.rec c.in_ok-id.id)
