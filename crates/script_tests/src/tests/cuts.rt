@@ -1,6 +1,6 @@
 //! A script that is cut after each byte: its first fault and nothing written, or the report of what is left.
 
-use super::{ENGINES, outcome};
+use super::{ENGINES, writes};
 use registry_script::{Cause, Engine, RunFault, ScriptFault};
 use std::alloc::{AllocError, Global};
 use std::process::Abort;
@@ -11,53 +11,63 @@ const SCRIPT: &[u8] = b"# x\ndomain 2 2\nexit 0\nfind 1 driver wm\nadvance 7\n";
 
 const REPORT: &[u8] = b"domain 2 2\nnot inside\nnot inside\nrefused NotRetired\n";
 
-/// What is answered to the first `cut` bytes: a front of the report, or a fault.
-fn answer(cut: usize) -> Result<usize, ScriptFault> {
-    let (line, cause) = match cut {
-        0..=4 => (1, Cause::NoDomain),
-        5..=9 => (2, Cause::UnknownCommand),
-        10..=13 => (2, Cause::WrongCount),
-        14..=15 => return Ok(11),
-        16..=18 => (3, Cause::UnknownCommand),
-        19..=20 => (3, Cause::WrongCount),
-        21..=22 => return Ok(22),
-        23..=25 => (4, Cause::UnknownCommand),
-        26..=36 => (4, Cause::WrongCount),
-        37..=39 => return Ok(33),
-        40..=45 => (5, Cause::UnknownCommand),
-        46..=47 => (5, Cause::WrongCount),
-        _ => return Ok(52),
-    };
-    Err(ScriptFault { line, cause })
-}
+/// What is answered to the first bytes of the script, up to so many: the line and the cause of a fault, or so long a front of the report.
+const ANSWERS: &[(usize, Result<usize, (u32, Cause)>)] = &[
+    (4, Err((1, Cause::NoDomain))),
+    (9, Err((2, Cause::UnknownCommand))),
+    (13, Err((2, Cause::WrongCount))),
+    (15, Ok(11)),
+    (18, Err((3, Cause::UnknownCommand))),
+    (20, Err((3, Cause::WrongCount))),
+    (22, Ok(22)),
+    (25, Err((4, Cause::UnknownCommand))),
+    (36, Err((4, Cause::WrongCount))),
+    (39, Ok(33)),
+    (45, Err((5, Cause::UnknownCommand))),
+    (47, Err((5, Cause::WrongCount))),
+    (49, Ok(52)),
+];
 
-fn cut_under<R: Wait + Abort>(rt: &R, alloc: Global, engine: Engine) {
-    for cut in 0..=49 {
-        let (written, result) = outcome(rt, alloc, engine, &SCRIPT[..cut]);
-        let (front, end) = match answer(cut) {
-            Ok(front) => (front, Ok(())),
-            Err(fault) => (0, Err(RunFault::Script(fault))),
-        };
-        assert_eq!(rt; result, end, "cut at {cut}, {engine:?}");
-        assert_eq!(rt; written.len(), front, "cut at {cut}, {engine:?}");
-        assert!(rt; REPORT.starts_with(&written), "cut at {cut}, {engine:?}");
-    }
+/// Under each engine, what is written on the front of the script, and how the run ends.
+fn is_answered<R: Wait>(
+    rt: &R,
+    alloc: Global,
+    cut: usize,
+    answer: Result<usize, (u32, Cause)>,
+) -> bool {
+    let (front, end) = match answer {
+        Ok(front) => (front, Ok(())),
+        Err((line, cause)) => (0, Err(RunFault::Script(ScriptFault { line, cause }))),
+    };
+    let (Some(script), Some(report)) = (SCRIPT.get(..cut), REPORT.get(..front)) else {
+        return false;
+    };
+    ENGINES
+        .iter()
+        .all(|engine| writes(rt, alloc, *engine, script, report, end))
 }
 
 #[test]
 fn cut_after_each_byte(rt: HostRuntime) {
-    assert_eq!(rt; (SCRIPT.len(), REPORT.len()), (49, 52));
-    for engine in ENGINES {
-        cut_under(&rt, rt.alloc(), engine);
+    let mut cut = 0;
+    for (last, answer) in ANSWERS {
+        for front in cut..*last + 1 {
+            assert!(rt;
+                is_answered(&rt, rt.alloc(), front, *answer),
+                "cut at {front}"
+            );
+        }
+        cut = *last + 1;
     }
+    assert!(rt; cut == SCRIPT.len() + 1, "each cut is tried");
 }
 
 /// A line of the row all-limits: its text; how many bytes its first word has; how many of its bytes have all its
 /// words, the last one perhaps cut short; what the report says of it with its last word cut short, and whole.
-pub type Line = (&'static str, usize, usize, &'static str, &'static str);
+type Line = (&'static str, usize, usize, &'static str, &'static str);
 
 /// The row all-limits. A name can be cut short and still be a name, of another entry.
-pub const LINES: [Line; 16] = [
+const LINES: &[Line] = &[
     ("domain 1 1", 6, 10, "", "domain 1 1"),
     ("limits 10 1 1 1", 6, 15, "", "limits 10 1 1 1"),
     ("attach 0 driver wm 7", 6, 20, "", "attached 1 slot 0"),
@@ -82,85 +92,94 @@ pub const LINES: [Line; 16] = [
     ),
 ];
 
-/// The cause of the fault of a script that ends after so many bytes of a line.
-pub fn cause_of_cut(row: Line, number: u32, cut: usize) -> Option<Cause> {
+/// How the run of a script ends that ends after so many bytes of a line.
+fn end_of_cut(row: &Line, number: u32, cut: usize) -> Result<(), RunFault> {
     let (_, word, words, _, _) = row;
-    if cut == 0 && number == 1 {
-        Some(Cause::NoDomain)
-    } else if cut == 0 || cut >= words {
-        None
-    } else if cut < word {
-        Some(Cause::UnknownCommand)
+    let cause = if cut == 0 && number == 1 {
+        Cause::NoDomain
+    } else if cut == 0 || cut >= *words {
+        return Ok(());
+    } else if cut < *word {
+        Cause::UnknownCommand
     } else {
-        Some(Cause::WrongCount)
-    }
+        Cause::WrongCount
+    };
+    Err(RunFault::Script(ScriptFault {
+        line: number,
+        cause,
+    }))
 }
 
-/// How the run of such a script ends.
-pub fn end_of_cut(row: Line, number: u32, cut: usize) -> Result<(), RunFault> {
-    match cause_of_cut(row, number, cut) {
-        Some(cause) => Err(RunFault::Script(ScriptFault {
-            line: number,
-            cause,
-        })),
-        None => Ok(()),
-    }
-}
-
-/// The lines before, and so many bytes of a line.
-pub fn cut_script(
+/// The lines before, and this much of the next.
+fn with_front(
     alloc: Global,
     before: &[u8],
-    row: Line,
-    cut: usize,
+    front: &str,
+    end: &[u8],
 ) -> Result<Vec<u8>, AllocError> {
-    let mut script = Vec::new(alloc);
-    script.extend_from_slice(before)?;
-    if let Some(front) = row.0.as_bytes().get(..cut) {
-        script.extend_from_slice(front)?;
-    }
-    Ok(script)
+    let mut text = Vec::new(alloc);
+    text.extend_from_slice(before)?;
+    text.extend_from_slice(front.as_bytes())?;
+    text.extend_from_slice(end)?;
+    Ok(text)
 }
 
-/// The first cut in a line after which the run ends otherwise, or writes though it ends with a fault.
+/// What the report says of the lines before and of so many bytes of a line, where that is a script.
+fn report_of_cut(
+    alloc: Global,
+    before: &[u8],
+    row: &Line,
+    cut: usize,
+) -> Result<Vec<u8>, AllocError> {
+    let (text, _, _, short, said) = row;
+    if cut == 0 {
+        return with_front(alloc, before, "", b"");
+    }
+    let line = if cut == text.len() { said } else { short };
+    with_front(alloc, before, line, b"\n")
+}
+
+/// The first cut in a line after which the run ends otherwise or writes something else.
 fn first_missed<R: Wait>(
     rt: &R,
     alloc: Global,
     engine: Engine,
-    before: &[u8],
-    row: Line,
+    script: &[u8],
+    report: &[u8],
+    row: &Line,
     number: u32,
 ) -> Result<Option<usize>, AllocError> {
     for cut in 0..=row.0.len() {
-        let script = cut_script(alloc, before, row, cut)?;
-        let (written, result) = outcome(rt, alloc, engine, &script);
+        let front = row.0.as_bytes().get(..cut).unwrap_or_default();
+        let cut_script = with_front(alloc, script, "", front)?;
         let end = end_of_cut(row, number, cut);
-        if result != end || written.is_empty() != end.is_err() {
+        let report = match end {
+            Ok(()) => report_of_cut(alloc, report, row, cut)?,
+            Err(_) => Vec::new(alloc),
+        };
+        if !writes(rt, alloc, engine, &cut_script, &report, end) {
             return Ok(Some(cut));
         }
     }
     Ok(None)
 }
 
-fn all_limits_cut_under<R: Wait + Abort>(
-    rt: &R,
-    alloc: Global,
-    engine: Engine,
-) -> Result<(), Fail> {
+fn all_limits_under<R: Wait + Abort>(rt: &R, alloc: Global, engine: Engine) -> Result<(), Fail> {
     let mut script = Vec::new(alloc);
-    for (row, number) in LINES.into_iter().zip(1..) {
-        let missed = first_missed(rt, alloc, engine, &script, row, number)?;
-        assert_eq!(rt; missed, None, "in line {number}, {engine:?}");
-        script.extend_from_slice(row.0.as_bytes())?;
-        script.push(b'\n')?;
+    let mut report = Vec::new(alloc);
+    for (row, number) in LINES.iter().zip(1..) {
+        let missed = first_missed(rt, alloc, engine, &script, &report, row, number)?;
+        assert!(rt; missed.is_none(), "in line {number}");
+        script = with_front(alloc, &script, row.0, b"\n")?;
+        report = with_front(alloc, &report, row.4, b"\n")?;
     }
     Ok(())
 }
 
 #[test]
-fn ends_of_all_limits_cut_after_each_byte(rt: HostRuntime) -> Result<(), Fail> {
+fn all_limits_cut_after_each_byte(rt: HostRuntime) -> Result<(), Fail> {
     for engine in ENGINES {
-        all_limits_cut_under(&rt, rt.alloc(), engine)?;
+        all_limits_under(&rt, rt.alloc(), engine)?;
     }
     Ok(())
 }

@@ -1,107 +1,12 @@
-//! Readers and writers that give or take little, fail, or never end.
+//! Readers and writers that end before they should: at each of their calls, with each kind of error, and in the flush.
 
 use super::ENGINES;
+use super::streams::{Drip, End, Endless, Sips};
 use registry_script::{Cause, Engine, RunFault, ScriptFault, run};
 use std::alloc::Global;
-use std::io;
-use std::io::{ErrorKind, Read, Write};
+use std::io::ErrorKind;
 use std::process::Abort;
 use std::sync::Wait;
-
-/// Gives one byte a call, and fails at one of its calls.
-#[derive(Drop)]
-struct Drip<'a> {
-    rest: &'a [u8],
-    calls: usize,
-    failing: usize,
-}
-
-impl Read for Drip<'_> {
-    fn read(&mut self, buf: &mut [u8]) -> io::Result<usize> {
-        let call = self.calls;
-        self.calls = call.saturating_add(1);
-        if call == self.failing {
-            return Err(io::Error::from(ErrorKind::Interrupted));
-        }
-        match (self.rest.split_first(), buf.is_empty()) {
-            (Some((byte, rest)), false) => {
-                buf[0] = *byte;
-                self.rest = rest;
-                Ok(1)
-            }
-            _ => Ok(0),
-        }
-    }
-}
-
-/// Gives one end of a line a call, without an end.
-#[derive(Drop)]
-struct Endless {
-    reads: usize,
-}
-
-impl Read for Endless {
-    fn read(&mut self, buf: &mut [u8]) -> io::Result<usize> {
-        self.reads = self.reads.saturating_add(1);
-        if buf.is_empty() {
-            return Ok(0);
-        }
-        buf[0] = b'\n';
-        Ok(1)
-    }
-}
-
-/// How a writer ends.
-#[derive(Clone, Copy, PartialEq)]
-pub(super) enum End {
-    Fails,
-    TakesNothing,
-}
-
-/// Takes one byte a call, and ends at one of its calls.
-#[derive(Drop)]
-pub(super) struct Sips {
-    pub(super) taken: Vec<u8>,
-    calls: usize,
-    ending: usize,
-    end: End,
-}
-
-impl Write for Sips {
-    fn write(&mut self, buf: &[u8]) -> io::Result<usize> {
-        let call = self.calls;
-        self.calls = call.saturating_add(1);
-        match buf.first() {
-            Some(_) if call == self.ending && self.end == End::Fails => Err(io::Error::from(
-                ErrorKind::Interrupted,
-            )),
-            Some(_) if call == self.ending => Ok(0),
-            Some(byte) => {
-                self.taken.push(*byte)?;
-                Ok(1)
-            }
-            None => Ok(0),
-        }
-    }
-
-    fn flush(&mut self) -> io::Result<()> {
-        let call = self.calls;
-        self.calls = call.saturating_add(1);
-        if call == self.ending && self.end == End::Fails {
-            return Err(io::Error::from(ErrorKind::Interrupted));
-        }
-        Ok(())
-    }
-}
-
-pub(super) fn sipping(alloc: Global, ending: usize, end: End) -> Sips {
-    Sips {
-        taken: Vec::new(alloc),
-        calls: 0,
-        ending,
-        end,
-    }
-}
 
 /// The row all-limits.
 pub(super) const SCRIPT: &[u8] =
@@ -110,22 +15,50 @@ pub(super) const SCRIPT: &[u8] =
 pub(super) const REPORT: &[u8] =
     b"domain 1 1\nlimits 10 1 1 1\nattached 1 slot 0\ninside\nrefused NothingFound\nfound 1 slot 0 value 7\nref a 1\nrefused PassiveFull\ncount x 1\npeek 1 value 7\noutside\nrefused SectionsSpent\nnot inside\nno label\ndropped a 1\nrefused NotFound\n";
 
-/// What the engine writes on a script, and how the run ends, with one byte at each call of reader and writer.
-pub(super) fn dripped<R: Wait>(
-    rt: &R,
-    alloc: Global,
-    engine: Engine,
-    script: &[u8],
-) -> (Vec<u8>, Result<(), RunFault>) {
-    let mut reader = Drip {
-        rest: script,
-        calls: 0,
-        failing: usize::MAX,
-    };
-    let mut writer = sipping(alloc, usize::MAX, End::Fails);
-    let result = run(rt, alloc, engine, &mut reader, &mut writer);
-    (writer.taken, result)
-}
+/// The kinds of error that a reader or a writer may tell of.
+const KINDS: &[ErrorKind] = &[
+    ErrorKind::NotFound,
+    ErrorKind::PermissionDenied,
+    ErrorKind::ConnectionRefused,
+    ErrorKind::ConnectionReset,
+    ErrorKind::HostUnreachable,
+    ErrorKind::NetworkUnreachable,
+    ErrorKind::ConnectionAborted,
+    ErrorKind::NotConnected,
+    ErrorKind::AddrInUse,
+    ErrorKind::AddrNotAvailable,
+    ErrorKind::NetworkDown,
+    ErrorKind::BrokenPipe,
+    ErrorKind::AlreadyExists,
+    ErrorKind::WouldBlock,
+    ErrorKind::NotADirectory,
+    ErrorKind::IsADirectory,
+    ErrorKind::DirectoryNotEmpty,
+    ErrorKind::ReadOnlyFilesystem,
+    ErrorKind::FilesystemLoop,
+    ErrorKind::StaleNetworkFileHandle,
+    ErrorKind::InvalidInput,
+    ErrorKind::InvalidData,
+    ErrorKind::TimedOut,
+    ErrorKind::WriteZero,
+    ErrorKind::StorageFull,
+    ErrorKind::NotSeekable,
+    ErrorKind::QuotaExceeded,
+    ErrorKind::FileTooLarge,
+    ErrorKind::ResourceBusy,
+    ErrorKind::ExecutableFileBusy,
+    ErrorKind::Deadlock,
+    ErrorKind::CrossesDevices,
+    ErrorKind::TooManyLinks,
+    ErrorKind::InvalidFilename,
+    ErrorKind::ArgumentListTooLong,
+    ErrorKind::Interrupted,
+    ErrorKind::Unsupported,
+    ErrorKind::UnexpectedEof,
+    ErrorKind::OutOfMemory,
+    ErrorKind::InProgress,
+    ErrorKind::Other,
+];
 
 #[test]
 fn one_byte_a_call(rt: HostRuntime) {
@@ -134,40 +67,61 @@ fn one_byte_a_call(rt: HostRuntime) {
             rest: SCRIPT,
             calls: 0,
             failing: 1000,
+            kind: ErrorKind::Interrupted,
         };
-        let mut writer = sipping(rt.alloc(), 1000, End::Fails);
+        let mut writer = Sips::until(rt.alloc(), 1000, None);
         let result = run(&rt, rt.alloc(), engine, &mut reader, &mut writer);
-        assert_eq!(rt; result, Ok(()), "{engine:?}");
-        assert_eq!(rt; writer.taken.as_slice(), REPORT, "{engine:?}");
-        assert_eq!(rt; reader.calls, SCRIPT.len() + 1, "{engine:?}");
-        assert_eq!(rt; writer.calls, REPORT.len() + 1, "{engine:?}");
+        assert!(rt;
+            result == Ok(()) && writer.taken.as_slice() == REPORT,
+            "a whole report"
+        );
+        assert!(rt;
+            reader.calls == SCRIPT.len() + 1 && writer.calls == REPORT.len() + 1,
+            "no call more"
+        );
     }
 }
 
-fn reader_fails_under<R: Wait + Abort>(rt: &R, alloc: Global, engine: Engine) {
+/// Whether the run ends with the failure of the reader's call, and nothing is read or written afterwards.
+fn ends_reading<R: Wait>(
+    rt: &R,
+    alloc: Global,
+    engine: Engine,
+    failing: usize,
+    kind: ErrorKind,
+) -> bool {
+    let mut reader = Drip {
+        rest: SCRIPT,
+        calls: 0,
+        failing,
+        kind,
+    };
+    let mut writer = Sips::until(alloc, usize::MAX, None);
+    let result = run(rt, alloc, engine, &mut reader, &mut writer);
+    result == Err(RunFault::Read) && reader.calls == failing + 1 && writer.calls == 0
+}
+
+fn reader_fails_by<R: Wait + Abort>(rt: &R, alloc: Global, kind: ErrorKind) {
     for failing in 0..=SCRIPT.len() {
-        let mut reader = Drip {
-            rest: SCRIPT,
-            calls: 0,
-            failing,
-        };
-        let mut written = Vec::new(alloc);
-        let result = run(rt, alloc, engine, &mut reader, &mut written);
-        assert_eq!(rt;
-            result,
-            Err(RunFault::Read),
-            "at call {failing}, {engine:?}"
-        );
-        assert!(rt; written.is_empty());
-        assert_eq!(rt; reader.calls, failing + 1);
+        for engine in ENGINES {
+            assert!(rt;
+                ends_reading(rt, alloc, engine, failing, kind),
+                "at call {failing}, {kind:?}"
+            );
+        }
     }
 }
 
 #[test]
 fn reader_that_fails(rt: HostRuntime) {
-    for engine in ENGINES {
-        reader_fails_under(&rt, rt.alloc(), engine);
+    for kind in KINDS {
+        reader_fails_by(&rt, rt.alloc(), *kind);
     }
+}
+
+/// The fault of a script's line.
+fn fault(line: u32, cause: Cause) -> Result<(), RunFault> {
+    Err(RunFault::Script(ScriptFault { line, cause }))
 }
 
 #[test]
@@ -176,61 +130,58 @@ fn reader_that_never_ends(rt: HostRuntime) {
         let mut reader = Endless { reads: 0 };
         let mut written = Vec::new(rt.alloc());
         let result = run(&rt, rt.alloc(), engine, &mut reader, &mut written);
-        let fault = ScriptFault {
-            line: 1,
-            cause: Cause::TooLong,
-        };
-        assert_eq!(rt; result, Err(RunFault::Script(fault)), "{engine:?}");
-        assert_eq!(rt; reader.reads, 65_537, "{engine:?}");
-        assert!(rt; written.is_empty());
-    }
-}
-
-/// The writer ends at each of its calls in turn. A writer isn't flushed with bytes, so at the last call it can only fail.
-fn writer_ends_under<R: Wait + Abort>(rt: &R, alloc: Global, engine: Engine, end: End) {
-    let calls = match end {
-        End::Fails => REPORT.len() + 1,
-        End::TakesNothing => REPORT.len(),
-    };
-    for ending in 0..calls {
-        let mut reader = SCRIPT;
-        let mut writer = sipping(alloc, ending, end);
-        let result = run(rt, alloc, engine, &mut reader, &mut writer);
-        assert_eq!(rt;
-            result,
-            Err(RunFault::Write),
-            "at call {ending}, {engine:?}"
+        assert!(rt;
+            result == fault(1, Cause::TooLong) && written.is_empty(),
+            "too long"
         );
-        assert_eq!(rt; writer.taken.as_slice(), &REPORT[..ending]);
-        assert_eq!(rt; writer.calls, ending + 1);
+        assert!(rt; reader.reads == 65_537, "no call more");
     }
 }
 
+/// Whether the run ends as the writer's call does, and what was written by then is a front of the report.
+fn ends_writing<R: Wait>(rt: &R, alloc: Global, engine: Engine, ending: usize, end: End) -> bool {
+    let mut reader = SCRIPT;
+    let mut writer = Sips::until(alloc, ending, end);
+    let result = run(rt, alloc, engine, &mut reader, &mut writer);
+    result == Err(RunFault::Write)
+        && writer.calls == ending + 1
+        && REPORT.get(..ending) == Some(writer.taken.as_slice())
+}
+
+fn writer_ends_by<R: Wait + Abort>(rt: &R, alloc: Global, calls: usize, end: End) {
+    for ending in 0..calls {
+        for engine in ENGINES {
+            assert!(rt;
+                ends_writing(rt, alloc, engine, ending, end),
+                "at call {ending}, {end:?}"
+            );
+        }
+    }
+}
+
+/// The last call is the flush.
 #[test]
 fn writer_that_fails(rt: HostRuntime) {
-    for engine in ENGINES {
-        writer_ends_under(&rt, rt.alloc(), engine, End::Fails);
+    for kind in KINDS {
+        writer_ends_by(&rt, rt.alloc(), REPORT.len() + 1, Some(*kind));
     }
 }
 
+/// A writer isn't flushed with bytes, so at its last call it can only fail.
 #[test]
 fn writer_that_takes_nothing(rt: HostRuntime) {
-    for engine in ENGINES {
-        writer_ends_under(&rt, rt.alloc(), engine, End::TakesNothing);
-    }
+    writer_ends_by(&rt, rt.alloc(), REPORT.len(), None);
 }
 
 #[test]
 fn script_fault_before_the_writer_fails(rt: HostRuntime) {
     for engine in ENGINES {
         let mut reader = b"domain 2 2\natt".as_slice();
-        let mut writer = sipping(rt.alloc(), 0, End::Fails);
+        let mut writer = Sips::until(rt.alloc(), 0, Some(ErrorKind::BrokenPipe));
         let result = run(&rt, rt.alloc(), engine, &mut reader, &mut writer);
-        let fault = ScriptFault {
-            line: 2,
-            cause: Cause::UnknownCommand,
-        };
-        assert_eq!(rt; result, Err(RunFault::Script(fault)), "{engine:?}");
-        assert_eq!(rt; writer.calls, 0, "{engine:?}");
+        assert!(rt;
+            result == fault(2, Cause::UnknownCommand) && writer.calls == 0,
+            "nothing is written"
+        );
     }
 }

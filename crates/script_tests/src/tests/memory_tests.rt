@@ -7,6 +7,7 @@ ghost use Rattle.std.specs.Prelude.{◌≡◌, IfOk};
 ghost use Rattle.name_registry.specs.Auditing.{AreAllCpus};
 ghost use Rattle.name_registry.specs.Opening.{AreNewCpus};
 
+use super::ENGINES;
 use super::ends::{REPORT, SCRIPT};
 use cpu_words::Domain;
 use name_registry::{Blank, Registry};
@@ -70,33 +71,43 @@ fn run_all_limits<R: Wait>(rt: &R, alloc: Global, engine: Engine) -> (Page, Resu
     (page, result)
 }
 
+/// Notes that memory was refused to this.
+fn note(rt: &impl Eprint, what: &str) -> io::Result<()> {
+    eprintln!(rt; "refused memory: {what}")
+}
+
+/// Whether the run ended well with all of the report; or was refused memory, with a front of it.
+fn is_run(page: &Page, report: &[u8], ended: Result<(), RunFault>) -> bool {
+    match ended {
+        Ok(()) => page.written() == report,
+        Err(fault) => fault == RunFault::Memory && report.starts_with(page.written()),
+    }
+}
+
 /// The row all-limits, where one run may be refused memory.
 fn survives<R: Wait + Abort + AllocGlobal + Eprint>(rt: &R, engine: Engine) -> Result<(), Fail> {
     let (page, result) = run_all_limits(rt, rt.alloc(), engine);
-    if result.is_ok() {
-        assert_eq!(rt; page.written(), REPORT);
-        return Ok(());
-    }
-    eprintln!(rt; "refused memory: a run")?;
-    assert_eq!(rt; result, Err(RunFault::Memory));
     assert!(rt;
-        REPORT.starts_with(page.written()),
-        "a prefix of the report"
+        is_run(&page, REPORT, result),
+        "the report, or a front of it"
     );
-    let (page, result) = run_all_limits(rt, rt.alloc(), engine);
-    assert_eq!(rt; result, Ok(()));
-    assert_eq!(rt; page.written(), REPORT);
+    if result.is_err() {
+        note(rt, "a run")?;
+        let (page, result) = run_all_limits(rt, rt.alloc(), engine);
+        assert!(rt;
+            result == Ok(()) && page.written() == REPORT,
+            "the whole report"
+        );
+    }
     Ok(())
 }
 
 #[test]
-fn the_core_may_be_refused_memory(rt: HostRuntime) -> Result<(), Fail> {
-    survives(&rt, Engine::Core)
-}
-
-#[test]
-fn the_live_engine_may_be_refused_memory(rt: HostRuntime) -> Result<(), Fail> {
-    survives(&rt, Engine::Live)
+fn an_engine_may_be_refused_memory(rt: HostRuntime) -> Result<(), Fail> {
+    for engine in ENGINES {
+        survives(&rt, engine)?;
+    }
+    Ok(())
 }
 
 /// A storm of one CPU and one turn.
@@ -115,13 +126,16 @@ fn a_storm_may_be_refused_memory(rt: HostRuntime) -> Result<(), Fail> {
         held: 0,
     };
     let sum = least_storm(&rt, rt.alloc());
-    if sum.is_ok() {
-        assert_eq!(rt; sum, Ok(wanted));
+    if sum == Ok(wanted) {
         return Ok(());
     }
-    eprintln!(rt; "refused memory: a storm")?;
-    assert!(rt; sum == Err(RunFault::Memory) || sum == Err(RunFault::NoThread));
-    assert_eq!(rt; least_storm(&rt, rt.alloc()), Ok(wanted));
+    note(&rt, "a storm")?;
+    assert!(rt;
+        sum == Err(RunFault::Memory) || sum == Err(RunFault::NoThread),
+        "want of memory"
+    );
+    let sum = least_storm(&rt, rt.alloc());
+    assert!(rt; sum == Ok(wanted), "a storm with memory");
     Ok(())
 }
 
@@ -137,8 +151,8 @@ const FOUND: (&[u8], &[u8]) = (
 fn parsed<R: Abort + AllocGlobal + Eprint>(rt: &R, text: &[u8]) -> Result<Script, Fail> {
     match parse_script(rt.alloc(), text) {
         Err(fault) => {
-            eprintln!(rt; "refused memory: a script")?;
-            assert_eq!(rt; fault, ParseFault::Memory);
+            note(rt, "a script")?;
+            assert!(rt; fault == ParseFault::Memory, "want of memory");
             Ok(parse_script(rt.alloc(), text)?)
         }
         Ok(script) => Ok(script),
@@ -151,8 +165,8 @@ fn blank_for<R: Abort + AllocGlobal + Eprint>(rt: &R, script: &Script) -> Result
 {
     match Blank::new(rt.alloc(), script.settings()) {
         Err(refusal) => {
-            eprintln!(rt; "refused memory: a blank")?;
-            assert_eq!(rt; refusal, Refusal::NoMemory);
+            note(rt, "a blank")?;
+            assert!(rt; refusal == Refusal::NoMemory, "want of memory");
             Ok(Blank::new(rt.alloc(), script.settings())?)
         }
         Ok(blank) => Ok(blank),
@@ -197,8 +211,8 @@ fn opened<D: Domain, R: Abort + AllocGlobal + Eprint>(
     match blank.open::<D>(rt.alloc()) {
         Ok(opened) => Ok(opened),
         Err((refusal, back)) => {
-            eprintln!(rt; "refused memory: a registry").ok();
-            assert_eq!(rt; refusal, Refusal::NoMemory);
+            note(rt, "a registry").ok();
+            assert!(rt; refusal == Refusal::NoMemory, "want of memory");
             back.open::<D>(rt.alloc())
         }
     }
@@ -232,15 +246,12 @@ fn run_on_it<D: Domain, R: Wait + Abort + AllocGlobal + Eprint>(
 {
     let mut page = Page::new();
     let ended = run_live_on(rt, rt.alloc(), registry, cpus, script, &mut page);
-    if ended.is_ok() {
-        assert_eq!(rt; page.written(), report);
-        return Ok(());
-    }
-    eprintln!(rt; "refused memory: a run on a registry")?;
-    assert_eq!(rt; ended, Err(RunFault::Memory));
     assert!(rt;
-        report.starts_with(page.written()),
-        "a prefix of the report"
+        is_run(&page, report, ended),
+        "the report, or a front of it"
     );
+    if ended.is_err() {
+        note(rt, "a run on a registry")?;
+    }
     Ok(())
 }

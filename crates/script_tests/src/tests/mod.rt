@@ -1,7 +1,10 @@
 //! Tests of what no contract says: worked rows, and readers and writers that fail.
+//!
+//! Rows are plain data; one function runs a script and compares what is written and how the run ends.
 
+mod built;
 mod calls;
-mod cut_reports;
+mod commands;
 mod cuts;
 mod ends;
 mod faults;
@@ -9,10 +12,12 @@ mod memory_tests;
 mod rows;
 mod storm_deeds;
 mod storms;
+mod streams;
 
 use registry_script::{Engine, RunFault, run};
 use std::alloc::{AllocError, Global};
 use std::sync::Wait;
+use streams::dripped;
 
 /// Both engines. They write the same wherever nobody else uses the registry that is running.
 const ENGINES: [Engine; 2] = [Engine::Core, Engine::Live];
@@ -38,4 +43,18 @@ fn outcome<R: Wait>(
     let mut written = Vec::new(alloc);
     let result = run(rt, alloc, engine, &mut input, &mut written);
     (written, result)
+}
+
+/// Whether the run of the script writes just this and ends so, at once and with one byte at each call of reader and writer.
+fn writes<R: Wait>(
+    rt: &R,
+    alloc: Global,
+    engine: Engine,
+    script: &[u8],
+    report: &[u8],
+    end: Result<(), RunFault>,
+) -> bool {
+    let (written, ended) = outcome(rt, alloc, engine, script);
+    let (sipped, last) = dripped(rt, alloc, engine, script);
+    ended == end && last == end && written.as_slice() == report && sipped.as_slice() == report
 }

@@ -1,10 +1,8 @@
-//! Each row of scripts with its report, the runs that are built by a loop, and all of them one byte a call: under both
-//! engines the same bytes.
+//! Each row of scripts with its report, at once and one byte a call: under both engines the same bytes.
 
-use super::ends::dripped;
-use super::{ENGINES, lines, outcome};
+use super::{lines, writes};
 use registry_script::Engine;
-use std::alloc::{AllocError, Global};
+use std::alloc::Global;
 use std::process::Abort;
 use std::sync::Wait;
 use std::test::Fail;
@@ -12,7 +10,7 @@ use std::test::Fail;
 /// The name of a row, its script and its report.
 type Row = (&'static str, &'static str, &'static str);
 
-const ROWS: [Row; 28] = [
+const ROWS: &[Row] = &[
     ("bare-domain", "domain 2 2", "domain 2 2"),
     (
         "found",
@@ -149,37 +147,23 @@ const ROWS: [Row; 28] = [
         "domain 2 2; attach 00000000000000000001 driver abcdefghijklmno 00000000000000000001; enter 1; find 1 driver abcdefghijklmno",
         "domain 2 2; attached 1 slot 0; inside; found 1 slot 0 value 1",
     ),
+    (
+        "outer-limits, all slots",
+        "domain 8 32; attach 7 driver d0 0; attach 7 driver d1 1; attach 7 driver d2 2; attach 7 driver d3 3; attach 7 driver d4 4; attach 7 driver d5 5; attach 7 driver d6 6; attach 7 driver d7 7; attach 7 driver d8 8; attach 7 driver d9 9; attach 7 driver d10 10; attach 7 driver d11 11; attach 7 driver d12 12; attach 7 driver d13 13; attach 7 driver d14 14; attach 7 driver d15 15; attach 7 driver d16 16; attach 7 driver d17 17; attach 7 driver d18 18; attach 7 driver d19 19; attach 7 driver d20 20; attach 7 driver d21 21; attach 7 driver d22 22; attach 7 driver d23 23; attach 7 driver d24 24; attach 7 driver d25 25; attach 7 driver d26 26; attach 7 driver d27 27; attach 7 driver d28 28; attach 7 driver d29 29; attach 7 driver d30 30; attach 7 driver d31 31; attach 7 driver d32 32",
+        "domain 8 32; attached 1 slot 0; attached 2 slot 1; attached 3 slot 2; attached 4 slot 3; attached 5 slot 4; attached 6 slot 5; attached 7 slot 6; attached 8 slot 7; attached 9 slot 8; attached 10 slot 9; attached 11 slot 10; attached 12 slot 11; attached 13 slot 12; attached 14 slot 13; attached 15 slot 14; attached 16 slot 15; attached 17 slot 16; attached 18 slot 17; attached 19 slot 18; attached 20 slot 19; attached 21 slot 20; attached 22 slot 21; attached 23 slot 22; attached 24 slot 23; attached 25 slot 24; attached 26 slot 25; attached 27 slot 26; attached 28 slot 27; attached 29 slot 28; attached 30 slot 29; attached 31 slot 30; attached 32 slot 31; refused NoSlot",
+    ),
 ];
 
-/// Runs each row, at once and one byte a call.
+/// Runs each row.
 fn run_rows<R: Wait + Abort>(rt: &R, alloc: Global, engine: Engine) -> Result<(), Fail> {
     for (name, script, report) in ROWS {
-        let script = lines(alloc, script)?;
-        let report = lines(alloc, report)?;
-        writes(rt, alloc, engine, &script, &report, name);
+        let (script, report) = (lines(alloc, script)?, lines(alloc, report)?);
+        assert!(rt;
+            writes(rt, alloc, engine, &script, &report, Ok(())),
+            "{name}"
+        );
     }
     Ok(())
-}
-
-/// The run of the script writes the report, and ends well; so it does one byte a call.
-fn writes<R: Wait + Abort>(
-    rt: &R,
-    alloc: Global,
-    engine: Engine,
-    script: &[u8],
-    report: &[u8],
-    name: &str,
-) {
-    let (written, result) = outcome(rt, alloc, engine, script);
-    assert_eq!(rt; result, Ok(()), "at {name}, {engine:?}");
-    assert_eq!(rt; written.as_slice(), report, "at {name}, {engine:?}");
-    let (written, result) = dripped(rt, alloc, engine, script);
-    assert_eq!(rt; result, Ok(()), "at {name}, {engine:?}, one byte a call");
-    assert_eq!(rt;
-        written.as_slice(),
-        report,
-        "at {name}, {engine:?}, one byte a call"
-    );
 }
 
 #[test]
@@ -190,71 +174,4 @@ fn rows_of_the_core(rt: HostRuntime) -> Result<(), Fail> {
 #[test]
 fn rows_of_the_live_engine(rt: HostRuntime) -> Result<(), Fail> {
     run_rows(&rt, rt.alloc(), Engine::Live)
-}
-
-/// Adds the same line so many times.
-fn add(text: &mut Vec<u8>, line: &[u8], count: usize) -> Result<(), AllocError> {
-    for _ in 0..count {
-        text.extend_from_slice(line)?;
-    }
-    Ok(())
-}
-
-/// The script of the row too-deep, and its report.
-fn too_deep_row(alloc: Global) -> Result<(Vec<u8>, Vec<u8>), AllocError> {
-    let mut script = lines(alloc, "domain 1 1; limits 1000 1 100 100")?;
-    add(&mut script, b"enter 0\n".as_slice(), 256)?;
-    add(&mut script, b"exit 0\n".as_slice(), 255)?;
-    add(&mut script, b"enter 0\n".as_slice(), 1)?;
-    let mut report = lines(alloc, "domain 1 1; limits 1000 1 100 100")?;
-    add(&mut report, b"inside\n".as_slice(), 255)?;
-    add(&mut report, b"refused TooDeep\n".as_slice(), 1)?;
-    add(&mut report, b"inside\n".as_slice(), 254)?;
-    add(
-        &mut report,
-        b"outside\nrefused SectionsSpent\n".as_slice(),
-        1,
-    )?;
-    Ok((script, report))
-}
-
-#[test]
-fn too_deep(rt: HostRuntime) -> Result<(), Fail> {
-    let (script, report) = too_deep_row(rt.alloc())?;
-    for engine in ENGINES {
-        writes(&rt, rt.alloc(), engine, &script, &report, "too-deep");
-    }
-    Ok(())
-}
-
-/// The script that fills all slots there can be and asks for one more, and its report.
-fn all_slots_row(alloc: Global) -> Result<(Vec<u8>, Vec<u8>), AllocError> {
-    let mut script = lines(alloc, "domain 8 32")?;
-    let mut report = lines(alloc, "domain 8 32")?;
-    for slot in 0u8..32 {
-        let number = slot + 1;
-        let command = format!(in alloc; "attach 7 driver d{slot} {slot}\n")?;
-        script.extend_from_slice(command.as_bytes())?;
-        let line = format!(in alloc; "attached {number} slot {slot}\n")?;
-        report.extend_from_slice(line.as_bytes())?;
-    }
-    add(&mut script, b"attach 7 driver d32 32\n".as_slice(), 1)?;
-    add(&mut report, b"refused NoSlot\n".as_slice(), 1)?;
-    Ok((script, report))
-}
-
-#[test]
-fn outer_limits_of_slots(rt: HostRuntime) -> Result<(), Fail> {
-    let (script, report) = all_slots_row(rt.alloc())?;
-    for engine in ENGINES {
-        writes(
-            &rt,
-            rt.alloc(),
-            engine,
-            &script,
-            &report,
-            "outer-limits, all slots",
-        );
-    }
-    Ok(())
 }

@@ -1,0 +1,127 @@
+//! Readers and writers that give or take little, and fail at one of their calls.
+
+use registry_script::{Engine, RunFault, run};
+use std::alloc::Global;
+use std::io;
+use std::io::{ErrorKind, Read, Write};
+use std::sync::Wait;
+
+/// Gives one byte a call, and fails at one of its calls with this kind of error.
+#[derive(Drop)]
+pub(super) struct Drip<'a> {
+    pub(super) rest: &'a [u8],
+    pub(super) calls: usize,
+    pub(super) failing: usize,
+    pub(super) kind: ErrorKind,
+}
+
+impl Read for Drip<'_> {
+    fn read(&mut self, buf: &mut [u8]) -> io::Result<usize> {
+        let call = self.calls;
+        self.calls = call.saturating_add(1);
+        if call == self.failing {
+            return Err(io::Error::from(self.kind));
+        }
+        match (self.rest.split_first(), buf.is_empty()) {
+            (Some((byte, rest)), false) => {
+                buf[0] = *byte;
+                self.rest = rest;
+                Ok(1)
+            }
+            _ => Ok(0),
+        }
+    }
+}
+
+/// Gives one end of a line a call, without an end.
+#[derive(Drop)]
+pub(super) struct Endless {
+    pub(super) reads: usize,
+}
+
+impl Read for Endless {
+    fn read(&mut self, buf: &mut [u8]) -> io::Result<usize> {
+        self.reads = self.reads.saturating_add(1);
+        if buf.is_empty() {
+            return Ok(0);
+        }
+        buf[0] = b'\n';
+        Ok(1)
+    }
+}
+
+/// How a writer ends: it fails with an error of this kind, or takes nothing.
+pub(super) type End = Option<ErrorKind>;
+
+/// Takes one byte a call, and ends at one of its calls.
+#[derive(Drop)]
+pub(super) struct Sips {
+    pub(super) taken: Vec<u8>,
+    pub(super) calls: usize,
+    ending: usize,
+    end: End,
+}
+
+impl Sips {
+    /// Ends at the call with this number, from 0.
+    pub(super) fn until(alloc: Global, ending: usize, end: End) -> Sips {
+        Sips {
+            taken: Vec::new(alloc),
+            calls: 0,
+            ending,
+            end,
+        }
+    }
+
+    /// Counts a call; what is answered to it where it is the one at which the writer ends.
+    fn called(&mut self) -> Option<io::Result<usize>> {
+        let call = self.calls;
+        self.calls = call.saturating_add(1);
+        if call != self.ending {
+            return None;
+        }
+        match self.end {
+            Some(kind) => Some(Err(io::Error::from(kind))),
+            None => Some(Ok(0)),
+        }
+    }
+}
+
+impl Write for Sips {
+    fn write(&mut self, buf: &[u8]) -> io::Result<usize> {
+        let ended = self.called();
+        match (buf.first(), ended) {
+            (Some(_), Some(answer)) => answer,
+            (Some(byte), None) => {
+                self.taken.push(*byte)?;
+                Ok(1)
+            }
+            (None, _) => Ok(0),
+        }
+    }
+
+    fn flush(&mut self) -> io::Result<()> {
+        match self.called() {
+            Some(Err(error)) => Err(error),
+            _ => Ok(()),
+        }
+    }
+}
+
+/// What the engine writes on a script, and how the run ends, with one byte at each call of reader and writer.
+pub(super) fn dripped<R: Wait>(
+    rt: &R,
+    alloc: Global,
+    engine: Engine,
+    script: &[u8],
+) -> (Vec<u8>, Result<(), RunFault>) {
+    let mut reader = Drip {
+        rest: script,
+        calls: 0,
+        failing: usize::MAX,
+        kind: ErrorKind::Interrupted,
+    };
+    let mut writer = Sips::until(alloc, usize::MAX, None);
+    let result = run(rt, alloc, engine, &mut reader, &mut writer);
+    (writer.taken, result)
+}
