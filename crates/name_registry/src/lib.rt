@@ -12,6 +12,7 @@ mod auditing;
 mod blank;
 mod destroying;
 mod detaching;
+mod glancing;
 mod law;
 mod meeting;
 mod performing;
