@@ -68,11 +68,11 @@ fn perform_in_turns<I: UnderInterlock, R: Wait>(rt: &R, interlock: &mut I, turns
     ensures { Performs I.begins I.glances I.passes turns interlock.old result interlock.new }
 {
     let (snapshots, retired) = interlock.begin(rt);
-    let waited = wait_for_sections(rt, interlock, &snapshots, turns);
-    if waited.is_none() {
+    let told = wait_for_sections(rt, interlock, &snapshots, turns);
+    if told.is_none() {
         interlock.pass(rt, &retired);
     }
-    waited
+    told
 }
 
 /// Glances at the CPUs in so many turns, or until all were seen. The answer is the last turn's.
