@@ -25,5 +25,5 @@ pub use attaching::{attach_iface_in, attach_in};
 pub use auditing::audit_in;
 pub use blank::Blank;
 pub use detaching::detach_in;
-pub use law::free_interlock;
+pub use law::{exact_audit, free_interlock};
 pub use registry::Registry;
