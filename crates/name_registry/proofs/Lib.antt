@@ -2,6 +2,8 @@ pub mod Attached
 pub mod Audits
 pub mod Balanced
 pub mod Detached
+pub mod Exact
+pub mod Glanced
 pub mod Heard
 pub mod Rows
 pub mod Worked

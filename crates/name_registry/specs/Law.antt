@@ -1,22 +1,26 @@
+-- Laws over whatever table it is.
 -- The free interlock: whoever holds the keeper, and has made no step yet, finds the balance of each slot equal to the local references held.
-use Rattle.std.specs.Prelude.{◌≡◌, ℕ, ◌+◌, ◌*◌, List, [], sum_by, slice_index_or}
+use Rattle.std.specs.Prelude.{◌≡◌, ℕ, ◌+◌, ◌*◌, All, List, [], map, sum_by, slice_index_or}
 use mathlib.Core.Option.{some}
 use lib.ListN.{get_elem?}
 use Rattle.atomic_table.specs.Table.{State as Table}
+use Rattle.registry_values.specs.declared.balance.Balance.{Balance}
 use Rattle.registry_values.specs.declared.entry.Entry.{Entry}
 use Rattle.registry_values.specs.declared.settings.Settings.{Settings}
 use Rattle.protocol.specs.Invariant.{IsIn, held_at, itself, one_if_used}
 use Rattle.protocol.specs.State.{State, opening, total_at}
 use Rattle.protocol.specs.Laws.{after, BalancesAtRest}
-use Rattle.registry_values.specs.Balances.{bias}
+use Rattle.registry_values.specs.Balances.{bias, tally_shown}
 use Rattle.registry_values.specs.Slots.{slot_at}
 use Rattle.cpu_words.specs.declared.view.View.{View}
-use Rattle.cpu_words.specs.declared.view.View.TheVariants.{Keeper}
+use Rattle.cpu_words.specs.declared.view.View.TheVariants.{Keeper, Cpu}
 use Rattle.cpu_words.specs.declared.view.KeeperView.{KeeperView}
 use Rattle.cpu_words.specs.Rule.{Ruled}
 use Rattle.cpu_words.specs.Views.{Shown}
 use Rattle.cpu_words.specs.Headline.{RunsLawfully}
+use Rattle.passive_list.specs.Cpus.{OnCpu}
 use Rattle.passive_list.specs.Keepers.{OnKeeper}
+use Rattle.name_registry.specs.Auditing.{AreShown, IsAuditOf, tallies_below, tally}
 
 -- the count words of the slot t, of all CPUs
 abbrev pub counts_of : State → ℕ → List ℕ
@@ -37,3 +41,21 @@ pub record IsBalancedRun (a : Settings) (s : Table ℕ View) (k : KeeperView) : 
 -- whatever the table is while the keeper's seat has this view
 abbrev pub FreeInterlock : Settings → OnKeeper → Type 0
 FreeInterlock a k = (s : Table ℕ View) (i : ℕ) → Ruled a s → get_elem? s.views i ≡ some (Keeper k.view) → IsBalancedRun a s k.view
+
+-- The exact audit: whoever holds the keeper and all CPUs, and has made no step yet, has the views of one state.
+
+-- seats of the table have these views
+pub record AreSeated (s : Table ℕ View) (k : OnKeeper) (xs : List OnCpu) : Type 0 where
+  pub keeper : (i : ℕ) × (get_elem? s.views i ≡ some (Keeper k.view))
+  pub cpus : (c : ℕ) (x : OnCpu) → get_elem? xs c ≡ some x → (i : ℕ) × (get_elem? s.views i ≡ some (Cpu x.view))
+
+-- a list of events leads to one state that the words and all these views show; so what an audit of them lists are the net counts, and what is held is the tally
+pub record IsExactRun (a : Settings) (s : Table ℕ View) (k : OnKeeper) (xs : List OnCpu) : Type 0 where
+  pub run : RunsLawfully a s
+  pub shown : AreShown (after (opening a) run.events) k xs
+  pub listed : (list : List Balance) → IsAuditOf a k xs list → map tally_shown list ≡ tallies_below k xs a.slots
+  pub tallied : (list : List Balance) → IsAuditOf a k xs list → All (λ b. b.held ≡ tally k xs b.number) list
+
+-- whatever the table is while the seats have these views
+abbrev pub ExactAudit : Settings → OnKeeper → List OnCpu → Type 0
+ExactAudit a k xs = (s : Table ℕ View) → Ruled a s → AreSeated s k xs → IsExactRun a s k xs

@@ -15,8 +15,8 @@ impl<D: Domain> Registry<D> {
     /// times, and the interlock is free between them. The answer is the slot, from 0, that is vacant again.
     /// Condition: at least one turn.
     /// Refused, in this order: `Inside` where the CPU is inside a section, and nothing has changed then; `NotRetired` where no slot has the
-    /// retired entry `number`, also where another caller freed it between two turns; `StillHeld` with the obstacle that the last turn met,
-    /// and what the turns noted and collected stays.
+    /// retired entry `number`, also where another caller freed it between two turns; `StillHeld` with the obstacle that the last turn met.
+    /// What the turns made before either noted and collected stays.
     pub fn destroy<R: Wait>(
         &self,
         rt: &R,

@@ -1,9 +1,9 @@
-//! The law of the free interlock.
+//! The laws of the free interlock and of the exact audit.
 
-ghost use Rattle.name_registry.specs.Law.{FreeInterlock};
+ghost use Rattle.name_registry.specs.Law.{ExactAudit, FreeInterlock};
 
 use cpu_words::Domain;
-use passive_list::Keeper;
+use passive_list::{Cpu, Keeper};
 
 /// Whoever holds the keeper, and has made no step yet, finds the balance of each slot equal to the local references held to its entry
 /// (localcount(9)): whatever the words and the seats of all threads are then. A list of events leads to the state that is balanced, and
@@ -11,5 +11,15 @@ use passive_list::Keeper;
 pub fn free_interlock<D: Domain>(keeper: &Keeper<D>) -> u64
     ensures law { FreeInterlock D.settings keeper.now }
 {
+    keeper.changes
+}
+
+/// Whoever holds the keeper and CPUs, and has made no step yet, has the views of one state: whatever the words and the seats of all threads
+/// are then, a list of events leads to a state that the words, this keeper and these CPUs show. So what an audit of them lists
+/// (localcount(9)) are the CPUs' net counts, and what it says is held is the tally. The answer says nothing; the contract is the law.
+pub fn exact_audit<D: Domain>(keeper: &Keeper<D>, cpus: &[Cpu<D>]) -> u64
+    ensures law { ExactAudit D.settings keeper.now cpus.now }
+{
+    let _cpus = cpus;
     keeper.changes
 }

@@ -1,125 +1,135 @@
 //! Waiting until each section that was open has ended.
 
-ghost use Rattle.std.specs.Prelude.{◌≡◌, ◌<◌, ◌≤◌, IfOk, IfErr, IfSome, false};
-ghost use Rattle.cpu_words.specs.Domains.{AreWordsOf};
+ghost use Rattle.std.specs.Prelude.{◌≡◌, ◌≤◌, IfOk, IfErr, false};
 ghost use Rattle.name_registry.specs.Locking.{IsPerformRefusal};
 ghost use Rattle.name_registry.specs.Meeting.{is_inside};
+ghost use Rattle.name_registry.specs.Performing.{Performs, PerformsOutside, WaitsFor, none_seen};
 
-use crate::advancing::{look_at_all, retired_place};
+use crate::glancing::{begin, glance_at_all, pass_all};
 use crate::registry::Registry;
-use cpu_words::{Domain, Words};
-use passive_list::{Cpu, Keeper, glance, snapshot};
-use registry_values::{Refusal, first_unseen, is_out, retired_number, waiting_for};
+use cpu_words::Domain;
+use passive_list::Cpu;
+use registry_values::{Refusal, waiting_for};
+use std::marker::Model;
 use std::sync::Wait;
 
 impl<D: Domain> Registry<D> {
     /// Waits, for at most `turns` turns, until each section that is open as the call begins has ended (pserialize_perform of
-    /// pserialize(9)); the interlock is free between the turns. Then every CPU has passed for each entry that was retired before the call.
+    /// pserialize(9)); the interlock is free between the turns. As it begins it takes the section word of each CPU and the numbers of the
+    /// retired entries. Each turn loads the word of each CPU that wasn't seen yet, and a CPU counts as seen once its own word was even or
+    /// another one. Once all were seen, each CPU that hasn't passed for one of those entries is looked at for it, so that it passes, as
+    /// `advance` has it.
     /// Condition: at least one turn.
     /// Refused, in this order: `Inside` where the CPU is inside a section, and nothing has changed then; `Waiting` with the least CPU that
-    /// wasn't seen out of its section.
+    /// wasn't seen out of its section in any of the turns: no CPU was looked at for an entry then, so no mark has changed.
     pub fn perform<R: Wait>(&self, rt: &R, cpu: &mut Cpu<D>, turns: u32) -> Result<(), Refusal>
         requires { 1 ≤ turns }
         ensures done { IfOk result (λ _. is_inside cpu.old ≡ false) }
         ensures refused { IfErr result (λ refusal. IsPerformRefusal D.settings (is_inside cpu.old) refusal) }
+        ensures made { PerformsOutside D.settings turns (is_inside cpu.old) result }
         ensures same { cpu.new ≡ cpu.old }
     {
         if cpu.inside() {
             return Err(Refusal::Inside);
         }
-        let (snapshots, retired) = begin(&self.words, &mut self.keeper.lock(rt));
-        waiting_for(self.wait_for_sections(rt, &snapshots, turns))?;
-        pass_all(&self.words, &mut self.keeper.lock(rt), &retired);
-        Ok(())
-    }
-
-    /// Glances at the CPUs in so many turns, and takes the lock anew for each. The answer is the least CPU that wasn't seen out of the
-    /// section of its snapshot.
-    fn wait_for_sections<R: Wait>(&self, rt: &R, snapshots: &[u64; 8], turns: u32) -> Option<u8>
-        ensures { IfSome result (λ c. c < D.settings.cpus) }
-    {
-        let mut seen = [false; 8];
-        let mut waited = glance_at_all(
-            &self.words,
-            &mut self.keeper.lock(rt),
-            snapshots,
-            &mut seen,
-        );
-        for _ in 1..turns {
-            if waited.is_none() {
-                return None;
-            }
-            waited = glance_at_all(&self.words, &mut self.keeper.lock(rt), snapshots, &mut seen);
-        }
-        waited
+        let mut interlock = Locked { registry: self };
+        waiting_for(perform_in_turns(rt, &mut interlock, turns))
     }
 }
 
-/// The section word of each CPU, and the number of each retired entry, slot by slot.
-fn begin<D: Domain>(words: &Words, keeper: &mut Keeper<D>) -> ([u64; 8], [Option<u64>; 32])
-    requires words { AreWordsOf words.now D.table D.settings }
-    requires few { D.settings.cpus ≤ 8 }
+/// What a `perform` does under the interlock, which it takes anew for each of these calls.
+trait UnderInterlock {
+    ghost use Rattle.std.specs.Prelude.{ℕ, List, Option, Bool};
+
+    // of the state before: the snapshots, the numbers, and the state after
+    ghost begins: { Self → List ℕ → List (Option ℕ) → Self → Type 0 };
+    // of the snapshots, the state before and who was seen: the answer, who is seen then, and the state after
+    ghost glances: { List ℕ → Self → List Bool → Option ℕ → List Bool → Self → Type 0 };
+
+    ghost passes: { Self → List (Option ℕ) → Self → Type 0 };
+
+    /// The section word of each CPU, and the number of each retired entry, slot by slot.
+    fn begin<R: Wait>(&mut self, rt: &R) -> ([u64; 8], [Option<u64>; 32])
+        ensures { begins self.old result.0 result.1 self.new };
+
+    /// One turn: a glance at each CPU that wasn't seen yet. The answer is the least that still wasn't.
+    fn glance<R: Wait>(&mut self, rt: &R, snapshots: &[u64; 8], seen: &mut [bool; 8]) -> Option<u8>
+        ensures { glances snapshots.now self.old seen.old result seen.new self.new };
+
+    /// Looks at each CPU for the retired entries with these numbers.
+    fn pass<R: Wait>(&mut self, rt: &R, numbers: &[Option<u64>; 32])
+        ensures { passes self.old numbers.now self.new };
+}
+
+/// Begins, waits for at most `turns` turns, and passes what was retired as it began. The answer is the least CPU that wasn't seen out of the
+/// section of its snapshot; nothing is passed then.
+fn perform_in_turns<I: UnderInterlock, R: Wait>(rt: &R, interlock: &mut I, turns: u32) -> Option<u8>
+    requires { 1 ≤ turns }
+    ensures { Performs I.begins I.glances I.passes turns interlock.old result interlock.new }
 {
-    (snapshot_all(words, keeper), retired_numbers(keeper))
-}
-
-fn snapshot_all<D: Domain>(words: &Words, keeper: &mut Keeper<D>) -> [u64; 8]
-    requires words { AreWordsOf words.now D.table D.settings }
-    requires few { D.settings.cpus ≤ 8 }
-{
-    let cpus = words.settings().cpus;
-    let mut snapshots = [0; 8];
-    for cpu in 0..cpus {
-        snapshots[cpu as usize] = snapshot(words, keeper, cpu);
+    let (snapshots, retired) = interlock.begin(rt);
+    let told = wait_for_sections(rt, interlock, &snapshots, turns);
+    if told.is_none() {
+        interlock.pass(rt, &retired);
     }
-    snapshots
+    told
 }
 
-fn retired_numbers<D: Domain>(keeper: &Keeper<D>) -> [Option<u64>; 32] {
-    let mut numbers = [None; 32];
-    for slot in 0..32 {
-        numbers[slot as usize] = retired_number(keeper.slot(slot));
-    }
-    numbers
-}
-
-/// One turn: a glance at each CPU that wasn't seen out of the section of its snapshot yet. The answer is the least that still wasn't.
-#[tactic(auto, using(crate::proofs::Owned::least_small))]
-fn glance_at_all<D: Domain>(
-    words: &Words,
-    keeper: &mut Keeper<D>,
+/// Glances at the CPUs in so many turns, or until all were seen. The answer is the last turn's.
+fn wait_for_sections<I: UnderInterlock, R: Wait>(
+    rt: &R,
+    interlock: &mut I,
     snapshots: &[u64; 8],
-    seen: &mut [bool; 8],
+    turns: u32,
 ) -> Option<u8>
-    requires words { AreWordsOf words.now D.table D.settings }
-    requires few { D.settings.cpus ≤ 8 }
-    ensures { IfSome result (λ c. c < D.settings.cpus) }
+    requires { 1 ≤ turns }
+    ensures { WaitsFor (I.glances snapshots.now) turns interlock.old none_seen result interlock.new }
 {
-    let cpus = words.settings().cpus;
-    for cpu in 0..cpus {
-        let at = cpu as usize;
-        if !seen[at] {
-            seen[at] = is_out(snapshots[at], glance(words, keeper, cpu));
+    let mut seen = [false; 8];
+    let mut waited = interlock.glance(rt, snapshots, &mut seen);
+    for _ in 1..turns {
+        if waited.is_none() {
+            return None;
         }
+        waited = interlock.glance(rt, snapshots, &mut seen);
     }
-    first_unseen(cpus, seen)
+    waited
 }
 
-/// Looks at each CPU for the retired entries with these numbers. One that was freed since is passed over.
-fn pass_all<D: Domain>(words: &Words, keeper: &mut Keeper<D>, numbers: &[Option<u64>; 32])
-    requires words { AreWordsOf words.now D.table D.settings }
-{
-    for slot in 0..32 {
-        if let Some(number) = numbers[slot] {
-            pass_entry(words, keeper, number);
-        }
-    }
+/// The interlock of a registry.
+#[derive(Drop)]
+struct Locked<'a, D: Domain> {
+    registry: &'a Registry<D>,
 }
 
-fn pass_entry<D: Domain>(words: &Words, keeper: &mut Keeper<D>, number: u64)
-    requires words { AreWordsOf words.now D.table D.settings }
-{
-    if let Some(slot) = retired_place(keeper, number) {
-        look_at_all(words, keeper, slot);
+impl<'a, D: Domain> UnderInterlock for Locked<'a, D> {
+    ghost use Rattle.name_registry.specs.Performing.{SomeBegan, SomeGlanced, SomePassed};
+
+    ghost begins = { λ x snapshots numbers y. SomeBegan D.settings snapshots numbers };
+
+    ghost glances = { λ snapshots x seen answer after y. SomeGlanced D.settings snapshots seen answer after };
+
+    ghost passes = { λ x numbers y. SomePassed D.settings numbers };
+
+    fn begin<R: Wait>(&mut self, rt: &R) -> ([u64; 8], [Option<u64>; 32]) {
+        begin(&self.registry.words, &mut self.registry.keeper.lock(rt))
+    }
+
+    fn glance<R: Wait>(
+        &mut self,
+        rt: &R,
+        snapshots: &[u64; 8],
+        seen: &mut [bool; 8],
+    ) -> Option<u8> {
+        let keeper = &mut self.registry.keeper.lock(rt);
+        glance_at_all(&self.registry.words, keeper, snapshots, seen)
+    }
+
+    fn pass<R: Wait>(&mut self, rt: &R, numbers: &[Option<u64>; 32]) {
+        pass_all(
+            &self.registry.words,
+            &mut self.registry.keeper.lock(rt),
+            numbers,
+        );
     }
 }

@@ -95,7 +95,7 @@ impl<D: Domain> Registry<D> {
 
     /// One turn of the work on the retired entry `number` under the interlock, as `advance_in` does: the answer is the first obstacle, or
     /// `Freed` with the slot that is vacant again.
-    /// Refused: `NotRetired` where no slot has the retired entry `number`.
+    /// Refused: `NotRetired` where no slot has the retired entry `number`; nothing has changed then.
     pub fn advance<R: Wait>(&self, rt: &R, number: u64) -> Result<Stage, Refusal>
         ensures ok { IfOk result (λ stage. IsStageOf D.settings stage) }
         ensures refused { IfErr result (λ refusal. refusal ≡ Refusal.NotRetired) }
@@ -106,8 +106,9 @@ impl<D: Domain> Registry<D> {
     /// The audit of local references (localcount(9)) under the interlock, as `audit_in` does: of each live or retired slot, least first,
     /// each CPU's own net count, by its place, or 0 where the keeper has collected it, the keeper's total, and their sum, which is held.
     /// No contract can name the keeper: the answer is right for one that is at rest, that some state of the core shows, and that may have
-    /// any history. What is held is the tally in each state that shows this keeper and these CPUs together; that there is one, as there
-    /// is in every run, no call can say, since a step on the words knows the view of its own seat alone.
+    /// any history. What is held is the tally in each state that shows this keeper and these CPUs together. That there is one, whatever
+    /// the table is while they are held, is the law `exact_audit`; no call can say it of its own keeper, since a step on the words knows the
+    /// view of its own seat alone.
     /// Refused, in this order: `MissingCpu` where the slice isn't CPU 0, 1, .. of this registry in this order; `NoMemory`.
     pub fn audit<R: Wait>(
         &self,

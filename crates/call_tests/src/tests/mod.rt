@@ -4,6 +4,7 @@ mod answers;
 mod bench;
 mod keepers;
 mod memory_tests;
+mod performs;
 mod readers;
 mod records;
 mod registry_rows;

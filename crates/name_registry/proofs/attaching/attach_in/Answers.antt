@@ -1,4 +1,4 @@
-use Rattle.std.proofs.Common.{◌≡◌, ◌∙◌, ◌<◌, Result, Ok, IfOk, sym, ap, subst}
+use Rattle.std.proofs.Common.{◌∙◌, ◌<◌, Result, Ok, IfOk, sym, ap, subst}
 use Rattle.registry_values.specs.declared.entry.Entry.{Entry}
 use Rattle.registry_values.specs.declared.refusal.Refusal.{Refusal}
 use Rattle.registry_values.specs.Answers.{attach_answer}

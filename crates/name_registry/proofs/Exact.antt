@@ -1,0 +1,33 @@
+-- The exact audit: one state shows the views of all seats, those of the keeper and the CPUs among them.
+use Rattle.std.proofs.Common.{◌≡◌, All, List}
+use Rattle.registry_values.specs.declared.balance.Balance.{Balance}
+use Rattle.registry_values.specs.declared.settings.Settings.{Settings}
+use Rattle.registry_values.specs.Balances.{tally_shown}
+use Rattle.protocol.specs.State.{State, opening}
+use Rattle.protocol.specs.Laws.{after}
+use Rattle.cpu_words.specs.declared.view.View.TheVariants.{Cpu, Keeper}
+use Rattle.cpu_words.specs.Headline.{RunsLawfully}
+use Rattle.cpu_words.proofs.laws.Safety.{runs_lawfully}
+use Rattle.passive_list.specs.Cpus.{OnCpu}
+use Rattle.passive_list.specs.Keepers.{OnKeeper}
+use Rattle.name_registry.specs.Auditing.{AreShown, IsTallied, tally}
+use Rattle.name_registry.specs.Law.{ExactAudit}
+
+tallied_in : (g : State) (k : OnKeeper) (xs : List OnCpu) (list : List Balance) → AreShown g k xs → All (λ b. IsTallied k xs (tally_shown b)) list → All (λ b. b.held ≡ tally k xs b.number) list
+tallied_in g k xs list shown all = λ i d lt. all i d lt g shown
+
+pub exact_law : (a : Settings) (k : OnKeeper) (xs : List OnCpu) → ExactAudit a k xs
+exact_law a k xs s ruled seated =
+    let run : RunsLawfully a s = runs_lawfully a s ruled in
+    let g : State = after (opening a) run.events in
+    let shown : AreShown g k xs = record {
+      good = run.good;
+      keeper = (run.shows.fits seated.keeper.0 (Keeper k.view) seated.keeper.1).1;
+      cpus = λ c x at. let sits = seated.cpus c x at in (run.shows.fits sits.0 (Cpu x.view) sits.1).1;
+    } in
+    record {
+      run = run;
+      shown = shown;
+      listed = λ list is. is.answer g shown;
+      tallied = λ list is. tallied_in g k xs list shown is.tally;
+    }

@@ -1,0 +1,7 @@
+use Rattle.std.proofs.Common.{◌≡◌, ◌<◌, ℕ, None, length, slice_index_or}
+use Rattle.registry_values.specs.Slots.{retired_number, slot_at}
+use Rattle.name_registry.proofs.glancing.retired_numbers.Given as goal
+
+-- the numbers of the slots so far are there
+abbrev pub invariant-loop-slot : goal.invariant-loop-slot
+invariant-loop-slot g l = (length l.numbers ≡ 32) × ((t : ℕ) → t < l.slot → slice_index_or l.numbers t None ≡ retired_number (slot_at l.keeper.slots t))

@@ -1,0 +1,152 @@
+-- Waiting for open sections (pserialize(9)): which looks a perform makes under the interlock, what it makes of their answers, and in how many turns.
+use Rattle.std.specs.Prelude.{◌≡◌, ◌⊎◌, ℕ, zero, suc, ◌<◌, List, Option, Some, None, Bool, true, false, not, Result, Err, replicate, slice_index_or}
+use Rattle.protocol.specs.declared.event.Event.{Event}
+use Rattle.protocol.specs.declared.event.Event.TheVariants.{Look, Snapshot}
+use Rattle.protocol.specs.declared.event.Reply.TheVariants.{Word}
+use Rattle.registry_values.specs.declared.refusal.Refusal.{Refusal}
+use Rattle.registry_values.specs.declared.refusal.Refusal.TheVariants.{Inside}
+use Rattle.registry_values.specs.declared.settings.Settings.{Settings}
+use Rattle.registry_values.specs.Answers.{waiting_for}
+use Rattle.registry_values.specs.Marks.{is_out, least_below}
+use Rattle.registry_values.specs.Slots.{retired_number, retired_slot, slot_at}
+use Rattle.cpu_words.specs.declared.view.KeeperView.{KeeperView}
+use Rattle.cpu_words.specs.declared.view.View.TheVariants.{Keeper}
+use Rattle.cpu_words.specs.Grace.{having_looked}
+use Rattle.cpu_words.specs.Steps.{Makes}
+use Rattle.passive_list.specs.Keepers.{OnKeeper}
+use Rattle.name_registry.specs.Advancing.{HasLookedFor, MeetsGrace, PassedBelow}
+
+-- The keeper's looks for no entry
+
+-- just this look more was made, and found the word w: it is counted with its answer, and nothing else changed
+pub record LooksOnce (k : KeeperView) (e : Event) (w : ℕ) (l : KeeperView) : Type 0 where
+  pub event : Makes e (Word w) (Keeper k) (Keeper l)
+  pub change : l ≡ having_looked k e (Word w)
+
+-- what a list by CPUs has of the CPU c
+
+abbrev pub word_of : List ℕ → ℕ → ℕ
+word_of words c = slice_index_or words c 0
+
+abbrev pub is_seen : List Bool → ℕ → Bool
+is_seen seen c = slice_index_or seen c false
+
+-- a snapshot of each of the first n CPUs, CPU 0 first: these are the words found
+abbrev pub SnapshotsBelow : List ℕ → ℕ → KeeperView → KeeperView → Type 0
+SnapshotsBelow words zero k l = l ≡ k
+SnapshotsBelow words (suc n) k l = (m : KeeperView) × SnapshotsBelow words n k m × LooksOnce m (Snapshot None n) (word_of words n) l
+
+-- The CPU c is glanced at once, unless it was seen out of the section of its snapshot before. It counts as seen then just where its own word, as this glance found it, is out of that section.
+abbrev pub GlancesOnce : ℕ → ℕ → Bool → KeeperView → Bool → KeeperView → Type 0
+GlancesOnce snapshot c true k after l = (after ≡ true) × (l ≡ k)
+GlancesOnce snapshot c false k after l = (w : ℕ) × LooksOnce k (Look None c) w l × (after ≡ is_out snapshot w)
+
+-- the first n CPUs, CPU 0 first
+abbrev pub GlancesBelow : List ℕ → List Bool → List Bool → ℕ → KeeperView → KeeperView → Type 0
+GlancesBelow snapshots seen after zero k l = l ≡ k
+GlancesBelow snapshots seen after (suc n) k l =
+    (m : KeeperView) × GlancesBelow snapshots seen after n k m × GlancesOnce (word_of snapshots n) n (is_seen seen n) m (is_seen after n) l
+
+-- The parts that are lent the keeper
+
+-- As a perform begins: one snapshot of each CPU, and of each slot the number of the entry that is retired there.
+pub record HasBegun (z : Settings) (a : OnKeeper) (snapshots : List ℕ) (retired : List (Option ℕ)) (b : OnKeeper) : Type 0 where
+  pub looks : SnapshotsBelow snapshots z.cpus a.view b.view
+  pub slots : b.slots ≡ a.slots
+  pub numbers : (t : ℕ) → t < 32 → slice_index_or retired t None ≡ retired_number (slot_at a.slots t)
+
+-- One turn: a glance at each CPU that wasn't seen yet, and the least that still wasn't.
+pub record HasGlanced (z : Settings) (snapshots : List ℕ) (a : OnKeeper) (seen : List Bool) (told : Option ℕ) (after : List Bool) (b : OnKeeper) : Type 0 where
+  pub looks : GlancesBelow snapshots seen after z.cpus a.view b.view
+  pub slots : b.slots ≡ a.slots
+  pub least : told ≡ least_below (λ c. not (is_seen after c)) z.cpus
+
+-- the retired entry in the slot t was looked at for each CPU that hadn't passed: all have passed now, or the section of its snapshot is open still on one
+pub record HasPassedFor (z : Settings) (a : OnKeeper) (t : ℕ) (b : OnKeeper) : Type 0 where
+  pub leaves : HasLookedFor a t b
+  pub met : PassedBelow b.view t z.cpus ⊎ ((c : ℕ) × MeetsGrace a t c b)
+
+abbrev pub PassesAt : Settings → OnKeeper → Option ℕ → OnKeeper → Type 0
+PassesAt z a None b = b ≡ a
+PassesAt z a (Some t) b = HasPassedFor z a t b
+
+-- the entry n, where it is retired still; one whose slot was freed is passed over
+abbrev pub PassesEntry : Settings → OnKeeper → ℕ → OnKeeper → Type 0
+PassesEntry z a n b = PassesAt z a (retired_slot a.slots n) b
+
+abbrev pub PassesNumber : Settings → OnKeeper → Option ℕ → OnKeeper → Type 0
+PassesNumber z a None b = b ≡ a
+PassesNumber z a (Some n) b = PassesEntry z a n b
+
+-- the first n numbers
+abbrev pub PassesBelow : Settings → List (Option ℕ) → ℕ → OnKeeper → OnKeeper → Type 0
+PassesBelow z numbers zero a b = b ≡ a
+PassesBelow z numbers (suc n) a b = (m : OnKeeper) × PassesBelow z numbers n a m × PassesNumber z m (slice_index_or numbers n None) b
+
+abbrev pub HasPassedAll : Settings → OnKeeper → List (Option ℕ) → OnKeeper → Type 0
+HasPassedAll z a numbers b = PassesBelow z numbers 32 a b
+
+-- The turns: X is what stands between two holds of the interlock
+
+module _ {X : Type 0} (turn : X → List Bool → Option ℕ → List Bool → X → Type 0) where
+  -- n turns were made, each on from what the one before left, and each told a CPU that wasn't seen
+  abbrev pub TurnsWaiting : ℕ → X → List Bool → X → List Bool → Type 0
+  TurnsWaiting zero x seen y after = (y ≡ x) × (after ≡ seen)
+  TurnsWaiting (suc n) x seen y after =
+      (m : X) × (between : List Bool) × (c : ℕ) × TurnsWaiting n x seen m between × turn m between (Some c) after y
+
+  -- one turn more was made, after n such: this is its answer
+  abbrev pub LastTurn : ℕ → X → List Bool → Option ℕ → X → List Bool → Type 0
+  LastTurn n x seen answer y after = (m : X) × (between : List Bool) × TurnsWaiting n x seen m between × turn m between answer after y
+
+  -- as many turns as are allowed, or fewer where the last told no CPU; the answer is the last one's
+  pub record WaitsFor (turns : ℕ) (x : X) (seen : List Bool) (answer : Option ℕ) (y : X) : Type 0 where
+    pub earlier : ℕ
+    pub few : earlier < turns
+    pub after : List Bool
+    pub last : LastTurn earlier x seen answer y after
+    pub enough : (answer ≡ None) ⊎ (suc earlier ≡ turns)
+
+-- of a CPU that a turn told the section may be open still: nothing more is done; where none was told, what was retired is passed
+abbrev pub Finishes : {X : Type 0} → (X → List (Option ℕ) → X → Type 0) → List (Option ℕ) → X → Option ℕ → X → Type 0
+Finishes passes numbers x None y = passes x numbers y
+Finishes passes numbers x (Some c) y = y ≡ x
+
+-- no CPU was seen yet
+abbrev pub none_seen : List Bool
+none_seen = replicate 8 false
+
+-- A perform: it begins once, waits in at most so many turns for the sections of the snapshots that it took, and at the end passes the entries whose numbers it took.
+pub record Performs {X : Type 0} (begins : X → List ℕ → List (Option ℕ) → X → Type 0) (turn : List ℕ → X → List Bool → Option ℕ → List Bool → X → Type 0)
+    (passes : X → List (Option ℕ) → X → Type 0) (turns : ℕ) (x : X) (answer : Option ℕ) (y : X) : Type 0 where
+  pub snapshots : List ℕ
+  pub numbers : List (Option ℕ)
+  pub begun : X
+  pub waited : X
+  pub first : begins x snapshots numbers begun
+  pub waits : WaitsFor (turn snapshots) turns begun none_seen answer waited
+  pub end : Finishes passes numbers waited answer y
+
+-- Through the lock, whose value no contract can name: of some keeper, as the call found it and left it
+
+abbrev pub SomeBegan : Settings → List ℕ → List (Option ℕ) → Type 0
+SomeBegan z snapshots numbers = (a : OnKeeper) × (b : OnKeeper) × HasBegun z a snapshots numbers b
+
+abbrev pub SomeGlanced : Settings → List ℕ → List Bool → Option ℕ → List Bool → Type 0
+SomeGlanced z snapshots seen answer after = (a : OnKeeper) × (b : OnKeeper) × HasGlanced z snapshots a seen answer after b
+
+abbrev pub SomePassed : Settings → List (Option ℕ) → Type 0
+SomePassed z numbers = (a : OnKeeper) × (b : OnKeeper) × HasPassedAll z a numbers b
+
+-- What a call of perform made, by the least CPU that it told.
+
+abbrev pub turn_through : Settings → List ℕ → Unit {0} → List Bool → Option ℕ → List Bool → Unit {0} → Type 0
+turn_through z snapshots x seen told after y = SomeGlanced z snapshots seen told after
+
+abbrev pub HasPerformed : Settings → ℕ → Option ℕ → Type 0
+HasPerformed z turns told = Performs (λ x snapshots numbers y. SomeBegan z snapshots numbers) (turn_through z) (λ x numbers y. SomePassed z numbers) turns tt told tt
+
+-- outside a section it was made, and the answer is the CPU that was told
+abbrev pub PerformsOutside : Settings → ℕ → Bool → Result (Unit {0}) Refusal → Type 0
+PerformsOutside z turns true result = result ≡ Err Inside
+PerformsOutside z turns false result = (told : Option ℕ) × (result ≡ waiting_for told) × HasPerformed z turns told
