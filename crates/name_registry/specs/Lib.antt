@@ -7,3 +7,4 @@ pub mod Law
 pub mod Opening
 pub mod Advancing
 pub mod Locking
+pub mod Releasing
