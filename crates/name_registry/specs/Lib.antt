@@ -8,3 +8,4 @@ pub mod Opening
 pub mod Advancing
 pub mod Locking
 pub mod Performing
+pub mod Releasing

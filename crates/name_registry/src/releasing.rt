@@ -1,7 +1,6 @@
 //! Releasing a local reference, where that must succeed.
 
-ghost use Rattle.std.specs.Prelude.{◌≡◌, ◌⊎◌};
-ghost use Rattle.local_count.specs.References.{HasReleased};
+ghost use Rattle.name_registry.specs.Releasing.{IsLetGo};
 
 use crate::registry::Registry;
 use cpu_words::Domain;
@@ -11,9 +10,9 @@ use std::sync::Wait;
 
 impl<D: Domain> Registry<D> {
     /// Releases a local reference (localcount(9)), by this CPU's own count, or, where the keeper has collected its count word, under the
-    /// interlock; the CPU is as it was then. It always succeeds. Any CPU may release it, also inside a section.
+    /// interlock; the CPU is as it was then, and only then. It always succeeds. Any CPU may release it, also inside a section.
     pub fn release_local<R: Wait>(&self, rt: &R, cpu: &mut Cpu<D>, reference: LocalRef<D>)
-        ensures { HasReleased cpu.old reference cpu.new ⊎ (cpu.new ≡ cpu.old) }
+        ensures { IsLetGo cpu.old reference cpu.new }
     {
         if let Err(back) = try_release(&self.words, cpu, reference) {
             release_under(&self.words, &mut self.keeper.lock(rt), back);

@@ -13,13 +13,13 @@ use Rattle.registry_values.specs.declared.name.Name.{Name}
 use Rattle.registry_values.specs.declared.refusal.Refusal.{Refusal}
 use Rattle.cpu_words.specs.declared.view.CpuView.{CpuView}
 use Rattle.cpu_words.specs.declared.view.ReferenceView.{ReferenceView}
-use Rattle.local_count.specs.References.{HasReleased}
 use Rattle.passive_list.specs.Cpus.{OnCpu}
 use Rattle.passive_list.specs.Sections.{HasEnteredOn}
 use Rattle.passive_ref.specs.Psrefs.{GivesBack, HasOneLess, OnPsref, why_unusable}
 use Rattle.name_registry.specs.Auditing.{AreAllCpus}
 use Rattle.name_registry.specs.Locking.{IsAttachRefusal, IsDetachRefusedTo}
 use Rattle.name_registry.specs.Meeting.{HasLearned, HasSeenAttach, HasSeenDetach}
+use Rattle.name_registry.specs.Releasing.{IsLetGo}
 use Rattle.name_registry.proofs.Audits.{cpu_at}
 use Rattle.registry_live.specs.Calls.{IsGivenBack}
 
@@ -56,9 +56,9 @@ pub entered_id : (a b : OnCpu) (answer : Result (Unit {0}) Refusal) → IfOk ans
 entered_id a b (Ok done) ok refused = once_entered a b ok
 entered_id a b (Err f) ok refused = ap (λ (x : OnCpu). x.view.id) refused
 
-pub uncounted_id : (a b : OnCpu) (v : ReferenceView) → HasReleased a v b ⊎ (b ≡ a) → b.view.id ≡ a.view.id
+pub uncounted_id : (a b : OnCpu) (v : ReferenceView) → IsLetGo a v b → b.view.id ≡ a.view.id
 uncounted_id a b v (inl is) = ap (λ (x : OnCpu). x.view.id) is
-uncounted_id a b v (inr is) = ap (λ (x : OnCpu). x.view.id) is
+uncounted_id a b v (inr back) = ap (λ (x : OnCpu). x.view.id) back.1.cpu
 
 pub released_id : {X : Type 0} (a b : OnCpu) (p : OnPsref) (why : Option Refusal) (answer : Result X (Refusal × OnPsref)) → GivesBack why p (λ x. HasOneLess p.number a b) answer → IfErr answer (λ e. b ≡ a) → b.view.id ≡ a.view.id
 released_id a b p why (Ok x) is refused = ap (λ (y : OnCpu). y.view.id) is.1

@@ -4,8 +4,9 @@ ghost use Rattle.std.specs.Prelude.{◌≡◌, ◌≢◌, ◌↔◌, ◌⊎◌, 
 ghost use Rattle.cpu_words.specs.Domains.{AreWordsOf};
 ghost use Rattle.cpu_words.specs.Searching.{key_with};
 ghost use Rattle.cpu_words.specs.Views.{references_to};
-ghost use Rattle.local_count.specs.References.{HasAcquired, HasReleased};
+ghost use Rattle.local_count.specs.References.{HasAcquired};
 ghost use Rattle.name_registry.specs.Meeting.{HasLearned, HasSeenAttach};
+ghost use Rattle.name_registry.specs.Releasing.{IsLetGo};
 ghost use Rattle.registry_values.specs.Names.{is_lawful};
 ghost use Rattle.registry_values.specs.Slots.{is_iface};
 ghost use Rattle.registry_values.specs.declared.entry.Record.{Record};
@@ -212,7 +213,7 @@ pub fn uncount_one<D: Domain, R: Wait>(
     cpu: &mut Cpu<D>,
     place: &mut Option<LocalRef<D>>,
 ) -> Result<u64, Hitch>
-    ensures answer { Decides (unless_free place.old (λ _. None)) (λ n. Has place.old (λ v. (v.entry.number ≡ n) × (HasReleased cpu.old v cpu.new ⊎ (cpu.new ≡ cpu.old)))) result }
+    ensures answer { Decides (unless_free place.old (λ _. None)) (λ n. Has place.old (λ v. (v.entry.number ≡ n) × IsLetGo cpu.old v cpu.new)) result }
     ensures free { place.new ≡ None }
     ensures refused { IfErr result (λ _. cpu.new ≡ cpu.old) }
     ensures id { cpu.new.view.id ≡ cpu.old.view.id }

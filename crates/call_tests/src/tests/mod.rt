@@ -2,6 +2,7 @@
 
 mod answers;
 mod bench;
+mod destroy_turns;
 mod keepers;
 mod memory_tests;
 mod performs;

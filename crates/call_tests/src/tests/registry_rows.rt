@@ -13,7 +13,7 @@ use super::readers::Held;
 use super::readers::Reader::{
     Acquire, Copy, Count, Enter, Exit, Find, Holds, Read, Reference, Release,
 };
-use super::records::{DRIVER_WM0, OTHER_WM0, VGA, WM, WM0, WM1};
+use super::records::{DRIVER_WM0, DRIVER_WM1, OTHER_WM0, VGA, WM, WM0, WM1};
 use cpu_words::Domain;
 use name_registry::Blank;
 use registry_values::{Refusal, Stage};
@@ -247,9 +247,124 @@ const REFERENCES: [Row; 5] = [
     },
 ];
 
+/// What a call behind the lock did to the registry, which its contract can't name: just what it answers, and nothing where it is refused.
+const LOCKED: [Row; 4] = [
+    Row {
+        name: "one_change_a_call",
+        slots: 4,
+        change_limit: 1000,
+        steps: &[
+            (First(Attach(WM)), At(1, 0)),
+            (First(Attach(VGA)), At(2, 1)),
+            (First(Detach(WM)), At(1, 0)),
+            (FirstReads(Enter), Done),
+            (FirstReads(Find(WM)), Nothing),
+            (FirstReads(Find(VGA)), At(2, 1)),
+            (FirstReads(Count), Done),
+            (FirstReads(Exit), Done),
+            (First(Attach(WM)), At(4, 2)),
+            (FirstReads(Enter), Done),
+            (FirstReads(Find(WM)), At(4, 2)),
+            (FirstReads(Exit), Done),
+            (First(Plug(WM0)), At(5, 3)),
+            (FirstReads(Enter), Done),
+            (FirstReads(Find(WM0)), At(5, 3)),
+            (FirstReads(Exit), Done),
+            (Second(Detach(VGA)), At(2, 1)),
+            (Advance(1), Come(Stage::Freed(0))),
+            (First(Attach(VGA)), At(7, 0)),
+        ],
+    },
+    Row {
+        name: "refusals_change_nothing",
+        slots: 3,
+        change_limit: 1000,
+        steps: &[
+            (First(Attach(WM)), At(1, 0)),
+            (First(Attach(VGA)), At(2, 1)),
+            (First(Attach(WM)), Refused(Refusal::NameTaken)),
+            (First(Detach(DRIVER_WM1)), Refused(Refusal::NotFound)),
+            (FirstReads(Enter), Done),
+            (FirstReads(Find(WM)), At(1, 0)),
+            (FirstReads(Find(VGA)), At(2, 1)),
+            (FirstReads(Count), Done),
+            (FirstReads(Exit), Done),
+            (First(Plug(WM0)), At(3, 2)),
+            (FirstReads(Enter), Done),
+            (FirstReads(Find(VGA)), At(2, 1)),
+            (FirstReads(Count), Done),
+            (FirstReads(Exit), Done),
+            (First(Plug(WM1)), Refused(Refusal::NoSlot)),
+            (FirstReads(Enter), Done),
+            (FirstReads(Find(WM)), At(1, 0)),
+            (FirstReads(Find(VGA)), At(2, 1)),
+            (FirstReads(Find(WM0)), At(3, 2)),
+            (FirstReads(Exit), Done),
+            (Advance(1), Refused(Refusal::NotRetired)),
+            (First(Destroy(2, 1)), Refused(Refusal::NotRetired)),
+            (First(Detach(WM)), At(1, 0)),
+            (First(Detach(WM)), Refused(Refusal::NotFound)),
+            (Advance(1), Come(Stage::Freed(0))),
+            (First(Attach(WM)), At(5, 0)),
+        ],
+    },
+    Row {
+        name: "each_number_by_itself",
+        slots: 3,
+        change_limit: 1000,
+        steps: &[
+            (First(Attach(WM)), At(1, 0)),
+            (First(Attach(VGA)), At(2, 1)),
+            (SecondReads(Enter), Done),
+            (SecondReads(Find(WM)), At(1, 0)),
+            (SecondReads(Acquire), Done),
+            (SecondReads(Exit), Done),
+            (First(Detach(WM)), At(1, 0)),
+            (First(Detach(VGA)), At(2, 1)),
+            (Advance(9), Refused(Refusal::NotRetired)),
+            (Advance(2), Come(Stage::Freed(1))),
+            (Advance(1), Come(Stage::Passive(1))),
+            (Advance(2), Refused(Refusal::NotRetired)),
+            (First(Attach(VGA)), At(5, 1)),
+            (First(Detach(VGA)), At(5, 1)),
+            (First(Destroy(5, 1)), Number(1)),
+            (
+                First(Destroy(1, 2)),
+                Refused(Refusal::StillHeld(Stage::Passive(1))),
+            ),
+            (First(Destroy(5, 1)), Refused(Refusal::NotRetired)),
+            (SecondReads(Release), Done),
+            (First(Destroy(1, 1)), Number(0)),
+            (First(Destroy(1, 1)), Refused(Refusal::NotRetired)),
+            (First(Attach(VGA)), At(7, 0)),
+        ],
+    },
+    Row {
+        name: "the_driver_of_the_reference",
+        slots: 4,
+        change_limit: 1000,
+        steps: &[
+            (First(Attach(WM)), At(1, 0)),
+            (First(Attach(VGA)), At(2, 1)),
+            (FirstReads(Enter), Done),
+            (FirstReads(Find(VGA)), At(2, 1)),
+            (FirstReads(Count), Done),
+            (FirstReads(Exit), Done),
+            (First(Plug(WM0)), At(3, 2)),
+            (First(Detach(WM)), At(1, 0)),
+            (First(Detach(VGA)), At(2, 1)),
+            (Advance(1), Come(Stage::Freed(0))),
+            (Advance(2), Come(Stage::Local(1))),
+            (First(Detach(WM0)), At(3, 2)),
+            (Advance(3), Come(Stage::Freed(2))),
+            (Advance(2), Come(Stage::Freed(1))),
+        ],
+    },
+];
+
 #[test]
 fn registry_rows(rt: HostRuntime) -> Result<(), Fail> {
-    for row in SECTIONS.iter().chain(&REFERENCES) {
+    for row in SECTIONS.iter().chain(&REFERENCES).chain(&LOCKED) {
         run(&rt, rt.alloc(), row)?;
     }
     Ok(())

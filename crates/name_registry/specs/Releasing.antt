@@ -1,0 +1,9 @@
+-- A release that always succeeds: by the CPU's own count, or under the interlock, where that count was collected.
+use Rattle.std.specs.Prelude.{◌⊎◌}
+use Rattle.cpu_words.specs.declared.view.ReferenceView.{ReferenceView}
+use Rattle.local_count.specs.References.{HasReleased, HasComeBack}
+use Rattle.passive_list.specs.Cpus.{OnCpu}
+
+-- The CPU is as it was only where its own count word was found collected: a compare-exchange that failed brought the reference back.
+abbrev pub IsLetGo : OnCpu → ReferenceView → OnCpu → Type 0
+IsLetGo x v y = HasReleased x v y ⊎ ((back : ReferenceView) × HasComeBack x v y back)
