@@ -1,12 +1,16 @@
 -- A CPU acquires a local reference: why it may, and what it leaves.
-use Rattle.std.proofs.Common.{◌≡◌, ◌≢◌, ℕ, ◌+◌, ◌<◌, ◌≤◌, ◌&&◌, ◌^◌, nat_le, List, set, Option, Some, None, IsTrue, refl, sym, ap, ◌∙◌, subst, arith, leb-true}
-use Rattle.std.proofs.lemmas.Bool.{and_parts}
+use Rattle.std.proofs.Common.{◌≡◌, ◌≢◌, ℕ, ◌+◌, ◌<◌, ◌≤◌, ◌&&◌, ◌^◌, nat_le, nat_lt, Bool, true, false, List, set, Option, Some, None, IsTrue, refl, sym, ap, ◌∙◌, subst, arith, leb-true}
+use Rattle.std.specs.Prelude.{if◌then◌else◌}
+use Rattle.std.proofs.lemmas.Bool.{and_parts, ltb-false, ltb-true}
 use mathlib.Core.Logic.{dite}
 use native.Mathlib.Decide.{ℕ_discrete}
 use Rattle.atomic_table.specs.Seated.{TableId}
 use Rattle.registry_values.specs.declared.entry.Entry.{Entry}
 use Rattle.registry_values.specs.declared.entry.Change.TheVariants.{Attach}
 use Rattle.registry_values.specs.declared.settings.Settings.{Settings}
+use Rattle.registry_values.specs.declared.refusal.Refusal.{Refusal}
+use Rattle.registry_values.specs.declared.refusal.Refusal.TheVariants.{LocalFull}
+use Rattle.registry_values.specs.Answers.{why_uncounted}
 use Rattle.registry_values.specs.Limits.{is_within, are_sizes_fit, are_limits_fit, are_fit}
 use Rattle.protocol.specs.Invariant.{greatest_limit}
 use Rattle.registry_values.specs.Balances.{bias}
@@ -24,6 +28,24 @@ use Rattle.passive_list.specs.Cpus.{place_at, IsOurCpu}
 use Rattle.passive_list.proofs.Agreeing.{IsFoundAs}
 use Rattle.local_count.specs.References.{IsOurReference, IsFull, net_by}
 use Rattle.local_count.proofs.Agreeing.{place_count, counted_agrees}
+
+-- Where a count is refused
+
+same_why : (f g : Refusal) → ◌≡◌ {A = Option Refusal} (Some f) (Some g) → f ≡ g
+same_why f g q = cc
+
+-- a count is refused where it is at its most
+pub full_tells : (count most : ℕ) (f : Refusal) → Some f ≡ why_uncounted count most → (f ≡ LocalFull) × (most ≤ count)
+full_tells count most f is = tells (nat_lt count most) refl is
+  where
+    tells : (b : Bool) → nat_lt count most ≡ b → ◌≡◌ {A = Option Refusal} (Some f) (if b then None else Some LocalFull) → (f ≡ LocalFull) × (most ≤ count)
+    tells true test q = absurd (let p : ◌≡◌ {A = Option Refusal} (Some f) None = q in cc)
+    tells false test q = (same_why f LocalFull q, ltb-false count most test)
+
+-- and where it isn't refused there is room
+pub room_tells : (count most : ℕ) (why : Option Refusal) → ((f : Refusal) → why ≡ Some f → ⊥) → (why ≡ None → nat_lt count most ≡ true) → count < most
+room_tells count most None off room = ltb-true count most (room refl)
+room_tells count most (Some f) off room = absurd (off f refl)
 
 begun_of : (x : CpuView) (k : Found) → IsFoundAs x k → 0 < k.number
 begun_of x k kept = let begun = (at_within x.pass kept.entry.number (Attach kept.entry) kept.attached).0 in omega (arith, begun, kept.number)

@@ -9,7 +9,7 @@ use crate::local_ref::LocalRef;
 use crate::net::net_count;
 use cpu_words::{Domain, Words, steps};
 use passive_list::{Cpu, Place};
-use registry_values::{BIAS, Refusal};
+use registry_values::{BIAS, Refusal, why_uncounted};
 use std::marker::PhantomData;
 
 /// Acquires a local reference to the CPU's last found entry: the CPU's own net count for it grows by one. Net counts are kept by slot,
@@ -29,8 +29,8 @@ pub fn acquire_local<D: Domain>(words: &Words, cpu: &mut Cpu<D>) -> Result<Local
         return Err(Refusal::NothingFound);
     }
     let count = net_count(cpu.net[found.slot as usize], found.number);
-    if count >= BIAS + words.settings().count_limit {
-        return Err(Refusal::LocalFull);
+    if let Some(refusal) = why_uncounted(count, BIAS + words.settings().count_limit) {
+        return Err(refusal);
     }
     let word = steps::count_add(words, &mut cpu.seat, cpu.id, found.slot, found.number);
     let seat = steps::split_ref(words, &mut cpu.seat, cpu.id);

@@ -1,15 +1,18 @@
 -- A detach: the keeper's live slots are the entries live in its history, and what the call leaves.
-use Rattle.std.proofs.Common.{◌≡◌, ◌∙◌, inl, ℕ, Some, None, position, List, length, sym, ap, subst}
+use Rattle.std.proofs.Common.{◌≡◌, ◌∙◌, inl, ℕ, Bool, true, false, Option, Some, None, Result, Ok, Err, position, List, length, sym, ap, subst}
 use Rattle.std.proofs.lemmas.List.Quantifiers.{position-Some}
 use mathlib.Core.List.{IsPrefix}
 use Rattle.atomic_table.specs.Seated.{TableId}
 use Rattle.registry_values.specs.declared.entry.Change.{Change}
 use Rattle.registry_values.specs.declared.entry.Entry.{Entry}
+use Rattle.registry_values.specs.declared.refusal.Refusal.{Refusal}
+use Rattle.registry_values.specs.declared.refusal.Refusal.TheVariants.{Inside, NotFound}
 use Rattle.registry_values.specs.declared.settings.Settings.{Settings}
 use Rattle.registry_values.specs.declared.slot.Key.{Key}
 use Rattle.registry_values.specs.declared.slot.Slot.{Slot}
 use Rattle.registry_values.specs.declared.slot.Slot.TheVariants.{Live}
 use Rattle.protocol.specs.History.{IsAttached, IsLiveAt}
+use Rattle.registry_values.specs.Answers.{detach_answer}
 use Rattle.registry_values.specs.Slots.{is_live_as, same_key, slot_at}
 use Rattle.registry_values.proofs.Slots.{key_same, live_tells}
 use Rattle.protocol.proofs.slots.Numbers.{position_fails}
@@ -22,8 +25,8 @@ use Rattle.passive_list.specs.Keepers.{OnKeeper, states_of, IsOurKeeper}
 use Rattle.passive_list.specs.Notes.{HasHeardOn}
 use Rattle.passive_list.specs.Retiring.{HasDetached}
 use Rattle.passive_list.proofs.Attached.{rows_live, live_rows}
-use Rattle.name_registry.specs.Detaching.{IsLookupNow, IsLivePlace, HasDetachedFor}
-use Rattle.name_registry.specs.Meeting.{having_heard}
+use Rattle.name_registry.specs.Detaching.{IsDetachRefusal, IsLookupNow, IsLivePlace, HasDetachedFor}
+use Rattle.name_registry.specs.Meeting.{having_heard, is_inside}
 use Rattle.name_registry.proofs.Heard.{seen_detach}
 
 -- The live entries
@@ -81,3 +84,12 @@ detached_for a x m n t e b y heard same seen attached slot has hears =
       cpu = subst (λ (z : OnCpu). HasHeardOn b.view.history z y) same hears;
       own = seen_detach a.view.history x y e before attached (subst (λ (h : List Change). IsPrefix h y.view.pass) (ap (λ (k : KeeperView). k.history) done.view) hears.told);
     }
+
+same_refusal : (f g : Refusal) → ◌≡◌ {A = Result ℕ Refusal} (Err f) (Err g) → f ≡ g
+same_refusal f g q = cc
+
+-- a detach is refused inside a section, or where the lookup finds nothing
+pub refused_rightly : (k : OnKeeper) (x : OnCpu) (key : Key) (inside : Bool) (found : Option ℕ) (f : Refusal) → inside ≡ is_inside x → IsLivePlace k key found → ◌≡◌ {A = Result ℕ Refusal} (Err f) (detach_answer inside found) → IsDetachRefusal k x key f
+refused_rightly k x key true found f in_section lookup is = subst (IsDetachRefusal k x key) (same_refusal Inside f (sym is)) (sym in_section)
+refused_rightly k x key false None f outside lookup is = subst (IsDetachRefusal k x key) (same_refusal NotFound f (sym is)) (sym outside, lookup)
+refused_rightly k x key false (Some t) f outside lookup is = absurd (let q : ◌≡◌ {A = Result ℕ Refusal} (Err f) (Ok t) = is in cc)

@@ -1,12 +1,12 @@
 -- Tests over the keeper's rows are tests over what a contract sees of the keeper.
-use Rattle.std.proofs.Common.{◌≡◌, ℕ, suc, ◌+◌, ◌<◌, ◌≤◌, Bool, not, cond, ◌||◌, List, [], ◌∷◌, length, map, take, Option, position, refl, sym, ap, ◌∙◌, arith}
-use Rattle.std.specs.List.{list_any, prefix_len, zip}
+use Rattle.std.proofs.Common.{◌≡◌, ℕ, suc, ◌+◌, ◌<◌, ◌≤◌, Bool, not, cond, List, [], ◌∷◌, length, map, take, Option, position, refl, sym, ap, ◌∙◌, arith}
+use Rattle.std.specs.List.{prefix_len, zip}
 use Rattle.std.proofs.lemmas.List.{length-map}
 use Rattle.atomic_table.specs.Seated.{TableId}
 use Rattle.registry_values.specs.declared.settings.Settings.{Settings}
 use Rattle.registry_values.specs.declared.slot.Key.{Key}
 use Rattle.registry_values.specs.declared.slot.Slot.{Slot}
-use Rattle.registry_values.specs.Slots.{is_plain, is_live_as, is_taken}
+use Rattle.registry_values.specs.Slots.{is_plain, is_live_as}
 use Rattle.protocol.specs.State.{kept_at}
 use Rattle.registry_values.proofs.Fit.{ranges}
 use Rattle.cpu_words.specs.declared.view.KeeperView.{KeeperView}
@@ -14,10 +14,6 @@ use Rattle.passive_list.specs.declared.keeper.Row.{Row}
 use Rattle.passive_list.specs.Keepers.{OnKeeper, row_at, state_of, states_of, IsOurKeeper}
 use Rattle.name_registry.specs.Attaching.{plain_slot}
 use Rattle.name_registry.specs.Rows.{is_live_row, is_plain_row}
-
-any_map : {X Y : Type 0} (p : Y → Bool) (f : X → Y) (xs : List X) → list_any p (map f xs) ≡ list_any (λ x. p (f x)) xs
-any_map p f [] = refl
-any_map p f (x ∷ xs) = ap (λ b. p (f x) || b) (any_map p f xs)
 
 prefix_map : {X Y : Type 0} (p : Y → Bool) (f : X → Y) (xs : List X) → prefix_len p (map f xs) ≡ prefix_len (λ x. p (f x)) xs
 prefix_map p f [] = refl
@@ -27,9 +23,6 @@ pub position_map : {X Y : Type 0} (p : Y → Bool) (f : X → Y) (xs : List X) �
 position_map p f xs = rw (prefix_map (λ y. not (p y)) f xs, length-map xs f) refl
 
 -- the live entry of a kind and name
-
-pub taken_in_rows : (key : Key) (rows : List Row) → is_taken key (states_of rows) ≡ list_any (is_live_row key) rows
-taken_in_rows key rows = any_map (is_live_as key) state_of rows
 
 pub live_in_rows : (key : Key) (rows : List Row) → position (is_live_as key) (states_of rows) ≡ position (is_live_row key) rows
 live_in_rows key rows = position_map (is_live_as key) state_of rows

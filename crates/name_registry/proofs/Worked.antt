@@ -1,5 +1,5 @@
 -- What looks and collections for a retired entry ask of the keeper, and what they leave.
-use Rattle.std.proofs.Common.{◌≡◌, ◌∙◌, inr, ℕ, ◌+◌, ◌<◌, Bool, true, false, List, [], get_or, Option, Some, None, refl, sym, ap, subst, arith}
+use Rattle.std.proofs.Common.{◌≡◌, ◌∙◌, inr, ℕ, zero, suc, ◌+◌, ◌<◌, Bool, true, false, List, [], get_or, Option, Some, None, refl, sym, ap, subst, arith}
 use Rattle.std.proofs.lemmas.Bool.{or_left}
 use Rattle.atomic_table.specs.Seated.{TableId}
 use Rattle.registry_values.specs.declared.entry.Entry.{Entry}
@@ -11,6 +11,7 @@ use Rattle.registry_values.specs.declared.settings.Settings.{Settings}
 use Rattle.registry_values.specs.declared.mark.Mark.{Mark}
 use Rattle.registry_values.specs.declared.slot.Slot.{Slot}
 use Rattle.registry_values.specs.declared.slot.Slot.TheVariants.{Retired}
+use Rattle.registry_values.specs.Stages.{stage_of}
 use Rattle.registry_values.specs.Marks.{Grows, looked, cleared, collected, have_passed, are_clear, are_collected}
 use Rattle.protocol.specs.Events.{keeps_rightly}
 use Rattle.protocol.specs.Invariant.{DriversKept}
@@ -29,8 +30,8 @@ use Rattle.passive_list.specs.Keepers.{OnKeeper, states_of, IsOurKeeper}
 use Rattle.passive_list.specs.Vacating.{IsDrainedOn}
 use Rattle.passive_list.proofs.Marks.{marked}
 use Rattle.passive_list.proofs.Rows.{retired_in}
-use Rattle.local_count.specs.Draining.{HasCollectedInto}
-use Rattle.name_registry.specs.Advancing.{MayWork, HasWorkedFor, HasLookedFor, PassedBelow, ClearBelow, CollectedBelow}
+use Rattle.local_count.specs.Draining.{AreHeld, HasCollectedInto}
+use Rattle.name_registry.specs.Advancing.{MayWork, HasEnded, HasWorkedFor, HasLookedFor, PassedBelow, ClearBelow, CollectedBelow, Settles}
 
 -- Where there is work
 
@@ -170,3 +171,12 @@ is_drained z x t held may passed clear collected total none =
         total = omega (arith, total, none);
       };
     }
+
+-- where so many local references are held the work ends there, and nothing changes
+pub settled_held : (m b : OnKeeper) (t held : ℕ) → (held ≡ 0 → ⊥) → AreHeld m.view t held → b ≡ m → Settles m t (stage_of t None None held) b
+settled_held m b t zero some are same = absurd (some refl)
+settled_held m b t (suc k) some are same = (some, are, same)
+
+-- where none is the drained slot comes to its end
+pub settled_free : (m b : OnKeeper) (t held : ℕ) → held ≡ 0 → IsDrainedOn m t → HasEnded m t b → Settles m t (stage_of t None None held) b
+settled_free m b t held none drained ended = subst (λ (k : ℕ). Settles m t (stage_of t None None k) b) (sym none) (refl, drained, ended)

@@ -14,7 +14,7 @@ use cpu_words::{Domain, Words};
 use local_count::{collect, collected, free_iface, total};
 use passive_list::{Keeper, Row, look, vacate};
 use passive_ref::look_passive;
-use registry_values::{Refusal, Stage, is_retired_as};
+use registry_values::{Refusal, Stage, is_retired_as, settled};
 
 /// One turn of the work on the retired entry `number`, up to the first obstacle, which is the answer, the least CPU first: `Grace` of a
 /// CPU with a section that may hold the entry (pserialize(9)), `Passive` of a CPU with a passive reference to it (psref(9)), or `Local`
@@ -176,11 +176,12 @@ fn settle<D: Domain>(words: &Words, keeper: &mut Keeper<D>, slot: u8) -> Stage
     ensures { Settles keeper.old slot result keeper.new }
 {
     let held = total(words, keeper, slot);
+    let stage = settled(held, slot);
     if held != 0 {
-        return Stage::Local(held);
+        return stage;
     }
     free(words, keeper, slot);
-    Stage::Freed(slot)
+    stage
 }
 
 /// Makes the drained slot vacant; where it keeps a reference to a driver, that is given up.

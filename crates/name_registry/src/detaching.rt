@@ -9,7 +9,7 @@ ghost use Rattle.name_registry.specs.Rows.{is_live_row};
 use crate::meeting::{hear_cpu, show_cpu};
 use cpu_words::{Domain, Words};
 use passive_list::{Cpu, Keeper, Row, retire};
-use registry_values::{Entry, Key, Kind, Name, Refusal, is_live_as};
+use registry_values::{Entry, Key, Kind, Name, Refusal, detach_answer, is_live_as};
 
 /// Detaches the live entry with the kind and the name, and answers it: lookups that begin from now on don't find it, the caller's CPU has
 /// seen its change, and it is retired, which `advance_in` works on. It takes no memory.
@@ -27,13 +27,8 @@ pub fn detach_in<D: Domain>(
     ensures ok { IfOk result (λ e. HasDetachedFor keeper.old cpu.old e keeper.new cpu.new) }
     ensures refused { IfErr result (λ _. (keeper.new ≡ keeper.old) × (cpu.new ≡ cpu.old)) }
 {
-    if cpu.inside() {
-        return Err(Refusal::Inside);
-    }
     let key = Key { kind, name: *name };
-    let Some(slot) = live_place(keeper, key) else {
-        return Err(Refusal::NotFound);
-    };
+    let slot = detach_answer(cpu.inside(), live_place(keeper, key))?;
     hear_cpu(words, keeper, cpu);
     let entry = retire(words, keeper, slot);
     show_cpu(words, keeper, cpu);

@@ -22,7 +22,7 @@ pub(crate) fn entry_for<D: Domain>(keeper: &Keeper<D>, rec: Record) -> Result<En
 }
 
 /// Whether a live entry has the record's kind and name.
-#[tactic(auto, using(crate::proofs::Rows::taken_in_rows))]
+#[tactic(auto, using(passive_list::proofs::Rows::taken_in_rows))]
 fn is_taken<D: Domain>(keeper: &Keeper<D>, rec: Record) -> bool
     ensures { result ≡ is_taken (key_of_record rec) keeper.now.slots }
 {

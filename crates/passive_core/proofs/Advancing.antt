@@ -13,7 +13,7 @@ use Rattle.registry_values.specs.declared.slot.Slot.TheVariants.{Retired}
 use Rattle.registry_values.specs.declared.refusal.Refusal.{Refusal}
 use Rattle.registry_values.specs.declared.stage.Stage.{Stage}
 use Rattle.registry_values.specs.declared.stage.Stage.TheVariants.{Grace, Passive, Local, Freed}
-use Rattle.passive_core.specs.Advancing.{AdvanceLeaves, Empties, Gathers, HoldersAreOpen, LeavesMarks, MarksPass, Passes, StageLeaves, advance_answer, given_up, has_passive, is_open_since, is_snapshot, plain_stage}
+use Rattle.passive_core.specs.Advancing.{AdvanceLeaves, Settles, Empties, Gathers, HoldersAreOpen, LeavesMarks, MarksPass, Passes, StageLeaves, advance_answer, given_up, has_passive, is_open_since, is_snapshot, plain_stage}
 use Rattle.protocol.specs.Marking.{AllClear, AllCollected, AllPassed, MarksGrow}
 use Rattle.registry_values.specs.Marks.{least_below, looked, cleared, collected, are_collected, has_changed, have_passed, is_even}
 use Rattle.registry_values.specs.Stages.{stage_of}
@@ -318,12 +318,14 @@ passive_same s n t c only = ap (λ (x : State). has_passive x t c) only
 pub collected_there : (s n : State) (t c : ℕ) → Holds s → t < s.settings.slots → c < s.settings.cpus → n ≡ after_total (after_collect s t c) t (total_at s.totals t + count_at s.counts c t - bias) → (mark_at n.marks t c).collected ≡ true
 collected_there s n t c on lt low is = ap (λ (x : State). (mark_at x.marks t c).collected) is ∙ ap (λ (m : Mark). m.collected) (mark_there s t c (collected (mark_at s.marks t c)) on lt low)
 
-pub local_stage : (t k held : ℕ) → k ≡ held → (held ≡ 0 → ⊥) → Local k ≡ stage_of t None None held
-local_stage t k zero same some = absurd (some refl)
-local_stage t k (suc held) same some = ap Local same
+-- where so many local references are held nothing changes
+pub settled_held : (s : State) (t held : ℕ) → (held ≡ 0 → ⊥) → total_at s.totals t ≡ bias + held → Settles s s t (stage_of t None None held)
+settled_held s t zero some total = absurd (some refl)
+settled_held s t (suc k) some total = (refl, total)
 
-pub free_stage : (t held : ℕ) → held ≡ 0 → Freed t ≡ stage_of t None None held
-free_stage t held none = ap (stage_of t None None) (sym none)
+-- where none is the slot is emptied
+pub settled_free : (old new : State) (t held : ℕ) → held ≡ 0 → Empties old new t → Settles old new t (stage_of t None None held)
+settled_free old new t held none empties = subst (λ (k : ℕ). Settles old new t (stage_of t None None k)) (sym none) empties
 
 -- Seats
 

@@ -14,8 +14,12 @@ use Rattle.registry_values.specs.declared.mark.Mark.{Mark}
 use Rattle.registry_values.specs.declared.slot.Slot.{Slot}
 use Rattle.registry_values.specs.declared.slot.Slot.TheVariants.{Vacant, Live}
 use Rattle.passive_core.specs.Commands.{all_seated, may_act}
-use Rattle.passive_core.specs.Detaching.{IsLookupNow, detached, snapped}
-use Rattle.protocol.specs.Events.{after_seeing, after_snapshot, after_unpublish, guard, is_idle, is_snapshot_due, retiring, snapshot_mark, taken, unlinking}
+use Rattle.registry_values.specs.declared.refusal.Refusal.{Refusal}
+use Rattle.registry_values.specs.declared.refusal.Refusal.TheVariants.{Inside, NotFound}
+use Rattle.registry_values.specs.Answers.{detach_answer}
+use Rattle.passive_core.specs.Detaching.{IsDetachRefusal, IsLookupNow, detached, snapped}
+use Rattle.std.specs.Prelude.{Result, Ok, Err, IfSome}
+use Rattle.protocol.specs.Events.{is_inside, after_seeing, after_snapshot, after_unpublish, guard, is_idle, is_snapshot_due, retiring, snapshot_mark, taken, unlinking}
 use Rattle.protocol.specs.Invariant.{DueHolds, Holds}
 use Rattle.protocol.specs.State.{at_rest, State, section_at}
 use Rattle.registry_values.specs.Slots.{is_live_as, slot_before, same_key, slot_at}
@@ -54,6 +58,19 @@ pub place_live : (s : State) (key : Key) (t : ℕ) (x : Slot) → Holds s → po
 place_live s key t x on at is not_live =
     let found = place_lookup s key t on at in
     not_live found.0 (is ∙ found.1)
+
+same_refusal : (f g : Refusal) → ◌≡◌ {A = Result Entry Refusal} (Err f) (Err g) → f ≡ g
+same_refusal f g q = cc
+
+-- the entry that a lookup found is live
+pub found_live : (s : State) (found : Option Entry) (e : Entry) → found ≡ Some e → IfSome found (λ f. slot_at s.slots f.slot ≡ Live f) → slot_at s.slots e.slot ≡ Live e
+found_live s found e is live = subst (λ (o : Option Entry). IfSome o (λ f. slot_at s.slots f.slot ≡ Live f)) is live
+
+-- a detach is refused inside a section, or where the lookup finds nothing
+pub refused_rightly : (s : State) (c : ℕ) (key : Key) (inside : Bool) (found : Option Entry) (f : Refusal) → is_inside s c ≡ inside → IsLookupNow s key found → ◌≡◌ {A = Result Entry Refusal} (Err f) (detach_answer inside found) → IsDetachRefusal s c key f
+refused_rightly s c key true found f in_section lookup is = subst (IsDetachRefusal s c key) (same_refusal Inside f (sym is)) in_section
+refused_rightly s c key false None f outside lookup is = subst (IsDetachRefusal s c key) (same_refusal NotFound f (sym is)) (outside, lookup)
+refused_rightly s c key false (Some e) f outside lookup is = absurd (let q : ◌≡◌ {A = Result Entry Refusal} (Err f) (Ok e) = is in cc)
 
 -- one more mark of a row whose first k are the snapshots
 row_more : (xs : List ℕ) (k : ℕ) → k < length xs → k < 8

@@ -1,6 +1,7 @@
 -- The walk of a lookup that nothing disturbs: what each load leaves, and what the last one answers.
 use Rattle.std.proofs.Common.{◌≡◌, ℕ, zero, suc, ◌<◌, ◌⊎◌, inl, inr, ⊎_elim, List, length, get_or, set, Option, Some, None, Bool, true, false, refl, sym, ap, subst, ◌∙◌, arith, get_or-set_same}
 use Rattle.std.proofs.lemmas.List.{set-set, set-get_or}
+use Rattle.registry_values.specs.Slots.{are_words_of}
 use Rattle.registry_values.specs.declared.entry.Change.{Change}
 use Rattle.registry_values.specs.declared.entry.Entry.{Entry}
 use Rattle.protocol.specs.declared.event.Reply.{Reply}
@@ -12,7 +13,7 @@ use Rattle.protocol.specs.declared.state.Search.{Search}
 use Rattle.protocol.specs.History.{IsLookup}
 use Rattle.protocol.specs.Invariant.{Holds}
 use Rattle.protocol.specs.State.{State, seen_at, search_at, row_at}
-use Rattle.protocol.specs.Events.{Outcome, guard, taken, may_seek, after_seeing, after_seek, going_on, search_over, link_loaded, load_link, load_searched, compared, are_words_of, entry_found}
+use Rattle.protocol.specs.Events.{Outcome, guard, taken, may_seek, after_seeing, after_seek, going_on, search_over, link_loaded, load_link, load_searched, compared, entry_found}
 use Rattle.passive_core.specs.Finding.{after_find, load_at, next_load}
 use Rattle.passive_core.proofs.Acting.{made_is}
 use Rattle.protocol.proofs.keeps.Searching.{Finds, FindSteps, IsFindStep, find_link, find_record, placed, searching_within, seen_now, weight}

@@ -45,6 +45,11 @@ set_twice (z ∷ xs) (suc i) x y = ap (λ (ys : List _). z ∷ ys) (set_twice xs
 pub set_back : {X : Type 0} (xs : List X) (i : ℕ) (x y d : X) → get_or xs i d ≡ y → set (set xs i x) i y ≡ xs
 set_back xs i x y d is = set_twice xs i x y ∙ (ap (set xs i) (sym is) ∙ set-get_or xs i d)
 
+-- a value that isn't there
+pub none_from : {X : Type 0} (o : Option X) → ((x : X) → o ≡ Some x → ⊥) → o ≡ None
+none_from None off = refl
+none_from (Some x) off = absurd (off x refl)
+
 -- A list of places with a free one added.
 
 not_true : (b : Bool) → (b ≡ true → ⊥) → b ≡ false

@@ -2,11 +2,12 @@
 use Rattle.std.specs.Prelude.{◌≡◌, ℕ, ◌+◌, ◌-◌, nat_lt, List, [], ◌∷◌, ◌++◌, Option, Some, None, is_some, Bool, position, Result, Ok, Err, if◌then◌else◌, slice_set}
 use Rattle.registry_values.specs.declared.entry.Entry.{Entry}
 use Rattle.registry_values.specs.declared.refusal.Refusal.{Refusal}
-use Rattle.registry_values.specs.declared.refusal.Refusal.TheVariants.{NoMemory, NothingFound, LocalFull}
+use Rattle.registry_values.specs.declared.refusal.Refusal.TheVariants.{NoMemory, NothingFound}
 use Rattle.protocol.specs.declared.state.LocalPlace.{LocalPlace}
 use Rattle.protocol.specs.declared.state.LocalPlace.TheVariants.{Free, Standing}
 use Rattle.registry_values.specs.declared.slot.Slot.{Slot}
 use Rattle.protocol.specs.State.{State, with_cell, count_at, total_at, found_at, local_at}
+use Rattle.registry_values.specs.Answers as answers
 use Rattle.registry_values.specs.Balances.{bias}
 use Rattle.registry_values.specs.Slots.{slot_of}
 use Rattle.protocol.specs.Events.{is_free, least_id, standing, with_local}
@@ -20,7 +21,7 @@ count_in counts c (Some t) = count_at counts c t
 -- why c takes no reference to what it found last: it has found nothing, or its own net count is as large as it may be
 abbrev pub count_refusal : State → ℕ → Option Entry → Option Refusal
 count_refusal s c None = Some NothingFound
-count_refusal s c (Some e) = if nat_lt (count_in s.nets c (slot_of s.slots e.number)) (bias + s.settings.count_limit) then None else Some LocalFull
+count_refusal s c (Some e) = answers.why_uncounted (count_in s.nets c (slot_of s.slots e.number)) (bias + s.settings.count_limit)
 
 -- the answer: the least id that no live reference and no hand has; memory is refused only where each id up to the greatest is in use
 abbrev pub IsCounted : State → Option Refusal → Result ℕ Refusal → Type 0

@@ -2,6 +2,7 @@ pub mod Agreeing
 pub mod Walking
 pub mod Rows
 pub mod Marks
+pub mod Entering
 pub mod Leading
 pub mod Preparing
 pub mod Attached

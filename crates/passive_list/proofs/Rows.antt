@@ -1,9 +1,11 @@
 -- The rows of the keeper: what they say of a view, as one row or the view changes.
-use Rattle.std.proofs.Common.{◌≡◌, ◌≢◌, inl, inr, ⊎_elim, ℕ, zero, suc, ◌<◌, ◌≤◌, List, [], ◌∷◌, length, get_or, set, replicate, None, IsTrue, refl, sym, ap, ◌∙◌, subst, arith, length-set}
+use Rattle.std.proofs.Common.{◌≡◌, ◌≢◌, inl, inr, ⊎_elim, ◌||◌, ℕ, zero, suc, ◌<◌, ◌≤◌, List, [], ◌∷◌, length, get_or, set, replicate, None, IsTrue, refl, sym, ap, ◌∙◌, subst, arith, length-set}
+use Rattle.std.specs.List.{list_any}
 use Rattle.std.proofs.lemmas.Bool.{cases_lt}
 use Rattle.std.proofs.lemmas.List.{length-replicate, get_or-replicate}
 use Rattle.registry_values.specs.declared.entry.Entry.{Entry}
 use Rattle.registry_values.specs.declared.settings.Settings.{Settings}
+use Rattle.registry_values.specs.declared.slot.Key.{Key}
 use Rattle.registry_values.specs.declared.slot.Slot.{Slot}
 use Rattle.registry_values.specs.declared.slot.Slot.TheVariants.{Vacant, Live, Retired}
 use Rattle.protocol.specs.declared.state.Due.TheVariants.{Rest}
@@ -11,7 +13,7 @@ use Rattle.registry_values.specs.Limits.{are_fit}
 use Rattle.registry_values.specs.Balances.{bias}
 use Rattle.registry_values.specs.Marks.{no_mark}
 use Rattle.protocol.specs.State.{no_words, total_at, kept_at}
-use Rattle.registry_values.specs.Slots.{slot_at}
+use Rattle.registry_values.specs.Slots.{is_live_as, is_taken, slot_at}
 use Rattle.protocol.proofs.slots.Cells.{get_or_all}
 use Rattle.protocol.proofs.keeps.MarkKeeps.{none_live, rows_all}
 use Rattle.protocol.proofs.slots.Occupied.{place_cases}
@@ -56,6 +58,11 @@ state_at (r ∷ rows) (suc t) = state_at rows t
 first_states : (n : ℕ) → states_of (replicate n first_row) ≡ replicate n Vacant
 first_states zero = refl
 first_states (suc n) = ap (λ (xs : List Slot). Vacant ∷ xs) (first_states n)
+
+-- a live entry has the kind and the name, by the rows
+pub taken_in_rows : (key : Key) (rows : List Row) → is_taken key (states_of rows) ≡ list_any (λ r. is_live_as key r.state) rows
+taken_in_rows key [] = refl
+taken_in_rows key (r ∷ rows) = ap (λ b. is_live_as key r.state || b) (taken_in_rows key rows)
 
 -- such a row agrees with the view at the start
 first_agrees : (a : Settings) (t : ℕ) → t < a.slots → RowAgrees (keeper_with a a.cpus) t first_row

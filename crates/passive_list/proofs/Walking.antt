@@ -1,5 +1,6 @@
 -- A search: its loads in one slot, and from one slot to the next.
 use Rattle.std.proofs.Common.{◌≡◌, ◌≢◌, ℕ, zero, suc, ◌-◌, ◌<◌, Bool, true, false, List, ◌++◌, length, Option, Some, None, IfSome, refl, sym, ap, ◌∙◌, subst, arith, append_assoc}
+use Rattle.registry_values.specs.Slots.{are_words_of}
 use mathlib.Core.List.{IsPrefix}
 use Rattle.registry_values.specs.declared.entry.Entry.{Entry}
 use Rattle.registry_values.specs.declared.entry.Change.{Change}
@@ -7,7 +8,6 @@ use Rattle.registry_values.specs.declared.slot.Key.{Key}
 use Rattle.protocol.specs.declared.state.Place.{Place}
 use Rattle.protocol.specs.declared.state.Place.TheVariants.{AtNext, AtNumber, AtKind, AtHigh, AtLow, AtValue}
 use Rattle.protocol.specs.declared.state.Loaded.TheVariants.{On}
-use Rattle.protocol.specs.Events.{are_words_of}
 use Rattle.protocol.specs.History.{IsAttached, IsLawful}
 use Rattle.protocol.specs.Invariant.{StandsOn}
 use Rattle.protocol.specs.Loaded.{loaded, judged, entry_with}

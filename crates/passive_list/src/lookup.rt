@@ -1,7 +1,6 @@
 //! Lookups in a section: a search along the list, loads alone. No shared word is written, and nobody waits.
 
 ghost use Rattle.std.specs.Prelude.{◌≡◌, ◌≢◌, ◌<◌, None, IfSome};
-ghost use Rattle.protocol.specs.Events.{are_words_of};
 ghost use Rattle.cpu_words.specs.Domains.{AreWordsOf};
 ghost use Rattle.cpu_words.specs.Searching.{MaySeek, key_with};
 ghost use Rattle.passive_list.specs.Cpus.{IsKept};
@@ -11,7 +10,7 @@ ghost use Rattle.passive_list.specs.Walking.{MayVisit, HasVisited, HasLookedUp, 
 use crate::cpu::Cpu;
 use crate::place::Found;
 use cpu_words::{CpuSeat, Domain, Words, steps};
-use registry_values::{Entry, Kind, Name, Record, kind_word};
+use registry_values::{Entry, Key, Kind, Name, Record, are_words_of};
 
 /// Above every number that an entry can have.
 const ABOVE_ALL: u64 = 1_000_001;
@@ -111,13 +110,5 @@ fn visit(
     let found = steps::load_searched(words, seat, cpu, slot, 1);
     let high = steps::load_searched(words, seat, cpu, slot, 2);
     let low = steps::load_searched(words, seat, cpu, slot, 3);
-    (number, are_words_of(kind, name, found, high, low))
-}
-
-/// Whether these are the words of the kind and the name.
-fn are_words_of(kind: Kind, name: Name, k: u64, h: u64, l: u64) -> bool
-    ensures { result ≡ are_words_of (key_with kind name) k h l }
-{
-    let (high, low) = name.words();
-    k == kind_word(kind) && h == high && l == low
+    (number, are_words_of(Key { kind, name }, found, high, low))
 }

@@ -1,16 +1,13 @@
 //! Read sections (pserialize(9)). Sections nest: only the outermost enter and exit step on the words.
 
-ghost use Rattle.std.specs.Prelude.{◌≡◌, ◌≢◌, ◌↔◌, ◌⊎◌, None, IfOk, IfErr, IsErrOf};
+ghost use Rattle.std.specs.Prelude.{◌≡◌, ◌≢◌, ◌↔◌, ◌⊎◌, None, IfOk, IfErr, IsErrOf, false};
 ghost use Rattle.cpu_words.specs.Domains.{AreWordsOf};
 ghost use Rattle.cpu_words.specs.Sections.{HasEntered};
 ghost use Rattle.passive_list.specs.Sections.{HasEnteredOn, HasExitedOn, AreSpent};
 
 use crate::cpu::Cpu;
 use cpu_words::{Domain, Words, steps};
-use registry_values::Refusal;
-
-/// The deepest nesting.
-const DEEPEST: u8 = 255;
+use registry_values::{Refusal, enter_answer};
 
 /// Enters a section, or the open one once more. Where a section begins, the pass becomes the whole history.
 /// Refused: `TooDeep` where the depth is 255, then `SectionsSpent` where a section would begin and this CPU has begun `section_limit` of
@@ -23,30 +20,33 @@ pub fn enter<D: Domain>(words: &Words, cpu: &mut Cpu<D>) -> Result<(), Refusal>
     ensures spent { IsErrOf result Refusal.SectionsSpent ↔ (cpu.old.depth ≡ 0) × AreSpent cpu.old.view }
     ensures no_other { IfErr result (λ refusal. (refusal ≡ Refusal.TooDeep) ⊎ (refusal ≡ Refusal.SectionsSpent)) }
 {
-    if cpu.depth == DEEPEST {
-        return Err(Refusal::TooDeep);
-    }
-    if cpu.depth == 0 {
-        return begin(words, cpu);
+    let outside = cpu.depth == 0;
+    enter_answer(cpu.depth, outside, may_begin(words, cpu))?;
+    if outside {
+        begin(words, cpu);
+        return Ok(());
     }
     cpu.depth += 1;
     Ok(())
 }
 
-/// Begins a section, unless this CPU has begun as many as it may.
-fn begin<D: Domain>(words: &Words, cpu: &mut Cpu<D>) -> Result<(), Refusal>
+/// Whether this CPU may begin one section more.
+fn may_begin<D: Domain>(words: &Words, cpu: &Cpu<D>) -> bool
+    requires words { AreWordsOf words.now D.table D.settings }
+    ensures { result ≡ false ↔ AreSpent cpu.now.view }
+{
+    cpu.ended < words.settings().section_limit
+}
+
+/// Begins a section, as this CPU may.
+fn begin<D: Domain>(words: &Words, cpu: &mut Cpu<D>)
     requires words { AreWordsOf words.now D.table D.settings }
     requires outside { cpu.old.depth ≡ 0 }
-    ensures ok { IfOk result (λ _. HasEnteredOn cpu.old cpu.new) }
-    ensures refused { IfErr result (λ e. (e ≡ Refusal.SectionsSpent) × (cpu.new ≡ cpu.old) × AreSpent cpu.old.view) }
-    ensures spent { AreSpent cpu.old.view → IsErrOf result Refusal.SectionsSpent }
+    requires room { AreSpent cpu.old.view → ⊥ }
+    ensures { HasEnteredOn cpu.old cpu.new }
 {
-    if cpu.ended >= words.settings().section_limit {
-        return Err(Refusal::SectionsSpent);
-    }
     steps::enter(words, &mut cpu.seat, cpu.id);
     cpu.depth = 1;
-    Ok(())
 }
 
 /// Exits the section, or one nesting of it. The exit that ends it clears the last found entry.

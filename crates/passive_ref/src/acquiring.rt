@@ -9,7 +9,7 @@ use crate::holding::{count_of, usable_slot};
 use crate::psref::Psref;
 use cpu_words::{Domain, Words, steps};
 use passive_list::{Cpu, Place};
-use registry_values::Refusal;
+use registry_values::{Refusal, why_full};
 
 /// Acquires a passive reference to this CPU's last found entry (psref(9)). It outlives the section, and the entry keeps its slot until
 /// it is released.
@@ -69,8 +69,8 @@ fn add<D: Domain>(words: &Words, cpu: &mut Cpu<D>, slot: u8, number: u64) -> Res
     ensures refused { IfErr result (λ _. cpu.new ≡ cpu.old) }
 {
     let count = count_of(cpu, slot, number);
-    if count >= words.settings().passive_limit {
-        return Err(Refusal::PassiveFull);
+    if let Some(refusal) = why_full(count, words.settings().passive_limit) {
+        return Err(refusal);
     }
     steps::passive_add(words, &mut cpu.seat, cpu.id, slot, number);
     cpu.passive[slot as usize] = Place {

@@ -8,7 +8,7 @@ ghost use Rattle.passive_ref.specs.Psrefs.{IsHeldAt, MayRefer, counts_for, why_u
 use crate::psref::Psref;
 use cpu_words::Domain;
 use passive_list::{Cpu, Place};
-use registry_values::Refusal;
+use registry_values::{Refusal, why_unusable};
 
 /// Whether this CPU holds a passive reference to that number, whichever CPU the reference names (psref(9)).
 pub fn held<D: Domain>(cpu: &Cpu<D>, psref: &Psref) -> bool
@@ -24,12 +24,11 @@ pub fn held<D: Domain>(cpu: &Cpu<D>, psref: &Psref) -> bool
 pub(crate) fn usable_slot<D: Domain>(cpu: &Cpu<D>, psref: &Psref) -> Result<u8, Refusal>
     ensures { Answers (why_unusable cpu.now.view psref.now) (λ t. IsHeldAt cpu.now.view t psref.now.number) result }
 {
-    if psref.cpu != cpu.id {
-        return Err(Refusal::WrongCpu);
-    }
-    match slot_of(cpu, psref.number) {
-        Some(slot) => Ok(slot),
-        None => Err(Refusal::NotHeld),
+    let held = slot_of(cpu, psref.number);
+    match (why_unusable(psref.cpu == cpu.id, held.is_some()), held) {
+        (None, Some(slot)) => Ok(slot),
+        (Some(refusal), _) => Err(refusal),
+        (None, None) => unreachable!(),
     }
 }
 

@@ -28,7 +28,7 @@ use Rattle.protocol.specs.declared.state.Due.{Due}
 use Rattle.protocol.specs.declared.state.Due.TheVariants.{Rest, Snapshots, Adding, Subtracting}
 use Rattle.protocol.specs.History.{after_change}
 use Rattle.registry_values.specs.Answers as answers
-use Rattle.registry_values.specs.Slots.{key_of, slot_at, kind_word, is_iface, is_driver, is_vacant, is_retired, is_taken, live_count, slot_of, slot_before}
+use Rattle.registry_values.specs.Slots.{are_words_of, key_of, slot_at, kind_word, is_iface, is_driver, is_vacant, is_retired, is_taken, live_count, slot_of, slot_before}
 use Rattle.registry_values.specs.Names.{are_name_words}
 use Rattle.protocol.specs.State.{State, with_cell, section_at, begin_at, depth_at, seen_at, search_at, found_at, hand_at, row_at, mark_at, passive_at, count_at, total_at, kept_at, local_at, is_empty, at_rest}
 use Rattle.registry_values.specs.Balances.{bias}
@@ -144,10 +144,6 @@ load_link s c q (AtKind t n) = None
 load_link s c q (AtHigh t n k) = None
 load_link s c q (AtLow t n k h) = None
 load_link s c q (AtValue t n) = None
-
--- the words of a kind and a name
-abbrev pub are_words_of : Key → ℕ → ℕ → ℕ → Bool
-are_words_of key k h l = k == kind_word key.kind && (h == key.name.high && l == key.name.low)
 
 -- the last word of the name was loaded: the search goes on to the value, or to the next entry
 abbrev pub compared : State → ℕ → Search → ℕ → ℕ → ℕ → Bool → Option Outcome

@@ -1,5 +1,6 @@
 -- What a search does with the record words of its slot, apart from the core's state.
 use Rattle.std.specs.Prelude.{ℕ, ◌<◌, List, Option, Some, None, Bool, true, false}
+use Rattle.registry_values.specs.Slots.{are_words_of}
 use Rattle.registry_values.specs.declared.entry.Entry.{Entry}
 use Rattle.registry_values.specs.declared.slot.Key.{Key}
 use Rattle.protocol.specs.declared.state.RecordWords.{RecordWords}
@@ -9,7 +10,7 @@ use Rattle.protocol.specs.declared.state.Search.{Search}
 use Rattle.protocol.specs.declared.state.Loaded.{Loaded}
 use Rattle.protocol.specs.declared.state.Loaded.TheVariants.{On, Over}
 use Rattle.protocol.specs.State.{State, no_words, row_at}
-use Rattle.protocol.specs.Events.{Outcome, taken, going_on, search_over, are_words_of}
+use Rattle.protocol.specs.Events.{Outcome, taken, going_on, search_over}
 use Rattle.protocol.specs.declared.event.Reply.TheVariants.{Word, Found}
 
 abbrev pub entry_with : Key → ℕ → ℕ → ℕ → Entry

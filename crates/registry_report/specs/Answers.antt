@@ -74,12 +74,8 @@ if_free (Some l) answer = Err LabelTaken
 abbrev pub plug_answer : Registry → ℕ → Record → ℕ → Result Entry Hitch
 plug_answer r c rec x = with_label (r.local_labels x) (λ d. hitched (attach_iface_answer r c rec d))
 
-abbrev pub found_or : Option Entry → Result Entry Refusal
-found_or None = Err refusal.NotFound
-found_or (Some e) = Ok e
-
 abbrev pub detach_answer : Registry → ℕ → Key → Result Entry Refusal
-detach_answer r c key = if is_inside r c then Err refusal.Inside else found_or (lookup_now r key)
+detach_answer r c key = answers.detach_answer (is_inside r c) (lookup_now r key)
 
 -- Sections
 
@@ -131,13 +127,13 @@ release_answer r c a = with_label (r.passive_labels a) (λ p. hitched (unless (m
 
 -- Local references
 
--- c's own net count for n may be one more
-abbrev pub may_count : Registry → ℕ → ℕ → Bool
-may_count r c n = nat_lt (r.acquired c n) (r.released c n + r.settings.count_limit)
+-- why c's own net count for n may not be one more
+abbrev pub why_uncounted : Registry → ℕ → ℕ → Option Refusal
+why_uncounted r c n = answers.why_uncounted (r.acquired c n) (r.released c n + r.settings.count_limit)
 
 abbrev pub counted : Registry → ℕ → Option Entry → Result ℕ Refusal
 counted r c None = Err refusal.NothingFound
-counted r c (Some e) = if may_count r c e.number then Ok e.number else Err refusal.LocalFull
+counted r c (Some e) = unless (why_uncounted r c e.number) (Ok e.number)
 
 abbrev pub count_answer : Registry → ℕ → ℕ → Result ℕ Hitch
 count_answer r c x = if_free (r.local_labels x) (hitched (counted r c (r.model.found c)))

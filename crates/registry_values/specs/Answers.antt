@@ -5,7 +5,7 @@ use Rattle.registry_values.specs.declared.answer.Room.{Room}
 use Rattle.registry_values.specs.declared.entry.Entry.{Entry}
 use Rattle.registry_values.specs.declared.entry.Record.{Record}
 use Rattle.registry_values.specs.declared.refusal.Refusal.{Refusal}
-use Rattle.registry_values.specs.declared.refusal.Refusal.TheVariants.{NameTaken, NoSlot, HistoryFull, Inside, NeedsDriver, TooDeep, SectionsSpent, PassiveFull, WrongCpu, NotHeld, Waiting}
+use Rattle.registry_values.specs.declared.refusal.Refusal.TheVariants.{NameTaken, NoSlot, HistoryFull, Inside, NeedsDriver, TooDeep, SectionsSpent, PassiveFull, WrongCpu, NotHeld, LocalFull, NotFound, Waiting}
 use Rattle.registry_values.specs.declared.slot.Slot.{Slot}
 use Rattle.registry_values.specs.Slots.{is_plain}
 
@@ -36,6 +36,17 @@ given_entry taken plain room rec = if taken then Err NameTaken else entry_in pla
 abbrev pub attach_answer : Bool → Bool → Result Entry Refusal → Result Entry Refusal
 attach_answer inside unfit given = if inside then Err Inside else (if unfit then Err NeedsDriver else given)
 
+-- Detaching
+
+-- what was found, if anything
+abbrev pub found_or : {X : Type 0} → Option X → Result X Refusal
+found_or None = Err NotFound
+found_or (Some x) = Ok x
+
+-- A detach is refused inside a section, and where there is no such live entry.
+abbrev pub detach_answer : {X : Type 0} → Bool → Option X → Result X Refusal
+detach_answer inside found = if inside then Err Inside else found_or found
+
 -- Sections
 
 -- refused at depth 255, and outside a section where the CPU may not begin one more
@@ -61,6 +72,12 @@ why_full count limit = if nat_lt count limit then None else Some PassiveFull
 -- why a CPU may not use a reference: it is another CPU's, or this CPU holds none to that number
 abbrev pub why_unusable : Bool → Bool → Option Refusal
 why_unusable is_own is_held = if is_own then (if is_held then None else Some NotHeld) else Some WrongCpu
+
+-- Local references
+
+-- why a CPU's own count, which is so much, may not be one more, where so much is the most
+abbrev pub why_uncounted : ℕ → ℕ → Option Refusal
+why_uncounted count most = if nat_lt count most then None else Some LocalFull
 
 -- a refusal, if there is one, else the answer
 abbrev pub unless : {X E : Type 0} → Option E → Result X E → Result X E

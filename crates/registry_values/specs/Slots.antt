@@ -19,6 +19,10 @@ abbrev pub kind_word : Kind → ℕ
 kind_word Iface = 1
 kind_word Driver = 2
 
+-- these are the words of the kind and of the name, its high word first
+abbrev pub are_words_of : Key → ℕ → ℕ → ℕ → Bool
+are_words_of key k h l = k == kind_word key.kind && (h == key.name.high && l == key.name.low)
+
 abbrev pub is_iface : Kind → Bool
 is_iface Iface = true
 is_iface Driver = false

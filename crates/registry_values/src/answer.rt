@@ -1,7 +1,7 @@
 //! What a call answers, by plain values: where the caller is, what stands in the slots, and how far the history and the counts have come.
 
 ghost use Rattle.std.specs.Prelude.{◌≡◌, ◌<◌, nat_lt, IfOk, Ok, Some, None, true, false};
-ghost use Rattle.registry_values.specs.Answers.{attach_answer, enter_answer, given_entry, has_room, waiting_for, why_full, why_unusable};
+ghost use Rattle.registry_values.specs.Answers.{attach_answer, detach_answer, enter_answer, given_entry, has_room, waiting_for, why_full, why_uncounted, why_unusable};
 
 use crate::entry::{Entry, Record};
 use crate::refusal::Refusal;
@@ -72,6 +72,21 @@ pub fn attach_answer(
     given
 }
 
+/// What a detach answers, by what a lookup of its kind and name gives now: the entry, or the slot of it. Refused, in this order: `Inside`
+/// where the caller's CPU is inside a section; `NotFound` where there is no such live entry.
+pub fn detach_answer<T: Drop>(inside: bool, found: Option<T>) -> Result<T, Refusal>
+    ensures value { result ≡ detach_answer inside found }
+    ensures found { IfOk result (λ given. (inside ≡ false) × (found ≡ Some given)) }
+{
+    if inside {
+        return Err(Refusal::Inside);
+    }
+    match found {
+        Some(given) => Ok(given),
+        None => Err(Refusal::NotFound),
+    }
+}
+
 /// What an enter answers (pserialize(9)), on a CPU whose section has this depth. Refused, in this order: `TooDeep` where the depth is 255;
 /// `SectionsSpent` where a section would begin and the CPU may not begin one more.
 pub fn enter_answer(depth: u8, outside: bool, may_begin: bool) -> Result<(), Refusal>
@@ -113,7 +128,8 @@ pub fn why_full(count: u64, limit: u64) -> Option<Refusal>
 /// Why a CPU may not use a passive reference (psref(9)): `WrongCpu` where the reference names another CPU, then `NotHeld` where this CPU
 /// holds none to that number.
 pub fn why_unusable(is_own: bool, is_held: bool) -> Option<Refusal>
-    ensures { result ≡ why_unusable is_own is_held }
+    ensures value { result ≡ why_unusable is_own is_held }
+    ensures held { result ≡ None → is_held ≡ true }
 {
     if !is_own {
         return Some(Refusal::WrongCpu);
@@ -122,4 +138,17 @@ pub fn why_unusable(is_own: bool, is_held: bool) -> Option<Refusal>
         return Some(Refusal::NotHeld);
     }
     None
+}
+
+/// Why a CPU may not acquire a local reference more to an entry (localcount(9)), where its own net count for it may be below `most`:
+/// `LocalFull` where it isn't.
+pub fn why_uncounted(count: u64, most: u64) -> Option<Refusal>
+    ensures value { result ≡ why_uncounted count most }
+    ensures room { result ≡ None → nat_lt count most ≡ true }
+{
+    if count < most {
+        None
+    } else {
+        Some(Refusal::LocalFull)
+    }
 }

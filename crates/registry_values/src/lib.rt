@@ -13,7 +13,8 @@ mod slot;
 mod stage;
 
 pub use answer::{
-    Room, attach_answer, enter_answer, given_entry, has_room, waiting_for, why_full, why_unusable,
+    Room, attach_answer, detach_answer, enter_answer, given_entry, has_room, waiting_for, why_full,
+    why_uncounted, why_unusable,
 };
 pub use balance::{BIAS, Balance, less_bias, local_of, sum};
 pub use entry::{Change, Entry, Kind, Record, is_iface, kind_word, record_from};
@@ -25,6 +26,7 @@ pub use name::{Name, NameFault, name_laws};
 pub use refusal::Refusal;
 pub use settings::Settings;
 pub use slot::{
-    Key, Slot, has_number, is_live, is_live_as, is_plain, is_retired_as, key_of, retired_number,
+    Key, Slot, are_words_of, has_number, is_live, is_live_as, is_plain, is_retired_as, key_of,
+    retired_number,
 };
-pub use stage::{Stage, destroyed};
+pub use stage::{Stage, destroyed, settled};

@@ -1,9 +1,9 @@
 //! What stands in a slot, and tests of one slot by it.
 
 ghost use Rattle.std.specs.Prelude.{◌≡◌};
-ghost use Rattle.registry_values.specs.Slots.{is_retired_as, is_plain, key_of, retired_number, has_number, is_live, is_live_as, same_key};
+ghost use Rattle.registry_values.specs.Slots.{are_words_of, is_retired_as, is_plain, key_of, retired_number, has_number, is_live, is_live_as, same_key};
 
-use crate::entry::{Entry, Kind};
+use crate::entry::{Entry, Kind, kind_word};
 use crate::name::Name;
 
 /// What stands in a slot.
@@ -34,6 +34,14 @@ pub fn key_of(entry: &Entry) -> Key
         kind: entry.rec.kind,
         name: entry.rec.name,
     }
+}
+
+/// Whether these words, as they stand in a record, are those of the kind and the name that are sought.
+pub fn are_words_of(key: Key, kind: u64, high: u64, low: u64) -> bool
+    ensures { result ≡ are_words_of key kind high low }
+{
+    let (key_high, key_low) = key.name.words();
+    kind == kind_word(key.kind) && high == key_high && low == key_low
 }
 
 /// Whether the slot's entry is live.

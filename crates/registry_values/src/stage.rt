@@ -1,7 +1,7 @@
 //! How far the destruction of a retired entry has come.
 
-ghost use Rattle.std.specs.Prelude.{◌≡◌};
-ghost use Rattle.registry_values.specs.Stages.{destroyed};
+ghost use Rattle.std.specs.Prelude.{◌≡◌, None};
+ghost use Rattle.registry_values.specs.Stages.{destroyed, stage_of};
 
 use crate::refusal::Refusal;
 
@@ -16,6 +16,18 @@ pub enum Stage {
     Local(u64),
     /// Nothing: this slot is vacant again.
     Freed(u8),
+}
+
+/// The stage of a retired entry that no section may hold and no passive reference is to, by the number of local references to it and by
+/// its slot, from 0.
+pub fn settled(held: u64, slot: u8) -> Stage
+    ensures { result ≡ stage_of slot None None held }
+{
+    if held == 0 {
+        Stage::Freed(slot)
+    } else {
+        Stage::Local(held)
+    }
 }
 
 /// What a destroy answers by its last stage: the slot that was freed, or the obstacle as a refusal.

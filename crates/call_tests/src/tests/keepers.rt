@@ -131,7 +131,7 @@ fn takes<D: Domain, R: Abort>(rt: &R, keeper: &Keeper<D>, slot: u8, rec: Record)
 }
 
 /// Whether a live entry has the record's kind and name.
-#[tactic(auto, using(name_registry::proofs::Rows::taken_in_rows))]
+#[tactic(auto, using(passive_list::proofs::Rows::taken_in_rows))]
 fn is_taken<D: Domain>(keeper: &Keeper<D>, rec: Record) -> bool
     ensures { result ≡ is_taken (key_of_record rec) keeper.now.slots }
 {

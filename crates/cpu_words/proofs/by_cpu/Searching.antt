@@ -27,8 +27,8 @@ use Rattle.protocol.specs.declared.state.Loaded.{Loaded}
 use Rattle.protocol.specs.declared.state.Loaded.TheVariants.{On, Over}
 use Rattle.protocol.specs.History.{change_at, IsAttached, EndsAt, IsLiveAt, IsLawful}
 use Rattle.protocol.specs.State.{State, begin_at, seen_at, search_at, found_at, row_at}
-use Rattle.registry_values.specs.Slots.{slot_at}
-use Rattle.protocol.specs.Events.{step, with_some, load_link, link_loaded, load_searched, are_words_of, word}
+use Rattle.registry_values.specs.Slots.{are_words_of, slot_at}
+use Rattle.protocol.specs.Events.{step, with_some, load_link, link_loaded, load_searched, word}
 use Rattle.protocol.specs.Loaded.{loaded, judged, entry_with, row_of_place, outcome_of, SlotWithin}
 use Rattle.protocol.specs.Invariant.{StandsOn, Holds, PlaceHolds}
 use Rattle.registry_values.proofs.Fit.{ranges}

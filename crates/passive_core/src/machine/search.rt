@@ -3,14 +3,14 @@
 ghost use Rattle.std.specs.Prelude.{◌≡◌, ◌<◌, ◌≤◌, Some, IsTrue, length};
 ghost use Rattle.protocol.specs.declared.event.Event.TheVariants.{Seek, LoadLink, LoadRecord};
 ghost use Rattle.protocol.specs.declared.event.RecordOf.TheVariants.{Search as OfSearch};
-ghost use Rattle.protocol.specs.Events.{may_seek, are_words_of, going_on, search_over, link_loaded};
+ghost use Rattle.protocol.specs.Events.{may_seek, going_on, search_over, link_loaded};
 ghost use Rattle.protocol.specs.Invariant.{Holds};
 ghost use Rattle.protocol.specs.Loaded.{SlotWithin, loaded, row_of_place, entry_with};
 ghost use Rattle.protocol.specs.Taken.{Keeps, Steps};
 
 use crate::machine::{Core, NO_WORDS};
 use protocol::{Loaded, Place, RecordWords, Reply, Search, StepFault};
-use registry_values::{Entry, Key, Kind, Name, Record, kind_word};
+use registry_values::{Entry, Key, Kind, Name, Record, are_words_of};
 
 impl Core {
     fn may_seek(&self, c: u8) -> bool
@@ -148,14 +148,6 @@ fn loaded(search: &Search, row: &RecordWords) -> Option<Loaded>
         }
         Place::AtValue(t, n) => Some(Loaded::Over(entry_found(search.key, t, n, row.value))),
     }
-}
-
-/// Whether these are the words of the kind and the name that are sought.
-fn are_words_of(key: Key, k: u64, h: u64, l: u64) -> bool
-    ensures { result ≡ are_words_of key k h l }
-{
-    let (high, low) = key.name.words();
-    k == kind_word(key.kind) && h == high && l == low
 }
 
 fn entry_found(key: Key, slot: u8, number: u64, value: u64) -> Entry

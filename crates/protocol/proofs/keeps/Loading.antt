@@ -1,12 +1,13 @@
 -- What the loads of a search do to the state, by what they make of the words.
 use Rattle.std.proofs.Common.{◌≡◌, ℕ, zero, suc, ◌<◌, ◌≤◌, length, get_or, Option, Some, Bool, true, false, refl, subst, arith}
+use Rattle.registry_values.specs.Slots.{are_words_of}
 use Rattle.protocol.specs.declared.state.Place.{Place}
 use Rattle.protocol.specs.declared.state.Place.TheVariants.{AtHead, AtNext, AtNumber, AtKind, AtHigh, AtLow, AtValue}
 use Rattle.protocol.specs.declared.state.Search.{Search}
 use Rattle.protocol.specs.declared.state.Loaded.{Loaded}
 use Rattle.registry_values.specs.declared.slot.Key.{Key}
 use Rattle.protocol.specs.State.{State, search_at, row_at}
-use Rattle.protocol.specs.Events.{load_link, load_searched, link_loaded, compared, are_words_of}
+use Rattle.protocol.specs.Events.{load_link, load_searched, link_loaded, compared}
 use Rattle.protocol.specs.Invariant.{Holds, PlaceHolds}
 use Rattle.protocol.specs.Loaded.{loaded, judged, row_of_place, outcome_of}
 use Rattle.protocol.specs.Taken.{Keeps}

@@ -1,6 +1,7 @@
 -- Seek and the loads of a search keep the invariant, and their answers are lawful.
 use Rattle.std.proofs.Common.{◌≡◌, ℕ, zero, suc, ◌<◌, List, length, get_or, set, Option, Some, None, Bool, true, false, refl, sym, subst, arith, get_or-set_same, length-set}
 use Rattle.std.proofs.lemmas.Bool.{and_parts}
+use Rattle.registry_values.specs.Slots.{are_words_of}
 use Rattle.registry_values.specs.declared.entry.Entry.{Entry}
 use Rattle.protocol.specs.declared.event.Reply.{Reply}
 use Rattle.protocol.specs.declared.event.Reply.TheVariants.{Done, Word, Found, Missed, Ref, Collected}
@@ -11,7 +12,7 @@ use Rattle.protocol.specs.declared.state.Search.{Search}
 use Rattle.registry_values.specs.declared.entry.Change.{Change}
 use Rattle.protocol.specs.History.{MayHold, IsLawful}
 use Rattle.protocol.specs.State.{State, begin_at, seen_at, search_at, row_at}
-use Rattle.protocol.specs.Events.{Outcome, is_idle, is_inside, may_seek, after_seek, after_seeing, going_on, search_over, link_loaded, load_link, load_searched, compared, are_words_of, entry_found}
+use Rattle.protocol.specs.Events.{Outcome, is_idle, is_inside, may_seek, after_seek, after_seeing, going_on, search_over, link_loaded, load_link, load_searched, compared, entry_found}
 use Rattle.protocol.specs.Invariant.{StandsOn, PlaceHolds, SearchHolds, Holds}
 use Rattle.protocol.proofs.keeps.Sections.{seats_search, seated_search}
 use Rattle.protocol.specs.Taken.{Keeps}

@@ -16,10 +16,10 @@ use Rattle.registry_values.specs.declared.slot.Slot.TheVariants.{Live, Retired}
 use Rattle.protocol.specs.declared.state.Place.{Place}
 use Rattle.protocol.specs.declared.state.Place.TheVariants.{AtHead, AtNext, AtNumber, AtKind, AtHigh, AtLow, AtValue}
 use Rattle.protocol.specs.declared.state.Search.{Search}
-use Rattle.registry_values.specs.Slots.{key_of, slot_at, kind_word}
+use Rattle.registry_values.specs.Slots.{are_words_of, key_of, slot_at, kind_word}
 use Rattle.protocol.specs.History.{EndsAt, MayHold, IsLookup, IsLawful}
 use Rattle.protocol.specs.State.{State, row_at, seen_at, search_at, begin_at}
-use Rattle.protocol.specs.Events.{Outcome, after_seeing, after_seek, going_on, link_loaded, load_link, load_searched, compared, are_words_of, entry_found, words_of}
+use Rattle.protocol.specs.Events.{Outcome, after_seeing, after_seek, going_on, link_loaded, load_link, load_searched, compared, entry_found, words_of}
 use Rattle.protocol.specs.Loaded.{SlotWithin}
 use Rattle.protocol.specs.Invariant.{IsIn, SearchHolds, SearchesHold, FoundHold, StandsOn, AllBelow, PlaceHolds, Holds}
 use Rattle.protocol.proofs.history.History.{at_within, one_entry}

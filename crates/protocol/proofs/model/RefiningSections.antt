@@ -1,6 +1,7 @@
 -- Seats, sections, notes and lookups make steps of the model.
 use Rattle.std.proofs.Common.{◌≡◌, ℕ, zero, suc, ◌*◌, ◌<◌, length, get_or, Option, Some, None, Bool, true, false, ◌&&◌, nat_eq, nat_lt, refl, ap, subst, arith}
 use Rattle.std.proofs.lemmas.Bool.{and_parts}
+use Rattle.registry_values.specs.Slots.{are_words_of}
 use Rattle.registry_values.specs.declared.entry.Entry.{Entry}
 use Rattle.registry_values.specs.declared.slot.Key.{Key}
 use Rattle.protocol.specs.declared.state.RecordWords.{RecordWords}
@@ -9,7 +10,7 @@ use Rattle.protocol.specs.declared.state.Place.TheVariants.{AtHead, AtNext, AtNu
 use Rattle.protocol.specs.declared.state.Search.{Search}
 use Rattle.protocol.specs.History.{IsLawful}
 use Rattle.protocol.specs.State.{State, section_at, begin_at, depth_at, seen_at, search_at, row_at}
-use Rattle.protocol.specs.Events.{is_idle, is_outside, is_inside, after_seat, may_enter, after_enter, may_exit, after_exit, after_seeing, may_seek, after_seek, going_on, search_over, link_loaded, load_link, load_searched, compared, are_words_of, entry_found}
+use Rattle.protocol.specs.Events.{is_idle, is_outside, is_inside, after_seat, may_enter, after_enter, may_exit, after_exit, after_seeing, may_seek, after_seek, going_on, search_over, link_loaded, load_link, load_searched, compared, entry_found}
 use Rattle.protocol.specs.Invariant.{Holds}
 use Rattle.protocol.specs.Model.{Model, IsModelStep, IsModelRun, Stays, Goes_on}
 use Rattle.protocol.specs.Model

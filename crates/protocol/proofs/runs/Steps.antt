@@ -22,9 +22,9 @@ use Rattle.protocol.specs.declared.state.Place.TheVariants.{AtHead, AtNext, AtNu
 use Rattle.protocol.specs.declared.state.Search.{Search}
 use Rattle.protocol.specs.History.{after_change}
 use Rattle.protocol.specs.State.{State, search_at, found_at, hand_at, row_at, count_at, kept_at, local_at}
-use Rattle.registry_values.specs.Slots.{slot_at, slot_of, slot_before}
+use Rattle.registry_values.specs.Slots.{are_words_of, slot_at, slot_of, slot_before}
 use Rattle.protocol.specs.Events
-use Rattle.protocol.specs.Events.{Outcome, guard, taken, with_some, step, state_after, is_idle, may_enter, after_enter, may_exit, after_exit, may_seek, after_seek, after_seeing, load_link, load_searched, link_loaded, compared, are_words_of, entry_of, may_publish, after_publish, unlinking, retiring, after_unpublish, may_keep, after_keep, is_drained, after_kept_sub, may_vacate, after_vacate}
+use Rattle.protocol.specs.Events.{Outcome, guard, taken, with_some, step, state_after, is_idle, may_enter, after_enter, may_exit, after_exit, may_seek, after_seek, after_seeing, load_link, load_searched, link_loaded, compared, entry_of, may_publish, after_publish, unlinking, retiring, after_unpublish, may_keep, after_keep, is_drained, after_kept_sub, may_vacate, after_vacate}
 use Rattle.protocol.specs.Invariant.{Holds}
 use Rattle.protocol.specs.Ran.{Ran, ran, rested, turned}
 use Rattle.protocol.specs.Laws.{after, after_event, answer_of, IsLoadOf}

@@ -33,7 +33,8 @@ use Rattle.protocol.proofs.history.History.{at_within}
 use Rattle.protocol.proofs.slots.Occupied.{is_vacant_tells, in_other, in_unpublished, in_within, in_written, live_one}
 use Rattle.protocol.proofs.model.Picturing.{unwritten}
 use Rattle.protocol.proofs.model.RefiningEntries.{passive_moved}
-use Rattle.registry_report.specs.Answers.{attach_answer, attach_iface_answer, detach_answer, found_or, hitched, lookup_now, plug_answer, with_label}
+use Rattle.registry_values.specs.Answers.{found_or}
+use Rattle.registry_report.specs.Answers.{attach_answer, attach_iface_answer, detach_answer, hitched, lookup_now, plug_answer, with_label}
 use Rattle.registry_report.specs.declared.hitch.Hitch.{Hitch}
 use Rattle.registry_report.specs.declared.hitch.Hitch.TheVariants.{Refused}
 use Rattle.registry_report.specs.Given.{Gives, Leaves}

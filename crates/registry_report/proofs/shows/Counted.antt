@@ -27,7 +27,8 @@ use Rattle.passive_core.proofs.Passives.{found_slot}
 use Rattle.protocol.proofs.model.Picturing.{put_here, put_is, put_other}
 use Rattle.protocol.proofs.keeps.References.{least_free, least_within, standing_tells, with_local_other, with_local_same}
 use Rattle.protocol.proofs.counts.Sums.{local_added, local_changed, none_at, one_at, standing_within}
-use Rattle.registry_report.specs.Answers.{counted, may_count, uncount_answer, unless, with_label}
+use Rattle.registry_values.specs.Answers as answers
+use Rattle.registry_report.specs.Answers.{counted, uncount_answer, unless, why_uncounted, with_label}
 use Rattle.registry_report.specs.Registry.{Registry}
 use Rattle.registry_report.specs.Session.{IsSession, SessionState}
 use Rattle.registry_report.specs.Shows.{Shows, ShowsTallies, number_at}
@@ -162,26 +163,21 @@ abbrev pub found_number : Option Entry → Result ℕ Refusal
 found_number None = Err NothingFound
 found_number (Some e) = Ok e.number
 
-may_count_is : (s : SessionState) (r : Registry) (c n t : ℕ) → Holds s.core → Shows s r → c < s.core.settings.cpus → slot_of s.core.slots n ≡ Some t
-    → nat_lt (count_in s.core.nets c (slot_of s.core.slots n)) (bias + s.core.settings.count_limit) ≡ may_count r c n
-may_count_is s r c n t holds on low of =
+uncounted_is : (s : SessionState) (r : Registry) (c n t : ℕ) → Holds s.core → Shows s r → c < s.core.settings.cpus → slot_of s.core.slots n ≡ Some t
+    → answers.why_uncounted (count_in s.core.nets c (slot_of s.core.slots n)) (bias + s.core.settings.count_limit) ≡ why_uncounted r c n
+uncounted_is s r c n t holds on low of =
     let net = net_is s.core c n t r.acquired r.released r.given_up r.drained low (has_words s.core c n t holds low of) on.tallies in
     let limit : r.settings.count_limit ≡ s.core.settings.count_limit = ap (λ (z : _). z.count_limit) on.settings in
-    ap (λ (o : Option ℕ). nat_lt (count_in s.core.nets c o) (bias + s.core.settings.count_limit)) of
-    ∙ same_test (count_at s.core.nets c t) (bias + s.core.settings.count_limit) (r.acquired c n) (r.released c n + r.settings.count_limit)
-    (λ lt. omega (arith, net, limit, lt)) (λ ge. omega (arith, net, limit, ge))
-
-unless_if : (b : Bool) (n : ℕ) → (if b then Ok n else Err LocalFull) ≡ unless (if b then None else Some LocalFull) (Ok n)
-unless_if true n = refl
-unless_if false n = refl
+    ap (λ (o : Option ℕ). answers.why_uncounted (count_in s.core.nets c o) (bias + s.core.settings.count_limit)) of
+    ∙ ap (λ (b : Bool). if b then None else Some LocalFull) (same_test (count_at s.core.nets c t) (bias + s.core.settings.count_limit) (r.acquired c n) (r.released c n + r.settings.count_limit)
+    (λ lt. omega (arith, net, limit, lt)) (λ ge. omega (arith, net, limit, ge)))
 
 counted_by : (s : SessionState) (r : Registry) (c : ℕ) (o : Option Entry) → Holds s.core → Shows s r → c < s.core.settings.cpus → found_at s.core c ≡ o
     → counted r c o ≡ unless (count_refusal s.core c o) (found_number o)
 counted_by s r c None holds on low found = refl
 counted_by s r c (Some e) holds on low found =
     let at = found_slot s.core c e holds found in
-    ap (λ (b : Bool). if b then Ok e.number else Err LocalFull) (sym (may_count_is s r c e.number at.0 holds on low at.1))
-    ∙ unless_if (nat_lt (count_in s.core.nets c (slot_of s.core.slots e.number)) (bias + s.core.settings.count_limit)) e.number
+    ap (λ (o : Option Refusal). unless o (Ok e.number)) (sym (uncounted_is s r c e.number at.0 holds on low at.1))
 
 pub counted_is : (s : SessionState) (r : Registry) (c : ℕ) → Holds s.core → Shows s r → c < s.core.settings.cpus
     → counted r c (r.model.found c) ≡ unless (count_refusal s.core c (found_at s.core c)) (found_number (found_at s.core c))

@@ -24,7 +24,8 @@ use Rattle.protocol.proofs.model.Picturing.{put_here}
 use Rattle.protocol.proofs.keeps.Publishing.{legal_attach, live_cases}
 use Rattle.protocol.proofs.keeps.SectionKeeps.{none_from}
 use Rattle.protocol.proofs.keeps.Unlinking.{attached_before, legal_detach, was_there}
-use Rattle.registry_report.specs.Answers.{attach_answer, attach_iface_answer, detach_answer, found_or, given_entry, hitched, is_inside, is_plain, lookup_now, plain_slot, room_of, plug_answer, with_label}
+use Rattle.registry_values.specs.Answers.{found_or}
+use Rattle.registry_report.specs.Answers.{attach_answer, attach_iface_answer, detach_answer, given_entry, hitched, is_inside, is_plain, lookup_now, plain_slot, room_of, plug_answer, with_label}
 use Rattle.registry_report.specs.Changes.{entry_of, is_driver_entry, is_driver_number}
 use Rattle.registry_report.specs.Registry.{Registry}
 use Rattle.registry_report.specs.Sound.{HasSlot, IsSound, IsSoundModel, IsLawfulTurn}

@@ -12,7 +12,7 @@ use Rattle.registry_report.specs.declared.hitch.Hitch.{Hitch}
 use Rattle.registry_report.specs.declared.hitch.Hitch.TheVariants.{LabelTaken, NoLabel}
 use Rattle.registry_report.specs.Answers as answers
 use Rattle.registry_values.specs.Answers.{why_full}
-use Rattle.registry_report.specs.Answers.{acquire_answer, copy_answer, count_answer, hitched, if_free, may_count, misuse, one_more, reference_answer, release_answer, uncount_answer, unless, with_label}
+use Rattle.registry_report.specs.Answers.{acquire_answer, copy_answer, count_answer, hitched, if_free, misuse, one_more, reference_answer, release_answer, uncount_answer, unless, why_uncounted, with_label}
 use Rattle.registry_report.specs.Registry.{Registry}
 use Rattle.registry_report.specs.Sound.{HasSlot, IsSound, IsSoundModel, IsLawfulTurn}
 use Rattle.registry_report.specs.Turns.{counting, on_ok, referred, released, uncounted}
@@ -127,7 +127,7 @@ count_keeps z m labels x n on free has = record {
 
 counted_tells : (r : Registry) (c : ℕ) (o : Option Entry) (n : ℕ) → answers.counted r c o ≡ Ok n → (e : Entry) × (o ≡ Some e) × (e.number ≡ n)
 counted_tells r c None n is = absurd (not_ok NothingFound n is)
-counted_tells r c (Some e) n is = (e, refl, same_ok {E = Refusal} e.number n (then_ok (may_count r c e.number) LocalFull (Ok e.number) n is).1)
+counted_tells r c (Some e) n is = (e, refl, same_ok {E = Refusal} e.number n (unless_ok (why_uncounted r c e.number) (Ok e.number) n is).1)
 
 pub count_lawful : (r : Registry) (c x n : ℕ) → IsSound r → count_answer r c x ≡ Ok n → IsLawfulTurn r (counting r c x n)
 count_lawful r c x n on is =

@@ -1,13 +1,14 @@
 -- A CPU's data agree with its view over an acquire, and so do the reference's.
-use Rattle.std.proofs.Common.{◌≡◌, ◌+◌, ◌<◌, ◌≤◌, refl, ap, ◌∙◌, subst, sym, arith, Some, None}
+use Rattle.std.proofs.Common.{◌≡◌, ◌+◌, ◌<◌, ◌≤◌, refl, ap, ◌∙◌, subst, sym, arith, Some, None, Err}
 use Rattle.registry_values.specs.declared.settings.Settings.{Settings}
 use Rattle.registry_values.specs.declared.entry.Entry.{Entry}
+use Rattle.registry_values.specs.declared.refusal.Refusal.{Refusal}
 use Rattle.registry_values.specs.Balances.{bias}
 use Rattle.passive_list.specs.Cpus.{OnCpu}
 use Rattle.passive_list.proofs.Agreeing.{found_as, found_none}
 use Rattle.cpu_words.specs.declared.view.CpuView.{CpuView}
 use Rattle.local_count.specs.References.{IsFull}
-use Rattle.local_count.proofs.Acquiring.{may_count, full_of, acquired_reference, acquired_agrees}
+use Rattle.local_count.proofs.Acquiring.{may_count, full_of, full_tells, room_tells, acquired_reference, acquired_agrees}
 use Rattle.local_count.proofs.acquire.acquire_local.Goals as goal
 
 pub returns-then-found-eq0-clause-nothing : goal.returns-then-found-eq0-clause-nothing
@@ -23,14 +24,15 @@ returns-then-found-eq0-clause-full g c =
 pub bounds-cpu-inside-found : goal.bounds-cpu-inside-found
 bounds-cpu-inside-found g c = (found_as _ _ c.cpu.invariant.found c.if-found-eq0.false).few
 
-pub returns-then-count-settings-clause-full : goal.returns-then-count-settings-clause-full
-returns-then-count-settings-clause-full g c =
+pub returns-in-Some-clause-full : goal.returns-in-Some-clause-full
+returns-in-Some-clause-full g c =
     let limit : c.settings.result.count_limit ≡ g.D.Domain.settings.count_limit = ap (λ (z : Settings). z.count_limit) (c.settings.ensures ∙ c.requires.words.1) in
-    let above : bias + g.D.Domain.settings.count_limit ≤ c.net_count-count.result = omega (arith, c.if-count-settings.true) in
+    let why = full_tells c.net_count-count.result (bias + c.settings.result.count_limit) c.in-Some.refusal c.in-Some.ensures.value in
+    let above : bias + g.D.Domain.settings.count_limit ≤ c.net_count-count.result = omega (arith, why.1, limit) in
     let view : c.cpu.inside.seat.view ≡ c.args.cpu.now.view = ap (λ (o : OnCpu). o.view) c.cpu.view_is in
     let kept = found_as _ _ c.cpu.invariant.found c.if-found-eq0.false in
     let full = full_of _ _ _ _ _ _ _ _ _ _ _ kept c.cpu.invariant c.net_count-count.ensures above in
-    (λ _. subst (λ (x : CpuView). (e : Entry) × (x.found ≡ Some e) × IsFull x e) view (kept.entry, kept.found, full), λ _. refl)
+    (λ _. subst (λ (x : CpuView). (e : Entry) × (x.found ≡ Some e) × IsFull x e) view (kept.entry, kept.found, full), λ _. ap (λ (f : Refusal). Err f) why.0)
 
 pub count_add-word-requires-clause-place : goal.count_add-word-requires-clause-place
 count_add-word-requires-clause-place g c = (c.cpu.invariant.few, (found_as _ _ c.cpu.invariant.found c.if-found-eq0.false).few)
@@ -38,7 +40,8 @@ count_add-word-requires-clause-place g c = (c.cpu.invariant.few, (found_as _ _ c
 pub count_add-word-requires-clause-may : goal.count_add-word-requires-clause-may
 count_add-word-requires-clause-may g c =
     let limit : c.settings.result.count_limit ≡ g.D.Domain.settings.count_limit = ap (λ (z : Settings). z.count_limit) (c.settings.ensures ∙ c.requires.words.1) in
-    let room : c.net_count-count.result < bias + g.D.Domain.settings.count_limit = omega (arith, c.if-count-settings.false) in
+    let below = room_tells c.net_count-count.result (bias + c.settings.result.count_limit) c.why_uncounted.result c.in_default.not-Some c.why_uncounted.ensures.room in
+    let room : c.net_count-count.result < bias + g.D.Domain.settings.count_limit = omega (arith, below, limit) in
     may_count _ _ _ _ _ _ _ _ _ _ _ c.cpu.invariant (found_as _ _ c.cpu.invariant.found c.if-found-eq0.false) c.net_count-count.ensures room
 
 pub bounds-cpu-inside-found-2 : goal.bounds-cpu-inside-found-2

@@ -15,7 +15,7 @@ ghost use Rattle.protocol.specs.State.{at_rest, count_at, mark_at};
 
 use crate::machine::Core;
 use protocol::Event;
-use registry_values::{BIAS, Refusal, Slot, Stage, is_retired_as};
+use registry_values::{BIAS, Refusal, Slot, Stage, is_retired_as, settled};
 
 impl Core {
     /// One turn of the work on the retired entry `number`, up to the first obstacle, which is the answer (the least CPU
@@ -199,12 +199,13 @@ impl Core {
         ensures emptied { (c : ℕ) → count_at self.old.counts c t ≡ 0 }
     {
         let _ = &self.settings;
-        let total = self.total_at(t);
-        if total != BIAS {
-            return Stage::Local(total - BIAS);
+        let held = self.total_at(t) - BIAS;
+        let stage = settled(held, t);
+        if held != 0 {
+            return stage;
         }
         self.free(t);
-        Stage::Freed(t)
+        stage
     }
 
     /// Makes the slot vacant; where it keeps a reference to a driver, the reference is given up.

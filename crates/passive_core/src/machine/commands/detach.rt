@@ -12,7 +12,7 @@ ghost use Rattle.registry_values.specs.declared.slot.Slot.TheVariants.{Live};
 
 use crate::machine::{Core, make_room};
 use protocol::Event;
-use registry_values::{Entry, Key, Kind, Name, Refusal, Slot};
+use registry_values::{Entry, Key, Kind, Name, Refusal, Slot, detach_answer};
 
 impl Core {
     /// Unlinks the live entry with the kind and the name, on CPU `c` (from 0), and answers it. It is retired then, with
@@ -32,13 +32,8 @@ impl Core {
         ensures ready { (d : ℕ) → may_act self.old d ≡ true → may_act self.new d ≡ true }
     {
         let _ = &self.due;
-        if self.inside(c) {
-            return Err(Refusal::Inside);
-        }
-        let name = *name;
-        let Some(entry) = self.live_entry(Key { kind, name }) else {
-            return Err(Refusal::NotFound);
-        };
+        let key = Key { kind, name: *name };
+        let entry = detach_answer(self.inside(c), self.live_entry(key))?;
         self.retire(c, entry)?;
         self.take_snapshots(entry.slot);
         self.make(Event::Tell(None));

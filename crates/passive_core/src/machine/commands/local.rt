@@ -1,17 +1,18 @@
 //! Local references (localcount(9)): acquired in a section, and released on any CPU.
 
-ghost use Rattle.std.specs.Prelude.{◌≡◌, ℕ, ◌+◌, ◌<◌, nat_lt, IsTrue, Some, false, true};
+ghost use Rattle.std.specs.Prelude.{◌≡◌, ℕ, ◌+◌, ◌<◌, nat_lt, IsTrue, Some, None, false, true};
 ghost use Rattle.passive_core.specs.Commands.{all_seated, may_act};
 ghost use Rattle.protocol.specs.Events.{is_idle, standing};
 ghost use Rattle.passive_core.specs.Locals.{IsCounted, after_acquire_local, after_release_local, count_in, count_refusal, is_counting, is_live_local, local_slot, with_count_less, with_total_less};
 ghost use Rattle.passive_core.specs.Passives.{IsRecordOf};
 ghost use Rattle.protocol.specs.State.{at_rest, found_at, local_at};
+ghost use Rattle.registry_values.specs.Answers.{why_uncounted};
 ghost use Rattle.registry_values.specs.Slots.{slot_of};
 ghost use Rattle.registry_values.specs.Balances.{bias};
 
 use crate::machine::Core;
 use protocol::{Event, RecordOf, Reply};
-use registry_values::{BIAS, Record, Refusal, record_from};
+use registry_values::{BIAS, Record, Refusal, record_from, why_uncounted};
 
 impl Core {
     /// Acquires a local reference to the CPU's last found entry (localcount(9)), and answers its id: the least, from 0, that
@@ -33,8 +34,8 @@ impl Core {
         let Some(found) = self.found_at(c) else {
             return Err(Refusal::NothingFound);
         };
-        if !self.has_count_room(c, found.number) {
-            return Err(Refusal::LocalFull);
+        if let Some(refusal) = self.why_uncounted(c, found.number) {
+            return Err(refusal);
         }
         let Ok(()) = self.make_place() else {
             return Err(Refusal::NoMemory);
@@ -92,15 +93,24 @@ impl Core {
         }
     }
 
-    /// Whether the CPU's own net count for the entry may be one more.
-    fn has_count_room(&self, c: u8, number: u64) -> bool
+    /// Why the CPU may not have one local reference more to that number by its own net count.
+    fn why_uncounted(&self, c: u8, number: u64) -> Option<Refusal>
         requires { c < self.now.settings.cpus }
-        ensures { result ≡ nat_lt (count_in self.now.nets c (slot_of self.now.slots number)) (bias + self.now.settings.count_limit) }
+        ensures value { result ≡ why_uncounted (count_in self.now.nets c (slot_of self.now.slots number)) (bias + self.now.settings.count_limit) }
+        ensures room { result ≡ None → nat_lt (count_in self.now.nets c (slot_of self.now.slots number)) (bias + self.now.settings.count_limit) ≡ true }
     {
-        let _ = &self.settings;
+        let most = BIAS + self.settings.count_limit;
+        why_uncounted(self.net_of(c, number), most)
+    }
+
+    /// The CPU's own net count word for that number.
+    fn net_of(&self, c: u8, number: u64) -> u64
+        requires { c < self.now.settings.cpus }
+        ensures { result ≡ count_in self.now.nets c (slot_of self.now.slots number) }
+    {
         match self.slot_of(number) {
-            Some(t) => self.net_at(c, t) < BIAS + self.settings.count_limit,
-            None => true,
+            Some(t) => self.net_at(c, t),
+            None => 0,
         }
     }
 

@@ -4,7 +4,7 @@ use Rattle.registry_values.specs.declared.entry.Kind.TheVariants.{Driver}
 use Rattle.registry_values.specs.declared.slot.Key.{Key}
 use Rattle.registry_values.specs.Slots.{is_taken}
 use Rattle.passive_list.specs.Keepers.{OnKeeper}
-use Rattle.registry_bench.proofs.Seats.{taken_in_rows}
+use Rattle.passive_list.proofs.Rows.{taken_in_rows}
 use Rattle.registry_bench.proofs.opening.publish_in.Goals as goal
 
 pub slot-requires : goal.slot-requires

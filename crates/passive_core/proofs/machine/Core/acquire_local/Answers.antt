@@ -5,7 +5,7 @@ use Rattle.passive_core.specs.Commands.{all_seated, may_act}
 use Rattle.protocol.specs.Invariant.{Holds}
 use Rattle.passive_core.specs.Locals.{after_counting, count_refusal, with_count_more}
 use Rattle.registry_values.specs.declared.refusal.Refusal.TheVariants.{LocalFull}
-use Rattle.passive_core.proofs.Locals.{acquires, count_allowed, more_count_ready}
+use Rattle.passive_core.proofs.Locals.{acquires, count_allowed, more_count_ready, none_from}
 use Rattle.passive_core.proofs.machine.Core.acquire_local.Goals as goal
 
 pub make-requires-clause-allowed : goal.make-requires-clause-allowed
@@ -14,7 +14,7 @@ make-requires-clause-allowed c =
     let on = subst Holds c.self.view_is c.self.invariant in
     let made = c.in-Ok.ensures.ok in
     let idle = c.begin.ensures.idle c.args.c (subst (λ (x : State). c.args.c < x.settings.cpus) (sym made) c.requires.known) (subst (λ (x : State). may_act x c.args.c ≡ true) (sym made) c.requires.ready) in
-    count_allowed s c.begin.new.self c.args.c c.in-Some.found on (sym c.in-Some.ensures.value) (c.begin.ensures.seated ∙ ap all_seated made) idle (sym c.has_count_room.ensures ∙ c.if-not-has_count_room.false)
+    count_allowed s c.begin.new.self c.args.c c.in-Some.found on (sym c.in-Some.ensures.value) (c.begin.ensures.seated ∙ ap all_seated made) idle (c.why_uncounted.ensures.room (none_from c.why_uncounted.result c.in_default-why_uncounted.not-Some))
 
 pub returns-clause-answer : goal.returns-clause-answer
 returns-clause-answer c =
@@ -23,7 +23,7 @@ returns-clause-answer c =
     let made = c.in-Ok.ensures.ok in
     let idle = c.begin.ensures.idle c.args.c (subst (λ (x : State). c.args.c < x.settings.cpus) (sym made) c.requires.known) (subst (λ (x : State). may_act x c.args.c ≡ true) (sym made) c.requires.ready) in
     let found = sym c.in-Some.ensures.value in
-    let room = sym c.has_count_room.ensures ∙ c.if-not-has_count_room.false in
+    let room = c.why_uncounted.ensures.room (none_from c.why_uncounted.result c.in_default-why_uncounted.not-Some) in
     let all = acquires s c.begin.new.self c.make.new.self c.split_in_place.new.self c.args.c c.split_in_place.result c.in-Some.found _ on found c.requires.known (c.begin.ensures.seated ∙ ap all_seated made) idle room c.make.ensures c.split_in_place.ensures in
     (ap (count_refusal s c.args.c) found ∙ ap (λ (b : Bool). if b then None else Some LocalFull) room, all.1.least)
 
@@ -34,7 +34,7 @@ returns-clause-after c =
     let made = c.in-Ok.ensures.ok in
     let idle = c.begin.ensures.idle c.args.c (subst (λ (x : State). c.args.c < x.settings.cpus) (sym made) c.requires.known) (subst (λ (x : State). may_act x c.args.c ≡ true) (sym made) c.requires.ready) in
     let found = sym c.in-Some.ensures.value in
-    let room = sym c.has_count_room.ensures ∙ c.if-not-has_count_room.false in
+    let room = c.why_uncounted.ensures.room (none_from c.why_uncounted.result c.in_default-why_uncounted.not-Some) in
     let all = acquires s c.begin.new.self c.make.new.self c.split_in_place.new.self c.args.c c.split_in_place.result c.in-Some.found _ on found c.requires.known (c.begin.ensures.seated ∙ ap all_seated made) idle room c.make.ensures c.split_in_place.ensures in
     all.1.state ∙ (ap (with_count_more s c.args.c c.in-Some.found.number) (sym all.1.slot) ∙ ap (after_counting s c.args.c) (sym found))
 
@@ -44,7 +44,7 @@ returns-clause-settings c =
     let on = subst Holds c.self.view_is c.self.invariant in
     let made = c.in-Ok.ensures.ok in
     let idle = c.begin.ensures.idle c.args.c (subst (λ (x : State). c.args.c < x.settings.cpus) (sym made) c.requires.known) (subst (λ (x : State). may_act x c.args.c ≡ true) (sym made) c.requires.ready) in
-    let room = sym c.has_count_room.ensures ∙ c.if-not-has_count_room.false in
+    let room = c.why_uncounted.ensures.room (none_from c.why_uncounted.result c.in_default-why_uncounted.not-Some) in
     let all = acquires s c.begin.new.self c.make.new.self c.split_in_place.new.self c.args.c c.split_in_place.result c.in-Some.found _ on (sym c.in-Some.ensures.value) c.requires.known (c.begin.ensures.seated ∙ ap all_seated made) idle room c.make.ensures c.split_in_place.ensures in
     ap (λ (x : State). x.settings) all.1.state
 
@@ -54,7 +54,7 @@ returns-clause-rest c =
     let on = subst Holds c.self.view_is c.self.invariant in
     let made = c.in-Ok.ensures.ok in
     let idle = c.begin.ensures.idle c.args.c (subst (λ (x : State). c.args.c < x.settings.cpus) (sym made) c.requires.known) (subst (λ (x : State). may_act x c.args.c ≡ true) (sym made) c.requires.ready) in
-    let room = sym c.has_count_room.ensures ∙ c.if-not-has_count_room.false in
+    let room = c.why_uncounted.ensures.room (none_from c.why_uncounted.result c.in_default-why_uncounted.not-Some) in
     let all = acquires s c.begin.new.self c.make.new.self c.split_in_place.new.self c.args.c c.split_in_place.result c.in-Some.found _ on (sym c.in-Some.ensures.value) c.requires.known (c.begin.ensures.seated ∙ ap all_seated made) idle room c.make.ensures c.split_in_place.ensures in
     ap (λ (x : State). at_rest x.due) all.1.state ∙ c.requires.rest
 
@@ -64,6 +64,6 @@ returns-clause-ready c = λ d may.
     let on = subst Holds c.self.view_is c.self.invariant in
     let made = c.in-Ok.ensures.ok in
     let idle = c.begin.ensures.idle c.args.c (subst (λ (x : State). c.args.c < x.settings.cpus) (sym made) c.requires.known) (subst (λ (x : State). may_act x c.args.c ≡ true) (sym made) c.requires.ready) in
-    let room = sym c.has_count_room.ensures ∙ c.if-not-has_count_room.false in
+    let room = c.why_uncounted.ensures.room (none_from c.why_uncounted.result c.in_default-why_uncounted.not-Some) in
     let all = acquires s c.begin.new.self c.make.new.self c.split_in_place.new.self c.args.c c.split_in_place.result c.in-Some.found _ on (sym c.in-Some.ensures.value) c.requires.known (c.begin.ensures.seated ∙ ap all_seated made) idle room c.make.ensures c.split_in_place.ensures in
     subst (λ (x : State). may_act x d ≡ true) (sym all.1.state) (more_count_ready s c.args.c c.in-Some.found.number (Some all.0) on d may)

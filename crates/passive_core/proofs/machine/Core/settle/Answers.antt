@@ -1,41 +1,47 @@
-use Rattle.std.proofs.Common.{◌≡◌, ℕ, ◌+◌, ◌-◌, refl, sym, ap, subst, ◌∙◌, arith}
+use Rattle.std.proofs.Common.{◌≡◌, ℕ, ◌+◌, ◌-◌, None, sym, ap, subst, ◌∙◌, arith}
 use Rattle.protocol.specs.Invariant.{Holds, held_at}
 use Rattle.registry_values.specs.Balances.{bias}
 use Rattle.registry_values.specs.Slots.{slot_at}
+use Rattle.registry_values.specs.Stages.{stage_of}
 use Rattle.protocol.specs.State.{total_at}
-use Rattle.passive_core.proofs.Advancing.{drained_from, gathered_total, gathered_words, local_stage, free_stage}
+use Rattle.passive_core.specs.Advancing.{Settles}
+use Rattle.passive_core.proofs.Advancing.{drained_from, gathered_total, gathered_words, settled_free, settled_held}
 use Rattle.protocol.proofs.slots.Occupied.{is_retired_tells}
 use Rattle.passive_core.proofs.machine.Core.settle.Goals as goal
 
-pub overflow_sub-result : goal.overflow_sub-result
-overflow_sub-result c =
+pub overflow_sub-held : goal.overflow_sub-held
+overflow_sub-held c =
     let s = c.args.self.now in
     let on : Holds s = subst Holds c.self.view_is c.self.invariant in
     let e = is_retired_tells (slot_at s.slots c.args.t) c.requires.retired in
-    omega (arith, gathered_total s c.args.t e.0 on c.requires.rest e.1 c.requires.collected, c.total_at-total.ensures)
+    omega (arith, gathered_total s c.args.t e.0 on c.requires.rest e.1 c.requires.collected, c.total_at-held.ensures)
 
-pub returns-then-total-ne-BIAS-clause-stage : goal.returns-then-total-ne-BIAS-clause-stage
-returns-then-total-ne-BIAS-clause-stage c = λ e is.
+pub returns-then-held-ne0-clause-stage : goal.returns-then-held-ne0-clause-stage
+returns-then-held-ne0-clause-stage c = λ e is.
     let s = c.args.self.now in
     let on : Holds s = subst Holds c.self.view_is c.self.invariant in
     let k : ℕ = held_at s.locals s.hands s.keeps s.due e.number c.args.t in
     let total : total_at s.totals c.args.t ≡ bias + k = gathered_total s c.args.t e on c.requires.rest is c.requires.collected in
-    local_stage c.args.t (c.total_at-total.result - bias) k (omega (arith, total, c.total_at-total.ensures)) (λ none. c.if-total-ne-BIAS.true (c.total_at-total.ensures ∙ (total ∙ ap (λ (x : ℕ). bias + x) none)))
+    c.settled-stage.ensures ∙ ap (stage_of c.args.t None None) (omega (arith, total, c.total_at-held.ensures))
 
-pub returns-then-total-ne-BIAS-clause-after : goal.returns-then-total-ne-BIAS-clause-after
-returns-then-total-ne-BIAS-clause-after c =
+pub returns-then-held-ne0-clause-after : goal.returns-then-held-ne0-clause-after
+returns-then-held-ne0-clause-after c =
     let s = c.args.self.now in
     let on : Holds s = subst Holds c.self.view_is c.self.invariant in
     let e = is_retired_tells (slot_at s.slots c.args.t) c.requires.retired in
-    (refl, omega (arith, gathered_total s c.args.t e.0 on c.requires.rest e.1 c.requires.collected, c.total_at-total.ensures))
+    let total = gathered_total s c.args.t e.0 on c.requires.rest e.1 c.requires.collected in
+    subst (Settles s s c.args.t) (sym c.settled-stage.ensures) (settled_held s c.args.t _ c.if-held-ne0.true (omega (arith, total, c.total_at-held.ensures)))
 
-pub returns-then-total-ne-BIAS-clause-emptied : goal.returns-then-total-ne-BIAS-clause-emptied
-returns-then-total-ne-BIAS-clause-emptied c =
-    gathered_words c.args.self.now c.args.t (subst Holds c.self.view_is c.self.invariant) c.requires.retired c.requires.collected
+pub returns-then-held-ne0-clause-emptied : goal.returns-then-held-ne0-clause-emptied
+returns-then-held-ne0-clause-emptied c = gathered_words c.args.self.now c.args.t (subst Holds c.self.view_is c.self.invariant) c.requires.retired c.requires.collected
 
 pub free-requires-clause-drained : goal.free-requires-clause-drained
 free-requires-clause-drained c =
-    drained_from c.args.self.now c.args.t c.requires.rest c.requires.retired c.requires.passed c.requires.clear c.requires.collected (sym c.total_at-total.ensures ∙ c.if-total-ne-BIAS.false)
+    let s = c.args.self.now in
+    let on : Holds s = subst Holds c.self.view_is c.self.invariant in
+    let e = is_retired_tells (slot_at s.slots c.args.t) c.requires.retired in
+    let total = gathered_total s c.args.t e.0 on c.requires.rest e.1 c.requires.collected in
+    drained_from s c.args.t c.requires.rest c.requires.retired c.requires.passed c.requires.clear c.requires.collected (omega (arith, total, c.total_at-held.ensures, c.if-held-ne0.false))
 
 pub returns-clause-stage : goal.returns-clause-stage
 returns-clause-stage c = λ e is.
@@ -43,8 +49,10 @@ returns-clause-stage c = λ e is.
     let on : Holds s = subst Holds c.self.view_is c.self.invariant in
     let k : ℕ = held_at s.locals s.hands s.keeps s.due e.number c.args.t in
     let total : total_at s.totals c.args.t ≡ bias + k = gathered_total s c.args.t e on c.requires.rest is c.requires.collected in
-    free_stage c.args.t k (omega (arith, total, c.total_at-total.ensures, c.if-total-ne-BIAS.false))
+    c.settled-stage.ensures ∙ ap (stage_of c.args.t None None) (omega (arith, total, c.total_at-held.ensures))
+
+pub returns-clause-after : goal.returns-clause-after
+returns-clause-after c = subst (Settles c.args.self.now c.free.new.self c.args.t) (sym c.settled-stage.ensures) (settled_free c.args.self.now c.free.new.self c.args.t _ c.if-held-ne0.false c.free.ensures)
 
 pub returns-clause-emptied : goal.returns-clause-emptied
-returns-clause-emptied c =
-    gathered_words c.args.self.now c.args.t (subst Holds c.self.view_is c.self.invariant) c.requires.retired c.requires.collected
+returns-clause-emptied c = gathered_words c.args.self.now c.args.t (subst Holds c.self.view_is c.self.invariant) c.requires.retired c.requires.collected

@@ -1,0 +1,94 @@
+#!/usr/bin/env python3
+"""Prints the contract of each public function: its head and its clauses, a block each, sorted.
+
+  tools/contracts.py [REVISION | . [CRATE..]]
+
+Without arguments, or with `.`, of the tree that it stands in; else of a git revision. CRATE.. are the crates to look at: all, if none
+is named. A block says the type and the name of the function, not its crate, file or module, so a function that moved prints the same:
+
+  diff <(tools/contracts.py REVISION) <(tools/contracts.py)
+
+shows each contract that is new, gone or otherwise worded since. What the words of a clause mean stands in specs/ and isn't compared.
+Functions of a public trait count as public; `pub(crate)` ones don't.
+"""
+import io
+import pathlib
+import re
+import subprocess
+import sys
+import tarfile
+
+ROOT = pathlib.Path(__file__).resolve().parent.parent
+OWNER = re.compile(r"(?:pub )?(impl|trait)\b(?:<[^{]*?>)?\s*(.*?)\s*(?:where\b.*)?(?:: .*)?\{$")
+FUNCTION = re.compile(r"( *)(pub )?(?:const |unsafe )*fn (\w+)")
+
+
+def sources(revision):
+    """Each source file of the revision: its path from the top, and its lines."""
+    if revision == ".":
+        for path in ROOT.glob("crates/*/src/**/*.rt"):
+            yield path.relative_to(ROOT).as_posix(), path.read_text().split("\n")
+        return
+    archive = subprocess.run(
+        ["git", "-C", ROOT, "archive", revision, "crates"], check=True, capture_output=True
+    ).stdout
+    with tarfile.open(fileobj=io.BytesIO(archive)) as tar:
+        for member in tar:
+            if re.match(r"crates/[^/]+/src/.*\.rt$", member.name):
+                yield member.name, tar.extractfile(member).read().decode().split("\n")
+
+
+def joined(lines):
+    """Lines as one: a list that stands on lines of its own reads as one that doesn't."""
+    text = re.sub(r"\s+", " ", " ".join(lines)).strip()
+    return re.sub(r",? ([)\]])", r"\1", re.sub(r"([(\[]) ", r"\1", text))
+
+
+def contract(lines, indent):
+    """The head of the function that begins here and its clauses, up to its body."""
+    parts = []
+    for line in lines:
+        if line in (indent + "{", indent + "{}"):
+            break
+        last = line.endswith((" {", ";")) and not re.match(r"\s*(requires|ensures)\b", line)
+        text = line[:-1].rstrip() if last else line
+        if parts and re.match(indent + r"    (requires|ensures|\w+ \{)", line):
+            parts.append([text])
+        elif parts:
+            parts[-1].append(text)
+        else:
+            parts.append([text])
+        if last:
+            break
+    return [joined(part) for part in parts]
+
+
+def blocks(lines):
+    """A block of text for each public function of a file."""
+    owner, is_trait = "", False
+    for number, line in enumerate(lines):
+        found = OWNER.match(line)
+        if found:
+            owner = re.sub(r"<.*", "", found[2].split(" for ")[-1]) + "::"
+            is_trait = line.startswith("pub trait")
+        elif line == "}":
+            owner, is_trait = "", False
+        found = FUNCTION.match(line)
+        if found and (found[2] or is_trait):
+            head, *clauses = contract(lines[number:], found[1])
+            yield "\n".join([owner + found[3], "  " + head, *("    " + clause for clause in clauses)])
+
+
+def main():
+    revision, *crates = sys.argv[1:] or ["."]
+    found = [
+        block
+        for path, lines in sources(revision)
+        if not crates or path.split("/")[1] in crates
+        for block in blocks(lines)
+    ]
+    print("\n\n".join(sorted(found)))
+
+
+if __name__ == "__main__":
+    main()
