@@ -4,6 +4,7 @@ pub mod Balanced
 pub mod Detached
 pub mod Exact
 pub mod Glanced
+pub mod Held
 pub mod Heard
 pub mod Rows
 pub mod Worked

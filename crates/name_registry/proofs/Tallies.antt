@@ -169,7 +169,7 @@ locals_same : (f h : OnCpu → ℤ) (xs : List OnCpu) → ((c : ℕ) (x : OnCpu)
 locals_same f h [] each = refl
 locals_same f h (x ∷ xs) each = let one = each 0 x refl in let rest = locals_same f h xs (λ c y at. each (suc c) y at) in λ i. one i ∷ rest i
 
-own_tally : (a : Settings) (k : OnKeeper) (xs : List OnCpu) (g : State) (t : ℕ) (e : Entry) → IsKeeperOf a k → AreShown g k xs → IsIn e (slot_at k.slots t) → tally_met k xs e.number t ≡ tally_of k xs e.number t
+pub own_tally : (a : Settings) (k : OnKeeper) (xs : List OnCpu) (g : State) (t : ℕ) (e : Entry) → IsKeeperOf a k → AreShown g k xs → IsIn e (slot_at k.slots t) → tally_met k xs e.number t ≡ tally_of k xs e.number t
 own_tally a k xs g t e known shown is =
     let seen = seen_by_keeper g k.view shown.good shown.keeper in
     let there = there_too a k t e known is in

@@ -1,6 +1,6 @@
 -- Laws over whatever table it is.
 -- The free interlock: whoever holds the keeper, and has made no step yet, finds the balance of each slot equal to the local references held.
-use Rattle.std.specs.Prelude.{◌≡◌, ℕ, ◌+◌, ◌*◌, All, List, [], map, sum_by, slice_index_or}
+use Rattle.std.specs.Prelude.{◌≡◌, ℕ, ◌+◌, ◌*◌, pos, All, List, [], map, sum_by, slice_index_or}
 use mathlib.Core.Option.{some}
 use lib.ListN.{get_elem?}
 use Rattle.atomic_table.specs.Table.{State as Table}
@@ -9,7 +9,7 @@ use Rattle.registry_values.specs.declared.entry.Entry.{Entry}
 use Rattle.registry_values.specs.declared.settings.Settings.{Settings}
 use Rattle.protocol.specs.Invariant.{IsIn, held_at, itself, one_if_used}
 use Rattle.protocol.specs.State.{State, opening, total_at}
-use Rattle.protocol.specs.Laws.{after, BalancesAtRest}
+use Rattle.protocol.specs.Laws.{after, held_of, BalancesAtRest}
 use Rattle.registry_values.specs.Balances.{bias, tally_shown}
 use Rattle.registry_values.specs.Slots.{slot_at}
 use Rattle.cpu_words.specs.declared.view.View.{View}
@@ -20,7 +20,7 @@ use Rattle.cpu_words.specs.Views.{Shown}
 use Rattle.cpu_words.specs.Headline.{RunsLawfully}
 use Rattle.passive_list.specs.Cpus.{OnCpu}
 use Rattle.passive_list.specs.Keepers.{OnKeeper}
-use Rattle.name_registry.specs.Auditing.{AreShown, IsAuditOf, tallies_below, tally}
+use Rattle.name_registry.specs.Auditing.{AreAllCpus, AreShown, IsAuditOf, tallies_below, tally}
 
 -- the count words of the slot t, of all CPUs
 abbrev pub counts_of : State → ℕ → List ℕ
@@ -55,6 +55,8 @@ pub record IsExactRun (a : Settings) (s : Table ℕ View) (k : OnKeeper) (xs : L
   pub shown : AreShown (after (opening a) run.events) k xs
   pub listed : (list : List Balance) → IsAuditOf a k xs list → map tally_shown list ≡ tallies_below k xs a.slots
   pub tallied : (list : List Balance) → IsAuditOf a k xs list → All (λ b. b.held ≡ tally k xs b.number) list
+  -- of all CPUs: what is held are the local references held to the entry
+  pub held : AreAllCpus a.cpus xs → (list : List Balance) → IsAuditOf a k xs list → All (λ b. b.held ≡ pos (held_of (after (opening a) run.events) b.number)) list
 
 -- whatever the table is while the seats have these views
 abbrev pub ExactAudit : Settings → OnKeeper → List OnCpu → Type 0

@@ -16,7 +16,8 @@ pub fn free_interlock<D: Domain>(keeper: &Keeper<D>) -> u64
 
 /// Whoever holds the keeper and CPUs, and has made no step yet, has the views of one state: whatever the words and the seats of all threads
 /// are then, a list of events leads to a state that the words, this keeper and these CPUs show. So what an audit of them lists
-/// (localcount(9)) are the CPUs' net counts, and what it says is held is the tally. The answer says nothing; the contract is the law.
+/// (localcount(9)) are the CPUs' net counts, and what it says is held is the tally, and, where they are all CPUs, the number of local
+/// references held to the entry. The answer says nothing; the contract is the law.
 pub fn exact_audit<D: Domain>(keeper: &Keeper<D>, cpus: &[Cpu<D>]) -> u64
     ensures law { ExactAudit D.settings keeper.now cpus.now }
 {

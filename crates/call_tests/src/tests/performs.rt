@@ -29,27 +29,13 @@ fn blank(alloc: Global) -> Result<Blank, Refusal> {
     Blank::new(alloc, settings)
 }
 
-/// A registry and its three CPUs.
-#[derive(Drop)]
-struct Bench<D: Domain> {
-    registry: Registry<D>,
-    cpus: [Cpu<D>; 3],
-}
-
-impl<D: Domain> Bench<D> {
-    fn open(alloc: Global, blank: Blank) -> Result<Bench<D>, Fail>
-        requires { AreWordsOf blank D.table D.settings }
-    {
-        let Ok((registry, mut cpus)) = blank.open::<D>(alloc) else {
-            return Err(Fail::from("an open registry"));
-        };
-        let (Some(third), Some(second), Some(first)) = (cpus.pop(), cpus.pop(), cpus.pop()) else {
-            return Err(Fail::from("three CPUs"));
-        };
-        Ok(Bench {
-            registry,
-            cpus: [first, second, third],
-        })
+/// The registry and its CPUs, CPU 0 first.
+fn opened<D: Domain>(alloc: Global, blank: Blank) -> Result<(Registry<D>, Vec<Cpu<D>>), Fail>
+    requires { AreWordsOf blank D.table D.settings }
+{
+    match blank.open::<D>(alloc) {
+        Ok(open) => Ok(open),
+        Err(_) => Err(Fail::from("an open registry")),
     }
 }
 
@@ -111,7 +97,8 @@ fn told<D: Domain, R: Wait + Abort>(
 ) -> Result<(), Fail>
     requires { AreWordsOf blank D.table D.settings }
 {
-    let Bench { registry, mut cpus } = Bench::<D>::open(alloc, blank)?;
+    let (registry, mut cpus) = opened::<D>(alloc, blank)?;
+    assert_eq!(rt; cpus.len(), 3);
     for c in row.inside {
         assert!(rt; *c < 3);
         enter(registry.words(), &mut cpus[*c])?;
@@ -155,8 +142,11 @@ fn waited_for<D: Domain + Send + Sync, R: Threads + Wait + Abort + Sync>(
 ) -> Result<(), Fail>
     requires { AreWordsOf blank D.table D.settings }
 {
-    let Bench { registry, cpus } = Bench::<D>::open(alloc, blank)?;
-    let [mut first, mut second, _third] = cpus;
+    let (registry, mut cpus) = opened::<D>(alloc, blank)?;
+    let (Some(_third), Some(mut second), Some(mut first)) = (cpus.pop(), cpus.pop(), cpus.pop())
+    else {
+        return Err(Fail::from("three CPUs"));
+    };
     let (registry, driver) = (&registry, record(rt, WM));
     registry.attach(rt, &mut first, driver)?;
     enter(registry.words(), &mut second)?;
@@ -182,7 +172,7 @@ fn waited_for<D: Domain + Send + Sync, R: Threads + Wait + Abort + Sync>(
 }
 
 /// How long CPU 1 stays inside once CPU 0 has begun: many times what a turn takes.
-const YIELDS: u32 = 20_000;
+const YIELDS: u32 = 2_000;
 
 /// Waits until the flag is set, and a while longer; then the CPU ends its section and begins another one.
 fn change_section<D: Domain>(words: &Words, mut cpu: Cpu<D>, begun: &AtomicBool)
