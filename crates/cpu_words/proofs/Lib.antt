@@ -3,3 +3,4 @@ pub mod by_keeper
 pub mod laws
 pub mod seats
 pub mod shown
+pub mod logs

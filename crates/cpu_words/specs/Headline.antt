@@ -1,5 +1,5 @@
 -- The laws of the protocol on the words: whatever threads did, a list of events leads to a state that the words and all views show, and that state obeys all laws. So what a seat holds has its slot, and marks are honest.
-use Rattle.std.specs.Prelude.{◌≡◌, ◌⊎◌, ℕ, ◌<◌, List, Some, true, slice_index}
+use Rattle.std.specs.Prelude.{◌≡◌, ◌⊎◌, ℕ, ◌<◌, List, map, length, Some, true, slice_index}
 use mathlib.Core.Option.{some}
 use lib.ListN.{get_elem?}
 use Rattle.atomic_table.specs.Table.{State as Table}
@@ -20,11 +20,14 @@ use Rattle.cpu_words.specs.declared.view.InHand.{InHand}
 use Rattle.cpu_words.specs.declared.view.InHand.TheVariants.{Empty, Taking, Giving, Back}
 use Rattle.cpu_words.specs.declared.view.CpuView.{CpuView}
 use Rattle.cpu_words.specs.declared.view.KeeperView.{KeeperView}
+use Rattle.cpu_words.specs.declared.view.Deed.{Deed}
+use Rattle.cpu_words.specs.declared.view.Logged.{Logged}
 use Rattle.cpu_words.specs.declared.view.View.{View}
 use Rattle.cpu_words.specs.declared.view.View.TheVariants.{Keeper, Cpu, Reference, Note, Spent}
 use Rattle.cpu_words.specs.Spots.{passive_of, count_of, index}
 use Rattle.cpu_words.specs.Views.{references_to}
-use Rattle.cpu_words.specs.Rule.{Agrees, Shows, Good, Ruled}
+use Rattle.cpu_words.specs.Rule.{Agrees, Shows, Good, Ruled, deeds}
+use Rattle.cpu_words.specs.Logs.{plain, part, IsStanding, AreByOwn, LoggedRuled}
 use Rattle.cpu_words.specs.Vacating.{IsDrained}
 
 -- The headline of the running words
@@ -44,9 +47,18 @@ pub record RunsLawfully (z : Settings) (s : Table ℕ View) : Type 0 where
   -- the headline, safe reuse, drivers that outlive interfaces, lawful answers, balance at rest and the grace law
   pub laws : ObeysLaws (after (opening z) events)
 
+-- and what the seats did is that list: each event with its reply and the place of the seat that made it, and each seat's log is its part
+pub record RunsAsLogged (z : Settings) (s : Table ℕ Logged) : Type 0 where
+  pub run : RunsLawfully z (plain s)
+  pub acts : List (ℕ × Deed)
+  pub are : map (λ (a : ℕ × Deed). a.1) acts ≡ deeds z run.events
+  pub all : length acts ≡ length run.events
+  pub owners : AreByOwn run.seat (after (opening z) run.events).seated acts
+  pub logs : (i : ℕ) (l : Logged) → get_elem? s.views i ≡ some l → IsStanding l.view → l.log ≡ part i acts
+
 -- so it is between any two steps
 abbrev pub RunningHeadline : Type 0
-RunningHeadline = (z : Settings) (s : Table ℕ View) → Ruled z s → RunsLawfully z s
+RunningHeadline = (z : Settings) (s : Table ℕ Logged) → LoggedRuled z s → RunsAsLogged z s
 
 -- Holders: h is the keeper's history
 

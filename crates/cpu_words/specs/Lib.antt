@@ -15,5 +15,6 @@ pub mod Publishing
 pub mod Keeping
 pub mod Notes
 pub mod Opening
+pub mod Logs
 pub mod Headline
 pub mod Domains

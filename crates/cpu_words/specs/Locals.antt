@@ -1,7 +1,8 @@
 -- Local references by a CPU's seat (localcount(9)): where it may make the step, and what changes in its view.
-use Rattle.std.specs.Prelude.{◌≡◌, ℕ, ◌+◌, ◌<◌, Some, None}
+use Rattle.std.specs.Prelude.{◌≡◌, ℕ, ◌+◌, ◌<◌, ◌==◌, if◌then◌else◌, Some, None}
 use Rattle.registry_values.specs.declared.entry.Entry.{Entry}
 use Rattle.protocol.specs.declared.event.Event.{Event}
+use Rattle.protocol.specs.declared.event.Reply.{Reply}
 use Rattle.protocol.specs.declared.event.Reply.TheVariants.{Word, Collected}
 use Rattle.registry_values.specs.Balances.{bias}
 use Rattle.cpu_words.specs.declared.view.InHand.{InHand}
@@ -99,6 +100,10 @@ abbrev pub HasFoundCollected : CpuView → ℕ → CpuView → Type 0
 HasFoundCollected x n y = (e : Entry) × IsGiving x e × (e.number ≡ n) × (y ≡ with_hand x (BackEntry e))
 
 -- what the compare-exchange from `old` tells, where it found the word w
+-- what the count down from `old` replies, where it found w
+abbrev pub down_reply : ℕ → ℕ → Reply
+down_reply old w = if w == old then Word w else Collected
+
 abbrev pub DownTold : Event → ℕ → CpuView → ℕ → CpuView → Type 0
 DownTold e old x w y = (t n : ℕ) → MayCountDown x t n old → (0 < old) × IsNetCount x n old × IsMetAlone x t n
     × (w ≡ old → Makes e (Word w) (Cpu x) (Cpu y) × HasCountedDown x t n y)

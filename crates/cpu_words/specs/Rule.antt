@@ -1,11 +1,17 @@
 -- The rule of the table, the running picture: its words and the views of all seats show a state of the core, and a list of events leads to it.
-use Rattle.std.specs.Prelude.{◌≡◌, ℕ, ◌<◌, ◌≤◌, List, length, sum_by, slice_index}
+use Rattle.std.specs.Prelude.{◌≡◌, ℕ, ◌<◌, ◌≤◌, List, [], ◌∷◌, ◌++◌, Option, Some, None, length, sum_by, slice_index}
 use mathlib.Core.Option.{some}
 use lib.ListN.{get_elem?}
 use Rattle.atomic_table.specs.Table.{State as Table}
 use Rattle.registry_values.specs.declared.entry.Entry.{Entry}
 use Rattle.registry_values.specs.declared.settings.Settings.{Settings}
 use Rattle.protocol.specs.declared.event.Event.{Event}
+use Rattle.protocol.specs.declared.event.Event.TheVariants.{LoadRecord, JoinRef, JoinKeeper, Keep}
+use Rattle.protocol.specs.declared.event.RecordOf.TheVariants.{Local}
+use Rattle.protocol.specs.declared.event.Reply.{Reply}
+use Rattle.protocol.specs.declared.event.Reply.TheVariants.{Ref}
+use Rattle.protocol.specs.Events.{Outcome, step}
+use Rattle.protocol.specs.Ran.{Ran, rested, turned}
 use Rattle.protocol.specs.State.{State, opening, section_at, depth_at, seen_at, passive_at, count_at}
 use Rattle.registry_values.specs.Balances.{bias}
 use Rattle.registry_values.specs.Slots.{slot_at}
@@ -14,6 +20,7 @@ use Rattle.protocol.specs.Laws.{after}
 use Rattle.cpu_words.specs.Spots.{Spot, index, IsSpot, word_at}
 use Rattle.cpu_words.specs.Views.{KeeperShown, Shown, is_to}
 use Rattle.cpu_words.specs.declared.view.KeeperView.{KeeperView}
+use Rattle.cpu_words.specs.declared.view.Deed.{Deed}
 use Rattle.cpu_words.specs.declared.view.View.{View}
 use Rattle.cpu_words.specs.declared.view.View.TheVariants.{Keeper, Cpu, Reference, Note, Spent}
 
@@ -62,10 +69,41 @@ pub record IsPictured (k : KeeperView) : Type 0 where
   pub good : Good g
   pub shown : KeeperShown g k
 
+-- An event as its seat knows it: the ids of local references are the core's alone
+
+abbrev pub unnamed : Event → Event
+unnamed (JoinRef c id) = JoinRef c 0
+unnamed (JoinKeeper id) = JoinKeeper 0
+unnamed (Keep t id) = Keep t 0
+unnamed (LoadRecord (Local id k)) = LoadRecord (Local 0 k)
+unnamed e = e
+
+abbrev pub unnamed_reply : Reply → Reply
+unnamed_reply (Ref id) = Ref 0
+unnamed_reply r = r
+
+-- just this event, with this reply
+abbrev pub did : Event → Reply → List Deed
+did e r = record { event = unnamed e; reply = unnamed_reply r } ∷ []
+
+abbrev pub noted : Event → Option Outcome → List Deed → List Deed
+noted e None ds = ds
+noted e (Some o) ds = did e o.reply ++ ds
+
+-- the events of a run that were made, in order, each with its reply
+abbrev pub deeds_from : Ran → List Event → List Deed
+deeds_from r [] = []
+deeds_from r (e ∷ es) = noted e (step r.state e) (deeds_from (turned r (step r.state e)) es)
+
+abbrev pub deeds : Settings → List Event → List Deed
+deeds z events = deeds_from (rested (opening z)) events
+
 -- a list of events leads from the opening of the settings to the state
 pub record Reached (z : Settings) (g : State) : Type 0 where
   pub events : List Event
   pub run : g ≡ after (opening z) events
+  -- all were made: none was passed over
+  pub made : length (deeds z events) ≡ length events
 
 -- there is a state of the core that the table shows, and events lead to it
 pub record Ruled (z : Settings) (s : Table ℕ View) : Type 0 where
@@ -76,3 +114,10 @@ pub record Ruled (z : Settings) (s : Table ℕ View) : Type 0 where
   pub reached : Reached z g
   pub words : Agrees s.words g
   pub shows : Shows g seat s.views
+
+-- the table t is shown by a run that goes on with just these events and replies, and no CPU's seat is another
+pub record GoesOn (z : Settings) (s : Table ℕ View) (r : Ruled z s) (new : List Deed) (t : Table ℕ View) : Type 0 where
+  pub ruled : Ruled z t
+  pub goes_on : deeds z ruled.reached.events ≡ deeds z r.reached.events ++ new
+  pub seated : r.g.seated ≤ ruled.g.seated
+  pub seats : (c : ℕ) → c < r.g.seated → ruled.seat c ≡ r.seat c

@@ -1,5 +1,5 @@
 -- Searches by a CPU's seat: from the head along the links, and in each slot over its record words.
-use Rattle.std.specs.Prelude.{◌≡◌, ℕ, zero, suc, ◌<◌, List, length, Option, Some, None}
+use Rattle.std.specs.Prelude.{◌≡◌, ℕ, zero, suc, ◌<◌, List, [], ◌++◌, length, Option, Some, None}
 use mathlib.Core.List.{IsPrefix}
 use Rattle.registry_values.specs.declared.name.Name.{Name}
 use Rattle.registry_values.specs.declared.entry.Kind.{Kind}
@@ -22,6 +22,8 @@ use Rattle.protocol.specs.Invariant.{StandsOn}
 use Rattle.protocol.specs.Loaded.{loaded}
 use Rattle.cpu_words.specs.declared.view.CpuView.{CpuView}
 use Rattle.cpu_words.specs.declared.view.View.TheVariants.{Cpu}
+use Rattle.cpu_words.specs.declared.view.Deed.{Deed}
+use Rattle.cpu_words.specs.Rule.{did}
 use Rattle.cpu_words.specs.Steps.{Makes}
 use Rattle.cpu_words.specs.Sections.{IsIdle}
 
@@ -86,6 +88,11 @@ abbrev pub HasLoadedLink : CpuView → ℕ → CpuView → Type 0
 HasLoadedLink x n y = (q : Search) → x.search ≡ Some q → HasFollowed x q n y
 
 -- what one load of the head tells of a Seek and of the first LoadLink of its search
+-- the seat's part of the list: the search begins, and loads the head
+abbrev pub sought : Event → ℕ → List Deed
+sought (Seek c kind name) n = did (Seek c kind name) Done ++ did (LoadLink c) (link_answer n)
+sought _ n = []
+
 abbrev pub HasSought : Event → CpuView → ℕ → CpuView → Type 0
 HasSought (Seek c kind name) x n y = Makes (Seek c kind name) Done (Cpu x) (Cpu (seeking (key_with kind name) x))
     × Makes (LoadLink c) (link_answer n) (Cpu (seeking (key_with kind name) x)) (Cpu y)

@@ -1,8 +1,8 @@
 -- What a step promises: by the seat that steps, on that seat's view alone, just one event of the core.
-use Rattle.std.specs.Prelude.{◌≡◌, ℕ, ◌+◌, ◌<◌, ◌≤◌, [], sum_by, slice_index, Some}
+use Rattle.std.specs.Prelude.{◌≡◌, ℕ, ◌+◌, ◌<◌, ◌≤◌, List, [], ◌∷◌, ◌++◌, sum_by, slice_index, slice_set, Some}
 use mathlib.Core.Option.{some}
 use lib.ListN.{get_elem?}
-use Rattle.atomic_table.specs.Table.{State as Table, Step, Me, keeps, stepped}
+use Rattle.atomic_table.specs.Table.{State as Table, keeps, stepped}
 use Rattle.registry_values.specs.declared.settings.Settings.{Settings}
 use Rattle.protocol.specs.declared.event.Event.{Event}
 use Rattle.protocol.specs.declared.event.Reply.{Reply}
@@ -13,10 +13,11 @@ use Rattle.protocol.specs.Invariant.{standing_of}
 use Rattle.cpu_words.specs.declared.view.CpuView.{CpuView}
 use Rattle.cpu_words.specs.declared.view.KeeperView.{KeeperView}
 use Rattle.cpu_words.specs.declared.view.ReferenceView.{ReferenceView}
+use Rattle.cpu_words.specs.declared.view.Deed.{Deed}
 use Rattle.cpu_words.specs.declared.view.View.{View}
 use Rattle.cpu_words.specs.declared.view.View.TheVariants.{Keeper, Cpu, Reference}
-use Rattle.cpu_words.specs.Views.{Shown, cpu_of, keeper_of, reference_of}
-use Rattle.cpu_words.specs.Rule.{Good, Ruled, reference_to}
+use Rattle.cpu_words.specs.Views.{Shown, cpu_of, keeper_of}
+use Rattle.cpu_words.specs.Rule.{Good, Ruled, GoesOn, reference_to}
 
 -- the two views are of one seat
 abbrev pub OneSeat : View → View → Type 0
@@ -75,32 +76,30 @@ pub record ChangeMakes (e : Event) (g : State) (w : View) : Type 0 where
 abbrev pub ChangesBy : Event → View → View → Type 0
 ChangesBy e v w = (g : State) → Good g → Shown g v → ChangeMakes e g w
 
--- What atomic_table's steps are told: the seat stays of its kind, takes no slots, and the tale holds
+-- A seat is cut in two, or takes in another: the run goes on with just these events.
 
-abbrev pub told_by_cpu : (CpuView → ℕ → CpuView → Type 0) → Step ℕ → Me ℕ View → ℕ → Me ℕ View → Type 0
-told_by_cpu tells st m n l = (l ≡ (Cpu (cpu_of l.0), m.1)) × tells (cpu_of m.0) n (cpu_of l.0)
+abbrev pub SplitsOn : Settings → ℕ → View → View → View → List Deed → Type 0
+SplitsOn z i v left right ds = (s : Table ℕ View) (r : Ruled z s) → get_elem? s.views i ≡ some v → GoesOn z s r ds (record { words = s.words; homes = s.homes; views = slice_set s.views i left ++ right ∷ [] })
 
-abbrev pub told_by_keeper : (KeeperView → ℕ → KeeperView → Type 0) → Step ℕ → Me ℕ View → ℕ → Me ℕ View → Type 0
-told_by_keeper tells st m n l = (l ≡ (Keeper (keeper_of l.0), m.1)) × tells (keeper_of m.0) n (keeper_of l.0)
-
-abbrev pub told_by_reference : (ReferenceView → ℕ → Type 0) → Step ℕ → Me ℕ View → ℕ → Me ℕ View → Type 0
-told_by_reference tells st m n l = (l ≡ m) × tells (reference_of m.0) n
+abbrev pub JoinsOn : Settings → ℕ → View → ℕ → View → View → View → List Deed → Type 0
+JoinsOn z i v o w both spent ds = (s : Table ℕ View) (r : Ruled z s) → get_elem? s.views i ≡ some v → ¬ (o ≡ i) → get_elem? (slice_set s.views i both) o ≡ some w
+    → GoesOn z s r ds (record { words = s.words; homes = s.homes; views = slice_set (slice_set s.views i both) o spent })
 
 -- Whatever the table is when the word becomes f of what it was, the seat has a view after, with which the rule holds, and the tale of the word found.
--- For a load or an exchange n is the word found, for a store the word stored.
+-- For a load or an exchange n is the word found, for a store the word stored. The run goes on with just the events that the word found makes.
 
-abbrev pub Moves : Settings → View → ℕ → (ℕ → ℕ) → (ℕ → View → Type 0) → Type 0
-Moves z v i f tells = (s : Table ℕ View) → Ruled z s → (id : ℕ) → get_elem? s.views id ≡ some v → slice_index s.words i < 18446744073709551616
-    → (w : View) × Ruled z (stepped s i (f (slice_index s.words i)) id [] w keeps) × tells (slice_index s.words i) w
+abbrev pub Moves : Settings → View → ℕ → (ℕ → ℕ) → (ℕ → List Deed) → (ℕ → View → Type 0) → Type 0
+Moves z v i f ds tells = (s : Table ℕ View) (r : Ruled z s) → (id : ℕ) → get_elem? s.views id ≡ some v → slice_index s.words i < 18446744073709551616
+    → (w : View) × GoesOn z s r (ds (slice_index s.words i)) (stepped s i (f (slice_index s.words i)) id [] w keeps) × tells (slice_index s.words i) w
 
-abbrev pub CpuMay : Settings → CpuView → ℕ → (ℕ → ℕ) → (CpuView → ℕ → CpuView → Type 0) → Type 0
-CpuMay z x i f tells = Moves z (Cpu x) i f (λ n w. (w ≡ Cpu (cpu_of w)) × tells x n (cpu_of w))
+abbrev pub CpuMay : Settings → CpuView → ℕ → (ℕ → ℕ) → (ℕ → List Deed) → (CpuView → ℕ → CpuView → Type 0) → Type 0
+CpuMay z x i f ds tells = Moves z (Cpu x) i f ds (λ n w. (w ≡ Cpu (cpu_of w)) × tells x n (cpu_of w))
 
-abbrev pub KeeperMay : Settings → KeeperView → ℕ → (ℕ → ℕ) → (KeeperView → ℕ → KeeperView → Type 0) → Type 0
-KeeperMay z k i f tells = Moves z (Keeper k) i f (λ n w. (w ≡ Keeper (keeper_of w)) × tells k n (keeper_of w))
+abbrev pub KeeperMay : Settings → KeeperView → ℕ → (ℕ → ℕ) → (ℕ → List Deed) → (KeeperView → ℕ → KeeperView → Type 0) → Type 0
+KeeperMay z k i f ds tells = Moves z (Keeper k) i f ds (λ n w. (w ≡ Keeper (keeper_of w)) × tells k n (keeper_of w))
 
-abbrev pub KeeperStores : Settings → KeeperView → ℕ → ℕ → (KeeperView → ℕ → KeeperView → Type 0) → Type 0
-KeeperStores z k i n tells = Moves z (Keeper k) i (λ _. n) (λ _ w. (w ≡ Keeper (keeper_of w)) × tells k n (keeper_of w))
+abbrev pub KeeperStores : Settings → KeeperView → ℕ → ℕ → (ℕ → List Deed) → (KeeperView → ℕ → KeeperView → Type 0) → Type 0
+KeeperStores z k i n ds tells = Moves z (Keeper k) i (λ _. n) (λ _. ds n) (λ _ w. (w ≡ Keeper (keeper_of w)) × tells k n (keeper_of w))
 
-abbrev pub ReferenceMay : Settings → ReferenceView → ℕ → (ReferenceView → ℕ → Type 0) → Type 0
-ReferenceMay z v i tells = Moves z (Reference v) i (λ n. n) (λ n w. (w ≡ Reference v) × tells v n)
+abbrev pub ReferenceMay : Settings → ReferenceView → ℕ → (ℕ → List Deed) → (ReferenceView → ℕ → Type 0) → Type 0
+ReferenceMay z v i ds tells = Moves z (Reference v) i (λ n. n) ds (λ n w. (w ≡ Reference v) × tells v n)

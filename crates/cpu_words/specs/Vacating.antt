@@ -1,5 +1,5 @@
 -- A retired slot with all its marks may be taken as vacant: Vacate touches no word, and shows from the first word that is stored in the slot on.
-use Rattle.std.specs.Prelude.{◌≡◌, ◌⊎◌, ℕ, ◌<◌, [], replicate, slice_index_or, slice_set, None, true}
+use Rattle.std.specs.Prelude.{◌≡◌, ◌⊎◌, ℕ, ◌<◌, List, [], ◌++◌, replicate, slice_index_or, slice_set, None, true}
 use Rattle.registry_values.specs.declared.entry.Entry.{Entry}
 use Rattle.protocol.specs.declared.event.Event.TheVariants.{Vacate}
 use Rattle.protocol.specs.declared.event.Reply.TheVariants.{Done}
@@ -12,6 +12,8 @@ use Rattle.protocol.specs.State.{total_at, kept_at}
 use Rattle.registry_values.specs.Marks.{have_passed, are_clear, are_collected}
 use Rattle.cpu_words.specs.declared.view.KeeperView.{KeeperView}
 use Rattle.cpu_words.specs.declared.view.View.TheVariants.{Keeper}
+use Rattle.cpu_words.specs.declared.view.Deed.{Deed}
+use Rattle.cpu_words.specs.Rule.{did}
 use Rattle.cpu_words.specs.Steps.{Makes}
 
 -- all marks are set, nothing is held, and no keeper's operation is half done
@@ -39,6 +41,12 @@ vacant_from (Retired e) k t = vacated k t
 -- the view with the slot taken as vacant
 abbrev pub as_vacant : KeeperView → ℕ → KeeperView
 as_vacant k t = vacant_from (slot_at k.slots t) k t
+
+-- Vacate before what is done, where the slot is still retired
+abbrev pub vacate_first : Slot → ℕ → List Deed → List Deed
+vacate_first Vacant t es = es
+vacate_first (Live e) t es = es
+vacate_first (Retired e) t es = did (Vacate t) Done ++ es
 
 -- the keeper may write into the slot
 pub record MayWrite (k : KeeperView) (t : ℕ) : Type 0 where

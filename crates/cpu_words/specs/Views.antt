@@ -22,6 +22,7 @@ use Rattle.protocol.specs.Invariant.{AreRows, IsIn, Occupies, subtracting_at, ad
 use Rattle.cpu_words.specs.declared.view.InHand.{InHand}
 use Rattle.cpu_words.specs.declared.view.InHand.TheVariants.{Empty as NoEntry, Taking as TakingEntry, Giving as GivingEntry, Back as BackEntry}
 use Rattle.cpu_words.specs.declared.view.Looked.{Looked}
+use Rattle.cpu_words.specs.declared.view.Deed.{Deed}
 use Rattle.cpu_words.specs.declared.view.CpuView.{CpuView}
 use Rattle.cpu_words.specs.declared.view.KeeperView.{KeeperView}
 use Rattle.cpu_words.specs.declared.view.ReferenceView.{ReferenceView}
@@ -32,6 +33,8 @@ use Rattle.cpu_words.specs.declared.view.View.TheVariants.{Keeper, Cpu, Referenc
 pub record Seated (X : Type 0) : Type 0 where
   pub table : TableId
   pub view : X
+  -- what the seat did, in order
+  pub log : List Deed
 
 -- a table and what it was made for, to a contract
 pub record Named : Type 0 where

@@ -5,7 +5,8 @@ ghost use Rattle.cpu_words.specs.Headline.{DrainedIsFree, FoundIsHeld, HeldHaveS
 /// Does nothing; its contract says the headline of the running words, between any two steps of whatever threads. `run`: there is a list
 /// of events from the opening such that the words and the views of all seats show the state after it. That state has the core invariant,
 /// a run of the model reaches its picture, and it obeys all laws of the protocol: the headline, safe reuse, drivers that outlive their
-/// interfaces, lawful answers, balance at rest and the grace law. `held`: an entry that a CPU's open section may hold, or to which a CPU
+/// interfaces, lawful answers, balance at rest and the grace law. And the list is what the seats did: each event in it was made by the seat
+/// whose it is, and each seat's log has just its own events in order, with their replies. `held`: an entry that a CPU's open section may hold, or to which a CPU
 /// has a passive reference, or a CPU, a seat or a slot has a local one, has its slot.
 pub fn running_headline()
     ensures run { RunningHeadline }

@@ -2,29 +2,28 @@
 
 ghost use Rattle.std.specs.Prelude.{◌≡◌};
 
-use crate::view::{CpuView, KeeperView, View};
+use crate::view::{CpuView, KeeperView, Logged};
 use atomic_table::{Play, Table, TableRule};
 use registry_values::Settings;
 use std::alloc::Global;
 use std::marker::{Brand, Model, PhantomData};
 
-/// The rule: the words and the views of all seats show a state of the core, the running picture, and a list of events leads to it from the
-/// opening.
+/// The rule: the words and the views of all seats show a state of the core, the running picture, a list of events leads to it from the
+/// opening, and what each seat did is its part of that list.
 pub struct Picture;
 
-impl TableRule<u8, View, Settings> for Picture {
-    ghost use Rattle.cpu_words.specs.Rule.{Ruled};
-    ghost use Rattle.cpu_words.specs.Views.{first_view};
+impl TableRule<u8, Logged, Settings> for Picture {
+    ghost use Rattle.cpu_words.specs.Logs.{LoggedRuled, first_logged};
 
-    ghost holds = { Ruled };
+    ghost holds = { LoggedRuled };
 
-    ghost first = { first_view };
+    ghost first = { first_logged };
 }
 
 /// The words of a registry, shared by all its seats. To a contract they are which table it is, and its settings.
 #[derive(Drop)]
 pub struct Words {
-    pub(crate) table: Table<u8, View, Settings, Picture, Global>,
+    pub(crate) table: Table<u8, Logged, Settings, Picture, Global>,
     pub(crate) settings: Settings,
 }
 
@@ -68,37 +67,61 @@ impl Domain for Brand {
 
 /// What a step of a CPU's seat tells of the view before, the word found and the view after. Each call of an inner step picks its own.
 pub(crate) trait CpuTale {
-    ghost use Rattle.std.specs.Prelude.{ℕ};
+    ghost use Rattle.std.specs.Prelude.{ℕ, List};
+    ghost use Rattle.cpu_words.specs.declared.view.Deed.{Deed};
     ghost use Rattle.cpu_words.specs.declared.view.CpuView.{CpuView};
+
+    // the events that it is, with their replies, by the view before and the word found
+    ghost does: { CpuView → ℕ → List Deed };
 
     ghost tells: { CpuView → ℕ → CpuView → Type 0 };
 }
 
 impl CpuTale for Brand {
+    ghost use Rattle.std.specs.Prelude.{[]};
+
+    ghost does = { λ x n. [] };
+
     ghost tells = { λ x n y. Unit {0} };
 }
 
 /// The same for the keeper's seat.
 pub(crate) trait KeeperTale {
-    ghost use Rattle.std.specs.Prelude.{ℕ};
+    ghost use Rattle.std.specs.Prelude.{ℕ, List};
+    ghost use Rattle.cpu_words.specs.declared.view.Deed.{Deed};
     ghost use Rattle.cpu_words.specs.declared.view.KeeperView.{KeeperView};
+
+    // the events that it is, with their replies, by the view before and the word found
+    ghost does: { KeeperView → ℕ → List Deed };
 
     ghost tells: { KeeperView → ℕ → KeeperView → Type 0 };
 }
 
 impl KeeperTale for Brand {
+    ghost use Rattle.std.specs.Prelude.{[]};
+
+    ghost does = { λ k n. [] };
+
     ghost tells = { λ k n l. Unit {0} };
 }
 
 /// The same for the seat of a local reference, whose view no step changes.
 pub(crate) trait ReferenceTale {
-    ghost use Rattle.std.specs.Prelude.{ℕ};
+    ghost use Rattle.std.specs.Prelude.{ℕ, List};
+    ghost use Rattle.cpu_words.specs.declared.view.Deed.{Deed};
     ghost use Rattle.cpu_words.specs.declared.view.ReferenceView.{ReferenceView};
+
+    // the events that it is, with their replies, by the view and the word found
+    ghost does: { ReferenceView → ℕ → List Deed };
 
     ghost tells: { ReferenceView → ℕ → Type 0 };
 }
 
 impl ReferenceTale for Brand {
+    ghost use Rattle.std.specs.Prelude.{[]};
+
+    ghost does = { λ v n. [] };
+
     ghost tells = { λ v n. Unit {0} };
 }
 
@@ -107,10 +130,10 @@ pub(crate) struct CpuPlay<T: CpuTale> {
     marker: PhantomData<T>,
 }
 
-impl<T: CpuTale> Play<u8, View> for CpuPlay<T> {
-    ghost use Rattle.cpu_words.specs.Steps.{told_by_cpu};
+impl<T: CpuTale> Play<u8, Logged> for CpuPlay<T> {
+    ghost use Rattle.cpu_words.specs.Logs.{told_by_cpu};
 
-    ghost then = { told_by_cpu T.tells };
+    ghost then = { told_by_cpu T.does T.tells };
 }
 
 /// A step of the keeper's seat.
@@ -118,10 +141,10 @@ pub(crate) struct KeeperPlay<T: KeeperTale> {
     marker: PhantomData<T>,
 }
 
-impl<T: KeeperTale> Play<u8, View> for KeeperPlay<T> {
-    ghost use Rattle.cpu_words.specs.Steps.{told_by_keeper};
+impl<T: KeeperTale> Play<u8, Logged> for KeeperPlay<T> {
+    ghost use Rattle.cpu_words.specs.Logs.{told_by_keeper};
 
-    ghost then = { told_by_keeper T.tells };
+    ghost then = { told_by_keeper T.does T.tells };
 }
 
 /// A step of a local reference's seat.
@@ -129,8 +152,8 @@ pub(crate) struct ReferencePlay<T: ReferenceTale> {
     marker: PhantomData<T>,
 }
 
-impl<T: ReferenceTale> Play<u8, View> for ReferencePlay<T> {
-    ghost use Rattle.cpu_words.specs.Steps.{told_by_reference};
+impl<T: ReferenceTale> Play<u8, Logged> for ReferencePlay<T> {
+    ghost use Rattle.cpu_words.specs.Logs.{told_by_reference};
 
-    ghost then = { told_by_reference T.tells };
+    ghost then = { told_by_reference T.does T.tells };
 }

@@ -1,4 +1,4 @@
-//! The seats. Each step on the words is made with one: to a contract a seat is its table and its view.
+//! The seats. Each step on the words is made with one: to a contract a seat is its table, its view, and its log: what it did.
 
 ghost use Rattle.std.specs.Prelude.{◌≡◌, [], List};
 ghost use Rattle.cpu_words.specs.Views.{Seated, cpu_of, keeper_of, reference_of, note_of};
@@ -8,61 +8,61 @@ ghost use Rattle.cpu_words.specs.declared.view.ReferenceView.{ReferenceView};
 ghost use Rattle.cpu_words.specs.declared.view.View.TheVariants.{Keeper, Cpu, Reference, Note};
 ghost use Rattle.registry_values.specs.declared.entry.Change.{Change};
 
-use crate::view::View;
+use crate::view::Logged;
 use atomic_table::Seat;
 use std::marker::Model;
 
 /// The seat of the keeper, the writer behind the interlock. A table has one.
 #[derive(Drop)]
 pub struct KeeperSeat {
-    pub(crate) token: Seat<u8, View>,
+    pub(crate) token: Seat<u8, Logged>,
 }
 
 impl Model for KeeperSeat {
     ghost Value = { Seated KeeperView };
 
-    ghost view = { λ s. record { table = s.token.table_id; view = keeper_of s.token.me.0 } };
+    ghost view = { λ s. record { table = s.token.table_id; view = keeper_of s.token.me.0.view; log = s.token.me.0.log } };
 
-    ghost invariant = { λ s. s.token.me ≡ (Keeper (keeper_of s.token.me.0), []) };
+    ghost invariant = { λ s. s.token.me ≡ (record { view = Keeper (keeper_of s.token.me.0.view); log = s.token.me.0.log }, []) };
 }
 
 /// The seat of a virtual CPU. A thread that owns it runs on that CPU.
 #[derive(Drop)]
 pub struct CpuSeat {
-    pub(crate) token: Seat<u8, View>,
+    pub(crate) token: Seat<u8, Logged>,
 }
 
 impl Model for CpuSeat {
     ghost Value = { Seated CpuView };
 
-    ghost view = { λ s. record { table = s.token.table_id; view = cpu_of s.token.me.0 } };
+    ghost view = { λ s. record { table = s.token.table_id; view = cpu_of s.token.me.0.view; log = s.token.me.0.log } };
 
-    ghost invariant = { λ s. s.token.me ≡ (Cpu (cpu_of s.token.me.0), []) };
+    ghost invariant = { λ s. s.token.me ≡ (record { view = Cpu (cpu_of s.token.me.0.view); log = s.token.me.0.log }, []) };
 }
 
 /// The seat of a local reference. It can't be dropped: it is joined into a CPU's seat or the keeper's.
 pub struct ReferenceSeat {
-    pub(crate) token: Seat<u8, View>,
+    pub(crate) token: Seat<u8, Logged>,
 }
 
 impl Model for ReferenceSeat {
     ghost Value = { Seated ReferenceView };
 
-    ghost view = { λ s. record { table = s.token.table_id; view = reference_of s.token.me.0 } };
+    ghost view = { λ s. record { table = s.token.table_id; view = reference_of s.token.me.0.view; log = s.token.me.0.log } };
 
-    ghost invariant = { λ s. s.token.me ≡ (Reference (reference_of s.token.me.0), []) };
+    ghost invariant = { λ s. s.token.me ≡ (record { view = Reference (reference_of s.token.me.0.view); log = s.token.me.0.log }, []) };
 }
 
 /// The seat of a note: a prefix of the history, to be heard by another seat.
 #[derive(Drop)]
 pub struct NoteSeat {
-    pub(crate) token: Seat<u8, View>,
+    pub(crate) token: Seat<u8, Logged>,
 }
 
 impl Model for NoteSeat {
     ghost Value = { Seated (List Change) };
 
-    ghost view = { λ s. record { table = s.token.table_id; view = note_of s.token.me.0 } };
+    ghost view = { λ s. record { table = s.token.table_id; view = note_of s.token.me.0.view; log = s.token.me.0.log } };
 
-    ghost invariant = { λ s. s.token.me ≡ (Note (note_of s.token.me.0), []) };
+    ghost invariant = { λ s. s.token.me ≡ (record { view = Note (note_of s.token.me.0.view); log = s.token.me.0.log }, []) };
 }

@@ -1,5 +1,5 @@
 //! One function for each kind of step, named after its event. Each makes just that event of the core, with one seat, and takes no
-//! memory.
+//! memory. The seat's log goes on with just that event and its reply (`log`).
 
 pub mod drain;
 pub mod grace;

@@ -19,6 +19,18 @@ pub struct Looked {
     pub reply: Reply,
 }
 
+/// What a seat did: an event, and what it replied. The ids that the core gives its references are 0 here.
+pub struct Deed {
+    pub event: Event,
+    pub reply: Reply,
+}
+
+/// A seat's view, and beside it all that the seat did, in order.
+pub struct Logged {
+    pub view: View,
+    pub log: LinkedList<Deed>,
+}
+
 /// What the keeper's seat knows: all that only the keeper writes, and what it has counted itself.
 pub struct KeeperView {
     pub settings: Settings,

@@ -1,5 +1,5 @@
 -- What is in a CPU's hand changes, and the places of references: why the other views stay, and what a split or a join of the CPU's seat makes.
-use Rattle.std.proofs.Common.{◌≡◌, ◌≢◌, ⊎_elim, ℕ, ◌+◌, ◌<◌, ◌≤◌, ◌==◌, List, set, sum_by, Option, Some, None, refl, sym, ap, ◌∙◌, subst, arith, get_or-set_same, get_or-set_other}
+use Rattle.std.proofs.Common.{◌++◌, ◌≡◌, ◌≢◌, ⊎_elim, ℕ, ◌+◌, ◌<◌, ◌≤◌, ◌==◌, List, set, sum_by, Option, Some, None, refl, sym, ap, ◌∙◌, subst, arith, get_or-set_same, get_or-set_other}
 use mathlib.Core.Option.{some}
 use lib.ListN.{get_elem?}
 use Rattle.atomic_table.specs.Table.{Splits, Joins}
@@ -21,18 +21,22 @@ use Rattle.protocol.specs.Invariant.{one_if, standing_of}
 use Rattle.protocol.proofs.counts.Bounds.{back_within}
 use Rattle.protocol.proofs.keeps.References.{back_holds}
 use Rattle.protocol.proofs.counts.Sums.{one_at, local_changed, local_added, standing_within}
-use Rattle.cpu_words.proofs.laws.Reaching.{reached_more}
+use Rattle.cpu_words.proofs.laws.Reaching.{more}
+use Rattle.cpu_words.proofs.logs.Seats.{seat_cut, seat_join}
 use Rattle.cpu_words.proofs.shown.Standing.{standing_place}
 use Rattle.cpu_words.specs.declared.view.InHand.{InHand}
 use Rattle.cpu_words.specs.declared.view.InHand.TheVariants.{Empty as NoEntry, Taking as TakingEntry, Giving as GivingEntry, Back as BackEntry}
 use Rattle.cpu_words.specs.declared.view.CpuView.{CpuView}
 use Rattle.cpu_words.specs.declared.view.ReferenceView.{ReferenceView}
+use Rattle.cpu_words.specs.declared.view.Deed.{Deed}
+use Rattle.cpu_words.specs.declared.view.Logged.{Logged}
 use Rattle.cpu_words.specs.declared.view.View.{View}
 use Rattle.cpu_words.specs.declared.view.View.TheVariants.{Cpu, Reference, Spent}
 use Rattle.cpu_words.specs.Spots.{Spot, section_of, passive_of, count_of, head_word, next_of, record_of, total_of, word_at}
 use Rattle.cpu_words.specs.Views.{is_to, SameHand, HandFits, IsCollectedFor, CpuShown, ReferenceShown, cpu_of, reference_of}
-use Rattle.cpu_words.specs.Rule.{reference_to, Good, Ruled}
-use Rattle.cpu_words.specs.Steps.{SplitsBy, JoinsBy}
+use Rattle.cpu_words.specs.Rule.{reference_to, Good, unnamed, did, deeds}
+use Rattle.cpu_words.specs.Logs.{the_cpu, maker, LoggedRuled, going_on, fresh, joined_seat, spent_seat, leaves_hand, cuts_off, takes_in}
+use Rattle.cpu_words.specs.Steps.{SplitsBy, JoinsBy, SplitsOn, JoinsOn}
 use Rattle.cpu_words.specs.Sections.{IsIdle}
 use Rattle.cpu_words.specs.Locals.{with_hand, reference_in, emptied, cut_off, taking_in, IsTaking, IsBack}
 use Rattle.cpu_words.proofs.shown.Showing.{standing_in, backed, shows_split, shows_join}
@@ -134,6 +138,8 @@ shown_hand g x h locals k good had same fits =
 pub record Leaving (e : Event) (x : CpuView) (g : State) : Type 0 where
   pub r : Reply
   pub step : HandStep g x e r NoEntry
+  -- the reply is an id, which the seat isn't told
+  pub told : did e r ≡ did e (Ref 0)
   pub right : ReferenceShown g (reference_in x.id x.hand)
   pub count : (n : ℕ) → one_if (is_to n (reference_in x.id x.hand).entry) + standing_in n g ≡ sum_by (standing_of n) step.locals
 
@@ -153,7 +159,7 @@ splits_by x e leaves g good had =
       count = λ n. let h = p.count n in omega arith;
     }
 
-splits : (z : Settings) (i : ℕ) (x : CpuView) (e : Event) → LeavesHand e x → Splits (Ruled z) i (Cpu x) (emptied (Cpu x)) (cut_off (Cpu x))
+splits : (z : Settings) (i : ℕ) (x : CpuView) (e : Event) → LeavesHand e x → SplitsOn z i (Cpu x) (emptied (Cpu x)) (cut_off (Cpu x)) (did e (Ref 0))
 splits z i x e leaves s r at =
     let g = r.g in
     let had = r.shows.fits i (Cpu x) at in
@@ -161,20 +167,33 @@ splits z i x e leaves s r at =
     let m = p.step in
     let l = hand_lists g x.id m.h m.locals in
     let after = leaves_hands g x.id m.h m.locals in record {
-      g = with_lists g l;
-      seat = r.seat;
-      settings = r.settings;
-      good = good_after g l x.id e p.r r.good after had.1.seated m.made;
-      reached = reached_more z g (with_lists g l) e p.r r.reached m.made;
-      words = agrees_same s.words g (with_lists g l) r.words refl (λ q there. same_words g x.id m.h m.locals q);
-      shows = shows_split g (with_lists g l) r.seat s.views i (Cpu x) (emptied (Cpu x)) (cut_off (Cpu x)) r.shows at (cpu_stays g l x.id r.seat i after had.0)
-          (had.0, shown_hand g x m.h m.locals NoEntry r.good had.1 m.same m.fits) (λ j. tt) (record { attached = p.right.attached; collected = p.right.collected }) (λ n. let h = p.count n in omega arith);
+      goes_on = (more z g (with_lists g l) e p.r r.reached m.made).1 ∙ ap (λ (ds : List Deed). deeds z r.reached.events ++ ds) p.told;
+      seated = omega arith;
+      seats = λ c lt. refl;
+      ruled = record {
+        g = with_lists g l;
+        seat = r.seat;
+        settings = r.settings;
+        good = good_after g l x.id e p.r r.good after had.1.seated m.made;
+        reached = (more z g (with_lists g l) e p.r r.reached m.made).0;
+        words = agrees_same s.words g (with_lists g l) r.words refl (λ q there. same_words g x.id m.h m.locals q);
+        shows = shows_split g (with_lists g l) r.seat s.views i (Cpu x) (emptied (Cpu x)) (cut_off (Cpu x)) r.shows at (cpu_stays g l x.id r.seat i after had.0)
+            (had.0, shown_hand g x m.h m.locals NoEntry r.good had.1 m.same m.fits) (λ j. tt) (record { attached = p.right.attached; collected = p.right.collected }) (λ n. let h = p.count n in omega arith);
+      };
     }
 
 -- the same of a seat, whose view is a CPU's
 
-pub seat_splits : (z : Settings) (i : ℕ) (v : View) (x : CpuView) (e : Event) → v ≡ Cpu (cpu_of v) → cpu_of v ≡ x → LeavesHand e x → Splits (Ruled z) i v (emptied v) (cut_off v)
-seat_splits z i v x e is view leaves = subst (λ u. Splits (Ruled z) i u (emptied u) (cut_off u)) (sym (is ∙ ap Cpu view)) (splits z i x e leaves)
+pub seat_splits : (z : Settings) (i : ℕ) (l : Logged) (x : CpuView) (e : Event) → l ≡ record { view = Cpu (cpu_of l.view); log = l.log } → cpu_of l.view ≡ x → maker (unnamed e) ≡ the_cpu x.id → leaves_hand x.id x.hand ≡ did e (Ref 0) → LeavesHand e x
+    → Splits (LoggedRuled z) i l (going_on emptied cuts_off l) (fresh cut_off l)
+seat_splits z i l x e is view own does leaves = seat_cut z i l (Cpu x) emptied cut_off cuts_off (did e (Ref 0)) (is ∙ ap (λ (u : CpuView). record { view = Cpu u; log = l.log }) view) tt (own, tt) does (splits z i x e leaves)
+
+-- what is in the hand says which
+pub does_split_ref : (x : CpuView) (c : ℕ) → x.id ≡ c → (e : Entry) × IsTaking x e → leaves_hand x.id x.hand ≡ did (SplitRef c) (Ref 0)
+does_split_ref x c id may k = leaves_hand (id k) (may.1 k)
+
+pub does_split_back : (x : CpuView) (c : ℕ) → x.id ≡ c → (e : Entry) × IsBack x e → leaves_hand x.id x.hand ≡ did (SplitBack c) (Ref 0)
+does_split_back x c id may k = leaves_hand (id k) (may.1 k)
 
 pub seat_splits_by : (v a b : View) (x : CpuView) (e : Event) → cpu_of v ≡ x → a ≡ emptied v → b ≡ cut_off v → LeavesHand e x → SplitsBy e (Cpu x) (Cpu (cpu_of a)) (Reference (reference_of b))
 seat_splits_by v a b x e view left right leaves =
@@ -190,6 +209,7 @@ split_ref_leaves x c id may = subst (λ d. LeavesHand (SplitRef d) x) id (λ g g
     let attached : IsAttached g.history e = subst (HandFits g.history g.slots g.marks x.id) may.1 had.in_hand in
     let there : reference_in x.id x.hand ≡ record { entry = e; collected = None } = ap (reference_in x.id) may.1 in record {
       r = Ref (least_id g.locals);
+      told = refl;
       step = record {
         h = Empty;
         locals = with_local g.locals (least_id g.locals) (Standing n);
@@ -212,6 +232,7 @@ split_back_leaves x c id may = subst (λ d. LeavesHand (SplitBack d) x) id (λ g
     let fits : IsAttached g.history e × IsCollectedFor g.slots g.marks e x.id = subst (HandFits g.history g.slots g.marks x.id) may.1 had.in_hand in
     let there : reference_in x.id x.hand ≡ record { entry = e; collected = Some x.id } = ap (reference_in x.id) may.1 in record {
       r = Ref place;
+      told = refl;
       step = record {
         h = Empty;
         locals = set g.locals place (Standing n);
@@ -275,7 +296,7 @@ joins_by x c v id idle g good had shown has =
       count = λ n. let h = p.count n in omega arith;
     }
 
-joins : (z : Settings) (i o : ℕ) (x : CpuView) (v : ReferenceView) → IsIdle x → Joins (Ruled z) i (Cpu x) o (Reference v) (taking_in (Cpu x) (Reference v)) Spent
+joins : (z : Settings) (i o : ℕ) (x : CpuView) (v : ReferenceView) → IsIdle x → JoinsOn z i (Cpu x) o (Reference v) (taking_in (Cpu x) (Reference v)) Spent (did (JoinRef x.id 0) Done)
 joins z i o x v idle s r at apart there =
     let g = r.g in
     let both = taking_in (Cpu x) (Reference v) in
@@ -288,21 +309,28 @@ joins z i o x v idle s r at apart there =
     let p = coming x x.id refl idle v.entry g r.good had.1 shown.attached (stands_for g v (backed g r.seat s.views o (Reference v) r.shows was)) in
     let m = p.step in
     let l = hand_lists g x.id m.h m.locals in
-    let after = leaves_hands g x.id m.h m.locals in record {
-      g = with_lists g l;
-      seat = r.seat;
-      settings = r.settings;
-      good = good_after g l x.id (JoinRef x.id p.id) Done r.good after had.1.seated m.made;
-      reached = reached_more z g (with_lists g l) (JoinRef x.id p.id) Done r.reached m.made;
-      words = agrees_same s.words g (with_lists g l) r.words refl (λ q there. same_words g x.id m.h m.locals q);
-      shows = shows_join g (with_lists g l) r.seat s.views i (Cpu x) o (Reference v) both r.shows at apart was (cpu_stays g l x.id r.seat i after had.0)
-          (had.0, shown_hand g x m.h m.locals (GivingEntry v.entry) r.good had.1 m.same m.fits) (λ n. let h = p.count n in omega arith) there;
+    let after = leaves_hands g x.id m.h m.locals in
+    record {
+      goes_on = (more z g (with_lists g l) (JoinRef x.id p.id) Done r.reached m.made).1;
+      seated = omega arith;
+      seats = λ c lt. refl;
+      ruled = record {
+        g = with_lists g l;
+        seat = r.seat;
+        settings = r.settings;
+        good = good_after g l x.id (JoinRef x.id p.id) Done r.good after had.1.seated m.made;
+        reached = (more z g (with_lists g l) (JoinRef x.id p.id) Done r.reached m.made).0;
+        words = agrees_same s.words g (with_lists g l) r.words refl (λ q there. same_words g x.id m.h m.locals q);
+        shows = shows_join g (with_lists g l) r.seat s.views i (Cpu x) o (Reference v) both r.shows at apart was (cpu_stays g l x.id r.seat i after had.0)
+            (had.0, shown_hand g x m.h m.locals (GivingEntry v.entry) r.good had.1 m.same m.fits) (λ n. let h = p.count n in omega arith) there;
+      };
     }
 
 -- the same of two seats, whose views are a CPU's and a reference's
 
-pub seat_joins : (z : Settings) (i o : ℕ) (v u : View) (x : CpuView) → v ≡ Cpu (cpu_of v) → cpu_of v ≡ x → u ≡ Reference (reference_of u) → IsIdle x → Joins (Ruled z) i v o u (taking_in v u) Spent
-seat_joins z i o v u x is view that idle = subst (λ (p : View × View). Joins (Ruled z) i p.0 o p.1 (taking_in p.0 p.1) Spent) (λ k. (sym (is ∙ ap Cpu view) k, sym that k)) (joins z i o x (reference_of u) idle)
+pub seat_joins : (z : Settings) (i o : ℕ) (l m : Logged) (x : CpuView) → l ≡ record { view = Cpu (cpu_of l.view); log = l.log } → cpu_of l.view ≡ x → m ≡ record { view = Reference (reference_of m.view); log = m.log } → IsIdle x
+    → Joins (LoggedRuled z) i l o m (joined_seat taking_in takes_in l m) spent_seat
+seat_joins z i o l m x is view that idle = seat_join z i o l m (Cpu x) (Reference (reference_of m.view)) taking_in takes_in (did (JoinRef x.id 0) Done) (is ∙ ap (λ (u : CpuView). record { view = Cpu u; log = l.log }) view) that tt (refl, tt) refl (joins z i o x (reference_of m.view) idle)
 
 pub seat_joins_by : (v a : View) (x : CpuView) (c : ℕ) (u : View) (w : ReferenceView) → cpu_of v ≡ x → reference_of u ≡ w → a ≡ taking_in v u → x.id ≡ c → IsIdle x → JoinsBy (JoinRef c) (Cpu x) (Reference w) (Cpu (cpu_of a))
 seat_joins_by v a x c u w view that both id idle =

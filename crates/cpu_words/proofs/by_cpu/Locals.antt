@@ -1,5 +1,5 @@
 -- CountAdd and CountDown on the words.
-use Rattle.std.proofs.Common.{◌≡◌, ◌≢◌, ⊎_elim, ℕ, ◌+◌, ◌-◌, ◌*◌, ◌%◌, ◌^◌, ◌==◌, ◌<◌, ◌≤◌, [], set, Option, Some, true, refl, sym, ap, ◌∙◌, subst, arith}
+use Rattle.std.proofs.Common.{if◌then◌else◌, ◌≡◌, ◌≢◌, ⊎_elim, ℕ, ◌+◌, ◌-◌, ◌*◌, ◌%◌, ◌^◌, ◌==◌, ◌<◌, ◌≤◌, [], set, Option, Some, true, refl, sym, ap, ◌∙◌, subst, arith}
 use Rattle.std.specs.Prelude.{slice_index}
 use Rattle.std.proofs.lemmas.Bool.{lt-ltb, eq-eqb, ne_eqb, cases_eq}
 use mathlib.Core.Option.{some}
@@ -9,6 +9,7 @@ use Rattle.atomic_table.specs.Table.{State as Table, keeps, stepped}
 use Rattle.registry_values.specs.declared.entry.Entry.{Entry}
 use Rattle.registry_values.specs.declared.settings.Settings.{Settings}
 use Rattle.protocol.specs.declared.event.Event.TheVariants.{CountAdd, CountDown}
+use Rattle.protocol.specs.declared.event.Reply.{Reply}
 use Rattle.protocol.specs.declared.event.Reply.TheVariants.{Word, Collected}
 use Rattle.registry_values.specs.declared.slot.Slot.TheVariants.{Retired}
 use Rattle.protocol.specs.declared.state.Hand.TheVariants.{Empty, Taking, Giving, Back}
@@ -33,9 +34,9 @@ use Rattle.cpu_words.specs.declared.view.View.{View}
 use Rattle.cpu_words.specs.declared.view.View.TheVariants.{Cpu}
 use Rattle.cpu_words.specs.Spots.{count_of}
 use Rattle.cpu_words.specs.Views.{number_at, with_number, one_more, own_of, cpu_view, HandFits, IsCollectedFor, CpuShown, cpu_of}
-use Rattle.cpu_words.specs.Rule.{Agrees, Good, Ruled}
+use Rattle.cpu_words.specs.Rule.{Agrees, Good, Ruled, GoesOn, did}
 use Rattle.cpu_words.specs.Steps.{Makes, CpuMay}
-use Rattle.cpu_words.specs.Locals.{IsNetCount, IsPlaceCount, IsMetAlone, MayCount, HasCounted, CountTold, MayCountDown, HasCountedDown, HasFoundCollected, DownTold, with_hand}
+use Rattle.cpu_words.specs.Locals.{down_reply, IsNetCount, IsPlaceCount, IsMetAlone, MayCount, HasCounted, CountTold, MayCountDown, HasCountedDown, HasFoundCollected, DownTold, with_hand}
 use Rattle.cpu_words.proofs.shown.Placing.{agrees_set}
 use Rattle.cpu_words.proofs.by_cpu.CpuSteps.{with_lists, cpu_makes}
 use Rattle.cpu_words.proofs.shown.Seeing.{Seen, seen_of, idle_of}
@@ -52,7 +53,7 @@ found_counts g c e good found =
     (slot, there, (held_counting g c e.slot e holds found slot).1)
 
 count_add_at : (z : Settings) (x : CpuView) (e : Entry) → MayCount x e.slot e.number → x.found ≡ Some e
-    → CpuMay z x (80 * x.id + 33 + e.slot) (λ m. (m + 1) % 2 ^ 64) (λ v m y. Makes (CountAdd x.id) (Word m) (Cpu v) (Cpu y) × CountTold v m y)
+    → CpuMay z x (80 * x.id + 33 + e.slot) (λ m. (m + 1) % 2 ^ 64) (λ m. did (CountAdd x.id) (Word m)) (λ v m y. Makes (CountAdd x.id) (Word m) (Cpu v) (Cpu y) × CountTold v m y)
 count_add_at z x e may is s r i at fits =
     let g = r.g in
     let c = x.id in
@@ -107,8 +108,8 @@ count_add_at z x e may is s r i at fits =
 place_at : (x : CpuView) (e : Entry) (t n w : ℕ) → e.slot ≡ t → e.number ≡ n → IsPlaceCount x t n w → IsPlaceCount x e.slot e.number w
 place_at x e t n w slot number place = subst (λ (p : ℕ × ℕ). IsPlaceCount x p.0 p.1 w) (λ k. (sym slot k, sym number k)) place
 
-pub count_add_may : (z : Settings) (x : CpuView) (c t n : ℕ) → x.id ≡ c → MayCount x t n → CpuMay z x (80 * c + 33 + t) (λ m. (m + 1) % 2 ^ 64) (λ v m y. Makes (CountAdd c) (Word m) (Cpu v) (Cpu y) × CountTold v m y)
-count_add_may z x c t n id may = subst (λ (p : ℕ × ℕ). CpuMay z x (80 * p.0 + 33 + p.1) (λ m. (m + 1) % 2 ^ 64) (λ v m y. Makes (CountAdd p.0) (Word m) (Cpu v) (Cpu y) × CountTold v m y)) (λ k. (id k, may.slot k))
+pub count_add_may : (z : Settings) (x : CpuView) (c t n : ℕ) → x.id ≡ c → MayCount x t n → CpuMay z x (80 * c + 33 + t) (λ m. (m + 1) % 2 ^ 64) (λ m. did (CountAdd c) (Word m)) (λ v m y. Makes (CountAdd c) (Word m) (Cpu v) (Cpu y) × CountTold v m y)
+count_add_may z x c t n id may = subst (λ (p : ℕ × ℕ). CpuMay z x (80 * p.0 + 33 + p.1) (λ m. (m + 1) % 2 ^ 64) (λ m. did (CountAdd p.0) (Word m)) (λ v m y. Makes (CountAdd p.0) (Word m) (Cpu v) (Cpu y) × CountTold v m y)) (λ k. (id k, may.slot k))
     (count_add_at z x may.entry (record { idle = may.idle; entry = may.entry; found = may.found; slot = refl; number = refl; count = may.count; place = place_at x may.entry t n may.count may.slot may.number may.place; room = may.room }) may.found)
 
 -- an entry in a hand that gives it up has its slot
@@ -161,14 +162,14 @@ giver g x e old good had is place =
     }
 
 -- what the step from `old` must leave and tell, where it found w
-abbrev Down : Settings → Table ℕ View → ℕ → CpuView → Entry → ℕ → ℕ → ℕ → Type 0
-Down z s i x e old w m = (y : CpuView) × Ruled z (stepped s (80 * x.id + 33 + e.slot) m i [] (Cpu y) keeps)
+abbrev Down : (z : Settings) (s : Table ℕ View) → Ruled z s → ℕ → CpuView → Entry → ℕ → ℕ → ℕ → Type 0
+Down z s r i x e old w m = (y : CpuView) × GoesOn z s r (did (CountDown x.id) (down_reply old w)) (stepped s (80 * x.id + 33 + e.slot) m i [] (Cpu y) keeps)
     × (w ≡ old → Makes (CountDown x.id) (Word w) (Cpu x) (Cpu y) × HasCountedDown x e.slot e.number y)
     × ((w ≡ old → ⊥) → Makes (CountDown x.id) Collected (Cpu x) (Cpu y) × HasFoundCollected x e.number y)
 
 -- the word is the net count: one reference is released
 down_counted : (z : Settings) (s : Table ℕ View) (r : Ruled z s) (i : ℕ) (x : CpuView) (e : Entry) (old : ℕ) → get_elem? s.views i ≡ some (Cpu x) → x.hand ≡ GivingEntry e → Giver r.g x e old
-    → slice_index s.words (80 * x.id + 33 + e.slot) ≡ old → Down z s i x e old (slice_index s.words (80 * x.id + 33 + e.slot)) (old - 1)
+    → slice_index s.words (80 * x.id + 33 + e.slot) ≡ old → Down z s r i x e old (slice_index s.words (80 * x.id + 33 + e.slot)) (old - 1)
 down_counted z s r i x e old at is p found =
     let g = r.g in
     let c = x.id in
@@ -200,11 +201,12 @@ down_counted z s r i x e old at is p found =
     (λ k. let a = local_changed k g.locals p.id (Lifted c) Free within lifted in omega arith) refl shown words in
     let y = recounted g x t n l NoEntry x.acquired released in
     let change : y ≡ record x { hand = NoEntry; released = released; met = with_number x.met t n } = ap (λ (v : CpuView). record v { hand = NoEntry; released = released; met = with_number x.met t n }) (sym p.had.is) in
-    (y, done.0, (λ _. (done.1, (e, is, refl, refl, change))), (λ ne. absurd (ne found)))
+    let replied : Word word ≡ down_reply old word = sym (ap (λ b. if b then Word word else Collected) (eq-eqb word old found)) in
+    (y, subst (λ (a : Reply). GoesOn z s r (did (CountDown c) a) (stepped s (80 * c + 33 + t) (old - 1) i [] (Cpu y) keeps)) replied done.0, (λ _. (done.1, (e, is, refl, refl, change))), (λ ne. absurd (ne found)))
 
 -- the word isn't the net count: it was collected, and the reference goes back
 down_collected : (z : Settings) (s : Table ℕ View) (r : Ruled z s) (i : ℕ) (x : CpuView) (e : Entry) (old : ℕ) → get_elem? s.views i ≡ some (Cpu x) → x.hand ≡ GivingEntry e → Giver r.g x e old
-    → slice_index s.words (80 * x.id + 33 + e.slot) ≢ old → Down z s i x e old (slice_index s.words (80 * x.id + 33 + e.slot)) (slice_index s.words (80 * x.id + 33 + e.slot))
+    → slice_index s.words (80 * x.id + 33 + e.slot) ≢ old → Down z s r i x e old (slice_index s.words (80 * x.id + 33 + e.slot)) (slice_index s.words (80 * x.id + 33 + e.slot))
 down_collected z s r i x e old at is p off =
     let g = r.g in
     let c = x.id in
@@ -223,27 +225,29 @@ down_collected z s r i x e old at is p off =
     let made : step g (CountDown c) ≡ Some (record { state = with_lists g l; reply = Collected }) = rw (p.hand, p.slot, ne_eqb (count_at g.counts c t) (count_at g.nets c t) differs) refl in
     let words = agrees_set s.words g (with_lists g l) (count_of c t) word r.good.holds.fit r.words refl (p.seen.lt, p.there) (sym has) (λ q there ne. same_words g c (Back n p.id) g.locals q) in
     let done = cpu_makes z s r i x (80 * c + 33 + t) word l (CountDown c) Collected (record (own_of x) { hand = BackEntry e }) at made (leaves_hands g c (Back n p.id) g.locals) (λ k. refl) refl (subst (CpuShown (with_lists g l)) view shown) words in
-    (cpu_view (with_lists g l) c (record (own_of x) { hand = BackEntry e }), done.0, (λ same. absurd (off same)), (λ _. (done.1, (e, is, refl, sym view))))
+    let replied : Collected ≡ down_reply old word = sym (ap (λ b. if b then Word word else Collected) (ne_eqb word old off)) in
+    let y = cpu_view (with_lists g l) c (record (own_of x) { hand = BackEntry e }) in
+    (y, subst (λ (a : Reply). GoesOn z s r (did (CountDown c) a) (stepped s (80 * c + 33 + t) word i [] (Cpu y) keeps)) replied done.0, (λ same. absurd (off same)), (λ _. (done.1, (e, is, refl, sym view))))
 
 count_down_at : (z : Settings) (x : CpuView) (e : Entry) (old new : ℕ) → x.hand ≡ GivingEntry e → IsPlaceCount x e.slot e.number old → old < 2 ^ 64 → new ≡ (old + (2 ^ 64 - 1)) % 2 ^ 64
-    → CpuMay z x (80 * x.id + 33 + e.slot) (λ m. either (m == old) new m) (DownTold (CountDown x.id) old)
+    → CpuMay z x (80 * x.id + 33 + e.slot) (λ m. either (m == old) new m) (λ m. did (CountDown x.id) (down_reply old m)) (DownTold (CountDown x.id) old)
 count_down_at z x e old new is place fits is_new s r i at within =
     let p = giver r.g x e old r.good (r.shows.fits i (Cpu x) at).1 is place in
     let floor : 0 < old = p.floor in
     let less : old - 1 ≡ new = omega arith in
     let word = slice_index s.words (80 * x.id + 33 + e.slot) in
     ⊎_elim
-    (λ (same : word ≡ old). finish word _ (subst (Down z s i x e old word) (less ∙ sym (ap (λ b. either b new word) (eq-eqb word old same))) (down_counted z s r i x e old at is p same)) p.floor p.low (met_alone r.g x e p.had p.attached))
-    (λ (off : word ≢ old). finish word _ (subst (Down z s i x e old word) (sym (ap (λ b. either b new word) (ne_eqb word old off))) (down_collected z s r i x e old at is p off)) p.floor p.low (met_alone r.g x e p.had p.attached))
+    (λ (same : word ≡ old). finish word _ (subst (Down z s r i x e old word) (less ∙ sym (ap (λ b. either b new word) (eq-eqb word old same))) (down_counted z s r i x e old at is p same)) p.floor p.low (met_alone r.g x e p.had p.attached))
+    (λ (off : word ≢ old). finish word _ (subst (Down z s r i x e old word) (sym (ap (λ b. either b new word) (ne_eqb word old off))) (down_collected z s r i x e old at is p off)) p.floor p.low (met_alone r.g x e p.had p.attached))
     (cases_eq word old)
   where
     Goal : ℕ → ℕ → Type 0
-    Goal w m = (v : View) × Ruled z (stepped s (80 * x.id + 33 + e.slot) m i [] v keeps) × ((v ≡ Cpu (cpu_of v)) × DownTold (CountDown x.id) old x w (cpu_of v))
+    Goal w m = (v : View) × GoesOn z s r (did (CountDown x.id) (down_reply old w)) (stepped s (80 * x.id + 33 + e.slot) m i [] v keeps) × ((v ≡ Cpu (cpu_of v)) × DownTold (CountDown x.id) old x w (cpu_of v))
 
     same_giving_entry : (a b : Entry) → GivingEntry a ≡ GivingEntry b → a ≡ b
     same_giving_entry a b eq = cc
 
-    finish : (w m : ℕ) → Down z s i x e old w m → 0 < old → IsNetCount x e.number old → IsMetAlone x e.slot e.number → Goal w m
+    finish : (w m : ℕ) → Down z s r i x e old w m → 0 < old → IsNetCount x e.number old → IsMetAlone x e.slot e.number → Goal w m
     finish w m d floor low alone = (
       Cpu d.0,
       d.1,
@@ -258,6 +262,6 @@ count_down_at z x e old new is place fits is_new s r i at within =
     )
 
 pub count_down_may : (z : Settings) (x : CpuView) (c t n old new : ℕ) → x.id ≡ c → MayCountDown x t n old → old < 2 ^ 64 → new ≡ (old + (2 ^ 64 - 1)) % 2 ^ 64
-    → CpuMay z x (80 * c + 33 + t) (λ m. either (m == old) new m) (DownTold (CountDown c) old)
-count_down_may z x c t n old new id may fits is_new = subst (λ (p : ℕ × ℕ). CpuMay z x (80 * p.0 + 33 + p.1) (λ m. either (m == old) new m) (DownTold (CountDown p.0) old)) (λ k. (id k, may.slot k))
+    → CpuMay z x (80 * c + 33 + t) (λ m. either (m == old) new m) (λ m. did (CountDown c) (down_reply old m)) (DownTold (CountDown c) old)
+count_down_may z x c t n old new id may fits is_new = subst (λ (p : ℕ × ℕ). CpuMay z x (80 * p.0 + 33 + p.1) (λ m. either (m == old) new m) (λ m. did (CountDown p.0) (down_reply old m)) (DownTold (CountDown p.0) old)) (λ k. (id k, may.slot k))
     (count_down_at z x may.entry old new may.giving (place_at x may.entry t n old may.slot may.number may.place) fits is_new)

@@ -29,10 +29,10 @@ use Rattle.cpu_words.specs.declared.view.View.{View}
 use Rattle.cpu_words.specs.declared.view.View.TheVariants.{Reference}
 use Rattle.cpu_words.specs.Spots.{Spot, record_of, index, IsSpot}
 use Rattle.cpu_words.specs.Views.{ReferenceShown}
-use Rattle.cpu_words.specs.Rule.{Good, Ruled}
+use Rattle.cpu_words.specs.Rule.{Good, Ruled, GoesOn, did}
 use Rattle.cpu_words.specs.Steps.{OneSeat, Makes, ReferenceMay}
 use Rattle.cpu_words.specs.Reading.{tells_local}
-use Rattle.cpu_words.proofs.laws.Reaching.{reached_more}
+use Rattle.cpu_words.proofs.laws.Reaching.{more}
 use Rattle.cpu_words.proofs.shown.Placing.{agrees_set}
 use Rattle.cpu_words.proofs.shown.Showing.{shows_set, backed}
 
@@ -47,18 +47,23 @@ row_lawful g e good here = (good.holds.rows e.slot e here).1
 -- a load that leaves the core and the view keeps the rule, and is its event
 pub keeps_view : (z : Settings) (s : Table ℕ View) (r : Ruled z s) (i : ℕ) (v : View) (p : Spot) (e : Event) (rep : Reply)
     → get_elem? s.views i ≡ some v → IsSpot r.g.settings p → step r.g e ≡ Some (record { state = r.g; reply = rep }) → OneSeat v v
-    → Ruled z (stepped s (index p) (slice_index s.words (index p)) i [] v keeps) × Makes e rep v v
+    → GoesOn z s r (did e rep) (stepped s (index p) (slice_index s.words (index p)) i [] v keeps) × Makes e rep v v
 keeps_view z s r i v p e rep at there made same =
     let g = r.g in
     let had = r.shows.fits i v at in (
       record {
-        g = g;
-        seat = r.seat;
-        settings = r.settings;
-        good = r.good;
-        reached = reached_more z g g e rep r.reached made;
-        words = agrees_set s.words g g p (slice_index s.words (index p)) r.good.holds.fit r.words refl there (sym (r.words.at p there)) (λ q also ne. refl);
-        shows = shows_set g g r.seat s.views i v v r.shows at (λ j u ne sits shown backed. shown) had (λ n. refl);
+        ruled = record {
+          g = g;
+          seat = r.seat;
+          settings = r.settings;
+          good = r.good;
+          reached = (more z g g e rep r.reached made).0;
+          words = agrees_set s.words g g p (slice_index s.words (index p)) r.good.holds.fit r.words refl there (sym (r.words.at p there)) (λ q also ne. refl);
+          shows = shows_set g g r.seat s.views i v v r.shows at (λ j u ne sits shown backed. shown) had (λ n. refl);
+        };
+        goes_on = (more z g g e rep r.reached made).1;
+        seated = omega arith;
+        seats = λ c lt. refl;
       },
       record { g = g; after = g; good = r.good; good_after = r.good; before = had.1; made = made; shown = had.1; same = same },
     )
@@ -73,8 +78,8 @@ local_here g v id good shown stands =
     subst (λ (t : ℕ). IsIn v.entry (slot_at g.slots t)) at (subst (λ (f : Entry). IsIn f (slot_at g.slots has.0)) (sym one) has.2)
 
 -- the step: the seat's reference is live, so its entry has its slot
-pub local_may : (z : Settings) (v : ReferenceView) (t k : ℕ) → v.entry.slot ≡ t → k < 5 → ReferenceMay z v (657 + 8 * t + k) (tells_local (LoadRecord (Local 0 k)))
-local_may z v t k slot few = subst (λ (u : ℕ). ReferenceMay z v (657 + 8 * u + k) (tells_local (LoadRecord (Local 0 k)))) slot
+pub local_may : (z : Settings) (v : ReferenceView) (t k : ℕ) → v.entry.slot ≡ t → k < 5 → ReferenceMay z v (657 + 8 * t + k) (λ n. did (LoadRecord (Local 0 k)) (Word n)) (tells_local (LoadRecord (Local 0 k)))
+local_may z v t k slot few = subst (λ (u : ℕ). ReferenceMay z v (657 + 8 * u + k) (λ n. did (LoadRecord (Local 0 k)) (Word n)) (tells_local (LoadRecord (Local 0 k)))) slot
     (λ s r i at fits.
     let g = r.g in
     let e = v.entry in

@@ -1,5 +1,5 @@
 -- The loads of a search on the words.
-use Rattle.std.proofs.Common.{◌≡◌, ◌≢◌, ℕ, zero, suc, ◌+◌, ◌-◌, ◌*◌, ◌≤◌, ◌<◌, ⊎_elim, List, [], ◌∷◌, length, take, drop, get_or, set, Option, Some, None, refl, sym, ap, ◌∙◌, subst, arith, get_or-set_same, get_or-set_other, set-set}
+use Rattle.std.proofs.Common.{◌++◌, ◌≡◌, ◌≢◌, ℕ, zero, suc, ◌+◌, ◌-◌, ◌*◌, ◌≤◌, ◌<◌, ⊎_elim, List, [], ◌∷◌, length, take, drop, get_or, set, Option, Some, None, refl, sym, ap, ◌∙◌, subst, arith, get_or-set_same, get_or-set_other, set-set}
 use Rattle.std.proofs.lemmas.List.{set-get_or, length-take-le, take-append-drop}
 use Rattle.std.proofs.lemmas.Bool.{cases_lt}
 use Rattle.std.proofs.lemmas.Option.{none-some, same_Some}
@@ -43,9 +43,10 @@ use Rattle.cpu_words.specs.declared.view.View.{View}
 use Rattle.cpu_words.specs.declared.view.View.TheVariants.{Cpu}
 use Rattle.cpu_words.specs.Spots.{Spot, section_of, passive_of, count_of, head_word, next_of, record_of, total_of, word_at}
 use Rattle.cpu_words.specs.Views.{own_of, cpu_view, cpu_of, depth_of, CpuShown}
-use Rattle.cpu_words.specs.Rule.{Agrees, Good, Ruled}
+use Rattle.cpu_words.proofs.laws.Reaching.{goes_both}
+use Rattle.cpu_words.specs.Rule.{Agrees, Good, Ruled, GoesOn, did}
 use Rattle.cpu_words.specs.Steps.{Makes, CpuMay}
-use Rattle.cpu_words.specs.Searching.{MaySeek, key_with, search_for, seeking, moved, MayLoadLink, link_answer, followed, LinkHolds, MayStandOn, Descends, HasFollowed, HasLoadedLink, HasSought, IsAtWord, MayLoadSearched, every_word, made_of, loaded_answer, searched, FoundHolds, HasSearched, HasLoadedWord}
+use Rattle.cpu_words.specs.Searching.{sought, MaySeek, key_with, search_for, seeking, moved, MayLoadLink, link_answer, followed, LinkHolds, MayStandOn, Descends, HasFollowed, HasLoadedLink, HasSought, IsAtWord, MayLoadSearched, every_word, made_of, loaded_answer, searched, FoundHolds, HasSearched, HasLoadedWord}
 use Rattle.cpu_words.proofs.shown.Placing.{agrees_same}
 use Rattle.cpu_words.proofs.shown.Passes.{at_prefix, attached_take, attached_prefix, taken_is_prefix, prefix_longer, take_whole}
 use Rattle.cpu_words.proofs.by_cpu.CpuSteps.{CpuLists, lists_of, with_lists, same_counts, shown_on, found_on, cpu_makes}
@@ -152,7 +153,7 @@ link_holds g q n (suc t) p good is tells = (omega (arith, tells.4, good.holds.sh
 pub follows : (z : Settings) (s : Table ℕ View) (r : Ruled z s) (i : ℕ) (x : CpuView) (spot m n : ℕ) (q : Search) → get_elem? s.views i ≡ some (Cpu x) → x.search ≡ Some q
     → slice_index s.words spot ≡ m → load_link r.g x.id q q.place ≡ link_loaded r.g x.id q m → LinkTells r.g q.start q.key n m
     → ((t : ℕ) (e : Entry) → q.place ≡ AtNext t → MayStandOn x.pass q t e → n ≤ e.number)
-    → (y : CpuView) × Ruled z (stepped s spot m i [] (Cpu y) keeps) × Makes (LoadLink x.id) (link_answer m) (Cpu x) (Cpu y) × HasFollowed x q m y
+    → (y : CpuView) × GoesOn z s r (did (LoadLink x.id) (link_answer m)) (stepped s spot m i [] (Cpu y) keeps) × Makes (LoadLink x.id) (link_answer m) (Cpu x) (Cpu y) × HasFollowed x q m y
 follows z s r i x spot m n q at under found link tells above =
     let g = r.g in
     let had : CpuShown g x = (r.shows.fits i (Cpu x) at).1 in
@@ -185,8 +186,8 @@ same_next : (s t : ℕ) → AtNext s ≡ AtNext t → s ≡ t
 same_next s t e = cc
 
 load_link_may : (z : Settings) (x : CpuView) (c t : ℕ) → x.id ≡ c → MayLoadLink x t
-    → CpuMay z x (656 + 8 * t) (λ n. n) (λ v n y. Makes (LoadLink c) (link_answer n) (Cpu v) (Cpu y) × HasLoadedLink v n y)
-load_link_may z x c t id may = subst (λ d. CpuMay z x (656 + 8 * t) (λ n. n) (λ v n y. Makes (LoadLink d) (link_answer n) (Cpu v) (Cpu y) × HasLoadedLink v n y)) id
+    → CpuMay z x (656 + 8 * t) (λ n. n) (λ n. did (LoadLink c) (link_answer n)) (λ v n y. Makes (LoadLink c) (link_answer n) (Cpu v) (Cpu y) × HasLoadedLink v n y)
+load_link_may z x c t id may = subst (λ d. CpuMay z x (656 + 8 * t) (λ n. n) (λ n. did (LoadLink d) (link_answer n)) (λ v n y. Makes (LoadLink d) (link_answer n) (Cpu v) (Cpu y) × HasLoadedLink v n y)) id
     (λ s r i at fits.
     let g = r.g in
     let q = may.search in
@@ -206,20 +207,20 @@ load_link_may z x c t id may = subst (λ d. CpuMay z x (656 + 8 * t) (λ n. n) (
     let by_pass : MayStandOn (take (seen_at g x.id) g.history) q t e = subst (λ (v : ℕ). MayStandOn (take (seen_at g x.id) g.history) q v e) same (subst (λ (p : List Change). MayStandOn p q u e) seen.pass on_e) in
     let by_history = stands_by_history g.history (seen_at g x.id) t q e seen.within (on.searches x.id q searching).started by_pass in
     omega (arith, one_stands g x.id q.start (seen_at g x.id) (seen_at g x.id) t stands.0 e on walk stands.1 by_history) in
-    told z s i x (656 + 8 * t) (slice_index s.words (656 + 8 * t)) q may.under_way
+    told z s r i x (656 + 8 * t) (slice_index s.words (656 + 8 * t)) q may.under_way
     (follows z s r i x (656 + 8 * t) (slice_index s.words (656 + 8 * t)) stands.0.number q at may.under_way (refl {a = slice_index s.words (656 + 8 * t)}) link
     (subst (LinkTells g q.start q.key stands.0.number) (sym found) tells) above))
   where
-    told : (z : Settings) (s : Table ℕ View) (i : ℕ) (x : CpuView) (spot m : ℕ) (q : Search) → x.search ≡ Some q
-        → (y : CpuView) × Ruled z (stepped s spot m i [] (Cpu y) keeps) × Makes (LoadLink x.id) (link_answer m) (Cpu x) (Cpu y) × HasFollowed x q m y
-        → (w : View) × Ruled z (stepped s spot m i [] w keeps) × ((w ≡ Cpu (cpu_of w)) × (Makes (LoadLink x.id) (link_answer m) (Cpu x) (Cpu (cpu_of w)) × HasLoadedLink x m (cpu_of w)))
-    told z s i x spot m q under done = (Cpu done.0, done.1, (refl, (done.2, λ p is. subst (λ (o : Search). HasFollowed x o m done.0) (same_Some q p (sym under ∙ is)) done.3)))
+    told : (z : Settings) (s : Table ℕ View) (r : Ruled z s) (i : ℕ) (x : CpuView) (spot m : ℕ) (q : Search) → x.search ≡ Some q
+        → (y : CpuView) × GoesOn z s r (did (LoadLink x.id) (link_answer m)) (stepped s spot m i [] (Cpu y) keeps) × Makes (LoadLink x.id) (link_answer m) (Cpu x) (Cpu y) × HasFollowed x q m y
+        → (w : View) × GoesOn z s r (did (LoadLink x.id) (link_answer m)) (stepped s spot m i [] w keeps) × ((w ≡ Cpu (cpu_of w)) × (Makes (LoadLink x.id) (link_answer m) (Cpu x) (Cpu (cpu_of w)) × HasLoadedLink x m (cpu_of w)))
+    told z s r i x spot m q under done = (Cpu done.0, done.1, (refl, (done.2, λ p is. subst (λ (o : Search). HasFollowed x o m done.0) (same_Some q p (sym under ∙ is)) done.3)))
 
 -- the same, of the link that led to the slot
 pub load_link_may_by : (z : Settings) (x : CpuView) (c t i : ℕ) → 656 + 8 * t ≡ i → x.id ≡ c → MayLoadLink x t
-    → CpuMay z x i (λ n. n) (λ v n y. Makes (LoadLink c) (link_answer n) (Cpu v) (Cpu y) × HasLoadedLink v n y)
+    → CpuMay z x i (λ n. n) (λ n. did (LoadLink c) (link_answer n)) (λ v n y. Makes (LoadLink c) (link_answer n) (Cpu v) (Cpu y) × HasLoadedLink v n y)
 load_link_may_by z x c t i place id may =
-    subst (λ (j : ℕ). CpuMay z x j (λ n. n) (λ v n y. Makes (LoadLink c) (link_answer n) (Cpu v) (Cpu y) × HasLoadedLink v n y)) place (load_link_may z x c t id may)
+    subst (λ (j : ℕ). CpuMay z x j (λ n. n) (λ n. did (LoadLink c) (link_answer n)) (λ v n y. Makes (LoadLink c) (link_answer n) (Cpu v) (Cpu y) × HasLoadedLink v n y)) place (load_link_may z x c t id may)
 
 -- Seek touches no word: it is made with the load of the head
 
@@ -232,7 +233,7 @@ abbrev pub begun_lists : State → ℕ → Search → CpuLists
 begun_lists g c q = record (lists_of g) { searches = set g.searches c (Some q) }
 
 begins_search : (z : Settings) (s : Table ℕ View) (r : Ruled z s) (i : ℕ) (x : CpuView) (spot m : ℕ) (kind : Kind) (name : Name) → get_elem? s.views i ≡ some (Cpu x) → MaySeek x → slice_index s.words spot ≡ m
-    → Ruled z (stepped s spot m i [] (Cpu (seeking (key_with kind name) x)) keeps) × Makes (Seek x.id kind name) Done (Cpu x) (Cpu (seeking (key_with kind name) x))
+    → GoesOn z s r (did (Seek x.id kind name) Done) (stepped s spot m i [] (Cpu (seeking (key_with kind name) x)) keeps) × Makes (Seek x.id kind name) Done (Cpu x) (Cpu (seeking (key_with kind name) x))
 begins_search z s r i x spot m kind name at may found =
     let g = r.g in
     let key = key_with kind name in
@@ -250,9 +251,9 @@ begins_search z s r i x spot m kind name at may found =
     let start : q ≡ search_for key x = λ k. record { key = key; start = sym size k; place = AtHead } in
     let search : y.search ≡ Some (search_for key x) = get_or-set_same g.searches x.id (Some q) None seen.in_searches ∙ ap (λ (o : Search). Some o) start in
     let change : y ≡ seeking key x = (λ k. record y { search = search k }) ∙ ap (λ (v : CpuView). record v { search = Some (search_for key x) }) (sym had.is) in
-    subst (λ (v : CpuView). Ruled z (stepped s spot m i [] (Cpu v) keeps) × Makes (Seek x.id kind name) Done (Cpu x) (Cpu v)) change done
+    subst (λ (v : CpuView). GoesOn z s r (did (Seek x.id kind name) Done) (stepped s spot m i [] (Cpu v) keeps) × Makes (Seek x.id kind name) Done (Cpu x) (Cpu v)) change done
 
-seek_at : (z : Settings) (x : CpuView) (kind : Kind) (name : Name) → MaySeek x → CpuMay z x 648 (λ n. n) (HasSought (Seek x.id kind name))
+seek_at : (z : Settings) (x : CpuView) (kind : Kind) (name : Name) → MaySeek x → CpuMay z x 648 (λ n. n) (sought (Seek x.id kind name)) (HasSought (Seek x.id kind name))
 seek_at z x kind name may s r i at fits =
     let key = key_with kind name in
     let m = slice_index s.words 648 in
@@ -262,13 +263,13 @@ seek_at z x kind name may s r i at fits =
     let here : get_elem? t.views i ≡ some (Cpu v) = at_same s.views i (Cpu x) (Cpu v) at in
     let stays : t.words ≡ s.words = set-get_or s.words 648 0 in
     let found : slice_index t.words 648 ≡ m = ap (λ (ws : List ℕ). slice_index ws 648) stays in
-    let after = seek_link z t begun.0 i v m (search_for key x) here refl refl found in
+    let after = seek_link z t begun.0.ruled i v m (search_for key x) here refl refl found in
     let same : stepped t 648 m i [] (Cpu after.0) keeps ≡ stepped s 648 m i [] (Cpu after.0) keeps =
     λ k. record { words = set-set s.words 648 m m k; homes = s.homes; views = set-set s.views i (Cpu v) (Cpu after.0) k } in
-    (Cpu after.0, subst (Ruled z) same after.1, (refl, (begun.1, after.2, after.3)))
+    (Cpu after.0, subst (GoesOn z s r (did (Seek x.id kind name) Done ++ did (LoadLink x.id) (link_answer m))) same (goes_both z s t _ r (did (Seek x.id kind name) Done) (did (LoadLink x.id) (link_answer m)) begun.0 after.1), (refl, (begun.1, after.2, after.3)))
   where
     seek_link : (z : Settings) (t : Table ℕ View) (r : Ruled z t) (i : ℕ) (v : CpuView) (m : ℕ) (q : Search) → get_elem? t.views i ≡ some (Cpu v) → v.search ≡ Some q → q.place ≡ AtHead → slice_index t.words 648 ≡ m
-        → (y : CpuView) × Ruled z (stepped t 648 m i [] (Cpu y) keeps) × Makes (LoadLink v.id) (link_answer m) (Cpu v) (Cpu y) × HasFollowed v q m y
+        → (y : CpuView) × GoesOn z t r (did (LoadLink v.id) (link_answer m)) (stepped t 648 m i [] (Cpu y) keeps) × Makes (LoadLink v.id) (link_answer m) (Cpu v) (Cpu y) × HasFollowed v q m y
     seek_link z t r i v m q at under place is =
         let g = r.g in
         let had : CpuShown g v = (r.shows.fits i (Cpu v) at).1 in
@@ -282,8 +283,8 @@ seek_at z x kind name may s r i at fits =
         follows z t r i v 648 m (suc (length g.history)) q at under is link (subst (LinkTells g q.start q.key (suc (length g.history))) head tells)
         (λ u e next stands. absurd (let wrong : AtHead ≡ AtNext u = sym place ∙ next in cc))
 
-pub seek_may : (z : Settings) (x : CpuView) (c : ℕ) (kind : Kind) (name : Name) → x.id ≡ c → MaySeek x → CpuMay z x 648 (λ n. n) (HasSought (Seek c kind name))
-seek_may z x c kind name id may = subst (λ d. CpuMay z x 648 (λ n. n) (HasSought (Seek d kind name))) id (seek_at z x kind name may)
+pub seek_may : (z : Settings) (x : CpuView) (c : ℕ) (kind : Kind) (name : Name) → x.id ≡ c → MaySeek x → CpuMay z x 648 (λ n. n) (sought (Seek c kind name)) (HasSought (Seek c kind name))
+seek_may z x c kind name id may = subst (λ d. CpuMay z x 648 (λ n. n) (sought (Seek d kind name)) (HasSought (Seek d kind name))) id (seek_at z x kind name may)
 
 -- Record words
 
@@ -378,7 +379,7 @@ found_shown p q old (Over f) before holds e is = subst (IsAttached p) (same_Some
 searches_word : (z : Settings) (s : Table ℕ View) (r : Ruled z s) (i : ℕ) (x : CpuView) (spot m : ℕ) (q : Search) (o : Loaded) → get_elem? s.views i ≡ some (Cpu x) → x.search ≡ Some q
     → slice_index s.words spot ≡ m → made_of (Some q) m ≡ Some o → loaded q q.place (row_of_place r.g.rows q.place) ≡ Some o
     → ((t : ℕ) → q.place ≡ AtNumber t → (row_at r.g.rows t).number ≡ m)
-    → (y : CpuView) × Ruled z (stepped s spot m i [] (Cpu y) keeps) × Makes (LoadRecord (OfSearch x.id)) (loaded_answer (Some o)) (Cpu x) (Cpu y) × HasSearched x q m y
+    → (y : CpuView) × GoesOn z s r (did (LoadRecord (OfSearch x.id)) (loaded_answer (Some o))) (stepped s spot m i [] (Cpu y) keeps) × Makes (LoadRecord (OfSearch x.id)) (loaded_answer (Some o)) (Cpu x) (Cpu y) × HasSearched x q m y
 searches_word z s r i x spot m q o at under found makes load numbered =
     let g = r.g in
     let had : CpuShown g x = (r.shows.fits i (Cpu x) at).1 in
@@ -411,8 +412,8 @@ searches_word z s r i x spot m q o at under found makes load numbered =
     (y, done.0, done.1, record { is = change ∙ ap (searched x q) (sym makes); holds = subst (λ (u : Option Loaded). FoundHolds q u y.pass) (sym makes) holds; number = number })
 
 pub load_searched_may : (z : Settings) (x : CpuView) (c t k : ℕ) → x.id ≡ c → MayLoadSearched x t k
-    → CpuMay z x (657 + 8 * t + k) (λ n. n) (λ v n y. Makes (LoadRecord (OfSearch c)) (loaded_answer (made_of v.search n)) (Cpu v) (Cpu y) × HasLoadedWord v n y)
-load_searched_may z x c t k id may = subst (λ d. CpuMay z x (657 + 8 * t + k) (λ n. n) (λ v n y. Makes (LoadRecord (OfSearch d)) (loaded_answer (made_of v.search n)) (Cpu v) (Cpu y) × HasLoadedWord v n y)) id
+    → CpuMay z x (657 + 8 * t + k) (λ n. n) (λ n. did (LoadRecord (OfSearch c)) (loaded_answer (made_of x.search n))) (λ v n y. Makes (LoadRecord (OfSearch c)) (loaded_answer (made_of v.search n)) (Cpu v) (Cpu y) × HasLoadedWord v n y)
+load_searched_may z x c t k id may = subst (λ d. CpuMay z x (657 + 8 * t + k) (λ n. n) (λ n. did (LoadRecord (OfSearch d)) (loaded_answer (made_of x.search n))) (λ v n y. Makes (LoadRecord (OfSearch d)) (loaded_answer (made_of v.search n)) (Cpu v) (Cpu y) × HasLoadedWord v n y)) id
     (λ s r i at fits.
     let g = r.g in
     let q = may.search in
@@ -429,7 +430,7 @@ load_searched_may z x c t k id may = subst (λ d. CpuMay z x (657 + 8 * t + k) (
     let done = searches_word z s r i x place m q some.0 at may.under_way refl some.1 load numbered in
     let answer : loaded_answer (Some some.0) ≡ loaded_answer (made_of x.search m) = ap loaded_answer (sym some.1 ∙ ap (λ (p : Option Search). made_of p m) (sym may.under_way)) in (
       Cpu done.0,
-      done.1,
+      subst (λ (a : Reply). GoesOn z s r (did (LoadRecord (OfSearch x.id)) a) (stepped s place m i [] (Cpu done.0) keeps)) answer done.1,
       (
         refl,
         (

@@ -14,7 +14,7 @@ use Rattle.cpu_words.specs.declared.view.CpuView.{CpuView}
 use Rattle.cpu_words.specs.declared.view.View.TheVariants.{Cpu}
 use Rattle.cpu_words.specs.Spots.{Spot, section_of, passive_of, count_of, head_word, next_of, record_of, total_of, word_at}
 use Rattle.cpu_words.specs.Views.{own_of, cpu_view, depth_of, CpuShown}
-use Rattle.cpu_words.specs.Rule.{Agrees, Good}
+use Rattle.cpu_words.specs.Rule.{Agrees, Good, did}
 use Rattle.cpu_words.specs.Steps.{Makes, CpuMay}
 use Rattle.cpu_words.specs.Sections.{MayEnter, HasEntered, MayExit, HasExited}
 use Rattle.cpu_words.proofs.shown.Placing.{agrees_set}
@@ -35,8 +35,8 @@ section_words words g x l m seen good agrees passive counts is = agrees_set word
     other (record_of t k) ne = refl
     other (total_of t) ne = refl
 
-pub enter_may : (z : Settings) (x : CpuView) (c : ℕ) → x.id ≡ c → MayEnter x → CpuMay z x (80 * c) (λ n. (n + 1) % 2 ^ 64) (λ v n y. Makes (Enter c) Done (Cpu v) (Cpu y) × HasEntered v y)
-enter_may z x c id may = subst (λ d. CpuMay z x (80 * d) (λ n. (n + 1) % 2 ^ 64) (λ v n y. Makes (Enter d) Done (Cpu v) (Cpu y) × HasEntered v y)) id
+pub enter_may : (z : Settings) (x : CpuView) (c : ℕ) → x.id ≡ c → MayEnter x → CpuMay z x (80 * c) (λ n. (n + 1) % 2 ^ 64) (λ n. did (Enter c) Done) (λ v n y. Makes (Enter c) Done (Cpu v) (Cpu y) × HasEntered v y)
+enter_may z x c id may = subst (λ d. CpuMay z x (80 * d) (λ n. (n + 1) % 2 ^ 64) (λ n. did (Enter d) Done) (λ v n y. Makes (Enter d) Done (Cpu v) (Cpu y) × HasEntered v y)) id
     (λ s r i at fits.
     let g = r.g in
     let had : CpuShown g x = (r.shows.fits i (Cpu x) at).1 in
@@ -67,8 +67,8 @@ enter_may z x c id may = subst (λ d. CpuMay z x (80 * d) (λ n. (n + 1) % 2 ^ 6
     (λ k. record y { section = section k; begin = begun k }) ∙ ap (λ (v : CpuView). record v { section = v.section + 1; begin = Some (length y.pass); pass = y.pass }) (sym had.is) in
     (Cpu y, done.0, (refl, (done.1, (longer, change)))))
 
-pub exit_may : (z : Settings) (x : CpuView) (c : ℕ) → x.id ≡ c → MayExit x → CpuMay z x (80 * c) (λ n. (n + 1) % 2 ^ 64) (λ v n y. Makes (Exit c) Done (Cpu v) (Cpu y) × HasExited v y)
-exit_may z x c id may = subst (λ d. CpuMay z x (80 * d) (λ n. (n + 1) % 2 ^ 64) (λ v n y. Makes (Exit d) Done (Cpu v) (Cpu y) × HasExited v y)) id
+pub exit_may : (z : Settings) (x : CpuView) (c : ℕ) → x.id ≡ c → MayExit x → CpuMay z x (80 * c) (λ n. (n + 1) % 2 ^ 64) (λ n. did (Exit c) Done) (λ v n y. Makes (Exit c) Done (Cpu v) (Cpu y) × HasExited v y)
+exit_may z x c id may = subst (λ d. CpuMay z x (80 * d) (λ n. (n + 1) % 2 ^ 64) (λ n. did (Exit d) Done) (λ v n y. Makes (Exit d) Done (Cpu v) (Cpu y) × HasExited v y)) id
     (λ s r i at fits.
     let g = r.g in
     let had : CpuShown g x = (r.shows.fits i (Cpu x) at).1 in

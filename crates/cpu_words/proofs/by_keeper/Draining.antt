@@ -22,7 +22,7 @@ use Rattle.cpu_words.specs.declared.view.KeeperView.{KeeperView}
 use Rattle.cpu_words.specs.declared.view.View.TheVariants.{Keeper}
 use Rattle.cpu_words.specs.Spots.{Spot, section_of, passive_of, count_of, head_word, next_of, record_of, total_of, word_at}
 use Rattle.cpu_words.specs.Views.{KeeperOwn, keeper_own, keeper_view, KeeperShown, GivesUp, collected_net, collected_one}
-use Rattle.cpu_words.specs.Rule.{Agrees, Good}
+use Rattle.cpu_words.specs.Rule.{Agrees, Good, did}
 use Rattle.cpu_words.specs.Steps.{Makes, KeeperMay}
 use Rattle.cpu_words.specs.Grace.{MayLook, having_looked}
 use Rattle.cpu_words.specs.Draining.{MayPassiveLook, LookedPassiveTold, MayCollect, CollectTold}
@@ -54,7 +54,7 @@ looking g k t c good seen may =
 row_told : (f : ℕ → List Mark → Bool) (g : State) (k : KeeperView) (t : ℕ) → SeenByKeeper g k → f k.settings.cpus (get_or k.marks t []) ≡ true → f g.settings.cpus (get_or g.marks t []) ≡ true
 row_told f g k t seen is = sym (λ i. f (seen.settings i).cpus (get_or (seen.marks i) t [])) ∙ is
 
-pub passive_look_may : (z : Settings) (k : KeeperView) (t c : ℕ) → MayPassiveLook k t c → KeeperMay z k (80 * c + 1 + t) (λ n. n) (λ v n l. Makes (PassiveLook t c) (Word n) (Keeper v) (Keeper l) × LookedPassiveTold (PassiveLook t c) v n l)
+pub passive_look_may : (z : Settings) (k : KeeperView) (t c : ℕ) → MayPassiveLook k t c → KeeperMay z k (80 * c + 1 + t) (λ n. n) (λ n. did (PassiveLook t c) (Word n)) (λ v n l. Makes (PassiveLook t c) (Word n) (Keeper v) (Keeper l) × LookedPassiveTold (PassiveLook t c) v n l)
 passive_look_may z k t c may s r i at fits =
     let g = r.g in
     let had : KeeperShown g k = (r.shows.fits i (Keeper k) at).1 in
@@ -153,7 +153,7 @@ collect_words words g t c good here agrees = agrees_set words g (with_keeper g (
     other (record_of u j) ne = refl
     other (total_of u) ne = refl
 
-pub collect_may : (z : Settings) (k : KeeperView) (t c : ℕ) → MayCollect k t c → KeeperMay z k (80 * c + 33 + t) (λ _. 0) (λ v n l. Makes (Collect t c) (Word n) (Keeper v) (Keeper l) × CollectTold (Collect t c) v n l)
+pub collect_may : (z : Settings) (k : KeeperView) (t c : ℕ) → MayCollect k t c → KeeperMay z k (80 * c + 33 + t) (λ _. 0) (λ n. did (Collect t c) (Word n)) (λ v n l. Makes (Collect t c) (Word n) (Keeper v) (Keeper l) × CollectTold (Collect t c) v n l)
 collect_may z k t c may s r i at fits =
     let g = r.g in
     let had : KeeperShown g k = (r.shows.fits i (Keeper k) at).1 in

@@ -20,13 +20,14 @@ use Rattle.cpu_words.specs.declared.view.KeeperView.{KeeperView}
 use Rattle.cpu_words.specs.declared.view.View.TheVariants.{Keeper}
 use Rattle.cpu_words.specs.Spots.{section_of}
 use Rattle.cpu_words.specs.Views.{KeeperOwn, keeper_own, keeper_view, KeeperShown}
+use Rattle.cpu_words.specs.Rule.{did}
 use Rattle.cpu_words.specs.Steps.{Makes, KeeperMay}
 use Rattle.cpu_words.specs.Grace.{MayGlance, MayLook, MaySnapshot, due_next, LookTold, having_looked}
 use Rattle.cpu_words.proofs.by_keeper.KeeperSteps.{KeeperLists, keeper_lists, with_keeper, leaves_all, keeper_makes}
 use Rattle.cpu_words.proofs.by_keeper.KeeperSees.{seen_by_keeper, loads}
 use Rattle.cpu_words.proofs.by_keeper.Marked.{DueAlike, due_alike, same_collected, shown_marked}
 
-pub look_may : (z : Settings) (k : KeeperView) (t c : ℕ) → MayLook k t c → KeeperMay z k (80 * c) (λ n. n) (λ v n l. Makes (Look (Some t) c) (Word n) (Keeper v) (Keeper l) × LookTold (Look (Some t) c) v n l)
+pub look_may : (z : Settings) (k : KeeperView) (t c : ℕ) → MayLook k t c → KeeperMay z k (80 * c) (λ n. n) (λ n. did (Look (Some t) c) (Word n)) (λ v n l. Makes (Look (Some t) c) (Word n) (Keeper v) (Keeper l) × LookTold (Look (Some t) c) v n l)
 look_may z k t c may s r i at fits =
     let g = r.g in
     let had : KeeperShown g k = (r.shows.fits i (Keeper k) at).1 in
@@ -49,7 +50,7 @@ look_may z k t c may s r i at fits =
 
 -- a load of a section word for no entry
 glance_may : (z : Settings) (k : KeeperView) (c : ℕ) (e : Event) → MayGlance k c → ((g : State) → at_rest g.due ≡ true → nat_lt c g.settings.cpus ≡ true → step g e ≡ Some (record { state = g; reply = Word (section_at g c) }))
-    → KeeperMay z k (80 * c) (λ n. n) (λ v n l. Makes e (Word n) (Keeper v) (Keeper l) × (l ≡ having_looked v e (Word n)))
+    → KeeperMay z k (80 * c) (λ n. n) (λ n. did e (Word n)) (λ v n l. Makes e (Word n) (Keeper v) (Keeper l) × (l ≡ having_looked v e (Word n)))
 glance_may z k c e may steps s r i at fits =
     let g = r.g in
     let had : KeeperShown g k = (r.shows.fits i (Keeper k) at).1 in
@@ -64,10 +65,10 @@ glance_may z k c e may steps s r i at fits =
     let done = keeper_makes z s r i k (80 * c) w l e (Word w) own at made (leaves_all g l refl refl refl refl (λ t d is. is)) (λ n. refl) refl shown (loads s.words g (with_keeper g l) (80 * c) r.words refl (λ q _. refl)) in
     (Keeper (keeper_view (with_keeper g l) own), done.0, (refl, (done.1, ap (λ (v : KeeperView). having_looked v e (Word w)) (sym had.is))))
 
-pub look_now_may : (z : Settings) (k : KeeperView) (c : ℕ) → MayGlance k c → KeeperMay z k (80 * c) (λ n. n) (λ v n l. Makes (Look None c) (Word n) (Keeper v) (Keeper l) × LookTold (Look None c) v n l)
+pub look_now_may : (z : Settings) (k : KeeperView) (c : ℕ) → MayGlance k c → KeeperMay z k (80 * c) (λ n. n) (λ n. did (Look None c) (Word n)) (λ v n l. Makes (Look None c) (Word n) (Keeper v) (Keeper l) × LookTold (Look None c) v n l)
 look_now_may z k c may = glance_may z k c (Look None c) may (λ g rest lt. rw (rest, lt) refl)
 
-pub snapshot_now_may : (z : Settings) (k : KeeperView) (c : ℕ) → MayGlance k c → KeeperMay z k (80 * c) (λ n. n) (λ v n l. Makes (Snapshot None c) (Word n) (Keeper v) (Keeper l) × LookTold (Snapshot None c) v n l)
+pub snapshot_now_may : (z : Settings) (k : KeeperView) (c : ℕ) → MayGlance k c → KeeperMay z k (80 * c) (λ n. n) (λ n. did (Snapshot None c) (Word n)) (λ v n l. Makes (Snapshot None c) (Word n) (Keeper v) (Keeper l) × LookTold (Snapshot None c) v n l)
 snapshot_now_may z k c may = glance_may z k c (Snapshot None c) may (λ g rest lt. rw (rest, lt) refl)
 
 -- snapshots are due, or nothing: no total is to change
@@ -78,7 +79,7 @@ alike_after z t c due is = subst (DueAlike (due_next z t c)) (sym is) (from (nat
     from true u = (refl, refl, refl)
     from false u = (refl, refl, refl)
 
-pub snapshot_may : (z : Settings) (k : KeeperView) (t c : ℕ) → MaySnapshot k t c → KeeperMay z k (80 * c) (λ n. n) (λ v n l. Makes (Snapshot (Some t) c) (Word n) (Keeper v) (Keeper l) × LookTold (Snapshot (Some t) c) v n l)
+pub snapshot_may : (z : Settings) (k : KeeperView) (t c : ℕ) → MaySnapshot k t c → KeeperMay z k (80 * c) (λ n. n) (λ n. did (Snapshot (Some t) c) (Word n)) (λ v n l. Makes (Snapshot (Some t) c) (Word n) (Keeper v) (Keeper l) × LookTold (Snapshot (Some t) c) v n l)
 snapshot_may z k t c may s r i at fits =
     let g = r.g in
     let had : KeeperShown g k = (r.shows.fits i (Keeper k) at).1 in

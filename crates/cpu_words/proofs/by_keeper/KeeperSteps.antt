@@ -27,7 +27,7 @@ use Rattle.protocol.specs.Events.{step}
 use Rattle.protocol.specs.Invariant.{IsIn, Occupies, one_if, standing_of, HandHolds, Holds}
 use Rattle.protocol.proofs.slots.Occupied.{slot_has, slot_found, fresh_unoccupied}
 use Rattle.protocol.proofs.keeps.Keeping.{step_holds}
-use Rattle.cpu_words.proofs.laws.Reaching.{reached_more}
+use Rattle.cpu_words.proofs.laws.Reaching.{more}
 use Rattle.cpu_words.proofs.shown.Standing.{standing_place}
 use Rattle.cpu_words.specs.declared.view.InHand.{InHand}
 use Rattle.cpu_words.specs.declared.view.InHand.TheVariants.{Empty as NoEntry, Taking as TakingEntry, Giving as GivingEntry, Back as BackEntry}
@@ -38,7 +38,7 @@ use Rattle.cpu_words.specs.declared.view.View.{View}
 use Rattle.cpu_words.specs.declared.view.View.TheVariants.{Keeper, Cpu, Reference, Note, Spent}
 use Rattle.cpu_words.specs.Views.{KeeperOwn, own_of, cpu_view, keeper_view, references_to, is_to, SameHand, HandFits, CpuShown, KeeperShown}
 use Rattle.cpu_words.specs.Spots.{Spot, section_of, passive_of, count_of, head_word, next_of, record_of, total_of, word_at}
-use Rattle.cpu_words.specs.Rule.{Agrees, IsFresh, Good, Ruled}
+use Rattle.cpu_words.specs.Rule.{Agrees, IsFresh, Good, Ruled, GoesOn, did}
 use Rattle.cpu_words.specs.Steps.{Makes}
 use Rattle.cpu_words.proofs.shown.Showing.{standing_in, IsBacked, Stay, shows_set}
 use Rattle.cpu_words.proofs.shown.Passes.{attached_on, attached_prefix, prefix_on, take_on}
@@ -196,7 +196,7 @@ keeper_good_after g l e r good leaves made = record {
 pub keeper_makes : (z : Settings) (s : Table ℕ View) (r : Ruled z s) (i : ℕ) (k : KeeperView) (word m : ℕ) (l : KeeperLists) (e : Event) (rep : Reply) (own : KeeperOwn)
     → get_elem? s.views i ≡ some (Keeper k) → step r.g e ≡ Some (record { state = with_keeper r.g l; reply = rep }) → LeavesCpus r.g l
     → ((n : ℕ) → sum_by (standing_of n) l.locals ≡ standing_in n r.g) → own.heard ≡ k.heard → KeeperShown (with_keeper r.g l) (keeper_view (with_keeper r.g l) own) → Agrees (set s.words word m) (with_keeper r.g l)
-    → Ruled z (stepped s word m i [] (Keeper (keeper_view (with_keeper r.g l) own)) keeps) × Makes e rep (Keeper k) (Keeper (keeper_view (with_keeper r.g l) own))
+    → GoesOn z s r (did e rep) (stepped s word m i [] (Keeper (keeper_view (with_keeper r.g l) own)) keeps) × Makes e rep (Keeper k) (Keeper (keeper_view (with_keeper r.g l) own))
 keeper_makes z s r i k word m l e rep own at made leaves count heard shown words =
     let g = r.g in
     let g' = with_keeper g l in
@@ -205,13 +205,18 @@ keeper_makes z s r i k word m l e rep own at made leaves count heard shown words
     let was : KeeperShown g k = had.1 in
     let good = keeper_good_after g l e rep r.good leaves made in (
       record {
-        g = g';
-        seat = r.seat;
-        settings = r.settings;
-        good = good;
-        reached = reached_more z g g' e rep r.reached made;
-        words = words;
-        shows = shows_set g g' r.seat s.views i (Keeper k) (Keeper w) r.shows at (keeper_stays g l r.seat i r.good good.holds leaves count had.0) (had.0, shown) (λ n. let h = count n in omega arith);
+        ruled = record {
+          g = g';
+          seat = r.seat;
+          settings = r.settings;
+          good = good;
+          reached = (more z g g' e rep r.reached made).0;
+          words = words;
+          shows = shows_set g g' r.seat s.views i (Keeper k) (Keeper w) r.shows at (keeper_stays g l r.seat i r.good good.holds leaves count had.0) (had.0, shown) (λ n. let h = count n in omega arith);
+        };
+        goes_on = (more z g g' e rep r.reached made).1;
+        seated = leaves.seated;
+        seats = λ c lt. refl;
       },
       record { g = g; after = g'; good = r.good; good_after = good; before = was; made = made; shown = shown; same = (sym (ap (λ (v : KeeperView). v.settings) was.is), heard) },
     )

@@ -1,5 +1,5 @@
 -- Keep by the keeper's seat: a reference's seat is joined into it, for a slot that is vacant or may be taken as vacant.
-use Rattle.std.proofs.Common.{◌≡◌, ◌≢◌, inl, inr, ⊎_elim, ℕ, ◌≤◌, ◌<◌, List, set, Option, Some, None, true, refl, sym, ap, ◌∙◌, subst, arith, get_or-set_same}
+use Rattle.std.proofs.Common.{◌++◌, ◌≡◌, ◌≢◌, inl, inr, ⊎_elim, ℕ, ◌≤◌, ◌<◌, List, set, Option, Some, None, true, refl, sym, ap, ◌∙◌, subst, arith, get_or-set_same}
 use Rattle.std.proofs.lemmas.Bool.{lt-ltb}
 use mathlib.Core.Option.{some}
 use lib.ListN.{get_elem?}
@@ -23,15 +23,20 @@ use Rattle.protocol.proofs.counts.Sums.{one_at, local_changed, standing_within}
 use Rattle.protocol.proofs.slots.Occupied.{in_within}
 use Rattle.cpu_words.specs.declared.view.KeeperView.{KeeperView}
 use Rattle.cpu_words.specs.declared.view.ReferenceView.{ReferenceView}
+use Rattle.cpu_words.specs.declared.view.Deed.{Deed}
+use Rattle.cpu_words.specs.declared.view.Logged.{Logged}
 use Rattle.cpu_words.specs.declared.view.View.{View}
 use Rattle.cpu_words.specs.declared.view.View.TheVariants.{Keeper, Reference, Spent}
 use Rattle.cpu_words.specs.Views.{is_to, keeper_of, reference_of}
-use Rattle.cpu_words.specs.Rule.{Ruled}
-use Rattle.cpu_words.specs.Steps.{ChangesBy, JoinsBy}
-use Rattle.cpu_words.specs.Vacating.{MayVacate, vacated, vacant_from, as_vacant}
+use Rattle.cpu_words.specs.Rule.{Ruled, GoesOn, did}
+use Rattle.cpu_words.specs.Steps.{ChangesBy, JoinsBy, JoinsOn}
+use Rattle.cpu_words.specs.Vacating.{MayVacate, vacated, vacant_from, as_vacant, vacate_first}
 use Rattle.cpu_words.specs.Keeping.{MayKeep, keeping, IsVacated, with_kept}
 use Rattle.cpu_words.proofs.shown.Placing.{agrees_same}
-use Rattle.cpu_words.proofs.laws.Reaching.{reached_more}
+use Rattle.cpu_words.proofs.laws.Reaching.{more, goes_both}
+use Rattle.cpu_words.proofs.logs.Makers.{vacates_by}
+use Rattle.cpu_words.proofs.logs.Seats.{seat_join}
+use Rattle.cpu_words.specs.Logs.{LoggedRuled, joined_seat, spent_seat, keeps_for}
 use Rattle.cpu_words.proofs.shown.Standing.{standing_place}
 use Rattle.cpu_words.proofs.shown.Showing.{standing_in, backed, shows_join}
 use Rattle.cpu_words.proofs.by_keeper.KeeperSteps.{KeeperLists, with_keeper, leaves_all, keeper_good_after, beside, beside_stays, beside_words}
@@ -92,7 +97,7 @@ keep_law k t v may g good had ref backs =
       count = λ m. let a = local_changed m g.locals id (Standing n) Free (standing_within g.locals id n place.1) place.1 in omega arith;
     }
 
-takes_at : (z : Settings) (i : ℕ) (k : KeeperView) (o t : ℕ) (v : ReferenceView) → MayTake k t v → TableJoins (Ruled z) i (Keeper k) o (Reference v) (Keeper (taking k t v)) Spent
+takes_at : (z : Settings) (i : ℕ) (k : KeeperView) (o t : ℕ) (v : ReferenceView) → MayTake k t v → JoinsOn z i (Keeper k) o (Reference v) (Keeper (taking k t v)) Spent (did (Keep t 0) Done)
 unfolding keep_law
 takes_at z i k o t v may s r at apart there =
     let g = r.g in
@@ -104,26 +109,32 @@ takes_at z i k o t v may s r at apart there =
     (at_set s.views i o both (Reference v) there) in
     let law = keep_law k t v may g r.good had.1 (r.shows.fits o (Reference v) was).1 (backed g r.seat s.views o (Reference v) r.shows was) in
     let locals = set g.locals law.id Free in
-    let kept = set g.keeps t (Some v.entry.number) in record {
-      g = law.after;
-      seat = r.seat;
-      settings = r.settings;
-      good = law.good_after;
-      reached = reached_more z g law.after (Keep t law.id) Done r.reached law.made;
-      words = agrees_same s.words g law.after r.words refl (λ q _. beside_words g locals g.due kept q);
-      shows = shows_join g law.after r.seat s.views i (Keeper k) o (Reference v) both r.shows at apart was (beside_stays g locals g.due kept r.seat i had.0) (had.0, law.shown) law.count there;
+    let kept = set g.keeps t (Some v.entry.number) in
+    record {
+      goes_on = (more z g law.after (Keep t law.id) Done r.reached law.made).1;
+      seated = omega arith;
+      seats = λ c lt. refl;
+      ruled = record {
+        g = law.after;
+        seat = r.seat;
+        settings = r.settings;
+        good = law.good_after;
+        reached = (more z g law.after (Keep t law.id) Done r.reached law.made).0;
+        words = agrees_same s.words g law.after r.words refl (λ q _. beside_words g locals g.due kept q);
+        shows = shows_join g law.after r.seat s.views i (Keeper k) o (Reference v) both r.shows at apart was (beside_stays g locals g.due kept r.seat i had.0) (had.0, law.shown) law.count there;
+      };
     }
 
 -- from the view with the slot taken as vacant
-keeps_from : (z : Settings) (i : ℕ) (k u : KeeperView) (o t : ℕ) (v : ReferenceView)
-    → ((s : Table ℕ View) → Ruled z s → (id : ℕ) → get_elem? s.views id ≡ some (Keeper k) → Ruled z (with_view s id (Keeper u))) → MayTake u t v → TableJoins (Ruled z) i (Keeper k) o (Reference v) (Keeper (taking u t v)) Spent
-keeps_from z i k u o t v first may s r at apart there =
+keeps_from : (z : Settings) (i : ℕ) (k u : KeeperView) (o t : ℕ) (v : ReferenceView) (before : List Deed)
+    → ((s : Table ℕ View) (r : Ruled z s) (id : ℕ) → get_elem? s.views id ≡ some (Keeper k) → GoesOn z s r before (with_view s id (Keeper u))) → MayTake u t v → JoinsOn z i (Keeper k) o (Reference v) (Keeper (taking u t v)) Spent (before ++ did (Keep t 0) Done)
+keeps_from z i k u o t v before first may s r at apart there =
     let both = Keeper (taking u t v) in
-    let ruled = first s r i at in
+    let a = first s r i at in
     let again : set (set s.views i (Keeper u)) i both ≡ set s.views i both = views_again s.views i (Keeper u) both in
     let there' : get_elem? (set (set s.views i (Keeper u)) i both) o ≡ some (Reference v) = ap (λ (l : List View). get_elem? l o) again ∙ there in
-    subst (λ (l : List View). Ruled z (record { words = s.words; homes = s.homes; views = set l o Spent })) again
-    (takes_at z i u o t v may (with_view s i (Keeper u)) ruled (view_here s.views i (Keeper k) (Keeper u) at) apart there')
+    let b = takes_at z i u o t v may (with_view s i (Keeper u)) a.ruled (view_here s.views i (Keeper k) (Keeper u) at) apart there' in
+    subst (λ (l : List View). GoesOn z s r (before ++ did (Keep t 0) Done) (record { words = s.words; homes = s.homes; views = set l o Spent })) again (goes_both z s (with_view s i (Keeper u)) _ r before (did (Keep t 0) Done) a b)
 
 -- what Keep asks, of a slot that is vacant and of one that is drained
 
@@ -145,12 +156,13 @@ vacated_is k t drained = ap (λ (x : Slot). vacant_from x k t) (sym drained.drai
 kept_is : (k u : KeeperView) (t : ℕ) (v : ReferenceView) → u ≡ as_vacant k t → taking u t v ≡ keeping k t v
 kept_is k u t v same = ap (λ (x : KeeperView). taking x t v) same ∙ ap (λ (x : List (Option ℕ)). record (as_vacant k t) { keeps = set x t (Some v.entry.number) }) (same_beside (slot_at k.slots t) k t).2
 
-keeps : (z : Settings) (i : ℕ) (k : KeeperView) (o t : ℕ) (v : ReferenceView) → MayKeep k t v → TableJoins (Ruled z) i (Keeper k) o (Reference v) (Keeper (keeping k t v)) Spent
+keeps : (z : Settings) (i : ℕ) (k : KeeperView) (o t : ℕ) (v : ReferenceView) → MayKeep k t v → JoinsOn z i (Keeper k) o (Reference v) (Keeper (keeping k t v)) Spent (vacate_first (slot_at k.slots t) t (did (Keep t 0) Done))
 keeps z i k o t v may = ⊎_elim
-    (λ (vacant : slot_at k.slots t ≡ Vacant). subst (λ (w : KeeperView). TableJoins (Ruled z) i (Keeper k) o (Reference v) (Keeper w) Spent) (kept_is k k t v (vacant_is k t vacant))
-    (takes_at z i k o t v (now_vacant k t v may vacant)))
-    (λ (drained : MayVacate k t). subst (λ (w : KeeperView). TableJoins (Ruled z) i (Keeper k) o (Reference v) (Keeper w) Spent) (kept_is k (vacated k t) t v (vacated_is k t drained))
-    (keeps_from z i k (vacated k t) o t v (λ s r id at. (vacates z k t drained s r id at).0) (once_vacated k t v may drained)))
+    (λ (vacant : slot_at k.slots t ≡ Vacant). subst (λ (w : KeeperView). JoinsOn z i (Keeper k) o (Reference v) (Keeper w) Spent (vacate_first (slot_at k.slots t) t (did (Keep t 0) Done))) (kept_is k k t v (vacant_is k t vacant))
+    (subst (λ (x : Slot). JoinsOn z i (Keeper k) o (Reference v) (Keeper (taking k t v)) Spent (vacate_first x t (did (Keep t 0) Done))) (sym vacant) (takes_at z i k o t v (now_vacant k t v may vacant))))
+    (λ (drained : MayVacate k t). subst (λ (w : KeeperView). JoinsOn z i (Keeper k) o (Reference v) (Keeper w) Spent (vacate_first (slot_at k.slots t) t (did (Keep t 0) Done))) (kept_is k (vacated k t) t v (vacated_is k t drained))
+    (subst (λ (x : Slot). JoinsOn z i (Keeper k) o (Reference v) (Keeper (taking (vacated k t) t v)) Spent (vacate_first x t (did (Keep t 0) Done))) (sym drained.drained.retired.1)
+    (keeps_from z i k (vacated k t) o t v (did (Vacate t) Done) (λ s r id at. (vacates z k t drained s r id at).0) (once_vacated k t v may drained))))
     may.write.vacant
 
 pub keep_makes : (k : KeeperView) (t : ℕ) (v : ReferenceView) → MayKeep k t v → JoinsBy (Keep t) (Keeper (as_vacant k t)) (Reference v) (Keeper (keeping k t v))
@@ -169,12 +181,12 @@ is_vacated k t v may = ⊎_elim
     may.write.vacant
 
 -- the same of seats' views
-pub keeps_seats : (z : Settings) (i : ℕ) (x : View) (o : ℕ) (u : View) (named t : ℕ) (k : KeeperView) (v : ReferenceView) → named ≡ t → x ≡ Keeper (keeper_of x) → keeper_of x ≡ k → u ≡ Reference (reference_of u) → reference_of u ≡ v → MayKeep k t v
-    → TableJoins (Ruled z) i x o u (with_kept named x u) Spent
+pub keeps_seats : (z : Settings) (i : ℕ) (x : Logged) (o : ℕ) (u : Logged) (named t : ℕ) (k : KeeperView) (v : ReferenceView) → named ≡ t → x ≡ record { view = Keeper (keeper_of x.view); log = x.log } → keeper_of x.view ≡ k
+    → u ≡ record { view = Reference (reference_of u.view); log = u.log } → reference_of u.view ≡ v → MayKeep k t v → TableJoins (LoggedRuled z) i x o u (joined_seat (with_kept named) (keeps_for named) x u) spent_seat
 keeps_seats z i x o u named t k v is keeper k_is ref v_is may =
-    let x_is : x ≡ Keeper k = keeper ∙ ap Keeper k_is in
-    let u_is : u ≡ Reference v = ref ∙ ap Reference v_is in
-    subst (λ (p : View × View). TableJoins (Ruled z) i p.0 o p.1 (with_kept named p.0 p.1) Spent) (λ j. (sym x_is j, sym u_is j)) (subst (λ m. TableJoins (Ruled z) i (Keeper k) o (Reference v) (with_kept m (Keeper k) (Reference v)) Spent) (sym is) (keeps z i k o t v may))
+    subst (λ (m : ℕ). TableJoins (LoggedRuled z) i x o u (joined_seat (with_kept m) (keeps_for m) x u) spent_seat) (sym is)
+    (seat_join z i o x u (Keeper k) (Reference v) (with_kept t) (keeps_for t) (vacate_first (slot_at k.slots t) t (did (Keep t 0) Done)) (keeper ∙ ap (λ (y : KeeperView). record { view = Keeper y; log = x.log }) k_is)
+    (ref ∙ ap (λ (y : ReferenceView). record { view = Reference y; log = u.log }) v_is) tt (vacates_by (slot_at k.slots t) t (did (Keep t 0) Done) (refl, tt)) refl (keeps z i k o t v may))
 
 pub keep_by : (x u y : View) (named t : ℕ) (k : KeeperView) (v : ReferenceView) → named ≡ t → keeper_of x ≡ k → reference_of u ≡ v → y ≡ with_kept named x u → MayKeep k t v → JoinsBy (Keep t) (Keeper (as_vacant k t)) (Reference v) (Keeper (keeper_of y))
 keep_by x u y named t k v same k_is v_is y_is may =

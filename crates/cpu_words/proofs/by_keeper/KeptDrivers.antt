@@ -17,7 +17,7 @@ use Rattle.cpu_words.specs.declared.view.KeeperView.{KeeperView}
 use Rattle.cpu_words.specs.declared.view.View.TheVariants.{Keeper}
 use Rattle.cpu_words.specs.Spots.{total_of}
 use Rattle.cpu_words.specs.Views.{KeeperOwn, keeper_own, keeper_view, one_more, KeeperShown, GivesUp}
-use Rattle.cpu_words.specs.Rule.{Agrees, Good}
+use Rattle.cpu_words.specs.Rule.{Agrees, Good, did}
 use Rattle.cpu_words.specs.Steps.{Makes, KeeperMay}
 use Rattle.cpu_words.specs.Draining.{MayKeptSub, HasKeptSub, KeptSubTold}
 use Rattle.cpu_words.proofs.by_keeper.KeeperSteps.{KeeperLists, with_keeper, keeper_makes}
@@ -82,7 +82,7 @@ shown_kept_sub g k t d u e good had x = record {
   heard = had.heard;
 }
 
-pub kept_sub_may : (z : Settings) (k : KeeperView) (t u : ℕ) → MayKeptSub k t u → KeeperMay z k (912 + u) (λ n. (n + (2 ^ 64 - 1)) % 2 ^ 64) (λ v n l. Makes (KeptSub t) Done (Keeper v) (Keeper l) × KeptSubTold (KeptSub t) v l)
+pub kept_sub_may : (z : Settings) (k : KeeperView) (t u : ℕ) → MayKeptSub k t u → KeeperMay z k (912 + u) (λ n. (n + (2 ^ 64 - 1)) % 2 ^ 64) (λ n. did (KeptSub t) Done) (λ v n l. Makes (KeptSub t) Done (Keeper v) (Keeper l) × KeptSubTold (KeptSub t) v l)
 kept_sub_may z k t u may s r i at fits =
     let g = r.g in
     let had : KeeperShown g k = (r.shows.fits i (Keeper k) at).1 in

@@ -27,7 +27,7 @@ use Rattle.cpu_words.specs.declared.view.KeeperView.{KeeperView}
 use Rattle.cpu_words.specs.declared.view.View.TheVariants.{Keeper}
 use Rattle.cpu_words.specs.Spots.{Spot, section_of, passive_of, count_of, head_word, next_of, record_of, total_of, IsSpot, word_at}
 use Rattle.cpu_words.specs.Views.{keeper_own, keeper_view, KeeperShown, number_at, collected_net, collected_one}
-use Rattle.cpu_words.specs.Rule.{Agrees, Good}
+use Rattle.cpu_words.specs.Rule.{Agrees, Good, did}
 use Rattle.cpu_words.specs.Steps.{Makes, KeeperStores}
 use Rattle.cpu_words.specs.Publishing.{LeadsBelow, MayPublish, HasPublished, PublishTold}
 use Rattle.cpu_words.proofs.shown.Passes.{prefix_on}
@@ -165,7 +165,7 @@ shown_published g k t e good had may =
       heard = prefix_on k.heard g.history (Attach e ∷ []) had.heard;
     }
 
-pub publish_may : (z : Settings) (k : KeeperView) (t : ℕ) (e : Entry) → MayPublish k t e → KeeperStores z k 648 (t + 1) (λ v n l. Makes (Publish t) Done (Keeper v) (Keeper l) × PublishTold (Publish t) v l)
+pub publish_may : (z : Settings) (k : KeeperView) (t : ℕ) (e : Entry) → MayPublish k t e → KeeperStores z k 648 (t + 1) (λ n. did (Publish t) Done) (λ v n l. Makes (Publish t) Done (Keeper v) (Keeper l) × PublishTold (Publish t) v l)
 publish_may z k t e may s r i at fits =
     let g = r.g in
     let had : KeeperShown g k = (r.shows.fits i (Keeper k) at).1 in

@@ -34,14 +34,17 @@ use Rattle.protocol.proofs.counts.Sums.{local_changed, standing_within}
 use Rattle.protocol.proofs.counts.Bounds.{adding_range, adding_within, subtracting_range}
 use Rattle.cpu_words.specs.declared.view.KeeperView.{KeeperView}
 use Rattle.cpu_words.specs.declared.view.ReferenceView.{ReferenceView}
+use Rattle.cpu_words.specs.declared.view.Logged.{Logged}
 use Rattle.cpu_words.specs.declared.view.View.{View}
 use Rattle.cpu_words.specs.declared.view.View.TheVariants.{Keeper, Reference, Spent}
 use Rattle.cpu_words.specs.Spots.{Spot, section_of, passive_of, count_of, head_word, next_of, record_of, total_of, word_at}
 use Rattle.cpu_words.specs.Views.{KeeperOwn, keeper_own, keeper_view, number_at, one_more, is_to, IsCollectedFor, KeeperShown, ReferenceShown, GivesUp, keeper_of, reference_of}
-use Rattle.cpu_words.specs.Rule.{Agrees, Good, Ruled}
-use Rattle.cpu_words.specs.Steps.{Makes, JoinsBy, KeeperMay, KeeperStores}
+use Rattle.cpu_words.specs.Rule.{Agrees, Good, did}
+use Rattle.cpu_words.specs.Steps.{Makes, JoinsBy, JoinsOn, KeeperMay, KeeperStores}
 use Rattle.cpu_words.specs.Draining.{MayTotalAdd, TotalAddTold, MayTotalSub, TotalSubTold, MayJoinKeeper, giving_up, with_given_up}
-use Rattle.cpu_words.proofs.laws.Reaching.{reached_more}
+use Rattle.cpu_words.proofs.laws.Reaching.{more}
+use Rattle.cpu_words.proofs.logs.Seats.{seat_join}
+use Rattle.cpu_words.specs.Logs.{LoggedRuled, joined_seat, spent_seat, gives_up}
 use Rattle.cpu_words.proofs.shown.Placing.{agrees_set, agrees_same}
 use Rattle.cpu_words.proofs.shown.Showing.{standing_in, backed, shows_join}
 use Rattle.cpu_words.proofs.by_cpu.Counting.{one_more_same, one_more_other}
@@ -122,7 +125,7 @@ shown_added g k t old good had due = record {
         omega (arith, was, total, a, b, none))
         (cases_eq u t)
 
-pub total_add_may : (z : Settings) (k : KeeperView) (t old value : ℕ) → MayTotalAdd k t old value → KeeperStores z k (912 + t) value (λ v n l. Makes (TotalAdd t) Done (Keeper v) (Keeper l) × TotalAddTold (TotalAdd t) v n l)
+pub total_add_may : (z : Settings) (k : KeeperView) (t old value : ℕ) → MayTotalAdd k t old value → KeeperStores z k (912 + t) value (λ n. did (TotalAdd t) Done) (λ v n l. Makes (TotalAdd t) Done (Keeper v) (Keeper l) × TotalAddTold (TotalAdd t) v n l)
 total_add_may z k t old value may s r i at fits =
     let g = r.g in
     let had : KeeperShown g k = (r.shows.fits i (Keeper k) at).1 in
@@ -222,7 +225,7 @@ shown_subtracted g k t e good had retired due =
       heard = had.heard;
     }
 
-pub total_sub_may : (z : Settings) (k : KeeperView) (t : ℕ) → MayTotalSub k t → KeeperMay z k (912 + t) (λ n. (n + (2 ^ 64 - 1)) % 2 ^ 64) (λ v n l. Makes (TotalSub t) Done (Keeper v) (Keeper l) × TotalSubTold (TotalSub t) v l)
+pub total_sub_may : (z : Settings) (k : KeeperView) (t : ℕ) → MayTotalSub k t → KeeperMay z k (912 + t) (λ n. (n + (2 ^ 64 - 1)) % 2 ^ 64) (λ n. did (TotalSub t) Done) (λ v n l. Makes (TotalSub t) Done (Keeper v) (Keeper l) × TotalSubTold (TotalSub t) v l)
 total_sub_may z k t may s r i at fits =
     let g = r.g in
     let had : KeeperShown g k = (r.shows.fits i (Keeper k) at).1 in
@@ -325,7 +328,7 @@ join_keeper_law k v may g good had ref backs =
       count = λ m. let a = local_changed m g.locals id (Standing n) Free (standing_within g.locals id n place.1) place.1 in omega arith;
     }
 
-joins_at : (z : Settings) (i : ℕ) (k : KeeperView) (o : ℕ) (v : ReferenceView) → MayJoinKeeper k v → TableJoins (Ruled z) i (Keeper k) o (Reference v) (Keeper (giving_up k v)) Spent
+joins_at : (z : Settings) (i : ℕ) (k : KeeperView) (o : ℕ) (v : ReferenceView) → MayJoinKeeper k v → JoinsOn z i (Keeper k) o (Reference v) (Keeper (giving_up k v)) Spent (did (JoinKeeper 0) Done)
 unfolding join_keeper_law
 joins_at z i k o v may s r at apart there =
     let g = r.g in
@@ -337,22 +340,26 @@ joins_at z i k o v may s r at apart there =
     (at_set s.views i o both (Reference v) there) in
     let law = join_keeper_law k v may g r.good had.1 (r.shows.fits o (Reference v) was).1 (backed g r.seat s.views o (Reference v) r.shows was) in
     record {
-      g = law.after;
-      seat = r.seat;
-      settings = r.settings;
-      good = law.good_after;
-      reached = reached_more z g law.after (JoinKeeper law.id) Done r.reached law.made;
-      words = agrees_same s.words g law.after r.words refl (λ q _. beside_words g (set g.locals law.id Free) (Subtracting v.entry.slot) g.keeps q);
-      shows = shows_join g law.after r.seat s.views i (Keeper k) o (Reference v) both r.shows at apart was (beside_stays g (set g.locals law.id Free) (Subtracting v.entry.slot) g.keeps r.seat i had.0) (had.0, law.shown) law.count there;
+      goes_on = (more z g law.after (JoinKeeper law.id) Done r.reached law.made).1;
+      seated = omega arith;
+      seats = λ c lt. refl;
+      ruled = record {
+        g = law.after;
+        seat = r.seat;
+        settings = r.settings;
+        good = law.good_after;
+        reached = (more z g law.after (JoinKeeper law.id) Done r.reached law.made).0;
+        words = agrees_same s.words g law.after r.words refl (λ q _. beside_words g (set g.locals law.id Free) (Subtracting v.entry.slot) g.keeps q);
+        shows = shows_join g law.after r.seat s.views i (Keeper k) o (Reference v) both r.shows at apart was (beside_stays g (set g.locals law.id Free) (Subtracting v.entry.slot) g.keeps r.seat i had.0) (had.0, law.shown) law.count there;
+      };
     }
 
 -- the same of seats' views
-pub joins_keeper : (z : Settings) (i : ℕ) (x : View) (o : ℕ) (u : View) (k : KeeperView) (v : ReferenceView) → x ≡ Keeper (keeper_of x) → keeper_of x ≡ k → u ≡ Reference (reference_of u) → reference_of u ≡ v → MayJoinKeeper k v
-    → TableJoins (Ruled z) i x o u (with_given_up x u) Spent
+pub joins_keeper : (z : Settings) (i : ℕ) (x : Logged) (o : ℕ) (u : Logged) (k : KeeperView) (v : ReferenceView) → x ≡ record { view = Keeper (keeper_of x.view); log = x.log } → keeper_of x.view ≡ k
+    → u ≡ record { view = Reference (reference_of u.view); log = u.log } → reference_of u.view ≡ v → MayJoinKeeper k v → TableJoins (LoggedRuled z) i x o u (joined_seat with_given_up gives_up x u) spent_seat
 joins_keeper z i x o u k v keeper k_is ref v_is may =
-    let x_is : x ≡ Keeper k = keeper ∙ ap Keeper k_is in
-    let u_is : u ≡ Reference v = ref ∙ ap Reference v_is in
-    subst (λ (p : View × View). TableJoins (Ruled z) i p.0 o p.1 (with_given_up p.0 p.1) Spent) (λ j. (sym x_is j, sym u_is j)) (joins_at z i k o v may)
+    seat_join z i o x u (Keeper k) (Reference v) with_given_up gives_up (did (JoinKeeper 0) Done) (keeper ∙ ap (λ (y : KeeperView). record { view = Keeper y; log = x.log }) k_is)
+    (ref ∙ ap (λ (y : ReferenceView). record { view = Reference y; log = u.log }) v_is) tt (refl, tt) refl (joins_at z i k o v may)
 
 pub join_keeper_by : (x u y : View) (k : KeeperView) (v : ReferenceView) → keeper_of x ≡ k → reference_of u ≡ v → y ≡ with_given_up x u → MayJoinKeeper k v → JoinsBy JoinKeeper (Keeper k) (Reference v) (Keeper (keeper_of y))
 join_keeper_by x u y k v k_is v_is y_is may =

@@ -25,7 +25,7 @@ use Rattle.cpu_words.specs.declared.view.KeeperView.{KeeperView}
 use Rattle.cpu_words.specs.declared.view.View.TheVariants.{Keeper}
 use Rattle.cpu_words.specs.Spots.{Spot, section_of, passive_of, count_of, head_word, next_of, record_of, total_of, word_at}
 use Rattle.cpu_words.specs.Views.{keeper_own, keeper_view, KeeperShown, GivesUp, collected_net, collected_one}
-use Rattle.cpu_words.specs.Rule.{Agrees, Good}
+use Rattle.cpu_words.specs.Rule.{Agrees, Good, did}
 use Rattle.cpu_words.specs.Steps.{Makes, KeeperStores}
 use Rattle.cpu_words.specs.Publishing.{LeadsBelow, IsBefore, MayUnpublish, HasUnpublished, UnpublishTold, having_unpublished, link_index, head_with, links_with}
 use Rattle.cpu_words.proofs.shown.Passes.{prefix_on}
@@ -206,7 +206,7 @@ one_place (Some p) None same = absurd (omega arith)
 one_place (Some p) (Some q) same = let i : p ≡ q = omega arith in ap Some i
 
 unpublish_at : (z : Settings) (k : KeeperView) (t : ℕ) (p : Option ℕ) (v : ℕ) → MayUnpublish k t p v
-    → KeeperStores z k (link_index p) v (λ y n l. Makes (Unpublish t) Done (Keeper y) (Keeper l) × UnpublishTold (Unpublish t) (link_index p) v y l)
+    → KeeperStores z k (link_index p) v (λ _. did (Unpublish t) Done) (λ y n l. Makes (Unpublish t) Done (Keeper y) (Keeper l) × UnpublishTold (Unpublish t) (link_index p) v y l)
 unpublish_at z k t p v may s r i at fits =
     let g = r.g in
     let e = may.e in
@@ -228,6 +228,6 @@ unpublish_at z k t p v may s r i at fits =
     )
 
 pub unpublish_may : (z : Settings) (k : KeeperView) (t : ℕ) (p : Option ℕ) (v w : ℕ) → w ≡ link_index p → MayUnpublish k t p v
-    → KeeperStores z k w v (λ y n l. Makes (Unpublish t) Done (Keeper y) (Keeper l) × UnpublishTold (Unpublish t) w v y l)
+    → KeeperStores z k w v (λ _. did (Unpublish t) Done) (λ y n l. Makes (Unpublish t) Done (Keeper y) (Keeper l) × UnpublishTold (Unpublish t) w v y l)
 unpublish_may z k t p v w is may =
-    subst (λ (x : ℕ). KeeperStores z k x v (λ y n l. Makes (Unpublish t) Done (Keeper y) (Keeper l) × UnpublishTold (Unpublish t) x v y l)) (sym is) (unpublish_at z k t p v may)
+    subst (λ (x : ℕ). KeeperStores z k x v (λ _. did (Unpublish t) Done) (λ y n l. Makes (Unpublish t) Done (Keeper y) (Keeper l) × UnpublishTold (Unpublish t) x v y l)) (sym is) (unpublish_at z k t p v may)

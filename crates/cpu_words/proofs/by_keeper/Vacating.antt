@@ -1,5 +1,5 @@
 -- Vacate by the keeper's seat: it touches no word, so it is made just before the first word that is stored.
-use Rattle.std.proofs.Common.{◌≡◌, inl, inr, ℕ, zero, suc, List, [], ◌∷◌, set, replicate, Option, Some, None, refl, sym, ap, ◌∙◌, subst, length-set}
+use Rattle.std.proofs.Common.{◌≡◌, inl, inr, ℕ, zero, suc, List, [], ◌∷◌, ◌++◌, set, replicate, Option, Some, None, refl, sym, ap, ◌∙◌, subst, length-set}
 use Rattle.std.proofs.lemmas.List.{set-get_or}
 use Rattle.std.specs.Prelude.{slice_index}
 use mathlib.Core.Option.{some, some-ne-none}
@@ -15,10 +15,12 @@ use Rattle.protocol.specs.State.{State, kept_at}
 use Rattle.protocol.specs.Events.{step, after_vacate}
 use Rattle.protocol.proofs.keeps.ListKeeps.{rows_put}
 use Rattle.cpu_words.specs.declared.view.KeeperView.{KeeperView}
+use Rattle.cpu_words.specs.declared.view.Deed.{Deed}
 use Rattle.cpu_words.specs.declared.view.View.{View}
 use Rattle.cpu_words.specs.declared.view.View.TheVariants.{Keeper}
 use Rattle.cpu_words.specs.Views.{keeper_own, keeper_view, KeeperShown}
-use Rattle.cpu_words.specs.Rule.{Ruled}
+use Rattle.cpu_words.proofs.laws.Reaching.{goes_both}
+use Rattle.cpu_words.specs.Rule.{Ruled, GoesOn, did}
 use Rattle.cpu_words.specs.Steps.{ChangesBy, Makes, Moves}
 use Rattle.cpu_words.specs.Vacating.{MayVacate, vacated, vacant_from}
 use Rattle.cpu_words.proofs.by_keeper.KeeperSteps.{KeeperLists, with_keeper, keeper_good_after, keeper_makes}
@@ -68,8 +70,8 @@ same_beside (Live e) k t = (refl, refl, refl)
 same_beside (Retired e) k t = (refl, refl, refl)
 
 -- the rule holds on as the keeper takes a drained slot as vacant
-pub vacates : (z : Settings) (k : KeeperView) (t : ℕ) → MayVacate k t → (s : Table ℕ View) → Ruled z s → (i : ℕ) → get_elem? s.views i ≡ some (Keeper k)
-    → Ruled z (with_view s i (Keeper (vacated k t))) × Makes (Vacate t) Done (Keeper k) (Keeper (vacated k t))
+pub vacates : (z : Settings) (k : KeeperView) (t : ℕ) → MayVacate k t → (s : Table ℕ View) (r : Ruled z s) (i : ℕ) → get_elem? s.views i ≡ some (Keeper k)
+    → GoesOn z s r (did (Vacate t) Done) (with_view s i (Keeper (vacated k t))) × Makes (Vacate t) Done (Keeper k) (Keeper (vacated k t))
 vacates z k t may s r i at =
     let g = r.g in
     let had : KeeperShown g k = (r.shows.fits i (Keeper k) at).1 in
@@ -84,7 +86,7 @@ vacates z k t may s r i at =
     let done = keeper_makes z s r i k 0 n l (Vacate t) Done own at made (vacated_leaves g t e g.totals g.keeps r.good drained) (λ m. refl) refl (shown_vacated g k t e had drained)
     (loads s.words g (with_keeper g l) 0 r.words refl (λ q _. refl)) in
     let is : w ≡ vacated k t = ap (λ (v : KeeperView). record v { slots = set v.slots t Vacant; counts = set k.counts t (replicate 8 0) }) (sym had.is) in (
-      subst (λ (v : KeeperView). Ruled z (with_view s i (Keeper v))) is (subst (λ (ws : List ℕ). Ruled z (record { words = ws; homes = s.homes; views = set s.views i (Keeper w) })) (set-get_or s.words 0 0) done.0),
+      subst (λ (v : KeeperView). GoesOn z s r (did (Vacate t) Done) (with_view s i (Keeper v))) is (subst (λ (ws : List ℕ). GoesOn z s r (did (Vacate t) Done) (record { words = ws; homes = s.homes; views = set s.views i (Keeper w) })) (set-get_or s.words 0 0) done.0),
       subst (λ (v : KeeperView). Makes (Vacate t) Done (Keeper k) (Keeper v)) is done.1,
     )
 
@@ -100,9 +102,9 @@ view_here (x ∷ xs) zero v w e = refl
 view_here (x ∷ xs) (suc i) v w e = view_here xs i v w e
 
 -- a step that may be made by the view with a change that touches no word may be made by the view before it
-pub moves_after : (z : Settings) (v u : View) (i : ℕ) (f : ℕ → ℕ) (tells : ℕ → View → Type 0) (T : Type 0)
-    → ((s : Table ℕ View) → Ruled z s → (id : ℕ) → get_elem? s.views id ≡ some v → Ruled z (with_view s id u) × T) → Moves z u i f tells → Moves z v i f (λ n w. T × tells n w)
-moves_after z v u i f tells T first then s r id at fits =
+pub moves_after : (z : Settings) (v u : View) (i : ℕ) (f : ℕ → ℕ) (before : List Deed) (es : ℕ → List Deed) (tells : ℕ → View → Type 0) (T : Type 0)
+    → ((s : Table ℕ View) (r : Ruled z s) (id : ℕ) → get_elem? s.views id ≡ some v → GoesOn z s r before (with_view s id u) × T) → Moves z u i f es tells → Moves z v i f (λ n. before ++ es n) (λ n w. T × tells n w)
+moves_after z v u i f before es tells T first then s r id at fits =
     let a = first s r id at in
-    let b = then (with_view s id u) a.0 id (view_here s.views id v u at) fits in
-    (b.0, subst (λ (views : List View). Ruled z (record { words = set s.words i (f (slice_index s.words i)); homes = s.homes; views = views })) (views_again s.views id u b.0) b.1, (a.1, b.2))
+    let b = then (with_view s id u) a.0.ruled id (view_here s.views id v u at) fits in
+    (b.0, subst (λ (views : List View). GoesOn z s r (before ++ es (slice_index s.words i)) (record { words = set s.words i (f (slice_index s.words i)); homes = s.homes; views = views })) (views_again s.views id u b.0) (goes_both z s (with_view s id u) _ r before (es (slice_index s.words i)) a.0 b.1), (a.1, b.2))

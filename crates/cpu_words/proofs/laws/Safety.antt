@@ -1,5 +1,6 @@
 -- The headline of the running words: what the protocol's laws say of the state that the table shows.
-use Rattle.std.proofs.Common.{◌≡◌, ℕ, IsTrue, subst}
+use Rattle.std.proofs.Common.{◌≡◌, ℕ, List, IsTrue, length, sym, ap, ◌∙◌, subst}
+use Rattle.std.proofs.lemmas.List.{length-map}
 use Rattle.atomic_table.specs.Table.{State as Table}
 use Rattle.registry_values.specs.declared.settings.Settings.{Settings}
 use Rattle.registry_values.specs.Limits.{are_fit}
@@ -7,7 +8,9 @@ use Rattle.protocol.specs.State.{State}
 use Rattle.protocol.proofs.runs.Reuse.{every_run_keeps}
 use Rattle.protocol.proofs.runs.State.{obeys_laws}
 use Rattle.protocol.proofs.model.Refining.{every_run_is_model_run}
+use Rattle.cpu_words.specs.declared.view.Deed.{Deed}
 use Rattle.cpu_words.specs.declared.view.View.{View}
+use Rattle.cpu_words.specs.Logs.{plain, AreByOwn}
 use Rattle.cpu_words.specs.Rule.{Agrees, Shows, Good, Ruled}
 use Rattle.cpu_words.specs.Headline.{RunsLawfully, RunningHeadline}
 
@@ -26,4 +29,12 @@ runs_lawfully z s r =
     }
 
 pub running_headline : RunningHeadline
-running_headline z s r = runs_lawfully z s r
+unfolding runs_lawfully
+running_headline z s r = record {
+  run = runs_lawfully z (plain s) r.run;
+  acts = r.acts;
+  are = r.are;
+  all = sym (length-map r.acts (λ (a : ℕ × Deed). a.1)) ∙ ap (λ (ds : List Deed). length ds) r.are ∙ r.run.reached.made;
+  owners = subst (λ (g : State). AreByOwn r.run.seat g.seated r.acts) r.run.reached.run r.owners;
+  logs = r.logs;
+}

@@ -1,5 +1,5 @@
 -- Notes on the words: what a seat has seen is told and heard.
-use Rattle.std.proofs.Common.{◌≡◌, ◌≢◌, ⊎_elim, ℕ, ◌*◌, ◌≤◌, List, length, take, get_or, set, Some, None, refl, sym, ap, ◌∙◌, subst, arith, get_or-set_same, get_or-set_other}
+use Rattle.std.proofs.Common.{[], ◌≡◌, ◌≢◌, ⊎_elim, ℕ, ◌*◌, ◌≤◌, List, length, take, get_or, set, Some, None, refl, sym, ap, ◌∙◌, subst, arith, get_or-set_same, get_or-set_other}
 use Rattle.std.specs.Prelude.{slice_index}
 use mathlib.Core.Option.{some}
 use mathlib.Core.List.{IsPrefix}
@@ -16,14 +16,19 @@ use Rattle.protocol.specs.State.{State, seen_at}
 use Rattle.protocol.specs.Events.{step}
 use Rattle.cpu_words.specs.declared.view.CpuView.{CpuView}
 use Rattle.cpu_words.specs.declared.view.KeeperView.{KeeperView}
+use Rattle.cpu_words.specs.declared.view.Logged.{Logged}
 use Rattle.cpu_words.specs.declared.view.View.{View}
 use Rattle.cpu_words.specs.declared.view.View.TheVariants.{Keeper, Cpu, Note, Spent}
 use Rattle.cpu_words.specs.Views.{KeeperOwn, own_of, cpu_view, keeper_own, keeper_view, depth_of, CpuShown, KeeperShown, Shown, cpu_of, keeper_of, note_of}
-use Rattle.cpu_words.specs.Rule.{Sits, reference_to, Good, Ruled}
+use Rattle.cpu_words.specs.Rule.{Sits, reference_to, Good, did, deeds}
 use Rattle.cpu_words.specs.Steps.{Makes, SplitsBy, CpuMay, KeeperMay}
+use Rattle.cpu_words.specs.Steps.{SplitsOn, JoinsOn}
+use Rattle.std.proofs.lemmas.List.{append-nil}
+use Rattle.cpu_words.proofs.laws.Reaching.{more}
+use Rattle.cpu_words.proofs.logs.Seats.{seat_cut, seat_laid}
+use Rattle.cpu_words.specs.Logs.{the_cpu, LoggedRuled, going_on, fresh, laid, spent_seat, tells_pass, tells_history}
 use Rattle.cpu_words.specs.Sections.{IsIdle}
-use Rattle.cpu_words.specs.Notes.{pass_told, history_told, with_heard, keeper_with_heard, beside_cpu, beside_keeper, HasHeard, KeeperHasHeard}
-use Rattle.cpu_words.proofs.laws.Reaching.{reached_more}
+use Rattle.cpu_words.specs.Notes.{as_before, pass_told, history_told, with_heard, keeper_with_heard, beside_cpu, beside_keeper, HasHeard, KeeperHasHeard}
 use Rattle.cpu_words.proofs.shown.Showing.{Stay, shows_split, shows_join}
 use Rattle.cpu_words.proofs.shown.Passes.{taken_is_prefix, prefix_longer, take_whole}
 use Rattle.cpu_words.proofs.shown.Seeing.{seen_of, idle_of}
@@ -53,18 +58,23 @@ tells_by e v h tells g good had =
       count = λ n. omega arith;
     }
 
-splits : (z : Settings) (i : ℕ) (e : Event) (v : View) (h : List Change) → Tells e v h → Splits (Ruled z) i v v (Note h)
+splits : (z : Settings) (i : ℕ) (e : Event) (v : View) (h : List Change) → Tells e v h → SplitsOn z i v v (Note h) (did e Done)
 splits z i e v h tells s r at =
     let g = r.g in
     let had = r.shows.fits i v at in
     let told = tells g r.good had.1 in record {
-      g = g;
-      seat = r.seat;
-      settings = r.settings;
-      good = r.good;
-      reached = reached_more z g g e Done r.reached told.0;
-      words = r.words;
-      shows = shows_split g g r.seat s.views i v v (Note h) r.shows at (own_view_alone g r.seat i) had (λ j. tt) told.1 (λ n. omega arith);
+      goes_on = (more z g g e Done r.reached told.0).1;
+      seated = omega arith;
+      seats = λ c lt. refl;
+      ruled = record {
+        g = g;
+        seat = r.seat;
+        settings = r.settings;
+        good = r.good;
+        reached = (more z g g e Done r.reached told.0).0;
+        words = r.words;
+        shows = shows_split g g r.seat s.views i v v (Note h) r.shows at (own_view_alone g r.seat i) had (λ j. tt) told.1 (λ n. omega arith);
+      };
     }
 
 cpu_tells : (x : CpuView) (c : ℕ) → x.id ≡ c → IsIdle x → Tells (Tell (Some c)) (Cpu x) x.pass
@@ -83,16 +93,16 @@ keeper_tells k may g good had =
 
 -- the same of a seat
 
-pub cpu_splits : (z : Settings) (i : ℕ) (v : View) (x : CpuView) (c : ℕ) → v ≡ Cpu (cpu_of v) → cpu_of v ≡ x → x.id ≡ c → IsIdle x → Splits (Ruled z) i v v (pass_told v)
-cpu_splits z i v x c is view id idle = subst (λ u. Splits (Ruled z) i u u (pass_told u)) (sym (is ∙ ap Cpu view)) (splits z i (Tell (Some c)) (Cpu x) x.pass (cpu_tells x c id idle))
+pub cpu_splits : (z : Settings) (i : ℕ) (l : Logged) (x : CpuView) (c : ℕ) → l ≡ record { view = Cpu (cpu_of l.view); log = l.log } → cpu_of l.view ≡ x → x.id ≡ c → IsIdle x → Splits (LoggedRuled z) i l (going_on as_before tells_pass l) (fresh pass_told l)
+cpu_splits z i l x c is view id idle = seat_cut z i l (Cpu x) as_before pass_told tells_pass (did (Tell (Some c)) Done) (is ∙ ap (λ (u : CpuView). record { view = Cpu u; log = l.log }) view) tt (ap the_cpu (sym id), tt) (λ k. did (Tell (Some (id k))) Done) (splits z i (Tell (Some c)) (Cpu x) x.pass (cpu_tells x c id idle))
 
 pub cpu_splits_by : (v a : View) (x : CpuView) (c : ℕ) → cpu_of v ≡ x → a ≡ pass_told v → x.id ≡ c → IsIdle x → SplitsBy (Tell (Some c)) (Cpu x) (Cpu x) (Note (note_of a))
 cpu_splits_by v a x c view right id idle =
     let p : note_of a ≡ x.pass = ap note_of right ∙ ap (λ (u : CpuView). u.pass) view in
     subst (λ h. SplitsBy (Tell (Some c)) (Cpu x) (Cpu x) (Note h)) (sym p) (tells_by (Tell (Some c)) (Cpu x) x.pass (cpu_tells x c id idle))
 
-pub keeper_splits : (z : Settings) (i : ℕ) (v : View) (k : KeeperView) → v ≡ Keeper (keeper_of v) → keeper_of v ≡ k → k.due ≡ Rest → Splits (Ruled z) i v v (history_told v)
-keeper_splits z i v k is view may = subst (λ u. Splits (Ruled z) i u u (history_told u)) (sym (is ∙ ap Keeper view)) (splits z i (Tell None) (Keeper k) k.history (keeper_tells k may))
+pub keeper_splits : (z : Settings) (i : ℕ) (l : Logged) (k : KeeperView) → l ≡ record { view = Keeper (keeper_of l.view); log = l.log } → keeper_of l.view ≡ k → k.due ≡ Rest → Splits (LoggedRuled z) i l (going_on as_before tells_history l) (fresh history_told l)
+keeper_splits z i l k is view may = seat_cut z i l (Keeper k) as_before history_told tells_history (did (Tell None) Done) (is ∙ ap (λ (u : KeeperView). record { view = Keeper u; log = l.log }) view) tt (refl, tt) refl (splits z i (Tell None) (Keeper k) k.history (keeper_tells k may))
 
 pub keeper_splits_by : (v a : View) (k : KeeperView) → keeper_of v ≡ k → a ≡ history_told v → k.due ≡ Rest → SplitsBy (Tell None) (Keeper k) (Keeper k) (Note (note_of a))
 keeper_splits_by v a k view right may =
@@ -107,7 +117,7 @@ pub record Beside (v both : View) (h : List Change) : Type 0 where
   pub shown : (g : State) → Shown g v → IsPrefix h g.history → Shown g both
   pub references : (n : ℕ) → reference_to n both ≡ reference_to n v
 
-joins : (z : Settings) (i o : ℕ) (v both : View) (h : List Change) → Beside v both h → Joins (Ruled z) i v o (Note h) both Spent
+joins : (z : Settings) (i o : ℕ) (v both : View) (h : List Change) → Beside v both h → JoinsOn z i v o (Note h) both Spent []
 joins z i o v both h beside s r at apart there =
     let g = r.g in
     let had = r.shows.fits i v at in
@@ -115,15 +125,21 @@ joins z i o v both h beside s r at apart there =
     (λ (t : (o ≡ i) × (both ≡ Note h)). absurd (apart t.0))
     (λ (t : (o ≢ i) × (get_elem? s.views o ≡ some (Note h))). t.1)
     (at_set s.views i o both (Note h) there) in
-    let told : IsPrefix h g.history = (r.shows.fits o (Note h) was).1 in record {
-      g = g;
-      seat = r.seat;
-      settings = r.settings;
-      good = r.good;
-      reached = r.reached;
-      words = r.words;
-      shows = shows_join g g r.seat s.views i v o (Note h) both r.shows at apart was (own_view_alone g r.seat i) (beside.sits r.seat i had.0, beside.shown g had.1 told)
-          (λ n. let same = beside.references n in omega arith) there;
+    let told : IsPrefix h g.history = (r.shows.fits o (Note h) was).1 in
+    record {
+      goes_on = sym (append-nil (deeds z r.reached.events));
+      seated = omega arith;
+      seats = λ c lt. refl;
+      ruled = record {
+        g = g;
+        seat = r.seat;
+        settings = r.settings;
+        good = r.good;
+        reached = r.reached;
+        words = r.words;
+        shows = shows_join g g r.seat s.views i v o (Note h) both r.shows at apart was (own_view_alone g r.seat i) (beside.sits r.seat i had.0, beside.shown g had.1 told)
+            (λ n. let same = beside.references n in omega arith) there;
+      };
     }
 
 cpu_beside : (x : CpuView) (h : List Change) → Beside (Cpu x) (Cpu (with_heard x h)) h
@@ -167,18 +183,18 @@ keeper_beside k h = record {
 
 -- the same of two seats, whose views are a CPU's or the keeper's, and a note
 
-pub cpu_joins : (z : Settings) (i o : ℕ) (v u : View) → v ≡ Cpu (cpu_of v) → u ≡ Note (note_of u) → Joins (Ruled z) i v o u (beside_cpu v u) Spent
-cpu_joins z i o v u is that = subst (λ (p : View × View). Joins (Ruled z) i p.0 o p.1 (beside_cpu p.0 p.1) Spent) (λ k. (sym is k, sym that k))
-    (joins z i o (Cpu (cpu_of v)) (beside_cpu (Cpu (cpu_of v)) (Note (note_of u))) (note_of u) (cpu_beside (cpu_of v) (note_of u)))
+pub cpu_joins : (z : Settings) (i o : ℕ) (l m : Logged) → l ≡ record { view = Cpu (cpu_of l.view); log = l.log } → m ≡ record { view = Note (note_of m.view); log = m.log } → Joins (LoggedRuled z) i l o m (laid beside_cpu l m) spent_seat
+cpu_joins z i o l m is that = seat_laid z i o l m (Cpu (cpu_of l.view)) (Note (note_of m.view)) beside_cpu is that tt
+    (joins z i o (Cpu (cpu_of l.view)) (beside_cpu (Cpu (cpu_of l.view)) (Note (note_of m.view))) (note_of m.view) (cpu_beside (cpu_of l.view) (note_of m.view)))
 
-pub keeper_joins : (z : Settings) (i o : ℕ) (v u : View) → v ≡ Keeper (keeper_of v) → u ≡ Note (note_of u) → Joins (Ruled z) i v o u (beside_keeper v u) Spent
-keeper_joins z i o v u is that = subst (λ (p : View × View). Joins (Ruled z) i p.0 o p.1 (beside_keeper p.0 p.1) Spent) (λ k. (sym is k, sym that k))
-    (joins z i o (Keeper (keeper_of v)) (beside_keeper (Keeper (keeper_of v)) (Note (note_of u))) (note_of u) (keeper_beside (keeper_of v) (note_of u)))
+pub keeper_joins : (z : Settings) (i o : ℕ) (l m : Logged) → l ≡ record { view = Keeper (keeper_of l.view); log = l.log } → m ≡ record { view = Note (note_of m.view); log = m.log } → Joins (LoggedRuled z) i l o m (laid beside_keeper l m) spent_seat
+keeper_joins z i o l m is that = seat_laid z i o l m (Keeper (keeper_of l.view)) (Note (note_of m.view)) beside_keeper is that tt
+    (joins z i o (Keeper (keeper_of l.view)) (beside_keeper (Keeper (keeper_of l.view)) (Note (note_of m.view))) (note_of m.view) (keeper_beside (keeper_of l.view) (note_of m.view)))
 
 -- The load that hears
 
-pub hear_may : (z : Settings) (x : CpuView) (c : ℕ) → x.id ≡ c → IsIdle x → CpuMay z x (80 * c) (λ n. n) (λ v n y. Makes (Hear (Some c)) Done (Cpu v) (Cpu y) × HasHeard v y)
-hear_may z x c id idle = subst (λ d. CpuMay z x (80 * d) (λ n. n) (λ v n y. Makes (Hear (Some d)) Done (Cpu v) (Cpu y) × HasHeard v y)) id
+pub hear_may : (z : Settings) (x : CpuView) (c : ℕ) → x.id ≡ c → IsIdle x → CpuMay z x (80 * c) (λ n. n) (λ n. did (Hear (Some c)) Done) (λ v n y. Makes (Hear (Some c)) Done (Cpu v) (Cpu y) × HasHeard v y)
+hear_may z x c id idle = subst (λ d. CpuMay z x (80 * d) (λ n. n) (λ n. did (Hear (Some d)) Done) (λ v n y. Makes (Hear (Some d)) Done (Cpu v) (Cpu y) × HasHeard v y)) id
     (λ s r i at fits.
     let g = r.g in
     let had : CpuShown g x = (r.shows.fits i (Cpu x) at).1 in
@@ -200,7 +216,7 @@ hear_may z x c id idle = subst (λ d. CpuMay z x (80 * d) (λ n. n) (λ v n y. M
     let change : y ≡ record x { pass = y.pass } = ap (λ (v : CpuView). record v { pass = y.pass }) (sym had.is) in
     (Cpu y, done.0, (refl, (done.1, (told, longer, change)))))
 
-pub hear_keeper_may : (z : Settings) (k : KeeperView) → k.due ≡ Rest → KeeperMay z k 648 (λ n. n) (λ v n l. Makes (Hear None) Done (Keeper v) (Keeper l) × KeeperHasHeard v l)
+pub hear_keeper_may : (z : Settings) (k : KeeperView) → k.due ≡ Rest → KeeperMay z k 648 (λ n. n) (λ n. did (Hear None) Done) (λ v n l. Makes (Hear None) Done (Keeper v) (Keeper l) × KeeperHasHeard v l)
 hear_keeper_may z k may s r i at fits =
     let g = r.g in
     let had : KeeperShown g k = (r.shows.fits i (Keeper k) at).1 in
@@ -215,10 +231,10 @@ hear_keeper_may z k may s r i at fits =
 
 -- the same of a seat with the note beside its view
 
-pub hear_laid_may : (z : Settings) (x y : CpuView) (h : List Change) (c : ℕ) → y ≡ with_heard x h → x.id ≡ c → IsIdle x → CpuMay z y (80 * c) (λ n. n) (λ v n w. Makes (Hear (Some c)) Done (Cpu v) (Cpu w) × HasHeard v w)
+pub hear_laid_may : (z : Settings) (x y : CpuView) (h : List Change) (c : ℕ) → y ≡ with_heard x h → x.id ≡ c → IsIdle x → CpuMay z y (80 * c) (λ n. n) (λ n. did (Hear (Some c)) Done) (λ v n w. Makes (Hear (Some c)) Done (Cpu v) (Cpu w) × HasHeard v w)
 hear_laid_may z x y h c laid id idle = hear_may z y c (ap (λ (v : CpuView). v.id) laid ∙ id) (record { search = ap (λ (v : CpuView). v.search) laid ∙ idle.search; hand = ap (λ (v : CpuView). v.hand) laid ∙ idle.hand })
 
-pub hear_keeper_laid_may : (z : Settings) (k l : KeeperView) (h : List Change) → l ≡ keeper_with_heard k h → k.due ≡ Rest → KeeperMay z l 648 (λ n. n) (λ v n w. Makes (Hear None) Done (Keeper v) (Keeper w) × KeeperHasHeard v w)
+pub hear_keeper_laid_may : (z : Settings) (k l : KeeperView) (h : List Change) → l ≡ keeper_with_heard k h → k.due ≡ Rest → KeeperMay z l 648 (λ n. n) (λ n. did (Hear None) Done) (λ v n w. Makes (Hear None) Done (Keeper v) (Keeper w) × KeeperHasHeard v w)
 hear_keeper_laid_may z k l h laid may = hear_keeper_may z l (ap (λ (v : KeeperView). v.due) laid ∙ may)
 
 -- what was heard is what the note told

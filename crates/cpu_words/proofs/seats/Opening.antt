@@ -25,12 +25,13 @@ use Rattle.protocol.proofs.keeps.MarkKeeps.{cell_all, rows_all}
 use Rattle.protocol.proofs.keeps.Keeping.{opening_holds}
 use Rattle.cpu_words.specs.declared.view.CpuView.{CpuView}
 use Rattle.cpu_words.specs.declared.view.KeeperView.{KeeperView}
+use Rattle.cpu_words.specs.declared.view.Logged.{Logged}
 use Rattle.cpu_words.specs.declared.view.View.{View}
 use Rattle.cpu_words.specs.Spots.{Spot, section_of, passive_of, count_of, head_word, next_of, record_of, total_of, index, IsSpot, word_at}
 use Rattle.cpu_words.specs.Views.{Seated, new_cpu, first_view, Shown}
 use Rattle.cpu_words.specs.Rule.{Sits, Good, Ruled}
+use Rattle.cpu_words.specs.Logs.{IsStanding, LoggedRuled, first_logged}
 use Rattle.cpu_words.specs.Opening.{AreOpening, AreSeats, keeper_with}
-use Rattle.cpu_words.proofs.laws.Reaching.{reached_first}
 use Rattle.protocol.proofs.slots.Occupied.{not_vacant}
 
 -- no entry is in a slot at the start
@@ -82,13 +83,13 @@ first_shown z = record {
   heard = ([], refl);
 }
 
-pub opens : (z : Settings) (words : List ℕ) → IsTrue (are_fit z) → AreOpening words → Ruled z (opening_table words [] (first_view z))
-opens z words fit are = record {
+plain_opens : (z : Settings) (words : List ℕ) → IsTrue (are_fit z) → AreOpening words → Ruled z (opening_table words [] (first_view z))
+plain_opens z words fit are = record {
   g = opening z;
   seat = λ _. 0;
   settings = refl;
   good = first_good z fit;
-  reached = reached_first z;
+  reached = record { events = []; run = refl; made = refl };
   words = record { size = are.size; at = first_words z words fit are };
   shows = record { fits = one; references = λ n. refl };
 }
@@ -97,17 +98,33 @@ opens z words fit are = record {
     one zero v e = subst (λ (u : View). Sits (λ _. 0) 0 u × Shown (opening z) u) (some-injective _ _ e) (refl, first_shown z)
     one (suc i) v e = absurd (some-ne-none v (sym e))
 
+-- nobody has done anything
+pub opens : (z : Settings) (words : List ℕ) → IsTrue (are_fit z) → AreOpening words → LoggedRuled z (opening_table words [] (first_logged z))
+unfolding plain_opens
+opens z words fit are = record {
+  run = plain_opens z words fit are;
+  acts = [];
+  are = refl;
+  owners = tt;
+  logs = one;
+  unseated = λ i le. refl;
+}
+  where
+    one : (i : ℕ) (l : Logged) → get_elem? (first_logged z ∷ []) i ≡ some l → IsStanding l.view → l.log ≡ []
+    one zero l e stands = sym (ap (λ (m : Logged). m.log) (some-injective _ _ e))
+    one (suc i) l e stands = absurd (some-ne-none l (sym e))
+
 -- the seats of the first CPUs
 
-pub more_seats : (table : TableId) (z : Settings) (n : ℕ) (seats : List (Seated CpuView)) (new : Seated CpuView) → AreSeats table z n seats → new ≡ record { table = table; view = new_cpu z n } → AreSeats table z (n + 1) (seats ++ new ∷ [])
+pub more_seats : (table : TableId) (z : Settings) (n : ℕ) (seats : List (Seated CpuView)) (new : Seated CpuView) → AreSeats table z n seats → new ≡ record { table = table; view = new_cpu z n; log = [] } → AreSeats table z (n + 1) (seats ++ new ∷ [])
 more_seats table z n seats new are is =
     let size : length seats ≡ n = are.count in record {
       count = length-append seats (new ∷ []) ∙ ap (λ k. k + 1) size;
       each = below_more _ n
-          (λ c lt. at_longer seats (new ∷ []) c (record { table = table; view = new_cpu z c }) (are.each c lt))
+          (λ c lt. at_longer seats (new ∷ []) c (record { table = table; view = new_cpu z c; log = [] }) (are.each c lt))
           (at_last seats new n size ∙ ap some is);
     }
 
 -- the seat that is cut from the seat of a keeper that has seated n CPUs
-pub seat_is : (new : Seated CpuView) (table : TableId) (z : Settings) (n : ℕ) (k : KeeperView) → new.table ≡ table → new.view ≡ new_cpu k.settings k.seated → k ≡ keeper_with z n → new ≡ record { table = table; view = new_cpu z n }
-seat_is new table z n k at view is i = record { table = at i; view = (view ∙ ap (λ (u : KeeperView). new_cpu u.settings u.seated) is) i }
+pub seat_is : (new : Seated CpuView) (table : TableId) (z : Settings) (n : ℕ) (k : KeeperView) → new.table ≡ table → new.view ≡ new_cpu k.settings k.seated → new.log ≡ [] → k ≡ keeper_with z n → new ≡ record { table = table; view = new_cpu z n; log = [] }
+seat_is new table z n k at view log is i = record { table = at i; view = (view ∙ ap (λ (u : KeeperView). new_cpu u.settings u.seated) is) i; log = log i }

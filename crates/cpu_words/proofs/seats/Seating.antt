@@ -18,14 +18,17 @@ use Rattle.protocol.specs.Invariant.{Holds}
 use Rattle.cpu_words.specs.declared.view.InHand.TheVariants.{Empty as NoEntry}
 use Rattle.cpu_words.specs.declared.view.CpuView.{CpuView}
 use Rattle.cpu_words.specs.declared.view.KeeperView.{KeeperView}
+use Rattle.cpu_words.specs.declared.view.Logged.{Logged}
 use Rattle.cpu_words.specs.declared.view.View.{View}
 use Rattle.cpu_words.specs.declared.view.View.TheVariants.{Keeper, Cpu, Reference, Note, Spent}
 use Rattle.cpu_words.specs.Spots.{Spot, section_of, passive_of, count_of, head_word, next_of, record_of, total_of, word_at}
 use Rattle.cpu_words.specs.Views.{SameHand, own_of, cpu_view, new_cpu, CpuShown, KeeperShown, Shown, cpu_of, keeper_of}
-use Rattle.cpu_words.specs.Rule.{Sits, reference_to, Shows, IsFresh, Good, Ruled}
-use Rattle.cpu_words.specs.Steps.{SplitsBy}
+use Rattle.cpu_words.specs.Rule.{Sits, reference_to, Shows, IsFresh, Good, did}
+use Rattle.cpu_words.specs.Steps.{SplitsBy, SplitsOn}
 use Rattle.cpu_words.specs.Opening.{MaySeat, one_seated, seating, next_seat}
-use Rattle.cpu_words.proofs.laws.Reaching.{reached_more}
+use Rattle.cpu_words.proofs.laws.Reaching.{more}
+use Rattle.cpu_words.proofs.logs.Seats.{seat_cut}
+use Rattle.cpu_words.specs.Logs.{LoggedRuled, going_on, fresh, seats_next}
 use Rattle.cpu_words.proofs.shown.Showing.{shows_set}
 use Rattle.cpu_words.proofs.shown.Placing.{agrees_same}
 use Rattle.cpu_words.proofs.by_keeper.KeeperSteps.{KeeperLists, keeper_lists, with_keeper, LeavesCpus, keeper_stays, keeper_good_after}
@@ -195,7 +198,7 @@ shows_push g seat views w shows new none = record {
   references = λ n. let a = shows.references n in let b = none n in let c = sum_by_push (reference_to n) views w in omega arith;
 }
 
-splits : (z : Settings) (i : ℕ) (k : KeeperView) → MaySeat k → Splits (Ruled z) i (Keeper k) (seating (Keeper k)) (next_seat (Keeper k))
+splits : (z : Settings) (i : ℕ) (k : KeeperView) → MaySeat k → SplitsOn z i (Keeper k) (seating (Keeper k)) (next_seat (Keeper k)) (did (Seat k.seated) Done)
 splits z i k may s r at =
     let g = r.g in
     let g' = one_more_seated g in
@@ -207,19 +210,24 @@ splits z i k may s r at =
     let stays = keeper_stays g (seated_lists g) seat' i r.good p.good.holds (leaves_seated g) (λ n. refl) had.0 in
     let changed : Shows g' seat' views = shows_set g g' seat' s.views i (Keeper k) (seating (Keeper k)) (shows_reseated g r.seat far s.views r.shows) at stays (had.0, p.keeper) (λ n. refl) in
     let here : far ≡ seat' k.seated = sym (ap (λ b. cond b far (r.seat k.seated)) (eq-eqb k.seated g.seated p.number)) in record {
-      g = g';
-      seat = seat';
-      settings = r.settings;
-      good = p.good;
-      reached = reached_more z g g' (Seat g.seated) Done r.reached p.made;
-      words = agrees_same s.words g g' r.words refl (λ q there. same_words g q);
-      shows = shows_push g' seat' views (next_seat (Keeper k)) changed (here, p.new) (λ n. refl);
+      goes_on = (more z g g' (Seat k.seated) Done r.reached (subst (λ c. step g (Seat c) ≡ Some (record { state = g'; reply = Done })) (sym p.number) p.made)).1;
+      seated = omega arith;
+      seats = λ c lt. ap (λ b. cond b far (r.seat c)) (ne_eqb c g.seated (λ same. omega (arith, lt, same)));
+      ruled = record {
+        g = g';
+        seat = seat';
+        settings = r.settings;
+        good = p.good;
+        reached = (more z g g' (Seat k.seated) Done r.reached (subst (λ c. step g (Seat c) ≡ Some (record { state = g'; reply = Done })) (sym p.number) p.made)).0;
+        words = agrees_same s.words g g' r.words refl (λ q there. same_words g q);
+        shows = shows_push g' seat' views (next_seat (Keeper k)) changed (here, p.new) (λ n. refl);
+      };
     }
 
 -- the same of a seat, whose view is the keeper's
 
-pub seat_splits : (z : Settings) (i : ℕ) (v : View) (k : KeeperView) → v ≡ Keeper (keeper_of v) → keeper_of v ≡ k → MaySeat k → Splits (Ruled z) i v (seating v) (next_seat v)
-seat_splits z i v k is view may = subst (λ u. Splits (Ruled z) i u (seating u) (next_seat u)) (sym (is ∙ ap Keeper view)) (splits z i k may)
+pub seat_splits : (z : Settings) (i : ℕ) (l : Logged) (k : KeeperView) → l ≡ record { view = Keeper (keeper_of l.view); log = l.log } → keeper_of l.view ≡ k → MaySeat k → Splits (LoggedRuled z) i l (going_on seating seats_next l) (fresh next_seat l)
+seat_splits z i l k is view may = seat_cut z i l (Keeper k) seating next_seat seats_next (did (Seat k.seated) Done) (is ∙ ap (λ (u : KeeperView). record { view = Keeper u; log = l.log }) view) tt (refl, tt) refl (splits z i k may)
 
 pub seat_splits_by : (v a b : View) (k : KeeperView) → keeper_of v ≡ k → a ≡ seating v → b ≡ next_seat v → MaySeat k → SplitsBy (Seat k.seated) (Keeper k) (Keeper (keeper_of a)) (Cpu (cpu_of b))
 seat_splits_by v a b k view left right may =

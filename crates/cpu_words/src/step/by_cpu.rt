@@ -1,8 +1,9 @@
 //! Steps of a CPU's seat.
 
-ghost use Rattle.std.specs.Prelude.{◌≡◌, ◌<◌, ◌+◌, ◌-◌, ◌%◌, ◌^◌};
+ghost use Rattle.std.specs.Prelude.{◌≡◌, ℕ, ◌<◌, ◌++◌, ◌+◌, ◌-◌, ◌%◌, ◌^◌};
 ghost use prog.Atomic.{either};
 ghost use Rattle.std.specs.Prelude.{◌==◌};
+ghost use Rattle.cpu_words.specs.Logs.{the_cpu, AreBy};
 ghost use Rattle.cpu_words.specs.Steps.{CpuMay};
 
 use crate::law::{CpuPlay, CpuTale, Words};
@@ -19,9 +20,11 @@ pub(crate) fn add<T: CpuTale>(
 ) -> u64
     requires table { seat.old.table ≡ words.now.table }
     requires place { word < 944 }
-    requires may { CpuMay words.now.settings seat.old.view word (λ n. (n + k) % 2 ^ 64) T.tells }
+    requires own { (n : ℕ) → AreBy (the_cpu seat.old.view.id) (T.does seat.old.view n) }
+    requires may { CpuMay words.now.settings seat.old.view word (λ n. (n + k) % 2 ^ 64) (T.does seat.old.view) T.tells }
     ensures table { seat.new.table ≡ seat.old.table }
     ensures told { T.tells seat.old.view result seat.new.view }
+    ensures log { seat.new.log ≡ seat.old.log ++ T.does seat.old.view result }
 {
     let _event = event;
     words
@@ -40,9 +43,11 @@ pub(crate) fn subtract<T: CpuTale>(
 ) -> u64
     requires table { seat.old.table ≡ words.now.table }
     requires place { word < 944 }
-    requires may { CpuMay words.now.settings seat.old.view word (λ n. (n + (2 ^ 64 - k)) % 2 ^ 64) T.tells }
+    requires own { (n : ℕ) → AreBy (the_cpu seat.old.view.id) (T.does seat.old.view n) }
+    requires may { CpuMay words.now.settings seat.old.view word (λ n. (n + (2 ^ 64 - k)) % 2 ^ 64) (T.does seat.old.view) T.tells }
     ensures table { seat.new.table ≡ seat.old.table }
     ensures told { T.tells seat.old.view result seat.new.view }
+    ensures log { seat.new.log ≡ seat.old.log ++ T.does seat.old.view result }
 {
     let _event = event;
     words
@@ -55,9 +60,11 @@ pub(crate) fn subtract<T: CpuTale>(
 pub(crate) fn load<T: CpuTale>(words: &Words, seat: &mut CpuSeat, word: usize, event: Event) -> u64
     requires table { seat.old.table ≡ words.now.table }
     requires place { word < 944 }
-    requires may { CpuMay words.now.settings seat.old.view word (λ n. n) T.tells }
+    requires own { (n : ℕ) → AreBy (the_cpu seat.old.view.id) (T.does seat.old.view n) }
+    requires may { CpuMay words.now.settings seat.old.view word (λ n. n) (T.does seat.old.view) T.tells }
     ensures table { seat.new.table ≡ seat.old.table }
     ensures told { T.tells seat.old.view result seat.new.view }
+    ensures log { seat.new.log ≡ seat.old.log ++ T.does seat.old.view result }
 {
     let _event = event;
     words.table.shared.load::<CpuPlay<T>>(&mut seat.token, word)
@@ -74,9 +81,11 @@ pub(crate) fn compare_exchange<T: CpuTale>(
 ) -> u64
     requires table { seat.old.table ≡ words.now.table }
     requires place { word < 944 }
-    requires may { CpuMay words.now.settings seat.old.view word (λ n. either (n == old) new n) T.tells }
+    requires own { (n : ℕ) → AreBy (the_cpu seat.old.view.id) (T.does seat.old.view n) }
+    requires may { CpuMay words.now.settings seat.old.view word (λ n. either (n == old) new n) (T.does seat.old.view) T.tells }
     ensures table { seat.new.table ≡ seat.old.table }
     ensures told { T.tells seat.old.view result seat.new.view }
+    ensures log { seat.new.log ≡ seat.old.log ++ T.does seat.old.view result }
 {
     let _event = event;
     words

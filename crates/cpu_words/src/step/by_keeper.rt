@@ -1,6 +1,7 @@
 //! Steps of the keeper's seat.
 
-ghost use Rattle.std.specs.Prelude.{◌≡◌, ◌<◌, ◌+◌, ◌-◌, ◌%◌, ◌^◌};
+ghost use Rattle.std.specs.Prelude.{◌≡◌, ℕ, ◌<◌, ◌++◌, ◌+◌, ◌-◌, ◌%◌, ◌^◌};
+ghost use Rattle.cpu_words.specs.Logs.{the_keeper, AreBy};
 ghost use Rattle.cpu_words.specs.Steps.{KeeperMay, KeeperStores};
 
 use crate::law::{KeeperPlay, KeeperTale, Words};
@@ -16,9 +17,11 @@ pub(crate) fn load<T: KeeperTale>(
 ) -> u64
     requires table { seat.old.table ≡ words.now.table }
     requires place { word < 944 }
-    requires may { KeeperMay words.now.settings seat.old.view word (λ n. n) T.tells }
+    requires own { (n : ℕ) → AreBy the_keeper (T.does seat.old.view n) }
+    requires may { KeeperMay words.now.settings seat.old.view word (λ n. n) (T.does seat.old.view) T.tells }
     ensures table { seat.new.table ≡ seat.old.table }
     ensures told { T.tells seat.old.view result seat.new.view }
+    ensures log { seat.new.log ≡ seat.old.log ++ T.does seat.old.view result }
 {
     let _event = event;
     words
@@ -37,9 +40,11 @@ pub(crate) fn store<T: KeeperTale>(
 )
     requires table { seat.old.table ≡ words.now.table }
     requires place { word < 944 }
-    requires may { KeeperStores words.now.settings seat.old.view word value T.tells }
+    requires own { (n : ℕ) → AreBy the_keeper (T.does seat.old.view n) }
+    requires may { KeeperStores words.now.settings seat.old.view word value (T.does seat.old.view) T.tells }
     ensures table { seat.new.table ≡ seat.old.table }
     ensures told { T.tells seat.old.view value seat.new.view }
+    ensures log { seat.new.log ≡ seat.old.log ++ T.does seat.old.view value }
 {
     let _event = event;
     words
@@ -58,9 +63,11 @@ pub(crate) fn swap<T: KeeperTale>(
 ) -> u64
     requires table { seat.old.table ≡ words.now.table }
     requires place { word < 944 }
-    requires may { KeeperMay words.now.settings seat.old.view word (λ _. value) T.tells }
+    requires own { (n : ℕ) → AreBy the_keeper (T.does seat.old.view n) }
+    requires may { KeeperMay words.now.settings seat.old.view word (λ _. value) (T.does seat.old.view) T.tells }
     ensures table { seat.new.table ≡ seat.old.table }
     ensures told { T.tells seat.old.view result seat.new.view }
+    ensures log { seat.new.log ≡ seat.old.log ++ T.does seat.old.view result }
 {
     let _event = event;
     words
@@ -79,9 +86,11 @@ pub(crate) fn subtract<T: KeeperTale>(
 ) -> u64
     requires table { seat.old.table ≡ words.now.table }
     requires place { word < 944 }
-    requires may { KeeperMay words.now.settings seat.old.view word (λ n. (n + (2 ^ 64 - k)) % 2 ^ 64) T.tells }
+    requires own { (n : ℕ) → AreBy the_keeper (T.does seat.old.view n) }
+    requires may { KeeperMay words.now.settings seat.old.view word (λ n. (n + (2 ^ 64 - k)) % 2 ^ 64) (T.does seat.old.view) T.tells }
     ensures table { seat.new.table ≡ seat.old.table }
     ensures told { T.tells seat.old.view result seat.new.view }
+    ensures log { seat.new.log ≡ seat.old.log ++ T.does seat.old.view result }
 {
     let _event = event;
     words

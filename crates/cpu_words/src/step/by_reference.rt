@@ -1,6 +1,7 @@
 //! Steps of the seat of a local reference.
 
-ghost use Rattle.std.specs.Prelude.{◌≡◌, ◌<◌};
+ghost use Rattle.std.specs.Prelude.{◌≡◌, ℕ, ◌<◌, ◌++◌};
+ghost use Rattle.cpu_words.specs.Logs.{another, AreBy};
 ghost use Rattle.cpu_words.specs.Steps.{ReferenceMay};
 
 use crate::law::{ReferencePlay, ReferenceTale, Words};
@@ -16,9 +17,12 @@ pub(crate) fn load<T: ReferenceTale>(
 ) -> u64
     requires table { seat.old.table ≡ words.now.table }
     requires place { word < 944 }
-    requires may { ReferenceMay words.now.settings seat.old.view word T.tells }
-    ensures same { seat.new ≡ seat.old }
+    requires own { (n : ℕ) → AreBy another (T.does seat.old.view n) }
+    requires may { ReferenceMay words.now.settings seat.old.view word (T.does seat.old.view) T.tells }
+    ensures table { seat.new.table ≡ seat.old.table }
+    ensures same { seat.new.view ≡ seat.old.view }
     ensures told { T.tells seat.old.view result }
+    ensures log { seat.new.log ≡ seat.old.log ++ T.does seat.old.view result }
 {
     let _event = event;
     words

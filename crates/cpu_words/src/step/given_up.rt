@@ -1,16 +1,16 @@
 //! A local reference that the keeper's seat takes in, to give it up.
 
-use crate::view::View;
+use crate::view::Logged;
 use atomic_table::Join;
 
 /// The reference's seat is joined into the keeper's, and is spent.
 pub(crate) struct GivenUp;
 
-impl Join<View> for GivenUp {
+impl Join<Logged> for GivenUp {
     ghost use Rattle.cpu_words.specs.Draining.{with_given_up};
-    ghost use Rattle.cpu_words.specs.declared.view.View.TheVariants.{Spent};
+    ghost use Rattle.cpu_words.specs.Logs.{joined_seat, spent_seat, gives_up};
 
-    ghost both = { with_given_up };
+    ghost both = { joined_seat with_given_up gives_up };
 
-    ghost spent = { Spent };
+    ghost spent = { spent_seat };
 }

@@ -1,15 +1,18 @@
 //! A local reference that a slot keeps: its seat is joined into the keeper's, for a slot that the caller names.
 
-ghost use Rattle.std.specs.Prelude.{◌≡◌};
+ghost use Rattle.std.specs.Prelude.{◌≡◌, ◌++◌};
+ghost use Rattle.registry_values.specs.Slots.{slot_at};
 ghost use Rattle.protocol.specs.declared.event.Event.TheVariants.{Keep};
 ghost use Rattle.cpu_words.specs.declared.view.View.TheVariants.{Keeper, Reference};
 ghost use Rattle.cpu_words.specs.Steps.{JoinsBy};
-ghost use Rattle.cpu_words.specs.Vacating.{as_vacant};
+ghost use Rattle.protocol.specs.declared.event.Reply.TheVariants.{Done};
+ghost use Rattle.cpu_words.specs.Rule.{did};
+ghost use Rattle.cpu_words.specs.Vacating.{as_vacant, vacate_first};
 ghost use Rattle.cpu_words.specs.Keeping.{MayKeep, IsVacated, keeping};
 
 use crate::law::Words;
 use crate::seat::{KeeperSeat, ReferenceSeat};
-use crate::view::View;
+use crate::view::Logged;
 use atomic_table::Join;
 use std::marker::{Brand, PhantomData};
 
@@ -29,13 +32,13 @@ struct Kept<S: KeepingSlot> {
     marker: PhantomData<S>,
 }
 
-impl<S: KeepingSlot> Join<View> for Kept<S> {
+impl<S: KeepingSlot> Join<Logged> for Kept<S> {
     ghost use Rattle.cpu_words.specs.Keeping.{with_kept};
-    ghost use Rattle.cpu_words.specs.declared.view.View.TheVariants.{Spent};
+    ghost use Rattle.cpu_words.specs.Logs.{joined_seat, spent_seat, keeps_for};
 
-    ghost both = { with_kept S.slot };
+    ghost both = { joined_seat (with_kept S.slot) (keeps_for S.slot) };
 
-    ghost spent = { Spent };
+    ghost spent = { spent_seat };
 }
 
 /// Joins the reference into the keeper's seat, for the slot `slot`.
@@ -52,6 +55,7 @@ pub(crate) fn join<S: KeepingSlot>(
     ensures vacant { IsVacated keeper.old.view slot }
     ensures event { JoinsBy (Keep slot) (Keeper (as_vacant keeper.old.view slot)) (Reference reference.view) (Keeper keeper.new.view) }
     ensures change { keeper.new.view ≡ keeping keeper.old.view slot reference.view }
+    ensures log { keeper.new.log ≡ keeper.old.log ++ vacate_first (slot_at keeper.old.view.slots slot) slot (did (Keep slot 0) Done) }
 {
     let _slot = slot;
     let ReferenceSeat { token } = reference;

@@ -1,10 +1,11 @@
 //! Draining (psref(9), localcount(9)) by the keeper's seat: the passive words of all CPUs are seen to be 0, their count words are collected
 //! into the total, and references found collected are given up by the total.
 
-ghost use Rattle.std.specs.Prelude.{◌≡◌, ◌<◌, ℕ};
+ghost use Rattle.std.specs.Prelude.{◌≡◌, ◌<◌, ℕ, ◌++◌};
 ghost use Rattle.protocol.specs.declared.event.Event.TheVariants.{PassiveLook, Collect, TotalAdd, TotalSub, JoinKeeper, KeptSub};
 ghost use Rattle.protocol.specs.declared.event.Reply.TheVariants.{Done, Word};
 ghost use Rattle.cpu_words.specs.declared.view.View.TheVariants.{Keeper, Reference};
+ghost use Rattle.cpu_words.specs.Rule.{did};
 ghost use Rattle.cpu_words.specs.Steps.{Makes, JoinsBy};
 ghost use Rattle.cpu_words.specs.Draining.{MayPassiveLook, HasLookedPassive, MayCollect, HasCollected, MayTotalAdd, HasAdded, MayTotalSub, HasSubtracted, MayJoinKeeper, giving_up, MayKeptSub, HasKeptSub};
 
@@ -25,6 +26,7 @@ pub fn passive_look(words: &Words, keeper: &mut KeeperSeat, slot: u8, cpu: u8) -
     ensures table { keeper.new.table ≡ keeper.old.table }
     ensures event { Makes (PassiveLook slot cpu) (Word result) (Keeper keeper.old.view) (Keeper keeper.new.view) }
     ensures change { HasLookedPassive keeper.old.view slot cpu result keeper.new.view }
+    ensures log { keeper.new.log ≡ keeper.old.log ++ did (PassiveLook slot cpu) (Word result) }
 {
     by_keeper::load::<Brand>(
         words,
@@ -45,6 +47,7 @@ pub fn collect(words: &Words, keeper: &mut KeeperSeat, slot: u8, cpu: u8) -> u64
     ensures table { keeper.new.table ≡ keeper.old.table }
     ensures event { Makes (Collect slot cpu) (Word result) (Keeper keeper.old.view) (Keeper keeper.new.view) }
     ensures change { HasCollected keeper.old.view slot cpu result keeper.new.view }
+    ensures log { keeper.new.log ≡ keeper.old.log ++ did (Collect slot cpu) (Word result) }
 {
     by_keeper::swap::<Brand>(
         words,
@@ -65,6 +68,7 @@ pub fn total_add(words: &Words, keeper: &mut KeeperSeat, slot: u8, total: u64)
     ensures table { keeper.new.table ≡ keeper.old.table }
     ensures event { Makes (TotalAdd slot) Done (Keeper keeper.old.view) (Keeper keeper.new.view) }
     ensures change { HasAdded keeper.old.view slot total keeper.new.view }
+    ensures log { keeper.new.log ≡ keeper.old.log ++ did (TotalAdd slot) Done }
 {
     by_keeper::store::<Brand>(
         words,
@@ -84,6 +88,7 @@ pub fn total_sub(words: &Words, keeper: &mut KeeperSeat, slot: u8)
     ensures table { keeper.new.table ≡ keeper.old.table }
     ensures event { Makes (TotalSub slot) Done (Keeper keeper.old.view) (Keeper keeper.new.view) }
     ensures change { HasSubtracted keeper.old.view slot keeper.new.view }
+    ensures log { keeper.new.log ≡ keeper.old.log ++ did (TotalSub slot) Done }
 {
     by_keeper::subtract::<Brand>(words, keeper, 912 + slot as usize, 1, Event::TotalSub(slot));
 }
@@ -98,6 +103,7 @@ pub fn join_keeper(words: &Words, keeper: &mut KeeperSeat, reference: ReferenceS
     ensures table { keeper.new.table ≡ keeper.old.table }
     ensures event { JoinsBy JoinKeeper (Keeper keeper.old.view) (Reference reference.view) (Keeper keeper.new.view) }
     ensures change { keeper.new.view ≡ giving_up keeper.old.view reference.view }
+    ensures log { keeper.new.log ≡ keeper.old.log ++ did (JoinKeeper 0) Done }
 {
     let ReferenceSeat { token } = reference;
     words
@@ -116,6 +122,7 @@ pub fn kept_sub(words: &Words, keeper: &mut KeeperSeat, slot: u8, driver_slot: u
     ensures table { keeper.new.table ≡ keeper.old.table }
     ensures event { Makes (KeptSub slot) Done (Keeper keeper.old.view) (Keeper keeper.new.view) }
     ensures change { HasKeptSub keeper.old.view slot driver_slot keeper.new.view }
+    ensures log { keeper.new.log ≡ keeper.old.log ++ did (KeptSub slot) Done }
 {
     by_keeper::subtract::<Brand>(
         words,

@@ -1,9 +1,10 @@
 //! Grace (pserialize(9)): what the keeper's seat sees of the CPUs' section words, a load each.
 
-ghost use Rattle.std.specs.Prelude.{◌≡◌, ◌<◌, Some, None};
+ghost use Rattle.std.specs.Prelude.{◌≡◌, ◌<◌, Some, None, ◌++◌};
 ghost use Rattle.protocol.specs.declared.event.Event.TheVariants.{Look, Snapshot};
 ghost use Rattle.protocol.specs.declared.event.Reply.TheVariants.{Word};
 ghost use Rattle.cpu_words.specs.declared.view.View.TheVariants.{Keeper};
+ghost use Rattle.cpu_words.specs.Rule.{did};
 ghost use Rattle.cpu_words.specs.Steps.{Makes};
 ghost use Rattle.cpu_words.specs.Grace.{MayGlance, MayLook, MaySnapshot, HasLooked, HasSnapshot, having_looked};
 
@@ -23,6 +24,7 @@ pub fn look(words: &Words, keeper: &mut KeeperSeat, slot: u8, cpu: u8) -> u64
     ensures table { keeper.new.table ≡ keeper.old.table }
     ensures event { Makes (Look (Some slot) cpu) (Word result) (Keeper keeper.old.view) (Keeper keeper.new.view) }
     ensures change { HasLooked keeper.old.view (Look (Some slot) cpu) (Word result) slot cpu result keeper.new.view }
+    ensures log { keeper.new.log ≡ keeper.old.log ++ did (Look (Some slot) cpu) (Word result) }
 {
     let look = Event::Look(Some(slot), cpu);
     by_keeper::load::<Brand>(words, keeper, 80 * cpu as usize, look)
@@ -37,6 +39,7 @@ pub fn look_now(words: &Words, keeper: &mut KeeperSeat, cpu: u8) -> u64
     ensures table { keeper.new.table ≡ keeper.old.table }
     ensures event { Makes (Look None cpu) (Word result) (Keeper keeper.old.view) (Keeper keeper.new.view) }
     ensures change { keeper.new.view ≡ having_looked keeper.old.view (Look None cpu) (Word result) }
+    ensures log { keeper.new.log ≡ keeper.old.log ++ did (Look None cpu) (Word result) }
 {
     by_keeper::load::<Brand>(words, keeper, 80 * cpu as usize, Event::Look(None, cpu))
 }
@@ -50,6 +53,7 @@ pub fn snapshot(words: &Words, keeper: &mut KeeperSeat, slot: u8, cpu: u8) -> u6
     ensures table { keeper.new.table ≡ keeper.old.table }
     ensures event { Makes (Snapshot (Some slot) cpu) (Word result) (Keeper keeper.old.view) (Keeper keeper.new.view) }
     ensures change { HasSnapshot keeper.old.view slot cpu result keeper.new.view }
+    ensures log { keeper.new.log ≡ keeper.old.log ++ did (Snapshot (Some slot) cpu) (Word result) }
 {
     let event = Event::Snapshot(Some(slot), cpu);
     by_keeper::load::<Brand>(words, keeper, 80 * cpu as usize, event)
@@ -64,6 +68,7 @@ pub fn snapshot_now(words: &Words, keeper: &mut KeeperSeat, cpu: u8) -> u64
     ensures table { keeper.new.table ≡ keeper.old.table }
     ensures event { Makes (Snapshot None cpu) (Word result) (Keeper keeper.old.view) (Keeper keeper.new.view) }
     ensures change { keeper.new.view ≡ having_looked keeper.old.view (Snapshot None cpu) (Word result) }
+    ensures log { keeper.new.log ≡ keeper.old.log ++ did (Snapshot None cpu) (Word result) }
 {
     let snapshot = Event::Snapshot(None, cpu);
     by_keeper::load::<Brand>(words, keeper, 80 * cpu as usize, snapshot)

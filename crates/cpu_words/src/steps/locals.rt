@@ -1,15 +1,16 @@
 //! Local references (localcount(9)) by a CPU's seat: each is a seat of its own but while it is in the CPU's hand.
 
-ghost use Rattle.std.specs.Prelude.{◌≡◌, ◌≢◌, ◌+◌, ◌<◌, Some, None};
+ghost use Rattle.std.specs.Prelude.{◌≡◌, ◌≢◌, ◌+◌, ◌<◌, Some, None, ◌++◌, []};
 ghost use Rattle.registry_values.specs.declared.entry.Entry.{Entry};
 ghost use Rattle.registry_values.specs.Balances.{bias};
 ghost use Rattle.protocol.specs.declared.event.Event.TheVariants.{CountAdd, SplitRef, JoinRef, CountDown, SplitBack};
-ghost use Rattle.protocol.specs.declared.event.Reply.TheVariants.{Word, Collected};
+ghost use Rattle.protocol.specs.declared.event.Reply.TheVariants.{Done, Word, Collected, Ref};
 ghost use Rattle.cpu_words.specs.declared.view.View.TheVariants.{Cpu, Reference};
 ghost use Rattle.cpu_words.specs.declared.view.InHand.TheVariants.{Giving as GivingEntry};
 ghost use Rattle.cpu_words.specs.Sections.{IsIdle};
+ghost use Rattle.cpu_words.specs.Rule.{did};
 ghost use Rattle.cpu_words.specs.Steps.{Makes, SplitsBy, JoinsBy};
-ghost use Rattle.cpu_words.specs.Locals.{IsTaking, IsBack, IsNetCount, IsMetAlone, MayCount, HasCounted, MayCountDown, HasCountedDown, HasFoundCollected, HasSplit, HasSplitBack, with_hand};
+ghost use Rattle.cpu_words.specs.Locals.{down_reply, IsTaking, IsBack, IsNetCount, IsMetAlone, MayCount, HasCounted, MayCountDown, HasCountedDown, HasFoundCollected, HasSplit, HasSplitBack, with_hand};
 
 use crate::law::Words;
 use crate::seat::{CpuSeat, ReferenceSeat};
@@ -33,6 +34,7 @@ pub fn count_add(words: &Words, seat: &mut CpuSeat, cpu: u8, slot: u8, number: u
     ensures word { IsNetCount seat.old.view number result }
     ensures room { result < bias + seat.old.view.settings.count_limit }
     ensures alone { IsMetAlone seat.old.view slot number }
+    ensures log { seat.new.log ≡ seat.old.log ++ did (CountAdd cpu) (Word result) }
 {
     let _number = number;
     let word = 80 * cpu as usize + 33 + slot as usize;
@@ -48,6 +50,7 @@ pub fn split_ref(words: &Words, seat: &mut CpuSeat, cpu: u8) -> ReferenceSeat
     ensures table { (seat.new.table ≡ seat.old.table) × (result.table ≡ seat.old.table) }
     ensures event { SplitsBy (SplitRef cpu) (Cpu seat.old.view) (Cpu seat.new.view) (Reference result.view) }
     ensures change { HasSplit seat.old.view seat.new.view result.view }
+    ensures log { (seat.new.log ≡ seat.old.log ++ did (SplitRef cpu) (Ref 0)) × (result.log ≡ []) }
 {
     let _cpu = cpu;
     ReferenceSeat {
@@ -67,6 +70,7 @@ pub fn split_back(words: &Words, seat: &mut CpuSeat, cpu: u8) -> ReferenceSeat
     ensures table { (seat.new.table ≡ seat.old.table) × (result.table ≡ seat.old.table) }
     ensures event { SplitsBy (SplitBack cpu) (Cpu seat.old.view) (Cpu seat.new.view) (Reference result.view) }
     ensures change { HasSplitBack seat.old.view seat.new.view result.view }
+    ensures log { (seat.new.log ≡ seat.old.log ++ did (SplitBack cpu) (Ref 0)) × (result.log ≡ []) }
 {
     let _cpu = cpu;
     ReferenceSeat {
@@ -85,6 +89,7 @@ pub fn join_ref(words: &Words, seat: &mut CpuSeat, cpu: u8, reference: Reference
     ensures table { seat.new.table ≡ seat.old.table }
     ensures event { JoinsBy (JoinRef cpu) (Cpu seat.old.view) (Reference reference.view) (Cpu seat.new.view) }
     ensures change { seat.new.view ≡ with_hand seat.old.view (GivingEntry reference.view.entry) }
+    ensures log { seat.new.log ≡ seat.old.log ++ did (JoinRef cpu 0) Done }
 {
     let _cpu = cpu;
     let ReferenceSeat { token } = reference;
@@ -117,6 +122,7 @@ pub fn count_down(
     ensures alone { IsMetAlone seat.old.view slot number }
     ensures counted { result ≡ expected → Makes (CountDown cpu) (Word result) (Cpu seat.old.view) (Cpu seat.new.view) × HasCountedDown seat.old.view slot number seat.new.view }
     ensures collected { result ≢ expected → Makes (CountDown cpu) Collected (Cpu seat.old.view) (Cpu seat.new.view) × HasFoundCollected seat.old.view number seat.new.view }
+    ensures log { seat.new.log ≡ seat.old.log ++ did (CountDown cpu) (down_reply expected result) }
 {
     let _number = number;
     by_cpu::compare_exchange::<Brand>(

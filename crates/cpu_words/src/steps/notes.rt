@@ -1,12 +1,13 @@
 //! Notes: what one seat has seen reaches another. A note is a seat of its own, which knows a prefix of the history.
 
-ghost use Rattle.std.specs.Prelude.{◌≡◌, ◌<◌, Some, None};
+ghost use Rattle.std.specs.Prelude.{◌≡◌, ◌<◌, Some, None, ◌++◌, []};
 ghost use mathlib.Core.List.{IsPrefix};
 ghost use Rattle.protocol.specs.declared.event.Event.TheVariants.{Tell, Hear};
 ghost use Rattle.protocol.specs.declared.event.Reply.TheVariants.{Done};
 ghost use Rattle.protocol.specs.declared.state.Due.TheVariants.{Rest};
 ghost use Rattle.cpu_words.specs.declared.view.View.TheVariants.{Keeper, Cpu, Note};
 ghost use Rattle.cpu_words.specs.Sections.{IsIdle};
+ghost use Rattle.cpu_words.specs.Rule.{did};
 ghost use Rattle.cpu_words.specs.Steps.{Makes, SplitsBy};
 ghost use Rattle.cpu_words.specs.Notes.{with_heard, keeper_with_heard};
 
@@ -22,10 +23,11 @@ pub fn tell(words: &Words, seat: &mut CpuSeat, cpu: u8) -> NoteSeat
     requires table { seat.old.table ≡ words.now.table }
     requires cpu { seat.old.view.id ≡ cpu }
     requires may { IsIdle seat.old.view }
-    ensures table { result.table ≡ seat.old.table }
-    ensures same { seat.new ≡ seat.old }
+    ensures table { (seat.new.table ≡ seat.old.table) × (result.table ≡ seat.old.table) }
+    ensures same { seat.new.view ≡ seat.old.view }
     ensures note { result.view ≡ seat.old.view.pass }
     ensures event { SplitsBy (Tell (Some cpu)) (Cpu seat.old.view) (Cpu seat.old.view) (Note result.view) }
+    ensures log { (seat.new.log ≡ seat.old.log ++ did (Tell (Some cpu)) Done) × (result.log ≡ []) }
 {
     let _cpu = cpu;
     NoteSeat {
@@ -37,10 +39,11 @@ pub fn tell(words: &Words, seat: &mut CpuSeat, cpu: u8) -> NoteSeat
 pub fn tell_keeper(words: &Words, keeper: &mut KeeperSeat) -> NoteSeat
     requires table { keeper.old.table ≡ words.now.table }
     requires may { keeper.old.view.due ≡ Rest }
-    ensures table { result.table ≡ keeper.old.table }
-    ensures same { keeper.new ≡ keeper.old }
+    ensures table { (keeper.new.table ≡ keeper.old.table) × (result.table ≡ keeper.old.table) }
+    ensures same { keeper.new.view ≡ keeper.old.view }
     ensures note { result.view ≡ keeper.old.view.history }
     ensures event { SplitsBy (Tell None) (Keeper keeper.old.view) (Keeper keeper.old.view) (Note result.view) }
+    ensures log { (keeper.new.log ≡ keeper.old.log ++ did (Tell None) Done) × (result.log ≡ []) }
 {
     NoteSeat {
         token: words
@@ -60,6 +63,7 @@ pub fn hear(words: &Words, seat: &mut CpuSeat, cpu: u8, note: NoteSeat)
     ensures event { Makes (Hear (Some cpu)) Done (Cpu (with_heard seat.old.view note.view)) (Cpu seat.new.view) }
     ensures told { IsPrefix note.view seat.new.view.pass }
     ensures change { IsPrefix seat.old.view.pass seat.new.view.pass × (seat.new.view ≡ record seat.old.view { pass = seat.new.view.pass; heard = note.view }) }
+    ensures log { seat.new.log ≡ seat.old.log ++ did (Hear (Some cpu)) Done }
 {
     notes::lay(words, seat, note);
     by_cpu::load::<Brand>(words, seat, 80 * cpu as usize, Event::Hear(Some(cpu)));
@@ -74,6 +78,7 @@ pub fn hear_keeper(words: &Words, keeper: &mut KeeperSeat, note: NoteSeat)
     ensures event { Makes (Hear None) Done (Keeper (keeper_with_heard keeper.old.view note.view)) (Keeper keeper.new.view) }
     ensures told { IsPrefix note.view keeper.new.view.history }
     ensures change { keeper.new.view ≡ keeper_with_heard keeper.old.view note.view }
+    ensures log { keeper.new.log ≡ keeper.old.log ++ did (Hear None) Done }
 {
     notes::lay_by_keeper(words, keeper, note);
     by_keeper::load::<Brand>(words, keeper, 648, Event::Hear(None));

@@ -1,11 +1,12 @@
 //! Passive references (psref(9)): each counted in a passive word of the CPU that has it, one word for each slot.
 
-ghost use Rattle.std.specs.Prelude.{◌≡◌, ◌<◌};
+ghost use Rattle.std.specs.Prelude.{◌≡◌, ◌<◌, ◌++◌};
 ghost use Rattle.protocol.specs.declared.event.Event.TheVariants.{PassiveAdd, PassiveSub, LoadRecord};
 ghost use Rattle.protocol.specs.declared.event.RecordOf.TheVariants.{Passive};
 ghost use Rattle.protocol.specs.declared.event.Reply.TheVariants.{Word};
 ghost use Rattle.cpu_words.specs.declared.view.View.TheVariants.{Cpu};
 ghost use Rattle.cpu_words.specs.Views.{references_to};
+ghost use Rattle.cpu_words.specs.Rule.{did};
 ghost use Rattle.cpu_words.specs.Steps.{Makes};
 ghost use Rattle.cpu_words.specs.Passives.{MayAdd, MayUse, HasAdded, HasSubtracted, IsWordOf, IsAloneAt, IsNamed};
 
@@ -29,6 +30,7 @@ pub fn passive_add(words: &Words, seat: &mut CpuSeat, cpu: u8, slot: u8, number:
     ensures slot { slot < 32 }
     ensures count { result ≡ references_to number seat.old.view.references }
     ensures alone { IsAloneAt seat.old.view slot number }
+    ensures log { seat.new.log ≡ seat.old.log ++ did (PassiveAdd cpu number) (Word result) }
 {
     let word = 80 * cpu as usize + 1 + slot as usize;
     by_cpu::add::<Brand>(words, seat, word, 1, Event::PassiveAdd(cpu, number))
@@ -46,6 +48,7 @@ pub fn passive_sub(words: &Words, seat: &mut CpuSeat, cpu: u8, slot: u8, number:
     ensures change { HasSubtracted seat.old.view number seat.new.view }
     ensures count { result ≡ references_to number seat.old.view.references }
     ensures alone { IsAloneAt seat.old.view slot number }
+    ensures log { seat.new.log ≡ seat.old.log ++ did (PassiveSub cpu number) (Word result) }
 {
     let word = 80 * cpu as usize + 1 + slot as usize;
     by_cpu::subtract::<Brand>(words, seat, word, 1, Event::PassiveSub(cpu, number))
@@ -66,6 +69,7 @@ pub fn load_passive(words: &Words, seat: &mut CpuSeat, cpu: u8, slot: u8, number
     ensures word { IsWordOf seat.old.view slot number k result }
     ensures alone { IsAloneAt seat.old.view slot number }
     ensures name { IsNamed seat.old.view slot number }
+    ensures log { seat.new.log ≡ seat.old.log ++ did (LoadRecord (Passive cpu number k)) (Word result) }
 {
     let word = 657 + 8 * slot as usize + k as usize;
     let event = Event::LoadRecord(RecordOf::Passive(cpu, number, k));

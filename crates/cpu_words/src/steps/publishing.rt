@@ -1,11 +1,12 @@
 //! The list of live entries, newest first: an entry is published by one store to the head, and unpublished by one store to the link
 //! that leads to it.
 
-ghost use Rattle.std.specs.Prelude.{◌≡◌, ◌<◌, Some, None};
+ghost use Rattle.std.specs.Prelude.{◌≡◌, ◌<◌, Some, None, ◌++◌};
 ghost use Rattle.registry_values.specs.declared.entry.Entry.{Entry};
 ghost use Rattle.protocol.specs.declared.event.Event.TheVariants.{Publish, Unpublish};
 ghost use Rattle.protocol.specs.declared.event.Reply.TheVariants.{Done};
 ghost use Rattle.cpu_words.specs.declared.view.View.TheVariants.{Keeper};
+ghost use Rattle.cpu_words.specs.Rule.{did};
 ghost use Rattle.cpu_words.specs.Steps.{Makes};
 ghost use Rattle.cpu_words.specs.Publishing.{MayPublish, HasPublished, MayUnpublish, HasUnpublished, IsLinkPlace, link_index};
 
@@ -28,6 +29,7 @@ pub fn publish(words: &Words, keeper: &mut KeeperSeat, slot: u8)
     ensures event { Makes (Publish slot) Done (Keeper keeper.old.view) (Keeper keeper.new.view) }
     ensures change { (e : Entry) × MayPublish keeper.old.view slot e
         × HasPublished keeper.old.view slot e keeper.new.view }
+    ensures log { keeper.new.log ≡ keeper.old.log ++ did (Publish slot) Done }
 {
     by_keeper::store::<Brand>(words, keeper, 648, slot as u64 + 1, Event::Publish(slot));
 }
@@ -44,6 +46,7 @@ pub fn unpublish(words: &Words, keeper: &mut KeeperSeat, slot: u8, before: Optio
     ensures table { keeper.new.table ≡ keeper.old.table }
     ensures event { Makes (Unpublish slot) Done (Keeper keeper.old.view) (Keeper keeper.new.view) }
     ensures change { HasUnpublished keeper.old.view slot before link keeper.new.view }
+    ensures log { keeper.new.log ≡ keeper.old.log ++ did (Unpublish slot) Done }
 {
     by_keeper::store::<Brand>(
         words,

@@ -1,11 +1,12 @@
 //! Searches by kind and name: Seek and LoadLink along the links, LoadRecord over the record words of a slot. Each is one load.
 //! Slots are as wide as an address here: to widen a byte would stand between a link's load and the next one.
 
-ghost use Rattle.std.specs.Prelude.{◌≡◌, ◌<◌, ◌≤◌, ◌-◌};
+ghost use Rattle.std.specs.Prelude.{◌≡◌, ◌<◌, ◌≤◌, ◌-◌, ◌++◌};
 ghost use Rattle.protocol.specs.declared.event.Event.TheVariants.{Seek, LoadLink, LoadRecord};
 ghost use Rattle.protocol.specs.declared.event.RecordOf.TheVariants.{Search as OfSearch};
 ghost use Rattle.protocol.specs.declared.event.Reply.TheVariants.{Done};
 ghost use Rattle.cpu_words.specs.declared.view.View.TheVariants.{Cpu};
+ghost use Rattle.cpu_words.specs.Rule.{did};
 ghost use Rattle.cpu_words.specs.Steps.{Makes};
 ghost use Rattle.cpu_words.specs.Searching.{MaySeek, key_with, search_for, seeking, MayLoadLink, link_answer, HasFollowed, HasLoadedLink, MayLoadSearched, made_of, loaded_answer, HasLoadedWord};
 
@@ -26,6 +27,7 @@ pub fn seek(words: &Words, seat: &mut CpuSeat, cpu: u8, kind: Kind, name: Name) 
     ensures begun { Makes (Seek cpu kind name) Done (Cpu seat.old.view) (Cpu (seeking (key_with kind name) seat.old.view)) }
     ensures event { Makes (LoadLink cpu) (link_answer result) (Cpu (seeking (key_with kind name) seat.old.view)) (Cpu seat.new.view) }
     ensures change { HasFollowed (seeking (key_with kind name) seat.old.view) (search_for (key_with kind name) seat.old.view) result seat.new.view }
+    ensures log { seat.new.log ≡ seat.old.log ++ did (Seek cpu kind name) Done ++ did (LoadLink cpu) (link_answer result) }
 {
     by_cpu::load::<Brand>(words, seat, 648, Event::Seek(cpu, kind, name))
 }
@@ -41,6 +43,7 @@ pub fn load_link(words: &Words, seat: &mut CpuSeat, cpu: u8, link: u64) -> u64
     ensures table { seat.new.table ≡ seat.old.table }
     ensures event { Makes (LoadLink cpu) (link_answer result) (Cpu seat.old.view) (Cpu seat.new.view) }
     ensures change { HasLoadedLink seat.old.view result seat.new.view }
+    ensures log { seat.new.log ≡ seat.old.log ++ did (LoadLink cpu) (link_answer result) }
 {
     by_cpu::load::<Brand>(words, seat, 648 + 8 * link as usize, Event::LoadLink(cpu))
 }
@@ -56,6 +59,7 @@ pub fn load_searched(words: &Words, seat: &mut CpuSeat, cpu: u8, slot: usize, k:
     ensures table { seat.new.table ≡ seat.old.table }
     ensures event { Makes (LoadRecord (OfSearch cpu)) (loaded_answer (made_of seat.old.view.search result)) (Cpu seat.old.view) (Cpu seat.new.view) }
     ensures change { HasLoadedWord seat.old.view result seat.new.view }
+    ensures log { seat.new.log ≡ seat.old.log ++ did (LoadRecord (OfSearch cpu)) (loaded_answer (made_of seat.old.view.search result)) }
 {
     by_cpu::load::<Brand>(
         words,

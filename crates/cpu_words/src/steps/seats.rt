@@ -1,9 +1,11 @@
 //! The seats of the CPUs: each is cut from the keeper's.
 
-ghost use Rattle.std.specs.Prelude.{◌≡◌, ◌+◌};
+ghost use Rattle.std.specs.Prelude.{◌≡◌, ◌+◌, ◌++◌, []};
 ghost use Rattle.protocol.specs.declared.event.Event.TheVariants.{Seat};
+ghost use Rattle.protocol.specs.declared.event.Reply.TheVariants.{Done};
 ghost use Rattle.cpu_words.specs.declared.view.View.TheVariants.{Keeper, Cpu};
 ghost use Rattle.cpu_words.specs.Views.{new_cpu};
+ghost use Rattle.cpu_words.specs.Rule.{did};
 ghost use Rattle.cpu_words.specs.Steps.{SplitsBy};
 ghost use Rattle.cpu_words.specs.Opening.{MaySeat};
 
@@ -20,6 +22,7 @@ pub fn seat(words: &Words, keeper: &mut KeeperSeat) -> CpuSeat
     ensures event { SplitsBy (Seat keeper.old.view.seated) (Keeper keeper.old.view) (Keeper keeper.new.view) (Cpu result.view) }
     ensures keeper { keeper.new.view ≡ record keeper.old.view { seated = keeper.old.view.seated + 1 } }
     ensures new { result.view ≡ new_cpu keeper.old.view.settings keeper.old.view.seated }
+    ensures log { (keeper.new.log ≡ keeper.old.log ++ did (Seat keeper.old.view.seated) Done) × (result.log ≡ []) }
 {
     CpuSeat {
         token: words.table.shared.split_seat::<NextSeat>(&mut keeper.token),

@@ -1,9 +1,10 @@
 //! Read sections (pserialize(9)): Enter and Exit, each one addition to the CPU's section word.
 
-ghost use Rattle.std.specs.Prelude.{◌≡◌, ◌<◌, ◌*◌, None, Some};
+ghost use Rattle.std.specs.Prelude.{◌≡◌, ◌<◌, ◌*◌, None, Some, ◌++◌};
 ghost use Rattle.protocol.specs.declared.event.Event.TheVariants.{Enter, Exit};
 ghost use Rattle.protocol.specs.declared.event.Reply.TheVariants.{Done};
 ghost use Rattle.cpu_words.specs.declared.view.View.TheVariants.{Cpu};
+ghost use Rattle.cpu_words.specs.Rule.{did};
 ghost use Rattle.cpu_words.specs.Steps.{Makes};
 ghost use Rattle.cpu_words.specs.Sections.{MayEnter, HasEntered, MayExit, HasExited};
 
@@ -22,6 +23,7 @@ pub fn enter(words: &Words, seat: &mut CpuSeat, cpu: u8)
     ensures table { seat.new.table ≡ seat.old.table }
     ensures event { Makes (Enter cpu) Done (Cpu seat.old.view) (Cpu seat.new.view) }
     ensures change { HasEntered seat.old.view seat.new.view }
+    ensures log { seat.new.log ≡ seat.old.log ++ did (Enter cpu) Done }
 {
     by_cpu::add::<Brand>(words, seat, 80 * cpu as usize, 1, Event::Enter(cpu));
 }
@@ -35,6 +37,7 @@ pub fn exit(words: &Words, seat: &mut CpuSeat, cpu: u8)
     ensures table { seat.new.table ≡ seat.old.table }
     ensures event { Makes (Exit cpu) Done (Cpu seat.old.view) (Cpu seat.new.view) }
     ensures change { HasExited seat.old.view seat.new.view }
+    ensures log { seat.new.log ≡ seat.old.log ++ did (Exit cpu) Done }
 {
     by_cpu::add::<Brand>(words, seat, 80 * cpu as usize, 1, Event::Exit(cpu));
 }

@@ -1,10 +1,13 @@
-use Rattle.std.proofs.Common.{rules, arith, ap, ℕ}
+use Rattle.std.proofs.Common.{rules, arith, ap, ℕ, ◌∙◌, ◌++◌}
 use Rattle.atomic_table.specs.Table.{Me}
 use Rattle.cpu_words.specs.declared.view.KeeperView.{KeeperView}
 use Rattle.cpu_words.specs.declared.view.ReferenceView.{ReferenceView}
-use Rattle.cpu_words.specs.declared.view.View.{View}
+use Rattle.cpu_words.specs.declared.view.Logged.{Logged}
 use Rattle.cpu_words.specs.Views.{Seated}
 use Rattle.cpu_words.proofs.by_keeper.Totals.{joins_keeper, join_keeper_by}
+use Rattle.protocol.specs.declared.event.Event.TheVariants.{JoinKeeper}
+use Rattle.protocol.specs.declared.event.Reply.TheVariants.{Done}
+use Rattle.cpu_words.specs.Rule.{did}
 use Rattle.cpu_words.proofs.steps.drain.join_keeper.Goals as goal
 
 pub join_seat-requires : goal.join_seat-requires
@@ -13,10 +16,13 @@ join_seat-requires c = (
   search rules,
   search rules,
   let w = c.words.invariant.1 in omega arith,
-  joins_keeper _ _ _ _ _ c.args.keeper.now.view c.args.reference.view (ap (λ (m : Me ℕ View). m.0) c.keeper.invariant) (ap (λ (s : Seated KeeperView). s.view) c.keeper.view_is)
-      (ap (λ (m : Me ℕ View). m.0) c.reference.invariant) (ap (λ (s : Seated ReferenceView). s.view) c.reference.view_is) c.requires.may,
+  joins_keeper _ _ _ _ _ c.args.keeper.now.view c.args.reference.view (ap (λ (m : Me ℕ Logged). m.0) c.keeper.invariant) (ap (λ (s : Seated KeeperView). s.view) c.keeper.view_is)
+      (ap (λ (m : Me ℕ Logged). m.0) c.reference.invariant) (ap (λ (s : Seated ReferenceView). s.view) c.reference.view_is) c.requires.may,
 )
 
 pub returns-clause-event : goal.returns-clause-event
-returns-clause-event c = join_keeper_by c.keeper.inside.token.me.0 c.reference.inside.token.me.0 c.join_seat.new.seat.me.0 c.args.keeper.now.view c.args.reference.view
-    (ap (λ (s : Seated KeeperView). s.view) c.keeper.view_is) (ap (λ (s : Seated ReferenceView). s.view) c.reference.view_is) (ap (λ (m : Me ℕ View). m.0) c.join_seat.ensures.2) c.requires.may
+returns-clause-event c = join_keeper_by c.keeper.inside.token.me.0.view c.reference.inside.token.me.0.view c.join_seat.new.seat.me.0.view c.args.keeper.now.view c.args.reference.view
+    (ap (λ (s : Seated KeeperView). s.view) c.keeper.view_is) (ap (λ (s : Seated ReferenceView). s.view) c.reference.view_is) (ap (λ (m : Me ℕ Logged). m.0.view) c.join_seat.ensures.2) c.requires.may
+
+pub returns-clause-log : goal.returns-clause-log
+returns-clause-log c = ap (λ (m : Me ℕ Logged). m.0.log) c.join_seat.ensures.2 ∙ (λ k. ap (λ (s : Seated KeeperView). s.log) c.keeper.view_is k ++ did (JoinKeeper 0) Done)

@@ -1,3 +1,4 @@
+use Rattle.std.proofs.Common.{refl}
 use Rattle.cpu_words.proofs.by_keeper.KeptDrivers.{kept_sub_may, kept_sub_change}
 use Rattle.cpu_words.proofs.steps.drain.kept_sub.Goals as goal
 
@@ -6,3 +7,6 @@ subtract-requires-clause-may c = kept_sub_may _ _ _ _ c.requires.may
 
 pub returns-clause-change : goal.returns-clause-change
 returns-clause-change c = kept_sub_change _ _ _ _ c.requires.may c.subtract.ensures.told.1
+
+pub subtract-requires-clause-own : goal.subtract-requires-clause-own
+subtract-requires-clause-own c n = (refl, tt)

@@ -2,7 +2,8 @@ use Rattle.protocol.specs.declared.event.Reply.TheVariants.{Done}
 use Rattle.cpu_words.specs.declared.view.View.TheVariants.{Keeper}
 use Rattle.cpu_words.specs.Steps.{Makes}
 use Rattle.cpu_words.specs.Draining.{KeptSubTold}
+use Rattle.cpu_words.specs.Rule.{did}
 use Rattle.cpu_words.proofs.steps.drain.kept_sub.Given as goal
 
 abbrev pub ghosts-subtract : goal.ghosts-subtract
-ghosts-subtract a = record { tells = λ k n l. Makes a.event Done (Keeper k) (Keeper l) × KeptSubTold a.event k l }
+ghosts-subtract a = record { does = λ k n. did a.event Done; tells = λ k n l. Makes a.event Done (Keeper k) (Keeper l) × KeptSubTold a.event k l }

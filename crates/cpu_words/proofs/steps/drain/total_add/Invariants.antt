@@ -2,7 +2,8 @@ use Rattle.protocol.specs.declared.event.Reply.TheVariants.{Done}
 use Rattle.cpu_words.specs.declared.view.View.TheVariants.{Keeper}
 use Rattle.cpu_words.specs.Steps.{Makes}
 use Rattle.cpu_words.specs.Draining.{TotalAddTold}
+use Rattle.cpu_words.specs.Rule.{did}
 use Rattle.cpu_words.proofs.steps.drain.total_add.Given as goal
 
 abbrev pub ghosts-store : goal.ghosts-store
-ghosts-store a = record { tells = λ k n l. Makes a.event Done (Keeper k) (Keeper l) × TotalAddTold a.event k n l }
+ghosts-store a = record { does = λ k n. did a.event Done; tells = λ k n l. Makes a.event Done (Keeper k) (Keeper l) × TotalAddTold a.event k n l }

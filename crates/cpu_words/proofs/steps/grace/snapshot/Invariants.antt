@@ -2,7 +2,8 @@ use Rattle.protocol.specs.declared.event.Reply.TheVariants.{Word}
 use Rattle.cpu_words.specs.declared.view.View.TheVariants.{Keeper}
 use Rattle.cpu_words.specs.Steps.{Makes}
 use Rattle.cpu_words.specs.Grace.{LookTold}
+use Rattle.cpu_words.specs.Rule.{did}
 use Rattle.cpu_words.proofs.steps.grace.snapshot.Given as goal
 
 abbrev pub ghosts-load : goal.ghosts-load
-ghosts-load a = record { tells = λ k n l. Makes a.event (Word n) (Keeper k) (Keeper l) × LookTold a.event k n l }
+ghosts-load a = record { does = λ k n. did a.event (Word n); tells = λ k n l. Makes a.event (Word n) (Keeper k) (Keeper l) × LookTold a.event k n l }

@@ -1,4 +1,6 @@
+use Rattle.std.proofs.Common.{sym, ap}
 use Rattle.cpu_words.proofs.by_cpu.Locals.{count_add_may}
+use Rattle.cpu_words.specs.Logs.{the_cpu}
 use Rattle.cpu_words.proofs.steps.locals.count_add.Goals as goal
 
 pub add-requires-clause-may : goal.add-requires-clause-may
@@ -15,3 +17,6 @@ returns-clause-room c = (c.add.ensures.told.1 _ _ c.requires.may).2
 
 pub returns-clause-alone : goal.returns-clause-alone
 returns-clause-alone c = (c.add.ensures.told.1 _ _ c.requires.may).3
+
+pub add-requires-clause-own : goal.add-requires-clause-own
+add-requires-clause-own c n = (ap the_cpu (sym c.requires.cpu), tt)

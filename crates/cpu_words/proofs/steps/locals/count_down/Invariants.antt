@@ -1,5 +1,6 @@
-use Rattle.cpu_words.specs.Locals.{DownTold}
+use Rattle.cpu_words.specs.Locals.{down_reply, DownTold}
+use Rattle.cpu_words.specs.Rule.{did}
 use Rattle.cpu_words.proofs.steps.locals.count_down.Given as goal
 
 abbrev pub ghosts-compare_exchange : goal.ghosts-compare_exchange
-ghosts-compare_exchange a = record { tells = DownTold a.event a.old }
+ghosts-compare_exchange a = record { does = λ x n. did a.event (down_reply a.old n); tells = DownTold a.event a.old }

@@ -1,10 +1,13 @@
-use Rattle.std.proofs.Common.{rules, arith, ap, ℕ}
+use Rattle.std.proofs.Common.{rules, arith, ap, ℕ, ◌∙◌, ◌++◌}
 use Rattle.atomic_table.specs.Table.{Me}
 use Rattle.cpu_words.specs.declared.view.CpuView.{CpuView}
 use Rattle.cpu_words.specs.declared.view.ReferenceView.{ReferenceView}
-use Rattle.cpu_words.specs.declared.view.View.{View}
+use Rattle.cpu_words.specs.declared.view.Logged.{Logged}
 use Rattle.cpu_words.specs.Views.{Seated}
 use Rattle.cpu_words.proofs.by_cpu.Hands.{seat_joins, seat_joins_by}
+use Rattle.protocol.specs.declared.event.Event.TheVariants.{JoinRef}
+use Rattle.protocol.specs.declared.event.Reply.TheVariants.{Done}
+use Rattle.cpu_words.specs.Rule.{did}
 use Rattle.cpu_words.proofs.steps.locals.join_ref.Goals as goal
 
 pub join_seat-requires : goal.join_seat-requires
@@ -13,9 +16,12 @@ join_seat-requires c = (
   search rules,
   search rules,
   let w = c.words.invariant.1 in omega arith,
-  seat_joins _ _ _ _ _ c.args.seat.now.view (ap (λ (m : Me ℕ View). m.0) c.seat.invariant) (ap (λ (s : Seated CpuView). s.view) c.seat.view_is) (ap (λ (m : Me ℕ View). m.0) c.reference.invariant) c.requires.may,
+  seat_joins _ _ _ _ _ c.args.seat.now.view (ap (λ (m : Me ℕ Logged). m.0) c.seat.invariant) (ap (λ (s : Seated CpuView). s.view) c.seat.view_is) (ap (λ (m : Me ℕ Logged). m.0) c.reference.invariant) c.requires.may,
 )
 
 pub returns-clause-event : goal.returns-clause-event
-returns-clause-event c = seat_joins_by c.seat.inside.token.me.0 _ c.args.seat.now.view _ c.reference.inside.token.me.0 c.args.reference.view (ap (λ (s : Seated CpuView). s.view) c.seat.view_is)
-    (ap (λ (s : Seated ReferenceView). s.view) c.reference.view_is) (ap (λ (m : Me ℕ View). m.0) c.join_seat.ensures.2) c.requires.cpu c.requires.may
+returns-clause-event c = seat_joins_by c.seat.inside.token.me.0.view _ c.args.seat.now.view _ c.reference.inside.token.me.0.view c.args.reference.view (ap (λ (s : Seated CpuView). s.view) c.seat.view_is)
+    (ap (λ (s : Seated ReferenceView). s.view) c.reference.view_is) (ap (λ (m : Me ℕ Logged). m.0.view) c.join_seat.ensures.2) c.requires.cpu c.requires.may
+
+pub returns-clause-log : goal.returns-clause-log
+returns-clause-log c = ap (λ (m : Me ℕ Logged). m.0.log) c.join_seat.ensures.2 ∙ (λ k. ap (λ (s : Seated CpuView). s.log) c.seat.view_is k ++ did (JoinRef ((ap (λ (s : Seated CpuView). s.view.id) c.seat.view_is ∙ c.requires.cpu) k) 0) Done)

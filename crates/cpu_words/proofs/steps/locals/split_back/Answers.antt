@@ -1,18 +1,25 @@
-use Rattle.std.proofs.Common.{rules, arith, ap, ℕ}
+use Rattle.std.proofs.Common.{rules, arith, ap, ℕ, ◌∙◌, ◌++◌, sym}
 use Rattle.atomic_table.specs.Table.{Me}
 use Rattle.cpu_words.specs.declared.view.CpuView.{CpuView}
-use Rattle.cpu_words.specs.declared.view.View.{View}
+use Rattle.cpu_words.specs.declared.view.Logged.{Logged}
 use Rattle.cpu_words.specs.Views.{Seated}
-use Rattle.cpu_words.proofs.by_cpu.Hands.{seat_splits, seat_splits_by, split_back_leaves}
+use Rattle.cpu_words.proofs.by_cpu.Hands.{seat_splits, does_split_back, seat_splits_by, split_back_leaves}
+use Rattle.cpu_words.specs.Logs.{the_cpu, leaves_hand}
 use Rattle.cpu_words.proofs.steps.locals.split_back.Goals as goal
 
 pub split_seat-requires : goal.split_seat-requires
 split_seat-requires c = (
   search rules,
   let w = c.words.invariant.1 in omega arith,
-  seat_splits _ _ _ c.args.seat.now.view _ (ap (λ (m : Me ℕ View). m.0) c.seat.invariant) (ap (λ (s : Seated CpuView). s.view) c.seat.view_is) (split_back_leaves _ _ c.requires.cpu c.requires.may),
+  seat_splits _ _ _ c.args.seat.now.view _ (ap (λ (m : Me ℕ Logged). m.0) c.seat.invariant) (ap (λ (s : Seated CpuView). s.view) c.seat.view_is) (ap the_cpu (sym c.requires.cpu)) (does_split_back c.args.seat.now.view _ c.requires.cpu c.requires.may) (split_back_leaves _ _ c.requires.cpu c.requires.may),
 )
 
 pub returns-clause-event : goal.returns-clause-event
-returns-clause-event c = seat_splits_by c.seat.inside.token.me.0 _ _ c.args.seat.now.view _ (ap (λ (s : Seated CpuView). s.view) c.seat.view_is)
-    (ap (λ (m : Me ℕ View). m.0) c.split_seat.ensures.2) (ap (λ (m : Me ℕ View). m.0) c.split_seat.ensures.4) (split_back_leaves _ _ c.requires.cpu c.requires.may)
+returns-clause-event c = seat_splits_by c.seat.inside.token.me.0.view _ _ c.args.seat.now.view _ (ap (λ (s : Seated CpuView). s.view) c.seat.view_is)
+    (ap (λ (m : Me ℕ Logged). m.0.view) c.split_seat.ensures.2) (ap (λ (m : Me ℕ Logged). m.0.view) c.split_seat.ensures.4) (split_back_leaves _ _ c.requires.cpu c.requires.may)
+
+pub returns-clause-log : goal.returns-clause-log
+returns-clause-log c = (
+  ap (λ (m : Me ℕ Logged). m.0.log) c.split_seat.ensures.2 ∙ (λ k. ap (λ (s : Seated CpuView). s.log) c.seat.view_is k ++ (ap (λ (s : Seated CpuView). leaves_hand s.view.id s.view.hand) c.seat.view_is ∙ does_split_back c.args.seat.now.view _ c.requires.cpu c.requires.may) k),
+  ap (λ (m : Me ℕ Logged). m.0.log) c.split_seat.ensures.4,
+)

@@ -1,4 +1,7 @@
+use Rattle.std.proofs.Common.{sym, ap, ◌∙◌}
 use Rattle.cpu_words.proofs.seats.Notes.{hear_laid_may, cpu_heard}
+use Rattle.cpu_words.specs.Logs.{the_cpu}
+use Rattle.cpu_words.specs.declared.view.CpuView.{CpuView}
 use Rattle.cpu_words.proofs.steps.notes.hear.Goals as goal
 
 pub load-requires-clause-may : goal.load-requires-clause-may
@@ -9,3 +12,6 @@ returns-clause-told c = (cpu_heard c.args.seat.now.view _ _ _ c.lay.ensures.chan
 
 pub returns-clause-change : goal.returns-clause-change
 returns-clause-change c = let heard = cpu_heard c.args.seat.now.view _ _ _ c.lay.ensures.change c.load.ensures.told.1 in (heard.1, heard.2)
+
+pub load-requires-clause-own : goal.load-requires-clause-own
+load-requires-clause-own c n = (ap the_cpu (sym (ap (λ (x : CpuView). x.id) c.lay.ensures.change ∙ c.requires.cpu.1)), tt)

@@ -1,3 +1,4 @@
+use Rattle.std.proofs.Common.{refl}
 use Rattle.cpu_words.proofs.seats.Notes.{hear_keeper_laid_may, keeper_heard}
 use Rattle.cpu_words.proofs.steps.notes.hear_keeper.Goals as goal
 
@@ -9,3 +10,6 @@ returns-clause-told c = (keeper_heard c.args.keeper.now.view _ _ _ c.lay_by_keep
 
 pub returns-clause-change : goal.returns-clause-change
 returns-clause-change c = (keeper_heard c.args.keeper.now.view _ _ _ c.lay_by_keeper.ensures.change c.load.ensures.told.1).1
+
+pub load-requires-clause-own : goal.load-requires-clause-own
+load-requires-clause-own c n = (refl, tt)

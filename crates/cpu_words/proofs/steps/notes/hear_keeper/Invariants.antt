@@ -2,7 +2,8 @@ use Rattle.protocol.specs.declared.event.Reply.TheVariants.{Done}
 use Rattle.cpu_words.specs.declared.view.View.TheVariants.{Keeper}
 use Rattle.cpu_words.specs.Steps.{Makes}
 use Rattle.cpu_words.specs.Notes.{KeeperHasHeard}
+use Rattle.cpu_words.specs.Rule.{did}
 use Rattle.cpu_words.proofs.steps.notes.hear_keeper.Given as goal
 
 abbrev pub ghosts-load : goal.ghosts-load
-ghosts-load a = record { tells = λ k n l. Makes a.event Done (Keeper k) (Keeper l) × KeeperHasHeard k l }
+ghosts-load a = record { does = λ k n. did a.event Done; tells = λ k n l. Makes a.event Done (Keeper k) (Keeper l) × KeeperHasHeard k l }

@@ -1,18 +1,27 @@
-use Rattle.std.proofs.Common.{rules, arith, ap, ℕ}
+use Rattle.std.proofs.Common.{Some, rules, arith, ap, ℕ, ◌∙◌, ◌++◌}
 use Rattle.atomic_table.specs.Table.{Me}
 use Rattle.cpu_words.specs.declared.view.CpuView.{CpuView}
-use Rattle.cpu_words.specs.declared.view.View.{View}
+use Rattle.cpu_words.specs.declared.view.Logged.{Logged}
 use Rattle.cpu_words.specs.Views.{Seated}
 use Rattle.cpu_words.proofs.seats.Notes.{cpu_splits, cpu_splits_by}
+use Rattle.protocol.specs.declared.event.Event.TheVariants.{Tell}
+use Rattle.protocol.specs.declared.event.Reply.TheVariants.{Done}
+use Rattle.cpu_words.specs.Rule.{did}
 use Rattle.cpu_words.proofs.steps.notes.tell.Goals as goal
 
 pub split_seat-requires : goal.split_seat-requires
 split_seat-requires c = (
   search rules,
   let w = c.words.invariant.1 in omega arith,
-  cpu_splits _ _ _ c.args.seat.now.view _ (ap (λ (m : Me ℕ View). m.0) c.seat.invariant) (ap (λ (s : Seated CpuView). s.view) c.seat.view_is) c.requires.cpu c.requires.may,
+  cpu_splits _ _ _ c.args.seat.now.view _ (ap (λ (m : Me ℕ Logged). m.0) c.seat.invariant) (ap (λ (s : Seated CpuView). s.view) c.seat.view_is) c.requires.cpu c.requires.may,
 )
 
 pub returns-clause-event : goal.returns-clause-event
-returns-clause-event c = cpu_splits_by c.seat.inside.token.me.0 _ c.args.seat.now.view _ (ap (λ (s : Seated CpuView). s.view) c.seat.view_is)
-    (ap (λ (m : Me ℕ View). m.0) c.split_seat.ensures.4) c.requires.cpu c.requires.may
+returns-clause-event c = cpu_splits_by c.seat.inside.token.me.0.view _ c.args.seat.now.view _ (ap (λ (s : Seated CpuView). s.view) c.seat.view_is)
+    (ap (λ (m : Me ℕ Logged). m.0.view) c.split_seat.ensures.4) c.requires.cpu c.requires.may
+
+pub returns-clause-log : goal.returns-clause-log
+returns-clause-log c = (
+  ap (λ (m : Me ℕ Logged). m.0.log) c.split_seat.ensures.2 ∙ (λ k. ap (λ (s : Seated CpuView). s.log) c.seat.view_is k ++ did (Tell (Some ((ap (λ (s : Seated CpuView). s.view.id) c.seat.view_is ∙ c.requires.cpu) k))) Done),
+  ap (λ (m : Me ℕ Logged). m.0.log) c.split_seat.ensures.4,
+)

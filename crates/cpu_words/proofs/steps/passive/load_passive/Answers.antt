@@ -1,5 +1,6 @@
-use Rattle.std.proofs.Common.{refl}
+use Rattle.std.proofs.Common.{refl, sym, ap}
 use Rattle.cpu_words.proofs.by_cpu.Passives.{load_may}
+use Rattle.cpu_words.specs.Logs.{the_cpu}
 use Rattle.cpu_words.proofs.steps.passive.load_passive.Goals as goal
 
 pub load-requires-clause-may : goal.load-requires-clause-may
@@ -13,3 +14,6 @@ returns-clause-alone c = (c.load.ensures.told.2 c.args.cpu c.args.slot c.args.nu
 
 pub returns-clause-name : goal.returns-clause-name
 returns-clause-name c = (c.load.ensures.told.2 c.args.cpu c.args.slot c.args.number c.args.k refl refl).2
+
+pub load-requires-clause-own : goal.load-requires-clause-own
+load-requires-clause-own c n = (ap the_cpu (sym c.requires.cpu.1), tt)

@@ -1,5 +1,6 @@
-use Rattle.std.proofs.Common.{refl}
+use Rattle.std.proofs.Common.{refl, sym, ap}
 use Rattle.cpu_words.proofs.by_cpu.Passives.{add_may}
+use Rattle.cpu_words.specs.Logs.{the_cpu}
 use Rattle.cpu_words.proofs.steps.passive.passive_add.Goals as goal
 
 pub add-requires-clause-may : goal.add-requires-clause-may
@@ -16,3 +17,6 @@ returns-clause-count c = (c.add.ensures.told.1 c.args.cpu c.args.slot c.args.num
 
 pub returns-clause-alone : goal.returns-clause-alone
 returns-clause-alone c = (c.add.ensures.told.1 c.args.cpu c.args.slot c.args.number refl refl).3
+
+pub add-requires-clause-own : goal.add-requires-clause-own
+add-requires-clause-own c n = (ap the_cpu (sym c.requires.cpu.1), tt)

@@ -1,5 +1,7 @@
+use Rattle.protocol.specs.declared.event.Reply.TheVariants.{Word}
 use Rattle.cpu_words.specs.Passives.{tells_added}
+use Rattle.cpu_words.specs.Rule.{did}
 use Rattle.cpu_words.proofs.steps.passive.passive_add.Given as goal
 
 abbrev pub ghosts-add : goal.ghosts-add
-ghosts-add a = record { tells = tells_added a.event a.word }
+ghosts-add a = record { does = λ x n. did a.event (Word n); tells = tells_added a.event a.word }

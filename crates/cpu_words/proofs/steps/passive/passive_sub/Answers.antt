@@ -1,5 +1,6 @@
-use Rattle.std.proofs.Common.{refl}
+use Rattle.std.proofs.Common.{refl, sym, ap}
 use Rattle.cpu_words.proofs.by_cpu.Passives.{sub_may}
+use Rattle.cpu_words.specs.Logs.{the_cpu}
 use Rattle.cpu_words.proofs.steps.passive.passive_sub.Goals as goal
 
 pub subtract-requires-clause-may : goal.subtract-requires-clause-may
@@ -13,3 +14,6 @@ returns-clause-count c = (c.subtract.ensures.told.1 c.args.cpu c.args.slot c.arg
 
 pub returns-clause-alone : goal.returns-clause-alone
 returns-clause-alone c = (c.subtract.ensures.told.1 c.args.cpu c.args.slot c.args.number refl refl).2
+
+pub subtract-requires-clause-own : goal.subtract-requires-clause-own
+subtract-requires-clause-own c n = (ap the_cpu (sym c.requires.cpu.1), tt)

@@ -2,7 +2,8 @@ use Rattle.protocol.specs.declared.event.Reply.TheVariants.{Done}
 use Rattle.cpu_words.specs.declared.view.View.TheVariants.{Keeper}
 use Rattle.cpu_words.specs.Steps.{Makes}
 use Rattle.cpu_words.specs.Publishing.{PublishTold}
+use Rattle.cpu_words.specs.Rule.{did}
 use Rattle.cpu_words.proofs.steps.publishing.publish.Given as goal
 
 abbrev pub ghosts-store : goal.ghosts-store
-ghosts-store a = record { tells = λ k n l. Makes a.event Done (Keeper k) (Keeper l) × PublishTold a.event k l }
+ghosts-store a = record { does = λ k n. did a.event Done; tells = λ k n l. Makes a.event Done (Keeper k) (Keeper l) × PublishTold a.event k l }

@@ -1,10 +1,9 @@
-use Rattle.std.proofs.Common.{ℕ, refl, sym, ap, subst}
+use Rattle.std.proofs.Common.{ℕ, refl, sym, subst}
 use Rattle.protocol.specs.declared.event.Event.TheVariants.{LoadRecord}
 use Rattle.protocol.specs.declared.event.RecordOf.TheVariants.{Local}
 use Rattle.protocol.specs.declared.event.Reply.TheVariants.{Word}
 use Rattle.cpu_words.specs.declared.view.ReferenceView.{ReferenceView}
 use Rattle.cpu_words.specs.declared.view.View.TheVariants.{Reference}
-use Rattle.cpu_words.specs.Views.{Seated}
 use Rattle.cpu_words.specs.Steps.{Makes}
 use Rattle.cpu_words.proofs.by_cpu.Reading.{local_may}
 use Rattle.cpu_words.proofs.steps.reading.load_local.Goals as goal
@@ -13,7 +12,7 @@ pub load-requires-clause-may : goal.load-requires-clause-may
 load-requires-clause-may c = local_may _ _ _ _ c.requires.slot c.requires.place.1
 
 pub returns-clause-event : goal.returns-clause-event
-returns-clause-event c = subst (λ (w : ReferenceView). (o : ℕ) × Makes (LoadRecord (Local o c.args.k)) (Word c.load.result) (Reference c.args.seat.now.view) (Reference w)) (sym (ap (λ (s : Seated ReferenceView). s.view) c.load.ensures.same))
+returns-clause-event c = subst (λ (w : ReferenceView). (o : ℕ) × Makes (LoadRecord (Local o c.args.k)) (Word c.load.result) (Reference c.args.seat.now.view) (Reference w)) (sym c.load.ensures.same)
     (c.load.ensures.told 0 c.args.k refl).0
 
 pub returns-clause-word : goal.returns-clause-word
@@ -21,3 +20,6 @@ returns-clause-word c = (c.load.ensures.told 0 c.args.k refl).1
 
 pub returns-clause-name : goal.returns-clause-name
 returns-clause-name c = (c.load.ensures.told 0 c.args.k refl).2
+
+pub load-requires-clause-own : goal.load-requires-clause-own
+load-requires-clause-own c n = (refl, tt)

@@ -1,7 +1,8 @@
 use Rattle.cpu_words.specs.declared.view.View.TheVariants.{Cpu}
 use Rattle.cpu_words.specs.Steps.{Makes}
 use Rattle.cpu_words.specs.Searching.{link_answer, HasLoadedLink}
+use Rattle.cpu_words.specs.Rule.{did}
 use Rattle.cpu_words.proofs.steps.search.load_link.Given as goal
 
 abbrev pub ghosts-load : goal.ghosts-load
-ghosts-load a = record { tells = λ x n y. Makes a.event (link_answer n) (Cpu x) (Cpu y) × HasLoadedLink x n y }
+ghosts-load a = record { does = λ x n. did a.event (link_answer n); tells = λ x n y. Makes a.event (link_answer n) (Cpu x) (Cpu y) × HasLoadedLink x n y }

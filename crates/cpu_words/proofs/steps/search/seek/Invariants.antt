@@ -1,5 +1,5 @@
-use Rattle.cpu_words.specs.Searching.{HasSought}
+use Rattle.cpu_words.specs.Searching.{sought, HasSought}
 use Rattle.cpu_words.proofs.steps.search.seek.Given as goal
 
 abbrev pub ghosts-load : goal.ghosts-load
-ghosts-load a = record { tells = HasSought a.event }
+ghosts-load a = record { does = λ x n. sought a.event n; tells = HasSought a.event }

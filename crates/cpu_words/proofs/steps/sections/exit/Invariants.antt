@@ -2,7 +2,8 @@ use Rattle.protocol.specs.declared.event.Reply.TheVariants.{Done}
 use Rattle.cpu_words.specs.declared.view.View.TheVariants.{Cpu}
 use Rattle.cpu_words.specs.Steps.{Makes}
 use Rattle.cpu_words.specs.Sections.{HasExited}
+use Rattle.cpu_words.specs.Rule.{did}
 use Rattle.cpu_words.proofs.steps.sections.exit.Given as goal
 
 abbrev pub ghosts-add : goal.ghosts-add
-ghosts-add a = record { tells = λ x n y. Makes a.event Done (Cpu x) (Cpu y) × HasExited x y }
+ghosts-add a = record { does = λ x n. did a.event Done; tells = λ x n y. Makes a.event Done (Cpu x) (Cpu y) × HasExited x y }

@@ -3,7 +3,6 @@ use Rattle.std.proofs.Common.{◌≡◌, ◌∙◌, ap}
 use Rattle.protocol.specs.Events.{word, words_of}
 use Rattle.registry_values.specs.Names.{are_name_words}
 use Rattle.cpu_words.specs.declared.view.ReferenceView.{ReferenceView}
-use Rattle.cpu_words.specs.Views.{Seated}
 use Rattle.local_count.proofs.local_ref.LocalRef.record.Goals as goal
 
 pub record_from-requires : goal.record_from-requires
@@ -11,17 +10,17 @@ record_from-requires g c =
     let first = c.load_local-kind.ensures.same in
     let second = c.load_local-high.ensures.same ∙ first in
     let name = c.self.inside.seat.view.entry.rec.name in
-    let high : c.load_local-high.result ≡ name.high = c.load_local-high.ensures.word ∙ ap (λ (s : Seated ReferenceView). word (words_of s.view.entry) 2) first in
-    let low : c.load_local-low.result ≡ name.low = c.load_local-low.ensures.word ∙ ap (λ (s : Seated ReferenceView). word (words_of s.view.entry) 3) second in
+    let high : c.load_local-high.result ≡ name.high = c.load_local-high.ensures.word ∙ ap (λ (v : ReferenceView). word (words_of v.entry) 2) first in
+    let low : c.load_local-low.result ≡ name.low = c.load_local-low.ensures.word ∙ ap (λ (v : ReferenceView). word (words_of v.entry) 3) second in
     (λ i. are_name_words (high i) (low i)) ∙ c.load_local-kind.ensures.name
 
 pub returns-clause-value : goal.returns-clause-value
 returns-clause-value g c =
     let r = c.self.inside.seat.view.entry.rec in
-    let first : c.load_local-kind.new.seat ≡ c.self.inside.seat = c.load_local-kind.ensures.same in
-    let second : c.load_local-high.new.seat ≡ c.self.inside.seat = c.load_local-high.ensures.same ∙ first in
-    let third : c.load_local-low.new.seat ≡ c.self.inside.seat = c.load_local-low.ensures.same ∙ second in
-    let high : c.load_local-high.result ≡ r.name.high = c.load_local-high.ensures.word ∙ ap (λ (s : Seated ReferenceView). word (words_of s.view.entry) 2) first in
-    let low : c.load_local-low.result ≡ r.name.low = c.load_local-low.ensures.word ∙ ap (λ (s : Seated ReferenceView). word (words_of s.view.entry) 3) second in
-    let value : c.load_local-value.result ≡ r.value = c.load_local-value.ensures.word ∙ ap (λ (s : Seated ReferenceView). word (words_of s.view.entry) 4) third in
+    let first : c.load_local-kind.new.seat.view ≡ c.self.inside.seat.view = c.load_local-kind.ensures.same in
+    let second : c.load_local-high.new.seat.view ≡ c.self.inside.seat.view = c.load_local-high.ensures.same ∙ first in
+    let third : c.load_local-low.new.seat.view ≡ c.self.inside.seat.view = c.load_local-low.ensures.same ∙ second in
+    let high : c.load_local-high.result ≡ r.name.high = c.load_local-high.ensures.word ∙ ap (λ (v : ReferenceView). word (words_of v.entry) 2) first in
+    let low : c.load_local-low.result ≡ r.name.low = c.load_local-low.ensures.word ∙ ap (λ (v : ReferenceView). word (words_of v.entry) 3) second in
+    let value : c.load_local-value.result ≡ r.value = c.load_local-value.ensures.word ∙ ap (λ (v : ReferenceView). word (words_of v.entry) 4) third in
     c.record_from.ensures r c.load_local-kind.ensures.word high low value ∙ ap (λ (v : ReferenceView). v.entry.rec) c.self.view_is

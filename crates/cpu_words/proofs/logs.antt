@@ -1,0 +1,4 @@
+pub mod Allowing
+pub mod Logs
+pub mod Makers
+pub mod Seats

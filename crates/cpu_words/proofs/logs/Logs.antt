@@ -1,0 +1,200 @@
+-- Steps, cuts and joins over the table with logs.
+use Rattle.std.proofs.Common.{◌≡◌, ◌≢◌, ◌⊎◌, inl, inr, ⊎_elim, ℕ, zero, suc, ◌<◌, ◌≤◌, ◌==◌, Bool, true, false, cond, List, [], ◌∷◌, ◌++◌, map, length, set, length-set, length-append, eq-eqb, ne_eqb, refl, sym, ap, ◌∙◌, subst, arith}
+use Rattle.std.proofs.lemmas.List.{map-set, append-nil, map-append}
+use Rattle.std.specs.Prelude.{slice_index}
+use mathlib.Core.Option.{some, some-injective, some-ne-none}
+use lib.ListN.{get_elem?}
+use Rattle.atomic_table.specs.Table.{State as Table, Splits, Joins, keeps, stepped}
+use Rattle.atomic_table.proofs.Lists.{at_set, at_map}
+use Rattle.registry_values.specs.declared.settings.Settings.{Settings}
+use Rattle.cpu_words.specs.declared.view.Deed.{Deed}
+use Rattle.cpu_words.specs.declared.view.Logged.{Logged}
+use Rattle.cpu_words.specs.declared.view.View.{View}
+use Rattle.cpu_words.specs.declared.view.View.TheVariants.{Keeper, Cpu, Reference, Note, Spent}
+use Rattle.cpu_words.specs.Views.{Shown}
+use Rattle.protocol.specs.State.{State}
+use Rattle.cpu_words.specs.Rule.{Sits, GoesOn, deeds}
+use Rattle.cpu_words.specs.Steps.{Moves, SplitsOn, JoinsOn}
+use Rattle.cpu_words.specs.Logs.{plain, part, IsStanding, Maker, the_keeper, the_cpu, another, maker, who, AreBy, IsSeatOf, AreByOwn, LoggedRuled}
+
+-- what the seat i did more
+abbrev by_seat : ℕ → List Deed → List (ℕ × Deed)
+by_seat i ds = map (λ (d : Deed). (i, d)) ds
+
+cond_append : (b : Bool) (d : Deed) (x y : List Deed) → cond b (d ∷ (x ++ y)) (x ++ y) ≡ cond b (d ∷ x) x ++ y
+cond_append true d x y = refl
+cond_append false d x y = refl
+
+part_append : (i : ℕ) (a b : List (ℕ × Deed)) → part i (a ++ b) ≡ part i a ++ part i b
+part_append i [] b = refl
+part_append i (x ∷ xs) b = ap (λ (l : List Deed). cond (x.0 == i) (x.1 ∷ l) l) (part_append i xs b) ∙ cond_append (x.0 == i) x.1 (part i xs) (part i b)
+
+part_own : (i : ℕ) (ds : List Deed) → part i (by_seat i ds) ≡ ds
+part_own i [] = refl
+part_own i (d ∷ ds) = ap (λ (b : Bool). cond b (d ∷ part i (by_seat i ds)) (part i (by_seat i ds))) (eq-eqb i i refl) ∙ ap (λ (l : List Deed). d ∷ l) (part_own i ds)
+
+part_other : (i j : ℕ) (ds : List Deed) → j ≢ i → part j (by_seat i ds) ≡ []
+part_other i j [] ne = refl
+part_other i j (d ∷ ds) ne = ap (λ (b : Bool). cond b (d ∷ part j (by_seat i ds)) (part j (by_seat i ds))) (ne_eqb i j (λ same. ne (sym same))) ∙ part_other i j ds ne
+
+deeds_of_seat : (i : ℕ) (ds : List Deed) → map (λ (a : ℕ × Deed). a.1) (by_seat i ds) ≡ ds
+deeds_of_seat i [] = refl
+deeds_of_seat i (d ∷ ds) = ap (λ (l : List Deed). d ∷ l) (deeds_of_seat i ds)
+
+at_within : (l : List Logged) (i : ℕ) (a : Logged) → get_elem? l i ≡ some a → i < length l
+at_within [] i a e = absurd (some-ne-none a (sym e))
+at_within (x ∷ xs) zero a e = omega arith
+at_within (x ∷ xs) (suc i) a e = let h = at_within xs i a e in omega arith
+
+at_end : (l : List Logged) (a b : Logged) (j : ℕ) → get_elem? (l ++ a ∷ []) j ≡ some b → (get_elem? l j ≡ some b) ⊎ ((j ≡ length l) × (a ≡ b))
+at_end [] a b zero e = inr (refl, some-injective a b e)
+at_end [] a b (suc j) e = absurd (some-ne-none b (sym e))
+at_end (x ∷ xs) a b zero e = inl e
+at_end (x ∷ xs) a b (suc j) e = ⊎_elim (λ t. inl t) (λ t. inr (ap suc t.0, t.1)) (at_end xs a b j e)
+
+-- Whose the seats are
+
+seat_of_more : (seat next : ℕ → ℕ) (n more i : ℕ) (m : Maker) → n ≤ more → ((c : ℕ) → c < n → next c ≡ seat c) → IsSeatOf seat n i m → IsSeatOf next more i m
+seat_of_more seat next n more i the_keeper le same is = is
+seat_of_more seat next n more i (the_cpu c) le same is = (is.0 ∙ sym (same c is.1), let lt = is.1 in omega arith)
+seat_of_more seat next n more i another le same is = tt
+
+by_own_more : (seat next : ℕ → ℕ) (n more : ℕ) (acts : List (ℕ × Deed)) → n ≤ more → ((c : ℕ) → c < n → next c ≡ seat c) → AreByOwn seat n acts → AreByOwn next more acts
+by_own_more seat next n more [] le same are = tt
+by_own_more seat next n more (a ∷ rest) le same are = (seat_of_more seat next n more a.0 (maker a.1.event) le same are.0, by_own_more seat next n more rest le same are.1)
+
+by_own_append : (seat : ℕ → ℕ) (n : ℕ) (a b : List (ℕ × Deed)) → AreByOwn seat n a → AreByOwn seat n b → AreByOwn seat n (a ++ b)
+by_own_append seat n [] b first second = second
+by_own_append seat n (x ∷ rest) b first second = (first.0, by_own_append seat n rest b first.1 second)
+
+by_own_seat : (seat : ℕ → ℕ) (n i : ℕ) (m : Maker) (ds : List Deed) → IsSeatOf seat n i m → AreBy m ds → AreByOwn seat n (by_seat i ds)
+by_own_seat seat n i m [] is all = tt
+by_own_seat seat n i m (d ∷ ds) is all = (subst (IsSeatOf seat n i) (sym all.0) is, by_own_seat seat n i m ds is all.1)
+
+-- the seat of a view is its own
+own_seat : (g : State) (seat : ℕ → ℕ) (i : ℕ) (v : View) → Sits seat i v → Shown g v → IsSeatOf seat g.seated i (who v)
+own_seat g seat i (Keeper k) sits shown = sits
+own_seat g seat i (Cpu x) sits shown = (sits, shown.seated)
+own_seat g seat i (Reference v) sits shown = tt
+own_seat g seat i (Note h) sits shown = tt
+own_seat g seat i Spent sits shown = tt
+
+-- what a run that goes on with deeds of the seat id keeps
+record Went (z : Settings) (s : Table ℕ Logged) (r : LoggedRuled z s) (id : ℕ) (log ds : List Deed) (t : Table ℕ View) (goes : GoesOn z (plain s) r.run ds t) : Type 0 where
+  acts : List (ℕ × Deed)
+  are : map (λ (a : ℕ × Deed). a.1) acts ≡ deeds z goes.ruled.reached.events
+  owners : AreByOwn goes.ruled.seat goes.ruled.g.seated acts
+  mine : log ++ ds ≡ part id acts
+  others : (j : ℕ) (u : Logged) → j ≢ id → get_elem? s.views j ≡ some u → IsStanding u.view → u.log ≡ part j acts
+  unseated : (j : ℕ) → length s.views ≤ j → part j acts ≡ []
+
+went : (z : Settings) (s : Table ℕ Logged) (r : LoggedRuled z s) (id : ℕ) (v : View) (log ds : List Deed) (t : Table ℕ View) (goes : GoesOn z (plain s) r.run ds t)
+    → get_elem? s.views id ≡ some (record { view = v; log = log }) → IsStanding v → AreBy (who v) ds → Went z s r id log ds t goes
+went z s r id v log ds t goes at stands by =
+    let its = r.run.shows.fits id v (at_map (λ (l : Logged). l.view) s.views id (record { view = v; log = log }) at) in
+    let own : IsSeatOf goes.ruled.seat goes.ruled.g.seated id (who v) = seat_of_more r.run.seat goes.ruled.seat r.run.g.seated goes.ruled.g.seated id (who v) goes.seated goes.seats (own_seat r.run.g r.run.seat id v its.0 its.1) in
+    let longer : (j : ℕ) → j ≢ id → part j (r.acts ++ by_seat id ds) ≡ part j r.acts = λ j ne. part_append j r.acts (by_seat id ds) ∙ (ap (λ (l : List Deed). part j r.acts ++ l) (part_other id j ds ne) ∙ append-nil (part j r.acts)) in
+    record {
+      acts = r.acts ++ by_seat id ds;
+      are = map-append (λ (a : ℕ × Deed). a.1) r.acts (by_seat id ds) ∙ ((λ k. r.are k ++ deeds_of_seat id ds k) ∙ sym goes.goes_on);
+      owners = by_own_append goes.ruled.seat goes.ruled.g.seated r.acts (by_seat id ds) (by_own_more r.run.seat goes.ruled.seat r.run.g.seated goes.ruled.g.seated r.acts goes.seated goes.seats r.owners)
+          (by_own_seat goes.ruled.seat goes.ruled.g.seated id (who v) ds own by);
+      mine = (λ k. r.logs id (record { view = v; log = log }) at stands k ++ sym (part_own id ds) k) ∙ sym (part_append id r.acts (by_seat id ds));
+      others = λ j u ne there standing. r.logs j u there standing ∙ sym (longer j ne);
+      unseated = λ j le. longer j (λ same. let lt = at_within s.views id (record { view = v; log = log }) at in omega (arith, lt, same, le)) ∙ r.unseated j le;
+    }
+
+-- what Moves says, of the table with logs
+abbrev pub LoggedMoves : Settings → View → List Deed → ℕ → (ℕ → ℕ) → (ℕ → List Deed) → (ℕ → View → Type 0) → Type 0
+LoggedMoves z v log i f ds tells = (s : Table ℕ Logged) → LoggedRuled z s → (id : ℕ) → get_elem? s.views id ≡ some (record { view = v; log = log }) → slice_index s.words i < 18446744073709551616
+    → (w : View) × LoggedRuled z (stepped s i (f (slice_index s.words i)) id [] (record { view = w; log = log ++ ds (slice_index s.words i) }) keeps) × tells (slice_index s.words i) w
+
+pub logged_moves : (z : Settings) (v : View) (log : List Deed) (i : ℕ) (f : ℕ → ℕ) (ds : ℕ → List Deed) (tells : ℕ → View → Type 0) → IsStanding v → ((n : ℕ) → AreBy (who v) (ds n)) → Moves z v i f ds tells → LoggedMoves z v log i f ds tells
+logged_moves z v log i f ds tells stands by moves s r id at fits =
+    let q = plain s in
+    let here : get_elem? q.views id ≡ some v = at_map (λ (l : Logged). l.view) s.views id (record { view = v; log = log }) at in
+    let done = moves q r.run id here fits in
+    let w = done.0 in
+    let word = slice_index s.words i in
+    let l : Logged = record { view = w; log = log ++ ds word } in
+    let t : Table ℕ Logged = stepped s i (f word) id [] l keeps in
+    let same : stepped q i (f word) id [] w keeps ≡ plain t = λ k. record { words = set s.words i (f word); homes = s.homes; views = sym (map-set (λ (x : Logged). x.view) s.views id l) k } in
+    let goes : GoesOn z q r.run (ds word) (plain t) = subst (GoesOn z q r.run (ds word)) same done.1 in
+    let on = went z s r id v log (ds word) (plain t) goes at stands (by word) in (
+      w,
+      record {
+        run = goes.ruled;
+        acts = on.acts;
+        are = on.are;
+        owners = on.owners;
+        logs = λ j u there standing. ⊎_elim
+            (λ (x : (j ≡ id) × (l ≡ u)). sym (ap (λ (y : Logged). y.log) x.1) ∙ on.mine ∙ ap (λ (m : ℕ). part m on.acts) (sym x.0))
+            (λ (x : (j ≢ id) × (get_elem? s.views j ≡ some u)). on.others j u x.0 x.1 standing)
+            (at_set s.views id j l u there);
+        unseated = λ j le. on.unseated j (omega (arith, length-set s.views id l, le));
+      },
+      done.2,
+    )
+
+pub logged_splits : (z : Settings) (i : ℕ) (v : View) (log : List Deed) (left right : View) (ds : List Deed) → IsStanding v → AreBy (who v) ds → SplitsOn z i v left right ds
+    → Splits (LoggedRuled z) i (record { view = v; log = log }) (record { view = left; log = log ++ ds }) (record { view = right; log = [] })
+logged_splits z i v log left right ds stands by splits s r at =
+    let q = plain s in
+    let here : get_elem? q.views i ≡ some v = at_map (λ (l : Logged). l.view) s.views i (record { view = v; log = log }) at in
+    let l : Logged = record { view = left; log = log ++ ds } in
+    let b : Logged = record { view = right; log = [] } in
+    let t : Table ℕ Logged = record { words = s.words; homes = s.homes; views = set s.views i l ++ b ∷ [] } in
+    let views : set q.views i left ++ right ∷ [] ≡ (plain t).views = sym (map-append (λ (x : Logged). x.view) (set s.views i l) (b ∷ []) ∙ ap (λ (a : List View). a ++ right ∷ []) (map-set (λ (x : Logged). x.view) s.views i l)) in
+    let goes : GoesOn z q r.run ds (plain t) = subst (λ (vs : List View). GoesOn z q r.run ds (record { words = s.words; homes = s.homes; views = vs })) views (splits q r.run here) in
+    let on = went z s r i v log ds (plain t) goes at stands by in
+    let size : length (set s.views i l) ≡ length s.views = length-set s.views i l in
+    record {
+      run = goes.ruled;
+      acts = on.acts;
+      are = on.are;
+      owners = on.owners;
+      logs = λ j u there standing. ⊎_elim
+          (λ (was : get_elem? (set s.views i l) j ≡ some u). ⊎_elim
+          (λ (x : (j ≡ i) × (l ≡ u)). sym (ap (λ (y : Logged). y.log) x.1) ∙ on.mine ∙ ap (λ (m : ℕ). part m on.acts) (sym x.0))
+          (λ (x : (j ≢ i) × (get_elem? s.views j ≡ some u)). on.others j u x.0 x.1 standing)
+          (at_set s.views i j l u was))
+          (λ (x : (j ≡ length (set s.views i l)) × (b ≡ u)). sym (ap (λ (y : Logged). y.log) x.1) ∙ sym (on.unseated j (omega (arith, x.0, size))))
+          (at_end (set s.views i l) b u j there);
+      unseated = λ j le. on.unseated j (omega (arith, length-append (set s.views i l) (b ∷ []), size, le));
+    }
+
+pub logged_joins : (z : Settings) (i : ℕ) (v : View) (log : List Deed) (o : ℕ) (w : View) (other : List Deed) (both : View) (ds : List Deed) → IsStanding v → AreBy (who v) ds → JoinsOn z i v o w both Spent ds
+    → Joins (LoggedRuled z) i (record { view = v; log = log }) o (record { view = w; log = other }) (record { view = both; log = log ++ ds }) (record { view = Spent; log = [] })
+logged_joins z i v log o w other both ds stands by joins s r at apart there =
+    let q = plain s in
+    let f = λ (x : Logged). x.view in
+    let here : get_elem? q.views i ≡ some v = at_map f s.views i (record { view = v; log = log }) at in
+    let l : Logged = record { view = both; log = log ++ ds } in
+    let b : Logged = record { view = Spent; log = [] } in
+    let once : map f (set s.views i l) ≡ set q.views i both = map-set f s.views i l in
+    let also : get_elem? (set q.views i both) o ≡ some w = subst (λ (vs : List View). get_elem? vs o ≡ some w) once (at_map f (set s.views i l) o (record { view = w; log = other }) there) in
+    let t : Table ℕ Logged = record { words = s.words; homes = s.homes; views = set (set s.views i l) o b } in
+    let views : set (set q.views i both) o Spent ≡ (plain t).views = sym (map-set f (set s.views i l) o b ∙ ap (λ (a : List View). set a o Spent) once) in
+    let goes : GoesOn z q r.run ds (plain t) = subst (λ (vs : List View). GoesOn z q r.run ds (record { words = s.words; homes = s.homes; views = vs })) views (joins q r.run here apart also) in
+    let on = went z s r i v log ds (plain t) goes at stands by in
+    record {
+      run = goes.ruled;
+      acts = on.acts;
+      are = on.are;
+      owners = on.owners;
+      logs = λ j u now standing. ⊎_elim
+          (λ (x : (j ≡ o) × (b ≡ u)). absurd (subst (λ (y : Logged). IsStanding y.view) (sym x.1) standing))
+          (λ (x : (j ≢ o) × (get_elem? (set s.views i l) j ≡ some u)). ⊎_elim
+          (λ (y : (j ≡ i) × (l ≡ u)). sym (ap (λ (a : Logged). a.log) y.1) ∙ on.mine ∙ ap (λ (m : ℕ). part m on.acts) (sym y.0))
+          (λ (y : (j ≢ i) × (get_elem? s.views j ≡ some u)). on.others j u y.0 y.1 standing)
+          (at_set s.views i j l u x.1))
+          (at_set (set s.views i l) o j b u now);
+      unseated = λ j le. on.unseated j (omega (arith, length-set (set s.views i l) o b, length-set s.views i l, le));
+    }
+
+-- nothing is done: the log stays
+pub logged_joins_same : (z : Settings) (i : ℕ) (v : View) (log : List Deed) (o : ℕ) (w : View) (other : List Deed) (both : View) → IsStanding v → JoinsOn z i v o w both Spent []
+    → Joins (LoggedRuled z) i (record { view = v; log = log }) o (record { view = w; log = other }) (record { view = both; log = log }) (record { view = Spent; log = [] })
+logged_joins_same z i v log o w other both stands joins =
+    subst (λ (l : List Deed). Joins (LoggedRuled z) i (record { view = v; log = log }) o (record { view = w; log = other }) (record { view = both; log = l }) (record { view = Spent; log = [] })) (append-nil log)
+    (logged_joins z i v log o w other both [] stands tt joins)

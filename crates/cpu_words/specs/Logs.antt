@@ -1,0 +1,182 @@
+-- What each seat did: beside its view stands its log, and the rule says that this is the list's part by that seat.
+use Rattle.std.specs.Prelude.{◌≡◌, ℕ, ◌<◌, ◌≤◌, ◌==◌, if◌then◌else◌, List, [], ◌∷◌, ◌++◌, map, length, Option, Some, None}
+use mathlib.Core.Option.{some}
+use lib.ListN.{get_elem?}
+use Rattle.atomic_table.specs.Table.{State as Table, Step, Me}
+use Rattle.registry_values.specs.declared.settings.Settings.{Settings}
+use Rattle.registry_values.specs.Slots.{slot_at}
+use Rattle.protocol.specs.declared.event.Event.{Event}
+use Rattle.protocol.specs.declared.event.Event.TheVariants.{Seat, Enter, Exit, Seek, LoadLink, LoadRecord, StoreSlot, StoreNext, Publish, Unpublish, Tell, Hear, Snapshot, Look, PassiveAdd, PassiveSub, PassiveLook, CountAdd, SplitRef, JoinRef, CountDown, SplitBack, Collect, TotalAdd, JoinKeeper, TotalSub, Keep, KeptSub, Vacate}
+use Rattle.protocol.specs.declared.event.RecordOf.TheVariants.{Search as OfSearch, Passive, Local}
+use Rattle.protocol.specs.declared.event.Reply.TheVariants.{Done, Ref}
+use Rattle.cpu_words.specs.declared.view.InHand.{InHand}
+use Rattle.cpu_words.specs.declared.view.InHand.TheVariants.{Empty as NoEntry, Taking as TakingEntry, Giving as GivingEntry, Back as BackEntry}
+use Rattle.cpu_words.specs.declared.view.CpuView.{CpuView}
+use Rattle.cpu_words.specs.declared.view.KeeperView.{KeeperView}
+use Rattle.cpu_words.specs.declared.view.ReferenceView.{ReferenceView}
+use Rattle.cpu_words.specs.declared.view.Deed.{Deed}
+use Rattle.cpu_words.specs.declared.view.Logged.{Logged}
+use Rattle.cpu_words.specs.declared.view.View.{View}
+use Rattle.cpu_words.specs.declared.view.View.TheVariants.{Keeper, Cpu, Reference, Note, Spent}
+use Rattle.cpu_words.specs.Views.{first_view, cpu_of, keeper_of, reference_of}
+use Rattle.cpu_words.specs.Rule.{did, deeds, Ruled}
+use Rattle.cpu_words.specs.Vacating.{vacate_first}
+
+-- the table without the logs
+abbrev pub plain : Table ℕ Logged → Table ℕ View
+plain s = record { words = s.words; homes = s.homes; views = map (λ (l : Logged). l.view) s.views }
+
+-- of what the seats did in order, each by its place among the seats: the part by the seat i
+abbrev pub part : ℕ → List (ℕ × Deed) → List Deed
+part i [] = []
+part i (a ∷ rest) = if a.0 == i then a.1 ∷ part i rest else part i rest
+
+-- a seat that wasn't joined into another
+abbrev pub IsStanding : View → Type 0
+IsStanding (Keeper k) = Unit {0}
+IsStanding (Cpu x) = Unit {0}
+IsStanding (Reference v) = Unit {0}
+IsStanding (Note h) = Unit {0}
+IsStanding Spent = ⊥
+
+-- Whose an event is: the keeper's, a CPU's, or neither's, as a local reference's load is
+pub data Maker : Type 0 where
+  the_keeper : Maker
+  the_cpu : ℕ → Maker
+  another : Maker
+
+abbrev pub noted_by : Option ℕ → Maker
+noted_by None = the_keeper
+noted_by (Some c) = the_cpu c
+
+abbrev pub maker : Event → Maker
+maker (Seat c) = the_keeper
+maker (Enter c) = the_cpu c
+maker (Exit c) = the_cpu c
+maker (Seek c kind name) = the_cpu c
+maker (LoadLink c) = the_cpu c
+maker (LoadRecord (OfSearch c)) = the_cpu c
+maker (LoadRecord (Passive c n k)) = the_cpu c
+maker (LoadRecord (Local id k)) = another
+maker (StoreSlot t k v) = the_keeper
+maker (StoreNext t v) = the_keeper
+maker (Publish t) = the_keeper
+maker (Unpublish t) = the_keeper
+maker (Tell who) = noted_by who
+maker (Hear who) = noted_by who
+maker (Snapshot t c) = the_keeper
+maker (Look t c) = the_keeper
+maker (PassiveAdd c n) = the_cpu c
+maker (PassiveSub c n) = the_cpu c
+maker (PassiveLook t c) = the_keeper
+maker (CountAdd c) = the_cpu c
+maker (SplitRef c) = the_cpu c
+maker (JoinRef c id) = the_cpu c
+maker (CountDown c) = the_cpu c
+maker (SplitBack c) = the_cpu c
+maker (Collect t c) = the_keeper
+maker (TotalAdd t) = the_keeper
+maker (JoinKeeper id) = the_keeper
+maker (TotalSub t) = the_keeper
+maker (Keep t id) = the_keeper
+maker (KeptSub t) = the_keeper
+maker (Vacate t) = the_keeper
+
+abbrev pub who : View → Maker
+who (Keeper k) = the_keeper
+who (Cpu x) = the_cpu x.id
+who (Reference v) = another
+who (Note h) = another
+who Spent = another
+
+-- all are events of one maker
+abbrev pub AreBy : Maker → List Deed → Type 0
+AreBy m [] = Unit {0}
+AreBy m (d ∷ ds) = (maker d.event ≡ m) × AreBy m ds
+
+-- the seat i is the maker's: the keeper has the first, and each of the n CPUs its own
+abbrev pub IsSeatOf : (ℕ → ℕ) → ℕ → ℕ → Maker → Type 0
+IsSeatOf seat n i the_keeper = i ≡ 0
+IsSeatOf seat n i (the_cpu c) = (i ≡ seat c) × (c < n)
+IsSeatOf seat n i another = Unit {0}
+
+-- each event was made by the seat whose it is
+abbrev pub AreByOwn : (ℕ → ℕ) → ℕ → List (ℕ × Deed) → Type 0
+AreByOwn seat n [] = Unit {0}
+AreByOwn seat n (a ∷ rest) = IsSeatOf seat n a.0 (maker a.1.event) × AreByOwn seat n rest
+
+-- the rule: the list's events are the seats' deeds, each by its own seat, and each log is its seat's part
+pub record LoggedRuled (z : Settings) (s : Table ℕ Logged) : Type 0 where
+  pub run : Ruled z (plain s)
+  pub acts : List (ℕ × Deed)
+  pub are : map (λ (a : ℕ × Deed). a.1) acts ≡ deeds z run.reached.events
+  pub owners : AreByOwn run.seat run.g.seated acts
+  pub logs : (i : ℕ) (l : Logged) → get_elem? s.views i ≡ some l → IsStanding l.view → l.log ≡ part i acts
+  -- a seat that isn't there yet did nothing
+  pub unseated : (i : ℕ) → length s.views ≤ i → part i acts ≡ []
+
+-- the keeper's seat, alone
+abbrev pub first_logged : Settings → Logged
+first_logged z = record { view = first_view z; log = [] }
+
+-- What a step is told: the seat stays of its kind, takes no slots, its log goes on with just these events, and the tale holds
+
+abbrev pub told_by_cpu : (CpuView → ℕ → List Deed) → (CpuView → ℕ → CpuView → Type 0) → Step ℕ → Me ℕ Logged → ℕ → Me ℕ Logged → Type 0
+told_by_cpu does tells st m n l = (l ≡ (record { view = Cpu (cpu_of l.0.view); log = l.0.log }, m.1)) × (l.0.log ≡ m.0.log ++ does (cpu_of m.0.view) n) × tells (cpu_of m.0.view) n (cpu_of l.0.view)
+
+abbrev pub told_by_keeper : (KeeperView → ℕ → List Deed) → (KeeperView → ℕ → KeeperView → Type 0) → Step ℕ → Me ℕ Logged → ℕ → Me ℕ Logged → Type 0
+told_by_keeper does tells st m n l = (l ≡ (record { view = Keeper (keeper_of l.0.view); log = l.0.log }, m.1)) × (l.0.log ≡ m.0.log ++ does (keeper_of m.0.view) n) × tells (keeper_of m.0.view) n (keeper_of l.0.view)
+
+abbrev pub told_by_reference : (ReferenceView → ℕ → List Deed) → (ReferenceView → ℕ → Type 0) → Step ℕ → Me ℕ Logged → ℕ → Me ℕ Logged → Type 0
+told_by_reference does tells st m n l = (l ≡ (record { view = m.0.view; log = l.0.log }, m.1)) × (l.0.log ≡ m.0.log ++ does (reference_of m.0.view) n) × tells (reference_of m.0.view) n
+
+-- How seats are cut and joined: the log goes on, and a new seat's is empty
+
+abbrev pub going_on : (View → View) → (View → List Deed) → Logged → Logged
+going_on left does l = record { view = left l.view; log = l.log ++ does l.view }
+
+abbrev pub fresh : (View → View) → Logged → Logged
+fresh right l = record { view = right l.view; log = [] }
+
+abbrev pub joined_seat : (View → View → View) → (View → List Deed) → Logged → Logged → Logged
+joined_seat both does l m = record { view = both l.view m.view; log = l.log ++ does l.view }
+
+-- a note is laid beside the view: this is no event
+abbrev pub laid : (View → View → View) → Logged → Logged → Logged
+laid both l m = record { view = both l.view m.view; log = l.log }
+
+abbrev pub spent_seat : Logged
+spent_seat = record { view = Spent; log = [] }
+
+-- What a cut or a join does
+
+abbrev pub itself : View → View
+itself v = v
+
+abbrev pub seats_next : View → List Deed
+seats_next v = did (Seat (keeper_of v).seated) Done
+
+abbrev pub tells_pass : View → List Deed
+tells_pass v = did (Tell (Some (cpu_of v).id)) Done
+
+abbrev pub tells_history : View → List Deed
+tells_history v = did (Tell None) Done
+
+abbrev pub leaves_hand : ℕ → InHand → List Deed
+leaves_hand c NoEntry = []
+leaves_hand c (TakingEntry e) = did (SplitRef c) (Ref 0)
+leaves_hand c (GivingEntry e) = []
+leaves_hand c (BackEntry e) = did (SplitBack c) (Ref 0)
+
+abbrev pub cuts_off : View → List Deed
+cuts_off v = leaves_hand (cpu_of v).id (cpu_of v).hand
+
+abbrev pub takes_in : View → List Deed
+takes_in v = did (JoinRef (cpu_of v).id 0) Done
+
+abbrev pub gives_up : View → List Deed
+gives_up v = did (JoinKeeper 0) Done
+
+-- Vacate first where the slot is retired
+abbrev pub keeps_for : ℕ → View → List Deed
+keeps_for t v = vacate_first (slot_at (keeper_of v).slots t) t (did (Keep t 0) Done)
