@@ -98,18 +98,18 @@ fn told<D: Domain, R: Wait + Abort>(
     requires { AreWordsOf blank D.table D.settings }
 {
     let (registry, mut cpus) = opened::<D>(alloc, blank)?;
-    assert_eq!(rt; cpus.len(), 3);
     for c in row.inside {
-        assert!(rt; *c < 3);
+        assert!(rt; *c < cpus.len());
         enter(registry.words(), &mut cpus[*c])?;
     }
-    assert!(rt; 1 <= row.turns);
+    assert!(rt; 1 <= row.turns && 0 < cpus.len());
     let answer = registry.perform(rt, &mut cpus[0], row.turns);
     assert_eq!(rt; answer, row.answer, "with {} inside", row.name);
     for c in row.inside {
-        assert!(rt; *c < 3);
+        assert!(rt; *c < cpus.len());
         leave(registry.words(), &mut cpus[*c]);
     }
+    assert!(rt; 0 < cpus.len());
     assert_eq!(rt;
         registry.perform(rt, &mut cpus[0], row.turns),
         Ok(()),
