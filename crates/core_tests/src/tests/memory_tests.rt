@@ -36,10 +36,11 @@ const STOCK: [Line; 4] = [
 ];
 
 /// CPU 0 has found the driver wm0, as entry 1 in slot 0.
-const FOUND: [Line; 2] = [
-    (0, Ask::Enter, Ok(Told::Depth(1))),
-    (0, Ask::Find(WM0), Ok(Told::Found(1, 0, WM0))),
-];
+const FOUND: [Line; 2] = [ENTERS, FINDS];
+
+const ENTERS: Line = (0, Ask::Enter, Ok(Told::Depth(1)));
+
+const FINDS: Line = (0, Ask::Find(WM0), Ok(Told::Found(1, 0, WM0)));
 
 /// It holds a local reference to it, and is outside.
 const COUNTED: [Line; 4] = [
@@ -143,70 +144,77 @@ fn new(rt: HostRuntime) -> Result<(), Fail> {
     Ok(())
 }
 
-#[test]
-fn step_publish(rt: HostRuntime) -> Result<(), Fail> {
-    let words = (
-        0,
-        Ask::Make(Made::Words(3, DISK)),
-        Ok(Told::Entry(5, 3, DISK)),
-    );
-    let publish = (0, Ask::Step(Event::Publish(3)), Ok(Told::Done));
-    survives(&rt, "step_publish", &[words], publish)
-}
+/// Calls that grow something: a name, the lines after those of the stock, and the line that may be refused memory.
+const GROWING: &[(&str, &[Line], Line)] = &[
+    (
+        "step_publish",
+        &[(
+            0,
+            Ask::Make(Made::Words(3, DISK)),
+            Ok(Told::Entry(5, 3, DISK)),
+        )],
+        (0, Ask::Step(Event::Publish(3)), Ok(Told::Done)),
+    ),
+    (
+        "step_unpublish",
+        &[],
+        (0, Ask::Step(Event::Unpublish(0)), Ok(Told::Done)),
+    ),
+    (
+        "step_split_ref",
+        &[
+            ENTERS,
+            FINDS,
+            (
+                0,
+                Ask::Make(Made::All(&[Event::CountAdd(0)])),
+                Ok(Told::Done),
+            ),
+        ],
+        (0, Ask::Step(Event::SplitRef(0)), Ok(Told::Ref(0))),
+    ),
+    (
+        "attach",
+        &[],
+        (0, Ask::Attach(DISK), Ok(Told::Entry(5, 3, DISK))),
+    ),
+    (
+        "attach_iface",
+        &COUNTED,
+        (0, Ask::Plug(WM0_IFACE, 0), Ok(Told::Entry(5, 3, WM0_IFACE))),
+    ),
+    (
+        "detach",
+        &[],
+        (0, Ask::Detach(WM0), Ok(Told::Entry(1, 0, WM0))),
+    ),
+    (
+        "acquire_local",
+        &FOUND,
+        (0, Ask::Count, Ok(Told::Local(0, 1))),
+    ),
+    (
+        "audit",
+        &COUNTED,
+        (0, Ask::Audit, Ok(Told::Audit(3, Some(HELD)))),
+    ),
+];
+
+/// The first of three balances.
+const HELD: Tally = Tally {
+    number: 1,
+    slot: 0,
+    held: 1,
+    locals: [1, 0],
+    total: 0,
+};
 
 #[test]
-fn step_unpublish(rt: HostRuntime) -> Result<(), Fail> {
-    let unpublish = (0, Ask::Step(Event::Unpublish(0)), Ok(Told::Done));
-    survives(&rt, "step_unpublish", &[], unpublish)
-}
-
-#[test]
-fn step_split_ref(rt: HostRuntime) -> Result<(), Fail> {
-    let [enter, find] = FOUND;
-    let count = (
-        0,
-        Ask::Make(Made::All(&[Event::CountAdd(0)])),
-        Ok(Told::Done),
-    );
-    let split = (0, Ask::Step(Event::SplitRef(0)), Ok(Told::Ref(0)));
-    survives(&rt, "step_split_ref", &[enter, find, count], split)
-}
-
-#[test]
-fn attach(rt: HostRuntime) -> Result<(), Fail> {
-    let line = (0, Ask::Attach(DISK), Ok(Told::Entry(5, 3, DISK)));
-    survives(&rt, "attach", &[], line)
-}
-
-#[test]
-fn attach_iface(rt: HostRuntime) -> Result<(), Fail> {
-    let line = (0, Ask::Plug(WM0_IFACE, 0), Ok(Told::Entry(5, 3, WM0_IFACE)));
-    survives(&rt, "attach_iface", &COUNTED, line)
-}
-
-#[test]
-fn detach(rt: HostRuntime) -> Result<(), Fail> {
-    let line = (0, Ask::Detach(WM0), Ok(Told::Entry(1, 0, WM0)));
-    survives(&rt, "detach", &[], line)
-}
-
-#[test]
-fn acquire_local(rt: HostRuntime) -> Result<(), Fail> {
-    let line = (0, Ask::Count, Ok(Told::Local(0, 1)));
-    survives(&rt, "acquire_local", &FOUND, line)
-}
-
-#[test]
-fn audit(rt: HostRuntime) -> Result<(), Fail> {
-    let first = Tally {
-        number: 1,
-        slot: 0,
-        held: 1,
-        locals: [1, 0],
-        total: 0,
-    };
-    let line = (0, Ask::Audit, Ok(Told::Audit(3, Some(first))));
-    survives(&rt, "audit", &COUNTED, line)
+fn growths(rt: HostRuntime) -> Result<(), Fail> {
+    for (name, more, line) in GROWING {
+        survives(&rt, name, more, *line)?;
+    }
+    Ok(())
 }
 
 /// The driver wm is attached in slot 0, found, counted and detached; the first vacate isn't allowed.

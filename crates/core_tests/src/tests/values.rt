@@ -127,39 +127,67 @@ fn settings_have_ranges(rt: HostRuntime) {
     }
 }
 
-const REFUSALS: [Refusal; 19] = [
-    Refusal::NoMemory,
-    Refusal::BadSettings,
-    Refusal::NameTaken,
-    Refusal::NoSlot,
-    Refusal::HistoryFull,
-    Refusal::NotFound,
-    Refusal::Inside,
-    Refusal::SectionsSpent,
-    Refusal::NothingFound,
-    Refusal::PassiveFull,
-    Refusal::WrongCpu,
-    Refusal::NotHeld,
-    Refusal::LocalFull,
-    Refusal::NotRetired,
-    Refusal::MissingCpu,
-    Refusal::StillHeld(Stage::Grace(3)),
-    Refusal::Waiting(3),
-    Refusal::TooDeep,
-    Refusal::NeedsDriver,
+/// The refusals in the order of their numbers, and what each says.
+const REFUSALS: &[(Refusal, &str)] = &[
+    (Refusal::NoMemory, "out of memory"),
+    (Refusal::BadSettings, "a setting is out of its range"),
+    (Refusal::NameTaken, "a live entry has this kind and name"),
+    (Refusal::NoSlot, "no slot is vacant"),
+    (
+        Refusal::HistoryFull,
+        "the history has no room for this attach and the detaches to come",
+    ),
+    (Refusal::NotFound, "no live entry has this kind and name"),
+    (Refusal::Inside, "this CPU is inside a section"),
+    (
+        Refusal::SectionsSpent,
+        "this CPU has begun as many sections as it may",
+    ),
+    (Refusal::NothingFound, "this CPU has no last found entry"),
+    (
+        Refusal::PassiveFull,
+        "this CPU has as many passive references to the entry as it may",
+    ),
+    (Refusal::WrongCpu, "the reference is another CPU's"),
+    (
+        Refusal::NotHeld,
+        "this CPU holds no passive reference to that entry",
+    ),
+    (
+        Refusal::LocalFull,
+        "this CPU's net count of local references to the entry is at its limit",
+    ),
+    (Refusal::NotRetired, "no retired entry has this number"),
+    (
+        Refusal::MissingCpu,
+        "the CPUs given aren't all CPUs in their order",
+    ),
+    (
+        Refusal::StillHeld(Stage::Grace(3)),
+        "the entry is still held",
+    ),
+    (Refusal::Waiting(3), "CPU 3 is still inside its section"),
+    (
+        Refusal::TooDeep,
+        "this CPU's section is nested as deep as it may be",
+    ),
+    (
+        Refusal::NeedsDriver,
+        "an interface needs a reference to a driver",
+    ),
 ];
 
 #[test]
 fn refusals_have_numbers_and_texts(rt: HostRuntime) -> Result<(), Fail> {
-    for (i, refusal) in REFUSALS.iter().enumerate() {
-        assert_eq!(rt; usize::from(refusal.number()), i + 1);
-        let text = format!(in rt.alloc(); "{refusal}")?;
-        assert!(rt; !text.is_empty(), "refusal {i}");
-        for other in &REFUSALS[..i] {
-            let before = format!(in rt.alloc(); "{other}")?;
-            assert!(rt; text != before, "refusal {i}");
-        }
+    for (i, (refusal, text)) in REFUSALS.iter().enumerate() {
+        let said = format!(in rt.alloc(); "{refusal}")?;
+        assert!(rt; said.as_str() == *text, "the text of refusal {i}");
+        assert!(rt;
+            usize::from(refusal.number()) == i + 1,
+            "the number of refusal {i}"
+        );
     }
+    assert!(rt; REFUSALS.len() == 19, "all refusals");
     Ok(())
 }
 
