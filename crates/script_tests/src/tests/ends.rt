@@ -82,30 +82,34 @@ fn one_byte_a_call(rt: HostRuntime) {
     }
 }
 
+/// A short script and its report, for each kind of error at each call.
+const SHORT: Written = (b"domain 1 1\nenter 0\n", b"domain 1 1\ninside\n");
+
 /// Whether the run ends with the failure of the reader's call, and nothing is read or written afterwards.
 fn ends_reading<R: Wait>(
     rt: &R,
     alloc: Global,
     engine: Engine,
+    rest: &[u8],
     failing: usize,
     kind: ErrorKind,
 ) -> bool {
     let mut reader = Drip {
-        rest: SCRIPT,
+        rest,
         calls: 0,
         failing,
         kind,
     };
     let mut writer = Sips::until(alloc, usize::MAX, None);
     let result = run(rt, alloc, engine, &mut reader, &mut writer);
-    result == Err(RunFault::Read) && reader.calls == failing + 1 && writer.calls == 0
+    result == Err(RunFault::Read) && reader.calls == failing.saturating_add(1) && writer.calls == 0
 }
 
-fn reader_fails_by<R: Wait + Abort>(rt: &R, alloc: Global, kind: ErrorKind) {
-    for failing in 0..=SCRIPT.len() {
+fn reader_fails_by<R: Wait + Abort>(rt: &R, alloc: Global, script: &[u8], kind: ErrorKind) {
+    for failing in 0..=script.len() {
         for engine in ENGINES {
             assert!(rt;
-                ends_reading(rt, alloc, engine, failing, kind),
+                ends_reading(rt, alloc, engine, script, failing, kind),
                 "at call {failing}, {kind:?}"
             );
         }
@@ -114,8 +118,9 @@ fn reader_fails_by<R: Wait + Abort>(rt: &R, alloc: Global, kind: ErrorKind) {
 
 #[test]
 fn reader_that_fails(rt: HostRuntime) {
+    reader_fails_by(&rt, rt.alloc(), SCRIPT, ErrorKind::Interrupted);
     for kind in KINDS {
-        reader_fails_by(&rt, rt.alloc(), *kind);
+        reader_fails_by(&rt, rt.alloc(), SHORT.0, *kind);
     }
 }
 
@@ -138,39 +143,51 @@ fn reader_that_never_ends(rt: HostRuntime) {
     }
 }
 
+/// A script and its report.
+type Written = (&'static [u8], &'static [u8]);
+
 /// Whether the run ends as the writer's call does, and what was written by then is a front of the report.
-fn ends_writing<R: Wait>(rt: &R, alloc: Global, engine: Engine, ending: usize, end: End) -> bool {
-    let mut reader = SCRIPT;
+fn ends_writing<R: Wait>(
+    rt: &R,
+    alloc: Global,
+    engine: Engine,
+    row: Written,
+    ending: usize,
+    end: End,
+) -> bool {
+    let (mut reader, report) = row;
     let mut writer = Sips::until(alloc, ending, end);
     let result = run(rt, alloc, engine, &mut reader, &mut writer);
     result == Err(RunFault::Write)
-        && writer.calls == ending + 1
-        && REPORT.get(..ending) == Some(writer.taken.as_slice())
+        && writer.calls == ending.saturating_add(1)
+        && report.get(..ending) == Some(writer.taken.as_slice())
 }
 
-fn writer_ends_by<R: Wait + Abort>(rt: &R, alloc: Global, calls: usize, end: End) {
+/// The last call is the flush. A writer isn't flushed with bytes, so there it can only fail.
+fn writer_ends_by<R: Wait + Abort>(rt: &R, alloc: Global, row: Written, end: End) {
+    let calls = row.1.len().saturating_add(usize::from(end.is_some()));
     for ending in 0..calls {
         for engine in ENGINES {
             assert!(rt;
-                ends_writing(rt, alloc, engine, ending, end),
+                ends_writing(rt, alloc, engine, row, ending, end),
                 "at call {ending}, {end:?}"
             );
         }
     }
 }
 
-/// The last call is the flush.
 #[test]
 fn writer_that_fails(rt: HostRuntime) {
+    let end = Some(ErrorKind::Interrupted);
+    writer_ends_by(&rt, rt.alloc(), (SCRIPT, REPORT), end);
     for kind in KINDS {
-        writer_ends_by(&rt, rt.alloc(), REPORT.len() + 1, Some(*kind));
+        writer_ends_by(&rt, rt.alloc(), SHORT, Some(*kind));
     }
 }
 
-/// A writer isn't flushed with bytes, so at its last call it can only fail.
 #[test]
 fn writer_that_takes_nothing(rt: HostRuntime) {
-    writer_ends_by(&rt, rt.alloc(), REPORT.len(), None);
+    writer_ends_by(&rt, rt.alloc(), (SCRIPT, REPORT), None);
 }
 
 #[test]

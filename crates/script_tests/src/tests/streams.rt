@@ -73,36 +73,31 @@ impl Sips {
         }
     }
 
-    /// Counts a call; what is answered to it where it is the one at which the writer ends.
-    fn called(&mut self) -> Option<io::Result<usize>> {
+    /// Counts a call; whether it is the one at which the writer ends.
+    fn is_last(&mut self) -> bool {
         let call = self.calls;
         self.calls = call.saturating_add(1);
-        if call != self.ending {
-            return None;
-        }
-        match self.end {
-            Some(kind) => Some(Err(io::Error::from(kind))),
-            None => Some(Ok(0)),
-        }
+        call == self.ending
     }
 }
 
 impl Write for Sips {
     fn write(&mut self, buf: &[u8]) -> io::Result<usize> {
-        let ended = self.called();
-        match (buf.first(), ended) {
-            (Some(_), Some(answer)) => answer,
-            (Some(byte), None) => {
+        let ends = self.is_last();
+        match (buf.first(), self.end) {
+            (None, _) => Ok(0),
+            (Some(_), None) if ends => Ok(0),
+            (Some(_), Some(kind)) if ends => Err(io::Error::from(kind)),
+            (Some(byte), _) => {
                 self.taken.push(*byte)?;
                 Ok(1)
             }
-            (None, _) => Ok(0),
         }
     }
 
     fn flush(&mut self) -> io::Result<()> {
-        match self.called() {
-            Some(Err(error)) => Err(error),
+        match (self.is_last(), self.end) {
+            (true, Some(kind)) => Err(io::Error::from(kind)),
             _ => Ok(()),
         }
     }

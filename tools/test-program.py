@@ -1,0 +1,129 @@
+#!/usr/bin/env python3
+"""Runs the built program and compares its status, standard output and standard error with what they must be.
+
+    tools/test-program.py [PROGRAM]      PROGRAM is crates/registry_run/out/registry_run, which tools/prove-program.sh makes
+
+Scripts with and without faults, storms, wrong arguments, and a standard output that is full, closed or gone, or a standard input that can't
+be read. The last line counts the runs.
+"""
+import os
+import pathlib
+import subprocess
+import sys
+
+ROOT = pathlib.Path(__file__).resolve().parent.parent
+USAGE = b"usage: registry_run core | live | storm C T\n"
+SCRIPT = b"domain 2 2\nattach 0 driver wm 7\nenter 0\nfind 0 driver wm\n"
+REPORT = b"domain 2 2\nattached 1 slot 0\ninside\nfound 1 slot 0 value 7\n"
+STORM = "storm {0} {1}\nlookups {2}\nreferences {3}\nwrong 0\nheld 0\n"
+
+
+def storm(cpus, turns):
+    """What a storm prints: two lookups and one reference for each turn of each CPU."""
+    return STORM.format(cpus, turns, 2 * cpus * turns, cpus * turns).encode()
+
+
+def script_fault(line, cause):
+    return f"script fault: line {line}: {cause}\n".encode()
+
+
+# The arguments, the input, the status, standard output and standard error.
+RUNS = [
+    (["core"], SCRIPT, 0, REPORT, b""),
+    (["live"], SCRIPT, 0, REPORT, b""),
+    (["core"], b"domain 2 2\nenter 2\n", 2, b"", script_fault(2, "BadCpu")),
+    (["live"], b"domain 2 2\nenter 2\n", 2, b"", script_fault(2, "BadCpu")),
+    (["core"], b"domain 2 2\nenter 0\natt", 2, b"", script_fault(3, "UnknownCommand")),
+    (["core"], b"", 2, b"", script_fault(1, "NoDomain")),
+    (["live"], b"\n" * 65537, 2, b"", script_fault(1, "TooLong")),
+    (["live"], b"domain 0 2\n", 2, b"", script_fault(1, "BadSettings")),
+    (["storm", "1", "1"], b"", 0, storm(1, 1), b""),
+    (["storm", "2", "3"], b"", 0, storm(2, 3), b""),
+    (["storm", "8", "1000"], b"", 0, storm(8, 1000), b""),
+    (["storm", "03", "0007"], b"", 0, storm(3, 7), b""),
+    *((words, SCRIPT, 2, b"", USAGE) for words in (
+        [], ["Core"], ["core", "live"], ["live", "1", "1"], ["storm"], ["storm", "2"], ["storm", "9", "1"], ["storm", "0", "1"], ["storm", "1", "0"],
+        ["storm", "1", "100001"], ["storm", "+1", "1"], ["storm", "1", ""], ["storm", "2", "3", "4"], [""], ["core", ""])),
+]
+
+
+def closed_pipe():
+    """The end of a pipe that nobody reads any more."""
+    reader, writer = os.pipe()
+    os.close(reader)
+    return writer
+
+
+def opened(path, flags):
+    return lambda: os.open(path, flags)
+
+
+# A standard output that takes nothing: the arguments, what it is, the status and standard error.
+ENDS = [(words, output, 3, b"write fault\n") for words in (["core"], ["live"], ["storm", "1", "1"]) for output in (
+    ("full", opened("/dev/full", os.O_WRONLY)), ("a closed pipe", closed_pipe), ("open for reading alone", opened("/dev/null", os.O_RDONLY)))]
+
+
+def said(program, words, **streams):
+    ran = subprocess.run([program, *words], stderr=subprocess.PIPE, timeout=120, **streams)
+    return ran.returncode, ran.stdout, ran.stderr
+
+
+def judged(name, wanted, found):
+    """Whether what was found is what was wanted; says so where not."""
+    if found != wanted:
+        print(f"{name}:\n  wanted {wanted}\n  found  {found}")
+    return found == wanted
+
+
+def usual(program):
+    for words, script, status, output, error in RUNS:
+        found = said(program, words, input=script, stdout=subprocess.PIPE)
+        yield judged(" ".join(words) or "no arguments", (status, output, error), found)
+
+
+def with_ends(program):
+    for words, (name, output), status, error in ENDS:
+        file = output()
+        found = said(program, words, input=SCRIPT, stdout=file)
+        os.close(file)
+        yield judged(f"{' '.join(words)}, standard output {name}", (status, None, error), found)
+
+
+def with_unread_input(program):
+    for engine in ("core", "live"):
+        folder = os.open("/", os.O_RDONLY)
+        found = said(program, [engine], stdin=folder, stdout=subprocess.PIPE)
+        os.close(folder)
+        yield judged(f"{engine}, standard input a folder", (3, b"", b"read fault\n"), found)
+    full = os.open("/dev/full", os.O_WRONLY)
+    found = subprocess.run([program, "core"], input=b"att", stdout=subprocess.PIPE, stderr=full, timeout=120)
+    os.close(full)
+    yield judged("core, standard error full", (2, b""), (found.returncode, found.stdout))
+
+
+def part_of_report(program):
+    """A reader of the report that leaves after a few bytes: the program ends by itself, and its status is 3."""
+    script = b"domain 8 32\n" + b"audit\n" * 9000
+    ran = subprocess.Popen([program, "core"], stdin=subprocess.PIPE, stdout=subprocess.PIPE, stderr=subprocess.PIPE)
+    reader = os.fork()
+    if reader == 0:
+        ran.stdin.write(script)
+        os._exit(0)
+    ran.stdin.close()
+    begin = ran.stdout.read(11)
+    ran.stdout.close()
+    error = ran.stderr.read()
+    os.waitpid(reader, 0)
+    yield judged("core, a reader that leaves", (3, b"domain 8 32", b"write fault\n"), (ran.wait(), begin, error))
+
+
+def main():
+    program = sys.argv[1] if len(sys.argv) > 1 else str(ROOT / "crates/registry_run/out/registry_run")
+    if not os.access(program, os.X_OK):
+        sys.exit(f"{program} is missing: tools/prove-program.sh makes it")
+    passed = [it for part in (usual, with_ends, with_unread_input, part_of_report) for it in part(program)]
+    print(f"{sum(passed)} passed, {len(passed) - sum(passed)} failed")
+    sys.exit(not all(passed))
+
+
+main()
