@@ -6,6 +6,8 @@ error and status 0; or `fault`, what it must say on standard error, with nothing
 NAME.report beside it. Without file names the examples are those of docs/ and examples/. The program is
 ./registry_run, which is built first where that is needed, or the one that --program names. With --try nothing is proved: `rt try` compiles
 the program anew for each engine. The last line counts the runs.
+
+Code in the documents, a fenced block `rust`, must be part of crates/registry_examples/src, up to blank lines; what isn't is said, and fails.
 """
 import argparse
 import pathlib
@@ -17,6 +19,8 @@ import tempfile
 ROOT = pathlib.Path(__file__).resolve().parent.parent
 ENGINES = ("core", "live")
 WANTED = {"report": lambda text: (0, text, ""), "fault": lambda text: (2, "", text)}
+SOURCES = sorted((ROOT / "crates/registry_examples/src").glob("*.rt"))
+PAGES = [ROOT / "README.md", *sorted((ROOT / "docs").glob("*.md"))]
 FILES = [*sorted((ROOT / "docs").glob("*.md")), *sorted((ROOT / "examples").glob("*.txt"))]
 
 
@@ -50,6 +54,17 @@ def examples(path):
         waiting = (line, text) if word == "script" else None
     if waiting:
         sys.exit(f"{path.name}:{waiting[0]}: a script without a report or a fault after it")
+
+
+def strayed():
+    """The place and the text of each part of code in the documents that stands in no source of the examples."""
+    sources = [source.read_text() for source in SOURCES]
+    for page in PAGES:
+        for line, word, text in blocks(page.read_text()):
+            parts = text.split("\n\n") if word == "rust" else []
+            for part in parts:
+                if not any(part.strip("\n") in source for source in sources):
+                    yield f"{page.name}:{line}", part
 
 
 def said(program, engine, found):
@@ -86,6 +101,9 @@ def main():
     program = options.program.resolve()
     found = [example for path in options.files for example in examples(path)]
     passed = failed = 0
+    for place, part in strayed():
+        failed += 1
+        print(f"{place}: no example has this code\n{part}")
     for engine in ENGINES:
         answers = said_when_tried(engine, found) if options.tried else said(program, engine, found)
         for (place, _, word, text), answer in zip(found, answers):

@@ -1,0 +1,278 @@
+//! A packet loop: four CPUs look up the interface of each packet, thirty-two packets to a section, while a fifth pulls the interface out
+//! and plugs it in again.
+
+ghost use Rattle.std.specs.Prelude.{◌≡◌, ◌≢◌, IsTrue, None};
+ghost use Rattle.std.specs.Thread.{IsSync};
+ghost use Rattle.registry_values.specs.Names.{is_lawful};
+ghost use Rattle.cpu_words.specs.Domains.{AreWordsOf};
+
+use crate::failure::Failure;
+use crate::section::enter;
+use cpu_words::Domain;
+use local_count::acquire_local;
+use name_registry::{Blank, Registry};
+use passive_list::{Cpu, exit, find};
+use passive_ref::{Psref, acquire, read, release};
+use registry_values::{Entry, Kind, Name, Record, Refusal, Settings};
+use std::alloc::Global;
+use std::marker::Brand;
+use std::sync::Wait;
+use std::sync::atomic::AtomicU64;
+use std::sync::atomic::Ordering::SeqCst;
+use std::thread::{Threads, join, map_vec, yield_now};
+
+/// How many CPUs carry packets: CPU 0 to 3. CPU 4 changes the registry.
+const CARRIERS: u8 = 4;
+/// How many batches each of them carries, and how many packets a batch has.
+const BATCHES: u64 = 256;
+
+const BATCH: u64 = 32;
+/// How often the interface is plugged in, with the values 1, 2, .. 8, and how many batches are carried before it is pulled out again.
+const PLUGS: u64 = 8;
+
+const BATCHES_A_PLUG: u64 = 96;
+/// After so many turns a wait is given up.
+const PATIENCE: u32 = 10_000_000;
+
+/// What the loop did.
+#[derive(Clone, Copy)]
+pub struct PacketSum {
+    /// The packets that were carried.
+    pub packets: u64,
+    /// The packets that were counted, each for one interface or for none.
+    pub counted: u64,
+    /// How often the interface was pulled out and its slot freed.
+    pub freed: u64,
+}
+
+/// What all CPUs share. A `Registry` is shared by reference; each thread has the `Cpu` that it runs on.
+#[derive(Drop)]
+struct Bus<'a, D: Domain> {
+    registry: &'a Registry<D>,
+    driver: Name,
+    iface: Name,
+    /// How many batches were carried, by which CPU 4 paces itself.
+    carried: AtomicU64,
+    ghost lawful: { IsTrue (is_lawful driver) × IsTrue (is_lawful iface) },
+}
+
+/// How many packets were carried for each value of the interface; place 0 counts those for which there was none.
+#[derive(Clone, Copy)]
+struct Tally([u64; 9]);
+
+/// Runs the loop on a registry of its own.
+pub fn run_packet_loop<R: Threads + Wait + Sync>(
+    rt: &R,
+    alloc: Global,
+) -> Result<PacketSum, Failure> {
+    let settings = Settings {
+        cpus: CARRIERS + 1,
+        slots: 2,
+        change_limit: 1_000,
+        section_limit: 1_000_000,
+        passive_limit: 1,
+        count_limit: PLUGS,
+    };
+    let blank = Blank::new(alloc, settings)?;
+    run_on::<Brand, R>(rt, alloc, blank)
+}
+
+/// The same, on this registry. D names it, so that its CPUs and references can't be taken for another's.
+fn run_on<D: Domain + Send + Sync, R: Threads + Wait + Sync>(
+    rt: &R,
+    alloc: Global,
+    blank: Blank,
+) -> Result<PacketSum, Failure>
+    requires table { AreWordsOf blank D.table D.settings }
+{
+    let Ok((registry, mut cpus)) = blank.open::<D>(alloc) else {
+        return Err(Failure::Memory);
+    };
+    let Some(mut cpu) = cpus.pop() else {
+        return Err(Failure::Wrong("a registry without CPUs"));
+    };
+    let bus = Bus::new(&registry)?;
+    bus.load_driver(rt, &mut cpu)?;
+    carry_and_plug(rt, &bus, &mut cpu, cpus)
+}
+
+/// All at once: this CPU plugs the interface in and out, and each of the others carries packets on a thread of its own.
+fn carry_and_plug<D: Domain + Send + Sync, R: Threads + Wait + Sync>(
+    rt: &R,
+    bus: &Bus<D>,
+    cpu: &mut Cpu<D>,
+    carriers: Vec<Cpu<D>>,
+) -> Result<PacketSum, Failure> {
+    let (freed, tallies) = join(
+        rt,
+        || bus.plug_all(rt, cpu),
+        || map_vec(rt, carriers, &|carrier: Cpu<D>| bus.carry_all(carrier)),
+    );
+    Ok(PacketSum {
+        packets: u64::from(CARRIERS) * BATCHES * BATCH,
+        counted: all_counted(tallies?)?,
+        freed: freed?,
+    })
+}
+
+/// The packets that all carriers have counted.
+fn all_counted(tallies: Vec<Result<Tally, Failure>>) -> Result<u64, Failure> {
+    let mut counted = 0u64;
+    for tally in tallies {
+        counted = counted.saturating_add(tally?.total());
+    }
+    Ok(counted)
+}
+
+impl<'a, D: Domain> Bus<'a, D> {
+    /// The driver is `wm`, and its interface `wm0`.
+    fn new(registry: &'a Registry<D>) -> Result<Bus<'a, D>, Failure> {
+        Ok(Bus {
+            registry,
+            driver: Name::parse(b"wm")?,
+            iface: Name::parse(b"wm0")?,
+            carried: AtomicU64::new(0),
+        })
+    }
+
+    /// All batches of a CPU.
+    fn carry_all(&self, mut cpu: Cpu<D>) -> Result<Tally, Failure> {
+        let mut tally = Tally([0; 9]);
+        for _ in 0..BATCHES {
+            self.carry_batch(&mut cpu, &mut tally)?;
+            self.carried.fetch_add(1, SeqCst);
+        }
+        Ok(tally)
+    }
+
+    /// One batch: one section with thirty-two lookups in it. The last packet has to wait, so it takes a passive reference along.
+    fn carry_batch(&self, cpu: &mut Cpu<D>, tally: &mut Tally) -> Result<(), Failure> {
+        let words = self.registry.words();
+        enter(words, cpu)?;
+        let last = self.look_up_all(cpu, tally);
+        // While the section is open the last found entry can't go, so a reference to it can be acquired.
+        let acquired = acquire(words, cpu);
+        exit(words, cpu);
+        match acquired {
+            Ok(psref) => self.send_late(cpu, psref, last),
+            Err(Refusal::NothingFound) => Ok(()),
+            Err(refusal) => Err(Failure::Refused(refusal)),
+        }
+    }
+
+    /// Looks up the interface of each packet of a batch, and counts it. It answers what the last one found.
+    fn look_up_all(&self, cpu: &mut Cpu<D>, tally: &mut Tally) -> Option<Entry>
+        requires inside { cpu.old.view.begin ≢ None }
+        ensures inside { cpu.new.view.begin ≢ None }
+    {
+        let mut last = None;
+        for _ in 0..BATCH {
+            last = find(self.registry.words(), cpu, Kind::Iface, &self.iface);
+            tally.count(last);
+        }
+        last
+    }
+
+    /// A packet that had to wait outside of any section: by now the interface may be pulled out, but its record is still there, since the
+    /// reference holds it. The reference goes back to the CPU that acquired it.
+    fn send_late(
+        &self,
+        cpu: &mut Cpu<D>,
+        psref: Psref,
+        found: Option<Entry>,
+    ) -> Result<(), Failure> {
+        yield_now();
+        let words = self.registry.words();
+        let rec = read(words, cpu, &psref);
+        if let Err((refusal, psref)) = release(words, cpu, psref) {
+            psref.forget();
+            return Err(Failure::Refused(refusal));
+        }
+        let rec = rec?;
+        match found {
+            Some(entry) if entry.rec == rec => Ok(()),
+            _ => Err(Failure::Wrong("a record changed under its reference")),
+        }
+    }
+
+    /// Attaches the driver.
+    fn load_driver<R: Wait>(&self, rt: &R, cpu: &mut Cpu<D>) -> Result<(), Failure> {
+        let rec = Record {
+            kind: Kind::Driver,
+            name: self.driver,
+            value: 0,
+        };
+        self.registry.attach(rt, cpu, rec)?;
+        Ok(())
+    }
+
+    /// Plugs the interface in and pulls it out, again and again. It answers how often its slot was freed.
+    fn plug_all<R: Wait>(&self, rt: &R, cpu: &mut Cpu<D>) -> Result<u64, Failure> {
+        for plug in 0..PLUGS {
+            self.plug_in(rt, cpu, plug + 1)?;
+            self.wait_for_batches((plug + 1) * BATCHES_A_PLUG);
+            self.pull_out(rt, cpu)?;
+        }
+        Ok(PLUGS)
+    }
+
+    /// Attaches the interface. Its slot keeps a reference to the driver, which can't go before it.
+    fn plug_in<R: Wait>(&self, rt: &R, cpu: &mut Cpu<D>, value: u64) -> Result<(), Failure> {
+        let words = self.registry.words();
+        enter(words, cpu)?;
+        find(words, cpu, Kind::Driver, &self.driver);
+        let driver = acquire_local(words, cpu);
+        exit(words, cpu);
+        let rec = Record {
+            kind: Kind::Iface,
+            name: self.iface,
+            value,
+        };
+        match self.registry.attach_iface(rt, cpu, rec, driver?) {
+            Ok(_entry) => Ok(()),
+            Err((refusal, driver)) => {
+                self.registry.release_local(rt, cpu, driver);
+                Err(Failure::Refused(refusal))
+            }
+        }
+    }
+
+    /// Detaches the interface, and waits until nobody holds it: the sections that were open, and the passive references.
+    fn pull_out<R: Wait>(&self, rt: &R, cpu: &mut Cpu<D>) -> Result<(), Failure> {
+        let entry = self.registry.detach(rt, cpu, Kind::Iface, &self.iface)?;
+        self.registry.destroy(rt, cpu, entry.number, PATIENCE)?;
+        Ok(())
+    }
+
+    /// Waits until so many batches were carried.
+    fn wait_for_batches(&self, batches: u64) {
+        for _ in 0..PATIENCE {
+            if self.carried.load(SeqCst) >= batches {
+                return;
+            }
+            yield_now();
+        }
+    }
+}
+
+impl Tally {
+    /// Counts a packet for what its lookup found.
+    fn count(&mut self, found: Option<Entry>) {
+        let place = match found {
+            Some(entry) => entry.rec.value as usize,
+            None => 0,
+        };
+        if let Some(count) = self.0.get_mut(place) {
+            *count = count.saturating_add(1);
+        }
+    }
+
+    /// The packets that were counted.
+    fn total(&self) -> u64 {
+        let mut total = 0u64;
+        for count in self.0 {
+            total = total.saturating_add(count);
+        }
+        total
+    }
+}
