@@ -80,11 +80,13 @@ fn run_on<D: Domain + Send + Sync, R: Threads + Wait + Sync>(
     let Ok((registry, mut cpus)) = blank.open::<D>(alloc) else {
         return Err(Failure::Memory);
     };
-    let (Some(mut puller), Some(closer), Some(opener)) = (cpus.pop(), cpus.pop(), cpus.pop()) else {
+    let (Some(mut puller), Some(mut closer), Some(mut opener)) =
+        (cpus.pop(), cpus.pop(), cpus.pop())
+    else {
         return Err(Failure::Wrong("fewer than three CPUs"));
     };
     let opens = Opens::none();
-    let ended = run_switch(rt, &registry, &opens, opener, closer, &mut puller);
+    let ended = run_switch(rt, &registry, &opens, &mut opener, &mut closer, &mut puller);
     opens.close_left(rt, &registry, &mut puller);
     ended
 }
@@ -143,18 +145,17 @@ fn run_switch<D: Domain + Send + Sync, R: Threads + Wait + Sync>(
     rt: &R,
     registry: &Registry<D>,
     opens: &Opens<D>,
-    opener: Cpu<D>,
-    closer: Cpu<D>,
+    opener: &mut Cpu<D>,
+    closer: &mut Cpu<D>,
     puller: &mut Cpu<D>,
 ) -> Result<SwitchSum, Failure> {
-    let (mut opener, mut closer) = (opener, closer);
     let switch = Switch::new(registry, opens)?;
     registry.attach(rt, puller, switch.driver)?;
-    let (opened, closed) = open_and_close(rt, &switch, &mut opener, &mut closer)?;
+    let (opened, closed) = open_and_close(rt, &switch, opener, closer)?;
     let number = switch.pull_out(rt, puller)?;
     let held = switch.first_turn(rt, puller, number)?;
-    switch.open_late(rt, &mut opener)?;
-    let freed = close_and_destroy(rt, &switch, &mut closer, puller, number)?;
+    switch.open_late(rt, opener)?;
+    let freed = close_and_destroy(rt, &switch, closer, puller, number)?;
     Ok(SwitchSum {
         opened,
         closed: closed.saturating_add(1),
