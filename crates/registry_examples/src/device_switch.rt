@@ -80,9 +80,11 @@ fn run_on<D: Domain + Send + Sync, R: Threads + Wait + Sync>(
     let Ok((registry, mut cpus)) = blank.open::<D>(alloc) else {
         return Err(Failure::Memory);
     };
-    let (Some(mut puller), Some(mut closer), Some(mut opener)) =
-        (cpus.pop(), cpus.pop(), cpus.pop())
-    else {
+    let (Some(mut puller), Some(mut closer), Some(mut opener)) = (
+        cpus.pop(),
+        cpus.pop(),
+        cpus.pop(),
+    ) else {
         return Err(Failure::Wrong("fewer than three CPUs"));
     };
     let opens = Opens::none();
