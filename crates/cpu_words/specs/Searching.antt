@@ -11,8 +11,8 @@ use Rattle.protocol.specs.declared.event.Event.TheVariants.{Seek, LoadLink}
 use Rattle.protocol.specs.declared.event.Reply.{Reply}
 use Rattle.protocol.specs.declared.event.Reply.TheVariants.{Done, Word, Found, Missed}
 use Rattle.registry_values.specs.declared.slot.Key.{Key}
-use Rattle.protocol.specs.declared.state.Place.{Place}
-use Rattle.protocol.specs.declared.state.Place.TheVariants.{AtHead, AtNext, AtNumber, AtKind, AtHigh, AtLow, AtValue}
+use Rattle.protocol.specs.declared.state.SearchPlace.{SearchPlace}
+use Rattle.protocol.specs.declared.state.SearchPlace.TheVariants.{AtHead, AtNext, AtNumber, AtKind, AtHigh, AtLow, AtValue}
 use Rattle.protocol.specs.declared.state.RecordWords.{RecordWords}
 use Rattle.protocol.specs.declared.state.Search.{Search}
 use Rattle.protocol.specs.declared.state.Loaded.{Loaded}
@@ -44,7 +44,7 @@ abbrev pub seeking : Key → CpuView → CpuView
 seeking key x = record x { search = Some (search_for key x) }
 
 -- the search q at another place
-abbrev pub moved : Search → Place → Search
+abbrev pub moved : Search → SearchPlace → Search
 moved q p = record { key = q.key; start = q.start; place = p }
 
 -- a search is under way, and is to load the link of the slot t
@@ -102,7 +102,7 @@ HasSought _ x n y = ⊥
 -- Record words
 
 -- the place is at the record word k of the slot t: the number, the kind, the two words of the name, the value
-abbrev pub IsAtWord : Place → ℕ → ℕ → Type 0
+abbrev pub IsAtWord : SearchPlace → ℕ → ℕ → Type 0
 IsAtWord AtHead t k = ⊥
 IsAtWord (AtNext s) t k = ⊥
 IsAtWord (AtNumber s) t k = (s ≡ t) × (k ≡ 0)

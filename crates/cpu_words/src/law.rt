@@ -10,9 +10,9 @@ use std::marker::{Brand, Model, PhantomData};
 
 /// The rule: the words and the views of all seats show a state of the core, the running picture, a list of events leads to it from the
 /// opening, and what each seat did is its part of that list.
-pub struct Picture;
+pub struct RegistryRule;
 
-impl TableRule<u8, Logged, Settings> for Picture {
+impl TableRule<u8, Logged, Settings> for RegistryRule {
     ghost use Rattle.cpu_words.specs.Logs.{LoggedRuled, first_logged};
 
     ghost holds = { LoggedRuled };
@@ -23,7 +23,7 @@ impl TableRule<u8, Logged, Settings> for Picture {
 /// The words of a registry, shared by all its seats. To a contract they are which table it is, and its settings.
 #[derive(Drop)]
 pub struct Words {
-    pub(crate) table: Table<u8, Logged, Settings, Picture, Global>,
+    pub(crate) table: Table<u8, Logged, Settings, RegistryRule, Global>,
     pub(crate) settings: Settings,
 }
 

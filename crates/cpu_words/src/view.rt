@@ -8,47 +8,69 @@ use std::collections::LinkedList;
 /// What is in a CPU's hand, by entry. The ids that the core gives its references are in no view.
 pub enum InHand {
     Empty,
+    /// Counted up, and not given its seat yet.
     Taking(Entry),
+    /// Its seat was taken in, and it isn't counted down yet.
     Giving(Entry),
+    /// The count word was found collected, so the reference gets its seat again.
     Back(Entry),
 }
 
 /// A look of the keeper at a CPU's word, and what it found.
 pub struct Looked {
+    /// The look: at which CPU, and for which slot or for none.
     pub event: Event,
+    /// The word that was loaded.
     pub reply: Reply,
 }
 
 /// What a seat did: an event, and what it replied. The ids that the core gives its references are 0 here.
 pub struct Deed {
+    /// The event of the protocol that the step made.
     pub event: Event,
+    /// What the step answered.
     pub reply: Reply,
 }
 
 /// A seat's view, and beside it all that the seat did, in order.
 pub struct Logged {
+    /// What the seat knows now.
     pub view: View,
+    /// What it did, the first deed first.
     pub log: LinkedList<Deed>,
 }
 
 /// What the keeper's seat knows: all that only the keeper writes, and what it has counted itself.
 pub struct KeeperView {
+    /// The settings of the table.
     pub settings: Settings,
+    /// How many CPUs have got their seats: 0, 1, .. in this order.
     pub seated: u64,
+    /// All attaches and detaches so far, the first one first.
     pub history: LinkedList<Change>,
+    /// By slot: what stands there.
     pub slots: LinkedList<Slot>,
+    /// By slot, and there by CPU: what the keeper has noted of the CPU for the slot's retired entry.
     pub marks: LinkedList<LinkedList<Mark>>,
+    /// By slot: the number of the driver that the slot keeps a local reference to.
     pub keeps: LinkedList<Option<u64>>,
+    /// What the keeper must do next, where a work of several steps is half done.
     pub due: Due,
+    /// The word at the head of the list: 1 more than the slot of the newest live entry, or 0.
     pub head: u64,
+    /// By slot: the word that links it to the next live entry, in the same form.
     pub next: LinkedList<u64>,
+    /// By slot: the five words of its record.
     pub rows: LinkedList<RecordWords>,
+    /// By slot: its total, over the bias.
     pub totals: LinkedList<u64>,
     /// The count words of vacant slots, as the keeper stored them; of an occupied slot this says nothing.
     pub counts: LinkedList<LinkedList<u64>>,
     /// By number: the local references given up under the interlock; one that is taken in counts before it is subtracted.
     pub given_up: LinkedList<u64>,
+    /// How many looks it has made: loads of a CPU's section or passive word, but for the snapshots of an unlinking.
     pub looks: u64,
+    /// The last of them.
     pub last_look: Option<Looked>,
     /// What a note told, until the next load.
     pub heard: LinkedList<Change>,
@@ -56,14 +78,21 @@ pub struct KeeperView {
 
 /// What a CPU's seat knows: its words and its pass, and what it holds.
 pub struct CpuView {
+    /// The settings of the table.
     pub settings: Settings,
+    /// The CPU's number, from 0.
     pub id: u64,
+    /// Its section word: even outside a section, odd inside.
     pub section: u64,
+    /// The length of the history when its open section began; none outside.
     pub begin: Option<u64>,
     /// The prefix of the one history that this CPU has seen.
     pub pass: LinkedList<Change>,
+    /// The lookup that it is in the middle of.
     pub search: Option<Search>,
+    /// The entry that its last lookup in the open section found.
     pub found: Option<Entry>,
+    /// The local reference that it is acquiring or releasing.
     pub hand: InHand,
     /// Its passive references: one entry for each.
     pub references: LinkedList<Entry>,
@@ -78,7 +107,9 @@ pub struct CpuView {
 
 /// What a local reference's seat knows: its entry, and the CPU whose count word a release of it found collected.
 pub struct ReferenceView {
+    /// The entry that it is to.
     pub entry: Entry,
+    /// The CPU whose count word a release found collected, if one did.
     pub collected: Option<u64>,
 }
 

@@ -7,8 +7,8 @@ use Rattle.registry_values.specs.declared.entry.Entry.{Entry}
 use Rattle.protocol.specs.declared.event.Reply.{Reply}
 use Rattle.protocol.specs.declared.event.Reply.TheVariants.{Done, Word, Found, Missed, Ref, Collected}
 use Rattle.registry_values.specs.declared.slot.Key.{Key}
-use Rattle.protocol.specs.declared.state.Place.{Place}
-use Rattle.protocol.specs.declared.state.Place.TheVariants.{AtHead, AtNext, AtNumber, AtKind, AtHigh, AtLow, AtValue}
+use Rattle.protocol.specs.declared.state.SearchPlace.{SearchPlace}
+use Rattle.protocol.specs.declared.state.SearchPlace.TheVariants.{AtHead, AtNext, AtNumber, AtKind, AtHigh, AtLow, AtValue}
 use Rattle.protocol.specs.declared.state.Search.{Search}
 use Rattle.protocol.specs.History.{IsLookup}
 use Rattle.protocol.specs.Invariant.{Holds}
@@ -27,7 +27,7 @@ pub record Walking (b s : State) (c : ℕ) : Type 0 where
 history_same : (b s : State) (c : ℕ) → Walking b s c → s.history ≡ b.history
 history_same b s c walk = ap (λ (t : State). t.history) walk.same
 
-going_walks : (b s : State) (c : ℕ) (q : Search) (p : Place) → Walking b s c → Walking b (going_on s c q p) c
+going_walks : (b s : State) (c : ℕ) (q : Search) (p : SearchPlace) → Walking b s c → Walking b (going_on s c q p) c
 going_walks b s c q p walk = record {
   same = ap (λ (t : State). record t { searches = set s.searches c (Some (placed q p)) }) walk.same;
   seen = walk.seen;
@@ -75,7 +75,7 @@ past_head : (t n : ℕ) (A : Type 0) → (AtValue t n ≡ AtHead) ⊎ A → A
 past_head t n A (inl at) = absurd (let q : AtValue t n ≡ AtHead = at in cc)
 past_head t n A (inr a) = a
 
-load_moves : (b s : State) (c : ℕ) (q : Search) (p : Place) → Holds s → c < s.settings.cpus → Walking b s c → search_at b c ≡ None → (p ≡ AtHead) ⊎ (seen_at s c ≡ length b.history) → Moves b c (load_at s c q p)
+load_moves : (b s : State) (c : ℕ) (q : Search) (p : SearchPlace) → Holds s → c < s.settings.cpus → Walking b s c → search_at b c ≡ None → (p ≡ AtHead) ⊎ (seen_at s c ≡ length b.history) → Moves b c (load_at s c q p)
 load_moves b s c q AtHead on lt walk none seen = link_moves b s c q s.head on lt walk none
 load_moves b s c q (AtNext t) on lt walk none seen = link_moves b s c q (get_or s.next t 0) on lt walk none
 load_moves b s c q (AtNumber t) on lt walk none seen = going_walks b s c q (AtKind t (row_at s.rows t).number) walk
@@ -84,14 +84,14 @@ load_moves b s c q (AtHigh t n k) on lt walk none seen = going_walks b s c q (At
 load_moves b s c q (AtLow t n k h) on lt walk none seen = compared_moves b s c q t n (row_at s.rows t).low (are_words_of q.key k h (row_at s.rows t).low) walk
 load_moves b s c q (AtValue t n) on lt walk none seen = over_is b s c (Some (entry_found q t n (row_at s.rows t).value)) walk none (past_head t n (seen_at s c ≡ length b.history) seen)
 
-load_finds : (s : State) (c : ℕ) (q : Search) (p : Place) → q.place ≡ p → Holds s → Finds s c q → FindSteps c q (weight s p) (load_at s c q p)
-load_finds s c q AtHead is on finds = subst (λ (p : Place). FindSteps c q (weight s p) (load_link s c q p)) is (find_link s c q on finds)
-load_finds s c q (AtNext t) is on finds = subst (λ (p : Place). FindSteps c q (weight s p) (load_link s c q p)) is (find_link s c q on finds)
-load_finds s c q (AtNumber t) is on finds = subst (λ (p : Place). FindSteps c q (weight s p) (load_searched s c q p (row_at s.rows))) is (find_record s c q on finds)
-load_finds s c q (AtKind t n) is on finds = subst (λ (p : Place). FindSteps c q (weight s p) (load_searched s c q p (row_at s.rows))) is (find_record s c q on finds)
-load_finds s c q (AtHigh t n k) is on finds = subst (λ (p : Place). FindSteps c q (weight s p) (load_searched s c q p (row_at s.rows))) is (find_record s c q on finds)
-load_finds s c q (AtLow t n k h) is on finds = subst (λ (p : Place). FindSteps c q (weight s p) (load_searched s c q p (row_at s.rows))) is (find_record s c q on finds)
-load_finds s c q (AtValue t n) is on finds = subst (λ (p : Place). FindSteps c q (weight s p) (load_searched s c q p (row_at s.rows))) is (find_record s c q on finds)
+load_finds : (s : State) (c : ℕ) (q : Search) (p : SearchPlace) → q.place ≡ p → Holds s → Finds s c q → FindSteps c q (weight s p) (load_at s c q p)
+load_finds s c q AtHead is on finds = subst (λ (p : SearchPlace). FindSteps c q (weight s p) (load_link s c q p)) is (find_link s c q on finds)
+load_finds s c q (AtNext t) is on finds = subst (λ (p : SearchPlace). FindSteps c q (weight s p) (load_link s c q p)) is (find_link s c q on finds)
+load_finds s c q (AtNumber t) is on finds = subst (λ (p : SearchPlace). FindSteps c q (weight s p) (load_searched s c q p (row_at s.rows))) is (find_record s c q on finds)
+load_finds s c q (AtKind t n) is on finds = subst (λ (p : SearchPlace). FindSteps c q (weight s p) (load_searched s c q p (row_at s.rows))) is (find_record s c q on finds)
+load_finds s c q (AtHigh t n k) is on finds = subst (λ (p : SearchPlace). FindSteps c q (weight s p) (load_searched s c q p (row_at s.rows))) is (find_record s c q on finds)
+load_finds s c q (AtLow t n k h) is on finds = subst (λ (p : SearchPlace). FindSteps c q (weight s p) (load_searched s c q p (row_at s.rows))) is (find_record s c q on finds)
+load_finds s c q (AtValue t n) is on finds = subst (λ (p : SearchPlace). FindSteps c q (weight s p) (load_searched s c q p (row_at s.rows))) is (find_record s c q on finds)
 
 -- what is left of the search that is under way
 abbrev pub left : State → Option Search → ℕ
@@ -102,7 +102,7 @@ left s (Some q) = weight s q.place
 pub record Walks (b s : State) (c : ℕ) (key : Key) : Type 0 where
   pub walking : Walking b s c
   pub start : ℕ
-  pub place : Place
+  pub place : SearchPlace
   pub finds : Finds s c (record { key = key; start = start; place = place })
 
 -- what a load leaves of a walk that had n left

@@ -1,8 +1,8 @@
 -- What a lookup leaves.
 use Rattle.std.specs.Prelude.{ℕ, Option, length, slice_set}
 use Rattle.registry_values.specs.declared.entry.Entry.{Entry}
-use Rattle.protocol.specs.declared.state.Place.{Place}
-use Rattle.protocol.specs.declared.state.Place.TheVariants.{AtHead, AtNext, AtNumber, AtKind, AtHigh, AtLow, AtValue}
+use Rattle.protocol.specs.declared.state.SearchPlace.{SearchPlace}
+use Rattle.protocol.specs.declared.state.SearchPlace.TheVariants.{AtHead, AtNext, AtNumber, AtKind, AtHigh, AtLow, AtValue}
 use Rattle.protocol.specs.declared.state.Search.{Search}
 use Rattle.protocol.specs.State.{State, row_at}
 use Rattle.protocol.specs.Events.{Outcome, with_some, load_link, load_searched}
@@ -12,7 +12,7 @@ abbrev pub after_find : State → ℕ → Option Entry → State
 after_find s c answer = record s { seen = slice_set s.seen c (length s.history); found = slice_set s.found c answer }
 
 -- the load that a search at this place is to make
-abbrev pub load_at : State → ℕ → Search → Place → Option Outcome
+abbrev pub load_at : State → ℕ → Search → SearchPlace → Option Outcome
 load_at s c q AtHead = load_link s c q AtHead
 load_at s c q (AtNext t) = load_link s c q (AtNext t)
 load_at s c q (AtNumber t) = load_searched s c q (AtNumber t) (row_at s.rows)

@@ -1,4 +1,9 @@
 //! The protocol of read sections, passive references and local counts, as a pure machine.
+//!
+//! A `Core` owns one state of the protocol, for all CPUs, and takes one event at a time: `step` makes it where it is allowed. The commands
+//! (`attach`, `enter`, `find`, ..) make the events that a registry's call makes, one after the other, and answer as the call does. There
+//! are no threads and no shared words here, so a test bench can drive any order of events, and each contract says exactly what is answered
+//! and left.
 #![tactic(auto)]
 
 mod machine;
@@ -6,9 +11,9 @@ mod psref;
 
 pub use machine::{Core, run_events};
 pub use protocol::{
-    Counted, Due, Event, Hand, Loaded, LocalPlace, Place, RecordOf, RecordWords, Reply, Search,
-    Short, StepFault, balance_at_rest, every_run_keeps, grace_law, headline, invariant_suffices,
-    lawful_answers, safe_reuse, worked_run,
+    Counted, Due, Event, Hand, Loaded, LocalPlace, RecordOf, RecordWords, Reply, Search,
+    SearchPlace, Short, StepFault, balance_at_rest, every_run_keeps, grace_law, headline,
+    invariant_suffices, lawful_answers, safe_reuse, worked_run,
 };
 pub use psref::CorePsref;
 pub use registry_values::{

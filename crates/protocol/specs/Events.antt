@@ -17,8 +17,8 @@ use Rattle.protocol.specs.declared.state.RecordWords.{RecordWords}
 use Rattle.registry_values.specs.declared.slot.Slot.{Slot}
 use Rattle.registry_values.specs.declared.slot.Slot.TheVariants.{Vacant, Live, Retired}
 use Rattle.registry_values.specs.declared.mark.Mark.{Mark}
-use Rattle.protocol.specs.declared.state.Place.{Place}
-use Rattle.protocol.specs.declared.state.Place.TheVariants.{AtHead, AtNext, AtNumber, AtKind, AtHigh, AtLow, AtValue}
+use Rattle.protocol.specs.declared.state.SearchPlace.{SearchPlace}
+use Rattle.protocol.specs.declared.state.SearchPlace.TheVariants.{AtHead, AtNext, AtNumber, AtKind, AtHigh, AtLow, AtValue}
 use Rattle.protocol.specs.declared.state.Search.{Search}
 use Rattle.protocol.specs.declared.state.Hand.{Hand}
 use Rattle.protocol.specs.declared.state.Hand.TheVariants.{Empty, Taking, Giving, Back}
@@ -124,7 +124,7 @@ abbrev pub after_seek : State → ℕ → Key → State
 after_seek s c key = record s { searches = slice_set s.searches c (Some (record { key = key; start = seen_at s c; place = AtHead })) }
 
 -- the search q of c goes on at another place
-abbrev pub going_on : State → ℕ → Search → Place → State
+abbrev pub going_on : State → ℕ → Search → SearchPlace → State
 going_on s c q p = record s { searches = slice_set s.searches c (Some (record { key = q.key; start = q.start; place = p })) }
 
 -- the search of c is over, and its answer is the last found entry
@@ -136,7 +136,7 @@ abbrev pub link_loaded : State → ℕ → Search → ℕ → Option Outcome
 link_loaded s c q zero = taken (search_over (after_seeing s c) c None) Missed
 link_loaded s c q (suc t) = taken (going_on (after_seeing s c) c q (AtNumber t)) (Word (suc t))
 
-abbrev pub load_link : State → ℕ → Search → Place → Option Outcome
+abbrev pub load_link : State → ℕ → Search → SearchPlace → Option Outcome
 load_link s c q AtHead = link_loaded s c q s.head
 load_link s c q (AtNext t) = link_loaded s c q (slice_index_or s.next t 0)
 load_link s c q (AtNumber t) = None
@@ -154,7 +154,7 @@ compared s c q t n l false = taken (going_on s c q (AtNext t)) (Word l)
 abbrev pub entry_found : Search → ℕ → ℕ → ℕ → Entry
 entry_found q t n value = record { number = n; slot = t; rec = record { kind = q.key.kind; name = q.key.name; value = value } }
 
-abbrev pub load_searched : State → ℕ → Search → Place → (ℕ → RecordWords) → Option Outcome
+abbrev pub load_searched : State → ℕ → Search → SearchPlace → (ℕ → RecordWords) → Option Outcome
 load_searched s c q AtHead row = None
 load_searched s c q (AtNext t) row = None
 load_searched s c q (AtNumber t) row = taken (going_on s c q (AtKind t (row t).number)) (Word (row t).number)

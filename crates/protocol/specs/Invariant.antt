@@ -9,8 +9,8 @@ use Rattle.protocol.specs.declared.state.RecordWords.{RecordWords}
 use Rattle.registry_values.specs.declared.slot.Slot.{Slot}
 use Rattle.registry_values.specs.declared.slot.Slot.TheVariants.{Vacant, Live, Retired}
 use Rattle.registry_values.specs.declared.mark.Mark.{Mark}
-use Rattle.protocol.specs.declared.state.Place.{Place}
-use Rattle.protocol.specs.declared.state.Place.TheVariants.{AtHead, AtNext, AtNumber, AtKind, AtHigh, AtLow, AtValue}
+use Rattle.protocol.specs.declared.state.SearchPlace.{SearchPlace}
+use Rattle.protocol.specs.declared.state.SearchPlace.TheVariants.{AtHead, AtNext, AtNumber, AtKind, AtHigh, AtLow, AtValue}
 use Rattle.protocol.specs.declared.state.Search.{Search}
 use Rattle.protocol.specs.declared.state.Hand.{Hand}
 use Rattle.protocol.specs.declared.state.Hand.TheVariants.{Empty, Taking, Giving, Back}
@@ -130,7 +130,7 @@ pub record StandsOn (h : List Change) (from to t : ℕ) (e : Entry) : Type 0 whe
   pub unended : (p : ℕ) → EndsAt h e.number p → from < p
 
 -- what is so of the words that a search has loaded, and what it hasn't gone past
-abbrev pub PlaceHolds : List Change → ℕ → ℕ → Key → Place → Type 0
+abbrev pub PlaceHolds : List Change → ℕ → ℕ → Key → SearchPlace → Type 0
 PlaceHolds h from to key AtHead = Unit {0}
 PlaceHolds h from to key (AtNext t) = (e : Entry) × StandsOn h from to t e × AllBelow h from to key e.number
 PlaceHolds h from to key (AtNumber t) = (e : Entry) × StandsOn h from to t e × AllBelow h from to key (suc e.number)

@@ -4,8 +4,8 @@ use Rattle.registry_values.specs.Slots.{are_words_of}
 use Rattle.registry_values.specs.declared.entry.Entry.{Entry}
 use Rattle.registry_values.specs.declared.slot.Key.{Key}
 use Rattle.protocol.specs.declared.state.RecordWords.{RecordWords}
-use Rattle.protocol.specs.declared.state.Place.{Place}
-use Rattle.protocol.specs.declared.state.Place.TheVariants.{AtHead, AtNext, AtNumber, AtKind, AtHigh, AtLow, AtValue}
+use Rattle.protocol.specs.declared.state.SearchPlace.{SearchPlace}
+use Rattle.protocol.specs.declared.state.SearchPlace.TheVariants.{AtHead, AtNext, AtNumber, AtKind, AtHigh, AtLow, AtValue}
 use Rattle.protocol.specs.declared.state.Search.{Search}
 use Rattle.protocol.specs.declared.state.Loaded.{Loaded}
 use Rattle.protocol.specs.declared.state.Loaded.TheVariants.{On, Over}
@@ -21,7 +21,7 @@ abbrev pub judged : ℕ → ℕ → ℕ → Bool → Loaded
 judged t n l true = On (AtValue t n) l
 judged t n l false = On (AtNext t) l
 
-abbrev pub loaded : Search → Place → RecordWords → Option Loaded
+abbrev pub loaded : Search → SearchPlace → RecordWords → Option Loaded
 loaded q AtHead r = None
 loaded q (AtNext t) r = None
 loaded q (AtNumber t) r = Some (On (AtKind t r.number) r.number)
@@ -31,7 +31,7 @@ loaded q (AtLow t n k h) r = Some (judged t n r.low (are_words_of q.key k h r.lo
 loaded q (AtValue t n) r = Some (Over (entry_with q.key t n r.value))
 
 -- the slot that a place is at is below a bound
-abbrev pub SlotWithin : Place → ℕ → Type 0
+abbrev pub SlotWithin : SearchPlace → ℕ → Type 0
 SlotWithin AtHead size = Unit {0}
 SlotWithin (AtNext t) size = t < size
 SlotWithin (AtNumber t) size = t < size
@@ -41,7 +41,7 @@ SlotWithin (AtLow t n k h) size = t < size
 SlotWithin (AtValue t n) size = t < size
 
 -- the record words of the slot that a place is at
-abbrev pub row_of_place : List RecordWords → Place → RecordWords
+abbrev pub row_of_place : List RecordWords → SearchPlace → RecordWords
 row_of_place rows AtHead = no_words
 row_of_place rows (AtNext t) = row_at rows t
 row_of_place rows (AtNumber t) = row_at rows t

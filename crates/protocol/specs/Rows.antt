@@ -11,7 +11,7 @@ use Rattle.protocol.specs.declared.event.Reply.{Reply}
 use Rattle.protocol.specs.declared.event.Reply.TheVariants.{Done, Word, Found, Ref, Collected}
 use Rattle.registry_values.specs.declared.entry.Change.TheVariants.{Attach, Detach}
 use Rattle.registry_values.specs.declared.slot.Slot.TheVariants.{Vacant, Live, Retired}
-use Rattle.protocol.specs.declared.state.Place.TheVariants.{AtHigh}
+use Rattle.protocol.specs.declared.state.SearchPlace.TheVariants.{AtHigh}
 use Rattle.registry_values.specs.declared.mark.Mark.{Mark}
 use Rattle.registry_values.specs.Slots.{key_of, kind_word}
 use Rattle.protocol.specs.State.{State, opening}

@@ -19,7 +19,7 @@ pub struct RecordWords {
 
 /// Where a search stands, with the words that it has loaded of that slot.
 #[derive(Clone, Copy, Debug, PartialEq, Eq)]
-pub enum Place {
+pub enum SearchPlace {
     /// It is to load the head of the list.
     AtHead,
     /// It is to load the link of this slot.
@@ -44,14 +44,14 @@ pub struct Search {
     /// The length of the CPU's pass as it began.
     pub start: u64,
     /// Where it stands.
-    pub place: Place,
+    pub place: SearchPlace,
 }
 
 /// What a search does with a record word that it has loaded.
 #[derive(Clone, Copy, Debug, PartialEq, Eq)]
 pub enum Loaded {
     /// It goes on at this place; this was the word.
-    On(Place, u64),
+    On(SearchPlace, u64),
     /// It is over: this entry was found.
     Over(Entry),
 }

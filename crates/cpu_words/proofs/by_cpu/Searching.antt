@@ -19,8 +19,8 @@ use Rattle.protocol.specs.declared.event.RecordOf.TheVariants.{Search as OfSearc
 use Rattle.protocol.specs.declared.event.Reply.{Reply}
 use Rattle.protocol.specs.declared.event.Reply.TheVariants.{Done}
 use Rattle.registry_values.specs.declared.slot.Key.{Key}
-use Rattle.protocol.specs.declared.state.Place.{Place}
-use Rattle.protocol.specs.declared.state.Place.TheVariants.{AtHead, AtNext, AtNumber, AtKind, AtHigh, AtLow, AtValue}
+use Rattle.protocol.specs.declared.state.SearchPlace.{SearchPlace}
+use Rattle.protocol.specs.declared.state.SearchPlace.TheVariants.{AtHead, AtNext, AtNumber, AtKind, AtHigh, AtLow, AtValue}
 use Rattle.protocol.specs.declared.state.RecordWords.{RecordWords}
 use Rattle.protocol.specs.declared.state.Search.{Search}
 use Rattle.protocol.specs.declared.state.Loaded.{Loaded}
@@ -304,7 +304,7 @@ found_in_pass h from to key e le lawful =
     )
 
 -- the place is at a word of a slot in range
-at_word_within : (p : Place) (t k size : ℕ) → IsAtWord p t k → SlotWithin p size → (t < size) × (k < 5)
+at_word_within : (p : SearchPlace) (t k size : ℕ) → IsAtWord p t k → SlotWithin p size → (t < size) × (k < 5)
 at_word_within AtHead t k size at within = absurd at
 at_word_within (AtNext s) t k size at within = absurd at
 at_word_within (AtNumber s) t k size at within = (omega (arith, at.0), omega (arith, at.1))
@@ -318,7 +318,7 @@ word_there : (rows : List RecordWords) (s t k j n : ℕ) → (s ≡ t) × (k ≡
 word_there rows s t k j n at is = ap (λ u. word (row_at rows u) j) at.0 ∙ ap (word (row_at rows t)) (sym at.1) ∙ sym is
 
 -- of the record words a search takes only the one at its place
-one_word : (q : Search) (p : Place) (rows : List RecordWords) (t k n : ℕ) → IsAtWord p t k → n ≡ word (row_at rows t) k → loaded q p (row_of_place rows p) ≡ loaded q p (every_word n)
+one_word : (q : Search) (p : SearchPlace) (rows : List RecordWords) (t k n : ℕ) → IsAtWord p t k → n ≡ word (row_at rows t) k → loaded q p (row_of_place rows p) ≡ loaded q p (every_word n)
 one_word q AtHead rows t k n at is = absurd at
 one_word q (AtNext s) rows t k n at is = absurd at
 one_word q (AtNumber s) rows t k n at is = ap (λ v. loaded q (AtNumber s) (every_word v)) (word_there rows s t k 0 n at is)
@@ -328,7 +328,7 @@ one_word q (AtLow s m w h) rows t k n at is = ap (λ v. loaded q (AtLow s m w h)
 one_word q (AtValue s m) rows t k n at is = ap (λ v. loaded q (AtValue s m) (every_word v)) (word_there rows s t k 4 n at is)
 
 -- a place at a word makes something of it
-makes_some : (q : Search) (p : Place) (t k n : ℕ) → IsAtWord p t k → (o : Loaded) × (loaded q p (every_word n) ≡ Some o)
+makes_some : (q : Search) (p : SearchPlace) (t k n : ℕ) → IsAtWord p t k → (o : Loaded) × (loaded q p (every_word n) ≡ Some o)
 makes_some q AtHead t k n at = absurd at
 makes_some q (AtNext s) t k n at = absurd at
 makes_some q (AtNumber s) t k n at = (On (AtKind s n) n, refl)
@@ -426,7 +426,7 @@ load_searched_may z x c t k id may = subst (λ d. CpuMay z x (657 + 8 * t + k) (
     let found : m ≡ word (row_at g.rows t) k = r.words.at (record_of t k) (omega (arith, within.0, on.shape.slots), within.1) in
     let some = makes_some q q.place t k m may.place in
     let load = one_word q q.place g.rows t k m may.place found ∙ some.1 in
-    let numbered : (u : ℕ) → q.place ≡ AtNumber u → (row_at g.rows u).number ≡ m = λ u at_number. word_there g.rows u t k 0 m (subst (λ (p : Place). IsAtWord p t k) at_number may.place) found in
+    let numbered : (u : ℕ) → q.place ≡ AtNumber u → (row_at g.rows u).number ≡ m = λ u at_number. word_there g.rows u t k 0 m (subst (λ (p : SearchPlace). IsAtWord p t k) at_number may.place) found in
     let done = searches_word z s r i x place m q some.0 at may.under_way refl some.1 load numbered in
     let answer : loaded_answer (Some some.0) ≡ loaded_answer (made_of x.search m) = ap loaded_answer (sym some.1 ∙ ap (λ (p : Option Search). made_of p m) (sym may.under_way)) in (
       Cpu done.0,

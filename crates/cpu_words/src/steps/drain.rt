@@ -10,9 +10,9 @@ ghost use Rattle.cpu_words.specs.Steps.{Makes, JoinsBy};
 ghost use Rattle.cpu_words.specs.Draining.{MayPassiveLook, HasLookedPassive, MayCollect, HasCollected, MayTotalAdd, HasAdded, MayTotalSub, HasSubtracted, MayJoinKeeper, giving_up, MayKeptSub, HasKeptSub};
 
 use crate::law::Words;
+use crate::operations::by_keeper;
+use crate::operations::given_up::GivenUp;
 use crate::seat::{KeeperSeat, ReferenceSeat};
-use crate::step::by_keeper;
-use crate::step::given_up::GivenUp;
 use protocol::Event;
 use std::marker::Brand;
 

@@ -9,8 +9,8 @@ ghost use Rattle.cpu_words.specs.Steps.{Makes};
 ghost use Rattle.cpu_words.specs.Grace.{MayGlance, MayLook, MaySnapshot, HasLooked, HasSnapshot, having_looked};
 
 use crate::law::Words;
+use crate::operations::by_keeper;
 use crate::seat::KeeperSeat;
-use crate::step::by_keeper;
 use protocol::Event;
 use std::marker::Brand;
 

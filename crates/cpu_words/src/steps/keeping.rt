@@ -11,8 +11,8 @@ ghost use Rattle.cpu_words.specs.Vacating.{as_vacant, vacate_first};
 ghost use Rattle.cpu_words.specs.Keeping.{MayKeep, IsVacated, keeping};
 
 use crate::law::Words;
+use crate::operations::kept;
 use crate::seat::{KeeperSeat, ReferenceSeat};
-use crate::step::kept;
 use std::marker::Brand;
 
 /// The slot `slot` (from 0) keeps the reference, until the interface that is attached there next is freed.

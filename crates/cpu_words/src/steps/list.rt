@@ -11,8 +11,8 @@ ghost use Rattle.cpu_words.specs.Vacating.{MayWrite, IsTakenAsVacant, as_vacant,
 ghost use Rattle.cpu_words.specs.Storing.{HasRecordWord, HasCountWord, HasLink};
 
 use crate::law::Words;
+use crate::operations::by_keeper;
 use crate::seat::KeeperSeat;
-use crate::step::by_keeper;
 use protocol::Event;
 use std::marker::Brand;
 

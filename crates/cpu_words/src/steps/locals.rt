@@ -13,9 +13,9 @@ ghost use Rattle.cpu_words.specs.Steps.{Makes, SplitsBy, JoinsBy};
 ghost use Rattle.cpu_words.specs.Locals.{down_reply, IsTaking, IsBack, IsNetCount, IsMetAlone, MayCount, HasCounted, MayCountDown, HasCountedDown, HasFoundCollected, HasSplit, HasSplitBack, with_hand};
 
 use crate::law::Words;
+use crate::operations::by_cpu;
+use crate::operations::in_hand::InHandReference;
 use crate::seat::{CpuSeat, ReferenceSeat};
-use crate::step::by_cpu;
-use crate::step::in_hand::InHandReference;
 use protocol::Event;
 use std::marker::Brand;
 
@@ -36,6 +36,7 @@ pub fn count_add(words: &Words, seat: &mut CpuSeat, cpu: u8, slot: u8, number: u
     ensures alone { IsMetAlone seat.old.view slot number }
     ensures log { seat.new.log ≡ seat.old.log ++ did (CountAdd cpu) (Word result) }
 {
+    // The contract alone speaks of the entry's number.
     let _number = number;
     let word = 80 * cpu as usize + 33 + slot as usize;
     by_cpu::add::<Brand>(words, seat, word, 1, Event::CountAdd(cpu))
@@ -52,6 +53,7 @@ pub fn split_ref(words: &Words, seat: &mut CpuSeat, cpu: u8) -> ReferenceSeat
     ensures change { HasSplit seat.old.view seat.new.view result.view }
     ensures log { (seat.new.log ≡ seat.old.log ++ did (SplitRef cpu) (Ref 0)) × (result.log ≡ []) }
 {
+    // The contract alone speaks of the CPU's number.
     let _cpu = cpu;
     ReferenceSeat {
         token: words
@@ -72,6 +74,7 @@ pub fn split_back(words: &Words, seat: &mut CpuSeat, cpu: u8) -> ReferenceSeat
     ensures change { HasSplitBack seat.old.view seat.new.view result.view }
     ensures log { (seat.new.log ≡ seat.old.log ++ did (SplitBack cpu) (Ref 0)) × (result.log ≡ []) }
 {
+    // The contract alone speaks of the CPU's number.
     let _cpu = cpu;
     ReferenceSeat {
         token: words
@@ -91,6 +94,7 @@ pub fn join_ref(words: &Words, seat: &mut CpuSeat, cpu: u8, reference: Reference
     ensures change { seat.new.view ≡ with_hand seat.old.view (GivingEntry reference.view.entry) }
     ensures log { seat.new.log ≡ seat.old.log ++ did (JoinRef cpu 0) Done }
 {
+    // The contract alone speaks of the CPU's number.
     let _cpu = cpu;
     let ReferenceSeat { token } = reference;
     words
@@ -124,6 +128,7 @@ pub fn count_down(
     ensures collected { result ≢ expected → Makes (CountDown cpu) Collected (Cpu seat.old.view) (Cpu seat.new.view) × HasFoundCollected seat.old.view number seat.new.view }
     ensures log { seat.new.log ≡ seat.old.log ++ did (CountDown cpu) (down_reply expected result) }
 {
+    // The contract alone speaks of the entry's number.
     let _number = number;
     by_cpu::compare_exchange::<Brand>(
         words,

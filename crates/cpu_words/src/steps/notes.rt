@@ -12,9 +12,9 @@ ghost use Rattle.cpu_words.specs.Steps.{Makes, SplitsBy};
 ghost use Rattle.cpu_words.specs.Notes.{with_heard, keeper_with_heard};
 
 use crate::law::Words;
+use crate::operations::notes::{CpuNote, KeeperNote};
+use crate::operations::{by_cpu, by_keeper, notes};
 use crate::seat::{CpuSeat, KeeperSeat, NoteSeat};
-use crate::step::notes::{CpuNote, KeeperNote};
-use crate::step::{by_cpu, by_keeper, notes};
 use protocol::Event;
 use std::marker::Brand;
 
@@ -29,6 +29,7 @@ pub fn tell(words: &Words, seat: &mut CpuSeat, cpu: u8) -> NoteSeat
     ensures event { SplitsBy (Tell (Some cpu)) (Cpu seat.old.view) (Cpu seat.old.view) (Note result.view) }
     ensures log { (seat.new.log ≡ seat.old.log ++ did (Tell (Some cpu)) Done) × (result.log ≡ []) }
 {
+    // The contract alone speaks of the CPU's number.
     let _cpu = cpu;
     NoteSeat {
         token: words.table.shared.split_seat::<CpuNote>(&mut seat.token),

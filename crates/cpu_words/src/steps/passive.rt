@@ -11,8 +11,8 @@ ghost use Rattle.cpu_words.specs.Steps.{Makes};
 ghost use Rattle.cpu_words.specs.Passives.{MayAdd, MayUse, HasAdded, HasSubtracted, IsWordOf, IsAloneAt, IsNamed};
 
 use crate::law::Words;
+use crate::operations::by_cpu;
 use crate::seat::CpuSeat;
-use crate::step::by_cpu;
 use protocol::{Event, RecordOf};
 use std::marker::Brand;
 

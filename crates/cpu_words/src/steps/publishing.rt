@@ -11,8 +11,8 @@ ghost use Rattle.cpu_words.specs.Steps.{Makes};
 ghost use Rattle.cpu_words.specs.Publishing.{MayPublish, HasPublished, MayUnpublish, HasUnpublished, IsLinkPlace, link_index};
 
 use crate::law::Words;
+use crate::operations::by_keeper;
 use crate::seat::KeeperSeat;
-use crate::step::by_keeper;
 use protocol::Event;
 use std::marker::Brand;
 

@@ -11,8 +11,8 @@ ghost use Rattle.cpu_words.specs.Rule.{did};
 ghost use Rattle.cpu_words.specs.Steps.{Makes};
 
 use crate::law::Words;
+use crate::operations::by_reference;
 use crate::seat::ReferenceSeat;
-use crate::step::by_reference;
 use protocol::{Event, RecordOf};
 use std::marker::Brand;
 

@@ -11,8 +11,8 @@ ghost use Rattle.cpu_words.specs.Steps.{Makes};
 ghost use Rattle.cpu_words.specs.Searching.{MaySeek, key_with, search_for, seeking, MayLoadLink, link_answer, HasFollowed, HasLoadedLink, MayLoadSearched, made_of, loaded_answer, HasLoadedWord};
 
 use crate::law::Words;
+use crate::operations::by_cpu;
 use crate::seat::CpuSeat;
-use crate::step::by_cpu;
 use protocol::{Event, RecordOf};
 use registry_values::{Kind, Name};
 use std::marker::Brand;

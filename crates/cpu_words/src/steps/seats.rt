@@ -10,8 +10,8 @@ ghost use Rattle.cpu_words.specs.Steps.{SplitsBy};
 ghost use Rattle.cpu_words.specs.Opening.{MaySeat};
 
 use crate::law::Words;
+use crate::operations::seats::NextSeat;
 use crate::seat::{CpuSeat, KeeperSeat};
-use crate::step::seats::NextSeat;
 
 /// The least CPU without a seat gets its seat, cut from the keeper's.
 /// Condition: the keeper is at rest, and has given out fewer seats than the table has CPUs.

@@ -9,8 +9,8 @@ ghost use Rattle.cpu_words.specs.Steps.{Makes};
 ghost use Rattle.cpu_words.specs.Sections.{MayEnter, HasEntered, MayExit, HasExited};
 
 use crate::law::Words;
+use crate::operations::by_cpu;
 use crate::seat::CpuSeat;
-use crate::step::by_cpu;
 use protocol::Event;
 use std::marker::Brand;
 

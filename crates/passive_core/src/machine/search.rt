@@ -9,7 +9,7 @@ ghost use Rattle.protocol.specs.Loaded.{SlotWithin, loaded, row_of_place, entry_
 ghost use Rattle.protocol.specs.Taken.{Keeps, Steps};
 
 use crate::machine::{Core, NO_WORDS};
-use protocol::{Loaded, Place, RecordWords, Reply, Search, StepFault};
+use protocol::{Loaded, RecordWords, Reply, Search, SearchPlace, StepFault};
 use registry_values::{Entry, Key, Kind, Name, Record, are_words_of};
 
 impl Core {
@@ -30,13 +30,13 @@ impl Core {
         self.searches[c as usize] = Some(Search {
             key: Key { kind, name },
             start,
-            place: Place::AtHead,
+            place: SearchPlace::AtHead,
         });
         Ok(Reply::Done)
     }
 
     /// The search goes on at another place.
-    fn go_on(&mut self, c: u8, search: Search, place: Place)
+    fn go_on(&mut self, c: u8, search: Search, place: SearchPlace)
         requires cpu { c < self.old.settings.cpus }
         requires holds { Holds (going_on self.old c search place) }
         ensures { self.new ≡ going_on self.old c search place }
@@ -68,7 +68,7 @@ impl Core {
             self.found[c as usize] = None;
             Reply::Missed
         } else {
-            let place = Place::AtNumber((link - 1) as u8);
+            let place = SearchPlace::AtNumber((link - 1) as u8);
             self.searches[c as usize] = Some(Search { place, ..search });
             Reply::Word(link)
         }
@@ -81,11 +81,11 @@ impl Core {
             return Err(StepFault::NotAllowed);
         };
         match search.place {
-            Place::AtHead => {
+            SearchPlace::AtHead => {
                 let link = self.head;
                 Ok(self.follow(c, search, link))
             }
-            Place::AtNext(t) => {
+            SearchPlace::AtNext(t) => {
                 let link = self.next[t as usize];
                 Ok(self.follow(c, search, link))
             }
@@ -115,18 +115,18 @@ impl Core {
 }
 
 /// The record words of the slot that a place is at.
-fn row_of_place(rows: &[RecordWords], place: Place) -> RecordWords
+fn row_of_place(rows: &[RecordWords], place: SearchPlace) -> RecordWords
     requires { SlotWithin place (length rows.now) }
     ensures { result ≡ row_of_place rows.now place }
 {
     match place {
-        Place::AtHead => NO_WORDS,
-        Place::AtNext(t)
-        | Place::AtNumber(t)
-        | Place::AtKind(t, _)
-        | Place::AtHigh(t, _, _)
-        | Place::AtLow(t, _, _, _)
-        | Place::AtValue(t, _) => rows[t as usize],
+        SearchPlace::AtHead => NO_WORDS,
+        SearchPlace::AtNext(t)
+        | SearchPlace::AtNumber(t)
+        | SearchPlace::AtKind(t, _)
+        | SearchPlace::AtHigh(t, _, _)
+        | SearchPlace::AtLow(t, _, _, _)
+        | SearchPlace::AtValue(t, _) => rows[t as usize],
     }
 }
 
@@ -135,18 +135,27 @@ fn loaded(search: &Search, row: &RecordWords) -> Option<Loaded>
     ensures { result ≡ loaded search.now search.now.place row.now }
 {
     match search.place {
-        Place::AtHead | Place::AtNext(_) => None,
-        Place::AtNumber(t) => Some(Loaded::On(Place::AtKind(t, row.number), row.number)),
-        Place::AtKind(t, n) => Some(Loaded::On(Place::AtHigh(t, n, row.kind), row.kind)),
-        Place::AtHigh(t, n, k) => Some(Loaded::On(Place::AtLow(t, n, k, row.high), row.high)),
-        Place::AtLow(t, n, k, h) => {
+        SearchPlace::AtHead | SearchPlace::AtNext(_) => None,
+        SearchPlace::AtNumber(t) => Some(Loaded::On(
+            SearchPlace::AtKind(t, row.number),
+            row.number,
+        )),
+        SearchPlace::AtKind(t, n) => Some(Loaded::On(
+            SearchPlace::AtHigh(t, n, row.kind),
+            row.kind,
+        )),
+        SearchPlace::AtHigh(t, n, k) => Some(Loaded::On(
+            SearchPlace::AtLow(t, n, k, row.high),
+            row.high,
+        )),
+        SearchPlace::AtLow(t, n, k, h) => {
             if are_words_of(search.key, k, h, row.low) {
-                Some(Loaded::On(Place::AtValue(t, n), row.low))
+                Some(Loaded::On(SearchPlace::AtValue(t, n), row.low))
             } else {
-                Some(Loaded::On(Place::AtNext(t), row.low))
+                Some(Loaded::On(SearchPlace::AtNext(t), row.low))
             }
         }
-        Place::AtValue(t, n) => Some(Loaded::Over(entry_found(search.key, t, n, row.value))),
+        SearchPlace::AtValue(t, n) => Some(Loaded::Over(entry_found(search.key, t, n, row.value))),
     }
 }
 

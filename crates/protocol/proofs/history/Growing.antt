@@ -7,8 +7,8 @@ use Rattle.registry_values.specs.declared.entry.Change.{Change}
 use Rattle.protocol.specs.History.{after_change, MayHold}
 use Rattle.registry_values.specs.declared.settings.Settings.{Settings}
 use Rattle.protocol.specs.declared.state.Search.{Search}
-use Rattle.protocol.specs.declared.state.Place.{Place}
-use Rattle.protocol.specs.declared.state.Place.TheVariants.{AtHead, AtNext, AtNumber, AtKind, AtHigh, AtLow, AtValue}
+use Rattle.protocol.specs.declared.state.SearchPlace.{SearchPlace}
+use Rattle.protocol.specs.declared.state.SearchPlace.TheVariants.{AtHead, AtNext, AtNumber, AtKind, AtHigh, AtLow, AtValue}
 use Rattle.protocol.specs.Invariant.{SectionsShow, SearchHolds, SearchesHold, FoundHold, Leads, To_end, To_entry, StandsOn, AllBelow, PlaceHolds}
 use Rattle.protocol.proofs.history.History.{ends_old, ends_was, attached_old, attached_was, live_old, live_was, length-after_change}
 
@@ -42,7 +42,7 @@ stands_old h c from to t e le on = record {
 pub below_old : (h : List Change) (c : Change) (from to : ℕ) (key : Key) (n : ℕ) → from ≤ length h → AllBelow h from to key n → AllBelow (after_change h c) from to key n
 below_old h c from to key n le below = λ f live un same. below f (live_was h c from f le live) (λ p x. un p (ends_old h c f.number p x)) same
 
-pub place_old : (h : List Change) (c : Change) (from to : ℕ) (key : Key) (place : Place) → from ≤ length h → PlaceHolds h from to key place → PlaceHolds (after_change h c) from to key place
+pub place_old : (h : List Change) (c : Change) (from to : ℕ) (key : Key) (place : SearchPlace) → from ≤ length h → PlaceHolds h from to key place → PlaceHolds (after_change h c) from to key place
 place_old h c from to key AtHead le p = tt
 place_old h c from to key (AtNext t) le p = (p.0, stands_old h c from to t p.0 le p.1, below_old h c from to key p.0.number le p.2)
 place_old h c from to key (AtNumber t) le p = (p.0, stands_old h c from to t p.0 le p.1, below_old h c from to key (suc p.0.number) le p.2)

@@ -1,8 +1,8 @@
 -- What the loads of a search do to the state, by what they make of the words.
 use Rattle.std.proofs.Common.{◌≡◌, ℕ, zero, suc, ◌<◌, ◌≤◌, length, get_or, Option, Some, Bool, true, false, refl, subst, arith}
 use Rattle.registry_values.specs.Slots.{are_words_of}
-use Rattle.protocol.specs.declared.state.Place.{Place}
-use Rattle.protocol.specs.declared.state.Place.TheVariants.{AtHead, AtNext, AtNumber, AtKind, AtHigh, AtLow, AtValue}
+use Rattle.protocol.specs.declared.state.SearchPlace.{SearchPlace}
+use Rattle.protocol.specs.declared.state.SearchPlace.TheVariants.{AtHead, AtNext, AtNumber, AtKind, AtHigh, AtLow, AtValue}
 use Rattle.protocol.specs.declared.state.Search.{Search}
 use Rattle.protocol.specs.declared.state.Loaded.{Loaded}
 use Rattle.registry_values.specs.declared.slot.Key.{Key}
@@ -18,7 +18,7 @@ compared_is : (s : State) (c : ℕ) (q : Search) (t n l : ℕ) (b : Bool) → co
 compared_is s c q t n l true = refl
 compared_is s c q t n l false = refl
 
-pub loaded_is : (s : State) (c : ℕ) (q : Search) (place : Place) → load_searched s c q place (row_at s.rows) ≡ outcome_of s c q (loaded q place (row_of_place s.rows place))
+pub loaded_is : (s : State) (c : ℕ) (q : Search) (place : SearchPlace) → load_searched s c q place (row_at s.rows) ≡ outcome_of s c q (loaded q place (row_of_place s.rows place))
 loaded_is s c q AtHead = refl
 loaded_is s c q (AtNext t) = refl
 loaded_is s c q (AtNumber t) = refl
@@ -32,10 +32,10 @@ pub loaded_keeps : (s : State) (c : ℕ) (q : Search) (x : Option Loaded) → Ho
 loaded_keeps s c q x on is load = subst (λ (y : Option Loaded). Keeps (outcome_of s c q y)) load (subst Keeps (loaded_is s c q q.place) (record_keeps s c q on is))
 
 pub head_keeps : (s : State) (c : ℕ) (q : Search) → Holds s → search_at s c ≡ Some q → q.place ≡ AtHead → Keeps (link_loaded s c q s.head)
-head_keeps s c q on is at = subst (λ (p : Place). Keeps (load_link s c q p)) at (link_keeps s c q on is)
+head_keeps s c q on is at = subst (λ (p : SearchPlace). Keeps (load_link s c q p)) at (link_keeps s c q on is)
 
 pub next_keeps : (s : State) (c t : ℕ) (q : Search) → Holds s → search_at s c ≡ Some q → q.place ≡ AtNext t → Keeps (link_loaded s c q (get_or s.next t 0))
-next_keeps s c t q on is at = subst (λ (p : Place). Keeps (load_link s c q p)) at (link_keeps s c q on is)
+next_keeps s c t q on is at = subst (λ (p : SearchPlace). Keeps (load_link s c q p)) at (link_keeps s c q on is)
 
 tells_bound : (s : State) (from n x : ℕ) (key : Key) → LinkTells s from key n x → x ≤ length s.slots
 tells_bound s from n zero key tells = omega arith

@@ -4,8 +4,8 @@ use Rattle.std.proofs.lemmas.Bool.{and_parts, ltb-true}
 use Rattle.registry_values.specs.declared.entry.Entry.{Entry}
 use Rattle.registry_values.specs.declared.settings.Settings.{Settings}
 use Rattle.registry_values.specs.declared.slot.Key.{Key}
-use Rattle.protocol.specs.declared.state.Place.{Place}
-use Rattle.protocol.specs.declared.state.Place.TheVariants.{AtHead}
+use Rattle.protocol.specs.declared.state.SearchPlace.{SearchPlace}
+use Rattle.protocol.specs.declared.state.SearchPlace.TheVariants.{AtHead}
 use Rattle.protocol.specs.declared.state.Search.{Search}
 use Rattle.registry_values.specs.declared.slot.Slot.TheVariants.{Vacant, Live, Retired}
 use Rattle.protocol.specs.declared.state.Hand.TheVariants.{Empty, Taking, Giving, Back}
@@ -171,7 +171,7 @@ seeing_refers s c on = record { references = on.references; kept_drivers = on.ke
 searching : (s : State) (c : ℕ) (q : Search) → search_at s c ≡ Some q → Refers s → c < s.seated
 searching s c q at on = search_seated s.settings.cpus s.seated s.begins s.searches s.hands c q at on.seats
 
-pub going_on_refers : (s : State) (c : ℕ) (q : Search) (p : Place) → search_at s c ≡ Some q → Refers s → Refers (going_on s c q p)
+pub going_on_refers : (s : State) (c : ℕ) (q : Search) (p : SearchPlace) → search_at s c ≡ Some q → Refers s → Refers (going_on s c q p)
 going_on_refers s c q p at on = record {
   references = on.references;
   kept_drivers = on.kept_drivers;

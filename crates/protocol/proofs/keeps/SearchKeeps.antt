@@ -6,8 +6,8 @@ use Rattle.registry_values.specs.declared.entry.Entry.{Entry}
 use Rattle.protocol.specs.declared.event.Reply.{Reply}
 use Rattle.protocol.specs.declared.event.Reply.TheVariants.{Done, Word, Found, Missed, Ref, Collected}
 use Rattle.registry_values.specs.declared.slot.Key.{Key}
-use Rattle.protocol.specs.declared.state.Place.{Place}
-use Rattle.protocol.specs.declared.state.Place.TheVariants.{AtHead, AtNext, AtNumber, AtKind, AtHigh, AtLow, AtValue}
+use Rattle.protocol.specs.declared.state.SearchPlace.{SearchPlace}
+use Rattle.protocol.specs.declared.state.SearchPlace.TheVariants.{AtHead, AtNext, AtNumber, AtKind, AtHigh, AtLow, AtValue}
 use Rattle.protocol.specs.declared.state.Search.{Search}
 use Rattle.registry_values.specs.declared.entry.Change.{Change}
 use Rattle.protocol.specs.History.{MayHold, IsLawful}
@@ -64,7 +64,7 @@ seek_keeps s c key on ok =
     (record { begun = (in_.0, in_.1, on.sections.begun c in_.0 in_.1); started = omega arith; stands = tt })
 
 -- a search goes on, at a place that holds
-pub going_on_keeps : (s : State) (c : ℕ) (q : Search) (place : Place) → Holds s → search_at s c ≡ Some q
+pub going_on_keeps : (s : State) (c : ℕ) (q : Search) (place : SearchPlace) → Holds s → search_at s c ≡ Some q
     → PlaceHolds s.history q.start (seen_at s c) q.key place → Holds (going_on s c q place)
 going_on_keeps s c q place on is p =
     let was : SearchHolds s.history (begin_at s c) (seen_at s c) q = on.searches c q is in
@@ -124,7 +124,7 @@ link_loaded_keeps s c n q (suc t) on is tells =
     going_on_keeps (after_seeing s c) c q (AtNumber t) (see_keeps s c on lt) is
     (subst (λ (to : ℕ). PlaceHolds s.history q.start to q.key (AtNumber t)) (sym (get_or-set_same s.seen c (length s.history) 0 cw)) (tells.0, tells.1, tells.2))
 
-load_link_keeps : (s : State) (c : ℕ) (q : Search) (place : Place) → Holds s → search_at s c ≡ Some q
+load_link_keeps : (s : State) (c : ℕ) (q : Search) (place : SearchPlace) → Holds s → search_at s c ≡ Some q
     → PlaceHolds s.history q.start (seen_at s c) q.key place → Keeps (load_link s c q place)
 load_link_keeps s c q AtHead on is p =
     let walk : Walks s c q.start = search_walks s c q on is in
@@ -147,7 +147,7 @@ compared_keeps : (s : State) (c : ℕ) (q : Search) (t n l : ℕ) (b : Bool) →
 compared_keeps s c q t n l true on is right wrong = going_on_keeps s c q (AtValue t n) on is (right refl)
 compared_keeps s c q t n l false on is right wrong = going_on_keeps s c q (AtNext t) on is (wrong refl)
 
-load_searched_keeps : (s : State) (c : ℕ) (q : Search) (place : Place) → Holds s → search_at s c ≡ Some q
+load_searched_keeps : (s : State) (c : ℕ) (q : Search) (place : SearchPlace) → Holds s → search_at s c ≡ Some q
     → PlaceHolds s.history q.start (seen_at s c) q.key place → Keeps (load_searched s c q place (row_at s.rows))
 load_searched_keeps s c q AtHead on is p = tt
 load_searched_keeps s c q (AtNext t) on is p = tt

@@ -13,8 +13,8 @@ use Rattle.protocol.specs.declared.event.Reply.TheVariants.{Done, Word, Found, M
 use Rattle.registry_values.specs.declared.slot.Key.{Key}
 use Rattle.protocol.specs.declared.state.RecordWords.{RecordWords}
 use Rattle.registry_values.specs.declared.slot.Slot.TheVariants.{Live, Retired}
-use Rattle.protocol.specs.declared.state.Place.{Place}
-use Rattle.protocol.specs.declared.state.Place.TheVariants.{AtHead, AtNext, AtNumber, AtKind, AtHigh, AtLow, AtValue}
+use Rattle.protocol.specs.declared.state.SearchPlace.{SearchPlace}
+use Rattle.protocol.specs.declared.state.SearchPlace.TheVariants.{AtHead, AtNext, AtNumber, AtKind, AtHigh, AtLow, AtValue}
 use Rattle.protocol.specs.declared.state.Search.{Search}
 use Rattle.registry_values.specs.Slots.{are_words_of, key_of, slot_at, kind_word}
 use Rattle.protocol.specs.History.{EndsAt, MayHold, IsLookup, IsLawful}
@@ -101,7 +101,7 @@ pub words_stand : (s : State) (c from to t : ℕ) (e : Entry) → Holds s → Wa
 words_stand s c from to t e on walk stands = (on.rows t e (stands_in s c from to t e on walk stands)).0
 
 -- the slot that a walk reads is in range
-pub place_within : (s : State) (c from to : ℕ) (key : Key) (place : Place) → Holds s → Walks s c from → PlaceHolds s.history from to key place → SlotWithin place (length s.slots)
+pub place_within : (s : State) (c from to : ℕ) (key : Key) (place : SearchPlace) → Holds s → Walks s c from → PlaceHolds s.history from to key place → SlotWithin place (length s.slots)
 place_within s c from to key AtHead on walk p = tt
 place_within s c from to key (AtNext t) on walk p = stands_within s c from to t p.0 on walk p.1
 place_within s c from to key (AtNumber t) on walk p = stands_within s c from to t p.0 on walk p.1
@@ -154,7 +154,7 @@ link_tells s c from n zero key on walk (No_more below) = missed_lawful s.history
 link_tells s c from n _ key on walk (One_more e stands lt below) = (e, stands, below, lt, stands_within s c from (length s.history) e.slot e on walk stands)
 
 -- what is left of a walk at a place: it falls with each load
-abbrev pub weight : State → Place → ℕ
+abbrev pub weight : State → SearchPlace → ℕ
 weight s AtHead = 6 * (length s.history + 1)
 weight s (AtNext t) = 6 * (row_at s.rows t).number
 weight s (AtNumber t) = 6 * (row_at s.rows t).number + 5
@@ -164,13 +164,13 @@ weight s (AtLow t n k x) = 6 * (row_at s.rows t).number + 2
 weight s (AtValue t n) = 6 * (row_at s.rows t).number + 1
 
 -- the search q, at another place
-abbrev pub placed : Search → Place → Search
+abbrev pub placed : Search → SearchPlace → Search
 placed q place = record { key = q.key; start = q.start; place = place }
 
 -- What a load leaves of a walk of c for the key of q from `from`, which had n left: a place that holds, with less left, or a lawful answer.
 abbrev pub IsStep : State → ℕ → ℕ → Search → ℕ → Reply → Type 0
 IsStep s c from q n Done = Unit {0}
-IsStep s c from q n (Word w) = (place : Place) × (search_at s c ≡ Some (placed q place)) × PlaceHolds s.history from (seen_at s c) q.key place × (weight s place < n)
+IsStep s c from q n (Word w) = (place : SearchPlace) × (search_at s c ≡ Some (placed q place)) × PlaceHolds s.history from (seen_at s c) q.key place × (weight s place < n)
 IsStep s c from q n (Found e) = IsLawful s.history from (seen_at s c) q.key (Some e)
 IsStep s c from q n Missed = IsLawful s.history from (seen_at s c) q.key None
 IsStep s c from q n (Ref id) = Unit {0}
@@ -189,7 +189,7 @@ pub searching_within : (s : State) (c : ℕ) (q : Search) → Holds s → search
 searching_within s c q on is = omega (arith, within_some s.searches c q is, on.shape.searches)
 
 -- the search of c is q at another place now
-search_placed : (s : State) (c : ℕ) (q : Search) (place : Place) → search_at s c ≡ Some q → search_at (going_on s c q place) c ≡ Some (placed q place)
+search_placed : (s : State) (c : ℕ) (q : Search) (place : SearchPlace) → search_at s c ≡ Some q → search_at (going_on s c q place) c ≡ Some (placed q place)
 search_placed s c q place is = get_or-set_same s.searches c (Some (placed q place)) None (within_some s.searches c q is)
 
 link_steps : (s : State) (c from : ℕ) (q : Search) (n x : ℕ) → Holds s → Walks s c from → search_at s c ≡ Some q → LinkTells s from q.key n x → Steps c from q (6 * n) (link_loaded s c q x)
@@ -204,7 +204,7 @@ link_steps s c from q n (suc t) on walk is tells =
     )
 
 -- LoadLink: the walk holds at the new place, and a miss is lawful.
-pub load_link_steps : (s : State) (c from : ℕ) (q : Search) (place : Place) → Holds s → Walks s c from → search_at s c ≡ Some q
+pub load_link_steps : (s : State) (c from : ℕ) (q : Search) (place : SearchPlace) → Holds s → Walks s c from → search_at s c ≡ Some q
     → PlaceHolds s.history from (seen_at s c) q.key place → Steps c from q (weight s place) (load_link s c q place)
 load_link_steps s c from q AtHead on walk is p =
     subst (λ (n : ℕ). Steps c from q (6 * n) (link_loaded s c q s.head)) (next_number (length s.history))
@@ -265,7 +265,7 @@ found_is s c from to t n q e on walk stands number same =
     λ i. record { number = sym number i; slot = stands.at i; rec = record { kind = (sym same i).kind; name = (sym same i).name; value = (sym row i).value } }
 
 -- the place to which the load of a record word leads
-abbrev pub GoesOn : State → ℕ → ℕ → Key → Place → Type 0
+abbrev pub GoesOn : State → ℕ → ℕ → Key → SearchPlace → Type 0
 GoesOn s from to key AtHead = Unit {0}
 GoesOn s from to key (AtNext t) = Unit {0}
 GoesOn s from to key (AtNumber t) = PlaceHolds s.history from to key (AtKind t (row_at s.rows t).number)
@@ -275,7 +275,7 @@ GoesOn s from to key (AtLow t n k x) = ((are_words_of key k x (row_at s.rows t).
     × ((are_words_of key k x (row_at s.rows t).low ≡ false) → PlaceHolds s.history from to key (AtNext t))
 GoesOn s from to key (AtValue t n) = Unit {0}
 
-pub goes_on : (s : State) (c from to : ℕ) (key : Key) (place : Place) → Holds s → Walks s c from → PlaceHolds s.history from to key place → GoesOn s from to key place
+pub goes_on : (s : State) (c from to : ℕ) (key : Key) (place : SearchPlace) → Holds s → Walks s c from → PlaceHolds s.history from to key place → GoesOn s from to key place
 goes_on s c from to key AtHead on walk p = tt
 goes_on s c from to key (AtNext t) on walk p = tt
 goes_on s c from to key (AtNumber t) on walk p =
@@ -307,7 +307,7 @@ compared_steps s c from q t n l left true is weighs right wrong = (AtValue t n, 
 compared_steps s c from q t n l left false is weighs right wrong = (AtNext t, search_placed s c q (AtNext t) is, wrong refl, omega arith)
 
 -- LoadRecord: the walk holds at the new place, and what is found is lawful.
-pub load_searched_steps : (s : State) (c from : ℕ) (q : Search) (place : Place) → Holds s → Walks s c from → from ≤ seen_at s c → search_at s c ≡ Some q
+pub load_searched_steps : (s : State) (c from : ℕ) (q : Search) (place : SearchPlace) → Holds s → Walks s c from → from ≤ seen_at s c → search_at s c ≡ Some q
     → PlaceHolds s.history from (seen_at s c) q.key place → Steps c from q (weight s place) (load_searched s c q place (row_at s.rows))
 load_searched_steps s c from q AtHead on walk le is p = tt
 load_searched_steps s c from q (AtNext t) on walk le is p = tt
@@ -331,7 +331,7 @@ pub record Finds (s : State) (c : ℕ) (q : Search) : Type 0 where
 -- what a load leaves of it: less of it, or the answer of a lookup over the whole history
 abbrev pub IsFindStep : State → ℕ → Search → ℕ → Reply → Type 0
 IsFindStep s c q n Done = Unit {0}
-IsFindStep s c q n (Word w) = (place : Place) × Finds s c (placed q place) × (weight s place < n)
+IsFindStep s c q n (Word w) = (place : SearchPlace) × Finds s c (placed q place) × (weight s place < n)
 IsFindStep s c q n (Found e) = IsLookup s.history (length s.history) q.key (Some e)
 IsFindStep s c q n Missed = IsLookup s.history (length s.history) q.key None
 IsFindStep s c q n (Ref id) = Unit {0}
@@ -372,7 +372,7 @@ loaded_sees : (s : State) (c : ℕ) (q : Search) (x : ℕ) → Holds s → searc
 loaded_sees s c q zero on is = (refl, seen_now s c on (searching_within s c q on is))
 loaded_sees s c q (suc t) on is = (refl, seen_now s c on (searching_within s c q on is))
 
-link_sees : (s : State) (c : ℕ) (q : Search) (place : Place) → Holds s → search_at s c ≡ Some q → Sees s c (load_link s c q place)
+link_sees : (s : State) (c : ℕ) (q : Search) (place : SearchPlace) → Holds s → search_at s c ≡ Some q → Sees s c (load_link s c q place)
 link_sees s c q AtHead on is = loaded_sees s c q s.head on is
 link_sees s c q (AtNext t) on is = loaded_sees s c q (get_or s.next t 0) on is
 link_sees s c q (AtNumber t) on is = tt
@@ -385,8 +385,8 @@ compared_sees : (s : State) (c : ℕ) (q : Search) (t n l : ℕ) (b : Bool) → 
 compared_sees s c q t n l true all = (refl, all)
 compared_sees s c q t n l false all = (refl, all)
 
-record_sees : (s : State) (c : ℕ) (q : Search) (place : Place) → (place ≡ AtHead) ⊎ (seen_at s c ≡ length s.history) → Sees s c (load_searched s c q place (row_at s.rows))
-record_sees s c q place (inl head) = subst (λ (p : Place). Sees s c (load_searched s c q p (row_at s.rows))) (sym head) tt
+record_sees : (s : State) (c : ℕ) (q : Search) (place : SearchPlace) → (place ≡ AtHead) ⊎ (seen_at s c ≡ length s.history) → Sees s c (load_searched s c q place (row_at s.rows))
+record_sees s c q place (inl head) = subst (λ (p : SearchPlace). Sees s c (load_searched s c q p (row_at s.rows))) (sym head) tt
 record_sees s c q AtHead (inr all) = tt
 record_sees s c q (AtNext t) (inr all) = tt
 record_sees s c q (AtNumber t) (inr all) = (refl, all)
@@ -409,7 +409,7 @@ find_link s c q on finds = find_steps s c q (weight s q.place) (load_link s c q 
 
 pub find_record : (s : State) (c : ℕ) (q : Search) → Holds s → Finds s c q → FindSteps c q (weight s q.place) (load_searched s c q q.place (row_at s.rows))
 find_record s c q on finds = ⊎_elim
-    (λ (head : q.place ≡ AtHead). subst (λ (p : Place). FindSteps c q (weight s p) (load_searched s c q p (row_at s.rows))) (sym head) tt)
+    (λ (head : q.place ≡ AtHead). subst (λ (p : SearchPlace). FindSteps c q (weight s p) (load_searched s c q p (row_at s.rows))) (sym head) tt)
     (λ (all : seen_at s c ≡ length s.history). find_steps s c q (weight s q.place) (load_searched s c q q.place (row_at s.rows)) (record_sees s c q q.place finds.seen)
     (load_searched_steps s c (length s.history) q q.place on (walks_now s c q on finds.searching) (omega arith) finds.searching finds.stands))
     finds.seen

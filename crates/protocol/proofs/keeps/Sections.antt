@@ -10,8 +10,8 @@ use Rattle.registry_values.specs.declared.slot.Slot.{Slot}
 use Rattle.registry_values.specs.declared.slot.Slot.TheVariants.{Retired}
 use Rattle.registry_values.specs.declared.mark.Mark.{Mark}
 use Rattle.registry_values.specs.declared.slot.Key.{Key}
-use Rattle.protocol.specs.declared.state.Place.{Place}
-use Rattle.protocol.specs.declared.state.Place.TheVariants.{AtHead, AtNext, AtNumber, AtKind, AtHigh, AtLow, AtValue}
+use Rattle.protocol.specs.declared.state.SearchPlace.{SearchPlace}
+use Rattle.protocol.specs.declared.state.SearchPlace.TheVariants.{AtHead, AtNext, AtNumber, AtKind, AtHigh, AtLow, AtValue}
 use Rattle.protocol.specs.declared.state.Search.{Search}
 use Rattle.protocol.specs.declared.state.Hand.{Hand}
 use Rattle.registry_values.specs.Slots.{slot_at}
@@ -238,7 +238,7 @@ sections_see z h section begins depths seen c cs s = record {
 pub stands_later : (h : List Change) (from to later t : ℕ) (e : Entry) → to ≤ later → StandsOn h from to t e → StandsOn h from later t e
 stands_later h from to later t e le on = record { attached = on.attached; at = on.at; begun = omega (arith, on.begun); unended = on.unended }
 
-pub place_later : (h : List Change) (from to later : ℕ) (key : Key) (place : Place) → to ≤ later → PlaceHolds h from to key place → PlaceHolds h from later key place
+pub place_later : (h : List Change) (from to later : ℕ) (key : Key) (place : SearchPlace) → to ≤ later → PlaceHolds h from to key place → PlaceHolds h from later key place
 place_later h from to later key AtHead le p = tt
 place_later h from to later key (AtNext t) le p = (p.0, stands_later h from to later t p.0 le p.1, all_below_later h from to later key p.0.number le p.2)
 place_later h from to later key (AtNumber t) le p = (p.0, stands_later h from to later t p.0 le p.1, all_below_later h from to later key (suc p.0.number) le p.2)

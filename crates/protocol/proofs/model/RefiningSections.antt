@@ -5,8 +5,8 @@ use Rattle.registry_values.specs.Slots.{are_words_of}
 use Rattle.registry_values.specs.declared.entry.Entry.{Entry}
 use Rattle.registry_values.specs.declared.slot.Key.{Key}
 use Rattle.protocol.specs.declared.state.RecordWords.{RecordWords}
-use Rattle.protocol.specs.declared.state.Place.{Place}
-use Rattle.protocol.specs.declared.state.Place.TheVariants.{AtHead, AtNext, AtNumber, AtKind, AtHigh, AtLow, AtValue}
+use Rattle.protocol.specs.declared.state.SearchPlace.{SearchPlace}
+use Rattle.protocol.specs.declared.state.SearchPlace.TheVariants.{AtHead, AtNext, AtNumber, AtKind, AtHigh, AtLow, AtValue}
 use Rattle.protocol.specs.declared.state.Search.{Search}
 use Rattle.protocol.specs.History.{IsLawful}
 use Rattle.protocol.specs.State.{State, section_at, begin_at, depth_at, seen_at, search_at, row_at}
@@ -122,7 +122,7 @@ pub over_refines : (s : State) (c : ℕ) (q : Search) (answer : Option Entry) �
 over_refines s c q answer on is lawful = Goes_on _ _ Stays (over_step s c q answer (omega (arith, within_some s.searches c q is, on.shape.searches, on.shape.found)) is lawful)
 
 -- a search that goes on shows nothing
-going_on_alike : (s : State) (c : ℕ) (q : Search) (place : Place) → search_at s c ≡ Some q → Alike (picture s) (picture (going_on s c q place))
+going_on_alike : (s : State) (c : ℕ) (q : Search) (place : SearchPlace) → search_at s c ≡ Some q → Alike (picture s) (picture (going_on s c q place))
 going_on_alike s c q place is = record {
   history = refl;
   sections = λ j. refl;
@@ -135,7 +135,7 @@ going_on_alike s c q place is = record {
   keeps = λ t. refl;
 }
 
-pub going_on_refines : (s : State) (c : ℕ) (q : Search) (place : Place) → search_at s c ≡ Some q → IsModelRun (picture s) (picture (going_on s c q place))
+pub going_on_refines : (s : State) (c : ℕ) (q : Search) (place : SearchPlace) → search_at s c ≡ Some q → IsModelRun (picture s) (picture (going_on s c q place))
 going_on_refines s c q place is = no_step (picture s) (picture (going_on s c q place)) (going_on_alike s c q place is)
 
 -- The loads of a search.
@@ -154,7 +154,7 @@ link_loaded_makes : (s : State) (c : ℕ) (q : Search) (x : ℕ) → Holds s →
 link_loaded_makes s c q zero on is lawful = λ now. missed_refines s c q on is lawful
 link_loaded_makes s c q (suc t) on is lawful = λ now. followed_refines s c q t on is
 
-load_link_makes : (s : State) (c : ℕ) (q : Search) (place : Place) → Holds s → search_at s c ≡ Some q → Answers c q (load_link s c q place) → Makes (picture s) (load_link s c q place)
+load_link_makes : (s : State) (c : ℕ) (q : Search) (place : SearchPlace) → Holds s → search_at s c ≡ Some q → Answers c q (load_link s c q place) → Makes (picture s) (load_link s c q place)
 load_link_makes s c q AtHead on is lawful = link_loaded_makes s c q s.head on is lawful
 load_link_makes s c q (AtNext t) on is lawful = link_loaded_makes s c q (get_or s.next t 0) on is lawful
 load_link_makes s c q (AtNumber t) on is lawful = tt
@@ -170,7 +170,7 @@ compared_makes : (s : State) (c : ℕ) (q : Search) (t n l : ℕ) (b : Bool) →
 compared_makes s c q t n l true is = λ now. going_on_refines s c q (AtValue t n) is
 compared_makes s c q t n l false is = λ now. going_on_refines s c q (AtNext t) is
 
-load_searched_makes : (s : State) (c : ℕ) (q : Search) (place : Place) (row : ℕ → RecordWords) → Holds s → search_at s c ≡ Some q → Answers c q (load_searched s c q place row) → Makes (picture s) (load_searched s c q place row)
+load_searched_makes : (s : State) (c : ℕ) (q : Search) (place : SearchPlace) (row : ℕ → RecordWords) → Holds s → search_at s c ≡ Some q → Answers c q (load_searched s c q place row) → Makes (picture s) (load_searched s c q place row)
 load_searched_makes s c q AtHead row on is lawful = tt
 load_searched_makes s c q (AtNext t) row on is lawful = tt
 load_searched_makes s c q (AtNumber t) row on is lawful = λ now. going_on_refines s c q (AtKind t (row t).number) is

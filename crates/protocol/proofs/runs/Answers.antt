@@ -9,7 +9,7 @@ use Rattle.protocol.specs.declared.event.Event.TheVariants.{Seek}
 use Rattle.protocol.specs.declared.event.Reply.{Reply}
 use Rattle.protocol.specs.declared.event.Reply.TheVariants.{Done, Word, Found, Missed, Ref, Collected}
 use Rattle.registry_values.specs.declared.slot.Key.{Key}
-use Rattle.protocol.specs.declared.state.Place.{Place}
+use Rattle.protocol.specs.declared.state.SearchPlace.{SearchPlace}
 use Rattle.protocol.specs.declared.state.Search.{Search}
 use Rattle.protocol.specs.History.{IsLawful}
 use Rattle.protocol.specs.State.{State, opening, seen_at, search_at}
@@ -74,7 +74,7 @@ on_begun s n e c j q old under on is = ⊎_elim
     (λ (here : (c ≡ j) × (get_or (set s.searches j None) c None ≡ None)). absurd (none-some q (sym here.1 ∙ now)))
     (λ (off : ((c ≡ j → ⊥) ⊎ (length s.searches ≤ j)) × (get_or (set s.searches j None) c None ≡ get_or s.searches c None)). inl (q, sym off.1 ∙ now, refl, refl))
     (written_cases None s.searches j None c))
-    (λ (at : (p : Place) × (n.searches ≡ set s.searches j (Some (record { key = old.key; start = old.start; place = p })))).
+    (λ (at : (p : SearchPlace) × (n.searches ≡ set s.searches j (Some (record { key = old.key; start = old.start; place = p })))).
     let new : Search = record { key = old.key; start = old.start; place = at.0 } in
     let now : get_or (set s.searches j (Some new)) c None ≡ Some q = sym (ap (λ (xs : List (Option Search)). get_or xs c None) at.1) ∙ is in
     ⊎_elim

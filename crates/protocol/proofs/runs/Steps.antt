@@ -17,8 +17,8 @@ use Rattle.protocol.specs.declared.state.Hand.{Hand}
 use Rattle.protocol.specs.declared.state.Hand.TheVariants.{Empty, Taking, Giving, Back}
 use Rattle.protocol.specs.declared.state.Due.{Due}
 use Rattle.protocol.specs.declared.state.Due.TheVariants.{Rest, Snapshots, Adding, Subtracting}
-use Rattle.protocol.specs.declared.state.Place.{Place}
-use Rattle.protocol.specs.declared.state.Place.TheVariants.{AtHead, AtNext, AtNumber, AtKind, AtHigh, AtLow, AtValue}
+use Rattle.protocol.specs.declared.state.SearchPlace.{SearchPlace}
+use Rattle.protocol.specs.declared.state.SearchPlace.TheVariants.{AtHead, AtNext, AtNumber, AtKind, AtHigh, AtLow, AtValue}
 use Rattle.protocol.specs.declared.state.Search.{Search}
 use Rattle.protocol.specs.History.{after_change}
 use Rattle.protocol.specs.State.{State, search_at, found_at, hand_at, row_at, count_at, kept_at, local_at}
@@ -43,7 +43,7 @@ pub record Leaves (s : State) (o : Outcome) : Type 0 where
 
 -- the search of c is over, or is at another place
 abbrev pub IsOn : State → ℕ → Search → State → Type 0
-IsOn s c q t = (t.searches ≡ set s.searches c None) ⊎ ((p : Place) × (t.searches ≡ set s.searches c (Some (record { key = q.key; start = q.start; place = p }))))
+IsOn s c q t = (t.searches ≡ set s.searches c None) ⊎ ((p : SearchPlace) × (t.searches ≡ set s.searches c (Some (record { key = q.key; start = q.start; place = p }))))
 
 -- a load by the search q of c
 pub record Loads (s : State) (c : ℕ) (q : Search) (t : State) : Type 0 where
@@ -104,14 +104,14 @@ load_sort s t e c q r of is loads answers = Searched e c q (record { state = t; 
 over_loads : (s : State) (c : ℕ) (q : Search) (answer : Option Entry) → Loads s c q (Events.search_over s c answer)
 over_loads s c q answer = record { history = refl; slots = refl; keeps = refl; section = refl; begins = refl; seen = inl refl; searches = inl refl }
 
-on_loads : (s : State) (c : ℕ) (q : Search) (p : Place) → Loads s c q (Events.going_on s c q p)
+on_loads : (s : State) (c : ℕ) (q : Search) (p : SearchPlace) → Loads s c q (Events.going_on s c q p)
 on_loads s c q p = record { history = refl; slots = refl; keeps = refl; section = refl; begins = refl; seen = inl refl; searches = inr (p, refl) }
 
 link_loaded_sort : (s : State) (c : ℕ) (q : Search) (x : ℕ) → search_at s c ≡ Some q → Answers c q (link_loaded s c q x) → Sort s (LoadLink c) (link_loaded s c q x)
 link_loaded_sort s c q zero is answers = load_sort s _ (LoadLink c) c q _ (inl refl) is (record { history = refl; slots = refl; keeps = refl; section = refl; begins = refl; seen = inr refl; searches = inl refl }) answers
 link_loaded_sort s c q (suc t) is answers = load_sort s _ (LoadLink c) c q _ (inl refl) is (record { history = refl; slots = refl; keeps = refl; section = refl; begins = refl; seen = inr refl; searches = inr (AtNumber t, refl) }) answers
 
-load_link_sort : (s : State) (c : ℕ) (q : Search) (place : Place) → search_at s c ≡ Some q → Answers c q (load_link s c q place) → Sort s (LoadLink c) (load_link s c q place)
+load_link_sort : (s : State) (c : ℕ) (q : Search) (place : SearchPlace) → search_at s c ≡ Some q → Answers c q (load_link s c q place) → Sort s (LoadLink c) (load_link s c q place)
 load_link_sort s c q AtHead is answers = link_loaded_sort s c q s.head is answers
 load_link_sort s c q (AtNext t) is answers = link_loaded_sort s c q (get_or s.next t 0) is answers
 load_link_sort s c q (AtNumber t) is answers = Refused (LoadLink c)
@@ -124,7 +124,7 @@ compared_sort : (s : State) (c : ℕ) (q : Search) (t n l : ℕ) (b : Bool) → 
 compared_sort s c q t n l true is answers = load_sort s _ (LoadRecord (OfSearch c)) c q _ (inr refl) is (on_loads s c q (AtValue t n)) answers
 compared_sort s c q t n l false is answers = load_sort s _ (LoadRecord (OfSearch c)) c q _ (inr refl) is (on_loads s c q (AtNext t)) answers
 
-searched_sort : (s : State) (c : ℕ) (q : Search) (place : Place) → search_at s c ≡ Some q → Answers c q (load_searched s c q place (row_at s.rows)) → Sort s (LoadRecord (OfSearch c)) (load_searched s c q place (row_at s.rows))
+searched_sort : (s : State) (c : ℕ) (q : Search) (place : SearchPlace) → search_at s c ≡ Some q → Answers c q (load_searched s c q place (row_at s.rows)) → Sort s (LoadRecord (OfSearch c)) (load_searched s c q place (row_at s.rows))
 searched_sort s c q AtHead is answers = Refused (LoadRecord (OfSearch c))
 searched_sort s c q (AtNext t) is answers = Refused (LoadRecord (OfSearch c))
 searched_sort s c q (AtNumber t) is answers = load_sort s _ (LoadRecord (OfSearch c)) c q _ (inr refl) is (on_loads s c q (AtKind t (row_at s.rows t).number)) answers

@@ -33,6 +33,7 @@ impl Core {
         ensures rest { at_rest self.new.due ≡ true }
         ensures ready { (d : ℕ) → may_act self.old d ≡ true → may_act self.new d ≡ true }
     {
+        // For the proof alone: reading a field opens what the type keeps.
         let _ = &self.settings;
         let Some(t) = self.retired_slot(number) else {
             return Err(Refusal::NotRetired);
@@ -102,6 +103,7 @@ impl Core {
         ensures marks { MarksPass self.old.marks self.new.marks t }
         ensures passed { result ≡ (mark_at self.new.marks t c).passed }
     {
+        // For the proof alone: reading a field opens what the type keeps.
         let _ = &self.settings;
         if self.mark_at(t, c).passed {
             return true;
@@ -143,6 +145,7 @@ impl Core {
         ensures marks { MarksGrow self.old.marks self.new.marks t }
         ensures clear { result ≡ (mark_at self.new.marks t c).clear }
     {
+        // For the proof alone: reading a field opens what the type keeps.
         let _ = &self.settings;
         if self.mark_at(t, c).clear {
             return true;
@@ -178,6 +181,7 @@ impl Core {
         ensures gathered { Gathers self.old self.new t }
         ensures collected { (mark_at self.new.marks t c).collected ≡ true }
     {
+        // For the proof alone: reading a field opens what the type keeps.
         let _ = &self.settings;
         if self.mark_at(t, c).collected {
             return;
@@ -198,6 +202,7 @@ impl Core {
         ensures after { Settles self.old self.new t result }
         ensures emptied { (c : ℕ) → count_at self.old.counts c t ≡ 0 }
     {
+        // For the proof alone: reading a field opens what the type keeps.
         let _ = &self.settings;
         let held = self.total_at(t) - BIAS;
         let stage = settled(held, t);
@@ -214,6 +219,7 @@ impl Core {
         requires drained { is_drained self.old t ≡ true }
         ensures { Empties self.old self.new t }
     {
+        // For the proof alone: reading a field opens what the type keeps.
         let _ = &self.settings;
         if self.kept_at(t).is_some() {
             self.make(Event::KeptSub(t));

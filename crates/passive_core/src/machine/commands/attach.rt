@@ -46,6 +46,7 @@ impl Core {
         ensures rest { at_rest self.new.due ≡ true }
         ensures ready { (d : ℕ) → may_act self.old d ≡ true → may_act self.new d ≡ true }
     {
+        // For the proof alone: reading a field opens what the type keeps.
         let _ = &self.settings;
         let given = self.given_entry(rec);
         let entry = attach_answer(self.inside(c), is_iface(rec.kind), given)?;
@@ -83,6 +84,7 @@ impl Core {
         ensures rest { at_rest self.new.due ≡ true }
         ensures ready { (d : ℕ) → may_act self.old d ≡ true → may_act self.new d ≡ true }
     {
+        // For the proof alone: reading a field opens what the type keeps.
         let _ = &self.settings;
         let given = self.given_entry(rec);
         let entry = attach_answer(self.inside(c), !self.is_to_driver(id), given)?;

@@ -49,6 +49,7 @@ impl Core {
         requires occupied { (e : Entry) × IsIn e (slot_at self.now.slots t) }
         ensures { IfOk result (λ b. tally_shown b ≡ tally_of self.now number t) }
     {
+        // For the proof alone: reading a field opens what the type keeps.
         let _ = &self.settings;
         let locals = self.locals_at(t)?;
         let total = less_bias(self.total_at(t));

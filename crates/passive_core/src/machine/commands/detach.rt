@@ -31,6 +31,7 @@ impl Core {
         ensures rest { at_rest self.new.due ≡ true }
         ensures ready { (d : ℕ) → may_act self.old d ≡ true → may_act self.new d ≡ true }
     {
+        // For the proof alone: reading a field opens what the type keeps.
         let _ = &self.due;
         let key = Key { kind, name: *name };
         let entry = detach_answer(self.inside(c), self.live_entry(key))?;
@@ -46,6 +47,7 @@ impl Core {
         ensures answer { IsLookupNow self.now key result }
         ensures live { IfSome result (λ e. slot_at self.now.slots e.slot ≡ Live e) }
     {
+        // For the proof alone: reading a field opens what the type keeps.
         let _ = &self.due;
         let t = self.live_place(key)?;
         match self.slot_at(t) {

@@ -9,7 +9,7 @@ ghost use Rattle.protocol.specs.Invariant.{Holds};
 ghost use Rattle.protocol.specs.State.{at_rest, search_at};
 
 use crate::machine::Core;
-use protocol::{Event, Place, RecordOf, Reply, Search};
+use protocol::{Event, RecordOf, Reply, Search, SearchPlace};
 use registry_values::{Entry, Kind, Name};
 
 impl Core {
@@ -26,6 +26,7 @@ impl Core {
         ensures rest { at_rest self.new.due ≡ true }
         ensures ready { (d : ℕ) → may_act self.old d ≡ true → may_act self.new d ≡ true }
     {
+        // For the proof alone: reading a field opens what the type keeps.
         let _ = &self.due;
         self.seat_all();
         self.make(Event::Seek(c, kind, *name));
@@ -44,11 +45,12 @@ impl Core {
         ensures made { next_load self.old c (search_at self.old c) ≡ Some (record { state = self.new; reply = result }) }
         ensures holds { Holds self.old }
     {
+        // For the proof alone: reading a field opens what the type keeps.
         let _ = &self.due;
         match self.search_at(c) {
             Some(
                 Search {
-                    place: Place::AtHead | Place::AtNext(_),
+                    place: SearchPlace::AtHead | SearchPlace::AtNext(_),
                     ..
                 },
             ) => self.make(Event::LoadLink(c)),

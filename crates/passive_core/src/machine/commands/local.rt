@@ -30,6 +30,7 @@ impl Core {
         ensures rest { at_rest self.new.due ≡ true }
         ensures ready { (d : ℕ) → may_act self.old d ≡ true → may_act self.new d ≡ true }
     {
+        // For the proof alone: reading a field opens what the type keeps.
         let _ = &self.settings;
         let Some(found) = self.found_at(c) else {
             return Err(Refusal::NothingFound);
@@ -123,7 +124,9 @@ impl Core {
         ensures counted { IsTrue result → self.new ≡ with_count_less self.old c id (local_slot self.old id) }
         ensures kept { result ≡ false → self.new ≡ self.old }
     {
+        // For the proof alone: reading a field opens what the type keeps.
         let _ = &self.settings;
+        // For the proof alone: `number` says in its contract which entry the live reference is to.
         let _number = self.number(id);
         self.make(Event::JoinRef(c, id));
         match self.make(Event::CountDown(c)) {
@@ -143,6 +146,7 @@ impl Core {
         requires collected { is_counting self.old c (local_slot self.old id) ≡ false }
         ensures { self.new ≡ with_total_less self.old id (local_slot self.old id) }
     {
+        // For the proof alone: reading a field opens what the type keeps.
         let _ = &self.settings;
         let number = self.number(id);
         let Some(t) = self.slot_of(number) else {
@@ -158,7 +162,9 @@ impl Core {
         ensures record { (n : ℕ) → standing (local_at self.old.locals id) ≡ Some n → IsRecordOf self.old.history n result }
         ensures same { self.new ≡ self.old }
     {
+        // For the proof alone: reading a field opens what the type keeps.
         let _ = &self.settings;
+        // For the proof alone: `number` says in its contract which entry the live reference is to.
         let _number = self.number(id);
         let kind = self.load_word(RecordOf::Local(id, 1));
         let high = self.load_word(RecordOf::Local(id, 2));

@@ -159,6 +159,7 @@ impl Core {
         ensures ready { (d : ℕ) → may_act self.old d ≡ true → may_act self.new d ≡ true }
         ensures sound { Holds self.old }
     {
+        // For the proof alone: reading a field opens what the type keeps.
         let _ = &self.settings;
         self.seat_all();
     }
@@ -170,6 +171,7 @@ impl Core {
         ensures record { IsRecordOf self.old.history number result }
         ensures same { self.new ≡ self.old }
     {
+        // For the proof alone: reading a field opens what the type keeps.
         let _ = &self.settings;
         let kind = self.load_word(RecordOf::Passive(c, number, 1));
         let high = self.load_word(RecordOf::Passive(c, number, 2));

@@ -30,6 +30,7 @@ impl Core {
         ensures rest { at_rest self.new.due ≡ true }
         ensures ready { (d : ℕ) → may_act self.old d ≡ true → may_act self.new d ≡ true }
     {
+        // For the proof alone: reading a field opens what the type keeps.
         let _ = &self.settings;
         if self.inside(c) {
             return Err(Refusal::Inside);
@@ -120,6 +121,7 @@ impl Core {
         ensures seen { result ≡ not (is_inside self.old c) }
         ensures same { self.new ≡ self.old }
     {
+        // For the proof alone: reading a field opens what the type keeps.
         let _ = &self.settings;
         if before {
             return true;
@@ -160,6 +162,7 @@ impl Core {
         ensures only { OnlyPasses self.old self.new }
         ensures passed { (t : ℕ) → is_retired (slot_at self.old.slots t) ≡ true → number ≡ retired_number (slot_at self.old.slots t) → AllPassed self.new t }
     {
+        // For the proof alone: reading a field opens what the type keeps.
         let _ = &self.settings;
         let Some(number) = number else {
             return;

@@ -75,6 +75,7 @@ impl Core {
         ensures rest { at_rest self.new.due ≡ true }
         ensures ready { (d : ℕ) → may_act self.old d ≡ true → may_act self.new d ≡ true }
     {
+        // For the proof alone: reading a field opens what the type keeps.
         let _ = &self.depths;
         let depth = self.depth(c);
         if depth == 1 {
@@ -102,6 +103,7 @@ impl Core {
         ensures idle { is_idle self.new c ≡ true }
         ensures ready { (d : ℕ) → may_act self.old d ≡ true → may_act self.new d ≡ true }
     {
+        // For the proof alone: reading a field opens what the type keeps.
         let _ = &self.seated;
         self.seat_all();
     }

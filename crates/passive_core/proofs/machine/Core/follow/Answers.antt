@@ -5,7 +5,7 @@ use Rattle.protocol.specs.declared.event.Reply.TheVariants.{Word}
 use Rattle.passive_core.proofs.machine.Core.follow.Goals as goal
 use Rattle.protocol.specs.Events.{link_loaded, going_on, after_seeing, taken}
 use Rattle.protocol.specs.Taken.{Keeps}
-use Rattle.protocol.specs.declared.state.Place.TheVariants.{AtNumber}
+use Rattle.protocol.specs.declared.state.SearchPlace.TheVariants.{AtNumber}
 
 pub invariant_of-self-else-link-eq0 : goal.invariant_of-self-else-link-eq0
 invariant_of-self-else-link-eq0 c =

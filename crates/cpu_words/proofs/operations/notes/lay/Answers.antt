@@ -1,0 +1,19 @@
+use Rattle.std.proofs.Common.{rules, arith, ap, ◌∙◌, ℕ}
+use Rattle.atomic_table.specs.Table.{Me}
+use Rattle.cpu_words.specs.declared.view.Logged.{Logged}
+use Rattle.cpu_words.specs.declared.view.CpuView.{CpuView}
+use Rattle.cpu_words.specs.Views.{Seated}
+use Rattle.cpu_words.proofs.seats.Notes.{cpu_joins}
+use Rattle.cpu_words.proofs.operations.notes.lay.Goals as goal
+
+pub join_seat-requires : goal.join_seat-requires
+join_seat-requires c = (
+  search rules,
+  search rules,
+  search rules,
+  let w = c.words.invariant.1 in omega arith,
+  cpu_joins _ _ _ _ _ (ap (λ (m : Me ℕ Logged). m.0) c.seat.invariant) (ap (λ (m : Me ℕ Logged). m.0) c.note.invariant),
+)
+
+pub returns-clause-log : goal.returns-clause-log
+returns-clause-log c = ap (λ (m : Me ℕ Logged). m.0.log) c.join_seat.ensures.2 ∙ ap (λ (s : Seated CpuView). s.log) c.seat.view_is

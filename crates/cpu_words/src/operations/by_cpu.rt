@@ -1,0 +1,99 @@
+//! Steps of a CPU's seat.
+
+ghost use Rattle.std.specs.Prelude.{◌≡◌, ℕ, ◌<◌, ◌++◌, ◌+◌, ◌-◌, ◌%◌, ◌^◌};
+ghost use prog.Atomic.{either};
+ghost use Rattle.std.specs.Prelude.{◌==◌};
+ghost use Rattle.cpu_words.specs.Logs.{the_cpu, AreBy};
+ghost use Rattle.cpu_words.specs.Steps.{CpuMay};
+
+use crate::law::{CpuPlay, CpuTale, Words};
+use crate::seat::CpuSeat;
+use protocol::Event;
+
+/// Adds to a word. It answers the word as it was.
+pub(crate) fn add<T: CpuTale>(
+    words: &Words,
+    seat: &mut CpuSeat,
+    word: usize,
+    k: u64,
+    event: Event,
+) -> u64
+    requires table { seat.old.table ≡ words.now.table }
+    requires place { word < 944 }
+    requires own { (n : ℕ) → AreBy (the_cpu seat.old.view.id) (T.does seat.old.view n) }
+    requires may { CpuMay words.now.settings seat.old.view word (λ n. (n + k) % 2 ^ 64) (T.does seat.old.view) T.tells }
+    ensures table { seat.new.table ≡ seat.old.table }
+    ensures told { T.tells seat.old.view result seat.new.view }
+    ensures log { seat.new.log ≡ seat.old.log ++ T.does seat.old.view result }
+{
+    // The contract alone speaks of the event.
+    let _event = event;
+    words
+        .table
+        .shared
+        .fetch_add::<CpuPlay<T>>(&mut seat.token, word, k)
+}
+
+/// Subtracts from a word. It answers the word as it was.
+pub(crate) fn subtract<T: CpuTale>(
+    words: &Words,
+    seat: &mut CpuSeat,
+    word: usize,
+    k: u64,
+    event: Event,
+) -> u64
+    requires table { seat.old.table ≡ words.now.table }
+    requires place { word < 944 }
+    requires own { (n : ℕ) → AreBy (the_cpu seat.old.view.id) (T.does seat.old.view n) }
+    requires may { CpuMay words.now.settings seat.old.view word (λ n. (n + (2 ^ 64 - k)) % 2 ^ 64) (T.does seat.old.view) T.tells }
+    ensures table { seat.new.table ≡ seat.old.table }
+    ensures told { T.tells seat.old.view result seat.new.view }
+    ensures log { seat.new.log ≡ seat.old.log ++ T.does seat.old.view result }
+{
+    // The contract alone speaks of the event.
+    let _event = event;
+    words
+        .table
+        .shared
+        .fetch_sub::<CpuPlay<T>>(&mut seat.token, word, k)
+}
+
+/// Loads a word.
+pub(crate) fn load<T: CpuTale>(words: &Words, seat: &mut CpuSeat, word: usize, event: Event) -> u64
+    requires table { seat.old.table ≡ words.now.table }
+    requires place { word < 944 }
+    requires own { (n : ℕ) → AreBy (the_cpu seat.old.view.id) (T.does seat.old.view n) }
+    requires may { CpuMay words.now.settings seat.old.view word (λ n. n) (T.does seat.old.view) T.tells }
+    ensures table { seat.new.table ≡ seat.old.table }
+    ensures told { T.tells seat.old.view result seat.new.view }
+    ensures log { seat.new.log ≡ seat.old.log ++ T.does seat.old.view result }
+{
+    // The contract alone speaks of the event.
+    let _event = event;
+    words.table.shared.load::<CpuPlay<T>>(&mut seat.token, word)
+}
+
+/// Writes `new` where the word is `old`. It answers the word as it was.
+pub(crate) fn compare_exchange<T: CpuTale>(
+    words: &Words,
+    seat: &mut CpuSeat,
+    word: usize,
+    old: u64,
+    new: u64,
+    event: Event,
+) -> u64
+    requires table { seat.old.table ≡ words.now.table }
+    requires place { word < 944 }
+    requires own { (n : ℕ) → AreBy (the_cpu seat.old.view.id) (T.does seat.old.view n) }
+    requires may { CpuMay words.now.settings seat.old.view word (λ n. either (n == old) new n) (T.does seat.old.view) T.tells }
+    ensures table { seat.new.table ≡ seat.old.table }
+    ensures told { T.tells seat.old.view result seat.new.view }
+    ensures log { seat.new.log ≡ seat.old.log ++ T.does seat.old.view result }
+{
+    // The contract alone speaks of the event.
+    let _event = event;
+    words
+        .table
+        .shared
+        .compare_exchange::<CpuPlay<T>>(&mut seat.token, word, old, new)
+}

@@ -1,0 +1,104 @@
+//! Steps of the keeper's seat.
+
+ghost use Rattle.std.specs.Prelude.{◌≡◌, ℕ, ◌<◌, ◌++◌, ◌+◌, ◌-◌, ◌%◌, ◌^◌};
+ghost use Rattle.cpu_words.specs.Logs.{the_keeper, AreBy};
+ghost use Rattle.cpu_words.specs.Steps.{KeeperMay, KeeperStores};
+
+use crate::law::{KeeperPlay, KeeperTale, Words};
+use crate::seat::KeeperSeat;
+use protocol::Event;
+
+/// Loads a word.
+pub(crate) fn load<T: KeeperTale>(
+    words: &Words,
+    seat: &mut KeeperSeat,
+    word: usize,
+    event: Event,
+) -> u64
+    requires table { seat.old.table ≡ words.now.table }
+    requires place { word < 944 }
+    requires own { (n : ℕ) → AreBy the_keeper (T.does seat.old.view n) }
+    requires may { KeeperMay words.now.settings seat.old.view word (λ n. n) (T.does seat.old.view) T.tells }
+    ensures table { seat.new.table ≡ seat.old.table }
+    ensures told { T.tells seat.old.view result seat.new.view }
+    ensures log { seat.new.log ≡ seat.old.log ++ T.does seat.old.view result }
+{
+    // The contract alone speaks of the event.
+    let _event = event;
+    words
+        .table
+        .shared
+        .load::<KeeperPlay<T>>(&mut seat.token, word)
+}
+
+/// Stores a word.
+pub(crate) fn store<T: KeeperTale>(
+    words: &Words,
+    seat: &mut KeeperSeat,
+    word: usize,
+    value: u64,
+    event: Event,
+)
+    requires table { seat.old.table ≡ words.now.table }
+    requires place { word < 944 }
+    requires own { (n : ℕ) → AreBy the_keeper (T.does seat.old.view n) }
+    requires may { KeeperStores words.now.settings seat.old.view word value (T.does seat.old.view) T.tells }
+    ensures table { seat.new.table ≡ seat.old.table }
+    ensures told { T.tells seat.old.view value seat.new.view }
+    ensures log { seat.new.log ≡ seat.old.log ++ T.does seat.old.view value }
+{
+    // The contract alone speaks of the event.
+    let _event = event;
+    words
+        .table
+        .shared
+        .store::<KeeperPlay<T>>(&mut seat.token, word, value);
+}
+
+/// Writes a word. It answers the word as it was.
+pub(crate) fn swap<T: KeeperTale>(
+    words: &Words,
+    seat: &mut KeeperSeat,
+    word: usize,
+    value: u64,
+    event: Event,
+) -> u64
+    requires table { seat.old.table ≡ words.now.table }
+    requires place { word < 944 }
+    requires own { (n : ℕ) → AreBy the_keeper (T.does seat.old.view n) }
+    requires may { KeeperMay words.now.settings seat.old.view word (λ _. value) (T.does seat.old.view) T.tells }
+    ensures table { seat.new.table ≡ seat.old.table }
+    ensures told { T.tells seat.old.view result seat.new.view }
+    ensures log { seat.new.log ≡ seat.old.log ++ T.does seat.old.view result }
+{
+    // The contract alone speaks of the event.
+    let _event = event;
+    words
+        .table
+        .shared
+        .swap::<KeeperPlay<T>>(&mut seat.token, word, value)
+}
+
+/// Subtracts from a word. It answers the word as it was.
+pub(crate) fn subtract<T: KeeperTale>(
+    words: &Words,
+    seat: &mut KeeperSeat,
+    word: usize,
+    k: u64,
+    event: Event,
+) -> u64
+    requires table { seat.old.table ≡ words.now.table }
+    requires place { word < 944 }
+    requires own { (n : ℕ) → AreBy the_keeper (T.does seat.old.view n) }
+    requires may { KeeperMay words.now.settings seat.old.view word (λ n. (n + (2 ^ 64 - k)) % 2 ^ 64) (T.does seat.old.view) T.tells }
+    ensures table { seat.new.table ≡ seat.old.table }
+    ensures told { T.tells seat.old.view result seat.new.view }
+    ensures log { seat.new.log ≡ seat.old.log ++ T.does seat.old.view result }
+{
+    // The contract alone speaks of the event.
+    let _event = event;
+    words
+        .table
+        .shared
+        .fetch_sub::<KeeperPlay<T>>(&mut seat.token, word, k)
+}

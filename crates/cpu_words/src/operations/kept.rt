@@ -1,0 +1,67 @@
+//! A local reference that a slot keeps: its seat is joined into the keeper's, for a slot that the caller names.
+
+ghost use Rattle.std.specs.Prelude.{◌≡◌, ◌++◌};
+ghost use Rattle.registry_values.specs.Slots.{slot_at};
+ghost use Rattle.protocol.specs.declared.event.Event.TheVariants.{Keep};
+ghost use Rattle.cpu_words.specs.declared.view.View.TheVariants.{Keeper, Reference};
+ghost use Rattle.cpu_words.specs.Steps.{JoinsBy};
+ghost use Rattle.protocol.specs.declared.event.Reply.TheVariants.{Done};
+ghost use Rattle.cpu_words.specs.Rule.{did};
+ghost use Rattle.cpu_words.specs.Vacating.{as_vacant, vacate_first};
+ghost use Rattle.cpu_words.specs.Keeping.{MayKeep, IsVacated, keeping};
+
+use crate::law::Words;
+use crate::seat::{KeeperSeat, ReferenceSeat};
+use crate::view::Logged;
+use atomic_table::Join;
+use std::marker::{Brand, PhantomData};
+
+/// The slot that keeps a reference. Each call picks its own.
+pub(crate) trait KeepingSlot {
+    ghost use Rattle.std.specs.Prelude.{ℕ};
+
+    ghost slot: { ℕ };
+}
+
+impl KeepingSlot for Brand {
+    ghost slot = { 0 };
+}
+
+/// The reference's seat is joined into the keeper's, and is spent.
+struct Kept<S: KeepingSlot> {
+    marker: PhantomData<S>,
+}
+
+impl<S: KeepingSlot> Join<Logged> for Kept<S> {
+    ghost use Rattle.cpu_words.specs.Keeping.{with_kept};
+    ghost use Rattle.cpu_words.specs.Logs.{joined_seat, spent_seat, keeps_for};
+
+    ghost both = { joined_seat (with_kept S.slot) (keeps_for S.slot) };
+
+    ghost spent = { spent_seat };
+}
+
+/// Joins the reference into the keeper's seat, for the slot `slot`.
+pub(crate) fn join<S: KeepingSlot>(
+    words: &Words,
+    keeper: &mut KeeperSeat,
+    reference: ReferenceSeat,
+    slot: u8,
+)
+    requires table { (keeper.old.table ≡ words.now.table) × (reference.table ≡ words.now.table) }
+    requires slot { S.slot ≡ slot }
+    requires may { MayKeep keeper.old.view slot reference.view }
+    ensures table { keeper.new.table ≡ keeper.old.table }
+    ensures vacant { IsVacated keeper.old.view slot }
+    ensures event { JoinsBy (Keep slot) (Keeper (as_vacant keeper.old.view slot)) (Reference reference.view) (Keeper keeper.new.view) }
+    ensures change { keeper.new.view ≡ keeping keeper.old.view slot reference.view }
+    ensures log { keeper.new.log ≡ keeper.old.log ++ vacate_first (slot_at keeper.old.view.slots slot) slot (did (Keep slot 0) Done) }
+{
+    // The contract alone speaks of the slot.
+    let _slot = slot;
+    let ReferenceSeat { token } = reference;
+    words
+        .table
+        .shared
+        .join_seat::<Kept<S>>(&mut keeper.token, token);
+}
