@@ -111,13 +111,13 @@ acquired_of x y w v e found empty counted cut =
 counted_it : (x y : CpuView) (k : Found) (kept : IsFoundAs x k) → HasCounted x k.slot k.number y → HasCounted x kept.entry.slot kept.entry.number y
 counted_it x y k kept = subst (λ (p : ℕ × ℕ). HasCounted x p.0 p.1 y) (λ i. (kept.slot i, kept.number i))
 
-pub acquired_reference : (z : TableId) (a : Settings) (t u : TableId) (x : CpuView) (c w d : ℕ) (k : Found) (ps ns : List Place) (y l : CpuView) (v : ReferenceView)
-    → IsOurCpu z a t x c w d k ps ns → IsFoundAs x k → u ≡ t → HasCounted x k.slot k.number y → HasSplit y l v → IsOurReference z a u v k.number k.slot k.kind
-acquired_reference z a t u x c w d k ps ns y l v our kept same counted cut =
+pub acquired_reference : (z : TableId) (a : Settings) (t : TableId) (x : CpuView) (c w d : ℕ) (k : Found) (ps ns : List Place) (y l : CpuView) (v : ReferenceView)
+    → IsOurCpu z a t x c w d k ps ns → IsFoundAs x k → HasCounted x k.slot k.number y → HasSplit y l v → IsOurReference v k.number k.slot k.kind
+acquired_reference z a t x c w d k ps ns y l v our kept counted cut =
     let left = acquired_of x y l v kept.entry kept.found our.idle.hand (counted_it x y k kept counted) cut in
-    let there : IsOurReference z a u (record { entry = kept.entry; collected = None }) k.number k.slot k.kind =
-    record { table = same ∙ our.table; fit = our.fit; number = sym kept.number; slot = sym kept.slot; kind = sym kept.kind; begun = begun_of x k kept; few = kept.few } in
-    subst (λ (r : ReferenceView). IsOurReference z a u r k.number k.slot k.kind) (sym left.is) there
+    let there : IsOurReference (record { entry = kept.entry; collected = None }) k.number k.slot k.kind =
+    record { number = sym kept.number; slot = sym kept.slot; kind = sym kept.kind; begun = begun_of x k kept; few = kept.few } in
+    subst (λ (r : ReferenceView). IsOurReference r k.number k.slot k.kind) (sym left.is) there
 
 pub acquired_agrees : (z : TableId) (a : Settings) (t u : TableId) (x : CpuView) (c w d : ℕ) (k : Found) (ps ns : List Place) (y l : CpuView) (v : ReferenceView) (n : ℕ)
     → IsOurCpu z a t x c w d k ps ns → IsFoundAs x k → u ≡ t → HasCounted x k.slot k.number y → HasSplit y l v → IsNetCount x k.number n → n < bias + x.settings.count_limit → IsMetAlone x k.slot k.number

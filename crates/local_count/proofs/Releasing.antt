@@ -22,10 +22,10 @@ pub released_of : (x y w : CpuView) (e : Entry) (s n : ℕ) → x.hand ≡ NoEnt
 released_of x y w e s n empty joined counted = counted.4 ∙ ap (λ (k : CpuView). record k { hand = NoEntry; released = one_more k.released n; met = with_number k.met s n }) joined
     ∙ (λ k. record x { hand = sym empty k; released = one_more x.released n; met = with_number x.met s n })
 
-pub released_agrees : (z : TableId) (a : Settings) (t u r : TableId) (x : CpuView) (c w d : ℕ) (o : Found) (ps ns : List Place) (v : ReferenceView) (n s count : ℕ) (kind : Kind) (y k : CpuView)
-    → IsOurCpu z a t x c w d o ps ns → IsOurReference z a r v n s kind → u ≡ t → y ≡ with_hand x (GivingEntry v.entry) → HasCountedDown y s n k → 0 < count → count ≡ net_by (place_at ns s) n → IsNetCount y n count → IsMetAlone y s n
+pub released_agrees : (z : TableId) (a : Settings) (t u : TableId) (x : CpuView) (c w d : ℕ) (o : Found) (ps ns : List Place) (v : ReferenceView) (n s count : ℕ) (kind : Kind) (y k : CpuView)
+    → IsOurCpu z a t x c w d o ps ns → IsOurReference v n s kind → u ≡ t → y ≡ with_hand x (GivingEntry v.entry) → HasCountedDown y s n k → 0 < count → count ≡ net_by (place_at ns s) n → IsNetCount y n count → IsMetAlone y s n
     → IsOurCpu z a u k c w d o ps (set ns s (record { number = n; count = count - 1 }))
-released_agrees z a t u r x c w d o ps ns v n s count kind y k our its same joined counted floor is net alone =
+released_agrees z a t u x c w d o ps ns v n s count kind y k our its same joined counted floor is net alone =
     let was : count + number_at x.released n ≡ bias + number_at x.acquired n = subst (λ (q : CpuView). IsNetCount q n count) joined net in
     let here : IsMetAlone x s n = subst (λ (q : CpuView). IsMetAlone q s n) joined alone in
     let one = one_more_same x.released n in

@@ -1,12 +1,10 @@
 -- Local references: how their plain data agree with what the seat knows, and what a CPU's calls leave.
-use Rattle.std.specs.Prelude.{◌≡◌, ℕ, ◌+◌, ◌<◌, ◌≤◌, ◌==◌, if◌then◌else◌, Some, None, IsTrue}
+use Rattle.std.specs.Prelude.{◌≡◌, ℕ, ◌+◌, ◌<◌, ◌≤◌, ◌==◌, if◌then◌else◌, Some, None}
 use Rattle.atomic_table.specs.Seated.{TableId}
 use Rattle.registry_values.specs.declared.entry.Entry.{Entry}
 use Rattle.registry_values.specs.declared.entry.Kind.{Kind}
 use Rattle.protocol.specs.declared.event.Event.TheVariants.{CountDown}
 use Rattle.protocol.specs.declared.event.Reply.TheVariants.{Collected}
-use Rattle.registry_values.specs.declared.settings.Settings.{Settings}
-use Rattle.registry_values.specs.Limits.{are_fit}
 use Rattle.registry_values.specs.Balances.{bias}
 use Rattle.cpu_words.specs.declared.view.InHand.TheVariants.{Giving as GivingEntry, Back as BackEntry}
 use Rattle.cpu_words.specs.declared.view.CpuView.{CpuView}
@@ -18,10 +16,13 @@ use Rattle.cpu_words.specs.Locals.{with_hand}
 use Rattle.passive_list.specs.declared.place.Place.{Place}
 use Rattle.passive_list.specs.Cpus.{OnCpu}
 
--- the fields of a reference of D's table: its seat's table and view, and the number, slot and kind of its entry
-pub record IsOurReference (z : TableId) (a : Settings) (t : TableId) (v : ReferenceView) (n s : ℕ) (k : Kind) : Type 0 where
-  pub table : t ≡ z
-  pub fit : IsTrue (are_fit a)
+-- a reference that names its own table: that table, and what its seat knows
+pub record OnPlainRef : Type 0 where
+  pub table : TableId
+  pub reference : ReferenceView
+
+-- the fields of a reference: what its seat knows, and the number, slot and kind of its entry
+pub record IsOurReference (v : ReferenceView) (n s : ℕ) (k : Kind) : Type 0 where
   pub number : v.entry.number ≡ n
   pub slot : v.entry.slot ≡ s
   pub kind : v.entry.rec.kind ≡ k

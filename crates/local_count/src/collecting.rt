@@ -58,6 +58,7 @@ pub fn total<D: Domain>(words: &Words, keeper: &mut Keeper<D>, slot: u8) -> u64
     ensures held { AreHeld keeper.old.view slot result }
     ensures same { keeper.new ≡ keeper.old }
 {
+    // The contract alone speaks of the words.
     let _words = words;
     keeper.rows[slot as usize].total - BIAS
 }

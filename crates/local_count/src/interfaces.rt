@@ -10,6 +10,7 @@ ghost use Rattle.cpu_words.specs.Domains.{AreWordsOf};
 ghost use Rattle.local_count.specs.Draining.{HasAttachedKeeping};
 
 use crate::local_ref::LocalRef;
+use crate::plain_ref::PlainRef;
 use cpu_words::{Domain, Words, steps};
 use passive_list::{Keeper, SlotState, publish_entry};
 use registry_values::{Entry, Record};
@@ -37,12 +38,35 @@ pub fn publish_iface<D: Domain>(
     ensures entry { result ≡ record { number = suc (length keeper.old.view.history); slot = slot; rec = rec } }
     ensures change { HasAttachedKeeping keeper.old reference result keeper.new }
 {
-    let LocalRef {
+    let LocalRef { plain, domain: _ } = reference;
+    publish_keeping(words, keeper, slot, rec, plain)
+}
+
+/// Publishes an interface in `slot`, which keeps the reference.
+fn publish_keeping<D: Domain>(
+    words: &Words,
+    keeper: &mut Keeper<D>,
+    slot: u8,
+    rec: Record,
+    reference: PlainRef,
+) -> Entry
+    requires words { AreWordsOf words.now D.table D.settings }
+    requires reference { reference.table ≡ D.table }
+    requires vacant { (slot < D.settings.slots) × (slot_at keeper.old.slots slot ≡ Vacant) }
+    requires nothing { kept_at keeper.old.view.keeps slot ≡ None }
+    requires kind { rec.kind ≡ Iface }
+    requires driver { reference.reference.entry.rec.kind ≡ Driver }
+    requires name { IsTrue (is_lawful rec.name) }
+    requires free { is_taken (key_of_record rec) keeper.old.slots ≡ false }
+    requires room { length keeper.old.view.history + live_count keeper.old.slots + 2 ≤ D.settings.change_limit }
+    ensures entry { result ≡ record { number = suc (length keeper.old.view.history); slot = slot; rec = rec } }
+    ensures change { HasAttachedKeeping keeper.old reference.reference result keeper.new }
+{
+    let PlainRef {
         seat,
         number,
         slot: _,
         kind: _,
-        domain: _,
     } = reference;
     let entry = Entry {
         number: keeper.changes + 1,

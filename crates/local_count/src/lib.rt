@@ -14,13 +14,15 @@ mod giving_up;
 mod interfaces;
 mod local_ref;
 mod net;
+mod plain_ref;
 mod release;
 
-pub use acquire::acquire_local;
+pub use acquire::{acquire_local, acquire_local_on};
 pub use collecting::{collect, collected, total};
 pub use freeing::free_iface;
 pub use giving_up::release_under;
 pub use interfaces::publish_iface;
 pub use local_ref::LocalRef;
 pub use net::net_count;
-pub use release::try_release;
+pub use plain_ref::PlainRef;
+pub use release::{try_release, try_release_on};

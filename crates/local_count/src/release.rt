@@ -1,14 +1,14 @@
 //! Releasing a local reference by a CPU's own count (localcount(9)).
 
-ghost use Rattle.std.specs.Prelude.{IfOk, IfErr};
+ghost use Rattle.std.specs.Prelude.{◌≡◌, IfOk, IfErr};
 ghost use Rattle.cpu_words.specs.Domains.{AreWordsOf};
 ghost use Rattle.local_count.specs.References.{HasReleased, HasComeBack};
 
 use crate::local_ref::LocalRef;
 use crate::net::net_count;
+use crate::plain_ref::PlainRef;
 use cpu_words::{Domain, Words, steps};
-use passive_list::{Cpu, Place};
-use std::marker::PhantomData;
+use passive_list::{Cpu, Place, PlainCpu};
 
 /// Releases a local reference on this CPU, which needn't be the one that acquired it: this CPU's own net count for the entry goes down
 /// by one, and may be negative.
@@ -23,24 +23,42 @@ pub fn try_release<D: Domain>(
     ensures ok { IfOk result (λ _. HasReleased cpu.old reference cpu.new) }
     ensures back { IfErr result (λ v. HasComeBack cpu.old reference cpu.new v) }
 {
-    let LocalRef {
+    let LocalRef { plain, domain } = reference;
+    match try_release_on(words, &mut cpu.plain, plain) {
+        Ok(()) => Ok(()),
+        Err(plain) => Err(LocalRef { plain, domain }),
+    }
+}
+
+/// `try_release` on a CPU that names its own table. Condition: the words and the reference are of its table.
+pub fn try_release_on(
+    words: &Words,
+    cpu: &mut PlainCpu,
+    reference: PlainRef,
+) -> Result<(), PlainRef>
+    requires words { AreWordsOf words.now cpu.old.words.table cpu.old.words.settings }
+    requires reference { reference.table ≡ cpu.old.words.table }
+    ensures ok { IfOk result (λ _. HasReleased cpu.old.cpu reference.reference cpu.new.cpu) }
+    ensures back { IfErr result (λ v. HasComeBack cpu.old.cpu reference.reference cpu.new.cpu v.reference) }
+    ensures table { IfErr result (λ v. v.table ≡ reference.table) }
+    ensures words { cpu.new.words ≡ cpu.old.words }
+{
+    let PlainRef {
         seat,
         number,
         slot,
         kind,
-        domain: _,
     } = reference;
     let count = net_count(cpu.net[slot as usize], number);
     steps::join_ref(words, &mut cpu.seat, cpu.id, seat);
     let word = steps::count_down(words, &mut cpu.seat, cpu.id, slot, number, count);
     if word != count {
         let seat = steps::split_back(words, &mut cpu.seat, cpu.id);
-        return Err(LocalRef {
+        return Err(PlainRef {
             seat,
             number,
             slot,
             kind,
-            domain: PhantomData,
         });
     }
     cpu.net[slot as usize] = Place {

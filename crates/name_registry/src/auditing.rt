@@ -7,7 +7,7 @@ ghost use Rattle.name_registry.specs.Auditing.{AreAllCpus, IsAuditOf, IsOccupied
 
 use cpu_words::{Domain, Words};
 use local_count::net_count;
-use passive_list::{Cpu, Keeper};
+use passive_list::{Cpu, Keeper, PlainCpu};
 use registry_values::{Balance, Refusal, Slot, less_bias, sum};
 use std::alloc::{AllocError, Global};
 
@@ -31,6 +31,7 @@ pub fn audit_in<D: Domain>(
     ensures answer { IfOk result (λ list. IsAuditOf D.settings keeper.old cpus.old list.items) }
     ensures same { (keeper.new ≡ keeper.old) × (cpus.new ≡ cpus.old) }
 {
+    // The contract alone speaks of the words: whoever has them has the table that the CPUs and the keeper are of.
     let _words = words;
     if !are_all(keeper.settings.cpus, cpus) {
         return Err(Refusal::MissingCpu);
@@ -125,6 +126,16 @@ fn locals<D: Domain>(
 fn local<D: Domain>(keeper: &Keeper<D>, cpu: &Cpu<D>, t: u8, number: u64) -> i64
     requires { (t < D.settings.slots) × (0 < number) }
     ensures value { result ≡ local_met keeper.now t number cpu.now }
+    ensures range { (neg_ℤ (pos (2 ^ 50)) ≤ℤ result) × (result ≤ℤ pos (2 ^ 50)) }
+{
+    local_on(keeper, &cpu.plain, t, number)
+}
+
+/// The same of a CPU that names its own table.
+fn local_on<D: Domain>(keeper: &Keeper<D>, cpu: &PlainCpu, t: u8, number: u64) -> i64
+    requires settings { cpu.now.words.settings ≡ D.settings }
+    requires entry { (t < D.settings.slots) × (0 < number) }
+    ensures value { result ≡ local_met keeper.now t number cpu.now.cpu }
     ensures range { (neg_ℤ (pos (2 ^ 50)) ≤ℤ result) × (result ≤ℤ pos (2 ^ 50)) }
 {
     if is_collected(keeper, t, cpu.id) {

@@ -21,6 +21,7 @@ pub fn free_interlock<D: Domain>(keeper: &Keeper<D>) -> u64
 pub fn exact_audit<D: Domain>(keeper: &Keeper<D>, cpus: &[Cpu<D>]) -> u64
     ensures law { ExactAudit D.settings keeper.now cpus.now }
 {
+    // The law alone speaks of the CPUs.
     let _cpus = cpus;
     keeper.changes
 }

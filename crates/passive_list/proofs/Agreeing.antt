@@ -22,7 +22,7 @@ use Rattle.passive_list.specs.declared.place.Place.{Place}
 use Rattle.registry_values.specs.declared.slot.Key.{Key}
 use Rattle.protocol.specs.declared.state.Search.{Search}
 use Rattle.passive_list.specs.Walking.{HasLookedUp}
-use Rattle.passive_list.specs.Cpus.{no_place, no_found, place_at, PassiveAgree, NetAgree, DepthAgrees, IsKept, FoundAgrees, IsOurCpu}
+use Rattle.passive_list.specs.Cpus.{no_place, no_found, place_at, PassiveAgree, NetAgree, DepthAgrees, SectionAgrees, IsKept, FoundAgrees, IsOurCpu}
 
 -- each place of a new CPU is of no entry
 blank_number : (t : ℕ) → (place_at (replicate 32 no_place) t).number ≡ 0
@@ -169,6 +169,22 @@ looked_up_agrees z a t u x y c w d e k f ps ns key our same kept had =
     let p = y.pass in
     let is : y ≡ record x { pass = p; found = f } = had.is ∙ ap (λ (s : Option Search). record x { pass = p; search = s; found = f }) (sym our.idle.search) in
     seen_agrees z a t u x y c w d e k f ps ns x.heard our same had.pass is kept had.seen
+
+-- the data of a CPU agree with its view by the table and the settings that its own seat has
+pub own_agrees : (z : TableId) (a : Settings) (t : TableId) (x : CpuView) (c w d : ℕ) (e : Found) (ps ns : List Place) → IsOurCpu z a t x c w d e ps ns → IsOurCpu t x.settings t x c w d e ps ns
+own_agrees z a t x c w d e ps ns our = record {
+  table = refl;
+  settings = refl;
+  fit = subst (λ (s : Settings). IsTrue (are_fit s)) (sym our.settings) our.fit;
+  id = our.id;
+  few = our.few;
+  section = subst (λ (s : Settings). SectionAgrees s x w) (sym our.settings) our.section;
+  idle = our.idle;
+  depth = our.depth;
+  found = our.found;
+  passive = our.passive;
+  net = our.net;
+}
 
 -- The last found entry, by what is kept of it
 

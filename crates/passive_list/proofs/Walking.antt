@@ -5,8 +5,8 @@ use mathlib.Core.List.{IsPrefix}
 use Rattle.registry_values.specs.declared.entry.Entry.{Entry}
 use Rattle.registry_values.specs.declared.entry.Change.{Change}
 use Rattle.registry_values.specs.declared.slot.Key.{Key}
-use Rattle.protocol.specs.declared.state.Place.{Place}
-use Rattle.protocol.specs.declared.state.Place.TheVariants.{AtNext, AtNumber, AtKind, AtHigh, AtLow, AtValue}
+use Rattle.protocol.specs.declared.state.SearchPlace.{SearchPlace}
+use Rattle.protocol.specs.declared.state.SearchPlace.TheVariants.{AtNext, AtNumber, AtKind, AtHigh, AtLow, AtValue}
 use Rattle.protocol.specs.declared.state.Loaded.TheVariants.{On}
 use Rattle.protocol.specs.History.{IsAttached, IsLawful}
 use Rattle.protocol.specs.Invariant.{StandsOn}
@@ -22,13 +22,13 @@ prefix_trans p q r a b = (a.0 ++ b.0, sym (append_assoc p a.0 b.0) ∙ ap (λ l.
 -- One load
 
 -- the search goes on at another place
-on_word : (x y : CpuView) (key : Key) (from : ℕ) (p q : Place) (n w : ℕ) → IsUnderWay x key from p → loaded (search_at key from p) p (every_word n) ≡ Some (On q w) → HasLoadedWord x n y → y ≡ standing x key from q
+on_word : (x y : CpuView) (key : Key) (from : ℕ) (p q : SearchPlace) (n w : ℕ) → IsUnderWay x key from p → loaded (search_at key from p) p (every_word n) ≡ Some (On q w) → HasLoadedWord x n y → y ≡ standing x key from q
 on_word x y key from p q n w at on had = (had (search_at key from p) at).is ∙ ap (searched x (search_at key from p)) on
 
-pub goes_on : (x y : CpuView) (key : Key) (from : ℕ) (p q : Place) (n w : ℕ) → IsUnderWay x key from p → loaded (search_at key from p) p (every_word n) ≡ Some (On q w) → HasLoadedWord x n y → IsUnderWay y key from q
+pub goes_on : (x y : CpuView) (key : Key) (from : ℕ) (p q : SearchPlace) (n w : ℕ) → IsUnderWay x key from p → loaded (search_at key from p) p (every_word n) ≡ Some (On q w) → HasLoadedWord x n y → IsUnderWay y key from q
 goes_on x y key from p q n w at on had = ap (λ (v : CpuView). v.search) (on_word x y key from p q n w at on had)
 
-pub may_load : (x : CpuView) (key : Key) (from t k : ℕ) (p : Place) → IsUnderWay x key from p → IsAtWord p t k → MayLoadSearched x t k
+pub may_load : (x : CpuView) (key : Key) (from t k : ℕ) (p : SearchPlace) → IsUnderWay x key from p → IsAtWord p t k → MayLoadSearched x t k
 may_load x key from t k p at word = record { search = search_at key from p; under_way = at; place = word }
 
 pub may_follow : (x : CpuView) (key : Key) (from t : ℕ) → IsUnderWay x key from (AtNext t) → MayLoadLink x t

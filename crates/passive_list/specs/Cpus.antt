@@ -11,7 +11,7 @@ use Rattle.protocol.specs.History.{IsAttached}
 use Rattle.protocol.specs.Invariant.{greatest_limit}
 use Rattle.registry_values.specs.Balances.{bias}
 use Rattle.cpu_words.specs.declared.view.CpuView.{CpuView}
-use Rattle.cpu_words.specs.Views.{number_at, references_to, depth_of}
+use Rattle.cpu_words.specs.Views.{Named, number_at, references_to, depth_of}
 use Rattle.cpu_words.specs.Sections.{IsIdle}
 use Rattle.passive_list.specs.declared.place.Found.{Found}
 use Rattle.passive_list.specs.declared.place.Place.{Place}
@@ -20,6 +20,11 @@ use Rattle.passive_list.specs.declared.place.Place.{Place}
 pub record OnCpu : Type 0 where
   pub view : CpuView
   pub depth : ℕ
+
+-- a CPU that names its own table: that table and its settings, and the CPU
+pub record OnPlainCpu : Type 0 where
+  pub words : Named
+  pub cpu : OnCpu
 
 abbrev pub no_place : Place
 no_place = record { number = 0; count = 0 }

@@ -3,8 +3,8 @@ use Rattle.std.specs.Prelude.{◌≡◌, ℕ, zero, suc, ◌<◌, Bool, true, fa
 use mathlib.Core.List.{IsPrefix}
 use Rattle.registry_values.specs.declared.entry.Entry.{Entry}
 use Rattle.registry_values.specs.declared.slot.Key.{Key}
-use Rattle.protocol.specs.declared.state.Place.{Place}
-use Rattle.protocol.specs.declared.state.Place.TheVariants.{AtNext, AtNumber, AtValue}
+use Rattle.protocol.specs.declared.state.SearchPlace.{SearchPlace}
+use Rattle.protocol.specs.declared.state.SearchPlace.TheVariants.{AtNext, AtNumber, AtValue}
 use Rattle.protocol.specs.declared.state.Search.{Search}
 use Rattle.protocol.specs.History.{IsAttached, IsLawful}
 use Rattle.protocol.specs.Invariant.{StandsOn}
@@ -13,14 +13,14 @@ use Rattle.cpu_words.specs.declared.view.CpuView.{CpuView}
 use Rattle.passive_list.specs.declared.lookup.Seen.{Seen}
 
 -- the search for the key, begun where the pass had `from` changes, at the place p
-abbrev pub search_at : Key → ℕ → Place → Search
+abbrev pub search_at : Key → ℕ → SearchPlace → Search
 search_at key from p = record { key = key; start = from; place = p }
 
 -- it is under way
-abbrev pub IsUnderWay : CpuView → Key → ℕ → Place → Type 0
+abbrev pub IsUnderWay : CpuView → Key → ℕ → SearchPlace → Type 0
 IsUnderWay x key from p = x.search ≡ Some (search_at key from p)
 
-abbrev pub standing : CpuView → Key → ℕ → Place → CpuView
+abbrev pub standing : CpuView → Key → ℕ → SearchPlace → CpuView
 standing x key from p = record x { search = Some (search_at key from p) }
 
 -- the search is to visit the slot t
@@ -28,7 +28,7 @@ abbrev pub MayVisit : CpuView → Key → ℕ → Type 0
 MayVisit x key t = (from : ℕ) × IsUnderWay x key from (AtNumber t)
 
 -- where the search goes on after the words of the entry n in the slot t
-abbrev pub after_visit : ℕ → ℕ → Bool → Place
+abbrev pub after_visit : ℕ → ℕ → Bool → SearchPlace
 after_visit t n true = AtValue t n
 after_visit t n false = AtNext t
 

@@ -1,11 +1,10 @@
-//! A virtual CPU: its seat, and plain data that agree with what the seat knows.
+//! A virtual CPU of a table that a type names.
 
-ghost use Rattle.std.specs.Prelude.{◌≡◌, ◌≢◌, ◌↔◌, ◌<◌, IsTrue, replicate, None};
+ghost use Rattle.std.specs.Prelude.{◌≡◌, ◌≢◌, ◌↔◌, ◌<◌, IsTrue, None};
 ghost use Rattle.cpu_words.specs.Views.{new_cpu};
 ghost use Rattle.registry_values.specs.Limits.{are_fit};
-ghost use Rattle.passive_list.specs.Cpus.{OnCpu, IsOurCpu};
 
-use crate::place::{Found, Place};
+use crate::plain_cpu::PlainCpu;
 use cpu_words::{CpuSeat, Domain};
 use std::marker::{Model, PhantomData};
 
@@ -13,30 +12,19 @@ use std::marker::{Model, PhantomData};
 /// Binding is ownership: the thread that owns the value runs on that CPU.
 #[derive(Drop)]
 pub struct Cpu<D: Domain> {
-    pub seat: CpuSeat,
-    /// The CPU's number, from 0.
-    pub id: u8,
-    /// The sections that it has ended: its section word is twice that, and one more inside.
-    pub ended: u64,
-    /// 0 outside, else how many enters are open.
-    pub depth: u8,
-    /// The entry that its last lookup in the open section found.
-    pub found: Found,
-    /// By slot: its passive references.
-    pub passive: [Place; 32],
-    /// By slot: its net count of local references, over the bias.
-    pub net: [Place; 32],
+    pub plain: PlainCpu,
     pub domain: PhantomData<D>,
 }
 
 impl<D: Domain> Model for Cpu<D> {
-    ghost use Rattle.passive_list.specs.Cpus.{OnCpu, IsOurCpu};
+    ghost use Rattle.cpu_words.specs.Domains.{AreWordsOf};
+    ghost use Rattle.passive_list.specs.Cpus.{OnCpu};
 
     ghost Value = { OnCpu };
 
-    ghost view = { λ c. record { view = c.seat.view; depth = c.depth } };
+    ghost view = { λ c. c.plain.cpu };
 
-    ghost invariant = { λ c. IsOurCpu D.table D.settings c.seat.table c.seat.view c.id c.ended c.depth c.found c.passive c.net };
+    ghost invariant = { λ c. AreWordsOf c.plain.words D.table D.settings };
 }
 
 impl<D: Domain> Cpu<D> {
@@ -48,13 +36,7 @@ impl<D: Domain> Cpu<D> {
         ensures { result ≡ record { view = new_cpu D.settings id; depth = 0 } }
     {
         Cpu {
-            seat,
-            id,
-            ended: 0,
-            depth: 0,
-            found: Found::NONE,
-            passive: [Place::NONE; 32],
-            net: [Place::NONE; 32],
+            plain: PlainCpu::of_seat(seat, id),
             domain: PhantomData,
         }
     }
@@ -63,20 +45,20 @@ impl<D: Domain> Cpu<D> {
     pub fn id(&self) -> u8
         ensures { result ≡ self.now.view.id }
     {
-        self.id
+        self.plain.id()
     }
 
     /// How many enters are open: 0 outside, at most 255.
     pub fn depth(&self) -> u8
         ensures { result ≡ self.now.depth }
     {
-        self.depth
+        self.plain.depth()
     }
 
     /// The test for being inside a section.
     pub fn inside(&self) -> bool
         ensures { IsTrue result ↔ self.now.view.begin ≢ None }
     {
-        self.depth > 0
+        self.plain.inside()
     }
 }

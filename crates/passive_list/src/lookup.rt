@@ -9,6 +9,7 @@ ghost use Rattle.passive_list.specs.Walking.{MayVisit, HasVisited, HasLookedUp, 
 
 use crate::cpu::Cpu;
 use crate::place::Found;
+use crate::plain_cpu::PlainCpu;
 use cpu_words::{CpuSeat, Domain, Words, steps};
 use registry_values::{Entry, Key, Kind, Name, Record, are_words_of};
 
@@ -23,6 +24,16 @@ pub fn find<D: Domain>(words: &Words, cpu: &mut Cpu<D>, kind: Kind, name: &Name)
     requires words { AreWordsOf words.now D.table D.settings }
     requires inside { cpu.old.view.begin ≢ None }
     ensures { HasFound (key_with kind name.now) cpu.old cpu.new result }
+{
+    find_on(words, &mut cpu.plain, kind, name)
+}
+
+/// `find` on a CPU that names its own table. Conditions: the words are its table's; inside.
+pub fn find_on(words: &Words, cpu: &mut PlainCpu, kind: Kind, name: &Name) -> Option<Entry>
+    requires words { AreWordsOf words.now cpu.old.words.table cpu.old.words.settings }
+    requires inside { cpu.old.cpu.view.begin ≢ None }
+    ensures found { HasFound (key_with kind name.now) cpu.old.cpu cpu.new.cpu result }
+    ensures words { cpu.new.words ≡ cpu.old.words }
 {
     let name = *name;
     let seen = look_up(words, &mut cpu.seat, cpu.id, kind, name);

@@ -6,6 +6,7 @@ ghost use Rattle.cpu_words.specs.Domains.{AreWordsOf};
 ghost use Rattle.passive_list.specs.Notes.{HasHeardOn};
 
 use crate::cpu::Cpu;
+use crate::plain_cpu::PlainCpu;
 use cpu_words::{Domain, NoteSeat, Words, steps};
 use std::marker::{Model, PhantomData};
 
@@ -34,7 +35,7 @@ pub fn tell<D: Domain>(words: &Words, cpu: &mut Cpu<D>) -> Note<D>
     ensures note { result ≡ cpu.old.view.pass }
     ensures same { cpu.new ≡ cpu.old }
 {
-    let seat = steps::tell(words, &mut cpu.seat, cpu.id);
+    let seat = steps::tell(words, &mut cpu.plain.seat, cpu.plain.id);
     Note {
         seat,
         domain: PhantomData,
@@ -48,5 +49,15 @@ pub fn hear<D: Domain>(words: &Words, cpu: &mut Cpu<D>, note: Note<D>)
     ensures { HasHeardOn note cpu.old cpu.new }
 {
     let Note { seat, domain: _ } = note;
-    steps::hear(words, &mut cpu.seat, cpu.id, seat);
+    hear_on(words, &mut cpu.plain, seat);
+}
+
+/// `hear` on a CPU that names its own table. Condition: the words and the note's seat are of its table.
+pub fn hear_on(words: &Words, cpu: &mut PlainCpu, note: NoteSeat)
+    requires words { AreWordsOf words.now cpu.old.words.table cpu.old.words.settings }
+    requires note { note.table ≡ cpu.old.words.table }
+    ensures heard { HasHeardOn note.view cpu.old.cpu cpu.new.cpu }
+    ensures words { cpu.new.words ≡ cpu.old.words }
+{
+    steps::hear(words, &mut cpu.seat, cpu.id, note);
 }

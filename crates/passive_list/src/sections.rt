@@ -6,6 +6,7 @@ ghost use Rattle.cpu_words.specs.Sections.{HasEntered};
 ghost use Rattle.passive_list.specs.Sections.{HasEnteredOn, HasExitedOn, AreSpent};
 
 use crate::cpu::Cpu;
+use crate::plain_cpu::PlainCpu;
 use cpu_words::{Domain, Words, steps};
 use registry_values::{Refusal, enter_answer};
 
@@ -20,6 +21,19 @@ pub fn enter<D: Domain>(words: &Words, cpu: &mut Cpu<D>) -> Result<(), Refusal>
     ensures spent { IsErrOf result Refusal.SectionsSpent ↔ (cpu.old.depth ≡ 0) × AreSpent cpu.old.view }
     ensures no_other { IfErr result (λ refusal. (refusal ≡ Refusal.TooDeep) ⊎ (refusal ≡ Refusal.SectionsSpent)) }
 {
+    enter_on(words, &mut cpu.plain)
+}
+
+/// `enter` on a CPU that names its own table. Condition: the words are its table's.
+pub fn enter_on(words: &Words, cpu: &mut PlainCpu) -> Result<(), Refusal>
+    requires words { AreWordsOf words.now cpu.old.words.table cpu.old.words.settings }
+    ensures ok { IfOk result (λ _. HasEnteredOn cpu.old.cpu cpu.new.cpu) }
+    ensures refused { IfErr result (λ _. cpu.new ≡ cpu.old) }
+    ensures deep { IsErrOf result Refusal.TooDeep ↔ cpu.old.cpu.depth ≡ 255 }
+    ensures spent { IsErrOf result Refusal.SectionsSpent ↔ (cpu.old.cpu.depth ≡ 0) × AreSpent cpu.old.cpu.view }
+    ensures no_other { IfErr result (λ refusal. (refusal ≡ Refusal.TooDeep) ⊎ (refusal ≡ Refusal.SectionsSpent)) }
+    ensures words { cpu.new.words ≡ cpu.old.words }
+{
     let outside = cpu.depth == 0;
     enter_answer(cpu.depth, outside, may_begin(words, cpu))?;
     if outside {
@@ -31,19 +45,20 @@ pub fn enter<D: Domain>(words: &Words, cpu: &mut Cpu<D>) -> Result<(), Refusal>
 }
 
 /// Whether this CPU may begin one section more.
-fn may_begin<D: Domain>(words: &Words, cpu: &Cpu<D>) -> bool
-    requires words { AreWordsOf words.now D.table D.settings }
-    ensures { result ≡ false ↔ AreSpent cpu.now.view }
+fn may_begin(words: &Words, cpu: &PlainCpu) -> bool
+    requires words { AreWordsOf words.now cpu.now.words.table cpu.now.words.settings }
+    ensures { result ≡ false ↔ AreSpent cpu.now.cpu.view }
 {
     cpu.ended < words.settings().section_limit
 }
 
 /// Begins a section, as this CPU may.
-fn begin<D: Domain>(words: &Words, cpu: &mut Cpu<D>)
-    requires words { AreWordsOf words.now D.table D.settings }
-    requires outside { cpu.old.depth ≡ 0 }
-    requires room { AreSpent cpu.old.view → ⊥ }
-    ensures { HasEnteredOn cpu.old cpu.new }
+fn begin(words: &Words, cpu: &mut PlainCpu)
+    requires words { AreWordsOf words.now cpu.old.words.table cpu.old.words.settings }
+    requires outside { cpu.old.cpu.depth ≡ 0 }
+    requires room { AreSpent cpu.old.cpu.view → ⊥ }
+    ensures entered { HasEnteredOn cpu.old.cpu cpu.new.cpu }
+    ensures words { cpu.new.words ≡ cpu.old.words }
 {
     steps::enter(words, &mut cpu.seat, cpu.id);
     cpu.depth = 1;
@@ -56,6 +71,16 @@ pub fn exit<D: Domain>(words: &Words, cpu: &mut Cpu<D>)
     requires inside { cpu.old.view.begin ≢ None }
     ensures { HasExitedOn cpu.old cpu.new }
 {
+    exit_on(words, &mut cpu.plain);
+}
+
+/// `exit` on a CPU that names its own table. Conditions: the words are its table's; inside.
+pub fn exit_on(words: &Words, cpu: &mut PlainCpu)
+    requires words { AreWordsOf words.now cpu.old.words.table cpu.old.words.settings }
+    requires inside { cpu.old.cpu.view.begin ≢ None }
+    ensures exited { HasExitedOn cpu.old.cpu cpu.new.cpu }
+    ensures words { cpu.new.words ≡ cpu.old.words }
+{
     if cpu.depth == 1 {
         return end(words, cpu);
     }
@@ -63,10 +88,11 @@ pub fn exit<D: Domain>(words: &Words, cpu: &mut Cpu<D>)
 }
 
 /// Ends the section. The plain data change after the step: an atomic operation waits for each store that stands before it.
-fn end<D: Domain>(words: &Words, cpu: &mut Cpu<D>)
-    requires words { AreWordsOf words.now D.table D.settings }
-    requires last { cpu.old.depth ≡ 1 }
-    ensures { HasExitedOn cpu.old cpu.new }
+fn end(words: &Words, cpu: &mut PlainCpu)
+    requires words { AreWordsOf words.now cpu.old.words.table cpu.old.words.settings }
+    requires last { cpu.old.cpu.depth ≡ 1 }
+    ensures exited { HasExitedOn cpu.old.cpu cpu.new.cpu }
+    ensures words { cpu.new.words ≡ cpu.old.words }
 {
     steps::exit(words, &mut cpu.seat, cpu.id);
     cpu.found.number = 0;

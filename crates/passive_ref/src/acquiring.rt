@@ -8,7 +8,7 @@ ghost use Rattle.passive_ref.specs.Psrefs.{MayRefer, IsHeldAt, IsAcquired, IsCop
 use crate::holding::{count_of, usable_slot};
 use crate::psref::Psref;
 use cpu_words::{Domain, Words, steps};
-use passive_list::{Cpu, Place};
+use passive_list::{Cpu, Place, PlainCpu};
 use registry_values::{Refusal, why_full};
 
 /// Acquires a passive reference to this CPU's last found entry (psref(9)). It outlives the section, and the entry keeps its slot until
@@ -19,6 +19,16 @@ pub fn acquire<D: Domain>(words: &Words, cpu: &mut Cpu<D>) -> Result<Psref, Refu
     requires words { AreWordsOf words.now D.table D.settings }
     ensures answer { Answers (why_not_acquired cpu.old.view cpu.old.view.found) (IsAcquired cpu.old cpu.new) result }
     ensures refused { IfErr result (λ _. cpu.new ≡ cpu.old) }
+{
+    acquire_on(words, &mut cpu.plain)
+}
+
+/// `acquire` on a CPU that names its own table. Condition: the words are its table's.
+pub fn acquire_on(words: &Words, cpu: &mut PlainCpu) -> Result<Psref, Refusal>
+    requires words { AreWordsOf words.now cpu.old.words.table cpu.old.words.settings }
+    ensures answer { Answers (why_not_acquired cpu.old.cpu.view cpu.old.cpu.view.found) (IsAcquired cpu.old.cpu cpu.new.cpu) result }
+    ensures refused { IfErr result (λ _. cpu.new ≡ cpu.old) }
+    ensures words { cpu.new.words ≡ cpu.old.words }
 {
     let found = cpu.found;
     if found.number == 0 {
@@ -34,6 +44,16 @@ pub fn copy<D: Domain>(words: &Words, cpu: &mut Cpu<D>, psref: &Psref) -> Result
     requires words { AreWordsOf words.now D.table D.settings }
     ensures answer { Answers (why_not_copied cpu.old.view psref.now.number (why_unusable cpu.old.view psref.now)) (IsCopied psref.now.number cpu.old cpu.new) result }
     ensures refused { IfErr result (λ _. cpu.new ≡ cpu.old) }
+{
+    copy_on(words, &mut cpu.plain, psref)
+}
+
+/// `copy` on a CPU that names its own table. Condition: the words are its table's.
+pub fn copy_on(words: &Words, cpu: &mut PlainCpu, psref: &Psref) -> Result<Psref, Refusal>
+    requires words { AreWordsOf words.now cpu.old.words.table cpu.old.words.settings }
+    ensures answer { Answers (why_not_copied cpu.old.cpu.view psref.now.number (why_unusable cpu.old.cpu.view psref.now)) (IsCopied psref.now.number cpu.old.cpu cpu.new.cpu) result }
+    ensures refused { IfErr result (λ _. cpu.new ≡ cpu.old) }
+    ensures words { cpu.new.words ≡ cpu.old.words }
 {
     let slot = usable_slot(cpu, psref)?;
     add(words, cpu, slot, psref.number)
@@ -51,6 +71,16 @@ pub fn release<D: Domain>(
     ensures answer { GivesBack (why_unusable cpu.old.view psref) psref (λ _. HasOneLess psref.number cpu.old cpu.new) result }
     ensures refused { IfErr result (λ _. cpu.new ≡ cpu.old) }
 {
+    release_on(words, &mut cpu.plain, psref)
+}
+
+/// `release` on a CPU that names its own table. Condition: the words are its table's.
+pub fn release_on(words: &Words, cpu: &mut PlainCpu, psref: Psref) -> Result<(), (Refusal, Psref)>
+    requires words { AreWordsOf words.now cpu.old.words.table cpu.old.words.settings }
+    ensures answer { GivesBack (why_unusable cpu.old.cpu.view psref) psref (λ _. HasOneLess psref.number cpu.old.cpu cpu.new.cpu) result }
+    ensures refused { IfErr result (λ _. cpu.new ≡ cpu.old) }
+    ensures words { cpu.new.words ≡ cpu.old.words }
+{
     match usable_slot(cpu, &psref) {
         Ok(slot) => {
             subtract(words, cpu, slot, psref.number);
@@ -62,11 +92,12 @@ pub fn release<D: Domain>(
 }
 
 /// Adds one reference to an entry that this CPU found last or refers to, unless it has as many as it may.
-fn add<D: Domain>(words: &Words, cpu: &mut Cpu<D>, slot: u8, number: u64) -> Result<Psref, Refusal>
-    requires words { AreWordsOf words.now D.table D.settings }
-    requires known { MayRefer cpu.old.view slot number }
-    ensures answer { Answers (why_full cpu.old.view number) (IsAdded slot number cpu.old cpu.new) result }
+fn add(words: &Words, cpu: &mut PlainCpu, slot: u8, number: u64) -> Result<Psref, Refusal>
+    requires words { AreWordsOf words.now cpu.old.words.table cpu.old.words.settings }
+    requires known { MayRefer cpu.old.cpu.view slot number }
+    ensures answer { Answers (why_full cpu.old.cpu.view number) (IsAdded slot number cpu.old.cpu cpu.new.cpu) result }
     ensures refused { IfErr result (λ _. cpu.new ≡ cpu.old) }
+    ensures words { cpu.new.words ≡ cpu.old.words }
 {
     let count = count_of(cpu, slot, number);
     if let Some(refusal) = why_full(count, words.settings().passive_limit) {
@@ -84,10 +115,11 @@ fn add<D: Domain>(words: &Words, cpu: &mut Cpu<D>, slot: u8, number: u64) -> Res
 }
 
 /// Takes away one reference, of those that this CPU has to the entry.
-fn subtract<D: Domain>(words: &Words, cpu: &mut Cpu<D>, slot: u8, number: u64)
-    requires words { AreWordsOf words.now D.table D.settings }
-    requires held { IsHeldAt cpu.old.view slot number }
-    ensures { HasOneLess number cpu.old cpu.new }
+fn subtract(words: &Words, cpu: &mut PlainCpu, slot: u8, number: u64)
+    requires words { AreWordsOf words.now cpu.old.words.table cpu.old.words.settings }
+    requires held { IsHeldAt cpu.old.cpu.view slot number }
+    ensures less { HasOneLess number cpu.old.cpu cpu.new.cpu }
+    ensures words { cpu.new.words ≡ cpu.old.words }
 {
     steps::passive_sub(words, &mut cpu.seat, cpu.id, slot, number);
     cpu.passive[slot as usize].count -= 1;

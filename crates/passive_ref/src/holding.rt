@@ -7,22 +7,29 @@ ghost use Rattle.passive_ref.specs.Psrefs.{IsHeldAt, MayRefer, counts_for, why_u
 
 use crate::psref::Psref;
 use cpu_words::Domain;
-use passive_list::{Cpu, Place};
+use passive_list::{Cpu, Place, PlainCpu};
 use registry_values::{Refusal, why_unusable};
 
 /// Whether this CPU holds a passive reference to that number, whichever CPU the reference names (psref(9)).
 pub fn held<D: Domain>(cpu: &Cpu<D>, psref: &Psref) -> bool
     ensures { IsTrue result ↔ 0 < references_to psref.now.number cpu.now.view.references }
 {
-    match slot_of(cpu, psref.number) {
+    held_on(&cpu.plain, psref.number())
+}
+
+/// Whether a CPU that names its own table holds a passive reference to that number.
+pub fn held_on(cpu: &PlainCpu, number: u64) -> bool
+    ensures { IsTrue result ↔ 0 < references_to number cpu.now.cpu.view.references }
+{
+    match slot_of(cpu, number) {
         Some(_) => true,
         None => false,
     }
 }
 
 /// The slot of the entry that the reference is to, or why this CPU may not use it.
-pub(crate) fn usable_slot<D: Domain>(cpu: &Cpu<D>, psref: &Psref) -> Result<u8, Refusal>
-    ensures { Answers (why_unusable cpu.now.view psref.now) (λ t. IsHeldAt cpu.now.view t psref.now.number) result }
+pub(crate) fn usable_slot(cpu: &PlainCpu, psref: &Psref) -> Result<u8, Refusal>
+    ensures { Answers (why_unusable cpu.now.cpu.view psref.now) (λ t. IsHeldAt cpu.now.cpu.view t psref.now.number) result }
 {
     let held = slot_of(cpu, psref.number);
     match (why_unusable(psref.cpu == cpu.id, held.is_some()), held) {
@@ -33,9 +40,9 @@ pub(crate) fn usable_slot<D: Domain>(cpu: &Cpu<D>, psref: &Psref) -> Result<u8, 
 }
 
 /// The slot of the entry with that number, where this CPU refers to it.
-fn slot_of<D: Domain>(cpu: &Cpu<D>, number: u64) -> Option<u8>
-    ensures some { IfSome result (λ t. IsHeldAt cpu.now.view t number) }
-    ensures none { result ≡ None → references_to number cpu.now.view.references ≡ 0 }
+fn slot_of(cpu: &PlainCpu, number: u64) -> Option<u8>
+    ensures some { IfSome result (λ t. IsHeldAt cpu.now.cpu.view t number) }
+    ensures none { result ≡ None → references_to number cpu.now.cpu.view.references ≡ 0 }
 {
     match place_for(number, &cpu.passive) {
         Some(slot) => Some(slot as u8),
@@ -54,9 +61,9 @@ fn place_for(number: u64, places: &[Place]) -> Option<usize>
 }
 
 /// How many references this CPU has to an entry that it found last or refers to.
-pub(crate) fn count_of<D: Domain>(cpu: &Cpu<D>, slot: u8, number: u64) -> u64
-    requires { MayRefer cpu.now.view slot number }
-    ensures { result ≡ references_to number cpu.now.view.references }
+pub(crate) fn count_of(cpu: &PlainCpu, slot: u8, number: u64) -> u64
+    requires { MayRefer cpu.now.cpu.view slot number }
+    ensures { result ≡ references_to number cpu.now.cpu.view.references }
 {
     let place = cpu.passive[slot as usize];
     if place.number == number {

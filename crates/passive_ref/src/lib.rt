@@ -15,8 +15,8 @@ mod looking;
 mod psref;
 mod reading;
 
-pub use acquiring::{acquire, copy, release};
-pub use holding::held;
+pub use acquiring::{acquire, acquire_on, copy, copy_on, release, release_on};
+pub use holding::{held, held_on};
 pub use looking::look_passive;
 pub use psref::Psref;
-pub use reading::read;
+pub use reading::{read, read_on};

@@ -35,6 +35,14 @@ impl Psref {
         self.number
     }
 
+    /// The reference that a CPU has to that number, from what `cpu` and `number` said of one that was forgotten. It is only as good as they
+    /// are: the CPU judges it by its own references to that number.
+    pub fn remembered(cpu: u8, number: u64) -> Psref
+        ensures { result ≡ record { cpu = cpu; number = number } }
+    {
+        Psref { cpu, number }
+    }
+
     /// Gives the value up and leaves the reference held: its CPU never releases it, and the entry keeps its slot for good.
     pub fn forget(self) {
         let Psref { cpu: _, number: _ } = self;

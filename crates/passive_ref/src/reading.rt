@@ -9,7 +9,7 @@ ghost use Rattle.passive_ref.specs.Psrefs.{IsHeldAt, IsRead, why_unusable};
 use crate::holding::usable_slot;
 use crate::psref::Psref;
 use cpu_words::{Domain, Words, steps};
-use passive_list::Cpu;
+use passive_list::{Cpu, PlainCpu};
 use registry_values::{Record, Refusal, record_from};
 
 /// The record of the entry that the reference is to, which stays while the reference is held (psref(9)). It needs no section, and
@@ -21,15 +21,24 @@ pub fn read<D: Domain>(words: &Words, cpu: &mut Cpu<D>, psref: &Psref) -> Result
     ensures answer { Answers (why_unusable cpu.old.view psref.now) (IsRead cpu.old.view psref.now.number) result }
     ensures same { cpu.new ≡ cpu.old }
 {
+    read_on(words, &mut cpu.plain, psref)
+}
+
+/// `read` on a CPU that names its own table. Condition: the words are its table's.
+pub fn read_on(words: &Words, cpu: &mut PlainCpu, psref: &Psref) -> Result<Record, Refusal>
+    requires words { AreWordsOf words.now cpu.old.words.table cpu.old.words.settings }
+    ensures answer { Answers (why_unusable cpu.old.cpu.view psref.now) (IsRead cpu.old.cpu.view psref.now.number) result }
+    ensures same { cpu.new ≡ cpu.old }
+{
     let slot = usable_slot(cpu, psref)?;
     Ok(load_record(words, cpu, slot, psref.number))
 }
 
 /// Loads words 1 to 4 of the record of an entry that this CPU refers to.
-fn load_record<D: Domain>(words: &Words, cpu: &mut Cpu<D>, slot: u8, number: u64) -> Record
-    requires words { AreWordsOf words.now D.table D.settings }
-    requires held { IsHeldAt cpu.old.view slot number }
-    ensures record { IsRead cpu.old.view number result }
+fn load_record(words: &Words, cpu: &mut PlainCpu, slot: u8, number: u64) -> Record
+    requires words { AreWordsOf words.now cpu.old.words.table cpu.old.words.settings }
+    requires held { IsHeldAt cpu.old.cpu.view slot number }
+    ensures record { IsRead cpu.old.cpu.view number result }
     ensures same { cpu.new ≡ cpu.old }
 {
     let kind = load_word(words, cpu, slot, number, 1);
@@ -40,12 +49,12 @@ fn load_record<D: Domain>(words: &Words, cpu: &mut Cpu<D>, slot: u8, number: u64
 }
 
 /// Loads one word of that record.
-fn load_word<D: Domain>(words: &Words, cpu: &mut Cpu<D>, slot: u8, number: u64, k: u8) -> u64
-    requires words { AreWordsOf words.now D.table D.settings }
-    requires held { IsHeldAt cpu.old.view slot number }
+fn load_word(words: &Words, cpu: &mut PlainCpu, slot: u8, number: u64, k: u8) -> u64
+    requires words { AreWordsOf words.now cpu.old.words.table cpu.old.words.settings }
+    requires held { IsHeldAt cpu.old.cpu.view slot number }
     requires place { k < 5 }
-    ensures word { IsWordOf cpu.old.view slot number k result }
-    ensures name { IsNamed cpu.old.view slot number }
+    ensures word { IsWordOf cpu.old.cpu.view slot number k result }
+    ensures name { IsNamed cpu.old.cpu.view slot number }
     ensures same { cpu.new ≡ cpu.old }
 {
     steps::load_passive(words, &mut cpu.seat, cpu.id, slot, number, k)

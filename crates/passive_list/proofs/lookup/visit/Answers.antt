@@ -1,6 +1,6 @@
 -- The words of a slot, one after the other.
 use Rattle.std.proofs.Common.{refl, sym, subst, Bool}
-use Rattle.protocol.specs.declared.state.Place.TheVariants.{AtNumber, AtKind, AtHigh, AtLow}
+use Rattle.protocol.specs.declared.state.SearchPlace.TheVariants.{AtNumber, AtKind, AtHigh, AtLow}
 use Rattle.cpu_words.specs.Searching.{key_with}
 use Rattle.passive_list.specs.Walking.{HasVisited}
 use Rattle.passive_list.proofs.Walking.{goes_on, may_load, visited}

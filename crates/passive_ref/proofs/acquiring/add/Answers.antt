@@ -1,11 +1,12 @@
 -- The data agree with the view as a reference is added.
 use Rattle.std.proofs.Common.{◌∙◌, sym, ap}
-use Rattle.passive_list.specs.Cpus.{OnCpu}
+use Rattle.passive_list.specs.Cpus.{OnPlainCpu}
 use Rattle.cpu_words.specs.Views.{references_to}
+use Rattle.passive_list.proofs.Agreeing.{own_agrees}
 use Rattle.passive_ref.proofs.Changing.{added_agrees}
 use Rattle.passive_ref.proofs.acquiring.add.Goals as goal
 
 pub invariant_of-cpu : goal.invariant_of-cpu
-invariant_of-cpu g c =
-    let count = c.count_of-count.ensures ∙ ap (λ (o : OnCpu). references_to c.args.number o.view.references) (sym c.cpu.view_is) in
-    added_agrees _ _ _ _ _ _ _ _ _ _ _ _ _ _ _ c.cpu.invariant c.passive_add.ensures.table c.passive_add.ensures.change c.requires.known.few c.passive_add.ensures.alone count
+invariant_of-cpu c =
+    let count = c.count_of-count.ensures ∙ ap (λ (o : OnPlainCpu). references_to c.args.number o.cpu.view.references) (sym c.cpu.view_is) in
+    own_agrees _ _ _ _ _ _ _ _ _ _ (added_agrees _ _ _ _ _ _ _ _ _ _ _ _ _ _ _ c.cpu.invariant c.passive_add.ensures.table c.passive_add.ensures.change c.requires.known.few c.passive_add.ensures.alone count)

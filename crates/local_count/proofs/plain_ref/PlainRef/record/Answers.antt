@@ -3,10 +3,11 @@ use Rattle.std.proofs.Common.{◌≡◌, ◌∙◌, ap}
 use Rattle.protocol.specs.Events.{word, words_of}
 use Rattle.registry_values.specs.Names.{are_name_words}
 use Rattle.cpu_words.specs.declared.view.ReferenceView.{ReferenceView}
-use Rattle.local_count.proofs.local_ref.LocalRef.record.Goals as goal
+use Rattle.local_count.specs.References.{OnPlainRef}
+use Rattle.local_count.proofs.plain_ref.PlainRef.record.Goals as goal
 
 pub record_from-requires : goal.record_from-requires
-record_from-requires g c =
+record_from-requires c =
     let first = c.load_local-kind.ensures.same in
     let second = c.load_local-high.ensures.same ∙ first in
     let name = c.self.inside.seat.view.entry.rec.name in
@@ -15,7 +16,7 @@ record_from-requires g c =
     (λ i. are_name_words (high i) (low i)) ∙ c.load_local-kind.ensures.name
 
 pub returns-clause-value : goal.returns-clause-value
-returns-clause-value g c =
+returns-clause-value c =
     let r = c.self.inside.seat.view.entry.rec in
     let first : c.load_local-kind.new.seat.view ≡ c.self.inside.seat.view = c.load_local-kind.ensures.same in
     let second : c.load_local-high.new.seat.view ≡ c.self.inside.seat.view = c.load_local-high.ensures.same ∙ first in
@@ -23,4 +24,4 @@ returns-clause-value g c =
     let high : c.load_local-high.result ≡ r.name.high = c.load_local-high.ensures.word ∙ ap (λ (v : ReferenceView). word (words_of v.entry) 2) first in
     let low : c.load_local-low.result ≡ r.name.low = c.load_local-low.ensures.word ∙ ap (λ (v : ReferenceView). word (words_of v.entry) 3) second in
     let value : c.load_local-value.result ≡ r.value = c.load_local-value.ensures.word ∙ ap (λ (v : ReferenceView). word (words_of v.entry) 4) third in
-    c.record_from.ensures r c.load_local-kind.ensures.word high low value ∙ ap (λ (v : ReferenceView). v.entry.rec) c.self.view_is
+    c.record_from.ensures r c.load_local-kind.ensures.word high low value ∙ ap (λ (o : OnPlainRef). o.reference.entry.rec) c.self.view_is

@@ -18,7 +18,7 @@ use Rattle.passive_list.specs.Publishing.{MayAttach, HasEntry, prepared}
 use Rattle.passive_list.proofs.Attached.{published_keeper, row_live}
 use Rattle.local_count.specs.Draining.{HasAttachedKeeping}
 use Rattle.local_count.proofs.Keeping.{rows_keeping, states_keeping, may_attach, same_history}
-use Rattle.local_count.proofs.interfaces.publish_iface.Goals as goal
+use Rattle.local_count.proofs.interfaces.publish_keeping.Goals as goal
 
 pub publish_entry-requires-clause-may : goal.publish_entry-requires-clause-may
 publish_entry-requires-clause-may g c =
@@ -48,7 +48,7 @@ returns-clause-change g c =
     let rows = rows_keeping inside.rows t c.reference.inside.number in
     let e : Entry = record { number = inside.changes + 1; slot = t; rec = c.args.rec } in
     let b : OnKeeper = record { view = l; slots = states_of (set rows t (row_live (row_at rows t) e)) } in
-    subst (λ (p : OnKeeper × ReferenceView). HasAttachedKeeping p.0 p.1 e b) (λ i. (c.keeper.view_is i, c.reference.view_is i)) record {
+    subst (λ (p : OnKeeper × ReferenceView). HasAttachedKeeping p.0 p.1 e b) (λ i. (c.keeper.view_is i, (c.reference.view_is i).reference)) record {
       vacated = c.keep.ensures.vacant;
       kept = subst (λ (x : KeeperView). JoinsBy (Keep t) (Keeper (as_vacant k t)) (Reference v) (Keeper x)) c.keep.ensures.change c.keep.ensures.event;
       attached = record {

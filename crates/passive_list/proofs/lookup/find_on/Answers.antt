@@ -3,15 +3,15 @@ use Rattle.std.proofs.Common.{Option, subst, sym}
 use Rattle.registry_values.specs.declared.entry.Entry.{Entry}
 use Rattle.cpu_words.specs.Searching.{key_with}
 use Rattle.passive_list.specs.Walking.{HasLookedUp}
-use Rattle.passive_list.proofs.Agreeing.{looked_up_agrees}
+use Rattle.passive_list.proofs.Agreeing.{looked_up_agrees, own_agrees}
 use Rattle.passive_list.proofs.Walking.{slot_seen}
-use Rattle.passive_list.proofs.lookup.find.Goals as goal
+use Rattle.passive_list.proofs.lookup.find_on.Goals as goal
 
 pub keep-requires : goal.keep-requires
-keep-requires g c = record { slot = slot_seen (key_with c.args.kind c.args.name.now) _ _ c.look_up-seen.result c.look_up-seen.ensures.change }
+keep-requires c = record { slot = slot_seen (key_with c.args.kind c.args.name.now) _ _ c.look_up-seen.result c.look_up-seen.ensures.change }
 
 pub invariant_of-cpu : goal.invariant_of-cpu
-invariant_of-cpu g c =
+invariant_of-cpu c =
     let key = key_with c.args.kind c.args.name.now in
     let had = subst (λ (e : Option Entry). HasLookedUp key c.cpu.inside.seat.view c.look_up-seen.new.seat.view e) (sym c.keep.ensures.entry) c.look_up-seen.ensures.change in
-    looked_up_agrees _ _ _ _ _ _ _ _ _ _ _ _ _ _ _ c.cpu.invariant c.look_up-seen.ensures.table c.keep.ensures.kept had
+    own_agrees _ _ _ _ _ _ _ _ _ _ (looked_up_agrees _ _ _ _ _ _ _ _ _ _ _ _ _ _ _ c.cpu.invariant c.look_up-seen.ensures.table c.keep.ensures.kept had)

@@ -1,0 +1,80 @@
+//! A virtual CPU that names its table by its own seat: what a call on a CPU does is done with one, whoever makes it.
+
+ghost use Rattle.std.specs.Prelude.{◌≡◌, ◌≢◌, ◌↔◌, ◌<◌, IsTrue, None};
+ghost use Rattle.registry_values.specs.Limits.{are_fit};
+ghost use Rattle.cpu_words.specs.Views.{new_cpu};
+
+use crate::place::{Found, Place};
+use cpu_words::CpuSeat;
+use std::marker::Model;
+
+/// A virtual CPU of the table that its seat is of: the seat, and plain data that agree with what the seat knows. To a contract it is that
+/// table with its settings, and what `Cpu` is to one. Binding is ownership: the thread that owns the value runs on that CPU.
+#[derive(Drop)]
+pub struct PlainCpu {
+    pub seat: CpuSeat,
+    /// The CPU's number, from 0.
+    pub id: u8,
+    /// The sections that it has ended: its section word is twice that, and one more inside.
+    pub ended: u64,
+    /// 0 outside, else how many enters are open.
+    pub depth: u8,
+    /// The entry that its last lookup in the open section found.
+    pub found: Found,
+    /// By slot: its passive references.
+    pub passive: [Place; 32],
+    /// By slot: its net count of local references, over the bias.
+    pub net: [Place; 32],
+}
+
+impl Model for PlainCpu {
+    ghost use Rattle.passive_list.specs.Cpus.{OnPlainCpu, IsOurCpu};
+
+    ghost Value = { OnPlainCpu };
+
+    ghost view = { λ c. record { words = record { table = c.seat.table; settings = c.seat.view.settings }; cpu = record { view = c.seat.view; depth = c.depth } } };
+
+    ghost invariant = { λ c. IsOurCpu c.seat.table c.seat.view.settings c.seat.table c.seat.view c.id c.ended c.depth c.found c.passive c.net };
+}
+
+impl PlainCpu {
+    /// The CPU of a new seat: outside, with nothing found and nothing held.
+    /// Condition: the seat is as `Words::new` gave it.
+    pub fn of_seat(seat: CpuSeat, id: u8) -> PlainCpu
+        requires fit { IsTrue (are_fit seat.view.settings) × (id < 8) }
+        requires new { seat.view ≡ new_cpu seat.view.settings id }
+        ensures words { result.words ≡ record { table = seat.table; settings = seat.view.settings } }
+        ensures cpu { result.cpu ≡ record { view = seat.view; depth = 0 } }
+    {
+        PlainCpu {
+            seat,
+            id,
+            ended: 0,
+            depth: 0,
+            found: Found::NONE,
+            passive: [Place::NONE; 32],
+            net: [Place::NONE; 32],
+        }
+    }
+
+    /// The CPU's number, from 0.
+    pub fn id(&self) -> u8
+        ensures { result ≡ self.now.cpu.view.id }
+    {
+        self.id
+    }
+
+    /// How many enters are open: 0 outside, at most 255.
+    pub fn depth(&self) -> u8
+        ensures { result ≡ self.now.cpu.depth }
+    {
+        self.depth
+    }
+
+    /// The test for being inside a section.
+    pub fn inside(&self) -> bool
+        ensures { IsTrue result ↔ self.now.cpu.view.begin ≢ None }
+    {
+        self.depth > 0
+    }
+}
