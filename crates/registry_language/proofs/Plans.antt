@@ -7,10 +7,10 @@ use Rattle.std.specs.List.{list_all}
 use Rattle.registry_values.specs.declared.settings.Settings.{Settings}
 use Rattle.registry_language.specs.declared.command.Command.{Command}
 use Rattle.registry_language.specs.declared.command.Command.TheVariants.{Domain, Limits}
-use Rattle.registry_language.specs.declared.place.Place.{Place}
-use Rattle.registry_language.specs.declared.place.Place.TheVariants.{First, Second, Later}
+use Rattle.registry_language.specs.declared.position.Position.{Position}
+use Rattle.registry_language.specs.declared.position.Position.TheVariants.{First, Second, Later}
 use Rattle.registry_language.specs.declared.fault.Cause.{Cause}
-use Rattle.registry_language.specs.Program.{Plan, IsProgram, AreBefore, suits, is_of_run, may_follow, place_after, with_command}
+use Rattle.registry_language.specs.Program.{Plan, IsProgram, AreBefore, suits, is_of_run, may_follow, position_after, with_command}
 use Rattle.registry_language.specs.Grammar.{◌>>=◌, at_line, line_of, plan_of}
 
 plan_cons : (n : ℕ) (p : Plan) (line : List ℕ) (lines : List (List ℕ)) → plan_of n p (line ∷ lines) ≡ (at_line n (line_of p.place line) >>= λ said. plan_of (n + 1) (with_command p said) lines)
@@ -53,7 +53,7 @@ or_false true h = refl
 or_false false h = h
 
 -- a command that may follow keeps the commands those of a program
-pub one_command_more : (place : Place) (commands : List Command) (command : Command) → AreBefore place commands → IsTrue (may_follow place command) → AreBefore (place_after place command) (commands ++ command ∷ [])
+pub one_command_more : (place : Position) (commands : List Command) (command : Command) → AreBefore place commands → IsTrue (may_follow place command) → AreBefore (position_after place command) (commands ++ command ∷ [])
 one_command_more First commands (Domain cpus slots) e h = record { fit = h; suited = rw e refl }
 one_command_more First commands _ e h = cc
 one_command_more (Second s) commands (Limits changes sections passive count) p h =

@@ -11,8 +11,8 @@ use Rattle.registry_values.specs.declared.name.Name.{Name}
 use Rattle.registry_values.specs.declared.name.NameFault.{NameFault}
 use Rattle.registry_values.specs.Names.{named}
 use Rattle.registry_language.specs.declared.label.Label.{Label}
-use Rattle.registry_language.specs.declared.place.Place.{Place}
-use Rattle.registry_language.specs.declared.place.Place.TheVariants.{First, Second, Later}
+use Rattle.registry_language.specs.declared.position.Position.{Position}
+use Rattle.registry_language.specs.declared.position.Position.TheVariants.{First, Second, Later}
 use Rattle.registry_language.specs.declared.command.Verb.{Verb}
 use Rattle.registry_language.specs.declared.command.Verb.TheVariants as verbs
 use Rattle.registry_language.specs.declared.command.Command.{Command}
@@ -267,12 +267,12 @@ abbrev pub second_of : Settings → Verb → List (List ℕ) → Result Command 
 second_of s verbs.Limits words = limits_of s words
 second_of s verb words = later_of s verb words
 
-abbrev pub command_at : Place → Verb → List (List ℕ) → Result Command Cause
+abbrev pub command_at : Position → Verb → List (List ℕ) → Result Command Cause
 command_at First verb words = first_of verb words
 command_at (Second s) verb words = second_of s verb words
 command_at (Later s) verb words = later_of s verb words
 
-abbrev pub command_of : Place → Option Verb → List (List ℕ) → Result Command Cause
+abbrev pub command_of : Position → Option Verb → List (List ℕ) → Result Command Cause
 command_of place None words = Err UnknownCommand
 command_of place (Some verb) words = command_at place verb words
 
@@ -280,7 +280,7 @@ abbrev pub is_comment : List ℕ → Bool
 is_comment [] = false
 is_comment (b ∷ bs) = b == 35
 
-unfoldable pub said : Place → List (List ℕ) → Result (Option Command) Cause
+unfoldable pub said : Position → List (List ℕ) → Result (Option Command) Cause
 said place [] = Ok None
 said place (first ∷ words) = if is_comment first then Ok None else (command_of place (verb_of first) words >>= λ c. Ok (Some c))
 
@@ -288,7 +288,7 @@ abbrev pub is_bad_byte : ℕ → Bool
 is_bad_byte b = nat_lt b 32 || nat_lt 126 b
 
 -- what a line says
-unfoldable pub line_of : Place → List ℕ → Result (Option Command) Cause
+unfoldable pub line_of : Position → List ℕ → Result (Option Command) Cause
 line_of place line = if nat_lt 120 (length line) then Err LongLine else (if list_any is_bad_byte line then Err BadByte else said place (words_of line))
 
 -- with the number of the line
@@ -301,7 +301,7 @@ unfoldable pub plan_of : ℕ → Plan → List (List ℕ) → Result Plan Script
 plan_of n plan [] = Ok plan
 plan_of n plan (line ∷ lines) = at_line n (line_of plan.place line) >>= λ said. plan_of (n + 1) (with_command plan said) lines
 
-abbrev pub program_of : Place → List Command → Result Program ScriptFault
+abbrev pub program_of : Position → List Command → Result Program ScriptFault
 program_of First commands = Err (record { line = 1; cause = NoDomain })
 program_of (Second s) commands = Ok (record { settings = s; commands = commands })
 program_of (Later s) commands = Ok (record { settings = s; commands = commands })

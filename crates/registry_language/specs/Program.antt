@@ -6,8 +6,8 @@ use Rattle.registry_values.specs.Limits.{are_fit, is_within}
 use Rattle.registry_values.specs.Names.{is_lawful}
 use Rattle.registry_values.specs.Slots.{is_iface}
 use Rattle.registry_language.specs.declared.label.Label.{Label}
-use Rattle.registry_language.specs.declared.place.Place.{Place}
-use Rattle.registry_language.specs.declared.place.Place.TheVariants.{First, Second, Later}
+use Rattle.registry_language.specs.declared.position.Position.{Position}
+use Rattle.registry_language.specs.declared.position.Position.TheVariants.{First, Second, Later}
 use Rattle.registry_language.specs.declared.command.Command.{Command}
 use Rattle.registry_language.specs.declared.command.Command.TheVariants.{Domain, Limits, Attach, Plug, Detach, Enter, Exit, Find, Reference, Copy, Held, Read, Release, Count, Peek, Uncount, Advance, Destroy, Perform, Audit}
 
@@ -17,7 +17,7 @@ pub record Program : Type 0 where
 
 -- where the next command stands, and the commands before it
 pub record Plan : Type 0 where
-  pub place : Place
+  pub place : Position
   pub commands : List Command
 
 abbrev pub blank : Plan
@@ -83,7 +83,7 @@ is_of_run s (Limits changes sections passive count) = false
 is_of_run s command = suits s command
 
 -- a command that may come there: domain comes first, and limits second or not at all
-abbrev pub may_follow : Place → Command → Bool
+abbrev pub may_follow : Position → Command → Bool
 may_follow First command = begins command
 may_follow (Second s) command = limits_rightly s command || is_of_run s command
 may_follow (Later s) command = is_of_run s command
@@ -94,22 +94,22 @@ settings_after s (Limits changes sections passive count) = with_limits s changes
 settings_after s _ = s
 
 -- where the next command stands
-abbrev pub place_after : Place → Command → Place
-place_after First (Domain cpus slots) = Second (settings_for cpus slots)
-place_after First _ = First
-place_after (Second s) command = Later (settings_after s command)
-place_after (Later s) command = Later s
+abbrev pub position_after : Position → Command → Position
+position_after First (Domain cpus slots) = Second (settings_for cpus slots)
+position_after First _ = First
+position_after (Second s) command = Later (settings_after s command)
+position_after (Later s) command = Later s
 
 abbrev pub with_command : Plan → Option Command → Plan
 with_command p None = p
-with_command p (Some command) = record { place = place_after p.place command; commands = p.commands ++ command ∷ [] }
+with_command p (Some command) = record { place = position_after p.place command; commands = p.commands ++ command ∷ [] }
 
 pub record IsProgram (p : Program) : Type 0 where
   pub fit : IsTrue (are_fit p.settings)
   pub suited : IsTrue (list_all (suits p.settings) p.commands)
 
 -- the commands so far are those of a program
-abbrev pub AreBefore : Place → List Command → Type 0
+abbrev pub AreBefore : Position → List Command → Type 0
 AreBefore First commands = commands ≡ []
 AreBefore (Second s) commands = IsProgram (record { settings = s; commands = commands })
 AreBefore (Later s) commands = IsProgram (record { settings = s; commands = commands })

@@ -1,11 +1,14 @@
 //! The language of scripts: words, labels, commands, the parser, and why a script was not run to its end.
+//!
+//! `parse_script` takes the bytes line by line: a line's words, the command that they name, and whether it may stand there after the lines
+//! before it. The first fault ends it; a `Script` has none, and each CPU that its commands name is one of its settings'.
 #![tactic(auto)]
 
 mod command;
 mod fault;
 mod label;
 mod parse;
-mod place;
+mod position;
 mod script;
 mod words;
 

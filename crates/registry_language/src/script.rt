@@ -10,7 +10,7 @@ ghost use Rattle.registry_language.specs.Parsing.{LineTakes, LineGives, ParseGiv
 use super::command::Command;
 use super::fault::{Cause, LineFault, ParseFault, ScriptFault};
 use super::parse::line;
-use super::place::Place;
+use super::position::Position;
 use super::words::lines;
 use registry_values::Settings;
 use std::alloc::Global;
@@ -54,7 +54,7 @@ impl Script {
 /// The lines so far.
 #[derive(Drop)]
 struct Draft {
-    place: Place,
+    place: Position,
     commands: Vec<Command>,
 }
 
@@ -73,7 +73,7 @@ impl Draft {
         ensures { result ≡ blank }
     {
         Draft {
-            place: Place::First,
+            place: Position::First,
             commands: Vec::new(alloc),
         }
     }
@@ -105,8 +105,11 @@ impl Draft {
     {
         let Draft { place, commands } = self;
         match place {
-            Place::Second(settings) | Place::Later(settings) => Ok(Script { settings, commands }),
-            Place::First => Err(ScriptFault {
+            Position::Second(settings) | Position::Later(settings) => Ok(Script {
+                settings,
+                commands,
+            }),
+            Position::First => Err(ScriptFault {
                 line: 1,
                 cause: Cause::NoDomain,
             }),

@@ -122,7 +122,7 @@ fn release_local<D: Domain, R: Wait>(
 {
     if let Some(reference) = place {
         // Reading it opens what its type keeps: it is a reference of this registry, which so has a CPU 0.
-        let _slot = reference.slot;
+        let _slot = reference.plain.slot;
         let cpu = &mut cpus[0];
         registry.release_local(rt, cpu, reference);
     }

@@ -9,5 +9,5 @@ pub use registry_language::{
     Cause, Command, Label, ParseFault, RunFault, Script, ScriptFault, parse_number, parse_script,
 };
 pub use registry_live::{run_live, run_live_on};
-pub use registry_report::{report_laws, run_core};
+pub use registry_report::{report_laws, run_core, write_text};
 pub use registry_storm::{Gate, OpenGate, StormDeeds, StormRun, StormSum, storm, storm_run};

@@ -14,16 +14,17 @@ use std::sync::{Mutex, Wait};
 pub struct Laid<D: Domain> {
     /// The CPU, from 0, that laid it there.
     pub by: u8,
+    /// To the driver.
     pub reference: LocalRef<D>,
 }
 
 /// A place for one local reference.
-type Place<D> = Mutex<Option<Laid<D>>>;
+type Basket<D> = Mutex<Option<Laid<D>>>;
 
 /// A place for each CPU that there may be, each under a lock of its own, which is held only to exchange what lies there. They can't be
 /// dropped: what lies in them is spent by `empty`.
 pub struct Baskets<D: Domain> {
-    places: [Place<D>; 8],
+    places: [Basket<D>; 8],
 }
 
 impl<D: Domain> Baskets<D> {
@@ -87,7 +88,7 @@ fn empty_place<D: Domain, R: Wait>(
     registry: &Registry<D>,
     cpu: &mut Cpu<D>,
     counts: &mut Counts,
-    place: Place<D>,
+    place: Basket<D>,
 )
     ensures section { SameSection cpu.old cpu.new }
     ensures lookups { counts.new.lookups ≡ counts.old.lookups }

@@ -15,6 +15,7 @@ use std::sync::Wait;
 /// The interface while it is live, and what was retired.
 #[derive(Clone, Copy)]
 pub struct Churn {
+    /// The interface, where it is attached now.
     pub live: Option<Entry>,
     /// By slot: the number of the interface that was retired in it and not yet seen freed, 0 for none. A slot is not given again before
     /// that, so there is one at most.

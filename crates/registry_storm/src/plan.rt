@@ -16,9 +16,13 @@ pub const DRIVER_VALUE: u64 = 7;
 /// How many CPUs and turns a storm has, and the names of its entries.
 #[derive(Clone, Copy)]
 pub struct Plan {
+    /// From 1 to 8, each with a worker.
     pub cpus: u8,
+    /// The turns of each worker, from 1.
     pub turns: u32,
+    /// The driver's name.
     pub driver: Name,
+    /// The name of each interface in turn.
     pub iface: Name,
     ghost some: { (1 ≤ cpus) × (cpus ≤ 8) × (1 ≤ turns) × (turns ≤ 100000) },
     ghost names: { (named (100 ∷ 114 ∷ 118 ∷ []) ≡ Ok driver) × (named (119 ∷ 109 ∷ 48 ∷ []) ≡ Ok iface) },

@@ -61,9 +61,13 @@ impl StormDeeds {
 /// What one worker counts, or all of them.
 #[derive(Clone, Copy, Debug, PartialEq, Eq)]
 pub struct Counts {
+    /// How often `find` was called.
     pub lookups: u64,
+    /// How many local references were released.
     pub references: u64,
+    /// How many answers weren't the one expected.
     pub wrong: u64,
+    /// What was done beside.
     pub deeds: StormDeeds,
 }
 

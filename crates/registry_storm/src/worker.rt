@@ -20,14 +20,18 @@ use std::sync::Wait;
 #[derive(Drop)]
 pub struct Shared<'a, D: Domain, G: Gate> {
     pub registry: &'a Registry<D>,
+    /// Where workers leave local references to one another.
     pub baskets: &'a Baskets<D>,
+    /// What each worker passes once a turn, inside its section.
     pub gate: &'a G,
+    /// How many CPUs and turns there are, and what the entries are called.
     pub plan: Plan,
 }
 
 /// What a worker leaves.
 #[derive(Clone, Copy)]
 pub struct Done {
+    /// What it counted.
     pub counts: Counts,
     /// What is left of the interface, which CPU 0 alone attaches.
     pub churn: Churn,
@@ -183,7 +187,7 @@ impl<'a, D: Domain, G: Gate> Shared<'a, D, G> {
         ensures section { SameSection cpu.old cpu.new }
         ensures counted { counts.new.lookups ≡ counts.old.lookups }
     {
-        let own = cpu.id;
+        let own = cpu.plain.id;
         let next = next_basket(own, self.plan.cpus);
         let laid = Laid { by: own, reference };
         let back = self.baskets.exchange(rt, next, laid);

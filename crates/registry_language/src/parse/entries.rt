@@ -7,13 +7,13 @@ ghost use Rattle.registry_language.specs.Program.{may_follow};
 use super::arguments::{cpu, kind, label, name, turns};
 use crate::command::Command;
 use crate::fault::Cause;
-use crate::place::Place;
+use crate::position::Position;
 use crate::words::number;
 use registry_values::{Kind, Record, Settings};
 
 pub fn attach(settings: Settings, arguments: &[&[u8]]) -> Result<Command, Cause>
     ensures said { result ≡ attach_of settings (map (λ x. x.now) arguments.now) }
-    ensures follows { IfOk result (λ command. IsTrue (may_follow (Place.Later settings) command)) }
+    ensures follows { IfOk result (λ command. IsTrue (may_follow (Position.Later settings) command)) }
 {
     match arguments {
         [cpu, kind, name, value] => attach_words(settings, cpu, kind, name, value),
@@ -30,7 +30,7 @@ fn attach_words(
     fourth: &[u8],
 ) -> Result<Command, Cause>
     ensures said { result ≡ attach_words settings first.now second.now third.now fourth.now }
-    ensures follows { IfOk result (λ command. IsTrue (may_follow (Place.Later settings) command)) }
+    ensures follows { IfOk result (λ command. IsTrue (may_follow (Position.Later settings) command)) }
 {
     let cpu = cpu(settings, first)?;
     let kind = kind(second)?;
@@ -42,7 +42,7 @@ fn attach_words(
 
 pub fn plug(settings: Settings, arguments: &[&[u8]]) -> Result<Command, Cause>
     ensures said { result ≡ plug_of settings (map (λ x. x.now) arguments.now) }
-    ensures follows { IfOk result (λ command. IsTrue (may_follow (Place.Later settings) command)) }
+    ensures follows { IfOk result (λ command. IsTrue (may_follow (Position.Later settings) command)) }
 {
     match arguments {
         [cpu, name, value, label] => plug_words(settings, cpu, name, value, label),
@@ -59,7 +59,7 @@ fn plug_words(
     fourth: &[u8],
 ) -> Result<Command, Cause>
     ensures said { result ≡ plug_words settings first.now second.now third.now fourth.now }
-    ensures follows { IfOk result (λ command. IsTrue (may_follow (Place.Later settings) command)) }
+    ensures follows { IfOk result (λ command. IsTrue (may_follow (Position.Later settings) command)) }
 {
     let cpu = cpu(settings, first)?;
     let name = name(second)?;
@@ -75,7 +75,7 @@ fn plug_words(
 
 pub fn detach(settings: Settings, arguments: &[&[u8]]) -> Result<Command, Cause>
     ensures said { result ≡ detach_of settings (map (λ x. x.now) arguments.now) }
-    ensures follows { IfOk result (λ command. IsTrue (may_follow (Place.Later settings) command)) }
+    ensures follows { IfOk result (λ command. IsTrue (may_follow (Position.Later settings) command)) }
 {
     match arguments {
         [cpu, kind, name] => detach_words(settings, cpu, kind, name),
@@ -91,7 +91,7 @@ fn detach_words(
     third: &[u8],
 ) -> Result<Command, Cause>
     ensures said { result ≡ detach_words settings first.now second.now third.now }
-    ensures follows { IfOk result (λ command. IsTrue (may_follow (Place.Later settings) command)) }
+    ensures follows { IfOk result (λ command. IsTrue (may_follow (Position.Later settings) command)) }
 {
     let cpu = cpu(settings, first)?;
     let kind = kind(second)?;
@@ -101,7 +101,7 @@ fn detach_words(
 
 pub fn find(settings: Settings, arguments: &[&[u8]]) -> Result<Command, Cause>
     ensures said { result ≡ find_of settings (map (λ x. x.now) arguments.now) }
-    ensures follows { IfOk result (λ command. IsTrue (may_follow (Place.Later settings) command)) }
+    ensures follows { IfOk result (λ command. IsTrue (may_follow (Position.Later settings) command)) }
 {
     match arguments {
         [cpu, kind, name] => find_words(settings, cpu, kind, name),
@@ -117,7 +117,7 @@ fn find_words(
     third: &[u8],
 ) -> Result<Command, Cause>
     ensures said { result ≡ find_words settings first.now second.now third.now }
-    ensures follows { IfOk result (λ command. IsTrue (may_follow (Place.Later settings) command)) }
+    ensures follows { IfOk result (λ command. IsTrue (may_follow (Position.Later settings) command)) }
 {
     let cpu = cpu(settings, first)?;
     let kind = kind(second)?;
@@ -128,7 +128,7 @@ fn find_words(
 #[tactic(auto, unfolding(crate::specs::Grammar::advance_of))]
 pub fn advance(settings: Settings, arguments: &[&[u8]]) -> Result<Command, Cause>
     ensures said { result ≡ advance_of (map (λ x. x.now) arguments.now) }
-    ensures follows { IfOk result (λ command. IsTrue (may_follow (Place.Later settings) command)) }
+    ensures follows { IfOk result (λ command. IsTrue (may_follow (Position.Later settings) command)) }
 {
     let [word] = arguments else {
         return Err(Cause::WrongCount);
@@ -139,7 +139,7 @@ pub fn advance(settings: Settings, arguments: &[&[u8]]) -> Result<Command, Cause
 
 pub fn destroy(settings: Settings, arguments: &[&[u8]]) -> Result<Command, Cause>
     ensures said { result ≡ destroy_of settings (map (λ x. x.now) arguments.now) }
-    ensures follows { IfOk result (λ command. IsTrue (may_follow (Place.Later settings) command)) }
+    ensures follows { IfOk result (λ command. IsTrue (may_follow (Position.Later settings) command)) }
 {
     match arguments {
         [cpu, number, turns] => destroy_words(settings, cpu, number, turns),
@@ -155,7 +155,7 @@ fn destroy_words(
     third: &[u8],
 ) -> Result<Command, Cause>
     ensures said { result ≡ destroy_words settings first.now second.now third.now }
-    ensures follows { IfOk result (λ command. IsTrue (may_follow (Place.Later settings) command)) }
+    ensures follows { IfOk result (λ command. IsTrue (may_follow (Position.Later settings) command)) }
 {
     let cpu = cpu(settings, first)?;
     let number = number(second).ok_or(Cause::BadNumber)?;

@@ -14,7 +14,7 @@ mod settings;
 
 use super::command::{Command, Verb};
 use super::fault::{Cause, LineFault};
-use super::place::Place;
+use super::position::Position;
 use super::words::{verb, words};
 use entries::{advance, attach, destroy, detach, find, plug};
 use references::{audit, copy, count, held, peek, read, reference, release, uncount};
@@ -26,7 +26,7 @@ use std::alloc::Global;
 /// What the first command says.
 fn first(verb: Verb, arguments: &[&[u8]]) -> Result<Command, Cause>
     ensures said { result ≡ first_of verb (map (λ x. x.now) arguments.now) }
-    ensures follows { IfOk result (λ command. IsTrue (may_follow Place.First command)) }
+    ensures follows { IfOk result (λ command. IsTrue (may_follow Position.First command)) }
 {
     match verb {
         Verb::Domain => domain(arguments),
@@ -37,7 +37,7 @@ fn first(verb: Verb, arguments: &[&[u8]]) -> Result<Command, Cause>
 /// What the second command says.
 fn second(settings: Settings, verb: Verb, arguments: &[&[u8]]) -> Result<Command, Cause>
     ensures said { result ≡ second_of settings verb (map (λ x. x.now) arguments.now) }
-    ensures follows { IfOk result (λ command. IsTrue (may_follow (Place.Second settings) command)) }
+    ensures follows { IfOk result (λ command. IsTrue (may_follow (Position.Second settings) command)) }
 {
     match verb {
         Verb::Limits => limits(settings, arguments),
@@ -48,7 +48,7 @@ fn second(settings: Settings, verb: Verb, arguments: &[&[u8]]) -> Result<Command
 /// What a later command says.
 fn later(settings: Settings, verb: Verb, arguments: &[&[u8]]) -> Result<Command, Cause>
     ensures said { result ≡ later_of settings verb (map (λ x. x.now) arguments.now) }
-    ensures follows { IfOk result (λ command. IsTrue (may_follow (Place.Later settings) command)) }
+    ensures follows { IfOk result (λ command. IsTrue (may_follow (Position.Later settings) command)) }
 {
     match verb {
         Verb::Domain | Verb::Limits => Err(Cause::Misplaced),
@@ -74,19 +74,19 @@ fn later(settings: Settings, verb: Verb, arguments: &[&[u8]]) -> Result<Command,
 }
 
 /// What a verb and the words after it say at this place.
-fn command_at(place: Place, verb: Verb, arguments: &[&[u8]]) -> Result<Command, Cause>
+fn command_at(place: Position, verb: Verb, arguments: &[&[u8]]) -> Result<Command, Cause>
     ensures said { result ≡ command_at place verb (map (λ x. x.now) arguments.now) }
     ensures follows { IfOk result (λ command. IsTrue (may_follow place command)) }
 {
     match place {
-        Place::First => first(verb, arguments),
-        Place::Second(settings) => second(settings, verb, arguments),
-        Place::Later(settings) => later(settings, verb, arguments),
+        Position::First => first(verb, arguments),
+        Position::Second(settings) => second(settings, verb, arguments),
+        Position::Later(settings) => later(settings, verb, arguments),
     }
 }
 
 /// The same, where the first word may name no command.
-fn command(place: Place, verb: Option<Verb>, arguments: &[&[u8]]) -> Result<Command, Cause>
+fn command(place: Position, verb: Option<Verb>, arguments: &[&[u8]]) -> Result<Command, Cause>
     ensures said { result ≡ command_of place verb (map (λ x. x.now) arguments.now) }
     ensures follows { IfOk result (λ command. IsTrue (may_follow place command)) }
 {
@@ -96,7 +96,7 @@ fn command(place: Place, verb: Option<Verb>, arguments: &[&[u8]]) -> Result<Comm
 
 /// What the words of a line say.
 #[tactic(auto, unfolding(crate::specs::Grammar::said))]
-fn sentence(place: Place, words: &[&[u8]]) -> Result<Option<Command>, Cause>
+fn sentence(place: Position, words: &[&[u8]]) -> Result<Option<Command>, Cause>
     ensures said { result ≡ said place (map (λ x. x.now) words.now) }
     ensures follows { IfOk result (λ said. IfSome said (λ command. IsTrue (may_follow place command))) }
 {
@@ -126,7 +126,7 @@ fn has_bad_byte(line: &[u8]) -> bool
 
 /// What a line says.
 #[tactic(auto, unfolding(crate::specs::Grammar::line_of))]
-pub fn line(alloc: Global, place: Place, line: &[u8]) -> Result<Option<Command>, LineFault>
+pub fn line(alloc: Global, place: Position, line: &[u8]) -> Result<Option<Command>, LineFault>
     ensures said { LineGives result (line_of place line.now) }
     ensures follows { IfOk result (λ said. IfSome said (λ command. IsTrue (may_follow place command))) }
 {

@@ -8,13 +8,13 @@ ghost use Rattle.registry_language.specs.Program.{may_follow};
 use super::arguments::{cpu, cpu_and_label, label};
 use crate::command::Command;
 use crate::fault::Cause;
-use crate::place::Place;
+use crate::position::Position;
 use registry_values::Settings;
 
 #[tactic(auto, unfolding(crate::specs::Grammar::reference_of))]
 pub fn reference(settings: Settings, arguments: &[&[u8]]) -> Result<Command, Cause>
     ensures said { result ≡ reference_of settings (map (λ x. x.now) arguments.now) }
-    ensures follows { IfOk result (λ command. IsTrue (may_follow (Place.Later settings) command)) }
+    ensures follows { IfOk result (λ command. IsTrue (may_follow (Position.Later settings) command)) }
 {
     let (cpu, label) = cpu_and_label(settings, arguments)?;
     Ok(Command::Reference { cpu, label })
@@ -22,7 +22,7 @@ pub fn reference(settings: Settings, arguments: &[&[u8]]) -> Result<Command, Cau
 
 pub fn copy(settings: Settings, arguments: &[&[u8]]) -> Result<Command, Cause>
     ensures said { result ≡ copy_of settings (map (λ x. x.now) arguments.now) }
-    ensures follows { IfOk result (λ command. IsTrue (may_follow (Place.Later settings) command)) }
+    ensures follows { IfOk result (λ command. IsTrue (may_follow (Position.Later settings) command)) }
 {
     match arguments {
         [cpu, source, target] => copy_words(settings, cpu, source, target),
@@ -38,7 +38,7 @@ fn copy_words(
     third: &[u8],
 ) -> Result<Command, Cause>
     ensures said { result ≡ copy_words settings first.now second.now third.now }
-    ensures follows { IfOk result (λ command. IsTrue (may_follow (Place.Later settings) command)) }
+    ensures follows { IfOk result (λ command. IsTrue (may_follow (Position.Later settings) command)) }
 {
     let cpu = cpu(settings, first)?;
     let source = label(second)?;
@@ -53,7 +53,7 @@ fn copy_words(
 #[tactic(auto, unfolding(crate::specs::Grammar::held_of))]
 pub fn held(settings: Settings, arguments: &[&[u8]]) -> Result<Command, Cause>
     ensures said { result ≡ held_of settings (map (λ x. x.now) arguments.now) }
-    ensures follows { IfOk result (λ command. IsTrue (may_follow (Place.Later settings) command)) }
+    ensures follows { IfOk result (λ command. IsTrue (may_follow (Position.Later settings) command)) }
 {
     let (cpu, label) = cpu_and_label(settings, arguments)?;
     Ok(Command::Held { cpu, label })
@@ -62,7 +62,7 @@ pub fn held(settings: Settings, arguments: &[&[u8]]) -> Result<Command, Cause>
 #[tactic(auto, unfolding(crate::specs::Grammar::read_of))]
 pub fn read(settings: Settings, arguments: &[&[u8]]) -> Result<Command, Cause>
     ensures said { result ≡ read_of settings (map (λ x. x.now) arguments.now) }
-    ensures follows { IfOk result (λ command. IsTrue (may_follow (Place.Later settings) command)) }
+    ensures follows { IfOk result (λ command. IsTrue (may_follow (Position.Later settings) command)) }
 {
     let (cpu, label) = cpu_and_label(settings, arguments)?;
     Ok(Command::Read { cpu, label })
@@ -71,7 +71,7 @@ pub fn read(settings: Settings, arguments: &[&[u8]]) -> Result<Command, Cause>
 #[tactic(auto, unfolding(crate::specs::Grammar::release_of))]
 pub fn release(settings: Settings, arguments: &[&[u8]]) -> Result<Command, Cause>
     ensures said { result ≡ release_of settings (map (λ x. x.now) arguments.now) }
-    ensures follows { IfOk result (λ command. IsTrue (may_follow (Place.Later settings) command)) }
+    ensures follows { IfOk result (λ command. IsTrue (may_follow (Position.Later settings) command)) }
 {
     let (cpu, label) = cpu_and_label(settings, arguments)?;
     Ok(Command::Release { cpu, label })
@@ -80,7 +80,7 @@ pub fn release(settings: Settings, arguments: &[&[u8]]) -> Result<Command, Cause
 #[tactic(auto, unfolding(crate::specs::Grammar::count_of))]
 pub fn count(settings: Settings, arguments: &[&[u8]]) -> Result<Command, Cause>
     ensures said { result ≡ count_of settings (map (λ x. x.now) arguments.now) }
-    ensures follows { IfOk result (λ command. IsTrue (may_follow (Place.Later settings) command)) }
+    ensures follows { IfOk result (λ command. IsTrue (may_follow (Position.Later settings) command)) }
 {
     let (cpu, label) = cpu_and_label(settings, arguments)?;
     Ok(Command::Count { cpu, label })
@@ -89,7 +89,7 @@ pub fn count(settings: Settings, arguments: &[&[u8]]) -> Result<Command, Cause>
 #[tactic(auto, unfolding(crate::specs::Grammar::peek_of))]
 pub fn peek(settings: Settings, arguments: &[&[u8]]) -> Result<Command, Cause>
     ensures said { result ≡ peek_of (map (λ x. x.now) arguments.now) }
-    ensures follows { IfOk result (λ command. IsTrue (may_follow (Place.Later settings) command)) }
+    ensures follows { IfOk result (λ command. IsTrue (may_follow (Position.Later settings) command)) }
 {
     let [word] = arguments else {
         return Err(Cause::WrongCount);
@@ -101,7 +101,7 @@ pub fn peek(settings: Settings, arguments: &[&[u8]]) -> Result<Command, Cause>
 #[tactic(auto, unfolding(crate::specs::Grammar::uncount_of))]
 pub fn uncount(settings: Settings, arguments: &[&[u8]]) -> Result<Command, Cause>
     ensures said { result ≡ uncount_of settings (map (λ x. x.now) arguments.now) }
-    ensures follows { IfOk result (λ command. IsTrue (may_follow (Place.Later settings) command)) }
+    ensures follows { IfOk result (λ command. IsTrue (may_follow (Position.Later settings) command)) }
 {
     let (cpu, label) = cpu_and_label(settings, arguments)?;
     Ok(Command::Uncount { cpu, label })
@@ -109,7 +109,7 @@ pub fn uncount(settings: Settings, arguments: &[&[u8]]) -> Result<Command, Cause
 
 pub fn audit(settings: Settings, arguments: &[&[u8]]) -> Result<Command, Cause>
     ensures said { result ≡ audit_of (map (λ x. x.now) arguments.now) }
-    ensures follows { IfOk result (λ command. IsTrue (may_follow (Place.Later settings) command)) }
+    ensures follows { IfOk result (λ command. IsTrue (may_follow (Position.Later settings) command)) }
 {
     if arguments.is_empty() {
         Ok(Command::Audit)

@@ -7,13 +7,13 @@ ghost use Rattle.registry_language.specs.Program.{may_follow};
 use super::arguments::{cpu, turns};
 use crate::command::Command;
 use crate::fault::Cause;
-use crate::place::Place;
+use crate::position::Position;
 use registry_values::Settings;
 
 #[tactic(auto, unfolding(crate::specs::Grammar::enter_of))]
 pub fn enter(settings: Settings, arguments: &[&[u8]]) -> Result<Command, Cause>
     ensures said { result ≡ enter_of settings (map (λ x. x.now) arguments.now) }
-    ensures follows { IfOk result (λ command. IsTrue (may_follow (Place.Later settings) command)) }
+    ensures follows { IfOk result (λ command. IsTrue (may_follow (Position.Later settings) command)) }
 {
     let [word] = arguments else {
         return Err(Cause::WrongCount);
@@ -26,7 +26,7 @@ pub fn enter(settings: Settings, arguments: &[&[u8]]) -> Result<Command, Cause>
 #[tactic(auto, unfolding(crate::specs::Grammar::exit_of))]
 pub fn exit(settings: Settings, arguments: &[&[u8]]) -> Result<Command, Cause>
     ensures said { result ≡ exit_of settings (map (λ x. x.now) arguments.now) }
-    ensures follows { IfOk result (λ command. IsTrue (may_follow (Place.Later settings) command)) }
+    ensures follows { IfOk result (λ command. IsTrue (may_follow (Position.Later settings) command)) }
 {
     let [word] = arguments else {
         return Err(Cause::WrongCount);
@@ -38,7 +38,7 @@ pub fn exit(settings: Settings, arguments: &[&[u8]]) -> Result<Command, Cause>
 
 pub fn perform(settings: Settings, arguments: &[&[u8]]) -> Result<Command, Cause>
     ensures said { result ≡ perform_of settings (map (λ x. x.now) arguments.now) }
-    ensures follows { IfOk result (λ command. IsTrue (may_follow (Place.Later settings) command)) }
+    ensures follows { IfOk result (λ command. IsTrue (may_follow (Position.Later settings) command)) }
 {
     match arguments {
         [cpu, turns] => perform_words(settings, cpu, turns),
@@ -49,7 +49,7 @@ pub fn perform(settings: Settings, arguments: &[&[u8]]) -> Result<Command, Cause
 #[tactic(auto, unfolding(crate::specs::Grammar::perform_words))]
 fn perform_words(settings: Settings, first: &[u8], second: &[u8]) -> Result<Command, Cause>
     ensures said { result ≡ perform_words settings first.now second.now }
-    ensures follows { IfOk result (λ command. IsTrue (may_follow (Place.Later settings) command)) }
+    ensures follows { IfOk result (λ command. IsTrue (may_follow (Position.Later settings) command)) }
 {
     let cpu = cpu(settings, first)?;
     let turns = turns(second)?;

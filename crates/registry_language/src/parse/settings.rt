@@ -7,14 +7,14 @@ ghost use Rattle.registry_values.specs.Limits.{are_fit};
 
 use crate::command::Command;
 use crate::fault::Cause;
-use crate::place::{Place, settings_for, with_limits};
+use crate::position::{Position, settings_for, with_limits};
 use crate::words::number;
 use registry_values::Settings;
 
 #[tactic(auto, unfolding(crate::specs::Grammar::domain_of))]
 pub fn domain(arguments: &[&[u8]]) -> Result<Command, Cause>
     ensures said { result ≡ domain_of (map (λ x. x.now) arguments.now) }
-    ensures follows { IfOk result (λ command. IsTrue (may_follow Place.First command)) }
+    ensures follows { IfOk result (λ command. IsTrue (may_follow Position.First command)) }
 {
     let [cpus, slots] = arguments else {
         return Err(Cause::WrongCount);
@@ -27,7 +27,7 @@ pub fn domain(arguments: &[&[u8]]) -> Result<Command, Cause>
 /// The command of settings that are tested before they are narrowed.
 fn sized(cpus: u64, slots: u64) -> Result<Command, Cause>
     ensures said { result ≡ fitting (settings_for cpus slots) (Command.Domain cpus slots) }
-    ensures follows { IfOk result (λ command. IsTrue (may_follow Place.First command)) }
+    ensures follows { IfOk result (λ command. IsTrue (may_follow Position.First command)) }
 {
     if cpus > 8 || slots > 32 {
         return Err(Cause::BadSettings);
@@ -51,7 +51,7 @@ fn fitting(settings: Settings, command: Command) -> Result<Command, Cause>
 
 pub fn limits(settings: Settings, arguments: &[&[u8]]) -> Result<Command, Cause>
     ensures said { result ≡ limits_of settings (map (λ x. x.now) arguments.now) }
-    ensures follows { IfOk result (λ command. IsTrue (may_follow (Place.Second settings) command)) }
+    ensures follows { IfOk result (λ command. IsTrue (may_follow (Position.Second settings) command)) }
 {
     match arguments {
         [changes, sections, passive, count] => {
@@ -70,7 +70,7 @@ fn limits_words(
     fourth: &[u8],
 ) -> Result<Command, Cause>
     ensures said { result ≡ limits_words settings first.now second.now third.now fourth.now }
-    ensures follows { IfOk result (λ command. IsTrue (may_follow (Place.Second settings) command)) }
+    ensures follows { IfOk result (λ command. IsTrue (may_follow (Position.Second settings) command)) }
 {
     let changes = number(first).ok_or(Cause::BadNumber)?;
     let sections = number(second).ok_or(Cause::BadNumber)?;

@@ -5,5 +5,5 @@ use Rattle.registry_live.proofs.session.release_local.Goals as goal
 
 pub returns-in-Some : goal.returns-in-Some
 returns-in-Some g c =
-    all_with _ c.args.cpus.now 0 c.index-cpus-0.result c.release_local.new.cpu c.requires (ranges g.D.Domain.settings c.reference.invariant.fit).some_cpu c.index-cpus-0.is
+    all_with _ c.args.cpus.now 0 c.index-cpus-0.result c.release_local.new.cpu c.requires (ranges g.D.Domain.settings c.reference.invariant.1).some_cpu c.index-cpus-0.is
     (uncounted_id (get_or c.args.cpus.now 0 c.index-cpus-0.result) c.release_local.new.cpu c.in-Some.reference c.release_local.ensures)

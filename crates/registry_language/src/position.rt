@@ -1,14 +1,14 @@
 //! Where a command stands in its script.
 
 ghost use Rattle.std.specs.Prelude.{◌≡◌};
-ghost use Rattle.registry_language.specs.Program.{settings_for, with_limits, settings_after, place_after};
+ghost use Rattle.registry_language.specs.Program.{settings_for, with_limits, settings_after, position_after};
 
 use super::command::Command;
 use registry_values::Settings;
 
 /// Where the next command stands, with the settings that the commands before it give.
 #[derive(Clone, Copy, Debug, PartialEq, Eq)]
-pub enum Place {
+pub enum Position {
     /// No command has come.
     First,
     /// Only `domain` has come.
@@ -17,25 +17,25 @@ pub enum Place {
     Later(Settings),
 }
 
-impl Place {
+impl Position {
     /// Where the command after this one stands.
-    pub fn after(self, command: Command) -> Place
-        ensures { result ≡ place_after self command }
+    pub fn after(self, command: Command) -> Position
+        ensures { result ≡ position_after self command }
     {
         match self {
-            Place::First => after_first(command),
-            Place::Second(settings) => Place::Later(settings_after(settings, command)),
-            Place::Later(settings) => Place::Later(settings),
+            Position::First => after_first(command),
+            Position::Second(settings) => Position::Later(settings_after(settings, command)),
+            Position::Later(settings) => Position::Later(settings),
         }
     }
 }
 
-fn after_first(command: Command) -> Place
-    ensures { result ≡ place_after Place.First command }
+fn after_first(command: Command) -> Position
+    ensures { result ≡ position_after Position.First command }
 {
     match command {
-        Command::Domain { cpus, slots } => Place::Second(settings_for(cpus, slots)),
-        _ => Place::First,
+        Command::Domain { cpus, slots } => Position::Second(settings_for(cpus, slots)),
+        _ => Position::First,
     }
 }
 
