@@ -1,0 +1,235 @@
+//! Scripts from random numbers.
+
+use super::sketch::{Effect, Line, Sketch};
+use super::words::{
+    ARGUMENTS, Argument, BAD_NUMBERS, COMMANDS, CPUS, FAULTY_LINES, SETTINGS, SLOTS,
+};
+use rand_core::{Rng, SeedableRng};
+use rand_xoshiro::Xoshiro256PlusPlus;
+use std::alloc::{AllocError, Global};
+
+/// The lines of a script after those of the settings.
+const LINES: u32 = 40;
+
+/// How many commands are tried for a line that the registry should carry out.
+const TRIES: u32 = 12;
+
+/// One line in so many has any arguments.
+const ANY: usize = 6;
+
+/// How often a section may be nested, and once more.
+const TOO_DEEP: u32 = 256;
+
+/// What is odd about a script.
+#[derive(Clone, Copy, PartialEq)]
+enum Twist {
+    Nothing,
+    /// The number of CPUs or of slots is just out of its range.
+    Domain,
+    /// A limit is.
+    Limits,
+    /// An argument of the last line is.
+    Argument,
+    /// The last line is none that a script may have.
+    Line,
+    /// A CPU enters its section once more than it may.
+    Deep,
+}
+
+/// What makes one script.
+#[derive(Drop)]
+pub struct Maker {
+    alloc: Global,
+    rng: Xoshiro256PlusPlus,
+    sketch: Sketch,
+}
+
+impl Maker {
+    pub fn new(alloc: Global, seed: u64) -> Maker {
+        Maker {
+            alloc,
+            rng: Xoshiro256PlusPlus::seed_from_u64(seed),
+            sketch: Sketch::new(1, 1),
+        }
+    }
+
+    /// A script of one to eight CPUs, whose lines the registry carries out, three in four. One script in nine has a fault.
+    pub fn script(mut self) -> Result<Vec<u8>, AllocError> {
+        let mut text = Vec::new(self.alloc);
+        let twist = self.twist();
+        self.begin(&mut text, twist)?;
+        for _ in 0..LINES {
+            self.add_line(&mut text)?;
+        }
+        self.end(&mut text, twist)?;
+        Ok(text)
+    }
+
+    fn twist(&mut self) -> Twist {
+        match self.pick(64) {
+            0 => Twist::Domain,
+            1 => Twist::Limits,
+            2..=5 => Twist::Argument,
+            6 => Twist::Line,
+            7 => Twist::Deep,
+            _ => Twist::Nothing,
+        }
+    }
+
+    /// Adds the lines of the settings.
+    fn begin(&mut self, text: &mut Vec<u8>, twist: Twist) -> Result<(), AllocError> {
+        let cpus = self.choose(CPUS);
+        let slots = self.choose(SLOTS);
+        self.sketch = Sketch::new(cpus, slots);
+        let line = self.sketch.any_line(0);
+        if twist == Twist::Domain {
+            self.add_command(text, b"domain K S", &line, true)?;
+        } else {
+            let domain = format!(in self.alloc; "domain {cpus} {slots}\n")?;
+            text.extend_from_slice(domain.as_bytes())?;
+        }
+        if twist == Twist::Limits {
+            self.add_command(text, b"limits H M Q Q", &line, true)?;
+        } else if self.pick(4) == 0 {
+            let limits = self.choose(SETTINGS);
+            self.add_command(text, limits, &line, false)?;
+        }
+        Ok(())
+    }
+
+    /// Adds the last lines.
+    fn end(&mut self, text: &mut Vec<u8>, twist: Twist) -> Result<(), AllocError> {
+        match twist {
+            Twist::Argument => {
+                let (command, _) = self.command();
+                let line = self.sketch.any_line(0);
+                self.add_command(text, command, &line, true)
+            }
+            Twist::Line => text.extend_from_slice(self.choose(FAULTY_LINES)),
+            Twist::Deep => {
+                for _ in 0..TOO_DEEP {
+                    text.extend_from_slice(b"enter 0\n")?;
+                }
+                Ok(())
+            }
+            _ => Ok(()),
+        }
+    }
+
+    /// A number below n, or 0 where n is 0.
+    fn pick(&mut self, n: usize) -> usize {
+        self.rng.next_u32() as usize % n.max(1)
+    }
+
+    /// One of the values, or none of them where there is none.
+    fn choose<T: Copy + Default>(&mut self, values: &[T]) -> T {
+        let place = self.pick(values.len());
+        values.get(place).copied().unwrap_or_default()
+    }
+
+    fn command(&mut self) -> (&'static [u8], Effect) {
+        let place = self.pick(COMMANDS.len());
+        match COMMANDS.get(place) {
+            Some((command, effect)) => (*command, *effect),
+            None => (b"audit", Effect::Nothing),
+        }
+    }
+
+    /// Adds a line: one in `ANY` with any arguments, the others such that the registry can carry them out.
+    fn add_line(&mut self, text: &mut Vec<u8>) -> Result<(), AllocError> {
+        let (command, effect, line) = if self.pick(ANY) == 0 {
+            self.any_line()
+        } else {
+            self.fit_line()
+        };
+        self.add_command(text, command, &line, false)?;
+        self.sketch.take(effect, &line);
+        Ok(())
+    }
+
+    fn any_line(&mut self) -> (&'static [u8], Effect, Line) {
+        let (command, effect) = self.command();
+        let start = self.pick(1 << 20);
+        (command, effect, self.sketch.any_line(start))
+    }
+
+    /// A line that the registry can carry out, if one is met in so many tries.
+    fn fit_line(&mut self) -> (&'static [u8], Effect, Line) {
+        for _ in 0..TRIES {
+            let (command, effect) = self.command();
+            let start = self.pick(1 << 20);
+            if let Some(line) = self.sketch.fit_line(command, start) {
+                return (command, effect, line);
+            }
+        }
+        self.any_line()
+    }
+
+    /// Adds a line with an argument for each capital letter of the command. Where it is to be faulty, one of them is just out of its range.
+    fn add_command(
+        &mut self,
+        text: &mut Vec<u8>,
+        command: &[u8],
+        line: &Line,
+        faulty: bool,
+    ) -> Result<(), AllocError> {
+        let letters = command
+            .iter()
+            .filter(|byte| byte.is_ascii_uppercase())
+            .count();
+        let fault = if faulty {
+            Some(self.pick(letters))
+        } else {
+            None
+        };
+        let mut met = 0;
+        for byte in command {
+            if byte.is_ascii_uppercase() {
+                self.add_argument(text, *byte, line, fault == Some(met))?;
+                met += 1;
+            } else {
+                text.push(*byte)?;
+            }
+        }
+        Ok(text.push(b'\n')?)
+    }
+
+    /// Adds a word that the letter stands for: what the line says of it, or any.
+    fn add_argument(
+        &mut self,
+        text: &mut Vec<u8>,
+        letter: u8,
+        line: &Line,
+        faulty: bool,
+    ) -> Result<(), AllocError> {
+        match letter {
+            b'C' | b'I' | b'O' | b'F' | b'P' if faulty => self.add_number(text, self.sketch.cpus()),
+            b'C' | b'I' | b'O' | b'F' | b'P' => self.add_number(text, line.cpu),
+            b'R' if faulty => text.extend_from_slice(self.choose(BAD_NUMBERS)),
+            b'R' => self.add_number(text, line.number),
+            _ => text.extend_from_slice(self.word(letter, line, faulty)),
+        }
+    }
+
+    fn add_number(&self, text: &mut Vec<u8>, number: usize) -> Result<(), AllocError> {
+        let digits = format!(in self.alloc; "{number}")?;
+        text.extend_from_slice(digits.as_bytes())
+    }
+
+    fn word(&mut self, letter: u8, line: &Line, faulty: bool) -> &'static [u8] {
+        for Argument {
+            letter: known,
+            within,
+            without,
+        } in ARGUMENTS {
+            if *known == letter {
+                return match line.place_of(letter) {
+                    _ if faulty => self.choose(without),
+                    Some(place) => within.get(place).copied().unwrap_or_default(),
+                    None => self.choose(within),
+                };
+            }
+        }
+        b""
+    }
+}

@@ -1,0 +1,239 @@
+//! Which answers the reports have to which commands, and how many of the lines were carried out.
+
+use registry_script::Cause;
+use std::io;
+
+/// A command, and how a line begins that answers it.
+type Answer = (&'static [u8], &'static [u8]);
+
+/// Each answer that a script can meet. It can't meet these: `NotHeld`, since a label stands only for a reference that its CPU holds, and
+/// `NoMemory`, which ends a run without a line.
+const ANSWERS: [Answer; 85] = [
+    (b"domain", b"domain"),
+    (b"limits", b"limits"),
+    (b"attach", b"attached"),
+    (b"attach", b"refused Inside"),
+    (b"attach", b"refused NeedsDriver"),
+    (b"attach", b"refused NameTaken"),
+    (b"attach", b"refused NoSlot"),
+    (b"attach", b"refused HistoryFull"),
+    (b"plug", b"attached"),
+    (b"plug", b"no label"),
+    (b"plug", b"refused Inside"),
+    (b"plug", b"refused NeedsDriver"),
+    (b"plug", b"refused NameTaken"),
+    (b"plug", b"refused NoSlot"),
+    (b"plug", b"refused HistoryFull"),
+    (b"detach", b"retired"),
+    (b"detach", b"refused Inside"),
+    (b"detach", b"refused NotFound"),
+    (b"enter", b"inside"),
+    (b"enter", b"refused TooDeep"),
+    (b"enter", b"refused SectionsSpent"),
+    (b"exit", b"inside"),
+    (b"exit", b"outside"),
+    (b"exit", b"not inside"),
+    (b"find", b"found"),
+    (b"find", b"none"),
+    (b"find", b"not inside"),
+    (b"ref", b"ref"),
+    (b"ref", b"label taken"),
+    (b"ref", b"refused NothingFound"),
+    (b"ref", b"refused PassiveFull"),
+    (b"copy", b"ref"),
+    (b"copy", b"no label"),
+    (b"copy", b"label taken"),
+    (b"copy", b"refused WrongCpu"),
+    (b"copy", b"refused PassiveFull"),
+    (b"held", b"yes"),
+    (b"held", b"no\n"),
+    (b"held", b"no label"),
+    (b"read", b"read"),
+    (b"read", b"no label"),
+    (b"read", b"refused WrongCpu"),
+    (b"drop", b"dropped"),
+    (b"drop", b"no label"),
+    (b"drop", b"refused WrongCpu"),
+    (b"count", b"count"),
+    (b"count", b"label taken"),
+    (b"count", b"refused NothingFound"),
+    (b"count", b"refused LocalFull"),
+    (b"peek", b"peek"),
+    (b"peek", b"no label"),
+    (b"uncount", b"uncounted"),
+    (b"uncount", b"no label"),
+    (b"advance", b"grace cpu 0"),
+    (b"advance", b"grace cpu 7"),
+    (b"advance", b"passive cpu 0"),
+    (b"advance", b"passive cpu 7"),
+    (b"advance", b"local 1"),
+    (b"advance", b"local 2"),
+    (b"advance", b"freed slot 0"),
+    (b"advance", b"freed slot 3"),
+    (b"advance", b"refused NotRetired"),
+    (b"destroy", b"destroyed slot 0"),
+    (b"destroy", b"destroyed slot 3"),
+    (b"destroy", b"refused Inside"),
+    (b"destroy", b"refused NotRetired"),
+    (b"destroy", b"refused StillHeld grace cpu 0"),
+    (b"destroy", b"refused StillHeld grace cpu 7"),
+    (b"destroy", b"refused StillHeld passive cpu 0"),
+    (b"destroy", b"refused StillHeld passive cpu 7"),
+    (b"destroy", b"refused StillHeld local 1"),
+    (b"destroy", b"refused StillHeld local 2"),
+    (b"perform", b"performed"),
+    (b"perform", b"refused Inside"),
+    (b"perform", b"refused Waiting cpu 0"),
+    (b"perform", b"refused Waiting cpu 7"),
+    (b"audit", b"empty"),
+    (b"audit", b"slot 0"),
+    (b"audit", b"slot 3"),
+    (b"audit", b"held 0"),
+    (b"audit", b"held 2"),
+    (b"audit", b"locals 1"),
+    (b"audit", b"locals -1"),
+    (b"audit", b"total 1"),
+    (b"audit", b"total -1"),
+];
+
+/// The faults that a script can have, but for TooLong and NoDomain: the parser alone answers them, and it is the same for both engines.
+const FAULTS: [Cause; 11] = [
+    Cause::LongLine,
+    Cause::BadByte,
+    Cause::UnknownCommand,
+    Cause::Misplaced,
+    Cause::WrongCount,
+    Cause::BadNumber,
+    Cause::BadCpu,
+    Cause::BadKind,
+    Cause::BadName,
+    Cause::BadLabel,
+    Cause::BadSettings,
+];
+
+/// What was met.
+#[derive(Drop)]
+pub struct Tally {
+    lines: u64,
+    refused: u64,
+    answers: [bool; 85],
+    faults: [bool; 11],
+}
+
+/// Whether a line says that a command did nothing.
+fn is_refusal(line: &[u8]) -> bool {
+    [
+        b"refused ".as_slice(),
+        b"no label",
+        b"label taken",
+        b"not inside",
+    ]
+    .iter()
+    .any(|begin| line.starts_with(begin))
+}
+
+/// Whether a line is one of an audit's.
+fn is_of_audit(line: &[u8]) -> bool {
+    line.starts_with(b"slot ") || line.starts_with(b"empty")
+}
+
+/// Commands but audits, which alone may have several lines.
+fn is_no_audit(line: &[u8]) -> bool {
+    !line.starts_with(b"audit") && !line.is_empty()
+}
+
+impl Tally {
+    pub fn new() -> Tally {
+        Tally {
+            lines: 0,
+            refused: 0,
+            answers: [false; 85],
+            faults: [false; 11],
+        }
+    }
+
+    /// Counts a script's fault.
+    pub fn add_fault(&mut self, cause: Cause) {
+        for (fault, is_met) in FAULTS.iter().zip(&mut self.faults) {
+            if *fault == cause {
+                *is_met = true;
+            }
+        }
+    }
+
+    /// Counts the lines of a script without a fault, and those of its report.
+    pub fn add_report(&mut self, script: &[u8], report: &[u8]) {
+        let mut answers = report.split_inclusive(|byte| *byte == b'\n');
+        for command in script.split_inclusive(|byte| *byte == b'\n') {
+            if is_no_audit(command)
+                && let Some(answer) = answers.find(|line| !is_of_audit(line))
+            {
+                self.add_answer(command, answer);
+            }
+        }
+        for line in report.split_inclusive(|byte| *byte == b'\n') {
+            if is_of_audit(line) {
+                self.add_balance(line);
+            }
+        }
+    }
+
+    fn add_answer(&mut self, command: &[u8], answer: &[u8]) {
+        self.lines = self.lines.wrapping_add(1);
+        if is_refusal(answer) {
+            self.refused = self.refused.wrapping_add(1);
+        }
+        self.note(command, answer);
+    }
+
+    /// Counts each part of an audit's line that begins with a word.
+    fn add_balance(&mut self, line: &[u8]) {
+        self.note(b"audit", line);
+        for (n, byte) in line.iter().enumerate() {
+            if *byte == b' ' {
+                self.note(b"audit", line.get(n + 1..).unwrap_or_default());
+            }
+        }
+    }
+
+    fn note(&mut self, command: &[u8], answer: &[u8]) {
+        for ((name, begin), is_met) in ANSWERS.iter().zip(&mut self.answers) {
+            // What was met already costs no comparison.
+            if !*is_met && command.starts_with(name) && answer.starts_with(begin) {
+                *is_met = true;
+            }
+        }
+    }
+
+    /// How many of a hundred lines were carried out.
+    pub fn percent(&self) -> u64 {
+        let carried_out = self.lines.saturating_sub(self.refused);
+        carried_out.saturating_mul(100) / self.lines.max(1)
+    }
+
+    /// How many answers and faults were never met.
+    pub fn unmet(&self) -> usize {
+        let answers = self.answers.iter().filter(|is_met| !**is_met).count();
+        let faults = self.faults.iter().filter(|is_met| !**is_met).count();
+        answers.saturating_add(faults)
+    }
+
+    /// Prints how many lines were carried out, and what was never met.
+    pub fn print<R: Print>(&self, rt: &R) -> io::Result<()> {
+        println!(rt; "of 100 lines {} are carried out", self.percent())?;
+        println!(rt; "answers and faults never met: {}", self.unmet())?;
+        for ((command, answer), is_met) in ANSWERS.iter().zip(&self.answers) {
+            if !*is_met {
+                let command = std::str::from_utf8(command).unwrap_or_default();
+                let answer = std::str::from_utf8(answer).unwrap_or_default();
+                println!(rt; "never met: {command}: {}", answer.trim_end())?;
+            }
+        }
+        for (cause, is_met) in FAULTS.iter().zip(&self.faults) {
+            if !*is_met {
+                println!(rt; "never met: {cause}")?;
+            }
+        }
+        Ok(())
+    }
+}

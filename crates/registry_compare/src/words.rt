@@ -1,0 +1,204 @@
+//! The words that scripts are made of.
+
+use super::sketch::Effect;
+
+/// Commands, where a capital letter stands for an argument; the oftener, the likelier.
+///
+/// `I` is a CPU inside its section, `O` one outside, `F` one that has found an entry, `P` the CPU of the passive label `A`, `C` any. `A` is a
+/// passive label in use, `B` a free one; `X` is a local label of a driver, `Z` any in use, `Y` a free one. `D` is the kind and the name of a
+/// live entry, `E` the name of a live interface; `U` and `W` are names that no live driver and no live interface has, while a slot is vacant.
+/// `R` is the number of a retired entry, `V` a value and `T` a number of turns.
+pub const COMMANDS: &[(&[u8], Effect)] = &[
+    (b"attach O driver U V", Effect::Attach),
+    (b"attach O driver U V", Effect::Attach),
+    (b"attach O iface W V", Effect::Nothing),
+    (b"plug O W V X", Effect::Plug),
+    (b"plug O W V X", Effect::Plug),
+    (b"plug O W V Z", Effect::Plug),
+    (b"plug O E V X", Effect::Plug),
+    (b"detach O D", Effect::Detach),
+    (b"detach O D", Effect::Detach),
+    (b"enter C", Effect::Enter),
+    (b"enter C", Effect::Enter),
+    (b"enter O", Effect::Enter),
+    (b"enter O", Effect::Enter),
+    (b"exit I", Effect::Exit),
+    (b"exit I", Effect::Exit),
+    (b"exit I", Effect::Exit),
+    (b"exit I", Effect::Exit),
+    (b"find I D", Effect::Find),
+    (b"find I D", Effect::Find),
+    (b"find I D", Effect::Find),
+    (b"ref F B", Effect::Refer),
+    (b"ref F B", Effect::Refer),
+    (b"ref F B", Effect::Refer),
+    (b"copy P A B", Effect::Copy),
+    (b"copy P A B", Effect::Copy),
+    (b"held C A", Effect::Nothing),
+    (b"read P A", Effect::Nothing),
+    (b"drop P A", Effect::Drop),
+    (b"drop P A", Effect::Drop),
+    (b"count F Y", Effect::Count),
+    (b"count F Y", Effect::Count),
+    (b"count F Y", Effect::Count),
+    (b"peek Z", Effect::Nothing),
+    (b"uncount C Z", Effect::Uncount),
+    (b"advance R", Effect::Advance),
+    (b"advance R", Effect::Advance),
+    (b"advance R", Effect::Advance),
+    (b"destroy O R T", Effect::Destroy),
+    (b"destroy O R T", Effect::Destroy),
+    (b"perform O T", Effect::Nothing),
+    (b"audit", Effect::Nothing),
+];
+
+/// The numbers of CPUs that scripts have.
+pub const CPUS: &[usize] = &[1, 2, 2, 3, 4, 5, 6, 7, 8, 8, 8];
+
+/// The numbers of slots that scripts have.
+pub const SLOTS: &[usize] = &[1, 2, 3, 4, 6, 32, 32, 32];
+
+/// The limits that scripts have.
+pub const SETTINGS: &[&[u8]] = &[
+    b"limits H 1000 100 100",
+    b"limits 1000 M 100 100",
+    b"limits 1000 1000 Q Q",
+    b"limits H M Q Q",
+];
+
+/// What a letter stands for.
+pub struct Argument {
+    pub letter: u8,
+    /// Words at both ends of the range, and some between.
+    pub within: &'static [&'static [u8]],
+    /// Words that are just out of it.
+    pub without: &'static [&'static [u8]],
+}
+
+const NAMES: &[&[u8]] = &[b"w", b"wm0", b"abcdefghijklm09"];
+
+const BAD_NAMES: &[&[u8]] = &[b"Wm", b"0wm", b"w-m", b"abcdefghijklmnop"];
+
+const LABELS: &[&[u8]] = &[b"a", b"n", b"z"];
+
+const BAD_LABELS: &[&[u8]] = &[b"`", b"{", b"ab", b"A"];
+
+const KEYS: &[&[u8]] = &[
+    b"driver w",
+    b"driver wm0",
+    b"driver abcdefghijklm09",
+    b"iface w",
+    b"iface wm0",
+    b"iface abcdefghijklm09",
+];
+
+const BAD_KEYS: &[&[u8]] = &[b"drivers w", b"Iface w", b"iface W", b"driver 0"];
+
+const VALUES: &[&[u8]] = &[b"0", b"1", b"18446744073709551615"];
+
+const TURNS: &[&[u8]] = &[b"1", b"2", b"3", b"1000"];
+
+const HISTORIES: &[&[u8]] = &[b"1", b"6", b"12", b"1000000"];
+
+const SECTIONS: &[&[u8]] = &[b"1", b"4", b"1099511627776"];
+
+const COUNTS: &[&[u8]] = &[b"1", b"2", b"1099511627776"];
+
+const BAD_LIMITS: &[&[u8]] = &[b"0", b"1099511627777"];
+
+/// What is no number of an entry.
+pub const BAD_NUMBERS: &[&[u8]] = &[b"-1", b"x", b"18446744073709551616"];
+
+/// What each letter stands for that isn't a number of the script's own.
+pub const ARGUMENTS: &[Argument] = &[
+    Argument {
+        letter: b'D',
+        within: KEYS,
+        without: BAD_KEYS,
+    },
+    Argument {
+        letter: b'U',
+        within: NAMES,
+        without: BAD_NAMES,
+    },
+    Argument {
+        letter: b'W',
+        within: NAMES,
+        without: BAD_NAMES,
+    },
+    Argument {
+        letter: b'E',
+        within: NAMES,
+        without: BAD_NAMES,
+    },
+    Argument {
+        letter: b'A',
+        within: LABELS,
+        without: BAD_LABELS,
+    },
+    Argument {
+        letter: b'B',
+        within: LABELS,
+        without: BAD_LABELS,
+    },
+    Argument {
+        letter: b'X',
+        within: LABELS,
+        without: BAD_LABELS,
+    },
+    Argument {
+        letter: b'Y',
+        within: LABELS,
+        without: BAD_LABELS,
+    },
+    Argument {
+        letter: b'Z',
+        within: LABELS,
+        without: BAD_LABELS,
+    },
+    Argument {
+        letter: b'V',
+        within: VALUES,
+        without: BAD_NUMBERS,
+    },
+    Argument {
+        letter: b'T',
+        within: TURNS,
+        without: &[b"0", b"1001"],
+    },
+    Argument {
+        letter: b'K',
+        within: &[b"1", b"8"],
+        without: &[b"0", b"9"],
+    },
+    Argument {
+        letter: b'S',
+        within: &[b"1", b"32"],
+        without: &[b"0", b"33"],
+    },
+    Argument {
+        letter: b'H',
+        within: HISTORIES,
+        without: &[b"0", b"1000001"],
+    },
+    Argument {
+        letter: b'M',
+        within: SECTIONS,
+        without: BAD_LIMITS,
+    },
+    Argument {
+        letter: b'Q',
+        within: COUNTS,
+        without: BAD_LIMITS,
+    },
+];
+
+/// Lines that no script may have: a command that there isn't, one that may only come first, one with a word too many, a byte that may not
+/// stand in a line, and a line that is too long by one byte.
+pub const FAULTY_LINES: &[&[u8]] = &[
+    b"lookup 0\n",
+    b"domain 1 1\n",
+    b"audit 0\n",
+    b"audit\t\n",
+    b"# .......................................................................................................................\n",
+];
