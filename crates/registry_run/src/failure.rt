@@ -1,7 +1,15 @@
 //! Why the program ends with another status than 0.
 
+ghost use Rattle.std.specs.Prelude.{◌≡◌, ◌≢◌};
+ghost use Rattle.std.specs.IoError.{error_kind};
+ghost use Rattle.std.specs.Process.{exit_status};
+ghost use Rattle.registry_language.specs.declared.fault.RunFault.TheVariants as fault;
+ghost use Rattle.registry_run.specs.Ends.{status_after, status_of};
+
 use registry_script::RunFault;
 use std::io;
+use std::io::ErrorKind;
+use std::process::ExitCode;
 use thiserror::Error;
 
 /// Why the program ends with another status than 0; its text is the line on standard error.
@@ -15,7 +23,9 @@ pub enum Failure {
 
 impl Failure {
     /// The exit status.
-    pub fn status(self) -> u8 {
+    pub fn status(self) -> u8
+        ensures { result ≡ status_of self }
+    {
         match self {
             Failure::Usage | Failure::Run(RunFault::Script(_)) => 2,
             Failure::Run(RunFault::Read | RunFault::Write) => 3,
@@ -24,24 +34,23 @@ impl Failure {
     }
 
     /// The arguments couldn't be read.
-    pub fn without_arguments(error: io::Error) -> Failure {
+    pub fn without_arguments(error: io::Error) -> Failure
+        ensures memory { error_kind error ≡ ErrorKind.OutOfMemory → result ≡ Failure.Run fault.Memory }
+        ensures other { error_kind error ≢ ErrorKind.OutOfMemory → result ≡ Failure.Usage }
+    {
         match error.kind() {
-            io::ErrorKind::OutOfMemory => Failure::Run(RunFault::Memory),
+            ErrorKind::OutOfMemory => Failure::Run(RunFault::Memory),
             _ => Failure::Usage,
-        }
-    }
-
-    /// What a storm found couldn't be printed.
-    pub fn unprinted(error: io::Error) -> Failure {
-        match error.kind() {
-            io::ErrorKind::OutOfMemory => Failure::Run(RunFault::Memory),
-            _ => Failure::Run(RunFault::Write),
         }
     }
 }
 
-impl From<RunFault> for Failure {
-    fn from(fault: RunFault) -> Failure {
-        Failure::Run(fault)
+/// The code that the program ends with.
+pub fn exit_code(ended: Result<(), Failure>) -> ExitCode
+    ensures { exit_status result ≡ status_after ended }
+{
+    match ended {
+        Ok(()) => ExitCode::SUCCESS,
+        Err(failure) => ExitCode::from(failure.status()),
     }
 }

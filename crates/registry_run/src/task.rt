@@ -1,6 +1,9 @@
 //! What the arguments ask for.
 
-ghost use Rattle.std.specs.Prelude.{◌≤◌, IfSome};
+ghost use Rattle.std.specs.Prelude.{◌≡◌, IfSome, map, string_bytes};
+ghost use Rattle.registry_language.specs.Words.{number_of};
+ghost use Rattle.registry_run.specs.Asking.{asked, engine_named, storm_asked, within_one_to};
+ghost use Rattle.registry_run.specs.Doing.{IsPossible};
 
 use registry_script::{Engine, parse_number};
 
@@ -25,37 +28,54 @@ pub struct Plan {
     pub cpus: u8,
     /// 1 to 100,000.
     pub turns: u32,
-    ghost few: { (1 ≤ cpus) × (cpus ≤ 8) },
-    ghost short: { (1 ≤ turns) × (turns ≤ 100000) },
 }
 
 impl Task {
     /// The task that the words after the program's name ask for: `core`, `live`, or `storm C T` with numbers as scripts have them.
-    pub fn parse(words: [Option<&str>; 4]) -> Option<Task> {
+    pub fn parse(words: &[String]) -> Option<Task>
+        ensures task { result ≡ asked (map (λ w. string_bytes w) words.now) }
+        ensures possible { IfSome result IsPossible }
+    {
         match words {
-            [Some("core"), None, _, _] => Some(Task::Script(Engine::Core)),
-            [Some("live"), None, _, _] => Some(Task::Script(Engine::Live)),
-            [Some("storm"), Some(cpus), Some(turns), None] => {
-                Plan::parse(cpus, turns).map(Task::Storm)
-            }
+            [word] => engine(word.as_bytes()).map(Task::Script),
+            [word, cpus, turns] => storm(word.as_bytes(), cpus.as_bytes(), turns.as_bytes()),
             _ => None,
         }
     }
 }
 
-impl Plan {
-    /// None where a word is no number in its range.
-    fn parse(cpus: &str, turns: &str) -> Option<Plan> {
-        Some(Plan {
-            cpus: parse_within(cpus, MOST_CPUS)? as u8,
-            turns: parse_within(turns, MOST_TURNS)? as u32,
-        })
+/// The engine that a word names.
+fn engine(word: &[u8]) -> Option<Engine>
+    ensures { result ≡ engine_named word.now }
+{
+    if word == b"core".as_slice() {
+        Some(Engine::Core)
+    } else if word == b"live".as_slice() {
+        Some(Engine::Live)
+    } else {
+        None
     }
 }
 
-/// A number from 1 to `most`.
-fn parse_within(word: &str, most: u64) -> Option<u64>
-    ensures { IfSome result (λ n. (1 ≤ n) × (n ≤ most)) }
+/// The storm that three words ask for.
+fn storm(word: &[u8], cpus: &[u8], turns: &[u8]) -> Option<Task>
+    ensures task { result ≡ storm_asked word.now cpus.now turns.now }
+    ensures possible { IfSome result IsPossible }
 {
-    parse_number(word.as_bytes()).filter(|n| 1 <= *n && *n <= most)
+    if word != b"storm".as_slice() {
+        return None;
+    }
+    let cpus = parse_within(cpus, MOST_CPUS)? as u8;
+    let turns = parse_within(turns, MOST_TURNS)? as u32;
+    Some(Task::Storm(Plan { cpus, turns }))
+}
+
+/// A number from 1 to `most`.
+fn parse_within(word: &[u8], most: u64) -> Option<u64>
+    ensures { result ≡ within_one_to most (number_of word.now) }
+{
+    match parse_number(word) {
+        Some(n) if 1 <= n && n <= most => Some(n),
+        _ => None,
+    }
 }

@@ -1,9 +1,13 @@
-//! What the arguments ask for, and what the program says of a failure, and its status.
+//! What the arguments ask for, what the program does of it, and what it says of a failure, with its status.
 
+use crate::doing::carry_out;
 use crate::failure::Failure;
 use crate::task::{Plan, Task};
 use registry_script::{Cause, Engine, RunFault, ScriptFault};
-use std::test::Fail;
+use std::alloc::{AllocError, Global};
+use std::io;
+use std::io::Write;
+use std::test::*;
 
 #[test]
 fn failures_and_their_statuses(rt: HostRuntime) -> Result<(), Fail> {
@@ -35,63 +39,145 @@ fn failures_and_their_statuses(rt: HostRuntime) -> Result<(), Fail> {
     Ok(())
 }
 
+const CORE: Option<Task> = Some(Task::Script(Engine::Core));
+
+const LIVE: Option<Task> = Some(Task::Script(Engine::Live));
+
+const LEAST: Option<Task> = Some(Task::Storm(Plan { cpus: 1, turns: 1 }));
+
+const SMALL: Option<Task> = Some(Task::Storm(Plan { cpus: 2, turns: 3 }));
+
+const GREATEST: Option<Task> = Some(Task::Storm(Plan {
+    cpus: 8,
+    turns: 100_000,
+}));
+
+/// Words after the program's name, and the task that they ask for.
+type Row = (&'static [&'static str], Option<Task>);
+
+const WORDS: &[Row] = &[
+    (&["core"], CORE),
+    (&["live"], LIVE),
+    (&["storm", "1", "1"], LEAST),
+    (&["storm", "02", "003"], SMALL),
+    (&["storm", "8", "100000"], GREATEST),
+    (&[], None),
+    (&["Core"], None),
+    (&["core", "live"], None),
+    (&["live", "1", "1"], None),
+    (&["storm"], None),
+    (&["storm", "2"], None),
+    (&["storm", "9", "1"], None),
+    (&["storm", "1", "0"], None),
+    (&["storm", "0", "1"], None),
+    (&["storm", "1", "100001"], None),
+    (&["storm", "+1", "1"], None),
+    (&["storm", "1", ""], None),
+    (&["storm", "258", "1"], None),
+    (&["storm", "1", "4294967297"], None),
+    (&["storm", "1", "000000000000000000001"], None),
+    (&["storm", "2", "3", "4"], None),
+];
+
+/// The words as the arguments give them.
+fn owned(alloc: Global, words: &[&str]) -> Result<Vec<String>, AllocError> {
+    let mut all = Vec::new(alloc);
+    for word in words {
+        all.push(String::from_str(alloc, word)?)?;
+    }
+    Ok(all)
+}
+
 #[test]
-fn tasks_by_their_words(rt: HostRuntime) {
-    let least = Plan { cpus: 1, turns: 1 };
-    let small = Plan { cpus: 2, turns: 3 };
-    let greatest = Plan {
-        cpus: 8,
-        turns: 100_000,
-    };
-    let rows = [
-        ([Some("core"), None, None, None], Task::Script(Engine::Core)),
-        ([Some("live"), None, None, None], Task::Script(Engine::Live)),
-        (
-            [Some("storm"), Some("1"), Some("1"), None],
-            Task::Storm(least),
-        ),
-        (
-            [Some("storm"), Some("02"), Some("003"), None],
-            Task::Storm(small),
-        ),
-        (
-            [Some("storm"), Some("8"), Some("100000"), None],
-            Task::Storm(greatest),
-        ),
-    ];
-    for (words, task) in rows {
-        assert_eq!(rt; Task::parse(words), Some(task));
+fn tasks_by_their_words(rt: HostRuntime) -> Result<(), Fail> {
+    for (words, task) in WORDS {
+        let words = owned(rt.alloc(), words)?;
+        assert_eq!(rt; Task::parse(&words), *task);
+    }
+    Ok(())
+}
+
+const SCRIPT: &[u8] = b"domain 2 2\nattach 0 driver wm 7\nenter 0\nfind 0 driver wm\n";
+
+const REPORT: &[u8] = b"domain 2 2\nattached 1 slot 0\ninside\nfound 1 slot 0 value 7\n";
+
+const LEAST_STORM: &[u8] = b"storm 1 1\nlookups 2\nreferences 1\nwrong 0\nheld 0\n";
+
+const SMALL_STORM: &[u8] = b"storm 2 3\nlookups 12\nreferences 6\nwrong 0\nheld 0\n";
+
+/// What the second line of a faulty script has.
+const BAD: Result<(), RunFault> = Err(RunFault::Script(ScriptFault {
+    line: 2,
+    cause: Cause::BadCpu,
+}));
+
+const CUT: Result<(), RunFault> = Err(RunFault::Script(ScriptFault {
+    line: 2,
+    cause: Cause::UnknownCommand,
+}));
+
+/// A task, what can be read, how many bytes can be written; what is written, and the end.
+type Run = (
+    Option<Task>,
+    &'static [u8],
+    usize,
+    &'static [u8],
+    Result<(), RunFault>,
+);
+
+const BAD_CPU: &[u8] = b"domain 2 2\nenter 2\n";
+
+const CUT_SHORT: &[u8] = b"domain 2 2\natt";
+
+const RUNS: &[Run] = &[
+    (CORE, SCRIPT, 99, REPORT, Ok(())),
+    (LIVE, SCRIPT, 99, REPORT, Ok(())),
+    (CORE, BAD_CPU, 99, b"", BAD),
+    (LIVE, BAD_CPU, 99, b"", BAD),
+    (LIVE, CUT_SHORT, 99, b"", CUT),
+    (CORE, SCRIPT, 12, b"domain 2 2\na", Err(RunFault::Write)),
+    (LIVE, SCRIPT, 12, b"domain 2 2\na", Err(RunFault::Write)),
+    (LEAST, SCRIPT, 99, LEAST_STORM, Ok(())),
+    (SMALL, SCRIPT, 99, SMALL_STORM, Ok(())),
+    (LEAST, SCRIPT, 9, b"storm 1 1", Err(RunFault::Write)),
+];
+
+/// Takes so many bytes and no more.
+#[derive(Drop)]
+struct Sheet {
+    taken: Vec<u8>,
+    room: usize,
+}
+
+impl Write for Sheet {
+    fn write(&mut self, bytes: &[u8]) -> io::Result<usize> {
+        let taken = bytes.len().min(self.room.saturating_sub(self.taken.len()));
+        self.taken.extend_from_slice(&bytes[..taken])?;
+        Ok(taken)
+    }
+
+    fn flush(&mut self) -> io::Result<()> {
+        Ok(())
     }
 }
 
 #[test]
-fn words_that_name_no_task(rt: HostRuntime) {
-    let rows = [
-        [None, None, None, None],
-        [Some("Core"), None, None, None],
-        [Some("core"), Some("live"), None, None],
-        [Some("live"), Some("1"), Some("1"), None],
-        [Some("storm"), None, None, None],
-        [Some("storm"), Some("2"), None, None],
-        [Some("storm"), Some("9"), Some("1"), None],
-        [Some("storm"), Some("1"), Some("0"), None],
-        [Some("storm"), Some("0"), Some("1"), None],
-        [Some("storm"), Some("1"), Some("100001"), None],
-        [Some("storm"), Some("+1"), Some("1"), None],
-        [Some("storm"), Some("1"), Some(""), None],
-        [Some("storm"), Some("258"), Some("1"), None],
-        [Some("storm"), Some("1"), Some("4294967297"), None],
-        [
-            Some("storm"),
-            Some("1"),
-            Some("000000000000000000001"),
-            None,
-        ],
-        [Some("storm"), Some("2"), Some("3"), Some("4")],
-    ];
-    for words in rows {
-        assert_eq!(rt; Task::parse(words), None);
+fn tasks_that_are_done(rt: HostRuntime) -> Result<(), Fail> {
+    for (task, script, room, written, end) in RUNS {
+        let Some(task) = *task else { continue };
+        let mut input = *script;
+        let mut sheet = Sheet {
+            taken: Vec::new(rt.alloc()),
+            room: *room,
+        };
+        let ended = carry_out(&rt, rt.alloc(), task, &mut input, &mut sheet);
+        assert_eq!(rt;
+            (sheet.taken.as_slice(), ended),
+            (*written, *end),
+            "at {task:?}"
+        );
     }
+    Ok(())
 }
 
 #[test]
