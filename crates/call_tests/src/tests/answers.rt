@@ -34,21 +34,21 @@ pub(crate) struct Line {
     pub(crate) number: u64,
     pub(crate) slot: u8,
     pub(crate) held: i64,
-    /// CPU 0's count, and CPU 1's.
-    pub(crate) locals: [i64; 2],
+    /// The count of each of the three CPUs.
+    pub(crate) locals: [i64; 3],
     pub(crate) total: i64,
 }
 
-/// The line of a balance, which has a count of each of the two CPUs.
+/// The line of a balance, which has a count of each of the three CPUs.
 pub(crate) fn line_of<R: Abort>(rt: &R, balance: &Balance) -> Line {
-    let [first, second] = balance.locals.as_slice() else {
-        panic!(rt; "two counts");
+    let [first, second, third] = balance.locals.as_slice() else {
+        panic!(rt; "three counts");
     };
     Line {
         number: balance.number,
         slot: balance.slot,
         held: balance.held,
-        locals: [*first, *second],
+        locals: [*first, *second, *third],
         total: balance.total,
     }
 }
@@ -66,6 +66,14 @@ pub(crate) fn audited<R: Abort>(rt: &R, list: &[Balance]) -> Answer {
 pub(crate) fn done(answer: Result<(), Refusal>) -> Answer {
     match answer {
         Ok(()) => Answer::Done,
+        Err(refusal) => Answer::Refused(refusal),
+    }
+}
+
+/// How the destruction has come on, or why it was refused.
+pub(crate) fn come(answer: Result<Stage, Refusal>) -> Answer {
+    match answer {
+        Ok(stage) => Answer::Come(stage),
         Err(refusal) => Answer::Refused(refusal),
     }
 }

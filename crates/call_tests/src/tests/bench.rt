@@ -1,10 +1,10 @@
-//! What rows on a registry begin with, a registry of two CPUs and their references, and what a row does with it.
+//! What rows on a registry begin with, a registry of three CPUs and their references, and what a row does with it.
 
 ghost use Rattle.std.specs.Prelude.{IsTrue};
 ghost use Rattle.registry_values.specs.Names.{is_lawful};
 ghost use Rattle.cpu_words.specs.Domains.{AreWordsOf};
 
-use super::answers::{Answer, audited, done, entry};
+use super::answers::{Answer, audited, come, done, entry};
 use super::readers::{Held, Reader, by_reader};
 use super::records::{Wanted, record};
 use cpu_words::Domain;
@@ -16,10 +16,10 @@ use std::process::Abort;
 use std::sync::Wait;
 use std::test::Fail;
 
-/// The words of a registry of two CPUs with so many slots and room for so many changes, before it is named.
+/// The words of a registry of three CPUs with so many slots and room for so many changes, before it is named.
 pub(crate) fn blank(alloc: Global, slots: u8, change_limit: u64) -> Result<Blank, Refusal> {
     let settings = Settings {
-        cpus: 2,
+        cpus: 3,
         slots,
         change_limit,
         section_limit: 1000,
@@ -36,10 +36,14 @@ pub(crate) enum Step {
     First(Call),
     /// CPU 1 calls the registry.
     Second(Call),
+    /// CPU 2 calls the registry.
+    Third(Call),
     /// CPU 0 steps on the words.
     FirstReads(Reader),
     /// CPU 1 steps on the words.
     SecondReads(Reader),
+    /// CPU 2 steps on the words.
+    ThirdReads(Reader),
     /// One turn of the work on the retired entry with this number.
     Advance(u64),
     Audit,
@@ -63,11 +67,11 @@ pub(crate) enum Call {
     Destroy(u64, u32),
 }
 
-/// A registry and its two CPUs.
+/// A registry and its three CPUs.
 #[derive(Drop)]
 pub(crate) struct Bench<D: Domain> {
     pub(crate) registry: Registry<D>,
-    pub(crate) cpus: [Cpu<D>; 2],
+    pub(crate) cpus: [Cpu<D>; 3],
 }
 
 impl<D: Domain> Bench<D> {
@@ -81,12 +85,12 @@ impl<D: Domain> Bench<D> {
     }
 
     pub(crate) fn of(registry: Registry<D>, mut cpus: Vec<Cpu<D>>) -> Result<Bench<D>, Fail> {
-        let (Some(second), Some(first)) = (cpus.pop(), cpus.pop()) else {
-            return Err(Fail::from("two CPUs"));
+        let (Some(third), Some(second), Some(first)) = (cpus.pop(), cpus.pop(), cpus.pop()) else {
+            return Err(Fail::from("three CPUs"));
         };
         Ok(Bench {
             registry,
-            cpus: [first, second],
+            cpus: [first, second, third],
         })
     }
 
@@ -124,6 +128,10 @@ impl<D: Domain> Bench<D> {
                 let cpu = &mut self.cpus[1];
                 by_cpu(rt, &self.registry, cpu, refs, call)
             }
+            Step::Third(call) => {
+                let cpu = &mut self.cpus[2];
+                by_cpu(rt, &self.registry, cpu, refs, call)
+            }
             Step::FirstReads(call) => {
                 let cpu = &mut self.cpus[0];
                 by_reader(rt, self.registry.words(), cpu, refs, call)
@@ -132,10 +140,11 @@ impl<D: Domain> Bench<D> {
                 let cpu = &mut self.cpus[1];
                 by_reader(rt, self.registry.words(), cpu, refs, call)
             }
-            Step::Advance(number) => match self.registry.advance(rt, number) {
-                Ok(stage) => Answer::Come(stage),
-                Err(refusal) => Answer::Refused(refusal),
-            },
+            Step::ThirdReads(call) => {
+                let cpu = &mut self.cpus[2];
+                by_reader(rt, self.registry.words(), cpu, refs, call)
+            }
+            Step::Advance(number) => come(self.registry.advance(rt, number)),
             Step::Audit => listed(rt, self.registry.audit(rt, alloc, &mut self.cpus)),
             Step::AuditOfFirst => listed(rt, self.registry.audit(rt, alloc, &mut self.cpus[..1])),
         }
@@ -150,7 +159,7 @@ fn listed<R: Abort>(rt: &R, answer: Result<Vec<Balance>, Refusal>) -> Answer {
     }
 }
 
-fn by_cpu<D: Domain, R: Wait + Abort>(
+pub(crate) fn by_cpu<D: Domain, R: Wait + Abort>(
     rt: &R,
     registry: &Registry<D>,
     cpu: &mut Cpu<D>,

@@ -131,7 +131,7 @@ fn audited_again<D: Domain, R: Wait + Abort + Eprint>(
             number: 1,
             slot: 0,
             held: 0,
-            locals: [0, 0],
+            locals: [0, 0, 0],
             total: 0
         }
     );
@@ -141,7 +141,7 @@ fn audited_again<D: Domain, R: Wait + Abort + Eprint>(
             number: 2,
             slot: 1,
             held: 1,
-            locals: [1, 0],
+            locals: [1, 0, 0],
             total: 0
         }
     );

@@ -2,15 +2,14 @@
 
 mod answers;
 mod bench;
-mod destroy_turns;
 mod keepers;
 mod memory_tests;
-mod performs;
 mod readers;
 mod records;
 mod registry_rows;
 mod sections;
 mod table;
 mod threads;
+mod turns;
 mod word_rows;
 mod words;

@@ -6,7 +6,7 @@ use super::answers::Answer::{self, At, Audited, Come, Done, Is, Names, Nothing, 
 use super::answers::Line;
 use super::bench::Call::{Attach, Destroy, Detach, Perform, Plug, Uncount};
 use super::bench::Step::{
-    self, Advance, Audit, AuditOfFirst, First, FirstReads, Second, SecondReads,
+    self, Advance, Audit, AuditOfFirst, First, FirstReads, Second, SecondReads, Third, ThirdReads,
 };
 use super::bench::{Bench, blank};
 use super::readers::Held;
@@ -144,7 +144,7 @@ const REFERENCES: [Row; 5] = [
                     number: 1,
                     slot: 0,
                     held: 1,
-                    locals: [1, 0],
+                    locals: [1, 0, 0],
                     total: 0,
                 }),
             ),
@@ -155,7 +155,7 @@ const REFERENCES: [Row; 5] = [
                     number: 1,
                     slot: 0,
                     held: 0,
-                    locals: [1, -1],
+                    locals: [1, -1, 0],
                     total: 0,
                 }),
             ),
@@ -188,7 +188,7 @@ const REFERENCES: [Row; 5] = [
                     number: 1,
                     slot: 0,
                     held: 1,
-                    locals: [0, 0],
+                    locals: [0, 0, 0],
                     total: 1,
                 }),
             ),
@@ -362,9 +362,129 @@ const LOCKED: [Row; 4] = [
     },
 ];
 
+/// Three CPUs: who is told that waits, who is watched, and that an attach frees nothing.
+const WATCHED: [Row; 5] = [
+    Row {
+        name: "the_least_inside_is_told",
+        slots: 1,
+        change_limit: 1000,
+        steps: &[
+            (First(Perform(1)), Done),
+            (SecondReads(Enter), Done),
+            (First(Perform(2)), Refused(Refusal::Waiting(1))),
+            (ThirdReads(Enter), Done),
+            (First(Perform(3)), Refused(Refusal::Waiting(1))),
+            (Second(Perform(1)), Refused(Refusal::Inside)),
+            (SecondReads(Exit), Done),
+            (First(Perform(1)), Refused(Refusal::Waiting(2))),
+            (Second(Perform(2)), Refused(Refusal::Waiting(2))),
+            (FirstReads(Enter), Done),
+            (Second(Perform(2)), Refused(Refusal::Waiting(0))),
+            (ThirdReads(Exit), Done),
+            (Third(Perform(1)), Refused(Refusal::Waiting(0))),
+            (FirstReads(Exit), Done),
+            (First(Perform(3)), Done),
+        ],
+    },
+    Row {
+        name: "each_cpu_is_watched",
+        slots: 3,
+        change_limit: 1000,
+        steps: &[
+            (First(Attach(WM)), At(1, 0)),
+            (First(Attach(VGA)), At(2, 1)),
+            (First(Attach(DRIVER_WM1)), At(3, 2)),
+            (SecondReads(Enter), Done),
+            (First(Detach(VGA)), At(2, 1)),
+            (ThirdReads(Enter), Done),
+            (First(Detach(DRIVER_WM1)), At(3, 2)),
+            (Advance(3), Come(Stage::Grace(1))),
+            (
+                First(Destroy(2, 2)),
+                Refused(Refusal::StillHeld(Stage::Grace(1))),
+            ),
+            (
+                First(Destroy(3, 3)),
+                Refused(Refusal::StillHeld(Stage::Grace(1))),
+            ),
+            (SecondReads(Exit), Done),
+            (
+                First(Destroy(3, 1)),
+                Refused(Refusal::StillHeld(Stage::Grace(2))),
+            ),
+            (First(Destroy(2, 1)), Number(1)),
+            (Advance(3), Come(Stage::Grace(2))),
+            (SecondReads(Enter), Done),
+            (ThirdReads(Exit), Done),
+            (ThirdReads(Enter), Done),
+            (First(Destroy(3, 2)), Number(2)),
+            (First(Destroy(3, 1)), Refused(Refusal::NotRetired)),
+            (Advance(1), Refused(Refusal::NotRetired)),
+            (First(Attach(VGA)), At(6, 1)),
+        ],
+    },
+    Row {
+        name: "each_passive_word_is_watched",
+        slots: 2,
+        change_limit: 1000,
+        steps: &[
+            (First(Attach(WM)), At(1, 0)),
+            (First(Attach(VGA)), At(2, 1)),
+            (ThirdReads(Enter), Done),
+            (ThirdReads(Find(VGA)), At(2, 1)),
+            (ThirdReads(Acquire), Done),
+            (ThirdReads(Exit), Done),
+            (First(Detach(VGA)), At(2, 1)),
+            (Advance(2), Come(Stage::Passive(2))),
+            (
+                First(Destroy(2, 3)),
+                Refused(Refusal::StillHeld(Stage::Passive(2))),
+            ),
+            (ThirdReads(Release), Done),
+            (Second(Destroy(2, 3)), Number(1)),
+        ],
+    },
+    Row {
+        name: "each_count_is_watched",
+        slots: 2,
+        change_limit: 1000,
+        steps: &[
+            (First(Attach(WM)), At(1, 0)),
+            (First(Attach(VGA)), At(2, 1)),
+            (ThirdReads(Enter), Done),
+            (ThirdReads(Find(VGA)), At(2, 1)),
+            (ThirdReads(Count), Done),
+            (ThirdReads(Exit), Done),
+            (First(Detach(VGA)), At(2, 1)),
+            (
+                First(Destroy(2, 2)),
+                Refused(Refusal::StillHeld(Stage::Local(1))),
+            ),
+            (Second(Uncount), Done),
+            (Third(Destroy(2, 2)), Number(1)),
+        ],
+    },
+    Row {
+        name: "an_attach_frees_nothing",
+        slots: 2,
+        change_limit: 1000,
+        steps: &[
+            (First(Attach(WM)), At(1, 0)),
+            (First(Detach(WM)), At(1, 0)),
+            (First(Perform(1)), Done),
+            (First(Attach(VGA)), At(3, 1)),
+            (First(Attach(WM)), Refused(Refusal::NoSlot)),
+            (Third(Attach(WM)), Refused(Refusal::NoSlot)),
+            (Advance(1), Come(Stage::Freed(0))),
+            (Third(Attach(WM)), At(4, 0)),
+        ],
+    },
+];
+
 #[test]
 fn registry_rows(rt: HostRuntime) -> Result<(), Fail> {
-    for row in SECTIONS.iter().chain(&REFERENCES).chain(&LOCKED) {
+    let rows = SECTIONS.iter().chain(&REFERENCES).chain(&LOCKED);
+    for row in rows.chain(&WATCHED) {
         run(&rt, rt.alloc(), row)?;
     }
     Ok(())

@@ -1,0 +1,180 @@
+//! Calls in several turns, or made again and again, while another thread leaves its section and begins another one in the middle of them.
+
+ghost use Rattle.cpu_words.specs.Domains.{AreWordsOf};
+ghost use Rattle.std.specs.Thread.{IsSync};
+
+use super::answers::Answer::{self, At, Come, Done, Number, Refused};
+use super::answers::come;
+use super::bench::Call::{Attach, Destroy, Perform};
+use super::bench::{Call, blank, by_cpu};
+use super::readers::Held;
+use super::records::{DRIVER_WM1, VGA, WM, record};
+use cpu_words::Domain;
+use name_registry::{Blank, Registry};
+use passive_list::{Cpu, enter, exit};
+use registry_values::{Refusal, Stage};
+use std::alloc::Global;
+use std::marker::Brand;
+use std::process::Abort;
+use std::sync::Wait;
+use std::sync::atomic::{AtomicBool, Ordering};
+use std::test::*;
+use std::thread::{Threads, join, yield_now};
+
+/// More turns, or calls, than are made while the section is open.
+const TURNS: u32 = 100_000_000;
+
+/// How often CPU 1 lets others run before it leaves its section: long enough for the first turn.
+const YIELDS: u32 = 2_000;
+
+/// What CPU 0 does while CPU 1 leaves the section that was open as the entry 2, in slot 1, was retired.
+struct Row {
+    name: &'static str,
+    /// The call; without one it is an advance.
+    call: Option<Call>,
+    /// Whether CPU 1 advances the entry once it has left.
+    frees: bool,
+    answer: Answer,
+    /// What an advance of the entry answers then.
+    after: Answer,
+}
+
+const ROWS: [Row; 4] = [
+    Row {
+        name: "perform",
+        call: Some(Perform(TURNS)),
+        frees: false,
+        answer: Done,
+        after: Come(Stage::Freed(1)),
+    },
+    Row {
+        name: "destroy",
+        call: Some(Destroy(2, TURNS)),
+        frees: false,
+        answer: Number(1),
+        after: Refused(Refusal::NotRetired),
+    },
+    Row {
+        name: "advance",
+        call: None,
+        frees: false,
+        answer: Come(Stage::Freed(1)),
+        after: Refused(Refusal::NotRetired),
+    },
+    Row {
+        name: "attach",
+        call: Some(Attach(DRIVER_WM1)),
+        frees: true,
+        answer: At(4, 1),
+        after: Refused(Refusal::NotRetired),
+    },
+];
+
+#[test]
+fn a_section_ends_in_the_middle_of_a_call(rt: HostRuntime) -> Result<(), Fail> {
+    for row in &ROWS {
+        run(&rt, rt.alloc(), row)?;
+    }
+    Ok(())
+}
+
+/// Runs the row on a registry of its own.
+fn run<R: Threads + Wait + Abort + Sync>(rt: &R, alloc: Global, row: &Row) -> Result<(), Fail> {
+    ended_in_the_middle::<Brand, _>(rt, alloc, blank(alloc, 2, 1000)?, row)
+}
+
+/// CPU 1 is inside as CPU 0 retires the entry. Then CPU 0 makes the row's call, and CPU 1 ends its section and begins another one, which
+/// nobody waits for.
+fn ended_in_the_middle<D: Domain + Send + Sync, R: Threads + Wait + Abort + Sync>(
+    rt: &R,
+    alloc: Global,
+    blank: Blank,
+    row: &Row,
+) -> Result<(), Fail>
+    requires { AreWordsOf blank D.table D.settings }
+{
+    let Ok((registry, mut cpus)) = blank.open::<D>(alloc) else {
+        return Err(Fail::from("an open registry"));
+    };
+    let (Some(_third), Some(mut second), Some(mut first)) = (cpus.pop(), cpus.pop(), cpus.pop())
+    else {
+        return Err(Fail::from("three CPUs"));
+    };
+    let (registry, gone) = (&registry, record(rt, VGA));
+    registry.attach(rt, &mut first, record(rt, WM))?;
+    registry.attach(rt, &mut first, gone)?;
+    enter(registry.words(), &mut second)?;
+    registry.detach(rt, &mut first, gone.kind, &gone.name)?;
+    let (begun, call, frees) = (&AtomicBool::new(false), row.call, row.frees);
+    let (answer, _) = join(
+        rt,
+        move || -> Answer
+            requires { IsSync R.row }
+        { insist(rt, registry, first, call, begun) },
+        move || -> Answer
+            requires { IsSync R.row }
+        { change_section(rt, registry, second, frees, begun) },
+    );
+    assert_eq!(rt; answer, row.answer, "at {}", row.name);
+    assert_eq!(rt;
+        come(registry.advance(rt, 2)),
+        row.after,
+        "after {}",
+        row.name
+    );
+    Ok(())
+}
+
+/// Sets the flag, and makes the call again until the entry has its slot no more. It answers what the last one did.
+fn insist<D: Domain, R: Wait + Abort>(
+    rt: &R,
+    registry: &Registry<D>,
+    mut cpu: Cpu<D>,
+    call: Option<Call>,
+    begun: &AtomicBool,
+) -> Answer {
+    begun.store(true, Ordering::SeqCst);
+    let mut refs = Held::nothing();
+    let mut answer = Answer::Nothing;
+    for _ in 0..TURNS {
+        answer = match call {
+            Some(call) => by_cpu(rt, registry, &mut cpu, &mut refs, call),
+            None => come(registry.advance(rt, 2)),
+        };
+        match answer {
+            Refused(Refusal::NoSlot) | Come(Stage::Grace(1)) => yield_now(),
+            _ => break,
+        }
+    }
+    refs.end(rt);
+    answer
+}
+
+/// Waits until the flag is set, and a while longer; then the CPU ends its section and begins another one.
+fn change_section<D: Domain, R: Wait>(
+    rt: &R,
+    registry: &Registry<D>,
+    mut cpu: Cpu<D>,
+    frees: bool,
+    begun: &AtomicBool,
+) -> Answer {
+    let mut left = YIELDS;
+    for _ in 0..TURNS {
+        if left == 0 {
+            break;
+        }
+        if begun.load(Ordering::SeqCst) {
+            left -= 1;
+        }
+        yield_now();
+    }
+    if cpu.inside() {
+        exit(registry.words(), &mut cpu);
+    }
+    let _again = enter(registry.words(), &mut cpu);
+    if frees {
+        come(registry.advance(rt, 2))
+    } else {
+        Answer::Nothing
+    }
+}
