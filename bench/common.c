@@ -28,7 +28,7 @@ void fail(const char *what)
     exit(1);
 }
 
-static double now(void)
+double now(void)
 {
     struct timespec time;
 

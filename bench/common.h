@@ -4,7 +4,7 @@
 
 #include <stdint.h>
 
-enum { MOST_THREADS = 8, MOST_ENTRIES = 32 };
+enum { MOST_THREADS = 8, MOST_ENTRIES = 32, BATCH = 32 };
 
 /* How many threads (1 to 8) make how many operations each, on a list of how many entries (1 to 32). */
 struct plan {
@@ -23,9 +23,18 @@ struct contender {
     void (*open)(const struct plan *plan);
     void (*begin)(unsigned thread);
     void (*end)(unsigned thread);
+    /* Called by a thread between `begin` and `end` that will read nothing. */
+    void (*rest)(unsigned thread);
+    /* Each in a section of its own. */
     operations *lookups;
+    /* BATCH of them in a section. */
+    operations *batches;
     operations *passives;
     operations *locals;
+    /* Replaces the newest entry: takes it out of the list, waits until nobody can have it, and puts it in again. */
+    void (*replace)(void);
+    /* Waits until all open sections have ended. */
+    void (*perform)(void);
 };
 
 extern const struct contender hand_padded;
@@ -34,6 +43,8 @@ extern const struct contender hand_pointed;
 extern const struct contender hand_kept;
 extern const struct contender urcu_memb;
 extern const struct contender urcu_mb;
+extern const struct contender urcu_qsbr;
+extern const struct contender urcu_bp;
 extern const struct contender epoch;
 extern const struct contender rwlock;
 extern const struct contender mutex;
@@ -42,6 +53,13 @@ extern const struct contender mutex;
    nanoseconds that one takes its thread: the time from the first thread's first operation to the last thread's last, over the operations of
    one thread. An operation that went wrong ends the program. */
 double nanoseconds_each(const struct contender *contender, operations *make, const struct plan *plan);
+
+/* Makes the change so many times, while so many readers enter and leave in threads of their own; the rest of the plan's threads, but for this
+   one, sleep. It answers the nanoseconds that one took. A wrong answer to a reader ends the program. */
+double nanoseconds_waited(const struct contender *contender, void (*change)(void), const struct plan *plan, unsigned readers);
+
+/* Nanoseconds from some point on. */
+double now(void);
 
 /* Ends the program, with status 1. */
 _Noreturn void fail(const char *what);

@@ -6,14 +6,16 @@
 #include <string.h>
 
 static const struct contender *const contenders[] = {
-    &hand_padded, &hand_packed, &hand_pointed, &hand_kept, &urcu_memb, &urcu_mb, &epoch, &rwlock, &mutex,
+    &hand_padded, &hand_packed, &hand_pointed, &hand_kept, &urcu_memb, &urcu_mb,
+    &urcu_bp, &urcu_qsbr, &epoch, &rwlock, &mutex,
 };
 
 enum { CONTENDERS = sizeof contenders / sizeof contenders[0] };
 
 _Noreturn static void usage(void)
 {
-    fprintf(stderr, "usage: contenders CONTENDER THREADS ENTRIES OPERATIONS\ncontenders:");
+    fprintf(stderr, "usage: contenders CONTENDER THREADS ENTRIES OPERATIONS\n"
+                    "       contenders CONTENDER wait CPUS READERS ENTRIES COUNT\ncontenders:");
     for (unsigned i = 0; i < CONTENDERS; i++)
         fprintf(stderr, " %s", contenders[i]->name);
     fprintf(stderr, "\n");
@@ -28,12 +30,12 @@ static const struct contender *named(const char *name)
     usage();
 }
 
-static uint64_t number(const char *text, uint64_t most)
+static uint64_t number(const char *text, uint64_t least, uint64_t most)
 {
     char *rest;
     unsigned long long value = strtoull(text, &rest, 10);
 
-    if (*text < '0' || *text > '9' || *rest != '\0' || value < 1 || value > most)
+    if (*text < '0' || *text > '9' || *rest != '\0' || value < least || value > most)
         usage();
     return value;
 }
@@ -44,22 +46,48 @@ static void measure(const struct contender *contender, const char *what, operati
         printf(" %s %.2f", what, nanoseconds_each(contender, make, plan));
 }
 
-int main(int argc, char **argv)
+static void measure_operations(const struct contender *contender, char **words)
 {
-    const struct contender *contender;
-    struct plan plan;
+    struct plan plan = {
+        .threads = (unsigned)number(words[0], 1, MOST_THREADS),
+        .entries = (unsigned)number(words[1], 1, MOST_ENTRIES),
+        .operations = number(words[2], 1, UINT64_C(1000000000)),
+    };
 
-    if (argc != 5)
-        usage();
-    contender = named(argv[1]);
-    plan.threads = (unsigned)number(argv[2], MOST_THREADS);
-    plan.entries = (unsigned)number(argv[3], MOST_ENTRIES);
-    plan.operations = number(argv[4], UINT64_C(1000000000));
     contender->open(&plan);
     printf("threads %u entries %u", plan.threads, plan.entries);
     measure(contender, "lookup", contender->lookups, &plan);
+    measure(contender, "batch", contender->batches, &plan);
     measure(contender, "passive", contender->passives, &plan);
     measure(contender, "local", contender->locals, &plan);
     printf("\n");
+}
+
+static void measure_waiting(const struct contender *contender, char **words)
+{
+    unsigned cpus = (unsigned)number(words[0], 1, MOST_THREADS);
+    unsigned readers = (unsigned)number(words[1], 0, cpus - 1);
+    struct plan plan = {
+        .threads = cpus,
+        .entries = (unsigned)number(words[2], 1, MOST_ENTRIES),
+        .operations = number(words[3], 1, UINT64_C(1000000000)),
+    };
+
+    if (contender->replace == NULL)
+        fail("it has no such change");
+    contender->open(&plan);
+    printf("cpus %u readers %u slots %u held 0", cpus, readers, plan.entries);
+    printf(" replace %.1f", nanoseconds_waited(contender, contender->replace, &plan, readers));
+    printf(" perform %.1f\n", nanoseconds_waited(contender, contender->perform, &plan, readers));
+}
+
+int main(int argc, char **argv)
+{
+    if (argc == 5)
+        measure_operations(named(argv[1]), argv + 2);
+    else if (argc == 7 && strcmp(argv[2], "wait") == 0)
+        measure_waiting(named(argv[1]), argv + 3);
+    else
+        usage();
     return 0;
 }

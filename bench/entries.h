@@ -35,6 +35,10 @@ void make_keys(const struct plan *plan);
 /* Makes the keys and the list, the newest entry first. The value of entry i, from 0, is i. */
 void make_list(const struct plan *plan);
 
+/* Takes the newest entry of the list out of it, or puts it in anew, each under a lock that changes share. */
+void unlink_newest(void);
+void link_newest(void);
+
 /* Where there is nothing to do. */
 void do_nothing(unsigned thread);
 
@@ -69,20 +73,64 @@ INLINE uint64_t in_turn(unsigned thread, uint64_t count, uint64_t (*look_up)(uns
     return right;
 }
 
-/* Lookups in the list, each between the statements ENTER and LEAVE, which may speak of `thread`: the function NAME_lookups. */
-#define LISTED_LOOKUPS(NAME, ENTER, LEAVE) \
+/* The same, BATCH of them between an enter and a leave. */
+INLINE uint64_t in_batches(unsigned thread, uint64_t count, void (*enter)(unsigned thread),
+    uint64_t (*find)(unsigned thread, const struct key *key), void (*leave)(unsigned thread))
+{
+    uint64_t right = 0;
+    uint64_t left = count;
+    unsigned i = 0;
+
+    while (left != 0) {
+        uint64_t many = left < BATCH ? left : BATCH;
+
+        enter(thread);
+        for (uint64_t made = 0; made < many; made++) {
+            right += find(thread, &keys[i]) == i;
+            i = i + 1 < entries ? i + 1 : 0;
+        }
+        leave(thread);
+        left -= many;
+    }
+    return right;
+}
+
+/* Lookups by the functions NAME_enter, NAME_find and NAME_leave of a thread: the functions NAME_lookups and NAME_batches. */
+#define LOOKUPS(NAME) \
     static uint64_t NAME##_look_up(unsigned thread, const struct key *key) \
     { \
         uint64_t value; \
-        (void)thread; \
-        ENTER; \
-        value = listed_value(key); \
-        LEAVE; \
+        NAME##_enter(thread); \
+        value = NAME##_find(thread, key); \
+        NAME##_leave(thread); \
         return value; \
     } \
     static uint64_t NAME##_lookups(unsigned thread, uint64_t count) \
     { \
         return in_turn(thread, count, NAME##_look_up); \
+    } \
+    static uint64_t NAME##_batches(unsigned thread, uint64_t count) \
+    { \
+        return in_batches(thread, count, NAME##_enter, NAME##_find, NAME##_leave); \
     }
+
+/* Lookups in the list, between the statements ENTER and LEAVE, which may speak of `thread`: the functions NAME_lookups and NAME_batches. */
+#define LISTED_LOOKUPS(NAME, ENTER, LEAVE) \
+    INLINE void NAME##_enter(unsigned thread) \
+    { \
+        (void)thread; \
+        ENTER; \
+    } \
+    INLINE void NAME##_leave(unsigned thread) \
+    { \
+        (void)thread; \
+        LEAVE; \
+    } \
+    INLINE uint64_t NAME##_find(unsigned thread, const struct key *key) \
+    { \
+        (void)thread; \
+        return listed_value(key); \
+    } \
+    LOOKUPS(NAME)
 
 #endif

@@ -4,7 +4,8 @@
 #include "entries.h"
 
 static ck_epoch_t global;
-static ck_epoch_record_t records[MOST_THREADS];
+/* One for each thread that reads, and one for the thread that changes the list. */
+static ck_epoch_record_t records[MOST_THREADS + 1];
 
 static void open_epoch(const struct plan *plan)
 {
@@ -12,8 +13,31 @@ static void open_epoch(const struct plan *plan)
     ck_epoch_init(&global);
     for (unsigned i = 0; i < plan->threads; i++)
         ck_epoch_register(&global, &records[i], NULL);
+    ck_epoch_register(&global, &records[MOST_THREADS], NULL);
 }
 
 LISTED_LOOKUPS(epoch, ck_epoch_begin(&records[thread], NULL), ck_epoch_end(&records[thread], NULL))
 
-const struct contender epoch = { "ck_epoch", open_epoch, do_nothing, do_nothing, epoch_lookups, NULL, NULL };
+static void perform(void)
+{
+    ck_epoch_synchronize(&records[MOST_THREADS]);
+}
+
+static void replace(void)
+{
+    unlink_newest();
+    perform();
+    link_newest();
+}
+
+const struct contender epoch = {
+    .name = "ck_epoch",
+    .open = open_epoch,
+    .begin = do_nothing,
+    .end = do_nothing,
+    .rest = do_nothing,
+    .lookups = epoch_lookups,
+    .batches = epoch_batches,
+    .replace = replace,
+    .perform = perform,
+};

@@ -89,39 +89,37 @@ INLINE uint64_t find(enum layout layout, const struct key *key)
     return UINT64_MAX;
 }
 
-INLINE uint64_t look_up(enum layout layout, unsigned cpu, const struct key *key)
+/* A section is entered and left by the same step. */
+INLINE void turn(enum layout layout, unsigned cpu)
 {
-    uint64_t value;
-
     atomic_fetch_add(own_word(layout, cpu, 0), 1);
-    value = find(layout, key);
-    atomic_fetch_add(own_word(layout, cpu, 0), 1);
-    return value;
 }
 
-/* Acquires and releases passive references to the entry in slot 0. */
+/* Acquires and releases passive references to the newest entry. */
 INLINE uint64_t passives(enum layout layout, unsigned cpu, uint64_t count)
 {
+    unsigned slot = entries - 1;
     uint64_t right = 0;
 
     for (uint64_t made = 0; made < count; made++) {
-        uint64_t before = atomic_fetch_add(passive_word(layout, cpu, 0), 1);
-        uint64_t held = atomic_fetch_sub(passive_word(layout, cpu, 0), 1);
+        uint64_t before = atomic_fetch_add(passive_word(layout, cpu, slot), 1);
+        uint64_t held = atomic_fetch_sub(passive_word(layout, cpu, slot), 1);
 
         right += held == before + 1;
     }
     return right;
 }
 
-/* Acquires and releases local references to the entry in slot 0. */
+/* Acquires and releases local references to the newest entry. */
 INLINE uint64_t locals(enum layout layout, unsigned cpu, uint64_t count)
 {
+    unsigned slot = entries - 1;
     uint64_t right = 0;
 
     for (uint64_t made = 0; made < count; made++) {
-        uint64_t held = atomic_fetch_add(count_word(layout, cpu, 0), 1) + 1;
+        uint64_t held = atomic_fetch_add(count_word(layout, cpu, slot), 1) + 1;
 
-        right += atomic_compare_exchange_strong(count_word(layout, cpu, 0), &held, held - 1);
+        right += atomic_compare_exchange_strong(count_word(layout, cpu, slot), &held, held - 1);
     }
     return right;
 }
@@ -132,14 +130,20 @@ INLINE uint64_t locals(enum layout layout, unsigned cpu, uint64_t count)
     { \
         open_words(LAYOUT, plan); \
     } \
-    static uint64_t NAME##_look_up(unsigned cpu, const struct key *key) \
+    INLINE void NAME##_enter(unsigned cpu) \
     { \
-        return look_up(LAYOUT, cpu, key); \
+        turn(LAYOUT, cpu); \
     } \
-    static uint64_t NAME##_lookups(unsigned cpu, uint64_t count) \
+    INLINE void NAME##_leave(unsigned cpu) \
     { \
-        return in_turn(cpu, count, NAME##_look_up); \
+        turn(LAYOUT, cpu); \
     } \
+    INLINE uint64_t NAME##_find(unsigned cpu, const struct key *key) \
+    { \
+        (void)cpu; \
+        return find(LAYOUT, key); \
+    } \
+    LOOKUPS(NAME) \
     static uint64_t NAME##_passives(unsigned cpu, uint64_t count) \
     { \
         return passives(LAYOUT, cpu, count); \
@@ -149,7 +153,14 @@ INLINE uint64_t locals(enum layout layout, unsigned cpu, uint64_t count)
         return locals(LAYOUT, cpu, count); \
     } \
     const struct contender hand_##NAME = { \
-        TITLE, NAME##_open, do_nothing, do_nothing, NAME##_lookups, NAME##_passives, NAME##_locals, \
+        .name = TITLE, \
+        .open = NAME##_open, \
+        .begin = do_nothing, \
+        .end = do_nothing, \
+        .lookups = NAME##_lookups, \
+        .batches = NAME##_batches, \
+        .passives = NAME##_passives, \
+        .locals = NAME##_locals, \
     }
 
 HAND(padded, PADDED, "hand-padded");

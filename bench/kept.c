@@ -60,7 +60,7 @@ static void open(const struct plan *plan)
 }
 
 /* Whether it could. */
-INLINE int enter(struct cpu *cpu)
+INLINE int may_enter(struct cpu *cpu)
 {
     if (cpu->depth == UINT8_MAX)
         return 0;
@@ -113,21 +113,30 @@ INLINE uint64_t find(struct cpu *cpu, const struct key *key)
     return UINT64_MAX;
 }
 
-static uint64_t look_up(unsigned thread, const struct key *key)
+/* A section that can't be entered ends the program. */
+INLINE void kept_enter(unsigned thread)
 {
-    struct cpu *cpu = &cpus[thread].cpu;
-    uint64_t value;
-
-    if (!enter(cpu))
-        return UINT64_MAX;
-    value = find(cpu, key);
-    leave(cpu);
-    return value;
+    if (!may_enter(&cpus[thread].cpu))
+        fail("no section");
 }
 
-static uint64_t lookups(unsigned thread, uint64_t count)
+INLINE void kept_leave(unsigned thread)
 {
-    return in_turn(thread, count, look_up);
+    leave(&cpus[thread].cpu);
 }
 
-const struct contender hand_kept = { "hand-kept", open, do_nothing, do_nothing, lookups, NULL, NULL };
+INLINE uint64_t kept_find(unsigned thread, const struct key *key)
+{
+    return find(&cpus[thread].cpu, key);
+}
+
+LOOKUPS(kept)
+
+const struct contender hand_kept = {
+    .name = "hand-kept",
+    .open = open,
+    .begin = do_nothing,
+    .end = do_nothing,
+    .lookups = kept_lookups,
+    .batches = kept_batches,
+};

@@ -9,5 +9,20 @@ static pthread_mutex_t whole_lock = PTHREAD_MUTEX_INITIALIZER;
 LISTED_LOOKUPS(rwlock, pthread_rwlock_rdlock(&read_lock), pthread_rwlock_unlock(&read_lock))
 LISTED_LOOKUPS(mutex, pthread_mutex_lock(&whole_lock), pthread_mutex_unlock(&whole_lock))
 
-const struct contender rwlock = { "pthread_rwlock", make_list, do_nothing, do_nothing, rwlock_lookups, NULL, NULL };
-const struct contender mutex = { "pthread_mutex", make_list, do_nothing, do_nothing, mutex_lookups, NULL, NULL };
+const struct contender rwlock = {
+    .name = "pthread_rwlock",
+    .open = make_list,
+    .begin = do_nothing,
+    .end = do_nothing,
+    .lookups = rwlock_lookups,
+    .batches = rwlock_batches,
+};
+
+const struct contender mutex = {
+    .name = "pthread_mutex",
+    .open = make_list,
+    .begin = do_nothing,
+    .end = do_nothing,
+    .lookups = mutex_lookups,
+    .batches = mutex_batches,
+};

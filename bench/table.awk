@@ -1,7 +1,8 @@
 # Reads lines 'NAME threads T entries E OPERATION NANOSECONDS ..', keeps the least time of each, and prints a table for each operation and
-# list: nanoseconds with 1 thread and with the most, each followed by how many times ours it is. The variable `most` is the most threads.
+# list: nanoseconds with 1 thread and with the most, each followed by how many times ours it is. Then the aims, and what the run can't show.
+# The variable `most` is the most threads.
 
-{
+$2 == "threads" {
     name = $1
     threads = $3
     entries = $5
@@ -18,13 +19,14 @@
 }
 
 END {
-    operation_count = split("lookup passive local", operations, " ")
+    operation_count = split("lookup batch passive local", operations, " ")
     for (o = 1; o <= operation_count; o++)
         for (l = 1; l <= list_count; l++)
-            if (operations[o] == "lookup" || l == 1)
-                table(operations[o], lists[l])
+            table(operations[o], lists[l])
+    find_noise()
     for (l = 1; l <= list_count; l++)
-        aims(lists[l])
+        list_aims(lists[l])
+    tell_noise()
 }
 
 function keep(name, threads, entries, operation, time) {
@@ -36,8 +38,12 @@ function time_of(name, threads, entries, operation) {
     return best[name, threads, entries, operation]
 }
 
+function titled(operation, entries) {
+    return operation ", list of " entries
+}
+
 function table(operation, entries,    n) {
-    printf "\n%-16s %20s %20s\n", operation (operation == "lookup" ? ", list of " entries : ""), "1 thread", most " threads"
+    printf "\n%-16s %20s %20s\n", titled(operation, entries), "1 thread", most " threads"
     for (n = 1; n <= name_count; n++)
         if ((names[n], 1, entries, operation) in best)
             row(names[n], entries, operation)
@@ -52,12 +58,28 @@ function cell(name, threads, entries, operation,    time) {
     return sprintf("%9.1f ns %7.2f", time, time / time_of("registry_bench", threads, entries, operation))
 }
 
-function aims(entries) {
+function list_aims(entries) {
     printf "\naims, list of %d\n", entries
-    aim("ours / hand-padded, 1 thread", ours(1, entries) / time_of("hand-padded", 1, entries, "lookup"), "at most", 1.25)
-    aim("ours / hand-padded, " most " threads", ours(most, entries) / time_of("hand-padded", most, entries, "lookup"), "at most", 1.25)
-    aim("pthread_rwlock / ours, " most " threads", time_of("pthread_rwlock", most, entries, "lookup") / ours(most, entries), "at least", most >= 4 ? 8 : 3)
-    aim("ours, " most " threads / 1 thread", ours(most, entries) / ours(1, entries), "at most", 1.5)
+    by_hand("lookup", "hand-padded", entries, 1.25)
+    by_hand("lookup", "hand-pointed", entries, 1.15)
+    by_hand("batch", "hand-padded", entries, 1.15)
+    by_hand("batch", "hand-pointed", entries, 1.15)
+    by_hand("batch", "urcu-memb", entries, 1.25)
+    aim("lookup: pthread_rwlock / ours, " most " threads", time_of("pthread_rwlock", most, entries, "lookup") / ours(most, entries), "at least", most >= 4 ? 8 : 3)
+    by_hand("passive", "hand-padded", entries, 1.15)
+    by_hand("local", "hand-padded", entries, 1.25)
+    scaling_aim("lookup: ours, " most " threads / 1 thread", ours(most, entries) / ours(1, entries), 1.5)
+}
+
+# Ours over another's, with 1 thread and with the most.
+function by_hand(operation, name, entries, goal,    t, threads, mine, other) {
+    for (t = 1; t <= 2; t++) {
+        threads = t == 1 ? 1 : most
+        mine = time_of("registry_bench", threads, entries, operation)
+        other = time_of(name, threads, entries, operation)
+        if (other > 0)
+            aim(operation ": ours / " name ", " threads (threads == 1 ? " thread" : " threads"), mine / other, "at most", goal)
+    }
 }
 
 function ours(threads, entries) {
@@ -66,5 +88,38 @@ function ours(threads, entries) {
 
 function aim(what, ratio, bound, goal,    met) {
     met = bound == "at most" ? ratio <= goal : ratio >= goal
-    printf "%-36s %7.2f  %s %.2f: %s\n", what, ratio, bound, goal, met ? "met" : "missed"
+    printf "%-44s %7.2f  %s %.2f: %s\n", what, ratio, bound, goal, met ? "met" : "missed"
+}
+
+# Where the machine itself is slower with more threads, a ratio of times with more and with fewer says nothing of the program.
+function scaling_aim(what, ratio, goal) {
+    if (noise_count > 0)
+        printf "%-44s %7.2f  at most %.2f: not shown\n", what, ratio, goal
+    else
+        aim(what, ratio, "at most", goal)
+}
+
+# Each thread of these contenders writes its own cache lines alone. (Those of hand-packed share theirs on purpose.)
+function find_noise(    count, hands, h, l, o) {
+    count = split("hand-padded hand-pointed hand-kept", hands, " ")
+    for (h = 1; h <= count; h++)
+        for (o = 1; o <= operation_count; o++)
+            for (l = 1; l <= list_count; l++)
+                judge_noise(hands[h], operations[o], lists[l])
+}
+
+function judge_noise(name, operation, entries,    one) {
+    one = time_of(name, 1, entries, operation)
+    if (one > 0 && time_of(name, most, entries, operation) > 1.3 * one)
+        noises[++noise_count] = sprintf("%s, %s: %.2f", name, titled(operation, entries), time_of(name, most, entries, operation) / one)
+}
+
+function tell_noise(    n) {
+    if (noise_count == 0) {
+        printf "\nNo hand-written contender takes more than 1.30 times as long with %d threads as with 1.\n", most
+        return
+    }
+    printf "\nThe machine was not quiet: THIS RUN SHOWS NOTHING OF SCALING. With %d threads these take so many times as long as with 1, and share nothing:\n", most
+    for (n = 1; n <= noise_count; n++)
+        print "  " noises[n]
 }

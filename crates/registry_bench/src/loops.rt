@@ -1,5 +1,6 @@
 //! The loops that are measured. Each answers how many operations it made before the first that went wrong.
 
+ghost use Rattle.std.specs.Prelude.{◌≢◌, None};
 ghost use Rattle.cpu_words.specs.Domains.{AreWordsOf};
 
 use crate::plan::Operation;
@@ -10,7 +11,10 @@ use passive_ref::{acquire, release};
 use registry_values::{Kind, Name};
 use std::sync::Wait;
 
-/// Makes the operation `count` times. Each name is that of an entry whose value is the name's place; references are to the first.
+/// How many lookups a section of a batch has.
+const BATCH: u32 = 32;
+
+/// Makes the operation `count` times. Each name is that of an entry whose value is the name's place; references are to the last.
 pub fn make<D: Domain, R: Wait>(
     rt: &R,
     words: &Words,
@@ -23,19 +27,20 @@ pub fn make<D: Domain, R: Wait>(
 {
     match operation {
         Operation::Lookup => look_up_all(words, cpu, names, count),
+        Operation::Batch => look_up_batches(words, cpu, names, count),
         Operation::Passive => refer_passively(words, cpu, count),
         Operation::Local => refer_locally(rt, words, cpu, count),
     }
 }
 
-/// Begins a section in which the first entry was found, for what acquires references to it; lookups begin their own.
+/// Begins a section in which the last entry was found, for what acquires references to it; lookups begin their own.
 pub fn prepare<D: Domain>(words: &Words, cpu: &mut Cpu<D>, names: &[Name], operation: Operation)
     requires words { AreWordsOf words.now D.table D.settings }
 {
-    if operation == Operation::Lookup {
+    if operation == Operation::Lookup || operation == Operation::Batch {
         return;
     }
-    if let Some(name) = names.first() {
+    if let Some(name) = names.last() {
         begin_at(words, cpu, name);
     }
 }
@@ -68,6 +73,72 @@ fn look_up<D: Domain>(words: &Words, cpu: &mut Cpu<D>, name: &Name) -> Option<u6
     let found = find(words, cpu, Kind::Driver, name);
     leave(words, cpu);
     found.map(|entry| entry.rec.value)
+}
+
+/// Looks the names up in turn, `BATCH` of them to a section, until an answer is wrong.
+fn look_up_batches<D: Domain>(words: &Words, cpu: &mut Cpu<D>, names: &[Name], count: u32) -> u32
+    requires words { AreWordsOf words.now D.table D.settings }
+{
+    let mut left = count;
+    let mut place = 0;
+    for _ in 0..count.div_ceil(BATCH) {
+        let many = left.min(BATCH);
+        let right = look_up_batch(words, cpu, names, &mut place, many);
+        left = left.saturating_sub(right);
+        if right != many {
+            break;
+        }
+    }
+    count.saturating_sub(left)
+}
+
+/// One section, in which so many names are looked up in turn, from the one with that place on, until an answer is wrong.
+fn look_up_batch<D: Domain>(
+    words: &Words,
+    cpu: &mut Cpu<D>,
+    names: &[Name],
+    place: &mut usize,
+    many: u32,
+) -> u32
+    requires words { AreWordsOf words.now D.table D.settings }
+{
+    if enter(words, cpu).is_err() || !cpu.inside() {
+        return 0;
+    }
+    let right = find_all(words, cpu, names, place, many);
+    leave(words, cpu);
+    right
+}
+
+/// The lookups of a section that is open.
+fn find_all<D: Domain>(
+    words: &Words,
+    cpu: &mut Cpu<D>,
+    names: &[Name],
+    place: &mut usize,
+    many: u32,
+) -> u32
+    requires words { AreWordsOf words.now D.table D.settings }
+    requires inside { cpu.old.view.begin ≢ None }
+{
+    let mut next = *place;
+    for made in 0..many {
+        if next >= names.len() || found_value(words, cpu, &names[next]) != Some(next as u64) {
+            return made;
+        }
+        next = if next + 1 < names.len() { next + 1 } else { 0 };
+    }
+    *place = next;
+    many
+}
+
+/// Finds the driver, and answers its value.
+fn found_value<D: Domain>(words: &Words, cpu: &mut Cpu<D>, name: &Name) -> Option<u64>
+    requires words { AreWordsOf words.now D.table D.settings }
+    requires inside { cpu.old.view.begin ≢ None }
+    ensures inside { cpu.new.view.begin ≢ None }
+{
+    find(words, cpu, Kind::Driver, name).map(|entry| entry.rec.value)
 }
 
 /// Acquires and releases passive references to the last found entry, until one is refused.

@@ -1,21 +1,27 @@
-//! Measures lookups, passive references and local references on 1 to 8 threads, each with a CPU of its own.
+//! Measures lookups, passive references and local references on 1 to 8 threads, each with a CPU of its own, and what a change costs while
+//! others read.
 #![tactic(auto)]
 
 mod failure;
+mod gate;
 mod loops;
 mod measure;
 mod opening;
+mod parts;
 mod plan;
+mod waiting;
 
 use failure::Failure;
 use measure::measure;
-use plan::{MOST_ENTRIES, MOST_THREADS, Operation, Plan};
+use parts::Parts;
+use plan::{MOST_ENTRIES, MOST_THREADS, Operation, Plan, WaitPlan};
 use std::alloc::Global;
 use std::env;
 use std::process::ExitCode;
 use std::rt::{Clock, Env};
 use std::sync::Wait;
 use std::thread::Threads;
+use waiting::{Waits, measure_waiting};
 
 /// The operations of each thread where the arguments say none.
 const OPERATIONS: u32 = 1_000_000;
@@ -30,6 +36,8 @@ enum Task {
     Every,
     /// One line.
     One(Plan),
+    /// One line, of changes.
+    Wait(WaitPlan),
     /// What was done, and no time.
     Check,
 }
@@ -38,6 +46,7 @@ fn main(rt: HostRuntime) -> ExitCode {
     let ended = match chosen(&rt) {
         Ok(Task::Every) => run_every(&rt),
         Ok(Task::One(plan)) => run_one(&rt, plan),
+        Ok(Task::Wait(plan)) => run_waiting(&rt, plan),
         Ok(Task::Check) => check(&rt),
         Err(failure) => Err(failure),
     };
@@ -60,6 +69,13 @@ fn chosen(rt: &(impl Env + Alloc<A = Global>)) -> Result<Task, Failure> {
     let task = match word.as_str() {
         "check" => Task::Check,
         "run" => Task::One(Plan::parse(words.next(), words.next(), words.next())?),
+        "wait" => Task::Wait(WaitPlan::parse([
+            words.next(),
+            words.next(),
+            words.next(),
+            words.next(),
+            words.next(),
+        ])?),
         _ => return Err(Failure::Usage),
     };
     match words.next() {
@@ -94,10 +110,44 @@ fn run_one<R: Print + Alloc<A = Global> + Threads + Wait + Clock + Sync>(
         operations,
     } = plan;
     let lookup = measure(rt, rt.alloc(), plan, Operation::Lookup)?.nanoseconds_each(operations);
+    let batch = measure(rt, rt.alloc(), plan, Operation::Batch)?.nanoseconds_each(operations);
     let passive = measure(rt, rt.alloc(), plan, Operation::Passive)?.nanoseconds_each(operations);
     let local = measure(rt, rt.alloc(), plan, Operation::Local)?.nanoseconds_each(operations);
     println!(rt;
-        "threads {threads} entries {entries} lookup {lookup:.2} passive {passive:.2} local {local:.2}"
+        "threads {threads} entries {entries} lookup {lookup:.2} batch {batch:.2} passive {passive:.2} local {local:.2}"
+    )?;
+    Ok(())
+}
+
+/// Prints the nanoseconds of a replacement and of its parts on one line.
+fn run_waiting<R: Print + Alloc<A = Global> + Threads + Wait + Clock + Sync>(
+    rt: &R,
+    plan: WaitPlan,
+) -> Result<(), Failure> {
+    let Waits {
+        replace,
+        perform,
+        parts,
+    } = measure_waiting(rt, rt.alloc(), plan)?;
+    let WaitPlan {
+        cpus,
+        readers,
+        slots,
+        held,
+        count: _count,
+    } = plan;
+    let Parts {
+        detach,
+        turn,
+        drain,
+        turns,
+        attach,
+    } = parts;
+    print!(rt;
+        "cpus {cpus} readers {readers} slots {slots} held {held} replace {replace:.1} perform {perform:.1}"
+    )?;
+    println!(rt;
+        " detach {detach:.1} turn {turn:.1} drain {drain:.1} turns {turns:.2} attach {attach:.1}"
     )?;
     Ok(())
 }
@@ -113,10 +163,32 @@ fn check<R: Print + Alloc<A = Global> + Threads + Wait + Clock + Sync>(
             operations: 100,
         };
         let lookups = measure(rt, rt.alloc(), plan, Operation::Lookup)?.right;
+        let batches = measure(rt, rt.alloc(), plan, Operation::Batch)?.right;
         let passives = measure(rt, rt.alloc(), plan, Operation::Passive)?.right;
         let locals = measure(rt, rt.alloc(), plan, Operation::Local)?.right;
         println!(rt;
-            "threads 2 entries {entries} lookups {lookups} passives {passives} locals {locals}"
+            "threads 2 entries {entries} lookups {lookups} batches {batches} passives {passives} locals {locals}"
+        )?;
+    }
+    check_waiting(rt)
+}
+
+/// Replaces an entry while others read and references to it are held, and prints how often.
+fn check_waiting<R: Print + Alloc<A = Global> + Threads + Wait + Clock + Sync>(
+    rt: &R,
+) -> Result<(), Failure> {
+    for held in [0, 3] {
+        let plan = WaitPlan {
+            cpus: 3,
+            readers: 1,
+            slots: 4,
+            held,
+            count: 20,
+        };
+        measure_waiting(rt, rt.alloc(), plan)?;
+        println!(rt;
+            "cpus 3 readers 1 slots 4 held {held} replaced {}",
+            plan.count
         )?;
     }
     Ok(())

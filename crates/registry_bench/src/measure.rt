@@ -1,29 +1,24 @@
 //! Runs of many threads, and their times.
 
-ghost use Rattle.std.specs.Prelude.{◌≡◌, IsTrue};
-ghost use Rattle.registry_values.specs.Limits.{are_fit};
+ghost use Rattle.std.specs.Prelude.{◌≡◌};
 ghost use Rattle.cpu_words.specs.Domains.{AreWordsOf};
-ghost use Rattle.cpu_words.specs.Opening.{AreSeats, keeper_with};
 
 use crate::failure::Failure;
+use crate::gate::Gate;
 use crate::loops::{leave, make, prepare};
-use crate::opening::{cpus_of, publish_all, settings_for};
+use crate::opening::{attach_all, settings_for};
 use crate::plan::{Operation, Plan};
-use cpu_words::{CpuSeat, Domain, KeeperSeat, Words};
-use passive_list::{Cpu, Keeper};
+use cpu_words::Domain;
+use name_registry::{Blank, Registry};
+use passive_list::Cpu;
 use registry_values::{Name, Refusal};
 use std::alloc::Global;
 use std::marker::Brand;
 use std::rt::Clock;
 use std::sync::Wait;
-use std::sync::atomic::AtomicU64;
-use std::sync::atomic::Ordering::SeqCst;
 use std::thread::Threads;
 use std::time::Instant;
 use std::{io, thread};
-
-/// How often a thread yields at most while it waits for the others.
-const PATIENCE: u32 = 1_000_000;
 
 /// How many times fewer operations a thread makes before it is timed. By then the scheduler has given each thread a processor.
 const WARMING: u32 = 3;
@@ -31,6 +26,7 @@ const WARMING: u32 = 3;
 /// What a thread, or all of them, did: how many operations went as they should, and when the first began and the last ended.
 #[derive(Clone, Copy)]
 pub struct Ran {
+    /// How many operations went as they should.
     pub right: u64,
     began: Instant,
     ended: Instant,
@@ -60,83 +56,61 @@ pub fn measure<R: Threads + Wait + Clock + Sync>(
     plan: Plan,
     operation: Operation,
 ) -> Result<Ran, Failure> {
-    let (words, keeper, seats) = Words::new(alloc, settings_for(plan))?;
-    let ran = measure_on::<Brand, R>(rt, alloc, &words, keeper, seats, plan.operations, operation)?;
+    let blank = Blank::new(alloc, settings_for(plan.threads, plan.entries))?;
+    let ran = measure_on::<Brand, R>(rt, alloc, blank, plan, operation)?;
     if ran.right != u64::from(plan.threads) * u64::from(plan.operations) {
         return Err(Failure::Wrong);
     }
     Ok(ran)
 }
 
-/// The same, on this table.
+/// The same, on this registry.
 fn measure_on<D: Domain + Send + Sync, R: Threads + Wait + Clock + Sync>(
     rt: &R,
     alloc: Global,
-    words: &Words,
-    keeper: KeeperSeat,
-    seats: Vec<CpuSeat>,
-    count: u32,
+    blank: Blank,
+    plan: Plan,
     operation: Operation,
 ) -> Result<Ran, Failure>
-    requires words { AreWordsOf words.now D.table D.settings }
-    requires fit { IsTrue (are_fit D.settings) }
-    requires keeper { (keeper.table ≡ D.table) × (keeper.view ≡ keeper_with D.settings D.settings.cpus) }
-    requires seats { AreSeats D.table D.settings D.settings.cpus seats.items }
+    requires { AreWordsOf blank D.table D.settings }
 {
-    let mut keeper = Keeper::<D>::of_seat(keeper, words.settings());
-    let names = publish_all(alloc, words, &mut keeper)?;
-    let cpus = cpus_of::<D>(alloc, words, seats)?;
-    let threads = cpus.len() as u64;
-    let gate = Gate::new(threads);
+    let Ok((registry, mut cpus)) = blank.open::<D>(alloc) else {
+        return Err(Failure::Memory);
+    };
+    let Some(first) = cpus.first_mut() else {
+        return Err(Failure::Refused(Refusal::BadSettings));
+    };
+    let names = attach_all(rt, alloc, &registry, first, plan.entries)?;
+    let gate = Gate::new(cpus.len() as u64);
     let all = thread::map_vec(
         rt,
         cpus,
-        &|cpu: Cpu<D>| -> io::Result<Ran>
-            requires { AreWordsOf words.now D.table D.settings }
-        { run(rt, words, cpu, &names, operation, count, &gate) },
+        &|cpu: Cpu<D>| -> io::Result<Ran> {
+            run(
+                rt,
+                &registry,
+                cpu,
+                &names,
+                operation,
+                plan.operations,
+                &gate,
+            )
+        },
     )?;
     together(all)
-}
-
-/// Where the threads of a run wait for one another, so that they begin at once.
-#[derive(Drop)]
-struct Gate {
-    come: AtomicU64,
-    threads: u64,
-}
-
-impl Gate {
-    fn new(threads: u64) -> Gate {
-        Gate {
-            come: AtomicU64::new(0),
-            threads,
-        }
-    }
-
-    /// Waits until all threads have come; not for ever, since where no thread can be made they come one by one.
-    fn pass(&self) {
-        self.come.fetch_add(1, SeqCst);
-        for _ in 0..PATIENCE {
-            if self.come.load(SeqCst) >= self.threads {
-                return;
-            }
-            thread::yield_now();
-        }
-    }
 }
 
 /// What one thread does: some operations that don't count, and then, when all threads have made theirs, those that do.
 fn run<D: Domain, R: Wait + Clock>(
     rt: &R,
-    words: &Words,
+    registry: &Registry<D>,
     mut cpu: Cpu<D>,
     names: &[Name],
     operation: Operation,
     count: u32,
     gate: &Gate,
-) -> io::Result<Ran>
-    requires words { AreWordsOf words.now D.table D.settings }
-{
+) -> io::Result<Ran> {
+    let words = registry.words();
     prepare(words, &mut cpu, names, operation);
     make(rt, words, &mut cpu, names, operation, count / WARMING);
     gate.pass();

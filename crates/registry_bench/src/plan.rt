@@ -8,12 +8,18 @@ use crate::failure::Failure;
 pub const MOST_THREADS: u8 = 8;
 /// The most entries, which are the most slots.
 pub const MOST_ENTRIES: u8 = 32;
+/// The most references that are held.
+const MOST_HELD: u32 = 1_000;
+/// The most replacements: each of them is made twice, and is two changes.
+const MOST_REPLACED: u32 = 200_000;
 
 /// An operation that is measured.
 #[derive(Clone, Copy, Debug, PartialEq, Eq)]
 pub enum Operation {
     /// A section with one lookup in it: enter, find, exit.
     Lookup,
+    /// A lookup in an open section: a section is entered and left for every 32 of them.
+    Batch,
     /// A passive reference is acquired and released.
     Passive,
     /// A local reference is acquired and released.
@@ -39,22 +45,52 @@ impl Plan {
         operations: Option<String>,
     ) -> Result<Plan, Failure> {
         Ok(Plan {
-            threads: number(threads, u32::from(MOST_THREADS))? as u8,
-            entries: number(entries, u32::from(MOST_ENTRIES))? as u8,
-            operations: number(operations, u32::MAX)?,
+            threads: number(threads, 1, u32::from(MOST_THREADS))? as u8,
+            entries: number(entries, 1, u32::from(MOST_ENTRIES))? as u8,
+            operations: number(operations, 1, u32::MAX)?,
         })
     }
 }
 
-/// A number from 1 to `most`.
-fn number(word: Option<String>, most: u32) -> Result<u32, Failure>
+/// So many CPUs, of which so many readers enter and leave all the time, while one more replaces an entry of the list so many times.
+#[derive(Clone, Copy, Debug, PartialEq, Eq)]
+pub struct WaitPlan {
+    /// 1 to 8.
+    pub cpus: u8,
+    /// From 0, and fewer than the CPUs.
+    pub readers: u8,
+    /// The entries of the list, 1 to 32, and as many slots.
+    pub slots: u8,
+    /// How many local references to the entry are held as it is detached.
+    pub held: u32,
+    /// From 1; the registry's history has room for all of them.
+    pub count: u32,
+}
+
+impl WaitPlan {
+    /// The plan that five words say. Refused: `Usage`, where one of them is no number in its range, or is missing.
+    pub fn parse(words: [Option<String>; 5]) -> Result<WaitPlan, Failure> {
+        let [cpus, readers, slots, held, count] = words;
+        let cpus = number(cpus, 1, u32::from(MOST_THREADS))? as u8;
+        Ok(WaitPlan {
+            cpus,
+            readers: number(readers, 0, u32::from(cpus.saturating_sub(1)))? as u8,
+            slots: number(slots, 1, u32::from(MOST_ENTRIES))? as u8,
+            held: number(held, 0, MOST_HELD)?,
+            count: number(count, 1, MOST_REPLACED)?,
+        })
+    }
+}
+
+/// A number from `least` to `most`.
+fn number(word: Option<String>, least: u32, most: u32) -> Result<u32, Failure>
     ensures { IfOk result (λ n. n ≤ most) }
 {
     let Some(word) = word else {
         return Err(Failure::Usage);
     };
     match word.as_str().parse::<u32>() {
-        Ok(n) if 1 <= n && n <= most => Ok(n),
+        Ok(n) if least <= n && n <= most => Ok(n),
         _ => Err(Failure::Usage),
     }
 }

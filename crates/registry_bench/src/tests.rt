@@ -11,7 +11,7 @@ fn failures_and_their_statuses(rt: HostRuntime) -> Result<(), Fail> {
     let rows = [
         (
             Failure::Usage,
-            "usage: registry_bench [check | run THREADS ENTRIES OPERATIONS]",
+            "usage: registry_bench [check | run THREADS ENTRIES OPERATIONS | wait CPUS READERS SLOTS HELD COUNT]",
             2,
         ),
         (

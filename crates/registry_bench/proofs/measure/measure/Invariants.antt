@@ -1,5 +1,5 @@
 use Rattle.registry_bench.proofs.measure.measure.Given as goal
 
--- the table that was just made
+-- the registry that was just made
 abbrev pub ghosts-measure_on : goal.ghosts-measure_on
-ghosts-measure_on g a = record { table = a.words.now.table; settings = a.words.now.settings }
+ghosts-measure_on g a = record { table = a.blank.table; settings = a.blank.settings }
