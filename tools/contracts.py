@@ -63,8 +63,8 @@ def contract(lines, indent):
     return [joined(part) for part in parts]
 
 
-def blocks(lines):
-    """A block of text for each public function of a file."""
+def heads(lines):
+    """Where a function may begin: each line's number, its text, the type that it stands in, as `Type::`, and whether that is a public trait."""
     owner, is_trait = "", False
     for number, line in enumerate(lines):
         found = OWNER.match(line)
@@ -73,6 +73,12 @@ def blocks(lines):
             is_trait = line.startswith("pub trait")
         elif line == "}":
             owner, is_trait = "", False
+        yield number, line, owner, is_trait
+
+
+def blocks(lines):
+    """A block of text for each public function of a file."""
+    for number, line, owner, is_trait in heads(lines):
         found = FUNCTION.match(line)
         if found and (found[2] or is_trait):
             head, *clauses = contract(lines[number:], found[1])

@@ -1,7 +1,8 @@
 #!/usr/bin/env python3
 """Runs the built program and compares its status, standard output and standard error with what they must be.
 
-    tools/test-program.py [PROGRAM]      PROGRAM is crates/registry_run/out/registry_run, which tools/prove-program.sh makes
+    tools/test-program.py [PROGRAM]..    crates/registry_run/out/registry_run, which tools/prove-program.sh makes; and beside it what
+                                         Rattle's own compiler made, where the gate has just built both
 
 Scripts with and without faults, storms, wrong arguments, and a standard output that is full, closed or gone, or a standard input that can't
 be read. The last line counts the runs.
@@ -43,7 +44,8 @@ RUNS = [
     (["storm", "03", "0007"], b"", 0, storm(3, 7), b""),
     *((words, SCRIPT, 2, b"", USAGE) for words in (
         [], ["Core"], ["core", "live"], ["live", "1", "1"], ["storm"], ["storm", "2"], ["storm", "9", "1"], ["storm", "0", "1"], ["storm", "1", "0"],
-        ["storm", "1", "100001"], ["storm", "+1", "1"], ["storm", "1", ""], ["storm", "2", "3", "4"], [""], ["core", ""])),
+        ["storm", "1", "100001"], ["storm", "+1", "1"], ["storm", "1", ""], ["storm", "2", "3", "4"], [""], ["core", ""], ["core\n"],
+        [b"core\xff"])),
 ]
 
 
@@ -78,7 +80,7 @@ def judged(name, wanted, found):
 def usual(program):
     for words, script, status, output, error in RUNS:
         found = said(program, words, input=script, stdout=subprocess.PIPE)
-        yield judged(" ".join(words) or "no arguments", (status, output, error), found)
+        yield judged(str(words) if words else "no arguments", (status, output, error), found)
 
 
 def with_ends(program):
@@ -87,6 +89,23 @@ def with_ends(program):
         found = said(program, words, input=SCRIPT, stdout=file)
         os.close(file)
         yield judged(f"{' '.join(words)}, standard output {name}", (status, None, error), found)
+
+
+def with_closed_streams(program):
+    """A stream that the program is started without: standard input, standard output or standard error."""
+    fault = b"domain 2 2\nenter 2\n"
+    closed = [
+        (["core"], "<&-", SCRIPT, (3, b"", b"read fault\n")),
+        (["live"], ">&-", SCRIPT, (3, b"", b"write fault\n")),
+        (["storm", "1", "1"], "<&-", SCRIPT, (0, storm(1, 1), b"")),
+        (["storm", "1", "1"], ">&-", SCRIPT, (3, b"", b"write fault\n")),
+        (["live"], "2>&-", fault, (2, b"", b"")),
+        (["core"], "2>&-", SCRIPT, (0, REPORT, b"")),
+        (["never"], "2>&-", SCRIPT, (2, b"", b"")),
+    ]
+    for words, without, script, wanted in closed:
+        found = said("sh", ["-c", f'exec "$@" {without}', "sh", program, *words], input=script, stdout=subprocess.PIPE)
+        yield judged(f"{' '.join(words)} {without}", wanted, found)
 
 
 def with_unread_input(program):
@@ -107,8 +126,10 @@ def part_of_report(program):
     ran = subprocess.Popen([program, "core"], stdin=subprocess.PIPE, stdout=subprocess.PIPE, stderr=subprocess.PIPE)
     reader = os.fork()
     if reader == 0:
-        ran.stdin.write(script)
-        os._exit(0)
+        try:
+            ran.stdin.write(script)
+        finally:
+            os._exit(0)
     ran.stdin.close()
     begin = ran.stdout.read(11)
     ran.stdout.close()
@@ -117,11 +138,24 @@ def part_of_report(program):
     yield judged("core, a reader that leaves", (3, b"domain 8 32", b"write fault\n"), (ran.wait(), begin, error))
 
 
+def programs():
+    """What the words name, else what the gate or tools/prove-program.sh built."""
+    if sys.argv[1:]:
+        return sys.argv[1:]
+    proved = ROOT / "crates/registry_run/out/registry_run"
+    other = proved.with_name("registry_run.by-rattle")
+    # The gate builds it after the other one; else it is of an earlier run.
+    is_of_gate = proved.is_file() and other.is_file() and other.stat().st_mtime >= proved.stat().st_mtime
+    return [str(proved), *[str(other)] * is_of_gate]
+
+
 def main():
-    program = sys.argv[1] if len(sys.argv) > 1 else str(ROOT / "crates/registry_run/out/registry_run")
-    if not os.access(program, os.X_OK):
-        sys.exit(f"{program} is missing: tools/prove-program.sh makes it")
-    passed = [it for part in (usual, with_ends, with_unread_input, part_of_report) for it in part(program)]
+    passed = []
+    for program in programs():
+        if not os.access(program, os.X_OK):
+            sys.exit(f"{program} is missing: tools/prove-program.sh makes it")
+        for part in (usual, with_ends, with_closed_streams, with_unread_input, part_of_report):
+            passed += part(program)
     print(f"{sum(passed)} passed, {len(passed) - sum(passed)} failed")
     sys.exit(not all(passed))
 

@@ -13,7 +13,8 @@ import subprocess
 import sys
 import tempfile
 
-ROOT = pathlib.Path(__file__).resolve().parent.parent
+from edits import ROOT, apply, restore
+
 FOLDERS = {"prover": "must-fail-by-hand", "tests": "must-fail-tests"}
 
 
@@ -43,32 +44,6 @@ def by_prover(tree, crate, edits):
         yield edit, said.startswith("refused"), said
 
 
-def changes(edit):
-    """The file, the old and the new text of each change of an edit."""
-    file = old = None
-    for line in edit.read_text().splitlines():
-        key, _, text = line.partition(": ")
-        if key == "file":
-            file = text
-        elif key == "old":
-            old = text
-        elif key.rstrip(":") == "new":
-            yield file, old, text
-
-
-def applied(tree, edit):
-    """Applies the edit, and answers the files' text as it was."""
-    before = {}
-    for file, old, new in changes(edit):
-        path = tree / file
-        text = path.read_text()
-        before.setdefault(path, text)
-        if text.count(old) != 1:
-            sys.exit(f"{edit.name}: stands {text.count(old)} times in {file}: {old}")
-        path.write_text(text.replace(old, new))
-    return before
-
-
 def failures(tree, crate):
     """Whether the tests of the crate fail, as they must, and what they say."""
     ran = subprocess.run(["rt", "try", "--test"], cwd=tree / "crates" / crate, stdout=subprocess.PIPE, stderr=subprocess.STDOUT, text=True)
@@ -84,10 +59,9 @@ def failures(tree, crate):
 def by_tests(tree, crate, edits):
     """Runs the tests under each edit in turn; its files are named from the tree's top."""
     for edit in edits:
-        before = applied(tree, edit)
-        yield edit, *failures(tree, crate)
-        for path, text in before.items():
-            path.write_text(text)
+        before, misfit = apply(edit, tree)
+        yield edit, *((False, misfit) if misfit else failures(tree, crate))
+        restore(before)
 
 
 def main():

@@ -1,0 +1,79 @@
+#!/usr/bin/env python3
+"""A look before the gate, in a copy of the tree: what the gate would refuse for its form alone, and say at its end.
+
+    tools/before-gate.py                      each file as rt fmt writes it; each edit (docs/EDITS.md) fits its file
+    tools/before-gate.py compile [CRATE]..    the edits that the prover is to refuse compile, too; it wants the tree's crates proved
+
+It proves nothing, and ends with 'N passed, M failed'.
+"""
+import pathlib
+import shutil
+import subprocess
+import sys
+import tempfile
+
+from edits import FOLDERS, ROOT, apply, edits_of, restore
+
+CRATES = sorted(it.name for it in (ROOT / "crates").iterdir() if it.is_dir())
+
+
+def rt(tree, crate, *words):
+    ran = subprocess.run(["rt", *words], cwd=tree / "crates" / crate, stdout=subprocess.PIPE, stderr=subprocess.STDOUT, text=True)
+    return ran.stdout.splitlines()
+
+
+def format_faults(tree, crate):
+    """What isn't as rt fmt writes it."""
+    return [line.removeprefix("rt: ") for line in rt(tree, crate, "fmt") if line.startswith("rt: formatted ")]
+
+
+def misfit(tree, edit):
+    """Why the edit doesn't fit the tree, if so."""
+    before, why = apply(edit, tree)
+    restore(before)
+    return why
+
+
+def compile_fault(tree, crate, edit):
+    """What the quick pass over the edited sources says, if it finds a fault."""
+    before, why = apply(edit, tree)
+    lines = [] if why else rt(tree, crate, "check", "--only", "")
+    restore(before)
+    return why or next((line for line in lines if ": error" in line and "/proofs/" not in line), "")
+
+
+def looks(tree):
+    """The look without a compiler: of each thing its name and what is wrong with it."""
+    for crate in CRATES:
+        yield crate, "; ".join(format_faults(tree, crate))
+        for folder in FOLDERS:
+            for edit in edits_of(crate, folder):
+                yield f"{crate}/{folder}/{edit.stem}", misfit(tree, edit)
+
+
+def compiles(tree, crates):
+    """The look of the compiler, at the edits for the prover."""
+    for crate in crates or CRATES:
+        for folder in FOLDERS[:2]:
+            for edit in edits_of(crate, folder):
+                yield f"{crate}/{folder}/{edit.stem}", compile_fault(tree, crate, edit)
+
+
+def main():
+    words = sys.argv[1:]
+    if words and words[0] != "compile" or set(words[1:]) - set(CRATES):
+        sys.exit(__doc__)
+    kept = shutil.ignore_patterns(".git") if words else shutil.ignore_patterns("out", ".git")
+    passed = failed = 0
+    with tempfile.TemporaryDirectory() as folder:
+        tree = pathlib.Path(folder) / "tree"
+        shutil.copytree(ROOT, tree, ignore=kept)
+        for name, fault in compiles(tree, words[1:]) if words else looks(tree):
+            passed, failed = passed + (not fault), failed + bool(fault)
+            if fault:
+                print(f"{name}: {fault}", flush=True)
+    print(f"{passed} passed, {failed} failed")
+    sys.exit(failed > 0)
+
+
+main()

@@ -1,0 +1,77 @@
+#!/usr/bin/env python3
+"""Lists the public functions of which no edit (docs/EDITS.md) changes the body, nor that of a function of their crate that they call.
+
+    tools/without-edits.py [CRATE]..     all crates, if none is named
+
+A law has no body to change, and the method of a trait none either: it is listed, since its types' own methods are other functions. A call is
+known by its name alone, so a function may pass here for the edit of another with the name of one that it calls.
+"""
+import collections
+import re
+import sys
+
+from contracts import FUNCTION, heads
+from edits import ROOT, changes
+
+PRIVATE = re.compile(r"( *)(?:pub\(crate\) )?(?:const )?fn (\w+)")
+Function = collections.namedtuple("Function", "path name is_public first last text")
+
+
+def end_of(lines, first, indent):
+    """The line that ends the function which begins here: its closing bracket, or its semicolon where it has no body."""
+    for number in range(first, len(lines)):
+        if lines[number] in (indent + "}", indent + "{}"):
+            return number
+        if lines[number].endswith(";") and indent + "{" not in lines[first:number]:
+            return number
+    return len(lines) - 1
+
+
+def functions_of(path):
+    """The functions of a file, public and private."""
+    lines = path.read_text().split("\n")
+    for number, line, owner, is_trait in heads(lines):
+        public = FUNCTION.match(line)
+        head = public or PRIVATE.match(line)
+        if head:
+            last = end_of(lines, number, head[1])
+            name = owner + (public[3] if public else head[2])
+            is_public = bool(public and (public[2] or is_trait))
+            yield Function(path, name, is_public, number, last, "\n".join(lines[number + 1:last]))
+
+
+def places(edit):
+    """The file and the line of each text that the edit changes."""
+    for path, old, _ in changes(edit):
+        if path.is_file():
+            before, found, _ = path.read_text().partition(old)
+            if found:
+                yield path, before.count("\n")
+
+
+def covered(functions, changed):
+    """The functions that an edit changes, and those that call one of them."""
+    known = {it for it in functions if any(it.path == path and it.first <= line <= it.last for path, line in changed)}
+    while True:
+        names = {re.sub(r".*::", "", it.name) for it in known}
+        more = {it for it in functions if it not in known and names & set(re.findall(r"\b(\w+)(?:::<[^>]*>)?\(", it.text))}
+        if not more:
+            return known
+        known |= more
+
+
+def main():
+    crates = sys.argv[1:] or sorted(path.name for path in (ROOT / "crates").iterdir())
+    by_tests = [place for edit in ROOT.glob("crates/*/must-fail-tests/*.edit") for place in places(edit)]
+    for crate in crates:
+        folder = ROOT / "crates" / crate
+        functions = [it for path in folder.glob("src/**/*.rt") if "tests" not in path.parts for it in functions_of(path)]
+        changed = by_tests + [place for edit in folder.glob("must-fail*/*.edit") for place in places(edit)]
+        public = [it for it in functions if it.is_public]
+        missing = [it for it in public if it not in covered(functions, changed)]
+        print(f"{crate}: {len(missing)} of {len(public)} public functions")
+        for it in missing:
+            print(f"    {it.path.relative_to(folder)} {it.name}")
+
+
+main()
