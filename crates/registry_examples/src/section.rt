@@ -15,6 +15,6 @@ pub fn enter<D: Domain>(words: &Words, cpu: &mut Cpu<D>) -> Result<(), Refusal>
 {
     passive_list::enter(words, cpu)?;
     // For the proof alone: reading the depth opens what the type keeps, that a CPU whose depth isn't 0 is inside.
-    let _depth = cpu.depth;
+    let _depth = cpu.plain.depth;
     Ok(())
 }

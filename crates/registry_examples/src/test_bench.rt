@@ -42,10 +42,13 @@ const WRITTEN: u32 = 3;
 /// What was seen over all orders.
 #[derive(Clone, Copy)]
 pub struct BenchSum {
+    /// How many orders of the commands were tried.
     pub orders: u64,
-    /// The turns that met CPU 0's section, those that met its reference, and those that freed the slot.
+    /// How many of CPU 1's turns met CPU 0's section.
     pub grace: u64,
+    /// How many met its local reference.
     pub local: u64,
+    /// How many freed the slot.
     pub freed: u64,
 }
 
