@@ -7,12 +7,9 @@ use Rattle.registry_values.specs.declared.entry.Record.{Record}
 use Rattle.registry_values.specs.declared.refusal.Refusal.{Refusal}
 use Rattle.registry_values.specs.declared.refusal.Refusal.TheVariants.{NoMemory, BadSettings, NameTaken, NoSlot, HistoryFull, NotFound, Inside, SectionsSpent, NothingFound, PassiveFull, WrongCpu, NotHeld, LocalFull, NotRetired, MissingCpu, StillHeld, Waiting, TooDeep, NeedsDriver}
 use Rattle.registry_values.specs.declared.settings.Settings.{Settings}
-use Rattle.registry_values.specs.declared.stage.Stage.{Stage}
-use Rattle.registry_values.specs.declared.stage.Stage.TheVariants.{Grace, Passive, Local, Freed}
 use Rattle.registry_values.specs.declared.slot.Key.{Key}
 use Rattle.registry_values.specs.Answers as answers
 use Rattle.registry_values.specs.Answers.{entry_in, has_room, next_entry, waiting_for}
-use Rattle.registry_values.specs.Stages.{destroyed}
 use Rattle.registry_values.specs.Marks.{least_below, or_next}
 use Rattle.registry_values.specs.Slots.{key_of_record, is_iface, is_taken}
 use Rattle.registry_values.proofs.Answers.{attach_tells, given_tells}
@@ -22,7 +19,7 @@ use Rattle.passive_list.specs.Keepers.{OnKeeper}
 use Rattle.passive_list.specs.Notes.{HasHeardOn}
 use Rattle.name_registry.specs.Attaching.{attach_answer, attach_iface_answer, given_entry, plain_slot, room_of, HasAttachedFor, HasAttachedIfaceFor}
 use Rattle.name_registry.specs.Detaching.{IsDetachAnswer, IsDetachRefusal, HasDetachedFor}
-use Rattle.name_registry.specs.Locking.{MayAttach, IsAttachRefusal, IsDetachRefusedTo, IsPerformRefusal, IsStageOf}
+use Rattle.name_registry.specs.Locking.{MayAttach, IsAttachRefusal, IsDetachRefusedTo, IsPerformRefusal}
 use Rattle.name_registry.specs.Meeting.{is_inside, HasLearned, HasSeenAttach, HasSeenDetach}
 
 pub learned : (note : List Change) (x y : OnCpu) → HasHeardOn note x y → HasLearned x y
@@ -132,14 +129,6 @@ detach_owned k b x y key (Err f) is has = tt
 pub detach_refused : (k b : OnKeeper) (x y : OnCpu) (key : Key) (r : Result Entry Refusal) → IsDetachAnswer k x key r → IfErr r (λ _. (b ≡ k) × (y ≡ x)) → IfErr r (λ f. IsDetachRefusedTo (is_inside x) f × (y ≡ x))
 detach_refused k b x y key (Ok e) is same = tt
 detach_refused k b x y key (Err f) is same = (detach_refusal k x key f is, same.1)
-
--- Advancing and destroying
-
-pub destroyed_slot : (z : Settings) (inside : Bool) (stage : Stage) → inside ≡ false → IsStageOf z stage → IfOk (destroyed stage) (λ t. (inside ≡ false) × (t < z.slots))
-destroyed_slot z inside (Grace c) out is = tt
-destroyed_slot z inside (Passive c) out is = tt
-destroyed_slot z inside (Local n) out is = tt
-destroyed_slot z inside (Freed t) out is = (out, is)
 
 -- Performing
 

@@ -1,9 +1,11 @@
 //! Destroying a retired entry, in several turns.
 
 ghost use Rattle.std.specs.Prelude.{◌≡◌, ◌<◌, ◌≤◌, IfOk, IfErr, false};
+ghost use Rattle.name_registry.specs.Destroying.{Destroys, DestroysOutside};
 ghost use Rattle.name_registry.specs.Locking.{IsDestroyRefusal};
 ghost use Rattle.name_registry.specs.Meeting.{is_inside};
 
+use crate::locked::Locked;
 use crate::registry::Registry;
 use cpu_words::Domain;
 use passive_list::Cpu;
@@ -27,18 +29,57 @@ impl<D: Domain> Registry<D> {
         requires { 1 ≤ turns }
         ensures freed { IfOk result (λ slot. (is_inside cpu.old ≡ false) × (slot < D.settings.slots)) }
         ensures refused { IfErr result (λ refusal. IsDestroyRefusal D.settings (is_inside cpu.old) refusal) }
+        ensures made { DestroysOutside D.settings number turns (is_inside cpu.old) result }
         ensures same { cpu.new ≡ cpu.old }
     {
         if cpu.inside() {
             return Err(Refusal::Inside);
         }
-        let mut stage = self.advance(rt, number)?;
-        for _ in 1..turns {
-            if let Stage::Freed(slot) = stage {
-                return Ok(slot);
-            }
-            stage = self.advance(rt, number)?;
+        let mut interlock = Locked { registry: self };
+        destroy_in_turns(rt, &mut interlock, number, turns)
+    }
+}
+
+/// What a `destroy` does under the interlock, which it takes anew for each turn.
+trait AdvancesUnderInterlock {
+    ghost use Rattle.std.specs.Prelude.{ℕ, Result};
+    ghost use Rattle.registry_values.specs.declared.refusal.Refusal.{Refusal};
+    ghost use Rattle.registry_values.specs.declared.stage.Stage.{Stage};
+
+    // of the number and the state before: the answer, and the state after
+    ghost advances: { ℕ → Self → Result Stage Refusal → Self → Type 0 };
+
+    /// One turn of the work on the retired entry `number`: the first obstacle, or `Freed`.
+    fn advance<R: Wait>(&mut self, rt: &R, number: u64) -> Result<Stage, Refusal>
+        ensures { advances number self.old result self.new };
+}
+
+/// Makes at most so many turns, and none after one that met no obstacle.
+fn destroy_in_turns<I: AdvancesUnderInterlock, R: Wait>(
+    rt: &R,
+    interlock: &mut I,
+    number: u64,
+    turns: u32,
+) -> Result<u8, Refusal>
+    requires { 1 ≤ turns }
+    ensures { Destroys (I.advances number) turns interlock.old result interlock.new }
+{
+    let mut stage = interlock.advance(rt, number)?;
+    for _ in 1..turns {
+        if let Stage::Freed(slot) = stage {
+            return Ok(slot);
         }
-        destroyed(stage)
+        stage = interlock.advance(rt, number)?;
+    }
+    destroyed(stage)
+}
+
+impl<'a, D: Domain> AdvancesUnderInterlock for Locked<'a, D> {
+    ghost use Rattle.name_registry.specs.Destroying.{SomeAdvanced};
+
+    ghost advances = { λ number x answer y. SomeAdvanced D.settings number answer };
+
+    fn advance<R: Wait>(&mut self, rt: &R, number: u64) -> Result<Stage, Refusal> {
+        self.registry.advance(rt, number)
     }
 }

@@ -14,6 +14,7 @@ mod destroying;
 mod detaching;
 mod glancing;
 mod law;
+mod locked;
 mod meeting;
 mod performing;
 mod plain;

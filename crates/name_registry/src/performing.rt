@@ -6,6 +6,7 @@ ghost use Rattle.name_registry.specs.Meeting.{is_inside};
 ghost use Rattle.name_registry.specs.Performing.{Performs, PerformsOutside, WaitsFor, none_seen};
 
 use crate::glancing::{begin, glance_at_all, pass_all};
+use crate::locked::Locked;
 use crate::registry::Registry;
 use cpu_words::Domain;
 use passive_list::Cpu;
@@ -94,12 +95,6 @@ fn wait_for_sections<I: UnderInterlock, R: Wait>(
         waited = interlock.glance(rt, snapshots, &mut seen);
     }
     waited
-}
-
-/// The interlock of a registry.
-#[derive(Drop)]
-struct Locked<'a, D: Domain> {
-    registry: &'a Registry<D>,
 }
 
 impl<'a, D: Domain> UnderInterlock for Locked<'a, D> {

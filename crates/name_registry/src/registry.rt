@@ -8,6 +8,7 @@ ghost use Rattle.registry_values.specs.Slots.{is_iface};
 ghost use Rattle.cpu_words.specs.Domains.{AreWordsOf};
 ghost use Rattle.passive_list.specs.Keepers.{OnKeeper};
 ghost use Rattle.name_registry.specs.Auditing.{AreAllCpus, IsAuditOf};
+ghost use Rattle.name_registry.specs.Destroying.{SomeAdvanced};
 ghost use Rattle.name_registry.specs.Locking.{MayAttach, IsAttachRefusal, IsDetachRefusedTo, IsStageOf};
 ghost use Rattle.name_registry.specs.Meeting.{is_inside, HasLearned, HasSeenAttach, HasSeenDetach};
 
@@ -99,6 +100,7 @@ impl<D: Domain> Registry<D> {
     pub fn advance<R: Wait>(&self, rt: &R, number: u64) -> Result<Stage, Refusal>
         ensures ok { IfOk result (λ stage. IsStageOf D.settings stage) }
         ensures refused { IfErr result (λ refusal. refusal ≡ Refusal.NotRetired) }
+        ensures made { SomeAdvanced D.settings number result }
     {
         advance_in(&self.words, &mut self.keeper.lock(rt), number)
     }

@@ -1,0 +1,53 @@
+-- Destroying a retired entry: how many turns of the work on it were made, and what the last one's answer makes of it.
+use Rattle.std.specs.Prelude.{◌≡◌, ◌⊎◌, ℕ, zero, suc, ◌<◌, Bool, true, false, Result, Ok, Err, IfOk}
+use Rattle.registry_values.specs.declared.refusal.Refusal.{Refusal}
+use Rattle.registry_values.specs.declared.refusal.Refusal.TheVariants.{Inside}
+use Rattle.registry_values.specs.declared.settings.Settings.{Settings}
+use Rattle.registry_values.specs.declared.stage.Stage.{Stage}
+use Rattle.registry_values.specs.Stages.{IsObstacle, destroyed_if}
+use Rattle.passive_list.specs.Keepers.{OnKeeper}
+use Rattle.name_registry.specs.Advancing.{HasAdvanced}
+use Rattle.name_registry.specs.Locking.{IsStageOf}
+
+-- a turn that met an obstacle; after any other answer there is nothing more to do
+abbrev pub MeetsObstacle : Result Stage Refusal → Type 0
+MeetsObstacle (Ok stage) = IsObstacle stage
+MeetsObstacle (Err refusal) = ⊥
+
+-- The turns: X is what stands between two holds of the interlock
+
+module _ {X : Type 0} (turn : X → Result Stage Refusal → X → Type 0) where
+  -- n turns were made, each on from what the one before left, and each met an obstacle
+  abbrev pub TurnsMeeting : ℕ → X → X → Type 0
+  TurnsMeeting zero x y = y ≡ x
+  TurnsMeeting (suc n) x y = (m : X) × (met : Result Stage Refusal) × TurnsMeeting n x m × turn m met y × MeetsObstacle met
+
+  -- one turn more was made, after n such: this is its answer
+  abbrev pub LastMeeting : ℕ → X → Result Stage Refusal → X → Type 0
+  LastMeeting n x met y = (m : X) × TurnsMeeting n x m × turn m met y
+
+  -- as many turns as are allowed, or fewer where the last met no obstacle; the answer is made of the last one's
+  pub record Destroys (turns : ℕ) (x : X) (answer : Result ℕ Refusal) (y : X) : Type 0 where
+    pub earlier : ℕ
+    pub few : earlier < turns
+    pub met : Result Stage Refusal
+    pub last : LastMeeting earlier x met y
+    pub enough : (MeetsObstacle met → ⊥) ⊎ (suc earlier ≡ turns)
+    pub told : answer ≡ destroyed_if met
+
+-- Through the lock, whose value no contract can name: of some keeper, as the call found it and left it
+
+-- one turn of the work on the entry n; a stage speaks of a CPU or a slot that there is
+abbrev pub SomeAdvanced : Settings → ℕ → Result Stage Refusal → Type 0
+SomeAdvanced z n answer = ((a : OnKeeper) × (b : OnKeeper) × HasAdvanced a n answer b) × IfOk answer (λ stage. IsStageOf z stage)
+
+abbrev pub advance_through : Settings → ℕ → Unit {0} → Result Stage Refusal → Unit {0} → Type 0
+advance_through z n x answer y = SomeAdvanced z n answer
+
+abbrev pub HasDestroyed : Settings → ℕ → ℕ → Result ℕ Refusal → Type 0
+HasDestroyed z n turns answer = Destroys (advance_through z n) turns tt answer tt
+
+-- outside a section it was made, and this is its answer
+abbrev pub DestroysOutside : Settings → ℕ → ℕ → Bool → Result ℕ Refusal → Type 0
+DestroysOutside z n turns true result = result ≡ Err Inside
+DestroysOutside z n turns false result = HasDestroyed z n turns result
