@@ -1,6 +1,6 @@
 pub mod Apart
 pub mod Passes
-pub mod Pictures
+pub mod KeepersShown
 pub mod Placing
 pub mod ReferenceLists
 pub mod Seeing

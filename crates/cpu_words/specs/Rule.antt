@@ -64,7 +64,7 @@ pub record Good (g : State) : Type 0 where
   pub fresh : (c : ℕ) → g.seated ≤ c → c < g.settings.cpus → IsFresh g c
 
 -- some such state shows the keeper's view
-pub record IsPictured (k : KeeperView) : Type 0 where
+pub record IsShown (k : KeeperView) : Type 0 where
   pub g : State
   pub good : Good g
   pub shown : KeeperShown g k

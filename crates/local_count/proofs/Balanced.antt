@@ -1,4 +1,4 @@
--- What the keeper's view says of totals: of each good state of the core that shows it, or where there is one (`IsPictured`).
+-- What the keeper's view says of totals: of each good state of the core that shows it, or where there is one (`IsShown`).
 use Rattle.std.proofs.Common.{◌≡◌, inr, ⊎_elim, ℕ, ◌+◌, ◌^◌, ◌<◌, ◌≤◌, List, [], length, get_or, Option, Some, true, refl, sym, ap, ◌∙◌, subst, arith}
 use Rattle.std.proofs.lemmas.Bool.{cases_lt}
 use Rattle.registry_values.specs.declared.entry.Entry.{Entry}
@@ -22,7 +22,7 @@ use Rattle.protocol.proofs.slots.Occupied.{in_within, retired_one, slot_has}
 use Rattle.protocol.proofs.keeps.References.{due_subtracting}
 use Rattle.cpu_words.specs.declared.view.KeeperView.{KeeperView}
 use Rattle.cpu_words.specs.Draining.{row_of}
-use Rattle.cpu_words.specs.Rule.{Good, IsPictured}
+use Rattle.cpu_words.specs.Rule.{Good, IsShown}
 use Rattle.cpu_words.specs.Views.{KeeperShown}
 use Rattle.cpu_words.proofs.by_keeper.KeeperSees.{seen_by_keeper}
 
@@ -75,16 +75,16 @@ total_near g k t e good had none is =
 -- Of the view
 
 -- what was collected is added with nothing lost
-pub adding_fits : (k : KeeperView) (t old : ℕ) → IsPictured k → k.due ≡ Adding t old → (bias ≤ total_at k.totals t + old) × (total_at k.totals t + old < 2 ^ 64)
-adding_fits k t old pictured due =
-    let seen = seen_by_keeper pictured.g k pictured.good pictured.shown in
+pub adding_fits : (k : KeeperView) (t old : ℕ) → IsShown k → k.due ≡ Adding t old → (bias ≤ total_at k.totals t + old) × (total_at k.totals t + old < 2 ^ 64)
+adding_fits k t old is_shown due =
+    let seen = seen_by_keeper is_shown.g k is_shown.good is_shown.shown in
     let total = ap (λ (x : List ℕ). total_at x t) seen.totals in
-    let range = adding_range pictured.g t old pictured.good.holds (sym seen.due ∙ due) in
+    let range = adding_range is_shown.g t old is_shown.good.holds (sym seen.due ∙ due) in
     (omega (arith, range.0, total), omega (arith, range.1, total))
 
 -- the keeper is at rest, and the slot's entry is retired with all words collected
-pub bias_within : (k : KeeperView) (t : ℕ) (e : Entry) → IsPictured k → k.due ≡ Rest → slot_at k.slots t ≡ Retired e → are_collected k.settings.cpus (row_of k t) ≡ true → bias ≤ total_at k.totals t
-bias_within k t e pictured rest retired all = omega (arith, total_collected pictured.g k t e pictured.good pictured.shown (none_at_rest k.due t rest) retired all)
+pub bias_within : (k : KeeperView) (t : ℕ) (e : Entry) → IsShown k → k.due ≡ Rest → slot_at k.slots t ≡ Retired e → are_collected k.settings.cpus (row_of k t) ≡ true → bias ≤ total_at k.totals t
+bias_within k t e is_shown rest retired all = omega (arith, total_collected is_shown.g k t e is_shown.good is_shown.shown (none_at_rest k.due t rest) retired all)
 
 -- The entry of t, live or retired, is held: one can be subtracted from the total, and t isn't drained.
 pub record IsHeldIn (k : KeeperView) (t : ℕ) : Type 0 where
@@ -116,20 +116,20 @@ held_from g k t e good had none is some =
     }
 
 -- by the reference that the keeper has taken in, to be subtracted
-pub held_given_up : (k : KeeperView) (t : ℕ) → IsPictured k → k.due ≡ Subtracting t → IsHeldIn k t
-held_given_up k t pictured due =
-    let g = pictured.g in
-    let seen = seen_by_keeper g k pictured.good pictured.shown in
+pub held_given_up : (k : KeeperView) (t : ℕ) → IsShown k → k.due ≡ Subtracting t → IsHeldIn k t
+held_given_up k t is_shown due =
+    let g = is_shown.g in
+    let seen = seen_by_keeper g k is_shown.good is_shown.shown in
     let of : g.due ≡ Subtracting t = sym seen.due ∙ due in
-    let gone = due_subtracting g.settings.cpus g.slots g.hands g.due g.locals t of pictured.good.holds.references in
+    let gone = due_subtracting g.settings.cpus g.slots g.hands g.due g.locals t of is_shown.good.holds.references in
     let one : subtracting_at t g.due ≡ 1 = ap (subtracting_at t) of ∙ one_self t t refl in
-    held_from g k t gone.0 pictured.good pictured.shown (none_at_subtraction k.due t t due) (inr (ap (λ (x : List Slot). slot_at x t) seen.slots ∙ gone.1)) (omega (arith, one))
+    held_from g k t gone.0 is_shown.good is_shown.shown (none_at_subtraction k.due t t due) (inr (ap (λ (x : List Slot). slot_at x t) seen.slots ∙ gone.1)) (omega (arith, one))
 
 -- by the reference that the slot s keeps
-pub held_by_slot : (k : KeeperView) (s d t : ℕ) → IsPictured k → k.due ≡ Rest → kept_at k.keeps s ≡ Some d → slot_of k.slots d ≡ Some t → IsHeldIn k t
-held_by_slot k s d t pictured rest keeps of =
-    let g = pictured.g in
-    let seen = seen_by_keeper g k pictured.good pictured.shown in
+pub held_by_slot : (k : KeeperView) (s d t : ℕ) → IsShown k → k.due ≡ Rest → kept_at k.keeps s ≡ Some d → slot_of k.slots d ≡ Some t → IsHeldIn k t
+held_by_slot k s d t is_shown rest keeps of =
+    let g = is_shown.g in
+    let seen = seen_by_keeper g k is_shown.good is_shown.shown in
     let has = slot_has k.slots d t of in
     let some : 0 < held_in g d t = held_kept g.locals g.hands g.keeps g.due d t s (ap (λ (x : List (Option ℕ)). kept_at x s) (sym seen.keeps) ∙ keeps) in
-    held_from g k t has.1.0 pictured.good pictured.shown (none_at_rest k.due t rest) has.1.1 (subst (λ (n : ℕ). 0 < held_in g n t) (sym has.1.2) some)
+    held_from g k t has.1.0 is_shown.good is_shown.shown (none_at_rest k.due t rest) has.1.1 (subst (λ (n : ℕ). 0 < held_in g n t) (sym has.1.2) some)

@@ -20,9 +20,9 @@ use Rattle.protocol.proofs.keeps.ListKeeps.{rows_put}
 use Rattle.cpu_words.specs.declared.view.KeeperView.{KeeperView}
 use Rattle.cpu_words.specs.declared.view.View.TheVariants.{Keeper}
 use Rattle.cpu_words.specs.Draining.{row_of, HasCollected, MayTotalAdd, HasAdded}
-use Rattle.cpu_words.specs.Rule.{IsPictured}
+use Rattle.cpu_words.specs.Rule.{IsShown}
 use Rattle.cpu_words.specs.Steps.{Makes}
-use Rattle.cpu_words.proofs.shown.Pictures.{pictured_by}
+use Rattle.cpu_words.proofs.shown.KeepersShown.{step_is_shown}
 use Rattle.passive_list.specs.declared.keeper.Row.{Row}
 use Rattle.passive_list.specs.Keepers.{OnKeeper, no_row, row_at, state_of, states_of, TakenAs, IsAtRest, RowsAgree, IsOurKeeper}
 use Rattle.passive_list.proofs.Rows.{state_at, not_vacant_within, retired_in, row_stays, rows_set}
@@ -82,13 +82,13 @@ with_total_rows a k rows t marks total given_up at agree some =
 
 -- the keeper's data agree with such a view, where the slot isn't vacant
 pub with_total_keeper : (z : TableId) (a : Settings) (table table' : TableId) (k l : KeeperView) (its : Settings) (rows : List Row) (n t : ℕ) (marks : List Mark) (total : ℕ) (given_up : List ℕ)
-    → IsOurKeeper z a table k its rows n → (slot_at (states_of rows) t ≡ Vacant → ⊥) → length marks ≡ 8 → table' ≡ table → l ≡ with_total k t marks total given_up → IsPictured l
+    → IsOurKeeper z a table k its rows n → (slot_at (states_of rows) t ≡ Vacant → ⊥) → length marks ≡ 8 → table' ≡ table → l ≡ with_total k t marks total given_up → IsShown l
     → IsOurKeeper z a table' l its (set rows t (row_with_total (row_at rows t) marks total)) n
-with_total_keeper z a table table' k l its rows n t marks total given_up our some size same change pictured = record {
+with_total_keeper z a table table' k l its rows n t marks total given_up our some size same change is_shown = record {
   table = same ∙ our.table;
   settings = our.settings;
   view = subst (IsAtRest a) (sym change) (with_total_at_rest a k t marks total given_up our.view size);
-  pictured = pictured;
+  is_shown = is_shown;
   changes = our.changes ∙ sym (ap (λ (x : KeeperView). length x.history) change);
   rows = subst (λ (x : KeeperView). RowsAgree a x (set rows t (row_with_total (row_at rows t) marks total))) (sym change) (with_total_rows a k rows t marks total given_up our.view our.rows some);
 }
@@ -109,7 +109,7 @@ collection_tells z a table k l its rows n x t c w e our is retired change made =
     let most = (ranges a our.view.fit).slots in
     let due = ap (λ (v : KeeperView). v.due) change in
     let total : (row_at rows t).total ≡ total_at l.totals t = (our.rows.each t lt).total ∙ sym (ap (λ (v : KeeperView). total_at v.totals t) change) in
-    let range = adding_fits l t w (pictured_by (Collect t c) (Word w) k l made) due in
+    let range = adding_fits l t w (step_is_shown (Collect t c) (Word w) k l made) due in
     record {
       place = omega (arith, lt, most);
       floor = omega (arith, range.0, total);
@@ -134,7 +134,7 @@ collected_keeper z a table table' k l b its rows n x t c w e m our is retired ch
     let row = (our.rows.each t lt).marks in
     let size = our.view.sized.marks in
     let long : length (set (row_at rows t).marks c m) ≡ 8 = length-set (row_at rows t).marks c m ∙ (ap (λ (ms : List Mark). length ms) row ∙ our.view.sized.mark_rows t (omega (arith, lt, size))) in
-    with_total_keeper z a table table' k b its rows n t (set (row_at rows t).marks c m) ((row_at rows t).total + w - bias) k.given_up our (λ v. let q : Retired e ≡ Vacant = sym here ∙ v in cc) long same (added_is k l b rows t c w m row change mark added) (pictured_by (TotalAdd t) Done l b made)
+    with_total_keeper z a table table' k b its rows n t (set (row_at rows t).marks c m) ((row_at rows t).total + w - bias) k.given_up our (λ v. let q : Retired e ≡ Vacant = sym here ∙ v in cc) long same (added_is k l b rows t c w m row change mark added) (step_is_shown (TotalAdd t) Done l b made)
 
 pub collected_into : (z : TableId) (a : Settings) (table : TableId) (k l b : KeeperView) (its : Settings) (rows : List Row) (n : ℕ) (x : OnKeeper) (t c w : ℕ) (e : Entry) (r : Row) → IsOurKeeper z a table k its rows n → record { view = k; slots = states_of rows } ≡ x
     → slot_at x.slots t ≡ Retired e → HasCollected k t c w l → Makes (Collect t c) (Word w) (Keeper k) (Keeper l) → HasAdded l t ((row_at rows t).total + w - bias) b → Makes (TotalAdd t) Done (Keeper l) (Keeper b) → r.state ≡ (row_at rows t).state
@@ -165,7 +165,7 @@ total_tells z a table k its rows n x t e our is retired all =
     let here = retired_in a k rows t e our.rows (ap (λ (y : OnKeeper). slot_at y.slots t) is ∙ retired) in
     let total : (row_at rows t).total ≡ total_at k.totals t = (our.rows.each t here.0).total in
     let told : are_collected k.settings.cpus (row_of k t) ≡ true = (λ i. are_collected (our.view.settings i).cpus (row_of (is i).view t)) ∙ all in
-    let floor = bias_within k t e our.pictured our.view.rest here.1 told in
+    let floor = bias_within k t e our.is_shown our.view.rest here.1 told in
     subst (λ (y : OnKeeper). TotalTells y.view t (row_at rows t).total) is record {
       floor = omega (arith, floor, total);
       is = omega (arith, floor, total);

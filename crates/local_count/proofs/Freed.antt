@@ -24,7 +24,7 @@ use Rattle.protocol.proofs.slots.Occupied.{has_it, not_vacant, number_in, one_nu
 use Rattle.cpu_words.specs.declared.view.KeeperView.{KeeperView}
 use Rattle.cpu_words.specs.declared.view.View.TheVariants.{Keeper}
 use Rattle.cpu_words.specs.Draining.{MayKeptSub, HasKeptSub}
-use Rattle.cpu_words.specs.Rule.{IsPictured}
+use Rattle.cpu_words.specs.Rule.{IsShown}
 use Rattle.cpu_words.specs.Steps.{Makes}
 use Rattle.cpu_words.specs.Views.{one_more}
 use Rattle.cpu_words.proofs.by_keeper.KeeperSees.{seen_by_keeper}
@@ -55,21 +55,21 @@ place_told a k rows n u agree found =
     (has.0, subst (IsIn has.0) (sym (taken_is k u x off here.1)) has.1, has.2)
 
 -- a number has one slot
-one_slot : (k : KeeperView) (t u : ℕ) (e f : Entry) → IsPictured k → IsIn e (slot_at k.slots t) → IsIn f (slot_at k.slots u) → f.number ≡ e.number → u ≡ t
-one_slot k t u e f pictured is also same =
-    let g = pictured.g in
-    let slots : k.slots ≡ g.slots = (seen_by_keeper g k pictured.good pictured.shown).slots in
-    (one_number g.history g.slots t u e f pictured.good.holds.slots (subst (λ (x : List Slot). IsIn e (slot_at x t)) slots is) (subst (λ (x : List Slot). IsIn f (slot_at x u)) slots also) same).0
+one_slot : (k : KeeperView) (t u : ℕ) (e f : Entry) → IsShown k → IsIn e (slot_at k.slots t) → IsIn f (slot_at k.slots u) → f.number ≡ e.number → u ≡ t
+one_slot k t u e f is_shown is also same =
+    let g = is_shown.g in
+    let slots : k.slots ≡ g.slots = (seen_by_keeper g k is_shown.good is_shown.shown).slots in
+    (one_number g.history g.slots t u e f is_shown.good.holds.slots (subst (λ (x : List Slot). IsIn e (slot_at x t)) slots is) (subst (λ (x : List Slot). IsIn f (slot_at x u)) slots also) same).0
 
 -- the row of what is held shows its number
-held_place : (a : Settings) (k : KeeperView) (rows : List Row) (u : ℕ) (f : Entry) → IsPictured k → RowsAgree a k rows → HeldRow k rows u → IsIn f (slot_at k.slots u) → place_of f.number rows ≡ Some u
-held_place a k rows u f pictured agree row is =
+held_place : (a : Settings) (k : KeeperView) (rows : List Row) (u : ℕ) (f : Entry) → IsShown k → RowsAgree a k rows → HeldRow k rows u → IsIn f (slot_at k.slots u) → place_of f.number rows ≡ Some u
+held_place a k rows u f is_shown agree row is =
     let lt = row.slot in
     let size = agree.size in
     let here : IsIn f (row_at rows u).state = subst (IsIn f) (sym row.shown) is in
     let found = position_found (λ (r : Row). has_number f.number (state_of r)) no_row rows u (omega (arith, lt, size)) (has_it f.number f (row_at rows u).state here refl) in
     let shown = place_told a k rows f.number found.0 agree found.1 in
-    found.1 ∙ ap (λ (j : ℕ). Some j) (one_slot k u found.0 f shown.0 pictured is shown.1 shown.2)
+    found.1 ∙ ap (λ (j : ℕ). Some j) (one_slot k u found.0 f shown.0 is_shown is shown.1 shown.2)
 
 -- the slot t keeps the driver d, which is in the slot u
 pub record KeepsHeld (k : KeeperView) (t u : ℕ) : Type 0 where
@@ -86,18 +86,18 @@ record KeepsShown (k : KeeperView) (t u : ℕ) : Type 0 where
   here : IsIn f (slot_at k.slots u)
   number : f.number ≡ keeps.d
 
-keeps_shown : (k : KeeperView) (t : ℕ) (e : Entry) → IsPictured k → k.due ≡ Rest → slot_at k.slots t ≡ Retired e → e.rec.kind ≡ Iface → (u : ℕ) × KeepsShown k t u
-keeps_shown k t e pictured rest retired kind =
-    let g = pictured.g in
-    let seen = seen_by_keeper g k pictured.good pictured.shown in
-    let keeps : DriversKept k.slots k.keeps = subst (λ (x : List Slot). DriversKept x k.keeps) (sym seen.slots) (subst (DriversKept g.slots) (sym seen.keeps) pictured.good.holds.kept_drivers) in
+keeps_shown : (k : KeeperView) (t : ℕ) (e : Entry) → IsShown k → k.due ≡ Rest → slot_at k.slots t ≡ Retired e → e.rec.kind ≡ Iface → (u : ℕ) × KeepsShown k t u
+keeps_shown k t e is_shown rest retired kind =
+    let g = is_shown.g in
+    let seen = seen_by_keeper g k is_shown.good is_shown.shown in
+    let keeps : DriversKept k.slots k.keeps = subst (λ (x : List Slot). DriversKept x k.keeps) (sym seen.slots) (subst (DriversKept g.slots) (sym seen.keeps) is_shown.good.holds.kept_drivers) in
     let it = kept_number k.slots k.keeps t e keeps (inr retired) kind in
     let found = slot_found k.slots it.0 (it.2.0, it.2.1, it.2.2, it.2.3) in
     let has = (slot_has k.slots it.0 found.0 found.1).1 in
-    let of : slot_of k.slots it.0 ≡ Some it.2.0 = found.1 ∙ ap (λ (j : ℕ). Some j) (one_slot k it.2.0 found.0 it.2.1 has.0 pictured it.2.2 has.1 (has.2 ∙ sym it.2.3)) in (
+    let of : slot_of k.slots it.0 ≡ Some it.2.0 = found.1 ∙ ap (λ (j : ℕ). Some j) (one_slot k it.2.0 found.0 it.2.1 has.0 is_shown it.2.2 has.1 (has.2 ∙ sym it.2.3)) in (
       it.2.0,
       record {
-        keeps = record { d = it.0; kept = it.1; of = of; other = it.2.5; held = held_by_slot k t it.0 it.2.0 pictured rest it.1 of };
+        keeps = record { d = it.0; kept = it.1; of = of; other = it.2.5; held = held_by_slot k t it.0 it.2.0 is_shown rest it.1 of };
         f = it.2.1;
         here = it.2.2;
         number = it.2.3;
@@ -113,10 +113,10 @@ pub keeps_on : (z : TableId) (a : Settings) (table : TableId) (k : KeeperView) (
     → (u : ℕ) × (kept_slot (row_at rows t).keeps rows ≡ Some u) × KeepsHeld k t u
 keeps_on z a table k its rows n t x our is iface =
     let retired = retired_in a k rows t iface.0 our.rows (ap (λ (y : OnKeeper). slot_at y.slots t) is ∙ iface.1) in
-    let it = keeps_shown k t iface.0 our.pictured our.view.rest retired.1 iface.2 in
+    let it = keeps_shown k t iface.0 our.is_shown our.view.rest retired.1 iface.2 in
     let s = it.1 in (
       it.0,
-      ap (λ (o : Option ℕ). kept_slot o rows) ((our.rows.each t retired.0).keeps ∙ s.keeps.kept) ∙ (ap (λ (m : ℕ). place_of m rows) (sym s.number) ∙ held_place a k rows it.0 s.f our.pictured our.rows (held_row a k rows it.0 our.view our.rows s.keeps.held) s.here),
+      ap (λ (o : Option ℕ). kept_slot o rows) ((our.rows.each t retired.0).keeps ∙ s.keeps.kept) ∙ (ap (λ (m : ℕ). place_of m rows) (sym s.number) ∙ held_place a k rows it.0 s.f our.is_shown our.rows (held_row a k rows it.0 our.view our.rows s.keeps.held) s.here),
       s.keeps,
     )
 
@@ -205,8 +205,8 @@ freed_rows a k rows t d u at agree held off lt total =
     (λ v other was. row_stays m (freed k t d u) v (row_at rows' v) at.rest refl (slot_other k.slots t Vacant v other) refl refl (get_or-set_other k.keeps t v None None other) was)
 
 pub freed_keeper : (z : TableId) (a : Settings) (table table' : TableId) (k l : KeeperView) (its : Settings) (rows : List Row) (n t u : ℕ) (x : OnKeeper) → IsOurKeeper z a table k its rows n → record { view = k; slots = states_of rows } ≡ x → IsDrainedOn x t → KeepsHeld k t u
-    → table' ≡ table → HasKeptSub k t u l → IsPictured l → IsOurKeeper z a table' l its (set (set rows u (row_less (row_at rows u))) t (row_freed (row_at rows t))) n
-freed_keeper z a table table' k l its rows n t u x our is drained keeps same told pictured =
+    → table' ≡ table → HasKeptSub k t u l → IsShown l → IsOurKeeper z a table' l its (set (set rows u (row_less (row_at rows u))) t (row_freed (row_at rows t))) n
+freed_keeper z a table table' k l its rows n t u x our is drained keeps same told is_shown =
     let d = subst (λ (y : OnKeeper). IsDrainedOn y t) (sym is) drained in
     let here = retired_in a k rows t d.retired.0 our.rows d.retired.1 in
     let change = freed_is k l t keeps.d u keeps.kept told in
@@ -215,7 +215,7 @@ freed_keeper z a table table' k l its rows n t u x our is drained keeps same tol
       table = same ∙ our.table;
       settings = our.settings;
       view = subst (IsAtRest a) (sym change) (freed_at_rest a k t keeps.d u d.retired.0 our.view here.0 here.1);
-      pictured = pictured;
+      is_shown = is_shown;
       changes = our.changes ∙ sym (ap (λ (y : KeeperView). length y.history) change);
       rows = subst (λ (y : KeeperView). RowsAgree a y after) (sym change) (freed_rows a k rows t keeps.d u our.view our.rows keeps.held keeps.other here.0 d.drained.total);
     }

@@ -17,7 +17,7 @@ use Rattle.cpu_words.specs.declared.view.View.TheVariants.{Keeper, Reference}
 use Rattle.cpu_words.specs.Draining.{IsFoundCollected, MayJoinKeeper, giving_up, HasSubtracted}
 use Rattle.cpu_words.specs.Steps.{Makes, JoinsBy}
 use Rattle.cpu_words.specs.Views.{one_more}
-use Rattle.cpu_words.proofs.shown.Pictures.{pictured_by}
+use Rattle.cpu_words.proofs.shown.KeepersShown.{step_is_shown}
 use Rattle.passive_list.specs.declared.keeper.Row.{Row}
 use Rattle.passive_list.specs.Keepers.{OnKeeper, no_row, row_at, state_of, states_of, IsOurKeeper}
 use Rattle.passive_list.proofs.Rows.{retired_in}
@@ -70,7 +70,7 @@ given_keeper z a table table' k j l its rows n t v our slot joined made told sam
     let row = given_row z a table k j l its rows n t v our slot joined made in
     let given_up = one_more k.given_up v.entry.number in
     with_total_keeper z a table table' k l its rows n t (row_at rows t).marks ((row_at rows t).total - 1) given_up our row.some row.size same
-    (given_is k j l t v our.view.rest joined told ∙ less_is k rows t given_up our.view.rest row) (pictured_by (TotalSub t) Done j l made)
+    (given_is k j l t v our.view.rest joined told ∙ less_is k rows t given_up our.view.rest row) (step_is_shown (TotalSub t) Done j l made)
 
 -- what is left of the keeper
 pub has_given_up : (k j l : KeeperView) (rows : List Row) (t : ℕ) (v w : ReferenceView) (x : OnKeeper) → record { view = k; slots = states_of rows } ≡ x → v ≡ w → k.due ≡ Rest → v.entry.slot ≡ t → j ≡ giving_up k v

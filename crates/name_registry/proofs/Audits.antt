@@ -72,13 +72,13 @@ pub has : (z : TableId) (a : Settings) (table : TableId) (k : KeeperView) (its :
 has z a table k its rows n x t m our is there =
     let e = there.0 in
     let here = in_view z a table k its rows n t e our (subst (λ (y : OnKeeper). IsIn e (slot_at y.slots t)) (sym is) there.1) in
-    let g = our.pictured.g in
-    let good = our.pictured.good in
-    let seen = seen_by_keeper g k good our.pictured.shown in
+    let g = our.is_shown.g in
+    let good = our.is_shown.good in
+    let seen = seen_by_keeper g k good our.is_shown.shown in
     let attached = attached_in g.history g.slots t e good.holds.slots (subst (λ (y : List Slot). IsIn e (slot_at y t)) seen.slots here.1) in
     let one = (at_within g.history e.number (Attach e) attached.0).0 in
     let most = (ranges a our.view.fit).slots in
-    let near = total_near g k t e good our.pictured.shown (none_at_rest k.due t our.view.rest) here.1 in
+    let near = total_near g k t e good our.is_shown.shown (none_at_rest k.due t our.view.rest) here.1 in
     subst (λ (y : OnKeeper). Has a y rows t m) is record {
       entry = e;
       number = there.2;

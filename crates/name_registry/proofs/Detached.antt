@@ -39,7 +39,7 @@ pub record ShowsLive (x : OnKeeper) : Type 0 where
 -- by any state of the core that shows its view
 pub keeper_shows : (z : TableId) (a : Settings) (table : TableId) (k : KeeperView) (its : Settings) (rows : List Row) (n : ℕ) (x : OnKeeper) → IsOurKeeper z a table k its rows n → record { view = k; slots = states_of rows } ≡ x → ShowsLive x
 keeper_shows z a table k its rows n x our is =
-    let p = our.pictured in
+    let p = our.is_shown in
     let seen = seen_by_keeper p.g k p.good p.shown in
     let shown = p.good.holds.slots in
     subst ShowsLive is record {

@@ -96,7 +96,7 @@ taken_at a k rows t view agree = ⊎_elim
 pub known_keeper : (z : TableId) (a : Settings) (table : TableId) (k : KeeperView) (its : Settings) (rows : List Row) (n : ℕ) (x : OnKeeper) → IsOurKeeper z a table k its rows n → record { view = k; slots = states_of rows } ≡ x → IsKeeperOf a x
 known_keeper z a table k its rows n x our is = subst (IsKeeperOf a) is record {
   view = our.view;
-  pictured = our.pictured;
+  is_shown = our.is_shown;
   slots = λ t. taken_at a k rows t our.view our.rows;
 }
 

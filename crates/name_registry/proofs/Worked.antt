@@ -22,7 +22,7 @@ use Rattle.protocol.proofs.slots.MarkRows.{mark_grows, mark_there, marks_grow_no
 use Rattle.protocol.proofs.slots.Cells.{total_other}
 use Rattle.cpu_words.specs.declared.view.KeeperView.{KeeperView}
 use Rattle.cpu_words.specs.declared.view.View.TheVariants.{Keeper}
-use Rattle.cpu_words.specs.Rule.{IsPictured}
+use Rattle.cpu_words.specs.Rule.{IsShown}
 use Rattle.cpu_words.specs.Steps.{Makes}
 use Rattle.cpu_words.proofs.by_keeper.KeeperSees.{seen_by_keeper}
 use Rattle.passive_list.specs.declared.keeper.Row.{Row}
@@ -41,10 +41,10 @@ iface_if (Some n) Iface d rightly is = refl
 iface_if (Some n) Driver d rightly is = absurd (let q : ◌≡◌ {A = Bool} false true = rightly in cc)
 
 -- an entry whose slot keeps a reference is an interface
-keeps_iface : (k : KeeperView) (t d : ℕ) (e : Entry) → IsPictured k → slot_at k.slots t ≡ Retired e → kept_at k.keeps t ≡ Some d → e.rec.kind ≡ Iface
-keeps_iface k t d e pictured is kept =
-    let seen = seen_by_keeper pictured.g k pictured.good pictured.shown in
-    let keeps : DriversKept k.slots k.keeps = subst (λ (x : List Slot). DriversKept x k.keeps) (sym seen.slots) (subst (DriversKept pictured.g.slots) (sym seen.keeps) pictured.good.holds.kept_drivers) in
+keeps_iface : (k : KeeperView) (t d : ℕ) (e : Entry) → IsShown k → slot_at k.slots t ≡ Retired e → kept_at k.keeps t ≡ Some d → e.rec.kind ≡ Iface
+keeps_iface k t d e is_shown is kept =
+    let seen = seen_by_keeper is_shown.g k is_shown.good is_shown.shown in
+    let keeps : DriversKept k.slots k.keeps = subst (λ (x : List Slot). DriversKept x k.keeps) (sym seen.slots) (subst (DriversKept is_shown.g.slots) (sym seen.keeps) is_shown.good.holds.kept_drivers) in
     iface_if (kept_at k.keeps t) e.rec.kind d (keeps.rightly t e (inr is)) kept
 
 -- a keeper has work at each slot that it has as retired
@@ -60,7 +60,7 @@ may_work z a table k its rows n x t e our is retired =
       e = e;
       retired = there;
       known = known.1;
-      keeps = λ d kept. keeps_iface k t d e our.pictured known.1 kept;
+      keeps = λ d kept. keeps_iface k t d e our.is_shown known.1 kept;
     }
 
 -- there still is after some

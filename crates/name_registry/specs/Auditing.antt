@@ -11,7 +11,7 @@ use Rattle.registry_values.specs.Balances.{Tally, less_bias, sum_of, tally_shown
 use Rattle.protocol.specs.Invariant.{IsIn}
 use Rattle.registry_values.specs.Slots.{is_retired, slot_at}
 use Rattle.protocol.specs.State.{State, mark_at, total_at}
-use Rattle.cpu_words.specs.Rule.{Good, IsPictured}
+use Rattle.cpu_words.specs.Rule.{Good, IsShown}
 use Rattle.cpu_words.specs.Views.{number_at, CpuShown, KeeperShown}
 use Rattle.passive_list.specs.Cpus.{OnCpu}
 use Rattle.passive_list.specs.Keepers.{IsAtRest, OnKeeper, TakenAs}
@@ -132,7 +132,7 @@ IsTallied k xs b = (g : State) → AreShown g k xs → b.held ≡ tally k xs b.n
 -- What is known of the keeper behind the lock, which no contract can name: it is at rest, some state of the core shows its view, and in its slots it has what its view has, or nothing where an entry may be vacated.
 pub record IsKeeperOf (z : Settings) (k : OnKeeper) : Type 0 where
   pub view : IsAtRest z k.view
-  pub pictured : IsPictured k.view
+  pub is_shown : IsShown k.view
   pub slots : (t : ℕ) → TakenAs k.view t (slot_at k.slots t)
 
 -- What is answered of the keeper k and all CPUs.

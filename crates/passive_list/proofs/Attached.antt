@@ -28,7 +28,7 @@ use Rattle.protocol.proofs.slots.Occupied.{in_within, slot_cases}
 use Rattle.cpu_words.specs.declared.view.KeeperView.{KeeperView}
 use Rattle.cpu_words.specs.Publishing.{LeadsBelow, MayPublish, HasPublished}
 use Rattle.cpu_words.specs.Publishing.LeadsBelow.{To_end, To_slot}
-use Rattle.cpu_words.specs.Rule.{IsPictured}
+use Rattle.cpu_words.specs.Rule.{IsShown}
 use Rattle.cpu_words.specs.Vacating.{MayVacate, MayWrite, as_vacant, vacant_from}
 use Rattle.passive_list.specs.declared.keeper.Row.{Row}
 use Rattle.passive_list.specs.Keepers.{OnKeeper, row_at, states_of, TakenAs, IsAtRest, RowsAgree, IsOurKeeper}
@@ -267,9 +267,9 @@ published_at_rest a k rows e v asked =
     }
 
 -- what the keeper has agrees with what it publishes, whatever step before brought its seat to the view k
-pub published_keeper : (z : TableId) (a : Settings) (table : TableId) (k l : KeeperView) (its : Settings) (rows : List Row) (n : ℕ) (e : Entry) (v : ℕ) → table ≡ z → its ≡ a → n ≡ length k.history → MayAttach a k rows e → l ≡ published k e v → IsPictured l
+pub published_keeper : (z : TableId) (a : Settings) (table : TableId) (k l : KeeperView) (its : Settings) (rows : List Row) (n : ℕ) (e : Entry) (v : ℕ) → table ≡ z → its ≡ a → n ≡ length k.history → MayAttach a k rows e → l ≡ published k e v → IsShown l
     → IsOurKeeper z a table l its (set rows e.slot (row_live (row_at rows e.slot) e)) (n + 1)
-published_keeper z a table k l its rows n e v same settings was asked change pictured =
+published_keeper z a table k l its rows n e v same settings was asked change is_shown =
     let at = asked.at in
     let t = e.slot in
     let lt = asked.slot in
@@ -281,7 +281,7 @@ published_keeper z a table k l its rows n e v same settings was asked change pic
       table = same;
       settings = settings;
       view = subst (IsAtRest a) (sym change) (published_at_rest a k rows e v asked);
-      pictured = pictured;
+      is_shown = is_shown;
       changes = let long = length-after_change k.history (Attach e) in let now = ap (λ (x : KeeperView). length x.history) change in omega (arith, was, long, now);
       rows = subst (λ (x : KeeperView). RowsAgree a x (set rows t (row_live (row_at rows t) e))) (sym change) (rows_set a k p rows t (row_live (row_at rows t) e) lt (omega (arith, lt, most)) asked.agree
           record {

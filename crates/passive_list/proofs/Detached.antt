@@ -15,7 +15,7 @@ use Rattle.protocol.proofs.history.History.{length-after_change}
 use Rattle.protocol.proofs.keeps.ListKeeps.{live_count_put, rows_put}
 use Rattle.cpu_words.specs.declared.view.KeeperView.{KeeperView}
 use Rattle.cpu_words.specs.Publishing.{LeadsBelow, IsBefore, MayUnpublish, HasUnpublished, having_unpublished, links_with}
-use Rattle.cpu_words.specs.Rule.{IsPictured}
+use Rattle.cpu_words.specs.Rule.{IsShown}
 use Rattle.passive_list.specs.declared.keeper.Row.{Row}
 use Rattle.passive_list.specs.Keepers.{row_at, states_of, IsAtRest, RowsAgree, IsOurKeeper}
 use Rattle.passive_list.specs.Retiring.{with_snapshots}
@@ -89,8 +89,8 @@ abbrev pub row_retired : Row → Entry → List Mark → Row
 row_retired r e marks = record { state = Retired e; marks = marks; total = r.total; keeps = r.keeps }
 
 pub detached_keeper : (z : TableId) (a : Settings) (table table' : TableId) (k l : KeeperView) (its : Settings) (rows : List Row) (n t : ℕ) (e : Entry) (p : Option ℕ) (v : ℕ) (marks : List Mark) → IsOurKeeper z a table k its rows n → (row_at rows t).state ≡ Live e → length marks ≡ 8
-    → table' ≡ table → l ≡ detached k t e p v marks → IsPictured l → IsOurKeeper z a table' l its (set rows t (row_retired (row_at rows t) e marks)) (n + 1)
-detached_keeper z a table table' k l its rows n t e p v marks our is marks_size same change pictured =
+    → table' ≡ table → l ≡ detached k t e p v marks → IsShown l → IsOurKeeper z a table' l its (set rows t (row_retired (row_at rows t) e marks)) (n + 1)
+detached_keeper z a table table' k l its rows n t e p v marks our is marks_size same change is_shown =
     let at = our.view in
     let live = live_in a k rows t e our.rows (state_at rows t ∙ is) in
     let lt = live.0 in
@@ -105,7 +105,7 @@ detached_keeper z a table table' k l its rows n t e p v marks our is marks_size 
       table = same ∙ our.table;
       settings = our.settings;
       view = subst (IsAtRest a) (sym change) (detached_at_rest a k t e p v marks at lt live.1 marks_size);
-      pictured = pictured;
+      is_shown = is_shown;
       changes = let was = our.changes in let more = length-after_change k.history (Detach e.number) in let now = ap (λ (x : KeeperView). length x.history) change in omega (arith, was, more, now);
       rows = subst (λ (x : KeeperView). RowsAgree a x (set rows t (row_retired (row_at rows t) e marks))) (sym change) (rows_set a k d rows t (row_retired (row_at rows t) e marks) lt (omega (arith, lt, most)) our.rows
           record {

@@ -21,7 +21,7 @@ use Rattle.cpu_words.specs.declared.view.KeeperView.{KeeperView}
 use Rattle.cpu_words.specs.declared.view.View.TheVariants.{Keeper}
 use Rattle.cpu_words.specs.Grace.{MayLook, having_looked}
 use Rattle.cpu_words.specs.Steps.{Makes}
-use Rattle.cpu_words.proofs.shown.Pictures.{pictured_by}
+use Rattle.cpu_words.proofs.shown.KeepersShown.{step_is_shown}
 use Rattle.passive_list.specs.declared.keeper.Row.{Row}
 use Rattle.passive_list.specs.Keepers.{no_row, row_at, state_of, states_of, TakenAs, IsAtRest, RowsAgree, IsOurKeeper}
 use Rattle.passive_list.specs.Vacating.{IsDrainedOn, is_drained_row}
@@ -94,7 +94,7 @@ looked_keeper z a table table' k l its rows n ev r t c f m e our is same made ch
     record {
       table = same ∙ our.table;
       settings = our.settings;
-      pictured = pictured_by ev r k l event;
+      is_shown = step_is_shown ev r k l event;
       view = subst (IsAtRest a) (sym now) (marked_at_rest a k ev r t c m our.view);
       changes = our.changes ∙ sym (ap (λ (x : KeeperView). length x.history) now);
       rows = subst (λ (x : KeeperView). RowsAgree a x (set rows t (row_marked (row_at rows t) c m))) (sym now) (marked_rows a k rows ev r t c m e our.view our.rows is);
@@ -130,7 +130,7 @@ vacated_keeper z a table k its rows n t our is keeps =
       table = our.table;
       settings = our.settings;
       view = our.view;
-      pictured = our.pictured;
+      is_shown = our.is_shown;
       changes = our.changes;
       rows = rows_set a k k rows t (row_vacated (row_at rows t)) lt (omega (arith, lt, most)) our.rows
           record {

@@ -11,7 +11,7 @@ use Rattle.registry_values.specs.Slots.{live_count, slot_at}
 use Rattle.registry_values.specs.Balances.{bias}
 use Rattle.protocol.specs.State.{total_at, kept_at}
 use Rattle.cpu_words.specs.declared.view.KeeperView.{KeeperView}
-use Rattle.cpu_words.specs.Rule.{IsPictured}
+use Rattle.cpu_words.specs.Rule.{IsShown}
 use Rattle.cpu_words.specs.Vacating.{MayVacate}
 use Rattle.passive_list.specs.declared.keeper.Row.{Row}
 
@@ -78,6 +78,6 @@ pub record IsOurKeeper (z : TableId) (a : Settings) (seat_table : TableId) (k : 
   pub table : seat_table ≡ z
   pub settings : its ≡ a
   pub view : IsAtRest a k
-  pub pictured : IsPictured k
+  pub is_shown : IsShown k
   pub changes : n ≡ length k.history
   pub rows : RowsAgree a k rs

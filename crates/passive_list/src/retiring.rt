@@ -6,7 +6,7 @@ ghost use Rattle.registry_values.specs.declared.slot.Slot.TheVariants.{Live};
 ghost use Rattle.protocol.specs.declared.state.Due.TheVariants.{Snapshots};
 ghost use Rattle.registry_values.specs.Slots.{slot_at};
 ghost use Rattle.cpu_words.specs.Domains.{AreWordsOf};
-ghost use Rattle.cpu_words.specs.Rule.{IsPictured};
+ghost use Rattle.cpu_words.specs.Rule.{IsShown};
 ghost use Rattle.passive_list.specs.Retiring.{HasDetached, with_snapshots, AreSnapshots, AreFresh};
 
 use crate::keeper::{Keeper, Row, SlotState};
@@ -45,12 +45,12 @@ fn snapshots(words: &Words, seat: &mut KeeperSeat, slot: u8, cpus: u8) -> [Mark;
     requires table { seat.old.table ≡ words.now.table }
     requires due { seat.old.view.due ≡ Snapshots slot 0 }
     requires fresh { AreFresh seat.old.view slot }
-    requires pictured { IsPictured seat.old.view }
+    requires is_shown { IsShown seat.old.view }
     requires fit { (cpus ≡ seat.old.view.settings.cpus) × (1 ≤ cpus) × (cpus ≤ 8) }
     ensures table { seat.new.table ≡ seat.old.table }
     ensures marks { AreSnapshots cpus result }
     ensures view { seat.new.view ≡ with_snapshots seat.old.view slot result }
-    ensures pictured { IsPictured seat.new.view }
+    ensures is_shown { IsShown seat.new.view }
 {
     let mut marks = [NO_MARK; 8];
     for c in 0..cpus {

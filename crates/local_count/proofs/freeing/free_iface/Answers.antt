@@ -1,7 +1,7 @@
 use Rattle.std.proofs.Common.{sym, ◌∙◌}
 use Rattle.protocol.specs.declared.event.Event.TheVariants.{KeptSub}
 use Rattle.protocol.specs.declared.event.Reply.TheVariants.{Done}
-use Rattle.cpu_words.proofs.shown.Pictures.{pictured_by}
+use Rattle.cpu_words.proofs.shown.KeepersShown.{step_is_shown}
 use Rattle.passive_list.specs.Keepers.{row_at}
 use Rattle.local_count.proofs.Freed.{keeps_on, keeps_at, may_free, freed_keeper, has_freed}
 use Rattle.local_count.proofs.Subtracting.{held_row}
@@ -38,7 +38,7 @@ invariant_of-keeper g c =
     let u = c.in-Some.driver_slot in
     let keeps = keeps_at g.D.Domain.table g.D.Domain.settings inside.seat.table k inside.settings inside.rows inside.changes t u c.args.keeper.now c.keeper.invariant c.keeper.view_is c.requires.iface (sym c.kept_slot.ensures ∙ c.in-Some.is) in
     freed_keeper g.D.Domain.table g.D.Domain.settings inside.seat.table c.kept_sub.new.keeper.table k l inside.settings inside.rows inside.changes t u c.args.keeper.now c.keeper.invariant c.keeper.view_is c.requires.drained keeps
-    c.kept_sub.ensures.table c.kept_sub.ensures.change (pictured_by (KeptSub t) Done k l c.kept_sub.ensures.event)
+    c.kept_sub.ensures.table c.kept_sub.ensures.change (step_is_shown (KeptSub t) Done k l c.kept_sub.ensures.event)
 
 pub returns : goal.returns
 returns g c =

@@ -6,7 +6,7 @@ use Rattle.protocol.specs.declared.event.Reply.TheVariants.{Done}
 use Rattle.cpu_words.specs.declared.view.KeeperView.{KeeperView}
 use Rattle.cpu_words.specs.declared.view.View.TheVariants.{Keeper}
 use Rattle.cpu_words.specs.Steps.{Makes}
-use Rattle.cpu_words.proofs.shown.Pictures.{pictured_by}
+use Rattle.cpu_words.proofs.shown.KeepersShown.{step_is_shown}
 use Rattle.passive_list.specs.Keepers.{OnKeeper, row_at, state_of, states_of}
 use Rattle.passive_list.specs.Retiring.{AreSnapshots, HasDetached}
 use Rattle.passive_list.proofs.Rows.{state_at, live_in}
@@ -18,8 +18,8 @@ unpublish-requires-clause-may g c =
     let inside = c.keeper.inside in
     may_unpublish g.D.Domain.settings inside.seat.view inside.rows c.args.slot c.in-Live.entry c.slot_above-before.result c.link_below-link.result c.keeper.invariant.view c.keeper.invariant.rows c.in-Live.is c.slot_above-before.ensures.before c.link_below-link.ensures
 
-pub snapshots-marks-requires-clause-pictured : goal.snapshots-marks-requires-clause-pictured
-snapshots-marks-requires-clause-pictured g c = pictured_by (Unpublish c.args.slot) Done c.keeper.inside.seat.view c.unpublish.new.keeper.view c.unpublish.ensures.event
+pub snapshots-marks-requires-clause-is_shown : goal.snapshots-marks-requires-clause-is_shown
+snapshots-marks-requires-clause-is_shown g c = step_is_shown (Unpublish c.args.slot) Done c.keeper.inside.seat.view c.unpublish.new.keeper.view c.unpublish.ensures.event
 
 pub invariant_of-keeper : goal.invariant_of-keeper
 invariant_of-keeper g c =
@@ -33,7 +33,7 @@ invariant_of-keeper g c =
     let live = live_in g.D.Domain.settings k inside.rows t e our.rows (state_at inside.rows t ∙ c.in-Live.is) in
     let is = detached_is k c.unpublish.new.keeper.view c.snapshots-marks.new.seat.view t e p v c.snapshots-marks.result live.1 c.unpublish.ensures.change c.snapshots-marks.ensures.view in
     detached_keeper g.D.Domain.table g.D.Domain.settings inside.seat.table c.snapshots-marks.new.seat.table k c.snapshots-marks.new.seat.view inside.settings inside.rows inside.changes t e p v c.snapshots-marks.result our c.in-Live.is
-    c.snapshots-marks.ensures.marks.size (c.snapshots-marks.ensures.table ∙ c.unpublish.ensures.table) is c.snapshots-marks.ensures.pictured
+    c.snapshots-marks.ensures.marks.size (c.snapshots-marks.ensures.table ∙ c.unpublish.ensures.table) is c.snapshots-marks.ensures.is_shown
 
 pub returns-clause-change : goal.returns-clause-change
 returns-clause-change g c =
