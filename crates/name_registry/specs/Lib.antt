@@ -1,6 +1,7 @@
 pub mod Meeting
 pub mod Rows
 pub mod Attaching
+pub mod Destroying
 pub mod Detaching
 pub mod Auditing
 pub mod Law
