@@ -1,12 +1,12 @@
 -- What a caller keeps of the turns of a destroy, whatever is known of the keeper between them.
-use Rattle.std.proofs.Common.{◌≡◌, ℕ, zero, suc, ◌<◌, Bool, false, Result, Ok, Err, IfOk, IfErr, refl, sym, subst}
+use Rattle.std.proofs.Common.{◌≡◌, ℕ, zero, suc, ◌<◌, Bool, false, inl, Result, Ok, Err, IfOk, IfErr, refl, sym, subst}
 use Rattle.registry_values.specs.declared.refusal.Refusal.{Refusal}
 use Rattle.registry_values.specs.declared.refusal.Refusal.TheVariants.{NotRetired}
 use Rattle.registry_values.specs.declared.settings.Settings.{Settings}
 use Rattle.registry_values.specs.declared.stage.Stage.{Stage}
 use Rattle.registry_values.specs.declared.stage.Stage.TheVariants.{Grace, Passive, Local, Freed}
-use Rattle.registry_values.specs.Stages.{destroyed, destroyed_if}
-use Rattle.name_registry.specs.Destroying.{Destroys, DestroysOutside, HasDestroyed, SomeAdvanced, TurnsMeeting, advance_through}
+use Rattle.registry_values.specs.Stages.{IsObstacle, destroyed, destroyed_if}
+use Rattle.name_registry.specs.Destroying.{Destroys, DestroysOutside, HasDestroyed, LastMeeting, SomeAdvanced, TurnsMeeting, advance_through}
 use Rattle.name_registry.specs.Locking.{IsDestroyRefusal, IsStageOf}
 
 -- what stands between two turns is nowhere said: any X serves
@@ -23,6 +23,24 @@ destroys_through z number turns x y answer is = record {
   last = (tt, meeting_through z number is.earlier x is.last.0 is.last.1, is.last.2);
   enough = is.enough;
   told = is.told;
+}
+
+unfreed : (stage : Stage) → ((t : ℕ) → stage ≡ Freed t → ⊥) → IsObstacle stage
+unfreed (Grace c) not = tt
+unfreed (Passive c) not = tt
+unfreed (Local n) not = tt
+unfreed (Freed t) not = absurd (not t refl)
+
+-- the turn after an obstacle found nothing retired: its refusal is the answer
+pub ends_unretired : {X : Type 0} (turn : X → Result Stage Refusal → X → Type 0) (n turns : ℕ) (x z y : X) (stage : Stage) (refusal : Refusal) (answer : Result ℕ Refusal)
+    → suc n < turns → LastMeeting turn n x (Ok stage) z → ((t : ℕ) → stage ≡ Freed t → ⊥) → turn z (Err refusal) y → answer ≡ Err refusal → Destroys turn turns x answer y
+ends_unretired turn n turns x z y stage refusal answer few last not made told = record {
+  earlier = suc n;
+  few = few;
+  met = Err refusal;
+  last = (z, (last.0, Ok stage, last.1, last.2, unfreed stage not), made);
+  enough = inl (λ bad. bad);
+  told = told;
 }
 
 -- by the last turn's answer
