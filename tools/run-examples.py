@@ -4,8 +4,8 @@
 An example is a fenced block `script`, and the next fenced block after it: `report`, what the program must print, with nothing on standard
 error and status 0; or `fault`, what it must say on standard error, with nothing printed and status 2. A file NAME.txt is one example, with
 NAME.report beside it. Without file names the examples are those of docs/ and examples/. The program is
-./registry_run, which is built first where that is needed, or the one that --program names. With --try nothing is proved: `rt try` compiles
-the program anew for each engine. The last line counts the runs.
+./registry_run, or the one that --program names. It must be the proved one (tools/prove-program.sh), since without it ./registry_run says on
+standard error that nothing is proved. With --try nothing is proved either: `rt try` compiles the program anew for each engine. The last line counts the runs.
 
 Code in the documents, a fenced block `rust`, must be part of crates/registry_examples/src, up to blank lines; what isn't is said, and fails.
 """

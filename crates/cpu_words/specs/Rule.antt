@@ -1,4 +1,4 @@
--- The rule of the table, the running picture: its words and the views of all seats show a state of the core, and a list of events leads to it.
+-- The rule of the table: its words and the views of all seats show a state of the core, and a list of events leads to it.
 use Rattle.std.specs.Prelude.{◌≡◌, ℕ, ◌<◌, ◌≤◌, List, [], ◌∷◌, ◌++◌, Option, Some, None, length, sum_by, slice_index}
 use mathlib.Core.Option.{some}
 use lib.ListN.{get_elem?}
@@ -102,7 +102,7 @@ deeds z events = deeds_from (rested (opening z)) events
 pub record Reached (z : Settings) (g : State) : Type 0 where
   pub events : List Event
   pub run : g ≡ after (opening z) events
-  -- all were made: none was passed over
+  -- all were made: none was left out
   pub made : length (deeds z events) ≡ length events
 
 -- there is a state of the core that the table shows, and events lead to it

@@ -6,8 +6,8 @@ ghost use Rattle.cpu_words.specs.Headline.{DrainedIsFree, FoundIsHeld, HeldHaveS
 /// of events from the opening such that the words and the views of all seats show the state after it. That state has the core invariant,
 /// a run of the model reaches its picture, and it obeys all laws of the protocol: the headline, safe reuse, drivers that outlive their
 /// interfaces, lawful answers, balance at rest and the grace law. And the list is what the seats did: each event in it was made by the seat
-/// whose it is, and each seat's log has just its own events in order, with their replies. `held`: an entry that a CPU's open section may hold, or to which a CPU
-/// has a passive reference, or a CPU, a seat or a slot has a local one, has its slot.
+/// whose it is, and each seat's log has just its own events in order, with their replies. `held`: an entry that a CPU's open section may
+/// hold, or to which a CPU has a passive reference, or a CPU, a seat or a slot has a local one, has its slot.
 pub fn running_headline()
     ensures run { RunningHeadline }
     ensures held { HeldHaveSlots }

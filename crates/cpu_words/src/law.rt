@@ -8,7 +8,7 @@ use registry_values::Settings;
 use std::alloc::Global;
 use std::marker::{Brand, Model, PhantomData};
 
-/// The rule: the words and the views of all seats show a state of the core, the running picture, a list of events leads to it from the
+/// The rule: the words and the views of all seats show a state of the core, a list of events leads to it from the
 /// opening, and what each seat did is its part of that list.
 pub struct RegistryRule;
 

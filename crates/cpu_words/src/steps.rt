@@ -1,5 +1,6 @@
-//! One function for each kind of step, named after its event. Each makes just that event of the core, with one seat, and takes no
-//! memory. The seat's log goes on with just that event and its reply (`log`).
+//! One function for each kind of step, named after its event, or after what it stores or looks at. Each makes just its event of the core,
+//! with one seat, and takes no memory; the seat's log goes on with just that event and its reply (`log`). Two make another event before
+//! their own: `seek` begins the search and loads its first link, and a slot's first store, or `keep`, takes a drained slot as vacant.
 
 pub mod drain;
 pub mod grace;

@@ -72,7 +72,7 @@ pub struct KeeperView {
     pub looks: u64,
     /// The last of them.
     pub last_look: Option<Looked>,
-    /// What a note told, until the next load.
+    /// What the note told that was laid here last.
     pub heard: LinkedList<Change>,
 }
 
@@ -101,7 +101,7 @@ pub struct CpuView {
     pub released: LinkedList<u64>,
     /// By slot: the number of the entry there that this CPU last counted a reference to, up or down; 0 for none.
     pub met: LinkedList<u64>,
-    /// What a note told, until the next load.
+    /// What the note told that was laid here last.
     pub heard: LinkedList<Change>,
 }
 

@@ -70,7 +70,7 @@ abbrev pub PassesAt : Settings → OnKeeper → Option ℕ → OnKeeper → Type
 PassesAt z a None b = b ≡ a
 PassesAt z a (Some t) b = HasPassedFor z a t b
 
--- the entry n, where it is retired still; one whose slot was freed is passed over
+-- the entry n, where it is retired still; one whose slot was freed is left out
 abbrev pub PassesEntry : Settings → OnKeeper → ℕ → OnKeeper → Type 0
 PassesEntry z a n b = PassesAt z a (retired_slot a.slots n) b
 

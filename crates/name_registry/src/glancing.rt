@@ -86,7 +86,7 @@ fn glances<D: Domain>(
     is_out(snapshot, glance(words, keeper, cpu))
 }
 
-/// Looks at each CPU for the retired entries with these numbers. One that was freed since is passed over.
+/// Looks at each CPU for the retired entries with these numbers. One that was freed since is left out.
 pub(crate) fn pass_all<D: Domain>(
     words: &Words,
     keeper: &mut Keeper<D>,

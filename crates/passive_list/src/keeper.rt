@@ -18,12 +18,11 @@ pub use registry_values::Slot as SlotState;
 /// What the keeper has of a slot.
 #[derive(Clone, Copy, Debug, PartialEq, Eq)]
 pub struct Row {
-    /// What stands there.
     /// Vacant, or the slot's live or retired entry.
     pub state: SlotState,
-    /// Of each CPU, for a retired entry.
+    /// What was noted of each CPU for a retired entry.
     pub marks: [Mark; 8],
-    /// The bias and the drained total.
+    /// The slot's total: the bias, what was collected, less the references given up under the interlock.
     pub total: u64,
     /// The number of the driver to which the slot keeps a reference.
     pub keeps: Option<u64>,

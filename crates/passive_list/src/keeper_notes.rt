@@ -23,7 +23,7 @@ pub fn tell_keeper<D: Domain>(words: &Words, keeper: &mut Keeper<D>) -> Note<D>
     }
 }
 
-/// The keeper hears a note: what the note tells is in its history. Nothing else changes.
+/// The keeper hears a note: what the note tells is in its history. Of the keeper nothing changes but the note that it heard last.
 pub fn hear_keeper<D: Domain>(words: &Words, keeper: &mut Keeper<D>, note: Note<D>)
     requires words { AreWordsOf words.now D.table D.settings }
     ensures told { IsPrefix note keeper.new.view.history }

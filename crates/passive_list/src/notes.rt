@@ -42,8 +42,8 @@ pub fn tell<D: Domain>(words: &Words, cpu: &mut Cpu<D>) -> Note<D>
     }
 }
 
-/// Hears a note: from here on this CPU has seen what the note tells, and every lookup answers from there on. Its pass becomes the whole
-/// history; nothing else changes, inside a section or outside.
+/// Hears a note: from here on this CPU has seen what the note tells, and every lookup answers from there on. Its pass grows, and has what the
+/// note told; nothing else changes but the note that it heard last, inside a section or outside.
 pub fn hear<D: Domain>(words: &Words, cpu: &mut Cpu<D>, note: Note<D>)
     requires words { AreWordsOf words.now D.table D.settings }
     ensures { HasHeardOn note cpu.old cpu.new }

@@ -3,7 +3,7 @@
 
 use registry_values::Kind;
 
-/// A count, and the number of the entry that it is for; number 0 is of no entry, and the count then is nothing's.
+/// A count, and the number of the entry that it is for; where the number is 0 it is for no entry, and the count has no meaning.
 #[derive(Clone, Copy, Debug, PartialEq, Eq)]
 pub struct Place {
     /// From 1; 0 for no entry.
@@ -20,7 +20,7 @@ impl Place {
     };
 }
 
-/// The last found entry; number 0 is of no entry, and the rest then is nothing's. It is kept without its record, since each section
+/// The last found entry; where the number is 0 there is none, and the rest has no meaning. It is kept without its record, since each section
 /// stores and clears it: each store there is paid for, by the atomic operation that ends the section.
 #[derive(Clone, Copy, Debug, PartialEq, Eq)]
 pub struct Found {

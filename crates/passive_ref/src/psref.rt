@@ -5,8 +5,8 @@ ghost use Rattle.std.specs.Prelude.{◌≡◌};
 use std::marker::Model;
 
 /// A passive reference (psref(9)), of the CPU that acquired it to one entry. It can't be dropped and can't be cloned: it is spent by
-/// `release`, or by `forget`, which leaves the reference held. It says nothing of its registry: a CPU of another one judges it by its
-/// own references to that number.
+/// `release`, or by `forget`, which leaves the reference held. The value is two numbers, and `remembered` makes it of any two: what counts is
+/// what its CPU holds. It says nothing of its registry: a CPU of another one judges it by its own references to that number.
 pub struct Psref {
     pub(crate) cpu: u8,
     pub(crate) number: u64,
@@ -43,7 +43,7 @@ impl Psref {
         Psref { cpu, number }
     }
 
-    /// Gives the value up and leaves the reference held: its CPU never releases it, and the entry keeps its slot for good.
+    /// Gives the value up and leaves the reference held: the entry keeps its slot until its CPU releases one that `remembered` made again.
     pub fn forget(self) {
         let Psref { cpu: _, number: _ } = self;
     }

@@ -21,7 +21,7 @@ use Rattle.protocol.specs.Ran.{ran, rested}
 use Rattle.protocol.specs.Model.{IsUnheld, IsModelRun}
 use Rattle.protocol.specs.Picture.{number_in, picture}
 
--- the state after a list of events; those that aren't allowed are passed over
+-- the state after a list of events; those that aren't allowed are left out
 abbrev pub after : State → List Event → State
 after s events = (ran (rested s) events).state
 

@@ -9,7 +9,7 @@ pub record Ran : Type 0 where
   pub state : State
   pub counted : Counted
 
--- one event more, made or passed over
+-- one event more, made or left out
 abbrev pub turned : Ran → Option Outcome → Ran
 turned r None = record { state = r.state; counted = record { taken = r.counted.taken; refused = r.counted.refused + 1; last = r.counted.last } }
 turned r (Some o) = record { state = o.state; counted = record { taken = r.counted.taken + 1; refused = r.counted.refused; last = Some o.reply } }

@@ -29,9 +29,9 @@ pub enum Event {
     LoadLink(u8),
     /// A word of a record is loaded.
     LoadRecord(RecordOf),
-    /// Word k of a vacant slot is stored: 0 to 4 of its record, 5 + c the count word of CPU c.
+    /// Of a vacant slot a word k is stored, with this value: 0 to 4 of its record, 5 + c the count word of CPU c. The slot, k, the value.
     StoreSlot(u8, u8, u64),
-    /// The link of a vacant slot is stored.
+    /// The link of a vacant slot is stored. The slot; 0 for the end of the list, else a slot plus 1.
     StoreNext(u8, u64),
     /// The slot's entry is linked at the head of the list.
     Publish(u8),
@@ -41,15 +41,15 @@ pub enum Event {
     Tell(Option<u8>),
     /// A note is joined into the CPU's seat, or into the keeper's.
     Hear(Option<u8>),
-    /// A CPU's section word is loaded, as the snapshot for a slot just unlinked or for none.
+    /// A CPU's section word is loaded, as the snapshot for a slot just unlinked or for none. The slot, the CPU.
     Snapshot(Option<u8>, u8),
-    /// A CPU's section word is loaded, to see whether the CPU has passed for the slot.
+    /// A CPU's section word is loaded, to see whether the CPU has passed for the slot, or for none. The slot, the CPU.
     Look(Option<u8>, u8),
     /// The CPU counts a passive reference to the entry with this number.
     PassiveAdd(u8, u64),
     /// The CPU counts one passive reference to that number less.
     PassiveSub(u8, u64),
-    /// The slot's passive word of a CPU is loaded.
+    /// The slot's passive word of a CPU is loaded. The slot, the CPU.
     PassiveLook(u8, u8),
     /// The CPU counts a local reference to its last found entry.
     CountAdd(u8),
@@ -61,7 +61,7 @@ pub enum Event {
     CountDown(u8),
     /// The reference that the CPU couldn't count down gets its seat again.
     SplitBack(u8),
-    /// The slot's count word of the CPU is swapped for 0.
+    /// The slot's count word of the CPU is swapped for 0. The slot, the CPU.
     Collect(u8, u8),
     /// What was collected is added to the slot's total.
     TotalAdd(u8),
@@ -110,13 +110,13 @@ pub enum StepFault {
 pub struct Counted {
     /// How many events were made.
     pub taken: u64,
-    /// How many weren't allowed, and were passed over.
+    /// How many weren't allowed, and were left out.
     pub refused: u64,
     /// The reply of the last event that was made.
     pub last: Option<Reply>,
 }
 
-/// Memory was refused at event `done`, from 0; the events before it were made or passed over.
+/// Memory was refused at event `done`, from 0; the events before it were made or left out.
 #[derive(Clone, Copy, Debug, PartialEq, Eq)]
 pub struct Short {
     /// The place of the event in the list.

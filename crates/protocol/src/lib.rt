@@ -4,8 +4,9 @@
 //!
 //! The life of an entry here: `Publish` puts it at the head of the list, and from then on sections find it. `Unpublish` takes it out, and
 //! its slot is retired: a `Snapshot` of each CPU's section word, and `Look`s until no section that may hold it is open; `PassiveLook`s
-//! until no CPU has a passive reference to it; a `Collect` of each CPU's count word into the slot's total, and `TotalSub`s until the total
-//! is the bare bias. Only then `Vacate` gives the slot back. The invariant says at each moment in between who may still hold the entry, and
+//! until no CPU has a passive reference to it; a `Collect` of each CPU's count word, which a `TotalAdd` adds to the slot's total, and
+//! `TotalSub`s until the total is the bare bias. Only then the slot is given back: by `KeptSub` where it keeps a driver's reference, which is
+//! given up with it, else by `Vacate`. The invariant says at each moment in between who may still hold the entry, and
 //! the laws draw from it that the slot isn't given back before.
 #![tactic(auto)]
 

@@ -115,11 +115,11 @@ pub enum Command {
         cpu: u8,
         label: Label,
     },
-    /// The retired entry with this number comes as far as it can.
+    /// One turn of the work on the retired entry with this number.
     Advance {
         number: u64,
     },
-    /// The CPU sees the retired entry with this number off, in so many turns.
+    /// The CPU destroys the retired entry with this number, in at most so many turns.
     Destroy {
         cpu: u8,
         number: u64,
@@ -130,6 +130,6 @@ pub enum Command {
         cpu: u8,
         turns: u32,
     },
-    /// The balance of each slot.
+    /// The balance of each slot with a live or a retired entry.
     Audit,
 }

@@ -170,14 +170,14 @@ pub trait Session {
         ensures shows { LeavesFor (shows self.old) (shows self.new) (command.Uncount cpu label) result }
         ensures hitch { IfErr result (MayHitch (command.Uncount cpu label)) };
 
-    /// How far the retired entry with this number comes.
+    /// One turn of the work on the retired entry with this number: its stage then.
     fn advance(&mut self, number: u64) -> Result<Stage, Hitch>
         ensures kept { kept self.new ≡ kept self.old }
         ensures answer { AnswersFor (shows self.old) (λ r. hitched (advance_answer r number)) result }
         ensures shows { LeavesFor (shows self.old) (shows self.new) (command.Advance number) result }
         ensures hitch { IfErr result (MayHitch (command.Advance number)) };
 
-    /// The CPU sees the retired entry with this number off, in so many turns. The slot that is vacant again.
+    /// The CPU destroys the retired entry with this number, in at most so many turns: the slot that is vacant again.
     fn destroy(&mut self, cpu: u8, number: u64, turns: u32) -> Result<u8, Hitch>
         requires known { cpu < (settings (kept self.old)).cpus }
         requires some { 1 ≤ turns }

@@ -33,8 +33,8 @@ pub struct StormRun {
 /// A storm over a registry of its own: one driver, `drv`, and one worker for each CPU, all at once. In each turn a worker enters a section,
 /// passes the gate in it, looks up the interface `wm0` and then the driver, acquires a passive and a local reference to the driver, exits,
 /// reads the driver's record by both, releases the passive one, and exchanges the local one with what lies in the next CPU's basket; what
-/// it gets, and what the CPU before has laid into its own basket, it releases on its own CPU. CPU 0 also attaches or detaches the interface in each turn, and works on what it has detached. At the end
-/// everything is released, audited and destroyed on CPU 0.
+/// it gets, and what the CPU before has laid into its own basket, it releases on its own CPU. CPU 0 also attaches or detaches the interface in
+/// each turn, and works on what it has detached. At the end everything is released, audited and destroyed on CPU 0.
 /// Condition: 1 to 8 CPUs, and 1 to 100,000 turns.
 /// Refused: `Memory`; `NoThread` where a worker couldn't be started. The workers that were started have ended then.
 pub fn storm<R: Threads + Wait + Sync, G: Gate + Sync>(

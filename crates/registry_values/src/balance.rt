@@ -3,7 +3,9 @@
 ghost use Rattle.std.specs.Prelude.{◌≡◌, ◌<◌, ◌≤◌, ◌^◌, ◌≤ℤ◌, ℕ, neg_ℤ, pos, length, slice_index_or};
 ghost use Rattle.registry_values.specs.Balances.{less_bias, local_of, sum_of};
 
-/// A count of nothing: a count word is this and the CPU's net count, or 0 once collected.
+/// Where counts begin: a count word in use is this plus the CPU's net count, and 0 once collected; a slot's total begins with it too. A CPU
+/// may release what another acquired, so a net count may be below 0, though never by more than 2^43: 8 CPUs with 2^40 references each. So a
+/// count word in use is never 0, and a sum of nine such words fits 64 bits.
 pub const BIAS: u64 = 1 << 48;
 
 /// The local references held to a live or retired entry (localcount(9)), as the counts say it.

@@ -25,8 +25,8 @@ pub const NO_MARK: Mark = Mark {
     collected: false,
 };
 
-/// The mark after a look at this section word (pserialize(9)): the CPU has passed where the word is even or differs from the snapshot. A
-/// pass stays.
+/// The mark after a look at this section word (pserialize(9)): the CPU has passed where the word is even or differs from the snapshot,
+/// or where it had passed before.
 pub fn looked(mark: Mark, word: u64) -> Mark
     ensures { result ≡ looked mark word }
 {

@@ -97,7 +97,7 @@ pub fn retired_number(slot: Slot) -> Option<u64>
     }
 }
 
-/// Whether an attach may take a slot in this state that keeps this.
+/// Whether an attach may take the slot: it is vacant, and keeps no reference to a driver.
 pub fn is_plain(slot: &Slot, kept: Option<u64>) -> bool
     ensures { result ≡ is_plain (slot.now, kept) }
 {

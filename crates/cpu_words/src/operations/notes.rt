@@ -50,7 +50,7 @@ impl Join<Logged> for KeeperNote {
     ghost spent = { spent_seat };
 }
 
-/// Lays a note beside a CPU's view, until the next load. This is no event of the core.
+/// Lays a note beside a CPU's view, in place of the one before. This is no event of the core.
 pub(crate) fn lay(words: &Words, seat: &mut CpuSeat, note: NoteSeat)
     requires table { (seat.old.table ≡ words.now.table) × (note.table ≡ words.now.table) }
     ensures table { seat.new.table ≡ seat.old.table }

@@ -17,8 +17,8 @@ use protocol::Event;
 use std::marker::Brand;
 
 /// Stores record word `k` (0 number, 1 kind, 2 and 3 the name, 4 value) of `slot`.
-/// Condition: the keeper is at rest, and the slot is vacant, or retired with all its marks and keeping nothing; then the slot is taken as
-/// vacant (Vacate) by this store.
+/// Condition: the keeper is at rest, and the slot is vacant, or retired and drained and keeping nothing; then the slot is taken as vacant
+/// (Vacate) by this store.
 pub fn store_record(words: &Words, keeper: &mut KeeperSeat, slot: u8, k: u8, value: u64)
     requires table { keeper.old.table ≡ words.now.table }
     requires place { (slot < 32) × (k < 5) }
@@ -50,7 +50,7 @@ pub fn store_count(words: &Words, keeper: &mut KeeperSeat, slot: u8, cpu: u8, va
     by_keeper::store::<Brand>(words, keeper, place, value, event);
 }
 
-/// Stores the link of `slot`: 0 for the end, else a slot's number plus 1. Condition: as for `store_record`.
+/// Stores the link of `slot`: 0 for the end, else a slot plus 1. Condition: as for `store_record`.
 pub fn store_next(words: &Words, keeper: &mut KeeperSeat, slot: u8, link: u64)
     requires table { keeper.old.table ≡ words.now.table }
     requires place { slot < 32 }

@@ -58,7 +58,7 @@ impl Core {
     }
 }
 
-/// Makes all events in order; those that aren't allowed are counted and passed over. Refused: `Short` at the first event
+/// Makes all events in order; those that aren't allowed are counted and left out. Refused: `Short` at the first event
 /// for which memory was refused; the state is that of the events before it.
 pub fn run_events(core: &mut Core, events: &[Event]) -> Result<Counted, Short>
     ensures ok { IfOk result (λ counted. record { state = core.new; counted = counted } ≡ ran (rested core.old) events.now) }
