@@ -7,6 +7,7 @@ use atomic_table::{Play, Table, TableRule};
 use registry_values::Settings;
 use std::alloc::Global;
 use std::marker::{Brand, Model, PhantomData};
+use std::sync::ledger::Ledger;
 
 /// The rule: the words and the views of all seats show a state of the core, a list of events leads to it from the
 /// opening, and what each seat did is its part of that list.
@@ -47,8 +48,9 @@ impl Words {
     }
 }
 
-/// Names one table and its settings, for contracts: what a lock or a message hands on is known by its type alone.
-pub trait Domain {
+/// Names one table and its settings, for contracts: what a lock or a message hands on is known by its type alone. It names a ledger, too:
+/// that of the changes that calls behind the interlock make, of which each CPU has a share.
+pub trait Domain: Ledger {
     ghost use Rattle.atomic_table.specs.Seated.{TableId};
     ghost use Rattle.registry_values.specs.declared.settings.Settings.{Settings};
 

@@ -43,11 +43,11 @@ pub record HasAcquired (a b : OnCpu) (v : ReferenceView) : Type 0 where
   pub entry : Entry
   pub found : a.view.found ≡ Some entry
   pub is : v ≡ record { entry = entry; collected = None }
-  pub cpu : b ≡ record { view = record a.view { acquired = one_more a.view.acquired entry.number; met = with_number a.view.met entry.slot entry.number }; depth = a.depth }
+  pub cpu : b ≡ record a { view = record a.view { acquired = one_more a.view.acquired entry.number; met = with_number a.view.met entry.slot entry.number } }
 
 -- the reference was released by the CPU's own count; of the CPU nothing else changes
 abbrev pub HasReleased : OnCpu → ReferenceView → OnCpu → Type 0
-HasReleased a v b = b ≡ record { view = record a.view { released = one_more a.view.released v.entry.number; met = with_number a.view.met v.entry.slot v.entry.number }; depth = a.depth }
+HasReleased a v b = b ≡ record a { view = record a.view { released = one_more a.view.released v.entry.number; met = with_number a.view.met v.entry.slot v.entry.number } }
 
 -- the CPU found its count word collected: the reference is to the same entry, and shows it; the CPU is as it was
 pub record HasComeBack (a : OnCpu) (v : ReferenceView) (b : OnCpu) (w : ReferenceView) : Type 0 where

@@ -47,7 +47,7 @@ pub record MayTake (a : Settings) (m : OnKeeper) (rec : Record) (e : Entry) : Ty
   pub room : length m.view.history + live_count m.slots + 2 ≤ a.change_limit
   pub entry : record { number = suc (length m.view.history); slot = e.slot; rec = rec } ≡ e
 
-given_takes : (a : Settings) (k : OnKeeper) (rec : Record) (e : Entry) → given_entry a k rec ≡ Ok e → MayTake a k rec e
+pub given_takes : (a : Settings) (k : OnKeeper) (rec : Record) (e : Entry) → given_entry a k rec ≡ Ok e → MayTake a k rec e
 given_takes a k rec e is =
     let keeps = k.view.keeps in
     let told = given_tells (is_taken (key_of_record rec) k.slots) (plain_slot k) (room_of a k) rec e is in

@@ -94,10 +94,10 @@ has z a table k its rows n x t m our is there =
 -- Of one CPU
 
 -- what its place says of a number is its net count, where it met it there last
-pub net_is : (x : CpuView) (depth : ℕ) (places : List Place) (t n w : ℕ) → NetAgree x places → 0 < n → w ≡ net_by (place_at places t) n → less_bias w ≡ net_met t n (record { view = x; depth = depth })
-net_is x depth places t n w agree begun is =
+pub net_is : (x : CpuView) (depth made : ℕ) (places : List Place) (t n w : ℕ) → NetAgree x places → 0 < n → w ≡ net_by (place_at places t) n → less_bias w ≡ net_met t n (record { view = x; depth = depth; made = made })
+net_is x depth made places t n w agree begun is =
     let place = place_count x places t n w agree begun is in
-    let net = net_of n (record { view = x; depth = depth }) in
+    let net = net_of n (record { view = x; depth = depth; made = made }) in
     dite (ℕ_discrete (number_at x.met t) n)
     (λ (same : number_at x.met t ≡ n). omega (arith, ints, place.met same) ∙ sym (ap (λ b. cond b net (pos 0)) (eq-eqb (number_at x.met t) n same)))
     (λ (off : number_at x.met t ≢ n). omega (arith, ints, place.other off) ∙ sym (ap (λ b. cond b net (pos 0)) (ne_eqb (number_at x.met t) n off)))

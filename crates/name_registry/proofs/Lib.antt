@@ -14,3 +14,5 @@ pub mod Placed
 pub mod Tallies
 pub mod Opened
 pub mod Owned
+pub mod Counted
+pub mod Weights

@@ -24,9 +24,11 @@ use Rattle.name_registry.specs.Meeting.{is_inside, HasLearned, HasSeenAttach, Ha
 
 pub learned : (note : List Change) (x y : OnCpu) → HasHeardOn note x y → HasLearned x y
 learned note x y has =
-    let note_is = ap (λ (o : OnCpu). o.view.heard) has.is in record {
+    let note_is = ap (λ (o : OnCpu). o.view.heard) has.is in
+    let made_is = ap (λ (o : OnCpu). o.made) has.is in
+    let heard : y ≡ record x { view = record x.view { pass = y.view.pass; heard = y.view.heard } } = subst (λ (l : List Change). y ≡ record x { view = record x.view { pass = y.view.pass; heard = l } }) (sym note_is) has.is in record {
       pass = has.pass;
-      is = subst (λ (l : List Change). y ≡ record { view = record x.view { pass = y.view.pass; heard = l }; depth = x.depth }) (sym note_is) has.is;
+      is = subst (λ n. y ≡ record x { view = record x.view { pass = y.view.pass; heard = y.view.heard }; made = n }) (sym made_is) heard;
     }
 
 -- Attaching

@@ -10,3 +10,4 @@ pub mod Advancing
 pub mod Locking
 pub mod Performing
 pub mod Releasing
+pub mod Changes

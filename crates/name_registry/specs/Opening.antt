@@ -2,6 +2,7 @@
 use Rattle.std.specs.Prelude.{◌≡◌, ℕ, ◌<◌, List, length, IsTrue}
 use mathlib.Core.Option.{some}
 use lib.ListN.{get_elem?}
+use Rattle.atomic_table.specs.Seated.{TableId}
 use Rattle.registry_values.specs.declared.settings.Settings.{Settings}
 use Rattle.registry_values.specs.Limits.{are_fit}
 use Rattle.cpu_words.specs.declared.view.CpuView.{CpuView}
@@ -17,7 +18,17 @@ pub record IsBlank (w : Named) (k : Seated KeeperView) (xs : List (Seated CpuVie
   pub keeper : k.view ≡ keeper_with w.settings w.settings.cpus
   pub seats : AreSeats w.table w.settings w.settings.cpus xs
 
--- the first n CPUs, CPU 0 first, all outside, and nothing was found or is held
+-- a registry before it is named, to a contract: which table it is, its settings, and which ledger counts its changes
+pub record OnBlank : Type 0 where
+  pub table : TableId
+  pub settings : Settings
+  pub changes : ℕ
+
+-- D names its table, its settings and its ledger, which has a part for each CPU that there may be: `IsBlankOf b D.table D.settings D.name D.parts`
+abbrev pub IsBlankOf : OnBlank → TableId → Settings → ℕ → ℕ → Type 0
+IsBlankOf b table settings name parts = (b.table ≡ table) × (b.settings ≡ settings) × (b.changes ≡ name) × (parts ≡ 8)
+
+-- the first n CPUs, CPU 0 first, all outside, and nothing was found, is held or was made
 pub record AreNewCpus (z : Settings) (n : ℕ) (xs : List OnCpu) : Type 0 where
   pub count : length xs ≡ n
-  pub each : (c : ℕ) → c < n → get_elem? xs c ≡ some (record { view = new_cpu z c; depth = 0 })
+  pub each : (c : ℕ) → c < n → get_elem? xs c ≡ some (record { view = new_cpu z c; depth = 0; made = 0 })

@@ -4,36 +4,38 @@ ghost use Rattle.std.specs.Prelude.{◌≡◌, ◌↔◌, ◌≤◌, [], IfOk, I
 ghost use Rattle.registry_values.specs.Limits.{are_fit};
 ghost use Rattle.registry_values.specs.Refusals.{IsRefusalOfNew};
 ghost use Rattle.registry_values.specs.declared.refusal.Refusal.TheVariants.{NoMemory};
-ghost use Rattle.cpu_words.specs.Domains.{AreWordsOf};
 ghost use Rattle.cpu_words.specs.Opening.{AreSeats};
-ghost use Rattle.name_registry.specs.Opening.{IsBlank, AreNewCpus};
+ghost use Rattle.name_registry.specs.Opening.{IsBlankOf, AreNewCpus};
 
+use crate::interlock::Interlock;
 use crate::registry::Registry;
 use cpu_words::{CpuSeat, Domain, KeeperSeat, Words};
 use passive_list::{Cpu, Keeper};
 use registry_values::{Refusal, Settings};
 use std::alloc::Global;
 use std::marker::Model;
-use std::sync::Mutex;
+use std::sync::ledger::Share;
+use std::sync::{Mutex, ledger};
 
 /// A registry before it is named: its words, and its seats. A caller hands it to a function over `D: Domain`, called with `Brand`, so that D
-/// names its table there, and opens it. To a contract it is which table it is, and its settings.
+/// names its table there, and opens it. To a contract it is which table it is, its settings, and the ledger of its changes.
 #[derive(Drop)]
 pub struct Blank {
     words: Words,
     keeper: KeeperSeat,
     cpus: Vec<CpuSeat>,
+    changes: ledger::Blank,
 }
 
 impl Model for Blank {
-    ghost use Rattle.cpu_words.specs.Views.{Named};
-    ghost use Rattle.name_registry.specs.Opening.{IsBlank};
+    ghost use Rattle.std.specs.Prelude.{◌≡◌};
+    ghost use Rattle.name_registry.specs.Opening.{IsBlank, OnBlank};
 
-    ghost Value = { Named };
+    ghost Value = { OnBlank };
 
-    ghost view = { λ b. b.words };
+    ghost view = { λ b. record { table = b.words.table; settings = b.words.settings; changes = b.changes.name } };
 
-    ghost invariant = { λ b. IsBlank b.words b.keeper b.cpus.items };
+    ghost invariant = { λ b. IsBlank b.words b.keeper b.cpus.items × (b.changes.parts ≡ 8) };
 }
 
 impl Blank {
@@ -49,16 +51,17 @@ impl Blank {
             words,
             keeper,
             cpus,
+            changes: ledger::Blank::new(8),
         })
     }
 
-    /// The registry, and its CPUs, CPU 0 first. Condition: D names the blank's table and settings.
+    /// The registry, and its CPUs, CPU 0 first. Condition: D names the blank's table, settings and ledger.
     /// Refused: `NoMemory`. The blank comes back then, as it was.
     pub fn open<D: Domain>(
         self,
         alloc: Global,
     ) -> Result<(Registry<D>, Vec<Cpu<D>>), (Refusal, Blank)>
-        requires { AreWordsOf self D.table D.settings }
+        requires { IsBlankOf self D.table D.settings D.name D.parts }
         ensures cpus { IfOk result (λ made. AreNewCpus D.settings D.settings.cpus made.1.items) }
         ensures back { IfErr result (λ back. (back.0 ≡ Refusal.NoMemory) × (back.1 ≡ self)) }
     {
@@ -69,23 +72,27 @@ impl Blank {
             words,
             keeper,
             cpus: seats,
+            changes,
         } = self;
-        let settings = words.settings();
-        seat_cpus(seats, &mut cpus);
-        let keeper = Mutex::new(Keeper::of_seat(keeper, settings));
-        Ok((Registry { words, keeper }, cpus))
+        let (book, shares) = changes.open::<D>();
+        let keeper = Keeper::of_seat(keeper, words.settings());
+        seat_cpus(seats, &mut cpus, shares);
+        let interlock = Mutex::new(Interlock { keeper, book });
+        Ok((Registry { words, interlock }, cpus))
     }
 }
 
-/// Gives each seat its CPU, CPU 0 first. The list has room for them.
-fn seat_cpus<D: Domain>(seats: Vec<CpuSeat>, cpus: &mut Vec<Cpu<D>>)
+/// Gives each seat its CPU, CPU 0 first, with a part of the ledger. The list has room for them.
+fn seat_cpus<D: Domain>(seats: Vec<CpuSeat>, cpus: &mut Vec<Cpu<D>>, mut shares: Share<D>)
     requires fit { IsTrue (are_fit D.settings) }
     requires seats { AreSeats D.table D.settings D.settings.cpus seats.items }
     requires room { (cpus.old.items ≡ []) × (vec_len cpus.old ≡ 0) × (D.settings.cpus ≤ vec_capacity cpus.old) }
+    requires parts { (shares.parts ≡ 8) × (shares.amount ≡ 0) }
     ensures { AreNewCpus D.settings D.settings.cpus cpus.new.items }
 {
     for seat in seats {
         let id = cpus.len() as u8;
-        cpus.push_reserved(Cpu::of_seat(seat, id));
+        let share = shares.split_off(1, 0);
+        cpus.push_reserved(Cpu::of_seat(seat, id, share));
     }
 }

@@ -1,5 +1,6 @@
-//! The laws of the free interlock and of the exact audit.
+//! The laws of the free interlock, of the exact audit, and of what changes weigh.
 
+ghost use Rattle.name_registry.specs.Changes.{WeightsTell};
 ghost use Rattle.name_registry.specs.Law.{ExactAudit, FreeInterlock};
 
 use cpu_words::Domain;
@@ -24,4 +25,14 @@ pub fn exact_audit<D: Domain>(keeper: &Keeper<D>, cpus: &[Cpu<D>]) -> u64
     // The law alone speaks of the CPUs.
     let _cpus = cpus;
     keeper.changes
+}
+
+/// What a CPU's share has grown by tells which change its calls made: where it is one change's weight, they made one change, an attach or a
+/// detach as that one and of its number, whatever changes one might think of that weigh as much together. The answer says nothing; the
+/// contract is the law.
+#[tactic(auto, using(crate::proofs::Weights::weights_tell))]
+pub fn weights_law() -> u64
+    ensures law { WeightsTell }
+{
+    0
 }

@@ -107,7 +107,10 @@ impl<'a, D: Domain> UnderInterlock for Locked<'a, D> {
     ghost passes = { λ x numbers y. SomePassed D.settings numbers };
 
     fn begin<R: Wait>(&mut self, rt: &R) -> ([u64; 8], [Option<u64>; 32]) {
-        begin(&self.registry.words, &mut self.registry.keeper.lock(rt))
+        begin(
+            &self.registry.words,
+            &mut self.registry.interlock.lock(rt).keeper,
+        )
     }
 
     fn glance<R: Wait>(
@@ -116,14 +119,14 @@ impl<'a, D: Domain> UnderInterlock for Locked<'a, D> {
         snapshots: &[u64; 8],
         seen: &mut [bool; 8],
     ) -> Option<u8> {
-        let keeper = &mut self.registry.keeper.lock(rt);
+        let keeper = &mut self.registry.interlock.lock(rt).keeper;
         glance_at_all(&self.registry.words, keeper, snapshots, seen)
     }
 
     fn pass<R: Wait>(&mut self, rt: &R, numbers: &[Option<u64>; 32]) {
         pass_all(
             &self.registry.words,
-            &mut self.registry.keeper.lock(rt),
+            &mut self.registry.interlock.lock(rt).keeper,
             numbers,
         );
     }

@@ -2,23 +2,24 @@
 
 ghost use Rattle.std.specs.Prelude.{◌≡◌, ◌↔◌, ◌⊎◌, ◌+ℤ◌, ◌≤◌, All, IfOk, IfErr, IsErrOf, IsTrue, false, length};
 ghost use Rattle.registry_values.specs.Balances.{sum_of};
+ghost use Rattle.registry_values.specs.declared.entry.Change.TheVariants.{Attach, Detach};
 ghost use Rattle.registry_values.specs.declared.entry.Kind.TheVariants.{Iface};
 ghost use Rattle.registry_values.specs.Names.{is_lawful};
 ghost use Rattle.registry_values.specs.Slots.{is_iface};
 ghost use Rattle.cpu_words.specs.Domains.{AreWordsOf};
 ghost use Rattle.passive_list.specs.Keepers.{OnKeeper};
 ghost use Rattle.name_registry.specs.Auditing.{AreAllCpus, IsAuditOf};
+ghost use Rattle.name_registry.specs.Changes.{HasMade};
 ghost use Rattle.name_registry.specs.Destroying.{SomeAdvanced};
 ghost use Rattle.name_registry.specs.Locking.{MayAttach, IsAttachRefusal, IsDetachRefusedTo, IsStageOf};
 ghost use Rattle.name_registry.specs.Meeting.{is_inside, HasLearned, HasSeenAttach, HasSeenDetach};
 
 use crate::advancing::advance_in;
-use crate::attaching::{attach_iface_in, attach_in};
 use crate::auditing::audit_in;
-use crate::detaching::detach_in;
+use crate::interlock::Interlock;
 use cpu_words::{Domain, Words};
 use local_count::LocalRef;
-use passive_list::{Cpu, Keeper};
+use passive_list::Cpu;
 use registry_values::{Balance, Entry, Kind, Name, Record, Refusal, Stage};
 use std::alloc::Global;
 use std::sync::{Mutex, Wait};
@@ -28,7 +29,7 @@ use std::sync::{Mutex, Wait};
 #[derive(Drop)]
 pub struct Registry<D: Domain> {
     pub(crate) words: Words,
-    pub(crate) keeper: Mutex<Keeper<D>>,
+    pub(crate) interlock: Mutex<Interlock<D>>,
     ghost table: { words.table ≡ D.table },
     ghost settings: { words.settings ≡ D.settings },
     ghost few: { D.settings.cpus ≤ 8 },
@@ -42,7 +43,8 @@ impl<D: Domain> Registry<D> {
         &self.words
     }
 
-    /// Attaches a driver under the interlock, as `attach_in` does; the caller's CPU has seen its change then.
+    /// Attaches a driver under the interlock, as `attach_in` does; the caller's CPU has seen its change then, and its share tells that this
+    /// one was made, and no other.
     /// Condition: the name is lawful, as `Name::parse` gives it.
     /// Refused, in this order, and nothing has changed then: `Inside` where the CPU is inside a section; `NeedsDriver` where the record's
     /// kind is Iface; `NameTaken`; `NoSlot`; `HistoryFull`.
@@ -50,13 +52,14 @@ impl<D: Domain> Registry<D> {
         requires name { IsTrue (is_lawful rec.name) }
         ensures may { IfOk result (λ _. MayAttach (is_inside cpu.old) (is_iface rec.kind)) }
         ensures ok { IfOk result (λ e. (e.rec ≡ rec) × HasLearned cpu.old cpu.new × HasSeenAttach cpu.old cpu.new e) }
+        ensures made { IfOk result (λ e. HasMade cpu.old (Attach e) cpu.new) }
         ensures refused { IfErr result (λ refusal. IsAttachRefusal (is_inside cpu.old) (is_iface rec.kind) refusal × (cpu.new ≡ cpu.old)) }
     {
-        attach_in(&self.words, &mut self.keeper.lock(rt), cpu, rec)
+        self.interlock.lock(rt).attach(&self.words, cpu, rec)
     }
 
     /// Attaches an interface under the interlock, on the driver that the reference is to, as `attach_iface_in` does; the caller's CPU has
-    /// seen its change then.
+    /// seen its change then, and its share tells that this one was made, and no other.
     /// Condition: the record's kind is Iface, and its name is lawful.
     /// Refused, in this order, and nothing has changed then, and the reference comes back: `Inside` where the CPU is inside a section;
     /// `NeedsDriver` where the reference is to an interface; `NameTaken`; `NoSlot`; `HistoryFull`.
@@ -71,13 +74,15 @@ impl<D: Domain> Registry<D> {
         requires name { IsTrue (is_lawful rec.name) }
         ensures may { IfOk result (λ _. MayAttach (is_inside cpu.old) (is_iface reference.entry.rec.kind)) }
         ensures ok { IfOk result (λ e. (e.rec ≡ rec) × HasLearned cpu.old cpu.new × HasSeenAttach cpu.old cpu.new e) }
+        ensures made { IfOk result (λ e. HasMade cpu.old (Attach e) cpu.new) }
         ensures refused { IfErr result (λ back. IsAttachRefusal (is_inside cpu.old) (is_iface reference.entry.rec.kind) back.0 × (back.1 ≡ reference) × (cpu.new ≡ cpu.old)) }
     {
-        attach_iface_in(&self.words, &mut self.keeper.lock(rt), cpu, rec, reference)
+        let interlock = &mut self.interlock.lock(rt);
+        interlock.attach_iface(&self.words, cpu, rec, reference)
     }
 
     /// Detaches the live entry with the kind and the name under the interlock, as `detach_in` does, and answers it; the caller's CPU has
-    /// seen its change then.
+    /// seen its change then, and its share tells that this one was made, and no other.
     /// Refused, in this order, and nothing has changed then: `Inside` where the CPU is inside a section; `NotFound` where no live entry has
     /// both.
     pub fn detach<R: Wait>(
@@ -89,9 +94,10 @@ impl<D: Domain> Registry<D> {
     ) -> Result<Entry, Refusal>
         ensures may { IfOk result (λ _. is_inside cpu.old ≡ false) }
         ensures ok { IfOk result (λ e. (e.rec.kind ≡ kind) × (e.rec.name ≡ name.now) × HasLearned cpu.old cpu.new × HasSeenDetach cpu.old cpu.new e) }
+        ensures made { IfOk result (λ e. HasMade cpu.old (Detach e.number) cpu.new) }
         ensures refused { IfErr result (λ refusal. IsDetachRefusedTo (is_inside cpu.old) refusal × (cpu.new ≡ cpu.old)) }
     {
-        detach_in(&self.words, &mut self.keeper.lock(rt), cpu, kind, name)
+        self.interlock.lock(rt).detach(&self.words, cpu, kind, name)
     }
 
     /// One turn of the work on the retired entry `number` under the interlock, as `advance_in` does: the answer is the first obstacle, or
@@ -102,7 +108,7 @@ impl<D: Domain> Registry<D> {
         ensures refused { IfErr result (λ refusal. refusal ≡ Refusal.NotRetired) }
         ensures made { SomeAdvanced D.settings number result }
     {
-        advance_in(&self.words, &mut self.keeper.lock(rt), number)
+        advance_in(&self.words, &mut self.interlock.lock(rt).keeper, number)
     }
 
     /// The audit of local references (localcount(9)) under the interlock, as `audit_in` does: of each live or retired slot, least first,
@@ -125,6 +131,7 @@ impl<D: Domain> Registry<D> {
         ensures tally { IfOk result (λ list. (k : OnKeeper) × IsAuditOf D.settings k cpus.old list.items) }
         ensures same { cpus.new ≡ cpus.old }
     {
-        audit_in(alloc, &self.words, &mut self.keeper.lock(rt), cpus)
+        let keeper = &mut self.interlock.lock(rt).keeper;
+        audit_in(alloc, &self.words, keeper, cpus)
     }
 }

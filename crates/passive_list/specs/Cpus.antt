@@ -16,12 +16,13 @@ use Rattle.cpu_words.specs.Sections.{IsIdle}
 use Rattle.passive_list.specs.declared.place.Found.{Found}
 use Rattle.passive_list.specs.declared.place.Place.{Place}
 
--- a CPU, to a contract
+-- a CPU, to a contract: what its seat knows, the depth of its section, and what the changes that its calls have made come to in the ledger
 pub record OnCpu : Type 0 where
   pub view : CpuView
   pub depth : ℕ
+  pub made : ℕ
 
--- a CPU that names its own table: that table and its settings, and the CPU
+-- a CPU that names its own table: that table and its settings, and the CPU; it has no share of a ledger, so it says 0 of what it made
 pub record OnPlainCpu : Type 0 where
   pub words : Named
   pub cpu : OnCpu

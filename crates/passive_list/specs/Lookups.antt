@@ -9,6 +9,6 @@ use Rattle.passive_list.specs.Cpus.{OnCpu}
 -- just the pass and the last found entry change; the answer is the registry's at some point not before what the CPU had seen
 pub record HasFound (key : Key) (a b : OnCpu) (answer : Option Entry) : Type 0 where
   pub pass : IsPrefix a.view.pass b.view.pass
-  pub is : b ≡ record { view = record a.view { pass = b.view.pass; found = answer }; depth = a.depth }
+  pub is : b ≡ record a { view = record a.view { pass = b.view.pass; found = answer } }
   pub lawful : IsLawful b.view.pass (length a.view.pass) (length b.view.pass) key answer
   pub seen : (e : Entry) → answer ≡ Some e → IsAttached b.view.pass e

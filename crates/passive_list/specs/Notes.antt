@@ -8,4 +8,4 @@ use Rattle.passive_list.specs.Cpus.{OnCpu}
 pub record HasHeardOn (note : List Change) (a b : OnCpu) : Type 0 where
   pub told : IsPrefix note b.view.pass
   pub pass : IsPrefix a.view.pass b.view.pass
-  pub is : b ≡ record { view = record a.view { pass = b.view.pass; heard = note }; depth = a.depth }
+  pub is : b ≡ record a { view = record a.view { pass = b.view.pass; heard = note } }

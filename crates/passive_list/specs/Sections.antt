@@ -9,12 +9,14 @@ pub record HasEnteredOn (a b : OnCpu) : Type 0 where
   pub begun : a.depth ≡ 0 → HasEntered a.view b.view
   pub inner : a.depth ≢ 0 → b.view ≡ a.view
   pub depth : b.depth ≡ a.depth + 1
+  pub made : b.made ≡ a.made
 
 -- the outermost exit ends the section; an inner one is counted, and nothing else
 pub record HasExitedOn (a b : OnCpu) : Type 0 where
   pub ended : a.depth ≡ 1 → HasExited a.view b.view
   pub inner : a.depth ≢ 1 → b.view ≡ a.view
   pub depth : b.depth + 1 ≡ a.depth
+  pub made : b.made ≡ a.made
 
 -- this CPU has begun as many sections as it may
 abbrev pub AreSpent : CpuView → Type 0

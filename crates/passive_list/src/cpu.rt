@@ -6,38 +6,43 @@ ghost use Rattle.registry_values.specs.Limits.{are_fit};
 
 use crate::plain_cpu::PlainCpu;
 use cpu_words::{CpuSeat, Domain};
-use std::marker::{Model, PhantomData};
+use std::marker::Model;
+use std::sync::ledger::Share;
 
-/// A virtual CPU of the table that D names. To a contract it is what its seat knows, and the depth of its section.
+/// A virtual CPU of the table that D names. To a contract it is what its seat knows, the depth of its section, and what its calls have
+/// changed behind the interlock, as far as that is counted in the ledger that D names.
 /// Binding is ownership: the thread that owns the value runs on that CPU.
 #[derive(Drop)]
 pub struct Cpu<D: Domain> {
     pub plain: PlainCpu,
-    pub domain: PhantomData<D>,
+    /// One part of the ledger. It takes no bytes.
+    pub share: Share<D>,
 }
 
 impl<D: Domain> Model for Cpu<D> {
+    ghost use Rattle.std.specs.Prelude.{◌≡◌};
     ghost use Rattle.cpu_words.specs.Domains.{AreWordsOf};
     ghost use Rattle.passive_list.specs.Cpus.{OnCpu};
 
     ghost Value = { OnCpu };
 
-    ghost view = { λ c. c.plain.cpu };
+    ghost view = { λ c. record c.plain.cpu { made = c.share.amount } };
 
-    ghost invariant = { λ c. AreWordsOf c.plain.words D.table D.settings };
+    ghost invariant = { λ c. AreWordsOf c.plain.words D.table D.settings × (c.share.parts ≡ 1) };
 }
 
 impl<D: Domain> Cpu<D> {
-    /// The CPU of a new seat: outside, with nothing found and nothing held.
-    /// Condition: the seat is of D's table, as `Words::new` gave it.
-    pub fn of_seat(seat: CpuSeat, id: u8) -> Cpu<D>
+    /// The CPU of a new seat: outside, with nothing found and nothing held. What its share has is what its calls have made.
+    /// Condition: the seat is of D's table, as `Words::new` gave it, and the share is one part of D's ledger.
+    pub fn of_seat(seat: CpuSeat, id: u8, share: Share<D>) -> Cpu<D>
         requires table { (seat.table ≡ D.table) × IsTrue (are_fit D.settings) × (id < 8) }
         requires new { seat.view ≡ new_cpu D.settings id }
-        ensures { result ≡ record { view = new_cpu D.settings id; depth = 0 } }
+        requires part { share.parts ≡ 1 }
+        ensures { result ≡ record { view = new_cpu D.settings id; depth = 0; made = share.amount } }
     {
         Cpu {
             plain: PlainCpu::of_seat(seat, id),
-            domain: PhantomData,
+            share,
         }
     }
 

@@ -20,11 +20,11 @@ pub record OnPsref : Type 0 where
 
 -- one reference more, to the entry e, and nothing else changes
 abbrev pub HasOneMore : Entry → OnCpu → OnCpu → Type 0
-HasOneMore e a b = b ≡ record { view = record a.view { references = e ∷ a.view.references }; depth = a.depth }
+HasOneMore e a b = b ≡ record a { view = record a.view { references = e ∷ a.view.references } }
 
 -- one reference to n less, and nothing else changes
 abbrev pub HasOneLess : ℕ → OnCpu → OnCpu → Type 0
-HasOneLess n a b = b ≡ record { view = record a.view { references = without n a.view.references }; depth = a.depth }
+HasOneLess n a b = b ≡ record a { view = record a.view { references = without n a.view.references } }
 
 -- p is a new reference of this CPU, to the entry e
 pub record IsNew (e : Entry) (a b : OnCpu) (p : OnPsref) : Type 0 where

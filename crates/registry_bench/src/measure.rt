@@ -1,7 +1,7 @@
 //! Runs of many threads, and their times.
 
 ghost use Rattle.std.specs.Prelude.{◌≡◌};
-ghost use Rattle.cpu_words.specs.Domains.{AreWordsOf};
+ghost use Rattle.name_registry.specs.Opening.{IsBlankOf};
 
 use crate::failure::Failure;
 use crate::gate::Gate;
@@ -72,7 +72,7 @@ fn measure_on<D: Domain + Send + Sync, R: Threads + Wait + Clock + Sync>(
     plan: Plan,
     operation: Operation,
 ) -> Result<Ran, Failure>
-    requires { AreWordsOf blank D.table D.settings }
+    requires { IsBlankOf blank D.table D.settings D.name D.parts }
 {
     let Ok((registry, mut cpus)) = blank.open::<D>(alloc) else {
         return Err(Failure::Memory);

@@ -2,7 +2,7 @@
 
 ghost use Rattle.std.specs.Prelude.{◌≡◌, IsTrue};
 ghost use Rattle.registry_values.specs.Names.{is_lawful};
-ghost use Rattle.cpu_words.specs.Domains.{AreWordsOf};
+ghost use Rattle.name_registry.specs.Opening.{IsBlankOf};
 
 use crate::failure::Failure;
 use crate::gate::Gate;
@@ -70,7 +70,7 @@ fn wait_on<D: Domain + Send + Sync, R: Threads + Wait + Clock + Sync>(
     blank: Blank,
     plan: WaitPlan,
 ) -> Result<Waits, Failure>
-    requires { AreWordsOf blank D.table D.settings }
+    requires { IsBlankOf blank D.table D.settings D.name D.parts }
 {
     let Ok((registry, mut cpus)) = blank.open::<D>(alloc) else {
         return Err(Failure::Memory);

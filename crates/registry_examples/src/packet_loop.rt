@@ -4,7 +4,7 @@
 ghost use Rattle.std.specs.Prelude.{◌≡◌, ◌≢◌, IsTrue, None};
 ghost use Rattle.std.specs.Thread.{IsSync};
 ghost use Rattle.registry_values.specs.Names.{is_lawful};
-ghost use Rattle.cpu_words.specs.Domains.{AreWordsOf};
+ghost use Rattle.name_registry.specs.Opening.{IsBlankOf};
 
 use crate::failure::Failure;
 use crate::section::enter;
@@ -83,7 +83,7 @@ fn run_on<D: Domain + Send + Sync, R: Threads + Wait + Sync>(
     alloc: Global,
     blank: Blank,
 ) -> Result<PacketSum, Failure>
-    requires table { AreWordsOf blank D.table D.settings }
+    requires table { IsBlankOf blank D.table D.settings D.name D.parts }
 {
     let Ok((registry, mut cpus)) = blank.open::<D>(alloc) else {
         return Err(Failure::Memory);

@@ -2,6 +2,7 @@
 
 ghost use Rattle.std.specs.Prelude.{◌≡◌, IfErr, OnErr, OnOk};
 ghost use Rattle.name_registry.specs.Auditing.{AreAllCpus};
+ghost use Rattle.name_registry.specs.Opening.{IsBlankOf};
 ghost use Rattle.registry_report.specs.Printed.{WritesFront, WritesRun};
 ghost use Rattle.registry_report.specs.Written.{IsWhileRunning};
 
@@ -43,7 +44,7 @@ fn run_on_blank<D: Domain, R: Wait, W: Write>(
     script: &Script,
     writer: &mut W,
 ) -> Result<(), RunFault>
-    requires table { (blank.table ≡ D.table) × (blank.settings ≡ D.settings) }
+    requires table { IsBlankOf blank D.table D.settings D.name D.parts }
     requires settings { script.now.settings ≡ D.settings }
     ensures run { OnOk result (WritesRun (W.contents writer.old) (W.contents writer.new) script.now.commands) }
     ensures front { OnErr result (WritesFront (W.contents writer.old) (W.contents writer.new) script.now.commands) }

@@ -1,7 +1,7 @@
 //! A storm: workers on all CPUs look up, refer and release at once, while one of them attaches and detaches an interface.
 
 ghost use Rattle.std.specs.Prelude.{◌≡◌, ◌+◌, ◌*◌, ◌≤◌, IfOk, IfErr, All, length, vec_len};
-ghost use Rattle.name_registry.specs.Opening.{AreNewCpus};
+ghost use Rattle.name_registry.specs.Opening.{AreNewCpus, IsBlankOf};
 ghost use Rattle.registry_storm.specs.Storms.{IsOfStorm, IsOutside, IsSumOf, settings_of};
 
 use crate::baskets::Baskets;
@@ -85,7 +85,7 @@ fn storm_on<D: Domain + Send + Sync, R: Threads + Wait + Sync, G: Gate + Sync>(
     value: u64,
     gate: &G,
 ) -> Result<StormRun, RunFault>
-    requires named { (blank.table ≡ D.table) × (blank.settings ≡ D.settings) }
+    requires named { IsBlankOf blank D.table D.settings D.name D.parts }
     requires settings { D.settings ≡ settings_of plan.cpus }
     ensures ok { IfOk result (λ run. IsSumOf plan.cpus plan.turns run.sum) }
     ensures err { IfErr result IsOfStorm }

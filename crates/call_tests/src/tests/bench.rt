@@ -2,7 +2,7 @@
 
 ghost use Rattle.std.specs.Prelude.{IsTrue};
 ghost use Rattle.registry_values.specs.Names.{is_lawful};
-ghost use Rattle.cpu_words.specs.Domains.{AreWordsOf};
+ghost use Rattle.name_registry.specs.Opening.{IsBlankOf};
 
 use super::answers::{Answer, audited, come, done, entry};
 use super::readers::{Held, Reader, by_reader};
@@ -76,7 +76,7 @@ pub(crate) struct Bench<D: Domain> {
 
 impl<D: Domain> Bench<D> {
     pub(crate) fn open(alloc: Global, blank: Blank) -> Result<Bench<D>, Fail>
-        requires { AreWordsOf blank D.table D.settings }
+        requires { IsBlankOf blank D.table D.settings D.name D.parts }
     {
         let Ok((registry, cpus)) = blank.open::<D>(alloc) else {
             return Err(Fail::from("an open registry"));

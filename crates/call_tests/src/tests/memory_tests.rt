@@ -3,7 +3,7 @@
 //! Where memory is ample these tests compare answers alone. `tools/refuse-memory.sh` refuses each of their allocations in
 //! turn; each refusal that is met is noted on standard error.
 
-ghost use Rattle.cpu_words.specs.Domains.{AreWordsOf};
+ghost use Rattle.name_registry.specs.Opening.{IsBlankOf};
 
 use super::answers::Answer::{self, At, Done};
 use super::answers::{Line, line_of};
@@ -72,7 +72,7 @@ fn opened<D: Domain, R: Abort + Eprint>(
     alloc: Global,
     blank: Blank,
 ) -> Result<Bench<D>, Fail>
-    requires { AreWordsOf blank D.table D.settings }
+    requires { IsBlankOf blank D.table D.settings D.name D.parts }
 {
     let (refusal, back) = match blank.open::<D>(alloc) {
         Ok((registry, cpus)) => return Bench::of(registry, cpus),
@@ -93,7 +93,7 @@ fn found_once_open<D: Domain, R: Wait + Abort + Eprint>(
     alloc: Global,
     blank: Blank,
 ) -> Result<(), Fail>
-    requires { AreWordsOf blank D.table D.settings }
+    requires { IsBlankOf blank D.table D.settings D.name D.parts }
 {
     let mut bench = opened::<D, _>(rt, alloc, blank)?;
     let mut refs = Held::nothing();
@@ -113,7 +113,7 @@ fn audited_again<D: Domain, R: Wait + Abort + Eprint>(
     alloc: Global,
     blank: Blank,
 ) -> Result<(), Fail>
-    requires { AreWordsOf blank D.table D.settings }
+    requires { IsBlankOf blank D.table D.settings D.name D.parts }
 {
     let mut bench = opened::<D, _>(rt, alloc, blank)?;
     let mut refs = Held::nothing();

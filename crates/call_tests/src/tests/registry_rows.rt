@@ -1,6 +1,6 @@
 //! Rows of calls on a registry, each on one of its own: sections, slots and turns, and local references.
 
-ghost use Rattle.cpu_words.specs.Domains.{AreWordsOf};
+ghost use Rattle.name_registry.specs.Opening.{IsBlankOf};
 
 use super::answers::Answer::{self, At, Audited, Come, Done, Is, Names, Nothing, Number, Refused};
 use super::answers::Line;
@@ -501,7 +501,7 @@ fn follow<D: Domain, R: Wait + Abort>(
     blank: Blank,
     row: &Row,
 ) -> Result<(), Fail>
-    requires { AreWordsOf blank D.table D.settings }
+    requires { IsBlankOf blank D.table D.settings D.name D.parts }
 {
     let mut bench = Bench::<D>::open(alloc, blank)?;
     let mut refs = Held::nothing();
@@ -554,8 +554,8 @@ fn shown_elsewhere<D: Domain, E: Domain, R: Wait + Abort>(
     here: Blank,
     there: Blank,
 ) -> Result<(), Fail>
-    requires here { AreWordsOf here D.table D.settings }
-    requires there { AreWordsOf there E.table E.settings }
+    requires here { IsBlankOf here D.table D.settings D.name D.parts }
+    requires there { IsBlankOf there E.table E.settings E.name E.parts }
 {
     let (mut here, mut there) = (
         Bench::<D>::open(alloc, here)?,

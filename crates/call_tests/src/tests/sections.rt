@@ -1,5 +1,6 @@
 //! A section that is nested as deep as it may be.
 
+ghost use Rattle.std.specs.Prelude.{◌≡◌};
 ghost use Rattle.cpu_words.specs.Domains.{AreWordsOf};
 
 use super::table::{Seats, Table, opened};
@@ -16,7 +17,8 @@ fn sections_nest_to_the_deepest(rt: HostRuntime) -> Result<(), Fail> {
 }
 
 fn nested<D: Domain, R: Abort>(rt: &R, table: Table) -> Result<(), Fail>
-    requires { AreWordsOf table.words D.table D.settings }
+    requires words { AreWordsOf table.words D.table D.settings }
+    requires ledger { (table.changes.name ≡ D.name) × (D.parts ≡ 8) }
 {
     let Seats {
         words,

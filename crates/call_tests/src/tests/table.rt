@@ -14,6 +14,7 @@ use passive_list::{Cpu, Keeper, hear, hear_keeper, tell, tell_keeper};
 use registry_values::Settings;
 use std::alloc::Global;
 use std::process::Abort;
+use std::sync::ledger::Blank;
 use std::test::Fail;
 
 /// A new table, before it is named.
@@ -23,11 +24,13 @@ pub(crate) struct Table {
     pub(crate) keeper: KeeperSeat,
     pub(crate) first: CpuSeat,
     pub(crate) second: CpuSeat,
+    pub(crate) changes: Blank,
     ghost fit: { IsTrue (are_fit words.settings) },
     ghost cpus: { words.settings.cpus ≡ 2 },
     ghost with_keeper: { (keeper.table ≡ words.table) × (keeper.view ≡ keeper_with words.settings words.settings.cpus) },
     ghost with_first: { (first.table ≡ words.table) × (first.view ≡ new_cpu words.settings 0) },
     ghost with_second: { (second.table ≡ words.table) × (second.view ≡ new_cpu words.settings 1) },
+    ghost parts: { changes.parts ≡ 8 },
 }
 
 /// A table in which each CPU may begin so many sections, and have two passive references and one local reference to an entry.
@@ -47,6 +50,7 @@ pub(crate) fn opened(alloc: Global, section_limit: u64) -> Result<Table, Fail> {
             keeper,
             first,
             second,
+            changes: Blank::new(8),
         }),
         _ => Err(Fail::from("two seats")),
     }
@@ -64,20 +68,24 @@ pub(crate) struct Seats<D: Domain> {
 
 impl<D: Domain> Seats<D> {
     pub(crate) fn of(table: Table) -> Seats<D>
-        requires { AreWordsOf table.words D.table D.settings }
+        requires words { AreWordsOf table.words D.table D.settings }
+        requires ledger { (table.changes.name ≡ D.name) × (D.parts ≡ 8) }
     {
         let Table {
             words,
             keeper,
             first,
             second,
+            changes,
         } = table;
         let settings = words.settings();
+        let (_book, mut shares) = changes.open::<D>();
+        let (one, other) = (shares.split_off(1, 0), shares.split_off(1, 0));
         Seats {
             words,
             keeper: Keeper::of_seat(keeper, settings),
-            first: Cpu::of_seat(first, 0),
-            second: Cpu::of_seat(second, 1),
+            first: Cpu::of_seat(first, 0, one),
+            second: Cpu::of_seat(second, 1, other),
         }
     }
 

@@ -1,6 +1,6 @@
 //! Tests on two threads: what one publishes, the other finds; and a local reference goes from one to the other.
 
-ghost use Rattle.std.specs.Prelude.{IsTrue};
+ghost use Rattle.std.specs.Prelude.{◌≡◌, IsTrue};
 ghost use Rattle.registry_values.specs.Names.{is_lawful};
 ghost use Rattle.cpu_words.specs.Domains.{AreWordsOf};
 
@@ -40,7 +40,8 @@ fn a_lookup_finds_what_another_thread_publishes(rt: HostRuntime) -> Result<(), F
 }
 
 fn one_lookup<D: Domain + Send, R: Threads + Abort + Sync>(rt: &R, table: Table)
-    requires { AreWordsOf table.words D.table D.settings }
+    requires words { AreWordsOf table.words D.table D.settings }
+    requires ledger { (table.changes.name ≡ D.name) × (D.parts ≡ 8) }
 {
     let Seats {
         words,
@@ -134,7 +135,8 @@ fn a_note_tells_another_thread_what_was_published(rt: HostRuntime) -> Result<(),
 
 /// Both sections begin before the driver is published. One CPU hears of it from the keeper, the other from that CPU.
 fn told_twice<D: Domain + Send, R: Threads + Abort + Sync>(rt: &R, table: Table) -> Result<(), Fail>
-    requires { AreWordsOf table.words D.table D.settings }
+    requires words { AreWordsOf table.words D.table D.settings }
+    requires ledger { (table.changes.name ≡ D.name) × (D.parts ≡ 8) }
 {
     let Seats {
         words,
@@ -202,7 +204,8 @@ fn a_reference_is_released_on_another_thread(rt: HostRuntime) -> Result<(), Fail
 
 /// CPU 0 acquires the reference, and another thread reads and releases it on CPU 1. Then nobody holds the entry.
 fn one_reference<D: Domain + Send, R: Threads + Abort + Sync>(rt: &R, table: Table)
-    requires { AreWordsOf table.words D.table D.settings }
+    requires words { AreWordsOf table.words D.table D.settings }
+    requires ledger { (table.changes.name ≡ D.name) × (D.parts ≡ 8) }
 {
     let Seats {
         words,

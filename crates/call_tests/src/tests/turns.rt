@@ -1,6 +1,6 @@
 //! Calls in several turns, or made again and again, while another thread leaves its section and begins another one in the middle of them.
 
-ghost use Rattle.cpu_words.specs.Domains.{AreWordsOf};
+ghost use Rattle.name_registry.specs.Opening.{IsBlankOf};
 ghost use Rattle.std.specs.Thread.{IsSync};
 
 use super::answers::Answer::{self, At, Come, Done, Number, Refused};
@@ -91,7 +91,7 @@ fn ended_in_the_middle<D: Domain + Send + Sync, R: Threads + Wait + Abort + Sync
     blank: Blank,
     row: &Row,
 ) -> Result<(), Fail>
-    requires { AreWordsOf blank D.table D.settings }
+    requires { IsBlankOf blank D.table D.settings D.name D.parts }
 {
     let Ok((registry, mut cpus)) = blank.open::<D>(alloc) else {
         return Err(Fail::from("an open registry"));

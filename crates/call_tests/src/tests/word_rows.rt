@@ -1,5 +1,6 @@
 //! Rows of calls on the bare words, each on a table of its own: sections, lookups, looks, and passive and local references.
 
+ghost use Rattle.std.specs.Prelude.{◌≡◌};
 ghost use Rattle.cpu_words.specs.Domains.{AreWordsOf};
 
 use super::answers::Answer::{
@@ -255,7 +256,8 @@ fn run<R: Abort>(rt: &R, alloc: Global, row: &Row) -> Result<(), Fail> {
 }
 
 fn follow<D: Domain, R: Abort>(rt: &R, table: Table, row: &Row)
-    requires { AreWordsOf table.words D.table D.settings }
+    requires words { AreWordsOf table.words D.table D.settings }
+    requires ledger { (table.changes.name ≡ D.name) × (D.parts ≡ 8) }
 {
     let mut refs = Held::nothing();
     Seats::<D>::of(table).follow(rt, &mut refs, row.name, row.steps);
@@ -290,8 +292,8 @@ fn a_reference_of_another_registry(rt: HostRuntime) -> Result<(), Fail> {
 }
 
 fn shown_to_another<D: Domain, E: Domain, R: Abort>(rt: &R, own: Table, other: Table)
-    requires own { AreWordsOf own.words D.table D.settings }
-    requires other { AreWordsOf other.words E.table E.settings }
+    requires own { AreWordsOf own.words D.table D.settings × (own.changes.name ≡ D.name) × (D.parts ≡ 8) }
+    requires other { AreWordsOf other.words E.table E.settings × (other.changes.name ≡ E.name) × (E.parts ≡ 8) }
 {
     let (mut own, mut other) = (Seats::<D>::of(own), Seats::<E>::of(other));
     let (mut refs, mut others) = (Held::nothing(), Held::nothing());

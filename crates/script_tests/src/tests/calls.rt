@@ -2,6 +2,7 @@
 
 ghost use Rattle.std.specs.Prelude.{◌≡◌, IfOk};
 ghost use Rattle.name_registry.specs.Auditing.{AreAllCpus};
+ghost use Rattle.name_registry.specs.Opening.{IsBlankOf};
 
 use super::lines;
 use super::streams::Sips;
@@ -141,7 +142,7 @@ fn run_row<D: Domain, R: Wait + Abort>(
     script: &Script,
     row: &Row,
 ) -> Result<(), Fail>
-    requires table { (blank.table ≡ D.table) × (blank.settings ≡ D.settings) }
+    requires table { IsBlankOf blank D.table D.settings D.name D.parts }
     requires settings { script.now.settings ≡ D.settings }
 {
     let Ok((registry, mut cpus)) = blank.open::<D>(alloc) else {

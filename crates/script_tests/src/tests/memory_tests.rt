@@ -5,7 +5,7 @@
 
 ghost use Rattle.std.specs.Prelude.{◌≡◌, IfOk};
 ghost use Rattle.name_registry.specs.Auditing.{AreAllCpus};
-ghost use Rattle.name_registry.specs.Opening.{AreNewCpus};
+ghost use Rattle.name_registry.specs.Opening.{AreNewCpus, IsBlankOf};
 
 use super::ENGINES;
 use super::ends::{REPORT, SCRIPT};
@@ -191,7 +191,7 @@ fn audited_and_found<D: Domain, R: Wait + Abort + AllocGlobal + Eprint>(
     audit: &Script,
     found: &Script,
 ) -> Result<(), Fail>
-    requires table { (blank.table ≡ D.table) × (blank.settings ≡ D.settings) }
+    requires table { IsBlankOf blank D.table D.settings D.name D.parts }
     requires settings { (audit.now.settings ≡ D.settings) × (found.now.settings ≡ D.settings) }
 {
     let Ok((registry, mut cpus)) = opened::<D, R>(rt, blank) else {
@@ -205,7 +205,7 @@ fn opened<D: Domain, R: Abort + AllocGlobal + Eprint>(
     rt: &R,
     blank: Blank,
 ) -> Result<(Registry<D>, Vec<Cpu<D>>), (Refusal, Blank)>
-    requires { (blank.table ≡ D.table) × (blank.settings ≡ D.settings) }
+    requires { IsBlankOf blank D.table D.settings D.name D.parts }
     ensures cpus { IfOk result (λ made. AreNewCpus D.settings D.settings.cpus made.1.items) }
 {
     match blank.open::<D>(rt.alloc()) {

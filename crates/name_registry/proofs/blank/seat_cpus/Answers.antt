@@ -17,6 +17,7 @@ of_seat-requires g c =
     record {
       table = (ap (λ (s : Seated CpuView). s.table) after.1, c.requires.fit, omega (arith, after.0, c.len-id.ensures, i.2, ranges z c.requires.fit));
       new = ap (λ (s : Seated CpuView). s.view) after.1 ∙ ap (λ k. new_cpu z k) (sym (c.len-id.ensures ∙ i.2));
+      part = c.split_off-share.ensures.parts;
     }
 
 pub loop-seat-preserved : goal.loop-seat-preserved
@@ -26,10 +27,12 @@ loop-seat-preserved g c =
     let seen = c.loop-seat.yielded in
     let n = length seen in
     let more = length-append seen (c.in-Some.seat ∷ []) in
-    let new = c.of_seat.ensures ∙ ap (λ k. record { view = new_cpu z k; depth = 0 }) (c.len-id.ensures ∙ i.2) in
+    let new = c.of_seat.ensures ∙ (λ j. record { view = new_cpu z ((c.len-id.ensures ∙ i.2) j); depth = 0; made = c.split_off-share.ensures.amount j }) in
     let are = subst (λ (l : List OnCpu). AreNewCpus z (n + 1) l) (sym c.push_reserved.ensures.items) (more_cpus z n c.loop-seat.cpus.items c.of_seat.result i.1 new) in (
       i.0 ∙ ap (λ (l : List (Seated CpuView)). seen ++ l) c.in-Some.ensures.steps.0 ∙ sym (append_assoc seen (c.in-Some.seat ∷ []) (into_iter_items c.next.new.self)),
       subst (λ k. AreNewCpus z k c.push_reserved.new.self.items) (sym more) are,
       c.push_reserved.ensures.len ∙ ap (λ k. k + 1) i.2 ∙ sym more,
       subst (λ k. z.cpus ≤ k) (sym c.push_reserved.ensures.capacity) i.3,
+      omega (arith, c.split_off-share.ensures.parts_left, i.4, more),
+      omega (arith, c.split_off-share.ensures.amount_left, i.5),
     )

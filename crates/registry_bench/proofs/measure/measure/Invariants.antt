@@ -1,5 +1,8 @@
 use Rattle.registry_bench.proofs.measure.measure.Given as goal
 
 -- the registry that was just made
-abbrev pub ghosts-measure_on : goal.ghosts-measure_on
-ghosts-measure_on g a = record { table = a.blank.table; settings = a.blank.settings }
+abbrev pub ghosts-measure_on-D-Domain : goal.ghosts-measure_on-D-Domain
+ghosts-measure_on-D-Domain g a = record { table = a.blank.table; settings = a.blank.settings }
+
+abbrev pub ghosts-measure_on-D-Ledger : goal.ghosts-measure_on-D-Ledger
+ghosts-measure_on-D-Ledger g a = record { name = a.blank.changes; parts = 8 }

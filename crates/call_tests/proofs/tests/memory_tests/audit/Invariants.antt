@@ -1,5 +1,8 @@
 use Rattle.call_tests.proofs.tests.memory_tests.audit.Given as goal
 
 -- the registry that was just made
-abbrev pub ghosts-audited_again : goal.ghosts-audited_again
-ghosts-audited_again g a = record { table = a.blank.table; settings = a.blank.settings }
+abbrev pub ghosts-audited_again-D-Domain : goal.ghosts-audited_again-D-Domain
+ghosts-audited_again-D-Domain g a = record { table = a.blank.table; settings = a.blank.settings }
+
+abbrev pub ghosts-audited_again-D-Ledger : goal.ghosts-audited_again-D-Ledger
+ghosts-audited_again-D-Ledger g a = record { name = a.blank.changes; parts = 8 }

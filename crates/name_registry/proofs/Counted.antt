@@ -1,0 +1,157 @@
+-- What is counted in the ledger: the history and a CPU's share grow by the same change, and nothing else changes the history.
+use Rattle.std.proofs.Common.{◌≡◌, ◌∙◌, ⊎_elim, ℕ, zero, suc, ◌+◌, ◌≤◌, Bool, true, false, List, length, Option, Some, None, Result, Ok, Err, sym, ap, subst, arith}
+use Rattle.std.proofs.lemmas.List.Sums.{sum_by_push}
+use Rattle.registry_values.specs.declared.entry.Change.{Change}
+use Rattle.registry_values.specs.declared.entry.Change.TheVariants.{Attach, Detach}
+use Rattle.registry_values.specs.declared.entry.Entry.{Entry}
+use Rattle.registry_values.specs.declared.entry.Record.{Record}
+use Rattle.registry_values.specs.declared.refusal.Refusal.{Refusal}
+use Rattle.registry_values.specs.declared.settings.Settings.{Settings}
+use Rattle.registry_values.specs.declared.stage.Stage.{Stage}
+use Rattle.registry_values.specs.declared.stage.Stage.TheVariants.{Grace, Passive, Local, Freed}
+use Rattle.registry_values.specs.declared.slot.Key.{Key}
+use Rattle.registry_values.specs.Answers as answers
+use Rattle.registry_values.specs.Slots.{is_iface, retired_slot}
+use Rattle.registry_values.proofs.Answers.{attach_tells}
+use Rattle.registry_values.proofs.Fit.{ranges}
+use Rattle.atomic_table.specs.Seated.{TableId}
+use Rattle.protocol.specs.History.{after_change}
+use Rattle.cpu_words.specs.declared.view.KeeperView.{KeeperView}
+use Rattle.cpu_words.specs.declared.view.ReferenceView.{ReferenceView}
+use Rattle.passive_list.specs.Cpus.{OnCpu}
+use Rattle.passive_list.specs.declared.keeper.Row.{Row}
+use Rattle.passive_list.specs.Keepers.{IsOurKeeper, OnKeeper}
+use Rattle.passive_list.specs.Notes.{HasHeardOn}
+use Rattle.local_count.specs.Draining.{HasFreed, HasGivenUp}
+use Rattle.name_registry.specs.Advancing.{HasAdvanced, HasEnded, HasWorkedFor, Meets}
+use Rattle.name_registry.specs.Attaching.{HasAttachedFor, HasAttachedIfaceFor, attach_answer, attach_iface_answer, given_entry}
+use Rattle.name_registry.specs.Changes.{HasMade, number_of, weigh, weight}
+use Rattle.name_registry.specs.Detaching.{HasDetachedFor, IsDetachAnswer}
+use Rattle.name_registry.specs.Meeting.{HasLearned, HasSeenAttach, HasSeenDetach, having_heard, is_inside}
+use Rattle.name_registry.specs.Performing.{GlancesBelow, GlancesOnce, HasBegun, HasGlanced, HasPassedAll, PassesAt, PassesBelow, PassesNumber, SnapshotsBelow, is_seen, word_of}
+use Rattle.name_registry.proofs.Attached.{given_takes, keeping_history}
+
+-- The share
+
+-- a CPU that has learned, and whose calls are counted
+counted : (n : ℕ) (x y : OnCpu) → HasLearned x y → HasLearned x (record y { made = n })
+counted n x y has = record { pass = has.pass; is = ap (λ (o : OnCpu). record o { made = n }) has.is }
+
+pub attach_counted : (x y z : OnCpu) (e : Entry) (n : ℕ) → z ≡ record y { made = n } → HasLearned x y × HasSeenAttach x y e → HasLearned x z × HasSeenAttach x z e
+attach_counted x y z e n is has = subst (λ (o : OnCpu). HasLearned x o × HasSeenAttach x o e) (sym is) (counted n x y has.0, record { later = has.1.later; attached = has.1.attached })
+
+pub detach_counted : (x y z : OnCpu) (e : Entry) (n : ℕ) → z ≡ record y { made = n } → HasLearned x y × HasSeenDetach x y e → HasLearned x z × HasSeenDetach x z e
+detach_counted x y z e n is has = subst (λ (o : OnCpu). HasLearned x o × HasSeenDetach x o e) (sym is)
+    (counted n x y has.0, record { end = has.1.end; later = has.1.later; ends = has.1.ends; attached = has.1.attached })
+
+-- it made just the change that was counted
+pub one_made : (note : List Change) (x y z : OnCpu) (c : Change) → number_of c ≤ 1000000 → HasHeardOn note x y → z ≡ record y { made = y.made + weight c } → HasMade x c z
+one_made note x y z c le hears is = record { number = le; made = ap (λ (o : OnCpu). o.made) is ∙ ap (λ (o : OnCpu). o.made + weight c) hears.is }
+
+-- The numbers
+
+-- an attach is within the limit on changes
+attach_within : (z : Settings) (k : OnKeeper) (rec : Record) (inside unfit : Bool) (e : Entry) → z.change_limit ≤ 1000000 → answers.attach_answer inside unfit (given_entry z k rec) ≡ Ok e → e.number ≤ 1000000
+attach_within z k rec inside unfit e most is =
+    let takes = given_takes z k rec e (attach_tells inside unfit (given_entry z k rec) e is).2 in
+    let number = ap (λ (x : Entry). x.number) takes.entry in
+    let room = takes.room in omega (arith, number, room, most)
+
+pub attach_numbered : (z : Settings) (k : OnKeeper) (x : OnCpu) (rec : Record) (e : Entry) → z.change_limit ≤ 1000000 → Ok e ≡ attach_answer z k x rec → e.number ≤ 1000000
+attach_numbered z k x rec e most is = attach_within z k rec (is_inside x) (is_iface rec.kind) e most (sym is)
+
+pub iface_numbered : (z : Settings) (k : OnKeeper) (x : OnCpu) (rec : Record) (v : ReferenceView) (e : Entry) → z.change_limit ≤ 1000000 → attach_iface_answer z k x rec v ≡ Ok e → e.number ≤ 1000000
+iface_numbered z k x rec v e most is = attach_within z k rec (is_inside x) (is_iface v.entry.rec.kind) e most is
+
+pub detach_numbered : (k : OnKeeper) (x : OnCpu) (key : Key) (e : Entry) → length k.view.history ≤ 1000000 → IsDetachAnswer k x key (Ok e) → e.number ≤ 1000000
+detach_numbered k x key e short answer = let begun = answer.1.0.begun in omega (arith, begun, short)
+
+-- what the keeper's type keeps of that
+pub few_changes : (z : TableId) (a : Settings) (table : TableId) (k : KeeperView) (its : Settings) (rows : List Row) (n : ℕ) → IsOurKeeper z a table k its rows n → (a.change_limit ≤ 1000000) × (length k.history ≤ 1000000)
+few_changes z a table k its rows n our =
+    let most = (ranges a our.view.fit).changes in
+    let room = our.view.room in (most, omega (arith, most, room))
+
+-- The book
+
+weighed : (h : List Change) (c : Change) → weigh (after_change h c) ≡ weigh h + weight c
+weighed h c = sum_by_push weight h c
+
+-- a book that grew by the change is the history's again
+booked : (old new : ℕ) (h l : List Change) (c : Change) → old ≡ weigh h → new ≡ old + weight c → l ≡ after_change h c → new ≡ weigh l
+booked old new h l c was grown after = grown ∙ ap (λ n. n + weight c) was ∙ sym (weighed h c) ∙ sym (ap weigh after)
+
+pub attach_booked : (old new : ℕ) (a : OnKeeper) (x : OnCpu) (e : Entry) (b : OnKeeper) (y : OnCpu) → old ≡ weigh a.view.history → new ≡ old + weight (Attach e) → HasAttachedFor a x e b y → new ≡ weigh b.view.history
+attach_booked old new a x e b y was grown has = booked old new a.view.history b.view.history (Attach e) was grown (ap (λ (k : KeeperView). k.history) has.keeper.entry.view)
+
+pub iface_booked : (old new : ℕ) (a : OnKeeper) (x : OnCpu) (v : ReferenceView) (e : Entry) (b : OnKeeper) (y : OnCpu) → old ≡ weigh a.view.history → new ≡ old + weight (Attach e) → HasAttachedIfaceFor a x v e b y → new ≡ weigh b.view.history
+iface_booked old new a x v e b y was grown has =
+    let after = ap (λ (k : KeeperView). k.history) has.keeper.attached.entry.view ∙ ap (λ (h : List Change). after_change h (Attach e)) (keeping_history (having_heard a x).view e.slot v) in
+    booked old new a.view.history b.view.history (Attach e) was grown after
+
+pub detach_booked : (old new : ℕ) (a : OnKeeper) (x : OnCpu) (e : Entry) (b : OnKeeper) (y : OnCpu) → old ≡ weigh a.view.history → new ≡ old + weight (Detach e.number) → HasDetachedFor a x e b y → new ≡ weigh b.view.history
+detach_booked old new a x e b y was grown has = booked old new a.view.history b.view.history (Detach e.number) was grown (ap (λ (k : KeeperView). k.history) has.keeper.view)
+
+-- Calls that make no change
+
+abbrev Unchanged : OnKeeper → OnKeeper → Type 0
+Unchanged a b = b.view.history ≡ a.view.history
+
+-- a book that is as it was is the history's still
+pub still_booked : (total : ℕ) (a b : OnKeeper) → total ≡ weigh a.view.history → b.view.history ≡ a.view.history → total ≡ weigh b.view.history
+still_booked total a b was same = was ∙ sym (ap weigh same)
+
+worked_same : (a : OnKeeper) (t : ℕ) (b : OnKeeper) → HasWorkedFor a t b → Unchanged a b
+worked_same a t b has = ap (λ (k : KeeperView). k.history) has.only
+
+freed_same : (a : OnKeeper) (t : ℕ) (b : OnKeeper) → HasFreed a t b → Unchanged a b
+freed_same a t b has = ap (λ (k : KeeperView). k.history) has.view.2
+
+ended_same : (m : OnKeeper) (t : ℕ) (b : OnKeeper) → HasEnded m t b → Unchanged m b
+ended_same m t b ended = ⊎_elim (λ e. ap (λ (k : KeeperView). k.history) e.1) (freed_same m t b) ended
+
+meets_same : (a : OnKeeper) (t : ℕ) (stage : Stage) (b : OnKeeper) → Meets a t stage b → Unchanged a b
+meets_same a t (Grace c) b has = worked_same a t b has.leaves.worked
+meets_same a t (Passive c) b has = worked_same a t b has.leaves.worked
+meets_same a t (Local n) b has = worked_same a t b has.leaves
+meets_same a t (Freed u) b has = ended_same has.1.between t b has.1.ended ∙ worked_same a t has.1.between has.1.leaves
+
+pub advanced_same : (a : OnKeeper) (n : ℕ) (r : Result Stage Refusal) (b : OnKeeper) → HasAdvanced a n r b → Unchanged a b
+advanced_same a n (Ok stage) b has = meets_same a has.0 stage b has.2
+advanced_same a n (Err f) b has = ap (λ (k : OnKeeper). k.view.history) has.2
+
+pub given_up_same : (a : OnKeeper) (v : ReferenceView) (b : OnKeeper) → HasGivenUp a v b → Unchanged a b
+given_up_same a v b has = ap (λ (k : KeeperView). k.history) has.view
+
+snapshots_same : (words : List ℕ) (n : ℕ) (k l : KeeperView) → SnapshotsBelow words n k l → l.history ≡ k.history
+snapshots_same words zero k l is = ap (λ (m : KeeperView). m.history) is
+snapshots_same words (suc n) k l is = ap (λ (m : KeeperView). m.history) is.2.change ∙ snapshots_same words n k is.0 is.1
+
+pub begun_same : (z : Settings) (a : OnKeeper) (snapshots : List ℕ) (retired : List (Option ℕ)) (b : OnKeeper) → HasBegun z a snapshots retired b → Unchanged a b
+begun_same z a snapshots retired b has = snapshots_same snapshots z.cpus a.view b.view has.looks
+
+glance_same : (snapshot c : ℕ) (seen after : Bool) (k l : KeeperView) → GlancesOnce snapshot c seen k after l → l.history ≡ k.history
+glance_same snapshot c true after k l is = ap (λ (m : KeeperView). m.history) is.1
+glance_same snapshot c false after k l is = ap (λ (m : KeeperView). m.history) is.1.change
+
+glances_same : (snapshots : List ℕ) (seen after : List Bool) (n : ℕ) (k l : KeeperView) → GlancesBelow snapshots seen after n k l → l.history ≡ k.history
+glances_same snapshots seen after zero k l is = ap (λ (m : KeeperView). m.history) is
+glances_same snapshots seen after (suc n) k l is = glance_same (word_of snapshots n) n (is_seen seen n) (is_seen after n) is.0 l is.2 ∙ glances_same snapshots seen after n k is.0 is.1
+
+pub glanced_same : (z : Settings) (snapshots : List ℕ) (a : OnKeeper) (seen : List Bool) (told : Option ℕ) (after : List Bool) (b : OnKeeper) → HasGlanced z snapshots a seen told after b → Unchanged a b
+glanced_same z snapshots a seen told after b has = glances_same snapshots seen after z.cpus a.view b.view has.looks
+
+passes_at_same : (z : Settings) (a : OnKeeper) (o : Option ℕ) (b : OnKeeper) → PassesAt z a o b → Unchanged a b
+passes_at_same z a None b is = ap (λ (k : OnKeeper). k.view.history) is
+passes_at_same z a (Some t) b has = worked_same a t b has.leaves.worked
+
+passes_number_same : (z : Settings) (a : OnKeeper) (o : Option ℕ) (b : OnKeeper) → PassesNumber z a o b → Unchanged a b
+passes_number_same z a None b is = ap (λ (k : OnKeeper). k.view.history) is
+passes_number_same z a (Some n) b is = passes_at_same z a (retired_slot a.slots n) b is
+
+passes_same : (z : Settings) (numbers : List (Option ℕ)) (n : ℕ) (a b : OnKeeper) → PassesBelow z numbers n a b → Unchanged a b
+passes_same z numbers zero a b is = ap (λ (k : OnKeeper). k.view.history) is
+passes_same z numbers (suc n) a b is = passes_number_same z is.0 _ b is.2 ∙ passes_same z numbers n a is.0 is.1
+
+pub passed_same : (z : Settings) (a : OnKeeper) (numbers : List (Option ℕ)) (b : OnKeeper) → HasPassedAll z a numbers b → Unchanged a b
+passed_same z a numbers b has = passes_same z numbers 32 a b has

@@ -1,0 +1,122 @@
+//! What the lock guards: the keeper, and the book of the changes that calls have made.
+
+ghost use Rattle.std.specs.Prelude.{◌≡◌, ◌+◌, ◌<◌, IfOk, IfErr, IsTrue, false};
+ghost use Rattle.registry_values.specs.Names.{is_lawful};
+ghost use Rattle.registry_values.specs.Slots.{is_iface};
+ghost use Rattle.registry_values.specs.declared.entry.Change.TheVariants.{Attach, Detach};
+ghost use Rattle.registry_values.specs.declared.entry.Kind.TheVariants.{Iface};
+ghost use Rattle.cpu_words.specs.Domains.{AreWordsOf};
+ghost use Rattle.name_registry.specs.Changes.{HasMade, weigh, weight};
+ghost use Rattle.name_registry.specs.Locking.{MayAttach, IsAttachRefusal, IsDetachRefusedTo};
+ghost use Rattle.name_registry.specs.Meeting.{is_inside, HasLearned, HasSeenAttach, HasSeenDetach};
+
+use crate::attaching::{attach_iface_in, attach_in};
+use crate::detaching::detach_in;
+use cpu_words::{Domain, Words};
+use local_count::LocalRef;
+use passive_list::{Cpu, Keeper};
+use registry_values::{Entry, Kind, Name, Record, Refusal};
+use std::sync::ledger::Book;
+
+/// More than twice the greatest number of an entry.
+const UNIT: u64 = 4_294_967_296;
+
+/// The keeper and the book. The book's total is what all changes of the history weigh, so a change is made only where it is counted, to the
+/// share of some CPU. The book takes no bytes.
+#[derive(Drop)]
+pub(crate) struct Interlock<D: Domain> {
+    pub(crate) keeper: Keeper<D>,
+    pub(crate) book: Book<D>,
+    ghost counted: { book.total ≡ weigh keeper.view.history },
+}
+
+impl<D: Domain> Interlock<D> {
+    /// `attach_in`, counted to the CPU.
+    pub(crate) fn attach(
+        &mut self,
+        words: &Words,
+        cpu: &mut Cpu<D>,
+        rec: Record,
+    ) -> Result<Entry, Refusal>
+        requires words { AreWordsOf words.now D.table D.settings }
+        requires name { IsTrue (is_lawful rec.name) }
+        ensures may { IfOk result (λ _. MayAttach (is_inside cpu.old) (is_iface rec.kind)) }
+        ensures ok { IfOk result (λ e. (e.rec ≡ rec) × HasLearned cpu.old cpu.new × HasSeenAttach cpu.old cpu.new e) }
+        ensures made { IfOk result (λ e. HasMade cpu.old (Attach e) cpu.new) }
+        ensures refused { IfErr result (λ refusal. IsAttachRefusal (is_inside cpu.old) (is_iface rec.kind) refusal × (cpu.new ≡ cpu.old)) }
+    {
+        let Interlock { keeper, book } = self;
+        // Reading it opens what its type keeps: how long its history may be.
+        let _changes = keeper.changes;
+        let entry = attach_in(words, keeper, cpu, rec)?;
+        count_attach(book, cpu, entry);
+        Ok(entry)
+    }
+
+    /// `attach_iface_in`, counted to the CPU.
+    pub(crate) fn attach_iface(
+        &mut self,
+        words: &Words,
+        cpu: &mut Cpu<D>,
+        rec: Record,
+        reference: LocalRef<D>,
+    ) -> Result<Entry, (Refusal, LocalRef<D>)>
+        requires words { AreWordsOf words.now D.table D.settings }
+        requires kind { rec.kind ≡ Iface }
+        requires name { IsTrue (is_lawful rec.name) }
+        ensures may { IfOk result (λ _. MayAttach (is_inside cpu.old) (is_iface reference.entry.rec.kind)) }
+        ensures ok { IfOk result (λ e. (e.rec ≡ rec) × HasLearned cpu.old cpu.new × HasSeenAttach cpu.old cpu.new e) }
+        ensures made { IfOk result (λ e. HasMade cpu.old (Attach e) cpu.new) }
+        ensures refused { IfErr result (λ back. IsAttachRefusal (is_inside cpu.old) (is_iface reference.entry.rec.kind) back.0 × (back.1 ≡ reference) × (cpu.new ≡ cpu.old)) }
+    {
+        let Interlock { keeper, book } = self;
+        // Reading it opens what its type keeps: how long its history may be.
+        let _changes = keeper.changes;
+        let entry = attach_iface_in(words, keeper, cpu, rec, reference)?;
+        count_attach(book, cpu, entry);
+        Ok(entry)
+    }
+
+    /// `detach_in`, counted to the CPU.
+    pub(crate) fn detach(
+        &mut self,
+        words: &Words,
+        cpu: &mut Cpu<D>,
+        kind: Kind,
+        name: &Name,
+    ) -> Result<Entry, Refusal>
+        requires words { AreWordsOf words.now D.table D.settings }
+        ensures may { IfOk result (λ _. is_inside cpu.old ≡ false) }
+        ensures ok { IfOk result (λ e. (e.rec.kind ≡ kind) × (e.rec.name ≡ name.now) × HasLearned cpu.old cpu.new × HasSeenDetach cpu.old cpu.new e) }
+        ensures made { IfOk result (λ e. HasMade cpu.old (Detach e.number) cpu.new) }
+        ensures refused { IfErr result (λ refusal. IsDetachRefusedTo (is_inside cpu.old) refusal × (cpu.new ≡ cpu.old)) }
+    {
+        let Interlock { keeper, book } = self;
+        // Reading it opens what its type keeps: how long its history may be.
+        let _changes = keeper.changes;
+        let entry = detach_in(words, keeper, cpu, kind, name)?;
+        count_detach(book, cpu, entry.number);
+        Ok(entry)
+    }
+}
+
+/// Counts the attach of an entry as made by the CPU's calls. It does nothing when it runs.
+fn count_attach<D: Domain>(book: &mut Book<D>, cpu: &mut Cpu<D>, entry: Entry)
+    ensures total { book.new.total ≡ book.old.total + weight (Attach entry) }
+    ensures cpu { cpu.new ≡ record cpu.old { made = cpu.old.made + weight (Attach entry) } }
+{
+    book.add(&mut cpu.share, UNIT);
+    book.add(&mut cpu.share, entry.number);
+    book.add(&mut cpu.share, entry.number);
+}
+
+/// Counts the detach of the entry `number` as made by the CPU's calls. It does nothing when it runs.
+fn count_detach<D: Domain>(book: &mut Book<D>, cpu: &mut Cpu<D>, number: u64)
+    ensures total { book.new.total ≡ book.old.total + weight (Detach number) }
+    ensures cpu { cpu.new ≡ record cpu.old { made = cpu.old.made + weight (Detach number) } }
+{
+    book.add(&mut cpu.share, UNIT);
+    book.add(&mut cpu.share, number);
+    book.add(&mut cpu.share, number);
+    book.add(&mut cpu.share, 1);
+}
