@@ -1,5 +1,5 @@
 -- Whether a CPU has begun as many sections as it may, by those that it has ended.
-use Rattle.std.proofs.Common.{◌≡◌, ◌↔◌, ⊎_elim, ℕ, ◌*◌, ◌+◌, ◌<◌, ◌≤◌, List, nat_lt, false, Option, Some, None, refl, ap, arith}
+use Rattle.std.proofs.Common.{◌≡◌, ◌↔◌, ⊎_elim, ℕ, ◌<◌, ◌≤◌, List, nat_lt, false, Option, Some, None, refl, ap, arith}
 use Rattle.std.proofs.lemmas.Bool.{cases_lt, le-ltb, ltb-false}
 use Rattle.atomic_table.specs.Seated.{TableId}
 use Rattle.registry_values.specs.declared.settings.Settings.{Settings}

@@ -12,7 +12,7 @@ use Rattle.protocol.proofs.slots.Numbers.{position_passes}
 use Rattle.cpu_words.specs.declared.view.CpuView.{CpuView}
 use Rattle.cpu_words.specs.Views.{is_to, references_to}
 use Rattle.cpu_words.specs.Passives.{IsAt}
-use Rattle.cpu_words.proofs.shown.ReferenceLists.{to_other, in_rest, counts}
+use Rattle.cpu_words.proofs.shown.ReferenceLists.{to_other, in_rest}
 use Rattle.passive_list.specs.declared.place.Place.{Place}
 use Rattle.passive_list.specs.Cpus.{no_place, place_at, PassiveAgree}
 use Rattle.passive_ref.specs.Psrefs.{IsHeldAt, counts_for}

@@ -1,5 +1,5 @@
 -- What a row of marks has come to say, and what it says of all CPUs.
-use Rattle.std.specs.Prelude.{◌≡◌, ℕ, ◌+◌, ◌<◌, ◌==◌, List, [], true, ◌&&◌, if◌then◌else◌, slice_index_or}
+use Rattle.std.specs.Prelude.{◌≡◌, ℕ, ◌<◌, List, [], true, slice_index_or}
 use Rattle.registry_values.specs.declared.mark.Mark.{Mark}
 use Rattle.registry_values.specs.Marks.{Grows}
 use Rattle.protocol.specs.State.{State, mark_at}

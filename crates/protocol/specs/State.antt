@@ -1,5 +1,5 @@
 -- The state of the core: its words, and what stands beside them.
-use Rattle.std.specs.Prelude.{ℕ, List, [], false, Option, None, replicate, slice_index_or, slice_set, ◌+◌, ◌%◌, ◌==◌, Bool, true, ◌&&◌, ◌≡◌, ◌++◌, drop, ◌⊎◌, if◌then◌else◌}
+use Rattle.std.specs.Prelude.{ℕ, List, [], false, Option, None, replicate, slice_index_or, slice_set, Bool, true, ◌++◌, drop}
 use Rattle.registry_values.specs.declared.entry.Entry.{Entry}
 use Rattle.registry_values.specs.declared.entry.Change.{Change}
 use Rattle.registry_values.specs.declared.settings.Settings.{Settings}

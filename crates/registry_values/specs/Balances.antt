@@ -1,5 +1,5 @@
 -- What the counts of an entry say (localcount(9)).
-use Rattle.std.specs.Prelude.{ℕ, List, [], ◌≡◌, ◌==◌, ℤ, pos, ◌+ℤ◌, ◌-ℤ◌, fold, ◌∷◌, ◌++◌, if◌then◌else◌}
+use Rattle.std.specs.Prelude.{ℕ, List, ◌==◌, ℤ, pos, ◌+ℤ◌, ◌-ℤ◌, fold, if◌then◌else◌}
 use Rattle.registry_values.specs.declared.balance.Balance.{Balance}
 
 -- a count of nothing

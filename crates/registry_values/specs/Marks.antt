@@ -1,5 +1,5 @@
 -- What is said of one mark, and of a row of marks: what a step makes of it, and what is so of all CPUs.
-use Rattle.std.specs.Prelude.{ℕ, ◌+◌, ◌%◌, ◌==◌, Bool, true, false, not, ◌&&◌, List, take, Option, Some, None, [], zero, suc, ◌-◌, ◌*◌, ◌∷◌, ◌++◌, ◌||◌, if◌then◌else◌, ◌≡◌, ◌<◌}
+use Rattle.std.specs.Prelude.{ℕ, ◌%◌, ◌==◌, Bool, true, false, not, List, take, Option, Some, None, zero, suc, ◌||◌, ◌≡◌}
 use Rattle.std.specs.List.{list_any, list_all}
 use Rattle.registry_values.specs.declared.mark.Mark.{Mark}
 

@@ -1,18 +1,17 @@
 -- Rows of marks: how they grow, and what all their marks say together.
-use Rattle.std.proofs.Common.{◌≡◌, ℕ, zero, suc, ◌+◌, ◌-◌, ◌%◌, ◌<◌, ◌≤◌, ⊎_elim, List, [], ◌∷◌, length, get_or, set, take, Some, Bool, true, false, ◌&&◌, ◌||◌, ◌==◌, refl, sym, ap, subst, ◌∙◌, arith, get_or-set_same, get_or-set_other, ◌⊎◌, ◌++◌}
+use Rattle.std.proofs.Common.{◌≡◌, ℕ, zero, suc, ◌<◌, ⊎_elim, List, [], ◌∷◌, length, get_or, set, take, Some, Bool, true, false, ◌||◌, refl, sym, ap, subst, ◌∙◌, arith, get_or-set_same, get_or-set_other}
 use Rattle.std.proofs.lemmas.Bool.{and_from}
 use Rattle.std.specs.List.{list_all, list_any}
 use Rattle.protocol.specs.declared.state.Due.TheVariants.{Rest, Snapshots}
 use Rattle.registry_values.specs.declared.mark.Mark.{Mark}
 use Rattle.protocol.specs.Marking.{AllClear, AllCollected, AllPassed, MarksGrow, SameElsewhere}
-use Rattle.registry_values.specs.Marks.{Grows, collected, are_clear, are_collected, have_passed, is_clear, is_collected, is_passed, no_mark}
+use Rattle.registry_values.specs.Marks.{Grows, are_clear, are_collected, have_passed, is_clear, is_collected, is_passed, no_mark}
 use Rattle.protocol.specs.Invariant.{Holds}
 use Rattle.protocol.specs.State.{at_rest, State, mark_at, with_cell}
 use Rattle.registry_values.specs.Slots.{is_retired, slot_at}
 use Rattle.registry_values.proofs.Fit.{ranges}
 use Rattle.protocol.proofs.keeps.Marking.{row_cases}
 use Rattle.protocol.proofs.slots.Occupied.{at_rest_tells, is_retired_tells}
-use Rattle.std.specs.Prelude.{if◌then◌else◌}
 
 pub snapshot_stands : (s : State) (t c : ℕ) → Holds s → at_rest s.due ≡ true → is_retired (slot_at s.slots t) ≡ true → c < s.settings.cpus → (w : ℕ) × ((mark_at s.marks t c).snapshot ≡ Some w)
 snapshot_stands s t c on rest gone lt =
