@@ -108,3 +108,7 @@ counted_agrees z a t u x c w d o ps ns acquired released s n v our same lt alone
 -- the seat's table and view are as they were
 pub same_agrees : (z : TableId) (a : Settings) (t u : TableId) (x y : CpuView) (c w d : ℕ) (o : Found) (ps ns : List Place) → IsOurCpu z a t x c w d o ps ns → u ≡ t → y ≡ x → IsOurCpu z a u y c w d o ps ns
 same_agrees z a t u x y c w d o ps ns our same view = subst (λ (p : TableId × CpuView). IsOurCpu z a p.0 p.1 c w d o ps ns) (λ k. (sym same k, sym view k)) our
+
+-- a place that is told by an equation is this one
+pub stored_agrees : (z : TableId) (a : Settings) (t : TableId) (x : CpuView) (c w d : ℕ) (o : Found) (ps ns : List Place) (s : ℕ) (p q : Place) → q ≡ p → IsOurCpu z a t x c w d o ps (set ns s p) → IsOurCpu z a t x c w d o ps (set ns s q)
+stored_agrees z a t x c w d o ps ns s p q is = subst (λ (r : Place). IsOurCpu z a t x c w d o ps (set ns s r)) (sym is)

@@ -7,10 +7,10 @@ ghost use Rattle.cpu_words.specs.Domains.{AreWordsOf};
 ghost use Rattle.local_count.specs.References.{HasAcquired, IsFull};
 
 use crate::local_ref::LocalRef;
-use crate::net::net_count;
+use crate::net::{net_count, set_net};
 use crate::plain_ref::PlainRef;
 use cpu_words::{Domain, Words, steps};
-use passive_list::{Cpu, Place, PlainCpu};
+use passive_list::{Cpu, PlainCpu};
 use registry_values::{BIAS, Refusal, why_uncounted};
 use std::marker::PhantomData;
 
@@ -57,10 +57,7 @@ pub fn acquire_local_on(words: &Words, cpu: &mut PlainCpu) -> Result<PlainRef, R
     }
     let word = steps::count_add(words, &mut cpu.seat, cpu.id, found.slot, found.number);
     let seat = steps::split_ref(words, &mut cpu.seat, cpu.id);
-    cpu.net[found.slot as usize] = Place {
-        number: found.number,
-        count: word + 1,
-    };
+    set_net(&mut cpu.net[found.slot as usize], found.number, word + 1);
     Ok(PlainRef {
         seat,
         number: found.number,

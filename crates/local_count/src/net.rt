@@ -16,3 +16,14 @@ pub fn net_count(place: Place, number: u64) -> u64
         BIAS
     }
 }
+
+/// Makes the place that of `number`, with that count. It stores the number only where another one stands there: the next atomic operation
+/// waits for each store before it.
+pub(crate) fn set_net(place: &mut Place, number: u64, count: u64)
+    ensures { place.new ≡ record { number = number; count = count } }
+{
+    if place.number != number {
+        place.number = number;
+    }
+    place.count = count;
+}

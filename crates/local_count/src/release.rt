@@ -5,10 +5,10 @@ ghost use Rattle.cpu_words.specs.Domains.{AreWordsOf};
 ghost use Rattle.local_count.specs.References.{HasReleased, HasComeBack};
 
 use crate::local_ref::LocalRef;
-use crate::net::net_count;
+use crate::net::{net_count, set_net};
 use crate::plain_ref::PlainRef;
 use cpu_words::{Domain, Words, steps};
-use passive_list::{Cpu, Place, PlainCpu};
+use passive_list::{Cpu, PlainCpu};
 
 /// Releases a local reference on this CPU, which needn't be the one that acquired it: this CPU's own net count for the entry goes down
 /// by one, and may be negative.
@@ -61,9 +61,6 @@ pub fn try_release_on(
             kind,
         });
     }
-    cpu.net[slot as usize] = Place {
-        number,
-        count: count - 1,
-    };
+    set_net(&mut cpu.net[slot as usize], number, count - 1);
     Ok(())
 }

@@ -11,10 +11,12 @@ use cpu_words::Domain;
 use passive_list::Cpu;
 use registry_values::{Refusal, Stage, destroyed};
 use std::sync::Wait;
+use std::thread::yield_now;
 
 impl<D: Domain> Registry<D> {
     /// Destroys the retired entry `number` (psref_target_destroy of psref(9), localcount_drain of localcount(9)): `advance` at most `turns`
-    /// times, and the interlock is free between them. The answer is the slot, from 0, that is vacant again.
+    /// times. Between them the interlock is free, and other threads may have the processor. The answer is the slot, from 0, that is vacant
+    /// again.
     /// Condition: at least one turn.
     /// Refused, in this order: `Inside` where the CPU is inside a section, and nothing has changed then; `NotRetired` where no slot has the
     /// retired entry `number`, also where another caller freed it between two turns; `StillHeld` with the obstacle that the last turn met.
@@ -54,7 +56,8 @@ trait AdvancesUnderInterlock {
         ensures { advances number self.old result self.new };
 }
 
-/// Makes at most so many turns, and none after one that met no obstacle.
+/// Makes at most so many turns, and none after one that met no obstacle. Between two it lets another thread run, which may be a reader in
+/// the middle of its section, without a processor.
 fn destroy_in_turns<I: AdvancesUnderInterlock, R: Wait>(
     rt: &R,
     interlock: &mut I,
@@ -69,6 +72,7 @@ fn destroy_in_turns<I: AdvancesUnderInterlock, R: Wait>(
         if let Stage::Freed(slot) = stage {
             return Ok(slot);
         }
+        yield_now();
         stage = interlock.advance(rt, number)?;
     }
     destroyed(stage)

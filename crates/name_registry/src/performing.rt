@@ -13,11 +13,12 @@ use passive_list::Cpu;
 use registry_values::{Refusal, waiting_for};
 use std::marker::Model;
 use std::sync::Wait;
+use std::thread::yield_now;
 
 impl<D: Domain> Registry<D> {
     /// Waits, for at most `turns` turns, until each section that is open as the call begins has ended (pserialize_perform of
-    /// pserialize(9)); the interlock is free between the turns. As it begins it takes the section word of each CPU and the numbers of the
-    /// retired entries. Each turn loads the word of each CPU that wasn't seen yet, and a CPU counts as seen once its own word was even or
+    /// pserialize(9)); between the turns the interlock is free, and other threads may have the processor. As it begins it takes the section
+    /// word of each CPU and the numbers of the retired entries. Each turn loads the word of each CPU that wasn't seen yet, and a CPU counts as seen once its own word was even or
     /// another one. Once all were seen, each CPU that hasn't passed for one of those entries is looked at for it, so that it passes, as
     /// `advance` has it.
     /// Condition: at least one turn.
@@ -76,7 +77,8 @@ fn perform_in_turns<I: UnderInterlock, R: Wait>(rt: &R, interlock: &mut I, turns
     told
 }
 
-/// Glances at the CPUs in so many turns, or until all were seen. The answer is the last turn's.
+/// Glances at the CPUs in so many turns, or until all were seen. The answer is the last turn's. Between two turns it lets another thread
+/// run, which may be a reader in the middle of its section, without a processor.
 fn wait_for_sections<I: UnderInterlock, R: Wait>(
     rt: &R,
     interlock: &mut I,
@@ -92,6 +94,7 @@ fn wait_for_sections<I: UnderInterlock, R: Wait>(
         if waited.is_none() {
             return None;
         }
+        yield_now();
         waited = interlock.glance(rt, snapshots, &mut seen);
     }
     waited

@@ -110,6 +110,7 @@ fn add(words: &Words, cpu: &mut PlainCpu, slot: u8, number: u64) -> Result<Psref
     };
     Ok(Psref {
         cpu: cpu.id,
+        hint: slot,
         number,
     })
 }

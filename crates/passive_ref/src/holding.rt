@@ -31,12 +31,37 @@ pub fn held_on(cpu: &PlainCpu, number: u64) -> bool
 pub(crate) fn usable_slot(cpu: &PlainCpu, psref: &Psref) -> Result<u8, Refusal>
     ensures { Answers (why_unusable cpu.now.cpu.view psref.now) (λ t. IsHeldAt cpu.now.cpu.view t psref.now.number) result }
 {
-    let held = slot_of(cpu, psref.number);
+    let held = slot_by(cpu, psref.hint, psref.number);
     match (why_unusable(psref.cpu == cpu.id, held.is_some()), held) {
         (None, Some(slot)) => Ok(slot),
         (Some(refusal), _) => Err(refusal),
         (None, None) => unreachable!(),
     }
+}
+
+/// The same as `slot_of`; where the hint is that slot, it needs no search.
+fn slot_by(cpu: &PlainCpu, hint: u8, number: u64) -> Option<u8>
+    ensures some { IfSome result (λ t. IsHeldAt cpu.now.cpu.view t number) }
+    ensures none { result ≡ None → references_to number cpu.now.cpu.view.references ≡ 0 }
+{
+    if counts_at(cpu, hint, number) {
+        return Some(hint);
+    }
+    slot_of(cpu, number)
+}
+
+/// Whether there is a place of that slot, and it counts for that number.
+fn counts_at(cpu: &PlainCpu, slot: u8, number: u64) -> bool
+    ensures { IsTrue result → IsHeldAt cpu.now.cpu.view slot number }
+{
+    if slot >= 32 {
+        return false;
+    }
+    let place = cpu.passive[slot as usize];
+    if place.number == number {
+        return place.count > 0;
+    }
+    false
 }
 
 /// The slot of the entry with that number, where this CPU refers to it.

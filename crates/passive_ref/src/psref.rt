@@ -9,6 +9,9 @@ use std::marker::Model;
 /// what its CPU holds. It says nothing of its registry: a CPU of another one judges it by its own references to that number.
 pub struct Psref {
     pub(crate) cpu: u8,
+    /// The slot, from 0, that its CPU looks at first. It is a guess: any other number is as safe, and costs the search. To a contract it
+    /// isn't there.
+    pub(crate) hint: u8,
     pub(crate) number: u64,
 }
 
@@ -40,11 +43,19 @@ impl Psref {
     pub fn remembered(cpu: u8, number: u64) -> Psref
         ensures { result ≡ record { cpu = cpu; number = number } }
     {
-        Psref { cpu, number }
+        Psref {
+            cpu,
+            hint: 0,
+            number,
+        }
     }
 
     /// Gives the value up and leaves the reference held: the entry keeps its slot until its CPU releases one that `remembered` made again.
     pub fn forget(self) {
-        let Psref { cpu: _, number: _ } = self;
+        let Psref {
+            cpu: _,
+            hint: _,
+            number: _,
+        } = self;
     }
 }

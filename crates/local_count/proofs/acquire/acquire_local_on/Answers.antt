@@ -8,6 +8,7 @@ use Rattle.passive_list.specs.Cpus.{OnPlainCpu}
 use Rattle.passive_list.proofs.Agreeing.{found_as, found_none, own_agrees}
 use Rattle.cpu_words.specs.declared.view.CpuView.{CpuView}
 use Rattle.local_count.specs.References.{IsFull}
+use Rattle.local_count.proofs.Agreeing.{stored_agrees}
 use Rattle.local_count.proofs.Acquiring.{may_count, full_of, full_tells, room_tells, acquired_reference, acquired_agrees}
 use Rattle.local_count.proofs.acquire.acquire_local_on.Goals as goal
 
@@ -55,5 +56,5 @@ invariant_of-result c =
 pub invariant_of-cpu : goal.invariant_of-cpu
 invariant_of-cpu c =
     let kept = found_as _ _ c.cpu.invariant.found c.if-found-eq0.false in
-    own_agrees _ _ _ _ _ _ _ _ _ _ (acquired_agrees _ _ _ _ _ _ _ _ _ _ _ _ _ _ _ c.cpu.invariant kept (c.split_ref-seat.ensures.table.0 ∙ c.count_add-word.ensures.table) c.count_add-word.ensures.change c.split_ref-seat.ensures.change c.count_add-word.ensures.word
-    c.count_add-word.ensures.room c.count_add-word.ensures.alone)
+    stored_agrees _ _ _ _ _ _ _ _ _ _ _ _ _ c.set_net.ensures (own_agrees _ _ _ _ _ _ _ _ _ _ (acquired_agrees _ _ _ _ _ _ _ _ _ _ _ _ _ _ _ c.cpu.invariant kept (c.split_ref-seat.ensures.table.0 ∙ c.count_add-word.ensures.table) c.count_add-word.ensures.change c.split_ref-seat.ensures.change c.count_add-word.ensures.word
+    c.count_add-word.ensures.room c.count_add-word.ensures.alone))
