@@ -2,3 +2,4 @@ pub mod Holders
 pub mod Honest
 pub mod Reaching
 pub mod Safety
+pub mod Waiting

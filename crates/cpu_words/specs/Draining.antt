@@ -12,13 +12,13 @@ use Rattle.protocol.specs.declared.state.Due.TheVariants.{Rest, Adding, Subtract
 use Rattle.registry_values.specs.Balances.{bias}
 use Rattle.protocol.specs.State.{with_cell, mark_at, total_at, kept_at}
 use Rattle.registry_values.specs.Slots.{slot_at, slot_of}
-use Rattle.registry_values.specs.Marks.{have_passed, are_clear, cleared, collected}
+use Rattle.registry_values.specs.Marks.{have_passed, are_clear, mark_after_passive_look, mark_after_collect}
 use Rattle.cpu_words.specs.declared.view.KeeperView.{KeeperView}
 use Rattle.cpu_words.specs.declared.view.ReferenceView.{ReferenceView}
 use Rattle.cpu_words.specs.declared.view.View.{View}
 use Rattle.cpu_words.specs.declared.view.View.TheVariants.{Keeper}
 use Rattle.cpu_words.specs.Views.{one_more, keeper_of, reference_of}
-use Rattle.cpu_words.specs.Grace.{MayLook, having_looked}
+use Rattle.cpu_words.specs.Grace.{MayLook, keeper_after_look}
 use Rattle.cpu_words.specs.Vacating.{IsDrained}
 
 -- the marks of all CPUs for a slot
@@ -34,7 +34,7 @@ pub record MayPassiveLook (k : KeeperView) (t c : ℕ) : Type 0 where
 
 -- the CPU's mark is clear once its passive word, which was w, was 0
 abbrev pub HasLookedPassive : KeeperView → ℕ → ℕ → ℕ → KeeperView → Type 0
-HasLookedPassive k t c w l = l ≡ record (having_looked k (PassiveLook t c) (Word w)) { marks = with_cell k.marks t c (cleared (mark_at k.marks t c) w) }
+HasLookedPassive k t c w l = l ≡ record (keeper_after_look k (PassiveLook t c) (Word w)) { marks = with_cell k.marks t c (mark_after_passive_look (mark_at k.marks t c) w) }
 
 -- Local references
 
@@ -47,7 +47,7 @@ pub record MayCollect (k : KeeperView) (t c : ℕ) : Type 0 where
 
 -- the CPU's count word, which was w, is collected, and is to be added to the total
 abbrev pub HasCollected : KeeperView → ℕ → ℕ → ℕ → KeeperView → Type 0
-HasCollected k t c w l = l ≡ record k { marks = with_cell k.marks t c (collected (mark_at k.marks t c)); due = Adding t w }
+HasCollected k t c w l = l ≡ record k { marks = with_cell k.marks t c (mark_after_collect (mark_at k.marks t c)); due = Adding t w }
 
 -- the collected word `old` is to be added, and the value is the total with it, less its bias
 pub record MayTotalAdd (k : KeeperView) (t old value : ℕ) : Type 0 where
@@ -68,11 +68,11 @@ pub record MayJoinKeeper (k : KeeperView) (v : ReferenceView) : Type 0 where
   pub is_collected : IsFoundCollected k.slots k.marks v
 
 -- a reference is given up: it is to be subtracted from the total of its entry's slot
-abbrev pub giving_up : KeeperView → ReferenceView → KeeperView
-giving_up k v = record k { due = Subtracting v.entry.slot; given_up = one_more k.given_up v.entry.number }
+abbrev pub keeper_after_join : KeeperView → ReferenceView → KeeperView
+keeper_after_join k v = record k { due = Subtracting v.entry.slot; given_up = one_more k.given_up v.entry.number }
 
 abbrev pub with_given_up : View → View → View
-with_given_up v u = Keeper (giving_up (keeper_of v) (reference_of u))
+with_given_up v u = Keeper (keeper_after_join (keeper_of v) (reference_of u))
 
 abbrev pub MayTotalSub : KeeperView → ℕ → Type 0
 MayTotalSub k t = k.due ≡ Subtracting t

@@ -11,7 +11,7 @@ use Rattle.protocol.specs.declared.state.Due.TheVariants.{Rest, Snapshots}
 use Rattle.registry_values.specs.declared.settings.Settings.{Settings}
 use Rattle.registry_values.specs.Slots.{slot_at}
 use Rattle.protocol.specs.State.{mark_at, with_cell}
-use Rattle.registry_values.specs.Marks.{looked}
+use Rattle.registry_values.specs.Marks.{mark_after_look}
 use Rattle.protocol.specs.Events.{snapshot_mark}
 use Rattle.cpu_words.specs.declared.view.KeeperView.{KeeperView}
 
@@ -26,12 +26,12 @@ pub record MayLook (k : KeeperView) (t c : ℕ) : Type 0 where
   pub retired : (e : Entry) × (slot_at k.slots t ≡ Retired e)
 
 -- one more look, and its answer
-abbrev pub having_looked : KeeperView → Event → Reply → KeeperView
-having_looked k e r = record k { looks = suc k.looks; last_look = Some (record { event = e; reply = r }) }
+abbrev pub keeper_after_look : KeeperView → Event → Reply → KeeperView
+keeper_after_look k e r = record k { looks = suc k.looks; last_look = Some (record { event = e; reply = r }) }
 
 -- the CPU's mark says what its section word, which was w, tells
 abbrev pub HasLooked : KeeperView → Event → Reply → ℕ → ℕ → ℕ → KeeperView → Type 0
-HasLooked k e r t c w l = l ≡ record (having_looked k e r) { marks = with_cell k.marks t c (looked (mark_at k.marks t c) w) }
+HasLooked k e r t c w l = l ≡ record (keeper_after_look k e r) { marks = with_cell k.marks t c (mark_after_look (mark_at k.marks t c) w) }
 
 -- the keeper must take the snapshot of the CPU c for t next
 abbrev pub MaySnapshot : KeeperView → ℕ → ℕ → Type 0
@@ -48,7 +48,7 @@ HasSnapshot k t c w l = l ≡ record k { marks = with_cell k.marks t c (snapshot
 -- what a load of a section word tells, by its event
 abbrev pub LookTold : Event → KeeperView → ℕ → KeeperView → Type 0
 LookTold (Look (Some t) c) k w l = HasLooked k (Look (Some t) c) (Word w) t c w l
-LookTold (Look None c) k w l = l ≡ having_looked k (Look None c) (Word w)
+LookTold (Look None c) k w l = l ≡ keeper_after_look k (Look None c) (Word w)
 LookTold (Snapshot (Some t) c) k w l = HasSnapshot k t c w l
-LookTold (Snapshot None c) k w l = l ≡ having_looked k (Snapshot None c) (Word w)
+LookTold (Snapshot None c) k w l = l ≡ keeper_after_look k (Snapshot None c) (Word w)
 LookTold e k w l = ⊥

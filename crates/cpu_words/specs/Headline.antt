@@ -27,7 +27,7 @@ use Rattle.cpu_words.specs.declared.view.View.TheVariants.{Keeper, Cpu, Referenc
 use Rattle.cpu_words.specs.Spots.{passive_of, count_of, index}
 use Rattle.cpu_words.specs.Views.{references_to}
 use Rattle.cpu_words.specs.Rule.{Agrees, Shows, Good, Ruled, deeds}
-use Rattle.cpu_words.specs.Logs.{plain, part, IsStanding, AreByOwn, LoggedRuled}
+use Rattle.cpu_words.specs.Logs.{plain, part, IsStanding, AreByOwn, Knows, LoggedRuled}
 use Rattle.cpu_words.specs.Vacating.{IsDrained}
 
 -- The headline of the running words
@@ -55,6 +55,8 @@ pub record RunsAsLogged (z : Settings) (s : Table ℕ Logged) : Type 0 where
   pub all : length acts ≡ length run.events
   pub owners : AreByOwn run.seat (after (opening z) run.events).seated acts
   pub logs : (i : ℕ) (l : Logged) → get_elem? s.views i ≡ some l → IsStanding l.view → l.log ≡ part i acts
+  -- what a seat has heard of the keeper's deeds is a prefix of the keeper's part
+  pub known : (i : ℕ) (l : Logged) → get_elem? s.views i ≡ some l → Knows l (part 0 acts)
 
 -- so it is between any two steps
 abbrev pub RunningHeadline : Type 0

@@ -20,8 +20,8 @@ pub record MayKeep (k : KeeperView) (t : ℕ) (v : ReferenceView) : Type 0 where
   pub driver : v.entry.rec.kind ≡ Driver
 
 -- the slot, taken as vacant, keeps the reference
-abbrev pub keeping : KeeperView → ℕ → ReferenceView → KeeperView
-keeping k t v = record (as_vacant k t) { keeps = slice_set k.keeps t (Some v.entry.number) }
+abbrev pub keeper_after_keep : KeeperView → ℕ → ReferenceView → KeeperView
+keeper_after_keep k t v = record (as_vacant k t) { keeps = slice_set k.keeps t (Some v.entry.number) }
 
 -- it was vacant, or the event Vacate makes it so
 abbrev pub IsVacated : KeeperView → ℕ → Type 0
@@ -29,4 +29,4 @@ IsVacated k t = (slot_at k.slots t ≡ Vacant) ⊎ ChangesBy (Vacate t) (Keeper 
 
 -- the keeper's view as a reference is joined into it, to be kept by the slot t
 abbrev pub with_kept : ℕ → View → View → View
-with_kept t v u = Keeper (keeping (keeper_of v) t (reference_of u))
+with_kept t v u = Keeper (keeper_after_keep (keeper_of v) t (reference_of u))

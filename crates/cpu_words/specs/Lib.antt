@@ -1,6 +1,7 @@
 pub mod Spots
 pub mod Views
 pub mod Rule
+pub mod Deeds
 pub mod Steps
 pub mod Sections
 pub mod Grace
@@ -17,4 +18,5 @@ pub mod Notes
 pub mod Opening
 pub mod Logs
 pub mod Headline
+pub mod Waiting
 pub mod Domains

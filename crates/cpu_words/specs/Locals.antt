@@ -29,15 +29,15 @@ reference_in c (GivingEntry e) = record { entry = e; collected = None }
 reference_in c (BackEntry e) = record { entry = e; collected = Some c }
 
 -- a CPU's seat with its hand empty, and the seat of what was in it
-abbrev pub emptied : View → View
-emptied v = Cpu (with_hand (cpu_of v) NoEntry)
+abbrev pub with_empty_hand : View → View
+with_empty_hand v = Cpu (with_hand (cpu_of v) NoEntry)
 
-abbrev pub cut_off : View → View
-cut_off v = Reference (reference_in (cpu_of v).id (cpu_of v).hand)
+abbrev pub reference_of_hand : View → View
+reference_of_hand v = Reference (reference_in (cpu_of v).id (cpu_of v).hand)
 
 -- a CPU's seat with the reference in its hand, to be given up
-abbrev pub taking_in : View → View → View
-taking_in v u = Cpu (with_hand (cpu_of v) (GivingEntry (reference_of u).entry))
+abbrev pub with_reference_in_hand : View → View → View
+with_reference_in_hand v u = Cpu (with_hand (cpu_of v) (GivingEntry (reference_of u).entry))
 
 -- what is in the hand was just counted, or was found collected
 

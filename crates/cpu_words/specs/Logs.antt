@@ -1,6 +1,7 @@
--- What each seat did: beside its view stands its log, and the rule says that this is the list's part by that seat.
+-- What each seat did, and what it has heard of the keeper's deeds: beside its view stands its log, and the rule says that this is the list's part by that seat.
 use Rattle.std.specs.Prelude.{◌≡◌, ℕ, ◌<◌, ◌≤◌, ◌==◌, if◌then◌else◌, List, [], ◌∷◌, ◌++◌, map, length, Option, Some, None}
 use mathlib.Core.Option.{some}
+use mathlib.Core.List.{IsPrefix}
 use lib.ListN.{get_elem?}
 use Rattle.atomic_table.specs.Table.{State as Table, Step, Me}
 use Rattle.registry_values.specs.declared.settings.Settings.{Settings}
@@ -21,6 +22,7 @@ use Rattle.cpu_words.specs.declared.view.View.TheVariants.{Keeper, Cpu, Referenc
 use Rattle.cpu_words.specs.Views.{first_view, cpu_of, keeper_of, reference_of}
 use Rattle.cpu_words.specs.Rule.{did, deeds, Ruled}
 use Rattle.cpu_words.specs.Vacating.{vacate_first}
+use Rattle.cpu_words.specs.Deeds.{HasHeardDeeds, IsOwnLog}
 
 -- the table without the logs
 abbrev pub plain : Table ℕ Logged → Table ℕ View
@@ -45,9 +47,9 @@ pub data Maker : Type 0 where
   the_cpu : ℕ → Maker
   another : Maker
 
-abbrev pub noted_by : Option ℕ → Maker
-noted_by None = the_keeper
-noted_by (Some c) = the_cpu c
+abbrev pub maker_of_note : Option ℕ → Maker
+maker_of_note None = the_keeper
+maker_of_note (Some c) = the_cpu c
 
 abbrev pub maker : Event → Maker
 maker (Seat c) = the_keeper
@@ -62,8 +64,8 @@ maker (StoreSlot t k v) = the_keeper
 maker (StoreNext t v) = the_keeper
 maker (Publish t) = the_keeper
 maker (Unpublish t) = the_keeper
-maker (Tell who) = noted_by who
-maker (Hear who) = noted_by who
+maker (Tell who) = maker_of_note who
+maker (Hear who) = maker_of_note who
 maker (Snapshot t c) = the_keeper
 maker (Look t c) = the_keeper
 maker (PassiveAdd c n) = the_cpu c
@@ -105,7 +107,11 @@ abbrev pub AreByOwn : (ℕ → ℕ) → ℕ → List (ℕ × Deed) → Type 0
 AreByOwn seat n [] = Unit {0}
 AreByOwn seat n (a ∷ rest) = IsSeatOf seat n a.0 (maker a.1.event) × AreByOwn seat n rest
 
--- the rule: the list's events are the seats' deeds, each by its own seat, and each log is its seat's part
+-- of what the keeper did, which is `all`, the seat has heard a prefix, and so has the note that told it something
+abbrev pub Knows : Logged → List Deed → Type 0
+Knows l all = IsPrefix l.deeds all × IsPrefix l.laid all
+
+-- the rule: the list's events are the seats' deeds, each by its own seat, each log is its seat's part, and what seats have heard of the keeper's deeds is so
 pub record LoggedRuled (z : Settings) (s : Table ℕ Logged) : Type 0 where
   pub run : Ruled z (plain s)
   pub acts : List (ℕ × Deed)
@@ -114,39 +120,60 @@ pub record LoggedRuled (z : Settings) (s : Table ℕ Logged) : Type 0 where
   pub logs : (i : ℕ) (l : Logged) → get_elem? s.views i ≡ some l → IsStanding l.view → l.log ≡ part i acts
   -- a seat that isn't there yet did nothing
   pub unseated : (i : ℕ) → length s.views ≤ i → part i acts ≡ []
+  -- what a seat has heard of the keeper's deeds, and what a note told it, are prefixes of what the keeper did
+  pub known : (i : ℕ) (l : Logged) → get_elem? s.views i ≡ some l → Knows l (part 0 acts)
 
 -- the keeper's seat, alone
 abbrev pub first_logged : Settings → Logged
-first_logged z = record { view = first_view z; log = [] }
+first_logged z = record { view = first_view z; log = []; deeds = []; laid = [] }
 
--- What a step is told: the seat stays of its kind, takes no slots, its log goes on with just these events, and the tale holds
+-- What a step is told: the seat stays of its kind, takes no slots, its log goes on with just these events, what it has heard stays, and the tale holds
 
-abbrev pub told_by_cpu : (CpuView → ℕ → List Deed) → (CpuView → ℕ → CpuView → Type 0) → Step ℕ → Me ℕ Logged → ℕ → Me ℕ Logged → Type 0
-told_by_cpu does tells st m n l = (l ≡ (record { view = Cpu (cpu_of l.0.view); log = l.0.log }, m.1)) × (l.0.log ≡ m.0.log ++ does (cpu_of m.0.view) n) × tells (cpu_of m.0.view) n (cpu_of l.0.view)
+abbrev pub IsToldByCpu : (CpuView → ℕ → List Deed) → (CpuView → ℕ → CpuView → Type 0) → Step ℕ → Me ℕ Logged → ℕ → Me ℕ Logged → Type 0
+IsToldByCpu does tells st m n l = (l ≡ (record m.0 { view = Cpu (cpu_of l.0.view); log = l.0.log }, m.1)) × (l.0.log ≡ m.0.log ++ does (cpu_of m.0.view) n) × tells (cpu_of m.0.view) n (cpu_of l.0.view)
 
-abbrev pub told_by_keeper : (KeeperView → ℕ → List Deed) → (KeeperView → ℕ → KeeperView → Type 0) → Step ℕ → Me ℕ Logged → ℕ → Me ℕ Logged → Type 0
-told_by_keeper does tells st m n l = (l ≡ (record { view = Keeper (keeper_of l.0.view); log = l.0.log }, m.1)) × (l.0.log ≡ m.0.log ++ does (keeper_of m.0.view) n) × tells (keeper_of m.0.view) n (keeper_of l.0.view)
+abbrev pub IsToldByKeeper : (KeeperView → ℕ → List Deed) → (KeeperView → ℕ → KeeperView → Type 0) → Step ℕ → Me ℕ Logged → ℕ → Me ℕ Logged → Type 0
+IsToldByKeeper does tells st m n l = (l ≡ (record m.0 { view = Keeper (keeper_of l.0.view); log = l.0.log }, m.1)) × (l.0.log ≡ m.0.log ++ does (keeper_of m.0.view) n) × tells (keeper_of m.0.view) n (keeper_of l.0.view)
 
-abbrev pub told_by_reference : (ReferenceView → ℕ → List Deed) → (ReferenceView → ℕ → Type 0) → Step ℕ → Me ℕ Logged → ℕ → Me ℕ Logged → Type 0
-told_by_reference does tells st m n l = (l ≡ (record { view = m.0.view; log = l.0.log }, m.1)) × (l.0.log ≡ m.0.log ++ does (reference_of m.0.view) n) × tells (reference_of m.0.view) n
+abbrev pub IsToldByReference : (ReferenceView → ℕ → List Deed) → (ReferenceView → ℕ → Type 0) → Step ℕ → Me ℕ Logged → ℕ → Me ℕ Logged → Type 0
+IsToldByReference does tells st m n l = (l ≡ (record m.0 { log = l.0.log }, m.1)) × (l.0.log ≡ m.0.log ++ does (reference_of m.0.view) n) × tells (reference_of m.0.view) n
+
+-- A load that hears. A CPU's seat has heard then what the keeper did: what it had heard, and what the note told, are prefixes of that
+abbrev pub heard_by_cpu : (CpuView → ℕ → List Deed) → (CpuView → ℕ → CpuView → Type 0) → Step ℕ → Me ℕ Logged → ℕ → Me ℕ Logged → Type 0
+heard_by_cpu does tells st m n l = (l ≡ (record m.0 { view = Cpu (cpu_of l.0.view); log = l.0.log; deeds = l.0.deeds }, m.1)) × (l.0.log ≡ m.0.log ++ does (cpu_of m.0.view) n) × tells (cpu_of m.0.view) n (cpu_of l.0.view) × HasHeardDeeds m.0.deeds m.0.laid l.0.deeds
+
+-- the keeper finds what the note told in its own log, and its history as long as that says
+abbrev pub heard_by_keeper : (KeeperView → ℕ → List Deed) → (KeeperView → ℕ → KeeperView → Type 0) → Step ℕ → Me ℕ Logged → ℕ → Me ℕ Logged → Type 0
+heard_by_keeper does tells st m n l = IsToldByKeeper does tells st m n l × IsOwnLog m.0.log m.0.laid (keeper_of m.0.view)
 
 -- How seats are cut and joined: the log goes on, and a new seat's is empty
 
-abbrev pub going_on : (View → View) → (View → List Deed) → Logged → Logged
-going_on left does l = record { view = left l.view; log = l.log ++ does l.view }
+abbrev pub logged_after_split : (View → View) → (View → List Deed) → Logged → Logged
+logged_after_split left does l = record l { view = left l.view; log = l.log ++ does l.view }
 
-abbrev pub fresh : (View → View) → Logged → Logged
-fresh right l = record { view = right l.view; log = [] }
+-- what a new seat has heard of the keeper's deeds as it is cut off: nothing; a CPU's note what the CPU has; the keeper's note all that the keeper did
+
+abbrev pub no_deeds : Logged → List Deed
+no_deeds l = []
+
+abbrev pub deeds_heard : Logged → List Deed
+deeds_heard l = l.deeds
+
+abbrev pub deeds_done : (View → List Deed) → Logged → List Deed
+deeds_done does l = l.log ++ does l.view
+
+abbrev pub fresh : (View → View) → (Logged → List Deed) → Logged → Logged
+fresh right tells l = record { view = right l.view; log = []; deeds = tells l; laid = [] }
 
 abbrev pub joined_seat : (View → View → View) → (View → List Deed) → Logged → Logged → Logged
-joined_seat both does l m = record { view = both l.view m.view; log = l.log ++ does l.view }
+joined_seat both does l m = record l { view = both l.view m.view; log = l.log ++ does l.view }
 
 -- a note is laid beside the view: this is no event
-abbrev pub laid : (View → View → View) → Logged → Logged → Logged
-laid both l m = record { view = both l.view m.view; log = l.log }
+abbrev pub logged_with_note : (View → View → View) → Logged → Logged → Logged
+logged_with_note both l m = record l { view = both l.view m.view; laid = m.deeds }
 
 abbrev pub spent_seat : Logged
-spent_seat = record { view = Spent; log = [] }
+spent_seat = record { view = Spent; log = []; deeds = []; laid = [] }
 
 -- What a cut or a join does
 

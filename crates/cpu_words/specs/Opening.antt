@@ -23,8 +23,8 @@ one_seated k = record k { seated = k.seated + 1 }
 
 -- the keeper's seat and the new CPU's, as the keeper's is cut in two
 
-abbrev pub seating : View → View
-seating v = Keeper (one_seated (keeper_of v))
+abbrev pub with_cpu_seated : View → View
+with_cpu_seated v = Keeper (one_seated (keeper_of v))
 
 abbrev pub next_seat : View → View
 next_seat v = Cpu (new_cpu (keeper_of v).settings (keeper_of v).seated)
@@ -38,7 +38,7 @@ pub record AreOpening (words : List ℕ) : Type 0 where
 -- the seats of the first n CPUs, CPU 0 first
 pub record AreSeats (table : TableId) (z : Settings) (n : ℕ) (seats : List (Seated CpuView)) : Type 0 where
   pub count : length seats ≡ n
-  pub each : (c : ℕ) → c < n → get_elem? seats c ≡ some (record { table = table; view = new_cpu z c; log = [] })
+  pub each : (c : ℕ) → c < n → get_elem? seats c ≡ some (record { table = table; view = new_cpu z c; log = []; deeds = []; laid = [] })
 
 -- the keeper's view where n CPUs have their seats, and it did nothing else
 abbrev pub keeper_with : Settings → ℕ → KeeperView

@@ -80,8 +80,8 @@ links_with next None v = next
 links_with next (Some q) v = slice_set next q v
 
 -- the link before the slot t leads past it; its entry e is retired without marks, and all snapshots are due
-abbrev pub having_unpublished : KeeperView → ℕ → Entry → Option ℕ → ℕ → KeeperView
-having_unpublished k t e p v = record k {
+abbrev pub keeper_after_unpublish : KeeperView → ℕ → Entry → Option ℕ → ℕ → KeeperView
+keeper_after_unpublish k t e p v = record k {
   head = head_with k.head p v;
   next = links_with k.next p v;
   history = after_change k.history (Detach e.number);
@@ -91,7 +91,7 @@ having_unpublished k t e p v = record k {
 }
 
 abbrev pub HasUnpublished : KeeperView → ℕ → Option ℕ → ℕ → KeeperView → Type 0
-HasUnpublished k t p v l = (e : Entry) × (slot_at k.slots t ≡ Live e) × (l ≡ having_unpublished k t e p v)
+HasUnpublished k t p v l = (e : Entry) × (slot_at k.slots t ≡ Live e) × (l ≡ keeper_after_unpublish k t e p v)
 
 -- what an unpublishing tells, by its event and the word stored
 abbrev pub UnpublishTold : Event → ℕ → ℕ → KeeperView → KeeperView → Type 0

@@ -11,7 +11,7 @@ use Rattle.protocol.specs.declared.event.RecordOf.TheVariants.{Local}
 use Rattle.protocol.specs.declared.event.Reply.{Reply}
 use Rattle.protocol.specs.declared.event.Reply.TheVariants.{Ref}
 use Rattle.protocol.specs.Events.{Outcome, step}
-use Rattle.protocol.specs.Ran.{Ran, rested, turned}
+use Rattle.protocol.specs.Ran.{Ran, empty_run, run_with_event}
 use Rattle.protocol.specs.State.{State, opening, section_at, depth_at, seen_at, passive_at, count_at}
 use Rattle.registry_values.specs.Balances.{bias}
 use Rattle.registry_values.specs.Slots.{slot_at}
@@ -71,32 +71,32 @@ pub record IsShown (k : KeeperView) : Type 0 where
 
 -- An event as its seat knows it: the ids of local references are the core's alone
 
-abbrev pub unnamed : Event → Event
-unnamed (JoinRef c id) = JoinRef c 0
-unnamed (JoinKeeper id) = JoinKeeper 0
-unnamed (Keep t id) = Keep t 0
-unnamed (LoadRecord (Local id k)) = LoadRecord (Local 0 k)
-unnamed e = e
+abbrev pub event_without_id : Event → Event
+event_without_id (JoinRef c id) = JoinRef c 0
+event_without_id (JoinKeeper id) = JoinKeeper 0
+event_without_id (Keep t id) = Keep t 0
+event_without_id (LoadRecord (Local id k)) = LoadRecord (Local 0 k)
+event_without_id e = e
 
-abbrev pub unnamed_reply : Reply → Reply
-unnamed_reply (Ref id) = Ref 0
-unnamed_reply r = r
+abbrev pub reply_without_id : Reply → Reply
+reply_without_id (Ref id) = Ref 0
+reply_without_id r = r
 
 -- just this event, with this reply
 abbrev pub did : Event → Reply → List Deed
-did e r = record { event = unnamed e; reply = unnamed_reply r } ∷ []
+did e r = record { event = event_without_id e; reply = reply_without_id r } ∷ []
 
-abbrev pub noted : Event → Option Outcome → List Deed → List Deed
-noted e None ds = ds
-noted e (Some o) ds = did e o.reply ++ ds
+abbrev pub deeds_with : Event → Option Outcome → List Deed → List Deed
+deeds_with e None ds = ds
+deeds_with e (Some o) ds = did e o.reply ++ ds
 
 -- the events of a run that were made, in order, each with its reply
 abbrev pub deeds_from : Ran → List Event → List Deed
 deeds_from r [] = []
-deeds_from r (e ∷ es) = noted e (step r.state e) (deeds_from (turned r (step r.state e)) es)
+deeds_from r (e ∷ es) = deeds_with e (step r.state e) (deeds_from (run_with_event r (step r.state e)) es)
 
 abbrev pub deeds : Settings → List Event → List Deed
-deeds z events = deeds_from (rested (opening z)) events
+deeds z events = deeds_from (empty_run (opening z)) events
 
 -- a list of events leads from the opening of the settings to the state
 pub record Reached (z : Settings) (g : State) : Type 0 where

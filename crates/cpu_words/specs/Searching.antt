@@ -19,7 +19,7 @@ use Rattle.protocol.specs.declared.state.Loaded.{Loaded}
 use Rattle.protocol.specs.declared.state.Loaded.TheVariants.{On, Over}
 use Rattle.protocol.specs.History.{IsAttached, IsLawful}
 use Rattle.protocol.specs.Invariant.{StandsOn}
-use Rattle.protocol.specs.Loaded.{loaded}
+use Rattle.protocol.specs.Loaded.{loaded_at}
 use Rattle.cpu_words.specs.declared.view.CpuView.{CpuView}
 use Rattle.cpu_words.specs.declared.view.View.TheVariants.{Cpu}
 use Rattle.cpu_words.specs.declared.view.Deed.{Deed}
@@ -40,12 +40,12 @@ key_with kind name = record { kind = kind; name = name }
 abbrev pub search_for : Key → CpuView → Search
 search_for key x = record { key = key; start = length x.pass; place = AtHead }
 
-abbrev pub seeking : Key → CpuView → CpuView
-seeking key x = record x { search = Some (search_for key x) }
+abbrev pub cpu_after_seek : Key → CpuView → CpuView
+cpu_after_seek key x = record x { search = Some (search_for key x) }
 
 -- the search q at another place
-abbrev pub moved : Search → SearchPlace → Search
-moved q p = record { key = q.key; start = q.start; place = p }
+abbrev pub search_with_place : Search → SearchPlace → Search
+search_with_place q p = record { key = q.key; start = q.start; place = p }
 
 -- a search is under way, and is to load the link of the slot t
 pub record MayLoadLink (x : CpuView) (t : ℕ) : Type 0 where
@@ -59,9 +59,9 @@ link_answer zero = Missed
 link_answer (suc t) = Word (suc t)
 
 -- the search q has loaded a link, and the pass is p
-abbrev pub followed : CpuView → Search → ℕ → List Change → CpuView
-followed x q zero p = record x { pass = p; search = None; found = None }
-followed x q (suc t) p = record x { pass = p; search = Some (moved q (AtNumber t)) }
+abbrev pub cpu_after_link : CpuView → Search → ℕ → List Change → CpuView
+cpu_after_link x q zero p = record x { pass = p; search = None; found = None }
+cpu_after_link x q (suc t) p = record x { pass = p; search = Some (search_with_place q (AtNumber t)) }
 
 -- to have missed is lawful in the CPU's own pass, at some point from the start of the search on; else the link names a slot
 abbrev pub LinkHolds : Settings → Search → ℕ → List Change → Type 0
@@ -79,7 +79,7 @@ Descends p q s (suc t) r = (e f : Entry) → MayStandOn p q s e → MayStandOn r
 
 pub record HasFollowed (x : CpuView) (q : Search) (n : ℕ) (y : CpuView) : Type 0 where
   pub pass : IsPrefix x.pass y.pass
-  pub is : y ≡ followed x q n y.pass
+  pub is : y ≡ cpu_after_link x q n y.pass
   pub holds : LinkHolds x.settings q n y.pass
   pub descends : (s : ℕ) → q.place ≡ AtNext s → Descends x.pass q s n y.pass
 
@@ -94,9 +94,9 @@ sought (Seek c kind name) n = did (Seek c kind name) Done ++ did (LoadLink c) (l
 sought _ n = []
 
 abbrev pub HasSought : Event → CpuView → ℕ → CpuView → Type 0
-HasSought (Seek c kind name) x n y = Makes (Seek c kind name) Done (Cpu x) (Cpu (seeking (key_with kind name) x))
-    × Makes (LoadLink c) (link_answer n) (Cpu (seeking (key_with kind name) x)) (Cpu y)
-    × HasFollowed (seeking (key_with kind name) x) (search_for (key_with kind name) x) n y
+HasSought (Seek c kind name) x n y = Makes (Seek c kind name) Done (Cpu x) (Cpu (cpu_after_seek (key_with kind name) x))
+    × Makes (LoadLink c) (link_answer n) (Cpu (cpu_after_seek (key_with kind name) x)) (Cpu y)
+    × HasFollowed (cpu_after_seek (key_with kind name) x) (search_for (key_with kind name) x) n y
 HasSought _ x n y = ⊥
 
 -- Record words
@@ -121,9 +121,9 @@ abbrev pub every_word : ℕ → RecordWords
 every_word n = record { number = n; kind = n; high = n; low = n; value = n }
 
 -- What a search makes of the word n found at its place, as the core does: of the record words it takes that one alone.
-abbrev pub made_of : Option Search → ℕ → Option Loaded
-made_of None n = None
-made_of (Some q) n = loaded q q.place (every_word n)
+abbrev pub loaded_of : Option Search → ℕ → Option Loaded
+loaded_of None n = None
+loaded_of (Some q) n = loaded_at q q.place (every_word n)
 
 abbrev pub loaded_answer : Option Loaded → Reply
 loaded_answer None = Done
@@ -131,10 +131,10 @@ loaded_answer (Some (On p w)) = Word w
 loaded_answer (Some (Over e)) = Found e
 
 -- the search q has loaded a record word
-abbrev pub searched : CpuView → Search → Option Loaded → CpuView
-searched x q None = x
-searched x q (Some (On p w)) = record x { search = Some (moved q p) }
-searched x q (Some (Over e)) = record x { search = None; found = Some e }
+abbrev pub cpu_after_record_word : CpuView → Search → Option Loaded → CpuView
+cpu_after_record_word x q None = x
+cpu_after_record_word x q (Some (On p w)) = record x { search = Some (search_with_place q p) }
+cpu_after_record_word x q (Some (Over e)) = record x { search = None; found = Some e }
 
 -- an entry found is lawful in the CPU's own pass, at some point from the start of the search on, and was attached in it
 abbrev pub FoundHolds : Search → Option Loaded → List Change → Type 0
@@ -143,8 +143,8 @@ FoundHolds q (Some (On place w)) p = Unit {0}
 FoundHolds q (Some (Over e)) p = IsLawful p q.start (length p) q.key (Some e) × IsAttached p e
 
 pub record HasSearched (x : CpuView) (q : Search) (n : ℕ) (y : CpuView) : Type 0 where
-  pub is : y ≡ searched x q (made_of (Some q) n)
-  pub holds : FoundHolds q (made_of (Some q) n) y.pass
+  pub is : y ≡ cpu_after_record_word x q (loaded_of (Some q) n)
+  pub holds : FoundHolds q (loaded_of (Some q) n) y.pass
   -- a number is that of an entry on which the search may stand
   pub number : (t : ℕ) → q.place ≡ AtNumber t → (e : Entry) × MayStandOn y.pass q t e × (e.number ≡ n)
 

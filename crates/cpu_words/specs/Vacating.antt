@@ -30,13 +30,13 @@ pub record MayVacate (k : KeeperView) (t : ℕ) : Type 0 where
   pub keeps_nothing : kept_at k.keeps t ≡ None
 
 -- its count words are 0, as they were collected
-abbrev pub vacated : KeeperView → ℕ → KeeperView
-vacated k t = record k { slots = slice_set k.slots t Vacant; counts = slice_set k.counts t (replicate 8 0) }
+abbrev pub keeper_after_vacate : KeeperView → ℕ → KeeperView
+keeper_after_vacate k t = record k { slots = slice_set k.slots t Vacant; counts = slice_set k.counts t (replicate 8 0) }
 
 abbrev pub vacant_from : Slot → KeeperView → ℕ → KeeperView
 vacant_from Vacant k t = k
 vacant_from (Live e) k t = k
-vacant_from (Retired e) k t = vacated k t
+vacant_from (Retired e) k t = keeper_after_vacate k t
 
 -- the view with the slot taken as vacant
 abbrev pub as_vacant : KeeperView → ℕ → KeeperView

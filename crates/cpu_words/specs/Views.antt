@@ -18,7 +18,7 @@ use Rattle.protocol.specs.State.{State, no_words, section_at, begin_at, depth_at
 use Rattle.registry_values.specs.Balances.{bias}
 use Rattle.registry_values.specs.Marks.{no_mark}
 use Rattle.registry_values.specs.Slots.{slot_at}
-use Rattle.protocol.specs.Invariant.{AreRows, IsIn, Occupies, subtracting_at, adding_at, is_adding_at}
+use Rattle.protocol.specs.Invariant.{AreRows, IsIn, Occupies, subtraction_due_at, addition_due_at, is_adding_at}
 use Rattle.cpu_words.specs.declared.view.InHand.{InHand}
 use Rattle.cpu_words.specs.declared.view.InHand.TheVariants.{Empty as NoEntry, Taking as TakingEntry, Giving as GivingEntry, Back as BackEntry}
 use Rattle.cpu_words.specs.declared.view.Looked.{Looked}
@@ -35,6 +35,9 @@ pub record Seated (X : Type 0) : Type 0 where
   pub view : X
   -- what the seat did, in order
   pub log : List Deed
+  -- what it has heard that the keeper did, in order, and what a note told of that
+  pub deeds : List Deed
+  pub laid : List Deed
 
 -- a table and what it was made for, to a contract
 pub record Named : Type 0 where
@@ -184,7 +187,7 @@ collected_one p = if p.0.collected then 1 else 0
 -- the total of a retired entry's slot is the net counts collected into it, less the references given up under the interlock: one that is given up as the keeper joins it is subtracted by the step after
 abbrev pub GivesUp : State → List ℕ → ℕ → ℕ → Type 0
 GivesUp g given_up t n = let row = zip (slice_index_or g.marks t []) (slice_index_or g.nets t []) in
-    total_at g.totals t + adding_at t g.due + number_at given_up n + bias * sum_by collected_one row ≡ bias * (1 + is_adding_at t g.due) + sum_by collected_net row + subtracting_at t g.due
+    total_at g.totals t + addition_due_at t g.due + number_at given_up n + bias * sum_by collected_one row ≡ bias * (1 + is_adding_at t g.due) + sum_by collected_net row + subtraction_due_at t g.due
 
 pub record KeeperShown (g : State) (k : KeeperView) : Type 0 where
   pub is : k ≡ keeper_view g (keeper_own k)

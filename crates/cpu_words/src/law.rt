@@ -9,8 +9,8 @@ use std::alloc::Global;
 use std::marker::{Brand, Model, PhantomData};
 use std::sync::ledger::Ledger;
 
-/// The rule: the words and the views of all seats show a state of the core, a list of events leads to it from the
-/// opening, and what each seat did is its part of that list.
+/// The rule: the words and the views of all seats show a state of the core, a list of events leads to it from the opening, what each seat did
+/// is its part of that list, and what a seat has heard of the keeper's deeds is a prefix of the keeper's part.
 pub struct RegistryRule;
 
 impl TableRule<u8, Logged, Settings> for RegistryRule {
@@ -133,9 +133,9 @@ pub(crate) struct CpuPlay<T: CpuTale> {
 }
 
 impl<T: CpuTale> Play<u8, Logged> for CpuPlay<T> {
-    ghost use Rattle.cpu_words.specs.Logs.{told_by_cpu};
+    ghost use Rattle.cpu_words.specs.Logs.{IsToldByCpu};
 
-    ghost then = { told_by_cpu T.does T.tells };
+    ghost then = { IsToldByCpu T.does T.tells };
 }
 
 /// A step of the keeper's seat.
@@ -144,9 +144,9 @@ pub(crate) struct KeeperPlay<T: KeeperTale> {
 }
 
 impl<T: KeeperTale> Play<u8, Logged> for KeeperPlay<T> {
-    ghost use Rattle.cpu_words.specs.Logs.{told_by_keeper};
+    ghost use Rattle.cpu_words.specs.Logs.{IsToldByKeeper};
 
-    ghost then = { told_by_keeper T.does T.tells };
+    ghost then = { IsToldByKeeper T.does T.tells };
 }
 
 /// A step of a local reference's seat.
@@ -155,7 +155,29 @@ pub(crate) struct ReferencePlay<T: ReferenceTale> {
 }
 
 impl<T: ReferenceTale> Play<u8, Logged> for ReferencePlay<T> {
-    ghost use Rattle.cpu_words.specs.Logs.{told_by_reference};
+    ghost use Rattle.cpu_words.specs.Logs.{IsToldByReference};
 
-    ghost then = { told_by_reference T.does T.tells };
+    ghost then = { IsToldByReference T.does T.tells };
+}
+
+/// A load of a CPU's seat that hears what a note laid beside it tells.
+pub(crate) struct CpuHearing<T: CpuTale> {
+    marker: PhantomData<T>,
+}
+
+impl<T: CpuTale> Play<u8, Logged> for CpuHearing<T> {
+    ghost use Rattle.cpu_words.specs.Logs.{heard_by_cpu};
+
+    ghost then = { heard_by_cpu T.does T.tells };
+}
+
+/// The same of the keeper's seat.
+pub(crate) struct KeeperHearing<T: KeeperTale> {
+    marker: PhantomData<T>,
+}
+
+impl<T: KeeperTale> Play<u8, Logged> for KeeperHearing<T> {
+    ghost use Rattle.cpu_words.specs.Logs.{heard_by_keeper};
+
+    ghost then = { heard_by_keeper T.does T.tells };
 }

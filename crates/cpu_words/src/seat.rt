@@ -1,4 +1,5 @@
-//! The seats. Each step on the words is made with one: to a contract a seat is its table, its view, and its log: what it did.
+//! The seats. Each step on the words is made with one: to a contract a seat is its table, its view, its log, which
+//! is what it did, and what it has heard of the keeper's log.
 
 ghost use Rattle.std.specs.Prelude.{◌≡◌, [], List};
 ghost use Rattle.cpu_words.specs.Views.{Seated, cpu_of, keeper_of, reference_of, note_of};
@@ -21,9 +22,9 @@ pub struct KeeperSeat {
 impl Model for KeeperSeat {
     ghost Value = { Seated KeeperView };
 
-    ghost view = { λ s. record { table = s.token.table_id; view = keeper_of s.token.me.0.view; log = s.token.me.0.log } };
+    ghost view = { λ s. record { table = s.token.table_id; view = keeper_of s.token.me.0.view; log = s.token.me.0.log; deeds = s.token.me.0.deeds; laid = s.token.me.0.laid } };
 
-    ghost invariant = { λ s. s.token.me ≡ (record { view = Keeper (keeper_of s.token.me.0.view); log = s.token.me.0.log }, []) };
+    ghost invariant = { λ s. s.token.me ≡ (record s.token.me.0 { view = Keeper (keeper_of s.token.me.0.view) }, []) };
 }
 
 /// The seat of a virtual CPU. A thread that owns it runs on that CPU.
@@ -35,9 +36,9 @@ pub struct CpuSeat {
 impl Model for CpuSeat {
     ghost Value = { Seated CpuView };
 
-    ghost view = { λ s. record { table = s.token.table_id; view = cpu_of s.token.me.0.view; log = s.token.me.0.log } };
+    ghost view = { λ s. record { table = s.token.table_id; view = cpu_of s.token.me.0.view; log = s.token.me.0.log; deeds = s.token.me.0.deeds; laid = s.token.me.0.laid } };
 
-    ghost invariant = { λ s. s.token.me ≡ (record { view = Cpu (cpu_of s.token.me.0.view); log = s.token.me.0.log }, []) };
+    ghost invariant = { λ s. s.token.me ≡ (record s.token.me.0 { view = Cpu (cpu_of s.token.me.0.view) }, []) };
 }
 
 /// The seat of a local reference. It can't be dropped: it is joined into a CPU's seat or the keeper's.
@@ -48,9 +49,9 @@ pub struct ReferenceSeat {
 impl Model for ReferenceSeat {
     ghost Value = { Seated ReferenceView };
 
-    ghost view = { λ s. record { table = s.token.table_id; view = reference_of s.token.me.0.view; log = s.token.me.0.log } };
+    ghost view = { λ s. record { table = s.token.table_id; view = reference_of s.token.me.0.view; log = s.token.me.0.log; deeds = s.token.me.0.deeds; laid = s.token.me.0.laid } };
 
-    ghost invariant = { λ s. s.token.me ≡ (record { view = Reference (reference_of s.token.me.0.view); log = s.token.me.0.log }, []) };
+    ghost invariant = { λ s. s.token.me ≡ (record s.token.me.0 { view = Reference (reference_of s.token.me.0.view) }, []) };
 }
 
 /// The seat of a note: a prefix of the history, to be heard by another seat.
@@ -62,7 +63,7 @@ pub struct NoteSeat {
 impl Model for NoteSeat {
     ghost Value = { Seated (List Change) };
 
-    ghost view = { λ s. record { table = s.token.table_id; view = note_of s.token.me.0.view; log = s.token.me.0.log } };
+    ghost view = { λ s. record { table = s.token.table_id; view = note_of s.token.me.0.view; log = s.token.me.0.log; deeds = s.token.me.0.deeds; laid = s.token.me.0.laid } };
 
-    ghost invariant = { λ s. s.token.me ≡ (record { view = Note (note_of s.token.me.0.view); log = s.token.me.0.log }, []) };
+    ghost invariant = { λ s. s.token.me ≡ (record s.token.me.0 { view = Note (note_of s.token.me.0.view) }, []) };
 }

@@ -32,12 +32,16 @@ pub struct Deed {
     pub reply: Reply,
 }
 
-/// A seat's view, and beside it all that the seat did, in order.
+/// A seat's view, and beside it all that the seat did, in order, and what it has heard of the keeper's deeds.
 pub struct Logged {
     /// What the seat knows now.
     pub view: View,
     /// What it did, the first deed first.
     pub log: LinkedList<Deed>,
+    /// What it has heard that the keeper did: a prefix of the keeper's log.
+    pub deeds: LinkedList<Deed>,
+    /// What a note told of the keeper's log, until the next load that hears.
+    pub laid: LinkedList<Deed>,
 }
 
 /// What the keeper's seat knows: all that only the keeper writes, and what it has counted itself.

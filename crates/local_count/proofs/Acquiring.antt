@@ -1,5 +1,5 @@
 -- A CPU acquires a local reference: why it may, and what it leaves.
-use Rattle.std.proofs.Common.{◌≡◌, ◌≢◌, ℕ, ◌+◌, ◌<◌, ◌≤◌, ◌&&◌, ◌^◌, nat_le, nat_lt, Bool, true, false, List, set, Option, Some, None, IsTrue, refl, sym, ap, ◌∙◌, subst, arith, leb-true}
+use Rattle.std.proofs.Common.{◌≡◌, ◌≢◌, ℕ, ◌+◌, ◌<◌, ◌≤◌, ◌&&◌, ◌^◌, nat_le, nat_lt, Bool, true, false, List, set, Option, Some, None, Result, Ok, Err, IfOk, IsTrue, refl, sym, ap, ◌∙◌, subst, arith, leb-true}
 use Rattle.std.specs.Prelude.{if◌then◌else◌}
 use Rattle.std.proofs.lemmas.Bool.{and_parts, ltb-false, ltb-true}
 use mathlib.Core.Logic.{dite}
@@ -23,10 +23,10 @@ use Rattle.cpu_words.specs.Views.{number_at, with_number, one_more}
 use Rattle.cpu_words.specs.Locals.{IsNetCount, IsPlaceCount, IsMetAlone, MayCount, HasCounted, HasSplit}
 use Rattle.cpu_words.proofs.by_cpu.Counting.{one_more_same, one_more_other}
 use Rattle.passive_list.specs.declared.place.Found.{Found}
-use Rattle.passive_list.specs.declared.place.Place.{Place}
-use Rattle.passive_list.specs.Cpus.{place_at, IsOurCpu}
+use Rattle.passive_list.specs.declared.place.NumberedCount.{NumberedCount}
+use Rattle.passive_list.specs.Cpus.{OnCpu, place_at, IsOurCpu}
 use Rattle.passive_list.proofs.Agreeing.{IsFoundAs}
-use Rattle.local_count.specs.References.{IsOurReference, IsFull, net_by}
+use Rattle.local_count.specs.References.{HasAcquired, IsOurReference, IsFull, net_by}
 use Rattle.local_count.proofs.Agreeing.{place_count, counted_agrees}
 
 -- Where a count is refused
@@ -51,7 +51,7 @@ begun_of : (x : CpuView) (k : Found) → IsFoundAs x k → 0 < k.number
 begun_of x k kept = let begun = (at_within x.pass kept.entry.number (Attach kept.entry) kept.attached).0 in omega (arith, begun, kept.number)
 
 -- below the limit the CPU may count the last found entry, which it keeps as k
-pub may_count : (z : TableId) (a : Settings) (t : TableId) (x : CpuView) (c w d : ℕ) (k : Found) (ps ns : List Place) (n : ℕ)
+pub may_count : (z : TableId) (a : Settings) (t : TableId) (x : CpuView) (c w d : ℕ) (k : Found) (ps ns : List NumberedCount) (n : ℕ)
     → IsOurCpu z a t x c w d k ps ns → IsFoundAs x k → n ≡ net_by (place_at ns k.slot) k.number → n < bias + a.count_limit → MayCount x k.slot k.number
 may_count z a t x c w d k ps ns n our kept count room = record {
   idle = our.idle;
@@ -72,7 +72,7 @@ some_count a fit =
     leb-true 1 a.count_limit (and_parts (nat_le 1 a.count_limit) (nat_le a.count_limit (2 ^ 40)) limits.1).0
 
 -- else it is full
-pub full_of : (z : TableId) (a : Settings) (t : TableId) (x : CpuView) (c w d : ℕ) (k : Found) (ps ns : List Place) (n : ℕ) (kept : IsFoundAs x k)
+pub full_of : (z : TableId) (a : Settings) (t : TableId) (x : CpuView) (c w d : ℕ) (k : Found) (ps ns : List NumberedCount) (n : ℕ) (kept : IsFoundAs x k)
     → IsOurCpu z a t x c w d k ps ns → n ≡ net_by (place_at ns k.slot) k.number → bias + a.count_limit ≤ n → IsFull x kept.entry
 full_of z a t x c w d k ps ns n kept our count above =
     let e = kept.entry in
@@ -111,7 +111,7 @@ acquired_of x y w v e found empty counted cut =
 counted_it : (x y : CpuView) (k : Found) (kept : IsFoundAs x k) → HasCounted x k.slot k.number y → HasCounted x kept.entry.slot kept.entry.number y
 counted_it x y k kept = subst (λ (p : ℕ × ℕ). HasCounted x p.0 p.1 y) (λ i. (kept.slot i, kept.number i))
 
-pub acquired_reference : (z : TableId) (a : Settings) (t : TableId) (x : CpuView) (c w d : ℕ) (k : Found) (ps ns : List Place) (y l : CpuView) (v : ReferenceView)
+pub acquired_reference : (z : TableId) (a : Settings) (t : TableId) (x : CpuView) (c w d : ℕ) (k : Found) (ps ns : List NumberedCount) (y l : CpuView) (v : ReferenceView)
     → IsOurCpu z a t x c w d k ps ns → IsFoundAs x k → HasCounted x k.slot k.number y → HasSplit y l v → IsOurReference v k.number k.slot k.kind
 acquired_reference z a t x c w d k ps ns y l v our kept counted cut =
     let left = acquired_of x y l v kept.entry kept.found our.idle.hand (counted_it x y k kept counted) cut in
@@ -119,7 +119,7 @@ acquired_reference z a t x c w d k ps ns y l v our kept counted cut =
     record { number = sym kept.number; slot = sym kept.slot; kind = sym kept.kind; begun = begun_of x k kept; few = kept.few } in
     subst (λ (r : ReferenceView). IsOurReference r k.number k.slot k.kind) (sym left.is) there
 
-pub acquired_agrees : (z : TableId) (a : Settings) (t u : TableId) (x : CpuView) (c w d : ℕ) (k : Found) (ps ns : List Place) (y l : CpuView) (v : ReferenceView) (n : ℕ)
+pub acquired_agrees : (z : TableId) (a : Settings) (t u : TableId) (x : CpuView) (c w d : ℕ) (k : Found) (ps ns : List NumberedCount) (y l : CpuView) (v : ReferenceView) (n : ℕ)
     → IsOurCpu z a t x c w d k ps ns → IsFoundAs x k → u ≡ t → HasCounted x k.slot k.number y → HasSplit y l v → IsNetCount x k.number n → n < bias + x.settings.count_limit → IsMetAlone x k.slot k.number
     → IsOurCpu z a u l c w d k ps (set ns k.slot (record { number = k.number; count = n + 1 }))
 acquired_agrees z a t u x c w d k ps ns y l v n our kept same counted cut net room alone =
@@ -131,3 +131,14 @@ acquired_agrees z a t u x c w d k ps ns y l v n our kept same counted cut net ro
     let limit : x.settings.count_limit ≤ greatest_limit = subst (λ (b : Settings). b.count_limit ≤ greatest_limit) (sym our.settings) (ranges a our.fit).counts in
     subst (λ (q : CpuView). IsOurCpu z a u q c w d k ps (set ns k.slot (record { number = k.number; count = n + 1 }))) (sym view)
     (counted_agrees z a t u x c w d k ps ns (one_more x.acquired k.number) x.released k.slot k.number (n + 1) our same kept.few alone count (omega (arith, room, limit)) (λ m off. (one_more_other x.acquired k.number m off, refl)))
+
+-- A CPU with a share: an acquire leaves what the share has
+
+acquired_beside : (n : ℕ) (x a y : OnCpu) (v : ReferenceView) → record x { made = n } ≡ a → HasAcquired x y v → HasAcquired a (record y { made = n }) v
+acquired_beside n x a y v is has = subst (λ (o : OnCpu). HasAcquired o (record y { made = n }) v) is (record { entry = has.entry; found = has.found; is = has.is; cpu = ap (λ (o : OnCpu). record o { made = n }) has.cpu })
+
+pub acquired_ok : (n : ℕ) (x a y : OnCpu) (v : ReferenceView) (r : Result ReferenceView Refusal) → r ≡ Ok v → record x { made = n } ≡ a → HasAcquired x y v → IfOk r (λ u. HasAcquired a (record y { made = n }) u)
+acquired_ok n x a y v r ok is has = subst (λ (q : Result ReferenceView Refusal). IfOk q (λ u. HasAcquired a (record y { made = n }) u)) (sym ok) (acquired_beside n x a y v is has)
+
+pub acquired_err : (n : ℕ) (a y : OnCpu) (f : Refusal) (r : Result ReferenceView Refusal) → r ≡ Err f → IfOk r (λ u. HasAcquired a (record y { made = n }) u)
+acquired_err n a y f r err = subst (λ (q : Result ReferenceView Refusal). IfOk q (λ u. HasAcquired a (record y { made = n }) u)) (sym err) tt

@@ -12,29 +12,29 @@ use Rattle.cpu_words.specs.Views.{number_at, with_number}
 use Rattle.cpu_words.specs.Locals.{IsPlaceCount, IsMetAlone}
 use Rattle.cpu_words.proofs.by_cpu.Counting.{with_number_same, with_number_other}
 use Rattle.passive_list.specs.declared.place.Found.{Found}
-use Rattle.passive_list.specs.declared.place.Place.{Place}
+use Rattle.passive_list.specs.declared.place.NumberedCount.{NumberedCount}
 use Rattle.local_count.specs.References.{net_by}
 use Rattle.passive_list.specs.Cpus.{no_place, place_at, NetAgree, IsOurCpu}
 
 -- the place of a slot says a number's net count, where it is for that number
-pub place_here : (x : CpuView) (l : List Place) (t n : ℕ) → NetAgree x l → 0 < n → (place_at l t).number ≡ n → IsPlaceCount x t n (place_at l t).count
+pub place_here : (x : CpuView) (l : List NumberedCount) (t n : ℕ) → NetAgree x l → 0 < n → (place_at l t).number ≡ n → IsPlaceCount x t n (place_at l t).count
 place_here x l t n agree begun same = record {
   met = λ _. subst (λ m. (place_at l t).count + number_at x.released m ≡ bias + number_at x.acquired m) same (agree.counts t (λ none. absurd (omega arith)));
   other = λ off. absurd (off (sym (agree.met t) ∙ same));
 }
 
 -- where it is for another number, this one's count is none
-pub place_other : (x : CpuView) (l : List Place) (t n : ℕ) → NetAgree x l → (place_at l t).number ≢ n → IsPlaceCount x t n bias
+pub place_other : (x : CpuView) (l : List NumberedCount) (t n : ℕ) → NetAgree x l → (place_at l t).number ≢ n → IsPlaceCount x t n bias
 place_other x l t n agree off = record { met = λ same. absurd (off (agree.met t ∙ same)); other = λ _. refl }
 
 -- so it is by `net_by`
-pub place_count : (x : CpuView) (l : List Place) (t n w : ℕ) → NetAgree x l → 0 < n → w ≡ net_by (place_at l t) n → IsPlaceCount x t n w
+pub place_count : (x : CpuView) (l : List NumberedCount) (t n w : ℕ) → NetAgree x l → 0 < n → w ≡ net_by (place_at l t) n → IsPlaceCount x t n w
 place_count x l t n w agree begun is = dite (ℕ_discrete (place_at l t).number n)
     (λ (same : (place_at l t).number ≡ n). subst (IsPlaceCount x t n) (sym (is ∙ ap (λ b. cond b (place_at l t).count bias) (eq-eqb (place_at l t).number n same))) (place_here x l t n agree begun same))
     (λ (off : (place_at l t).number ≢ n). subst (IsPlaceCount x t n) (sym (is ∙ ap (λ b. cond b (place_at l t).count bias) (ne_eqb (place_at l t).number n off))) (place_other x l t n agree off))
 
 -- and within the greatest limit
-pub net_most : (x : CpuView) (l : List Place) (t n w : ℕ) → NetAgree x l → w ≡ net_by (place_at l t) n → w ≤ bias + greatest_limit
+pub net_most : (x : CpuView) (l : List NumberedCount) (t n w : ℕ) → NetAgree x l → w ≡ net_by (place_at l t) n → w ≤ bias + greatest_limit
 net_most x l t n w agree is = subst (λ k. k ≤ bias + greatest_limit) (sym is) (either ((place_at l t).number == n))
   where
     either : (b : Bool) → cond b (place_at l t).count bias ≤ bias + greatest_limit
@@ -43,11 +43,11 @@ net_most x l t n w agree is = subst (λ k. k ≤ bias + greatest_limit) (sym is)
 
 -- The place of a slot is set to a number that was met in no other slot, and its net count
 
-pub net_set : (x y : CpuView) (l : List Place) (t n v : ℕ) → NetAgree x l → t < 32 → IsMetAlone x t n → y.met ≡ with_number x.met t n → v + number_at y.released n ≡ bias + number_at y.acquired n → v ≤ bias + greatest_limit
+pub net_set : (x y : CpuView) (l : List NumberedCount) (t n v : ℕ) → NetAgree x l → t < 32 → IsMetAlone x t n → y.met ≡ with_number x.met t n → v + number_at y.released n ≡ bias + number_at y.acquired n → v ≤ bias + greatest_limit
     → ((m : ℕ) → m ≢ n → (number_at y.acquired m ≡ number_at x.acquired m) × (number_at y.released m ≡ number_at x.released m)) → NetAgree y (set l t (record { number = n; count = v }))
 net_set x y l t n v agree lt alone met count most same = record { size = length-set l t place ∙ agree.size; met = λ u. found u; counts = λ u some. counted u some; most = λ u. below u }
   where
-    place : Place
+    place : NumberedCount
     place = record { number = n; count = v }
 
     within : t < length l
@@ -61,10 +61,10 @@ net_set x y l t n v agree lt alone met count most same = record { size = length-
 
     found : (u : ℕ) → (place_at (set l t place) u).number ≡ number_at y.met u
     found u = dite (ℕ_discrete u t)
-        (λ (on : u ≡ t). ap (λ k. (place_at (set l t place) k).number) on ∙ ap (λ (p : Place). p.number) here ∙ sym (ap (λ k. number_at y.met k) on ∙ ap (λ m. number_at m t) met ∙ with_number_same x.met t n))
-        (λ (off : u ≢ t). ap (λ (p : Place). p.number) (other u off) ∙ agree.met u ∙ sym (ap (λ m. number_at m u) met ∙ with_number_other x.met t n u off))
+        (λ (on : u ≡ t). ap (λ k. (place_at (set l t place) k).number) on ∙ ap (λ (p : NumberedCount). p.number) here ∙ sym (ap (λ k. number_at y.met k) on ∙ ap (λ m. number_at m t) met ∙ with_number_same x.met t n))
+        (λ (off : u ≢ t). ap (λ (p : NumberedCount). p.number) (other u off) ∙ agree.met u ∙ sym (ap (λ m. number_at m u) met ∙ with_number_other x.met t n u off))
 
-    Counts : Place → Type 0
+    Counts : NumberedCount → Type 0
     Counts p = p.count + number_at y.released p.number ≡ bias + number_at y.acquired p.number
 
     counted : (u : ℕ) → (place_at (set l t place) u).number ≢ 0 → Counts (place_at (set l t place) u)
@@ -74,7 +74,7 @@ net_set x y l t n v agree lt alone met count most same = record { size = length-
         let p = place_at l u in
         let m = p.number in
         let apart : m ≢ n = λ is. off (alone u (sym (agree.met u) ∙ is)) in
-        let was : p.count + number_at x.released m ≡ bias + number_at x.acquired m = agree.counts u (λ none. some (ap (λ (q : Place). q.number) (other u off) ∙ none)) in
+        let was : p.count + number_at x.released m ≡ bias + number_at x.acquired m = agree.counts u (λ none. some (ap (λ (q : NumberedCount). q.number) (other u off) ∙ none)) in
         let on = same m apart in
         let a : number_at y.acquired m ≡ number_at x.acquired m = on.0 in
         let b : number_at y.released m ≡ number_at x.released m = on.1 in
@@ -82,12 +82,12 @@ net_set x y l t n v agree lt alone met count most same = record { size = length-
 
     below : (u : ℕ) → (place_at (set l t place) u).count ≤ bias + greatest_limit
     below u = dite (ℕ_discrete u t)
-        (λ (on : u ≡ t). subst (λ (p : Place). p.count ≤ bias + greatest_limit) (sym (ap (place_at (set l t place)) on ∙ here)) most)
-        (λ (off : u ≢ t). subst (λ (p : Place). p.count ≤ bias + greatest_limit) (sym (other u off)) (agree.most u))
+        (λ (on : u ≡ t). subst (λ (p : NumberedCount). p.count ≤ bias + greatest_limit) (sym (ap (place_at (set l t place)) on ∙ here)) most)
+        (λ (off : u ≢ t). subst (λ (p : NumberedCount). p.count ≤ bias + greatest_limit) (sym (other u off)) (agree.most u))
 
 -- The data agree with the view after a count, up or down
 
-pub counted_agrees : (z : TableId) (a : Settings) (t u : TableId) (x : CpuView) (c w d : ℕ) (o : Found) (ps ns : List Place) (acquired released : List ℕ) (s n v : ℕ)
+pub counted_agrees : (z : TableId) (a : Settings) (t u : TableId) (x : CpuView) (c w d : ℕ) (o : Found) (ps ns : List NumberedCount) (acquired released : List ℕ) (s n v : ℕ)
     → IsOurCpu z a t x c w d o ps ns → u ≡ t → s < 32 → IsMetAlone x s n → v + number_at released n ≡ bias + number_at acquired n → v ≤ bias + greatest_limit
     → ((m : ℕ) → m ≢ n → (number_at acquired m ≡ number_at x.acquired m) × (number_at released m ≡ number_at x.released m))
     → IsOurCpu z a u (record x { acquired = acquired; released = released; met = with_number x.met s n }) c w d o ps (set ns s (record { number = n; count = v }))
@@ -106,9 +106,9 @@ counted_agrees z a t u x c w d o ps ns acquired released s n v our same lt alone
 }
 
 -- the seat's table and view are as they were
-pub same_agrees : (z : TableId) (a : Settings) (t u : TableId) (x y : CpuView) (c w d : ℕ) (o : Found) (ps ns : List Place) → IsOurCpu z a t x c w d o ps ns → u ≡ t → y ≡ x → IsOurCpu z a u y c w d o ps ns
+pub same_agrees : (z : TableId) (a : Settings) (t u : TableId) (x y : CpuView) (c w d : ℕ) (o : Found) (ps ns : List NumberedCount) → IsOurCpu z a t x c w d o ps ns → u ≡ t → y ≡ x → IsOurCpu z a u y c w d o ps ns
 same_agrees z a t u x y c w d o ps ns our same view = subst (λ (p : TableId × CpuView). IsOurCpu z a p.0 p.1 c w d o ps ns) (λ k. (sym same k, sym view k)) our
 
 -- a place that is told by an equation is this one
-pub stored_agrees : (z : TableId) (a : Settings) (t : TableId) (x : CpuView) (c w d : ℕ) (o : Found) (ps ns : List Place) (s : ℕ) (p q : Place) → q ≡ p → IsOurCpu z a t x c w d o ps (set ns s p) → IsOurCpu z a t x c w d o ps (set ns s q)
-stored_agrees z a t x c w d o ps ns s p q is = subst (λ (r : Place). IsOurCpu z a t x c w d o ps (set ns s r)) (sym is)
+pub stored_agrees : (z : TableId) (a : Settings) (t : TableId) (x : CpuView) (c w d : ℕ) (o : Found) (ps ns : List NumberedCount) (s : ℕ) (p q : NumberedCount) → q ≡ p → IsOurCpu z a t x c w d o ps (set ns s p) → IsOurCpu z a t x c w d o ps (set ns s q)
+stored_agrees z a t x c w d o ps ns s p q is = subst (λ (r : NumberedCount). IsOurCpu z a t x c w d o ps (set ns s r)) (sym is)

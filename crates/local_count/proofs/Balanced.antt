@@ -7,7 +7,7 @@ use Rattle.protocol.specs.declared.state.Due.{Due}
 use Rattle.protocol.specs.declared.state.Due.TheVariants.{Rest, Adding, Subtracting}
 use Rattle.registry_values.specs.declared.slot.Slot.{Slot}
 use Rattle.registry_values.specs.declared.slot.Slot.TheVariants.{Retired}
-use Rattle.protocol.specs.Invariant.{IsIn, Balances, held_at, adding_at, is_adding_at, subtracting_at}
+use Rattle.protocol.specs.Invariant.{IsIn, Balances, held_at, addition_due_at, is_adding_at, subtraction_due_at}
 use Rattle.registry_values.specs.Slots.{slot_of, slot_at}
 use Rattle.registry_values.specs.Marks.{are_collected}
 use Rattle.protocol.specs.State.{State, total_at, kept_at}
@@ -34,13 +34,13 @@ held_in g n t = held_at g.locals g.hands g.keeps g.due n t
 
 -- nothing that was collected of t waits to be added to its total
 abbrev pub NothingToAdd : Due → ℕ → Type 0
-NothingToAdd due t = (adding_at t due ≡ 0) × (is_adding_at t due ≡ 0)
+NothingToAdd due t = (addition_due_at t due ≡ 0) × (is_adding_at t due ≡ 0)
 
 pub none_at_rest : (due : Due) (t : ℕ) → due ≡ Rest → NothingToAdd due t
-none_at_rest due t rest = (ap (adding_at t) rest, ap (is_adding_at t) rest)
+none_at_rest due t rest = (ap (addition_due_at t) rest, ap (is_adding_at t) rest)
 
 pub none_at_subtraction : (due : Due) (t u : ℕ) → due ≡ Subtracting u → NothingToAdd due t
-none_at_subtraction due t u is = (ap (adding_at t) is, ap (is_adding_at t) is)
+none_at_subtraction due t u is = (ap (addition_due_at t) is, ap (is_adding_at t) is)
 
 -- the total of a retired entry's slot is what is held, once all words are collected
 pub total_collected : (g : State) (k : KeeperView) (t : ℕ) (e : Entry) → Good g → KeeperShown g k → NothingToAdd k.due t → slot_at k.slots t ≡ Retired e → are_collected k.settings.cpus (row_of k t) ≡ true
@@ -56,7 +56,7 @@ total_collected g k t e good had none retired all =
     (λ (lt : c < g.settings.cpus). on.emptied c t e gone (collected_at (fit_of g good.holds) t c (in_within g.slots t e (inr gone)) lt told))
     (λ (ge : g.settings.cpus ≤ c). on.beyond c t ge)
     (cases_lt c g.settings.cpus) in
-    let adding : adding_at t g.due ≡ 0 = ap (adding_at t) (sym seen.due) ∙ none.0 in
+    let adding : addition_due_at t g.due ≡ 0 = ap (addition_due_at t) (sym seen.due) ∙ none.0 in
     let is_adding : is_adding_at t g.due ≡ 0 = ap (is_adding_at t) (sym seen.due) ∙ none.1 in
     let balance : Balances row (total_at g.totals t) held 0 0 =
     subst (λ n. Balances row (total_at g.totals t) held 0 n) is_adding (subst (λ n. Balances row (total_at g.totals t) held n (is_adding_at t g.due)) adding (on.balance t e (inr gone))) in
@@ -69,7 +69,7 @@ total_near g k t e good had none is =
     let seen = seen_by_keeper g k good had in
     let here : IsIn e (slot_at g.slots t) = subst (λ (x : List Slot). IsIn e (slot_at x t)) seen.slots is in
     let total = ap (λ (x : List ℕ). total_at x t) seen.totals in
-    let range = total_range good.holds.balance (fit_of g good.holds) t e (ap (adding_at t) (sym seen.due) ∙ none.0) (ap (is_adding_at t) (sym seen.due) ∙ none.1) here in
+    let range = total_range good.holds.balance (fit_of g good.holds) t e (ap (addition_due_at t) (sym seen.due) ∙ none.0) (ap (is_adding_at t) (sym seen.due) ∙ none.1) here in
     (omega (arith, range.0, total), omega (arith, range.1, total))
 
 -- Of the view
@@ -122,7 +122,7 @@ held_given_up k t is_shown due =
     let seen = seen_by_keeper g k is_shown.good is_shown.shown in
     let of : g.due ≡ Subtracting t = sym seen.due ∙ due in
     let gone = due_subtracting g.settings.cpus g.slots g.hands g.due g.locals t of is_shown.good.holds.references in
-    let one : subtracting_at t g.due ≡ 1 = ap (subtracting_at t) of ∙ one_self t t refl in
+    let one : subtraction_due_at t g.due ≡ 1 = ap (subtraction_due_at t) of ∙ one_self t t refl in
     held_from g k t gone.0 is_shown.good is_shown.shown (none_at_subtraction k.due t t due) (inr (ap (λ (x : List Slot). slot_at x t) seen.slots ∙ gone.1)) (omega (arith, one))
 
 -- by the reference that the slot s keeps

@@ -10,7 +10,7 @@ use Rattle.protocol.specs.declared.state.Due.TheVariants.{Rest}
 use Rattle.registry_values.specs.declared.mark.Mark.{Mark}
 use Rattle.registry_values.specs.declared.slot.Slot.{Slot}
 use Rattle.registry_values.specs.declared.slot.Slot.TheVariants.{Vacant, Live, Retired}
-use Rattle.registry_values.specs.Marks.{collected, are_collected, no_mark}
+use Rattle.registry_values.specs.Marks.{mark_after_collect, are_collected, no_mark}
 use Rattle.registry_values.specs.Balances.{bias}
 use Rattle.registry_values.specs.Slots.{slot_at}
 use Rattle.protocol.specs.State.{total_at}
@@ -23,10 +23,10 @@ use Rattle.cpu_words.specs.Draining.{row_of, HasCollected, MayTotalAdd, HasAdded
 use Rattle.cpu_words.specs.Rule.{IsShown}
 use Rattle.cpu_words.specs.Steps.{Makes}
 use Rattle.cpu_words.proofs.shown.KeepersShown.{step_is_shown}
-use Rattle.passive_list.specs.declared.keeper.Row.{Row}
+use Rattle.passive_list.specs.declared.keeper.KeptSlot.{KeptSlot}
 use Rattle.passive_list.specs.Keepers.{OnKeeper, no_row, row_at, state_of, states_of, TakenAs, IsAtRest, RowsAgree, IsOurKeeper}
 use Rattle.passive_list.proofs.Rows.{state_at, not_vacant_within, retired_in, row_stays, rows_set}
-use Rattle.local_count.specs.Draining.{collecting, HasCollectedInto, AreHeld}
+use Rattle.local_count.specs.Draining.{keeper_after_collect, HasCollectedInto, AreHeld}
 use Rattle.local_count.proofs.Balanced.{none_at_rest, total_collected, bias_within, adding_fits}
 
 -- The marks and the total of one slot change
@@ -34,7 +34,7 @@ use Rattle.local_count.proofs.Balanced.{none_at_rest, total_collected, bias_with
 abbrev pub with_total : KeeperView → ℕ → List Mark → ℕ → List ℕ → KeeperView
 with_total k t marks total given_up = record k { marks = set k.marks t marks; totals = set k.totals t total; due = Rest; given_up = given_up }
 
-abbrev pub row_with_total : Row → List Mark → ℕ → Row
+abbrev pub row_with_total : KeptSlot → List Mark → ℕ → KeptSlot
 row_with_total r marks total = record { state = r.state; marks = marks; total = total; keeps = r.keeps }
 
 with_total_at_rest : (a : Settings) (k : KeeperView) (t : ℕ) (marks : List Mark) (total : ℕ) (given_up : List ℕ) → IsAtRest a k → length marks ≡ 8 → IsAtRest a (with_total k t marks total given_up)
@@ -57,7 +57,7 @@ with_total_at_rest a k t marks total given_up at size = record {
   room = at.room;
 }
 
-pub with_total_rows : (a : Settings) (k : KeeperView) (rows : List Row) (t : ℕ) (marks : List Mark) (total : ℕ) (given_up : List ℕ) → IsAtRest a k → RowsAgree a k rows → (slot_at (states_of rows) t ≡ Vacant → ⊥)
+pub with_total_rows : (a : Settings) (k : KeeperView) (rows : List KeptSlot) (t : ℕ) (marks : List Mark) (total : ℕ) (given_up : List ℕ) → IsAtRest a k → RowsAgree a k rows → (slot_at (states_of rows) t ≡ Vacant → ⊥)
     → RowsAgree a (with_total k t marks total given_up) (set rows t (row_with_total (row_at rows t) marks total))
 with_total_rows a k rows t marks total given_up at agree some =
     let l = with_total k t marks total given_up in
@@ -81,7 +81,7 @@ with_total_rows a k rows t marks total given_up at agree some =
     stays (Retired e) off is = is
 
 -- the keeper's data agree with such a view, where the slot isn't vacant
-pub with_total_keeper : (z : TableId) (a : Settings) (table table' : TableId) (k l : KeeperView) (its : Settings) (rows : List Row) (n t : ℕ) (marks : List Mark) (total : ℕ) (given_up : List ℕ)
+pub with_total_keeper : (z : TableId) (a : Settings) (table table' : TableId) (k l : KeeperView) (its : Settings) (rows : List KeptSlot) (n t : ℕ) (marks : List Mark) (total : ℕ) (given_up : List ℕ)
     → IsOurKeeper z a table k its rows n → (slot_at (states_of rows) t ≡ Vacant → ⊥) → length marks ≡ 8 → table' ≡ table → l ≡ with_total k t marks total given_up → IsShown l
     → IsOurKeeper z a table' l its (set rows t (row_with_total (row_at rows t) marks total)) n
 with_total_keeper z a table table' k l its rows n t marks total given_up our some size same change is_shown = record {
@@ -96,13 +96,13 @@ with_total_keeper z a table table' k l its rows n t marks total given_up our som
 -- A collection
 
 -- the word w was collected for the retired entry of t, and is to be added to the total in the slot's row
-pub record CollectionTells (k : KeeperView) (rows : List Row) (t w : ℕ) : Type 0 where
+pub record CollectionTells (k : KeeperView) (rows : List KeptSlot) (t w : ℕ) : Type 0 where
   pub place : t < 32
   pub floor : bias ≤ (row_at rows t).total + w
   pub fits : (row_at rows t).total + w < 2 ^ 64
   pub may : (old : ℕ) × MayTotalAdd k t old ((row_at rows t).total + w - bias)
 
-pub collection_tells : (z : TableId) (a : Settings) (table : TableId) (k l : KeeperView) (its : Settings) (rows : List Row) (n : ℕ) (x : OnKeeper) (t c w : ℕ) (e : Entry) → IsOurKeeper z a table k its rows n → record { view = k; slots = states_of rows } ≡ x
+pub collection_tells : (z : TableId) (a : Settings) (table : TableId) (k l : KeeperView) (its : Settings) (rows : List KeptSlot) (n : ℕ) (x : OnKeeper) (t c w : ℕ) (e : Entry) → IsOurKeeper z a table k its rows n → record { view = k; slots = states_of rows } ≡ x
     → slot_at x.slots t ≡ Retired e → HasCollected k t c w l → Makes (Collect t c) (Word w) (Keeper k) (Keeper l) → CollectionTells l rows t w
 collection_tells z a table k l its rows n x t c w e our is retired change made =
     let lt = (retired_in a k rows t e our.rows (ap (λ (y : OnKeeper). slot_at y.slots t) is ∙ retired)).0 in
@@ -118,15 +118,15 @@ collection_tells z a table k l its rows n x t c w e our is retired change made =
     }
 
 -- the view after it, and the word is added
-added_is : (k l b : KeeperView) (rows : List Row) (t c w : ℕ) (m : Mark) → (row_at rows t).marks ≡ row_of k t → HasCollected k t c w l → m ≡ collected (get_or (row_at rows t).marks c no_mark) → HasAdded l t ((row_at rows t).total + w - bias) b
+added_is : (k l b : KeeperView) (rows : List KeptSlot) (t c w : ℕ) (m : Mark) → (row_at rows t).marks ≡ row_of k t → HasCollected k t c w l → m ≡ mark_after_collect (get_or (row_at rows t).marks c no_mark) → HasAdded l t ((row_at rows t).total + w - bias) b
     → b ≡ with_total k t (set (row_at rows t).marks c m) ((row_at rows t).total + w - bias) k.given_up
 added_is k l b rows t c w m row change mark added =
     let v = (row_at rows t).total + w - bias in
     added ∙ ap (λ (x : KeeperView). record x { totals = set x.totals t v; due = Rest }) change
-    ∙ sym (ap (λ (x : Mark). with_total k t (set (row_at rows t).marks c x) v k.given_up) mark ∙ ap (λ (ms : List Mark). with_total k t (set ms c (collected (get_or ms c no_mark))) v k.given_up) row)
+    ∙ sym (ap (λ (x : Mark). with_total k t (set (row_at rows t).marks c x) v k.given_up) mark ∙ ap (λ (ms : List Mark). with_total k t (set ms c (mark_after_collect (get_or ms c no_mark))) v k.given_up) row)
 
-pub collected_keeper : (z : TableId) (a : Settings) (table table' : TableId) (k l b : KeeperView) (its : Settings) (rows : List Row) (n : ℕ) (x : OnKeeper) (t c w : ℕ) (e : Entry) (m : Mark) → IsOurKeeper z a table k its rows n → record { view = k; slots = states_of rows } ≡ x
-    → slot_at x.slots t ≡ Retired e → HasCollected k t c w l → m ≡ collected (get_or (row_at rows t).marks c no_mark) → HasAdded l t ((row_at rows t).total + w - bias) b → Makes (TotalAdd t) Done (Keeper l) (Keeper b) → table' ≡ table
+pub collected_keeper : (z : TableId) (a : Settings) (table table' : TableId) (k l b : KeeperView) (its : Settings) (rows : List KeptSlot) (n : ℕ) (x : OnKeeper) (t c w : ℕ) (e : Entry) (m : Mark) → IsOurKeeper z a table k its rows n → record { view = k; slots = states_of rows } ≡ x
+    → slot_at x.slots t ≡ Retired e → HasCollected k t c w l → m ≡ mark_after_collect (get_or (row_at rows t).marks c no_mark) → HasAdded l t ((row_at rows t).total + w - bias) b → Makes (TotalAdd t) Done (Keeper l) (Keeper b) → table' ≡ table
     → IsOurKeeper z a table' b its (set rows t (row_with_total (row_at rows t) (set (row_at rows t).marks c m) ((row_at rows t).total + w - bias))) n
 collected_keeper z a table table' k l b its rows n x t c w e m our is retired change mark added made same =
     let here = ap (λ (y : OnKeeper). slot_at y.slots t) is ∙ retired in
@@ -136,7 +136,7 @@ collected_keeper z a table table' k l b its rows n x t c w e m our is retired ch
     let long : length (set (row_at rows t).marks c m) ≡ 8 = length-set (row_at rows t).marks c m ∙ (ap (λ (ms : List Mark). length ms) row ∙ our.view.sized.mark_rows t (omega (arith, lt, size))) in
     with_total_keeper z a table table' k b its rows n t (set (row_at rows t).marks c m) ((row_at rows t).total + w - bias) k.given_up our (λ v. let q : Retired e ≡ Vacant = sym here ∙ v in cc) long same (added_is k l b rows t c w m row change mark added) (step_is_shown (TotalAdd t) Done l b made)
 
-pub collected_into : (z : TableId) (a : Settings) (table : TableId) (k l b : KeeperView) (its : Settings) (rows : List Row) (n : ℕ) (x : OnKeeper) (t c w : ℕ) (e : Entry) (r : Row) → IsOurKeeper z a table k its rows n → record { view = k; slots = states_of rows } ≡ x
+pub collected_into : (z : TableId) (a : Settings) (table : TableId) (k l b : KeeperView) (its : Settings) (rows : List KeptSlot) (n : ℕ) (x : OnKeeper) (t c w : ℕ) (e : Entry) (r : KeptSlot) → IsOurKeeper z a table k its rows n → record { view = k; slots = states_of rows } ≡ x
     → slot_at x.slots t ≡ Retired e → HasCollected k t c w l → Makes (Collect t c) (Word w) (Keeper k) (Keeper l) → HasAdded l t ((row_at rows t).total + w - bias) b → Makes (TotalAdd t) Done (Keeper l) (Keeper b) → r.state ≡ (row_at rows t).state
     → HasCollectedInto x t c (record { view = b; slots = states_of (set rows t r) })
 collected_into z a table k l b its rows n x t c w e r our is retired change made added made_too state =
@@ -147,7 +147,7 @@ collected_into z a table k l b its rows n x t c w e r our is retired change made
       word = w;
       collected = subst (λ (y : KeeperView). Makes (Collect t c) (Word w) (Keeper k) (Keeper y)) change made;
       added = subst (λ (y : KeeperView). Makes (TotalAdd t) Done (Keeper y) (Keeper b)) change made_too;
-      view = added ∙ ap (λ (y : KeeperView). record y { totals = set y.totals t v; due = Rest }) change ∙ (λ i. record (collecting k t c w) { totals = set k.totals t (total i); due = sym our.view.rest i });
+      view = added ∙ ap (λ (y : KeeperView). record y { totals = set y.totals t v; due = Rest }) change ∙ (λ i. record (keeper_after_collect k t c w) { totals = set k.totals t (total i); due = sym our.view.rest i });
       slots = map-set_same state_of rows t r no_row state;
     }
 
@@ -159,7 +159,7 @@ pub record TotalTells (k : KeeperView) (t total : ℕ) : Type 0 where
   pub held : AreHeld k t (total - bias)
 
 -- the row of a retired slot has the total, which is the bias and what is held
-pub total_tells : (z : TableId) (a : Settings) (table : TableId) (k : KeeperView) (its : Settings) (rows : List Row) (n : ℕ) (x : OnKeeper) (t : ℕ) (e : Entry) → IsOurKeeper z a table k its rows n → record { view = k; slots = states_of rows } ≡ x
+pub total_tells : (z : TableId) (a : Settings) (table : TableId) (k : KeeperView) (its : Settings) (rows : List KeptSlot) (n : ℕ) (x : OnKeeper) (t : ℕ) (e : Entry) → IsOurKeeper z a table k its rows n → record { view = k; slots = states_of rows } ≡ x
     → slot_at x.slots t ≡ Retired e → are_collected a.cpus (row_of x.view t) ≡ true → TotalTells x.view t (row_at rows t).total
 total_tells z a table k its rows n x t e our is retired all =
     let here = retired_in a k rows t e our.rows (ap (λ (y : OnKeeper). slot_at y.slots t) is ∙ retired) in

@@ -28,7 +28,7 @@ use Rattle.cpu_words.specs.Rule.{IsShown}
 use Rattle.cpu_words.specs.Steps.{Makes}
 use Rattle.cpu_words.specs.Views.{one_more}
 use Rattle.cpu_words.proofs.by_keeper.KeeperSees.{seen_by_keeper}
-use Rattle.passive_list.specs.declared.keeper.Row.{Row}
+use Rattle.passive_list.specs.declared.keeper.KeptSlot.{KeptSlot}
 use Rattle.passive_list.specs.Keepers.{OnKeeper, no_row, row_at, state_of, states_of, TakenAs, IsAtRest, RowsAgree, IsOurKeeper}
 use Rattle.passive_list.specs.Vacating.{IsDrainedOn}
 use Rattle.passive_list.proofs.Rows.{state_at, taken_in, retired_in, row_stays, rows_set}
@@ -45,9 +45,9 @@ taken_is k t (Live e) off is = is
 taken_is k t (Retired e) off is = is
 
 -- the row that shows the number has its entry, which is in that slot
-place_told : (a : Settings) (k : KeeperView) (rows : List Row) (n u : ℕ) → RowsAgree a k rows → place_of n rows ≡ Some u → (e : Entry) × IsIn e (slot_at k.slots u) × (e.number ≡ n)
+place_told : (a : Settings) (k : KeeperView) (rows : List KeptSlot) (n u : ℕ) → RowsAgree a k rows → place_of n rows ≡ Some u → (e : Entry) × IsIn e (slot_at k.slots u) × (e.number ≡ n)
 place_told a k rows n u agree found =
-    let at = position-Some (λ (r : Row). has_number n (state_of r)) rows u no_row found in
+    let at = position-Some (λ (r : KeptSlot). has_number n (state_of r)) rows u no_row found in
     let x = (row_at rows u).state in
     let has = number_in n x at.1 in
     let off : x ≡ Vacant → ⊥ = λ v. not_vacant has.0 x v has.1 in
@@ -62,12 +62,12 @@ one_slot k t u e f is_shown is also same =
     (one_number g.history g.slots t u e f is_shown.good.holds.slots (subst (λ (x : List Slot). IsIn e (slot_at x t)) slots is) (subst (λ (x : List Slot). IsIn f (slot_at x u)) slots also) same).0
 
 -- the row of what is held shows its number
-held_place : (a : Settings) (k : KeeperView) (rows : List Row) (u : ℕ) (f : Entry) → IsShown k → RowsAgree a k rows → HeldRow k rows u → IsIn f (slot_at k.slots u) → place_of f.number rows ≡ Some u
+held_place : (a : Settings) (k : KeeperView) (rows : List KeptSlot) (u : ℕ) (f : Entry) → IsShown k → RowsAgree a k rows → HeldRow k rows u → IsIn f (slot_at k.slots u) → place_of f.number rows ≡ Some u
 held_place a k rows u f is_shown agree row is =
     let lt = row.slot in
     let size = agree.size in
     let here : IsIn f (row_at rows u).state = subst (IsIn f) (sym row.shown) is in
-    let found = position_found (λ (r : Row). has_number f.number (state_of r)) no_row rows u (omega (arith, lt, size)) (has_it f.number f (row_at rows u).state here refl) in
+    let found = position_found (λ (r : KeptSlot). has_number f.number (state_of r)) no_row rows u (omega (arith, lt, size)) (has_it f.number f (row_at rows u).state here refl) in
     let shown = place_told a k rows f.number found.0 agree found.1 in
     found.1 ∙ ap (λ (j : ℕ). Some j) (one_slot k u found.0 f shown.0 is_shown is shown.1 shown.2)
 
@@ -109,7 +109,7 @@ abbrev IsIface : OnKeeper → ℕ → Type 0
 IsIface x t = (e : Entry) × (slot_at x.slots t ≡ Retired e) × (e.rec.kind ≡ Iface)
 
 -- so the slot is found by the rows
-pub keeps_on : (z : TableId) (a : Settings) (table : TableId) (k : KeeperView) (its : Settings) (rows : List Row) (n t : ℕ) (x : OnKeeper) → IsOurKeeper z a table k its rows n → record { view = k; slots = states_of rows } ≡ x → IsIface x t
+pub keeps_on : (z : TableId) (a : Settings) (table : TableId) (k : KeeperView) (its : Settings) (rows : List KeptSlot) (n t : ℕ) (x : OnKeeper) → IsOurKeeper z a table k its rows n → record { view = k; slots = states_of rows } ≡ x → IsIface x t
     → (u : ℕ) × (kept_slot (row_at rows t).keeps rows ≡ Some u) × KeepsHeld k t u
 keeps_on z a table k its rows n t x our is iface =
     let retired = retired_in a k rows t iface.0 our.rows (ap (λ (y : OnKeeper). slot_at y.slots t) is ∙ iface.1) in
@@ -121,7 +121,7 @@ keeps_on z a table k its rows n t x our is iface =
     )
 
 -- where they have found u
-pub keeps_at : (z : TableId) (a : Settings) (table : TableId) (k : KeeperView) (its : Settings) (rows : List Row) (n t u : ℕ) (x : OnKeeper) → IsOurKeeper z a table k its rows n → record { view = k; slots = states_of rows } ≡ x → IsIface x t
+pub keeps_at : (z : TableId) (a : Settings) (table : TableId) (k : KeeperView) (its : Settings) (rows : List KeptSlot) (n t u : ℕ) (x : OnKeeper) → IsOurKeeper z a table k its rows n → record { view = k; slots = states_of rows } ≡ x → IsIface x t
     → kept_slot (row_at rows t).keeps rows ≡ Some u → KeepsHeld k t u
 keeps_at z a table k its rows n t u x our is iface found =
     let it = keeps_on z a table k its rows n t x our is iface in
@@ -129,7 +129,7 @@ keeps_at z a table k its rows n t u x our is iface found =
     subst (KeepsHeld k t) same it.2
 
 -- and the keeper may give the driver up
-pub may_free : (z : TableId) (a : Settings) (table : TableId) (k : KeeperView) (its : Settings) (rows : List Row) (n t u : ℕ) (x : OnKeeper) → IsOurKeeper z a table k its rows n → record { view = k; slots = states_of rows } ≡ x → IsIface x t
+pub may_free : (z : TableId) (a : Settings) (table : TableId) (k : KeeperView) (its : Settings) (rows : List KeptSlot) (n t u : ℕ) (x : OnKeeper) → IsOurKeeper z a table k its rows n → record { view = k; slots = states_of rows } ≡ x → IsIface x t
     → IsDrainedOn x t → KeepsHeld k t u → MayKeptSub k t u
 may_free z a table k its rows n t u x our is iface drained keeps =
     let d = (subst (λ (y : OnKeeper). IsDrainedOn y t) (sym is) drained).drained in
@@ -180,11 +180,11 @@ freed_at_rest a k t d u e at lt retired = record {
       omega (arith, same, room);
 }
 
-abbrev pub row_freed : Row → Row
+abbrev pub row_freed : KeptSlot → KeptSlot
 row_freed r = record { state = Vacant; marks = r.marks; total = r.total; keeps = None }
 
 -- the total of the driver is one less, and then the slot is vacant
-freed_rows : (a : Settings) (k : KeeperView) (rows : List Row) (t d u : ℕ) → IsAtRest a k → RowsAgree a k rows → IsHeldIn k u → u ≢ t → t < a.slots → total_at k.totals t ≡ bias
+freed_rows : (a : Settings) (k : KeeperView) (rows : List KeptSlot) (t d u : ℕ) → IsAtRest a k → RowsAgree a k rows → IsHeldIn k u → u ≢ t → t < a.slots → total_at k.totals t ≡ bias
     → RowsAgree a (freed k t d u) (set (set rows u (row_less (row_at rows u))) t (row_freed (row_at rows t)))
 freed_rows a k rows t d u at agree held off lt total =
     let m = less k u k.given_up in
@@ -204,7 +204,7 @@ freed_rows a k rows t d u at agree held off lt total =
     }
     (λ v other was. row_stays m (freed k t d u) v (row_at rows' v) at.rest refl (slot_other k.slots t Vacant v other) refl refl (get_or-set_other k.keeps t v None None other) was)
 
-pub freed_keeper : (z : TableId) (a : Settings) (table table' : TableId) (k l : KeeperView) (its : Settings) (rows : List Row) (n t u : ℕ) (x : OnKeeper) → IsOurKeeper z a table k its rows n → record { view = k; slots = states_of rows } ≡ x → IsDrainedOn x t → KeepsHeld k t u
+pub freed_keeper : (z : TableId) (a : Settings) (table table' : TableId) (k l : KeeperView) (its : Settings) (rows : List KeptSlot) (n t u : ℕ) (x : OnKeeper) → IsOurKeeper z a table k its rows n → record { view = k; slots = states_of rows } ≡ x → IsDrainedOn x t → KeepsHeld k t u
     → table' ≡ table → HasKeptSub k t u l → IsShown l → IsOurKeeper z a table' l its (set (set rows u (row_less (row_at rows u))) t (row_freed (row_at rows t))) n
 freed_keeper z a table table' k l its rows n t u x our is drained keeps same told is_shown =
     let d = subst (λ (y : OnKeeper). IsDrainedOn y t) (sym is) drained in
@@ -221,7 +221,7 @@ freed_keeper z a table table' k l its rows n t u x our is drained keeps same tol
     }
 
 -- what it leaves of the keeper
-pub has_freed : (k l : KeeperView) (rows : List Row) (t u : ℕ) (r : Row) (x : OnKeeper) → record { view = k; slots = states_of rows } ≡ x → Makes (KeptSub t) Done (Keeper k) (Keeper l) → HasKeptSub k t u l
+pub has_freed : (k l : KeeperView) (rows : List KeptSlot) (t u : ℕ) (r : KeptSlot) (x : OnKeeper) → record { view = k; slots = states_of rows } ≡ x → Makes (KeptSub t) Done (Keeper k) (Keeper l) → HasKeptSub k t u l
     → HasFreed x t (record { view = l; slots = states_of (set (set rows u (row_less (row_at rows u))) t (row_freed r)) })
 has_freed k l rows t u r x is made told =
     let after = set (set rows u (row_less (row_at rows u))) t (row_freed r) in

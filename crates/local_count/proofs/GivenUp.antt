@@ -14,11 +14,11 @@ use Rattle.protocol.specs.State.{mark_at, total_at}
 use Rattle.cpu_words.specs.declared.view.KeeperView.{KeeperView}
 use Rattle.cpu_words.specs.declared.view.ReferenceView.{ReferenceView}
 use Rattle.cpu_words.specs.declared.view.View.TheVariants.{Keeper, Reference}
-use Rattle.cpu_words.specs.Draining.{IsFoundCollected, MayJoinKeeper, giving_up, HasSubtracted}
+use Rattle.cpu_words.specs.Draining.{IsFoundCollected, MayJoinKeeper, keeper_after_join, HasSubtracted}
 use Rattle.cpu_words.specs.Steps.{Makes, JoinsBy}
 use Rattle.cpu_words.specs.Views.{one_more}
 use Rattle.cpu_words.proofs.shown.KeepersShown.{step_is_shown}
-use Rattle.passive_list.specs.declared.keeper.Row.{Row}
+use Rattle.passive_list.specs.declared.keeper.KeptSlot.{KeptSlot}
 use Rattle.passive_list.specs.Keepers.{OnKeeper, no_row, row_at, state_of, states_of, IsOurKeeper}
 use Rattle.passive_list.proofs.Rows.{retired_in}
 use Rattle.local_count.specs.Draining.{HasGivenUp}
@@ -27,7 +27,7 @@ use Rattle.local_count.proofs.Collections.{with_total_keeper}
 use Rattle.local_count.proofs.Subtracting.{HeldRow, held_row, less, row_less, less_is}
 
 -- what the rows say of a collected word, the seat knows
-pub may_take_in : (z : TableId) (a : Settings) (table : TableId) (k : KeeperView) (its : Settings) (rows : List Row) (n : ℕ) (v w : ReferenceView) (x : OnKeeper) → IsOurKeeper z a table k its rows n → record { view = k; slots = states_of rows } ≡ x → v ≡ w
+pub may_take_in : (z : TableId) (a : Settings) (table : TableId) (k : KeeperView) (its : Settings) (rows : List KeptSlot) (n : ℕ) (v w : ReferenceView) (x : OnKeeper) → IsOurKeeper z a table k its rows n → record { view = k; slots = states_of rows } ≡ x → v ≡ w
     → IsFoundCollected x.slots x.view.marks w → MayJoinKeeper k v
 may_take_in z a table k its rows n v w x our is is_too found = record {
   rest = our.view.rest;
@@ -39,7 +39,7 @@ may_take_in z a table k its rows n v w x our is is_too found = record {
 }
 
 -- the reference that the keeper takes in is held until it is subtracted
-held_before : (k j l : KeeperView) (v : ReferenceView) → j ≡ giving_up k v → Makes (TotalSub v.entry.slot) Done (Keeper j) (Keeper l) → IsHeldIn k v.entry.slot
+held_before : (k j l : KeeperView) (v : ReferenceView) → j ≡ keeper_after_join k v → Makes (TotalSub v.entry.slot) Done (Keeper j) (Keeper l) → IsHeldIn k v.entry.slot
 held_before k j l v joined made =
     let t = v.entry.slot in
     let there = held_given_up j t record { g = made.g; good = made.good; shown = made.before } (ap (λ (x : KeeperView). x.due) joined) in
@@ -54,17 +54,17 @@ held_before k j l v joined made =
     }
 
 -- so its slot's row has it
-pub given_row : (z : TableId) (a : Settings) (table : TableId) (k j l : KeeperView) (its : Settings) (rows : List Row) (n t : ℕ) (v : ReferenceView) → IsOurKeeper z a table k its rows n → v.entry.slot ≡ t → j ≡ giving_up k v → Makes (TotalSub t) Done (Keeper j) (Keeper l) → HeldRow k rows t
+pub given_row : (z : TableId) (a : Settings) (table : TableId) (k j l : KeeperView) (its : Settings) (rows : List KeptSlot) (n t : ℕ) (v : ReferenceView) → IsOurKeeper z a table k its rows n → v.entry.slot ≡ t → j ≡ keeper_after_join k v → Makes (TotalSub t) Done (Keeper j) (Keeper l) → HeldRow k rows t
 given_row z a table k j l its rows n t v our slot joined made =
     let held = held_before k j l v joined (subst (λ (u : ℕ). Makes (TotalSub u) Done (Keeper j) (Keeper l)) (sym slot) made) in
     held_row a k rows t our.view our.rows (subst (IsHeldIn k) slot held)
 
 -- what the two steps tell
-given_is : (k j l : KeeperView) (t : ℕ) (v : ReferenceView) → k.due ≡ Rest → j ≡ giving_up k v → HasSubtracted j t l → l ≡ less k t (one_more k.given_up v.entry.number)
+given_is : (k j l : KeeperView) (t : ℕ) (v : ReferenceView) → k.due ≡ Rest → j ≡ keeper_after_join k v → HasSubtracted j t l → l ≡ less k t (one_more k.given_up v.entry.number)
 given_is k j l t v rest joined told = told.2 ∙ ap (λ (x : KeeperView). record x { totals = set x.totals t (total_at x.totals t - 1); due = Rest }) joined
     ∙ ap (λ (d : Due). record (less k t (one_more k.given_up v.entry.number)) { due = d }) (sym rest)
 
-pub given_keeper : (z : TableId) (a : Settings) (table table' : TableId) (k j l : KeeperView) (its : Settings) (rows : List Row) (n t : ℕ) (v : ReferenceView) → IsOurKeeper z a table k its rows n → v.entry.slot ≡ t → j ≡ giving_up k v
+pub given_keeper : (z : TableId) (a : Settings) (table table' : TableId) (k j l : KeeperView) (its : Settings) (rows : List KeptSlot) (n t : ℕ) (v : ReferenceView) → IsOurKeeper z a table k its rows n → v.entry.slot ≡ t → j ≡ keeper_after_join k v
     → Makes (TotalSub t) Done (Keeper j) (Keeper l) → HasSubtracted j t l → table' ≡ table → IsOurKeeper z a table' l its (set rows t (row_less (row_at rows t))) n
 given_keeper z a table table' k j l its rows n t v our slot joined made told same =
     let row = given_row z a table k j l its rows n t v our slot joined made in
@@ -73,7 +73,7 @@ given_keeper z a table table' k j l its rows n t v our slot joined made told sam
     (given_is k j l t v our.view.rest joined told ∙ less_is k rows t given_up our.view.rest row) (step_is_shown (TotalSub t) Done j l made)
 
 -- what is left of the keeper
-pub has_given_up : (k j l : KeeperView) (rows : List Row) (t : ℕ) (v w : ReferenceView) (x : OnKeeper) → record { view = k; slots = states_of rows } ≡ x → v ≡ w → k.due ≡ Rest → v.entry.slot ≡ t → j ≡ giving_up k v
+pub has_given_up : (k j l : KeeperView) (rows : List KeptSlot) (t : ℕ) (v w : ReferenceView) (x : OnKeeper) → record { view = k; slots = states_of rows } ≡ x → v ≡ w → k.due ≡ Rest → v.entry.slot ≡ t → j ≡ keeper_after_join k v
     → JoinsBy JoinKeeper (Keeper k) (Reference v) (Keeper j) → Makes (TotalSub t) Done (Keeper j) (Keeper l) → HasSubtracted j t l
     → HasGivenUp x w (record { view = l; slots = states_of (set rows t (row_less (row_at rows t))) })
 has_given_up k j l rows t v w x is is_too rest slot joined joins made told =

@@ -15,9 +15,9 @@ use Rattle.protocol.proofs.slots.Cells.{slot_other}
 use Rattle.registry_values.proofs.Fit.{ranges}
 use Rattle.cpu_words.specs.declared.view.KeeperView.{KeeperView}
 use Rattle.cpu_words.specs.declared.view.ReferenceView.{ReferenceView}
-use Rattle.cpu_words.specs.Keeping.{keeping}
+use Rattle.cpu_words.specs.Keeping.{keeper_after_keep}
 use Rattle.cpu_words.specs.Vacating.{as_vacant, vacant_from}
-use Rattle.passive_list.specs.declared.keeper.Row.{Row}
+use Rattle.passive_list.specs.declared.keeper.KeptSlot.{KeptSlot}
 use Rattle.passive_list.specs.Keepers.{OnKeeper, no_row, row_at, state_of, states_of, TakenAs, IsAtRest, RowsAgree, IsOurKeeper}
 use Rattle.passive_list.specs.Publishing.{MayAttach}
 use Rattle.passive_list.proofs.Rows.{state_at, row_stays, rows_set}
@@ -33,7 +33,7 @@ vacant_other k t u off = by (slot_at k.slots t)
     by (Live e) = refl
     by (Retired e) = slot_other k.slots t Vacant u off
 
-keeping_at_rest : (a : Settings) (k : KeeperView) (t : ℕ) (v : ReferenceView) → IsAtRest a k → IsAtRest a (keeping k t v)
+keeping_at_rest : (a : Settings) (k : KeeperView) (t : ℕ) (v : ReferenceView) → IsAtRest a k → IsAtRest a (keeper_after_keep k t v)
 keeping_at_rest a k t v at =
     let is = as_vacant_is k t in
     let sized = vacant_sized a.slots k t at.sized in
@@ -56,16 +56,16 @@ keeping_at_rest a k t v at =
       room = let count = count_on (as_vacant k t).slots k.slots (vacant_live k t) in let long = ap (λ (x : KeeperView). length x.history) is in let room = at.room in omega (arith, count, long, room);
     }
 
-abbrev pub row_keeping : Row → ℕ → Row
+abbrev pub row_keeping : KeptSlot → ℕ → KeptSlot
 row_keeping r n = record { state = r.state; marks = r.marks; total = r.total; keeps = Some n }
 
-abbrev pub rows_keeping : List Row → ℕ → ℕ → List Row
+abbrev pub rows_keeping : List KeptSlot → ℕ → ℕ → List KeptSlot
 rows_keeping rows t n = set rows t (row_keeping (row_at rows t) n)
 
-keeping_rows : (a : Settings) (k : KeeperView) (rows : List Row) (t n : ℕ) (v : ReferenceView) → IsAtRest a k → RowsAgree a k rows → t < a.slots → slot_at (states_of rows) t ≡ Vacant → v.entry.number ≡ n → RowsAgree a (keeping k t v) (rows_keeping rows t n)
+keeping_rows : (a : Settings) (k : KeeperView) (rows : List KeptSlot) (t n : ℕ) (v : ReferenceView) → IsAtRest a k → RowsAgree a k rows → t < a.slots → slot_at (states_of rows) t ≡ Vacant → v.entry.number ≡ n → RowsAgree a (keeper_after_keep k t v) (rows_keeping rows t n)
 keeping_rows a k rows t n v at agree lt vacant number =
     let is = as_vacant_is k t in
-    let l = keeping k t v in
+    let l = keeper_after_keep k t v in
     let some = Some v.entry.number in
     let most = (ranges a at.fit).slots in
     let wide = at.sized.keeps in
@@ -84,16 +84,16 @@ keeping_rows a k rows t n v at agree lt vacant number =
     (ap (λ (x : KeeperView). total_at x.totals u) is) (get_or-set_other k.keeps t u some None off) was)
 
 -- what stands in the slots stays
-pub states_keeping : (rows : List Row) (t n : ℕ) → states_of (rows_keeping rows t n) ≡ states_of rows
+pub states_keeping : (rows : List KeptSlot) (t n : ℕ) → states_of (rows_keeping rows t n) ≡ states_of rows
 states_keeping rows t n = map-set_same state_of rows t (row_keeping (row_at rows t) n) no_row refl
 
 -- and so does the history
-pub same_history : (k l : KeeperView) (t : ℕ) (v : ReferenceView) → l ≡ keeping k t v → length k.history ≡ length l.history
+pub same_history : (k l : KeeperView) (t : ℕ) (v : ReferenceView) → l ≡ keeper_after_keep k t v → length k.history ≡ length l.history
 same_history k l t v at = sym (ap (λ (x : KeeperView). length x.history) at ∙ ap (λ (x : KeeperView). length x.history) (as_vacant_is k t))
 
 -- what publishing asks of the keeper once the slot keeps the reference, from what is asked of a caller
-pub may_attach : (z : TableId) (a : Settings) (table : TableId) (k l : KeeperView) (its : Settings) (rows : List Row) (c t n : ℕ) (rec : Record) (v : ReferenceView) (x : OnKeeper) → IsOurKeeper z a table k its rows c → record { view = k; slots = states_of rows } ≡ x
-    → l ≡ keeping k t v → v.entry.number ≡ n → (t < a.slots) × (slot_at x.slots t ≡ Vacant) → rec.kind ≡ Iface → IsTrue (is_lawful rec.name) → is_taken (key_of_record rec) x.slots ≡ false → length x.view.history + live_count x.slots + 2 ≤ a.change_limit
+pub may_attach : (z : TableId) (a : Settings) (table : TableId) (k l : KeeperView) (its : Settings) (rows : List KeptSlot) (c t n : ℕ) (rec : Record) (v : ReferenceView) (x : OnKeeper) → IsOurKeeper z a table k its rows c → record { view = k; slots = states_of rows } ≡ x
+    → l ≡ keeper_after_keep k t v → v.entry.number ≡ n → (t < a.slots) × (slot_at x.slots t ≡ Vacant) → rec.kind ≡ Iface → IsTrue (is_lawful rec.name) → is_taken (key_of_record rec) x.slots ≡ false → length x.view.history + live_count x.slots + 2 ≤ a.change_limit
     → MayAttach a l (rows_keeping rows t n) (record { number = c + 1; slot = t; rec = rec })
 may_attach z a table k l its rows c t n rec v x our is at number vacant kind name free room =
     let rest = our.view in
@@ -102,8 +102,8 @@ may_attach z a table k l its rows c t n rec v x our is at number vacant kind nam
     let wide = rest.sized.keeps in
     let lt = vacant.0 in
     let some = Some v.entry.number in
-    let kept : kept_at (keeping k t v).keeps t ≡ some = get_or-set_same k.keeps t some None (omega (arith, lt, wide)) in
-    let history : (keeping k t v).history ≡ x.view.history = ap (λ (y : KeeperView). y.history) (as_vacant_is k t) ∙ ap (λ (y : OnKeeper). y.view.history) is in
+    let kept : kept_at (keeper_after_keep k t v).keeps t ≡ some = get_or-set_same k.keeps t some None (omega (arith, lt, wide)) in
+    let history : (keeper_after_keep k t v).history ≡ x.view.history = ap (λ (y : KeeperView). y.history) (as_vacant_is k t) ∙ ap (λ (y : OnKeeper). y.view.history) is in
     let states : states_of (rows_keeping rows t n) ≡ x.slots = same ∙ ap (λ (y : OnKeeper). y.slots) is in
     subst (λ (y : KeeperView). MayAttach a y (rows_keeping rows t n) (record { number = c + 1; slot = t; rec = rec })) (sym at) record {
       at = keeping_at_rest a k t v rest;

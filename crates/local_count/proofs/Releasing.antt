@@ -12,7 +12,7 @@ use Rattle.cpu_words.specs.Views.{number_at, with_number, one_more}
 use Rattle.cpu_words.specs.Locals.{IsNetCount, IsMetAlone, HasCountedDown, HasFoundCollected, HasSplitBack, with_hand}
 use Rattle.cpu_words.proofs.by_cpu.Counting.{one_more_same, one_more_other}
 use Rattle.passive_list.specs.declared.place.Found.{Found}
-use Rattle.passive_list.specs.declared.place.Place.{Place}
+use Rattle.passive_list.specs.declared.place.NumberedCount.{NumberedCount}
 use Rattle.passive_list.specs.Cpus.{place_at, IsOurCpu}
 use Rattle.local_count.specs.References.{IsOurReference, net_by}
 use Rattle.local_count.proofs.Agreeing.{net_most, counted_agrees}
@@ -22,7 +22,7 @@ pub released_of : (x y w : CpuView) (e : Entry) (s n : ℕ) → x.hand ≡ NoEnt
 released_of x y w e s n empty joined counted = counted.4 ∙ ap (λ (k : CpuView). record k { hand = NoEntry; released = one_more k.released n; met = with_number k.met s n }) joined
     ∙ (λ k. record x { hand = sym empty k; released = one_more x.released n; met = with_number x.met s n })
 
-pub released_agrees : (z : TableId) (a : Settings) (t u : TableId) (x : CpuView) (c w d : ℕ) (o : Found) (ps ns : List Place) (v : ReferenceView) (n s count : ℕ) (kind : Kind) (y k : CpuView)
+pub released_agrees : (z : TableId) (a : Settings) (t u : TableId) (x : CpuView) (c w d : ℕ) (o : Found) (ps ns : List NumberedCount) (v : ReferenceView) (n s count : ℕ) (kind : Kind) (y k : CpuView)
     → IsOurCpu z a t x c w d o ps ns → IsOurReference v n s kind → u ≡ t → y ≡ with_hand x (GivingEntry v.entry) → HasCountedDown y s n k → 0 < count → count ≡ net_by (place_at ns s) n → IsNetCount y n count → IsMetAlone y s n
     → IsOurCpu z a u k c w d o ps (set ns s (record { number = n; count = count - 1 }))
 released_agrees z a t u x c w d o ps ns v n s count kind y k our its same joined counted floor is net alone =

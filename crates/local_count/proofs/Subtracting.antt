@@ -12,7 +12,7 @@ use Rattle.registry_values.proofs.Fit.{ranges}
 use Rattle.protocol.proofs.slots.Occupied.{not_vacant}
 use Rattle.cpu_words.specs.declared.view.KeeperView.{KeeperView}
 use Rattle.cpu_words.specs.Vacating.{MayVacate}
-use Rattle.passive_list.specs.declared.keeper.Row.{Row}
+use Rattle.passive_list.specs.declared.keeper.KeptSlot.{KeptSlot}
 use Rattle.passive_list.specs.Keepers.{row_at, states_of, RowAgrees, IsAtRest, RowsAgree, TakenAs}
 use Rattle.passive_list.proofs.Rows.{state_at}
 use Rattle.local_count.proofs.Balanced.{IsHeldIn}
@@ -34,7 +34,7 @@ taken_held k t (Live e) held is = sym is
 taken_held k t (Retired e) held is = sym is
 
 -- so its row shows it, and one can be subtracted there
-pub record HeldRow (k : KeeperView) (rows : List Row) (t : ℕ) : Type 0 where
+pub record HeldRow (k : KeeperView) (rows : List KeptSlot) (t : ℕ) : Type 0 where
   pub agrees : RowAgrees k t (row_at rows t)
   pub slot : t < 32
   pub shown : (row_at rows t).state ≡ slot_at k.slots t
@@ -42,7 +42,7 @@ pub record HeldRow (k : KeeperView) (rows : List Row) (t : ℕ) : Type 0 where
   pub positive : 1 ≤ (row_at rows t).total
   pub size : length (row_at rows t).marks ≡ 8
 
-pub held_row : (a : Settings) (k : KeeperView) (rows : List Row) (t : ℕ) → IsAtRest a k → RowsAgree a k rows → IsHeldIn k t → HeldRow k rows t
+pub held_row : (a : Settings) (k : KeeperView) (rows : List KeptSlot) (t : ℕ) → IsAtRest a k → RowsAgree a k rows → IsHeldIn k t → HeldRow k rows t
 held_row a k rows t at agree held =
     let within = held.slot in
     let same = ap (λ (z : Settings). z.slots) at.settings in
@@ -64,14 +64,14 @@ held_row a k rows t at agree held =
 abbrev pub less : KeeperView → ℕ → List ℕ → KeeperView
 less k t given_up = record k { totals = set k.totals t (total_at k.totals t - 1); given_up = given_up }
 
-abbrev pub row_less : Row → Row
+abbrev pub row_less : KeptSlot → KeptSlot
 row_less r = row_with_total r r.marks (r.total - 1)
 
-pub less_is : (k : KeeperView) (rows : List Row) (t : ℕ) (given_up : List ℕ) → k.due ≡ Rest → HeldRow k rows t → less k t given_up ≡ with_total k t (row_at rows t).marks ((row_at rows t).total - 1) given_up
+pub less_is : (k : KeeperView) (rows : List KeptSlot) (t : ℕ) (given_up : List ℕ) → k.due ≡ Rest → HeldRow k rows t → less k t given_up ≡ with_total k t (row_at rows t).marks ((row_at rows t).total - 1) given_up
 less_is k rows t given_up rest row =
     let marks : k.marks ≡ set k.marks t (row_at rows t).marks = sym (set-get_or k.marks t []) ∙ ap (set k.marks t) (sym row.agrees.marks) in
     λ i. record k { marks = marks i; totals = set k.totals t (sym row.agrees.total i - 1); due = rest i; given_up = given_up }
 
-pub less_rows : (a : Settings) (k : KeeperView) (rows : List Row) (t : ℕ) (given_up : List ℕ) → IsAtRest a k → RowsAgree a k rows → HeldRow k rows t → RowsAgree a (less k t given_up) (set rows t (row_less (row_at rows t)))
+pub less_rows : (a : Settings) (k : KeeperView) (rows : List KeptSlot) (t : ℕ) (given_up : List ℕ) → IsAtRest a k → RowsAgree a k rows → HeldRow k rows t → RowsAgree a (less k t given_up) (set rows t (row_less (row_at rows t)))
 less_rows a k rows t given_up at agree row = subst (λ (x : KeeperView). RowsAgree a x (set rows t (row_less (row_at rows t)))) (sym (less_is k rows t given_up at.rest row))
     (with_total_rows a k rows t (row_at rows t).marks ((row_at rows t).total - 1) given_up at agree row.some)

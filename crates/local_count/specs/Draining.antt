@@ -5,7 +5,7 @@ use Rattle.protocol.specs.declared.event.Event.TheVariants.{Collect, TotalAdd, T
 use Rattle.protocol.specs.declared.event.Reply.TheVariants.{Done, Word}
 use Rattle.registry_values.specs.declared.slot.Slot.TheVariants.{Vacant, Retired}
 use Rattle.protocol.specs.declared.state.Due.TheVariants.{Adding}
-use Rattle.registry_values.specs.Marks.{collected as collected_mark}
+use Rattle.registry_values.specs.Marks.{mark_after_collect as collected_mark}
 use Rattle.protocol.specs.Invariant.{held_at}
 use Rattle.registry_values.specs.Slots.{has_number, slot_at}
 use Rattle.protocol.specs.State.{State, with_cell, mark_at, total_at}
@@ -13,27 +13,27 @@ use Rattle.registry_values.specs.Balances.{bias}
 use Rattle.cpu_words.specs.declared.view.KeeperView.{KeeperView}
 use Rattle.cpu_words.specs.declared.view.ReferenceView.{ReferenceView}
 use Rattle.cpu_words.specs.declared.view.View.TheVariants.{Keeper, Reference}
-use Rattle.cpu_words.specs.Draining.{giving_up, HasKeptSub}
-use Rattle.cpu_words.specs.Keeping.{IsVacated, keeping}
+use Rattle.cpu_words.specs.Draining.{keeper_after_join, HasKeptSub}
+use Rattle.cpu_words.specs.Keeping.{IsVacated, keeper_after_keep}
 use Rattle.cpu_words.specs.Rule.{Good}
 use Rattle.cpu_words.specs.Steps.{Makes, JoinsBy}
 use Rattle.cpu_words.specs.Vacating.{as_vacant}
 use Rattle.cpu_words.specs.Views.{KeeperShown, one_more}
-use Rattle.passive_list.specs.declared.keeper.Row.{Row}
+use Rattle.passive_list.specs.declared.keeper.KeptSlot.{KeptSlot}
 use Rattle.passive_list.specs.Keepers.{OnKeeper, state_of}
 use Rattle.passive_list.specs.Publishing.{HasAttached}
 
 -- Collecting
 
 -- the count word w of the CPU c was collected, and is to be added
-abbrev pub collecting : KeeperView → ℕ → ℕ → ℕ → KeeperView
-collecting k t c w = record k { marks = with_cell k.marks t c (collected_mark (mark_at k.marks t c)); due = Adding t w }
+abbrev pub keeper_after_collect : KeeperView → ℕ → ℕ → ℕ → KeeperView
+keeper_after_collect k t c w = record k { marks = with_cell k.marks t c (collected_mark (mark_at k.marks t c)); due = Adding t w }
 
 -- the word was collected, and added to the total of the slot without its bias; nothing else changes
 pub record HasCollectedInto (a : OnKeeper) (t c : ℕ) (b : OnKeeper) : Type 0 where
   pub word : ℕ
-  pub collected : Makes (Collect t c) (Word word) (Keeper a.view) (Keeper (collecting a.view t c word))
-  pub added : Makes (TotalAdd t) Done (Keeper (collecting a.view t c word)) (Keeper b.view)
+  pub collected : Makes (Collect t c) (Word word) (Keeper a.view) (Keeper (keeper_after_collect a.view t c word))
+  pub added : Makes (TotalAdd t) Done (Keeper (keeper_after_collect a.view t c word)) (Keeper b.view)
   pub view : b.view ≡ record a.view { marks = with_cell a.view.marks t c (collected_mark (mark_at a.view.marks t c)); totals = slice_set a.view.totals t (total_at a.view.totals t + word - bias) }
   pub slots : b.slots ≡ a.slots
 
@@ -47,8 +47,8 @@ pub record AreHeld (k : KeeperView) (t n : ℕ) : Type 0 where
 
 -- the reference was given up: the total of its entry's slot is one less; nothing else changes
 pub record HasGivenUp (a : OnKeeper) (v : ReferenceView) (b : OnKeeper) : Type 0 where
-  pub joined : JoinsBy JoinKeeper (Keeper a.view) (Reference v) (Keeper (giving_up a.view v))
-  pub subtracted : Makes (TotalSub v.entry.slot) Done (Keeper (giving_up a.view v)) (Keeper b.view)
+  pub joined : JoinsBy JoinKeeper (Keeper a.view) (Reference v) (Keeper (keeper_after_join a.view v))
+  pub subtracted : Makes (TotalSub v.entry.slot) Done (Keeper (keeper_after_join a.view v)) (Keeper b.view)
   pub view : b.view ≡ record a.view { totals = slice_set a.view.totals v.entry.slot (total_at a.view.totals v.entry.slot - 1); given_up = one_more a.view.given_up v.entry.number }
   pub slots : b.slots ≡ a.slots
 
@@ -57,15 +57,15 @@ pub record HasGivenUp (a : OnKeeper) (v : ReferenceView) (b : OnKeeper) : Type 0
 -- the slot keeps the reference, and then the entry is published in it
 pub record HasAttachedKeeping (a : OnKeeper) (v : ReferenceView) (e : Entry) (b : OnKeeper) : Type 0 where
   pub vacated : IsVacated a.view e.slot
-  pub kept : JoinsBy (Keep e.slot) (Keeper (as_vacant a.view e.slot)) (Reference v) (Keeper (keeping a.view e.slot v))
-  pub attached : HasAttached (record { view = keeping a.view e.slot v; slots = a.slots }) e b
+  pub kept : JoinsBy (Keep e.slot) (Keeper (as_vacant a.view e.slot)) (Reference v) (Keeper (keeper_after_keep a.view e.slot v))
+  pub attached : HasAttached (record { view = keeper_after_keep a.view e.slot v; slots = a.slots }) e b
 
 -- the row that shows the live or retired entry n
-abbrev pub place_of : ℕ → List Row → Option ℕ
+abbrev pub place_of : ℕ → List KeptSlot → Option ℕ
 place_of n rows = position (λ r. has_number n (state_of r)) rows
 
 -- and the one with the number kept
-abbrev pub kept_slot : Option ℕ → List Row → Option ℕ
+abbrev pub kept_slot : Option ℕ → List KeptSlot → Option ℕ
 kept_slot None rows = None
 kept_slot (Some d) rows = place_of d rows
 

@@ -13,7 +13,7 @@ use Rattle.cpu_words.specs.declared.view.View.TheVariants.{Cpu}
 use Rattle.cpu_words.specs.Views.{number_at, with_number, one_more}
 use Rattle.cpu_words.specs.Steps.{Makes}
 use Rattle.cpu_words.specs.Locals.{with_hand}
-use Rattle.passive_list.specs.declared.place.Place.{Place}
+use Rattle.passive_list.specs.declared.place.NumberedCount.{NumberedCount}
 use Rattle.passive_list.specs.Cpus.{OnCpu}
 
 -- a reference that names its own table: that table, and what its seat knows
@@ -30,7 +30,7 @@ pub record IsOurReference (v : ReferenceView) (n s : ℕ) (k : Kind) : Type 0 wh
   pub few : s < 32
 
 -- a number's net count by the place of its slot, over the bias: none where the place is for another number
-abbrev pub net_by : Place → ℕ → ℕ
+abbrev pub net_by : NumberedCount → ℕ → ℕ
 net_by p n = if p.number == n then p.count else bias
 
 -- The entry is the one that the CPU met last in its slot, and its own net count for it is at the limit.

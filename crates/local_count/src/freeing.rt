@@ -10,7 +10,7 @@ ghost use Rattle.passive_list.specs.Vacating.{IsDrainedOn};
 ghost use Rattle.local_count.specs.Draining.{HasFreed, kept_slot, place_of};
 
 use cpu_words::{Domain, Words, steps};
-use passive_list::{Keeper, Row, SlotState};
+use passive_list::{Keeper, KeptSlot, SlotState};
 use registry_values::has_number;
 
 /// Frees the slot of a retired and drained interface: the reference to its driver is given up in the same step.
@@ -27,7 +27,7 @@ pub fn free_iface<D: Domain>(words: &Words, keeper: &mut Keeper<D>, slot: u8)
     };
     steps::kept_sub(words, &mut keeper.seat, slot, driver_slot as u8);
     keeper.rows[driver_slot].total -= 1;
-    keeper.rows[slot as usize] = Row {
+    keeper.rows[slot as usize] = KeptSlot {
         state: SlotState::Vacant,
         keeps: None,
         ..row
@@ -35,7 +35,7 @@ pub fn free_iface<D: Domain>(words: &Words, keeper: &mut Keeper<D>, slot: u8)
 }
 
 /// The slot whose live or retired entry has the number kept.
-fn kept_slot(keeps: Option<u64>, rows: &[Row; 32]) -> Option<usize>
+fn kept_slot(keeps: Option<u64>, rows: &[KeptSlot; 32]) -> Option<usize>
     ensures { result ≡ kept_slot keeps rows.now }
 {
     match keeps {
@@ -45,7 +45,7 @@ fn kept_slot(keeps: Option<u64>, rows: &[Row; 32]) -> Option<usize>
 }
 
 /// The slot whose live or retired entry has this number.
-fn place_of(number: u64, rows: &[Row]) -> Option<usize>
+fn place_of(number: u64, rows: &[KeptSlot]) -> Option<usize>
     ensures { result ≡ place_of number rows.now }
 {
     rows.iter().position(|row| has_number(number, &row.state))

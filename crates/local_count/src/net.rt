@@ -3,11 +3,11 @@
 ghost use Rattle.std.specs.Prelude.{◌≡◌};
 ghost use Rattle.local_count.specs.References.{net_by};
 
-use passive_list::Place;
+use passive_list::NumberedCount;
 use registry_values::BIAS;
 
 /// The net count for `number` that the place of its slot says, over the bias: none where another number was met there last.
-pub fn net_count(place: Place, number: u64) -> u64
+pub fn net_count(place: NumberedCount, number: u64) -> u64
     ensures { result ≡ net_by place number }
 {
     if place.number == number {
@@ -19,7 +19,7 @@ pub fn net_count(place: Place, number: u64) -> u64
 
 /// Makes the place that of `number`, with that count. It stores the number only where another one stands there: the next atomic operation
 /// waits for each store before it.
-pub(crate) fn set_net(place: &mut Place, number: u64, count: u64)
+pub(crate) fn set_net(place: &mut NumberedCount, number: u64, count: u64)
     ensures { place.new ≡ record { number = number; count = count } }
 {
     if place.number != number {

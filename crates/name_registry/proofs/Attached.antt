@@ -22,13 +22,13 @@ use Rattle.protocol.specs.History.{after_change}
 use Rattle.protocol.specs.State.{kept_at}
 use Rattle.cpu_words.specs.declared.view.KeeperView.{KeeperView}
 use Rattle.cpu_words.specs.declared.view.ReferenceView.{ReferenceView}
-use Rattle.cpu_words.specs.Keeping.{keeping}
+use Rattle.cpu_words.specs.Keeping.{keeper_after_keep}
 use Rattle.passive_list.specs.Cpus.{OnCpu}
 use Rattle.passive_list.specs.Keepers.{OnKeeper}
 use Rattle.passive_list.specs.Notes.{HasHeardOn}
 use Rattle.passive_list.proofs.Preparing.{as_vacant_is}
 use Rattle.name_registry.specs.Attaching.{given_entry, plain_slot, room_of}
-use Rattle.name_registry.specs.Meeting.{having_heard, HasSeenAttach}
+use Rattle.name_registry.specs.Meeting.{keeper_after_hear, HasSeenAttach}
 use Rattle.name_registry.proofs.Heard.{seen_attach}
 
 -- The entry that is given
@@ -65,7 +65,7 @@ given_takes a k rec e is =
     }
 
 -- it was given before the keeper heard the CPU x
-pub taken_tells : (a : Settings) (k : OnKeeper) (x : OnCpu) (m : OnKeeper) (rec : Record) (e : Entry) → m ≡ having_heard k x → given_entry a k rec ≡ Ok e → MayTake a m rec e
+pub taken_tells : (a : Settings) (k : OnKeeper) (x : OnCpu) (m : OnKeeper) (rec : Record) (e : Entry) → m ≡ keeper_after_hear k x → given_entry a k rec ≡ Ok e → MayTake a m rec e
 taken_tells a k x m rec e heard is =
     let takes = given_takes a k rec e is in
     subst (λ (l : OnKeeper). MayTake a l rec e) (sym heard) (record { vacant = takes.vacant; nothing = takes.nothing; free = takes.free; room = takes.room; entry = takes.entry })
@@ -89,7 +89,7 @@ inside_is false (Some n) test = test.1 (λ none. none-some n (sym none))
 -- What it leaves
 
 -- The keeper m heard the CPU x, an entry was published, and the CPU heard the history that the keeper b has then.
-pub attach_met : (a : OnKeeper) (x : OnCpu) (m : OnKeeper) (n : OnCpu) (e : Entry) (b : OnKeeper) (y : OnCpu) → m ≡ having_heard a x → n ≡ x → IsPrefix x.view.pass m.view.history → e.number ≡ suc (length m.view.history)
+pub attach_met : (a : OnKeeper) (x : OnCpu) (m : OnKeeper) (n : OnCpu) (e : Entry) (b : OnKeeper) (y : OnCpu) → m ≡ keeper_after_hear a x → n ≡ x → IsPrefix x.view.pass m.view.history → e.number ≡ suc (length m.view.history)
     → b.view.history ≡ after_change m.view.history (Attach e) → HasHeardOn b.view.history n y
     → IsPrefix x.view.pass a.view.history × HasHeardOn b.view.history x y × HasSeenAttach x y e
 attach_met a x m n e b y heard same seen number after hears = (
@@ -99,5 +99,5 @@ attach_met a x m n e b y heard same seen number after hears = (
 )
 
 -- a view whose slot was taken as vacant, and keeps a reference, has the history that it had
-pub keeping_history : (k : KeeperView) (t : ℕ) (v : ReferenceView) → (keeping k t v).history ≡ k.history
+pub keeping_history : (k : KeeperView) (t : ℕ) (v : ReferenceView) → (keeper_after_keep k t v).history ≡ k.history
 keeping_history k t v = ap (λ (x : KeeperView). x.history) (as_vacant_is k t)

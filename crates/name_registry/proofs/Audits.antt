@@ -25,11 +25,12 @@ use Rattle.registry_values.proofs.Fit.{ranges}
 use Rattle.protocol.proofs.history.History.{at_within}
 use Rattle.protocol.proofs.slots.Occupied.{attached_in}
 use Rattle.cpu_words.specs.declared.view.CpuView.{CpuView}
+use Rattle.cpu_words.specs.declared.view.Deed.{Deed}
 use Rattle.cpu_words.specs.declared.view.KeeperView.{KeeperView}
 use Rattle.cpu_words.specs.Views.{number_at}
 use Rattle.cpu_words.proofs.by_keeper.KeeperSees.{seen_by_keeper}
-use Rattle.passive_list.specs.declared.keeper.Row.{Row}
-use Rattle.passive_list.specs.declared.place.Place.{Place}
+use Rattle.passive_list.specs.declared.keeper.KeptSlot.{KeptSlot}
+use Rattle.passive_list.specs.declared.place.NumberedCount.{NumberedCount}
 use Rattle.passive_list.specs.Cpus.{NetAgree, OnCpu, place_at}
 use Rattle.passive_list.specs.Keepers.{IsOurKeeper, OnKeeper, row_at, states_of}
 use Rattle.passive_list.proofs.Rows.{live_in, retired_in}
@@ -49,7 +50,7 @@ cpu_at (y ∷ xs) (suc k) x d at = let rest = cpu_at xs k x d at in (omega (arit
 -- An occupied slot
 
 -- what the keeper has of an entry's slot
-pub record Has (a : Settings) (x : OnKeeper) (rows : List Row) (t n : ℕ) : Type 0 where
+pub record Has (a : Settings) (x : OnKeeper) (rows : List KeptSlot) (t n : ℕ) : Type 0 where
   pub entry : Entry
   pub number : entry.number ≡ n
   pub there : IsIn entry (slot_at x.view.slots t)
@@ -61,14 +62,14 @@ pub record Has (a : Settings) (x : OnKeeper) (rows : List Row) (t n : ℕ) : Typ
   pub high : total_at x.view.totals t ≤ bias + 2 ^ 43
 
 -- an entry that the keeper has in a slot is there in its view
-pub in_view : (z : TableId) (a : Settings) (table : TableId) (k : KeeperView) (its : Settings) (rows : List Row) (n t : ℕ) (e : Entry) → IsOurKeeper z a table k its rows n → IsIn e (slot_at (states_of rows) t)
+pub in_view : (z : TableId) (a : Settings) (table : TableId) (k : KeeperView) (its : Settings) (rows : List KeptSlot) (n t : ℕ) (e : Entry) → IsOurKeeper z a table k its rows n → IsIn e (slot_at (states_of rows) t)
     → (t < a.slots) × IsIn e (slot_at k.slots t)
 in_view z a table k its rows n t e our is = ⊎_elim
     (λ (live : slot_at (states_of rows) t ≡ Live e). let here = live_in a k rows t e our.rows live in (here.0, inl here.1))
     (λ (gone : slot_at (states_of rows) t ≡ Retired e). let here = retired_in a k rows t e our.rows gone in (here.0, inr here.1))
     is
 
-pub has : (z : TableId) (a : Settings) (table : TableId) (k : KeeperView) (its : Settings) (rows : List Row) (n : ℕ) (x : OnKeeper) (t m : ℕ) → IsOurKeeper z a table k its rows n → record { view = k; slots = states_of rows } ≡ x → Occupies x t m → Has a x rows t m
+pub has : (z : TableId) (a : Settings) (table : TableId) (k : KeeperView) (its : Settings) (rows : List KeptSlot) (n : ℕ) (x : OnKeeper) (t m : ℕ) → IsOurKeeper z a table k its rows n → record { view = k; slots = states_of rows } ≡ x → Occupies x t m → Has a x rows t m
 has z a table k its rows n x t m our is there =
     let e = there.0 in
     let here = in_view z a table k its rows n t e our (subst (λ (y : OnKeeper). IsIn e (slot_at y.slots t)) (sym is) there.1) in
@@ -94,10 +95,10 @@ has z a table k its rows n x t m our is there =
 -- Of one CPU
 
 -- what its place says of a number is its net count, where it met it there last
-pub net_is : (x : CpuView) (depth made : ℕ) (places : List Place) (t n w : ℕ) → NetAgree x places → 0 < n → w ≡ net_by (place_at places t) n → less_bias w ≡ net_met t n (record { view = x; depth = depth; made = made })
-net_is x depth made places t n w agree begun is =
+pub net_is : (x : CpuView) (depth made : ℕ) (deeds : List Deed) (places : List NumberedCount) (t n w : ℕ) → NetAgree x places → 0 < n → w ≡ net_by (place_at places t) n → less_bias w ≡ net_met t n (record { view = x; depth = depth; made = made; deeds = deeds })
+net_is x depth made deeds places t n w agree begun is =
     let place = place_count x places t n w agree begun is in
-    let net = net_of n (record { view = x; depth = depth; made = made }) in
+    let net = net_of n (record { view = x; depth = depth; made = made; deeds = deeds }) in
     dite (ℕ_discrete (number_at x.met t) n)
     (λ (same : number_at x.met t ≡ n). omega (arith, ints, place.met same) ∙ sym (ap (λ b. cond b net (pos 0)) (eq-eqb (number_at x.met t) n same)))
     (λ (off : number_at x.met t ≢ n). omega (arith, ints, place.other off) ∙ sym (ap (λ b. cond b net (pos 0)) (ne_eqb (number_at x.met t) n off)))

@@ -19,7 +19,7 @@ use Rattle.protocol.specs.History.{after_change}
 use Rattle.cpu_words.specs.declared.view.KeeperView.{KeeperView}
 use Rattle.cpu_words.specs.declared.view.ReferenceView.{ReferenceView}
 use Rattle.passive_list.specs.Cpus.{OnCpu}
-use Rattle.passive_list.specs.declared.keeper.Row.{Row}
+use Rattle.passive_list.specs.declared.keeper.KeptSlot.{KeptSlot}
 use Rattle.passive_list.specs.Keepers.{IsOurKeeper, OnKeeper}
 use Rattle.passive_list.specs.Notes.{HasHeardOn}
 use Rattle.local_count.specs.Draining.{HasFreed, HasGivenUp}
@@ -27,15 +27,16 @@ use Rattle.name_registry.specs.Advancing.{HasAdvanced, HasEnded, HasWorkedFor, M
 use Rattle.name_registry.specs.Attaching.{HasAttachedFor, HasAttachedIfaceFor, attach_answer, attach_iface_answer, given_entry}
 use Rattle.name_registry.specs.Changes.{HasMade, number_of, weigh, weight}
 use Rattle.name_registry.specs.Detaching.{HasDetachedFor, IsDetachAnswer}
-use Rattle.name_registry.specs.Meeting.{HasLearned, HasSeenAttach, HasSeenDetach, having_heard, is_inside}
-use Rattle.name_registry.specs.Performing.{GlancesBelow, GlancesOnce, HasBegun, HasGlanced, HasPassedAll, PassesAt, PassesBelow, PassesNumber, SnapshotsBelow, is_seen, word_of}
+use Rattle.name_registry.specs.Meeting.{HasLearned, HasSeenAttach, HasSeenDetach, keeper_after_hear, is_inside}
+use Rattle.name_registry.specs.Performing.{GlancesBelow, HasBegun, HasGlanced, HasPassedAll, Hold, Looking, PassesAt, PassesBelow, PassesNumber, SnapshotsBelow}
+use Rattle.name_registry.proofs.Glanced.{OnlyLooked, snapshots_look, glances_look}
 use Rattle.name_registry.proofs.Attached.{given_takes, keeping_history}
 
 -- The share
 
 -- a CPU that has learned, and whose calls are counted
 counted : (n : ℕ) (x y : OnCpu) → HasLearned x y → HasLearned x (record y { made = n })
-counted n x y has = record { pass = has.pass; is = ap (λ (o : OnCpu). record o { made = n }) has.is }
+counted n x y has = record { pass = has.pass; deeds = has.deeds; is = ap (λ (o : OnCpu). record o { made = n }) has.is }
 
 pub attach_counted : (x y z : OnCpu) (e : Entry) (n : ℕ) → z ≡ record y { made = n } → HasLearned x y × HasSeenAttach x y e → HasLearned x z × HasSeenAttach x z e
 attach_counted x y z e n is has = subst (λ (o : OnCpu). HasLearned x o × HasSeenAttach x o e) (sym is) (counted n x y has.0, record { later = has.1.later; attached = has.1.attached })
@@ -67,7 +68,7 @@ pub detach_numbered : (k : OnKeeper) (x : OnCpu) (key : Key) (e : Entry) → len
 detach_numbered k x key e short answer = let begun = answer.1.0.begun in omega (arith, begun, short)
 
 -- what the keeper's type keeps of that
-pub few_changes : (z : TableId) (a : Settings) (table : TableId) (k : KeeperView) (its : Settings) (rows : List Row) (n : ℕ) → IsOurKeeper z a table k its rows n → (a.change_limit ≤ 1000000) × (length k.history ≤ 1000000)
+pub few_changes : (z : TableId) (a : Settings) (table : TableId) (k : KeeperView) (its : Settings) (rows : List KeptSlot) (n : ℕ) → IsOurKeeper z a table k its rows n → (a.change_limit ≤ 1000000) × (length k.history ≤ 1000000)
 few_changes z a table k its rows n our =
     let most = (ranges a our.view.fit).changes in
     let room = our.view.room in (most, omega (arith, most, room))
@@ -86,7 +87,7 @@ attach_booked old new a x e b y was grown has = booked old new a.view.history b.
 
 pub iface_booked : (old new : ℕ) (a : OnKeeper) (x : OnCpu) (v : ReferenceView) (e : Entry) (b : OnKeeper) (y : OnCpu) → old ≡ weigh a.view.history → new ≡ old + weight (Attach e) → HasAttachedIfaceFor a x v e b y → new ≡ weigh b.view.history
 iface_booked old new a x v e b y was grown has =
-    let after = ap (λ (k : KeeperView). k.history) has.keeper.attached.entry.view ∙ ap (λ (h : List Change). after_change h (Attach e)) (keeping_history (having_heard a x).view e.slot v) in
+    let after = ap (λ (k : KeeperView). k.history) has.keeper.attached.entry.view ∙ ap (λ (h : List Change). after_change h (Attach e)) (keeping_history (keeper_after_hear a x).view e.slot v) in
     booked old new a.view.history b.view.history (Attach e) was grown after
 
 pub detach_booked : (old new : ℕ) (a : OnKeeper) (x : OnCpu) (e : Entry) (b : OnKeeper) (y : OnCpu) → old ≡ weigh a.view.history → new ≡ old + weight (Detach e.number) → HasDetachedFor a x e b y → new ≡ weigh b.view.history
@@ -123,23 +124,15 @@ advanced_same a n (Err f) b has = ap (λ (k : OnKeeper). k.view.history) has.2
 pub given_up_same : (a : OnKeeper) (v : ReferenceView) (b : OnKeeper) → HasGivenUp a v b → Unchanged a b
 given_up_same a v b has = ap (λ (k : KeeperView). k.history) has.view
 
-snapshots_same : (words : List ℕ) (n : ℕ) (k l : KeeperView) → SnapshotsBelow words n k l → l.history ≡ k.history
-snapshots_same words zero k l is = ap (λ (m : KeeperView). m.history) is
-snapshots_same words (suc n) k l is = ap (λ (m : KeeperView). m.history) is.2.change ∙ snapshots_same words n k is.0 is.1
+-- a hold whose looks leave the history
+hold_same : (looks : Looking → Looking → Type 0) (a : OnKeeper) (x : OnCpu) (b : OnKeeper) (y : OnCpu) → ((k l : Looking) → looks k l → OnlyLooked k.view l.view) → Hold looks a x b y → Unchanged a b
+hold_same looks a x b y only has = ap (λ (k : KeeperView). k.history) has.view ∙ ap (λ (k : KeeperView). k.history) (only _ has.end has.made)
 
-pub begun_same : (z : Settings) (a : OnKeeper) (snapshots : List ℕ) (retired : List (Option ℕ)) (b : OnKeeper) → HasBegun z a snapshots retired b → Unchanged a b
-begun_same z a snapshots retired b has = snapshots_same snapshots z.cpus a.view b.view has.looks
+pub begun_same : (z : Settings) (a : OnKeeper) (x : OnCpu) (snapshots : List ℕ) (retired : List (Option ℕ)) (b : OnKeeper) (y : OnCpu) → HasBegun z a x snapshots retired b y → Unchanged a b
+begun_same z a x snapshots retired b y has = hold_same (SnapshotsBelow snapshots z.cpus) a x b y (λ k l is. (snapshots_look snapshots z.cpus k l is).only) has.hold
 
-glance_same : (snapshot c : ℕ) (seen after : Bool) (k l : KeeperView) → GlancesOnce snapshot c seen k after l → l.history ≡ k.history
-glance_same snapshot c true after k l is = ap (λ (m : KeeperView). m.history) is.1
-glance_same snapshot c false after k l is = ap (λ (m : KeeperView). m.history) is.1.change
-
-glances_same : (snapshots : List ℕ) (seen after : List Bool) (n : ℕ) (k l : KeeperView) → GlancesBelow snapshots seen after n k l → l.history ≡ k.history
-glances_same snapshots seen after zero k l is = ap (λ (m : KeeperView). m.history) is
-glances_same snapshots seen after (suc n) k l is = glance_same (word_of snapshots n) n (is_seen seen n) (is_seen after n) is.0 l is.2 ∙ glances_same snapshots seen after n k is.0 is.1
-
-pub glanced_same : (z : Settings) (snapshots : List ℕ) (a : OnKeeper) (seen : List Bool) (told : Option ℕ) (after : List Bool) (b : OnKeeper) → HasGlanced z snapshots a seen told after b → Unchanged a b
-glanced_same z snapshots a seen told after b has = glances_same snapshots seen after z.cpus a.view b.view has.looks
+pub glanced_same : (z : Settings) (snapshots : List ℕ) (a : OnKeeper) (x : OnCpu) (seen : List Bool) (told : Option ℕ) (after : List Bool) (b : OnKeeper) (y : OnCpu) → HasGlanced z snapshots a x seen told after b y → Unchanged a b
+glanced_same z snapshots a x seen told after b y has = hold_same (GlancesBelow snapshots seen after z.cpus) a x b y (λ k l is. (glances_look snapshots seen after z.cpus k l is).only) has.hold
 
 passes_at_same : (z : Settings) (a : OnKeeper) (o : Option ℕ) (b : OnKeeper) → PassesAt z a o b → Unchanged a b
 passes_at_same z a None b is = ap (λ (k : OnKeeper). k.view.history) is

@@ -4,7 +4,7 @@ use Rattle.registry_values.specs.declared.refusal.Refusal.{Refusal}
 use Rattle.registry_values.specs.declared.settings.Settings.{Settings}
 use Rattle.registry_values.specs.declared.stage.Stage.{Stage}
 use Rattle.registry_values.specs.declared.stage.Stage.TheVariants.{Grace, Passive, Local, Freed}
-use Rattle.registry_values.specs.Stages.{IsObstacle, destroyed, destroyed_if}
+use Rattle.registry_values.specs.Stages.{IsObstacle, destroy_result, destroy_result_of}
 use Rattle.name_registry.specs.Destroying.{Destroys, DestroysOutside, HasDestroyed, LastMeeting, SomeAdvanced, TurnsMeeting, advance_through}
 use Rattle.name_registry.specs.Locking.{IsDestroyRefusal, IsStageOf}
 
@@ -44,23 +44,23 @@ ends_unretired turn n turns x z y stage refusal answer few last not made told = 
 
 -- by the last turn's answer
 
-stage_freed : (z : Settings) (stage : Stage) → IsStageOf z stage → IfOk (destroyed stage) (λ t. t < z.slots)
+stage_freed : (z : Settings) (stage : Stage) → IsStageOf z stage → IfOk (destroy_result stage) (λ t. t < z.slots)
 stage_freed z (Grace c) is = tt
 stage_freed z (Passive c) is = tt
 stage_freed z (Local n) is = tt
 stage_freed z (Freed t) is = is
 
-met_freed : (z : Settings) (number : ℕ) (met : Result Stage Refusal) → SomeAdvanced z number met → IfOk (destroyed_if met) (λ t. t < z.slots)
+met_freed : (z : Settings) (number : ℕ) (met : Result Stage Refusal) → SomeAdvanced z number met → IfOk (destroy_result_of met) (λ t. t < z.slots)
 met_freed z number (Ok stage) is = stage_freed z stage is.1
 met_freed z number (Err refusal) is = tt
 
-stage_refused : (z : Settings) (stage : Stage) → IsStageOf z stage → IfErr (destroyed stage) (λ f. IsDestroyRefusal z false f)
+stage_refused : (z : Settings) (stage : Stage) → IsStageOf z stage → IfErr (destroy_result stage) (λ f. IsDestroyRefusal z false f)
 stage_refused z (Grace c) is = (refl, is, tt)
 stage_refused z (Passive c) is = (refl, is, tt)
 stage_refused z (Local n) is = (refl, is, tt)
 stage_refused z (Freed t) is = tt
 
-met_refused : (z : Settings) (number : ℕ) (met : Result Stage Refusal) → SomeAdvanced z number met → IfErr (destroyed_if met) (λ f. IsDestroyRefusal z false f)
+met_refused : (z : Settings) (number : ℕ) (met : Result Stage Refusal) → SomeAdvanced z number met → IfErr (destroy_result_of met) (λ f. IsDestroyRefusal z false f)
 met_refused z number (Ok stage) is = stage_refused z stage is.1
 met_refused z number (Err refusal) is = subst (λ (f : Refusal). IsDestroyRefusal z false f) (sym is.0.2.0) refl
 

@@ -19,14 +19,14 @@ use Rattle.protocol.proofs.slots.Numbers.{position_fails}
 use Rattle.protocol.proofs.slots.Occupied.{in_within, live_one}
 use Rattle.cpu_words.specs.declared.view.KeeperView.{KeeperView}
 use Rattle.cpu_words.proofs.by_keeper.KeeperSees.{seen_by_keeper}
-use Rattle.passive_list.specs.declared.keeper.Row.{Row}
+use Rattle.passive_list.specs.declared.keeper.KeptSlot.{KeptSlot}
 use Rattle.passive_list.specs.Cpus.{OnCpu}
 use Rattle.passive_list.specs.Keepers.{OnKeeper, states_of, IsOurKeeper}
 use Rattle.passive_list.specs.Notes.{HasHeardOn}
 use Rattle.passive_list.specs.Retiring.{HasDetached}
 use Rattle.passive_list.proofs.Attached.{rows_live, live_rows}
 use Rattle.name_registry.specs.Detaching.{IsDetachRefusal, IsLookupNow, IsLivePlace, HasDetachedFor}
-use Rattle.name_registry.specs.Meeting.{having_heard, is_inside}
+use Rattle.name_registry.specs.Meeting.{keeper_after_hear, is_inside}
 use Rattle.name_registry.proofs.Heard.{seen_detach}
 
 -- The live entries
@@ -37,7 +37,7 @@ pub record ShowsLive (x : OnKeeper) : Type 0 where
   pub placed : (e : Entry) → IsLiveAt x.view.history (length x.view.history) e → slot_at x.slots e.slot ≡ Live e
 
 -- by any state of the core that shows its view
-pub keeper_shows : (z : TableId) (a : Settings) (table : TableId) (k : KeeperView) (its : Settings) (rows : List Row) (n : ℕ) (x : OnKeeper) → IsOurKeeper z a table k its rows n → record { view = k; slots = states_of rows } ≡ x → ShowsLive x
+pub keeper_shows : (z : TableId) (a : Settings) (table : TableId) (k : KeeperView) (its : Settings) (rows : List KeptSlot) (n : ℕ) (x : OnKeeper) → IsOurKeeper z a table k its rows n → record { view = k; slots = states_of rows } ≡ x → ShowsLive x
 keeper_shows z a table k its rows n x our is =
     let p = our.is_shown in
     let seen = seen_by_keeper p.g k p.good p.shown in
@@ -63,7 +63,7 @@ no_place x key shows none e live same =
     position_fails (is_live_as key) x.slots e.slot Slot.Vacant none (in_within x.slots e.slot e (inl placed)) (ap (is_live_as key) placed ∙ (ap (λ (k : Key). same_key k key) same ∙ key_same key))
 
 -- the keeper m heard the CPU x, and answers the entry e of that place
-pub place_is : (a : OnKeeper) (x : OnCpu) (m : OnKeeper) (key : Key) (t : ℕ) (e : Entry) → m ≡ having_heard a x → IsLivePlace a key (Some t) → slot_at m.slots t ≡ Live e → IsLookupNow a key (Some e) × (slot_at a.slots e.slot ≡ Live e) × (e.slot ≡ t)
+pub place_is : (a : OnKeeper) (x : OnCpu) (m : OnKeeper) (key : Key) (t : ℕ) (e : Entry) → m ≡ keeper_after_hear a x → IsLivePlace a key (Some t) → slot_at m.slots t ≡ Live e → IsLookupNow a key (Some e) × (slot_at a.slots e.slot ≡ Live e) × (e.slot ≡ t)
 place_is a x m key t e heard found is =
     let live : slot_at a.slots t ≡ Live e = subst (λ (k : OnKeeper). slot_at k.slots t ≡ Live e) heard is in
     let one : found.0 ≡ e = live_one found.0 e (slot_at a.slots t) live (inl found.1) in
@@ -73,11 +73,11 @@ place_is a x m key t e heard found is =
 -- What it leaves
 
 -- The keeper m heard the CPU x, the entry e in the slot t was retired, and the CPU heard the history that the keeper b has then.
-pub detached_for : (a : OnKeeper) (x : OnCpu) (m : OnKeeper) (n : OnCpu) (t : ℕ) (e : Entry) (b : OnKeeper) (y : OnCpu) → m ≡ having_heard a x → n ≡ x → IsPrefix x.view.pass m.view.history → IsAttached a.view.history e → e.slot ≡ t
+pub detached_for : (a : OnKeeper) (x : OnCpu) (m : OnKeeper) (n : OnCpu) (t : ℕ) (e : Entry) (b : OnKeeper) (y : OnCpu) → m ≡ keeper_after_hear a x → n ≡ x → IsPrefix x.view.pass m.view.history → IsAttached a.view.history e → e.slot ≡ t
     → HasDetached m t e b → HasHeardOn b.view.history n y → HasDetachedFor a x e b y
 detached_for a x m n t e b y heard same seen attached slot has hears =
     let before = subst (λ (k : OnKeeper). IsPrefix x.view.pass k.view.history) heard seen in
-    let done = subst (λ (u : ℕ). HasDetached (having_heard a x) u e b) (sym slot) (subst (λ (k : OnKeeper). HasDetached k t e b) heard has) in
+    let done = subst (λ (u : ℕ). HasDetached (keeper_after_hear a x) u e b) (sym slot) (subst (λ (k : OnKeeper). HasDetached k t e b) heard has) in
     record {
       seen = before;
       keeper = done;

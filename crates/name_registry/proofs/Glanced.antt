@@ -1,12 +1,29 @@
 -- Looks for no entry, CPU by CPU: what a loop over the CPUs has done is so of rows that agree on them, and one CPU more follows.
-use Rattle.std.proofs.Common.{◌≡◌, ℕ, zero, suc, ◌+◌, ◌<◌, List, length, Bool, false, Option, Some, None, IfSome, Result, get_or, set, refl, sym, subst, arith}
+use Rattle.std.proofs.Common.{◌≡◌, ℕ, zero, suc, ◌+◌, ◌<◌, ◌≤◌, List, ◌++◌, length, Bool, true, false, Option, Some, None, IfSome, Result, Err, get_or, set, refl, sym, ap, ◌∙◌, subst, arith}
 use Rattle.std.proofs.lemmas.List.{get_or-set_same, get_or-set_other}
-use Rattle.protocol.specs.declared.event.Event.TheVariants.{Snapshot}
+use mathlib.Core.List.{IsPrefix}
+use Rattle.protocol.specs.declared.event.Event.{Event}
+use Rattle.protocol.specs.declared.event.Event.TheVariants.{Hear, Look, Snapshot}
+use Rattle.protocol.specs.declared.event.Reply.TheVariants.{Done, Word}
+use Rattle.registry_values.specs.declared.entry.Change.{Change}
 use Rattle.registry_values.specs.declared.refusal.Refusal.{Refusal}
-use Rattle.registry_values.specs.Answers.{waiting_for}
 use Rattle.registry_values.specs.declared.settings.Settings.{Settings}
+use Rattle.registry_values.specs.declared.refusal.Refusal.TheVariants.{Inside}
+use Rattle.registry_values.specs.Answers.{wait_answer}
+use Rattle.atomic_table.specs.Seated.{TableId}
 use Rattle.cpu_words.specs.declared.view.KeeperView.{KeeperView}
-use Rattle.name_registry.specs.Performing.{Finishes, GlancesBelow, GlancesOnce, HasPerformed, LooksOnce, Performs, PerformsOutside, SnapshotsBelow, SomeBegan, SomeGlanced, SomePassed, TurnsWaiting, WaitsFor, is_seen, none_seen, turn_through, word_of}
+use Rattle.cpu_words.specs.declared.view.Deed.{Deed}
+use Rattle.cpu_words.specs.Deeds.{changes_in}
+use Rattle.cpu_words.specs.Grace.{MayGlance}
+use Rattle.cpu_words.specs.Notes.{keeper_with_heard}
+use Rattle.cpu_words.specs.Rule.{IsShown, did}
+use Rattle.cpu_words.proofs.shown.KeepersShown.{step_is_shown}
+use Rattle.passive_list.specs.Cpus.{OnCpu}
+use Rattle.passive_list.specs.Keepers.{OnKeeper, row_at, IsAtRest, RowsAgree, IsOurKeeper}
+use Rattle.passive_list.specs.Notes.{HasHeardOn}
+use Rattle.passive_list.proofs.Rows.{row_stays}
+use Rattle.passive_list.specs.declared.keeper.KeptSlot.{KeptSlot}
+use Rattle.name_registry.specs.Performing.{GlancesBelow, GlancesOnce, HasPerformed, Hold, Looking, LooksOnce, PerformsOutside, SnapshotsBelow, is_seen, word_of}
 use Rattle.name_registry.proofs.Owned.{least_small}
 
 -- two rows agree on the first n CPUs
@@ -19,18 +36,18 @@ agree_set d n xs x c lt = get_or-set_other xs n c x d (λ e. absurd (omega (arit
 lesser : {X : Type 0} (d : X) (n : ℕ) (xs ys : List X) → Agree d (suc n) xs ys → Agree d n xs ys
 lesser d n xs ys agree c lt = agree c (omega (arith, lt))
 
-pub snapshots_by : (n : ℕ) (words others : List ℕ) (k l : KeeperView) → Agree 0 n words others → SnapshotsBelow words n k l → SnapshotsBelow others n k l
+pub snapshots_by : (n : ℕ) (words others : List ℕ) (k l : Looking) → Agree 0 n words others → SnapshotsBelow words n k l → SnapshotsBelow others n k l
 snapshots_by zero words others k l agree is = is
 snapshots_by (suc n) words others k l agree is =
     let next : LooksOnce is.0 (Snapshot None n) (word_of others n) l = subst (λ (w : ℕ). LooksOnce is.0 (Snapshot None n) w l) (sym (agree n (omega arith))) is.2 in
     (is.0, snapshots_by n words others k is.0 (lesser 0 n words others agree) is.1, next)
 
 -- the snapshot of the CPU n is the word w
-pub snapshots_more : (n w : ℕ) (words : List ℕ) (k m l : KeeperView) → n < length words → SnapshotsBelow words n k m → LooksOnce m (Snapshot None n) w l → SnapshotsBelow (set words n w) (n + 1) k l
+pub snapshots_more : (n w : ℕ) (words : List ℕ) (k m l : Looking) → n < length words → SnapshotsBelow words n k m → LooksOnce m (Snapshot None n) w l → SnapshotsBelow (set words n w) (n + 1) k l
 snapshots_more n w words k m l lt is look = subst (λ (j : ℕ). SnapshotsBelow (set words n w) j k l) (let e : suc n ≡ n + 1 = omega arith in e)
     (m, snapshots_by n words (set words n w) k m (agree_set 0 n words w) is, subst (λ (v : ℕ). LooksOnce m (Snapshot None n) v l) (sym (get_or-set_same words n w 0 lt)) look)
 
-pub glances_by : (n : ℕ) (snapshots : List ℕ) (seen after others : List Bool) (k l : KeeperView) → Agree false n after others → GlancesBelow snapshots seen after n k l → GlancesBelow snapshots seen others n k l
+pub glances_by : (n : ℕ) (snapshots : List ℕ) (seen after others : List Bool) (k l : Looking) → Agree false n after others → GlancesBelow snapshots seen after n k l → GlancesBelow snapshots seen others n k l
 glances_by zero snapshots seen after others k l agree is = is
 glances_by (suc n) snapshots seen after others k l agree is =
     let next : GlancesOnce (word_of snapshots n) n (is_seen seen n) is.0 (is_seen others n) l =
@@ -38,7 +55,7 @@ glances_by (suc n) snapshots seen after others k l agree is =
     (is.0, glances_by n snapshots seen after others k is.0 (lesser false n after others agree) is.1, next)
 
 -- the CPU n is seen as b says
-pub glances_more : (n : ℕ) (b : Bool) (snapshots : List ℕ) (seen after : List Bool) (k m l : KeeperView) → n < length after → GlancesBelow snapshots seen after n k m
+pub glances_more : (n : ℕ) (b : Bool) (snapshots : List ℕ) (seen after : List Bool) (k m l : Looking) → n < length after → GlancesBelow snapshots seen after n k m
     → GlancesOnce (word_of snapshots n) n (is_seen seen n) m b l → GlancesBelow snapshots seen (set after n b) (n + 1) k l
 glances_more n b snapshots seen after k m l lt is once = subst (λ (j : ℕ). GlancesBelow snapshots seen (set after n b) j k l) (let e : suc n ≡ n + 1 = omega arith in e) (
   m,
@@ -46,46 +63,109 @@ glances_more n b snapshots seen after k m l lt is once = subst (λ (j : ℕ). Gl
   subst (λ (v : Bool). GlancesOnce (word_of snapshots n) n (is_seen seen n) m v l) (sym (get_or-set_same after n b false lt)) once,
 )
 
--- Turns through the lock
+-- What looks leave of the keeper
 
-module _ (z : Settings) (snapshots : List ℕ) where
-  -- what stands between two turns is nowhere said: any X serves
-  waiting_through : {X : Type 0} (n : ℕ) (x y : X) (seen after : List Bool) → TurnsWaiting (λ (v : X) b t a w. SomeGlanced z snapshots b t a) n x seen y after → TurnsWaiting (turn_through z snapshots) n tt seen tt after
-  waiting_through zero x y seen after is = (refl, is.1)
-  waiting_through (suc n) x y seen after is = (tt, is.1, is.2, waiting_through n x is.0 seen is.1 is.3, is.4)
+-- looks and notes alone were counted
+abbrev pub OnlyLooked : KeeperView → KeeperView → Type 0
+OnlyLooked k l = l ≡ record k { looks = l.looks; last_look = l.last_look; heard = l.heard }
 
-  waits_through : {X : Type 0} (turns : ℕ) (x y : X) (told : Option ℕ) → WaitsFor (λ (v : X) b t a w. SomeGlanced z snapshots b t a) turns x none_seen told y → WaitsFor (turn_through z snapshots) turns tt none_seen told tt
-  waits_through turns x y told is = record {
-    earlier = is.earlier;
-    few = is.few;
-    after = is.after;
-    last = (tt, is.last.1, waiting_through is.earlier x is.last.0 none_seen is.last.1 is.last.2, is.last.3);
-    enough = is.enough;
-  }
+-- looks alone were made, and some state shows what is known then
+pub record Looked (k l : Looking) : Type 0 where
+  pub only : OnlyLooked k.view l.view
+  pub is_shown : IsShown k.view → IsShown l.view
 
-ends_through : {X : Type 0} (z : Settings) (numbers : List (Option ℕ)) (x y : X) (told : Option ℕ) → Finishes (λ (v : X) l w. SomePassed z l) numbers x told y → Finishes (λ (v : Unit {0}) l w. SomePassed z l) numbers tt told tt
-ends_through z numbers x y None is = is
-ends_through z numbers x y (Some c) is = refl
+looked_none : (k l : Looking) → l ≡ k → Looked k l
+looked_none k l is = record { only = ap (λ (x : Looking). x.view) is ∙ both l.view k.view (ap (λ (x : Looking). x.view) is); is_shown = λ p. subst (λ (x : Looking). IsShown x.view) (sym is) p }
+  where
+    both : (a b : KeeperView) → a ≡ b → b ≡ record b { looks = a.looks; last_look = a.last_look; heard = a.heard }
+    both a b same = λ j. record b { looks = sym (ap (λ (x : KeeperView). x.looks) same) j; last_look = sym (ap (λ (x : KeeperView). x.last_look) same) j; heard = sym (ap (λ (x : KeeperView). x.heard) same) j }
 
--- a call's parts under the lock, whose value is nowhere said: any X serves
-pub performs_through : {X : Type 0} (z : Settings) (turns : ℕ) (x y : X) (told : Option ℕ)
-    → Performs (λ (v : X) snapshots numbers w. SomeBegan z snapshots numbers) (λ snapshots (v : X) seen t after w. SomeGlanced z snapshots seen t after) (λ (v : X) numbers w. SomePassed z numbers) turns x told y
-    → HasPerformed z turns told
-performs_through z turns x y told is = record {
-  snapshots = is.snapshots;
-  numbers = is.numbers;
-  begun = tt;
-  waited = tt;
-  first = is.first;
-  waits = waits_through z is.snapshots turns is.begun is.waited told is.waits;
-  end = ends_through z is.numbers is.waited y told is.end;
+looked_once : (k m l : Looking) (e : Event) (w : ℕ) → Looked k m → LooksOnce m e w l → Looked k l
+looked_once k m l e w had once =
+    let view : l.view ≡ record m.view { looks = suc m.view.looks; last_look = Some (record { event = e; reply = Word w }) } = ap (λ (x : Looking). x.view) once.change in record {
+      only = subst (λ (v : KeeperView). v ≡ record k.view { looks = v.looks; last_look = v.last_look; heard = v.heard }) (sym view)
+          (ap (λ (v : KeeperView). record v { looks = suc m.view.looks; last_look = Some (record { event = e; reply = Word w }) }) had.only);
+      is_shown = λ p. step_is_shown e (Word w) m.view l.view once.event;
+    }
+
+pub snapshots_look : (words : List ℕ) (n : ℕ) (k l : Looking) → SnapshotsBelow words n k l → Looked k l
+snapshots_look words zero k l is = looked_none k l is
+snapshots_look words (suc n) k l is = looked_once k is.0 l (Snapshot None n) (word_of words n) (snapshots_look words n k is.0 is.1) is.2
+
+glance_looks : (snapshot c : ℕ) (seen after : Bool) (k m l : Looking) → Looked k m → GlancesOnce snapshot c seen m after l → Looked k l
+glance_looks snapshot c true after k m l had is = subst (λ (x : Looking). Looked k x) (sym is.1) had
+glance_looks snapshot c false after k m l had is = looked_once k m l (Look None c) is.0 had is.1
+
+pub glances_look : (snapshots : List ℕ) (seen after : List Bool) (n : ℕ) (k l : Looking) → GlancesBelow snapshots seen after n k l → Looked k l
+glances_look snapshots seen after zero k l is = looked_none k l is
+glances_look snapshots seen after (suc n) k l is = glance_looks (word_of snapshots n) n (is_seen seen n) (is_seen after n) k is.0 l (glances_look snapshots seen after n k is.0 is.1) is.2
+
+-- what was known before a note was heard is known still, but for what was heard
+pub only_heard : (k h l : KeeperView) (pass : List Change) → h ≡ keeper_with_heard k pass → OnlyLooked h l → OnlyLooked k l
+only_heard k h l pass heard only = only ∙ ap (λ (v : KeeperView). record v { looks = l.looks; last_look = l.last_look; heard = l.heard }) heard
+
+-- so the keeper may look on
+pub may_on : (k l : Looking) (c : ℕ) → Looked k l → MayGlance k.view c → MayGlance l.view c
+may_on k l c had may = record { rest = ap (λ (v : KeeperView). v.due) had.only ∙ may.rest; cpu = subst (λ (v : KeeperView). c < v.settings.cpus) (sym had.only) may.cpu }
+
+-- and its rows agree with what it knows
+pub still_ours : (z : TableId) (a : Settings) (table table' : TableId) (k l : KeeperView) (its : Settings) (rows : List KeptSlot) (n : ℕ) → IsOurKeeper z a table k its rows n → table' ≡ table → OnlyLooked k l → IsShown l → IsOurKeeper z a table' l its rows n
+still_ours z a table table' k l its rows n our same only is_shown =
+    let m : KeeperView = record k { looks = l.looks; last_look = l.last_look; heard = l.heard } in record {
+      table = same ∙ our.table;
+      settings = our.settings;
+      view = subst (IsAtRest a) (sym only) record {
+        settings = our.view.settings;
+        fit = our.view.fit;
+        rest = our.view.rest;
+        seated = our.view.seated;
+        sized = record {
+          slots = our.view.sized.slots;
+          marks = our.view.sized.marks;
+          mark_rows = our.view.sized.mark_rows;
+          keeps = our.view.sized.keeps;
+          next = our.view.sized.next;
+          rows = our.view.sized.rows;
+          totals = our.view.sized.totals;
+          counts = our.view.sized.counts;
+          count_rows = our.view.sized.count_rows;
+        };
+        room = our.view.room;
+      };
+      is_shown = is_shown;
+      changes = our.changes ∙ sym (ap (λ (v : KeeperView). length v.history) only);
+      rows = subst (λ (v : KeeperView). RowsAgree a v rows) (sym only) record {
+        size = our.rows.size;
+        each = λ t lt. row_stays k m t (row_at rows t) our.view.rest refl refl refl refl refl (our.rows.each t lt);
+        beyond = our.rows.beyond;
+      };
+    }
+
+-- a hold, from what its three parts say: the hearing, which leaves the CPU, the looks, and the telling
+pub made_hold : (looks : Looking → Looking → Type 0) (a : OnKeeper) (x same : OnCpu) (h l : Looking) (log : List Deed) (b : OnKeeper) (y : OnCpu) → h ≡ record { view = keeper_with_heard a.view x.view.pass; log = log ++ did (Hear None) Done }
+    → IsPrefix x.deeds log → length x.view.pass ≤ changes_in log → same ≡ x → looks h l → b.view ≡ l.view → b.slots ≡ a.slots → HasHeardOn l.view.history same y → IsPrefix l.log y.deeds → Hold looks a x b y
+made_hold looks a x same h l log b y heard known seen is made view slots hears told = record {
+  log = log;
+  known = known;
+  seen = seen;
+  end = l;
+  made = subst (λ (k : Looking). looks k l) heard made;
+  view = view;
+  slots = slots;
+  hears = subst (λ (o : OnCpu). HasHeardOn b.view.history o y) is (subst (λ (v : KeeperView). HasHeardOn v.history same y) (sym view) hears);
+  told = told;
 }
 
+-- What was made
+
 -- the CPU that a turn told is one of the table's
-pub told_small : (z : Settings) (turns : ℕ) (told : Option ℕ) → HasPerformed z turns told → IfSome told (λ c. c < z.cpus)
-told_small z turns told is =
+pub told_small : (z : Settings) (turns : ℕ) (x y : OnCpu) (told : Option ℕ) → HasPerformed z turns x told y → IfSome told (λ c. c < z.cpus)
+told_small z turns x y told is =
     let least = is.waits.last.3.2.least in
     subst (λ (o : Option ℕ). IfSome o (λ c. c < z.cpus)) (sym least) (least_small _ z.cpus)
 
-pub performs_outside : (z : Settings) (turns : ℕ) (inside : Bool) (told : Option ℕ) (result : Result (Unit {0}) Refusal) → inside ≡ false → result ≡ waiting_for told → HasPerformed z turns told → PerformsOutside z turns inside result
-performs_outside z turns inside told result outside is made = subst (λ (b : Bool). PerformsOutside z turns b result) (sym outside) (told, is, made)
+pub performs_outside : (z : Settings) (turns : ℕ) (inside : Bool) (x y : OnCpu) (told : Option ℕ) (result : Result (Unit {0}) Refusal) → inside ≡ false → result ≡ wait_answer told → HasPerformed z turns x told y → PerformsOutside z turns inside x result y
+performs_outside z turns inside x y told result outside is made = subst (λ (b : Bool). PerformsOutside z turns b x result y) (sym outside) (told, is, made)
+
+pub performs_inside : (z : Settings) (turns : ℕ) (inside : Bool) (x : OnCpu) → inside ≡ true → PerformsOutside z turns inside x (Err Inside) x
+performs_inside z turns inside x is = subst (λ (b : Bool). PerformsOutside z turns b x (Err Inside) x) (sym is) (refl, refl)

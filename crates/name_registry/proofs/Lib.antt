@@ -15,4 +15,5 @@ pub mod Tallies
 pub mod Opened
 pub mod Owned
 pub mod Counted
+pub mod Waited
 pub mod Weights

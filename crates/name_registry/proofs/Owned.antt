@@ -9,7 +9,7 @@ use Rattle.registry_values.specs.declared.refusal.Refusal.TheVariants.{NoMemory,
 use Rattle.registry_values.specs.declared.settings.Settings.{Settings}
 use Rattle.registry_values.specs.declared.slot.Key.{Key}
 use Rattle.registry_values.specs.Answers as answers
-use Rattle.registry_values.specs.Answers.{entry_in, has_room, next_entry, waiting_for}
+use Rattle.registry_values.specs.Answers.{entry_in, has_room, next_entry, wait_answer}
 use Rattle.registry_values.specs.Marks.{least_below, or_next}
 use Rattle.registry_values.specs.Slots.{key_of_record, is_iface, is_taken}
 use Rattle.registry_values.proofs.Answers.{attach_tells, given_tells}
@@ -26,9 +26,10 @@ pub learned : (note : List Change) (x y : OnCpu) → HasHeardOn note x y → Has
 learned note x y has =
     let note_is = ap (λ (o : OnCpu). o.view.heard) has.is in
     let made_is = ap (λ (o : OnCpu). o.made) has.is in
-    let heard : y ≡ record x { view = record x.view { pass = y.view.pass; heard = y.view.heard } } = subst (λ (l : List Change). y ≡ record x { view = record x.view { pass = y.view.pass; heard = l } }) (sym note_is) has.is in record {
+    let heard : y ≡ record x { view = record x.view { pass = y.view.pass; heard = y.view.heard }; deeds = y.deeds } = subst (λ (l : List Change). y ≡ record x { view = record x.view { pass = y.view.pass; heard = l }; deeds = y.deeds }) (sym note_is) has.is in record {
       pass = has.pass;
-      is = subst (λ n. y ≡ record x { view = record x.view { pass = y.view.pass; heard = y.view.heard }; made = n }) (sym made_is) heard;
+      deeds = has.deeds;
+      is = subst (λ n. y ≡ record x { view = record x.view { pass = y.view.pass; heard = y.view.heard }; made = n; deeds = y.deeds }) (sym made_is) heard;
     }
 
 -- Attaching
@@ -143,6 +144,6 @@ pub least_small : (p : ℕ → Bool) (n : ℕ) → IfSome (least_below p n) (λ 
 least_small p zero = tt
 least_small p (suc n) = next_small (least_below p n) (p n) n (least_small p n)
 
-pub waiting_refused : (z : Settings) (inside : Bool) (o : Option ℕ) → inside ≡ false → IfSome o (λ c. c < z.cpus) → IfErr (waiting_for o) (λ f. IsPerformRefusal z inside f)
+pub waiting_refused : (z : Settings) (inside : Bool) (o : Option ℕ) → inside ≡ false → IfSome o (λ c. c < z.cpus) → IfErr (wait_answer o) (λ f. IsPerformRefusal z inside f)
 waiting_refused z inside None out small = tt
 waiting_refused z inside (Some c) out small = (out, small)

@@ -10,7 +10,7 @@ use Rattle.registry_values.specs.Slots.{is_plain, is_live_as}
 use Rattle.protocol.specs.State.{kept_at}
 use Rattle.registry_values.proofs.Fit.{ranges}
 use Rattle.cpu_words.specs.declared.view.KeeperView.{KeeperView}
-use Rattle.passive_list.specs.declared.keeper.Row.{Row}
+use Rattle.passive_list.specs.declared.keeper.KeptSlot.{KeptSlot}
 use Rattle.passive_list.specs.Keepers.{OnKeeper, row_at, state_of, states_of, IsOurKeeper}
 use Rattle.name_registry.specs.Attaching.{plain_slot}
 use Rattle.name_registry.specs.Rows.{is_live_row, is_plain_row}
@@ -24,15 +24,15 @@ position_map p f xs = rw (prefix_map (λ y. not (p y)) f xs, length-map xs f) re
 
 -- the live entry of a kind and name
 
-pub live_in_rows : (key : Key) (rows : List Row) → position (is_live_as key) (states_of rows) ≡ position (is_live_row key) rows
+pub live_in_rows : (key : Key) (rows : List KeptSlot) → position (is_live_as key) (states_of rows) ≡ position (is_live_row key) rows
 live_in_rows key rows = position_map (is_live_as key) state_of rows
 
 -- the least plain slot
 
-abbrev pair_of : Row → Slot × Option ℕ
+abbrev pair_of : KeptSlot → Slot × Option ℕ
 pair_of r = (r.state, r.keeps)
 
-pairs : (rows : List Row) (keeps : List (Option ℕ)) → length keeps ≤ length rows → ((t : ℕ) → t < length keeps → (row_at rows t).keeps ≡ kept_at keeps t) → zip (states_of rows) keeps ≡ map pair_of (take (length keeps) rows)
+pairs : (rows : List KeptSlot) (keeps : List (Option ℕ)) → length keeps ≤ length rows → ((t : ℕ) → t < length keeps → (row_at rows t).keeps ≡ kept_at keeps t) → zip (states_of rows) keeps ≡ map pair_of (take (length keeps) rows)
 pairs [] [] le each = refl
 pairs [] (x ∷ keeps) le each = absurd (omega (arith, le))
 pairs (r ∷ rows) [] le each = refl
@@ -41,7 +41,7 @@ pairs (r ∷ rows) (x ∷ keeps) le each =
     let rest = pairs rows keeps (omega (arith, le)) (λ t lt. each (suc t) (omega (arith, lt))) in
     rw (rest, first) refl
 
-pub plain_in_rows : (z : TableId) (a : Settings) (table : TableId) (k : KeeperView) (its : Settings) (rows : List Row) (n : ℕ) (x : OnKeeper) → IsOurKeeper z a table k its rows n → record { view = k; slots = states_of rows } ≡ x → position is_plain_row (take its.slots rows) ≡ plain_slot x
+pub plain_in_rows : (z : TableId) (a : Settings) (table : TableId) (k : KeeperView) (its : Settings) (rows : List KeptSlot) (n : ℕ) (x : OnKeeper) → IsOurKeeper z a table k its rows n → record { view = k; slots = states_of rows } ≡ x → position is_plain_row (take its.slots rows) ≡ plain_slot x
 plain_in_rows z a table k its rows n x our is =
     let size : length k.keeps ≡ a.slots = our.view.sized.keeps in
     let most = (ranges a our.view.fit).slots in

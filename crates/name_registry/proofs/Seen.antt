@@ -7,7 +7,7 @@ use Rattle.protocol.specs.declared.event.Reply.TheVariants.{Word}
 use Rattle.registry_values.specs.declared.settings.Settings.{Settings}
 use Rattle.registry_values.specs.declared.mark.Mark.{Mark}
 use Rattle.registry_values.specs.declared.slot.Slot.{Slot}
-use Rattle.registry_values.specs.Marks.{looked, cleared, is_even, has_changed}
+use Rattle.registry_values.specs.Marks.{mark_after_look, mark_after_passive_look, is_even, has_changed}
 use Rattle.registry_values.specs.Slots.{is_retired, slot_at}
 use Rattle.protocol.specs.State.{at_rest, mark_at}
 use Rattle.protocol.proofs.slots.MarkRows.{snapshot_stands}
@@ -33,7 +33,7 @@ unchanged (Some y) x w some same = ap (λ (n : ℕ). Some n) (eqb-true y w (not_
     not_not false is = absurd (let q : ◌≡◌ {A = Bool} true false = is in cc)
 
 -- a mark that a look at the word w doesn't pass
-looked_tells : (m : Mark) (x w : ℕ) → m.snapshot ≡ Some x → (looked m w).passed ≡ false → (w % 2 ≡ 1) × (m.snapshot ≡ Some w)
+looked_tells : (m : Mark) (x w : ℕ) → m.snapshot ≡ Some x → (mark_after_look m w).passed ≡ false → (w % 2 ≡ 1) × (m.snapshot ≡ Some w)
 looked_tells m x w some unset =
     let word = or_parts (is_even w) (has_changed m.snapshot w) (or_parts m.passed (is_even w || has_changed m.snapshot w) unset).1 in
     (odd_if w word.0, unchanged m.snapshot x w some word.1)
@@ -52,7 +52,7 @@ pub sees_section : (z : Settings) (a b : OnKeeper) (t c w : ℕ) → MayWork z a
     → (mark_at b.view.marks t c).passed ≡ false → SeesSection a t c b
 sees_section z a b t c w may cpu change made unset =
     let m = mark_at a.view.marks t c in
-    let there : mark_at b.view.marks t c ≡ looked m w = ap (λ (l : KeeperView). mark_at l.marks t c) change ∙ mark_put _ _ z a b.view t c (looked m w) may cpu made in
+    let there : mark_at b.view.marks t c ≡ mark_after_look m w = ap (λ (l : KeeperView). mark_at l.marks t c) change ∙ mark_put _ _ z a b.view t c (mark_after_look m w) may cpu made in
     let x = snapshot_at z a b.view t c w may cpu made in
     let tells = looked_tells m x.0 w x.1 (sym (ap (λ (n : Mark). n.passed) there) ∙ unset) in
     record {
@@ -67,7 +67,7 @@ pub sees_passive : (z : Settings) (a b : OnKeeper) (t c w : ℕ) → MayWork z a
     → (mark_at b.view.marks t c).clear ≡ false → SeesPassive a t c b
 sees_passive z a b t c w may cpu change made unset =
     let m = mark_at a.view.marks t c in
-    let there : mark_at b.view.marks t c ≡ cleared m w = ap (λ (l : KeeperView). mark_at l.marks t c) change ∙ mark_put _ _ z a b.view t c (cleared m w) may cpu made in
+    let there : mark_at b.view.marks t c ≡ mark_after_passive_look m w = ap (λ (l : KeeperView). mark_at l.marks t c) change ∙ mark_put _ _ z a b.view t c (mark_after_passive_look m w) may cpu made in
     record {
       word = w;
       look = record { more = let looks = ap (λ (l : KeeperView). l.looks) change in omega (arith, looks); last = ap (λ (l : KeeperView). l.last_look) change };

@@ -18,7 +18,7 @@ use Rattle.registry_values.specs.declared.mark.Mark.{Mark}
 use Rattle.registry_values.specs.declared.slot.Slot.{Slot}
 use Rattle.registry_values.specs.declared.slot.Slot.TheVariants.{Vacant, Live, Retired}
 use Rattle.registry_values.specs.Balances.{Tally, tally_shown, bias}
-use Rattle.protocol.specs.Invariant.{IsIn, adding_at, is_adding_at, subtracting_at}
+use Rattle.protocol.specs.Invariant.{IsIn, addition_due_at, is_adding_at, subtraction_due_at}
 use Rattle.registry_values.specs.Slots.{is_retired, slot_at}
 use Rattle.protocol.specs.State.{State, mark_at, count_at, total_at}
 use Rattle.registry_values.specs.Marks.{no_mark}
@@ -29,7 +29,7 @@ use Rattle.cpu_words.specs.Views.{number_at, collected_net, collected_one, CpuSh
 use Rattle.cpu_words.proofs.by_cpu.Counting.{place_is}
 use Rattle.cpu_words.proofs.by_keeper.KeeperSees.{seen_by_keeper}
 use Rattle.passive_list.specs.Cpus.{OnCpu}
-use Rattle.passive_list.specs.declared.keeper.Row.{Row}
+use Rattle.passive_list.specs.declared.keeper.KeptSlot.{KeptSlot}
 use Rattle.passive_list.specs.Keepers.{IsAtRest, IsOurKeeper, OnKeeper, RowsAgree, TakenAs, states_of}
 use Rattle.passive_list.proofs.Rows.{state_at}
 use Rattle.name_registry.specs.Auditing.{AreAllCpus, AreShown, IsAuditOf, IsKeeperOf, IsTallied, acquired_of, is_collected, local_by, local_met, local_of, locals_of, net_met, net_of, released_of, tallies_met, tally, tally_by, tally_met, tally_of}
@@ -85,7 +85,7 @@ sums k t n (p ∷ row) (x ∷ xs) a each past =
 
 -- Of a slot in such a state
 
-taken_at : (a : Settings) (k : KeeperView) (rows : List Row) (t : ℕ) → IsAtRest a k → RowsAgree a k rows → TakenAs k t (slot_at (states_of rows) t)
+taken_at : (a : Settings) (k : KeeperView) (rows : List KeptSlot) (t : ℕ) → IsAtRest a k → RowsAgree a k rows → TakenAs k t (slot_at (states_of rows) t)
 taken_at a k rows t view agree = ⊎_elim
     (λ (lt : t < a.slots). subst (TakenAs k t) (sym (state_at rows t)) (agree.each t lt).state)
     (λ (past : a.slots ≤ t).
@@ -93,7 +93,7 @@ taken_at a k rows t view agree = ⊎_elim
     subst (TakenAs k t) (sym (state_at rows t ∙ agree.beyond t past)) (inl none))
     (cases_lt t a.slots)
 
-pub known_keeper : (z : TableId) (a : Settings) (table : TableId) (k : KeeperView) (its : Settings) (rows : List Row) (n : ℕ) (x : OnKeeper) → IsOurKeeper z a table k its rows n → record { view = k; slots = states_of rows } ≡ x → IsKeeperOf a x
+pub known_keeper : (z : TableId) (a : Settings) (table : TableId) (k : KeeperView) (its : Settings) (rows : List KeptSlot) (n : ℕ) (x : OnKeeper) → IsOurKeeper z a table k its rows n → record { view = k; slots = states_of rows } ≡ x → IsKeeperOf a x
 known_keeper z a table k its rows n x our is = subst (IsKeeperOf a) is record {
   view = our.view;
   is_shown = our.is_shown;
@@ -142,14 +142,14 @@ held_retired a k xs g t e known all shown gone there =
     let cpus : a.cpus ≡ g.settings.cpus = ap (λ (z : Settings). z.cpus) (sym known.view.settings ∙ seen.settings) in
     let sum = sums k t e.number (zip ms ns) xs (pos 0) each (λ c le. ap (λ (p : Mark × ℕ). p.0.collected) (at c) ∙ shown.keeper.beyond c t (omega (arith, le, all.count, cpus))) in
     let due : g.due ≡ Rest = sym seen.due ∙ known.view.rest in
-    let adding : adding_at t g.due ≡ 0 = ap (adding_at t) due in
+    let adding : addition_due_at t g.due ≡ 0 = ap (addition_due_at t) due in
     let is_adding : is_adding_at t g.due ≡ 0 = ap (is_adding_at t) due in
-    let subtracting : subtracting_at t g.due ≡ 0 = ap (subtracting_at t) due in
+    let subtracting : subtraction_due_at t g.due ≡ 0 = ap (subtraction_due_at t) due in
     let total = shown.keeper.gives_up t e here in
     let same = ap (λ (y : List ℕ). total_at y t) seen.totals in
     omega (arith, ints, sum, total, same, adding, is_adding, subtracting)
 
-held_right : (a : Settings) (k : OnKeeper) (xs : List OnCpu) (g : State) (t : ℕ) (e : Entry) → IsKeeperOf a k → AreAllCpus a.cpus xs → AreShown g k xs → IsIn e (slot_at k.slots t) → (tally_of k xs e.number t).held ≡ tally k xs e.number
+pub held_right : (a : Settings) (k : OnKeeper) (xs : List OnCpu) (g : State) (t : ℕ) (e : Entry) → IsKeeperOf a k → AreAllCpus a.cpus xs → AreShown g k xs → IsIn e (slot_at k.slots t) → (tally_of k xs e.number t).held ≡ tally k xs e.number
 held_right a k xs g t e known all shown is = ⊎_elim
     (λ (live : slot_at k.slots t ≡ Live e). held_live k xs g t e shown live (subst (TakenAs k.view t) live (known.slots t)))
     (λ (gone : slot_at k.slots t ≡ Retired e). held_retired a k xs g t e known all shown gone (subst (TakenAs k.view t) gone (known.slots t)))

@@ -12,7 +12,7 @@ use Rattle.registry_values.specs.declared.mark.Mark.{Mark}
 use Rattle.registry_values.specs.declared.slot.Slot.{Slot}
 use Rattle.registry_values.specs.declared.slot.Slot.TheVariants.{Retired}
 use Rattle.registry_values.specs.Stages.{stage_of}
-use Rattle.registry_values.specs.Marks.{Grows, looked, cleared, collected, have_passed, are_clear, are_collected}
+use Rattle.registry_values.specs.Marks.{Grows, mark_after_look, mark_after_passive_look, mark_after_collect, have_passed, are_clear, are_collected}
 use Rattle.protocol.specs.Events.{keeps_rightly}
 use Rattle.protocol.specs.Invariant.{DriversKept}
 use Rattle.protocol.specs.State.{State, opening, mark_at, total_at, kept_at, with_cell}
@@ -25,7 +25,7 @@ use Rattle.cpu_words.specs.declared.view.View.TheVariants.{Keeper}
 use Rattle.cpu_words.specs.Rule.{IsShown}
 use Rattle.cpu_words.specs.Steps.{Makes}
 use Rattle.cpu_words.proofs.by_keeper.KeeperSees.{seen_by_keeper}
-use Rattle.passive_list.specs.declared.keeper.Row.{Row}
+use Rattle.passive_list.specs.declared.keeper.KeptSlot.{KeptSlot}
 use Rattle.passive_list.specs.Keepers.{OnKeeper, states_of, IsOurKeeper}
 use Rattle.passive_list.specs.Vacating.{IsDrainedOn}
 use Rattle.passive_list.proofs.Marks.{marked}
@@ -48,7 +48,7 @@ keeps_iface k t d e is_shown is kept =
     iface_if (kept_at k.keeps t) e.rec.kind d (keeps.rightly t e (inr is)) kept
 
 -- a keeper has work at each slot that it has as retired
-pub may_work : (z : TableId) (a : Settings) (table : TableId) (k : KeeperView) (its : Settings) (rows : List Row) (n : ℕ) (x : OnKeeper) (t : ℕ) (e : Entry) → IsOurKeeper z a table k its rows n → record { view = k; slots = states_of rows } ≡ x
+pub may_work : (z : TableId) (a : Settings) (table : TableId) (k : KeeperView) (its : Settings) (rows : List KeptSlot) (n : ℕ) (x : OnKeeper) (t : ℕ) (e : Entry) → IsOurKeeper z a table k its rows n → record { view = k; slots = states_of rows } ≡ x
     → slot_at x.slots t ≡ Retired e → MayWork a x t
 may_work z a table k its rows n x t e our is retired =
     let there : slot_at (states_of rows) t ≡ Retired e = ap (λ (y : OnKeeper). slot_at y.slots t) is ∙ retired in
@@ -97,10 +97,10 @@ looked_more a b d t x y = record { worked = worked_more a b d t x.worked y.worke
 
 -- One step
 
-pub looked_grows : (m : Mark) (w : ℕ) → Grows m (looked m w)
+pub looked_grows : (m : Mark) (w : ℕ) → Grows m (mark_after_look m w)
 looked_grows m w = record { snapshot = refl; passed = λ p. or_left m.passed _ p; clear = λ p. p; collected = λ p. p }
 
-pub cleared_grows : (m : Mark) (w : ℕ) → Grows m (cleared m w)
+pub cleared_grows : (m : Mark) (w : ℕ) → Grows m (mark_after_passive_look m w)
 cleared_grows m w = record { snapshot = refl; passed = λ p. p; clear = λ p. or_left m.clear _ p; collected = λ p. p }
 
 -- a look makes m of the mark of c
@@ -129,7 +129,7 @@ mark_put ev r z a l t c m may cpu made =
 
 pub collection_marks : (z : Settings) (a b : OnKeeper) (t c : ℕ) → MayWork z a t → c < z.cpus → HasCollectedInto a t c b → (mark_at b.view.marks t c).collected ≡ true
 collection_marks z a b t c may cpu has =
-    ap (λ (l : KeeperView). (mark_at l.marks t c).collected) has.view ∙ ap (λ (m : Mark). m.collected) (mark_put _ _ z a _ t c (collected (mark_at a.view.marks t c)) may cpu has.collected)
+    ap (λ (l : KeeperView). (mark_at l.marks t c).collected) has.view ∙ ap (λ (m : Mark). m.collected) (mark_put _ _ z a _ t c (mark_after_collect (mark_at a.view.marks t c)) may cpu has.collected)
 
 -- What is so of all CPUs
 
@@ -158,7 +158,7 @@ still_collected a b t n worked each c lt = (worked.marks.here c).collected (each
 
 -- a slot with all marks is drained once nothing is held
 pub is_drained : (z : Settings) (x : OnKeeper) (t held : ℕ) → MayWork z x t → PassedBelow x.view t z.cpus → ClearBelow x.view t z.cpus → CollectedBelow x.view t z.cpus → held + bias ≡ total_at x.view.totals t → held ≡ 0 → IsDrainedOn x t
-is_drained z x t held may passed clear collected total none =
+is_drained z x t held may passed clear mark_after_collect total none =
     let cpus : x.view.settings.cpus ≡ z.cpus = ap (λ (s : Settings). s.cpus) may.settings in
     record {
       retired = (may.e, may.retired);
@@ -167,7 +167,7 @@ is_drained z x t held may passed clear collected total none =
         retired = (may.e, may.known);
         passed = rw cpus (all_passed x.view t z passed);
         clear = rw cpus (all_clear x.view t z clear);
-        collected = rw cpus (all_collected x.view t z collected);
+        collected = rw cpus (all_collected x.view t z mark_after_collect);
         total = omega (arith, total, none);
       };
     }

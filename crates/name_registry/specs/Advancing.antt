@@ -16,7 +16,7 @@ use Rattle.registry_values.specs.Slots.{is_retired_as, retired_slot, slot_at}
 use Rattle.protocol.specs.Marking.{MarksGrow}
 use Rattle.protocol.specs.State.{mark_at, total_at, kept_at}
 use Rattle.cpu_words.specs.declared.view.KeeperView.{KeeperView}
-use Rattle.passive_list.specs.declared.keeper.Row.{Row}
+use Rattle.passive_list.specs.declared.keeper.KeptSlot.{KeptSlot}
 use Rattle.passive_list.specs.Keepers.{OnKeeper}
 use Rattle.passive_list.specs.Vacating.{IsDrainedOn}
 use Rattle.local_count.specs.Draining.{AreHeld, HasFreed}
@@ -130,7 +130,7 @@ Meets a t (Local n) b = MeetsLocal a t n b
 Meets a t (Freed u) b = (u ≡ t) × MeetsNone a t b
 
 -- the row of a slot has the retired entry with this number
-abbrev pub is_retired_row : ℕ → Row → Bool
+abbrev pub is_retired_row : ℕ → KeptSlot → Bool
 is_retired_row n r = is_retired_as n r.state
 
 -- What advance answers and leaves.

@@ -14,7 +14,7 @@ use Rattle.passive_list.specs.Keepers.{OnKeeper}
 use Rattle.passive_list.specs.Notes.{HasHeardOn}
 use Rattle.passive_list.specs.Publishing.{HasAttached}
 use Rattle.local_count.specs.Draining.{HasAttachedKeeping}
-use Rattle.name_registry.specs.Meeting.{is_inside, having_heard, HasSeenAttach}
+use Rattle.name_registry.specs.Meeting.{is_inside, keeper_after_hear, HasSeenAttach}
 
 abbrev pub plain_slot : OnKeeper → Option ℕ
 plain_slot k = answers.plain_slot k.slots k.view.keeps
@@ -39,12 +39,12 @@ attach_iface_answer a k x rec v = answers.attach_answer (is_inside x) (is_iface 
 
 pub record HasAttachedFor (a : OnKeeper) (x : OnCpu) (e : Entry) (b : OnKeeper) (y : OnCpu) : Type 0 where
   pub seen : IsPrefix x.view.pass a.view.history
-  pub keeper : HasAttached (having_heard a x) e b
+  pub keeper : HasAttached (keeper_after_hear a x) e b
   pub cpu : HasHeardOn b.view.history x y
   pub own : HasSeenAttach x y e
 
 pub record HasAttachedIfaceFor (a : OnKeeper) (x : OnCpu) (v : ReferenceView) (e : Entry) (b : OnKeeper) (y : OnCpu) : Type 0 where
   pub seen : IsPrefix x.view.pass a.view.history
-  pub keeper : HasAttachedKeeping (having_heard a x) v e b
+  pub keeper : HasAttachedKeeping (keeper_after_hear a x) v e b
   pub cpu : HasHeardOn b.view.history x y
   pub own : HasSeenAttach x y e

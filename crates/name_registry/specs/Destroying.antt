@@ -4,7 +4,7 @@ use Rattle.registry_values.specs.declared.refusal.Refusal.{Refusal}
 use Rattle.registry_values.specs.declared.refusal.Refusal.TheVariants.{Inside}
 use Rattle.registry_values.specs.declared.settings.Settings.{Settings}
 use Rattle.registry_values.specs.declared.stage.Stage.{Stage}
-use Rattle.registry_values.specs.Stages.{IsObstacle, destroyed_if}
+use Rattle.registry_values.specs.Stages.{IsObstacle, destroy_result_of}
 use Rattle.passive_list.specs.Keepers.{OnKeeper}
 use Rattle.name_registry.specs.Advancing.{HasAdvanced}
 use Rattle.name_registry.specs.Locking.{IsStageOf}
@@ -33,7 +33,7 @@ module _ {X : Type 0} (turn : X → Result Stage Refusal → X → Type 0) where
     pub met : Result Stage Refusal
     pub last : LastMeeting earlier x met y
     pub enough : (MeetsObstacle met → ⊥) ⊎ (suc earlier ≡ turns)
-    pub told : answer ≡ destroyed_if met
+    pub told : answer ≡ destroy_result_of met
 
 -- Through the lock, whose value no contract can name: of some keeper, as the call found it and left it
 

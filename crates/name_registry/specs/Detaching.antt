@@ -12,7 +12,7 @@ use Rattle.passive_list.specs.Cpus.{OnCpu}
 use Rattle.passive_list.specs.Keepers.{OnKeeper}
 use Rattle.passive_list.specs.Notes.{HasHeardOn}
 use Rattle.passive_list.specs.Retiring.{HasDetached}
-use Rattle.name_registry.specs.Meeting.{is_inside, having_heard, HasSeenDetach}
+use Rattle.name_registry.specs.Meeting.{is_inside, keeper_after_hear, HasSeenDetach}
 
 -- the answer of a lookup now
 abbrev pub IsLookupNow : OnKeeper → Key → Option Entry → Type 0
@@ -36,6 +36,6 @@ IsDetachAnswer k x key (Err refusal) = IsDetachRefusal k x key refusal
 -- the keeper has heard the CPU's pass, e is retired, and the CPU has heard the history with its detach
 pub record HasDetachedFor (a : OnKeeper) (x : OnCpu) (e : Entry) (b : OnKeeper) (y : OnCpu) : Type 0 where
   pub seen : IsPrefix x.view.pass a.view.history
-  pub keeper : HasDetached (having_heard a x) e.slot e b
+  pub keeper : HasDetached (keeper_after_hear a x) e.slot e b
   pub cpu : HasHeardOn b.view.history x y
   pub own : HasSeenDetach x y e

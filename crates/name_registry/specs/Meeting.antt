@@ -11,13 +11,14 @@ abbrev pub is_inside : OnCpu → Bool
 is_inside x = is_some x.view.begin
 
 -- the keeper as it has heard what the CPU has seen
-abbrev pub having_heard : OnKeeper → OnCpu → OnKeeper
-having_heard a x = record { view = keeper_with_heard a.view x.view.pass; slots = a.slots }
+abbrev pub keeper_after_hear : OnKeeper → OnCpu → OnKeeper
+keeper_after_hear a x = record { view = keeper_with_heard a.view x.view.pass; slots = a.slots }
 
--- the CPU's pass has grown, and nothing else of it changed but what it heard, and what its calls have made
+-- the CPU's pass has grown, and what it knows of the keeper's deeds, and nothing else of it changed but what it heard, and what its calls have made
 pub record HasLearned (x y : OnCpu) : Type 0 where
   pub pass : IsPrefix x.view.pass y.view.pass
-  pub is : y ≡ record x { view = record x.view { pass = y.view.pass; heard = y.view.heard }; made = y.made }
+  pub deeds : IsPrefix x.deeds y.deeds
+  pub is : y ≡ record x { view = record x.view { pass = y.view.pass; heard = y.view.heard }; made = y.made; deeds = y.deeds }
 
 -- the attach of e stands after all that the CPU had seen, and the CPU has seen it
 pub record HasSeenAttach (x y : OnCpu) (e : Entry) : Type 0 where

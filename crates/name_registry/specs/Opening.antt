@@ -1,5 +1,5 @@
 -- A registry before it is named, and its CPUs as it is opened.
-use Rattle.std.specs.Prelude.{◌≡◌, ℕ, ◌<◌, List, length, IsTrue}
+use Rattle.std.specs.Prelude.{◌≡◌, ℕ, ◌<◌, List, [], length, IsTrue}
 use mathlib.Core.Option.{some}
 use lib.ListN.{get_elem?}
 use Rattle.atomic_table.specs.Seated.{TableId}
@@ -31,4 +31,4 @@ IsBlankOf b table settings name parts = (b.table ≡ table) × (b.settings ≡ s
 -- the first n CPUs, CPU 0 first, all outside, and nothing was found, is held or was made
 pub record AreNewCpus (z : Settings) (n : ℕ) (xs : List OnCpu) : Type 0 where
   pub count : length xs ≡ n
-  pub each : (c : ℕ) → c < n → get_elem? xs c ≡ some (record { view = new_cpu z c; depth = 0; made = 0 })
+  pub each : (c : ℕ) → c < n → get_elem? xs c ≡ some (record { view = new_cpu z c; depth = 0; made = 0; deeds = [] })

@@ -1,27 +1,43 @@
 -- Waiting for open sections (pserialize(9)): which looks a perform makes under the interlock, what it makes of their answers, and in how many turns.
-use Rattle.std.specs.Prelude.{◌≡◌, ◌⊎◌, ℕ, zero, suc, ◌<◌, List, Option, Some, None, Bool, true, false, not, Result, Err, replicate, slice_index_or}
+use Rattle.std.specs.Prelude.{◌≡◌, ◌⊎◌, ℕ, zero, suc, ◌<◌, ◌≤◌, List, ◌++◌, length, Option, Some, None, Bool, true, false, not, Result, Err, replicate, slice_index_or}
+use mathlib.Core.List.{IsPrefix}
 use Rattle.protocol.specs.declared.event.Event.{Event}
-use Rattle.protocol.specs.declared.event.Event.TheVariants.{Look, Snapshot}
-use Rattle.protocol.specs.declared.event.Reply.TheVariants.{Word}
+use Rattle.protocol.specs.declared.event.Event.TheVariants.{Hear, Look, Snapshot}
+use Rattle.protocol.specs.declared.event.Reply.TheVariants.{Done, Word}
 use Rattle.registry_values.specs.declared.refusal.Refusal.{Refusal}
 use Rattle.registry_values.specs.declared.refusal.Refusal.TheVariants.{Inside}
 use Rattle.registry_values.specs.declared.settings.Settings.{Settings}
-use Rattle.registry_values.specs.Answers.{waiting_for}
+use Rattle.registry_values.specs.Answers.{wait_answer}
 use Rattle.registry_values.specs.Marks.{is_out, least_below}
 use Rattle.registry_values.specs.Slots.{retired_number, retired_slot, slot_at}
+use Rattle.cpu_words.specs.declared.view.Deed.{Deed}
 use Rattle.cpu_words.specs.declared.view.KeeperView.{KeeperView}
 use Rattle.cpu_words.specs.declared.view.View.TheVariants.{Keeper}
-use Rattle.cpu_words.specs.Grace.{having_looked}
+use Rattle.cpu_words.specs.Deeds.{changes_in, HasWaited}
+use Rattle.cpu_words.specs.Grace.{keeper_after_look}
+use Rattle.cpu_words.specs.Notes.{keeper_with_heard}
+use Rattle.cpu_words.specs.Rule.{did}
 use Rattle.cpu_words.specs.Steps.{Makes}
+use Rattle.cpu_words.specs.Views.{Seated}
+use Rattle.passive_list.specs.Cpus.{OnCpu}
 use Rattle.passive_list.specs.Keepers.{OnKeeper}
+use Rattle.passive_list.specs.Notes.{HasHeardOn}
 use Rattle.name_registry.specs.Advancing.{HasLookedFor, MeetsGrace, PassedBelow}
 
 -- The keeper's looks for no entry
 
--- just this look more was made, and found the word w: it is counted with its answer, and nothing else changed
-pub record LooksOnce (k : KeeperView) (e : Event) (w : ℕ) (l : KeeperView) : Type 0 where
-  pub event : Makes e (Word w) (Keeper k) (Keeper l)
-  pub change : l ≡ having_looked k e (Word w)
+-- the keeper's seat in one hold of the interlock: what it knows, and what it did
+pub record Looking : Type 0 where
+  pub view : KeeperView
+  pub log : List Deed
+
+abbrev pub looking : Seated KeeperView → Looking
+looking s = record { view = s.view; log = s.log }
+
+-- just this look more was made, and found the word w: it is counted with its answer and stands in the log, and nothing else changed
+pub record LooksOnce (k : Looking) (e : Event) (w : ℕ) (l : Looking) : Type 0 where
+  pub event : Makes e (Word w) (Keeper k.view) (Keeper l.view)
+  pub change : l ≡ record { view = keeper_after_look k.view e (Word w); log = k.log ++ did e (Word w) }
 
 -- what a list by CPUs has of the CPU c
 
@@ -32,33 +48,45 @@ abbrev pub is_seen : List Bool → ℕ → Bool
 is_seen seen c = slice_index_or seen c false
 
 -- a snapshot of each of the first n CPUs, CPU 0 first: these are the words found
-abbrev pub SnapshotsBelow : List ℕ → ℕ → KeeperView → KeeperView → Type 0
+abbrev pub SnapshotsBelow : List ℕ → ℕ → Looking → Looking → Type 0
 SnapshotsBelow words zero k l = l ≡ k
-SnapshotsBelow words (suc n) k l = (m : KeeperView) × SnapshotsBelow words n k m × LooksOnce m (Snapshot None n) (word_of words n) l
+SnapshotsBelow words (suc n) k l = (m : Looking) × SnapshotsBelow words n k m × LooksOnce m (Snapshot None n) (word_of words n) l
 
 -- The CPU c is glanced at once, unless it was seen out of the section of its snapshot before. It counts as seen then just where its own word, as this glance found it, is out of that section.
-abbrev pub GlancesOnce : ℕ → ℕ → Bool → KeeperView → Bool → KeeperView → Type 0
+abbrev pub GlancesOnce : ℕ → ℕ → Bool → Looking → Bool → Looking → Type 0
 GlancesOnce snapshot c true k after l = (after ≡ true) × (l ≡ k)
 GlancesOnce snapshot c false k after l = (w : ℕ) × LooksOnce k (Look None c) w l × (after ≡ is_out snapshot w)
 
 -- the first n CPUs, CPU 0 first
-abbrev pub GlancesBelow : List ℕ → List Bool → List Bool → ℕ → KeeperView → KeeperView → Type 0
+abbrev pub GlancesBelow : List ℕ → List Bool → List Bool → ℕ → Looking → Looking → Type 0
 GlancesBelow snapshots seen after zero k l = l ≡ k
 GlancesBelow snapshots seen after (suc n) k l =
-    (m : KeeperView) × GlancesBelow snapshots seen after n k m × GlancesOnce (word_of snapshots n) n (is_seen seen n) m (is_seen after n) l
+    (m : Looking) × GlancesBelow snapshots seen after n k m × GlancesOnce (word_of snapshots n) n (is_seen seen n) m (is_seen after n) l
+
+-- One hold of the interlock
+
+-- The keeper a hears first what the CPU x knows: its log goes on from that, and its history is as long as the log says. Then it makes the looks, and nothing else. At the end the CPU hears the history and all that the keeper did.
+pub record Hold (looks : Looking → Looking → Type 0) (a : OnKeeper) (x : OnCpu) (b : OnKeeper) (y : OnCpu) : Type 0 where
+  pub log : List Deed
+  pub known : IsPrefix x.deeds log
+  pub seen : length x.view.pass ≤ changes_in log
+  pub end : Looking
+  pub made : looks (record { view = keeper_with_heard a.view x.view.pass; log = log ++ did (Hear None) Done }) end
+  pub view : b.view ≡ end.view
+  pub slots : b.slots ≡ a.slots
+  pub hears : HasHeardOn b.view.history x y
+  pub told : IsPrefix end.log y.deeds
 
 -- The parts that are lent the keeper
 
 -- As a perform begins: one snapshot of each CPU, and of each slot the number of the entry that is retired there.
-pub record HasBegun (z : Settings) (a : OnKeeper) (snapshots : List ℕ) (retired : List (Option ℕ)) (b : OnKeeper) : Type 0 where
-  pub looks : SnapshotsBelow snapshots z.cpus a.view b.view
-  pub slots : b.slots ≡ a.slots
+pub record HasBegun (z : Settings) (a : OnKeeper) (x : OnCpu) (snapshots : List ℕ) (retired : List (Option ℕ)) (b : OnKeeper) (y : OnCpu) : Type 0 where
+  pub hold : Hold (SnapshotsBelow snapshots z.cpus) a x b y
   pub numbers : (t : ℕ) → t < 32 → slice_index_or retired t None ≡ retired_number (slot_at a.slots t)
 
 -- One turn: a glance at each CPU that wasn't seen yet, and the least that still wasn't.
-pub record HasGlanced (z : Settings) (snapshots : List ℕ) (a : OnKeeper) (seen : List Bool) (told : Option ℕ) (after : List Bool) (b : OnKeeper) : Type 0 where
-  pub looks : GlancesBelow snapshots seen after z.cpus a.view b.view
-  pub slots : b.slots ≡ a.slots
+pub record HasGlanced (z : Settings) (snapshots : List ℕ) (a : OnKeeper) (x : OnCpu) (seen : List Bool) (told : Option ℕ) (after : List Bool) (b : OnKeeper) (y : OnCpu) : Type 0 where
+  pub hold : Hold (GlancesBelow snapshots seen after z.cpus) a x b y
   pub least : told ≡ least_below (λ c. not (is_seen after c)) z.cpus
 
 -- the retired entry in the slot t was looked at for each CPU that hadn't passed: all have passed now, or the section of its snapshot is open still on one
@@ -127,26 +155,33 @@ pub record Performs {X : Type 0} (begins : X → List ℕ → List (Option ℕ) 
   pub waits : WaitsFor (turn snapshots) turns begun none_seen answer waited
   pub end : Finishes passes numbers waited answer y
 
--- Through the lock, whose value no contract can name: of some keeper, as the call found it and left it
+-- Through the lock, whose value no contract can name: of some keeper, as the call found it and left it. What stands between two holds is the caller's CPU.
 
-abbrev pub SomeBegan : Settings → List ℕ → List (Option ℕ) → Type 0
-SomeBegan z snapshots numbers = (a : OnKeeper) × (b : OnKeeper) × HasBegun z a snapshots numbers b
+abbrev pub SomeBegan : Settings → OnCpu → List ℕ → List (Option ℕ) → OnCpu → Type 0
+SomeBegan z x snapshots numbers y = (a : OnKeeper) × (b : OnKeeper) × HasBegun z a x snapshots numbers b y
 
-abbrev pub SomeGlanced : Settings → List ℕ → List Bool → Option ℕ → List Bool → Type 0
-SomeGlanced z snapshots seen answer after = (a : OnKeeper) × (b : OnKeeper) × HasGlanced z snapshots a seen answer after b
+abbrev pub SomeGlanced : Settings → List ℕ → OnCpu → List Bool → Option ℕ → List Bool → OnCpu → Type 0
+SomeGlanced z snapshots x seen told after y = (a : OnKeeper) × (b : OnKeeper) × HasGlanced z snapshots a x seen told after b y
 
-abbrev pub SomePassed : Settings → List (Option ℕ) → Type 0
-SomePassed z numbers = (a : OnKeeper) × (b : OnKeeper) × HasPassedAll z a numbers b
+abbrev pub SomePassed : Settings → OnCpu → List (Option ℕ) → OnCpu → Type 0
+SomePassed z x numbers y = (a : OnKeeper) × (b : OnKeeper) × HasPassedAll z a numbers b × (y ≡ x)
 
 -- What a call of perform made, by the least CPU that it told.
+abbrev pub HasPerformed : Settings → ℕ → OnCpu → Option ℕ → OnCpu → Type 0
+HasPerformed z turns x told y = Performs (SomeBegan z) (SomeGlanced z) (SomePassed z) turns x told y
 
-abbrev pub turn_through : Settings → List ℕ → Unit {0} → List Bool → Option ℕ → List Bool → Unit {0} → Type 0
-turn_through z snapshots x seen told after y = SomeGlanced z snapshots seen told after
+-- inside a section nothing is done; outside the perform was made, and the answer is the CPU that was told
+abbrev pub PerformsOutside : Settings → ℕ → Bool → OnCpu → Result (Unit {0}) Refusal → OnCpu → Type 0
+PerformsOutside z turns true x result y = (result ≡ Err Inside) × (y ≡ x)
+PerformsOutside z turns false x result y = (told : Option ℕ) × (result ≡ wait_answer told) × HasPerformed z turns x told y
 
-abbrev pub HasPerformed : Settings → ℕ → Option ℕ → Type 0
-HasPerformed z turns told = Performs (λ x snapshots numbers y. SomeBegan z snapshots numbers) (turn_through z) (λ x numbers y. SomePassed z numbers) turns tt told tt
+-- What the caller's CPU knows at the end
 
--- outside a section it was made, and the answer is the CPU that was told
-abbrev pub PerformsOutside : Settings → ℕ → Bool → Result (Unit {0}) Refusal → Type 0
-PerformsOutside z turns true result = result ≡ Err Inside
-PerformsOutside z turns false result = (told : Option ℕ) × (result ≡ waiting_for told) × HasPerformed z turns told
+-- When the keeper had done just `before`, it had heard all that the CPU knew as the call began: what the CPU knew of the keeper's deeds, and its pass. Since then it saw each CPU out of a section: by the law `running_headline` (`waiting`) each section that was open then has ended.
+pub record HasSeenAllOut (cpus : ℕ) (x y : OnCpu) : Type 0 where
+  pub before : List Deed
+  pub since : List Deed
+  pub are : y.deeds ≡ before ++ since
+  pub known : IsPrefix x.deeds before
+  pub seen : length x.view.pass ≤ changes_in before
+  pub waited : HasWaited since cpus

@@ -12,7 +12,7 @@ ghost use Rattle.name_registry.specs.Locking.{IsStageOf};
 
 use cpu_words::{Domain, Words};
 use local_count::{collect, collected, free_iface, total};
-use passive_list::{Keeper, Row, look, vacate};
+use passive_list::{Keeper, KeptSlot, look, vacate};
 use passive_ref::look_passive;
 use registry_values::{Refusal, Stage, is_retired_as, settled};
 
@@ -47,7 +47,7 @@ pub(crate) fn retired_place<D: Domain>(keeper: &Keeper<D>, number: u64) -> Optio
     }
 }
 
-fn place_retired_as(rows: &[Row], number: u64) -> Option<usize>
+fn place_retired_as(rows: &[KeptSlot], number: u64) -> Option<usize>
     ensures { result ≡ position (is_retired_row number) rows.now }
 {
     rows.iter()

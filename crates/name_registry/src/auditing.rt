@@ -131,8 +131,10 @@ fn local<D: Domain>(keeper: &Keeper<D>, cpu: &Cpu<D>, t: u8, number: u64) -> i64
     local_on(keeper, &cpu.plain, t, number)
 }
 
-/// The same of a CPU that names its own table.
-fn local_on<D: Domain>(keeper: &Keeper<D>, cpu: &PlainCpu, t: u8, number: u64) -> i64
+/// What an audit says of one CPU, for a caller that is lent the CPUs one at a time, each naming its own table: its net count for the entry
+/// with `number` in the slot `t`, by its place; 0 where the keeper has collected it. It makes no step.
+/// Condition: the CPU is one of the registry, and the slot too; an entry's number is never 0.
+pub fn local_on<D: Domain>(keeper: &Keeper<D>, cpu: &PlainCpu, t: u8, number: u64) -> i64
     requires settings { cpu.now.words.settings ≡ D.settings }
     requires entry { (t < D.settings.slots) × (0 < number) }
     ensures value { result ≡ local_met keeper.now t number cpu.now.cpu }

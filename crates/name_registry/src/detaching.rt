@@ -8,7 +8,7 @@ ghost use Rattle.name_registry.specs.Rows.{is_live_row};
 
 use crate::meeting::{hear_cpu, show_cpu};
 use cpu_words::{Domain, Words};
-use passive_list::{Cpu, Keeper, Row, retire};
+use passive_list::{Cpu, Keeper, KeptSlot, retire};
 use registry_values::{Entry, Key, Kind, Name, Refusal, detach_answer, is_live_as};
 
 /// Detaches the live entry with the kind and the name, and answers it: lookups that begin from now on don't find it, the caller's CPU has
@@ -48,7 +48,7 @@ fn live_place<D: Domain>(keeper: &Keeper<D>, key: Key) -> Option<u8>
     }
 }
 
-fn place_live_as(rows: &[Row], key: Key) -> Option<usize>
+fn place_live_as(rows: &[KeptSlot], key: Key) -> Option<usize>
     ensures value { result ≡ position (is_live_row key) rows.now }
     ensures within { IfSome result (λ t. t < length rows.now) }
 {

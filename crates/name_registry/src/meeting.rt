@@ -4,7 +4,7 @@ ghost use Rattle.std.specs.Prelude.{◌≡◌};
 ghost use mathlib.Core.List.{IsPrefix};
 ghost use Rattle.cpu_words.specs.Domains.{AreWordsOf};
 ghost use Rattle.passive_list.specs.Notes.{HasHeardOn};
-ghost use Rattle.name_registry.specs.Meeting.{having_heard};
+ghost use Rattle.name_registry.specs.Meeting.{keeper_after_hear};
 
 use cpu_words::{Domain, Words};
 use passive_list::{Cpu, Keeper, hear, hear_keeper, tell, tell_keeper};
@@ -13,7 +13,7 @@ use passive_list::{Cpu, Keeper, hear, hear_keeper, tell, tell_keeper};
 pub(crate) fn hear_cpu<D: Domain>(words: &Words, keeper: &mut Keeper<D>, cpu: &mut Cpu<D>)
     requires words { AreWordsOf words.now D.table D.settings }
     ensures seen { IsPrefix cpu.old.view.pass keeper.new.view.history }
-    ensures keeper { keeper.new ≡ having_heard keeper.old cpu.old }
+    ensures keeper { keeper.new ≡ keeper_after_hear keeper.old cpu.old }
     ensures cpu { cpu.new ≡ cpu.old }
 {
     let note = tell(words, cpu);

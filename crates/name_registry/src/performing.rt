@@ -2,8 +2,8 @@
 
 ghost use Rattle.std.specs.Prelude.{◌≡◌, ◌≤◌, IfOk, IfErr, false};
 ghost use Rattle.name_registry.specs.Locking.{IsPerformRefusal};
-ghost use Rattle.name_registry.specs.Meeting.{is_inside};
-ghost use Rattle.name_registry.specs.Performing.{Performs, PerformsOutside, WaitsFor, none_seen};
+ghost use Rattle.name_registry.specs.Meeting.{is_inside, HasLearned};
+ghost use Rattle.name_registry.specs.Performing.{HasSeenAllOut, Performs, PerformsOutside, WaitsFor, none_seen};
 
 use crate::glancing::{begin, glance_at_all, pass_all};
 use crate::locked::Locked;
@@ -18,9 +18,14 @@ use std::thread::yield_now;
 impl<D: Domain> Registry<D> {
     /// Waits, for at most `turns` turns, until each section that is open as the call begins has ended (pserialize_perform of
     /// pserialize(9)); between the turns the interlock is free, and other threads may have the processor. As it begins it takes the section
-    /// word of each CPU and the numbers of the retired entries. Each turn loads the word of each CPU that wasn't seen yet, and a CPU counts as seen once its own word was even or
-    /// another one. Once all were seen, each CPU that hasn't passed for one of those entries is looked at for it, so that it passes, as
-    /// `advance` has it.
+    /// word of each CPU and the numbers of the retired entries. Each turn loads the word of each CPU that wasn't seen yet, and a CPU counts
+    /// as seen once its own word was even or another one. Once all were seen, each CPU that hasn't passed for one of those entries is looked
+    /// at for it, so that it passes, as `advance` has it.
+    ///
+    /// Ok says in what this CPU knows (`waited`): there was a moment at which the keeper had heard all that the CPU knew as it called, and each
+    /// section that was open then, of whatever CPU, has ended. So no section that is open now or later may hold an entry that this CPU had
+    /// seen detached: whatever the table is, the law `running_headline` says so of it (`waiting`). To know this the CPU tells the keeper
+    /// first in each hold of the interlock, and hears it at the end: its pass grows as by `hear`.
     /// Condition: at least one turn.
     /// Refused, in this order: `Inside` where the CPU is inside a section, and nothing has changed then; `Waiting` with the least CPU that
     /// wasn't seen out of its section in any of the turns: no CPU was looked at for an entry then, so no mark has changed.
@@ -28,105 +33,124 @@ impl<D: Domain> Registry<D> {
         requires { 1 ≤ turns }
         ensures done { IfOk result (λ _. is_inside cpu.old ≡ false) }
         ensures refused { IfErr result (λ refusal. IsPerformRefusal D.settings (is_inside cpu.old) refusal) }
-        ensures made { PerformsOutside D.settings turns (is_inside cpu.old) result }
-        ensures same { cpu.new ≡ cpu.old }
+        ensures waited { IfOk result (λ _. HasSeenAllOut D.settings.cpus cpu.old cpu.new) }
+        ensures made { PerformsOutside D.settings turns (is_inside cpu.old) cpu.old result cpu.new }
+        ensures learned { HasLearned cpu.old cpu.new × (cpu.new.made ≡ cpu.old.made) }
     {
         if cpu.inside() {
             return Err(Refusal::Inside);
         }
         let mut interlock = Locked { registry: self };
-        waiting_for(perform_in_turns(rt, &mut interlock, turns))
+        waiting_for(perform_in_turns(rt, &mut interlock, cpu, turns))
     }
 }
 
-/// What a `perform` does under the interlock, which it takes anew for each of these calls.
-trait UnderInterlock {
+/// What a `perform` does under the interlock, which it takes anew for each of these calls. What stands between two of them is the caller's
+/// CPU.
+trait UnderInterlock<D: Domain> {
     ghost use Rattle.std.specs.Prelude.{ℕ, List, Option, Bool};
+    ghost use Rattle.passive_list.specs.Cpus.{OnCpu};
 
-    // of the state before: the snapshots, the numbers, and the state after
-    ghost begins: { Self → List ℕ → List (Option ℕ) → Self → Type 0 };
-    // of the snapshots, the state before and who was seen: the answer, who is seen then, and the state after
-    ghost glances: { List ℕ → Self → List Bool → Option ℕ → List Bool → Self → Type 0 };
+    // of the CPU before: the snapshots, the numbers, and the CPU after
+    ghost begins: { OnCpu → List ℕ → List (Option ℕ) → OnCpu → Type 0 };
+    // of the snapshots, the CPU before and who was seen: the answer, who is seen then, and the CPU after
+    ghost glances: { List ℕ → OnCpu → List Bool → Option ℕ → List Bool → OnCpu → Type 0 };
 
-    ghost passes: { Self → List (Option ℕ) → Self → Type 0 };
+    ghost passes: { OnCpu → List (Option ℕ) → OnCpu → Type 0 };
 
     /// The section word of each CPU, and the number of each retired entry, slot by slot.
-    fn begin<R: Wait>(&mut self, rt: &R) -> ([u64; 8], [Option<u64>; 32])
-        ensures { begins self.old result.0 result.1 self.new };
+    fn begin<R: Wait>(&mut self, rt: &R, cpu: &mut Cpu<D>) -> ([u64; 8], [Option<u64>; 32])
+        ensures { begins cpu.old result.0 result.1 cpu.new };
 
     /// One turn: a glance at each CPU that wasn't seen yet. The answer is the least that still wasn't.
-    fn glance<R: Wait>(&mut self, rt: &R, snapshots: &[u64; 8], seen: &mut [bool; 8]) -> Option<u8>
-        ensures { glances snapshots.now self.old seen.old result seen.new self.new };
+    fn glance<R: Wait>(
+        &mut self,
+        rt: &R,
+        cpu: &mut Cpu<D>,
+        snapshots: &[u64; 8],
+        seen: &mut [bool; 8],
+    ) -> Option<u8>
+        ensures { glances snapshots.now cpu.old seen.old result seen.new cpu.new };
 
     /// Looks at each CPU for the retired entries with these numbers.
-    fn pass<R: Wait>(&mut self, rt: &R, numbers: &[Option<u64>; 32])
-        ensures { passes self.old numbers.now self.new };
+    fn pass<R: Wait>(&mut self, rt: &R, cpu: &mut Cpu<D>, numbers: &[Option<u64>; 32])
+        ensures { passes cpu.old numbers.now cpu.new };
 }
 
 /// Begins, waits for at most `turns` turns, and passes what was retired as it began. The answer is the least CPU that wasn't seen out of the
 /// section of its snapshot; nothing is passed then.
-fn perform_in_turns<I: UnderInterlock, R: Wait>(rt: &R, interlock: &mut I, turns: u32) -> Option<u8>
+fn perform_in_turns<D: Domain, I: UnderInterlock<D>, R: Wait>(
+    rt: &R,
+    interlock: &mut I,
+    cpu: &mut Cpu<D>,
+    turns: u32,
+) -> Option<u8>
     requires { 1 ≤ turns }
-    ensures { Performs I.begins I.glances I.passes turns interlock.old result interlock.new }
+    ensures { Performs I.begins I.glances I.passes turns cpu.old result cpu.new }
 {
-    let (snapshots, retired) = interlock.begin(rt);
-    let told = wait_for_sections(rt, interlock, &snapshots, turns);
+    let (snapshots, retired) = interlock.begin(rt, cpu);
+    let told = wait_for_sections(rt, interlock, cpu, &snapshots, turns);
     if told.is_none() {
-        interlock.pass(rt, &retired);
+        interlock.pass(rt, cpu, &retired);
     }
     told
 }
 
 /// Glances at the CPUs in so many turns, or until all were seen. The answer is the last turn's. Between two turns it lets another thread
 /// run, which may be a reader in the middle of its section, without a processor.
-fn wait_for_sections<I: UnderInterlock, R: Wait>(
+fn wait_for_sections<D: Domain, I: UnderInterlock<D>, R: Wait>(
     rt: &R,
     interlock: &mut I,
+    cpu: &mut Cpu<D>,
     snapshots: &[u64; 8],
     turns: u32,
 ) -> Option<u8>
     requires { 1 ≤ turns }
-    ensures { WaitsFor (I.glances snapshots.now) turns interlock.old none_seen result interlock.new }
+    ensures { WaitsFor (I.glances snapshots.now) turns cpu.old none_seen result cpu.new }
 {
     let mut seen = [false; 8];
-    let mut waited = interlock.glance(rt, snapshots, &mut seen);
+    let mut waited = interlock.glance(rt, cpu, snapshots, &mut seen);
     for _ in 1..turns {
         if waited.is_none() {
             return None;
         }
         yield_now();
-        waited = interlock.glance(rt, snapshots, &mut seen);
+        waited = interlock.glance(rt, cpu, snapshots, &mut seen);
     }
     waited
 }
 
-impl<'a, D: Domain> UnderInterlock for Locked<'a, D> {
+impl<'a, D: Domain> UnderInterlock<D> for Locked<'a, D> {
     ghost use Rattle.name_registry.specs.Performing.{SomeBegan, SomeGlanced, SomePassed};
 
-    ghost begins = { λ x snapshots numbers y. SomeBegan D.settings snapshots numbers };
+    ghost begins = { SomeBegan D.settings };
 
-    ghost glances = { λ snapshots x seen answer after y. SomeGlanced D.settings snapshots seen answer after };
+    ghost glances = { SomeGlanced D.settings };
 
-    ghost passes = { λ x numbers y. SomePassed D.settings numbers };
+    ghost passes = { SomePassed D.settings };
 
-    fn begin<R: Wait>(&mut self, rt: &R) -> ([u64; 8], [Option<u64>; 32]) {
+    fn begin<R: Wait>(&mut self, rt: &R, cpu: &mut Cpu<D>) -> ([u64; 8], [Option<u64>; 32]) {
         begin(
             &self.registry.words,
             &mut self.registry.interlock.lock(rt).keeper,
+            cpu,
         )
     }
 
     fn glance<R: Wait>(
         &mut self,
         rt: &R,
+        cpu: &mut Cpu<D>,
         snapshots: &[u64; 8],
         seen: &mut [bool; 8],
     ) -> Option<u8> {
         let keeper = &mut self.registry.interlock.lock(rt).keeper;
-        glance_at_all(&self.registry.words, keeper, snapshots, seen)
+        glance_at_all(&self.registry.words, keeper, cpu, snapshots, seen)
     }
 
-    fn pass<R: Wait>(&mut self, rt: &R, numbers: &[Option<u64>; 32]) {
+    fn pass<R: Wait>(&mut self, rt: &R, cpu: &mut Cpu<D>, numbers: &[Option<u64>; 32]) {
+        // The contract alone speaks of the CPU.
+        let _cpu = cpu;
         pass_all(
             &self.registry.words,
             &mut self.registry.interlock.lock(rt).keeper,

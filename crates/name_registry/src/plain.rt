@@ -8,7 +8,7 @@ ghost use Rattle.name_registry.specs.Attaching.{given_entry, plain_slot, room_of
 ghost use Rattle.name_registry.specs.Rows.{is_live_row, is_plain_row};
 
 use cpu_words::Domain;
-use passive_list::{Keeper, Row};
+use passive_list::{Keeper, KeptSlot};
 use registry_values::{
     Entry, Key, Record, Refusal, Room, given_entry, is_live, is_live_as, is_plain,
 };
@@ -33,7 +33,7 @@ fn is_taken<D: Domain>(keeper: &Keeper<D>, rec: Record) -> bool
     is_live_in(&keeper.rows, key)
 }
 
-fn is_live_in(rows: &[Row], key: Key) -> bool
+fn is_live_in(rows: &[KeptSlot], key: Key) -> bool
     ensures { result ≡ list_any (is_live_row key) rows.now }
 {
     rows.iter().any(|row| is_live_as(key, &row.state))
@@ -50,7 +50,7 @@ fn plain_slot<D: Domain>(keeper: &Keeper<D>) -> Option<u8>
     }
 }
 
-fn plain_place(rows: &[Row], slots: u8) -> Option<usize>
+fn plain_place(rows: &[KeptSlot], slots: u8) -> Option<usize>
     ensures value { result ≡ position is_plain_row (take slots rows.now) }
     ensures within { IfSome result (λ t. t < slots) }
 {
@@ -70,7 +70,7 @@ fn room<D: Domain>(keeper: &Keeper<D>) -> Room
     }
 }
 
-fn live_count(rows: &[Row]) -> usize
+fn live_count(rows: &[KeptSlot]) -> usize
     ensures value { result ≡ live_count (states_of rows.now) }
     ensures within { result ≤ length rows.now }
 {

@@ -3,7 +3,7 @@ use Rattle.std.proofs.Common.{◌≡◌, ℕ, ◌<◌, ◌≤◌, ⊎_elim, Opti
 use Rattle.std.specs.Prelude.{is_none}
 use Rattle.std.proofs.lemmas.Bool.{and_parts, cases_lt, lt-ltb, le-ltb}
 use Rattle.passive_core.specs.Commands.{all_seated, may_act}
-use Rattle.protocol.specs.Events.{Outcome, guard, is_idle, taken}
+use Rattle.protocol.specs.Events.{Outcome, guard, is_idle, some_outcome}
 use Rattle.protocol.specs.declared.event.Reply.{Reply}
 use Rattle.protocol.specs.Invariant.{Holds}
 use Rattle.protocol.specs.State.{is_empty, State, search_at, hand_at}
@@ -45,13 +45,13 @@ acting_on s c on may = ⊎_elim
     or_true false = refl
 
 -- what an allowed event leaves
-pub made_is : (b : Bool) (s t : State) (q r : Reply) → b ≡ true → guard b (taken s q) ≡ Some (record { state = t; reply = r }) → t ≡ s
+pub made_is : (b : Bool) (s t : State) (q r : Reply) → b ≡ true → guard b (some_outcome s q) ≡ Some (record { state = t; reply = r }) → t ≡ s
 made_is true s t q r test made = sym (outcome_state s t q r made)
   where
     state_or : State → Option Outcome → State
     state_or s None = s
     state_or s (Some o) = o.state
 
-    outcome_state : (s t : State) (q r : Reply) → taken s q ≡ Some (record { state = t; reply = r }) → s ≡ t
+    outcome_state : (s t : State) (q r : Reply) → some_outcome s q ≡ Some (record { state = t; reply = r }) → s ≡ t
     outcome_state s t q r made = ap (state_or s) made
 made_is false s t q r test made = absurd (let no : ◌≡◌ {A = Bool} false true = test in cc)

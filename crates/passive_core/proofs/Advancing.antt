@@ -13,13 +13,13 @@ use Rattle.registry_values.specs.declared.slot.Slot.TheVariants.{Retired}
 use Rattle.registry_values.specs.declared.refusal.Refusal.{Refusal}
 use Rattle.registry_values.specs.declared.stage.Stage.{Stage}
 use Rattle.registry_values.specs.declared.stage.Stage.TheVariants.{Grace, Passive, Local, Freed}
-use Rattle.passive_core.specs.Advancing.{AdvanceLeaves, Settles, Empties, Gathers, HoldersAreOpen, LeavesMarks, MarksPass, Passes, StageLeaves, advance_answer, given_up, has_passive, is_open_since, is_snapshot, plain_stage}
+use Rattle.passive_core.specs.Advancing.{AdvanceLeaves, Settles, Empties, Gathers, HoldersAreOpen, LeavesMarks, MarksPass, Passes, StageLeaves, advance_answer, count_given_up, has_passive, is_open_since, is_snapshot, plain_stage}
 use Rattle.protocol.specs.Marking.{AllClear, AllCollected, AllPassed, MarksGrow}
-use Rattle.registry_values.specs.Marks.{least_below, looked, cleared, collected, are_collected, has_changed, have_passed, is_even}
+use Rattle.registry_values.specs.Marks.{least_below, mark_after_look, mark_after_passive_look, mark_after_collect, are_collected, has_changed, have_passed, is_even}
 use Rattle.registry_values.specs.Stages.{stage_of}
 use Rattle.registry_values.specs.Slots.{retired_slot, has_number, is_retired, slot_of, slot_at}
 use Rattle.passive_core.specs.Commands.{may_act}
-use Rattle.protocol.specs.Events.{Outcome, guard, taken, step, after_look, after_look_passive, after_collect, after_total, after_kept_sub, after_vacate, may_collect, may_examine, may_look_passive, may_vacate, is_drainable, is_drained, is_iface_slot, keeps_rightly}
+use Rattle.protocol.specs.Events.{Outcome, guard, some_outcome, step, after_look, after_look_passive, after_collect, after_total, after_kept_sub, after_vacate, may_collect, may_examine, may_look_passive, may_vacate, is_drainable, is_drained, is_iface_slot, keeps_rightly}
 use Rattle.protocol.specs.Invariant.{Holds, one_if, held_at}
 use Rattle.protocol.specs.State.{at_rest, State, section_at, begin_at, count_at, kept_at, mark_at, passive_at, total_at}
 use Rattle.registry_values.specs.Balances.{bias}
@@ -34,7 +34,7 @@ use Rattle.passive_core.proofs.Acting.{made_is}
 use Rattle.protocol.proofs.slots.MarkRows.{clear_from, collected_from, mark_grows, mark_there, mark_written, marks_grow_more, marks_grow_none, passed_from, row_elsewhere, snapshot_stands}
 
 -- an event whose test passes is allowed
-pub guard_some : (b : Bool) (s : State) (r : Reply) → b ≡ true → IsSome (guard b (taken s r))
+pub guard_some : (b : Bool) (s : State) (r : Reply) → b ≡ true → IsSome (guard b (some_outcome s r))
 guard_some true s r is = refl
 guard_some false s r is = absurd (let f : ◌≡◌ {A = Bool} false true = is in cc)
 
@@ -76,7 +76,7 @@ examines s t c rest gone lt = and_from (at_rest s.due) _ rest (and_from (nat_lt 
 
 -- a look passes just where the section isn't the one of the snapshot
 shows_passed : (m : Mark) (w x : ℕ) (begin : Option ℕ) → m.snapshot ≡ Some x → (begin ≡ None → w % 2 ≡ 0) → ((b : ℕ) → begin ≡ Some b → w % 2 ≡ 1) → ((b : ℕ) → begin ≡ Some b → m.passed ≡ true → w ≡ x → ⊥)
-    → (looked m w).passed ≡ not (is_some begin && is_snapshot m.snapshot w)
+    → (mark_after_look m w).passed ≡ not (is_some begin && is_snapshot m.snapshot w)
 shows_passed m w x None snap outside inside left =
     let even : is_even w ≡ true = eq-eqb (w % 2) 0 (outside refl) in
     or_last m.passed (is_even w || has_changed m.snapshot w) (ap (λ (b : Bool). b || has_changed m.snapshot w) even)
@@ -90,7 +90,7 @@ shows_left m w x None snap left passed = refl
 shows_left m w x (Some b) snap left passed = rw snap (sym (not_so (x == w) (λ same. left b refl passed (sym (eqb-true x w same)))))
 
 pub look_passes : (s : State) (t c : ℕ) → Holds s → at_rest s.due ≡ true → is_retired (slot_at s.slots t) ≡ true → c < s.settings.cpus
-    → (looked (mark_at s.marks t c) (section_at s c)).passed ≡ not (is_open_since s t c)
+    → (mark_after_look (mark_at s.marks t c) (section_at s c)).passed ≡ not (is_open_since s t c)
 look_passes s t c on rest gone lt =
     let e = is_retired_tells (slot_at s.slots t) gone in
     let w = snapshot_stands s t c on rest gone lt in
@@ -127,8 +127,8 @@ pub look_marks : (s : State) (t c : ℕ) → MarksPass s.marks (after_look s t c
 look_marks s t c =
     let m : Mark = mark_at s.marks t c in
     record {
-      elsewhere = row_elsewhere s.marks t c (looked m (section_at s c));
-      here = mark_written Passes s.marks t c (looked m (section_at s c)) passes_none
+      elsewhere = row_elsewhere s.marks t c (mark_after_look m (section_at s c));
+      here = mark_written Passes s.marks t c (mark_after_look m (section_at s c)) passes_none
           (record { snapshot = refl; passed = λ p. ap (λ (b : Bool). b || (is_even (section_at s c) || has_changed m.snapshot (section_at s c))) p; clear = refl; collected = refl });
     }
 
@@ -165,7 +165,7 @@ shows_clear m (suc w) zero_if = ⊎_elim
     (λ (not_yet : m.clear ≡ false). rw (not_yet, ne_eqb (suc w) 0 (λ same. omega arith), lt-ltb 0 (suc w) (omega arith)) refl)
     (cases_Bool m.clear)
 
-pub passive_clears : (s : State) (t c : ℕ) → Holds s → is_retired (slot_at s.slots t) ≡ true → (cleared (mark_at s.marks t c) (passive_at s.passive c t)).clear ≡ not (has_passive s t c)
+pub passive_clears : (s : State) (t c : ℕ) → Holds s → is_retired (slot_at s.slots t) ≡ true → (mark_after_passive_look (mark_at s.marks t c) (passive_at s.passive c t)).clear ≡ not (has_passive s t c)
 passive_clears s t c on gone =
     let e = is_retired_tells (slot_at s.slots t) gone in
     shows_clear (mark_at s.marks t c) (passive_at s.passive c t) (λ clear. (on.passive.clear c t e.0 e.1 clear).1)
@@ -182,7 +182,7 @@ pub passive_look_is : (s n : State) (t c : ℕ) (r : Reply) → at_rest s.due �
 passive_look_is s n t c r rest gone passed lt made = made_is (may_look_passive s t c) (after_look_passive s t c) n _ r (examines_passive s t c rest gone passed lt) made
 
 pub passive_look_marks : (s : State) (t c : ℕ) → MarksGrow s.marks (after_look_passive s t c).marks t
-passive_look_marks s t c = mark_grows s.marks t c (cleared (mark_at s.marks t c) (passive_at s.passive c t))
+passive_look_marks s t c = mark_grows s.marks t c (mark_after_passive_look (mark_at s.marks t c) (passive_at s.passive c t))
     (record { snapshot = refl; passed = λ p. p; clear = λ p. ap (λ (b : Bool). b || (passive_at s.passive c t == 0)) p; collected = λ p. p })
 
 -- Collections
@@ -200,7 +200,7 @@ adds s m t c is = rw (is, eq-eqb t t refl) refl
 
 pub added : (s n : State) (t c : ℕ) → at_rest s.due ≡ true → n ≡ after_total (after_collect s t c) t (total_at s.totals t + count_at s.counts c t - bias) → Gathers s n t
 added s n t c rest is =
-    let m : Mark = collected (mark_at s.marks t c) in
+    let m : Mark = mark_after_collect (mark_at s.marks t c) in
     let v : ℕ = total_at s.totals t + count_at s.counts c t - bias in
     subst (λ (x : State). Gathers s x t) (sym is) (record {
       only = rw (at_rest_tells s.due rest) refl;
@@ -247,7 +247,7 @@ vacated s n t on none drained is =
     let kept : set s.keeps t None ≡ s.keeps = ap (λ (k : Option ℕ). set s.keeps t k) (sym none) ∙ set-get_or s.keeps t None in
     subst (λ (x : State). Empties s x t) (sym is) (record {
       only = rw kept refl;
-      totals = λ u off. ap (λ (k : Option ℕ). total_at s.totals u + given_up k (slot_at s.slots u)) none ∙ add-zero (total_at s.totals u);
+      totals = λ u off. ap (λ (k : Option ℕ). total_at s.totals u + count_given_up k (slot_at s.slots u)) none ∙ add-zero (total_at s.totals u);
       total = (is_drained_tells s t on drained).5;
     })
 
@@ -275,10 +275,10 @@ gave_up s n t d u on kept of drained is =
     let new : List ℕ = set s.totals u (total_at s.totals u - 1) in
     subst (λ (x : State). Empties s x t) (sym is) (record {
       only = refl;
-      totals = λ v off. ap (λ (k : Option ℕ). total_at new v + given_up k (slot_at s.slots v)) kept ∙ ⊎_elim
+      totals = λ v off. ap (λ (k : Option ℕ). total_at new v + count_given_up k (slot_at s.slots v)) kept ∙ ⊎_elim
           (λ (same : v ≡ u).
           let has : has_number d (slot_at s.slots v) ≡ true = ap (λ (k : ℕ). has_number d (slot_at s.slots k)) same ∙ has_it d driver.0 (slot_at s.slots u) driver.1 driver.2 in
-          let one : given_up (Some d) (slot_at s.slots v) ≡ 1 = ap one_if has in
+          let one : count_given_up (Some d) (slot_at s.slots v) ≡ 1 = ap one_if has in
           let here : total_at new v ≡ total_at s.totals u - 1 = ap (total_at new) same ∙ get_or-set_same s.totals u (total_at s.totals u - 1) 0 lt in
           omega (arith, one, here, some, ap (total_at s.totals) same))
           (λ (other : v ≡ u → ⊥).
@@ -316,7 +316,7 @@ passive_same s n t c only = ap (λ (x : State). has_passive x t c) only
 
 -- a word that was collected is marked so
 pub collected_there : (s n : State) (t c : ℕ) → Holds s → t < s.settings.slots → c < s.settings.cpus → n ≡ after_total (after_collect s t c) t (total_at s.totals t + count_at s.counts c t - bias) → (mark_at n.marks t c).collected ≡ true
-collected_there s n t c on lt low is = ap (λ (x : State). (mark_at x.marks t c).collected) is ∙ ap (λ (m : Mark). m.collected) (mark_there s t c (collected (mark_at s.marks t c)) on lt low)
+collected_there s n t c on lt low is = ap (λ (x : State). (mark_at x.marks t c).collected) is ∙ ap (λ (m : Mark). m.collected) (mark_there s t c (mark_after_collect (mark_at s.marks t c)) on lt low)
 
 -- where so many local references are held nothing changes
 pub settled_held : (s : State) (t held : ℕ) → (held ≡ 0 → ⊥) → total_at s.totals t ≡ bias + held → Settles s s t (stage_of t None None held)

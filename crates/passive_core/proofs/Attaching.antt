@@ -21,13 +21,13 @@ use Rattle.protocol.specs.declared.state.LocalPlace.TheVariants.{Free, Standing,
 use Rattle.protocol.specs.declared.state.RecordWords.{RecordWords}
 use Rattle.registry_values.specs.declared.slot.Slot.{Slot}
 use Rattle.registry_values.specs.declared.slot.Slot.TheVariants.{Vacant}
-use Rattle.passive_core.specs.Attaching.{IsAnswer, given_back, given_entry, is_driver_in, is_driver_number, is_to_driver, keeping, plain_slot, prepared, restored, words_before}
+use Rattle.passive_core.specs.Attaching.{IsAnswer, with_reference_given_back, given_entry, is_driver_in, is_driver_number, is_to_driver, with_reference_kept, plain_slot, with_prepared, with_attach_undone, words_before}
 use Rattle.registry_values.specs.Answers.{attach_answer, next_entry}
 use Rattle.registry_values.proofs.Answers as answers
 use Rattle.registry_values.specs.Slots.{is_plain, key_of_record, key_of, is_iface, is_taken, is_vacant, slot_of, slot_at}
 use Rattle.protocol.specs.State.{with_biases, at_rest, State, kept_at, local_at, no_words, row_at, total_at}
 use Rattle.passive_core.specs.Commands.{all_seated, may_act}
-use Rattle.protocol.specs.Events.{Outcome, after_count_store, after_keep, after_publish, after_row_store, after_seeing, are_unused, entry_of, has_room, room_of, is_bias, is_driver_slot, is_prepared, keeps_rightly, may_keep, may_publish, may_write, standing, step, with_word, words_of}
+use Rattle.protocol.specs.Events.{Outcome, after_count_store, after_keep, after_publish, after_row_store, after_seeing, are_unused, entry_of, has_room, room_of, is_bias, is_driver_slot, is_prepared, keeps_rightly, may_keep, may_publish, may_write, number_standing, step, with_word, words_of}
 use Rattle.protocol.specs.Invariant.{Holds}
 use Rattle.registry_values.specs.Names.{are_name_words, is_lawful}
 use Rattle.registry_values.specs.Balances.{bias}
@@ -165,29 +165,29 @@ biases_stored cpus row =
 -- A prepared entry may be linked: s is the state before its words are stored.
 pub prepared_links : (s : State) (e : Entry) → Holds s → may_write s e.slot ≡ true → e.number ≡ length s.history + 1 → IsTrue (is_lawful e.rec.name)
     → is_taken (key_of e) s.slots ≡ false → has_room s ≡ true → keeps_rightly (kept_at s.keeps e.slot) e.rec.kind ≡ true
-    → step (prepared s e) (Publish e.slot) ≡ Some (record { state = after_publish (prepared s e) e.slot e; reply = Done })
+    → step (with_prepared s e) (Publish e.slot) ≡ Some (record { state = after_publish (with_prepared s e) e.slot e; reply = Done })
 prepared_links s e on write number lawful free room keeps =
     let told = may_write_tells s e.slot on.shape write in
-    let row : row_at (prepared s e).rows e.slot ≡ words_of e = get_or-set_same s.rows e.slot (words_of e) no_words (omega (arith, told.1, on.shape.slots, on.shape.rows)) in
-    let entry : entry_of e.slot (row_at (prepared s e).rows e.slot) ≡ Some e = ap (entry_of e.slot) row ∙ words_read e.number e.slot e.rec.name.high e.rec.name.low e.rec.value e.rec.kind lawful in
+    let row : row_at (with_prepared s e).rows e.slot ≡ words_of e = get_or-set_same s.rows e.slot (words_of e) no_words (omega (arith, told.1, on.shape.slots, on.shape.rows)) in
+    let entry : entry_of e.slot (row_at (with_prepared s e).rows e.slot) ≡ Some e = ap (entry_of e.slot) row ∙ words_read e.number e.slot e.rec.name.high e.rec.name.low e.rec.value e.rec.kind lawful in
     let numbered : (e.number == length s.history + 1) ≡ true = eq-eqb e.number (length s.history + 1) number in
-    let counts : get_or (prepared s e).counts e.slot [] ≡ with_biases s.settings.cpus (get_or s.counts e.slot []) =
+    let counts : get_or (with_prepared s e).counts e.slot [] ≡ with_biases s.settings.cpus (get_or s.counts e.slot []) =
     get_or-set_same s.counts e.slot (with_biases s.settings.cpus (get_or s.counts e.slot [])) [] (omega (arith, told.1, on.shape.slots, on.shape.counts)) in
-    let biased : list_all is_bias (take s.settings.cpus (get_or (prepared s e).counts e.slot [])) ≡ true =
+    let biased : list_all is_bias (take s.settings.cpus (get_or (with_prepared s e).counts e.slot [])) ≡ true =
     ap (λ (r : List ℕ). list_all is_bias (take s.settings.cpus r)) counts ∙ biases_stored s.settings.cpus (get_or s.counts e.slot []) in
     let total : (total_at s.totals e.slot == bias) ≡ true = eq-eqb (total_at s.totals e.slot) bias (on.balance.vacant e.slot told.1 told.2) in
-    let link : (get_or (prepared s e).next e.slot 0 == s.head) ≡ true = eq-eqb (get_or (prepared s e).next e.slot 0) s.head (get_or-set_same s.next e.slot s.head 0 (omega (arith, told.1, on.shape.slots, on.shape.links))) in
-    let unused : are_unused (prepared s e) e.slot ≡ true = and_from (list_all is_bias (take s.settings.cpus (get_or (prepared s e).counts e.slot []))) (total_at s.totals e.slot == bias) biased total in
-    let ready : is_prepared (prepared s e) e.slot e.rec.kind ≡ true =
-    and_from (get_or (prepared s e).next e.slot 0 == s.head) (are_unused (prepared s e) e.slot && keeps_rightly (kept_at s.keeps e.slot) e.rec.kind) link
-    (and_from (are_unused (prepared s e) e.slot) (keeps_rightly (kept_at s.keeps e.slot) e.rec.kind) unused keeps) in
+    let link : (get_or (with_prepared s e).next e.slot 0 == s.head) ≡ true = eq-eqb (get_or (with_prepared s e).next e.slot 0) s.head (get_or-set_same s.next e.slot s.head 0 (omega (arith, told.1, on.shape.slots, on.shape.links))) in
+    let unused : are_unused (with_prepared s e) e.slot ≡ true = and_from (list_all is_bias (take s.settings.cpus (get_or (with_prepared s e).counts e.slot []))) (total_at s.totals e.slot == bias) biased total in
+    let ready : is_prepared (with_prepared s e) e.slot e.rec.kind ≡ true =
+    and_from (get_or (with_prepared s e).next e.slot 0 == s.head) (are_unused (with_prepared s e) e.slot && keeps_rightly (kept_at s.keeps e.slot) e.rec.kind) link
+    (and_from (are_unused (with_prepared s e) e.slot) (keeps_rightly (kept_at s.keeps e.slot) e.rec.kind) unused keeps) in
     let name : not (is_taken (key_of e) s.slots) ≡ true = ap not free in
-    let may : may_publish (prepared s e) e.slot e ≡ true =
-    and_from (may_write s e.slot) (e.number == length s.history + 1 && (not (is_taken (key_of e) s.slots) && (has_room s && is_prepared (prepared s e) e.slot e.rec.kind))) write
-    (and_from (e.number == length s.history + 1) (not (is_taken (key_of e) s.slots) && (has_room s && is_prepared (prepared s e) e.slot e.rec.kind)) numbered
-    (and_from (not (is_taken (key_of e) s.slots)) (has_room s && is_prepared (prepared s e) e.slot e.rec.kind) name
-    (and_from (has_room s) (is_prepared (prepared s e) e.slot e.rec.kind) room ready))) in
-    links_if (prepared s e) e.slot e entry may
+    let may : may_publish (with_prepared s e) e.slot e ≡ true =
+    and_from (may_write s e.slot) (e.number == length s.history + 1 && (not (is_taken (key_of e) s.slots) && (has_room s && is_prepared (with_prepared s e) e.slot e.rec.kind))) write
+    (and_from (e.number == length s.history + 1) (not (is_taken (key_of e) s.slots) && (has_room s && is_prepared (with_prepared s e) e.slot e.rec.kind)) numbered
+    (and_from (not (is_taken (key_of e) s.slots)) (has_room s && is_prepared (with_prepared s e) e.slot e.rec.kind) name
+    (and_from (has_room s) (is_prepared (with_prepared s e) e.slot e.rec.kind) room ready))) in
+    links_if (with_prepared s e) e.slot e entry may
   where
     links_if : (s : State) (t : ℕ) (e : Entry) → entry_of t (row_at s.rows t) ≡ Some e → may_publish s t e ≡ true → step s (Publish t) ≡ Some (record { state = after_publish s t e; reply = Done })
     links_if s t e entry may = rw (entry, may) refl
@@ -195,7 +195,7 @@ prepared_links s e on write number lawful free room keeps =
 -- What an attach puts back.
 
 -- the words and seats are those that the slot had
-pub words_restored : (s : State) (e : Entry) → restored (prepared (all_seated s) e) e.slot (words_before s e.slot) ≡ s
+pub words_restored : (s : State) (e : Entry) → with_attach_undone (with_prepared (all_seated s) e) e.slot (words_before s e.slot) ≡ s
 words_restored s e =
     let t = e.slot in
     let rows : set (set s.rows t (words_of e)) t (row_at s.rows t) ≡ s.rows = set-set s.rows t (words_of e) (row_at s.rows t) ∙ set-get_or s.rows t no_words in
@@ -232,7 +232,7 @@ seated_keeps s on = cpus_keep s s.settings.cpus s.section s.begins s.depths s.se
 -- an entry's words may be stored, and then it may be linked
 pub record MayLink (s : State) (e : Entry) : Type 0 where
   pub writes : may_write s e.slot ≡ true
-  pub links : step (prepared s e) (Publish e.slot) ≡ Some (record { state = after_publish (prepared s e) e.slot e; reply = Done })
+  pub links : step (with_prepared s e) (Publish e.slot) ≡ Some (record { state = after_publish (with_prepared s e) e.slot e; reply = Done })
 
 -- what a given entry is, in a state with the same history and slots
 may_link : (s : State) (rec : Record) (e : Entry) → Holds s → may_write s e.slot ≡ true → e ≡ next_entry (length s.history) rec e.slot → is_taken (key_of_record rec) s.slots ≡ false → has_room s ≡ true
@@ -258,20 +258,20 @@ driver_links s rec e on rest is other lawful =
     may_link (all_seated s) rec e (seated_keeps s on) (given_writes s rec e on rest given) given.entry given.free given.room lawful (driver_keeps (kept_at s.keeps e.slot) rec.kind plain.2 other)
 
 -- The same along a call: `room`, `begun`, `ready` and `now` are the states that its steps leave.
-pub call_restored : (s room begun ready now : State) (e : Entry) (before : Before) → room ≡ s → before ≡ words_before room e.slot → begun ≡ all_seated room → ready ≡ prepared begun e → now ≡ ready
-    → restored now e.slot before ≡ s
+pub call_restored : (s room begun ready now : State) (e : Entry) (before : Before) → room ≡ s → before ≡ words_before room e.slot → begun ≡ all_seated room → ready ≡ with_prepared begun e → now ≡ ready
+    → with_attach_undone now e.slot before ≡ s
 call_restored s room begun ready now e before same kept seats words stays =
-    ap (λ (x : State). restored x e.slot before) (stays ∙ (words ∙ ap (λ (x : State). prepared x e) (seats ∙ ap all_seated same)))
-    ∙ (ap (restored (prepared (all_seated s) e) e.slot) (kept ∙ ap (λ (x : State). words_before x e.slot) same) ∙ words_restored s e)
+    ap (λ (x : State). with_attach_undone x e.slot before) (stays ∙ (words ∙ ap (λ (x : State). with_prepared x e) (seats ∙ ap all_seated same)))
+    ∙ (ap (with_attach_undone (with_prepared (all_seated s) e) e.slot) (kept ∙ ap (λ (x : State). words_before x e.slot) same) ∙ words_restored s e)
 
 -- storing and linking an entry and seeing it leaves who may act
-pub call_acts : (begun ready made now : State) (e : Entry) (c d : ℕ) → ready ≡ prepared begun e → made ≡ after_publish ready e.slot e → now ≡ after_seeing made c → may_act begun d ≡ true → may_act now d ≡ true
+pub call_acts : (begun ready made now : State) (e : Entry) (c d : ℕ) → ready ≡ with_prepared begun e → made ≡ after_publish ready e.slot e → now ≡ after_seeing made c → may_act begun d ≡ true → may_act now d ≡ true
 call_acts begun ready made now e c d words links sees may =
     ap (λ (x : State). may_act x d) (sees ∙ ap (λ (x : State). after_seeing x c) (links ∙ ap (λ (x : State). after_publish x e.slot e) words)) ∙ may
 
 -- Interfaces: the reference that the slot takes over.
 
-number_from : (slots : List Slot) (p : LocalPlace) → is_driver_number slots (standing p) ≡ true → (n : ℕ) × (p ≡ Standing n) × (is_driver_in slots (slot_of slots n) ≡ true)
+number_from : (slots : List Slot) (p : LocalPlace) → is_driver_number slots (number_standing p) ≡ true → (n : ℕ) × (p ≡ Standing n) × (is_driver_in slots (slot_of slots n) ≡ true)
 number_from slots Free is = absurd (let q : ◌≡◌ {A = Bool} false true = is in cc)
 number_from slots (Standing n) is = (n, refl, is)
 number_from slots (Lifted c) is = absurd (let q : ◌≡◌ {A = Bool} false true = is in cc)
@@ -287,8 +287,8 @@ iface_keeps n kind is = is
 pub record MayPlug (s : State) (e : Entry) (id : ℕ) : Type 0 where
   pub writes : may_write s e.slot ≡ true
   pub empty : kept_at s.keeps e.slot ≡ None
-  pub holds : Holds (keeping s e.slot id)
-  pub links : MayLink (keeping (all_seated s) e.slot id) e
+  pub holds : Holds (with_reference_kept s e.slot id)
+  pub links : MayLink (with_reference_kept (all_seated s) e.slot id) e
 
 pub iface_links : (s : State) (rec : Record) (e : Entry) (id : ℕ) → Holds s → at_rest s.due ≡ true → given_entry s rec ≡ Ok e → is_to_driver s id ≡ true → is_iface rec.kind ≡ true → IsTrue (is_lawful rec.name)
     → MayPlug s e id
@@ -304,21 +304,21 @@ iface_links s rec e id on rest is driver iface lawful =
     let u : ℕ = place.0 in
     let may : may_keep s t u ≡ true = and_from (may_write s t) (is_none (kept_at s.keeps t) && is_driver_slot (slot_at s.slots u)) writes
     (and_from (is_none (kept_at s.keeps t)) (is_driver_slot (slot_at s.slots u)) (ap is_none plain.2) place.2) in
-    let kept : keeping s t id ≡ after_keep s t id n = ap (λ (o : Option ℕ). record s { locals = set s.locals id Free; keeps = set s.keeps t o }) (ap standing at) in
-    let holds : Holds (keeping s t id) = subst Holds (sym kept) (keep_keeps s t id n u on at place.1 may) in
-    let now : kept_at (keeping s t id).keeps t ≡ Some n = get_or-set_same s.keeps t (standing (local_at s.locals id)) None (omega (arith, plain.0, on.shape.keeps)) ∙ ap standing at in
-    let rightly : keeps_rightly (kept_at (keeping s t id).keeps t) rec.kind ≡ true = ap (λ (o : Option ℕ). keeps_rightly o rec.kind) now ∙ iface_keeps n rec.kind iface in
+    let kept : with_reference_kept s t id ≡ after_keep s t id n = ap (λ (o : Option ℕ). record s { locals = set s.locals id Free; keeps = set s.keeps t o }) (ap number_standing at) in
+    let holds : Holds (with_reference_kept s t id) = subst Holds (sym kept) (keep_keeps s t id n u on at place.1 may) in
+    let now : kept_at (with_reference_kept s t id).keeps t ≡ Some n = get_or-set_same s.keeps t (number_standing (local_at s.locals id)) None (omega (arith, plain.0, on.shape.keeps)) ∙ ap number_standing at in
+    let rightly : keeps_rightly (kept_at (with_reference_kept s t id).keeps t) rec.kind ≡ true = ap (λ (o : Option ℕ). keeps_rightly o rec.kind) now ∙ iface_keeps n rec.kind iface in
     record {
       writes = writes;
       empty = plain.2;
       holds = holds;
-      links = may_link (keeping (all_seated s) t id) rec e (seated_keeps (keeping s t id) holds) writes given.entry given.free given.room lawful rightly;
+      links = may_link (with_reference_kept (all_seated s) t id) rec e (seated_keeps (with_reference_kept s t id) holds) writes given.entry given.free given.room lawful rightly;
     }
 
 -- the reference has its place again
-reference_restored : (s : State) (t id : ℕ) → kept_at s.keeps t ≡ None → given_back (keeping s t id) t id (local_at s.locals id) ≡ s
+reference_restored : (s : State) (t id : ℕ) → kept_at s.keeps t ≡ None → with_reference_given_back (with_reference_kept s t id) t id (local_at s.locals id) ≡ s
 reference_restored s t id empty =
-    let x = standing (local_at s.locals id) in
+    let x = number_standing (local_at s.locals id) in
     let locals : set (set s.locals id Free) id (local_at s.locals id) ≡ s.locals = set-set s.locals id Free (local_at s.locals id) ∙ set-get_or s.locals id Free in
     let keeps : set (set s.keeps t x) t None ≡ s.keeps = set-set s.keeps t x None ∙ (ap (set s.keeps t) (sym empty) ∙ set-get_or s.keeps t None) in
     ap (λ (l : List LocalPlace). record s { locals = l; keeps = set (set s.keeps t x) t None }) locals
@@ -329,17 +329,17 @@ pub record PlugSteps (s room begun kept ready now : State) (e : Entry) (id : ℕ
   pub same : room ≡ s
   pub saved : before ≡ words_before room e.slot
   pub seats : begun ≡ all_seated room
-  pub keeps : kept ≡ keeping begun e.slot id
-  pub words : ready ≡ prepared kept e
+  pub keeps : kept ≡ with_reference_kept begun e.slot id
+  pub words : ready ≡ with_prepared kept e
   pub stays : now ≡ ready
 
-pub plug_words_restored : (s room begun kept ready now : State) (e : Entry) (id : ℕ) (before : Before) → PlugSteps s room begun kept ready now e id before → restored now e.slot before ≡ keeping s e.slot id
+pub plug_words_restored : (s room begun kept ready now : State) (e : Entry) (id : ℕ) (before : Before) → PlugSteps s room begun kept ready now e id before → with_attach_undone now e.slot before ≡ with_reference_kept s e.slot id
 plug_words_restored s room begun kept ready now e id before c =
     let begins : begun ≡ all_seated s = c.seats ∙ ap all_seated c.same in
-    ap (λ (x : State). restored x e.slot before) (c.stays ∙ (c.words ∙ ap (λ (x : State). prepared x e) (c.keeps ∙ ap (λ (x : State). keeping x e.slot id) begins)))
-    ∙ (ap (restored (prepared (keeping (all_seated s) e.slot id) e) e.slot) (c.saved ∙ ap (λ (x : State). words_before x e.slot) c.same) ∙ words_restored (keeping s e.slot id) e)
+    ap (λ (x : State). with_attach_undone x e.slot before) (c.stays ∙ (c.words ∙ ap (λ (x : State). with_prepared x e) (c.keeps ∙ ap (λ (x : State). with_reference_kept x e.slot id) begins)))
+    ∙ (ap (with_attach_undone (with_prepared (with_reference_kept (all_seated s) e.slot id) e) e.slot) (c.saved ∙ ap (λ (x : State). words_before x e.slot) c.same) ∙ words_restored (with_reference_kept s e.slot id) e)
 
-pub plug_restored : (s room words : State) (t id : ℕ) (place : LocalPlace) → kept_at s.keeps t ≡ None → room ≡ s → place ≡ local_at room.locals id → words ≡ keeping s t id → given_back words t id place ≡ s
+pub plug_restored : (s room words : State) (t id : ℕ) (place : LocalPlace) → kept_at s.keeps t ≡ None → room ≡ s → place ≡ local_at room.locals id → words ≡ with_reference_kept s t id → with_reference_given_back words t id place ≡ s
 plug_restored s room words t id place empty same saved is =
-    ap (λ (x : State). given_back x t id place) is
-    ∙ (ap (given_back (keeping s t id) t id) (saved ∙ ap (λ (x : State). local_at x.locals id) same) ∙ reference_restored s t id empty)
+    ap (λ (x : State). with_reference_given_back x t id place) is
+    ∙ (ap (with_reference_given_back (with_reference_kept s t id) t id) (saved ∙ ap (λ (x : State). local_at x.locals id) same) ∙ reference_restored s t id empty)

@@ -14,7 +14,7 @@ use Rattle.protocol.specs.State.{State, count_at, mark_at, total_at, at_rest}
 use Rattle.registry_values.specs.Balances.{bias, Tally, less_bias, local_of, sum_of, tally_shown}
 use Rattle.registry_values.specs.Slots.{slot_at}
 use Rattle.passive_core.specs.Audits.{IsHeldRightly, audit_of, locals_at, tallies_at, tallies_below, tally_of}
-use Rattle.protocol.specs.Invariant.{Holds, IsCounting, IsIn, adding_at, is_adding_at, itself, one_if_used}
+use Rattle.protocol.specs.Invariant.{Holds, IsCounting, IsIn, addition_due_at, is_adding_at, itself, one_if_used}
 use Rattle.protocol.proofs.counts.CountBounds.{total_at_rest, word_ceiling, word_floor}
 use Rattle.protocol.proofs.keeps.CountKeeps.{fit_of}
 use Rattle.protocol.proofs.counts.Counts.{counting_cases}
@@ -51,7 +51,7 @@ rightly s t e on rest is =
     let due = at_rest_tells s.due rest in
     let row = get_or s.counts t [] in
     let even = (on.balance.balance t e is).even in
-    let nothing : adding_at t s.due ≡ 0 = ap (adding_at t) due in
+    let nothing : addition_due_at t s.due ≡ 0 = ap (addition_due_at t) due in
     let none : is_adding_at t s.due ≡ 0 = ap (is_adding_at t) due in
     let words = sum_taken itself refl s.settings.cpus row (λ k le. on.balance.beyond k t le) in
     let used = sum_taken one_if_used refl s.settings.cpus row (λ k le. on.balance.beyond k t le) in

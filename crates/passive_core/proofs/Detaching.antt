@@ -17,9 +17,9 @@ use Rattle.passive_core.specs.Commands.{all_seated, may_act}
 use Rattle.registry_values.specs.declared.refusal.Refusal.{Refusal}
 use Rattle.registry_values.specs.declared.refusal.Refusal.TheVariants.{Inside, NotFound}
 use Rattle.registry_values.specs.Answers.{detach_answer}
-use Rattle.passive_core.specs.Detaching.{IsDetachRefusal, IsLookupNow, detached, snapped}
+use Rattle.passive_core.specs.Detaching.{IsDetachRefusal, IsLookupNow, with_detached, with_all_snapshots}
 use Rattle.std.specs.Prelude.{Result, Ok, Err, IfSome}
-use Rattle.protocol.specs.Events.{is_inside, after_seeing, after_snapshot, after_unpublish, guard, is_idle, is_snapshot_due, retiring, snapshot_mark, taken, unlinking}
+use Rattle.protocol.specs.Events.{is_inside, after_seeing, after_snapshot, after_unpublish, guard, is_idle, is_snapshot_due, with_retired, snapshot_mark, some_outcome, with_link_past}
 use Rattle.protocol.specs.Invariant.{DueHolds, Holds}
 use Rattle.protocol.specs.State.{at_rest, State, section_at}
 use Rattle.registry_values.specs.Slots.{is_live_as, slot_before, same_key, slot_at}
@@ -102,7 +102,7 @@ snapping_starts s t on due blank =
     λ i. record s { marks = marks i; due = first i }
 
 -- after the last
-pub snapping_ends : (s : State) (t : ℕ) → Holds s → snapping s t s.settings.cpus ≡ snapped s t
+pub snapping_ends : (s : State) (t : ℕ) → Holds s → snapping s t s.settings.cpus ≡ with_all_snapshots s t
 snapping_ends s t on =
     let none : nat_lt s.settings.cpus s.settings.cpus ≡ false = le-ltb s.settings.cpus s.settings.cpus (omega arith) in
     let all : take s.settings.cpus s.section ≡ s.section = take_all s.settings.cpus s.section (omega (arith, on.shape.sections)) in
@@ -131,14 +131,14 @@ pub snap_allowed : (s u : State) (t k : ℕ) → k < s.settings.cpus → u ≡ s
 snap_allowed s u t k lt is = ap (λ (x : State). is_snapshot_due x.due t k) is ∙ due_is s t k lt
 
 pub snap_turns : (s u v : State) (t k : ℕ) (r : Reply) → Holds s → s.due ≡ Snapshots t 0 → k < s.settings.cpus → u ≡ snapping s t k
-    → guard (is_snapshot_due u.due t k) (taken (after_snapshot u t k) (Word (section_at u k))) ≡ Some (record { state = v; reply = r }) → v ≡ snapping s t (k + 1)
+    → guard (is_snapshot_due u.due t k) (some_outcome (after_snapshot u t k) (Word (section_at u k))) ≡ Some (record { state = v; reply = r }) → v ≡ snapping s t (k + 1)
 snap_turns s u v t k r on due lt is made =
     made_is (is_snapshot_due u.due t k) (after_snapshot u t k) v (Word (section_at u k)) r (snap_allowed s u t k lt is) made
     ∙ (ap (λ (x : State). after_snapshot x t k) is
     ∙ snap_more s t k (due_within s t on due) (omega (arith, on.shape.sections)) (omega (arith, (ranges s.settings on.fit).cpus, lt)))
 
 -- What an unlinking leaves alone: the link of the one before is a word, and so is the head.
-blank_by : (s : State) (t : ℕ) (e : Entry) (before : Option ℕ) → t < length s.marks → get_or (retiring (unlinking s t before) t e).marks t [] ≡ replicate 8 no_mark
+blank_by : (s : State) (t : ℕ) (e : Entry) (before : Option ℕ) → t < length s.marks → get_or (with_retired (with_link_past s t before) t e).marks t [] ≡ replicate 8 no_mark
 blank_by s t e None lt = get_or-set_same s.marks t (replicate 8 no_mark) [] lt
 blank_by s t e (Some p) lt = get_or-set_same s.marks t (replicate 8 no_mark) [] lt
 
@@ -147,38 +147,38 @@ unlinked_blank s u e on live is =
     ap (λ (x : State). get_or x.marks e.slot []) is
     ∙ blank_by (all_seated s) e.slot e (slot_before s.slots s.next e.slot) (omega (arith, in_within s.slots e.slot e (inl live), on.shape.slots, on.shape.marks))
 
-idle_by : (s : State) (t : ℕ) (e : Entry) (before : Option ℕ) (d : ℕ) → is_idle (retiring (unlinking s t before) t e) d ≡ is_idle s d
+idle_by : (s : State) (t : ℕ) (e : Entry) (before : Option ℕ) (d : ℕ) → is_idle (with_retired (with_link_past s t before) t e) d ≡ is_idle s d
 idle_by s t e None d = refl
 idle_by s t e (Some p) d = refl
 
-may_by : (s : State) (t : ℕ) (e : Entry) (before : Option ℕ) (d : ℕ) → may_act (retiring (unlinking s t before) t e) d ≡ may_act s d
+may_by : (s : State) (t : ℕ) (e : Entry) (before : Option ℕ) (d : ℕ) → may_act (with_retired (with_link_past s t before) t e) d ≡ may_act s d
 may_by s t e None d = refl
 may_by s t e (Some p) d = refl
 
-settings_by : (s : State) (t : ℕ) (e : Entry) (before : Option ℕ) → (retiring (unlinking s t before) t e).settings ≡ s.settings
+settings_by : (s : State) (t : ℕ) (e : Entry) (before : Option ℕ) → (with_retired (with_link_past s t before) t e).settings ≡ s.settings
 settings_by s t e None = refl
 settings_by s t e (Some p) = refl
 
 -- the snapshots were taken, and the keeper has told of it
-pub snapped_told : (s u v w : State) (e : Entry) (r : Reply) → u ≡ after_unpublish (all_seated s) e.slot e → v ≡ snapped u e.slot → guard (at_rest v.due) (taken v Done) ≡ Some (record { state = w; reply = r })
-    → w ≡ snapped (after_unpublish (all_seated s) e.slot e) e.slot
+pub snapped_told : (s u v w : State) (e : Entry) (r : Reply) → u ≡ after_unpublish (all_seated s) e.slot e → v ≡ with_all_snapshots u e.slot → guard (at_rest v.due) (some_outcome v Done) ≡ Some (record { state = w; reply = r })
+    → w ≡ with_all_snapshots (after_unpublish (all_seated s) e.slot e) e.slot
 snapped_told s u v w e r unlinked taken_all made =
-    let all : v ≡ snapped (after_unpublish (all_seated s) e.slot e) e.slot = taken_all ∙ ap (λ (x : State). snapped x e.slot) unlinked in
+    let all : v ≡ with_all_snapshots (after_unpublish (all_seated s) e.slot e) e.slot = taken_all ∙ ap (λ (x : State). with_all_snapshots x e.slot) unlinked in
     made_is (at_rest v.due) v w Done r (ap (λ (x : State). at_rest x.due) all) made ∙ all
 
 -- whoever is idle stays so
-pub snapped_idle : (s w : State) (e : Entry) (c : ℕ) → w ≡ snapped (after_unpublish (all_seated s) e.slot e) e.slot → is_idle (all_seated s) c ≡ true → is_idle w c ≡ true
+pub snapped_idle : (s w : State) (e : Entry) (c : ℕ) → w ≡ with_all_snapshots (after_unpublish (all_seated s) e.slot e) e.slot → is_idle (all_seated s) c ≡ true → is_idle w c ≡ true
 snapped_idle s w e c is idle = ap (λ (x : State). is_idle x c) is ∙ (idle_by (all_seated s) e.slot e (slot_before s.slots s.next e.slot) c ∙ idle)
 
 -- the CPU has heard of it
-pub detached_is : (s w x : State) (e : Entry) (c : ℕ) (r : Reply) → w ≡ snapped (after_unpublish (all_seated s) e.slot e) e.slot → is_idle (all_seated s) c ≡ true
-    → guard (is_idle w c) (taken (after_seeing w c) Done) ≡ Some (record { state = x; reply = r }) → x ≡ detached s c e
+pub detached_is : (s w x : State) (e : Entry) (c : ℕ) (r : Reply) → w ≡ with_all_snapshots (after_unpublish (all_seated s) e.slot e) e.slot → is_idle (all_seated s) c ≡ true
+    → guard (is_idle w c) (some_outcome (after_seeing w c) Done) ≡ Some (record { state = x; reply = r }) → x ≡ with_detached s c e
 detached_is s w x e c r is idle made =
     made_is (is_idle w c) (after_seeing w c) x Done r (snapped_idle s w e c is idle) made ∙ ap (λ (y : State). after_seeing y c) is
 
-pub detached_settings : (s x : State) (e : Entry) (c : ℕ) → x ≡ detached s c e → x.settings ≡ s.settings
+pub detached_settings : (s x : State) (e : Entry) (c : ℕ) → x ≡ with_detached s c e → x.settings ≡ s.settings
 detached_settings s x e c is = ap (λ (y : State). y.settings) is ∙ settings_by (all_seated s) e.slot e (slot_before s.slots s.next e.slot)
 
-pub detached_ready : (s x : State) (e : Entry) (c : ℕ) → Holds s → x ≡ detached s c e → (d : ℕ) → may_act s d ≡ true → may_act x d ≡ true
+pub detached_ready : (s x : State) (e : Entry) (c : ℕ) → Holds s → x ≡ with_detached s c e → (d : ℕ) → may_act s d ≡ true → may_act x d ≡ true
 detached_ready s x e c on is d may =
     ap (λ (y : State). may_act y d) is ∙ (may_by (all_seated s) e.slot e (slot_before s.slots s.next e.slot) d ∙ acting_on s d on may)

@@ -13,7 +13,7 @@ use Rattle.protocol.specs.declared.state.Search.{Search}
 use Rattle.protocol.specs.History.{IsLookup}
 use Rattle.protocol.specs.Invariant.{Holds}
 use Rattle.protocol.specs.State.{State, seen_at, search_at, row_at}
-use Rattle.protocol.specs.Events.{Outcome, guard, taken, may_seek, after_seeing, after_seek, going_on, search_over, link_loaded, load_link, load_searched, compared, entry_found}
+use Rattle.protocol.specs.Events.{Outcome, guard, some_outcome, may_seek, after_seeing, after_seek, with_search_at, search_over, link_loaded, load_link, load_searched, outcome_of_name, entry_found}
 use Rattle.passive_core.specs.Finding.{after_find, load_at, next_load}
 use Rattle.passive_core.proofs.Acting.{made_is}
 use Rattle.protocol.proofs.keeps.Searching.{Finds, FindSteps, IsFindStep, find_link, find_record, placed, searching_within, seen_now, weight}
@@ -27,7 +27,7 @@ pub record Walking (b s : State) (c : ℕ) : Type 0 where
 history_same : (b s : State) (c : ℕ) → Walking b s c → s.history ≡ b.history
 history_same b s c walk = ap (λ (t : State). t.history) walk.same
 
-going_walks : (b s : State) (c : ℕ) (q : Search) (p : SearchPlace) → Walking b s c → Walking b (going_on s c q p) c
+going_walks : (b s : State) (c : ℕ) (q : Search) (p : SearchPlace) → Walking b s c → Walking b (with_search_at s c q p) c
 going_walks b s c q p walk = record {
   same = ap (λ (t : State). record t { searches = set s.searches c (Some (placed q p)) }) walk.same;
   seen = walk.seen;
@@ -66,7 +66,7 @@ link_moves : (b s : State) (c : ℕ) (q : Search) (x : ℕ) → Holds s → c < 
 link_moves b s c q zero on lt walk none = over_is b (after_seeing s c) c None (seeing_walks b s c walk) none (seen_now s c on lt ∙ ap length (history_same b s c walk))
 link_moves b s c q (suc t) on lt walk none = going_walks b (after_seeing s c) c q (AtNumber t) (seeing_walks b s c walk)
 
-compared_moves : (b s : State) (c : ℕ) (q : Search) (t n l : ℕ) (test : Bool) → Walking b s c → Moves b c (compared s c q t n l test)
+compared_moves : (b s : State) (c : ℕ) (q : Search) (t n l : ℕ) (test : Bool) → Walking b s c → Moves b c (outcome_of_name s c q t n l test)
 compared_moves b s c q t n l true walk = going_walks b s c q (AtValue t n) walk
 compared_moves b s c q t n l false walk = going_walks b s c q (AtNext t) walk
 
@@ -168,5 +168,5 @@ pub walk_searches : (b s : State) (c : ℕ) (key : Key) → Walks b s c key → 
 walk_searches b s c key walks = (record { key = key; start = walks.start; place = walks.place }, walks.finds.searching)
 
 -- The first load is made after a Seek of an idle CPU inside a section.
-pub seek_starts : (b t : State) (c : ℕ) (key : Key) (r : Reply) → c < length b.searches → may_seek b c ≡ true → guard (may_seek b c) (taken (after_seek b c key) Done) ≡ Some (record { state = t; reply = r }) → Walks b t c key
+pub seek_starts : (b t : State) (c : ℕ) (key : Key) (r : Reply) → c < length b.searches → may_seek b c ≡ true → guard (may_seek b c) (some_outcome (after_seek b c key) Done) ≡ Some (record { state = t; reply = r }) → Walks b t c key
 seek_starts b t c key r lt may made = subst (λ (u : State). Walks b u c key) (sym (made_is (may_seek b c) (after_seek b c key) t Done r may made)) (walk_starts b c key lt)

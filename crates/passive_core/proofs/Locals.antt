@@ -21,7 +21,7 @@ use Rattle.protocol.specs.State.{State, count_at, found_at, hand_at, local_at, m
 use Rattle.registry_values.specs.Balances.{bias}
 use Rattle.registry_values.specs.Marks.{no_mark, is_collected, is_some_collected}
 use Rattle.registry_values.specs.Slots.{slot_at, is_retired, slot_of}
-use Rattle.protocol.specs.Events.{Outcome, after_collected, after_count, after_count_add, after_count_down, after_hand, after_join_keeper, after_split, after_total, id_if, is_free, is_idle, least_id, load_local, may_join_keeper, split_ref, standing, state_after, step, taken, with_local, word, words_of}
+use Rattle.protocol.specs.Events.{Outcome, after_collected, after_count, after_count_add, after_count_down, after_hand, after_join_keeper, after_split, after_total, id_if, is_free, is_idle, least_id, load_local, may_join_keeper, split_ref, number_standing, state_after, step, some_outcome, with_local, word, words_of}
 use Rattle.protocol.specs.Invariant.{Holds, IsCounting, standing_of}
 use Rattle.passive_core.specs.Commands.{all_seated, may_act}
 use Rattle.passive_core.specs.Locals.{count_in, free_added, is_counting, local_slot, slot_if, with_count_less, with_count_more, with_room, with_total_less}
@@ -124,10 +124,10 @@ room_holds s on =
 
 -- What a live reference is to, and whether a CPU's word counts it.
 
-pub live_slot : (s : State) (id n : ℕ) → Holds s → standing (local_at s.locals id) ≡ Some n → (t : ℕ) × (slot_of s.slots n ≡ Some t)
+pub live_slot : (s : State) (id n : ℕ) → Holds s → number_standing (local_at s.locals id) ≡ Some n → (t : ℕ) × (slot_of s.slots n ≡ Some t)
 live_slot s id n on live = occupied_slot s.history s.slots n on.slots (on.references.standing id n (standing_tells (local_at s.locals id) n live))
 
-pub slot_is : (s : State) (id n t : ℕ) → standing (local_at s.locals id) ≡ Some n → slot_of s.slots n ≡ Some t → local_slot s id ≡ Some t
+pub slot_is : (s : State) (id n t : ℕ) → number_standing (local_at s.locals id) ≡ Some n → slot_of s.slots n ≡ Some t → local_slot s id ≡ Some t
 slot_is s id n t live of = ap (slot_if s.slots) live ∙ of
 
 -- it counts and is the net count, or was collected
@@ -162,7 +162,7 @@ count_cases s c n t on of low =
 
 -- The events of a release by the CPU's own count.
 
-pub joins : (s : State) (c id n : ℕ) → standing (local_at s.locals id) ≡ Some n → is_idle s c ≡ true → step s (JoinRef c id) ≡ taken (after_hand s c (Giving n id) id (Lifted c)) Done
+pub joins : (s : State) (c id n : ℕ) → number_standing (local_at s.locals id) ≡ Some n → is_idle s c ≡ true → step s (JoinRef c id) ≡ some_outcome (after_hand s c (Giving n id) id (Lifted c)) Done
 joins s c id n live idle = rw (live, idle) refl
 
 -- the state once the reference is in the hand
@@ -170,7 +170,7 @@ abbrev pub lifted : State → ℕ → ℕ → ℕ → State
 lifted s c n id = after_hand s c (Giving n id) id (Lifted c)
 
 abbrev pub exchanged : State → ℕ → ℕ → ℕ → ℕ → Bool → Option Outcome
-exchanged s c n id t counts = if counts then taken (after_count_down (lifted s c n id) c t id) (Word (count_at s.counts c t)) else taken (after_collected (lifted s c n id) c n id) Collected
+exchanged s c n id t counts = if counts then some_outcome (after_count_down (lifted s c n id) c t id) (Word (count_at s.counts c t)) else some_outcome (after_collected (lifted s c n id) c n id) Collected
 
 downs : (s : State) (c n id t : ℕ) → Holds s → slot_of s.slots n ≡ Some t → c < s.settings.cpus → step (lifted s c n id) (CountDown c) ≡ exchanged s c n id t (nat_lt 0 (count_at s.counts c t))
 downs s c n id t on of low =
@@ -223,7 +223,7 @@ counted_down s c n id t hand =
     ap (λ (h : List Hand). record (after_count s c t (count_at s.counts c t - 1) (count_at s.nets c t - 1) Empty) { hands = h; locals = set (set s.locals id (Lifted c)) id Free }) hands
     ∙ ap (λ (l : List LocalPlace). record (after_count s c t (count_at s.counts c t - 1) (count_at s.nets c t - 1) Empty) { hands = s.hands; locals = l }) locals
 
-backs : (s : State) (c n id : ℕ) → c < length s.hands → step (after_collected (lifted s c n id) c n id) (SplitBack c) ≡ taken (after_hand (after_collected (lifted s c n id) c n id) c Empty id (Standing n)) (Ref id)
+backs : (s : State) (c n id : ℕ) → c < length s.hands → step (after_collected (lifted s c n id) c n id) (SplitBack c) ≡ some_outcome (after_hand (after_collected (lifted s c n id) c n id) c Empty id (Standing n)) (Ref id)
 backs s c n id low =
     let hand : hand_at (after_collected (lifted s c n id) c n id) c ≡ Back n id = get_or-set_same (set s.hands c (Giving n id)) c (Back n id) Empty (omega (arith, low, length-set s.hands c (Giving n id))) in
     rw hand refl
@@ -253,10 +253,10 @@ some_collected s c t on low tl done =
     let tm : t < length s.marks = omega (arith, tl, on.shape.slots, on.shape.marks) in
     any_within is_collected s.settings.cpus (get_or s.marks t []) no_mark c low (omega (arith, low, on.shape.mark_rows t tm, (ranges s.settings on.fit).cpus)) done
 
-keeper_joins : (s : State) (id n t : ℕ) → standing (local_at s.locals id) ≡ Some n → slot_of s.slots n ≡ Some t → may_join_keeper s t ≡ true → step s (JoinKeeper id) ≡ taken (after_join_keeper s id t) Done
+keeper_joins : (s : State) (id n t : ℕ) → number_standing (local_at s.locals id) ≡ Some n → slot_of s.slots n ≡ Some t → may_join_keeper s t ≡ true → step s (JoinKeeper id) ≡ some_outcome (after_join_keeper s id t) Done
 keeper_joins s id n t live of may = rw (live, of, may) refl
 
-pub joined_keeper : (s : State) (c id n t : ℕ) → Holds s → c < s.settings.cpus → at_rest s.due ≡ true → standing (local_at s.locals id) ≡ Some n → slot_of s.slots n ≡ Some t → is_counting s c (local_slot s id) ≡ false → step s (JoinKeeper id) ≡ taken (after_join_keeper s id t) Done
+pub joined_keeper : (s : State) (c id n t : ℕ) → Holds s → c < s.settings.cpus → at_rest s.due ≡ true → number_standing (local_at s.locals id) ≡ Some n → slot_of s.slots n ≡ Some t → is_counting s c (local_slot s id) ≡ false → step s (JoinKeeper id) ≡ some_outcome (after_join_keeper s id t) Done
 joined_keeper s c id n t on low rest live of off =
     let none : nat_lt 0 (count_at s.counts c t) ≡ false = ap (is_counting s c) (sym (slot_is s id n t live of)) ∙ off in
     ⊎_elim
@@ -266,7 +266,7 @@ joined_keeper s c id n t on low rest live of off =
     (both (at_rest s.due) (is_some_collected s.settings.cpus (get_or s.marks t [])) rest (some_collected s c t on low (slot_has s.slots n t of).0 is.collected))))
     (count_cases s c n t on of low)
 
-totals_sub : (s : State) (id t : ℕ) → step (after_join_keeper s id t) (TotalSub t) ≡ taken (after_total (after_join_keeper s id t) t (total_at s.totals t - 1)) Done
+totals_sub : (s : State) (id t : ℕ) → step (after_join_keeper s id t) (TotalSub t) ≡ some_outcome (after_total (after_join_keeper s id t) t (total_at s.totals t - 1)) Done
 totals_sub s id t = let same : nat_eq t t ≡ true = eq-eqb t t refl in rw same refl
 
 pub sub_allowed : (s v : State) (id t : ℕ) → v ≡ after_join_keeper s id t → IsSome (step v (TotalSub t))
@@ -280,7 +280,7 @@ subtracted s v w id t r rest is was =
 
 -- The events of an acquire.
 
-pub local_shows : (s : State) (id n : ℕ) → Holds s → standing (local_at s.locals id) ≡ Some n → Shows s n (load_local s id)
+pub local_shows : (s : State) (id n : ℕ) → Holds s → number_standing (local_at s.locals id) ≡ Some n → Shows s n (load_local s id)
 local_shows s id n on live =
     let t = live_slot s id n on live in
     let has = slot_has s.slots n t.0 t.1 in
@@ -294,12 +294,12 @@ local_shows s id n on live =
       loads = λ k few. loads_at s id n t.0 k e live t.1 few row.0;
     }
   where
-    loads_at : (s : State) (id n t k : ℕ) (e : Entry) → standing (local_at s.locals id) ≡ Some n → slot_of s.slots n ≡ Some t → nat_lt k 5 ≡ true → row_at s.rows t ≡ words_of e
-        → load_local s id k ≡ taken s (Word (word (words_of e) k))
+    loads_at : (s : State) (id n t k : ℕ) (e : Entry) → number_standing (local_at s.locals id) ≡ Some n → slot_of s.slots n ≡ Some t → nat_lt k 5 ≡ true → row_at s.rows t ≡ words_of e
+        → load_local s id k ≡ some_outcome s (Word (word (words_of e) k))
     loads_at s id n t k e live of few row = rw (live, of, few, row) refl
 
 counts_up : (s : State) (c t : ℕ) (e : Entry) → found_at s c ≡ Some e → slot_of s.slots e.number ≡ Some t → is_idle s c ≡ true → nat_lt (count_at s.nets c t) (bias + s.settings.count_limit) ≡ true
-    → step s (CountAdd c) ≡ taken (after_count_add s c e.number t) (Word (count_at s.counts c t))
+    → step s (CountAdd c) ≡ some_outcome (after_count_add s c e.number t) (Word (count_at s.counts c t))
 counts_up s c t e found of idle room = rw (found, of, idle, room) refl
 
 -- the state as the first event is made: there is a free place, and all CPUs have their seats
@@ -340,8 +340,8 @@ takes s u v c e r on found low is idle room was =
 pub split : (s v w : State) (c n t id : ℕ) → hand_at s c ≡ Empty → Taken s v c n t → step v (SplitRef c) ≡ Some (record { state = w; reply = Ref id }) → (w ≡ with_count_more s c n (Some t)) × (id ≡ least_id s.locals)
 split s v w c n t id hand taken_ was =
     let is : split_ref v c (Taking n) ≡ Some (record { state = w; reply = Ref id }) = subst (λ (h : Hand). split_ref v c h ≡ Some (record { state = w; reply = Ref id })) taken_.hand was in
-    let done : taken (after_split (after_count_add (prepared s) c n t) c n) (Ref (least_id (with_room s).locals)) ≡ Some (record { state = w; reply = Ref id })
-    = subst (λ (x : State). taken (after_split x c n) (Ref (least_id x.locals)) ≡ Some (record { state = w; reply = Ref id })) taken_.state is in
+    let done : some_outcome (after_split (after_count_add (prepared s) c n t) c n) (Ref (least_id (with_room s).locals)) ≡ Some (record { state = w; reply = Ref id })
+    = subst (λ (x : State). some_outcome (after_split x c n) (Ref (least_id x.locals)) ≡ Some (record { state = w; reply = Ref id })) taken_.state is in
     let o = position is_free s.locals in
     let hands = set_back s.hands c (Taking n) Empty Empty hand in
     let locals = placed s.locals o (Standing n) refl in (

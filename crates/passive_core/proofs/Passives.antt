@@ -9,7 +9,7 @@ use Rattle.protocol.specs.State.{State, found_at, passive_at, row_at, with_cell}
 use Rattle.protocol.specs.History.{IsAttached}
 use Rattle.registry_values.specs.Names.{are_name_words}
 use Rattle.registry_values.specs.Slots.{slot_of}
-use Rattle.protocol.specs.Events.{Outcome, is_idle, is_number, after_add, after_sub, load_passive, state_after, step, taken, word, words_of}
+use Rattle.protocol.specs.Events.{Outcome, is_idle, is_number, after_add, after_sub, load_passive, state_after, step, some_outcome, word, words_of}
 use Rattle.protocol.specs.Invariant.{Holds}
 use Rattle.passive_core.specs.Commands.{all_seated, may_act}
 use Rattle.protocol.specs.Picture.{passive_in}
@@ -133,10 +133,10 @@ pub record Shows (s : State) (n : ℕ) (load : ℕ → Option Outcome) : Type 0 
   pub attached : IsAttached s.history entry
   pub numbered : entry.number ≡ n
   pub lawful : are_name_words entry.rec.name.high entry.rec.name.low ≡ true
-  pub loads : (k : ℕ) → nat_lt k 5 ≡ true → load k ≡ taken s (Word (word (words_of entry) k))
+  pub loads : (k : ℕ) → nat_lt k 5 ≡ true → load k ≡ some_outcome s (Word (word (words_of entry) k))
 
 loads_at : (s : State) (c n t k : ℕ) (e : Entry) → slot_of s.slots n ≡ Some t → is_idle s c ≡ true → nat_lt 0 (passive_at s.passive c t) ≡ true → nat_lt k 5 ≡ true → row_at s.rows t ≡ words_of e
-    → load_passive s c n k ≡ taken s (Word (word (words_of e) k))
+    → load_passive s c n k ≡ some_outcome s (Word (word (words_of e) k))
 loads_at s c n t k e of idle some few row = rw (of, idle, some, few, row) refl
 
 pub passive_shows : (s : State) (c n : ℕ) → Holds s → is_idle s c ≡ true → nat_lt 0 (passive_of s c n) ≡ true → Shows s n (load_passive s c n)
@@ -163,15 +163,15 @@ replied None = 0
 replied (Some o) = word_in o.reply
 
 -- the word that a load replied is the one that stands there
-pub same_word : (s : State) (o : Option Outcome) (v w : ℕ) → o ≡ taken s (Word v) → o ≡ taken s (Word w) → v ≡ w
+pub same_word : (s : State) (o : Option Outcome) (v w : ℕ) → o ≡ some_outcome s (Word v) → o ≡ some_outcome s (Word w) → v ≡ w
 same_word s o v w is was = ap replied (sym is ∙ was)
 
 -- a load in the same state is allowed, and replies the word of that entry
-pub load_ok : (s u : State) (n k : ℕ) (load : State → ℕ → Option Outcome) → Shows s n (load s) → u ≡ s → nat_lt k 5 ≡ true → (w : ℕ) × (load u k ≡ taken u (Word w))
-load_ok s u n k load shows same few = subst (λ (x : State). (w : ℕ) × (load x k ≡ taken x (Word w))) (sym same) (word (words_of shows.entry) k, shows.loads k few)
+pub load_ok : (s u : State) (n k : ℕ) (load : State → ℕ → Option Outcome) → Shows s n (load s) → u ≡ s → nat_lt k 5 ≡ true → (w : ℕ) × (load u k ≡ some_outcome u (Word w))
+load_ok s u n k load shows same few = subst (λ (x : State). (w : ℕ) × (load x k ≡ some_outcome x (Word w))) (sym same) (word (words_of shows.entry) k, shows.loads k few)
 
-pub word_is : (s u : State) (n k v : ℕ) (load : State → ℕ → Option Outcome) (shows : Shows s n (load s)) → u ≡ s → nat_lt k 5 ≡ true → load u k ≡ taken u (Word v) → v ≡ word (words_of shows.entry) k
-word_is s u n k v load shows same few was = same_word s (load s k) v (word (words_of shows.entry) k) (subst (λ (x : State). load x k ≡ taken x (Word v)) same was) (shows.loads k few)
+pub word_is : (s u : State) (n k v : ℕ) (load : State → ℕ → Option Outcome) (shows : Shows s n (load s)) → u ≡ s → nat_lt k 5 ≡ true → load u k ≡ some_outcome u (Word v) → v ≡ word (words_of shows.entry) k
+word_is s u n k v load shows same few was = same_word s (load s k) v (word (words_of shows.entry) k) (subst (λ (x : State). load x k ≡ some_outcome x (Word v)) same was) (shows.loads k few)
 
 -- a name of these words is lawful
 pub lawful_words : (s : State) (n high low : ℕ) (load : ℕ → Option Outcome) (shows : Shows s n load) → high ≡ shows.entry.rec.name.high → low ≡ shows.entry.rec.name.low → are_name_words high low ≡ true

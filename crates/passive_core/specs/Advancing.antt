@@ -74,9 +74,9 @@ pub record LeavesTotal (old new : State) (t k : ℕ) : Type 0 where
   pub total : total_at new.totals t ≡ bias + k
 
 -- what the driver in a slot loses as the reference is given up that another slot keeps
-abbrev pub given_up : Option ℕ → Slot → ℕ
-given_up None x = 0
-given_up (Some d) x = one_if (has_number d x)
+abbrev pub count_given_up : Option ℕ → Slot → ℕ
+count_given_up None x = 0
+count_given_up (Some d) x = one_if (has_number d x)
 
 -- nothing does: the slot t is vacant and keeps nothing, and the total of the driver that it kept has one reference less
 pub record LeavesFree (old new : State) (t : ℕ) : Type 0 where
@@ -84,7 +84,7 @@ pub record LeavesFree (old new : State) (t : ℕ) : Type 0 where
   pub marks : MarksGrow old.marks new.marks t
   pub counts : SameElsewhere old.counts new.counts t
   pub collected : (c : ℕ) → count_at new.counts c t ≡ 0
-  pub totals : (u : ℕ) → (u ≡ t → ⊥) → total_at new.totals u + given_up (kept_at old.keeps t) (slot_at old.slots u) ≡ total_at old.totals u
+  pub totals : (u : ℕ) → (u ≡ t → ⊥) → total_at new.totals u + count_given_up (kept_at old.keeps t) (slot_at old.slots u) ≡ total_at old.totals u
   pub total : total_at new.totals t ≡ bias
   pub vacant : slot_at new.slots t ≡ Vacant
   pub unkept : kept_at new.keeps t ≡ None
@@ -99,7 +99,7 @@ pub record Gathers (old new : State) (t : ℕ) : Type 0 where
 -- what the end of the work leaves of a slot whose words are all collected
 pub record Empties (old new : State) (t : ℕ) : Type 0 where
   pub only : new ≡ record old { totals = new.totals; slots = slice_set old.slots t Vacant; keeps = slice_set old.keeps t None }
-  pub totals : (u : ℕ) → (u ≡ t → ⊥) → total_at new.totals u + given_up (kept_at old.keeps t) (slot_at old.slots u) ≡ total_at old.totals u
+  pub totals : (u : ℕ) → (u ≡ t → ⊥) → total_at new.totals u + count_given_up (kept_at old.keeps t) (slot_at old.slots u) ≡ total_at old.totals u
   pub total : total_at new.totals t ≡ bias
 
 abbrev pub Settles : State → State → ℕ → Stage → Type 0

@@ -9,7 +9,7 @@ use Rattle.protocol.specs.declared.state.LocalPlace.TheVariants.{Free}
 use Rattle.passive_core.specs.declared.machine.commands.attach.Before.{Before}
 use Rattle.registry_values.specs.declared.slot.Slot.{Slot}
 use Rattle.passive_core.specs.Commands.{all_seated}
-use Rattle.protocol.specs.Events.{is_inside, is_driver_slot, standing, words_of, room_of, after_seeing, after_publish}
+use Rattle.protocol.specs.Events.{is_inside, is_driver_slot, number_standing, words_of, room_of, after_seeing, after_publish}
 use Rattle.registry_values.specs.Answers as answers
 use Rattle.registry_values.specs.Slots.{is_iface, is_taken, slot_of, slot_at, key_of_record}
 use Rattle.protocol.specs.State.{State, row_at, local_at, with_biases}
@@ -36,7 +36,7 @@ is_driver_number slots (Some n) = is_driver_in slots (slot_of slots n)
 
 -- the live local reference with this id is to a driver
 abbrev pub is_to_driver : State → ℕ → Bool
-is_to_driver s id = is_driver_number s.slots (standing (local_at s.locals id))
+is_to_driver s id = is_driver_number s.slots (number_standing (local_at s.locals id))
 
 -- a reference that isn't to a driver is unfit
 abbrev pub attach_iface_answer : State → ℕ → Record → ℕ → Result Entry Refusal
@@ -48,48 +48,48 @@ IsAnswer (Ok e) answer = (answer ≡ Ok e) ⊎ (answer ≡ Err NoMemory)
 IsAnswer (Err refusal) answer = answer ≡ Err refusal
 
 -- the words of e's slot are stored: its record, its counts, and its link to the entry that is the newest now
-abbrev pub prepared : State → Entry → State
-prepared s e = record s {
+abbrev pub with_prepared : State → Entry → State
+with_prepared s e = record s {
   rows = slice_set s.rows e.slot (words_of e);
   counts = slice_set s.counts e.slot (with_biases s.settings.cpus (slice_index_or s.counts e.slot []));
   next = slice_set s.next e.slot s.head;
 }
 
 -- e was prepared and linked, and c has seen it
-abbrev pub linked : State → ℕ → Entry → State
-linked s c e = after_seeing (after_publish (prepared s e) e.slot e) c
+abbrev pub with_linked : State → ℕ → Entry → State
+with_linked s c e = after_seeing (after_publish (with_prepared s e) e.slot e) c
 
-abbrev pub attached : State → ℕ → Entry → State
-attached s c e = linked (all_seated s) c e
+abbrev pub with_attached : State → ℕ → Entry → State
+with_attached s c e = with_linked (all_seated s) c e
 
 -- a refusal changes nothing
 abbrev pub after_attach : State → ℕ → Result Entry Refusal → State
-after_attach s c (Ok e) = attached s c e
+after_attach s c (Ok e) = with_attached s c e
 after_attach s c (Err refusal) = s
 
 -- the slot t takes the live local reference with this id over: it keeps what the reference is to
-abbrev pub keeping : State → ℕ → ℕ → State
-keeping s t id = record s { locals = slice_set s.locals id Free; keeps = slice_set s.keeps t (standing (local_at s.locals id)) }
+abbrev pub with_reference_kept : State → ℕ → ℕ → State
+with_reference_kept s t id = record s { locals = slice_set s.locals id Free; keeps = slice_set s.keeps t (number_standing (local_at s.locals id)) }
 
 -- e's slot took the reference over, before e was prepared and linked
-abbrev pub plugged : State → ℕ → Entry → ℕ → State
-plugged s c e id = linked (keeping (all_seated s) e.slot id) c e
+abbrev pub with_attached_iface : State → ℕ → Entry → ℕ → State
+with_attached_iface s c e id = with_linked (with_reference_kept (all_seated s) e.slot id) c e
 
 abbrev pub after_attach_iface : State → ℕ → ℕ → Result Entry Refusal → State
-after_attach_iface s c id (Ok e) = plugged s c e id
+after_attach_iface s c id (Ok e) = with_attached_iface s c e id
 after_attach_iface s c id (Err refusal) = s
 
 -- How an attach leaves all as it was where memory is refused: the words of its slot and the seats, and the reference that the slot took over.
 abbrev pub words_before : State → ℕ → Before
 words_before s t = record { seated = s.seated; row = row_at s.rows t; counts = slice_index_or s.counts t []; link = slice_index_or s.next t 0 }
 
-abbrev pub restored : State → ℕ → Before → State
-restored s t before = record s {
+abbrev pub with_attach_undone : State → ℕ → Before → State
+with_attach_undone s t before = record s {
   seated = before.seated;
   rows = slice_set s.rows t before.row;
   counts = slice_set s.counts t before.counts;
   next = slice_set s.next t before.link;
 }
 
-abbrev pub given_back : State → ℕ → ℕ → LocalPlace → State
-given_back s t id place = record s { locals = slice_set s.locals id place; keeps = slice_set s.keeps t None }
+abbrev pub with_reference_given_back : State → ℕ → ℕ → LocalPlace → State
+with_reference_given_back s t id place = record s { locals = slice_set s.locals id place; keeps = slice_set s.keeps t None }

@@ -17,16 +17,16 @@ abbrev pub snapshot_row : State → List Mark
 snapshot_row s = map snapshot_mark s.section ++ replicate (8 - s.settings.cpus) no_mark
 
 -- all snapshots for the slot were taken
-abbrev pub snapped : State → ℕ → State
-snapped s t = record s { marks = slice_set s.marks t (snapshot_row s); due = Rest }
+abbrev pub with_all_snapshots : State → ℕ → State
+with_all_snapshots s t = record s { marks = slice_set s.marks t (snapshot_row s); due = Rest }
 
 -- e was unlinked with its snapshots taken, and c has seen it
-abbrev pub detached : State → ℕ → Entry → State
-detached s c e = after_seeing (snapped (after_unpublish (all_seated s) e.slot e) e.slot) c
+abbrev pub with_detached : State → ℕ → Entry → State
+with_detached s c e = after_seeing (with_all_snapshots (after_unpublish (all_seated s) e.slot e) e.slot) c
 
 -- a refusal changes nothing
 abbrev pub after_detach : State → ℕ → Result Entry Refusal → State
-after_detach s c (Ok e) = detached s c e
+after_detach s c (Ok e) = with_detached s c e
 after_detach s c (Err r) = s
 
 -- the answer of a lookup now

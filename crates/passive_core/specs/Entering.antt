@@ -18,12 +18,12 @@ abbrev pub with_depth : State → ℕ → ℕ → State
 with_depth s c depth = record s { depths = slice_set s.depths c depth }
 
 -- inside a section it gets deeper; outside all CPUs are seated and a section begins
-abbrev pub entered : State → ℕ → State
-entered s c = if is_inside s c then with_depth s c (depth_at s c + 1) else after_enter (all_seated s) c
+abbrev pub with_section_entered : State → ℕ → State
+with_section_entered s c = if is_inside s c then with_depth s c (depth_at s c + 1) else after_enter (all_seated s) c
 
 -- a refusal changes nothing
 abbrev pub after_enter_command : State → ℕ → State
-after_enter_command s c = if is_ok (enter_answer s c) then entered s c else s
+after_enter_command s c = if is_ok (enter_answer s c) then with_section_entered s c else s
 
 -- the outermost exit ends the section, once all CPUs are seated; an inner one makes it less deep
 abbrev pub after_exit_command : State → ℕ → State

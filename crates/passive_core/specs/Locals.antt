@@ -10,7 +10,7 @@ use Rattle.protocol.specs.State.{State, with_cell, count_at, total_at, found_at,
 use Rattle.registry_values.specs.Answers as answers
 use Rattle.registry_values.specs.Balances.{bias}
 use Rattle.registry_values.specs.Slots.{slot_of}
-use Rattle.protocol.specs.Events.{is_free, least_id, standing, with_local}
+use Rattle.protocol.specs.Events.{is_free, least_id, number_standing, with_local}
 use Rattle.passive_core.specs.Commands.{all_seated}
 
 -- the count word of c, or its net count word, for what stands in that slot
@@ -48,7 +48,7 @@ after_acquire_local s c (Err f) = s
 
 -- the reference with this id is live
 abbrev pub is_live_local : State → ℕ → Bool
-is_live_local s id = is_some (standing (local_at s.locals id))
+is_live_local s id = is_some (number_standing (local_at s.locals id))
 
 -- the slot of the entry that it is to
 abbrev pub slot_if : List Slot → Option ℕ → Option ℕ
@@ -56,7 +56,7 @@ slot_if slots None = None
 slot_if slots (Some n) = slot_of slots n
 
 abbrev pub local_slot : State → ℕ → Option ℕ
-local_slot s id = slot_if s.slots (standing (local_at s.locals id))
+local_slot s id = slot_if s.slots (number_standing (local_at s.locals id))
 
 -- c's word counts the slot: it isn't collected
 abbrev pub is_counting : State → ℕ → Option ℕ → Bool

@@ -12,7 +12,7 @@ use Rattle.protocol.specs.History.{IsAttached}
 use Rattle.protocol.specs.State.{State}
 use Rattle.registry_values.specs.Answers.{unless, why_full, why_unusable}
 use Rattle.registry_values.specs.Slots.{slot_of}
-use Rattle.protocol.specs.Events.{after_add, after_sub, load_record, taken}
+use Rattle.protocol.specs.Events.{after_add, after_sub, load_record, some_outcome}
 use Rattle.protocol.specs.Model.{put}
 use Rattle.protocol.specs.Picture.{passive_in}
 use Rattle.passive_core.specs.Commands.{all_seated}
@@ -33,17 +33,17 @@ abbrev pub one_more : State → ℕ → ℕ → Result CorePsref Refusal
 one_more s c n = unless (why_full (passive_of s c n) s.settings.passive_limit) (Ok (record { cpu = c; number = n }))
 
 -- a reference of c to its last found entry
-abbrev pub acquired : State → ℕ → Option Entry → Result CorePsref Refusal
-acquired s c None = Err NothingFound
-acquired s c (Some e) = one_more s c e.number
+abbrev pub psref_to_found : State → ℕ → Option Entry → Result CorePsref Refusal
+psref_to_found s c None = Err NothingFound
+psref_to_found s c (Some e) = one_more s c e.number
 
 -- why c may not use a reference
 abbrev pub refusal_of : State → ℕ → CorePsref → Option Refusal
 refusal_of s c p = why_unusable (p.cpu == c) (nat_lt 0 (passive_of s c p.number))
 
 -- a second reference to n, unless the first may not be used
-abbrev pub copied : State → ℕ → ℕ → Option Refusal → Result CorePsref Refusal
-copied s c n refusal = unless refusal (one_more s c n)
+abbrev pub psref_copy : State → ℕ → ℕ → Option Refusal → Result CorePsref Refusal
+psref_copy s c n refusal = unless refusal (one_more s c n)
 
 -- the record of the entry that was attached under the number n
 abbrev pub IsRecordOf : List Change → ℕ → Record → Type 0
@@ -51,7 +51,7 @@ IsRecordOf h n r = (e : Entry) × IsAttached h e × (e.number ≡ n) × (r ≡ e
 
 -- the load of a record's word is allowed, and changes nothing
 abbrev pub IsWordLoad : State → RecordOf → Type 0
-IsWordLoad s of = (w : ℕ) × (load_record s of ≡ taken s (Word w))
+IsWordLoad s of = (w : ℕ) × (load_record s of ≡ some_outcome s (Word w))
 
 -- all CPUs are seated, and c has a reference more, or less, to what stands in that slot
 abbrev pub with_one_more : State → ℕ → Option ℕ → State

@@ -2,8 +2,8 @@
 use Rattle.passive_core.specs.declared.machine.Core.TheInside.{Inside}
 use Rattle.protocol.specs.State.{State}
 
-abbrev pub shown : Inside → State
-shown a = record {
+abbrev pub state_shown : Inside → State
+state_shown a = record {
   settings = a.settings;
   section = a.section.items;
   head = a.head;

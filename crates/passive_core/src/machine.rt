@@ -65,12 +65,12 @@ impl Model for Core {
 
     ghost Value = { State };
 
-    ghost use Rattle.passive_core.specs.Shown.{shown};
+    ghost use Rattle.passive_core.specs.Shown.{state_shown};
     ghost use Rattle.protocol.specs.Invariant.{Holds};
 
-    ghost view = { shown };
+    ghost view = { state_shown };
 
-    ghost invariant = { λ a. Holds (shown a) };
+    ghost invariant = { λ a. Holds (state_shown a) };
 }
 
 impl Core {

@@ -18,7 +18,7 @@ use Rattle.cpu_words.specs.Views.{number_at, references_to, depth_of, new_cpu}
 use Rattle.cpu_words.specs.Sections.{HasEntered, HasExited}
 use Rattle.cpu_words.proofs.shown.Passes.{attached_prefix}
 use Rattle.passive_list.specs.declared.place.Found.{Found}
-use Rattle.passive_list.specs.declared.place.Place.{Place}
+use Rattle.passive_list.specs.declared.place.NumberedCount.{NumberedCount}
 use Rattle.registry_values.specs.declared.slot.Key.{Key}
 use Rattle.protocol.specs.declared.state.Search.{Search}
 use Rattle.passive_list.specs.Walking.{HasLookedUp}
@@ -26,10 +26,10 @@ use Rattle.passive_list.specs.Cpus.{no_place, no_found, place_at, PassiveAgree, 
 
 -- each place of a new CPU is of no entry
 blank_number : (t : ℕ) → (place_at (replicate 32 no_place) t).number ≡ 0
-blank_number t = ap (λ (p : Place). p.number) (get_or_all 32 no_place t)
+blank_number t = ap (λ (p : NumberedCount). p.number) (get_or_all 32 no_place t)
 
 blank_count : (t : ℕ) → (place_at (replicate 32 no_place) t).count ≡ 0
-blank_count t = ap (λ (p : Place). p.count) (get_or_all 32 no_place t)
+blank_count t = ap (λ (p : NumberedCount). p.count) (get_or_all 32 no_place t)
 
 new_passive : (a : Settings) (c : ℕ) → PassiveAgree (new_cpu a c) (replicate 32 no_place)
 new_passive a c = record { size = refl; counts = λ t. blank_count t; placed = λ t some. absurd (some (blank_number t)); each = λ e there. absurd (omega (arith, there.1)) }
@@ -60,7 +60,7 @@ new_agrees z a t c table fit few = record {
 }
 
 -- its references stay in a longer pass
-pub passive_longer : (x y : CpuView) (l : List Place) → y.references ≡ x.references → IsPrefix x.pass y.pass → PassiveAgree x l → PassiveAgree y l
+pub passive_longer : (x y : CpuView) (l : List NumberedCount) → y.references ≡ x.references → IsPrefix x.pass y.pass → PassiveAgree x l → PassiveAgree y l
 passive_longer x y l same longer agree = record {
   size = agree.size;
   counts = λ t. agree.counts t ∙ ap (λ es. references_to (place_at l t).number es) (sym same);
@@ -71,7 +71,7 @@ passive_longer x y l same longer agree = record {
 }
 
 -- its net counts are not of the pass
-pub net_same : (x y : CpuView) (l : List Place) → y.met ≡ x.met → y.acquired ≡ x.acquired → y.released ≡ x.released → NetAgree x l → NetAgree y l
+pub net_same : (x y : CpuView) (l : List NumberedCount) → y.met ≡ x.met → y.acquired ≡ x.acquired → y.released ≡ x.released → NetAgree x l → NetAgree y l
 net_same x y l met acquired released agree = record {
   size = agree.size;
   met = λ t. agree.met t ∙ ap (λ m. number_at m t) (sym met);
@@ -83,7 +83,7 @@ found_longer : (x : CpuView) (p : List Change) (e : Entry) → IsPrefix x.pass p
 found_longer x p e longer old = (old.0, attached_prefix x.pass p e longer old.1)
 
 -- a section begins
-pub entered_agrees : (z : TableId) (a : Settings) (t u : TableId) (x y : CpuView) (c w d : ℕ) (e : Found) (ps ns : List Place)
+pub entered_agrees : (z : TableId) (a : Settings) (t u : TableId) (x y : CpuView) (c w d : ℕ) (e : Found) (ps ns : List NumberedCount)
     → IsOurCpu z a t x c w d e ps ns → u ≡ t → d ≡ 0 → w < a.section_limit → HasEntered x y → IsOurCpu z a u y c w 1 e ps ns
 entered_agrees z a t u x y c w d e ps ns our same shallow room had =
     let p = y.pass in
@@ -112,7 +112,7 @@ opened None some = absurd (some refl)
 opened (Some b) some = refl
 
 -- a section ends
-pub exited_agrees : (z : TableId) (a : Settings) (t u : TableId) (x y : CpuView) (c w d : ℕ) (e : Found) (ps ns : List Place)
+pub exited_agrees : (z : TableId) (a : Settings) (t u : TableId) (x y : CpuView) (c w d : ℕ) (e : Found) (ps ns : List NumberedCount)
     → IsOurCpu z a t x c w d e ps ns → u ≡ t → d ≡ 1 → HasExited x y → IsOurCpu z a u y c (w + 1) 0 (record e { number = 0 }) ps ns
 exited_agrees z a t u x y c w d e ps ns our same last had =
     let some : x.begin ≢ None = λ q. absurd (let none : d ≡ 0 = our.depth.outside.0 q in omega arith) in
@@ -136,7 +136,7 @@ exited_agrees z a t u x y c w d e ps ns our same last had =
     subst (λ (v : CpuView). IsOurCpu z a u v c (w + 1) 0 (record e { number = 0 }) ps ns) (sym had) there
 
 -- the pass grows, another entry may be the last found one, and a note may have been heard
-pub seen_agrees : (z : TableId) (a : Settings) (t u : TableId) (x y : CpuView) (c w d : ℕ) (e k : Found) (f : Option Entry) (ps ns : List Place) (h : List Change)
+pub seen_agrees : (z : TableId) (a : Settings) (t u : TableId) (x y : CpuView) (c w d : ℕ) (e k : Found) (f : Option Entry) (ps ns : List NumberedCount) (h : List Change)
     → IsOurCpu z a t x c w d e ps ns → u ≡ t → IsPrefix x.pass y.pass → y ≡ record x { pass = y.pass; found = f; heard = h } → IsKept k f
     → ((g : Entry) → f ≡ Some g → (g.slot < 32) × IsAttached y.pass g) → IsOurCpu z a u y c w d k ps ns
 seen_agrees z a t u x y c w d e k f ps ns h our same longer is kept seen =
@@ -157,13 +157,13 @@ seen_agrees z a t u x y c w d e k f ps ns h our same longer is kept seen =
     } in
     subst (λ (v : CpuView). IsOurCpu z a u v c w d k ps ns) (sym is) there
 
-pub heard_agrees : (z : TableId) (a : Settings) (t u : TableId) (x y : CpuView) (c w d : ℕ) (e : Found) (ps ns : List Place) (h : List Change)
+pub heard_agrees : (z : TableId) (a : Settings) (t u : TableId) (x y : CpuView) (c w d : ℕ) (e : Found) (ps ns : List NumberedCount) (h : List Change)
     → IsOurCpu z a t x c w d e ps ns → u ≡ t → IsPrefix x.pass y.pass → y ≡ record x { pass = y.pass; heard = h } → IsOurCpu z a u y c w d e ps ns
 heard_agrees z a t u x y c w d e ps ns h our same longer is =
     seen_agrees z a t u x y c w d e e x.found ps ns h our same longer is our.found.is (λ g q. found_longer x y.pass g longer (our.found.seen g q))
 
 -- a lookup is over
-pub looked_up_agrees : (z : TableId) (a : Settings) (t u : TableId) (x y : CpuView) (c w d : ℕ) (e k : Found) (f : Option Entry) (ps ns : List Place) (key : Key)
+pub looked_up_agrees : (z : TableId) (a : Settings) (t u : TableId) (x y : CpuView) (c w d : ℕ) (e k : Found) (f : Option Entry) (ps ns : List NumberedCount) (key : Key)
     → IsOurCpu z a t x c w d e ps ns → u ≡ t → IsKept k f → HasLookedUp key x y f → IsOurCpu z a u y c w d k ps ns
 looked_up_agrees z a t u x y c w d e k f ps ns key our same kept had =
     let p = y.pass in
@@ -171,7 +171,7 @@ looked_up_agrees z a t u x y c w d e k f ps ns key our same kept had =
     seen_agrees z a t u x y c w d e k f ps ns x.heard our same had.pass is kept had.seen
 
 -- the data of a CPU agree with its view by the table and the settings that its own seat has
-pub own_agrees : (z : TableId) (a : Settings) (t : TableId) (x : CpuView) (c w d : ℕ) (e : Found) (ps ns : List Place) → IsOurCpu z a t x c w d e ps ns → IsOurCpu t x.settings t x c w d e ps ns
+pub own_agrees : (z : TableId) (a : Settings) (t : TableId) (x : CpuView) (c w d : ℕ) (e : Found) (ps ns : List NumberedCount) → IsOurCpu z a t x c w d e ps ns → IsOurCpu t x.settings t x c w d e ps ns
 own_agrees z a t x c w d e ps ns our = record {
   table = refl;
   settings = refl;

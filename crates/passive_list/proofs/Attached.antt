@@ -30,9 +30,9 @@ use Rattle.cpu_words.specs.Publishing.{LeadsBelow, MayPublish, HasPublished}
 use Rattle.cpu_words.specs.Publishing.LeadsBelow.{To_end, To_slot}
 use Rattle.cpu_words.specs.Rule.{IsShown}
 use Rattle.cpu_words.specs.Vacating.{MayVacate, MayWrite, as_vacant, vacant_from}
-use Rattle.passive_list.specs.declared.keeper.Row.{Row}
+use Rattle.passive_list.specs.declared.keeper.KeptSlot.{KeptSlot}
 use Rattle.passive_list.specs.Keepers.{OnKeeper, row_at, states_of, TakenAs, IsAtRest, RowsAgree, IsOurKeeper}
-use Rattle.passive_list.specs.Publishing.{prepared, published, MayAttach}
+use Rattle.passive_list.specs.Publishing.{keeper_after_stores, keeper_after_publish, MayAttach}
 use Rattle.passive_list.proofs.Rows.{state_at, live_in, row_stays, rows_set}
 use Rattle.passive_list.proofs.Preparing.{vacant_now, as_vacant_is, biases_size, bias_stored, vacant_sized}
 
@@ -42,10 +42,10 @@ use Rattle.passive_list.proofs.Preparing.{vacant_now, as_vacant_is, biases_size,
 abbrev pub LiveIn : List Slot → List Slot → Type 0
 LiveIn xs ys = (u : ℕ) (f : Entry) → slot_at xs u ≡ Live f → slot_at ys u ≡ Live f
 
-pub rows_live : (a : Settings) (k : KeeperView) (rows : List Row) → RowsAgree a k rows → LiveIn (states_of rows) k.slots
+pub rows_live : (a : Settings) (k : KeeperView) (rows : List KeptSlot) → RowsAgree a k rows → LiveIn (states_of rows) k.slots
 rows_live a k rows agree u f live = (live_in a k rows u f agree live).1
 
-pub live_rows : (a : Settings) (k : KeeperView) (rows : List Row) → IsAtRest a k → RowsAgree a k rows → LiveIn k.slots (states_of rows)
+pub live_rows : (a : Settings) (k : KeeperView) (rows : List KeptSlot) → IsAtRest a k → RowsAgree a k rows → LiveIn k.slots (states_of rows)
 live_rows a k rows at agree u f live =
     let within = in_within k.slots u f (inl live) in
     let size = at.sized.slots in
@@ -143,14 +143,14 @@ entry_is e lawful = by e.rec.kind
 
 -- Publishing
 
-pub asked_write : (a : Settings) (k : KeeperView) (rows : List Row) (t : ℕ) → IsAtRest a k → RowsAgree a k rows → t < a.slots → slot_at (states_of rows) t ≡ Vacant → MayWrite k t
+pub asked_write : (a : Settings) (k : KeeperView) (rows : List KeptSlot) (t : ℕ) → IsAtRest a k → RowsAgree a k rows → t < a.slots → slot_at (states_of rows) t ≡ Vacant → MayWrite k t
 asked_write a k rows t at agree lt vacant = record {
   rest = at.rest;
   slot = subst (λ (z : Settings). t < z.slots) (sym at.settings) lt;
   vacant = subst (TakenAs k t) (sym (state_at rows t) ∙ vacant) (agree.each t lt).state;
 }
 
-pub may_publish : (a : Settings) (k : KeeperView) (rows : List Row) (e : Entry) (v : ℕ) → MayAttach a k rows e → LeadsBelow (states_of rows) e.number v → MayPublish (prepared k e v) e.slot e
+pub may_publish : (a : Settings) (k : KeeperView) (rows : List KeptSlot) (e : Entry) (v : ℕ) → MayAttach a k rows e → LeadsBelow (states_of rows) e.number v → MayPublish (keeper_after_stores k e v) e.slot e
 may_publish a k rows e v asked link =
     let at = asked.at in
     let t = e.slot in
@@ -185,10 +185,10 @@ may_publish a k rows e v asked link =
     }
 
 -- what publishing leaves, in one view
-pub published_is : (k l m : KeeperView) (e : Entry) (v : ℕ) → l ≡ prepared k e v → (f : Entry) × MayPublish l e.slot f × HasPublished l e.slot f m → MayPublish (prepared k e v) e.slot e → m ≡ published k e v
+pub published_is : (k l m : KeeperView) (e : Entry) (v : ℕ) → l ≡ keeper_after_stores k e v → (f : Entry) × MayPublish l e.slot f × HasPublished l e.slot f m → MayPublish (keeper_after_stores k e v) e.slot e → m ≡ keeper_after_publish k e v
 published_is k l m e v at told may =
     let t = e.slot in
-    let p = prepared k e v in
+    let p = keeper_after_stores k e v in
     let f = told.0 in
     let same : f ≡ e = one f e (sym (ap (λ (x : KeeperView). entry_of t (words_at x.rows t)) (sym at) ∙ told.1.entry) ∙ may.entry) in
     told.2 ∙ (ap (λ (x : KeeperView). record x { head = t + 1; history = after_change x.history (Attach f); slots = set x.slots t (Live f) }) at
@@ -227,10 +227,10 @@ published_is k l m e v at told may =
         ap (λ (slots : List Slot). record (aim (vacant_from (Retired x) k e.slot)) { slots = slots; counts = set (set k.counts e.slot (replicate 8 none)) e.slot row }) (set-set k.slots e.slot Vacant (Live e))
         ∙ ap (λ (counts : List (List ℕ)). record (aim (vacant_from (Retired x) k e.slot)) { counts = counts }) (set-set k.counts e.slot (replicate 8 none) row)
 
-abbrev pub row_live : Row → Entry → Row
+abbrev pub row_live : KeptSlot → Entry → KeptSlot
 row_live r e = record { state = Live e; marks = r.marks; total = r.total; keeps = r.keeps }
 
-published_at_rest : (a : Settings) (k : KeeperView) (rows : List Row) (e : Entry) (v : ℕ) → MayAttach a k rows e → IsAtRest a (published k e v)
+published_at_rest : (a : Settings) (k : KeeperView) (rows : List KeptSlot) (e : Entry) (v : ℕ) → MayAttach a k rows e → IsAtRest a (keeper_after_publish k e v)
 published_at_rest a k rows e v asked =
     let at = asked.at in
     let t = e.slot in
@@ -267,13 +267,13 @@ published_at_rest a k rows e v asked =
     }
 
 -- what the keeper has agrees with what it publishes, whatever step before brought its seat to the view k
-pub published_keeper : (z : TableId) (a : Settings) (table : TableId) (k l : KeeperView) (its : Settings) (rows : List Row) (n : ℕ) (e : Entry) (v : ℕ) → table ≡ z → its ≡ a → n ≡ length k.history → MayAttach a k rows e → l ≡ published k e v → IsShown l
+pub published_keeper : (z : TableId) (a : Settings) (table : TableId) (k l : KeeperView) (its : Settings) (rows : List KeptSlot) (n : ℕ) (e : Entry) (v : ℕ) → table ≡ z → its ≡ a → n ≡ length k.history → MayAttach a k rows e → l ≡ keeper_after_publish k e v → IsShown l
     → IsOurKeeper z a table l its (set rows e.slot (row_live (row_at rows e.slot) e)) (n + 1)
 published_keeper z a table k l its rows n e v same settings was asked change is_shown =
     let at = asked.at in
     let t = e.slot in
     let lt = asked.slot in
-    let p = published k e v in
+    let p = keeper_after_publish k e v in
     let most = (ranges a at.fit).slots in
     let size = at.sized.slots in
     let had = asked.agree.each t lt in
@@ -295,7 +295,7 @@ published_keeper z a table k l its rows n e v same settings was asked change is_
     }
 
 -- what is asked of a caller, of the keeper's own view
-pub ask : (z : TableId) (a : Settings) (table : TableId) (k : KeeperView) (its : Settings) (rows : List Row) (n t : ℕ) (rec : Record) (x : OnKeeper) → IsOurKeeper z a table k its rows n → record { view = k; slots = states_of rows } ≡ x
+pub ask : (z : TableId) (a : Settings) (table : TableId) (k : KeeperView) (its : Settings) (rows : List KeptSlot) (n t : ℕ) (rec : Record) (x : OnKeeper) → IsOurKeeper z a table k its rows n → record { view = k; slots = states_of rows } ≡ x
     → (t < a.slots) × (slot_at x.slots t ≡ Vacant) → IsTrue (keeps_rightly (kept_at x.view.keeps t) rec.kind) → IsTrue (is_lawful rec.name) → is_taken (key_of_record rec) x.slots ≡ false
     → length x.view.history + live_count x.slots + 2 ≤ a.change_limit → MayAttach a k rows (record { number = n + 1; slot = t; rec = rec })
 ask z a table k its rows n t rec x our is vacant keeps name free room = record {

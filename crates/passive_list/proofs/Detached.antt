@@ -14,9 +14,9 @@ use Rattle.registry_values.proofs.Fit.{ranges}
 use Rattle.protocol.proofs.history.History.{length-after_change}
 use Rattle.protocol.proofs.keeps.ListKeeps.{live_count_put, rows_put}
 use Rattle.cpu_words.specs.declared.view.KeeperView.{KeeperView}
-use Rattle.cpu_words.specs.Publishing.{LeadsBelow, IsBefore, MayUnpublish, HasUnpublished, having_unpublished, links_with}
+use Rattle.cpu_words.specs.Publishing.{LeadsBelow, IsBefore, MayUnpublish, HasUnpublished, keeper_after_unpublish, links_with}
 use Rattle.cpu_words.specs.Rule.{IsShown}
-use Rattle.passive_list.specs.declared.keeper.Row.{Row}
+use Rattle.passive_list.specs.declared.keeper.KeptSlot.{KeptSlot}
 use Rattle.passive_list.specs.Keepers.{row_at, states_of, IsAtRest, RowsAgree, IsOurKeeper}
 use Rattle.passive_list.specs.Retiring.{with_snapshots}
 use Rattle.passive_list.proofs.Rows.{state_at, live_in, row_stays, rows_set}
@@ -26,13 +26,13 @@ before_on : (xs ys : List Slot) (n : ℕ) (p : Option ℕ) → LiveIn xs ys → 
 before_on xs ys n None on back was = λ t f live. was t f (back t f live)
 before_on xs ys n (Some q) on back was = (was.0, on q was.0 was.1, was.2, λ u h live above. was.3 u h (back u h live) above)
 
-pub before_in : (a : Settings) (k : KeeperView) (rows : List Row) (n : ℕ) (p : Option ℕ) → IsAtRest a k → RowsAgree a k rows → IsBefore (states_of rows) n p → IsBefore k.slots n p
+pub before_in : (a : Settings) (k : KeeperView) (rows : List KeptSlot) (n : ℕ) (p : Option ℕ) → IsAtRest a k → RowsAgree a k rows → IsBefore (states_of rows) n p → IsBefore k.slots n p
 before_in a k rows n p at agree was = before_on (states_of rows) k.slots n p (rows_live a k rows agree) (live_rows a k rows at agree) was
 
-pub leads_in : (a : Settings) (k : KeeperView) (rows : List Row) (n v : ℕ) → IsAtRest a k → RowsAgree a k rows → LeadsBelow (states_of rows) n v → LeadsBelow k.slots n v
+pub leads_in : (a : Settings) (k : KeeperView) (rows : List KeptSlot) (n v : ℕ) → IsAtRest a k → RowsAgree a k rows → LeadsBelow (states_of rows) n v → LeadsBelow k.slots n v
 leads_in a k rows n v at agree was = leads_on (states_of rows) k.slots n v (rows_live a k rows agree) (live_rows a k rows at agree) was
 
-pub may_unpublish : (a : Settings) (k : KeeperView) (rows : List Row) (t : ℕ) (e : Entry) (p : Option ℕ) (v : ℕ) → IsAtRest a k → RowsAgree a k rows → (row_at rows t).state ≡ Live e → IsBefore (states_of rows) e.number p → LeadsBelow (states_of rows) e.number v → MayUnpublish k t p v
+pub may_unpublish : (a : Settings) (k : KeeperView) (rows : List KeptSlot) (t : ℕ) (e : Entry) (p : Option ℕ) (v : ℕ) → IsAtRest a k → RowsAgree a k rows → (row_at rows t).state ≡ Live e → IsBefore (states_of rows) e.number p → LeadsBelow (states_of rows) e.number v → MayUnpublish k t p v
 may_unpublish a k rows t e p v at agree is before link = record {
   rest = at.rest;
   e = e;
@@ -43,10 +43,10 @@ may_unpublish a k rows t e p v at agree is before link = record {
 
 -- what retiring leaves, in one view
 abbrev pub detached : KeeperView → ℕ → Entry → Option ℕ → ℕ → List Mark → KeeperView
-detached k t e p v marks = with_snapshots (having_unpublished k t e p v) t marks
+detached k t e p v marks = with_snapshots (keeper_after_unpublish k t e p v) t marks
 
-pub unpublished_is : (k l : KeeperView) (t : ℕ) (e : Entry) (p : Option ℕ) (v : ℕ) → slot_at k.slots t ≡ Live e → HasUnpublished k t p v l → l ≡ having_unpublished k t e p v
-unpublished_is k l t e p v live told = told.2 ∙ ap (λ (x : Entry). having_unpublished k t x p v) (one told.0 e (sym told.1 ∙ live))
+pub unpublished_is : (k l : KeeperView) (t : ℕ) (e : Entry) (p : Option ℕ) (v : ℕ) → slot_at k.slots t ≡ Live e → HasUnpublished k t p v l → l ≡ keeper_after_unpublish k t e p v
+unpublished_is k l t e p v live told = told.2 ∙ ap (λ (x : Entry). keeper_after_unpublish k t x p v) (one told.0 e (sym told.1 ∙ live))
   where
     one : (x y : Entry) → Live x ≡ Live y → x ≡ y
     one x y q = cc
@@ -85,10 +85,10 @@ detached_at_rest a k t e p v marks at lt live size =
           omega (arith, less, long, room);
     }
 
-abbrev pub row_retired : Row → Entry → List Mark → Row
+abbrev pub row_retired : KeptSlot → Entry → List Mark → KeptSlot
 row_retired r e marks = record { state = Retired e; marks = marks; total = r.total; keeps = r.keeps }
 
-pub detached_keeper : (z : TableId) (a : Settings) (table table' : TableId) (k l : KeeperView) (its : Settings) (rows : List Row) (n t : ℕ) (e : Entry) (p : Option ℕ) (v : ℕ) (marks : List Mark) → IsOurKeeper z a table k its rows n → (row_at rows t).state ≡ Live e → length marks ≡ 8
+pub detached_keeper : (z : TableId) (a : Settings) (table table' : TableId) (k l : KeeperView) (its : Settings) (rows : List KeptSlot) (n t : ℕ) (e : Entry) (p : Option ℕ) (v : ℕ) (marks : List Mark) → IsOurKeeper z a table k its rows n → (row_at rows t).state ≡ Live e → length marks ≡ 8
     → table' ≡ table → l ≡ detached k t e p v marks → IsShown l → IsOurKeeper z a table' l its (set rows t (row_retired (row_at rows t) e marks)) (n + 1)
 detached_keeper z a table table' k l its rows n t e p v marks our is marks_size same change is_shown =
     let at = our.view in

@@ -10,18 +10,18 @@ use Rattle.registry_values.specs.Slots.{slot_at}
 use Rattle.protocol.proofs.slots.Occupied.{in_within}
 use Rattle.cpu_words.specs.Publishing.{LeadsBelow, IsBefore, IsLinkPlace}
 use Rattle.cpu_words.specs.Publishing.LeadsBelow.{To_end, To_slot}
-use Rattle.passive_list.specs.declared.keeper.Row.{Row}
+use Rattle.passive_list.specs.declared.keeper.KeptSlot.{KeptSlot}
 use Rattle.passive_list.specs.declared.links.At.{At}
 use Rattle.passive_list.specs.Keepers.{row_at, state_of, states_of}
 use Rattle.passive_list.specs.Links.{newer_of, older_of, link_to, place_of}
 use Rattle.passive_list.proofs.Rows.{state_at}
 
 -- of the first d slots
-abbrev pub newest_to : List Row → ℕ → ℕ → Option At
+abbrev pub newest_to : List KeptSlot → ℕ → ℕ → Option At
 newest_to rows n zero = None
 newest_to rows n (suc d) = newer_of n d (newest_to rows n d) (row_at rows d).state
 
-abbrev pub oldest_to : List Row → ℕ → ℕ → Option At
+abbrev pub oldest_to : List KeptSlot → ℕ → ℕ → Option At
 oldest_to rows n zero = None
 oldest_to rows n (suc d) = older_of n d (oldest_to rows n d) (row_at rows d).state
 
@@ -123,12 +123,12 @@ newest_more slots n d Vacant best here had = newest_same slots n d Vacant best h
 newest_more slots n d (Live e) best here had = newest_live slots n d e best here had
 newest_more slots n d (Retired f) best here had = newest_same slots n d (Retired f) best here (λ e q. cc) had
 
-newest_is : (rows : List Row) (n d : ℕ) → Newest (states_of rows) n d (newest_to rows n d)
+newest_is : (rows : List KeptSlot) (n d : ℕ) → Newest (states_of rows) n d (newest_to rows n d)
 newest_is rows n zero = λ u h lt live below. omega (arith, lt)
 newest_is rows n (suc d) = newest_more (states_of rows) n d (row_at rows d).state (newest_to rows n d) (state_at rows d) (newest_is rows n d)
 
 -- a live slot has a row
-live_within : (rows : List Row) → length rows ≡ 32 → (u : ℕ) (h : Entry) → slot_at (states_of rows) u ≡ Live h → u < 32
+live_within : (rows : List KeptSlot) → length rows ≡ 32 → (u : ℕ) (h : Entry) → slot_at (states_of rows) u ≡ Live h → u < 32
 live_within rows size u h live = let lt = in_within (states_of rows) u h (inl live) in let long = length-map rows state_of in omega (arith, lt, long, size)
 
 -- a live slot is among the first d, where those past them are vacant
@@ -136,7 +136,7 @@ leads_from : (slots : List Slot) (n d : ℕ) (best : Option At) → ((u : ℕ) (
 leads_from slots n d None all had = To_end (λ u h live below. had u h (all u h live) live below)
 leads_from slots n d (Some at) all had = rw add-one (To_slot at.slot had.f had.live had.below (λ u h live below. had.most u h (all u h live) live below))
 
-pub newest_leads : (rows : List Row) (n : ℕ) → length rows ≡ 32 → LeadsBelow (states_of rows) n (link_to (newest_to rows n 32))
+pub newest_leads : (rows : List KeptSlot) (n : ℕ) → length rows ≡ 32 → LeadsBelow (states_of rows) n (link_to (newest_to rows n 32))
 newest_leads rows n size = leads_from (states_of rows) n 32 (newest_to rows n 32) (live_within rows size) (newest_is rows n 32)
 
 -- The oldest above
@@ -203,7 +203,7 @@ oldest_more slots n d Vacant best here had = oldest_same slots n d Vacant best h
 oldest_more slots n d (Live e) best here had = oldest_live slots n d e best here had
 oldest_more slots n d (Retired f) best here had = oldest_same slots n d (Retired f) best here (λ e q. cc) had
 
-oldest_is : (rows : List Row) (n d : ℕ) → Oldest (states_of rows) n d (oldest_to rows n d)
+oldest_is : (rows : List KeptSlot) (n d : ℕ) → Oldest (states_of rows) n d (oldest_to rows n d)
 oldest_is rows n zero = λ u h lt live above. omega (arith, lt)
 oldest_is rows n (suc d) = oldest_more (states_of rows) n d (row_at rows d).state (oldest_to rows n d) (state_at rows d) (oldest_is rows n d)
 
@@ -215,5 +215,5 @@ place_from : (slots : List Slot) (n : ℕ) (best : Option At) → Oldest slots n
 place_from slots n None had = tt
 place_from slots n (Some at) had = had.within
 
-pub oldest_before : (rows : List Row) (n : ℕ) → length rows ≡ 32 → IsBefore (states_of rows) n (place_of (oldest_to rows n 32)) × IsLinkPlace (place_of (oldest_to rows n 32))
+pub oldest_before : (rows : List KeptSlot) (n : ℕ) → length rows ≡ 32 → IsBefore (states_of rows) n (place_of (oldest_to rows n 32)) × IsLinkPlace (place_of (oldest_to rows n 32))
 oldest_before rows n size = (before_from (states_of rows) n 32 (oldest_to rows n 32) (live_within rows size) (oldest_is rows n 32), place_from (states_of rows) n (oldest_to rows n 32) (oldest_is rows n 32))

@@ -19,10 +19,10 @@ use Rattle.protocol.proofs.keeps.ListKeeps.{rows_cell}
 use Rattle.protocol.proofs.slots.Occupied.{is_retired_tells}
 use Rattle.cpu_words.specs.declared.view.KeeperView.{KeeperView}
 use Rattle.cpu_words.specs.declared.view.View.TheVariants.{Keeper}
-use Rattle.cpu_words.specs.Grace.{MayLook, having_looked}
+use Rattle.cpu_words.specs.Grace.{MayLook, keeper_after_look}
 use Rattle.cpu_words.specs.Steps.{Makes}
 use Rattle.cpu_words.proofs.shown.KeepersShown.{step_is_shown}
-use Rattle.passive_list.specs.declared.keeper.Row.{Row}
+use Rattle.passive_list.specs.declared.keeper.KeptSlot.{KeptSlot}
 use Rattle.passive_list.specs.Keepers.{no_row, row_at, state_of, states_of, TakenAs, IsAtRest, RowsAgree, IsOurKeeper}
 use Rattle.passive_list.specs.Vacating.{IsDrainedOn, is_drained_row}
 use Rattle.passive_list.proofs.Rows.{state_at, retired_in, row_stays, rows_set}
@@ -30,16 +30,16 @@ use Rattle.passive_list.proofs.Rows.{state_at, retired_in, row_stays, rows_set}
 -- Looks
 
 -- a slot that is retired in the rows may be looked at
-pub may_look : (a : Settings) (k : KeeperView) (rows : List Row) (t c : ℕ) (e : Entry) → IsAtRest a k → RowsAgree a k rows → slot_at (states_of rows) t ≡ Retired e → c < a.cpus → MayLook k t c
+pub may_look : (a : Settings) (k : KeeperView) (rows : List KeptSlot) (t c : ℕ) (e : Entry) → IsAtRest a k → RowsAgree a k rows → slot_at (states_of rows) t ≡ Retired e → c < a.cpus → MayLook k t c
 may_look a k rows t c e rest agree is lt = record {
   glance = record { rest = rest.rest; cpu = subst (λ (z : Settings). c < z.cpus) (sym rest.settings) lt };
   retired = (e, (retired_in a k rows t e agree is).1);
 }
 
 abbrev pub marked : KeeperView → Event → Reply → ℕ → ℕ → Mark → KeeperView
-marked k ev r t c m = record (having_looked k ev r) { marks = with_cell k.marks t c m }
+marked k ev r t c m = record (keeper_after_look k ev r) { marks = with_cell k.marks t c m }
 
-abbrev pub row_marked : Row → ℕ → Mark → Row
+abbrev pub row_marked : KeptSlot → ℕ → Mark → KeptSlot
 row_marked r c m = record { state = r.state; marks = set r.marks c m; total = r.total; keeps = r.keeps }
 
 marked_at_rest : (a : Settings) (k : KeeperView) (ev : Event) (r : Reply) (t c : ℕ) (m : Mark) → IsAtRest a k → IsAtRest a (marked k ev r t c m)
@@ -62,7 +62,7 @@ marked_at_rest a k ev r t c m at = record {
   room = at.room;
 }
 
-marked_rows : (a : Settings) (k : KeeperView) (rows : List Row) (ev : Event) (r : Reply) (t c : ℕ) (m : Mark) (e : Entry) → IsAtRest a k → RowsAgree a k rows → slot_at (states_of rows) t ≡ Retired e
+marked_rows : (a : Settings) (k : KeeperView) (rows : List KeptSlot) (ev : Event) (r : Reply) (t c : ℕ) (m : Mark) (e : Entry) → IsAtRest a k → RowsAgree a k rows → slot_at (states_of rows) t ≡ Retired e
     → RowsAgree a (marked k ev r t c m) (set rows t (row_marked (row_at rows t) c m))
 marked_rows a k rows ev r t c m e at agree is =
     let retired = retired_in a k rows t e agree is in
@@ -81,11 +81,11 @@ marked_rows a k rows ev r t c m e at agree is =
     (λ u off was. row_stays k (marked k ev r t c m) u (row_at rows u) at.rest refl refl (row_other k.marks t c m u off) refl refl was)
 
 -- the mark in a retired slot's row is the mark in the view
-row_mark : (a : Settings) (k : KeeperView) (rows : List Row) (t c : ℕ) (e : Entry) → RowsAgree a k rows → slot_at (states_of rows) t ≡ Retired e → get_or (row_at rows t).marks c no_mark ≡ mark_at k.marks t c
+row_mark : (a : Settings) (k : KeeperView) (rows : List KeptSlot) (t c : ℕ) (e : Entry) → RowsAgree a k rows → slot_at (states_of rows) t ≡ Retired e → get_or (row_at rows t).marks c no_mark ≡ mark_at k.marks t c
 row_mark a k rows t c e agree is = ap (λ (ms : List Mark). get_or ms c no_mark) (agree.each t (retired_in a k rows t e agree is).0).marks
 
 -- after a look that made f of the mark, in the row as in the view, the rows agree
-pub looked_keeper : (z : TableId) (a : Settings) (table table' : TableId) (k l : KeeperView) (its : Settings) (rows : List Row) (n : ℕ) (ev : Event) (r : Reply) (t c : ℕ) (f : Mark → Mark) (m : Mark) (e : Entry)
+pub looked_keeper : (z : TableId) (a : Settings) (table table' : TableId) (k l : KeeperView) (its : Settings) (rows : List KeptSlot) (n : ℕ) (ev : Event) (r : Reply) (t c : ℕ) (f : Mark → Mark) (m : Mark) (e : Entry)
     → IsOurKeeper z a table k its rows n → slot_at (states_of rows) t ≡ Retired e → table' ≡ table → m ≡ f (get_or (row_at rows t).marks c no_mark) → l ≡ marked k ev r t c (f (mark_at k.marks t c)) → Makes ev r (Keeper k) (Keeper l)
     → IsOurKeeper z a table' l its (set rows t (row_marked (row_at rows t) c m)) n
 looked_keeper z a table table' k l its rows n ev r t c f m e our is same made change event =
@@ -101,7 +101,7 @@ looked_keeper z a table table' k l its rows n ev r t c f m e our is same made ch
     }
 
 -- the mark that it made is the view's
-pub looked_mark : (a : Settings) (k l : KeeperView) (rows : List Row) (ev : Event) (r : Reply) (t c : ℕ) (f : Mark → Mark) (m : Mark) (e : Entry)
+pub looked_mark : (a : Settings) (k l : KeeperView) (rows : List KeptSlot) (ev : Event) (r : Reply) (t c : ℕ) (f : Mark → Mark) (m : Mark) (e : Entry)
     → IsAtRest a k → RowsAgree a k rows → slot_at (states_of rows) t ≡ Retired e → c < a.cpus → m ≡ f (get_or (row_at rows t).marks c no_mark) → l ≡ marked k ev r t c (f (mark_at k.marks t c)) → m ≡ mark_at l.marks t c
 looked_mark a k l rows ev r t c f m e at agree is cpu made change =
     let lt = (retired_in a k rows t e agree is).0 in
@@ -112,15 +112,15 @@ looked_mark a k l rows ev r t c f m e at agree is cpu made change =
     made ∙ ap f (row_mark a k rows t c e agree is) ∙ sym (ap (λ (x : KeeperView). mark_at x.marks t c) change ∙ cell_here no_mark k.marks t c (f (mark_at k.marks t c)) within (omega (arith, long, few, cpu)))
 
 -- what stands in the slots stays
-pub looked_states : (rows : List Row) (t c : ℕ) (m : Mark) → states_of (set rows t (row_marked (row_at rows t) c m)) ≡ states_of rows
+pub looked_states : (rows : List KeptSlot) (t c : ℕ) (m : Mark) → states_of (set rows t (row_marked (row_at rows t) c m)) ≡ states_of rows
 looked_states rows t c m = map-set_same state_of rows t (row_marked (row_at rows t) c m) no_row refl
 
 -- The end of a drain
 
-abbrev pub row_vacated : Row → Row
+abbrev pub row_vacated : KeptSlot → KeptSlot
 row_vacated r = record { state = Vacant; marks = r.marks; total = r.total; keeps = r.keeps }
 
-pub vacated_keeper : (z : TableId) (a : Settings) (table : TableId) (k : KeeperView) (its : Settings) (rows : List Row) (n t : ℕ) → IsOurKeeper z a table k its rows n → IsDrainedOn (record { view = k; slots = states_of rows }) t → kept_at k.keeps t ≡ None
+pub vacated_keeper : (z : TableId) (a : Settings) (table : TableId) (k : KeeperView) (its : Settings) (rows : List KeptSlot) (n t : ℕ) → IsOurKeeper z a table k its rows n → IsDrainedOn (record { view = k; slots = states_of rows }) t → kept_at k.keeps t ≡ None
     → IsOurKeeper z a table k its (set rows t (row_vacated (row_at rows t))) n
 vacated_keeper z a table k its rows n t our is keeps =
     let lt = (retired_in a k rows t is.retired.0 our.rows is.retired.1).0 in
@@ -144,7 +144,7 @@ vacated_keeper z a table k its rows n t our is keeps =
     }
 
 -- what the row says of a drain is what the view says
-pub drained_tells : (a : Settings) (k : KeeperView) (rows : List Row) (t cpus : ℕ) → IsAtRest a k → RowsAgree a k rows → t < a.slots → cpus ≡ a.cpus → is_drained_row cpus (row_at rows t) ≡ true → IsDrainedOn (record { view = k; slots = states_of rows }) t
+pub drained_tells : (a : Settings) (k : KeeperView) (rows : List KeptSlot) (t cpus : ℕ) → IsAtRest a k → RowsAgree a k rows → t < a.slots → cpus ≡ a.cpus → is_drained_row cpus (row_at rows t) ≡ true → IsDrainedOn (record { view = k; slots = states_of rows }) t
 drained_tells a k rows t cpus at agree lt same is =
     let r = row_at rows t in
     let had = agree.each t lt in
@@ -167,7 +167,7 @@ drained_tells a k rows t cpus at agree lt same is =
       };
     }
 
-pub drained_from : (a : Settings) (k : KeeperView) (rows : List Row) (t cpus : ℕ) → IsAtRest a k → RowsAgree a k rows → t < a.slots → cpus ≡ a.cpus → IsDrainedOn (record { view = k; slots = states_of rows }) t → is_drained_row cpus (row_at rows t) ≡ true
+pub drained_from : (a : Settings) (k : KeeperView) (rows : List KeptSlot) (t cpus : ℕ) → IsAtRest a k → RowsAgree a k rows → t < a.slots → cpus ≡ a.cpus → IsDrainedOn (record { view = k; slots = states_of rows }) t → is_drained_row cpus (row_at rows t) ≡ true
 drained_from a k rows t cpus at agree lt same is =
     let had = agree.each t lt in
     let d = is.drained in

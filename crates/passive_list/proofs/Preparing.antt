@@ -20,7 +20,7 @@ use Rattle.cpu_words.specs.declared.view.KeeperView.{KeeperView}
 use Rattle.cpu_words.specs.Storing.{HasRecordWord, HasCountWord, HasLink}
 use Rattle.cpu_words.specs.Vacating.{MayVacate, MayWrite, as_vacant, vacant_from}
 use Rattle.passive_list.specs.Keepers.{AreSized}
-use Rattle.passive_list.specs.Publishing.{with_row, with_counts, prepared}
+use Rattle.passive_list.specs.Publishing.{with_row, with_counts, keeper_after_stores}
 
 -- A slot that may be written, taken as vacant
 
@@ -162,7 +162,7 @@ sized_after k l t r had at = subst (λ (n : ℕ). AreSized n l) (sym (ap (λ (z 
 pub vacant_after : (k l : KeeperView) (t : ℕ) (r : RecordWords) → MayWrite k t → l ≡ with_row k t r → slot_at l.slots t ≡ Vacant
 vacant_after k l t r may at = ap (λ (x : KeeperView). slot_at x.slots t) at ∙ vacant_now k t may
 
-pub prepared_from : (k l m o : KeeperView) (e : Entry) (cpus v : ℕ) → MayWrite k e.slot → cpus ≡ k.settings.cpus → l ≡ with_row k e.slot (words_of e) → m ≡ with_counts l e.slot cpus → HasLink m e.slot v o → o ≡ prepared k e v
+pub prepared_from : (k l m o : KeeperView) (e : Entry) (cpus v : ℕ) → MayWrite k e.slot → cpus ≡ k.settings.cpus → l ≡ with_row k e.slot (words_of e) → m ≡ with_counts l e.slot cpus → HasLink m e.slot v o → o ≡ keeper_after_stores k e v
 prepared_from k l m o e cpus v may same row counts link =
     let t = e.slot in
     let w = with_counts (with_row k t (words_of e)) t k.settings.cpus in

@@ -21,7 +21,7 @@ use Rattle.registry_values.proofs.Fit.{ranges}
 use Rattle.cpu_words.specs.declared.view.KeeperView.{KeeperView}
 use Rattle.cpu_words.specs.Opening.{keeper_with}
 use Rattle.cpu_words.specs.Vacating.{IsDrained, MayVacate}
-use Rattle.passive_list.specs.declared.keeper.Row.{Row}
+use Rattle.passive_list.specs.declared.keeper.KeptSlot.{KeptSlot}
 use Rattle.passive_list.specs.Keepers.{no_row, row_at, state_of, states_of, TakenAs, RowAgrees, IsAtRest, RowsAgree}
 
 -- At the start
@@ -46,11 +46,11 @@ new_at_rest a fit = record {
   room = let none = none_live a.slots in omega (arith, none);
 }
 
-abbrev pub first_row : Row
+abbrev pub first_row : KeptSlot
 first_row = record { state = Vacant; marks = replicate 8 no_mark; total = bias; keeps = None }
 
 -- what stands in a slot, by its row
-pub state_at : (rows : List Row) (t : ℕ) → slot_at (states_of rows) t ≡ (row_at rows t).state
+pub state_at : (rows : List KeptSlot) (t : ℕ) → slot_at (states_of rows) t ≡ (row_at rows t).state
 state_at [] t = refl
 state_at (r ∷ rows) zero = refl
 state_at (r ∷ rows) (suc t) = state_at rows t
@@ -60,7 +60,7 @@ first_states zero = refl
 first_states (suc n) = ap (λ (xs : List Slot). Vacant ∷ xs) (first_states n)
 
 -- a live entry has the kind and the name, by the rows
-pub taken_in_rows : (key : Key) (rows : List Row) → is_taken key (states_of rows) ≡ list_any (λ r. is_live_as key r.state) rows
+pub taken_in_rows : (key : Key) (rows : List KeptSlot) → is_taken key (states_of rows) ≡ list_any (λ r. is_live_as key r.state) rows
 taken_in_rows key [] = refl
 taken_in_rows key (r ∷ rows) = ap (λ b. is_live_as key r.state || b) (taken_in_rows key rows)
 
@@ -87,26 +87,26 @@ new_rows a fit =
 -- A row
 
 -- a slot that isn't vacant is one of the table's
-pub not_vacant_within : (a : Settings) (k : KeeperView) (rows : List Row) (t : ℕ) → RowsAgree a k rows → (slot_at (states_of rows) t ≡ Vacant → ⊥) → t < a.slots
+pub not_vacant_within : (a : Settings) (k : KeeperView) (rows : List KeptSlot) (t : ℕ) → RowsAgree a k rows → (slot_at (states_of rows) t ≡ Vacant → ⊥) → t < a.slots
 not_vacant_within a k rows t agree some = ⊎_elim
     (λ (lt : t < a.slots). lt)
     (λ (past : a.slots ≤ t). absurd (some (state_at rows t ∙ agree.beyond t past)))
     (cases_lt t a.slots)
 
 -- and what its row says is what the view says
-pub taken_in : (a : Settings) (k : KeeperView) (rows : List Row) (t : ℕ) (x : Slot) → RowsAgree a k rows → slot_at (states_of rows) t ≡ x → (x ≡ Vacant → ⊥) → (t < a.slots) × TakenAs k t x
+pub taken_in : (a : Settings) (k : KeeperView) (rows : List KeptSlot) (t : ℕ) (x : Slot) → RowsAgree a k rows → slot_at (states_of rows) t ≡ x → (x ≡ Vacant → ⊥) → (t < a.slots) × TakenAs k t x
 taken_in a k rows t x agree is some =
     let lt = not_vacant_within a k rows t agree (λ v. some (sym is ∙ v)) in
     (lt, subst (TakenAs k t) (sym (state_at rows t) ∙ is) (agree.each t lt).state)
 
-pub retired_in : (a : Settings) (k : KeeperView) (rows : List Row) (t : ℕ) (e : Entry) → RowsAgree a k rows → slot_at (states_of rows) t ≡ Retired e → (t < a.slots) × (slot_at k.slots t ≡ Retired e)
+pub retired_in : (a : Settings) (k : KeeperView) (rows : List KeptSlot) (t : ℕ) (e : Entry) → RowsAgree a k rows → slot_at (states_of rows) t ≡ Retired e → (t < a.slots) × (slot_at k.slots t ≡ Retired e)
 retired_in a k rows t e agree is = taken_in a k rows t (Retired e) agree is (λ v. cc)
 
-pub live_in : (a : Settings) (k : KeeperView) (rows : List Row) (t : ℕ) (e : Entry) → RowsAgree a k rows → slot_at (states_of rows) t ≡ Live e → (t < a.slots) × (slot_at k.slots t ≡ Live e)
+pub live_in : (a : Settings) (k : KeeperView) (rows : List KeptSlot) (t : ℕ) (e : Entry) → RowsAgree a k rows → slot_at (states_of rows) t ≡ Live e → (t < a.slots) × (slot_at k.slots t ≡ Live e)
 live_in a k rows t e agree is = taken_in a k rows t (Live e) agree is (λ v. cc)
 
 -- what a row says goes with what the view says of its slot
-pub row_stays : (k l : KeeperView) (t : ℕ) (r : Row) → l.due ≡ Rest → l.settings ≡ k.settings → slot_at l.slots t ≡ slot_at k.slots t → get_or l.marks t [] ≡ get_or k.marks t []
+pub row_stays : (k l : KeeperView) (t : ℕ) (r : KeptSlot) → l.due ≡ Rest → l.settings ≡ k.settings → slot_at l.slots t ≡ slot_at k.slots t → get_or l.marks t [] ≡ get_or k.marks t []
     → total_at l.totals t ≡ total_at k.totals t → kept_at l.keeps t ≡ kept_at k.keeps t → RowAgrees k t r → RowAgrees l t r
 row_stays k l t r rest settings slot marks total keeps had = record {
   state = taken r.state had.state;
@@ -135,7 +135,7 @@ row_stays k l t r rest settings slot marks total keeps had = record {
     taken (Retired e) is = slot ∙ is
 
 -- one row changes with its slot, and the others stay
-pub rows_set : (a : Settings) (k l : KeeperView) (rows : List Row) (t : ℕ) (r : Row) → t < a.slots → t < 32 → RowsAgree a k rows → RowAgrees l t r → ((u : ℕ) → u ≢ t → RowAgrees k u (row_at rows u) → RowAgrees l u (row_at rows u))
+pub rows_set : (a : Settings) (k l : KeeperView) (rows : List KeptSlot) (t : ℕ) (r : KeptSlot) → t < a.slots → t < 32 → RowsAgree a k rows → RowAgrees l t r → ((u : ℕ) → u ≢ t → RowAgrees k u (row_at rows u) → RowAgrees l u (row_at rows u))
     → RowsAgree a l (set rows t r)
 rows_set a k l rows t r lt place agree here others = record {
   size = length-set rows t r ∙ agree.size;

@@ -10,11 +10,11 @@ use Rattle.protocol.specs.declared.state.SearchPlace.TheVariants.{AtNext, AtNumb
 use Rattle.protocol.specs.declared.state.Loaded.TheVariants.{On}
 use Rattle.protocol.specs.History.{IsAttached, IsLawful}
 use Rattle.protocol.specs.Invariant.{StandsOn}
-use Rattle.protocol.specs.Loaded.{loaded, judged, entry_with}
+use Rattle.protocol.specs.Loaded.{loaded_at, loaded_of_name, entry_with}
 use Rattle.cpu_words.specs.declared.view.CpuView.{CpuView}
-use Rattle.cpu_words.specs.Searching.{MayLoadLink, MayLoadSearched, IsAtWord, every_word, searched, HasLoadedLink, HasLoadedWord, HasFollowed, seeking, search_for}
+use Rattle.cpu_words.specs.Searching.{MayLoadLink, MayLoadSearched, IsAtWord, every_word, cpu_after_record_word, HasLoadedLink, HasLoadedWord, HasFollowed, cpu_after_seek, search_for}
 use Rattle.passive_list.specs.declared.lookup.Seen.{Seen}
-use Rattle.passive_list.specs.Walking.{entry_seen, search_at, IsUnderWay, standing, after_visit, HasVisitedFrom, HasVisited, HasTaken, HasMissed, IsOn, IsAtLink, HasLookedUp}
+use Rattle.passive_list.specs.Walking.{entry_seen, search_at, IsUnderWay, cpu_with_search_at, after_visit, HasVisitedFrom, HasVisited, HasTaken, HasMissed, IsOn, IsAtLink, HasLookedUp}
 
 pub prefix_trans : (p q r : List Change) → IsPrefix p q → IsPrefix q r → IsPrefix p r
 prefix_trans p q r a b = (a.0 ++ b.0, sym (append_assoc p a.0 b.0) ∙ ap (λ l. l ++ b.0) a.1 ∙ b.1)
@@ -22,10 +22,10 @@ prefix_trans p q r a b = (a.0 ++ b.0, sym (append_assoc p a.0 b.0) ∙ ap (λ l.
 -- One load
 
 -- the search goes on at another place
-on_word : (x y : CpuView) (key : Key) (from : ℕ) (p q : SearchPlace) (n w : ℕ) → IsUnderWay x key from p → loaded (search_at key from p) p (every_word n) ≡ Some (On q w) → HasLoadedWord x n y → y ≡ standing x key from q
-on_word x y key from p q n w at on had = (had (search_at key from p) at).is ∙ ap (searched x (search_at key from p)) on
+on_word : (x y : CpuView) (key : Key) (from : ℕ) (p q : SearchPlace) (n w : ℕ) → IsUnderWay x key from p → loaded_at (search_at key from p) p (every_word n) ≡ Some (On q w) → HasLoadedWord x n y → y ≡ cpu_with_search_at x key from q
+on_word x y key from p q n w at on had = (had (search_at key from p) at).is ∙ ap (cpu_after_record_word x (search_at key from p)) on
 
-pub goes_on : (x y : CpuView) (key : Key) (from : ℕ) (p q : SearchPlace) (n w : ℕ) → IsUnderWay x key from p → loaded (search_at key from p) p (every_word n) ≡ Some (On q w) → HasLoadedWord x n y → IsUnderWay y key from q
+pub goes_on : (x y : CpuView) (key : Key) (from : ℕ) (p q : SearchPlace) (n w : ℕ) → IsUnderWay x key from p → loaded_at (search_at key from p) p (every_word n) ≡ Some (On q w) → HasLoadedWord x n y → IsUnderWay y key from q
 goes_on x y key from p q n w at on had = ap (λ (v : CpuView). v.search) (on_word x y key from p q n w at on had)
 
 pub may_load : (x : CpuView) (key : Key) (from t k : ℕ) (p : SearchPlace) → IsUnderWay x key from p → IsAtWord p t k → MayLoadSearched x t k
@@ -36,25 +36,25 @@ may_follow x key from t at = record { search = search_at key from (AtNext t); un
 
 -- One slot
 
-judged_at : (t n l : ℕ) (b : Bool) → judged t n l b ≡ On (after_visit t n b) l
+judged_at : (t n l : ℕ) (b : Bool) → loaded_of_name t n l b ≡ On (after_visit t n b) l
 judged_at t n l true = refl
 judged_at t n l false = refl
 
 pub visited : (x y1 y2 y3 y4 : CpuView) (key : Key) (t n k h l : ℕ) → HasLoadedWord x n y1 → HasLoadedWord y1 k y2 → HasLoadedWord y2 h y3 → HasLoadedWord y3 l y4
     → HasVisited x key t n (are_words_of key k h l) y4
 visited x y1 y2 y3 y4 key t n k h l had1 had2 had3 had4 from at =
-    let is1 : y1 ≡ standing x key from (AtKind t n) = on_word x y1 key from (AtNumber t) (AtKind t n) n n at refl had1 in
+    let is1 : y1 ≡ cpu_with_search_at x key from (AtKind t n) = on_word x y1 key from (AtNumber t) (AtKind t n) n n at refl had1 in
     let at1 : IsUnderWay y1 key from (AtKind t n) = ap (λ (v : CpuView). v.search) is1 in
-    let is2 : y2 ≡ standing y1 key from (AtHigh t n k) = on_word y1 y2 key from (AtKind t n) (AtHigh t n k) k k at1 refl had2 in
+    let is2 : y2 ≡ cpu_with_search_at y1 key from (AtHigh t n k) = on_word y1 y2 key from (AtKind t n) (AtHigh t n k) k k at1 refl had2 in
     let at2 : IsUnderWay y2 key from (AtHigh t n k) = ap (λ (v : CpuView). v.search) is2 in
-    let is3 : y3 ≡ standing y2 key from (AtLow t n k h) = on_word y2 y3 key from (AtHigh t n k) (AtLow t n k h) h h at2 refl had3 in
+    let is3 : y3 ≡ cpu_with_search_at y2 key from (AtLow t n k h) = on_word y2 y3 key from (AtHigh t n k) (AtLow t n k h) h h at2 refl had3 in
     let at3 : IsUnderWay y3 key from (AtLow t n k h) = ap (λ (v : CpuView). v.search) is3 in
     let q = after_visit t n (are_words_of key k h l) in
-    let on : loaded (search_at key from (AtLow t n k h)) (AtLow t n k h) (every_word l) ≡ Some (On q l) = ap Some (judged_at t n l (are_words_of key k h l)) in
-    let is4 : y4 ≡ standing y3 key from q = on_word y3 y4 key from (AtLow t n k h) q l l at3 on had4 in
+    let on : loaded_at (search_at key from (AtLow t n k h)) (AtLow t n k h) (every_word l) ≡ Some (On q l) = ap Some (judged_at t n l (are_words_of key k h l)) in
+    let is4 : y4 ≡ cpu_with_search_at y3 key from q = on_word y3 y4 key from (AtLow t n k h) q l l at3 on had4 in
     let number = (had1 (search_at key from (AtNumber t)) at).number t refl in
     record {
-      is = is4 ∙ ap (λ v. standing v key from q) (is3 ∙ ap (λ v. standing v key from (AtLow t n k h)) (is2 ∙ ap (λ v. standing v key from (AtHigh t n k)) is1));
+      is = is4 ∙ ap (λ v. cpu_with_search_at v key from q) (is3 ∙ ap (λ v. cpu_with_search_at v key from (AtLow t n k h)) (is2 ∙ ap (λ v. cpu_with_search_at v key from (AtHigh t n k)) is1));
       entry = number.0;
       stands = subst (λ (p : List Change). StandsOn p from (length p) t number.0) (ap (λ (v : CpuView). v.pass) is1) number.1;
       number = number.2;
@@ -73,7 +73,7 @@ took x y key t n value had from at =
 -- From one slot to the next
 
 -- the head was loaded
-pub begins : (x y : CpuView) (key : Key) (n last : ℕ) → length y.pass < last → HasFollowed (seeking key x) (search_for key x) n y → IsAtLink key x n last y
+pub begins : (x y : CpuView) (key : Key) (n last : ℕ) → length y.pass < last → HasFollowed (cpu_after_seek key x) (search_for key x) n y → IsAtLink key x n last y
 begins x y key zero last few had = record { pass = had.pass; is = had.is; lawful = had.holds }
 begins x y key (suc t) last few had = record { pass = had.pass; is = had.is; slot = had.holds.1; below = λ e stands. omega (arith, stands.begun) }
 
@@ -98,7 +98,7 @@ number_falls key x y z t n last b on had =
 -- the view after the visit
 left_slot : (key : Key) (x y z : CpuView) (t n last : ℕ) (b : Bool) → IsOn key x t last y → HasVisitedFrom y key (length x.pass) t n b z
     → z ≡ record x { pass = y.pass; search = Some (search_at key (length x.pass) (after_visit t n b)) }
-left_slot key x y z t n last b on v = v.is ∙ ap (λ u. standing u key (length x.pass) (after_visit t n b)) on.is
+left_slot key x y z t n last b on v = v.is ∙ ap (λ u. cpu_with_search_at u key (length x.pass) (after_visit t n b)) on.is
 
 -- the link of a slot was loaded
 followed_on : (key : Key) (x y z w : CpuView) (t n m last : ℕ) → IsOn key x t last y → HasVisitedFrom y key (length x.pass) t n false z → HasFollowed z (search_at key (length x.pass) (AtNext t)) m w → IsAtLink key x m n w

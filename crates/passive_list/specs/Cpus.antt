@@ -11,26 +11,28 @@ use Rattle.protocol.specs.History.{IsAttached}
 use Rattle.protocol.specs.Invariant.{greatest_limit}
 use Rattle.registry_values.specs.Balances.{bias}
 use Rattle.cpu_words.specs.declared.view.CpuView.{CpuView}
+use Rattle.cpu_words.specs.declared.view.Deed.{Deed}
 use Rattle.cpu_words.specs.Views.{Named, number_at, references_to, depth_of}
 use Rattle.cpu_words.specs.Sections.{IsIdle}
 use Rattle.passive_list.specs.declared.place.Found.{Found}
-use Rattle.passive_list.specs.declared.place.Place.{Place}
+use Rattle.passive_list.specs.declared.place.NumberedCount.{NumberedCount}
 
--- a CPU, to a contract: what its seat knows, the depth of its section, and what the changes that its calls have made come to in the ledger
+-- a CPU, to a contract: what its seat knows, the depth of its section, what the changes that its calls have made come to in the ledger, and what it has heard of the keeper's deeds
 pub record OnCpu : Type 0 where
   pub view : CpuView
   pub depth : ℕ
   pub made : ℕ
+  pub deeds : List Deed
 
 -- a CPU that names its own table: that table and its settings, and the CPU; it has no share of a ledger, so it says 0 of what it made
 pub record OnPlainCpu : Type 0 where
   pub words : Named
   pub cpu : OnCpu
 
-abbrev pub no_place : Place
+abbrev pub no_place : NumberedCount
 no_place = record { number = 0; count = 0 }
 
-abbrev pub place_at : List Place → ℕ → Place
+abbrev pub place_at : List NumberedCount → ℕ → NumberedCount
 place_at places t = slice_index_or places t no_place
 
 -- the place has the number of an entry of the pass, which was attached in that slot
@@ -41,14 +43,14 @@ pub record IsPlaceOf (h : List Change) (t n : ℕ) : Type 0 where
   pub number : entry.number ≡ n
 
 -- the places of a CPU's passive references: each reference is counted at its entry's slot
-pub record PassiveAgree (x : CpuView) (places : List Place) : Type 0 where
+pub record PassiveAgree (x : CpuView) (places : List NumberedCount) : Type 0 where
   pub size : length places ≡ 32
   pub counts : (t : ℕ) → (place_at places t).count ≡ references_to (place_at places t).number x.references
   pub placed : (t : ℕ) → (place_at places t).number ≢ 0 → IsPlaceOf x.pass t (place_at places t).number
   pub each : (e : Entry) → Contains x.references e → (e.slot < 32) × IsAttached x.pass e × ((place_at places e.slot).number ≡ e.number) × (0 < e.number)
 
 -- the places of its net counts: each is for the number that the CPU met last in that slot
-pub record NetAgree (x : CpuView) (places : List Place) : Type 0 where
+pub record NetAgree (x : CpuView) (places : List NumberedCount) : Type 0 where
   pub size : length places ≡ 32
   pub met : (t : ℕ) → (place_at places t).number ≡ number_at x.met t
   pub counts : (t : ℕ) → (place_at places t).number ≢ 0 → (place_at places t).count + number_at x.released (place_at places t).number ≡ bias + number_at x.acquired (place_at places t).number
@@ -78,7 +80,7 @@ pub record FoundAgrees (x : CpuView) (found : Found) : Type 0 where
   pub seen : (e : Entry) → x.found ≡ Some e → (e.slot < 32) × IsAttached x.pass e
 
 -- the fields of a CPU of D's table: its seat's table and view, its number, ended sections and depth, the last found entry, and its places
-pub record IsOurCpu (z : TableId) (a : Settings) (t : TableId) (x : CpuView) (c ended deep : ℕ) (last : Found) (references nets : List Place) : Type 0 where
+pub record IsOurCpu (z : TableId) (a : Settings) (t : TableId) (x : CpuView) (c ended deep : ℕ) (last : Found) (references nets : List NumberedCount) : Type 0 where
   pub table : t ≡ z
   pub settings : x.settings ≡ a
   pub fit : IsTrue (are_fit a)

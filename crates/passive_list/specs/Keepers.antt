@@ -13,7 +13,7 @@ use Rattle.protocol.specs.State.{total_at, kept_at}
 use Rattle.cpu_words.specs.declared.view.KeeperView.{KeeperView}
 use Rattle.cpu_words.specs.Rule.{IsShown}
 use Rattle.cpu_words.specs.Vacating.{MayVacate}
-use Rattle.passive_list.specs.declared.keeper.Row.{Row}
+use Rattle.passive_list.specs.declared.keeper.KeptSlot.{KeptSlot}
 
 -- the keeper, to a contract
 pub record OnKeeper : Type 0 where
@@ -21,16 +21,16 @@ pub record OnKeeper : Type 0 where
   pub slots : List Slot
 
 -- what is past the rows
-abbrev pub no_row : Row
+abbrev pub no_row : KeptSlot
 no_row = record { state = Vacant; marks = []; total = 0; keeps = None }
 
-abbrev pub row_at : List Row → ℕ → Row
+abbrev pub row_at : List KeptSlot → ℕ → KeptSlot
 row_at rows t = slice_index_or rows t no_row
 
-abbrev pub state_of : Row → Slot
+abbrev pub state_of : KeptSlot → Slot
 state_of r = r.state
 
-abbrev pub states_of : List Row → List Slot
+abbrev pub states_of : List KeptSlot → List Slot
 states_of rows = map state_of rows
 
 -- what the keeper has of the slot t: just what its seat knows, or Vacant where the slot may be taken as vacant
@@ -39,7 +39,7 @@ TakenAs k t Vacant = (slot_at k.slots t ≡ Vacant) ⊎ MayVacate k t
 TakenAs k t (Live e) = slot_at k.slots t ≡ Live e
 TakenAs k t (Retired e) = slot_at k.slots t ≡ Retired e
 
-pub record RowAgrees (k : KeeperView) (t : ℕ) (r : Row) : Type 0 where
+pub record RowAgrees (k : KeeperView) (t : ℕ) (r : KeptSlot) : Type 0 where
   pub state : TakenAs k t r.state
   pub marks : r.marks ≡ slice_index_or k.marks t []
   pub total : r.total ≡ total_at k.totals t
@@ -69,12 +69,12 @@ pub record IsAtRest (a : Settings) (k : KeeperView) : Type 0 where
   pub room : length k.history + live_count k.slots ≤ a.change_limit
 
 -- of the rows: each says what the view says of its slot
-pub record RowsAgree (a : Settings) (k : KeeperView) (rows : List Row) : Type 0 where
+pub record RowsAgree (a : Settings) (k : KeeperView) (rows : List KeptSlot) : Type 0 where
   pub size : length rows ≡ 32
   pub each : (t : ℕ) → t < a.slots → RowAgrees k t (row_at rows t)
   pub beyond : (t : ℕ) → a.slots ≤ t → (row_at rows t).state ≡ Vacant
 
-pub record IsOurKeeper (z : TableId) (a : Settings) (seat_table : TableId) (k : KeeperView) (its : Settings) (rs : List Row) (n : ℕ) : Type 0 where
+pub record IsOurKeeper (z : TableId) (a : Settings) (seat_table : TableId) (k : KeeperView) (its : Settings) (rs : List KeptSlot) (n : ℕ) : Type 0 where
   pub table : seat_table ≡ z
   pub settings : its ≡ a
   pub view : IsAtRest a k

@@ -17,7 +17,7 @@ use Rattle.cpu_words.specs.declared.view.View.TheVariants.{Keeper}
 use Rattle.cpu_words.specs.Publishing.{LeadsBelow}
 use Rattle.cpu_words.specs.Steps.{Makes}
 use Rattle.cpu_words.specs.Vacating.{as_vacant}
-use Rattle.passive_list.specs.declared.keeper.Row.{Row}
+use Rattle.passive_list.specs.declared.keeper.KeptSlot.{KeptSlot}
 use Rattle.passive_list.specs.Keepers.{OnKeeper, IsAtRest, RowsAgree, states_of}
 
 -- Publish
@@ -31,12 +31,12 @@ abbrev pub with_counts : KeeperView → ℕ → ℕ → KeeperView
 with_counts k t c = record k { counts = slice_set k.counts t (with_biases c (slice_index_or k.counts t [])) }
 
 -- the words of e's slot are stored: its record, its counts, and the link v
-abbrev pub prepared : KeeperView → Entry → ℕ → KeeperView
-prepared k e v = record (with_counts (with_row k e.slot (words_of e)) e.slot k.settings.cpus) { next = slice_set k.next e.slot v }
+abbrev pub keeper_after_stores : KeeperView → Entry → ℕ → KeeperView
+keeper_after_stores k e v = record (with_counts (with_row k e.slot (words_of e)) e.slot k.settings.cpus) { next = slice_set k.next e.slot v }
 
 -- e is live in its slot, with its words stored and the link v, and the head leads to it; the history ends with its attach
-abbrev pub published : KeeperView → Entry → ℕ → KeeperView
-published k e v = record k {
+abbrev pub keeper_after_publish : KeeperView → Entry → ℕ → KeeperView
+keeper_after_publish k e v = record k {
   head = e.slot + 1;
   history = after_change k.history (Attach e);
   slots = slice_set k.slots e.slot (Live e);
@@ -46,7 +46,7 @@ published k e v = record k {
 }
 
 -- what publishing asks of the keeper's view, its rows and the entry
-pub record MayAttach (a : Settings) (k : KeeperView) (rows : List Row) (e : Entry) : Type 0 where
+pub record MayAttach (a : Settings) (k : KeeperView) (rows : List KeptSlot) (e : Entry) : Type 0 where
   pub at : IsAtRest a k
   pub agree : RowsAgree a k rows
   pub slot : e.slot < a.slots
@@ -61,8 +61,8 @@ pub record MayAttach (a : Settings) (k : KeeperView) (rows : List Row) (e : Entr
 pub record HasEntry (k : KeeperView) (e : Entry) (l : KeeperView) : Type 0 where
   pub link : ℕ
   pub leads : LeadsBelow k.slots e.number link
-  pub made : Makes (Publish e.slot) Done (Keeper (prepared k e link)) (Keeper l)
-  pub view : l ≡ published k e link
+  pub made : Makes (Publish e.slot) Done (Keeper (keeper_after_stores k e link)) (Keeper l)
+  pub view : l ≡ keeper_after_publish k e link
 
 pub record HasAttached (a : OnKeeper) (e : Entry) (b : OnKeeper) : Type 0 where
   pub entry : HasEntry a.view e b.view

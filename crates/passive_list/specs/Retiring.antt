@@ -10,7 +10,7 @@ use Rattle.protocol.specs.Events.{snapshot_mark}
 use Rattle.registry_values.specs.Marks.{no_mark}
 use Rattle.cpu_words.specs.declared.view.KeeperView.{KeeperView}
 use Rattle.cpu_words.specs.declared.view.View.TheVariants.{Keeper}
-use Rattle.cpu_words.specs.Publishing.{LeadsBelow, IsBefore, having_unpublished}
+use Rattle.cpu_words.specs.Publishing.{LeadsBelow, IsBefore, keeper_after_unpublish}
 use Rattle.cpu_words.specs.Steps.{Makes}
 use Rattle.passive_list.specs.Keepers.{OnKeeper}
 
@@ -34,8 +34,8 @@ pub record HasDetached (a : OnKeeper) (t : ℕ) (e : Entry) (b : OnKeeper) : Typ
   pub is_before : IsBefore a.view.slots e.number before
   pub link : ℕ
   pub leads : LeadsBelow a.view.slots e.number link
-  pub made : Makes (Unpublish t) Done (Keeper a.view) (Keeper (having_unpublished a.view t e before link))
+  pub made : Makes (Unpublish t) Done (Keeper a.view) (Keeper (keeper_after_unpublish a.view t e before link))
   pub marks : List Mark
   pub snapshots : AreSnapshots a.view.settings.cpus marks
-  pub view : b.view ≡ with_snapshots (having_unpublished a.view t e before link) t marks
+  pub view : b.view ≡ with_snapshots (keeper_after_unpublish a.view t e before link) t marks
   pub slots : b.slots ≡ slice_set a.slots t (Retired e)

@@ -20,8 +20,8 @@ search_at key from p = record { key = key; start = from; place = p }
 abbrev pub IsUnderWay : CpuView → Key → ℕ → SearchPlace → Type 0
 IsUnderWay x key from p = x.search ≡ Some (search_at key from p)
 
-abbrev pub standing : CpuView → Key → ℕ → SearchPlace → CpuView
-standing x key from p = record x { search = Some (search_at key from p) }
+abbrev pub cpu_with_search_at : CpuView → Key → ℕ → SearchPlace → CpuView
+cpu_with_search_at x key from p = record x { search = Some (search_at key from p) }
 
 -- the search is to visit the slot t
 abbrev pub MayVisit : CpuView → Key → ℕ → Type 0
@@ -34,7 +34,7 @@ after_visit t n false = AtNext t
 
 -- the number, the kind and the name of the slot t were loaded: the number n is that of an entry on which the search may stand
 pub record HasVisitedFrom (x : CpuView) (key : Key) (from t n : ℕ) (is_sought : Bool) (y : CpuView) : Type 0 where
-  pub is : y ≡ standing x key from (after_visit t n is_sought)
+  pub is : y ≡ cpu_with_search_at x key from (after_visit t n is_sought)
   pub entry : Entry
   pub stands : StandsOn x.pass from (length x.pass) t entry
   pub number : entry.number ≡ n

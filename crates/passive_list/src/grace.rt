@@ -9,7 +9,7 @@ ghost use Rattle.registry_values.specs.Slots.{slot_at};
 ghost use Rattle.protocol.specs.State.{mark_at};
 ghost use Rattle.cpu_words.specs.Domains.{AreWordsOf};
 ghost use Rattle.cpu_words.specs.declared.view.View.TheVariants.{Keeper as OfKeeper};
-ghost use Rattle.cpu_words.specs.Grace.{HasLooked, having_looked};
+ghost use Rattle.cpu_words.specs.Grace.{HasLooked, keeper_after_look};
 ghost use Rattle.cpu_words.specs.Steps.{Makes};
 
 use crate::keeper::Keeper;
@@ -40,7 +40,7 @@ pub fn snapshot<D: Domain>(words: &Words, keeper: &mut Keeper<D>, cpu: u8) -> u6
     requires words { AreWordsOf words.now D.table D.settings }
     requires cpu { cpu < D.settings.cpus }
     ensures event { Makes (Snapshot None cpu) (Word result) (OfKeeper keeper.old.view) (OfKeeper keeper.new.view) }
-    ensures change { keeper.new.view ≡ having_looked keeper.old.view (Snapshot None cpu) (Word result) }
+    ensures change { keeper.new.view ≡ keeper_after_look keeper.old.view (Snapshot None cpu) (Word result) }
     ensures slots { keeper.new.slots ≡ keeper.old.slots }
 {
     steps::snapshot_now(words, &mut keeper.seat, cpu)
@@ -53,7 +53,7 @@ pub fn glance<D: Domain>(words: &Words, keeper: &mut Keeper<D>, cpu: u8) -> u64
     requires words { AreWordsOf words.now D.table D.settings }
     requires cpu { cpu < D.settings.cpus }
     ensures event { Makes (Look None cpu) (Word result) (OfKeeper keeper.old.view) (OfKeeper keeper.new.view) }
-    ensures change { keeper.new.view ≡ having_looked keeper.old.view (Look None cpu) (Word result) }
+    ensures change { keeper.new.view ≡ keeper_after_look keeper.old.view (Look None cpu) (Word result) }
     ensures slots { keeper.new.slots ≡ keeper.old.slots }
 {
     steps::look_now(words, &mut keeper.seat, cpu)

@@ -17,7 +17,7 @@ pub use registry_values::Slot as SlotState;
 
 /// What the keeper has of a slot.
 #[derive(Clone, Copy, Debug, PartialEq, Eq)]
-pub struct Row {
+pub struct KeptSlot {
     /// Vacant, or the slot's live or retired entry.
     pub state: SlotState,
     /// What was noted of each CPU for a retired entry.
@@ -37,7 +37,7 @@ pub struct Keeper<D: Domain> {
     /// What the table was made for.
     pub settings: Settings,
     /// By slot.
-    pub rows: [Row; 32],
+    pub rows: [KeptSlot; 32],
     /// How many changes there were: attaches and detaches.
     pub changes: u64,
     /// The name of the table.
@@ -55,7 +55,7 @@ impl<D: Domain> Model for Keeper<D> {
 }
 
 /// A slot that nothing was ever in.
-const NO_ROW: Row = Row {
+const VACANT_SLOT: KeptSlot = KeptSlot {
     state: SlotState::Vacant,
     marks: [NO_MARK; 8],
     total: BIAS,
@@ -74,7 +74,7 @@ impl<D: Domain> Keeper<D> {
         Keeper {
             seat,
             settings,
-            rows: [NO_ROW; 32],
+            rows: [VACANT_SLOT; 32],
             changes: 0,
             domain: PhantomData,
         }

@@ -10,10 +10,10 @@ use crate::notes::Note;
 use cpu_words::{Domain, Words, steps};
 use std::marker::PhantomData;
 
-/// The keeper tells the history: the note has just that. It changes nothing.
+/// The keeper tells the history: the note has just that, and all that the keeper did. It changes nothing.
 pub fn tell_keeper<D: Domain>(words: &Words, keeper: &mut Keeper<D>) -> Note<D>
     requires words { AreWordsOf words.now D.table D.settings }
-    ensures note { result ≡ keeper.old.view.history }
+    ensures note { result.pass ≡ keeper.old.view.history }
     ensures same { keeper.new ≡ keeper.old }
 {
     let seat = steps::tell_keeper(words, &mut keeper.seat);
@@ -26,8 +26,8 @@ pub fn tell_keeper<D: Domain>(words: &Words, keeper: &mut Keeper<D>) -> Note<D>
 /// The keeper hears a note: what the note tells is in its history. Of the keeper nothing changes but the note that it heard last.
 pub fn hear_keeper<D: Domain>(words: &Words, keeper: &mut Keeper<D>, note: Note<D>)
     requires words { AreWordsOf words.now D.table D.settings }
-    ensures told { IsPrefix note keeper.new.view.history }
-    ensures view { keeper.new.view ≡ keeper_with_heard keeper.old.view note }
+    ensures told { IsPrefix note.pass keeper.new.view.history }
+    ensures view { keeper.new.view ≡ keeper_with_heard keeper.old.view note.pass }
     ensures slots { keeper.new.slots ≡ keeper.old.slots }
 {
     let Note { seat, domain: _ } = note;

@@ -22,11 +22,11 @@ mod vacating;
 
 pub use cpu::Cpu;
 pub use grace::{glance, look, snapshot};
-pub use keeper::{Keeper, Row, SlotState};
+pub use keeper::{Keeper, KeptSlot, SlotState};
 pub use keeper_notes::{hear_keeper, tell_keeper};
 pub use lookup::{find, find_on};
 pub use notes::{Note, hear, hear_on, tell};
-pub use place::{Found, Place};
+pub use place::{Found, NumberedCount};
 pub use plain_cpu::PlainCpu;
 pub use publishing::{publish, publish_entry};
 pub use retiring::retire;

@@ -5,7 +5,7 @@ ghost use Rattle.cpu_words.specs.Publishing.{LeadsBelow, IsBefore, IsLinkPlace};
 ghost use Rattle.passive_list.specs.Keepers.{states_of};
 ghost use Rattle.passive_list.specs.Links.{is_newer, newer_of, is_older, older_of, link_to, place_of};
 
-use crate::keeper::{Row, SlotState};
+use crate::keeper::{KeptSlot, SlotState};
 
 /// A live entry: where it is, and its number.
 #[derive(Clone, Copy)]
@@ -15,7 +15,7 @@ pub(crate) struct At {
 }
 
 /// The link that leads to the live entry with the greatest number below `number`: its slot plus 1, or 0 where there is none.
-pub(crate) fn link_below(rows: &[Row; 32], number: u64) -> u64
+pub(crate) fn link_below(rows: &[KeptSlot; 32], number: u64) -> u64
     ensures { LeadsBelow (states_of rows.now) number result }
 {
     let mut best = None;
@@ -26,7 +26,7 @@ pub(crate) fn link_below(rows: &[Row; 32], number: u64) -> u64
 }
 
 /// The slot of the live entry with the least number above `number`.
-pub(crate) fn slot_above(rows: &[Row; 32], number: u64) -> Option<u8>
+pub(crate) fn slot_above(rows: &[KeptSlot; 32], number: u64) -> Option<u8>
     ensures before { IsBefore (states_of rows.now) number result }
     ensures place { IsLinkPlace result }
 {

@@ -81,6 +81,7 @@ fn look_up(words: &Words, seat: &mut CpuSeat, cpu: u8, kind: Kind, name: Name) -
     requires may { MaySeek seat.old.view }
     ensures table { seat.new.table ≡ seat.old.table }
     ensures change { HasLookedUp (key_with kind name) seat.old.view seat.new.view (entry_seen (key_with kind name) result) }
+    ensures deeds { seat.new.deeds ≡ seat.old.deeds }
 {
     let mut last = ABOVE_ALL;
     let mut link = steps::seek(words, seat, cpu, kind, name);
@@ -116,6 +117,7 @@ fn visit(
     requires may { MayVisit seat.old.view (key_with kind name) slot }
     ensures table { seat.new.table ≡ seat.old.table }
     ensures change { HasVisited seat.old.view (key_with kind name) slot result.0 result.1 seat.new.view }
+    ensures deeds { seat.new.deeds ≡ seat.old.deeds }
 {
     let number = steps::load_searched(words, seat, cpu, slot, 0);
     let found = steps::load_searched(words, seat, cpu, slot, 1);

@@ -1,7 +1,7 @@
 //! Notes: what one thread has seen reaches another. A note is sent beside a message, or kept beside what a lock guards.
 
-ghost use Rattle.std.specs.Prelude.{◌≡◌, List};
-ghost use Rattle.registry_values.specs.declared.entry.Change.{Change};
+ghost use Rattle.std.specs.Prelude.{◌≡◌};
+ghost use mathlib.Core.List.{IsPrefix};
 ghost use Rattle.cpu_words.specs.Domains.{AreWordsOf};
 ghost use Rattle.passive_list.specs.Notes.{HasHeardOn};
 
@@ -10,8 +10,8 @@ use crate::plain_cpu::PlainCpu;
 use cpu_words::{Domain, NoteSeat, Words, steps};
 use std::marker::{Model, PhantomData};
 
-/// What a CPU or the keeper of the table that D names had seen as it told. To a contract it is that prefix of the history. It moves
-/// between threads, and may be dropped.
+/// What a CPU or the keeper of the table that D names had seen as it told. To a contract it is that prefix of the history, and what its
+/// teller knew of the keeper's deeds. It moves between threads, and may be dropped.
 #[derive(Drop)]
 pub struct Note<D: Domain> {
     pub seat: NoteSeat,
@@ -19,20 +19,21 @@ pub struct Note<D: Domain> {
 }
 
 impl<D: Domain> Model for Note<D> {
-    ghost use Rattle.std.specs.Prelude.{◌≡◌, List};
-    ghost use Rattle.registry_values.specs.declared.entry.Change.{Change};
+    ghost use Rattle.std.specs.Prelude.{◌≡◌};
+    ghost use Rattle.passive_list.specs.Notes.{OnNote};
 
-    ghost Value = { List Change };
+    ghost Value = { OnNote };
 
-    ghost view = { λ n. n.seat.view };
+    ghost view = { λ n. record { pass = n.seat.view; deeds = n.seat.deeds } };
 
     ghost invariant = { λ n. n.seat.table ≡ D.table };
 }
 
-/// Tells what this CPU has seen: the note has just its pass. It changes nothing, inside a section or outside.
+/// Tells what this CPU has seen: the note has just its pass, and what it has heard of the keeper's deeds. It changes nothing, inside a
+/// section or outside.
 pub fn tell<D: Domain>(words: &Words, cpu: &mut Cpu<D>) -> Note<D>
     requires words { AreWordsOf words.now D.table D.settings }
-    ensures note { result ≡ cpu.old.view.pass }
+    ensures note { result ≡ record { pass = cpu.old.view.pass; deeds = cpu.old.deeds } }
     ensures same { cpu.new ≡ cpu.old }
 {
     let seat = steps::tell(words, &mut cpu.plain.seat, cpu.plain.id);
@@ -43,10 +44,12 @@ pub fn tell<D: Domain>(words: &Words, cpu: &mut Cpu<D>) -> Note<D>
 }
 
 /// Hears a note: from here on this CPU has seen what the note tells, and every lookup answers from there on. Its pass grows, and has what the
-/// note told; nothing else changes but the note that it heard last, inside a section or outside.
+/// note told, and it has heard what the note tells of the keeper's deeds; nothing else changes but the note that it heard last, inside a
+/// section or outside.
 pub fn hear<D: Domain>(words: &Words, cpu: &mut Cpu<D>, note: Note<D>)
     requires words { AreWordsOf words.now D.table D.settings }
-    ensures { HasHeardOn note cpu.old cpu.new }
+    ensures heard { HasHeardOn note.pass cpu.old cpu.new }
+    ensures deeds { IsPrefix note.deeds cpu.new.deeds }
 {
     let Note { seat, domain: _ } = note;
     hear_on(words, &mut cpu.plain, seat);
@@ -57,6 +60,7 @@ pub fn hear_on(words: &Words, cpu: &mut PlainCpu, note: NoteSeat)
     requires words { AreWordsOf words.now cpu.old.words.table cpu.old.words.settings }
     requires note { note.table ≡ cpu.old.words.table }
     ensures heard { HasHeardOn note.view cpu.old.cpu cpu.new.cpu }
+    ensures deeds { IsPrefix note.deeds cpu.new.cpu.deeds }
     ensures words { cpu.new.words ≡ cpu.old.words }
 {
     steps::hear(words, &mut cpu.seat, cpu.id, note);

@@ -5,16 +5,16 @@ use registry_values::Kind;
 
 /// A count, and the number of the entry that it is for; where the number is 0 it is for no entry, and the count has no meaning.
 #[derive(Clone, Copy, Debug, PartialEq, Eq)]
-pub struct Place {
+pub struct NumberedCount {
     /// From 1; 0 for no entry.
     pub number: u64,
     /// Passive references to it, or the net count of local ones over the bias.
     pub count: u64,
 }
 
-impl Place {
+impl NumberedCount {
     /// Of no entry.
-    pub const NONE: Place = Place {
+    pub const NONE: NumberedCount = NumberedCount {
         number: 0,
         count: 0,
     };

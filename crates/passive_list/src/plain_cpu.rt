@@ -4,7 +4,7 @@ ghost use Rattle.std.specs.Prelude.{◌≡◌, ◌≢◌, ◌↔◌, ◌<◌, Is
 ghost use Rattle.registry_values.specs.Limits.{are_fit};
 ghost use Rattle.cpu_words.specs.Views.{new_cpu};
 
-use crate::place::{Found, Place};
+use crate::place::{Found, NumberedCount};
 use cpu_words::CpuSeat;
 use std::marker::Model;
 
@@ -22,9 +22,9 @@ pub struct PlainCpu {
     /// The entry that its last lookup in the open section found.
     pub found: Found,
     /// By slot: its passive references.
-    pub passive: [Place; 32],
+    pub passive: [NumberedCount; 32],
     /// By slot: its net count of local references, over the bias.
-    pub net: [Place; 32],
+    pub net: [NumberedCount; 32],
 }
 
 impl Model for PlainCpu {
@@ -32,7 +32,7 @@ impl Model for PlainCpu {
 
     ghost Value = { OnPlainCpu };
 
-    ghost view = { λ c. record { words = record { table = c.seat.table; settings = c.seat.view.settings }; cpu = record { view = c.seat.view; depth = c.depth; made = 0 } } };
+    ghost view = { λ c. record { words = record { table = c.seat.table; settings = c.seat.view.settings }; cpu = record { view = c.seat.view; depth = c.depth; made = 0; deeds = c.seat.deeds } } };
 
     ghost invariant = { λ c. IsOurCpu c.seat.table c.seat.view.settings c.seat.table c.seat.view c.id c.ended c.depth c.found c.passive c.net };
 }
@@ -44,7 +44,7 @@ impl PlainCpu {
         requires fit { IsTrue (are_fit seat.view.settings) × (id < 8) }
         requires new { seat.view ≡ new_cpu seat.view.settings id }
         ensures words { result.words ≡ record { table = seat.table; settings = seat.view.settings } }
-        ensures cpu { result.cpu ≡ record { view = seat.view; depth = 0; made = 0 } }
+        ensures cpu { result.cpu ≡ record { view = seat.view; depth = 0; made = 0; deeds = seat.deeds } }
     {
         PlainCpu {
             seat,
@@ -52,8 +52,8 @@ impl PlainCpu {
             ended: 0,
             depth: 0,
             found: Found::NONE,
-            passive: [Place::NONE; 32],
-            net: [Place::NONE; 32],
+            passive: [NumberedCount::NONE; 32],
+            net: [NumberedCount::NONE; 32],
         }
     }
 

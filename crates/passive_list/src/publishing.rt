@@ -9,9 +9,9 @@ ghost use Rattle.protocol.specs.State.{kept_at};
 ghost use Rattle.cpu_words.specs.Domains.{AreWordsOf};
 ghost use Rattle.cpu_words.specs.Vacating.{MayWrite};
 ghost use Rattle.passive_list.specs.Keepers.{AreSized};
-ghost use Rattle.passive_list.specs.Publishing.{MayAttach, HasEntry, HasAttached, with_row, with_counts, prepared};
+ghost use Rattle.passive_list.specs.Publishing.{MayAttach, HasEntry, HasAttached, with_row, with_counts, keeper_after_stores};
 
-use crate::keeper::{Keeper, Row, SlotState};
+use crate::keeper::{Keeper, KeptSlot, SlotState};
 use crate::links::link_below;
 use cpu_words::{Domain, KeeperSeat, Words, steps};
 use registry_values::{BIAS, Entry, Record, kind_word};
@@ -44,7 +44,7 @@ pub fn publish<D: Domain>(words: &Words, keeper: &mut Keeper<D>, slot: u8, rec: 
 /// Publishes the entry by the keeper's seat alone, as `publish` does, where the rows say what stands in each slot: for calls that have
 /// done another step with the seat, which the rows say already.
 /// Condition: that of `publish`, of the seat and the rows; the entry's number is how many changes there are then.
-pub fn publish_entry(words: &Words, seat: &mut KeeperSeat, rows: &[Row; 32], entry: &Entry)
+pub fn publish_entry(words: &Words, seat: &mut KeeperSeat, rows: &[KeptSlot; 32], entry: &Entry)
     requires table { seat.old.table ≡ words.now.table }
     requires may { MayAttach words.now.settings seat.old.view rows.now entry.now }
     ensures table { seat.new.table ≡ seat.old.table }
@@ -62,7 +62,7 @@ fn prepare(words: &Words, seat: &mut KeeperSeat, entry: &Entry, cpus: u8, link: 
     requires sized { AreSized seat.old.view.settings.slots seat.old.view }
     requires fit { (seat.old.view.settings.slots ≤ 32) × (cpus ≡ seat.old.view.settings.cpus) × (cpus ≤ 8) }
     ensures table { seat.new.table ≡ seat.old.table }
-    ensures prepared { seat.new.view ≡ prepared seat.old.view entry.now link }
+    ensures prepared { seat.new.view ≡ keeper_after_stores seat.old.view entry.now link }
 {
     store_row(words, seat, entry);
     store_counts(words, seat, entry.slot, cpus);

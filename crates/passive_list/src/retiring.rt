@@ -9,7 +9,7 @@ ghost use Rattle.cpu_words.specs.Domains.{AreWordsOf};
 ghost use Rattle.cpu_words.specs.Rule.{IsShown};
 ghost use Rattle.passive_list.specs.Retiring.{HasDetached, with_snapshots, AreSnapshots, AreFresh};
 
-use crate::keeper::{Keeper, Row, SlotState};
+use crate::keeper::{Keeper, KeptSlot, SlotState};
 use crate::links::{link_below, slot_above};
 use cpu_words::{Domain, KeeperSeat, Words, steps};
 use registry_values::{Entry, Mark, NO_MARK};
@@ -31,7 +31,7 @@ pub fn retire<D: Domain>(words: &Words, keeper: &mut Keeper<D>, slot: u8) -> Ent
     let link = link_below(&keeper.rows, entry.number);
     steps::unpublish(words, &mut keeper.seat, slot, before, link);
     let marks = snapshots(words, &mut keeper.seat, slot, keeper.settings.cpus);
-    keeper.rows[slot as usize] = Row {
+    keeper.rows[slot as usize] = KeptSlot {
         state: SlotState::Retired(entry),
         marks,
         ..row

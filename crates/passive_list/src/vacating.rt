@@ -5,7 +5,7 @@ ghost use Rattle.registry_values.specs.declared.slot.Slot.TheVariants.{Vacant};
 ghost use Rattle.protocol.specs.State.{kept_at};
 ghost use Rattle.passive_list.specs.Vacating.{IsDrainedOn, is_drained_row};
 
-use crate::keeper::{Keeper, Row, SlotState};
+use crate::keeper::{Keeper, KeptSlot, SlotState};
 use cpu_words::Domain;
 use registry_values::{BIAS, are_clear, are_collected, have_passed};
 
@@ -33,7 +33,7 @@ pub fn vacate<D: Domain>(keeper: &mut Keeper<D>, slot: u8)
     keeper.rows[slot as usize].state = SlotState::Vacant;
 }
 
-fn is_drained_row(cpus: u8, row: &Row) -> bool
+fn is_drained_row(cpus: u8, row: &KeptSlot) -> bool
     ensures { result ≡ is_drained_row cpus row.now }
 {
     matches!(row.state, SlotState::Retired(_))

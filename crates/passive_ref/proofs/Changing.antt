@@ -13,20 +13,20 @@ use Rattle.cpu_words.specs.Views.{references_to, without}
 use Rattle.cpu_words.specs.Passives.{IsAt, IsAloneAt, HasAdded, HasSubtracted}
 use Rattle.cpu_words.proofs.shown.ReferenceLists.{to_same, to_other, in_cons, counts, one_less, others_stay, was_in}
 use Rattle.passive_list.specs.declared.place.Found.{Found}
-use Rattle.passive_list.specs.declared.place.Place.{Place}
+use Rattle.passive_list.specs.declared.place.NumberedCount.{NumberedCount}
 use Rattle.passive_list.specs.Cpus.{no_place, place_at, IsPlaceOf, PassiveAgree, IsOurCpu}
 use Rattle.passive_list.proofs.Agreeing.{net_same}
 use Rattle.passive_ref.proofs.Places.{place_of}
 
 -- the places of a CPU with p at t
-place_here : (ps : List Place) (t : ℕ) (p : Place) → length ps ≡ 32 → t < 32 → place_at (set ps t p) t ≡ p
+place_here : (ps : List NumberedCount) (t : ℕ) (p : NumberedCount) → length ps ≡ 32 → t < 32 → place_at (set ps t p) t ≡ p
 place_here ps t p size few = get_or-set_same ps t p no_place (omega (arith, size, few))
 
-place_other : (ps : List Place) (t u : ℕ) (p : Place) → u ≢ t → place_at (set ps t p) u ≡ place_at ps u
+place_other : (ps : List NumberedCount) (t u : ℕ) (p : NumberedCount) → u ≢ t → place_at (set ps t p) u ≡ place_at ps u
 place_other ps t u p off = get_or-set_other ps t u p no_place off
 
 -- an entry of the pass and the place of another slot have different numbers
-apart : (x : CpuView) (ps : List Place) (e : Entry) (t u : ℕ) → PassiveAgree x ps → e.slot ≡ t → IsAttached x.pass e → u ≢ t → (place_at ps u).number ≢ e.number
+apart : (x : CpuView) (ps : List NumberedCount) (e : Entry) (t u : ℕ) → PassiveAgree x ps → e.slot ≡ t → IsAttached x.pass e → u ≢ t → (place_at ps u).number ≢ e.number
 apart x ps e t u agree at attached off same = off (sym (place_of x ps u e agree attached same) ∙ at)
 
 -- a place at the slot t is of e
@@ -34,11 +34,11 @@ is_of : (x : CpuView) (e : Entry) (t n : ℕ) → IsAt e t n → IsAttached x.pa
 is_of x e t n at attached = record { entry = e; attached = attached; slot = at.slot; number = at.number }
 
 -- one reference more
-pub added_passive : (x : CpuView) (ps : List Place) (e : Entry) (t n m : ℕ) → PassiveAgree x ps → IsAt e t n → IsAttached x.pass e → t < 32 → IsAloneAt x t n → m ≡ references_to n x.references
+pub added_passive : (x : CpuView) (ps : List NumberedCount) (e : Entry) (t n m : ℕ) → PassiveAgree x ps → IsAt e t n → IsAttached x.pass e → t < 32 → IsAloneAt x t n → m ≡ references_to n x.references
     → PassiveAgree (record x { references = e ∷ x.references }) (set ps t (record { number = n; count = m + 1 }))
 added_passive x ps e t n m agree at attached few alone is = record { size = length-set ps t new ∙ agree.size; counts = counted; placed = placed; each = each }
   where
-    new : Place
+    new : NumberedCount
     new = record { number = n; count = m + 1 }
 
     here : place_at (set ps t new) t ≡ new
@@ -50,28 +50,28 @@ added_passive x ps e t n m agree at attached few alone is = record { size = leng
         let now : place_at (set ps t new) u ≡ new = ap (place_at (set ps t new)) same ∙ here in
         let more = to_same n e x.references at.number in
         let one : m + 1 ≡ references_to n (e ∷ x.references) = omega (arith, more, is) in
-        subst (λ (p : Place). p.count ≡ references_to p.number (e ∷ x.references)) (sym now) one)
+        subst (λ (p : NumberedCount). p.count ≡ references_to p.number (e ∷ x.references)) (sym now) one)
         (λ (off : u ≢ t).
         let old = to_other (place_at ps u).number e x.references (λ q. apart x ps e t u agree at.slot attached off (sym q)) in
-        subst (λ (p : Place). p.count ≡ references_to p.number (e ∷ x.references)) (sym (place_other ps t u new off)) (agree.counts u ∙ sym old))
+        subst (λ (p : NumberedCount). p.count ≡ references_to p.number (e ∷ x.references)) (sym (place_other ps t u new off)) (agree.counts u ∙ sym old))
         (cases_eq u t)
 
     placed : (u : ℕ) → (place_at (set ps t new) u).number ≢ 0 → IsPlaceOf x.pass u (place_at (set ps t new) u).number
     placed u some = ⊎_elim
         (λ (same : u ≡ t).
         let now : place_at (set ps t new) u ≡ new = ap (place_at (set ps t new)) same ∙ here in
-        subst (λ (p : Place). IsPlaceOf x.pass u p.number) (sym now) (subst (λ v. IsPlaceOf x.pass v n) (sym same) (is_of x e t n at attached)))
+        subst (λ (p : NumberedCount). IsPlaceOf x.pass u p.number) (sym now) (subst (λ v. IsPlaceOf x.pass v n) (sym same) (is_of x e t n at attached)))
         (λ (off : u ≢ t).
         let now = place_other ps t u new off in
-        subst (λ (p : Place). IsPlaceOf x.pass u p.number) (sym now) (agree.placed u (λ q. some (ap (λ (p : Place). p.number) now ∙ q))))
+        subst (λ (p : NumberedCount). IsPlaceOf x.pass u p.number) (sym now) (agree.placed u (λ q. some (ap (λ (p : NumberedCount). p.number) now ∙ q))))
         (cases_eq u t)
 
     later : (f : Entry) → Contains x.references f → (f.slot < 32) × IsAttached x.pass f × ((place_at (set ps t new) f.slot).number ≡ f.number) × (0 < f.number)
     later f among =
         let old = agree.each f among in
         let number : (place_at (set ps t new) f.slot).number ≡ f.number = ⊎_elim
-        (λ (same : f.slot ≡ t). ap (λ v. (place_at (set ps t new) v).number) same ∙ ap (λ (p : Place). p.number) here ∙ sym (alone f among same))
-        (λ (off : f.slot ≢ t). ap (λ (p : Place). p.number) (place_other ps t f.slot new off) ∙ old.2)
+        (λ (same : f.slot ≡ t). ap (λ v. (place_at (set ps t new) v).number) same ∙ ap (λ (p : NumberedCount). p.number) here ∙ sym (alone f among same))
+        (λ (off : f.slot ≢ t). ap (λ (p : NumberedCount). p.number) (place_other ps t f.slot new off) ∙ old.2)
         (cases_eq f.slot t) in
         (old.0, old.1, number, old.3)
 
@@ -80,7 +80,7 @@ added_passive x ps e t n m agree at attached few alone is = record { size = leng
         let slot = at.slot in (
           omega (arith, few, slot),
           attached,
-          ap (λ v. (place_at (set ps t new) v).number) at.slot ∙ ap (λ (p : Place). p.number) here ∙ sym at.number,
+          ap (λ v. (place_at (set ps t new) v).number) at.slot ∙ ap (λ (p : NumberedCount). p.number) here ∙ sym at.number,
           (at_within x.pass e.number _ attached).0,
         )
 
@@ -91,11 +91,11 @@ added_passive x ps e t n m agree at attached few alone is = record { size = leng
         (in_cons e f x.references among)
 
 -- one reference less
-pub less_passive : (x : CpuView) (ps : List Place) (e : Entry) (t n : ℕ) → PassiveAgree x ps → IsAt e t n → Contains x.references e
+pub less_passive : (x : CpuView) (ps : List NumberedCount) (e : Entry) (t n : ℕ) → PassiveAgree x ps → IsAt e t n → Contains x.references e
     → PassiveAgree (record x { references = without n x.references }) (set ps t (record { number = (place_at ps t).number; count = (place_at ps t).count - 1 }))
 less_passive x ps e t n agree at among = record { size = length-set ps t new ∙ agree.size; counts = counted; placed = placed; each = each }
   where
-    new : Place
+    new : NumberedCount
     new = record { number = (place_at ps t).number; count = (place_at ps t).count - 1 }
 
     few : t < 32
@@ -109,8 +109,8 @@ less_passive x ps e t n agree at among = record { size = length-set ps t new ∙
 
     same_number : (u : ℕ) → (place_at (set ps t new) u).number ≡ (place_at ps u).number
     same_number u = ⊎_elim
-        (λ (same : u ≡ t). ap (λ v. (place_at (set ps t new) v).number) same ∙ ap (λ (p : Place). p.number) here ∙ ap (λ v. (place_at ps v).number) (sym same))
-        (λ (off : u ≢ t). ap (λ (p : Place). p.number) (place_other ps t u new off))
+        (λ (same : u ≡ t). ap (λ v. (place_at (set ps t new) v).number) same ∙ ap (λ (p : NumberedCount). p.number) here ∙ ap (λ v. (place_at ps v).number) (sym same))
+        (λ (off : u ≢ t). ap (λ (p : NumberedCount). p.number) (place_other ps t u new off))
         (cases_eq u t)
 
     counted : (u : ℕ) → (place_at (set ps t new) u).count ≡ references_to (place_at (set ps t new) u).number (without n x.references)
@@ -120,10 +120,10 @@ less_passive x ps e t n agree at among = record { size = length-set ps t new ∙
         let old : (place_at ps t).count ≡ references_to n x.references = agree.counts t ∙ ap (λ k. references_to k x.references) number in
         let less = one_less n x.references (counts x.references e n among at.number) in
         let one : (place_at ps t).count - 1 ≡ references_to n (without n x.references) = omega (arith, old, less) in
-        subst (λ (p : Place). p.count ≡ references_to p.number (without n x.references)) (sym now) (one ∙ ap (λ k. references_to k (without n x.references)) (sym number)))
+        subst (λ (p : NumberedCount). p.count ≡ references_to p.number (without n x.references)) (sym now) (one ∙ ap (λ k. references_to k (without n x.references)) (sym number)))
         (λ (off : u ≢ t).
         let other = others_stay n (place_at ps u).number x.references (λ q. apart x ps e t u agree at.slot (agree.each e among).1 off (q ∙ sym at.number)) in
-        subst (λ (p : Place). p.count ≡ references_to p.number (without n x.references)) (sym (place_other ps t u new off)) (agree.counts u ∙ sym other))
+        subst (λ (p : NumberedCount). p.count ≡ references_to p.number (without n x.references)) (sym (place_other ps t u new off)) (agree.counts u ∙ sym other))
         (cases_eq u t)
 
     placed : (u : ℕ) → (place_at (set ps t new) u).number ≢ 0 → IsPlaceOf x.pass u (place_at (set ps t new) u).number
@@ -135,7 +135,7 @@ less_passive x ps e t n agree at among = record { size = length-set ps t new ∙
         (old.0, old.1, same_number f.slot ∙ old.2, old.3)
 
 -- a CPU with other references, and places that agree with them
-with_references : (z : TableId) (a : Settings) (t u : TableId) (x : CpuView) (c w d : ℕ) (o : Found) (ps qs ns : List Place) (references : List Entry)
+with_references : (z : TableId) (a : Settings) (t u : TableId) (x : CpuView) (c w d : ℕ) (o : Found) (ps qs ns : List NumberedCount) (references : List Entry)
     → IsOurCpu z a t x c w d o ps ns → u ≡ t → PassiveAgree (record x { references = references }) qs → IsOurCpu z a u (record x { references = references }) c w d o qs ns
 with_references z a t u x c w d o ps qs ns references our same agree = record {
   table = same ∙ our.table;
@@ -152,14 +152,14 @@ with_references z a t u x c w d o ps qs ns references our same agree = record {
 }
 
 -- a reference was added
-pub added_agrees : (z : TableId) (a : Settings) (t u : TableId) (x y : CpuView) (c w d : ℕ) (o : Found) (ps ns : List Place) (s n m : ℕ)
+pub added_agrees : (z : TableId) (a : Settings) (t u : TableId) (x y : CpuView) (c w d : ℕ) (o : Found) (ps ns : List NumberedCount) (s n m : ℕ)
     → IsOurCpu z a t x c w d o ps ns → u ≡ t → HasAdded x s n y → s < 32 → IsAloneAt x s n → m ≡ references_to n x.references
     → IsOurCpu z a u y c w d o (set ps s (record { number = n; count = m + 1 })) ns
 added_agrees z a t u x y c w d o ps ns s n m our same had few alone is = subst (λ (v : CpuView). IsOurCpu z a u v c w d o (set ps s (record { number = n; count = m + 1 })) ns) (sym had.3)
     (with_references z a t u x c w d o ps (set ps s (record { number = n; count = m + 1 })) ns (had.0 ∷ x.references) our same (added_passive x ps had.0 s n m our.passive had.1 had.2 few alone is))
 
 -- a reference was taken away
-pub less_agrees : (z : TableId) (a : Settings) (t u : TableId) (x y : CpuView) (c w d : ℕ) (o : Found) (ps ns : List Place) (e : Entry) (s n : ℕ)
+pub less_agrees : (z : TableId) (a : Settings) (t u : TableId) (x y : CpuView) (c w d : ℕ) (o : Found) (ps ns : List NumberedCount) (e : Entry) (s n : ℕ)
     → IsOurCpu z a t x c w d o ps ns → u ≡ t → IsAt e s n → Contains x.references e → HasSubtracted x n y
     → IsOurCpu z a u y c w d o (set ps s (record { number = (place_at ps s).number; count = (place_at ps s).count - 1 })) ns
 less_agrees z a t u x y c w d o ps ns e s n our same at among had = subst (λ (v : CpuView). IsOurCpu z a u v c w d o (set ps s (record { number = (place_at ps s).number; count = (place_at ps s).count - 1 })) ns) (sym had)

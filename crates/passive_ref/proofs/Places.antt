@@ -13,7 +13,7 @@ use Rattle.cpu_words.specs.declared.view.CpuView.{CpuView}
 use Rattle.cpu_words.specs.Views.{is_to, references_to}
 use Rattle.cpu_words.specs.Passives.{IsAt}
 use Rattle.cpu_words.proofs.shown.ReferenceLists.{to_other, in_rest}
-use Rattle.passive_list.specs.declared.place.Place.{Place}
+use Rattle.passive_list.specs.declared.place.NumberedCount.{NumberedCount}
 use Rattle.passive_list.specs.Cpus.{no_place, place_at, PassiveAgree}
 use Rattle.passive_ref.specs.Psrefs.{IsHeldAt, counts_for}
 
@@ -35,7 +35,7 @@ some_of n (e ∷ es) some = ⊎_elim
     (cases_Bool (is_to n e))
 
 -- an entry of the pass with the number of a place was attached in its slot
-pub place_of : (x : CpuView) (ps : List Place) (t : ℕ) (e : Entry) → PassiveAgree x ps → IsAttached x.pass e → (place_at ps t).number ≡ e.number → e.slot ≡ t
+pub place_of : (x : CpuView) (ps : List NumberedCount) (t : ℕ) (e : Entry) → PassiveAgree x ps → IsAttached x.pass e → (place_at ps t).number ≡ e.number → e.slot ≡ t
 place_of x ps t e agree attached same =
     let above = (at_within x.pass e.number _ attached).0 in
     let here = agree.placed t (λ (none : (place_at ps t).number ≡ 0). absurd (omega (arith, same, none, above))) in
@@ -43,7 +43,7 @@ place_of x ps t e agree attached same =
     ap (λ (f : Entry). f.slot) one ∙ here.slot
 
 -- a place that counts for n is the slot of an entry that the CPU refers to
-pub held_at : (x : CpuView) (ps : List Place) (n t : ℕ) → PassiveAgree x ps → t < 32 → (place_at ps t).number ≡ n → 0 < (place_at ps t).count → IsHeldAt x t n
+pub held_at : (x : CpuView) (ps : List NumberedCount) (n t : ℕ) → PassiveAgree x ps → t < 32 → (place_at ps t).number ≡ n → 0 < (place_at ps t).count → IsHeldAt x t n
 held_at x ps n t agree few number some =
     let count = agree.counts t ∙ ap (λ k. references_to k x.references) number in
     let one = some_of n x.references (omega (arith, some, count)) in
@@ -51,7 +51,7 @@ held_at x ps n t agree few number some =
     record { entry = one.entry; at = record { slot = place_of x ps t one.entry agree attached (number ∙ sym one.number); number = one.number }; held = one.among; attached = attached; few = few }
 
 -- the first place that counts for n
-pub held_here : (x : CpuView) (ps : List Place) (n t : ℕ) → PassiveAgree x ps → position (counts_for n) ps ≡ Some t → IsHeldAt x t n
+pub held_here : (x : CpuView) (ps : List NumberedCount) (n t : ℕ) → PassiveAgree x ps → position (counts_for n) ps ≡ Some t → IsHeldAt x t n
 held_here x ps n t agree is =
     let at = position-Some (counts_for n) ps t no_place is in
     let both = and_parts ((place_at ps t).number == n) (nat_lt 0 (place_at ps t).count) at.1 in
@@ -61,7 +61,7 @@ held_here x ps n t agree is =
     (ltb-true 0 (place_at ps t).count both.1)
 
 -- where no place counts for n, the CPU has no reference to it
-pub none_here : (x : CpuView) (ps : List Place) (n : ℕ) → PassiveAgree x ps → position (counts_for n) ps ≡ None → references_to n x.references ≡ 0
+pub none_here : (x : CpuView) (ps : List NumberedCount) (n : ℕ) → PassiveAgree x ps → position (counts_for n) ps ≡ None → references_to n x.references ≡ 0
 none_here x ps n agree is = ⊎_elim
     (λ (some : nat_lt 0 (references_to n x.references) ≡ true).
     let one = some_of n x.references (ltb-true 0 (references_to n x.references) some) in
@@ -79,11 +79,11 @@ none_here x ps n agree is = ⊎_elim
     (cases_Bool (nat_lt 0 (references_to n x.references)))
 
 -- an entry that the CPU found last or refers to is in the pass
-pub known_attached : (x : CpuView) (ps : List Place) (e : Entry) → PassiveAgree x ps → ((f : Entry) → x.found ≡ Some f → IsAttached x.pass f) → (x.found ≡ Some e) ⊎ Contains x.references e → IsAttached x.pass e
+pub known_attached : (x : CpuView) (ps : List NumberedCount) (e : Entry) → PassiveAgree x ps → ((f : Entry) → x.found ≡ Some f → IsAttached x.pass f) → (x.found ≡ Some e) ⊎ Contains x.references e → IsAttached x.pass e
 known_attached x ps e agree seen known = ⊎_elim (λ (found : x.found ≡ Some e). seen e found) (λ (among : Contains x.references e). (agree.each e among).1) known
 
 -- where the place of an entry's slot is of another number, the CPU has no reference to that entry
-pub uncounted_here : (x : CpuView) (ps : List Place) (t n : ℕ) (e : Entry) → PassiveAgree x ps → IsAt e t n → IsAttached x.pass e → (place_at ps t).number ≢ n → references_to n x.references ≡ 0
+pub uncounted_here : (x : CpuView) (ps : List NumberedCount) (t n : ℕ) (e : Entry) → PassiveAgree x ps → IsAt e t n → IsAttached x.pass e → (place_at ps t).number ≢ n → references_to n x.references ≡ 0
 uncounted_here x ps t n e agree at attached off = ⊎_elim
     (λ (some : nat_lt 0 (references_to n x.references) ≡ true).
     let one = some_of n x.references (ltb-true 0 (references_to n x.references) some) in

@@ -10,7 +10,7 @@ use Rattle.protocol.specs.History.{IsAttached}
 use Rattle.cpu_words.specs.declared.view.CpuView.{CpuView}
 use Rattle.cpu_words.specs.Views.{references_to, without}
 use Rattle.cpu_words.specs.Passives.{IsAt}
-use Rattle.passive_list.specs.declared.place.Place.{Place}
+use Rattle.passive_list.specs.declared.place.NumberedCount.{NumberedCount}
 use Rattle.passive_list.specs.Cpus.{OnCpu}
 
 -- a passive reference, to a contract: the CPU that it was acquired on, and the number of its entry
@@ -48,6 +48,12 @@ IsAdded t n a b p = (e : Entry) × IsAt e t n × IsAttached a.view.pass e × IsN
 abbrev pub IsRead : CpuView → ℕ → Record → Type 0
 IsRead x n r = (e : Entry) × Contains x.references e × IsAttached x.pass e × (e.number ≡ n) × (r ≡ e.rec)
 
+-- e is the entry n, to which this CPU refers
+pub record IsReferredTo (x : CpuView) (n : ℕ) (e : Entry) : Type 0 where
+  pub held : Contains x.references e
+  pub attached : IsAttached x.pass e
+  pub number : e.number ≡ n
+
 -- Where a call may be made
 
 -- the CPU refers to the entry n, which is in the slot t
@@ -66,7 +72,7 @@ pub record MayRefer (x : CpuView) (t n : ℕ) : Type 0 where
   pub few : t < 32
 
 -- the place counts references to n
-abbrev pub counts_for : ℕ → Place → Bool
+abbrev pub counts_for : ℕ → NumberedCount → Bool
 counts_for n p = p.number == n && nat_lt 0 p.count
 
 -- Why a call is refused: nothing where it isn't

@@ -8,7 +8,7 @@ ghost use Rattle.passive_ref.specs.Psrefs.{MayRefer, IsHeldAt, IsAcquired, IsCop
 use crate::holding::{count_of, usable_slot};
 use crate::psref::Psref;
 use cpu_words::{Domain, Words, steps};
-use passive_list::{Cpu, Place, PlainCpu};
+use passive_list::{Cpu, NumberedCount, PlainCpu};
 use registry_values::{Refusal, why_full};
 
 /// Acquires a passive reference to this CPU's last found entry (psref(9)). It outlives the section, and the entry keeps its slot until
@@ -104,7 +104,7 @@ fn add(words: &Words, cpu: &mut PlainCpu, slot: u8, number: u64) -> Result<Psref
         return Err(refusal);
     }
     steps::passive_add(words, &mut cpu.seat, cpu.id, slot, number);
-    cpu.passive[slot as usize] = Place {
+    cpu.passive[slot as usize] = NumberedCount {
         number,
         count: count + 1,
     };

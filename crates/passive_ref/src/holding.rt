@@ -7,7 +7,7 @@ ghost use Rattle.passive_ref.specs.Psrefs.{IsHeldAt, MayRefer, counts_for, why_u
 
 use crate::psref::Psref;
 use cpu_words::Domain;
-use passive_list::{Cpu, Place, PlainCpu};
+use passive_list::{Cpu, NumberedCount, PlainCpu};
 use registry_values::{Refusal, why_unusable};
 
 /// Whether this CPU holds a passive reference to that number, whichever CPU the reference names (psref(9)).
@@ -76,7 +76,7 @@ fn slot_of(cpu: &PlainCpu, number: u64) -> Option<u8>
 }
 
 /// The first place that counts for that number.
-fn place_for(number: u64, places: &[Place]) -> Option<usize>
+fn place_for(number: u64, places: &[NumberedCount]) -> Option<usize>
     ensures value { result ≡ position (counts_for number) places.now }
     ensures within { IfSome result (λ t. t < length places.now) }
 {

@@ -19,4 +19,4 @@ pub use acquiring::{acquire, acquire_on, copy, copy_on, release, release_on};
 pub use holding::{held, held_on};
 pub use looking::look_passive;
 pub use psref::Psref;
-pub use reading::{read, read_on};
+pub use reading::{read, read_entry_on, read_on};

@@ -4,13 +4,13 @@ ghost use Rattle.std.specs.Prelude.{◌≡◌, ◌<◌};
 ghost use Rattle.registry_values.specs.Refusals.{Answers};
 ghost use Rattle.cpu_words.specs.Domains.{AreWordsOf};
 ghost use Rattle.cpu_words.specs.Passives.{IsWordOf, IsNamed};
-ghost use Rattle.passive_ref.specs.Psrefs.{IsHeldAt, IsRead, why_unusable};
+ghost use Rattle.passive_ref.specs.Psrefs.{IsHeldAt, IsRead, IsReferredTo, why_unusable};
 
 use crate::holding::usable_slot;
 use crate::psref::Psref;
 use cpu_words::{Domain, Words, steps};
 use passive_list::{Cpu, PlainCpu};
-use registry_values::{Record, Refusal, record_from};
+use registry_values::{Entry, Record, Refusal, record_from};
 
 /// The record of the entry that the reference is to, which stays while the reference is held (psref(9)). It needs no section, and
 /// changes nothing.
@@ -32,6 +32,19 @@ pub fn read_on(words: &Words, cpu: &mut PlainCpu, psref: &Psref) -> Result<Recor
 {
     let slot = usable_slot(cpu, psref)?;
     Ok(load_record(words, cpu, slot, psref.number))
+}
+
+/// The entry that the reference is to, on a CPU that names its own table: as `read_on`, with its number and its slot. Condition: the words
+/// are its table's.
+pub fn read_entry_on(words: &Words, cpu: &mut PlainCpu, psref: &Psref) -> Result<Entry, Refusal>
+    requires words { AreWordsOf words.now cpu.old.words.table cpu.old.words.settings }
+    ensures answer { Answers (why_unusable cpu.old.cpu.view psref.now) (IsReferredTo cpu.old.cpu.view psref.now.number) result }
+    ensures same { cpu.new ≡ cpu.old }
+{
+    let number = psref.number;
+    let slot = usable_slot(cpu, psref)?;
+    let rec = load_record(words, cpu, slot, number);
+    Ok(Entry { number, slot, rec })
 }
 
 /// Loads words 1 to 4 of the record of an entry that this CPU refers to.

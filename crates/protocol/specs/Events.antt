@@ -32,7 +32,7 @@ use Rattle.registry_values.specs.Slots.{are_words_of, key_of, slot_at, kind_word
 use Rattle.registry_values.specs.Names.{are_name_words}
 use Rattle.protocol.specs.State.{State, with_cell, section_at, begin_at, depth_at, seen_at, search_at, found_at, hand_at, row_at, mark_at, passive_at, count_at, total_at, kept_at, local_at, is_empty, at_rest}
 use Rattle.registry_values.specs.Balances.{bias}
-use Rattle.registry_values.specs.Marks.{no_mark, have_passed, are_clear, are_collected, is_some_collected, cleared, collected, looked}
+use Rattle.registry_values.specs.Marks.{no_mark, have_passed, are_clear, are_collected, is_some_collected, mark_after_passive_look, mark_after_collect, mark_after_look}
 
 -- what an event leaves and answers
 pub record Outcome : Type 0 where
@@ -44,8 +44,8 @@ abbrev pub guard : Bool → Option Outcome → Option Outcome
 guard true o = o
 guard false o = None
 
-abbrev pub taken : State → Reply → Option Outcome
-taken s r = Some (record { state = s; reply = r })
+abbrev pub some_outcome : State → Reply → Option Outcome
+some_outcome s r = Some (record { state = s; reply = r })
 
 -- what follows from a value that may be missing
 abbrev pub with_some : {X : Type 0} → Option X → (X → Option Outcome) → Option Outcome
@@ -108,12 +108,12 @@ abbrev pub after_seeing : State → ℕ → State
 after_seeing s c = record s { seen = slice_set s.seen c (length s.history) }
 
 abbrev pub tell : State → Option ℕ → Option Outcome
-tell s (Some c) = guard (is_idle s c) (taken s Done)
-tell s None = guard (at_rest s.due) (taken s Done)
+tell s (Some c) = guard (is_idle s c) (some_outcome s Done)
+tell s None = guard (at_rest s.due) (some_outcome s Done)
 
 abbrev pub hear : State → Option ℕ → Option Outcome
-hear s (Some c) = guard (is_idle s c) (taken (after_seeing s c) Done)
-hear s None = guard (at_rest s.due) (taken s Done)
+hear s (Some c) = guard (is_idle s c) (some_outcome (after_seeing s c) Done)
+hear s None = guard (at_rest s.due) (some_outcome s Done)
 
 -- Searches
 
@@ -124,8 +124,8 @@ abbrev pub after_seek : State → ℕ → Key → State
 after_seek s c key = record s { searches = slice_set s.searches c (Some (record { key = key; start = seen_at s c; place = AtHead })) }
 
 -- the search q of c goes on at another place
-abbrev pub going_on : State → ℕ → Search → SearchPlace → State
-going_on s c q p = record s { searches = slice_set s.searches c (Some (record { key = q.key; start = q.start; place = p })) }
+abbrev pub with_search_at : State → ℕ → Search → SearchPlace → State
+with_search_at s c q p = record s { searches = slice_set s.searches c (Some (record { key = q.key; start = q.start; place = p })) }
 
 -- the search of c is over, and its answer is the last found entry
 abbrev pub search_over : State → ℕ → Option Entry → State
@@ -133,8 +133,8 @@ search_over s c answer = record s { searches = slice_set s.searches c None; foun
 
 -- a search loaded a link: 0 is the end, else a slot plus 1
 abbrev pub link_loaded : State → ℕ → Search → ℕ → Option Outcome
-link_loaded s c q zero = taken (search_over (after_seeing s c) c None) Missed
-link_loaded s c q (suc t) = taken (going_on (after_seeing s c) c q (AtNumber t)) (Word (suc t))
+link_loaded s c q zero = some_outcome (search_over (after_seeing s c) c None) Missed
+link_loaded s c q (suc t) = some_outcome (with_search_at (after_seeing s c) c q (AtNumber t)) (Word (suc t))
 
 abbrev pub load_link : State → ℕ → Search → SearchPlace → Option Outcome
 load_link s c q AtHead = link_loaded s c q s.head
@@ -146,9 +146,9 @@ load_link s c q (AtLow t n k h) = None
 load_link s c q (AtValue t n) = None
 
 -- the last word of the name was loaded: the search goes on to the value, or to the next entry
-abbrev pub compared : State → ℕ → Search → ℕ → ℕ → ℕ → Bool → Option Outcome
-compared s c q t n l true = taken (going_on s c q (AtValue t n)) (Word l)
-compared s c q t n l false = taken (going_on s c q (AtNext t)) (Word l)
+abbrev pub outcome_of_name : State → ℕ → Search → ℕ → ℕ → ℕ → Bool → Option Outcome
+outcome_of_name s c q t n l true = some_outcome (with_search_at s c q (AtValue t n)) (Word l)
+outcome_of_name s c q t n l false = some_outcome (with_search_at s c q (AtNext t)) (Word l)
 
 -- the entry that a search found
 abbrev pub entry_found : Search → ℕ → ℕ → ℕ → Entry
@@ -157,11 +157,11 @@ entry_found q t n value = record { number = n; slot = t; rec = record { kind = q
 abbrev pub load_searched : State → ℕ → Search → SearchPlace → (ℕ → RecordWords) → Option Outcome
 load_searched s c q AtHead row = None
 load_searched s c q (AtNext t) row = None
-load_searched s c q (AtNumber t) row = taken (going_on s c q (AtKind t (row t).number)) (Word (row t).number)
-load_searched s c q (AtKind t n) row = taken (going_on s c q (AtHigh t n (row t).kind)) (Word (row t).kind)
-load_searched s c q (AtHigh t n k) row = taken (going_on s c q (AtLow t n k (row t).high)) (Word (row t).high)
-load_searched s c q (AtLow t n k h) row = compared s c q t n (row t).low (are_words_of q.key k h (row t).low)
-load_searched s c q (AtValue t n) row = taken (search_over s c (Some (entry_found q t n (row t).value))) (Found (entry_found q t n (row t).value))
+load_searched s c q (AtNumber t) row = some_outcome (with_search_at s c q (AtKind t (row t).number)) (Word (row t).number)
+load_searched s c q (AtKind t n) row = some_outcome (with_search_at s c q (AtHigh t n (row t).kind)) (Word (row t).kind)
+load_searched s c q (AtHigh t n k) row = some_outcome (with_search_at s c q (AtLow t n k (row t).high)) (Word (row t).high)
+load_searched s c q (AtLow t n k h) row = outcome_of_name s c q t n (row t).low (are_words_of q.key k h (row t).low)
+load_searched s c q (AtValue t n) row = some_outcome (search_over s c (Some (entry_found q t n (row t).value))) (Found (entry_found q t n (row t).value))
 
 -- Words of records
 
@@ -183,16 +183,16 @@ abbrev pub words_of : Entry → RecordWords
 words_of e = record { number = e.number; kind = kind_word e.rec.kind; high = e.rec.name.high; low = e.rec.name.low; value = e.rec.value }
 
 abbrev pub load_passive : State → ℕ → ℕ → ℕ → Option Outcome
-load_passive s c n k = with_some (slot_of s.slots n) (λ t. guard (is_idle s c && (nat_lt 0 (passive_at s.passive c t) && nat_lt k 5)) (taken s (Word (word (row_at s.rows t) k))))
+load_passive s c n k = with_some (slot_of s.slots n) (λ t. guard (is_idle s c && (nat_lt 0 (passive_at s.passive c t) && nat_lt k 5)) (some_outcome s (Word (word (row_at s.rows t) k))))
 
 -- the number of a live local reference
-abbrev pub standing : LocalPlace → Option ℕ
-standing Free = None
-standing (Standing n) = Some n
-standing (Lifted c) = None
+abbrev pub number_standing : LocalPlace → Option ℕ
+number_standing Free = None
+number_standing (Standing n) = Some n
+number_standing (Lifted c) = None
 
 abbrev pub load_local : State → ℕ → ℕ → Option Outcome
-load_local s id k = with_some (standing (local_at s.locals id)) (λ n. with_some (slot_of s.slots n) (λ t. guard (nat_lt k 5) (taken s (Word (word (row_at s.rows t) k)))))
+load_local s id k = with_some (number_standing (local_at s.locals id)) (λ n. with_some (slot_of s.slots n) (λ t. guard (nat_lt k 5) (some_outcome s (Word (word (row_at s.rows t) k)))))
 
 -- The list
 
@@ -203,8 +203,8 @@ abbrev pub after_count_store : State → ℕ → ℕ → ℕ → State
 after_count_store s t c v = record s { counts = with_cell s.counts t c v }
 
 abbrev pub store_slot : State → ℕ → ℕ → ℕ → Option Outcome
-store_slot s t k v = if nat_lt k 5 then guard (may_write s t) (taken (after_row_store s t k v) Done)
-    else guard (may_write s t && nat_lt (k - 5) s.settings.cpus) (taken (after_count_store s t (k - 5) v) Done)
+store_slot s t k v = if nat_lt k 5 then guard (may_write s t) (some_outcome (after_row_store s t k v) Done)
+    else guard (may_write s t && nat_lt (k - 5) s.settings.cpus) (some_outcome (after_count_store s t (k - 5) v) Done)
 
 abbrev pub after_link_store : State → ℕ → ℕ → State
 after_link_store s t v = record s { next = slice_set s.next t v }
@@ -261,8 +261,8 @@ after_publish s t e = record s {
 }
 
 -- the entry e of t is retired, without marks, and all snapshots are due
-abbrev pub retiring : State → ℕ → Entry → State
-retiring s t e = record s {
+abbrev pub with_retired : State → ℕ → Entry → State
+with_retired s t e = record s {
   history = after_change s.history (Detach e.number);
   slots = slice_set s.slots t (Retired e);
   marks = slice_set s.marks t (replicate 8 no_mark);
@@ -270,16 +270,16 @@ retiring s t e = record s {
 }
 
 -- one store to the link that leads to t
-abbrev pub unlinking : State → ℕ → Option ℕ → State
-unlinking s t None = record s { head = slice_index_or s.next t 0 }
-unlinking s t (Some p) = record s { next = slice_set s.next p (slice_index_or s.next t 0) }
+abbrev pub with_link_past : State → ℕ → Option ℕ → State
+with_link_past s t None = record s { head = slice_index_or s.next t 0 }
+with_link_past s t (Some p) = record s { next = slice_set s.next p (slice_index_or s.next t 0) }
 
 abbrev pub after_unpublish : State → ℕ → Entry → State
-after_unpublish s t e = retiring (unlinking s t (slot_before s.slots s.next t)) t e
+after_unpublish s t e = with_retired (with_link_past s t (slot_before s.slots s.next t)) t e
 
 abbrev pub unpublish : State → ℕ → Slot → Option Outcome
 unpublish s t Vacant = None
-unpublish s t (Live e) = guard (at_rest s.due) (taken (after_unpublish s t e) Done)
+unpublish s t (Live e) = guard (at_rest s.due) (some_outcome (after_unpublish s t e) Done)
 unpublish s t (Retired e) = None
 
 -- Grace
@@ -304,15 +304,15 @@ abbrev pub may_glance : State → ℕ → Bool
 may_glance s c = at_rest s.due && nat_lt c s.settings.cpus
 
 abbrev pub snapshot : State → Option ℕ → ℕ → Option Outcome
-snapshot s (Some t) c = guard (is_snapshot_due s.due t c) (taken (after_snapshot s t c) (Word (section_at s c)))
-snapshot s None c = guard (may_glance s c) (taken s (Word (section_at s c)))
+snapshot s (Some t) c = guard (is_snapshot_due s.due t c) (some_outcome (after_snapshot s t c) (Word (section_at s c)))
+snapshot s None c = guard (may_glance s c) (some_outcome s (Word (section_at s c)))
 
 abbrev pub after_look : State → ℕ → ℕ → State
-after_look s t c = record s { marks = with_cell s.marks t c (looked (mark_at s.marks t c) (section_at s c)) }
+after_look s t c = record s { marks = with_cell s.marks t c (mark_after_look (mark_at s.marks t c) (section_at s c)) }
 
 abbrev pub look : State → Option ℕ → ℕ → Option Outcome
-look s (Some t) c = guard (may_examine s t c) (taken (after_look s t c) (Word (section_at s c)))
-look s None c = guard (may_glance s c) (taken s (Word (section_at s c)))
+look s (Some t) c = guard (may_examine s t c) (some_outcome (after_look s t c) (Word (section_at s c)))
+look s None c = guard (may_glance s c) (some_outcome s (Word (section_at s c)))
 
 -- Passive references
 
@@ -336,7 +336,7 @@ abbrev pub may_look_passive : State → ℕ → ℕ → Bool
 may_look_passive s t c = may_examine s t c && have_passed s.settings.cpus (slice_index_or s.marks t [])
 
 abbrev pub after_look_passive : State → ℕ → ℕ → State
-after_look_passive s t c = record s { marks = with_cell s.marks t c (cleared (mark_at s.marks t c) (passive_at s.passive c t)) }
+after_look_passive s t c = record s { marks = with_cell s.marks t c (mark_after_passive_look (mark_at s.marks t c) (passive_at s.passive c t)) }
 
 -- Local references
 
@@ -351,7 +351,7 @@ abbrev pub after_count_add : State → ℕ → ℕ → ℕ → State
 after_count_add s c n t = after_count s c t (count_at s.counts c t + 1) (count_at s.nets c t + 1) (Taking n)
 
 abbrev pub count_add : State → ℕ → Entry → Option Outcome
-count_add s c e = with_some (slot_of s.slots e.number) (λ t. guard (may_count s c t) (taken (after_count_add s c e.number t) (Word (count_at s.counts c t))))
+count_add s c e = with_some (slot_of s.slots e.number) (λ t. guard (may_count s c t) (some_outcome (after_count_add s c e.number t) (Word (count_at s.counts c t))))
 
 -- the least id that no live reference and no hand has
 abbrev pub is_free : LocalPlace → Bool
@@ -375,7 +375,7 @@ after_split s c n = record s { hands = slice_set s.hands c Empty; locals = with_
 
 abbrev pub split_ref : State → ℕ → Hand → Option Outcome
 split_ref s c Empty = None
-split_ref s c (Taking n) = taken (after_split s c n) (Ref (least_id s.locals))
+split_ref s c (Taking n) = some_outcome (after_split s c n) (Ref (least_id s.locals))
 split_ref s c (Giving n id) = None
 split_ref s c (Back n id) = None
 
@@ -383,7 +383,7 @@ abbrev pub after_hand : State → ℕ → Hand → ℕ → LocalPlace → State
 after_hand s c hand id p = record s { hands = slice_set s.hands c hand; locals = slice_set s.locals id p }
 
 abbrev pub join_ref : State → ℕ → ℕ → Option Outcome
-join_ref s c id = with_some (standing (local_at s.locals id)) (λ n. guard (is_idle s c) (taken (after_hand s c (Giving n id) id (Lifted c)) Done))
+join_ref s c id = with_some (number_standing (local_at s.locals id)) (λ n. guard (is_idle s c) (some_outcome (after_hand s c (Giving n id) id (Lifted c)) Done))
 
 -- a compare-exchange from the bias plus the net count, which fails where the word was collected
 abbrev pub after_count_down : State → ℕ → ℕ → ℕ → State
@@ -393,7 +393,7 @@ abbrev pub after_collected : State → ℕ → ℕ → ℕ → State
 after_collected s c n id = record s { hands = slice_set s.hands c (Back n id) }
 
 abbrev pub exchange : State → ℕ → ℕ → ℕ → ℕ → Option Outcome
-exchange s c n id t = if count_at s.counts c t == count_at s.nets c t then taken (after_count_down s c t id) (Word (count_at s.counts c t)) else taken (after_collected s c n id) Collected
+exchange s c n id t = if count_at s.counts c t == count_at s.nets c t then some_outcome (after_count_down s c t id) (Word (count_at s.counts c t)) else some_outcome (after_collected s c n id) Collected
 
 abbrev pub count_down : State → ℕ → Hand → Option Outcome
 count_down s c Empty = None
@@ -405,7 +405,7 @@ abbrev pub split_back : State → ℕ → Hand → Option Outcome
 split_back s c Empty = None
 split_back s c (Taking n) = None
 split_back s c (Giving n id) = None
-split_back s c (Back n id) = taken (after_hand s c Empty id (Standing n)) (Ref id)
+split_back s c (Back n id) = some_outcome (after_hand s c Empty id (Standing n)) (Ref id)
 
 -- Draining
 
@@ -416,7 +416,7 @@ abbrev pub may_collect : State → ℕ → ℕ → Bool
 may_collect s t c = may_examine s t c && (is_drainable s t && not (mark_at s.marks t c).collected)
 
 abbrev pub after_collect : State → ℕ → ℕ → State
-after_collect s t c = record s { counts = with_cell s.counts t c 0; marks = with_cell s.marks t c (collected (mark_at s.marks t c)); due = Adding t (count_at s.counts c t) }
+after_collect s t c = record s { counts = with_cell s.counts t c 0; marks = with_cell s.marks t c (mark_after_collect (mark_at s.marks t c)); due = Adding t (count_at s.counts c t) }
 
 abbrev pub after_total : State → ℕ → ℕ → State
 after_total s t v = record s { totals = slice_set s.totals t v; due = Rest }
@@ -424,14 +424,14 @@ after_total s t v = record s { totals = slice_set s.totals t v; due = Rest }
 abbrev pub total_add : State → ℕ → Due → Option Outcome
 total_add s t Rest = None
 total_add s t (Snapshots u c) = None
-total_add s t (Adding u old) = guard (u == t) (taken (after_total s t (total_at s.totals t + old - bias)) Done)
+total_add s t (Adding u old) = guard (u == t) (some_outcome (after_total s t (total_at s.totals t + old - bias)) Done)
 total_add s t (Subtracting u) = None
 
 abbrev pub total_sub : State → ℕ → Due → Option Outcome
 total_sub s t Rest = None
 total_sub s t (Snapshots u c) = None
 total_sub s t (Adding u old) = None
-total_sub s t (Subtracting u) = guard (u == t) (taken (after_total s t (total_at s.totals t - 1)) Done)
+total_sub s t (Subtracting u) = guard (u == t) (some_outcome (after_total s t (total_at s.totals t - 1)) Done)
 
 abbrev pub may_join : State → ℕ → Bool
 may_join s t = at_rest s.due && is_some_collected s.settings.cpus (slice_index_or s.marks t [])
@@ -444,7 +444,7 @@ abbrev pub after_join_keeper : State → ℕ → ℕ → State
 after_join_keeper s id t = record s { locals = slice_set s.locals id Free; due = Subtracting t }
 
 abbrev pub join_keeper : State → ℕ → Option Outcome
-join_keeper s id = with_some (standing (local_at s.locals id)) (λ n. with_some (slot_of s.slots n) (λ t. guard (may_join_keeper s t) (taken (after_join_keeper s id t) Done)))
+join_keeper s id = with_some (number_standing (local_at s.locals id)) (λ n. with_some (slot_of s.slots n) (λ t. guard (may_join_keeper s t) (some_outcome (after_join_keeper s id t) Done)))
 
 -- Kept drivers and the end of a slot's use
 
@@ -460,7 +460,7 @@ abbrev pub after_keep : State → ℕ → ℕ → ℕ → State
 after_keep s t id n = record s { locals = slice_set s.locals id Free; keeps = slice_set s.keeps t (Some n) }
 
 abbrev pub keep : State → ℕ → ℕ → Option Outcome
-keep s t id = with_some (standing (local_at s.locals id)) (λ n. with_some (slot_of s.slots n) (λ u. guard (may_keep s t u) (taken (after_keep s t id n) Done)))
+keep s t id = with_some (number_standing (local_at s.locals id)) (λ n. with_some (slot_of s.slots n) (λ u. guard (may_keep s t u) (some_outcome (after_keep s t id n) Done)))
 
 -- all marks are set, nothing is held, and the keeper is at rest
 abbrev pub is_drained : State → ℕ → Bool
@@ -475,7 +475,7 @@ abbrev pub after_kept_sub : State → ℕ → ℕ → State
 after_kept_sub s t u = record s { totals = slice_set s.totals u (total_at s.totals u - 1); slots = slice_set s.slots t Vacant; keeps = slice_set s.keeps t None }
 
 abbrev pub kept_sub : State → ℕ → Option Outcome
-kept_sub s t = with_some (kept_at s.keeps t) (λ d. with_some (slot_of s.slots d) (λ u. guard (is_iface_slot (slot_at s.slots t) && is_drained s t) (taken (after_kept_sub s t u) Done)))
+kept_sub s t = with_some (kept_at s.keeps t) (λ d. with_some (slot_of s.slots d) (λ u. guard (is_iface_slot (slot_at s.slots t) && is_drained s t) (some_outcome (after_kept_sub s t u) Done)))
 
 abbrev pub may_vacate : State → ℕ → Bool
 may_vacate s t = is_none (kept_at s.keeps t) && is_drained s t
@@ -490,35 +490,35 @@ load_record s (OfLocal id k) = load_local s id k
 
 -- What an event does and answers, or None where it isn't allowed.
 abbrev pub step : State → Event → Option Outcome
-step s (Seat c) = guard (may_seat s c) (taken (after_seat s c) Done)
-step s (Enter c) = guard (may_enter s c) (taken (after_enter s c) Done)
-step s (Exit c) = guard (may_exit s c) (taken (after_exit s c) Done)
-step s (Seek c kind name) = guard (may_seek s c) (taken (after_seek s c (record { kind = kind; name = name })) Done)
+step s (Seat c) = guard (may_seat s c) (some_outcome (after_seat s c) Done)
+step s (Enter c) = guard (may_enter s c) (some_outcome (after_enter s c) Done)
+step s (Exit c) = guard (may_exit s c) (some_outcome (after_exit s c) Done)
+step s (Seek c kind name) = guard (may_seek s c) (some_outcome (after_seek s c (record { kind = kind; name = name })) Done)
 step s (LoadLink c) = with_some (search_at s c) (λ q. load_link s c q q.place)
 step s (LoadRecord of) = load_record s of
 step s (StoreSlot t k v) = store_slot s t k v
-step s (StoreNext t v) = guard (may_write s t) (taken (after_link_store s t v) Done)
-step s (Publish t) = with_some (entry_of t (row_at s.rows t)) (λ e. guard (may_publish s t e) (taken (after_publish s t e) Done))
+step s (StoreNext t v) = guard (may_write s t) (some_outcome (after_link_store s t v) Done)
+step s (Publish t) = with_some (entry_of t (row_at s.rows t)) (λ e. guard (may_publish s t e) (some_outcome (after_publish s t e) Done))
 step s (Unpublish t) = unpublish s t (slot_at s.slots t)
 step s (Tell to) = tell s to
 step s (Hear to) = hear s to
 step s (Snapshot to c) = snapshot s to c
 step s (Look to c) = look s to c
-step s (PassiveAdd c n) = with_some (slot_of s.slots n) (λ t. guard (may_add s c n t) (taken (after_add s c t) (Word (passive_at s.passive c t))))
-step s (PassiveSub c n) = with_some (slot_of s.slots n) (λ t. guard (may_sub s c t) (taken (after_sub s c t) (Word (passive_at s.passive c t))))
-step s (PassiveLook t c) = guard (may_look_passive s t c) (taken (after_look_passive s t c) (Word (passive_at s.passive c t)))
+step s (PassiveAdd c n) = with_some (slot_of s.slots n) (λ t. guard (may_add s c n t) (some_outcome (after_add s c t) (Word (passive_at s.passive c t))))
+step s (PassiveSub c n) = with_some (slot_of s.slots n) (λ t. guard (may_sub s c t) (some_outcome (after_sub s c t) (Word (passive_at s.passive c t))))
+step s (PassiveLook t c) = guard (may_look_passive s t c) (some_outcome (after_look_passive s t c) (Word (passive_at s.passive c t)))
 step s (CountAdd c) = with_some (found_at s c) (count_add s c)
 step s (SplitRef c) = split_ref s c (hand_at s c)
 step s (JoinRef c id) = join_ref s c id
 step s (CountDown c) = count_down s c (hand_at s c)
 step s (SplitBack c) = split_back s c (hand_at s c)
-step s (Collect t c) = guard (may_collect s t c) (taken (after_collect s t c) (Word (count_at s.counts c t)))
+step s (Collect t c) = guard (may_collect s t c) (some_outcome (after_collect s t c) (Word (count_at s.counts c t)))
 step s (TotalAdd t) = total_add s t s.due
 step s (JoinKeeper id) = join_keeper s id
 step s (TotalSub t) = total_sub s t s.due
 step s (Keep t id) = keep s t id
 step s (KeptSub t) = kept_sub s t
-step s (Vacate t) = guard (may_vacate s t) (taken (after_vacate s t) Done)
+step s (Vacate t) = guard (may_vacate s t) (some_outcome (after_vacate s t) Done)
 
 -- the state after an event, which is as it was where the event isn't allowed
 abbrev pub state_after : State → Option Outcome → State

@@ -178,22 +178,22 @@ abbrev pub kept_of : ℕ → Option ℕ → ℕ
 kept_of n None = 0
 kept_of n (Some m) = one_if (m == n)
 
-abbrev pub subtracting_at : ℕ → Due → ℕ
-subtracting_at t Rest = 0
-subtracting_at t (Snapshots u c) = 0
-subtracting_at t (Adding u old) = 0
-subtracting_at t (Subtracting u) = one_if (u == t)
+abbrev pub subtraction_due_at : ℕ → Due → ℕ
+subtraction_due_at t Rest = 0
+subtraction_due_at t (Snapshots u c) = 0
+subtraction_due_at t (Adding u old) = 0
+subtraction_due_at t (Subtracting u) = one_if (u == t)
 
 -- the local references held to the entry n in the slot t (localcount(9))
 abbrev pub held_at : List LocalPlace → List Hand → List (Option ℕ) → Due → ℕ → ℕ → ℕ
-held_at locals hands keeps due n t = sum_by (standing_of n) locals + sum_by (in_hand n) hands + sum_by (kept_of n) keeps + subtracting_at t due
+held_at locals hands keeps due n t = sum_by (standing_of n) locals + sum_by (in_hand n) hands + sum_by (kept_of n) keeps + subtraction_due_at t due
 
 -- what was collected of t and isn't in its total yet, and the bias that came with it
-abbrev pub adding_at : ℕ → Due → ℕ
-adding_at t Rest = 0
-adding_at t (Snapshots u c) = 0
-adding_at t (Adding u old) = if u == t then old else 0
-adding_at t (Subtracting u) = 0
+abbrev pub addition_due_at : ℕ → Due → ℕ
+addition_due_at t Rest = 0
+addition_due_at t (Snapshots u c) = 0
+addition_due_at t (Adding u old) = if u == t then old else 0
+addition_due_at t (Subtracting u) = 0
 
 abbrev pub is_adding_at : ℕ → Due → ℕ
 is_adding_at t Rest = 0
@@ -229,7 +229,7 @@ pub record CountsHold (z : Settings) (slots : List Slot) (marks : List (List Mar
   pub emptied : (c t : ℕ) (e : Entry) → slot_at slots t ≡ Retired e → (mark_at marks t c).collected ≡ true → count_at counts c t ≡ 0
   pub beyond : (c t : ℕ) → z.cpus ≤ c → count_at counts c t ≡ 0
   pub limited : (c t : ℕ) (e : Entry) → IsIn e (slot_at slots t) → count_at nets c t ≤ bias + z.count_limit
-  pub balance : (t : ℕ) (e : Entry) → IsIn e (slot_at slots t) → Balances (slice_index_or counts t []) (total_at totals t) (held_at locals hands keeps due e.number t) (adding_at t due) (is_adding_at t due)
+  pub balance : (t : ℕ) (e : Entry) → IsIn e (slot_at slots t) → Balances (slice_index_or counts t []) (total_at totals t) (held_at locals hands keeps due e.number t) (addition_due_at t due) (is_adding_at t due)
   pub vacant : (t : ℕ) → t < length slots → slot_at slots t ≡ Vacant → total_at totals t ≡ bias
   pub fresh : (c t d : ℕ) → due ≡ Snapshots t d → (mark_at marks t c).collected ≡ false
 

@@ -17,13 +17,13 @@ use Rattle.registry_values.specs.Balances.{bias}
 use Rattle.registry_values.specs.Slots.{slot_at}
 use Rattle.protocol.specs.Events.{Outcome, step, state_after}
 use Rattle.protocol.specs.Invariant.{Holds, IsIn, IsCounting, kept_of, held_at, one_if_used, itself}
-use Rattle.protocol.specs.Ran.{ran, rested}
+use Rattle.protocol.specs.Ran.{run_of_events, empty_run}
 use Rattle.protocol.specs.Model.{IsUnheld, IsModelRun}
 use Rattle.protocol.specs.Picture.{number_in, picture}
 
 -- the state after a list of events; those that aren't allowed are left out
 abbrev pub after : State → List Event → State
-after s events = (ran (rested s) events).state
+after s events = (run_of_events (empty_run s) events).state
 
 -- the state after one event more, allowed or not
 abbrev pub after_event : State → Event → State

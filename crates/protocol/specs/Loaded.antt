@@ -10,25 +10,25 @@ use Rattle.protocol.specs.declared.state.Search.{Search}
 use Rattle.protocol.specs.declared.state.Loaded.{Loaded}
 use Rattle.protocol.specs.declared.state.Loaded.TheVariants.{On, Over}
 use Rattle.protocol.specs.State.{State, no_words, row_at}
-use Rattle.protocol.specs.Events.{Outcome, taken, going_on, search_over}
+use Rattle.protocol.specs.Events.{Outcome, some_outcome, with_search_at, search_over}
 use Rattle.protocol.specs.declared.event.Reply.TheVariants.{Word, Found}
 
 abbrev pub entry_with : Key → ℕ → ℕ → ℕ → Entry
 entry_with key t n value = record { number = n; slot = t; rec = record { kind = key.kind; name = key.name; value = value } }
 
 -- the last word of the name was loaded
-abbrev pub judged : ℕ → ℕ → ℕ → Bool → Loaded
-judged t n l true = On (AtValue t n) l
-judged t n l false = On (AtNext t) l
+abbrev pub loaded_of_name : ℕ → ℕ → ℕ → Bool → Loaded
+loaded_of_name t n l true = On (AtValue t n) l
+loaded_of_name t n l false = On (AtNext t) l
 
-abbrev pub loaded : Search → SearchPlace → RecordWords → Option Loaded
-loaded q AtHead r = None
-loaded q (AtNext t) r = None
-loaded q (AtNumber t) r = Some (On (AtKind t r.number) r.number)
-loaded q (AtKind t n) r = Some (On (AtHigh t n r.kind) r.kind)
-loaded q (AtHigh t n k) r = Some (On (AtLow t n k r.high) r.high)
-loaded q (AtLow t n k h) r = Some (judged t n r.low (are_words_of q.key k h r.low))
-loaded q (AtValue t n) r = Some (Over (entry_with q.key t n r.value))
+abbrev pub loaded_at : Search → SearchPlace → RecordWords → Option Loaded
+loaded_at q AtHead r = None
+loaded_at q (AtNext t) r = None
+loaded_at q (AtNumber t) r = Some (On (AtKind t r.number) r.number)
+loaded_at q (AtKind t n) r = Some (On (AtHigh t n r.kind) r.kind)
+loaded_at q (AtHigh t n k) r = Some (On (AtLow t n k r.high) r.high)
+loaded_at q (AtLow t n k h) r = Some (loaded_of_name t n r.low (are_words_of q.key k h r.low))
+loaded_at q (AtValue t n) r = Some (Over (entry_with q.key t n r.value))
 
 -- the slot that a place is at is below a bound
 abbrev pub SlotWithin : SearchPlace → ℕ → Type 0
@@ -53,5 +53,5 @@ row_of_place rows (AtValue t n) = row_at rows t
 -- what that makes of the core's state
 abbrev pub outcome_of : State → ℕ → Search → Option Loaded → Option Outcome
 outcome_of s c q None = None
-outcome_of s c q (Some (On p w)) = taken (going_on s c q p) (Word w)
-outcome_of s c q (Some (Over e)) = taken (search_over s c (Some e)) (Found e)
+outcome_of s c q (Some (On p w)) = some_outcome (with_search_at s c q p) (Word w)
+outcome_of s c q (Some (Over e)) = some_outcome (search_over s c (Some e)) (Found e)

@@ -11,7 +11,7 @@ use Rattle.registry_values.specs.Limits.{are_fit}
 use Rattle.protocol.specs.State.{State, begin_at, seen_at, search_at, found_at, kept_at, passive_at, opening}
 use Rattle.registry_values.specs.Slots.{slot_at, has_number, slot_of}
 use Rattle.protocol.specs.Invariant.{standing_of, in_hand}
-use Rattle.protocol.specs.Ran.{ran, rested}
+use Rattle.protocol.specs.Ran.{run_of_events, empty_run}
 use Rattle.protocol.specs.Model.{Model, Lookup, empty_model, IsModelRun}
 
 abbrev pub lookup_of : Option Search → Option Lookup
@@ -29,15 +29,15 @@ passive_in passive c None = 0
 passive_in passive c (Some t) = passive_at passive c t
 
 -- a reference that the keeper joined and hasn't subtracted yet
-abbrev pub waiting_of : List Slot → ℕ → Due → ℕ
-waiting_of slots n Rest = 0
-waiting_of slots n (Snapshots t c) = 0
-waiting_of slots n (Adding t old) = 0
-waiting_of slots n (Subtracting t) = if has_number n (slot_at slots t) then 1 else 0
+abbrev pub subtractions_due : List Slot → ℕ → Due → ℕ
+subtractions_due slots n Rest = 0
+subtractions_due slots n (Snapshots t c) = 0
+subtractions_due slots n (Adding t old) = 0
+subtractions_due slots n (Subtracting t) = if has_number n (slot_at slots t) then 1 else 0
 
 -- the local references to n that no slot keeps: live, in a hand, or waiting for the keeper
 abbrev pub locals_of : State → ℕ → ℕ
-locals_of s n = sum_by (standing_of n) s.locals + sum_by (in_hand n) s.hands + waiting_of s.slots n s.due
+locals_of s n = sum_by (standing_of n) s.locals + sum_by (in_hand n) s.hands + subtractions_due s.slots n s.due
 
 abbrev pub picture : State → Model
 picture s = record {
@@ -54,4 +54,4 @@ picture s = record {
 
 -- For fit settings and every list of events, the picture is reached by a run of the model.
 abbrev pub EveryRunIsModelRun : Type 0
-EveryRunIsModelRun = (z : Settings) (events : List Event) → IsTrue (are_fit z) → IsModelRun empty_model (picture (ran (rested (opening z)) events).state)
+EveryRunIsModelRun = (z : Settings) (events : List Event) → IsTrue (are_fit z) → IsModelRun empty_model (picture (run_of_events (empty_run (opening z)) events).state)

@@ -10,13 +10,13 @@ pub record Ran : Type 0 where
   pub counted : Counted
 
 -- one event more, made or left out
-abbrev pub turned : Ran → Option Outcome → Ran
-turned r None = record { state = r.state; counted = record { taken = r.counted.taken; refused = r.counted.refused + 1; last = r.counted.last } }
-turned r (Some o) = record { state = o.state; counted = record { taken = r.counted.taken + 1; refused = r.counted.refused; last = Some o.reply } }
+abbrev pub run_with_event : Ran → Option Outcome → Ran
+run_with_event r None = record { state = r.state; counted = record { taken = r.counted.taken; refused = r.counted.refused + 1; last = r.counted.last } }
+run_with_event r (Some o) = record { state = o.state; counted = record { taken = r.counted.taken + 1; refused = r.counted.refused; last = Some o.reply } }
 
-abbrev pub ran : Ran → List Event → Ran
-ran r [] = r
-ran r (e ∷ es) = ran (turned r (step r.state e)) es
+abbrev pub run_of_events : Ran → List Event → Ran
+run_of_events r [] = r
+run_of_events r (e ∷ es) = run_of_events (run_with_event r (step r.state e)) es
 
-abbrev pub rested : State → Ran
-rested s = record { state = s; counted = record { taken = 0; refused = 0; last = None } }
+abbrev pub empty_run : State → Ran
+empty_run s = record { state = s; counted = record { taken = 0; refused = 0; last = None } }

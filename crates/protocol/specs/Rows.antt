@@ -18,7 +18,7 @@ use Rattle.protocol.specs.State.{State, opening}
 use Rattle.registry_values.specs.Balances.{bias}
 use Rattle.registry_values.specs.Marks.{no_mark}
 use Rattle.protocol.specs.Events.{Outcome, step, state_after, words_of, snapshot_mark}
-use Rattle.protocol.specs.Ran.{ran, rested}
+use Rattle.protocol.specs.Ran.{run_of_events, empty_run}
 use Rattle.protocol.specs.Laws.{after}
 
 abbrev pub reply_of : Option Outcome → Option Reply
@@ -31,16 +31,16 @@ replies s [] = []
 replies s (e ∷ es) = reply_of (step s e) ∷ replies (state_after s (step s e)) es
 
 -- so many times Done
-abbrev pub done : ℕ → List (Option Reply)
-done n = replicate n (Some Done)
+abbrev pub done_replies : ℕ → List (Option Reply)
+done_replies n = replicate n (Some Done)
 
 -- one reply
 abbrev pub loads : ℕ → List (Option Reply)
 loads w = Some (Word w) ∷ []
 
 -- an attach of the entry e by c: its words, the count words of all CPUs, its link and the link to it, and a note
-abbrev pub attaching : ℕ → Entry → ℕ → List Event → List Event
-attaching c e link counts = StoreSlot e.slot 0 e.number ∷ StoreSlot e.slot 1 (kind_word e.rec.kind) ∷ StoreSlot e.slot 2 e.rec.name.high ∷ StoreSlot e.slot 3 e.rec.name.low ∷ StoreSlot e.slot 4 e.rec.value
+abbrev pub attach_events : ℕ → Entry → ℕ → List Event → List Event
+attach_events c e link counts = StoreSlot e.slot 0 e.number ∷ StoreSlot e.slot 1 (kind_word e.rec.kind) ∷ StoreSlot e.slot 2 e.rec.name.high ∷ StoreSlot e.slot 3 e.rec.name.low ∷ StoreSlot e.slot 4 e.rec.value
     ∷ (counts ++ StoreNext e.slot link ∷ Publish e.slot ∷ Tell None ∷ Hear (Some c) ∷ [])
 
 -- the events lead from one state to the other, and these are their replies
@@ -75,29 +75,29 @@ abbrev pub third : Entry
 third = driver 3 2 wm2 12
 
 -- the detach of the slot t by CPU 1
-abbrev pub detaching : ℕ → List Event
-detaching t = Unpublish t ∷ Snapshot (Some t) 0 ∷ Snapshot (Some t) 1 ∷ Tell None ∷ Hear (Some 1) ∷ []
+abbrev pub detach_events : ℕ → List Event
+detach_events t = Unpublish t ∷ Snapshot (Some t) 0 ∷ Snapshot (Some t) 1 ∷ Tell None ∷ Hear (Some 1) ∷ []
 
 -- what advance tries for the slot t: CPU 0 hasn't passed
-abbrev pub trying : ℕ → List Event
-trying t = Look (Some t) 0 ∷ PassiveLook t 0 ∷ Collect t 0 ∷ Vacate t ∷ []
+abbrev pub try_events : ℕ → List Event
+try_events t = Look (Some t) 0 ∷ PassiveLook t 0 ∷ Collect t 0 ∷ Vacate t ∷ []
 
-abbrev pub tried : List (Option Reply)
-tried = Some (Word 1) ∷ None ∷ None ∷ None ∷ []
+abbrev pub try_replies : List (Option Reply)
+try_replies = Some (Word 1) ∷ None ∷ None ∷ None ∷ []
 
 -- the freeing of the slot t
-abbrev pub freeing : ℕ → List Event
-freeing t = Look (Some t) 0 ∷ Look (Some t) 1 ∷ PassiveLook t 0 ∷ PassiveLook t 1 ∷ Collect t 0 ∷ TotalAdd t ∷ Collect t 1 ∷ TotalAdd t ∷ Vacate t ∷ []
+abbrev pub free_events : ℕ → List Event
+free_events t = Look (Some t) 0 ∷ Look (Some t) 1 ∷ PassiveLook t 0 ∷ PassiveLook t 1 ∷ Collect t 0 ∷ TotalAdd t ∷ Collect t 1 ∷ TotalAdd t ∷ Vacate t ∷ []
 
-abbrev pub freed : List (Option Reply)
-freed = Some (Word 2) ∷ Some (Word 0) ∷ Some (Word 0) ∷ Some (Word 0) ∷ Some (Word bias) ∷ Some Done ∷ Some (Word bias) ∷ Some Done ∷ Some Done ∷ []
+abbrev pub free_replies : List (Option Reply)
+free_replies = Some (Word 2) ∷ Some (Word 0) ∷ Some (Word 0) ∷ Some (Word 0) ∷ Some (Word bias) ∷ Some Done ∷ Some (Word bias) ∷ Some Done ∷ Some Done ∷ []
 
 -- wm0, wm1 and wm2 are attached in the slots 0, 1 and 2
 abbrev pub attaches : List Event
 attaches = Seat 0 ∷ Seat 1
-    ∷ (attaching 1 first 0 (StoreSlot 0 5 bias ∷ StoreSlot 0 6 bias ∷ [])
-    ++ attaching 1 second 1 (StoreSlot 1 5 bias ∷ StoreSlot 1 6 bias ∷ [])
-    ++ attaching 1 third 2 (StoreSlot 2 5 bias ∷ StoreSlot 2 6 bias ∷ []))
+    ∷ (attach_events 1 first 0 (StoreSlot 0 5 bias ∷ StoreSlot 0 6 bias ∷ [])
+    ++ attach_events 1 second 1 (StoreSlot 1 5 bias ∷ StoreSlot 1 6 bias ∷ [])
+    ++ attach_events 1 third 2 (StoreSlot 2 5 bias ∷ StoreSlot 2 6 bias ∷ []))
 
 abbrev pub all_three : State
 all_three = record (opening two_cpus) {
@@ -116,8 +116,8 @@ all_three = record (opening two_cpus) {
 abbrev pub search_begins : List Event
 search_begins = Enter 0 ∷ Seek 0 Driver wm0 ∷ LoadLink 0 ∷ LoadRecord (OfSearch 0) ∷ LoadRecord (OfSearch 0) ∷ LoadRecord (OfSearch 0) ∷ LoadRecord (OfSearch 0) ∷ LoadLink 0 ∷ LoadRecord (OfSearch 0) ∷ LoadRecord (OfSearch 0) ∷ []
 
-abbrev pub searching : State
-searching = record all_three {
+abbrev pub search_case : State
+search_case = record all_three {
   section = 1 ∷ 0 ∷ [];
   begins = Some 3 ∷ None ∷ [];
   depths = 1 ∷ 0 ∷ [];
@@ -127,14 +127,14 @@ searching = record all_three {
 
 -- wm1 and then wm0 are detached, and neither slot is freed: CPU 0 hasn't passed
 abbrev pub detaches : List Event
-detaches = detaching 1 ++ detaching 0 ++ trying 1 ++ trying 0
+detaches = detach_events 1 ++ detach_events 0 ++ try_events 1 ++ try_events 0
 
 abbrev pub marks_taken : List Mark
 marks_taken = snapshot_mark 1 ∷ snapshot_mark 0 ∷ replicate 6 no_mark
 
 -- the link of wm1 is frozen
-abbrev pub unlinked : State
-unlinked = record searching {
+abbrev pub unlinked_case : State
+unlinked_case = record search_case {
   next = 0 ∷ 1 ∷ 0 ∷ [];
   history = Attach first ∷ Attach second ∷ Attach third ∷ Detach 2 ∷ Detach 1 ∷ [];
   seen = 3 ∷ 5 ∷ [];
@@ -147,19 +147,19 @@ abbrev pub search_goes_on : List Event
 search_goes_on = LoadRecord (OfSearch 0) ∷ LoadRecord (OfSearch 0) ∷ LoadLink 0 ∷ LoadRecord (OfSearch 0) ∷ LoadRecord (OfSearch 0) ∷ LoadRecord (OfSearch 0) ∷ LoadRecord (OfSearch 0) ∷ LoadRecord (OfSearch 0) ∷ []
 
 abbrev pub has_found : State
-has_found = record unlinked { seen = 5 ∷ 5 ∷ []; searches = None ∷ None ∷ []; found = Some first ∷ None ∷ [] }
+has_found = record unlinked_case { seen = 5 ∷ 5 ∷ []; searches = None ∷ None ∷ []; found = Some first ∷ None ∷ [] }
 
 -- after its exit both slots are freed
 abbrev pub frees : List Event
-frees = Exit 0 ∷ (freeing 1 ++ freeing 0)
+frees = Exit 0 ∷ (free_events 1 ++ free_events 0)
 
 -- the row frozen-link
 pub record FrozenLink : Type 0 where
-  pub attached : Gives (opening two_cpus) attaches (done 35) all_three
-  pub begun : Gives all_three search_begins (done 2 ++ loads 3 ++ loads 3 ++ loads 2 ++ loads wm2.high ++ loads 0 ++ loads 2 ++ loads 2 ++ loads 2) searching
-  pub detached : Gives searching detaches (done 1 ++ loads 1 ++ loads 0 ++ done 3 ++ loads 1 ++ loads 0 ++ done 2 ++ tried ++ tried) unlinked
-  pub gone_on : Gives unlinked search_goes_on (loads wm1.high ++ loads 0 ++ loads 1 ++ loads 1 ++ loads 2 ++ loads wm0.high ++ loads 0 ++ Some (Found first) ∷ []) has_found
-  pub is_freed : replies has_found frees ≡ Some Done ∷ (freed ++ freed)
+  pub attached : Gives (opening two_cpus) attaches (done_replies 35) all_three
+  pub begun : Gives all_three search_begins (done_replies 2 ++ loads 3 ++ loads 3 ++ loads 2 ++ loads wm2.high ++ loads 0 ++ loads 2 ++ loads 2 ++ loads 2) search_case
+  pub detached : Gives search_case detaches (done_replies 1 ++ loads 1 ++ loads 0 ++ done_replies 3 ++ loads 1 ++ loads 0 ++ done_replies 2 ++ try_replies ++ try_replies) unlinked_case
+  pub gone_on : Gives unlinked_case search_goes_on (loads wm1.high ++ loads 0 ++ loads 1 ++ loads 1 ++ loads 2 ++ loads wm0.high ++ loads 0 ++ Some (Found first) ∷ []) has_found
+  pub is_freed : replies has_found frees ≡ Some Done ∷ (free_replies ++ free_replies)
   pub are_vacant : (after has_found frees).slots ≡ Vacant ∷ Vacant ∷ Live third ∷ []
 
 -- Collect race
@@ -174,13 +174,13 @@ abbrev pub wm_entry : Entry
 wm_entry = driver 1 0 wm 7
 
 -- wm is attached with the value 7, found, counted, and detached after the exit
-abbrev pub counted_and_detached : List Event
-counted_and_detached = Seat 0 ∷ (attaching 0 wm_entry 0 (StoreSlot 0 5 bias ∷ [])
+abbrev pub count_and_detach_events : List Event
+count_and_detach_events = Seat 0 ∷ (attach_events 0 wm_entry 0 (StoreSlot 0 5 bias ∷ [])
     ++ Enter 0 ∷ Seek 0 Driver wm ∷ LoadLink 0 ∷ LoadRecord (OfSearch 0) ∷ LoadRecord (OfSearch 0) ∷ LoadRecord (OfSearch 0) ∷ LoadRecord (OfSearch 0) ∷ LoadRecord (OfSearch 0)
     ∷ CountAdd 0 ∷ SplitRef 0 ∷ Exit 0 ∷ Unpublish 0 ∷ Snapshot (Some 0) 0 ∷ [])
 
 abbrev pub before_race : State
-before_race = after (opening one_cpu) counted_and_detached
+before_race = after (opening one_cpu) count_and_detach_events
 
 -- the CPU has the reference in its hand when its word is collected
 abbrev pub race_events : List Event
@@ -188,6 +188,6 @@ race_events = Look (Some 0) 0 ∷ PassiveLook 0 0 ∷ JoinRef 0 0 ∷ Collect 0 
 
 -- the row collect-race
 pub record CollectRace : Type 0 where
-  pub detached : replies (opening one_cpu) counted_and_detached ≡ done 13 ++ loads 1 ++ loads 1 ++ loads 2 ++ loads wm.high ++ loads 0 ++ Some (Found wm_entry) ∷ loads bias ++ Some (Ref 0) ∷ Some Done ∷ Some Done ∷ loads 2
+  pub detached : replies (opening one_cpu) count_and_detach_events ≡ done_replies 13 ++ loads 1 ++ loads 1 ++ loads 2 ++ loads wm.high ++ loads 0 ++ Some (Found wm_entry) ∷ loads bias ++ Some (Ref 0) ∷ Some Done ∷ Some Done ∷ loads 2
   pub race : replies before_race race_events ≡ Some (Word 2) ∷ Some (Word 0) ∷ Some Done ∷ Some (Word 281474976710657) ∷ Some Collected ∷ Some Done ∷ None ∷ Some (Ref 0) ∷ Some Done ∷ Some Done ∷ Some Done ∷ []
-  pub counted : (ran (rested before_race) race_events).counted ≡ record { taken = 10; refused = 1; last = Some Done }
+  pub counted : (run_of_events (empty_run before_race) race_events).counted ≡ record { taken = 10; refused = 1; last = Some Done }

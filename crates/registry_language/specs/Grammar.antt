@@ -9,7 +9,7 @@ use Rattle.registry_values.specs.declared.entry.Kind.{Kind}
 use Rattle.registry_values.specs.declared.entry.Kind.TheVariants.{Iface, Driver}
 use Rattle.registry_values.specs.declared.name.Name.{Name}
 use Rattle.registry_values.specs.declared.name.NameFault.{NameFault}
-use Rattle.registry_values.specs.Names.{named}
+use Rattle.registry_values.specs.Names.{name_of_bytes}
 use Rattle.registry_language.specs.declared.label.Label.{Label}
 use Rattle.registry_language.specs.declared.position.Position.{Position}
 use Rattle.registry_language.specs.declared.position.Position.TheVariants.{First, Second, Later}
@@ -63,14 +63,14 @@ label_of (b ∷ []) = if is_ascii_lowercase b then Ok (record { place = b - 97 }
 label_of _ = Err BadLabel
 
 -- settings out of their ranges come after all other causes
-abbrev pub fitting : Settings → Command → Result Command Cause
-fitting s command = if are_fit s then Ok command else Err BadSettings
+abbrev pub fit_command : Settings → Command → Result Command Cause
+fit_command s command = if are_fit s then Ok command else Err BadSettings
 
 unfoldable pub domain_of : List (List ℕ) → Result Command Cause
 domain_of (cpus ∷ slots ∷ []) = do
   c ← or_cause (number_of cpus) BadNumber
   s ← or_cause (number_of slots) BadNumber
-  fitting (settings_for c s) (Domain c s)
+  fit_command (settings_for c s) (Domain c s)
 domain_of _ = Err WrongCount
 
 -- word by word from the left
@@ -80,7 +80,7 @@ limits_words s changes sections passive count = do
   se ← or_cause (number_of sections) BadNumber
   pa ← or_cause (number_of passive) BadNumber
   co ← or_cause (number_of count) BadNumber
-  fitting (with_limits s ch se pa co) (Limits ch se pa co)
+  fit_command (with_limits s ch se pa co) (Limits ch se pa co)
 
 abbrev pub limits_of : Settings → List (List ℕ) → Result Command Cause
 limits_of s (changes ∷ sections ∷ passive ∷ count ∷ []) = limits_words s changes sections passive count
@@ -90,7 +90,7 @@ unfoldable pub attach_words : Settings → List ℕ → List ℕ → List ℕ �
 attach_words s cpu kind name value = do
   c ← cpu_of s.cpus cpu
   k ← kind_of kind
-  n ← name_if (named name)
+  n ← name_if (name_of_bytes name)
   v ← or_cause (number_of value) BadNumber
   Ok (Attach c (record { kind = k; name = n; value = v }))
 
@@ -102,7 +102,7 @@ attach_of s _ = Err WrongCount
 unfoldable pub plug_words : Settings → List ℕ → List ℕ → List ℕ → List ℕ → Result Command Cause
 plug_words s cpu name value label = do
   c ← cpu_of s.cpus cpu
-  n ← name_if (named name)
+  n ← name_if (name_of_bytes name)
   v ← or_cause (number_of value) BadNumber
   x ← label_of label
   Ok (Plug c (record { kind = Iface; name = n; value = v }) x)
@@ -115,7 +115,7 @@ unfoldable pub detach_words : Settings → List ℕ → List ℕ → List ℕ �
 detach_words s cpu kind name = do
   c ← cpu_of s.cpus cpu
   k ← kind_of kind
-  n ← name_if (named name)
+  n ← name_if (name_of_bytes name)
   Ok (Detach c k n)
 
 abbrev pub detach_of : Settings → List (List ℕ) → Result Command Cause
@@ -138,7 +138,7 @@ unfoldable pub find_words : Settings → List ℕ → List ℕ → List ℕ → 
 find_words s cpu kind name = do
   c ← cpu_of s.cpus cpu
   k ← kind_of kind
-  n ← name_if (named name)
+  n ← name_if (name_of_bytes name)
   Ok (Find c k n)
 
 abbrev pub find_of : Settings → List (List ℕ) → Result Command Cause
@@ -306,9 +306,9 @@ program_of First commands = Err (record { line = 1; cause = NoDomain })
 program_of (Second s) commands = Ok (record { settings = s; commands = commands })
 program_of (Later s) commands = Ok (record { settings = s; commands = commands })
 
-abbrev pub finished : Plan → Result Program ScriptFault
-finished plan = program_of plan.place plan.commands
+abbrev pub program_of_plan : Plan → Result Program ScriptFault
+program_of_plan plan = program_of plan.place plan.commands
 
 -- what the bytes of a script say, or their first fault
-unfoldable pub parsed : List ℕ → Result Program ScriptFault
-parsed text = if nat_lt 65536 (length text) then Err (record { line = 1; cause = TooLong }) else (plan_of 1 blank (lines_of text) >>= finished)
+unfoldable pub program_of_bytes : List ℕ → Result Program ScriptFault
+program_of_bytes text = if nat_lt 65536 (length text) then Err (record { line = 1; cause = TooLong }) else (plan_of 1 blank (lines_of text) >>= program_of_plan)

@@ -4,7 +4,7 @@ ghost use Rattle.std.specs.Prelude.{◌≡◌, ◌+◌, ◌<◌, ◌≤◌, ◌^
 ghost use Rattle.std.specs.List.{list_all};
 ghost use Rattle.registry_values.specs.Limits.{are_fit};
 ghost use Rattle.registry_language.specs.Program.{Program, Plan, blank, suits, may_follow, with_command};
-ghost use Rattle.registry_language.specs.Grammar.{line_of, plan_of, finished, parsed};
+ghost use Rattle.registry_language.specs.Grammar.{line_of, plan_of, program_of_plan, program_of_bytes};
 ghost use Rattle.registry_language.specs.Parsing.{LineTakes, LineGives, ParseGives};
 
 use super::command::Command;
@@ -101,7 +101,7 @@ impl Draft {
     }
 
     fn finish(self) -> Result<Script, ScriptFault>
-        ensures { result ≡ finished self }
+        ensures { result ≡ program_of_plan self }
     {
         let Draft { place, commands } = self;
         match place {
@@ -118,9 +118,9 @@ impl Draft {
 }
 
 /// The script that the bytes say, or its first fault.
-#[tactic(auto, unfolding(crate::specs::Grammar::parsed))]
+#[tactic(auto, unfolding(crate::specs::Grammar::program_of_bytes))]
 pub fn parse_script(alloc: Global, text: &[u8]) -> Result<Script, ParseFault>
-    ensures { ParseGives result (parsed text.now) }
+    ensures { ParseGives result (program_of_bytes text.now) }
 {
     if text.len() > 65_536 {
         let fault = ScriptFault {

@@ -1,5 +1,5 @@
 -- The CPUs of a registry that was just opened are all of them.
-use Rattle.std.proofs.Common.{◌≡◌, ◌<◌, List, sym, ap, ◌∙◌, arith}
+use Rattle.std.proofs.Common.{◌≡◌, ◌<◌, List, [], sym, ap, ◌∙◌, arith}
 use mathlib.Core.Option.{some-injective}
 use Rattle.registry_values.specs.declared.settings.Settings.{Settings}
 use Rattle.cpu_words.specs.Views.{new_cpu}
@@ -13,5 +13,5 @@ new_are_all z xs new = record {
   count = new.count;
   each = λ c x at.
       let below : c < z.cpus = omega (arith, (cpu_at xs c x x at).0, new.count) in
-      ap (λ (y : OnCpu). y.view.id) (some-injective x (record { view = new_cpu z c; depth = 0; made = 0 }) (sym at ∙ new.each c below));
+      ap (λ (y : OnCpu). y.view.id) (some-injective x (record { view = new_cpu z c; depth = 0; made = 0; deeds = [] }) (sym at ∙ new.each c below));
 }

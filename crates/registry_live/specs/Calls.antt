@@ -22,14 +22,14 @@ abbrev pub why_outside : OnCpu → Option Hitch
 why_outside x = if is_inside x then None else Some NotInside
 
 -- the call is refused
-abbrev pub refused_by : Option Refusal → Option Hitch
-refused_by None = None
-refused_by (Some f) = Some (Refused f)
+abbrev pub hitch_of : Option Refusal → Option Hitch
+hitch_of None = None
+hitch_of (Some f) = Some (Refused f)
 
 -- the place to be filled is taken, or else the call is refused
 abbrev pub unless_taken : Bool → Option Refusal → Option Hitch
 unless_taken true why = Some LabelTaken
-unless_taken false why = refused_by why
+unless_taken false why = hitch_of why
 
 -- the place is free, or else what stands against the use of its reference
 abbrev pub unless_free : {X : Type 0} → Option X → (X → Option Hitch) → Option Hitch

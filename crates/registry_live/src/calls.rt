@@ -13,7 +13,7 @@ ghost use Rattle.registry_values.specs.declared.entry.Record.{Record};
 ghost use Rattle.passive_list.specs.Lookups.{HasFound};
 ghost use Rattle.passive_list.specs.Sections.{HasExitedOn};
 ghost use Rattle.passive_ref.specs.Psrefs.{HasOneLess, IsAcquired, IsCopied, IsRead, why_not_acquired, why_not_copied, why_unusable};
-ghost use Rattle.registry_live.specs.Calls.{Decides, Has, IsPlugHitch, refused_by, unless_free, unless_taken, why_outside};
+ghost use Rattle.registry_live.specs.Calls.{Decides, Has, IsPlugHitch, hitch_of, unless_free, unless_taken, why_outside};
 
 use cpu_words::{Domain, Words};
 use local_count::{LocalRef, acquire_local};
@@ -126,7 +126,7 @@ pub fn read_by<D: Domain>(
     place: &Option<Psref>,
 ) -> Result<Reading, Hitch>
     requires words { AreWordsOf words.now D.table D.settings }
-    ensures answer { Decides (unless_free place.now (λ p. refused_by (why_unusable cpu.old.view p))) (λ seen. Has place.now (λ p. (seen.number ≡ p.number) × (rec : Record) × IsRead cpu.old.view p.number rec × (seen.value ≡ rec.value))) result }
+    ensures answer { Decides (unless_free place.now (λ p. hitch_of (why_unusable cpu.old.view p))) (λ seen. Has place.now (λ p. (seen.number ≡ p.number) × (rec : Record) × IsRead cpu.old.view p.number rec × (seen.value ≡ rec.value))) result }
     ensures same { cpu.new ≡ cpu.old }
 {
     let Some(psref) = place else {
@@ -147,7 +147,7 @@ pub fn let_go<D: Domain>(
     place: &mut Option<Psref>,
 ) -> Result<u64, Hitch>
     requires words { AreWordsOf words.now D.table D.settings }
-    ensures answer { Decides (unless_free place.old (λ p. refused_by (why_unusable cpu.old.view p))) (λ n. Has place.old (λ p. (p.number ≡ n) × HasOneLess n cpu.old cpu.new)) result }
+    ensures answer { Decides (unless_free place.old (λ p. hitch_of (why_unusable cpu.old.view p))) (λ n. Has place.old (λ p. (p.number ≡ n) × HasOneLess n cpu.old cpu.new)) result }
     ensures free { IfOk result (λ _. place.new ≡ None) }
     ensures refused { IfErr result (λ _. (place.new ≡ place.old) × (cpu.new ≡ cpu.old)) }
     ensures id { cpu.new.view.id ≡ cpu.old.view.id }

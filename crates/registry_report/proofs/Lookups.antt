@@ -14,7 +14,7 @@ use Rattle.protocol.specs.Events.{is_number}
 use Rattle.protocol.proofs.history.History.{ends_after, one_end, one_live, at_within}
 use Rattle.registry_values.proofs.Slots.{key_from, key_same}
 use Rattle.protocol.proofs.slots.Numbers.{position_fails}
-use Rattle.registry_report.specs.Changes.{answer_after, lookup, is_end_of, end_of, counted_on, entry_of, attached_by}
+use Rattle.registry_report.specs.Changes.{answer_after, lookup, is_end_of, end_of, place_after, entry_of, entry_of_attach}
 
 -- One change more
 
@@ -134,7 +134,7 @@ end_at h n i at =
     let found = position-Some (is_end_of n) h i (Detach n) at in
     slice_get-get_or h i (Detach n) found.0 ∙ ap (λ (x : Change). Some x) (end_from n (get_or h i (Detach n)) found.1)
 
-counted_from : (o : Option ℕ) (p : ℕ) → counted_on o ≡ Some p → (i : ℕ) × (o ≡ Some i) × (p ≡ suc i)
+counted_from : (o : Option ℕ) (p : ℕ) → place_after o ≡ Some p → (i : ℕ) × (o ≡ Some i) × (p ≡ suc i)
 counted_from None p is = absurd (none-some p is)
 counted_from (Some i) p is = (i, refl, same_Some p (suc i) (sym is))
 
@@ -149,7 +149,7 @@ unfolding change_at
 ends_position h n zero x = absurd (none-some (Detach n) x)
 ends_position h n (suc i) x = (i, refl, (let w = (at_within h (suc i) (Detach n) x).1 in omega arith), x)
 
-end_somewhere : (h : List Change) → IsLegal h → (n p : ℕ) → EndsAt h n p → (o : Option ℕ) → position (is_end_of n) h ≡ o → counted_on o ≡ Some p
+end_somewhere : (h : List Change) → IsLegal h → (n p : ℕ) → EndsAt h n p → (o : Option ℕ) → position (is_end_of n) h ≡ o → place_after o ≡ Some p
 end_somewhere h legal n p x None at =
     let w = ends_position h n p x in
     let here : is_end_of n (get_or h w.0 (Detach n)) ≡ true = ap (is_end_of n) (get_or_from_slice_get h w.0 (Detach n) (Detach n) w.3) ∙ eq-eqb n n refl in
@@ -162,4 +162,4 @@ end_is h legal n p x = end_somewhere h legal n p x (position (is_end_of n) h) re
 
 -- The entry with a number is the one attached.
 pub entry_is : (h : List Change) (e : Entry) → IsAttached h e → entry_of h e.number ≡ Some e
-entry_is h e att = ap attached_by att
+entry_is h e att = ap entry_of_attach att

@@ -22,9 +22,9 @@ use Rattle.registry_report.specs.Changes.{lookup, is_driver_number, value_of, en
 use Rattle.registry_report.specs.Registry.{Registry}
 
 -- a call's answer, as a command's
-abbrev pub hitched : {X : Type 0} → Result X Refusal → Result X Hitch
-hitched (Ok x) = Ok x
-hitched (Err f) = Err (Refused f)
+abbrev pub command_answer : {X : Type 0} → Result X Refusal → Result X Hitch
+command_answer (Ok x) = Ok x
+command_answer (Err f) = Err (Refused f)
 
 -- a refusal, if there is one, else the answer
 abbrev pub unless : {X E : Type 0} → Option E → Result X E → Result X E
@@ -72,7 +72,7 @@ if_free None answer = answer
 if_free (Some l) answer = Err LabelTaken
 
 abbrev pub plug_answer : Registry → ℕ → Record → ℕ → Result Entry Hitch
-plug_answer r c rec x = with_label (r.local_labels x) (λ d. hitched (attach_iface_answer r c rec d))
+plug_answer r c rec x = with_label (r.local_labels x) (λ d. command_answer (attach_iface_answer r c rec d))
 
 abbrev pub detach_answer : Registry → ℕ → Key → Result Entry Refusal
 detach_answer r c key = answers.detach_answer (is_inside r c) (lookup_now r key)
@@ -108,22 +108,22 @@ abbrev pub misuse : Registry → ℕ → CorePsref → Option Refusal
 misuse r c p = answers.why_unusable (p.cpu == c) (nat_lt 0 (r.model.passive c p.number))
 
 abbrev pub reference_answer : Registry → ℕ → ℕ → Result ℕ Hitch
-reference_answer r c a = if_free (r.passive_labels a) (hitched (acquire_answer r c (r.model.found c)))
+reference_answer r c a = if_free (r.passive_labels a) (command_answer (acquire_answer r c (r.model.found c)))
 
 abbrev pub copy_answer : Registry → ℕ → ℕ → ℕ → Result ℕ Hitch
-copy_answer r c a b = with_label (r.passive_labels a) (λ p. if_free (r.passive_labels b) (hitched (unless (misuse r c p) (one_more r c p.number))))
+copy_answer r c a b = with_label (r.passive_labels a) (λ p. if_free (r.passive_labels b) (command_answer (unless (misuse r c p) (one_more r c p.number))))
 
 abbrev pub held_answer : Registry → ℕ → ℕ → Result Bool Hitch
 held_answer r c a = with_label (r.passive_labels a) (λ p. Ok (nat_lt 0 (r.model.passive c p.number)))
 
-abbrev pub reading : Registry → ℕ → Reading
-reading r n = record { number = n; value = value_of r.model.history n }
+abbrev pub reading_of : Registry → ℕ → Reading
+reading_of r n = record { number = n; value = value_of r.model.history n }
 
 abbrev pub read_answer : Registry → ℕ → ℕ → Result Reading Hitch
-read_answer r c a = with_label (r.passive_labels a) (λ p. hitched (unless (misuse r c p) (Ok (reading r p.number))))
+read_answer r c a = with_label (r.passive_labels a) (λ p. command_answer (unless (misuse r c p) (Ok (reading_of r p.number))))
 
 abbrev pub release_answer : Registry → ℕ → ℕ → Result ℕ Hitch
-release_answer r c a = with_label (r.passive_labels a) (λ p. hitched (unless (misuse r c p) (Ok p.number)))
+release_answer r c a = with_label (r.passive_labels a) (λ p. command_answer (unless (misuse r c p) (Ok p.number)))
 
 -- Local references
 
@@ -131,15 +131,15 @@ release_answer r c a = with_label (r.passive_labels a) (λ p. hitched (unless (m
 abbrev pub why_uncounted : Registry → ℕ → ℕ → Option Refusal
 why_uncounted r c n = answers.why_uncounted (r.acquired c n) (r.released c n + r.settings.count_limit)
 
-abbrev pub counted : Registry → ℕ → Option Entry → Result ℕ Refusal
-counted r c None = Err refusal.NothingFound
-counted r c (Some e) = unless (why_uncounted r c e.number) (Ok e.number)
+abbrev pub count_of_found : Registry → ℕ → Option Entry → Result ℕ Refusal
+count_of_found r c None = Err refusal.NothingFound
+count_of_found r c (Some e) = unless (why_uncounted r c e.number) (Ok e.number)
 
 abbrev pub count_answer : Registry → ℕ → ℕ → Result ℕ Hitch
-count_answer r c x = if_free (r.local_labels x) (hitched (counted r c (r.model.found c)))
+count_answer r c x = if_free (r.local_labels x) (command_answer (count_of_found r c (r.model.found c)))
 
 abbrev pub peek_answer : Registry → ℕ → Result Reading Hitch
-peek_answer r x = with_label (r.local_labels x) (λ n. Ok (reading r n))
+peek_answer r x = with_label (r.local_labels x) (λ n. Ok (reading_of r n))
 
 abbrev pub uncount_answer : Registry → ℕ → Result ℕ Hitch
 uncount_answer r x = with_label (r.local_labels x) (λ n. Ok n)
@@ -156,8 +156,8 @@ count_below p zero = 0
 count_below p (suc n) = count_below p n + one_if (p n)
 
 -- the local references to n, those that slots keep among them
-abbrev pub held : Registry → ℕ → ℕ
-held r n = r.model.locals n + count_below (λ t. is_this n (r.model.keeps t)) r.settings.slots
+abbrev pub held_count : Registry → ℕ → ℕ
+held_count r n = r.model.locals n + count_below (λ t. is_this n (r.model.keeps t)) r.settings.slots
 
 abbrev pub has_section : Registry → ℕ → ℕ → Bool
 has_section r n c = may_hold (r.model.sections c) (end_of r.model.history n)
@@ -167,7 +167,7 @@ has_passive r n c = nat_lt 0 (r.model.passive c n)
 
 -- what stands between the retired entry n in the slot t and the freeing of t
 abbrev pub plain_stage : Registry → ℕ → ℕ → Stage
-plain_stage r n t = stage_of t (least_below (has_section r n) r.settings.cpus) (least_below (has_passive r n) r.settings.cpus) (held r n)
+plain_stage r n t = stage_of t (least_below (has_section r n) r.settings.cpus) (least_below (has_passive r n) r.settings.cpus) (held_count r n)
 
 -- the slot whose occupant is n
 abbrev pub slot_of : Registry → ℕ → Option ℕ
@@ -201,10 +201,10 @@ list_below f (suc n) = list_below f n ++ f n ∷ []
 
 -- what was drained, or what was given up, with a minus
 abbrev pub total_of : Registry → ℕ → ℤ
-total_of r n = if r.drained n then pos (held r n) else neg_ℤ (pos (r.given_up n))
+total_of r n = if r.drained n then pos (held_count r n) else neg_ℤ (pos (r.given_up n))
 
 abbrev pub tally_of : Registry → ℕ → ℕ → Tally
-tally_of r n t = record { number = n; slot = t; held = pos (held r n); locals = list_below (net_count r n) r.settings.cpus; total = total_of r n }
+tally_of r n t = record { number = n; slot = t; held = pos (held_count r n); locals = list_below (net_count r n) r.settings.cpus; total = total_of r n }
 
 abbrev pub tallies_in : Registry → ℕ → Option ℕ → List Tally
 tallies_in r t None = []

@@ -19,14 +19,14 @@ abbrev pub lookup : List Change → Key → ℕ → Option Entry
 lookup h key zero = None
 lookup h key (suc k) = answer_after key (lookup h key k) (change_at h (suc k))
 
-abbrev pub attached_by : Option Change → Option Entry
-attached_by None = None
-attached_by (Some (Attach e)) = Some e
-attached_by (Some (Detach n)) = None
+abbrev pub entry_of_attach : Option Change → Option Entry
+entry_of_attach None = None
+entry_of_attach (Some (Attach e)) = Some e
+entry_of_attach (Some (Detach n)) = None
 
 -- the entry with this number
 abbrev pub entry_of : List Change → ℕ → Option Entry
-entry_of h n = attached_by (change_at h n)
+entry_of h n = entry_of_attach (change_at h n)
 
 abbrev pub is_driver_entry : Option Entry → Bool
 is_driver_entry None = false
@@ -47,13 +47,13 @@ abbrev pub is_end_of : ℕ → Change → Bool
 is_end_of n (Attach e) = false
 is_end_of n (Detach m) = m == n
 
-abbrev pub counted_on : Option ℕ → Option ℕ
-counted_on None = None
-counted_on (Some i) = Some (suc i)
+abbrev pub place_after : Option ℕ → Option ℕ
+place_after None = None
+place_after (Some i) = Some (suc i)
 
 -- the position of the end of the entry with this number
 abbrev pub end_of : List Change → ℕ → Option ℕ
-end_of h n = counted_on (position (is_end_of n) h)
+end_of h n = place_after (position (is_end_of n) h)
 
 abbrev pub has_ended : List Change → ℕ → Bool
 has_ended h n = is_some (end_of h n)

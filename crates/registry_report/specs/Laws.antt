@@ -7,13 +7,13 @@ use Rattle.protocol.specs.History.{EndsAt, IsLegal, IsLookup}
 use Rattle.protocol.specs.Model.{empty_model, IsModelRun}
 use Rattle.registry_report.specs.Changes.{end_of, lookup}
 use Rattle.registry_language.specs.Program.{Program, IsProgram}
-use Rattle.registry_report.specs.Registry.{opened}
+use Rattle.registry_report.specs.Registry.{opening_registry}
 use Rattle.registry_report.specs.Report.{after}
 use Rattle.registry_report.specs.Sound.{after_each}
 
 -- Over the commands of every script the registry's model is reached by a run of lawful steps, from the one in which nothing has happened.
 abbrev pub ReportIsModelRun : Type 0
-ReportIsModelRun = (p : Program) → IsProgram p → IsModelRun empty_model (after_each after (opened p.settings) p.commands).model
+ReportIsModelRun = (p : Program) → IsProgram p → IsModelRun empty_model (after_each after (opening_registry p.settings) p.commands).model
 
 -- What is computed change by change is the lookup of the history at each point.
 abbrev pub LookupIsExact : Type 0

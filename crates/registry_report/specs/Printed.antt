@@ -11,7 +11,7 @@ use Rattle.registry_report.specs.declared.session.Reading.{Reading}
 use Rattle.registry_language.specs.declared.command.Command.{Command}
 use Rattle.registry_language.specs.declared.command.Command.TheVariants.{Domain, Limits, Attach, Plug, Detach, Enter, Exit, Find, Reference, Copy, Held, Read, Release, Count, Peek, Uncount, Advance, Destroy, Perform, Audit}
 use Rattle.registry_report.specs.Lines.{domain_line, limits_line, attached_line, retired_line, section_line, found_line, reference_line, held_line, read_line, released_line, counted_line, peek_line, uncounted_line, stage_line, destroyed_line, performed_line, audit_text}
-use Rattle.registry_report.specs.Report.{answered}
+use Rattle.registry_report.specs.Report.{answer_line}
 use Rattle.registry_report.specs.Written.{AppendsPrefix}
 
 -- The refusals of the calls, but for want of memory, which has no line
@@ -114,7 +114,7 @@ MayHitch command hitch = (MayWantMemory command × (hitch ≡ Refused NoMemory))
 
 -- the line of some answer, or of why there is none
 abbrev pub IsAnswered : {X : Type 0} → (X → List ℕ) → Command → List ℕ → Type 0
-IsAnswered {X} line command text = (answer : Result X Hitch) × IfErr answer (IsHitchOf command) × (text ≡ answered line answer)
+IsAnswered {X} line command text = (answer : Result X Hitch) × IfErr answer (IsHitchOf command) × (text ≡ answer_line line answer)
 
 -- what a command may print
 abbrev pub IsLineOf : Command → List ℕ → Type 0

@@ -21,8 +21,8 @@ pub record Registry : Type 0 where
   pub local_labels : ℕ → Option ℕ
 
 -- as a script begins
-abbrev pub opened : Settings → Registry
-opened settings = record {
+abbrev pub opening_registry : Settings → Registry
+opening_registry settings = record {
   settings = settings;
   model = empty_model;
   depths = λ c. 0;

@@ -5,56 +5,56 @@ use Rattle.registry_language.specs.declared.command.Command.{Command}
 use Rattle.registry_language.specs.declared.command.Command.TheVariants.{Domain, Limits, Attach, Plug, Detach, Enter, Exit, Find, Reference, Copy, Held, Read, Release, Count, Peek, Uncount, Advance, Destroy, Perform, Audit}
 use Rattle.registry_report.specs.Lines.{domain_line, limits_line, attached_line, retired_line, section_line, found_line, reference_line, held_line, read_line, released_line, counted_line, peek_line, uncounted_line, stage_line, destroyed_line, performed_line, audit_text, hitch_line}
 use Rattle.registry_language.specs.Program.{Program}
-use Rattle.registry_report.specs.Registry.{Registry, opened}
-use Rattle.registry_report.specs.Answers.{hitched, attach_answer, plug_answer, detach_answer, enter_answer, exit_answer, find_answer, reference_answer, copy_answer, held_answer, read_answer, release_answer, count_answer, peek_answer, uncount_answer, advance_answer, destroy_answer, perform_answer, audit_answer}
-use Rattle.registry_report.specs.Turns.{on_ok, attached, after_plug, detached, entered, exited, looked_up, referred, released, counting, uncounted, after_advance, after_destroy}
+use Rattle.registry_report.specs.Registry.{Registry, opening_registry}
+use Rattle.registry_report.specs.Answers.{command_answer, attach_answer, plug_answer, detach_answer, enter_answer, exit_answer, find_answer, reference_answer, copy_answer, held_answer, read_answer, release_answer, count_answer, peek_answer, uncount_answer, advance_answer, destroy_answer, perform_answer, audit_answer}
+use Rattle.registry_report.specs.Turns.{on_ok, with_attached, after_plug, with_detached, with_section_entered, with_section_exited, with_found, with_reference, without_reference, with_one_counted, with_one_uncounted, after_advance, after_destroy}
 
 -- the line of an answer, or of why there is none
-abbrev pub answered : {X : Type 0} → (X → List ℕ) → Result X Hitch → List ℕ
-answered line (Ok x) = line x
-answered line (Err h) = hitch_line h
+abbrev pub answer_line : {X : Type 0} → (X → List ℕ) → Result X Hitch → List ℕ
+answer_line line (Ok x) = line x
+answer_line line (Err h) = hitch_line h
 
 -- what a command prints
 abbrev pub text_of : Registry → Command → List ℕ
 text_of r (Domain cpus slots) = domain_line cpus slots
 text_of r (Limits changes sections passive count) = limits_line changes sections passive count
-text_of r (Attach c rec) = answered attached_line (hitched (attach_answer r c rec))
-text_of r (Plug c rec x) = answered attached_line (plug_answer r c rec x.place)
-text_of r (Detach c kind name) = answered retired_line (hitched (detach_answer r c (record { kind = kind; name = name })))
-text_of r (Enter c) = answered (λ done. section_line true) (hitched (enter_answer r c))
-text_of r (Exit c) = answered section_line (exit_answer r c)
-text_of r (Find c kind name) = answered found_line (find_answer r c (record { kind = kind; name = name }))
-text_of r (Reference c a) = answered (reference_line a.place) (reference_answer r c a.place)
-text_of r (Copy c a b) = answered (reference_line b.place) (copy_answer r c a.place b.place)
-text_of r (Held c a) = answered held_line (held_answer r c a.place)
-text_of r (Read c a) = answered (λ x. read_line x.number x.value) (read_answer r c a.place)
-text_of r (Release c a) = answered (released_line a.place) (release_answer r c a.place)
-text_of r (Count c x) = answered (counted_line x.place) (count_answer r c x.place)
-text_of r (Peek x) = answered (λ y. peek_line y.number y.value) (peek_answer r x.place)
-text_of r (Uncount c x) = answered (uncounted_line x.place) (uncount_answer r x.place)
-text_of r (Advance n) = answered stage_line (hitched (advance_answer r n))
-text_of r (Destroy c n turns) = answered destroyed_line (hitched (destroy_answer r c n))
-text_of r (Perform c turns) = answered (λ done. performed_line) (hitched (perform_answer r c))
+text_of r (Attach c rec) = answer_line attached_line (command_answer (attach_answer r c rec))
+text_of r (Plug c rec x) = answer_line attached_line (plug_answer r c rec x.place)
+text_of r (Detach c kind name) = answer_line retired_line (command_answer (detach_answer r c (record { kind = kind; name = name })))
+text_of r (Enter c) = answer_line (λ done. section_line true) (command_answer (enter_answer r c))
+text_of r (Exit c) = answer_line section_line (exit_answer r c)
+text_of r (Find c kind name) = answer_line found_line (find_answer r c (record { kind = kind; name = name }))
+text_of r (Reference c a) = answer_line (reference_line a.place) (reference_answer r c a.place)
+text_of r (Copy c a b) = answer_line (reference_line b.place) (copy_answer r c a.place b.place)
+text_of r (Held c a) = answer_line held_line (held_answer r c a.place)
+text_of r (Read c a) = answer_line (λ x. read_line x.number x.value) (read_answer r c a.place)
+text_of r (Release c a) = answer_line (released_line a.place) (release_answer r c a.place)
+text_of r (Count c x) = answer_line (counted_line x.place) (count_answer r c x.place)
+text_of r (Peek x) = answer_line (λ y. peek_line y.number y.value) (peek_answer r x.place)
+text_of r (Uncount c x) = answer_line (uncounted_line x.place) (uncount_answer r x.place)
+text_of r (Advance n) = answer_line stage_line (command_answer (advance_answer r n))
+text_of r (Destroy c n turns) = answer_line destroyed_line (command_answer (destroy_answer r c n))
+text_of r (Perform c turns) = answer_line (λ done. performed_line) (command_answer (perform_answer r c))
 text_of r Audit = audit_text (audit_answer r)
 
 -- what it leaves
 abbrev pub after : Registry → Command → Registry
 after r (Domain cpus slots) = r
 after r (Limits changes sections passive count) = r
-after r (Attach c rec) = on_ok r (attach_answer r c rec) (attached r c)
+after r (Attach c rec) = on_ok r (attach_answer r c rec) (with_attached r c)
 after r (Plug c rec x) = after_plug r c x.place (plug_answer r c rec x.place)
-after r (Detach c kind name) = on_ok r (detach_answer r c (record { kind = kind; name = name })) (detached r c)
-after r (Enter c) = on_ok r (enter_answer r c) (λ done. entered r c)
-after r (Exit c) = on_ok r (exit_answer r c) (exited r c)
-after r (Find c kind name) = on_ok r (find_answer r c (record { kind = kind; name = name })) (looked_up r c)
-after r (Reference c a) = on_ok r (reference_answer r c a.place) (referred r c a.place)
-after r (Copy c a b) = on_ok r (copy_answer r c a.place b.place) (referred r c b.place)
+after r (Detach c kind name) = on_ok r (detach_answer r c (record { kind = kind; name = name })) (with_detached r c)
+after r (Enter c) = on_ok r (enter_answer r c) (λ done. with_section_entered r c)
+after r (Exit c) = on_ok r (exit_answer r c) (with_section_exited r c)
+after r (Find c kind name) = on_ok r (find_answer r c (record { kind = kind; name = name })) (with_found r c)
+after r (Reference c a) = on_ok r (reference_answer r c a.place) (with_reference r c a.place)
+after r (Copy c a b) = on_ok r (copy_answer r c a.place b.place) (with_reference r c b.place)
 after r (Held c a) = r
 after r (Read c a) = r
-after r (Release c a) = on_ok r (release_answer r c a.place) (released r c a.place)
-after r (Count c x) = on_ok r (count_answer r c x.place) (counting r c x.place)
+after r (Release c a) = on_ok r (release_answer r c a.place) (without_reference r c a.place)
+after r (Count c x) = on_ok r (count_answer r c x.place) (with_one_counted r c x.place)
 after r (Peek x) = r
-after r (Uncount c x) = on_ok r (uncount_answer r x.place) (uncounted r c x.place)
+after r (Uncount c x) = on_ok r (uncount_answer r x.place) (with_one_uncounted r c x.place)
 after r (Advance n) = after_advance r n
 after r (Destroy c n turns) = after_destroy r c n
 after r (Perform c turns) = r
@@ -67,4 +67,4 @@ report_from r (command ∷ commands) = text_of r command ++ report_from (after r
 
 -- the report of a script
 abbrev pub report : Program → List ℕ
-report program = report_from (opened program.settings) program.commands
+report program = report_from (opening_registry program.settings) program.commands

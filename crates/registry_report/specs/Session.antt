@@ -19,8 +19,8 @@ abbrev pub with_core : SessionState → State → SessionState
 with_core s core = record s { core = core }
 
 -- what a label stands for
-abbrev pub labelled : {X : Type 0} → List (Option X) → ℕ → Option X
-labelled labels x = slice_index_or labels x None
+abbrev pub label_at : {X : Type 0} → List (Option X) → ℕ → Option X
+label_at labels x = slice_index_or labels x None
 
 -- each label of local references stands for a live one, and for another than the others do
 pub record IsSession (s : SessionState) : Type 0 where
@@ -32,10 +32,10 @@ pub record IsSession (s : SessionState) : Type 0 where
   pub apart : (x y id : ℕ) → slice_index_or s.locals x None ≡ Some id → slice_index_or s.locals y None ≡ Some id → x ≡ y
 
 -- no label stands for a reference
-abbrev pub unlabelled : State → SessionState
-unlabelled core = record { core = core; passives = replicate 26 None; locals = replicate 26 None }
+abbrev pub without_labels : State → SessionState
+without_labels core = record { core = core; passives = replicate 26 None; locals = replicate 26 None }
 
 -- what a label stands for, if it stands for something
-abbrev pub filled : {X : Type 0} → Option X → Result X Hitch
-filled None = Err NoLabel
-filled (Some x) = Ok x
+abbrev pub label_answer : {X : Type 0} → Option X → Result X Hitch
+label_answer None = Err NoLabel
+label_answer (Some x) = Ok x

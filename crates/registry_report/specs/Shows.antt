@@ -11,7 +11,7 @@ use Rattle.registry_values.specs.Balances.{bias}
 use Rattle.registry_values.specs.Slots.{slot_at, live_count, slot_of}
 use Rattle.protocol.specs.State.{mark_at, count_at, total_at, kept_at, local_at}
 use Rattle.protocol.specs.History.{EndsAt}
-use Rattle.protocol.specs.Events.{standing}
+use Rattle.protocol.specs.Events.{number_standing}
 use Rattle.protocol.specs.Invariant.{IsIn, standing_of, one_if}
 use Rattle.protocol.specs.Model.{Model}
 use Rattle.protocol.specs.Picture.{number_in, passive_in}
@@ -60,7 +60,7 @@ pub record ShowsTallies (cpus : ℕ) (h : List Change) (slots : List Slot) (coun
 -- the number that the live reference with an id is to
 abbrev pub number_at : List LocalPlace → Option ℕ → Option ℕ
 number_at places None = None
-number_at places (Some id) = standing (local_at places id)
+number_at places (Some id) = number_standing (local_at places id)
 
 pub record ShowsLabels (places : List LocalPlace) (passives : List (Option CorePsref)) (locals : List (Option ℕ)) (passive_labels : ℕ → Option CorePsref) (local_labels : ℕ → Option ℕ) : Type 0 where
   pub passive : (x : ℕ) → passive_labels x ≡ slice_index_or passives x None

@@ -2,7 +2,7 @@
 
 ghost use Rattle.std.specs.Prelude.{◌≡◌, ◌<◌};
 ghost use Rattle.passive_core.specs.Commands.{IsQuiet};
-ghost use Rattle.registry_report.specs.Session.{filled, labelled, unlabelled};
+ghost use Rattle.registry_report.specs.Session.{label_answer, label_at, without_labels};
 
 use super::hitch::{Hitch, as_answer};
 use super::session::{Reading, Session};
@@ -35,7 +35,7 @@ impl CoreSession {
     /// A session in which no label stands for a reference.
     pub fn new(core: Core) -> CoreSession
         requires { IsQuiet core }
-        ensures { result ≡ unlabelled core }
+        ensures { result ≡ without_labels core }
     {
         prove!(core.at_rest());
         CoreSession {
@@ -48,7 +48,7 @@ impl CoreSession {
     /// The passive reference that the label stands for.
     fn passive(&self, label: Label) -> Result<CorePsref, Hitch>
         requires { label.place < 26 }
-        ensures { result ≡ filled (labelled self.now.passives label.place) }
+        ensures { result ≡ label_answer (label_at self.now.passives label.place) }
     {
         self.passives[label.place as usize].ok_or(Hitch::NoLabel)
     }
@@ -56,7 +56,7 @@ impl CoreSession {
     /// The local reference that the label stands for.
     fn local(&self, label: Label) -> Result<u64, Hitch>
         requires { label.place < 26 }
-        ensures { result ≡ filled (labelled self.now.locals label.place) }
+        ensures { result ≡ label_answer (label_at self.now.locals label.place) }
     {
         self.locals[label.place as usize].ok_or(Hitch::NoLabel)
     }

@@ -2,7 +2,7 @@
 
 ghost use Rattle.std.specs.Prelude.{◌≡◌};
 ghost use Rattle.registry_report.specs.declared.hitch.Hitch.TheVariants as hitch;
-ghost use Rattle.registry_report.specs.Answers.{hitched};
+ghost use Rattle.registry_report.specs.Answers.{command_answer};
 
 use registry_values::Refusal;
 
@@ -29,7 +29,7 @@ impl From<Refusal> for Hitch {
 
 /// What a call answered, as a command's answer.
 pub fn as_answer<X>(answer: Result<X, Refusal>) -> Result<X, Hitch>
-    ensures { result ≡ hitched answer }
+    ensures { result ≡ command_answer answer }
 {
     match answer {
         Ok(x) => Ok(x),

@@ -3,7 +3,7 @@
 ghost use Rattle.std.specs.Prelude.{◌≡◌, ◌<◌, ◌+◌, ◌++◌, IfOk, IfErr, IsErrOf, None, Some, map, string_bytes, ◌∷◌, [], codes};
 ghost use Rattle.std.specs.Fmt.{signed_decimal};
 ghost use Rattle.registry_values.specs.Balances.{tally_shown};
-ghost use Rattle.registry_report.specs.Lines.{spelled, ended, spaced, domain_line, limits_line, attached_line, retired_line, found_line, section_line, label_line, held_line, reading_line, destroyed_line, balance_line, balance_lines, audit_text, stage_words, refused_line, hitch_line};
+ghost use Rattle.registry_report.specs.Lines.{line_of_words, line_of_text, spaced_words, domain_line, limits_line, attached_line, retired_line, found_line, section_line, label_line, held_line, reading_line, destroyed_line, balance_line, balance_lines, audit_text, stage_words, refused_line, hitch_line};
 
 use super::hitch::Hitch;
 use super::session::Reading;
@@ -13,7 +13,7 @@ use std::alloc::Global;
 
 /// These words, and the end of the line.
 pub fn said(alloc: Global, words: &str) -> Result<String, RunFault>
-    ensures line { IfOk result (λ text. string_bytes text ≡ ended words.now) }
+    ensures line { IfOk result (λ text. string_bytes text ≡ line_of_text words.now) }
     ensures memory { IfErr result (λ fault. fault ≡ RunFault.Memory) }
 {
     Ok(format!(in alloc; "{words}\n")?)
@@ -158,7 +158,7 @@ fn balanced(alloc: Global, balance: &Balance) -> Result<String, RunFault>
 
 /// The numbers, a space before each.
 fn numbers(alloc: Global, numbers: &[i64]) -> Result<String, RunFault>
-    ensures words { IfOk result (λ text. string_bytes text ≡ spaced (map signed_decimal numbers.now)) }
+    ensures words { IfOk result (λ text. string_bytes text ≡ spaced_words (map signed_decimal numbers.now)) }
     ensures memory { IfErr result (λ fault. fault ≡ RunFault.Memory) }
 {
     let mut text = String::new(alloc);
@@ -171,7 +171,7 @@ fn numbers(alloc: Global, numbers: &[i64]) -> Result<String, RunFault>
 
 /// How far a destruction has come, after some words in front.
 pub fn stage(alloc: Global, front: &str, stage: Stage) -> Result<String, RunFault>
-    ensures line { IfOk result (λ text. string_bytes text ≡ front.now ++ spelled (stage_words stage)) }
+    ensures line { IfOk result (λ text. string_bytes text ≡ front.now ++ line_of_words (stage_words stage)) }
     ensures memory { IfErr result (λ fault. fault ≡ RunFault.Memory) }
 {
     let line = match stage {
@@ -227,7 +227,7 @@ fn refused(alloc: Global, refusal: Refusal) -> Result<String, RunFault>
 }
 
 fn refused_as(alloc: Global, name: &str) -> Result<String, RunFault>
-    ensures line { IfOk result (λ text. string_bytes text ≡ spelled (codes "refused" ∷ name.now ∷ [])) }
+    ensures line { IfOk result (λ text. string_bytes text ≡ line_of_words (codes "refused" ∷ name.now ∷ [])) }
     ensures memory { IfErr result (λ fault. fault ≡ RunFault.Memory) }
 {
     Ok(format!(in alloc; "refused {name}\n")?)

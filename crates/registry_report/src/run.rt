@@ -8,7 +8,7 @@ ghost use Rattle.registry_report.specs.Printed.{WritesFront, WritesRun};
 ghost use Rattle.registry_language.specs.Program.{suits};
 ghost use Rattle.registry_report.specs.Registry.{Registry};
 ghost use Rattle.registry_report.specs.Report.{report, report_from};
-ghost use Rattle.registry_report.specs.Session.{unlabelled};
+ghost use Rattle.registry_report.specs.Session.{without_labels};
 ghost use Rattle.registry_report.specs.Written.{AppendsPrefix, IsWhileRunning};
 
 use crate::carry::carry_out;
@@ -33,7 +33,7 @@ pub fn run_core<W: Write>(alloc: Global, script: &Script, writer: &mut W) -> Res
 
 /// A session over a new core with the settings of a script, which are fit.
 fn session_for(alloc: Global, settings: Settings) -> Result<CoreSession, RunFault>
-    ensures opening { IfOk result (λ session. session ≡ unlabelled (opening settings)) }
+    ensures opening { IfOk result (λ session. session ≡ without_labels (opening settings)) }
     ensures fault { IfErr result (λ fault. fault ≡ RunFault.Memory) }
 {
     match Core::new(alloc, settings) {

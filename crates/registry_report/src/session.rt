@@ -7,7 +7,7 @@ ghost use Rattle.registry_values.specs.Names.{is_lawful};
 ghost use Rattle.registry_values.specs.Slots.{is_iface};
 ghost use Rattle.registry_report.specs.declared.hitch.Hitch.TheVariants as hitch;
 ghost use Rattle.registry_language.specs.declared.command.Command.TheVariants as command;
-ghost use Rattle.registry_report.specs.Answers.{advance_answer, attach_answer, audit_answer, copy_answer, count_answer, destroy_answer, detach_answer, enter_answer, exit_answer, find_answer, held_answer, hitched, peek_answer, perform_answer, plug_answer, read_answer, reference_answer, release_answer, uncount_answer};
+ghost use Rattle.registry_report.specs.Answers.{advance_answer, attach_answer, audit_answer, copy_answer, count_answer, destroy_answer, detach_answer, enter_answer, exit_answer, find_answer, held_answer, command_answer, peek_answer, perform_answer, plug_answer, read_answer, reference_answer, release_answer, uncount_answer};
 ghost use Rattle.registry_report.specs.Given.{AnswersFor, LeavesFor};
 ghost use Rattle.registry_report.specs.Printed.{MayHitch};
 ghost use Rattle.registry_report.specs.Registry.{Registry};
@@ -50,7 +50,7 @@ pub trait Session {
         requires known { cpu < (settings (kept self.old)).cpus }
         requires lawful { IsTrue (is_lawful rec.name) }
         ensures kept { kept self.new ≡ kept self.old }
-        ensures answer { AnswersFor (shows self.old) (λ r. hitched (attach_answer r cpu rec)) result }
+        ensures answer { AnswersFor (shows self.old) (λ r. command_answer (attach_answer r cpu rec)) result }
         ensures shows { LeavesFor (shows self.old) (shows self.new) (command.Attach cpu rec) result }
         ensures hitch { IfErr result (MayHitch (command.Attach cpu rec)) };
 
@@ -69,7 +69,7 @@ pub trait Session {
     fn detach(&mut self, cpu: u8, kind: Kind, name: Name) -> Result<Entry, Hitch>
         requires { cpu < (settings (kept self.old)).cpus }
         ensures kept { kept self.new ≡ kept self.old }
-        ensures answer { AnswersFor (shows self.old) (λ r. hitched (detach_answer r cpu (record { kind = kind; name = name }))) result }
+        ensures answer { AnswersFor (shows self.old) (λ r. command_answer (detach_answer r cpu (record { kind = kind; name = name }))) result }
         ensures shows { LeavesFor (shows self.old) (shows self.new) (command.Detach cpu kind name) result }
         ensures hitch { IfErr result (MayHitch (command.Detach cpu kind name)) };
 
@@ -77,7 +77,7 @@ pub trait Session {
     fn enter(&mut self, cpu: u8) -> Result<(), Hitch>
         requires { cpu < (settings (kept self.old)).cpus }
         ensures kept { kept self.new ≡ kept self.old }
-        ensures answer { AnswersFor (shows self.old) (λ r. hitched (enter_answer r cpu)) result }
+        ensures answer { AnswersFor (shows self.old) (λ r. command_answer (enter_answer r cpu)) result }
         ensures shows { LeavesFor (shows self.old) (shows self.new) (command.Enter cpu) result }
         ensures hitch { IfErr result (MayHitch (command.Enter cpu)) };
 
@@ -173,7 +173,7 @@ pub trait Session {
     /// One turn of the work on the retired entry with this number: its stage then.
     fn advance(&mut self, number: u64) -> Result<Stage, Hitch>
         ensures kept { kept self.new ≡ kept self.old }
-        ensures answer { AnswersFor (shows self.old) (λ r. hitched (advance_answer r number)) result }
+        ensures answer { AnswersFor (shows self.old) (λ r. command_answer (advance_answer r number)) result }
         ensures shows { LeavesFor (shows self.old) (shows self.new) (command.Advance number) result }
         ensures hitch { IfErr result (MayHitch (command.Advance number)) };
 
@@ -182,7 +182,7 @@ pub trait Session {
         requires known { cpu < (settings (kept self.old)).cpus }
         requires some { 1 ≤ turns }
         ensures kept { kept self.new ≡ kept self.old }
-        ensures answer { AnswersFor (shows self.old) (λ r. hitched (destroy_answer r cpu number)) result }
+        ensures answer { AnswersFor (shows self.old) (λ r. command_answer (destroy_answer r cpu number)) result }
         ensures shows { LeavesFor (shows self.old) (shows self.new) (command.Destroy cpu number turns) result }
         ensures hitch { IfErr result (MayHitch (command.Destroy cpu number turns)) };
 
@@ -191,7 +191,7 @@ pub trait Session {
         requires known { cpu < (settings (kept self.old)).cpus }
         requires some { 1 ≤ turns }
         ensures kept { kept self.new ≡ kept self.old }
-        ensures answer { AnswersFor (shows self.old) (λ r. hitched (perform_answer r cpu)) result }
+        ensures answer { AnswersFor (shows self.old) (λ r. command_answer (perform_answer r cpu)) result }
         ensures shows { LeavesFor (shows self.old) (shows self.new) (command.Perform cpu turns) result }
         ensures hitch { IfErr result (MayHitch (command.Perform cpu turns)) };
 

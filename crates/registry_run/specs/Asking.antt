@@ -29,7 +29,7 @@ script_of None = None
 script_of (Some engine) = Some (Script engine)
 
 -- `core` and `live` stand alone; `storm` stands before a number of CPUs, 1 to 8, and one of turns, 1 to 100,000
-abbrev pub asked : List (List ℕ) → Option Task
-asked (word ∷ []) = script_of (engine_named word)
-asked (word ∷ cpus ∷ turns ∷ []) = storm_asked word cpus turns
-asked _ = None
+abbrev pub task_of : List (List ℕ) → Option Task
+task_of (word ∷ []) = script_of (engine_named word)
+task_of (word ∷ cpus ∷ turns ∷ []) = storm_asked word cpus turns
+task_of _ = None

@@ -2,7 +2,7 @@
 
 ghost use Rattle.std.specs.Prelude.{◌≡◌, IfSome, map, string_bytes};
 ghost use Rattle.registry_language.specs.Words.{number_of};
-ghost use Rattle.registry_run.specs.Asking.{asked, engine_named, storm_asked, within_one_to};
+ghost use Rattle.registry_run.specs.Asking.{task_of, engine_named, storm_asked, within_one_to};
 ghost use Rattle.registry_run.specs.Doing.{IsPossible};
 
 use registry_script::{Engine, parse_number};
@@ -33,7 +33,7 @@ pub struct Plan {
 impl Task {
     /// The task that the words after the program's name ask for: `core`, `live`, or `storm C T` with numbers as scripts have them.
     pub fn parse(words: &[String]) -> Option<Task>
-        ensures task { result ≡ asked (map (λ w. string_bytes w) words.now) }
+        ensures task { result ≡ task_of (map (λ w. string_bytes w) words.now) }
         ensures possible { IfSome result IsPossible }
     {
         match words {

@@ -6,21 +6,21 @@ use Rattle.registry_script.specs.declared.engine.Engine.{Engine}
 use Rattle.registry_language.specs.declared.fault.RunFault.{RunFault}
 use Rattle.registry_language.specs.declared.fault.RunFault.TheVariants as run
 use Rattle.registry_language.specs.declared.fault.Cause.TheVariants.{TooLong}
-use Rattle.registry_language.specs.Grammar.{parsed}
+use Rattle.registry_language.specs.Grammar.{program_of_bytes}
 use Rattle.registry_script.specs.Ran.{Ran, RanOn}
 use Rattle.registry_script.specs.Reads.{WasRead}
 
-too_long : (text : List ℕ) → 65536 < length text → parsed text ≡ Err (record { line = 1; cause = TooLong })
-unfolding parsed
+too_long : (text : List ℕ) → 65536 < length text → program_of_bytes text ≡ Err (record { line = 1; cause = TooLong })
+unfolding program_of_bytes
 too_long text h = let t : nat_lt 65536 (length text) ≡ true = grind (arith, nat_tests) in rw t refl
 
-same_script : (input text : List ℕ) (rest : Option (List ℕ)) → WasRead (Some input) rest text → parsed text ≡ parsed input
+same_script : (input text : List ℕ) (rest : Option (List ℕ)) → WasRead (Some input) rest text → program_of_bytes text ≡ program_of_bytes input
 same_script input text None h = absurd h.given
 same_script input text (Some more) h = elim (cases_lt 65536 (length text)) [
   | inl long ↦
       let longer : 65536 < length input = omega (arith, ap length h.given, length-append text more) in
       too_long text long ∙ sym (too_long input longer)
-  | inr short ↦ ap parsed (sym (h.given ∙ ap (λ z. text ++ z) (h.whole short) ∙ append-nil text))
+  | inr short ↦ ap program_of_bytes (sym (h.given ∙ ap (λ z. text ++ z) (h.whole short) ∙ append-nil text))
 ]
 
 known : (engine : Engine) (input : List ℕ) (rest old new : Option (List ℕ)) (r : Result (Unit {0}) RunFault) → Ran engine (Some input) rest old new r → RanOn engine input old new r

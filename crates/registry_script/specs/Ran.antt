@@ -5,7 +5,7 @@ use Rattle.registry_script.specs.declared.engine.Engine.{Engine}
 use Rattle.registry_script.specs.declared.engine.Engine.TheVariants.{Core, Live}
 use Rattle.registry_language.specs.declared.fault.RunFault.{RunFault}
 use Rattle.registry_language.specs.declared.fault.RunFault.TheVariants as run
-use Rattle.registry_language.specs.Grammar.{parsed}
+use Rattle.registry_language.specs.Grammar.{program_of_bytes}
 use Rattle.registry_report.specs.Printed.{WritesFront, WritesRun}
 use Rattle.registry_language.specs.Program.{Program}
 use Rattle.registry_report.specs.Report.{report}
@@ -24,13 +24,13 @@ WritesPrefix Live old new program = WritesFront old new program.commands
 
 -- this is so of the script that was read
 abbrev pub OfRead : Option (List ℕ) → Option (List ℕ) → (Program → Type 0) → Type 0
-OfRead left rest does = (text : List ℕ) × WasRead left rest text × (program : Program) × (parsed text ≡ Ok program) × does program
+OfRead left rest does = (text : List ℕ) × WasRead left rest text × (program : Program) × (program_of_bytes text ≡ Ok program) × does program
 
 abbrev pub Ran : Engine → Option (List ℕ) → Option (List ℕ) → Option (List ℕ) → Option (List ℕ) → Result (Unit {0}) RunFault → Type 0
 -- all that is due was written
 Ran engine left rest old new (Ok u) = OfRead left rest (WritesWhole engine old new)
 -- nothing was written, and this is the first fault of what was read
-Ran engine left rest old new (Err (run.Script fault)) = (text : List ℕ) × WasRead left rest text × (parsed text ≡ Err fault) × Keeps old new
+Ran engine left rest old new (Err (run.Script fault)) = (text : List ℕ) × WasRead left rest text × (program_of_bytes text ≡ Err fault) × Keeps old new
 Ran engine left rest old new (Err run.Read) = Keeps old new
 -- a prefix was written
 Ran engine left rest old new (Err run.Write) = OfRead left rest (WritesPrefix engine old new)
@@ -42,11 +42,11 @@ Ran engine left rest old new (Err run.NoThread) = ⊥
 -- the same against all that the reader had left, where that is known
 
 abbrev pub OfInput : List ℕ → (Program → Type 0) → Type 0
-OfInput input does = (program : Program) × (parsed input ≡ Ok program) × does program
+OfInput input does = (program : Program) × (program_of_bytes input ≡ Ok program) × does program
 
 abbrev pub RanOn : Engine → List ℕ → Option (List ℕ) → Option (List ℕ) → Result (Unit {0}) RunFault → Type 0
 RanOn engine input old new (Ok u) = OfInput input (WritesWhole engine old new)
-RanOn engine input old new (Err (run.Script fault)) = (parsed input ≡ Err fault) × Keeps old new
+RanOn engine input old new (Err (run.Script fault)) = (program_of_bytes input ≡ Err fault) × Keeps old new
 RanOn engine input old new (Err run.Read) = Keeps old new
 RanOn engine input old new (Err run.Write) = OfInput input (WritesPrefix engine old new)
 RanOn engine input old new (Err run.Memory) = Keeps old new ⊎ OfInput input (WritesPrefix engine old new)

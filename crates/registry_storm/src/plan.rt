@@ -2,7 +2,7 @@
 
 ghost use Rattle.std.specs.Prelude.{◌≡◌, ◌↔◌, ◌<◌, ◌≤◌, IsTrue, [], ◌∷◌, Some, IfSome, Ok};
 ghost use Rattle.registry_values.specs.declared.entry.Kind.TheVariants.{Iface};
-ghost use Rattle.registry_values.specs.Names.{is_lawful, named};
+ghost use Rattle.registry_values.specs.Names.{is_lawful, name_of_bytes};
 ghost use Rattle.registry_storm.specs.Storms.{driver_record, settings_of};
 
 use registry_values::{Entry, Kind, Name, Record, Settings};
@@ -25,7 +25,7 @@ pub struct Plan {
     /// The name of each interface in turn.
     pub iface: Name,
     ghost some: { (1 ≤ cpus) × (cpus ≤ 8) × (1 ≤ turns) × (turns ≤ 100000) },
-    ghost names: { (named (100 ∷ 114 ∷ 118 ∷ []) ≡ Ok driver) × (named (119 ∷ 109 ∷ 48 ∷ []) ≡ Ok iface) },
+    ghost names: { (name_of_bytes (100 ∷ 114 ∷ 118 ∷ []) ≡ Ok driver) × (name_of_bytes (119 ∷ 109 ∷ 48 ∷ []) ≡ Ok iface) },
     ghost lawful: { IsTrue (is_lawful driver) × IsTrue (is_lawful iface) },
 }
 

@@ -6,7 +6,7 @@ use Rattle.std.proofs.lemmas.List.{length-replicate}
 use Rattle.std.proofs.lemmas.Nat.{be_bytes_8, from_be_bytes-to_be_bytes_8}
 use Rattle.std.specs.Int.{w64, from_be_bytes, to_be_bytes}
 use Rattle.registry_values.specs.declared.name.Name.{Name}
-use Rattle.registry_values.specs.Names.{is_allowed, bad_place, is_name, padded, high_word, low_word, bytes_of, are_zeros, is_rest, is_padded, are_name_words, RoundTrip, IsWritten}
+use Rattle.registry_values.specs.Names.{is_allowed, bad_place, is_name, padded_bytes, high_word, low_word, bytes_of, are_zeros, is_rest, is_padded, are_name_words, RoundTrip, IsWritten}
 
 -- ---- one byte
 
@@ -87,7 +87,7 @@ name_parts b bs h =
     let below : length bs < 15 = grind (arith, nat_tests) in
     (below, bytes.0, bytes.1)
 
-name_padded : (bytes : List ℕ) → is_name bytes ≡ true → is_padded (padded bytes) ≡ true
+name_padded : (bytes : List ℕ) → is_name bytes ≡ true → is_padded (padded_bytes bytes) ≡ true
 name_padded [] h = absurd (cc)
 name_padded (b ∷ bs) h =
     let parts = name_parts b bs h in
@@ -96,7 +96,7 @@ name_padded (b ∷ bs) h =
     and_from (is_allowed 0 b) (is_rest (bs ++ replicate (16 - suc (length bs)) 0)) parts.1
     (rw left (rest_padded 0 bs (14 - length bs) parts.2))
 
-padded_length : (bytes : List ℕ) → is_name bytes ≡ true → length (padded bytes) ≡ 16
+padded_length : (bytes : List ℕ) → is_name bytes ≡ true → length (padded_bytes bytes) ≡ 16
 padded_length [] h = absurd (cc)
 padded_length (b ∷ bs) h =
     let below : length bs < 15 = (name_parts b bs h).0 in
@@ -147,7 +147,7 @@ pub lawful_words : (bytes : List ℕ) → is_name bytes ≡ true → are_name_wo
 unfolding are_name_words
 lawful_words bytes h =
     let good = name_padded bytes h in
-    ap is_padded (halves (padded bytes) (padded_length bytes h) (small_padded (padded bytes) good)) ∙ good
+    ap is_padded (halves (padded_bytes bytes) (padded_length bytes h) (small_padded (padded_bytes bytes) good)) ∙ good
 
 pub round_trip : RoundTrip
 round_trip bytes h = rw (lawful_words bytes h) refl
@@ -170,7 +170,7 @@ name_from b bs below first rest =
     let size : (nat_le 1 (suc (length bs)) && nat_le (suc (length bs)) 15) ≡ true = grind (arith, nat_tests) in
     and_from (nat_le 1 (suc (length bs)) && nat_le (suc (length bs)) 15) (is_none (bad_place 0 (b ∷ bs))) size (rw first rest)
 
-padded_text : (xs : List ℕ) → is_padded xs ≡ true → length xs ≡ 16 → (bytes : List ℕ) × (is_name bytes ≡ true) × (padded bytes ≡ xs)
+padded_text : (xs : List ℕ) → is_padded xs ≡ true → length xs ≡ 16 → (bytes : List ℕ) × (is_name bytes ≡ true) × (padded_bytes bytes ≡ xs)
 padded_text [] h size = absurd (cc)
 padded_text (b ∷ xs) h size =
     let parts = and_parts (is_allowed 0 b) (is_rest xs) h in

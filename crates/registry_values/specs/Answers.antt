@@ -39,13 +39,13 @@ attach_answer inside unfit given = if inside then Err Inside else (if unfit then
 -- Detaching
 
 -- what was found, if anything
-abbrev pub found_or : {X : Type 0} → Option X → Result X Refusal
-found_or None = Err NotFound
-found_or (Some x) = Ok x
+abbrev pub found_answer : {X : Type 0} → Option X → Result X Refusal
+found_answer None = Err NotFound
+found_answer (Some x) = Ok x
 
 -- A detach is refused inside a section, and where there is no such live entry.
 abbrev pub detach_answer : {X : Type 0} → Bool → Option X → Result X Refusal
-detach_answer inside found = if inside then Err Inside else found_or found
+detach_answer inside found = if inside then Err Inside else found_answer found
 
 -- Sections
 
@@ -56,12 +56,12 @@ enter_answer depth outside may_begin = if depth == 255 then Err TooDeep else (if
 -- Waiting
 
 -- the least CPU that is inside a section is waited for
-abbrev pub waiting_for : Option ℕ → Result (Unit {0}) Refusal
-waiting_for None = Ok tt
-waiting_for (Some c) = Err (Waiting c)
+abbrev pub wait_answer : Option ℕ → Result (Unit {0}) Refusal
+wait_answer None = Ok tt
+wait_answer (Some c) = Err (Waiting c)
 
 abbrev pub perform_answer : Bool → Option ℕ → Result (Unit {0}) Refusal
-perform_answer inside first = if inside then Err Inside else waiting_for first
+perform_answer inside first = if inside then Err Inside else wait_answer first
 
 -- Passive references
 

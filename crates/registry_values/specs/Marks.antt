@@ -37,14 +37,14 @@ abbrev pub no_mark : Mark
 no_mark = record { snapshot = None; passed = false; clear = false; collected = false }
 
 -- a CPU has passed once its word was seen even, or different from the snapshot; a pass stays
-abbrev pub looked : Mark → ℕ → Mark
-looked m w = record { snapshot = m.snapshot; passed = m.passed || (is_even w || has_changed m.snapshot w); clear = m.clear; collected = m.collected }
+abbrev pub mark_after_look : Mark → ℕ → Mark
+mark_after_look m w = record { snapshot = m.snapshot; passed = m.passed || (is_even w || has_changed m.snapshot w); clear = m.clear; collected = m.collected }
 
-abbrev pub cleared : Mark → ℕ → Mark
-cleared m w = record { snapshot = m.snapshot; passed = m.passed; clear = m.clear || w == 0; collected = m.collected }
+abbrev pub mark_after_passive_look : Mark → ℕ → Mark
+mark_after_passive_look m w = record { snapshot = m.snapshot; passed = m.passed; clear = m.clear || w == 0; collected = m.collected }
 
-abbrev pub collected : Mark → Mark
-collected m = record { snapshot = m.snapshot; passed = m.passed; clear = m.clear; collected = true }
+abbrev pub mark_after_collect : Mark → Mark
+mark_after_collect m = record { snapshot = m.snapshot; passed = m.passed; clear = m.clear; collected = true }
 
 -- the word shows its CPU out of the section of the snapshot
 abbrev pub is_out : ℕ → ℕ → Bool

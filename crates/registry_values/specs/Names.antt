@@ -20,16 +20,16 @@ abbrev pub is_name : List ℕ → Bool
 is_name bytes = nat_le 1 (length bytes) && nat_le (length bytes) 15 && is_none (bad_place 0 bytes)
 
 -- with zero bytes up to 16
-abbrev pub padded : List ℕ → List ℕ
-padded bytes = bytes ++ replicate (16 - length bytes) 0
+abbrev pub padded_bytes : List ℕ → List ℕ
+padded_bytes bytes = bytes ++ replicate (16 - length bytes) 0
 
 -- the first 8 of them as a number, the high byte first
 abbrev pub high_word : List ℕ → ℕ
-high_word bytes = from_be_bytes w64 (take 8 (padded bytes))
+high_word bytes = from_be_bytes w64 (take 8 (padded_bytes bytes))
 
 -- the last 8 of them
 abbrev pub low_word : List ℕ → ℕ
-low_word bytes = from_be_bytes w64 (drop 8 (padded bytes))
+low_word bytes = from_be_bytes w64 (drop 8 (padded_bytes bytes))
 
 -- the name that is written by these bytes
 abbrev pub name_of : List ℕ → Name
@@ -41,9 +41,9 @@ unless_bad None bytes = Ok (name_of bytes)
 unless_bad (Some place) bytes = Err (BadByte place)
 
 -- what reading bytes as a name gives: the name or the first fault
-abbrev pub named : List ℕ → Result Name NameFault
-named [] = Err Empty
-named (b ∷ bs) = if nat_lt 15 (length (b ∷ bs)) then Err TooLong else unless_bad (bad_place 0 (b ∷ bs)) (b ∷ bs)
+abbrev pub name_of_bytes : List ℕ → Result Name NameFault
+name_of_bytes [] = Err Empty
+name_of_bytes (b ∷ bs) = if nat_lt 15 (length (b ∷ bs)) then Err TooLong else unless_bad (bad_place 0 (b ∷ bs)) (b ∷ bs)
 
 -- the 16 bytes of two words, the high ones first
 abbrev pub bytes_of : ℕ → ℕ → List ℕ
@@ -73,13 +73,13 @@ abbrev pub is_lawful : Name → Bool
 is_lawful name = are_name_words name.high name.low
 
 -- the name that has these words, if one has
-abbrev pub named_by_words : ℕ → ℕ → Option Name
-named_by_words high low = if are_name_words high low then Some (record { high = high; low = low }) else None
+abbrev pub name_of_words : ℕ → ℕ → Option Name
+name_of_words high low = if are_name_words high low then Some (record { high = high; low = low }) else None
 
 -- the words of a name give it back
 abbrev pub RoundTrip : Type 0
-RoundTrip = (bytes : List ℕ) → IsTrue (is_name bytes) → named_by_words (name_of bytes).high (name_of bytes).low ≡ Some (name_of bytes)
+RoundTrip = (bytes : List ℕ) → IsTrue (is_name bytes) → name_of_words (name_of bytes).high (name_of bytes).low ≡ Some (name_of bytes)
 
 -- a name that two words give is written by some bytes
 abbrev pub IsWritten : Type 0
-IsWritten = (high low : ℕ) (name : Name) → high < 2 ^ 64 → low < 2 ^ 64 → named_by_words high low ≡ Some name → (bytes : List ℕ) × IsTrue (is_name bytes) × (name_of bytes ≡ name)
+IsWritten = (high low : ℕ) (name : Name) → high < 2 ^ 64 → low < 2 ^ 64 → name_of_words high low ≡ Some name → (bytes : List ℕ) × IsTrue (is_name bytes) × (name_of bytes ≡ name)

@@ -23,15 +23,15 @@ IsObstacle (Freed t) = ⊥
 IsObstacle _ = Unit {0}
 
 -- Destroying an entry: the answer of an advance, where what stands in the way is a refusal.
-abbrev pub destroyed : Stage → Result ℕ Refusal
-destroyed (Grace c) = Err (StillHeld (Grace c))
-destroyed (Passive c) = Err (StillHeld (Passive c))
-destroyed (Local k) = Err (StillHeld (Local k))
-destroyed (Freed t) = Ok t
+abbrev pub destroy_result : Stage → Result ℕ Refusal
+destroy_result (Grace c) = Err (StillHeld (Grace c))
+destroy_result (Passive c) = Err (StillHeld (Passive c))
+destroy_result (Local k) = Err (StillHeld (Local k))
+destroy_result (Freed t) = Ok t
 
-abbrev pub destroyed_if : Result Stage Refusal → Result ℕ Refusal
-destroyed_if (Err refusal) = Err refusal
-destroyed_if (Ok stage) = destroyed stage
+abbrev pub destroy_result_of : Result Stage Refusal → Result ℕ Refusal
+destroy_result_of (Err refusal) = Err refusal
+destroy_result_of (Ok stage) = destroy_result stage
 
 abbrev pub destroy_answer : Bool → Result Stage Refusal → Result ℕ Refusal
-destroy_answer inside advance = if inside then Err Inside else destroyed_if advance
+destroy_answer inside advance = if inside then Err Inside else destroy_result_of advance

@@ -1,7 +1,7 @@
 //! What a call answers, by plain values: where the caller is, what stands in the slots, and how far the history and the counts have come.
 
 ghost use Rattle.std.specs.Prelude.{◌≡◌, ◌<◌, nat_lt, IfOk, Ok, Some, None, true, false};
-ghost use Rattle.registry_values.specs.Answers.{attach_answer, detach_answer, enter_answer, given_entry, has_room, waiting_for, why_full, why_uncounted, why_unusable};
+ghost use Rattle.registry_values.specs.Answers.{attach_answer, detach_answer, enter_answer, given_entry, has_room, wait_answer, why_full, why_uncounted, why_unusable};
 
 use crate::entry::{Entry, Record};
 use crate::refusal::Refusal;
@@ -104,7 +104,7 @@ pub fn enter_answer(depth: u8, outside: bool, may_begin: bool) -> Result<(), Ref
 
 /// What a wait answers whose least CPU that wasn't seen out of its section is this one (pserialize(9)). Refused: `Waiting`.
 pub fn waiting_for(first: Option<u8>) -> Result<(), Refusal>
-    ensures value { result ≡ waiting_for first }
+    ensures value { result ≡ wait_answer first }
     ensures none { IfOk result (λ _. first ≡ None) }
 {
     match first {

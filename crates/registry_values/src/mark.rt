@@ -2,7 +2,7 @@
 //! out of a section, for a wait that is for no entry.
 
 ghost use Rattle.std.specs.Prelude.{◌≡◌, ◌≤◌, false, not, slice_index_or};
-ghost use Rattle.registry_values.specs.Marks.{least_below, looked, cleared, collected, is_out, has_changed, have_passed, are_clear, are_collected, is_some_collected};
+ghost use Rattle.registry_values.specs.Marks.{least_below, mark_after_look, mark_after_passive_look, mark_after_collect, is_out, has_changed, have_passed, are_clear, are_collected, is_some_collected};
 
 /// What is known of one CPU and a retired entry.
 #[derive(Clone, Copy, Debug, PartialEq, Eq)]
@@ -28,7 +28,7 @@ pub const NO_MARK: Mark = Mark {
 /// The mark after a look at this section word (pserialize(9)): the CPU has passed where the word is even or differs from the snapshot,
 /// or where it had passed before.
 pub fn looked(mark: Mark, word: u64) -> Mark
-    ensures { result ≡ looked mark word }
+    ensures { result ≡ mark_after_look mark word }
 {
     Mark {
         passed: mark.passed || word % 2 == 0 || has_changed(mark.snapshot, word),
@@ -47,7 +47,7 @@ fn has_changed(snapshot: Option<u64>, word: u64) -> bool
 
 /// The mark after a look at this passive word (psref(9)): the CPU is clear where the word is 0. That it is clear stays.
 pub fn cleared(mark: Mark, word: u64) -> Mark
-    ensures { result ≡ cleared mark word }
+    ensures { result ≡ mark_after_passive_look mark word }
 {
     Mark {
         clear: mark.clear || word == 0,
@@ -57,7 +57,7 @@ pub fn cleared(mark: Mark, word: u64) -> Mark
 
 /// The mark once the CPU's count word was collected (localcount(9)).
 pub fn collected(mark: Mark) -> Mark
-    ensures { result ≡ collected mark }
+    ensures { result ≡ mark_after_collect mark }
 {
     Mark {
         collected: true,

@@ -1,7 +1,7 @@
 //! The names of interfaces and drivers.
 
 ghost use Rattle.std.specs.Prelude.{◌≡◌, ◌≤◌, ◌<◌, IsTrue, IfOk, IfSome, length};
-ghost use Rattle.registry_values.specs.Names.{bad_place, is_allowed, named, name_of, is_name, padded, bytes_of, are_zeros, is_rest, is_padded, are_name_words, is_lawful, named_by_words, RoundTrip, IsWritten};
+ghost use Rattle.registry_values.specs.Names.{bad_place, is_allowed, name_of_bytes, name_of, is_name, padded_bytes, bytes_of, are_zeros, is_rest, is_padded, are_name_words, is_lawful, name_of_words, RoundTrip, IsWritten};
 
 use thiserror::Error;
 
@@ -30,7 +30,7 @@ pub struct Name {
 impl Name {
     /// The name that the bytes are. Refused: `Empty`, `TooLong` and `BadByte`, tested in this order.
     pub fn parse(bytes: &[u8]) -> Result<Name, NameFault>
-        ensures value { result ≡ named bytes.now }
+        ensures value { result ≡ name_of_bytes bytes.now }
         ensures lawful { IfOk result (λ name. IsTrue (is_lawful name)) }
     {
         if bytes.is_empty() {
@@ -55,13 +55,20 @@ impl Name {
 
     /// The name that has these words; `None` where no name has them.
     pub fn from_words(high: u64, low: u64) -> Option<Name>
-        ensures { result ≡ named_by_words high low }
+        ensures { result ≡ name_of_words high low }
     {
         if are_name_words(high, low) {
             Some(Name { high, low })
         } else {
             None
         }
+    }
+
+    /// These two words, whether or not a name has them. `from_words` is the test; to look up words that no name has finds nothing.
+    pub fn of_words(high: u64, low: u64) -> Name
+        ensures { result ≡ record { high = high; low = low } }
+    {
+        Name { high, low }
     }
 
     fn from_bytes(text: &[u8]) -> Name
@@ -86,7 +93,7 @@ pub fn name_laws()
 /// The bytes, and zero bytes up to 16.
 fn padded(text: &[u8]) -> [u8; 16]
     requires { length text.now ≤ 16 }
-    ensures { result ≡ padded text.now }
+    ensures { result ≡ padded_bytes text.now }
 {
     let mut bytes = [0u8; 16];
     for (i, b) in text.iter().enumerate() {

@@ -1,7 +1,7 @@
 //! How far the destruction of a retired entry has come.
 
 ghost use Rattle.std.specs.Prelude.{◌≡◌, None};
-ghost use Rattle.registry_values.specs.Stages.{destroyed, stage_of};
+ghost use Rattle.registry_values.specs.Stages.{destroy_result, stage_of};
 
 use crate::refusal::Refusal;
 
@@ -32,7 +32,7 @@ pub fn settled(held: u64, slot: u8) -> Stage
 
 /// What a destroy answers by its last stage: the slot that was freed, or the obstacle as a refusal.
 pub fn destroyed(stage: Stage) -> Result<u8, Refusal>
-    ensures { result ≡ destroyed stage }
+    ensures { result ≡ destroy_result stage }
 {
     match stage {
         Stage::Freed(slot) => Ok(slot),

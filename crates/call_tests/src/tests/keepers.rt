@@ -15,7 +15,7 @@ use super::readers::Held;
 use super::records::{Wanted, record};
 use cpu_words::{Domain, Words};
 use local_count::publish_iface;
-use passive_list::{Keeper, Row, SlotState, glance, look, publish, retire, snapshot};
+use passive_list::{Keeper, KeptSlot, SlotState, glance, look, publish, retire, snapshot};
 use passive_ref::look_passive;
 use registry_values::{Entry, Key, Kind, Record, is_live_as};
 use std::process::Abort;
@@ -142,7 +142,7 @@ fn is_taken<D: Domain>(keeper: &Keeper<D>, rec: Record) -> bool
     is_live_in(&keeper.rows, key)
 }
 
-fn is_live_in(rows: &[Row], key: Key) -> bool
+fn is_live_in(rows: &[KeptSlot], key: Key) -> bool
     ensures { result ≡ list_any (is_live_row key) rows.now }
 {
     rows.iter().any(|row| is_live_as(key, &row.state))

@@ -18,7 +18,7 @@ use Rattle.protocol.specs.State.{State, with_cell, mark_at, count_at, total_at}
 use Rattle.registry_values.specs.Balances.{bias}
 use Rattle.registry_values.specs.Marks.{no_mark}
 use Rattle.registry_values.specs.Slots.{slot_at}
-use Rattle.protocol.specs.Invariant.{IsIn, IsCounting, subtracting_at, adding_at, is_adding_at}
+use Rattle.protocol.specs.Invariant.{IsIn, IsCounting, subtraction_due_at, addition_due_at, is_adding_at}
 use Rattle.registry_values.proofs.Fit.{ranges}
 use Rattle.protocol.proofs.slots.Cells.{get_or_all, row_here, row_other, cell_here, cell_other}
 use Rattle.protocol.proofs.history.History.{at_within, one_entry}
@@ -100,9 +100,9 @@ gives_up_on g c t v given_up u e lt used gone p = dite (ℕ_discrete u t)
     let mark : (get_or ms c no_mark).collected ≡ false = ap (λ k. (mark_at g.marks k c).collected) same ∙ used e (ap (slot_at g.slots) (sym same) ∙ gone) in
     let a = uncollected_sum collected_net ms ns c v (λ n. ap (λ b. cond b v 0) mark ∙ sym (ap (λ b. cond b n 0) mark)) in
     let b = uncollected_sum collected_one ms ns c v (λ n. refl) in
-    subst (λ r. total_at g.totals u + adding_at u g.due + number_at given_up e.number + bias * sum_by collected_one (zip ms r) ≡ bias * (1 + is_adding_at u g.due) + sum_by collected_net (zip ms r) + subtracting_at u g.due) (sym row)
-    (ap (λ k. total_at g.totals u + adding_at u g.due + number_at given_up e.number + bias * k) b ∙ p ∙ ap (λ k. bias * (1 + is_adding_at u g.due) + k + subtracting_at u g.due) (sym a)))
-    (λ (other : u ≢ t). subst (λ r. total_at g.totals u + adding_at u g.due + number_at given_up e.number + bias * sum_by collected_one (zip (get_or g.marks u []) r) ≡ bias * (1 + is_adding_at u g.due) + sum_by collected_net (zip (get_or g.marks u []) r) + subtracting_at u g.due)
+    subst (λ r. total_at g.totals u + addition_due_at u g.due + number_at given_up e.number + bias * sum_by collected_one (zip ms r) ≡ bias * (1 + is_adding_at u g.due) + sum_by collected_net (zip ms r) + subtraction_due_at u g.due) (sym row)
+    (ap (λ k. total_at g.totals u + addition_due_at u g.due + number_at given_up e.number + bias * k) b ∙ p ∙ ap (λ k. bias * (1 + is_adding_at u g.due) + k + subtraction_due_at u g.due) (sym a)))
+    (λ (other : u ≢ t). subst (λ r. total_at g.totals u + addition_due_at u g.due + number_at given_up e.number + bias * sum_by collected_one (zip (get_or g.marks u []) r) ≡ bias * (1 + is_adding_at u g.due) + sum_by collected_net (zip (get_or g.marks u []) r) + subtraction_due_at u g.due)
     (sym (row_other g.nets t c v u other)) p)
 
 -- the word of a retired slot that still counts has no collected mark

@@ -16,13 +16,13 @@ use Rattle.protocol.specs.declared.state.LocalPlace.{LocalPlace}
 use Rattle.protocol.specs.declared.state.LocalPlace.TheVariants.{Standing, Lifted}
 use Rattle.protocol.specs.History.{IsAttached}
 use Rattle.protocol.specs.State.{State, hand_at, local_at}
-use Rattle.protocol.specs.Events.{step, standing, least_id, with_local, split_ref, split_back}
+use Rattle.protocol.specs.Events.{step, number_standing, least_id, with_local, split_ref, split_back}
 use Rattle.protocol.specs.Invariant.{one_if, standing_of}
 use Rattle.protocol.proofs.counts.Bounds.{back_within}
 use Rattle.protocol.proofs.keeps.References.{back_holds}
 use Rattle.protocol.proofs.counts.Sums.{one_at, local_changed, local_added, standing_within}
 use Rattle.cpu_words.proofs.laws.Reaching.{more}
-use Rattle.cpu_words.proofs.logs.Seats.{seat_cut, seat_join}
+use Rattle.cpu_words.proofs.logs.Seats.{tells_nothing, seat_cut, seat_join}
 use Rattle.cpu_words.proofs.shown.Standing.{standing_place}
 use Rattle.cpu_words.specs.declared.view.InHand.{InHand}
 use Rattle.cpu_words.specs.declared.view.InHand.TheVariants.{Empty as NoEntry, Taking as TakingEntry, Giving as GivingEntry, Back as BackEntry}
@@ -34,11 +34,11 @@ use Rattle.cpu_words.specs.declared.view.View.{View}
 use Rattle.cpu_words.specs.declared.view.View.TheVariants.{Cpu, Reference, Spent}
 use Rattle.cpu_words.specs.Spots.{Spot, section_of, passive_of, count_of, head_word, next_of, record_of, total_of, word_at}
 use Rattle.cpu_words.specs.Views.{is_to, SameHand, HandFits, IsCollectedFor, CpuShown, ReferenceShown, cpu_of, reference_of}
-use Rattle.cpu_words.specs.Rule.{reference_to, Good, unnamed, did, deeds}
-use Rattle.cpu_words.specs.Logs.{the_cpu, maker, LoggedRuled, going_on, fresh, joined_seat, spent_seat, leaves_hand, cuts_off, takes_in}
+use Rattle.cpu_words.specs.Rule.{reference_to, Good, event_without_id, did, deeds}
+use Rattle.cpu_words.specs.Logs.{the_cpu, maker, LoggedRuled, logged_after_split, no_deeds, fresh, joined_seat, spent_seat, leaves_hand, cuts_off, takes_in}
 use Rattle.cpu_words.specs.Steps.{SplitsBy, JoinsBy, SplitsOn, JoinsOn}
 use Rattle.cpu_words.specs.Sections.{IsIdle}
-use Rattle.cpu_words.specs.Locals.{with_hand, reference_in, emptied, cut_off, taking_in, IsTaking, IsBack}
+use Rattle.cpu_words.specs.Locals.{with_hand, reference_in, with_empty_hand, reference_of_hand, with_reference_in_hand, IsTaking, IsBack}
 use Rattle.cpu_words.proofs.shown.Showing.{standing_in, backed, shows_split, shows_join}
 use Rattle.cpu_words.proofs.shown.Placing.{agrees_same}
 use Rattle.cpu_words.proofs.by_cpu.CpuSteps.{CpuLists, lists_of, with_lists, LeavesOthers, cpu_stays, good_after}
@@ -146,7 +146,7 @@ pub record Leaving (e : Event) (x : CpuView) (g : State) : Type 0 where
 abbrev pub LeavesHand : Event → CpuView → Type 0
 LeavesHand e x = (g : State) → Good g → CpuShown g x → Leaving e x g
 
-splits_by : (x : CpuView) (e : Event) → LeavesHand e x → SplitsBy e (Cpu x) (emptied (Cpu x)) (cut_off (Cpu x))
+splits_by : (x : CpuView) (e : Event) → LeavesHand e x → SplitsBy e (Cpu x) (with_empty_hand (Cpu x)) (reference_of_hand (Cpu x))
 splits_by x e leaves g good had =
     let p = leaves g good had in
     let m = p.step in record {
@@ -159,7 +159,7 @@ splits_by x e leaves g good had =
       count = λ n. let h = p.count n in omega arith;
     }
 
-splits : (z : Settings) (i : ℕ) (x : CpuView) (e : Event) → LeavesHand e x → SplitsOn z i (Cpu x) (emptied (Cpu x)) (cut_off (Cpu x)) (did e (Ref 0))
+splits : (z : Settings) (i : ℕ) (x : CpuView) (e : Event) → LeavesHand e x → SplitsOn z i (Cpu x) (with_empty_hand (Cpu x)) (reference_of_hand (Cpu x)) (did e (Ref 0))
 splits z i x e leaves s r at =
     let g = r.g in
     let had = r.shows.fits i (Cpu x) at in
@@ -177,16 +177,16 @@ splits z i x e leaves s r at =
         good = good_after g l x.id e p.r r.good after had.1.seated m.made;
         reached = (more z g (with_lists g l) e p.r r.reached m.made).0;
         words = agrees_same s.words g (with_lists g l) r.words refl (λ q there. same_words g x.id m.h m.locals q);
-        shows = shows_split g (with_lists g l) r.seat s.views i (Cpu x) (emptied (Cpu x)) (cut_off (Cpu x)) r.shows at (cpu_stays g l x.id r.seat i after had.0)
+        shows = shows_split g (with_lists g l) r.seat s.views i (Cpu x) (with_empty_hand (Cpu x)) (reference_of_hand (Cpu x)) r.shows at (cpu_stays g l x.id r.seat i after had.0)
             (had.0, shown_hand g x m.h m.locals NoEntry r.good had.1 m.same m.fits) (λ j. tt) (record { attached = p.right.attached; collected = p.right.collected }) (λ n. let h = p.count n in omega arith);
       };
     }
 
 -- the same of a seat, whose view is a CPU's
 
-pub seat_splits : (z : Settings) (i : ℕ) (l : Logged) (x : CpuView) (e : Event) → l ≡ record { view = Cpu (cpu_of l.view); log = l.log } → cpu_of l.view ≡ x → maker (unnamed e) ≡ the_cpu x.id → leaves_hand x.id x.hand ≡ did e (Ref 0) → LeavesHand e x
-    → Splits (LoggedRuled z) i l (going_on emptied cuts_off l) (fresh cut_off l)
-seat_splits z i l x e is view own does leaves = seat_cut z i l (Cpu x) emptied cut_off cuts_off (did e (Ref 0)) (is ∙ ap (λ (u : CpuView). record { view = Cpu u; log = l.log }) view) tt (own, tt) does (splits z i x e leaves)
+pub seat_splits : (z : Settings) (i : ℕ) (l : Logged) (x : CpuView) (e : Event) → l ≡ record l { view = Cpu (cpu_of l.view) } → cpu_of l.view ≡ x → maker (event_without_id e) ≡ the_cpu x.id → leaves_hand x.id x.hand ≡ did e (Ref 0) → LeavesHand e x
+    → Splits (LoggedRuled z) i l (logged_after_split with_empty_hand cuts_off l) (fresh reference_of_hand no_deeds l)
+seat_splits z i l x e is view own does leaves = seat_cut z i l (Cpu x) with_empty_hand reference_of_hand cuts_off no_deeds (did e (Ref 0)) (is ∙ ap (λ (u : CpuView). record l { view = Cpu u }) view) tt (own, tt) does (tells_nothing (record l { view = Cpu x }) (did e (Ref 0))) (splits z i x e leaves)
 
 -- what is in the hand says which
 pub does_split_ref : (x : CpuView) (c : ℕ) → x.id ≡ c → (e : Entry) × IsTaking x e → leaves_hand x.id x.hand ≡ did (SplitRef c) (Ref 0)
@@ -195,7 +195,7 @@ does_split_ref x c id may k = leaves_hand (id k) (may.1 k)
 pub does_split_back : (x : CpuView) (c : ℕ) → x.id ≡ c → (e : Entry) × IsBack x e → leaves_hand x.id x.hand ≡ did (SplitBack c) (Ref 0)
 does_split_back x c id may k = leaves_hand (id k) (may.1 k)
 
-pub seat_splits_by : (v a b : View) (x : CpuView) (e : Event) → cpu_of v ≡ x → a ≡ emptied v → b ≡ cut_off v → LeavesHand e x → SplitsBy e (Cpu x) (Cpu (cpu_of a)) (Reference (reference_of b))
+pub seat_splits_by : (v a b : View) (x : CpuView) (e : Event) → cpu_of v ≡ x → a ≡ with_empty_hand v → b ≡ reference_of_hand v → LeavesHand e x → SplitsBy e (Cpu x) (Cpu (cpu_of a)) (Reference (reference_of b))
 seat_splits_by v a b x e view left right leaves =
     let p : cpu_of a ≡ with_hand x NoEntry = ap cpu_of left ∙ ap (λ (u : CpuView). with_hand u NoEntry) view in
     let q : reference_of b ≡ reference_in x.id x.hand = ap reference_of right ∙ ap (λ (u : CpuView). reference_in u.id u.hand) view in
@@ -263,7 +263,7 @@ coming x c id idle e g good had attached some_one =
     let n = e.number in
     let place = standing_place n g.locals some_one in
     let p = place.0 in
-    let stands : standing (local_at g.locals p) ≡ Some n = ap standing place.1 in
+    let stands : number_standing (local_at g.locals p) ≡ Some n = ap number_standing place.1 in
     let seen = seen_of g x good had in subst (λ d. Coming d x e g) id (record {
       id = p;
       step = record {
@@ -284,7 +284,7 @@ stands_for g v has =
     let some_one : one_if (is_to n v.entry) ≤ standing_in n g = has n in
     omega arith
 
-joins_by : (x : CpuView) (c : ℕ) (v : ReferenceView) → x.id ≡ c → IsIdle x → JoinsBy (JoinRef c) (Cpu x) (Reference v) (taking_in (Cpu x) (Reference v))
+joins_by : (x : CpuView) (c : ℕ) (v : ReferenceView) → x.id ≡ c → IsIdle x → JoinsBy (JoinRef c) (Cpu x) (Reference v) (with_reference_in_hand (Cpu x) (Reference v))
 joins_by x c v id idle g good had shown has =
     let p = coming x c id idle v.entry g good had shown.attached (stands_for g v has) in
     let m = p.step in record {
@@ -296,10 +296,10 @@ joins_by x c v id idle g good had shown has =
       count = λ n. let h = p.count n in omega arith;
     }
 
-joins : (z : Settings) (i o : ℕ) (x : CpuView) (v : ReferenceView) → IsIdle x → JoinsOn z i (Cpu x) o (Reference v) (taking_in (Cpu x) (Reference v)) Spent (did (JoinRef x.id 0) Done)
+joins : (z : Settings) (i o : ℕ) (x : CpuView) (v : ReferenceView) → IsIdle x → JoinsOn z i (Cpu x) o (Reference v) (with_reference_in_hand (Cpu x) (Reference v)) Spent (did (JoinRef x.id 0) Done)
 joins z i o x v idle s r at apart there =
     let g = r.g in
-    let both = taking_in (Cpu x) (Reference v) in
+    let both = with_reference_in_hand (Cpu x) (Reference v) in
     let had = r.shows.fits i (Cpu x) at in
     let was : get_elem? s.views o ≡ some (Reference v) = ⊎_elim
     (λ (t : (o ≡ i) × (both ≡ Reference v)). absurd (apart t.0))
@@ -328,11 +328,11 @@ joins z i o x v idle s r at apart there =
 
 -- the same of two seats, whose views are a CPU's and a reference's
 
-pub seat_joins : (z : Settings) (i o : ℕ) (l m : Logged) (x : CpuView) → l ≡ record { view = Cpu (cpu_of l.view); log = l.log } → cpu_of l.view ≡ x → m ≡ record { view = Reference (reference_of m.view); log = m.log } → IsIdle x
-    → Joins (LoggedRuled z) i l o m (joined_seat taking_in takes_in l m) spent_seat
-seat_joins z i o l m x is view that idle = seat_join z i o l m (Cpu x) (Reference (reference_of m.view)) taking_in takes_in (did (JoinRef x.id 0) Done) (is ∙ ap (λ (u : CpuView). record { view = Cpu u; log = l.log }) view) that tt (refl, tt) refl (joins z i o x (reference_of m.view) idle)
+pub seat_joins : (z : Settings) (i o : ℕ) (l m : Logged) (x : CpuView) → l ≡ record l { view = Cpu (cpu_of l.view) } → cpu_of l.view ≡ x → m ≡ record m { view = Reference (reference_of m.view) } → IsIdle x
+    → Joins (LoggedRuled z) i l o m (joined_seat with_reference_in_hand takes_in l m) spent_seat
+seat_joins z i o l m x is view that idle = seat_join z i o l m (Cpu x) (Reference (reference_of m.view)) with_reference_in_hand takes_in (did (JoinRef x.id 0) Done) (is ∙ ap (λ (u : CpuView). record l { view = Cpu u }) view) that tt (refl, tt) refl (joins z i o x (reference_of m.view) idle)
 
-pub seat_joins_by : (v a : View) (x : CpuView) (c : ℕ) (u : View) (w : ReferenceView) → cpu_of v ≡ x → reference_of u ≡ w → a ≡ taking_in v u → x.id ≡ c → IsIdle x → JoinsBy (JoinRef c) (Cpu x) (Reference w) (Cpu (cpu_of a))
+pub seat_joins_by : (v a : View) (x : CpuView) (c : ℕ) (u : View) (w : ReferenceView) → cpu_of v ≡ x → reference_of u ≡ w → a ≡ with_reference_in_hand v u → x.id ≡ c → IsIdle x → JoinsBy (JoinRef c) (Cpu x) (Reference w) (Cpu (cpu_of a))
 seat_joins_by v a x c u w view that both id idle =
     let p : cpu_of a ≡ with_hand x (GivingEntry w.entry) = ap cpu_of both ∙ (λ k. with_hand (view k) (GivingEntry (that k).entry)) in
     subst (λ (y : CpuView). JoinsBy (JoinRef c) (Cpu x) (Reference w) (Cpu y)) (sym p) (joins_by x c w id idle)

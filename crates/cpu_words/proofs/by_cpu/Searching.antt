@@ -29,7 +29,7 @@ use Rattle.protocol.specs.History.{change_at, IsAttached, EndsAt, IsLiveAt, IsLa
 use Rattle.protocol.specs.State.{State, begin_at, seen_at, search_at, found_at, row_at}
 use Rattle.registry_values.specs.Slots.{are_words_of, slot_at}
 use Rattle.protocol.specs.Events.{step, with_some, load_link, link_loaded, load_searched, word}
-use Rattle.protocol.specs.Loaded.{loaded, judged, entry_with, row_of_place, outcome_of, SlotWithin}
+use Rattle.protocol.specs.Loaded.{loaded_at, loaded_of_name, entry_with, row_of_place, outcome_of, SlotWithin}
 use Rattle.protocol.specs.Invariant.{StandsOn, Holds, PlaceHolds}
 use Rattle.registry_values.proofs.Fit.{ranges}
 use Rattle.protocol.proofs.counts.Bounds.{search_within}
@@ -46,7 +46,7 @@ use Rattle.cpu_words.specs.Views.{own_of, cpu_view, cpu_of, depth_of, CpuShown}
 use Rattle.cpu_words.proofs.laws.Reaching.{goes_both}
 use Rattle.cpu_words.specs.Rule.{Agrees, Good, Ruled, GoesOn, did}
 use Rattle.cpu_words.specs.Steps.{Makes, CpuMay}
-use Rattle.cpu_words.specs.Searching.{sought, MaySeek, key_with, search_for, seeking, moved, MayLoadLink, link_answer, followed, LinkHolds, MayStandOn, Descends, HasFollowed, HasLoadedLink, HasSought, IsAtWord, MayLoadSearched, every_word, made_of, loaded_answer, searched, FoundHolds, HasSearched, HasLoadedWord}
+use Rattle.cpu_words.specs.Searching.{sought, MaySeek, key_with, search_for, cpu_after_seek, search_with_place, MayLoadLink, link_answer, cpu_after_link, LinkHolds, MayStandOn, Descends, HasFollowed, HasLoadedLink, HasSought, IsAtWord, MayLoadSearched, every_word, loaded_of, loaded_answer, cpu_after_record_word, FoundHolds, HasSearched, HasLoadedWord}
 use Rattle.cpu_words.proofs.shown.Placing.{agrees_same}
 use Rattle.cpu_words.proofs.shown.Passes.{at_prefix, attached_take, attached_prefix, taken_is_prefix, prefix_longer, take_whole}
 use Rattle.cpu_words.proofs.by_cpu.CpuSteps.{CpuLists, lists_of, with_lists, same_counts, shown_on, found_on, cpu_makes}
@@ -112,7 +112,7 @@ descends g c n (suc t) s q p r on walk whole tells above = λ e f old new.
 
 abbrev pub next_search : Search → ℕ → Option Search
 next_search q zero = None
-next_search q (suc t) = Some (moved q (AtNumber t))
+next_search q (suc t) = Some (search_with_place q (AtNumber t))
 
 abbrev pub next_found : Option Entry → ℕ → Option Entry
 next_found e zero = None
@@ -141,7 +141,7 @@ link_made : (g : State) (c : ℕ) (q : Search) (m : ℕ) → link_loaded g c q m
 link_made g c q zero = refl
 link_made g c q (suc t) = refl
 
-followed_is : (x : CpuView) (q : Search) (m : ℕ) (p : List Change) → record x { pass = p; search = next_search q m; found = next_found x.found m } ≡ followed x q m p
+followed_is : (x : CpuView) (q : Search) (m : ℕ) (p : List Change) → record x { pass = p; search = next_search q m; found = next_found x.found m } ≡ cpu_after_link x q m p
 followed_is x q zero p = refl
 followed_is x q (suc t) p = refl
 
@@ -174,7 +174,7 @@ follows z s r i x spot m n q at under found link tells above =
     let shown = shown_on g x l had refl refl refl (had.depth ∙ ap depth_of seen.begin) more within
     (λ e is. found_on g x (get_or l.seen x.id 0) had more within e (found_before (found_at g x.id) m e (sym finds ∙ is))) in
     let done = cpu_makes z s r i x spot m l (LoadLink x.id) (link_answer m) (own_of x) at made leaves (λ k. refl) refl shown (loaded_words s.words g l spot m found r.words refl refl refl) in
-    let change : y ≡ followed x q m y.pass =
+    let change : y ≡ cpu_after_link x q m y.pass =
     (λ k. record y { search = searches k; found = finds k }) ∙ ap (λ (v : CpuView). record v { pass = y.pass; search = next_search q m; found = next_found v.found m }) (sym had.is) ∙ followed_is x q m y.pass in
     let longer : IsPrefix x.pass y.pass = subst (λ p. IsPrefix p y.pass) (sym seen.pass) (prefix_longer g.history (seen_at g x.id) (get_or l.seen x.id 0) more within) in
     let holds : LinkHolds x.settings q m y.pass = subst (λ (a : Settings). LinkHolds a q m y.pass) (sym seen.settings) (link_holds g q n m y.pass r.good passes tells) in
@@ -233,7 +233,7 @@ abbrev pub begun_lists : State → ℕ → Search → CpuLists
 begun_lists g c q = record (lists_of g) { searches = set g.searches c (Some q) }
 
 begins_search : (z : Settings) (s : Table ℕ View) (r : Ruled z s) (i : ℕ) (x : CpuView) (spot m : ℕ) (kind : Kind) (name : Name) → get_elem? s.views i ≡ some (Cpu x) → MaySeek x → slice_index s.words spot ≡ m
-    → GoesOn z s r (did (Seek x.id kind name) Done) (stepped s spot m i [] (Cpu (seeking (key_with kind name) x)) keeps) × Makes (Seek x.id kind name) Done (Cpu x) (Cpu (seeking (key_with kind name) x))
+    → GoesOn z s r (did (Seek x.id kind name) Done) (stepped s spot m i [] (Cpu (cpu_after_seek (key_with kind name) x)) keeps) × Makes (Seek x.id kind name) Done (Cpu x) (Cpu (cpu_after_seek (key_with kind name) x))
 begins_search z s r i x spot m kind name at may found =
     let g = r.g in
     let key = key_with kind name in
@@ -250,7 +250,7 @@ begins_search z s r i x spot m kind name at may found =
     let size : length x.pass ≡ seen_at g x.id = ap (λ (p : List Change). length p) seen.pass ∙ length-take-le (seen_at g x.id) g.history seen.within in
     let start : q ≡ search_for key x = λ k. record { key = key; start = sym size k; place = AtHead } in
     let search : y.search ≡ Some (search_for key x) = get_or-set_same g.searches x.id (Some q) None seen.in_searches ∙ ap (λ (o : Search). Some o) start in
-    let change : y ≡ seeking key x = (λ k. record y { search = search k }) ∙ ap (λ (v : CpuView). record v { search = Some (search_for key x) }) (sym had.is) in
+    let change : y ≡ cpu_after_seek key x = (λ k. record y { search = search k }) ∙ ap (λ (v : CpuView). record v { search = Some (search_for key x) }) (sym had.is) in
     subst (λ (v : CpuView). GoesOn z s r (did (Seek x.id kind name) Done) (stepped s spot m i [] (Cpu v) keeps) × Makes (Seek x.id kind name) Done (Cpu x) (Cpu v)) change done
 
 seek_at : (z : Settings) (x : CpuView) (kind : Kind) (name : Name) → MaySeek x → CpuMay z x 648 (λ n. n) (sought (Seek x.id kind name)) (HasSought (Seek x.id kind name))
@@ -258,7 +258,7 @@ seek_at z x kind name may s r i at fits =
     let key = key_with kind name in
     let m = slice_index s.words 648 in
     let begun = begins_search z s r i x 648 m kind name at may refl in
-    let v = seeking key x in
+    let v = cpu_after_seek key x in
     let t : Table ℕ View = stepped s 648 m i [] (Cpu v) keeps in
     let here : get_elem? t.views i ≡ some (Cpu v) = at_same s.views i (Cpu x) (Cpu v) at in
     let stays : t.words ≡ s.words = set-get_or s.words 648 0 in
@@ -318,27 +318,27 @@ word_there : (rows : List RecordWords) (s t k j n : ℕ) → (s ≡ t) × (k ≡
 word_there rows s t k j n at is = ap (λ u. word (row_at rows u) j) at.0 ∙ ap (word (row_at rows t)) (sym at.1) ∙ sym is
 
 -- of the record words a search takes only the one at its place
-one_word : (q : Search) (p : SearchPlace) (rows : List RecordWords) (t k n : ℕ) → IsAtWord p t k → n ≡ word (row_at rows t) k → loaded q p (row_of_place rows p) ≡ loaded q p (every_word n)
+one_word : (q : Search) (p : SearchPlace) (rows : List RecordWords) (t k n : ℕ) → IsAtWord p t k → n ≡ word (row_at rows t) k → loaded_at q p (row_of_place rows p) ≡ loaded_at q p (every_word n)
 one_word q AtHead rows t k n at is = absurd at
 one_word q (AtNext s) rows t k n at is = absurd at
-one_word q (AtNumber s) rows t k n at is = ap (λ v. loaded q (AtNumber s) (every_word v)) (word_there rows s t k 0 n at is)
-one_word q (AtKind s m) rows t k n at is = ap (λ v. loaded q (AtKind s m) (every_word v)) (word_there rows s t k 1 n at is)
-one_word q (AtHigh s m w) rows t k n at is = ap (λ v. loaded q (AtHigh s m w) (every_word v)) (word_there rows s t k 2 n at is)
-one_word q (AtLow s m w h) rows t k n at is = ap (λ v. loaded q (AtLow s m w h) (every_word v)) (word_there rows s t k 3 n at is)
-one_word q (AtValue s m) rows t k n at is = ap (λ v. loaded q (AtValue s m) (every_word v)) (word_there rows s t k 4 n at is)
+one_word q (AtNumber s) rows t k n at is = ap (λ v. loaded_at q (AtNumber s) (every_word v)) (word_there rows s t k 0 n at is)
+one_word q (AtKind s m) rows t k n at is = ap (λ v. loaded_at q (AtKind s m) (every_word v)) (word_there rows s t k 1 n at is)
+one_word q (AtHigh s m w) rows t k n at is = ap (λ v. loaded_at q (AtHigh s m w) (every_word v)) (word_there rows s t k 2 n at is)
+one_word q (AtLow s m w h) rows t k n at is = ap (λ v. loaded_at q (AtLow s m w h) (every_word v)) (word_there rows s t k 3 n at is)
+one_word q (AtValue s m) rows t k n at is = ap (λ v. loaded_at q (AtValue s m) (every_word v)) (word_there rows s t k 4 n at is)
 
 -- a place at a word makes something of it
-makes_some : (q : Search) (p : SearchPlace) (t k n : ℕ) → IsAtWord p t k → (o : Loaded) × (loaded q p (every_word n) ≡ Some o)
+makes_some : (q : Search) (p : SearchPlace) (t k n : ℕ) → IsAtWord p t k → (o : Loaded) × (loaded_at q p (every_word n) ≡ Some o)
 makes_some q AtHead t k n at = absurd at
 makes_some q (AtNext s) t k n at = absurd at
 makes_some q (AtNumber s) t k n at = (On (AtKind s n) n, refl)
 makes_some q (AtKind s m) t k n at = (On (AtHigh s m n) n, refl)
 makes_some q (AtHigh s m w) t k n at = (On (AtLow s m w n) n, refl)
-makes_some q (AtLow s m w h) t k n at = (judged s m n (are_words_of q.key w h n), refl)
+makes_some q (AtLow s m w h) t k n at = (loaded_of_name s m n (are_words_of q.key w h n), refl)
 makes_some q (AtValue s m) t k n at = (Over (entry_with q.key s m n), refl)
 
 abbrev pub loaded_search : Search → Loaded → Option Search
-loaded_search q (On p w) = Some (moved q p)
+loaded_search q (On p w) = Some (search_with_place q p)
 loaded_search q (Over e) = None
 
 abbrev pub loaded_found : Option Entry → Loaded → Option Entry
@@ -364,7 +364,7 @@ loaded_made : (g : State) (c : ℕ) (q : Search) (o : Loaded) → outcome_of g c
 loaded_made g c q (On p w) = refl
 loaded_made g c q (Over e) = refl
 
-searched_is : (x : CpuView) (q : Search) (o : Loaded) → record x { search = loaded_search q o; found = loaded_found x.found o } ≡ searched x q (Some o)
+searched_is : (x : CpuView) (q : Search) (o : Loaded) → record x { search = loaded_search q o; found = loaded_found x.found o } ≡ cpu_after_record_word x q (Some o)
 searched_is x q (On p w) = refl
 searched_is x q (Over e) = refl
 
@@ -377,7 +377,7 @@ found_shown p q old (On place w) before holds e is = before e is
 found_shown p q old (Over f) before holds e is = subst (IsAttached p) (same_Some f e is) holds.1
 
 searches_word : (z : Settings) (s : Table ℕ View) (r : Ruled z s) (i : ℕ) (x : CpuView) (spot m : ℕ) (q : Search) (o : Loaded) → get_elem? s.views i ≡ some (Cpu x) → x.search ≡ Some q
-    → slice_index s.words spot ≡ m → made_of (Some q) m ≡ Some o → loaded q q.place (row_of_place r.g.rows q.place) ≡ Some o
+    → slice_index s.words spot ≡ m → loaded_of (Some q) m ≡ Some o → loaded_at q q.place (row_of_place r.g.rows q.place) ≡ Some o
     → ((t : ℕ) → q.place ≡ AtNumber t → (row_at r.g.rows t).number ≡ m)
     → (y : CpuView) × GoesOn z s r (did (LoadRecord (OfSearch x.id)) (loaded_answer (Some o))) (stepped s spot m i [] (Cpu y) keeps) × Makes (LoadRecord (OfSearch x.id)) (loaded_answer (Some o)) (Cpu x) (Cpu y) × HasSearched x q m y
 searches_word z s r i x spot m q o at under found makes load numbered =
@@ -401,7 +401,7 @@ searches_word z s r i x spot m q o at under found makes load numbered =
     let shown = shown_on g x l had refl refl refl (had.depth ∙ ap depth_of seen.begin) (omega arith) seen.within
     (λ e is. found_shown (take sees g.history) q (found_at g x.id) o (found_on g x sees had (omega arith) seen.within) holds e (sym finds ∙ is)) in
     let done = cpu_makes z s r i x spot m l (LoadRecord (OfSearch x.id)) (loaded_answer (Some o)) (own_of x) at made leaves (λ k. refl) refl shown (loaded_words s.words g l spot m found r.words refl refl refl) in
-    let change : y ≡ searched x q (Some o) =
+    let change : y ≡ cpu_after_record_word x q (Some o) =
     (λ k. record y { search = searches k; found = finds k }) ∙ ap (λ (v : CpuView). record v { search = loaded_search q o; found = loaded_found v.found o }) (sym had.is) ∙ searched_is x q o in
     let on = r.good.holds in
     let walk : Walks g x.id q.start = search_walks g x.id q on searching in
@@ -409,11 +409,11 @@ searches_word z s r i x spot m q o at under found makes load numbered =
     let stands = subst (PlaceHolds g.history q.start sees q.key) place (on.searches x.id q searching).stands in
     let row = words_stand g x.id q.start sees t stands.0 on walk stands.1 in
     (stands.0, stands_by_pass g.history sees t q stands.0 seen.within stands.1, sym (ap (λ (w : RecordWords). w.number) row) ∙ numbered t place) in
-    (y, done.0, done.1, record { is = change ∙ ap (searched x q) (sym makes); holds = subst (λ (u : Option Loaded). FoundHolds q u y.pass) (sym makes) holds; number = number })
+    (y, done.0, done.1, record { is = change ∙ ap (cpu_after_record_word x q) (sym makes); holds = subst (λ (u : Option Loaded). FoundHolds q u y.pass) (sym makes) holds; number = number })
 
 pub load_searched_may : (z : Settings) (x : CpuView) (c t k : ℕ) → x.id ≡ c → MayLoadSearched x t k
-    → CpuMay z x (657 + 8 * t + k) (λ n. n) (λ n. did (LoadRecord (OfSearch c)) (loaded_answer (made_of x.search n))) (λ v n y. Makes (LoadRecord (OfSearch c)) (loaded_answer (made_of v.search n)) (Cpu v) (Cpu y) × HasLoadedWord v n y)
-load_searched_may z x c t k id may = subst (λ d. CpuMay z x (657 + 8 * t + k) (λ n. n) (λ n. did (LoadRecord (OfSearch d)) (loaded_answer (made_of x.search n))) (λ v n y. Makes (LoadRecord (OfSearch d)) (loaded_answer (made_of v.search n)) (Cpu v) (Cpu y) × HasLoadedWord v n y)) id
+    → CpuMay z x (657 + 8 * t + k) (λ n. n) (λ n. did (LoadRecord (OfSearch c)) (loaded_answer (loaded_of x.search n))) (λ v n y. Makes (LoadRecord (OfSearch c)) (loaded_answer (loaded_of v.search n)) (Cpu v) (Cpu y) × HasLoadedWord v n y)
+load_searched_may z x c t k id may = subst (λ d. CpuMay z x (657 + 8 * t + k) (λ n. n) (λ n. did (LoadRecord (OfSearch d)) (loaded_answer (loaded_of x.search n))) (λ v n y. Makes (LoadRecord (OfSearch d)) (loaded_answer (loaded_of v.search n)) (Cpu v) (Cpu y) × HasLoadedWord v n y)) id
     (λ s r i at fits.
     let g = r.g in
     let q = may.search in
@@ -428,7 +428,7 @@ load_searched_may z x c t k id may = subst (λ d. CpuMay z x (657 + 8 * t + k) (
     let load = one_word q q.place g.rows t k m may.place found ∙ some.1 in
     let numbered : (u : ℕ) → q.place ≡ AtNumber u → (row_at g.rows u).number ≡ m = λ u at_number. word_there g.rows u t k 0 m (subst (λ (p : SearchPlace). IsAtWord p t k) at_number may.place) found in
     let done = searches_word z s r i x place m q some.0 at may.under_way refl some.1 load numbered in
-    let answer : loaded_answer (Some some.0) ≡ loaded_answer (made_of x.search m) = ap loaded_answer (sym some.1 ∙ ap (λ (p : Option Search). made_of p m) (sym may.under_way)) in (
+    let answer : loaded_answer (Some some.0) ≡ loaded_answer (loaded_of x.search m) = ap loaded_answer (sym some.1 ∙ ap (λ (p : Option Search). loaded_of p m) (sym may.under_way)) in (
       Cpu done.0,
       subst (λ (a : Reply). GoesOn z s r (did (LoadRecord (OfSearch x.id)) a) (stepped s place m i [] (Cpu done.0) keeps)) answer done.1,
       (
@@ -442,9 +442,9 @@ load_searched_may z x c t k id may = subst (λ d. CpuMay z x (657 + 8 * t + k) (
 
 -- For the callers of these steps
 
-pub followed_on : (x : CpuView) (q : Search) (n : ℕ) (p : List Change) → n ≢ 0 → followed x q n p ≡ record x { pass = p; search = Some (moved q (AtNumber (n - 1))) }
+pub followed_on : (x : CpuView) (q : Search) (n : ℕ) (p : List Change) → n ≢ 0 → cpu_after_link x q n p ≡ record x { pass = p; search = Some (search_with_place q (AtNumber (n - 1))) }
 followed_on x q zero p ne = absurd (ne refl)
-followed_on x q (suc t) p ne = let same : suc t - 1 ≡ t = omega arith in ap (λ u. record x { pass = p; search = Some (moved q (AtNumber u)) }) (sym same)
+followed_on x q (suc t) p ne = let same : suc t - 1 ≡ t = omega arith in ap (λ u. record x { pass = p; search = Some (search_with_place q (AtNumber u)) }) (sym same)
 
 pub link_below : (x y : CpuView) (q : Search) (s t n : ℕ) → q.place ≡ AtNext s → HasFollowed x q (suc t) y → ((e : Entry) × MayStandOn x.pass q s e × (e.number ≡ n)) → (f : Entry) → MayStandOn y.pass q t f → f.number < n
 link_below x y q s t n place had there f stands = omega (arith, had.descends s place there.0 f there.1 stands, there.2)

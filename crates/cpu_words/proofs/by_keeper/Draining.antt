@@ -11,10 +11,10 @@ use Rattle.protocol.specs.declared.state.Due.TheVariants.{Rest, Adding}
 use Rattle.protocol.specs.declared.event.Event.TheVariants.{PassiveLook, Collect}
 use Rattle.protocol.specs.declared.event.Reply.TheVariants.{Word}
 use Rattle.protocol.specs.State.{State, cell, with_cell, mark_at, passive_at, count_at}
-use Rattle.registry_values.specs.Marks.{no_mark, have_passed, are_clear, cleared, collected}
+use Rattle.registry_values.specs.Marks.{no_mark, have_passed, are_clear, mark_after_passive_look, mark_after_collect}
 use Rattle.registry_values.specs.Slots.{slot_at}
 use Rattle.protocol.specs.Events.{step}
-use Rattle.protocol.specs.Invariant.{adding_at, is_adding_at}
+use Rattle.protocol.specs.Invariant.{addition_due_at, is_adding_at}
 use Rattle.registry_values.proofs.Fit.{ranges}
 use Rattle.protocol.proofs.slots.Cells.{cell_cases, cell_here, cell_other}
 use Rattle.protocol.proofs.counts.HeldSums.{one_self, one_other}
@@ -24,7 +24,7 @@ use Rattle.cpu_words.specs.Spots.{Spot, section_of, passive_of, count_of, head_w
 use Rattle.cpu_words.specs.Views.{KeeperOwn, keeper_own, keeper_view, KeeperShown, GivesUp, collected_net, collected_one}
 use Rattle.cpu_words.specs.Rule.{Agrees, Good, did}
 use Rattle.cpu_words.specs.Steps.{Makes, KeeperMay}
-use Rattle.cpu_words.specs.Grace.{MayLook, having_looked}
+use Rattle.cpu_words.specs.Grace.{MayLook, keeper_after_look}
 use Rattle.cpu_words.specs.Draining.{MayPassiveLook, LookedPassiveTold, MayCollect, CollectTold}
 use Rattle.cpu_words.proofs.shown.Placing.{agrees_set}
 use Rattle.cpu_words.proofs.by_keeper.KeeperSteps.{KeeperLists, keeper_lists, with_keeper, leaves_all, keeper_makes}
@@ -64,25 +64,25 @@ passive_look_may z k t c may s r i at fits =
     let w = slice_index s.words place in
     let found : w ≡ passive_at g.passive c t = r.words.at (passive_of c t) (here.cpu, here.slot) in
     let passed : have_passed g.settings.cpus (get_or g.marks t []) ≡ true = row_told have_passed g k t seen may.passed in
-    let m : Mark = cleared (mark_at g.marks t c) (passive_at g.passive c t) in
+    let m : Mark = mark_after_passive_look (mark_at g.marks t c) (passive_at g.passive c t) in
     let l : KeeperLists = record (keeper_lists g) { marks = with_cell g.marks t c m } in
-    let own : KeeperOwn = keeper_own (having_looked k (PassiveLook t c) (Word w)) in
+    let own : KeeperOwn = keeper_own (keeper_after_look k (PassiveLook t c) (Word w)) in
     let made : step g (PassiveLook t c) ≡ Some (record { state = with_keeper g l; reply = Word w }) = rw (here.rest, here.retired, lt-ltb c g.settings.cpus here.cpu, passed, found) refl in
     let shown : KeeperShown (with_keeper g l) (keeper_view (with_keeper g l) own) = shown_marked g k t c m g.due own r.good had here.cpu refl (due_alike g.due g.due refl) refl refl refl in
     let done = keeper_makes z s r i k place w l (PassiveLook t c) (Word w) own at made (leaves_all g l refl refl refl refl (same_collected g t c m refl)) (λ n. refl) refl shown (loads s.words g (with_keeper g l) place r.words refl (λ q _. refl)) in
-    let change : keeper_view (with_keeper g l) own ≡ record (having_looked k (PassiveLook t c) (Word w)) { marks = with_cell k.marks t c (cleared (mark_at k.marks t c) w) } =
-    ap (λ n. record (keeper_view g own) { marks = with_cell g.marks t c (cleared (mark_at g.marks t c) n) }) (sym found) ∙ ap (λ (v : KeeperView). record (having_looked v (PassiveLook t c) (Word w)) { marks = with_cell v.marks t c (cleared (mark_at v.marks t c) w) }) (sym had.is) in
+    let change : keeper_view (with_keeper g l) own ≡ record (keeper_after_look k (PassiveLook t c) (Word w)) { marks = with_cell k.marks t c (mark_after_passive_look (mark_at k.marks t c) w) } =
+    ap (λ n. record (keeper_view g own) { marks = with_cell g.marks t c (mark_after_passive_look (mark_at g.marks t c) n) }) (sym found) ∙ ap (λ (v : KeeperView). record (keeper_after_look v (PassiveLook t c) (Word w)) { marks = with_cell v.marks t c (mark_after_passive_look (mark_at v.marks t c) w) }) (sym had.is) in
     (Keeper (keeper_view (with_keeper g l) own), done.0, (refl, (done.1, change)))
 
 -- the state with a word collected
 abbrev collecting : State → ℕ → ℕ → KeeperLists
-collecting g t c = record (keeper_lists g) { counts = with_cell g.counts t c 0; marks = with_cell g.marks t c (collected (mark_at g.marks t c)); due = Adding t (count_at g.counts c t) }
+collecting g t c = record (keeper_lists g) { counts = with_cell g.counts t c 0; marks = with_cell g.marks t c (mark_after_collect (mark_at g.marks t c)); due = Adding t (count_at g.counts c t) }
 
 -- the total of the slot, with the word that is collected, and of another slot
 gives_up_collected : (g : State) (t c : ℕ) (given_up : List ℕ) → Good g → Looking g t c → (mark_at g.marks t c).collected ≡ false
     → (u : ℕ) (e : Entry) → slot_at g.slots u ≡ Retired e → GivesUp g given_up u e.number → GivesUp (with_keeper g (collecting g t c)) given_up u e.number
 gives_up_collected g t c given_up good here still u e retired was =
-    let m : Mark = collected (mark_at g.marks t c) in
+    let m : Mark = mark_after_collect (mark_at g.marks t c) in
     let rest = due_alike g.due Rest here.rest u in
     ⊎_elim
     (λ (is : u ≡ t). subst (λ v. GivesUp g given_up v e.number → GivesUp (with_keeper g (collecting g t c)) given_up v e.number) (sym is) (at_it is) was)
@@ -90,14 +90,14 @@ gives_up_collected g t c given_up good here still u e retired was =
     let ne : t ≢ u = λ q. off (sym q) in
     let p = sum_off collected_one g t c m u off in
     let q = sum_off collected_net g t c m u off in
-    let a : adding_at u (Adding t (count_at g.counts c t)) ≡ 0 = ap (λ (b : Bool). cond b (count_at g.counts c t) 0) (ne_eqb t u ne) in
+    let a : addition_due_at u (Adding t (count_at g.counts c t)) ≡ 0 = ap (λ (b : Bool). cond b (count_at g.counts c t) 0) (ne_eqb t u ne) in
     let b : is_adding_at u (Adding t (count_at g.counts c t)) ≡ 0 = one_other t u ne in
     omega (arith, was, rest.0, rest.1, rest.2, a, b, p, q))
     (cases_eq u t)
   where
     at_it : u ≡ t → GivesUp g given_up t e.number → GivesUp (with_keeper g (collecting g t c)) given_up t e.number
     at_it is was =
-        let m : Mark = collected (mark_at g.marks t c) in
+        let m : Mark = mark_after_collect (mark_at g.marks t c) in
         let lt : t < length g.slots = in_within g.slots t here.e (inr here.retired) in
         let one = sum_here collected_one g t c m good lt here.cpu in
         let net = sum_here collected_net g t c m good lt here.cpu in
@@ -105,7 +105,7 @@ gives_up_collected g t c given_up good here still u e retired was =
         let net_old : collected_net (mark_at g.marks t c, count_at g.nets c t) ≡ 0 = ap (λ (b : Bool). cond b (count_at g.nets c t) 0) still in
         let counted = (good.holds.balance.counted c t here.cpu (here.e, inr (here.retired, still))).0 in
         let rest = due_alike g.due Rest here.rest t in
-        let a : adding_at t (Adding t (count_at g.counts c t)) ≡ count_at g.counts c t = ap (λ (b : Bool). cond b (count_at g.counts c t) 0) (eq-eqb t t refl) in
+        let a : addition_due_at t (Adding t (count_at g.counts c t)) ≡ count_at g.counts c t = ap (λ (b : Bool). cond b (count_at g.counts c t) 0) (eq-eqb t t refl) in
         let b : is_adding_at t (Adding t (count_at g.counts c t)) ≡ 1 = one_self t t refl in
         omega (arith, was, rest.0, rest.1, rest.2, a, b, one, net, one_old, net_old, counted)
 
@@ -121,18 +121,18 @@ shown_collected g k t c good had here still = record {
   gives_up = λ u e retired. gives_up_collected g t c k.given_up good here still u e retired (had.gives_up u e retired);
   later = had.later;
   beyond = λ d u past. ⊎_elim
-      (λ (at : (u ≡ t) × (d ≡ c) × (cell no_mark (with_cell g.marks t c (collected (mark_at g.marks t c))) u d ≡ collected (mark_at g.marks t c))). absurd (let e = at.1 in omega (arith, e, past, here.cpu)))
-      (λ (off : cell no_mark (with_cell g.marks t c (collected (mark_at g.marks t c))) u d ≡ cell no_mark g.marks u d). ap (λ (x : Mark). x.collected) off ∙ had.beyond d u past)
-      (cell_cases no_mark g.marks t c (collected (mark_at g.marks t c)) u d);
+      (λ (at : (u ≡ t) × (d ≡ c) × (cell no_mark (with_cell g.marks t c (mark_after_collect (mark_at g.marks t c))) u d ≡ mark_after_collect (mark_at g.marks t c))). absurd (let e = at.1 in omega (arith, e, past, here.cpu)))
+      (λ (off : cell no_mark (with_cell g.marks t c (mark_after_collect (mark_at g.marks t c))) u d ≡ cell no_mark g.marks u d). ap (λ (x : Mark). x.collected) off ∙ had.beyond d u past)
+      (cell_cases no_mark g.marks t c (mark_after_collect (mark_at g.marks t c)) u d);
   heard = had.heard;
 }
 
 -- what was collected stays so
-still_collected : (g : State) (t c : ℕ) (u d : ℕ) → (mark_at g.marks u d).collected ≡ true → (mark_at (with_cell g.marks t c (collected (mark_at g.marks t c))) u d).collected ≡ true
+still_collected : (g : State) (t c : ℕ) (u d : ℕ) → (mark_at g.marks u d).collected ≡ true → (mark_at (with_cell g.marks t c (mark_after_collect (mark_at g.marks t c))) u d).collected ≡ true
 still_collected g t c u d is = ⊎_elim
-    (λ (at : (u ≡ t) × (d ≡ c) × (cell no_mark (with_cell g.marks t c (collected (mark_at g.marks t c))) u d ≡ collected (mark_at g.marks t c))). ap (λ (x : Mark). x.collected) at.2)
-    (λ (off : cell no_mark (with_cell g.marks t c (collected (mark_at g.marks t c))) u d ≡ cell no_mark g.marks u d). ap (λ (x : Mark). x.collected) off ∙ is)
-    (cell_cases no_mark g.marks t c (collected (mark_at g.marks t c)) u d)
+    (λ (at : (u ≡ t) × (d ≡ c) × (cell no_mark (with_cell g.marks t c (mark_after_collect (mark_at g.marks t c))) u d ≡ mark_after_collect (mark_at g.marks t c))). ap (λ (x : Mark). x.collected) at.2)
+    (λ (off : cell no_mark (with_cell g.marks t c (mark_after_collect (mark_at g.marks t c))) u d ≡ cell no_mark g.marks u d). ap (λ (x : Mark). x.collected) off ∙ is)
+    (cell_cases no_mark g.marks t c (mark_after_collect (mark_at g.marks t c)) u d)
 
 -- the words after it
 collect_words : (words : List ℕ) (g : State) (t c : ℕ) → Good g → Looking g t c → Agrees words g → Agrees (set words (80 * c + 33 + t) 0) (with_keeper g (collecting g t c))
@@ -170,6 +170,6 @@ collect_may z k t c may s r i at fits =
     let made : step g (Collect t c) ≡ Some (record { state = with_keeper g l; reply = Word w }) = rw (here.rest, here.retired, lt-ltb c g.settings.cpus here.cpu, passed, clear, still, found) refl in
     let shown = shown_collected g k t c r.good had here still in
     let done = keeper_makes z s r i k place 0 l (Collect t c) (Word w) own at made (leaves_all g l refl refl refl refl (still_collected g t c)) (λ n. refl) refl shown (collect_words s.words g t c r.good here r.words) in
-    let change : keeper_view (with_keeper g l) own ≡ record k { marks = with_cell k.marks t c (collected (mark_at k.marks t c)); due = Adding t w } =
-    ap (λ n. record (keeper_view g own) { marks = with_cell g.marks t c (collected (mark_at g.marks t c)); due = Adding t n }) (sym found) ∙ ap (λ (v : KeeperView). record v { marks = with_cell v.marks t c (collected (mark_at v.marks t c)); due = Adding t w }) (sym had.is) in
+    let change : keeper_view (with_keeper g l) own ≡ record k { marks = with_cell k.marks t c (mark_after_collect (mark_at k.marks t c)); due = Adding t w } =
+    ap (λ n. record (keeper_view g own) { marks = with_cell g.marks t c (mark_after_collect (mark_at g.marks t c)); due = Adding t n }) (sym found) ∙ ap (λ (v : KeeperView). record v { marks = with_cell v.marks t c (mark_after_collect (mark_at v.marks t c)); due = Adding t w }) (sym had.is) in
     (Keeper (keeper_view (with_keeper g l) own), done.0, (refl, (done.1, change)))

@@ -14,7 +14,7 @@ use Rattle.protocol.specs.declared.event.Reply.TheVariants.{Word}
 use Rattle.protocol.specs.State.{State, with_cell, section_at, mark_at, at_rest}
 use Rattle.registry_values.specs.Slots.{slot_at}
 use Rattle.protocol.specs.Events.{step, snapshot_mark}
-use Rattle.registry_values.specs.Marks.{looked}
+use Rattle.registry_values.specs.Marks.{mark_after_look}
 use Rattle.protocol.specs.Invariant.{DueHolds}
 use Rattle.cpu_words.specs.declared.view.KeeperView.{KeeperView}
 use Rattle.cpu_words.specs.declared.view.View.TheVariants.{Keeper}
@@ -22,7 +22,7 @@ use Rattle.cpu_words.specs.Spots.{section_of}
 use Rattle.cpu_words.specs.Views.{KeeperOwn, keeper_own, keeper_view, KeeperShown}
 use Rattle.cpu_words.specs.Rule.{did}
 use Rattle.cpu_words.specs.Steps.{Makes, KeeperMay}
-use Rattle.cpu_words.specs.Grace.{MayGlance, MayLook, MaySnapshot, due_next, LookTold, having_looked}
+use Rattle.cpu_words.specs.Grace.{MayGlance, MayLook, MaySnapshot, due_next, LookTold, keeper_after_look}
 use Rattle.cpu_words.proofs.by_keeper.KeeperSteps.{KeeperLists, keeper_lists, with_keeper, leaves_all, keeper_makes}
 use Rattle.cpu_words.proofs.by_keeper.KeeperSees.{seen_by_keeper, loads}
 use Rattle.cpu_words.proofs.by_keeper.Marked.{DueAlike, due_alike, same_collected, shown_marked}
@@ -38,19 +38,19 @@ look_may z k t c may s r i at fits =
     let e = may.retired.0 in
     let retired : slot_at g.slots t ≡ Retired e = sym (ap (λ (x : List Slot). slot_at x t) seen.slots) ∙ may.retired.1 in
     let rest : g.due ≡ Rest = sym seen.due ∙ may.glance.rest in
-    let m : Mark = looked (mark_at g.marks t c) (section_at g c) in
+    let m : Mark = mark_after_look (mark_at g.marks t c) (section_at g c) in
     let l : KeeperLists = record (keeper_lists g) { marks = with_cell g.marks t c m } in
-    let own : KeeperOwn = keeper_own (having_looked k (Look (Some t) c) (Word w)) in
+    let own : KeeperOwn = keeper_own (keeper_after_look k (Look (Some t) c) (Word w)) in
     let made : step g (Look (Some t) c) ≡ Some (record { state = with_keeper g l; reply = Word w }) = rw (rest, retired, lt-ltb c g.settings.cpus lt, found) refl in
     let shown : KeeperShown (with_keeper g l) (keeper_view (with_keeper g l) own) = shown_marked g k t c m g.due own r.good had lt refl (due_alike g.due g.due refl) refl refl refl in
     let done = keeper_makes z s r i k (80 * c) w l (Look (Some t) c) (Word w) own at made (leaves_all g l refl refl refl refl (same_collected g t c m refl)) (λ n. refl) refl shown (loads s.words g (with_keeper g l) (80 * c) r.words refl (λ q _. refl)) in
-    let change : keeper_view (with_keeper g l) own ≡ record (having_looked k (Look (Some t) c) (Word w)) { marks = with_cell k.marks t c (looked (mark_at k.marks t c) w) } =
-    ap (λ n. record (keeper_view g own) { marks = with_cell g.marks t c (looked (mark_at g.marks t c) n) }) (sym found) ∙ ap (λ (v : KeeperView). record (having_looked v (Look (Some t) c) (Word w)) { marks = with_cell v.marks t c (looked (mark_at v.marks t c) w) }) (sym had.is) in
+    let change : keeper_view (with_keeper g l) own ≡ record (keeper_after_look k (Look (Some t) c) (Word w)) { marks = with_cell k.marks t c (mark_after_look (mark_at k.marks t c) w) } =
+    ap (λ n. record (keeper_view g own) { marks = with_cell g.marks t c (mark_after_look (mark_at g.marks t c) n) }) (sym found) ∙ ap (λ (v : KeeperView). record (keeper_after_look v (Look (Some t) c) (Word w)) { marks = with_cell v.marks t c (mark_after_look (mark_at v.marks t c) w) }) (sym had.is) in
     (Keeper (keeper_view (with_keeper g l) own), done.0, (refl, (done.1, change)))
 
 -- a load of a section word for no entry
 glance_may : (z : Settings) (k : KeeperView) (c : ℕ) (e : Event) → MayGlance k c → ((g : State) → at_rest g.due ≡ true → nat_lt c g.settings.cpus ≡ true → step g e ≡ Some (record { state = g; reply = Word (section_at g c) }))
-    → KeeperMay z k (80 * c) (λ n. n) (λ n. did e (Word n)) (λ v n l. Makes e (Word n) (Keeper v) (Keeper l) × (l ≡ having_looked v e (Word n)))
+    → KeeperMay z k (80 * c) (λ n. n) (λ n. did e (Word n)) (λ v n l. Makes e (Word n) (Keeper v) (Keeper l) × (l ≡ keeper_after_look v e (Word n)))
 glance_may z k c e may steps s r i at fits =
     let g = r.g in
     let had : KeeperShown g k = (r.shows.fits i (Keeper k) at).1 in
@@ -59,11 +59,11 @@ glance_may z k c e may steps s r i at fits =
     let w = slice_index s.words (80 * c) in
     let found : w ≡ section_at g c = r.words.at (section_of c) lt in
     let l = keeper_lists g in
-    let own : KeeperOwn = keeper_own (having_looked k e (Word w)) in
+    let own : KeeperOwn = keeper_own (keeper_after_look k e (Word w)) in
     let made : step g e ≡ Some (record { state = with_keeper g l; reply = Word w }) = steps g (ap at_rest (sym seen.due ∙ may.rest)) (lt-ltb c g.settings.cpus lt) ∙ ap (λ n. Some (record { state = g; reply = Word n })) (sym found) in
     let shown : KeeperShown (with_keeper g l) (keeper_view (with_keeper g l) own) = record { is = refl; counts = had.counts; sized = had.sized; rows = had.rows; live_total = had.live_total; gives_up = had.gives_up; later = had.later; beyond = had.beyond; heard = had.heard } in
     let done = keeper_makes z s r i k (80 * c) w l e (Word w) own at made (leaves_all g l refl refl refl refl (λ t d is. is)) (λ n. refl) refl shown (loads s.words g (with_keeper g l) (80 * c) r.words refl (λ q _. refl)) in
-    (Keeper (keeper_view (with_keeper g l) own), done.0, (refl, (done.1, ap (λ (v : KeeperView). having_looked v e (Word w)) (sym had.is))))
+    (Keeper (keeper_view (with_keeper g l) own), done.0, (refl, (done.1, ap (λ (v : KeeperView). keeper_after_look v e (Word w)) (sym had.is))))
 
 pub look_now_may : (z : Settings) (k : KeeperView) (c : ℕ) → MayGlance k c → KeeperMay z k (80 * c) (λ n. n) (λ n. did (Look None c) (Word n)) (λ v n l. Makes (Look None c) (Word n) (Keeper v) (Keeper l) × LookTold (Look None c) v n l)
 look_now_may z k c may = glance_may z k c (Look None c) may (λ g rest lt. rw (rest, lt) refl)

@@ -30,8 +30,8 @@ use Rattle.cpu_words.specs.declared.view.View.TheVariants.{Keeper, Reference, Sp
 use Rattle.cpu_words.specs.Views.{is_to, keeper_of, reference_of}
 use Rattle.cpu_words.specs.Rule.{Ruled, GoesOn, did}
 use Rattle.cpu_words.specs.Steps.{ChangesBy, JoinsBy, JoinsOn}
-use Rattle.cpu_words.specs.Vacating.{MayVacate, vacated, vacant_from, as_vacant, vacate_first}
-use Rattle.cpu_words.specs.Keeping.{MayKeep, keeping, IsVacated, with_kept}
+use Rattle.cpu_words.specs.Vacating.{MayVacate, keeper_after_vacate, vacant_from, as_vacant, vacate_first}
+use Rattle.cpu_words.specs.Keeping.{MayKeep, keeper_after_keep, IsVacated, with_kept}
 use Rattle.cpu_words.proofs.shown.Placing.{agrees_same}
 use Rattle.cpu_words.proofs.laws.Reaching.{more, goes_both}
 use Rattle.cpu_words.proofs.logs.Makers.{vacates_by}
@@ -141,7 +141,7 @@ keeps_from z i k u o t v before first may s r at apart there =
 now_vacant : (k : KeeperView) (t : ℕ) (v : ReferenceView) → MayKeep k t v → slot_at k.slots t ≡ Vacant → MayTake k t v
 now_vacant k t v may vacant = record { rest = may.write.rest; slot = may.write.slot; vacant = vacant; nothing = may.nothing; driver = may.driver }
 
-once_vacated : (k : KeeperView) (t : ℕ) (v : ReferenceView) → MayKeep k t v → MayVacate k t → MayTake (vacated k t) t v
+once_vacated : (k : KeeperView) (t : ℕ) (v : ReferenceView) → MayKeep k t v → MayVacate k t → MayTake (keeper_after_vacate k t) t v
 once_vacated k t v may drained =
     let retired = drained.drained.retired in
     record { rest = may.write.rest; slot = may.write.slot; vacant = get_or-set_same k.slots t Vacant Vacant (in_within k.slots t retired.0 (inr retired.1)); nothing = may.nothing; driver = may.driver }
@@ -149,29 +149,29 @@ once_vacated k t v may drained =
 vacant_is : (k : KeeperView) (t : ℕ) → slot_at k.slots t ≡ Vacant → k ≡ as_vacant k t
 vacant_is k t vacant = ap (λ (x : Slot). vacant_from x k t) (sym vacant)
 
-vacated_is : (k : KeeperView) (t : ℕ) → MayVacate k t → vacated k t ≡ as_vacant k t
+vacated_is : (k : KeeperView) (t : ℕ) → MayVacate k t → keeper_after_vacate k t ≡ as_vacant k t
 vacated_is k t drained = ap (λ (x : Slot). vacant_from x k t) (sym drained.drained.retired.1)
 
 -- the view after it, by the view with the slot taken as vacant
-kept_is : (k u : KeeperView) (t : ℕ) (v : ReferenceView) → u ≡ as_vacant k t → taking u t v ≡ keeping k t v
+kept_is : (k u : KeeperView) (t : ℕ) (v : ReferenceView) → u ≡ as_vacant k t → taking u t v ≡ keeper_after_keep k t v
 kept_is k u t v same = ap (λ (x : KeeperView). taking x t v) same ∙ ap (λ (x : List (Option ℕ)). record (as_vacant k t) { keeps = set x t (Some v.entry.number) }) (same_beside (slot_at k.slots t) k t).2
 
-keeps : (z : Settings) (i : ℕ) (k : KeeperView) (o t : ℕ) (v : ReferenceView) → MayKeep k t v → JoinsOn z i (Keeper k) o (Reference v) (Keeper (keeping k t v)) Spent (vacate_first (slot_at k.slots t) t (did (Keep t 0) Done))
+keeps : (z : Settings) (i : ℕ) (k : KeeperView) (o t : ℕ) (v : ReferenceView) → MayKeep k t v → JoinsOn z i (Keeper k) o (Reference v) (Keeper (keeper_after_keep k t v)) Spent (vacate_first (slot_at k.slots t) t (did (Keep t 0) Done))
 keeps z i k o t v may = ⊎_elim
     (λ (vacant : slot_at k.slots t ≡ Vacant). subst (λ (w : KeeperView). JoinsOn z i (Keeper k) o (Reference v) (Keeper w) Spent (vacate_first (slot_at k.slots t) t (did (Keep t 0) Done))) (kept_is k k t v (vacant_is k t vacant))
     (subst (λ (x : Slot). JoinsOn z i (Keeper k) o (Reference v) (Keeper (taking k t v)) Spent (vacate_first x t (did (Keep t 0) Done))) (sym vacant) (takes_at z i k o t v (now_vacant k t v may vacant))))
-    (λ (drained : MayVacate k t). subst (λ (w : KeeperView). JoinsOn z i (Keeper k) o (Reference v) (Keeper w) Spent (vacate_first (slot_at k.slots t) t (did (Keep t 0) Done))) (kept_is k (vacated k t) t v (vacated_is k t drained))
-    (subst (λ (x : Slot). JoinsOn z i (Keeper k) o (Reference v) (Keeper (taking (vacated k t) t v)) Spent (vacate_first x t (did (Keep t 0) Done))) (sym drained.drained.retired.1)
-    (keeps_from z i k (vacated k t) o t v (did (Vacate t) Done) (λ s r id at. (vacates z k t drained s r id at).0) (once_vacated k t v may drained))))
+    (λ (drained : MayVacate k t). subst (λ (w : KeeperView). JoinsOn z i (Keeper k) o (Reference v) (Keeper w) Spent (vacate_first (slot_at k.slots t) t (did (Keep t 0) Done))) (kept_is k (keeper_after_vacate k t) t v (vacated_is k t drained))
+    (subst (λ (x : Slot). JoinsOn z i (Keeper k) o (Reference v) (Keeper (taking (keeper_after_vacate k t) t v)) Spent (vacate_first x t (did (Keep t 0) Done))) (sym drained.drained.retired.1)
+    (keeps_from z i k (keeper_after_vacate k t) o t v (did (Vacate t) Done) (λ s r id at. (vacates z k t drained s r id at).0) (once_vacated k t v may drained))))
     may.write.vacant
 
-pub keep_makes : (k : KeeperView) (t : ℕ) (v : ReferenceView) → MayKeep k t v → JoinsBy (Keep t) (Keeper (as_vacant k t)) (Reference v) (Keeper (keeping k t v))
+pub keep_makes : (k : KeeperView) (t : ℕ) (v : ReferenceView) → MayKeep k t v → JoinsBy (Keep t) (Keeper (as_vacant k t)) (Reference v) (Keeper (keeper_after_keep k t v))
 keep_makes k t v may = ⊎_elim
     (λ (vacant : slot_at k.slots t ≡ Vacant). by k (vacant_is k t vacant) (now_vacant k t v may vacant))
-    (λ (drained : MayVacate k t). by (vacated k t) (vacated_is k t drained) (once_vacated k t v may drained))
+    (λ (drained : MayVacate k t). by (keeper_after_vacate k t) (vacated_is k t drained) (once_vacated k t v may drained))
     may.write.vacant
   where
-    by : (u : KeeperView) → u ≡ as_vacant k t → MayTake u t v → JoinsBy (Keep t) (Keeper (as_vacant k t)) (Reference v) (Keeper (keeping k t v))
+    by : (u : KeeperView) → u ≡ as_vacant k t → MayTake u t v → JoinsBy (Keep t) (Keeper (as_vacant k t)) (Reference v) (Keeper (keeper_after_keep k t v))
     by u same take = subst (λ (p : KeeperView × KeeperView). JoinsBy (Keep t) (Keeper p.0) (Reference v) (Keeper p.1)) (λ j. (same j, kept_is k u t v same j)) (keep_law u t v take)
 
 pub is_vacated : (k : KeeperView) (t : ℕ) (v : ReferenceView) → MayKeep k t v → IsVacated k t
@@ -181,14 +181,14 @@ is_vacated k t v may = ⊎_elim
     may.write.vacant
 
 -- the same of seats' views
-pub keeps_seats : (z : Settings) (i : ℕ) (x : Logged) (o : ℕ) (u : Logged) (named t : ℕ) (k : KeeperView) (v : ReferenceView) → named ≡ t → x ≡ record { view = Keeper (keeper_of x.view); log = x.log } → keeper_of x.view ≡ k
-    → u ≡ record { view = Reference (reference_of u.view); log = u.log } → reference_of u.view ≡ v → MayKeep k t v → TableJoins (LoggedRuled z) i x o u (joined_seat (with_kept named) (keeps_for named) x u) spent_seat
+pub keeps_seats : (z : Settings) (i : ℕ) (x : Logged) (o : ℕ) (u : Logged) (named t : ℕ) (k : KeeperView) (v : ReferenceView) → named ≡ t → x ≡ record x { view = Keeper (keeper_of x.view) } → keeper_of x.view ≡ k
+    → u ≡ record u { view = Reference (reference_of u.view) } → reference_of u.view ≡ v → MayKeep k t v → TableJoins (LoggedRuled z) i x o u (joined_seat (with_kept named) (keeps_for named) x u) spent_seat
 keeps_seats z i x o u named t k v is keeper k_is ref v_is may =
     subst (λ (m : ℕ). TableJoins (LoggedRuled z) i x o u (joined_seat (with_kept m) (keeps_for m) x u) spent_seat) (sym is)
-    (seat_join z i o x u (Keeper k) (Reference v) (with_kept t) (keeps_for t) (vacate_first (slot_at k.slots t) t (did (Keep t 0) Done)) (keeper ∙ ap (λ (y : KeeperView). record { view = Keeper y; log = x.log }) k_is)
-    (ref ∙ ap (λ (y : ReferenceView). record { view = Reference y; log = u.log }) v_is) tt (vacates_by (slot_at k.slots t) t (did (Keep t 0) Done) (refl, tt)) refl (keeps z i k o t v may))
+    (seat_join z i o x u (Keeper k) (Reference v) (with_kept t) (keeps_for t) (vacate_first (slot_at k.slots t) t (did (Keep t 0) Done)) (keeper ∙ ap (λ (y : KeeperView). record x { view = Keeper y }) k_is)
+    (ref ∙ ap (λ (y : ReferenceView). record u { view = Reference y }) v_is) tt (vacates_by (slot_at k.slots t) t (did (Keep t 0) Done) (refl, tt)) refl (keeps z i k o t v may))
 
 pub keep_by : (x u y : View) (named t : ℕ) (k : KeeperView) (v : ReferenceView) → named ≡ t → keeper_of x ≡ k → reference_of u ≡ v → y ≡ with_kept named x u → MayKeep k t v → JoinsBy (Keep t) (Keeper (as_vacant k t)) (Reference v) (Keeper (keeper_of y))
 keep_by x u y named t k v same k_is v_is y_is may =
-    let is : keeper_of y ≡ keeping k t v = ap keeper_of y_is ∙ (λ j. keeping (k_is j) (same j) (v_is j)) in
+    let is : keeper_of y ≡ keeper_after_keep k t v = ap keeper_of y_is ∙ (λ j. keeper_after_keep (k_is j) (same j) (v_is j)) in
     subst (λ w. JoinsBy (Keep t) (Keeper (as_vacant k t)) (Reference v) (Keeper w)) (sym is) (keep_makes k t v may)

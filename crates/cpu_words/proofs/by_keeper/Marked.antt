@@ -9,7 +9,7 @@ use Rattle.protocol.specs.declared.state.Due.{Due}
 use Rattle.protocol.specs.State.{State, with_cell, cell, mark_at, count_at, total_at}
 use Rattle.registry_values.specs.Marks.{no_mark}
 use Rattle.registry_values.specs.Slots.{slot_at}
-use Rattle.protocol.specs.Invariant.{AreRows, IsIn, subtracting_at, adding_at, is_adding_at}
+use Rattle.protocol.specs.Invariant.{AreRows, IsIn, subtraction_due_at, addition_due_at, is_adding_at}
 use Rattle.protocol.proofs.slots.Cells.{cell_cases, row_here, row_other}
 use Rattle.registry_values.proofs.Fit.{ranges}
 use Rattle.registry_values.specs.declared.entry.Change.{Change}
@@ -58,10 +58,10 @@ sum_off f g t c m u off = ap (λ (ms : List Mark). sum_by f (zip ms (get_or g.ne
 
 -- what is due is as much for the total of each slot
 abbrev pub DueAlike : Due → Due → Type 0
-DueAlike due was = (u : ℕ) → (adding_at u due ≡ adding_at u was) × (is_adding_at u due ≡ is_adding_at u was) × (subtracting_at u due ≡ subtracting_at u was)
+DueAlike due was = (u : ℕ) → (addition_due_at u due ≡ addition_due_at u was) × (is_adding_at u due ≡ is_adding_at u was) × (subtraction_due_at u due ≡ subtraction_due_at u was)
 
 pub due_alike : (due was : Due) → due ≡ was → DueAlike due was
-due_alike due was same u = (ap (adding_at u) same, ap (is_adding_at u) same, ap (subtracting_at u) same)
+due_alike due was same u = (ap (addition_due_at u) same, ap (is_adding_at u) same, ap (subtraction_due_at u) same)
 
 -- the marks of t change at c, and not whether it was collected; what is due is as much for each total
 pub gives_up_marked : (g : State) (t c : ℕ) (m : Mark) (due : Due) (given_up : List ℕ) → Good g → c < g.settings.cpus → m.collected ≡ (mark_at g.marks t c).collected → DueAlike due g.due

@@ -23,7 +23,7 @@ use Rattle.cpu_words.specs.Spots.{Spot, section_of, passive_of, count_of, head_w
 use Rattle.cpu_words.specs.Views.{KeeperOwn, keeper_of, keeper_own, keeper_view, KeeperShown}
 use Rattle.cpu_words.specs.Rule.{Agrees, Good, GoesOn, did}
 use Rattle.cpu_words.specs.Steps.{Makes, KeeperStores}
-use Rattle.cpu_words.specs.Vacating.{MayVacate, vacated, vacant_from, as_vacant, vacate_first, MayWrite, IsTakenAsVacant}
+use Rattle.cpu_words.specs.Vacating.{MayVacate, keeper_after_vacate, vacant_from, as_vacant, vacate_first, MayWrite, IsTakenAsVacant}
 use Rattle.cpu_words.specs.Storing.{HasRecordWord, HasCountWord, HasLink}
 use Rattle.cpu_words.proofs.shown.Placing.{agrees_set}
 use Rattle.cpu_words.proofs.by_keeper.KeeperSteps.{KeeperLists, keeper_lists, with_keeper, leaves_all, keeper_makes}
@@ -63,10 +63,10 @@ taking z k t i v e T may stores = ⊎_elim
     (done.0, subst (λ (x : Slot). GoesOn z s r (vacate_first x t (did e Done)) (stepped s i v id [] done.0 keeps)) (sym vacant) done.1, (done.2.0, (inl vacant, subst (λ (x : KeeperView). T x (keeper_of done.0)) same done.2.1))))
     (λ (drained : MayVacate k t).
     let retired = drained.drained.retired in
-    let same : vacated k t ≡ as_vacant k t = ap (λ (x : Slot). vacant_from x k t) (sym retired.1) in
-    let now : MayStore (vacated k t) t = record { rest = may.rest; slot = may.slot; vacant = get_or-set_same k.slots t Vacant Vacant (in_within k.slots t retired.0 (inr retired.1)) } in
+    let same : keeper_after_vacate k t ≡ as_vacant k t = ap (λ (x : Slot). vacant_from x k t) (sym retired.1) in
+    let now : MayStore (keeper_after_vacate k t) t = record { rest = may.rest; slot = may.slot; vacant = get_or-set_same k.slots t Vacant Vacant (in_within k.slots t retired.0 (inr retired.1)) } in
     λ s r id at fits.
-    let done = moves_after z (Keeper k) (Keeper (vacated k t)) i (λ _. v) (did (Vacate t) Done) (λ _. did e Done) (λ _ w. (w ≡ Keeper (keeper_of w)) × T (vacated k t) (keeper_of w)) (Makes (Vacate t) Done (Keeper k) (Keeper (vacated k t))) (vacates z k t drained) (stores (vacated k t) now) s r id at fits in
+    let done = moves_after z (Keeper k) (Keeper (keeper_after_vacate k t)) i (λ _. v) (did (Vacate t) Done) (λ _. did e Done) (λ _ w. (w ≡ Keeper (keeper_of w)) × T (keeper_after_vacate k t) (keeper_of w)) (Makes (Vacate t) Done (Keeper k) (Keeper (keeper_after_vacate k t))) (vacates z k t drained) (stores (keeper_after_vacate k t) now) s r id at fits in
     (done.0, subst (λ (x : Slot). GoesOn z s r (vacate_first x t (did e Done)) (stepped s i v id [] done.0 keeps)) (sym retired.1) done.1, (done.2.1.0, (inr (subst (λ (x : KeeperView). Makes (Vacate t) Done (Keeper k) (Keeper x)) same done.2.0), subst (λ (x : KeeperView). T x (keeper_of done.0)) same done.2.1.1))))
     may.vacant
 

@@ -21,7 +21,7 @@ use Rattle.registry_values.specs.Balances.{bias}
 use Rattle.registry_values.specs.Marks.{no_mark, is_collected, is_some_collected}
 use Rattle.registry_values.specs.Slots.{slot_at, slot_of}
 use Rattle.protocol.specs.Events.{step, total_add, total_sub}
-use Rattle.protocol.specs.Invariant.{IsIn, one_if, subtracting_at, adding_at, is_adding_at}
+use Rattle.protocol.specs.Invariant.{IsIn, one_if, subtraction_due_at, addition_due_at, is_adding_at}
 use Rattle.protocol.proofs.history.History.{at_within, one_entry}
 use Rattle.protocol.proofs.slots.Occupied.{attached_in, one_in, one_number, in_within}
 use Rattle.protocol.proofs.slots.Cells.{total_here, total_other}
@@ -41,7 +41,7 @@ use Rattle.cpu_words.specs.Spots.{Spot, section_of, passive_of, count_of, head_w
 use Rattle.cpu_words.specs.Views.{KeeperOwn, keeper_own, keeper_view, number_at, one_more, is_to, IsCollectedFor, KeeperShown, ReferenceShown, GivesUp, keeper_of, reference_of}
 use Rattle.cpu_words.specs.Rule.{Agrees, Good, did}
 use Rattle.cpu_words.specs.Steps.{Makes, JoinsBy, JoinsOn, KeeperMay, KeeperStores}
-use Rattle.cpu_words.specs.Draining.{MayTotalAdd, TotalAddTold, MayTotalSub, TotalSubTold, MayJoinKeeper, giving_up, with_given_up}
+use Rattle.cpu_words.specs.Draining.{MayTotalAdd, TotalAddTold, MayTotalSub, TotalSubTold, MayJoinKeeper, keeper_after_join, with_given_up}
 use Rattle.cpu_words.proofs.laws.Reaching.{more}
 use Rattle.cpu_words.proofs.logs.Seats.{seat_join}
 use Rattle.cpu_words.specs.Logs.{LoggedRuled, joined_seat, spent_seat, gives_up}
@@ -111,17 +111,17 @@ shown_added g k t old good had due = record {
         (λ (is : u ≡ t).
         let old_total : total_at g.totals u ≡ total_at g.totals t = ap (total_at g.totals) is in
         let new_total : total_at (set g.totals t v) u ≡ v = ap (total_at (set g.totals t v)) is ∙ total_here g.totals t v (omega (arith, adding_within g t old good.holds due, good.holds.shape.totals)) in
-        let a : adding_at u g.due ≡ old = ap (adding_at u) due ∙ ap (λ (b : Bool). cond b old 0) (eq-eqb t u (sym is)) in
+        let a : addition_due_at u g.due ≡ old = ap (addition_due_at u) due ∙ ap (λ (b : Bool). cond b old 0) (eq-eqb t u (sym is)) in
         let b : is_adding_at u g.due ≡ 1 = ap (is_adding_at u) due ∙ one_self t u (sym is) in
-        let none : subtracting_at u g.due ≡ 0 = ap (subtracting_at u) due in
+        let none : subtraction_due_at u g.due ≡ 0 = ap (subtraction_due_at u) due in
         let range = (adding_range g t old good.holds due).0 in
         omega (arith, was, old_total, new_total, a, b, none, range))
         (λ (off : u ≢ t).
         let total = total_other g.totals t v u off in
         let ne : t ≢ u = λ q. off (sym q) in
-        let a : adding_at u g.due ≡ 0 = ap (adding_at u) due ∙ ap (λ (b : Bool). cond b old 0) (ne_eqb t u ne) in
+        let a : addition_due_at u g.due ≡ 0 = ap (addition_due_at u) due ∙ ap (λ (b : Bool). cond b old 0) (ne_eqb t u ne) in
         let b : is_adding_at u g.due ≡ 0 = ap (is_adding_at u) due ∙ one_other t u ne in
-        let none : subtracting_at u g.due ≡ 0 = ap (subtracting_at u) due in
+        let none : subtraction_due_at u g.due ≡ 0 = ap (subtraction_due_at u) due in
         omega (arith, was, total, a, b, none))
         (cases_eq u t)
 
@@ -148,7 +148,7 @@ number_in_history g t e good here = (at_within g.history e.number (Attach e) (at
 
 -- 1 at the slot t, where a subtraction is due, and 0 at the others
 abbrev one_due : ℕ → ℕ → ℕ
-one_due t u = subtracting_at u (Subtracting t)
+one_due t u = subtraction_due_at u (Subtracting t)
 
 -- one more reference to the entry e of t is given up: what is counted of all occupants
 one_given : (g : State) (t : ℕ) (e : Entry) (given_up : List ℕ) → Good g → IsIn e (slot_at g.slots t)
@@ -287,7 +287,7 @@ collected_of g k v good had ref may = ⊎_elim
           subst (λ (u : ℕ). (mark_at g.marks u c).collected ≡ true) slot (ap (λ (x : List (List Mark)). (mark_at x t c).collected) (sym seen.marks) ∙ marked),
         )
 
-pub join_keeper_law : (k : KeeperView) (v : ReferenceView) → MayJoinKeeper k v → JoinsBy JoinKeeper (Keeper k) (Reference v) (Keeper (giving_up k v))
+pub join_keeper_law : (k : KeeperView) (v : ReferenceView) → MayJoinKeeper k v → JoinsBy JoinKeeper (Keeper k) (Reference v) (Keeper (keeper_after_join k v))
 join_keeper_law k v may g good had ref backs =
     let n = v.entry.number in
     let t = v.entry.slot in
@@ -328,11 +328,11 @@ join_keeper_law k v may g good had ref backs =
       count = λ m. let a = local_changed m g.locals id (Standing n) Free (standing_within g.locals id n place.1) place.1 in omega arith;
     }
 
-joins_at : (z : Settings) (i : ℕ) (k : KeeperView) (o : ℕ) (v : ReferenceView) → MayJoinKeeper k v → JoinsOn z i (Keeper k) o (Reference v) (Keeper (giving_up k v)) Spent (did (JoinKeeper 0) Done)
+joins_at : (z : Settings) (i : ℕ) (k : KeeperView) (o : ℕ) (v : ReferenceView) → MayJoinKeeper k v → JoinsOn z i (Keeper k) o (Reference v) (Keeper (keeper_after_join k v)) Spent (did (JoinKeeper 0) Done)
 unfolding join_keeper_law
 joins_at z i k o v may s r at apart there =
     let g = r.g in
-    let both = Keeper (giving_up k v) in
+    let both = Keeper (keeper_after_join k v) in
     let had = r.shows.fits i (Keeper k) at in
     let was : get_elem? s.views o ≡ some (Reference v) = ⊎_elim
     (λ (q : (o ≡ i) × (both ≡ Reference v)). absurd (apart q.0))
@@ -355,13 +355,13 @@ joins_at z i k o v may s r at apart there =
     }
 
 -- the same of seats' views
-pub joins_keeper : (z : Settings) (i : ℕ) (x : Logged) (o : ℕ) (u : Logged) (k : KeeperView) (v : ReferenceView) → x ≡ record { view = Keeper (keeper_of x.view); log = x.log } → keeper_of x.view ≡ k
-    → u ≡ record { view = Reference (reference_of u.view); log = u.log } → reference_of u.view ≡ v → MayJoinKeeper k v → TableJoins (LoggedRuled z) i x o u (joined_seat with_given_up gives_up x u) spent_seat
+pub joins_keeper : (z : Settings) (i : ℕ) (x : Logged) (o : ℕ) (u : Logged) (k : KeeperView) (v : ReferenceView) → x ≡ record x { view = Keeper (keeper_of x.view) } → keeper_of x.view ≡ k
+    → u ≡ record u { view = Reference (reference_of u.view) } → reference_of u.view ≡ v → MayJoinKeeper k v → TableJoins (LoggedRuled z) i x o u (joined_seat with_given_up gives_up x u) spent_seat
 joins_keeper z i x o u k v keeper k_is ref v_is may =
-    seat_join z i o x u (Keeper k) (Reference v) with_given_up gives_up (did (JoinKeeper 0) Done) (keeper ∙ ap (λ (y : KeeperView). record { view = Keeper y; log = x.log }) k_is)
-    (ref ∙ ap (λ (y : ReferenceView). record { view = Reference y; log = u.log }) v_is) tt (refl, tt) refl (joins_at z i k o v may)
+    seat_join z i o x u (Keeper k) (Reference v) with_given_up gives_up (did (JoinKeeper 0) Done) (keeper ∙ ap (λ (y : KeeperView). record x { view = Keeper y }) k_is)
+    (ref ∙ ap (λ (y : ReferenceView). record u { view = Reference y }) v_is) tt (refl, tt) refl (joins_at z i k o v may)
 
 pub join_keeper_by : (x u y : View) (k : KeeperView) (v : ReferenceView) → keeper_of x ≡ k → reference_of u ≡ v → y ≡ with_given_up x u → MayJoinKeeper k v → JoinsBy JoinKeeper (Keeper k) (Reference v) (Keeper (keeper_of y))
 join_keeper_by x u y k v k_is v_is y_is may =
-    let is : keeper_of y ≡ giving_up k v = ap keeper_of y_is ∙ (λ j. giving_up (k_is j) (v_is j)) in
+    let is : keeper_of y ≡ keeper_after_join k v = ap keeper_of y_is ∙ (λ j. keeper_after_join (k_is j) (v_is j)) in
     subst (λ w. JoinsBy JoinKeeper (Keeper k) (Reference v) (Keeper w)) (sym is) (join_keeper_law k v may)

@@ -16,7 +16,7 @@ use Rattle.protocol.specs.History.{after_change}
 use Rattle.protocol.specs.State.{State, at_rest}
 use Rattle.registry_values.specs.Marks.{no_mark}
 use Rattle.registry_values.specs.Slots.{slot_at, slot_before}
-use Rattle.protocol.specs.Events.{step, guard, taken, unpublish, after_unpublish, unlinking, retiring}
+use Rattle.protocol.specs.Events.{step, guard, some_outcome, unpublish, after_unpublish, with_link_past, with_retired}
 use Rattle.protocol.specs.Invariant.{IsIn}
 use Rattle.protocol.proofs.slots.Cells.{cell_in_old, get_or_all}
 use Rattle.protocol.proofs.history.History.{length-after_change}
@@ -27,7 +27,7 @@ use Rattle.cpu_words.specs.Spots.{Spot, section_of, passive_of, count_of, head_w
 use Rattle.cpu_words.specs.Views.{keeper_own, keeper_view, KeeperShown, GivesUp, collected_net, collected_one}
 use Rattle.cpu_words.specs.Rule.{Agrees, Good, did}
 use Rattle.cpu_words.specs.Steps.{Makes, KeeperStores}
-use Rattle.cpu_words.specs.Publishing.{LeadsBelow, IsBefore, MayUnpublish, HasUnpublished, UnpublishTold, having_unpublished, link_index, head_with, links_with}
+use Rattle.cpu_words.specs.Publishing.{LeadsBelow, IsBefore, MayUnpublish, HasUnpublished, UnpublishTold, keeper_after_unpublish, link_index, head_with, links_with}
 use Rattle.cpu_words.proofs.shown.Passes.{prefix_on}
 use Rattle.cpu_words.proofs.shown.Placing.{agrees_set}
 use Rattle.cpu_words.proofs.by_keeper.KeeperSteps.{KeeperLists, keeper_lists, with_keeper, LeavesCpus, keeper_makes}
@@ -81,7 +81,7 @@ unpublishes g k t p v good had may =
     }
 
 -- the store to the link, by where it is
-retired_by : (g : State) (t : ℕ) (e : Entry) (p : Option ℕ) (v : ℕ) → get_or g.next t 0 ≡ v → retiring (unlinking g t p) t e ≡ with_keeper g (unpublish_lists g t e p v)
+retired_by : (g : State) (t : ℕ) (e : Entry) (p : Option ℕ) (v : ℕ) → get_or g.next t 0 ≡ v → with_retired (with_link_past g t p) t e ≡ with_keeper g (unpublish_lists g t e p v)
 retired_by g t e None v link = ap (λ (x : ℕ). with_keeper g (unpublish_lists g t e None x)) link
 retired_by g t e (Some q) v link = ap (λ (x : ℕ). with_keeper g (unpublish_lists g t e (Some q) x)) link
 
@@ -89,9 +89,9 @@ retired_by g t e (Some q) v link = ap (λ (x : ℕ). with_keeper g (unpublish_li
 made_unpublish : (g : State) (t : ℕ) (e : Entry) (p : Option ℕ) (v : ℕ) → Unpublishes g t e p v → step g (Unpublish t) ≡ Some (record { state = with_keeper g (unpublish_lists g t e p v); reply = Done })
 made_unpublish g t e p v may =
     ap (unpublish g t) may.live
-    ∙ (ap (λ (d : Due). guard (at_rest d) (taken (after_unpublish g t e) Done)) may.rest
-    ∙ (ap (λ (o : Option ℕ). taken (retiring (unlinking g t o) t e) Done) may.before
-    ∙ ap (λ (a : State). taken a Done) (retired_by g t e p v may.link)))
+    ∙ (ap (λ (d : Due). guard (at_rest d) (some_outcome (after_unpublish g t e) Done)) may.rest
+    ∙ (ap (λ (o : Option ℕ). some_outcome (with_retired (with_link_past g t o) t e) Done) may.before
+    ∙ ap (λ (a : State). some_outcome a Done) (retired_by g t e p v may.link)))
 
 -- all occupants stay
 pub leaves_unlinked : (g : State) (t : ℕ) (e : Entry) (p : Option ℕ) (v : ℕ) → Unpublishes g t e p v → LeavesCpus g (unpublish_lists g t e p v)
@@ -215,7 +215,7 @@ unpublish_at z k t p v may s r i at fits =
     let l = unpublish_lists g t e p v in
     let words = link_words s.words g t e p v r.good r.words does in
     let done = keeper_makes z s r i k (link_index p) v l (Unpublish t) Done (keeper_own k) at (made_unpublish g t e p v does) (leaves_unlinked g t e p v does) (λ n. refl) refl (shown_unlinked g k t e p v had does) words in
-    let change : keeper_view (with_keeper g l) (keeper_own k) ≡ having_unpublished k t e p v = ap (λ (y : KeeperView). having_unpublished y t e p v) (sym had.is) in (
+    let change : keeper_view (with_keeper g l) (keeper_own k) ≡ keeper_after_unpublish k t e p v = ap (λ (y : KeeperView). keeper_after_unpublish y t e p v) (sym had.is) in (
       Keeper (keeper_view (with_keeper g l) (keeper_own k)),
       done.0,
       (

@@ -22,7 +22,7 @@ use Rattle.cpu_words.specs.Views.{keeper_own, keeper_view, KeeperShown}
 use Rattle.cpu_words.proofs.laws.Reaching.{goes_both}
 use Rattle.cpu_words.specs.Rule.{Ruled, GoesOn, did}
 use Rattle.cpu_words.specs.Steps.{ChangesBy, Makes, Moves}
-use Rattle.cpu_words.specs.Vacating.{MayVacate, vacated, vacant_from}
+use Rattle.cpu_words.specs.Vacating.{MayVacate, keeper_after_vacate, vacant_from}
 use Rattle.cpu_words.proofs.by_keeper.KeeperSteps.{KeeperLists, with_keeper, keeper_good_after, keeper_makes}
 use Rattle.cpu_words.proofs.by_keeper.Drained.{Drained, drained_of, vacating, vacated_leaves, vacated_counts, stood}
 use Rattle.cpu_words.proofs.by_keeper.KeeperSees.{seen_by_keeper, loads}
@@ -31,7 +31,7 @@ use Rattle.cpu_words.proofs.by_keeper.KeeperSees.{seen_by_keeper, loads}
 abbrev emptied : State → ℕ → KeeperLists
 emptied g t = vacating g t g.totals g.keeps
 
-shown_vacated : (g : State) (k : KeeperView) (t : ℕ) (e : Entry) → KeeperShown g k → Drained g t e → KeeperShown (with_keeper g (emptied g t)) (keeper_view (with_keeper g (emptied g t)) (keeper_own (vacated k t)))
+shown_vacated : (g : State) (k : KeeperView) (t : ℕ) (e : Entry) → KeeperShown g k → Drained g t e → KeeperShown (with_keeper g (emptied g t)) (keeper_view (with_keeper g (emptied g t)) (keeper_own (keeper_after_vacate k t)))
 shown_vacated g k t e had drained = record {
   is = refl;
   counts = vacated_counts g k t e had drained;
@@ -49,13 +49,13 @@ abbrev pub with_view : Table ℕ View → ℕ → View → Table ℕ View
 with_view s i v = record s { views = set s.views i v }
 
 -- Vacate is the change of the view alone
-pub vacate_by : (k : KeeperView) (t : ℕ) → MayVacate k t → ChangesBy (Vacate t) (Keeper k) (Keeper (vacated k t))
+pub vacate_by : (k : KeeperView) (t : ℕ) → MayVacate k t → ChangesBy (Vacate t) (Keeper k) (Keeper (keeper_after_vacate k t))
 vacate_by k t may g good had =
     let drained = drained_of g k t good had may.drained in
     let e = may.drained.retired.0 in
     let keeps_none : kept_at g.keeps t ≡ None = ap (λ (x : List (Option ℕ)). kept_at x t) (sym (seen_by_keeper g k good had).keeps) ∙ may.keeps_nothing in
     let made : step g (Vacate t) ≡ Some (record { state = after_vacate g t; reply = Done }) = rw (keeps_none, drained.is) refl in
-    let is : keeper_view (with_keeper g (emptied g t)) (keeper_own (vacated k t)) ≡ vacated k t = ap (λ (v : KeeperView). record v { slots = set v.slots t Vacant; counts = set k.counts t (replicate 8 0) }) (sym had.is) in
+    let is : keeper_view (with_keeper g (emptied g t)) (keeper_own (keeper_after_vacate k t)) ≡ keeper_after_vacate k t = ap (λ (v : KeeperView). record v { slots = set v.slots t Vacant; counts = set k.counts t (replicate 8 0) }) (sym had.is) in
     record {
       after = with_keeper g (emptied g t);
       made = made;
@@ -71,7 +71,7 @@ same_beside (Retired e) k t = (refl, refl, refl)
 
 -- the rule holds on as the keeper takes a drained slot as vacant
 pub vacates : (z : Settings) (k : KeeperView) (t : ℕ) → MayVacate k t → (s : Table ℕ View) (r : Ruled z s) (i : ℕ) → get_elem? s.views i ≡ some (Keeper k)
-    → GoesOn z s r (did (Vacate t) Done) (with_view s i (Keeper (vacated k t))) × Makes (Vacate t) Done (Keeper k) (Keeper (vacated k t))
+    → GoesOn z s r (did (Vacate t) Done) (with_view s i (Keeper (keeper_after_vacate k t))) × Makes (Vacate t) Done (Keeper k) (Keeper (keeper_after_vacate k t))
 vacates z k t may s r i at =
     let g = r.g in
     let had : KeeperShown g k = (r.shows.fits i (Keeper k) at).1 in
@@ -80,12 +80,12 @@ vacates z k t may s r i at =
     let keeps_none : kept_at g.keeps t ≡ None = ap (λ (x : List (Option ℕ)). kept_at x t) (sym (seen_by_keeper g k r.good had).keeps) ∙ may.keeps_nothing in
     let made : step g (Vacate t) ≡ Some (record { state = after_vacate g t; reply = Done }) = rw (keeps_none, drained.is) refl in
     let l : KeeperLists = emptied g t in
-    let own = keeper_own (vacated k t) in
+    let own = keeper_own (keeper_after_vacate k t) in
     let w = keeper_view (with_keeper g l) own in
     let n = slice_index s.words 0 in
     let done = keeper_makes z s r i k 0 n l (Vacate t) Done own at made (vacated_leaves g t e g.totals g.keeps r.good drained) (λ m. refl) refl (shown_vacated g k t e had drained)
     (loads s.words g (with_keeper g l) 0 r.words refl (λ q _. refl)) in
-    let is : w ≡ vacated k t = ap (λ (v : KeeperView). record v { slots = set v.slots t Vacant; counts = set k.counts t (replicate 8 0) }) (sym had.is) in (
+    let is : w ≡ keeper_after_vacate k t = ap (λ (v : KeeperView). record v { slots = set v.slots t Vacant; counts = set k.counts t (replicate 8 0) }) (sym had.is) in (
       subst (λ (v : KeeperView). GoesOn z s r (did (Vacate t) Done) (with_view s i (Keeper v))) is (subst (λ (ws : List ℕ). GoesOn z s r (did (Vacate t) Done) (record { words = ws; homes = s.homes; views = set s.views i (Keeper w) })) (set-get_or s.words 0 0) done.0),
       subst (λ (v : KeeperView). Makes (Vacate t) Done (Keeper k) (Keeper v)) is done.1,
     )

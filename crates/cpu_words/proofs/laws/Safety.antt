@@ -37,4 +37,5 @@ running_headline z s r = record {
   all = sym (length-map r.acts (λ (a : ℕ × Deed). a.1)) ∙ ap (λ (ds : List Deed). length ds) r.are ∙ r.run.reached.made;
   owners = subst (λ (g : State). AreByOwn r.run.seat g.seated r.acts) r.run.reached.run r.owners;
   logs = r.logs;
+  known = r.known;
 }

@@ -1,8 +1,9 @@
 -- Steps, cuts and joins over the table with logs.
-use Rattle.std.proofs.Common.{◌≡◌, ◌≢◌, ◌⊎◌, inl, inr, ⊎_elim, ℕ, zero, suc, ◌<◌, ◌≤◌, ◌==◌, Bool, true, false, cond, List, [], ◌∷◌, ◌++◌, map, length, set, length-set, length-append, eq-eqb, ne_eqb, refl, sym, ap, ◌∙◌, subst, arith}
+use Rattle.std.proofs.Common.{◌≡◌, ◌≢◌, ◌⊎◌, inl, inr, ⊎_elim, ℕ, zero, suc, ◌<◌, ◌≤◌, ◌==◌, Bool, true, false, cond, List, [], ◌∷◌, ◌++◌, map, length, set, length-set, length-append, eq-eqb, ne_eqb, refl, sym, ap, ◌∙◌, subst, append_assoc, arith}
 use Rattle.std.proofs.lemmas.List.{map-set, append-nil, map-append}
 use Rattle.std.specs.Prelude.{slice_index}
 use mathlib.Core.Option.{some, some-injective, some-ne-none}
+use mathlib.Core.List.{IsPrefix}
 use lib.ListN.{get_elem?}
 use Rattle.atomic_table.specs.Table.{State as Table, Splits, Joins, keeps, stepped}
 use Rattle.atomic_table.proofs.Lists.{at_set, at_map}
@@ -15,7 +16,8 @@ use Rattle.cpu_words.specs.Views.{Shown}
 use Rattle.protocol.specs.State.{State}
 use Rattle.cpu_words.specs.Rule.{Sits, GoesOn, deeds}
 use Rattle.cpu_words.specs.Steps.{Moves, SplitsOn, JoinsOn}
-use Rattle.cpu_words.specs.Logs.{plain, part, IsStanding, Maker, the_keeper, the_cpu, another, maker, who, AreBy, IsSeatOf, AreByOwn, LoggedRuled}
+use Rattle.cpu_words.specs.Logs.{plain, part, IsStanding, Maker, the_keeper, the_cpu, another, maker, who, AreBy, IsSeatOf, AreByOwn, Knows, LoggedRuled}
+use Rattle.cpu_words.specs.Deeds.{HasHeardDeeds}
 
 -- what the seat i did more
 abbrev by_seat : ℕ → List Deed → List (ℕ × Deed)
@@ -79,6 +81,31 @@ own_seat g seat i (Reference v) sits shown = tt
 own_seat g seat i (Note h) sits shown = tt
 own_seat g seat i Spent sits shown = tt
 
+-- The keeper's seat is the first
+
+abbrev pub IsKeeper : View → Type 0
+IsKeeper (Keeper k) = Unit {0}
+IsKeeper (Cpu x) = ⊥
+IsKeeper (Reference v) = ⊥
+IsKeeper (Note h) = ⊥
+IsKeeper Spent = ⊥
+
+keeper_sits : (seat : ℕ → ℕ) (i : ℕ) (v : View) → IsKeeper v → Sits seat i v → i ≡ 0
+keeper_sits seat i (Keeper k) is sits = sits
+keeper_sits seat i (Cpu x) is sits = absurd is
+keeper_sits seat i (Reference v) is sits = absurd is
+keeper_sits seat i (Note h) is sits = absurd is
+keeper_sits seat i Spent is sits = absurd is
+
+-- what a seat that is cut off may have heard: of whatever the keeper did, as far as the other seat has heard it, and all of it where that is the keeper's
+abbrev pub MayTell : Logged → List Deed → List Deed → Type 0
+MayTell l ds heard = (all : List Deed) → IsPrefix l.deeds all → (IsKeeper l.view → l.log ++ ds ≡ all) → IsPrefix heard all
+
+-- A prefix of what the keeper did stays one as its log goes on
+
+pub prefix_more : (p l more : List Deed) → IsPrefix p l → IsPrefix p (l ++ more)
+prefix_more p l more pre = (pre.0 ++ more, sym (append_assoc p pre.0 more) ∙ ap (λ (a : List Deed). a ++ more) pre.1)
+
 -- what a run that goes on with deeds of the seat id keeps
 record Went (z : Settings) (s : Table ℕ Logged) (r : LoggedRuled z s) (id : ℕ) (log ds : List Deed) (t : Table ℕ View) (goes : GoesOn z (plain s) r.run ds t) : Type 0 where
   acts : List (ℕ × Deed)
@@ -87,67 +114,96 @@ record Went (z : Settings) (s : Table ℕ Logged) (r : LoggedRuled z s) (id : �
   mine : log ++ ds ≡ part id acts
   others : (j : ℕ) (u : Logged) → j ≢ id → get_elem? s.views j ≡ some u → IsStanding u.view → u.log ≡ part j acts
   unseated : (j : ℕ) → length s.views ≤ j → part j acts ≡ []
+  known : (d : List Deed) → IsPrefix d (part 0 r.acts) → IsPrefix d (part 0 acts)
 
-went : (z : Settings) (s : Table ℕ Logged) (r : LoggedRuled z s) (id : ℕ) (v : View) (log ds : List Deed) (t : Table ℕ View) (goes : GoesOn z (plain s) r.run ds t)
-    → get_elem? s.views id ≡ some (record { view = v; log = log }) → IsStanding v → AreBy (who v) ds → Went z s r id log ds t goes
-went z s r id v log ds t goes at stands by =
-    let its = r.run.shows.fits id v (at_map (λ (l : Logged). l.view) s.views id (record { view = v; log = log }) at) in
-    let own : IsSeatOf goes.ruled.seat goes.ruled.g.seated id (who v) = seat_of_more r.run.seat goes.ruled.seat r.run.g.seated goes.ruled.g.seated id (who v) goes.seated goes.seats (own_seat r.run.g r.run.seat id v its.0 its.1) in
+went : (z : Settings) (s : Table ℕ Logged) (r : LoggedRuled z s) (id : ℕ) (l : Logged) (ds : List Deed) (t : Table ℕ View) (goes : GoesOn z (plain s) r.run ds t)
+    → get_elem? s.views id ≡ some l → IsStanding l.view → AreBy (who l.view) ds → Went z s r id l.log ds t goes
+went z s r id l ds t goes at stands by =
+    let its = r.run.shows.fits id l.view (at_map (λ (l : Logged). l.view) s.views id l at) in
+    let own : IsSeatOf goes.ruled.seat goes.ruled.g.seated id (who l.view) = seat_of_more r.run.seat goes.ruled.seat r.run.g.seated goes.ruled.g.seated id (who l.view) goes.seated goes.seats (own_seat r.run.g r.run.seat id l.view its.0 its.1) in
     let longer : (j : ℕ) → j ≢ id → part j (r.acts ++ by_seat id ds) ≡ part j r.acts = λ j ne. part_append j r.acts (by_seat id ds) ∙ (ap (λ (l : List Deed). part j r.acts ++ l) (part_other id j ds ne) ∙ append-nil (part j r.acts)) in
     record {
       acts = r.acts ++ by_seat id ds;
       are = map-append (λ (a : ℕ × Deed). a.1) r.acts (by_seat id ds) ∙ ((λ k. r.are k ++ deeds_of_seat id ds k) ∙ sym goes.goes_on);
       owners = by_own_append goes.ruled.seat goes.ruled.g.seated r.acts (by_seat id ds) (by_own_more r.run.seat goes.ruled.seat r.run.g.seated goes.ruled.g.seated r.acts goes.seated goes.seats r.owners)
-          (by_own_seat goes.ruled.seat goes.ruled.g.seated id (who v) ds own by);
-      mine = (λ k. r.logs id (record { view = v; log = log }) at stands k ++ sym (part_own id ds) k) ∙ sym (part_append id r.acts (by_seat id ds));
+          (by_own_seat goes.ruled.seat goes.ruled.g.seated id (who l.view) ds own by);
+      mine = (λ k. r.logs id l at stands k ++ sym (part_own id ds) k) ∙ sym (part_append id r.acts (by_seat id ds));
       others = λ j u ne there standing. r.logs j u there standing ∙ sym (longer j ne);
-      unseated = λ j le. longer j (λ same. let lt = at_within s.views id (record { view = v; log = log }) at in omega (arith, lt, same, le)) ∙ r.unseated j le;
+      unseated = λ j le. longer j (λ same. let lt = at_within s.views id l at in omega (arith, lt, same, le)) ∙ r.unseated j le;
+      known = λ d pre. subst (IsPrefix d) (sym (part_append 0 r.acts (by_seat id ds))) (prefix_more d (part 0 r.acts) (part 0 (by_seat id ds)) pre);
+    }
+
+-- A seat moves
+
+-- the seat's view becomes w, its log goes on, and it has heard d
+abbrev moved_to : Logged → View → List Deed → List Deed → Logged
+moved_to l w ds d = record l { view = w; log = l.log ++ ds; deeds = d }
+
+-- the rule holds on, whatever prefix of the keeper's log the seat has heard then
+logged_goes : (z : Settings) (l : Logged) (i : ℕ) (n : ℕ) (ds : List Deed) (w : View) (s : Table ℕ Logged) (r : LoggedRuled z s) (id : ℕ) → get_elem? s.views id ≡ some l → IsStanding l.view → AreBy (who l.view) ds
+    → GoesOn z (plain s) r.run ds (stepped (plain s) i n id [] w keeps) → (d : List Deed) → IsPrefix d (part 0 r.acts) → LoggedRuled z (stepped s i n id [] (moved_to l w ds d) keeps)
+logged_goes z l i n ds w s r id at stands by goes_plain d heard =
+    let q = plain s in
+    let m : Logged = moved_to l w ds d in
+    let t : Table ℕ Logged = stepped s i n id [] m keeps in
+    let same : stepped q i n id [] w keeps ≡ plain t = λ k. record { words = set s.words i n; homes = s.homes; views = sym (map-set (λ (x : Logged). x.view) s.views id m) k } in
+    let goes : GoesOn z q r.run ds (plain t) = subst (GoesOn z q r.run ds) same goes_plain in
+    let on = went z s r id l ds (plain t) goes at stands by in record {
+      run = goes.ruled;
+      acts = on.acts;
+      are = on.are;
+      owners = on.owners;
+      logs = λ j u there standing. ⊎_elim
+          (λ (x : (j ≡ id) × (m ≡ u)). sym (ap (λ (y : Logged). y.log) x.1) ∙ on.mine ∙ ap (λ (m : ℕ). part m on.acts) (sym x.0))
+          (λ (x : (j ≢ id) × (get_elem? s.views j ≡ some u)). on.others j u x.0 x.1 standing)
+          (at_set s.views id j m u there);
+      unseated = λ j le. on.unseated j (omega (arith, length-set s.views id m, le));
+      known = λ j u there. ⊎_elim
+          (λ (x : (j ≡ id) × (m ≡ u)). subst (λ (y : Logged). Knows y (part 0 on.acts)) x.1 (on.known d heard, on.known l.laid (r.known id l at).1))
+          (λ (x : (j ≢ id) × (get_elem? s.views j ≡ some u)). let k = r.known j u x.1 in (on.known u.deeds k.0, on.known u.laid k.1))
+          (at_set s.views id j m u there);
     }
 
 -- what Moves says, of the table with logs
-abbrev pub LoggedMoves : Settings → View → List Deed → ℕ → (ℕ → ℕ) → (ℕ → List Deed) → (ℕ → View → Type 0) → Type 0
-LoggedMoves z v log i f ds tells = (s : Table ℕ Logged) → LoggedRuled z s → (id : ℕ) → get_elem? s.views id ≡ some (record { view = v; log = log }) → slice_index s.words i < 18446744073709551616
-    → (w : View) × LoggedRuled z (stepped s i (f (slice_index s.words i)) id [] (record { view = w; log = log ++ ds (slice_index s.words i) }) keeps) × tells (slice_index s.words i) w
+abbrev pub LoggedMoves : Settings → Logged → ℕ → (ℕ → ℕ) → (ℕ → List Deed) → (ℕ → View → Type 0) → Type 0
+LoggedMoves z l i f ds tells = (s : Table ℕ Logged) → LoggedRuled z s → (id : ℕ) → get_elem? s.views id ≡ some l → slice_index s.words i < 18446744073709551616
+    → (w : View) × LoggedRuled z (stepped s i (f (slice_index s.words i)) id [] (record l { view = w; log = l.log ++ ds (slice_index s.words i) }) keeps) × tells (slice_index s.words i) w
 
-pub logged_moves : (z : Settings) (v : View) (log : List Deed) (i : ℕ) (f : ℕ → ℕ) (ds : ℕ → List Deed) (tells : ℕ → View → Type 0) → IsStanding v → ((n : ℕ) → AreBy (who v) (ds n)) → Moves z v i f ds tells → LoggedMoves z v log i f ds tells
-logged_moves z v log i f ds tells stands by moves s r id at fits =
-    let q = plain s in
-    let here : get_elem? q.views id ≡ some v = at_map (λ (l : Logged). l.view) s.views id (record { view = v; log = log }) at in
-    let done = moves q r.run id here fits in
-    let w = done.0 in
+pub logged_moves : (z : Settings) (l : Logged) (i : ℕ) (f : ℕ → ℕ) (ds : ℕ → List Deed) (tells : ℕ → View → Type 0) → IsStanding l.view → ((n : ℕ) → AreBy (who l.view) (ds n)) → Moves z l.view i f ds tells → LoggedMoves z l i f ds tells
+logged_moves z l i f ds tells stands by moves s r id at fits =
     let word = slice_index s.words i in
-    let l : Logged = record { view = w; log = log ++ ds word } in
-    let t : Table ℕ Logged = stepped s i (f word) id [] l keeps in
-    let same : stepped q i (f word) id [] w keeps ≡ plain t = λ k. record { words = set s.words i (f word); homes = s.homes; views = sym (map-set (λ (x : Logged). x.view) s.views id l) k } in
-    let goes : GoesOn z q r.run (ds word) (plain t) = subst (GoesOn z q r.run (ds word)) same done.1 in
-    let on = went z s r id v log (ds word) (plain t) goes at stands (by word) in (
-      w,
-      record {
-        run = goes.ruled;
-        acts = on.acts;
-        are = on.are;
-        owners = on.owners;
-        logs = λ j u there standing. ⊎_elim
-            (λ (x : (j ≡ id) × (l ≡ u)). sym (ap (λ (y : Logged). y.log) x.1) ∙ on.mine ∙ ap (λ (m : ℕ). part m on.acts) (sym x.0))
-            (λ (x : (j ≢ id) × (get_elem? s.views j ≡ some u)). on.others j u x.0 x.1 standing)
-            (at_set s.views id j l u there);
-        unseated = λ j le. on.unseated j (omega (arith, length-set s.views id l, le));
-      },
-      done.2,
-    )
+    let done = moves (plain s) r.run id (at_map (λ (x : Logged). x.view) s.views id l at) fits in
+    (done.0, logged_goes z l i (f word) (ds word) done.0 s r id at stands (by word) done.1 l.deeds (r.known id l at).0, done.2)
 
-pub logged_splits : (z : Settings) (i : ℕ) (v : View) (log : List Deed) (left right : View) (ds : List Deed) → IsStanding v → AreBy (who v) ds → SplitsOn z i v left right ds
-    → Splits (LoggedRuled z) i (record { view = v; log = log }) (record { view = left; log = log ++ ds }) (record { view = right; log = [] })
-logged_splits z i v log left right ds stands by splits s r at =
+-- the same of a load that hears: what the seat has heard then is all that the keeper did
+abbrev pub LoggedHears : Settings → Logged → ℕ → (ℕ → ℕ) → (ℕ → List Deed) → (ℕ → View → Type 0) → Type 0
+LoggedHears z l i f ds tells = (s : Table ℕ Logged) → LoggedRuled z s → (id : ℕ) → get_elem? s.views id ≡ some l → slice_index s.words i < 18446744073709551616
+    → (w : View) × (d : List Deed) × LoggedRuled z (stepped s i (f (slice_index s.words i)) id [] (record l { view = w; log = l.log ++ ds (slice_index s.words i); deeds = d }) keeps) × tells (slice_index s.words i) w × HasHeardDeeds l.deeds l.laid d
+
+pub logged_hears : (z : Settings) (l : Logged) (i : ℕ) (f : ℕ → ℕ) (ds : ℕ → List Deed) (tells : ℕ → View → Type 0) → IsStanding l.view → ((n : ℕ) → AreBy (who l.view) (ds n)) → Moves z l.view i f ds tells → LoggedHears z l i f ds tells
+logged_hears z l i f ds tells stands by moves s r id at fits =
+    let word = slice_index s.words i in
+    let done = moves (plain s) r.run id (at_map (λ (x : Logged). x.view) s.views id l at) fits in
+    let all = part 0 r.acts in
+    (done.0, all, logged_goes z l i (f word) (ds word) done.0 s r id at stands (by word) done.1 all ([], append-nil all), done.2, r.known id l at)
+
+-- A seat is cut in two, or takes in another
+
+pub logged_splits : (z : Settings) (i : ℕ) (l : Logged) (left right : View) (ds heard : List Deed) → IsStanding l.view → AreBy (who l.view) ds → MayTell l ds heard → SplitsOn z i l.view left right ds
+    → Splits (LoggedRuled z) i l (record l { view = left; log = l.log ++ ds }) (record { view = right; log = []; deeds = heard; laid = [] })
+logged_splits z i v left right ds heard stands by may splits s r at =
     let q = plain s in
-    let here : get_elem? q.views i ≡ some v = at_map (λ (l : Logged). l.view) s.views i (record { view = v; log = log }) at in
-    let l : Logged = record { view = left; log = log ++ ds } in
-    let b : Logged = record { view = right; log = [] } in
+    let here : get_elem? q.views i ≡ some v.view = at_map (λ (l : Logged). l.view) s.views i v at in
+    let l : Logged = record v { view = left; log = v.log ++ ds } in
+    let b : Logged = record { view = right; log = []; deeds = heard; laid = [] } in
     let t : Table ℕ Logged = record { words = s.words; homes = s.homes; views = set s.views i l ++ b ∷ [] } in
     let views : set q.views i left ++ right ∷ [] ≡ (plain t).views = sym (map-append (λ (x : Logged). x.view) (set s.views i l) (b ∷ []) ∙ ap (λ (a : List View). a ++ right ∷ []) (map-set (λ (x : Logged). x.view) s.views i l)) in
     let goes : GoesOn z q r.run ds (plain t) = subst (λ (vs : List View). GoesOn z q r.run ds (record { words = s.words; homes = s.homes; views = vs })) views (splits q r.run here) in
-    let on = went z s r i v log ds (plain t) goes at stands by in
+    let on = went z s r i v ds (plain t) goes at stands by in
     let size : length (set s.views i l) ≡ length s.views = length-set s.views i l in
+    let its = (r.run.shows.fits i v.view here).0 in
+    let whole : IsKeeper v.view → v.log ++ ds ≡ part 0 on.acts = λ keeper. on.mine ∙ ap (λ (m : ℕ). part m on.acts) (keeper_sits r.run.seat i v.view keeper its) in
+    let told : IsPrefix heard (part 0 on.acts) = may (part 0 on.acts) (on.known v.deeds (r.known i v at).0) whole in
     record {
       run = goes.ruled;
       acts = on.acts;
@@ -161,22 +217,39 @@ logged_splits z i v log left right ds stands by splits s r at =
           (λ (x : (j ≡ length (set s.views i l)) × (b ≡ u)). sym (ap (λ (y : Logged). y.log) x.1) ∙ sym (on.unseated j (omega (arith, x.0, size))))
           (at_end (set s.views i l) b u j there);
       unseated = λ j le. on.unseated j (omega (arith, length-append (set s.views i l) (b ∷ []), size, le));
+      known = λ j u there. ⊎_elim
+          (λ (was : get_elem? (set s.views i l) j ≡ some u). ⊎_elim
+          (λ (x : (j ≡ i) × (l ≡ u)). let k = r.known i v at in subst (λ (y : Logged). Knows y (part 0 on.acts)) x.1 (on.known v.deeds k.0, on.known v.laid k.1))
+          (λ (x : (j ≢ i) × (get_elem? s.views j ≡ some u)). let k = r.known j u x.1 in (on.known u.deeds k.0, on.known u.laid k.1))
+          (at_set s.views i j l u was))
+          (λ (x : (j ≡ length (set s.views i l)) × (b ≡ u)). subst (λ (y : Logged). Knows y (part 0 on.acts)) x.1 (told, (part 0 on.acts, refl)))
+          (at_end (set s.views i l) b u j there);
     }
 
-pub logged_joins : (z : Settings) (i : ℕ) (v : View) (log : List Deed) (o : ℕ) (w : View) (other : List Deed) (both : View) (ds : List Deed) → IsStanding v → AreBy (who v) ds → JoinsOn z i v o w both Spent ds
-    → Joins (LoggedRuled z) i (record { view = v; log = log }) o (record { view = w; log = other }) (record { view = both; log = log ++ ds }) (record { view = Spent; log = [] })
-logged_joins z i v log o w other both ds stands by joins s r at apart there =
+-- what lies beside the view after is what lay there, or what the other has heard
+pub logged_joins : (z : Settings) (i : ℕ) (l : Logged) (o : ℕ) (m : Logged) (both : View) (ds laid : List Deed) → IsStanding l.view → AreBy (who l.view) ds → (laid ≡ l.laid) ⊎ (laid ≡ m.deeds) → JoinsOn z i l.view o m.view both Spent ds
+    → Joins (LoggedRuled z) i l o m (record l { view = both; log = l.log ++ ds; laid = laid }) (record { view = Spent; log = []; deeds = []; laid = [] })
+logged_joins z i v o w both ds laid stands by lies joins s r at apart there =
     let q = plain s in
     let f = λ (x : Logged). x.view in
-    let here : get_elem? q.views i ≡ some v = at_map f s.views i (record { view = v; log = log }) at in
-    let l : Logged = record { view = both; log = log ++ ds } in
-    let b : Logged = record { view = Spent; log = [] } in
+    let here : get_elem? q.views i ≡ some v.view = at_map f s.views i v at in
+    let l : Logged = record v { view = both; log = v.log ++ ds; laid = laid } in
+    let b : Logged = record { view = Spent; log = []; deeds = []; laid = [] } in
     let once : map f (set s.views i l) ≡ set q.views i both = map-set f s.views i l in
-    let also : get_elem? (set q.views i both) o ≡ some w = subst (λ (vs : List View). get_elem? vs o ≡ some w) once (at_map f (set s.views i l) o (record { view = w; log = other }) there) in
+    let also : get_elem? (set q.views i both) o ≡ some w.view = subst (λ (vs : List View). get_elem? vs o ≡ some w.view) once (at_map f (set s.views i l) o w there) in
     let t : Table ℕ Logged = record { words = s.words; homes = s.homes; views = set (set s.views i l) o b } in
     let views : set (set q.views i both) o Spent ≡ (plain t).views = sym (map-set f (set s.views i l) o b ∙ ap (λ (a : List View). set a o Spent) once) in
     let goes : GoesOn z q r.run ds (plain t) = subst (λ (vs : List View). GoesOn z q r.run ds (record { words = s.words; homes = s.homes; views = vs })) views (joins q r.run here apart also) in
-    let on = went z s r i v log ds (plain t) goes at stands by in
+    let on = went z s r i v ds (plain t) goes at stands by in
+    let mine = r.known i v at in
+    let other : IsPrefix w.deeds (part 0 r.acts) = ⊎_elim
+    (λ (x : (o ≡ i) × (l ≡ w)). absurd (apart x.0))
+    (λ (x : (o ≢ i) × (get_elem? s.views o ≡ some w)). (r.known o w x.1).0)
+    (at_set s.views i o l w there) in
+    let beside : IsPrefix laid (part 0 r.acts) = ⊎_elim
+    (λ (x : laid ≡ v.laid). subst (λ (d : List Deed). IsPrefix d (part 0 r.acts)) (sym x) mine.1)
+    (λ (x : laid ≡ w.deeds). subst (λ (d : List Deed). IsPrefix d (part 0 r.acts)) (sym x) other)
+    lies in
     record {
       run = goes.ruled;
       acts = on.acts;
@@ -190,11 +263,18 @@ logged_joins z i v log o w other both ds stands by joins s r at apart there =
           (at_set s.views i j l u x.1))
           (at_set (set s.views i l) o j b u now);
       unseated = λ j le. on.unseated j (omega (arith, length-set (set s.views i l) o b, length-set s.views i l, le));
+      known = λ j u now. ⊎_elim
+          (λ (x : (j ≡ o) × (b ≡ u)). subst (λ (y : Logged). Knows y (part 0 on.acts)) x.1 ((part 0 on.acts, refl), (part 0 on.acts, refl)))
+          (λ (x : (j ≢ o) × (get_elem? (set s.views i l) j ≡ some u)). ⊎_elim
+          (λ (y : (j ≡ i) × (l ≡ u)). subst (λ (a : Logged). Knows a (part 0 on.acts)) y.1 (on.known v.deeds mine.0, on.known laid beside))
+          (λ (y : (j ≢ i) × (get_elem? s.views j ≡ some u)). let k = r.known j u y.1 in (on.known u.deeds k.0, on.known u.laid k.1))
+          (at_set s.views i j l u x.1))
+          (at_set (set s.views i l) o j b u now);
     }
 
 -- nothing is done: the log stays
-pub logged_joins_same : (z : Settings) (i : ℕ) (v : View) (log : List Deed) (o : ℕ) (w : View) (other : List Deed) (both : View) → IsStanding v → JoinsOn z i v o w both Spent []
-    → Joins (LoggedRuled z) i (record { view = v; log = log }) o (record { view = w; log = other }) (record { view = both; log = log }) (record { view = Spent; log = [] })
-logged_joins_same z i v log o w other both stands joins =
-    subst (λ (l : List Deed). Joins (LoggedRuled z) i (record { view = v; log = log }) o (record { view = w; log = other }) (record { view = both; log = l }) (record { view = Spent; log = [] })) (append-nil log)
-    (logged_joins z i v log o w other both [] stands tt joins)
+pub logged_joins_same : (z : Settings) (i : ℕ) (l : Logged) (o : ℕ) (m : Logged) (both : View) (laid : List Deed) → IsStanding l.view → (laid ≡ l.laid) ⊎ (laid ≡ m.deeds) → JoinsOn z i l.view o m.view both Spent []
+    → Joins (LoggedRuled z) i l o m (record l { view = both; laid = laid }) (record { view = Spent; log = []; deeds = []; laid = [] })
+logged_joins_same z i v o w both laid stands lies joins =
+    subst (λ (log : List Deed). Joins (LoggedRuled z) i v o w (record v { view = both; log = log; laid = laid }) (record { view = Spent; log = []; deeds = []; laid = [] })) (append-nil v.log)
+    (logged_joins z i v o w both [] laid stands tt lies joins)

@@ -25,8 +25,8 @@ use Rattle.cpu_words.specs.Steps.{Makes, SplitsBy, CpuMay, KeeperMay}
 use Rattle.cpu_words.specs.Steps.{SplitsOn, JoinsOn}
 use Rattle.std.proofs.lemmas.List.{append-nil}
 use Rattle.cpu_words.proofs.laws.Reaching.{more}
-use Rattle.cpu_words.proofs.logs.Seats.{seat_cut, seat_laid}
-use Rattle.cpu_words.specs.Logs.{the_cpu, LoggedRuled, going_on, fresh, laid, spent_seat, tells_pass, tells_history}
+use Rattle.cpu_words.proofs.logs.Seats.{tells_heard, tells_whole, seat_cut, seat_laid}
+use Rattle.cpu_words.specs.Logs.{the_cpu, LoggedRuled, logged_after_split, deeds_heard, deeds_done, fresh, logged_with_note, spent_seat, tells_pass, tells_history}
 use Rattle.cpu_words.specs.Sections.{IsIdle}
 use Rattle.cpu_words.specs.Notes.{as_before, pass_told, history_told, with_heard, keeper_with_heard, beside_cpu, beside_keeper, HasHeard, KeeperHasHeard}
 use Rattle.cpu_words.proofs.shown.Showing.{Stay, shows_split, shows_join}
@@ -93,16 +93,16 @@ keeper_tells k may g good had =
 
 -- the same of a seat
 
-pub cpu_splits : (z : Settings) (i : ℕ) (l : Logged) (x : CpuView) (c : ℕ) → l ≡ record { view = Cpu (cpu_of l.view); log = l.log } → cpu_of l.view ≡ x → x.id ≡ c → IsIdle x → Splits (LoggedRuled z) i l (going_on as_before tells_pass l) (fresh pass_told l)
-cpu_splits z i l x c is view id idle = seat_cut z i l (Cpu x) as_before pass_told tells_pass (did (Tell (Some c)) Done) (is ∙ ap (λ (u : CpuView). record { view = Cpu u; log = l.log }) view) tt (ap the_cpu (sym id), tt) (λ k. did (Tell (Some (id k))) Done) (splits z i (Tell (Some c)) (Cpu x) x.pass (cpu_tells x c id idle))
+pub cpu_splits : (z : Settings) (i : ℕ) (l : Logged) (x : CpuView) (c : ℕ) → l ≡ record l { view = Cpu (cpu_of l.view) } → cpu_of l.view ≡ x → x.id ≡ c → IsIdle x → Splits (LoggedRuled z) i l (logged_after_split as_before tells_pass l) (fresh pass_told deeds_heard l)
+cpu_splits z i l x c is view id idle = seat_cut z i l (Cpu x) as_before pass_told tells_pass deeds_heard (did (Tell (Some c)) Done) (is ∙ ap (λ (u : CpuView). record l { view = Cpu u }) view) tt (ap the_cpu (sym id), tt) (λ k. did (Tell (Some (id k))) Done) (tells_heard (record l { view = Cpu x }) (did (Tell (Some c)) Done)) (splits z i (Tell (Some c)) (Cpu x) x.pass (cpu_tells x c id idle))
 
 pub cpu_splits_by : (v a : View) (x : CpuView) (c : ℕ) → cpu_of v ≡ x → a ≡ pass_told v → x.id ≡ c → IsIdle x → SplitsBy (Tell (Some c)) (Cpu x) (Cpu x) (Note (note_of a))
 cpu_splits_by v a x c view right id idle =
     let p : note_of a ≡ x.pass = ap note_of right ∙ ap (λ (u : CpuView). u.pass) view in
     subst (λ h. SplitsBy (Tell (Some c)) (Cpu x) (Cpu x) (Note h)) (sym p) (tells_by (Tell (Some c)) (Cpu x) x.pass (cpu_tells x c id idle))
 
-pub keeper_splits : (z : Settings) (i : ℕ) (l : Logged) (k : KeeperView) → l ≡ record { view = Keeper (keeper_of l.view); log = l.log } → keeper_of l.view ≡ k → k.due ≡ Rest → Splits (LoggedRuled z) i l (going_on as_before tells_history l) (fresh history_told l)
-keeper_splits z i l k is view may = seat_cut z i l (Keeper k) as_before history_told tells_history (did (Tell None) Done) (is ∙ ap (λ (u : KeeperView). record { view = Keeper u; log = l.log }) view) tt (refl, tt) refl (splits z i (Tell None) (Keeper k) k.history (keeper_tells k may))
+pub keeper_splits : (z : Settings) (i : ℕ) (l : Logged) (k : KeeperView) → l ≡ record l { view = Keeper (keeper_of l.view) } → keeper_of l.view ≡ k → k.due ≡ Rest → Splits (LoggedRuled z) i l (logged_after_split as_before tells_history l) (fresh history_told (deeds_done tells_history) l)
+keeper_splits z i l k is view may = seat_cut z i l (Keeper k) as_before history_told tells_history (deeds_done tells_history) (did (Tell None) Done) (is ∙ ap (λ (u : KeeperView). record l { view = Keeper u }) view) tt (refl, tt) refl (tells_whole (record l { view = Keeper k }) (did (Tell None) Done) tt) (splits z i (Tell None) (Keeper k) k.history (keeper_tells k may))
 
 pub keeper_splits_by : (v a : View) (k : KeeperView) → keeper_of v ≡ k → a ≡ history_told v → k.due ≡ Rest → SplitsBy (Tell None) (Keeper k) (Keeper k) (Note (note_of a))
 keeper_splits_by v a k view right may =
@@ -183,11 +183,11 @@ keeper_beside k h = record {
 
 -- the same of two seats, whose views are a CPU's or the keeper's, and a note
 
-pub cpu_joins : (z : Settings) (i o : ℕ) (l m : Logged) → l ≡ record { view = Cpu (cpu_of l.view); log = l.log } → m ≡ record { view = Note (note_of m.view); log = m.log } → Joins (LoggedRuled z) i l o m (laid beside_cpu l m) spent_seat
+pub cpu_joins : (z : Settings) (i o : ℕ) (l m : Logged) → l ≡ record l { view = Cpu (cpu_of l.view) } → m ≡ record m { view = Note (note_of m.view) } → Joins (LoggedRuled z) i l o m (logged_with_note beside_cpu l m) spent_seat
 cpu_joins z i o l m is that = seat_laid z i o l m (Cpu (cpu_of l.view)) (Note (note_of m.view)) beside_cpu is that tt
     (joins z i o (Cpu (cpu_of l.view)) (beside_cpu (Cpu (cpu_of l.view)) (Note (note_of m.view))) (note_of m.view) (cpu_beside (cpu_of l.view) (note_of m.view)))
 
-pub keeper_joins : (z : Settings) (i o : ℕ) (l m : Logged) → l ≡ record { view = Keeper (keeper_of l.view); log = l.log } → m ≡ record { view = Note (note_of m.view); log = m.log } → Joins (LoggedRuled z) i l o m (laid beside_keeper l m) spent_seat
+pub keeper_joins : (z : Settings) (i o : ℕ) (l m : Logged) → l ≡ record l { view = Keeper (keeper_of l.view) } → m ≡ record m { view = Note (note_of m.view) } → Joins (LoggedRuled z) i l o m (logged_with_note beside_keeper l m) spent_seat
 keeper_joins z i o l m is that = seat_laid z i o l m (Keeper (keeper_of l.view)) (Note (note_of m.view)) beside_keeper is that tt
     (joins z i o (Keeper (keeper_of l.view)) (beside_keeper (Keeper (keeper_of l.view)) (Note (note_of m.view))) (note_of m.view) (keeper_beside (keeper_of l.view) (note_of m.view)))
 
@@ -232,15 +232,15 @@ hear_keeper_may z k may s r i at fits =
 -- the same of a seat with the note beside its view
 
 pub hear_laid_may : (z : Settings) (x y : CpuView) (h : List Change) (c : ℕ) → y ≡ with_heard x h → x.id ≡ c → IsIdle x → CpuMay z y (80 * c) (λ n. n) (λ n. did (Hear (Some c)) Done) (λ v n w. Makes (Hear (Some c)) Done (Cpu v) (Cpu w) × HasHeard v w)
-hear_laid_may z x y h c laid id idle = hear_may z y c (ap (λ (v : CpuView). v.id) laid ∙ id) (record { search = ap (λ (v : CpuView). v.search) laid ∙ idle.search; hand = ap (λ (v : CpuView). v.hand) laid ∙ idle.hand })
+hear_laid_may z x y h c logged_with_note id idle = hear_may z y c (ap (λ (v : CpuView). v.id) logged_with_note ∙ id) (record { search = ap (λ (v : CpuView). v.search) logged_with_note ∙ idle.search; hand = ap (λ (v : CpuView). v.hand) logged_with_note ∙ idle.hand })
 
 pub hear_keeper_laid_may : (z : Settings) (k l : KeeperView) (h : List Change) → l ≡ keeper_with_heard k h → k.due ≡ Rest → KeeperMay z l 648 (λ n. n) (λ n. did (Hear None) Done) (λ v n w. Makes (Hear None) Done (Keeper v) (Keeper w) × KeeperHasHeard v w)
-hear_keeper_laid_may z k l h laid may = hear_keeper_may z l (ap (λ (v : KeeperView). v.due) laid ∙ may)
+hear_keeper_laid_may z k l h logged_with_note may = hear_keeper_may z l (ap (λ (v : KeeperView). v.due) logged_with_note ∙ may)
 
 -- what was heard is what the note told
 
 pub cpu_heard : (x y w : CpuView) (h : List Change) → y ≡ with_heard x h → HasHeard y w → IsPrefix h w.pass × IsPrefix x.pass w.pass × (w ≡ record x { pass = w.pass; heard = h })
-cpu_heard x y w h laid heard = subst (λ v. HasHeard v w) laid heard
+cpu_heard x y w h logged_with_note heard = subst (λ v. HasHeard v w) logged_with_note heard
 
 pub keeper_heard : (k l w : KeeperView) (h : List Change) → l ≡ keeper_with_heard k h → KeeperHasHeard l w → IsPrefix h w.history × (w ≡ keeper_with_heard k h)
-keeper_heard k l w h laid heard = subst (λ v. KeeperHasHeard v w) laid heard
+keeper_heard k l w h logged_with_note heard = subst (λ v. KeeperHasHeard v w) logged_with_note heard

@@ -30,7 +30,7 @@ use Rattle.cpu_words.specs.declared.view.View.{View}
 use Rattle.cpu_words.specs.Spots.{Spot, section_of, passive_of, count_of, head_word, next_of, record_of, total_of, index, IsSpot, word_at}
 use Rattle.cpu_words.specs.Views.{Seated, new_cpu, first_view, Shown}
 use Rattle.cpu_words.specs.Rule.{Sits, Good, Ruled}
-use Rattle.cpu_words.specs.Logs.{IsStanding, LoggedRuled, first_logged}
+use Rattle.cpu_words.specs.Logs.{IsStanding, Knows, LoggedRuled, first_logged}
 use Rattle.cpu_words.specs.Opening.{AreOpening, AreSeats, keeper_with}
 use Rattle.protocol.proofs.slots.Occupied.{not_vacant}
 
@@ -108,23 +108,28 @@ opens z words fit are = record {
   owners = tt;
   logs = one;
   unseated = λ i le. refl;
+  known = none;
 }
   where
+    none : (i : ℕ) (l : Logged) → get_elem? (first_logged z ∷ []) i ≡ some l → Knows l []
+    none zero l e = subst (λ (m : Logged). Knows m []) (some-injective _ _ e) (([], refl), ([], refl))
+    none (suc i) l e = absurd (some-ne-none l (sym e))
+
     one : (i : ℕ) (l : Logged) → get_elem? (first_logged z ∷ []) i ≡ some l → IsStanding l.view → l.log ≡ []
     one zero l e stands = sym (ap (λ (m : Logged). m.log) (some-injective _ _ e))
     one (suc i) l e stands = absurd (some-ne-none l (sym e))
 
 -- the seats of the first CPUs
 
-pub more_seats : (table : TableId) (z : Settings) (n : ℕ) (seats : List (Seated CpuView)) (new : Seated CpuView) → AreSeats table z n seats → new ≡ record { table = table; view = new_cpu z n; log = [] } → AreSeats table z (n + 1) (seats ++ new ∷ [])
+pub more_seats : (table : TableId) (z : Settings) (n : ℕ) (seats : List (Seated CpuView)) (new : Seated CpuView) → AreSeats table z n seats → new ≡ record { table = table; view = new_cpu z n; log = []; deeds = []; laid = [] } → AreSeats table z (n + 1) (seats ++ new ∷ [])
 more_seats table z n seats new are is =
     let size : length seats ≡ n = are.count in record {
       count = length-append seats (new ∷ []) ∙ ap (λ k. k + 1) size;
       each = below_more _ n
-          (λ c lt. at_longer seats (new ∷ []) c (record { table = table; view = new_cpu z c; log = [] }) (are.each c lt))
+          (λ c lt. at_longer seats (new ∷ []) c (record { table = table; view = new_cpu z c; log = []; deeds = []; laid = [] }) (are.each c lt))
           (at_last seats new n size ∙ ap some is);
     }
 
 -- the seat that is cut from the seat of a keeper that has seated n CPUs
-pub seat_is : (new : Seated CpuView) (table : TableId) (z : Settings) (n : ℕ) (k : KeeperView) → new.table ≡ table → new.view ≡ new_cpu k.settings k.seated → new.log ≡ [] → k ≡ keeper_with z n → new ≡ record { table = table; view = new_cpu z n; log = [] }
-seat_is new table z n k at view log is i = record { table = at i; view = (view ∙ ap (λ (u : KeeperView). new_cpu u.settings u.seated) is) i; log = log i }
+pub seat_is : (new : Seated CpuView) (table : TableId) (z : Settings) (n : ℕ) (k : KeeperView) → new.table ≡ table → new.view ≡ new_cpu k.settings k.seated → new.log ≡ [] → (new.deeds ≡ []) × (new.laid ≡ []) → k ≡ keeper_with z n → new ≡ record { table = table; view = new_cpu z n; log = []; deeds = []; laid = [] }
+seat_is new table z n k at view log deeds is i = record { table = at i; view = (view ∙ ap (λ (u : KeeperView). new_cpu u.settings u.seated) is) i; log = log i; deeds = deeds.0 i; laid = deeds.1 i }

@@ -25,10 +25,10 @@ use Rattle.cpu_words.specs.Spots.{Spot, section_of, passive_of, count_of, head_w
 use Rattle.cpu_words.specs.Views.{SameHand, own_of, cpu_view, new_cpu, CpuShown, KeeperShown, Shown, cpu_of, keeper_of}
 use Rattle.cpu_words.specs.Rule.{Sits, reference_to, Shows, IsFresh, Good, did}
 use Rattle.cpu_words.specs.Steps.{SplitsBy, SplitsOn}
-use Rattle.cpu_words.specs.Opening.{MaySeat, one_seated, seating, next_seat}
+use Rattle.cpu_words.specs.Opening.{MaySeat, one_seated, with_cpu_seated, next_seat}
 use Rattle.cpu_words.proofs.laws.Reaching.{more}
-use Rattle.cpu_words.proofs.logs.Seats.{seat_cut}
-use Rattle.cpu_words.specs.Logs.{LoggedRuled, going_on, fresh, seats_next}
+use Rattle.cpu_words.proofs.logs.Seats.{tells_nothing, seat_cut}
+use Rattle.cpu_words.specs.Logs.{LoggedRuled, logged_after_split, no_deeds, fresh, seats_next}
 use Rattle.cpu_words.proofs.shown.Showing.{shows_set}
 use Rattle.cpu_words.proofs.shown.Placing.{agrees_same}
 use Rattle.cpu_words.proofs.by_keeper.KeeperSteps.{KeeperLists, keeper_lists, with_keeper, LeavesCpus, keeper_stays, keeper_good_after}
@@ -198,17 +198,17 @@ shows_push g seat views w shows new none = record {
   references = λ n. let a = shows.references n in let b = none n in let c = sum_by_push (reference_to n) views w in omega arith;
 }
 
-splits : (z : Settings) (i : ℕ) (k : KeeperView) → MaySeat k → SplitsOn z i (Keeper k) (seating (Keeper k)) (next_seat (Keeper k)) (did (Seat k.seated) Done)
+splits : (z : Settings) (i : ℕ) (k : KeeperView) → MaySeat k → SplitsOn z i (Keeper k) (with_cpu_seated (Keeper k)) (next_seat (Keeper k)) (did (Seat k.seated) Done)
 splits z i k may s r at =
     let g = r.g in
     let g' = one_more_seated g in
     let had = r.shows.fits i (Keeper k) at in
     let p = seats_of g k may r.good had.1 in
-    let views = set s.views i (seating (Keeper k)) in
+    let views = set s.views i (with_cpu_seated (Keeper k)) in
     let far = length views in
     let seat' = seat_with r.seat g.seated far in
     let stays = keeper_stays g (seated_lists g) seat' i r.good p.good.holds (leaves_seated g) (λ n. refl) had.0 in
-    let changed : Shows g' seat' views = shows_set g g' seat' s.views i (Keeper k) (seating (Keeper k)) (shows_reseated g r.seat far s.views r.shows) at stays (had.0, p.keeper) (λ n. refl) in
+    let changed : Shows g' seat' views = shows_set g g' seat' s.views i (Keeper k) (with_cpu_seated (Keeper k)) (shows_reseated g r.seat far s.views r.shows) at stays (had.0, p.keeper) (λ n. refl) in
     let here : far ≡ seat' k.seated = sym (ap (λ b. cond b far (r.seat k.seated)) (eq-eqb k.seated g.seated p.number)) in record {
       goes_on = (more z g g' (Seat k.seated) Done r.reached (subst (λ c. step g (Seat c) ≡ Some (record { state = g'; reply = Done })) (sym p.number) p.made)).1;
       seated = omega arith;
@@ -226,10 +226,10 @@ splits z i k may s r at =
 
 -- the same of a seat, whose view is the keeper's
 
-pub seat_splits : (z : Settings) (i : ℕ) (l : Logged) (k : KeeperView) → l ≡ record { view = Keeper (keeper_of l.view); log = l.log } → keeper_of l.view ≡ k → MaySeat k → Splits (LoggedRuled z) i l (going_on seating seats_next l) (fresh next_seat l)
-seat_splits z i l k is view may = seat_cut z i l (Keeper k) seating next_seat seats_next (did (Seat k.seated) Done) (is ∙ ap (λ (u : KeeperView). record { view = Keeper u; log = l.log }) view) tt (refl, tt) refl (splits z i k may)
+pub seat_splits : (z : Settings) (i : ℕ) (l : Logged) (k : KeeperView) → l ≡ record l { view = Keeper (keeper_of l.view) } → keeper_of l.view ≡ k → MaySeat k → Splits (LoggedRuled z) i l (logged_after_split with_cpu_seated seats_next l) (fresh next_seat no_deeds l)
+seat_splits z i l k is view may = seat_cut z i l (Keeper k) with_cpu_seated next_seat seats_next no_deeds (did (Seat k.seated) Done) (is ∙ ap (λ (u : KeeperView). record l { view = Keeper u }) view) tt (refl, tt) refl (tells_nothing (record l { view = Keeper k }) (did (Seat k.seated) Done)) (splits z i k may)
 
-pub seat_splits_by : (v a b : View) (k : KeeperView) → keeper_of v ≡ k → a ≡ seating v → b ≡ next_seat v → MaySeat k → SplitsBy (Seat k.seated) (Keeper k) (Keeper (keeper_of a)) (Cpu (cpu_of b))
+pub seat_splits_by : (v a b : View) (k : KeeperView) → keeper_of v ≡ k → a ≡ with_cpu_seated v → b ≡ next_seat v → MaySeat k → SplitsBy (Seat k.seated) (Keeper k) (Keeper (keeper_of a)) (Cpu (cpu_of b))
 seat_splits_by v a b k view left right may =
     let p : keeper_of a ≡ one_seated k = ap keeper_of left ∙ ap one_seated view in
     let q : cpu_of b ≡ new_cpu k.settings k.seated = ap cpu_of right ∙ ap (λ (u : KeeperView). new_cpu u.settings u.seated) view in

@@ -7,19 +7,19 @@ use atomic_table::{Join, Split};
 pub(crate) struct InHandReference;
 
 impl Split<Logged> for InHandReference {
-    ghost use Rattle.cpu_words.specs.Locals.{emptied, cut_off};
-    ghost use Rattle.cpu_words.specs.Logs.{going_on, fresh, cuts_off};
+    ghost use Rattle.cpu_words.specs.Locals.{with_empty_hand, reference_of_hand};
+    ghost use Rattle.cpu_words.specs.Logs.{logged_after_split, fresh, no_deeds, cuts_off};
 
-    ghost left = { going_on emptied cuts_off };
+    ghost left = { logged_after_split with_empty_hand cuts_off };
 
-    ghost right = { fresh cut_off };
+    ghost right = { fresh reference_of_hand no_deeds };
 }
 
 impl Join<Logged> for InHandReference {
-    ghost use Rattle.cpu_words.specs.Locals.{taking_in};
+    ghost use Rattle.cpu_words.specs.Locals.{with_reference_in_hand};
     ghost use Rattle.cpu_words.specs.Logs.{joined_seat, spent_seat, takes_in};
 
-    ghost both = { joined_seat taking_in takes_in };
+    ghost both = { joined_seat with_reference_in_hand takes_in };
 
     ghost spent = { spent_seat };
 }

@@ -1,30 +1,34 @@
 //! How a note is cut off a seat that has seen something, and laid beside the view of a seat that is to hear it.
 
-ghost use Rattle.std.specs.Prelude.{◌≡◌};
+ghost use Rattle.std.specs.Prelude.{◌≡◌, ℕ, ◌<◌, ◌++◌};
+ghost use Rattle.cpu_words.specs.Deeds.{HasHeardDeeds, IsOwnLog};
+ghost use Rattle.cpu_words.specs.Logs.{the_cpu, the_keeper, AreBy};
 ghost use Rattle.cpu_words.specs.Notes.{with_heard, keeper_with_heard};
+ghost use Rattle.cpu_words.specs.Steps.{CpuMay, KeeperMay};
 
-use crate::law::Words;
+use crate::law::{CpuHearing, CpuTale, KeeperHearing, KeeperTale, Words};
 use crate::seat::{CpuSeat, KeeperSeat, NoteSeat};
 use crate::view::Logged;
 use atomic_table::{Join, Split};
+use protocol::Event;
 
 /// A note of a CPU's pass, or to a CPU.
 pub(crate) struct CpuNote;
 
 impl Split<Logged> for CpuNote {
     ghost use Rattle.cpu_words.specs.Notes.{as_before, pass_told};
-    ghost use Rattle.cpu_words.specs.Logs.{going_on, fresh, tells_pass};
+    ghost use Rattle.cpu_words.specs.Logs.{logged_after_split, fresh, deeds_heard, tells_pass};
 
-    ghost left = { going_on as_before tells_pass };
+    ghost left = { logged_after_split as_before tells_pass };
 
-    ghost right = { fresh pass_told };
+    ghost right = { fresh pass_told deeds_heard };
 }
 
 impl Join<Logged> for CpuNote {
     ghost use Rattle.cpu_words.specs.Notes.{beside_cpu};
-    ghost use Rattle.cpu_words.specs.Logs.{laid, spent_seat};
+    ghost use Rattle.cpu_words.specs.Logs.{logged_with_note, spent_seat};
 
-    ghost both = { laid beside_cpu };
+    ghost both = { logged_with_note beside_cpu };
 
     ghost spent = { spent_seat };
 }
@@ -34,18 +38,18 @@ pub(crate) struct KeeperNote;
 
 impl Split<Logged> for KeeperNote {
     ghost use Rattle.cpu_words.specs.Notes.{as_before, history_told};
-    ghost use Rattle.cpu_words.specs.Logs.{going_on, fresh, tells_history};
+    ghost use Rattle.cpu_words.specs.Logs.{logged_after_split, fresh, deeds_done, tells_history};
 
-    ghost left = { going_on as_before tells_history };
+    ghost left = { logged_after_split as_before tells_history };
 
-    ghost right = { fresh history_told };
+    ghost right = { fresh history_told (deeds_done tells_history) };
 }
 
 impl Join<Logged> for KeeperNote {
     ghost use Rattle.cpu_words.specs.Notes.{beside_keeper};
-    ghost use Rattle.cpu_words.specs.Logs.{laid, spent_seat};
+    ghost use Rattle.cpu_words.specs.Logs.{logged_with_note, spent_seat};
 
-    ghost both = { laid beside_keeper };
+    ghost both = { logged_with_note beside_keeper };
 
     ghost spent = { spent_seat };
 }
@@ -56,6 +60,7 @@ pub(crate) fn lay(words: &Words, seat: &mut CpuSeat, note: NoteSeat)
     ensures table { seat.new.table ≡ seat.old.table }
     ensures change { seat.new.view ≡ with_heard seat.old.view note.view }
     ensures log { seat.new.log ≡ seat.old.log }
+    ensures deeds { (seat.new.deeds ≡ seat.old.deeds) × (seat.new.laid ≡ note.deeds) }
 {
     let NoteSeat { token } = note;
     words
@@ -70,10 +75,59 @@ pub(crate) fn lay_by_keeper(words: &Words, keeper: &mut KeeperSeat, note: NoteSe
     ensures table { keeper.new.table ≡ keeper.old.table }
     ensures change { keeper.new.view ≡ keeper_with_heard keeper.old.view note.view }
     ensures log { keeper.new.log ≡ keeper.old.log }
+    ensures deeds { keeper.new.laid ≡ note.deeds }
 {
     let NoteSeat { token } = note;
     words
         .table
         .shared
         .join_seat::<KeeperNote>(&mut keeper.token, token);
+}
+
+/// The load by which a CPU hears the note that lies beside its view.
+pub(crate) fn listen<T: CpuTale>(
+    words: &Words,
+    seat: &mut CpuSeat,
+    word: usize,
+    event: Event,
+) -> u64
+    requires table { seat.old.table ≡ words.now.table }
+    requires place { word < 944 }
+    requires own { (n : ℕ) → AreBy (the_cpu seat.old.view.id) (T.does seat.old.view n) }
+    requires may { CpuMay words.now.settings seat.old.view word (λ n. n) (T.does seat.old.view) T.tells }
+    ensures table { seat.new.table ≡ seat.old.table }
+    ensures told { T.tells seat.old.view result seat.new.view }
+    ensures log { seat.new.log ≡ seat.old.log ++ T.does seat.old.view result }
+    ensures deeds { HasHeardDeeds seat.old.deeds seat.old.laid seat.new.deeds }
+{
+    // The contract alone speaks of the event.
+    let _event = event;
+    words
+        .table
+        .shared
+        .load::<CpuHearing<T>>(&mut seat.token, word)
+}
+
+/// The load by which the keeper hears the note that lies beside its view.
+pub(crate) fn listen_by_keeper<T: KeeperTale>(
+    words: &Words,
+    keeper: &mut KeeperSeat,
+    word: usize,
+    event: Event,
+) -> u64
+    requires table { keeper.old.table ≡ words.now.table }
+    requires place { word < 944 }
+    requires own { (n : ℕ) → AreBy the_keeper (T.does keeper.old.view n) }
+    requires may { KeeperMay words.now.settings keeper.old.view word (λ n. n) (T.does keeper.old.view) T.tells }
+    ensures table { keeper.new.table ≡ keeper.old.table }
+    ensures told { T.tells keeper.old.view result keeper.new.view }
+    ensures log { keeper.new.log ≡ keeper.old.log ++ T.does keeper.old.view result }
+    ensures deeds { IsOwnLog keeper.old.log keeper.old.laid keeper.old.view }
+{
+    // The contract alone speaks of the event.
+    let _event = event;
+    words
+        .table
+        .shared
+        .load::<KeeperHearing<T>>(&mut keeper.token, word)
 }

@@ -7,10 +7,10 @@ use atomic_table::Split;
 pub(crate) struct NextSeat;
 
 impl Split<Logged> for NextSeat {
-    ghost use Rattle.cpu_words.specs.Opening.{seating, next_seat};
-    ghost use Rattle.cpu_words.specs.Logs.{going_on, fresh, seats_next};
+    ghost use Rattle.cpu_words.specs.Opening.{with_cpu_seated, next_seat};
+    ghost use Rattle.cpu_words.specs.Logs.{logged_after_split, fresh, no_deeds, seats_next};
 
-    ghost left = { going_on seating seats_next };
+    ghost left = { logged_after_split with_cpu_seated seats_next };
 
-    ghost right = { fresh next_seat };
+    ghost right = { fresh next_seat no_deeds };
 }

@@ -7,7 +7,7 @@ ghost use Rattle.protocol.specs.declared.event.Reply.TheVariants.{Done, Word};
 ghost use Rattle.cpu_words.specs.declared.view.View.TheVariants.{Keeper, Reference};
 ghost use Rattle.cpu_words.specs.Rule.{did};
 ghost use Rattle.cpu_words.specs.Steps.{Makes, JoinsBy};
-ghost use Rattle.cpu_words.specs.Draining.{MayPassiveLook, HasLookedPassive, MayCollect, HasCollected, MayTotalAdd, HasAdded, MayTotalSub, HasSubtracted, MayJoinKeeper, giving_up, MayKeptSub, HasKeptSub};
+ghost use Rattle.cpu_words.specs.Draining.{MayPassiveLook, HasLookedPassive, MayCollect, HasCollected, MayTotalAdd, HasAdded, MayTotalSub, HasSubtracted, MayJoinKeeper, keeper_after_join, MayKeptSub, HasKeptSub};
 
 use crate::law::Words;
 use crate::operations::by_keeper;
@@ -102,7 +102,7 @@ pub fn join_keeper(words: &Words, keeper: &mut KeeperSeat, reference: ReferenceS
     requires may { MayJoinKeeper keeper.old.view reference.view }
     ensures table { keeper.new.table ≡ keeper.old.table }
     ensures event { JoinsBy JoinKeeper (Keeper keeper.old.view) (Reference reference.view) (Keeper keeper.new.view) }
-    ensures change { keeper.new.view ≡ giving_up keeper.old.view reference.view }
+    ensures change { keeper.new.view ≡ keeper_after_join keeper.old.view reference.view }
     ensures log { keeper.new.log ≡ keeper.old.log ++ did (JoinKeeper 0) Done }
 {
     let ReferenceSeat { token } = reference;

@@ -6,7 +6,7 @@ ghost use Rattle.protocol.specs.declared.event.Reply.TheVariants.{Word};
 ghost use Rattle.cpu_words.specs.declared.view.View.TheVariants.{Keeper};
 ghost use Rattle.cpu_words.specs.Rule.{did};
 ghost use Rattle.cpu_words.specs.Steps.{Makes};
-ghost use Rattle.cpu_words.specs.Grace.{MayGlance, MayLook, MaySnapshot, HasLooked, HasSnapshot, having_looked};
+ghost use Rattle.cpu_words.specs.Grace.{MayGlance, MayLook, MaySnapshot, HasLooked, HasSnapshot, keeper_after_look};
 
 use crate::law::Words;
 use crate::operations::by_keeper;
@@ -38,7 +38,7 @@ pub fn look_now(words: &Words, keeper: &mut KeeperSeat, cpu: u8) -> u64
     requires may { MayGlance keeper.old.view cpu }
     ensures table { keeper.new.table ≡ keeper.old.table }
     ensures event { Makes (Look None cpu) (Word result) (Keeper keeper.old.view) (Keeper keeper.new.view) }
-    ensures change { keeper.new.view ≡ having_looked keeper.old.view (Look None cpu) (Word result) }
+    ensures change { keeper.new.view ≡ keeper_after_look keeper.old.view (Look None cpu) (Word result) }
     ensures log { keeper.new.log ≡ keeper.old.log ++ did (Look None cpu) (Word result) }
 {
     by_keeper::load::<Brand>(words, keeper, 80 * cpu as usize, Event::Look(None, cpu))
@@ -67,7 +67,7 @@ pub fn snapshot_now(words: &Words, keeper: &mut KeeperSeat, cpu: u8) -> u64
     requires may { MayGlance keeper.old.view cpu }
     ensures table { keeper.new.table ≡ keeper.old.table }
     ensures event { Makes (Snapshot None cpu) (Word result) (Keeper keeper.old.view) (Keeper keeper.new.view) }
-    ensures change { keeper.new.view ≡ having_looked keeper.old.view (Snapshot None cpu) (Word result) }
+    ensures change { keeper.new.view ≡ keeper_after_look keeper.old.view (Snapshot None cpu) (Word result) }
     ensures log { keeper.new.log ≡ keeper.old.log ++ did (Snapshot None cpu) (Word result) }
 {
     let snapshot = Event::Snapshot(None, cpu);

@@ -8,7 +8,7 @@ ghost use Rattle.cpu_words.specs.declared.view.View.TheVariants.{Keeper, Referen
 ghost use Rattle.cpu_words.specs.Rule.{did};
 ghost use Rattle.cpu_words.specs.Steps.{JoinsBy};
 ghost use Rattle.cpu_words.specs.Vacating.{as_vacant, vacate_first};
-ghost use Rattle.cpu_words.specs.Keeping.{MayKeep, IsVacated, keeping};
+ghost use Rattle.cpu_words.specs.Keeping.{MayKeep, IsVacated, keeper_after_keep};
 
 use crate::law::Words;
 use crate::operations::kept;
@@ -23,7 +23,7 @@ pub fn keep(words: &Words, keeper: &mut KeeperSeat, slot: u8, reference: Referen
     ensures table { keeper.new.table ≡ keeper.old.table }
     ensures vacant { IsVacated keeper.old.view slot }
     ensures event { JoinsBy (Keep slot) (Keeper (as_vacant keeper.old.view slot)) (Reference reference.view) (Keeper keeper.new.view) }
-    ensures change { keeper.new.view ≡ keeping keeper.old.view slot reference.view }
+    ensures change { keeper.new.view ≡ keeper_after_keep keeper.old.view slot reference.view }
     ensures log { keeper.new.log ≡ keeper.old.log ++ vacate_first (slot_at keeper.old.view.slots slot) slot (did (Keep slot 0) Done) }
 {
     kept::join::<Brand>(words, keeper, reference, slot);

@@ -1,4 +1,5 @@
-//! Notes: what one seat has seen reaches another. A note is a seat of its own, which knows a prefix of the history.
+//! Notes: what one seat has seen reaches another. A note is a seat of its own, which knows a prefix of the history, and what its teller
+//! knew of the keeper's deeds.
 
 ghost use Rattle.std.specs.Prelude.{◌≡◌, ◌<◌, Some, None, ◌++◌, []};
 ghost use mathlib.Core.List.{IsPrefix};
@@ -10,15 +11,16 @@ ghost use Rattle.cpu_words.specs.Sections.{IsIdle};
 ghost use Rattle.cpu_words.specs.Rule.{did};
 ghost use Rattle.cpu_words.specs.Steps.{Makes, SplitsBy};
 ghost use Rattle.cpu_words.specs.Notes.{with_heard, keeper_with_heard};
+ghost use Rattle.cpu_words.specs.Deeds.{HasHeardDeeds, IsOwnLog};
 
 use crate::law::Words;
+use crate::operations::notes;
 use crate::operations::notes::{CpuNote, KeeperNote};
-use crate::operations::{by_cpu, by_keeper, notes};
 use crate::seat::{CpuSeat, KeeperSeat, NoteSeat};
 use protocol::Event;
 use std::marker::Brand;
 
-/// CPU `cpu` tells what it has seen: the note has its pass. Condition: the seat is that CPU's, and idle.
+/// CPU `cpu` tells what it has seen: the note has its pass, and what it has heard of the keeper's deeds. Condition: the seat is that CPU's, and idle.
 pub fn tell(words: &Words, seat: &mut CpuSeat, cpu: u8) -> NoteSeat
     requires table { seat.old.table ≡ words.now.table }
     requires cpu { seat.old.view.id ≡ cpu }
@@ -28,6 +30,7 @@ pub fn tell(words: &Words, seat: &mut CpuSeat, cpu: u8) -> NoteSeat
     ensures note { result.view ≡ seat.old.view.pass }
     ensures event { SplitsBy (Tell (Some cpu)) (Cpu seat.old.view) (Cpu seat.old.view) (Note result.view) }
     ensures log { (seat.new.log ≡ seat.old.log ++ did (Tell (Some cpu)) Done) × (result.log ≡ []) }
+    ensures deeds { (seat.new.deeds ≡ seat.old.deeds) × (result.deeds ≡ seat.old.deeds) }
 {
     // The contract alone speaks of the CPU's number.
     let _cpu = cpu;
@@ -36,7 +39,7 @@ pub fn tell(words: &Words, seat: &mut CpuSeat, cpu: u8) -> NoteSeat
     }
 }
 
-/// The keeper tells what it has seen: the note has the whole history. Condition: the keeper is at rest.
+/// The keeper tells what it has seen: the note has the whole history, and all that the keeper did, this with it. Condition: the keeper is at rest.
 pub fn tell_keeper(words: &Words, keeper: &mut KeeperSeat) -> NoteSeat
     requires table { keeper.old.table ≡ words.now.table }
     requires may { keeper.old.view.due ≡ Rest }
@@ -45,6 +48,7 @@ pub fn tell_keeper(words: &Words, keeper: &mut KeeperSeat) -> NoteSeat
     ensures note { result.view ≡ keeper.old.view.history }
     ensures event { SplitsBy (Tell None) (Keeper keeper.old.view) (Keeper keeper.old.view) (Note result.view) }
     ensures log { (keeper.new.log ≡ keeper.old.log ++ did (Tell None) Done) × (result.log ≡ []) }
+    ensures deeds { result.deeds ≡ keeper.new.log }
 {
     NoteSeat {
         token: words
@@ -54,8 +58,9 @@ pub fn tell_keeper(words: &Words, keeper: &mut KeeperSeat) -> NoteSeat
     }
 }
 
-/// CPU `cpu` hears a note: its pass becomes the whole history, with what the note tells in it. The note is laid beside the seat's view,
-/// and one load of the CPU's section word is the event. Condition: the seat is that CPU's, and idle.
+/// CPU `cpu` hears a note: its pass becomes the whole history, with what the note tells in it, and what it has heard of the keeper's deeds
+/// goes on to all that the note tells of them. The note is laid beside the seat's view, and one load of the CPU's section word is the event.
+/// Condition: the seat is that CPU's, and idle.
 pub fn hear(words: &Words, seat: &mut CpuSeat, cpu: u8, note: NoteSeat)
     requires table { (seat.old.table ≡ words.now.table) × (note.table ≡ words.now.table) }
     requires cpu { (cpu < 8) × (seat.old.view.id ≡ cpu) }
@@ -65,13 +70,15 @@ pub fn hear(words: &Words, seat: &mut CpuSeat, cpu: u8, note: NoteSeat)
     ensures told { IsPrefix note.view seat.new.view.pass }
     ensures change { IsPrefix seat.old.view.pass seat.new.view.pass × (seat.new.view ≡ record seat.old.view { pass = seat.new.view.pass; heard = note.view }) }
     ensures log { seat.new.log ≡ seat.old.log ++ did (Hear (Some cpu)) Done }
+    ensures deeds { HasHeardDeeds seat.old.deeds note.deeds seat.new.deeds }
 {
     notes::lay(words, seat, note);
-    by_cpu::load::<Brand>(words, seat, 80 * cpu as usize, Event::Hear(Some(cpu)));
+    notes::listen::<Brand>(words, seat, 80 * cpu as usize, Event::Hear(Some(cpu)));
 }
 
-/// The keeper hears a note: what the note tells is in its history. The note is laid beside the seat's view, and one load of the head is
-/// the event. Condition: the keeper is at rest.
+/// The keeper hears a note: what the note tells is in its history, what it tells of the keeper's deeds begins the keeper's log, and the
+/// history is as long as the log says. The note is laid beside the seat's view, and one load of the head is the event.
+/// Condition: the keeper is at rest.
 pub fn hear_keeper(words: &Words, keeper: &mut KeeperSeat, note: NoteSeat)
     requires table { (keeper.old.table ≡ words.now.table) × (note.table ≡ words.now.table) }
     requires may { keeper.old.view.due ≡ Rest }
@@ -80,7 +87,8 @@ pub fn hear_keeper(words: &Words, keeper: &mut KeeperSeat, note: NoteSeat)
     ensures told { IsPrefix note.view keeper.new.view.history }
     ensures change { keeper.new.view ≡ keeper_with_heard keeper.old.view note.view }
     ensures log { keeper.new.log ≡ keeper.old.log ++ did (Hear None) Done }
+    ensures deeds { IsOwnLog keeper.old.log note.deeds keeper.old.view }
 {
     notes::lay_by_keeper(words, keeper, note);
-    by_keeper::load::<Brand>(words, keeper, 648, Event::Hear(None));
+    notes::listen_by_keeper::<Brand>(words, keeper, 648, Event::Hear(None));
 }

@@ -8,7 +8,7 @@ ghost use Rattle.protocol.specs.declared.event.Reply.TheVariants.{Done};
 ghost use Rattle.cpu_words.specs.declared.view.View.TheVariants.{Cpu};
 ghost use Rattle.cpu_words.specs.Rule.{did};
 ghost use Rattle.cpu_words.specs.Steps.{Makes};
-ghost use Rattle.cpu_words.specs.Searching.{MaySeek, key_with, search_for, seeking, MayLoadLink, link_answer, HasFollowed, HasLoadedLink, MayLoadSearched, made_of, loaded_answer, HasLoadedWord};
+ghost use Rattle.cpu_words.specs.Searching.{MaySeek, key_with, search_for, cpu_after_seek, MayLoadLink, link_answer, HasFollowed, HasLoadedLink, MayLoadSearched, loaded_of, loaded_answer, HasLoadedWord};
 
 use crate::law::Words;
 use crate::operations::by_cpu;
@@ -24,10 +24,11 @@ pub fn seek(words: &Words, seat: &mut CpuSeat, cpu: u8, kind: Kind, name: Name) 
     requires cpu { (cpu < 8) × (seat.old.view.id ≡ cpu) }
     requires may { MaySeek seat.old.view }
     ensures table { seat.new.table ≡ seat.old.table }
-    ensures begun { Makes (Seek cpu kind name) Done (Cpu seat.old.view) (Cpu (seeking (key_with kind name) seat.old.view)) }
-    ensures event { Makes (LoadLink cpu) (link_answer result) (Cpu (seeking (key_with kind name) seat.old.view)) (Cpu seat.new.view) }
-    ensures change { HasFollowed (seeking (key_with kind name) seat.old.view) (search_for (key_with kind name) seat.old.view) result seat.new.view }
+    ensures begun { Makes (Seek cpu kind name) Done (Cpu seat.old.view) (Cpu (cpu_after_seek (key_with kind name) seat.old.view)) }
+    ensures event { Makes (LoadLink cpu) (link_answer result) (Cpu (cpu_after_seek (key_with kind name) seat.old.view)) (Cpu seat.new.view) }
+    ensures change { HasFollowed (cpu_after_seek (key_with kind name) seat.old.view) (search_for (key_with kind name) seat.old.view) result seat.new.view }
     ensures log { seat.new.log ≡ seat.old.log ++ did (Seek cpu kind name) Done ++ did (LoadLink cpu) (link_answer result) }
+    ensures deeds { seat.new.deeds ≡ seat.old.deeds }
 {
     by_cpu::load::<Brand>(words, seat, 648, Event::Seek(cpu, kind, name))
 }
@@ -44,6 +45,7 @@ pub fn load_link(words: &Words, seat: &mut CpuSeat, cpu: u8, link: u64) -> u64
     ensures event { Makes (LoadLink cpu) (link_answer result) (Cpu seat.old.view) (Cpu seat.new.view) }
     ensures change { HasLoadedLink seat.old.view result seat.new.view }
     ensures log { seat.new.log ≡ seat.old.log ++ did (LoadLink cpu) (link_answer result) }
+    ensures deeds { seat.new.deeds ≡ seat.old.deeds }
 {
     by_cpu::load::<Brand>(words, seat, 648 + 8 * link as usize, Event::LoadLink(cpu))
 }
@@ -57,9 +59,10 @@ pub fn load_searched(words: &Words, seat: &mut CpuSeat, cpu: u8, slot: usize, k:
     requires slot { (slot < 32) × (k < 5) }
     requires may { MayLoadSearched seat.old.view slot k }
     ensures table { seat.new.table ≡ seat.old.table }
-    ensures event { Makes (LoadRecord (OfSearch cpu)) (loaded_answer (made_of seat.old.view.search result)) (Cpu seat.old.view) (Cpu seat.new.view) }
+    ensures event { Makes (LoadRecord (OfSearch cpu)) (loaded_answer (loaded_of seat.old.view.search result)) (Cpu seat.old.view) (Cpu seat.new.view) }
     ensures change { HasLoadedWord seat.old.view result seat.new.view }
-    ensures log { seat.new.log ≡ seat.old.log ++ did (LoadRecord (OfSearch cpu)) (loaded_answer (made_of seat.old.view.search result)) }
+    ensures log { seat.new.log ≡ seat.old.log ++ did (LoadRecord (OfSearch cpu)) (loaded_answer (loaded_of seat.old.view.search result)) }
+    ensures deeds { seat.new.deeds ≡ seat.old.deeds }
 {
     by_cpu::load::<Brand>(
         words,

@@ -1,7 +1,7 @@
 //! The words and marks of a core, one at a time, and what their places are.
 
 ghost use Rattle.std.specs.Prelude.{◌≡◌, ◌<◌, ◌^◌, Some, None, IfSome, IsTrue, length, slice_index_or, []};
-ghost use Rattle.protocol.specs.Events.{is_idle, is_number, word, standing};
+ghost use Rattle.protocol.specs.Events.{is_idle, is_number, word, number_standing};
 ghost use Rattle.protocol.specs.Invariant.{Holds};
 ghost use Rattle.protocol.specs.State.{at_rest, section_at, begin_at, depth_at, seen_at, found_at, hand_at, search_at, passive_at, count_at, total_at, kept_at, mark_at, row_at, local_at};
 ghost use Rattle.registry_values.specs.Slots.{slot_of, has_number, is_retired, is_vacant, slot_at};
@@ -170,7 +170,7 @@ impl Core {
 
     /// The number that the live local reference with this id is to.
     pub(crate) fn standing_at(&self, id: u64) -> Option<u64>
-        ensures value { result ≡ standing (local_at self.now.locals id) }
+        ensures value { result ≡ number_standing (local_at self.now.locals id) }
         ensures within { IfSome result (λ _. id < length self.now.locals) }
     {
         if id < self.locals.len() as u64 {
@@ -271,7 +271,7 @@ fn place_of(number: u64, slots: &[Slot]) -> Option<usize>
 }
 
 fn standing(place: &LocalPlace) -> Option<u64>
-    ensures { result ≡ standing place.now }
+    ensures { result ≡ number_standing place.now }
 {
     match place {
         LocalPlace::Standing(number) => Some(*number),

@@ -2,7 +2,7 @@
 
 ghost use Rattle.std.specs.Prelude.{◌≡◌, ◌<◌, IfOk, IfErr, take, length, slice_index_or};
 ghost use Rattle.protocol.specs.Taken.{Steps, WantsMemory};
-ghost use Rattle.protocol.specs.Ran.{ran, rested};
+ghost use Rattle.protocol.specs.Ran.{run_of_events, empty_run};
 ghost use Rattle.protocol.specs.declared.event.Event.TheVariants.{LoadRecord, Seat};
 
 use crate::machine::Core;
@@ -61,8 +61,8 @@ impl Core {
 /// Makes all events in order; those that aren't allowed are counted and left out. Refused: `Short` at the first event
 /// for which memory was refused; the state is that of the events before it.
 pub fn run_events(core: &mut Core, events: &[Event]) -> Result<Counted, Short>
-    ensures ok { IfOk result (λ counted. record { state = core.new; counted = counted } ≡ ran (rested core.old) events.now) }
-    ensures short { IfErr result (λ short. (short.done < length events.now) × (core.new ≡ (ran (rested core.old) (take short.done events.now)).state)) }
+    ensures ok { IfOk result (λ counted. record { state = core.new; counted = counted } ≡ run_of_events (empty_run core.old) events.now) }
+    ensures short { IfErr result (λ short. (short.done < length events.now) × (core.new ≡ (run_of_events (empty_run core.old) (take short.done events.now)).state)) }
     ensures wanted { IfErr result (λ short. WantsMemory core.new (slice_index_or events.now short.done (Seat 0))) }
 {
     let mut counted = Counted {

@@ -3,9 +3,9 @@
 ghost use Rattle.std.specs.Prelude.{◌≡◌, ◌<◌, ◌≤◌, Some, IsTrue, length};
 ghost use Rattle.protocol.specs.declared.event.Event.TheVariants.{Seek, LoadLink, LoadRecord};
 ghost use Rattle.protocol.specs.declared.event.RecordOf.TheVariants.{Search as OfSearch};
-ghost use Rattle.protocol.specs.Events.{may_seek, going_on, search_over, link_loaded};
+ghost use Rattle.protocol.specs.Events.{may_seek, with_search_at, search_over, link_loaded};
 ghost use Rattle.protocol.specs.Invariant.{Holds};
-ghost use Rattle.protocol.specs.Loaded.{SlotWithin, loaded, row_of_place, entry_with};
+ghost use Rattle.protocol.specs.Loaded.{SlotWithin, loaded_at, row_of_place, entry_with};
 ghost use Rattle.protocol.specs.Taken.{Keeps, Steps};
 
 use crate::machine::{Core, NO_WORDS};
@@ -38,8 +38,8 @@ impl Core {
     /// The search goes on at another place.
     fn go_on(&mut self, c: u8, search: Search, place: SearchPlace)
         requires cpu { c < self.old.settings.cpus }
-        requires holds { Holds (going_on self.old c search place) }
-        ensures { self.new ≡ going_on self.old c search place }
+        requires holds { Holds (with_search_at self.old c search place) }
+        ensures { self.new ≡ with_search_at self.old c search place }
     {
         self.searches[c as usize] = Some(Search { place, ..search });
     }
@@ -132,7 +132,7 @@ fn row_of_place(rows: &[RecordWords], place: SearchPlace) -> RecordWords
 
 /// What a search does with the next record word of its slot; none where it is to load a link.
 fn loaded(search: &Search, row: &RecordWords) -> Option<Loaded>
-    ensures { result ≡ loaded search.now search.now.place row.now }
+    ensures { result ≡ loaded_at search.now search.now.place row.now }
 {
     match search.place {
         SearchPlace::AtHead | SearchPlace::AtNext(_) => None,

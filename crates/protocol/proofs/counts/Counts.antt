@@ -17,10 +17,10 @@ use Rattle.registry_values.specs.Limits.{are_fit}
 use Rattle.registry_values.proofs.Fit.{ranges}
 use Rattle.protocol.specs.State.{State, with_cell, mark_at, count_at, total_at, kept_at, local_at}
 use Rattle.registry_values.specs.Balances.{bias}
-use Rattle.registry_values.specs.Marks.{no_mark, collected}
+use Rattle.registry_values.specs.Marks.{no_mark, mark_after_collect}
 use Rattle.registry_values.specs.Slots.{slot_at}
 use Rattle.protocol.specs.Events.{least_id, with_local}
-use Rattle.protocol.specs.Invariant.{IsIn, AreRows, HasShape, Balances, IsCounting, CountsHold, one_if, standing_of, in_hand, kept_of, subtracting_at, adding_at, is_adding_at, held_at, greatest_limit}
+use Rattle.protocol.specs.Invariant.{IsIn, AreRows, HasShape, Balances, IsCounting, CountsHold, one_if, standing_of, in_hand, kept_of, subtraction_due_at, addition_due_at, is_adding_at, held_at, greatest_limit}
 use Rattle.protocol.proofs.counts.Sums.{one_at, none_at, standing_within, lifted_within, local_changed, hand_changed, kept_changed, local_added}
 use Rattle.protocol.proofs.counts.Balancing.{AreWords, word_floor, counted_up, counted_down, added, subtracted, published, collected as word_collected}
 use Rattle.protocol.proofs.slots.Cells.{by_place, by_cell, row_here, row_other, cell_here, cell_other, cell_cases, cell_in_new, cell_in_old, get_or_all, one_in, slot_here, slot_other, not_vacated, total_here, total_other}
@@ -117,7 +117,7 @@ moved {row} {row2} {total} {total2} {held} {held2} {adding} {adding2} {is_adding
 -- Events that leave the words as they are
 
 pub rebalanced : {z : Settings} {slots : List Slot} {marks : List (List Mark)} {counts nets : List (List ℕ)} {totals : List ℕ} {hands : List Hand} {keeps : List (Option ℕ)} {due : Due} {locals : List LocalPlace} → CountsHold z slots marks counts nets totals hands keeps due locals → (totals2 : List ℕ) (hands2 : List Hand) (keeps2 : List (Option ℕ)) (due2 : Due) (locals2 : List LocalPlace)
-    → ((t : ℕ) (e : Entry) → IsIn e (slot_at slots t) → Balances (get_or counts t []) (total_at totals2 t) (held_at locals2 hands2 keeps2 due2 e.number t) (adding_at t due2) (is_adding_at t due2))
+    → ((t : ℕ) (e : Entry) → IsIn e (slot_at slots t) → Balances (get_or counts t []) (total_at totals2 t) (held_at locals2 hands2 keeps2 due2 e.number t) (addition_due_at t due2) (is_adding_at t due2))
     → ((t : ℕ) → slot_at slots t ≡ Vacant → total_at totals2 t ≡ total_at totals t)
     → ((t d : ℕ) → due2 ≡ Snapshots t d → (k : ℕ) × (due ≡ Snapshots t k))
     → CountsHold z slots marks counts nets totals2 hands2 keeps2 due2 locals2
@@ -176,8 +176,8 @@ pub join_keeper : {z : Settings} {slots : List Slot} {marks : List (List Mark)} 
     → CountsHold z slots marks counts nets totals hands keeps (Subtracting t) (set locals id Free)
 join_keeper {z} {slots} {marks} {counts} {nets} {totals} {hands} {keeps} {due} {locals} on t n id e rest is number one at = rebalanced on totals hands keeps (Subtracting t) (set locals id Free)
     (λ u f in_. moved (on.balance u f in_) refl refl
-    (omega (arith, at_slot slots t n e is number one u f in_, local_changed f.number locals id (Standing n) Free (standing_within locals id n at) at, ap (subtracting_at u) rest))
-    (sym (ap (adding_at u) rest)) (sym (ap (is_adding_at u) rest)))
+    (omega (arith, at_slot slots t n e is number one u f in_, local_changed f.number locals id (Standing n) Free (standing_within locals id n at) at, ap (subtraction_due_at u) rest))
+    (sym (ap (addition_due_at u) rest)) (sym (ap (is_adding_at u) rest)))
     (λ u is. refl) (λ u d snap. absurd (let q : Subtracting t ≡ Snapshots u d = snap in cc))
 
 pub total_sub : {z : Settings} {slots : List Slot} {marks : List (List Mark)} {counts nets : List (List ℕ)} {totals : List ℕ} {hands : List Hand} {keeps : List (Option ℕ)} {due : Due} {locals : List LocalPlace} → CountsHold z slots marks counts nets totals hands keeps due locals → CountsFit z slots marks counts nets totals hands keeps → (t : ℕ) (e : Entry) → due ≡ Subtracting t → IsIn e (slot_at slots t)
@@ -188,9 +188,9 @@ total_sub {z} {slots} {marks} {counts} {nets} {totals} {hands} {keeps} {due} {lo
     (λ u f in_. by_place (λ (k : ℕ). IsIn f (slot_at slots k) → Balances (get_or counts k []) (total_at (set totals t (total_at totals t - 1)) k) (held_at locals hands keeps Rest f.number k) 0 0) t u
     (λ here. moved
     (subtracted (get_or counts t []) (total_at totals t) (held_at locals hands keeps Rest f.number t) (are_words on fit t f here)
-    (moved (on.balance t f here) refl refl (omega (arith, ap (subtracting_at t) was, one_at t t refl)) (sym (ap (adding_at t) was)) (sym (ap (is_adding_at t) was))))
+    (moved (on.balance t f here) refl refl (omega (arith, ap (subtraction_due_at t) was, one_at t t refl)) (sym (ap (addition_due_at t) was)) (sym (ap (is_adding_at t) was))))
     refl (total_here totals t (total_at totals t - 1) lt) refl refl refl)
-    (λ off there. moved (on.balance u f there) refl (total_other totals t (total_at totals t - 1) u off) (omega (arith, ap (subtracting_at u) was, none_at t u (λ same. off (sym same)))) (sym (ap (adding_at u) was)) (sym (ap (is_adding_at u) was)))
+    (λ off there. moved (on.balance u f there) refl (total_other totals t (total_at totals t - 1) u off) (omega (arith, ap (subtraction_due_at u) was, none_at t u (λ same. off (sym same)))) (sym (ap (addition_due_at u) was)) (sym (ap (is_adding_at u) was)))
     in_)
     (λ u vacant. total_other totals t (total_at totals t - 1) u (λ same. not_vacant e (slot_at slots t) (ap (slot_at slots) (sym same) ∙ vacant) is))
     (λ u d snap. absurd (let q : Rest ≡ Snapshots u d = snap in cc))
@@ -204,11 +204,11 @@ total_add {z} {slots} {marks} {counts} {nets} {totals} {hands} {keeps} {due} {lo
     (λ u f in_. by_place (λ (k : ℕ). IsIn f (slot_at slots k) → Balances (get_or counts k []) (total_at (set totals t v) k) (held_at locals hands keeps Rest f.number k) 0 0) t u
     (λ here. moved
     (added (get_or counts t []) (total_at totals t) (held_at locals hands keeps Rest f.number t) old (are_words on fit t f here)
-    (moved (on.balance t f here) refl refl (omega (arith, ap (subtracting_at t) was))
-    (sym (ap (adding_at t) was ∙ ap (λ (b : Bool). cond b old 0) (eq-eqb t t refl))) (sym (ap (is_adding_at t) was ∙ one_at t t refl))))
+    (moved (on.balance t f here) refl refl (omega (arith, ap (subtraction_due_at t) was))
+    (sym (ap (addition_due_at t) was ∙ ap (λ (b : Bool). cond b old 0) (eq-eqb t t refl))) (sym (ap (is_adding_at t) was ∙ one_at t t refl))))
     refl (total_here totals t v lt) refl refl refl)
-    (λ off there. moved (on.balance u f there) refl (total_other totals t v u off) (omega (arith, ap (subtracting_at u) was))
-    (sym (ap (adding_at u) was ∙ ap (λ (b : Bool). cond b old 0) (ne_eqb t u (λ same. off (sym same))))) (sym (ap (is_adding_at u) was ∙ none_at t u (λ same. off (sym same)))))
+    (λ off there. moved (on.balance u f there) refl (total_other totals t v u off) (omega (arith, ap (subtraction_due_at u) was))
+    (sym (ap (addition_due_at u) was ∙ ap (λ (b : Bool). cond b old 0) (ne_eqb t u (λ same. off (sym same))))) (sym (ap (is_adding_at u) was ∙ none_at t u (λ same. off (sym same)))))
     in_)
     (λ u vacant. total_other totals t v u (λ same. not_vacant e (slot_at slots t) (ap (slot_at slots) (sym same) ∙ vacant) is))
     (λ u d snap. absurd (let q : Rest ≡ Snapshots u d = snap in cc))
@@ -217,7 +217,7 @@ total_add {z} {slots} {marks} {counts} {nets} {totals} {hands} {keeps} {due} {lo
 
 -- a word that counts and its net count change alike
 pub recounted : {z : Settings} {slots : List Slot} {marks : List (List Mark)} {counts nets : List (List ℕ)} {totals : List ℕ} {hands : List Hand} {keeps : List (Option ℕ)} {due : Due} {locals : List LocalPlace} → CountsHold z slots marks counts nets totals hands keeps due locals → CountsFit z slots marks counts nets totals hands keeps → (c t w v : ℕ) (e : Entry) (hands2 : List Hand) (locals2 : List LocalPlace) → c < z.cpus → IsIn e (slot_at slots t) → IsCounting slots marks c t → w ≡ v → 0 < w → v ≤ bias + z.count_limit
-    → Balances (set (get_or counts t []) c w) (total_at totals t) (held_at locals2 hands2 keeps due e.number t) (adding_at t due) (is_adding_at t due)
+    → Balances (set (get_or counts t []) c w) (total_at totals t) (held_at locals2 hands2 keeps due e.number t) (addition_due_at t due) (is_adding_at t due)
     → ((u : ℕ) (f : Entry) → (u ≡ t → ⊥) → IsIn f (slot_at slots u) → held_at locals2 hands2 keeps due f.number u ≡ held_at locals hands keeps due f.number u)
     → CountsHold z slots marks (with_cell counts t c w) (with_cell nets t c v) totals hands2 keeps due locals2
 recounted {z} {slots} {marks} {counts} {nets} {totals} {hands} {keeps} {due} {locals} on fit c t w v e hands2 locals2 lt is counting same some most balances others =
@@ -247,7 +247,7 @@ recounted {z} {slots} {marks} {counts} {nets} {totals} {hands} {keeps} {due} {lo
           (λ _. omega (arith, net, most))
           (λ off there. omega (arith, nets_old u j off, on.limited j u f there))
           in_;
-      balance = λ u f in_. by_place (λ x. IsIn f (slot_at slots x) → Balances (get_or (with_cell counts t c w) x []) (total_at totals x) (held_at locals2 hands2 keeps due f.number x) (adding_at x due) (is_adding_at x due)) t u
+      balance = λ u f in_. by_place (λ x. IsIn f (slot_at slots x) → Balances (get_or (with_cell counts t c w) x []) (total_at totals x) (held_at locals2 hands2 keeps due f.number x) (addition_due_at x due) (is_adding_at x due)) t u
           (λ here. moved balances (row_here counts t c w cs.0) refl (ap (λ (g : Entry). held_at locals2 hands2 keeps due g.number t) (one_in e f (slot_at slots t) is here)) refl refl)
           (λ off there. moved (on.balance u f there) (row_other counts t c w u off) refl (others u f off there) refl refl)
           in_;
@@ -263,7 +263,7 @@ count_add {z} {slots} {marks} {counts} {nets} {totals} {hands} {keeps} {due} {lo
     let cs = in_counts fit t e is in
     let hl : c < length hands = omega (arith, lt, fit.hand_length) in
     recounted on fit c t (count_at counts c t + 1) (count_at nets c t + 1) e (set hands c (Taking n)) locals lt is counting (omega (arith, was.0)) (omega arith) (omega (arith, less))
-    (moved (counted_up (get_or counts t []) (total_at totals t) (held_at locals hands keeps due e.number t) (adding_at t due) (is_adding_at t due) c (count_at counts c t) (omega (arith, cs.1, lt, fit.cpu_limit)) refl was.1 (on.balance t e is)) refl refl
+    (moved (counted_up (get_or counts t []) (total_at totals t) (held_at locals hands keeps due e.number t) (addition_due_at t due) (is_adding_at t due) c (count_at counts c t) (omega (arith, cs.1, lt, fit.cpu_limit)) refl was.1 (on.balance t e is)) refl refl
     (omega (arith, hand_changed e.number hands c Empty (Taking n) hl hand, one_at n e.number (sym number))) refl refl)
     (λ u f off in_. omega (arith, hand_changed f.number hands c Empty (Taking n) hl hand, none_at n f.number (λ here. off (one u f in_ (sym here)))))
 
@@ -279,22 +279,22 @@ count_down {z} {slots} {marks} {counts} {nets} {totals} {hands} {keeps} {due} {l
     let cs = in_counts fit t e is in
     let hl : c < length hands = omega (arith, lt, fit.hand_length) in
     let ll = lifted_within locals id c at in
-    let floor = word_floor (get_or counts t []) (total_at totals t) (held_at locals hands keeps due e.number t) (adding_at t due) (is_adding_at t due) c (are_words on fit t e is) (omega (arith, lt, fit.cpu_limit)) was.1 (on.balance t e is) in
+    let floor = word_floor (get_or counts t []) (total_at totals t) (held_at locals hands keeps due e.number t) (addition_due_at t due) (is_adding_at t due) c (are_words on fit t e is) (omega (arith, lt, fit.cpu_limit)) was.1 (on.balance t e is) in
     let far : 1 < count_at counts c t = omega (arith, floor) in
     let changed : held_at locals hands keeps due e.number t ≡ held_at (set locals id Free) (set hands c Empty) keeps due e.number t + 1
     = omega (arith, hand_changed e.number hands c (Giving n id) Empty hl hand, local_changed e.number locals id (Lifted c) Free ll at, one_at n e.number (sym number)) in
     recounted on fit c t (count_at counts c t - 1) (count_at nets c t - 1) e (set hands c Empty) (set locals id Free) lt is counting (omega (arith, was.0)) (omega (arith, far)) (omega (arith, on.limited c t e is))
-    (counted_down (get_or counts t []) (total_at totals t) (held_at (set locals id Free) (set hands c Empty) keeps due e.number t) (adding_at t due) (is_adding_at t due) c (count_at counts c t) (omega (arith, cs.1, lt, fit.cpu_limit)) refl far
+    (counted_down (get_or counts t []) (total_at totals t) (held_at (set locals id Free) (set hands c Empty) keeps due e.number t) (addition_due_at t due) (is_adding_at t due) c (count_at counts c t) (omega (arith, cs.1, lt, fit.cpu_limit)) refl far
     (moved (on.balance t e is) refl refl (sym changed) refl refl))
     (λ u f off in_. omega (arith, hand_changed f.number hands c (Giving n id) Empty hl hand, local_changed f.number locals id (Lifted c) Free ll at, none_at n f.number (λ here. off (one u f in_ (sym here)))))
 
 -- a word is swapped for 0
 pub collect : {z : Settings} {slots : List Slot} {marks : List (List Mark)} {counts nets : List (List ℕ)} {totals : List ℕ} {hands : List Hand} {keeps : List (Option ℕ)} {due : Due} {locals : List LocalPlace} → CountsHold z slots marks counts nets totals hands keeps due locals → CountsFit z slots marks counts nets totals hands keeps → (c t : ℕ) (e : Entry) → c < z.cpus → due ≡ Rest → slot_at slots t ≡ Retired e → (mark_at marks t c).collected ≡ false
-    → CountsHold z slots (with_cell marks t c (collected (mark_at marks t c))) (with_cell counts t c 0) nets totals hands keeps (Adding t (count_at counts c t)) locals
+    → CountsHold z slots (with_cell marks t c (mark_after_collect (mark_at marks t c))) (with_cell counts t c 0) nets totals hands keeps (Adding t (count_at counts c t)) locals
 collect {z} {slots} {marks} {counts} {nets} {totals} {hands} {keeps} {due} {locals} on fit c t e lt rest gone open_ =
     let is : IsIn e (slot_at slots t) = inr gone in
     let counting : IsCounting slots marks c t = (e, inr (gone, open_)) in
-    let m : Mark = collected (mark_at marks t c) in
+    let m : Mark = mark_after_collect (mark_at marks t c) in
     let w : ℕ = count_at counts c t in
     let was = on.counted c t lt counting in
     let words = are_words on fit t e is in
@@ -305,7 +305,7 @@ collect {z} {slots} {marks} {counts} {nets} {totals} {hands} {keeps} {due} {loca
     let mark : mark_at (with_cell marks t c m) t c ≡ m = cell_here no_mark marks t c m tm ml in
     let marks_old : (u j : ℕ) → (u ≡ t → j ≡ c → ⊥) → mark_at (with_cell marks t c m) u j ≡ mark_at marks u j = λ u j off. cell_other no_mark marks t c m u j off in
     let counts_old : (u j : ℕ) → (u ≡ t → j ≡ c → ⊥) → count_at (with_cell counts t c 0) j u ≡ count_at counts j u = λ u j off. cell_other 0 counts t c 0 u j off in
-    let a_word : (x : ℕ) → adding_at x (Adding t w) ≡ cond (t == x) w 0 = λ x. refl in
+    let a_word : (x : ℕ) → addition_due_at x (Adding t w) ≡ cond (t == x) w 0 = λ x. refl in
     record {
       counted = λ j u below counts_there. by_cell (λ x y. y < z.cpus → IsCounting slots (with_cell marks t c m) y x → (count_at (with_cell counts t c 0) y x ≡ count_at nets y x) × (0 < count_at (with_cell counts t c 0) y x)) t c u j
           (λ _ there. absurd (not_both slots (with_cell marks t c m) c t e there gone (ap (λ (k : Mark). k.collected) mark)))
@@ -325,13 +325,13 @@ collect {z} {slots} {marks} {counts} {nets} {totals} {hands} {keeps} {due} {loca
           retired done;
       beyond = λ j u ge. counts_old u j (λ _ here. omega (arith, here, lt, ge)) ∙ on.beyond j u ge;
       limited = on.limited;
-      balance = λ u f in_. by_place (λ x. IsIn f (slot_at slots x) → Balances (get_or (with_cell counts t c 0) x []) (total_at totals x) (held_at locals hands keeps (Adding t w) f.number x) (adding_at x (Adding t w)) (is_adding_at x (Adding t w))) t u
+      balance = λ u f in_. by_place (λ x. IsIn f (slot_at slots x) → Balances (get_or (with_cell counts t c 0) x []) (total_at totals x) (held_at locals hands keeps (Adding t w) f.number x) (addition_due_at x (Adding t w)) (is_adding_at x (Adding t w))) t u
           (λ here. moved
           (word_collected (get_or counts t []) (total_at totals t) (held_at locals hands keeps (Adding t w) f.number t) c w cl refl was.1 (words.1 c)
-          (moved (on.balance t f here) refl refl (omega (arith, ap (subtracting_at t) rest)) (sym (ap (adding_at t) rest)) (sym (ap (is_adding_at t) rest))))
+          (moved (on.balance t f here) refl refl (omega (arith, ap (subtraction_due_at t) rest)) (sym (ap (addition_due_at t) rest)) (sym (ap (is_adding_at t) rest))))
           (row_here counts t c 0 cs.0) refl refl (ap (λ (b : Bool). cond b w 0) (eq-eqb t t refl)) (one_at t t refl))
-          (λ off there. moved (on.balance u f there) (row_other counts t c 0 u off) refl (omega (arith, ap (subtracting_at u) rest))
-          (ap (λ (b : Bool). cond b w 0) (ne_eqb t u (λ here. off (sym here))) ∙ sym (ap (adding_at u) rest)) (none_at t u (λ here. off (sym here)) ∙ sym (ap (is_adding_at u) rest)))
+          (λ off there. moved (on.balance u f there) (row_other counts t c 0 u off) refl (omega (arith, ap (subtraction_due_at u) rest))
+          (ap (λ (b : Bool). cond b w 0) (ne_eqb t u (λ here. off (sym here))) ∙ sym (ap (addition_due_at u) rest)) (none_at t u (λ here. off (sym here)) ∙ sym (ap (is_adding_at u) rest)))
           in_;
       vacant = on.vacant;
       fresh = λ j u d snap. absurd (let q : Adding t w ≡ Snapshots u d = snap in cc);
@@ -367,7 +367,7 @@ one_marked {z} {slots} {marks} {counts} {nets} {totals} {hands} {keeps} {due} {l
 -- what is due changes, but to no other slot's snapshots, and to no addition
 pub snapshots_go_on : {z : Settings} {slots : List Slot} {marks : List (List Mark)} {counts nets : List (List ℕ)} {totals : List ℕ} {hands : List Hand} {keeps : List (Option ℕ)} {due : Due} {locals : List LocalPlace} → CountsHold z slots marks counts nets totals hands keeps due locals → (t c : ℕ) (due2 : Due) → due ≡ Snapshots t c → ((due2 ≡ Rest) ⊎ ((d : ℕ) × (due2 ≡ Snapshots t d))) → CountsHold z slots marks counts nets totals hands keeps due2 locals
 snapshots_go_on {z} {slots} {marks} {counts} {nets} {totals} {hands} {keeps} {due} {locals} on t c due2 was next = rebalanced on totals hands keeps due2 locals
-    (λ u f in_. moved (on.balance u f in_) refl refl (omega (arith, (nothing u).0, ap (subtracting_at u) was)) ((nothing u).1 ∙ sym (ap (adding_at u) was)) ((nothing u).2 ∙ sym (ap (is_adding_at u) was)))
+    (λ u f in_. moved (on.balance u f in_) refl refl (omega (arith, (nothing u).0, ap (subtraction_due_at u) was)) ((nothing u).1 ∙ sym (ap (addition_due_at u) was)) ((nothing u).2 ∙ sym (ap (is_adding_at u) was)))
     (λ u is. refl)
     (λ u d snap. ⊎_elim
     (λ (rest : due2 ≡ Rest). absurd (let q : Rest ≡ Snapshots u d = sym rest ∙ snap in cc))
@@ -377,10 +377,10 @@ snapshots_go_on {z} {slots} {marks} {counts} {nets} {totals} {hands} {keeps} {du
     (c, was ∙ ap (λ (x : ℕ). Snapshots x c) same))
     next)
   where
-    nothing : (u : ℕ) → (subtracting_at u due2 ≡ 0) × (adding_at u due2 ≡ 0) × (is_adding_at u due2 ≡ 0)
+    nothing : (u : ℕ) → (subtraction_due_at u due2 ≡ 0) × (addition_due_at u due2 ≡ 0) × (is_adding_at u due2 ≡ 0)
     nothing u = ⊎_elim
-        (λ (rest : due2 ≡ Rest). (ap (subtracting_at u) rest, ap (adding_at u) rest, ap (is_adding_at u) rest))
-        (λ (more : (k : ℕ) × (due2 ≡ Snapshots t k)). (ap (subtracting_at u) more.1, ap (adding_at u) more.1, ap (is_adding_at u) more.1))
+        (λ (rest : due2 ≡ Rest). (ap (subtraction_due_at u) rest, ap (addition_due_at u) rest, ap (is_adding_at u) rest))
+        (λ (more : (k : ℕ) × (due2 ≡ Snapshots t k)). (ap (subtraction_due_at u) more.1, ap (addition_due_at u) more.1, ap (is_adding_at u) more.1))
         next
 
 -- the snapshot of c is taken
@@ -429,9 +429,9 @@ publish {z} {slots} {marks} {counts} {nets} {totals} {hands} {keeps} {due} {loca
           (λ _. omega (arith, net_new j, at_most j))
           (λ off there. omega (arith, net_old u j off, on.limited j u f (subst (IsIn f) (slot_old u off) there)))
           in_;
-      balance = λ u f in_. by_place (λ x. IsIn f (slot_at (set slots t (Live e)) x) → Balances (get_or counts x []) (total_at totals x) (held_at locals hands keeps due f.number x) (adding_at x due) (is_adding_at x due)) t u
+      balance = λ u f in_. by_place (λ x. IsIn f (slot_at (set slots t (Live e)) x) → Balances (get_or counts x []) (total_at totals x) (held_at locals hands keeps due f.number x) (addition_due_at x due) (is_adding_at x due)) t u
           (λ there. moved (published (get_or counts t []) (fit.count_rows t tc) (λ j. ⊎_elim (λ (below : j < z.cpus). inr (words j below)) (λ (ge : z.cpus ≤ j). inl (on.beyond j t ge)) (cases_lt j z.cpus)))
-          refl (on.vacant t lt vacant) (ap (λ (g : Entry). held_at locals hands keeps due g.number t) (one_in e f (slot_at (set slots t (Live e)) t) is there) ∙ none) (ap (adding_at t) rest) (ap (is_adding_at t) rest))
+          refl (on.vacant t lt vacant) (ap (λ (g : Entry). held_at locals hands keeps due g.number t) (one_in e f (slot_at (set slots t (Live e)) t) is there) ∙ none) (ap (addition_due_at t) rest) (ap (is_adding_at t) rest))
           (λ off there. on.balance u f (subst (IsIn f) (slot_old u off) there))
           in_;
       vacant = λ u below free. by_place (λ x. x < length slots → slot_at (set slots t (Live e)) x ≡ Vacant → total_at totals x ≡ bias) t u
@@ -482,7 +482,7 @@ unpublish {z} {slots} {marks} {counts} {nets} {totals} {hands} {keeps} {due} {lo
           gone done;
       beyond = on.beyond;
       limited = λ j u f in_. on.limited j u f (was_in u f in_);
-      balance = λ u f in_. moved (on.balance u f (was_in u f in_)) refl refl (omega (arith, ap (subtracting_at u) rest)) (sym (ap (adding_at u) rest)) (sym (ap (is_adding_at u) rest));
+      balance = λ u f in_. moved (on.balance u f (was_in u f in_)) refl refl (omega (arith, ap (subtraction_due_at u) rest)) (sym (ap (addition_due_at u) rest)) (sym (ap (is_adding_at u) rest));
       vacant = λ u below free. by_place (λ x. x < length slots → slot_at (set slots t (Retired e)) x ≡ Vacant → total_at totals x ≡ bias) t u
           (λ _ no. absurd (let q : Retired e ≡ Vacant = sym here ∙ no in cc))
           (λ off less is_free. on.vacant u less (sym (slot_old u off) ∙ is_free))
@@ -526,12 +526,12 @@ kept_sub {z} {slots} {marks} {counts} {nets} {totals} {hands} {keeps} {due} {loc
     let lk : t < length keeps = omega (arith, lt, fit.slot_length, fit.keep_length) in
     let v : ℕ = total_at totals u - 1 in
     vacate (rebalanced on (set totals u v) hands (set keeps t None) due locals
-    (λ x f in_. by_place (λ (k : ℕ). IsIn f (slot_at slots k) → Balances (get_or counts k []) (total_at (set totals u v) k) (held_at locals hands (set keeps t None) due f.number k) (adding_at k due) (is_adding_at k due)) u x
+    (λ x f in_. by_place (λ (k : ℕ). IsIn f (slot_at slots k) → Balances (get_or counts k []) (total_at (set totals u v) k) (held_at locals hands (set keeps t None) due f.number k) (addition_due_at k due) (is_adding_at k due)) u x
     (λ here.
     let same : n ≡ f.number = sym number ∙ sym (ap (λ (g : Entry). g.number) (one_in e f (slot_at slots u) is here)) in
     moved (subtracted (get_or counts u []) (total_at totals u) (held_at locals hands (set keeps t None) due f.number u) (are_words on fit u f here)
-    (moved (on.balance u f here) refl refl (omega (arith, kept_changed f.number keeps t (Some n) None lk kept, one_at n f.number same)) (sym (ap (adding_at u) rest)) (sym (ap (is_adding_at u) rest))))
-    refl (total_here totals u v lu) refl (ap (adding_at u) rest) (ap (is_adding_at u) rest))
+    (moved (on.balance u f here) refl refl (omega (arith, kept_changed f.number keeps t (Some n) None lk kept, one_at n f.number same)) (sym (ap (addition_due_at u) rest)) (sym (ap (is_adding_at u) rest))))
+    refl (total_here totals u v lu) refl (ap (addition_due_at u) rest) (ap (is_adding_at u) rest))
     (λ off there. moved (on.balance x f there) refl (total_other totals u v x off)
     (omega (arith, kept_changed f.number keeps t (Some n) None lk kept, none_at n f.number (λ same. off (one x f there (sym same))))) refl refl)
     in_)

@@ -9,7 +9,7 @@ use Rattle.protocol.specs.declared.state.LocalPlace.{LocalPlace}
 use Rattle.protocol.specs.declared.state.LocalPlace.TheVariants.{Free, Standing}
 use Rattle.protocol.specs.declared.state.Due.{Due}
 use Rattle.protocol.specs.State.{local_at, kept_at}
-use Rattle.protocol.specs.Invariant.{standing_of, in_hand, kept_of, subtracting_at, held_at}
+use Rattle.protocol.specs.Invariant.{standing_of, in_hand, kept_of, subtraction_due_at, held_at}
 use Rattle.protocol.proofs.counts.Sums.{one_at, none_at}
 use Rattle.protocol.proofs.counts.HeldSums.{standing_not, kept_not}
 
@@ -51,7 +51,7 @@ none_in_hand n (Back m id) taking giving back = none_at m n (λ same. back id (a
 
 pub none_held : (locals : List LocalPlace) (hands : List Hand) (keeps : List (Option ℕ)) (due : Due) (n t : ℕ) → ((id : ℕ) → local_at locals id ≡ Standing n → ⊥)
     → ((c : ℕ) → get_or hands c Empty ≡ Taking n → ⊥) → ((c id : ℕ) → get_or hands c Empty ≡ Giving n id → ⊥) → ((c id : ℕ) → get_or hands c Empty ≡ Back n id → ⊥)
-    → ((u : ℕ) → kept_at keeps u ≡ Some n → ⊥) → subtracting_at t due ≡ 0 → held_at locals hands keeps due n t ≡ 0
+    → ((u : ℕ) → kept_at keeps u ≡ Some n → ⊥) → subtraction_due_at t due ≡ 0 → held_at locals hands keeps due n t ≡ 0
 none_held locals hands keeps due n t standing taking giving back kept still =
     omega (
       arith,

@@ -11,7 +11,7 @@ use Rattle.protocol.specs.declared.state.LocalPlace.TheVariants.{Free, Standing,
 use Rattle.protocol.specs.declared.state.Due.{Due}
 use Rattle.protocol.specs.declared.state.Due.TheVariants.{Rest, Snapshots, Adding, Subtracting}
 use Rattle.protocol.specs.State.{kept_at, local_at}
-use Rattle.protocol.specs.Invariant.{Occupies, one_if, standing_of, in_hand, kept_of, subtracting_at, held_at, SlotsShow, HandHolds, ReferencesHold, DriversKept}
+use Rattle.protocol.specs.Invariant.{Occupies, one_if, standing_of, in_hand, kept_of, subtraction_due_at, held_at, SlotsShow, HandHolds, ReferencesHold, DriversKept}
 use Rattle.protocol.proofs.slots.Occupied.{place_within, fresh_unoccupied}
 
 -- the number that a hand names
@@ -116,7 +116,7 @@ unreferred locals hands keeps due n t none = record {
 
 pub not_subtracting : (locals : List LocalPlace) (hands : List Hand) (keeps : List (Option ℕ)) (due : Due) (n t : ℕ) → held_at locals hands keeps due n t ≡ 0 → due ≡ Subtracting t → ⊥
 not_subtracting locals hands keeps due n t none is =
-    let one : subtracting_at t due ≡ 1 = ap (subtracting_at t) is ∙ one_self t t refl in
+    let one : subtraction_due_at t due ≡ 1 = ap (subtraction_due_at t) is ∙ one_self t t refl in
     omega (arith, none, one)
 
 pub nothing_held : (locals : List LocalPlace) (hands : List Hand) (keeps : List (Option ℕ)) (due : Due) (n t : ℕ) → (due ≡ Subtracting t → ⊥) → Unreferred locals hands keeps n → held_at locals hands keeps due n t ≡ 0
@@ -124,10 +124,10 @@ nothing_held locals hands keeps due n t off free =
     let a = no_standing n locals free.unplaced in
     let b = no_hand n hands free.unhanded in
     let c = no_kept n keeps free.unkept in
-    let d : subtracting_at t due ≡ 0 = not_due due off in
+    let d : subtraction_due_at t due ≡ 0 = not_due due off in
     omega (arith, a, b, c, d)
   where
-    not_due : (x : Due) → (x ≡ Subtracting t → ⊥) → subtracting_at t x ≡ 0
+    not_due : (x : Due) → (x ≡ Subtracting t → ⊥) → subtraction_due_at t x ≡ 0
     not_due Rest off_due = refl
     not_due (Snapshots u c) off_due = refl
     not_due (Adding u old) off_due = refl

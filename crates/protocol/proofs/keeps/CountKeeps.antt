@@ -11,8 +11,8 @@ use Rattle.protocol.proofs.keeps.Passive.{found_not_passed, passive_marked}
 use Rattle.protocol.proofs.keeps.References.{back_holds, due_adding, due_subtracting, giving_holds, hand_seated}
 use Rattle.protocol.proofs.keeps.Referring.{Refers, collect_refers, collected_refers, count_add_refers, count_down_refers, join_keeper_refers, join_refers, keep_refers, split_back_refers, split_refers, total_refers}
 use Rattle.protocol.proofs.keeps.SectionKeeps.{none_from}
-use Rattle.protocol.specs.Events.{after_collect, after_collected, after_count_add, after_count_down, after_count_store, after_hand, after_join_keeper, after_keep, after_split, after_total, exchange, is_drainable, is_driver_slot, is_idle, is_number, least_id, may_collect, may_count, may_examine, may_join, may_join_keeper, may_keep, may_write, taken, with_local}
-use Rattle.registry_values.specs.Marks.{collected, are_clear, have_passed, is_clear, is_some_collected, no_mark}
+use Rattle.protocol.specs.Events.{after_collect, after_collected, after_count_add, after_count_down, after_count_store, after_hand, after_join_keeper, after_keep, after_split, after_total, exchange, is_drainable, is_driver_slot, is_idle, is_number, least_id, may_collect, may_count, may_examine, may_join, may_join_keeper, may_keep, may_write, some_outcome, with_local}
+use Rattle.registry_values.specs.Marks.{mark_after_collect, are_clear, have_passed, is_clear, is_some_collected, no_mark}
 use Rattle.protocol.specs.Invariant.{AreRows, Holds, IsCounting, IsIn, SnapshotsStand}
 use Rattle.protocol.specs.State.{at_rest, is_empty, State, count_at, found_at, hand_at, kept_at, local_at, mark_at, search_at, total_at, with_cell}
 use Rattle.registry_values.specs.Slots.{is_retired, slot_of, slot_at}
@@ -252,7 +252,7 @@ collect_keeps s t c on may =
     let clear : (mark_at s.marks t c).clear ≡ true = list_all_within is_clear (get_or s.marks t []) s.settings.cpus c no_mark d.1 told.1 place.1 in
     let still : (mark_at s.marks t c).collected ≡ false = false_from (mark_at s.marks t c).collected q.1 in
     let refers : Refers (after_collect s t c) = collect_refers s t c may (refers_of s on) in
-    let stand = snapshots_marked s.settings.cpus s.slots s.marks s.due t c (collected (mark_at s.marks t c)) refl on.snapshots in
+    let stand = snapshots_marked s.settings.cpus s.slots s.marks s.due t c (mark_after_collect (mark_at s.marks t c)) refl on.snapshots in
     record {
       fit = on.fit;
       shape = record {
@@ -274,7 +274,7 @@ collect_keeps s t c on may =
         net_rows = on.shape.net_rows;
         slots = on.shape.slots;
         marks = length-set s.marks t _ ∙ on.shape.marks;
-        mark_rows = rows_cell s.marks t c (collected (mark_at s.marks t c)) on.shape.mark_rows;
+        mark_rows = rows_cell s.marks t c (mark_after_collect (mark_at s.marks t c)) on.shape.mark_rows;
         keeps = on.shape.keeps;
       };
       legal = on.legal;
@@ -284,7 +284,7 @@ collect_keeps s t c on may =
       list = on.list;
       held = on.held;
       frozen_links = on.frozen_links;
-      grace = marks_write s.history s.slots s.marks s.section s.begins t c (collected (mark_at s.marks t c))
+      grace = marks_write s.history s.slots s.marks s.section s.begins t c (mark_after_collect (mark_at s.marks t c))
           (λ p b e is ends in_ holds. on.grace.passed t p c b e is ends in_ holds) (λ p b w e is ends in_ snap off. on.grace.changed t p c b w e is ends in_ snap off)
           (λ w e is snap. on.grace.older t c w e is snap) (λ b w e is in_ holds snap same. on.grace.left t c b w e is in_ holds snap same) on.grace;
       snapshots = λ u j e is low later. stand u j e is low (λ due. not_at_rest s.due u due.0 told.0 due.1);
@@ -292,7 +292,7 @@ collect_keeps s t c on may =
       sections = on.sections;
       searches = on.searches;
       last_found = on.last_found;
-      passive = passive_marked s.settings.cpus s.settings.passive_limit s.slots s.marks s.passive t c (collected (mark_at s.marks t c))
+      passive = passive_marked s.settings.cpus s.settings.passive_limit s.slots s.marks s.passive t c (mark_after_collect (mark_at s.marks t c))
           (λ e is holds. on.passive.clear c t e is holds) (λ e is holds. clear) on.passive;
       balance = C.collect on.balance (fit_of s on) c t told.2.0 told.1 told.0 told.2.1 still;
       references = refers.references;
@@ -365,6 +365,6 @@ keep_keeps s t id n u on at of may =
 pub exchange_keeps : (s : State) (c n id t : ℕ) → Holds s → hand_at s c ≡ Giving n id → slot_of s.slots n ≡ Some t → Keeps (exchange s c n id t)
 exchange_keeps s c n id t on hand of = go (count_at s.counts c t == count_at s.nets c t) refl
   where
-    go : (b : Bool) → (count_at s.counts c t == count_at s.nets c t) ≡ b → Keeps (if b then taken (after_count_down s c t id) (Word (count_at s.counts c t)) else taken (after_collected s c n id) Collected)
+    go : (b : Bool) → (count_at s.counts c t == count_at s.nets c t) ≡ b → Keeps (if b then some_outcome (after_count_down s c t id) (Word (count_at s.counts c t)) else some_outcome (after_collected s c n id) Collected)
     go true is = count_down_keeps s c n id t on hand of (eqb-true (count_at s.counts c t) (count_at s.nets c t) is)
     go false is = collected_keeps s c n id on hand

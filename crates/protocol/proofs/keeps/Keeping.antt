@@ -16,12 +16,12 @@ use Rattle.protocol.proofs.keeps.References.{references_snapshot, references_unp
 use Rattle.protocol.proofs.keeps.Referring.{Refers, kept_sub_refers, opening_refers, publish_refers, vacate_refers}
 use Rattle.protocol.proofs.keeps.SearchKeeps.{link_keeps, record_keeps, seek_keeps}
 use Rattle.protocol.proofs.keeps.SectionKeeps.{enter_keeps, exit_keeps, hear_keeps, seat_keeps}
-use Rattle.protocol.specs.Events.{Outcome, after_count_store, after_kept_sub, after_look, after_look_passive, after_publish, after_row_store, after_snapshot, after_unpublish, after_vacate, are_unused, count_down, entry_of, exchange, guard, has_room, hear, is_bias, is_drained, is_iface_slot, is_idle, is_snapshot_due, keeps_rightly, kept_sub, load_record, look, may_add, may_collect, may_count, may_enter, may_examine, may_exit, may_glance, may_join_keeper, may_keep, may_look_passive, may_publish, may_seat, may_seek, may_sub, may_vacate, may_write, snapshot, snapshot_mark, split_back, split_ref, standing, state_after, step, store_slot, taken, tell, total_add, total_sub, unpublish, with_some}
-use Rattle.registry_values.specs.Marks.{cleared, looked}
+use Rattle.protocol.specs.Events.{Outcome, after_count_store, after_kept_sub, after_look, after_look_passive, after_publish, after_row_store, after_snapshot, after_unpublish, after_vacate, are_unused, count_down, entry_of, exchange, guard, has_room, hear, is_bias, is_drained, is_iface_slot, is_idle, is_snapshot_due, keeps_rightly, kept_sub, load_record, look, may_add, may_collect, may_count, may_enter, may_examine, may_exit, may_glance, may_join_keeper, may_keep, may_look_passive, may_publish, may_seat, may_seek, may_sub, may_vacate, may_write, snapshot, snapshot_mark, split_back, split_ref, number_standing, state_after, step, store_slot, some_outcome, tell, total_add, total_sub, unpublish, with_some}
+use Rattle.registry_values.specs.Marks.{mark_after_passive_look, mark_after_look}
 use Rattle.registry_values.specs.Slots.{key_of, is_taken, slot_of, slot_at}
 use Rattle.protocol.specs.Invariant.{Holds, held_at}
 use Rattle.registry_values.specs.Limits.{are_fit}
-use Rattle.protocol.specs.Ran.{Ran, ran, turned}
+use Rattle.protocol.specs.Ran.{Ran, run_of_events, run_with_event}
 use Rattle.protocol.specs.State.{at_rest, State, found_at, hand_at, kept_at, local_at, mark_at, opening, passive_at, row_at, search_at, section_at, total_at}
 use Rattle.registry_values.specs.Balances.{bias}
 use Rattle.protocol.specs.Taken.{Keeps}
@@ -79,10 +79,10 @@ snapshot_keeps s t c on is =
     (references_snapshot s.settings.cpus s.slots s.hands s.due s.locals t c due on.references)
 
 pub look_keeps : (s : State) (t c : ℕ) → Holds s → may_examine s t c ≡ true → Holds (after_look s t c)
-look_keeps s t c on may = M.look_keeps s t c on may (C.one_marked on.balance c t (looked (mark_at s.marks t c) (section_at s c)) refl)
+look_keeps s t c on may = M.look_keeps s t c on may (C.one_marked on.balance c t (mark_after_look (mark_at s.marks t c) (section_at s c)) refl)
 
 pub look_passive_keeps : (s : State) (t c : ℕ) → Holds s → may_look_passive s t c ≡ true → Holds (after_look_passive s t c)
-look_passive_keeps s t c on may = M.look_passive_keeps s t c on may (C.one_marked on.balance c t (cleared (mark_at s.marks t c) (passive_at s.passive c t)) refl)
+look_passive_keeps s t c on may = M.look_passive_keeps s t c on may (C.one_marked on.balance c t (mark_after_passive_look (mark_at s.marks t c) (passive_at s.passive c t)) refl)
 
 -- The end of a slot's use
 
@@ -125,12 +125,12 @@ some_keeps None f keeps = tt
 some_keeps (Some x) f keeps = keeps x refl
 
 -- what stands in a place
-pub standing_keeps : (s : State) (id : ℕ) (f : ℕ → Option Outcome) → ((n : ℕ) → local_at s.locals id ≡ Standing n → Keeps (f n)) → Keeps (with_some (standing (local_at s.locals id)) f)
-standing_keeps s id f keeps = some_keeps (standing (local_at s.locals id)) f (λ n is. keeps n (standing_tells (local_at s.locals id) n is))
+pub standing_keeps : (s : State) (id : ℕ) (f : ℕ → Option Outcome) → ((n : ℕ) → local_at s.locals id ≡ Standing n → Keeps (f n)) → Keeps (with_some (number_standing (local_at s.locals id)) f)
+standing_keeps s id f keeps = some_keeps (number_standing (local_at s.locals id)) f (λ n is. keeps n (standing_tells (local_at s.locals id) n is))
 
 store_slot_keeps : (s : State) (t k v : ℕ) → Holds s → Keeps (store_slot s t k v)
-store_slot_keeps s t k v on = elim (nat_lt k 5) as (λ (b : Bool). Keeps (if b then guard (may_write s t) (taken (after_row_store s t k v) Done)
-    else guard (may_write s t && nat_lt (k - 5) s.settings.cpus) (taken (after_count_store s t (k - 5) v) Done))) [
+store_slot_keeps s t k v on = elim (nat_lt k 5) as (λ (b : Bool). Keeps (if b then guard (may_write s t) (some_outcome (after_row_store s t k v) Done)
+    else guard (may_write s t && nat_lt (k - 5) s.settings.cpus) (some_outcome (after_count_store s t (k - 5) v) Done))) [
       | true ↦ guard_keeps (may_write s t) _ (λ may. L.row_store_keeps s t k v on may)
       | false ↦ guard_keeps (may_write s t && nat_lt (k - 5) s.settings.cpus) _ (λ may.
           let p = and_parts (may_write s t) (nat_lt (k - 5) s.settings.cpus) may in
@@ -236,10 +236,10 @@ pub after_keeps : (s : State) (o : Option Outcome) → Holds s → Keeps o → H
 after_keeps s None on keeps = on
 after_keeps s (Some o) on keeps = keeps
 
-pub turned_keeps : (r : Ran) (o : Option Outcome) → Holds r.state → Keeps o → Holds (turned r o).state
+pub turned_keeps : (r : Ran) (o : Option Outcome) → Holds r.state → Keeps o → Holds (run_with_event r o).state
 turned_keeps r None on keeps = on
 turned_keeps r (Some o) on keeps = keeps
 
-pub ran_keeps : (r : Ran) (es : List Event) → Holds r.state → Holds (ran r es).state
+pub ran_keeps : (r : Ran) (es : List Event) → Holds r.state → Holds (run_of_events r es).state
 ran_keeps r [] on = on
-ran_keeps r (e ∷ es) on = ran_keeps (turned r (step r.state e)) es (turned_keeps r (step r.state e) on (step_keeps r.state e on))
+ran_keeps r (e ∷ es) on = ran_keeps (run_with_event r (step r.state e)) es (turned_keeps r (step r.state e) on (step_keeps r.state e on))

@@ -12,7 +12,7 @@ use Rattle.protocol.proofs.keeps.Marking.{marks_detach, snapshots_detach}
 use Rattle.protocol.proofs.keeps.Passive.{passive_attach, passive_detach}
 use Rattle.protocol.proofs.keeps.Publishing.{held_attach, legal_attach, links_attach, list_attach, marks_attach, rows_attach, slots_attach, snapshots_attach}
 use Rattle.protocol.proofs.keeps.Unlinking.{before_leads, head_leads, head_leads_on, held_detach, legal_detach, link_to, links_detach, list_unlink_head, list_unlink_mid, rows_detach, slots_detach, within_live}
-use Rattle.protocol.specs.Events.{after_link_store, after_publish, after_row_store, after_unpublish, are_unused, entry_if, entry_of, has_room, keeps_rightly, kind_of, may_publish, may_write, retiring, unlinking, with_word, words_of}
+use Rattle.protocol.specs.Events.{after_link_store, after_publish, after_row_store, after_unpublish, are_unused, entry_if, entry_of, has_room, keeps_rightly, kind_of, may_publish, may_write, with_retired, with_link_past, with_word, words_of}
 use Rattle.protocol.specs.History.{after_change}
 use Rattle.registry_values.specs.Slots.{key_of, is_live, is_live_as, is_taken, is_vacant, kind_word, live_count, same_key, same_kind, same_name, slot_before, slot_at}
 use Rattle.protocol.specs.Invariant.{AreRows, CountsHold, DriversKept, HasShape, Holds, IsIn, Leads, LinksStay, ListShows, ReferencesHold, RowsShow, SnapshotsStand, one_if}
@@ -285,7 +285,7 @@ publish_keeps s t e on is =
     told.0 (λ row may counts references drivers. publish_own s e on row told.2 may counts references drivers) told.1
 
 -- the shape after an unlinking, by either store
-shape_unlinked : (s : State) (e : Entry) (o : Option ℕ) → HasShape s → HasShape (retiring (unlinking s e.slot o) e.slot e)
+shape_unlinked : (s : State) (e : Entry) (o : Option ℕ) → HasShape s → HasShape (with_retired (with_link_past s e.slot o) e.slot e)
 shape_unlinked s e None shape = record {
   sections = shape.sections;
   links = shape.links;
@@ -333,10 +333,10 @@ shape_unlinked s e (Some p) shape = record {
 
 -- the first store leaves all but the head and one link
 fit_unlinked : (s : State) (e : Entry) (head : ℕ) (next : List ℕ) → Holds s → slot_at s.slots e.slot ≡ Live e → at_rest s.due ≡ true
-    → HasShape (retiring (record s { head = head; next = next }) e.slot e)
+    → HasShape (with_retired (record s { head = head; next = next }) e.slot e)
     → ListShows (after_change s.history (Detach e.number)) (set s.slots e.slot (Retired e)) head next
     → LinksStay (after_change s.history (Detach e.number)) (set s.slots e.slot (Retired e)) next s.begins
-    → CountsOf (retiring s e.slot e) → ReferencesOf (retiring s e.slot e) → DriversOf (retiring s e.slot e) → Holds (retiring (record s { head = head; next = next }) e.slot e)
+    → CountsOf (with_retired s e.slot e) → ReferencesOf (with_retired s e.slot e) → DriversOf (with_retired s e.slot e) → Holds (with_retired (record s { head = head; next = next }) e.slot e)
 fit_unlinked s e head next on at rest shape list links counts references drivers =
     let lt : e.slot < length s.slots = within_live s.slots e.slot e at in
     let lm : e.slot < length s.marks = omega (arith, on.shape.slots, on.shape.marks) in
@@ -366,7 +366,7 @@ fit_unlinked s e head next on at rest shape list links counts references drivers
 
 -- an entry is unlinked from its own slot
 unlink_own : (s : State) (e : Entry) (o : Option ℕ) → Holds s → slot_at s.slots e.slot ≡ Live e → at_rest s.due ≡ true → slot_before s.slots s.next e.slot ≡ o
-    → CountsOf (retiring s e.slot e) → ReferencesOf (retiring s e.slot e) → DriversOf (retiring s e.slot e) → Holds (retiring (unlinking s e.slot o) e.slot e)
+    → CountsOf (with_retired s e.slot e) → ReferencesOf (with_retired s e.slot e) → DriversOf (with_retired s e.slot e) → Holds (with_retired (with_link_past s e.slot o) e.slot e)
 unlink_own s e None on at rest is counts references drivers =
     let size : length s.next ≡ length s.slots = on.shape.links ∙ sym on.shape.slots in
     let first : s.head ≡ suc e.slot = head_leads s.history s.slots s.head s.next e on.slots on.list size at is in
@@ -391,8 +391,8 @@ unlink_own s e (Some p) on at rest is counts references drivers =
     counts references drivers
 
 pub unpublish_keeps : (s : State) (t : ℕ) (e : Entry) → Holds s → slot_at s.slots t ≡ Live e → at_rest s.due ≡ true
-    → CountsOf (retiring s t e) → ReferencesOf (retiring s t e) → DriversOf (retiring s t e) → Holds (after_unpublish s t e)
+    → CountsOf (with_retired s t e) → ReferencesOf (with_retired s t e) → DriversOf (with_retired s t e) → Holds (after_unpublish s t e)
 unpublish_keeps s t e on is rest =
     let slot : e.slot ≡ t = (on.slots.live t e is).1 in
-    subst (λ (u : ℕ). slot_at s.slots u ≡ Live e → CountsOf (retiring s u e) → ReferencesOf (retiring s u e) → DriversOf (retiring s u e) → Holds (after_unpublish s u e))
+    subst (λ (u : ℕ). slot_at s.slots u ≡ Live e → CountsOf (with_retired s u e) → ReferencesOf (with_retired s u e) → DriversOf (with_retired s u e) → Holds (after_unpublish s u e))
     slot (λ at counts references drivers. unlink_own s e (slot_before s.slots s.next e.slot) on at rest refl counts references drivers) is

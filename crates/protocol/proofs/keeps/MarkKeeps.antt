@@ -10,7 +10,7 @@ use Rattle.protocol.proofs.keeps.Marking.{held_vacate, links_vacate, list_all_wi
 use Rattle.protocol.proofs.keeps.Passive.{found_not_passed, passive_counted, passive_marked, passive_vacate}
 use Rattle.protocol.proofs.keeps.Unlinking.{within_retired}
 use Rattle.protocol.specs.Events.{after_add, after_kept_sub, after_look, after_look_passive, after_snapshot, after_sub, after_vacate, due_after, is_drainable, is_drained, is_idle, is_number, is_snapshot_due, may_add, may_examine, may_look_passive, may_sub, may_vacate, snapshot_mark}
-use Rattle.registry_values.specs.Marks.{cleared, looked, are_clear, are_collected, has_changed, have_passed, is_clear, is_collected, is_even, is_passed, no_mark}
+use Rattle.registry_values.specs.Marks.{mark_after_passive_look, mark_after_look, are_clear, are_collected, has_changed, have_passed, is_clear, is_collected, is_even, is_passed, no_mark}
 use Rattle.protocol.specs.Invariant.{AreRows, DueHolds, Holds, IsIn, MarksHold, PassiveShow, SnapshotsStand, To_end}
 use Rattle.registry_values.proofs.Fit.{ranges}
 use Rattle.registry_values.specs.Limits.{are_fit}
@@ -103,11 +103,11 @@ snapshot_keeps s t c on is counts references =
 
 pub look_keeps : (s : State) (t c : ℕ) → Holds s → may_examine s t c ≡ true → CountsOf (after_look s t c) → Holds (after_look s t c)
 look_keeps s t c on may counts =
-    marks_keep s (with_cell s.marks t c (looked (mark_at s.marks t c) (section_at s c))) s.due on
-    (length-set s.marks t _) (rows_cell s.marks t c (looked (mark_at s.marks t c) (section_at s c)) on.shape.mark_rows)
+    marks_keep s (with_cell s.marks t c (mark_after_look (mark_at s.marks t c) (section_at s c))) s.due on
+    (length-set s.marks t _) (rows_cell s.marks t c (mark_after_look (mark_at s.marks t c) (section_at s c)) on.shape.mark_rows)
     (marks_look s.settings s.history s.slots s.marks s.section s.begins s.depths s.seen t c on.sections on.grace)
-    (snapshots_marked s.settings.cpus s.slots s.marks s.due t c (looked (mark_at s.marks t c) (section_at s c)) refl on.snapshots)
-    (passive_marked s.settings.cpus s.settings.passive_limit s.slots s.marks s.passive t c (looked (mark_at s.marks t c) (section_at s c))
+    (snapshots_marked s.settings.cpus s.slots s.marks s.due t c (mark_after_look (mark_at s.marks t c) (section_at s c)) refl on.snapshots)
+    (passive_marked s.settings.cpus s.settings.passive_limit s.slots s.marks s.passive t c (mark_after_look (mark_at s.marks t c) (section_at s c))
     (λ e is holds. let was = on.passive.clear c t e is holds in (ap (λ (b : Bool). b || (is_even (section_at s c) || has_changed (mark_at s.marks t c).snapshot (section_at s c))) was.0, was.1))
     (λ e is holds. on.passive.collected c t e is holds) on.passive)
     counts on.references
@@ -125,13 +125,13 @@ look_passive_keeps s t c on may counts =
     let told = may_examine_tells s t c p.0 in
     let place = mark_place s t c told.2.0 on told.2.1 told.1 in
     let passed : (mark_at s.marks t c).passed ≡ true = list_all_within is_passed (get_or s.marks t []) s.settings.cpus c no_mark p.1 told.1 place.1 in
-    marks_keep s (with_cell s.marks t c (cleared (mark_at s.marks t c) (passive_at s.passive c t))) s.due on
-    (length-set s.marks t _) (rows_cell s.marks t c (cleared (mark_at s.marks t c) (passive_at s.passive c t)) on.shape.mark_rows)
-    (marks_write s.history s.slots s.marks s.section s.begins t c (cleared (mark_at s.marks t c) (passive_at s.passive c t))
+    marks_keep s (with_cell s.marks t c (mark_after_passive_look (mark_at s.marks t c) (passive_at s.passive c t))) s.due on
+    (length-set s.marks t _) (rows_cell s.marks t c (mark_after_passive_look (mark_at s.marks t c) (passive_at s.passive c t)) on.shape.mark_rows)
+    (marks_write s.history s.slots s.marks s.section s.begins t c (mark_after_passive_look (mark_at s.marks t c) (passive_at s.passive c t))
     (λ p b e is ends in_ holds. on.grace.passed t p c b e is ends in_ holds) (λ p b w e is ends in_ snap off. on.grace.changed t p c b w e is ends in_ snap off)
     (λ w e is snap. on.grace.older t c w e is snap) (λ b w e is in_ holds snap same. on.grace.left t c b w e is in_ holds snap same) on.grace)
-    (snapshots_marked s.settings.cpus s.slots s.marks s.due t c (cleared (mark_at s.marks t c) (passive_at s.passive c t)) refl on.snapshots)
-    (passive_marked s.settings.cpus s.settings.passive_limit s.slots s.marks s.passive t c (cleared (mark_at s.marks t c) (passive_at s.passive c t))
+    (snapshots_marked s.settings.cpus s.slots s.marks s.due t c (mark_after_passive_look (mark_at s.marks t c) (passive_at s.passive c t)) refl on.snapshots)
+    (passive_marked s.settings.cpus s.settings.passive_limit s.slots s.marks s.passive t c (mark_after_passive_look (mark_at s.marks t c) (passive_at s.passive c t))
     (λ e is holds. (
       passed,
       ⊎_elim

@@ -6,7 +6,7 @@ use Rattle.std.proofs.lemmas.Option.{same_Some}
 use Rattle.std.specs.List.{list_all}
 use Rattle.std.specs.Prelude.{if◌then◌else◌, nat_lt}
 use Rattle.protocol.proofs.keeps.Unlinking.{end_before, gone_before, within_live}
-use Rattle.registry_values.specs.Marks.{looked, has_changed, is_even, no_mark}
+use Rattle.registry_values.specs.Marks.{mark_after_look, has_changed, is_even, no_mark}
 use Rattle.protocol.specs.Events.{snapshot_mark}
 use Rattle.protocol.specs.History.{EndsAt, IsLiveAt, after_change}
 use Rattle.protocol.specs.Invariant.{HeldStay, IsIn, IsSnapshotDue, LinksStay, ListShows, MarksHold, RowsShow, SectionsShow, SlotsShow, SnapshotsStand}
@@ -137,8 +137,8 @@ changed_word (Some v) w holds = (v, refl, λ same. let q : ◌≡◌ {A = Bool} 
 
 -- a look passes only where the word is even or differs from the snapshot
 pub marks_look : (z : Settings) (h : List Change) (slots : List Slot) (marks : List (List Mark)) (section : List ℕ) (begins : List (Option ℕ)) (depths seen : List ℕ) (t c : ℕ) → SectionsShow z h section begins depths seen
-    → MarksHold h slots marks section begins → MarksHold h slots (set marks t (set (get_or marks t []) c (looked (mark_at marks t c) (get_or section c 0)))) section begins
-marks_look z h slots marks section begins depths seen t c shown was = marks_write h slots marks section begins t c (looked (mark_at marks t c) (get_or section c 0))
+    → MarksHold h slots marks section begins → MarksHold h slots (set marks t (set (get_or marks t []) c (mark_after_look (mark_at marks t c) (get_or section c 0)))) section begins
+marks_look z h slots marks section begins depths seen t c shown was = marks_write h slots marks section begins t c (mark_after_look (mark_at marks t c) (get_or section c 0))
     (λ p b e is ends in_ holds. ⊎_elim
     (λ (before : (mark_at marks t c).passed ≡ true). was.passed t p c b e is ends in_ before)
     (λ (now : (is_even (get_or section c 0) || has_changed (mark_at marks t c).snapshot (get_or section c 0)) ≡ true). ⊎_elim

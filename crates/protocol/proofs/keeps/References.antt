@@ -15,7 +15,7 @@ use Rattle.protocol.specs.declared.state.Due.{Due}
 use Rattle.protocol.specs.declared.state.Due.TheVariants.{Rest, Snapshots, Adding, Subtracting}
 use Rattle.registry_values.specs.Slots.{slot_at}
 use Rattle.protocol.specs.State.{local_at}
-use Rattle.protocol.specs.Events.{is_snapshot_due, standing, is_free, id_if, least_id, with_local}
+use Rattle.protocol.specs.Events.{is_snapshot_due, number_standing, is_free, id_if, least_id, with_local}
 use Rattle.protocol.specs.Invariant.{Occupies, held_at, HandHolds, DueHolds, ReferencesHold, SeatsShow}
 use Rattle.protocol.proofs.slots.Occupied.{place_cases, place_within, written_cases, in_within, occupies_publish, occupies_unpublish, occupies_vacate}
 use Rattle.protocol.proofs.counts.HeldSums.{number_of, Unreferred, unreferred}
@@ -326,7 +326,7 @@ references_keep cpus slots hands due locals id n at refer =
     (set_keeps locals id Free (λ d lifted. standing_unlifted locals id n d at lifted))
     refer.due_at refer
 
-pub standing_tells : (p : LocalPlace) (n : ℕ) → standing p ≡ Some n → p ≡ Standing n
+pub standing_tells : (p : LocalPlace) (n : ℕ) → number_standing p ≡ Some n → p ≡ Standing n
 standing_tells Free n is = absurd (let q : ◌≡◌ {A = Option ℕ} None (Some n) = is in cc)
 standing_tells (Standing m) n is = ap (λ (k : ℕ). Standing k) (let q : ◌≡◌ {A = Option ℕ} (Some m) (Some n) = is in cc)
 standing_tells (Lifted c) n is = absurd (let q : ◌≡◌ {A = Option ℕ} None (Some n) = is in cc)

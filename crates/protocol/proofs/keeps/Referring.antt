@@ -13,7 +13,7 @@ use Rattle.protocol.specs.declared.state.LocalPlace.TheVariants.{Standing, Lifte
 use Rattle.protocol.specs.declared.state.Due.TheVariants.{Rest}
 use Rattle.protocol.specs.State.{State, opening, seen_at, search_at, hand_at, kept_at, local_at, count_at, at_rest}
 use Rattle.registry_values.specs.Slots.{slot_at, slot_of, slot_before, is_vacant, is_retired}
-use Rattle.protocol.specs.Events.{may_write, may_examine, after_publish, keeps_rightly, retiring, unlinking, after_unpublish, is_snapshot_due, after_snapshot, is_idle, after_count_add, after_split, after_hand, after_count_down, after_collected, may_collect, after_collect, after_total, may_join_keeper, after_join_keeper, is_driver_slot, may_keep, after_keep, is_drained, after_kept_sub, after_vacate, after_seat, after_enter, after_exit, after_seek, after_seeing, going_on, search_over}
+use Rattle.protocol.specs.Events.{may_write, may_examine, after_publish, keeps_rightly, with_retired, with_link_past, after_unpublish, is_snapshot_due, after_snapshot, is_idle, after_count_add, after_split, after_hand, after_count_down, after_collected, may_collect, after_collect, after_total, may_join_keeper, after_join_keeper, is_driver_slot, may_keep, after_keep, is_drained, after_kept_sub, after_vacate, after_seat, after_enter, after_exit, after_seek, after_seeing, with_search_at, search_over}
 use Rattle.protocol.specs.Invariant.{held_at, ReferencesHold, DriversKept, SeatsShow}
 use Rattle.protocol.proofs.slots.Occupied.{is_vacant_tells, is_retired_tells, at_rest_tells, slot_occupied}
 use Rattle.protocol.proofs.keeps.References.{references_publish, references_unpublish, snapshot_due_tells, references_snapshot, references_vacate, references_kept_sub, references_count_add, references_split, references_join, references_count_down, references_collected, references_split_back, references_collect, references_total, references_join_keeper, references_keep, references_opening, hand_seated, search_seated, seats_hand, seats_seat, seats_opening}
@@ -43,7 +43,7 @@ publish_refers s t e size may right on =
       seats = on.seats;
     }
 
-retiring_refers : (s : State) (t : ℕ) (e : Entry) (before : Option ℕ) → 0 < s.settings.cpus → slot_at s.slots t ≡ Live e → Refers s → Refers (retiring (unlinking s t before) t e)
+retiring_refers : (s : State) (t : ℕ) (e : Entry) (before : Option ℕ) → 0 < s.settings.cpus → slot_at s.slots t ≡ Live e → Refers s → Refers (with_retired (with_link_past s t before) t e)
 retiring_refers s t e None some at on = record {
   references = references_unpublish s.settings.cpus s.slots s.hands s.due s.locals t e some at on.references;
   kept_drivers = drivers_unpublish s.slots s.keeps t e at on.kept_drivers;
@@ -171,7 +171,7 @@ seeing_refers s c on = record { references = on.references; kept_drivers = on.ke
 searching : (s : State) (c : ℕ) (q : Search) → search_at s c ≡ Some q → Refers s → c < s.seated
 searching s c q at on = search_seated s.settings.cpus s.seated s.begins s.searches s.hands c q at on.seats
 
-pub going_on_refers : (s : State) (c : ℕ) (q : Search) (p : SearchPlace) → search_at s c ≡ Some q → Refers s → Refers (going_on s c q p)
+pub going_on_refers : (s : State) (c : ℕ) (q : Search) (p : SearchPlace) → search_at s c ≡ Some q → Refers s → Refers (with_search_at s c q p)
 going_on_refers s c q p at on = record {
   references = on.references;
   kept_drivers = on.kept_drivers;

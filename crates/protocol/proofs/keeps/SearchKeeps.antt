@@ -12,7 +12,7 @@ use Rattle.protocol.specs.declared.state.Search.{Search}
 use Rattle.registry_values.specs.declared.entry.Change.{Change}
 use Rattle.protocol.specs.History.{MayHold, IsLawful}
 use Rattle.protocol.specs.State.{State, begin_at, seen_at, search_at, row_at}
-use Rattle.protocol.specs.Events.{Outcome, is_idle, is_inside, may_seek, after_seek, after_seeing, going_on, search_over, link_loaded, load_link, load_searched, compared, entry_found}
+use Rattle.protocol.specs.Events.{Outcome, is_idle, is_inside, may_seek, after_seek, after_seeing, with_search_at, search_over, link_loaded, load_link, load_searched, outcome_of_name, entry_found}
 use Rattle.protocol.specs.Invariant.{StandsOn, PlaceHolds, SearchHolds, Holds}
 use Rattle.protocol.proofs.keeps.Sections.{seats_search, seated_search}
 use Rattle.protocol.specs.Taken.{Keeps}
@@ -65,7 +65,7 @@ seek_keeps s c key on ok =
 
 -- a search goes on, at a place that holds
 pub going_on_keeps : (s : State) (c : ℕ) (q : Search) (place : SearchPlace) → Holds s → search_at s c ≡ Some q
-    → PlaceHolds s.history q.start (seen_at s c) q.key place → Holds (going_on s c q place)
+    → PlaceHolds s.history q.start (seen_at s c) q.key place → Holds (with_search_at s c q place)
 going_on_keeps s c q place on is p =
     let was : SearchHolds s.history (begin_at s c) (seen_at s c) q = on.searches c q is in
     searching_keeps s c (record { key = q.key; start = q.start; place = place }) on (seated_search s.settings.cpus s.seated s.begins s.searches s.hands c q on.seats is)
@@ -143,7 +143,7 @@ pub link_keeps : (s : State) (c : ℕ) (q : Search) → Holds s → search_at s 
 link_keeps s c q on is = load_link_keeps s c q q.place on is (on.searches c q is).stands
 
 compared_keeps : (s : State) (c : ℕ) (q : Search) (t n l : ℕ) (b : Bool) → Holds s → search_at s c ≡ Some q
-    → (b ≡ true → PlaceHolds s.history q.start (seen_at s c) q.key (AtValue t n)) → (b ≡ false → PlaceHolds s.history q.start (seen_at s c) q.key (AtNext t)) → Keeps (compared s c q t n l b)
+    → (b ≡ true → PlaceHolds s.history q.start (seen_at s c) q.key (AtValue t n)) → (b ≡ false → PlaceHolds s.history q.start (seen_at s c) q.key (AtNext t)) → Keeps (outcome_of_name s c q t n l b)
 compared_keeps s c q t n l true on is right wrong = going_on_keeps s c q (AtValue t n) on is (right refl)
 compared_keeps s c q t n l false on is right wrong = going_on_keeps s c q (AtNext t) on is (wrong refl)
 

@@ -19,7 +19,7 @@ use Rattle.protocol.specs.declared.state.Search.{Search}
 use Rattle.registry_values.specs.Slots.{are_words_of, key_of, slot_at, kind_word}
 use Rattle.protocol.specs.History.{EndsAt, MayHold, IsLookup, IsLawful}
 use Rattle.protocol.specs.State.{State, row_at, seen_at, search_at, begin_at}
-use Rattle.protocol.specs.Events.{Outcome, after_seeing, after_seek, going_on, link_loaded, load_link, load_searched, compared, entry_found, words_of}
+use Rattle.protocol.specs.Events.{Outcome, after_seeing, after_seek, with_search_at, link_loaded, load_link, load_searched, outcome_of_name, entry_found, words_of}
 use Rattle.protocol.specs.Loaded.{SlotWithin}
 use Rattle.protocol.specs.Invariant.{IsIn, SearchHolds, SearchesHold, FoundHold, StandsOn, AllBelow, PlaceHolds, Holds}
 use Rattle.protocol.proofs.history.History.{at_within, one_entry}
@@ -189,7 +189,7 @@ pub searching_within : (s : State) (c : ℕ) (q : Search) → Holds s → search
 searching_within s c q on is = omega (arith, within_some s.searches c q is, on.shape.searches)
 
 -- the search of c is q at another place now
-search_placed : (s : State) (c : ℕ) (q : Search) (place : SearchPlace) → search_at s c ≡ Some q → search_at (going_on s c q place) c ≡ Some (placed q place)
+search_placed : (s : State) (c : ℕ) (q : Search) (place : SearchPlace) → search_at s c ≡ Some q → search_at (with_search_at s c q place) c ≡ Some (placed q place)
 search_placed s c q place is = get_or-set_same s.searches c (Some (placed q place)) None (within_some s.searches c q is)
 
 link_steps : (s : State) (c from : ℕ) (q : Search) (n x : ℕ) → Holds s → Walks s c from → search_at s c ≡ Some q → LinkTells s from q.key n x → Steps c from q (6 * n) (link_loaded s c q x)
@@ -302,7 +302,7 @@ found_tells s c from to t n q on walk le p =
     found_lawful s.history on.legal from to t (entry_found q t n (row_at s.rows t).value) q.key le (subst (StandsOn s.history from to t) same p.1) refl
 
 compared_steps : (s : State) (c from : ℕ) (q : Search) (t n l left : ℕ) (b : Bool) → search_at s c ≡ Some q → left ≡ 6 * (row_at s.rows t).number + 2
-    → (b ≡ true → PlaceHolds s.history from (seen_at s c) q.key (AtValue t n)) → (b ≡ false → PlaceHolds s.history from (seen_at s c) q.key (AtNext t)) → Steps c from q left (compared s c q t n l b)
+    → (b ≡ true → PlaceHolds s.history from (seen_at s c) q.key (AtValue t n)) → (b ≡ false → PlaceHolds s.history from (seen_at s c) q.key (AtNext t)) → Steps c from q left (outcome_of_name s c q t n l b)
 compared_steps s c from q t n l left true is weighs right wrong = (AtValue t n, search_placed s c q (AtValue t n) is, right refl, omega arith)
 compared_steps s c from q t n l left false is weighs right wrong = (AtNext t, search_placed s c q (AtNext t) is, wrong refl, omega arith)
 
@@ -381,7 +381,7 @@ link_sees s c q (AtHigh t n k) on is = tt
 link_sees s c q (AtLow t n k x) on is = tt
 link_sees s c q (AtValue t n) on is = tt
 
-compared_sees : (s : State) (c : ℕ) (q : Search) (t n l : ℕ) (b : Bool) → seen_at s c ≡ length s.history → Sees s c (compared s c q t n l b)
+compared_sees : (s : State) (c : ℕ) (q : Search) (t n l : ℕ) (b : Bool) → seen_at s c ≡ length s.history → Sees s c (outcome_of_name s c q t n l b)
 compared_sees s c q t n l true all = (refl, all)
 compared_sees s c q t n l false all = (refl, all)
 

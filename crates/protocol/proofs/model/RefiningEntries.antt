@@ -13,11 +13,11 @@ use Rattle.protocol.specs.declared.state.Due.TheVariants.{Rest}
 use Rattle.protocol.specs.History.{after_change, IsLegal, EndsAt}
 use Rattle.registry_values.specs.Slots.{key_of, slot_at, slot_of, slot_before, is_taken}
 use Rattle.protocol.specs.State.{State, row_at, passive_at, kept_at, local_at}
-use Rattle.protocol.specs.Events.{after_row_store, after_count_store, after_link_store, may_write, has_room, are_unused, keeps_rightly, entry_of, may_publish, after_publish, retiring, unlinking, after_unpublish, is_driver_slot, may_keep, after_keep, is_drained, after_kept_sub, may_vacate, after_vacate}
+use Rattle.protocol.specs.Events.{after_row_store, after_count_store, after_link_store, may_write, has_room, are_unused, keeps_rightly, entry_of, may_publish, after_publish, with_retired, with_link_past, after_unpublish, is_driver_slot, may_keep, after_keep, is_drained, after_kept_sub, may_vacate, after_vacate}
 use Rattle.protocol.specs.Invariant.{Holds, IsIn, SlotsShow, held_at, standing_of, in_hand}
 use Rattle.protocol.specs.Model.{put, Model, IsUnheld, IsDriverHere, IsModelRun, Stays}
 use Rattle.protocol.specs.Model
-use Rattle.protocol.specs.Picture.{number_in, passive_in, waiting_of, locals_of, picture}
+use Rattle.protocol.specs.Picture.{number_in, passive_in, subtractions_due, locals_of, picture}
 use Rattle.protocol.proofs.history.History.{one_entry}
 use Rattle.protocol.proofs.keeps.Searching.{within_some}
 use Rattle.protocol.proofs.slots.Occupied.{in_other, in_written, not_vacant, live_one, in_within, in_published, in_unpublished, in_vacated, attached_in, slot_has}
@@ -65,8 +65,8 @@ passive_moved h k slots others passive c n show later forth back = go (slot_of s
         (forth u (slot_has slots n u before).1)
 
 -- at rest no reference waits for the keeper
-waiting_rest : (slots : List Slot) (n : ℕ) (due : Due) → due ≡ Rest → waiting_of slots n due ≡ 0
-waiting_rest slots n due is = ap (waiting_of slots n) is
+waiting_rest : (slots : List Slot) (n : ℕ) (due : Due) → due ≡ Rest → subtractions_due slots n due ≡ 0
+waiting_rest slots n due is = ap (subtractions_due slots n) is
 
 -- Stores to a vacant slot show nothing.
 
@@ -118,9 +118,9 @@ publish_refines s t e on now is ok =
     (entry_shows t (row_at s.rows t) e is).0 (λ later may. publish_own s e on later may) now ok
 
 retiring_refines : (s : State) (t : ℕ) (e : Entry) → Holds s → s.due ≡ Rest → slot_at s.slots t ≡ Live e → IsLegal (after_change s.history (Detach e.number)) → SlotsShow (after_change s.history (Detach e.number)) (set s.slots t (Retired e))
-    → IsModelRun (picture s) (picture (retiring s t e))
+    → IsModelRun (picture s) (picture (with_retired s t e))
 retiring_refines s t e on rest at legal later =
-    one_step (picture s) _ (picture (retiring s t e)) (Model.Detaches e.number legal) (record {
+    one_step (picture s) _ (picture (with_retired s t e)) (Model.Detaches e.number legal) (record {
       history = refl;
       sections = λ c. refl;
       passes = λ c. refl;
@@ -139,7 +139,7 @@ retiring_refines s t e on rest at legal later =
       keeps = λ u. refl;
     })
 
-unlinked_refines : (s : State) (t : ℕ) (e : Entry) (before : Option ℕ) → Holds s → Holds (retiring (unlinking s t before) t e) → s.due ≡ Rest → slot_at s.slots t ≡ Live e → IsModelRun (picture s) (picture (retiring (unlinking s t before) t e))
+unlinked_refines : (s : State) (t : ℕ) (e : Entry) (before : Option ℕ) → Holds s → Holds (with_retired (with_link_past s t before) t e) → s.due ≡ Rest → slot_at s.slots t ≡ Live e → IsModelRun (picture s) (picture (with_retired (with_link_past s t before) t e))
 unlinked_refines s t e None on now rest at = retiring_refines s t e on rest at now.legal now.slots
 unlinked_refines s t e (Some p) on now rest at = retiring_refines s t e on rest at now.legal now.slots
 

@@ -16,7 +16,7 @@ use Rattle.protocol.specs.Events.{is_idle, is_number, may_add, after_add, may_su
 use Rattle.protocol.specs.Invariant.{Holds, DueHolds, one_if}
 use Rattle.protocol.specs.Model.{put, Model, IsModelRun, Stays}
 use Rattle.protocol.specs.Model
-use Rattle.protocol.specs.Picture.{passive_in, waiting_of, locals_of, picture}
+use Rattle.protocol.specs.Picture.{passive_in, subtractions_due, locals_of, picture}
 use Rattle.protocol.proofs.slots.Cells.{cell_here, cell_other}
 use Rattle.protocol.proofs.slots.Occupied.{one_in, slot_has, is_retired_tells, at_rest_tells}
 use Rattle.protocol.proofs.keeps.SectionKeeps.{idle_parts}
@@ -97,12 +97,12 @@ sub_refines s c n t on is ok =
 -- Local references
 
 -- what the keeper must do next waits only where it must subtract
-waiting_else : (slots : List Slot) (n : ℕ) (due next : Due) → due ≡ next → waiting_of slots n next ≡ 0 → waiting_of slots n due ≡ 0
-waiting_else slots n due next is none = ap (waiting_of slots n) is ∙ none
+waiting_else : (slots : List Slot) (n : ℕ) (due next : Due) → due ≡ next → subtractions_due slots n next ≡ 0 → subtractions_due slots n due ≡ 0
+waiting_else slots n due next is none = ap (subtractions_due slots n) is ∙ none
 
 -- at a retired entry it waits for a reference to that one
-waiting_one : (slots : List Slot) (n t : ℕ) (e : Entry) (due : Due) → slot_at slots t ≡ Retired e → due ≡ Subtracting t → waiting_of slots n due ≡ one_if (e.number == n)
-waiting_one slots n t e due at is = ap (waiting_of slots n) is ∙ ap (λ (x : Slot). if has_number n x then 1 else 0) at
+waiting_one : (slots : List Slot) (n t : ℕ) (e : Entry) (due : Due) → slot_at slots t ≡ Retired e → due ≡ Subtracting t → subtractions_due slots n due ≡ one_if (e.number == n)
+waiting_one slots n t e due at is = ap (subtractions_due slots n) is ∙ ap (λ (x : Slot). if has_number n x then 1 else 0) at
 
 -- only local references change, and agree
 locals_alike : (s : State) (hands : List Hand) (due : Due) (locals : List LocalPlace)
@@ -209,7 +209,7 @@ split_back_refines s c n id on hand =
 
 -- What the keeper does with marks, counts and totals.
 
-waiting_snapshots : (slots : List Slot) (n t c : ℕ) (b : Bool) → waiting_of slots n (if b then Snapshots t c else Rest) ≡ 0
+waiting_snapshots : (slots : List Slot) (n t c : ℕ) (b : Bool) → subtractions_due slots n (if b then Snapshots t c else Rest) ≡ 0
 waiting_snapshots slots n t c true = refl
 waiting_snapshots slots n t c false = refl
 

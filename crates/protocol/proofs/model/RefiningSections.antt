@@ -10,7 +10,7 @@ use Rattle.protocol.specs.declared.state.SearchPlace.TheVariants.{AtHead, AtNext
 use Rattle.protocol.specs.declared.state.Search.{Search}
 use Rattle.protocol.specs.History.{IsLawful}
 use Rattle.protocol.specs.State.{State, section_at, begin_at, depth_at, seen_at, search_at, row_at}
-use Rattle.protocol.specs.Events.{is_idle, is_outside, is_inside, after_seat, may_enter, after_enter, may_exit, after_exit, after_seeing, may_seek, after_seek, going_on, search_over, link_loaded, load_link, load_searched, compared, entry_found}
+use Rattle.protocol.specs.Events.{is_idle, is_outside, is_inside, after_seat, may_enter, after_enter, may_exit, after_exit, after_seeing, may_seek, after_seek, with_search_at, search_over, link_loaded, load_link, load_searched, outcome_of_name, entry_found}
 use Rattle.protocol.specs.Invariant.{Holds}
 use Rattle.protocol.specs.Model.{Model, IsModelStep, IsModelRun, Stays, Goes_on}
 use Rattle.protocol.specs.Model
@@ -122,7 +122,7 @@ pub over_refines : (s : State) (c : ℕ) (q : Search) (answer : Option Entry) �
 over_refines s c q answer on is lawful = Goes_on _ _ Stays (over_step s c q answer (omega (arith, within_some s.searches c q is, on.shape.searches, on.shape.found)) is lawful)
 
 -- a search that goes on shows nothing
-going_on_alike : (s : State) (c : ℕ) (q : Search) (place : SearchPlace) → search_at s c ≡ Some q → Alike (picture s) (picture (going_on s c q place))
+going_on_alike : (s : State) (c : ℕ) (q : Search) (place : SearchPlace) → search_at s c ≡ Some q → Alike (picture s) (picture (with_search_at s c q place))
 going_on_alike s c q place is = record {
   history = refl;
   sections = λ j. refl;
@@ -135,8 +135,8 @@ going_on_alike s c q place is = record {
   keeps = λ t. refl;
 }
 
-pub going_on_refines : (s : State) (c : ℕ) (q : Search) (place : SearchPlace) → search_at s c ≡ Some q → IsModelRun (picture s) (picture (going_on s c q place))
-going_on_refines s c q place is = no_step (picture s) (picture (going_on s c q place)) (going_on_alike s c q place is)
+pub going_on_refines : (s : State) (c : ℕ) (q : Search) (place : SearchPlace) → search_at s c ≡ Some q → IsModelRun (picture s) (picture (with_search_at s c q place))
+going_on_refines s c q place is = no_step (picture s) (picture (with_search_at s c q place)) (going_on_alike s c q place is)
 
 -- The loads of a search.
 
@@ -145,9 +145,9 @@ missed_refines s c q on is lawful =
     let within = within_some s.searches c q is in
     Goes_on _ _ (seeing_refines s c on (omega (arith, within, on.shape.searches))) (over_step (after_seeing s c) c q None (omega (arith, within, on.shape.searches, on.shape.found)) is lawful)
 
-pub followed_refines : (s : State) (c : ℕ) (q : Search) (t : ℕ) → Holds s → search_at s c ≡ Some q → IsModelRun (picture s) (picture (going_on (after_seeing s c) c q (AtNumber t)))
+pub followed_refines : (s : State) (c : ℕ) (q : Search) (t : ℕ) → Holds s → search_at s c ≡ Some q → IsModelRun (picture s) (picture (with_search_at (after_seeing s c) c q (AtNumber t)))
 followed_refines s c q t on is =
-    one_step (picture s) (picture (after_seeing s c)) (picture (going_on (after_seeing s c) c q (AtNumber t))) (see_step s c on (omega (arith, within_some s.searches c q is, on.shape.searches)))
+    one_step (picture s) (picture (after_seeing s c)) (picture (with_search_at (after_seeing s c) c q (AtNumber t))) (see_step s c on (omega (arith, within_some s.searches c q is, on.shape.searches)))
     (going_on_alike (after_seeing s c) c q (AtNumber t) is)
 
 link_loaded_makes : (s : State) (c : ℕ) (q : Search) (x : ℕ) → Holds s → search_at s c ≡ Some q → Answers c q (link_loaded s c q x) → Makes (picture s) (link_loaded s c q x)
@@ -166,7 +166,7 @@ load_link_makes s c q (AtValue t n) on is lawful = tt
 pub link_makes : (s : State) (c : ℕ) (q : Search) → Holds s → search_at s c ≡ Some q → Makes (picture s) (load_link s c q q.place)
 link_makes s c q on is = load_link_makes s c q q.place on is (link_answers s c q on is)
 
-compared_makes : (s : State) (c : ℕ) (q : Search) (t n l : ℕ) (b : Bool) → search_at s c ≡ Some q → Makes (picture s) (compared s c q t n l b)
+compared_makes : (s : State) (c : ℕ) (q : Search) (t n l : ℕ) (b : Bool) → search_at s c ≡ Some q → Makes (picture s) (outcome_of_name s c q t n l b)
 compared_makes s c q t n l true is = λ now. going_on_refines s c q (AtValue t n) is
 compared_makes s c q t n l false is = λ now. going_on_refines s c q (AtNext t) is
 

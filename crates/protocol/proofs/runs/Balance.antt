@@ -8,8 +8,8 @@ use Rattle.protocol.specs.declared.state.Due.TheVariants.{Rest}
 use Rattle.protocol.specs.State.{State, opening, mark_at, count_at, total_at, at_rest}
 use Rattle.registry_values.specs.Balances.{bias}
 use Rattle.registry_values.specs.Slots.{slot_at}
-use Rattle.protocol.specs.Invariant.{Holds, IsIn, IsCounting, held_at, subtracting_at, adding_at, is_adding_at}
-use Rattle.protocol.specs.Picture.{number_in, waiting_of}
+use Rattle.protocol.specs.Invariant.{Holds, IsIn, IsCounting, held_at, subtraction_due_at, addition_due_at, is_adding_at}
+use Rattle.protocol.specs.Picture.{number_in, subtractions_due}
 use Rattle.protocol.specs.Laws.{after, occupant_of, held_of, IsBalanced, BalancesAtRest, BalanceAtRest}
 use Rattle.protocol.proofs.runs.Reuse.{every_run_keeps, number_is}
 use Rattle.protocol.proofs.slots.Occupied.{at_rest_tells}
@@ -22,14 +22,14 @@ vacant_number (Retired e) is = absurd (none-some e.number (sym is))
 -- what is held in the slot of n is what the model and the slots hold of n
 held_same : (s : State) (n t : ℕ) → s.due ≡ Rest → held_at s.locals s.hands s.keeps s.due n t ≡ held_of s n
 held_same s n t rest =
-    let none : subtracting_at t s.due ≡ 0 = ap (subtracting_at t) rest in
-    let also : waiting_of s.slots n s.due ≡ 0 = ap (waiting_of s.slots n) rest in
+    let none : subtraction_due_at t s.due ≡ 0 = ap (subtraction_due_at t) rest in
+    let also : subtractions_due s.slots n s.due ≡ 0 = ap (subtractions_due s.slots n) rest in
     omega (arith, none, also)
 
 entry_balanced : (s : State) (t : ℕ) (e : Entry) → Holds s → s.due ≡ Rest → IsIn e (slot_at s.slots t) → IsBalanced s t e.number
 entry_balanced s t e on rest is =
     let b = on.balance.balance t e is in
-    let none : adding_at t s.due ≡ 0 = ap (adding_at t) rest in
+    let none : addition_due_at t s.due ≡ 0 = ap (addition_due_at t) rest in
     let also : is_adding_at t s.due ≡ 0 = ap (is_adding_at t) rest in
     let held = held_same s e.number t rest in
     omega (arith, b.even, none, also, held)

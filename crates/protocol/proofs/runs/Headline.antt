@@ -12,7 +12,7 @@ use Rattle.protocol.specs.State.{State, opening}
 use Rattle.registry_values.specs.Slots.{slot_at, slot_of, has_number}
 use Rattle.protocol.specs.Invariant.{Holds, IsIn, Occupies, one_if}
 use Rattle.protocol.specs.Model.{IsUnheld}
-use Rattle.protocol.specs.Picture.{passive_in, waiting_of, picture}
+use Rattle.protocol.specs.Picture.{passive_in, subtractions_due, picture}
 use Rattle.protocol.specs.Laws.{after, IsAllowed, occupant_of, destroyed_slot, given_slot, IsSafe, Headline}
 use Rattle.protocol.proofs.history.History.{one_entry}
 use Rattle.protocol.proofs.slots.Occupied.{attached_in, slot_occupied}
@@ -28,7 +28,7 @@ one_waits Vacant n off = refl
 one_waits (Live e) n off = one_other e.number n (off e (inl refl))
 one_waits (Retired e) n off = one_other e.number n (off e (inr refl))
 
-none_waits : (slots : List Slot) (n : ℕ) (due : Due) → (Occupies slots n → ⊥) → waiting_of slots n due ≡ 0
+none_waits : (slots : List Slot) (n : ℕ) (due : Due) → (Occupies slots n → ⊥) → subtractions_due slots n due ≡ 0
 none_waits slots n Rest off = refl
 none_waits slots n (Snapshots t c) off = refl
 none_waits slots n (Adding t old) off = refl

@@ -15,7 +15,7 @@ use Rattle.protocol.specs.Events.{Outcome, guard, with_some, step, state_after, 
 use Rattle.protocol.specs.Invariant.{Holds, IsIn}
 use Rattle.protocol.specs.Model.{IsUnheld}
 use Rattle.protocol.specs.Picture.{number_in, picture}
-use Rattle.protocol.specs.Ran.{rested}
+use Rattle.protocol.specs.Ran.{empty_run}
 use Rattle.protocol.specs.Laws.{after, IsAllowed, occupant_of, destroyed_slot, given_slot, EveryRunKeeps}
 use Rattle.protocol.proofs.keeps.Keeping.{ran_keeps, opening_holds}
 use Rattle.protocol.proofs.model.RefiningEntries.{Drained, drained}
@@ -27,7 +27,7 @@ use Rattle.protocol.proofs.runs.Steps.{Sort, Refused, Left, Entered, Exited, Sou
 -- Every run keeps the invariant.
 
 pub every_run_keeps : EveryRunKeeps
-every_run_keeps z events fit = ran_keeps (rested (opening z)) events (opening_holds z fit)
+every_run_keeps z events fit = ran_keeps (empty_run (opening z)) events (opening_holds z fit)
 
 -- Occupants
 
@@ -157,7 +157,7 @@ given_asks s (StoreSlot t k v) u on of = asks_if _ (nat_lt k 5) _ _
     (asks_guard _ (may_write s t) _ (λ may. writes s t u on (same_Some t u of) may))
     (asks_guard _ (may_write s t && nat_lt (k - 5) s.settings.cpus) _ (λ may. writes s t u on (same_Some t u of) (and_parts (may_write s t) _ may).0))
 given_asks s (StoreNext t v) u on of = asks_guard _ (may_write s t) _ (λ may. writes s t u on (same_Some t u of) may)
-given_asks s (Keep t id) u on of = asks_some _ (Events.standing (local_at s.locals id)) _ (λ n at. asks_some _ (slot_of s.slots n) _ (λ v v_of. asks_guard _ (Events.may_keep s t v) _
+given_asks s (Keep t id) u on of = asks_some _ (Events.number_standing (local_at s.locals id)) _ (λ n at. asks_some _ (slot_of s.slots n) _ (λ v v_of. asks_guard _ (Events.may_keep s t v) _
     (λ may. writes s t u on (same_Some t u of) (and_parts (may_write s t) _ may).0)))
 given_asks s (Publish t) u on of = asks_some _ (entry_of t (row_at s.rows t)) _ (λ e is. asks_guard _ (may_publish s t e) _
     (λ may. writes s t u on (same_Some t u of) (and_parts (may_write s t) _ may).0))

@@ -3,19 +3,19 @@ use Rattle.std.proofs.Common.{refl, ◌++◌, ◌∷◌, [], Some}
 use Rattle.protocol.specs.declared.event.Reply.TheVariants.{Found}
 use Rattle.registry_values.specs.Names.{are_name_words}
 use Rattle.protocol.specs.State.{opening}
-use Rattle.protocol.specs.Rows.{FrozenLink, CollectRace, Gives, two_cpus, attaches, done, loads, tried, first, all_three, search_begins, wm0, wm1, wm2, searching, detaches, unlinked, search_goes_on, has_found}
+use Rattle.protocol.specs.Rows.{FrozenLink, CollectRace, Gives, two_cpus, attaches, done_replies, loads, try_replies, first, all_three, search_begins, wm0, wm1, wm2, search_case, detaches, unlinked_case, search_goes_on, has_found}
 
-attached : Gives (opening two_cpus) attaches (done 35) all_three
+attached : Gives (opening two_cpus) attaches (done_replies 35) all_three
 unfolding are_name_words
 attached = (refl, refl)
 
-begun : Gives all_three search_begins (done 2 ++ loads 3 ++ loads 3 ++ loads 2 ++ loads wm2.high ++ loads 0 ++ loads 2 ++ loads 2 ++ loads 2) searching
+begun : Gives all_three search_begins (done_replies 2 ++ loads 3 ++ loads 3 ++ loads 2 ++ loads wm2.high ++ loads 0 ++ loads 2 ++ loads 2 ++ loads 2) search_case
 begun = (refl, refl)
 
-detached : Gives searching detaches (done 1 ++ loads 1 ++ loads 0 ++ done 3 ++ loads 1 ++ loads 0 ++ done 2 ++ tried ++ tried) unlinked
+detached : Gives search_case detaches (done_replies 1 ++ loads 1 ++ loads 0 ++ done_replies 3 ++ loads 1 ++ loads 0 ++ done_replies 2 ++ try_replies ++ try_replies) unlinked_case
 detached = (refl, refl)
 
-gone_on : Gives unlinked search_goes_on (loads wm1.high ++ loads 0 ++ loads 1 ++ loads 1 ++ loads 2 ++ loads wm0.high ++ loads 0 ++ Some (Found first) ∷ []) has_found
+gone_on : Gives unlinked_case search_goes_on (loads wm1.high ++ loads 0 ++ loads 1 ++ loads 1 ++ loads 2 ++ loads wm0.high ++ loads 0 ++ Some (Found first) ∷ []) has_found
 gone_on = (refl, refl)
 
 pub frozen_link : FrozenLink

@@ -1,7 +1,7 @@
 -- All laws of a state with the invariant.
 use Rattle.protocol.specs.State.{State}
 use Rattle.protocol.specs.Invariant.{Holds}
-use Rattle.protocol.specs.Ran.{rested}
+use Rattle.protocol.specs.Ran.{empty_run}
 use Rattle.protocol.specs.Laws.{ObeysLaws, InvariantSuffices}
 use Rattle.protocol.proofs.keeps.Keeping.{ran_keeps}
 use Rattle.protocol.proofs.runs.Headline.{is_safe}
@@ -19,8 +19,8 @@ obeys_laws s on = record {
   answers = answers_lawfully s on;
   balance = λ rest. balances_at_rest s on rest;
   grace = ends_by_exit s on;
-  keeps = λ later. ran_keeps (rested s) later on;
-  modelled = λ later. ran_refines (rested s) later on;
+  keeps = λ later. ran_keeps (empty_run s) later on;
+  modelled = λ later. ran_refines (empty_run s) later on;
 }
 
 pub invariant_suffices : InvariantSuffices

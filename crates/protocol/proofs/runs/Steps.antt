@@ -24,9 +24,9 @@ use Rattle.protocol.specs.History.{after_change}
 use Rattle.protocol.specs.State.{State, search_at, found_at, hand_at, row_at, count_at, kept_at, local_at}
 use Rattle.registry_values.specs.Slots.{are_words_of, slot_at, slot_of, slot_before}
 use Rattle.protocol.specs.Events
-use Rattle.protocol.specs.Events.{Outcome, guard, taken, with_some, step, state_after, is_idle, may_enter, after_enter, may_exit, after_exit, may_seek, after_seek, after_seeing, load_link, load_searched, link_loaded, compared, entry_of, may_publish, after_publish, unlinking, retiring, after_unpublish, may_keep, after_keep, is_drained, after_kept_sub, may_vacate, after_vacate}
+use Rattle.protocol.specs.Events.{Outcome, guard, some_outcome, with_some, step, state_after, is_idle, may_enter, after_enter, may_exit, after_exit, may_seek, after_seek, after_seeing, load_link, load_searched, link_loaded, outcome_of_name, entry_of, may_publish, after_publish, with_link_past, with_retired, after_unpublish, may_keep, after_keep, is_drained, after_kept_sub, may_vacate, after_vacate}
 use Rattle.protocol.specs.Invariant.{Holds}
-use Rattle.protocol.specs.Ran.{Ran, ran, rested, turned}
+use Rattle.protocol.specs.Ran.{Ran, run_of_events, empty_run, run_with_event}
 use Rattle.protocol.specs.Laws.{after, after_event, answer_of, IsLoadOf}
 use Rattle.protocol.proofs.keeps.SearchKeeps.{Answers, link_answers, record_answers}
 
@@ -69,19 +69,19 @@ pub record Retires (s : State) (t : ℕ) (e : Entry) (n : State) : Type 0 where
 pub data Sort (s : State) : Event → Option Outcome → Type 0 where
   Refused : (e : Event) → Sort s e None
   Left : (e : Event) (o : Outcome) → Leaves s o → Sort s e (Some o)
-  Entered : (c : ℕ) → may_enter s c ≡ true → Sort s (Enter c) (taken (after_enter s c) Done)
-  Exited : (c : ℕ) → may_exit s c ≡ true → Sort s (Exit c) (taken (after_exit s c) Done)
-  Sought : (c : ℕ) (kind : Kind) (name : Name) → may_seek s c ≡ true → Sort s (Seek c kind name) (taken (after_seek s c (record { kind = kind; name = name })) Done)
-  Heard : (c : ℕ) → is_idle s c ≡ true → Sort s (Hear (Some c)) (taken (after_seeing s c) Done)
+  Entered : (c : ℕ) → may_enter s c ≡ true → Sort s (Enter c) (some_outcome (after_enter s c) Done)
+  Exited : (c : ℕ) → may_exit s c ≡ true → Sort s (Exit c) (some_outcome (after_exit s c) Done)
+  Sought : (c : ℕ) (kind : Kind) (name : Name) → may_seek s c ≡ true → Sort s (Seek c kind name) (some_outcome (after_seek s c (record { kind = kind; name = name })) Done)
+  Heard : (c : ℕ) → is_idle s c ≡ true → Sort s (Hear (Some c)) (some_outcome (after_seeing s c) Done)
   Searched : (e : Event) (c : ℕ) (q : Search) (o : Outcome) → IsLoadOf c e → search_at s c ≡ Some q → Loads s c q o.state → Answers c q (Some o) → Sort s e (Some o)
-  Published : (t : ℕ) (e : Entry) → entry_of t (row_at s.rows t) ≡ Some e → may_publish s t e ≡ true → Sort s (Publish t) (taken (after_publish s t e) Done)
-  Unpublished : (t : ℕ) (e : Entry) (n : State) → slot_at s.slots t ≡ Live e → Retires s t e n → Sort s (Unpublish t) (taken n Done)
-  Kept : (t id n u : ℕ) → may_keep s t u ≡ true → Sort s (Keep t id) (taken (after_keep s t id n) Done)
-  Gave_up : (t d u : ℕ) → kept_at s.keeps t ≡ Some d → slot_of s.slots d ≡ Some u → is_drained s t ≡ true → Sort s (KeptSub t) (taken (after_kept_sub s t u) Done)
-  Vacated : (t : ℕ) → may_vacate s t ≡ true → Sort s (Vacate t) (taken (after_vacate s t) Done)
+  Published : (t : ℕ) (e : Entry) → entry_of t (row_at s.rows t) ≡ Some e → may_publish s t e ≡ true → Sort s (Publish t) (some_outcome (after_publish s t e) Done)
+  Unpublished : (t : ℕ) (e : Entry) (n : State) → slot_at s.slots t ≡ Live e → Retires s t e n → Sort s (Unpublish t) (some_outcome n Done)
+  Kept : (t id n u : ℕ) → may_keep s t u ≡ true → Sort s (Keep t id) (some_outcome (after_keep s t id n) Done)
+  Gave_up : (t d u : ℕ) → kept_at s.keeps t ≡ Some d → slot_of s.slots d ≡ Some u → is_drained s t ≡ true → Sort s (KeptSub t) (some_outcome (after_kept_sub s t u) Done)
+  Vacated : (t : ℕ) → may_vacate s t ≡ true → Sort s (Vacate t) (some_outcome (after_vacate s t) Done)
 
 -- an event that leaves all of them
-left : (s t : State) (e : Event) (r : Reply) → Leaves s (record { state = t; reply = r }) → Sort s e (taken t r)
+left : (s t : State) (e : Event) (r : Reply) → Leaves s (record { state = t; reply = r }) → Sort s e (some_outcome t r)
 left s t e r same = Left e (record { state = t; reply = r }) same
 
 sort_guard : (s : State) (e : Event) (b : Bool) (o : Option Outcome) → (b ≡ true → Sort s e o) → Sort s e (guard b o)
@@ -98,13 +98,13 @@ sort_if s e false o p first second = second
 
 -- Searches
 
-load_sort : (s t : State) (e : Event) (c : ℕ) (q : Search) (r : Reply) → IsLoadOf c e → search_at s c ≡ Some q → Loads s c q t → Answers c q (taken t r) → Sort s e (taken t r)
+load_sort : (s t : State) (e : Event) (c : ℕ) (q : Search) (r : Reply) → IsLoadOf c e → search_at s c ≡ Some q → Loads s c q t → Answers c q (some_outcome t r) → Sort s e (some_outcome t r)
 load_sort s t e c q r of is loads answers = Searched e c q (record { state = t; reply = r }) of is loads answers
 
 over_loads : (s : State) (c : ℕ) (q : Search) (answer : Option Entry) → Loads s c q (Events.search_over s c answer)
 over_loads s c q answer = record { history = refl; slots = refl; keeps = refl; section = refl; begins = refl; seen = inl refl; searches = inl refl }
 
-on_loads : (s : State) (c : ℕ) (q : Search) (p : SearchPlace) → Loads s c q (Events.going_on s c q p)
+on_loads : (s : State) (c : ℕ) (q : Search) (p : SearchPlace) → Loads s c q (Events.with_search_at s c q p)
 on_loads s c q p = record { history = refl; slots = refl; keeps = refl; section = refl; begins = refl; seen = inl refl; searches = inr (p, refl) }
 
 link_loaded_sort : (s : State) (c : ℕ) (q : Search) (x : ℕ) → search_at s c ≡ Some q → Answers c q (link_loaded s c q x) → Sort s (LoadLink c) (link_loaded s c q x)
@@ -120,7 +120,7 @@ load_link_sort s c q (AtHigh t n k) is answers = Refused (LoadLink c)
 load_link_sort s c q (AtLow t n k h) is answers = Refused (LoadLink c)
 load_link_sort s c q (AtValue t n) is answers = Refused (LoadLink c)
 
-compared_sort : (s : State) (c : ℕ) (q : Search) (t n l : ℕ) (b : Bool) → search_at s c ≡ Some q → Answers c q (compared s c q t n l b) → Sort s (LoadRecord (OfSearch c)) (compared s c q t n l b)
+compared_sort : (s : State) (c : ℕ) (q : Search) (t n l : ℕ) (b : Bool) → search_at s c ≡ Some q → Answers c q (outcome_of_name s c q t n l b) → Sort s (LoadRecord (OfSearch c)) (outcome_of_name s c q t n l b)
 compared_sort s c q t n l true is answers = load_sort s _ (LoadRecord (OfSearch c)) c q _ (inr refl) is (on_loads s c q (AtValue t n)) answers
 compared_sort s c q t n l false is answers = load_sort s _ (LoadRecord (OfSearch c)) c q _ (inr refl) is (on_loads s c q (AtNext t)) answers
 
@@ -136,7 +136,7 @@ searched_sort s c q (AtValue t n) is answers = load_sort s _ (LoadRecord (OfSear
 record_sort : (s : State) (of : RecordOf) → Holds s → Sort s (LoadRecord of) (Events.load_record s of)
 record_sort s (OfSearch c) on = sort_some s (LoadRecord (OfSearch c)) (search_at s c) _ (λ q is. searched_sort s c q q.place is (record_answers s c q on is))
 record_sort s (OfPassive c n k) on = sort_some s (LoadRecord (OfPassive c n k)) (slot_of s.slots n) _ (λ t of. sort_guard s (LoadRecord (OfPassive c n k)) _ _ (λ may. left s s (LoadRecord (OfPassive c n k)) _ (record { history = refl; slots = refl; keeps = refl; section = refl; begins = refl; seen = refl; searches = refl; reply = refl })))
-record_sort s (OfLocal id k) on = sort_some s (LoadRecord (OfLocal id k)) (Events.standing (local_at s.locals id)) _ (λ n at. sort_some s (LoadRecord (OfLocal id k)) (slot_of s.slots n) _ (λ t of. sort_guard s (LoadRecord (OfLocal id k)) _ _ (λ may. left s s (LoadRecord (OfLocal id k)) _ (record { history = refl; slots = refl; keeps = refl; section = refl; begins = refl; seen = refl; searches = refl; reply = refl }))))
+record_sort s (OfLocal id k) on = sort_some s (LoadRecord (OfLocal id k)) (Events.number_standing (local_at s.locals id)) _ (λ n at. sort_some s (LoadRecord (OfLocal id k)) (slot_of s.slots n) _ (λ t of. sort_guard s (LoadRecord (OfLocal id k)) _ _ (λ may. left s s (LoadRecord (OfLocal id k)) _ (record { history = refl; slots = refl; keeps = refl; section = refl; begins = refl; seen = refl; searches = refl; reply = refl }))))
 
 -- The events that take cases
 
@@ -145,7 +145,7 @@ store_sort s t k v = sort_if s (StoreSlot t k v) (nat_lt k 5) _ _
     (sort_guard s (StoreSlot t k v) _ _ (λ may. left s _ (StoreSlot t k v) Done (record { history = refl; slots = refl; keeps = refl; section = refl; begins = refl; seen = refl; searches = refl; reply = refl })))
     (sort_guard s (StoreSlot t k v) _ _ (λ may. left s _ (StoreSlot t k v) Done (record { history = refl; slots = refl; keeps = refl; section = refl; begins = refl; seen = refl; searches = refl; reply = refl })))
 
-unlinking_retires : (s : State) (t : ℕ) (e : Entry) (before : Option ℕ) → Retires s t e (retiring (unlinking s t before) t e)
+unlinking_retires : (s : State) (t : ℕ) (e : Entry) (before : Option ℕ) → Retires s t e (with_retired (with_link_past s t before) t e)
 unlinking_retires s t e None = record { history = refl; slots = refl; keeps = refl; section = refl; begins = refl; seen = refl; searches = refl }
 unlinking_retires s t e (Some p) = record { history = refl; slots = refl; keeps = refl; section = refl; begins = refl; seen = refl; searches = refl }
 
@@ -223,29 +223,29 @@ step_sort s (PassiveSub c n) on = sort_some s (PassiveSub c n) (slot_of s.slots 
 step_sort s (PassiveLook t c) on = sort_guard s (PassiveLook t c) _ _ (λ may. left s _ (PassiveLook t c) _ (record { history = refl; slots = refl; keeps = refl; section = refl; begins = refl; seen = refl; searches = refl; reply = refl }))
 step_sort s (CountAdd c) on = sort_some s (CountAdd c) (found_at s c) _ (λ e is. sort_some s (CountAdd c) (slot_of s.slots e.number) _ (λ t of. sort_guard s (CountAdd c) _ _ (λ may. left s _ (CountAdd c) _ (record { history = refl; slots = refl; keeps = refl; section = refl; begins = refl; seen = refl; searches = refl; reply = refl }))))
 step_sort s (SplitRef c) on = split_sort s c (hand_at s c)
-step_sort s (JoinRef c id) on = sort_some s (JoinRef c id) (Events.standing (local_at s.locals id)) _ (λ n at. sort_guard s (JoinRef c id) _ _ (λ may. left s _ (JoinRef c id) Done (record { history = refl; slots = refl; keeps = refl; section = refl; begins = refl; seen = refl; searches = refl; reply = refl })))
+step_sort s (JoinRef c id) on = sort_some s (JoinRef c id) (Events.number_standing (local_at s.locals id)) _ (λ n at. sort_guard s (JoinRef c id) _ _ (λ may. left s _ (JoinRef c id) Done (record { history = refl; slots = refl; keeps = refl; section = refl; begins = refl; seen = refl; searches = refl; reply = refl })))
 step_sort s (CountDown c) on = count_down_sort s c (hand_at s c)
 step_sort s (SplitBack c) on = split_back_sort s c (hand_at s c)
 step_sort s (Collect t c) on = sort_guard s (Collect t c) _ _ (λ may. left s _ (Collect t c) _ (record { history = refl; slots = refl; keeps = refl; section = refl; begins = refl; seen = refl; searches = refl; reply = refl }))
 step_sort s (TotalAdd t) on = total_add_sort s t s.due
-step_sort s (JoinKeeper id) on = sort_some s (JoinKeeper id) (Events.standing (local_at s.locals id)) _ (λ n at. sort_some s (JoinKeeper id) (slot_of s.slots n) _ (λ t of. sort_guard s (JoinKeeper id) _ _ (λ may. left s _ (JoinKeeper id) Done (record { history = refl; slots = refl; keeps = refl; section = refl; begins = refl; seen = refl; searches = refl; reply = refl }))))
+step_sort s (JoinKeeper id) on = sort_some s (JoinKeeper id) (Events.number_standing (local_at s.locals id)) _ (λ n at. sort_some s (JoinKeeper id) (slot_of s.slots n) _ (λ t of. sort_guard s (JoinKeeper id) _ _ (λ may. left s _ (JoinKeeper id) Done (record { history = refl; slots = refl; keeps = refl; section = refl; begins = refl; seen = refl; searches = refl; reply = refl }))))
 step_sort s (TotalSub t) on = total_sub_sort s t s.due
-step_sort s (Keep t id) on = sort_some s (Keep t id) (Events.standing (local_at s.locals id)) _ (λ n at. sort_some s (Keep t id) (slot_of s.slots n) _ (λ u of. sort_guard s (Keep t id) _ _ (λ may. Kept t id n u may)))
+step_sort s (Keep t id) on = sort_some s (Keep t id) (Events.number_standing (local_at s.locals id)) _ (λ n at. sort_some s (Keep t id) (slot_of s.slots n) _ (λ u of. sort_guard s (Keep t id) _ _ (λ may. Kept t id n u may)))
 step_sort s (KeptSub t) on = sort_some s (KeptSub t) (kept_at s.keeps t) _ (λ d is. sort_some s (KeptSub t) (slot_of s.slots d) _ (λ u of. sort_guard s (KeptSub t) _ _ (λ may. Gave_up t d u is of (and_parts _ (is_drained s t) may).1)))
 step_sort s (Vacate t) on = sort_guard s (Vacate t) _ _ (λ may. Vacated t may)
 
 -- Runs
 
 -- the counts of a run don't matter to its state
-turned_state : (r : Ran) (o : Option Outcome) → (turned r o).state ≡ state_after r.state o
+turned_state : (r : Ran) (o : Option Outcome) → (run_with_event r o).state ≡ state_after r.state o
 turned_state r None = refl
 turned_state r (Some o) = refl
 
-pub same_states : (q r : Ran) (es : List Event) → q.state ≡ r.state → (ran q es).state ≡ (ran r es).state
+pub same_states : (q r : Ran) (es : List Event) → q.state ≡ r.state → (run_of_events q es).state ≡ (run_of_events r es).state
 same_states q r [] same = same
-same_states q r (e ∷ es) same = same_states (turned q (step q.state e)) (turned r (step r.state e)) es
+same_states q r (e ∷ es) same = same_states (run_with_event q (step q.state e)) (run_with_event r (step r.state e)) es
     (turned_state q (step q.state e) ∙ (ap (λ (s : State). state_after s (step s e)) same ∙ sym (turned_state r (step r.state e))))
 
 -- one event, and then the others
 pub after_more : (s : State) (e : Event) (es : List Event) → after s (e ∷ es) ≡ after (after_event s e) es
-after_more s e es = same_states (turned (rested s) (step s e)) (rested (after_event s e)) es (turned_state (rested s) (step s e))
+after_more s e es = same_states (run_with_event (empty_run s) (step s e)) (empty_run (after_event s e)) es (turned_state (empty_run s) (step s e))

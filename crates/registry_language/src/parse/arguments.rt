@@ -3,7 +3,7 @@
 ghost use Rattle.std.specs.Prelude.{◌≡◌, IfOk, IsTrue, map, ◌<◌, ◌≤◌};
 ghost use Rattle.registry_language.specs.Grammar.{cpu_of, kind_of, name_if, turns_of, label_of, cpu_label_of, cpu_label_words};
 ghost use Rattle.registry_language.specs.Program.{is_label, are_turns};
-ghost use Rattle.registry_values.specs.Names.{named, is_lawful};
+ghost use Rattle.registry_values.specs.Names.{name_of_bytes, is_lawful};
 
 use crate::fault::Cause;
 use crate::label::Label;
@@ -37,7 +37,7 @@ pub fn kind(word: &[u8]) -> Result<Kind, Cause>
 
 /// The name of an entry.
 pub fn name(word: &[u8]) -> Result<Name, Cause>
-    ensures value { result ≡ name_if (named word.now) }
+    ensures value { result ≡ name_if (name_of_bytes word.now) }
     ensures lawful { IfOk result (λ name. IsTrue (is_lawful name)) }
 {
     match Name::parse(word) {

@@ -1,7 +1,7 @@
 //! The commands that give the settings: `domain` and `limits`.
 
 ghost use Rattle.std.specs.Prelude.{◌≡◌, IfOk, IsTrue, map};
-ghost use Rattle.registry_language.specs.Grammar.{fitting, domain_of, limits_of, limits_words};
+ghost use Rattle.registry_language.specs.Grammar.{fit_command, domain_of, limits_of, limits_words};
 ghost use Rattle.registry_language.specs.Program.{settings_for, with_limits, may_follow};
 ghost use Rattle.registry_values.specs.Limits.{are_fit};
 
@@ -26,7 +26,7 @@ pub fn domain(arguments: &[&[u8]]) -> Result<Command, Cause>
 
 /// The command of settings that are tested before they are narrowed.
 fn sized(cpus: u64, slots: u64) -> Result<Command, Cause>
-    ensures said { result ≡ fitting (settings_for cpus slots) (Command.Domain cpus slots) }
+    ensures said { result ≡ fit_command (settings_for cpus slots) (Command.Domain cpus slots) }
     ensures follows { IfOk result (λ command. IsTrue (may_follow Position.First command)) }
 {
     if cpus > 8 || slots > 32 {
@@ -39,7 +39,7 @@ fn sized(cpus: u64, slots: u64) -> Result<Command, Cause>
 
 /// The command, where the settings after it can be used.
 fn fitting(settings: Settings, command: Command) -> Result<Command, Cause>
-    ensures said { result ≡ fitting settings command }
+    ensures said { result ≡ fit_command settings command }
     ensures fit { IfOk result (λ taken. IsTrue (are_fit settings)) }
     ensures same { IfOk result (λ taken. taken ≡ command) }
 {

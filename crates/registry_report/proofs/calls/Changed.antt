@@ -16,9 +16,9 @@ use Rattle.registry_values.specs.declared.slot.Slot.TheVariants.{Vacant, Live, R
 use Rattle.passive_core.specs.Attaching as core
 use Rattle.passive_core.specs.Attaching.{IsAnswer, after_attach, after_attach_iface}
 use Rattle.passive_core.specs.Commands.{all_seated}
-use Rattle.passive_core.specs.Detaching.{IsDetachAnswer, IsDetachRefusal, IsLookupNow, after_detach, snapped, snapshot_row}
+use Rattle.passive_core.specs.Detaching.{IsDetachAnswer, IsDetachRefusal, IsLookupNow, after_detach, with_all_snapshots, snapshot_row}
 use Rattle.protocol.specs.Events as events
-use Rattle.protocol.specs.Events.{after_seeing, retiring, unlinking}
+use Rattle.protocol.specs.Events.{after_seeing, with_retired, with_link_past}
 use Rattle.protocol.specs.History.{EndsAt, after_change}
 use Rattle.protocol.specs.Invariant.{Holds, IsIn, SlotsShow}
 use Rattle.protocol.specs.Model.{put}
@@ -33,15 +33,15 @@ use Rattle.protocol.proofs.history.History.{at_within}
 use Rattle.protocol.proofs.slots.Occupied.{is_vacant_tells, in_other, in_unpublished, in_within, in_written, live_one}
 use Rattle.protocol.proofs.model.Picturing.{unwritten}
 use Rattle.protocol.proofs.model.RefiningEntries.{passive_moved}
-use Rattle.registry_values.specs.Answers.{found_or}
-use Rattle.registry_report.specs.Answers.{attach_answer, attach_iface_answer, detach_answer, hitched, lookup_now, plug_answer, with_label}
+use Rattle.registry_values.specs.Answers.{found_answer}
+use Rattle.registry_report.specs.Answers.{attach_answer, attach_iface_answer, detach_answer, command_answer, lookup_now, plug_answer, with_label}
 use Rattle.registry_report.specs.declared.hitch.Hitch.{Hitch}
 use Rattle.registry_report.specs.declared.hitch.Hitch.TheVariants.{Refused}
 use Rattle.registry_report.specs.Given.{Gives, Leaves}
 use Rattle.registry_report.specs.Registry.{Registry}
 use Rattle.registry_report.specs.Session.{SessionState, with_core, IsSession}
 use Rattle.registry_report.specs.Shows.{Shows, ShowsModel, SnapshotsFollow, number_at}
-use Rattle.registry_report.specs.Turns.{after_plug, attached, detached, keeping, on_ok, on_some, plugged}
+use Rattle.registry_report.specs.Turns.{after_plug, with_attached, with_detached, with_reference_kept, on_ok, on_some, with_attached_iface}
 use Rattle.registry_report.proofs.shows.Attached.{attach_answers, attach_iface_answers, keeping_shows, linked_shows, now_is}
 use Rattle.registry_report.proofs.calls.Giving.{gives, leaves}
 use Rattle.registry_report.proofs.shows.Published.{detach_counts, detach_follows, retired_tallies}
@@ -50,7 +50,7 @@ use Rattle.registry_report.proofs.shows.Sectioned.{inside_is}
 -- Attach
 
 -- where an attach is refused the answer is no entry
-attached_shows : (s : SessionState) (r : Registry) (c : ℕ) (rec : Record) (e : Entry) → Holds s.core → Holds (core.attached s.core c e) → Shows s r → core.given_entry s.core rec ≡ Ok e → Shows (with_core s (core.attached s.core c e)) (attached r c e)
+attached_shows : (s : SessionState) (r : Registry) (c : ℕ) (rec : Record) (e : Entry) → Holds s.core → Holds (core.with_attached s.core c e) → Shows s r → core.given_entry s.core rec ≡ Ok e → Shows (with_core s (core.with_attached s.core c e)) (with_attached r c e)
 attached_shows s r c rec e holds later on is =
     let given = given_tells s.core rec e is in
     let plain = plain_tells s.core e.slot holds given.plain in
@@ -67,22 +67,22 @@ attached_shows s r c rec e holds later on is =
 
 -- what was given and left, of an answer a
 abbrev AttachDone : SessionState → Registry → ℕ → Record → Result Entry Refusal → Type 0
-AttachDone s r c rec result = Gives (hitched result) (hitched (attach_answer r c rec)) × Leaves (hitched result) (Shows (with_core s (after_attach s.core c result)) (on_ok r (attach_answer r c rec) (attached r c)))
+AttachDone s r c rec result = Gives (command_answer result) (command_answer (attach_answer r c rec)) × Leaves (command_answer result) (Shows (with_core s (after_attach s.core c result)) (on_ok r (attach_answer r c rec) (with_attached r c)))
 
 attach_by : (s : SessionState) (r : Registry) (c : ℕ) (rec : Record) (a result : Result Entry Refusal) → Holds s.core → Shows s r → core.attach_answer s.core c rec ≡ a → IsAnswer a result → Holds (after_attach s.core c result) → AttachDone s r c rec result
 attach_by s r c rec (Err f) result holds on at is later =
     let answer : attach_answer r c rec ≡ Err f = sym (attach_answers s r c rec holds on) ∙ at in
     subst (AttachDone s r c rec) (sym is) (
-      gives (hitched {X = Entry} (Err f)) (hitched (attach_answer r c rec)) (ap hitched answer),
-      leaves (hitched {X = Entry} (Err f)) s (on_ok r (attach_answer r c rec) (attached r c)) (subst (λ (b : Result Entry Refusal). Shows s (on_ok r b (attached r c))) (sym answer) on),
+      gives (command_answer {X = Entry} (Err f)) (command_answer (attach_answer r c rec)) (ap command_answer answer),
+      leaves (command_answer {X = Entry} (Err f)) s (on_ok r (attach_answer r c rec) (with_attached r c)) (subst (λ (b : Result Entry Refusal). Shows s (on_ok r b (with_attached r c))) (sym answer) on),
     )
 attach_by s r c rec (Ok e) result holds on at is later = ⊎_elim
     (λ (done : result ≡ Ok e).
     let answer : attach_answer r c rec ≡ Ok e = sym (attach_answers s r c rec holds on) ∙ at in
     let given : core.given_entry s.core rec ≡ Ok e = (attach_tells (events.is_inside s.core c) (is_iface rec.kind) (core.given_entry s.core rec) e at).2 in
-    let kept : Holds (core.attached s.core c e) = subst (λ (b : Result Entry Refusal). Holds (after_attach s.core c b)) done later in
+    let kept : Holds (core.with_attached s.core c e) = subst (λ (b : Result Entry Refusal). Holds (after_attach s.core c b)) done later in
     subst (AttachDone s r c rec) (sym done)
-    (ap hitched answer, subst (λ (b : Result Entry Refusal). Shows (with_core s (core.attached s.core c e)) (on_ok r b (attached r c))) (sym answer) (attached_shows s r c rec e holds kept on given)))
+    (ap command_answer answer, subst (λ (b : Result Entry Refusal). Shows (with_core s (core.with_attached s.core c e)) (on_ok r b (with_attached r c))) (sym answer) (attached_shows s r c rec e holds kept on given)))
     (λ (full : result ≡ Err NoMemory). subst (AttachDone s r c rec) (sym full) (tt, tt))
     is
 
@@ -92,50 +92,50 @@ attach_done s r c rec result holds on is later = attach_by s r c rec (core.attac
 -- Plug
 
 plugged_shows : (s : SessionState) (r : Registry) (c : ℕ) (rec : Record) (e : Entry) (x id n : ℕ) → IsSession s → Shows s r → x < 26 → get_or s.locals x None ≡ Some id → local_at s.core.locals id ≡ Standing n
-    → core.is_to_driver s.core id ≡ true → is_iface rec.kind ≡ true → IsTrue (is_lawful rec.name) → Holds (core.plugged s.core c e id) → core.given_entry s.core rec ≡ Ok e
-    → Shows (record s { core = core.plugged s.core c e id; locals = set s.locals x None }) (plugged r c e x n)
+    → core.is_to_driver s.core id ≡ true → is_iface rec.kind ≡ true → IsTrue (is_lawful rec.name) → Holds (core.with_attached_iface s.core c e id) → core.given_entry s.core rec ≡ Ok e
+    → Shows (record s { core = core.with_attached_iface s.core c e id; locals = set s.locals x None }) (with_attached_iface r c e x n)
 plugged_shows s r c rec e x id n is on small at place driver iface lawful later given_ok =
     let given = given_tells s.core rec e given_ok in
     let plain = plain_tells s.core e.slot is.holds given.plain in
     let number : e.number ≡ suc (length s.core.history) = omega (arith, ap (λ (x : Entry). x.number) given.entry) in
     let may = iface_links s.core rec e id is.holds is.quiet.rest given_ok driver iface lawful in
-    linked_shows (record s { core = core.keeping (all_seated s.core) e.slot id; locals = set s.locals x None }) (record r { model = keeping r.model e.slot n; local_labels = put r.local_labels x None }) c e
-    (seated_keeps (core.keeping s.core e.slot id) may.holds) later (keeping_shows s r e.slot x id n is on plain.0 small at place)
+    linked_shows (record s { core = core.with_reference_kept (all_seated s.core) e.slot id; locals = set s.locals x None }) (record r { model = with_reference_kept r.model e.slot n; local_labels = put r.local_labels x None }) c e
+    (seated_keeps (core.with_reference_kept s.core e.slot id) may.holds) later (keeping_shows s r e.slot x id n is on plain.0 small at place)
     (omega (arith, plain.0, is.holds.shape.slots)) (is_vacant_tells (slot_at s.core.slots e.slot) plain.1) number
 
 -- the label is free once the interface is attached
 abbrev pub after_plugging : SessionState → ℕ → ℕ → ℕ → Result Entry Refusal → SessionState
-after_plugging s c x id (Ok e) = record s { core = core.plugged s.core c e id; locals = set s.locals x None }
+after_plugging s c x id (Ok e) = record s { core = core.with_attached_iface s.core c e id; locals = set s.locals x None }
 after_plugging s c x id (Err f) = s
 
 abbrev PlugDone : SessionState → Registry → ℕ → Record → ℕ → ℕ → Result Entry Refusal → Type 0
-PlugDone s r c rec x id result = Gives (hitched result) (plug_answer r c rec x) × Leaves (hitched result) (Shows (after_plugging s c x id result) (after_plug r c x (plug_answer r c rec x)))
+PlugDone s r c rec x id result = Gives (command_answer result) (plug_answer r c rec x) × Leaves (command_answer result) (Shows (after_plugging s c x id result) (after_plug r c x (plug_answer r c rec x)))
 
 -- the label stands for the driver's number
 label_is : (s : SessionState) (r : Registry) (x id n : ℕ) → Shows s r → get_or s.locals x None ≡ Some id → local_at s.core.locals id ≡ Standing n → r.local_labels x ≡ Some n
-label_is s r x id n on at place = on.labels.local x ∙ (ap (number_at s.core.locals) at ∙ ap events.standing place)
+label_is s r x id n on at place = on.labels.local x ∙ (ap (number_at s.core.locals) at ∙ ap events.number_standing place)
 
 plug_by : (s : SessionState) (r : Registry) (c : ℕ) (rec : Record) (x id n : ℕ) (a result : Result Entry Refusal) → IsSession s → Shows s r → x < 26 → get_or s.locals x None ≡ Some id → local_at s.core.locals id ≡ Standing n
     → is_iface rec.kind ≡ true → IsTrue (is_lawful rec.name) → core.attach_iface_answer s.core c rec id ≡ a → IsAnswer a result → Holds (after_attach_iface s.core c id result) → PlugDone s r c rec x id result
 plug_by s r c rec x id n (Err f) result is on small at place iface lawful answered due later =
     let label = label_is s r x id n on at place in
-    let answer : plug_answer r c rec x ≡ Err (Refused f) = ap (λ (o : Option ℕ). with_label o (λ d. hitched (attach_iface_answer r c rec d))) label ∙ ap hitched (sym (attach_iface_answers s r c rec id n is.holds on place) ∙ answered) in
+    let answer : plug_answer r c rec x ≡ Err (Refused f) = ap (λ (o : Option ℕ). with_label o (λ d. command_answer (attach_iface_answer r c rec d))) label ∙ ap command_answer (sym (attach_iface_answers s r c rec id n is.holds on place) ∙ answered) in
     subst (PlugDone s r c rec x id) (sym due) (
-      gives (hitched {X = Entry} (Err f)) (plug_answer r c rec x) answer,
-      leaves (hitched {X = Entry} (Err f)) s (after_plug r c x (plug_answer r c rec x))
-          (subst (λ (o : Option ℕ). Shows s (on_some r o (λ d. on_ok r (plug_answer r c rec x) (λ e. plugged r c e x d)))) (sym label)
-          (subst (λ (b : Result Entry Hitch). Shows s (on_ok r b (λ e. plugged r c e x n))) (sym answer) on)),
+      gives (command_answer {X = Entry} (Err f)) (plug_answer r c rec x) answer,
+      leaves (command_answer {X = Entry} (Err f)) s (after_plug r c x (plug_answer r c rec x))
+          (subst (λ (o : Option ℕ). Shows s (on_some r o (λ d. on_ok r (plug_answer r c rec x) (λ e. with_attached_iface r c e x d)))) (sym label)
+          (subst (λ (b : Result Entry Hitch). Shows s (on_ok r b (λ e. with_attached_iface r c e x n))) (sym answer) on)),
     )
 plug_by s r c rec x id n (Ok e) result is on small at place iface lawful answered due later = ⊎_elim
     (λ (done : result ≡ Ok e).
     let label = label_is s r x id n on at place in
     let parts = attach_tells (events.is_inside s.core c) (not (core.is_to_driver s.core id)) (core.given_entry s.core rec) e answered in
-    let answer : plug_answer r c rec x ≡ Ok e = ap (λ (o : Option ℕ). with_label o (λ d. hitched (attach_iface_answer r c rec d))) label ∙ ap hitched (sym (attach_iface_answers s r c rec id n is.holds on place) ∙ answered) in
-    let kept : Holds (core.plugged s.core c e id) = subst (λ (b : Result Entry Refusal). Holds (after_attach_iface s.core c id b)) done later in
+    let answer : plug_answer r c rec x ≡ Ok e = ap (λ (o : Option ℕ). with_label o (λ d. command_answer (attach_iface_answer r c rec d))) label ∙ ap command_answer (sym (attach_iface_answers s r c rec id n is.holds on place) ∙ answered) in
+    let kept : Holds (core.with_attached_iface s.core c e id) = subst (λ (b : Result Entry Refusal). Holds (after_attach_iface s.core c id b)) done later in
     subst (PlugDone s r c rec x id) (sym done) (
       answer,
-      subst (λ (o : Option ℕ). Shows (after_plugging s c x id (Ok e)) (on_some r o (λ d. on_ok r (plug_answer r c rec x) (λ f. plugged r c f x d)))) (sym label)
-          (subst (λ (b : Result Entry Hitch). Shows (after_plugging s c x id (Ok e)) (on_ok r b (λ f. plugged r c f x n))) (sym answer)
+      subst (λ (o : Option ℕ). Shows (after_plugging s c x id (Ok e)) (on_some r o (λ d. on_ok r (plug_answer r c rec x) (λ f. with_attached_iface r c f x d)))) (sym label)
+          (subst (λ (b : Result Entry Hitch). Shows (after_plugging s c x id (Ok e)) (on_ok r b (λ f. with_attached_iface r c f x n))) (sym answer)
           (plugged_shows s r c rec e x id n is on small at place (not-false (core.is_to_driver s.core id) parts.1) iface lawful kept parts.2)),
     ))
     (λ (full : result ≡ Err NoMemory). subst (PlugDone s r c rec x id) (sym full) (tt, tt))
@@ -149,7 +149,7 @@ plug_done s r c rec x id n result is on small at place iface lawful due later = 
 
 -- the entry is retired, with a snapshot of each CPU; `before` is who leads to it
 abbrev retired_by : State → ℕ → Entry → Option ℕ → State
-retired_by s c e before = after_seeing (snapped (retiring (unlinking (all_seated s) e.slot before) e.slot e) e.slot) c
+retired_by s c e before = after_seeing (with_all_snapshots (with_retired (with_link_past (all_seated s) e.slot before) e.slot e) e.slot) c
 
 retired_passive : (s : State) (e : Entry) (c n : ℕ) → Holds s → SlotsShow (after_change s.history (Detach e.number)) (set s.slots e.slot (Retired e)) → slot_at s.slots e.slot ≡ Live e
     → passive_in s.passive c (slot_of s.slots n) ≡ passive_in s.passive c (slot_of (set s.slots e.slot (Retired e)) n)
@@ -169,7 +169,7 @@ live_unended s u f p on at end =
     omega (arith, (at_within s.history p (Detach f.number) end).1)
 
 detached_model : (s : SessionState) (r : Registry) (c : ℕ) (e : Entry) → Holds s.core → Shows s r → slot_at s.core.slots e.slot ≡ Live e → SlotsShow (after_change s.core.history (Detach e.number)) (set s.core.slots e.slot (Retired e))
-    → ShowsModel (after_change s.core.history (Detach e.number)) s.core.begins s.core.found s.core.passive (set s.core.slots e.slot (Retired e)) s.core.locals s.core.keeps (detached r c e).model
+    → ShowsModel (after_change s.core.history (Detach e.number)) s.core.begins s.core.found s.core.passive (set s.core.slots e.slot (Retired e)) s.core.locals s.core.keeps (with_detached r c e).model
 detached_model s r c e holds on at later = record {
   history = ap (λ (h : List Change). after_change h (Detach e.number)) on.model.history;
   sections = on.model.sections;
@@ -189,7 +189,7 @@ detached_follows s r e blank row holds on at =
     (λ u f live p end. live_unended s.core u f p holds live end) on.grace)
 
 detached_by : (s : SessionState) (r : Registry) (c : ℕ) (e : Entry) (before : Option ℕ) → Holds s.core → Holds (retired_by s.core c e before) → Shows s r → slot_at s.core.slots e.slot ≡ Live e
-    → Shows (with_core s (retired_by s.core c e before)) (detached r c e)
+    → Shows (with_core s (retired_by s.core c e before)) (with_detached r c e)
 detached_by s r c e None holds later on at = record {
   settings = on.settings;
   model = detached_model s r c e holds on at later.slots;
@@ -210,21 +210,21 @@ detached_by s r c e (Some p) holds later on at = record {
 }
 
 abbrev DetachDone : SessionState → Registry → ℕ → Key → Result Entry Refusal → Type 0
-DetachDone s r c key result = Gives (hitched result) (hitched (detach_answer r c key)) × Leaves (hitched result) (Shows (with_core s (after_detach s.core c result)) (on_ok r (detach_answer r c key) (detached r c)))
+DetachDone s r c key result = Gives (command_answer result) (command_answer (detach_answer r c key)) × Leaves (command_answer result) (Shows (with_core s (after_detach s.core c result)) (on_ok r (detach_answer r c key) (with_detached r c)))
 
 -- the answer, where the CPU is outside
-detach_found : (s : SessionState) (r : Registry) (c : ℕ) (key : Key) (found : Option Entry) → Holds s.core → Shows s r → events.is_inside s.core c ≡ false → IsLookupNow s.core key found → detach_answer r c key ≡ found_or found
+detach_found : (s : SessionState) (r : Registry) (c : ℕ) (key : Key) (found : Option Entry) → Holds s.core → Shows s r → events.is_inside s.core c ≡ false → IsLookupNow s.core key found → detach_answer r c key ≡ found_answer found
 detach_found s r c key found holds on out is =
-    ap (λ (b : Bool). if b then Err Inside else found_or (lookup_now r key)) (inside_is s r c on ∙ out) ∙ ap found_or (now_is s r key holds on found is)
+    ap (λ (b : Bool). if b then Err Inside else found_answer (lookup_now r key)) (inside_is s r c on ∙ out) ∙ ap found_answer (now_is s r key holds on found is)
 
 detach_refused : (s : SessionState) (r : Registry) (c : ℕ) (key : Key) (f : Refusal) → Holds s.core → Shows s r → detach_answer r c key ≡ Err f → DetachDone s r c key (Err f)
 detach_refused s r c key f holds on answer = (
-  gives (hitched {X = Entry} (Err f)) (hitched (detach_answer r c key)) (ap hitched answer),
-  leaves (hitched {X = Entry} (Err f)) s (on_ok r (detach_answer r c key) (detached r c)) (subst (λ (b : Result Entry Refusal). Shows s (on_ok r b (detached r c))) (sym answer) on),
+  gives (command_answer {X = Entry} (Err f)) (command_answer (detach_answer r c key)) (ap command_answer answer),
+  leaves (command_answer {X = Entry} (Err f)) s (on_ok r (detach_answer r c key) (with_detached r c)) (subst (λ (b : Result Entry Refusal). Shows s (on_ok r b (with_detached r c))) (sym answer) on),
 )
 
 detach_err : (s : SessionState) (r : Registry) (c : ℕ) (key : Key) (f : Refusal) → Holds s.core → Shows s r → IsDetachRefusal s.core c key f → DetachDone s r c key (Err f)
-detach_err s r c key Inside holds on is = detach_refused s r c key Inside holds on (ap (λ (b : Bool). if b then Err Inside else found_or (lookup_now r key)) (inside_is s r c on ∙ is))
+detach_err s r c key Inside holds on is = detach_refused s r c key Inside holds on (ap (λ (b : Bool). if b then Err Inside else found_answer (lookup_now r key)) (inside_is s r c on ∙ is))
 detach_err s r c key NotFound holds on is = detach_refused s r c key NotFound holds on (detach_found s r c key None holds on is.0 is.1)
 detach_err s r c key NoMemory holds on is = (tt, tt)
 detach_err s r c key _ holds on is = absurd is
@@ -233,7 +233,7 @@ pub detach_done : (s : SessionState) (r : Registry) (c : ℕ) (key : Key) (resul
 detach_done s r c key (Err f) holds on is later live = detach_err s r c key f holds on is
 detach_done s r c key (Ok e) holds on is later live =
     let answer : detach_answer r c key ≡ Ok e = detach_found s r c key (Some e) holds on is.0 is.1 in (
-      ap hitched answer,
-      subst (λ (b : Result Entry Refusal). Shows (with_core s (after_detach s.core c (Ok e))) (on_ok r b (detached r c))) (sym answer)
+      ap command_answer answer,
+      subst (λ (b : Result Entry Refusal). Shows (with_core s (after_detach s.core c (Ok e))) (on_ok r b (with_detached r c))) (sym answer)
           (detached_by s r c e (slot_before s.core.slots s.core.next e.slot) holds later on (live e refl)),
     )

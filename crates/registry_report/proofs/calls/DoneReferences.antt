@@ -11,24 +11,24 @@ use Rattle.protocol.specs.declared.state.LocalPlace.TheVariants.{Standing}
 use Rattle.passive_core.specs.Attaching as attaching
 use Rattle.passive_core.specs.Attaching.{IsAnswer, after_attach_iface}
 use Rattle.passive_core.specs.Commands.{all_seated}
-use Rattle.protocol.specs.Events.{least_id, standing, with_local}
+use Rattle.protocol.specs.Events.{least_id, number_standing, with_local}
 use Rattle.protocol.specs.Invariant.{Holds}
 use Rattle.passive_core.specs.Locals.{IsCounted, after_acquire_local, after_counting, with_count_more, after_release_local, count_refusal}
 use Rattle.registry_values.specs.Names.{is_lawful}
 use Rattle.passive_core.specs.Passives as core
 use Rattle.registry_values.specs.Refusals.{Answers}
-use Rattle.passive_core.specs.Passives.{IsRecordOf, acquired, copied, passive_of, refusal_of}
+use Rattle.passive_core.specs.Passives.{IsRecordOf, psref_to_found, psref_copy, passive_of, refusal_of}
 use Rattle.registry_values.specs.Slots.{is_iface}
 use Rattle.protocol.specs.State.{State, found_at, local_at}
 use Rattle.passive_core.proofs.Passives.{found_slot}
 use Rattle.registry_report.specs.declared.hitch.Hitch.{Hitch}
 use Rattle.registry_report.specs.declared.hitch.Hitch.TheVariants.{NoLabel, Refused}
-use Rattle.registry_report.specs.Answers.{copy_answer, count_answer, counted, held_answer, hitched, plug_answer, read_answer, reference_answer, release_answer, uncount_answer, with_label}
+use Rattle.registry_report.specs.Answers.{copy_answer, count_answer, count_of_found, held_answer, command_answer, plug_answer, read_answer, reference_answer, release_answer, uncount_answer, with_label}
 use Rattle.registry_report.specs.Given.{Leaves}
 use Rattle.registry_report.specs.Registry.{Registry}
-use Rattle.registry_report.specs.Session.{SessionState, filled, with_core, IsSession}
+use Rattle.registry_report.specs.Session.{SessionState, label_answer, with_core, IsSession}
 use Rattle.registry_report.specs.Shows.{Shows}
-use Rattle.registry_report.specs.Turns.{after_plug, counting, on_ok, on_some, plugged, referred, released, uncounted}
+use Rattle.registry_report.specs.Turns.{after_plug, with_one_counted, on_ok, on_some, with_attached_iface, with_reference, without_reference, with_one_uncounted}
 use Rattle.registry_report.proofs.calls.Changed.{plug_done}
 use Rattle.registry_report.proofs.shows.Counted.{Counts, acquire_local_shows, count_error, label_is, label_none, refuses, release_local_shows, uncount_answers}
 use Rattle.registry_report.proofs.calls.Done.{Does, seen}
@@ -42,23 +42,23 @@ told_err (Ok x) f is and = absurd (let q : ◌≡◌ {A = Bool} false true = is 
 told_err (Err h) f is and = ap (λ (g : Hitch). Err g) and
 
 -- a label that is not filled stands for nothing
-pub unfilled : {X : Type 0} (o : Option X) (h : Hitch) → filled o ≡ Err h → o ≡ None
+pub unfilled : {X : Type 0} (o : Option X) (h : Hitch) → label_answer o ≡ Err h → o ≡ None
 unfilled None h is = refl
 unfilled (Some x) h is = absurd (let q : ◌≡◌ {A = Result _ Hitch} (Ok x) (Err h) = is in cc)
 
 -- a label that was tested stands for nothing, or for something
-free_by : {X : Type 0} (o : Option X) (b : Bool) → b ≡ is_ok (filled o) → b ≡ false → o ≡ None
+free_by : {X : Type 0} (o : Option X) (b : Bool) → b ≡ is_ok (label_answer o) → b ≡ false → o ≡ None
 free_by None b test is = refl
 free_by (Some x) b test is = absurd (let q : ◌≡◌ {A = Bool} true false = sym test ∙ is in cc)
 
-taken_by : {X : Type 0} (o : Option X) (b : Bool) → b ≡ is_ok (filled o) → b ≡ true → (x : X) × (o ≡ Some x)
+taken_by : {X : Type 0} (o : Option X) (b : Bool) → b ≡ is_ok (label_answer o) → b ≡ true → (x : X) × (o ≡ Some x)
 taken_by None b test is = absurd (let q : ◌≡◌ {A = Bool} false true = sym test ∙ is in cc)
 taken_by (Some x) b test is = (x, refl)
 
-pub free_label : {X : Type 0} (o : Option X) (found : Result X Hitch) (b : Bool) → found ≡ filled o → b ≡ is_ok found → b ≡ false → o ≡ None
+pub free_label : {X : Type 0} (o : Option X) (found : Result X Hitch) (b : Bool) → found ≡ label_answer o → b ≡ is_ok found → b ≡ false → o ≡ None
 free_label o found b is test no_ = free_by o b (test ∙ ap (λ (q : Result _ Hitch). is_ok q) is) no_
 
-pub taken_label : {X : Type 0} (o : Option X) (found : Result X Hitch) (b : Bool) → found ≡ filled o → b ≡ is_ok found → b ≡ true → (x : X) × (o ≡ Some x)
+pub taken_label : {X : Type 0} (o : Option X) (found : Result X Hitch) (b : Bool) → found ≡ label_answer o → b ≡ is_ok found → b ≡ true → (x : X) × (o ≡ Some x)
 taken_label o found b is test yes_ = taken_by o b (test ∙ ap (λ (q : Result _ Hitch). is_ok q) is) yes_
 
 -- a label whose reference is looked up stands for a live one
@@ -78,42 +78,42 @@ refused_does given answer f s v k r then told is left on =
 -- Passive references
 
 pub reference_does : (s v : SessionState) (k : State) (r : Registry) (c a : ℕ) (p : CorePsref) → s ≡ v → IsSession s → Shows v r → c < s.core.settings.cpus → a < 26 → get_or s.passives a None ≡ None
-    → Ok p ≡ acquired s.core c (found_at s.core c) → k ≡ core.after_acquire s.core c (Ok p)
-    → Does (Ok p.number) (reference_answer r c a) (record { core = k; passives = set s.passives a (Some p); locals = s.locals }) (on_ok r (reference_answer r c a) (referred r c a))
+    → Ok p ≡ psref_to_found s.core c (found_at s.core c) → k ≡ core.after_acquire s.core c (Ok p)
+    → Does (Ok p.number) (reference_answer r c a) (record { core = k; passives = set s.passives a (Some p); locals = s.locals }) (on_ok r (reference_answer r c a) (with_reference r c a))
 reference_does s v k r c a p view is on low small free due left =
     let sees = seen s v r view on in
-    let answer : reference_answer r c a ≡ Ok p.number = reference_answers s r c a sees free ∙ ap (λ (q : Result CorePsref Refusal). hitched (number_if q)) (sym due) in
+    let answer : reference_answer r c a ≡ Ok p.number = reference_answers s r c a sees free ∙ ap (λ (q : Result CorePsref Refusal). command_answer (number_if q)) (sym due) in
     let shows = acquire_shows s r c a p is.holds sees low (omega (arith, is.passive_labels)) (sym due) in (
       answer,
-      subst (λ (b : Result ℕ Hitch). Shows (record { core = k; passives = set s.passives a (Some p); locals = s.locals }) (on_ok r b (referred r c a))) (sym answer)
-          (subst (λ (x : State). Shows (record { core = x; passives = set s.passives a (Some p); locals = s.locals }) (referred r c a p.number)) (sym left) shows),
+      subst (λ (b : Result ℕ Hitch). Shows (record { core = k; passives = set s.passives a (Some p); locals = s.locals }) (on_ok r b (with_reference r c a))) (sym answer)
+          (subst (λ (x : State). Shows (record { core = x; passives = set s.passives a (Some p); locals = s.locals }) (with_reference r c a p.number)) (sym left) shows),
     )
 
 pub copy_fails : (s v : SessionState) (k : State) (r : Registry) (c a b : ℕ) (p : CorePsref) (f : Refusal) (given : Result ℕ Hitch) → s ≡ v → Shows v r → get_or s.passives a None ≡ Some p → get_or s.passives b None ≡ None
-    → Err f ≡ copied s.core c p.number (refusal_of s.core c p) → k ≡ core.after_acquire s.core c (Err f) → given ≡ Err (Refused f)
-    → Does given (copy_answer r c a b) (with_core s k) (on_ok r (copy_answer r c a b) (referred r c b))
+    → Err f ≡ psref_copy s.core c p.number (refusal_of s.core c p) → k ≡ core.after_acquire s.core c (Err f) → given ≡ Err (Refused f)
+    → Does given (copy_answer r c a b) (with_core s k) (on_ok r (copy_answer r c a b) (with_reference r c b))
 copy_fails s v k r c a b p f given view on at free due left told =
     let sees = seen s v r view on in
-    let answer : copy_answer r c a b ≡ Err (Refused f) = copy_reference_answers s r c a b p sees at free ∙ ap (λ (q : Result CorePsref Refusal). hitched (number_if q)) (sym due) in
-    refused_does given (copy_answer r c a b) f s v k r (referred r c b) told answer left sees
+    let answer : copy_answer r c a b ≡ Err (Refused f) = copy_reference_answers s r c a b p sees at free ∙ ap (λ (q : Result CorePsref Refusal). command_answer (number_if q)) (sym due) in
+    refused_does given (copy_answer r c a b) f s v k r (with_reference r c b) told answer left sees
 
 pub copy_does : (s v : SessionState) (k : State) (r : Registry) (c a b : ℕ) (p q : CorePsref) → s ≡ v → IsSession s → Shows v r → c < s.core.settings.cpus → b < 26 → get_or s.passives a None ≡ Some p → get_or s.passives b None ≡ None
-    → Ok q ≡ copied s.core c p.number (refusal_of s.core c p) → k ≡ core.after_acquire s.core c (Ok q)
-    → Does (Ok q.number) (copy_answer r c a b) (record { core = k; passives = set s.passives b (Some q); locals = s.locals }) (on_ok r (copy_answer r c a b) (referred r c b))
+    → Ok q ≡ psref_copy s.core c p.number (refusal_of s.core c p) → k ≡ core.after_acquire s.core c (Ok q)
+    → Does (Ok q.number) (copy_answer r c a b) (record { core = k; passives = set s.passives b (Some q); locals = s.locals }) (on_ok r (copy_answer r c a b) (with_reference r c b))
 copy_does s v k r c a b p q view is on low small at free due left =
     let sees = seen s v r view on in
-    let answer : copy_answer r c a b ≡ Ok q.number = copy_reference_answers s r c a b p sees at free ∙ ap (λ (x : Result CorePsref Refusal). hitched (number_if x)) (sym due) in
+    let answer : copy_answer r c a b ≡ Ok q.number = copy_reference_answers s r c a b p sees at free ∙ ap (λ (x : Result CorePsref Refusal). command_answer (number_if x)) (sym due) in
     let shows = copy_shows s r c b p q is.holds sees low (omega (arith, is.passive_labels)) (sym due) in (
       answer,
-      subst (λ (x : Result ℕ Hitch). Shows (record { core = k; passives = set s.passives b (Some q); locals = s.locals }) (on_ok r x (referred r c b))) (sym answer)
-          (subst (λ (x : State). Shows (record { core = x; passives = set s.passives b (Some q); locals = s.locals }) (referred r c b q.number)) (sym left) shows),
+      subst (λ (x : Result ℕ Hitch). Shows (record { core = k; passives = set s.passives b (Some q); locals = s.locals }) (on_ok r x (with_reference r c b))) (sym answer)
+          (subst (λ (x : State). Shows (record { core = x; passives = set s.passives b (Some q); locals = s.locals }) (with_reference r c b q.number)) (sym left) shows),
     )
 
 pub held_gives : (s v : SessionState) (r : Registry) (c a : ℕ) (p : CorePsref) (answer : Bool) → s ≡ v → Shows v r → get_or s.passives a None ≡ Some p → answer ≡ nat_lt 0 (passive_of s.core c p.number) → held_answer r c a ≡ Ok answer
 held_gives s v r c a p answer view on at is = held_answers s r c a p (seen s v r view on) at ∙ ap (λ (b : Bool). Ok b) (sym is)
 
 pub read_gives : (s v : SessionState) (r : Registry) (c a : ℕ) (p : CorePsref) (result : Result Record Refusal) → s ≡ v → Shows v r → get_or s.passives a None ≡ Some p → Answers (refusal_of s.core c p) (IsRecordOf s.core.history p.number) result
-    → read_answer r c a ≡ hitched (image (read_of p.number) result)
+    → read_answer r c a ≡ command_answer (image (read_of p.number) result)
 read_gives s v r c a p result view on at is = read_reference_answers s r c a p result (seen s v r view on) at is
 
 pub read_leaves : (s v : SessionState) (k : State) (r : Registry) (result : Result Record Refusal) → s ≡ v → Shows v r → k ≡ core.after_read s.core result → Shows (with_core s k) r
@@ -121,82 +121,82 @@ read_leaves s v k r result view on left = subst (λ (x : State). Shows (with_cor
 
 pub release_fails : (s v : SessionState) (k : State) (r : Registry) (c a : ℕ) (p : CorePsref) (f : Refusal) (given : Result ℕ Hitch) → s ≡ v → Shows v r → get_or s.passives a None ≡ Some p
     → Answers {X = Unit {0}} (refusal_of s.core c p) (λ done. Unit {0}) (Err f) → k ≡ core.after_release {X = Unit {0}} s.core c p.number (Err f) → given ≡ Err (Refused f)
-    → Does given (release_answer r c a) (with_core s k) (on_ok r (release_answer r c a) (released r c a))
+    → Does given (release_answer r c a) (with_core s k) (on_ok r (release_answer r c a) (without_reference r c a))
 release_fails s v k r c a p f given view on at is left told =
     let sees = seen s v r view on in
-    refused_does given (release_answer r c a) f s v k r (released r c a) told (release_reference_answers s r c a p (Err f) sees at is) left sees
+    refused_does given (release_answer r c a) f s v k r (without_reference r c a) told (release_reference_answers s r c a p (Err f) sees at is) left sees
 
 pub release_does : (s v : SessionState) (k : State) (r : Registry) (c a : ℕ) (p : CorePsref) → s ≡ v → IsSession s → Shows v r → c < s.core.settings.cpus → a < 26 → get_or s.passives a None ≡ Some p
     → refusal_of s.core c p ≡ None → k ≡ core.after_release {X = Unit {0}} s.core c p.number (Ok tt)
-    → Does (Ok p.number) (release_answer r c a) (record { core = k; passives = set s.passives a None; locals = s.locals }) (on_ok r (release_answer r c a) (released r c a))
+    → Does (Ok p.number) (release_answer r c a) (record { core = k; passives = set s.passives a None; locals = s.locals }) (on_ok r (release_answer r c a) (without_reference r c a))
 release_does s v k r c a p view is on low small at may left =
     let sees = seen s v r view on in
     let answer : release_answer r c a ≡ Ok p.number = release_reference_answers s r c a p (Ok tt) sees at (may, tt) in
     let shows = release_shows s r c a p is.holds sees low (omega (arith, is.passive_labels)) may in (
       answer,
-      subst (λ (b : Result ℕ Hitch). Shows (record { core = k; passives = set s.passives a None; locals = s.locals }) (on_ok r b (released r c a))) (sym answer)
-          (subst (λ (x : State). Shows (record { core = x; passives = set s.passives a None; locals = s.locals }) (released r c a p.number)) (sym left) shows),
+      subst (λ (b : Result ℕ Hitch). Shows (record { core = k; passives = set s.passives a None; locals = s.locals }) (on_ok r b (without_reference r c a))) (sym answer)
+          (subst (λ (x : State). Shows (record { core = x; passives = set s.passives a None; locals = s.locals }) (without_reference r c a p.number)) (sym left) shows),
     )
 
 -- Local references
 
-pub taken_leaves : (v : SessionState) (r : Registry) (c x : ℕ) (id : ℕ) → Shows v r → IsSession v → get_or v.locals x None ≡ Some id → Shows v (on_ok r (count_answer r c x) (counting r c x))
+pub taken_leaves : (v : SessionState) (r : Registry) (c x : ℕ) (id : ℕ) → Shows v r → IsSession v → get_or v.locals x None ≡ Some id → Shows v (on_ok r (count_answer r c x) (with_one_counted r c x))
 taken_leaves v r c x id on is at =
     let n = live_number v x id is at in
-    let label = label_is v r x id n.0 on at (ap standing n.1) in
-    subst (λ (a : Result ℕ Hitch). Shows v (on_ok r a (counting r c x))) (sym (at_taken_label (r.local_labels x) n.0 (hitched (counted r c (r.model.found c))) label)) on
+    let label = label_is v r x id n.0 on at (ap number_standing n.1) in
+    subst (λ (a : Result ℕ Hitch). Shows v (on_ok r a (with_one_counted r c x))) (sym (at_taken_label (r.local_labels x) n.0 (command_answer (count_of_found r c (r.model.found c))) label)) on
 
 pub count_fails : (s v : SessionState) (k : State) (r : Registry) (c x : ℕ) (f : Refusal) (given : Result ℕ Hitch) → s ≡ v → IsSession s → Shows v r → c < s.core.settings.cpus → get_or s.locals x None ≡ None
     → IsCounted s.core (count_refusal s.core c (found_at s.core c)) (Err f) → k ≡ after_acquire_local s.core c (Err f) → given ≡ Err (Refused f)
-    → Does given (count_answer r c x) (with_core s k) (on_ok r (count_answer r c x) (counting r c x))
+    → Does given (count_answer r c x) (with_core s k) (on_ok r (count_answer r c x) (with_one_counted r c x))
 count_fails s v k r c x f given view is on low free due left told =
     let sees = seen s v r view on in
     ⊎_elim
     (λ (full : f ≡ NoMemory).
     let none : given ≡ Err (Refused NoMemory) = told ∙ ap (λ (g : Refusal). Err (Refused g)) full in
-    subst (λ (g : Result ℕ Hitch). Does g (count_answer r c x) (with_core s k) (on_ok r (count_answer r c x) (counting r c x))) (sym none) (tt, tt))
+    subst (λ (g : Result ℕ Hitch). Does g (count_answer r c x) (with_core s k) (on_ok r (count_answer r c x) (with_one_counted r c x))) (sym none) (tt, tt))
     (λ (why : count_refusal s.core c (found_at s.core c) ≡ Some f).
-    let answer : count_answer r c x ≡ Err (Refused f) = at_free_label (r.local_labels x) (hitched (counted r c (r.model.found c))) (label_none s r x sees free) ∙ ap hitched (refuses s r c f is.holds sees low why) in
-    refused_does given (count_answer r c x) f s v k r (counting r c x) told answer left sees)
+    let answer : count_answer r c x ≡ Err (Refused f) = at_free_label (r.local_labels x) (command_answer (count_of_found r c (r.model.found c))) (label_none s r x sees free) ∙ ap command_answer (refuses s r c f is.holds sees low why) in
+    refused_does given (count_answer r c x) f s v k r (with_one_counted r c x) told answer left sees)
     (count_error s.core (count_refusal s.core c (found_at s.core c)) f due)
 
 -- the place of the new reference says the number found
-new_number : (s k : State) (c id : ℕ) (e : Entry) → Holds s → found_at s c ≡ Some e → id ≡ least_id s.locals → k ≡ after_acquire_local s c (Ok id) → standing (local_at k.locals id) ≡ Some e.number
+new_number : (s k : State) (c id : ℕ) (e : Entry) → Holds s → found_at s c ≡ Some e → id ≡ least_id s.locals → k ≡ after_acquire_local s c (Ok id) → number_standing (local_at k.locals id) ≡ Some e.number
 new_number s k c id e holds found least left =
     let at = found_slot s c e holds found in
     let places : k.locals ≡ with_local s.locals (least_id s.locals) (Standing e.number) =
     ap (λ (x : State). x.locals) left ∙ (ap (λ (o : Option Entry). (after_counting s c o).locals) found ∙ ap (λ (o : Option ℕ). (with_count_more s c e.number o).locals) at.1) in
-    ap standing (new_place (record { core = s; passives = []; locals = [] }) k id e.number least places)
+    ap number_standing (new_place (record { core = s; passives = []; locals = [] }) k id e.number least places)
 
 pub count_does : (s v : SessionState) (k : State) (r : Registry) (c x id n : ℕ) → s ≡ v → IsSession s → Shows v r → c < s.core.settings.cpus → x < 26 → get_or s.locals x None ≡ None
-    → IsCounted s.core (count_refusal s.core c (found_at s.core c)) (Ok id) → k ≡ after_acquire_local s.core c (Ok id) → standing (local_at k.locals id) ≡ Some n
-    → Does (Ok n) (count_answer r c x) (record { core = k; passives = s.passives; locals = set s.locals x (Some id) }) (on_ok r (count_answer r c x) (counting r c x))
+    → IsCounted s.core (count_refusal s.core c (found_at s.core c)) (Ok id) → k ≡ after_acquire_local s.core c (Ok id) → number_standing (local_at k.locals id) ≡ Some n
+    → Does (Ok n) (count_answer r c x) (record { core = k; passives = s.passives; locals = set s.locals x (Some id) }) (on_ok r (count_answer r c x) (with_one_counted r c x))
 count_does s v k r c x id n view is on low small free due left live =
     let sees = seen s v r view on in
     let counts : Counts s r c x id = acquire_local_shows s r c x id is sees low (omega (arith, is.local_labels)) due in
-    let answer : count_answer r c x ≡ Ok counts.entry.number = at_free_label (r.local_labels x) (hitched (counted r c (r.model.found c))) (label_none s r x sees free) ∙ ap hitched counts.answers in
-    let shows : Shows (record { core = k; passives = s.passives; locals = set s.locals x (Some id) }) (counting r c x counts.entry.number) =
-    subst (λ (q : State). Shows (record { core = q; passives = s.passives; locals = set s.locals x (Some id) }) (counting r c x counts.entry.number)) (sym left) counts.shows in
+    let answer : count_answer r c x ≡ Ok counts.entry.number = at_free_label (r.local_labels x) (command_answer (count_of_found r c (r.model.found c))) (label_none s r x sees free) ∙ ap command_answer counts.answers in
+    let shows : Shows (record { core = k; passives = s.passives; locals = set s.locals x (Some id) }) (with_one_counted r c x counts.entry.number) =
+    subst (λ (q : State). Shows (record { core = q; passives = s.passives; locals = set s.locals x (Some id) }) (with_one_counted r c x counts.entry.number)) (sym left) counts.shows in
     let same : counts.entry.number ≡ n = same_Some counts.entry.number n (sym (new_number s.core k c id counts.entry is.holds counts.found due.1 left) ∙ live) in
-    (answer ∙ ap (λ (m : ℕ). Ok m) same, subst (λ (b : Result ℕ Hitch). Shows (record { core = k; passives = s.passives; locals = set s.locals x (Some id) }) (on_ok r b (counting r c x))) (sym answer) shows)
+    (answer ∙ ap (λ (m : ℕ). Ok m) same, subst (λ (b : Result ℕ Hitch). Shows (record { core = k; passives = s.passives; locals = set s.locals x (Some id) }) (on_ok r b (with_one_counted r c x))) (sym answer) shows)
 
 pub peek_leaves : (s v : SessionState) (k : State) (r : Registry) → s ≡ v → Shows v r → k ≡ all_seated s.core → Shows (with_core s k) r
 peek_leaves s v k r view on left = subst (λ (x : State). Shows (with_core s x) r) (sym left) (seated_shows s r (seen s v r view on))
 
-pub uncount_none : (v : SessionState) (r : Registry) (c x : ℕ) (given : Result ℕ Hitch) → Shows v r → get_or v.locals x None ≡ None → Leaves given (Shows v (on_ok r (uncount_answer r x) (uncounted r c x)))
-uncount_none v r c x given on none = unanswered given (uncount_answer r x) NoLabel v r (uncounted r c x) (ap (λ (o : Option ℕ). with_label o (λ n. Ok n)) (label_none v r x on none)) on
+pub uncount_none : (v : SessionState) (r : Registry) (c x : ℕ) (given : Result ℕ Hitch) → Shows v r → get_or v.locals x None ≡ None → Leaves given (Shows v (on_ok r (uncount_answer r x) (with_one_uncounted r c x)))
+uncount_none v r c x given on none = unanswered given (uncount_answer r x) NoLabel v r (with_one_uncounted r c x) (ap (λ (o : Option ℕ). with_label o (λ n. Ok n)) (label_none v r x on none)) on
 
-pub uncount_leaves : (s v : SessionState) (k : State) (r : Registry) (c x id n : ℕ) → s ≡ v → IsSession s → Shows v r → c < s.core.settings.cpus → x < 26 → get_or s.locals x None ≡ Some id → standing (local_at s.core.locals id) ≡ Some n
-    → k ≡ after_release_local s.core c id → Shows (record { core = k; passives = s.passives; locals = set s.locals x None }) (on_ok r (uncount_answer r x) (uncounted r c x))
+pub uncount_leaves : (s v : SessionState) (k : State) (r : Registry) (c x id n : ℕ) → s ≡ v → IsSession s → Shows v r → c < s.core.settings.cpus → x < 26 → get_or s.locals x None ≡ Some id → number_standing (local_at s.core.locals id) ≡ Some n
+    → k ≡ after_release_local s.core c id → Shows (record { core = k; passives = s.passives; locals = set s.locals x None }) (on_ok r (uncount_answer r x) (with_one_uncounted r c x))
 uncount_leaves s v k r c x id n view is on low small at live left =
     let sees = seen s v r view on in
-    subst (λ (b : Result ℕ Hitch). Shows (record { core = k; passives = s.passives; locals = set s.locals x None }) (on_ok r b (uncounted r c x))) (sym (uncount_answers s r x id n sees at live))
-    (subst (λ (q : State). Shows (record { core = q; passives = s.passives; locals = set s.locals x None }) (uncounted r c x n)) (sym left) (release_local_shows s r c x id n is sees low (omega (arith, is.local_labels)) at live))
+    subst (λ (b : Result ℕ Hitch). Shows (record { core = k; passives = s.passives; locals = set s.locals x None }) (on_ok r b (with_one_uncounted r c x))) (sym (uncount_answers s r x id n sees at live))
+    (subst (λ (q : State). Shows (record { core = q; passives = s.passives; locals = set s.locals x None }) (with_one_uncounted r c x n)) (sym left) (release_local_shows s r c x id n is sees low (omega (arith, is.local_labels)) at live))
 
 -- Plug
 
 pub plug_none : (v : SessionState) (r : Registry) (c x : ℕ) (rec : Record) (given : Result Entry Hitch) → Shows v r → get_or v.locals x None ≡ None → Leaves given (Shows v (after_plug r c x (plug_answer r c rec x)))
-plug_none v r c x rec given on none = leaves given v (after_plug r c x (plug_answer r c rec x)) (subst (λ (o : Option ℕ). Shows v (on_some r o (λ d. on_ok r (plug_answer r c rec x) (λ e. plugged r c e x d)))) (sym (label_none v r x on none)) on)
+plug_none v r c x rec given on none = leaves given v (after_plug r c x (plug_answer r c rec x)) (subst (λ (o : Option ℕ). Shows v (on_some r o (λ d. on_ok r (plug_answer r c rec x) (λ e. with_attached_iface r c e x d)))) (sym (label_none v r x on none)) on)
 
 pub plug_fails : (s v : SessionState) (k : State) (r : Registry) (c x id : ℕ) (rec : Record) (f : Refusal) (given : Result Entry Hitch) → s ≡ v → IsSession s → Shows v r → x < 26 → get_or s.locals x None ≡ Some id
     → is_iface rec.kind ≡ true → IsTrue (is_lawful rec.name) → IsAnswer (attaching.attach_iface_answer s.core c rec id) (Err f) → k ≡ after_attach_iface s.core c id (Err f) → given ≡ Err (Refused f)

@@ -8,8 +8,8 @@ use Rattle.registry_values.specs.declared.refusal.Refusal.{Refusal}
 use Rattle.registry_values.specs.declared.stage.Stage.{Stage}
 use Rattle.registry_values.specs.declared.stage.Stage.TheVariants.{Grace, Passive, Local, Freed}
 use Rattle.passive_core.specs.Advancing.{destroy_answer}
-use Rattle.registry_values.specs.Answers.{entry_in, waiting_for}
-use Rattle.registry_values.specs.Stages.{destroyed, destroyed_if, stage_in}
+use Rattle.registry_values.specs.Answers.{entry_in, wait_answer}
+use Rattle.registry_values.specs.Stages.{destroy_result, destroy_result_of, stage_in}
 use Rattle.passive_core.specs.Attaching.{IsAnswer, attach_answer, attach_iface_answer, given_entry}
 use Rattle.passive_core.specs.Entering.{enter_answer}
 use Rattle.passive_core.specs.Performing.{perform_answer}
@@ -17,7 +17,7 @@ use Rattle.protocol.specs.State.{State}
 use Rattle.registry_report.specs.declared.hitch.Hitch.{Hitch}
 use Rattle.registry_report.specs.declared.hitch.Hitch.TheVariants.{Refused}
 use Rattle.registry_language.specs.declared.command.Command.{Command}
-use Rattle.registry_report.specs.Answers.{hitched}
+use Rattle.registry_report.specs.Answers.{command_answer}
 use Rattle.registry_report.specs.Printed.{IsHitchOf, IsOfAttach, IsOfDestroy, IsOfEnter, IsOfPerform, MayHitch, MayWantMemory}
 
 -- a refusal by a test
@@ -41,20 +41,20 @@ attach_iface_refused s c rec id = search (if_refused, given_refused)
 pub enter_refused : (s : State) (c : ℕ) → IfErr (enter_answer s c) IsOfEnter
 enter_refused s c = search if_refused
 
-destroyed_refused : (stage : Stage) → IfErr (destroyed stage) IsOfDestroy
+destroyed_refused : (stage : Stage) → IfErr (destroy_result stage) IsOfDestroy
 destroyed_refused (Grace c) = tt
 destroyed_refused (Passive c) = tt
 destroyed_refused (Local k) = tt
 destroyed_refused (Freed t) = tt
 
-stage_refused : (stage : ℕ → Stage) (o : Option ℕ) → IfErr (destroyed_if (stage_in stage o)) IsOfDestroy
+stage_refused : (stage : ℕ → Stage) (o : Option ℕ) → IfErr (destroy_result_of (stage_in stage o)) IsOfDestroy
 stage_refused stage None = tt
 stage_refused stage (Some t) = destroyed_refused (stage t)
 
 pub destroy_refused : (s : State) (c n : ℕ) → IfErr (destroy_answer s c n) IsOfDestroy
 destroy_refused s c n = search (if_refused, stage_refused)
 
-waiting_refused : (o : Option ℕ) → IfErr (waiting_for o) IsOfPerform
+waiting_refused : (o : Option ℕ) → IfErr (wait_answer o) IsOfPerform
 waiting_refused None = tt
 waiting_refused (Some c) = tt
 
@@ -62,12 +62,12 @@ pub perform_refused : (s : State) (c : ℕ) → IfErr (perform_answer s c) IsOfP
 perform_refused s c = search (if_refused, waiting_refused)
 
 -- a call that was refused as its command may be
-pub hitch_is : {X : Type 0} (command : Command) (given : Result X Hitch) (result answer : Result X Refusal) → given ≡ hitched result → result ≡ answer → IfErr answer (λ f. IsHitchOf command (Refused f)) → IfErr given (MayHitch command)
-hitch_is command given result (Ok x) told is h = rw (told ∙ ap hitched is) tt
-hitch_is command given result (Err f) told is h = rw (told ∙ ap hitched is) (inr h)
+pub hitch_is : {X : Type 0} (command : Command) (given : Result X Hitch) (result answer : Result X Refusal) → given ≡ command_answer result → result ≡ answer → IfErr answer (λ f. IsHitchOf command (Refused f)) → IfErr given (MayHitch command)
+hitch_is command given result (Ok x) told is h = rw (told ∙ ap command_answer is) tt
+hitch_is command given result (Err f) told is h = rw (told ∙ ap command_answer is) (inr h)
 
 -- the same of a call that may want memory
-pub attach_hitch : (command : Command) (given : Result Entry Hitch) (result answer : Result Entry Refusal) → MayWantMemory command → given ≡ hitched result → IsAnswer answer result → IfErr answer (λ f. IsHitchOf command (Refused f)) → IfErr given (MayHitch command)
-attach_hitch command given result (Ok e) may told (inl is) h = rw (told ∙ ap hitched is) tt
-attach_hitch command given result (Ok e) may told (inr none) h = rw (told ∙ ap hitched none) (inl (may, refl))
-attach_hitch command given result (Err f) may told is h = rw (told ∙ ap hitched is) (inr h)
+pub attach_hitch : (command : Command) (given : Result Entry Hitch) (result answer : Result Entry Refusal) → MayWantMemory command → given ≡ command_answer result → IsAnswer answer result → IfErr answer (λ f. IsHitchOf command (Refused f)) → IfErr given (MayHitch command)
+attach_hitch command given result (Ok e) may told (inl is) h = rw (told ∙ ap command_answer is) tt
+attach_hitch command given result (Ok e) may told (inr none) h = rw (told ∙ ap command_answer none) (inl (may, refl))
+attach_hitch command given result (Err f) may told is h = rw (told ∙ ap command_answer is) (inr h)

@@ -8,23 +8,23 @@ use Rattle.protocol.specs.declared.state.LocalPlace.TheVariants.{Free, Standing,
 use Rattle.protocol.specs.State.{at_rest, State, found_at, local_at}
 use Rattle.registry_values.specs.Slots.{slot_before}
 use Rattle.passive_core.specs.Commands.{IsQuiet, all_seated, may_act}
-use Rattle.passive_core.specs.Detaching.{detached}
+use Rattle.passive_core.specs.Detaching.{with_detached}
 use Rattle.passive_core.specs.Entering.{with_depth}
-use Rattle.protocol.specs.Events.{after_exit, least_id, standing, unlinking, with_local}
+use Rattle.protocol.specs.Events.{after_exit, least_id, number_standing, with_link_past, with_local}
 use Rattle.protocol.specs.Invariant.{Holds}
 use Rattle.passive_core.specs.Locals.{after_counting, count_refusal, is_live_local, local_slot, with_count_less, with_total_less}
 use Rattle.passive_core.proofs.Locals.{live_slot, slot_is}
 use Rattle.passive_core.proofs.Passives.{found_slot}
 use Rattle.protocol.proofs.keeps.References.{least_free, least_stays, least_within, with_local_same}
-use Rattle.registry_report.specs.Session.{SessionState, IsSession, filled}
+use Rattle.registry_report.specs.Session.{SessionState, IsSession, label_answer}
 
 -- What the core's commands leave of the places of local references
 
-unlinking_keeps : (s : State) (t : ℕ) (o : Option ℕ) → (unlinking s t o).locals ≡ s.locals
+unlinking_keeps : (s : State) (t : ℕ) (o : Option ℕ) → (with_link_past s t o).locals ≡ s.locals
 unlinking_keeps s t None = refl
 unlinking_keeps s t (Some p) = refl
 
-pub detached_locals : (s : State) (c : ℕ) (e : Entry) → (detached s c e).locals ≡ s.locals
+pub detached_locals : (s : State) (c : ℕ) (e : Entry) → (with_detached s c e).locals ≡ s.locals
 detached_locals s c e = unlinking_keeps (all_seated s) e.slot (slot_before (all_seated s).slots (all_seated s).next e.slot)
 
 pub exited_locals : (s : State) (c depth : ℕ) (b : Bool) → (if b then after_exit (all_seated s) c else with_depth s c depth).locals ≡ s.locals
@@ -35,7 +35,7 @@ released_at : (s : State) (c id t : ℕ) (b : Bool) → (if b then with_count_le
 released_at s c id t true = refl
 released_at s c id t false = refl
 
-pub released_locals : (s : State) (c id n : ℕ) (b : Bool) → Holds s → standing (local_at s.locals id) ≡ Some n
+pub released_locals : (s : State) (c id n : ℕ) (b : Bool) → Holds s → number_standing (local_at s.locals id) ≡ Some n
     → (if b then with_count_less (all_seated s) c id (local_slot s id) else with_total_less (all_seated s) id (local_slot s id)).locals ≡ slice_set s.locals id Free
 released_locals s c id n b on live =
     let t = live_slot s id n on live in
@@ -50,7 +50,7 @@ counted_locals s c on h = counted_at s c (found_at s c) on refl h
 
 -- Sessions
 
-pub live_place : (p : LocalPlace) → is_some (standing p) ≡ true → (n : ℕ) × (p ≡ Standing n)
+pub live_place : (p : LocalPlace) → is_some (number_standing p) ≡ true → (n : ℕ) × (p ≡ Standing n)
 live_place Free h = let no : ⊥ = cc in absurd no
 live_place (Standing n) h = (n, refl)
 live_place (Lifted c) h = let no : ⊥ = cc in absurd no
@@ -61,7 +61,7 @@ same_else d (suc n) zero = refl
 same_else d (suc n) (suc x) = same_else d n x
 
 -- what a filled label stands for
-pub filled_tells : {X : Type 0} (o : Option X) (x : X) → Ok x ≡ filled o → o ≡ Some x
+pub filled_tells : {X : Type 0} (o : Option X) (x : X) → Ok x ≡ label_answer o → o ≡ Some x
 filled_tells None x h = let no : ⊥ = cc in absurd no
 filled_tells (Some y) x h = cc
 
@@ -92,7 +92,7 @@ same_places s core on stays same = record {
   holds = stays.holds;
   passive_labels = on.passive_labels;
   local_labels = on.local_labels;
-  live = λ x id at. ap (λ (l : List LocalPlace). is_some (standing (local_at l id))) same ∙ on.live x id at;
+  live = λ x id at. ap (λ (l : List LocalPlace). is_some (number_standing (local_at l id))) same ∙ on.live x id at;
   apart = on.apart;
 }
 
@@ -122,8 +122,8 @@ given_up s core x id on stays low stood is =
       local_labels = length-set s.locals x None ∙ on.local_labels;
       live = λ y j at.
           let was = emptied s.locals x y j below at in
-          ap (λ (l : List LocalPlace). is_some (standing (local_at l j))) is
-          ∙ (ap (λ (p : LocalPlace). is_some (standing p)) (get_or-set_other s.core.locals id j Free Free (λ same. was.0 (on.apart y x id (was.1 ∙ ap Some same) stood)))
+          ap (λ (l : List LocalPlace). is_some (number_standing (local_at l j))) is
+          ∙ (ap (λ (p : LocalPlace). is_some (number_standing p)) (get_or-set_other s.core.locals id j Free Free (λ same. was.0 (on.apart y x id (was.1 ∙ ap Some same) stood)))
           ∙ on.live y j was.1);
       apart = λ y z j at and. on.apart y z j (emptied s.locals x y j below at).1 (emptied s.locals x z j below and).1;
     }
@@ -140,7 +140,7 @@ some_same : (i j : ℕ) → Some i ≡ Some j → i ≡ j
 some_same i j e = cc
 
 live_at : (s : State) (id j n : ℕ) → id ≡ j → local_at s.locals id ≡ Standing n → is_live_local s j ≡ true
-live_at s id j n same at = ap (λ (k : ℕ). is_some (standing (local_at s.locals k))) (sym same) ∙ ap (λ (p : LocalPlace). is_some (standing p)) at
+live_at s id j n same at = ap (λ (k : ℕ). is_some (number_standing (local_at s.locals k))) (sym same) ∙ ap (λ (p : LocalPlace). is_some (number_standing p)) at
 
 pub new_place : (s : SessionState) (core : State) (id n : ℕ) → id ≡ least_id s.core.locals → core.locals ≡ with_local s.core.locals (least_id s.core.locals) (Standing n) → local_at core.locals id ≡ Standing n
 new_place s core id n least is = ap (λ (l : List LocalPlace). local_at l id) is ∙ (ap (local_at (with_local s.core.locals (least_id s.core.locals) (Standing n))) least ∙ with_local_same s.core.locals (least_id s.core.locals) (Standing n) (least_within s.core.locals))

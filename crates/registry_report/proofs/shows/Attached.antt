@@ -18,7 +18,7 @@ use Rattle.registry_values.specs.Marks.{least_below}
 use Rattle.passive_core.specs.Attaching as core
 use Rattle.registry_values.specs.Slots as values
 use Rattle.registry_values.specs.Slots.{key_of_record, is_vacant, is_iface, is_live_as, is_taken, live_count, slot_of, slot_at}
-use Rattle.passive_core.specs.Attaching.{linked}
+use Rattle.passive_core.specs.Attaching.{with_linked}
 use Rattle.passive_core.specs.Commands.{all_seated}
 use Rattle.passive_core.specs.Detaching.{IsLookupNow}
 use Rattle.protocol.specs.Events as events
@@ -40,7 +40,7 @@ use Rattle.registry_report.specs.Answers.{attach_iface_answer, is_plain, lookup_
 use Rattle.registry_report.specs.Registry.{Registry}
 use Rattle.registry_report.specs.Session.{SessionState, with_core, IsSession}
 use Rattle.registry_report.specs.Shows.{Shows, number_at}
-use Rattle.registry_report.specs.Turns.{attached, keeping}
+use Rattle.registry_report.specs.Turns.{with_attached, with_reference_kept}
 use Rattle.registry_report.proofs.Below.{position_is}
 use Rattle.registry_report.proofs.Lookups.{entry_is, lookup_is, one_lookup}
 use Rattle.registry_report.proofs.shows.Published.{published_tallies, attach_counts, attach_follows}
@@ -127,8 +127,8 @@ published_passive s e c n on later lt vacant = passive_moved s.history (after_ch
     (in_published s.slots e.slot u e at.0 lt at.1))
 
 -- an entry is linked in a vacant slot, under the next number
-pub linked_shows : (s : SessionState) (r : Registry) (c : ℕ) (e : Entry) → Holds s.core → Holds (linked s.core c e) → Shows s r → e.slot < length s.core.slots → slot_at s.core.slots e.slot ≡ Vacant → e.number ≡ suc (length s.core.history)
-    → Shows (with_core s (linked s.core c e)) (attached r c e)
+pub linked_shows : (s : SessionState) (r : Registry) (c : ℕ) (e : Entry) → Holds s.core → Holds (with_linked s.core c e) → Shows s r → e.slot < length s.core.slots → slot_at s.core.slots e.slot ≡ Vacant → e.number ≡ suc (length s.core.history)
+    → Shows (with_core s (with_linked s.core c e)) (with_attached r c e)
 linked_shows s r c e holds later on lt vacant number = record {
   settings = on.settings;
   model = record {
@@ -167,7 +167,7 @@ driver_at s n holds is =
 
 pub driver_is : (s : SessionState) (r : Registry) (id n : ℕ) → Holds s.core → Shows s r → local_at s.core.locals id ≡ Standing n → core.is_to_driver s.core id ≡ is_driver_number r.model.history n
 driver_is s r id n holds on at =
-    ap (λ (p : LocalPlace). core.is_driver_number s.core.slots (events.standing p)) at
+    ap (λ (p : LocalPlace). core.is_driver_number s.core.slots (events.number_standing p)) at
     ∙ (driver_at s.core n holds (holds.references.standing id n at) ∙ ap (λ (h : List Change). is_driver_number h n) (sym on.model.history))
 
 pub attach_iface_answers : (s : SessionState) (r : Registry) (c : ℕ) (rec : Record) (id n : ℕ) → Holds s.core → Shows s r → local_at s.core.locals id ≡ Standing n → core.attach_iface_answer s.core c rec id ≡ attach_iface_answer r c rec n
@@ -183,11 +183,11 @@ label_gone s r x id is on small at = put_is r.local_labels (λ y. number_at (set
   where
     others : (y : ℕ) → (y ≡ x → ⊥) → (o : Option ℕ) → get_or s.locals y None ≡ o → number_at s.core.locals o ≡ number_at (set s.core.locals id Free) o
     others y off None there = refl
-    others y off (Some j) there = ap events.standing (sym (get_or-set_other s.core.locals id j Free Free (λ (same : j ≡ id). off (is.apart y x id (there ∙ ap (λ (k : ℕ). Some k) same) at))))
+    others y off (Some j) there = ap events.number_standing (sym (get_or-set_other s.core.locals id j Free Free (λ (same : j ≡ id). off (is.apart y x id (there ∙ ap (λ (k : ℕ). Some k) same) at))))
 
 -- the slot took the reference over
 pub keeping_shows : (s : SessionState) (r : Registry) (t x id n : ℕ) → IsSession s → Shows s r → t < s.core.settings.slots → x < 26 → get_or s.locals x None ≡ Some id → local_at s.core.locals id ≡ Standing n
-    → Shows (record s { core = core.keeping (all_seated s.core) t id; locals = set s.locals x None }) (record r { model = keeping r.model t n; local_labels = put r.local_labels x None })
+    → Shows (record s { core = core.with_reference_kept (all_seated s.core) t id; locals = set s.locals x None }) (record r { model = with_reference_kept r.model t n; local_labels = put r.local_labels x None })
 keeping_shows s r t x id n is on low small at place = record {
   settings = on.settings;
   model = record {
@@ -199,7 +199,7 @@ keeping_shows s r t x id n is on low small at place = record {
         (omega (arith, on.model.counted n, local_changed n s.core.locals id (Standing n) Free (standing_within s.core.locals id n place) place, one_at n n refl))
         (λ m off. omega (arith, on.model.counted m, local_changed m s.core.locals id (Standing n) Free (standing_within s.core.locals id n place) place, none_at n m (λ same. off (sym same))));
     occupants = on.model.occupants;
-    kept = put_shows r.model.keeps None s.core.keeps t (Some n) (events.standing (local_at s.core.locals id)) (omega (arith, is.holds.shape.keeps)) on.model.kept (sym (ap events.standing place));
+    kept = put_shows r.model.keeps None s.core.keeps t (Some n) (events.number_standing (local_at s.core.locals id)) (omega (arith, is.holds.shape.keeps)) on.model.kept (sym (ap events.number_standing place));
   };
   sections = on.sections;
   live = on.live;

@@ -9,14 +9,14 @@ use Rattle.registry_values.specs.declared.slot.Slot.TheVariants.{Vacant, Live, R
 use Rattle.passive_core.specs.Audits as core
 use Rattle.registry_values.specs.Balances.{Tally, less_bias, local_of}
 use Rattle.passive_core.specs.Audits.{audit_of}
-use Rattle.protocol.specs.Invariant.{IsIn, adding_at, is_adding_at}
+use Rattle.protocol.specs.Invariant.{IsIn, addition_due_at, is_adding_at}
 use Rattle.protocol.specs.Picture.{number_in}
 use Rattle.protocol.specs.State.{count_at, total_at}
 use Rattle.registry_values.specs.Slots.{slot_at}
 use Rattle.passive_core.proofs.Audits.{rightly, row_long}
 use Rattle.protocol.proofs.slots.Occupied.{at_rest_tells}
 use Rattle.protocol.proofs.counts.Sums.{words-at-zero}
-use Rattle.registry_report.specs.Answers.{audit_answer, held, list_below, net_count, tallies_below, tallies_in, tally_of}
+use Rattle.registry_report.specs.Answers.{audit_answer, held_count, list_below, net_count, tallies_below, tallies_in, tally_of}
 use Rattle.registry_report.specs.Registry.{Registry}
 use Rattle.registry_report.specs.Session.{IsSession, SessionState}
 use Rattle.registry_report.specs.Shows.{Shows}
@@ -55,10 +55,10 @@ locals_are s r t e is on in_ =
 -- The total is what was given up, or what is held.
 
 total_by : (s : SessionState) (r : Registry) (t : ℕ) (e : Entry) (b : Bool) → IsSession s → Shows s r → IsIn e (slot_at s.core.slots t) → r.drained e.number ≡ b
-    → less_bias (total_at s.core.totals t) ≡ (if b then pos (held r e.number) else neg_ℤ (pos (r.given_up e.number)))
+    → less_bias (total_at s.core.totals t) ≡ (if b then pos (held_count r e.number) else neg_ℤ (pos (r.given_up e.number)))
 total_by s r t e true is on in_ at =
     let due = at_rest_tells s.core.due is.quiet.rest in
-    let nothing : adding_at t s.core.due ≡ 0 = ap (adding_at t) due in
+    let nothing : addition_due_at t s.core.due ≡ 0 = ap (addition_due_at t) due in
     let none : is_adding_at t s.core.due ≡ 0 = ap (is_adding_at t) due in
     let words = words-at-zero (get_or s.core.counts t []) (λ c. on.tallies.collected t c e in_ at) in
     omega (arith, ints, (is.holds.balance.balance t e in_).even, nothing, none, words, held_is s r e.number t is on)
@@ -67,10 +67,10 @@ total_by s r t e false is on in_ at = omega (arith, ints, on.tallies.total t e i
 -- A tally is the registry's.
 pub tally_is : (s : SessionState) (r : Registry) (t : ℕ) (e : Entry) → IsSession s → Shows s r → IsIn e (slot_at s.core.slots t) → core.tally_of s.core e.number t ≡ tally_of r e.number t
 tally_is s r t e is on in_ =
-    let held = rightly s.core t e is.holds is.quiet.rest in_ ∙ ap pos (held_is s r e.number t is on) in
+    let held_count = rightly s.core t e is.holds is.quiet.rest in_ ∙ ap pos (held_is s r e.number t is on) in
     let locals = locals_are s r t e is on in_ in
     let total = total_by s r t e (r.drained e.number) is on in_ refl in
-    λ i. record { number = e.number; slot = t; held = held i; locals = locals i; total = total i }
+    λ i. record { number = e.number; slot = t; held = held_count i; locals = locals i; total = total i }
 
 slot_tallies : (s : SessionState) (r : Registry) (t : ℕ) (x : Slot) → IsSession s → Shows s r → slot_at s.core.slots t ≡ x → core.tallies_at s.core t x ≡ tallies_in r t (number_in x)
 slot_tallies s r t Vacant is on at = refl

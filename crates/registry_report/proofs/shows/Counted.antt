@@ -12,7 +12,7 @@ use Rattle.protocol.specs.State.{State, count_at, found_at, local_at, total_at, 
 use Rattle.registry_values.specs.Balances.{bias}
 use Rattle.registry_values.specs.Slots.{slot_at, slot_of}
 use Rattle.passive_core.specs.Commands.{all_seated}
-use Rattle.protocol.specs.Events.{least_id, standing, with_local}
+use Rattle.protocol.specs.Events.{least_id, number_standing, with_local}
 use Rattle.protocol.specs.Invariant.{Holds, IsIn, SlotsShow, standing_of}
 use Rattle.passive_core.specs.Locals.{IsCounted, after_acquire_local, after_counting, after_release_local, count_in, count_refusal, is_counting, local_slot, with_count_less, with_count_more, with_total_less}
 use Rattle.protocol.specs.Model.{put, with_locals}
@@ -28,11 +28,11 @@ use Rattle.protocol.proofs.model.Picturing.{put_here, put_is, put_other}
 use Rattle.protocol.proofs.keeps.References.{least_free, least_within, standing_tells, with_local_other, with_local_same}
 use Rattle.protocol.proofs.counts.Sums.{local_added, local_changed, none_at, one_at, standing_within}
 use Rattle.registry_values.specs.Answers as answers
-use Rattle.registry_report.specs.Answers.{counted, uncount_answer, unless, why_uncounted, with_label}
+use Rattle.registry_report.specs.Answers.{count_of_found, uncount_answer, unless, why_uncounted, with_label}
 use Rattle.registry_report.specs.Registry.{Registry}
 use Rattle.registry_report.specs.Session.{IsSession, SessionState}
 use Rattle.registry_report.specs.Shows.{Shows, ShowsTallies, number_at}
-use Rattle.registry_report.specs.Turns.{counting, put_at, uncounted}
+use Rattle.registry_report.specs.Turns.{with_one_counted, put_at, with_one_uncounted}
 
 -- In general
 
@@ -173,15 +173,15 @@ uncounted_is s r c n t holds on low of =
     (λ lt. omega (arith, net, limit, lt)) (λ ge. omega (arith, net, limit, ge)))
 
 counted_by : (s : SessionState) (r : Registry) (c : ℕ) (o : Option Entry) → Holds s.core → Shows s r → c < s.core.settings.cpus → found_at s.core c ≡ o
-    → counted r c o ≡ unless (count_refusal s.core c o) (found_number o)
+    → count_of_found r c o ≡ unless (count_refusal s.core c o) (found_number o)
 counted_by s r c None holds on low found = refl
 counted_by s r c (Some e) holds on low found =
     let at = found_slot s.core c e holds found in
     ap (λ (o : Option Refusal). unless o (Ok e.number)) (sym (uncounted_is s r c e.number at.0 holds on low at.1))
 
 pub counted_is : (s : SessionState) (r : Registry) (c : ℕ) → Holds s.core → Shows s r → c < s.core.settings.cpus
-    → counted r c (r.model.found c) ≡ unless (count_refusal s.core c (found_at s.core c)) (found_number (found_at s.core c))
-counted_is s r c holds on low = ap (counted r c) (on.model.last_found c) ∙ counted_by s r c (found_at s.core c) holds on low refl
+    → count_of_found r c (r.model.found c) ≡ unless (count_refusal s.core c (found_at s.core c)) (found_number (found_at s.core c))
+counted_is s r c holds on low = ap (count_of_found r c) (on.model.last_found c) ∙ counted_by s r c (found_at s.core c) holds on low refl
 
 -- what was found where the count isn't refused
 found_from : (s : State) (c : ℕ) (o : Option Entry) → count_refusal s c o ≡ None → (e : Entry) × (o ≡ Some e)
@@ -190,13 +190,13 @@ found_from s c (Some e) is = (e, refl)
 
 -- a count that isn't refused is of the last found entry
 pub counts_tell : (s : SessionState) (r : Registry) (c : ℕ) → Holds s.core → Shows s r → c < s.core.settings.cpus → count_refusal s.core c (found_at s.core c) ≡ None
-    → (e : Entry) × (found_at s.core c ≡ Some e) × (counted r c (r.model.found c) ≡ Ok e.number)
+    → (e : Entry) × (found_at s.core c ≡ Some e) × (count_of_found r c (r.model.found c) ≡ Ok e.number)
 counts_tell s r c holds on low none =
     let found = found_from s.core c (found_at s.core c) none in
     (found.0, found.1, counted_is s r c holds on low ∙ (ap (λ (o : Option Refusal). unless o (found_number (found_at s.core c))) none ∙ ap found_number found.1))
 
 pub refuses : (s : SessionState) (r : Registry) (c : ℕ) (f : Refusal) → Holds s.core → Shows s r → c < s.core.settings.cpus → count_refusal s.core c (found_at s.core c) ≡ Some f
-    → counted r c (r.model.found c) ≡ Err f
+    → count_of_found r c (r.model.found c) ≡ Err f
 refuses s r c f holds on low is = counted_is s r c holds on low ∙ ap (λ (o : Option Refusal). unless o (found_number (found_at s.core c))) is
 
 -- memory is refused, or the count is
@@ -205,42 +205,42 @@ count_error s refusal NoMemory is = inl refl
 count_error s refusal f is = inr is
 
 -- a label's number is that of the live reference that it stands for
-pub label_is : (s : SessionState) (r : Registry) (x id n : ℕ) → Shows s r → get_or s.locals x None ≡ Some id → standing (local_at s.core.locals id) ≡ Some n → r.local_labels x ≡ Some n
+pub label_is : (s : SessionState) (r : Registry) (x id n : ℕ) → Shows s r → get_or s.locals x None ≡ Some id → number_standing (local_at s.core.locals id) ≡ Some n → r.local_labels x ≡ Some n
 label_is s r x id n on at live = on.labels.local x ∙ (ap (number_at s.core.locals) at ∙ live)
 
 pub label_none : (s : SessionState) (r : Registry) (x : ℕ) → Shows s r → get_or s.locals x None ≡ None → r.local_labels x ≡ None
 label_none s r x on at = on.labels.local x ∙ ap (number_at s.core.locals) at
 
-pub uncount_answers : (s : SessionState) (r : Registry) (x id n : ℕ) → Shows s r → get_or s.locals x None ≡ Some id → standing (local_at s.core.locals id) ≡ Some n → uncount_answer r x ≡ Ok n
+pub uncount_answers : (s : SessionState) (r : Registry) (x id n : ℕ) → Shows s r → get_or s.locals x None ≡ Some id → number_standing (local_at s.core.locals id) ≡ Some n → uncount_answer r x ≡ Ok n
 uncount_answers s r x id n on at live = ap (λ (o : Option ℕ). with_label o (λ m. Ok m)) (label_is s r x id n on at live)
 
 -- Labels
 
 -- each label stands for a live reference, and no two for one
 abbrev AreLive : List LocalPlace → List (Option ℕ) → Type 0
-AreLive places ids = (x id : ℕ) → get_or ids x None ≡ Some id → is_some (standing (local_at places id)) ≡ true
+AreLive places ids = (x id : ℕ) → get_or ids x None ≡ Some id → is_some (number_standing (local_at places id)) ≡ true
 
 abbrev AreApart : List (Option ℕ) → Type 0
 AreApart ids = (x y id : ℕ) → get_or ids x None ≡ Some id → get_or ids y None ≡ Some id → x ≡ y
 
 -- the least free id isn't live
-least_dead : (places : List LocalPlace) (id : ℕ) → is_some (standing (local_at places id)) ≡ true → id ≡ least_id places → ⊥
-least_dead places id live is = let q : ◌≡◌ {A = Bool} false true = sym (ap (λ (p : LocalPlace). is_some (standing p)) (ap (local_at places) is ∙ least_free places)) ∙ live in cc
+least_dead : (places : List LocalPlace) (id : ℕ) → is_some (number_standing (local_at places id)) ≡ true → id ≡ least_id places → ⊥
+least_dead places id live is = let q : ◌≡◌ {A = Bool} false true = sym (ap (λ (p : LocalPlace). is_some (number_standing p)) (ap (local_at places) is ∙ least_free places)) ∙ live in cc
 
 -- a live reference stays where another is added
-stays_added : (places : List LocalPlace) (p : LocalPlace) (id : ℕ) → is_some (standing (local_at places id)) ≡ true → local_at (with_local places (least_id places) p) id ≡ local_at places id
+stays_added : (places : List LocalPlace) (p : LocalPlace) (id : ℕ) → is_some (number_standing (local_at places id)) ≡ true → local_at (with_local places (least_id places) p) id ≡ local_at places id
 stays_added places p id live = with_local_other places (least_id places) p id (least_within places) (least_dead places id live)
 
 number_stays : (places places_now : List LocalPlace) (o : Option ℕ) → ((id : ℕ) → o ≡ Some id → local_at places_now id ≡ local_at places id) → number_at places o ≡ number_at places_now o
 number_stays places places_now None same = refl
-number_stays places places_now (Some id) same = ap standing (sym (same id refl))
+number_stays places places_now (Some id) same = ap number_standing (sym (same id refl))
 
 labels_added : (places : List LocalPlace) (ids : List (Option ℕ)) (labels : ℕ → Option ℕ) (x n : ℕ) → x < length ids → AreLive places ids → ((y : ℕ) → labels y ≡ number_at places (get_or ids y None))
     → (y : ℕ) → put labels x (Some n) y ≡ number_at (with_local places (least_id places) (Standing n)) (get_or (set ids x (Some (least_id places))) y None)
 labels_added places ids labels x n within live shows =
     let now = with_local places (least_id places) (Standing n) in
     put_is labels (λ y. number_at now (get_or (set ids x (Some (least_id places))) y None)) x (Some n)
-    (sym (ap (number_at now) (get_or-set_same ids x (Some (least_id places)) None within) ∙ ap standing (with_local_same places (least_id places) (Standing n) (least_within places))))
+    (sym (ap (number_at now) (get_or-set_same ids x (Some (least_id places)) None within) ∙ ap number_standing (with_local_same places (least_id places) (Standing n) (least_within places))))
     (λ y off. shows y ∙ (number_stays places now (get_or ids y None) (λ id at. stays_added places (Standing n) id (live y id at))
     ∙ ap (number_at now) (sym (get_or-set_other ids x y (Some (least_id places)) None off))))
 
@@ -264,14 +264,14 @@ changed : (s : SessionState) (r : Registry) (counts nets : List (List ℕ)) (tot
     → ((y : ℕ) → labels y ≡ number_at places (get_or ids y None))
     → Shows (record s { core = record (all_seated s.core) { counts = counts; nets = nets; totals = totals; locals = places }; locals = ids })
     (record r { model = with_locals r.model n k; acquired = acquired; released = released; given_up = given_up; local_labels = labels })
-changed s r counts nets totals places ids n k acquired released given_up labels on standing tallies stand = record {
+changed s r counts nets totals places ids n k acquired released given_up labels on number_standing tallies stand = record {
   settings = on.settings;
   model = record {
     history = on.model.history;
     sections = on.model.sections;
     last_found = on.model.last_found;
     held = on.model.held;
-    counted = standing;
+    counted = number_standing;
     occupants = on.model.occupants;
     kept = on.model.kept;
   };
@@ -307,7 +307,7 @@ less_standing s r id n on at =
 
 -- one more, counted by c
 more_shows : (s : SessionState) (r : Registry) (c x n t : ℕ) → IsSession s → Shows s r → c < s.core.settings.cpus → x < length s.locals → slot_of s.core.slots n ≡ Some t → r.drained n ≡ false
-    → Shows (record s { core = with_count_more s.core c n (Some t); locals = set s.locals x (Some (least_id s.core.locals)) }) (counting r c x n)
+    → Shows (record s { core = with_count_more s.core c n (Some t); locals = set s.locals x (Some (least_id s.core.locals)) }) (with_one_counted r c x n)
 more_shows s r c x n t session on low within of live =
     let has = has_words s.core c n t session.holds low of in
     let net = net_is s.core c n t r.acquired r.released r.given_up r.drained low has on.tallies in
@@ -328,19 +328,19 @@ more_shows s r c x n t session on low within of live =
 
 -- what an acquire leaves
 pub counting_shows : (s : SessionState) (r : Registry) (c x : ℕ) (e : Entry) → IsSession s → Shows s r → c < s.core.settings.cpus → x < length s.locals → found_at s.core c ≡ Some e
-    → Shows (record s { core = after_counting s.core c (found_at s.core c); locals = set s.locals x (Some (least_id s.core.locals)) }) (counting r c x e.number)
+    → Shows (record s { core = after_counting s.core c (found_at s.core c); locals = set s.locals x (Some (least_id s.core.locals)) }) (with_one_counted r c x e.number)
 counting_shows s r c x e session on low within found =
     let at = found_slot s.core c e session.holds found in
-    subst (λ (o : Option Entry). Shows (record s { core = after_counting s.core c o; locals = set s.locals x (Some (least_id s.core.locals)) }) (counting r c x e.number)) (sym found)
-    (subst (λ (o : Option ℕ). Shows (record s { core = with_count_more s.core c e.number o; locals = set s.locals x (Some (least_id s.core.locals)) }) (counting r c x e.number)) (sym at.1)
+    subst (λ (o : Option Entry). Shows (record s { core = after_counting s.core c o; locals = set s.locals x (Some (least_id s.core.locals)) }) (with_one_counted r c x e.number)) (sym found)
+    (subst (λ (o : Option ℕ). Shows (record s { core = with_count_more s.core c e.number o; locals = set s.locals x (Some (least_id s.core.locals)) }) (with_one_counted r c x e.number)) (sym at.1)
     (more_shows s r c x e.number at.0 session on low within at.1 (found_undrained s r c at.0 e session.holds on low found at.1)))
 
 -- of an acquire that answers id: the entry, the registry's answer, and the session that stands for what that leaves
 pub record Counts (s : SessionState) (r : Registry) (c x id : ℕ) : Type 0 where
   pub entry : Entry
   pub found : found_at s.core c ≡ Some entry
-  pub answers : counted r c (r.model.found c) ≡ Ok entry.number
-  pub shows : Shows (record s { core = after_acquire_local s.core c (Ok id); locals = set s.locals x (Some id) }) (counting r c x entry.number)
+  pub answers : count_of_found r c (r.model.found c) ≡ Ok entry.number
+  pub shows : Shows (record s { core = after_acquire_local s.core c (Ok id); locals = set s.locals x (Some id) }) (with_one_counted r c x entry.number)
 
 pub acquire_local_shows : (s : SessionState) (r : Registry) (c x id : ℕ) → IsSession s → Shows s r → c < s.core.settings.cpus → x < length s.locals
     → IsCounted s.core (count_refusal s.core c (found_at s.core c)) (Ok id) → Counts s r c x id
@@ -350,7 +350,7 @@ acquire_local_shows s r c x id session on low within is =
       entry = told.0;
       found = told.1;
       answers = told.2;
-      shows = subst (λ (k : ℕ). Shows (record s { core = after_counting s.core c (found_at s.core c); locals = set s.locals x (Some k) }) (counting r c x told.0.number)) (sym is.1)
+      shows = subst (λ (k : ℕ). Shows (record s { core = after_counting s.core c (found_at s.core c); locals = set s.locals x (Some k) }) (with_one_counted r c x told.0.number)) (sym is.1)
           (counting_shows s r c x told.0 session on low within told.1);
     }
 
@@ -362,7 +362,7 @@ counting_by s r c n t true holds on low has dry = le-ltb 0 (count_at s.core.coun
 counting_by s r c n t false holds on low has live = lt-ltb 0 (count_at s.core.counts c t)
     (omega (arith, on.tallies.word t c has.entry has.there low (ap r.drained has.numbered ∙ live), holds.balance.used c t has.entry low has.there))
 
-pub counting_is : (s : SessionState) (r : Registry) (c id n : ℕ) → Holds s.core → Shows s r → c < s.core.settings.cpus → standing (local_at s.core.locals id) ≡ Some n → is_counting s.core c (local_slot s.core id) ≡ not (r.drained n)
+pub counting_is : (s : SessionState) (r : Registry) (c id n : ℕ) → Holds s.core → Shows s r → c < s.core.settings.cpus → number_standing (local_at s.core.locals id) ≡ Some n → is_counting s.core c (local_slot s.core id) ≡ not (r.drained n)
 counting_is s r c id n holds on low live =
     let at = live_slot s.core id n holds live in
     ap (is_counting s.core c) (slot_is s.core id n at.0 live at.1)
@@ -417,13 +417,13 @@ less_by s r c x id n t true session on low within label at of is = interlock_sho
 less_by s r c x id n t false session on low within label at of is = own_shows s r c x id n t session on low within label at of is
 
 -- what a release leaves
-pub release_local_shows : (s : SessionState) (r : Registry) (c x id n : ℕ) → IsSession s → Shows s r → c < s.core.settings.cpus → x < length s.locals → get_or s.locals x None ≡ Some id → standing (local_at s.core.locals id) ≡ Some n
-    → Shows (record s { core = after_release_local s.core c id; locals = set s.locals x None }) (uncounted r c x n)
+pub release_local_shows : (s : SessionState) (r : Registry) (c x id n : ℕ) → IsSession s → Shows s r → c < s.core.settings.cpus → x < length s.locals → get_or s.locals x None ≡ Some id → number_standing (local_at s.core.locals id) ≡ Some n
+    → Shows (record s { core = after_release_local s.core c id; locals = set s.locals x None }) (with_one_uncounted r c x n)
 release_local_shows s r c x id n session on low within label live =
     let of = live_slot s.core id n session.holds live in
     let slot : local_slot s.core id ≡ Some of.0 = slot_is s.core id n of.0 live of.1 in
     let by : is_counting s.core c (local_slot s.core id) ≡ not (r.drained n) = counting_is s r c id n session.holds on low live in
     let after : (if not (r.drained n) then with_count_less (all_seated s.core) c id (Some of.0) else with_total_less (all_seated s.core) id (Some of.0)) ≡ after_release_local s.core c id =
     λ i. if sym by i then with_count_less (all_seated s.core) c id (sym slot i) else with_total_less (all_seated s.core) id (sym slot i) in
-    subst (λ (core : State). Shows (record s { core = core; locals = set s.locals x None }) (uncounted r c x n)) after
+    subst (λ (core : State). Shows (record s { core = core; locals = set s.locals x None }) (with_one_uncounted r c x n)) after
     (less_by s r c x id n of.0 (r.drained n) session on low within label (standing_tells (local_at s.core.locals id) n live) of.1 refl)

@@ -11,8 +11,8 @@ use Rattle.protocol.specs.State.{opening}
 use Rattle.protocol.proofs.slots.Cells.{get_or_all}
 use Rattle.protocol.proofs.keeps.MarkKeeps.{none_live}
 use Rattle.protocol.proofs.slots.Occupied.{not_vacant, slot_has}
-use Rattle.registry_report.specs.Registry.{opened}
-use Rattle.registry_report.specs.Session.{SessionState, unlabelled}
+use Rattle.registry_report.specs.Registry.{opening_registry}
+use Rattle.registry_report.specs.Session.{SessionState, without_labels}
 use Rattle.registry_report.specs.Shows.{Shows, number_at}
 
 -- no slot is occupied
@@ -26,7 +26,7 @@ none_held : (z : Settings) (c n : ℕ) (o : Option ℕ) → slot_of (replicate z
 none_held z c n None at = refl
 none_held z c n (Some t) at = absurd (let has = slot_has (replicate z.slots Vacant) n t at in nobody z.slots t has.1.0 has.1.1)
 
-pub opened_shows : (z : Settings) → Shows (unlabelled (opening z)) (opened z)
+pub opened_shows : (z : Settings) → Shows (without_labels (opening z)) (opening_registry z)
 opened_shows z = record {
   settings = refl;
   model = record {
@@ -58,5 +58,5 @@ opened_shows z = record {
 }
 
 -- the same of the session that a script begins with
-pub begins : (s : SessionState) (z w : Settings) → s ≡ unlabelled (opening z) → z ≡ w → Shows s (opened w)
-begins s z w is same = subst (λ (x : SessionState). Shows x (opened w)) (sym (is ∙ ap (λ (y : Settings). unlabelled (opening y)) same)) (opened_shows w)
+pub begins : (s : SessionState) (z w : Settings) → s ≡ without_labels (opening z) → z ≡ w → Shows s (opening_registry w)
+begins s z w is same = subst (λ (x : SessionState). Shows x (opening_registry w)) (sym (is ∙ ap (λ (y : Settings). without_labels (opening y)) same)) (opened_shows w)

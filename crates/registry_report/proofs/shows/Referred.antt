@@ -13,23 +13,23 @@ use Rattle.protocol.specs.declared.state.LocalPlace.{LocalPlace}
 use Rattle.protocol.specs.State.{State, found_at, local_at}
 use Rattle.registry_values.specs.Slots.{slot_of}
 use Rattle.passive_core.specs.Commands.{IsQuiet, all_seated}
-use Rattle.protocol.specs.Events.{is_number, standing}
+use Rattle.protocol.specs.Events.{is_number, number_standing}
 use Rattle.protocol.specs.Invariant.{Holds}
 use Rattle.protocol.specs.Model.{put, with_passive}
 use Rattle.protocol.specs.Picture.{passive_in}
 use Rattle.passive_core.specs.Passives as core
 use Rattle.registry_values.specs.Refusals.{Answers}
-use Rattle.passive_core.specs.Passives.{IsRecordOf, acquired, copied, passive_of, refusal_of, with_one_less, with_one_more}
+use Rattle.passive_core.specs.Passives.{IsRecordOf, psref_to_found, psref_copy, passive_of, refusal_of, with_one_less, with_one_more}
 use Rattle.passive_core.proofs.Passives.{counted_less, counted_more}
 use Rattle.registry_report.specs.declared.hitch.Hitch.{Hitch}
 use Rattle.registry_report.specs.declared.hitch.Hitch.TheVariants.{LabelTaken}
 use Rattle.registry_report.specs.declared.session.Reading.{Reading}
-use Rattle.registry_report.specs.Answers.{acquire_answer, copy_answer, held_answer, hitched, if_free, misuse, one_more, read_answer, reading, reference_answer, release_answer, unless, with_label}
+use Rattle.registry_report.specs.Answers.{acquire_answer, copy_answer, held_answer, command_answer, if_free, misuse, one_more, read_answer, reading_of, reference_answer, release_answer, unless, with_label}
 use Rattle.registry_report.specs.Changes.{value_in, value_of}
 use Rattle.registry_report.specs.Registry.{Registry}
 use Rattle.registry_report.specs.Session.{IsSession, SessionState, with_core}
 use Rattle.registry_report.specs.Shows.{Shows}
-use Rattle.registry_report.specs.Turns.{referred, released}
+use Rattle.registry_report.specs.Turns.{with_reference, without_reference}
 use Rattle.registry_report.proofs.Lookups.{entry_is}
 use Rattle.registry_report.proofs.shows.Showing.{put_shows}
 
@@ -75,19 +75,19 @@ one_more_is s r c n on =
     number_more (nat_lt (passive_of s.core c n) s.core.settings.passive_limit) (record { cpu = c; number = n })
     ∙ ap (λ (b : Bool). unless (if b then None else Some PassiveFull) (Ok n)) room
 
-acquired_is : (s : SessionState) (r : Registry) (c : ℕ) (o : Option Entry) → Shows s r → number_if (acquired s.core c o) ≡ acquire_answer r c o
+acquired_is : (s : SessionState) (r : Registry) (c : ℕ) (o : Option Entry) → Shows s r → number_if (psref_to_found s.core c o) ≡ acquire_answer r c o
 acquired_is s r c None on = refl
 acquired_is s r c (Some e) on = one_more_is s r c e.number on
 
-pub acquire_answers : (s : SessionState) (r : Registry) (c : ℕ) → Shows s r → number_if (acquired s.core c (found_at s.core c)) ≡ acquire_answer r c (r.model.found c)
+pub acquire_answers : (s : SessionState) (r : Registry) (c : ℕ) → Shows s r → number_if (psref_to_found s.core c (found_at s.core c)) ≡ acquire_answer r c (r.model.found c)
 acquire_answers s r c on = acquired_is s r c (found_at s.core c) on ∙ ap (acquire_answer r c) (sym (on.model.last_found c))
 
-copied_is : (s : SessionState) (r : Registry) (c n : ℕ) (refusal : Option Refusal) → Shows s r → number_if (copied s.core c n refusal) ≡ unless refusal (one_more r c n)
+copied_is : (s : SessionState) (r : Registry) (c n : ℕ) (refusal : Option Refusal) → Shows s r → number_if (psref_copy s.core c n refusal) ≡ unless refusal (one_more r c n)
 copied_is s r c n None on = one_more_is s r c n on
 copied_is s r c n (Some f) on = refl
 
 pub copy_answers : (s : SessionState) (r : Registry) (c : ℕ) (p : CorePsref) → Shows s r
-    → number_if (copied s.core c p.number (refusal_of s.core c p)) ≡ unless (misuse r c p) (one_more r c p.number)
+    → number_if (psref_copy s.core c p.number (refusal_of s.core c p)) ≡ unless (misuse r c p) (one_more r c p.number)
 copy_answers s r c p on = copied_is s r c p.number (refusal_of s.core c p) on ∙ ap (λ (o : Option Refusal). unless o (one_more r c p.number)) (misuse_is s r c p on)
 
 -- the record of the entry with a number has its value
@@ -102,14 +102,14 @@ value_is s r n rec on is =
 abbrev pub read_of : ℕ → Record → Reading
 read_of n rec = record { number = n; value = rec.value }
 
-pub reading_is : (s : SessionState) (r : Registry) (n : ℕ) (rec : Record) → Shows s r → IsRecordOf s.core.history n rec → read_of n rec ≡ reading r n
+pub reading_is : (s : SessionState) (r : Registry) (n : ℕ) (rec : Record) → Shows s r → IsRecordOf s.core.history n rec → read_of n rec ≡ reading_of r n
 reading_is s r n rec on is = ap (λ (v : ℕ). record { number = n; value = v }) (value_is s r n rec on is)
 
 pub read_answers : (s : SessionState) (r : Registry) (c : ℕ) (p : CorePsref) (result : Result Record Refusal) → Shows s r
-    → Answers (refusal_of s.core c p) (IsRecordOf s.core.history p.number) result → image (read_of p.number) result ≡ unless (misuse r c p) (Ok (reading r p.number))
+    → Answers (refusal_of s.core c p) (IsRecordOf s.core.history p.number) result → image (read_of p.number) result ≡ unless (misuse r c p) (Ok (reading_of r p.number))
 read_answers s r c p result on is =
-    answers_image (refusal_of s.core c p) (IsRecordOf s.core.history p.number) (read_of p.number) (reading r p.number) result is (λ rec at. reading_is s r p.number rec on at)
-    ∙ ap (λ (o : Option Refusal). unless o (Ok (reading r p.number))) (misuse_is s r c p on)
+    answers_image (refusal_of s.core c p) (IsRecordOf s.core.history p.number) (read_of p.number) (reading_of r p.number) result is (λ rec at. reading_is s r p.number rec on at)
+    ∙ ap (λ (o : Option Refusal). unless o (Ok (reading_of r p.number))) (misuse_is s r c p on)
 
 pub release_answers : (s : SessionState) (r : Registry) (c : ℕ) (p : CorePsref) (result : Result (Unit {0}) Refusal) → Shows s r
     → Answers (refusal_of s.core c p) (λ done. Unit {0}) result → image (λ done. p.number) result ≡ unless (misuse r c p) (Ok p.number)
@@ -150,20 +150,20 @@ relabelled s r passive c n k a label on within held = record {
 
 more_by : (s : SessionState) (r : Registry) (c n a : ℕ) (o : Option ℕ) → Shows s r → a < length s.passives
     → ((d m : ℕ) → put r.model.passive c (put (r.model.passive c) n (r.model.passive c n + 1)) d m ≡ passive_of (with_one_more s.core c o) d m)
-    → Shows (record s { core = with_one_more s.core c o; passives = set s.passives a (Some (record { cpu = c; number = n })) }) (referred r c a n)
+    → Shows (record s { core = with_one_more s.core c o; passives = set s.passives a (Some (record { cpu = c; number = n })) }) (with_reference r c a n)
 more_by s r c n a None on within held = relabelled s r s.core.passive c n (r.model.passive c n + 1) a (Some (record { cpu = c; number = n })) on within held
 more_by s r c n a (Some t) on within held = relabelled s r (with_one_more s.core c (Some t)).passive c n (r.model.passive c n + 1) a (Some (record { cpu = c; number = n })) on within held
 
 less_by : (s : SessionState) (r : Registry) (c n a : ℕ) (o : Option ℕ) → Shows s r → a < length s.passives
     → ((d m : ℕ) → put r.model.passive c (put (r.model.passive c) n (r.model.passive c n - 1)) d m ≡ passive_of (with_one_less s.core c o) d m)
-    → Shows (record s { core = with_one_less s.core c o; passives = set s.passives a None }) (released r c a n)
+    → Shows (record s { core = with_one_less s.core c o; passives = set s.passives a None }) (without_reference r c a n)
 less_by s r c n a None on within held = relabelled s r s.core.passive c n (r.model.passive c n - 1) a None on within held
 less_by s r c n a (Some t) on within held = relabelled s r (with_one_less s.core c (Some t)).passive c n (r.model.passive c n - 1) a None on within held
 
 -- one reference more, of a CPU that has found the entry or holds one to it, for a label
 pub referred_shows : (s : SessionState) (r : Registry) (c n a : ℕ) → Holds s.core → Shows s r → c < s.core.settings.cpus → a < length s.passives
     → (is_number n (found_at s.core c) || nat_lt 0 (passive_of s.core c n)) ≡ true
-    → Shows (record s { core = with_one_more s.core c (slot_of s.core.slots n); passives = set s.passives a (Some (record { cpu = c; number = n })) }) (referred r c a n)
+    → Shows (record s { core = with_one_more s.core c (slot_of s.core.slots n); passives = set s.passives a (Some (record { cpu = c; number = n })) }) (with_reference r c a n)
 referred_shows s r c n a holds on low within has = more_by s r c n a (slot_of s.core.slots n) on within
     (λ d m. put_both r.model.passive (passive_of s.core) c n (r.model.passive c n + 1) (passive_of s.core c n + 1) on.model.held (ap (λ (k : ℕ). k + 1) (on.model.held c n)) d m
     ∙ sym (counted_more s.core c n holds low has d m))
@@ -171,7 +171,7 @@ referred_shows s r c n a holds on low within has = more_by s r c n a (slot_of s.
 -- one less, and the label stands for none
 pub released_shows : (s : SessionState) (r : Registry) (c n a : ℕ) → Holds s.core → Shows s r → c < s.core.settings.cpus → a < length s.passives
     → nat_lt 0 (passive_of s.core c n) ≡ true
-    → Shows (record s { core = with_one_less s.core c (slot_of s.core.slots n); passives = set s.passives a None }) (released r c a n)
+    → Shows (record s { core = with_one_less s.core c (slot_of s.core.slots n); passives = set s.passives a None }) (without_reference r c a n)
 released_shows s r c n a holds on low within has = less_by s r c n a (slot_of s.core.slots n) on within
     (λ d m. put_both r.model.passive (passive_of s.core) c n (r.model.passive c n - 1) (passive_of s.core c n - 1) on.model.held (ap (λ (k : ℕ). k - 1) (on.model.held c n)) d m
     ∙ sym (counted_less s.core c n holds low has d m))
@@ -192,11 +192,11 @@ one_by false p q is = absurd (Err_Ok PassiveFull q is)
 one_tells : (s : State) (c n : ℕ) (p : CorePsref) → core.one_more s c n ≡ Ok p → p ≡ record { cpu = c; number = n }
 one_tells s c n p is = one_by (nat_lt (passive_of s c n) s.settings.passive_limit) (record { cpu = c; number = n }) p is
 
-pub acquired_tells : (s : State) (c : ℕ) (o : Option Entry) (p : CorePsref) → acquired s c o ≡ Ok p → (e : Entry) × (o ≡ Some e) × (p ≡ record { cpu = c; number = e.number })
+pub acquired_tells : (s : State) (c : ℕ) (o : Option Entry) (p : CorePsref) → psref_to_found s c o ≡ Ok p → (e : Entry) × (o ≡ Some e) × (p ≡ record { cpu = c; number = e.number })
 acquired_tells s c None p is = absurd (Err_Ok NothingFound p is)
 acquired_tells s c (Some e) p is = (e, refl, one_tells s c e.number p is)
 
-pub copied_tells : (s : State) (c n : ℕ) (refusal : Option Refusal) (p : CorePsref) → copied s c n refusal ≡ Ok p → (refusal ≡ None) × (p ≡ record { cpu = c; number = n })
+pub copied_tells : (s : State) (c n : ℕ) (refusal : Option Refusal) (p : CorePsref) → psref_copy s c n refusal ≡ Ok p → (refusal ≡ None) × (p ≡ record { cpu = c; number = n })
 copied_tells s c n None p is = (refl, one_tells s c n p is)
 copied_tells s c n (Some f) p is = absurd (Err_Ok f p is)
 
@@ -213,29 +213,29 @@ used_tells s c p is =
 
 -- what an acquire leaves
 pub acquire_shows : (s : SessionState) (r : Registry) (c a : ℕ) (p : CorePsref) → Holds s.core → Shows s r → c < s.core.settings.cpus → a < length s.passives
-    → acquired s.core c (found_at s.core c) ≡ Ok p
-    → Shows (record s { core = core.after_acquire s.core c (Ok p); passives = set s.passives a (Some p) }) (referred r c a p.number)
+    → psref_to_found s.core c (found_at s.core c) ≡ Ok p
+    → Shows (record s { core = core.after_acquire s.core c (Ok p); passives = set s.passives a (Some p) }) (with_reference r c a p.number)
 acquire_shows s r c a p holds on low within answer =
     let told = acquired_tells s.core c (found_at s.core c) p answer in
     let e = told.0 in
     let has : is_number e.number (found_at s.core c) ≡ true = ap (is_number e.number) told.1 ∙ eq-eqb e.number e.number refl in
-    subst (λ (q : CorePsref). Shows (record s { core = core.after_acquire s.core c (Ok q); passives = set s.passives a (Some q) }) (referred r c a q.number)) (sym told.2)
+    subst (λ (q : CorePsref). Shows (record s { core = core.after_acquire s.core c (Ok q); passives = set s.passives a (Some q) }) (with_reference r c a q.number)) (sym told.2)
     (referred_shows s r c e.number a holds on low within (or_left (is_number e.number (found_at s.core c)) (nat_lt 0 (passive_of s.core c e.number)) has))
 
 -- what a copy leaves
 pub copy_shows : (s : SessionState) (r : Registry) (c b : ℕ) (p q : CorePsref) → Holds s.core → Shows s r → c < s.core.settings.cpus → b < length s.passives
-    → copied s.core c p.number (refusal_of s.core c p) ≡ Ok q
-    → Shows (record s { core = core.after_acquire s.core c (Ok q); passives = set s.passives b (Some q) }) (referred r c b q.number)
+    → psref_copy s.core c p.number (refusal_of s.core c p) ≡ Ok q
+    → Shows (record s { core = core.after_acquire s.core c (Ok q); passives = set s.passives b (Some q) }) (with_reference r c b q.number)
 copy_shows s r c b p q holds on low within answer =
     let told = copied_tells s.core c p.number (refusal_of s.core c p) q answer in
     let held = (used_tells s.core c p told.0).1 in
-    subst (λ (x : CorePsref). Shows (record s { core = core.after_acquire s.core c (Ok x); passives = set s.passives b (Some x) }) (referred r c b x.number)) (sym told.1)
+    subst (λ (x : CorePsref). Shows (record s { core = core.after_acquire s.core c (Ok x); passives = set s.passives b (Some x) }) (with_reference r c b x.number)) (sym told.1)
     (referred_shows s r c p.number b holds on low within (or_right (is_number p.number (found_at s.core c)) (nat_lt 0 (passive_of s.core c p.number)) held))
 
 -- what a release leaves
 pub release_shows : (s : SessionState) (r : Registry) (c a : ℕ) (p : CorePsref) → Holds s.core → Shows s r → c < s.core.settings.cpus → a < length s.passives
     → refusal_of s.core c p ≡ None
-    → Shows (record s { core = core.after_release {X = Unit {0}} s.core c p.number (Ok tt); passives = set s.passives a None }) (released r c a p.number)
+    → Shows (record s { core = core.after_release {X = Unit {0}} s.core c p.number (Ok tt); passives = set s.passives a None }) (without_reference r c a p.number)
 release_shows s r c a p holds on low within answer = released_shows s r c p.number a holds on low within (used_tells s.core c p answer).1
 
 -- a read leaves what there was, refused or not
@@ -260,17 +260,17 @@ at_taken_label {L} label l answer is = ap (λ (o : Option L). if_free o answer) 
 
 -- a command's answer, where its labels stand for what it needs
 pub reference_answers : (s : SessionState) (r : Registry) (c a : ℕ) → Shows s r → get_or s.passives a None ≡ None
-    → reference_answer r c a ≡ hitched (number_if (acquired s.core c (found_at s.core c)))
+    → reference_answer r c a ≡ command_answer (number_if (psref_to_found s.core c (found_at s.core c)))
 reference_answers s r c a on free =
-    at_free_label (r.passive_labels a) (hitched (acquire_answer r c (r.model.found c))) (passive_label_is s r a None on free)
-    ∙ ap hitched (sym (acquire_answers s r c on))
+    at_free_label (r.passive_labels a) (command_answer (acquire_answer r c (r.model.found c))) (passive_label_is s r a None on free)
+    ∙ ap command_answer (sym (acquire_answers s r c on))
 
 pub copy_reference_answers : (s : SessionState) (r : Registry) (c a b : ℕ) (p : CorePsref) → Shows s r → get_or s.passives a None ≡ Some p → get_or s.passives b None ≡ None
-    → copy_answer r c a b ≡ hitched (number_if (copied s.core c p.number (refusal_of s.core c p)))
+    → copy_answer r c a b ≡ command_answer (number_if (psref_copy s.core c p.number (refusal_of s.core c p)))
 copy_reference_answers s r c a b p on at free =
-    at_label (r.passive_labels a) p (λ q. if_free (r.passive_labels b) (hitched (unless (misuse r c q) (one_more r c q.number)))) (passive_label_is s r a (Some p) on at)
-    ∙ (at_free_label (r.passive_labels b) (hitched (unless (misuse r c p) (one_more r c p.number))) (passive_label_is s r b None on free)
-    ∙ ap hitched (sym (copy_answers s r c p on)))
+    at_label (r.passive_labels a) p (λ q. if_free (r.passive_labels b) (command_answer (unless (misuse r c q) (one_more r c q.number)))) (passive_label_is s r a (Some p) on at)
+    ∙ (at_free_label (r.passive_labels b) (command_answer (unless (misuse r c p) (one_more r c p.number))) (passive_label_is s r b None on free)
+    ∙ ap command_answer (sym (copy_answers s r c p on)))
 
 pub held_answers : (s : SessionState) (r : Registry) (c a : ℕ) (p : CorePsref) → Shows s r → get_or s.passives a None ≡ Some p → held_answer r c a ≡ Ok (nat_lt 0 (passive_of s.core c p.number))
 held_answers s r c a p on at =
@@ -278,16 +278,16 @@ held_answers s r c a p on at =
     ∙ ap (λ (b : Bool). Ok b) (sym (held_is s r c p on))
 
 pub read_reference_answers : (s : SessionState) (r : Registry) (c a : ℕ) (p : CorePsref) (result : Result Record Refusal) → Shows s r → get_or s.passives a None ≡ Some p
-    → Answers (refusal_of s.core c p) (IsRecordOf s.core.history p.number) result → read_answer r c a ≡ hitched (image (read_of p.number) result)
+    → Answers (refusal_of s.core c p) (IsRecordOf s.core.history p.number) result → read_answer r c a ≡ command_answer (image (read_of p.number) result)
 read_reference_answers s r c a p result on at is =
-    at_label (r.passive_labels a) p (λ q. hitched (unless (misuse r c q) (Ok (reading r q.number)))) (passive_label_is s r a (Some p) on at)
-    ∙ ap hitched (sym (read_answers s r c p result on is))
+    at_label (r.passive_labels a) p (λ q. command_answer (unless (misuse r c q) (Ok (reading_of r q.number)))) (passive_label_is s r a (Some p) on at)
+    ∙ ap command_answer (sym (read_answers s r c p result on is))
 
 pub release_reference_answers : (s : SessionState) (r : Registry) (c a : ℕ) (p : CorePsref) (result : Result (Unit {0}) Refusal) → Shows s r → get_or s.passives a None ≡ Some p
-    → Answers (refusal_of s.core c p) (λ done. Unit {0}) result → release_answer r c a ≡ hitched (image (λ done. p.number) result)
+    → Answers (refusal_of s.core c p) (λ done. Unit {0}) result → release_answer r c a ≡ command_answer (image (λ done. p.number) result)
 release_reference_answers s r c a p result on at is =
-    at_label (r.passive_labels a) p (λ q. hitched (unless (misuse r c q) (Ok q.number))) (passive_label_is s r a (Some p) on at)
-    ∙ ap hitched (sym (release_answers s r c p result on is))
+    at_label (r.passive_labels a) p (λ q. command_answer (unless (misuse r c q) (Ok q.number))) (passive_label_is s r a (Some p) on at)
+    ∙ ap command_answer (sym (release_answers s r c p result on is))
 
 -- Sessions
 
@@ -299,7 +299,7 @@ same_session s now passives session holds quiet same long = record {
   quiet = quiet;
   passive_labels = long ∙ session.passive_labels;
   local_labels = session.local_labels;
-  live = λ x id at. ap (λ (places : List LocalPlace). is_some (standing (local_at places id))) same ∙ session.live x id at;
+  live = λ x id at. ap (λ (places : List LocalPlace). is_some (number_standing (local_at places id))) same ∙ session.live x id at;
   apart = session.apart;
 }
 

@@ -22,7 +22,7 @@ use Rattle.registry_report.specs.Answers.{is_inside, enter_answer, may_begin}
 use Rattle.registry_report.specs.Registry.{Registry}
 use Rattle.registry_report.specs.Session.{SessionState, with_core}
 use Rattle.registry_report.specs.Shows.{Shows, SnapshotsFollow}
-use Rattle.registry_report.specs.Turns.{on_ok, entered, exited, begun_section, ended_section, looked_up}
+use Rattle.registry_report.specs.Turns.{on_ok, with_section_entered, with_section_exited, with_section_begun, with_section_ended, with_found}
 use Rattle.protocol.proofs.slots.Cells.{by_place}
 use Rattle.protocol.proofs.model.Picturing.{put_here, put_other}
 use Rattle.registry_report.proofs.shows.Showing.{put_shows, twice_less}
@@ -104,7 +104,7 @@ ended_turns section begins begun c b sc bc in_ was j = by_place
 
 -- the outermost section begins
 begun_shows : (s : SessionState) (r : Registry) (c : ℕ) → Holds s.core → Shows s r → c < s.core.settings.cpus → begin_at s.core c ≡ None
-    → Shows (with_core s (events.after_enter (all_seated s.core) c)) (begun_section r c)
+    → Shows (with_core s (events.after_enter (all_seated s.core) c)) (with_section_begun r c)
 begun_shows s r c holds on lt out = record {
   settings = on.settings;
   model = record {
@@ -128,7 +128,7 @@ begun_shows s r c holds on lt out = record {
 
 -- the outermost section ends
 ended_shows : (s : SessionState) (r : Registry) (c b : ℕ) → Holds s.core → Shows s r → c < s.core.settings.cpus → begin_at s.core c ≡ Some b
-    → Shows (with_core s (events.after_exit (all_seated s.core) c)) (ended_section r c)
+    → Shows (with_core s (events.after_exit (all_seated s.core) c)) (with_section_ended r c)
 ended_shows s r c b holds on lt in_ = record {
   settings = on.settings;
   model = record {
@@ -157,46 +157,46 @@ out_from None is = refl
 out_from (Some b) is = absurd (let q : ◌≡◌ {A = Bool} true false = is in cc)
 
 entered_by : (s : SessionState) (r : Registry) (c : ℕ) (b : Bool) → Holds s.core → Shows s r → c < s.core.settings.cpus → events.is_inside s.core c ≡ b
-    → Shows (with_core s (if b then with_depth s.core c (depth_at s.core c + 1) else events.after_enter (all_seated s.core) c)) (if b then record r { depths = put r.depths c (r.depths c + 1) } else begun_section r c)
+    → Shows (with_core s (if b then with_depth s.core c (depth_at s.core c + 1) else events.after_enter (all_seated s.core) c)) (if b then record r { depths = put r.depths c (r.depths c + 1) } else with_section_begun r c)
 entered_by s r c true holds on lt is = nested_shows s r c (r.depths c + 1) (depth_at s.core c + 1) holds on lt (ap (λ (d : ℕ). d + 1) (on.sections.deep c))
 entered_by s r c false holds on lt is = begun_shows s r c holds on lt (out_from (begin_at s.core c) is)
 
-pub entered_shows : (s : SessionState) (r : Registry) (c : ℕ) → Holds s.core → Shows s r → c < s.core.settings.cpus → Shows (with_core s (core.entered s.core c)) (entered r c)
+pub entered_shows : (s : SessionState) (r : Registry) (c : ℕ) → Holds s.core → Shows s r → c < s.core.settings.cpus → Shows (with_core s (core.with_section_entered s.core c)) (with_section_entered r c)
 entered_shows s r c holds on lt =
-    subst (λ (b : Bool). Shows (with_core s (core.entered s.core c)) (if b then record r { depths = put r.depths c (r.depths c + 1) } else begun_section r c)) (sym (inside_is s r c on))
+    subst (λ (b : Bool). Shows (with_core s (core.with_section_entered s.core c)) (if b then record r { depths = put r.depths c (r.depths c + 1) } else with_section_begun r c)) (sym (inside_is s r c on))
     (entered_by s r c (events.is_inside s.core c) holds on lt refl)
 
 enter_by : (s : SessionState) (r : Registry) (c : ℕ) (a : Result (Unit {0}) Refusal) → Holds s.core → Shows s r → c < s.core.settings.cpus
-    → Shows (with_core s (if is_ok a then core.entered s.core c else s.core)) (on_ok r a (λ done. entered r c))
+    → Shows (with_core s (if is_ok a then core.with_section_entered s.core c else s.core)) (on_ok r a (λ done. with_section_entered r c))
 enter_by s r c (Ok done) holds on lt = entered_shows s r c holds on lt
 enter_by s r c (Err f) holds on lt = on
 
 -- what an enter leaves
 pub enter_shows : (s : SessionState) (r : Registry) (c : ℕ) → Holds s.core → Shows s r → c < s.core.settings.cpus
-    → Shows (with_core s (after_enter_command s.core c)) (on_ok r (enter_answer r c) (λ done. entered r c))
+    → Shows (with_core s (after_enter_command s.core c)) (on_ok r (enter_answer r c) (λ done. with_section_entered r c))
 enter_shows s r c holds on lt =
-    subst (λ (a : Result (Unit {0}) Refusal). Shows (with_core s (after_enter_command s.core c)) (on_ok r a (λ done. entered r c))) (enter_answers s r c on)
+    subst (λ (a : Result (Unit {0}) Refusal). Shows (with_core s (after_enter_command s.core c)) (on_ok r a (λ done. with_section_entered r c))) (enter_answers s r c on)
     (enter_by s r c (core.enter_answer s.core c) holds on lt)
 
 -- Exit
 
 exit_by : (s : SessionState) (r : Registry) (c b : ℕ) (last : Bool) → Holds s.core → Shows s r → c < s.core.settings.cpus → begin_at s.core c ≡ Some b
-    → Shows (with_core s (if last then events.after_exit (all_seated s.core) c else with_depth s.core c (depth_at s.core c - 1))) (exited r c (not last))
+    → Shows (with_core s (if last then events.after_exit (all_seated s.core) c else with_depth s.core c (depth_at s.core c - 1))) (with_section_exited r c (not last))
 exit_by s r c b true holds on lt in_ = ended_shows s r c b holds on lt in_
 exit_by s r c b false holds on lt in_ = nested_shows s r c (r.depths c - 1) (depth_at s.core c - 1) holds on lt (ap (λ (d : ℕ). d - 1) (on.sections.deep c))
 
 -- what an exit leaves, inside a section
 pub exit_shows : (s : SessionState) (r : Registry) (c : ℕ) → Holds s.core → Shows s r → c < s.core.settings.cpus → events.is_inside s.core c ≡ true
-    → Shows (with_core s (after_exit_command s.core c)) (exited r c (not (r.depths c == 1)))
+    → Shows (with_core s (after_exit_command s.core c)) (with_section_exited r c (not (r.depths c == 1)))
 exit_shows s r c holds on lt in_ =
     let begun = some_from (begin_at s.core c) in_ in
-    subst (λ (d : ℕ). Shows (with_core s (after_exit_command s.core c)) (exited r c (not (d == 1)))) (sym (on.sections.deep c))
+    subst (λ (d : ℕ). Shows (with_core s (after_exit_command s.core c)) (with_section_exited r c (not (d == 1)))) (sym (on.sections.deep c))
     (exit_by s r c begun.0 (depth_at s.core c == 1) holds on lt begun.1)
 
 -- Find
 
 -- what a lookup leaves
-pub found_shows : (s : SessionState) (r : Registry) (c : ℕ) (answer : Option Entry) → Holds s.core → Shows s r → c < s.core.settings.cpus → Shows (with_core s (after_find (all_seated s.core) c answer)) (looked_up r c answer)
+pub found_shows : (s : SessionState) (r : Registry) (c : ℕ) (answer : Option Entry) → Holds s.core → Shows s r → c < s.core.settings.cpus → Shows (with_core s (after_find (all_seated s.core) c answer)) (with_found r c answer)
 found_shows s r c answer holds on lt = record {
   settings = on.settings;
   model = record {

@@ -17,15 +17,15 @@ use Rattle.registry_values.specs.declared.slot.Slot.{Slot}
 use Rattle.registry_values.specs.declared.slot.Slot.TheVariants.{Vacant, Live, Retired}
 use Rattle.passive_core.specs.Advancing as core
 use Rattle.passive_core.specs.Advancing.{AdvanceLeaves, DestroyLeaves, LeavesFree, LeavesMarks, LeavesTotal, StageLeaves, is_open_since, is_snapshot}
-use Rattle.registry_values.specs.Answers.{waiting_for}
+use Rattle.registry_values.specs.Answers.{wait_answer}
 use Rattle.protocol.specs.Marking.{MarksGrow, SameElsewhere}
-use Rattle.registry_values.specs.Stages.{destroyed, destroyed_if, stage_of}
+use Rattle.registry_values.specs.Stages.{destroy_result, destroy_result_of, stage_of}
 use Rattle.registry_values.specs.Slots as values
 use Rattle.registry_values.specs.Slots.{is_retired_as, has_number, is_retired, slot_at}
 use Rattle.registry_values.specs.Marks.{least_below, no_mark}
 use Rattle.passive_core.specs.Commands.{IsQuiet, all_seated}
 use Rattle.protocol.specs.Events as events
-use Rattle.protocol.specs.Invariant.{Holds, IsIn, SlotsShow, held_at, in_hand, one_if, subtracting_at}
+use Rattle.protocol.specs.Invariant.{Holds, IsIn, SlotsShow, held_at, in_hand, one_if, subtraction_due_at}
 use Rattle.protocol.specs.Model.{put}
 use Rattle.passive_core.specs.Performing as performing
 use Rattle.passive_core.specs.Performing.{PerformLeaves}
@@ -43,12 +43,12 @@ use Rattle.protocol.proofs.slots.Occupied.{at_rest_tells, attached_in, has_it, i
 use Rattle.protocol.proofs.model.Picturing.{put_here, put_is, put_other, unwritten}
 use Rattle.protocol.proofs.model.RefiningEntries.{passive_moved}
 use Rattle.protocol.proofs.keeps.Searching.{within_some}
-use Rattle.registry_report.specs.Answers.{advance_answer, count_below, destroy_answer, is_inside, perform_answer, has_passive, has_section, held, is_this, plain_stage, retired_slot, stage_in}
+use Rattle.registry_report.specs.Answers.{advance_answer, count_below, destroy_answer, is_inside, perform_answer, has_passive, has_section, held_count, is_this, plain_stage, retired_slot, stage_in}
 use Rattle.registry_report.specs.Changes.{end_of, has_ended, may_hold}
 use Rattle.registry_report.specs.Registry.{Registry}
 use Rattle.registry_report.specs.Session.{IsSession, SessionState, with_core}
 use Rattle.registry_report.specs.Shows.{CountsLive, Shows, ShowsModel, ShowsTallies, SnapshotsFollow}
-use Rattle.registry_report.specs.Turns.{after_advance, after_destroy, freed, on_ok, staged}
+use Rattle.registry_report.specs.Turns.{after_advance, after_destroy, with_freed, on_ok, after_stage}
 use Rattle.registry_report.proofs.Below.{kept_is, position_is, same_count}
 use Rattle.registry_report.proofs.Lookups.{end_is, end_tells}
 use Rattle.registry_report.proofs.shows.Sectioned.{inside_is}
@@ -67,10 +67,10 @@ pub hands_empty : (s : State) → Holds s → IsQuiet s → (c : ℕ) → hand_a
 hands_empty s on quiet c = empty_tells (hand_at s c) (and_parts _ (is_empty (hand_at s c)) (acts_free s c on (quiet.ready c))).1
 
 -- the local references held
-pub held_is : (s : SessionState) (r : Registry) (n t : ℕ) → IsSession s → Shows s r → held_at s.core.locals s.core.hands s.core.keeps s.core.due n t ≡ held r n
+pub held_is : (s : SessionState) (r : Registry) (n t : ℕ) → IsSession s → Shows s r → held_at s.core.locals s.core.hands s.core.keeps s.core.due n t ≡ held_count r n
 held_is s r n t is on =
     let hands : sum_by (in_hand n) s.core.hands ≡ 0 = no_hand n s.core.hands (λ c named. none-some n (ap number_of (sym (hands_empty s.core is.holds is.quiet c)) ∙ named)) in
-    let due : subtracting_at t s.core.due ≡ 0 = ap (subtracting_at t) (at_rest_tells s.core.due is.quiet.rest) in
+    let due : subtraction_due_at t s.core.due ≡ 0 = ap (subtraction_due_at t) (at_rest_tells s.core.due is.quiet.rest) in
     let slots : length s.core.keeps ≡ r.settings.slots = is.holds.shape.keeps ∙ sym (ap (λ z. z.slots) on.settings) in
     let keeps = kept_is n s.core.keeps ∙ (same_count _ _ (length s.core.keeps) (λ u lt. ap (is_this n) (sym (on.model.kept u))) ∙ ap (count_below (λ u. is_this n (r.model.keeps u))) slots) in
     omega (arith, hands, due, keeps, on.model.counted n)
@@ -253,8 +253,8 @@ drained_shows s r k t j e holds on gone left = subst (λ (x : State). Shows (wit
 
 -- the slot is vacant: who was elsewhere stays, and what an other slot kept is given up
 freed_tallies : (cpus : ℕ) (h : List Change) (slots : List Slot) (counts now nets : List (List ℕ)) (totals left : List ℕ) (acquired released : ℕ → ℕ → ℕ) (given more : ℕ → ℕ) (drained : ℕ → Bool) (t : ℕ) (e : Entry) (kept : Option ℕ)
-    → slot_at slots t ≡ Retired e → SameElsewhere counts now t → ((u : ℕ) → (u ≡ t → ⊥) → total_at left u + core.given_up kept (slot_at slots u) ≡ total_at totals u)
-    → ((u : ℕ) (f : Entry) → IsIn f (slot_at slots u) → more f.number ≡ given f.number + core.given_up kept (slot_at slots u)) → ((m : ℕ) → length h < m → more m ≡ given m)
+    → slot_at slots t ≡ Retired e → SameElsewhere counts now t → ((u : ℕ) → (u ≡ t → ⊥) → total_at left u + core.count_given_up kept (slot_at slots u) ≡ total_at totals u)
+    → ((u : ℕ) (f : Entry) → IsIn f (slot_at slots u) → more f.number ≡ given f.number + core.count_given_up kept (slot_at slots u)) → ((m : ℕ) → length h < m → more m ≡ given m)
     → ShowsTallies cpus h slots counts nets totals acquired released given drained → ShowsTallies cpus h (set slots t Vacant) now nets left acquired released more drained
 freed_tallies cpus h slots counts now nets totals left acquired released given more drained t e kept gone elsewhere same gives fresh was = record {
   net = λ u c f is. was.net u c f (stays u f is).1;
@@ -279,7 +279,7 @@ lacks_it n e x is off = ⊎_elim
     is
 
 -- what the kept driver gives up
-gives_one : (slots : List Slot) (given : ℕ → ℕ) (d u : ℕ) (f : Entry) → IsIn f (slot_at slots u) → put given d (given d + 1) f.number ≡ given f.number + core.given_up (Some d) (slot_at slots u)
+gives_one : (slots : List Slot) (given : ℕ → ℕ) (d u : ℕ) (f : Entry) → IsIn f (slot_at slots u) → put given d (given d + 1) f.number ≡ given f.number + core.count_given_up (Some d) (slot_at slots u)
 gives_one slots given d u f is = ⊎_elim
     (λ (same : f.number ≡ d).
     let has : one_if (has_number d (slot_at slots u)) ≡ 1 = ap one_if (has_it d f (slot_at slots u) is same) in
@@ -328,7 +328,7 @@ freed_model s r k t e keeps holds on u kept = record {
 }
 
 freed_by : (s : SessionState) (r : Registry) (k : State) (t : ℕ) (e : Entry) (o : Option ℕ) → Holds s.core → Shows s r → Unheld s.core k t e → kept_at s.core.keeps t ≡ o
-    → Shows (with_core s (record s.core { seated = s.core.settings.cpus; marks = k.marks; counts = k.counts; totals = k.totals; slots = set s.core.slots t Vacant; keeps = set s.core.keeps t None })) (freed r t o)
+    → Shows (with_core s (record s.core { seated = s.core.settings.cpus; marks = k.marks; counts = k.counts; totals = k.totals; slots = set s.core.slots t Vacant; keeps = set s.core.keeps t None })) (with_freed r t o)
 freed_by s r k t e None holds on u at = record {
   settings = on.settings;
   model = freed_model s r k t e r.model.keeps holds on u (λ v. on.model.kept v ∙ unwritten (λ (x : Option ℕ). x) None s.core.keeps t None at v);
@@ -337,7 +337,7 @@ freed_by s r k t e None holds on u at = record {
   grace = vacant_follows s.core.history s.core.slots k.marks s.core.section s.core.begins t e u.gone
       (grown_follows s.core.history s.core.slots s.core.marks k.marks s.core.section s.core.begins (grown_snapshots s.core.marks k.marks t u.left.marks) on.grace);
   tallies = freed_tallies s.core.settings.cpus s.core.history s.core.slots s.core.counts k.counts s.core.nets s.core.totals k.totals r.acquired r.released r.given_up r.given_up r.drained t e None
-      u.gone u.left.counts (λ v off. ap (λ (x : Option ℕ). total_at k.totals v + core.given_up x (slot_at s.core.slots v)) (sym at) ∙ u.left.totals v off) (λ v f is. omega arith) (λ m above. refl) on.tallies;
+      u.gone u.left.counts (λ v off. ap (λ (x : Option ℕ). total_at k.totals v + core.count_given_up x (slot_at s.core.slots v)) (sym at) ∙ u.left.totals v off) (λ v f is. omega arith) (λ m above. refl) on.tallies;
   labels = on.labels;
 }
 freed_by s r k t e (Some d) holds on u at =
@@ -351,14 +351,14 @@ freed_by s r k t e (Some d) holds on u at =
       grace = vacant_follows s.core.history s.core.slots k.marks s.core.section s.core.begins t e u.gone
           (grown_follows s.core.history s.core.slots s.core.marks k.marks s.core.section s.core.begins (grown_snapshots s.core.marks k.marks t u.left.marks) on.grace);
       tallies = freed_tallies s.core.settings.cpus s.core.history s.core.slots s.core.counts k.counts s.core.nets s.core.totals k.totals r.acquired r.released r.given_up (put r.given_up d (r.given_up d + 1)) r.drained t e (Some d)
-          u.gone u.left.counts (λ v off. ap (λ (x : Option ℕ). total_at k.totals v + core.given_up x (slot_at s.core.slots v)) (sym at) ∙ u.left.totals v off)
+          u.gone u.left.counts (λ v off. ap (λ (x : Option ℕ). total_at k.totals v + core.count_given_up x (slot_at s.core.slots v)) (sym at) ∙ u.left.totals v off)
           (λ v f is. gives_one s.core.slots r.given_up d v f is)
           (λ m above. put_other r.given_up d (r.given_up d + 1) m (λ same. omega (arith, same, above, driver.3, number_within s.core.history s.core.slots driver.0 driver.1 holds.slots driver.2))) on.tallies;
       labels = on.labels;
     }
 
-freed_shows : (s : SessionState) (r : Registry) (k : State) (t : ℕ) (e : Entry) → Holds s.core → Shows s r → Unheld s.core k t e → Shows (with_core s k) (freed r t (r.model.keeps t))
-freed_shows s r k t e holds on u = subst (λ (x : State). Shows (with_core s x) (freed r t (r.model.keeps t))) (sym u.left.only) (freed_by s r k t e (r.model.keeps t) holds on u (sym (on.model.kept t)))
+freed_shows : (s : SessionState) (r : Registry) (k : State) (t : ℕ) (e : Entry) → Holds s.core → Shows s r → Unheld s.core k t e → Shows (with_core s k) (with_freed r t (r.model.keeps t))
+freed_shows s r k t e holds on u = subst (λ (x : State). Shows (with_core s x) (with_freed r t (r.model.keeps t))) (sym u.left.only) (freed_by s r k t e (r.model.keeps t) holds on u (sym (on.model.kept t)))
 
 -- What an advance leaves
 
@@ -385,7 +385,7 @@ unheld_at s k n t u e holds now stage gone left = record {
 }
 
 staged_shows : (s : SessionState) (r : Registry) (k : State) (n t : ℕ) (stage : Stage) → Holds s.core → Holds k → Shows s r → core.plain_stage s.core t n ≡ stage → values.retired_slot s.core.slots n ≡ Some t → StageLeaves s.core k t stage
-    → Shows (with_core s k) (staged r n stage)
+    → Shows (with_core s k) (after_stage r n stage)
 staged_shows s r k n t (Grace c) holds now on is at left = marks_shows s r k t on left
 staged_shows s r k n t (Passive c) holds now on is at left = marks_shows s r k t on left
 staged_shows s r k n t (Local j) holds now on is at left =
@@ -394,13 +394,13 @@ staged_shows s r k n t (Local j) holds now on is at left =
 staged_shows s r k n t (Freed u) holds now on is at left =
     let told = retired_slot_tells s.core.slots n t at in
     let here : t ≡ u = sym (free_tells t u _ _ _ is).0 in
-    subst (λ v. Shows (with_core s k) (freed r v (r.model.keeps v))) here (freed_shows s r k t told.1.0 holds on (unheld_at s k n t u told.1.0 holds now is told.1.1 left))
+    subst (λ v. Shows (with_core s k) (with_freed r v (r.model.keeps v))) here (freed_shows s r k t told.1.0 holds on (unheld_at s k n t u told.1.0 holds now is told.1.1 left))
 
 same_stage : (a b : Stage) → ◌≡◌ {A = Result Stage Refusal} (Ok a) (Ok b) → a ≡ b
 same_stage a b is = cc
 
 advance_by : (s : SessionState) (r : Registry) (k : State) (n : ℕ) (answer : Result Stage Refusal) → Holds s.core → Holds k → Shows s r → core.advance_answer s.core n ≡ answer → AdvanceLeaves s.core k n answer
-    → Shows (with_core s k) (on_ok r answer (staged r n))
+    → Shows (with_core s k) (on_ok r answer (after_stage r n))
 advance_by s r k n (Err f) holds now on is left = subst (λ (x : State). Shows (with_core s x) r) (sym left) on
 advance_by s r k n (Ok stage) holds now on is left =
     staged_shows s r k n left.0 stage holds now on (same_stage (core.plain_stage s.core left.0 n) stage (ap (core.stage_in s.core n) (sym left.1) ∙ is)) left.1 left.2
@@ -408,7 +408,7 @@ advance_by s r k n (Ok stage) holds now on is left =
 -- What an advance leaves shows what it leaves of the registry.
 pub advance_shows : (s : SessionState) (r : Registry) (k : State) (n : ℕ) → IsSession s → Holds k → Shows s r → AdvanceLeaves s.core k n (core.advance_answer s.core n) → Shows (with_core s k) (after_advance r n)
 advance_shows s r k n is now on left =
-    subst (λ (a : Result Stage Refusal). Shows (with_core s k) (on_ok r a (staged r n))) (advance_answers s r n is on)
+    subst (λ (a : Result Stage Refusal). Shows (with_core s k) (on_ok r a (after_stage r n))) (advance_answers s r n is on)
     (advance_by s r k n (core.advance_answer s.core n) is.holds now on refl left)
 
 -- Destroy
@@ -417,20 +417,20 @@ pub destroy_answers : (s : SessionState) (r : Registry) (c n : ℕ) → IsSessio
 destroy_answers s r c n is on =
     let inside = sym (inside_is s r c on) in
     let answer = advance_answers s r n is on in
-    λ i. if inside i then Err Inside else destroyed_if (answer i)
+    λ i. if inside i then Err Inside else destroy_result_of (answer i)
 
 -- what is left of the last turn of a destroy is what an advance leaves
-stage_leaves : (s k : State) (n : ℕ) (stage : Stage) → DestroyLeaves s k n (destroyed stage) → AdvanceLeaves s k n (Ok stage)
+stage_leaves : (s k : State) (n : ℕ) (stage : Stage) → DestroyLeaves s k n (destroy_result stage) → AdvanceLeaves s k n (Ok stage)
 stage_leaves s k n (Grace c) left = left
 stage_leaves s k n (Passive c) left = left
 stage_leaves s k n (Local j) left = left
 stage_leaves s k n (Freed t) left = left
 
-turn_leaves : (s k : State) (n : ℕ) (o : Option ℕ) → DestroyLeaves s k n (destroyed_if (core.stage_in s n o)) → AdvanceLeaves s k n (core.stage_in s n o)
+turn_leaves : (s k : State) (n : ℕ) (o : Option ℕ) → DestroyLeaves s k n (destroy_result_of (core.stage_in s n o)) → AdvanceLeaves s k n (core.stage_in s n o)
 turn_leaves s k n None left = left
 turn_leaves s k n (Some t) left = stage_leaves s k n (core.plain_stage s t n) left
 
-destroy_by : (s : SessionState) (r : Registry) (k : State) (n : ℕ) (b : Bool) → IsSession s → Holds k → Shows s r → DestroyLeaves s.core k n (if b then Err Inside else destroyed_if (core.advance_answer s.core n))
+destroy_by : (s : SessionState) (r : Registry) (k : State) (n : ℕ) (b : Bool) → IsSession s → Holds k → Shows s r → DestroyLeaves s.core k n (if b then Err Inside else destroy_result_of (core.advance_answer s.core n))
     → Shows (with_core s k) (if b then r else after_advance r n)
 destroy_by s r k n true is now on left = subst (λ (x : State). Shows (with_core s x) r) (sym left) on
 destroy_by s r k n false is now on left = advance_shows s r k n is now on (turn_leaves s.core k n (values.retired_slot s.core.slots n) left)
@@ -448,16 +448,16 @@ perform_answers s r c on =
     let cpus : s.core.settings.cpus ≡ r.settings.cpus = sym (ap (λ z. z.cpus) on.settings) in
     let least : least_below (events.is_inside s.core) s.core.settings.cpus ≡ least_below (is_inside r) r.settings.cpus =
     least_agrees (events.is_inside s.core) (is_inside r) s.core.settings.cpus (λ d lt. sym (inside_is s r d on)) ∙ ap (least_below (is_inside r)) cpus in
-    λ i. if inside i then Err Inside else waiting_for (least i)
+    λ i. if inside i then Err Inside else wait_answer (least i)
 
 seated_shows : (s : SessionState) (r : Registry) → Shows s r → Shows (with_core s (all_seated s.core)) r
 seated_shows s r on = marked_shows s r s.core.marks on (λ u c. refl)
 
-waited_shows : (s : SessionState) (r : Registry) (k : State) (o : Option ℕ) → Shows s r → PerformLeaves s.core k (waiting_for o) → Shows (with_core s k) r
+waited_shows : (s : SessionState) (r : Registry) (k : State) (o : Option ℕ) → Shows s r → PerformLeaves s.core k (wait_answer o) → Shows (with_core s k) r
 waited_shows s r k None on left = subst (λ (x : State). Shows (with_core s x) r) (sym left.only) (marked_shows s r k.marks on (λ u c. (left.marks u c).snapshot))
 waited_shows s r k (Some d) on left = subst (λ (x : State). Shows (with_core s x) r) (sym left) (seated_shows s r on)
 
-perform_by : (s : SessionState) (r : Registry) (k : State) (b : Bool) (o : Option ℕ) → Shows s r → PerformLeaves s.core k (if b then Err Inside else waiting_for o) → Shows (with_core s k) r
+perform_by : (s : SessionState) (r : Registry) (k : State) (b : Bool) (o : Option ℕ) → Shows s r → PerformLeaves s.core k (if b then Err Inside else wait_answer o) → Shows (with_core s k) r
 perform_by s r k true o on left = subst (λ (x : State). Shows (with_core s x) r) (sym left) on
 perform_by s r k false o on left = waited_shows s r k o on left
 

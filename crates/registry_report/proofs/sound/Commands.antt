@@ -9,7 +9,7 @@ use Rattle.registry_language.specs.declared.command.Command.{Command}
 use Rattle.registry_language.specs.declared.command.Command.TheVariants.{Domain, Limits, Attach, Plug, Detach, Enter, Exit, Find, Reference, Copy, Held, Read, Release, Count, Peek, Uncount, Advance, Destroy, Perform, Audit}
 use Rattle.registry_report.specs.Laws.{ReportIsModelRun}
 use Rattle.registry_language.specs.Program.{is_label, suits}
-use Rattle.registry_report.specs.Registry.{Registry, opened}
+use Rattle.registry_report.specs.Registry.{Registry, opening_registry}
 use Rattle.registry_report.specs.Report.{after}
 use Rattle.registry_report.specs.Sound.{IsSound, IsLawfulTurn}
 use Rattle.registry_report.proofs.sound.Turns.{each_turn, idle_turn, opened_sound}
@@ -47,4 +47,4 @@ command_turn r (Perform c turns) on fits = idle_turn r on
 command_turn r Audit on fits = idle_turn r on
 
 pub report_runs : ReportIsModelRun
-report_runs p is = (each_turn after Fits command_turn (opened p.settings) p.commands (opened_sound p.settings) (AllPass-from_list_all (suits p.settings) p.commands is.suited)).1
+report_runs p is = (each_turn after Fits command_turn (opening_registry p.settings) p.commands (opened_sound p.settings) (AllPass-from_list_all (suits p.settings) p.commands is.suited)).1

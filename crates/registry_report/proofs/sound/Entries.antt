@@ -24,12 +24,12 @@ use Rattle.protocol.proofs.model.Picturing.{put_here}
 use Rattle.protocol.proofs.keeps.Publishing.{legal_attach, live_cases}
 use Rattle.protocol.proofs.keeps.SectionKeeps.{none_from}
 use Rattle.protocol.proofs.keeps.Unlinking.{attached_before, legal_detach, was_there}
-use Rattle.registry_values.specs.Answers.{found_or}
-use Rattle.registry_report.specs.Answers.{attach_answer, attach_iface_answer, detach_answer, given_entry, hitched, is_inside, is_plain, lookup_now, plain_slot, room_of, plug_answer, with_label}
+use Rattle.registry_values.specs.Answers.{found_answer}
+use Rattle.registry_report.specs.Answers.{attach_answer, attach_iface_answer, detach_answer, given_entry, command_answer, is_inside, is_plain, lookup_now, plain_slot, room_of, plug_answer, with_label}
 use Rattle.registry_report.specs.Changes.{entry_of, is_driver_entry, is_driver_number}
 use Rattle.registry_report.specs.Registry.{Registry}
 use Rattle.registry_report.specs.Sound.{HasSlot, IsSound, IsSoundModel, IsLawfulTurn}
-use Rattle.registry_report.specs.Turns.{after_plug, attached, detached, keeping, on_ok, on_some, plugged, seeing, with_entry}
+use Rattle.registry_report.specs.Turns.{after_plug, with_attached, with_detached, with_reference_kept, on_ok, on_some, with_attached_iface, with_all_seen, with_entry}
 use Rattle.registry_report.proofs.Lookups.{entry_is, lookup_is}
 use Rattle.registry_report.proofs.sound.Turns.{dropped_counts, else_ok, hitched_ok, idle_turn, labelled_counts, least_some, not_ok, ok_turn, put_capped, put_cases, put_none, same_ok, still_there}
 
@@ -37,7 +37,7 @@ use Rattle.registry_report.proofs.sound.Turns.{dropped_counts, else_ok, hitched_
 
 -- a new entry in a vacant slot
 attach_keeps : (z : Settings) (m : Model) (labels : ℕ → Option ℕ) (c : ℕ) (e : Entry) → IsSoundModel z m labels → m.occupants e.slot ≡ None → e.number ≡ suc (length m.history)
-    → IsLegal (after_change m.history (Attach e)) → IsSoundModel z (seeing (with_entry m e) c) labels
+    → IsLegal (after_change m.history (Attach e)) → IsSoundModel z (with_all_seen (with_entry m e) c) labels
 attach_keeps z m labels c e on vacant number legal =
     let size : length (after_change m.history (Attach e)) ≡ suc (length m.history) = length-after_change m.history (Attach e) in
     let here : (f : Entry) → f ≡ e → put m.occupants e.slot (Some e.number) f.slot ≡ Some f.number =
@@ -71,7 +71,7 @@ attach_keeps z m labels c e on vacant number legal =
 
 -- the end of a live entry
 detach_keeps : (z : Settings) (m : Model) (labels : ℕ → Option ℕ) (c : ℕ) (e : Entry) → IsSoundModel z m labels → IsLiveAt m.history (length m.history) e
-    → IsSoundModel z (seeing (record m { history = after_change m.history (Detach e.number) }) c) labels
+    → IsSoundModel z (with_all_seen (record m { history = after_change m.history (Detach e.number) }) c) labels
 detach_keeps z m labels c e on live =
     let size : length (after_change m.history (Detach e.number)) ≡ suc (length m.history) = length-after_change m.history (Detach e.number) in
     record {
@@ -135,7 +135,7 @@ driver_is Driver is = refl
 
 -- Attach
 
-pub attached_lawful : (r : Registry) (c : ℕ) (rec : Record) (e : Entry) → IsSound r → attach_answer r c rec ≡ Ok e → IsLawfulTurn r (attached r c e)
+pub attached_lawful : (r : Registry) (c : ℕ) (rec : Record) (e : Entry) → IsSound r → attach_answer r c rec ≡ Ok e → IsLawfulTurn r (with_attached r c e)
 attached_lawful r c rec e on is =
     let outside = else_ok (is_inside r c) Inside _ e is in
     let driver = else_ok (is_iface rec.kind) NeedsDriver (given_entry r rec) e outside.1 in
@@ -148,13 +148,13 @@ attached_lawful r c rec e on is =
       refl,
     )
 
-pub attach_turn : (r : Registry) (c : ℕ) (rec : Record) → IsSound r → IsLawfulTurn r (on_ok r (attach_answer r c rec) (attached r c))
-attach_turn r c rec on = ok_turn r (attach_answer r c rec) (attached r c) on (λ e is. attached_lawful r c rec e on is)
+pub attach_turn : (r : Registry) (c : ℕ) (rec : Record) → IsSound r → IsLawfulTurn r (on_ok r (attach_answer r c rec) (with_attached r c))
+attach_turn r c rec on = ok_turn r (attach_answer r c rec) (with_attached r c) on (λ e is. attached_lawful r c rec e on is)
 
 -- Plug
 
 -- a slot takes the reference of a label over
-keep_keeps : (z : Settings) (m : Model) (labels : ℕ → Option ℕ) (t x d : ℕ) → IsSoundModel z m labels → t < z.slots → labels x ≡ Some d → IsSoundModel z (keeping m t d) (put labels x None)
+keep_keeps : (z : Settings) (m : Model) (labels : ℕ → Option ℕ) (t x d : ℕ) → IsSoundModel z m labels → t < z.slots → labels x ≡ Some d → IsSoundModel z (with_reference_kept m t d) (put labels x None)
 keep_keeps z m labels t x d on lt at = record {
   legal = on.legal;
   live = on.live;
@@ -183,7 +183,7 @@ driver_here m d has is = record {
   occupant = has.occupant;
 }
 
-pub plugged_lawful : (r : Registry) (c : ℕ) (rec : Record) (x d : ℕ) (e : Entry) → IsSound r → is_iface rec.kind ≡ true → r.local_labels x ≡ Some d → attach_iface_answer r c rec d ≡ Ok e → IsLawfulTurn r (plugged r c e x d)
+pub plugged_lawful : (r : Registry) (c : ℕ) (rec : Record) (x d : ℕ) (e : Entry) → IsSound r → is_iface rec.kind ≡ true → r.local_labels x ≡ Some d → attach_iface_answer r c rec d ≡ Ok e → IsLawfulTurn r (with_attached_iface r c e x d)
 plugged_lawful r c rec x d e on iface at is =
     let outside = else_ok (is_inside r c) Inside _ e is in
     let driver = else_ok (not (is_driver_number r.model.history d)) NeedsDriver (given_entry r rec) e outside.1 in
@@ -194,17 +194,17 @@ plugged_lawful r c rec x d e on iface at is =
     let rightly : keeps_rightly (put r.model.keeps e.slot (Some d) e.slot) e.rec.kind ≡ true =
     ap (λ (o : Option ℕ). keeps_rightly o e.rec.kind) (put_here r.model.keeps e.slot (Some d)) ∙ (ap (λ (y : Record). is_iface y.kind) given.is ∙ iface) in
     let le : r.model.passes c ≤ length (after_change r.model.history (Attach e)) = omega (arith, on.seen c, length-after_change r.model.history (Attach e)) in (
-      attach_keeps r.settings (keeping r.model e.slot d) (put r.local_labels x None) c e (keep_keeps r.settings r.model r.local_labels e.slot x d on given.within at) given.vacant given.number legal,
-      Goes_on (with_entry (keeping r.model e.slot d) e) _
-          (Goes_on (keeping r.model e.slot d) _ (Goes_on r.model _ Stays (Keeps e.slot d given.vacant given.keepless here some)) (Attaches e given.vacant legal given.number rightly))
+      attach_keeps r.settings (with_reference_kept r.model e.slot d) (put r.local_labels x None) c e (keep_keeps r.settings r.model r.local_labels e.slot x d on given.within at) given.vacant given.number legal,
+      Goes_on (with_entry (with_reference_kept r.model e.slot d) e) _
+          (Goes_on (with_reference_kept r.model e.slot d) _ (Goes_on r.model _ Stays (Keeps e.slot d given.vacant given.keepless here some)) (Attaches e given.vacant legal given.number rightly))
           (Sees c (length (after_change r.model.history (Attach e))) le (omega arith)),
       refl,
     )
 
 plug_by : (r : Registry) (c : ℕ) (rec : Record) (x : ℕ) (o : Option ℕ) → IsSound r → is_iface rec.kind ≡ true → r.local_labels x ≡ o
-    → IsLawfulTurn r (on_some r o (λ d. on_ok r (with_label o (λ d. hitched (attach_iface_answer r c rec d))) (λ e. plugged r c e x d)))
+    → IsLawfulTurn r (on_some r o (λ d. on_ok r (with_label o (λ d. command_answer (attach_iface_answer r c rec d))) (λ e. with_attached_iface r c e x d)))
 plug_by r c rec x None on iface at = idle_turn r on
-plug_by r c rec x (Some d) on iface at = ok_turn r (hitched (attach_iface_answer r c rec d)) (λ e. plugged r c e x d) on
+plug_by r c rec x (Some d) on iface at = ok_turn r (command_answer (attach_iface_answer r c rec d)) (λ e. with_attached_iface r c e x d) on
     (λ e is. plugged_lawful r c rec x d e on iface at (hitched_ok (attach_iface_answer r c rec d) e is))
 
 -- a record that is plugged is an interface's
@@ -213,13 +213,13 @@ plug_turn r c rec x on iface = plug_by r c rec x (r.local_labels x) on iface ref
 
 -- Detach
 
-found_tells : (o : Option Entry) (e : Entry) → found_or o ≡ Ok e → o ≡ Some e
+found_tells : (o : Option Entry) (e : Entry) → found_answer o ≡ Ok e → o ≡ Some e
 found_tells None e is = absurd (not_ok NotFound e is)
 found_tells (Some f) e is = ap (λ (g : Entry). Some g) (same_ok {E = Refusal} f e is)
 
-pub detached_lawful : (r : Registry) (c : ℕ) (key : Key) (e : Entry) → IsSound r → detach_answer r c key ≡ Ok e → IsLawfulTurn r (detached r c e)
+pub detached_lawful : (r : Registry) (c : ℕ) (key : Key) (e : Entry) → IsSound r → detach_answer r c key ≡ Ok e → IsLawfulTurn r (with_detached r c e)
 detached_lawful r c key e on is =
-    let outside = else_ok (is_inside r c) Inside (found_or (lookup_now r key)) e is in
+    let outside = else_ok (is_inside r c) Inside (found_answer (lookup_now r key)) e is in
     let found : IsLookup r.model.history (length r.model.history) key (Some e) =
     subst (IsLookup r.model.history (length r.model.history) key) (found_tells (lookup_now r key) e outside.1) (lookup_is r.model.history on.legal key (length r.model.history)) in
     let le : r.model.passes c ≤ length (after_change r.model.history (Detach e.number)) = omega (arith, on.seen c, length-after_change r.model.history (Detach e.number)) in (
@@ -229,5 +229,5 @@ detached_lawful r c key e on is =
       refl,
     )
 
-pub detach_turn : (r : Registry) (c : ℕ) (key : Key) → IsSound r → IsLawfulTurn r (on_ok r (detach_answer r c key) (detached r c))
-detach_turn r c key on = ok_turn r (detach_answer r c key) (detached r c) on (λ e is. detached_lawful r c key e on is)
+pub detach_turn : (r : Registry) (c : ℕ) (key : Key) → IsSound r → IsLawfulTurn r (on_ok r (detach_answer r c key) (with_detached r c))
+detach_turn r c key on = ok_turn r (detach_answer r c key) (with_detached r c) on (λ e is. detached_lawful r c key e on is)

@@ -15,11 +15,11 @@ use Rattle.protocol.specs.Model.{Model, put, with_locals, IsUnheld, Stays, Goes_
 use Rattle.protocol.proofs.history.History.{at_within}
 use Rattle.registry_values.proofs.Least.{least_none}
 use Rattle.protocol.proofs.model.Picturing.{put_here, put_is, put_other, two_steps}
-use Rattle.registry_report.specs.Answers.{advance_answer, has_passive, has_section, held, is_inside, is_this, plain_stage, retired_slot, slot_of, stage_in}
+use Rattle.registry_report.specs.Answers.{advance_answer, has_passive, has_section, held_count, is_inside, is_this, plain_stage, retired_slot, slot_of, stage_in}
 use Rattle.registry_report.specs.Changes.{end_of, has_ended, may_hold}
 use Rattle.registry_report.specs.Registry.{Registry}
 use Rattle.registry_report.specs.Sound.{IsSound, IsSoundModel, IsLawfulTurn}
-use Rattle.registry_report.specs.Turns.{after_advance, after_destroy, freed, staged}
+use Rattle.registry_report.specs.Turns.{after_advance, after_destroy, with_freed, after_stage}
 use Rattle.registry_report.proofs.Lookups.{end_tells}
 use Rattle.registry_report.proofs.sound.Turns.{count_none, idle_turn, is_this_own, is_this_tells, labelled_counts, least_some, not_ok, ok_turn, put_none, same_ok, still_beside}
 use Rattle.protocol.proofs.keeps.SectionKeeps.{some_from}
@@ -42,7 +42,7 @@ record IsFree (r : Registry) (n t : ℕ) : Type 0 where
 -- no section may hold an entry that ended where each such section would stand in the way
 unheld_from : (r : Registry) (n t p : ℕ) → IsSound r → end_of r.model.history n ≡ Some p → EndsAt r.model.history n p → plain_stage r n t ≡ Freed t → IsUnheld r.model n
 unheld_from r n t p on end ends stage =
-    let none = freed_tells t t (least_below (has_section r n) r.settings.cpus) (least_below (has_passive r n) r.settings.cpus) (held r n) stage in
+    let none = freed_tells t t (least_below (has_section r n) r.settings.cpus) (least_below (has_passive r n) r.settings.cpus) (held_count r n) stage in
     record {
       sections = λ c b e in_ hold same.
           let off : has_section r n c ≡ false = least_none (has_section r n) r.settings.cpus none.0 c (on.begun c b in_).0 in
@@ -72,7 +72,7 @@ stage_tells r n (Some t) stage is = (t, refl, same_ok {E = Refusal} (plain_stage
 free_tells : (r : Registry) (n t : ℕ) → IsSound r → advance_answer r n ≡ Ok (Freed t) → IsFree r n t
 free_tells r n t on is =
     let at = stage_tells r n (retired_slot r n) (Freed t) is in
-    let own : at.0 ≡ t = (freed_tells at.0 t (least_below (has_section r n) r.settings.cpus) (least_below (has_passive r n) r.settings.cpus) (held r n) at.2).3 in
+    let own : at.0 ≡ t = (freed_tells at.0 t (least_below (has_section r n) r.settings.cpus) (least_below (has_passive r n) r.settings.cpus) (held_count r n) at.2).3 in
     let retired = retired_tells (has_ended r.model.history n) (slot_of r n) at.0 at.1 in
     let end = some_from (end_of r.model.history n) retired.0 in
     let ends : EndsAt r.model.history n end.0 = end_tells r.model.history n end.0 end.1 in
@@ -115,7 +115,7 @@ vacate_keeps z m labels t n p keeps on at ends unheld kept =
 
 -- Freed
 
-freed_by : (r : Registry) (n t : ℕ) (o : Option ℕ) → IsSound r → IsFree r n t → r.model.keeps t ≡ o → IsLawfulTurn r (freed r t o)
+freed_by : (r : Registry) (n t : ℕ) (o : Option ℕ) → IsSound r → IsFree r n t → r.model.keeps t ≡ o → IsLawfulTurn r (with_freed r t o)
 freed_by r n t None on free at = (
   vacate_keeps r.settings r.model r.local_labels t n free.position r.model.keeps on free.occupant free.ends free.unheld (λ u d is. is),
   Goes_on r.model _ Stays (Vacates t n free.position free.occupant free.ends free.unheld at),
@@ -126,7 +126,7 @@ freed_by r n t (Some d) on free at =
     let given : Model = record (with_locals m d (m.locals d + 1)) { occupants = put m.occupants t None; keeps = put m.keeps t None } in
     let more : put m.locals d (m.locals d + 1) d ≡ m.locals d + 1 = put_here m.locals d (m.locals d + 1) in (
       vacate_keeps r.settings r.model r.local_labels t n free.position (put m.keeps t None) on free.occupant free.ends free.unheld (λ u k is. (put_none m.keeps t u k is).1),
-      two_steps m given (with_locals given d (given.locals d - 1)) (freed r t (Some d)).model (Gives_up t n free.position d free.occupant free.ends free.unheld at) (Uncounts d (omega (arith, more)))
+      two_steps m given (with_locals given d (given.locals d - 1)) (with_freed r t (Some d)).model (Gives_up t n free.position d free.occupant free.ends free.unheld at) (Uncounts d (omega (arith, more)))
           (record {
             history = refl;
             sections = λ j. refl;
@@ -141,17 +141,17 @@ freed_by r n t (Some d) on free at =
       refl,
     )
 
-pub freed_lawful : (r : Registry) (n t : ℕ) → IsSound r → advance_answer r n ≡ Ok (Freed t) → IsLawfulTurn r (freed r t (r.model.keeps t))
+pub freed_lawful : (r : Registry) (n t : ℕ) → IsSound r → advance_answer r n ≡ Ok (Freed t) → IsLawfulTurn r (with_freed r t (r.model.keeps t))
 freed_lawful r n t on is = freed_by r n t (r.model.keeps t) on (free_tells r n t on is) refl
 
-pub staged_lawful : (r : Registry) (n : ℕ) (stage : Stage) → IsSound r → advance_answer r n ≡ Ok stage → IsLawfulTurn r (staged r n stage)
+pub staged_lawful : (r : Registry) (n : ℕ) (stage : Stage) → IsSound r → advance_answer r n ≡ Ok stage → IsLawfulTurn r (after_stage r n stage)
 staged_lawful r n (Grace c) on is = idle_turn r on
 staged_lawful r n (Passive c) on is = idle_turn r on
 staged_lawful r n (Local k) on is = (on, Stays, refl)
 staged_lawful r n (Freed t) on is = freed_lawful r n t on is
 
 pub advance_turn : (r : Registry) (n : ℕ) → IsSound r → IsLawfulTurn r (after_advance r n)
-advance_turn r n on = ok_turn r (advance_answer r n) (staged r n) on (λ stage is. staged_lawful r n stage on is)
+advance_turn r n on = ok_turn r (advance_answer r n) (after_stage r n) on (λ stage is. staged_lawful r n stage on is)
 
 destroyed_by : (r : Registry) (n : ℕ) (b : Bool) → IsSound r → IsLawfulTurn r (if b then r else after_advance r n)
 destroyed_by r n true on = idle_turn r on

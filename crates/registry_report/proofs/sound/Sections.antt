@@ -16,7 +16,7 @@ use Rattle.registry_report.specs.declared.hitch.Hitch.TheVariants.{NotInside}
 use Rattle.registry_report.specs.Answers.{enter_answer, exit_answer, find_answer, is_inside, lookup_now}
 use Rattle.registry_report.specs.Registry.{Registry}
 use Rattle.registry_report.specs.Sound.{IsSound, IsSoundModel, IsLawfulTurn}
-use Rattle.registry_report.specs.Turns.{begun_section, entered, exited, looked_up, on_ok, seeing}
+use Rattle.registry_report.specs.Turns.{with_section_begun, with_section_entered, with_section_exited, with_found, on_ok, with_all_seen}
 use Rattle.registry_report.proofs.Lookups.{lookup_is}
 use Rattle.registry_report.proofs.sound.Turns.{ok_turn, put_capped, put_cases, put_none, same_ok, still_there, then_ok}
 use Rattle.protocol.proofs.keeps.SectionKeeps.{some_from}
@@ -25,7 +25,7 @@ use Rattle.protocol.proofs.keeps.SectionKeeps.{some_from}
 
 -- a section that begins may hold just who is live
 begin_keeps : (z : Settings) (m : Model) (labels : ℕ → Option ℕ) (c : ℕ) → IsSoundModel z m labels → c < z.cpus → m.sections c ≡ None
-    → IsSoundModel z (record (seeing m c) { sections = put m.sections c (Some (length m.history)) }) labels
+    → IsSoundModel z (record (with_all_seen m c) { sections = put m.sections c (Some (length m.history)) }) labels
 begin_keeps z m labels c on lt out = record {
   legal = on.legal;
   live = on.live;
@@ -50,17 +50,17 @@ begin_keeps z m labels c on lt out = record {
   counted = on.counted;
 }
 
-entered_by : (r : Registry) (c : ℕ) (b : Bool) → IsSound r → c < r.settings.cpus → is_inside r c ≡ b → IsLawfulTurn r (if b then record r { depths = put r.depths c (r.depths c + 1) } else begun_section r c)
+entered_by : (r : Registry) (c : ℕ) (b : Bool) → IsSound r → c < r.settings.cpus → is_inside r c ≡ b → IsLawfulTurn r (if b then record r { depths = put r.depths c (r.depths c + 1) } else with_section_begun r c)
 entered_by r c true on lt is = (on, Stays, refl)
 entered_by r c false on lt is =
     let out : r.model.sections c ≡ None = none_is (r.model.sections c) is in
     (begin_keeps r.settings r.model r.local_labels c on lt out, Goes_on r.model _ Stays (Enters c out), refl)
 
-pub entered_lawful : (r : Registry) (c : ℕ) → IsSound r → c < r.settings.cpus → IsLawfulTurn r (entered r c)
+pub entered_lawful : (r : Registry) (c : ℕ) → IsSound r → c < r.settings.cpus → IsLawfulTurn r (with_section_entered r c)
 entered_lawful r c on lt = entered_by r c (is_inside r c) on lt refl
 
-pub enter_turn : (r : Registry) (c : ℕ) → IsSound r → c < r.settings.cpus → IsLawfulTurn r (on_ok r (enter_answer r c) (λ done. entered r c))
-enter_turn r c on lt = ok_turn r (enter_answer r c) (λ done. entered r c) on (λ done is. entered_lawful r c on lt)
+pub enter_turn : (r : Registry) (c : ℕ) → IsSound r → c < r.settings.cpus → IsLawfulTurn r (on_ok r (enter_answer r c) (λ done. with_section_entered r c))
+enter_turn r c on lt = ok_turn r (enter_answer r c) (λ done. with_section_entered r c) on (λ done is. entered_lawful r c on lt)
 
 -- Exit
 
@@ -82,20 +82,20 @@ end_keeps z m labels c on = record {
   counted = on.counted;
 }
 
-pub exited_lawful : (r : Registry) (c : ℕ) (stays : Bool) → IsSound r → exit_answer r c ≡ Ok stays → IsLawfulTurn r (exited r c stays)
+pub exited_lawful : (r : Registry) (c : ℕ) (stays : Bool) → IsSound r → exit_answer r c ≡ Ok stays → IsLawfulTurn r (with_section_exited r c stays)
 exited_lawful r c true on is = (on, Stays, refl)
 exited_lawful r c false on is =
     let inside = some_from (r.model.sections c) (then_ok (is_inside r c) NotInside (Ok (not (r.depths c == 1))) false is).0 in
     (end_keeps r.settings r.model r.local_labels c on, Goes_on r.model _ Stays (Exits c inside.0 inside.1 (on.unsearching c)), refl)
 
-pub exit_turn : (r : Registry) (c : ℕ) → IsSound r → IsLawfulTurn r (on_ok r (exit_answer r c) (exited r c))
-exit_turn r c on = ok_turn r (exit_answer r c) (exited r c) on (λ stays is. exited_lawful r c stays on is)
+pub exit_turn : (r : Registry) (c : ℕ) → IsSound r → IsLawfulTurn r (on_ok r (exit_answer r c) (with_section_exited r c))
+exit_turn r c on = ok_turn r (exit_answer r c) (with_section_exited r c) on (λ stays is. exited_lawful r c stays on is)
 
 -- Find
 
 -- the open section may hold who is live now
 find_keeps : (z : Settings) (m : Model) (labels : ℕ → Option ℕ) (c b : ℕ) (answer : Option Entry) → IsSoundModel z m labels → m.sections c ≡ Some b → ((e : Entry) → answer ≡ Some e → IsLiveAt m.history (length m.history) e)
-    → IsSoundModel z (record (seeing m c) { found = put m.found c answer }) labels
+    → IsSoundModel z (record (with_all_seen m c) { found = put m.found c answer }) labels
 find_keeps z m labels c b answer on in_ live = record {
   legal = on.legal;
   live = on.live;
@@ -123,7 +123,7 @@ lookup_live r key e on is =
     found.0
 
 -- the lookup begins, the CPU sees the whole history, and the answer is the one now
-find_run : (r : Registry) (c b : ℕ) (key : Key) → IsSound r → r.model.sections c ≡ Some b → IsModelRun r.model (looked_up r c (lookup_now r key)).model
+find_run : (r : Registry) (c b : ℕ) (key : Key) → IsSound r → r.model.sections c ≡ Some b → IsModelRun r.model (with_found r c (lookup_now r key)).model
 find_run r c b key on in_ =
     let m : Model = r.model in
     let q : Lookup = record { key = key; start = m.passes c } in
@@ -136,7 +136,7 @@ find_run r c b key on in_ =
       up_to = omega (arith, here);
       answered = lookup_is m.history on.legal key (length m.history);
     } in
-    let alike : Alike (record seen { lookups = put seen.lookups c None; found = put m.found c (lookup_now r key) }) (looked_up r c (lookup_now r key)).model = record {
+    let alike : Alike (record seen { lookups = put seen.lookups c None; found = put m.found c (lookup_now r key) }) (with_found r c (lookup_now r key)).model = record {
       history = refl;
       sections = λ j. refl;
       passes = λ j. refl;
@@ -147,17 +147,17 @@ find_run r c b key on in_ =
       occupants = λ t. refl;
       keeps = λ t. refl;
     } in
-    subst (IsModelRun m) (same_model (record seen { lookups = put seen.lookups c None; found = put m.found c (lookup_now r key) }) (looked_up r c (lookup_now r key)).model alike)
+    subst (IsModelRun m) (same_model (record seen { lookups = put seen.lookups c None; found = put m.found c (lookup_now r key) }) (with_found r c (lookup_now r key)).model alike)
     (Goes_on seen _ (Goes_on sought _ (Goes_on m _ Stays (Seeks c b key in_ (on.unsearching c))) (Sees c (length m.history) (on.seen c) (omega arith)))
     (Answers c q (lookup_now r key) (put_here m.lookups c (Some q)) lawful))
 
-pub found_lawful : (r : Registry) (c : ℕ) (key : Key) (answer : Option Entry) → IsSound r → find_answer r c key ≡ Ok answer → IsLawfulTurn r (looked_up r c answer)
+pub found_lawful : (r : Registry) (c : ℕ) (key : Key) (answer : Option Entry) → IsSound r → find_answer r c key ≡ Ok answer → IsLawfulTurn r (with_found r c answer)
 found_lawful r c key answer on is =
     let parts = then_ok (is_inside r c) NotInside (Ok (lookup_now r key)) answer is in
     let inside = some_from (r.model.sections c) parts.0 in
     let now : lookup_now r key ≡ answer = same_ok {E = Hitch} (lookup_now r key) answer parts.1 in
-    subst (λ (o : Option Entry). IsLawfulTurn r (looked_up r c o)) now
+    subst (λ (o : Option Entry). IsLawfulTurn r (with_found r c o)) now
     (find_keeps r.settings r.model r.local_labels c inside.0 (lookup_now r key) on inside.1 (λ e found. lookup_live r key e on found), find_run r c inside.0 key on inside.1, refl)
 
-pub find_turn : (r : Registry) (c : ℕ) (key : Key) → IsSound r → IsLawfulTurn r (on_ok r (find_answer r c key) (looked_up r c))
-find_turn r c key on = ok_turn r (find_answer r c key) (looked_up r c) on (λ answer is. found_lawful r c key answer on is)
+pub find_turn : (r : Registry) (c : ℕ) (key : Key) → IsSound r → IsLawfulTurn r (on_ok r (find_answer r c key) (with_found r c))
+find_turn r c key on = ok_turn r (find_answer r c key) (with_found r c) on (λ answer is. found_lawful r c key answer on is)

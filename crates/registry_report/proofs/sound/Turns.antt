@@ -12,8 +12,8 @@ use Rattle.protocol.proofs.model.Picturing.{join_runs, put_here, put_other}
 use Rattle.registry_values.specs.declared.refusal.Refusal.{Refusal}
 use Rattle.registry_report.specs.declared.hitch.Hitch.{Hitch}
 use Rattle.registry_report.specs.declared.hitch.Hitch.TheVariants.{Refused}
-use Rattle.registry_report.specs.Answers.{count_below, hitched, is_this}
-use Rattle.registry_report.specs.Registry.{Registry, opened}
+use Rattle.registry_report.specs.Answers.{count_below, command_answer, is_this}
+use Rattle.registry_report.specs.Registry.{Registry, opening_registry}
 use Rattle.registry_report.specs.Sound.{after_each, labels_for, IsSound, IsLawfulTurn}
 use Rattle.registry_report.specs.Turns.{on_ok}
 use Rattle.registry_values.specs.declared.settings.Settings.{Settings}
@@ -181,7 +181,7 @@ pub then_ok : {X E : Type 0} (b : Bool) (f : E) (answer : Result X E) (x : X) �
 then_ok true f answer x is = (refl, is)
 then_ok false f answer x is = absurd (not_ok f x is)
 
-pub hitched_ok : {X : Type 0} (answer : Result X Refusal) (x : X) → hitched answer ≡ Ok x → answer ≡ Ok x
+pub hitched_ok : {X : Type 0} (answer : Result X Refusal) (x : X) → command_answer answer ≡ Ok x → answer ≡ Ok x
 hitched_ok (Ok y) x is = ap (λ z. Ok z) (same_ok {E = Hitch} y x is)
 hitched_ok (Err f) x is = absurd (not_ok (Refused f) x is)
 
@@ -218,7 +218,7 @@ none_legal = record {
   ends_live = λ k n x. absurd (at_empty (suc k) (Detach n) x);
 }
 
-pub opened_sound : (z : Settings) → IsSound (opened z)
+pub opened_sound : (z : Settings) → IsSound (opening_registry z)
 opened_sound z = record {
   legal = none_legal;
   live = λ e on. absurd (at_empty e.number (Attach e) on.attached);

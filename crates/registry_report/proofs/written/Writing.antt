@@ -5,7 +5,7 @@ use Rattle.std.specs.Io.KnownBytes.{Appends, Keeps}
 use Rattle.std.specs.Prelude.{codes}
 use Rattle.std.specs.Fmt.{decimal, signed_decimal}
 use Rattle.registry_values.specs.Balances.{Tally}
-use Rattle.registry_report.specs.Lines.{balance_line, balance_lines, spaced, spelled}
+use Rattle.registry_report.specs.Lines.{balance_line, balance_lines, spaced_words, line_of_words}
 use Rattle.registry_report.specs.Written.{Written, AppendsPrefix}
 
 pub appends_none : (a : Option (List ℕ)) → Appends a a []
@@ -54,25 +54,25 @@ written_step a b c whole rest n h done more =
 
 -- Words and lines in a row
 
-spaced_append : (ws : List (List ℕ)) (w : List ℕ) → spaced (ws ++ w ∷ []) ≡ spaced ws ++ (32 ∷ w)
+spaced_append : (ws : List (List ℕ)) (w : List ℕ) → spaced_words (ws ++ w ∷ []) ≡ spaced_words ws ++ (32 ∷ w)
 spaced_append [] w = ap (λ z. 32 ∷ z) (append-nil w)
-spaced_append (v ∷ vs) w = ap (λ z. (32 ∷ v) ++ z) (spaced_append vs w) ∙ sym (append_assoc (32 ∷ v) (spaced vs) (32 ∷ w))
+spaced_append (v ∷ vs) w = ap (λ z. (32 ∷ v) ++ z) (spaced_append vs w) ∙ sym (append_assoc (32 ∷ v) (spaced_words vs) (32 ∷ w))
 
 lines_append : (ts : List Tally) (t : Tally) → balance_lines (ts ++ t ∷ []) ≡ balance_lines ts ++ balance_line t
 lines_append [] t = append-nil (balance_line t)
 lines_append (u ∷ us) t = ap (λ z. balance_line u ++ z) (lines_append us t) ∙ sym (append_assoc (balance_line u) (balance_lines us) (balance_line t))
 
 -- the words before the next one
-pub spelled_spaced : (w : List ℕ) (ws : List (List ℕ)) (next : List ℕ) (rest : List (List ℕ)) → spelled (w ∷ (ws ++ next ∷ rest)) ≡ w ++ (spaced ws ++ (32 ∷ spelled (next ∷ rest)))
+pub spelled_spaced : (w : List ℕ) (ws : List (List ℕ)) (next : List ℕ) (rest : List (List ℕ)) → line_of_words (w ∷ (ws ++ next ∷ rest)) ≡ w ++ (spaced_words ws ++ (32 ∷ line_of_words (next ∷ rest)))
 spelled_spaced w [] next rest = refl
-spelled_spaced w (v ∷ vs) next rest = ap (λ z. w ++ (32 ∷ z)) (spelled_spaced v vs next rest) ∙ ap (λ z. w ++ z) (sym (append_assoc (32 ∷ v) (spaced vs) (32 ∷ spelled (next ∷ rest))))
+spelled_spaced w (v ∷ vs) next rest = ap (λ z. w ++ (32 ∷ z)) (spelled_spaced v vs next rest) ∙ ap (λ z. w ++ z) (sym (append_assoc (32 ∷ v) (spaced_words vs) (32 ∷ line_of_words (next ∷ rest))))
 
-pub spaced_step : (xs : List ℤ) (i : ℕ) (d : ℤ) → i < length xs → spaced (map signed_decimal (take (i + 1) xs)) ≡ spaced (map signed_decimal (take i xs)) ++ (32 ∷ signed_decimal (get_or xs i d))
+pub spaced_step : (xs : List ℤ) (i : ℕ) (d : ℤ) → i < length xs → spaced_words (map signed_decimal (take (i + 1) xs)) ≡ spaced_words (map signed_decimal (take i xs)) ++ (32 ∷ signed_decimal (get_or xs i d))
 spaced_step xs i d below = rw (take_more xs i d below, map-append) (spaced_append (map signed_decimal (take i xs)) (signed_decimal (get_or xs i d)))
 
 pub lines_step : {X : Type 0} (f : X → Tally) (xs : List X) (i : ℕ) (d : X) → i < length xs → balance_lines (map f (take (i + 1) xs)) ≡ balance_lines (map f (take i xs)) ++ balance_line (f (get_or xs i d))
 lines_step f xs i d below = rw (take_more xs i d below, map-append) (lines_append (map f (take i xs)) (f (get_or xs i d)))
 
-pub balance_is : (t : Tally) → balance_line t ≡ codes "slot " ++ (decimal t.slot ++ (codes " number " ++ (decimal t.number ++ (codes " held " ++ (signed_decimal t.held ++ (codes " locals" ++ (spaced (map signed_decimal t.locals) ++ (codes " total " ++ (signed_decimal t.total ++ (10 ∷ []))))))))))
+pub balance_is : (t : Tally) → balance_line t ≡ codes "slot " ++ (decimal t.slot ++ (codes " number " ++ (decimal t.number ++ (codes " held " ++ (signed_decimal t.held ++ (codes " locals" ++ (spaced_words (map signed_decimal t.locals) ++ (codes " total " ++ (signed_decimal t.total ++ (10 ∷ []))))))))))
 balance_is t = ap (λ (z : List ℕ). codes "slot " ++ (decimal t.slot ++ (codes " number " ++ (decimal t.number ++ (codes " held " ++ (signed_decimal t.held ++ (32 ∷ z)))))))
     (spelled_spaced (codes "locals") (map signed_decimal t.locals) (codes "total") (signed_decimal t.total ∷ []))

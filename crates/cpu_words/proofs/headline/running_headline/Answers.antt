@@ -1,5 +1,6 @@
 use Rattle.cpu_words.proofs.laws.Safety.{running_headline}
 use Rattle.cpu_words.proofs.laws.Holders.{held_have_slots}
+use Rattle.cpu_words.proofs.laws.Waiting.{waiting_ends}
 use Rattle.cpu_words.proofs.headline.running_headline.Goals as goal
 
 pub returns-clause-run : goal.returns-clause-run
@@ -7,3 +8,6 @@ returns-clause-run c = running_headline
 
 pub returns-clause-held : goal.returns-clause-held
 returns-clause-held c = held_have_slots
+
+pub returns-clause-waiting : goal.returns-clause-waiting
+returns-clause-waiting c = waiting_ends

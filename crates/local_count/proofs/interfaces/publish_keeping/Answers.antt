@@ -14,7 +14,7 @@ use Rattle.cpu_words.specs.Steps.{JoinsBy}
 use Rattle.cpu_words.specs.Vacating.{as_vacant}
 use Rattle.cpu_words.proofs.shown.KeepersShown.{step_is_shown}
 use Rattle.passive_list.specs.Keepers.{OnKeeper, row_at, state_of, states_of}
-use Rattle.passive_list.specs.Publishing.{MayAttach, HasEntry, prepared}
+use Rattle.passive_list.specs.Publishing.{MayAttach, HasEntry, keeper_after_stores}
 use Rattle.passive_list.proofs.Attached.{published_keeper, row_live}
 use Rattle.local_count.specs.Draining.{HasAttachedKeeping}
 use Rattle.local_count.proofs.Keeping.{rows_keeping, states_keeping, may_attach, same_history}
@@ -36,7 +36,7 @@ invariant_of-keeper g c =
     let has = c.publish_entry.ensures.change in
     published_keeper g.D.Domain.table g.D.Domain.settings c.publish_entry.new.seat.table k l inside.settings (rows_keeping inside.rows c.args.slot c.reference.inside.number) inside.changes e has.link
     (c.publish_entry.ensures.table ∙ (c.keep.ensures.table ∙ c.keeper.invariant.table)) c.keeper.invariant.settings (c.keeper.invariant.changes ∙ same_history inside.seat.view k e.slot c.reference.inside.seat.view c.keep.ensures.change) asked has.view
-    (step_is_shown (Publish e.slot) Done (prepared k e has.link) l has.made)
+    (step_is_shown (Publish e.slot) Done (keeper_after_stores k e has.link) l has.made)
 
 pub returns-clause-change : goal.returns-clause-change
 returns-clause-change g c =

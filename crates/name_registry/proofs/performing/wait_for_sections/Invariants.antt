@@ -4,4 +4,4 @@ use Rattle.name_registry.proofs.performing.wait_for_sections.Given as goal
 
 -- as many turns were made as the counter says, and this is the answer of the last
 abbrev pub invariant-loop : goal.invariant-loop
-invariant-loop g l = (n : ℕ) × (suc n ≡ l.counter) × LastTurn (g.I.UnderInterlock.glances l.snapshots) n l.fn.interlock none_seen l.waited l.interlock l.seen
+invariant-loop g l = (n : ℕ) × (suc n ≡ l.counter) × LastTurn (g.I.UnderInterlock.glances l.snapshots) n l.fn.cpu none_seen l.waited l.cpu l.seen

@@ -4,11 +4,11 @@ ghost use Rattle.std.specs.Prelude.{◌≡◌, ◌<◌, ◌+◌, ℕ, IfErr, IfO
 ghost use Rattle.std.specs.List.{zip};
 ghost use Rattle.protocol.specs.declared.event.Event.TheVariants.{Publish};
 ghost use Rattle.protocol.specs.declared.event.Reply.TheVariants.{Done};
-ghost use Rattle.passive_core.specs.Attaching.{IsAnswer, after_attach, after_attach_iface, attach_answer, attach_iface_answer, given_back, given_entry, is_to_driver, keeping, plain_slot, prepared, restored, words_before};
+ghost use Rattle.passive_core.specs.Attaching.{IsAnswer, after_attach, after_attach_iface, attach_answer, attach_iface_answer, with_reference_given_back, given_entry, is_to_driver, with_reference_kept, plain_slot, with_prepared, with_attach_undone, words_before};
 ghost use Rattle.registry_values.specs.Slots.{is_plain, is_iface};
 ghost use Rattle.protocol.specs.State.{with_biases, at_rest, kept_at, local_at};
 ghost use Rattle.passive_core.specs.Commands.{all_seated, may_act};
-ghost use Rattle.protocol.specs.Events.{after_publish, after_row_store, after_seeing, is_idle, may_write, standing, step, words_of};
+ghost use Rattle.protocol.specs.Events.{after_publish, after_row_store, after_seeing, is_idle, may_write, number_standing, step, words_of};
 ghost use Rattle.protocol.specs.Invariant.{Holds};
 ghost use Rattle.registry_values.specs.Names.{is_lawful};
 
@@ -76,7 +76,7 @@ impl Core {
         requires rest { at_rest self.old.due ≡ true }
         requires ready { may_act self.old c ≡ true }
         requires iface { is_iface rec.kind ≡ true }
-        requires live { IsSome (standing (local_at self.old.locals id)) }
+        requires live { IsSome (number_standing (local_at self.old.locals id)) }
         requires lawful { IsTrue (is_lawful rec.name) }
         ensures answer { IsAnswer (attach_iface_answer self.old c rec id) result }
         ensures after { self.new ≡ after_attach_iface self.old c id result }
@@ -109,7 +109,7 @@ impl Core {
 
     /// The place of the live local reference with this id.
     fn local_at(&self, id: u64) -> LocalPlace
-        requires { IsSome (standing (local_at self.now.locals id)) }
+        requires { IsSome (number_standing (local_at self.now.locals id)) }
         ensures { result ≡ local_at self.now.locals id }
     {
         if id < self.locals.len() as u64 {
@@ -124,7 +124,7 @@ impl Core {
         requires write { may_write self.old t ≡ true }
         requires nothing { kept_at self.old.keeps t ≡ None }
         requires driver { is_to_driver self.old id ≡ true }
-        ensures { self.new ≡ keeping self.old t id }
+        ensures { self.new ≡ with_reference_kept self.old t id }
     {
         self.make(Event::Keep(t, id));
     }
@@ -133,8 +133,8 @@ impl Core {
     fn give_back(&mut self, t: u8, id: u64, place: LocalPlace)
         requires slot { t < self.old.settings.slots }
         requires place { id < length self.old.locals }
-        requires holds { Holds (given_back self.old t id place) }
-        ensures { self.new ≡ given_back self.old t id place }
+        requires holds { Holds (with_reference_given_back self.old t id place) }
+        ensures { self.new ≡ with_reference_given_back self.old t id place }
     {
         self.locals[id as usize] = place;
         self.keeps[t as usize] = None;
@@ -200,8 +200,8 @@ impl Core {
     /// Puts the words of a slot and the seats back.
     fn restore(&mut self, t: u8, before: Before)
         requires slot { t < self.old.settings.slots }
-        requires holds { Holds (restored self.old t before) }
-        ensures { self.new ≡ restored self.old t before }
+        requires holds { Holds (with_attach_undone self.old t before) }
+        ensures { self.new ≡ with_attach_undone self.old t before }
     {
         self.seated = before.seated;
         self.rows[t as usize] = before.row;
@@ -237,7 +237,7 @@ impl Core {
     /// Stores all words of the entry's slot.
     fn prepare(&mut self, entry: &Entry)
         requires { may_write self.old entry.now.slot ≡ true }
-        ensures { self.new ≡ prepared self.old entry.now }
+        ensures { self.new ≡ with_prepared self.old entry.now }
     {
         self.store_record_words(entry);
         self.store_counts(entry.slot);

@@ -2,7 +2,7 @@
 
 ghost use Rattle.std.specs.Prelude.{◌≡◌, ◌<◌, ℕ, IfErr, IfOk, IfSome, OnErr, OnOk, replicate, slice_index_or, [], true};
 ghost use Rattle.passive_core.specs.Commands.{all_seated, may_act};
-ghost use Rattle.passive_core.specs.Detaching.{after_detach, snapped, IsDetachAnswer, IsLookupNow};
+ghost use Rattle.passive_core.specs.Detaching.{after_detach, with_all_snapshots, IsDetachAnswer, IsLookupNow};
 ghost use Rattle.protocol.specs.Events.{after_unpublish, is_idle};
 ghost use Rattle.protocol.specs.State.{at_rest};
 ghost use Rattle.registry_values.specs.Marks.{no_mark};
@@ -84,7 +84,7 @@ impl Core {
     fn take_snapshots(&mut self, t: u8)
         requires due { self.old.due ≡ Snapshots t 0 }
         requires blank { slice_index_or self.old.marks t [] ≡ replicate 8 no_mark }
-        ensures { self.new ≡ snapped self.old t }
+        ensures { self.new ≡ with_all_snapshots self.old t }
     {
         let cpus = self.settings.cpus;
         for d in 0..cpus {

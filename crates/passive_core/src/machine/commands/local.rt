@@ -2,7 +2,7 @@
 
 ghost use Rattle.std.specs.Prelude.{◌≡◌, ℕ, ◌+◌, ◌<◌, nat_lt, IsTrue, Some, None, false, true};
 ghost use Rattle.passive_core.specs.Commands.{all_seated, may_act};
-ghost use Rattle.protocol.specs.Events.{is_idle, standing};
+ghost use Rattle.protocol.specs.Events.{is_idle, number_standing};
 ghost use Rattle.passive_core.specs.Locals.{IsCounted, after_acquire_local, after_release_local, count_in, count_refusal, is_counting, is_live_local, local_slot, with_count_less, with_total_less};
 ghost use Rattle.passive_core.specs.Passives.{IsRecordOf};
 ghost use Rattle.protocol.specs.State.{at_rest, found_at, local_at};
@@ -56,7 +56,7 @@ impl Core {
     /// The number, from 1, of the entry that the live local reference is to.
     pub fn number(&self, id: u64) -> u64
         requires { is_live_local self.now id ≡ true }
-        ensures { standing (local_at self.now.locals id) ≡ Some result }
+        ensures { number_standing (local_at self.now.locals id) ≡ Some result }
     {
         match self.standing_at(id) {
             Some(number) => number,
@@ -68,7 +68,7 @@ impl Core {
     pub fn record(&mut self, id: u64) -> Record
         requires rest { at_rest self.old.due ≡ true }
         requires live { is_live_local self.old id ≡ true }
-        ensures answer { (n : ℕ) → standing (local_at self.old.locals id) ≡ Some n → IsRecordOf self.old.history n result }
+        ensures answer { (n : ℕ) → number_standing (local_at self.old.locals id) ≡ Some n → IsRecordOf self.old.history n result }
         ensures after { self.new ≡ all_seated self.old }
         ensures ready { (d : ℕ) → may_act self.old d ≡ true → may_act self.new d ≡ true }
     {
@@ -159,7 +159,7 @@ impl Core {
     /// Loads words 1 to 4 of the record that a local reference is to.
     fn record_by_local(&mut self, id: u64) -> Record
         requires { is_live_local self.old id ≡ true }
-        ensures record { (n : ℕ) → standing (local_at self.old.locals id) ≡ Some n → IsRecordOf self.old.history n result }
+        ensures record { (n : ℕ) → number_standing (local_at self.old.locals id) ≡ Some n → IsRecordOf self.old.history n result }
         ensures same { self.new ≡ self.old }
     {
         // For the proof alone: reading a field opens what the type keeps.

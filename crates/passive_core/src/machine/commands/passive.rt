@@ -2,12 +2,12 @@
 
 ghost use Rattle.std.specs.Prelude.{◌≡◌, ℕ, ◌<◌, ◌||◌, nat_lt, IfOk, Option, Some, None, true};
 ghost use Rattle.passive_core.specs.Commands.{all_seated, may_act};
-ghost use Rattle.protocol.specs.Events.{is_idle, is_number, load_record, taken};
+ghost use Rattle.protocol.specs.Events.{is_idle, is_number, load_record, some_outcome};
 ghost use Rattle.protocol.specs.Invariant.{Holds};
 ghost use Rattle.protocol.specs.State.{found_at, at_rest};
 ghost use Rattle.registry_values.specs.Slots.{slot_of};
 ghost use Rattle.protocol.specs.declared.event.Reply.TheVariants.{Word};
-ghost use Rattle.passive_core.specs.Passives.{passive_of, acquired, refusal_of, copied, IsOneMore, IsOneLess, IsRecordOf, IsWordLoad, after_acquire, after_release, after_read, with_one_more, with_one_less};
+ghost use Rattle.passive_core.specs.Passives.{passive_of, psref_to_found, refusal_of, psref_copy, IsOneMore, IsOneLess, IsRecordOf, IsWordLoad, after_acquire, after_release, after_read, with_one_more, with_one_less};
 ghost use Rattle.registry_values.specs.Answers.{why_full};
 ghost use Rattle.registry_values.specs.Refusals.{Answers};
 
@@ -26,7 +26,7 @@ impl Core {
         requires known { c < self.old.settings.cpus }
         requires rest { at_rest self.old.due ≡ true }
         requires ready { may_act self.old c ≡ true }
-        ensures answer { result ≡ acquired self.old c (found_at self.old c) }
+        ensures answer { result ≡ psref_to_found self.old c (found_at self.old c) }
         ensures after { self.new ≡ after_acquire self.old c result }
         ensures counted { IfOk result (λ psref. IsOneMore self.old self.new c psref.number) }
         ensures settings { self.new.settings ≡ self.old.settings }
@@ -54,7 +54,7 @@ impl Core {
         requires known { c < self.old.settings.cpus }
         requires rest { at_rest self.old.due ≡ true }
         requires ready { may_act self.old c ≡ true }
-        ensures answer { result ≡ copied self.old c psref.number (refusal_of self.old c psref) }
+        ensures answer { result ≡ psref_copy self.old c psref.number (refusal_of self.old c psref) }
         ensures after { self.new ≡ after_acquire self.old c result }
         ensures counted { IfOk result (λ psref. IsOneMore self.old self.new c psref.number) }
         ensures settings { self.new.settings ≡ self.old.settings }
@@ -183,7 +183,7 @@ impl Core {
     /// One load of a record's word, which is known to be allowed.
     pub(crate) fn load_word(&mut self, of: RecordOf) -> u64
         requires { IsWordLoad self.old of }
-        ensures word { load_record self.old of ≡ taken self.old (Word result) }
+        ensures word { load_record self.old of ≡ some_outcome self.old (Word result) }
         ensures same { self.new ≡ self.old }
     {
         match self.make(Event::LoadRecord(of)) {

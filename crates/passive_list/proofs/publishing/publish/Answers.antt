@@ -6,7 +6,7 @@ use Rattle.protocol.specs.declared.event.Reply.TheVariants.{Done}
 use Rattle.registry_values.specs.declared.settings.Settings.{Settings}
 use Rattle.cpu_words.proofs.shown.KeepersShown.{step_is_shown}
 use Rattle.passive_list.specs.Keepers.{OnKeeper, row_at, state_of, states_of}
-use Rattle.passive_list.specs.Publishing.{MayAttach, HasAttached, prepared}
+use Rattle.passive_list.specs.Publishing.{MayAttach, HasAttached, keeper_after_stores}
 use Rattle.passive_list.proofs.Attached.{ask, published_keeper, row_live}
 use Rattle.passive_list.proofs.publishing.publish.Goals as goal
 
@@ -27,7 +27,7 @@ invariant_of-keeper g c =
     c.requires.vacant c.requires.keeps c.requires.name c.requires.free c.requires.room in
     let has = c.publish_entry.ensures.change in
     published_keeper g.D.Domain.table g.D.Domain.settings c.publish_entry.new.seat.table k c.publish_entry.new.seat.view inside.settings inside.rows inside.changes e has.link (c.publish_entry.ensures.table ∙ c.keeper.invariant.table)
-    c.keeper.invariant.settings c.keeper.invariant.changes asked has.view (step_is_shown (Publish e.slot) Done (prepared k e has.link) c.publish_entry.new.seat.view has.made)
+    c.keeper.invariant.settings c.keeper.invariant.changes asked has.view (step_is_shown (Publish e.slot) Done (keeper_after_stores k e has.link) c.publish_entry.new.seat.view has.made)
 
 pub returns-clause-change : goal.returns-clause-change
 returns-clause-change g c =

@@ -1,12 +1,12 @@
 use Rattle.std.proofs.Common.{List, ℕ, ◌++◌, ◌∙◌, ap, map, pos, sym, take}
 use Rattle.std.specs.Fmt.{signed_decimal}
-use Rattle.registry_report.specs.Lines.{spaced}
+use Rattle.registry_report.specs.Lines.{spaced_words}
 use Rattle.registry_report.proofs.written.Writing.{spaced_step}
 use Rattle.registry_report.proofs.lines.numbers.Goals as goal
 
 pub loop-number-preserved : goal.loop-number-preserved
 loop-number-preserved c =
-    let so_far = spaced (map signed_decimal (take c.loop-number.number-index c.args.numbers.now)) in
+    let so_far = spaced_words (map signed_decimal (take c.loop-number.number-index c.args.numbers.now)) in
     c.in_ok-push_str.ensures.bytes
     ∙ (ap (λ (z : List ℕ). z ++ c.deref.result.now) c.loop-number.invariant
     ∙ (ap (λ (z : List ℕ). so_far ++ z) (c.deref.ensures ∙ c.in_ok-word.ensures.ok)

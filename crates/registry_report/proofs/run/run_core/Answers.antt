@@ -1,7 +1,7 @@
 use Rattle.std.proofs.Common.{List, OnErr, OnOk, ap, subst, ◌∙◌}
 use Rattle.std.specs.Io.KnownBytes.{Appends}
 use Rattle.registry_language.specs.declared.command.Command.{Command}
-use Rattle.registry_report.specs.Registry.{opened}
+use Rattle.registry_report.specs.Registry.{opening_registry}
 use Rattle.registry_report.specs.Report.{report, report_from}
 use Rattle.registry_report.specs.Session.{SessionState}
 use Rattle.registry_report.specs.Written.{AppendsPrefix}
@@ -19,12 +19,12 @@ pub returns-clause-ok : goal.returns-clause-ok
 returns-clause-ok g c =
     let first = g.W.Write.contents c.args.writer.now in
     let last = g.W.Write.contents c.run_on.new.writer in
-    subst (λ (ks : List Command). OnOk c.run_on.result (Appends first last (report_from (opened c.args.script.now.settings) ks))) c.commands.ensures.value
-    (c.run_on.ensures.ok (opened c.args.script.now.settings) (begins _ _ _ c.in_ok-session.ensures.opening c.settings.ensures.value))
+    subst (λ (ks : List Command). OnOk c.run_on.result (Appends first last (report_from (opening_registry c.args.script.now.settings) ks))) c.commands.ensures.value
+    (c.run_on.ensures.ok (opening_registry c.args.script.now.settings) (begins _ _ _ c.in_ok-session.ensures.opening c.settings.ensures.value))
 
 pub returns-clause-err : goal.returns-clause-err
 returns-clause-err g c =
     let first = g.W.Write.contents c.args.writer.now in
     let last = g.W.Write.contents c.run_on.new.writer in
-    subst (λ (ks : List Command). OnErr c.run_on.result (AppendsPrefix first last (report_from (opened c.args.script.now.settings) ks))) c.commands.ensures.value
-    (c.run_on.ensures.err (opened c.args.script.now.settings) (begins _ _ _ c.in_ok-session.ensures.opening c.settings.ensures.value))
+    subst (λ (ks : List Command). OnErr c.run_on.result (AppendsPrefix first last (report_from (opening_registry c.args.script.now.settings) ks))) c.commands.ensures.value
+    (c.run_on.ensures.err (opening_registry c.args.script.now.settings) (begins _ _ _ c.in_ok-session.ensures.opening c.settings.ensures.value))

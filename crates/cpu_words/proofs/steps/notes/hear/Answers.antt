@@ -4,14 +4,14 @@ use Rattle.cpu_words.specs.Logs.{the_cpu}
 use Rattle.cpu_words.specs.declared.view.CpuView.{CpuView}
 use Rattle.cpu_words.proofs.steps.notes.hear.Goals as goal
 
-pub load-requires-clause-may : goal.load-requires-clause-may
-load-requires-clause-may c = hear_laid_may _ c.args.seat.now.view _ _ _ c.lay.ensures.change c.requires.cpu.1 c.requires.may
+pub listen-requires-clause-may : goal.listen-requires-clause-may
+listen-requires-clause-may c = hear_laid_may _ c.args.seat.now.view _ _ _ c.lay.ensures.change c.requires.cpu.1 c.requires.may
 
 pub returns-clause-told : goal.returns-clause-told
-returns-clause-told c = (cpu_heard c.args.seat.now.view _ _ _ c.lay.ensures.change c.load.ensures.told.1).0
+returns-clause-told c = (cpu_heard c.args.seat.now.view _ _ _ c.lay.ensures.change c.listen.ensures.told.1).0
 
 pub returns-clause-change : goal.returns-clause-change
-returns-clause-change c = let heard = cpu_heard c.args.seat.now.view _ _ _ c.lay.ensures.change c.load.ensures.told.1 in (heard.1, heard.2)
+returns-clause-change c = let heard = cpu_heard c.args.seat.now.view _ _ _ c.lay.ensures.change c.listen.ensures.told.1 in (heard.1, heard.2)
 
-pub load-requires-clause-own : goal.load-requires-clause-own
-load-requires-clause-own c n = (ap the_cpu (sym (ap (λ (x : CpuView). x.id) c.lay.ensures.change ∙ c.requires.cpu.1)), tt)
+pub listen-requires-clause-own : goal.listen-requires-clause-own
+listen-requires-clause-own c n = (ap the_cpu (sym (ap (λ (x : CpuView). x.id) c.lay.ensures.change ∙ c.requires.cpu.1)), tt)

@@ -5,5 +5,5 @@ use Rattle.cpu_words.specs.Notes.{HasHeard}
 use Rattle.cpu_words.specs.Rule.{did}
 use Rattle.cpu_words.proofs.steps.notes.hear.Given as goal
 
-abbrev pub ghosts-load : goal.ghosts-load
-ghosts-load a = record { does = λ x n. did a.event Done; tells = λ x n y. Makes a.event Done (Cpu x) (Cpu y) × HasHeard x y }
+abbrev pub ghosts-listen : goal.ghosts-listen
+ghosts-listen a = record { does = λ x n. did a.event Done; tells = λ x n y. Makes a.event Done (Cpu x) (Cpu y) × HasHeard x y }

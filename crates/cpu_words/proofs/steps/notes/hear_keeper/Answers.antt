@@ -2,14 +2,14 @@ use Rattle.std.proofs.Common.{refl}
 use Rattle.cpu_words.proofs.seats.Notes.{hear_keeper_laid_may, keeper_heard}
 use Rattle.cpu_words.proofs.steps.notes.hear_keeper.Goals as goal
 
-pub load-requires-clause-may : goal.load-requires-clause-may
-load-requires-clause-may c = hear_keeper_laid_may _ c.args.keeper.now.view _ _ c.lay_by_keeper.ensures.change c.requires.may
+pub listen_by_keeper-requires-clause-may : goal.listen_by_keeper-requires-clause-may
+listen_by_keeper-requires-clause-may c = hear_keeper_laid_may _ c.args.keeper.now.view _ _ c.lay_by_keeper.ensures.change c.requires.may
 
 pub returns-clause-told : goal.returns-clause-told
-returns-clause-told c = (keeper_heard c.args.keeper.now.view _ _ _ c.lay_by_keeper.ensures.change c.load.ensures.told.1).0
+returns-clause-told c = (keeper_heard c.args.keeper.now.view _ _ _ c.lay_by_keeper.ensures.change c.listen_by_keeper.ensures.told.1).0
 
 pub returns-clause-change : goal.returns-clause-change
-returns-clause-change c = (keeper_heard c.args.keeper.now.view _ _ _ c.lay_by_keeper.ensures.change c.load.ensures.told.1).1
+returns-clause-change c = (keeper_heard c.args.keeper.now.view _ _ _ c.lay_by_keeper.ensures.change c.listen_by_keeper.ensures.told.1).1
 
-pub load-requires-clause-own : goal.load-requires-clause-own
-load-requires-clause-own c n = (refl, tt)
+pub listen_by_keeper-requires-clause-own : goal.listen_by_keeper-requires-clause-own
+listen_by_keeper-requires-clause-own c n = (refl, tt)

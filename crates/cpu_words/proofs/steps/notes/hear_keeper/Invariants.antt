@@ -5,5 +5,5 @@ use Rattle.cpu_words.specs.Notes.{KeeperHasHeard}
 use Rattle.cpu_words.specs.Rule.{did}
 use Rattle.cpu_words.proofs.steps.notes.hear_keeper.Given as goal
 
-abbrev pub ghosts-load : goal.ghosts-load
-ghosts-load a = record { does = λ k n. did a.event Done; tells = λ k n l. Makes a.event Done (Keeper k) (Keeper l) × KeeperHasHeard k l }
+abbrev pub ghosts-listen_by_keeper : goal.ghosts-listen_by_keeper
+ghosts-listen_by_keeper a = record { does = λ k n. did a.event Done; tells = λ k n l. Makes a.event Done (Keeper k) (Keeper l) × KeeperHasHeard k l }

@@ -5,4 +5,5 @@ use Rattle.name_registry.proofs.performing.LockedUnderInterlock.begin.Goals as g
 pub invariant_of-deref_mut : goal.invariant_of-deref_mut
 invariant_of-deref_mut g c =
     let x = c.deref_mut.result.now in
-    record { counted = still_booked x.book.total x.keeper c.begin.new.keeper x.counted (begun_same g.D.Domain.settings x.keeper c.begin.result.0 c.begin.result.1 c.begin.new.keeper c.begin.ensures) }
+    let same = begun_same g.D.Domain.settings x.keeper c.args.cpu.now c.begin.result.0 c.begin.result.1 c.begin.new.keeper c.begin.new.cpu c.begin.ensures in
+    record { counted = still_booked x.book.total x.keeper c.begin.new.keeper x.counted same }

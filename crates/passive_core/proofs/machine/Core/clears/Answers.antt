@@ -2,7 +2,7 @@ use Rattle.std.proofs.Common.{◌≡◌, sym, ap, subst, ◌∙◌}
 use Rattle.registry_values.specs.declared.mark.Mark.{Mark}
 use Rattle.protocol.specs.Marking.{MarksGrow}
 use Rattle.protocol.specs.Events.{after_look_passive, may_look_passive}
-use Rattle.registry_values.specs.Marks.{cleared}
+use Rattle.registry_values.specs.Marks.{mark_after_passive_look}
 use Rattle.protocol.specs.Invariant.{Holds}
 use Rattle.protocol.specs.State.{State, mark_at, passive_at}
 use Rattle.passive_core.proofs.Advancing.{clear_left, examines_passive, guard_some, passive_clears, passive_look_is, passive_look_marks}
@@ -25,7 +25,7 @@ returns-clause-answer c =
     let s = c.args.self.now in
     let on : Holds s = subst Holds c.self.view_is c.self.invariant in
     let new : c.make.new.self ≡ after_look_passive s c.args.t c.args.c = passive_look_is s c.make.new.self c.args.t c.args.c c.make.result c.requires.rest c.requires.retired c.requires.passed c.requires.cpu c.make.ensures in
-    let m : Mark = cleared (mark_at s.marks c.args.t c.args.c) (passive_at s.passive c.args.c c.args.t) in
+    let m : Mark = mark_after_passive_look (mark_at s.marks c.args.t c.args.c) (passive_at s.passive c.args.c c.args.t) in
     let there : mark_at c.make.new.self.marks c.args.t c.args.c ≡ m = ap (λ (x : State). mark_at x.marks c.args.t c.args.c) new ∙ mark_there s c.args.t c.args.c m on c.requires.slot c.requires.cpu in
     ap (λ (x : Mark). x.clear) (c.mark_at-2.ensures ∙ there) ∙ passive_clears s c.args.t c.args.c on c.requires.retired
 

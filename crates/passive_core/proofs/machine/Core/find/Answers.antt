@@ -1,6 +1,6 @@
 use Rattle.std.proofs.Common.{◌≡◌, ℕ, ◌<◌, length, Option, Some, None, Bool, true, ◌&&◌, refl, sym, ap, subst, ◌∙◌, arith}
 use Rattle.passive_core.specs.Commands.{all_seated, may_act}
-use Rattle.protocol.specs.Events.{guard, taken, after_seek, is_inside, may_seek}
+use Rattle.protocol.specs.Events.{guard, some_outcome, after_seek, is_inside, may_seek}
 use Rattle.passive_core.specs.Finding.{after_find, next_load}
 use Rattle.protocol.specs.Invariant.{Holds}
 use Rattle.protocol.specs.State.{State, search_at}
@@ -19,13 +19,13 @@ make-requires-clause-allowed c =
     rw (c.seat_all.ensures, idle, c.requires.inside) refl
 
 starts : (s b t : State) (c : ℕ) (key : Key) (r : Reply) → Holds s → c < s.settings.cpus → may_act s c ≡ true → is_inside s c ≡ true → b ≡ all_seated s
-    → guard (may_seek b c) (taken (after_seek b c key) Done) ≡ Some (record { state = t; reply = r }) → Walks (all_seated s) t c key
+    → guard (may_seek b c) (some_outcome (after_seek b c key) Done) ≡ Some (record { state = t; reply = r }) → Walks (all_seated s) t c key
 starts s b t c key r on lt ready inside seated made =
     let idle = acting_idle s c on lt ready in
     let may : may_seek (all_seated s) c ≡ true = ap (λ (x : Bool). x && is_inside s c) idle ∙ inside in
     let low : c < length s.searches = omega (arith, on.shape.searches) in
     seek_starts (all_seated s) t c key r low may
-    (subst (λ (x : State). guard (may_seek x c) (taken (after_seek x c key) Done) ≡ Some (record { state = t; reply = r })) seated made)
+    (subst (λ (x : State). guard (may_seek x c) (some_outcome (after_seek x c key) Done) ≡ Some (record { state = t; reply = r })) seated made)
 
 pub walk-init : goal.walk-init
 walk-init c =

@@ -1,9 +1,9 @@
 use Rattle.std.proofs.Common.{◌≡◌, ℕ, ◌-◌, suc, length, sym, ap, subst, ◌∙◌, arith}
 use Rattle.protocol.specs.State.{State}
-use Rattle.passive_core.specs.Shown.{shown}
+use Rattle.passive_core.specs.Shown.{state_shown}
 use Rattle.protocol.specs.declared.event.Reply.TheVariants.{Word}
 use Rattle.passive_core.proofs.machine.Core.follow.Goals as goal
-use Rattle.protocol.specs.Events.{link_loaded, going_on, after_seeing, taken}
+use Rattle.protocol.specs.Events.{link_loaded, with_search_at, after_seeing, some_outcome}
 use Rattle.protocol.specs.Taken.{Keeps}
 use Rattle.protocol.specs.declared.state.SearchPlace.TheVariants.{AtNumber}
 
@@ -18,6 +18,6 @@ pub returns-else-link-eq0 : goal.returns-else-link-eq0
 returns-else-link-eq0 c =
     let now = c.changes-now.ensures.value ∙ ap (λ (x : State). length x.history) (sym c.self.view_is) in
     let one : c.args.link ≡ suc (c.args.link - 1) = omega (arith, c.if-link-eq0.false) in
-    let eq = ap (link_loaded (shown c.self.inside) c.args.c c.args.search) one
-    ∙ ap (λ (k : ℕ). taken (going_on (after_seeing (shown c.self.inside) c.args.c) c.args.c c.args.search (AtNumber (c.args.link - 1))) (Word k)) (sym one) in
+    let eq = ap (link_loaded (state_shown c.self.inside) c.args.c c.args.search) one
+    ∙ ap (λ (k : ℕ). some_outcome (with_search_at (after_seeing (state_shown c.self.inside) c.args.c) c.args.c c.args.search (AtNumber (c.args.link - 1))) (Word k)) (sym one) in
     ap (λ (x : State). link_loaded x c.args.c c.args.search c.args.link) (sym c.self.view_is) ∙ rw now eq

@@ -1,7 +1,7 @@
 use Rattle.std.proofs.Common.{◌<◌, length, [], Some, refl, sym, ap, ◌∙◌, rules}
 use Rattle.std.proofs.lemmas.List.{get_or_read}
 use Rattle.protocol.specs.State.{State, section_at, mark_at}
-use Rattle.passive_core.specs.Shown.{shown}
+use Rattle.passive_core.specs.Shown.{state_shown}
 use Rattle.protocol.specs.Events.{may_examine}
 use Rattle.protocol.specs.declared.event.Event.TheVariants.{Look}
 use Rattle.protocol.specs.declared.event.Reply.TheVariants.{Word}
@@ -15,4 +15,4 @@ invariant_of-self c =
     let mark = c.mark_at-mark.ensures ∙ ap (λ (x : State). mark_at x.marks c.args.t c.args.c) (sym c.self.view_is) in
     let low : c.args.t < length c.self.inside.marks.items = search rules in
     let row = get_or_read c.self.inside.marks.items c.args.t c.index_mut.result.now low c.index_mut.ensures.value [] in
-    step_holds (shown c.self.inside) _ (Look (Some c.args.t) c.args.c) (Word c.section_at-word.result) c.self.invariant (rw (test, c.looked.ensures, word, mark, row) refl)
+    step_holds (state_shown c.self.inside) _ (Look (Some c.args.t) c.args.c) (Word c.section_at-word.result) c.self.invariant (rw (test, c.looked.ensures, word, mark, row) refl)

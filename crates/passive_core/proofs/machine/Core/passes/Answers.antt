@@ -2,7 +2,7 @@ use Rattle.std.proofs.Common.{◌≡◌, sym, ap, subst, ◌∙◌}
 use Rattle.registry_values.specs.declared.mark.Mark.{Mark}
 use Rattle.passive_core.specs.Advancing.{MarksPass}
 use Rattle.protocol.specs.Events.{after_look}
-use Rattle.registry_values.specs.Marks.{looked}
+use Rattle.registry_values.specs.Marks.{mark_after_look}
 use Rattle.protocol.specs.Invariant.{Holds}
 use Rattle.protocol.specs.State.{State, section_at, mark_at}
 use Rattle.passive_core.proofs.Advancing.{look_is, look_marks, look_passes, passed_left}
@@ -20,7 +20,7 @@ returns-clause-answer c =
     let s = c.args.self.now in
     let on : Holds s = subst Holds c.self.view_is c.self.invariant in
     let new : c.make.new.self ≡ after_look s c.args.t c.args.c = look_is s c.make.new.self c.args.t c.args.c c.make.result c.requires.rest c.requires.retired c.requires.cpu c.make.ensures in
-    let m : Mark = looked (mark_at s.marks c.args.t c.args.c) (section_at s c.args.c) in
+    let m : Mark = mark_after_look (mark_at s.marks c.args.t c.args.c) (section_at s c.args.c) in
     let there : mark_at c.make.new.self.marks c.args.t c.args.c ≡ m = ap (λ (x : State). mark_at x.marks c.args.t c.args.c) new ∙ mark_there s c.args.t c.args.c m on c.requires.slot c.requires.cpu in
     ap (λ (x : Mark). x.passed) (c.mark_at-2.ensures ∙ there) ∙ look_passes s c.args.t c.args.c on c.requires.rest c.requires.retired c.requires.cpu
 

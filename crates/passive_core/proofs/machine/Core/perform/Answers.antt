@@ -1,5 +1,5 @@
 use Rattle.std.proofs.Common.{◌≡◌, ◌<◌, true, false, refl, sym, ap, subst, ◌∙◌, None}
-use Rattle.registry_values.specs.Answers.{waiting_for}
+use Rattle.registry_values.specs.Answers.{wait_answer}
 use Rattle.registry_values.specs.Marks.{least_below}
 use Rattle.passive_core.specs.Commands.{all_seated, may_act}
 use Rattle.protocol.specs.Events.{is_inside}
@@ -22,7 +22,7 @@ pub returns-in_err-waiting_for-clause-answer : goal.returns-in_err-waiting_for-c
 returns-in_err-waiting_for-clause-answer c =
     let least : c.wait_for_sections.result ≡ least_below (is_inside c.args.self.now) c.args.self.now.settings.cpus = c.wait_for_sections.ensures.answer ∙ ap (λ (x : State). least_below (is_inside x) x.settings.cpus) c.seat_all.ensures in
     let outside : is_inside c.args.self.now c.args.c ≡ false = sym c.inside.ensures ∙ c.if-inside.false in
-    rw outside (handed_on c.from_residual.result c.in_err-waiting_for.field-0.0 c.from_residual.ensures.0 c.from_residual.ensures.1 ∙ (c.in_err-waiting_for.ensures.value ∙ ap waiting_for least))
+    rw outside (handed_on c.from_residual.result c.in_err-waiting_for.field-0.0 c.from_residual.ensures.0 c.from_residual.ensures.1 ∙ (c.in_err-waiting_for.ensures.value ∙ ap wait_answer least))
 
 pub pass_all-requires-clause-outside : goal.pass_all-requires-clause-outside
 pass_all-requires-clause-outside c =

@@ -1,6 +1,6 @@
 use Rattle.std.proofs.Common.{refl, ap, ◌∙◌}
 use Rattle.protocol.specs.State.{State, hand_at}
-use Rattle.passive_core.specs.Shown.{shown}
+use Rattle.passive_core.specs.Shown.{state_shown}
 use Rattle.protocol.specs.declared.event.Event.TheVariants.{SplitBack}
 use Rattle.protocol.specs.declared.event.Reply.TheVariants.{Ref}
 use Rattle.protocol.proofs.keeps.Keeping.{step_holds}
@@ -9,4 +9,4 @@ use Rattle.passive_core.proofs.machine.Core.put_back.Goals as goal
 pub invariant_of-self : goal.invariant_of-self
 invariant_of-self c =
     let hand = ap (λ (x : State). hand_at x c.args.c) c.self.view_is ∙ c.requires in
-    step_holds (shown c.self.inside) _ (SplitBack c.args.c) (Ref c.args.id) c.self.invariant (rw (hand) refl)
+    step_holds (state_shown c.self.inside) _ (SplitBack c.args.c) (Ref c.args.id) c.self.invariant (rw (hand) refl)

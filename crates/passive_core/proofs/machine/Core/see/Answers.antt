@@ -1,6 +1,6 @@
 use Rattle.std.proofs.Common.{length, Some, refl, sym, ap, ◌∙◌}
 use Rattle.protocol.specs.State.{State}
-use Rattle.passive_core.specs.Shown.{shown}
+use Rattle.passive_core.specs.Shown.{state_shown}
 use Rattle.protocol.specs.Events.{is_idle}
 use Rattle.protocol.specs.declared.event.Event.TheVariants.{Hear}
 use Rattle.protocol.specs.declared.event.Reply.TheVariants.{Done}
@@ -11,4 +11,4 @@ pub invariant_of-self : goal.invariant_of-self
 invariant_of-self c =
     let test = ap (λ (x : State). is_idle x c.args.c) c.self.view_is ∙ (sym c.is_idle.ensures.value ∙ c.if-not-is_idle.false) in
     let now = c.changes-now.ensures.value ∙ ap (λ (x : State). length x.history) (sym c.self.view_is) in
-    step_holds (shown c.self.inside) _ (Hear (Some c.args.c)) Done c.self.invariant (rw (test, now) refl)
+    step_holds (state_shown c.self.inside) _ (Hear (Some c.args.c)) Done c.self.invariant (rw (test, now) refl)

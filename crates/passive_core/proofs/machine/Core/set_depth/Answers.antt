@@ -1,5 +1,5 @@
 use Rattle.std.proofs.Common.{◌<◌, sym, ap, subst, ◌∙◌, arith}
-use Rattle.passive_core.specs.Shown.{shown}
+use Rattle.passive_core.specs.Shown.{state_shown}
 use Rattle.protocol.specs.State.{State}
 use Rattle.protocol.specs.Events.{is_inside}
 use Rattle.passive_core.proofs.Entering.{depth_keeps}
@@ -9,4 +9,4 @@ pub invariant_of-self : goal.invariant_of-self
 invariant_of-self c =
     let inside = ap (λ (x : State). is_inside x c.args.c) c.self.view_is ∙ c.requires.inside in
     let known : c.args.c < c.self.inside.settings.cpus = subst (λ (x : State). c.args.c < x.settings.cpus) (sym c.self.view_is) c.requires.known in
-    depth_keeps (shown c.self.inside) c.args.c c.args.depth c.self.invariant known inside c.requires.deep (omega (arith, c.ranges.depth))
+    depth_keeps (state_shown c.self.inside) c.args.c c.args.depth c.self.invariant known inside c.requires.deep (omega (arith, c.ranges.depth))

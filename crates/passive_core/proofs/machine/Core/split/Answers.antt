@@ -1,6 +1,6 @@
 use Rattle.std.proofs.Common.{refl, sym, ap, ◌∙◌}
 use Rattle.protocol.specs.State.{State, hand_at}
-use Rattle.passive_core.specs.Shown.{shown}
+use Rattle.passive_core.specs.Shown.{state_shown}
 use Rattle.protocol.specs.Events.{least_id}
 use Rattle.protocol.specs.declared.event.Event.TheVariants.{SplitRef}
 use Rattle.protocol.specs.declared.event.Reply.TheVariants.{Ref}
@@ -11,4 +11,4 @@ pub invariant_of-self-2 : goal.invariant_of-self-2
 invariant_of-self-2 c =
     let hand = ap (λ (x : State). hand_at x c.args.c) c.self.view_is ∙ c.requires in
     let id = c.least_id-id.ensures.value ∙ ap (λ (x : State). least_id x.locals) (sym c.self.view_is) in
-    step_holds (shown c.self.inside) _ (SplitRef c.args.c) (Ref c.least_id-id.result) c.self.invariant (rw (hand, c.in_ok-put_local.ensures.ok, id) refl)
+    step_holds (state_shown c.self.inside) _ (SplitRef c.args.c) (Ref c.least_id-id.result) c.self.invariant (rw (hand, c.in_ok-put_local.ensures.ok, id) refl)

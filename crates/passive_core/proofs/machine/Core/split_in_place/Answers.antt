@@ -1,7 +1,7 @@
 use Rattle.std.proofs.Common.{◌≡◌, ◌∙◌, ap, lt-ltb, length, nat_lt, refl, subst, sym, true}
 use Rattle.protocol.specs.State.{State, hand_at}
 use Rattle.protocol.specs.Events.{least_id}
-use Rattle.passive_core.specs.Shown.{shown}
+use Rattle.passive_core.specs.Shown.{state_shown}
 use Rattle.protocol.specs.declared.event.Event.TheVariants.{SplitRef}
 use Rattle.protocol.specs.declared.event.Reply.TheVariants.{Ref}
 use Rattle.protocol.proofs.keeps.Keeping.{step_holds}
@@ -11,5 +11,5 @@ pub invariant_of-self : goal.invariant_of-self
 invariant_of-self c =
     let hand = ap (λ (x : State). hand_at x c.args.c) c.self.view_is ∙ c.requires.hand in
     let id = c.least_id-id.ensures.value ∙ ap (λ (x : State). least_id x.locals) (sym c.self.view_is) in
-    let room : nat_lt (least_id (shown c.self.inside).locals) (length (shown c.self.inside).locals) ≡ true = subst (λ (x : State). nat_lt (least_id x.locals) (length x.locals) ≡ true) (sym c.self.view_is) (lt-ltb (least_id c.args.self.now.locals) (length c.args.self.now.locals) c.requires.room) in
-    step_holds (shown c.self.inside) _ (SplitRef c.args.c) (Ref c.least_id-id.result) c.self.invariant (rw (hand, id, room) refl)
+    let room : nat_lt (least_id (state_shown c.self.inside).locals) (length (state_shown c.self.inside).locals) ≡ true = subst (λ (x : State). nat_lt (least_id x.locals) (length x.locals) ≡ true) (sym c.self.view_is) (lt-ltb (least_id c.args.self.now.locals) (length c.args.self.now.locals) c.requires.room) in
+    step_holds (state_shown c.self.inside) _ (SplitRef c.args.c) (Ref c.least_id-id.result) c.self.invariant (rw (hand, id, room) refl)

@@ -1,7 +1,7 @@
 use Rattle.std.proofs.Common.{◌<◌, length, [], refl, sym, ap, ◌∙◌, rules}
 use Rattle.std.proofs.lemmas.List.{get_or_read}
 use Rattle.protocol.specs.State.{State, mark_at, count_at}
-use Rattle.passive_core.specs.Shown.{shown}
+use Rattle.passive_core.specs.Shown.{state_shown}
 use Rattle.protocol.specs.Events.{may_collect}
 use Rattle.protocol.specs.declared.event.Event.TheVariants.{Collect}
 use Rattle.protocol.specs.declared.event.Reply.TheVariants.{Word}
@@ -17,4 +17,4 @@ invariant_of-self c =
     let row = get_or_read c.self.inside.counts.items c.args.t c.index_mut.result.now low c.index_mut.ensures.value [] in
     let low2 : c.args.t < length c.self.inside.marks.items = search rules in
     let row2 = get_or_read c.self.inside.marks.items c.args.t c.index_mut-2.result.now low2 c.index_mut-2.ensures.value [] in
-    step_holds (shown c.self.inside) _ (Collect c.args.t c.args.c) (Word c.count_at-word.result) c.self.invariant (rw (test, c.collected.ensures, word, mark, row, row2) refl)
+    step_holds (state_shown c.self.inside) _ (Collect c.args.t c.args.c) (Word c.count_at-word.result) c.self.invariant (rw (test, c.collected.ensures, word, mark, row, row2) refl)

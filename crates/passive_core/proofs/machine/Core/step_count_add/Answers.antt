@@ -1,7 +1,7 @@
 use Rattle.std.proofs.Common.{◌<◌, length, [], refl, sym, ap, ◌∙◌, arith, rules}
 use Rattle.std.proofs.lemmas.List.{get_or_read}
 use Rattle.protocol.specs.State.{State, found_at, count_at}
-use Rattle.passive_core.specs.Shown.{shown}
+use Rattle.passive_core.specs.Shown.{state_shown}
 use Rattle.registry_values.specs.Slots.{slot_of}
 use Rattle.protocol.specs.Events.{may_count}
 use Rattle.protocol.specs.declared.event.Event.TheVariants.{CountAdd}
@@ -15,7 +15,7 @@ overflow_add-word c =
     let found = ap (λ (x : State). found_at x c.args.c) c.self.view_is ∙ sym c.in-Some.ensures.value in
     let place = ap (λ (x : State). slot_of x.slots c.in-Some.found.number) c.self.view_is ∙ sym c.in-Some-slot_of.ensures.value in
     let word = c.count_at-word.ensures ∙ ap (λ (x : State). count_at x.counts c.args.c c.in-Some-slot_of.t) (sym c.self.view_is) in
-    omega (arith, counted_room (shown c.self.inside) c.args.c c.in-Some-slot_of.t c.in-Some.found c.self.invariant found place, word)
+    omega (arith, counted_room (state_shown c.self.inside) c.args.c c.in-Some-slot_of.t c.in-Some.found c.self.invariant found place, word)
 
 pub invariant_of-self : goal.invariant_of-self
 invariant_of-self c =
@@ -28,4 +28,4 @@ invariant_of-self c =
     let row = get_or_read c.self.inside.counts.items c.in-Some-slot_of.t c.index_mut.result.now low c.index_mut.ensures.value [] in
     let low2 : c.in-Some-slot_of.t < length c.self.inside.nets.items = search rules in
     let row2 = get_or_read c.self.inside.nets.items c.in-Some-slot_of.t c.index_mut-2.result.now low2 c.index_mut-2.ensures.value [] in
-    step_holds (shown c.self.inside) _ (CountAdd c.args.c) (Word c.count_at-word.result) c.self.invariant (rw (found, place, test, word, net, row, row2) refl)
+    step_holds (state_shown c.self.inside) _ (CountAdd c.args.c) (Word c.count_at-word.result) c.self.invariant (rw (found, place, test, word, net, row, row2) refl)

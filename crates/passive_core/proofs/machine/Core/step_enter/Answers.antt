@@ -1,6 +1,6 @@
 use Rattle.std.proofs.Common.{length, refl, sym, ap, ◌∙◌}
 use Rattle.protocol.specs.State.{State, section_at}
-use Rattle.passive_core.specs.Shown.{shown}
+use Rattle.passive_core.specs.Shown.{state_shown}
 use Rattle.protocol.specs.Events.{may_enter}
 use Rattle.protocol.specs.declared.event.Event.TheVariants.{Enter}
 use Rattle.protocol.specs.declared.event.Reply.TheVariants.{Done}
@@ -12,4 +12,4 @@ invariant_of-self c =
     let test = ap (λ (x : State). may_enter x c.args.c) c.self.view_is ∙ (sym c.may_enter.ensures.value ∙ c.if-not-may_enter.false) in
     let word = c.section_at-word.ensures.value ∙ ap (λ (x : State). section_at x c.args.c) (sym c.self.view_is) in
     let now = c.changes-now.ensures.value ∙ ap (λ (x : State). length x.history) (sym c.self.view_is) in
-    step_holds (shown c.self.inside) _ (Enter c.args.c) Done c.self.invariant (rw (test, word, now) refl)
+    step_holds (state_shown c.self.inside) _ (Enter c.args.c) Done c.self.invariant (rw (test, word, now) refl)

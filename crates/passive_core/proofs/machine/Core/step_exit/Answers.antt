@@ -1,6 +1,6 @@
 use Rattle.std.proofs.Common.{refl, sym, ap, ◌∙◌}
 use Rattle.protocol.specs.State.{State, section_at}
-use Rattle.passive_core.specs.Shown.{shown}
+use Rattle.passive_core.specs.Shown.{state_shown}
 use Rattle.protocol.specs.Events.{may_exit}
 use Rattle.protocol.specs.declared.event.Event.TheVariants.{Exit}
 use Rattle.protocol.specs.declared.event.Reply.TheVariants.{Done}
@@ -11,4 +11,4 @@ pub invariant_of-self : goal.invariant_of-self
 invariant_of-self c =
     let test = ap (λ (x : State). may_exit x c.args.c) c.self.view_is ∙ (sym c.may_exit.ensures.value ∙ c.if-not-may_exit.false) in
     let word = c.section_at-word.ensures.value ∙ ap (λ (x : State). section_at x c.args.c) (sym c.self.view_is) in
-    step_holds (shown c.self.inside) _ (Exit c.args.c) Done c.self.invariant (rw (test, word) refl)
+    step_holds (state_shown c.self.inside) _ (Exit c.args.c) Done c.self.invariant (rw (test, word) refl)

@@ -1,7 +1,7 @@
 use Rattle.std.proofs.Common.{refl, sym, ap, ◌∙◌}
 use Rattle.protocol.specs.State.{State, local_at}
-use Rattle.passive_core.specs.Shown.{shown}
-use Rattle.protocol.specs.Events.{is_idle, standing}
+use Rattle.passive_core.specs.Shown.{state_shown}
+use Rattle.protocol.specs.Events.{is_idle, number_standing}
 use Rattle.protocol.specs.declared.event.Event.TheVariants.{JoinRef}
 use Rattle.protocol.specs.declared.event.Reply.TheVariants.{Done}
 use Rattle.protocol.proofs.keeps.Keeping.{step_holds}
@@ -9,6 +9,6 @@ use Rattle.passive_core.proofs.machine.Core.step_join_ref.Goals as goal
 
 pub invariant_of-self : goal.invariant_of-self
 invariant_of-self c =
-    let live = ap (λ (x : State). standing (local_at x.locals c.args.id)) c.self.view_is ∙ sym c.in-Some.ensures.value in
+    let live = ap (λ (x : State). number_standing (local_at x.locals c.args.id)) c.self.view_is ∙ sym c.in-Some.ensures.value in
     let test = ap (λ (x : State). is_idle x c.args.c) c.self.view_is ∙ (sym c.is_idle.ensures.value ∙ c.if-not-is_idle.false) in
-    step_holds (shown c.self.inside) _ (JoinRef c.args.c c.args.id) Done c.self.invariant (rw (live, test) refl)
+    step_holds (state_shown c.self.inside) _ (JoinRef c.args.c c.args.id) Done c.self.invariant (rw (live, test) refl)

@@ -1,7 +1,7 @@
 use Rattle.std.proofs.Common.{refl, sym, ap, ◌∙◌, arith}
 use Rattle.protocol.specs.State.{State, total_at, kept_at}
 use Rattle.registry_values.specs.Slots.{slot_at, slot_of}
-use Rattle.passive_core.specs.Shown.{shown}
+use Rattle.passive_core.specs.Shown.{state_shown}
 use Rattle.protocol.specs.Events.{is_drained, is_iface_slot}
 use Rattle.protocol.specs.declared.event.Event.TheVariants.{KeptSub}
 use Rattle.protocol.specs.declared.event.Reply.TheVariants.{Done}
@@ -16,7 +16,7 @@ overflow_sub-total c =
     let iface = ap (λ (x : State). is_iface_slot (slot_at x.slots c.args.t)) c.self.view_is ∙ (ap is_iface_slot (sym c.slot_at.ensures.value) ∙ (sym c.is_iface_slot.ensures ∙ c.if-not-is_iface_slot.false)) in
     let drained = ap (λ (x : State). is_drained x c.args.t) c.self.view_is ∙ (sym c.is_drained.ensures.value ∙ c.if-not-is_drained.false) in
     let total = c.total_at-total.ensures ∙ ap (λ (x : State). total_at x.totals c.in-Some-slot_of.driver) (sym c.self.view_is) in
-    omega (arith, driver_positive (shown c.self.inside) c.args.t c.in-Some.number c.in-Some-slot_of.driver c.self.invariant kept place drained, total)
+    omega (arith, driver_positive (state_shown c.self.inside) c.args.t c.in-Some.number c.in-Some-slot_of.driver c.self.invariant kept place drained, total)
 
 pub invariant_of-self : goal.invariant_of-self
 invariant_of-self c =
@@ -25,4 +25,4 @@ invariant_of-self c =
     let iface = ap (λ (x : State). is_iface_slot (slot_at x.slots c.args.t)) c.self.view_is ∙ (ap is_iface_slot (sym c.slot_at.ensures.value) ∙ (sym c.is_iface_slot.ensures ∙ c.if-not-is_iface_slot.false)) in
     let drained = ap (λ (x : State). is_drained x c.args.t) c.self.view_is ∙ (sym c.is_drained.ensures.value ∙ c.if-not-is_drained.false) in
     let total = c.total_at-total.ensures ∙ ap (λ (x : State). total_at x.totals c.in-Some-slot_of.driver) (sym c.self.view_is) in
-    step_holds (shown c.self.inside) _ (KeptSub c.args.t) Done c.self.invariant (rw (kept, place, iface, drained, total) refl)
+    step_holds (state_shown c.self.inside) _ (KeptSub c.args.t) Done c.self.invariant (rw (kept, place, iface, drained, total) refl)

@@ -1,7 +1,7 @@
 use Rattle.std.proofs.Common.{◌<◌, length, [], refl, sym, ap, ◌∙◌, rules}
 use Rattle.std.proofs.lemmas.List.{get_or_read}
 use Rattle.protocol.specs.State.{State, passive_at}
-use Rattle.passive_core.specs.Shown.{shown}
+use Rattle.passive_core.specs.Shown.{state_shown}
 use Rattle.registry_values.specs.Slots.{slot_of}
 use Rattle.protocol.specs.Events.{may_add}
 use Rattle.protocol.specs.declared.event.Event.TheVariants.{PassiveAdd}
@@ -16,4 +16,4 @@ invariant_of-self c =
     let word = c.passive_at-word.ensures ∙ ap (λ (x : State). passive_at x.passive c.args.c c.in-Some.t) (sym c.self.view_is) in
     let low : c.in-Some.t < length c.self.inside.passive.items = search rules in
     let row = get_or_read c.self.inside.passive.items c.in-Some.t c.index_mut.result.now low c.index_mut.ensures.value [] in
-    step_holds (shown c.self.inside) _ (PassiveAdd c.args.c c.args.number) (Word c.passive_at-word.result) c.self.invariant (rw (place, test, word, row) refl)
+    step_holds (state_shown c.self.inside) _ (PassiveAdd c.args.c c.args.number) (Word c.passive_at-word.result) c.self.invariant (rw (place, test, word, row) refl)

@@ -1,6 +1,6 @@
 use Rattle.std.proofs.Common.{refl, sym, ap, ◌∙◌}
 use Rattle.protocol.specs.State.{State, row_at}
-use Rattle.passive_core.specs.Shown.{shown}
+use Rattle.passive_core.specs.Shown.{state_shown}
 use Rattle.protocol.specs.Events.{may_publish, entry_of}
 use Rattle.protocol.specs.declared.event.Event.TheVariants.{Publish}
 use Rattle.protocol.specs.declared.event.Reply.TheVariants.{Done}
@@ -11,4 +11,4 @@ pub invariant_of-self-2 : goal.invariant_of-self-2
 invariant_of-self-2 c =
     let entry = ap (λ (x : State). entry_of c.args.t (row_at x.rows c.args.t)) c.self.view_is ∙ sym c.in-Some.ensures in
     let test = ap (λ (x : State). may_publish x c.args.t c.in-Some.entry) c.self.view_is ∙ (sym c.may_publish.ensures.value ∙ c.if-not-may_publish.false) in
-    step_holds (shown c.self.inside) _ (Publish c.args.t) Done c.self.invariant (rw (entry, test, c.in_ok-grow.ensures.ok) refl)
+    step_holds (state_shown c.self.inside) _ (Publish c.args.t) Done c.self.invariant (rw (entry, test, c.in_ok-grow.ensures.ok) refl)

@@ -1,6 +1,6 @@
 use Rattle.std.proofs.Common.{refl, sym, ap, ◌∙◌}
 use Rattle.protocol.specs.State.{State, seen_at}
-use Rattle.passive_core.specs.Shown.{shown}
+use Rattle.passive_core.specs.Shown.{state_shown}
 use Rattle.protocol.specs.Events.{may_seek}
 use Rattle.protocol.specs.declared.event.Event.TheVariants.{Seek}
 use Rattle.protocol.specs.declared.event.Reply.TheVariants.{Done}
@@ -11,4 +11,4 @@ pub invariant_of-self : goal.invariant_of-self
 invariant_of-self c =
     let test = ap (λ (x : State). may_seek x c.args.c) c.self.view_is ∙ (sym c.may_seek.ensures.value ∙ c.if-not-may_seek.false) in
     let start = c.seen_at-start.ensures ∙ ap (λ (x : State). seen_at x c.args.c) (sym c.self.view_is) in
-    step_holds (shown c.self.inside) _ (Seek c.args.c c.args.kind c.args.name) Done c.self.invariant (rw (test, start) refl)
+    step_holds (state_shown c.self.inside) _ (Seek c.args.c c.args.kind c.args.name) Done c.self.invariant (rw (test, start) refl)

@@ -1,6 +1,6 @@
 use Rattle.std.proofs.Common.{refl, sym, ap, ◌∙◌}
 use Rattle.protocol.specs.State.{State}
-use Rattle.passive_core.specs.Shown.{shown}
+use Rattle.passive_core.specs.Shown.{state_shown}
 use Rattle.protocol.specs.Events.{may_vacate}
 use Rattle.protocol.specs.declared.event.Event.TheVariants.{Vacate}
 use Rattle.protocol.specs.declared.event.Reply.TheVariants.{Done}
@@ -10,4 +10,4 @@ use Rattle.passive_core.proofs.machine.Core.step_vacate.Goals as goal
 pub invariant_of-self : goal.invariant_of-self
 invariant_of-self c =
     let test = ap (λ (x : State). may_vacate x c.args.t) c.self.view_is ∙ (sym c.may_vacate.ensures.value ∙ c.if-not-may_vacate.false) in
-    step_holds (shown c.self.inside) _ (Vacate c.args.t) Done c.self.invariant (rw (test) refl)
+    step_holds (state_shown c.self.inside) _ (Vacate c.args.t) Done c.self.invariant (rw (test) refl)

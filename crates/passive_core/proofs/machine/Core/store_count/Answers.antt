@@ -1,7 +1,7 @@
 use Rattle.std.proofs.Common.{◌≡◌, ◌-◌, ◌<◌, length, [], true, false, refl, sym, ap, ◌∙◌, arith, rules, nat_lt}
 use Rattle.std.proofs.lemmas.List.{get_or_read}
 use Rattle.protocol.specs.State.{State}
-use Rattle.passive_core.specs.Shown.{shown}
+use Rattle.passive_core.specs.Shown.{state_shown}
 use Rattle.protocol.specs.Events.{may_write}
 use Rattle.protocol.specs.declared.event.Event.TheVariants.{StoreSlot}
 use Rattle.protocol.specs.declared.event.Reply.TheVariants.{Done}
@@ -16,4 +16,4 @@ invariant_of-self c =
     let many : nat_lt c.args.k 5 ≡ false = le-ltb c.args.k 5 c.requires in
     let low : c.args.t < length c.self.inside.counts.items = search rules in
     let row = get_or_read c.self.inside.counts.items c.args.t c.index_mut.result.now low c.index_mut.ensures.value [] in
-    step_holds (shown c.self.inside) _ (StoreSlot c.args.t c.args.k c.args.v) Done c.self.invariant (rw (many, write, cpu, row) refl)
+    step_holds (state_shown c.self.inside) _ (StoreSlot c.args.t c.args.k c.args.v) Done c.self.invariant (rw (many, write, cpu, row) refl)

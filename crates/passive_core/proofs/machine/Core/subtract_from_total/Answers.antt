@@ -1,6 +1,6 @@
 use Rattle.std.proofs.Common.{◌≡◌, true, refl, sym, ap, ◌∙◌, arith, nat_eq, eq-eqb}
 use Rattle.protocol.specs.State.{State, total_at}
-use Rattle.passive_core.specs.Shown.{shown}
+use Rattle.passive_core.specs.Shown.{state_shown}
 use Rattle.protocol.specs.declared.event.Event.TheVariants.{TotalSub}
 use Rattle.protocol.specs.declared.event.Reply.TheVariants.{Done}
 use Rattle.protocol.proofs.keeps.Keeping.{step_holds}
@@ -11,11 +11,11 @@ pub overflow_sub-total : goal.overflow_sub-total
 overflow_sub-total c =
     let due = ap (λ (x : State). x.due) c.self.view_is ∙ c.requires in
     let total = c.total_at-total.ensures ∙ ap (λ (x : State). total_at x.totals c.args.t) (sym c.self.view_is) in
-    omega (arith, subtracting_range (shown c.self.inside) c.args.t c.self.invariant due, total)
+    omega (arith, subtracting_range (state_shown c.self.inside) c.args.t c.self.invariant due, total)
 
 pub invariant_of-self : goal.invariant_of-self
 invariant_of-self c =
     let due = ap (λ (x : State). x.due) c.self.view_is ∙ c.requires in
     let same : nat_eq c.args.t c.args.t ≡ true = eq-eqb c.args.t c.args.t refl in
     let total = c.total_at-total.ensures ∙ ap (λ (x : State). total_at x.totals c.args.t) (sym c.self.view_is) in
-    step_holds (shown c.self.inside) _ (TotalSub c.args.t) Done c.self.invariant (rw (due, same, total) refl)
+    step_holds (state_shown c.self.inside) _ (TotalSub c.args.t) Done c.self.invariant (rw (due, same, total) refl)

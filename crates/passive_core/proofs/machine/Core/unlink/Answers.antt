@@ -1,7 +1,7 @@
 use Rattle.std.proofs.Common.{get_or, refl, sym, ap, ◌∙◌}
 use Rattle.protocol.specs.State.{State, at_rest}
 use Rattle.registry_values.specs.Slots.{slot_at, slot_before}
-use Rattle.passive_core.specs.Shown.{shown}
+use Rattle.passive_core.specs.Shown.{state_shown}
 use Rattle.protocol.specs.declared.event.Event.TheVariants.{Unpublish}
 use Rattle.protocol.specs.declared.event.Reply.TheVariants.{Done}
 use Rattle.protocol.proofs.keeps.Keeping.{step_holds}
@@ -17,8 +17,8 @@ invariant_of-self-2 c =
     elim c.match-before.branch [
       | in-Some w ↦
           let some = sym before ∙ w.in-Some.is in
-          rw w.self-inside-is (step_holds (shown c.self.inside) _ (Unpublish c.args.t) Done c.self.invariant (rw (live, rest, some, c.in_ok-grow.ensures.ok, link) refl))
+          rw w.self-inside-is (step_holds (state_shown c.self.inside) _ (Unpublish c.args.t) Done c.self.invariant (rw (live, rest, some, c.in_ok-grow.ensures.ok, link) refl))
       | in-None w ↦
           let none = sym before ∙ w.in-None.is in
-          rw w.self-inside-is (step_holds (shown c.self.inside) _ (Unpublish c.args.t) Done c.self.invariant (rw (live, rest, none, c.in_ok-grow.ensures.ok, link) refl))
+          rw w.self-inside-is (step_holds (state_shown c.self.inside) _ (Unpublish c.args.t) Done c.self.invariant (rw (live, rest, none, c.in_ok-grow.ensures.ok, link) refl))
     ]

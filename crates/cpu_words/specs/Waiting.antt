@@ -1,0 +1,41 @@
+-- Waiting for open sections (pserialize(9)): what a seat knows of all CPUs by what it has heard of the keeper's deeds.
+use Rattle.std.specs.Prelude.{◌≡◌, ℕ, ◌<◌, ◌≤◌, List, ◌++◌, length, take, Some}
+use mathlib.Core.Option.{some}
+use lib.ListN.{get_elem?}
+use Rattle.atomic_table.specs.Table.{State as Table}
+use Rattle.registry_values.specs.declared.entry.Entry.{Entry}
+use Rattle.registry_values.specs.declared.settings.Settings.{Settings}
+use Rattle.protocol.specs.declared.event.Event.{Event}
+use Rattle.protocol.specs.History.{EndsAt}
+use Rattle.protocol.specs.State.{opening, begin_at}
+use Rattle.protocol.specs.Laws.{after, HasExit}
+use Rattle.cpu_words.specs.declared.view.CpuView.{CpuView}
+use Rattle.cpu_words.specs.declared.view.KeeperView.{KeeperView}
+use Rattle.cpu_words.specs.declared.view.Deed.{Deed}
+use Rattle.cpu_words.specs.declared.view.Logged.{Logged}
+use Rattle.cpu_words.specs.declared.view.View.TheVariants.{Keeper, Cpu}
+use Rattle.cpu_words.specs.Deeds.{changes_in, HasWaited}
+use Rattle.cpu_words.specs.Logs.{plain, part, LoggedRuled}
+use Rattle.cpu_words.specs.Headline.{RunsAsLogged, SectionMayHold}
+
+-- Each section that was open when the keeper had done just `before` has ended: so it is of a list of events that leads to what the table shows.
+pub record HaveEnded (z : Settings) (s : Table ℕ Logged) (before : List Deed) : Type 0 where
+  pub run : RunsAsLogged z s
+  -- the events until then, and those since
+  pub earlier : List Event
+  pub since : List Event
+  pub are : run.run.events ≡ earlier ++ since
+  pub did : part 0 (take (length earlier) run.acts) ≡ before
+  -- the history had as many changes then as the keeper's log says
+  pub changes : length (after (opening z) earlier).history ≡ changes_in before
+  -- a section of a CPU that was open then has ended: there was its exit
+  pub exits : (c b : ℕ) → c < z.cpus → begin_at (after (opening z) earlier) c ≡ Some b → HasExit (after (opening z) earlier) c since
+  -- so a section that is open now began later
+  pub begun : (c b : ℕ) → begin_at (after (opening z) run.run.events) c ≡ Some b → changes_in before ≤ b
+  -- and no open section may hold an entry that was detached by then
+  pub none : (i j p : ℕ) (k : KeeperView) (x : CpuView) (e : Entry) → get_elem? (plain s).views i ≡ some (Keeper k) → get_elem? (plain s).views j ≡ some (Cpu x)
+      → EndsAt k.history e.number p → p ≤ changes_in before → SectionMayHold k.history e x → ⊥
+
+-- a seat that has heard that the keeper saw each CPU out of a section, after it had done `before`, knows this of the table, whatever it is now
+abbrev pub WaitingEnds : Type 0
+WaitingEnds = (z : Settings) (s : Table ℕ Logged) (i : ℕ) (l : Logged) (before since : List Deed) → LoggedRuled z s → get_elem? s.views i ≡ some l → l.deeds ≡ before ++ since → HasWaited since z.cpus → HaveEnded z s before

@@ -1,0 +1,258 @@
+-- What the caller's CPU knows once a perform is done: the keeper saw each CPU out of a section, after it had heard the caller.
+use Rattle.std.proofs.Common.{◌≡◌, ◌⊎◌, inl, inr, ⊎_elim, ℕ, zero, suc, ◌<◌, ◌≤◌, Bool, true, false, not, ◌||◌, ◌==◌, List, [], ◌∷◌, ◌++◌, length, get_or, Option, Some, None, Result, Ok, Err, IfOk, refl, sym, ap, ◌∙◌, subst, append_assoc, arith}
+use Rattle.std.proofs.lemmas.Bool.{or_cases, not-true, false≢true, eqb-true, eqb-false, cases_eq, cases_lt, not-false}
+use Rattle.std.proofs.lemmas.List.{append-nil}
+use mathlib.Core.List.{IsPrefix}
+use Rattle.protocol.specs.declared.event.Event.TheVariants.{Hear, Look, Snapshot}
+use Rattle.protocol.specs.declared.event.Reply.TheVariants.{Done, Word}
+use Rattle.protocol.specs.Laws.{HasMoved}
+use Rattle.protocol.proofs.slots.Cells.{get_or_all}
+use Rattle.registry_values.specs.declared.refusal.Refusal.{Refusal}
+use Rattle.registry_values.specs.declared.settings.Settings.{Settings}
+use Rattle.registry_values.specs.Answers.{wait_answer}
+use Rattle.registry_values.specs.Marks.{is_even, is_out}
+use Rattle.registry_values.proofs.Least.{least_none}
+use Rattle.cpu_words.specs.declared.view.Deed.{Deed}
+use Rattle.cpu_words.specs.Deeds.{changes_in, has_taken, has_found, IsSeenOut, HasWaited}
+use Rattle.cpu_words.specs.Notes.{keeper_with_heard}
+use Rattle.cpu_words.specs.Rule.{did}
+use Rattle.passive_list.specs.Cpus.{OnCpu}
+use Rattle.passive_list.specs.Keepers.{OnKeeper}
+use Rattle.passive_list.specs.Notes.{HasHeardOn}
+use Rattle.passive_list.proofs.Walking.{prefix_trans}
+use Rattle.name_registry.specs.Meeting.{HasLearned}
+use Rattle.name_registry.specs.Performing.{Finishes, GlancesBelow, GlancesOnce, HasGlanced, HasPerformed, HasSeenAllOut, Hold, Looking, LooksOnce, SnapshotsBelow, SomeBegan, SomeGlanced, SomePassed, TurnsWaiting, LastTurn, is_seen, none_seen, word_of}
+use Rattle.name_registry.proofs.Owned.{learned}
+
+-- What stands in a log
+
+-- the word of c was taken
+record IsTaken (c w : ℕ) (log : List Deed) : Type 0 where
+  before : List Deed
+  after : List Deed
+  are : log ≡ before ++ has_taken c w ∷ after
+
+-- it was found out of the section of the word `old`
+record IsFound (c old : ℕ) (log : List Deed) : Type 0 where
+  new : ℕ
+  before : List Deed
+  after : List Deed
+  are : log ≡ before ++ has_found c new ∷ after
+  out : is_out old new ≡ true
+
+taken_more : (c w : ℕ) (log more : List Deed) → IsTaken c w log → IsTaken c w (log ++ more)
+taken_more c w log more is = record { before = is.before; after = is.after ++ more; are = ap (λ (l : List Deed). l ++ more) is.are ∙ append_assoc is.before (has_taken c w ∷ is.after) more }
+
+taken_past : (c w : ℕ) (first log : List Deed) → IsTaken c w log → IsTaken c w (first ++ log)
+taken_past c w first log is = record { before = first ++ is.before; after = is.after; are = ap (λ (l : List Deed). first ++ l) is.are ∙ sym (append_assoc first is.before (has_taken c w ∷ is.after)) }
+
+found_more : (c old : ℕ) (log more : List Deed) → IsFound c old log → IsFound c old (log ++ more)
+found_more c old log more is = record { new = is.new; before = is.before; after = is.after ++ more; are = ap (λ (l : List Deed). l ++ more) is.are ∙ append_assoc is.before (has_found c is.new ∷ is.after) more; out = is.out }
+
+found_past : (c old : ℕ) (first log : List Deed) → IsFound c old log → IsFound c old (first ++ log)
+found_past c old first log is = record { new = is.new; before = first ++ is.before; after = is.after; are = ap (λ (l : List Deed). first ++ l) is.are ∙ sym (append_assoc first is.before (has_found c is.new ∷ is.after)); out = is.out }
+
+seen_more : (c : ℕ) (log more : List Deed) → IsSeenOut c log → IsSeenOut c (log ++ more)
+seen_more c log more is = record {
+  old = is.old;
+  new = is.new;
+  before = is.before;
+  between = is.between;
+  after = is.after ++ more;
+  are = ap (λ (l : List Deed). l ++ more) is.are ∙ (append_assoc is.before (has_taken c is.old ∷ (is.between ++ has_found c is.new ∷ is.after)) more
+      ∙ ap (λ (l : List Deed). is.before ++ has_taken c is.old ∷ l) (append_assoc is.between (has_found c is.new ∷ is.after) more));
+  moved = is.moved;
+}
+
+-- what the code compares says that the word moved
+moved : (old new : ℕ) → is_out old new ≡ true → HasMoved old new
+moved old new is = ⊎_elim
+    (λ (even : is_even new ≡ true). inl (eqb-true _ 0 even))
+    (λ (other : not (old == new) ≡ true). inr (λ same. eqb-false old new (not-true (old == new) other) (sym same)))
+    (or_cases (is_even new) (not (old == new)) is)
+
+seen_out : (c w : ℕ) (first second : List Deed) → IsTaken c w first → IsFound c w second → IsSeenOut c (first ++ second)
+seen_out c w first second taken found = record {
+  old = w;
+  new = found.new;
+  before = taken.before;
+  between = taken.after ++ found.before;
+  after = found.after;
+  are = (λ k. taken.are k ++ found.are k) ∙ (append_assoc taken.before (has_taken c w ∷ taken.after) (found.before ++ has_found c found.new ∷ found.after)
+      ∙ ap (λ (l : List Deed). taken.before ++ has_taken c w ∷ l) (sym (append_assoc taken.after found.before (has_found c found.new ∷ found.after))));
+  moved = moved w found.new found.out;
+}
+
+-- What looks add to the log
+
+record Snapped (words : List ℕ) (n : ℕ) (k l : Looking) : Type 0 where
+  more : List Deed
+  are : l.log ≡ k.log ++ more
+  taken : (c : ℕ) → c < n → IsTaken c (word_of words c) more
+
+snapped : (words : List ℕ) (n : ℕ) (k l : Looking) → SnapshotsBelow words n k l → Snapped words n k l
+snapped words zero k l is = record { more = []; are = ap (λ (x : Looking). x.log) is ∙ sym (append-nil k.log); taken = λ c lt. absurd (omega (arith, lt)) }
+snapped words (suc n) k l is =
+    let p = snapped words n k is.0 is.1 in
+    let d : List Deed = has_taken n (word_of words n) ∷ [] in record {
+      more = p.more ++ d;
+      are = ap (λ (x : Looking). x.log) is.2.change ∙ (ap (λ (x : List Deed). x ++ d) p.are ∙ append_assoc k.log p.more d);
+      taken = λ c lt. ⊎_elim
+          (λ (below : c < n). taken_more c (word_of words c) p.more d (p.taken c below))
+          (λ (le : n ≤ c). let same : n ≡ c = omega (arith, lt, le) in subst (λ (m : ℕ). IsTaken m (word_of words m) (p.more ++ d)) same (taken_past n (word_of words n) p.more d (record { before = []; after = []; are = refl })))
+          (cases_lt c n);
+    }
+
+record Glanced (words : List ℕ) (seen after : List Bool) (n : ℕ) (k l : Looking) : Type 0 where
+  more : List Deed
+  are : l.log ≡ k.log ++ more
+  found : (c : ℕ) → c < n → is_seen after c ≡ true → (is_seen seen c ≡ true) ⊎ IsFound c (word_of words c) more
+
+once : (old c : ℕ) (before after : Bool) (m l : Looking) → GlancesOnce old c before m after l → (d : List Deed) × (l.log ≡ m.log ++ d) × (after ≡ true → (before ≡ true) ⊎ IsFound c old d)
+once old c true after m l is = ([], ap (λ (x : Looking). x.log) is.1 ∙ sym (append-nil m.log), λ t. inl refl)
+once old c false after m l is = (has_found c is.0 ∷ [], ap (λ (x : Looking). x.log) is.1.change, λ t. inr (record { new = is.0; before = []; after = []; are = refl; out = sym is.2 ∙ t }))
+
+glanced : (words : List ℕ) (seen after : List Bool) (n : ℕ) (k l : Looking) → GlancesBelow words seen after n k l → Glanced words seen after n k l
+glanced words seen after zero k l is = record { more = []; are = ap (λ (x : Looking). x.log) is ∙ sym (append-nil k.log); found = λ c lt t. absurd (omega (arith, lt)) }
+glanced words seen after (suc n) k l is =
+    let p = glanced words seen after n k is.0 is.1 in
+    let o = once (word_of words n) n (is_seen seen n) (is_seen after n) is.0 l is.2 in record {
+      more = p.more ++ o.0;
+      are = o.1 ∙ (ap (λ (x : List Deed). x ++ o.0) p.are ∙ append_assoc k.log p.more o.0);
+      found = λ c lt t. ⊎_elim
+          (λ (below : c < n). ⊎_elim (λ (was : is_seen seen c ≡ true). inl was) (λ (now : IsFound c (word_of words c) p.more). inr (found_more c (word_of words c) p.more o.0 now)) (p.found c below t))
+          (λ (le : n ≤ c).
+          let same : n ≡ c = omega (arith, lt, le) in
+          subst (λ (m : ℕ). is_seen after m ≡ true → (is_seen seen m ≡ true) ⊎ IsFound m (word_of words m) (p.more ++ o.0)) same
+          (λ u. ⊎_elim (λ (was : is_seen seen n ≡ true). inl was) (λ (now : IsFound n (word_of words n) o.0). inr (found_past n (word_of words n) p.more o.0 now)) (o.2 u)) t)
+          (cases_lt c n);
+    }
+
+-- From hold to hold
+
+-- so far: the keeper had done `before` as it heard the caller; since then it took the words of all CPUs, and saw out of their sections those that are seen
+record SoFar (cpus : ℕ) (x : OnCpu) (words : List ℕ) (seen : List Bool) (m : OnCpu) : Type 0 where
+  before : List Deed
+  since : List Deed
+  are : m.deeds ≡ before ++ since
+  known : IsPrefix x.deeds before
+  pass : length x.view.pass ≤ changes_in before
+  taken : (c : ℕ) → c < cpus → IsTaken c (word_of words c) since
+  out : (c : ℕ) → c < cpus → is_seen seen c ≡ true → IsSeenOut c since
+
+-- a hold's end: the log of the keeper, and what came to be known beyond it
+after_hold : (looks : Looking → Looking → Type 0) (a : OnKeeper) (x : OnCpu) (b : OnKeeper) (y : OnCpu) (hold : Hold looks a x b y) (more : List Deed) → hold.end.log ≡ (hold.log ++ did (Hear None) Done) ++ more
+    → y.deeds ≡ hold.log ++ (did (Hear None) Done ++ (more ++ hold.told.0))
+after_hold looks a x b y hold more are =
+    let h = did (Hear None) Done in
+    sym hold.told.1 ∙ (ap (λ (l : List Deed). l ++ hold.told.0) are ∙ (append_assoc (hold.log ++ h) more hold.told.0 ∙ append_assoc hold.log h (more ++ hold.told.0)))
+
+none_is_seen : (c : ℕ) → is_seen none_seen c ≡ true → ⊥
+none_is_seen c is = false≢true (sym (get_or_all {X = Bool} 8 false c) ∙ is)
+
+so_far_begun : (z : Settings) (x : OnCpu) (words : List ℕ) (numbers : List (Option ℕ)) (y : OnCpu) → SomeBegan z x words numbers y → SoFar z.cpus x words none_seen y
+so_far_begun z x words numbers y is =
+    let hold = is.2.hold in
+    let p = snapped words z.cpus _ hold.end hold.made in
+    let rest : List Deed = p.more ++ hold.told.0 in record {
+      before = hold.log;
+      since = did (Hear None) Done ++ rest;
+      are = after_hold _ is.0 x is.1 y hold p.more p.are;
+      known = hold.known;
+      pass = hold.seen;
+      taken = λ c lt. taken_past c (word_of words c) (did (Hear None) Done) rest (taken_more c (word_of words c) p.more hold.told.0 (p.taken c lt));
+      out = λ c lt seen. absurd (none_is_seen c seen);
+    }
+
+so_far_turn : (z : Settings) (x : OnCpu) (words : List ℕ) (seen : List Bool) (m : OnCpu) (told : Option ℕ) (after : List Bool) (y : OnCpu) → SoFar z.cpus x words seen m → SomeGlanced z words m seen told after y → SoFar z.cpus x words after y
+so_far_turn z x words seen m told after y had is =
+    let hold = is.2.hold in
+    let p = glanced words seen after z.cpus _ hold.end hold.made in
+    let h : List Deed = did (Hear None) Done in
+    let rest : List Deed = h ++ (p.more ++ hold.told.0) in
+    let gap = hold.known.0 in
+    let new : List Deed = gap ++ rest in
+    let are : y.deeds ≡ had.before ++ (had.since ++ new) =
+    after_hold _ is.0 m is.1 y hold p.more p.are ∙ (ap (λ (l : List Deed). l ++ rest) (sym hold.known.1 ∙ ap (λ (l : List Deed). l ++ gap) had.are)
+    ∙ (append_assoc (had.before ++ had.since) gap rest ∙ append_assoc had.before had.since new)) in
+    record {
+      before = had.before;
+      since = had.since ++ new;
+      are = are;
+      known = had.known;
+      pass = had.pass;
+      taken = λ c lt. taken_more c (word_of words c) had.since new (had.taken c lt);
+      out = λ c lt now. ⊎_elim
+          (λ (was : is_seen seen c ≡ true). seen_more c had.since new (had.out c lt was))
+          (λ (found : IsFound c (word_of words c) p.more). seen_out c (word_of words c) had.since new (had.taken c lt)
+          (found_past c (word_of words c) gap rest (found_past c (word_of words c) h (p.more ++ hold.told.0) (found_more c (word_of words c) p.more hold.told.0 found))))
+          (p.found c lt now);
+    }
+
+so_far_turns : (z : Settings) (x : OnCpu) (words : List ℕ) (n : ℕ) (m : OnCpu) (seen : List Bool) (y : OnCpu) (after : List Bool) → SoFar z.cpus x words seen m → TurnsWaiting (SomeGlanced z words) n m seen y after → SoFar z.cpus x words after y
+so_far_turns z x words zero m seen y after had is = subst (λ (p : OnCpu × List Bool). SoFar z.cpus x words p.1 p.0) (λ k. (sym is.0 k, sym is.1 k)) had
+so_far_turns z x words (suc n) m seen y after had is = so_far_turn z x words is.1 is.0 (Some is.2) after y (so_far_turns z x words n m seen is.0 is.1 had is.3) is.4
+
+-- where no CPU was told, all were seen out
+all_out : (z : Settings) (x : OnCpu) (words : List ℕ) (m : OnCpu) (seen : List Bool) (told : Option ℕ) (after : List Bool) (y : OnCpu) → SoFar z.cpus x words after y → SomeGlanced z words m seen told after y → told ≡ None → HasSeenAllOut z.cpus x y
+all_out z x words m seen told after y had is none = record {
+  before = had.before;
+  since = had.since;
+  are = had.are;
+  known = had.known;
+  seen = had.pass;
+  waited = λ c lt. had.out c lt (not-false (is_seen after c) (least_none (λ d. not (is_seen after d)) z.cpus (sym is.2.least ∙ none) c lt));
+}
+
+passed_out : (z : Settings) (x : OnCpu) (numbers : List (Option ℕ)) (m : OnCpu) (y : OnCpu) → HasSeenAllOut z.cpus x m → SomePassed z m numbers y → HasSeenAllOut z.cpus x y
+passed_out z x numbers m y had is = subst (HasSeenAllOut z.cpus x) (sym is.3) had
+
+-- the answer Ok
+waited_none : (z : Settings) (turns : ℕ) (x : OnCpu) (told : Option ℕ) (y : OnCpu) → told ≡ None → HasPerformed z turns x told y → HasSeenAllOut z.cpus x y
+waited_none z turns x told y none is =
+    let last = is.waits.last in
+    let begun = so_far_begun z x is.snapshots is.numbers is.begun is.first in
+    let near = so_far_turns z x is.snapshots is.waits.earlier is.begun none_seen last.0 last.1 begun last.2 in
+    let end = so_far_turn z x is.snapshots last.1 last.0 told is.waits.after is.waited near last.3 in
+    passed_out z x is.numbers is.waited y (all_out z x is.snapshots last.0 last.1 told is.waits.after is.waited end last.3 none) (subst (λ (o : Option ℕ). Finishes (SomePassed z) is.numbers is.waited o y) none is.end)
+
+pub waited_ok : (z : Settings) (turns : ℕ) (x : OnCpu) (told : Option ℕ) (y : OnCpu) (result : Result (Unit {0}) Refusal) → result ≡ wait_answer told → HasPerformed z turns x told y → IfOk result (λ _. HasSeenAllOut z.cpus x y)
+waited_ok z turns x None y result is made = subst (λ (r : Result (Unit {0}) Refusal). IfOk r (λ _. HasSeenAllOut z.cpus x y)) (sym is) (waited_none z turns x None y refl made)
+waited_ok z turns x (Some c) y result is made = subst (λ (r : Result (Unit {0}) Refusal). IfOk r (λ _. HasSeenAllOut z.cpus x y)) (sym is) tt
+
+-- What else changed of the CPU
+
+-- it learned, and none of its calls made a change
+abbrev pub Learns : OnCpu → OnCpu → Type 0
+Learns x y = HasLearned x y × (y.made ≡ x.made)
+
+pub learns_none : (x : OnCpu) → Learns x x
+learns_none x = (record { pass = ([], append-nil x.view.pass); deeds = ([], append-nil x.deeds); is = refl }, refl)
+
+learns_more : (x m y : OnCpu) → Learns x m → Learns m y → Learns x y
+learns_more x m y first second = (
+  record {
+    pass = prefix_trans x.view.pass m.view.pass y.view.pass first.0.pass second.0.pass;
+    deeds = (first.0.deeds.0 ++ second.0.deeds.0, sym (append_assoc x.deeds first.0.deeds.0 second.0.deeds.0) ∙ (ap (λ (l : List Deed). l ++ second.0.deeds.0) first.0.deeds.1 ∙ second.0.deeds.1));
+    is = second.0.is ∙ ap (λ (o : OnCpu). record o { view = record o.view { pass = y.view.pass; heard = y.view.heard }; made = y.made; deeds = y.deeds }) first.0.is;
+  },
+  second.1 ∙ first.1,
+)
+
+learns_hold : (looks : Looking → Looking → Type 0) (a : OnKeeper) (x : OnCpu) (b : OnKeeper) (y : OnCpu) → Hold looks a x b y → Learns x y
+learns_hold looks a x b y hold = (learned b.view.history x y hold.hears, ap (λ (o : OnCpu). o.made) hold.hears.is)
+
+learns_turns : (z : Settings) (words : List ℕ) (n : ℕ) (x : OnCpu) (seen : List Bool) (y : OnCpu) (after : List Bool) → TurnsWaiting (SomeGlanced z words) n x seen y after → Learns x y
+learns_turns z words zero x seen y after is = subst (λ (o : OnCpu). Learns x o) (sym is.0) (learns_none x)
+learns_turns z words (suc n) x seen y after is = learns_more x is.0 y (learns_turns z words n x seen is.0 is.1 is.3) (learns_hold _ is.4.0 is.0 is.4.1 y is.4.2.hold)
+
+learns_end : (z : Settings) (numbers : List (Option ℕ)) (x : OnCpu) (told : Option ℕ) (y : OnCpu) → Finishes (SomePassed z) numbers x told y → Learns x y
+learns_end z numbers x None y is = subst (λ (o : OnCpu). Learns x o) (sym is.3) (learns_none x)
+learns_end z numbers x (Some c) y is = subst (λ (o : OnCpu). Learns x o) (sym is) (learns_none x)
+
+pub learns_performed : (z : Settings) (turns : ℕ) (x : OnCpu) (told : Option ℕ) (y : OnCpu) → HasPerformed z turns x told y → Learns x y
+learns_performed z turns x told y is =
+    let last = is.waits.last in
+    learns_more x is.begun y (learns_hold _ is.first.0 x is.first.1 is.begun is.first.2.hold)
+    (learns_more is.begun last.0 y (learns_turns z is.snapshots is.waits.earlier is.begun none_seen last.0 last.1 last.2)
+    (learns_more last.0 is.waited y (learns_hold _ last.3.0 last.0 last.3.1 is.waited last.3.2.hold) (learns_end z is.numbers is.waited told y is.end)))

@@ -1,0 +1,12 @@
+use Rattle.std.proofs.Common.{◌≡◌, ◌≤◌, ℕ, length}
+use Rattle.name_registry.specs.Performing.{GlancesBelow, is_seen, looking}
+use Rattle.name_registry.proofs.glancing.glance_at_cpus.Given as goal
+
+-- the CPUs so far were glanced at, and of the others is known what was
+abbrev pub invariant-loop-cpu : goal.invariant-loop-cpu
+invariant-loop-cpu l = record {
+  table : l.seat.table ≡ l.fn.seat.table;
+  looks : GlancesBelow l.snapshots l.fn.seen l.seen l.cpu (looking l.fn.seat) (looking l.seat);
+  size : length l.seen ≡ 8;
+  later : (c : ℕ) → l.cpu ≤ c → is_seen l.seen c ≡ is_seen l.fn.seen c;
+}
