@@ -4,10 +4,12 @@
 An example is a fenced block `script`, and the next fenced block after it: `report`, what the program must print, with nothing on standard
 error and status 0; or `fault`, what it must say on standard error, with nothing printed and status 2. A file NAME.txt is one example, with
 NAME.report beside it. Without file names the examples are those of docs/ and examples/. The program is
-./registry_run, or the one that --program names. It must be the proved one (tools/prove-program.sh), since without it ./registry_run says on
-standard error that nothing is proved. With --try nothing is proved either: `rt try` compiles the program anew for each engine. The last line counts the runs.
+./registry_run, or the one that --program names; with --engine it runs one engine alone. It must be the proved one (tools/prove-program.sh),
+since without it ./registry_run says on standard error that nothing is proved. With --try nothing is proved either: `rt try` compiles the
+program anew for each engine. The last line counts the runs.
 
-Code in the documents, a fenced block `rust`, must be part of crates/registry_examples/src, up to blank lines; what isn't is said, and fails.
+Code in the documents must be part of a source, up to blank lines; what isn't is said, and fails. A fenced block `rust` is looked for in
+crates/registry_examples/src and in clients/rust, a block `c` in clients/c.
 """
 import argparse
 import pathlib
@@ -19,8 +21,11 @@ import tempfile
 ROOT = pathlib.Path(__file__).resolve().parent.parent
 ENGINES = ("core", "live")
 WANTED = {"report": lambda text: (0, text, ""), "fault": lambda text: (2, "", text)}
-SOURCES = sorted((ROOT / "crates/registry_examples/src").glob("*.rt"))
-PAGES = [ROOT / "README.md", *sorted((ROOT / "docs").glob("*.md"))]
+SOURCES = {
+    "rust": [*sorted((ROOT / "crates/registry_examples/src").glob("*.rt")), *sorted((ROOT / "clients/rust/examples").glob("*.rs"))],
+    "c": sorted((ROOT / "clients/c").glob("*.c")),
+}
+PAGES = [ROOT / "README.md", ROOT / "clients/README.md", *sorted((ROOT / "docs").glob("*.md"))]
 FILES = [*sorted((ROOT / "docs").glob("*.md")), *sorted((ROOT / "examples").glob("*.txt"))]
 
 
@@ -58,12 +63,12 @@ def examples(path):
 
 def strayed():
     """The place and the text of each part of code in the documents that stands in no source of the examples."""
-    sources = [source.read_text() for source in SOURCES]
+    sources = {word: [source.read_text() for source in files] for word, files in SOURCES.items()}
     for page in PAGES:
         for line, word, text in blocks(page.read_text()):
-            parts = text.split("\n\n") if word == "rust" else []
+            parts = text.split("\n\n") if word in sources else []
             for part in parts:
-                if not any(part.strip("\n") in source for source in sources):
+                if not any(part.strip("\n") in source for source in sources[word]):
                     yield f"{page.name}:{line}", part
 
 
@@ -96,6 +101,7 @@ def main():
     parser = argparse.ArgumentParser(description=__doc__.split("\n")[0])
     parser.add_argument("--program", default=ROOT / "registry_run", type=pathlib.Path, help="the program that is run")
     parser.add_argument("--try", dest="tried", action="store_true", help="compile by rt try, without proofs")
+    parser.add_argument("--engine", choices=ENGINES, help="the only engine that is run")
     parser.add_argument("files", nargs="*", type=pathlib.Path, default=FILES)
     options = parser.parse_args()
     program = options.program.resolve()
@@ -104,7 +110,7 @@ def main():
     for place, part in strayed():
         failed += 1
         print(f"{place}: no example has this code\n{part}")
-    for engine in ENGINES:
+    for engine in [options.engine] if options.engine else ENGINES:
         answers = said_when_tried(engine, found) if options.tried else said(program, engine, found)
         for (place, _, word, text), answer in zip(found, answers):
             if answer == WANTED[word](text):

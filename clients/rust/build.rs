@@ -1,0 +1,17 @@
+//! Tells where the archive libregistry.a lies: in the folder that REGISTRY_LIB_DIR names, else in clients/out, where tools/build-archive.sh
+//! puts it.
+
+use std::env;
+use std::path::{Path, PathBuf};
+
+fn main() {
+    let folder = match env::var_os("REGISTRY_LIB_DIR") {
+        Some(folder) => PathBuf::from(folder),
+        None => Path::new(&env::var_os("CARGO_MANIFEST_DIR").unwrap()).join("../out"),
+    };
+    let archive = folder.join("libregistry.a");
+    println!("cargo:rustc-link-search=native={}", folder.display());
+    println!("cargo:rustc-link-lib=static=registry");
+    println!("cargo:rerun-if-env-changed=REGISTRY_LIB_DIR");
+    println!("cargo:rerun-if-changed={}", archive.display());
+}

@@ -1,0 +1,90 @@
+//! Retire under a section: two threads, each on a CPU of its own.
+//!
+//! CPU 0 looks `wm` up inside a section; CPU 1 retires it meanwhile, and can't free it before CPU 0 has left. It prints what the script
+//! `examples/retire-under-section.txt` of the repository prints, in the same order: the threads hand the turn to each other.
+
+use registry::{Cpu, Kind, Name, Refusal, Registry, Settings};
+use std::error::Error;
+use std::sync::mpsc::{channel, Receiver, Sender};
+use std::thread;
+
+/// One end of two channels: `hand` gives the turn away, `wait` has it back.
+struct Turn {
+    hand: Sender<()>,
+    back: Receiver<()>,
+}
+
+impl Turn {
+    fn hand(&self) {
+        self.hand.send(()).expect("the other thread waits");
+    }
+
+    fn wait(&self) {
+        self.back.recv().expect("the other thread hands the turn over");
+    }
+}
+
+fn turns() -> (Turn, Turn) {
+    let (to_second, second) = channel();
+    let (to_first, first) = channel();
+    (
+        Turn {
+            hand: to_second,
+            back: first,
+        },
+        Turn {
+            hand: to_first,
+            back: second,
+        },
+    )
+}
+
+/// CPU 0, which finds `wm` and is inside while it is retired.
+fn look_up(cpu: &Cpu<'_>, wm: &Name, turn: &Turn) -> Result<(), Refusal> {
+    let mut section = cpu.enter()?;
+    println!("inside");
+    if let Some(found) = section.find(Kind::Driver, wm) {
+        println!("found {} slot {} value {}", found.number, found.slot, found.value);
+    }
+    turn.hand();
+    turn.wait();
+    section.exit();
+    println!("outside");
+    let mut section = cpu.enter()?;
+    println!("inside");
+    assert!(section.find(Kind::Driver, wm).is_none());
+    turn.hand();
+    turn.wait();
+    Ok(())
+}
+
+/// CPU 1, which retires it and waits.
+fn retire<'id>(registry: Registry<'id>, cpu: &Cpu<'id>, wm: &Name, turn: &Turn) -> Result<(), Refusal> {
+    turn.wait();
+    let gone = registry.detach(cpu, Kind::Driver, wm)?;
+    println!("retired {} slot {}", gone.number, gone.slot);
+    println!("{}", registry.advance(gone.number)?);
+    turn.hand();
+    turn.wait();
+    println!("{}", registry.advance(gone.number)?);
+    turn.hand();
+    Ok(())
+}
+
+fn main() -> Result<(), Box<dyn Error>> {
+    let wm = Name::parse("wm")?;
+    Registry::open(Settings::new(2, 2), |registry, mut cpus| {
+        println!("domain 2 2");
+        let attached = registry.attach(&cpus[0], &wm, 7)?;
+        println!("attached {} slot {}", attached.number, attached.slot);
+        let (first, second) = turns();
+        let (one, zero) = (cpus.remove(1), cpus.remove(0));
+        thread::scope(|scope| {
+            let reader = scope.spawn(move || look_up(&zero, &wm, &first));
+            let writer = scope.spawn(move || retire(registry, &one, &wm, &second));
+            reader.join().expect("it doesn't panic")?;
+            writer.join().expect("it doesn't panic")
+        })
+    })??;
+    Ok(())
+}

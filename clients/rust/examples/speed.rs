@@ -1,0 +1,92 @@
+//! `speed THREADS ENTRIES OPERATIONS`: what a lookup and a pair of acquire and release take, through this crate.
+//!
+//! The operations are those of `bench/` of the repository, whose README says what one is. It prints a line as the programs there do.
+
+use registry::{Cpu, Kind, Name, Refusal, Registry, Settings};
+use std::error::Error;
+use std::sync::Barrier;
+use std::thread;
+use std::time::Instant;
+
+/// Makes so many operations on a CPU. It answers how many went as they should.
+type Operations = fn(&Cpu<'_>, &[Name], u64) -> Result<u64, Refusal>;
+
+fn lookups(cpu: &Cpu<'_>, names: &[Name], count: u64) -> Result<u64, Refusal> {
+    let mut right = 0;
+    let mut place = 0;
+    for _ in 0..count {
+        let mut section = cpu.enter()?;
+        let found = section.find(Kind::Driver, &names[place]);
+        right += u64::from(found.map_or(false, |entry| entry.value == place as u64));
+        drop(section);
+        place = if place + 1 < names.len() { place + 1 } else { 0 };
+    }
+    Ok(right)
+}
+
+fn passives(cpu: &Cpu<'_>, names: &[Name], count: u64) -> Result<u64, Refusal> {
+    let mut section = cpu.enter()?;
+    let found = section.find(Kind::Driver, &names[0]).ok_or(Refusal::NotFound)?;
+    for _ in 0..count {
+        found.acquire()?.release();
+    }
+    Ok(count)
+}
+
+fn locals(cpu: &Cpu<'_>, names: &[Name], count: u64) -> Result<u64, Refusal> {
+    let mut section = cpu.enter()?;
+    let found = section.find(Kind::Driver, &names[0]).ok_or(Refusal::NotFound)?;
+    for _ in 0..count {
+        found.acquire_local()?.release(cpu);
+    }
+    Ok(count)
+}
+
+/// The nanoseconds that an operation takes its thread: the time from the first thread's first to the last thread's last, over the operations
+/// of one thread. Each thread makes some before, which don't count, and begins when all have.
+fn nanoseconds_each(cpus: &mut Vec<Cpu<'_>>, names: &[Name], make: Operations, count: u64) -> Result<f64, Refusal> {
+    let meeting = Barrier::new(cpus.len());
+    let spans: Vec<(Instant, Instant)> = thread::scope(|scope| {
+        let workers: Vec<_> = cpus
+            .iter_mut()
+            .map(|cpu| {
+                let meeting = &meeting;
+                scope.spawn(move || {
+                    make(cpu, names, count / 3)?;
+                    meeting.wait();
+                    let began = Instant::now();
+                    assert_eq!(make(cpu, names, count)?, count);
+                    Ok((began, Instant::now()))
+                })
+            })
+            .collect();
+        workers
+            .into_iter()
+            .map(|worker| worker.join().expect("it doesn't panic"))
+            .collect::<Result<_, Refusal>>()
+    })?;
+    let began = spans.iter().map(|span| span.0).min().expect("a thread");
+    let ended = spans.iter().map(|span| span.1).max().expect("a thread");
+    Ok((ended - began).as_nanos() as f64 / count as f64)
+}
+
+fn run(threads: u8, entries: u8, count: u64) -> Result<(), Box<dyn Error>> {
+    let names: Vec<Name> = (0..entries).map(|i| Name::parse(format!("d{i:02}"))).collect::<Result<_, _>>()?;
+    Registry::open(Settings::new(threads, 32), |registry, mut cpus| {
+        for (value, name) in (0..).zip(&names) {
+            registry.attach(&cpus[0], name, value)?;
+        }
+        let mut time = |make| nanoseconds_each(&mut cpus, &names, make, count);
+        print!("threads {threads} entries {entries} lookup {:.2}", time(lookups)?);
+        println!(" passive {:.2} local {:.2}", time(passives)?, time(locals)?);
+        Ok(())
+    })?
+}
+
+fn main() -> Result<(), Box<dyn Error>> {
+    let words: Vec<String> = std::env::args().collect();
+    match &words[..] {
+        [_, threads, entries, count] => run(threads.parse()?, entries.parse()?, count.parse()?),
+        _ => Err("usage: speed THREADS ENTRIES OPERATIONS".into()),
+    }
+}

@@ -1,0 +1,176 @@
+//! The calls of registry.h, as C declares them. What the caller sees to is written there; the modules above say how they see to it.
+
+use std::os::raw::c_void;
+use std::ptr;
+
+/// Done.
+pub const DONE: u32 = 0;
+pub const NO_MEMORY: u32 = 1;
+pub const BAD_SETTINGS: u32 = 2;
+pub const NAME_TAKEN: u32 = 3;
+pub const NO_SLOT: u32 = 4;
+pub const HISTORY_FULL: u32 = 5;
+pub const NOT_FOUND: u32 = 6;
+pub const INSIDE: u32 = 7;
+pub const SECTIONS_SPENT: u32 = 8;
+pub const PASSIVE_FULL: u32 = 10;
+pub const LOCAL_FULL: u32 = 13;
+pub const NOT_RETIRED: u32 = 14;
+pub const MISSING_CPU: u32 = 15;
+pub const STILL_HELD: u32 = 16;
+pub const WAITING: u32 = 17;
+pub const TOO_DEEP: u32 = 18;
+pub const NEEDS_DRIVER: u32 = 19;
+pub const NAME_EMPTY: u32 = 70;
+pub const NAME_TOO_LONG: u32 = 71;
+pub const NAME_BAD_BYTE: u32 = 72;
+
+pub const INTERFACE: u64 = 1;
+pub const DRIVER: u64 = 2;
+
+pub const GRACE: u64 = 0;
+pub const PASSIVE: u64 = 1;
+pub const LOCAL: u64 = 2;
+pub const FREED: u64 = 3;
+
+pub const MOST_CPUS: usize = 8;
+pub const MOST_SLOTS: usize = 32;
+
+/// A handle: its one word is never looked into, and the value is moved and never copied.
+macro_rules! handle {
+    ($(#[$doc:meta])* $name:ident) => {
+        $(#[$doc])*
+        #[repr(C)]
+        pub struct $name {
+            at: *mut c_void,
+        }
+
+        impl $name {
+            pub const EMPTY: $name = $name { at: ptr::null_mut() };
+        }
+
+        // SAFETY: registry.h says that a handle goes to another thread by a lock, or by the start or the join of a thread; in Rust a
+        // value goes by nothing less.
+        unsafe impl Send for $name {}
+    };
+}
+
+handle! {
+    /// The keeper's.
+    Keeper
+}
+handle! {
+    /// A CPU's.
+    Cpu
+}
+handle! {
+    /// A local reference's.
+    Local
+}
+
+impl Cpu {
+    pub fn is_empty(&self) -> bool {
+        self.at.is_null()
+    }
+}
+
+impl Local {
+    pub fn is_empty(&self) -> bool {
+        self.at.is_null()
+    }
+}
+
+#[repr(C)]
+#[derive(Clone, Copy, PartialEq, Eq, Hash, Default)]
+pub struct Name {
+    pub high: u64,
+    pub low: u64,
+}
+
+#[repr(C)]
+#[derive(Clone, Copy)]
+pub struct Settings {
+    pub cpus: u64,
+    pub slots: u64,
+    pub change_limit: u64,
+    pub section_limit: u64,
+    pub passive_limit: u64,
+    pub count_limit: u64,
+}
+
+#[repr(C)]
+#[derive(Clone, Copy, Default)]
+pub struct Entry {
+    pub number: u64,
+    pub slot: u64,
+    pub kind: u64,
+    pub name: Name,
+    pub value: u64,
+}
+
+#[repr(C)]
+#[derive(Clone, Copy, Default)]
+pub struct Stage {
+    pub stage: u64,
+    pub what: u64,
+}
+
+#[repr(C)]
+#[derive(Clone, Copy, Default)]
+pub struct Balance {
+    pub number: u64,
+    pub slot: u64,
+    pub held: i64,
+    pub locals: [i64; MOST_CPUS],
+    pub total: i64,
+}
+
+#[repr(C)]
+#[derive(Clone, Copy, Default)]
+pub struct Wait {
+    pub snapshots: [u64; MOST_CPUS],
+    pub retired: [u64; MOST_SLOTS],
+    pub seen: [u64; MOST_CPUS],
+}
+
+extern "C" {
+    pub fn registry_name_parse(bytes: *const u8, length: usize, name: *mut Name, place: *mut u64) -> u32;
+    pub fn registry_text(answer: u32, text: *mut u8, room: usize) -> usize;
+
+    pub fn registry_open(settings: *const Settings, keeper: *mut Keeper, cpus: *mut Cpu, count: usize) -> u32;
+    pub fn registry_close_cpu(cpu: *mut Cpu) -> u32;
+    pub fn registry_close_keeper(keeper: *mut Keeper) -> u32;
+
+    pub fn registry_enter(cpu: *mut Cpu) -> u32;
+    pub fn registry_exit(cpu: *mut Cpu) -> u32;
+    pub fn registry_depth(cpu: *mut Cpu, depth: *mut u64) -> u32;
+    pub fn registry_find(cpu: *mut Cpu, kind: u64, name: *const Name, found: *mut Entry) -> u32;
+
+    pub fn registry_acquire(cpu: *mut Cpu, number: *mut u64) -> u32;
+    pub fn registry_copy(cpu: *mut Cpu, number: u64) -> u32;
+    pub fn registry_held(cpu: *mut Cpu, number: u64, held: *mut bool) -> u32;
+    pub fn registry_read(cpu: *mut Cpu, number: u64, entry: *mut Entry) -> u32;
+    pub fn registry_release(cpu: *mut Cpu, number: u64) -> u32;
+
+    pub fn registry_local_acquire(cpu: *mut Cpu, local: *mut Local) -> u32;
+    pub fn registry_local_read(local: *mut Local, entry: *mut Entry) -> u32;
+    pub fn registry_local_release(cpu: *mut Cpu, local: *mut Local) -> u32;
+    pub fn registry_local_give_up(keeper: *mut Keeper, local: *mut Local) -> u32;
+
+    pub fn registry_attach(keeper: *mut Keeper, cpu: *mut Cpu, name: *const Name, value: u64, made: *mut Entry) -> u32;
+    pub fn registry_attach_iface(
+        keeper: *mut Keeper,
+        cpu: *mut Cpu,
+        driver: *mut Local,
+        name: *const Name,
+        value: u64,
+        made: *mut Entry,
+    ) -> u32;
+    pub fn registry_detach(keeper: *mut Keeper, cpu: *mut Cpu, kind: u64, name: *const Name, gone: *mut Entry) -> u32;
+
+    pub fn registry_advance(keeper: *mut Keeper, number: u64, met: *mut Stage) -> u32;
+    pub fn registry_destroy(keeper: *mut Keeper, cpu: *mut Cpu, number: u64, met: *mut Stage) -> u32;
+    pub fn registry_perform(keeper: *mut Keeper, cpu: *mut Cpu, wait: *mut Wait) -> u32;
+    pub fn registry_perform_turn(keeper: *mut Keeper, cpu: *mut Cpu, wait: *mut Wait, waited: *mut u64) -> u32;
+    pub fn registry_audit(keeper: *mut Keeper, cpus: *mut Cpu, count: usize, list: *mut Balance, room: usize, length: *mut usize) -> u32;
+}

@@ -1,0 +1,406 @@
+/*
+ * registry.h - a running registry of network interfaces and device drivers, over virtual CPUs
+ *
+ * LIFE OF THE THINGS
+ *
+ * A registry is a keeper and its CPUs, 0 to 7, each behind a handle of one word. registry_open(3) makes them all. A handle that is {0} is
+ * empty; registry_close_cpu(3) and registry_close_keeper(3) empty one. The memory that the handles share goes with the last of them.
+ *
+ * A CPU belongs to the thread that runs on it: one call at a time uses its handle. It enters a section, finds entries in it, and exits;
+ * no entry that it found loses its slot before that. No call waits, and none but registry_open(3) and registry_local_acquire(3) takes memory.
+ *
+ * The keeper belongs to whoever holds the caller's lock, the interlock: a pthread mutex, say. It attaches and detaches entries, and works
+ * on the detached ones, which are retired, until nothing can hold them: one turn a call, so that the caller gives the interlock up between.
+ *
+ * An entry has a number, from 1 and never given again, and a slot, from 0, which is given again once the entry is destroyed.
+ *
+ * A passive reference keeps an entry beyond the section that found it. It is the entry's number, and stays with its CPU, whose own counts
+ * judge it: a CPU releases what it acquired. A local reference is a handle of its own. It may go to another thread and be released on any
+ * CPU of the registry.
+ *
+ * ANSWERS
+ *
+ * Each call answers 0 or why it was refused, and changes nothing where it is refused unless it says so; what it would write through a
+ * pointer is then left as it was, unless the call says what it writes. Numbers 1 to 19 are the registry's refusals, those from 64 this
+ * header's. Each call names the refusals that it answers in the order in which it tests them.
+ *
+ * WHAT THE CALLER SEES TO
+ *
+ * It can't be tested, and so it is required: a handle is {0} before its first use, is never copied and never looked into; one call at a
+ * time uses a handle, and a handle goes to another thread by a lock, or by the start or the join of a thread; calls with a keeper are made
+ * under the caller's lock. The handles of one call are of one registry: nothing at run time tells two registries apart. Pointers are to what
+ * they say, aligned, and different parameters don't overlap. No call is made from a signal handler, or in the child of a fork.
+ */
+#ifndef REGISTRY_H
+#define REGISTRY_H
+
+#include <stdbool.h>
+#include <stddef.h>
+#include <stdint.h>
+
+#ifdef __cplusplus
+extern "C" {
+#endif
+
+/* The limits. */
+#define REGISTRY_MOST_CPUS	8
+#define REGISTRY_MOST_SLOTS	32
+#define REGISTRY_MOST_CHANGES	1000000
+#define REGISTRY_MOST_COUNT	((uint64_t)1 << 40)
+#define REGISTRY_MOST_DEPTH	255
+#define REGISTRY_NAME_BYTES	15
+
+/* What a call answers. */
+enum {
+	REGISTRY_DONE = 0,
+	REGISTRY_NO_MEMORY = 1,
+	REGISTRY_BAD_SETTINGS = 2,
+	REGISTRY_NAME_TAKEN = 3,
+	REGISTRY_NO_SLOT = 4,
+	REGISTRY_HISTORY_FULL = 5,
+	REGISTRY_NOT_FOUND = 6,
+	REGISTRY_INSIDE = 7,
+	REGISTRY_SECTIONS_SPENT = 8,
+	REGISTRY_NOTHING_FOUND = 9,
+	REGISTRY_PASSIVE_FULL = 10,
+	REGISTRY_WRONG_CPU = 11,	/* no call here answers it: a passive reference is a number */
+	REGISTRY_NOT_HELD = 12,
+	REGISTRY_LOCAL_FULL = 13,
+	REGISTRY_NOT_RETIRED = 14,
+	REGISTRY_MISSING_CPU = 15,
+	REGISTRY_STILL_HELD = 16,
+	REGISTRY_WAITING = 17,
+	REGISTRY_TOO_DEEP = 18,
+	REGISTRY_NEEDS_DRIVER = 19,
+
+	REGISTRY_OUTSIDE = 64,		/* the CPU is outside any section */
+	REGISTRY_EMPTY_HANDLE = 65,	/* a handle is empty that must not be */
+	REGISTRY_FULL_HANDLE = 66,	/* a handle isn't empty that must be */
+	REGISTRY_BAD_KIND = 68,		/* neither an interface nor a driver */
+	REGISTRY_BAD_NAME = 69,		/* two words that no name has */
+	REGISTRY_NAME_EMPTY = 70,	/* a name has at least one byte */
+	REGISTRY_NAME_TOO_LONG = 71,	/* a name has at most 15 bytes */
+	REGISTRY_NAME_BAD_BYTE = 72,	/* a byte may not stand where it does */
+	REGISTRY_COLLECTED = 73,	/* the keeper has collected this CPU's count */
+	REGISTRY_NOT_COLLECTED = 74,	/* the keeper has collected no count of this entry */
+	REGISTRY_NO_ROOM = 75		/* the list is too short for the answer */
+};
+
+/* What an entry is. */
+enum {
+	REGISTRY_INTERFACE = 1,
+	REGISTRY_DRIVER = 2
+};
+
+/* How far the destruction of a retired entry has come: the first thing that holds it, and the number that tells which, or how many. */
+enum {
+	REGISTRY_GRACE = 0,	/* a section of this CPU may hold it */
+	REGISTRY_PASSIVE = 1,	/* this CPU has a passive reference to it */
+	REGISTRY_LOCAL = 2,	/* so many local references to it are held */
+	REGISTRY_FREED = 3	/* nothing: this slot is vacant again */
+};
+
+/* The handles. */
+struct registry_keeper { void *at; };
+struct registry_cpu { void *at; };
+struct registry_local { void *at; };
+
+/* A name: its bytes and then zeros up to 16, the first byte the highest of `high`. registry_name_parse makes it. */
+struct registry_name {
+	uint64_t high;
+	uint64_t low;
+};
+
+/* How large a registry is, and how far its counts may go. */
+struct registry_settings {
+	uint64_t cpus;		/* 1 to 8 */
+	uint64_t slots;		/* entries at a time, live and retired: 1 to 32 */
+	uint64_t change_limit;	/* attaches and detaches: 1 to 1,000,000 */
+	uint64_t section_limit;	/* outermost sections of each CPU: 1 to 2^40 */
+	uint64_t passive_limit;	/* passive references of each CPU to an entry: 1 to 2^40 */
+	uint64_t count_limit;	/* each CPU's net count of local references to an entry: 1 to 2^40 */
+};
+
+struct registry_entry {
+	uint64_t number;
+	uint64_t slot;
+	uint64_t kind;
+	struct registry_name name;
+	uint64_t value;
+};
+
+struct registry_stage {
+	uint64_t stage;
+	uint64_t what;
+};
+
+/* What the counts say of the local references to a live or retired entry. */
+struct registry_balance {
+	uint64_t number;
+	uint64_t slot;
+	int64_t held;		/* the sum of `locals` and `total` */
+	int64_t locals[REGISTRY_MOST_CPUS];	/* of each CPU, 0 once collected and past the last CPU */
+	int64_t total;		/* what was collected, less what was given up under the interlock */
+};
+
+/* A wait for open sections, between two turns of it. */
+struct registry_wait {
+	uint64_t snapshots[REGISTRY_MOST_CPUS];
+	uint64_t retired[REGISTRY_MOST_SLOTS];
+	uint64_t seen[REGISTRY_MOST_CPUS];
+};
+
+/* ---- Names and answers. Anyone may call these, anywhere. ---- */
+
+/*
+ * registry_name_parse - the name that these bytes are
+ *
+ * A name is a lower-case ASCII letter, and then lower-case letters and digits, 15 bytes at most.
+ * Answers REGISTRY_NAME_EMPTY, REGISTRY_NAME_TOO_LONG, or REGISTRY_NAME_BAD_BYTE, and then writes its place, from 0, to `place`; else `place`
+ * is left as it was.
+ */
+uint32_t registry_name_parse(const uint8_t *bytes, size_t length, struct registry_name *name, uint64_t *place);
+
+/*
+ * registry_text - what an answer says, in English
+ *
+ * Writes the text and a zero byte to `text`, cut to `room` bytes; with no room it writes nothing. It answers how long the whole text is,
+ * without the zero; 0 for a number that no call answers.
+ */
+size_t registry_text(uint32_t answer, uint8_t *text, size_t room);
+
+/* ---- Opening and closing. ---- */
+
+/*
+ * registry_open - a new registry: its keeper, and its CPUs in their order
+ *
+ * `count` is settings->cpus. All handles are empty before. Nothing is attached, and all CPUs are outside.
+ * Answers REGISTRY_BAD_SETTINGS, REGISTRY_MISSING_CPU where `count` is another number, REGISTRY_FULL_HANDLE, REGISTRY_NO_MEMORY.
+ */
+uint32_t registry_open(const struct registry_settings *settings, struct registry_keeper *keeper,
+    struct registry_cpu *cpus, size_t count);
+
+/*
+ * registry_close_cpu - give a CPU up
+ *
+ * What it still refers to passively stays held: its entries are never freed. A registry may be closed in any order.
+ * Answers REGISTRY_EMPTY_HANDLE, REGISTRY_INSIDE.
+ */
+uint32_t registry_close_cpu(struct registry_cpu *cpu);
+
+/*
+ * registry_close_keeper - give the keeper up: nothing is attached or detached any more
+ *
+ * Answers REGISTRY_EMPTY_HANDLE.
+ */
+uint32_t registry_close_keeper(struct registry_keeper *keeper);
+
+/*
+ * registry_settings_of - what the registry was opened with
+ *
+ * Answers REGISTRY_EMPTY_HANDLE.
+ */
+uint32_t registry_settings_of(struct registry_keeper *keeper, struct registry_settings *settings);
+
+/* ---- Sections and lookups: pserialize(9). The caller runs on the CPU. ---- */
+
+/*
+ * registry_enter - enter a section, or the open one once more
+ *
+ * Answers REGISTRY_EMPTY_HANDLE, REGISTRY_TOO_DEEP, REGISTRY_SECTIONS_SPENT.
+ */
+uint32_t registry_enter(struct registry_cpu *cpu);
+
+/*
+ * registry_exit - exit the section, or one nesting of it
+ *
+ * The exit that ends it clears the last found entry.
+ * Answers REGISTRY_EMPTY_HANDLE, REGISTRY_OUTSIDE.
+ */
+uint32_t registry_exit(struct registry_cpu *cpu);
+
+/*
+ * registry_inside - whether the CPU is inside a section
+ *
+ * Answers REGISTRY_EMPTY_HANDLE.
+ */
+uint32_t registry_inside(struct registry_cpu *cpu, bool *inside);
+
+/*
+ * registry_depth - how many enters are open, 0 to 255
+ *
+ * Answers REGISTRY_EMPTY_HANDLE.
+ */
+uint32_t registry_depth(struct registry_cpu *cpu, uint64_t *depth);
+
+/*
+ * registry_find - look an entry up by its kind and name, in a section
+ *
+ * The entry keeps its slot until the section ends, and is the CPU's last found entry. It takes no lock, waits for nobody and writes no
+ * shared word.
+ * Answers REGISTRY_EMPTY_HANDLE, REGISTRY_BAD_KIND, REGISTRY_OUTSIDE, and REGISTRY_NOT_FOUND where no live entry has both, as none has two
+ * words that no name has: the last found entry is cleared then.
+ */
+uint32_t registry_find(struct registry_cpu *cpu, uint64_t kind, const struct registry_name *name, struct registry_entry *found);
+
+/* ---- Passive references: psref(9). The caller runs on the CPU. ---- */
+
+/*
+ * registry_acquire - acquire a passive reference to the last found entry; it is the number written
+ *
+ * It outlives the section, and the entry keeps its slot until it is released.
+ * Answers REGISTRY_EMPTY_HANDLE, REGISTRY_NOTHING_FOUND, REGISTRY_PASSIVE_FULL.
+ */
+uint32_t registry_acquire(struct registry_cpu *cpu, uint64_t *number);
+
+/*
+ * registry_copy - acquire one more to an entry that this CPU refers to; each is released by itself
+ *
+ * It needs no section.
+ * Answers REGISTRY_EMPTY_HANDLE, REGISTRY_NOT_HELD, REGISTRY_PASSIVE_FULL.
+ */
+uint32_t registry_copy(struct registry_cpu *cpu, uint64_t number);
+
+/*
+ * registry_held - whether this CPU holds a passive reference to the entry with that number
+ *
+ * Answers REGISTRY_EMPTY_HANDLE.
+ */
+uint32_t registry_held(struct registry_cpu *cpu, uint64_t number, bool *held);
+
+/*
+ * registry_read - the entry that this CPU refers to
+ *
+ * It needs no section, and changes nothing.
+ * Answers REGISTRY_EMPTY_HANDLE, REGISTRY_NOT_HELD.
+ */
+uint32_t registry_read(struct registry_cpu *cpu, uint64_t number, struct registry_entry *entry);
+
+/*
+ * registry_release - release a passive reference, on the CPU that acquired it
+ *
+ * It needs no section.
+ * Answers REGISTRY_EMPTY_HANDLE, REGISTRY_NOT_HELD.
+ */
+uint32_t registry_release(struct registry_cpu *cpu, uint64_t number);
+
+/* ---- Local references: localcount(9). The caller runs on the CPU, and holds the local handle. ---- */
+
+/*
+ * registry_local_acquire - acquire a local reference to the last found entry
+ *
+ * The local handle is empty before. The reference outlives the section and may go to another thread.
+ * Answers REGISTRY_EMPTY_HANDLE for the CPU's, REGISTRY_FULL_HANDLE for the local one, REGISTRY_NOTHING_FOUND, REGISTRY_LOCAL_FULL,
+ * REGISTRY_NO_MEMORY.
+ */
+uint32_t registry_local_acquire(struct registry_cpu *cpu, struct registry_local *local);
+
+/*
+ * registry_local_read - the entry that the reference is to, just as it was attached
+ *
+ * Answers REGISTRY_EMPTY_HANDLE.
+ */
+uint32_t registry_local_read(struct registry_local *local, struct registry_entry *entry);
+
+/*
+ * registry_local_release - release it on this CPU, which needn't be the one that acquired it; its handle is empty then
+ *
+ * Answers REGISTRY_EMPTY_HANDLE for either handle, and REGISTRY_COLLECTED where the keeper has collected this
+ * CPU's count for a drain: the caller takes the interlock and calls registry_local_give_up.
+ */
+uint32_t registry_local_release(struct registry_cpu *cpu, struct registry_local *local);
+
+/*
+ * registry_local_give_up - release it under the interlock, where a count of its entry was collected; its handle is empty then
+ *
+ * Answers REGISTRY_EMPTY_HANDLE for either handle, REGISTRY_NOT_COLLECTED; never the latter of a reference for which a release has answered
+ * REGISTRY_COLLECTED.
+ */
+uint32_t registry_local_give_up(struct registry_keeper *keeper, struct registry_local *local);
+
+/* ---- Changes. The caller holds the interlock, and runs on the CPU, which has seen the change then. ---- */
+
+/*
+ * registry_attach - attach a driver
+ *
+ * It gets the next number, and the least slot that is vacant. Lookups that begin from now on find it. The entry is written to `made`.
+ * Answers REGISTRY_EMPTY_HANDLE for either handle, REGISTRY_BAD_NAME, REGISTRY_INSIDE, REGISTRY_NAME_TAKEN,
+ * REGISTRY_NO_SLOT, REGISTRY_HISTORY_FULL.
+ */
+uint32_t registry_attach(struct registry_keeper *keeper, struct registry_cpu *cpu, const struct registry_name *name, uint64_t value,
+    struct registry_entry *made);
+
+/*
+ * registry_attach_iface - attach an interface, on the driver that the local reference is to
+ *
+ * Its slot keeps the reference until it is freed, and the local handle is empty then. Else it is as registry_attach.
+ * Answers REGISTRY_EMPTY_HANDLE for any of the handles, REGISTRY_BAD_NAME, REGISTRY_INSIDE,
+ * REGISTRY_NEEDS_DRIVER where the reference is to an interface, REGISTRY_NAME_TAKEN, REGISTRY_NO_SLOT, REGISTRY_HISTORY_FULL.
+ */
+uint32_t registry_attach_iface(struct registry_keeper *keeper, struct registry_cpu *cpu, struct registry_local *driver,
+    const struct registry_name *name, uint64_t value, struct registry_entry *made);
+
+/*
+ * registry_detach - detach the live entry with this kind and name, which is written to `gone`
+ *
+ * Lookups that begin from now on don't find it. It is retired: registry_advance and registry_destroy work on it.
+ * Answers REGISTRY_EMPTY_HANDLE for either handle, REGISTRY_BAD_KIND, REGISTRY_BAD_NAME, REGISTRY_INSIDE,
+ * REGISTRY_NOT_FOUND.
+ */
+uint32_t registry_detach(struct registry_keeper *keeper, struct registry_cpu *cpu, uint64_t kind, const struct registry_name *name,
+    struct registry_entry *gone);
+
+/* ---- The work on retired entries. The caller holds the interlock for a turn, and gives it up between two. ---- */
+
+/*
+ * registry_advance - one turn of the work on the retired entry with this number
+ *
+ * What holds it first is written to `met`, or REGISTRY_FREED with its slot, which is vacant from now on.
+ * Answers REGISTRY_EMPTY_HANDLE, REGISTRY_NOT_RETIRED.
+ */
+uint32_t registry_advance(struct registry_keeper *keeper, uint64_t number, struct registry_stage *met);
+
+/*
+ * registry_destroy - one turn of destroying it: done just where its slot is vacant again
+ *
+ * psref_target_destroy and localcount_drain: the caller repeats it, without the interlock between, until it is done or has waited enough.
+ * Where it is done, REGISTRY_FREED and the slot are written to `met`.
+ * Answers REGISTRY_EMPTY_HANDLE for either handle, REGISTRY_INSIDE, REGISTRY_NOT_RETIRED, REGISTRY_STILL_HELD, and then writes what holds it
+ * to `met`. What the turn noted and collected stays.
+ */
+uint32_t registry_destroy(struct registry_keeper *keeper, struct registry_cpu *cpu, uint64_t number, struct registry_stage *met);
+
+/*
+ * registry_perform - begin to wait until each section that is open now has ended
+ *
+ * pserialize_perform: the caller then repeats registry_perform_turn with the same wait, without the interlock between. In each of these calls
+ * the keeper first hears what the CPU has seen, and the CPU has seen every change so far after it.
+ * Answers REGISTRY_EMPTY_HANDLE for either handle, REGISTRY_INSIDE.
+ */
+uint32_t registry_perform(struct registry_keeper *keeper, struct registry_cpu *cpu, struct registry_wait *wait);
+
+/*
+ * registry_perform_turn - one turn of that wait: done just where all those sections were seen to have ended
+ *
+ * Each CPU is then looked at for the entries that were retired as the wait began, so that it passes for them. Whom the turn has seen is
+ * written to the wait, and the CPU has seen every change so far, whatever it answers but the first two.
+ * Answers REGISTRY_EMPTY_HANDLE for either handle, REGISTRY_INSIDE, REGISTRY_WAITING, and then writes the least CPU that wasn't seen out of its
+ * section to `waited`.
+ */
+uint32_t registry_perform_turn(struct registry_keeper *keeper, struct registry_cpu *cpu, struct registry_wait *wait, uint64_t *waited);
+
+/*
+ * registry_audit - what the counts say of each live or retired entry, the least slot first
+ *
+ * The caller holds the interlock and all CPUs, in their order. `length` is how many balances were written; with REGISTRY_NO_ROOM, which writes
+ * none, it is how many there are.
+ * Answers REGISTRY_EMPTY_HANDLE for the keeper's, REGISTRY_MISSING_CPU where the handles aren't those of CPU 0, 1, .., all of them,
+ * REGISTRY_NO_ROOM.
+ */
+uint32_t registry_audit(struct registry_keeper *keeper, struct registry_cpu *cpus, size_t count, struct registry_balance *list, size_t room,
+    size_t *length);
+
+#ifdef __cplusplus
+}
+#endif
+#endif

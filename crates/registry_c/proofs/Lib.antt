@@ -1,0 +1,15 @@
+pub mod Holding
+pub mod Lists
+pub mod Inside
+pub mod Named
+pub mod Collected
+pub mod Acquired
+pub mod Seats
+pub mod Opened
+pub mod Handles
+pub mod Audited
+pub mod Written
+pub mod Made
+pub mod Here
+pub mod Opens
+pub mod AuditsAnswered

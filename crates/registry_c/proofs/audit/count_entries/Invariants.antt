@@ -1,0 +1,7 @@
+use Rattle.std.proofs.Common.{◌≡◌}
+use Rattle.registry_c.specs.Audits.{occupied}
+use Rattle.registry_c.proofs.audit.count_entries.Given as goal
+
+-- the entries of the slots so far are counted
+abbrev pub invariant-loop-t : goal.invariant-loop-t
+invariant-loop-t g l = l.count ≡ occupied l.keeper l.t

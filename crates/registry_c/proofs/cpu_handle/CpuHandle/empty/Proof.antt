@@ -1,0 +1,40 @@
+-- `empty` is a null pointer, and owns nothing.
+use Rattle.std.proofs.Common.{◌≡◌, List, [], ◌∷◌, ◌++◌, refl, None, lit<}
+use mir.Val.{Val, vint, vstruct, vcons, vnil}
+use mir.Syntax.{w64}
+use base.Logic.{SProp, emp}
+use base.Fml.{ftrue, fsep}
+use types.Logic.{sem}
+use types.Kit.{‵, raw, ◌⊛◌, ◌$◌, ◌∵◌, !, qed, by, move, keep, drop, join, fsplit, fjoin, fpack, use0, feq_i}
+use types.Run.{of_opd, lit, no_more, and_then, returns, enter}
+use types.ByLocal.{alloc_all, pass_all, free_all, look_at, get, sets}
+use types.Part.{agg}
+use contract.Monad.{fact, fact_i}
+use contract.Running.{tables}
+use denote.RattleType.{RattleType, Valss, owns}
+use denote.Signature.{types_at}
+use denote.Builtin.{RawPtr}
+use denote.RawPtr.{Ptr, null_ptr, ptr_val}
+use denote.Steps.{nothing}
+use denote.Struct.Struct.{within}
+use denote.Struct.Owning.{shape}
+use denote.Triple.Walked.{Stays, walk_of}
+use Rattle.std.proofs.raw_atomic.Walks.{proved_at, leaves}
+use Rattle.registry_c.specs.contracts.cpu_handle.CpuHandle as handle
+use Rattle.registry_c.specs.contracts.cpu_handle.CpuHandle.empty as f
+use Rattle.registry_c.proofs.cpu_handle.CpuHandle.empty.Statement.{statement}
+use Rattle.registry_c.proofs.cpu_handle.CpuHandle.empty.Code as code
+
+pub empty_spec : {M : Type 1} → statement M
+empty_spec {M} 𝓤 𝓛 𝓜 𝓡 wired =
+    let H = 𝓛.H in let 𝓣 = tables 𝓤 H 𝓜 𝓡 𝓡.env in let En = f.ended in let c = f.clauses 𝓛 𝓜.mem 𝓡.returns in let fn = code.function in
+    proved_at 𝓛 En tt c 𝓜 𝓡 tt f.Key.name fn (code.unfolded 𝓤 H 𝓜 𝓡 wired) (λ z are.
+    let Post : Val → SProp 𝓤 = (walk_of 𝓛 En tt c).post z in
+    let out : Val = vstruct (vcons (ptr_val null_ptr) vnil) in let made : handle.the_row.Denot = record { at = null_ptr; body = None } in
+    qed 𝓛 ((‵ ftrue ⊛ ‵ (owns (types_at En.signature.params tt) z.0.3 z.0.4)) ∷ raw ((c tt z.0.3).requires z.1) ∷ []) ∵ keep ! [] $
+    enter ! 𝓣.C 𝓣.Λ fn [] Post $ alloc_all ! (λ l. pass_all ! refl tt $
+    sets ! (agg ! (and_then ! (lit ! tt) (no_more !))) refl (tt, (record { fits = lit< tt }, tt)) $
+    nothing ! $ fpack ! (null_ptr ≡ null_ptr) (λ _. ftrue) refl $ nothing ! $ feq_i ! (List Val) (ptr_val null_ptr ∷ []) (ptr_val null_ptr ∷ []) refl $ fjoin ! $ feq_i ! (List Val) (out ∷ []) (out ∷ []) refl $ fjoin ! $
+    fpack ! (Valss (RawPtr ∷ [])) (within (shape handle.the_type) (null_ptr, tt) (out ∷ [])) (ptr_val null_ptr ∷ [], tt) $ fjoin ! $
+    use0 𝓛 (raw (fact 𝓤 (None ≡ None))) (fact_i 𝓤 (None ≡ None) (emp 𝓤) refl) $ nothing ! $ nothing ! $
+    returns ! (look_at ! 0 refl) $ free_all ! refl $ keep ! (0 ∷ 1 ∷ 3 ∷ 2 ∷ []) $ by ! (leaves 𝓛 En tt c z out made tt tt)))

@@ -1,0 +1,55 @@
+use Rattle.std.proofs.Common.{Ok, Err, Some, refl, ap, sym, subst, ◌∙◌}
+use Rattle.passive_list.specs.Cpus.{OnPlainCpu}
+use Rattle.registry_c.specs.LocalCalls.{LocalAcquires}
+use Rattle.registry_c.proofs.Acquired.{no_body, not_refused, one_body, refused_too}
+use Rattle.registry_c.proofs.local_exports.registry_local_acquire.Goals as goal
+
+pub returns-in-Ok : goal.returns-in-Ok
+returns-in-Ok c =
+    let was = c.in-Some.ensures.body ∙ ap Some (sym c.deref_mut.ensures.value) in
+    let b = c.acquire_local-made.new.cpu in
+    let e = c.in-Ok.ensures in
+    record {
+      empty = λ none. absurd (no_body _ _ was none);
+      full = λ a v is has. absurd (no_body _ _ has c.in_default-take_local.ensures.body);
+      made = λ a is none. (
+        b,
+        c.give_cpu-2.ensures,
+        subst (λ (x : OnPlainCpu). LocalAcquires x b 0 c.give_local-in-Ok.new.local.body) (one_body _ _ _ was is) (record {
+          r = Ok c.in-Ok.reference;
+          is = refl;
+          ok = (e.ok, e.table);
+          refused = tt;
+          nothing = (λ q. absurd (not_refused _ _ q), λ found. absurd (not_refused _ _ (e.nothing.1 found)));
+          full = (λ q. absurd (not_refused _ _ q), λ full. absurd (not_refused _ _ (e.full.1 full)));
+          no_other = tt;
+          words = e.words;
+          handle = c.give_local-in-Ok.ensures;
+        }),
+      );
+    }
+
+pub returns-in-Err : goal.returns-in-Err
+returns-in-Err c =
+    let was = c.in-Some.ensures.body ∙ ap Some (sym c.deref_mut.ensures.value) in
+    let b = c.acquire_local-made.new.cpu in
+    let e = c.in-Err.ensures in
+    record {
+      empty = λ none. absurd (no_body _ _ was none);
+      full = λ a v is has. absurd (no_body _ _ has c.in_default-take_local.ensures.body);
+      made = λ a is none. (
+        b,
+        c.give_cpu-2.ensures,
+        subst (λ (x : OnPlainCpu). LocalAcquires x b c.refused.result c.take_local.new.local.body) (one_body _ _ _ was is) (record {
+          r = Err c.in-Err.refusal;
+          is = c.refused.ensures;
+          ok = tt;
+          refused = e.refused;
+          nothing = (λ q. e.nothing.0 (refused_too _ _ q), λ found. refused_too _ _ (e.nothing.1 found));
+          full = (λ q. e.full.0 (refused_too _ _ q), λ full. refused_too _ _ (e.full.1 full));
+          no_other = e.no_other;
+          words = e.words;
+          handle = c.in_default-take_local.ensures.empty;
+        }),
+      );
+    }

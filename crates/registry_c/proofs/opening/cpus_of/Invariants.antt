@@ -1,0 +1,13 @@
+use Rattle.std.proofs.Common.{◌≡◌, ◌-◌, length}
+use Rattle.registry_c.specs.Opening.{boxed, opened_down}
+use Rattle.registry_c.proofs.Seats.{AreLeft}
+use Rattle.registry_c.proofs.opening.cpus_of.Given as goal
+
+-- the seats of the first CPUs are left, and the others have their CPUs
+abbrev pub invariant-loop-seat : goal.invariant-loop-seat
+invariant-loop-seat g l =
+    let n = g.D.Domain.settings.cpus in
+    AreLeft g.D.Domain.table g.D.Domain.settings l.seats.items × (boxed l.cpus.items ≡ opened_down l.words.value n (n - length l.seats.items))
+
+abbrev pub decreases-loop-seat : goal.decreases-loop-seat
+decreases-loop-seat g l = length l.seats.items

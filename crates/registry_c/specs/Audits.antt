@@ -1,0 +1,94 @@
+-- What an audit through the handles answers and writes.
+use Rattle.std.specs.Prelude.{◌≡◌, ℕ, ◌+◌, ◌<◌, ◌≤◌, pos, All, List, [], length, map, take, drop, get_or, slice_set, Option, Some, None}
+use Rattle.registry_values.specs.declared.refusal.Refusal.TheVariants.{MissingCpu}
+use Rattle.registry_values.specs.declared.settings.Settings.{Settings}
+use Rattle.registry_values.specs.declared.entry.Entry.{Entry}
+use Rattle.registry_values.specs.declared.slot.Slot.{Slot}
+use Rattle.registry_values.specs.declared.slot.Slot.TheVariants.{Vacant, Live, Retired}
+use Rattle.registry_values.specs.Balances.{Tally}
+use Rattle.registry_values.specs.Slots.{slot_at}
+use Rattle.protocol.specs.Invariant.{IsIn}
+use Rattle.registry_values.specs.Refusals.{number_of_refusal}
+use Rattle.protocol.specs.State.{State}
+use Rattle.cpu_words.specs.Views.{new_cpu, no_settings}
+use Rattle.passive_list.specs.Cpus.{OnCpu, OnPlainCpu}
+use Rattle.passive_list.specs.Keepers.{OnKeeper}
+use Rattle.name_registry.specs.Auditing.{AreShown, IsKeeperOf, IsTallied, places_below, tallies_below, tallies_met, tally_met}
+use Rattle.registry_c.specs.declared.values.TheConstants.{DONE, EMPTY_HANDLE, NO_ROOM}
+use Rattle.registry_c.specs.declared.audit.CBalance.{CBalance}
+use Rattle.registry_c.specs.Bodies.{OnKeeperBody}
+use Rattle.registry_c.specs.Opening.{body_at}
+
+-- the CPU behind a handle; nothing is said of what isn't behind an empty one
+abbrev pub cpu_in : Option OnPlainCpu → OnCpu
+cpu_in None = record { view = new_cpu no_settings 0; depth = 0; made = 0; deeds = [] }
+cpu_in (Some b) = b.cpu
+
+abbrev pub cpus_in : List (Option OnPlainCpu) → List OnCpu
+cpus_in cs = map cpu_in cs
+
+-- the handles have CPU 0, 1, .., all of so many, in this order
+pub record AreAllHere (cpus : ℕ) (cs : List (Option OnPlainCpu)) : Type 0 where
+  pub count : length cs ≡ cpus
+  pub each : (c : ℕ) → c < cpus → (b : OnPlainCpu) × (body_at cs c ≡ Some b) × (b.cpu.view.id ≡ c)
+
+-- those that aren't empty are of the keeper's registry: the caller sees to it
+abbrev pub AreAllOf : Option OnKeeperBody → List (Option OnPlainCpu) → Type 0
+AreAllOf k cs = (a : OnKeeperBody) (c : ℕ) (b : OnPlainCpu) → k ≡ Some a → body_at cs c ≡ Some b → b.words ≡ a.words
+
+-- what a balance says, where there are so many CPUs
+abbrev pub tally_in : ℕ → CBalance → Tally
+tally_in cpus b = record { number = b.number; slot = b.slot; held = b.held; locals = take cpus b.locals; total = b.total }
+
+-- past the last CPU it has zeros
+abbrev pub IsCut : ℕ → CBalance → Type 0
+IsCut cpus b = (c : ℕ) → cpus ≤ c → get_or b.locals c (pos 0) ≡ pos 0
+
+-- how many of the first slots have an entry
+abbrev pub occupied : OnKeeper → ℕ → ℕ
+occupied k slots = length (places_below k slots)
+
+-- whether the slot has an entry
+abbrev pub entries_in : Slot → ℕ
+entries_in Vacant = 0
+entries_in (Live e) = 1
+entries_in (Retired e) = 1
+
+-- One slot's part of it: the next balance is written where the slot has an entry.
+pub record WritesNext (z : Settings) (k : OnKeeper) (cs : List (Option OnPlainCpu)) (t at : ℕ) (old : List CBalance) (at' : ℕ) (new : List CBalance) : Type 0 where
+  pub none : slot_at k.slots t ≡ Vacant → (at' ≡ at) × (new ≡ old)
+  pub some : (e : Entry) → IsIn e (slot_at k.slots t)
+      → (at' ≡ at + 1) × (b : CBalance) × (new ≡ slice_set old at b) × (tally_in z.cpus b ≡ tally_met k (cpus_in cs) e.number t) × IsCut z.cpus b
+
+-- the balances of the entries in the first t slots are written, and the rest of the list is as before
+pub record AreTold (z : Settings) (k : OnKeeper) (cs : List (Option OnPlainCpu)) (t at : ℕ) (first list : List CBalance) : Type 0 where
+  pub place : at ≡ occupied k t
+  pub met : map (tally_in z.cpus) (take at list) ≡ tallies_met k (cpus_in cs) t
+  pub cut : All (IsCut z.cpus) (take at list)
+  pub rest : drop at list ≡ drop at first
+  pub size : length list ≡ length first
+
+-- the audit of the keeper and all CPUs, as `IsAuditOf` has it of a list of balances
+pub record IsAuditTold (z : Settings) (k : OnKeeper) (xs : List OnCpu) (list : List CBalance) : Type 0 where
+  pub keeper : IsKeeperOf z k
+  pub met : map (tally_in z.cpus) list ≡ tallies_met k xs z.slots
+  pub answer : (g : State) → AreShown g k xs → map (tally_in z.cpus) list ≡ tallies_below k xs z.slots
+  pub tally : All (λ b. IsTallied k xs (tally_in z.cpus b)) list
+  pub cut : All (IsCut z.cpus) list
+
+-- what is written where the list has room: as many balances as there are entries, and the rest of it stays
+pub record AuditWrites (z : Settings) (k : OnKeeper) (cs : List (Option OnPlainCpu)) (old new : List CBalance) : Type 0 where
+  pub told : IsAuditTold z k (cpus_in cs) (take (occupied k z.slots) new)
+  pub rest : drop (occupied k z.slots) new ≡ drop (occupied k z.slots) old
+
+pub record Audits (z : Settings) (k : OnKeeper) (cs : List (Option OnPlainCpu)) (n : ℕ) (old new : List CBalance) (count count' : ℕ) : Type 0 where
+  pub missing : (AreAllHere z.cpus cs → ⊥) → (n ≡ number_of_refusal MissingCpu) × (new ≡ old) × (count' ≡ count)
+  pub short : AreAllHere z.cpus cs → length old < occupied k z.slots → (n ≡ NO_ROOM) × (new ≡ old) × (count' ≡ occupied k z.slots)
+  pub enough : AreAllHere z.cpus cs → occupied k z.slots ≤ length old → (n ≡ DONE) × AuditWrites z k cs old new × (count' ≡ occupied k z.slots)
+
+-- through the handles
+pub record AuditAnswers (k k' : Option OnKeeperBody) (cs cs' : List (Option OnPlainCpu)) (n : ℕ) (old new : List CBalance) (count count' : ℕ) : Type 0 where
+  pub keeper : k' ≡ k
+  pub cpus : cs' ≡ cs
+  pub empty : k ≡ None → (n ≡ EMPTY_HANDLE) × (new ≡ old) × (count' ≡ count)
+  pub full : (a : OnKeeperBody) → k ≡ Some a → Audits a.words.settings a.keeper cs n old new count count'

@@ -1,0 +1,117 @@
+-- What a call answers and leaves. Each restates the contract of the call beneath it, with the answer as its number, and says what is written.
+use Rattle.std.specs.Prelude.{◌≡◌, ◌≢◌, ◌↔◌, ◌⊎◌, ℕ, ◌<◌, Bool, IsTrue, Option, Some, None, Result, Ok, Err, IfOk, IfErr, IsErrOf}
+use Rattle.registry_values.specs.declared.entry.Entry.{Entry}
+use Rattle.registry_values.specs.declared.entry.Kind.{Kind}
+use Rattle.registry_values.specs.declared.refusal.Refusal.{Refusal}
+use Rattle.registry_values.specs.declared.refusal.Refusal.TheVariants.{Inside, NotFound, TooDeep, SectionsSpent}
+use Rattle.registry_values.specs.Refusals.{Answers, number_of_refusal}
+use Rattle.cpu_words.specs.Searching.{key_with}
+use Rattle.cpu_words.specs.Views.{references_to}
+use Rattle.passive_list.specs.Cpus.{OnPlainCpu}
+use Rattle.passive_list.specs.Lookups.{HasFound}
+use Rattle.passive_list.specs.Sections.{AreSpent, HasEnteredOn, HasExitedOn}
+use Rattle.passive_ref.specs.Psrefs.{HasOneLess, IsAcquired, IsCopied, IsReferredTo, OnPsref, why_not_acquired, why_not_copied, why_unusable}
+use Rattle.registry_c.specs.declared.values.TheConstants.{DONE, OUTSIDE, EMPTY_HANDLE, BAD_KIND}
+use Rattle.registry_c.specs.declared.values.CEntry.{CEntry}
+use Rattle.registry_c.specs.declared.values.CName.{CName}
+use Rattle.registry_c.specs.Bodies.{OnKeeperBody, OnLocalBody}
+use Rattle.registry_c.specs.Values.{entry_out, kind_of, name_in, number_of}
+
+-- Handles, by what stands behind them
+
+-- A call through one handle. An empty one is answered by its number, and nothing changes: `Same` says so of what the call writes. Else P holds of what stood behind it, and of what stands there then.
+pub record Through {B : Type 0} (old new : Option B) (n : ℕ) (Same : Type 0) (P : B → B → Type 0) : Type 0 where
+  pub empty : old ≡ None → (n ≡ EMPTY_HANDLE) × (new ≡ None) × Same
+  pub full : (a : B) → old ≡ Some a → (b : B) × (new ≡ Some b) × P a b
+
+-- A call through two: either may be empty.
+pub record ThroughBoth {K C : Type 0} (k k' : Option K) (c c' : Option C) (n : ℕ) (Same : Type 0) (P : K → C → K → C → Type 0) : Type 0 where
+  pub empty : (k ≡ None) ⊎ (c ≡ None) → (n ≡ EMPTY_HANDLE) × (k' ≡ k) × (c' ≡ c) × Same
+  pub full : (a : K) (x : C) → k ≡ Some a → c ≡ Some x → (b : K) × (y : C) × (k' ≡ Some b) × (c' ≡ Some y) × P a x b y
+
+-- The handles of a call are of one registry, those that aren't empty. Nothing at run time tells two registries apart, so the caller sees to it.
+
+abbrev pub AreOfOne : Option OnKeeperBody → Option OnPlainCpu → Type 0
+AreOfOne k c = (a : OnKeeperBody) (x : OnPlainCpu) → k ≡ Some a → c ≡ Some x → x.words ≡ a.words
+
+abbrev pub IsOfCpu : Option OnPlainCpu → Option OnLocalBody → Type 0
+IsOfCpu c l = (x : OnPlainCpu) (v : OnLocalBody) → c ≡ Some x → l ≡ Some v → v.words ≡ x.words
+
+abbrev pub IsOfKeeper : Option OnKeeperBody → Option OnLocalBody → Type 0
+IsOfKeeper k l = (a : OnKeeperBody) (v : OnLocalBody) → k ≡ Some a → l ≡ Some v → v.words ≡ a.words
+
+-- what is written of an answer: nothing of a refusal
+abbrev pub Writes : {X Y : Type 0} → (X → Y) → Result X Refusal → Y → Y → Type 0
+Writes out (Ok x) old new = new ≡ out x
+Writes out (Err refusal) old new = new ≡ old
+
+-- One CPU
+
+-- the answer r of an enter
+pub record Enters (a b : OnPlainCpu) (n : ℕ) : Type 0 where
+  pub r : Result (Unit {0}) Refusal
+  pub number : n ≡ number_of r
+  pub ok : IfOk r (λ _. HasEnteredOn a.cpu b.cpu)
+  pub refused : IfErr r (λ _. b ≡ a)
+  pub deep : IsErrOf r TooDeep ↔ a.cpu.depth ≡ 255
+  pub spent : IsErrOf r SectionsSpent ↔ (a.cpu.depth ≡ 0) × AreSpent a.cpu.view
+  pub no_other : IfErr r (λ f. (f ≡ TooDeep) ⊎ (f ≡ SectionsSpent))
+  pub words : b.words ≡ a.words
+
+pub record Exits (a b : OnPlainCpu) (n : ℕ) : Type 0 where
+  pub outside : a.cpu.view.begin ≡ None → (n ≡ OUTSIDE) × (b ≡ a)
+  pub inside : a.cpu.view.begin ≢ None → (n ≡ DONE) × HasExitedOn a.cpu b.cpu × (b.words ≡ a.words)
+
+-- what a find writes
+abbrev pub WritesFound : Option Entry → ℕ → CEntry → CEntry → Type 0
+WritesFound None n old new = (n ≡ number_of_refusal NotFound) × (new ≡ old)
+WritesFound (Some e) n old new = (n ≡ DONE) × (new ≡ entry_out e)
+
+-- of words that no name has, too: nothing is found then, and the last found entry is cleared
+pub record Finds (kind : ℕ) (name : CName) (a b : OnPlainCpu) (n : ℕ) (old new : CEntry) : Type 0 where
+  pub bad : kind_of kind ≡ None → (n ≡ BAD_KIND) × (b ≡ a) × (new ≡ old)
+  pub outside : (k : Kind) → kind_of kind ≡ Some k → a.cpu.view.begin ≡ None → (n ≡ OUTSIDE) × (b ≡ a) × (new ≡ old)
+  pub inside : (k : Kind) → kind_of kind ≡ Some k → a.cpu.view.begin ≢ None
+      → (answer : Option Entry) × HasFound (key_with k (name_in name)) a.cpu b.cpu answer × (b.words ≡ a.words) × WritesFound answer n old new
+
+abbrev pub number_in : OnPsref → ℕ
+number_in p = p.number
+
+pub record Acquires (a b : OnPlainCpu) (n old new : ℕ) : Type 0 where
+  pub r : Result OnPsref Refusal
+  pub number : n ≡ number_of r
+  pub answer : Answers (why_not_acquired a.cpu.view a.cpu.view.found) (IsAcquired a.cpu b.cpu) r
+  pub refused : IfErr r (λ _. b ≡ a)
+  pub words : b.words ≡ a.words
+  pub writes : Writes number_in r old new
+
+-- this CPU's own reference to that number
+abbrev pub own : OnPlainCpu → ℕ → OnPsref
+own a number = record { cpu = a.cpu.view.id; number = number }
+
+pub record Copies (number : ℕ) (a b : OnPlainCpu) (n : ℕ) : Type 0 where
+  pub r : Result OnPsref Refusal
+  pub is : n ≡ number_of r
+  pub answer : Answers (why_not_copied a.cpu.view number (why_unusable a.cpu.view (own a number))) (IsCopied number a.cpu b.cpu) r
+  pub refused : IfErr r (λ _. b ≡ a)
+  pub words : b.words ≡ a.words
+
+pub record Reads (number : ℕ) (a b : OnPlainCpu) (n : ℕ) (old new : CEntry) : Type 0 where
+  pub r : Result Entry Refusal
+  pub is : n ≡ number_of r
+  pub answer : Answers (why_unusable a.cpu.view (own a number)) (IsReferredTo a.cpu.view number) r
+  pub same : b ≡ a
+  pub writes : Writes entry_out r old new
+
+pub record Releases (number : ℕ) (a b : OnPlainCpu) (n : ℕ) : Type 0 where
+  pub r : Result (Unit {0}) Refusal
+  pub is : n ≡ number_of r
+  pub answer : Answers (why_unusable a.cpu.view (own a number)) (λ _. HasOneLess number a.cpu b.cpu) r
+  pub refused : IfErr r (λ _. b ≡ a)
+  pub words : b.words ≡ a.words
+
+-- a CPU is given up outside a section
+pub record CpuCloses (old new : Option OnPlainCpu) (n : ℕ) : Type 0 where
+  pub empty : old ≡ None → (n ≡ EMPTY_HANDLE) × (new ≡ None)
+  pub inside : (a : OnPlainCpu) → old ≡ Some a → a.cpu.view.begin ≢ None → (n ≡ number_of_refusal Inside) × (new ≡ old)
+  pub outside : (a : OnPlainCpu) → old ≡ Some a → a.cpu.view.begin ≡ None → (n ≡ DONE) × (new ≡ None)

@@ -1,0 +1,134 @@
+-- What the keeper's calls answer and leave.
+use Rattle.std.specs.Prelude.{◌≡◌, ℕ, Bool, true, false, List, map, replicate, Option, Some, None, Result, Ok, Err, IfOk, IfErr}
+use Rattle.registry_values.specs.declared.entry.Entry.{Entry}
+use Rattle.registry_values.specs.declared.entry.Kind.{Kind}
+use Rattle.registry_values.specs.declared.entry.Kind.TheVariants.{Driver}
+use Rattle.registry_values.specs.declared.entry.Record.{Record}
+use Rattle.registry_values.specs.declared.name.Name.{Name}
+use Rattle.registry_values.specs.declared.refusal.Refusal.{Refusal}
+use Rattle.registry_values.specs.declared.refusal.Refusal.TheVariants.{Inside, Waiting}
+use Rattle.registry_values.specs.declared.stage.Stage.{Stage}
+use Rattle.registry_values.specs.Names.{name_of_words}
+use Rattle.registry_values.specs.Refusals.{number_of_refusal}
+use Rattle.registry_values.specs.Stages.{destroy_result}
+use Rattle.passive_list.specs.Cpus.{OnPlainCpu}
+use Rattle.passive_list.specs.Keepers.{OnKeeper}
+use Rattle.name_registry.specs.Advancing.{HasAdvanced}
+use Rattle.name_registry.specs.Attaching.{HasAttachedFor, HasAttachedIfaceFor, attach_answer, attach_iface_answer}
+use Rattle.name_registry.specs.Detaching.{HasDetachedFor, IsDetachAnswer}
+use Rattle.name_registry.specs.Locking.{IsStageOf}
+use Rattle.name_registry.specs.Meeting.{is_inside}
+use Rattle.name_registry.specs.Performing.{Finishes, HasBegun, HasGlanced, HasPassedAll}
+use Rattle.registry_c.specs.declared.values.TheConstants.{DONE, EMPTY_HANDLE, BAD_KIND, BAD_NAME}
+use Rattle.registry_c.specs.declared.values.CEntry.{CEntry}
+use Rattle.registry_c.specs.declared.values.CName.{CName}
+use Rattle.registry_c.specs.declared.values.CStage.{CStage}
+use Rattle.registry_c.specs.declared.wait.CWait.{CWait}
+use Rattle.registry_c.specs.Bodies.{OnKeeperBody, OnLocalBody}
+use Rattle.registry_c.specs.Calls.{Writes}
+use Rattle.registry_c.specs.Flags.{flag_of, is_set, none_or_number, number_or_none}
+use Rattle.registry_c.specs.Values.{entry_out, kind_of, number_of, stage_out}
+
+-- both are of the tables that they were of
+abbrev pub KeepsWords : OnKeeperBody → OnPlainCpu → OnKeeperBody → OnPlainCpu → Type 0
+KeepsWords k c k' c' = (k'.words ≡ k.words) × (c'.words ≡ c.words)
+
+abbrev pub words_name : CName → Option Name
+words_name name = name_of_words name.high name.low
+
+-- Attaching and detaching
+
+abbrev pub record_of : Kind → Name → ℕ → Record
+record_of kind name value = record { kind = kind; name = name; value = value }
+
+-- the answer r of an attach of the record
+pub record Attaches (rec : Record) (k : OnKeeperBody) (c : OnPlainCpu) (k' : OnKeeperBody) (c' : OnPlainCpu) (r : Result Entry Refusal) : Type 0 where
+  pub answer : r ≡ attach_answer k.words.settings k.keeper c.cpu rec
+  pub ok : IfOk r (λ e. HasAttachedFor k.keeper c.cpu e k'.keeper c'.cpu)
+  pub refused : IfErr r (λ _. (k' ≡ k) × (c' ≡ c))
+  pub words : KeepsWords k c k' c'
+
+pub record AttachAnswers (name : CName) (value : ℕ) (k : OnKeeperBody) (c : OnPlainCpu) (k' : OnKeeperBody) (c' : OnPlainCpu) (n : ℕ) (old new : CEntry) : Type 0 where
+  pub bad : words_name name ≡ None → (n ≡ BAD_NAME) × (k' ≡ k) × (c' ≡ c) × (new ≡ old)
+  pub good : (m : Name) → words_name name ≡ Some m → (r : Result Entry Refusal) × (n ≡ number_of r) × Attaches (record_of Driver m value) k c k' c' r × Writes entry_out r old new
+
+-- the answer r of a detach
+pub record Detaches (kind : Kind) (name : Name) (k : OnKeeperBody) (c : OnPlainCpu) (k' : OnKeeperBody) (c' : OnPlainCpu) (r : Result Entry Refusal) : Type 0 where
+  pub answer : IsDetachAnswer k.keeper c.cpu (record { kind = kind; name = name }) r
+  pub ok : IfOk r (λ e. HasDetachedFor k.keeper c.cpu e k'.keeper c'.cpu)
+  pub refused : IfErr r (λ _. (k' ≡ k) × (c' ≡ c))
+  pub words : KeepsWords k c k' c'
+
+pub record DetachAnswers (kind : ℕ) (name : CName) (k : OnKeeperBody) (c : OnPlainCpu) (k' : OnKeeperBody) (c' : OnPlainCpu) (n : ℕ) (old new : CEntry) : Type 0 where
+  pub bad_kind : kind_of kind ≡ None → (n ≡ BAD_KIND) × (k' ≡ k) × (c' ≡ c) × (new ≡ old)
+  pub bad_name : (i : Kind) → kind_of kind ≡ Some i → words_name name ≡ None → (n ≡ BAD_NAME) × (k' ≡ k) × (c' ≡ c) × (new ≡ old)
+  pub good : (i : Kind) (m : Name) → kind_of kind ≡ Some i → words_name name ≡ Some m → (r : Result Entry Refusal) × (n ≡ number_of r) × Detaches i m k c k' c' r × Writes entry_out r old new
+
+-- the answer r of an attach of the record on the driver that the reference is to
+pub record AttachesIface (rec : Record) (l : OnLocalBody) (k : OnKeeperBody) (c : OnPlainCpu) (k' : OnKeeperBody) (c' : OnPlainCpu) (r : Result Entry (Refusal × OnLocalBody)) : Type 0 where
+  pub answer : IfOk r (λ e. attach_iface_answer k.words.settings k.keeper c.cpu rec l.reference ≡ Ok e)
+  pub ok : IfOk r (λ e. HasAttachedIfaceFor k.keeper c.cpu l.reference e k'.keeper c'.cpu)
+  pub refused : IfErr r (λ back. (attach_iface_answer k.words.settings k.keeper c.cpu rec l.reference ≡ Err back.0) × (back.1 ≡ l) × (k' ≡ k) × (c' ≡ c))
+  pub words : KeepsWords k c k' c'
+
+-- The work on a retired entry
+
+-- the answer r of a turn
+pub record Advances (number : ℕ) (k k' : OnKeeperBody) (r : Result Stage Refusal) : Type 0 where
+  pub answer : HasAdvanced k.keeper number r k'.keeper
+  pub stage : IfOk r (λ stage. IsStageOf k.words.settings stage)
+  pub words : k'.words ≡ k.words
+
+pub record AdvanceAnswers (number : ℕ) (k k' : OnKeeperBody) (n : ℕ) (old new : CStage) : Type 0 where
+  pub r : Result Stage Refusal
+  pub is : n ≡ number_of r
+  pub advances : Advances number k k' r
+  pub writes : Writes stage_out r old new
+
+-- what met the entry is written; it was destroyed just where nothing did
+abbrev pub WritesDestroyed : Result Stage Refusal → ℕ → CStage → CStage → Type 0
+WritesDestroyed (Ok stage) n old new = (n ≡ number_of (destroy_result stage)) × (new ≡ stage_out stage)
+WritesDestroyed (Err refusal) n old new = (n ≡ number_of_refusal refusal) × (new ≡ old)
+
+-- on a CPU that is inside a section, or isn't
+pub record DestroyAnswers (within : Bool) (number : ℕ) (k k' : OnKeeperBody) (n : ℕ) (old new : CStage) : Type 0 where
+  pub inside : within ≡ true → (n ≡ number_of_refusal Inside) × (k' ≡ k) × (new ≡ old)
+  pub outside : within ≡ false → (r : Result Stage Refusal) × Advances number k k' r × WritesDestroyed r n old new
+
+-- Waiting
+
+-- a wait begins: what is written of it, and what the keeper and the CPU told each other
+pub record Begins (k : OnKeeperBody) (c : OnPlainCpu) (k' : OnKeeperBody) (c' : OnPlainCpu) (new : CWait) : Type 0 where
+  pub numbers : List (Option ℕ)
+  pub begun : HasBegun k.words.settings k.keeper c.cpu new.snapshots numbers k'.keeper c'.cpu
+  pub retired : new.retired ≡ map number_or_none numbers
+  pub seen : new.seen ≡ replicate 8 0
+  pub words : KeepsWords k c k' c'
+
+-- one turn of it, which told this CPU or none: all that the wait keeps of it is who was seen
+pub record Turns (k : OnKeeperBody) (c : OnPlainCpu) (k' : OnKeeperBody) (c' : OnPlainCpu) (told : Option ℕ) (old new : CWait) : Type 0 where
+  pub seen : List Bool
+  pub between : OnKeeper
+  pub glanced : HasGlanced k.words.settings old.snapshots k.keeper c.cpu (map is_set old.seen) told seen between c'.cpu
+  pub finished : Finishes (HasPassedAll k.words.settings) (map none_or_number old.retired) between told k'.keeper
+  pub wait : new ≡ record old { seen = map flag_of seen }
+  pub words : KeepsWords k c k' c'
+
+pub record PerformAnswers (k : OnKeeperBody) (c : OnPlainCpu) (k' : OnKeeperBody) (c' : OnPlainCpu) (n : ℕ) (old new : CWait) : Type 0 where
+  pub inside : is_inside c.cpu ≡ true → (n ≡ number_of_refusal Inside) × (k' ≡ k) × (c' ≡ c) × (new ≡ old)
+  pub outside : is_inside c.cpu ≡ false → (n ≡ DONE) × Begins k c k' c' new
+
+-- what a turn writes of the CPU that it told
+abbrev pub WritesTold : Option ℕ → ℕ → ℕ → ℕ → Type 0
+WritesTold None n old new = (n ≡ DONE) × (new ≡ old)
+WritesTold (Some c) n old new = (n ≡ number_of_refusal (Waiting c)) × (new ≡ c)
+
+pub record TurnAnswers (k : OnKeeperBody) (c : OnPlainCpu) (k' : OnKeeperBody) (c' : OnPlainCpu) (n : ℕ) (wait wait' : CWait) (old new : ℕ) : Type 0 where
+  pub inside : is_inside c.cpu ≡ true → (n ≡ number_of_refusal Inside) × (k' ≡ k) × (c' ≡ c) × (wait' ≡ wait) × (new ≡ old)
+  pub outside : is_inside c.cpu ≡ false → (told : Option ℕ) × Turns k c k' c' told wait wait' × WritesTold told n old new
+
+-- the keeper is given up
+pub record KeeperCloses (old new : Option OnKeeperBody) (n : ℕ) : Type 0 where
+  pub empty : old ≡ None → n ≡ EMPTY_HANDLE
+  pub full : (k : OnKeeperBody) → old ≡ Some k → n ≡ DONE
+  pub none : new ≡ None

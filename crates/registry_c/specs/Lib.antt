@@ -1,0 +1,11 @@
+pub mod Bodies
+pub mod Handles
+pub mod Values
+pub mod Flags
+pub mod Collected
+pub mod Calls
+pub mod KeeperCalls
+pub mod LocalCalls
+pub mod Opening
+pub mod Texts
+pub mod Audits

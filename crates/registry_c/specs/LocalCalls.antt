@@ -1,0 +1,84 @@
+-- What the calls of local references answer and leave.
+use Rattle.std.specs.Prelude.{◌≡◌, ◌⊎◌, ◌↔◌, ℕ, false, Option, Some, None, Result, Ok, Err, IfOk, IfErr, IsErrOf}
+use Rattle.registry_values.specs.declared.entry.Entry.{Entry}
+use Rattle.registry_values.specs.declared.entry.Kind.TheVariants.{Iface}
+use Rattle.registry_values.specs.declared.name.Name.{Name}
+use Rattle.registry_values.specs.declared.refusal.Refusal.{Refusal}
+use Rattle.registry_values.specs.declared.refusal.Refusal.TheVariants.{LocalFull, NoMemory, NothingFound}
+use Rattle.registry_values.specs.Refusals.{number_of_refusal}
+use Rattle.cpu_words.specs.declared.view.ReferenceView.{ReferenceView}
+use Rattle.passive_list.specs.Cpus.{OnPlainCpu}
+use Rattle.local_count.specs.Draining.{HasGivenUp}
+use Rattle.local_count.specs.References.{HasAcquired, HasComeBack, HasReleased, IsFull}
+use Rattle.registry_c.specs.declared.values.TheConstants.{DONE, EMPTY_HANDLE, FULL_HANDLE, BAD_NAME, COLLECTED, NOT_COLLECTED}
+use Rattle.registry_c.specs.declared.values.CEntry.{CEntry}
+use Rattle.registry_c.specs.declared.values.CName.{CName}
+use Rattle.registry_c.specs.Bodies.{OnKeeperBody, OnLocalBody}
+use Rattle.registry_c.specs.Collected.{are_collected_for}
+use Rattle.registry_c.specs.KeeperCalls.{AttachesIface, record_of, words_name}
+use Rattle.registry_c.specs.Values.{entry_out, number_of}
+
+-- what is there where the answer is no refusal
+abbrev pub some_of : {X : Type 0} → Result X Refusal → Option X
+some_of (Ok x) = Some x
+some_of (Err refusal) = None
+
+-- Acquiring
+
+-- the answer r of an acquire; the handle has what it gives
+pub record LocalAcquires (a b : OnPlainCpu) (n : ℕ) (l : Option OnLocalBody) : Type 0 where
+  pub r : Result OnLocalBody Refusal
+  pub is : n ≡ number_of r
+  pub ok : IfOk r (λ v. HasAcquired a.cpu b.cpu v.reference × (v.words ≡ a.words))
+  pub refused : IfErr r (λ _. b ≡ a)
+  pub nothing : IsErrOf r NothingFound ↔ a.cpu.view.found ≡ None
+  pub full : IsErrOf r LocalFull ↔ (e : Entry) × (a.cpu.view.found ≡ Some e) × IsFull a.cpu.view e
+  pub no_other : IfErr r (λ f. (f ≡ NothingFound) ⊎ ((f ≡ LocalFull) ⊎ (f ≡ NoMemory)))
+  pub words : b.words ≡ a.words
+  pub handle : l ≡ some_of r
+
+-- The CPU's handle isn't empty, and the other is.
+pub record LocalAcquireAnswers (c c' : Option OnPlainCpu) (l l' : Option OnLocalBody) (n : ℕ) : Type 0 where
+  pub empty : c ≡ None → (n ≡ EMPTY_HANDLE) × (c' ≡ c) × (l' ≡ l)
+  pub full : (a : OnPlainCpu) (v : OnLocalBody) → c ≡ Some a → l ≡ Some v → (n ≡ FULL_HANDLE) × (c' ≡ c) × (l' ≡ l)
+  pub made : (a : OnPlainCpu) → c ≡ Some a → l ≡ None → (b : OnPlainCpu) × (c' ≡ Some b) × LocalAcquires a b n l'
+
+-- Releasing
+
+-- it was released, or comes back; the handle has what comes back
+pub record LocalReleases (a : OnPlainCpu) (v : OnLocalBody) (b : OnPlainCpu) (n : ℕ) (l : Option OnLocalBody) : Type 0 where
+  pub words : b.words ≡ a.words
+  pub how : ((n ≡ DONE) × HasReleased a.cpu v.reference b.cpu × (l ≡ None))
+      ⊎ ((n ≡ COLLECTED) × (w : ReferenceView) × HasComeBack a.cpu v.reference b.cpu w × (l ≡ Some (record { words = v.words; reference = w })))
+
+-- no release has found its CPU's count collected, and the keeper has collected none
+abbrev pub IsUncollected : OnKeeperBody → ReferenceView → Type 0
+IsUncollected k v = (v.collected ≡ None) × (are_collected_for k.keeper v.entry.slot v.entry.number k.words.settings.cpus ≡ false)
+
+-- it was given up under the interlock, or no count was collected
+pub record LocalGivesUp (k : OnKeeperBody) (v : OnLocalBody) (k' : OnKeeperBody) (n : ℕ) (l : Option OnLocalBody) : Type 0 where
+  pub words : k'.words ≡ k.words
+  pub how : ((n ≡ DONE) × HasGivenUp k.keeper v.reference k'.keeper × (l ≡ None))
+      ⊎ ((n ≡ NOT_COLLECTED) × (k' ≡ k) × (l ≡ Some v) × IsUncollected k v.reference)
+
+-- a call that may spend the local handle
+pub record ThroughLocal {B : Type 0} (c c' : Option B) (l l' : Option OnLocalBody) (n : ℕ) (P : B → OnLocalBody → B → Option OnLocalBody → Type 0) : Type 0 where
+  pub empty : (c ≡ None) ⊎ (l ≡ None) → (n ≡ EMPTY_HANDLE) × (c' ≡ c) × (l' ≡ l)
+  pub full : (a : B) (v : OnLocalBody) → c ≡ Some a → l ≡ Some v → (b : B) × (c' ≡ Some b) × P a v b l'
+
+-- Attaching an interface
+
+-- the entry is written and the reference is spent, or it comes back
+abbrev pub WritesIface : Result Entry (Refusal × OnLocalBody) → ℕ → Option OnLocalBody → CEntry → CEntry → Type 0
+WritesIface (Ok e) n l old new = (n ≡ DONE) × (l ≡ None) × (new ≡ entry_out e)
+WritesIface (Err back) n l old new = (n ≡ number_of_refusal back.0) × (l ≡ Some back.1) × (new ≡ old)
+
+pub record AttachIfaceAnswers (name : CName) (value : ℕ) (k : OnKeeperBody) (c : OnPlainCpu) (v : OnLocalBody) (k' : OnKeeperBody) (c' : OnPlainCpu) (l : Option OnLocalBody) (n : ℕ) (old new : CEntry) : Type 0 where
+  pub bad : words_name name ≡ None → (n ≡ BAD_NAME) × (k' ≡ k) × (c' ≡ c) × (l ≡ Some v) × (new ≡ old)
+  pub good : (m : Name) → words_name name ≡ Some m → (r : Result Entry (Refusal × OnLocalBody)) × AttachesIface (record_of Iface m value) v k c k' c' r × WritesIface r n l old new
+
+-- through the three handles
+pub record ThroughAll (k k' : Option OnKeeperBody) (c c' : Option OnPlainCpu) (l l' : Option OnLocalBody) (n : ℕ) (Same : Type 0)
+    (P : OnKeeperBody → OnPlainCpu → OnLocalBody → OnKeeperBody → OnPlainCpu → Option OnLocalBody → Type 0) : Type 0 where
+  pub empty : (k ≡ None) ⊎ ((c ≡ None) ⊎ (l ≡ None)) → (n ≡ EMPTY_HANDLE) × (k' ≡ k) × (c' ≡ c) × (l' ≡ l) × Same
+  pub full : (a : OnKeeperBody) (x : OnPlainCpu) (v : OnLocalBody) → k ≡ Some a → c ≡ Some x → l ≡ Some v → (b : OnKeeperBody) × (y : OnPlainCpu) × (k' ≡ Some b) × (c' ≡ Some y) × P a x v b y l'

@@ -1,0 +1,80 @@
+-- What opening a registry answers and leaves.
+use Rattle.std.specs.Prelude.{◌≡◌, ◌≢◌, ◌⊎◌, ℕ, zero, suc, ◌-◌, ◌<◌, List, [], ◌∷◌, ◌++◌, length, map, replicate, get_or, true, false, Option, Some, None}
+use mathlib.Core.Option.{some}
+use lib.ListN.{get_elem?}
+use Rattle.std_alloc.specs.declared.boxed.Box.{Box}
+use Rattle.std_heap.specs.declared.Global.{Global}
+use Rattle.registry_values.specs.declared.refusal.Refusal.TheVariants.{BadSettings, MissingCpu, NoMemory}
+use Rattle.registry_values.specs.declared.settings.Settings.{Settings}
+use Rattle.registry_values.specs.declared.slot.Slot.TheVariants.{Vacant}
+use Rattle.registry_values.specs.Limits.{are_fit}
+use Rattle.registry_values.specs.Refusals.{number_of_refusal}
+use Rattle.cpu_words.specs.Opening.{keeper_with}
+use Rattle.cpu_words.specs.Views.{Named, new_cpu}
+use Rattle.passive_list.specs.Cpus.{OnPlainCpu}
+use Rattle.registry_c.specs.declared.cpu_handle.CpuHandle.{CpuHandle}
+use Rattle.registry_c.specs.declared.values.TheConstants.{DONE, FULL_HANDLE}
+use Rattle.registry_c.specs.declared.values.CSettings.{CSettings}
+use Rattle.registry_c.specs.Bodies.{OnKeeperBody}
+use Rattle.registry_c.specs.Values.{settings_in}
+
+-- the CPU c of a new registry: outside, with nothing found and nothing held
+abbrev pub opened_cpu : Named → ℕ → OnPlainCpu
+opened_cpu w c = record { words = w; cpu = record { view = new_cpu w.settings c; depth = 0; made = 0; deeds = [] } }
+
+-- its keeper: all slots are vacant, and there was no change
+abbrev pub opened_keeper : Named → OnKeeperBody
+opened_keeper w = record { words = w; keeper = record { view = keeper_with w.settings w.settings.cpus; slots = replicate 32 Vacant } }
+
+-- the last k of n CPUs, the greatest first
+abbrev pub opened_down : Named → ℕ → ℕ → List OnPlainCpu
+opened_down w n zero = []
+opened_down w n (suc k) = opened_down w n k ++ opened_cpu w (n - suc k) ∷ []
+
+-- what is in each of a list of boxes
+abbrev pub boxed : List (Box OnPlainCpu Global) → List OnPlainCpu
+boxed boxes = map (λ (b : Box OnPlainCpu Global). b.value) boxes
+
+-- what stands behind each of a list of handles
+abbrev pub bodies_of : List CpuHandle → List (Option OnPlainCpu)
+bodies_of handles = map (λ (h : CpuHandle). h.body) handles
+
+-- and behind the handle c: nothing past the last
+abbrev pub body_at : List (Option OnPlainCpu) → ℕ → Option OnPlainCpu
+body_at cs c = get_or cs c None
+
+abbrev pub AreEmpty : List (Option OnPlainCpu) → Type 0
+AreEmpty cs = (c : ℕ) → body_at cs c ≡ None
+
+abbrev pub IsSomeFull : List (Option OnPlainCpu) → Type 0
+IsSomeFull cs = (c : ℕ) × (b : OnPlainCpu) × (body_at cs c ≡ Some b)
+
+-- some handle isn't empty
+abbrev pub IsFull : Option OnKeeperBody → List (Option OnPlainCpu) → Type 0
+IsFull k cs = ((a : OnKeeperBody) × (k ≡ Some a)) ⊎ IsSomeFull cs
+
+-- the first m handles have what is in the list of n, from its last
+abbrev pub AreGiven : List OnPlainCpu → ℕ → List (Option OnPlainCpu) → ℕ → Type 0
+AreGiven all n cs m = (c : ℕ) → c < m → (b : OnPlainCpu) × (body_at cs c ≡ Some b) × (get_elem? all (n - suc c) ≡ some b)
+
+-- nothing has changed
+abbrev pub StaysClosed : Option OnKeeperBody → Option OnKeeperBody → List (Option OnPlainCpu) → List (Option OnPlainCpu) → Type 0
+StaysClosed k k' cs cs' = (k' ≡ k) × (cs' ≡ cs)
+
+-- the handles have the keeper and the CPUs of one new registry
+pub record IsOpen (z : Settings) (k : Option OnKeeperBody) (cs : List (Option OnPlainCpu)) : Type 0 where
+  pub words : Named
+  pub settings : words.settings ≡ z
+  pub keeper : k ≡ Some (opened_keeper words)
+  pub cpus : (c : ℕ) → c < z.cpus → body_at cs c ≡ Some (opened_cpu words c)
+
+-- it is opened, or there is no memory
+abbrev pub HasOpened : Settings → Option OnKeeperBody → Option OnKeeperBody → List (Option OnPlainCpu) → List (Option OnPlainCpu) → ℕ → Type 0
+HasOpened z k k' cs cs' n = ((n ≡ DONE) × IsOpen z k' cs') ⊎ ((n ≡ number_of_refusal NoMemory) × StaysClosed k k' cs cs')
+
+-- The answers in the order of the tests; where all are passed, it is opened, or there is no memory.
+pub record Opens (given : CSettings) (k k' : Option OnKeeperBody) (cs cs' : List (Option OnPlainCpu)) (n : ℕ) : Type 0 where
+  pub bad : are_fit (settings_in given) ≡ false → (n ≡ number_of_refusal BadSettings) × StaysClosed k k' cs cs'
+  pub missing : are_fit (settings_in given) ≡ true → length cs ≢ given.cpus → (n ≡ number_of_refusal MissingCpu) × StaysClosed k k' cs cs'
+  pub full : are_fit (settings_in given) ≡ true → length cs ≡ given.cpus → IsFull k cs → (n ≡ FULL_HANDLE) × StaysClosed k k' cs cs'
+  pub made : are_fit (settings_in given) ≡ true → length cs ≡ given.cpus → k ≡ None → AreEmpty cs → HasOpened (settings_in given) k k' cs cs' n

@@ -1,0 +1,41 @@
+-- Names from bytes, and what an answer says.
+use Rattle.std.specs.Prelude.{◌≡◌, ◌≢◌, ◌⊎◌, ℕ, suc, ◌-◌, ◌<◌, ◌≤◌, List, length, get_or, Result, Ok, Err}
+use Rattle.registry_values.specs.declared.name.Name.{Name}
+use Rattle.registry_values.specs.declared.name.NameFault.{NameFault}
+use Rattle.registry_values.specs.declared.name.NameFault.TheVariants.{Empty, TooLong, BadByte}
+use Rattle.registry_values.specs.Names.{name_of_bytes}
+use Rattle.registry_c.specs.declared.values.TheConstants.{DONE, NAME_EMPTY, NAME_TOO_LONG, NAME_BAD_BYTE}
+use Rattle.registry_c.specs.declared.values.CName.{CName}
+use Rattle.registry_c.specs.Values.{name_out}
+
+-- what is answered and written of a name, or of the first fault
+abbrev pub WritesName : Result Name NameFault → ℕ → CName → CName → ℕ → ℕ → Type 0
+WritesName (Ok m) n old new place place' = (n ≡ DONE) × (new ≡ name_out m) × (place' ≡ place)
+WritesName (Err Empty) n old new place place' = (n ≡ NAME_EMPTY) × (new ≡ old) × (place' ≡ place)
+WritesName (Err TooLong) n old new place place' = (n ≡ NAME_TOO_LONG) × (new ≡ old) × (place' ≡ place)
+WritesName (Err (BadByte at)) n old new place place' = (n ≡ NAME_BAD_BYTE) × (new ≡ old) × (place' ≡ at)
+
+-- the answer of a parse: the name that the bytes are, or the first fault
+pub record Parses (bytes : List ℕ) (n : ℕ) (old new : CName) (place place' : ℕ) : Type 0 where
+  pub r : Result Name NameFault
+  pub is : r ≡ name_of_bytes bytes
+  pub writes : WritesName r n old new place place'
+
+-- some call answers so
+abbrev pub IsAnswer : ℕ → Type 0
+IsAnswer n = (n ≤ 19) ⊎ ((64 ≤ n) × (n ≤ 75) × (n ≢ 67))
+
+-- A text and a zero are written, cut to the room; with no room nothing is.
+pub record IsWritten (t old new : List ℕ) : Type 0 where
+  pub text : (k : ℕ) → k < length t → suc k < length old → get_or new k 0 ≡ get_or t k 0
+  pub whole : length t < length old → get_or new (length t) 0 ≡ 0
+  pub cut : length old ≤ length t → 0 < length old → get_or new (length old - 1) 0 ≡ 0
+  pub rest : (k : ℕ) → length t < k → get_or new k 0 ≡ get_or old k 0
+
+-- the text of an answer has so many bytes: none where no call answers so
+pub record Tells (answer n : ℕ) (old new : List ℕ) : Type 0 where
+  pub t : List ℕ
+  pub size : n ≡ length t
+  pub known : IsAnswer answer → 0 < n
+  pub unknown : 0 < n → IsAnswer answer
+  pub written : IsWritten t old new

@@ -1,0 +1,208 @@
+//! What stands behind a CPU's handle.
+
+ghost use Rattle.std.specs.Prelude.{◌≡◌, ◌≢◌, ◌↔◌, ◌⊎◌, ◌<◌, IsTrue, None, IfOk, IfErr, IsErrOf};
+ghost use Rattle.registry_values.specs.Refusals.{Answers};
+ghost use Rattle.cpu_words.specs.Domains.{AreWordsOf};
+ghost use Rattle.cpu_words.specs.Searching.{key_with};
+ghost use Rattle.cpu_words.specs.Views.{references_to};
+ghost use Rattle.passive_list.specs.Lookups.{HasFound};
+ghost use Rattle.passive_list.specs.Sections.{AreSpent, HasEnteredOn, HasExitedOn};
+ghost use Rattle.name_registry.specs.Meeting.{is_inside};
+ghost use Rattle.passive_ref.specs.Psrefs.{GivesBack, HasOneLess, IsAcquired, IsCopied, IsReferredTo, why_not_acquired, why_not_copied, why_unusable};
+
+use cpu_words::{Domain, Words};
+use passive_list::{Cpu, PlainCpu, enter_on, exit_on, find_on};
+use passive_ref::{Psref, acquire_on, copy_on, held_on, read_entry_on, release_on};
+use registry_values::{Entry, Kind, Name, Refusal};
+use std::alloc::{AllocError, Global};
+use std::marker::Model;
+use std::sync::Arc;
+use std::sync::ledger::Blank;
+
+/// A CPU, and its share of its table's words. To a contract it is what the CPU is.
+#[derive(Drop)]
+pub struct CpuBody {
+    pub words: Arc<Words, Global>,
+    pub cpu: PlainCpu,
+}
+
+impl Model for CpuBody {
+    ghost use Rattle.std.specs.Prelude.{◌≡◌};
+    ghost use Rattle.cpu_words.specs.Domains.{AreWordsOf};
+    ghost use Rattle.passive_list.specs.Cpus.{OnPlainCpu};
+
+    ghost Value = { OnPlainCpu };
+
+    ghost view = { λ b. b.cpu };
+
+    ghost invariant = { λ b. AreWordsOf b.words.value b.cpu.words.table b.cpu.words.settings };
+}
+
+impl CpuBody {
+    /// The CPU with a share of its own of the words. Condition: the words are its table's.
+    pub fn share(words: &Arc<Words, Global>, cpu: PlainCpu) -> Result<CpuBody, AllocError>
+        requires words { AreWordsOf words.now.value cpu.words.table cpu.words.settings }
+        ensures { IfOk result (λ body. body ≡ cpu) }
+    {
+        let words = Arc::try_clone(words)?;
+        Ok(CpuBody { words, cpu })
+    }
+
+    /// Puts its table's name on, for one call. The CPU's share is all of a ledger that is made for the call.
+    /// Condition: D names the table, its settings and the ledger, which has one part.
+    pub fn into_cpu<D: Domain>(self, changes: Blank) -> (Arc<Words, Global>, Cpu<D>)
+        requires table { (self.words.table ≡ D.table) × (self.words.settings ≡ D.settings) }
+        requires ledger { (changes.name ≡ D.name) × (changes.parts ≡ D.parts) × (D.parts ≡ 1) }
+        ensures body { (result.0.value ≡ self.words) × (result.1 ≡ self.cpu) }
+        ensures none { result.1.made ≡ 0 }
+    {
+        let CpuBody { words, cpu } = self;
+        // Reading it opens what a plain CPU says of itself: that it made nothing.
+        let _depth = cpu.depth;
+        let (_book, share) = changes.open::<D>();
+        (words, Cpu { plain: cpu, share })
+    }
+
+    /// Takes it off again. Condition: the call made nothing, as its share counts it.
+    pub fn of_cpu<D: Domain>(words: Arc<Words, Global>, cpu: Cpu<D>) -> CpuBody
+        requires table { (words.value.table ≡ D.table) × (words.value.settings ≡ D.settings) }
+        requires none { cpu.made ≡ 0 }
+        ensures { result ≡ record { words = words.value; cpu = cpu } }
+    {
+        let Cpu { plain, share: _ } = cpu;
+        let _depth = plain.depth;
+        CpuBody { words, cpu: plain }
+    }
+
+    /// The CPU's number, from 0.
+    pub fn id(&self) -> u8
+        ensures { result ≡ self.now.cpu.view.id }
+    {
+        self.cpu.id()
+    }
+
+    /// The CPU itself.
+    pub fn plain(&self) -> &PlainCpu
+        ensures { result.now ≡ self.now }
+    {
+        &self.cpu
+    }
+
+    /// The CPU's own passive reference to that number.
+    pub fn own(&self, number: u64) -> Psref
+        ensures { result ≡ record { cpu = self.now.cpu.view.id; number = number } }
+    {
+        Psref::remembered(self.cpu.id(), number)
+    }
+
+    /// The test for being inside a section.
+    pub fn inside(&self) -> bool
+        ensures { IsTrue result ↔ self.now.cpu.view.begin ≢ None }
+    {
+        self.cpu.inside()
+    }
+
+    /// The same, as an exact answer.
+    pub fn is_inside(&self) -> bool
+        ensures { result ≡ is_inside self.now.cpu }
+    {
+        self.inside()
+    }
+
+    /// How many enters are open.
+    pub fn depth(&self) -> u8
+        ensures { result ≡ self.now.cpu.depth }
+    {
+        self.cpu.depth()
+    }
+
+    /// Enters a section, or the open one once more.
+    /// Refused: `TooDeep`, `SectionsSpent`.
+    pub fn enter(&mut self) -> Result<(), Refusal>
+        ensures ok { IfOk result (λ _. HasEnteredOn self.old.cpu self.new.cpu) }
+        ensures refused { IfErr result (λ _. self.new ≡ self.old) }
+        ensures deep { IsErrOf result Refusal.TooDeep ↔ self.old.cpu.depth ≡ 255 }
+        ensures spent { IsErrOf result Refusal.SectionsSpent ↔ (self.old.cpu.depth ≡ 0) × AreSpent self.old.cpu.view }
+        ensures no_other { IfErr result (λ refusal. (refusal ≡ Refusal.TooDeep) ⊎ (refusal ≡ Refusal.SectionsSpent)) }
+        ensures words { self.new.words ≡ self.old.words }
+    {
+        enter_on(&self.words, &mut self.cpu)
+    }
+
+    /// Exits the section, or one nesting of it. Condition: inside.
+    pub fn exit(&mut self)
+        requires inside { self.old.cpu.view.begin ≢ None }
+        ensures exited { HasExitedOn self.old.cpu self.new.cpu }
+        ensures words { self.new.words ≡ self.old.words }
+    {
+        exit_on(&self.words, &mut self.cpu);
+    }
+
+    /// Looks an entry up. Condition: inside.
+    pub fn find(&mut self, kind: Kind, name: &Name) -> Option<Entry>
+        requires inside { self.old.cpu.view.begin ≢ None }
+        ensures found { HasFound (key_with kind name.now) self.old.cpu self.new.cpu result }
+        ensures words { self.new.words ≡ self.old.words }
+    {
+        find_on(&self.words, &mut self.cpu, kind, name)
+    }
+
+    /// Acquires a passive reference to the last found entry.
+    /// Refused: `NothingFound`, `PassiveFull`.
+    pub fn acquire(&mut self) -> Result<Psref, Refusal>
+        ensures answer { Answers (why_not_acquired self.old.cpu.view self.old.cpu.view.found) (IsAcquired self.old.cpu self.new.cpu) result }
+        ensures refused { IfErr result (λ _. self.new ≡ self.old) }
+        ensures words { self.new.words ≡ self.old.words }
+    {
+        acquire_on(&self.words, &mut self.cpu)
+    }
+
+    /// Acquires a second one.
+    /// Refused: `WrongCpu`, `NotHeld`, `PassiveFull`.
+    pub fn copy(&mut self, psref: &Psref) -> Result<Psref, Refusal>
+        ensures answer { Answers (why_not_copied self.old.cpu.view psref.now.number (why_unusable self.old.cpu.view psref.now)) (IsCopied psref.now.number self.old.cpu self.new.cpu) result }
+        ensures refused { IfErr result (λ _. self.new ≡ self.old) }
+        ensures words { self.new.words ≡ self.old.words }
+    {
+        copy_on(&self.words, &mut self.cpu, psref)
+    }
+
+    /// Whether the CPU holds a passive reference to that number.
+    pub fn held(&self, number: u64) -> bool
+        ensures { IsTrue result ↔ 0 < references_to number self.now.cpu.view.references }
+    {
+        held_on(&self.cpu, number)
+    }
+
+    /// The entry that the reference is to.
+    /// Refused: `WrongCpu`, `NotHeld`.
+    pub fn read(&mut self, psref: &Psref) -> Result<Entry, Refusal>
+        ensures answer { Answers (why_unusable self.old.cpu.view psref.now) (IsReferredTo self.old.cpu.view psref.now.number) result }
+        ensures same { self.new ≡ self.old }
+    {
+        read_entry_on(&self.words, &mut self.cpu, psref)
+    }
+
+    /// Releases a passive reference.
+    /// Refused: `WrongCpu`, `NotHeld`; the reference comes back then.
+    pub fn release(&mut self, psref: Psref) -> Result<(), (Refusal, Psref)>
+        ensures answer { GivesBack (why_unusable self.old.cpu.view psref) psref (λ _. HasOneLess psref.number self.old.cpu self.new.cpu) result }
+        ensures refused { IfErr result (λ _. self.new ≡ self.old) }
+        ensures words { self.new.words ≡ self.old.words }
+    {
+        release_on(&self.words, &mut self.cpu, psref)
+    }
+}
+
+fn crosses<T: Send>(value: T) -> T
+    ensures { result ≡ value }
+{
+    value
+}
+
+/// The same body: that it may go to another thread is what counts.
+pub fn same_cpu(body: CpuBody) -> CpuBody
+    ensures { result ≡ body }
+{
+    crosses(body)
+}

@@ -1,0 +1,195 @@
+//! The calls of whoever holds the keeper, through the handles.
+
+ghost use Rattle.std.specs.Prelude.{◌≡◌};
+ghost use Rattle.name_registry.specs.Meeting.{is_inside};
+ghost use Rattle.registry_c.specs.Calls.{AreOfOne, Through, ThroughBoth};
+ghost use Rattle.registry_c.specs.KeeperCalls.{AdvanceAnswers, AttachAnswers, DestroyAnswers, DetachAnswers, KeeperCloses, PerformAnswers, TurnAnswers};
+ghost use Rattle.registry_c.specs.Values.{settings_out};
+
+use crate::cpu_handle::{CpuHandle, give_cpu, give_cpu_body, take_cpu, take_cpu_body};
+use crate::keeper_answers;
+use crate::keeper_handle::{KeeperHandle, give_keeper, take_keeper};
+use crate::values::{CEntry, CName, CSettings, CStage, DONE, EMPTY_HANDLE, settings_out};
+use crate::wait::CWait;
+use std::alloc::Global;
+
+/// `registry_close_keeper` of the header.
+#[unsafe(no_mangle)]
+pub extern "C" fn registry_close_keeper(alloc: Global, keeper: &mut KeeperHandle) -> u32
+    ensures { KeeperCloses keeper.old.body keeper.new.body result }
+{
+    let Some((body, room)) = take_keeper(alloc, keeper) else {
+        return EMPTY_HANDLE;
+    };
+    drop(body);
+    room.free();
+    DONE
+}
+
+/// `registry_settings_of` of the header.
+#[unsafe(no_mangle)]
+pub extern "C" fn registry_settings_of(
+    alloc: Global,
+    keeper: &mut KeeperHandle,
+    settings: &mut CSettings,
+) -> u32
+    ensures { Through keeper.old.body keeper.new.body result (settings.new ≡ settings.old)
+        (λ k l. (result ≡ DONE) × (l ≡ k) × (settings.new ≡ settings_out k.words.settings)) }
+{
+    let Some((body, room)) = take_keeper(alloc, keeper) else {
+        return EMPTY_HANDLE;
+    };
+    *settings = settings_out(body.settings());
+    give_keeper(keeper, body, room);
+    DONE
+}
+
+/// `registry_attach` of the header.
+#[unsafe(no_mangle)]
+pub extern "C" fn registry_attach(
+    alloc: Global,
+    keeper: &mut KeeperHandle,
+    cpu: &mut CpuHandle,
+    name: &CName,
+    value: u64,
+    made: &mut CEntry,
+) -> u32
+    requires { AreOfOne keeper.old.body cpu.old.body }
+    ensures { ThroughBoth keeper.old.body keeper.new.body cpu.old.body cpu.new.body result (made.new ≡ made.old)
+        (λ k c l d. AttachAnswers name.now value k c l d result made.old made.new) }
+{
+    let Some((k, room)) = take_keeper(alloc, keeper) else {
+        return EMPTY_HANDLE;
+    };
+    let Some((c, place)) = take_cpu_body(alloc, cpu) else {
+        give_keeper(keeper, k, room);
+        return EMPTY_HANDLE;
+    };
+    let (k, c, answer) = keeper_answers::attach(k, c, name, value, made);
+    give_keeper(keeper, k, room);
+    give_cpu_body(cpu, c, place);
+    answer
+}
+
+/// `registry_detach` of the header.
+#[unsafe(no_mangle)]
+pub extern "C" fn registry_detach(
+    alloc: Global,
+    keeper: &mut KeeperHandle,
+    cpu: &mut CpuHandle,
+    kind: u64,
+    name: &CName,
+    gone: &mut CEntry,
+) -> u32
+    requires { AreOfOne keeper.old.body cpu.old.body }
+    ensures { ThroughBoth keeper.old.body keeper.new.body cpu.old.body cpu.new.body result (gone.new ≡ gone.old)
+        (λ k c l d. DetachAnswers kind name.now k c l d result gone.old gone.new) }
+{
+    let Some((k, room)) = take_keeper(alloc, keeper) else {
+        return EMPTY_HANDLE;
+    };
+    let Some((c, place)) = take_cpu_body(alloc, cpu) else {
+        give_keeper(keeper, k, room);
+        return EMPTY_HANDLE;
+    };
+    let (k, c, answer) = keeper_answers::detach(k, c, kind, name, gone);
+    give_keeper(keeper, k, room);
+    give_cpu_body(cpu, c, place);
+    answer
+}
+
+/// `registry_advance` of the header.
+#[unsafe(no_mangle)]
+pub extern "C" fn registry_advance(
+    alloc: Global,
+    keeper: &mut KeeperHandle,
+    number: u64,
+    met: &mut CStage,
+) -> u32
+    ensures { Through keeper.old.body keeper.new.body result (met.new ≡ met.old)
+        (λ k l. AdvanceAnswers number k l result met.old met.new) }
+{
+    let Some((k, room)) = take_keeper(alloc, keeper) else {
+        return EMPTY_HANDLE;
+    };
+    let (k, answer) = keeper_answers::advance(k, number, met);
+    give_keeper(keeper, k, room);
+    answer
+}
+
+/// `registry_destroy` of the header.
+#[unsafe(no_mangle)]
+pub extern "C" fn registry_destroy(
+    alloc: Global,
+    keeper: &mut KeeperHandle,
+    cpu: &mut CpuHandle,
+    number: u64,
+    met: &mut CStage,
+) -> u32
+    requires { AreOfOne keeper.old.body cpu.old.body }
+    ensures { ThroughBoth keeper.old.body keeper.new.body cpu.old.body cpu.new.body result (met.new ≡ met.old)
+        (λ k c l d. (d ≡ c) × DestroyAnswers (is_inside c.cpu) number k l result met.old met.new) }
+{
+    let Some((k, room)) = take_keeper(alloc, keeper) else {
+        return EMPTY_HANDLE;
+    };
+    let Some(c) = take_cpu(alloc, cpu) else {
+        give_keeper(keeper, k, room);
+        return EMPTY_HANDLE;
+    };
+    let (k, answer) = keeper_answers::destroy(k, c.is_inside(), number, met);
+    give_keeper(keeper, k, room);
+    give_cpu(cpu, c);
+    answer
+}
+
+/// `registry_perform` of the header.
+#[unsafe(no_mangle)]
+pub extern "C" fn registry_perform(
+    alloc: Global,
+    keeper: &mut KeeperHandle,
+    cpu: &mut CpuHandle,
+    wait: &mut CWait,
+) -> u32
+    requires { AreOfOne keeper.old.body cpu.old.body }
+    ensures { ThroughBoth keeper.old.body keeper.new.body cpu.old.body cpu.new.body result (wait.new ≡ wait.old)
+        (λ k c l d. PerformAnswers k c l d result wait.old wait.new) }
+{
+    let Some((k, room)) = take_keeper(alloc, keeper) else {
+        return EMPTY_HANDLE;
+    };
+    let Some((c, place)) = take_cpu_body(alloc, cpu) else {
+        give_keeper(keeper, k, room);
+        return EMPTY_HANDLE;
+    };
+    let (k, c, answer) = keeper_answers::perform(k, c, wait);
+    give_keeper(keeper, k, room);
+    give_cpu_body(cpu, c, place);
+    answer
+}
+
+/// `registry_perform_turn` of the header.
+#[unsafe(no_mangle)]
+pub extern "C" fn registry_perform_turn(
+    alloc: Global,
+    keeper: &mut KeeperHandle,
+    cpu: &mut CpuHandle,
+    wait: &mut CWait,
+    waited: &mut u64,
+) -> u32
+    requires { AreOfOne keeper.old.body cpu.old.body }
+    ensures { ThroughBoth keeper.old.body keeper.new.body cpu.old.body cpu.new.body result ((wait.new ≡ wait.old) × (waited.new ≡ waited.old))
+        (λ k c l d. TurnAnswers k c l d result wait.old wait.new waited.old waited.new) }
+{
+    let Some((k, room)) = take_keeper(alloc, keeper) else {
+        return EMPTY_HANDLE;
+    };
+    let Some((c, place)) = take_cpu_body(alloc, cpu) else {
+        give_keeper(keeper, k, room);
+        return EMPTY_HANDLE;
+    };
+    let (k, c, answer) = keeper_answers::turn(k, c, wait, waited);
+    give_keeper(keeper, k, room);
+    give_cpu_body(cpu, c, place);
+    answer
+}

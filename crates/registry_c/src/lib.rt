@@ -1,0 +1,29 @@
+//! The running registry for C: what stands behind the handles that C holds between calls.
+#![tactic(auto)]
+
+mod audit;
+mod cpu_body;
+mod cpu_calls;
+mod cpu_exports;
+mod cpu_handle;
+mod keeper_answers;
+mod keeper_body;
+mod keeper_calls;
+mod keeper_exports;
+mod keeper_handle;
+mod local_body;
+mod local_exports;
+mod local_handle;
+mod local_keeper;
+mod opening;
+mod texts;
+mod values;
+mod wait;
+mod waiting;
+
+pub use cpu_body::{CpuBody, same_cpu};
+pub use cpu_handle::CpuHandle;
+pub use keeper_body::{KeeperBody, same_keeper};
+pub use keeper_handle::KeeperHandle;
+pub use local_body::{LocalBody, same_local};
+pub use local_handle::LocalHandle;

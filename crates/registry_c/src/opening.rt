@@ -1,0 +1,208 @@
+//! A registry is opened: the keeper, and its CPUs.
+
+ghost use Rattle.std.specs.Prelude.{◌≡◌, length, true, false, IfOk, IfErr, IsTrue, Some, None};
+ghost use Rattle.registry_values.specs.Limits.{are_fit};
+ghost use Rattle.cpu_words.specs.Opening.{AreSeats, keeper_with};
+ghost use Rattle.passive_list.specs.Cpus.{OnPlainCpu};
+ghost use Rattle.registry_c.specs.Opening.{AreEmpty, AreGiven, HasOpened, IsFull, IsSomeFull, Opens, StaysClosed, bodies_of, boxed, opened_down, opened_keeper};
+ghost use Rattle.registry_c.specs.Bodies.{OnKeeperBody};
+ghost use Rattle.registry_c.specs.Values.{settings_in};
+
+use crate::cpu_body::CpuBody;
+use crate::cpu_handle::{CpuHandle, give_cpu, take_cpu};
+use crate::keeper_body::KeeperBody;
+use crate::keeper_handle::{KeeperHandle, give_keeper, take_keeper};
+use crate::values::{CSettings, DONE, FULL_HANDLE, refused, settings_in};
+use cpu_words::{CpuSeat, Domain, KeeperSeat, Words};
+use held::Held;
+use passive_list::{Keeper, PlainCpu};
+use registry_values::{Refusal, Settings};
+use std::alloc::{AllocError, Global};
+use std::marker::Brand;
+use std::sync::Arc;
+
+/// `registry_open` of the header.
+#[unsafe(no_mangle)]
+pub extern "C" fn registry_open(
+    alloc: Global,
+    settings: &CSettings,
+    keeper: &mut KeeperHandle,
+    cpus: &mut [CpuHandle],
+) -> u32
+    ensures { Opens settings.now keeper.old.body keeper.new.body (bodies_of cpus.old) (bodies_of cpus.new) result }
+{
+    let settings = match fit_settings(settings) {
+        Ok(settings) => settings,
+        Err(refusal) => return refused(refusal),
+    };
+    let count = settings.cpus as usize;
+    if cpus.len() != count {
+        return refused(Refusal::MissingCpu);
+    }
+    if !are_all_empty(alloc, keeper, cpus) {
+        return FULL_HANDLE;
+    }
+    open_into(alloc, settings, keeper, cpus)
+}
+
+/// Opens a registry into the handles. The answer is that it is done, or that there was no memory.
+fn open_into(
+    alloc: Global,
+    settings: Settings,
+    keeper: &mut KeeperHandle,
+    cpus: &mut [CpuHandle],
+) -> u32
+    requires fit { IsTrue (are_fit settings) }
+    requires count { length cpus.old ≡ settings.cpus }
+    ensures { HasOpened settings keeper.old.body keeper.new.body (bodies_of cpus.old) (bodies_of cpus.new) result }
+{
+    match open(alloc, settings) {
+        Ok((made, bodies)) => {
+            give_cpus(cpus, bodies);
+            *keeper = KeeperHandle::of(Held::of(made));
+            DONE
+        }
+        Err(refusal) => refused(refusal),
+    }
+}
+
+/// The settings, where they fit a registry. Refused: `BadSettings`.
+fn fit_settings(given: &CSettings) -> Result<Settings, Refusal>
+    ensures ok { IfOk result (λ settings. (settings ≡ settings_in given.now) × (are_fit (settings_in given.now) ≡ true)) }
+    ensures err { IfErr result (λ refusal. (refusal ≡ Refusal.BadSettings) × (are_fit (settings_in given.now) ≡ false)) }
+{
+    let settings = settings_in(given)?;
+    settings.check()?;
+    Ok(settings)
+}
+
+/// Whether all the handles are empty.
+fn are_all_empty(alloc: Global, keeper: &mut KeeperHandle, cpus: &mut [CpuHandle]) -> bool
+    ensures same { StaysClosed keeper.old.body keeper.new.body (bodies_of cpus.old) (bodies_of cpus.new) }
+    ensures empty { result ≡ true → (keeper.old.body ≡ None) × AreEmpty (bodies_of cpus.old) }
+    ensures full { result ≡ false → IsFull keeper.old.body (bodies_of cpus.old) }
+{
+    if !is_keeper_empty(alloc, keeper) {
+        return false;
+    }
+    are_empty(alloc, cpus)
+}
+
+/// Whether the keeper's handle is empty.
+fn is_keeper_empty(alloc: Global, keeper: &mut KeeperHandle) -> bool
+    ensures same { keeper.new.body ≡ keeper.old.body }
+    ensures empty { result ≡ true → keeper.old.body ≡ None }
+    ensures full { result ≡ false → (k : OnKeeperBody) × (keeper.old.body ≡ Some k) }
+{
+    match take_keeper(alloc, keeper) {
+        None => true,
+        Some((body, room)) => {
+            give_keeper(keeper, body, room);
+            false
+        }
+    }
+}
+
+/// Whether the CPU's handle is empty.
+fn is_cpu_empty(alloc: Global, cpu: &mut CpuHandle) -> bool
+    ensures same { cpu.new.body ≡ cpu.old.body }
+    ensures empty { result ≡ true → cpu.old.body ≡ None }
+    ensures full { result ≡ false → (b : OnPlainCpu) × (cpu.old.body ≡ Some b) }
+{
+    match take_cpu(alloc, cpu) {
+        None => true,
+        Some(body) => {
+            give_cpu(cpu, body);
+            false
+        }
+    }
+}
+
+/// Whether all of them are empty.
+fn are_empty(alloc: Global, cpus: &mut [CpuHandle]) -> bool
+    ensures same { bodies_of cpus.new ≡ bodies_of cpus.old }
+    ensures empty { result ≡ true → AreEmpty (bodies_of cpus.old) }
+    ensures full { result ≡ false → IsSomeFull (bodies_of cpus.old) }
+{
+    for c in 0..cpus.len() {
+        if !is_cpu_empty(alloc, &mut cpus[c]) {
+            return false;
+        }
+    }
+    true
+}
+
+/// Puts each box behind its handle. The boxes come with the last handle's first.
+fn give_cpus(cpus: &mut [CpuHandle], mut bodies: Vec<Box<CpuBody, Global>>)
+    requires { length bodies.items ≡ length cpus.old }
+    ensures { AreGiven (boxed bodies.items) (length cpus.old) (bodies_of cpus.new) (length cpus.old) }
+{
+    for c in 0..cpus.len() {
+        let Some(body) = bodies.pop() else {
+            unreachable!()
+        };
+        cpus[c] = CpuHandle::of(Held::of(body));
+    }
+}
+
+/// The keeper, and its CPUs, the last one first, each in a box of its own. Refused: `NoMemory`.
+fn open(
+    alloc: Global,
+    settings: Settings,
+) -> Result<(Box<KeeperBody, Global>, Vec<Box<CpuBody, Global>>), Refusal>
+    requires { IsTrue (are_fit settings) }
+    ensures settings { IfOk result (λ made. made.0.value.words.settings ≡ settings) }
+    ensures keeper { IfOk result (λ made. made.0.value ≡ opened_keeper made.0.value.words) }
+    ensures cpus { IfOk result (λ made. boxed made.1.items ≡ opened_down made.0.value.words settings.cpus settings.cpus) }
+    ensures err { IfErr result (λ refusal. refusal ≡ Refusal.NoMemory) }
+{
+    let Ok((words, keeper, seats)) = Words::new(alloc, settings) else {
+        return Err(Refusal::NoMemory);
+    };
+    let Ok(words) = Arc::new(alloc, words) else {
+        return Err(Refusal::NoMemory);
+    };
+    match open_at::<Brand>(alloc, words, keeper, seats) {
+        Ok(made) => Ok(made),
+        Err(_) => Err(Refusal::NoMemory),
+    }
+}
+
+fn open_at<D: Domain>(
+    alloc: Global,
+    words: Arc<Words, Global>,
+    keeper: KeeperSeat,
+    seats: Vec<CpuSeat>,
+) -> Result<(Box<KeeperBody, Global>, Vec<Box<CpuBody, Global>>), AllocError>
+    requires words { (words.value.table ≡ D.table) × (words.value.settings ≡ D.settings) × IsTrue (are_fit D.settings) }
+    requires keeper { (keeper.table ≡ D.table) × (keeper.view ≡ keeper_with D.settings D.settings.cpus) }
+    requires seats { AreSeats D.table D.settings D.settings.cpus seats.items }
+    ensures words { IfOk result (λ made. made.0.value.words ≡ words.value) }
+    ensures keeper { IfOk result (λ made. made.0.value ≡ opened_keeper words.value) }
+    ensures cpus { IfOk result (λ made. boxed made.1.items ≡ opened_down words.value D.settings.cpus D.settings.cpus) }
+{
+    let cpus = cpus_of::<D>(alloc, &words, seats)?;
+    let settings = words.settings();
+    let keeper = Keeper::<D>::of_seat(keeper, settings);
+    let keeper = Box::new(alloc, KeeperBody::of_keeper(words, keeper))?;
+    Ok((keeper, cpus))
+}
+
+fn cpus_of<D: Domain>(
+    alloc: Global,
+    words: &Arc<Words, Global>,
+    mut seats: Vec<CpuSeat>,
+) -> Result<Vec<Box<CpuBody, Global>>, AllocError>
+    requires words { (words.now.value.table ≡ D.table) × (words.now.value.settings ≡ D.settings) × IsTrue (are_fit D.settings) }
+    requires seats { AreSeats D.table D.settings D.settings.cpus seats.items }
+    ensures { IfOk result (λ cpus. boxed cpus.items ≡ opened_down words.now.value D.settings.cpus D.settings.cpus) }
+{
+    let mut cpus = Vec::new(alloc);
+    while let Some(seat) = seats.pop() {
+        let id = seats.len() as u8;
+        let cpu = PlainCpu::of_seat(seat, id);
+        let body = CpuBody::share(words, cpu)?;
+        cpus.push(Box::new(alloc, body)?)?;
+    }
+    Ok(cpus)
+}

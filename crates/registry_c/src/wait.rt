@@ -1,0 +1,78 @@
+//! A wait for open sections, as C keeps it between two turns.
+
+ghost use Rattle.std.specs.Prelude.{◌≡◌, map};
+ghost use Rattle.registry_c.specs.Flags.{flag_of, is_set, none_or_number, number_or_none};
+
+/// A wait for open sections, between two turns of it.
+#[repr(C)]
+#[derive(Drop)]
+pub struct CWait {
+    pub snapshots: [u64; 8],
+    pub retired: [u64; 32],
+    pub seen: [u64; 8],
+}
+
+/// The numbers of entries, to C: 0 for none.
+pub fn numbers_out(numbers: &[Option<u64>; 32]) -> [u64; 32]
+    ensures { result ≡ map number_or_none numbers.now }
+{
+    let mut out = [0; 32];
+    for t in 0..32usize {
+        out[t] = number_or_none(numbers[t]);
+    }
+    out
+}
+
+/// The numbers of entries, from C.
+pub fn numbers_in(numbers: &[u64; 32]) -> [Option<u64>; 32]
+    ensures { result ≡ map none_or_number numbers.now }
+{
+    let mut out = [None; 32];
+    for t in 0..32usize {
+        out[t] = none_or_number(numbers[t]);
+    }
+    out
+}
+
+/// Who was seen, to C: 1 for each that was.
+pub fn seen_out(seen: &[bool; 8]) -> [u64; 8]
+    ensures { result ≡ map flag_of seen.now }
+{
+    let mut out = [0; 8];
+    for c in 0..8usize {
+        out[c] = flag_of(seen[c]);
+    }
+    out
+}
+
+/// Who was seen, from C: each whose number isn't 0.
+pub fn seen_in(seen: &[u64; 8]) -> [bool; 8]
+    ensures { result ≡ map is_set seen.now }
+{
+    let mut out = [false; 8];
+    for c in 0..8usize {
+        out[c] = seen[c] != 0;
+    }
+    out
+}
+
+fn number_or_none(number: Option<u64>) -> u64
+    ensures { result ≡ number_or_none number }
+{
+    match number {
+        None => 0,
+        Some(number) => number,
+    }
+}
+
+fn none_or_number(number: u64) -> Option<u64>
+    ensures { result ≡ none_or_number number }
+{
+    if number == 0 { None } else { Some(number) }
+}
+
+fn flag_of(seen: bool) -> u64
+    ensures { result ≡ flag_of seen }
+{
+    if seen { 1 } else { 0 }
+}

@@ -1,0 +1,19 @@
+#!/usr/bin/env bash
+# Proves and builds the static library of the C face, and puts it, together with the kit's three functions of the heap, into one archive:
+# clients/out/libregistry.a. A C program needs registry.h, that archive and nothing else of the repository.
+set -euo pipefail
+cd "$(dirname "$0")/.."
+library=crates/registry_c/out/libregistry_c.a
+heap=$(dirname "$(rt doc)")/c/liblibc_c.a
+
+(cd crates/registry_c && rt lib)
+mkdir -p clients/out
+rm -f clients/out/libregistry.a
+ar -M <<SCRIPT
+CREATE clients/out/libregistry.a
+ADDLIB $library
+ADDLIB $heap
+SAVE
+END
+SCRIPT
+echo "clients/out/libregistry.a"
