@@ -7,3 +7,8 @@ pub mod Seats
 pub mod Loads
 pub mod Marks
 pub mod OwnLog
+pub mod Dues
+pub mod Walks
+pub mod Standings
+pub mod Slots
+pub mod Known

@@ -1,10 +1,14 @@
 -- What seats have heard of the keeper's deeds: a prefix of the keeper's log. Since a log only grows, what follows from such a prefix stays so.
-use Rattle.std.specs.Prelude.{◌≡◌, ◌⊎◌, ℕ, suc, ◌==◌, ◌%◌, ◌<◌, ◌≤◌, Bool, true, false, List, [], ◌∷◌, ◌++◌, length, Option, Some, None}
+use Rattle.std.specs.Prelude.{◌≡◌, ◌⊎◌, ℕ, suc, ◌==◌, ◌%◌, ◌<◌, ◌≤◌, Bool, true, false, if◌then◌else◌, List, [], ◌∷◌, ◌++◌, length, Option, Some, None}
 use mathlib.Core.List.{IsPrefix}
 use Rattle.protocol.specs.declared.event.Event.{Event}
 use Rattle.protocol.specs.declared.event.Event.TheVariants.{Publish, Unpublish, Snapshot, Look}
 use Rattle.protocol.specs.declared.event.Reply.TheVariants.{Word}
+use Rattle.registry_values.specs.declared.entry.Entry.{Entry}
 use Rattle.registry_values.specs.declared.mark.Mark.{Mark}
+use Rattle.registry_values.specs.declared.slot.Slot.{Slot}
+use Rattle.registry_values.specs.declared.slot.Slot.TheVariants.{Vacant, Live, Retired}
+use Rattle.registry_values.specs.Slots.{slot_at}
 use Rattle.protocol.specs.State.{mark_at}
 use Rattle.protocol.specs.Laws.{HasMoved}
 use Rattle.cpu_words.specs.declared.view.KeeperView.{KeeperView}
@@ -80,10 +84,57 @@ pub record HasPassedOn (t c : ℕ) (log : List Deed) : Type 0 where
   pub since : KeepsEntry t after
   pub out : (new % 2 ≡ 0) ⊎ ((old : ℕ) × IsSnapped t c old before × (new ≡ old → ⊥))
 
--- what the marks have of snapshots and passes is in the log
+-- what the marks have of snapshots and passes is in the log; and each snapshot for an entry that is in the log is in its mark, so there is but one
 pub record AreMarksOf (log : List Deed) (marks : List (List Mark)) : Type 0 where
   pub snapped : (t c w : ℕ) → (mark_at marks t c).snapshot ≡ Some w → IsSnapped t c w log
+  pub marked : (t c w : ℕ) → IsSnapped t c w log → (mark_at marks t c).snapshot ≡ Some w
   pub passed : (t c : ℕ) → (mark_at marks t c).passed ≡ true → HasPassedOn t c log
+
+-- What a slot has by a log: no entry was attached there yet, or the number of the one that was attached last, and whether it was detached since. It has that number until the next attach there, though the slot may be vacant.
+
+pub data Standing : Type 0 where
+  nothing : Standing
+  attached : ℕ → Standing
+  detached : ℕ → Standing
+
+abbrev pub number_of : Standing → ℕ
+number_of nothing = 0
+number_of (attached n) = n
+number_of (detached n) = n
+
+-- an attach gives the number that is 1 more than all changes before
+abbrev pub stands_after : ℕ → ℕ → Event → Standing → Standing
+stands_after t changes (Publish u) x = if u == t then attached (suc changes) else x
+stands_after t changes (Unpublish u) x = if u == t then detached (number_of x) else x
+stands_after t changes e x = x
+
+abbrev pub stands_from : ℕ → ℕ → Standing → List Deed → Standing
+stands_from t changes x [] = x
+stands_from t changes x (d ∷ ds) = stands_from t (changes_of d.event changes) (stands_after t changes d.event x) ds
+
+-- what the slot t has by the log
+abbrev pub standing : ℕ → List Deed → Standing
+standing t log = stands_from t 0 nothing log
+
+-- the entry n was attached in the slot t, and detached; nothing was attached there since
+abbrev pub IsDetachedFrom : ℕ → ℕ → List Deed → Type 0
+IsDetachedFrom t n log = standing t log ≡ detached n
+
+abbrev pub is_change_at : ℕ → Event → Bool
+is_change_at t (Publish u) = u == t
+is_change_at t (Unpublish u) = u == t
+is_change_at t e = false
+
+-- none of these is an attach in the slot t, or a detach from it
+abbrev pub KeepsSlot : ℕ → List Deed → Type 0
+KeepsSlot t [] = Unit {0}
+KeepsSlot t (d ∷ ds) = (is_change_at t d.event ≡ false) × KeepsSlot t ds
+
+-- what the slots have is in the log; where a slot is vacant all CPUs have passed for the entry that it had last
+pub record AreSlotsOf (cpus : ℕ) (log : List Deed) (slots : List Slot) : Type 0 where
+  pub live : (t : ℕ) (e : Entry) → slot_at slots t ≡ Live e → standing t log ≡ attached e.number
+  pub retired : (t : ℕ) (e : Entry) → slot_at slots t ≡ Retired e → IsDetachedFrom t e.number log
+  pub vacant : (t n c : ℕ) → slot_at slots t ≡ Vacant → IsDetachedFrom t n log → c < cpus → HasPassedOn t c log
 
 -- the deed loaded the section word of the CPU c, for a slot or for none, and found w
 abbrev pub FindsWord : ℕ → ℕ → Deed → Type 0
@@ -93,9 +144,10 @@ FindsWord c w d = (to : Option ℕ) × ((d ≡ record { event = Snapshot to c; r
 abbrev pub WordsGrow : List Deed → Type 0
 WordsGrow log = (c v w : ℕ) (d e : Deed) (before between after : List Deed) → log ≡ before ++ d ∷ (between ++ e ∷ after) → FindsWord c v d → FindsWord c w e → v ≤ w
 
--- The keeper's log has what the note told, the history is as long as the log says, its marks are in it, and the words that it found grow
+-- The keeper's log has what the note told, the history is as long as the log says, its marks and slots are in it, and the words that it found grow
 pub record IsOwnLog (log : List Deed) (note : List Deed) (k : KeeperView) : Type 0 where
   pub told : IsPrefix note log
   pub changes : length k.history ≡ changes_in log
   pub marks : AreMarksOf log k.marks
+  pub slots : AreSlotsOf k.settings.cpus log k.slots
   pub grow : WordsGrow log

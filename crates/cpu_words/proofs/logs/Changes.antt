@@ -2,7 +2,6 @@
 use Rattle.std.proofs.Common.{◌≡◌, ◌≢◌, ⊎_elim, ℕ, suc, ◌+◌, ◌≤◌, Bool, true, false, cond, IsTrue, List, [], ◌∷◌, length, Option, Some, None, eq-eqb, ne_eqb, refl, sym, ap, ◌∙◌, subst, arith}
 use Rattle.std.proofs.lemmas.Bool.{cases_eq}
 use Rattle.std.proofs.lemmas.Option.{none-some, same_Some}
-use mathlib.Core.Option.{some}
 use Rattle.atomic_table.specs.Table.{State as Table}
 use Rattle.registry_values.specs.declared.settings.Settings.{Settings}
 use Rattle.registry_values.specs.declared.entry.Change.{Change}
@@ -60,7 +59,7 @@ grows_unpublish s t (Live e) = grows_guard s (Unpublish t) (at_rest s.due) (some
 grows_unpublish s t (Retired e) = tt
 
 -- whether the event is an attach or a detach
-abbrev is_change : Event → Bool
+abbrev pub is_change : Event → Bool
 is_change (Publish t) = true
 is_change (Unpublish t) = true
 is_change e = false
@@ -96,7 +95,7 @@ changes_up e n = omega arith
 
 -- A run
 
-unnamed_changes : (e : Event) (n : ℕ) → changes_of (event_without_id e) n ≡ changes_of e n
+pub unnamed_changes : (e : Event) (n : ℕ) → changes_of (event_without_id e) n ≡ changes_of e n
 unnamed_changes (LoadRecord of) n = one of n
   where
     one : (of : RecordOf) (n : ℕ) → changes_of (event_without_id (LoadRecord of)) n ≡ n
@@ -105,7 +104,7 @@ unnamed_changes (LoadRecord of) n = one of n
     one (Local id k) n = refl
 unnamed_changes e n = refl
 
-moves_past : (e : Event) (a b : ℕ) → changes_of e a + b ≡ a + changes_of e b
+pub moves_past : (e : Event) (a b : ℕ) → changes_of e a + b ≡ a + changes_of e b
 moves_past (Publish t) a b = omega arith
 moves_past (Unpublish t) a b = omega arith
 moves_past e a b = refl

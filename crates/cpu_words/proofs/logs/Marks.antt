@@ -1,7 +1,7 @@
 -- What the keeper's log says of marks: each snapshot that a mark has, and each pass, is in it.
-use Rattle.std.proofs.Common.{◌≡◌, ◌≢◌, ◌⊎◌, inl, inr, ⊎_elim, ℕ, zero, suc, ◌<◌, ◌≤◌, ◌%◌, ◌==◌, ◌||◌, ◌&&◌, ◌-◌, nat_lt, Bool, true, false, not, cond, if◌then◌else◌, List, [], ◌∷◌, ◌++◌, length, get_or, set, replicate, Option, Some, None, eq-eqb, ne_eqb, refl, sym, ap, ◌∙◌, subst, append_assoc, arith}
+use Rattle.std.proofs.Common.{◌≡◌, ◌≢◌, ◌⊎◌, inl, inr, ⊎_elim, ℕ, zero, suc, ◌<◌, ◌≤◌, ◌==◌, ◌||◌, ◌&&◌, ◌-◌, nat_lt, Bool, true, false, if◌then◌else◌, List, [], ◌∷◌, ◌++◌, length, get_or, set, replicate, Option, Some, None, ne_eqb, refl, sym, ap, ◌∙◌, subst, append_assoc}
 use Rattle.std.proofs.lemmas.Bool.{or_cases, not-true, eqb-true, eqb-false, cases_eq, cases_lt}
-use Rattle.std.proofs.lemmas.List.{append-nil, get_or_past, set_past, get_or-set_same, get_or-set_other, get_or-replicate}
+use Rattle.std.proofs.lemmas.List.{get_or_past, set_past}
 use Rattle.std.proofs.lemmas.Option.{none-some, same_Some}
 use Rattle.registry_values.specs.declared.mark.Mark.{Mark}
 use Rattle.registry_values.specs.declared.slot.Slot.{Slot}
@@ -29,8 +29,9 @@ use Rattle.protocol.proofs.slots.Cells.{cell_cases, cell_in_new, cell_in_old, ge
 use Rattle.cpu_words.specs.declared.view.Deed.{Deed}
 use Rattle.cpu_words.specs.Rule.{event_without_id}
 use Rattle.cpu_words.specs.Deeds.{has_snapped, has_looked, is_detach_from, KeepsEntry, IsSnapped, HasPassedOn, AreMarksOf}
-use Rattle.cpu_words.specs.Logs.{part, maker, IsSeatOf, AreByOwn}
-use Rattle.cpu_words.proofs.logs.Runs.{deed_of, Follows}
+use Rattle.cpu_words.specs.Logs.{maker, IsSeatOf}
+use Rattle.cpu_words.proofs.logs.Loads.{no_place}
+use Rattle.cpu_words.proofs.logs.Runs.{deed_of, same_first, same_rest}
 
 -- What an event makes of the marks
 
@@ -193,7 +194,7 @@ step_marks s (KeptSub t) = on_some s (KeptSub t) (kept_at s.keeps t) _ (λ d. on
 step_marks s (Vacate t) = on_made s (Vacate t) _ _ _ refl tt
 
 -- the events of CPUs and of references leave them
-marks_off : (seat : ℕ → ℕ) (n i : ℕ) (s : State) (e : Event) → IsSeatOf seat n i (maker (event_without_id e)) → i ≢ 0 → marks_after s e ≡ s.marks
+pub marks_off : (seat : ℕ → ℕ) (n i : ℕ) (s : State) (e : Event) → IsSeatOf seat n i (maker (event_without_id e)) → i ≢ 0 → marks_after s e ≡ s.marks
 marks_off seat n i s (Unpublish t) is off = absurd (off is)
 marks_off seat n i s (Snapshot None c) is off = refl
 marks_off seat n i s (Snapshot (Some t) c) is off = absurd (off is)
@@ -205,11 +206,11 @@ marks_off seat n i s e is off = refl
 
 -- A log with one deed more
 
-keeps_more : (t : ℕ) (a b : List Deed) → KeepsEntry t a → KeepsEntry t b → KeepsEntry t (a ++ b)
+pub keeps_more : (t : ℕ) (a b : List Deed) → KeepsEntry t a → KeepsEntry t b → KeepsEntry t (a ++ b)
 keeps_more t [] b first second = second
 keeps_more t (d ∷ ds) b first second = (first.0, keeps_more t ds b first.1 second)
 
-snapped_more : (t c w : ℕ) (log : List Deed) (d : Deed) → is_detach_from t d.event ≡ false → IsSnapped t c w log → IsSnapped t c w (log ++ d ∷ [])
+pub snapped_more : (t c w : ℕ) (log : List Deed) (d : Deed) → is_detach_from t d.event ≡ false → IsSnapped t c w log → IsSnapped t c w (log ++ d ∷ [])
 snapped_more t c w log d other is = record {
   before = is.before;
   after = is.after ++ d ∷ [];
@@ -217,7 +218,7 @@ snapped_more t c w log d other is = record {
   since = keeps_more t is.after (d ∷ []) is.since (other, tt);
 }
 
-passed_more : (t c : ℕ) (log : List Deed) (d : Deed) → is_detach_from t d.event ≡ false → HasPassedOn t c log → HasPassedOn t c (log ++ d ∷ [])
+pub passed_more : (t c : ℕ) (log : List Deed) (d : Deed) → is_detach_from t d.event ≡ false → HasPassedOn t c log → HasPassedOn t c (log ++ d ∷ [])
 passed_more t c log d other is = record {
   new = is.new;
   before = is.before;
@@ -227,13 +228,47 @@ passed_more t c log d other is = record {
   out = is.out;
 }
 
-other_marks : (log : List Deed) (marks : List (List Mark)) (d : Deed) → ((t : ℕ) → is_detach_from t d.event ≡ false) → AreMarksOf log marks → AreMarksOf (log ++ d ∷ []) marks
-other_marks log marks d other are = record {
+-- a log with one more, cut at a deed: that is the last, or stands before it
+cut_last : (log b a : List Deed) (d x : Deed) → log ++ d ∷ [] ≡ b ++ x ∷ a → (d ≡ x) ⊎ ((more : List Deed) × (a ≡ more ++ d ∷ []) × (log ≡ b ++ x ∷ more))
+cut_last [] [] a d x is = inl (same_first d x [] a is)
+cut_last [] (y ∷ b) a d x is = absurd (no_place b a x (same_rest d y [] (b ++ x ∷ a) is))
+cut_last (y ∷ l) [] a d x is = inr (l, sym (same_rest y x (l ++ d ∷ []) a is), λ k. same_first y x (l ++ d ∷ []) a is k ∷ l)
+cut_last (y ∷ l) (z ∷ b) a d x is = ⊎_elim
+    (λ (last : d ≡ x). inl last)
+    (λ (p : (more : List Deed) × (a ≡ more ++ d ∷ []) × (l ≡ b ++ x ∷ more)). inr (p.0, p.1, λ k. same_first y z (l ++ d ∷ []) (b ++ x ∷ a) is k ∷ p.2 k))
+    (cut_last l b a d x (same_rest y z (l ++ d ∷ []) (b ++ x ∷ a) is))
+
+keeps_parts : (t : ℕ) (a b : List Deed) → KeepsEntry t (a ++ b) → KeepsEntry t a × KeepsEntry t b
+keeps_parts t [] b keeps = (tt, keeps)
+keeps_parts t (d ∷ ds) b keeps = let p = keeps_parts t ds b keeps.1 in ((keeps.0, p.0), p.1)
+
+unsnapped : (t c w : ℕ) (log : List Deed) (d : Deed) → IsSnapped t c w (log ++ d ∷ []) → (d ≡ has_snapped t c w) ⊎ ((is_detach_from t d.event ≡ false) × IsSnapped t c w log)
+unsnapped t c w log d is = ⊎_elim
+    (λ (last : d ≡ has_snapped t c w). inl last)
+    (λ (p : (more : List Deed) × (is.after ≡ more ++ d ∷ []) × (log ≡ is.before ++ has_snapped t c w ∷ more)).
+    let keeps = keeps_parts t p.0 (d ∷ []) (subst (KeepsEntry t) p.1 is.since) in
+    inr (keeps.1.0, record { before = is.before; after = p.0; are = p.2; since = keeps.0 }))
+    (cut_last log is.before is.after d (has_snapped t c w) is.are)
+
+-- a snapshot for an entry
+abbrev pub is_for_entry : Event → Bool
+is_for_entry (Snapshot (Some t) c) = true
+is_for_entry e = false
+
+unsnapped_by : (t c w : ℕ) (log : List Deed) (d : Deed) → is_for_entry d.event ≡ false → IsSnapped t c w (log ++ d ∷ []) → (is_detach_from t d.event ≡ false) × IsSnapped t c w log
+unsnapped_by t c w log d other is = ⊎_elim
+    (λ (last : d ≡ has_snapped t c w). absurd (let q : true ≡ false = sym (ap (λ (x : Deed). is_for_entry x.event) last) ∙ other in cc))
+    (λ (p : (is_detach_from t d.event ≡ false) × IsSnapped t c w log). p)
+    (unsnapped t c w log d is)
+
+other_marks : (log : List Deed) (marks : List (List Mark)) (d : Deed) → ((t : ℕ) → is_detach_from t d.event ≡ false) → is_for_entry d.event ≡ false → AreMarksOf log marks → AreMarksOf (log ++ d ∷ []) marks
+other_marks log marks d other none are = record {
   snapped = λ t c w is. snapped_more t c w log d (other t) (are.snapped t c w is);
+  marked = λ t c w is. are.marked t c w (unsnapped_by t c w log d none is).1;
   passed = λ t c is. passed_more t c log d (other t) (are.passed t c is);
 }
 
-fresh : (marks : List (List Mark)) (t c : ℕ) → mark_at (set marks t (replicate 8 no_mark)) t c ≡ no_mark
+pub fresh : (marks : List (List Mark)) (t c : ℕ) → mark_at (set marks t (replicate 8 no_mark)) t c ≡ no_mark
 fresh marks t c = ⊎_elim
     (λ (lt : t < length marks). cell_in_new no_mark marks t (replicate 8 no_mark) c lt ∙ get_or_all 8 no_mark c)
     (λ (ge : length marks ≤ t). ap (λ (m : List (List Mark)). mark_at m t c) (set_past marks t (replicate 8 no_mark) ge) ∙ ap (λ (r : List Mark). get_or r c no_mark) (get_or_past marks t [] ge))
@@ -247,14 +282,17 @@ detach_marks log marks t r are =
           (λ (same : u ≡ t). let p : mark_at new u c ≡ no_mark = ap (λ (k : ℕ). mark_at new k c) same ∙ fresh marks t c in absurd (none-some w (sym (ap (λ (m : Mark). m.snapshot) p) ∙ is)))
           (λ (off : u ≡ t → ⊥). snapped_more u c w log d (ne_eqb t u (λ (e : t ≡ u). off (sym e))) (are.snapped u c w (sym (ap (λ (m : Mark). m.snapshot) (cell_in_old no_mark marks t (replicate 8 no_mark) u c off)) ∙ is)))
           (cases_eq u t);
+      marked = λ u c w is.
+          let p = unsnapped_by u c w log d refl is in
+          ap (λ (m : Mark). m.snapshot) (cell_in_old no_mark marks t (replicate 8 no_mark) u c (λ (same : u ≡ t). eqb-false t u p.0 (sym same))) ∙ are.marked u c w p.1;
       passed = λ u c is. ⊎_elim
           (λ (same : u ≡ t). let p : mark_at new u c ≡ no_mark = ap (λ (k : ℕ). mark_at new k c) same ∙ fresh marks t c in absurd (let q : false ≡ true = sym (ap (λ (m : Mark). m.passed) p) ∙ is in cc))
           (λ (off : u ≡ t → ⊥). passed_more u c log d (ne_eqb t u (λ (e : t ≡ u). off (sym e))) (are.passed u c (sym (ap (λ (m : Mark). m.passed) (cell_in_old no_mark marks t (replicate 8 no_mark) u c off)) ∙ is)))
           (cases_eq u t);
     }
 
-snapshot_marks : (log : List Deed) (marks : List (List Mark)) (t c v : ℕ) → AreMarksOf log marks → AreMarksOf (log ++ has_snapped t c v ∷ []) (with_cell marks t c (snapshot_mark v))
-snapshot_marks log marks t c v are =
+snapshot_marks : (log : List Deed) (marks : List (List Mark)) (t c v : ℕ) → (mark_at marks t c).snapshot ≡ None → mark_at (with_cell marks t c (snapshot_mark v)) t c ≡ snapshot_mark v → AreMarksOf log marks → AreMarksOf (log ++ has_snapped t c v ∷ []) (with_cell marks t c (snapshot_mark v))
+snapshot_marks log marks t c v free there are =
     let l = log ++ has_snapped t c v ∷ [] in
     let here : IsSnapped t c v l = record { before = log; after = []; are = refl; since = tt } in record {
       snapped = λ u j w is. ⊎_elim
@@ -262,6 +300,23 @@ snapshot_marks log marks t c v are =
           subst (λ (k : ℕ). IsSnapped k j w l) (sym p.0) (subst (λ (k : ℕ). IsSnapped t k w l) (sym p.1) (subst (λ (k : ℕ). IsSnapped t c k l) (same_Some v w (sym (ap (λ (m : Mark). m.snapshot) p.2) ∙ is)) here)))
           (λ (old : mark_at (with_cell marks t c (snapshot_mark v)) u j ≡ mark_at marks u j). snapped_more u j w log (has_snapped t c v) refl (are.snapped u j w (sym (ap (λ (m : Mark). m.snapshot) old) ∙ is)))
           (cell_cases no_mark marks t c (snapshot_mark v) u j);
+      marked = λ u j w is. ⊎_elim
+          (λ (last : has_snapped t c v ≡ has_snapped u j w).
+          let q : Snapshot (Some t) c ≡ Snapshot (Some u) j = ap (λ (d : Deed). d.event) last in
+          let r : Word v ≡ Word w = ap (λ (d : Deed). d.reply) last in
+          let at_slot : t ≡ u = cc in
+          let at_cpu : c ≡ j = cc in
+          let word : v ≡ w = cc in
+          subst (λ (k : ℕ). (mark_at (with_cell marks t c (snapshot_mark v)) k j).snapshot ≡ Some w) at_slot (subst (λ (k : ℕ). (mark_at (with_cell marks t c (snapshot_mark v)) t k).snapshot ≡ Some w) at_cpu
+          (ap (λ (m : Mark). m.snapshot) there ∙ ap (λ (k : ℕ). Some k) word)))
+          (λ (old : (is_detach_from u (has_snapped t c v).event ≡ false) × IsSnapped u j w log).
+          let was : (mark_at marks u j).snapshot ≡ Some w = are.marked u j w old.1 in
+          ⊎_elim
+          (λ (p : (u ≡ t) × (j ≡ c) × (mark_at (with_cell marks t c (snapshot_mark v)) u j ≡ snapshot_mark v)).
+          absurd (none-some w (sym free ∙ (sym (λ k. (mark_at marks (p.0 k) (p.1 k)).snapshot) ∙ was))))
+          (λ (same : mark_at (with_cell marks t c (snapshot_mark v)) u j ≡ mark_at marks u j). ap (λ (m : Mark). m.snapshot) same ∙ was)
+          (cell_cases no_mark marks t c (snapshot_mark v) u j))
+          (unsnapped u j w log (has_snapped t c v) is);
       passed = λ u j is. ⊎_elim
           (λ (p : (u ≡ t) × (j ≡ c) × (mark_at (with_cell marks t c (snapshot_mark v)) u j ≡ snapshot_mark v)). absurd (let q : false ≡ true = sym (ap (λ (m : Mark). m.passed) p.2) ∙ is in cc))
           (λ (old : mark_at (with_cell marks t c (snapshot_mark v)) u j ≡ mark_at marks u j). passed_more u j log (has_snapped t c v) refl (are.passed u j (sym (ap (λ (m : Mark). m.passed) old) ∙ is)))
@@ -273,15 +328,22 @@ changed None w is = absurd (let q : false ≡ true = is in cc)
 changed (Some x) w is = (x, refl, λ (same : w ≡ x). eqb-false x w (not-true (x == w) is) (sym same))
 
 -- a mark at t and c whose snapshot stays; it may have passed now
-cell_marks : (log : List Deed) (marks : List (List Mark)) (t c : ℕ) (m : Mark) (d : Deed) → ((u : ℕ) → is_detach_from u d.event ≡ false) → m.snapshot ≡ (mark_at marks t c).snapshot → (m.passed ≡ true → HasPassedOn t c (log ++ d ∷ []))
+cell_marks : (log : List Deed) (marks : List (List Mark)) (t c : ℕ) (m : Mark) (d : Deed) → ((u : ℕ) → is_detach_from u d.event ≡ false) → is_for_entry d.event ≡ false → m.snapshot ≡ (mark_at marks t c).snapshot → (m.passed ≡ true → HasPassedOn t c (log ++ d ∷ []))
     → AreMarksOf log marks → AreMarksOf (log ++ d ∷ []) (with_cell marks t c m)
-cell_marks log marks t c m d other same pass are =
+cell_marks log marks t c m d other none same pass are =
     let l = log ++ d ∷ [] in
     let new = with_cell marks t c m in record {
       snapped = λ u j w is. ⊎_elim
           (λ (p : (u ≡ t) × (j ≡ c) × (mark_at new u j ≡ m)).
           subst (λ (k : ℕ). IsSnapped k j w l) (sym p.0) (subst (λ (k : ℕ). IsSnapped t k w l) (sym p.1) (snapped_more t c w log d (other t) (are.snapped t c w (sym same ∙ (sym (ap (λ (x : Mark). x.snapshot) p.2) ∙ is))))))
           (λ (old : mark_at new u j ≡ mark_at marks u j). snapped_more u j w log d (other u) (are.snapped u j w (sym (ap (λ (x : Mark). x.snapshot) old) ∙ is)))
+          (cell_cases no_mark marks t c m u j);
+      marked = λ u j w is.
+          let was : (mark_at marks u j).snapshot ≡ Some w = are.marked u j w (unsnapped_by u j w log d none is).1 in
+          ⊎_elim
+          (λ (p : (u ≡ t) × (j ≡ c) × (mark_at new u j ≡ m)).
+          ap (λ (x : Mark). x.snapshot) p.2 ∙ (same ∙ (sym (λ k. (mark_at marks (p.0 k) (p.1 k)).snapshot) ∙ was)))
+          (λ (old : mark_at new u j ≡ mark_at marks u j). ap (λ (x : Mark). x.snapshot) old ∙ was)
           (cell_cases no_mark marks t c m u j);
       passed = λ u j is. ⊎_elim
           (λ (p : (u ≡ t) × (j ≡ c) × (mark_at new u j ≡ m)).
@@ -293,7 +355,7 @@ cell_marks log marks t c m d other same pass are =
 look_marks : (log : List Deed) (marks : List (List Mark)) (t c w : ℕ) → AreMarksOf log marks → AreMarksOf (log ++ has_looked t c w ∷ []) (with_cell marks t c (mark_after_look (mark_at marks t c) w))
 look_marks log marks t c w are =
     let m = mark_at marks t c in
-    cell_marks log marks t c (mark_after_look m w) (has_looked t c w) (λ u. refl) refl
+    cell_marks log marks t c (mark_after_look m w) (has_looked t c w) (λ u. refl) refl refl
     (λ is. ⊎_elim
     (λ (was : m.passed ≡ true). passed_more t c log (has_looked t c w) refl (are.passed t c was))
     (λ (now : (is_even w || has_changed m.snapshot w) ≡ true). record {
@@ -315,41 +377,29 @@ unnamed_detach (OfSearch c) t = refl
 unnamed_detach (Passive c n k) t = refl
 unnamed_detach (Local id k) t = refl
 
+unnamed_for : (of : RecordOf) → is_for_entry (event_without_id (LoadRecord of)) ≡ false
+unnamed_for (OfSearch c) = refl
+unnamed_for (Passive c n k) = refl
+unnamed_for (Local id k) = refl
+
+-- a snapshot that is taken for an entry is the first for it, and its mark has a place
+abbrev pub IsFirst : State → Event → Type 0
+IsFirst s (Snapshot (Some t) c) = ((mark_at s.marks t c).snapshot ≡ None) × (mark_at (with_cell s.marks t c (snapshot_mark (section_at s c))) t c ≡ snapshot_mark (section_at s c))
+IsFirst s e = Unit {0}
+
 -- the keeper's next deed
-more_marks : (log : List Deed) (s : State) (e : Event) (r : Reply) → Answers s e r → AreMarksOf log s.marks → AreMarksOf (log ++ deed_of e r ∷ []) (marks_after s e)
-more_marks log s (Unpublish t) r is are = detach_marks log s.marks t r are
-more_marks log s (Snapshot None c) r is are = other_marks log s.marks (deed_of (Snapshot None c) r) (λ t. refl) are
-more_marks log s (Snapshot (Some t) c) r is are = subst (λ (q : Reply). AreMarksOf (log ++ deed_of (Snapshot (Some t) c) q ∷ []) (marks_after s (Snapshot (Some t) c))) (sym is) (snapshot_marks log s.marks t c (section_at s c) are)
-more_marks log s (Look None c) r is are = other_marks log s.marks (deed_of (Look None c) r) (λ t. refl) are
-more_marks log s (Look (Some t) c) r is are = subst (λ (q : Reply). AreMarksOf (log ++ deed_of (Look (Some t) c) q ∷ []) (marks_after s (Look (Some t) c))) (sym is) (look_marks log s.marks t c (section_at s c) are)
-more_marks log s (PassiveLook t c) r is are = cell_marks log s.marks t c _ (deed_of (PassiveLook t c) r) (λ u. refl) refl (λ was. passed_more t c log (deed_of (PassiveLook t c) r) refl (are.passed t c was)) are
-more_marks log s (Collect t c) r is are = cell_marks log s.marks t c _ (deed_of (Collect t c) r) (λ u. refl) refl (λ was. passed_more t c log (deed_of (Collect t c) r) refl (are.passed t c was)) are
-more_marks log s (LoadRecord of) r is are = other_marks log s.marks (deed_of (LoadRecord of) r) (unnamed_detach of) are
-more_marks log s e r is are = other_marks log s.marks (deed_of e r) (λ t. refl) are
+pub more_marks : (log : List Deed) (s : State) (e : Event) (r : Reply) → Answers s e r → IsFirst s e → AreMarksOf log s.marks → AreMarksOf (log ++ deed_of e r ∷ []) (marks_after s e)
+more_marks log s (Unpublish t) r is first are = detach_marks log s.marks t r are
+more_marks log s (Snapshot None c) r is first are = other_marks log s.marks (deed_of (Snapshot None c) r) (λ t. refl) refl are
+more_marks log s (Snapshot (Some t) c) r is first are = subst (λ (q : Reply). AreMarksOf (log ++ deed_of (Snapshot (Some t) c) q ∷ []) (marks_after s (Snapshot (Some t) c))) (sym is) (snapshot_marks log s.marks t c (section_at s c) first.0 first.1 are)
+more_marks log s (Look None c) r is first are = other_marks log s.marks (deed_of (Look None c) r) (λ t. refl) refl are
+more_marks log s (Look (Some t) c) r is first are = subst (λ (q : Reply). AreMarksOf (log ++ deed_of (Look (Some t) c) q ∷ []) (marks_after s (Look (Some t) c))) (sym is) (look_marks log s.marks t c (section_at s c) are)
+more_marks log s (PassiveLook t c) r is first are = cell_marks log s.marks t c _ (deed_of (PassiveLook t c) r) (λ u. refl) refl refl (λ was. passed_more t c log (deed_of (PassiveLook t c) r) refl (are.passed t c was)) are
+more_marks log s (Collect t c) r is first are = cell_marks log s.marks t c _ (deed_of (Collect t c) r) (λ u. refl) refl refl (λ was. passed_more t c log (deed_of (Collect t c) r) refl (are.passed t c was)) are
+more_marks log s (LoadRecord of) r is first are = other_marks log s.marks (deed_of (LoadRecord of) r) (unnamed_detach of) (unnamed_for of) are
+more_marks log s e r is first are = other_marks log s.marks (deed_of e r) (λ t. refl) refl are
 
--- A run
-
--- the log of the keeper goes on with its part of the acts
-pub marked : (seat : ℕ → ℕ) (n : ℕ) (log : List Deed) (s : State) (acts : List (ℕ × Deed)) (es : List Event) (t : State) → Follows s acts es t → AreByOwn seat n acts → AreMarksOf log s.marks → AreMarksOf (log ++ part 0 acts) t.marks
-marked seat n log s [] [] t is own are = subst (λ (g : State). AreMarksOf (log ++ []) g.marks) (sym is) (subst (λ (l : List Deed). AreMarksOf l s.marks) (sym (append-nil log)) are)
-marked seat n log s [] (e ∷ es) t on own are = absurd on
-marked seat n log s (a ∷ more) [] t on own are = absurd on
-marked seat n log s (a ∷ more) (e ∷ es) t on own are =
-    let o = on.0 in
-    let made : Marks s e (Some o) = subst (Marks s e) on.1 (step_marks s e) in
-    ⊎_elim
-    (λ (same : a.0 ≡ 0).
-    let next : AreMarksOf (log ++ a.1 ∷ []) o.state.marks = subst (λ (d : Deed). AreMarksOf (log ++ d ∷ []) o.state.marks) (sym on.2)
-    (subst (AreMarksOf (log ++ deed_of e o.reply ∷ [])) (sym made.0) (more_marks log s e o.reply made.1 are)) in
-    let whole : (log ++ a.1 ∷ []) ++ part 0 more ≡ log ++ part 0 (a ∷ more) =
-    append_assoc log (a.1 ∷ []) (part 0 more) ∙ sym (ap (λ (b : Bool). log ++ cond b (a.1 ∷ part 0 more) (part 0 more)) (eq-eqb a.0 0 same)) in
-    subst (λ (l : List Deed). AreMarksOf l t.marks) whole (marked seat n (log ++ a.1 ∷ []) o.state more es t on.3 own.1 next))
-    (λ (off : a.0 ≢ 0).
-    let mine : IsSeatOf seat n a.0 (maker (event_without_id e)) = subst (λ (d : Deed). IsSeatOf seat n a.0 (maker d.event)) on.2 own.0 in
-    let next : AreMarksOf log o.state.marks = subst (AreMarksOf log) (sym (made.0 ∙ marks_off seat n a.0 s e mine off)) are in
-    let whole : log ++ part 0 more ≡ log ++ part 0 (a ∷ more) = sym (ap (λ (b : Bool). log ++ cond b (a.1 ∷ part 0 more) (part 0 more)) (ne_eqb a.0 0 off)) in
-    subst (λ (l : List Deed). AreMarksOf l t.marks) whole (marked seat n log o.state more es t on.3 own.1 next))
-    (cases_eq a.0 0)
+-- The opening
 
 none_at : (n t c : ℕ) → mark_at (replicate n (replicate 8 no_mark)) t c ≡ no_mark
 none_at zero t c = refl
@@ -360,5 +410,6 @@ none_at (suc n) (suc t) c = none_at n t c
 pub no_marks : (z : Settings) → AreMarksOf [] (opening z).marks
 no_marks z = record {
   snapped = λ t c w is. absurd (none-some w (sym (ap (λ (m : Mark). m.snapshot) (none_at z.slots t c)) ∙ is));
+  marked = λ t c w is. absurd (no_place is.before is.after (has_snapped t c w) is.are);
   passed = λ t c is. absurd (let q : false ≡ true = sym (ap (λ (m : Mark). m.passed) (none_at z.slots t c)) ∙ is in cc);
 }

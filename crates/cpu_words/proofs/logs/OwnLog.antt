@@ -1,16 +1,14 @@
--- What the keeper knows of its own log once it hears: it has all changes of the history, its marks, and section words that grow.
-use Rattle.std.proofs.Common.{◌≡◌, ⊎_elim, ℕ, ◌≤◌, Some, List, [], ◌∷◌, ◌++◌, length, refl, sym, ap, ◌∙◌, subst, arith}
+-- What the keeper knows of its own log once it hears: it has all changes of the history, its marks and slots, and section words that grow.
+use Rattle.std.proofs.Common.{◌≡◌, ⊎_elim, ℕ, Some, List, [], ◌∷◌, ◌++◌, length, refl, sym, ap, ◌∙◌, subst, arith}
 use mathlib.Core.Option.{some}
 use mathlib.Core.List.{IsPrefix}
 use lib.ListN.{get_elem?}
 use Rattle.atomic_table.specs.Table.{State as Table}
 use Rattle.atomic_table.proofs.Lists.{at_map}
-use Rattle.registry_values.specs.declared.mark.Mark.{Mark}
 use Rattle.registry_values.specs.declared.settings.Settings.{Settings}
 use Rattle.registry_values.specs.declared.entry.Change.{Change}
 use Rattle.protocol.specs.declared.event.Event.{Event}
 use Rattle.protocol.specs.declared.event.Event.TheVariants.{Snapshot, Look}
-use Rattle.protocol.specs.declared.event.Reply.{Reply}
 use Rattle.protocol.specs.declared.event.Reply.TheVariants.{Word}
 use Rattle.protocol.specs.State.{State, opening, section_at}
 use Rattle.protocol.specs.Events.{Outcome, step}
@@ -20,12 +18,14 @@ use Rattle.cpu_words.specs.declared.view.Deed.{Deed}
 use Rattle.cpu_words.specs.declared.view.KeeperView.{KeeperView}
 use Rattle.cpu_words.specs.declared.view.Logged.{Logged}
 use Rattle.cpu_words.specs.declared.view.View.TheVariants.{Keeper}
-use Rattle.cpu_words.specs.Deeds.{changes_in, AreMarksOf, FindsWord, WordsGrow, IsOwnLog}
+use Rattle.cpu_words.specs.Deeds.{changes_in, AreMarksOf, AreSlotsOf, FindsWord, WordsGrow, IsOwnLog}
 use Rattle.cpu_words.specs.Logs.{part, LoggedRuled}
 use Rattle.cpu_words.specs.Notes.{keeper_with_heard}
-use Rattle.cpu_words.proofs.logs.Changes.{run_of, fit_of, changes_are}
+use Rattle.cpu_words.proofs.logs.Changes.{run_of, fit_of}
 use Rattle.cpu_words.proofs.logs.Loads.{place, same_event, word_of, replied_word, run_since}
-use Rattle.cpu_words.proofs.logs.Marks.{Answers, Marks, step_marks, marked, no_marks}
+use Rattle.cpu_words.proofs.logs.Known.{Known, known_stays, known_first}
+use Rattle.cpu_words.proofs.logs.Marks.{Answers, Marks, step_marks}
+use Rattle.cpu_words.proofs.logs.Walks.{walked}
 use Rattle.cpu_words.proofs.logs.Runs.{deed_of, Follows, follows_holds, cut}
 
 -- Words grow
@@ -61,9 +61,9 @@ words_grow s acts es t run on c v w d e before between after are first second =
 
 -- The keeper's log
 
-marks_are : (z : Settings) (s : Table ℕ Logged) (r : LoggedRuled z s) → AreMarksOf (part 0 r.acts) r.run.g.marks
-marks_are z s r = subst (λ (g : State). AreMarksOf (part 0 r.acts) g.marks) (sym r.run.reached.run)
-    (marked r.run.seat r.run.g.seated [] (opening z) r.acts r.run.reached.events _ (run_of z s r) r.owners (no_marks z))
+log_known : (z : Settings) (s : Table ℕ Logged) (r : LoggedRuled z s) → Known z.cpus (part 0 r.acts) r.run.g
+log_known z s r = subst (Known z.cpus (part 0 r.acts)) (sym r.run.reached.run)
+    (walked r.run.seat r.run.g.seated (Known z.cpus) [] (opening z) r.acts r.run.reached.events _ (known_stays r.run.seat r.run.g.seated z.cpus) (run_of z s r) (opening_holds z (fit_of z s r)) r.owners (known_first z))
 
 pub own_log : (z : Settings) (k : KeeperView) (l : Logged) (s : Table ℕ Logged) (r : LoggedRuled z s) (i : ℕ) → get_elem? s.views i ≡ some (record l { view = Keeper k }) → IsOwnLog l.log l.laid k
 own_log z k l s r i at =
@@ -72,10 +72,15 @@ own_log z k l s r i at =
     let whole : l.log ≡ part 0 r.acts = r.logs i (record l { view = Keeper k }) at tt ∙ ap (λ (m : ℕ). part m r.acts) here in
     let history : k.history ≡ r.run.g.history = ap (λ (x : KeeperView). x.history) its.1.is in
     let marks : k.marks ≡ r.run.g.marks = ap (λ (x : KeeperView). x.marks) its.1.is in
+    let slots : k.slots ≡ r.run.g.slots = ap (λ (x : KeeperView). x.slots) its.1.is in
+    let cpus : k.settings.cpus ≡ z.cpus = ap (λ (x : KeeperView). x.settings.cpus) its.1.is ∙ ap (λ (a : Settings). a.cpus) r.run.settings in
+    let known : Known z.cpus (part 0 r.acts) r.run.g = log_known z s r in
     record {
       told = subst (IsPrefix l.laid) (sym whole) (r.known i (record l { view = Keeper k }) at).1;
-      changes = ap (λ (h : List Change). length h) history ∙ changes_are z s r ∙ ap changes_in (sym whole);
-      marks = subst (λ (ds : List Deed). AreMarksOf ds k.marks) (sym whole) (subst (AreMarksOf (part 0 r.acts)) (sym marks) (marks_are z s r));
+      changes = ap (λ (h : List Change). length h) history ∙ known.changes ∙ ap changes_in (sym whole);
+      marks = subst (λ (ds : List Deed). AreMarksOf ds k.marks) (sym whole) (subst (AreMarksOf (part 0 r.acts)) (sym marks) known.marks);
+      slots = subst (λ (ds : List Deed). AreSlotsOf k.settings.cpus ds k.slots) (sym whole)
+          (subst (AreSlotsOf k.settings.cpus (part 0 r.acts)) (sym slots) (subst (λ (n : ℕ). AreSlotsOf n (part 0 r.acts) r.run.g.slots) (sym cpus) known.slots));
       grow = subst WordsGrow (sym whole) (words_grow (opening z) r.acts r.run.reached.events _ (run_of z s r) (opening_holds z (fit_of z s r)));
     }
 
@@ -85,5 +90,6 @@ own_laid log same note laid k l h is logs notes own = record {
   told = subst (λ (p : List Deed). IsPrefix p log) notes (subst (IsPrefix laid) logs own.told);
   changes = sym (ap (λ (x : KeeperView). length x.history) is) ∙ (own.changes ∙ ap changes_in logs);
   marks = subst (AreMarksOf log) (ap (λ (x : KeeperView). x.marks) is) (subst (λ (ds : List Deed). AreMarksOf ds l.marks) logs own.marks);
+  slots = subst (λ (ds : List Deed). AreSlotsOf k.settings.cpus ds k.slots) logs (subst (λ (x : KeeperView). AreSlotsOf x.settings.cpus same x.slots) is own.slots);
   grow = subst WordsGrow logs own.grow;
 }
