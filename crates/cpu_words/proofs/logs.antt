@@ -4,3 +4,6 @@ pub mod Logs
 pub mod Makers
 pub mod Runs
 pub mod Seats
+pub mod Loads
+pub mod Marks
+pub mod OwnLog

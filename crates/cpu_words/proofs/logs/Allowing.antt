@@ -13,7 +13,7 @@ use Rattle.cpu_words.specs.Views.{cpu_of, keeper_of, reference_of}
 use Rattle.cpu_words.specs.Steps.{CpuMay, KeeperMay, KeeperStores, ReferenceMay}
 use Rattle.cpu_words.specs.Logs.{the_keeper, the_cpu, another, AreBy, LoggedRuled, IsToldByCpu, IsToldByKeeper, IsToldByReference, heard_by_cpu, heard_by_keeper}
 use Rattle.cpu_words.proofs.logs.Logs.{logged_moves, logged_hears}
-use Rattle.cpu_words.proofs.logs.Changes.{own_log}
+use Rattle.cpu_words.proofs.logs.OwnLog.{own_log}
 
 pub allows_cpu : (z y : Settings) (x : CpuView) (slots id : ℕ) (me : Me ℕ Logged) (i : ℕ) (f : ℕ → ℕ) (does : CpuView → ℕ → List Deed) (tells : CpuView → ℕ → CpuView → Type 0) (st : Step ℕ)
     → z ≡ y → x ≡ cpu_of me.0.view → me ≡ (record me.0 { view = Cpu (cpu_of me.0.view) }, []) → ((n : ℕ) → AreBy (the_cpu x.id) (does x n)) → CpuMay z x i f (does x) tells → Allows (LoggedRuled y) slots id me i f (IsToldByCpu does tells st me)

@@ -3,10 +3,7 @@ use Rattle.std.proofs.Common.{◌≡◌, ◌≢◌, ⊎_elim, ℕ, suc, ◌+◌,
 use Rattle.std.proofs.lemmas.Bool.{cases_eq}
 use Rattle.std.proofs.lemmas.Option.{none-some, same_Some}
 use mathlib.Core.Option.{some}
-use mathlib.Core.List.{IsPrefix}
-use lib.ListN.{get_elem?}
 use Rattle.atomic_table.specs.Table.{State as Table}
-use Rattle.atomic_table.proofs.Lists.{at_map}
 use Rattle.registry_values.specs.declared.settings.Settings.{Settings}
 use Rattle.registry_values.specs.declared.entry.Change.{Change}
 use Rattle.registry_values.specs.declared.entry.Change.TheVariants.{Attach, Detach}
@@ -28,12 +25,10 @@ use Rattle.protocol.proofs.history.History.{length-after_change}
 use Rattle.protocol.proofs.keeps.Keeping.{step_holds, opening_holds}
 use Rattle.protocol.proofs.runs.Steps.{Sort, Refused, Left, Entered, Exited, Sought, Heard, Searched, Published, Unpublished, Kept, Gave_up, Vacated, step_sort}
 use Rattle.cpu_words.specs.declared.view.Deed.{Deed}
-use Rattle.cpu_words.specs.declared.view.KeeperView.{KeeperView}
 use Rattle.cpu_words.specs.declared.view.Logged.{Logged}
-use Rattle.cpu_words.specs.declared.view.View.TheVariants.{Keeper}
 use Rattle.cpu_words.specs.Rule.{event_without_id}
 use Rattle.cpu_words.proofs.logs.Runs.{Follows, follows}
-use Rattle.cpu_words.specs.Deeds.{changes_of, changes_in, IsOwnLog}
+use Rattle.cpu_words.specs.Deeds.{changes_of, changes_in}
 use Rattle.cpu_words.specs.Logs.{part, maker, IsSeatOf, AreByOwn, LoggedRuled}
 
 -- One event
@@ -149,14 +144,3 @@ pub changes_are : (z : Settings) (s : Table ℕ Logged) (r : LoggedRuled z s) �
 changes_are z s r =
     let all = counted r.run.seat r.run.g.seated (opening z) r.acts r.run.reached.events _ (run_of z s r) (opening_holds z (fit_of z s r)) r.owners in
     ap (λ (g : State). length g.history) r.run.reached.run ∙ omega arith
-
--- the keeper's log is what the keeper did
-pub own_log : (z : Settings) (k : KeeperView) (l : Logged) (s : Table ℕ Logged) (r : LoggedRuled z s) (i : ℕ) → get_elem? s.views i ≡ some (record l { view = Keeper k }) → IsOwnLog l.log l.laid k
-own_log z k l s r i at =
-    let its = r.run.shows.fits i (Keeper k) (at_map (λ (x : Logged). x.view) s.views i (record l { view = Keeper k }) at) in
-    let here : i ≡ 0 = its.0 in
-    let whole : l.log ≡ part 0 r.acts = r.logs i (record l { view = Keeper k }) at tt ∙ ap (λ (m : ℕ). part m r.acts) here in
-    let history : k.history ≡ r.run.g.history = ap (λ (x : KeeperView). x.history) its.1.is in (
-      subst (IsPrefix l.laid) (sym whole) (r.known i (record l { view = Keeper k }) at).1,
-      ap (λ (h : List Change). length h) history ∙ changes_are z s r ∙ ap changes_in (sym whole),
-    )

@@ -1,4 +1,5 @@
 use Rattle.std.proofs.Common.{refl}
+use Rattle.cpu_words.proofs.logs.OwnLog.{own_laid}
 use Rattle.cpu_words.proofs.seats.Notes.{hear_keeper_laid_may, keeper_heard}
 use Rattle.cpu_words.proofs.steps.notes.hear_keeper.Goals as goal
 
@@ -13,3 +14,6 @@ returns-clause-change c = (keeper_heard c.args.keeper.now.view _ _ _ c.lay_by_ke
 
 pub listen_by_keeper-requires-clause-own : goal.listen_by_keeper-requires-clause-own
 listen_by_keeper-requires-clause-own c n = (refl, tt)
+
+pub returns-clause-deeds : goal.returns-clause-deeds
+returns-clause-deeds c = own_laid c.args.keeper.now.log _ c.args.note.deeds _ c.args.keeper.now.view _ _ c.lay_by_keeper.ensures.change c.lay_by_keeper.ensures.log c.lay_by_keeper.ensures.deeds c.listen_by_keeper.ensures.deeds

@@ -1,0 +1,364 @@
+-- What the keeper's log says of marks: each snapshot that a mark has, and each pass, is in it.
+use Rattle.std.proofs.Common.{◌≡◌, ◌≢◌, ◌⊎◌, inl, inr, ⊎_elim, ℕ, zero, suc, ◌<◌, ◌≤◌, ◌%◌, ◌==◌, ◌||◌, ◌&&◌, ◌-◌, nat_lt, Bool, true, false, not, cond, if◌then◌else◌, List, [], ◌∷◌, ◌++◌, length, get_or, set, replicate, Option, Some, None, eq-eqb, ne_eqb, refl, sym, ap, ◌∙◌, subst, append_assoc, arith}
+use Rattle.std.proofs.lemmas.Bool.{or_cases, not-true, eqb-true, eqb-false, cases_eq, cases_lt}
+use Rattle.std.proofs.lemmas.List.{append-nil, get_or_past, set_past, get_or-set_same, get_or-set_other, get_or-replicate}
+use Rattle.std.proofs.lemmas.Option.{none-some, same_Some}
+use Rattle.registry_values.specs.declared.mark.Mark.{Mark}
+use Rattle.registry_values.specs.declared.slot.Slot.{Slot}
+use Rattle.registry_values.specs.declared.slot.Slot.TheVariants.{Vacant, Live, Retired}
+use Rattle.registry_values.specs.declared.settings.Settings.{Settings}
+use Rattle.registry_values.specs.Marks.{no_mark, is_even, has_changed, mark_after_look, mark_after_passive_look, mark_after_collect}
+use Rattle.registry_values.specs.Slots.{slot_at, slot_of, slot_before}
+use Rattle.protocol.specs.declared.event.Event.{Event}
+use Rattle.protocol.specs.declared.event.Event.TheVariants.{Seat, Enter, Exit, Seek, LoadLink, LoadRecord, StoreSlot, StoreNext, Publish, Unpublish, Tell, Hear, Snapshot, Look, PassiveAdd, PassiveSub, PassiveLook, CountAdd, SplitRef, JoinRef, CountDown, SplitBack, Collect, TotalAdd, JoinKeeper, TotalSub, Keep, KeptSub, Vacate}
+use Rattle.protocol.specs.declared.event.RecordOf.{RecordOf}
+use Rattle.protocol.specs.declared.event.RecordOf.TheVariants.{Search as OfSearch, Passive, Local}
+use Rattle.protocol.specs.declared.event.Reply.{Reply}
+use Rattle.protocol.specs.declared.event.Reply.TheVariants.{Done, Word}
+use Rattle.protocol.specs.declared.state.Due.{Due}
+use Rattle.protocol.specs.declared.state.Due.TheVariants.{Rest, Snapshots, Adding, Subtracting}
+use Rattle.protocol.specs.declared.state.Hand.{Hand}
+use Rattle.protocol.specs.declared.state.Hand.TheVariants.{Empty, Taking, Giving, Back}
+use Rattle.protocol.specs.declared.state.Search.{Search}
+use Rattle.protocol.specs.declared.state.SearchPlace.{SearchPlace}
+use Rattle.protocol.specs.declared.state.SearchPlace.TheVariants.{AtHead, AtNext, AtNumber, AtKind, AtHigh, AtLow, AtValue}
+use Rattle.protocol.specs.State.{State, with_cell, section_at, search_at, found_at, hand_at, row_at, mark_at, kept_at, local_at, opening}
+use Rattle.protocol.specs.Events
+use Rattle.protocol.specs.Events.{Outcome, guard, some_outcome, with_some, step, snapshot_mark, entry_of}
+use Rattle.protocol.proofs.slots.Cells.{cell_cases, cell_in_new, cell_in_old, get_or_all}
+use Rattle.cpu_words.specs.declared.view.Deed.{Deed}
+use Rattle.cpu_words.specs.Rule.{event_without_id}
+use Rattle.cpu_words.specs.Deeds.{has_snapped, has_looked, is_detach_from, KeepsEntry, IsSnapped, HasPassedOn, AreMarksOf}
+use Rattle.cpu_words.specs.Logs.{part, maker, IsSeatOf, AreByOwn}
+use Rattle.cpu_words.proofs.logs.Runs.{deed_of, Follows}
+
+-- What an event makes of the marks
+
+abbrev pub marks_after : State → Event → List (List Mark)
+marks_after s (Unpublish t) = set s.marks t (replicate 8 no_mark)
+marks_after s (Snapshot (Some t) c) = with_cell s.marks t c (snapshot_mark (section_at s c))
+marks_after s (Look (Some t) c) = with_cell s.marks t c (mark_after_look (mark_at s.marks t c) (section_at s c))
+marks_after s (PassiveLook t c) = with_cell s.marks t c (mark_after_passive_look (mark_at s.marks t c) (Rattle.protocol.specs.State.passive_at s.passive c t))
+marks_after s (Collect t c) = with_cell s.marks t c (mark_after_collect (mark_at s.marks t c))
+marks_after s e = s.marks
+
+-- a load of a section word answers that word
+abbrev pub Answers : State → Event → Reply → Type 0
+Answers s (Snapshot to c) r = r ≡ Word (section_at s c)
+Answers s (Look to c) r = r ≡ Word (section_at s c)
+Answers s e r = Unit {0}
+
+abbrev pub Marks : State → Event → Option Outcome → Type 0
+Marks s e None = Unit {0}
+Marks s e (Some o) = (o.state.marks ≡ marks_after s e) × Answers s e o.reply
+
+-- it may be made, and leads to t
+on_made : (s : State) (e : Event) (b : Bool) (t : State) (r : Reply) → t.marks ≡ marks_after s e → Answers s e r → Marks s e (guard b (some_outcome t r))
+on_made s e true t r marks answers = (marks, answers)
+on_made s e false t r marks answers = tt
+
+on_some : {X : Type 0} (s : State) (e : Event) (x : Option X) (f : X → Option Outcome) → ((y : X) → Marks s e (f y)) → Marks s e (with_some x f)
+on_some s e None f is = tt
+on_some s e (Some y) f is = is y
+
+on_if : (s : State) (e : Event) (b : Bool) (o p : Option Outcome) → Marks s e o → Marks s e p → Marks s e (if b then o else p)
+on_if s e true o p first second = first
+on_if s e false o p first second = second
+
+on_either : (s : State) (e : Event) (b : Bool) (t u : State) (r q : Reply) → t.marks ≡ marks_after s e → u.marks ≡ marks_after s e → Answers s e r → Answers s e q → Marks s e (if b then some_outcome t r else some_outcome u q)
+on_either s e true t u r q first second answers answered = (first, answers)
+on_either s e false t u r q first second answers answered = (second, answered)
+
+link_marks : (s : State) (c : ℕ) (q : Search) (x : ℕ) → Marks s (LoadLink c) (Events.link_loaded s c q x)
+link_marks s c q zero = (refl, tt)
+link_marks s c q (suc t) = (refl, tt)
+
+load_link_marks : (s : State) (c : ℕ) (q : Search) (place : SearchPlace) → Marks s (LoadLink c) (Events.load_link s c q place)
+load_link_marks s c q AtHead = link_marks s c q s.head
+load_link_marks s c q (AtNext t) = link_marks s c q (get_or s.next t 0)
+load_link_marks s c q (AtNumber t) = tt
+load_link_marks s c q (AtKind t n) = tt
+load_link_marks s c q (AtHigh t n k) = tt
+load_link_marks s c q (AtLow t n k h) = tt
+load_link_marks s c q (AtValue t n) = tt
+
+compared_marks : (s : State) (c : ℕ) (q : Search) (t n l : ℕ) (b : Bool) → Marks s (LoadRecord (OfSearch c)) (Events.outcome_of_name s c q t n l b)
+compared_marks s c q t n l true = (refl, tt)
+compared_marks s c q t n l false = (refl, tt)
+
+searched_marks : (s : State) (c : ℕ) (q : Search) (place : SearchPlace) → Marks s (LoadRecord (OfSearch c)) (Events.load_searched s c q place (row_at s.rows))
+searched_marks s c q AtHead = tt
+searched_marks s c q (AtNext t) = tt
+searched_marks s c q (AtNumber t) = (refl, tt)
+searched_marks s c q (AtKind t n) = (refl, tt)
+searched_marks s c q (AtHigh t n k) = (refl, tt)
+searched_marks s c q (AtLow t n k h) = compared_marks s c q t n (row_at s.rows t).low (Rattle.registry_values.specs.Slots.are_words_of q.key k h (row_at s.rows t).low)
+searched_marks s c q (AtValue t n) = (refl, tt)
+
+record_marks : (s : State) (of : RecordOf) → Marks s (LoadRecord of) (Events.load_record s of)
+record_marks s (OfSearch c) = on_some s (LoadRecord (OfSearch c)) (search_at s c) _ (λ q. searched_marks s c q q.place)
+record_marks s (Passive c n k) = on_some s (LoadRecord (Passive c n k)) (slot_of s.slots n) _ (λ t. on_made s (LoadRecord (Passive c n k)) _ _ _ refl tt)
+record_marks s (Local id k) = on_some s (LoadRecord (Local id k)) (Events.number_standing (local_at s.locals id)) _ (λ n. on_some s (LoadRecord (Local id k)) (slot_of s.slots n) _ (λ t. on_made s (LoadRecord (Local id k)) _ _ _ refl tt))
+
+tell_marks : (s : State) (to : Option ℕ) → Marks s (Tell to) (Events.tell s to)
+tell_marks s None = on_made s (Tell None) _ _ _ refl tt
+tell_marks s (Some c) = on_made s (Tell (Some c)) _ _ _ refl tt
+
+hear_marks : (s : State) (to : Option ℕ) → Marks s (Hear to) (Events.hear s to)
+hear_marks s None = on_made s (Hear None) _ _ _ refl tt
+hear_marks s (Some c) = on_made s (Hear (Some c)) _ _ _ refl tt
+
+snapshot_step_marks : (s : State) (to : Option ℕ) (c : ℕ) → Marks s (Snapshot to c) (Events.snapshot s to c)
+snapshot_step_marks s None c = on_made s (Snapshot None c) _ _ _ refl refl
+snapshot_step_marks s (Some t) c = on_made s (Snapshot (Some t) c) _ _ _ refl refl
+
+look_step_marks : (s : State) (to : Option ℕ) (c : ℕ) → Marks s (Look to c) (Events.look s to c)
+look_step_marks s None c = on_made s (Look None c) _ _ _ refl refl
+look_step_marks s (Some t) c = on_made s (Look (Some t) c) _ _ _ refl refl
+
+unlinked_marks : (s : State) (t : ℕ) (p : Option ℕ) → (Events.with_link_past s t p).marks ≡ s.marks
+unlinked_marks s t None = refl
+unlinked_marks s t (Some p) = refl
+
+unpublish_marks : (s : State) (t : ℕ) (x : Slot) → Marks s (Unpublish t) (Events.unpublish s t x)
+unpublish_marks s t Vacant = tt
+unpublish_marks s t (Live e) = on_made s (Unpublish t) _ _ _ (ap (λ (m : List (List Mark)). set m t (replicate 8 no_mark)) (unlinked_marks s t (slot_before s.slots s.next t))) tt
+unpublish_marks s t (Retired e) = tt
+
+split_marks : (s : State) (c : ℕ) (h : Hand) → Marks s (SplitRef c) (Events.split_ref s c h)
+split_marks s c Empty = tt
+split_marks s c (Taking n) = (refl, tt)
+split_marks s c (Giving n id) = tt
+split_marks s c (Back n id) = tt
+
+down_marks : (s : State) (c : ℕ) (h : Hand) → Marks s (CountDown c) (Events.count_down s c h)
+down_marks s c Empty = tt
+down_marks s c (Taking n) = tt
+down_marks s c (Giving n id) = on_some s (CountDown c) (slot_of s.slots n) _ (λ t. on_either s (CountDown c) _ _ _ _ _ refl refl tt tt)
+down_marks s c (Back n id) = tt
+
+back_marks : (s : State) (c : ℕ) (h : Hand) → Marks s (SplitBack c) (Events.split_back s c h)
+back_marks s c Empty = tt
+back_marks s c (Taking n) = tt
+back_marks s c (Giving n id) = tt
+back_marks s c (Back n id) = (refl, tt)
+
+added_marks : (s : State) (t : ℕ) (due : Due) → Marks s (TotalAdd t) (Events.total_add s t due)
+added_marks s t Rest = tt
+added_marks s t (Snapshots u c) = tt
+added_marks s t (Adding u old) = on_made s (TotalAdd t) _ _ _ refl tt
+added_marks s t (Subtracting u) = tt
+
+subtracted_marks : (s : State) (t : ℕ) (due : Due) → Marks s (TotalSub t) (Events.total_sub s t due)
+subtracted_marks s t Rest = tt
+subtracted_marks s t (Snapshots u c) = tt
+subtracted_marks s t (Adding u old) = tt
+subtracted_marks s t (Subtracting u) = on_made s (TotalSub t) _ _ _ refl tt
+
+store_marks : (s : State) (t k v : ℕ) → Marks s (StoreSlot t k v) (Events.store_slot s t k v)
+store_marks s t k v = on_if s (StoreSlot t k v) (nat_lt k 5) (guard (Events.may_write s t) (some_outcome (Events.after_row_store s t k v) Done))
+    (guard (Events.may_write s t && nat_lt (k - 5) s.settings.cpus) (some_outcome (Events.after_count_store s t (k - 5) v) Done))
+    (on_made s (StoreSlot t k v) (Events.may_write s t) (Events.after_row_store s t k v) Done refl tt)
+    (on_made s (StoreSlot t k v) (Events.may_write s t && nat_lt (k - 5) s.settings.cpus) (Events.after_count_store s t (k - 5) v) Done refl tt)
+
+pub step_marks : (s : State) (e : Event) → Marks s e (step s e)
+step_marks s (Seat c) = on_made s (Seat c) _ _ _ refl tt
+step_marks s (Enter c) = on_made s (Enter c) _ _ _ refl tt
+step_marks s (Exit c) = on_made s (Exit c) _ _ _ refl tt
+step_marks s (Seek c kind name) = on_made s (Seek c kind name) _ _ _ refl tt
+step_marks s (LoadLink c) = on_some s (LoadLink c) (search_at s c) _ (λ q. load_link_marks s c q q.place)
+step_marks s (LoadRecord of) = record_marks s of
+step_marks s (StoreSlot t k v) = store_marks s t k v
+step_marks s (StoreNext t v) = on_made s (StoreNext t v) _ _ _ refl tt
+step_marks s (Publish t) = on_some s (Publish t) (entry_of t (row_at s.rows t)) _ (λ e. on_made s (Publish t) _ _ _ refl tt)
+step_marks s (Unpublish t) = unpublish_marks s t (slot_at s.slots t)
+step_marks s (Tell to) = tell_marks s to
+step_marks s (Hear to) = hear_marks s to
+step_marks s (Snapshot to c) = snapshot_step_marks s to c
+step_marks s (Look to c) = look_step_marks s to c
+step_marks s (PassiveAdd c n) = on_some s (PassiveAdd c n) (slot_of s.slots n) _ (λ t. on_made s (PassiveAdd c n) _ _ _ refl tt)
+step_marks s (PassiveSub c n) = on_some s (PassiveSub c n) (slot_of s.slots n) _ (λ t. on_made s (PassiveSub c n) _ _ _ refl tt)
+step_marks s (PassiveLook t c) = on_made s (PassiveLook t c) _ _ _ refl tt
+step_marks s (CountAdd c) = on_some s (CountAdd c) (found_at s c) _ (λ e. on_some s (CountAdd c) (slot_of s.slots e.number) _ (λ t. on_made s (CountAdd c) _ _ _ refl tt))
+step_marks s (SplitRef c) = split_marks s c (hand_at s c)
+step_marks s (JoinRef c id) = on_some s (JoinRef c id) (Events.number_standing (local_at s.locals id)) _ (λ n. on_made s (JoinRef c id) _ _ _ refl tt)
+step_marks s (CountDown c) = down_marks s c (hand_at s c)
+step_marks s (SplitBack c) = back_marks s c (hand_at s c)
+step_marks s (Collect t c) = on_made s (Collect t c) _ _ _ refl tt
+step_marks s (TotalAdd t) = added_marks s t s.due
+step_marks s (JoinKeeper id) = on_some s (JoinKeeper id) (Events.number_standing (local_at s.locals id)) _ (λ n. on_some s (JoinKeeper id) (slot_of s.slots n) _ (λ t. on_made s (JoinKeeper id) _ _ _ refl tt))
+step_marks s (TotalSub t) = subtracted_marks s t s.due
+step_marks s (Keep t id) = on_some s (Keep t id) (Events.number_standing (local_at s.locals id)) _ (λ n. on_some s (Keep t id) (slot_of s.slots n) _ (λ u. on_made s (Keep t id) _ _ _ refl tt))
+step_marks s (KeptSub t) = on_some s (KeptSub t) (kept_at s.keeps t) _ (λ d. on_some s (KeptSub t) (slot_of s.slots d) _ (λ u. on_made s (KeptSub t) _ _ _ refl tt))
+step_marks s (Vacate t) = on_made s (Vacate t) _ _ _ refl tt
+
+-- the events of CPUs and of references leave them
+marks_off : (seat : ℕ → ℕ) (n i : ℕ) (s : State) (e : Event) → IsSeatOf seat n i (maker (event_without_id e)) → i ≢ 0 → marks_after s e ≡ s.marks
+marks_off seat n i s (Unpublish t) is off = absurd (off is)
+marks_off seat n i s (Snapshot None c) is off = refl
+marks_off seat n i s (Snapshot (Some t) c) is off = absurd (off is)
+marks_off seat n i s (Look None c) is off = refl
+marks_off seat n i s (Look (Some t) c) is off = absurd (off is)
+marks_off seat n i s (PassiveLook t c) is off = absurd (off is)
+marks_off seat n i s (Collect t c) is off = absurd (off is)
+marks_off seat n i s e is off = refl
+
+-- A log with one deed more
+
+keeps_more : (t : ℕ) (a b : List Deed) → KeepsEntry t a → KeepsEntry t b → KeepsEntry t (a ++ b)
+keeps_more t [] b first second = second
+keeps_more t (d ∷ ds) b first second = (first.0, keeps_more t ds b first.1 second)
+
+snapped_more : (t c w : ℕ) (log : List Deed) (d : Deed) → is_detach_from t d.event ≡ false → IsSnapped t c w log → IsSnapped t c w (log ++ d ∷ [])
+snapped_more t c w log d other is = record {
+  before = is.before;
+  after = is.after ++ d ∷ [];
+  are = ap (λ (l : List Deed). l ++ d ∷ []) is.are ∙ append_assoc is.before (has_snapped t c w ∷ is.after) (d ∷ []);
+  since = keeps_more t is.after (d ∷ []) is.since (other, tt);
+}
+
+passed_more : (t c : ℕ) (log : List Deed) (d : Deed) → is_detach_from t d.event ≡ false → HasPassedOn t c log → HasPassedOn t c (log ++ d ∷ [])
+passed_more t c log d other is = record {
+  new = is.new;
+  before = is.before;
+  after = is.after ++ d ∷ [];
+  are = ap (λ (l : List Deed). l ++ d ∷ []) is.are ∙ append_assoc is.before (has_looked t c is.new ∷ is.after) (d ∷ []);
+  since = keeps_more t is.after (d ∷ []) is.since (other, tt);
+  out = is.out;
+}
+
+other_marks : (log : List Deed) (marks : List (List Mark)) (d : Deed) → ((t : ℕ) → is_detach_from t d.event ≡ false) → AreMarksOf log marks → AreMarksOf (log ++ d ∷ []) marks
+other_marks log marks d other are = record {
+  snapped = λ t c w is. snapped_more t c w log d (other t) (are.snapped t c w is);
+  passed = λ t c is. passed_more t c log d (other t) (are.passed t c is);
+}
+
+fresh : (marks : List (List Mark)) (t c : ℕ) → mark_at (set marks t (replicate 8 no_mark)) t c ≡ no_mark
+fresh marks t c = ⊎_elim
+    (λ (lt : t < length marks). cell_in_new no_mark marks t (replicate 8 no_mark) c lt ∙ get_or_all 8 no_mark c)
+    (λ (ge : length marks ≤ t). ap (λ (m : List (List Mark)). mark_at m t c) (set_past marks t (replicate 8 no_mark) ge) ∙ ap (λ (r : List Mark). get_or r c no_mark) (get_or_past marks t [] ge))
+    (cases_lt t (length marks))
+
+detach_marks : (log : List Deed) (marks : List (List Mark)) (t : ℕ) (r : Reply) → AreMarksOf log marks → AreMarksOf (log ++ deed_of (Unpublish t) r ∷ []) (set marks t (replicate 8 no_mark))
+detach_marks log marks t r are =
+    let new = set marks t (replicate 8 no_mark) in
+    let d = deed_of (Unpublish t) r in record {
+      snapped = λ u c w is. ⊎_elim
+          (λ (same : u ≡ t). let p : mark_at new u c ≡ no_mark = ap (λ (k : ℕ). mark_at new k c) same ∙ fresh marks t c in absurd (none-some w (sym (ap (λ (m : Mark). m.snapshot) p) ∙ is)))
+          (λ (off : u ≡ t → ⊥). snapped_more u c w log d (ne_eqb t u (λ (e : t ≡ u). off (sym e))) (are.snapped u c w (sym (ap (λ (m : Mark). m.snapshot) (cell_in_old no_mark marks t (replicate 8 no_mark) u c off)) ∙ is)))
+          (cases_eq u t);
+      passed = λ u c is. ⊎_elim
+          (λ (same : u ≡ t). let p : mark_at new u c ≡ no_mark = ap (λ (k : ℕ). mark_at new k c) same ∙ fresh marks t c in absurd (let q : false ≡ true = sym (ap (λ (m : Mark). m.passed) p) ∙ is in cc))
+          (λ (off : u ≡ t → ⊥). passed_more u c log d (ne_eqb t u (λ (e : t ≡ u). off (sym e))) (are.passed u c (sym (ap (λ (m : Mark). m.passed) (cell_in_old no_mark marks t (replicate 8 no_mark) u c off)) ∙ is)))
+          (cases_eq u t);
+    }
+
+snapshot_marks : (log : List Deed) (marks : List (List Mark)) (t c v : ℕ) → AreMarksOf log marks → AreMarksOf (log ++ has_snapped t c v ∷ []) (with_cell marks t c (snapshot_mark v))
+snapshot_marks log marks t c v are =
+    let l = log ++ has_snapped t c v ∷ [] in
+    let here : IsSnapped t c v l = record { before = log; after = []; are = refl; since = tt } in record {
+      snapped = λ u j w is. ⊎_elim
+          (λ (p : (u ≡ t) × (j ≡ c) × (mark_at (with_cell marks t c (snapshot_mark v)) u j ≡ snapshot_mark v)).
+          subst (λ (k : ℕ). IsSnapped k j w l) (sym p.0) (subst (λ (k : ℕ). IsSnapped t k w l) (sym p.1) (subst (λ (k : ℕ). IsSnapped t c k l) (same_Some v w (sym (ap (λ (m : Mark). m.snapshot) p.2) ∙ is)) here)))
+          (λ (old : mark_at (with_cell marks t c (snapshot_mark v)) u j ≡ mark_at marks u j). snapped_more u j w log (has_snapped t c v) refl (are.snapped u j w (sym (ap (λ (m : Mark). m.snapshot) old) ∙ is)))
+          (cell_cases no_mark marks t c (snapshot_mark v) u j);
+      passed = λ u j is. ⊎_elim
+          (λ (p : (u ≡ t) × (j ≡ c) × (mark_at (with_cell marks t c (snapshot_mark v)) u j ≡ snapshot_mark v)). absurd (let q : false ≡ true = sym (ap (λ (m : Mark). m.passed) p.2) ∙ is in cc))
+          (λ (old : mark_at (with_cell marks t c (snapshot_mark v)) u j ≡ mark_at marks u j). passed_more u j log (has_snapped t c v) refl (are.passed u j (sym (ap (λ (m : Mark). m.passed) old) ∙ is)))
+          (cell_cases no_mark marks t c (snapshot_mark v) u j);
+    }
+
+changed : (o : Option ℕ) (w : ℕ) → has_changed o w ≡ true → (x : ℕ) × (o ≡ Some x) × (w ≡ x → ⊥)
+changed None w is = absurd (let q : false ≡ true = is in cc)
+changed (Some x) w is = (x, refl, λ (same : w ≡ x). eqb-false x w (not-true (x == w) is) (sym same))
+
+-- a mark at t and c whose snapshot stays; it may have passed now
+cell_marks : (log : List Deed) (marks : List (List Mark)) (t c : ℕ) (m : Mark) (d : Deed) → ((u : ℕ) → is_detach_from u d.event ≡ false) → m.snapshot ≡ (mark_at marks t c).snapshot → (m.passed ≡ true → HasPassedOn t c (log ++ d ∷ []))
+    → AreMarksOf log marks → AreMarksOf (log ++ d ∷ []) (with_cell marks t c m)
+cell_marks log marks t c m d other same pass are =
+    let l = log ++ d ∷ [] in
+    let new = with_cell marks t c m in record {
+      snapped = λ u j w is. ⊎_elim
+          (λ (p : (u ≡ t) × (j ≡ c) × (mark_at new u j ≡ m)).
+          subst (λ (k : ℕ). IsSnapped k j w l) (sym p.0) (subst (λ (k : ℕ). IsSnapped t k w l) (sym p.1) (snapped_more t c w log d (other t) (are.snapped t c w (sym same ∙ (sym (ap (λ (x : Mark). x.snapshot) p.2) ∙ is))))))
+          (λ (old : mark_at new u j ≡ mark_at marks u j). snapped_more u j w log d (other u) (are.snapped u j w (sym (ap (λ (x : Mark). x.snapshot) old) ∙ is)))
+          (cell_cases no_mark marks t c m u j);
+      passed = λ u j is. ⊎_elim
+          (λ (p : (u ≡ t) × (j ≡ c) × (mark_at new u j ≡ m)).
+          subst (λ (k : ℕ). HasPassedOn k j l) (sym p.0) (subst (λ (k : ℕ). HasPassedOn t k l) (sym p.1) (pass (sym (ap (λ (x : Mark). x.passed) p.2) ∙ is))))
+          (λ (old : mark_at new u j ≡ mark_at marks u j). passed_more u j log d (other u) (are.passed u j (sym (ap (λ (x : Mark). x.passed) old) ∙ is)))
+          (cell_cases no_mark marks t c m u j);
+    }
+
+look_marks : (log : List Deed) (marks : List (List Mark)) (t c w : ℕ) → AreMarksOf log marks → AreMarksOf (log ++ has_looked t c w ∷ []) (with_cell marks t c (mark_after_look (mark_at marks t c) w))
+look_marks log marks t c w are =
+    let m = mark_at marks t c in
+    cell_marks log marks t c (mark_after_look m w) (has_looked t c w) (λ u. refl) refl
+    (λ is. ⊎_elim
+    (λ (was : m.passed ≡ true). passed_more t c log (has_looked t c w) refl (are.passed t c was))
+    (λ (now : (is_even w || has_changed m.snapshot w) ≡ true). record {
+      new = w;
+      before = log;
+      after = [];
+      are = refl;
+      since = tt;
+      out = ⊎_elim
+          (λ (even : is_even w ≡ true). inl (eqb-true _ 0 even))
+          (λ (other : has_changed m.snapshot w ≡ true). let x = changed m.snapshot w other in inr (x.0, are.snapped t c x.0 x.1, x.2))
+          (or_cases (is_even w) (has_changed m.snapshot w) now);
+    })
+    (or_cases m.passed (is_even w || has_changed m.snapshot w) is))
+    are
+
+unnamed_detach : (of : RecordOf) (t : ℕ) → is_detach_from t (event_without_id (LoadRecord of)) ≡ false
+unnamed_detach (OfSearch c) t = refl
+unnamed_detach (Passive c n k) t = refl
+unnamed_detach (Local id k) t = refl
+
+-- the keeper's next deed
+more_marks : (log : List Deed) (s : State) (e : Event) (r : Reply) → Answers s e r → AreMarksOf log s.marks → AreMarksOf (log ++ deed_of e r ∷ []) (marks_after s e)
+more_marks log s (Unpublish t) r is are = detach_marks log s.marks t r are
+more_marks log s (Snapshot None c) r is are = other_marks log s.marks (deed_of (Snapshot None c) r) (λ t. refl) are
+more_marks log s (Snapshot (Some t) c) r is are = subst (λ (q : Reply). AreMarksOf (log ++ deed_of (Snapshot (Some t) c) q ∷ []) (marks_after s (Snapshot (Some t) c))) (sym is) (snapshot_marks log s.marks t c (section_at s c) are)
+more_marks log s (Look None c) r is are = other_marks log s.marks (deed_of (Look None c) r) (λ t. refl) are
+more_marks log s (Look (Some t) c) r is are = subst (λ (q : Reply). AreMarksOf (log ++ deed_of (Look (Some t) c) q ∷ []) (marks_after s (Look (Some t) c))) (sym is) (look_marks log s.marks t c (section_at s c) are)
+more_marks log s (PassiveLook t c) r is are = cell_marks log s.marks t c _ (deed_of (PassiveLook t c) r) (λ u. refl) refl (λ was. passed_more t c log (deed_of (PassiveLook t c) r) refl (are.passed t c was)) are
+more_marks log s (Collect t c) r is are = cell_marks log s.marks t c _ (deed_of (Collect t c) r) (λ u. refl) refl (λ was. passed_more t c log (deed_of (Collect t c) r) refl (are.passed t c was)) are
+more_marks log s (LoadRecord of) r is are = other_marks log s.marks (deed_of (LoadRecord of) r) (unnamed_detach of) are
+more_marks log s e r is are = other_marks log s.marks (deed_of e r) (λ t. refl) are
+
+-- A run
+
+-- the log of the keeper goes on with its part of the acts
+pub marked : (seat : ℕ → ℕ) (n : ℕ) (log : List Deed) (s : State) (acts : List (ℕ × Deed)) (es : List Event) (t : State) → Follows s acts es t → AreByOwn seat n acts → AreMarksOf log s.marks → AreMarksOf (log ++ part 0 acts) t.marks
+marked seat n log s [] [] t is own are = subst (λ (g : State). AreMarksOf (log ++ []) g.marks) (sym is) (subst (λ (l : List Deed). AreMarksOf l s.marks) (sym (append-nil log)) are)
+marked seat n log s [] (e ∷ es) t on own are = absurd on
+marked seat n log s (a ∷ more) [] t on own are = absurd on
+marked seat n log s (a ∷ more) (e ∷ es) t on own are =
+    let o = on.0 in
+    let made : Marks s e (Some o) = subst (Marks s e) on.1 (step_marks s e) in
+    ⊎_elim
+    (λ (same : a.0 ≡ 0).
+    let next : AreMarksOf (log ++ a.1 ∷ []) o.state.marks = subst (λ (d : Deed). AreMarksOf (log ++ d ∷ []) o.state.marks) (sym on.2)
+    (subst (AreMarksOf (log ++ deed_of e o.reply ∷ [])) (sym made.0) (more_marks log s e o.reply made.1 are)) in
+    let whole : (log ++ a.1 ∷ []) ++ part 0 more ≡ log ++ part 0 (a ∷ more) =
+    append_assoc log (a.1 ∷ []) (part 0 more) ∙ sym (ap (λ (b : Bool). log ++ cond b (a.1 ∷ part 0 more) (part 0 more)) (eq-eqb a.0 0 same)) in
+    subst (λ (l : List Deed). AreMarksOf l t.marks) whole (marked seat n (log ++ a.1 ∷ []) o.state more es t on.3 own.1 next))
+    (λ (off : a.0 ≢ 0).
+    let mine : IsSeatOf seat n a.0 (maker (event_without_id e)) = subst (λ (d : Deed). IsSeatOf seat n a.0 (maker d.event)) on.2 own.0 in
+    let next : AreMarksOf log o.state.marks = subst (AreMarksOf log) (sym (made.0 ∙ marks_off seat n a.0 s e mine off)) are in
+    let whole : log ++ part 0 more ≡ log ++ part 0 (a ∷ more) = sym (ap (λ (b : Bool). log ++ cond b (a.1 ∷ part 0 more) (part 0 more)) (ne_eqb a.0 0 off)) in
+    subst (λ (l : List Deed). AreMarksOf l t.marks) whole (marked seat n log o.state more es t on.3 own.1 next))
+    (cases_eq a.0 0)
+
+none_at : (n t c : ℕ) → mark_at (replicate n (replicate 8 no_mark)) t c ≡ no_mark
+none_at zero t c = refl
+none_at (suc n) zero c = get_or_all 8 no_mark c
+none_at (suc n) (suc t) c = none_at n t c
+
+-- before all events there is no mark
+pub no_marks : (z : Settings) → AreMarksOf [] (opening z).marks
+no_marks z = record {
+  snapped = λ t c w is. absurd (none-some w (sym (ap (λ (m : Mark). m.snapshot) (none_at z.slots t c)) ∙ is));
+  passed = λ t c is. absurd (let q : false ≡ true = sym (ap (λ (m : Mark). m.passed) (none_at z.slots t c)) ∙ is in cc);
+}

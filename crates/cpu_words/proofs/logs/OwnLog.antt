@@ -1,0 +1,89 @@
+-- What the keeper knows of its own log once it hears: it has all changes of the history, its marks, and section words that grow.
+use Rattle.std.proofs.Common.{◌≡◌, ⊎_elim, ℕ, ◌≤◌, Some, List, [], ◌∷◌, ◌++◌, length, refl, sym, ap, ◌∙◌, subst, arith}
+use mathlib.Core.Option.{some}
+use mathlib.Core.List.{IsPrefix}
+use lib.ListN.{get_elem?}
+use Rattle.atomic_table.specs.Table.{State as Table}
+use Rattle.atomic_table.proofs.Lists.{at_map}
+use Rattle.registry_values.specs.declared.mark.Mark.{Mark}
+use Rattle.registry_values.specs.declared.settings.Settings.{Settings}
+use Rattle.registry_values.specs.declared.entry.Change.{Change}
+use Rattle.protocol.specs.declared.event.Event.{Event}
+use Rattle.protocol.specs.declared.event.Event.TheVariants.{Snapshot, Look}
+use Rattle.protocol.specs.declared.event.Reply.{Reply}
+use Rattle.protocol.specs.declared.event.Reply.TheVariants.{Word}
+use Rattle.protocol.specs.State.{State, opening, section_at}
+use Rattle.protocol.specs.Events.{Outcome, step}
+use Rattle.protocol.specs.Invariant.{Holds}
+use Rattle.protocol.proofs.keeps.Keeping.{opening_holds}
+use Rattle.cpu_words.specs.declared.view.Deed.{Deed}
+use Rattle.cpu_words.specs.declared.view.KeeperView.{KeeperView}
+use Rattle.cpu_words.specs.declared.view.Logged.{Logged}
+use Rattle.cpu_words.specs.declared.view.View.TheVariants.{Keeper}
+use Rattle.cpu_words.specs.Deeds.{changes_in, AreMarksOf, FindsWord, WordsGrow, IsOwnLog}
+use Rattle.cpu_words.specs.Logs.{part, LoggedRuled}
+use Rattle.cpu_words.specs.Notes.{keeper_with_heard}
+use Rattle.cpu_words.proofs.logs.Changes.{run_of, fit_of, changes_are}
+use Rattle.cpu_words.proofs.logs.Loads.{place, same_event, word_of, replied_word, run_since}
+use Rattle.cpu_words.proofs.logs.Marks.{Answers, Marks, step_marks, marked, no_marks}
+use Rattle.cpu_words.proofs.logs.Runs.{deed_of, Follows, follows_holds, cut}
+
+-- Words grow
+
+found_word : (s : State) (e : Event) (o : Outcome) (c w : ℕ) (d : Deed) → step s e ≡ Some o → d ≡ deed_of e o.reply → FindsWord c w d → section_at s c ≡ w
+found_word s e o c w d made is finds =
+    let answers : Answers s e o.reply = (subst (Marks s e) made (step_marks s e)).1 in
+    ⊎_elim
+    (λ (p : d ≡ record { event = Snapshot finds.0 c; reply = Word w }).
+    let event : Snapshot finds.0 c ≡ e = same_event e (Snapshot finds.0 c) (ap (λ (x : Deed). x.event) (sym p ∙ is)) refl in
+    let reply : o.reply ≡ Word (section_at s c) = subst (λ (x : Event). Answers s x o.reply) (sym event) answers in
+    sym (replied_word o.reply w (ap (λ (x : Deed). x.reply) (sym p ∙ is)) ∙ ap word_of reply))
+    (λ (p : d ≡ record { event = Look finds.0 c; reply = Word w }).
+    let event : Look finds.0 c ≡ e = same_event e (Look finds.0 c) (ap (λ (x : Deed). x.event) (sym p ∙ is)) refl in
+    let reply : o.reply ≡ Word (section_at s c) = subst (λ (x : Event). Answers s x o.reply) (sym event) answers in
+    sym (replied_word o.reply w (ap (λ (x : Deed). x.reply) (sym p ∙ is)) ∙ ap word_of reply))
+    finds.1
+
+starts_word : (s : State) (d : Deed) (c w : ℕ) (more : List (ℕ × Deed)) (es : List Event) (t : State) → Follows s ((0, d) ∷ more) es t → FindsWord c w d → section_at s c ≡ w
+starts_word s d c w more [] t run finds = absurd run
+starts_word s d c w more (e ∷ es) t run finds = found_word s e run.0 c w d run.1 run.2 finds
+
+words_grow : (s : State) (acts : List (ℕ × Deed)) (es : List Event) (t : State) → Follows s acts es t → Holds s → WordsGrow (part 0 acts)
+words_grow s acts es t run on c v w d e before between after are first second =
+    let p = place 0 acts before (between ++ e ∷ after) d are in
+    let x = cut s p.first ((0, d) ∷ p.second) es t (subst (λ (a : List (ℕ × Deed)). Follows s a es t) p.are run) in
+    let taken : section_at x.between c ≡ v = starts_word x.between d c v p.second x.later t x.since first in
+    let q = place 0 p.second between after e p.rest in
+    let y = cut x.between ((0, d) ∷ q.first) ((0, e) ∷ q.second) x.later t (subst (λ (a : List (ℕ × Deed)). Follows x.between ((0, d) ∷ a) x.later t) q.are x.since) in
+    let found : section_at y.between c ≡ w = starts_word y.between e c w q.second y.later t y.since second in
+    let up = (run_since c x.between ((0, d) ∷ q.first) y.earlier y.between y.before (follows_holds s p.first x.earlier x.between x.before on)).0.0 in
+    omega (arith, taken, found, up)
+
+-- The keeper's log
+
+marks_are : (z : Settings) (s : Table ℕ Logged) (r : LoggedRuled z s) → AreMarksOf (part 0 r.acts) r.run.g.marks
+marks_are z s r = subst (λ (g : State). AreMarksOf (part 0 r.acts) g.marks) (sym r.run.reached.run)
+    (marked r.run.seat r.run.g.seated [] (opening z) r.acts r.run.reached.events _ (run_of z s r) r.owners (no_marks z))
+
+pub own_log : (z : Settings) (k : KeeperView) (l : Logged) (s : Table ℕ Logged) (r : LoggedRuled z s) (i : ℕ) → get_elem? s.views i ≡ some (record l { view = Keeper k }) → IsOwnLog l.log l.laid k
+own_log z k l s r i at =
+    let its = r.run.shows.fits i (Keeper k) (at_map (λ (x : Logged). x.view) s.views i (record l { view = Keeper k }) at) in
+    let here : i ≡ 0 = its.0 in
+    let whole : l.log ≡ part 0 r.acts = r.logs i (record l { view = Keeper k }) at tt ∙ ap (λ (m : ℕ). part m r.acts) here in
+    let history : k.history ≡ r.run.g.history = ap (λ (x : KeeperView). x.history) its.1.is in
+    let marks : k.marks ≡ r.run.g.marks = ap (λ (x : KeeperView). x.marks) its.1.is in
+    record {
+      told = subst (IsPrefix l.laid) (sym whole) (r.known i (record l { view = Keeper k }) at).1;
+      changes = ap (λ (h : List Change). length h) history ∙ changes_are z s r ∙ ap changes_in (sym whole);
+      marks = subst (λ (ds : List Deed). AreMarksOf ds k.marks) (sym whole) (subst (AreMarksOf (part 0 r.acts)) (sym marks) (marks_are z s r));
+      grow = subst WordsGrow (sym whole) (words_grow (opening z) r.acts r.run.reached.events _ (run_of z s r) (opening_holds z (fit_of z s r)));
+    }
+
+-- a note that is laid beside the keeper's view changes neither its log nor its history and marks
+pub own_laid : (log same note laid : List Deed) (k l : KeeperView) (h : List Change) → l ≡ keeper_with_heard k h → same ≡ log → laid ≡ note → IsOwnLog same laid l → IsOwnLog log note k
+own_laid log same note laid k l h is logs notes own = record {
+  told = subst (λ (p : List Deed). IsPrefix p log) notes (subst (IsPrefix laid) logs own.told);
+  changes = sym (ap (λ (x : KeeperView). length x.history) is) ∙ (own.changes ∙ ap changes_in logs);
+  marks = subst (AreMarksOf log) (ap (λ (x : KeeperView). x.marks) is) (subst (λ (ds : List Deed). AreMarksOf ds l.marks) logs own.marks);
+  grow = subst WordsGrow logs own.grow;
+}
