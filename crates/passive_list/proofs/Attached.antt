@@ -26,6 +26,7 @@ use Rattle.protocol.proofs.history.History.{length-after_change}
 use Rattle.protocol.proofs.keeps.ListKeeps.{live_count_set, rows_put}
 use Rattle.protocol.proofs.slots.Occupied.{in_within, slot_cases}
 use Rattle.cpu_words.specs.declared.view.KeeperView.{KeeperView}
+use Rattle.cpu_words.specs.declared.view.Deed.{Deed}
 use Rattle.cpu_words.specs.Publishing.{LeadsBelow, MayPublish, HasPublished}
 use Rattle.cpu_words.specs.Publishing.LeadsBelow.{To_end, To_slot}
 use Rattle.cpu_words.specs.Rule.{IsShown}
@@ -295,7 +296,7 @@ published_keeper z a table k l its rows n e v same settings was asked change is_
     }
 
 -- what is asked of a caller, of the keeper's own view
-pub ask : (z : TableId) (a : Settings) (table : TableId) (k : KeeperView) (its : Settings) (rows : List KeptSlot) (n t : ℕ) (rec : Record) (x : OnKeeper) → IsOurKeeper z a table k its rows n → record { view = k; slots = states_of rows } ≡ x
+pub ask : {log : List Deed} (z : TableId) (a : Settings) (table : TableId) (k : KeeperView) (its : Settings) (rows : List KeptSlot) (n t : ℕ) (rec : Record) (x : OnKeeper) → IsOurKeeper z a table k its rows n → record { view = k; slots = states_of rows; log = log } ≡ x
     → (t < a.slots) × (slot_at x.slots t ≡ Vacant) → IsTrue (keeps_rightly (kept_at x.view.keeps t) rec.kind) → IsTrue (is_lawful rec.name) → is_taken (key_of_record rec) x.slots ≡ false
     → length x.view.history + live_count x.slots + 2 ≤ a.change_limit → MayAttach a k rows (record { number = n + 1; slot = t; rec = rec })
 ask z a table k its rows n t rec x our is vacant keeps name free room = record {

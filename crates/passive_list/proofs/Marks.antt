@@ -18,6 +18,7 @@ use Rattle.registry_values.proofs.Fit.{ranges}
 use Rattle.protocol.proofs.keeps.ListKeeps.{rows_cell}
 use Rattle.protocol.proofs.slots.Occupied.{is_retired_tells}
 use Rattle.cpu_words.specs.declared.view.KeeperView.{KeeperView}
+use Rattle.cpu_words.specs.declared.view.Deed.{Deed}
 use Rattle.cpu_words.specs.declared.view.View.TheVariants.{Keeper}
 use Rattle.cpu_words.specs.Grace.{MayLook, keeper_after_look}
 use Rattle.cpu_words.specs.Steps.{Makes}
@@ -120,7 +121,7 @@ looked_states rows t c m = map-set_same state_of rows t (row_marked (row_at rows
 abbrev pub row_vacated : KeptSlot → KeptSlot
 row_vacated r = record { state = Vacant; marks = r.marks; total = r.total; keeps = r.keeps }
 
-pub vacated_keeper : (z : TableId) (a : Settings) (table : TableId) (k : KeeperView) (its : Settings) (rows : List KeptSlot) (n t : ℕ) → IsOurKeeper z a table k its rows n → IsDrainedOn (record { view = k; slots = states_of rows }) t → kept_at k.keeps t ≡ None
+pub vacated_keeper : {log : List Deed} (z : TableId) (a : Settings) (table : TableId) (k : KeeperView) (its : Settings) (rows : List KeptSlot) (n t : ℕ) → IsOurKeeper z a table k its rows n → IsDrainedOn (record { view = k; slots = states_of rows; log = log }) t → kept_at k.keeps t ≡ None
     → IsOurKeeper z a table k its (set rows t (row_vacated (row_at rows t))) n
 vacated_keeper z a table k its rows n t our is keeps =
     let lt = (retired_in a k rows t is.retired.0 our.rows is.retired.1).0 in
@@ -144,7 +145,7 @@ vacated_keeper z a table k its rows n t our is keeps =
     }
 
 -- what the row says of a drain is what the view says
-pub drained_tells : (a : Settings) (k : KeeperView) (rows : List KeptSlot) (t cpus : ℕ) → IsAtRest a k → RowsAgree a k rows → t < a.slots → cpus ≡ a.cpus → is_drained_row cpus (row_at rows t) ≡ true → IsDrainedOn (record { view = k; slots = states_of rows }) t
+pub drained_tells : {log : List Deed} (a : Settings) (k : KeeperView) (rows : List KeptSlot) (t cpus : ℕ) → IsAtRest a k → RowsAgree a k rows → t < a.slots → cpus ≡ a.cpus → is_drained_row cpus (row_at rows t) ≡ true → IsDrainedOn (record { view = k; slots = states_of rows; log = log }) t
 drained_tells a k rows t cpus at agree lt same is =
     let r = row_at rows t in
     let had = agree.each t lt in
@@ -167,7 +168,7 @@ drained_tells a k rows t cpus at agree lt same is =
       };
     }
 
-pub drained_from : (a : Settings) (k : KeeperView) (rows : List KeptSlot) (t cpus : ℕ) → IsAtRest a k → RowsAgree a k rows → t < a.slots → cpus ≡ a.cpus → IsDrainedOn (record { view = k; slots = states_of rows }) t → is_drained_row cpus (row_at rows t) ≡ true
+pub drained_from : {log : List Deed} (a : Settings) (k : KeeperView) (rows : List KeptSlot) (t cpus : ℕ) → IsAtRest a k → RowsAgree a k rows → t < a.slots → cpus ≡ a.cpus → IsDrainedOn (record { view = k; slots = states_of rows; log = log }) t → is_drained_row cpus (row_at rows t) ≡ true
 drained_from a k rows t cpus at agree lt same is =
     let had = agree.each t lt in
     let d = is.drained in

@@ -11,14 +11,16 @@ use Rattle.registry_values.specs.Slots.{live_count, slot_at}
 use Rattle.registry_values.specs.Balances.{bias}
 use Rattle.protocol.specs.State.{total_at, kept_at}
 use Rattle.cpu_words.specs.declared.view.KeeperView.{KeeperView}
+use Rattle.cpu_words.specs.declared.view.Deed.{Deed}
 use Rattle.cpu_words.specs.Rule.{IsShown}
 use Rattle.cpu_words.specs.Vacating.{MayVacate}
 use Rattle.passive_list.specs.declared.keeper.KeptSlot.{KeptSlot}
 
--- the keeper, to a contract
+-- the keeper, to a contract: what its seat knows, the slots as it has them, and what it did
 pub record OnKeeper : Type 0 where
   pub view : KeeperView
   pub slots : List Slot
+  pub log : List Deed
 
 -- what is past the rows
 abbrev pub no_row : KeptSlot

@@ -1,6 +1,6 @@
 //! Grace (pserialize(9)): the keeper looks at the section words of the CPUs, a load each.
 
-ghost use Rattle.std.specs.Prelude.{◌≡◌, ◌<◌, ℕ, Some, None};
+ghost use Rattle.std.specs.Prelude.{◌≡◌, ◌<◌, ◌++◌, ℕ, Some, None};
 ghost use Rattle.registry_values.specs.declared.entry.Entry.{Entry};
 ghost use Rattle.protocol.specs.declared.event.Event.TheVariants.{Look, Snapshot};
 ghost use Rattle.protocol.specs.declared.event.Reply.TheVariants.{Word};
@@ -10,6 +10,7 @@ ghost use Rattle.protocol.specs.State.{mark_at};
 ghost use Rattle.cpu_words.specs.Domains.{AreWordsOf};
 ghost use Rattle.cpu_words.specs.declared.view.View.TheVariants.{Keeper as OfKeeper};
 ghost use Rattle.cpu_words.specs.Grace.{HasLooked, keeper_after_look};
+ghost use Rattle.cpu_words.specs.Rule.{did};
 ghost use Rattle.cpu_words.specs.Steps.{Makes};
 
 use crate::keeper::Keeper;
@@ -25,7 +26,8 @@ pub fn look<D: Domain>(words: &Words, keeper: &mut Keeper<D>, slot: u8, cpu: u8)
     requires retired { (e : Entry) × (slot_at keeper.old.slots slot ≡ Retired e) }
     ensures passed { result ≡ (mark_at keeper.new.view.marks slot cpu).passed }
     ensures change { (w : ℕ) × HasLooked keeper.old.view (Look (Some slot) cpu) (Word w) slot cpu w keeper.new.view
-        × Makes (Look (Some slot) cpu) (Word w) (OfKeeper keeper.old.view) (OfKeeper keeper.new.view) }
+        × Makes (Look (Some slot) cpu) (Word w) (OfKeeper keeper.old.view) (OfKeeper keeper.new.view)
+        × (keeper.new.log ≡ keeper.old.log ++ did (Look (Some slot) cpu) (Word w)) }
     ensures slots { keeper.new.slots ≡ keeper.old.slots }
 {
     let word = steps::look(words, &mut keeper.seat, slot, cpu);
@@ -42,6 +44,7 @@ pub fn snapshot<D: Domain>(words: &Words, keeper: &mut Keeper<D>, cpu: u8) -> u6
     ensures event { Makes (Snapshot None cpu) (Word result) (OfKeeper keeper.old.view) (OfKeeper keeper.new.view) }
     ensures change { keeper.new.view ≡ keeper_after_look keeper.old.view (Snapshot None cpu) (Word result) }
     ensures slots { keeper.new.slots ≡ keeper.old.slots }
+    ensures log { keeper.new.log ≡ keeper.old.log ++ did (Snapshot None cpu) (Word result) }
 {
     steps::snapshot_now(words, &mut keeper.seat, cpu)
 }
@@ -55,6 +58,7 @@ pub fn glance<D: Domain>(words: &Words, keeper: &mut Keeper<D>, cpu: u8) -> u64
     ensures event { Makes (Look None cpu) (Word result) (OfKeeper keeper.old.view) (OfKeeper keeper.new.view) }
     ensures change { keeper.new.view ≡ keeper_after_look keeper.old.view (Look None cpu) (Word result) }
     ensures slots { keeper.new.slots ≡ keeper.old.slots }
+    ensures log { keeper.new.log ≡ keeper.old.log ++ did (Look None cpu) (Word result) }
 {
     steps::look_now(words, &mut keeper.seat, cpu)
 }

@@ -28,8 +28,8 @@ pub struct KeptSlot {
     pub keeps: Option<u64>,
 }
 
-/// The keeper of the table that D names. To a contract it is what its seat knows, and the slots as it has them. It is at rest: no
-/// operation of it is half done.
+/// The keeper of the table that D names. To a contract it is what its seat knows, the slots as it has them, and its log: what it did, each
+/// event with its reply, in order. It is at rest: no operation of it is half done.
 #[derive(Drop)]
 pub struct Keeper<D: Domain> {
     /// The seat that it steps with.
@@ -49,7 +49,7 @@ impl<D: Domain> Model for Keeper<D> {
 
     ghost Value = { OnKeeper };
 
-    ghost view = { λ k. record { view = k.seat.view; slots = states_of k.rows } };
+    ghost view = { λ k. record { view = k.seat.view; slots = states_of k.rows; log = k.seat.log } };
 
     ghost invariant = { λ k. IsOurKeeper D.table D.settings k.seat.table k.seat.view k.settings k.rows k.changes };
 }
@@ -70,6 +70,7 @@ impl<D: Domain> Keeper<D> {
         requires new { seat.view ≡ keeper_with settings settings.cpus }
         ensures view { result.view ≡ keeper_with settings settings.cpus }
         ensures slots { result.slots ≡ replicate 32 Vacant }
+        ensures log { result.log ≡ seat.log }
     {
         Keeper {
             seat,

@@ -29,6 +29,7 @@ pub fn vacate<D: Domain>(keeper: &mut Keeper<D>, slot: u8)
     requires keeps { kept_at keeper.old.view.keeps slot ≡ None }
     ensures view { keeper.new.view ≡ keeper.old.view }
     ensures slots { keeper.new.slots ≡ slice_set keeper.old.slots slot Vacant }
+    ensures log { keeper.new.log ≡ keeper.old.log }
 {
     keeper.rows[slot as usize].state = SlotState::Vacant;
 }

@@ -47,7 +47,7 @@ returns-clause-change g c =
     let marks = c.snapshots-marks.result in
     let our = c.keeper.invariant in
     let live = live_in a k inside.rows t e our.rows (state_at inside.rows t ∙ c.in-Live.is) in
-    let b : OnKeeper = record { view = c.snapshots-marks.new.seat.view; slots = states_of (set inside.rows t (row_retired (row_at inside.rows t) e marks)) } in
+    let b : OnKeeper = record { view = c.snapshots-marks.new.seat.view; slots = states_of (set inside.rows t (row_retired (row_at inside.rows t) e marks)); log = c.snapshots-marks.new.seat.log } in
     subst (λ (x : OnKeeper). HasDetached x t e b) c.keeper.view_is record {
       before = p;
       is_before = before_in a k inside.rows e.number p our.view our.rows c.slot_above-before.ensures.before;
