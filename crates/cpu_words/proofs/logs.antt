@@ -12,3 +12,4 @@ pub mod Walks
 pub mod Standings
 pub mod Slots
 pub mod Known
+pub mod Growing

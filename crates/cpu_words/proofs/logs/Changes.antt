@@ -21,7 +21,7 @@ use Rattle.protocol.specs.Invariant.{Holds}
 use Rattle.protocol.specs.Ran.{empty_run}
 use Rattle.protocol.specs.Laws.{after}
 use Rattle.protocol.proofs.history.History.{length-after_change}
-use Rattle.protocol.proofs.keeps.Keeping.{step_holds, opening_holds}
+use Rattle.protocol.proofs.keeps.Keeping.{step_holds}
 use Rattle.protocol.proofs.runs.Steps.{Sort, Refused, Left, Entered, Exited, Sought, Heard, Searched, Published, Unpublished, Kept, Gave_up, Vacated, step_sort}
 use Rattle.cpu_words.specs.declared.view.Deed.{Deed}
 use Rattle.cpu_words.specs.declared.view.Logged.{Logged}
@@ -137,9 +137,3 @@ run_of z s r = follows (empty_run (opening z)) r.acts r.run.reached.events r.are
 
 pub fit_of : (z : Settings) (s : Table ℕ Logged) (r : LoggedRuled z s) → IsTrue (are_fit z)
 fit_of z s r = subst (λ (a : Settings). IsTrue (are_fit a)) r.run.settings r.run.good.holds.fit
-
--- so it is of each table under the rule
-pub changes_are : (z : Settings) (s : Table ℕ Logged) (r : LoggedRuled z s) → length r.run.g.history ≡ changes_in (part 0 r.acts)
-changes_are z s r =
-    let all = counted r.run.seat r.run.g.seated (opening z) r.acts r.run.reached.events _ (run_of z s r) (opening_holds z (fit_of z s r)) r.owners in
-    ap (λ (g : State). length g.history) r.run.reached.run ∙ omega arith
