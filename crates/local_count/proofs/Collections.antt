@@ -1,5 +1,5 @@
 -- Collections: what the rows say where a count word is collected, and where all are.
-use Rattle.std.proofs.Common.{◌≡◌, ℕ, ◌+◌, ◌-◌, ◌^◌, ◌<◌, ◌≤◌, List, [], length, get_or, set, true, refl, sym, ap, ◌∙◌, subst, arith, length-set, get_or-set_same, get_or-set_other}
+use Rattle.std.proofs.Common.{◌≡◌, ℕ, ◌+◌, ◌-◌, ◌^◌, ◌<◌, ◌≤◌, List, [], ◌++◌, length, get_or, set, true, refl, sym, ap, ◌∙◌, subst, arith, length-set, get_or-set_same, get_or-set_other}
 use Rattle.std.proofs.Math.Seq.{map-set_same}
 use Rattle.atomic_table.specs.Seated.{TableId}
 use Rattle.registry_values.specs.declared.entry.Entry.{Entry}
@@ -18,9 +18,10 @@ use Rattle.protocol.proofs.slots.Cells.{total_here, total_other}
 use Rattle.registry_values.proofs.Fit.{ranges}
 use Rattle.protocol.proofs.keeps.ListKeeps.{rows_put}
 use Rattle.cpu_words.specs.declared.view.KeeperView.{KeeperView}
+use Rattle.cpu_words.specs.declared.view.Deed.{Deed}
 use Rattle.cpu_words.specs.declared.view.View.TheVariants.{Keeper}
 use Rattle.cpu_words.specs.Draining.{row_of, HasCollected, MayTotalAdd, HasAdded}
-use Rattle.cpu_words.specs.Rule.{IsShown}
+use Rattle.cpu_words.specs.Rule.{IsShown, did}
 use Rattle.cpu_words.specs.Steps.{Makes}
 use Rattle.cpu_words.proofs.shown.KeepersShown.{step_is_shown}
 use Rattle.passive_list.specs.declared.keeper.KeptSlot.{KeptSlot}
@@ -102,7 +103,7 @@ pub record CollectionTells (k : KeeperView) (rows : List KeptSlot) (t w : ℕ) :
   pub fits : (row_at rows t).total + w < 2 ^ 64
   pub may : (old : ℕ) × MayTotalAdd k t old ((row_at rows t).total + w - bias)
 
-pub collection_tells : (z : TableId) (a : Settings) (table : TableId) (k l : KeeperView) (its : Settings) (rows : List KeptSlot) (n : ℕ) (x : OnKeeper) (t c w : ℕ) (e : Entry) → IsOurKeeper z a table k its rows n → record { view = k; slots = states_of rows } ≡ x
+pub collection_tells : {log : List Deed} (z : TableId) (a : Settings) (table : TableId) (k l : KeeperView) (its : Settings) (rows : List KeptSlot) (n : ℕ) (x : OnKeeper) (t c w : ℕ) (e : Entry) → IsOurKeeper z a table k its rows n → record { view = k; slots = states_of rows; log = log } ≡ x
     → slot_at x.slots t ≡ Retired e → HasCollected k t c w l → Makes (Collect t c) (Word w) (Keeper k) (Keeper l) → CollectionTells l rows t w
 collection_tells z a table k l its rows n x t c w e our is retired change made =
     let lt = (retired_in a k rows t e our.rows (ap (λ (y : OnKeeper). slot_at y.slots t) is ∙ retired)).0 in
@@ -125,7 +126,7 @@ added_is k l b rows t c w m row change mark added =
     added ∙ ap (λ (x : KeeperView). record x { totals = set x.totals t v; due = Rest }) change
     ∙ sym (ap (λ (x : Mark). with_total k t (set (row_at rows t).marks c x) v k.given_up) mark ∙ ap (λ (ms : List Mark). with_total k t (set ms c (mark_after_collect (get_or ms c no_mark))) v k.given_up) row)
 
-pub collected_keeper : (z : TableId) (a : Settings) (table table' : TableId) (k l b : KeeperView) (its : Settings) (rows : List KeptSlot) (n : ℕ) (x : OnKeeper) (t c w : ℕ) (e : Entry) (m : Mark) → IsOurKeeper z a table k its rows n → record { view = k; slots = states_of rows } ≡ x
+pub collected_keeper : {log : List Deed} (z : TableId) (a : Settings) (table table' : TableId) (k l b : KeeperView) (its : Settings) (rows : List KeptSlot) (n : ℕ) (x : OnKeeper) (t c w : ℕ) (e : Entry) (m : Mark) → IsOurKeeper z a table k its rows n → record { view = k; slots = states_of rows; log = log } ≡ x
     → slot_at x.slots t ≡ Retired e → HasCollected k t c w l → m ≡ mark_after_collect (get_or (row_at rows t).marks c no_mark) → HasAdded l t ((row_at rows t).total + w - bias) b → Makes (TotalAdd t) Done (Keeper l) (Keeper b) → table' ≡ table
     → IsOurKeeper z a table' b its (set rows t (row_with_total (row_at rows t) (set (row_at rows t).marks c m) ((row_at rows t).total + w - bias))) n
 collected_keeper z a table table' k l b its rows n x t c w e m our is retired change mark added made same =
@@ -136,19 +137,20 @@ collected_keeper z a table table' k l b its rows n x t c w e m our is retired ch
     let long : length (set (row_at rows t).marks c m) ≡ 8 = length-set (row_at rows t).marks c m ∙ (ap (λ (ms : List Mark). length ms) row ∙ our.view.sized.mark_rows t (omega (arith, lt, size))) in
     with_total_keeper z a table table' k b its rows n t (set (row_at rows t).marks c m) ((row_at rows t).total + w - bias) k.given_up our (λ v. let q : Retired e ≡ Vacant = sym here ∙ v in cc) long same (added_is k l b rows t c w m row change mark added) (step_is_shown (TotalAdd t) Done l b made)
 
-pub collected_into : (z : TableId) (a : Settings) (table : TableId) (k l b : KeeperView) (its : Settings) (rows : List KeptSlot) (n : ℕ) (x : OnKeeper) (t c w : ℕ) (e : Entry) (r : KeptSlot) → IsOurKeeper z a table k its rows n → record { view = k; slots = states_of rows } ≡ x
+pub collected_into : {log between later : List Deed} (z : TableId) (a : Settings) (table : TableId) (k l b : KeeperView) (its : Settings) (rows : List KeptSlot) (n : ℕ) (x : OnKeeper) (t c w : ℕ) (e : Entry) (r : KeptSlot) → IsOurKeeper z a table k its rows n → record { view = k; slots = states_of rows; log = log } ≡ x
     → slot_at x.slots t ≡ Retired e → HasCollected k t c w l → Makes (Collect t c) (Word w) (Keeper k) (Keeper l) → HasAdded l t ((row_at rows t).total + w - bias) b → Makes (TotalAdd t) Done (Keeper l) (Keeper b) → r.state ≡ (row_at rows t).state
-    → HasCollectedInto x t c (record { view = b; slots = states_of (set rows t r) })
-collected_into z a table k l b its rows n x t c w e r our is retired change made added made_too state =
+    → between ≡ log ++ did (Collect t c) (Word w) → later ≡ between ++ did (TotalAdd t) Done → HasCollectedInto x t c (record { view = b; slots = states_of (set rows t r); log = later })
+collected_into {log} {later} z a table k l b its rows n x t c w e r our is retired change made added made_too state first then =
     let lt = (retired_in a k rows t e our.rows (ap (λ (y : OnKeeper). slot_at y.slots t) is ∙ retired)).0 in
     let v = (row_at rows t).total + w - bias in
     let total : v ≡ total_at k.totals t + w - bias = ap (λ (u : ℕ). u + w - bias) (our.rows.each t lt).total in
-    subst (λ (y : OnKeeper). HasCollectedInto y t c (record { view = b; slots = states_of (set rows t r) })) is record {
+    subst (λ (y : OnKeeper). HasCollectedInto y t c (record { view = b; slots = states_of (set rows t r); log = later })) is record {
       word = w;
       collected = subst (λ (y : KeeperView). Makes (Collect t c) (Word w) (Keeper k) (Keeper y)) change made;
       added = subst (λ (y : KeeperView). Makes (TotalAdd t) Done (Keeper y) (Keeper b)) change made_too;
       view = added ∙ ap (λ (y : KeeperView). record y { totals = set y.totals t v; due = Rest }) change ∙ (λ i. record (keeper_after_collect k t c w) { totals = set k.totals t (total i); due = sym our.view.rest i });
       slots = map-set_same state_of rows t r no_row state;
+      log = then ∙ ap (λ (ds : List Deed). ds ++ did (TotalAdd t) Done) first;
     }
 
 -- Once all words are collected
@@ -159,7 +161,7 @@ pub record TotalTells (k : KeeperView) (t total : ℕ) : Type 0 where
   pub held : AreHeld k t (total - bias)
 
 -- the row of a retired slot has the total, which is the bias and what is held
-pub total_tells : (z : TableId) (a : Settings) (table : TableId) (k : KeeperView) (its : Settings) (rows : List KeptSlot) (n : ℕ) (x : OnKeeper) (t : ℕ) (e : Entry) → IsOurKeeper z a table k its rows n → record { view = k; slots = states_of rows } ≡ x
+pub total_tells : {log : List Deed} (z : TableId) (a : Settings) (table : TableId) (k : KeeperView) (its : Settings) (rows : List KeptSlot) (n : ℕ) (x : OnKeeper) (t : ℕ) (e : Entry) → IsOurKeeper z a table k its rows n → record { view = k; slots = states_of rows; log = log } ≡ x
     → slot_at x.slots t ≡ Retired e → are_collected a.cpus (row_of x.view t) ≡ true → TotalTells x.view t (row_at rows t).total
 total_tells z a table k its rows n x t e our is retired all =
     let here = retired_in a k rows t e our.rows (ap (λ (y : OnKeeper). slot_at y.slots t) is ∙ retired) in

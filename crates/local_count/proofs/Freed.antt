@@ -1,5 +1,5 @@
 -- A retired interface is freed: the driver that its slot keeps has a row, the keeper may give it up, and what it has agrees with what its seat knows then.
-use Rattle.std.proofs.Common.{◌≡◌, ◌≢◌, inl, inr, ℕ, ◌+◌, ◌-◌, ◌<◌, List, length, set, replicate, Option, Some, None, refl, sym, ap, ◌∙◌, subst, arith, get_or-set_same, get_or-set_other, length-set}
+use Rattle.std.proofs.Common.{◌≡◌, ◌≢◌, inl, inr, ℕ, ◌+◌, ◌-◌, ◌<◌, List, ◌++◌, length, set, replicate, Option, Some, None, refl, sym, ap, ◌∙◌, subst, arith, get_or-set_same, get_or-set_other, length-set}
 use Rattle.std.proofs.lemmas.List.{map-set}
 use Rattle.std.proofs.lemmas.List.Quantifiers.{position-Some}
 use Rattle.std.proofs.Math.Seq.{map-set_same}
@@ -22,9 +22,10 @@ use Rattle.registry_values.proofs.Fit.{ranges}
 use Rattle.protocol.proofs.keeps.ListKeeps.{live_count_put, rows_put}
 use Rattle.protocol.proofs.slots.Occupied.{has_it, not_vacant, number_in, one_number, position_found, slot_found, slot_has}
 use Rattle.cpu_words.specs.declared.view.KeeperView.{KeeperView}
+use Rattle.cpu_words.specs.declared.view.Deed.{Deed}
 use Rattle.cpu_words.specs.declared.view.View.TheVariants.{Keeper}
 use Rattle.cpu_words.specs.Draining.{MayKeptSub, HasKeptSub}
-use Rattle.cpu_words.specs.Rule.{IsShown}
+use Rattle.cpu_words.specs.Rule.{IsShown, did}
 use Rattle.cpu_words.specs.Steps.{Makes}
 use Rattle.cpu_words.specs.Views.{one_more}
 use Rattle.cpu_words.proofs.by_keeper.KeeperSees.{seen_by_keeper}
@@ -109,7 +110,7 @@ abbrev IsIface : OnKeeper → ℕ → Type 0
 IsIface x t = (e : Entry) × (slot_at x.slots t ≡ Retired e) × (e.rec.kind ≡ Iface)
 
 -- so the slot is found by the rows
-pub keeps_on : (z : TableId) (a : Settings) (table : TableId) (k : KeeperView) (its : Settings) (rows : List KeptSlot) (n t : ℕ) (x : OnKeeper) → IsOurKeeper z a table k its rows n → record { view = k; slots = states_of rows } ≡ x → IsIface x t
+pub keeps_on : {log : List Deed} (z : TableId) (a : Settings) (table : TableId) (k : KeeperView) (its : Settings) (rows : List KeptSlot) (n t : ℕ) (x : OnKeeper) → IsOurKeeper z a table k its rows n → record { view = k; slots = states_of rows; log = log } ≡ x → IsIface x t
     → (u : ℕ) × (kept_slot (row_at rows t).keeps rows ≡ Some u) × KeepsHeld k t u
 keeps_on z a table k its rows n t x our is iface =
     let retired = retired_in a k rows t iface.0 our.rows (ap (λ (y : OnKeeper). slot_at y.slots t) is ∙ iface.1) in
@@ -121,7 +122,7 @@ keeps_on z a table k its rows n t x our is iface =
     )
 
 -- where they have found u
-pub keeps_at : (z : TableId) (a : Settings) (table : TableId) (k : KeeperView) (its : Settings) (rows : List KeptSlot) (n t u : ℕ) (x : OnKeeper) → IsOurKeeper z a table k its rows n → record { view = k; slots = states_of rows } ≡ x → IsIface x t
+pub keeps_at : {log : List Deed} (z : TableId) (a : Settings) (table : TableId) (k : KeeperView) (its : Settings) (rows : List KeptSlot) (n t u : ℕ) (x : OnKeeper) → IsOurKeeper z a table k its rows n → record { view = k; slots = states_of rows; log = log } ≡ x → IsIface x t
     → kept_slot (row_at rows t).keeps rows ≡ Some u → KeepsHeld k t u
 keeps_at z a table k its rows n t u x our is iface found =
     let it = keeps_on z a table k its rows n t x our is iface in
@@ -129,7 +130,7 @@ keeps_at z a table k its rows n t u x our is iface found =
     subst (KeepsHeld k t) same it.2
 
 -- and the keeper may give the driver up
-pub may_free : (z : TableId) (a : Settings) (table : TableId) (k : KeeperView) (its : Settings) (rows : List KeptSlot) (n t u : ℕ) (x : OnKeeper) → IsOurKeeper z a table k its rows n → record { view = k; slots = states_of rows } ≡ x → IsIface x t
+pub may_free : {log : List Deed} (z : TableId) (a : Settings) (table : TableId) (k : KeeperView) (its : Settings) (rows : List KeptSlot) (n t u : ℕ) (x : OnKeeper) → IsOurKeeper z a table k its rows n → record { view = k; slots = states_of rows; log = log } ≡ x → IsIface x t
     → IsDrainedOn x t → KeepsHeld k t u → MayKeptSub k t u
 may_free z a table k its rows n t u x our is iface drained keeps =
     let d = (subst (λ (y : OnKeeper). IsDrainedOn y t) (sym is) drained).drained in
@@ -204,7 +205,7 @@ freed_rows a k rows t d u at agree held off lt total =
     }
     (λ v other was. row_stays m (freed k t d u) v (row_at rows' v) at.rest refl (slot_other k.slots t Vacant v other) refl refl (get_or-set_other k.keeps t v None None other) was)
 
-pub freed_keeper : (z : TableId) (a : Settings) (table table' : TableId) (k l : KeeperView) (its : Settings) (rows : List KeptSlot) (n t u : ℕ) (x : OnKeeper) → IsOurKeeper z a table k its rows n → record { view = k; slots = states_of rows } ≡ x → IsDrainedOn x t → KeepsHeld k t u
+pub freed_keeper : {log : List Deed} (z : TableId) (a : Settings) (table table' : TableId) (k l : KeeperView) (its : Settings) (rows : List KeptSlot) (n t u : ℕ) (x : OnKeeper) → IsOurKeeper z a table k its rows n → record { view = k; slots = states_of rows; log = log } ≡ x → IsDrainedOn x t → KeepsHeld k t u
     → table' ≡ table → HasKeptSub k t u l → IsShown l → IsOurKeeper z a table' l its (set (set rows u (row_less (row_at rows u))) t (row_freed (row_at rows t))) n
 freed_keeper z a table table' k l its rows n t u x our is drained keeps same told is_shown =
     let d = subst (λ (y : OnKeeper). IsDrainedOn y t) (sym is) drained in
@@ -221,13 +222,14 @@ freed_keeper z a table table' k l its rows n t u x our is drained keeps same tol
     }
 
 -- what it leaves of the keeper
-pub has_freed : (k l : KeeperView) (rows : List KeptSlot) (t u : ℕ) (r : KeptSlot) (x : OnKeeper) → record { view = k; slots = states_of rows } ≡ x → Makes (KeptSub t) Done (Keeper k) (Keeper l) → HasKeptSub k t u l
-    → HasFreed x t (record { view = l; slots = states_of (set (set rows u (row_less (row_at rows u))) t (row_freed r)) })
-has_freed k l rows t u r x is made told =
+pub has_freed : {log later : List Deed} (k l : KeeperView) (rows : List KeptSlot) (t u : ℕ) (r : KeptSlot) (x : OnKeeper) → record { view = k; slots = states_of rows; log = log } ≡ x → Makes (KeptSub t) Done (Keeper k) (Keeper l) → HasKeptSub k t u l → later ≡ log ++ did (KeptSub t) Done
+    → HasFreed x t (record { view = l; slots = states_of (set (set rows u (row_less (row_at rows u))) t (row_freed r)); log = later })
+has_freed {later} k l rows t u r x is made told goes_on =
     let after = set (set rows u (row_less (row_at rows u))) t (row_freed r) in
-    subst (λ (y : OnKeeper). HasFreed y t (record { view = l; slots = states_of after })) is record {
+    subst (λ (y : OnKeeper). HasFreed y t (record { view = l; slots = states_of after; log = later })) is record {
       u = u;
       made = made;
       view = told;
       slots = map-set state_of (set rows u (row_less (row_at rows u))) t (row_freed r) ∙ ap (λ (xs : List Slot). set xs t Vacant) (map-set_same state_of rows u (row_less (row_at rows u)) no_row refl);
+      log = goes_on;
     }

@@ -1,5 +1,5 @@
 -- A reference is given up under the interlock: its entry's row has one to subtract, and what the keeper has agrees with what its seat knows then.
-use Rattle.std.proofs.Common.{◌≡◌, inl, inr, ⊎_elim, ℕ, ◌-◌, List, set, Some, true, refl, sym, ap, ◌∙◌, subst}
+use Rattle.std.proofs.Common.{◌≡◌, inl, inr, ⊎_elim, ℕ, ◌-◌, List, ◌++◌, set, Some, true, refl, sym, ap, ◌∙◌, subst}
 use Rattle.std.proofs.Math.Seq.{map-set_same}
 use Rattle.atomic_table.specs.Seated.{TableId}
 use Rattle.registry_values.specs.declared.entry.Entry.{Entry}
@@ -12,9 +12,11 @@ use Rattle.registry_values.specs.declared.slot.Slot.TheVariants.{Retired}
 use Rattle.registry_values.specs.Slots.{slot_at}
 use Rattle.protocol.specs.State.{mark_at, total_at}
 use Rattle.cpu_words.specs.declared.view.KeeperView.{KeeperView}
+use Rattle.cpu_words.specs.declared.view.Deed.{Deed}
 use Rattle.cpu_words.specs.declared.view.ReferenceView.{ReferenceView}
 use Rattle.cpu_words.specs.declared.view.View.TheVariants.{Keeper, Reference}
 use Rattle.cpu_words.specs.Draining.{IsFoundCollected, MayJoinKeeper, keeper_after_join, HasSubtracted}
+use Rattle.cpu_words.specs.Rule.{did}
 use Rattle.cpu_words.specs.Steps.{Makes, JoinsBy}
 use Rattle.cpu_words.specs.Views.{one_more}
 use Rattle.cpu_words.proofs.shown.KeepersShown.{step_is_shown}
@@ -27,7 +29,7 @@ use Rattle.local_count.proofs.Collections.{with_total_keeper}
 use Rattle.local_count.proofs.Subtracting.{HeldRow, held_row, less, row_less, less_is}
 
 -- what the rows say of a collected word, the seat knows
-pub may_take_in : (z : TableId) (a : Settings) (table : TableId) (k : KeeperView) (its : Settings) (rows : List KeptSlot) (n : ℕ) (v w : ReferenceView) (x : OnKeeper) → IsOurKeeper z a table k its rows n → record { view = k; slots = states_of rows } ≡ x → v ≡ w
+pub may_take_in : {log : List Deed} (z : TableId) (a : Settings) (table : TableId) (k : KeeperView) (its : Settings) (rows : List KeptSlot) (n : ℕ) (v w : ReferenceView) (x : OnKeeper) → IsOurKeeper z a table k its rows n → record { view = k; slots = states_of rows; log = log } ≡ x → v ≡ w
     → IsFoundCollected x.slots x.view.marks w → MayJoinKeeper k v
 may_take_in z a table k its rows n v w x our is is_too found = record {
   rest = our.view.rest;
@@ -73,17 +75,20 @@ given_keeper z a table table' k j l its rows n t v our slot joined made told sam
     (given_is k j l t v our.view.rest joined told ∙ less_is k rows t given_up our.view.rest row) (step_is_shown (TotalSub t) Done j l made)
 
 -- what is left of the keeper
-pub has_given_up : (k j l : KeeperView) (rows : List KeptSlot) (t : ℕ) (v w : ReferenceView) (x : OnKeeper) → record { view = k; slots = states_of rows } ≡ x → v ≡ w → k.due ≡ Rest → v.entry.slot ≡ t → j ≡ keeper_after_join k v
+pub has_given_up : {log between later : List Deed} (k j l : KeeperView) (rows : List KeptSlot) (t : ℕ) (v w : ReferenceView) (x : OnKeeper) → record { view = k; slots = states_of rows; log = log } ≡ x → v ≡ w → k.due ≡ Rest → v.entry.slot ≡ t → j ≡ keeper_after_join k v
     → JoinsBy JoinKeeper (Keeper k) (Reference v) (Keeper j) → Makes (TotalSub t) Done (Keeper j) (Keeper l) → HasSubtracted j t l
-    → HasGivenUp x w (record { view = l; slots = states_of (set rows t (row_less (row_at rows t))) })
-has_given_up k j l rows t v w x is is_too rest slot joined joins made told =
+    → between ≡ log ++ did (JoinKeeper 0) Done → later ≡ between ++ did (TotalSub t) Done → HasGivenUp x w (record { view = l; slots = states_of (set rows t (row_less (row_at rows t))); log = later })
+has_given_up {log} {later} k j l rows t v w x is is_too rest slot joined joins made told first then =
     let after = states_of (set rows t (row_less (row_at rows t))) in
     let s = v.entry.slot in
     let made_there : Makes (TotalSub s) Done (Keeper j) (Keeper l) = subst (λ (u : ℕ). Makes (TotalSub u) Done (Keeper j) (Keeper l)) (sym slot) made in
     let told_there : HasSubtracted j s l = subst (λ (u : ℕ). HasSubtracted j u l) (sym slot) told in
-    subst (λ (y : OnKeeper). HasGivenUp y w (record { view = l; slots = after })) is (subst (λ (u : ReferenceView). HasGivenUp (record { view = k; slots = states_of rows }) u (record { view = l; slots = after })) is_too record {
+    let both : later ≡ log ++ did (JoinKeeper 0) Done ++ did (TotalSub s) Done =
+    then ∙ ap (λ (ds : List Deed). ds ++ did (TotalSub t) Done) first ∙ ap (λ (u : ℕ). log ++ did (JoinKeeper 0) Done ++ did (TotalSub u) Done) (sym slot) in
+    subst (λ (y : OnKeeper). HasGivenUp y w (record { view = l; slots = after; log = later })) is (subst (λ (u : ReferenceView). HasGivenUp (record { view = k; slots = states_of rows; log = log }) u (record { view = l; slots = after; log = later })) is_too record {
       joined = subst (λ (y : KeeperView). JoinsBy JoinKeeper (Keeper k) (Reference v) (Keeper y)) joined joins;
       subtracted = subst (λ (y : KeeperView). Makes (TotalSub s) Done (Keeper y) (Keeper l)) joined made_there;
       view = given_is k j l s v rest joined told_there;
       slots = map-set_same state_of rows t (row_less (row_at rows t)) no_row refl;
+      log = both;
     })

@@ -14,6 +14,7 @@ use Rattle.protocol.specs.State.{total_at, kept_at}
 use Rattle.protocol.proofs.slots.Cells.{slot_other}
 use Rattle.registry_values.proofs.Fit.{ranges}
 use Rattle.cpu_words.specs.declared.view.KeeperView.{KeeperView}
+use Rattle.cpu_words.specs.declared.view.Deed.{Deed}
 use Rattle.cpu_words.specs.declared.view.ReferenceView.{ReferenceView}
 use Rattle.cpu_words.specs.Keeping.{keeper_after_keep}
 use Rattle.cpu_words.specs.Vacating.{as_vacant, vacant_from}
@@ -92,7 +93,7 @@ pub same_history : (k l : KeeperView) (t : ℕ) (v : ReferenceView) → l ≡ ke
 same_history k l t v at = sym (ap (λ (x : KeeperView). length x.history) at ∙ ap (λ (x : KeeperView). length x.history) (as_vacant_is k t))
 
 -- what publishing asks of the keeper once the slot keeps the reference, from what is asked of a caller
-pub may_attach : (z : TableId) (a : Settings) (table : TableId) (k l : KeeperView) (its : Settings) (rows : List KeptSlot) (c t n : ℕ) (rec : Record) (v : ReferenceView) (x : OnKeeper) → IsOurKeeper z a table k its rows c → record { view = k; slots = states_of rows } ≡ x
+pub may_attach : {log : List Deed} (z : TableId) (a : Settings) (table : TableId) (k l : KeeperView) (its : Settings) (rows : List KeptSlot) (c t n : ℕ) (rec : Record) (v : ReferenceView) (x : OnKeeper) → IsOurKeeper z a table k its rows c → record { view = k; slots = states_of rows; log = log } ≡ x
     → l ≡ keeper_after_keep k t v → v.entry.number ≡ n → (t < a.slots) × (slot_at x.slots t ≡ Vacant) → rec.kind ≡ Iface → IsTrue (is_lawful rec.name) → is_taken (key_of_record rec) x.slots ≡ false → length x.view.history + live_count x.slots + 2 ≤ a.change_limit
     → MayAttach a l (rows_keeping rows t n) (record { number = c + 1; slot = t; rec = rec })
 may_attach z a table k l its rows c t n rec v x our is at number vacant kind name free room =

@@ -1,5 +1,5 @@
 -- The keeper's side of local references (localcount(9)): what its calls ask, and what they leave of the keeper.
-use Rattle.std.specs.Prelude.{◌≡◌, ℕ, ◌+◌, ◌-◌, List, slice_set, position, Option, Some, None}
+use Rattle.std.specs.Prelude.{◌≡◌, ℕ, ◌+◌, ◌-◌, List, ◌++◌, slice_set, position, Option, Some, None}
 use Rattle.registry_values.specs.declared.entry.Entry.{Entry}
 use Rattle.protocol.specs.declared.event.Event.TheVariants.{Collect, TotalAdd, TotalSub, JoinKeeper, Keep, KeptSub}
 use Rattle.protocol.specs.declared.event.Reply.TheVariants.{Done, Word}
@@ -15,7 +15,7 @@ use Rattle.cpu_words.specs.declared.view.ReferenceView.{ReferenceView}
 use Rattle.cpu_words.specs.declared.view.View.TheVariants.{Keeper, Reference}
 use Rattle.cpu_words.specs.Draining.{keeper_after_join, HasKeptSub}
 use Rattle.cpu_words.specs.Keeping.{IsVacated, keeper_after_keep}
-use Rattle.cpu_words.specs.Rule.{Good}
+use Rattle.cpu_words.specs.Rule.{Good, did}
 use Rattle.cpu_words.specs.Steps.{Makes, JoinsBy}
 use Rattle.cpu_words.specs.Vacating.{as_vacant}
 use Rattle.cpu_words.specs.Views.{KeeperShown, one_more}
@@ -36,6 +36,7 @@ pub record HasCollectedInto (a : OnKeeper) (t c : ℕ) (b : OnKeeper) : Type 0 w
   pub added : Makes (TotalAdd t) Done (Keeper (keeper_after_collect a.view t c word)) (Keeper b.view)
   pub view : b.view ≡ record a.view { marks = with_cell a.view.marks t c (collected_mark (mark_at a.view.marks t c)); totals = slice_set a.view.totals t (total_at a.view.totals t + word - bias) }
   pub slots : b.slots ≡ a.slots
+  pub log : b.log ≡ a.log ++ did (Collect t c) (Word word) ++ did (TotalAdd t) Done
 
 -- the local references held to the retired entry in the slot t are n, in whatever state of the core shows the keeper's view
 pub record AreHeld (k : KeeperView) (t n : ℕ) : Type 0 where
@@ -51,6 +52,7 @@ pub record HasGivenUp (a : OnKeeper) (v : ReferenceView) (b : OnKeeper) : Type 0
   pub subtracted : Makes (TotalSub v.entry.slot) Done (Keeper (keeper_after_join a.view v)) (Keeper b.view)
   pub view : b.view ≡ record a.view { totals = slice_set a.view.totals v.entry.slot (total_at a.view.totals v.entry.slot - 1); given_up = one_more a.view.given_up v.entry.number }
   pub slots : b.slots ≡ a.slots
+  pub log : b.log ≡ a.log ++ did (JoinKeeper 0) Done ++ did (TotalSub v.entry.slot) Done
 
 -- Interfaces
 
@@ -58,7 +60,7 @@ pub record HasGivenUp (a : OnKeeper) (v : ReferenceView) (b : OnKeeper) : Type 0
 pub record HasAttachedKeeping (a : OnKeeper) (v : ReferenceView) (e : Entry) (b : OnKeeper) : Type 0 where
   pub vacated : IsVacated a.view e.slot
   pub kept : JoinsBy (Keep e.slot) (Keeper (as_vacant a.view e.slot)) (Reference v) (Keeper (keeper_after_keep a.view e.slot v))
-  pub attached : HasAttached (record { view = keeper_after_keep a.view e.slot v; slots = a.slots }) e b
+  pub attached : HasAttached (record a { view = keeper_after_keep a.view e.slot v }) e b
 
 -- the row that shows the live or retired entry n
 abbrev pub place_of : ℕ → List KeptSlot → Option ℕ
@@ -75,3 +77,4 @@ pub record HasFreed (a : OnKeeper) (t : ℕ) (b : OnKeeper) : Type 0 where
   pub made : Makes (KeptSub t) Done (Keeper a.view) (Keeper b.view)
   pub view : HasKeptSub a.view t u b.view
   pub slots : b.slots ≡ slice_set a.slots t Vacant
+  pub log : b.log ≡ a.log ++ did (KeptSub t) Done

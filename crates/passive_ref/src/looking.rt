@@ -1,6 +1,6 @@
 //! Looks at passive words (psref(9)): the keeper sees, by a load each, that a CPU has no reference to a retired entry any more.
 
-ghost use Rattle.std.specs.Prelude.{◌≡◌, ◌<◌, ℕ, slice_index_or, [], true};
+ghost use Rattle.std.specs.Prelude.{◌≡◌, ◌<◌, ◌++◌, ℕ, slice_index_or, [], true};
 ghost use Rattle.registry_values.specs.declared.entry.Entry.{Entry};
 ghost use Rattle.protocol.specs.declared.event.Event.TheVariants.{PassiveLook};
 ghost use Rattle.protocol.specs.declared.event.Reply.TheVariants.{Word};
@@ -11,6 +11,7 @@ ghost use Rattle.protocol.specs.State.{mark_at};
 ghost use Rattle.cpu_words.specs.Domains.{AreWordsOf};
 ghost use Rattle.cpu_words.specs.declared.view.View.TheVariants.{Keeper as OfKeeper};
 ghost use Rattle.cpu_words.specs.Draining.{HasLookedPassive};
+ghost use Rattle.cpu_words.specs.Rule.{did};
 ghost use Rattle.cpu_words.specs.Steps.{Makes};
 
 use cpu_words::{Domain, Words, steps};
@@ -27,7 +28,8 @@ pub fn look_passive<D: Domain>(words: &Words, keeper: &mut Keeper<D>, slot: u8, 
     requires passed { have_passed D.settings.cpus (slice_index_or keeper.old.view.marks slot []) ≡ true }
     ensures clear { result ≡ (mark_at keeper.new.view.marks slot cpu).clear }
     ensures change { (w : ℕ) × HasLookedPassive keeper.old.view slot cpu w keeper.new.view
-        × Makes (PassiveLook slot cpu) (Word w) (OfKeeper keeper.old.view) (OfKeeper keeper.new.view) }
+        × Makes (PassiveLook slot cpu) (Word w) (OfKeeper keeper.old.view) (OfKeeper keeper.new.view)
+        × (keeper.new.log ≡ keeper.old.log ++ did (PassiveLook slot cpu) (Word w)) }
     ensures slots { keeper.new.slots ≡ keeper.old.slots }
 {
     let word = steps::passive_look(words, &mut keeper.seat, slot, cpu);

@@ -18,4 +18,4 @@ pub invariant_of-keeper : goal.invariant_of-keeper
 invariant_of-keeper g c = collected_keeper _ _ _ _ _ _ _ _ _ _ _ _ _ _ _ _ c.keeper.invariant c.keeper.view_is c.requires.retired.1 c.collect-word.ensures.change c.collected.ensures c.total_add.ensures.change c.total_add.ensures.event (c.total_add.ensures.table ∙ c.collect-word.ensures.table)
 
 pub returns : goal.returns
-returns g c = record { change = collected_into _ _ _ _ _ _ _ _ _ _ _ _ _ _ _ c.keeper.invariant c.keeper.view_is c.requires.retired.1 c.collect-word.ensures.change c.collect-word.ensures.event c.total_add.ensures.change c.total_add.ensures.event refl }
+returns g c = record { change = collected_into _ _ _ _ _ _ _ _ _ _ _ _ _ _ _ c.keeper.invariant c.keeper.view_is c.requires.retired.1 c.collect-word.ensures.change c.collect-word.ensures.event c.total_add.ensures.change c.total_add.ensures.event refl c.collect-word.ensures.log c.total_add.ensures.log }

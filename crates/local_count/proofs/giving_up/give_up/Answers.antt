@@ -29,5 +29,5 @@ returns g c =
     let r = c.reference in
     record {
       change = has_given_up inside.seat.view c.join_keeper.new.keeper.view c.total_sub.new.keeper.view inside.rows r.inside.slot r.inside.seat.view c.args.reference.reference c.args.keeper.now c.keeper.view_is (ap (λ (o : OnPlainRef). o.reference) r.view_is) c.keeper.invariant.view.rest r.invariant.slot
-          c.join_keeper.ensures.change c.join_keeper.ensures.event c.total_sub.ensures.event c.total_sub.ensures.change;
+          c.join_keeper.ensures.change c.join_keeper.ensures.event c.total_sub.ensures.event c.total_sub.ensures.change c.join_keeper.ensures.log c.total_sub.ensures.log;
     }

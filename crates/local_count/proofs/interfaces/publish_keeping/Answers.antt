@@ -47,7 +47,7 @@ returns-clause-change g c =
     let l = c.publish_entry.new.seat.view in
     let rows = rows_keeping inside.rows t c.reference.inside.number in
     let e : Entry = record { number = inside.changes + 1; slot = t; rec = c.args.rec } in
-    let b : OnKeeper = record { view = l; slots = states_of (set rows t (row_live (row_at rows t) e)) } in
+    let b : OnKeeper = record { view = l; slots = states_of (set rows t (row_live (row_at rows t) e)); log = c.publish_entry.new.seat.log } in
     subst (λ (p : OnKeeper × ReferenceView). HasAttachedKeeping p.0 p.1 e b) (λ i. (c.keeper.view_is i, (c.reference.view_is i).reference)) record {
       vacated = c.keep.ensures.vacant;
       kept = subst (λ (x : KeeperView). JoinsBy (Keep t) (Keeper (as_vacant k t)) (Reference v) (Keeper x)) c.keep.ensures.change c.keep.ensures.event;
