@@ -8,3 +8,4 @@ pub mod Preparing
 pub mod Attached
 pub mod Taking
 pub mod Detached
+pub mod Logs

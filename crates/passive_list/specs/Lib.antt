@@ -8,3 +8,4 @@ pub mod Vacating
 pub mod Links
 pub mod Publishing
 pub mod Retiring
+pub mod Logs

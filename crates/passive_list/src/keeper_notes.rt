@@ -4,10 +4,10 @@ ghost use Rattle.std.specs.Prelude.{◌≡◌, ◌++◌, None};
 ghost use mathlib.Core.List.{IsPrefix};
 ghost use Rattle.protocol.specs.declared.event.Event.TheVariants.{Hear, Tell};
 ghost use Rattle.protocol.specs.declared.event.Reply.TheVariants.{Done};
-ghost use Rattle.cpu_words.specs.Deeds.{IsOwnLog};
 ghost use Rattle.cpu_words.specs.Domains.{AreWordsOf};
 ghost use Rattle.cpu_words.specs.Notes.{keeper_with_heard};
 ghost use Rattle.cpu_words.specs.Rule.{did};
+ghost use Rattle.passive_list.specs.Logs.{HasOwnLog};
 
 use crate::keeper::Keeper;
 use crate::notes::Note;
@@ -28,15 +28,16 @@ pub fn tell_keeper<D: Domain>(words: &Words, keeper: &mut Keeper<D>) -> Note<D>
     }
 }
 
-/// The keeper hears a note: what the note tells is in its history, and what it tells of the keeper's deeds begins the keeper's log. Of the
-/// keeper nothing changes but the note that it heard last, and the log.
+/// The keeper hears a note: what the note tells is in its history, and what it tells of the keeper's deeds begins the keeper's log. That log has
+/// all that the keeper has in its slots and marks (`own`). Of the keeper nothing changes but the note that it heard last, and the log.
 pub fn hear_keeper<D: Domain>(words: &Words, keeper: &mut Keeper<D>, note: Note<D>)
     requires words { AreWordsOf words.now D.table D.settings }
     ensures told { IsPrefix note.pass keeper.new.view.history }
     ensures view { keeper.new.view ≡ keeper_with_heard keeper.old.view note.pass }
     ensures slots { keeper.new.slots ≡ keeper.old.slots }
     ensures log { keeper.new.log ≡ keeper.old.log ++ did (Hear None) Done }
-    ensures own { IsOwnLog keeper.old.log note.deeds keeper.old.view }
+    ensures heard { IsPrefix note.deeds keeper.old.log }
+    ensures own { HasOwnLog D.settings keeper.old }
 {
     let Note { seat, domain: _ } = note;
     steps::hear_keeper(words, &mut keeper.seat, seat);

@@ -1,0 +1,18 @@
+-- What the keeper's log says of the keeper, as it is told whenever the keeper hears.
+use Rattle.std.specs.Prelude.{◌≡◌, ℕ, ◌<◌, length}
+use Rattle.registry_values.specs.declared.entry.Entry.{Entry}
+use Rattle.registry_values.specs.declared.settings.Settings.{Settings}
+use Rattle.registry_values.specs.declared.slot.Slot.TheVariants.{Retired}
+use Rattle.registry_values.specs.Slots.{slot_at}
+use Rattle.cpu_words.specs.Deeds.{changes_in, IsSnapped, AreMarksOf, AreSlotsOf, WordsGrow}
+use Rattle.passive_list.specs.Keepers.{OnKeeper}
+
+-- The history is as long as the log says, the marks and the slots, as the keeper has them, are in it, each retired entry was snapped on each CPU, and the words that were found grow
+pub record HasOwnLog (z : Settings) (a : OnKeeper) : Type 0 where
+  pub settings : a.view.settings ≡ z
+  pub size : length a.slots ≡ 32
+  pub changes : length a.view.history ≡ changes_in a.log
+  pub marks : AreMarksOf a.log a.view.marks
+  pub slots : AreSlotsOf z.cpus a.log a.slots
+  pub snapped : (t c : ℕ) (e : Entry) → slot_at a.slots t ≡ Retired e → c < z.cpus → (w : ℕ) × IsSnapped t c w a.log
+  pub grow : WordsGrow a.log
