@@ -26,9 +26,11 @@ use Rattle.cpu_words.specs.Keeping.{keeper_after_keep}
 use Rattle.passive_list.specs.Cpus.{OnCpu}
 use Rattle.passive_list.specs.Keepers.{OnKeeper}
 use Rattle.passive_list.specs.Notes.{HasHeardOn}
+use Rattle.passive_list.specs.Publishing.{HasAttached}
 use Rattle.passive_list.proofs.Preparing.{as_vacant_is}
+use Rattle.local_count.specs.Draining.{HasAttachedKeeping}
 use Rattle.name_registry.specs.Attaching.{given_entry, plain_slot, room_of}
-use Rattle.name_registry.specs.Meeting.{keeper_after_hear, HasSeenAttach}
+use Rattle.name_registry.specs.Meeting.{keeper_after_hear, keeper_after_tell, HasSeenAttach}
 use Rattle.name_registry.proofs.Heard.{seen_attach}
 
 -- The entry that is given
@@ -97,6 +99,14 @@ attach_met a x m n e b y heard same seen number after hears = (
   subst (λ (z : OnCpu). HasHeardOn b.view.history z y) same hears,
   seen_attach m.view.history x y e seen number (subst (λ (h : List Change). IsPrefix h y.view.pass) after hears.told),
 )
+
+-- telling the history changes nothing of it
+
+pub attached_told : (a : OnKeeper) (e : Entry) (b : OnKeeper) → HasAttached a e b → HasAttached a e (keeper_after_tell b)
+attached_told a e b has = record { entry = has.entry; slots = has.slots }
+
+pub keeping_told : (a : OnKeeper) (v : ReferenceView) (e : Entry) (b : OnKeeper) → HasAttachedKeeping a v e b → HasAttachedKeeping a v e (keeper_after_tell b)
+keeping_told a v e b has = record { vacated = has.vacated; kept = has.kept; attached = attached_told _ e b has.attached }
 
 -- a view whose slot was taken as vacant, and keeps a reference, has the history that it had
 pub keeping_history : (k : KeeperView) (t : ℕ) (v : ReferenceView) → (keeper_after_keep k t v).history ≡ k.history

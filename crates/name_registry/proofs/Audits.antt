@@ -69,7 +69,7 @@ in_view z a table k its rows n t e our is = ⊎_elim
     (λ (gone : slot_at (states_of rows) t ≡ Retired e). let here = retired_in a k rows t e our.rows gone in (here.0, inr here.1))
     is
 
-pub has : (z : TableId) (a : Settings) (table : TableId) (k : KeeperView) (its : Settings) (rows : List KeptSlot) (n : ℕ) (x : OnKeeper) (t m : ℕ) → IsOurKeeper z a table k its rows n → record { view = k; slots = states_of rows } ≡ x → Occupies x t m → Has a x rows t m
+pub has : {log : List Deed} (z : TableId) (a : Settings) (table : TableId) (k : KeeperView) (its : Settings) (rows : List KeptSlot) (n : ℕ) (x : OnKeeper) (t m : ℕ) → IsOurKeeper z a table k its rows n → record { view = k; slots = states_of rows; log = log } ≡ x → Occupies x t m → Has a x rows t m
 has z a table k its rows n x t m our is there =
     let e = there.0 in
     let here = in_view z a table k its rows n t e our (subst (λ (y : OnKeeper). IsIn e (slot_at y.slots t)) (sym is) there.1) in

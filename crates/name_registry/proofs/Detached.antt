@@ -18,6 +18,7 @@ use Rattle.registry_values.proofs.Slots.{key_same, live_tells}
 use Rattle.protocol.proofs.slots.Numbers.{position_fails}
 use Rattle.protocol.proofs.slots.Occupied.{in_within, live_one}
 use Rattle.cpu_words.specs.declared.view.KeeperView.{KeeperView}
+use Rattle.cpu_words.specs.declared.view.Deed.{Deed}
 use Rattle.cpu_words.proofs.by_keeper.KeeperSees.{seen_by_keeper}
 use Rattle.passive_list.specs.declared.keeper.KeptSlot.{KeptSlot}
 use Rattle.passive_list.specs.Cpus.{OnCpu}
@@ -26,7 +27,7 @@ use Rattle.passive_list.specs.Notes.{HasHeardOn}
 use Rattle.passive_list.specs.Retiring.{HasDetached}
 use Rattle.passive_list.proofs.Attached.{rows_live, live_rows}
 use Rattle.name_registry.specs.Detaching.{IsDetachRefusal, IsLookupNow, IsLivePlace, HasDetachedFor}
-use Rattle.name_registry.specs.Meeting.{keeper_after_hear, is_inside}
+use Rattle.name_registry.specs.Meeting.{keeper_after_hear, keeper_after_tell, is_inside}
 use Rattle.name_registry.proofs.Heard.{seen_detach}
 
 -- The live entries
@@ -37,7 +38,7 @@ pub record ShowsLive (x : OnKeeper) : Type 0 where
   pub placed : (e : Entry) → IsLiveAt x.view.history (length x.view.history) e → slot_at x.slots e.slot ≡ Live e
 
 -- by any state of the core that shows its view
-pub keeper_shows : (z : TableId) (a : Settings) (table : TableId) (k : KeeperView) (its : Settings) (rows : List KeptSlot) (n : ℕ) (x : OnKeeper) → IsOurKeeper z a table k its rows n → record { view = k; slots = states_of rows } ≡ x → ShowsLive x
+pub keeper_shows : {log : List Deed} (z : TableId) (a : Settings) (table : TableId) (k : KeeperView) (its : Settings) (rows : List KeptSlot) (n : ℕ) (x : OnKeeper) → IsOurKeeper z a table k its rows n → record { view = k; slots = states_of rows; log = log } ≡ x → ShowsLive x
 keeper_shows z a table k its rows n x our is =
     let p = our.is_shown in
     let seen = seen_by_keeper p.g k p.good p.shown in
@@ -72,15 +73,29 @@ place_is a x m key t e heard found is =
 
 -- What it leaves
 
+-- telling the history changes nothing of it
+detached_told : (a : OnKeeper) (t : ℕ) (e : Entry) (b : OnKeeper) → HasDetached a t e b → HasDetached a t e (keeper_after_tell b)
+detached_told a t e b has = record {
+  before = has.before;
+  is_before = has.is_before;
+  link = has.link;
+  leads = has.leads;
+  made = has.made;
+  marks = has.marks;
+  snapshots = has.snapshots;
+  view = has.view;
+  slots = has.slots;
+}
+
 -- The keeper m heard the CPU x, the entry e in the slot t was retired, and the CPU heard the history that the keeper b has then.
 pub detached_for : (a : OnKeeper) (x : OnCpu) (m : OnKeeper) (n : OnCpu) (t : ℕ) (e : Entry) (b : OnKeeper) (y : OnCpu) → m ≡ keeper_after_hear a x → n ≡ x → IsPrefix x.view.pass m.view.history → IsAttached a.view.history e → e.slot ≡ t
-    → HasDetached m t e b → HasHeardOn b.view.history n y → HasDetachedFor a x e b y
+    → HasDetached m t e b → HasHeardOn b.view.history n y → HasDetachedFor a x e (keeper_after_tell b) y
 detached_for a x m n t e b y heard same seen attached slot has hears =
     let before = subst (λ (k : OnKeeper). IsPrefix x.view.pass k.view.history) heard seen in
     let done = subst (λ (u : ℕ). HasDetached (keeper_after_hear a x) u e b) (sym slot) (subst (λ (k : OnKeeper). HasDetached k t e b) heard has) in
     record {
       seen = before;
-      keeper = done;
+      keeper = detached_told (keeper_after_hear a x) e.slot e b done;
       cpu = subst (λ (z : OnCpu). HasHeardOn b.view.history z y) same hears;
       own = seen_detach a.view.history x y e before attached (subst (λ (h : List Change). IsPrefix h y.view.pass) (ap (λ (k : KeeperView). k.history) done.view) hears.told);
     }

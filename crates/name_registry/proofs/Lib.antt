@@ -7,6 +7,7 @@ pub mod Exact
 pub mod Glanced
 pub mod Held
 pub mod Heard
+pub mod Looks
 pub mod Rows
 pub mod Worked
 pub mod Seen

@@ -10,6 +10,7 @@ use Rattle.registry_values.specs.Slots.{is_plain, is_live_as}
 use Rattle.protocol.specs.State.{kept_at}
 use Rattle.registry_values.proofs.Fit.{ranges}
 use Rattle.cpu_words.specs.declared.view.KeeperView.{KeeperView}
+use Rattle.cpu_words.specs.declared.view.Deed.{Deed}
 use Rattle.passive_list.specs.declared.keeper.KeptSlot.{KeptSlot}
 use Rattle.passive_list.specs.Keepers.{OnKeeper, row_at, state_of, states_of, IsOurKeeper}
 use Rattle.name_registry.specs.Attaching.{plain_slot}
@@ -41,7 +42,7 @@ pairs (r ∷ rows) (x ∷ keeps) le each =
     let rest = pairs rows keeps (omega (arith, le)) (λ t lt. each (suc t) (omega (arith, lt))) in
     rw (rest, first) refl
 
-pub plain_in_rows : (z : TableId) (a : Settings) (table : TableId) (k : KeeperView) (its : Settings) (rows : List KeptSlot) (n : ℕ) (x : OnKeeper) → IsOurKeeper z a table k its rows n → record { view = k; slots = states_of rows } ≡ x → position is_plain_row (take its.slots rows) ≡ plain_slot x
+pub plain_in_rows : {log : List Deed} (z : TableId) (a : Settings) (table : TableId) (k : KeeperView) (its : Settings) (rows : List KeptSlot) (n : ℕ) (x : OnKeeper) → IsOurKeeper z a table k its rows n → record { view = k; slots = states_of rows; log = log } ≡ x → position is_plain_row (take its.slots rows) ≡ plain_slot x
 plain_in_rows z a table k its rows n x our is =
     let size : length k.keeps ≡ a.slots = our.view.sized.keeps in
     let most = (ranges a our.view.fit).slots in

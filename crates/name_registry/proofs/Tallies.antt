@@ -24,6 +24,7 @@ use Rattle.protocol.specs.State.{State, mark_at, count_at, total_at}
 use Rattle.registry_values.specs.Marks.{no_mark}
 use Rattle.protocol.proofs.slots.Occupied.{in_within}
 use Rattle.cpu_words.specs.declared.view.KeeperView.{KeeperView}
+use Rattle.cpu_words.specs.declared.view.Deed.{Deed}
 use Rattle.cpu_words.specs.Locals.{IsPlaceCount}
 use Rattle.cpu_words.specs.Views.{number_at, collected_net, collected_one, CpuShown}
 use Rattle.cpu_words.proofs.by_cpu.Counting.{place_is}
@@ -93,7 +94,7 @@ taken_at a k rows t view agree = ⊎_elim
     subst (TakenAs k t) (sym (state_at rows t ∙ agree.beyond t past)) (inl none))
     (cases_lt t a.slots)
 
-pub known_keeper : (z : TableId) (a : Settings) (table : TableId) (k : KeeperView) (its : Settings) (rows : List KeptSlot) (n : ℕ) (x : OnKeeper) → IsOurKeeper z a table k its rows n → record { view = k; slots = states_of rows } ≡ x → IsKeeperOf a x
+pub known_keeper : {log : List Deed} (z : TableId) (a : Settings) (table : TableId) (k : KeeperView) (its : Settings) (rows : List KeptSlot) (n : ℕ) (x : OnKeeper) → IsOurKeeper z a table k its rows n → record { view = k; slots = states_of rows; log = log } ≡ x → IsKeeperOf a x
 known_keeper z a table k its rows n x our is = subst (IsKeeperOf a) is record {
   view = our.view;
   is_shown = our.is_shown;

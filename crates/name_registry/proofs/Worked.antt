@@ -21,6 +21,7 @@ use Rattle.registry_values.specs.Slots.{slot_at}
 use Rattle.protocol.proofs.slots.MarkRows.{mark_grows, mark_there, marks_grow_none, marks_grow_more, passed_from, clear_from, collected_from}
 use Rattle.protocol.proofs.slots.Cells.{total_other}
 use Rattle.cpu_words.specs.declared.view.KeeperView.{KeeperView}
+use Rattle.cpu_words.specs.declared.view.Deed.{Deed}
 use Rattle.cpu_words.specs.declared.view.View.TheVariants.{Keeper}
 use Rattle.cpu_words.specs.Rule.{IsShown}
 use Rattle.cpu_words.specs.Steps.{Makes}
@@ -48,7 +49,7 @@ keeps_iface k t d e is_shown is kept =
     iface_if (kept_at k.keeps t) e.rec.kind d (keeps.rightly t e (inr is)) kept
 
 -- a keeper has work at each slot that it has as retired
-pub may_work : (z : TableId) (a : Settings) (table : TableId) (k : KeeperView) (its : Settings) (rows : List KeptSlot) (n : ℕ) (x : OnKeeper) (t : ℕ) (e : Entry) → IsOurKeeper z a table k its rows n → record { view = k; slots = states_of rows } ≡ x
+pub may_work : {log : List Deed} (z : TableId) (a : Settings) (table : TableId) (k : KeeperView) (its : Settings) (rows : List KeptSlot) (n : ℕ) (x : OnKeeper) (t : ℕ) (e : Entry) → IsOurKeeper z a table k its rows n → record { view = k; slots = states_of rows; log = log } ≡ x
     → slot_at x.slots t ≡ Retired e → MayWork a x t
 may_work z a table k its rows n x t e our is retired =
     let there : slot_at (states_of rows) t ≡ Retired e = ap (λ (y : OnKeeper). slot_at y.slots t) is ∙ retired in
@@ -105,13 +106,13 @@ cleared_grows m w = record { snapshot = refl; passed = λ p. p; clear = λ p. or
 
 -- a look makes m of the mark of c
 pub look_leaves : (a b : OnKeeper) (ev : Event) (r : Reply) (t c : ℕ) (m : Mark) → Grows (mark_at a.view.marks t c) m → b.view ≡ marked a.view ev r t c m → b.slots ≡ a.slots → HasLookedFor a t b
-look_leaves a b ev r t c m grows view slots = subst (λ (l : KeeperView). HasLookedFor a t (record { view = l; slots = b.slots })) (sym view) record {
+look_leaves a b ev r t c m grows view slots = subst (λ (l : KeeperView). HasLookedFor a t (record b { view = l })) (sym view) record {
   worked = record { only = refl; marks = mark_grows a.view.marks t c m grows; totals = λ u off. refl; looks = omega arith; slots = slots };
   totals = refl;
 }
 
 pub collection_leaves : (a b : OnKeeper) (t c : ℕ) → HasCollectedInto a t c b → HasWorkedFor a t b
-collection_leaves a b t c has = subst (λ (l : KeeperView). HasWorkedFor a t (record { view = l; slots = b.slots })) (sym has.view) record {
+collection_leaves a b t c has = subst (λ (l : KeeperView). HasWorkedFor a t (record b { view = l })) (sym has.view) record {
   only = refl;
   marks = mark_grows a.view.marks t c _ (record { snapshot = refl; passed = λ p. p; clear = λ p. p; collected = λ p. refl });
   totals = λ u off. total_other a.view.totals t _ u off;

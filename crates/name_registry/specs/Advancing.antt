@@ -1,5 +1,5 @@
 -- A turn of the work on a retired entry: what it answers is what the keeper saw, and what it leaves.
-use Rattle.std.specs.Prelude.{◌≡◌, ◌≢◌, ◌⊎◌, ℕ, ◌<◌, ◌≤◌, ◌%◌, slice_set, true, false, Some, None, Bool, Result, Ok, Err}
+use Rattle.std.specs.Prelude.{◌≡◌, ◌≢◌, ◌⊎◌, ℕ, zero, suc, ◌<◌, ◌≤◌, ◌%◌, List, [], ◌∷◌, ◌++◌, slice_set, Option, true, false, Some, None, Bool, Result, Ok, Err}
 use Rattle.registry_values.specs.declared.entry.Entry.{Entry}
 use Rattle.registry_values.specs.declared.entry.Kind.TheVariants.{Iface}
 use Rattle.protocol.specs.declared.event.Event.{Event}
@@ -15,7 +15,13 @@ use Rattle.registry_values.specs.declared.slot.Slot.TheVariants.{Vacant, Retired
 use Rattle.registry_values.specs.Slots.{is_retired_as, retired_slot, slot_at}
 use Rattle.protocol.specs.Marking.{MarksGrow}
 use Rattle.protocol.specs.State.{mark_at, total_at, kept_at}
+use Rattle.cpu_words.specs.declared.view.Deed.{Deed}
 use Rattle.cpu_words.specs.declared.view.KeeperView.{KeeperView}
+use Rattle.cpu_words.specs.declared.view.View.TheVariants.{Keeper}
+use Rattle.cpu_words.specs.Deeds.{has_looked}
+use Rattle.cpu_words.specs.Grace.{HasLooked}
+use Rattle.cpu_words.specs.Rule.{did}
+use Rattle.cpu_words.specs.Steps.{Makes}
 use Rattle.passive_list.specs.declared.keeper.KeptSlot.{KeptSlot}
 use Rattle.passive_list.specs.Keepers.{OnKeeper}
 use Rattle.passive_list.specs.Vacating.{IsDrainedOn}
@@ -46,6 +52,41 @@ pub record HasLookedFor (a : OnKeeper) (t : ℕ) (b : OnKeeper) : Type 0 where
   pub worked : HasWorkedFor a t b
   pub totals : b.view.totals ≡ a.view.totals
 
+-- Which looks were made for the slot t, and that they stand in the keeper's log
+
+-- just one look more at the section word of c, which was w: its mark says what the word tells
+pub record LooksFor (a : OnKeeper) (t c w : ℕ) (b : OnKeeper) : Type 0 where
+  pub event : Makes (Look (Some t) c) (Word w) (Keeper a.view) (Keeper b.view)
+  pub change : HasLooked a.view (Look (Some t) c) (Word w) t c w b.view
+  pub slots : b.slots ≡ a.slots
+  pub log : b.log ≡ a.log ++ did (Look (Some t) c) (Word w)
+
+-- at a CPU that had passed none, else one
+abbrev pub LooksUnless : Bool → OnKeeper → ℕ → ℕ → OnKeeper → Type 0
+LooksUnless true a t c b = b ≡ a
+LooksUnless false a t c b = (w : ℕ) × LooksFor a t c w b
+
+-- so at the first n CPUs, CPU 0 first
+abbrev pub LooksBelow : ℕ → OnKeeper → ℕ → OnKeeper → Type 0
+LooksBelow zero a t b = b ≡ a
+LooksBelow (suc n) a t b = (m : OnKeeper) × LooksBelow n a t m × LooksUnless (mark_at m.view.marks t n).passed m t n b
+
+-- how many CPUs: up to the one that was told, or all
+abbrev pub looked_at : ℕ → Option ℕ → ℕ
+looked_at cpus None = cpus
+looked_at cpus (Some c) = suc c
+
+-- these are looks for the slot t alone
+abbrev pub AreLooks : ℕ → List Deed → Type 0
+AreLooks t [] = Unit {0}
+AreLooks t (d ∷ ds) = ((c : ℕ) × (w : ℕ) × (d ≡ has_looked t c w)) × AreLooks t ds
+
+-- the log went on by such looks
+pub record GoesOnByLooks (t : ℕ) (old new : List Deed) : Type 0 where
+  pub since : List Deed
+  pub are : new ≡ old ++ since
+  pub only : AreLooks t since
+
 -- what is so of the marks of the first n CPUs for the slot t
 
 abbrev pub PassedBelow : KeeperView → ℕ → ℕ → Type 0
@@ -64,10 +105,15 @@ pub record HasLookedLast (a b : KeeperView) (e : Event) (w : ℕ) : Type 0 where
   pub more : a.looks < b.looks
   pub last : b.last_look ≡ Some (record { event = e; reply = Word w })
 
+-- since the log `old` the last deed is this one
+abbrev pub EndsIn : List Deed → Deed → List Deed → Type 0
+EndsIn old d new = (between : List Deed) × (new ≡ old ++ between ++ d ∷ [])
+
 -- it saw the section word of c odd and as in the snapshot: the section that was open then is open, and may hold the entry
 pub record SeesSection (a : OnKeeper) (t c : ℕ) (b : OnKeeper) : Type 0 where
   pub word : ℕ
   pub look : HasLookedLast a.view b.view (Look (Some t) c) word
+  pub log : EndsIn a.log (has_looked t c word) b.log
   pub odd : word % 2 ≡ 1
   pub snapshot : (mark_at b.view.marks t c).snapshot ≡ Some word
   pub unpassed : (mark_at b.view.marks t c).passed ≡ false

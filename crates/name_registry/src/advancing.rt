@@ -7,7 +7,7 @@ ghost use Rattle.registry_values.specs.Slots.{retired_slot, slot_at};
 ghost use Rattle.protocol.specs.State.{mark_at};
 ghost use Rattle.cpu_words.specs.Domains.{AreWordsOf};
 ghost use Rattle.passive_list.specs.Vacating.{IsDrainedOn};
-ghost use Rattle.name_registry.specs.Advancing.{HasAdvanced, Meets, MeetsGrace, MeetsPassive, HasLookedFor, HasWorkedFor, MayWork, SeesSection, SeesPassive, Settles, HasEnded, PassedBelow, ClearBelow, CollectedBelow, is_retired_row};
+ghost use Rattle.name_registry.specs.Advancing.{HasAdvanced, Meets, MeetsGrace, MeetsPassive, HasLookedFor, HasWorkedFor, GoesOnByLooks, LooksBelow, LooksUnless, MayWork, SeesSection, SeesPassive, Settles, HasEnded, PassedBelow, ClearBelow, CollectedBelow, is_retired_row, looked_at};
 ghost use Rattle.name_registry.specs.Locking.{IsStageOf};
 
 use cpu_words::{Domain, Words};
@@ -70,14 +70,16 @@ fn advance_slot<D: Domain>(words: &Words, keeper: &mut Keeper<D>, slot: u8) -> S
     settle(words, keeper, slot)
 }
 
-/// Looks at the section word of each CPU that hasn't passed for the slot's retired entry, up to the first that doesn't pass: it is the
-/// answer.
+/// Looks at the section word of each CPU that hasn't passed for the slot's retired entry, once each, up to the first that doesn't pass: it is
+/// the answer. The keeper's log goes on by these looks alone.
 pub(crate) fn look_at_all<D: Domain>(words: &Words, keeper: &mut Keeper<D>, slot: u8) -> Option<u8>
     requires words { AreWordsOf words.now D.table D.settings }
     requires retired { (e : Entry) × (slot_at keeper.old.slots slot ≡ Retired e) }
     ensures met { IfSome result (λ c. MeetsGrace keeper.old slot c keeper.new) }
     ensures passed { result ≡ None → PassedBelow keeper.new.view slot D.settings.cpus }
     ensures leaves { HasLookedFor keeper.old slot keeper.new }
+    ensures looks { LooksBelow (looked_at D.settings.cpus result) keeper.old slot keeper.new }
+    ensures log { GoesOnByLooks slot keeper.old.log keeper.new.log }
 {
     for cpu in 0..keeper.settings.cpus {
         if !passes(words, keeper, slot, cpu) {
@@ -95,6 +97,7 @@ fn passes<D: Domain>(words: &Words, keeper: &mut Keeper<D>, slot: u8, cpu: u8) -
     ensures passed { result ≡ (mark_at keeper.new.view.marks slot cpu).passed }
     ensures sees { result ≡ false → SeesSection keeper.old slot cpu keeper.new }
     ensures leaves { HasLookedFor keeper.old slot keeper.new }
+    ensures looks { LooksUnless (mark_at keeper.old.view.marks slot cpu).passed keeper.old slot cpu keeper.new }
 {
     if keeper.mark(slot, cpu).passed {
         return true;

@@ -4,7 +4,7 @@ ghost use Rattle.std.specs.Prelude.{◌≡◌};
 ghost use mathlib.Core.List.{IsPrefix};
 ghost use Rattle.cpu_words.specs.Domains.{AreWordsOf};
 ghost use Rattle.passive_list.specs.Notes.{HasHeardOn};
-ghost use Rattle.name_registry.specs.Meeting.{keeper_after_hear};
+ghost use Rattle.name_registry.specs.Meeting.{keeper_after_hear, keeper_after_tell};
 
 use cpu_words::{Domain, Words};
 use passive_list::{Cpu, Keeper, hear, hear_keeper, tell, tell_keeper};
@@ -23,7 +23,7 @@ pub(crate) fn hear_cpu<D: Domain>(words: &Words, keeper: &mut Keeper<D>, cpu: &m
 /// The CPU hears the whole history: what the keeper did is in its pass.
 pub(crate) fn show_cpu<D: Domain>(words: &Words, keeper: &mut Keeper<D>, cpu: &mut Cpu<D>)
     requires words { AreWordsOf words.now D.table D.settings }
-    ensures keeper { keeper.new ≡ keeper.old }
+    ensures keeper { keeper.new ≡ keeper_after_tell keeper.old }
     ensures cpu { HasHeardOn keeper.old.view.history cpu.old cpu.new }
 {
     let note = tell_keeper(words, keeper);

@@ -8,7 +8,7 @@ returns-then-mark-clause-leaves g c = looked_none c.args.keeper.now c.args.slot
 
 pub returns-clause-sees : goal.returns-clause-sees
 returns-clause-sees g c = λ unset. let change = c.look.ensures.change in
-    sees_section g.D.Domain.settings c.args.keeper.now c.look.new.keeper c.args.slot c.args.cpu change.0 c.requires.works c.requires.cpu change.1 change.2 (sym c.look.ensures.passed ∙ unset)
+    sees_section g.D.Domain.settings c.args.keeper.now c.look.new.keeper c.args.slot c.args.cpu change.0 c.requires.works c.requires.cpu change.1 change.2 change.3 (sym c.look.ensures.passed ∙ unset)
 
 pub returns-clause-leaves : goal.returns-clause-leaves
 returns-clause-leaves g c = let change = c.look.ensures.change in

@@ -10,7 +10,7 @@ use Rattle.cpu_words.specs.declared.view.KeeperView.{KeeperView}
 use Rattle.passive_list.specs.Keepers.{OnKeeper}
 use Rattle.local_count.specs.Draining.{HasAttachedKeeping}
 use Rattle.name_registry.specs.Attaching.{HasAttachedIfaceFor}
-use Rattle.name_registry.proofs.Attached.{a_driver, inside_is, taken_tells, attach_met, keeping_history}
+use Rattle.name_registry.proofs.Attached.{a_driver, inside_is, taken_tells, attach_met, keeping_told, keeping_history}
 use Rattle.name_registry.proofs.attaching.attach_iface_in.Goals as goal
 
 pub publish_iface-entry-requires-clause-vacant : goal.publish_iface-entry-requires-clause-vacant
@@ -57,7 +57,7 @@ returns-clause-ok g c =
     let met = attach_met a x m c.hear_cpu.new.cpu e b c.show_cpu.new.cpu c.hear_cpu.ensures.keeper c.hear_cpu.ensures.cpu c.hear_cpu.ensures.seen (ap (λ x. x.number) c.publish_iface-entry.ensures.entry) after c.show_cpu.ensures.cpu in
     subst (λ (k : OnKeeper). HasAttachedIfaceFor a x v e k c.show_cpu.new.cpu) (sym c.show_cpu.ensures.keeper) record {
       seen = met.0;
-      keeper = subst (λ (k : OnKeeper). HasAttachedKeeping k v e b) c.hear_cpu.ensures.keeper has;
+      keeper = keeping_told _ v e b (subst (λ (k : OnKeeper). HasAttachedKeeping k v e b) c.hear_cpu.ensures.keeper has);
       cpu = met.1;
       own = met.2;
     }

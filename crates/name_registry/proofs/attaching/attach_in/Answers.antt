@@ -7,7 +7,7 @@ use Rattle.cpu_words.specs.declared.view.KeeperView.{KeeperView}
 use Rattle.passive_list.specs.Keepers.{OnKeeper}
 use Rattle.passive_list.specs.Publishing.{HasAttached}
 use Rattle.name_registry.specs.Attaching.{HasAttachedFor}
-use Rattle.name_registry.proofs.Attached.{inside_is, taken_tells, driver_keeps, attach_met}
+use Rattle.name_registry.proofs.Attached.{inside_is, taken_tells, driver_keeps, attach_met, attached_told}
 use Rattle.name_registry.proofs.attaching.attach_in.Goals as goal
 
 pub publish-entry-requires-clause-vacant : goal.publish-entry-requires-clause-vacant
@@ -50,7 +50,7 @@ returns-clause-ok g c =
     let met = attach_met a x m c.hear_cpu.new.cpu e b c.show_cpu.new.cpu c.hear_cpu.ensures.keeper c.hear_cpu.ensures.cpu c.hear_cpu.ensures.seen (ap (λ x. x.number) c.publish-entry.ensures.entry) (ap (λ (k : KeeperView). k.history) has.entry.view) c.show_cpu.ensures.cpu in
     subst (λ (k : OnKeeper). HasAttachedFor a x e k c.show_cpu.new.cpu) (sym c.show_cpu.ensures.keeper) record {
       seen = met.0;
-      keeper = subst (λ (k : OnKeeper). HasAttached k e b) c.hear_cpu.ensures.keeper has;
+      keeper = attached_told _ e b (subst (λ (k : OnKeeper). HasAttached k e b) c.hear_cpu.ensures.keeper has);
       cpu = met.1;
       own = met.2;
     }
