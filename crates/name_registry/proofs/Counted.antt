@@ -11,7 +11,7 @@ use Rattle.registry_values.specs.declared.stage.Stage.{Stage}
 use Rattle.registry_values.specs.declared.stage.Stage.TheVariants.{Grace, Passive, Local, Freed}
 use Rattle.registry_values.specs.declared.slot.Key.{Key}
 use Rattle.registry_values.specs.Answers as answers
-use Rattle.registry_values.specs.Slots.{is_iface, retired_slot}
+use Rattle.registry_values.specs.Slots.{is_iface, is_retired_as, slot_at}
 use Rattle.registry_values.proofs.Answers.{attach_tells}
 use Rattle.registry_values.proofs.Fit.{ranges}
 use Rattle.atomic_table.specs.Seated.{TableId}
@@ -28,7 +28,7 @@ use Rattle.name_registry.specs.Attaching.{HasAttachedFor, HasAttachedIfaceFor, a
 use Rattle.name_registry.specs.Changes.{HasMade, number_of, weigh, weight}
 use Rattle.name_registry.specs.Detaching.{HasDetachedFor, IsDetachAnswer}
 use Rattle.name_registry.specs.Meeting.{HasLearned, HasSeenAttach, HasSeenDetach, keeper_after_hear, is_inside}
-use Rattle.name_registry.specs.Performing.{GlancesBelow, HasBegun, HasGlanced, HasPassedAll, Hold, Looking, PassesAt, PassesBelow, PassesNumber, SnapshotsBelow}
+use Rattle.name_registry.specs.Performing.{GlancesBelow, HasBegun, HasGlanced, HasPassedAll, Hold, Looking, PassesBelow, PassesIf, PassesNumber, SnapshotsBelow}
 use Rattle.name_registry.proofs.Glanced.{OnlyLooked, snapshots_look, glances_look}
 use Rattle.name_registry.proofs.Attached.{given_takes, keeping_history}
 
@@ -134,17 +134,17 @@ begun_same z a x snapshots retired b y has = hold_same (SnapshotsBelow snapshots
 pub glanced_same : (z : Settings) (snapshots : List ℕ) (a : OnKeeper) (x : OnCpu) (seen : List Bool) (told : Option ℕ) (after : List Bool) (b : OnKeeper) (y : OnCpu) → HasGlanced z snapshots a x seen told after b y → Unchanged a b
 glanced_same z snapshots a x seen told after b y has = hold_same (GlancesBelow snapshots seen after z.cpus) a x b y (λ k l is. (glances_look snapshots seen after z.cpus k l is).only) has.hold
 
-passes_at_same : (z : Settings) (a : OnKeeper) (o : Option ℕ) (b : OnKeeper) → PassesAt z a o b → Unchanged a b
-passes_at_same z a None b is = ap (λ (k : OnKeeper). k.view.history) is
-passes_at_same z a (Some t) b has = worked_same a t b has.leaves.worked
+passes_if_same : (still : Bool) (z : Settings) (a : OnKeeper) (t : ℕ) (b : OnKeeper) → PassesIf still z a t b → Unchanged a b
+passes_if_same true z a t b has = worked_same a t b has.leaves.worked
+passes_if_same false z a t b is = ap (λ (k : OnKeeper). k.view.history) is
 
-passes_number_same : (z : Settings) (a : OnKeeper) (o : Option ℕ) (b : OnKeeper) → PassesNumber z a o b → Unchanged a b
-passes_number_same z a None b is = ap (λ (k : OnKeeper). k.view.history) is
-passes_number_same z a (Some n) b is = passes_at_same z a (retired_slot a.slots n) b is
+passes_number_same : (z : Settings) (a : OnKeeper) (t : ℕ) (o : Option ℕ) (b : OnKeeper) → PassesNumber z a t o b → Unchanged a b
+passes_number_same z a t None b is = ap (λ (k : OnKeeper). k.view.history) is
+passes_number_same z a t (Some n) b is = passes_if_same (is_retired_as n (slot_at a.slots t)) z a t b is
 
 passes_same : (z : Settings) (numbers : List (Option ℕ)) (n : ℕ) (a b : OnKeeper) → PassesBelow z numbers n a b → Unchanged a b
 passes_same z numbers zero a b is = ap (λ (k : OnKeeper). k.view.history) is
-passes_same z numbers (suc n) a b is = passes_number_same z is.0 _ b is.2 ∙ passes_same z numbers n a is.0 is.1
+passes_same z numbers (suc n) a b is = passes_number_same z is.0 n _ b is.2 ∙ passes_same z numbers n a is.0 is.1
 
-pub passed_same : (z : Settings) (a : OnKeeper) (numbers : List (Option ℕ)) (b : OnKeeper) → HasPassedAll z a numbers b → Unchanged a b
-passed_same z a numbers b has = passes_same z numbers 32 a b has
+pub passed_same : (z : Settings) (a : OnKeeper) (x : OnCpu) (numbers : List (Option ℕ)) (b : OnKeeper) (y : OnCpu) → HasPassedAll z a x numbers b y → Unchanged a b
+passed_same z a x numbers b y has = ap (λ (k : OnKeeper). k.view.history) has.is ∙ passes_same z numbers 32 (keeper_after_hear a x) has.end has.passes

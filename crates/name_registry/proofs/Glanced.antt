@@ -3,7 +3,7 @@ use Rattle.std.proofs.Common.{◌≡◌, ℕ, zero, suc, ◌+◌, ◌<◌, ◌�
 use Rattle.std.proofs.lemmas.List.{get_or-set_same, get_or-set_other}
 use mathlib.Core.List.{IsPrefix}
 use Rattle.protocol.specs.declared.event.Event.{Event}
-use Rattle.protocol.specs.declared.event.Event.TheVariants.{Hear, Look, Snapshot}
+use Rattle.protocol.specs.declared.event.Event.TheVariants.{Hear, Look, Snapshot, Tell}
 use Rattle.protocol.specs.declared.event.Reply.TheVariants.{Done, Word}
 use Rattle.registry_values.specs.declared.entry.Change.{Change}
 use Rattle.registry_values.specs.declared.refusal.Refusal.{Refusal}
@@ -12,7 +12,6 @@ use Rattle.registry_values.specs.declared.refusal.Refusal.TheVariants.{Inside}
 use Rattle.registry_values.specs.Answers.{wait_answer}
 use Rattle.atomic_table.specs.Seated.{TableId}
 use Rattle.cpu_words.specs.declared.view.KeeperView.{KeeperView}
-use Rattle.cpu_words.specs.declared.view.Deed.{Deed}
 use Rattle.cpu_words.specs.Deeds.{changes_in}
 use Rattle.cpu_words.specs.Grace.{MayGlance}
 use Rattle.cpu_words.specs.Notes.{keeper_with_heard}
@@ -142,16 +141,16 @@ still_ours z a table table' k l its rows n our same only is_shown =
     }
 
 -- a hold, from what its three parts say: the hearing, which leaves the CPU, the looks, and the telling
-pub made_hold : (looks : Looking → Looking → Type 0) (a : OnKeeper) (x same : OnCpu) (h l : Looking) (log : List Deed) (b : OnKeeper) (y : OnCpu) → h ≡ record { view = keeper_with_heard a.view x.view.pass; log = log ++ did (Hear None) Done }
-    → IsPrefix x.deeds log → length x.view.pass ≤ changes_in log → same ≡ x → looks h l → b.view ≡ l.view → b.slots ≡ a.slots → HasHeardOn l.view.history same y → IsPrefix l.log y.deeds → Hold looks a x b y
-made_hold looks a x same h l log b y heard known seen is made view slots hears told = record {
-  log = log;
+pub made_hold : (looks : Looking → Looking → Type 0) (a : OnKeeper) (x same : OnCpu) (h l : Looking) (b : OnKeeper) (y : OnCpu) → h ≡ record { view = keeper_with_heard a.view x.view.pass; log = a.log ++ did (Hear None) Done }
+    → IsPrefix x.deeds a.log → length x.view.pass ≤ changes_in a.log → same ≡ x → looks h l → b.view ≡ l.view → b.slots ≡ a.slots → b.log ≡ l.log ++ did (Tell None) Done → HasHeardOn l.view.history same y → IsPrefix b.log y.deeds → Hold looks a x b y
+made_hold looks a x same h l b y heard known seen is made view slots log hears told = record {
   known = known;
   seen = seen;
   end = l;
   made = subst (λ (k : Looking). looks k l) heard made;
   view = view;
   slots = slots;
+  log = log;
   hears = subst (λ (o : OnCpu). HasHeardOn b.view.history o y) is (subst (λ (v : KeeperView). HasHeardOn v.history same y) (sym view) hears);
   told = told;
 }

@@ -16,5 +16,6 @@ pub mod Tallies
 pub mod Opened
 pub mod Owned
 pub mod Counted
+pub mod Passed
 pub mod Waited
 pub mod Weights

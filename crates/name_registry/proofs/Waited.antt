@@ -1,10 +1,10 @@
--- What the caller's CPU knows once a perform is done: the keeper saw each CPU out of a section, after it had heard the caller.
-use Rattle.std.proofs.Common.{◌≡◌, ◌⊎◌, inl, inr, ⊎_elim, ℕ, zero, suc, ◌<◌, ◌≤◌, Bool, true, false, not, ◌||◌, ◌==◌, List, [], ◌∷◌, ◌++◌, length, get_or, Option, Some, None, Result, Ok, Err, IfOk, refl, sym, ap, ◌∙◌, subst, append_assoc, arith}
-use Rattle.std.proofs.lemmas.Bool.{or_cases, not-true, false≢true, eqb-true, eqb-false, cases_eq, cases_lt, not-false}
+-- What the caller's CPU knows once a perform is done: the keeper saw each CPU out of a section, after it had heard the caller, and what had been detached by then has passed.
+use Rattle.std.proofs.Common.{◌≡◌, ◌⊎◌, inl, inr, ⊎_elim, ℕ, zero, suc, ◌<◌, ◌≤◌, Bool, true, false, not, ◌==◌, List, [], ◌∷◌, ◌++◌, length, get_or, Option, Some, None, Result, IfOk, refl, sym, ap, ◌∙◌, subst, append_assoc, arith}
+use Rattle.std.proofs.lemmas.Bool.{or_cases, not-true, false≢true, eqb-true, eqb-false, cases_lt, not-false}
 use Rattle.std.proofs.lemmas.List.{append-nil}
 use mathlib.Core.List.{IsPrefix}
-use Rattle.protocol.specs.declared.event.Event.TheVariants.{Hear, Look, Snapshot}
-use Rattle.protocol.specs.declared.event.Reply.TheVariants.{Done, Word}
+use Rattle.protocol.specs.declared.event.Event.TheVariants.{Hear, Tell}
+use Rattle.protocol.specs.declared.event.Reply.TheVariants.{Done}
 use Rattle.protocol.specs.Laws.{HasMoved}
 use Rattle.protocol.proofs.slots.Cells.{get_or_all}
 use Rattle.registry_values.specs.declared.refusal.Refusal.{Refusal}
@@ -13,16 +13,17 @@ use Rattle.registry_values.specs.Answers.{wait_answer}
 use Rattle.registry_values.specs.Marks.{is_even, is_out}
 use Rattle.registry_values.proofs.Least.{least_none}
 use Rattle.cpu_words.specs.declared.view.Deed.{Deed}
-use Rattle.cpu_words.specs.Deeds.{changes_in, has_taken, has_found, IsSeenOut, HasWaited}
-use Rattle.cpu_words.specs.Notes.{keeper_with_heard}
+use Rattle.cpu_words.specs.Deeds.{changes_in, has_taken, has_found, HasPassedOn, HasWaited, IsDetachedFrom, IsSeenOut, IsSnapped, KeepsSlot}
 use Rattle.cpu_words.specs.Rule.{did}
+use Rattle.cpu_words.proofs.logs.Growing.{passed_on}
+use Rattle.cpu_words.proofs.logs.Standings.{kept_entry, kept_parts}
 use Rattle.passive_list.specs.Cpus.{OnCpu}
 use Rattle.passive_list.specs.Keepers.{OnKeeper}
-use Rattle.passive_list.specs.Notes.{HasHeardOn}
 use Rattle.passive_list.proofs.Walking.{prefix_trans}
-use Rattle.name_registry.specs.Meeting.{HasLearned}
-use Rattle.name_registry.specs.Performing.{Finishes, GlancesBelow, GlancesOnce, HasGlanced, HasPerformed, HasSeenAllOut, Hold, Looking, LooksOnce, SnapshotsBelow, SomeBegan, SomeGlanced, SomePassed, TurnsWaiting, LastTurn, is_seen, none_seen, word_of}
+use Rattle.name_registry.specs.Meeting.{HasLearned, keeper_after_hear}
+use Rattle.name_registry.specs.Performing.{Finishes, GlancesBelow, GlancesOnce, HasPerformed, HasSeenAllOut, Hold, Looking, SnapshotsBelow, SomeBegan, SomeGlanced, SomePassed, TurnsWaiting, is_seen, none_seen, word_of}
 use Rattle.name_registry.proofs.Owned.{learned}
+use Rattle.name_registry.proofs.Passed.{IsReady, Passing, onward_below, passed_end, ready}
 
 -- What stands in a log
 
@@ -130,50 +131,61 @@ glanced words seen after (suc n) k l is =
 
 -- From hold to hold
 
--- so far: the keeper had done `before` as it heard the caller; since then it took the words of all CPUs, and saw out of their sections those that are seen
-record SoFar (cpus : ℕ) (x : OnCpu) (words : List ℕ) (seen : List Bool) (m : OnCpu) : Type 0 where
+-- so far: the keeper had done `before` as it heard the caller, and what was detached by then had passed or was retired, with these numbers; since then it took the words of all CPUs, and saw out of their sections those that are seen
+record SoFar (cpus : ℕ) (x : OnCpu) (words : List ℕ) (numbers : List (Option ℕ)) (seen : List Bool) (m : OnCpu) : Type 0 where
   before : List Deed
   since : List Deed
   are : m.deeds ≡ before ++ since
   known : IsPrefix x.deeds before
   pass : length x.view.pass ≤ changes_in before
+  ready : (t n : ℕ) → IsDetachedFrom t n before → IsReady cpus numbers before t n
   taken : (c : ℕ) → c < cpus → IsTaken c (word_of words c) since
   out : (c : ℕ) → c < cpus → is_seen seen c ≡ true → IsSeenOut c since
 
 -- a hold's end: the log of the keeper, and what came to be known beyond it
-after_hold : (looks : Looking → Looking → Type 0) (a : OnKeeper) (x : OnCpu) (b : OnKeeper) (y : OnCpu) (hold : Hold looks a x b y) (more : List Deed) → hold.end.log ≡ (hold.log ++ did (Hear None) Done) ++ more
-    → y.deeds ≡ hold.log ++ (did (Hear None) Done ++ (more ++ hold.told.0))
+record After (log more : List Deed) (y : OnCpu) : Type 0 where
+  tail : List Deed
+  are : y.deeds ≡ log ++ (did (Hear None) Done ++ (more ++ tail))
+
+after_hold : (looks : Looking → Looking → Type 0) (a : OnKeeper) (x : OnCpu) (b : OnKeeper) (y : OnCpu) (hold : Hold looks a x b y) (more : List Deed) → hold.end.log ≡ (a.log ++ did (Hear None) Done) ++ more → After a.log more y
 after_hold looks a x b y hold more are =
-    let h = did (Hear None) Done in
-    sym hold.told.1 ∙ (ap (λ (l : List Deed). l ++ hold.told.0) are ∙ (append_assoc (hold.log ++ h) more hold.told.0 ∙ append_assoc hold.log h (more ++ hold.told.0)))
+    let h : List Deed = did (Hear None) Done in
+    let t : List Deed = did (Tell None) Done ++ hold.told.0 in record {
+      tail = t;
+      are = sym hold.told.1 ∙ (ap (λ (l : List Deed). l ++ hold.told.0) hold.log ∙ (append_assoc hold.end.log (did (Tell None) Done) hold.told.0
+          ∙ (ap (λ (l : List Deed). l ++ t) are ∙ (append_assoc (a.log ++ h) more t ∙ append_assoc a.log h (more ++ t)))));
+    }
 
 none_is_seen : (c : ℕ) → is_seen none_seen c ≡ true → ⊥
 none_is_seen c is = false≢true (sym (get_or_all {X = Bool} 8 false c) ∙ is)
 
-so_far_begun : (z : Settings) (x : OnCpu) (words : List ℕ) (numbers : List (Option ℕ)) (y : OnCpu) → SomeBegan z x words numbers y → SoFar z.cpus x words none_seen y
+so_far_begun : (z : Settings) (x : OnCpu) (words : List ℕ) (numbers : List (Option ℕ)) (y : OnCpu) → SomeBegan z x words numbers y → SoFar z.cpus x words numbers none_seen y
 so_far_begun z x words numbers y is =
     let hold = is.2.hold in
     let p = snapped words z.cpus _ hold.end hold.made in
-    let rest : List Deed = p.more ++ hold.told.0 in record {
-      before = hold.log;
+    let q = after_hold _ is.0 x is.1 y hold p.more p.are in
+    let rest : List Deed = p.more ++ q.tail in record {
+      before = is.0.log;
       since = did (Hear None) Done ++ rest;
-      are = after_hold _ is.0 x is.1 y hold p.more p.are;
+      are = q.are;
       known = hold.known;
       pass = hold.seen;
-      taken = λ c lt. taken_past c (word_of words c) (did (Hear None) Done) rest (taken_more c (word_of words c) p.more hold.told.0 (p.taken c lt));
+      ready = ready z is.0 numbers is.2.own is.2.numbers;
+      taken = λ c lt. taken_past c (word_of words c) (did (Hear None) Done) rest (taken_more c (word_of words c) p.more q.tail (p.taken c lt));
       out = λ c lt seen. absurd (none_is_seen c seen);
     }
 
-so_far_turn : (z : Settings) (x : OnCpu) (words : List ℕ) (seen : List Bool) (m : OnCpu) (told : Option ℕ) (after : List Bool) (y : OnCpu) → SoFar z.cpus x words seen m → SomeGlanced z words m seen told after y → SoFar z.cpus x words after y
-so_far_turn z x words seen m told after y had is =
+so_far_turn : (z : Settings) (x : OnCpu) (words : List ℕ) (numbers : List (Option ℕ)) (seen : List Bool) (m : OnCpu) (told : Option ℕ) (after : List Bool) (y : OnCpu) → SoFar z.cpus x words numbers seen m → SomeGlanced z words m seen told after y → SoFar z.cpus x words numbers after y
+so_far_turn z x words numbers seen m told after y had is =
     let hold = is.2.hold in
     let p = glanced words seen after z.cpus _ hold.end hold.made in
+    let q = after_hold _ is.0 m is.1 y hold p.more p.are in
     let h : List Deed = did (Hear None) Done in
-    let rest : List Deed = h ++ (p.more ++ hold.told.0) in
+    let rest : List Deed = h ++ (p.more ++ q.tail) in
     let gap = hold.known.0 in
     let new : List Deed = gap ++ rest in
     let are : y.deeds ≡ had.before ++ (had.since ++ new) =
-    after_hold _ is.0 m is.1 y hold p.more p.are ∙ (ap (λ (l : List Deed). l ++ rest) (sym hold.known.1 ∙ ap (λ (l : List Deed). l ++ gap) had.are)
+    q.are ∙ (ap (λ (l : List Deed). l ++ rest) (sym hold.known.1 ∙ ap (λ (l : List Deed). l ++ gap) had.are)
     ∙ (append_assoc (had.before ++ had.since) gap rest ∙ append_assoc had.before had.since new)) in
     record {
       before = had.before;
@@ -181,40 +193,82 @@ so_far_turn z x words seen m told after y had is =
       are = are;
       known = had.known;
       pass = had.pass;
+      ready = had.ready;
       taken = λ c lt. taken_more c (word_of words c) had.since new (had.taken c lt);
       out = λ c lt now. ⊎_elim
           (λ (was : is_seen seen c ≡ true). seen_more c had.since new (had.out c lt was))
           (λ (found : IsFound c (word_of words c) p.more). seen_out c (word_of words c) had.since new (had.taken c lt)
-          (found_past c (word_of words c) gap rest (found_past c (word_of words c) h (p.more ++ hold.told.0) (found_more c (word_of words c) p.more hold.told.0 found))))
+          (found_past c (word_of words c) gap rest (found_past c (word_of words c) h (p.more ++ q.tail) (found_more c (word_of words c) p.more q.tail found))))
           (p.found c lt now);
     }
 
-so_far_turns : (z : Settings) (x : OnCpu) (words : List ℕ) (n : ℕ) (m : OnCpu) (seen : List Bool) (y : OnCpu) (after : List Bool) → SoFar z.cpus x words seen m → TurnsWaiting (SomeGlanced z words) n m seen y after → SoFar z.cpus x words after y
-so_far_turns z x words zero m seen y after had is = subst (λ (p : OnCpu × List Bool). SoFar z.cpus x words p.1 p.0) (λ k. (sym is.0 k, sym is.1 k)) had
-so_far_turns z x words (suc n) m seen y after had is = so_far_turn z x words is.1 is.0 (Some is.2) after y (so_far_turns z x words n m seen is.0 is.1 had is.3) is.4
+so_far_turns : (z : Settings) (x : OnCpu) (words : List ℕ) (numbers : List (Option ℕ)) (n : ℕ) (m : OnCpu) (seen : List Bool) (y : OnCpu) (after : List Bool) → SoFar z.cpus x words numbers seen m → TurnsWaiting (SomeGlanced z words) n m seen y after → SoFar z.cpus x words numbers after y
+so_far_turns z x words numbers zero m seen y after had is = subst (λ (p : OnCpu × List Bool). SoFar z.cpus x words numbers p.1 p.0) (λ k. (sym is.0 k, sym is.1 k)) had
+so_far_turns z x words numbers (suc n) m seen y after had is = so_far_turn z x words numbers is.1 is.0 (Some is.2) after y (so_far_turns z x words numbers n m seen is.0 is.1 had is.3) is.4
 
 -- where no CPU was told, all were seen out
-all_out : (z : Settings) (x : OnCpu) (words : List ℕ) (m : OnCpu) (seen : List Bool) (told : Option ℕ) (after : List Bool) (y : OnCpu) → SoFar z.cpus x words after y → SomeGlanced z words m seen told after y → told ≡ None → HasSeenAllOut z.cpus x y
-all_out z x words m seen told after y had is none = record {
-  before = had.before;
-  since = had.since;
-  are = had.are;
-  known = had.known;
-  seen = had.pass;
-  waited = λ c lt. had.out c lt (not-false (is_seen after c) (least_none (λ d. not (is_seen after d)) z.cpus (sym is.2.least ∙ none) c lt));
-}
+all_seen : (z : Settings) (x : OnCpu) (words : List ℕ) (numbers : List (Option ℕ)) (m : OnCpu) (seen : List Bool) (told : Option ℕ) (after : List Bool) (y : OnCpu) → (had : SoFar z.cpus x words numbers after y) → SomeGlanced z words m seen told after y → told ≡ None → HasWaited had.since z.cpus
+all_seen z x words numbers m seen told after y had is none = λ c lt. had.out c lt (not-false (is_seen after c) (least_none (λ d. not (is_seen after d)) z.cpus (sym is.2.least ∙ none) c lt))
 
-passed_out : (z : Settings) (x : OnCpu) (numbers : List (Option ℕ)) (m : OnCpu) (y : OnCpu) → HasSeenAllOut z.cpus x m → SomePassed z m numbers y → HasSeenAllOut z.cpus x y
-passed_out z x numbers m y had is = subst (HasSeenAllOut z.cpus x) (sym is.3) had
+-- The end
+
+kept_both : (t : ℕ) (a b : List Deed) → KeepsSlot t a → KeepsSlot t b → KeepsSlot t (a ++ b)
+kept_both t [] b first second = second
+kept_both t (d ∷ ds) b first second = (first.0, kept_both t ds b first.1 second)
+
+waited_on : (since more : List Deed) (cpus : ℕ) → HasWaited since cpus → HasWaited (since ++ more) cpus
+waited_on since more cpus waited c lt = seen_more c since more (waited c lt)
+
+-- once all were seen out, the passes are made, and the CPU is told what the keeper did
+passed_out : (z : Settings) (x : OnCpu) (words : List ℕ) (numbers : List (Option ℕ)) (seen : List Bool) (m : OnCpu) (y : OnCpu) → (had : SoFar z.cpus x words numbers seen m) → HasWaited had.since z.cpus → SomePassed z m numbers y → HasSeenAllOut z.cpus x y
+passed_out z x words numbers seen m y had waited is =
+    let a = is.0 in
+    let does = is.2 in
+    let before = had.before in
+    let since = had.since in
+    let hear : List Deed = did (Hear None) Done in
+    let tell : List Deed = did (Tell None) Done in
+    let h = keeper_after_hear a m in
+    let gap : List Deed = does.known.0 ++ hear in
+    let log : h.log ≡ (before ++ since) ++ gap =
+    ap (λ (l : List Deed). l ++ hear) (sym does.known.1 ∙ ap (λ (l : List Deed). l ++ does.known.0) had.are) ∙ append_assoc (before ++ since) does.known.0 hear in
+    let on = onward_below z numbers 32 h does.end does.passes in
+    let looks : List Deed = gap ++ on.log.0 in
+    let whole : does.end.log ≡ before ++ (since ++ looks) =
+    sym on.log.1 ∙ (ap (λ (l : List Deed). l ++ on.log.0) log ∙ (append_assoc (before ++ since) gap on.log.0 ∙ append_assoc before since looks)) in
+    let tail : List Deed = hear ++ (tell ++ does.told.0) in
+    let to_tail : y.deeds ≡ does.end.log ++ tail =
+    sym does.told.1 ∙ (ap (λ (k : OnKeeper). k.log ++ does.told.0) does.is ∙ (append_assoc (does.end.log ++ hear) tell does.told.0 ∙ append_assoc does.end.log hear (tell ++ does.told.0))) in
+    let all : List Deed = since ++ (looks ++ tail) in
+    let are : y.deeds ≡ before ++ all =
+    to_tail ∙ (ap (λ (l : List Deed). l ++ tail) whole ∙ (append_assoc before (since ++ looks) tail ∙ ap (λ (l : List Deed). before ++ l) (append_assoc since looks tail))) in
+    let passing : Passing z numbers h does.end before since gap = record { passes = does.passes; own = does.own; log = log; waited = waited } in
+    record {
+      before = before;
+      since = all;
+      are = are;
+      known = had.known;
+      seen = had.pass;
+      waited = waited_on since (looks ++ tail) z.cpus waited;
+      passed = λ t n c low gone keeps. ⊎_elim
+          (λ (then : (j : ℕ) → j < z.cpus → HasPassedOn t j before). subst (HasPassedOn t c) (sym are) (passed_on t c before all (kept_entry t all keeps) (then c low)))
+          (λ (retired : (get_or numbers t None ≡ Some n) × ((j : ℕ) → j < z.cpus → (w : ℕ) × IsSnapped t j w before)).
+          let first = kept_parts t since (looks ++ tail) keeps in
+          let second = kept_parts t looks tail first.1 in
+          subst (HasPassedOn t c) (sym to_tail) (passed_on t c does.end.log tail (kept_entry t tail second.1)
+          (passed_end z numbers h does.end before since gap (since ++ looks) t n c passing low gone retired.0 retired.1 whole (kept_both t since looks first.0 second.0))))
+          (had.ready t n gone);
+    }
 
 -- the answer Ok
 waited_none : (z : Settings) (turns : ℕ) (x : OnCpu) (told : Option ℕ) (y : OnCpu) → told ≡ None → HasPerformed z turns x told y → HasSeenAllOut z.cpus x y
 waited_none z turns x told y none is =
     let last = is.waits.last in
     let begun = so_far_begun z x is.snapshots is.numbers is.begun is.first in
-    let near = so_far_turns z x is.snapshots is.waits.earlier is.begun none_seen last.0 last.1 begun last.2 in
-    let end = so_far_turn z x is.snapshots last.1 last.0 told is.waits.after is.waited near last.3 in
-    passed_out z x is.numbers is.waited y (all_out z x is.snapshots last.0 last.1 told is.waits.after is.waited end last.3 none) (subst (λ (o : Option ℕ). Finishes (SomePassed z) is.numbers is.waited o y) none is.end)
+    let near = so_far_turns z x is.snapshots is.numbers is.waits.earlier is.begun none_seen last.0 last.1 begun last.2 in
+    let end = so_far_turn z x is.snapshots is.numbers last.1 last.0 told is.waits.after is.waited near last.3 in
+    passed_out z x is.snapshots is.numbers is.waits.after is.waited y end (all_seen z x is.snapshots is.numbers last.0 last.1 told is.waits.after is.waited end last.3 none)
+    (subst (λ (o : Option ℕ). Finishes (SomePassed z) is.numbers is.waited o y) none is.end)
 
 pub waited_ok : (z : Settings) (turns : ℕ) (x : OnCpu) (told : Option ℕ) (y : OnCpu) (result : Result (Unit {0}) Refusal) → result ≡ wait_answer told → HasPerformed z turns x told y → IfOk result (λ _. HasSeenAllOut z.cpus x y)
 waited_ok z turns x None y result is made = subst (λ (r : Result (Unit {0}) Refusal). IfOk r (λ _. HasSeenAllOut z.cpus x y)) (sym is) (waited_none z turns x None y refl made)
@@ -247,7 +301,7 @@ learns_turns z words zero x seen y after is = subst (λ (o : OnCpu). Learns x o)
 learns_turns z words (suc n) x seen y after is = learns_more x is.0 y (learns_turns z words n x seen is.0 is.1 is.3) (learns_hold _ is.4.0 is.0 is.4.1 y is.4.2.hold)
 
 learns_end : (z : Settings) (numbers : List (Option ℕ)) (x : OnCpu) (told : Option ℕ) (y : OnCpu) → Finishes (SomePassed z) numbers x told y → Learns x y
-learns_end z numbers x None y is = subst (λ (o : OnCpu). Learns x o) (sym is.3) (learns_none x)
+learns_end z numbers x None y is = (learned is.1.view.history x y is.2.hears, ap (λ (o : OnCpu). o.made) is.2.hears.is)
 learns_end z numbers x (Some c) y is = subst (λ (o : OnCpu). Learns x o) (sym is) (learns_none x)
 
 pub learns_performed : (z : Settings) (turns : ℕ) (x : OnCpu) (told : Option ℕ) (y : OnCpu) → HasPerformed z turns x told y → Learns x y

@@ -3,8 +3,7 @@ use Rattle.std.proofs.Common.{◌≡◌, ◌*◌, ◌<◌, ◌≤◌, List, [], 
 use Rattle.std.proofs.lemmas.List.Sums.{sum_by-cons}
 use Rattle.registry_values.specs.declared.entry.Change.{Change}
 use Rattle.registry_values.specs.declared.entry.Change.TheVariants.{Attach, Detach}
-use Rattle.passive_list.specs.Cpus.{OnCpu}
-use Rattle.name_registry.specs.Changes.{AreAlike, HasMade, WeightsTell, number_of, unit, weigh, weight}
+use Rattle.name_registry.specs.Changes.{AreAlike, WeightsTell, number_of, unit, weigh, weight}
 
 -- what one change weighs
 weighs : (c : Change) → unit ≤ weight c

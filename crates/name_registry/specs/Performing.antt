@@ -2,18 +2,18 @@
 use Rattle.std.specs.Prelude.{◌≡◌, ◌⊎◌, ℕ, zero, suc, ◌<◌, ◌≤◌, List, ◌++◌, length, Option, Some, None, Bool, true, false, not, Result, Err, replicate, slice_index_or}
 use mathlib.Core.List.{IsPrefix}
 use Rattle.protocol.specs.declared.event.Event.{Event}
-use Rattle.protocol.specs.declared.event.Event.TheVariants.{Hear, Look, Snapshot}
+use Rattle.protocol.specs.declared.event.Event.TheVariants.{Hear, Look, Snapshot, Tell}
 use Rattle.protocol.specs.declared.event.Reply.TheVariants.{Done, Word}
 use Rattle.registry_values.specs.declared.refusal.Refusal.{Refusal}
 use Rattle.registry_values.specs.declared.refusal.Refusal.TheVariants.{Inside}
 use Rattle.registry_values.specs.declared.settings.Settings.{Settings}
 use Rattle.registry_values.specs.Answers.{wait_answer}
 use Rattle.registry_values.specs.Marks.{is_out, least_below}
-use Rattle.registry_values.specs.Slots.{retired_number, retired_slot, slot_at}
+use Rattle.registry_values.specs.Slots.{is_retired_as, retired_number, slot_at}
 use Rattle.cpu_words.specs.declared.view.Deed.{Deed}
 use Rattle.cpu_words.specs.declared.view.KeeperView.{KeeperView}
 use Rattle.cpu_words.specs.declared.view.View.TheVariants.{Keeper}
-use Rattle.cpu_words.specs.Deeds.{changes_in, HasWaited}
+use Rattle.cpu_words.specs.Deeds.{changes_in, HasPassedOn, HasWaited, IsDetachedFrom, KeepsSlot}
 use Rattle.cpu_words.specs.Grace.{keeper_after_look}
 use Rattle.cpu_words.specs.Notes.{keeper_with_heard}
 use Rattle.cpu_words.specs.Rule.{did}
@@ -21,8 +21,10 @@ use Rattle.cpu_words.specs.Steps.{Makes}
 use Rattle.cpu_words.specs.Views.{Seated}
 use Rattle.passive_list.specs.Cpus.{OnCpu}
 use Rattle.passive_list.specs.Keepers.{OnKeeper}
+use Rattle.passive_list.specs.Logs.{HasOwnLog}
 use Rattle.passive_list.specs.Notes.{HasHeardOn}
-use Rattle.name_registry.specs.Advancing.{HasLookedFor, MeetsGrace, PassedBelow}
+use Rattle.name_registry.specs.Advancing.{GoesOnByLooks, HasLookedFor, MeetsGrace, PassedBelow}
+use Rattle.name_registry.specs.Meeting.{keeper_after_hear, keeper_after_tell}
 
 -- The keeper's looks for no entry
 
@@ -67,20 +69,21 @@ GlancesBelow snapshots seen after (suc n) k l =
 
 -- The keeper a hears first what the CPU x knows: its log goes on from that, and its history is as long as the log says. Then it makes the looks, and nothing else. At the end the CPU hears the history and all that the keeper did.
 pub record Hold (looks : Looking → Looking → Type 0) (a : OnKeeper) (x : OnCpu) (b : OnKeeper) (y : OnCpu) : Type 0 where
-  pub log : List Deed
-  pub known : IsPrefix x.deeds log
-  pub seen : length x.view.pass ≤ changes_in log
+  pub known : IsPrefix x.deeds a.log
+  pub seen : length x.view.pass ≤ changes_in a.log
   pub end : Looking
-  pub made : looks (record { view = keeper_with_heard a.view x.view.pass; log = log ++ did (Hear None) Done }) end
+  pub made : looks (record { view = keeper_with_heard a.view x.view.pass; log = a.log ++ did (Hear None) Done }) end
   pub view : b.view ≡ end.view
   pub slots : b.slots ≡ a.slots
+  pub log : b.log ≡ end.log ++ did (Tell None) Done
   pub hears : HasHeardOn b.view.history x y
-  pub told : IsPrefix end.log y.deeds
+  pub told : IsPrefix b.log y.deeds
 
 -- The parts that are lent the keeper
 
--- As a perform begins: one snapshot of each CPU, and of each slot the number of the entry that is retired there.
+-- As a perform begins: one snapshot of each CPU, and of each slot the number of the entry that is retired there; the keeper's log has what the keeper has.
 pub record HasBegun (z : Settings) (a : OnKeeper) (x : OnCpu) (snapshots : List ℕ) (retired : List (Option ℕ)) (b : OnKeeper) (y : OnCpu) : Type 0 where
+  pub own : HasOwnLog z a
   pub hold : Hold (SnapshotsBelow snapshots z.cpus) a x b y
   pub numbers : (t : ℕ) → t < 32 → slice_index_or retired t None ≡ retired_number (slot_at a.slots t)
 
@@ -92,27 +95,36 @@ pub record HasGlanced (z : Settings) (snapshots : List ℕ) (a : OnKeeper) (x : 
 -- the retired entry in the slot t was looked at for each CPU that hadn't passed: all have passed now, or the section of its snapshot is open still on one
 pub record HasPassedFor (z : Settings) (a : OnKeeper) (t : ℕ) (b : OnKeeper) : Type 0 where
   pub leaves : HasLookedFor a t b
+  pub log : GoesOnByLooks t a.log b.log
   pub met : PassedBelow b.view t z.cpus ⊎ ((c : ℕ) × MeetsGrace a t c b)
 
-abbrev pub PassesAt : Settings → OnKeeper → Option ℕ → OnKeeper → Type 0
-PassesAt z a None b = b ≡ a
-PassesAt z a (Some t) b = HasPassedFor z a t b
+-- where the entry is still retired there
+abbrev pub PassesIf : Bool → Settings → OnKeeper → ℕ → OnKeeper → Type 0
+PassesIf true z a t b = HasPassedFor z a t b
+PassesIf false z a t b = b ≡ a
 
--- the entry n, where it is retired still; one whose slot was freed is left out
-abbrev pub PassesEntry : Settings → OnKeeper → ℕ → OnKeeper → Type 0
-PassesEntry z a n b = PassesAt z a (retired_slot a.slots n) b
+-- the entry n of the slot t, where it is retired still; one whose slot was freed is left out
+abbrev pub PassesEntry : Settings → OnKeeper → ℕ → ℕ → OnKeeper → Type 0
+PassesEntry z a t n b = PassesIf (is_retired_as n (slot_at a.slots t)) z a t b
 
-abbrev pub PassesNumber : Settings → OnKeeper → Option ℕ → OnKeeper → Type 0
-PassesNumber z a None b = b ≡ a
-PassesNumber z a (Some n) b = PassesEntry z a n b
+abbrev pub PassesNumber : Settings → OnKeeper → ℕ → Option ℕ → OnKeeper → Type 0
+PassesNumber z a t None b = b ≡ a
+PassesNumber z a t (Some n) b = PassesEntry z a t n b
 
--- the first n numbers
+-- the first n numbers, one by slot
 abbrev pub PassesBelow : Settings → List (Option ℕ) → ℕ → OnKeeper → OnKeeper → Type 0
 PassesBelow z numbers zero a b = b ≡ a
-PassesBelow z numbers (suc n) a b = (m : OnKeeper) × PassesBelow z numbers n a m × PassesNumber z m (slice_index_or numbers n None) b
+PassesBelow z numbers (suc n) a b = (m : OnKeeper) × PassesBelow z numbers n a m × PassesNumber z m n (slice_index_or numbers n None) b
 
-abbrev pub HasPassedAll : Settings → OnKeeper → List (Option ℕ) → OnKeeper → Type 0
-HasPassedAll z a numbers b = PassesBelow z numbers 32 a b
+-- As a perform ends: the keeper a hears what the CPU x knows, makes its looks for the entries with these numbers, and hears once more, so that its log has what they told. At the end the CPU hears the history and all that the keeper did.
+pub record HasPassedAll (z : Settings) (a : OnKeeper) (x : OnCpu) (numbers : List (Option ℕ)) (b : OnKeeper) (y : OnCpu) : Type 0 where
+  pub known : IsPrefix x.deeds a.log
+  pub end : OnKeeper
+  pub passes : PassesBelow z numbers 32 (keeper_after_hear a x) end
+  pub own : HasOwnLog z end
+  pub is : b ≡ keeper_after_tell (keeper_after_hear end x)
+  pub hears : HasHeardOn b.view.history x y
+  pub told : IsPrefix b.log y.deeds
 
 -- The turns: X is what stands between two holds of the interlock
 
@@ -164,7 +176,7 @@ abbrev pub SomeGlanced : Settings → List ℕ → OnCpu → List Bool → Optio
 SomeGlanced z snapshots x seen told after y = (a : OnKeeper) × (b : OnKeeper) × HasGlanced z snapshots a x seen told after b y
 
 abbrev pub SomePassed : Settings → OnCpu → List (Option ℕ) → OnCpu → Type 0
-SomePassed z x numbers y = (a : OnKeeper) × (b : OnKeeper) × HasPassedAll z a numbers b × (y ≡ x)
+SomePassed z x numbers y = (a : OnKeeper) × (b : OnKeeper) × HasPassedAll z a x numbers b y
 
 -- What a call of perform made, by the least CPU that it told.
 abbrev pub HasPerformed : Settings → ℕ → OnCpu → Option ℕ → OnCpu → Type 0
@@ -177,7 +189,7 @@ PerformsOutside z turns false x result y = (told : Option ℕ) × (result ≡ wa
 
 -- What the caller's CPU knows at the end
 
--- When the keeper had done just `before`, it had heard all that the CPU knew as the call began: what the CPU knew of the keeper's deeds, and its pass. Since then it saw each CPU out of a section: by the law `running_headline` (`waiting`) each section that was open then has ended.
+-- When the keeper had done just `before`, it had heard all that the CPU knew as the call began: what the CPU knew of the keeper's deeds, and its pass. Since then it saw each CPU out of a section: by the law `running_headline` (`waiting`) each section that was open then has ended. And each entry that had been detached by then, and whose slot wasn't given again since, has passed on each CPU.
 pub record HasSeenAllOut (cpus : ℕ) (x y : OnCpu) : Type 0 where
   pub before : List Deed
   pub since : List Deed
@@ -185,3 +197,4 @@ pub record HasSeenAllOut (cpus : ℕ) (x y : OnCpu) : Type 0 where
   pub known : IsPrefix x.deeds before
   pub seen : length x.view.pass ≤ changes_in before
   pub waited : HasWaited since cpus
+  pub passed : (t n c : ℕ) → c < cpus → IsDetachedFrom t n before → KeepsSlot t since → HasPassedOn t c y.deeds

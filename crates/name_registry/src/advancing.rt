@@ -37,7 +37,7 @@ pub fn advance_in<D: Domain>(
 }
 
 /// The slot of the retired entry with this number.
-pub(crate) fn retired_place<D: Domain>(keeper: &Keeper<D>, number: u64) -> Option<u8>
+fn retired_place<D: Domain>(keeper: &Keeper<D>, number: u64) -> Option<u8>
     ensures value { result ≡ retired_slot keeper.now.slots number }
     ensures works { IfSome result (λ t. MayWork D.settings keeper.now t) }
 {

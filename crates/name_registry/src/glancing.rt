@@ -6,19 +6,20 @@ ghost use mathlib.Core.List.{IsPrefix};
 ghost use Rattle.registry_values.specs.Slots.{retired_number, slot_at};
 ghost use Rattle.protocol.specs.declared.event.Event.TheVariants.{Hear, Tell};
 ghost use Rattle.protocol.specs.declared.event.Reply.TheVariants.{Done};
-ghost use Rattle.cpu_words.specs.Deeds.{changes_in};
+ghost use Rattle.cpu_words.specs.Deeds.{changes_in, IsOwnLog};
 ghost use Rattle.cpu_words.specs.Domains.{AreWordsOf};
 ghost use Rattle.cpu_words.specs.Grace.{MayGlance};
 ghost use Rattle.cpu_words.specs.Notes.{keeper_with_heard};
 ghost use Rattle.cpu_words.specs.Rule.{IsShown, did};
 ghost use Rattle.passive_list.specs.Notes.{HasHeardOn};
 ghost use Rattle.protocol.specs.declared.state.Due.TheVariants.{Rest};
-ghost use Rattle.name_registry.specs.Performing.{GlancesBelow, GlancesOnce, HasBegun, HasGlanced, HasPassedAll, PassesEntry, SnapshotsBelow, looking};
+ghost use Rattle.name_registry.specs.Performing.{GlancesBelow, GlancesOnce, HasBegun, HasGlanced, HasPassedAll, PassesBelow, PassesEntry, SnapshotsBelow, looking};
 
-use crate::advancing::{look_at_all, retired_place};
+use crate::advancing::look_at_all;
+use crate::meeting::{hear_cpu, show_cpu};
 use cpu_words::{Domain, KeeperSeat, Words, steps};
 use passive_list::{Cpu, Keeper, Note, hear, tell};
-use registry_values::{first_unseen, is_out, retired_number};
+use registry_values::{first_unseen, is_out, is_retired_as, retired_number};
 use std::marker::PhantomData;
 
 /// Begins a wait until each section that is open now has ended: the section word of each CPU, and the number of each retired entry, slot by
@@ -40,7 +41,8 @@ pub fn begin<D: Domain>(
     (snapshots, numbers)
 }
 
-/// The keeper hears what the CPU knows: its pass is in the history, and what it has heard of the keeper's deeds begins the keeper's log.
+/// The keeper hears what the CPU knows: its pass is in the history, and what it has heard of the keeper's deeds begins the keeper's log, which
+/// has what the keeper has (`own`).
 fn hear_caller<D: Domain>(words: &Words, seat: &mut KeeperSeat, cpu: &mut Cpu<D>)
     requires words { AreWordsOf words.now D.table D.settings }
     requires table { seat.old.table ≡ D.table }
@@ -49,7 +51,7 @@ fn hear_caller<D: Domain>(words: &Words, seat: &mut KeeperSeat, cpu: &mut Cpu<D>
     ensures view { seat.new.view ≡ keeper_with_heard seat.old.view cpu.old.view.pass }
     ensures is_shown { IsShown seat.new.view }
     ensures log { seat.new.log ≡ seat.old.log ++ did (Hear None) Done }
-    ensures known { IsPrefix cpu.old.deeds seat.old.log }
+    ensures own { IsOwnLog seat.old.log cpu.old.deeds seat.old.view }
     ensures seen { length cpu.old.view.pass ≤ changes_in seat.old.log }
     ensures cpu { cpu.new ≡ cpu.old }
 {
@@ -67,8 +69,9 @@ fn tell_caller<D: Domain>(words: &Words, seat: &mut KeeperSeat, cpu: &mut Cpu<D>
     requires may { seat.old.view.due ≡ Rest }
     ensures table { seat.new.table ≡ seat.old.table }
     ensures view { seat.new.view ≡ seat.old.view }
+    ensures log { seat.new.log ≡ seat.old.log ++ did (Tell None) Done }
     ensures hears { HasHeardOn seat.old.view.history cpu.old cpu.new }
-    ensures told { IsPrefix seat.old.log cpu.new.deeds }
+    ensures told { IsPrefix seat.new.log cpu.new.deeds }
 {
     let note = Note {
         seat: steps::tell_keeper(words, seat),
@@ -157,25 +160,42 @@ fn glances(words: &Words, seat: &mut KeeperSeat, cpu: u8, snapshot: u64, seen: b
     is_out(snapshot, steps::look_now(words, seat, cpu))
 }
 
-/// The end of such a wait, once all CPUs were seen: looks at each CPU for the retired entries with these numbers. One that was freed since is
-/// left out. It takes no memory.
-pub fn pass_all<D: Domain>(words: &Words, keeper: &mut Keeper<D>, numbers: &[Option<u64>; 32])
+/// The end of such a wait, once all CPUs were seen: looks at each CPU for the retired entries with these numbers, one by slot. One that was
+/// freed since is left out. The keeper hears once more after its looks, so that the CPU is told a log that has what they found. It takes no
+/// memory.
+pub fn pass_all<D: Domain>(
+    words: &Words,
+    keeper: &mut Keeper<D>,
+    cpu: &mut Cpu<D>,
+    numbers: &[Option<u64>; 32],
+)
     requires words { AreWordsOf words.now D.table D.settings }
-    ensures { HasPassedAll D.settings keeper.old numbers.now keeper.new }
+    ensures { HasPassedAll D.settings keeper.old cpu.old numbers.now keeper.new cpu.new }
+{
+    hear_cpu(words, keeper, cpu);
+    pass_entries(words, keeper, numbers);
+    hear_cpu(words, keeper, cpu);
+    show_cpu(words, keeper, cpu);
+}
+
+fn pass_entries<D: Domain>(words: &Words, keeper: &mut Keeper<D>, numbers: &[Option<u64>; 32])
+    requires words { AreWordsOf words.now D.table D.settings }
+    ensures { PassesBelow D.settings numbers.now 32 keeper.old keeper.new }
 {
     for slot in 0..32 {
-        if let Some(number) = numbers[slot] {
-            pass_entry(words, keeper, number);
+        if let Some(number) = numbers[slot as usize] {
+            pass_entry(words, keeper, slot, number);
         }
     }
 }
 
-/// Looks at each CPU for the retired entry with this number, up to the first that doesn't pass.
-fn pass_entry<D: Domain>(words: &Words, keeper: &mut Keeper<D>, number: u64)
+/// Looks at each CPU for the entry with this number, where it is still retired in its slot, up to the first CPU that doesn't pass.
+fn pass_entry<D: Domain>(words: &Words, keeper: &mut Keeper<D>, slot: u8, number: u64)
     requires words { AreWordsOf words.now D.table D.settings }
-    ensures { PassesEntry D.settings keeper.old number keeper.new }
+    requires place { slot < 32 }
+    ensures { PassesEntry D.settings keeper.old slot number keeper.new }
 {
-    if let Some(slot) = retired_place(keeper, number) {
+    if is_retired_as(number, &keeper.slot(slot)) {
         look_at_all(words, keeper, slot);
     }
 }

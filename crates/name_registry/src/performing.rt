@@ -149,12 +149,7 @@ impl<'a, D: Domain> UnderInterlock<D> for Locked<'a, D> {
     }
 
     fn pass<R: Wait>(&mut self, rt: &R, cpu: &mut Cpu<D>, numbers: &[Option<u64>; 32]) {
-        // The contract alone speaks of the CPU.
-        let _cpu = cpu;
-        pass_all(
-            &self.registry.words,
-            &mut self.registry.interlock.lock(rt).keeper,
-            numbers,
-        );
+        let keeper = &mut self.registry.interlock.lock(rt).keeper;
+        pass_all(&self.registry.words, keeper, cpu, numbers);
     }
 }

@@ -1,4 +1,4 @@
-use Rattle.std.proofs.Common.{◌≡◌, ◌≤◌, Ok, length, ap, arith}
+use Rattle.std.proofs.Common.{◌≤◌, Ok, length, ap, arith}
 use Rattle.registry_values.specs.declared.entry.Change.TheVariants.{Detach}
 use Rattle.passive_list.specs.Keepers.{OnKeeper}
 use Rattle.registry_values.specs.declared.slot.Key.{Key}

@@ -1,5 +1,5 @@
 use Rattle.name_registry.specs.Performing.{PassesBelow}
-use Rattle.name_registry.proofs.glancing.pass_all.Given as goal
+use Rattle.name_registry.proofs.glancing.pass_entries.Given as goal
 
 -- the entries so far were looked at
 abbrev pub invariant-loop-slot : goal.invariant-loop-slot
