@@ -1,5 +1,5 @@
 -- What the keeper's log says of the keeper: of its rows too, which may have a drained slot as vacant.
-use Rattle.std.proofs.Common.{◌≡◌, ⊎_elim, ℕ, ◌<◌, ◌≤◌, List, [], length, get_or, Some, true, refl, sym, ap, ◌∙◌, subst, arith}
+use Rattle.std.proofs.Common.{◌≡◌, ⊎_elim, ℕ, ◌<◌, ◌≤◌, List, [], length, get_or, Some, true, sym, ap, ◌∙◌, subst, arith}
 use Rattle.std.proofs.lemmas.Bool.{cases_lt}
 use Rattle.std.proofs.lemmas.List.{get_or_past, length-map}
 use Rattle.atomic_table.specs.Seated.{TableId}
@@ -16,11 +16,11 @@ use Rattle.protocol.proofs.keeps.Marking.{list_all_within}
 use Rattle.protocol.proofs.slots.MarkRows.{snapshot_stands}
 use Rattle.cpu_words.specs.declared.view.Deed.{Deed}
 use Rattle.cpu_words.specs.declared.view.KeeperView.{KeeperView}
-use Rattle.cpu_words.specs.Deeds.{HasPassedOn, IsDetachedFrom, IsSnapped, IsOwnLog}
+use Rattle.cpu_words.specs.Deeds.{HasPassedOn, IsDetachedFrom, IsOwnLog}
 use Rattle.cpu_words.specs.Vacating.{MayVacate}
 use Rattle.cpu_words.proofs.by_keeper.KeeperSees.{seen_by_keeper}
 use Rattle.passive_list.specs.declared.keeper.KeptSlot.{KeptSlot}
-use Rattle.passive_list.specs.Keepers.{OnKeeper, row_at, state_of, states_of, TakenAs, IsAtRest, IsOurKeeper}
+use Rattle.passive_list.specs.Keepers.{state_of, states_of, TakenAs, IsAtRest, IsOurKeeper}
 use Rattle.passive_list.specs.Logs.{HasOwnLog}
 use Rattle.passive_list.proofs.Rows.{live_in, retired_in, state_at}
 
