@@ -18,6 +18,7 @@ returns-in-Ok c =
       record {
         words = w;
         settings = c.in-Ok.ensures.settings;
+        log = c.in-Ok.made.value.keeper.log;
         keeper = c.of-in-Ok.ensures ∙ ap Some (c.of.ensures ∙ c.in-Ok.ensures.keeper);
         cpus = given_open w c.args.settings.cpus all cs c.in-Ok.ensures.cpus (subst (λ (n : ℕ). AreGiven all n cs n) c.requires.count c.give_cpus.ensures);
       },
