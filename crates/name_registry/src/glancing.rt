@@ -161,8 +161,8 @@ fn glances(words: &Words, seat: &mut KeeperSeat, cpu: u8, snapshot: u64, seen: b
 }
 
 /// The end of such a wait, once all CPUs were seen: looks at each CPU for the retired entries with these numbers, one by slot. One that was
-/// freed since is left out. The keeper hears once more after its looks, so that the CPU is told a log that has what they found. It takes no
-/// memory.
+/// freed since is left out. The keeper hears once more after its looks, so that it finds in its log what they told, and tells the CPU that
+/// log. It takes no memory.
 pub fn pass_all<D: Domain>(
     words: &Words,
     keeper: &mut Keeper<D>,

@@ -24,8 +24,10 @@ impl<D: Domain> Registry<D> {
     ///
     /// Ok says in what this CPU knows (`waited`): there was a moment at which the keeper had heard all that the CPU knew as it called, and each
     /// section that was open then, of whatever CPU, has ended. So no section that is open now or later may hold an entry that this CPU had
-    /// seen detached: whatever the table is, the law `running_headline` says so of it (`waiting`). To know this the CPU tells the keeper
-    /// first as it begins and in each turn, and hears it at the end of each: its pass grows as by `hear`.
+    /// seen detached: whatever the table is, the law `running_headline` says so of it (`waiting`). And each entry that had been detached by
+    /// that moment has passed on each CPU, if its slot wasn't given again since: the looks at the end met no section that was open still. To
+    /// know this the CPU tells the keeper first as it begins, in each turn and at the end, and hears it at the end of each: its pass grows as
+    /// by `hear`.
     /// Condition: at least one turn.
     /// Refused, in this order: `Inside` where the CPU is inside a section, and nothing has changed then; `Waiting` with the least CPU that
     /// wasn't seen out of its section in any of the turns: no CPU was looked at for an entry then, so no mark has changed.

@@ -1,5 +1,5 @@
 -- A call counts nothing to its CPU's share: it leaves it what it was.
-use Rattle.std.proofs.Common.{◌≡◌, ℕ, Bool, List, Option, Ok, Err, ap}
+use Rattle.std.proofs.Common.{◌≡◌, ℕ, List, Option, Ok, Err, ap}
 use Rattle.std.specs.Prelude.{Result, IfOk, IfErr}
 use Rattle.registry_values.specs.declared.settings.Settings.{Settings}
 use Rattle.registry_values.specs.declared.entry.Entry.{Entry}
@@ -9,7 +9,7 @@ use Rattle.passive_list.specs.Cpus.{OnCpu}
 use Rattle.passive_list.specs.Keepers.{OnKeeper}
 use Rattle.name_registry.specs.Attaching.{HasAttachedFor, HasAttachedIfaceFor}
 use Rattle.name_registry.specs.Detaching.{HasDetachedFor}
-use Rattle.name_registry.specs.Performing.{HasBegun, HasGlanced}
+use Rattle.name_registry.specs.Performing.{HasBegun}
 
 pub attach_made : (k l : OnKeeper) (x y : OnCpu) (r : Result Entry Refusal) → IfOk r (λ e. HasAttachedFor k x e l y) → IfErr r (λ _. (l ≡ k) × (y ≡ x)) → y.made ≡ x.made
 attach_made k l x y (Ok e) ok refused = ap (λ (o : OnCpu). o.made) ok.cpu.is
@@ -26,6 +26,3 @@ detach_made k l x y (Err f) ok refused = ap (λ (o : OnCpu). o.made) refused.1
 
 pub begin_made : (z : Settings) (k l : OnKeeper) (x y : OnCpu) (words : List ℕ) (numbers : List (Option ℕ)) → HasBegun z k x words numbers l y → y.made ≡ x.made
 begin_made z k l x y words numbers begun = ap (λ (o : OnCpu). o.made) begun.hold.hears.is
-
-pub glance_made : (z : Settings) (k l : OnKeeper) (x y : OnCpu) (words : List ℕ) (seen after : List Bool) (told : Option ℕ) → HasGlanced z words k x seen told after l y → y.made ≡ x.made
-glance_made z k l x y words seen after told glanced = ap (λ (o : OnCpu). o.made) glanced.hold.hears.is

@@ -7,11 +7,12 @@ use Rattle.registry_values.specs.declared.entry.Record.{Record}
 use Rattle.registry_values.specs.declared.name.Name.{Name}
 use Rattle.registry_values.specs.declared.refusal.Refusal.{Refusal}
 use Rattle.registry_values.specs.declared.refusal.Refusal.TheVariants.{Inside, Waiting}
+use Rattle.registry_values.specs.declared.settings.Settings.{Settings}
 use Rattle.registry_values.specs.declared.stage.Stage.{Stage}
 use Rattle.registry_values.specs.Names.{name_of_words}
 use Rattle.registry_values.specs.Refusals.{number_of_refusal}
 use Rattle.registry_values.specs.Stages.{destroy_result}
-use Rattle.passive_list.specs.Cpus.{OnPlainCpu}
+use Rattle.passive_list.specs.Cpus.{OnCpu, OnPlainCpu}
 use Rattle.passive_list.specs.Keepers.{OnKeeper}
 use Rattle.name_registry.specs.Advancing.{HasAdvanced}
 use Rattle.name_registry.specs.Attaching.{HasAttachedFor, HasAttachedIfaceFor, attach_answer, attach_iface_answer}
@@ -105,12 +106,17 @@ pub record Begins (k : OnKeeperBody) (c : OnPlainCpu) (k' : OnKeeperBody) (c' : 
   pub seen : new.seen ≡ replicate 8 0
   pub words : KeepsWords k c k' c'
 
--- one turn of it, which told this CPU or none: all that the wait keeps of it is who was seen
+-- the passes at the end of a wait, of the keeper and the CPU
+abbrev pub PassesHeld : Settings → OnKeeper × OnCpu → List (Option ℕ) → OnKeeper × OnCpu → Type 0
+PassesHeld z p numbers q = HasPassedAll z p.0 p.1 numbers q.0 q.1
+
+-- one turn of it, which told this CPU or none: all that the wait keeps of it is who was seen; as the glances left them the keeper and the CPU pass what was retired, where none was told
 pub record Turns (k : OnKeeperBody) (c : OnPlainCpu) (k' : OnKeeperBody) (c' : OnPlainCpu) (told : Option ℕ) (old new : CWait) : Type 0 where
   pub seen : List Bool
-  pub between : OnKeeper
-  pub glanced : HasGlanced k.words.settings old.snapshots k.keeper c.cpu (map is_set old.seen) told seen between c'.cpu
-  pub finished : Finishes (HasPassedAll k.words.settings) (map none_or_number old.retired) between told k'.keeper
+  pub keeper : OnKeeper
+  pub cpu : OnCpu
+  pub glanced : HasGlanced k.words.settings old.snapshots k.keeper c.cpu (map is_set old.seen) told seen keeper cpu
+  pub finished : Finishes (PassesHeld k.words.settings) (map none_or_number old.retired) (keeper, cpu) told (k'.keeper, c'.cpu)
   pub wait : new ≡ record old { seen = map flag_of seen }
   pub words : KeepsWords k c k' c'
 

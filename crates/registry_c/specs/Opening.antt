@@ -11,6 +11,7 @@ use Rattle.registry_values.specs.Limits.{are_fit}
 use Rattle.registry_values.specs.Refusals.{number_of_refusal}
 use Rattle.cpu_words.specs.Opening.{keeper_with}
 use Rattle.cpu_words.specs.Views.{Named, new_cpu}
+use Rattle.cpu_words.specs.declared.view.Deed.{Deed}
 use Rattle.passive_list.specs.Cpus.{OnPlainCpu}
 use Rattle.registry_c.specs.declared.cpu_handle.CpuHandle.{CpuHandle}
 use Rattle.registry_c.specs.declared.values.TheConstants.{DONE, FULL_HANDLE}
@@ -22,9 +23,9 @@ use Rattle.registry_c.specs.Values.{settings_in}
 abbrev pub opened_cpu : Named → ℕ → OnPlainCpu
 opened_cpu w c = record { words = w; cpu = record { view = new_cpu w.settings c; depth = 0; made = 0; deeds = [] } }
 
--- its keeper: all slots are vacant, and there was no change
-abbrev pub opened_keeper : Named → OnKeeperBody
-opened_keeper w = record { words = w; keeper = record { view = keeper_with w.settings w.settings.cpus; slots = replicate 32 Vacant } }
+-- its keeper: all slots are vacant, and there was no change; the log is of the seats that it gave the CPUs
+abbrev pub opened_keeper : Named → List Deed → OnKeeperBody
+opened_keeper w log = record { words = w; keeper = record { view = keeper_with w.settings w.settings.cpus; slots = replicate 32 Vacant; log = log } }
 
 -- the last k of n CPUs, the greatest first
 abbrev pub opened_down : Named → ℕ → ℕ → List OnPlainCpu
@@ -65,7 +66,8 @@ StaysClosed k k' cs cs' = (k' ≡ k) × (cs' ≡ cs)
 pub record IsOpen (z : Settings) (k : Option OnKeeperBody) (cs : List (Option OnPlainCpu)) : Type 0 where
   pub words : Named
   pub settings : words.settings ≡ z
-  pub keeper : k ≡ Some (opened_keeper words)
+  pub log : List Deed
+  pub keeper : k ≡ Some (opened_keeper words log)
   pub cpus : (c : ℕ) → c < z.cpus → body_at cs c ≡ Some (opened_cpu words c)
 
 -- it is opened, or there is no memory

@@ -25,7 +25,7 @@ impl Model for KeeperBody {
 
     ghost Value = { OnKeeperBody };
 
-    ghost view = { λ b. record { words = b.words.value; keeper = record { view = b.seat.view; slots = states_of b.rows } } };
+    ghost view = { λ b. record { words = b.words.value; keeper = record { view = b.seat.view; slots = states_of b.rows; log = b.seat.log } } };
 
     ghost invariant = { λ b. IsOurKeeper b.words.value.table b.words.value.settings b.seat.table b.seat.view b.settings b.rows b.changes };
 }

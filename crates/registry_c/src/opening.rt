@@ -152,7 +152,7 @@ fn open(
 ) -> Result<(Box<KeeperBody, Global>, Vec<Box<CpuBody, Global>>), Refusal>
     requires { IsTrue (are_fit settings) }
     ensures settings { IfOk result (λ made. made.0.value.words.settings ≡ settings) }
-    ensures keeper { IfOk result (λ made. made.0.value ≡ opened_keeper made.0.value.words) }
+    ensures keeper { IfOk result (λ made. made.0.value ≡ opened_keeper made.0.value.words made.0.value.keeper.log) }
     ensures cpus { IfOk result (λ made. boxed made.1.items ≡ opened_down made.0.value.words settings.cpus settings.cpus) }
     ensures err { IfErr result (λ refusal. refusal ≡ Refusal.NoMemory) }
 {
@@ -178,7 +178,7 @@ fn open_at<D: Domain>(
     requires keeper { (keeper.table ≡ D.table) × (keeper.view ≡ keeper_with D.settings D.settings.cpus) }
     requires seats { AreSeats D.table D.settings D.settings.cpus seats.items }
     ensures words { IfOk result (λ made. made.0.value.words ≡ words.value) }
-    ensures keeper { IfOk result (λ made. made.0.value ≡ opened_keeper words.value) }
+    ensures keeper { IfOk result (λ made. made.0.value ≡ opened_keeper words.value made.0.value.keeper.log) }
     ensures cpus { IfOk result (λ made. boxed made.1.items ≡ opened_down words.value D.settings.cpus D.settings.cpus) }
 {
     let cpus = cpus_of::<D>(alloc, &words, seats)?;

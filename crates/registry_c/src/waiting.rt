@@ -45,7 +45,7 @@ fn begin_at<D: Domain>(
 }
 
 /// One turn of a wait: the least CPU that wasn't seen out of its section, if any. The keeper and the CPU tell each other what they know, as
-/// in the beginning.
+/// in the beginning, and once more as what was retired passes.
 pub fn turn_body(
     keeper: KeeperBody,
     cpu: CpuBody,
@@ -75,13 +75,20 @@ fn turn_at<D: Domain>(
     let mut seen = seen_in(&wait.seen);
     let told = glance_at_all(&words, &mut keeper, &mut cpu, &wait.snapshots, &mut seen);
     wait.seen = seen_out(&seen);
-    let cpu = CpuBody::of_cpu(share, cpu);
     match told {
         None => {
             let numbers = numbers_in(&wait.retired);
-            pass_all(&words, &mut keeper, &numbers);
-            (KeeperBody::of_keeper(words, keeper), cpu, None)
+            pass_all(&words, &mut keeper, &mut cpu, &numbers);
+            (
+                KeeperBody::of_keeper(words, keeper),
+                CpuBody::of_cpu(share, cpu),
+                None,
+            )
         }
-        Some(other) => (KeeperBody::of_keeper(words, keeper), cpu, Some(other)),
+        Some(other) => (
+            KeeperBody::of_keeper(words, keeper),
+            CpuBody::of_cpu(share, cpu),
+            Some(other),
+        ),
     }
 }

@@ -1,9 +1,8 @@
 -- Each handle is given its box, from the last.
-use Rattle.std.proofs.Common.{◌≡◌, ◌+◌, ◌-◌, ◌<◌, List, length, take, suc, subst, Some, sym, ap, ◌∙◌, arith}
-use Rattle.std.proofs.lemmas.List.{length-map, length-take-le, take_all}
+use Rattle.std.proofs.Common.{◌≡◌, ◌+◌, ◌-◌, length, take, suc, subst, Some, sym, ap, ◌∙◌, arith}
+use Rattle.std.proofs.lemmas.List.{length-map, take_all}
 use mathlib.Core.Option.{some}
 use lib.ListN.{get_elem?}
-use Rattle.passive_list.specs.Cpus.{OnPlainCpu}
 use Rattle.registry_c.specs.Opening.{AreGiven, bodies_of, boxed}
 use Rattle.registry_c.proofs.Handles.{boxed_last, given_more, taken}
 use Rattle.registry_c.proofs.opening.give_cpus.Goals as goal

@@ -1,5 +1,5 @@
 -- The handles have the new registry.
-use Rattle.std.proofs.Common.{◌≡◌, ℕ, length, Some, inl, refl, sym, ap, ◌∙◌, subst}
+use Rattle.std.proofs.Common.{ℕ, length, Some, inl, refl, sym, ap, ◌∙◌, subst}
 use Rattle.std.proofs.lemmas.List.{length-map}
 use Rattle.registry_c.specs.Opening.{AreGiven, bodies_of, boxed}
 use Rattle.registry_c.proofs.Opened.{count_down, given_open}
@@ -18,6 +18,7 @@ returns-in-Ok c =
       record {
         words = w;
         settings = c.in-Ok.ensures.settings;
+        log = c.in-Ok.made.value.keeper.log;
         keeper = c.of-in-Ok.ensures ∙ ap Some (c.of.ensures ∙ c.in-Ok.ensures.keeper);
         cpus = given_open w c.args.settings.cpus all cs c.in-Ok.ensures.cpus (subst (λ (n : ℕ). AreGiven all n cs n) c.requires.count c.give_cpus.ensures);
       },

@@ -1,24 +1,22 @@
 -- `empty` is a null pointer, and owns nothing.
-use Rattle.std.proofs.Common.{◌≡◌, List, [], ◌∷◌, ◌++◌, refl, None, lit<}
-use mir.Val.{Val, vint, vstruct, vcons, vnil}
-use mir.Syntax.{w64}
+use Rattle.std.proofs.Common.{◌≡◌, List, [], ◌∷◌, refl, None, lit<}
+use mir.Val.{Val, vstruct, vcons, vnil}
 use base.Logic.{SProp, emp}
-use base.Fml.{ftrue, fsep}
-use types.Logic.{sem}
-use types.Kit.{‵, raw, ◌⊛◌, ◌$◌, ◌∵◌, !, qed, by, move, keep, drop, join, fsplit, fjoin, fpack, use0, feq_i}
-use types.Run.{of_opd, lit, no_more, and_then, returns, enter}
-use types.ByLocal.{alloc_all, pass_all, free_all, look_at, get, sets}
+use base.Fml.{ftrue}
+use types.Kit.{‵, raw, ◌⊛◌, ◌$◌, ◌∵◌, !, qed, by, keep, fjoin, fpack, use0, feq_i}
+use types.Run.{lit, no_more, and_then, returns, enter}
+use types.ByLocal.{alloc_all, pass_all, free_all, look_at, sets}
 use types.Part.{agg}
 use contract.Monad.{fact, fact_i}
 use contract.Running.{tables}
-use denote.RattleType.{RattleType, Valss, owns}
+use denote.RattleType.{Valss, owns}
 use denote.Signature.{types_at}
 use denote.Builtin.{RawPtr}
-use denote.RawPtr.{Ptr, null_ptr, ptr_val}
+use denote.RawPtr.{null_ptr, ptr_val}
 use denote.Steps.{nothing}
 use denote.Struct.Struct.{within}
 use denote.Struct.Owning.{shape}
-use denote.Triple.Walked.{Stays, walk_of}
+use denote.Triple.Walked.{walk_of}
 use Rattle.std.proofs.raw_atomic.Walks.{proved_at, leaves}
 use Rattle.registry_c.specs.contracts.cpu_handle.CpuHandle as handle
 use Rattle.registry_c.specs.contracts.cpu_handle.CpuHandle.empty as f
