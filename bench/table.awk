@@ -58,7 +58,7 @@ function cell(name, threads, entries, operation,    time) {
     return sprintf("%9.1f ns %7.2f", time, time / time_of("registry_bench", threads, entries, operation))
 }
 
-function list_aims(entries) {
+function list_aims(entries,    o) {
     printf "\naims, list of %d\n", entries
     by_hand("lookup", "hand-padded", entries, 1.25)
     by_hand("lookup", "hand-pointed", entries, 1.15)
@@ -68,10 +68,14 @@ function list_aims(entries) {
     aim("lookup: pthread_rwlock / ours, " most " threads", time_of("pthread_rwlock", most, entries, "lookup") / ours(most, entries), "at least", most >= 4 ? 8 : 3)
     by_hand("passive", "hand-padded", entries, 1.15)
     by_hand("local", "hand-padded", entries, 1.25)
+    from_outside("lookup", "from-C", entries, 1.3)
+    from_outside("lookup", "from-Rust", entries, 1.3)
+    for (o = 1; o <= operation_count; o++)
+        by_hand(operations[o], "before", entries, 1.05)
     scaling_aim("lookup: ours, " most " threads / 1 thread", ours(most, entries) / ours(1, entries), 1.5)
 }
 
-# Ours over another's, with 1 thread and with the most.
+# Ours over another's, with 1 thread and with the most, where that was measured.
 function by_hand(operation, name, entries, goal,    t, threads, mine, other) {
     for (t = 1; t <= 2; t++) {
         threads = t == 1 ? 1 : most
@@ -79,6 +83,16 @@ function by_hand(operation, name, entries, goal,    t, threads, mine, other) {
         other = time_of(name, threads, entries, operation)
         if (other > 0)
             aim(operation ": ours / " name ", " threads (threads == 1 ? " thread" : " threads"), mine / other, "at most", goal)
+    }
+}
+
+# Our calls from another language over the same from Rattle, with 1 thread and with the most.
+function from_outside(operation, name, entries, goal,    t, threads, other) {
+    for (t = 1; t <= 2; t++) {
+        threads = t == 1 ? 1 : most
+        other = time_of(name, threads, entries, operation)
+        if (other > 0)
+            aim(operation ": " name " / ours, " threads (threads == 1 ? " thread" : " threads"), other / time_of("registry_bench", threads, entries, operation), "at most", goal)
     }
 }
 

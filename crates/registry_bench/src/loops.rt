@@ -3,7 +3,7 @@
 ghost use Rattle.std.specs.Prelude.{◌≢◌, None};
 ghost use Rattle.cpu_words.specs.Domains.{AreWordsOf};
 
-use crate::plan::Operation;
+use bench_plans::Operation;
 use cpu_words::{Domain, Words};
 use local_count::{LocalRef, acquire_local, try_release};
 use passive_list::{Cpu, enter, exit, find};

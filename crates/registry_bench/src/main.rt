@@ -2,19 +2,16 @@
 //! others read.
 #![tactic(auto)]
 
-mod failure;
 mod gate;
 mod loops;
 mod measure;
 mod opening;
 mod parts;
-mod plan;
 mod waiting;
 
-use failure::Failure;
+use bench_plans::{Failure, MOST_ENTRIES, MOST_THREADS, Operation, Plan, WaitPlan};
 use measure::measure;
 use parts::Parts;
-use plan::{MOST_ENTRIES, MOST_THREADS, Operation, Plan, WaitPlan};
 use std::alloc::Global;
 use std::env;
 use std::process::ExitCode;
@@ -193,6 +190,3 @@ fn check_waiting<R: Print + Alloc<A = Global> + Threads + Wait + Clock + Sync>(
     }
     Ok(())
 }
-
-#[cfg(test)]
-mod tests;

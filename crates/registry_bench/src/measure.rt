@@ -3,11 +3,10 @@
 ghost use Rattle.std.specs.Prelude.{◌≡◌};
 ghost use Rattle.name_registry.specs.Opening.{IsBlankOf};
 
-use crate::failure::Failure;
 use crate::gate::Gate;
 use crate::loops::{leave, make, prepare};
 use crate::opening::{attach_all, settings_for};
-use crate::plan::{Operation, Plan};
+use bench_plans::{Failure, Operation, Plan};
 use cpu_words::Domain;
 use name_registry::{Blank, Registry};
 use passive_list::Cpu;

@@ -3,7 +3,7 @@
 ghost use Rattle.std.specs.Prelude.{IfOk, IsTrue};
 ghost use Rattle.registry_values.specs.Names.{is_lawful};
 
-use crate::failure::Failure;
+use bench_plans::Failure;
 use cpu_words::Domain;
 use name_registry::Registry;
 use passive_list::Cpu;

@@ -8,25 +8,15 @@
 //! and this program, run there with `rt try -- 200 1`, ended with status 1 and a script of six lines, `drop` the last (docs/PLANTED.md).
 #![tactic(auto)]
 
-mod cutting;
-mod judging;
-mod making;
-mod sketch;
-mod tally;
-mod words;
+ghost use Rattle.script_comparison.specs.Outcomes.{Apart};
 
-ghost use Rattle.registry_compare.specs.Outcomes.{Apart};
-
-use cutting::shortest;
-use judging::{Engines, run_engine};
-use making::Maker;
 use registry_script::{Engine, RunFault, parse_number};
+use script_comparison::{Engines, Maker, Tally, run_engine, shortest};
 use std::alloc::Global;
 use std::process::ExitCode;
 use std::rt::Env;
 use std::sync::Wait;
 use std::{env, io};
-use tally::Tally;
 
 fn main(rt: HostRuntime) -> ExitCode {
     let Some((count, seed)) = asked(&rt) else {
@@ -106,6 +96,3 @@ fn print_text<R: Print>(rt: &R, text: &[u8]) -> io::Result<()> {
         Err(_) => println!(rt; "no text"),
     }
 }
-
-#[cfg(test)]
-mod tests;

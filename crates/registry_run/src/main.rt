@@ -2,20 +2,14 @@
 #![tactic(auto)]
 
 ghost use Rattle.std.specs.Prelude.{IfOk};
-ghost use Rattle.registry_run.specs.Doing.{IsPossible};
+ghost use Rattle.run_tasks.specs.Doing.{IsPossible};
 
-mod doing;
-mod failure;
-mod task;
-
-use doing::carry_out;
-use failure::{Failure, exit_code};
 use registry_script::RunFault;
+use run_tasks::{Failure, Task, carry_out, exit_code};
 use std::alloc::Global;
 use std::process::ExitCode;
 use std::rt::Env;
 use std::{env, io};
-use task::Task;
 
 fn main(rt: HostRuntime) -> ExitCode {
     let ended = match chosen(&rt) {
@@ -43,6 +37,3 @@ fn chosen(rt: &(impl Env + Alloc<A = Global>)) -> Result<Task, Failure>
         .map_err(|_| Failure::Run(RunFault::Memory))?;
     Task::parse(&words).ok_or(Failure::Usage)
 }
-
-#[cfg(test)]
-mod tests;

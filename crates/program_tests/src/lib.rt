@@ -1,0 +1,6 @@
+//! Tests of what stands below the programs: `bench_plans`, `run_tasks` and `script_comparison`. They are a crate of their own so that they are
+//! proved once, and no program with them.
+#![tactic(auto)]
+
+#[cfg(test)]
+mod tests;
