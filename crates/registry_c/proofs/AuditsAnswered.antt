@@ -1,5 +1,5 @@
 -- What an audit answers, by the test that it came to.
-use Rattle.std.proofs.Common.{◌≡◌, ℕ, ◌<◌, ◌≤◌, List, length, Option, Some, None, refl, arith}
+use Rattle.std.proofs.Common.{◌≡◌, ℕ, ◌<◌, ◌≤◌, List, length, Option, refl, arith}
 use Rattle.registry_values.specs.declared.refusal.Refusal.TheVariants.{MissingCpu}
 use Rattle.registry_values.specs.declared.settings.Settings.{Settings}
 use Rattle.registry_values.specs.Refusals.{number_of_refusal}

@@ -1,12 +1,11 @@
 -- What a call answers and leaves. Each restates the contract of the call beneath it, with the answer as its number, and says what is written.
-use Rattle.std.specs.Prelude.{◌≡◌, ◌≢◌, ◌↔◌, ◌⊎◌, ℕ, ◌<◌, Bool, IsTrue, Option, Some, None, Result, Ok, Err, IfOk, IfErr, IsErrOf}
+use Rattle.std.specs.Prelude.{◌≡◌, ◌≢◌, ◌↔◌, ◌⊎◌, ℕ, Option, Some, None, Result, Ok, Err, IfOk, IfErr, IsErrOf}
 use Rattle.registry_values.specs.declared.entry.Entry.{Entry}
 use Rattle.registry_values.specs.declared.entry.Kind.{Kind}
 use Rattle.registry_values.specs.declared.refusal.Refusal.{Refusal}
 use Rattle.registry_values.specs.declared.refusal.Refusal.TheVariants.{Inside, NotFound, TooDeep, SectionsSpent}
 use Rattle.registry_values.specs.Refusals.{Answers, number_of_refusal}
 use Rattle.cpu_words.specs.Searching.{key_with}
-use Rattle.cpu_words.specs.Views.{references_to}
 use Rattle.passive_list.specs.Cpus.{OnPlainCpu}
 use Rattle.passive_list.specs.Lookups.{HasFound}
 use Rattle.passive_list.specs.Sections.{AreSpent, HasEnteredOn, HasExitedOn}

@@ -1,5 +1,5 @@
 -- What an audit answers at each test.
-use Rattle.std.proofs.Common.{◌≡◌, ℕ, List, Option, refl, sym, ap, ◌∙◌, subst, arith}
+use Rattle.std.proofs.Common.{ℕ, List, Option, refl, sym, ap, ◌∙◌, subst, arith}
 use Rattle.registry_values.specs.declared.settings.Settings.{Settings}
 use Rattle.passive_list.specs.Cpus.{OnPlainCpu}
 use Rattle.registry_c.specs.Audits.{AreAllHere, AuditWrites, Audits}

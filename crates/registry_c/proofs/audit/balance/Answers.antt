@@ -1,5 +1,5 @@
 -- What is told of one entry.
-use Rattle.std.proofs.Common.{ap, ◌∙◌, arith, take, ℤ, List}
+use Rattle.std.proofs.Common.{ap, ◌∙◌, arith, take}
 use Rattle.std.proofs.lemmas.Int.{ints}
 use Rattle.registry_values.specs.declared.settings.Settings.{Settings}
 use Rattle.registry_values.specs.Balances.{less_bias, sum_of}

@@ -1,7 +1,6 @@
 -- One slot more.
 use Rattle.std.proofs.Common.{◌+◌, sym, ap, ◌∙◌, arith}
-use Rattle.registry_values.specs.declared.slot.Slot.{Slot}
-use Rattle.registry_c.specs.Audits.{entries_in, occupied}
+use Rattle.registry_c.specs.Audits.{entries_in}
 use Rattle.registry_c.proofs.Audited.{occupied_few, occupied_next, one_at_most}
 use Rattle.registry_c.proofs.audit.count_entries.Goals as goal
 

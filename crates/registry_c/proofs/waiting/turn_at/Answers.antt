@@ -1,11 +1,10 @@
 -- A turn that saw all CPUs out, and passed what was retired; it counts nothing to the CPU's share.
-use Rattle.std.proofs.Common.{ℕ, Bool, List, Option, None, ap, sym, subst, ◌∙◌}
+use Rattle.std.proofs.Common.{ℕ, Bool, List, Option, ap, sym, subst, ◌∙◌}
 use Rattle.registry_values.specs.declared.settings.Settings.{Settings}
 use Rattle.passive_list.specs.Cpus.{OnCpu, OnPlainCpu}
 use Rattle.passive_list.specs.Keepers.{OnKeeper}
 use Rattle.name_registry.specs.Performing.{HasGlanced, HasPassedAll}
 use Rattle.registry_c.specs.Bodies.{OnKeeperBody}
-use Rattle.registry_c.specs.declared.wait.CWait.{CWait}
 use Rattle.registry_c.proofs.Made.{glance_made}
 use Rattle.registry_c.proofs.waiting.turn_at.Goals as goal
 
