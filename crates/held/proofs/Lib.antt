@@ -1,1 +1,4 @@
+pub mod Holding
+pub mod Sent
+pub mod Turned
 pub mod Values

@@ -9,6 +9,10 @@ use std::alloc::Allocator;
 use std::marker::Model;
 use std_alloc::room::Vacant;
 
+mod handle;
+
+pub use handle::{CHandle, Handle};
+
 /// A value on the heap by its pointer. It owns what a box of it would own, and can't be dropped: `into_box` makes a box of it, and `take` gives
 /// the value and its block.
 pub struct Held<T, A: Allocator> {

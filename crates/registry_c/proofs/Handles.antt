@@ -9,7 +9,7 @@ use Rattle.atomic_table.proofs.Lists.{at_last}
 use Rattle.std_alloc.specs.declared.boxed.Box.{Box}
 use Rattle.std_heap.specs.declared.Global.{Global}
 use Rattle.passive_list.specs.Cpus.{OnPlainCpu}
-use Rattle.registry_c.specs.declared.cpu_handle.CpuHandle.{CpuHandle}
+use Rattle.registry_c.specs.declared.handle.CpuHandle.{CpuHandle}
 use Rattle.registry_c.specs.Opening.{AreGiven, bodies_of, body_at, boxed}
 
 -- a handle was written whose body is as before
@@ -34,6 +34,10 @@ set_body : (hs : List CpuHandle) (c : ℕ) (h : CpuHandle) → bodies_of (set hs
 set_body [] c h = refl
 set_body (g ∷ hs) zero h = refl
 set_body (g ∷ hs) (suc c) h = let rest = set_body hs c h in λ i. g.body ∷ rest i
+
+-- a handle was written, and what is behind another is as before
+pub others_stay : (hs : List CpuHandle) (c k : ℕ) (h : CpuHandle) → k ≢ c → body_at (bodies_of (set hs c h)) k ≡ body_at (bodies_of hs) k
+others_stay hs c k h off = ap (λ (l : List (Option OnPlainCpu)). body_at l k) (set_body hs c h) ∙ get_or-set_other (bodies_of hs) c k h.body None off
 
 -- Boxes, taken from the last
 
@@ -72,4 +76,4 @@ given_more all n c hs h b lt is at given = λ k less. dite (ℕ_discrete k c)
     (b, here, ap (λ j. get_elem? all (n - suc j)) same ∙ at))
     (λ (off : k ≢ c).
     let before = given k (omega (arith, less, off)) in
-    (before.0, ap (λ (l : List (Option OnPlainCpu)). body_at l k) (set_body hs c h) ∙ (get_or-set_other (bodies_of hs) c k h.body None off ∙ before.1), before.2))
+    (before.0, others_stay hs c k h off ∙ before.1, before.2))

@@ -1,4 +1,3 @@
-pub mod Holding
 pub mod Lists
 pub mod Inside
 pub mod Named

@@ -13,7 +13,7 @@ use Rattle.cpu_words.specs.Opening.{keeper_with}
 use Rattle.cpu_words.specs.Views.{Named, new_cpu}
 use Rattle.cpu_words.specs.declared.view.Deed.{Deed}
 use Rattle.passive_list.specs.Cpus.{OnPlainCpu}
-use Rattle.registry_c.specs.declared.cpu_handle.CpuHandle.{CpuHandle}
+use Rattle.registry_c.specs.declared.handle.CpuHandle.{CpuHandle}
 use Rattle.registry_c.specs.declared.values.TheConstants.{DONE, FULL_HANDLE}
 use Rattle.registry_c.specs.declared.values.CSettings.{CSettings}
 use Rattle.registry_c.specs.Bodies.{OnKeeperBody}

@@ -9,11 +9,11 @@ ghost use Rattle.name_registry.specs.Auditing.{Occupies, local_met, locals_met, 
 ghost use Rattle.registry_c.specs.Audits.{AreAllHere, AreAllOf, AuditAnswers, AuditWrites, Audits, IsCut, WritesNext, cpus_in, entries_in, occupied, tally_in};
 ghost use Rattle.registry_c.specs.Opening.{bodies_of, body_at};
 
-use crate::cpu_handle::{CpuHandle, give_cpu, take_cpu};
+use crate::handle::{CpuHandle, KeeperHandle};
 use crate::keeper_body::KeeperBody;
-use crate::keeper_handle::{KeeperHandle, give_keeper, take_keeper};
 use crate::values::{DONE, EMPTY_HANDLE, NO_ROOM, refused};
 use cpu_words::Domain;
+use held::CHandle;
 use name_registry::local_on;
 use passive_list::Keeper;
 use registry_values::{Refusal, Slot, less_bias, sum};
@@ -43,11 +43,11 @@ pub extern "C" fn registry_audit(
     requires { AreAllOf keeper.old.body (bodies_of cpus.old) }
     ensures { AuditAnswers keeper.old.body keeper.new.body (bodies_of cpus.old) (bodies_of cpus.new) result list.old list.new length.old length.new }
 {
-    let Some((body, room)) = take_keeper(alloc, keeper) else {
+    let Some((body, room)) = keeper.take(alloc) else {
         return EMPTY_HANDLE;
     };
     let (body, answer) = audit_body(alloc, body, cpus, list, length);
-    give_keeper(keeper, body, room);
+    keeper.give(body, room);
     answer
 }
 
@@ -130,11 +130,11 @@ fn is_cpu(alloc: Global, cpu: &mut CpuHandle, id: u8) -> bool
     ensures yes { result ≡ true → (b : OnPlainCpu) × (cpu.old.body ≡ Some b) × (b.cpu.view.id ≡ id) }
     ensures no { result ≡ false → (b : OnPlainCpu) → cpu.old.body ≡ Some b → b.cpu.view.id ≡ id → ⊥ }
 {
-    match take_cpu(alloc, cpu) {
+    match cpu.take_box(alloc) {
         None => false,
         Some(body) => {
             let is = body.id() == id;
-            give_cpu(cpu, body);
+            cpu.give_box(body);
             is
         }
     }
@@ -270,11 +270,11 @@ fn local<D: Domain>(
     ensures value { (b : OnPlainCpu) → cpu.old.body ≡ Some b → result ≡ local_met keeper.now t number b.cpu }
     ensures range { (neg_ℤ (pos (2 ^ 50)) ≤ℤ result) × (result ≤ℤ pos (2 ^ 50)) }
 {
-    match take_cpu(alloc, cpu) {
+    match cpu.take_box(alloc) {
         None => unreachable!(),
         Some(body) => {
             let local = local_on(keeper, body.plain(), t, number);
-            give_cpu(cpu, body);
+            cpu.give_box(body);
             local
         }
     }

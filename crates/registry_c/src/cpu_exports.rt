@@ -5,8 +5,9 @@ ghost use Rattle.cpu_words.specs.Views.{references_to};
 ghost use Rattle.registry_c.specs.Calls.{Acquires, Copies, CpuCloses, Enters, Exits, Finds, Reads, Releases, Through};
 
 use crate::cpu_calls;
-use crate::cpu_handle::{CpuHandle, give_cpu, take_cpu};
+use crate::handle::CpuHandle;
 use crate::values::{CEntry, CName, DONE, EMPTY_HANDLE, refused};
+use held::CHandle;
 use registry_values::Refusal;
 use std::alloc::Global;
 
@@ -15,11 +16,11 @@ use std::alloc::Global;
 pub extern "C" fn registry_close_cpu(alloc: Global, cpu: &mut CpuHandle) -> u32
     ensures { CpuCloses cpu.old.body cpu.new.body result }
 {
-    let Some(body) = take_cpu(alloc, cpu) else {
+    let Some(body) = cpu.take_box(alloc) else {
         return EMPTY_HANDLE;
     };
     if body.inside() {
-        give_cpu(cpu, body);
+        cpu.give_box(body);
         return refused(Refusal::Inside);
     }
     drop(body);
@@ -31,11 +32,11 @@ pub extern "C" fn registry_close_cpu(alloc: Global, cpu: &mut CpuHandle) -> u32
 pub extern "C" fn registry_enter(alloc: Global, cpu: &mut CpuHandle) -> u32
     ensures { Through cpu.old.body cpu.new.body result (Unit {0}) (λ a b. Enters a b result) }
 {
-    let Some(mut body) = take_cpu(alloc, cpu) else {
+    let Some(mut body) = cpu.take_box(alloc) else {
         return EMPTY_HANDLE;
     };
     let answer = cpu_calls::enter(&mut body);
-    give_cpu(cpu, body);
+    cpu.give_box(body);
     answer
 }
 
@@ -44,11 +45,11 @@ pub extern "C" fn registry_enter(alloc: Global, cpu: &mut CpuHandle) -> u32
 pub extern "C" fn registry_exit(alloc: Global, cpu: &mut CpuHandle) -> u32
     ensures { Through cpu.old.body cpu.new.body result (Unit {0}) (λ a b. Exits a b result) }
 {
-    let Some(mut body) = take_cpu(alloc, cpu) else {
+    let Some(mut body) = cpu.take_box(alloc) else {
         return EMPTY_HANDLE;
     };
     let answer = cpu_calls::exit(&mut body);
-    give_cpu(cpu, body);
+    cpu.give_box(body);
     answer
 }
 
@@ -58,11 +59,11 @@ pub extern "C" fn registry_inside(alloc: Global, cpu: &mut CpuHandle, inside: &m
     ensures { Through cpu.old.body cpu.new.body result (inside.new ≡ inside.old)
         (λ a b. (result ≡ DONE) × (b ≡ a) × (IsTrue inside.new ↔ a.cpu.view.begin ≢ None)) }
 {
-    let Some(body) = take_cpu(alloc, cpu) else {
+    let Some(body) = cpu.take_box(alloc) else {
         return EMPTY_HANDLE;
     };
     *inside = body.inside();
-    give_cpu(cpu, body);
+    cpu.give_box(body);
     DONE
 }
 
@@ -72,11 +73,11 @@ pub extern "C" fn registry_depth(alloc: Global, cpu: &mut CpuHandle, depth: &mut
     ensures { Through cpu.old.body cpu.new.body result (depth.new ≡ depth.old)
         (λ a b. (result ≡ DONE) × (b ≡ a) × (depth.new ≡ a.cpu.depth)) }
 {
-    let Some(body) = take_cpu(alloc, cpu) else {
+    let Some(body) = cpu.take_box(alloc) else {
         return EMPTY_HANDLE;
     };
     *depth = u64::from(body.depth());
-    give_cpu(cpu, body);
+    cpu.give_box(body);
     DONE
 }
 
@@ -92,11 +93,11 @@ pub extern "C" fn registry_find(
     ensures { Through cpu.old.body cpu.new.body result (found.new ≡ found.old)
         (λ a b. Finds kind name.now a b result found.old found.new) }
 {
-    let Some(mut body) = take_cpu(alloc, cpu) else {
+    let Some(mut body) = cpu.take_box(alloc) else {
         return EMPTY_HANDLE;
     };
     let answer = cpu_calls::find(&mut body, kind, name, found);
-    give_cpu(cpu, body);
+    cpu.give_box(body);
     answer
 }
 
@@ -106,11 +107,11 @@ pub extern "C" fn registry_acquire(alloc: Global, cpu: &mut CpuHandle, number: &
     ensures { Through cpu.old.body cpu.new.body result (number.new ≡ number.old)
         (λ a b. Acquires a b result number.old number.new) }
 {
-    let Some(mut body) = take_cpu(alloc, cpu) else {
+    let Some(mut body) = cpu.take_box(alloc) else {
         return EMPTY_HANDLE;
     };
     let answer = cpu_calls::acquire(&mut body, number);
-    give_cpu(cpu, body);
+    cpu.give_box(body);
     answer
 }
 
@@ -119,11 +120,11 @@ pub extern "C" fn registry_acquire(alloc: Global, cpu: &mut CpuHandle, number: &
 pub extern "C" fn registry_copy(alloc: Global, cpu: &mut CpuHandle, number: u64) -> u32
     ensures { Through cpu.old.body cpu.new.body result (Unit {0}) (λ a b. Copies number a b result) }
 {
-    let Some(mut body) = take_cpu(alloc, cpu) else {
+    let Some(mut body) = cpu.take_box(alloc) else {
         return EMPTY_HANDLE;
     };
     let answer = cpu_calls::copy(&mut body, number);
-    give_cpu(cpu, body);
+    cpu.give_box(body);
     answer
 }
 
@@ -138,11 +139,11 @@ pub extern "C" fn registry_held(
     ensures { Through cpu.old.body cpu.new.body result (held.new ≡ held.old)
         (λ a b. (result ≡ DONE) × (b ≡ a) × (IsTrue held.new ↔ 0 < references_to number a.cpu.view.references)) }
 {
-    let Some(body) = take_cpu(alloc, cpu) else {
+    let Some(body) = cpu.take_box(alloc) else {
         return EMPTY_HANDLE;
     };
     *held = body.held(number);
-    give_cpu(cpu, body);
+    cpu.give_box(body);
     DONE
 }
 
@@ -157,11 +158,11 @@ pub extern "C" fn registry_read(
     ensures { Through cpu.old.body cpu.new.body result (entry.new ≡ entry.old)
         (λ a b. Reads number a b result entry.old entry.new) }
 {
-    let Some(mut body) = take_cpu(alloc, cpu) else {
+    let Some(mut body) = cpu.take_box(alloc) else {
         return EMPTY_HANDLE;
     };
     let answer = cpu_calls::read(&mut body, number, entry);
-    give_cpu(cpu, body);
+    cpu.give_box(body);
     answer
 }
 
@@ -170,10 +171,10 @@ pub extern "C" fn registry_read(
 pub extern "C" fn registry_release(alloc: Global, cpu: &mut CpuHandle, number: u64) -> u32
     ensures { Through cpu.old.body cpu.new.body result (Unit {0}) (λ a b. Releases number a b result) }
 {
-    let Some(mut body) = take_cpu(alloc, cpu) else {
+    let Some(mut body) = cpu.take_box(alloc) else {
         return EMPTY_HANDLE;
     };
     let answer = cpu_calls::release(&mut body, number);
-    give_cpu(cpu, body);
+    cpu.give_box(body);
     answer
 }

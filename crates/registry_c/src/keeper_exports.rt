@@ -6,11 +6,11 @@ ghost use Rattle.registry_c.specs.Calls.{AreOfOne, Through, ThroughBoth};
 ghost use Rattle.registry_c.specs.KeeperCalls.{AdvanceAnswers, AttachAnswers, DestroyAnswers, DetachAnswers, KeeperCloses, PerformAnswers, TurnAnswers};
 ghost use Rattle.registry_c.specs.Values.{settings_out};
 
-use crate::cpu_handle::{CpuHandle, give_cpu, give_cpu_body, take_cpu, take_cpu_body};
+use crate::handle::{CpuHandle, KeeperHandle};
 use crate::keeper_answers;
-use crate::keeper_handle::{KeeperHandle, give_keeper, take_keeper};
 use crate::values::{CEntry, CName, CSettings, CStage, DONE, EMPTY_HANDLE, settings_out};
 use crate::wait::CWait;
+use held::CHandle;
 use std::alloc::Global;
 
 /// `registry_close_keeper` of the header.
@@ -18,7 +18,7 @@ use std::alloc::Global;
 pub extern "C" fn registry_close_keeper(alloc: Global, keeper: &mut KeeperHandle) -> u32
     ensures { KeeperCloses keeper.old.body keeper.new.body result }
 {
-    let Some((body, room)) = take_keeper(alloc, keeper) else {
+    let Some((body, room)) = keeper.take(alloc) else {
         return EMPTY_HANDLE;
     };
     drop(body);
@@ -36,11 +36,11 @@ pub extern "C" fn registry_settings_of(
     ensures { Through keeper.old.body keeper.new.body result (settings.new ≡ settings.old)
         (λ k l. (result ≡ DONE) × (l ≡ k) × (settings.new ≡ settings_out k.words.settings)) }
 {
-    let Some((body, room)) = take_keeper(alloc, keeper) else {
+    let Some((body, room)) = keeper.take(alloc) else {
         return EMPTY_HANDLE;
     };
     *settings = settings_out(body.settings());
-    give_keeper(keeper, body, room);
+    keeper.give(body, room);
     DONE
 }
 
@@ -58,16 +58,16 @@ pub extern "C" fn registry_attach(
     ensures { ThroughBoth keeper.old.body keeper.new.body cpu.old.body cpu.new.body result (made.new ≡ made.old)
         (λ k c l d. AttachAnswers name.now value k c l d result made.old made.new) }
 {
-    let Some((k, room)) = take_keeper(alloc, keeper) else {
+    let Some((k, room)) = keeper.take(alloc) else {
         return EMPTY_HANDLE;
     };
-    let Some((c, place)) = take_cpu_body(alloc, cpu) else {
-        give_keeper(keeper, k, room);
+    let Some((c, place)) = cpu.take(alloc) else {
+        keeper.give(k, room);
         return EMPTY_HANDLE;
     };
     let (k, c, answer) = keeper_answers::attach(k, c, name, value, made);
-    give_keeper(keeper, k, room);
-    give_cpu_body(cpu, c, place);
+    keeper.give(k, room);
+    cpu.give(c, place);
     answer
 }
 
@@ -85,16 +85,16 @@ pub extern "C" fn registry_detach(
     ensures { ThroughBoth keeper.old.body keeper.new.body cpu.old.body cpu.new.body result (gone.new ≡ gone.old)
         (λ k c l d. DetachAnswers kind name.now k c l d result gone.old gone.new) }
 {
-    let Some((k, room)) = take_keeper(alloc, keeper) else {
+    let Some((k, room)) = keeper.take(alloc) else {
         return EMPTY_HANDLE;
     };
-    let Some((c, place)) = take_cpu_body(alloc, cpu) else {
-        give_keeper(keeper, k, room);
+    let Some((c, place)) = cpu.take(alloc) else {
+        keeper.give(k, room);
         return EMPTY_HANDLE;
     };
     let (k, c, answer) = keeper_answers::detach(k, c, kind, name, gone);
-    give_keeper(keeper, k, room);
-    give_cpu_body(cpu, c, place);
+    keeper.give(k, room);
+    cpu.give(c, place);
     answer
 }
 
@@ -109,11 +109,11 @@ pub extern "C" fn registry_advance(
     ensures { Through keeper.old.body keeper.new.body result (met.new ≡ met.old)
         (λ k l. AdvanceAnswers number k l result met.old met.new) }
 {
-    let Some((k, room)) = take_keeper(alloc, keeper) else {
+    let Some((k, room)) = keeper.take(alloc) else {
         return EMPTY_HANDLE;
     };
     let (k, answer) = keeper_answers::advance(k, number, met);
-    give_keeper(keeper, k, room);
+    keeper.give(k, room);
     answer
 }
 
@@ -130,16 +130,16 @@ pub extern "C" fn registry_destroy(
     ensures { ThroughBoth keeper.old.body keeper.new.body cpu.old.body cpu.new.body result (met.new ≡ met.old)
         (λ k c l d. (d ≡ c) × DestroyAnswers (is_inside c.cpu) number k l result met.old met.new) }
 {
-    let Some((k, room)) = take_keeper(alloc, keeper) else {
+    let Some((k, room)) = keeper.take(alloc) else {
         return EMPTY_HANDLE;
     };
-    let Some(c) = take_cpu(alloc, cpu) else {
-        give_keeper(keeper, k, room);
+    let Some(c) = cpu.take_box(alloc) else {
+        keeper.give(k, room);
         return EMPTY_HANDLE;
     };
     let (k, answer) = keeper_answers::destroy(k, c.is_inside(), number, met);
-    give_keeper(keeper, k, room);
-    give_cpu(cpu, c);
+    keeper.give(k, room);
+    cpu.give_box(c);
     answer
 }
 
@@ -155,16 +155,16 @@ pub extern "C" fn registry_perform(
     ensures { ThroughBoth keeper.old.body keeper.new.body cpu.old.body cpu.new.body result (wait.new ≡ wait.old)
         (λ k c l d. PerformAnswers k c l d result wait.old wait.new) }
 {
-    let Some((k, room)) = take_keeper(alloc, keeper) else {
+    let Some((k, room)) = keeper.take(alloc) else {
         return EMPTY_HANDLE;
     };
-    let Some((c, place)) = take_cpu_body(alloc, cpu) else {
-        give_keeper(keeper, k, room);
+    let Some((c, place)) = cpu.take(alloc) else {
+        keeper.give(k, room);
         return EMPTY_HANDLE;
     };
     let (k, c, answer) = keeper_answers::perform(k, c, wait);
-    give_keeper(keeper, k, room);
-    give_cpu_body(cpu, c, place);
+    keeper.give(k, room);
+    cpu.give(c, place);
     answer
 }
 
@@ -181,15 +181,15 @@ pub extern "C" fn registry_perform_turn(
     ensures { ThroughBoth keeper.old.body keeper.new.body cpu.old.body cpu.new.body result ((wait.new ≡ wait.old) × (waited.new ≡ waited.old))
         (λ k c l d. TurnAnswers k c l d result wait.old wait.new waited.old waited.new) }
 {
-    let Some((k, room)) = take_keeper(alloc, keeper) else {
+    let Some((k, room)) = keeper.take(alloc) else {
         return EMPTY_HANDLE;
     };
-    let Some((c, place)) = take_cpu_body(alloc, cpu) else {
-        give_keeper(keeper, k, room);
+    let Some((c, place)) = cpu.take(alloc) else {
+        keeper.give(k, room);
         return EMPTY_HANDLE;
     };
     let (k, c, answer) = keeper_answers::turn(k, c, wait, waited);
-    give_keeper(keeper, k, room);
-    give_cpu_body(cpu, c, place);
+    keeper.give(k, room);
+    cpu.give(c, place);
     answer
 }

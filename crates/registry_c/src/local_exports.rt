@@ -5,12 +5,11 @@ ghost use Rattle.registry_c.specs.Calls.{AreOfOne, IsOfCpu, IsOfKeeper, Through}
 ghost use Rattle.registry_c.specs.LocalCalls.{AttachIfaceAnswers, LocalAcquireAnswers, LocalGivesUp, LocalReleases, ThroughAll, ThroughLocal};
 ghost use Rattle.registry_c.specs.Values.{entry_out};
 
-use crate::cpu_handle::{CpuHandle, give_cpu, give_cpu_body, take_cpu, take_cpu_body};
-use crate::keeper_handle::{KeeperHandle, give_keeper, take_keeper};
+use crate::handle::{CpuHandle, KeeperHandle, LocalHandle};
 use crate::local_body::{acquire_local, release_local};
-use crate::local_handle::{LocalHandle, give_local, settle_local, take_local};
 use crate::local_keeper::{attach_iface, give_up};
 use crate::values::{CEntry, CName, DONE, EMPTY_HANDLE, FULL_HANDLE, entry_out, refused};
+use held::CHandle;
 use std::alloc::Global;
 
 /// `registry_local_acquire` of the header.
@@ -22,19 +21,19 @@ pub extern "C" fn registry_local_acquire(
 ) -> u32
     ensures { LocalAcquireAnswers cpu.old.body cpu.new.body local.old.body local.new.body result }
 {
-    let Some(mut body) = take_cpu(alloc, cpu) else {
+    let Some(mut body) = cpu.take_box(alloc) else {
         return EMPTY_HANDLE;
     };
-    if let Some((reference, room)) = take_local(alloc, local) {
-        give_local(local, reference, room);
-        give_cpu(cpu, body);
+    if let Some((reference, room)) = local.take(alloc) {
+        local.give(reference, room);
+        cpu.give_box(body);
         return FULL_HANDLE;
     }
     let made = acquire_local(alloc, &mut body);
-    give_cpu(cpu, body);
+    cpu.give_box(body);
     match made {
         Ok((reference, room)) => {
-            give_local(local, reference, room);
+            local.give(reference, room);
             DONE
         }
         Err(refusal) => refused(refusal),
@@ -51,11 +50,11 @@ pub extern "C" fn registry_local_read(
     ensures { Through local.old.body local.new.body result (entry.new ≡ entry.old)
         (λ v w. (result ≡ DONE) × (w ≡ v) × (entry.new ≡ entry_out v.reference.entry)) }
 {
-    let Some((mut reference, room)) = take_local(alloc, local) else {
+    let Some((mut reference, room)) = local.take(alloc) else {
         return EMPTY_HANDLE;
     };
     *entry = entry_out(reference.entry());
-    give_local(local, reference, room);
+    local.give(reference, room);
     DONE
 }
 
@@ -69,16 +68,16 @@ pub extern "C" fn registry_local_release(
     requires { IsOfCpu cpu.old.body local.old.body }
     ensures { ThroughLocal cpu.old.body cpu.new.body local.old.body local.new.body result (λ a v b l. LocalReleases a v b result l) }
 {
-    let Some(mut body) = take_cpu(alloc, cpu) else {
+    let Some(mut body) = cpu.take_box(alloc) else {
         return EMPTY_HANDLE;
     };
-    let Some((reference, room)) = take_local(alloc, local) else {
-        give_cpu(cpu, body);
+    let Some((reference, room)) = local.take(alloc) else {
+        cpu.give_box(body);
         return EMPTY_HANDLE;
     };
     let (answer, back) = release_local(&mut body, reference);
-    give_cpu(cpu, body);
-    settle_local(local, back, room);
+    cpu.give_box(body);
+    local.settle(back, room);
     answer
 }
 
@@ -92,16 +91,16 @@ pub extern "C" fn registry_local_give_up(
     requires { IsOfKeeper keeper.old.body local.old.body }
     ensures { ThroughLocal keeper.old.body keeper.new.body local.old.body local.new.body result (λ k v j l. LocalGivesUp k v j result l) }
 {
-    let Some((k, place)) = take_keeper(alloc, keeper) else {
+    let Some((k, place)) = keeper.take(alloc) else {
         return EMPTY_HANDLE;
     };
-    let Some((reference, room)) = take_local(alloc, local) else {
-        give_keeper(keeper, k, place);
+    let Some((reference, room)) = local.take(alloc) else {
+        keeper.give(k, place);
         return EMPTY_HANDLE;
     };
     let (k, answer, back) = give_up(k, reference);
-    give_keeper(keeper, k, place);
-    settle_local(local, back, room);
+    keeper.give(k, place);
+    local.settle(back, room);
     answer
 }
 
@@ -121,21 +120,21 @@ pub extern "C" fn registry_attach_iface(
     ensures { ThroughAll keeper.old.body keeper.new.body cpu.old.body cpu.new.body driver.old.body driver.new.body result (made.new ≡ made.old)
         (λ k c v j d l. AttachIfaceAnswers name.now value k c v j d l result made.old made.new) }
 {
-    let Some((k, place)) = take_keeper(alloc, keeper) else {
+    let Some((k, place)) = keeper.take(alloc) else {
         return EMPTY_HANDLE;
     };
-    let Some((c, site)) = take_cpu_body(alloc, cpu) else {
-        give_keeper(keeper, k, place);
+    let Some((c, site)) = cpu.take(alloc) else {
+        keeper.give(k, place);
         return EMPTY_HANDLE;
     };
-    let Some((reference, room)) = take_local(alloc, driver) else {
-        give_keeper(keeper, k, place);
-        give_cpu_body(cpu, c, site);
+    let Some((reference, room)) = driver.take(alloc) else {
+        keeper.give(k, place);
+        cpu.give(c, site);
         return EMPTY_HANDLE;
     };
     let (k, c, answer, back) = attach_iface(k, c, reference, name, value, made);
-    give_keeper(keeper, k, place);
-    give_cpu_body(cpu, c, site);
-    settle_local(driver, back, room);
+    keeper.give(k, place);
+    cpu.give(c, site);
+    driver.settle(back, room);
     answer
 }

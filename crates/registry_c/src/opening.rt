@@ -9,12 +9,11 @@ ghost use Rattle.registry_c.specs.Bodies.{OnKeeperBody};
 ghost use Rattle.registry_c.specs.Values.{settings_in};
 
 use crate::cpu_body::CpuBody;
-use crate::cpu_handle::{CpuHandle, give_cpu, take_cpu};
+use crate::handle::{CpuHandle, KeeperHandle};
 use crate::keeper_body::KeeperBody;
-use crate::keeper_handle::{KeeperHandle, give_keeper, take_keeper};
 use crate::values::{CSettings, DONE, FULL_HANDLE, refused, settings_in};
 use cpu_words::{CpuSeat, Domain, KeeperSeat, Words};
-use held::Held;
+use held::CHandle;
 use passive_list::{Keeper, PlainCpu};
 use registry_values::{Refusal, Settings};
 use std::alloc::{AllocError, Global};
@@ -45,7 +44,7 @@ pub extern "C" fn registry_open(
     open_into(alloc, settings, keeper, cpus)
 }
 
-/// Opens a registry into the handles. The answer is that it is done, or that there was no memory.
+/// Opens a registry into the handles, which are empty. The answer is that it is done, or that there was no memory.
 fn open_into(
     alloc: Global,
     settings: Settings,
@@ -54,12 +53,13 @@ fn open_into(
 ) -> u32
     requires fit { IsTrue (are_fit settings) }
     requires count { length cpus.old ≡ settings.cpus }
+    requires empty { (keeper.old.body ≡ None) × AreEmpty (bodies_of cpus.old) }
     ensures { HasOpened settings keeper.old.body keeper.new.body (bodies_of cpus.old) (bodies_of cpus.new) result }
 {
     match open(alloc, settings) {
         Ok((made, bodies)) => {
             give_cpus(cpus, bodies);
-            *keeper = KeeperHandle::of(Held::of(made));
+            keeper.give_box(made);
             DONE
         }
         Err(refusal) => refused(refusal),
@@ -94,10 +94,10 @@ fn is_keeper_empty(alloc: Global, keeper: &mut KeeperHandle) -> bool
     ensures empty { result ≡ true → keeper.old.body ≡ None }
     ensures full { result ≡ false → (k : OnKeeperBody) × (keeper.old.body ≡ Some k) }
 {
-    match take_keeper(alloc, keeper) {
+    match keeper.take(alloc) {
         None => true,
         Some((body, room)) => {
-            give_keeper(keeper, body, room);
+            keeper.give(body, room);
             false
         }
     }
@@ -109,10 +109,10 @@ fn is_cpu_empty(alloc: Global, cpu: &mut CpuHandle) -> bool
     ensures empty { result ≡ true → cpu.old.body ≡ None }
     ensures full { result ≡ false → (b : OnPlainCpu) × (cpu.old.body ≡ Some b) }
 {
-    match take_cpu(alloc, cpu) {
+    match cpu.take_box(alloc) {
         None => true,
         Some(body) => {
-            give_cpu(cpu, body);
+            cpu.give_box(body);
             false
         }
     }
@@ -132,16 +132,17 @@ fn are_empty(alloc: Global, cpus: &mut [CpuHandle]) -> bool
     true
 }
 
-/// Puts each box behind its handle. The boxes come with the last handle's first.
+/// Puts each box behind its handle, which is empty. The boxes come with the last handle's first.
 fn give_cpus(cpus: &mut [CpuHandle], mut bodies: Vec<Box<CpuBody, Global>>)
-    requires { length bodies.items ≡ length cpus.old }
+    requires count { length bodies.items ≡ length cpus.old }
+    requires empty { AreEmpty (bodies_of cpus.old) }
     ensures { AreGiven (boxed bodies.items) (length cpus.old) (bodies_of cpus.new) (length cpus.old) }
 {
     for c in 0..cpus.len() {
         let Some(body) = bodies.pop() else {
             unreachable!()
         };
-        cpus[c] = CpuHandle::of(Held::of(body));
+        cpus[c].give_box(body);
     }
 }
 

@@ -16,7 +16,6 @@ use contract.Running.{tables}
 use denote.Exit.{no}
 use denote.RattleType.{RattleType, owns}
 use denote.Signature.{types_at, plain}
-use denote.Memory.{part_at}
 use denote.RawPtr.{block_ptr}
 use denote.Steps.{nothing}
 use denote.Param.{param, bounded}

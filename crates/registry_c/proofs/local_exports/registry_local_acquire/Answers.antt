@@ -11,11 +11,11 @@ returns-in-Ok c =
     let e = c.in-Ok.ensures in
     record {
       empty = λ none. absurd (no_body _ _ was none);
-      full = λ a v is has. absurd (no_body _ _ has c.in_default-take_local.ensures.body);
+      full = λ a v is has. absurd (no_body _ _ has c.in_default-take.ensures.body);
       made = λ a is none. (
         b,
-        c.give_cpu-2.ensures,
-        subst (λ (x : OnPlainCpu). LocalAcquires x b 0 c.give_local-in-Ok.new.local.body) (one_body _ _ _ was is) (record {
+        c.give_box-2.ensures,
+        subst (λ (x : OnPlainCpu). LocalAcquires x b 0 c.give-in-Ok.new.self.body) (one_body _ _ _ was is) (record {
           r = Ok c.in-Ok.reference;
           is = refl;
           ok = (e.ok, e.table);
@@ -24,7 +24,7 @@ returns-in-Ok c =
           full = (λ q. absurd (not_refused _ _ q), λ full. absurd (not_refused _ _ (e.full.1 full)));
           no_other = tt;
           words = e.words;
-          handle = c.give_local-in-Ok.ensures;
+          handle = c.give-in-Ok.ensures;
         }),
       );
     }
@@ -36,11 +36,11 @@ returns-in-Err c =
     let e = c.in-Err.ensures in
     record {
       empty = λ none. absurd (no_body _ _ was none);
-      full = λ a v is has. absurd (no_body _ _ has c.in_default-take_local.ensures.body);
+      full = λ a v is has. absurd (no_body _ _ has c.in_default-take.ensures.body);
       made = λ a is none. (
         b,
-        c.give_cpu-2.ensures,
-        subst (λ (x : OnPlainCpu). LocalAcquires x b c.refused.result c.take_local.new.local.body) (one_body _ _ _ was is) (record {
+        c.give_box-2.ensures,
+        subst (λ (x : OnPlainCpu). LocalAcquires x b c.refused.result c.take.new.self.body) (one_body _ _ _ was is) (record {
           r = Err c.in-Err.refusal;
           is = c.refused.ensures;
           ok = tt;
@@ -49,7 +49,7 @@ returns-in-Err c =
           full = (λ q. e.full.0 (refused_too _ _ q), λ full. refused_too _ _ (e.full.1 full));
           no_other = e.no_other;
           words = e.words;
-          handle = c.in_default-take_local.ensures.empty;
+          handle = c.in_default-take.ensures.empty;
         }),
       );
     }

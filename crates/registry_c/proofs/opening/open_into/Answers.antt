@@ -6,7 +6,10 @@ use Rattle.registry_c.proofs.Opened.{count_down, given_open}
 use Rattle.registry_c.proofs.opening.open_into.Goals as goal
 
 pub give_cpus-requires : goal.give_cpus-requires
-give_cpus-requires c = sym (length-map c.in-Ok.bodies.items (λ b. b.value)) ∙ (ap length c.in-Ok.ensures.cpus ∙ (count_down _ _ _ ∙ sym c.requires.count))
+give_cpus-requires c = record {
+  count = sym (length-map c.in-Ok.bodies.items (λ b. b.value)) ∙ (ap length c.in-Ok.ensures.cpus ∙ (count_down _ _ _ ∙ sym c.requires.count));
+  empty = c.requires.empty.1;
+}
 
 pub returns-in-Ok : goal.returns-in-Ok
 returns-in-Ok c =
@@ -19,7 +22,7 @@ returns-in-Ok c =
         words = w;
         settings = c.in-Ok.ensures.settings;
         log = c.in-Ok.made.value.keeper.log;
-        keeper = c.of-in-Ok.ensures ∙ ap Some (c.of.ensures ∙ c.in-Ok.ensures.keeper);
+        keeper = c.give_box.ensures ∙ ap Some c.in-Ok.ensures.keeper;
         cpus = given_open w c.args.settings.cpus all cs c.in-Ok.ensures.cpus (subst (λ (n : ℕ). AreGiven all n cs n) c.requires.count c.give_cpus.ensures);
       },
     )

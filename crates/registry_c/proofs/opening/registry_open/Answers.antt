@@ -5,7 +5,7 @@ use Rattle.registry_values.specs.Limits.{are_fit}
 use Rattle.registry_values.specs.Refusals.{number_of_refusal}
 use Rattle.passive_list.specs.Cpus.{OnPlainCpu}
 use Rattle.registry_c.specs.Bodies.{OnKeeperBody}
-use Rattle.registry_c.specs.Opening.{HasOpened, Opens, bodies_of}
+use Rattle.registry_c.specs.Opening.{AreEmpty, HasOpened, Opens, bodies_of}
 use Rattle.registry_c.proofs.Handles.{count_bodies}
 use Rattle.registry_c.proofs.Opens.{bad_settings, came_to_open, full_handle, missing_cpu}
 use Rattle.registry_c.proofs.opening.registry_open.Goals as goal
@@ -30,9 +30,11 @@ returns-then-not-are_all_empty c =
 pub open_into-requires : goal.open_into-requires
 open_into-requires c =
     let same = c.are_all_empty.ensures.same in
+    let yes = c.are_all_empty.ensures.empty c.if-not-are_all_empty.false in
     record {
       fit = subst (λ (z : Settings). are_fit z ≡ true) (sym c.in-Ok.ensures.ok.0) c.in-Ok.ensures.ok.1;
       count = sym (count_bodies c.are_all_empty.new.cpus) ∙ (ap length same.1 ∙ (count_bodies c.args.cpus.now ∙ c.if-cpus-count.false));
+      empty = (same.0 ∙ yes.0, subst AreEmpty (sym same.1) yes.1);
     }
 
 pub returns : goal.returns
