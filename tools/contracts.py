@@ -20,7 +20,7 @@ import tarfile
 
 ROOT = pathlib.Path(__file__).resolve().parent.parent
 OWNER = re.compile(r"(?:pub )?(impl|trait)\b(?:<[^{]*?>)?\s*(.*?)\s*(?:where\b.*)?(?:: .*)?\{$")
-FUNCTION = re.compile(r"( *)(pub )?(?:const |unsafe )*fn (\w+)")
+FUNCTION = re.compile(r"( *)(pub )?(?:final |const |unsafe )*fn (\w+)")
 
 
 def sources(revision):
@@ -50,7 +50,7 @@ def contract(lines, indent):
     for line in lines:
         if line in (indent + "{", indent + "{}"):
             break
-        last = line.endswith((" {", ";")) and not re.match(r"\s*(requires|ensures)\b", line)
+        last = line.endswith(";") or line.endswith(" {") and not re.match(r"\s*(requires|ensures)\b", line)
         text = line[:-1].rstrip() if last else line
         if parts and re.match(indent + r"    (requires|ensures|\w+ \{)", line):
             parts.append([text])
