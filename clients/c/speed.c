@@ -10,7 +10,11 @@
 #include "entries.h"
 
 static struct registry_keeper keeper;
-static struct registry_cpu cpus[MOST_THREADS];
+
+/* Each call writes the handle that it is given, so each thread's lies on cache lines of its own. */
+static struct {
+	_Alignas(128) struct registry_cpu cpu;
+} seats[MOST_THREADS];
 
 static void attach_all(const struct plan *plan)
 {
@@ -18,7 +22,7 @@ static void attach_all(const struct plan *plan)
 	make_keys(plan);
 	for (unsigned i = 0; i < entries; i++) {
 		struct registry_name name = {keys[i].high, keys[i].low};
-		DONE(registry_attach(&keeper, &cpus[0], &name, i, &made));
+		DONE(registry_attach(&keeper, &seats[0].cpu, &name, i, &made));
 	}
 }
 
@@ -26,13 +30,16 @@ static void open_registry(const struct plan *plan)
 {
 	const struct registry_settings settings = {
 	    plan->threads, REGISTRY_MOST_SLOTS, REGISTRY_MOST_CHANGES, REGISTRY_MOST_COUNT, REGISTRY_MOST_COUNT, REGISTRY_MOST_COUNT};
+	struct registry_cpu cpus[MOST_THREADS] = {{0}};
 	DONE(registry_open(&settings, &keeper, cpus, plan->threads));
+	for (unsigned i = 0; i < plan->threads; i++)
+		seats[i].cpu = cpus[i];
 	attach_all(plan);
 }
 
 static uint64_t look_up(unsigned thread, const struct key *key)
 {
-	struct registry_cpu *cpu = &cpus[thread];
+	struct registry_cpu *cpu = &seats[thread].cpu;
 	struct registry_name name = {key->high, key->low};
 	struct registry_entry found;
 	bool right = registry_enter(cpu) == REGISTRY_DONE && registry_find(cpu, REGISTRY_DRIVER, &name, &found) == REGISTRY_DONE;
@@ -56,7 +63,7 @@ static void begin_at_first(struct registry_cpu *cpu)
 
 static uint64_t passives(unsigned thread, uint64_t count)
 {
-	struct registry_cpu *cpu = &cpus[thread];
+	struct registry_cpu *cpu = &seats[thread].cpu;
 	uint64_t right = 0, number;
 	begin_at_first(cpu);
 	for (uint64_t made = 0; made < count; made++)
@@ -67,7 +74,7 @@ static uint64_t passives(unsigned thread, uint64_t count)
 
 static uint64_t locals(unsigned thread, uint64_t count)
 {
-	struct registry_cpu *cpu = &cpus[thread];
+	struct registry_cpu *cpu = &seats[thread].cpu;
 	struct registry_local local = {0};
 	uint64_t right = 0;
 	begin_at_first(cpu);
@@ -104,7 +111,7 @@ int main(int argc, char **argv)
 	printf("threads %u entries %u lookup %.2f", plan.threads, plan.entries, nanoseconds_each(&FACE, FACE.lookups, &plan));
 	printf(" passive %.2f local %.2f\n", nanoseconds_each(&FACE, FACE.passives, &plan), nanoseconds_each(&FACE, FACE.locals, &plan));
 	for (unsigned i = 0; i < plan.threads; i++)
-		DONE(registry_close_cpu(&cpus[i]));
+		DONE(registry_close_cpu(&seats[i].cpu));
 	DONE(registry_close_keeper(&keeper));
 	return 0;
 }

@@ -28,6 +28,8 @@ use std::ops::Deref;
 /// })
 /// .unwrap();
 /// ```
+// Each call writes the handle, so two CPUs' lie on cache lines of their own.
+#[repr(align(128))]
 pub struct Cpu<'id> {
     registry: Registry<'id>,
     id: u8,
@@ -48,6 +50,7 @@ impl<'id> Cpu<'id> {
     }
 
     /// The handle, for one call.
+    #[inline]
     pub(crate) fn handle(&self) -> *mut ffi::Cpu {
         self.handle.get()
     }
@@ -91,6 +94,7 @@ impl<'id> Cpu<'id> {
     /// # Errors
     ///
     /// `TooDeep`, `SectionsSpent`.
+    #[inline]
     pub fn enter(&self) -> Result<Section<'_, 'id>, Refusal> {
         // SAFETY: as for `depth`.
         checked(unsafe { ffi::registry_enter(self.handle()) })?;
@@ -106,6 +110,7 @@ impl<'id> Cpu<'id> {
     }
 
     /// Releases the local references that were dropped on threads without a CPU. Each acquire of a local one does so first.
+    #[inline]
     pub fn release_dropped(&self) {
         if self.registry.shared().has_dropped() {
             // SAFETY: this thread alone has the CPU, and doesn't hold the interlock, which no code of a caller ever holds.
@@ -164,6 +169,7 @@ impl<'cpu, 'id> Section<'cpu, 'id> {
     /// })
     /// .unwrap();
     /// ```
+    #[inline]
     pub fn find(&mut self, kind: Kind, name: &Name) -> Option<Found<'_, 'cpu, 'id>> {
         let mut found = ffi::Entry::default();
         // SAFETY: this thread alone has the CPU, whose handle isn't empty.
@@ -187,10 +193,12 @@ impl<'cpu, 'id> Section<'cpu, 'id> {
     }
 
     /// Exits, as dropping it does.
+    #[inline]
     pub fn exit(self) {}
 }
 
 impl Drop for Section<'_, '_> {
+    #[inline]
     fn drop(&mut self) {
         // SAFETY: as for `find`. One exit for the one enter that made the guard, so the CPU is inside.
         unsafe { ffi::registry_exit(self.cpu.handle()) };
@@ -217,6 +225,7 @@ impl<'cpu, 'id> Found<'_, 'cpu, 'id> {
     /// # Errors
     ///
     /// `Superseded` where this CPU has looked up something else since, which only a section within this one can; `PassiveFull`.
+    #[inline]
     pub fn acquire(&self) -> Result<PassiveRef<'cpu, 'id>, Refusal> {
         self.check_last()?;
         let mut number = 0;
@@ -230,6 +239,7 @@ impl<'cpu, 'id> Found<'_, 'cpu, 'id> {
     /// # Errors
     ///
     /// `Superseded` as of [`Found::acquire`]; `LocalFull`, `NoMemory`.
+    #[inline]
     pub fn acquire_local(&self) -> Result<LocalRef<'id>, Refusal> {
         self.check_last()?;
         self.cpu.release_dropped();
@@ -240,6 +250,7 @@ impl<'cpu, 'id> Found<'_, 'cpu, 'id> {
     }
 
     /// The CPU's last found entry is this one.
+    #[inline]
     fn check_last(&self) -> Result<(), Refusal> {
         if self.cpu.last.get() == self.entry.number {
             Ok(())
@@ -252,6 +263,7 @@ impl<'cpu, 'id> Found<'_, 'cpu, 'id> {
 impl Deref for Found<'_, '_, '_> {
     type Target = Entry;
 
+    #[inline]
     fn deref(&self) -> &Entry {
         &self.entry
     }

@@ -54,11 +54,13 @@ pub struct LocalRef<'id> {
 }
 
 impl<'id> LocalRef<'id> {
+    #[inline]
     pub(crate) fn new(registry: Registry<'id>, number: u64, handle: ffi::Local) -> LocalRef<'id> {
         LocalRef { registry, number, handle }
     }
 
     /// The handle, to spend; `restored` puts it back where it wasn't spent.
+    #[inline]
     pub(crate) fn into_handle(mut self) -> ffi::Local {
         mem::replace(&mut self.handle, ffi::Local::EMPTY)
     }
@@ -79,6 +81,7 @@ impl<'id> LocalRef<'id> {
 
     /// Releases it on this CPU, which needn't be the one that acquired it. Where a drain has collected this CPU's count, it waits for the
     /// interlock.
+    #[inline]
     pub fn release(self, cpu: &Cpu<'id>) {
         let shared = self.registry.shared();
         // SAFETY: the CPU is of the same registry and this thread's, and no code of a caller holds the interlock.
@@ -87,6 +90,7 @@ impl<'id> LocalRef<'id> {
 }
 
 impl Drop for LocalRef<'_> {
+    #[inline]
     fn drop(&mut self) {
         let handle = mem::replace(&mut self.handle, ffi::Local::EMPTY);
         if !handle.is_empty() {

@@ -49,6 +49,7 @@ pub struct PassiveRef<'cpu, 'id> {
 }
 
 impl<'cpu, 'id> PassiveRef<'cpu, 'id> {
+    #[inline]
     pub(crate) fn new(cpu: &'cpu Cpu<'id>, number: u64) -> PassiveRef<'cpu, 'id> {
         PassiveRef { cpu, number }
     }
@@ -64,6 +65,7 @@ impl<'cpu, 'id> PassiveRef<'cpu, 'id> {
     }
 
     /// Its entry, as it was attached; in a section or outside.
+    #[inline]
     pub fn read(&self) -> Entry {
         let mut entry = ffi::Entry::default();
         // SAFETY: this thread alone has the CPU, whose handle isn't empty.
@@ -77,6 +79,7 @@ impl<'cpu, 'id> PassiveRef<'cpu, 'id> {
     /// # Errors
     ///
     /// `PassiveFull`.
+    #[inline]
     pub fn try_clone(&self) -> Result<PassiveRef<'cpu, 'id>, Refusal> {
         // SAFETY: as for `read`.
         checked(unsafe { ffi::registry_copy(self.cpu.handle(), self.number) })?;
@@ -84,10 +87,12 @@ impl<'cpu, 'id> PassiveRef<'cpu, 'id> {
     }
 
     /// Releases it, as dropping it does.
+    #[inline]
     pub fn release(self) {}
 }
 
 impl Drop for PassiveRef<'_, '_> {
+    #[inline]
     fn drop(&mut self) {
         // SAFETY: as for `read`. One release for the one acquire that made it.
         unsafe { ffi::registry_release(self.cpu.handle(), self.number) };

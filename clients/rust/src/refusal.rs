@@ -73,6 +73,7 @@ impl Refusal {
 }
 
 /// An answer as a result. The calls of this crate can meet no other refusals: the others are what its types rule out.
+#[inline]
 pub(crate) fn checked(answer: u32) -> Result<(), Refusal> {
     match answer {
         ffi::DONE => Ok(()),

@@ -75,6 +75,7 @@ impl Shared {
     }
 
     /// Whether something may lie in the basket.
+    #[inline]
     pub fn has_dropped(&self) -> bool {
         self.dropped.load(Ordering::Relaxed) != 0
     }
@@ -100,6 +101,7 @@ impl Shared {
     /// # Safety
     ///
     /// The handle is of a CPU of this registry, which this thread runs on, and not in use; the caller doesn't hold the interlock.
+    #[inline]
     pub unsafe fn release_local(&self, cpu: *mut ffi::Cpu, mut local: ffi::Local) {
         if ffi::registry_local_release(cpu, &mut local) != ffi::DONE {
             ffi::registry_local_give_up(&mut *self.keeper(), &mut local);

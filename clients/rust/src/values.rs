@@ -15,6 +15,7 @@ pub enum Kind {
 }
 
 impl Kind {
+    #[inline]
     pub(crate) fn number(self) -> u64 {
         match self {
             Kind::Iface => ffi::INTERFACE,
@@ -129,6 +130,7 @@ pub struct Entry {
 }
 
 impl Entry {
+    #[inline]
     pub(crate) fn of(entry: ffi::Entry) -> Entry {
         Entry {
             number: entry.number,
