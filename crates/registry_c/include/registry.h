@@ -8,6 +8,7 @@
  *
  * A CPU belongs to the thread that runs on it: one call at a time uses its handle. It enters a section, finds entries in it, and exits;
  * no entry that it found loses its slot before that. No call waits, and none but registry_open(3) and registry_local_acquire(3) takes memory.
+ * Each call writes the handle that it is given, so handles that several threads use lie best on cache lines of their own.
  *
  * The keeper belongs to whoever holds the caller's lock, the interlock: a pthread mutex, say. It attaches and detaches entries, and works
  * on the detached ones, which are retired, until nothing can hold them: one turn a call, so that the caller gives the interlock up between.

@@ -24,6 +24,8 @@ use std::sync::ledger::Blank;
 pub struct CpuBody {
     pub words: Arc<Words, Global>,
     pub cpu: PlainCpu,
+    /// Never written: it keeps the CPU's data off the cache lines of the body in the next block.
+    pub apart: [u64; 16],
 }
 
 impl Model for CpuBody {
@@ -45,7 +47,11 @@ impl CpuBody {
         ensures { IfOk result (λ body. body ≡ cpu) }
     {
         let words = Arc::try_clone(words)?;
-        Ok(CpuBody { words, cpu })
+        Ok(CpuBody {
+            words,
+            cpu,
+            apart: [0; 16],
+        })
     }
 
     /// Puts its table's name on, for one call. The CPU's share is all of a ledger that is made for the call.
@@ -56,7 +62,11 @@ impl CpuBody {
         ensures body { (result.0.value ≡ self.words) × (result.1 ≡ self.cpu) }
         ensures none { result.1.made ≡ 0 }
     {
-        let CpuBody { words, cpu } = self;
+        let CpuBody {
+            words,
+            cpu,
+            apart: _,
+        } = self;
         // Reading it opens what a plain CPU says of itself: that it made nothing.
         let _depth = cpu.depth;
         let (_book, share) = changes.open::<D>();
@@ -71,7 +81,11 @@ impl CpuBody {
     {
         let Cpu { plain, share: _ } = cpu;
         let _depth = plain.depth;
-        CpuBody { words, cpu: plain }
+        CpuBody {
+            words,
+            cpu: plain,
+            apart: [0; 16],
+        }
     }
 
     /// The CPU's number, from 0.
