@@ -1,5 +1,5 @@
 -- What the commands on local references rest on.
-use Rattle.std.proofs.Common.{◌≡◌, ℕ, zero, suc, ◌+◌, ◌-◌, ◌<◌, ◌≤◌, ◌⊎◌, inl, inr, ⊎_elim, List, [], ◌∷◌, ◌++◌, length, length-set, get_or, set, cond, position, Option, Some, None, IsSome, Result, Ok, Err, OnOk, OnErr, Bool, true, false, ◌&&◌, ◌||◌, nat_lt, nat_eq, refl, sym, ap, subst, ◌∙◌, arith, sum_by, get_or-set_same, ne_eqb}
+use Rattle.std.proofs.Common.{◌≡◌, ℕ, zero, suc, ◌+◌, ◌-◌, ◌<◌, ◌≤◌, ◌⊎◌, inl, inr, ⊎_elim, List, [], ◌∷◌, ◌++◌, length, length-set, get_or, set, cond, position, Option, Some, None, IsSome, Result, Ok, Err, OnOk, OnErr, Bool, true, false, ◌&&◌, nat_lt, nat_eq, refl, sym, ap, subst, ◌∙◌, arith, sum_by, get_or-set_same, ne_eqb}
 use Rattle.std.specs.Prelude.{if◌then◌else◌, is_none}
 use Rattle.std.specs.List.{position_or_len}
 use Rattle.std.proofs.lemmas.List.{get_or_append_left, get_or_past, get_or_push, length_push, set-get_or}

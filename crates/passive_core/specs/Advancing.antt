@@ -1,5 +1,5 @@
 -- How far the destruction of a retired entry has come, in plain terms, and what the keeper's work on it leaves.
-use Rattle.std.specs.Prelude.{◌≡◌, ℕ, ◌+◌, ◌<◌, ◌==◌, nat_lt, List, [], Option, Some, None, Bool, true, false, ◌&&◌, Result, Ok, Err, slice_set}
+use Rattle.std.specs.Prelude.{◌≡◌, ℕ, ◌+◌, ◌==◌, nat_lt, List, Option, Some, None, Bool, true, false, ◌&&◌, Result, Ok, Err, slice_set}
 use Rattle.registry_values.specs.declared.entry.Entry.{Entry}
 use Rattle.registry_values.specs.declared.refusal.Refusal.{Refusal}
 use Rattle.registry_values.specs.declared.refusal.Refusal.TheVariants.{StillHeld}

@@ -1,5 +1,5 @@
 -- Waiting until each section that was open has ended (pserialize(9)): the answer, and what it leaves.
-use Rattle.std.specs.Prelude.{◌≡◌, ℕ, ◌<◌, ◌==◌, List, [], Option, Some, None, Bool, true, false, not, ◌||◌, Result, Ok, Err, slice_index_or}
+use Rattle.std.specs.Prelude.{◌≡◌, ℕ, ◌<◌, List, [], Bool, true, false, not, Result, Ok, Err, slice_index_or}
 use Rattle.registry_values.specs.declared.refusal.Refusal.{Refusal}
 use Rattle.registry_values.specs.declared.refusal.Refusal.TheVariants.{Waiting}
 use Rattle.protocol.specs.State.{State, section_at, mark_at}

@@ -1,5 +1,5 @@
 -- The CPUs of a registry that was just opened are all of them.
-use Rattle.std.proofs.Common.{◌≡◌, ◌<◌, List, [], sym, ap, ◌∙◌, arith}
+use Rattle.std.proofs.Common.{◌<◌, List, [], sym, ap, ◌∙◌, arith}
 use mathlib.Core.Option.{some-injective}
 use Rattle.registry_values.specs.declared.settings.Settings.{Settings}
 use Rattle.cpu_words.specs.Views.{new_cpu}

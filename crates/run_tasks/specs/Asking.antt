@@ -4,7 +4,6 @@ use Rattle.std.specs.Str.{bytes_eq}
 use Rattle.registry_language.specs.Words.{number_of}
 use Rattle.registry_script.specs.declared.engine.Engine.{Engine}
 use Rattle.registry_script.specs.declared.engine.Engine.TheVariants.{Core, Live}
-use Rattle.run_tasks.specs.declared.task.Plan.{Plan}
 use Rattle.run_tasks.specs.declared.task.Task.{Task}
 use Rattle.run_tasks.specs.declared.task.Task.TheVariants.{Script, Storm}
 

@@ -8,7 +8,7 @@ use Rattle.registry_values.specs.declared.entry.Record.{Record}
 use Rattle.registry_values.specs.declared.entry.Change.{Change}
 use Rattle.registry_values.specs.declared.entry.Change.TheVariants.{Detach}
 use Rattle.registry_values.specs.declared.refusal.Refusal.{Refusal}
-use Rattle.registry_values.specs.declared.refusal.Refusal.TheVariants.{NoMemory, NotFound, Inside, NeedsDriver}
+use Rattle.registry_values.specs.declared.refusal.Refusal.TheVariants.{NoMemory, NotFound, Inside}
 use Rattle.registry_values.specs.declared.slot.Key.{Key}
 use Rattle.protocol.specs.declared.state.LocalPlace.TheVariants.{Standing}
 use Rattle.registry_values.specs.declared.mark.Mark.{Mark}

@@ -1,5 +1,5 @@
 -- Attach, plug and detach: the registry that the session shows answers and changes as the core does.
-use Rattle.std.proofs.Common.{◌≡◌, ℕ, suc, ◌+◌, ◌-◌, ◌<◌, inl, inr, ⊎_elim, List, ◌∷◌, [], length, get_or, set, get_or-set_same, get_or-set_other, Option, Some, None, Bool, true, false, is_some, is_none, ◌&&◌, ◌||◌, refl, sym, ap, ◌∙◌, arith, sum_by}
+use Rattle.std.proofs.Common.{◌≡◌, ℕ, suc, ◌-◌, ◌<◌, inl, inr, ⊎_elim, List, ◌∷◌, [], length, get_or, set, get_or-set_same, get_or-set_other, Option, Some, None, Bool, true, false, is_some, is_none, ◌&&◌, ◌||◌, refl, sym, ap, ◌∙◌, arith, sum_by}
 use Rattle.std.specs.Prelude.{not}
 use Rattle.std.specs.List.{list_any, zip}
 use Rattle.std.proofs.lemmas.Slice.Zip.{length-zip, get_or-zip}

@@ -5,7 +5,7 @@ use Rattle.std.proofs.lemmas.Option.{none-some, same_Some}
 use Rattle.registry_values.specs.declared.entry.Entry.{Entry}
 use Rattle.passive_core.specs.declared.psref.CorePsref.{CorePsref}
 use Rattle.registry_values.specs.declared.refusal.Refusal.{Refusal}
-use Rattle.registry_values.specs.declared.refusal.Refusal.TheVariants.{LocalFull, NothingFound, NotHeld, PassiveFull, WrongCpu}
+use Rattle.registry_values.specs.declared.refusal.Refusal.TheVariants.{NothingFound, NotHeld, WrongCpu}
 use Rattle.registry_values.specs.declared.settings.Settings.{Settings}
 use Rattle.protocol.specs.Model.{Model, put, with_locals, with_passive, Stays, Goes_on, Acquires, Copies, Counts, Releases, Uncounts}
 use Rattle.registry_report.specs.declared.hitch.Hitch.{Hitch}
@@ -16,7 +16,7 @@ use Rattle.registry_report.specs.Answers.{acquire_answer, copy_answer, count_ans
 use Rattle.registry_report.specs.Registry.{Registry}
 use Rattle.registry_report.specs.Sound.{HasSlot, IsSound, IsSoundModel, IsLawfulTurn}
 use Rattle.registry_report.specs.Turns.{with_one_counted, on_ok, with_reference, without_reference, with_one_uncounted}
-use Rattle.registry_report.proofs.sound.Turns.{added_counts, dropped_counts, hitched_ok, labelled_counts, not_ok, ok_turn, put_cases, put_none, same_ok, then_ok}
+use Rattle.registry_report.proofs.sound.Turns.{added_counts, dropped_counts, hitched_ok, labelled_counts, not_ok, ok_turn, put_cases, put_none, same_ok}
 
 -- Answers by labels
 
