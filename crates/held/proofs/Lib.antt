@@ -1,4 +1,5 @@
 pub mod Holding
+pub mod Lent
 pub mod Sent
 pub mod Turned
 pub mod Values

@@ -60,11 +60,11 @@ word O at = record {
   shr_at = O.shr_at;
 }
 
-fits : (p : Ptr) → T (has_ty ty_ptr (ptr_val p)) × WT (ptr_val p)
+pub fits : (p : Ptr) → T (has_ty ty_ptr (ptr_val p)) × WT (ptr_val p)
 fits (block_ptr b o) = (tt, tt)
 fits null_ptr = (tt, record { fits = lit< tt })
 
-fits_in : (p : Ptr) (ν : Sym) → T (has_ty (ty_struct ν (tcons ty_ptr tnil)) (vstruct (vcons (ptr_val p) vnil))) × WT (vstruct (vcons (ptr_val p) vnil))
+pub fits_in : (p : Ptr) (ν : Sym) → T (has_ty (ty_struct ν (tcons ty_ptr tnil)) (vstruct (vcons (ptr_val p) vnil))) × WT (vstruct (vcons (ptr_val p) vnil))
 fits_in (block_ptr b o) ν = (tt, (tt, tt))
 fits_in null_ptr ν = (tt, (record { fits = lit< tt }, tt))
 

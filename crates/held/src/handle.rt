@@ -1,7 +1,9 @@
 //! What C keeps of a value on the heap: its address, or null.
 
-ghost use Rattle.std.specs.Prelude.{◌≡◌, Option, Some, None};
+ghost use Rattle.std.specs.Prelude.{◌≡◌, Option, Some, None, true, false};
 ghost use Rattle.std.specs.Option.{MatchOption};
+ghost use Rattle.std.specs.Borrow.{LendsIf, sem};
+ghost use Rattle.held.specs.Lent.{IsLent};
 
 use crate::Held;
 use std::alloc::Global;
@@ -66,11 +68,34 @@ pub trait CHandle: Sized {
     /// What stands behind it.
     ghost body: { Self → Option Self.Body };
 
+    /// It, with that behind it.
+    ghost filled: { Self → Self.Body → Self };
+
     fn of_handle(handle: Handle<Self::Body>) -> Self
         ensures { body result ≡ handle.body };
 
     fn into_handle(self) -> Handle<Self::Body>
         ensures { result.body ≡ body self };
+
+    /// What stands behind it, if anything does, in its place: a call works on it there.
+    fn body_mut(&mut self) -> Option<&mut Self::Body>
+        ensures* writes_back { sem 𝓛 (LendsIf Self.row Self.Body.row self.entry result (filled self.old) self.old) }
+        ensures value { IsLent (body self.old) result };
+
+    /// What is put behind it stands there.
+    ghost fills: { (h : Self) (x : Self.Body) → body (filled h x) ≡ Some x };
+
+    /// Whether nothing stands behind it.
+    final fn is_empty(&mut self) -> bool
+        ensures same { body self.new ≡ body self.old }
+        ensures empty { result ≡ true → body self.old ≡ None }
+        ensures full { result ≡ false → (b : Self.Body) × (body self.old ≡ Some b) }
+    {
+        match self.body_mut() {
+            None => true,
+            Some(_) => false,
+        }
+    }
 
     /// Puts another one in its place.
     final fn swap(&mut self, other: Handle<Self::Body>) -> Handle<Self::Body>

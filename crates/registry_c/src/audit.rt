@@ -46,13 +46,12 @@ pub extern "C" fn registry_audit(
     let Some((body, room)) = keeper.take(alloc) else {
         return EMPTY_HANDLE;
     };
-    let (body, answer) = audit_body(alloc, body, cpus, list, length);
+    let (body, answer) = audit_body(body, cpus, list, length);
     keeper.give(body, room);
     answer
 }
 
 fn audit_body(
-    alloc: Global,
     keeper: KeeperBody,
     cpus: &mut [CpuHandle],
     list: &mut [CBalance],
@@ -63,11 +62,10 @@ fn audit_body(
     ensures cpus { bodies_of cpus.new ≡ bodies_of cpus.old }
     ensures answer { Audits keeper.words.settings keeper.keeper (bodies_of cpus.old) result.1 list.old list.new length.old length.new }
 {
-    audit_at::<Brand>(alloc, keeper, cpus, list, length)
+    audit_at::<Brand>(keeper, cpus, list, length)
 }
 
 fn audit_at<D: Domain>(
-    alloc: Global,
     keeper: KeeperBody,
     cpus: &mut [CpuHandle],
     list: &mut [CBalance],
@@ -80,12 +78,11 @@ fn audit_at<D: Domain>(
     ensures answer { Audits keeper.words.settings keeper.keeper (bodies_of cpus.old) result.1 list.old list.new length.old length.new }
 {
     let (words, keeper) = keeper.into_keeper::<D>();
-    let answer = audit_all(alloc, &keeper, cpus, list, length);
+    let answer = audit_all(&keeper, cpus, list, length);
     (KeeperBody::of_keeper(words, keeper), answer)
 }
 
 fn audit_all<D: Domain>(
-    alloc: Global,
     keeper: &Keeper<D>,
     cpus: &mut [CpuHandle],
     list: &mut [CBalance],
@@ -95,7 +92,7 @@ fn audit_all<D: Domain>(
     ensures cpus { bodies_of cpus.new ≡ bodies_of cpus.old }
     ensures answer { Audits D.settings keeper.now (bodies_of cpus.old) result list.old list.new length.old length.new }
 {
-    if !are_all(alloc, keeper.settings.cpus, cpus) {
+    if !are_all(keeper.settings.cpus, cpus) {
         return refused(Refusal::MissingCpu);
     }
     let count = count_entries(keeper);
@@ -103,12 +100,12 @@ fn audit_all<D: Domain>(
     if list.len() < count {
         return NO_ROOM;
     }
-    write_balances(alloc, keeper, cpus, list);
+    write_balances(keeper, cpus, list);
     DONE
 }
 
 /// Whether these are so many CPUs, 0, 1, .., in this order.
-fn are_all(alloc: Global, count: u8, cpus: &mut [CpuHandle]) -> bool
+fn are_all(count: u8, cpus: &mut [CpuHandle]) -> bool
     ensures same { bodies_of cpus.new ≡ bodies_of cpus.old }
     ensures all { result ≡ true → AreAllHere count (bodies_of cpus.old) }
     ensures missing { result ≡ false → AreAllHere count (bodies_of cpus.old) → ⊥ }
@@ -117,7 +114,7 @@ fn are_all(alloc: Global, count: u8, cpus: &mut [CpuHandle]) -> bool
         return false;
     }
     for c in 0..count {
-        if !is_cpu(alloc, &mut cpus[c as usize], c) {
+        if !is_cpu(&mut cpus[c as usize], c) {
             return false;
         }
     }
@@ -125,18 +122,14 @@ fn are_all(alloc: Global, count: u8, cpus: &mut [CpuHandle]) -> bool
 }
 
 /// Whether the handle has the CPU with this number.
-fn is_cpu(alloc: Global, cpu: &mut CpuHandle, id: u8) -> bool
+fn is_cpu(cpu: &mut CpuHandle, id: u8) -> bool
     ensures same { cpu.new.body ≡ cpu.old.body }
     ensures yes { result ≡ true → (b : OnPlainCpu) × (cpu.old.body ≡ Some b) × (b.cpu.view.id ≡ id) }
     ensures no { result ≡ false → (b : OnPlainCpu) → cpu.old.body ≡ Some b → b.cpu.view.id ≡ id → ⊥ }
 {
-    match cpu.take_box(alloc) {
+    match cpu.body_mut() {
         None => false,
-        Some(body) => {
-            let is = body.id() == id;
-            cpu.give_box(body);
-            is
-        }
+        Some(body) => body.id() == id,
     }
 }
 
@@ -161,12 +154,7 @@ fn entries_in(slot: Slot) -> usize
 }
 
 /// Writes the balance of each entry, the least slot first.
-fn write_balances<D: Domain>(
-    alloc: Global,
-    keeper: &Keeper<D>,
-    cpus: &mut [CpuHandle],
-    list: &mut [CBalance],
-)
+fn write_balances<D: Domain>(keeper: &Keeper<D>, cpus: &mut [CpuHandle], list: &mut [CBalance])
     requires all { AreAllHere D.settings.cpus (bodies_of cpus.old) }
     requires settings { (c : ℕ) (b : OnPlainCpu) → body_at (bodies_of cpus.old) c ≡ Some b → b.words.settings ≡ D.settings }
     requires room { occupied keeper.now D.settings.slots ≤ length list.old }
@@ -175,13 +163,12 @@ fn write_balances<D: Domain>(
 {
     let mut at = 0;
     for t in 0..keeper.settings.slots {
-        at = write_next(alloc, keeper, cpus, list, t, at);
+        at = write_next(keeper, cpus, list, t, at);
     }
 }
 
 /// Writes the balance of the slot's entry, if it has one. The answer is the next place in the list.
 fn write_next<D: Domain>(
-    alloc: Global,
     keeper: &Keeper<D>,
     cpus: &mut [CpuHandle],
     list: &mut [CBalance],
@@ -198,20 +185,14 @@ fn write_next<D: Domain>(
     match keeper.slot(t) {
         Slot::Vacant => at,
         Slot::Live(entry) | Slot::Retired(entry) => {
-            list[at] = balance(alloc, keeper, cpus, t, entry.number);
+            list[at] = balance(keeper, cpus, t, entry.number);
             at + 1
         }
     }
 }
 
 /// What the counts say of the entry with this number in the slot.
-fn balance<D: Domain>(
-    alloc: Global,
-    keeper: &Keeper<D>,
-    cpus: &mut [CpuHandle],
-    t: u8,
-    number: u64,
-) -> CBalance
+fn balance<D: Domain>(keeper: &Keeper<D>, cpus: &mut [CpuHandle], t: u8, number: u64) -> CBalance
     requires all { AreAllHere D.settings.cpus (bodies_of cpus.old) }
     requires settings { (c : ℕ) (b : OnPlainCpu) → body_at (bodies_of cpus.old) c ≡ Some b → b.words.settings ≡ D.settings }
     requires entry { Occupies keeper.now t number }
@@ -220,7 +201,7 @@ fn balance<D: Domain>(
     ensures cut { IsCut D.settings.cpus result }
 {
     let total = less_bias(keeper.rows[t as usize].total);
-    let locals = locals(alloc, keeper, cpus, t, number);
+    let locals = locals(keeper, cpus, t, number);
     let held = sum(&locals[..keeper.settings.cpus as usize]) + total;
     CBalance {
         number,
@@ -232,13 +213,7 @@ fn balance<D: Domain>(
 }
 
 /// Of each CPU its net count for the entry, and zeros past the last.
-fn locals<D: Domain>(
-    alloc: Global,
-    keeper: &Keeper<D>,
-    cpus: &mut [CpuHandle],
-    t: u8,
-    number: u64,
-) -> [i64; 8]
+fn locals<D: Domain>(keeper: &Keeper<D>, cpus: &mut [CpuHandle], t: u8, number: u64) -> [i64; 8]
     requires all { AreAllHere D.settings.cpus (bodies_of cpus.old) }
     requires settings { (c : ℕ) (b : OnPlainCpu) → body_at (bodies_of cpus.old) c ≡ Some b → b.words.settings ≡ D.settings }
     requires few { D.settings.cpus ≤ 8 }
@@ -251,31 +226,21 @@ fn locals<D: Domain>(
     let mut locals = [0; 8];
     for c in 0..keeper.settings.cpus {
         let at = c as usize;
-        locals[at] = local(alloc, keeper, &mut cpus[at], t, number);
+        locals[at] = local(keeper, &mut cpus[at], t, number);
     }
     locals
 }
 
 /// One CPU's net count for the entry.
-fn local<D: Domain>(
-    alloc: Global,
-    keeper: &Keeper<D>,
-    cpu: &mut CpuHandle,
-    t: u8,
-    number: u64,
-) -> i64
+fn local<D: Domain>(keeper: &Keeper<D>, cpu: &mut CpuHandle, t: u8, number: u64) -> i64
     requires cpu { (b : OnPlainCpu) × (cpu.old.body ≡ Some b) × (b.words.settings ≡ D.settings) }
     requires entry { (t < D.settings.slots) × (0 < number) }
     ensures same { cpu.new.body ≡ cpu.old.body }
     ensures value { (b : OnPlainCpu) → cpu.old.body ≡ Some b → result ≡ local_met keeper.now t number b.cpu }
     ensures range { (neg_ℤ (pos (2 ^ 50)) ≤ℤ result) × (result ≤ℤ pos (2 ^ 50)) }
 {
-    match cpu.take_box(alloc) {
+    match cpu.body_mut() {
         None => unreachable!(),
-        Some(body) => {
-            let local = local_on(keeper, body.plain(), t, number);
-            cpu.give_box(body);
-            local
-        }
+        Some(body) => local_on(keeper, body.plain(), t, number),
     }
 }

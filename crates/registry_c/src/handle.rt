@@ -24,9 +24,13 @@ impl Model for CpuHandle {
 }
 
 impl CHandle for CpuHandle {
+    ghost use Rattle.std.specs.Prelude.{Some, refl};
+
     type Body = CpuBody;
 
     ghost body = { λ h. h.body };
+
+    ghost filled = { λ h x. record { at = h.at; body = Some x } };
 
     fn of_handle(handle: Handle<CpuBody>) -> CpuHandle
         ensures { result.body ≡ handle.body }
@@ -43,6 +47,16 @@ impl CHandle for CpuHandle {
             at: at as *mut CpuBody,
         }
     }
+
+    fn body_mut(&mut self) -> Option<&mut CpuBody> {
+        let at = self.at;
+        if at.is_null() {
+            return None;
+        }
+        Some(unsafe { &mut *(at as *mut CpuBody) })
+    }
+
+    ghost fills = { λ h x. refl };
 }
 
 unsafe impl Send for CpuHandle {}
@@ -61,9 +75,13 @@ impl Model for KeeperHandle {
 }
 
 impl CHandle for KeeperHandle {
+    ghost use Rattle.std.specs.Prelude.{Some, refl};
+
     type Body = KeeperBody;
 
     ghost body = { λ h. h.body };
+
+    ghost filled = { λ h x. record { at = h.at; body = Some x } };
 
     fn of_handle(handle: Handle<KeeperBody>) -> KeeperHandle
         ensures { result.body ≡ handle.body }
@@ -80,6 +98,16 @@ impl CHandle for KeeperHandle {
             at: at as *mut KeeperBody,
         }
     }
+
+    fn body_mut(&mut self) -> Option<&mut KeeperBody> {
+        let at = self.at;
+        if at.is_null() {
+            return None;
+        }
+        Some(unsafe { &mut *(at as *mut KeeperBody) })
+    }
+
+    ghost fills = { λ h x. refl };
 }
 
 unsafe impl Send for KeeperHandle {}
@@ -98,9 +126,13 @@ impl Model for LocalHandle {
 }
 
 impl CHandle for LocalHandle {
+    ghost use Rattle.std.specs.Prelude.{Some, refl};
+
     type Body = LocalBody;
 
     ghost body = { λ h. h.body };
+
+    ghost filled = { λ h x. record { at = h.at; body = Some x } };
 
     fn of_handle(handle: Handle<LocalBody>) -> LocalHandle
         ensures { result.body ≡ handle.body }
@@ -117,6 +149,16 @@ impl CHandle for LocalHandle {
             at: at as *mut LocalBody,
         }
     }
+
+    fn body_mut(&mut self) -> Option<&mut LocalBody> {
+        let at = self.at;
+        if at.is_null() {
+            return None;
+        }
+        Some(unsafe { &mut *(at as *mut LocalBody) })
+    }
+
+    ghost fills = { λ h x. refl };
 }
 
 unsafe impl Send for LocalHandle {}

@@ -28,19 +28,14 @@ pub extern "C" fn registry_close_keeper(alloc: Global, keeper: &mut KeeperHandle
 
 /// `registry_settings_of` of the header.
 #[unsafe(no_mangle)]
-pub extern "C" fn registry_settings_of(
-    alloc: Global,
-    keeper: &mut KeeperHandle,
-    settings: &mut CSettings,
-) -> u32
+pub extern "C" fn registry_settings_of(keeper: &mut KeeperHandle, settings: &mut CSettings) -> u32
     ensures { Through keeper.old.body keeper.new.body result (settings.new ≡ settings.old)
         (λ k l. (result ≡ DONE) × (l ≡ k) × (settings.new ≡ settings_out k.words.settings)) }
 {
-    let Some((body, room)) = keeper.take(alloc) else {
+    let Some(body) = keeper.body_mut() else {
         return EMPTY_HANDLE;
     };
     *settings = settings_out(body.settings());
-    keeper.give(body, room);
     DONE
 }
 
@@ -130,16 +125,14 @@ pub extern "C" fn registry_destroy(
     ensures { ThroughBoth keeper.old.body keeper.new.body cpu.old.body cpu.new.body result (met.new ≡ met.old)
         (λ k c l d. (d ≡ c) × DestroyAnswers (is_inside c.cpu) number k l result met.old met.new) }
 {
-    let Some((k, room)) = keeper.take(alloc) else {
+    let Some(c) = cpu.body_mut() else {
         return EMPTY_HANDLE;
     };
-    let Some(c) = cpu.take_box(alloc) else {
-        keeper.give(k, room);
+    let Some((k, room)) = keeper.take(alloc) else {
         return EMPTY_HANDLE;
     };
     let (k, answer) = keeper_answers::destroy(k, c.is_inside(), number, met);
     keeper.give(k, room);
-    cpu.give_box(c);
     answer
 }
 

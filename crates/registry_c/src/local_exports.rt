@@ -21,17 +21,13 @@ pub extern "C" fn registry_local_acquire(
 ) -> u32
     ensures { LocalAcquireAnswers cpu.old.body cpu.new.body local.old.body local.new.body result }
 {
-    let Some(mut body) = cpu.take_box(alloc) else {
+    let Some(body) = cpu.body_mut() else {
         return EMPTY_HANDLE;
     };
-    if let Some((reference, room)) = local.take(alloc) {
-        local.give(reference, room);
-        cpu.give_box(body);
+    if !local.is_empty() {
         return FULL_HANDLE;
     }
-    let made = acquire_local(alloc, &mut body);
-    cpu.give_box(body);
-    match made {
+    match acquire_local(alloc, body) {
         Ok((reference, room)) => {
             local.give(reference, room);
             DONE
@@ -42,19 +38,14 @@ pub extern "C" fn registry_local_acquire(
 
 /// `registry_local_read` of the header.
 #[unsafe(no_mangle)]
-pub extern "C" fn registry_local_read(
-    alloc: Global,
-    local: &mut LocalHandle,
-    entry: &mut CEntry,
-) -> u32
+pub extern "C" fn registry_local_read(local: &mut LocalHandle, entry: &mut CEntry) -> u32
     ensures { Through local.old.body local.new.body result (entry.new ≡ entry.old)
         (λ v w. (result ≡ DONE) × (w ≡ v) × (entry.new ≡ entry_out v.reference.entry)) }
 {
-    let Some((mut reference, room)) = local.take(alloc) else {
+    let Some(reference) = local.body_mut() else {
         return EMPTY_HANDLE;
     };
     *entry = entry_out(reference.entry());
-    local.give(reference, room);
     DONE
 }
 
@@ -68,15 +59,13 @@ pub extern "C" fn registry_local_release(
     requires { IsOfCpu cpu.old.body local.old.body }
     ensures { ThroughLocal cpu.old.body cpu.new.body local.old.body local.new.body result (λ a v b l. LocalReleases a v b result l) }
 {
-    let Some(mut body) = cpu.take_box(alloc) else {
+    let Some(body) = cpu.body_mut() else {
         return EMPTY_HANDLE;
     };
     let Some((reference, room)) = local.take(alloc) else {
-        cpu.give_box(body);
         return EMPTY_HANDLE;
     };
-    let (answer, back) = release_local(&mut body, reference);
-    cpu.give_box(body);
+    let (answer, back) = release_local(body, reference);
     local.settle(back, room);
     answer
 }

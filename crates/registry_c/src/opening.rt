@@ -38,7 +38,7 @@ pub extern "C" fn registry_open(
     if cpus.len() != count {
         return refused(Refusal::MissingCpu);
     }
-    if !are_all_empty(alloc, keeper, cpus) {
+    if !are_all_empty(keeper, cpus) {
         return FULL_HANDLE;
     }
     open_into(alloc, settings, keeper, cpus)
@@ -77,55 +77,22 @@ fn fit_settings(given: &CSettings) -> Result<Settings, Refusal>
 }
 
 /// Whether all the handles are empty.
-fn are_all_empty(alloc: Global, keeper: &mut KeeperHandle, cpus: &mut [CpuHandle]) -> bool
+fn are_all_empty(keeper: &mut KeeperHandle, cpus: &mut [CpuHandle]) -> bool
     ensures same { StaysClosed keeper.old.body keeper.new.body (bodies_of cpus.old) (bodies_of cpus.new) }
     ensures empty { result ≡ true → (keeper.old.body ≡ None) × AreEmpty (bodies_of cpus.old) }
     ensures full { result ≡ false → IsFull keeper.old.body (bodies_of cpus.old) }
 {
-    if !is_keeper_empty(alloc, keeper) {
-        return false;
-    }
-    are_empty(alloc, cpus)
-}
-
-/// Whether the keeper's handle is empty.
-fn is_keeper_empty(alloc: Global, keeper: &mut KeeperHandle) -> bool
-    ensures same { keeper.new.body ≡ keeper.old.body }
-    ensures empty { result ≡ true → keeper.old.body ≡ None }
-    ensures full { result ≡ false → (k : OnKeeperBody) × (keeper.old.body ≡ Some k) }
-{
-    match keeper.take(alloc) {
-        None => true,
-        Some((body, room)) => {
-            keeper.give(body, room);
-            false
-        }
-    }
-}
-
-/// Whether the CPU's handle is empty.
-fn is_cpu_empty(alloc: Global, cpu: &mut CpuHandle) -> bool
-    ensures same { cpu.new.body ≡ cpu.old.body }
-    ensures empty { result ≡ true → cpu.old.body ≡ None }
-    ensures full { result ≡ false → (b : OnPlainCpu) × (cpu.old.body ≡ Some b) }
-{
-    match cpu.take_box(alloc) {
-        None => true,
-        Some(body) => {
-            cpu.give_box(body);
-            false
-        }
-    }
+    keeper.is_empty() && are_empty(cpus)
 }
 
 /// Whether all of them are empty.
-fn are_empty(alloc: Global, cpus: &mut [CpuHandle]) -> bool
+fn are_empty(cpus: &mut [CpuHandle]) -> bool
     ensures same { bodies_of cpus.new ≡ bodies_of cpus.old }
     ensures empty { result ≡ true → AreEmpty (bodies_of cpus.old) }
     ensures full { result ≡ false → IsSomeFull (bodies_of cpus.old) }
 {
     for c in 0..cpus.len() {
-        if !is_cpu_empty(alloc, &mut cpus[c]) {
+        if !cpus[c].is_empty() {
             return false;
         }
     }

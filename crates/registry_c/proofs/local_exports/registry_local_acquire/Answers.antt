@@ -1,4 +1,4 @@
-use Rattle.std.proofs.Common.{Ok, Err, Some, refl, ap, sym, subst, ◌∙◌}
+use Rattle.std.proofs.Common.{Ok, Err, Some, refl, subst, ◌∙◌}
 use Rattle.passive_list.specs.Cpus.{OnPlainCpu}
 use Rattle.registry_c.specs.LocalCalls.{LocalAcquires}
 use Rattle.registry_c.proofs.Acquired.{no_body, not_refused, one_body, refused_too}
@@ -6,16 +6,16 @@ use Rattle.registry_c.proofs.local_exports.registry_local_acquire.Goals as goal
 
 pub returns-in-Ok : goal.returns-in-Ok
 returns-in-Ok c =
-    let was = c.in-Some.ensures.body ∙ ap Some (sym c.deref_mut.ensures.value) in
-    let b = c.acquire_local-made.new.cpu in
+    let was = c.in-Some.ensures.value in
+    let b = c.acquire_local.new.cpu in
     let e = c.in-Ok.ensures in
     record {
       empty = λ none. absurd (no_body _ _ was none);
-      full = λ a v is has. absurd (no_body _ _ has c.in_default-take.ensures.body);
+      full = λ a v is has. absurd (no_body _ _ has (c.is_empty.ensures.empty c.if-not-is_empty.false));
       made = λ a is none. (
         b,
-        c.give_box-2.ensures,
-        subst (λ (x : OnPlainCpu). LocalAcquires x b 0 c.give-in-Ok.new.self.body) (one_body _ _ _ was is) (record {
+        refl,
+        subst (λ (x : OnPlainCpu). LocalAcquires x b 0 c.give.new.self.body) (one_body _ _ _ was is) (record {
           r = Ok c.in-Ok.reference;
           is = refl;
           ok = (e.ok, e.table);
@@ -24,23 +24,23 @@ returns-in-Ok c =
           full = (λ q. absurd (not_refused _ _ q), λ full. absurd (not_refused _ _ (e.full.1 full)));
           no_other = tt;
           words = e.words;
-          handle = c.give-in-Ok.ensures;
+          handle = c.give.ensures;
         }),
       );
     }
 
 pub returns-in-Err : goal.returns-in-Err
 returns-in-Err c =
-    let was = c.in-Some.ensures.body ∙ ap Some (sym c.deref_mut.ensures.value) in
-    let b = c.acquire_local-made.new.cpu in
+    let was = c.in-Some.ensures.value in
+    let b = c.acquire_local.new.cpu in
     let e = c.in-Err.ensures in
     record {
       empty = λ none. absurd (no_body _ _ was none);
-      full = λ a v is has. absurd (no_body _ _ has c.in_default-take.ensures.body);
+      full = λ a v is has. absurd (no_body _ _ has (c.is_empty.ensures.empty c.if-not-is_empty.false));
       made = λ a is none. (
         b,
-        c.give_box-2.ensures,
-        subst (λ (x : OnPlainCpu). LocalAcquires x b c.refused.result c.take.new.self.body) (one_body _ _ _ was is) (record {
+        refl,
+        subst (λ (x : OnPlainCpu). LocalAcquires x b c.refused.result c.is_empty.new.self.body) (one_body _ _ _ was is) (record {
           r = Err c.in-Err.refusal;
           is = c.refused.ensures;
           ok = tt;
@@ -49,7 +49,7 @@ returns-in-Err c =
           full = (λ q. e.full.0 (refused_too _ _ q), λ full. refused_too _ _ (e.full.1 full));
           no_other = e.no_other;
           words = e.words;
-          handle = c.in_default-take.ensures.empty;
+          handle = (c.is_empty.ensures.same ∙ c.is_empty.ensures.empty c.if-not-is_empty.false);
         }),
       );
     }
