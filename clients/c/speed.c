@@ -11,7 +11,10 @@
 
 static struct registry_keeper keeper;
 
-/* Each call writes the handle that it is given, so each thread's lies on cache lines of its own. */
+/* The names that are looked up, in the order of the keys. */
+static struct registry_name names[MOST_ENTRIES];
+
+/* A call may write the handle that it is given, so each thread's lies on cache lines of its own. */
 static struct {
 	_Alignas(128) struct registry_cpu cpu;
 } seats[MOST_THREADS];
@@ -21,8 +24,8 @@ static void attach_all(const struct plan *plan)
 	struct registry_entry made;
 	make_keys(plan);
 	for (unsigned i = 0; i < entries; i++) {
-		struct registry_name name = {keys[i].high, keys[i].low};
-		DONE(registry_attach(&keeper, &seats[0].cpu, &name, i, &made));
+		names[i] = (struct registry_name){keys[i].high, keys[i].low};
+		DONE(registry_attach(&keeper, &seats[0].cpu, &names[i], i, &made));
 	}
 }
 
@@ -40,9 +43,9 @@ static void open_registry(const struct plan *plan)
 static uint64_t look_up(unsigned thread, const struct key *key)
 {
 	struct registry_cpu *cpu = &seats[thread].cpu;
-	struct registry_name name = {key->high, key->low};
+	const struct registry_name *name = &names[key - keys];
 	struct registry_entry found;
-	bool right = registry_enter(cpu) == REGISTRY_DONE && registry_find(cpu, REGISTRY_DRIVER, &name, &found) == REGISTRY_DONE;
+	bool right = registry_enter(cpu) == REGISTRY_DONE && registry_find(cpu, REGISTRY_DRIVER, name, &found) == REGISTRY_DONE;
 	right &= registry_exit(cpu) == REGISTRY_DONE;
 	return right ? found.value : UINT64_MAX;
 }
@@ -55,10 +58,9 @@ static uint64_t lookups(unsigned thread, uint64_t count)
 /* Finds the first entry in a section, for what acquires references to it. */
 static void begin_at_first(struct registry_cpu *cpu)
 {
-	struct registry_name name = {keys[0].high, keys[0].low};
 	struct registry_entry found;
 	DONE(registry_enter(cpu));
-	DONE(registry_find(cpu, REGISTRY_DRIVER, &name, &found));
+	DONE(registry_find(cpu, REGISTRY_DRIVER, &names[0], &found));
 }
 
 static uint64_t passives(unsigned thread, uint64_t count)

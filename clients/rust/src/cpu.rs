@@ -171,20 +171,23 @@ impl<'cpu, 'id> Section<'cpu, 'id> {
     /// ```
     #[inline]
     pub fn find(&mut self, kind: Kind, name: &Name) -> Option<Found<'_, 'cpu, 'id>> {
-        let mut found = ffi::Entry::default();
         // SAFETY: this thread alone has the CPU, whose handle isn't empty.
-        let answer = unsafe { ffi::registry_find(self.cpu.handle(), kind.number(), &name.words, &mut found) };
-        if answer == ffi::NOT_FOUND {
-            self.cpu.last.set(0);
-            return None;
+        let found = Entry::written(|found| unsafe { ffi::registry_find(self.cpu.handle(), kind.number(), &name.words, found) });
+        match found {
+            Ok(entry) => {
+                self.cpu.last.set(entry.number);
+                Some(Found {
+                    entry,
+                    cpu: self.cpu,
+                    section: PhantomData,
+                })
+            }
+            Err(answer) => {
+                assert_eq!(answer, ffi::NOT_FOUND, "a lookup in a section");
+                self.cpu.last.set(0);
+                None
+            }
         }
-        assert_eq!(answer, ffi::DONE, "a lookup in a section");
-        self.cpu.last.set(found.number);
-        Some(Found {
-            entry: Entry::of(found),
-            cpu: self.cpu,
-            section: PhantomData,
-        })
     }
 
     /// The CPU that it is on.

@@ -72,11 +72,9 @@ impl<'id> LocalRef<'id> {
 
     /// Its entry, as it was attached.
     pub fn read(&mut self) -> Entry {
-        let mut entry = ffi::Entry::default();
         // SAFETY: the handle isn't empty, and this is its only use.
-        let answer = unsafe { ffi::registry_local_read(&mut self.handle, &mut entry) };
-        assert_eq!(answer, ffi::DONE, "a read by a reference that is held");
-        Entry::of(entry)
+        let entry = Entry::written(|entry| unsafe { ffi::registry_local_read(&mut self.handle, entry) });
+        entry.expect("a read by a reference that is held")
     }
 
     /// Releases it on this CPU, which needn't be the one that acquired it. Where a drain has collected this CPU's count, it waits for the

@@ -67,11 +67,9 @@ impl<'cpu, 'id> PassiveRef<'cpu, 'id> {
     /// Its entry, as it was attached; in a section or outside.
     #[inline]
     pub fn read(&self) -> Entry {
-        let mut entry = ffi::Entry::default();
         // SAFETY: this thread alone has the CPU, whose handle isn't empty.
-        let answer = unsafe { ffi::registry_read(self.cpu.handle(), self.number, &mut entry) };
-        assert_eq!(answer, ffi::DONE, "a read by a reference that is held");
-        Entry::of(entry)
+        let entry = Entry::written(|entry| unsafe { ffi::registry_read(self.cpu.handle(), self.number, entry) });
+        entry.expect("a read by a reference that is held")
     }
 
     /// Acquires one more, to the same entry.

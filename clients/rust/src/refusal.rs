@@ -72,25 +72,34 @@ impl Refusal {
     }
 }
 
-/// An answer as a result. The calls of this crate can meet no other refusals: the others are what its types rule out.
+/// An answer as a result.
 #[inline]
 pub(crate) fn checked(answer: u32) -> Result<(), Refusal> {
+    if answer == ffi::DONE {
+        Ok(())
+    } else {
+        Err(refusal_of(answer))
+    }
+}
+
+/// The refusal that an answer is. The calls of this crate can meet no others: those are what its types rule out.
+#[cold]
+pub(crate) fn refusal_of(answer: u32) -> Refusal {
     match answer {
-        ffi::DONE => Ok(()),
-        ffi::NO_MEMORY => Err(Refusal::NoMemory),
-        ffi::BAD_SETTINGS => Err(Refusal::BadSettings),
-        ffi::NAME_TAKEN => Err(Refusal::NameTaken),
-        ffi::NO_SLOT => Err(Refusal::NoSlot),
-        ffi::HISTORY_FULL => Err(Refusal::HistoryFull),
-        ffi::NOT_FOUND => Err(Refusal::NotFound),
-        ffi::INSIDE => Err(Refusal::Inside),
-        ffi::SECTIONS_SPENT => Err(Refusal::SectionsSpent),
-        ffi::PASSIVE_FULL => Err(Refusal::PassiveFull),
-        ffi::LOCAL_FULL => Err(Refusal::LocalFull),
-        ffi::NOT_RETIRED => Err(Refusal::NotRetired),
-        ffi::MISSING_CPU => Err(Refusal::MissingCpu),
-        ffi::TOO_DEEP => Err(Refusal::TooDeep),
-        ffi::NEEDS_DRIVER => Err(Refusal::NeedsDriver),
+        ffi::NO_MEMORY => Refusal::NoMemory,
+        ffi::BAD_SETTINGS => Refusal::BadSettings,
+        ffi::NAME_TAKEN => Refusal::NameTaken,
+        ffi::NO_SLOT => Refusal::NoSlot,
+        ffi::HISTORY_FULL => Refusal::HistoryFull,
+        ffi::NOT_FOUND => Refusal::NotFound,
+        ffi::INSIDE => Refusal::Inside,
+        ffi::SECTIONS_SPENT => Refusal::SectionsSpent,
+        ffi::PASSIVE_FULL => Refusal::PassiveFull,
+        ffi::LOCAL_FULL => Refusal::LocalFull,
+        ffi::NOT_RETIRED => Refusal::NotRetired,
+        ffi::MISSING_CPU => Refusal::MissingCpu,
+        ffi::TOO_DEEP => Refusal::TooDeep,
+        ffi::NEEDS_DRIVER => Refusal::NeedsDriver,
         other => panic!("the archive answered {other}: {}", text(other)),
     }
 }

@@ -3,7 +3,7 @@
 use crate::cpu::Cpu;
 use crate::ffi;
 use crate::local::LocalRef;
-use crate::refusal::{checked, Refusal, Refused};
+use crate::refusal::{checked, refusal_of, Refusal, Refused};
 use crate::shared::{Shared, NO_CPUS};
 use crate::values::{Balance, Entry, Kind, Name, Settings, Stage};
 use std::fmt;
@@ -83,11 +83,9 @@ impl<'id> Registry<'id> {
     ///
     /// `Inside`, `NameTaken`, `NoSlot`, `HistoryFull`.
     pub fn attach(&self, cpu: &Cpu<'id>, name: &Name, value: u64) -> Result<Entry, Refusal> {
-        let mut made = ffi::Entry::default();
         // SAFETY: the keeper is locked, the CPU is this thread's, both are of one registry, and their handles aren't empty.
-        let answer = unsafe { ffi::registry_attach(&mut *self.shared.keeper(), cpu.handle(), &name.words, value, &mut made) };
-        checked(answer)?;
-        Ok(Entry::of(made))
+        Entry::written(|made| unsafe { ffi::registry_attach(&mut *self.shared.keeper(), cpu.handle(), &name.words, value, made) })
+            .map_err(refusal_of)
     }
 
     /// Attaches an interface on the driver that the reference is to. Its slot keeps the reference, so that the driver outlives it.
@@ -96,19 +94,16 @@ impl<'id> Registry<'id> {
     ///
     /// `Inside`, `NeedsDriver` where the reference is to an interface, `NameTaken`, `NoSlot`, `HistoryFull`; the reference comes back.
     pub fn attach_iface(&self, cpu: &Cpu<'id>, name: &Name, value: u64, driver: LocalRef<'id>) -> Result<Entry, Refused<'id>> {
-        let mut made = ffi::Entry::default();
         let number = driver.number();
         let mut local = driver.into_handle();
         // SAFETY: as for `attach`, and this is the only use of the reference's handle.
-        let answer =
-            unsafe { ffi::registry_attach_iface(&mut *self.shared.keeper(), cpu.handle(), &mut local, &name.words, value, &mut made) };
-        match checked(answer) {
-            Ok(()) => Ok(Entry::of(made)),
-            Err(refusal) => Err(Refused {
-                refusal,
-                driver: LocalRef::new(*self, number, local),
-            }),
-        }
+        Entry::written(|made| unsafe {
+            ffi::registry_attach_iface(&mut *self.shared.keeper(), cpu.handle(), &mut local, &name.words, value, made)
+        })
+        .map_err(|answer| Refused {
+            refusal: refusal_of(answer),
+            driver: LocalRef::new(*self, number, local),
+        })
     }
 
     /// Detaches the live entry with this kind and name. Lookups that begin afterwards don't find it; it is retired, and has its slot until
@@ -118,11 +113,9 @@ impl<'id> Registry<'id> {
     ///
     /// `Inside`, `NotFound`.
     pub fn detach(&self, cpu: &Cpu<'id>, kind: Kind, name: &Name) -> Result<Entry, Refusal> {
-        let mut gone = ffi::Entry::default();
         // SAFETY: as for `attach`.
-        let answer = unsafe { ffi::registry_detach(&mut *self.shared.keeper(), cpu.handle(), kind.number(), &name.words, &mut gone) };
-        checked(answer)?;
-        Ok(Entry::of(gone))
+        Entry::written(|gone| unsafe { ffi::registry_detach(&mut *self.shared.keeper(), cpu.handle(), kind.number(), &name.words, gone) })
+            .map_err(refusal_of)
     }
 
     /// One turn of the work on the retired entry with this number: what holds it first, or that its slot is vacant from now on.

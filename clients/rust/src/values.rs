@@ -3,6 +3,7 @@
 use crate::ffi;
 use std::error::Error;
 use std::fmt;
+use std::mem::MaybeUninit;
 use std::str::FromStr;
 
 /// What an entry is.
@@ -130,8 +131,19 @@ pub struct Entry {
 }
 
 impl Entry {
+    /// The entry that a call writes where it is done, or the call's answer.
     #[inline]
-    pub(crate) fn of(entry: ffi::Entry) -> Entry {
+    pub(crate) fn written(call: impl FnOnce(*mut ffi::Entry) -> u32) -> Result<Entry, u32> {
+        let mut entry = MaybeUninit::uninit();
+        match call(entry.as_mut_ptr()) {
+            // SAFETY: a call that is done has written it.
+            ffi::DONE => Ok(Entry::of(unsafe { entry.assume_init() })),
+            answer => Err(answer),
+        }
+    }
+
+    #[inline]
+    fn of(entry: ffi::Entry) -> Entry {
         Entry {
             number: entry.number,
             slot: entry.slot as u8,
