@@ -1,8 +1,9 @@
 -- What stands behind the handles, to a contract. Behind a CPU's handle stands an `OnPlainCpu`.
 use Rattle.std.specs.Prelude.{◌≡◌, Bool, is_some}
+use Rattle.atomic_table.specs.Seated.{TableId}
+use Rattle.registry_values.specs.declared.entry.Record.{Record}
 use Rattle.cpu_words.specs.Views.{Named}
 use Rattle.cpu_words.specs.declared.view.ReferenceView.{ReferenceView}
-use Rattle.local_count.specs.References.{OnPlainRef}
 use Rattle.passive_list.specs.Keepers.{OnKeeper}
 
 -- the keeper, and its table
@@ -12,10 +13,10 @@ pub record OnKeeperBody : Type 0 where
 
 -- a local reference, and its table
 pub record OnLocalBody : Type 0 where
-  pub words : Named
+  pub table : TableId
   pub reference : ReferenceView
 
--- the words are the reference's, and it is marked just where a release found its CPU's count collected
-pub record IsOurLocal (w : Named) (r : OnPlainRef) (b : Bool) : Type 0 where
-  pub table : r.table ≡ w.table
-  pub back : b ≡ is_some r.reference.collected
+-- the record that is kept is the entry's, and the reference is marked just where a release found its CPU's count collected
+pub record IsOurLocal (v : ReferenceView) (r : Record) (b : Bool) : Type 0 where
+  pub rec : r ≡ v.entry.rec
+  pub back : b ≡ is_some v.collected

@@ -34,10 +34,10 @@ abbrev pub AreOfOne : Option OnKeeperBody → Option OnPlainCpu → Type 0
 AreOfOne k c = (a : OnKeeperBody) (x : OnPlainCpu) → k ≡ Some a → c ≡ Some x → x.words ≡ a.words
 
 abbrev pub IsOfCpu : Option OnPlainCpu → Option OnLocalBody → Type 0
-IsOfCpu c l = (x : OnPlainCpu) (v : OnLocalBody) → c ≡ Some x → l ≡ Some v → v.words ≡ x.words
+IsOfCpu c l = (x : OnPlainCpu) (v : OnLocalBody) → c ≡ Some x → l ≡ Some v → v.table ≡ x.words.table
 
 abbrev pub IsOfKeeper : Option OnKeeperBody → Option OnLocalBody → Type 0
-IsOfKeeper k l = (a : OnKeeperBody) (v : OnLocalBody) → k ≡ Some a → l ≡ Some v → v.words ≡ a.words
+IsOfKeeper k l = (a : OnKeeperBody) (v : OnLocalBody) → k ≡ Some a → l ≡ Some v → v.table ≡ a.words.table
 
 -- what is written of an answer: nothing of a refusal
 abbrev pub Writes : {X Y : Type 0} → (X → Y) → Result X Refusal → Y → Y → Type 0

@@ -29,7 +29,7 @@ some_of (Err refusal) = None
 pub record LocalAcquires (a b : OnPlainCpu) (n : ℕ) (l : Option OnLocalBody) : Type 0 where
   pub r : Result OnLocalBody Refusal
   pub is : n ≡ number_of r
-  pub ok : IfOk r (λ v. HasAcquired a.cpu b.cpu v.reference × (v.words ≡ a.words))
+  pub ok : IfOk r (λ v. HasAcquired a.cpu b.cpu v.reference × (v.table ≡ a.words.table))
   pub refused : IfErr r (λ _. b ≡ a)
   pub nothing : IsErrOf r NothingFound ↔ a.cpu.view.found ≡ None
   pub full : IsErrOf r LocalFull ↔ (e : Entry) × (a.cpu.view.found ≡ Some e) × IsFull a.cpu.view e
@@ -49,7 +49,7 @@ pub record LocalAcquireAnswers (c c' : Option OnPlainCpu) (l l' : Option OnLocal
 pub record LocalReleases (a : OnPlainCpu) (v : OnLocalBody) (b : OnPlainCpu) (n : ℕ) (l : Option OnLocalBody) : Type 0 where
   pub words : b.words ≡ a.words
   pub how : ((n ≡ DONE) × HasReleased a.cpu v.reference b.cpu × (l ≡ None))
-      ⊎ ((n ≡ COLLECTED) × (w : ReferenceView) × HasComeBack a.cpu v.reference b.cpu w × (l ≡ Some (record { words = v.words; reference = w })))
+      ⊎ ((n ≡ COLLECTED) × (w : ReferenceView) × HasComeBack a.cpu v.reference b.cpu w × (l ≡ Some (record { table = v.table; reference = w })))
 
 -- no release has found its CPU's count collected, and the keeper has collected none
 abbrev pub IsUncollected : OnKeeperBody → ReferenceView → Type 0

@@ -14,13 +14,14 @@ use passive_list::PlainCpu;
 use registry_values::{BIAS, Entry, Record, Refusal, why_uncounted};
 use std::alloc::Global;
 use std::marker::Model;
-use std::sync::Arc;
 use std_alloc::room::Vacant;
 
-/// A local reference, and its share of its table's words. It can't be dropped: it is spent by a release.
+/// A local reference, and its entry's record. A record stays as it was published, so one read at the acquire serves: the reference needs no
+/// share of the words, whose count of owners all CPUs would write. It can't be dropped: it is spent by a release.
 pub struct LocalBody {
-    pub words: Arc<Words, Global>,
     pub reference: PlainRef,
+    /// Its entry's record, just as it was attached.
+    pub rec: Record,
     /// Whether a release found its CPU's count collected.
     pub back: bool,
 }
@@ -30,20 +31,19 @@ impl Model for LocalBody {
 
     ghost Value = { OnLocalBody };
 
-    ghost view = { λ b. record { words = b.words.value; reference = b.reference.reference } };
+    ghost view = { λ b. record { table = b.reference.table; reference = b.reference.reference } };
 
-    ghost invariant = { λ b. IsOurLocal b.words.value b.reference b.back };
+    ghost invariant = { λ b. IsOurLocal b.reference.reference b.rec b.back };
 }
 
 impl LocalBody {
     /// The entry that the reference is to, just as it was attached.
-    pub fn entry(&mut self) -> Entry
-        ensures same { self.new ≡ self.old }
-        ensures entry { result ≡ self.old.reference.entry }
+    pub fn entry(&self) -> Entry
+        ensures { result ≡ self.now.reference.entry }
     {
         let number = self.reference.number();
         let slot = self.reference.slot();
-        let rec: Record = self.reference.record(&self.words);
+        let rec = self.rec;
         Entry { number, slot, rec }
     }
 
@@ -70,33 +70,31 @@ impl LocalBody {
     }
 }
 
-/// Acquires a local reference to the CPU's last found entry, and a block for it.
+/// Acquires a local reference to the CPU's last found entry, with the entry's record, and a block for it.
 /// Refused, in this order, and nothing has changed: `NothingFound`, `LocalFull`, `NoMemory`.
 pub fn acquire_local(
     alloc: Global,
     cpu: &mut CpuBody,
 ) -> Result<(LocalBody, Vacant<LocalBody, Global>), Refusal>
     ensures ok { IfOk result (λ made. HasAcquired cpu.old.cpu cpu.new.cpu made.0.reference) }
-    ensures table { IfOk result (λ made. made.0.words ≡ cpu.old.words) }
+    ensures table { IfOk result (λ made. made.0.table ≡ cpu.old.words.table) }
     ensures refused { IfErr result (λ _. cpu.new ≡ cpu.old) }
     ensures nothing { IsErrOf result Refusal.NothingFound ↔ cpu.old.cpu.view.found ≡ None }
     ensures full { IsErrOf result Refusal.LocalFull ↔ (e : Entry) × (cpu.old.cpu.view.found ≡ Some e) × IsFull cpu.old.cpu.view e }
     ensures no_other { IfErr result (λ refusal. (refusal ≡ Refusal.NothingFound) ⊎ ((refusal ≡ Refusal.LocalFull) ⊎ (refusal ≡ Refusal.NoMemory))) }
     ensures words { cpu.new.words ≡ cpu.old.words }
 {
-    let Ok(words) = Arc::try_clone(&cpu.words) else {
-        return Err(why_no_local(&cpu.words, &cpu.cpu));
-    };
     let Ok(room) = Vacant::take(alloc) else {
         return Err(why_no_local(&cpu.words, &cpu.cpu));
     };
     match acquire_local_on(&cpu.words, &mut cpu.cpu) {
-        Ok(reference) => {
+        Ok(mut reference) => {
+            let rec = reference.record(&cpu.words);
             let back = false;
             Ok((
                 LocalBody {
-                    words,
                     reference,
+                    rec,
                     back,
                 },
                 room,
@@ -130,12 +128,12 @@ fn why_no_local(words: &Words, cpu: &PlainCpu) -> Refusal
 /// Releases the reference on this CPU. It comes back where the keeper had collected the CPU's count.
 /// Condition: both are of one registry.
 pub fn release_local(cpu: &mut CpuBody, local: LocalBody) -> (u32, Option<LocalBody>)
-    requires { local.words ≡ cpu.old.words }
+    requires { local.table ≡ cpu.old.words.table }
     ensures { LocalReleases cpu.old local cpu.new result.0 result.1 }
 {
     let LocalBody {
-        words,
         reference,
+        rec,
         back: _,
     } = local;
     match try_release_on(&cpu.words, &mut cpu.cpu, reference) {
@@ -143,8 +141,8 @@ pub fn release_local(cpu: &mut CpuBody, local: LocalBody) -> (u32, Option<LocalB
         Err(reference) => {
             let back = true;
             let local = LocalBody {
-                words,
                 reference,
+                rec,
                 back,
             };
             (COLLECTED, Some(local))

@@ -28,7 +28,7 @@ use std::sync::ledger::Blank;
 /// Releases the reference under the interlock, where a count of its entry was collected. It comes back where none was.
 /// Condition: both are of one registry.
 pub fn give_up(keeper: KeeperBody, local: LocalBody) -> (KeeperBody, u32, Option<LocalBody>)
-    requires { local.words ≡ keeper.words }
+    requires { local.table ≡ keeper.words.table }
     ensures { LocalGivesUp keeper local result.0 result.1 result.2 }
 {
     give_up_at::<Brand>(keeper, local)
@@ -39,7 +39,7 @@ fn give_up_at<D: Domain>(
     local: LocalBody,
 ) -> (KeeperBody, u32, Option<LocalBody>)
     requires table { (keeper.words.table ≡ D.table) × (keeper.words.settings ≡ D.settings) }
-    requires same { local.words ≡ keeper.words }
+    requires same { local.table ≡ keeper.words.table }
     ensures { LocalGivesUp keeper local result.0 result.1 result.2 }
 {
     let (words, keeper) = keeper.into_keeper::<D>();
@@ -60,15 +60,15 @@ fn spend<D: Domain>(
     local: LocalBody,
 ) -> (KeeperBody, u32, Option<LocalBody>)
     requires words { AreWordsOf words.value D.table D.settings }
-    requires same { local.words ≡ words.value }
+    requires same { local.table ≡ words.value.table }
     requires collected { IsFoundCollected keeper.slots keeper.view.marks local.reference }
     ensures words { result.0.words ≡ words.value }
     ensures done { (result.1 ≡ DONE) × HasGivenUp keeper local.reference result.0.keeper × (result.2 ≡ None) }
 {
     let mut keeper = keeper;
     let LocalBody {
-        words: _share,
         reference: plain,
+        rec: _,
         back: _,
     } = local;
     let domain = PhantomData;
@@ -103,7 +103,7 @@ pub fn attach_iface(
     value: u64,
     made: &mut CEntry,
 ) -> (KeeperBody, CpuBody, u32, Option<LocalBody>)
-    requires same { (cpu.words ≡ keeper.words) × (local.words ≡ keeper.words) }
+    requires same { (cpu.words ≡ keeper.words) × (local.table ≡ keeper.words.table) }
     ensures { AttachIfaceAnswers name.now value keeper cpu local result.0 result.1 result.3 result.2 made.old made.new }
 {
     let Some(name) = Name::from_words(name.high, name.low) else {
@@ -127,7 +127,7 @@ fn attach_iface_bodies(
     rec: Record,
     local: LocalBody,
 ) -> (KeeperBody, CpuBody, Result<Entry, (Refusal, LocalBody)>)
-    requires same { (cpu.words ≡ keeper.words) × (local.words ≡ keeper.words) }
+    requires same { (cpu.words ≡ keeper.words) × (local.table ≡ keeper.words.table) }
     requires kind { rec.kind ≡ Iface }
     requires name { IsTrue (is_lawful rec.name) }
     ensures answer { IfOk result.2 (λ e. attach_iface_answer keeper.words.settings keeper.keeper cpu.cpu rec local.reference ≡ Ok e) }
@@ -149,7 +149,7 @@ fn attach_iface_at<D: Domain>(
 ) -> (KeeperBody, CpuBody, Result<Entry, (Refusal, LocalBody)>)
     requires table { (keeper.words.table ≡ D.table) × (keeper.words.settings ≡ D.settings) }
     requires ledger { (changes.name ≡ D.name) × (changes.parts ≡ D.parts) × (D.parts ≡ 1) }
-    requires same { (cpu.words ≡ keeper.words) × (local.words ≡ keeper.words) }
+    requires same { (cpu.words ≡ keeper.words) × (local.table ≡ keeper.words.table) }
     requires kind { rec.kind ≡ Iface }
     requires name { IsTrue (is_lawful rec.name) }
     ensures answer { IfOk result.2 (λ e. attach_iface_answer keeper.words.settings keeper.keeper cpu.cpu rec local.reference ≡ Ok e) }
@@ -162,8 +162,8 @@ fn attach_iface_at<D: Domain>(
     let _fit = keeper.settings.cpus;
     let (share, mut cpu) = cpu.into_cpu::<D>(changes);
     let LocalBody {
-        words: kept,
         reference: plain,
+        rec: kept,
         back,
     } = local;
     let domain = PhantomData;
@@ -173,8 +173,8 @@ fn attach_iface_at<D: Domain>(
         Err((refusal, reference)) => {
             let LocalRef { plain, domain: _ } = reference;
             let local = LocalBody {
-                words: kept,
                 reference: plain,
+                rec: kept,
                 back,
             };
             Err((refusal, local))
