@@ -1,10 +1,11 @@
 -- What stands behind the handles, to a contract. Behind a CPU's handle stands an `OnPlainCpu`.
 use Rattle.std.specs.Prelude.{◌≡◌, Bool, is_some}
 use Rattle.atomic_table.specs.Seated.{TableId}
-use Rattle.registry_values.specs.declared.entry.Record.{Record}
 use Rattle.cpu_words.specs.Views.{Named}
 use Rattle.cpu_words.specs.declared.view.ReferenceView.{ReferenceView}
 use Rattle.passive_list.specs.Keepers.{OnKeeper}
+use Rattle.registry_c.specs.declared.values.CEntry.{CEntry}
+use Rattle.registry_c.specs.Values.{entry_out}
 
 -- the keeper, and its table
 pub record OnKeeperBody : Type 0 where
@@ -16,7 +17,7 @@ pub record OnLocalBody : Type 0 where
   pub table : TableId
   pub reference : ReferenceView
 
--- the record that is kept is the entry's, and the reference is marked just where a release found its CPU's count collected
-pub record IsOurLocal (v : ReferenceView) (r : Record) (b : Bool) : Type 0 where
-  pub rec : r ≡ v.entry.rec
+-- the entry that is kept is the reference's, which is marked just where a release found its CPU's count collected
+pub record IsOurLocal (v : ReferenceView) (e : CEntry) (b : Bool) : Type 0 where
+  pub entry : e ≡ entry_out v.entry
   pub back : b ≡ is_some v.collected

@@ -5,23 +5,25 @@ ghost use Rattle.registry_values.specs.declared.entry.Entry.{Entry};
 ghost use Rattle.cpu_words.specs.Domains.{AreWordsOf};
 ghost use Rattle.local_count.specs.References.{HasAcquired, IsFull};
 ghost use Rattle.registry_c.specs.LocalCalls.{LocalReleases};
+ghost use Rattle.registry_c.specs.Values.{entry_out};
 
 use crate::cpu_body::CpuBody;
-use crate::values::{COLLECTED, DONE};
+use crate::values::{CEntry, CName, COLLECTED, DONE};
 use cpu_words::Words;
+use cpu_words::steps::load_local;
 use local_count::{PlainRef, acquire_local_on, net_count, try_release_on};
 use passive_list::PlainCpu;
-use registry_values::{BIAS, Entry, Record, Refusal, why_uncounted};
+use registry_values::{BIAS, Refusal, kind_word, why_uncounted};
 use std::alloc::Global;
 use std::marker::Model;
 use std_alloc::room::Vacant;
 
-/// A local reference, and its entry's record. A record stays as it was published, so one read at the acquire serves: the reference needs no
-/// share of the words, whose count of owners all CPUs would write. It can't be dropped: it is spent by a release.
+/// A local reference, and its entry as C has it. An entry's words stay as they were published, so one read at the acquire serves: the
+/// reference needs no share of the table's words, whose count of owners all CPUs would write. It can't be dropped: it is spent by a release.
 pub struct LocalBody {
     pub reference: PlainRef,
-    /// Its entry's record, just as it was attached.
-    pub rec: Record,
+    /// Its entry, just as it was attached.
+    pub entry: CEntry,
     /// Whether a release found its CPU's count collected.
     pub back: bool,
 }
@@ -33,18 +35,15 @@ impl Model for LocalBody {
 
     ghost view = { λ b. record { table = b.reference.table; reference = b.reference.reference } };
 
-    ghost invariant = { λ b. IsOurLocal b.reference.reference b.rec b.back };
+    ghost invariant = { λ b. IsOurLocal b.reference.reference b.entry b.back };
 }
 
 impl LocalBody {
     /// The entry that the reference is to, just as it was attached.
-    pub fn entry(&self) -> Entry
-        ensures { result ≡ self.now.reference.entry }
+    pub fn entry(&self) -> CEntry
+        ensures { result ≡ entry_out self.now.reference.entry }
     {
-        let number = self.reference.number();
-        let slot = self.reference.slot();
-        let rec = self.rec;
-        Entry { number, slot, rec }
+        self.entry
     }
 
     /// The number of its entry, from 1.
@@ -70,7 +69,7 @@ impl LocalBody {
     }
 }
 
-/// Acquires a local reference to the CPU's last found entry, with the entry's record, and a block for it.
+/// Acquires a local reference to the CPU's last found entry, with its entry, and a block for it.
 /// Refused, in this order, and nothing has changed: `NothingFound`, `LocalFull`, `NoMemory`.
 pub fn acquire_local(
     alloc: Global,
@@ -89,12 +88,12 @@ pub fn acquire_local(
     };
     match acquire_local_on(&cpu.words, &mut cpu.cpu) {
         Ok(mut reference) => {
-            let rec = reference.record(&cpu.words);
+            let entry = read_entry(&cpu.words, &mut reference);
             let back = false;
             Ok((
                 LocalBody {
                     reference,
-                    rec,
+                    entry,
                     back,
                 },
                 room,
@@ -104,6 +103,25 @@ pub fn acquire_local(
             room.free();
             Err(refusal)
         }
+    }
+}
+
+/// The entry that a reference is to, as C has it: three loads.
+fn read_entry(words: &Words, reference: &mut PlainRef) -> CEntry
+    requires words { words.now.table ≡ reference.old.table }
+    ensures same { reference.new ≡ reference.old }
+    ensures entry { result ≡ entry_out reference.old.reference.entry }
+{
+    let slot = reference.slot;
+    let high = load_local(words, &mut reference.seat, slot, 2);
+    let low = load_local(words, &mut reference.seat, slot, 3);
+    let value = load_local(words, &mut reference.seat, slot, 4);
+    CEntry {
+        number: reference.number,
+        slot: u64::from(slot),
+        kind: kind_word(reference.kind),
+        name: CName { high, low },
+        value,
     }
 }
 
@@ -133,7 +151,7 @@ pub fn release_local(cpu: &mut CpuBody, local: LocalBody) -> (u32, Option<LocalB
 {
     let LocalBody {
         reference,
-        rec,
+        entry,
         back: _,
     } = local;
     match try_release_on(&cpu.words, &mut cpu.cpu, reference) {
@@ -142,7 +160,7 @@ pub fn release_local(cpu: &mut CpuBody, local: LocalBody) -> (u32, Option<LocalB
             let back = true;
             let local = LocalBody {
                 reference,
-                rec,
+                entry,
                 back,
             };
             (COLLECTED, Some(local))

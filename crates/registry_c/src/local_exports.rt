@@ -8,7 +8,7 @@ ghost use Rattle.registry_c.specs.Values.{entry_out};
 use crate::handle::{CpuHandle, KeeperHandle, LocalHandle};
 use crate::local_body::{acquire_local, release_local};
 use crate::local_keeper::{attach_iface, give_up};
-use crate::values::{CEntry, CName, DONE, EMPTY_HANDLE, FULL_HANDLE, entry_out, refused};
+use crate::values::{CEntry, CName, DONE, EMPTY_HANDLE, FULL_HANDLE, refused};
 use held::CHandle;
 use std::alloc::Global;
 
@@ -45,7 +45,7 @@ pub extern "C" fn registry_local_read(local: &mut LocalHandle, entry: &mut CEntr
     let Some(reference) = local.body_mut() else {
         return EMPTY_HANDLE;
     };
-    *entry = entry_out(reference.entry());
+    *entry = reference.entry();
     DONE
 }
 

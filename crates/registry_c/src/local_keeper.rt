@@ -68,7 +68,7 @@ fn spend<D: Domain>(
     let mut keeper = keeper;
     let LocalBody {
         reference: plain,
-        rec: _,
+        entry: _,
         back: _,
     } = local;
     let domain = PhantomData;
@@ -163,7 +163,7 @@ fn attach_iface_at<D: Domain>(
     let (share, mut cpu) = cpu.into_cpu::<D>(changes);
     let LocalBody {
         reference: plain,
-        rec: kept,
+        entry: kept,
         back,
     } = local;
     let domain = PhantomData;
@@ -174,7 +174,7 @@ fn attach_iface_at<D: Domain>(
             let LocalRef { plain, domain: _ } = reference;
             let local = LocalBody {
                 reference: plain,
-                rec: kept,
+                entry: kept,
                 back,
             };
             Err((refusal, local))

@@ -54,7 +54,7 @@ pub struct CSettings {
 
 /// An entry.
 #[repr(C)]
-#[derive(Drop)]
+#[derive(Clone, Copy)]
 pub struct CEntry {
     pub number: u64,
     pub slot: u64,
