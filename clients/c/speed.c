@@ -14,7 +14,7 @@ static struct registry_keeper keeper;
 /* The names that are looked up, in the order of the keys. */
 static struct registry_name names[MOST_ENTRIES];
 
-/* A call may write the handle that it is given, so each thread's lies on cache lines of its own. */
+/* Each thread's handle lies on cache lines of its own, apart from those that others write. */
 static struct {
 	_Alignas(128) struct registry_cpu cpu;
 } seats[MOST_THREADS];

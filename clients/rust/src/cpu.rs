@@ -28,7 +28,7 @@ use std::ops::Deref;
 /// })
 /// .unwrap();
 /// ```
-// Each call writes the handle, so two CPUs' lie on cache lines of their own.
+// A lookup writes `last`, so two CPUs lie on cache lines of their own.
 #[repr(align(128))]
 pub struct Cpu<'id> {
     registry: Registry<'id>,

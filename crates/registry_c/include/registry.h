@@ -4,11 +4,12 @@
  * LIFE OF THE THINGS
  *
  * A registry is a keeper and its CPUs, 0 to 7, each behind a handle of one word. registry_open(3) makes them all. A handle that is {0} is
- * empty; registry_close_cpu(3) and registry_close_keeper(3) empty one. The memory that the handles share goes with the last of them.
+ * empty; registry_close_cpu(3) and registry_close_keeper(3) empty one. The memory that these share goes with the last of them.
  *
  * A CPU belongs to the thread that runs on it: one call at a time uses its handle. It enters a section, finds entries in it, and exits;
  * no entry that it found loses its slot before that. No call waits, and none but registry_open(3) and registry_local_acquire(3) takes memory.
- * Each call writes the handle that it is given, so handles that several threads use lie best on cache lines of their own.
+ * A call that opens, closes, acquires or releases what a handle is of writes that handle, and a call behind the interlock the keeper's:
+ * handles that several threads use lie best on other cache lines than these.
  *
  * The keeper belongs to whoever holds the caller's lock, the interlock: a pthread mutex, say. It attaches and detaches entries, and works
  * on the detached ones, which are retired, until nothing can hold them: one turn a call, so that the caller gives the interlock up between.
