@@ -4,7 +4,7 @@
  * LIFE OF THE THINGS
  *
  * A registry is a keeper and its CPUs, 0 to 7, each behind a handle of one word. registry_open(3) makes them all. A handle that is {0} is
- * empty; registry_close_cpu(3) and registry_close_keeper(3) empty one. The memory that these share goes with the last of them.
+ * empty; registry_close_cpu(3) and registry_close_keeper(3) empty one. A registry's memory goes with the last of these.
  *
  * A CPU belongs to the thread that runs on it: one call at a time uses its handle. It enters a section, finds entries in it, and exits;
  * no entry that it found loses its slot before that. No call waits, and none but registry_open(3) and registry_local_acquire(3) takes memory.
