@@ -9,7 +9,8 @@ Change = collections.namedtuple("Change", "path old new")
 
 def base_of(edit, tree):
     """The folder of `tree` from which the edit names its files."""
-    return tree if edit.parent.name == "must-fail-tests" else tree / "crates" / edit.parent.parent.name
+    crate, folder = edit.relative_to(ROOT / "crates").parts[:2]
+    return tree if folder == "must-fail-tests" else tree / "crates" / crate
 
 
 def changes(edit, tree=ROOT):
@@ -44,5 +45,6 @@ def restore(before):
         path.write_text(text)
 
 
-def edits_of(crate, folder):
-    return sorted((ROOT / "crates" / crate / folder).glob("*.edit"))
+def edits_of(crate, folder, name="*"):
+    """The edits of a crate's folder, by hand also of the folders in it."""
+    return sorted((ROOT / "crates" / crate / folder).rglob(f"{name}.edit"))

@@ -1,8 +1,8 @@
 #!/usr/bin/env python3
 """Tries the wrong bodies that the merge gate doesn't try (docs/EDITS.md).
 
-    tools/try-edits.py prover [CRATE | CRATE/EDIT]..    crates/CRATE/must-fail-by-hand/EDIT.edit: the prover must refuse each
-    tools/try-edits.py tests  [CRATE | CRATE/EDIT]..    crates/CRATE/must-fail-tests/EDIT.edit: a test of CRATE must fail under each
+    tools/try-edits.py prover [CRATE | CRATE/EDIT]..    crates/CRATE/must-fail-by-hand/**/EDIT.edit: the prover must refuse each
+    tools/try-edits.py tests  [CRATE | CRATE/EDIT]..    crates/CRATE/must-fail-tests/EDIT.edit:       a test of CRATE must fail under each
 
 Without names it goes over all of them. It works on a copy of the tree, says of each edit whether it was refused and by what, and ends with
 'N passed, M failed'.
@@ -13,7 +13,7 @@ import subprocess
 import sys
 import tempfile
 
-from edits import ROOT, apply, restore
+from edits import ROOT, apply, edits_of, restore
 
 FOLDERS = {"prover": "must-fail-by-hand", "tests": "must-fail-tests"}
 
@@ -23,7 +23,7 @@ def chosen(folder, words):
     edits = {}
     for word in words or sorted(it.parent.name for it in ROOT.glob(f"crates/*/{folder}")):
         crate, _, name = word.partition("/")
-        found = sorted((ROOT / "crates" / crate / folder).glob(f"{name or '*'}.edit"))
+        found = edits_of(crate, folder, name or "*")
         if not found:
             sys.exit(f"no edit {word} in {folder}/")
         edits.setdefault(crate, []).extend(found)

@@ -249,6 +249,10 @@ static void misuse_audit(struct bench *bench)
 	REFUSED(registry_audit(&bench->keeper, swapped, 2, list, 4, &length), REGISTRY_MISSING_CPU);
 	bench->cpus[0] = swapped[1];
 	bench->cpus[1] = swapped[0];
+	swapped[0] = bench->cpus[0];
+	swapped[1] = no_cpu;
+	REFUSED(registry_audit(&bench->keeper, swapped, 2, list, 4, &length), REGISTRY_MISSING_CPU);
+	bench->cpus[0] = swapped[0];
 	EXPECT(length == 99 && list[0].number == 99);
 	EXPECT(registry_audit(&bench->keeper, bench->cpus, 2, list, 0, &length) == REGISTRY_NO_ROOM && length == 1);
 	EXPECT(list[0].number == 99);
