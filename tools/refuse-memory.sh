@@ -3,7 +3,8 @@
 # nothing, and the call made again must answer as it would have at first.
 #
 # The merge gate can't refuse memory, so it doesn't run this; run it by hand after a change of what allocates. Without arguments it goes
-# over each crate that has memory tests; else over the crates named.
+# over each crate that has memory tests; else over the crates named. An allocation takes half a minute: FROM=45 goes on from the 45th, where a run
+# had come to.
 # Each test runs in a process of its own, with a count of its own, and notes a refusal that it met. Some refusals meet nobody: a list that is
 # collected and is refused room for as many as it expects asks again, for one. Such come few in a row, so many runs without a note are past the
 # last allocation of every test.
@@ -16,8 +17,9 @@ many=16
 
 # One crate, in whose folder this runs.
 refuse() {
-    local met=0 last=0 n output notes
-    for ((n = 1; n <= last + many; n++)); do
+    local from=${FROM:-1} met=0 n output notes
+    local last=$((from - 1))
+    for ((n = from; n <= last + many; n++)); do
         output=$(rt try --test --fail-alloc "$n" -- memory_tests 2>&1)
         if [[ $? -ne 0 || $output != *"test result: ok"* ]]; then
             printf '%s\n' "$output"
@@ -32,10 +34,10 @@ refuse() {
         fi
     done
     if [[ $met -eq 0 ]]; then
-        echo "$1: no allocation was refused"
+        echo "$1: no allocation was refused, from the ${from}th on"
         return 1
     fi
-    echo "$1: allocations refused: $met, the last the ${last}th, and every test passed"
+    echo "$1: allocations refused, from the ${from}th on: $met, the last the ${last}th, and every test passed"
 }
 
 for crate in "$@"; do
