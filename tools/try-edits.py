@@ -5,7 +5,8 @@
     tools/try-edits.py tests  [CRATE | CRATE/EDIT]..    crates/CRATE/must-fail-tests/EDIT.edit:       a test of CRATE must fail under each
 
 Without names it goes over all of them. It works on a copy of the tree, says of each edit whether it was refused and by what, and ends with
-'N passed, M failed'.
+'N passed, M failed'. The prover begins with what the gate has kept on this machine; without that it proves the crates first. What it says of the
+edits it says when all were tried.
 """
 import pathlib
 import shutil
@@ -30,18 +31,22 @@ def chosen(folder, words):
     return edits
 
 
-def by_prover(tree, crate, edits):
-    """Lets rt try the edits in place of those of the gate; for each, whether it was refused, and what is said of it."""
-    folder = tree / "crates" / crate / "must-fail"
-    shutil.rmtree(folder, ignore_errors=True)
-    folder.mkdir()
-    for edit in edits:
-        shutil.copy(edit, folder)
-    ran = subprocess.run(["rt", "must-fail", crate], cwd=tree, stdout=subprocess.PIPE, stderr=subprocess.STDOUT, text=True)
-    for edit in edits:
-        label = f"must-fail {crate}/{edit.name}: "
-        said = next((line.partition(label)[2] for line in ran.stdout.splitlines() if label in line), "not tried: " + ran.stdout[-300:])
-        yield edit, said.startswith("refused"), said
+def by_prover(tree, edits):
+    """Lets rt try the edits in place of those of the gate, over what it has kept of earlier runs; of each, whether it was refused, and what is
+    said of it."""
+    for folder in tree.glob("crates/*/must-fail"):
+        shutil.rmtree(folder)
+    for crate, found in edits.items():
+        folder = tree / "crates" / crate / "must-fail"
+        folder.mkdir()
+        for edit in found:
+            shutil.copy(edit, folder)
+    ran = subprocess.run(["rt", "ci", *edits], cwd=tree, stdout=subprocess.PIPE, stderr=subprocess.STDOUT, text=True)
+    for crate, found in edits.items():
+        for edit in found:
+            label = f"must-fail {crate}/{edit.name}: "
+            said = next((line.partition(label)[2] for line in ran.stdout.splitlines() if label in line), "not tried: " + ran.stdout[-300:])
+            yield crate, edit, said.startswith("refused"), said
 
 
 def failures(tree, crate):
@@ -56,12 +61,13 @@ def failures(tree, crate):
     return True, "refused by " + (", ".join(failed) or lines[-1])
 
 
-def by_tests(tree, crate, edits):
+def by_tests(tree, edits):
     """Runs the tests under each edit in turn; its files are named from the tree's top."""
-    for edit in edits:
-        before, misfit = apply(edit, tree)
-        yield edit, *((False, misfit) if misfit else failures(tree, crate))
-        restore(before)
+    for crate, found in edits.items():
+        for edit in found:
+            before, misfit = apply(edit, tree)
+            yield crate, edit, *((False, misfit) if misfit else failures(tree, crate))
+            restore(before)
 
 
 def main():
@@ -69,15 +75,13 @@ def main():
         sys.exit(__doc__)
     kind = sys.argv[1]
     tries = by_prover if kind == "prover" else by_tests
-    kept = shutil.ignore_patterns(".git") if kind == "prover" else shutil.ignore_patterns("out", ".git")
     passed = failed = 0
     with tempfile.TemporaryDirectory() as folder:
         tree = pathlib.Path(folder) / "tree"
-        shutil.copytree(ROOT, tree, ignore=kept)
-        for crate, edits in chosen(FOLDERS[kind], sys.argv[2:]).items():
-            for edit, refused, said in tries(tree, crate, edits):
-                passed, failed = passed + refused, failed + (not refused)
-                print(f"{crate}/{edit.stem}: {said}", flush=True)
+        shutil.copytree(ROOT, tree, ignore=shutil.ignore_patterns("out", ".git"))
+        for crate, edit, refused, said in tries(tree, chosen(FOLDERS[kind], sys.argv[2:])):
+            passed, failed = passed + refused, failed + (not refused)
+            print(f"{crate}/{edit.stem}: {said}", flush=True)
     print(f"{passed} passed, {failed} failed")
     sys.exit(failed > 0)
 
