@@ -1,3 +1,4 @@
+pub mod Freed
 pub mod Holders
 pub mod Honest
 pub mod Reaching

@@ -10,7 +10,7 @@ use Rattle.registry_values.specs.declared.slot.Slot.{Slot}
 use Rattle.registry_values.specs.declared.slot.Slot.TheVariants.{Vacant, Live, Retired}
 use Rattle.registry_values.specs.Slots.{slot_at}
 use Rattle.protocol.specs.State.{mark_at}
-use Rattle.protocol.specs.Laws.{HasMoved}
+use Rattle.protocol.specs.Laws.{HasMoved, destroyed_slot}
 use Rattle.cpu_words.specs.declared.view.KeeperView.{KeeperView}
 use Rattle.cpu_words.specs.declared.view.Deed.{Deed}
 
@@ -119,6 +119,15 @@ standing t log = stands_from t 0 nothing log
 -- the entry n was attached in the slot t, and detached; nothing was attached there since
 abbrev pub IsDetachedFrom : ℕ → ℕ → List Deed → Type 0
 IsDetachedFrom t n log = standing t log ≡ detached n
+
+-- the entry n was attached in the slot t, and detached, and then the slot became vacant: by Vacate, or by KeptSub where it kept a driver
+pub record IsFreedFrom (t n : ℕ) (log : List Deed) : Type 0 where
+  pub before : List Deed
+  pub deed : Deed
+  pub after : List Deed
+  pub are : log ≡ before ++ deed ∷ after
+  pub detached : IsDetachedFrom t n before
+  pub freed : destroyed_slot deed.event ≡ Some t
 
 abbrev pub is_change_at : ℕ → Event → Bool
 is_change_at t (Publish u) = u == t

@@ -19,4 +19,5 @@ pub mod Opening
 pub mod Logs
 pub mod Headline
 pub mod Waiting
+pub mod Freed
 pub mod Domains

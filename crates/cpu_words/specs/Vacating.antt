@@ -1,6 +1,7 @@
 -- A retired slot with all its marks may be taken as vacant: Vacate touches no word, and shows from the first word that is stored in the slot on.
 use Rattle.std.specs.Prelude.{◌≡◌, ◌⊎◌, ℕ, ◌<◌, List, [], ◌++◌, replicate, slice_index_or, slice_set, None, true}
 use Rattle.registry_values.specs.declared.entry.Entry.{Entry}
+use Rattle.protocol.specs.declared.event.Event.{Event}
 use Rattle.protocol.specs.declared.event.Event.TheVariants.{Vacate}
 use Rattle.protocol.specs.declared.event.Reply.TheVariants.{Done}
 use Rattle.registry_values.specs.declared.slot.Slot.{Slot}
@@ -57,3 +58,8 @@ pub record MayWrite (k : KeeperView) (t : ℕ) : Type 0 where
 -- it was vacant, or the event Vacate made it so
 abbrev pub IsTakenAsVacant : KeeperView → ℕ → Type 0
 IsTakenAsVacant k t = (slot_at k.slots t ≡ Vacant) ⊎ Makes (Vacate t) Done (Keeper k) (Keeper (as_vacant k t))
+
+-- what the step tells, by its event
+abbrev pub VacateTold : Event → KeeperView → KeeperView → Type 0
+VacateTold (Vacate t) k l = l ≡ keeper_after_vacate k t
+VacateTold e k l = ⊥

@@ -14,6 +14,7 @@ pub mod reading;
 pub mod search;
 pub mod seats;
 pub mod sections;
+pub mod vacating;
 
 pub use drain::{collect, join_keeper, kept_sub, passive_look, total_add, total_sub};
 pub use grace::{look, look_now, snapshot, snapshot_now};
@@ -27,3 +28,4 @@ pub use reading::load_local;
 pub use search::{load_link, load_searched, seek};
 pub use seats::seat;
 pub use sections::{enter, exit};
+pub use vacating::vacate;

@@ -24,6 +24,7 @@ use Rattle.protocol.proofs.slots.Occupied.{has_it, not_vacant, number_in, one_nu
 use Rattle.cpu_words.specs.declared.view.KeeperView.{KeeperView}
 use Rattle.cpu_words.specs.declared.view.Deed.{Deed}
 use Rattle.cpu_words.specs.declared.view.View.TheVariants.{Keeper}
+use Rattle.cpu_words.specs.Deeds.{IsFreedFrom}
 use Rattle.cpu_words.specs.Draining.{MayKeptSub, HasKeptSub}
 use Rattle.cpu_words.specs.Rule.{IsShown, did}
 use Rattle.cpu_words.specs.Steps.{Makes}
@@ -222,9 +223,9 @@ freed_keeper z a table table' k l its rows n t u x our is drained keeps same tol
     }
 
 -- what it leaves of the keeper
-pub has_freed : {log later : List Deed} (k l : KeeperView) (rows : List KeptSlot) (t u : ℕ) (r : KeptSlot) (x : OnKeeper) → record { view = k; slots = states_of rows; log = log } ≡ x → Makes (KeptSub t) Done (Keeper k) (Keeper l) → HasKeptSub k t u l → later ≡ log ++ did (KeptSub t) Done
-    → HasFreed x t (record { view = l; slots = states_of (set (set rows u (row_less (row_at rows u))) t (row_freed r)); log = later })
-has_freed {later} k l rows t u r x is made told goes_on =
+pub has_freed : {log later : List Deed} (a : Settings) (k l : KeeperView) (rows : List KeptSlot) (t u : ℕ) (r : KeptSlot) (x : OnKeeper) → record { view = k; slots = states_of rows; log = log } ≡ x → RowsAgree a k rows → Makes (KeptSub t) Done (Keeper k) (Keeper l) → HasKeptSub k t u l → later ≡ log ++ did (KeptSub t) Done
+    → ((e : Entry) → slot_at k.slots t ≡ Retired e → IsFreedFrom t e.number later) → HasFreed x t (record { view = l; slots = states_of (set (set rows u (row_less (row_at rows u))) t (row_freed r)); log = later })
+has_freed {later} a k l rows t u r x is agree made told goes_on freed =
     let after = set (set rows u (row_less (row_at rows u))) t (row_freed r) in
     subst (λ (y : OnKeeper). HasFreed y t (record { view = l; slots = states_of after; log = later })) is record {
       u = u;
@@ -232,4 +233,5 @@ has_freed {later} k l rows t u r x is made told goes_on =
       view = told;
       slots = map-set state_of (set rows u (row_less (row_at rows u))) t (row_freed r) ∙ ap (λ (xs : List Slot). set xs t Vacant) (map-set_same state_of rows u (row_less (row_at rows u)) no_row refl);
       log = goes_on;
+      freed = λ e at. freed e (retired_in a k rows t e agree at).1;
     }

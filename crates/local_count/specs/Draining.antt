@@ -13,6 +13,7 @@ use Rattle.registry_values.specs.Balances.{bias}
 use Rattle.cpu_words.specs.declared.view.KeeperView.{KeeperView}
 use Rattle.cpu_words.specs.declared.view.ReferenceView.{ReferenceView}
 use Rattle.cpu_words.specs.declared.view.View.TheVariants.{Keeper, Reference}
+use Rattle.cpu_words.specs.Deeds.{IsFreedFrom}
 use Rattle.cpu_words.specs.Draining.{keeper_after_join, HasKeptSub}
 use Rattle.cpu_words.specs.Keeping.{IsVacated, keeper_after_keep}
 use Rattle.cpu_words.specs.Rule.{Good, did}
@@ -71,10 +72,11 @@ abbrev pub kept_slot : Option ℕ → List KeptSlot → Option ℕ
 kept_slot None rows = None
 kept_slot (Some d) rows = place_of d rows
 
--- the interface's slot is vacant, and the reference that it kept to the driver in the slot u is given up
+-- the interface's slot is vacant, and the reference that it kept to the driver in the slot u is given up; the interface is gone from there, by the log
 pub record HasFreed (a : OnKeeper) (t : ℕ) (b : OnKeeper) : Type 0 where
   pub u : ℕ
   pub made : Makes (KeptSub t) Done (Keeper a.view) (Keeper b.view)
   pub view : HasKeptSub a.view t u b.view
   pub slots : b.slots ≡ slice_set a.slots t Vacant
   pub log : b.log ≡ a.log ++ did (KeptSub t) Done
+  pub freed : (e : Entry) → slot_at a.slots t ≡ Retired e → IsFreedFrom t e.number b.log

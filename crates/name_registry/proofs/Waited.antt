@@ -283,7 +283,7 @@ Learns x y = HasLearned x y × (y.made ≡ x.made)
 pub learns_none : (x : OnCpu) → Learns x x
 learns_none x = (record { pass = ([], append-nil x.view.pass); deeds = ([], append-nil x.deeds); is = refl }, refl)
 
-learns_more : (x m y : OnCpu) → Learns x m → Learns m y → Learns x y
+pub learns_more : (x m y : OnCpu) → Learns x m → Learns m y → Learns x y
 learns_more x m y first second = (
   record {
     pass = prefix_trans x.view.pass m.view.pass y.view.pass first.0.pass second.0.pass;

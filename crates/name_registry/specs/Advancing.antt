@@ -1,5 +1,5 @@
 -- A turn of the work on a retired entry: what it answers is what the keeper saw, and what it leaves.
-use Rattle.std.specs.Prelude.{◌≡◌, ◌≢◌, ◌⊎◌, ℕ, zero, suc, ◌<◌, ◌≤◌, ◌%◌, List, [], ◌∷◌, ◌++◌, slice_set, Option, true, false, Some, None, Bool, Result, Ok, Err}
+use Rattle.std.specs.Prelude.{◌≡◌, ◌≢◌, ◌⊎◌, ℕ, zero, suc, ◌<◌, ◌≤◌, ◌%◌, List, [], ◌∷◌, ◌++◌, Option, true, false, Some, None, Bool, Result, Ok, Err}
 use Rattle.registry_values.specs.declared.entry.Entry.{Entry}
 use Rattle.registry_values.specs.declared.entry.Kind.TheVariants.{Iface}
 use Rattle.protocol.specs.declared.event.Event.{Event}
@@ -11,7 +11,7 @@ use Rattle.registry_values.specs.declared.settings.Settings.{Settings}
 use Rattle.registry_values.specs.declared.stage.Stage.{Stage}
 use Rattle.registry_values.specs.declared.stage.Stage.TheVariants.{Grace, Passive, Local, Freed}
 use Rattle.protocol.specs.declared.state.Due.TheVariants.{Rest}
-use Rattle.registry_values.specs.declared.slot.Slot.TheVariants.{Vacant, Retired}
+use Rattle.registry_values.specs.declared.slot.Slot.TheVariants.{Retired}
 use Rattle.registry_values.specs.Slots.{is_retired_as, retired_slot, slot_at}
 use Rattle.protocol.specs.Marking.{MarksGrow}
 use Rattle.protocol.specs.State.{mark_at, total_at, kept_at}
@@ -24,7 +24,7 @@ use Rattle.cpu_words.specs.Rule.{did}
 use Rattle.cpu_words.specs.Steps.{Makes}
 use Rattle.passive_list.specs.declared.keeper.KeptSlot.{KeptSlot}
 use Rattle.passive_list.specs.Keepers.{OnKeeper}
-use Rattle.passive_list.specs.Vacating.{IsDrainedOn}
+use Rattle.passive_list.specs.Vacating.{HasVacated, IsDrainedOn}
 use Rattle.local_count.specs.Draining.{AreHeld, HasFreed}
 
 -- What the work asks, and what it leaves
@@ -151,9 +151,9 @@ pub record MeetsLocal (a : OnKeeper) (t n : ℕ) (b : OnKeeper) : Type 0 where
   pub collected : CollectedBelow b.view t b.view.settings.cpus
   pub leaves : HasWorkedFor a t b
 
--- the slot's end: it is taken as vacant, or, where it keeps a driver, gives that up and is vacant
+-- the slot's end: it is vacant, and where it kept a driver that was given up
 abbrev pub HasEnded : OnKeeper → ℕ → OnKeeper → Type 0
-HasEnded m t b = ((kept_at m.view.keeps t ≡ None) × (b.view ≡ m.view) × (b.slots ≡ slice_set m.slots t Vacant)) ⊎ HasFreed m t b
+HasEnded m t b = ((kept_at m.view.keeps t ≡ None) × HasVacated m t b) ⊎ HasFreed m t b
 
 -- the end of the work, at a slot with all marks: so many local references are held and nothing changes, or the slot is drained and ends
 abbrev pub Settles : OnKeeper → ℕ → Stage → OnKeeper → Type 0

@@ -7,7 +7,8 @@ use lib.ListN.{get_elem?}
 use Rattle.atomic_table.specs.Table.{State as Table}
 use Rattle.registry_values.specs.declared.entry.Entry.{Entry}
 use Rattle.registry_values.specs.declared.settings.Settings.{Settings}
-use Rattle.protocol.specs.declared.event.Event.TheVariants.{Vacate}
+use Rattle.protocol.specs.declared.event.Event.TheVariants.{Hear, Vacate}
+use Rattle.protocol.specs.declared.state.Due.TheVariants.{Rest}
 use Rattle.protocol.specs.declared.event.Reply.TheVariants.{Done}
 use Rattle.registry_values.specs.declared.slot.Slot.{Slot}
 use Rattle.registry_values.specs.declared.slot.Slot.TheVariants.{Vacant, Live, Retired}
@@ -18,11 +19,13 @@ use Rattle.cpu_words.specs.declared.view.KeeperView.{KeeperView}
 use Rattle.cpu_words.specs.declared.view.Deed.{Deed}
 use Rattle.cpu_words.specs.declared.view.View.{View}
 use Rattle.cpu_words.specs.declared.view.View.TheVariants.{Keeper}
-use Rattle.cpu_words.specs.Views.{keeper_own, keeper_view, KeeperShown}
+use Rattle.cpu_words.specs.Views.{keeper_of, keeper_own, keeper_view, KeeperShown}
+use Rattle.cpu_words.specs.Notes.{KeeperHasHeard}
 use Rattle.cpu_words.proofs.laws.Reaching.{goes_both}
 use Rattle.cpu_words.specs.Rule.{Ruled, GoesOn, did}
-use Rattle.cpu_words.specs.Steps.{ChangesBy, Makes, Moves}
-use Rattle.cpu_words.specs.Vacating.{MayVacate, keeper_after_vacate, vacant_from}
+use Rattle.cpu_words.specs.Steps.{ChangesBy, Makes, Moves, KeeperMay}
+use Rattle.cpu_words.specs.Vacating.{MayVacate, keeper_after_vacate, vacant_from, VacateTold}
+use Rattle.cpu_words.proofs.seats.Notes.{hear_keeper_may}
 use Rattle.cpu_words.proofs.by_keeper.KeeperSteps.{KeeperLists, with_keeper, keeper_good_after, keeper_makes}
 use Rattle.cpu_words.proofs.by_keeper.Drained.{Drained, drained_of, vacating, vacated_leaves, vacated_counts, stood}
 use Rattle.cpu_words.proofs.by_keeper.KeeperSees.{seen_by_keeper, loads}
@@ -108,3 +111,16 @@ moves_after z v u i f before es tells T first then s r id at fits =
     let a = first s r id at in
     let b = then (with_view s id u) a.0.ruled id (view_here s.views id v u at) fits in
     (b.0, subst (λ (views : List View). GoesOn z s r (before ++ es (slice_index s.words i)) (record { words = set s.words i (f (slice_index s.words i)); homes = s.homes; views = views })) (views_again s.views id u b.0) (goes_both z s (with_view s id u) _ r before (es (slice_index s.words i)) a.0 b.1), (a.1, b.2))
+
+-- Vacate with a load by which the keeper hears
+pub vacating_may : (z : Settings) (k : KeeperView) (t : ℕ) → MayVacate k t
+    → KeeperMay z k 648 (λ n. n) (λ n. did (Vacate t) Done ++ did (Hear None) Done) (λ v n l. Makes (Vacate t) Done (Keeper v) (Keeper l) × Makes (Hear None) Done (Keeper l) (Keeper l) × VacateTold (Vacate t) v l)
+vacating_may z k t may s r id at fits =
+    let m = keeper_after_vacate k t in
+    let done = moves_after z (Keeper k) (Keeper m) 648 (λ n. n) (did (Vacate t) Done) (λ _. did (Hear None) Done) (λ _ w. (w ≡ Keeper (keeper_of w)) × Makes (Hear None) Done (Keeper m) (Keeper (keeper_of w)) × KeeperHasHeard m (keeper_of w))
+    (Makes (Vacate t) Done (Keeper k) (Keeper m)) (vacates z k t may) (hears z m may.drained.rest) s r id at fits in
+    let same : keeper_of done.0 ≡ m = done.2.1.2.1 in
+    (done.0, done.1, (done.2.1.0, (subst (λ (l : KeeperView). Makes (Vacate t) Done (Keeper k) (Keeper l)) (sym same) done.2.0, subst (λ (l : KeeperView). Makes (Hear None) Done (Keeper l) (Keeper (keeper_of done.0))) (sym same) done.2.1.1, same)))
+  where
+    hears : (z : Settings) (m : KeeperView) → m.due ≡ Rest → Moves z (Keeper m) 648 (λ n. n) (λ _. did (Hear None) Done) (λ _ w. (w ≡ Keeper (keeper_of w)) × Makes (Hear None) Done (Keeper m) (Keeper (keeper_of w)) × KeeperHasHeard m (keeper_of w))
+    hears z m rest s r id at fits = let d = hear_keeper_may z m rest s r id at fits in (d.0, d.1, (d.2.0, d.2.1.0, d.2.1.1))

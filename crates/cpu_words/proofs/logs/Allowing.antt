@@ -77,14 +77,14 @@ allows_hearing z y x slots id me i does tells st same view is own may =
         let after = l.log ++ does u (slice_index s.words i) in
         (record l { view = d.0; log = after; deeds = d.1 }, keeps, tt, d.2, ((λ k. (record l { view = d.3.0 k; log = after; deeds = d.1 }, [])), refl, d.3.1, d.4))
 
-pub allows_keeper_hearing : (z y : Settings) (x : KeeperView) (slots id : ℕ) (me : Me ℕ Logged) (i : ℕ) (does : KeeperView → ℕ → List Deed) (tells : KeeperView → ℕ → KeeperView → Type 0) (st : Step ℕ)
-    → z ≡ y → x ≡ keeper_of me.0.view → me ≡ (record me.0 { view = Keeper (keeper_of me.0.view) }, []) → ((n : ℕ) → AreBy the_keeper (does x n)) → KeeperMay z x i (λ n. n) (does x) tells → Allows (LoggedRuled y) slots id me i (λ n. n) (heard_by_keeper does tells st me)
-allows_keeper_hearing z y x slots id me i does tells st same view is own may =
-    subst (λ (m : Me ℕ Logged). Allows (LoggedRuled y) slots id m i (λ n. n) (heard_by_keeper does tells st m)) (sym is)
-    (by (keeper_of me.0.view) me.0 (subst (λ (y : KeeperView). (n : ℕ) → AreBy the_keeper (does y n)) view own) (subst (λ (p : Settings × KeeperView). KeeperMay p.0 p.1 i (λ n. n) (does p.1) tells) (λ k. (same k, view k)) may))
+pub allows_keeper_hearing : (z y : Settings) (x : KeeperView) (slots id : ℕ) (me : Me ℕ Logged) (i : ℕ) (f : ℕ → ℕ) (does : KeeperView → ℕ → List Deed) (tells : KeeperView → ℕ → KeeperView → Type 0) (st : Step ℕ)
+    → z ≡ y → x ≡ keeper_of me.0.view → me ≡ (record me.0 { view = Keeper (keeper_of me.0.view) }, []) → ((n : ℕ) → AreBy the_keeper (does x n)) → KeeperMay z x i f (does x) tells → Allows (LoggedRuled y) slots id me i f (heard_by_keeper does tells st me)
+allows_keeper_hearing z y x slots id me i f does tells st same view is own may =
+    subst (λ (m : Me ℕ Logged). Allows (LoggedRuled y) slots id m i f (heard_by_keeper does tells st m)) (sym is)
+    (by (keeper_of me.0.view) me.0 (subst (λ (y : KeeperView). (n : ℕ) → AreBy the_keeper (does y n)) view own) (subst (λ (p : Settings × KeeperView). KeeperMay p.0 p.1 i f (does p.1) tells) (λ k. (same k, view k)) may))
   where
-    by : (u : KeeperView) (l : Logged) → ((n : ℕ) → AreBy the_keeper (does u n)) → KeeperMay y u i (λ n. n) (does u) tells → Allows (LoggedRuled y) slots id (record l { view = Keeper u }, []) i (λ n. n) (heard_by_keeper does tells st (record l { view = Keeper u }, []))
+    by : (u : KeeperView) (l : Logged) → ((n : ℕ) → AreBy the_keeper (does u n)) → KeeperMay y u i f (does u) tells → Allows (LoggedRuled y) slots id (record l { view = Keeper u }, []) i f (heard_by_keeper does tells st (record l { view = Keeper u }, []))
     by u l own may s r size at fits =
-        let d = logged_moves y (record l { view = Keeper u }) i (λ n. n) (does u) (λ n w. (w ≡ Keeper (keeper_of w)) × tells u n (keeper_of w)) tt own may s r id at fits in
+        let d = logged_moves y (record l { view = Keeper u }) i f (does u) (λ n w. (w ≡ Keeper (keeper_of w)) × tells u n (keeper_of w)) tt own may s r id at fits in
         let after = l.log ++ does u (slice_index s.words i) in
         (record l { view = d.0; log = after }, keeps, tt, d.1, (((λ k. (record l { view = d.2.0 k; log = after }, [])), refl, d.2.1), own_log y u l s r id at))

@@ -27,7 +27,7 @@ cond_append : (b : Bool) (d : Deed) (x y : List Deed) → cond b (d ∷ (x ++ y)
 cond_append true d x y = refl
 cond_append false d x y = refl
 
-part_append : (i : ℕ) (a b : List (ℕ × Deed)) → part i (a ++ b) ≡ part i a ++ part i b
+pub part_append : (i : ℕ) (a b : List (ℕ × Deed)) → part i (a ++ b) ≡ part i a ++ part i b
 part_append i [] b = refl
 part_append i (x ∷ xs) b = ap (λ (l : List Deed). cond (x.0 == i) (x.1 ∷ l) l) (part_append i xs b) ∙ cond_append (x.0 == i) x.1 (part i xs) (part i b)
 

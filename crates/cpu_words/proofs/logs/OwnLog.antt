@@ -5,7 +5,10 @@ use mathlib.Core.List.{IsPrefix}
 use lib.ListN.{get_elem?}
 use Rattle.atomic_table.specs.Table.{State as Table}
 use Rattle.atomic_table.proofs.Lists.{at_map}
+use Rattle.registry_values.specs.declared.entry.Entry.{Entry}
 use Rattle.registry_values.specs.declared.settings.Settings.{Settings}
+use Rattle.registry_values.specs.declared.slot.Slot.TheVariants.{Retired}
+use Rattle.registry_values.specs.Slots.{slot_at}
 use Rattle.registry_values.specs.declared.entry.Change.{Change}
 use Rattle.protocol.specs.declared.event.Event.{Event}
 use Rattle.protocol.specs.declared.event.Event.TheVariants.{Snapshot, Look}
@@ -13,12 +16,13 @@ use Rattle.protocol.specs.declared.event.Reply.TheVariants.{Word}
 use Rattle.protocol.specs.State.{State, opening, section_at}
 use Rattle.protocol.specs.Events.{Outcome, step}
 use Rattle.protocol.specs.Invariant.{Holds}
+use Rattle.protocol.specs.Laws.{destroyed_slot}
 use Rattle.protocol.proofs.keeps.Keeping.{opening_holds}
 use Rattle.cpu_words.specs.declared.view.Deed.{Deed}
 use Rattle.cpu_words.specs.declared.view.KeeperView.{KeeperView}
 use Rattle.cpu_words.specs.declared.view.Logged.{Logged}
 use Rattle.cpu_words.specs.declared.view.View.TheVariants.{Keeper}
-use Rattle.cpu_words.specs.Deeds.{changes_in, AreMarksOf, AreSlotsOf, FindsWord, WordsGrow, IsOwnLog}
+use Rattle.cpu_words.specs.Deeds.{changes_in, AreMarksOf, AreSlotsOf, FindsWord, WordsGrow, IsFreedFrom, IsOwnLog}
 use Rattle.cpu_words.specs.Logs.{part, LoggedRuled}
 use Rattle.cpu_words.specs.Notes.{keeper_with_heard}
 use Rattle.cpu_words.proofs.logs.Changes.{run_of, fit_of}
@@ -93,3 +97,7 @@ own_laid log same note laid k l h is logs notes own = record {
   slots = subst (λ (ds : List Deed). AreSlotsOf k.settings.cpus ds k.slots) logs (subst (λ (x : KeeperView). AreSlotsOf x.settings.cpus same x.slots) is own.slots);
   grow = subst WordsGrow logs own.grow;
 }
+
+-- the deed that makes a retired slot vacant frees it from its entry
+pub freed_by : (t : ℕ) (log note : List Deed) (k : KeeperView) (e : Entry) (d : Deed) (more later : List Deed) → IsOwnLog log note k → slot_at k.slots t ≡ Retired e → destroyed_slot d.event ≡ Some t → later ≡ log ++ d ∷ more → IsFreedFrom t e.number later
+freed_by t log note k e d more later own at freed are = record { before = log; deed = d; after = more; are = are; detached = own.slots.retired t e at; freed = freed }
