@@ -1,4 +1,5 @@
 pub mod Freed
+pub mod Kept
 pub mod Holders
 pub mod Honest
 pub mod Reaching

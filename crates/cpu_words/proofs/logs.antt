@@ -11,5 +11,6 @@ pub mod Dues
 pub mod Walks
 pub mod Standings
 pub mod Slots
+pub mod Kept
 pub mod Known
 pub mod Growing

@@ -2,14 +2,15 @@
 use Rattle.std.specs.Prelude.{◌≡◌, ◌⊎◌, ℕ, suc, ◌==◌, ◌%◌, ◌<◌, ◌≤◌, Bool, true, false, if◌then◌else◌, List, [], ◌∷◌, ◌++◌, length, Option, Some, None}
 use mathlib.Core.List.{IsPrefix}
 use Rattle.protocol.specs.declared.event.Event.{Event}
-use Rattle.protocol.specs.declared.event.Event.TheVariants.{Publish, Unpublish, Snapshot, Look}
-use Rattle.protocol.specs.declared.event.Reply.TheVariants.{Word}
+use Rattle.protocol.specs.declared.event.Event.TheVariants.{Publish, Unpublish, Snapshot, Look, Keep, KeptSub}
+use Rattle.protocol.specs.declared.event.Reply.{Reply}
+use Rattle.protocol.specs.declared.event.Reply.TheVariants.{Done, Word}
 use Rattle.registry_values.specs.declared.entry.Entry.{Entry}
 use Rattle.registry_values.specs.declared.mark.Mark.{Mark}
 use Rattle.registry_values.specs.declared.slot.Slot.{Slot}
 use Rattle.registry_values.specs.declared.slot.Slot.TheVariants.{Vacant, Live, Retired}
 use Rattle.registry_values.specs.Slots.{slot_at}
-use Rattle.protocol.specs.State.{mark_at}
+use Rattle.protocol.specs.State.{mark_at, kept_at}
 use Rattle.protocol.specs.Laws.{HasMoved, destroyed_slot}
 use Rattle.cpu_words.specs.declared.view.KeeperView.{KeeperView}
 use Rattle.cpu_words.specs.declared.view.Deed.{Deed}
@@ -129,6 +130,32 @@ pub record IsFreedFrom (t n : ℕ) (log : List Deed) : Type 0 where
   pub detached : IsDetachedFrom t n before
   pub freed : destroyed_slot deed.event ≡ Some t
 
+-- The driver to which a slot keeps a reference, by a log: what Keep took over there last, unless KeptSub gave it up since
+
+abbrev pub number_replied : Reply → Option ℕ
+number_replied (Word n) = Some n
+number_replied r = None
+
+abbrev pub keeps_next : ℕ → Event → Reply → Option ℕ → Option ℕ
+keeps_next t (Keep u id) r x = if u == t then number_replied r else x
+keeps_next t (KeptSub u) r x = if u == t then None else x
+keeps_next t e r x = x
+
+abbrev pub keeping_from : ℕ → Option ℕ → List Deed → Option ℕ
+keeping_from t x [] = x
+keeping_from t x (d ∷ ds) = keeping_from t (keeps_next t d.event d.reply x) ds
+
+abbrev pub keeping : ℕ → List Deed → Option ℕ
+keeping t log = keeping_from t None log
+
+-- the entry n was attached in the slot t as that kept a reference to the driver d
+pub record IsAttachedKeeping (t n d : ℕ) (log : List Deed) : Type 0 where
+  pub before : List Deed
+  pub after : List Deed
+  pub are : log ≡ before ++ record { event = Publish t; reply = Done } ∷ after
+  pub number : n ≡ suc (changes_in before)
+  pub keeps : keeping t before ≡ Some d
+
 abbrev pub is_change_at : ℕ → Event → Bool
 is_change_at t (Publish u) = u == t
 is_change_at t (Unpublish u) = u == t
@@ -159,4 +186,5 @@ pub record IsOwnLog (log : List Deed) (note : List Deed) (k : KeeperView) : Type
   pub changes : length k.history ≡ changes_in log
   pub marks : AreMarksOf log k.marks
   pub slots : AreSlotsOf k.settings.cpus log k.slots
+  pub kept : (t : ℕ) → kept_at k.keeps t ≡ keeping t log
   pub grow : WordsGrow log

@@ -20,4 +20,5 @@ pub mod Logs
 pub mod Headline
 pub mod Waiting
 pub mod Freed
+pub mod Kept
 pub mod Domains

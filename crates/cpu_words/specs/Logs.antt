@@ -9,7 +9,7 @@ use Rattle.registry_values.specs.Slots.{slot_at}
 use Rattle.protocol.specs.declared.event.Event.{Event}
 use Rattle.protocol.specs.declared.event.Event.TheVariants.{Seat, Enter, Exit, Seek, LoadLink, LoadRecord, StoreSlot, StoreNext, Publish, Unpublish, Tell, Hear, Snapshot, Look, PassiveAdd, PassiveSub, PassiveLook, CountAdd, SplitRef, JoinRef, CountDown, SplitBack, Collect, TotalAdd, JoinKeeper, TotalSub, Keep, KeptSub, Vacate}
 use Rattle.protocol.specs.declared.event.RecordOf.TheVariants.{Search as OfSearch, Passive, Local}
-use Rattle.protocol.specs.declared.event.Reply.TheVariants.{Done, Ref}
+use Rattle.protocol.specs.declared.event.Reply.TheVariants.{Done, Ref, Word}
 use Rattle.cpu_words.specs.declared.view.InHand.{InHand}
 use Rattle.cpu_words.specs.declared.view.InHand.TheVariants.{Empty as NoEntry, Taking as TakingEntry, Giving as GivingEntry, Back as BackEntry}
 use Rattle.cpu_words.specs.declared.view.CpuView.{CpuView}
@@ -165,8 +165,8 @@ deeds_done does l = l.log ++ does l.view
 abbrev pub fresh : (View → View) → (Logged → List Deed) → Logged → Logged
 fresh right tells l = record { view = right l.view; log = []; deeds = tells l; laid = [] }
 
-abbrev pub joined_seat : (View → View → View) → (View → List Deed) → Logged → Logged → Logged
-joined_seat both does l m = record l { view = both l.view m.view; log = l.log ++ does l.view }
+abbrev pub joined_seat : (View → View → View) → (View → View → List Deed) → Logged → Logged → Logged
+joined_seat both does l m = record l { view = both l.view m.view; log = l.log ++ does l.view m.view }
 
 -- a note is laid beside the view: this is no event
 abbrev pub logged_with_note : (View → View → View) → Logged → Logged → Logged
@@ -198,12 +198,12 @@ leaves_hand c (BackEntry e) = did (SplitBack c) (Ref 0)
 abbrev pub cuts_off : View → List Deed
 cuts_off v = leaves_hand (cpu_of v).id (cpu_of v).hand
 
-abbrev pub takes_in : View → List Deed
-takes_in v = did (JoinRef (cpu_of v).id 0) Done
+abbrev pub takes_in : View → View → List Deed
+takes_in v u = did (JoinRef (cpu_of v).id 0) Done
 
-abbrev pub gives_up : View → List Deed
-gives_up v = did (JoinKeeper 0) Done
+abbrev pub gives_up : View → View → List Deed
+gives_up v u = did (JoinKeeper 0) Done
 
 -- Vacate first where the slot is retired
-abbrev pub keeps_for : ℕ → View → List Deed
-keeps_for t v = vacate_first (slot_at (keeper_of v).slots t) t (did (Keep t 0) Done)
+abbrev pub keeps_for : ℕ → View → View → List Deed
+keeps_for t v u = vacate_first (slot_at (keeper_of v).slots t) t (did (Keep t 0) (Word (reference_of u).entry.number))

@@ -57,7 +57,8 @@ SplitsBy e v left right = (g : State) → Good g → Shown g v → SplitMakes e 
 pub record JoinMakes (e : ℕ → Event) (g : State) (v u both : View) : Type 0 where
   pub id : ℕ
   pub after : State
-  pub made : step g (e id) ≡ Some (record { state = after; reply = Done })
+  pub reply : Reply
+  pub made : step g (e id) ≡ Some (record { state = after; reply = reply })
   pub good_after : Good after
   pub shown : Shown after both
   pub count : (n : ℕ) → reference_to n both + sum_by (standing_of n) g.locals ≡ reference_to n v + reference_to n u + sum_by (standing_of n) after.locals

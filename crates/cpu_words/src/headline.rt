@@ -3,6 +3,7 @@
 ghost use Rattle.cpu_words.specs.Headline.{DrainedIsFree, FoundIsHeld, HeldHaveSlots, MarksAreHonest, RunningHeadline};
 ghost use Rattle.cpu_words.specs.Waiting.{WaitingEnds};
 ghost use Rattle.cpu_words.specs.Freed.{FreedIsGone};
+ghost use Rattle.cpu_words.specs.Kept.{AttachedKeeps};
 
 /// Does nothing; its contract says the headline of the running words, between any two steps of whatever threads. `run`: there is a list
 /// of events from the opening such that the words and the views of all seats show the state after it. That state has the core invariant,
@@ -18,6 +19,7 @@ pub fn running_headline()
     ensures held { HeldHaveSlots }
     ensures waiting { WaitingEnds }
     ensures freed { FreedIsGone }
+    ensures kept { AttachedKeeps }
 {}
 
 /// Does nothing; its contract says what the keeper's marks tell of all seats, between any two steps of whatever threads. `drained`: where

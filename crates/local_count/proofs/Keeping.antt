@@ -117,3 +117,9 @@ may_attach z a table k l its rows c t n rec v x our is at number vacant kind nam
       room = rw (history, states) room;
       number = let changes = our.changes in let long = ap (λ (h : List Change). length h) history in let was = ap (λ (y : OnKeeper). length y.view.history) is in omega (arith, changes, long, was);
     }
+
+-- the slot keeps the reference then
+pub keeps_it : (z : TableId) (a : Settings) (table : TableId) (k l : KeeperView) (its : Settings) (rows : List KeptSlot) (n t : ℕ) (v : ReferenceView) → IsOurKeeper z a table k its rows n → t < a.slots → l ≡ keeper_after_keep k t v → kept_at l.keeps t ≡ Some v.entry.number
+keeps_it z a table k l its rows n t v our lt change =
+    let size = our.view.sized.keeps in
+    ap (λ (x : KeeperView). kept_at x.keeps t) change ∙ get_or-set_same k.keeps t (Some v.entry.number) None (omega (arith, lt, size))

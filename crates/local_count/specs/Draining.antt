@@ -13,7 +13,7 @@ use Rattle.registry_values.specs.Balances.{bias}
 use Rattle.cpu_words.specs.declared.view.KeeperView.{KeeperView}
 use Rattle.cpu_words.specs.declared.view.ReferenceView.{ReferenceView}
 use Rattle.cpu_words.specs.declared.view.View.TheVariants.{Keeper, Reference}
-use Rattle.cpu_words.specs.Deeds.{IsFreedFrom}
+use Rattle.cpu_words.specs.Deeds.{IsAttachedKeeping, IsFreedFrom}
 use Rattle.cpu_words.specs.Draining.{keeper_after_join, HasKeptSub}
 use Rattle.cpu_words.specs.Keeping.{IsVacated, keeper_after_keep}
 use Rattle.cpu_words.specs.Rule.{Good, did}
@@ -62,6 +62,8 @@ pub record HasAttachedKeeping (a : OnKeeper) (v : ReferenceView) (e : Entry) (b 
   pub vacated : IsVacated a.view e.slot
   pub kept : JoinsBy (Keep e.slot) (Keeper (as_vacant a.view e.slot)) (Reference v) (Keeper (keeper_after_keep a.view e.slot v))
   pub attached : HasAttached (record a { view = keeper_after_keep a.view e.slot v }) e b
+  -- by the log
+  pub keeping : IsAttachedKeeping e.slot e.number v.entry.number b.log
 
 -- the row that shows the live or retired entry n
 abbrev pub place_of : ℕ → List KeptSlot → Option ℕ

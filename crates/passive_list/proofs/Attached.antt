@@ -1,5 +1,5 @@
 -- An entry is published: the keeper may do so, and what it has agrees with what its seat knows then.
-use Rattle.std.proofs.Common.{◌≡◌, inl, inr, ⊎_elim, ℕ, zero, suc, ◌+◌, ◌<◌, ◌≤◌, Bool, true, false, List, [], ◌∷◌, length, get_or, set, replicate, Some, IsTrue, refl, sym, ap, ◌∙◌, subst, arith, get_or-set_same, length-set}
+use Rattle.std.proofs.Common.{◌≡◌, inl, inr, ⊎_elim, ℕ, zero, suc, ◌+◌, ◌<◌, ◌≤◌, Bool, true, false, List, [], ◌∷◌, length, get_or, set, replicate, Option, Some, IsTrue, refl, sym, ap, ◌∙◌, subst, arith, get_or-set_same, length-set}
 use Rattle.std.proofs.lemmas.List.{set-set}
 use Rattle.std.proofs.lemmas.List.Folds.{list_any_at}
 use Rattle.std.proofs.lemmas.List.Sums.{sum_by-cons}
@@ -27,6 +27,7 @@ use Rattle.protocol.proofs.keeps.ListKeeps.{live_count_set, rows_put}
 use Rattle.protocol.proofs.slots.Occupied.{in_within, slot_cases}
 use Rattle.cpu_words.specs.declared.view.KeeperView.{KeeperView}
 use Rattle.cpu_words.specs.declared.view.Deed.{Deed}
+use Rattle.cpu_words.specs.Deeds.{IsAttachedKeeping}
 use Rattle.cpu_words.specs.Publishing.{LeadsBelow, MayPublish, HasPublished}
 use Rattle.cpu_words.specs.Publishing.LeadsBelow.{To_end, To_slot}
 use Rattle.cpu_words.specs.Rule.{IsShown}
@@ -310,3 +311,12 @@ ask z a table k its rows n t rec x our is vacant keeps name free room = record {
   room = subst (λ (y : OnKeeper). length y.view.history + live_count y.slots + 2 ≤ a.change_limit) (sym is) room;
   number = let changes = our.changes in omega (arith, changes);
 }
+
+-- what the log says of the slot's driver, of the entry by its number
+pub attached_as : (k m : KeeperView) (e : Entry) (v d : ℕ) (log : List Deed) → m ≡ keeper_after_stores k e v → e.number ≡ suc (length k.history)
+    → (kept_at m.keeps e.slot ≡ Some d → IsAttachedKeeping e.slot (suc (length m.history)) d log) → kept_at k.keeps e.slot ≡ Some d → IsAttachedKeeping e.slot e.number d log
+attached_as k m e v d log stored number told keeps =
+    let same = as_vacant_is k e.slot in
+    let kept : m.keeps ≡ k.keeps = ap (λ (x : KeeperView). x.keeps) stored ∙ ap (λ (x : KeeperView). x.keeps) same in
+    let history : m.history ≡ k.history = ap (λ (x : KeeperView). x.history) stored ∙ ap (λ (x : KeeperView). x.history) same in
+    subst (λ (n : ℕ). IsAttachedKeeping e.slot n d log) (ap (λ (h : List Change). suc (length h)) history ∙ sym number) (told (ap (λ (l : List (Option ℕ)). kept_at l e.slot) kept ∙ keeps))

@@ -289,6 +289,7 @@ joins_by x c v id idle g good had shown has =
     let p = coming x c id idle v.entry g good had shown.attached (stands_for g v has) in
     let m = p.step in record {
       id = p.id;
+      reply = Done;
       after = handed g x.id m.h m.locals;
       made = m.made;
       good_after = good_after g (hand_lists g x.id m.h m.locals) x.id (JoinRef c p.id) Done good (leaves_hands g x.id m.h m.locals) had.seated m.made;

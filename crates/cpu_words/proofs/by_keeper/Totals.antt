@@ -303,6 +303,7 @@ join_keeper_law k v may g good had ref backs =
     let made : step g (JoinKeeper id) ≡ Some (record { state = with_keeper g l; reply = Done }) = rw (place.1, of, there.retired, rest, there.some_one) refl in
     record {
       id = id;
+      reply = Done;
       after = with_keeper g l;
       made = made;
       good_after = keeper_good_after g l (JoinKeeper id) Done good (leaves_all g l refl refl refl refl (λ u d on. on)) made;

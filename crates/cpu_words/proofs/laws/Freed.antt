@@ -176,31 +176,51 @@ none_before [] d more b is same = refl
 none_before (x ∷ xs) d more b is same =
     absurd (let size = sym (length-append (x ∷ xs) (d ∷ b)) ∙ ap (λ (l : List Deed). length l) is in let size' = ap (λ (l : List Deed). length l) same in omega (arith, size, size'))
 
-freed_gone : (z : Settings) (s : Table ℕ Logged) (i : ℕ) (l : Logged) (t n : ℕ) → RunsAsLogged z s → get_elem? s.views i ≡ some l → IsFreedFrom t n l.deeds → HasGone z s t n
-freed_gone z s i l t n r at f =
+-- the state in which the keeper made the deed, and what its log had before
+pub record AtDeed (cpus : ℕ) (before : List Deed) (d : Deed) (g : State) : Type 0 where
+  pub m : State
+  pub more : List (ℕ × Deed)
+  pub es : List Event
+  pub run : Follows m ((0, d) ∷ more) es g
+  pub on : Holds m
+  pub known : Known cpus before m
+
+pub at_deed : (z : Settings) (s : Table ℕ Logged) (i : ℕ) (l : Logged) (before after_it : List Deed) (deed : Deed) → (r : RunsAsLogged z s) → get_elem? s.views i ≡ some l → l.deeds ≡ before ++ deed ∷ after_it → AtDeed z.cpus before deed (after (opening z) r.run.events)
+at_deed z s i l before after_it deed r at log_is =
     let run = r.run in
     let g = after (opening z) run.events in
     let known = (r.known i l at).0 in
-    let later : List Deed = f.after ++ known.0 in
-    let mine : part 0 r.acts ≡ f.before ++ f.deed ∷ later = sym known.1 ∙ (ap (λ (d : List Deed). d ++ known.0) f.are ∙ append_assoc f.before (f.deed ∷ f.after) known.0) in
-    let h = halve 0 r.acts f.before (f.deed ∷ later) mine in
-    let p = place 0 h.second [] later f.deed h.rest in
-    let end : List (ℕ × Deed) = (0, f.deed) ∷ p.second in
+    let later : List Deed = after_it ++ known.0 in
+    let mine : part 0 r.acts ≡ before ++ deed ∷ later = sym known.1 ∙ (ap (λ (d : List Deed). d ++ known.0) log_is ∙ append_assoc before (deed ∷ after_it) known.0) in
+    let h = halve 0 r.acts before (deed ∷ later) mine in
+    let p = place 0 h.second [] later deed h.rest in
+    let end : List (ℕ × Deed) = (0, deed) ∷ p.second in
     let first : List (ℕ × Deed) = h.first ++ p.first in
     let are : r.acts ≡ first ++ end = h.are ∙ (ap (λ (x : List (ℕ × Deed)). h.first ++ x) p.are ∙ sym (append_assoc h.first p.first end)) in
-    let quiet : part 0 p.first ≡ [] = none_before (part 0 p.first) f.deed later (part 0 p.second) (sym (part_append 0 p.first end) ∙ (ap (part 0) (sym p.are) ∙ h.rest)) p.rest in
-    let did : part 0 first ≡ f.before = part_append 0 h.first p.first ∙ ((λ k. h.mine k ++ quiet k) ∙ append-nil f.before) in
+    let quiet : part 0 p.first ≡ [] = none_before (part 0 p.first) deed later (part 0 p.second) (sym (part_append 0 p.first end) ∙ (ap (part 0) (sym p.are) ∙ h.rest)) p.rest in
+    let did : part 0 first ≡ before = part_append 0 h.first p.first ∙ ((λ k. h.mine k ++ quiet k) ∙ append-nil before) in
     let made : length (deeds z run.events) ≡ length run.events = sym (ap (λ (d : List Deed). length d) r.are) ∙ (length-map r.acts (λ (a : ℕ × Deed). a.1) ∙ r.all) in
     let whole : Follows (opening z) r.acts run.events g = follows (empty_run (opening z)) r.acts run.events r.are made in
     let k = cut (opening z) first end run.events g (subst (λ (x : List (ℕ × Deed)). Follows (opening z) x run.events g) are whole) in
     let fit : IsTrue (are_fit z) = subst (λ (a : Settings). IsTrue (are_fit a)) run.settings run.good.holds.fit in
-    let m = k.between in
-    let on : Holds m = follows_holds (opening z) first k.earlier m k.before (opening_holds z fit) in
     let own = own_first run.seat g.seated first end (subst (AreByOwn run.seat g.seated) are r.owners) in
-    let has : Known z.cpus f.before m = subst (λ (d : List Deed). Known z.cpus d m) did
-    (walked run.seat g.seated (Known z.cpus) [] (opening z) first k.earlier m (known_stays run.seat g.seated z.cpus) k.before (opening_holds z fit) own (known_first z)) in
-    let freed : Freed m g t n = since_freed z.cpus f.before m f.deed p.second k.later g t n k.since on has f.detached f.freed in
-    record { run = r; gone = gone_of m g run.seat (plain s) t n run.good run.shows (histories m end k.later g k.since on) freed }
+    record {
+      m = k.between;
+      more = p.second;
+      es = k.later;
+      run = k.since;
+      on = follows_holds (opening z) first k.earlier k.between k.before (opening_holds z fit);
+      known = subst (λ (d : List Deed). Known z.cpus d k.between) did
+          (walked run.seat g.seated (Known z.cpus) [] (opening z) first k.earlier k.between (known_stays run.seat g.seated z.cpus) k.before (opening_holds z fit) own (known_first z));
+    }
+
+freed_gone : (z : Settings) (s : Table ℕ Logged) (i : ℕ) (l : Logged) (t n : ℕ) → RunsAsLogged z s → get_elem? s.views i ≡ some l → IsFreedFrom t n l.deeds → HasGone z s t n
+freed_gone z s i l t n r at f =
+    let run = r.run in
+    let g = after (opening z) run.events in
+    let a = at_deed z s i l f.before f.after f.deed r at f.are in
+    let freed : Freed a.m g t n = since_freed z.cpus f.before a.m f.deed a.more a.es g t n a.run a.on a.known f.detached f.freed in
+    record { run = r; gone = gone_of a.m g run.seat (plain s) t n run.good run.shows (histories a.m ((0, f.deed) ∷ a.more) a.es g a.run a.on) freed }
 
 pub freed_is_gone : FreedIsGone
 freed_is_gone z s i l t n r at f = freed_gone z s i l t n (running_headline z s r) at f

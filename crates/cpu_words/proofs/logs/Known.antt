@@ -1,5 +1,5 @@
 -- What the keeper's log says of the state, by a walk over the run: how many changes there were, marks and slots.
-use Rattle.std.proofs.Common.{◌≡◌, ◌≢◌, ⊎_elim, ℕ, ◌+◌, ◌<◌, ◌≤◌, Bool, true, false, if◌then◌else◌, nat_lt, List, [], ◌∷◌, ◌++◌, length, set, replicate, Some, None, refl, sym, ap, ◌∙◌, subst, arith}
+use Rattle.std.proofs.Common.{◌≡◌, ◌≢◌, ⊎_elim, ℕ, ◌+◌, ◌<◌, ◌≤◌, Bool, true, false, if◌then◌else◌, nat_lt, List, [], ◌∷◌, ◌++◌, length, set, replicate, Option, Some, None, refl, sym, ap, ◌∙◌, subst, arith}
 use Rattle.registry_values.specs.declared.entry.Entry.{Entry}
 use Rattle.registry_values.specs.declared.mark.Mark.{Mark}
 use Rattle.registry_values.specs.declared.settings.Settings.{Settings}
@@ -10,7 +10,7 @@ use Rattle.protocol.specs.declared.event.Event.{Event}
 use Rattle.protocol.specs.declared.event.Event.TheVariants.{Publish, Unpublish, Snapshot, Look, PassiveLook, Collect}
 use Rattle.protocol.specs.declared.state.Due.{Due}
 use Rattle.protocol.specs.declared.state.Due.TheVariants.{Rest, Snapshots}
-use Rattle.protocol.specs.State.{State, opening, with_cell, section_at, mark_at}
+use Rattle.protocol.specs.State.{State, opening, with_cell, section_at, mark_at, kept_at}
 use Rattle.protocol.specs.Events.{Outcome, step, snapshot_mark, due_after}
 use Rattle.protocol.specs.Invariant.{Holds, DueHolds}
 use Rattle.protocol.proofs.keeps.Unlinking.{within_retired}
@@ -18,9 +18,10 @@ use Rattle.protocol.proofs.slots.Cells.{cell_cases, cell_other}
 use Rattle.protocol.proofs.slots.MarkRows.{mark_there}
 use Rattle.cpu_words.specs.declared.view.Deed.{Deed}
 use Rattle.cpu_words.specs.Rule.{event_without_id}
-use Rattle.cpu_words.specs.Deeds.{changes_of, changes_in, AreMarksOf, AreSlotsOf}
+use Rattle.cpu_words.specs.Deeds.{changes_of, changes_in, AreMarksOf, AreSlotsOf, keeping}
 use Rattle.cpu_words.specs.Logs.{maker, IsSeatOf}
 use Rattle.cpu_words.proofs.logs.Changes.{Grows, step_grows, unnamed_changes}
+use Rattle.cpu_words.proofs.logs.Kept.{kept_own, kept_off}
 use Rattle.cpu_words.proofs.logs.Dues.{DueAfter, Dues, step_dues}
 use Rattle.cpu_words.proofs.logs.Marks.{Marks, IsFirst, marks_after, step_marks, marks_off, fresh, more_marks, no_marks}
 use Rattle.cpu_words.proofs.logs.Runs.{deed_of}
@@ -37,6 +38,7 @@ pub record Known (cpus : ℕ) (log : List Deed) (s : State) : Type 0 where
   pub changes : length s.history ≡ changes_in log
   pub marks : AreMarksOf log s.marks
   pub slots : AreSlotsOf cpus log s.slots
+  pub kept : (t : ℕ) → kept_at s.keeps t ≡ keeping t log
   pub ahead : NoneAhead s.due s.marks
 
 -- Snapshots that are due
@@ -102,6 +104,7 @@ known_own cpus log s e o on made known =
       changes = grows ∙ (ap (changes_of e) known.changes ∙ (sym (unnamed_changes e (changes_in log)) ∙ sym (changes_last log d)));
       marks = subst (AreMarksOf (log ++ d ∷ [])) (sym marks.0) (more_marks log s e o.reply marks.1 (first_taken s e o.state on dues.1 known.ahead) known.marks);
       slots = subst (λ (n : ℕ). AreSlotsOf n (log ++ d ∷ []) o.state.slots) known.settings (slots_own log s e o on made known.changes known.marks slots);
+      kept = λ t. kept_own log s e o on made known.kept t;
       ahead = subst (NoneAhead o.state.due) (sym marks.0) (ahead_after s e o.state dues.1 known.ahead);
     }
 
@@ -128,6 +131,7 @@ known_off seat n cpus i log s e o is off on made known =
       changes = grows ∙ (changes_off seat n i e (length s.history) is off ∙ known.changes);
       marks = subst (AreMarksOf log) (sym same) known.marks;
       slots = subst (λ (k : ℕ). AreSlotsOf k log o.state.slots) known.settings (slots_off seat n i log s e o is off on made known.marks slots);
+      kept = λ t. ap (λ (k : List (Option ℕ)). kept_at k t) (kept_off seat n i s e o is off on made) ∙ known.kept t;
       ahead = subst (NoneAhead o.state.due) (sym same) (same_snapshots s.due o.state.due s.marks s.marks (due_off seat n i s e o.state is off dues.1) (λ u j. refl) known.ahead);
     }
 
@@ -139,4 +143,4 @@ known_stays seat n cpus = record {
 
 -- before all events
 pub known_first : (z : Settings) → Known z.cpus [] (opening z)
-known_first z = record { settings = refl; changes = refl; marks = no_marks z; slots = no_slots z; ahead = λ t c j is le. absurd (let q : Rest ≡ Snapshots t c = is in cc) }
+known_first z = record { settings = refl; changes = refl; marks = no_marks z; slots = no_slots z; kept = λ t. Rattle.protocol.proofs.slots.Cells.get_or_all z.slots None t; ahead = λ t c j is le. absurd (let q : Rest ≡ Snapshots t c = is in cc) }

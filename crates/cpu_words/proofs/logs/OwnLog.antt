@@ -1,5 +1,5 @@
 -- What the keeper knows of its own log once it hears: it has all changes of the history, its marks and slots, and section words that grow.
-use Rattle.std.proofs.Common.{◌≡◌, ⊎_elim, ℕ, Some, List, [], ◌∷◌, ◌++◌, length, refl, sym, ap, ◌∙◌, subst, arith}
+use Rattle.std.proofs.Common.{◌≡◌, ⊎_elim, ℕ, suc, Some, List, [], ◌∷◌, ◌++◌, length, refl, sym, ap, ◌∙◌, subst, arith}
 use mathlib.Core.Option.{some}
 use mathlib.Core.List.{IsPrefix}
 use lib.ListN.{get_elem?}
@@ -11,9 +11,9 @@ use Rattle.registry_values.specs.declared.slot.Slot.TheVariants.{Retired}
 use Rattle.registry_values.specs.Slots.{slot_at}
 use Rattle.registry_values.specs.declared.entry.Change.{Change}
 use Rattle.protocol.specs.declared.event.Event.{Event}
-use Rattle.protocol.specs.declared.event.Event.TheVariants.{Snapshot, Look}
-use Rattle.protocol.specs.declared.event.Reply.TheVariants.{Word}
-use Rattle.protocol.specs.State.{State, opening, section_at}
+use Rattle.protocol.specs.declared.event.Event.TheVariants.{Publish, Snapshot, Look}
+use Rattle.protocol.specs.declared.event.Reply.TheVariants.{Done, Word}
+use Rattle.protocol.specs.State.{State, opening, section_at, kept_at}
 use Rattle.protocol.specs.Events.{Outcome, step}
 use Rattle.protocol.specs.Invariant.{Holds}
 use Rattle.protocol.specs.Laws.{destroyed_slot}
@@ -22,7 +22,7 @@ use Rattle.cpu_words.specs.declared.view.Deed.{Deed}
 use Rattle.cpu_words.specs.declared.view.KeeperView.{KeeperView}
 use Rattle.cpu_words.specs.declared.view.Logged.{Logged}
 use Rattle.cpu_words.specs.declared.view.View.TheVariants.{Keeper}
-use Rattle.cpu_words.specs.Deeds.{changes_in, AreMarksOf, AreSlotsOf, FindsWord, WordsGrow, IsFreedFrom, IsOwnLog}
+use Rattle.cpu_words.specs.Deeds.{changes_in, AreMarksOf, AreSlotsOf, FindsWord, WordsGrow, IsFreedFrom, IsAttachedKeeping, IsOwnLog, keeping}
 use Rattle.cpu_words.specs.Logs.{part, LoggedRuled}
 use Rattle.cpu_words.specs.Notes.{keeper_with_heard}
 use Rattle.cpu_words.proofs.logs.Changes.{run_of, fit_of}
@@ -85,6 +85,7 @@ own_log z k l s r i at =
       marks = subst (λ (ds : List Deed). AreMarksOf ds k.marks) (sym whole) (subst (AreMarksOf (part 0 r.acts)) (sym marks) known.marks);
       slots = subst (λ (ds : List Deed). AreSlotsOf k.settings.cpus ds k.slots) (sym whole)
           (subst (AreSlotsOf k.settings.cpus (part 0 r.acts)) (sym slots) (subst (λ (n : ℕ). AreSlotsOf n (part 0 r.acts) r.run.g.slots) (sym cpus) known.slots));
+      kept = λ t. ap (λ (x : KeeperView). kept_at x.keeps t) its.1.is ∙ (known.kept t ∙ ap (keeping t) (sym whole));
       grow = subst WordsGrow (sym whole) (words_grow (opening z) r.acts r.run.reached.events _ (run_of z s r) (opening_holds z (fit_of z s r)));
     }
 
@@ -95,9 +96,14 @@ own_laid log same note laid k l h is logs notes own = record {
   changes = sym (ap (λ (x : KeeperView). length x.history) is) ∙ (own.changes ∙ ap changes_in logs);
   marks = subst (AreMarksOf log) (ap (λ (x : KeeperView). x.marks) is) (subst (λ (ds : List Deed). AreMarksOf ds l.marks) logs own.marks);
   slots = subst (λ (ds : List Deed). AreSlotsOf k.settings.cpus ds k.slots) logs (subst (λ (x : KeeperView). AreSlotsOf x.settings.cpus same x.slots) is own.slots);
+  kept = λ t. sym (ap (λ (x : KeeperView). kept_at x.keeps t) is) ∙ (own.kept t ∙ ap (keeping t) logs);
   grow = subst WordsGrow logs own.grow;
 }
 
 -- the deed that makes a retired slot vacant frees it from its entry
 pub freed_by : (t : ℕ) (log note : List Deed) (k : KeeperView) (e : Entry) (d : Deed) (more later : List Deed) → IsOwnLog log note k → slot_at k.slots t ≡ Retired e → destroyed_slot d.event ≡ Some t → later ≡ log ++ d ∷ more → IsFreedFrom t e.number later
 freed_by t log note k e d more later own at freed are = record { before = log; deed = d; after = more; are = are; detached = own.slots.retired t e at; freed = freed }
+
+-- an attach in a slot that keeps a driver
+pub attached_by : (t : ℕ) (log note : List Deed) (k : KeeperView) (d : ℕ) (later : List Deed) → IsOwnLog log note k → kept_at k.keeps t ≡ Some d → later ≡ log ++ record { event = Publish t; reply = Done } ∷ [] → IsAttachedKeeping t (suc (length k.history)) d later
+attached_by t log note k d later own keeps are = record { before = log; after = []; are = are; number = ap suc own.changes; keeps = sym (own.kept t) ∙ keeps }

@@ -32,7 +32,7 @@ pub(crate) fn load<T: KeeperTale>(
         .load::<KeeperPlay<T>>(&mut seat.token, word)
 }
 
-/// Stores a word.
+/// Stores a word, and hears what its log has.
 pub(crate) fn store<T: KeeperTale>(
     words: &Words,
     seat: &mut KeeperSeat,
@@ -47,13 +47,14 @@ pub(crate) fn store<T: KeeperTale>(
     ensures table { seat.new.table ≡ seat.old.table }
     ensures told { T.tells seat.old.view value seat.new.view }
     ensures log { seat.new.log ≡ seat.old.log ++ T.does seat.old.view value }
+    ensures deeds { IsOwnLog seat.old.log seat.old.laid seat.old.view }
 {
     // The contract alone speaks of the event.
     let _event = event;
     words
         .table
         .shared
-        .store::<KeeperPlay<T>>(&mut seat.token, word, value);
+        .store::<KeeperHearing<T>>(&mut seat.token, word, value);
 }
 
 /// Writes a word. It answers the word as it was.

@@ -2,6 +2,7 @@ use Rattle.cpu_words.proofs.laws.Safety.{running_headline}
 use Rattle.cpu_words.proofs.laws.Holders.{held_have_slots}
 use Rattle.cpu_words.proofs.laws.Waiting.{waiting_ends}
 use Rattle.cpu_words.proofs.laws.Freed.{freed_is_gone}
+use Rattle.cpu_words.proofs.laws.Kept.{attached_keeps}
 use Rattle.cpu_words.proofs.headline.running_headline.Goals as goal
 
 pub returns-clause-run : goal.returns-clause-run
@@ -15,3 +16,6 @@ returns-clause-waiting c = waiting_ends
 
 pub returns-clause-freed : goal.returns-clause-freed
 returns-clause-freed c = freed_is_gone
+
+pub returns-clause-kept : goal.returns-clause-kept
+returns-clause-kept c = attached_keeps

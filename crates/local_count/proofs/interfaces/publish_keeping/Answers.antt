@@ -17,7 +17,7 @@ use Rattle.passive_list.specs.Keepers.{OnKeeper, row_at, state_of, states_of}
 use Rattle.passive_list.specs.Publishing.{MayAttach, HasEntry, keeper_after_stores}
 use Rattle.passive_list.proofs.Attached.{published_keeper, row_live}
 use Rattle.local_count.specs.Draining.{HasAttachedKeeping}
-use Rattle.local_count.proofs.Keeping.{rows_keeping, states_keeping, may_attach, same_history}
+use Rattle.local_count.proofs.Keeping.{keeps_it, rows_keeping, states_keeping, may_attach, same_history}
 use Rattle.local_count.proofs.interfaces.publish_keeping.Goals as goal
 
 pub publish_entry-requires-clause-may : goal.publish_entry-requires-clause-may
@@ -55,4 +55,5 @@ returns-clause-change g c =
         entry = subst (λ (x : KeeperView). HasEntry x e l) c.keep.ensures.change c.publish_entry.ensures.change;
         slots = map-set state_of rows t (row_live (row_at rows t) e) ∙ ap (λ (xs : List Slot). set xs t (Live e)) (states_keeping inside.rows t c.reference.inside.number);
       };
+      keeping = c.publish_entry.ensures.attached v.entry.number (keeps_it _ _ _ _ _ _ _ _ t v c.keeper.invariant c.requires.vacant.0 c.keep.ensures.change);
     }

@@ -10,7 +10,7 @@ use Rattle.cpu_words.specs.declared.view.KeeperView.{KeeperView}
 use Rattle.passive_list.specs.Keepers.{OnKeeper}
 use Rattle.local_count.specs.Draining.{HasAttachedKeeping}
 use Rattle.name_registry.specs.Attaching.{HasAttachedIfaceFor}
-use Rattle.name_registry.proofs.Attached.{a_driver, inside_is, taken_tells, attach_met, keeping_told, keeping_history}
+use Rattle.name_registry.proofs.Attached.{keeping_more, log_told, a_driver, inside_is, taken_tells, attach_met, keeping_told, keeping_history}
 use Rattle.name_registry.proofs.attaching.attach_iface_in.Goals as goal
 
 pub publish_iface-entry-requires-clause-vacant : goal.publish_iface-entry-requires-clause-vacant
@@ -58,6 +58,7 @@ returns-clause-ok g c =
     subst (λ (k : OnKeeper). HasAttachedIfaceFor a x v e k c.show_cpu.new.cpu) (sym c.show_cpu.ensures.keeper) record {
       seen = met.0;
       keeper = keeping_told _ v e b (subst (λ (k : OnKeeper). HasAttachedKeeping k v e b) c.hear_cpu.ensures.keeper has);
+      keeping = keeping_more e.slot e.number v.entry.number b.log c.show_cpu.new.cpu.deeds (log_told b c.show_cpu.new.keeper c.show_cpu.new.cpu c.show_cpu.ensures.keeper c.show_cpu.ensures.told) has.keeping;
       cpu = met.1;
       own = met.2;
     }
