@@ -1,5 +1,6 @@
 pub mod Allowing
 pub mod Changes
+pub mod Counted
 pub mod Logs
 pub mod Makers
 pub mod Runs

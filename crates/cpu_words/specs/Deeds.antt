@@ -1,19 +1,25 @@
 -- What seats have heard of the keeper's deeds: a prefix of the keeper's log. Since a log only grows, what follows from such a prefix stays so.
-use Rattle.std.specs.Prelude.{◌≡◌, ◌⊎◌, ℕ, suc, ◌==◌, ◌%◌, ◌<◌, ◌≤◌, Bool, true, false, if◌then◌else◌, List, [], ◌∷◌, ◌++◌, length, Option, Some, None}
+use Rattle.std.specs.Prelude.{◌≡◌, ◌⊎◌, ℕ, suc, ◌==◌, ◌&&◌, ◌%◌, ◌<◌, ◌≤◌, Bool, true, false, if◌then◌else◌, List, [], ◌∷◌, ◌++◌, length, Option, Some, None}
 use mathlib.Core.List.{IsPrefix}
 use Rattle.protocol.specs.declared.event.Event.{Event}
-use Rattle.protocol.specs.declared.event.Event.TheVariants.{Publish, Unpublish, Snapshot, Look, Keep, KeptSub}
+use Rattle.protocol.specs.declared.event.Event.TheVariants.{Publish, Unpublish, Snapshot, Look, Collect, Keep, KeptSub, Vacate}
 use Rattle.protocol.specs.declared.event.Reply.{Reply}
 use Rattle.protocol.specs.declared.event.Reply.TheVariants.{Done, Word}
+use Rattle.registry_values.specs.declared.entry.Change.{Change}
 use Rattle.registry_values.specs.declared.entry.Entry.{Entry}
 use Rattle.registry_values.specs.declared.mark.Mark.{Mark}
 use Rattle.registry_values.specs.declared.slot.Slot.{Slot}
 use Rattle.registry_values.specs.declared.slot.Slot.TheVariants.{Vacant, Live, Retired}
-use Rattle.registry_values.specs.Slots.{slot_at}
-use Rattle.protocol.specs.State.{mark_at, kept_at}
+use Rattle.registry_values.specs.Slots.{is_retired, slot_at}
+use Rattle.protocol.specs.State.{State, count_at, kept_at, mark_at}
 use Rattle.protocol.specs.Laws.{HasMoved, destroyed_slot}
 use Rattle.cpu_words.specs.declared.view.KeeperView.{KeeperView}
+use Rattle.cpu_words.specs.declared.view.View.{View}
+use Rattle.cpu_words.specs.declared.view.View.TheVariants.{Keeper}
 use Rattle.cpu_words.specs.declared.view.Deed.{Deed}
+use Rattle.cpu_words.specs.Notes.{keeper_with_heard}
+use Rattle.cpu_words.specs.Rule.{Good}
+use Rattle.cpu_words.specs.Views.{Shown}
 
 -- what was heard before, and what a note told, are prefixes of what is heard now
 abbrev pub HasHeardDeeds : List Deed → List Deed → List Deed → Type 0
@@ -132,12 +138,13 @@ pub record IsFreedFrom (t n : ℕ) (log : List Deed) : Type 0 where
 
 -- The driver to which a slot keeps a reference, by a log: what Keep took over there last, unless KeptSub gave it up since
 
-abbrev pub number_replied : Reply → Option ℕ
-number_replied (Word n) = Some n
-number_replied r = None
+-- the word or the number that a deed replied
+abbrev pub replied : Reply → Option ℕ
+replied (Word n) = Some n
+replied r = None
 
 abbrev pub keeps_next : ℕ → Event → Reply → Option ℕ → Option ℕ
-keeps_next t (Keep u id) r x = if u == t then number_replied r else x
+keeps_next t (Keep u id) r x = if u == t then replied r else x
 keeps_next t (KeptSub u) r x = if u == t then None else x
 keeps_next t e r x = x
 
@@ -180,6 +187,67 @@ FindsWord c w d = (to : Option ℕ) × ((d ≡ record { event = Snapshot to c; r
 abbrev pub WordsGrow : List Deed → Type 0
 WordsGrow log = (c v w : ℕ) (d e : Deed) (before between after : List Deed) → log ≡ before ++ d ∷ (between ++ e ∷ after) → FindsWord c v d → FindsWord c w e → v ≤ w
 
+-- What counts by a log: the entry that has the slot t, and the count word of the CPU c that was collected for it. Nothing of it is left once the slot is vacant.
+
+-- the number of the slot's entry, live or retired
+
+abbrev pub occupant_after : ℕ → ℕ → Event → Option ℕ → Option ℕ
+occupant_after t changes (Publish u) x = if u == t then Some (suc changes) else x
+occupant_after t changes (KeptSub u) x = if u == t then None else x
+occupant_after t changes (Vacate u) x = if u == t then None else x
+occupant_after t changes e x = x
+
+abbrev pub occupant_from : ℕ → ℕ → Option ℕ → List Deed → Option ℕ
+occupant_from t changes x [] = x
+occupant_from t changes x (d ∷ ds) = occupant_from t (changes_of d.event changes) (occupant_after t changes d.event x) ds
+
+abbrev pub occupant : ℕ → List Deed → Option ℕ
+occupant t log = occupant_from t 0 None log
+
+-- the word that was collected, as the swap found it
+
+abbrev pub word_after : ℕ → ℕ → Event → Reply → Option ℕ → Option ℕ
+word_after t c (Collect u d) r x = if u == t && d == c then replied r else x
+word_after t c (KeptSub u) r x = if u == t then None else x
+word_after t c (Vacate u) r x = if u == t then None else x
+word_after t c e r x = x
+
+abbrev pub word_from : ℕ → ℕ → Option ℕ → List Deed → Option ℕ
+word_from t c x [] = x
+word_from t c x (d ∷ ds) = word_from t c (word_after t c d.event d.reply x) ds
+
+abbrev pub word_collected : ℕ → ℕ → List Deed → Option ℕ
+word_collected t c log = word_from t c None log
+
+-- the same of a state
+
+abbrev pub occupant_of : Slot → Option ℕ
+occupant_of Vacant = None
+occupant_of (Live e) = Some e.number
+occupant_of (Retired e) = Some e.number
+
+-- the net count of c, where its word was collected for the entry of the slot t: from then on it stays
+abbrev pub word_if : Bool → ℕ → Option ℕ
+word_if b w = if b then Some w else None
+
+abbrev pub is_drawn : State → ℕ → ℕ → Bool
+is_drawn s t c = is_retired (slot_at s.slots t) && (mark_at s.marks t c).collected
+
+abbrev pub word_in : State → ℕ → ℕ → Option ℕ
+word_in s t c = word_if (is_drawn s t c) (count_at s.nets c t)
+
+-- the keeper's log has which entries the slots have, and each collected word, which is that CPU's net count
+pub record AreCountsOf (log : List Deed) (s : State) : Type 0 where
+  pub occupants : (t : ℕ) → occupant t log ≡ occupant_of (slot_at s.slots t)
+  pub words : (t c : ℕ) → word_collected t c log ≡ word_in s t c
+
+-- some state shows the view, in which the keeper had done just this
+pub record IsShownAfter (log : List Deed) (v : View) : Type 0 where
+  pub g : State
+  pub good : Good g
+  pub shown : Shown g v
+  pub counts : AreCountsOf log g
+
 -- The keeper's log has what the note told, the history is as long as the log says, its marks and slots are in it, and the words that it found grow
 pub record IsOwnLog (log : List Deed) (note : List Deed) (k : KeeperView) : Type 0 where
   pub told : IsPrefix note log
@@ -188,3 +256,5 @@ pub record IsOwnLog (log : List Deed) (note : List Deed) (k : KeeperView) : Type
   pub slots : AreSlotsOf k.settings.cpus log k.slots
   pub kept : (t : ℕ) → kept_at k.keeps t ≡ keeping t log
   pub grow : WordsGrow log
+  -- with another note beside it, some state shows the view, in which the keeper had done just this
+  pub counts : (h : List Change) × IsShownAfter log (Keeper (keeper_with_heard k h))

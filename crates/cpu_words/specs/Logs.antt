@@ -22,7 +22,7 @@ use Rattle.cpu_words.specs.declared.view.View.TheVariants.{Keeper, Cpu, Referenc
 use Rattle.cpu_words.specs.Views.{first_view, cpu_of, keeper_of, reference_of}
 use Rattle.cpu_words.specs.Rule.{did, deeds, Ruled}
 use Rattle.cpu_words.specs.Vacating.{vacate_first}
-use Rattle.cpu_words.specs.Deeds.{HasHeardDeeds, IsOwnLog}
+use Rattle.cpu_words.specs.Deeds.{HasHeardDeeds, IsOwnLog, IsShownAfter}
 
 -- the table without the logs
 abbrev pub plain : Table ℕ Logged → Table ℕ View
@@ -138,9 +138,9 @@ IsToldByKeeper does tells st m n l = (l ≡ (record m.0 { view = Keeper (keeper_
 abbrev pub IsToldByReference : (ReferenceView → ℕ → List Deed) → (ReferenceView → ℕ → Type 0) → Step ℕ → Me ℕ Logged → ℕ → Me ℕ Logged → Type 0
 IsToldByReference does tells st m n l = (l ≡ (record m.0 { log = l.0.log }, m.1)) × (l.0.log ≡ m.0.log ++ does (reference_of m.0.view) n) × tells (reference_of m.0.view) n
 
--- A load that hears. A CPU's seat has heard then what the keeper did: what it had heard, and what the note told, are prefixes of that
+-- A load that hears. A CPU's seat has heard then what the keeper did: what it had heard, and what the note told, are prefixes of that, and some state shows its view in which the keeper had done just this
 abbrev pub heard_by_cpu : (CpuView → ℕ → List Deed) → (CpuView → ℕ → CpuView → Type 0) → Step ℕ → Me ℕ Logged → ℕ → Me ℕ Logged → Type 0
-heard_by_cpu does tells st m n l = (l ≡ (record m.0 { view = Cpu (cpu_of l.0.view); log = l.0.log; deeds = l.0.deeds }, m.1)) × (l.0.log ≡ m.0.log ++ does (cpu_of m.0.view) n) × tells (cpu_of m.0.view) n (cpu_of l.0.view) × HasHeardDeeds m.0.deeds m.0.laid l.0.deeds
+heard_by_cpu does tells st m n l = (l ≡ (record m.0 { view = Cpu (cpu_of l.0.view); log = l.0.log; deeds = l.0.deeds }, m.1)) × (l.0.log ≡ m.0.log ++ does (cpu_of m.0.view) n) × tells (cpu_of m.0.view) n (cpu_of l.0.view) × HasHeardDeeds m.0.deeds m.0.laid l.0.deeds × IsShownAfter l.0.deeds (Cpu (cpu_of m.0.view))
 
 -- the keeper finds what the note told in its own log, and its history as long as that says
 abbrev pub heard_by_keeper : (KeeperView → ℕ → List Deed) → (KeeperView → ℕ → KeeperView → Type 0) → Step ℕ → Me ℕ Logged → ℕ → Me ℕ Logged → Type 0

@@ -4,6 +4,7 @@ pub mod Balanced
 pub mod Destroyed
 pub mod Detached
 pub mod Exact
+pub mod Gathered
 pub mod Glanced
 pub mod Held
 pub mod Heard

@@ -1,7 +1,14 @@
 -- What an audit answers (localcount(9)): by the counts of all CPUs and the totals, and that it is the tally.
 use Rattle.std.specs.Prelude.{◌≡◌, ℕ, zero, suc, ◌+◌, ℤ, pos, ◌+ℤ◌, ◌-ℤ◌, ◌==◌, All, Bool, ◌&&◌, List, [], ◌∷◌, ◌++◌, map, length, sum_by, if◌then◌else◌}
 use mathlib.Core.Option.{some}
+use mathlib.Core.List.{IsPrefix}
 use lib.ListN.{get_elem?}
+use Rattle.registry_values.specs.declared.entry.Change.{Change}
+use Rattle.cpu_words.specs.declared.view.Deed.{Deed}
+use Rattle.cpu_words.specs.declared.view.View.TheVariants.{Cpu, Keeper}
+use Rattle.cpu_words.specs.Deeds.{IsShownAfter}
+use Rattle.cpu_words.specs.Notes.{with_heard, keeper_with_heard}
+use Rattle.name_registry.specs.Meeting.{HasLearned}
 use Rattle.registry_values.specs.declared.balance.Balance.{Balance}
 use Rattle.registry_values.specs.declared.entry.Entry.{Entry}
 use Rattle.registry_values.specs.declared.settings.Settings.{Settings}
@@ -125,9 +132,30 @@ pub record AreShown (g : State) (k : OnKeeper) (xs : List OnCpu) : Type 0 where
   pub keeper : KeeperShown g k.view
   pub cpus : (c : ℕ) (x : OnCpu) → get_elem? xs c ≡ some x → CpuShown g x.view
 
--- What is held is the tally, whatever state the views are of.
+-- What is held is the tally.
 abbrev pub IsTallied : OnKeeper → List OnCpu → Tally → Type 0
-IsTallied k xs b = (g : State) → AreShown g k xs → b.held ≡ tally k xs b.number
+IsTallied k xs b = b.held ≡ tally k xs b.number
+
+-- Before it sums, an audit lets all know the same of the keeper's deeds: the keeper tells, each CPU hears in turn and tells on, and the keeper hears the last one. Then each view is shown by a state of its own, in which the keeper had done just the same.
+
+-- with another note beside it, some state shows the CPU, in which the keeper had done just this
+abbrev pub IsShownOn : List Deed → OnCpu → Type 0
+IsShownOn log x = (h : List Change) × IsShownAfter log (Cpu (with_heard x.view h))
+
+pub record AreAlike (k : OnKeeper) (xs : List OnCpu) : Type 0 where
+  pub log : List Deed
+  pub keeper : (h : List Change) × IsShownAfter log (Keeper (keeper_with_heard k.view h))
+  pub cpus : (c : ℕ) (x : OnCpu) → get_elem? xs c ≡ some x → IsShownOn log x
+
+-- of the keeper nothing changed but what it heard, and its log, which goes on
+pub record HasListened (a b : OnKeeper) : Type 0 where
+  pub log : IsPrefix a.log b.log
+  pub is : (h : List Change) × (b ≡ record a { view = keeper_with_heard a.view h; log = b.log })
+
+-- of each CPU what it knows has grown, and nothing else of it changed
+pub record HaveLearned (xs ys : List OnCpu) : Type 0 where
+  pub size : length ys ≡ length xs
+  pub each : (c : ℕ) (x y : OnCpu) → get_elem? xs c ≡ some x → get_elem? ys c ≡ some y → HasLearned x y × (y.made ≡ x.made)
 
 -- What is known of the keeper behind the lock, which no contract can name: it is at rest, some state of the core shows its view, and in its slots it has what its view has, or nothing where an entry may be vacated.
 pub record IsKeeperOf (z : Settings) (k : OnKeeper) : Type 0 where
@@ -140,6 +168,6 @@ pub record IsAuditOf (z : Settings) (k : OnKeeper) (xs : List OnCpu) (list : Lis
   pub keeper : IsKeeperOf z k
   -- of each slot with an entry: the CPUs' own counts by their places, and the keeper's total
   pub met : map tally_shown list ≡ tallies_met k xs z.slots
-  -- whatever state the views are of, these are the net counts, and what is held is the tally
-  pub answer : (g : State) → AreShown g k xs → map tally_shown list ≡ tallies_below k xs z.slots
+  -- these are the net counts, and what is held is the tally
+  pub answer : map tally_shown list ≡ tallies_below k xs z.slots
   pub tally : All (λ b. IsTallied k xs (tally_shown b)) list

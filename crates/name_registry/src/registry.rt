@@ -9,7 +9,7 @@ ghost use Rattle.registry_values.specs.Slots.{is_iface};
 ghost use Rattle.cpu_words.specs.Deeds.{IsAttachedKeeping};
 ghost use Rattle.cpu_words.specs.Domains.{AreWordsOf};
 ghost use Rattle.passive_list.specs.Keepers.{OnKeeper};
-ghost use Rattle.name_registry.specs.Auditing.{AreAllCpus, IsAuditOf};
+ghost use Rattle.name_registry.specs.Auditing.{AreAllCpus, HaveLearned, IsAuditOf};
 ghost use Rattle.name_registry.specs.Changes.{HasMade};
 ghost use Rattle.name_registry.specs.Destroying.{SomeAdvanced};
 ghost use Rattle.name_registry.specs.Locking.{MayAttach, IsAttachRefusal, IsDetachRefusedTo, IsStageOf};
@@ -116,9 +116,7 @@ impl<D: Domain> Registry<D> {
     /// The audit of local references (localcount(9)) under the interlock, as `audit_in` does: of each live or retired slot, least first,
     /// each CPU's own net count, by its place, or 0 where the keeper has collected it, the keeper's total, and their sum, which is held.
     /// No contract can name the keeper: the answer is right for one that is at rest, that some state of the core shows, and that may have
-    /// any history. What is held is the tally in each state that shows this keeper and these CPUs together. That there is one, whatever
-    /// the table is while they are held, is the law `exact_audit`; no call can say it of its own keeper, since a step on the words knows the
-    /// view of its own seat alone.
+    /// any history. What is held is the tally. The CPUs hear the keeper, as by `hear`, and nothing else of them changes.
     /// Refused, in this order: `MissingCpu` where the slice isn't CPU 0, 1, .. of this registry in this order; `NoMemory`.
     pub fn audit<R: Wait>(
         &self,
@@ -131,7 +129,7 @@ impl<D: Domain> Registry<D> {
         ensures sums { IfOk result (λ list. All (λ b. b.held ≡ sum_of b.locals.items +ℤ b.total) list.items) }
         ensures locals { IfOk result (λ list. All (λ b. length b.locals.items ≡ D.settings.cpus) list.items) }
         ensures tally { IfOk result (λ list. (k : OnKeeper) × IsAuditOf D.settings k cpus.old list.items) }
-        ensures same { cpus.new ≡ cpus.old }
+        ensures cpus { HaveLearned cpus.old cpus.new }
     {
         let keeper = &mut self.interlock.lock(rt).keeper;
         audit_in(alloc, &self.words, keeper, cpus)

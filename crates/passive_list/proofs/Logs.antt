@@ -70,4 +70,5 @@ own_log z a table k its rows n log note our own = record {
       let w = snapped_at z a table k its rows n t c e our (retired_in a k rows t e our.rows is).1 low in
       (w.0, own.marks.snapped t c w.0 w.1);
   grow = own.grow;
+  counts = own.counts;
 }

@@ -1,10 +1,13 @@
 -- What the keeper's log says of the keeper, as it is told whenever the keeper hears.
-use Rattle.std.specs.Prelude.{◌≡◌, ℕ, ◌<◌, length}
+use Rattle.std.specs.Prelude.{◌≡◌, ℕ, ◌<◌, List, length}
+use Rattle.registry_values.specs.declared.entry.Change.{Change}
 use Rattle.registry_values.specs.declared.entry.Entry.{Entry}
 use Rattle.registry_values.specs.declared.settings.Settings.{Settings}
 use Rattle.registry_values.specs.declared.slot.Slot.TheVariants.{Retired}
 use Rattle.registry_values.specs.Slots.{slot_at}
-use Rattle.cpu_words.specs.Deeds.{changes_in, IsSnapped, AreMarksOf, AreSlotsOf, WordsGrow}
+use Rattle.cpu_words.specs.declared.view.View.TheVariants.{Keeper}
+use Rattle.cpu_words.specs.Deeds.{changes_in, IsSnapped, AreMarksOf, AreSlotsOf, IsShownAfter, WordsGrow}
+use Rattle.cpu_words.specs.Notes.{keeper_with_heard}
 use Rattle.passive_list.specs.Keepers.{OnKeeper}
 
 -- The history is as long as the log says, the marks and the slots, as the keeper has them, are in it, each retired entry was snapped on each CPU, and the words that were found grow
@@ -16,3 +19,5 @@ pub record HasOwnLog (z : Settings) (a : OnKeeper) : Type 0 where
   pub slots : AreSlotsOf z.cpus a.log a.slots
   pub snapped : (t c : ℕ) (e : Entry) → slot_at a.slots t ≡ Retired e → c < z.cpus → (w : ℕ) × IsSnapped t c w a.log
   pub grow : WordsGrow a.log
+  -- with another note beside it, some state shows the view, in which the keeper had done just this
+  pub counts : (h : List Change) × IsShownAfter a.log (Keeper (keeper_with_heard a.view h))

@@ -5,6 +5,7 @@ pub mod Collected
 pub mod Acquired
 pub mod Seats
 pub mod Opened
+pub mod Gathering
 pub mod Handles
 pub mod Audited
 pub mod Written

@@ -10,10 +10,11 @@ use Rattle.cpu_words.specs.declared.view.Deed.{Deed}
 use Rattle.cpu_words.specs.declared.view.Logged.{Logged}
 use Rattle.cpu_words.specs.declared.view.View.TheVariants.{Keeper, Cpu, Reference}
 use Rattle.cpu_words.specs.Views.{cpu_of, keeper_of, reference_of}
+use Rattle.cpu_words.specs.Deeds.{IsShownAfter}
 use Rattle.cpu_words.specs.Steps.{CpuMay, KeeperMay, KeeperStores, ReferenceMay}
 use Rattle.cpu_words.specs.Logs.{the_keeper, the_cpu, another, AreBy, LoggedRuled, IsToldByCpu, IsToldByKeeper, IsToldByReference, heard_by_cpu, heard_by_keeper}
 use Rattle.cpu_words.proofs.logs.Logs.{logged_moves, logged_hears}
-use Rattle.cpu_words.proofs.logs.OwnLog.{own_log}
+use Rattle.cpu_words.proofs.logs.OwnLog.{own_log, shown_after}
 
 pub allows_cpu : (z y : Settings) (x : CpuView) (slots id : ℕ) (me : Me ℕ Logged) (i : ℕ) (f : ℕ → ℕ) (does : CpuView → ℕ → List Deed) (tells : CpuView → ℕ → CpuView → Type 0) (st : Step ℕ)
     → z ≡ y → x ≡ cpu_of me.0.view → me ≡ (record me.0 { view = Cpu (cpu_of me.0.view) }, []) → ((n : ℕ) → AreBy (the_cpu x.id) (does x n)) → CpuMay z x i f (does x) tells → Allows (LoggedRuled y) slots id me i f (IsToldByCpu does tells st me)
@@ -75,7 +76,7 @@ allows_hearing z y x slots id me i does tells st same view is own may =
     by u l own may s r size at fits =
         let d = logged_hears y (record l { view = Cpu u }) i (λ n. n) (does u) (λ n w. (w ≡ Cpu (cpu_of w)) × tells u n (cpu_of w)) tt own may s r id at fits in
         let after = l.log ++ does u (slice_index s.words i) in
-        (record l { view = d.0; log = after; deeds = d.1 }, keeps, tt, d.2, ((λ k. (record l { view = d.3.0 k; log = after; deeds = d.1 }, [])), refl, d.3.1, d.4))
+        (record l { view = d.0; log = after; deeds = d.1 }, keeps, tt, d.2, ((λ k. (record l { view = d.3.0 k; log = after; deeds = d.1 }, [])), refl, d.3.1, d.4, subst (λ (ds : List Deed). IsShownAfter ds (Cpu u)) (sym d.5) (shown_after y (Cpu u) l s r id at)))
 
 pub allows_keeper_hearing : (z y : Settings) (x : KeeperView) (slots id : ℕ) (me : Me ℕ Logged) (i : ℕ) (f : ℕ → ℕ) (does : KeeperView → ℕ → List Deed) (tells : KeeperView → ℕ → KeeperView → Type 0) (st : Step ℕ)
     → z ≡ y → x ≡ keeper_of me.0.view → me ≡ (record me.0 { view = Keeper (keeper_of me.0.view) }, []) → ((n : ℕ) → AreBy the_keeper (does x n)) → KeeperMay z x i f (does x) tells → Allows (LoggedRuled y) slots id me i f (heard_by_keeper does tells st me)

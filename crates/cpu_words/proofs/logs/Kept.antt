@@ -18,7 +18,7 @@ use Rattle.protocol.proofs.keeps.Searching.{within_some}
 use Rattle.protocol.proofs.runs.Steps.{Sort, Refused, Left, Entered, Exited, Sought, Heard, Searched, Published, Unpublished, Kept, Gave_up, Vacated, step_sort}
 use Rattle.cpu_words.specs.declared.view.Deed.{Deed}
 use Rattle.cpu_words.specs.Rule.{event_without_id, reply_without_id}
-use Rattle.cpu_words.specs.Deeds.{number_replied, keeps_next, keeping_from, keeping}
+use Rattle.cpu_words.specs.Deeds.{keeps_next, keeping_from, keeping}
 use Rattle.cpu_words.specs.Logs.{maker, IsSeatOf}
 use Rattle.cpu_words.proofs.logs.Runs.{deed_of}
 

@@ -18,10 +18,11 @@ use Rattle.protocol.proofs.slots.Cells.{cell_cases, cell_other}
 use Rattle.protocol.proofs.slots.MarkRows.{mark_there}
 use Rattle.cpu_words.specs.declared.view.Deed.{Deed}
 use Rattle.cpu_words.specs.Rule.{event_without_id}
-use Rattle.cpu_words.specs.Deeds.{changes_of, changes_in, AreMarksOf, AreSlotsOf, keeping}
+use Rattle.cpu_words.specs.Deeds.{changes_of, changes_in, AreCountsOf, AreMarksOf, AreSlotsOf, keeping}
 use Rattle.cpu_words.specs.Logs.{maker, IsSeatOf}
 use Rattle.cpu_words.proofs.logs.Changes.{Grows, step_grows, unnamed_changes}
 use Rattle.cpu_words.proofs.logs.Kept.{kept_own, kept_off}
+use Rattle.cpu_words.proofs.logs.Counted.{counts_own, counts_off, no_counts}
 use Rattle.cpu_words.proofs.logs.Dues.{DueAfter, Dues, step_dues}
 use Rattle.cpu_words.proofs.logs.Marks.{Marks, IsFirst, marks_after, step_marks, marks_off, fresh, more_marks, no_marks}
 use Rattle.cpu_words.proofs.logs.Runs.{deed_of}
@@ -40,6 +41,7 @@ pub record Known (cpus : ℕ) (log : List Deed) (s : State) : Type 0 where
   pub slots : AreSlotsOf cpus log s.slots
   pub kept : (t : ℕ) → kept_at s.keeps t ≡ keeping t log
   pub ahead : NoneAhead s.due s.marks
+  pub counts : AreCountsOf log s
 
 -- Snapshots that are due
 
@@ -106,6 +108,7 @@ known_own cpus log s e o on made known =
       slots = subst (λ (n : ℕ). AreSlotsOf n (log ++ d ∷ []) o.state.slots) known.settings (slots_own log s e o on made known.changes known.marks slots);
       kept = λ t. kept_own log s e o on made known.kept t;
       ahead = subst (NoneAhead o.state.due) (sym marks.0) (ahead_after s e o.state dues.1 known.ahead);
+      counts = counts_own log s e o on made known.changes known.counts;
     }
 
 changes_off : (seat : ℕ → ℕ) (n i : ℕ) (e : Event) (m : ℕ) → IsSeatOf seat n i (maker (event_without_id e)) → i ≢ 0 → changes_of e m ≡ m
@@ -133,6 +136,7 @@ known_off seat n cpus i log s e o is off on made known =
       slots = subst (λ (k : ℕ). AreSlotsOf k log o.state.slots) known.settings (slots_off seat n i log s e o is off on made known.marks slots);
       kept = λ t. ap (λ (k : List (Option ℕ)). kept_at k t) (kept_off seat n i s e o is off on made) ∙ known.kept t;
       ahead = subst (NoneAhead o.state.due) (sym same) (same_snapshots s.due o.state.due s.marks s.marks (due_off seat n i s e o.state is off dues.1) (λ u j. refl) known.ahead);
+      counts = counts_off seat n i log s e o is off on made known.counts;
     }
 
 pub known_stays : (seat : ℕ → ℕ) (n cpus : ℕ) → Stays seat n (Known cpus)
@@ -143,4 +147,4 @@ known_stays seat n cpus = record {
 
 -- before all events
 pub known_first : (z : Settings) → Known z.cpus [] (opening z)
-known_first z = record { settings = refl; changes = refl; marks = no_marks z; slots = no_slots z; kept = λ t. Rattle.protocol.proofs.slots.Cells.get_or_all z.slots None t; ahead = λ t c j is le. absurd (let q : Rest ≡ Snapshots t c = is in cc) }
+known_first z = record { settings = refl; changes = refl; marks = no_marks z; slots = no_slots z; kept = λ t. Rattle.protocol.proofs.slots.Cells.get_or_all z.slots None t; counts = no_counts z; ahead = λ t c j is le. absurd (let q : Rest ≡ Snapshots t c = is in cc) }

@@ -19,12 +19,14 @@ use Rattle.protocol.specs.Invariant.{Holds}
 use Rattle.protocol.specs.Laws.{destroyed_slot}
 use Rattle.protocol.proofs.keeps.Keeping.{opening_holds}
 use Rattle.cpu_words.specs.declared.view.Deed.{Deed}
+use Rattle.cpu_words.specs.declared.view.CpuView.{CpuView}
 use Rattle.cpu_words.specs.declared.view.KeeperView.{KeeperView}
 use Rattle.cpu_words.specs.declared.view.Logged.{Logged}
-use Rattle.cpu_words.specs.declared.view.View.TheVariants.{Keeper}
-use Rattle.cpu_words.specs.Deeds.{changes_in, AreMarksOf, AreSlotsOf, FindsWord, WordsGrow, IsFreedFrom, IsAttachedKeeping, IsOwnLog, keeping}
+use Rattle.cpu_words.specs.declared.view.View.{View}
+use Rattle.cpu_words.specs.declared.view.View.TheVariants.{Keeper, Cpu}
+use Rattle.cpu_words.specs.Deeds.{changes_in, AreMarksOf, AreSlotsOf, FindsWord, WordsGrow, IsFreedFrom, IsAttachedKeeping, IsShownAfter, IsOwnLog, keeping}
 use Rattle.cpu_words.specs.Logs.{part, LoggedRuled}
-use Rattle.cpu_words.specs.Notes.{keeper_with_heard}
+use Rattle.cpu_words.specs.Notes.{with_heard, keeper_with_heard}
 use Rattle.cpu_words.proofs.logs.Changes.{run_of, fit_of}
 use Rattle.cpu_words.proofs.logs.Loads.{place, same_event, word_of, replied_word, run_since}
 use Rattle.cpu_words.proofs.logs.Known.{Known, known_stays, known_first}
@@ -69,6 +71,16 @@ log_known : (z : Settings) (s : Table ℕ Logged) (r : LoggedRuled z s) → Know
 log_known z s r = subst (Known z.cpus (part 0 r.acts)) (sym r.run.reached.run)
     (walked r.run.seat r.run.g.seated (Known z.cpus) [] (opening z) r.acts r.run.reached.events _ (known_stays r.run.seat r.run.g.seated z.cpus) (run_of z s r) (opening_holds z (fit_of z s r)) r.owners (known_first z))
 
+-- a state that shows a seat's view is one in which the keeper had done just what it did
+pub shown_after : (z : Settings) (v : View) (l : Logged) (s : Table ℕ Logged) (r : LoggedRuled z s) (i : ℕ) → get_elem? s.views i ≡ some (record l { view = v }) → IsShownAfter (part 0 r.acts) v
+shown_after z v l s r i at =
+    let its = r.run.shows.fits i v (at_map (λ (x : Logged). x.view) s.views i (record l { view = v }) at) in record {
+      g = r.run.g;
+      good = r.run.good;
+      shown = its.1;
+      counts = (log_known z s r).counts;
+    }
+
 pub own_log : (z : Settings) (k : KeeperView) (l : Logged) (s : Table ℕ Logged) (r : LoggedRuled z s) (i : ℕ) → get_elem? s.views i ≡ some (record l { view = Keeper k }) → IsOwnLog l.log l.laid k
 own_log z k l s r i at =
     let its = r.run.shows.fits i (Keeper k) (at_map (λ (x : Logged). x.view) s.views i (record l { view = Keeper k }) at) in
@@ -87,7 +99,12 @@ own_log z k l s r i at =
           (subst (AreSlotsOf k.settings.cpus (part 0 r.acts)) (sym slots) (subst (λ (n : ℕ). AreSlotsOf n (part 0 r.acts) r.run.g.slots) (sym cpus) known.slots));
       kept = λ t. ap (λ (x : KeeperView). kept_at x.keeps t) its.1.is ∙ (known.kept t ∙ ap (keeping t) (sym whole));
       grow = subst WordsGrow (sym whole) (words_grow (opening z) r.acts r.run.reached.events _ (run_of z s r) (opening_holds z (fit_of z s r)));
+      counts = (k.heard, subst (λ (ds : List Deed). IsShownAfter ds (Keeper k)) (sym whole) (shown_after z (Keeper k) l s r i at));
     }
+
+-- with the note beside it a CPU's view is shown
+pub shown_laid : (ds : List Deed) (x y : CpuView) (h : List Change) → y ≡ with_heard x h → IsShownAfter ds (Cpu y) → IsShownAfter ds (Cpu (with_heard x h))
+shown_laid ds x y h is shown = subst (λ (v : CpuView). IsShownAfter ds (Cpu v)) is shown
 
 -- a note that is laid beside the keeper's view changes neither its log nor its history and marks
 pub own_laid : (log same note laid : List Deed) (k l : KeeperView) (h : List Change) → l ≡ keeper_with_heard k h → same ≡ log → laid ≡ note → IsOwnLog same laid l → IsOwnLog log note k
@@ -98,6 +115,7 @@ own_laid log same note laid k l h is logs notes own = record {
   slots = subst (λ (ds : List Deed). AreSlotsOf k.settings.cpus ds k.slots) logs (subst (λ (x : KeeperView). AreSlotsOf x.settings.cpus same x.slots) is own.slots);
   kept = λ t. sym (ap (λ (x : KeeperView). kept_at x.keeps t) is) ∙ (own.kept t ∙ ap (keeping t) logs);
   grow = subst WordsGrow logs own.grow;
+  counts = (own.counts.0, subst (λ (ds : List Deed). IsShownAfter ds (Keeper (keeper_with_heard k own.counts.0))) logs (subst (λ (x : KeeperView). IsShownAfter same (Keeper (keeper_with_heard x own.counts.0))) is own.counts.1));
 }
 
 -- the deed that makes a retired slot vacant frees it from its entry
