@@ -1,8 +1,8 @@
 -- What seats have heard of the keeper's deeds: a prefix of the keeper's log. Since a log only grows, what follows from such a prefix stays so.
-use Rattle.std.specs.Prelude.{◌≡◌, ◌⊎◌, ℕ, suc, ◌==◌, ◌&&◌, ◌%◌, ◌<◌, ◌≤◌, Bool, true, false, if◌then◌else◌, List, [], ◌∷◌, ◌++◌, length, Option, Some, None}
+use Rattle.std.specs.Prelude.{◌≡◌, ◌⊎◌, ℕ, zero, suc, ◌+◌, ◌*◌, ◌==◌, ◌&&◌, ◌%◌, ◌<◌, ◌≤◌, Bool, true, false, if◌then◌else◌, List, [], ◌∷◌, ◌++◌, length, Option, Some, None}
 use mathlib.Core.List.{IsPrefix}
 use Rattle.protocol.specs.declared.event.Event.{Event}
-use Rattle.protocol.specs.declared.event.Event.TheVariants.{Publish, Unpublish, Snapshot, Look, Collect, Keep, KeptSub, Vacate}
+use Rattle.protocol.specs.declared.event.Event.TheVariants.{Publish, Unpublish, Snapshot, Look, Collect, JoinKeeper, Keep, KeptSub, Vacate}
 use Rattle.protocol.specs.declared.event.Reply.{Reply}
 use Rattle.protocol.specs.declared.event.Reply.TheVariants.{Done, Word}
 use Rattle.registry_values.specs.declared.entry.Change.{Change}
@@ -10,8 +10,10 @@ use Rattle.registry_values.specs.declared.entry.Entry.{Entry}
 use Rattle.registry_values.specs.declared.mark.Mark.{Mark}
 use Rattle.registry_values.specs.declared.slot.Slot.{Slot}
 use Rattle.registry_values.specs.declared.slot.Slot.TheVariants.{Vacant, Live, Retired}
+use Rattle.registry_values.specs.Balances.{bias}
 use Rattle.registry_values.specs.Slots.{is_retired, slot_at}
-use Rattle.protocol.specs.State.{State, count_at, kept_at, mark_at}
+use Rattle.protocol.specs.Invariant.{addition_due_at, is_adding_at, subtraction_due_at}
+use Rattle.protocol.specs.State.{State, count_at, kept_at, mark_at, total_at}
 use Rattle.protocol.specs.Laws.{HasMoved, destroyed_slot}
 use Rattle.cpu_words.specs.declared.view.KeeperView.{KeeperView}
 use Rattle.cpu_words.specs.declared.view.View.{View}
@@ -138,22 +140,21 @@ pub record IsFreedFrom (t n : ℕ) (log : List Deed) : Type 0 where
 
 -- The driver to which a slot keeps a reference, by a log: what Keep took over there last, unless KeptSub gave it up since
 
--- the word or the number that a deed replied
-abbrev pub replied : Reply → Option ℕ
-replied (Word n) = Some n
-replied r = None
-
-abbrev pub keeps_next : ℕ → Event → Reply → Option ℕ → Option ℕ
-keeps_next t (Keep u id) r x = if u == t then replied r else x
-keeps_next t (KeptSub u) r x = if u == t then None else x
-keeps_next t e r x = x
+abbrev pub keeps_next : ℕ → Event → Option ℕ → Option ℕ
+keeps_next t (Keep u n) x = if u == t then Some n else x
+keeps_next t (KeptSub u) x = if u == t then None else x
+keeps_next t e x = x
 
 abbrev pub keeping_from : ℕ → Option ℕ → List Deed → Option ℕ
 keeping_from t x [] = x
-keeping_from t x (d ∷ ds) = keeping_from t (keeps_next t d.event d.reply x) ds
+keeping_from t x (d ∷ ds) = keeping_from t (keeps_next t d.event x) ds
 
 abbrev pub keeping : ℕ → List Deed → Option ℕ
 keeping t log = keeping_from t None log
+
+abbrev pub names : Option ℕ → ℕ → Bool
+names None n = false
+names (Some m) n = m == n
 
 -- the entry n was attached in the slot t as that kept a reference to the driver d
 pub record IsAttachedKeeping (t n d : ℕ) (log : List Deed) : Type 0 where
@@ -206,6 +207,10 @@ occupant t log = occupant_from t 0 None log
 
 -- the word that was collected, as the swap found it
 
+abbrev pub replied : Reply → Option ℕ
+replied (Word w) = Some w
+replied r = None
+
 abbrev pub word_after : ℕ → ℕ → Event → Reply → Option ℕ → Option ℕ
 word_after t c (Collect u d) r x = if u == t && d == c then replied r else x
 word_after t c (KeptSub u) r x = if u == t then None else x
@@ -235,6 +240,48 @@ is_drawn s t c = is_retired (slot_at s.slots t) && (mark_at s.marks t c).collect
 
 abbrev pub word_in : State → ℕ → ℕ → Option ℕ
 word_in s t c = word_if (is_drawn s t c) (count_at s.nets c t)
+
+-- References that the keeper gave up by a log: those that it took in, and those to a driver that a slot kept until KeptSub
+
+-- by this event, after the log: so many to the entry n
+abbrev pub given_by : List Deed → ℕ → Event → ℕ
+given_by before n (JoinKeeper m) = if m == n then 1 else 0
+given_by before n (KeptSub u) = if names (keeping u before) n then 1 else 0
+given_by before n e = 0
+
+abbrev pub given_after : List Deed → ℕ → List Deed → ℕ
+given_after before n [] = 0
+given_after before n (d ∷ ds) = given_by before n d.event + given_after (before ++ d ∷ []) n ds
+
+abbrev pub given_up : ℕ → List Deed → ℕ
+given_up n log = given_after [] n log
+
+-- Of the eight places for CPUs: how many count words were collected for the slot's entry, and their sum
+
+abbrev pub sum_below : (ℕ → ℕ) → ℕ → ℕ
+sum_below f zero = 0
+sum_below f (suc n) = sum_below f n + f n
+
+abbrev pub is_there : Option ℕ → ℕ
+is_there None = 0
+is_there (Some w) = 1
+
+abbrev pub word_or_none : Option ℕ → ℕ
+word_or_none None = 0
+word_or_none (Some w) = w
+
+abbrev pub words_collected : ℕ → List Deed → ℕ
+words_collected t log = sum_below (λ c. is_there (word_collected t c log)) 8
+
+abbrev pub sum_collected : ℕ → List Deed → ℕ
+sum_collected t log = sum_below (λ c. word_or_none (word_collected t c log)) 8
+
+-- The total of an occupied slot is by the log: the words that were collected, less the references given up. What is due counts until it is done.
+pub record AreTotalsOf (log : List Deed) (s : State) : Type 0 where
+  pub total : (t n : ℕ) → occupant t log ≡ Some n
+      → total_at s.totals t + addition_due_at t s.due + given_up n log + bias * words_collected t log ≡ bias * (1 + is_adding_at t s.due) + sum_collected t log + subtraction_due_at t s.due
+  -- no later entry's references were given up
+  pub later : (n : ℕ) → changes_in log < n → given_up n log ≡ 0
 
 -- the keeper's log has which entries the slots have, and each collected word, which is that CPU's net count
 pub record AreCountsOf (log : List Deed) (s : State) : Type 0 where

@@ -199,11 +199,11 @@ abbrev pub cuts_off : View → List Deed
 cuts_off v = leaves_hand (cpu_of v).id (cpu_of v).hand
 
 abbrev pub takes_in : View → View → List Deed
-takes_in v u = did (JoinRef (cpu_of v).id 0) Done
+takes_in v u = did (JoinRef (cpu_of v).id (reference_of u).entry.number) Done
 
 abbrev pub gives_up : View → View → List Deed
-gives_up v u = did (JoinKeeper 0) Done
+gives_up v u = did (JoinKeeper (reference_of u).entry.number) Done
 
 -- Vacate first where the slot is retired
 abbrev pub keeps_for : ℕ → View → View → List Deed
-keeps_for t v u = vacate_first (slot_at (keeper_of v).slots t) t (did (Keep t 0) (Word (reference_of u).entry.number))
+keeps_for t v u = vacate_first (slot_at (keeper_of v).slots t) t (did (Keep t (reference_of u).entry.number) Done)

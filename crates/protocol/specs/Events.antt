@@ -460,7 +460,7 @@ abbrev pub after_keep : State → ℕ → ℕ → ℕ → State
 after_keep s t id n = record s { locals = slice_set s.locals id Free; keeps = slice_set s.keeps t (Some n) }
 
 abbrev pub keep : State → ℕ → ℕ → Option Outcome
-keep s t id = with_some (number_standing (local_at s.locals id)) (λ n. with_some (slot_of s.slots n) (λ u. guard (may_keep s t u) (some_outcome (after_keep s t id n) (Word n))))
+keep s t id = with_some (number_standing (local_at s.locals id)) (λ n. with_some (slot_of s.slots n) (λ u. guard (may_keep s t u) (some_outcome (after_keep s t id n) Done)))
 
 -- all marks are set, nothing is held, and the keeper is at rest
 abbrev pub is_drained : State → ℕ → Bool

@@ -38,7 +38,7 @@ use Rattle.cpu_words.specs.declared.view.View.{View}
 use Rattle.cpu_words.specs.declared.view.View.TheVariants.{Keeper, Cpu, Reference, Note, Spent}
 use Rattle.cpu_words.specs.Views.{KeeperOwn, own_of, cpu_view, keeper_view, references_to, is_to, SameHand, HandFits, CpuShown, KeeperShown}
 use Rattle.cpu_words.specs.Spots.{Spot, section_of, passive_of, count_of, head_word, next_of, record_of, total_of, word_at}
-use Rattle.cpu_words.specs.Rule.{Agrees, IsFresh, Good, Ruled, GoesOn, did}
+use Rattle.cpu_words.specs.Rule.{Agrees, IsFresh, Good, Ruled, GoesOn, by_number, did}
 use Rattle.cpu_words.specs.Steps.{Makes}
 use Rattle.cpu_words.proofs.shown.Showing.{standing_in, IsBacked, Stay, shows_set}
 use Rattle.cpu_words.proofs.shown.Passes.{attached_on, attached_prefix, prefix_on, take_on}
@@ -196,7 +196,7 @@ keeper_good_after g l e r good leaves made = record {
 pub keeper_makes : (z : Settings) (s : Table ℕ View) (r : Ruled z s) (i : ℕ) (k : KeeperView) (word m : ℕ) (l : KeeperLists) (e : Event) (rep : Reply) (own : KeeperOwn)
     → get_elem? s.views i ≡ some (Keeper k) → step r.g e ≡ Some (record { state = with_keeper r.g l; reply = rep }) → LeavesCpus r.g l
     → ((n : ℕ) → sum_by (standing_of n) l.locals ≡ standing_in n r.g) → own.heard ≡ k.heard → KeeperShown (with_keeper r.g l) (keeper_view (with_keeper r.g l) own) → Agrees (set s.words word m) (with_keeper r.g l)
-    → GoesOn z s r (did e rep) (stepped s word m i [] (Keeper (keeper_view (with_keeper r.g l) own)) keeps) × Makes e rep (Keeper k) (Keeper (keeper_view (with_keeper r.g l) own))
+    → GoesOn z s r (did (by_number r.g e) rep) (stepped s word m i [] (Keeper (keeper_view (with_keeper r.g l) own)) keeps) × Makes e rep (Keeper k) (Keeper (keeper_view (with_keeper r.g l) own))
 keeper_makes z s r i k word m l e rep own at made leaves count heard shown words =
     let g = r.g in
     let g' = with_keeper g l in

@@ -9,14 +9,15 @@ use Rattle.registry_values.specs.declared.entry.Entry.{Entry}
 use Rattle.registry_values.specs.declared.entry.Kind.TheVariants.{Driver}
 use Rattle.registry_values.specs.declared.settings.Settings.{Settings}
 use Rattle.protocol.specs.declared.event.Event.TheVariants.{Keep, Vacate}
-use Rattle.protocol.specs.declared.event.Reply.TheVariants.{Done, Word}
+use Rattle.protocol.specs.declared.event.Reply.TheVariants.{Done}
 use Rattle.registry_values.specs.declared.slot.Slot.{Slot}
 use Rattle.registry_values.specs.declared.slot.Slot.TheVariants.{Vacant, Live, Retired}
+use Rattle.protocol.specs.declared.state.LocalPlace.{LocalPlace}
 use Rattle.protocol.specs.declared.state.LocalPlace.TheVariants.{Free, Standing}
 use Rattle.protocol.specs.declared.state.Due.TheVariants.{Rest}
 use Rattle.registry_values.specs.Slots.{slot_at, slot_of, is_driver}
 use Rattle.protocol.specs.State.{kept_at}
-use Rattle.protocol.specs.Events.{step, is_driver_slot}
+use Rattle.protocol.specs.Events.{number_standing, step, is_driver_slot}
 use Rattle.protocol.specs.Invariant.{IsIn, one_if}
 use Rattle.protocol.proofs.slots.Numbers.{slot_number}
 use Rattle.protocol.proofs.counts.Sums.{one_at, local_changed, standing_within}
@@ -28,7 +29,7 @@ use Rattle.cpu_words.specs.declared.view.Logged.{Logged}
 use Rattle.cpu_words.specs.declared.view.View.{View}
 use Rattle.cpu_words.specs.declared.view.View.TheVariants.{Keeper, Reference, Spent}
 use Rattle.cpu_words.specs.Views.{is_to, keeper_of, reference_of}
-use Rattle.cpu_words.specs.Rule.{Ruled, GoesOn, did}
+use Rattle.cpu_words.specs.Rule.{Ruled, GoesOn, number_or_none, did, deeds}
 use Rattle.cpu_words.specs.Steps.{ChangesBy, JoinsBy, JoinsOn}
 use Rattle.cpu_words.specs.Vacating.{MayVacate, keeper_after_vacate, vacant_from, as_vacant, vacate_first}
 use Rattle.cpu_words.specs.Keeping.{MayKeep, keeper_after_keep, IsVacated, with_kept}
@@ -77,13 +78,13 @@ keep_law k t v may g good had ref backs =
     let here : IsIn e (slot_at g.slots e.slot) = local_here g v id good ref place.1 in
     let of : slot_of g.slots n ≡ Some e.slot = slot_number g.history g.slots e e.slot good.holds.slots here in
     let l : KeeperLists = beside g (set g.locals id Free) g.due (set g.keeps t (Some n)) in
-    let made : step g (Keep t id) ≡ Some (record { state = with_keeper g l; reply = Word n }) = rw (place.1, of, rest, lt-ltb t g.settings.slots lt, vacant, nothing, driver_slot e (slot_at g.slots e.slot) here may.driver) refl in
+    let made : step g (Keep t id) ≡ Some (record { state = with_keeper g l; reply = Done }) = rw (place.1, of, rest, lt-ltb t g.settings.slots lt, vacant, nothing, driver_slot e (slot_at g.slots e.slot) here may.driver) refl in
     record {
       id = id;
-      reply = Word n;
+      names = ap (λ (x : LocalPlace). number_or_none (number_standing x)) place.1;
       after = with_keeper g l;
       made = made;
-      good_after = keeper_good_after g l (Keep t id) (Word n) good (leaves_all g l refl refl refl refl (λ u d on. on)) made;
+      good_after = keeper_good_after g l (Keep t id) Done good (leaves_all g l refl refl refl refl (λ u d on. on)) made;
       shown = record {
         is = ap (λ (x : KeeperView). taking x t v) had.is;
         counts = had.counts;
@@ -98,7 +99,7 @@ keep_law k t v may g good had ref backs =
       count = λ m. let a = local_changed m g.locals id (Standing n) Free (standing_within g.locals id n place.1) place.1 in omega arith;
     }
 
-takes_at : (z : Settings) (i : ℕ) (k : KeeperView) (o t : ℕ) (v : ReferenceView) → MayTake k t v → JoinsOn z i (Keeper k) o (Reference v) (Keeper (taking k t v)) Spent (did (Keep t 0) (Word v.entry.number))
+takes_at : (z : Settings) (i : ℕ) (k : KeeperView) (o t : ℕ) (v : ReferenceView) → MayTake k t v → JoinsOn z i (Keeper k) o (Reference v) (Keeper (taking k t v)) Spent (did (Keep t v.entry.number) Done)
 unfolding keep_law
 takes_at z i k o t v may s r at apart there =
     let g = r.g in
@@ -112,7 +113,7 @@ takes_at z i k o t v may s r at apart there =
     let locals = set g.locals law.id Free in
     let kept = set g.keeps t (Some v.entry.number) in
     record {
-      goes_on = (more z g law.after (Keep t law.id) (Word v.entry.number) r.reached law.made).1;
+      goes_on = (more z g law.after (Keep t law.id) Done r.reached law.made).1 ∙ ap (λ (n : ℕ). deeds z r.reached.events ++ did (Keep t n) Done) law.names;
       seated = omega arith;
       seats = λ c lt. refl;
       ruled = record {
@@ -120,7 +121,7 @@ takes_at z i k o t v may s r at apart there =
         seat = r.seat;
         settings = r.settings;
         good = law.good_after;
-        reached = (more z g law.after (Keep t law.id) (Word v.entry.number) r.reached law.made).0;
+        reached = (more z g law.after (Keep t law.id) Done r.reached law.made).0;
         words = agrees_same s.words g law.after r.words refl (λ q _. beside_words g locals g.due kept q);
         shows = shows_join g law.after r.seat s.views i (Keeper k) o (Reference v) both r.shows at apart was (beside_stays g locals g.due kept r.seat i had.0) (had.0, law.shown) law.count there;
       };
@@ -128,14 +129,14 @@ takes_at z i k o t v may s r at apart there =
 
 -- from the view with the slot taken as vacant
 keeps_from : (z : Settings) (i : ℕ) (k u : KeeperView) (o t : ℕ) (v : ReferenceView) (before : List Deed)
-    → ((s : Table ℕ View) (r : Ruled z s) (id : ℕ) → get_elem? s.views id ≡ some (Keeper k) → GoesOn z s r before (with_view s id (Keeper u))) → MayTake u t v → JoinsOn z i (Keeper k) o (Reference v) (Keeper (taking u t v)) Spent (before ++ did (Keep t 0) (Word v.entry.number))
+    → ((s : Table ℕ View) (r : Ruled z s) (id : ℕ) → get_elem? s.views id ≡ some (Keeper k) → GoesOn z s r before (with_view s id (Keeper u))) → MayTake u t v → JoinsOn z i (Keeper k) o (Reference v) (Keeper (taking u t v)) Spent (before ++ did (Keep t v.entry.number) Done)
 keeps_from z i k u o t v before first may s r at apart there =
     let both = Keeper (taking u t v) in
     let a = first s r i at in
     let again : set (set s.views i (Keeper u)) i both ≡ set s.views i both = views_again s.views i (Keeper u) both in
     let there' : get_elem? (set (set s.views i (Keeper u)) i both) o ≡ some (Reference v) = ap (λ (l : List View). get_elem? l o) again ∙ there in
     let b = takes_at z i u o t v may (with_view s i (Keeper u)) a.ruled (view_here s.views i (Keeper k) (Keeper u) at) apart there' in
-    subst (λ (l : List View). GoesOn z s r (before ++ did (Keep t 0) (Word v.entry.number)) (record { words = s.words; homes = s.homes; views = set l o Spent })) again (goes_both z s (with_view s i (Keeper u)) _ r before (did (Keep t 0) (Word v.entry.number)) a b)
+    subst (λ (l : List View). GoesOn z s r (before ++ did (Keep t v.entry.number) Done) (record { words = s.words; homes = s.homes; views = set l o Spent })) again (goes_both z s (with_view s i (Keeper u)) _ r before (did (Keep t v.entry.number) Done) a b)
 
 -- what Keep asks, of a slot that is vacant and of one that is drained
 
@@ -157,12 +158,12 @@ vacated_is k t drained = ap (λ (x : Slot). vacant_from x k t) (sym drained.drai
 kept_is : (k u : KeeperView) (t : ℕ) (v : ReferenceView) → u ≡ as_vacant k t → taking u t v ≡ keeper_after_keep k t v
 kept_is k u t v same = ap (λ (x : KeeperView). taking x t v) same ∙ ap (λ (x : List (Option ℕ)). record (as_vacant k t) { keeps = set x t (Some v.entry.number) }) (same_beside (slot_at k.slots t) k t).2
 
-keeps : (z : Settings) (i : ℕ) (k : KeeperView) (o t : ℕ) (v : ReferenceView) → MayKeep k t v → JoinsOn z i (Keeper k) o (Reference v) (Keeper (keeper_after_keep k t v)) Spent (vacate_first (slot_at k.slots t) t (did (Keep t 0) (Word v.entry.number)))
+keeps : (z : Settings) (i : ℕ) (k : KeeperView) (o t : ℕ) (v : ReferenceView) → MayKeep k t v → JoinsOn z i (Keeper k) o (Reference v) (Keeper (keeper_after_keep k t v)) Spent (vacate_first (slot_at k.slots t) t (did (Keep t v.entry.number) Done))
 keeps z i k o t v may = ⊎_elim
-    (λ (vacant : slot_at k.slots t ≡ Vacant). subst (λ (w : KeeperView). JoinsOn z i (Keeper k) o (Reference v) (Keeper w) Spent (vacate_first (slot_at k.slots t) t (did (Keep t 0) (Word v.entry.number)))) (kept_is k k t v (vacant_is k t vacant))
-    (subst (λ (x : Slot). JoinsOn z i (Keeper k) o (Reference v) (Keeper (taking k t v)) Spent (vacate_first x t (did (Keep t 0) (Word v.entry.number)))) (sym vacant) (takes_at z i k o t v (now_vacant k t v may vacant))))
-    (λ (drained : MayVacate k t). subst (λ (w : KeeperView). JoinsOn z i (Keeper k) o (Reference v) (Keeper w) Spent (vacate_first (slot_at k.slots t) t (did (Keep t 0) (Word v.entry.number)))) (kept_is k (keeper_after_vacate k t) t v (vacated_is k t drained))
-    (subst (λ (x : Slot). JoinsOn z i (Keeper k) o (Reference v) (Keeper (taking (keeper_after_vacate k t) t v)) Spent (vacate_first x t (did (Keep t 0) (Word v.entry.number)))) (sym drained.drained.retired.1)
+    (λ (vacant : slot_at k.slots t ≡ Vacant). subst (λ (w : KeeperView). JoinsOn z i (Keeper k) o (Reference v) (Keeper w) Spent (vacate_first (slot_at k.slots t) t (did (Keep t v.entry.number) Done))) (kept_is k k t v (vacant_is k t vacant))
+    (subst (λ (x : Slot). JoinsOn z i (Keeper k) o (Reference v) (Keeper (taking k t v)) Spent (vacate_first x t (did (Keep t v.entry.number) Done))) (sym vacant) (takes_at z i k o t v (now_vacant k t v may vacant))))
+    (λ (drained : MayVacate k t). subst (λ (w : KeeperView). JoinsOn z i (Keeper k) o (Reference v) (Keeper w) Spent (vacate_first (slot_at k.slots t) t (did (Keep t v.entry.number) Done))) (kept_is k (keeper_after_vacate k t) t v (vacated_is k t drained))
+    (subst (λ (x : Slot). JoinsOn z i (Keeper k) o (Reference v) (Keeper (taking (keeper_after_vacate k t) t v)) Spent (vacate_first x t (did (Keep t v.entry.number) Done))) (sym drained.drained.retired.1)
     (keeps_from z i k (keeper_after_vacate k t) o t v (did (Vacate t) Done) (λ s r id at. (vacates z k t drained s r id at).0) (once_vacated k t v may drained))))
     may.write.vacant
 
@@ -186,8 +187,8 @@ pub keeps_seats : (z : Settings) (i : ℕ) (x : Logged) (o : ℕ) (u : Logged) (
     → u ≡ record u { view = Reference (reference_of u.view) } → reference_of u.view ≡ v → MayKeep k t v → TableJoins (LoggedRuled z) i x o u (joined_seat (with_kept named) (keeps_for named) x u) spent_seat
 keeps_seats z i x o u named t k v is keeper k_is ref v_is may =
     subst (λ (m : ℕ). TableJoins (LoggedRuled z) i x o u (joined_seat (with_kept m) (keeps_for m) x u) spent_seat) (sym is)
-    (seat_join z i o x u (Keeper k) (Reference v) (with_kept t) (keeps_for t) (vacate_first (slot_at k.slots t) t (did (Keep t 0) (Word v.entry.number))) (keeper ∙ ap (λ (y : KeeperView). record x { view = Keeper y }) k_is)
-    (ref ∙ ap (λ (y : ReferenceView). record u { view = Reference y }) v_is) tt (vacates_by (slot_at k.slots t) t (did (Keep t 0) (Word v.entry.number)) (refl, tt)) refl (keeps z i k o t v may))
+    (seat_join z i o x u (Keeper k) (Reference v) (with_kept t) (keeps_for t) (vacate_first (slot_at k.slots t) t (did (Keep t v.entry.number) Done)) (keeper ∙ ap (λ (y : KeeperView). record x { view = Keeper y }) k_is)
+    (ref ∙ ap (λ (y : ReferenceView). record u { view = Reference y }) v_is) tt (vacates_by (slot_at k.slots t) t (did (Keep t v.entry.number) Done) (refl, tt)) refl (keeps z i k o t v may))
 
 pub keep_by : (x u y : View) (named t : ℕ) (k : KeeperView) (v : ReferenceView) → named ≡ t → keeper_of x ≡ k → reference_of u ≡ v → y ≡ with_kept named x u → MayKeep k t v → JoinsBy (Keep t) (Keeper (as_vacant k t)) (Reference v) (Keeper (keeper_of y))
 keep_by x u y named t k v same k_is v_is y_is may =

@@ -132,7 +132,7 @@ since_freed : (cpus : ℕ) (log : List Deed) (m : State) (d : Deed) (more : List
 since_freed cpus log m d more [] g t k run on known gone of = absurd run
 since_freed cpus log m d more (e ∷ es) g t k run on known gone of =
     let o = run.0 in
-    let same : d.event ≡ e = same_event e d.event (ap (λ (x : Deed). x.event) run.2) (whole d.event t of) in
+    let same : d.event ≡ e = same_event m e d.event (ap (λ (x : Deed). x.event) run.2) (whole d.event t of) in
     let its : destroyed_slot e ≡ Some t = ap destroyed_slot (sym same) ∙ of in
     let f : Freed m o.state t k = freed_now cpus log m e o t k on run.1 its known gone in
     let holds : Holds o.state = step_holds m o.state e o.reply on run.1 in

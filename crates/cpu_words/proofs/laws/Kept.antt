@@ -58,7 +58,7 @@ kept_since : (cpus : ℕ) (log : List Deed) (m : State) (more : List (ℕ × Dee
 kept_since cpus log m more [] g t n d run on known number keeps is = absurd run
 kept_since cpus log m more (e ∷ es) g t n d run on known number keeps is =
     let o = run.0 in
-    let same : Publish t ≡ e = same_event e (Publish t) (ap (λ (x : Deed). x.event) run.2) refl in
+    let same : Publish t ≡ e = same_event m e (Publish t) (ap (λ (x : Deed). x.event) run.2) refl in
     let made : step m (Publish t) ≡ Some o = ap (step m) same ∙ run.1 in
     let holds : Holds o.state = step_holds m o.state e o.reply on run.1 in
     let has : occupant_of o.state t ≡ Some n = subst (Numbers m t) made (publish_numbers m t on) ∙ ap (λ (k : ℕ). Some (suc k)) known.changes ∙ ap (λ (k : ℕ). Some k) (sym number) in

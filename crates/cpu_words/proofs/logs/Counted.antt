@@ -35,7 +35,7 @@ use Rattle.protocol.proofs.keeps.Unlinking.{within_live, within_retired}
 use Rattle.protocol.proofs.slots.Cells.{by_cell, cell_cases, cell_here, cell_in_old, cell_other, get_or_all}
 use Rattle.protocol.proofs.slots.Occupied.{is_retired_tells, slot_cases, slot_has}
 use Rattle.cpu_words.specs.declared.view.Deed.{Deed}
-use Rattle.cpu_words.specs.Rule.{event_without_id, reply_without_id}
+use Rattle.cpu_words.specs.Rule.{by_number, reply_without_id}
 use Rattle.cpu_words.specs.Deeds.{changes_of, changes_in, occupant_after, occupant_from, occupant, replied, word_after, word_from, word_collected, occupant_of, word_if, is_drawn, word_in, AreCountsOf}
 use Rattle.cpu_words.specs.Logs.{maker, IsSeatOf}
 use Rattle.cpu_words.proofs.logs.Changes.{moves_past}
@@ -354,28 +354,17 @@ step_counted s (Vacate t) on = on_made s (Vacate t) (Events.may_vacate s t) _ _ 
 
 -- A log with one deed more
 
-unnamed_occupant : (u n : ℕ) (e : Event) (x : Option ℕ) → occupant_after u n (event_without_id e) x ≡ occupant_after u n e x
-unnamed_occupant u n (LoadRecord of) x = one of
-  where
-    one : (of : RecordOf) → occupant_after u n (event_without_id (LoadRecord of)) x ≡ x
-    one (OfSearch c) = refl
-    one (Passive c m k) = refl
-    one (Local id k) = refl
-unnamed_occupant u n e x = refl
+unnamed_occupant : (u n : ℕ) (s : State) (e : Event) (x : Option ℕ) → occupant_after u n (by_number s e) x ≡ occupant_after u n e x
+unnamed_occupant u n s (Publish t) x = refl
+unnamed_occupant u n s e x = refl
 
 same_replied : (r : Reply) → replied (reply_without_id r) ≡ replied r
 same_replied (Ref id) = refl
 same_replied r = refl
 
-unnamed_word : (u d : ℕ) (e : Event) (r : Reply) (x : Option ℕ) → word_after u d (event_without_id e) (reply_without_id r) x ≡ word_after u d e r x
-unnamed_word u d (LoadRecord of) r x = one of
-  where
-    one : (of : RecordOf) → word_after u d (event_without_id (LoadRecord of)) (reply_without_id r) x ≡ x
-    one (OfSearch c) = refl
-    one (Passive c m k) = refl
-    one (Local id k) = refl
-unnamed_word u d (Collect t c) r x = ap (λ (w : Option ℕ). if t == u && c == d then w else x) (same_replied r)
-unnamed_word u d e r x = refl
+unnamed_word : (u d : ℕ) (s : State) (e : Event) (r : Reply) (x : Option ℕ) → word_after u d (by_number s e) (reply_without_id r) x ≡ word_after u d e r x
+unnamed_word u d s (Collect t c) r x = ap (λ (w : Option ℕ). if t == u && c == d then w else x) (same_replied r)
+unnamed_word u d s e r x = refl
 
 occupant_both : (t n : ℕ) (x : Option ℕ) (a b : List Deed) → occupant_from t n x (a ++ b) ≡ occupant_from t (changes_in a + n) (occupant_from t n x a) b
 occupant_both t n x [] b = let same : n ≡ 0 + n = omega arith in ap (λ (m : ℕ). occupant_from t m x b) same
@@ -392,32 +381,32 @@ word_both t c x (d ∷ ds) b = word_both t c (word_after t c d.event d.reply x) 
 -- The walk
 
 -- the keeper's next deed
-pub counts_own : (log : List Deed) (s : State) (e : Event) (o : Outcome) → Holds s → step s e ≡ Some o → length s.history ≡ changes_in log → AreCountsOf log s → AreCountsOf (log ++ deed_of e o.reply ∷ []) o.state
+pub counts_own : (log : List Deed) (s : State) (e : Event) (o : Outcome) → Holds s → step s e ≡ Some o → length s.history ≡ changes_in log → AreCountsOf log s → AreCountsOf (log ++ deed_of s e o.reply ∷ []) o.state
 counts_own log s e o on made changes are =
-    let d : Deed = deed_of e o.reply in
+    let d : Deed = deed_of s e o.reply in
     let does : Counted s e (Some o) = subst (Counted s e) made (step_counted s e on) in record {
-      occupants = λ t. occupant_last t log d ∙ (unnamed_occupant t (changes_in log) e (occupant t log) ∙ ((λ k. occupant_after t (sym changes k) e (are.occupants t k)) ∙ sym (does.0 t)));
-      words = λ t c. word_both t c None log (d ∷ []) ∙ (unnamed_word t c e o.reply (word_collected t c log) ∙ (ap (word_after t c e o.reply) (are.words t c) ∙ sym (does.1 t c)));
+      occupants = λ t. occupant_last t log d ∙ (unnamed_occupant t (changes_in log) s e (occupant t log) ∙ ((λ k. occupant_after t (sym changes k) e (are.occupants t k)) ∙ sym (does.0 t)));
+      words = λ t c. word_both t c None log (d ∷ []) ∙ (unnamed_word t c s e o.reply (word_collected t c log) ∙ (ap (word_after t c e o.reply) (are.words t c) ∙ sym (does.1 t c)));
     }
 
-occupant_off : (seat : ℕ → ℕ) (n i u m : ℕ) (e : Event) (x : Option ℕ) → IsSeatOf seat n i (maker (event_without_id e)) → (i ≡ 0 → ⊥) → occupant_after u m e x ≡ x
-occupant_off seat n i u m (Publish t) x is off = absurd (off is)
-occupant_off seat n i u m (KeptSub t) x is off = absurd (off is)
-occupant_off seat n i u m (Vacate t) x is off = absurd (off is)
-occupant_off seat n i u m e x is off = refl
+occupant_off : (seat : ℕ → ℕ) (n i u m : ℕ) (s : State) (e : Event) (x : Option ℕ) → IsSeatOf seat n i (maker (by_number s e)) → (i ≡ 0 → ⊥) → occupant_after u m e x ≡ x
+occupant_off seat n i u m s (Publish t) x is off = absurd (off is)
+occupant_off seat n i u m s (KeptSub t) x is off = absurd (off is)
+occupant_off seat n i u m s (Vacate t) x is off = absurd (off is)
+occupant_off seat n i u m s e x is off = refl
 
-word_off : (seat : ℕ → ℕ) (n i u d : ℕ) (e : Event) (r : Reply) (x : Option ℕ) → IsSeatOf seat n i (maker (event_without_id e)) → (i ≡ 0 → ⊥) → word_after u d e r x ≡ x
-word_off seat n i u d (Collect t c) r x is off = absurd (off is)
-word_off seat n i u d (KeptSub t) r x is off = absurd (off is)
-word_off seat n i u d (Vacate t) r x is off = absurd (off is)
-word_off seat n i u d e r x is off = refl
+word_off : (seat : ℕ → ℕ) (n i u d : ℕ) (s : State) (e : Event) (r : Reply) (x : Option ℕ) → IsSeatOf seat n i (maker (by_number s e)) → (i ≡ 0 → ⊥) → word_after u d e r x ≡ x
+word_off seat n i u d s (Collect t c) r x is off = absurd (off is)
+word_off seat n i u d s (KeptSub t) r x is off = absurd (off is)
+word_off seat n i u d s (Vacate t) r x is off = absurd (off is)
+word_off seat n i u d s e r x is off = refl
 
 -- an event of another seat
-pub counts_off : (seat : ℕ → ℕ) (n i : ℕ) (log : List Deed) (s : State) (e : Event) (o : Outcome) → IsSeatOf seat n i (maker (event_without_id e)) → (i ≡ 0 → ⊥) → Holds s → step s e ≡ Some o → AreCountsOf log s → AreCountsOf log o.state
+pub counts_off : (seat : ℕ → ℕ) (n i : ℕ) (log : List Deed) (s : State) (e : Event) (o : Outcome) → IsSeatOf seat n i (maker (by_number s e)) → (i ≡ 0 → ⊥) → Holds s → step s e ≡ Some o → AreCountsOf log s → AreCountsOf log o.state
 counts_off seat n i log s e o is off on made are =
     let does : Counted s e (Some o) = subst (Counted s e) made (step_counted s e on) in record {
-      occupants = λ t. are.occupants t ∙ sym (does.0 t ∙ occupant_off seat n i t (length s.history) e (occupant_of (slot_at s.slots t)) is off);
-      words = λ t c. are.words t c ∙ sym (does.1 t c ∙ word_off seat n i t c e o.reply (word_in s t c) is off);
+      occupants = λ t. are.occupants t ∙ sym (does.0 t ∙ occupant_off seat n i t (length s.history) s e (occupant_of (slot_at s.slots t)) is off);
+      words = λ t c. are.words t c ∙ sym (does.1 t c ∙ word_off seat n i t c s e o.reply (word_in s t c) is off);
     }
 
 -- before all events each slot is vacant

@@ -17,7 +17,7 @@ use Rattle.protocol.proofs.keeps.Unlinking.{within_retired}
 use Rattle.protocol.proofs.slots.Cells.{cell_cases, cell_other}
 use Rattle.protocol.proofs.slots.MarkRows.{mark_there}
 use Rattle.cpu_words.specs.declared.view.Deed.{Deed}
-use Rattle.cpu_words.specs.Rule.{event_without_id}
+use Rattle.cpu_words.specs.Rule.{by_number}
 use Rattle.cpu_words.specs.Deeds.{changes_of, changes_in, AreCountsOf, AreMarksOf, AreSlotsOf, keeping}
 use Rattle.cpu_words.specs.Logs.{maker, IsSeatOf}
 use Rattle.cpu_words.proofs.logs.Changes.{Grows, step_grows, unnamed_changes}
@@ -94,16 +94,16 @@ first_taken s e n on due none = tt
 
 -- The walk
 
-known_own : (cpus : ℕ) (log : List Deed) (s : State) (e : Event) (o : Outcome) → Holds s → step s e ≡ Some o → Known cpus log s → Known cpus (log ++ deed_of e o.reply ∷ []) o.state
+known_own : (cpus : ℕ) (log : List Deed) (s : State) (e : Event) (o : Outcome) → Holds s → step s e ≡ Some o → Known cpus log s → Known cpus (log ++ deed_of s e o.reply ∷ []) o.state
 known_own cpus log s e o on made known =
     let dues : Dues s e (Some o) = subst (Dues s e) made (step_dues s e) in
     let marks : Marks s e (Some o) = subst (Marks s e) made (step_marks s e) in
     let grows : length o.state.history ≡ changes_of e (length s.history) = subst (Grows s e) made (step_grows s e on) in
-    let d : Deed = deed_of e o.reply in
+    let d : Deed = deed_of s e o.reply in
     let slots : AreSlotsOf s.settings.cpus log s.slots = subst (λ (n : ℕ). AreSlotsOf n log s.slots) (sym known.settings) known.slots in
     record {
       settings = ap (λ (z : Settings). z.cpus) dues.0 ∙ known.settings;
-      changes = grows ∙ (ap (changes_of e) known.changes ∙ (sym (unnamed_changes e (changes_in log)) ∙ sym (changes_last log d)));
+      changes = grows ∙ (ap (changes_of e) known.changes ∙ (sym (unnamed_changes s e (changes_in log)) ∙ sym (changes_last log d)));
       marks = subst (AreMarksOf (log ++ d ∷ [])) (sym marks.0) (more_marks log s e o.reply marks.1 (first_taken s e o.state on dues.1 known.ahead) known.marks);
       slots = subst (λ (n : ℕ). AreSlotsOf n (log ++ d ∷ []) o.state.slots) known.settings (slots_own log s e o on made known.changes known.marks slots);
       kept = λ t. kept_own log s e o on made known.kept t;
@@ -111,18 +111,18 @@ known_own cpus log s e o on made known =
       counts = counts_own log s e o on made known.changes known.counts;
     }
 
-changes_off : (seat : ℕ → ℕ) (n i : ℕ) (e : Event) (m : ℕ) → IsSeatOf seat n i (maker (event_without_id e)) → i ≢ 0 → changes_of e m ≡ m
-changes_off seat n i (Publish t) m is off = absurd (off is)
-changes_off seat n i (Unpublish t) m is off = absurd (off is)
-changes_off seat n i e m is off = refl
+changes_off : (seat : ℕ → ℕ) (n i : ℕ) (s : State) (e : Event) (m : ℕ) → IsSeatOf seat n i (maker (by_number s e)) → i ≢ 0 → changes_of e m ≡ m
+changes_off seat n i s (Publish t) m is off = absurd (off is)
+changes_off seat n i s (Unpublish t) m is off = absurd (off is)
+changes_off seat n i s e m is off = refl
 
-due_off : (seat : ℕ → ℕ) (n i : ℕ) (s : State) (e : Event) (t : State) → IsSeatOf seat n i (maker (event_without_id e)) → i ≢ 0 → DueAfter s e t → (u d : ℕ) → t.due ≡ Snapshots u d → s.due ≡ Snapshots u d
+due_off : (seat : ℕ → ℕ) (n i : ℕ) (s : State) (e : Event) (t : State) → IsSeatOf seat n i (maker (by_number s e)) → i ≢ 0 → DueAfter s e t → (u d : ℕ) → t.due ≡ Snapshots u d → s.due ≡ Snapshots u d
 due_off seat n i s (Unpublish v) t is off due = absurd (off is)
 due_off seat n i s (Snapshot None c) t is off due = due
 due_off seat n i s (Snapshot (Some v) c) t is off due = absurd (off is)
 due_off seat n i s e t is off due = due
 
-known_off : (seat : ℕ → ℕ) (n cpus i : ℕ) (log : List Deed) (s : State) (e : Event) (o : Outcome) → IsSeatOf seat n i (maker (event_without_id e)) → i ≢ 0 → Holds s → step s e ≡ Some o → Known cpus log s → Known cpus log o.state
+known_off : (seat : ℕ → ℕ) (n cpus i : ℕ) (log : List Deed) (s : State) (e : Event) (o : Outcome) → IsSeatOf seat n i (maker (by_number s e)) → i ≢ 0 → Holds s → step s e ≡ Some o → Known cpus log s → Known cpus log o.state
 known_off seat n cpus i log s e o is off on made known =
     let dues : Dues s e (Some o) = subst (Dues s e) made (step_dues s e) in
     let marks : Marks s e (Some o) = subst (Marks s e) made (step_marks s e) in
@@ -131,7 +131,7 @@ known_off seat n cpus i log s e o is off on made known =
     let slots : AreSlotsOf s.settings.cpus log s.slots = subst (λ (k : ℕ). AreSlotsOf k log s.slots) (sym known.settings) known.slots in
     record {
       settings = ap (λ (z : Settings). z.cpus) dues.0 ∙ known.settings;
-      changes = grows ∙ (changes_off seat n i e (length s.history) is off ∙ known.changes);
+      changes = grows ∙ (changes_off seat n i s e (length s.history) is off ∙ known.changes);
       marks = subst (AreMarksOf log) (sym same) known.marks;
       slots = subst (λ (k : ℕ). AreSlotsOf k log o.state.slots) known.settings (slots_off seat n i log s e o is off on made known.marks slots);
       kept = λ t. ap (λ (k : List (Option ℕ)). kept_at k t) (kept_off seat n i s e o is off on made) ∙ known.kept t;

@@ -36,16 +36,16 @@ use Rattle.cpu_words.proofs.logs.Runs.{deed_of, Follows, follows_holds, cut}
 
 -- Words grow
 
-found_word : (s : State) (e : Event) (o : Outcome) (c w : ℕ) (d : Deed) → step s e ≡ Some o → d ≡ deed_of e o.reply → FindsWord c w d → section_at s c ≡ w
+found_word : (s : State) (e : Event) (o : Outcome) (c w : ℕ) (d : Deed) → step s e ≡ Some o → d ≡ deed_of s e o.reply → FindsWord c w d → section_at s c ≡ w
 found_word s e o c w d made is finds =
     let answers : Answers s e o.reply = (subst (Marks s e) made (step_marks s e)).1 in
     ⊎_elim
     (λ (p : d ≡ record { event = Snapshot finds.0 c; reply = Word w }).
-    let event : Snapshot finds.0 c ≡ e = same_event e (Snapshot finds.0 c) (ap (λ (x : Deed). x.event) (sym p ∙ is)) refl in
+    let event : Snapshot finds.0 c ≡ e = same_event s e (Snapshot finds.0 c) (ap (λ (x : Deed). x.event) (sym p ∙ is)) refl in
     let reply : o.reply ≡ Word (section_at s c) = subst (λ (x : Event). Answers s x o.reply) (sym event) answers in
     sym (replied_word o.reply w (ap (λ (x : Deed). x.reply) (sym p ∙ is)) ∙ ap word_of reply))
     (λ (p : d ≡ record { event = Look finds.0 c; reply = Word w }).
-    let event : Look finds.0 c ≡ e = same_event e (Look finds.0 c) (ap (λ (x : Deed). x.event) (sym p ∙ is)) refl in
+    let event : Look finds.0 c ≡ e = same_event s e (Look finds.0 c) (ap (λ (x : Deed). x.event) (sym p ∙ is)) refl in
     let reply : o.reply ≡ Word (section_at s c) = subst (λ (x : Event). Answers s x o.reply) (sym event) answers in
     sym (replied_word o.reply w (ap (λ (x : Deed). x.reply) (sym p ∙ is)) ∙ ap word_of reply))
     finds.1

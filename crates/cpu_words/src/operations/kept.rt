@@ -5,7 +5,7 @@ ghost use Rattle.registry_values.specs.Slots.{slot_at};
 ghost use Rattle.protocol.specs.declared.event.Event.TheVariants.{Keep};
 ghost use Rattle.cpu_words.specs.declared.view.View.TheVariants.{Keeper, Reference};
 ghost use Rattle.cpu_words.specs.Steps.{JoinsBy};
-ghost use Rattle.protocol.specs.declared.event.Reply.TheVariants.{Word};
+ghost use Rattle.protocol.specs.declared.event.Reply.TheVariants.{Done};
 ghost use Rattle.cpu_words.specs.Rule.{did};
 ghost use Rattle.cpu_words.specs.Vacating.{as_vacant, vacate_first};
 ghost use Rattle.cpu_words.specs.Keeping.{MayKeep, IsVacated, keeper_after_keep};
@@ -55,7 +55,7 @@ pub(crate) fn join<S: KeepingSlot>(
     ensures vacant { IsVacated keeper.old.view slot }
     ensures event { JoinsBy (Keep slot) (Keeper (as_vacant keeper.old.view slot)) (Reference reference.view) (Keeper keeper.new.view) }
     ensures change { keeper.new.view ≡ keeper_after_keep keeper.old.view slot reference.view }
-    ensures log { keeper.new.log ≡ keeper.old.log ++ vacate_first (slot_at keeper.old.view.slots slot) slot (did (Keep slot 0) (Word reference.view.entry.number)) }
+    ensures log { keeper.new.log ≡ keeper.old.log ++ vacate_first (slot_at keeper.old.view.slots slot) slot (did (Keep slot reference.view.entry.number) Done) }
 {
     // The contract alone speaks of the slot.
     let _slot = slot;

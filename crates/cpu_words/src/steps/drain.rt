@@ -107,7 +107,7 @@ pub fn join_keeper(words: &Words, keeper: &mut KeeperSeat, reference: ReferenceS
     ensures table { keeper.new.table ≡ keeper.old.table }
     ensures event { JoinsBy JoinKeeper (Keeper keeper.old.view) (Reference reference.view) (Keeper keeper.new.view) }
     ensures change { keeper.new.view ≡ keeper_after_join keeper.old.view reference.view }
-    ensures log { keeper.new.log ≡ keeper.old.log ++ did (JoinKeeper 0) Done }
+    ensures log { keeper.new.log ≡ keeper.old.log ++ did (JoinKeeper reference.view.entry.number) Done }
 {
     let ReferenceSeat { token } = reference;
     words

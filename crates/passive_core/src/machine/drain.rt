@@ -124,7 +124,7 @@ impl Core {
         }
         self.locals[id as usize] = LocalPlace::Free;
         self.keeps[t as usize] = Some(number);
-        Ok(Reply::Word(number))
+        Ok(Reply::Done)
     }
 
     /// Whether the slot's entry is retired, with all marks, and nothing is held or half done.

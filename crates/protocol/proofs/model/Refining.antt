@@ -137,9 +137,9 @@ join_keeper_makes s id on =
 
 keep_makes : (s : State) (t id : ℕ) → Holds s → Makes (picture s) (Events.keep s t id)
 keep_makes s t id on =
-    makes_some (picture s) (Events.number_standing (local_at s.locals id)) (λ n. Events.with_some (slot_of s.slots n) (λ u. guard (Events.may_keep s t u) (some_outcome (Events.after_keep s t id n) (Word n))))
-    (λ n at. makes_some (picture s) (slot_of s.slots n) (λ u. guard (Events.may_keep s t u) (some_outcome (Events.after_keep s t id n) (Word n)))
-    (λ u of. makes_guard (picture s) (Events.may_keep s t u) (some_outcome (Events.after_keep s t id n) (Word n))
+    makes_some (picture s) (Events.number_standing (local_at s.locals id)) (λ n. Events.with_some (slot_of s.slots n) (λ u. guard (Events.may_keep s t u) (some_outcome (Events.after_keep s t id n) Done)))
+    (λ n at. makes_some (picture s) (slot_of s.slots n) (λ u. guard (Events.may_keep s t u) (some_outcome (Events.after_keep s t id n) Done))
+    (λ u of. makes_guard (picture s) (Events.may_keep s t u) (some_outcome (Events.after_keep s t id n) Done)
     (λ ok now. keep_refines s t id n u on (standing_tells (local_at s.locals id) n at) of ok)))
 
 kept_sub_makes : (s : State) (t : ℕ) → Holds s → Makes (picture s) (Events.kept_sub s t)

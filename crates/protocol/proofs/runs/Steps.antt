@@ -10,7 +10,7 @@ use Rattle.protocol.specs.declared.event.Event.TheVariants.{Seat, Enter, Exit, S
 use Rattle.protocol.specs.declared.event.RecordOf.{RecordOf}
 use Rattle.protocol.specs.declared.event.RecordOf.TheVariants.{Search as OfSearch, Passive as OfPassive, Local as OfLocal}
 use Rattle.protocol.specs.declared.event.Reply.{Reply}
-use Rattle.protocol.specs.declared.event.Reply.TheVariants.{Done, Word}
+use Rattle.protocol.specs.declared.event.Reply.TheVariants.{Done}
 use Rattle.registry_values.specs.declared.slot.Slot.{Slot}
 use Rattle.registry_values.specs.declared.slot.Slot.TheVariants.{Vacant, Live, Retired}
 use Rattle.protocol.specs.declared.state.Hand.{Hand}
@@ -76,7 +76,7 @@ pub data Sort (s : State) : Event → Option Outcome → Type 0 where
   Searched : (e : Event) (c : ℕ) (q : Search) (o : Outcome) → IsLoadOf c e → search_at s c ≡ Some q → Loads s c q o.state → Answers c q (Some o) → Sort s e (Some o)
   Published : (t : ℕ) (e : Entry) → entry_of t (row_at s.rows t) ≡ Some e → may_publish s t e ≡ true → Sort s (Publish t) (some_outcome (after_publish s t e) Done)
   Unpublished : (t : ℕ) (e : Entry) (n : State) → slot_at s.slots t ≡ Live e → Retires s t e n → Sort s (Unpublish t) (some_outcome n Done)
-  Kept : (t id n u : ℕ) → may_keep s t u ≡ true → Sort s (Keep t id) (some_outcome (after_keep s t id n) (Word n))
+  Kept : (t id n u : ℕ) → may_keep s t u ≡ true → Sort s (Keep t id) (some_outcome (after_keep s t id n) Done)
   Gave_up : (t d u : ℕ) → kept_at s.keeps t ≡ Some d → slot_of s.slots d ≡ Some u → is_drained s t ≡ true → Sort s (KeptSub t) (some_outcome (after_kept_sub s t u) Done)
   Vacated : (t : ℕ) → may_vacate s t ≡ true → Sort s (Vacate t) (some_outcome (after_vacate s t) Done)
 

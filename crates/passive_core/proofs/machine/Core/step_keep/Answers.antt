@@ -4,7 +4,7 @@ use Rattle.passive_core.specs.Shown.{state_shown}
 use Rattle.registry_values.specs.Slots.{slot_of}
 use Rattle.protocol.specs.Events.{may_keep, number_standing}
 use Rattle.protocol.specs.declared.event.Event.TheVariants.{Keep}
-use Rattle.protocol.specs.declared.event.Reply.TheVariants.{Word}
+use Rattle.protocol.specs.declared.event.Reply.TheVariants.{Done}
 use Rattle.protocol.proofs.keeps.Keeping.{step_holds}
 use Rattle.passive_core.proofs.machine.Core.step_keep.Goals as goal
 
@@ -13,4 +13,4 @@ invariant_of-self c =
     let live = ap (λ (x : State). number_standing (local_at x.locals c.args.id)) c.self.view_is ∙ sym c.in-Some.ensures.value in
     let place = ap (λ (x : State). slot_of x.slots c.in-Some.number) c.self.view_is ∙ sym c.in-Some-slot_of.ensures.value in
     let test = ap (λ (x : State). may_keep x c.args.t c.in-Some-slot_of.driver) c.self.view_is ∙ (sym c.may_keep.ensures.value ∙ c.if-not-may_keep.false) in
-    step_holds (state_shown c.self.inside) _ (Keep c.args.t c.args.id) (Word c.in-Some.number) c.self.invariant (rw (live, place, test) refl)
+    step_holds (state_shown c.self.inside) _ (Keep c.args.t c.args.id) Done c.self.invariant (rw (live, place, test) refl)
