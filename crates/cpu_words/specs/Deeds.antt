@@ -2,7 +2,7 @@
 use Rattle.std.specs.Prelude.{◌≡◌, ◌⊎◌, ℕ, zero, suc, ◌+◌, ◌*◌, ◌==◌, ◌&&◌, ◌%◌, ◌<◌, ◌≤◌, Bool, true, false, if◌then◌else◌, List, [], ◌∷◌, ◌++◌, length, Option, Some, None}
 use mathlib.Core.List.{IsPrefix}
 use Rattle.protocol.specs.declared.event.Event.{Event}
-use Rattle.protocol.specs.declared.event.Event.TheVariants.{Publish, Unpublish, Snapshot, Look, Collect, JoinKeeper, Keep, KeptSub, Vacate}
+use Rattle.protocol.specs.declared.event.Event.TheVariants.{Publish, Unpublish, Snapshot, Look, PassiveLook, Collect, JoinKeeper, Keep, KeptSub, Vacate}
 use Rattle.protocol.specs.declared.event.Reply.{Reply}
 use Rattle.protocol.specs.declared.event.Reply.TheVariants.{Done, Word}
 use Rattle.registry_values.specs.declared.entry.Change.{Change}
@@ -67,6 +67,10 @@ has_snapped t c w = record { event = Snapshot (Some t) c; reply = Word w }
 
 abbrev pub has_looked : ℕ → ℕ → ℕ → Deed
 has_looked t c w = record { event = Look (Some t) c; reply = Word w }
+
+-- the passive word of c was loaded for it, and it was w
+abbrev pub has_looked_passive : ℕ → ℕ → ℕ → Deed
+has_looked_passive t c w = record { event = PassiveLook t c; reply = Word w }
 
 abbrev pub is_detach_from : ℕ → Event → Bool
 is_detach_from t (Unpublish u) = u == t

@@ -53,7 +53,7 @@ pub record HasGivenUp (a : OnKeeper) (v : ReferenceView) (b : OnKeeper) : Type 0
   pub subtracted : Makes (TotalSub v.entry.slot) Done (Keeper (keeper_after_join a.view v)) (Keeper b.view)
   pub view : b.view ≡ record a.view { totals = slice_set a.view.totals v.entry.slot (total_at a.view.totals v.entry.slot - 1); given_up = one_more a.view.given_up v.entry.number }
   pub slots : b.slots ≡ a.slots
-  pub log : b.log ≡ a.log ++ did (JoinKeeper 0) Done ++ did (TotalSub v.entry.slot) Done
+  pub log : b.log ≡ a.log ++ did (JoinKeeper v.entry.number) Done ++ did (TotalSub v.entry.slot) Done
 
 -- Interfaces
 

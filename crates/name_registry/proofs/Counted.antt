@@ -122,8 +122,8 @@ pub advanced_same : (a : OnKeeper) (n : ℕ) (r : Result Stage Refusal) (b : OnK
 advanced_same a n (Ok stage) b has = meets_same a has.0 stage b has.2
 advanced_same a n (Err f) b has = ap (λ (k : OnKeeper). k.view.history) has.2
 
-pub advanced_for_same : (a : OnKeeper) (x : OnCpu) (n : ℕ) (r : Result Stage Refusal) (b : OnKeeper) (y : OnCpu) → HasAdvancedFor a x n r b y → Unchanged a b
-advanced_for_same a x n r b y has = ap (λ (k : OnKeeper). k.view.history) has.is ∙ advanced_same a n r has.end has.made
+pub advanced_for_same : (z : Settings) (a : OnKeeper) (x : OnCpu) (n : ℕ) (r : Result Stage Refusal) (b : OnKeeper) (y : OnCpu) → HasAdvancedFor z a x n r b y → Unchanged a b
+advanced_for_same z a x n r b y has = ap (λ (k : OnKeeper). k.view.history) has.is ∙ advanced_same (keeper_after_hear a x) n r has.end has.made
 
 pub given_up_same : (a : OnKeeper) (v : ReferenceView) (b : OnKeeper) → HasGivenUp a v b → Unchanged a b
 given_up_same a v b has = ap (λ (k : KeeperView). k.history) has.view

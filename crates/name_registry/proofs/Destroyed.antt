@@ -3,7 +3,7 @@ use Rattle.std.proofs.Common.{◌≡◌, ℕ, zero, suc, ◌<◌, Bool, true, fa
 use mathlib.Core.List.{IsPrefix}
 use Rattle.registry_values.specs.declared.entry.Entry.{Entry}
 use Rattle.registry_values.specs.declared.refusal.Refusal.{Refusal}
-use Rattle.registry_values.specs.declared.refusal.Refusal.TheVariants.{Inside}
+use Rattle.registry_values.specs.declared.refusal.Refusal.TheVariants.{Inside, NotRetired}
 use Rattle.registry_values.specs.declared.settings.Settings.{Settings}
 use Rattle.registry_values.specs.declared.slot.Slot.{Slot}
 use Rattle.registry_values.specs.declared.slot.Slot.TheVariants.{Retired}
@@ -19,12 +19,13 @@ use Rattle.cpu_words.specs.Deeds.{IsFreedFrom}
 use Rattle.cpu_words.specs.Rule.{did}
 use Rattle.passive_list.specs.Cpus.{OnCpu}
 use Rattle.passive_list.specs.Keepers.{OnKeeper}
-use Rattle.local_count.specs.Draining.{HasFreed}
-use Rattle.name_registry.specs.Advancing.{HasAdvanced, HasEnded}
 use Rattle.name_registry.specs.Destroying.{Destroys, DestroysOutside, HasDestroyed, LastMeeting, SomeAdvancedFor, TurnsMeeting}
 use Rattle.name_registry.specs.Locking.{IsDestroyRefusal, IsStageOf}
+use Rattle.name_registry.specs.Obstacles.{IsDestroyAnswer, IsTurn}
+use Rattle.name_registry.proofs.Heard.{prefix_short}
 use Rattle.name_registry.proofs.Owned.{learned}
 use Rattle.name_registry.proofs.Waited.{Learns, learns_none, learns_more}
+use Rattle.name_registry.proofs.Worked.{prefix_on}
 
 unfreed : (stage : Stage) → ((t : ℕ) → stage ≡ Freed t → ⊥) → IsObstacle stage
 unfreed (Grace c) not = tt
@@ -94,22 +95,10 @@ freed_more t n log later pre is = record {
   freed = is.freed;
 }
 
-ended_freed : (m : OnKeeper) (t : ℕ) (b : OnKeeper) (e : Entry) → HasEnded m t b → slot_at m.slots t ≡ Retired e → IsFreedFrom t e.number b.log
-ended_freed m t b e ended at = ⊎_elim (λ v. v.1.freed e at) (λ (f : HasFreed m t b). f.freed e at) ended
-
-advanced_freed : (a : OnKeeper) (n t : ℕ) (b : OnKeeper) → HasAdvanced a n (Ok (Freed t)) b → IsFreedFrom t n b.log
-advanced_freed a n t b has =
-    let meets = has.2.1 in
-    let told = (retired_slot_tells a.slots n has.0 has.1).1 in
-    let at : slot_at meets.between.slots has.0 ≡ Retired told.0 = ap (λ (l : List Slot). slot_at l has.0) meets.leaves.slots ∙ told.1 in
-    let freed : IsFreedFrom has.0 told.0.number b.log = ended_freed meets.between has.0 b told.0 meets.ended at in
-    subst (λ (p : ℕ × ℕ). IsFreedFrom p.0 p.1 b.log) (λ k. (sym has.2.0 k, told.2 k)) freed
-
 turn_freed : (z : Settings) (n t : ℕ) (x y : OnCpu) → SomeAdvancedFor z n x (Ok (Freed t)) y → IsFreedFrom t n y.deeds
 turn_freed z n t x y is =
-    let does = is.0.2 in
-    let log : is.0.1.log ≡ does.end.log ++ did (Tell None) Done = ap (λ (k : OnKeeper). k.log) does.is in
-    freed_more t n is.0.1.log y.deeds does.told (freed_more t n does.end.log is.0.1.log (did (Tell None) Done, sym log) (advanced_freed is.0.0 n t does.end does.made))
+    let turn = is.2 in
+    freed_more t n turn.log y.deeds turn.heard (subst (λ (u : ℕ). IsFreedFrom u n turn.log) (sym turn.answers.2.0) turn.answers.2.1)
 
 stage_gone : (z : Settings) (n : ℕ) (x y : OnCpu) (stage : Stage) → SomeAdvancedFor z n x (Ok stage) y → IfOk (destroy_result stage) (λ t. IsFreedFrom t n y.deeds)
 stage_gone z n x y (Grace c) is = tt
@@ -135,3 +124,34 @@ learns_meeting z n (suc turns) x y is = learns_more x is.0 y (learns_meeting z n
 
 pub learns_destroyed : (z : Settings) (n turns : ℕ) (x y : OnCpu) (answer : Result ℕ Refusal) → HasDestroyed z n turns x answer y → Learns x y
 learns_destroyed z n turns x y answer is = learns_more x is.last.0 y (learns_meeting z n is.earlier x is.last.0 is.last.1) (learns_turn z n is.last.0 y is.met is.last.2)
+
+-- What the last turn met
+
+-- the last turn is one for a caller that knew less, too: what the CPU knew when that call began
+turn_since : (z : Settings) (n : ℕ) (x m : OnCpu) (answer : Result Stage Refusal) (y : OnCpu) → Learns x m → IsTurn z n m answer y → IsTurn z n x answer y
+turn_since z n x m answer y learns turn = record {
+  begin = turn.begin;
+  log = turn.log;
+  known = prefix_on learns.0.deeds turn.known;
+  seen = let less = prefix_short x.view.pass m.view.pass learns.0.pass in omega (arith, less, turn.seen);
+  on = turn.on;
+  heard = turn.heard;
+  answers = turn.answers;
+}
+
+stage_told : (z : Settings) (n : ℕ) (x y : OnCpu) (stage : Stage) → IsTurn z n x (Ok stage) y → IsDestroyAnswer z n x (destroy_result stage) y
+stage_told z n x y (Grace c) turn = turn
+stage_told z n x y (Passive c) turn = turn
+stage_told z n x y (Local k) turn = turn
+stage_told z n x y (Freed t) turn = turn
+
+met_told : (z : Settings) (n : ℕ) (x y : OnCpu) (met : Result Stage Refusal) → IsTurn z n x met y → IsDestroyAnswer z n x (destroy_result_of met) y
+met_told z n x y (Ok stage) turn = stage_told z n x y stage turn
+met_told z n x y (Err refusal) turn =
+    let is : refusal ≡ NotRetired = turn.answers.0 in
+    subst (λ (f : Refusal). IsDestroyAnswer z n x (Err f) y) (sym is) (subst (λ (f : Refusal). IsTurn z n x (Err f) y) is turn)
+
+pub destroyed_told : (z : Settings) (n turns : ℕ) (x y : OnCpu) (answer : Result ℕ Refusal) → HasDestroyed z n turns x answer y → IsDestroyAnswer z n x answer y
+destroyed_told z n turns x y answer is =
+    let turn = turn_since z n x is.last.0 is.met y (learns_meeting z n is.earlier x is.last.0 is.last.1) is.last.2.2 in
+    subst (λ (r : Result ℕ Refusal). IsDestroyAnswer z n x r y) (sym is.told) (met_told z n x y is.met turn)

@@ -1,12 +1,12 @@
 -- What an audit answers (localcount(9)): by the counts of all CPUs and the totals, and that it is the tally.
-use Rattle.std.specs.Prelude.{◌≡◌, ℕ, zero, suc, ◌+◌, ℤ, pos, ◌+ℤ◌, ◌-ℤ◌, ◌==◌, All, Bool, ◌&&◌, List, [], ◌∷◌, ◌++◌, map, length, sum_by, if◌then◌else◌}
+use Rattle.std.specs.Prelude.{◌≡◌, ℕ, zero, suc, ◌+◌, ◌*◌, ℤ, pos, ◌+ℤ◌, ◌-ℤ◌, ◌==◌, All, Bool, ◌&&◌, List, [], ◌∷◌, ◌++◌, map, length, sum_by, if◌then◌else◌, Option, Some, None}
 use mathlib.Core.Option.{some}
 use mathlib.Core.List.{IsPrefix}
 use lib.ListN.{get_elem?}
 use Rattle.registry_values.specs.declared.entry.Change.{Change}
 use Rattle.cpu_words.specs.declared.view.Deed.{Deed}
 use Rattle.cpu_words.specs.declared.view.View.TheVariants.{Cpu, Keeper}
-use Rattle.cpu_words.specs.Deeds.{IsShownAfter}
+use Rattle.cpu_words.specs.Deeds.{given_up, occupant, sum_collected, word_collected, words_collected, IsShownAfter}
 use Rattle.cpu_words.specs.Notes.{with_heard, keeper_with_heard}
 use Rattle.name_registry.specs.Meeting.{HasLearned}
 use Rattle.registry_values.specs.declared.balance.Balance.{Balance}
@@ -14,7 +14,7 @@ use Rattle.registry_values.specs.declared.entry.Entry.{Entry}
 use Rattle.registry_values.specs.declared.settings.Settings.{Settings}
 use Rattle.registry_values.specs.declared.slot.Slot.{Slot}
 use Rattle.registry_values.specs.declared.slot.Slot.TheVariants.{Vacant, Live, Retired}
-use Rattle.registry_values.specs.Balances.{Tally, less_bias, sum_of, tally_shown}
+use Rattle.registry_values.specs.Balances.{Tally, bias, less_bias, sum_of, tally_shown}
 use Rattle.protocol.specs.Invariant.{IsIn}
 use Rattle.registry_values.specs.Slots.{is_retired, slot_at}
 use Rattle.protocol.specs.State.{State, mark_at, total_at}
@@ -142,8 +142,14 @@ IsTallied k xs b = b.held ≡ tally k xs b.number
 abbrev pub IsShownOn : List Deed → OnCpu → Type 0
 IsShownOn log x = (h : List Change) × IsShownAfter log (Cpu (with_heard x.view h))
 
-pub record AreAlike (k : OnKeeper) (xs : List OnCpu) : Type 0 where
+-- each of the CPUs knows just this of the keeper's deeds
+abbrev pub KnowAll : List Deed → List OnCpu → Type 0
+KnowAll log ys = (c : ℕ) (y : OnCpu) → get_elem? ys c ≡ some y → y.deeds ≡ log
+
+-- of the keeper and the CPUs as they were, and the CPUs as they have heard
+pub record AreAlike (k : OnKeeper) (xs ys : List OnCpu) : Type 0 where
   pub log : List Deed
+  pub known : KnowAll log ys
   pub keeper : (h : List Change) × IsShownAfter log (Keeper (keeper_with_heard k.view h))
   pub cpus : (c : ℕ) (x : OnCpu) → get_elem? xs c ≡ some x → IsShownOn log x
 
@@ -162,6 +168,42 @@ pub record IsKeeperOf (z : Settings) (k : OnKeeper) : Type 0 where
   pub view : IsAtRest z k.view
   pub is_shown : IsShown k.view
   pub slots : (t : ℕ) → TakenAs k.view t (slot_at k.slots t)
+
+-- By the keeper's log alone: what is said of each slot that has an entry by it
+
+-- what a CPU's count adds to the audit of n: its net count, and nothing where its word was collected
+abbrev pub net_unless : Option ℕ → ℤ → ℤ
+net_unless None net = net
+net_unless (Some w) net = pos 0
+
+abbrev pub local_in : List Deed → ℕ → ℕ → OnCpu → ℤ
+local_in log t n x = net_unless (word_collected t x.view.id log) (net_of n x)
+
+-- what was collected, less the biases of the words and what was given up
+abbrev pub total_in : List Deed → ℕ → ℕ → ℤ
+total_in log t n = pos (sum_collected t log) -ℤ pos (bias * words_collected t log + given_up n log)
+
+-- the tally of n: local references that all CPUs acquired, less those that they released, less those that the keeper gave up
+abbrev pub tally_in : List Deed → List OnCpu → ℕ → ℤ
+tally_in log xs n = pos (sum_by (acquired_of n) xs) -ℤ pos (sum_by (released_of n) xs + given_up n log)
+
+abbrev pub audited : List Deed → List OnCpu → ℕ → ℕ → Tally
+audited log xs n t = record { number = n; slot = t; held = tally_in log xs n; locals = map (local_in log t n) xs; total = total_in log t n }
+
+abbrev pub audited_at : List Deed → List OnCpu → ℕ → Option ℕ → List Tally
+audited_at log xs t None = []
+audited_at log xs t (Some n) = audited log xs n t ∷ []
+
+-- the slots below a number, least first
+abbrev pub audited_below : List Deed → List OnCpu → ℕ → List Tally
+audited_below log xs zero = []
+audited_below log xs (suc t) = audited_below log xs t ++ audited_at log xs t (occupant t log)
+
+-- What is answered of the CPUs xs: by a log that all know as it is answered, so that no keeper has to be named.
+pub record IsAuditBy (z : Settings) (xs ys : List OnCpu) (list : List Balance) : Type 0 where
+  pub log : List Deed
+  pub known : KnowAll log ys
+  pub answer : map tally_shown list ≡ audited_below log xs z.slots
 
 -- What is answered of the keeper k and all CPUs.
 pub record IsAuditOf (z : Settings) (k : OnKeeper) (xs : List OnCpu) (list : List Balance) : Type 0 where

@@ -5,11 +5,12 @@ ghost use Rattle.cpu_words.specs.Deeds.{IsFreedFrom};
 ghost use Rattle.cpu_words.specs.Domains.{AreWordsOf};
 ghost use Rattle.name_registry.specs.Destroying.{Destroys, DestroysOutside, HasAdvancedFor};
 ghost use Rattle.name_registry.specs.Locking.{IsDestroyRefusal, IsStageOf};
+ghost use Rattle.name_registry.specs.Obstacles.{IsDestroyAnswer, IsTurn};
 ghost use Rattle.name_registry.specs.Meeting.{is_inside, HasLearned};
 
 use crate::advancing::advance_in;
 use crate::locked::Locked;
-use crate::meeting::show_cpu;
+use crate::meeting::{hear_cpu, show_cpu};
 use crate::registry::Registry;
 use cpu_words::{Domain, Words};
 use passive_list::{Cpu, Keeper};
@@ -24,7 +25,10 @@ impl<D: Domain> Registry<D> {
     ///
     /// Ok says in what this CPU knows (`gone`): the entry was attached in that slot and detached, and then the keeper made the slot vacant. By the
     /// law `running_headline` (`freed`) it has no slot, and no section, passive reference or local reference holds it: whatever the table is, now
-    /// or later. To know this the CPU hears the keeper at the end of each turn: its pass grows as by `hear`.
+    /// or later. What the last turn met is in what the CPU knows, too (`answer`): as that turn began the keeper had heard all that the caller knew
+    /// at the call, and by the keeper's log then the entry was retired, or, for `NotRetired`, it wasn't; as it ended the slot was free, or the last
+    /// word that it loaded stopped it, or so many local references were left. To know this the CPU tells the keeper what it knows as a turn begins
+    /// and ends, and hears it then: nine loads in each turn beside those of the work, and its pass grows as by `hear`.
     /// Condition: at least one turn.
     /// Refused, in this order: `Inside` where the CPU is inside a section, and nothing has changed then; `NotRetired` where no slot has the
     /// retired entry `number`, also where another caller freed it between two turns; `StillHeld` with the obstacle that the last turn met.
@@ -40,6 +44,7 @@ impl<D: Domain> Registry<D> {
         ensures freed { IfOk result (λ slot. (is_inside cpu.old ≡ false) × (slot < D.settings.slots)) }
         ensures refused { IfErr result (λ refusal. IsDestroyRefusal D.settings (is_inside cpu.old) refusal) }
         ensures gone { IfOk result (λ slot. IsFreedFrom slot number cpu.new.deeds) }
+        ensures answer { IsDestroyAnswer D.settings number cpu.old result cpu.new }
         ensures made { DestroysOutside D.settings number turns (is_inside cpu.old) cpu.old result cpu.new }
         ensures learned { HasLearned cpu.old cpu.new × (cpu.new.made ≡ cpu.old.made) }
     {
@@ -89,7 +94,8 @@ fn destroy_in_turns<D: Domain, I: AdvancesUnderInterlock<D>, R: Wait>(
     destroyed(stage)
 }
 
-/// `advance_in`, and then the CPU hears what the keeper did, all of it.
+/// `advance_in` for a caller with a CPU: the keeper hears first what the CPU knows, and once more after the turn, so that it finds in its log what it
+/// did. Then the CPU hears what the keeper did, all of it: what the turn met is in what the CPU knows (`turn`).
 pub fn advance_for<D: Domain>(
     words: &Words,
     keeper: &mut Keeper<D>,
@@ -97,10 +103,13 @@ pub fn advance_for<D: Domain>(
     number: u64,
 ) -> Result<Stage, Refusal>
     requires words { AreWordsOf words.now D.table D.settings }
-    ensures answer { HasAdvancedFor keeper.old cpu.old number result keeper.new cpu.new }
+    ensures answer { HasAdvancedFor D.settings keeper.old cpu.old number result keeper.new cpu.new }
+    ensures turn { IsTurn D.settings number cpu.old result cpu.new }
     ensures stage { IfOk result (λ stage. IsStageOf D.settings stage) }
 {
+    hear_cpu(words, keeper, cpu);
     let answer = advance_in(words, keeper, number);
+    hear_cpu(words, keeper, cpu);
     show_cpu(words, keeper, cpu);
     answer
 }

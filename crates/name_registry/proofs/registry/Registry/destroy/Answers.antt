@@ -1,7 +1,7 @@
 use Rattle.std.proofs.Common.{◌≡◌, ◌∙◌, false, sym}
 use Rattle.name_registry.specs.Meeting.{is_inside}
 use Rattle.name_registry.proofs.Attached.{inside_is}
-use Rattle.name_registry.proofs.Destroyed.{destroyed_gone, destroyed_refused, destroyed_small, destroys_inside, destroys_outside, learns_destroyed}
+use Rattle.name_registry.proofs.Destroyed.{destroyed_gone, destroyed_refused, destroyed_small, destroyed_told, destroys_inside, destroys_outside, learns_destroyed}
 use Rattle.name_registry.proofs.Waited.{learns_none}
 use Rattle.name_registry.proofs.registry.Registry.destroy.Goals as goal
 
@@ -24,6 +24,9 @@ returns-clause-refused g c =
 
 pub returns-clause-gone : goal.returns-clause-gone
 returns-clause-gone g c = destroyed_gone g.D.Domain.settings c.args.number c.args.turns c.args.cpu.now c.destroy_in_turns.new.cpu c.destroy_in_turns.result c.destroy_in_turns.ensures
+
+pub returns-clause-answer : goal.returns-clause-answer
+returns-clause-answer g c = destroyed_told g.D.Domain.settings c.args.number c.args.turns c.args.cpu.now c.destroy_in_turns.new.cpu c.destroy_in_turns.result c.destroy_in_turns.ensures
 
 pub returns-clause-made : goal.returns-clause-made
 returns-clause-made g c =
