@@ -1,3 +1,4 @@
+pub mod Balance
 pub mod Freed
 pub mod Kept
 pub mod Holders

@@ -20,6 +20,7 @@ use Rattle.protocol.specs.Invariant.{IsIn, one_if, standing_of, Holds}
 use Rattle.protocol.specs.Laws.{after}
 use Rattle.cpu_words.specs.Spots.{Spot, index, IsSpot, word_at}
 use Rattle.cpu_words.specs.Views.{KeeperShown, Shown, is_to}
+use Rattle.cpu_words.specs.declared.view.CpuView.{CpuView}
 use Rattle.cpu_words.specs.declared.view.KeeperView.{KeeperView}
 use Rattle.cpu_words.specs.declared.view.Deed.{Deed}
 use Rattle.cpu_words.specs.declared.view.View.{View}
@@ -46,9 +47,15 @@ reference_to n (Reference v) = one_if (is_to n v.entry)
 reference_to n (Note h) = 0
 reference_to n Spent = 0
 
--- each view is shown, and the seats of references to n are as many as the core's live references to n
+-- the keeper's view is at the first seat, and the view of each CPU below n at its own
+pub record HaveViews (seat : ℕ → ℕ) (n : ℕ) (views : List View) : Type 0 where
+  pub keeper : (k : KeeperView) × (get_elem? views 0 ≡ some (Keeper k))
+  pub cpus : (c : ℕ) → c < n → (x : CpuView) × (get_elem? views (seat c) ≡ some (Cpu x)) × (x.id ≡ c)
+
+-- each view is shown, no seated CPU's is missing, and the seats of references to n are as many as the core's live references to n
 pub record Shows (g : State) (seat : ℕ → ℕ) (views : List View) : Type 0 where
   pub fits : (i : ℕ) (v : View) → get_elem? views i ≡ some v → Sits seat i v × Shown g v
+  pub each : HaveViews seat g.seated views
   pub references : (n : ℕ) → sum_by (reference_to n) views ≡ sum_by (standing_of n) g.locals
 
 -- a CPU that has no seat yet has made no step

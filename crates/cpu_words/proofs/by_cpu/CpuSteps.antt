@@ -149,7 +149,7 @@ cpu_makes z s r i x word m l e rep own at made leaves count heard shown words =
           good = good;
           reached = (more z g g' e rep r.reached made).0;
           words = words;
-          shows = shows_set g g' r.seat s.views i (Cpu x) (Cpu y) r.shows at (cpu_stays g l x.id r.seat i leaves had.0) (had.0, shown) (λ n. let h = count n in omega arith);
+          shows = shows_set g g' r.seat s.views i (Cpu x) (Cpu y) r.shows at (cpu_stays g l x.id r.seat i leaves had.0) (had.0, shown) refl refl (λ n. let h = count n in omega arith);
         };
         goes_on = (more z g g' e rep r.reached made).1;
         seated = omega arith;

@@ -1,5 +1,5 @@
 -- What is in a CPU's hand changes, and the places of references: why the other views stay, and what a split or a join of the CPU's seat makes.
-use Rattle.std.proofs.Common.{◌++◌, ◌≡◌, ◌≢◌, ⊎_elim, ℕ, ◌+◌, ◌<◌, ◌≤◌, ◌==◌, List, set, sum_by, Option, Some, None, refl, sym, ap, ◌∙◌, subst, arith, get_or-set_same, get_or-set_other}
+use Rattle.std.proofs.Common.{◌++◌, ◌≡◌, ◌≢◌, inl, ⊎_elim, ℕ, ◌+◌, ◌<◌, ◌≤◌, ◌==◌, List, set, sum_by, Option, Some, None, refl, sym, ap, ◌∙◌, subst, arith, get_or-set_same, get_or-set_other}
 use mathlib.Core.Option.{some}
 use lib.ListN.{get_elem?}
 use Rattle.atomic_table.specs.Table.{Splits, Joins}
@@ -178,7 +178,7 @@ splits z i x e leaves s r at =
         reached = (more z g (with_lists g l) e p.r r.reached m.made).0;
         words = agrees_same s.words g (with_lists g l) r.words refl (λ q there. same_words g x.id m.h m.locals q);
         shows = shows_split g (with_lists g l) r.seat s.views i (Cpu x) (with_empty_hand (Cpu x)) (reference_of_hand (Cpu x)) r.shows at (cpu_stays g l x.id r.seat i after had.0)
-            (had.0, shown_hand g x m.h m.locals NoEntry r.good had.1 m.same m.fits) (λ j. tt) (record { attached = p.right.attached; collected = p.right.collected }) (λ n. let h = p.count n in omega arith);
+            (had.0, shown_hand g x m.h m.locals NoEntry r.good had.1 m.same m.fits) (tt, record { attached = p.right.attached; collected = p.right.collected }) (λ c lt. inl lt) refl (λ n. let h = p.count n in omega arith);
       };
     }
 
@@ -325,7 +325,7 @@ joins z i o x v idle s r at apart there =
         reached = (more z g (with_lists g l) (JoinRef x.id p.id) Done r.reached m.made).0;
         words = agrees_same s.words g (with_lists g l) r.words refl (λ q there. same_words g x.id m.h m.locals q);
         shows = shows_join g (with_lists g l) r.seat s.views i (Cpu x) o (Reference v) both r.shows at apart was (cpu_stays g l x.id r.seat i after had.0)
-            (had.0, shown_hand g x m.h m.locals (GivingEntry v.entry) r.good had.1 m.same m.fits) (λ n. let h = p.count n in omega arith) there;
+            (had.0, shown_hand g x m.h m.locals (GivingEntry v.entry) r.good had.1 m.same m.fits) refl (refl, refl) (λ n. let h = p.count n in omega arith) there;
       };
     }
 

@@ -60,7 +60,7 @@ keeps_view z s r i v p e rep at there made same =
           good = r.good;
           reached = (more z g g e rep r.reached made).0;
           words = agrees_set s.words g g p (slice_index s.words (index p)) r.good.holds.fit r.words refl there (sym (r.words.at p there)) (λ q also ne. refl);
-          shows = shows_set g g r.seat s.views i v v r.shows at (λ j u ne sits shown backed. shown) had (λ n. refl);
+          shows = shows_set g g r.seat s.views i v v r.shows at (λ j u ne sits shown backed. shown) had refl refl (λ n. refl);
         };
         goes_on = (more z g g e rep r.reached made).1;
         seated = omega arith;

@@ -352,7 +352,7 @@ joins_at z i k o v may s r at apart there =
         good = law.good_after;
         reached = (more z g law.after (JoinKeeper law.id) Done r.reached law.made).0;
         words = agrees_same s.words g law.after r.words refl (λ q _. beside_words g (set g.locals law.id Free) (Subtracting v.entry.slot) g.keeps q);
-        shows = shows_join g law.after r.seat s.views i (Keeper k) o (Reference v) both r.shows at apart was (beside_stays g (set g.locals law.id Free) (Subtracting v.entry.slot) g.keeps r.seat i had.0) (had.0, law.shown) law.count there;
+        shows = shows_join g law.after r.seat s.views i (Keeper k) o (Reference v) both r.shows at apart was (beside_stays g (set g.locals law.id Free) (Subtracting v.entry.slot) g.keeps r.seat i had.0) (had.0, law.shown) refl (refl, refl) law.count there;
       };
     }
 

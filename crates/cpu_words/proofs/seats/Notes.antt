@@ -1,5 +1,5 @@
 -- Notes on the words: what a seat has seen is told and heard.
-use Rattle.std.proofs.Common.{◌++◌, [], ◌≡◌, ◌≢◌, ⊎_elim, ℕ, ◌*◌, ◌≤◌, List, length, take, get_or, set, Some, None, refl, sym, ap, ◌∙◌, subst, arith, get_or-set_same, get_or-set_other}
+use Rattle.std.proofs.Common.{◌++◌, [], ◌≡◌, ◌≢◌, inl, ⊎_elim, ℕ, ◌*◌, ◌≤◌, List, length, take, get_or, set, Some, None, refl, sym, ap, ◌∙◌, subst, arith, get_or-set_same, get_or-set_other}
 use Rattle.std.specs.Prelude.{slice_index}
 use mathlib.Core.Option.{some}
 use mathlib.Core.List.{IsPrefix}
@@ -26,7 +26,7 @@ use Rattle.cpu_words.specs.Steps.{SplitsOn, JoinsOn}
 use Rattle.std.proofs.lemmas.List.{append-nil}
 use Rattle.cpu_words.proofs.laws.Reaching.{more}
 use Rattle.cpu_words.proofs.logs.Seats.{tells_heard, tells_whole, seat_cut, seat_laid}
-use Rattle.cpu_words.specs.Logs.{the_cpu, LoggedRuled, logged_after_split, deeds_heard, deeds_done, fresh, logged_with_note, spent_seat, tells_pass, tells_history}
+use Rattle.cpu_words.specs.Logs.{the_cpu, who, LoggedRuled, logged_after_split, deeds_heard, deeds_done, fresh, logged_with_note, spent_seat, tells_pass, tells_history}
 use Rattle.cpu_words.specs.Sections.{IsIdle}
 use Rattle.cpu_words.specs.Notes.{as_before, pass_told, history_told, with_heard, keeper_with_heard, beside_cpu, beside_keeper, HasHeard, KeeperHasHeard}
 use Rattle.cpu_words.proofs.shown.Showing.{Stay, shows_split, shows_join}
@@ -73,7 +73,7 @@ splits z i e v h tells s r at =
         good = r.good;
         reached = (more z g g e Done r.reached told.0).0;
         words = r.words;
-        shows = shows_split g g r.seat s.views i v v (Note h) r.shows at (own_view_alone g r.seat i) had (λ j. tt) told.1 (λ n. omega arith);
+        shows = shows_split g g r.seat s.views i v v (Note h) r.shows at (own_view_alone g r.seat i) had (tt, told.1) (λ c lt. inl lt) refl (λ n. omega arith);
       };
     }
 
@@ -115,6 +115,7 @@ keeper_splits_by v a k view right may =
 pub record Beside (v both : View) (h : List Change) : Type 0 where
   pub sits : (seat : ℕ → ℕ) (i : ℕ) → Sits seat i v → Sits seat i both
   pub shown : (g : State) → Shown g v → IsPrefix h g.history → Shown g both
+  pub owner : who both ≡ who v
   pub references : (n : ℕ) → reference_to n both ≡ reference_to n v
 
 joins : (z : Settings) (i o : ℕ) (v both : View) (h : List Change) → Beside v both h → JoinsOn z i v o (Note h) both Spent []
@@ -137,7 +138,7 @@ joins z i o v both h beside s r at apart there =
         good = r.good;
         reached = r.reached;
         words = r.words;
-        shows = shows_join g g r.seat s.views i v o (Note h) both r.shows at apart was (own_view_alone g r.seat i) (beside.sits r.seat i had.0, beside.shown g had.1 told)
+        shows = shows_join g g r.seat s.views i v o (Note h) both r.shows at apart was (own_view_alone g r.seat i) (beside.sits r.seat i had.0, beside.shown g had.1 told) refl (beside.owner, refl)
             (λ n. let same = beside.references n in omega arith) there;
       };
     }
@@ -161,6 +162,7 @@ cpu_beside x h = record {
     references = had.references;
     heard = told;
   };
+  owner = refl;
   references = λ n. refl;
 }
 
@@ -178,6 +180,7 @@ keeper_beside k h = record {
     beyond = had.beyond;
     heard = told;
   };
+  owner = refl;
   references = λ n. refl;
 }
 

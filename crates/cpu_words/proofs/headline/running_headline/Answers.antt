@@ -3,6 +3,7 @@ use Rattle.cpu_words.proofs.laws.Holders.{held_have_slots}
 use Rattle.cpu_words.proofs.laws.Waiting.{waiting_ends}
 use Rattle.cpu_words.proofs.laws.Freed.{freed_is_gone}
 use Rattle.cpu_words.proofs.laws.Kept.{attached_keeps}
+use Rattle.cpu_words.proofs.laws.Balance.{seats_balance}
 use Rattle.cpu_words.proofs.headline.running_headline.Goals as goal
 
 pub returns-clause-run : goal.returns-clause-run
@@ -19,3 +20,6 @@ returns-clause-freed c = freed_is_gone
 
 pub returns-clause-kept : goal.returns-clause-kept
 returns-clause-kept c = attached_keeps
+
+pub returns-clause-balance : goal.returns-clause-balance
+returns-clause-balance c = seats_balance
