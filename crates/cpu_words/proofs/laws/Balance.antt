@@ -23,7 +23,8 @@ use Rattle.cpu_words.specs.declared.view.View.TheVariants.{Keeper, Cpu, Referenc
 use Rattle.cpu_words.specs.Spots.{count_of, total_of}
 use Rattle.cpu_words.specs.Views.{SameHand, CpuShown, Shown}
 use Rattle.cpu_words.specs.Rule.{Agrees, Sits, Shows, Good}
-use Rattle.cpu_words.specs.Balance.{sum_below, count_word, total_word, in_hand_to, hand_to, held_by_seats, HasOneSeat, IsBalanced, SeatsBalance}
+use Rattle.cpu_words.specs.Deeds.{sum_below}
+use Rattle.cpu_words.specs.Balance.{count_word, total_word, in_hand_to, hand_to, held_by_seats, HasOneSeat, IsBalanced, SeatsBalance}
 use Rattle.cpu_words.proofs.by_keeper.KeeperSees.{SeenByKeeper, seen_by_keeper}
 
 -- Sums over numbers
