@@ -2,7 +2,6 @@ pub mod Allowing
 pub mod Changes
 pub mod Counted
 pub mod Logs
-pub mod Makers
 pub mod Runs
 pub mod Seats
 pub mod Loads

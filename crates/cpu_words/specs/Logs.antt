@@ -5,7 +5,6 @@ use mathlib.Core.List.{IsPrefix}
 use lib.ListN.{get_elem?}
 use Rattle.atomic_table.specs.Table.{State as Table, Step, Me}
 use Rattle.registry_values.specs.declared.settings.Settings.{Settings}
-use Rattle.registry_values.specs.Slots.{slot_at}
 use Rattle.protocol.specs.declared.event.Event.{Event}
 use Rattle.protocol.specs.declared.event.Event.TheVariants.{Seat, Enter, Exit, Seek, LoadLink, LoadRecord, StoreSlot, StoreNext, Publish, Unpublish, Tell, Hear, Snapshot, Look, PassiveAdd, PassiveSub, PassiveLook, CountAdd, SplitRef, JoinRef, CountDown, SplitBack, Collect, TotalAdd, JoinKeeper, TotalSub, Keep, KeptSub, Vacate}
 use Rattle.protocol.specs.declared.event.RecordOf.TheVariants.{Search as OfSearch, Passive, Local}
@@ -21,7 +20,6 @@ use Rattle.cpu_words.specs.declared.view.View.{View}
 use Rattle.cpu_words.specs.declared.view.View.TheVariants.{Keeper, Cpu, Reference, Note, Spent}
 use Rattle.cpu_words.specs.Views.{first_view, cpu_of, keeper_of, reference_of}
 use Rattle.cpu_words.specs.Rule.{did, deeds, Ruled}
-use Rattle.cpu_words.specs.Vacating.{vacate_first}
 use Rattle.cpu_words.specs.Deeds.{HasHeardDeeds, IsOwnLog, IsShownAfter}
 
 -- the table without the logs
@@ -204,6 +202,5 @@ takes_in v u = did (JoinRef (cpu_of v).id (reference_of u).entry.number) Done
 abbrev pub gives_up : View → View → List Deed
 gives_up v u = did (JoinKeeper (reference_of u).entry.number) Done
 
--- Vacate first where the slot is retired
 abbrev pub keeps_for : ℕ → View → View → List Deed
-keeps_for t v u = vacate_first (slot_at (keeper_of v).slots t) t (did (Keep t (reference_of u).entry.number) Done)
+keeps_for t v u = did (Keep t (reference_of u).entry.number) Done

@@ -6,7 +6,6 @@ use Rattle.atomic_table.specs.Table.{State as Table, keeps, stepped}
 use Rattle.registry_values.specs.declared.settings.Settings.{Settings}
 use Rattle.protocol.specs.declared.event.Event.{Event}
 use Rattle.protocol.specs.declared.event.Reply.{Reply}
-use Rattle.protocol.specs.declared.event.Reply.TheVariants.{Done}
 use Rattle.protocol.specs.State.{State}
 use Rattle.protocol.specs.Events.{step}
 use Rattle.protocol.specs.Invariant.{standing_of}
@@ -66,16 +65,6 @@ pub record JoinMakes (e : ℕ → Event) (g : State) (v u both : View) : Type 0 
 -- just such an event of the core is made as the view u, whose references the core has, is put into v
 abbrev pub JoinsBy : (ℕ → Event) → View → View → View → Type 0
 JoinsBy e v u both = (g : State) → Good g → Shown g v → Shown g u → ((n : ℕ) → reference_to n u ≤ sum_by (standing_of n) g.locals) → JoinMakes e g v u both
-
--- A change of a view that touches no word and no other seat: in whatever state of the core shows the view, it is just this event.
-pub record ChangeMakes (e : Event) (g : State) (w : View) : Type 0 where
-  pub after : State
-  pub made : step g e ≡ Some (record { state = after; reply = Done })
-  pub good_after : Good after
-  pub shown : Shown after w
-
-abbrev pub ChangesBy : Event → View → View → Type 0
-ChangesBy e v w = (g : State) → Good g → Shown g v → ChangeMakes e g w
 
 -- A seat is cut in two, or takes in another: the run goes on with just these events.
 

@@ -1,6 +1,6 @@
 //! One function for each kind of step, named after its event, or after what it stores or looks at. Each makes just its event of the core,
-//! with one seat, and takes no memory; the seat's log goes on with just that event and its reply (`log`). Two make another event before
-//! their own: `seek` begins the search and loads its first link, and a slot's first store, or `keep`, takes a drained slot as vacant.
+//! with one seat, and takes no memory; the seat's log goes on with just that event and its reply (`log`). Two make two
+//! events: `seek` begins the search and loads its first link, and `vacate` makes a slot vacant and hears.
 
 pub mod drain;
 pub mod grace;

@@ -52,7 +52,6 @@ held_before k j l v joined made =
       slot = held.slot;
       positive = held.positive;
       near = held.near;
-      undrained = held.undrained;
     }
 
 -- so its slot's row has it

@@ -15,10 +15,9 @@ use Rattle.cpu_words.specs.declared.view.ReferenceView.{ReferenceView}
 use Rattle.cpu_words.specs.declared.view.View.TheVariants.{Keeper, Reference}
 use Rattle.cpu_words.specs.Deeds.{IsAttachedKeeping, IsFreedFrom}
 use Rattle.cpu_words.specs.Draining.{keeper_after_join, HasKeptSub}
-use Rattle.cpu_words.specs.Keeping.{IsVacated, keeper_after_keep}
+use Rattle.cpu_words.specs.Keeping.{keeper_after_keep}
 use Rattle.cpu_words.specs.Rule.{Good, did}
 use Rattle.cpu_words.specs.Steps.{Makes, JoinsBy}
-use Rattle.cpu_words.specs.Vacating.{as_vacant}
 use Rattle.cpu_words.specs.Views.{KeeperShown, one_more}
 use Rattle.passive_list.specs.declared.keeper.KeptSlot.{KeptSlot}
 use Rattle.passive_list.specs.Keepers.{OnKeeper, state_of}
@@ -59,8 +58,7 @@ pub record HasGivenUp (a : OnKeeper) (v : ReferenceView) (b : OnKeeper) : Type 0
 
 -- the slot keeps the reference, and then the entry is published in it
 pub record HasAttachedKeeping (a : OnKeeper) (v : ReferenceView) (e : Entry) (b : OnKeeper) : Type 0 where
-  pub vacated : IsVacated a.view e.slot
-  pub kept : JoinsBy (Keep e.slot) (Keeper (as_vacant a.view e.slot)) (Reference v) (Keeper (keeper_after_keep a.view e.slot v))
+  pub kept : JoinsBy (Keep e.slot) (Keeper a.view) (Reference v) (Keeper (keeper_after_keep a.view e.slot v))
   pub attached : HasAttached (record a { view = keeper_after_keep a.view e.slot v }) e b
   -- by the log
   pub keeping : IsAttachedKeeping e.slot e.number v.entry.number b.log

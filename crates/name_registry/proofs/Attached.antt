@@ -32,7 +32,6 @@ use Rattle.passive_list.specs.Cpus.{OnCpu}
 use Rattle.passive_list.specs.Keepers.{OnKeeper}
 use Rattle.passive_list.specs.Notes.{HasHeardOn}
 use Rattle.passive_list.specs.Publishing.{HasAttached}
-use Rattle.passive_list.proofs.Preparing.{as_vacant_is}
 use Rattle.local_count.specs.Draining.{HasAttachedKeeping}
 use Rattle.name_registry.specs.Attaching.{given_entry, plain_slot, room_of}
 use Rattle.name_registry.specs.Meeting.{keeper_after_hear, keeper_after_tell, HasSeenAttach}
@@ -120,11 +119,7 @@ keeping_more t n d log later pre is = record {
 }
 
 pub keeping_told : (a : OnKeeper) (v : ReferenceView) (e : Entry) (b : OnKeeper) → HasAttachedKeeping a v e b → HasAttachedKeeping a v e (keeper_after_tell b)
-keeping_told a v e b has = record { vacated = has.vacated; kept = has.kept; attached = attached_told _ e b has.attached; keeping = keeping_more e.slot e.number v.entry.number b.log (b.log ++ did (Tell None) Done) (did (Tell None) Done, refl) has.keeping }
-
--- a view whose slot was taken as vacant, and keeps a reference, has the history that it had
-pub keeping_history : (k : KeeperView) (t : ℕ) (v : ReferenceView) → (keeper_after_keep k t v).history ≡ k.history
-keeping_history k t v = ap (λ (x : KeeperView). x.history) (as_vacant_is k t)
+keeping_told a v e b has = record { kept = has.kept; attached = attached_told _ e b has.attached; keeping = keeping_more e.slot e.number v.entry.number b.log (b.log ++ did (Tell None) Done) (did (Tell None) Done, refl) has.keeping }
 
 -- what the keeper did before it told its log is in what the CPU knows
 pub log_told : (b told : OnKeeper) (y : OnCpu) → told ≡ keeper_after_tell b → IsPrefix told.log y.deeds → IsPrefix b.log y.deeds

@@ -31,7 +31,7 @@ use Rattle.name_registry.specs.Detaching.{HasDetachedFor, IsDetachAnswer}
 use Rattle.name_registry.specs.Meeting.{HasLearned, HasSeenAttach, HasSeenDetach, keeper_after_hear, is_inside}
 use Rattle.name_registry.specs.Performing.{GlancesBelow, HasBegun, HasGlanced, HasPassedAll, Hold, Looking, PassesBelow, PassesIf, PassesNumber, SnapshotsBelow}
 use Rattle.name_registry.proofs.Glanced.{OnlyLooked, snapshots_look, glances_look}
-use Rattle.name_registry.proofs.Attached.{given_takes, keeping_history}
+use Rattle.name_registry.proofs.Attached.{given_takes}
 
 -- The share
 
@@ -88,8 +88,7 @@ attach_booked old new a x e b y was grown has = booked old new a.view.history b.
 
 pub iface_booked : (old new : ℕ) (a : OnKeeper) (x : OnCpu) (v : ReferenceView) (e : Entry) (b : OnKeeper) (y : OnCpu) → old ≡ weigh a.view.history → new ≡ old + weight (Attach e) → HasAttachedIfaceFor a x v e b y → new ≡ weigh b.view.history
 iface_booked old new a x v e b y was grown has =
-    let after = ap (λ (k : KeeperView). k.history) has.keeper.attached.entry.view ∙ ap (λ (h : List Change). after_change h (Attach e)) (keeping_history (keeper_after_hear a x).view e.slot v) in
-    booked old new a.view.history b.view.history (Attach e) was grown after
+    booked old new a.view.history b.view.history (Attach e) was grown (ap (λ (k : KeeperView). k.history) has.keeper.attached.entry.view)
 
 pub detach_booked : (old new : ℕ) (a : OnKeeper) (x : OnCpu) (e : Entry) (b : OnKeeper) (y : OnCpu) → old ≡ weigh a.view.history → new ≡ old + weight (Detach e.number) → HasDetachedFor a x e b y → new ≡ weigh b.view.history
 detach_booked old new a x e b y was grown has = booked old new a.view.history b.view.history (Detach e.number) was grown (ap (λ (k : KeeperView). k.history) has.keeper.view)

@@ -36,7 +36,7 @@ use Rattle.cpu_words.proofs.by_cpu.Counting.{place_is}
 use Rattle.cpu_words.proofs.by_keeper.KeeperSees.{seen_by_keeper}
 use Rattle.passive_list.specs.Cpus.{OnCpu}
 use Rattle.passive_list.specs.declared.keeper.KeptSlot.{KeptSlot}
-use Rattle.passive_list.specs.Keepers.{IsAtRest, IsOurKeeper, OnKeeper, RowsAgree, TakenAs, states_of}
+use Rattle.passive_list.specs.Keepers.{IsAtRest, IsOurKeeper, OnKeeper, RowsAgree, states_of}
 use Rattle.passive_list.proofs.Rows.{state_at}
 use Rattle.name_registry.specs.Auditing.{AreAllCpus, AreAlike, AreShown, IsAuditOf, IsKeeperOf, IsTallied, acquired_of, is_collected, local_by, local_met, local_of, locals_of, net_met, net_of, released_of, tallies_met, tally, tally_by, tally_met, tally_of}
 use Rattle.name_registry.proofs.Audits.{all_met, each_same}
@@ -91,24 +91,24 @@ sums k t n (p ∷ row) (x ∷ xs) a each past =
 
 -- Of a slot in such a state
 
-taken_at : (a : Settings) (k : KeeperView) (rows : List KeptSlot) (t : ℕ) → IsAtRest a k → RowsAgree a k rows → TakenAs k t (slot_at (states_of rows) t)
-taken_at a k rows t view agree = ⊎_elim
-    (λ (lt : t < a.slots). subst (TakenAs k t) (sym (state_at rows t)) (agree.each t lt).state)
+same_at : (a : Settings) (k : KeeperView) (rows : List KeptSlot) (t : ℕ) → IsAtRest a k → RowsAgree a k rows → slot_at k.slots t ≡ slot_at (states_of rows) t
+same_at a k rows t view agree = ⊎_elim
+    (λ (lt : t < a.slots). (agree.each t lt).state ∙ sym (state_at rows t))
     (λ (past : a.slots ≤ t).
     let none : slot_at k.slots t ≡ Vacant = get_or_past k.slots t Vacant (omega (arith, view.sized.slots, past)) in
-    subst (TakenAs k t) (sym (state_at rows t ∙ agree.beyond t past)) (inl none))
+    none ∙ sym (state_at rows t ∙ agree.beyond t past))
     (cases_lt t a.slots)
 
 pub known_keeper : {log : List Deed} (z : TableId) (a : Settings) (table : TableId) (k : KeeperView) (its : Settings) (rows : List KeptSlot) (n : ℕ) (x : OnKeeper) → IsOurKeeper z a table k its rows n → record { view = k; slots = states_of rows; log = log } ≡ x → IsKeeperOf a x
 known_keeper z a table k its rows n x our is = subst (IsKeeperOf a) is record {
   view = our.view;
   is_shown = our.is_shown;
-  slots = λ t. taken_at a k rows t our.view our.rows;
+  slots = λ t. same_at a k rows t our.view our.rows;
 }
 
 -- an entry that it has in a slot is there in its view
 there_too : (a : Settings) (k : OnKeeper) (t : ℕ) (e : Entry) → IsKeeperOf a k → IsIn e (slot_at k.slots t) → IsIn e (slot_at k.view.slots t)
-there_too a k t e known is = ⊎_elim (λ (live : slot_at k.slots t ≡ Live e). inl (subst (TakenAs k.view t) live (known.slots t))) (λ (gone : slot_at k.slots t ≡ Retired e). inr (subst (TakenAs k.view t) gone (known.slots t))) is
+there_too a k t e known is = subst (IsIn e) (sym (known.slots t)) is
 
 zip_at : (ms : List Mark) (ns : List ℕ) (c : ℕ) → length ms ≡ length ns → get_or (zip ms ns) c nothing ≡ (get_or ms c no_mark, get_or ns c 0)
 zip_at [] [] c same = refl
@@ -166,8 +166,8 @@ held_retired a k xs g h t e known all shown nets gone there =
 
 held_by : (a : Settings) (k : OnKeeper) (xs : List OnCpu) (g : State) (h : List Change) (t : ℕ) (e : Entry) → IsKeeperOf a k → AreAllCpus a.cpus xs → IsOfKeeper g k h → AreNets g xs t e.number → IsIn e (slot_at k.slots t) → (tally_of k xs e.number t).held ≡ tally k xs e.number
 held_by a k xs g h t e known all shown nets is = ⊎_elim
-    (λ (live : slot_at k.slots t ≡ Live e). held_live k xs g h t e shown live (subst (TakenAs k.view t) live (known.slots t)))
-    (λ (gone : slot_at k.slots t ≡ Retired e). held_retired a k xs g h t e known all shown nets gone (subst (TakenAs k.view t) gone (known.slots t)))
+    (λ (live : slot_at k.slots t ≡ Live e). held_live k xs g h t e shown live (known.slots t ∙ live))
+    (λ (gone : slot_at k.slots t ≡ Retired e). held_retired a k xs g h t e known all shown nets gone (known.slots t ∙ gone))
     is
 
 -- in one state that shows all

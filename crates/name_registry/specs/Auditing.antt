@@ -21,7 +21,7 @@ use Rattle.protocol.specs.State.{State, mark_at, total_at}
 use Rattle.cpu_words.specs.Rule.{Good, IsShown}
 use Rattle.cpu_words.specs.Views.{number_at, CpuShown, KeeperShown}
 use Rattle.passive_list.specs.Cpus.{OnCpu}
-use Rattle.passive_list.specs.Keepers.{IsAtRest, OnKeeper, TakenAs}
+use Rattle.passive_list.specs.Keepers.{IsAtRest, OnKeeper}
 
 -- the slice is CPU 0, 1, .., in this order
 pub record AreAllCpus (cpus : ℕ) (xs : List OnCpu) : Type 0 where
@@ -163,11 +163,11 @@ pub record HaveLearned (xs ys : List OnCpu) : Type 0 where
   pub size : length ys ≡ length xs
   pub each : (c : ℕ) (x y : OnCpu) → get_elem? xs c ≡ some x → get_elem? ys c ≡ some y → HasLearned x y × (y.made ≡ x.made)
 
--- What is known of the keeper behind the lock, which no contract can name: it is at rest, some state of the core shows its view, and in its slots it has what its view has, or nothing where an entry may be vacated.
+-- What is known of the keeper behind the lock, which no contract can name: it is at rest, some state of the core shows its view, and in its slots it has what its view has.
 pub record IsKeeperOf (z : Settings) (k : OnKeeper) : Type 0 where
   pub view : IsAtRest z k.view
   pub is_shown : IsShown k.view
-  pub slots : (t : ℕ) → TakenAs k.view t (slot_at k.slots t)
+  pub slots : (t : ℕ) → slot_at k.view.slots t ≡ slot_at k.slots t
 
 -- By the keeper's log alone: what is said of each slot that has an entry by it
 

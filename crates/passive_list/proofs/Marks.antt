@@ -1,5 +1,5 @@
 -- Looks and the end of a drain: one mark or the state of one row changes.
-use Rattle.std.proofs.Common.{◌≡◌, inl, ℕ, ◌+◌, ◌<◌, true, ◌&&◌, ◌==◌, List, ◌++◌, length, set, replicate, get_or, None, refl, sym, ap, ◌∙◌, subst, arith, length-set, eqb-true}
+use Rattle.std.proofs.Common.{◌≡◌, ℕ, ◌+◌, ◌<◌, true, ◌&&◌, ◌==◌, List, ◌++◌, length, set, replicate, get_or, None, refl, sym, ap, ◌∙◌, subst, arith, length-set, eqb-true}
 use Rattle.std.proofs.lemmas.Bool.{and_parts}
 use Rattle.std.proofs.lemmas.List.{map-set}
 use Rattle.std.proofs.Math.Seq.{map-set_same}
@@ -30,7 +30,7 @@ use Rattle.cpu_words.specs.Steps.{Makes}
 use Rattle.cpu_words.specs.Vacating.{keeper_after_vacate}
 use Rattle.cpu_words.proofs.shown.KeepersShown.{step_is_shown}
 use Rattle.passive_list.specs.declared.keeper.KeptSlot.{KeptSlot}
-use Rattle.passive_list.specs.Keepers.{OnKeeper, no_row, row_at, state_of, states_of, TakenAs, IsAtRest, RowsAgree, IsOurKeeper}
+use Rattle.passive_list.specs.Keepers.{OnKeeper, no_row, row_at, state_of, states_of, IsAtRest, RowsAgree, IsOurKeeper}
 use Rattle.passive_list.specs.Vacating.{HasVacated, IsDrainedOn, is_drained_row}
 use Rattle.passive_list.proofs.Rows.{state_at, retired_in, row_stays, rows_set}
 
@@ -79,13 +79,13 @@ marked_rows a k rows ev r t c m e at agree is =
     let size = at.sized.marks in
     rows_set a k (marked k ev r t c m) rows t (row_marked (row_at rows t) c m) lt (omega (arith, lt, most)) agree
     record {
-      state = subst (TakenAs (marked k ev r t c m) t) (sym (sym (state_at rows t) ∙ is)) retired.1;
+      state = had.state;
       marks = ap (λ (ms : List Mark). set ms c m) had.marks ∙ sym (row_here k.marks t c m (omega (arith, lt, size)));
       total = had.total;
       keeps = had.keeps;
       unused = had.unused;
     }
-    (λ u off was. row_stays k (marked k ev r t c m) u (row_at rows u) at.rest refl refl (row_other k.marks t c m u off) refl refl was)
+    (λ u off was. row_stays k (marked k ev r t c m) u (row_at rows u) refl (row_other k.marks t c m u off) refl refl was)
 
 -- the mark in a retired slot's row is the mark in the view
 row_mark : (a : Settings) (k : KeeperView) (rows : List KeptSlot) (t c : ℕ) (e : Entry) → RowsAgree a k rows → slot_at (states_of rows) t ≡ Retired e → get_or (row_at rows t).marks c no_mark ≡ mark_at k.marks t c
@@ -169,13 +169,13 @@ vacated_keeper z a table table' k l its rows n t our is same change is_shown =
       changes = our.changes ∙ sym (ap (λ (y : KeeperView). length y.history) change);
       rows = subst (λ (y : KeeperView). RowsAgree a y after) (sym change) (rows_set a k m rows t (row_vacated (row_at rows t)) lt (omega (arith, lt, most)) our.rows
           record {
-            state = inl (slot_here k.slots t Vacant (omega (arith, lt, size)));
+            state = slot_here k.slots t Vacant (omega (arith, lt, size));
             marks = had.marks;
             total = had.total;
             keeps = had.keeps;
             unused = λ vacant. had.total ∙ is.drained.total;
           }
-          (λ u off was. row_stays k m u (row_at rows u) our.view.rest refl (slot_other k.slots t Vacant u off) refl refl refl was));
+          (λ u off was. row_stays k m u (row_at rows u) (slot_other k.slots t Vacant u off) refl refl refl was));
     }
 
 -- what it leaves of the keeper

@@ -91,7 +91,6 @@ fn store_row(words: &Words, seat: &mut KeeperSeat, entry: &Entry)
 fn store_counts(words: &Words, seat: &mut KeeperSeat, slot: u8, cpus: u8)
     requires table { seat.old.table ≡ words.now.table }
     requires may { MayWrite seat.old.view slot }
-    requires vacant { slot_at seat.old.view.slots slot ≡ Vacant }
     requires sized { AreSized seat.old.view.settings.slots seat.old.view }
     requires fit { (seat.old.view.settings.slots ≤ 32) × (cpus ≡ seat.old.view.settings.cpus) × (cpus ≤ 8) }
     ensures table { seat.new.table ≡ seat.old.table }
