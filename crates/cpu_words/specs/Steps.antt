@@ -6,6 +6,7 @@ use Rattle.atomic_table.specs.Table.{State as Table, keeps, stepped}
 use Rattle.registry_values.specs.declared.settings.Settings.{Settings}
 use Rattle.protocol.specs.declared.event.Event.{Event}
 use Rattle.protocol.specs.declared.event.Reply.{Reply}
+use Rattle.protocol.specs.declared.event.Reply.TheVariants.{Done}
 use Rattle.protocol.specs.State.{State}
 use Rattle.protocol.specs.Events.{step}
 use Rattle.protocol.specs.Invariant.{standing_of}

@@ -37,7 +37,7 @@ use Rattle.cpu_words.proofs.by_keeper.KeeperSees.{seen_by_keeper}
 use Rattle.passive_list.specs.Cpus.{OnCpu}
 use Rattle.passive_list.specs.declared.keeper.KeptSlot.{KeptSlot}
 use Rattle.passive_list.specs.Keepers.{IsAtRest, IsOurKeeper, OnKeeper, RowsAgree, states_of}
-use Rattle.passive_list.proofs.Rows.{state_at}
+use Rattle.passive_list.proofs.Rows.{slots_agree}
 use Rattle.name_registry.specs.Auditing.{AreAllCpus, AreAlike, AreShown, IsAuditOf, IsKeeperOf, IsTallied, acquired_of, is_collected, local_by, local_met, local_of, locals_of, net_met, net_of, released_of, tallies_met, tally, tally_by, tally_met, tally_of}
 use Rattle.name_registry.proofs.Audits.{all_met, each_same}
 
@@ -91,19 +91,11 @@ sums k t n (p ∷ row) (x ∷ xs) a each past =
 
 -- Of a slot in such a state
 
-same_at : (a : Settings) (k : KeeperView) (rows : List KeptSlot) (t : ℕ) → IsAtRest a k → RowsAgree a k rows → slot_at k.slots t ≡ slot_at (states_of rows) t
-same_at a k rows t view agree = ⊎_elim
-    (λ (lt : t < a.slots). (agree.each t lt).state ∙ sym (state_at rows t))
-    (λ (past : a.slots ≤ t).
-    let none : slot_at k.slots t ≡ Vacant = get_or_past k.slots t Vacant (omega (arith, view.sized.slots, past)) in
-    none ∙ sym (state_at rows t ∙ agree.beyond t past))
-    (cases_lt t a.slots)
-
 pub known_keeper : {log : List Deed} (z : TableId) (a : Settings) (table : TableId) (k : KeeperView) (its : Settings) (rows : List KeptSlot) (n : ℕ) (x : OnKeeper) → IsOurKeeper z a table k its rows n → record { view = k; slots = states_of rows; log = log } ≡ x → IsKeeperOf a x
 known_keeper z a table k its rows n x our is = subst (IsKeeperOf a) is record {
   view = our.view;
   is_shown = our.is_shown;
-  slots = λ t. same_at a k rows t our.view our.rows;
+  slots = λ t. slots_agree a k rows t our.view our.rows;
 }
 
 -- an entry that it has in a slot is there in its view

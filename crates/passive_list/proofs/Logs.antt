@@ -13,12 +13,13 @@ use Rattle.protocol.specs.State.{at_rest, mark_at}
 use Rattle.protocol.proofs.slots.MarkRows.{snapshot_stands}
 use Rattle.cpu_words.specs.declared.view.Deed.{Deed}
 use Rattle.cpu_words.specs.declared.view.KeeperView.{KeeperView}
-use Rattle.cpu_words.specs.Deeds.{IsOwnLog}
+use Rattle.cpu_words.specs.Deeds.{occupant_of, IsOwnLog}
+use Rattle.cpu_words.specs.Notes.{keeper_with_heard}
 use Rattle.cpu_words.proofs.by_keeper.KeeperSees.{seen_by_keeper}
 use Rattle.passive_list.specs.declared.keeper.KeptSlot.{KeptSlot}
 use Rattle.passive_list.specs.Keepers.{state_of, states_of, IsOurKeeper}
 use Rattle.passive_list.specs.Logs.{HasOwnLog}
-use Rattle.passive_list.proofs.Rows.{live_in, retired_in, state_at}
+use Rattle.passive_list.proofs.Rows.{live_in, retired_in, slots_agree}
 
 -- the entry of a slot that is retired was snapped on each CPU, as the keeper is at rest
 snapped_at : (z : TableId) (a : Settings) (table : TableId) (k : KeeperView) (its : Settings) (rows : List KeptSlot) (n t c : ℕ) (e : Entry) → IsOurKeeper z a table k its rows n → slot_at k.slots t ≡ Retired e → c < a.cpus
@@ -36,17 +37,19 @@ pub own_log : (z : TableId) (a : Settings) (table : TableId) (k : KeeperView) (i
     → HasOwnLog a (record { view = k; slots = states_of rows; log = log })
 own_log z a table k its rows n log note our own = record {
   settings = our.view.settings;
+  rest = our.view.rest;
   size = length-map rows state_of ∙ our.rows.size;
   changes = own.changes;
   marks = own.marks;
   slots = record {
     live = λ t e is. own.slots.live t e (live_in a k rows t e our.rows is).1;
     retired = λ t e is. own.slots.retired t e (retired_in a k rows t e our.rows is).1;
-    vacant = λ t m c is gone low. ⊎_elim
-        (λ (lt : t < a.slots). own.slots.vacant t m c ((our.rows.each t lt).state ∙ (sym (state_at rows t) ∙ is)) gone (subst (λ (s : Settings). c < s.cpus) (sym our.view.settings) low))
-        (λ (past : a.slots ≤ t). own.slots.vacant t m c (get_or_past k.slots t Vacant (omega (arith, past, our.view.sized.slots))) gone (subst (λ (s : Settings). c < s.cpus) (sym our.view.settings) low))
-        (cases_lt t a.slots);
+    vacant = λ t m c is gone low. own.slots.vacant t m c (slots_agree a k rows t our.view our.rows ∙ is) gone (subst (λ (s : Settings). c < s.cpus) (sym our.view.settings) low);
   };
+  occupants = λ t.
+      let shown = own.counts.1 in
+      let seen = seen_by_keeper shown.g (keeper_with_heard k own.counts.0) shown.good shown.shown in
+      shown.counts.occupants t ∙ ap occupant_of (ap (λ (xs : List Slot). slot_at xs t) (sym seen.slots) ∙ slots_agree a k rows t our.view our.rows);
   snapped = λ t c e is low.
       let w = snapped_at z a table k its rows n t c e our (retired_in a k rows t e our.rows is).1 low in
       (w.0, own.marks.snapped t c w.0 w.1);

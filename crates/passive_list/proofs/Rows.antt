@@ -2,7 +2,7 @@
 use Rattle.std.proofs.Common.{◌≡◌, ◌≢◌, ⊎_elim, ◌||◌, ℕ, zero, suc, ◌<◌, ◌≤◌, List, [], ◌∷◌, length, get_or, set, replicate, None, IsTrue, refl, sym, ap, ◌∙◌, subst, arith, length-set}
 use Rattle.std.specs.List.{list_any}
 use Rattle.std.proofs.lemmas.Bool.{cases_lt}
-use Rattle.std.proofs.lemmas.List.{length-replicate, get_or-replicate}
+use Rattle.std.proofs.lemmas.List.{length-replicate, get_or-replicate, get_or_past}
 use Rattle.registry_values.specs.declared.entry.Entry.{Entry}
 use Rattle.registry_values.specs.declared.settings.Settings.{Settings}
 use Rattle.registry_values.specs.declared.slot.Key.{Key}
@@ -96,6 +96,15 @@ pub taken_in : (a : Settings) (k : KeeperView) (rows : List KeptSlot) (t : ℕ) 
 taken_in a k rows t x agree is some =
     let lt = not_vacant_within a k rows t agree (λ v. some (sym is ∙ v)) in
     (lt, (agree.each t lt).state ∙ (sym (state_at rows t) ∙ is))
+
+-- the keeper has in each slot just what its seat has there
+pub slots_agree : (a : Settings) (k : KeeperView) (rows : List KeptSlot) (t : ℕ) → IsAtRest a k → RowsAgree a k rows → slot_at k.slots t ≡ slot_at (states_of rows) t
+slots_agree a k rows t view agree = ⊎_elim
+    (λ (lt : t < a.slots). (agree.each t lt).state ∙ sym (state_at rows t))
+    (λ (past : a.slots ≤ t).
+    let none : slot_at k.slots t ≡ Vacant = get_or_past k.slots t Vacant (omega (arith, view.sized.slots, past)) in
+    none ∙ sym (state_at rows t ∙ agree.beyond t past))
+    (cases_lt t a.slots)
 
 pub retired_in : (a : Settings) (k : KeeperView) (rows : List KeptSlot) (t : ℕ) (e : Entry) → RowsAgree a k rows → slot_at (states_of rows) t ≡ Retired e → (t < a.slots) × (slot_at k.slots t ≡ Retired e)
 retired_in a k rows t e agree is = taken_in a k rows t (Retired e) agree is (λ v. cc)
