@@ -1,5 +1,5 @@
 -- An attach: what the entry that is given tells, and what the call leaves.
-use Rattle.std.proofs.Common.{◌≡◌, ◌∙◌, ℕ, suc, ◌+◌, ◌≤◌, Bool, true, false, Option, Some, None, List, [], ◌∷◌, ◌++◌, length, Ok, append_assoc, IsTrue, refl, sym, ap, subst, arith, add-one, leb-true}
+use Rattle.std.proofs.Common.{◌≡◌, ◌∙◌, ℕ, suc, ◌+◌, ◌≤◌, Bool, true, false, Option, Some, None, List, ◌∷◌, ◌++◌, length, Ok, append_assoc, IsTrue, refl, sym, ap, subst, arith, add-one, leb-true}
 use Rattle.std.specs.Prelude.{◌≢◌, ◌↔◌, is_some}
 use Rattle.std.specs.List.{zip}
 use Rattle.std.proofs.lemmas.Option.{none-some}
@@ -23,11 +23,9 @@ use Rattle.protocol.specs.Events.{keeps_rightly}
 use Rattle.protocol.specs.History.{after_change}
 use Rattle.protocol.specs.State.{kept_at}
 use Rattle.cpu_words.specs.declared.view.Deed.{Deed}
-use Rattle.cpu_words.specs.declared.view.KeeperView.{KeeperView}
 use Rattle.cpu_words.specs.Deeds.{IsAttachedKeeping}
 use Rattle.cpu_words.specs.Rule.{did}
 use Rattle.cpu_words.specs.declared.view.ReferenceView.{ReferenceView}
-use Rattle.cpu_words.specs.Keeping.{keeper_after_keep}
 use Rattle.passive_list.specs.Cpus.{OnCpu}
 use Rattle.passive_list.specs.Keepers.{OnKeeper}
 use Rattle.passive_list.specs.Notes.{HasHeardOn}

@@ -1,9 +1,6 @@
-use Rattle.std.proofs.Common.{◌∙◌, ◌<◌, Result, Ok, IfOk, refl, sym, ap, subst, List}
+use Rattle.std.proofs.Common.{◌∙◌, ◌<◌, Result, Ok, IfOk, refl, sym, ap, subst}
 use Rattle.registry_values.specs.declared.entry.Entry.{Entry}
 use Rattle.registry_values.specs.declared.refusal.Refusal.{Refusal}
-use Rattle.registry_values.specs.declared.entry.Change.{Change}
-use Rattle.registry_values.specs.declared.entry.Change.TheVariants.{Attach}
-use Rattle.protocol.specs.History.{after_change}
 use Rattle.registry_values.specs.Answers.{attach_answer}
 use Rattle.registry_values.specs.Slots.{is_iface}
 use Rattle.cpu_words.specs.declared.view.KeeperView.{KeeperView}
