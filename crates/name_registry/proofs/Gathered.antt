@@ -20,6 +20,7 @@ use Rattle.passive_list.specs.Notes.{HasHeardOn, WasShown}
 use Rattle.name_registry.specs.Meeting.{HasLearned}
 use Rattle.name_registry.specs.Auditing.{AreAllCpus, AreAlike, HasListened, HaveLearned, IsShownOn, local_met, tallies_met, tally_by, tally_met}
 use Rattle.name_registry.proofs.Audits.{each_same}
+use Rattle.name_registry.proofs.Worked.{prefix_on}
 
 at_within : (l : List OnCpu) (i : ℕ) (a : OnCpu) → get_elem? l i ≡ some a → i < length l
 at_within [] i a e = absurd (some-ne-none a (sym e))
@@ -27,9 +28,6 @@ at_within (x ∷ xs) zero a e = omega arith
 at_within (x ∷ xs) (suc i) a e = let h = at_within xs i a e in omega (arith, h)
 
 -- Prefixes
-
-prefix_on : (a b c : List Deed) → IsPrefix a b → IsPrefix b c → IsPrefix a c
-prefix_on a b c first second = (first.0 ++ second.0, sym (append_assoc a first.0 second.0) ∙ (ap (λ (l : List Deed). l ++ second.0) first.1 ∙ second.1))
 
 -- what goes on from a list and begins it is that list
 prefix_both : (a b : List Deed) → IsPrefix a b → IsPrefix b a → a ≡ b
@@ -47,6 +45,7 @@ pub record Gathered (xs ys : List OnCpu) (n : ℕ) (log note : List Deed) : Type
   pub told : IsPrefix log note
   pub learned : (c : ℕ) (x y : OnCpu) → c < n → get_elem? xs c ≡ some x → get_elem? ys c ≡ some y → HasLearned x y × (y.made ≡ x.made)
   pub shown : (c : ℕ) (x : OnCpu) → c < n → get_elem? xs c ≡ some x → (d : List Deed) × IsPrefix log d × IsPrefix d note × IsShownOn d x
+  pub knows : (c : ℕ) (y : OnCpu) → c < n → get_elem? ys c ≡ some y → IsPrefix log y.deeds × IsPrefix y.deeds note
   pub rest : (c : ℕ) → n ≤ c → get_elem? ys c ≡ get_elem? xs c
 
 pub gathered_none : (xs : List OnCpu) (log note : List Deed) → note ≡ log → Gathered xs xs 0 log note
@@ -55,6 +54,7 @@ gathered_none xs log note is = record {
   told = ([], append-nil log ∙ sym is);
   learned = λ c x y lt was now. absurd (omega (arith, lt));
   shown = λ c x lt at. absurd (omega (arith, lt));
+  knows = λ c y lt at. absurd (omega (arith, lt));
   rest = λ c le. refl;
 }
 
@@ -82,7 +82,7 @@ gathered_more xs ys n log note told h x y so_far at heard knows shown is =
     let mine : get_elem? xs n ≡ some x = sym (so_far.rest n (omega arith)) ∙ at in
     record {
       size = length-set ys n y ∙ so_far.size;
-      told = prefix_on log note told so_far.told next;
+      told = prefix_on so_far.told next;
       learned = λ c u v lt was now. ⊎_elim
           (λ (p : (c ≡ n) × (y ≡ v)).
           let same : x ≡ u = some-injective x u (sym mine ∙ (ap (get_elem? xs) (sym p.0) ∙ was)) in
@@ -92,25 +92,33 @@ gathered_more xs ys n log note told h x y so_far at heard knows shown is =
       shown = λ c u lt was. ⊎_elim
           (λ (same : c ≡ n).
           let one : x ≡ u = some-injective x u (sym mine ∙ (ap (get_elem? xs) (sym same) ∙ was)) in
-          (told, prefix_on log note told so_far.told next, ([], append-nil told), subst (IsShownOn told) one (h, subst (λ (d : List Deed). IsShownAfter d (Cpu (with_heard x.view h))) (sym is) shown)))
+          (told, prefix_on so_far.told next, ([], append-nil told), subst (IsShownOn told) one (h, subst (λ (d : List Deed). IsShownAfter d (Cpu (with_heard x.view h))) (sym is) shown)))
           (λ (off : c ≡ n → ⊥).
           let p = so_far.shown c u (omega (arith, lt, off)) was in
-          (p.0, p.1, prefix_on p.0 note told p.2 next, p.3))
+          (p.0, p.1, prefix_on p.2 next, p.3))
           (cases_eq c n);
+      knows = λ c v lt now. ⊎_elim
+          (λ (p : (c ≡ n) × (y ≡ v)). subst (λ (z : OnCpu). IsPrefix log z.deeds × IsPrefix z.deeds told) p.1 (prefix_on so_far.told knows, subst (IsPrefix y.deeds) (sym is) ([], append-nil y.deeds)))
+          (λ (p : (c ≢ n) × (get_elem? ys c ≡ some v)). let had = so_far.knows c v (let off = p.0 in omega (arith, lt, off)) p.1 in (had.0, prefix_on had.1 next))
+          (at_set ys n c y v now);
       rest = λ c le. past_set ys n c y (λ same. omega (arith, le, same)) ∙ so_far.rest c (omega (arith, le));
     }
 
 -- all have heard, and the keeper has heard the last one
-pub gathered_alike : (z : Settings) (a k : OnKeeper) (xs ys : List OnCpu) (n : ℕ) (log note : List Deed) → Gathered xs ys n k.log note → length ys ≤ n → k ≡ record a { log = log } → IsPrefix note k.log → HasOwnLog z k → AreAlike a xs
+pub gathered_alike : (z : Settings) (a k : OnKeeper) (xs ys : List OnCpu) (n : ℕ) (log note : List Deed) → Gathered xs ys n k.log note → length ys ≤ n → k ≡ record a { log = log } → IsPrefix note k.log → HasOwnLog z k → AreAlike a xs ys
 gathered_alike z a k xs ys n log note all done is back own =
     record {
       log = k.log;
+      known = λ c y at.
+          let low = at_within ys c y at in
+          let p = all.knows c y (omega (arith, low, done)) at in
+          prefix_both y.deeds k.log (prefix_on p.1 back) p.0;
       keeper = (own.counts.0, subst (λ (v : KeeperView). IsShownAfter k.log (Keeper (keeper_with_heard v own.counts.0))) (ap (λ (x : OnKeeper). x.view) is) own.counts.1);
       cpus = λ c x at.
           let low = at_within xs c x at in
           let size = all.size in
           let p = all.shown c x (omega (arith, low, size, done)) at in
-          let same : p.0 ≡ k.log = prefix_both p.0 k.log (prefix_on p.0 note k.log p.2 back) p.1 in
+          let same : p.0 ≡ k.log = prefix_both p.0 k.log (prefix_on p.2 back) p.1 in
           subst (λ (d : List Deed). IsShownOn d x) same p.3;
     }
 

@@ -14,6 +14,7 @@ pub mod Worked
 pub mod Seen
 pub mod Placed
 pub mod Tallies
+pub mod ByLog
 pub mod Turned
 pub mod Opened
 pub mod Owned

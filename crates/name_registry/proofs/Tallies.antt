@@ -179,7 +179,7 @@ own_net g x t e had here = dite (ℕ_discrete (number_at x.view.met t) e.number)
     let net = place_is g x.view t e bias had here place in
     ap (λ b. cond b (net_of e.number x) (pos 0)) (ne_eqb (number_at x.view.met t) e.number off) ∙ omega (arith, ints, net))
 
-locals_same : (f h : OnCpu → ℤ) (xs : List OnCpu) → ((c : ℕ) (x : OnCpu) → get_elem? xs c ≡ some x → f x ≡ h x) → map f xs ≡ map h xs
+pub locals_same : (f h : OnCpu → ℤ) (xs : List OnCpu) → ((c : ℕ) (x : OnCpu) → get_elem? xs c ≡ some x → f x ≡ h x) → map f xs ≡ map h xs
 locals_same f h [] each = refl
 locals_same f h (x ∷ xs) each = let one = each 0 x refl in let rest = locals_same f h xs (λ c y at. each (suc c) y at) in λ i. one i ∷ rest i
 
@@ -193,7 +193,7 @@ own_tally a k xs g t e known shown is =
 
 -- Where a state of its own shows each view, and the keeper had done just the same in all of them
 
-in_occupant : (e : Entry) (x : Slot) → IsIn e x → occupant_of x ≡ Some e.number
+pub in_occupant : (e : Entry) (x : Slot) → IsIn e x → occupant_of x ≡ Some e.number
 in_occupant e x is = ⊎_elim (λ (live : x ≡ Live e). ap occupant_of live) (λ (gone : x ≡ Retired e). ap occupant_of gone) is
 
 occupant_in : (n : ℕ) (x : Slot) → occupant_of x ≡ Some n → (d : Entry) × IsIn d x × (d.number ≡ n)
@@ -215,7 +215,7 @@ drawn_too log g f t c own other on =
     let mine : word_in g t c ≡ Some (count_at g.nets c t) = ap (λ (b : Bool). word_if b (count_at g.nets c t)) on in
     (word_some (is_drawn f t c) (count_at f.nets c t) (count_at g.nets c t) (sym (other.words t c) ∙ (own.words t c ∙ mine))).1
 
-module _ (a : Settings) (k : OnKeeper) (xs : List OnCpu) (known : IsKeeperOf a k) (all : AreAllCpus a.cpus xs) (alike : AreAlike k xs) (t : ℕ) (e : Entry) (is : IsIn e (slot_at k.slots t)) where
+module _ (a : Settings) (k : OnKeeper) (xs ys : List OnCpu) (known : IsKeeperOf a k) (all : AreAllCpus a.cpus xs) (alike : AreAlike k xs ys) (t : ℕ) (e : Entry) (is : IsIn e (slot_at k.slots t)) where
   here : IsIn e (slot_at alike.keeper.1.g.slots t)
   here = let seen = seen_by_keeper alike.keeper.1.g (keeper_with_heard k.view alike.keeper.0) alike.keeper.1.good alike.keeper.1.shown in
       subst (λ (y : List Slot). IsIn e (slot_at y t)) seen.slots (there_too a k t e known is)
@@ -246,11 +246,11 @@ module _ (a : Settings) (k : OnKeeper) (xs : List OnCpu) (known : IsKeeperOf a k
 
 -- What is shown of the list
 
-pub audit_right : (a : Settings) (k : OnKeeper) (xs : List OnCpu) (list : List Balance) → IsKeeperOf a k → AreAllCpus a.cpus xs → AreAlike k xs → map tally_shown list ≡ tallies_met k xs a.slots → IsAuditOf a k xs list
-audit_right a k xs list known all alike met = record {
+pub audit_right : (a : Settings) (k : OnKeeper) (xs ys : List OnCpu) (list : List Balance) → IsKeeperOf a k → AreAllCpus a.cpus xs → AreAlike k xs ys → map tally_shown list ≡ tallies_met k xs a.slots → IsAuditOf a k xs list
+audit_right a k xs ys list known all alike met = record {
   keeper = known;
   met = met;
-  answer = met ∙ each_same (tally_met k xs) (tally_of k xs) k.slots a.slots (λ t e there. alike_tally a k xs known all alike t e there);
+  answer = met ∙ each_same (tally_met k xs) (tally_of k xs) k.slots a.slots (λ t e there. alike_tally a k xs ys known all alike t e there);
   tally = all_met (IsTallied k xs) k xs a.slots list met
-      (λ t e there. ap (λ (y : Tally). y.held) (alike_tally a k xs known all alike t e there) ∙ alike_held a k xs known all alike t e there);
+      (λ t e there. ap (λ (y : Tally). y.held) (alike_tally a k xs ys known all alike t e there) ∙ alike_held a k xs ys known all alike t e there);
 }

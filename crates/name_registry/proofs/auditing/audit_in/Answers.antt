@@ -3,6 +3,7 @@ use Rattle.std.proofs.Common.{◌∙◌, subst}
 use Rattle.registry_values.specs.declared.settings.Settings.{Settings}
 use Rattle.name_registry.specs.Auditing.{AreAllCpus}
 use Rattle.name_registry.proofs.Audits.{counts_met, places_met, sums_met}
+use Rattle.name_registry.proofs.ByLog.{audit_known}
 use Rattle.name_registry.proofs.Gathered.{listened_none, tallies_learned}
 use Rattle.name_registry.proofs.Tallies.{audit_right, known_keeper}
 use Rattle.name_registry.proofs.auditing.audit_in.Goals as goal
@@ -21,7 +22,12 @@ returns-in-Ok-clause-locals g c =
 pub returns-in-Ok-clause-answer : goal.returns-in-Ok-clause-answer
 returns-in-Ok-clause-answer g c =
     let all = subst (λ (z : Settings). AreAllCpus z.cpus c.args.cpus.now) c.keeper.invariant.settings (c.are_all.ensures.0 c.if-not-are_all.false) in
-    audit_right g.D.Domain.settings c.args.keeper.now c.args.cpus.now c.in-Ok.list.items (known_keeper _ _ _ _ _ _ _ _ c.keeper.invariant c.keeper.view_is) all c.gather.ensures.alike (c.in-Ok.ensures.value ∙ tallies_learned _ _ _ _ g.D.Domain.settings.slots c.gather.ensures.keeper c.gather.ensures.cpus)
+    audit_right g.D.Domain.settings c.args.keeper.now c.args.cpus.now c.gather.new.cpus c.in-Ok.list.items (known_keeper _ _ _ _ _ _ _ _ c.keeper.invariant c.keeper.view_is) all c.gather.ensures.alike (c.in-Ok.ensures.value ∙ tallies_learned _ _ _ _ g.D.Domain.settings.slots c.gather.ensures.keeper c.gather.ensures.cpus)
+
+pub returns-in-Ok-clause-known : goal.returns-in-Ok-clause-known
+returns-in-Ok-clause-known g c =
+    let all = subst (λ (z : Settings). AreAllCpus z.cpus c.args.cpus.now) c.keeper.invariant.settings (c.are_all.ensures.0 c.if-not-are_all.false) in
+    audit_known g.D.Domain.settings c.args.keeper.now c.args.cpus.now c.gather.new.cpus c.in-Ok.list.items (known_keeper _ _ _ _ _ _ _ _ c.keeper.invariant c.keeper.view_is) all c.gather.ensures.alike (returns-in-Ok-clause-answer g c)
 
 pub returns-then-not-are_all-clause-keeper : goal.returns-then-not-are_all-clause-keeper
 returns-then-not-are_all-clause-keeper g c = listened_none c.args.keeper.now
