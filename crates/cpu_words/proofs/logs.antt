@@ -12,5 +12,6 @@ pub mod Walks
 pub mod Standings
 pub mod Slots
 pub mod Kept
+pub mod Totalled
 pub mod Known
 pub mod Growing

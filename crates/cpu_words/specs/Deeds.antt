@@ -298,6 +298,7 @@ pub record IsShownAfter (log : List Deed) (v : View) : Type 0 where
   pub good : Good g
   pub shown : Shown g v
   pub counts : AreCountsOf log g
+  pub totals : AreTotalsOf log g
 
 -- The keeper's log has what the note told, the history is as long as the log says, its marks and slots are in it, and the words that it found grow
 pub record IsOwnLog (log : List Deed) (note : List Deed) (k : KeeperView) : Type 0 where

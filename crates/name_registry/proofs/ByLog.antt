@@ -16,7 +16,9 @@ use Rattle.protocol.specs.State.{State, count_at, mark_at, total_at}
 use Rattle.cpu_words.specs.declared.view.Deed.{Deed}
 use Rattle.cpu_words.specs.Deeds.{given_up, is_drawn, occupant, occupant_of, sum_collected, word_collected, word_if, words_collected}
 use Rattle.cpu_words.specs.Notes.{keeper_with_heard}
+use Rattle.cpu_words.specs.Views.{number_at}
 use Rattle.cpu_words.proofs.by_keeper.KeeperSees.{seen_by_keeper}
+use Rattle.cpu_words.proofs.logs.Totalled.{given_by_log}
 use Rattle.passive_list.specs.Cpus.{OnCpu}
 use Rattle.passive_list.specs.Keepers.{OnKeeper}
 use Rattle.name_registry.specs.Auditing.{AreAllCpus, AreAlike, IsAuditBy, IsAuditOf, IsKeeperOf, acquired_of, audited, audited_at, audited_below, each_at, each_below, is_collected, local_in, local_of, net_of, net_unless, released_of, tallies_below, tallies_met, tally, tally_in, tally_of, total_in}
@@ -65,7 +67,7 @@ module _ (a : Settings) (k : OnKeeper) (xs ys : List OnCpu) (known : IsKeeperOf 
   pub audited_is : (t : ℕ) (e : Entry) → IsIn e (slot_at k.slots t) → audited log xs e.number t ≡ tally_of k xs e.number t
   audited_is t e is =
       let has : occupant t log ≡ Some e.number = by_log t ∙ in_occupant e (slot_at k.slots t) is in
-      let given : number_at k.view.given_up e.number ≡ given_up e.number log = given_by_log log g (keeper_with_heard k.view alike.keeper.0) t e alike.keeper.1 known.view.rest (subst (IsIn e) (same_slot t) is) in
+      let given : number_at k.view.given_up e.number ≡ given_up e.number log = given_by_log log g (keeper_with_heard k.view alike.keeper.0) t e.number alike.keeper.1.good alike.keeper.1.shown alike.keeper.1.counts alike.keeper.1.totals (sym seen.due ∙ known.view.rest) has in
       let locals = locals_same (local_in log t e.number) (local_of k t e.number) xs (λ c x at. local t e.number x) in
       let held : tally_in log xs e.number ≡ (tally_of k xs e.number t).held =
       ap (λ (m : ℕ). pos (sum_by (acquired_of e.number) xs) -ℤ pos (sum_by (released_of e.number) xs + m)) (sym given) ∙ sym (alike_held a k xs ys known all alike t e is) in

@@ -148,7 +148,7 @@ number_in_history : (g : State) (t : ℕ) (e : Entry) → Good g → IsIn e (slo
 number_in_history g t e good here = (at_within g.history e.number (Attach e) (attached_in g.history g.slots t e good.holds.slots here).0).1
 
 -- 1 at the slot t, where a subtraction is due, and 0 at the others
-abbrev one_due : ℕ → ℕ → ℕ
+abbrev pub one_due : ℕ → ℕ → ℕ
 one_due t u = subtraction_due_at u (Subtracting t)
 
 -- one more reference to the entry e of t is given up: what is counted of all occupants
@@ -169,7 +169,7 @@ one_given g t e given_up good here u f there =
     (cases_eq u t)
 
 -- the total of t is one less: what the totals of all slots were
-one_subtracted : (totals : List ℕ) (t : ℕ) → t < length totals → 0 < total_at totals t → (u : ℕ) → total_at (set totals t (total_at totals t - 1)) u + one_due t u ≡ total_at totals u
+pub one_subtracted : (totals : List ℕ) (t : ℕ) → t < length totals → 0 < total_at totals t → (u : ℕ) → total_at (set totals t (total_at totals t - 1)) u + one_due t u ≡ total_at totals u
 one_subtracted totals t lt some_left u = ⊎_elim
     (λ (is : u ≡ t).
     let new = ap (total_at (set totals t (total_at totals t - 1))) is ∙ total_here totals t (total_at totals t - 1) lt in

@@ -71,7 +71,7 @@ on_either s e false t u r q first second = second
 
 -- Words
 
-no_word : (s : State) (u d : ℕ) → is_drawn s u d ≡ false → word_in s u d ≡ None
+pub no_word : (s : State) (u d : ℕ) → is_drawn s u d ≡ false → word_in s u d ≡ None
 no_word s u d is = ap (λ (b : Bool). word_if b (count_at s.nets d u)) is
 
 same_word : (s n : State) (u d : ℕ) → is_drawn n u d ≡ is_drawn s u d → (is_drawn s u d ≡ true → count_at n.nets d u ≡ count_at s.nets d u) → word_in n u d ≡ word_in s u d
@@ -81,10 +81,10 @@ same_word s n u d same nets = by (is_drawn s u d) refl
     by true is = let net = nets is in λ k. word_if (same k) (net k)
     by false is = no_word n u d (same ∙ is) ∙ sym (no_word s u d is)
 
-undrawn_slot : (s : State) (u d : ℕ) → is_retired (slot_at s.slots u) ≡ false → is_drawn s u d ≡ false
+pub undrawn_slot : (s : State) (u d : ℕ) → is_retired (slot_at s.slots u) ≡ false → is_drawn s u d ≡ false
 undrawn_slot s u d is = ap (λ (b : Bool). b && (mark_at s.marks u d).collected) is
 
-undrawn_mark : (s : State) (u d : ℕ) → (mark_at s.marks u d).collected ≡ false → is_drawn s u d ≡ false
+pub undrawn_mark : (s : State) (u d : ℕ) → (mark_at s.marks u d).collected ≡ false → is_drawn s u d ≡ false
 undrawn_mark s u d is = by (is_retired (slot_at s.slots u)) refl
   where
     by : (b : Bool) → is_retired (slot_at s.slots u) ≡ b → is_drawn s u d ≡ false
@@ -378,15 +378,22 @@ word_both : (t c : ℕ) (x : Option ℕ) (a b : List Deed) → word_from t c x (
 word_both t c x [] b = refl
 word_both t c x (d ∷ ds) b = word_both t c (word_after t c d.event d.reply x) ds b
 
+-- by the keeper's next deed
+
+pub occupant_next : (t : ℕ) (log : List Deed) (s : State) (e : Event) (r : Reply) → occupant t (log ++ deed_of s e r ∷ []) ≡ occupant_after t (changes_in log) e (occupant t log)
+occupant_next t log s e r = occupant_last t log (deed_of s e r) ∙ unnamed_occupant t (changes_in log) s e (occupant t log)
+
+pub word_next : (t c : ℕ) (log : List Deed) (s : State) (e : Event) (r : Reply) → word_collected t c (log ++ deed_of s e r ∷ []) ≡ word_after t c e r (word_collected t c log)
+word_next t c log s e r = word_both t c None log (deed_of s e r ∷ []) ∙ unnamed_word t c s e r (word_collected t c log)
+
 -- The walk
 
 -- the keeper's next deed
 pub counts_own : (log : List Deed) (s : State) (e : Event) (o : Outcome) → Holds s → step s e ≡ Some o → length s.history ≡ changes_in log → AreCountsOf log s → AreCountsOf (log ++ deed_of s e o.reply ∷ []) o.state
 counts_own log s e o on made changes are =
-    let d : Deed = deed_of s e o.reply in
     let does : Counted s e (Some o) = subst (Counted s e) made (step_counted s e on) in record {
-      occupants = λ t. occupant_last t log d ∙ (unnamed_occupant t (changes_in log) s e (occupant t log) ∙ ((λ k. occupant_after t (sym changes k) e (are.occupants t k)) ∙ sym (does.0 t)));
-      words = λ t c. word_both t c None log (d ∷ []) ∙ (unnamed_word t c s e o.reply (word_collected t c log) ∙ (ap (word_after t c e o.reply) (are.words t c) ∙ sym (does.1 t c)));
+      occupants = λ t. occupant_next t log s e o.reply ∙ ((λ k. occupant_after t (sym changes k) e (are.occupants t k)) ∙ sym (does.0 t));
+      words = λ t c. word_next t c log s e o.reply ∙ (ap (word_after t c e o.reply) (are.words t c) ∙ sym (does.1 t c));
     }
 
 occupant_off : (seat : ℕ → ℕ) (n i u m : ℕ) (s : State) (e : Event) (x : Option ℕ) → IsSeatOf seat n i (maker (by_number s e)) → (i ≡ 0 → ⊥) → occupant_after u m e x ≡ x

@@ -18,7 +18,7 @@ use Rattle.protocol.proofs.slots.Cells.{cell_cases, cell_other}
 use Rattle.protocol.proofs.slots.MarkRows.{mark_there}
 use Rattle.cpu_words.specs.declared.view.Deed.{Deed}
 use Rattle.cpu_words.specs.Rule.{by_number}
-use Rattle.cpu_words.specs.Deeds.{changes_of, changes_in, AreCountsOf, AreMarksOf, AreSlotsOf, keeping}
+use Rattle.cpu_words.specs.Deeds.{changes_of, changes_in, AreCountsOf, AreTotalsOf, AreMarksOf, AreSlotsOf, keeping}
 use Rattle.cpu_words.specs.Logs.{maker, IsSeatOf}
 use Rattle.cpu_words.proofs.logs.Changes.{Grows, step_grows, unnamed_changes}
 use Rattle.cpu_words.proofs.logs.Kept.{kept_own, kept_off}
@@ -28,6 +28,7 @@ use Rattle.cpu_words.proofs.logs.Marks.{Marks, IsFirst, marks_after, step_marks,
 use Rattle.cpu_words.proofs.logs.Runs.{deed_of}
 use Rattle.cpu_words.proofs.logs.Slots.{slots_own, slots_off, no_slots}
 use Rattle.cpu_words.proofs.logs.Standings.{changes_last}
+use Rattle.cpu_words.proofs.logs.Totalled.{totals_own, totals_off, no_totals}
 use Rattle.cpu_words.proofs.logs.Walks.{Stays}
 
 -- a snapshot that is due wasn't taken yet
@@ -42,6 +43,7 @@ pub record Known (cpus : ℕ) (log : List Deed) (s : State) : Type 0 where
   pub kept : (t : ℕ) → kept_at s.keeps t ≡ keeping t log
   pub ahead : NoneAhead s.due s.marks
   pub counts : AreCountsOf log s
+  pub totals : AreTotalsOf log s
 
 -- Snapshots that are due
 
@@ -109,6 +111,7 @@ known_own cpus log s e o on made known =
       kept = λ t. kept_own log s e o on made known.kept t;
       ahead = subst (NoneAhead o.state.due) (sym marks.0) (ahead_after s e o.state dues.1 known.ahead);
       counts = counts_own log s e o on made known.changes known.counts;
+      totals = totals_own log s e o on made (record { changes = known.changes; kept = known.kept; counts = known.counts; totals = known.totals });
     }
 
 changes_off : (seat : ℕ → ℕ) (n i : ℕ) (s : State) (e : Event) (m : ℕ) → IsSeatOf seat n i (maker (by_number s e)) → i ≢ 0 → changes_of e m ≡ m
@@ -137,6 +140,7 @@ known_off seat n cpus i log s e o is off on made known =
       kept = λ t. ap (λ (k : List (Option ℕ)). kept_at k t) (kept_off seat n i s e o is off on made) ∙ known.kept t;
       ahead = subst (NoneAhead o.state.due) (sym same) (same_snapshots s.due o.state.due s.marks s.marks (due_off seat n i s e o.state is off dues.1) (λ u j. refl) known.ahead);
       counts = counts_off seat n i log s e o is off on made known.counts;
+      totals = totals_off seat n i log s e o is off made known.totals;
     }
 
 pub known_stays : (seat : ℕ → ℕ) (n cpus : ℕ) → Stays seat n (Known cpus)
@@ -147,4 +151,4 @@ known_stays seat n cpus = record {
 
 -- before all events
 pub known_first : (z : Settings) → Known z.cpus [] (opening z)
-known_first z = record { settings = refl; changes = refl; marks = no_marks z; slots = no_slots z; kept = λ t. Rattle.protocol.proofs.slots.Cells.get_or_all z.slots None t; counts = no_counts z; ahead = λ t c j is le. absurd (let q : Rest ≡ Snapshots t c = is in cc) }
+known_first z = record { settings = refl; changes = refl; marks = no_marks z; slots = no_slots z; kept = λ t. Rattle.protocol.proofs.slots.Cells.get_or_all z.slots None t; counts = no_counts z; totals = no_totals z; ahead = λ t c j is le. absurd (let q : Rest ≡ Snapshots t c = is in cc) }

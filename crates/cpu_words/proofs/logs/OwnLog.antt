@@ -74,11 +74,13 @@ log_known z s r = subst (Known z.cpus (part 0 r.acts)) (sym r.run.reached.run)
 -- a state that shows a seat's view is one in which the keeper had done just what it did
 pub shown_after : (z : Settings) (v : View) (l : Logged) (s : Table ℕ Logged) (r : LoggedRuled z s) (i : ℕ) → get_elem? s.views i ≡ some (record l { view = v }) → IsShownAfter (part 0 r.acts) v
 shown_after z v l s r i at =
-    let its = r.run.shows.fits i v (at_map (λ (x : Logged). x.view) s.views i (record l { view = v }) at) in record {
+    let its = r.run.shows.fits i v (at_map (λ (x : Logged). x.view) s.views i (record l { view = v }) at) in
+    let known = log_known z s r in record {
       g = r.run.g;
       good = r.run.good;
       shown = its.1;
-      counts = (log_known z s r).counts;
+      counts = known.counts;
+      totals = known.totals;
     }
 
 pub own_log : (z : Settings) (k : KeeperView) (l : Logged) (s : Table ℕ Logged) (r : LoggedRuled z s) (i : ℕ) → get_elem? s.views i ≡ some (record l { view = Keeper k }) → IsOwnLog l.log l.laid k
