@@ -1,5 +1,6 @@
 -- What an audit answers is said by the keeper's log and the CPUs alone.
-use Rattle.std.proofs.Common.{◌≡◌, ◌∙◌, ⊎_elim, inl, inr, ℕ, zero, suc, ◌+◌, ◌*◌, ℤ, pos, ◌+ℤ◌, ◌-ℤ◌, ints, Bool, true, false, ◌&&◌, if◌then◌else◌, List, [], ◌∷◌, ◌++◌, map, sum_by, Option, Some, None, refl, sym, ap, subst, arith}
+use Rattle.std.proofs.Common.{◌≡◌, ◌∙◌, ⊎_elim, inl, inr, ℕ, zero, suc, ◌+◌, ◌*◌, ℤ, pos, ◌+ℤ◌, ◌-ℤ◌, Bool, true, false, ◌&&◌, if◌then◌else◌, List, [], ◌∷◌, ◌++◌, map, sum_by, Option, Some, None, refl, sym, ap, subst, arith}
+use Rattle.std.proofs.lemmas.Int.{ints}
 use mathlib.Core.Option.{some}
 use lib.ListN.{get_elem?}
 use Rattle.registry_values.specs.declared.balance.Balance.{Balance}
@@ -17,7 +18,7 @@ use Rattle.cpu_words.specs.declared.view.Deed.{Deed}
 use Rattle.cpu_words.specs.Deeds.{given_up, is_drawn, occupant, occupant_of, sum_collected, word_collected, word_if, words_collected}
 use Rattle.cpu_words.specs.Notes.{keeper_with_heard}
 use Rattle.cpu_words.specs.Views.{number_at}
-use Rattle.cpu_words.proofs.by_keeper.KeeperSees.{seen_by_keeper}
+use Rattle.cpu_words.proofs.by_keeper.KeeperSees.{SeenByKeeper, seen_by_keeper}
 use Rattle.cpu_words.proofs.logs.Totalled.{given_by_log}
 use Rattle.passive_list.specs.Cpus.{OnCpu}
 use Rattle.passive_list.specs.Keepers.{OnKeeper}
@@ -30,12 +31,13 @@ unless_if true w net = refl
 unless_if false w net = refl
 
 module _ (a : Settings) (k : OnKeeper) (xs ys : List OnCpu) (known : IsKeeperOf a k) (all : AreAllCpus a.cpus xs) (alike : AreAlike k xs ys) where
-  g : State
+  abbrev g : State
   g = alike.keeper.1.g
 
-  log : List Deed
+  abbrev pub log : List Deed
   log = alike.log
 
+  seen : SeenByKeeper alike.keeper.1.g (keeper_with_heard k.view alike.keeper.0)
   seen = seen_by_keeper alike.keeper.1.g (keeper_with_heard k.view alike.keeper.0) alike.keeper.1.good alike.keeper.1.shown
 
   -- a slot of the keeper's is the state's

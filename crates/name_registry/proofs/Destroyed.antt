@@ -1,5 +1,5 @@
 -- What a caller keeps of the turns of a destroy, whatever is known of the keeper between them.
-use Rattle.std.proofs.Common.{◌≡◌, ℕ, zero, suc, ◌<◌, Bool, true, false, inl, ⊎_elim, List, ◌∷◌, ◌++◌, None, Result, Ok, Err, IfOk, IfErr, refl, sym, ap, ◌∙◌, subst, append_assoc}
+use Rattle.std.proofs.Common.{◌≡◌, ℕ, zero, suc, ◌<◌, Bool, true, false, inl, ⊎_elim, List, ◌∷◌, ◌++◌, None, Result, Ok, Err, IfOk, IfErr, refl, sym, ap, ◌∙◌, subst, append_assoc, arith}
 use mathlib.Core.List.{IsPrefix}
 use Rattle.registry_values.specs.declared.entry.Entry.{Entry}
 use Rattle.registry_values.specs.declared.refusal.Refusal.{Refusal}
@@ -132,7 +132,7 @@ turn_since : (z : Settings) (n : ℕ) (x m : OnCpu) (answer : Result Stage Refus
 turn_since z n x m answer y learns turn = record {
   begin = turn.begin;
   log = turn.log;
-  known = prefix_on learns.0.deeds turn.known;
+  known = prefix_on _ _ _ learns.0.deeds turn.known;
   seen = let less = prefix_short x.view.pass m.view.pass learns.0.pass in omega (arith, less, turn.seen);
   on = turn.on;
   heard = turn.heard;

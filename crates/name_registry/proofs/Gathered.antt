@@ -82,7 +82,7 @@ gathered_more xs ys n log note told h x y so_far at heard knows shown is =
     let mine : get_elem? xs n ≡ some x = sym (so_far.rest n (omega arith)) ∙ at in
     record {
       size = length-set ys n y ∙ so_far.size;
-      told = prefix_on so_far.told next;
+      told = prefix_on _ _ _ so_far.told next;
       learned = λ c u v lt was now. ⊎_elim
           (λ (p : (c ≡ n) × (y ≡ v)).
           let same : x ≡ u = some-injective x u (sym mine ∙ (ap (get_elem? xs) (sym p.0) ∙ was)) in
@@ -92,14 +92,14 @@ gathered_more xs ys n log note told h x y so_far at heard knows shown is =
       shown = λ c u lt was. ⊎_elim
           (λ (same : c ≡ n).
           let one : x ≡ u = some-injective x u (sym mine ∙ (ap (get_elem? xs) (sym same) ∙ was)) in
-          (told, prefix_on so_far.told next, ([], append-nil told), subst (IsShownOn told) one (h, subst (λ (d : List Deed). IsShownAfter d (Cpu (with_heard x.view h))) (sym is) shown)))
+          (told, prefix_on _ _ _ so_far.told next, ([], append-nil told), subst (IsShownOn told) one (h, subst (λ (d : List Deed). IsShownAfter d (Cpu (with_heard x.view h))) (sym is) shown)))
           (λ (off : c ≡ n → ⊥).
           let p = so_far.shown c u (omega (arith, lt, off)) was in
-          (p.0, p.1, prefix_on p.2 next, p.3))
+          (p.0, p.1, prefix_on _ _ _ p.2 next, p.3))
           (cases_eq c n);
       knows = λ c v lt now. ⊎_elim
-          (λ (p : (c ≡ n) × (y ≡ v)). subst (λ (z : OnCpu). IsPrefix log z.deeds × IsPrefix z.deeds told) p.1 (prefix_on so_far.told knows, subst (IsPrefix y.deeds) (sym is) ([], append-nil y.deeds)))
-          (λ (p : (c ≢ n) × (get_elem? ys c ≡ some v)). let had = so_far.knows c v (let off = p.0 in omega (arith, lt, off)) p.1 in (had.0, prefix_on had.1 next))
+          (λ (p : (c ≡ n) × (y ≡ v)). subst (λ (z : OnCpu). IsPrefix log z.deeds × IsPrefix z.deeds told) p.1 (prefix_on _ _ _ so_far.told knows, subst (IsPrefix y.deeds) (sym is) ([], append-nil y.deeds)))
+          (λ (p : (c ≢ n) × (get_elem? ys c ≡ some v)). let had = so_far.knows c v (let off = p.0 in omega (arith, lt, off)) p.1 in (had.0, prefix_on _ _ _ had.1 next))
           (at_set ys n c y v now);
       rest = λ c le. past_set ys n c y (λ same. omega (arith, le, same)) ∙ so_far.rest c (omega (arith, le));
     }
@@ -112,13 +112,13 @@ gathered_alike z a k xs ys n log note all done is back own =
       known = λ c y at.
           let low = at_within ys c y at in
           let p = all.knows c y (omega (arith, low, done)) at in
-          prefix_both y.deeds k.log (prefix_on p.1 back) p.0;
+          prefix_both y.deeds k.log (prefix_on _ _ _ p.1 back) p.0;
       keeper = (own.counts.0, subst (λ (v : KeeperView). IsShownAfter k.log (Keeper (keeper_with_heard v own.counts.0))) (ap (λ (x : OnKeeper). x.view) is) own.counts.1);
       cpus = λ c x at.
           let low = at_within xs c x at in
           let size = all.size in
           let p = all.shown c x (omega (arith, low, size, done)) at in
-          let same : p.0 ≡ k.log = prefix_both p.0 k.log (prefix_on p.2 back) p.1 in
+          let same : p.0 ≡ k.log = prefix_both p.0 k.log (prefix_on _ _ _ p.2 back) p.1 in
           subst (λ (d : List Deed). IsShownOn d x) same p.3;
     }
 

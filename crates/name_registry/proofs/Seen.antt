@@ -8,6 +8,8 @@ use Rattle.protocol.specs.declared.event.Reply.TheVariants.{Word}
 use Rattle.registry_values.specs.declared.settings.Settings.{Settings}
 use Rattle.registry_values.specs.declared.mark.Mark.{Mark}
 use Rattle.registry_values.specs.declared.slot.Slot.{Slot}
+use Rattle.registry_values.specs.declared.stage.Stage.{Stage}
+use Rattle.registry_values.specs.declared.stage.Stage.TheVariants.{Grace, Passive, Local, Freed}
 use Rattle.registry_values.specs.Marks.{mark_after_look, mark_after_passive_look, is_even, has_changed}
 use Rattle.registry_values.specs.Slots.{is_retired, slot_at}
 use Rattle.protocol.specs.State.{at_rest, mark_at}
@@ -22,7 +24,7 @@ use Rattle.cpu_words.specs.Rule.{did}
 use Rattle.cpu_words.specs.Steps.{Makes}
 use Rattle.cpu_words.proofs.by_keeper.KeeperSees.{seen_by_keeper}
 use Rattle.passive_list.specs.Keepers.{OnKeeper}
-use Rattle.name_registry.specs.Advancing.{MayWork, HasWorkedFor, HasLookedFor, HasLookedLast, EndsIn, SeesSection, SeesPassive, MeetsGrace, MeetsPassive, PassedBelow, ClearBelow}
+use Rattle.name_registry.specs.Advancing.{MayWork, HasWorkedFor, HasLookedFor, HasLookedLast, EndsIn, SeesSection, SeesPassive, Meets, MeetsGrace, MeetsLocal, MeetsPassive, PassedBelow, ClearBelow, CollectedBelow, Settles}
 use Rattle.name_registry.proofs.Worked.{mark_put, looked_more, still_passed, still_clear}
 
 odd_if : (w : ℕ) → is_even w ≡ false → w % 2 ≡ 1
@@ -126,3 +128,31 @@ passive_met z a b d t c may cpu passed before clear looked_ sees =
       lesser = still_clear b d t c looked_.worked clear;
       leaves = leaves;
     }
+
+-- looks for sections before it change nothing of that
+pub passive_after : (a b d : OnKeeper) (t c : ℕ) → HasLookedFor a t b → MeetsPassive b t c d → MeetsPassive a t c d
+passive_after a b d t c before meets = record {
+  cpu = subst (λ (s : Settings). c < s.cpus) (ap (λ (k : KeeperView). k.settings) before.worked.only) meets.cpu;
+  sees = passive_since a b d t c before.worked meets.sees;
+  passed = meets.passed;
+  lesser = meets.lesser;
+  leaves = looked_more a b d t before meets.leaves;
+}
+
+-- The end of the work, at a slot with all marks
+
+pub settles_after : (z : Settings) (a m d : OnKeeper) (t : ℕ) (stage : Stage) → MayWork z a t → HasWorkedFor a t m → PassedBelow m.view t z.cpus → ClearBelow m.view t z.cpus → CollectedBelow m.view t z.cpus → Settles m t stage d → Meets a t stage d
+settles_after z a m d t (Grace c) may worked passed clear collected ends = absurd ends
+settles_after z a m d t (Passive c) may worked passed clear collected ends = absurd ends
+settles_after z a m d t (Local n) may worked passed clear collected ends =
+    let settings : m.view.settings ≡ z = ap (λ (k : KeeperView). k.settings) worked.only ∙ may.settings in
+    subst (λ (x : OnKeeper). MeetsLocal a t n x) (sym ends.3) (record {
+      some = ends.0;
+      held = ends.1;
+      total = ends.2;
+      passed = subst (λ (s : Settings). PassedBelow m.view t s.cpus) (sym settings) passed;
+      clear = subst (λ (s : Settings). ClearBelow m.view t s.cpus) (sym settings) clear;
+      collected = subst (λ (s : Settings). CollectedBelow m.view t s.cpus) (sym settings) collected;
+      leaves = worked;
+    })
+settles_after z a m d t (Freed u) may worked passed clear collected ends = (ends.0, record { between = m; leaves = worked; drained = ends.1; ended = ends.2 })

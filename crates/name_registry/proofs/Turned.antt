@@ -58,7 +58,7 @@ not_retired z a n own none t is = by (slot_at a.slots t) refl
 
 -- the last deed is the one that ends the log, and was made since the turn began
 ends_in : (begin old new : List Deed) (d : Deed) → IsPrefix begin old → EndsIn old d new → (before : List Deed) × IsPrefix begin before × (new ≡ before ++ d ∷ [])
-ends_in begin old new d from ends = (old ++ ends.0, prefix_on from (ends.0, refl), ends.1)
+ends_in begin old new d from ends = (old ++ ends.0, prefix_on _ _ _ from (ends.0, refl), ends.1)
 
 met_section : (z : Settings) (a b : OnKeeper) (t c : ℕ) (begin : List Deed) → HasOwnLog z b → IsPrefix begin a.log → MeetsGrace a t c b → MetSection t c begin b.log
 met_section z a b t c begin own from meets =
@@ -128,7 +128,7 @@ meets_on : (a : OnKeeper) (t : ℕ) (stage : Stage) (b : OnKeeper) → Meets a t
 meets_on a t (Grace c) b meets = meets.leaves.worked.log
 meets_on a t (Passive c) b meets = meets.leaves.worked.log
 meets_on a t (Local n) b meets = meets.leaves.log
-meets_on a t (Freed u) b meets = prefix_on meets.1.leaves.log (ended_on meets.1.between t b meets.1.ended)
+meets_on a t (Freed u) b meets = prefix_on _ _ _ meets.1.leaves.log (ended_on meets.1.between t b meets.1.ended)
 
 advanced_on : (a : OnKeeper) (n : ℕ) (answer : Result Stage Refusal) (b : OnKeeper) → HasAdvanced a n answer b → IsPrefix a.log b.log
 advanced_on a n (Ok stage) b has = meets_on a has.0 stage b has.2
@@ -147,7 +147,7 @@ answers_by z a h b n (Err refusal) own end slots from has = (has.0, not_retired 
 heard_end : (a b : OnKeeper) (x y : OnCpu) → b ≡ keeper_after_tell (keeper_after_hear a x) → IsPrefix b.log y.deeds → IsPrefix a.log y.deeds
 heard_end a b x y is told =
     let log : b.log ≡ a.log ++ (did (Hear None) Done ++ did (Tell None) Done) = ap (λ (k : OnKeeper). k.log) is ∙ append_assoc a.log (did (Hear None) Done) (did (Tell None) Done) in
-    prefix_on (did (Hear None) Done ++ did (Tell None) Done, sym log) told
+    prefix_on _ _ _ (did (Hear None) Done ++ did (Tell None) Done, sym log) told
 
 pub told_turn : (z : Settings) (a : OnKeeper) (x : OnCpu) (n : ℕ) (answer : Result Stage Refusal) (b : OnKeeper) (y : OnCpu) → HasAdvancedFor z a x n answer b y → IsTurn z n x answer y
 told_turn z a x n answer b y has = record {
@@ -155,7 +155,7 @@ told_turn z a x n answer b y has = record {
   log = has.end.log;
   known = has.known;
   seen = has.seen;
-  on = prefix_on (did (Hear None) Done, refl) (advanced_on (keeper_after_hear a x) n answer has.end has.made);
+  on = prefix_on _ _ _ (did (Hear None) Done, refl) (advanced_on (keeper_after_hear a x) n answer has.end has.made);
   heard = heard_end has.end b x y has.is has.told;
   answers = answers_by z a (keeper_after_hear a x) has.end n answer has.own has.own_end refl (did (Hear None) Done, refl) has.made;
 }

@@ -82,8 +82,8 @@ still_works z a b t may worked = record {
 -- One turn after the other
 
 -- a log that goes on, and goes on again
-pub prefix_on : {a b c : List Deed} → IsPrefix a b → IsPrefix b c → IsPrefix a c
-prefix_on {a} p q = (p.0 ++ q.0, sym (append_assoc a p.0 q.0) ∙ (ap (λ (l : List Deed). l ++ q.0) p.1 ∙ q.1))
+pub prefix_on : (a b c : List Deed) → IsPrefix a b → IsPrefix b c → IsPrefix a c
+prefix_on a b c p q = (p.0 ++ q.0, sym (append_assoc a p.0 q.0) ∙ (ap (λ (l : List Deed). l ++ q.0) p.1 ∙ q.1))
 
 pub worked_none : (a : OnKeeper) (t : ℕ) → HasWorkedFor a t a
 worked_none a t = record { only = refl; marks = marks_grow_none a.view.marks t; totals = λ u off. refl; looks = omega arith; slots = refl; log = ([], append-nil a.log) }
@@ -95,7 +95,7 @@ worked_more a b d t x y = record {
   totals = λ u off. y.totals u off ∙ x.totals u off;
   looks = let first = x.looks in let then = y.looks in omega (arith, first, then);
   slots = y.slots ∙ x.slots;
-  log = prefix_on x.log y.log;
+  log = prefix_on _ _ _ x.log y.log;
 }
 
 pub looked_none : (a : OnKeeper) (t : ℕ) → HasLookedFor a t a
