@@ -84,7 +84,7 @@ destroys_inside z number turns inside x in_ = subst (λ (b : Bool). DestroysOuts
 
 -- What the CPU knows then: the entry is gone from its slot
 
-freed_more : (t n : ℕ) (log later : List Deed) → IsPrefix log later → IsFreedFrom t n log → IsFreedFrom t n later
+pub freed_more : (t n : ℕ) (log later : List Deed) → IsPrefix log later → IsFreedFrom t n log → IsFreedFrom t n later
 freed_more t n log later pre is = record {
   before = is.before;
   deed = is.deed;
@@ -97,7 +97,7 @@ freed_more t n log later pre is = record {
 ended_freed : (m : OnKeeper) (t : ℕ) (b : OnKeeper) (e : Entry) → HasEnded m t b → slot_at m.slots t ≡ Retired e → IsFreedFrom t e.number b.log
 ended_freed m t b e ended at = ⊎_elim (λ v. v.1.freed e at) (λ (f : HasFreed m t b). f.freed e at) ended
 
-advanced_freed : (a : OnKeeper) (n t : ℕ) (b : OnKeeper) → HasAdvanced a n (Ok (Freed t)) b → IsFreedFrom t n b.log
+pub advanced_freed : (a : OnKeeper) (n t : ℕ) (b : OnKeeper) → HasAdvanced a n (Ok (Freed t)) b → IsFreedFrom t n b.log
 advanced_freed a n t b has =
     let meets = has.2.1 in
     let told = (retired_slot_tells a.slots n has.0 has.1).1 in
@@ -117,7 +117,7 @@ stage_gone z n x y (Passive c) is = tt
 stage_gone z n x y (Local k) is = tt
 stage_gone z n x y (Freed t) is = turn_freed z n t x y is
 
-met_gone : (z : Settings) (n : ℕ) (x y : OnCpu) (met : Result Stage Refusal) → SomeAdvancedFor z n x met y → IfOk (destroy_result_of met) (λ t. IsFreedFrom t n y.deeds)
+pub met_gone : (z : Settings) (n : ℕ) (x y : OnCpu) (met : Result Stage Refusal) → SomeAdvancedFor z n x met y → IfOk (destroy_result_of met) (λ t. IsFreedFrom t n y.deeds)
 met_gone z n x y (Ok stage) is = stage_gone z n x y stage is
 met_gone z n x y (Err refusal) is = tt
 
