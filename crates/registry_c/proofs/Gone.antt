@@ -18,17 +18,17 @@ use Rattle.name_registry.proofs.Destroyed.{advanced_freed, met_gone}
 use Rattle.registry_c.specs.declared.values.TheConstants.{DONE}
 use Rattle.registry_c.specs.declared.values.CStage.{CStage}
 use Rattle.registry_c.specs.Bodies.{OnKeeperBody}
-use Rattle.registry_c.specs.KeeperCalls.{AdvancesFor, DestroyAnswers, FreedIsGone, WritesDestroyed}
+use Rattle.registry_c.specs.KeeperCalls.{AdvancesFor, DestroyAnswers, IsGoneIfFreed, WritesDestroyed}
 use Rattle.registry_c.specs.Values.{stage_out}
 
-pub advanced_gone : (a : OnKeeper) (n : ℕ) (r : Result Stage Refusal) (b : OnKeeper) → HasAdvanced a n r b → FreedIsGone n r b.log
+pub advanced_gone : (a : OnKeeper) (n : ℕ) (r : Result Stage Refusal) (b : OnKeeper) → HasAdvanced a n r b → IsGoneIfFreed n r b.log
 advanced_gone a n (Ok (Grace c)) b is = tt
 advanced_gone a n (Ok (Passive c)) b is = tt
 advanced_gone a n (Ok (Local k)) b is = tt
 advanced_gone a n (Ok (Freed t)) b is = advanced_freed a n t b is
 advanced_gone a n (Err refusal) b is = tt
 
-pub advanced_for_gone : (z : Settings) (a : OnKeeper) (x : OnCpu) (n : ℕ) (r : Result Stage Refusal) (b : OnKeeper) (y : OnCpu) → HasAdvancedFor a x n r b y → IfOk r (λ stage. IsStageOf z stage) → FreedIsGone n r y.deeds
+pub advanced_for_gone : (z : Settings) (a : OnKeeper) (x : OnCpu) (n : ℕ) (r : Result Stage Refusal) (b : OnKeeper) (y : OnCpu) → HasAdvancedFor a x n r b y → IfOk r (λ stage. IsStageOf z stage) → IsGoneIfFreed n r y.deeds
 advanced_for_gone z a x n r b y is stage = met_gone z n x y r ((a, b, is), stage)
 
 -- A destroy
@@ -56,7 +56,7 @@ refused_not TooDeep is = cc
 refused_not NeedsDriver is = cc
 
 -- what done says, by what was written
-gone_by : (number : ℕ) (r : Result Stage Refusal) (n : ℕ) (old new : CStage) (log : List Deed) → FreedIsGone number r log → WritesDestroyed r n old new → n ≡ DONE → (slot : ℕ) × (new ≡ stage_out (Freed slot)) × IsFreedFrom slot number log
+gone_by : (number : ℕ) (r : Result Stage Refusal) (n : ℕ) (old new : CStage) (log : List Deed) → IsGoneIfFreed number r log → WritesDestroyed r n old new → n ≡ DONE → (slot : ℕ) × (new ≡ stage_out (Freed slot)) × IsFreedFrom slot number log
 gone_by number (Ok (Grace c)) n old new log gone is done = absurd (refused_not (StillHeld (Grace c)) (sym done ∙ is.0))
 gone_by number (Ok (Passive c)) n old new log gone is done = absurd (refused_not (StillHeld (Passive c)) (sym done ∙ is.0))
 gone_by number (Ok (Local k)) n old new log gone is done = absurd (refused_not (StillHeld (Local k)) (sym done ∙ is.0))

@@ -79,21 +79,21 @@ pub record AttachesIface (rec : Record) (l : OnLocalBody) (k : OnKeeperBody) (c 
 -- The work on a retired entry
 
 -- where a turn freed the slot, the entry is gone from there by this log
-abbrev pub FreedIsGone : ℕ → Result Stage Refusal → List Deed → Type 0
-FreedIsGone number r log = IfOk (destroy_result_of r) (λ slot. IsFreedFrom slot number log)
+abbrev pub IsGoneIfFreed : ℕ → Result Stage Refusal → List Deed → Type 0
+IsGoneIfFreed number r log = IfOk (destroy_result_of r) (λ slot. IsFreedFrom slot number log)
 
 -- the answer r of a turn; the keeper's log says of a slot that was freed that the entry is gone from there
 pub record Advances (number : ℕ) (k k' : OnKeeperBody) (r : Result Stage Refusal) : Type 0 where
   pub answer : HasAdvanced k.keeper number r k'.keeper
   pub stage : IfOk r (λ stage. IsStageOf k.words.settings stage)
-  pub gone : FreedIsGone number r k'.keeper.log
+  pub gone : IsGoneIfFreed number r k'.keeper.log
   pub words : k'.words ≡ k.words
 
 -- the same with a CPU, which hears what the keeper did and so knows it
 pub record AdvancesFor (number : ℕ) (k : OnKeeperBody) (c : OnPlainCpu) (k' : OnKeeperBody) (c' : OnPlainCpu) (r : Result Stage Refusal) : Type 0 where
   pub answer : HasAdvancedFor k.keeper c.cpu number r k'.keeper c'.cpu
   pub stage : IfOk r (λ stage. IsStageOf k.words.settings stage)
-  pub gone : FreedIsGone number r c'.cpu.deeds
+  pub gone : IsGoneIfFreed number r c'.cpu.deeds
   pub words : KeepsWords k c k' c'
 
 pub record AdvanceAnswers (number : ℕ) (k k' : OnKeeperBody) (n : ℕ) (old new : CStage) : Type 0 where
