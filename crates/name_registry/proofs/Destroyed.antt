@@ -19,11 +19,13 @@ use Rattle.cpu_words.specs.Deeds.{IsFreedFrom}
 use Rattle.cpu_words.specs.Rule.{did}
 use Rattle.passive_list.specs.Cpus.{OnCpu}
 use Rattle.passive_list.specs.Keepers.{OnKeeper}
+use Rattle.name_registry.specs.Advancing.{HasAdvanced}
 use Rattle.name_registry.specs.Destroying.{Destroys, DestroysOutside, HasDestroyed, LastMeeting, SomeAdvancedFor, TurnsMeeting}
 use Rattle.name_registry.specs.Locking.{IsDestroyRefusal, IsStageOf}
 use Rattle.name_registry.specs.Obstacles.{IsDestroyAnswer, IsTurn}
 use Rattle.name_registry.proofs.Heard.{prefix_short}
 use Rattle.name_registry.proofs.Owned.{learned}
+use Rattle.name_registry.proofs.Turned.{ended_freed}
 use Rattle.name_registry.proofs.Waited.{Learns, learns_none, learns_more}
 use Rattle.name_registry.proofs.Worked.{prefix_on}
 
@@ -85,7 +87,7 @@ destroys_inside z number turns inside x in_ = subst (λ (b : Bool). DestroysOuts
 
 -- What the CPU knows then: the entry is gone from its slot
 
-freed_more : (t n : ℕ) (log later : List Deed) → IsPrefix log later → IsFreedFrom t n log → IsFreedFrom t n later
+pub freed_more : (t n : ℕ) (log later : List Deed) → IsPrefix log later → IsFreedFrom t n log → IsFreedFrom t n later
 freed_more t n log later pre is = record {
   before = is.before;
   deed = is.deed;
@@ -94,6 +96,14 @@ freed_more t n log later pre is = record {
   detached = is.detached;
   freed = is.freed;
 }
+
+pub advanced_freed : (a : OnKeeper) (n t : ℕ) (b : OnKeeper) → HasAdvanced a n (Ok (Freed t)) b → IsFreedFrom t n b.log
+advanced_freed a n t b has =
+    let meets = has.2.1 in
+    let told = (retired_slot_tells a.slots n has.0 has.1).1 in
+    let at : slot_at meets.between.slots has.0 ≡ Retired told.0 = ap (λ (l : List Slot). slot_at l has.0) meets.leaves.slots ∙ told.1 in
+    let freed : IsFreedFrom has.0 told.0.number b.log = ended_freed meets.between has.0 b told.0 meets.ended at in
+    subst (λ (p : ℕ × ℕ). IsFreedFrom p.0 p.1 b.log) (λ k. (sym has.2.0 k, told.2 k)) freed
 
 turn_freed : (z : Settings) (n t : ℕ) (x y : OnCpu) → SomeAdvancedFor z n x (Ok (Freed t)) y → IsFreedFrom t n y.deeds
 turn_freed z n t x y is =
@@ -106,7 +116,7 @@ stage_gone z n x y (Passive c) is = tt
 stage_gone z n x y (Local k) is = tt
 stage_gone z n x y (Freed t) is = turn_freed z n t x y is
 
-met_gone : (z : Settings) (n : ℕ) (x y : OnCpu) (met : Result Stage Refusal) → SomeAdvancedFor z n x met y → IfOk (destroy_result_of met) (λ t. IsFreedFrom t n y.deeds)
+pub met_gone : (z : Settings) (n : ℕ) (x y : OnCpu) (met : Result Stage Refusal) → SomeAdvancedFor z n x met y → IfOk (destroy_result_of met) (λ t. IsFreedFrom t n y.deeds)
 met_gone z n x y (Ok stage) is = stage_gone z n x y stage is
 met_gone z n x y (Err refusal) is = tt
 

@@ -105,7 +105,7 @@ met_locals z a b t n k e own at same meets =
       passed = λ d lt. own.marks.passed t d (meets.passed d (low d lt));
     }
 
-ended_freed : (m : OnKeeper) (t : ℕ) (b : OnKeeper) (e : Entry) → HasEnded m t b → slot_at m.slots t ≡ Retired e → IsFreedFrom t e.number b.log
+pub ended_freed : (m : OnKeeper) (t : ℕ) (b : OnKeeper) (e : Entry) → HasEnded m t b → slot_at m.slots t ≡ Retired e → IsFreedFrom t e.number b.log
 ended_freed m t b e ended at = ⊎_elim (λ v. v.1.freed e at) (λ (f : HasFreed m t b). f.freed e at) ended
 
 has_met : (z : Settings) (a b : OnKeeper) (t n : ℕ) (e : Entry) (begin : List Deed) (stage : Stage) → HasOwnLog z b → IsPrefix begin a.log → slot_at a.slots t ≡ Retired e → e.number ≡ n → Meets a t stage b → HasMet z.cpus t n stage begin b.log

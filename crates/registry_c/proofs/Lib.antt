@@ -13,3 +13,7 @@ pub mod Made
 pub mod Here
 pub mod Opens
 pub mod AuditsAnswered
+pub mod Numbered
+pub mod Gone
+pub mod Turned
+pub mod Waits
