@@ -186,9 +186,9 @@ all_of : {X Y : Type 0} (f : X → Y) (P : Y → Type 0) (list : List X) → All
 all_of f P [] all = All-nil (λ x. P (f x))
 all_of f P (x ∷ list) all = All-cons (λ y. P (f y)) x list (All-head P (f x) (map f list) all) (all_of f P list (All-tail P (f x) (map f list) all))
 
-pub audit_told : (z : Settings) (k a : OnKeeper) (cs ds : List (Option OnPlainCpu)) (first list : List CBalance) → IsKeeperOf z a → AreAllHere z.cpus ds → AreAlike a (cpus_in ds) → HasListened a k → HaveHeard ds cs
+pub audit_told : (z : Settings) (k a : OnKeeper) (ys : List OnCpu) (cs ds : List (Option OnPlainCpu)) (first list : List CBalance) → IsKeeperOf z a → AreAllHere z.cpus ds → AreAlike a (cpus_in ds) ys → HasListened a k → HaveHeard ds cs
     → AreTold z k cs z.slots (occupied k z.slots) first list → AuditWrites z a ds first list
-audit_told z k a cs ds first list known here alike heard have told =
+audit_told z k a ys cs ds first list known here alike heard have told =
     let xs = cpus_in ds in
     let all = all_cpus z.cpus ds here in
     let place : occupied k z.slots ≡ occupied a z.slots = ap (λ (b : OnKeeper). occupied b z.slots) heard.is.1 in
@@ -197,9 +197,9 @@ audit_told z k a cs ds first list known here alike heard have told =
       told = record {
         keeper = known;
         met = met;
-        answer = met ∙ each_same (tally_met a xs) (tally_of a xs) a.slots z.slots (λ u e there. alike_tally z a xs known all alike u e there);
+        answer = met ∙ each_same (tally_met a xs) (tally_of a xs) a.slots z.slots (λ u e there. alike_tally z a xs ys known all alike u e there);
         tally = all_of (tally_in z.cpus) (IsTallied a xs) (take (occupied a z.slots) list) (subst (All (IsTallied a xs)) (sym met)
-            (each_all (IsTallied a xs) (tally_met a xs) a.slots z.slots (λ u e there. ap (λ (y : Tally). y.held) (alike_tally z a xs known all alike u e there) ∙ alike_held z a xs known all alike u e there)));
+            (each_all (IsTallied a xs) (tally_met a xs) a.slots z.slots (λ u e there. ap (λ (y : Tally). y.held) (alike_tally z a xs ys known all alike u e there) ∙ alike_held z a xs ys known all alike u e there)));
         cut = subst (λ n. All (IsCut z.cpus) (take n list)) place told.cut;
       };
       rest = ap (λ n. drop n list) (sym place) ∙ (told.rest ∙ ap (λ n. drop n first) place);

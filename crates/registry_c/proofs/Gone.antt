@@ -13,6 +13,7 @@ use Rattle.passive_list.specs.Cpus.{OnCpu, OnPlainCpu}
 use Rattle.passive_list.specs.Keepers.{OnKeeper}
 use Rattle.name_registry.specs.Destroying.{HasAdvancedFor}
 use Rattle.name_registry.specs.Locking.{IsStageOf}
+use Rattle.name_registry.specs.Obstacles.{IsTurn}
 use Rattle.name_registry.specs.Advancing.{HasAdvanced}
 use Rattle.name_registry.proofs.Destroyed.{advanced_freed, met_gone}
 use Rattle.registry_c.specs.declared.values.TheConstants.{DONE}
@@ -28,8 +29,8 @@ advanced_gone a n (Ok (Local k)) b is = tt
 advanced_gone a n (Ok (Freed t)) b is = advanced_freed a n t b is
 advanced_gone a n (Err refusal) b is = tt
 
-pub advanced_for_gone : (z : Settings) (a : OnKeeper) (x : OnCpu) (n : ℕ) (r : Result Stage Refusal) (b : OnKeeper) (y : OnCpu) → HasAdvancedFor a x n r b y → IfOk r (λ stage. IsStageOf z stage) → IsGoneIfFreed n r y.deeds
-advanced_for_gone z a x n r b y is stage = met_gone z n x y r ((a, b, is), stage)
+pub advanced_for_gone : (z : Settings) (a : OnKeeper) (x : OnCpu) (n : ℕ) (r : Result Stage Refusal) (b : OnKeeper) (y : OnCpu) → HasAdvancedFor z a x n r b y → IfOk r (λ stage. IsStageOf z stage) → IsTurn z n x r y → IsGoneIfFreed n r y.deeds
+advanced_for_gone z a x n r b y is stage turn = met_gone z n x y r ((a, b, is), stage, turn)
 
 -- A destroy
 

@@ -19,6 +19,8 @@ use Rattle.name_registry.specs.Performing.{HasBegun}
 use Rattle.registry_c.specs.Bodies.{OnKeeperBody}
 use Rattle.registry_c.specs.Flags.{number_or_none}
 use Rattle.registry_c.specs.KeeperCalls.{Advances, AdvancesFor, Begins}
+use Rattle.name_registry.specs.Obstacles.{IsTurn}
+use Rattle.name_registry.proofs.Turned.{told_turn}
 use Rattle.registry_c.proofs.Gone.{advanced_gone, advanced_for_gone}
 use Rattle.registry_c.proofs.Numbered.{numbered}
 
@@ -35,11 +37,12 @@ advances_by number k l a b w s r is same first settings made stage = subst (λ (
 }
 
 pub advances_for_by : (number : ℕ) (k l : OnKeeperBody) (c d : OnPlainCpu) (a b : OnKeeper) (x y : OnCpu) (w v : Named) (s : Settings) (r : Result Stage Refusal) → l ≡ record { words = w; keeper = b } → d ≡ record { words = v; cpu = y } → w ≡ k.words → v ≡ c.words
-    → a ≡ k.keeper → x ≡ c.cpu → k.words.settings ≡ s → HasAdvancedFor a x number r b y → IfOk r (λ stage. IsStageOf s stage) → AdvancesFor number k c l d r
+    → a ≡ k.keeper → x ≡ c.cpu → k.words.settings ≡ s → HasAdvancedFor s a x number r b y → IfOk r (λ stage. IsStageOf s stage) → AdvancesFor number k c l d r
 advances_for_by number k l c d a b x y w v s r is is_cpu same same_cpu first first_cpu settings made stage = subst (λ (p : OnKeeperBody × OnPlainCpu). AdvancesFor number k c p.0 p.1 r) (λ i. (sym is i, sym is_cpu i)) record {
-  answer = subst (λ (p : OnKeeper × OnCpu). HasAdvancedFor p.0 p.1 number r b y) (λ i. (first i, first_cpu i)) made;
+  answer = subst (λ (z : Settings). HasAdvancedFor z k.keeper c.cpu number r b y) (sym settings) (subst (λ (p : OnKeeper × OnCpu). HasAdvancedFor s p.0 p.1 number r b y) (λ i. (first i, first_cpu i)) made);
   stage = staged k.words.settings s r settings stage;
-  gone = advanced_for_gone s a x number r b y made stage;
+  gone = advanced_for_gone s a x number r b y made stage (told_turn s a x number r b y made);
+  turn = subst (λ (z : Settings). IsTurn z number c.cpu r y) (sym settings) (subst (λ (u : OnCpu). IsTurn s number u r y) first_cpu (told_turn s a x number r b y made));
   words = (same, same_cpu);
 }
 

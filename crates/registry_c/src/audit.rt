@@ -114,7 +114,7 @@ fn gather<D: Domain>(words: &Words, keeper: &mut Keeper<D>, cpus: &mut [CpuHandl
     requires words { AreWordsOf words.now D.table D.settings }
     requires all { AreAllHere D.settings.cpus (bodies_of cpus.old) }
     requires same { (c : ℕ) (b : OnPlainCpu) → body_at (bodies_of cpus.old) c ≡ Some b → b.words ≡ record { table = D.table; settings = D.settings } }
-    ensures alike { AreAlike keeper.old (cpus_in (bodies_of cpus.old)) }
+    ensures alike { AreAlike keeper.old (cpus_in (bodies_of cpus.old)) (cpus_in (bodies_of cpus.new)) }
     ensures keeper { HasListened keeper.old keeper.new }
     ensures cpus { HaveHeard (bodies_of cpus.old) (bodies_of cpus.new) }
 {

@@ -4,7 +4,7 @@ use Rattle.registry_values.specs.declared.settings.Settings.{Settings}
 use Rattle.passive_list.specs.Cpus.{OnPlainCpu}
 use Rattle.name_registry.proofs.Gathered.{listened_none}
 use Rattle.name_registry.proofs.Tallies.{known_keeper}
-use Rattle.registry_c.specs.Audits.{AreAllHere, AuditWrites, Audits}
+use Rattle.registry_c.specs.Audits.{AreAllHere, AuditWrites, Audits, cpus_in}
 use Rattle.registry_c.specs.Opening.{bodies_of, body_at}
 use Rattle.registry_c.proofs.Audited.{audit_told}
 use Rattle.registry_c.proofs.AuditsAnswered.{audited, missing_cpu, no_room}
@@ -57,6 +57,6 @@ returns-clause-answer g c =
     let same = c.are_all.ensures.same in
     let all = subst (λ (a : Settings). AreAllHere a.cpus cs) c.keeper.invariant.settings (c.are_all.ensures.all c.if-not-are_all.false) in
     let known = known_keeper _ _ _ _ _ _ _ _ c.keeper.invariant c.keeper.view_is in
-    let writes = audit_told z c.gather.new.keeper k (bodies_of c.gather.new.cpus) ds c.args.list.now c.write_balances.new.list known (subst (AreAllHere z.cpus) (sym same) all) c.gather.ensures.alike c.gather.ensures.keeper c.gather.ensures.cpus c.write_balances.ensures.list in
+    let writes = audit_told z c.gather.new.keeper k (cpus_in (bodies_of c.gather.new.cpus)) (bodies_of c.gather.new.cpus) ds c.args.list.now c.write_balances.new.list known (subst (AreAllHere z.cpus) (sym same) all) c.gather.ensures.alike c.gather.ensures.keeper c.gather.ensures.cpus c.write_balances.ensures.list in
     audited z k cs _ _ _ _ all (omega (arith, c.if-list-count.false, c.count_entries-count.ensures))
     (subst (λ (l : List (Option OnPlainCpu)). AuditWrites z k l c.args.list.now c.write_balances.new.list) same writes) c.count_entries-count.ensures
