@@ -4,10 +4,10 @@ ghost use Rattle.std.specs.Prelude.{◌≡◌, ◌<◌, IfSome, ℕ, Some, None,
 ghost use Rattle.registry_values.specs.declared.entry.Entry.{Entry as AnEntry};
 ghost use Rattle.registry_values.specs.declared.slot.Slot.TheVariants.{Retired};
 ghost use Rattle.registry_values.specs.Slots.{is_retired_as, retired_slot, is_retired, slot_at};
-ghost use Rattle.passive_core.specs.Advancing.{is_open_since, has_passive, advance_answer, plain_stage, AdvanceLeaves, StageLeaves, Settles, Empties, Gathers, HoldersAreOpen, MarksPass};
+ghost use Rattle.passive_core.specs.Advancing.{is_open_since, has_passive, advance_answer, plain_stage, AdvanceLeaves, StageLeaves, Settles, Empties, Gathers, HoldersAreOpen, MarksPass, MarksClear, SameBut, PassedBelow, ClearBelow, StageMarks, AdvanceMarks};
 ghost use Rattle.registry_values.specs.Marks.{least_below};
 ghost use Rattle.registry_values.specs.Stages.{stage_of};
-ghost use Rattle.protocol.specs.Marking.{MarksGrow, AllPassed, AllClear, AllCollected};
+ghost use Rattle.protocol.specs.Marking.{AllPassed, AllClear, AllCollected};
 ghost use Rattle.passive_core.specs.Commands.{may_act};
 ghost use Rattle.protocol.specs.Events.{is_drained};
 ghost use Rattle.protocol.specs.Invariant.{held_at};
@@ -28,6 +28,7 @@ impl Core {
         requires { at_rest self.old.due ≡ true }
         ensures answer { result ≡ advance_answer self.old number }
         ensures after { AdvanceLeaves self.old self.new number result }
+        ensures marks { AdvanceMarks self.old self.new number result }
         ensures holders { HoldersAreOpen self.old }
         ensures settings { self.new.settings ≡ self.old.settings }
         ensures rest { at_rest self.new.due ≡ true }
@@ -50,6 +51,7 @@ impl Core {
         requires retired { is_retired (slot_at self.old.slots t) ≡ true }
         ensures stage { (e : AnEntry) → slot_at self.old.slots t ≡ Retired e → result ≡ plain_stage self.old t e.number }
         ensures after { StageLeaves self.old self.new t result }
+        ensures marks { StageMarks self.old self.new t result }
     {
         if let Some(c) = self.look_at_all(t) {
             return Stage::Grace(c);
@@ -82,6 +84,7 @@ impl Core {
         ensures only { self.new ≡ record self.old { marks = self.new.marks } }
         ensures marks { MarksPass self.old.marks self.new.marks t }
         ensures passed { result ≡ None → AllPassed self.new t }
+        ensures stopped { IfSome result (λ c. PassedBelow self.old self.new t c) }
     {
         let cpus = self.settings.cpus;
         for c in 0..cpus {
@@ -101,6 +104,7 @@ impl Core {
         ensures answer { result ≡ not (is_open_since self.old t c) }
         ensures only { self.new ≡ record self.old { marks = self.new.marks } }
         ensures marks { MarksPass self.old.marks self.new.marks t }
+        ensures others { SameBut self.old.marks self.new.marks t c }
         ensures passed { result ≡ (mark_at self.new.marks t c).passed }
     {
         // For the proof alone: reading a field opens what the type keeps.
@@ -121,8 +125,9 @@ impl Core {
         requires passed { AllPassed self.old t }
         ensures answer { result ≡ least_below (has_passive self.old t) self.old.settings.cpus }
         ensures only { self.new ≡ record self.old { marks = self.new.marks } }
-        ensures marks { MarksGrow self.old.marks self.new.marks t }
+        ensures marks { MarksClear self.old.marks self.new.marks t }
         ensures clear { result ≡ None → AllClear self.new t }
+        ensures stopped { IfSome result (λ c. ClearBelow self.old self.new t c) }
     {
         let cpus = self.settings.cpus;
         for c in 0..cpus {
@@ -142,7 +147,8 @@ impl Core {
         requires cpu { c < self.old.settings.cpus }
         ensures answer { result ≡ not (has_passive self.old t c) }
         ensures only { self.new ≡ record self.old { marks = self.new.marks } }
-        ensures marks { MarksGrow self.old.marks self.new.marks t }
+        ensures marks { MarksClear self.old.marks self.new.marks t }
+        ensures others { SameBut self.old.marks self.new.marks t c }
         ensures clear { result ≡ (mark_at self.new.marks t c).clear }
     {
         // For the proof alone: reading a field opens what the type keeps.

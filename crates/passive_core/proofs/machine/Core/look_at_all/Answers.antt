@@ -16,6 +16,17 @@ returns-then-not-passes-clause-answer c =
 pub returns-then-not-passes-clause-marks : goal.returns-then-not-passes-clause-marks
 returns-then-not-passes-clause-marks c = marks_pass_more c.args.self.now.marks c.loop-c.self.marks c.passes.new.self.marks c.args.t c.loop-c.invariant.marks c.passes.ensures.marks
 
+pub returns-then-not-passes-clause-stopped : goal.returns-then-not-passes-clause-stopped
+returns-then-not-passes-clause-stopped c =
+    let s = c.args.self.now in
+    let l = c.loop-c in
+    record {
+      marks = marks_pass_more s.marks l.self.marks c.passes.new.self.marks c.args.t l.invariant.marks c.passes.ensures.marks;
+      below = λ d lt. (c.passes.ensures.marks.here d).passed (l.invariant.passed d lt);
+      here = sym c.passes.ensures.passed ∙ c.if-not-passes.true;
+      above = λ d lt. c.passes.ensures.others d (λ same. omega (arith, lt, same)) ∙ l.invariant.above d (omega (arith, lt));
+    }
+
 pub loop-c-preserved : goal.loop-c-preserved
 loop-c-preserved c =
     let s = c.args.self.now in
@@ -24,6 +35,7 @@ loop-c-preserved c =
     record {
       only = only_marks s l.self c.passes.new.self l.invariant.only c.passes.ensures.only;
       marks = marks_pass_more s.marks l.self.marks c.passes.new.self.marks c.args.t l.invariant.marks c.passes.ensures.marks;
+      above = λ d le. c.passes.ensures.others d (λ same. omega (arith, le, same)) ∙ l.invariant.above d (omega (arith, le));
       passed = below_more (λ d. (mark_at c.passes.new.self.marks c.args.t d).passed ≡ true) l.c
           (λ d lt. (c.passes.ensures.marks.here d).passed (l.invariant.passed d lt)) (sym c.passes.ensures.passed ∙ c.if-not-passes.false);
       closed = below_more (λ d. is_open_since s c.args.t d ≡ false) l.c l.invariant.closed (sym (open_same s l.self c.args.t l.c l.invariant.only l.invariant.marks) ∙ closed);

@@ -1,11 +1,11 @@
 use Rattle.std.proofs.Common.{◌≡◌, sym, ap, subst, ◌∙◌}
 use Rattle.registry_values.specs.declared.mark.Mark.{Mark}
-use Rattle.passive_core.specs.Advancing.{MarksPass}
+use Rattle.passive_core.specs.Advancing.{MarksPass, SameBut}
 use Rattle.protocol.specs.Events.{after_look}
 use Rattle.registry_values.specs.Marks.{mark_after_look}
 use Rattle.protocol.specs.Invariant.{Holds}
 use Rattle.protocol.specs.State.{State, section_at, mark_at}
-use Rattle.passive_core.proofs.Advancing.{look_is, look_marks, look_passes, passed_left}
+use Rattle.passive_core.proofs.Advancing.{look_is, look_marks, mark_beside, look_passes, passed_left}
 use Rattle.protocol.proofs.slots.MarkRows.{mark_there}
 use Rattle.passive_core.proofs.machine.Core.passes.Goals as goal
 
@@ -29,3 +29,9 @@ returns-clause-marks c =
     let s = c.args.self.now in
     let new : c.make.new.self ≡ after_look s c.args.t c.args.c = look_is s c.make.new.self c.args.t c.args.c c.make.result c.requires.rest c.requires.retired c.requires.cpu c.make.ensures in
     subst (λ (x : State). MarksPass s.marks x.marks c.args.t) (sym new) (look_marks s c.args.t c.args.c)
+
+pub returns-clause-others : goal.returns-clause-others
+returns-clause-others c =
+    let s = c.args.self.now in
+    let new : c.make.new.self ≡ after_look s c.args.t c.args.c = look_is s c.make.new.self c.args.t c.args.c c.make.result c.requires.rest c.requires.retired c.requires.cpu c.make.ensures in
+    subst (λ (x : State). SameBut s.marks x.marks c.args.t c.args.c) (sym new) (mark_beside s.marks c.args.t c.args.c (mark_after_look (mark_at s.marks c.args.t c.args.c) (section_at s c.args.c)))
