@@ -399,7 +399,7 @@ stage_kept s m t n only marks =
     let third : held_at m.locals m.hands m.keeps m.due n t ≡ held_at s.locals s.hands s.keeps s.due n t = ap (λ (x : State). held_at x.locals x.hands x.keeps x.due n t) only in
     rw (first, second, third) refl
 
-abbrev is_freed : Stage → Bool
+abbrev pub is_freed : Stage → Bool
 is_freed (Grace c) = false
 is_freed (Passive c) = false
 is_freed (Local k) = false
@@ -411,7 +411,7 @@ stage_again s m t n (Passive c) held left = stage_kept s m t n (subst (λ (x : S
 stage_again s m t n (Local k) held left = stage_kept s m t n left.only left.marks
 stage_again s m t n (Freed u) held left = absurd (let q : ◌≡◌ {A = Bool} true false = held in cc)
 
-slots_again : (s m : State) (t : ℕ) (stage : Stage) → is_freed stage ≡ false → StageLeaves s m t stage → m.slots ≡ s.slots
+pub slots_again : (s m : State) (t : ℕ) (stage : Stage) → is_freed stage ≡ false → StageLeaves s m t stage → m.slots ≡ s.slots
 slots_again s m t (Grace c) held left = ap (λ (x : State). x.slots) left.only
 slots_again s m t (Passive c) held left = ap (λ (x : State). x.slots) left.only
 slots_again s m t (Local k) held left = ap (λ (x : State). x.slots) left.only

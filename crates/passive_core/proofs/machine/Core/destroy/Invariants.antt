@@ -2,6 +2,7 @@ use Rattle.std.proofs.Common.{◌≡◌, ℕ, true, Ok}
 use Rattle.passive_core.specs.Advancing.{AdvanceLeaves, AdvanceMarks, advance_answer}
 use Rattle.passive_core.specs.Commands.{may_act}
 use Rattle.protocol.specs.State.{at_rest}
+use Rattle.passive_core.specs.Making.{AdvanceMakes}
 use Rattle.passive_core.proofs.machine.Core.destroy.Given as goal
 
 -- the turns so far are as one
@@ -10,6 +11,7 @@ invariant-loop l = record {
   stage : Ok l.stage ≡ advance_answer l.fn.self l.number;
   after : AdvanceLeaves l.fn.self l.self l.number (Ok l.stage);
   marks : AdvanceMarks l.fn.self l.self l.number (Ok l.stage);
+  made : AdvanceMakes l.fn.self l.self l.number (Ok l.stage);
   rest : at_rest l.self.due ≡ true;
   settings : l.self.settings ≡ l.fn.self.settings;
   ready : (d : ℕ) → may_act l.fn.self d ≡ true → may_act l.self d ≡ true;
