@@ -6,8 +6,10 @@ use Rattle.registry_values.specs.declared.stage.Stage.{Stage}
 use Rattle.registry_values.specs.declared.stage.Stage.TheVariants.{Grace, Passive, Local, Freed}
 use Rattle.registry_values.specs.Slots.{retired_slot}
 use Rattle.protocol.specs.declared.event.Event.{Event}
-use Rattle.protocol.specs.declared.event.Event.TheVariants.{Seat, LoadRecord, Snapshot, Look, PassiveLook, Collect, TotalAdd, KeptSub, Vacate}
+use Rattle.protocol.specs.declared.event.Event.TheVariants.{Seat, Seek, LoadRecord, Unpublish, Tell, Hear, Snapshot, Look, PassiveLook, Collect, TotalAdd, KeptSub, Vacate}
 use Rattle.protocol.specs.declared.event.RecordOf.{RecordOf}
+use Rattle.registry_values.specs.declared.slot.Key.{Key}
+use Rattle.protocol.specs.Laws.{IsLoadOf}
 use Rattle.protocol.specs.State.{State}
 use Rattle.protocol.specs.Events.{Outcome, step}
 
@@ -34,6 +36,19 @@ seats_and s events = seats_from s.seated (s.settings.cpus - s.seated) ++ events
 -- the loads of a record's words 1 to 4
 abbrev pub record_loads : (ℕ → RecordOf) → List Event
 record_loads of = LoadRecord (of 1) ∷ LoadRecord (of 2) ∷ LoadRecord (of 3) ∷ LoadRecord (of 4) ∷ []
+
+-- The events of a lookup of c: the seats, the start of its search, and loads of that search.
+abbrev pub FindMakes : State → State → ℕ → Key → Type 0
+FindMakes old new c key = (loads : List Event) × All (IsLoadOf c) loads × Makes old (seats_and old (Seek c key.kind key.name ∷ loads)) new
+
+-- the snapshots for the slot t of so many CPUs, from c on
+abbrev pub snapshots_from : ℕ → ℕ → ℕ → List Event
+snapshots_from t c zero = []
+snapshots_from t c (suc n) = Snapshot (Some t) c ∷ snapshots_from t (c + 1) n
+
+-- The events of a detach by c of what stands in the slot t, once all CPUs are seated: c tells the keeper of its pass, the entry is unlinked and each CPU's snapshot taken, and c hears of it.
+abbrev pub detach_events : ℕ → ℕ → ℕ → List Event
+detach_events cpus c t = Tell (Some c) ∷ Hear None ∷ Unpublish t ∷ (snapshots_from t 0 cpus ++ Tell None ∷ Hear (Some c) ∷ [])
 
 -- The work on the slot t
 
@@ -80,7 +95,3 @@ DestroyMakes old new n (Err refusal) = HeldMakes old new n refusal
 -- a seat, or a load of a section word that isn't the snapshot of an entry
 abbrev pub IsWaiting : Event → Type 0
 IsWaiting event = IsSeat event ⊎ (((c : ℕ) × (event ≡ Snapshot None c)) ⊎ ((to : Option ℕ) × (c : ℕ) × (event ≡ Look to c)))
-
--- a snapshot for the slot t
-abbrev pub IsSnapshotFor : ℕ → Event → Type 0
-IsSnapshotFor t event = (c : ℕ) × (event ≡ Snapshot (Some t) c)

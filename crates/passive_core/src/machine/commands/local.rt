@@ -1,9 +1,9 @@
 //! Local references (localcount(9)): acquired in a section, and released on any CPU.
 
-ghost use Rattle.std.specs.Prelude.{◌≡◌, ℕ, ◌+◌, ◌<◌, nat_lt, IsTrue, Some, None, [], ◌∷◌, ◌++◌, if◌then◌else◌, false, true};
+ghost use Rattle.std.specs.Prelude.{◌≡◌, ℕ, ◌+◌, ◌<◌, nat_lt, IfOk, IsTrue, Some, None, [], ◌∷◌, ◌++◌, if◌then◌else◌, false, true};
 ghost use Rattle.passive_core.specs.Commands.{all_seated, may_act};
 ghost use Rattle.passive_core.specs.Making.{Makes, record_loads, seats_and};
-ghost use Rattle.protocol.specs.declared.event.Event.TheVariants.{JoinRef, CountDown, SplitBack};
+ghost use Rattle.protocol.specs.declared.event.Event.TheVariants.{CountAdd, SplitRef, JoinRef, CountDown, SplitBack};
 ghost use Rattle.protocol.specs.declared.event.RecordOf.TheVariants.{Local as OfLocal};
 ghost use Rattle.protocol.specs.Events.{is_idle, number_standing};
 ghost use Rattle.passive_core.specs.Locals.{IsCounted, after_acquire_local, after_release_local, release_events, under_events, count_in, count_refusal, is_counting, is_live_local, local_slot, with_count_less, with_total_less};
@@ -29,6 +29,7 @@ impl Core {
         requires ready { may_act self.old c ≡ true }
         ensures answer { IsCounted self.old (count_refusal self.old c (found_at self.old c)) result }
         ensures after { self.new ≡ after_acquire_local self.old c result }
+        ensures made { IfOk result (λ _. Makes self.old (seats_and self.old (CountAdd c ∷ SplitRef c ∷ [])) self.new) }
         ensures settings { self.new.settings ≡ self.old.settings }
         ensures rest { at_rest self.new.due ≡ true }
         ensures ready { (d : ℕ) → may_act self.old d ≡ true → may_act self.new d ≡ true }
