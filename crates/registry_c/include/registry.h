@@ -402,7 +402,8 @@ uint32_t registry_perform_turn(struct registry_keeper *keeper, struct registry_c
  * registry_audit - what the counts say of each live or retired entry, the least slot first
  *
  * The caller holds the interlock and all CPUs, in their order. `length` is how many balances were written; with REGISTRY_NO_ROOM, which writes
- * none, it is how many there are.
+ * none, it is how many there are. Done says of each entry just what the CPUs' counts and the keeper's total are, and each CPU has seen every
+ * change so far then: for this the keeper and each CPU make three loads.
  * Answers REGISTRY_EMPTY_HANDLE for the keeper's, REGISTRY_MISSING_CPU where the handles aren't those of CPU 0, 1, .., all of them,
  * REGISTRY_NO_ROOM.
  */
