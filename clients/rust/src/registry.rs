@@ -132,8 +132,9 @@ impl<'id> Registry<'id> {
         Ok(met)
     }
 
-    /// Makes turns until the slot of the retired entry is vacant, so many at most and one at least, and answers the slot. Between two it
-    /// gives the interlock and the processor up.
+    /// Makes turns until the slot of the retired entry is vacant, so many at most and one at least, and answers the slot. The entry is gone
+    /// for good then: nobody holds it, now or later. Between two turns it gives the interlock and the processor up, and after each the CPU
+    /// has seen every change so far.
     ///
     /// # Errors
     ///

@@ -1,3 +1,6 @@
+pub mod Balance
+pub mod Freed
+pub mod Kept
 pub mod Holders
 pub mod Honest
 pub mod Reaching

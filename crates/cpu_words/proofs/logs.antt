@@ -1,7 +1,7 @@
 pub mod Allowing
 pub mod Changes
+pub mod Counted
 pub mod Logs
-pub mod Makers
 pub mod Runs
 pub mod Seats
 pub mod Loads
@@ -11,5 +11,7 @@ pub mod Dues
 pub mod Walks
 pub mod Standings
 pub mod Slots
+pub mod Kept
+pub mod Totalled
 pub mod Known
 pub mod Growing

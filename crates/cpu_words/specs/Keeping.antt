@@ -1,17 +1,13 @@
 -- A slot keeps a reference to a driver: the reference's seat is joined into the keeper's.
-use Rattle.std.specs.Prelude.{◌≡◌, ◌⊎◌, ℕ, slice_set, Some, None}
+use Rattle.std.specs.Prelude.{◌≡◌, ℕ, slice_set, Some, None}
 use Rattle.registry_values.specs.declared.entry.Kind.TheVariants.{Driver}
-use Rattle.protocol.specs.declared.event.Event.TheVariants.{Vacate}
-use Rattle.registry_values.specs.declared.slot.Slot.TheVariants.{Vacant}
-use Rattle.registry_values.specs.Slots.{slot_at}
 use Rattle.protocol.specs.State.{kept_at}
 use Rattle.cpu_words.specs.declared.view.KeeperView.{KeeperView}
 use Rattle.cpu_words.specs.declared.view.ReferenceView.{ReferenceView}
 use Rattle.cpu_words.specs.declared.view.View.{View}
 use Rattle.cpu_words.specs.declared.view.View.TheVariants.{Keeper}
 use Rattle.cpu_words.specs.Views.{keeper_of, reference_of}
-use Rattle.cpu_words.specs.Steps.{ChangesBy}
-use Rattle.cpu_words.specs.Vacating.{MayWrite, as_vacant}
+use Rattle.cpu_words.specs.Vacating.{MayWrite}
 
 -- the keeper may write into the slot, which keeps nothing, and the reference is to a driver
 pub record MayKeep (k : KeeperView) (t : ℕ) (v : ReferenceView) : Type 0 where
@@ -19,13 +15,9 @@ pub record MayKeep (k : KeeperView) (t : ℕ) (v : ReferenceView) : Type 0 where
   pub nothing : kept_at k.keeps t ≡ None
   pub driver : v.entry.rec.kind ≡ Driver
 
--- the slot, taken as vacant, keeps the reference
+-- the slot keeps the reference
 abbrev pub keeper_after_keep : KeeperView → ℕ → ReferenceView → KeeperView
-keeper_after_keep k t v = record (as_vacant k t) { keeps = slice_set k.keeps t (Some v.entry.number) }
-
--- it was vacant, or the event Vacate makes it so
-abbrev pub IsVacated : KeeperView → ℕ → Type 0
-IsVacated k t = (slot_at k.slots t ≡ Vacant) ⊎ ChangesBy (Vacate t) (Keeper k) (Keeper (as_vacant k t))
+keeper_after_keep k t v = record k { keeps = slice_set k.keeps t (Some v.entry.number) }
 
 -- the keeper's view as a reference is joined into it, to be kept by the slot t
 abbrev pub with_kept : ℕ → View → View → View

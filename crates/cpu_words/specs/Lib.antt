@@ -18,5 +18,8 @@ pub mod Notes
 pub mod Opening
 pub mod Logs
 pub mod Headline
+pub mod Balance
 pub mod Waiting
+pub mod Freed
+pub mod Kept
 pub mod Domains

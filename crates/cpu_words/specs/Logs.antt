@@ -5,11 +5,10 @@ use mathlib.Core.List.{IsPrefix}
 use lib.ListN.{get_elem?}
 use Rattle.atomic_table.specs.Table.{State as Table, Step, Me}
 use Rattle.registry_values.specs.declared.settings.Settings.{Settings}
-use Rattle.registry_values.specs.Slots.{slot_at}
 use Rattle.protocol.specs.declared.event.Event.{Event}
 use Rattle.protocol.specs.declared.event.Event.TheVariants.{Seat, Enter, Exit, Seek, LoadLink, LoadRecord, StoreSlot, StoreNext, Publish, Unpublish, Tell, Hear, Snapshot, Look, PassiveAdd, PassiveSub, PassiveLook, CountAdd, SplitRef, JoinRef, CountDown, SplitBack, Collect, TotalAdd, JoinKeeper, TotalSub, Keep, KeptSub, Vacate}
 use Rattle.protocol.specs.declared.event.RecordOf.TheVariants.{Search as OfSearch, Passive, Local}
-use Rattle.protocol.specs.declared.event.Reply.TheVariants.{Done, Ref}
+use Rattle.protocol.specs.declared.event.Reply.TheVariants.{Done, Ref, Word}
 use Rattle.cpu_words.specs.declared.view.InHand.{InHand}
 use Rattle.cpu_words.specs.declared.view.InHand.TheVariants.{Empty as NoEntry, Taking as TakingEntry, Giving as GivingEntry, Back as BackEntry}
 use Rattle.cpu_words.specs.declared.view.CpuView.{CpuView}
@@ -21,8 +20,7 @@ use Rattle.cpu_words.specs.declared.view.View.{View}
 use Rattle.cpu_words.specs.declared.view.View.TheVariants.{Keeper, Cpu, Reference, Note, Spent}
 use Rattle.cpu_words.specs.Views.{first_view, cpu_of, keeper_of, reference_of}
 use Rattle.cpu_words.specs.Rule.{did, deeds, Ruled}
-use Rattle.cpu_words.specs.Vacating.{vacate_first}
-use Rattle.cpu_words.specs.Deeds.{HasHeardDeeds, IsOwnLog}
+use Rattle.cpu_words.specs.Deeds.{HasHeardDeeds, IsOwnLog, IsShownAfter}
 
 -- the table without the logs
 abbrev pub plain : Table ℕ Logged → Table ℕ View
@@ -138,9 +136,9 @@ IsToldByKeeper does tells st m n l = (l ≡ (record m.0 { view = Keeper (keeper_
 abbrev pub IsToldByReference : (ReferenceView → ℕ → List Deed) → (ReferenceView → ℕ → Type 0) → Step ℕ → Me ℕ Logged → ℕ → Me ℕ Logged → Type 0
 IsToldByReference does tells st m n l = (l ≡ (record m.0 { log = l.0.log }, m.1)) × (l.0.log ≡ m.0.log ++ does (reference_of m.0.view) n) × tells (reference_of m.0.view) n
 
--- A load that hears. A CPU's seat has heard then what the keeper did: what it had heard, and what the note told, are prefixes of that
+-- A load that hears. A CPU's seat has heard then what the keeper did: what it had heard, and what the note told, are prefixes of that, and some state shows its view in which the keeper had done just this
 abbrev pub heard_by_cpu : (CpuView → ℕ → List Deed) → (CpuView → ℕ → CpuView → Type 0) → Step ℕ → Me ℕ Logged → ℕ → Me ℕ Logged → Type 0
-heard_by_cpu does tells st m n l = (l ≡ (record m.0 { view = Cpu (cpu_of l.0.view); log = l.0.log; deeds = l.0.deeds }, m.1)) × (l.0.log ≡ m.0.log ++ does (cpu_of m.0.view) n) × tells (cpu_of m.0.view) n (cpu_of l.0.view) × HasHeardDeeds m.0.deeds m.0.laid l.0.deeds
+heard_by_cpu does tells st m n l = (l ≡ (record m.0 { view = Cpu (cpu_of l.0.view); log = l.0.log; deeds = l.0.deeds }, m.1)) × (l.0.log ≡ m.0.log ++ does (cpu_of m.0.view) n) × tells (cpu_of m.0.view) n (cpu_of l.0.view) × HasHeardDeeds m.0.deeds m.0.laid l.0.deeds × IsShownAfter l.0.deeds (Cpu (cpu_of m.0.view))
 
 -- the keeper finds what the note told in its own log, and its history as long as that says
 abbrev pub heard_by_keeper : (KeeperView → ℕ → List Deed) → (KeeperView → ℕ → KeeperView → Type 0) → Step ℕ → Me ℕ Logged → ℕ → Me ℕ Logged → Type 0
@@ -165,8 +163,8 @@ deeds_done does l = l.log ++ does l.view
 abbrev pub fresh : (View → View) → (Logged → List Deed) → Logged → Logged
 fresh right tells l = record { view = right l.view; log = []; deeds = tells l; laid = [] }
 
-abbrev pub joined_seat : (View → View → View) → (View → List Deed) → Logged → Logged → Logged
-joined_seat both does l m = record l { view = both l.view m.view; log = l.log ++ does l.view }
+abbrev pub joined_seat : (View → View → View) → (View → View → List Deed) → Logged → Logged → Logged
+joined_seat both does l m = record l { view = both l.view m.view; log = l.log ++ does l.view m.view }
 
 -- a note is laid beside the view: this is no event
 abbrev pub logged_with_note : (View → View → View) → Logged → Logged → Logged
@@ -198,12 +196,11 @@ leaves_hand c (BackEntry e) = did (SplitBack c) (Ref 0)
 abbrev pub cuts_off : View → List Deed
 cuts_off v = leaves_hand (cpu_of v).id (cpu_of v).hand
 
-abbrev pub takes_in : View → List Deed
-takes_in v = did (JoinRef (cpu_of v).id 0) Done
+abbrev pub takes_in : View → View → List Deed
+takes_in v u = did (JoinRef (cpu_of v).id (reference_of u).entry.number) Done
 
-abbrev pub gives_up : View → List Deed
-gives_up v = did (JoinKeeper 0) Done
+abbrev pub gives_up : View → View → List Deed
+gives_up v u = did (JoinKeeper (reference_of u).entry.number) Done
 
--- Vacate first where the slot is retired
-abbrev pub keeps_for : ℕ → View → List Deed
-keeps_for t v = vacate_first (slot_at (keeper_of v).slots t) t (did (Keep t 0) Done)
+abbrev pub keeps_for : ℕ → View → View → List Deed
+keeps_for t v u = did (Keep t (reference_of u).entry.number) Done

@@ -10,6 +10,11 @@ use Rattle.cpu_words.specs.declared.view.ReferenceView.{ReferenceView}
 use Rattle.cpu_words.specs.declared.view.View.TheVariants.{Reference}
 use Rattle.cpu_words.specs.Steps.{Makes}
 
+-- The load as the seat knows it: of a reference to its entry
+abbrev pub loads_by : Event → ReferenceView → Event
+loads_by (LoadRecord (Local id k)) v = LoadRecord (Local v.entry.number k)
+loads_by e v = e
+
 -- What the inner step is told. Which id the core gives the reference is in no view, so the event names any.
 abbrev pub tells_local : Event → ReferenceView → ℕ → Type 0
 tells_local event v m = (id k : ℕ) → event ≡ LoadRecord (Local id k) → ((o : ℕ) × Makes (LoadRecord (Local o k)) (Word m) (Reference v) (Reference v)) × (m ≡ word (words_of v.entry) k) × IsTrue (is_lawful v.entry.rec.name)

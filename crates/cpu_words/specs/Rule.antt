@@ -7,18 +7,20 @@ use Rattle.registry_values.specs.declared.entry.Entry.{Entry}
 use Rattle.registry_values.specs.declared.settings.Settings.{Settings}
 use Rattle.protocol.specs.declared.event.Event.{Event}
 use Rattle.protocol.specs.declared.event.Event.TheVariants.{LoadRecord, JoinRef, JoinKeeper, Keep}
+use Rattle.protocol.specs.declared.event.RecordOf.{RecordOf}
 use Rattle.protocol.specs.declared.event.RecordOf.TheVariants.{Local}
 use Rattle.protocol.specs.declared.event.Reply.{Reply}
 use Rattle.protocol.specs.declared.event.Reply.TheVariants.{Ref}
-use Rattle.protocol.specs.Events.{Outcome, step}
+use Rattle.protocol.specs.Events.{Outcome, number_standing, step}
 use Rattle.protocol.specs.Ran.{Ran, empty_run, run_with_event}
-use Rattle.protocol.specs.State.{State, opening, section_at, depth_at, seen_at, passive_at, count_at}
+use Rattle.protocol.specs.State.{State, opening, section_at, depth_at, seen_at, passive_at, count_at, local_at}
 use Rattle.registry_values.specs.Balances.{bias}
 use Rattle.registry_values.specs.Slots.{slot_at}
 use Rattle.protocol.specs.Invariant.{IsIn, one_if, standing_of, Holds}
 use Rattle.protocol.specs.Laws.{after}
 use Rattle.cpu_words.specs.Spots.{Spot, index, IsSpot, word_at}
 use Rattle.cpu_words.specs.Views.{KeeperShown, Shown, is_to}
+use Rattle.cpu_words.specs.declared.view.CpuView.{CpuView}
 use Rattle.cpu_words.specs.declared.view.KeeperView.{KeeperView}
 use Rattle.cpu_words.specs.declared.view.Deed.{Deed}
 use Rattle.cpu_words.specs.declared.view.View.{View}
@@ -45,9 +47,15 @@ reference_to n (Reference v) = one_if (is_to n v.entry)
 reference_to n (Note h) = 0
 reference_to n Spent = 0
 
--- each view is shown, and the seats of references to n are as many as the core's live references to n
+-- the keeper's view is at the first seat, and the view of each CPU below n at its own
+pub record HaveViews (seat : ℕ → ℕ) (n : ℕ) (views : List View) : Type 0 where
+  pub keeper : (k : KeeperView) × (get_elem? views 0 ≡ some (Keeper k))
+  pub cpus : (c : ℕ) → c < n → (x : CpuView) × (get_elem? views (seat c) ≡ some (Cpu x)) × (x.id ≡ c)
+
+-- each view is shown, no seated CPU's is missing, and the seats of references to n are as many as the core's live references to n
 pub record Shows (g : State) (seat : ℕ → ℕ) (views : List View) : Type 0 where
   pub fits : (i : ℕ) (v : View) → get_elem? views i ≡ some v → Sits seat i v × Shown g v
+  pub each : HaveViews seat g.seated views
   pub references : (n : ℕ) → sum_by (reference_to n) views ≡ sum_by (standing_of n) g.locals
 
 -- a CPU that has no seat yet has made no step
@@ -69,31 +77,43 @@ pub record IsShown (k : KeeperView) : Type 0 where
   pub good : Good g
   pub shown : KeeperShown g k
 
--- An event as its seat knows it: the ids of local references are the core's alone
+-- An event as its seat knows it. The ids of local references are the core's alone: in their place stands the number of the reference's entry.
 
-abbrev pub event_without_id : Event → Event
-event_without_id (JoinRef c id) = JoinRef c 0
-event_without_id (JoinKeeper id) = JoinKeeper 0
-event_without_id (Keep t id) = Keep t 0
-event_without_id (LoadRecord (Local id k)) = LoadRecord (Local 0 k)
-event_without_id e = e
+abbrev pub number_or_none : Option ℕ → ℕ
+number_or_none (Some n) = n
+number_or_none None = 0
+
+-- the number of the entry that the live reference is to
+abbrev pub number_of_id : State → ℕ → ℕ
+number_of_id s id = number_or_none (number_standing (local_at s.locals id))
+
+abbrev pub record_by_number : State → RecordOf → RecordOf
+record_by_number s (Local id k) = Local (number_of_id s id) k
+record_by_number s r = r
+
+abbrev pub by_number : State → Event → Event
+by_number s (JoinRef c id) = JoinRef c (number_of_id s id)
+by_number s (JoinKeeper id) = JoinKeeper (number_of_id s id)
+by_number s (Keep t id) = Keep t (number_of_id s id)
+by_number s (LoadRecord of) = LoadRecord (record_by_number s of)
+by_number s e = e
 
 abbrev pub reply_without_id : Reply → Reply
 reply_without_id (Ref id) = Ref 0
 reply_without_id r = r
 
--- just this event, with this reply
+-- just this event, as its seat knows it, with this reply
 abbrev pub did : Event → Reply → List Deed
-did e r = record { event = event_without_id e; reply = reply_without_id r } ∷ []
+did e r = record { event = e; reply = reply_without_id r } ∷ []
 
-abbrev pub deeds_with : Event → Option Outcome → List Deed → List Deed
-deeds_with e None ds = ds
-deeds_with e (Some o) ds = did e o.reply ++ ds
+abbrev pub deeds_with : State → Event → Option Outcome → List Deed → List Deed
+deeds_with s e None ds = ds
+deeds_with s e (Some o) ds = did (by_number s e) o.reply ++ ds
 
 -- the events of a run that were made, in order, each with its reply
 abbrev pub deeds_from : Ran → List Event → List Deed
 deeds_from r [] = []
-deeds_from r (e ∷ es) = deeds_with e (step r.state e) (deeds_from (run_with_event r (step r.state e)) es)
+deeds_from r (e ∷ es) = deeds_with r.state e (step r.state e) (deeds_from (run_with_event r (step r.state e)) es)
 
 abbrev pub deeds : Settings → List Event → List Deed
 deeds z events = deeds_from (empty_run (opening z)) events

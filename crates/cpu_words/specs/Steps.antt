@@ -16,8 +16,8 @@ use Rattle.cpu_words.specs.declared.view.ReferenceView.{ReferenceView}
 use Rattle.cpu_words.specs.declared.view.Deed.{Deed}
 use Rattle.cpu_words.specs.declared.view.View.{View}
 use Rattle.cpu_words.specs.declared.view.View.TheVariants.{Keeper, Cpu, Reference}
-use Rattle.cpu_words.specs.Views.{Shown, cpu_of, keeper_of}
-use Rattle.cpu_words.specs.Rule.{Good, Ruled, GoesOn, reference_to}
+use Rattle.cpu_words.specs.Views.{Shown, cpu_of, keeper_of, reference_of}
+use Rattle.cpu_words.specs.Rule.{Good, Ruled, GoesOn, number_of_id, reference_to}
 
 -- the two views are of one seat
 abbrev pub OneSeat : View → View → Type 0
@@ -53,9 +53,10 @@ pub record SplitMakes (e : Event) (g : State) (v left right : View) : Type 0 whe
 abbrev pub SplitsBy : Event → View → View → View → Type 0
 SplitsBy e v left right = (g : State) → Good g → Shown g v → SplitMakes e g v left right
 
--- the id of the reference that is joined is the core's alone
+-- the id of the reference that is joined is the core's alone; it is one to the entry that its view has
 pub record JoinMakes (e : ℕ → Event) (g : State) (v u both : View) : Type 0 where
   pub id : ℕ
+  pub names : number_of_id g id ≡ (reference_of u).entry.number
   pub after : State
   pub made : step g (e id) ≡ Some (record { state = after; reply = Done })
   pub good_after : Good after
@@ -65,16 +66,6 @@ pub record JoinMakes (e : ℕ → Event) (g : State) (v u both : View) : Type 0 
 -- just such an event of the core is made as the view u, whose references the core has, is put into v
 abbrev pub JoinsBy : (ℕ → Event) → View → View → View → Type 0
 JoinsBy e v u both = (g : State) → Good g → Shown g v → Shown g u → ((n : ℕ) → reference_to n u ≤ sum_by (standing_of n) g.locals) → JoinMakes e g v u both
-
--- A change of a view that touches no word and no other seat: in whatever state of the core shows the view, it is just this event.
-pub record ChangeMakes (e : Event) (g : State) (w : View) : Type 0 where
-  pub after : State
-  pub made : step g e ≡ Some (record { state = after; reply = Done })
-  pub good_after : Good after
-  pub shown : Shown after w
-
-abbrev pub ChangesBy : Event → View → View → Type 0
-ChangesBy e v w = (g : State) → Good g → Shown g v → ChangeMakes e g w
 
 -- A seat is cut in two, or takes in another: the run goes on with just these events.
 

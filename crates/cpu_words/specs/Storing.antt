@@ -5,19 +5,18 @@ use Rattle.protocol.specs.declared.event.Event.TheVariants.{StoreSlot, StoreNext
 use Rattle.protocol.specs.State.{row_at, with_cell}
 use Rattle.protocol.specs.Events.{with_word}
 use Rattle.cpu_words.specs.declared.view.KeeperView.{KeeperView}
-use Rattle.cpu_words.specs.Vacating.{as_vacant}
 
 -- the slot's record word j is v
 abbrev pub HasRecordWord : KeeperView → ℕ → ℕ → ℕ → KeeperView → Type 0
-HasRecordWord k t j v l = l ≡ record (as_vacant k t) { rows = slice_set k.rows t (with_word (row_at k.rows t) j v) }
+HasRecordWord k t j v l = l ≡ record k { rows = slice_set k.rows t (with_word (row_at k.rows t) j v) }
 
 -- the count word of the CPU c for it is v
 abbrev pub HasCountWord : KeeperView → ℕ → ℕ → ℕ → KeeperView → Type 0
-HasCountWord k t c v l = l ≡ record (as_vacant k t) { counts = with_cell (as_vacant k t).counts t c v }
+HasCountWord k t c v l = l ≡ record k { counts = with_cell k.counts t c v }
 
 -- its link is v
 abbrev pub HasLink : KeeperView → ℕ → ℕ → KeeperView → Type 0
-HasLink k t v l = l ≡ record (as_vacant k t) { next = slice_set k.next t v }
+HasLink k t v l = l ≡ record k { next = slice_set k.next t v }
 
 -- what each store tells, by its event
 
@@ -32,9 +31,3 @@ CountStored e k l = ⊥
 abbrev pub LinkStored : Event → KeeperView → KeeperView → Type 0
 LinkStored (StoreNext t v) k l = HasLink k t v l
 LinkStored e k l = ⊥
-
--- the slot that a store is into
-abbrev pub slot_stored : Event → ℕ
-slot_stored (StoreSlot t j v) = t
-slot_stored (StoreNext t v) = t
-slot_stored e = 0

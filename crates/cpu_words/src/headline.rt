@@ -2,6 +2,9 @@
 
 ghost use Rattle.cpu_words.specs.Headline.{DrainedIsFree, FoundIsHeld, HeldHaveSlots, MarksAreHonest, RunningHeadline};
 ghost use Rattle.cpu_words.specs.Waiting.{WaitingEnds};
+ghost use Rattle.cpu_words.specs.Freed.{FreedIsGone};
+ghost use Rattle.cpu_words.specs.Kept.{AttachedKeeps};
+ghost use Rattle.cpu_words.specs.Balance.{SeatsBalance};
 
 /// Does nothing; its contract says the headline of the running words, between any two steps of whatever threads. `run`: there is a list
 /// of events from the opening such that the words and the views of all seats show the state after it. That state has the core invariant,
@@ -10,11 +13,20 @@ ghost use Rattle.cpu_words.specs.Waiting.{WaitingEnds};
 /// whose it is, and each seat's log has just its own events in order, with their replies. `held`: an entry that a CPU's open section may
 /// hold, or to which a CPU has a passive reference, or a CPU, a seat or a slot has a local one, has its slot. `waiting`: where a seat has
 /// heard that the keeper took the section word of each CPU, and later found each even or another one, each section that was open before has
-/// ended, and no section that is open now may hold an entry that was detached by then.
+/// ended, and no section that is open now may hold an entry that was detached by then. `freed`: where a seat has heard that the keeper made
+/// the slot vacant from which an entry was detached, that entry has no slot, and nothing holds it. `kept`: where a seat has heard that the keeper
+/// attached an interface in a slot that keeps a driver, that slot keeps it, and the driver has a slot, as long as the interface has its own.
+/// `balance`: of each live or retired entry, the
+/// count words of its slot and the total, less their biases, are the local references that the seats hold: the seats of such references, the
+/// hands of all CPUs, each of which has just one seat, and the slots that keep one. Where the keeper is half way, what it has collected and has
+/// still to add counts with the words, and the reference that it has still to subtract with those held.
 pub fn running_headline()
     ensures run { RunningHeadline }
     ensures held { HeldHaveSlots }
     ensures waiting { WaitingEnds }
+    ensures freed { FreedIsGone }
+    ensures kept { AttachedKeeps }
+    ensures balance { SeatsBalance }
 {}
 
 /// Does nothing; its contract says what the keeper's marks tell of all seats, between any two steps of whatever threads. `drained`: where

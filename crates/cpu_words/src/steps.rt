@@ -1,6 +1,6 @@
 //! One function for each kind of step, named after its event, or after what it stores or looks at. Each makes just its event of the core,
-//! with one seat, and takes no memory; the seat's log goes on with just that event and its reply (`log`). Two make another event before
-//! their own: `seek` begins the search and loads its first link, and a slot's first store, or `keep`, takes a drained slot as vacant.
+//! with one seat, and takes no memory; the seat's log goes on with just that event and its reply (`log`). Two make two
+//! events: `seek` begins the search and loads its first link, and `vacate` makes a slot vacant and hears.
 
 pub mod drain;
 pub mod grace;
@@ -14,6 +14,7 @@ pub mod reading;
 pub mod search;
 pub mod seats;
 pub mod sections;
+pub mod vacating;
 
 pub use drain::{collect, join_keeper, kept_sub, passive_look, total_add, total_sub};
 pub use grace::{look, look_now, snapshot, snapshot_now};
@@ -27,3 +28,4 @@ pub use reading::load_local;
 pub use search::{load_link, load_searched, seek};
 pub use seats::seat;
 pub use sections::{enter, exit};
+pub use vacating::vacate;

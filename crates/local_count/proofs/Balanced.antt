@@ -18,7 +18,7 @@ use Rattle.protocol.proofs.counts.CountBounds.{collected_at, total_range}
 use Rattle.protocol.proofs.keeps.CountKeeps.{fit_of}
 use Rattle.protocol.proofs.counts.Held.{held_kept}
 use Rattle.protocol.proofs.counts.HeldSums.{one_self}
-use Rattle.protocol.proofs.slots.Occupied.{in_within, retired_one, slot_has}
+use Rattle.protocol.proofs.slots.Occupied.{in_within, slot_has}
 use Rattle.protocol.proofs.keeps.References.{due_subtracting}
 use Rattle.cpu_words.specs.declared.view.KeeperView.{KeeperView}
 use Rattle.cpu_words.specs.Draining.{row_of}
@@ -86,14 +86,13 @@ adding_fits k t old is_shown due =
 pub bias_within : (k : KeeperView) (t : ℕ) (e : Entry) → IsShown k → k.due ≡ Rest → slot_at k.slots t ≡ Retired e → are_collected k.settings.cpus (row_of k t) ≡ true → bias ≤ total_at k.totals t
 bias_within k t e is_shown rest retired all = omega (arith, total_collected is_shown.g k t e is_shown.good is_shown.shown (none_at_rest k.due t rest) retired all)
 
--- The entry of t, live or retired, is held: one can be subtracted from the total, and t isn't drained.
+-- The entry of t, live or retired, is held: one can be subtracted from the total.
 pub record IsHeldIn (k : KeeperView) (t : ℕ) : Type 0 where
   pub e : Entry
   pub occupied : IsIn e (slot_at k.slots t)
   pub slot : t < k.settings.slots
   pub positive : 0 < total_at k.totals t
   pub near : total_at k.totals t ≤ bias + 2 ^ 43
-  pub undrained : (f : Entry) → slot_at k.slots t ≡ Retired f → are_collected k.settings.cpus (row_of k t) ≡ true → bias < total_at k.totals t
 
 held_from : (g : State) (k : KeeperView) (t : ℕ) (e : Entry) → Good g → KeeperShown g k → NothingToAdd k.due t → IsIn e (slot_at k.slots t) → 0 < held_in g e.number t → IsHeldIn k t
 held_from g k t e good had none is some =
@@ -109,10 +108,6 @@ held_from g k t e good had none is some =
       slot = omega (arith, in_list, slots, size, settings);
       positive = omega (arith, near.0);
       near = near.1;
-      undrained = λ f retired all.
-          let total = total_collected g k t f good had none retired all in
-          let one : held_in g e.number t ≡ held_in g f.number t = ap (λ (x : Entry). held_in g x.number t) (retired_one e f (slot_at k.slots t) retired is) in
-          omega (arith, total, one, some);
     }
 
 -- by the reference that the keeper has taken in, to be subtracted

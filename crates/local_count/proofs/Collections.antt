@@ -8,8 +8,7 @@ use Rattle.protocol.specs.declared.event.Reply.TheVariants.{Done, Word}
 use Rattle.registry_values.specs.declared.settings.Settings.{Settings}
 use Rattle.protocol.specs.declared.state.Due.TheVariants.{Rest}
 use Rattle.registry_values.specs.declared.mark.Mark.{Mark}
-use Rattle.registry_values.specs.declared.slot.Slot.{Slot}
-use Rattle.registry_values.specs.declared.slot.Slot.TheVariants.{Vacant, Live, Retired}
+use Rattle.registry_values.specs.declared.slot.Slot.TheVariants.{Vacant, Retired}
 use Rattle.registry_values.specs.Marks.{mark_after_collect, are_collected, no_mark}
 use Rattle.registry_values.specs.Balances.{bias}
 use Rattle.registry_values.specs.Slots.{slot_at}
@@ -25,7 +24,7 @@ use Rattle.cpu_words.specs.Rule.{IsShown, did}
 use Rattle.cpu_words.specs.Steps.{Makes}
 use Rattle.cpu_words.proofs.shown.KeepersShown.{step_is_shown}
 use Rattle.passive_list.specs.declared.keeper.KeptSlot.{KeptSlot}
-use Rattle.passive_list.specs.Keepers.{OnKeeper, no_row, row_at, state_of, states_of, TakenAs, IsAtRest, RowsAgree, IsOurKeeper}
+use Rattle.passive_list.specs.Keepers.{OnKeeper, no_row, row_at, state_of, states_of, IsAtRest, RowsAgree, IsOurKeeper}
 use Rattle.passive_list.proofs.Rows.{state_at, not_vacant_within, retired_in, row_stays, rows_set}
 use Rattle.local_count.specs.Draining.{keeper_after_collect, HasCollectedInto, AreHeld}
 use Rattle.local_count.proofs.Balanced.{none_at_rest, total_collected, bias_within, adding_fits}
@@ -68,18 +67,13 @@ with_total_rows a k rows t marks total given_up at agree some =
     let off : (row_at rows t).state ≡ Vacant → ⊥ = λ vacant. some (state_at rows t ∙ vacant) in
     rows_set a k l rows t (row_with_total (row_at rows t) marks total) lt (omega (arith, lt, most)) agree
     record {
-      state = stays (row_at rows t).state off had.state;
+      state = had.state;
       marks = sym (get_or-set_same k.marks t marks [] (let size = at.sized.marks in omega (arith, lt, size)));
       total = sym (total_here k.totals t total (let size = at.sized.totals in omega (arith, lt, size)));
       keeps = had.keeps;
       unused = λ vacant. absurd (off vacant);
     }
-    (λ u other was. row_stays k l u (row_at rows u) refl refl refl (get_or-set_other k.marks t u marks [] other) (total_other k.totals t total u other) refl was)
-  where
-    stays : (x : Slot) → (x ≡ Vacant → ⊥) → TakenAs k t x → TakenAs (with_total k t marks total given_up) t x
-    stays Vacant off is = absurd (off refl)
-    stays (Live e) off is = is
-    stays (Retired e) off is = is
+    (λ u other was. row_stays k l u (row_at rows u) refl (get_or-set_other k.marks t u marks [] other) (total_other k.totals t total u other) refl was)
 
 -- the keeper's data agree with such a view, where the slot isn't vacant
 pub with_total_keeper : (z : TableId) (a : Settings) (table table' : TableId) (k l : KeeperView) (its : Settings) (rows : List KeptSlot) (n t : ℕ) (marks : List Mark) (total : ℕ) (given_up : List ℕ)

@@ -1,5 +1,5 @@
 -- A retired interface is freed: the driver that its slot keeps has a row, the keeper may give it up, and what it has agrees with what its seat knows then.
-use Rattle.std.proofs.Common.{◌≡◌, ◌≢◌, inl, inr, ℕ, ◌+◌, ◌-◌, ◌<◌, List, ◌++◌, length, set, replicate, Option, Some, None, refl, sym, ap, ◌∙◌, subst, arith, get_or-set_same, get_or-set_other, length-set}
+use Rattle.std.proofs.Common.{◌≡◌, ◌≢◌, inr, ℕ, ◌+◌, ◌-◌, ◌<◌, List, ◌++◌, length, set, replicate, Option, Some, None, refl, sym, ap, ◌∙◌, subst, arith, get_or-set_same, get_or-set_other, length-set}
 use Rattle.std.proofs.lemmas.List.{map-set}
 use Rattle.std.proofs.lemmas.List.Quantifiers.{position-Some}
 use Rattle.std.proofs.Math.Seq.{map-set_same}
@@ -11,7 +11,7 @@ use Rattle.protocol.specs.declared.event.Reply.TheVariants.{Done}
 use Rattle.registry_values.specs.declared.settings.Settings.{Settings}
 use Rattle.protocol.specs.declared.state.Due.TheVariants.{Rest}
 use Rattle.registry_values.specs.declared.slot.Slot.{Slot}
-use Rattle.registry_values.specs.declared.slot.Slot.TheVariants.{Vacant, Live, Retired}
+use Rattle.registry_values.specs.declared.slot.Slot.TheVariants.{Vacant, Retired}
 use Rattle.protocol.specs.Invariant.{IsIn, DriversKept}
 use Rattle.registry_values.specs.Slots.{has_number, live_count, slot_of, slot_at}
 use Rattle.registry_values.specs.Balances.{bias}
@@ -24,13 +24,14 @@ use Rattle.protocol.proofs.slots.Occupied.{has_it, not_vacant, number_in, one_nu
 use Rattle.cpu_words.specs.declared.view.KeeperView.{KeeperView}
 use Rattle.cpu_words.specs.declared.view.Deed.{Deed}
 use Rattle.cpu_words.specs.declared.view.View.TheVariants.{Keeper}
+use Rattle.cpu_words.specs.Deeds.{IsFreedFrom}
 use Rattle.cpu_words.specs.Draining.{MayKeptSub, HasKeptSub}
 use Rattle.cpu_words.specs.Rule.{IsShown, did}
 use Rattle.cpu_words.specs.Steps.{Makes}
 use Rattle.cpu_words.specs.Views.{one_more}
 use Rattle.cpu_words.proofs.by_keeper.KeeperSees.{seen_by_keeper}
 use Rattle.passive_list.specs.declared.keeper.KeptSlot.{KeptSlot}
-use Rattle.passive_list.specs.Keepers.{OnKeeper, no_row, row_at, state_of, states_of, TakenAs, IsAtRest, RowsAgree, IsOurKeeper}
+use Rattle.passive_list.specs.Keepers.{OnKeeper, no_row, row_at, state_of, states_of, IsAtRest, RowsAgree, IsOurKeeper}
 use Rattle.passive_list.specs.Vacating.{IsDrainedOn}
 use Rattle.passive_list.proofs.Rows.{state_at, taken_in, retired_in, row_stays, rows_set}
 use Rattle.local_count.specs.Draining.{HasFreed, kept_slot, place_of}
@@ -38,12 +39,6 @@ use Rattle.local_count.proofs.Balanced.{IsHeldIn, held_by_slot}
 use Rattle.local_count.proofs.Subtracting.{HeldRow, held_row, row_less, less, less_rows}
 
 -- The driver's row
-
--- what is taken of a slot that isn't taken as vacant
-taken_is : (k : KeeperView) (t : ℕ) (x : Slot) → (x ≡ Vacant → ⊥) → TakenAs k t x → slot_at k.slots t ≡ x
-taken_is k t Vacant off is = absurd (off refl)
-taken_is k t (Live e) off is = is
-taken_is k t (Retired e) off is = is
 
 -- the row that shows the number has its entry, which is in that slot
 place_told : (a : Settings) (k : KeeperView) (rows : List KeptSlot) (n u : ℕ) → RowsAgree a k rows → place_of n rows ≡ Some u → (e : Entry) × IsIn e (slot_at k.slots u) × (e.number ≡ n)
@@ -53,7 +48,7 @@ place_told a k rows n u agree found =
     let has = number_in n x at.1 in
     let off : x ≡ Vacant → ⊥ = λ v. not_vacant has.0 x v has.1 in
     let here = taken_in a k rows u x agree (state_at rows u) off in
-    (has.0, subst (IsIn has.0) (sym (taken_is k u x off here.1)) has.1, has.2)
+    (has.0, subst (IsIn has.0) (sym here.1) has.1, has.2)
 
 -- a number has one slot
 one_slot : (k : KeeperView) (t u : ℕ) (e f : Entry) → IsShown k → IsIn e (slot_at k.slots t) → IsIn f (slot_at k.slots u) → f.number ≡ e.number → u ≡ t
@@ -197,13 +192,13 @@ freed_rows a k rows t d u at agree held off lt total =
     let stays : total_at m.totals t ≡ total_at k.totals t = total_other k.totals u _ t (λ same. off (sym same)) in
     rows_set a m (freed k t d u) rows' t (row_freed (row_at rows t)) lt (omega (arith, lt, most)) (less_rows a k rows u k.given_up at agree (held_row a k rows u at agree held))
     record {
-      state = inl (slot_here k.slots t Vacant (omega (arith, lt, slot_size)));
+      state = slot_here k.slots t Vacant (omega (arith, lt, slot_size));
       marks = had.marks;
       total = had.total ∙ sym stays;
       keeps = sym (get_or-set_same k.keeps t None None (omega (arith, lt, keep_size)));
       unused = λ vacant. had.total ∙ total;
     }
-    (λ v other was. row_stays m (freed k t d u) v (row_at rows' v) at.rest refl (slot_other k.slots t Vacant v other) refl refl (get_or-set_other k.keeps t v None None other) was)
+    (λ v other was. row_stays m (freed k t d u) v (row_at rows' v) (slot_other k.slots t Vacant v other) refl refl (get_or-set_other k.keeps t v None None other) was)
 
 pub freed_keeper : {log : List Deed} (z : TableId) (a : Settings) (table table' : TableId) (k l : KeeperView) (its : Settings) (rows : List KeptSlot) (n t u : ℕ) (x : OnKeeper) → IsOurKeeper z a table k its rows n → record { view = k; slots = states_of rows; log = log } ≡ x → IsDrainedOn x t → KeepsHeld k t u
     → table' ≡ table → HasKeptSub k t u l → IsShown l → IsOurKeeper z a table' l its (set (set rows u (row_less (row_at rows u))) t (row_freed (row_at rows t))) n
@@ -222,9 +217,9 @@ freed_keeper z a table table' k l its rows n t u x our is drained keeps same tol
     }
 
 -- what it leaves of the keeper
-pub has_freed : {log later : List Deed} (k l : KeeperView) (rows : List KeptSlot) (t u : ℕ) (r : KeptSlot) (x : OnKeeper) → record { view = k; slots = states_of rows; log = log } ≡ x → Makes (KeptSub t) Done (Keeper k) (Keeper l) → HasKeptSub k t u l → later ≡ log ++ did (KeptSub t) Done
-    → HasFreed x t (record { view = l; slots = states_of (set (set rows u (row_less (row_at rows u))) t (row_freed r)); log = later })
-has_freed {later} k l rows t u r x is made told goes_on =
+pub has_freed : {log later : List Deed} (a : Settings) (k l : KeeperView) (rows : List KeptSlot) (t u : ℕ) (r : KeptSlot) (x : OnKeeper) → record { view = k; slots = states_of rows; log = log } ≡ x → RowsAgree a k rows → Makes (KeptSub t) Done (Keeper k) (Keeper l) → HasKeptSub k t u l → later ≡ log ++ did (KeptSub t) Done
+    → ((e : Entry) → slot_at k.slots t ≡ Retired e → IsFreedFrom t e.number later) → HasFreed x t (record { view = l; slots = states_of (set (set rows u (row_less (row_at rows u))) t (row_freed r)); log = later })
+has_freed {later} a k l rows t u r x is agree made told goes_on freed =
     let after = set (set rows u (row_less (row_at rows u))) t (row_freed r) in
     subst (λ (y : OnKeeper). HasFreed y t (record { view = l; slots = states_of after; log = later })) is record {
       u = u;
@@ -232,4 +227,5 @@ has_freed {later} k l rows t u r x is made told goes_on =
       view = told;
       slots = map-set state_of (set rows u (row_less (row_at rows u))) t (row_freed r) ∙ ap (λ (xs : List Slot). set xs t Vacant) (map-set_same state_of rows u (row_less (row_at rows u)) no_row refl);
       log = goes_on;
+      freed = λ e at. freed e (retired_in a k rows t e agree at).1;
     }

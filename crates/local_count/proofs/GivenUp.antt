@@ -52,7 +52,6 @@ held_before k j l v joined made =
       slot = held.slot;
       positive = held.positive;
       near = held.near;
-      undrained = held.undrained;
     }
 
 -- so its slot's row has it
@@ -77,14 +76,14 @@ given_keeper z a table table' k j l its rows n t v our slot joined made told sam
 -- what is left of the keeper
 pub has_given_up : {log between later : List Deed} (k j l : KeeperView) (rows : List KeptSlot) (t : ℕ) (v w : ReferenceView) (x : OnKeeper) → record { view = k; slots = states_of rows; log = log } ≡ x → v ≡ w → k.due ≡ Rest → v.entry.slot ≡ t → j ≡ keeper_after_join k v
     → JoinsBy JoinKeeper (Keeper k) (Reference v) (Keeper j) → Makes (TotalSub t) Done (Keeper j) (Keeper l) → HasSubtracted j t l
-    → between ≡ log ++ did (JoinKeeper 0) Done → later ≡ between ++ did (TotalSub t) Done → HasGivenUp x w (record { view = l; slots = states_of (set rows t (row_less (row_at rows t))); log = later })
+    → between ≡ log ++ did (JoinKeeper v.entry.number) Done → later ≡ between ++ did (TotalSub t) Done → HasGivenUp x w (record { view = l; slots = states_of (set rows t (row_less (row_at rows t))); log = later })
 has_given_up {log} {later} k j l rows t v w x is is_too rest slot joined joins made told first then =
     let after = states_of (set rows t (row_less (row_at rows t))) in
     let s = v.entry.slot in
     let made_there : Makes (TotalSub s) Done (Keeper j) (Keeper l) = subst (λ (u : ℕ). Makes (TotalSub u) Done (Keeper j) (Keeper l)) (sym slot) made in
     let told_there : HasSubtracted j s l = subst (λ (u : ℕ). HasSubtracted j u l) (sym slot) told in
-    let both : later ≡ log ++ did (JoinKeeper 0) Done ++ did (TotalSub s) Done =
-    then ∙ ap (λ (ds : List Deed). ds ++ did (TotalSub t) Done) first ∙ ap (λ (u : ℕ). log ++ did (JoinKeeper 0) Done ++ did (TotalSub u) Done) (sym slot) in
+    let both : later ≡ log ++ did (JoinKeeper v.entry.number) Done ++ did (TotalSub s) Done =
+    then ∙ ap (λ (ds : List Deed). ds ++ did (TotalSub t) Done) first ∙ ap (λ (u : ℕ). log ++ did (JoinKeeper v.entry.number) Done ++ did (TotalSub u) Done) (sym slot) in
     subst (λ (y : OnKeeper). HasGivenUp y w (record { view = l; slots = after; log = later })) is (subst (λ (u : ReferenceView). HasGivenUp (record { view = k; slots = states_of rows; log = log }) u (record { view = l; slots = after; log = later })) is_too record {
       joined = subst (λ (y : KeeperView). JoinsBy JoinKeeper (Keeper k) (Reference v) (Keeper y)) joined joins;
       subtracted = subst (λ (y : KeeperView). Makes (TotalSub s) Done (Keeper y) (Keeper l)) joined made_there;

@@ -1,39 +1,24 @@
 -- A reference is given up: the total in one row is one less.
-use Rattle.std.proofs.Common.{◌≡◌, ⊎_elim, ℕ, ◌-◌, ◌<◌, ◌≤◌, List, [], length, set, sym, ap, ◌∙◌, subst, arith}
+use Rattle.std.proofs.Common.{◌≡◌, ℕ, ◌-◌, ◌<◌, ◌≤◌, List, [], length, set, sym, ap, ◌∙◌, subst, arith}
 use Rattle.std.proofs.lemmas.List.{set-get_or}
 use Rattle.registry_values.specs.declared.settings.Settings.{Settings}
 use Rattle.protocol.specs.declared.state.Due.TheVariants.{Rest}
 use Rattle.registry_values.specs.declared.mark.Mark.{Mark}
-use Rattle.registry_values.specs.declared.slot.Slot.{Slot}
-use Rattle.registry_values.specs.declared.slot.Slot.TheVariants.{Vacant, Live, Retired}
+use Rattle.registry_values.specs.declared.slot.Slot.TheVariants.{Vacant}
 use Rattle.registry_values.specs.Slots.{slot_at}
 use Rattle.protocol.specs.State.{total_at}
 use Rattle.registry_values.proofs.Fit.{ranges}
 use Rattle.protocol.proofs.slots.Occupied.{not_vacant}
 use Rattle.cpu_words.specs.declared.view.KeeperView.{KeeperView}
-use Rattle.cpu_words.specs.Vacating.{MayVacate}
 use Rattle.passive_list.specs.declared.keeper.KeptSlot.{KeptSlot}
-use Rattle.passive_list.specs.Keepers.{row_at, states_of, RowAgrees, IsAtRest, RowsAgree, TakenAs}
+use Rattle.passive_list.specs.Keepers.{row_at, states_of, RowAgrees, IsAtRest, RowsAgree}
 use Rattle.passive_list.proofs.Rows.{state_at}
 use Rattle.local_count.proofs.Balanced.{IsHeldIn}
 use Rattle.local_count.proofs.Collections.{with_total, row_with_total, with_total_rows}
 
 -- What is held
 
--- it isn't taken as vacant
-taken_held : (k : KeeperView) (t : ℕ) (x : Slot) → IsHeldIn k t → TakenAs k t x → x ≡ slot_at k.slots t
-taken_held k t Vacant held is = ⊎_elim
-    (λ (vacant : slot_at k.slots t ≡ Vacant). sym vacant)
-    (λ (may : MayVacate k t).
-    let d = may.drained in
-    let more = held.undrained d.retired.0 d.retired.1 d.collected in
-    let total = d.total in
-    absurd (omega (arith, more, total)))
-    is
-taken_held k t (Live e) held is = sym is
-taken_held k t (Retired e) held is = sym is
-
--- so its row shows it, and one can be subtracted there
+-- its row shows it, and one can be subtracted there
 pub record HeldRow (k : KeeperView) (rows : List KeptSlot) (t : ℕ) : Type 0 where
   pub agrees : RowAgrees k t (row_at rows t)
   pub slot : t < 32
@@ -48,7 +33,7 @@ held_row a k rows t at agree held =
     let same = ap (λ (z : Settings). z.slots) at.settings in
     let most = (ranges a at.fit).slots in
     let had = agree.each t (omega (arith, within, same)) in
-    let shown = taken_held k t (row_at rows t).state held had.state in
+    let shown = sym had.state in
     record {
       agrees = had;
       slot = omega (arith, within, same, most);

@@ -13,11 +13,11 @@ use Rattle.registry_values.specs.Balances.{bias}
 use Rattle.cpu_words.specs.declared.view.KeeperView.{KeeperView}
 use Rattle.cpu_words.specs.declared.view.ReferenceView.{ReferenceView}
 use Rattle.cpu_words.specs.declared.view.View.TheVariants.{Keeper, Reference}
+use Rattle.cpu_words.specs.Deeds.{IsAttachedKeeping, IsFreedFrom}
 use Rattle.cpu_words.specs.Draining.{keeper_after_join, HasKeptSub}
-use Rattle.cpu_words.specs.Keeping.{IsVacated, keeper_after_keep}
+use Rattle.cpu_words.specs.Keeping.{keeper_after_keep}
 use Rattle.cpu_words.specs.Rule.{Good, did}
 use Rattle.cpu_words.specs.Steps.{Makes, JoinsBy}
-use Rattle.cpu_words.specs.Vacating.{as_vacant}
 use Rattle.cpu_words.specs.Views.{KeeperShown, one_more}
 use Rattle.passive_list.specs.declared.keeper.KeptSlot.{KeptSlot}
 use Rattle.passive_list.specs.Keepers.{OnKeeper, state_of}
@@ -52,15 +52,16 @@ pub record HasGivenUp (a : OnKeeper) (v : ReferenceView) (b : OnKeeper) : Type 0
   pub subtracted : Makes (TotalSub v.entry.slot) Done (Keeper (keeper_after_join a.view v)) (Keeper b.view)
   pub view : b.view ≡ record a.view { totals = slice_set a.view.totals v.entry.slot (total_at a.view.totals v.entry.slot - 1); given_up = one_more a.view.given_up v.entry.number }
   pub slots : b.slots ≡ a.slots
-  pub log : b.log ≡ a.log ++ did (JoinKeeper 0) Done ++ did (TotalSub v.entry.slot) Done
+  pub log : b.log ≡ a.log ++ did (JoinKeeper v.entry.number) Done ++ did (TotalSub v.entry.slot) Done
 
 -- Interfaces
 
 -- the slot keeps the reference, and then the entry is published in it
 pub record HasAttachedKeeping (a : OnKeeper) (v : ReferenceView) (e : Entry) (b : OnKeeper) : Type 0 where
-  pub vacated : IsVacated a.view e.slot
-  pub kept : JoinsBy (Keep e.slot) (Keeper (as_vacant a.view e.slot)) (Reference v) (Keeper (keeper_after_keep a.view e.slot v))
+  pub kept : JoinsBy (Keep e.slot) (Keeper a.view) (Reference v) (Keeper (keeper_after_keep a.view e.slot v))
   pub attached : HasAttached (record a { view = keeper_after_keep a.view e.slot v }) e b
+  -- by the log
+  pub keeping : IsAttachedKeeping e.slot e.number v.entry.number b.log
 
 -- the row that shows the live or retired entry n
 abbrev pub place_of : ℕ → List KeptSlot → Option ℕ
@@ -71,10 +72,11 @@ abbrev pub kept_slot : Option ℕ → List KeptSlot → Option ℕ
 kept_slot None rows = None
 kept_slot (Some d) rows = place_of d rows
 
--- the interface's slot is vacant, and the reference that it kept to the driver in the slot u is given up
+-- the interface's slot is vacant, and the reference that it kept to the driver in the slot u is given up; the interface is gone from there, by the log
 pub record HasFreed (a : OnKeeper) (t : ℕ) (b : OnKeeper) : Type 0 where
   pub u : ℕ
   pub made : Makes (KeptSub t) Done (Keeper a.view) (Keeper b.view)
   pub view : HasKeptSub a.view t u b.view
   pub slots : b.slots ≡ slice_set a.slots t Vacant
   pub log : b.log ≡ a.log ++ did (KeptSub t) Done
+  pub freed : (e : Entry) → slot_at a.slots t ≡ Retired e → IsFreedFrom t e.number b.log

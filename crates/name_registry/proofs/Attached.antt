@@ -1,5 +1,5 @@
 -- An attach: what the entry that is given tells, and what the call leaves.
-use Rattle.std.proofs.Common.{◌≡◌, ◌∙◌, ℕ, suc, ◌+◌, ◌≤◌, Bool, true, false, Option, Some, None, List, length, Ok, IsTrue, refl, sym, ap, subst, arith, add-one, leb-true}
+use Rattle.std.proofs.Common.{◌≡◌, ◌∙◌, ℕ, suc, ◌+◌, ◌≤◌, Bool, true, false, Option, Some, None, List, ◌∷◌, ◌++◌, length, Ok, append_assoc, IsTrue, refl, sym, ap, subst, arith, add-one, leb-true}
 use Rattle.std.specs.Prelude.{◌≢◌, ◌↔◌, is_some}
 use Rattle.std.specs.List.{zip}
 use Rattle.std.proofs.lemmas.Option.{none-some}
@@ -17,17 +17,19 @@ use Rattle.registry_values.specs.declared.slot.Slot.{Slot}
 use Rattle.registry_values.specs.declared.slot.Slot.TheVariants.{Vacant, Live, Retired}
 use Rattle.registry_values.specs.Slots.{is_plain, key_of_record, is_iface, is_taken, live_count, slot_at}
 use Rattle.registry_values.proofs.Answers.{given_tells}
+use Rattle.protocol.specs.declared.event.Event.TheVariants.{Publish, Tell}
+use Rattle.protocol.specs.declared.event.Reply.TheVariants.{Done}
 use Rattle.protocol.specs.Events.{keeps_rightly}
 use Rattle.protocol.specs.History.{after_change}
 use Rattle.protocol.specs.State.{kept_at}
-use Rattle.cpu_words.specs.declared.view.KeeperView.{KeeperView}
+use Rattle.cpu_words.specs.declared.view.Deed.{Deed}
+use Rattle.cpu_words.specs.Deeds.{IsAttachedKeeping}
+use Rattle.cpu_words.specs.Rule.{did}
 use Rattle.cpu_words.specs.declared.view.ReferenceView.{ReferenceView}
-use Rattle.cpu_words.specs.Keeping.{keeper_after_keep}
 use Rattle.passive_list.specs.Cpus.{OnCpu}
 use Rattle.passive_list.specs.Keepers.{OnKeeper}
 use Rattle.passive_list.specs.Notes.{HasHeardOn}
 use Rattle.passive_list.specs.Publishing.{HasAttached}
-use Rattle.passive_list.proofs.Preparing.{as_vacant_is}
 use Rattle.local_count.specs.Draining.{HasAttachedKeeping}
 use Rattle.name_registry.specs.Attaching.{given_entry, plain_slot, room_of}
 use Rattle.name_registry.specs.Meeting.{keeper_after_hear, keeper_after_tell, HasSeenAttach}
@@ -105,9 +107,20 @@ attach_met a x m n e b y heard same seen number after hears = (
 pub attached_told : (a : OnKeeper) (e : Entry) (b : OnKeeper) → HasAttached a e b → HasAttached a e (keeper_after_tell b)
 attached_told a e b has = record { entry = has.entry; slots = has.slots }
 
-pub keeping_told : (a : OnKeeper) (v : ReferenceView) (e : Entry) (b : OnKeeper) → HasAttachedKeeping a v e b → HasAttachedKeeping a v e (keeper_after_tell b)
-keeping_told a v e b has = record { vacated = has.vacated; kept = has.kept; attached = attached_told _ e b has.attached }
+pub keeping_more : (t n d : ℕ) (log later : List Deed) → IsPrefix log later → IsAttachedKeeping t n d log → IsAttachedKeeping t n d later
+keeping_more t n d log later pre is = record {
+  before = is.before;
+  after = is.after ++ pre.0;
+  are = sym pre.1 ∙ (ap (λ (l : List Deed). l ++ pre.0) is.are ∙ append_assoc is.before (record { event = Publish t; reply = Done } ∷ is.after) pre.0);
+  number = is.number;
+  keeps = is.keeps;
+}
 
--- a view whose slot was taken as vacant, and keeps a reference, has the history that it had
-pub keeping_history : (k : KeeperView) (t : ℕ) (v : ReferenceView) → (keeper_after_keep k t v).history ≡ k.history
-keeping_history k t v = ap (λ (x : KeeperView). x.history) (as_vacant_is k t)
+pub keeping_told : (a : OnKeeper) (v : ReferenceView) (e : Entry) (b : OnKeeper) → HasAttachedKeeping a v e b → HasAttachedKeeping a v e (keeper_after_tell b)
+keeping_told a v e b has = record { kept = has.kept; attached = attached_told _ e b has.attached; keeping = keeping_more e.slot e.number v.entry.number b.log (b.log ++ did (Tell None) Done) (did (Tell None) Done, refl) has.keeping }
+
+-- what the keeper did before it told its log is in what the CPU knows
+pub log_told : (b told : OnKeeper) (y : OnCpu) → told ≡ keeper_after_tell b → IsPrefix told.log y.deeds → IsPrefix b.log y.deeds
+log_told b told y is pre =
+    let log : told.log ≡ b.log ++ did (Tell None) Done = ap (λ (k : OnKeeper). k.log) is in
+    (did (Tell None) Done ++ pre.0, sym (append_assoc b.log (did (Tell None) Done) pre.0) ∙ (ap (λ (l : List Deed). l ++ pre.0) (sym log) ∙ pre.1))

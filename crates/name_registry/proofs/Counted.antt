@@ -26,11 +26,12 @@ use Rattle.local_count.specs.Draining.{HasFreed, HasGivenUp}
 use Rattle.name_registry.specs.Advancing.{HasAdvanced, HasEnded, HasWorkedFor, Meets}
 use Rattle.name_registry.specs.Attaching.{HasAttachedFor, HasAttachedIfaceFor, attach_answer, attach_iface_answer, given_entry}
 use Rattle.name_registry.specs.Changes.{HasMade, number_of, weigh, weight}
+use Rattle.name_registry.specs.Destroying.{HasAdvancedFor}
 use Rattle.name_registry.specs.Detaching.{HasDetachedFor, IsDetachAnswer}
 use Rattle.name_registry.specs.Meeting.{HasLearned, HasSeenAttach, HasSeenDetach, keeper_after_hear, is_inside}
 use Rattle.name_registry.specs.Performing.{GlancesBelow, HasBegun, HasGlanced, HasPassedAll, Hold, Looking, PassesBelow, PassesIf, PassesNumber, SnapshotsBelow}
 use Rattle.name_registry.proofs.Glanced.{OnlyLooked, snapshots_look, glances_look}
-use Rattle.name_registry.proofs.Attached.{given_takes, keeping_history}
+use Rattle.name_registry.proofs.Attached.{given_takes}
 
 -- The share
 
@@ -87,8 +88,7 @@ attach_booked old new a x e b y was grown has = booked old new a.view.history b.
 
 pub iface_booked : (old new : ℕ) (a : OnKeeper) (x : OnCpu) (v : ReferenceView) (e : Entry) (b : OnKeeper) (y : OnCpu) → old ≡ weigh a.view.history → new ≡ old + weight (Attach e) → HasAttachedIfaceFor a x v e b y → new ≡ weigh b.view.history
 iface_booked old new a x v e b y was grown has =
-    let after = ap (λ (k : KeeperView). k.history) has.keeper.attached.entry.view ∙ ap (λ (h : List Change). after_change h (Attach e)) (keeping_history (keeper_after_hear a x).view e.slot v) in
-    booked old new a.view.history b.view.history (Attach e) was grown after
+    booked old new a.view.history b.view.history (Attach e) was grown (ap (λ (k : KeeperView). k.history) has.keeper.attached.entry.view)
 
 pub detach_booked : (old new : ℕ) (a : OnKeeper) (x : OnCpu) (e : Entry) (b : OnKeeper) (y : OnCpu) → old ≡ weigh a.view.history → new ≡ old + weight (Detach e.number) → HasDetachedFor a x e b y → new ≡ weigh b.view.history
 detach_booked old new a x e b y was grown has = booked old new a.view.history b.view.history (Detach e.number) was grown (ap (λ (k : KeeperView). k.history) has.keeper.view)
@@ -109,7 +109,7 @@ freed_same : (a : OnKeeper) (t : ℕ) (b : OnKeeper) → HasFreed a t b → Unch
 freed_same a t b has = ap (λ (k : KeeperView). k.history) has.view.2
 
 ended_same : (m : OnKeeper) (t : ℕ) (b : OnKeeper) → HasEnded m t b → Unchanged m b
-ended_same m t b ended = ⊎_elim (λ e. ap (λ (k : KeeperView). k.history) e.1) (freed_same m t b) ended
+ended_same m t b ended = ⊎_elim (λ e. ap (λ (k : KeeperView). k.history) e.1.view) (freed_same m t b) ended
 
 meets_same : (a : OnKeeper) (t : ℕ) (stage : Stage) (b : OnKeeper) → Meets a t stage b → Unchanged a b
 meets_same a t (Grace c) b has = worked_same a t b has.leaves.worked
@@ -120,6 +120,9 @@ meets_same a t (Freed u) b has = ended_same has.1.between t b has.1.ended ∙ wo
 pub advanced_same : (a : OnKeeper) (n : ℕ) (r : Result Stage Refusal) (b : OnKeeper) → HasAdvanced a n r b → Unchanged a b
 advanced_same a n (Ok stage) b has = meets_same a has.0 stage b has.2
 advanced_same a n (Err f) b has = ap (λ (k : OnKeeper). k.view.history) has.2
+
+pub advanced_for_same : (z : Settings) (a : OnKeeper) (x : OnCpu) (n : ℕ) (r : Result Stage Refusal) (b : OnKeeper) (y : OnCpu) → HasAdvancedFor z a x n r b y → Unchanged a b
+advanced_for_same z a x n r b y has = ap (λ (k : OnKeeper). k.view.history) has.is ∙ advanced_same (keeper_after_hear a x) n r has.end has.made
 
 pub given_up_same : (a : OnKeeper) (v : ReferenceView) (b : OnKeeper) → HasGivenUp a v b → Unchanged a b
 given_up_same a v b has = ap (λ (k : KeeperView). k.history) has.view

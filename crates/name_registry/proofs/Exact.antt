@@ -1,8 +1,7 @@
 -- The exact audit: one state shows the views of all seats, those of the keeper and the CPUs among them.
-use Rattle.std.proofs.Common.{◌≡◌, ◌∙◌, pos, All, List, sym, ap}
-use Rattle.registry_values.specs.declared.balance.Balance.{Balance}
+use Rattle.std.proofs.Common.{◌≡◌, ◌∙◌, pos, List, sym, ap}
 use Rattle.registry_values.specs.declared.settings.Settings.{Settings}
-use Rattle.registry_values.specs.Balances.{Tally, tally_shown}
+use Rattle.registry_values.specs.Balances.{Tally}
 use Rattle.protocol.specs.State.{State, at_rest, opening}
 use Rattle.protocol.specs.Laws.{after, held_of}
 use Rattle.cpu_words.specs.declared.view.View.TheVariants.{Cpu, Keeper}
@@ -11,14 +10,11 @@ use Rattle.cpu_words.proofs.by_keeper.KeeperSees.{seen_by_keeper}
 use Rattle.cpu_words.proofs.laws.Safety.{runs_lawfully}
 use Rattle.passive_list.specs.Cpus.{OnCpu}
 use Rattle.passive_list.specs.Keepers.{OnKeeper}
-use Rattle.name_registry.specs.Auditing.{AreShown, IsTallied, tally}
+use Rattle.name_registry.specs.Auditing.{AreShown}
 use Rattle.name_registry.specs.Law.{ExactAudit}
 use Rattle.name_registry.proofs.Audits.{all_met}
 use Rattle.name_registry.proofs.Held.{references_held}
 use Rattle.name_registry.proofs.Tallies.{own_tally}
-
-tallied_in : (g : State) (k : OnKeeper) (xs : List OnCpu) (list : List Balance) → AreShown g k xs → All (λ b. IsTallied k xs (tally_shown b)) list → All (λ b. b.held ≡ tally k xs b.number) list
-tallied_in g k xs list shown all = λ i d lt. all i d lt g shown
 
 pub exact_law : (a : Settings) (k : OnKeeper) (xs : List OnCpu) → ExactAudit a k xs
 exact_law a k xs s ruled seated =
@@ -32,8 +28,8 @@ exact_law a k xs s ruled seated =
     record {
       run = run;
       shown = shown;
-      listed = λ list is. is.answer g shown;
-      tallied = λ list is. tallied_in g k xs list shown is.tally;
+      listed = λ list is. is.answer;
+      tallied = λ list is. is.tally;
       held = λ all list is.
           let due = sym (seen_by_keeper g k.view run.good shown.keeper).due ∙ is.keeper.view.rest in
           let rest = run.laws.balance (ap at_rest due) in

@@ -135,7 +135,7 @@ still_ours z a table table' k l its rows n our same only is_shown =
       changes = our.changes ∙ sym (ap (λ (v : KeeperView). length v.history) only);
       rows = subst (λ (v : KeeperView). RowsAgree a v rows) (sym only) record {
         size = our.rows.size;
-        each = λ t lt. row_stays k m t (row_at rows t) our.view.rest refl refl refl refl refl (our.rows.each t lt);
+        each = λ t lt. row_stays k m t (row_at rows t) refl refl refl refl (our.rows.each t lt);
         beyond = our.rows.beyond;
       };
     }

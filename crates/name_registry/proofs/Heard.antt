@@ -11,7 +11,7 @@ use Rattle.cpu_words.proofs.shown.Passes.{at_prefix, attached_prefix}
 use Rattle.passive_list.specs.Cpus.{OnCpu}
 use Rattle.name_registry.specs.Meeting.{HasSeenAttach, HasSeenDetach}
 
-prefix_short : (p h : List Change) → IsPrefix p h → length p ≤ length h
+pub prefix_short : (p h : List Change) → IsPrefix p h → length p ≤ length h
 prefix_short p h pre = let long = ap (λ (l : List Change). length l) (sym pre.1) ∙ length-append p pre.0 in omega (arith, long)
 
 -- a change of the history is in a pass that has it as a prefix

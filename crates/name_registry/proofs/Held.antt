@@ -17,7 +17,7 @@ use Rattle.protocol.specs.Picture.{number_in}
 use Rattle.protocol.specs.Laws.{BalancesAtRest, held_of, occupant_of}
 use Rattle.cpu_words.proofs.by_keeper.KeeperSees.{seen_by_keeper}
 use Rattle.passive_list.specs.Cpus.{OnCpu}
-use Rattle.passive_list.specs.Keepers.{OnKeeper, TakenAs}
+use Rattle.passive_list.specs.Keepers.{OnKeeper}
 use Rattle.name_registry.specs.Auditing.{AreAllCpus, AreShown, IsKeeperOf, acquired_of, is_collected, local_of, locals_of, net_of, released_of, tally_of}
 
 -- what a CPU's count word w says: its local count, over the bias where the word is in use
@@ -100,9 +100,9 @@ references_held a k xs g t e known all shown rest is =
     let at_g : slot_at k.view.slots t ≡ slot_at g.slots t = ap (λ (y : List Slot). slot_at y t) seen.slots in
     ⊎_elim
     (λ (live : slot_at k.slots t ≡ Live e).
-    let here : slot_at g.slots t ≡ Live e = sym at_g ∙ subst (TakenAs k.view t) live (known.slots t) in
+    let here : slot_at g.slots t ≡ Live e = sym at_g ∙ (known.slots t ∙ live) in
     held_by a k xs g t e shown rest all cpus total (ap number_in here) (says_live a k xs g t e shown rest live here))
     (λ (gone : slot_at k.slots t ≡ Retired e).
-    let here : slot_at g.slots t ≡ Retired e = sym at_g ∙ subst (TakenAs k.view t) gone (known.slots t) in
+    let here : slot_at g.slots t ≡ Retired e = sym at_g ∙ (known.slots t ∙ gone) in
     held_by a k xs g t e shown rest all cpus total (ap number_in here) (says_retired a k xs g t e shown rest gone here))
     is

@@ -4,6 +4,7 @@ pub mod Balanced
 pub mod Destroyed
 pub mod Detached
 pub mod Exact
+pub mod Gathered
 pub mod Glanced
 pub mod Held
 pub mod Heard
@@ -13,6 +14,8 @@ pub mod Worked
 pub mod Seen
 pub mod Placed
 pub mod Tallies
+pub mod ByLog
+pub mod Turned
 pub mod Opened
 pub mod Owned
 pub mod Counted

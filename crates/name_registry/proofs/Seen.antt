@@ -1,12 +1,15 @@
 -- What a look tells that wasn't passed: the word that the keeper saw.
 use Rattle.std.proofs.Common.{◌≡◌, ◌∙◌, ℕ, ◌<◌, ◌%◌, Bool, true, false, not, ◌||◌, ◌==◌, List, [], ◌∷◌, ◌++◌, Option, Some, None, refl, sym, ap, subst, append-nil, append_assoc, arith}
 use Rattle.std.proofs.lemmas.Bool.{or_parts, eqb-true, eqb-false}
+use mathlib.Core.List.{IsPrefix}
 use Rattle.protocol.specs.declared.event.Event.{Event}
 use Rattle.protocol.specs.declared.event.Event.TheVariants.{Look, PassiveLook}
 use Rattle.protocol.specs.declared.event.Reply.TheVariants.{Word}
 use Rattle.registry_values.specs.declared.settings.Settings.{Settings}
 use Rattle.registry_values.specs.declared.mark.Mark.{Mark}
 use Rattle.registry_values.specs.declared.slot.Slot.{Slot}
+use Rattle.registry_values.specs.declared.stage.Stage.{Stage}
+use Rattle.registry_values.specs.declared.stage.Stage.TheVariants.{Grace, Passive, Local, Freed}
 use Rattle.registry_values.specs.Marks.{mark_after_look, mark_after_passive_look, is_even, has_changed}
 use Rattle.registry_values.specs.Slots.{is_retired, slot_at}
 use Rattle.protocol.specs.State.{at_rest, mark_at}
@@ -14,14 +17,14 @@ use Rattle.protocol.proofs.slots.MarkRows.{snapshot_stands}
 use Rattle.cpu_words.specs.declared.view.Deed.{Deed}
 use Rattle.cpu_words.specs.declared.view.KeeperView.{KeeperView}
 use Rattle.cpu_words.specs.declared.view.View.TheVariants.{Keeper}
-use Rattle.cpu_words.specs.Deeds.{has_looked}
+use Rattle.cpu_words.specs.Deeds.{has_looked, has_looked_passive}
 use Rattle.cpu_words.specs.Draining.{HasLookedPassive}
 use Rattle.cpu_words.specs.Grace.{HasLooked}
 use Rattle.cpu_words.specs.Rule.{did}
 use Rattle.cpu_words.specs.Steps.{Makes}
 use Rattle.cpu_words.proofs.by_keeper.KeeperSees.{seen_by_keeper}
 use Rattle.passive_list.specs.Keepers.{OnKeeper}
-use Rattle.name_registry.specs.Advancing.{MayWork, HasWorkedFor, HasLookedFor, HasLookedLast, GoesOnByLooks, EndsIn, SeesSection, SeesPassive, MeetsGrace, MeetsPassive, PassedBelow, ClearBelow}
+use Rattle.name_registry.specs.Advancing.{MayWork, HasWorkedFor, HasLookedFor, HasLookedLast, EndsIn, SeesSection, SeesPassive, Meets, MeetsGrace, MeetsLocal, MeetsPassive, PassedBelow, ClearBelow, CollectedBelow, Settles}
 use Rattle.name_registry.proofs.Worked.{mark_put, looked_more, still_passed, still_clear}
 
 odd_if : (w : ℕ) → is_even w ≡ false → w % 2 ≡ 1
@@ -68,13 +71,14 @@ sees_section z a b t c w may cpu change made log unset =
     }
 
 pub sees_passive : (z : Settings) (a b : OnKeeper) (t c w : ℕ) → MayWork z a t → c < z.cpus → HasLookedPassive a.view t c w b.view → Makes (PassiveLook t c) (Word w) (Keeper a.view) (Keeper b.view)
-    → (mark_at b.view.marks t c).clear ≡ false → SeesPassive a t c b
-sees_passive z a b t c w may cpu change made unset =
+    → b.log ≡ a.log ++ did (PassiveLook t c) (Word w) → (mark_at b.view.marks t c).clear ≡ false → SeesPassive a t c b
+sees_passive z a b t c w may cpu change made log unset =
     let m = mark_at a.view.marks t c in
     let there : mark_at b.view.marks t c ≡ mark_after_passive_look m w = ap (λ (l : KeeperView). mark_at l.marks t c) change ∙ mark_put _ _ z a b.view t c (mark_after_passive_look m w) may cpu made in
     record {
       word = w;
       look = record { more = let looks = ap (λ (l : KeeperView). l.looks) change in omega (arith, looks); last = ap (λ (l : KeeperView). l.last_look) change };
+      log = ([], log ∙ ap (λ (ds : List Deed). ds ++ did (PassiveLook t c) (Word w)) (sym (append-nil a.log)));
       some = eqb-false w 0 (or_parts m.clear (w == 0) (sym (ap (λ (n : Mark). n.clear) there) ∙ unset)).1;
       unclear = unset;
     }
@@ -84,31 +88,31 @@ sees_passive z a b t c w may cpu change made unset =
 looked_since : (a b d : OnKeeper) (t w : ℕ) (ev : Event) → HasWorkedFor a t b → HasLookedLast b.view d.view ev w → HasLookedLast a.view d.view ev w
 looked_since a b d t w ev worked last = record { more = let first = worked.looks in let then = last.more in omega (arith, first, then); last = last.last }
 
-ends_since : (old log new : List Deed) (d : Deed) (t : ℕ) → GoesOnByLooks t old log → EndsIn log d new → EndsIn old d new
-ends_since old log new d t on ends = (
-  on.since ++ ends.0,
-  ends.1 ∙ ap (λ (ds : List Deed). ds ++ ends.0 ++ d ∷ []) on.are ∙ ap (λ (ds : List Deed). ds ++ d ∷ []) (append_assoc old on.since ends.0),
+ends_since : (old log new : List Deed) (d : Deed) → IsPrefix old log → EndsIn log d new → EndsIn old d new
+ends_since old log new d on ends = (
+  on.0 ++ ends.0,
+  ends.1 ∙ ap (λ (ds : List Deed). ds ++ ends.0 ++ d ∷ []) (sym on.1) ∙ ap (λ (ds : List Deed). ds ++ d ∷ []) (append_assoc old on.0 ends.0),
 )
 
-section_since : (a b d : OnKeeper) (t c : ℕ) → HasWorkedFor a t b → GoesOnByLooks t a.log b.log → SeesSection b t c d → SeesSection a t c d
-section_since a b d t c worked on sees = record {
+section_since : (a b d : OnKeeper) (t c : ℕ) → HasWorkedFor a t b → SeesSection b t c d → SeesSection a t c d
+section_since a b d t c worked sees = record {
   word = sees.word;
   look = looked_since a b d t sees.word _ worked sees.look;
-  log = ends_since a.log b.log d.log (has_looked t c sees.word) t on sees.log;
+  log = ends_since a.log b.log d.log (has_looked t c sees.word) worked.log sees.log;
   odd = sees.odd;
   snapshot = sees.snapshot;
   unpassed = sees.unpassed;
 }
 
 passive_since : (a b d : OnKeeper) (t c : ℕ) → HasWorkedFor a t b → SeesPassive b t c d → SeesPassive a t c d
-passive_since a b d t c worked sees = record { word = sees.word; look = looked_since a b d t sees.word _ worked sees.look; some = sees.some; unclear = sees.unclear }
+passive_since a b d t c worked sees = record { word = sees.word; look = looked_since a b d t sees.word _ worked sees.look; log = ends_since a.log b.log d.log (has_looked_passive t c sees.word) worked.log sees.log; some = sees.some; unclear = sees.unclear }
 
 -- The first CPU of all that a look stops at
 
-pub grace_met : (z : Settings) (a b d : OnKeeper) (t c : ℕ) → MayWork z a t → c < z.cpus → HasLookedFor a t b → GoesOnByLooks t a.log b.log → PassedBelow b.view t c → HasLookedFor b t d → SeesSection b t c d → MeetsGrace a t c d
-grace_met z a b d t c may cpu before on passed looked_ sees = record {
+pub grace_met : (z : Settings) (a b d : OnKeeper) (t c : ℕ) → MayWork z a t → c < z.cpus → HasLookedFor a t b → PassedBelow b.view t c → HasLookedFor b t d → SeesSection b t c d → MeetsGrace a t c d
+grace_met z a b d t c may cpu before passed looked_ sees = record {
   cpu = subst (λ (s : Settings). c < s.cpus) (sym may.settings) cpu;
-  sees = section_since a b d t c before.worked on sees;
+  sees = section_since a b d t c before.worked sees;
   lesser = still_passed b d t c looked_.worked passed;
   leaves = looked_more a b d t before looked_;
 }
@@ -124,3 +128,31 @@ passive_met z a b d t c may cpu passed before clear looked_ sees =
       lesser = still_clear b d t c looked_.worked clear;
       leaves = leaves;
     }
+
+-- looks for sections before it change nothing of that
+pub passive_after : (a b d : OnKeeper) (t c : ℕ) → HasLookedFor a t b → MeetsPassive b t c d → MeetsPassive a t c d
+passive_after a b d t c before meets = record {
+  cpu = subst (λ (s : Settings). c < s.cpus) (ap (λ (k : KeeperView). k.settings) before.worked.only) meets.cpu;
+  sees = passive_since a b d t c before.worked meets.sees;
+  passed = meets.passed;
+  lesser = meets.lesser;
+  leaves = looked_more a b d t before meets.leaves;
+}
+
+-- The end of the work, at a slot with all marks
+
+pub settles_after : (z : Settings) (a m d : OnKeeper) (t : ℕ) (stage : Stage) → MayWork z a t → HasWorkedFor a t m → PassedBelow m.view t z.cpus → ClearBelow m.view t z.cpus → CollectedBelow m.view t z.cpus → Settles m t stage d → Meets a t stage d
+settles_after z a m d t (Grace c) may worked passed clear collected ends = absurd ends
+settles_after z a m d t (Passive c) may worked passed clear collected ends = absurd ends
+settles_after z a m d t (Local n) may worked passed clear collected ends =
+    let settings : m.view.settings ≡ z = ap (λ (k : KeeperView). k.settings) worked.only ∙ may.settings in
+    subst (λ (x : OnKeeper). MeetsLocal a t n x) (sym ends.3) (record {
+      some = ends.0;
+      held = ends.1;
+      total = ends.2;
+      passed = subst (λ (s : Settings). PassedBelow m.view t s.cpus) (sym settings) passed;
+      clear = subst (λ (s : Settings). ClearBelow m.view t s.cpus) (sym settings) clear;
+      collected = subst (λ (s : Settings). CollectedBelow m.view t s.cpus) (sym settings) collected;
+      leaves = worked;
+    })
+settles_after z a m d t (Freed u) may worked passed clear collected ends = (ends.0, record { between = m; leaves = worked; drained = ends.1; ended = ends.2 })

@@ -1,9 +1,10 @@
 -- In whatever state shows the views, what an audit says is held of an entry is its tally.
-use Rattle.std.proofs.Common.{◌≡◌, ◌≢◌, inl, inr, ⊎_elim, ℕ, zero, suc, ◌+◌, ◌*◌, ◌<◌, ◌≤◌, ◌&&◌, ℤ, pos, ◌+ℤ◌, List, [], ◌∷◌, length, get_or, map, fold, cond, sum_by, Bool, true, false, refl, sym, ap, ◌∙◌, subst, arith}
+use Rattle.std.proofs.Common.{◌≡◌, ◌≢◌, inl, inr, ⊎_elim, ℕ, zero, suc, ◌+◌, ◌*◌, ◌<◌, ◌≤◌, ◌&&◌, ℤ, pos, ◌+ℤ◌, List, [], ◌∷◌, length, get_or, map, fold, cond, sum_by, Bool, true, false, Some, refl, sym, ap, ◌∙◌, subst, arith}
 use Rattle.std.specs.List.{zip}
 use Rattle.std.proofs.lemmas.Bool.{cases_lt, eq-eqb, ne_eqb, false≢true}
 use Rattle.std.proofs.lemmas.Int.{ints}
 use Rattle.std.proofs.lemmas.List.{get_or_past}
+use Rattle.std.proofs.lemmas.Option.{none-some, same_Some}
 use Rattle.std.proofs.lemmas.List.Sums.{sum_by-cons}
 use mathlib.Core.Logic.{dite}
 use mathlib.Core.Option.{some}
@@ -26,14 +27,18 @@ use Rattle.protocol.proofs.slots.Occupied.{in_within}
 use Rattle.cpu_words.specs.declared.view.KeeperView.{KeeperView}
 use Rattle.cpu_words.specs.declared.view.Deed.{Deed}
 use Rattle.cpu_words.specs.Locals.{IsPlaceCount}
-use Rattle.cpu_words.specs.Views.{number_at, collected_net, collected_one, CpuShown}
+use Rattle.cpu_words.specs.Views.{number_at, collected_net, collected_one, CpuShown, KeeperShown}
+use Rattle.cpu_words.specs.Rule.{Good}
+use Rattle.cpu_words.specs.Notes.{with_heard, keeper_with_heard}
+use Rattle.cpu_words.specs.Deeds.{AreCountsOf, is_drawn, occupant_of, word_if, word_in}
+use Rattle.registry_values.specs.declared.entry.Change.{Change}
 use Rattle.cpu_words.proofs.by_cpu.Counting.{place_is}
 use Rattle.cpu_words.proofs.by_keeper.KeeperSees.{seen_by_keeper}
 use Rattle.passive_list.specs.Cpus.{OnCpu}
 use Rattle.passive_list.specs.declared.keeper.KeptSlot.{KeptSlot}
-use Rattle.passive_list.specs.Keepers.{IsAtRest, IsOurKeeper, OnKeeper, RowsAgree, TakenAs, states_of}
-use Rattle.passive_list.proofs.Rows.{state_at}
-use Rattle.name_registry.specs.Auditing.{AreAllCpus, AreShown, IsAuditOf, IsKeeperOf, IsTallied, acquired_of, is_collected, local_by, local_met, local_of, locals_of, net_met, net_of, released_of, tallies_met, tally, tally_by, tally_met, tally_of}
+use Rattle.passive_list.specs.Keepers.{IsAtRest, IsOurKeeper, OnKeeper, RowsAgree, states_of}
+use Rattle.passive_list.proofs.Rows.{slots_agree}
+use Rattle.name_registry.specs.Auditing.{AreAllCpus, AreAlike, AreShown, IsAuditOf, IsKeeperOf, IsTallied, acquired_of, is_collected, local_by, local_met, local_of, locals_of, net_met, net_of, released_of, tallies_met, tally, tally_by, tally_met, tally_of}
 use Rattle.name_registry.proofs.Audits.{all_met, each_same}
 
 -- The sum over the CPUs
@@ -86,24 +91,16 @@ sums k t n (p ∷ row) (x ∷ xs) a each past =
 
 -- Of a slot in such a state
 
-taken_at : (a : Settings) (k : KeeperView) (rows : List KeptSlot) (t : ℕ) → IsAtRest a k → RowsAgree a k rows → TakenAs k t (slot_at (states_of rows) t)
-taken_at a k rows t view agree = ⊎_elim
-    (λ (lt : t < a.slots). subst (TakenAs k t) (sym (state_at rows t)) (agree.each t lt).state)
-    (λ (past : a.slots ≤ t).
-    let none : slot_at k.slots t ≡ Vacant = get_or_past k.slots t Vacant (omega (arith, view.sized.slots, past)) in
-    subst (TakenAs k t) (sym (state_at rows t ∙ agree.beyond t past)) (inl none))
-    (cases_lt t a.slots)
-
 pub known_keeper : {log : List Deed} (z : TableId) (a : Settings) (table : TableId) (k : KeeperView) (its : Settings) (rows : List KeptSlot) (n : ℕ) (x : OnKeeper) → IsOurKeeper z a table k its rows n → record { view = k; slots = states_of rows; log = log } ≡ x → IsKeeperOf a x
 known_keeper z a table k its rows n x our is = subst (IsKeeperOf a) is record {
   view = our.view;
   is_shown = our.is_shown;
-  slots = λ t. taken_at a k rows t our.view our.rows;
+  slots = λ t. slots_agree a k rows t our.view our.rows;
 }
 
 -- an entry that it has in a slot is there in its view
 there_too : (a : Settings) (k : OnKeeper) (t : ℕ) (e : Entry) → IsKeeperOf a k → IsIn e (slot_at k.slots t) → IsIn e (slot_at k.view.slots t)
-there_too a k t e known is = ⊎_elim (λ (live : slot_at k.slots t ≡ Live e). inl (subst (TakenAs k.view t) live (known.slots t))) (λ (gone : slot_at k.slots t ≡ Retired e). inr (subst (TakenAs k.view t) gone (known.slots t))) is
+there_too a k t e known is = subst (IsIn e) (sym (known.slots t)) is
 
 zip_at : (ms : List Mark) (ns : List ℕ) (c : ℕ) → length ms ≡ length ns → get_or (zip ms ns) c nothing ≡ (get_or ms c no_mark, get_or ns c 0)
 zip_at [] [] c same = refl
@@ -112,10 +109,19 @@ zip_at (m ∷ ms) [] c same = absurd (omega (arith, same))
 zip_at (m ∷ ms) (n ∷ ns) zero same = refl
 zip_at (m ∷ ms) (n ∷ ns) (suc c) same = zip_at ms ns c (omega (arith, same))
 
+-- a state shows the keeper, with another note beside it
+record IsOfKeeper (g : State) (k : OnKeeper) (h : List Change) : Type 0 where
+  good : Good g
+  keeper : KeeperShown g (keeper_with_heard k.view h)
+
+-- the CPUs' net counts are what the state has, where it says that they were collected for the entry n of the slot t
+abbrev AreNets : State → List OnCpu → ℕ → ℕ → Type 0
+AreNets g xs t n = (c : ℕ) (x : OnCpu) → get_elem? xs c ≡ some x → is_drawn g t c ≡ true → count_at g.nets c t + released_of n x ≡ bias + acquired_of n x
+
 -- a live entry: no word was collected, and the total is the bias less what was given up
-held_live : (k : OnKeeper) (xs : List OnCpu) (g : State) (t : ℕ) (e : Entry) → AreShown g k xs → slot_at k.slots t ≡ Live e → slot_at k.view.slots t ≡ Live e → (tally_of k xs e.number t).held ≡ tally k xs e.number
-held_live k xs g t e shown live there =
-    let seen = seen_by_keeper g k.view shown.good shown.keeper in
+held_live : (k : OnKeeper) (xs : List OnCpu) (g : State) (h : List Change) (t : ℕ) (e : Entry) → IsOfKeeper g k h → slot_at k.slots t ≡ Live e → slot_at k.view.slots t ≡ Live e → (tally_of k xs e.number t).held ≡ tally k xs e.number
+held_live k xs g h t e shown live there =
+    let seen = seen_by_keeper g (keeper_with_heard k.view h) shown.good shown.keeper in
     let each : (c : ℕ) (x : OnCpu) → get_elem? xs c ≡ some x → IsDrawn k t e.number nothing x = λ c x at. record { mark = ap (λ (y : Slot). is_retired y && (mark_at k.view.marks t x.view.id).collected) live; net = λ never. absurd (false≢true never) } in
     let sum = sums k t e.number [] xs (pos 0) each (λ c le. refl) in
     let total = shown.keeper.live_total t e (ap (λ (y : List Slot). slot_at y t) (sym seen.slots) ∙ there) in
@@ -123,9 +129,10 @@ held_live k xs g t e shown live there =
     omega (arith, ints, sum, total, same)
 
 -- a retired one: the total is what was collected, less what was given up
-held_retired : (a : Settings) (k : OnKeeper) (xs : List OnCpu) (g : State) (t : ℕ) (e : Entry) → IsKeeperOf a k → AreAllCpus a.cpus xs → AreShown g k xs → slot_at k.slots t ≡ Retired e → slot_at k.view.slots t ≡ Retired e → (tally_of k xs e.number t).held ≡ tally k xs e.number
-held_retired a k xs g t e known all shown gone there =
-    let seen = seen_by_keeper g k.view shown.good shown.keeper in
+held_retired : (a : Settings) (k : OnKeeper) (xs : List OnCpu) (g : State) (h : List Change) (t : ℕ) (e : Entry) → IsKeeperOf a k → AreAllCpus a.cpus xs → IsOfKeeper g k h → AreNets g xs t e.number → slot_at k.slots t ≡ Retired e → slot_at k.view.slots t ≡ Retired e
+    → (tally_of k xs e.number t).held ≡ tally k xs e.number
+held_retired a k xs g h t e known all shown nets gone there =
+    let seen = seen_by_keeper g (keeper_with_heard k.view h) shown.good shown.keeper in
     let here : slot_at g.slots t ≡ Retired e = ap (λ (y : List Slot). slot_at y t) (sym seen.slots) ∙ there in
     let shape = shown.good.holds.shape in
     let within = in_within g.slots t e (inr here) in
@@ -135,10 +142,9 @@ held_retired a k xs g t e known all shown gone there =
     let at : (c : ℕ) → get_or (zip ms ns) c nothing ≡ (get_or ms c no_mark, get_or ns c 0) = λ c. zip_at ms ns c long in
     let each : (c : ℕ) (x : OnCpu) → get_elem? xs c ≡ some x → IsDrawn k t e.number (get_or (zip ms ns) c nothing) x = λ c x is.
     let id = all.each c x is in
-    let net : count_at g.nets x.view.id t + released_of e.number x ≡ bias + acquired_of e.number x = (shown.cpus c x is).nets t e (inr here) in
     subst (λ (p : Mark × ℕ). IsDrawn k t e.number p x) (sym (at c)) (record {
       mark = ap (λ (y : Slot). is_retired y && (mark_at k.view.marks t x.view.id).collected) gone ∙ (ap (λ i. (mark_at k.view.marks t i).collected) id ∙ ap (λ (y : List (List Mark)). (mark_at y t c).collected) seen.marks);
-      net = λ _. ap (λ i. count_at g.nets i t + released_of e.number x) (sym id) ∙ net;
+      net = λ on. nets c x is (λ j. is_retired (here j) && on j);
     }) in
     let cpus : a.cpus ≡ g.settings.cpus = ap (λ (z : Settings). z.cpus) (sym known.view.settings ∙ seen.settings) in
     let sum = sums k t e.number (zip ms ns) xs (pos 0) each (λ c le. ap (λ (p : Mark × ℕ). p.0.collected) (at c) ∙ shown.keeper.beyond c t (omega (arith, le, all.count, cpus))) in
@@ -150,11 +156,18 @@ held_retired a k xs g t e known all shown gone there =
     let same = ap (λ (y : List ℕ). total_at y t) seen.totals in
     omega (arith, ints, sum, total, same, adding, is_adding, subtracting)
 
-pub held_right : (a : Settings) (k : OnKeeper) (xs : List OnCpu) (g : State) (t : ℕ) (e : Entry) → IsKeeperOf a k → AreAllCpus a.cpus xs → AreShown g k xs → IsIn e (slot_at k.slots t) → (tally_of k xs e.number t).held ≡ tally k xs e.number
-held_right a k xs g t e known all shown is = ⊎_elim
-    (λ (live : slot_at k.slots t ≡ Live e). held_live k xs g t e shown live (subst (TakenAs k.view t) live (known.slots t)))
-    (λ (gone : slot_at k.slots t ≡ Retired e). held_retired a k xs g t e known all shown gone (subst (TakenAs k.view t) gone (known.slots t)))
+held_by : (a : Settings) (k : OnKeeper) (xs : List OnCpu) (g : State) (h : List Change) (t : ℕ) (e : Entry) → IsKeeperOf a k → AreAllCpus a.cpus xs → IsOfKeeper g k h → AreNets g xs t e.number → IsIn e (slot_at k.slots t) → (tally_of k xs e.number t).held ≡ tally k xs e.number
+held_by a k xs g h t e known all shown nets is = ⊎_elim
+    (λ (live : slot_at k.slots t ≡ Live e). held_live k xs g h t e shown live (known.slots t ∙ live))
+    (λ (gone : slot_at k.slots t ≡ Retired e). held_retired a k xs g h t e known all shown nets gone (known.slots t ∙ gone))
     is
+
+-- in one state that shows all
+pub held_right : (a : Settings) (k : OnKeeper) (xs : List OnCpu) (g : State) (t : ℕ) (e : Entry) → IsKeeperOf a k → AreAllCpus a.cpus xs → AreShown g k xs → IsIn e (slot_at k.slots t) → (tally_of k xs e.number t).held ≡ tally k xs e.number
+held_right a k xs g t e known all shown is =
+    let seen = seen_by_keeper g k.view shown.good shown.keeper in
+    let here : IsIn e (slot_at g.slots t) = subst (λ (y : List Slot). IsIn e (slot_at y t)) seen.slots (there_too a k t e known is) in
+    held_by a k xs g k.view.heard t e known all (record { good = shown.good; keeper = shown.keeper }) (λ c x at on. ap (λ i. count_at g.nets i t + released_of e.number x) (sym (all.each c x at)) ∙ (shown.cpus c x at).nets t e here) is
 
 -- A CPU's place says its own net count
 
@@ -166,7 +179,7 @@ own_net g x t e had here = dite (ℕ_discrete (number_at x.view.met t) e.number)
     let net = place_is g x.view t e bias had here place in
     ap (λ b. cond b (net_of e.number x) (pos 0)) (ne_eqb (number_at x.view.met t) e.number off) ∙ omega (arith, ints, net))
 
-locals_same : (f h : OnCpu → ℤ) (xs : List OnCpu) → ((c : ℕ) (x : OnCpu) → get_elem? xs c ≡ some x → f x ≡ h x) → map f xs ≡ map h xs
+pub locals_same : (f h : OnCpu → ℤ) (xs : List OnCpu) → ((c : ℕ) (x : OnCpu) → get_elem? xs c ≡ some x → f x ≡ h x) → map f xs ≡ map h xs
 locals_same f h [] each = refl
 locals_same f h (x ∷ xs) each = let one = each 0 x refl in let rest = locals_same f h xs (λ c y at. each (suc c) y at) in λ i. one i ∷ rest i
 
@@ -178,13 +191,66 @@ own_tally a k xs g t e known shown is =
     ap (λ locals. tally_by k locals e.number t)
     (locals_same (local_met k t e.number) (local_of k t e.number) xs (λ c x at. ap (λ net. local_by k t net x) (own_net g x t e (shown.cpus c x at) here)))
 
+-- Where a state of its own shows each view, and the keeper had done just the same in all of them
+
+pub in_occupant : (e : Entry) (x : Slot) → IsIn e x → occupant_of x ≡ Some e.number
+in_occupant e x is = ⊎_elim (λ (live : x ≡ Live e). ap occupant_of live) (λ (gone : x ≡ Retired e). ap occupant_of gone) is
+
+occupant_in : (n : ℕ) (x : Slot) → occupant_of x ≡ Some n → (d : Entry) × IsIn d x × (d.number ≡ n)
+occupant_in n Vacant is = absurd (none-some n is)
+occupant_in n (Live d) is = (d, inl refl, same_Some d.number n is)
+occupant_in n (Retired d) is = (d, inr refl, same_Some d.number n is)
+
+-- an entry of a slot is there in the other state
+occupied_too : (log : List Deed) (g f : State) (t : ℕ) (e : Entry) → AreCountsOf log g → AreCountsOf log f → IsIn e (slot_at g.slots t) → (d : Entry) × IsIn d (slot_at f.slots t) × (d.number ≡ e.number)
+occupied_too log g f t e own other is = occupant_in e.number (slot_at f.slots t) (sym (other.occupants t) ∙ (own.occupants t ∙ in_occupant e (slot_at g.slots t) is))
+
+word_some : (b : Bool) (w v : ℕ) → word_if b w ≡ Some v → (b ≡ true) × (w ≡ v)
+word_some true w v is = (refl, same_Some w v is)
+word_some false w v is = absurd (none-some v is)
+
+-- a net count that was collected is the same in both
+drawn_too : (log : List Deed) (g f : State) (t c : ℕ) → AreCountsOf log g → AreCountsOf log f → is_drawn g t c ≡ true → count_at f.nets c t ≡ count_at g.nets c t
+drawn_too log g f t c own other on =
+    let mine : word_in g t c ≡ Some (count_at g.nets c t) = ap (λ (b : Bool). word_if b (count_at g.nets c t)) on in
+    (word_some (is_drawn f t c) (count_at f.nets c t) (count_at g.nets c t) (sym (other.words t c) ∙ (own.words t c ∙ mine))).1
+
+module _ (a : Settings) (k : OnKeeper) (xs ys : List OnCpu) (known : IsKeeperOf a k) (all : AreAllCpus a.cpus xs) (alike : AreAlike k xs ys) (t : ℕ) (e : Entry) (is : IsIn e (slot_at k.slots t)) where
+  here : IsIn e (slot_at alike.keeper.1.g.slots t)
+  here = let seen = seen_by_keeper alike.keeper.1.g (keeper_with_heard k.view alike.keeper.0) alike.keeper.1.good alike.keeper.1.shown in
+      subst (λ (y : List Slot). IsIn e (slot_at y t)) seen.slots (there_too a k t e known is)
+
+  alike_nets : AreNets alike.keeper.1.g xs t e.number
+  alike_nets c x at on =
+      let g = alike.keeper.1.g in
+      let own = alike.cpus c x at in
+      let f = own.1.g in
+      let there = occupied_too alike.log g f t e alike.keeper.1.counts own.1.counts here in
+      let net : count_at f.nets x.view.id t + released_of there.0.number x ≡ bias + acquired_of there.0.number x = own.1.shown.nets t there.0 there.1 in
+      let same : count_at f.nets x.view.id t ≡ count_at g.nets c t = ap (λ i. count_at f.nets i t) (all.each c x at) ∙ drawn_too alike.log g f t c alike.keeper.1.counts own.1.counts on in
+      (λ j. sym same j + released_of (sym there.2 j) x) ∙ (net ∙ ap (λ n. bias + acquired_of n x) there.2)
+
+  alike_net : (c : ℕ) (x : OnCpu) → get_elem? xs c ≡ some x → net_met t e.number x ≡ net_of e.number x
+  alike_net c x at =
+      let own = alike.cpus c x at in
+      let f = own.1.g in
+      let there = occupied_too alike.log alike.keeper.1.g f t e alike.keeper.1.counts own.1.counts here in
+      subst (λ n. net_met t n x ≡ net_of n x) there.2 (own_net f (record x { view = with_heard x.view own.0 }) t there.0 own.1.shown there.1)
+
+  pub alike_tally : tally_met k xs e.number t ≡ tally_of k xs e.number t
+  alike_tally = ap (λ locals. tally_by k locals e.number t)
+      (locals_same (local_met k t e.number) (local_of k t e.number) xs (λ c x at. ap (λ net. local_by k t net x) (alike_net c x at)))
+
+  pub alike_held : (tally_of k xs e.number t).held ≡ tally k xs e.number
+  alike_held = held_by a k xs alike.keeper.1.g alike.keeper.0 t e known all (record { good = alike.keeper.1.good; keeper = alike.keeper.1.shown }) alike_nets is
+
 -- What is shown of the list
 
-pub audit_right : (a : Settings) (k : OnKeeper) (xs : List OnCpu) (list : List Balance) → IsKeeperOf a k → AreAllCpus a.cpus xs → map tally_shown list ≡ tallies_met k xs a.slots → IsAuditOf a k xs list
-audit_right a k xs list known all met = record {
+pub audit_right : (a : Settings) (k : OnKeeper) (xs ys : List OnCpu) (list : List Balance) → IsKeeperOf a k → AreAllCpus a.cpus xs → AreAlike k xs ys → map tally_shown list ≡ tallies_met k xs a.slots → IsAuditOf a k xs list
+audit_right a k xs ys list known all alike met = record {
   keeper = known;
   met = met;
-  answer = λ g shown. met ∙ each_same (tally_met k xs) (tally_of k xs) k.slots a.slots (λ t e there. own_tally a k xs g t e known shown there);
+  answer = met ∙ each_same (tally_met k xs) (tally_of k xs) k.slots a.slots (λ t e there. alike_tally a k xs ys known all alike t e there);
   tally = all_met (IsTallied k xs) k xs a.slots list met
-      (λ t e there g shown. ap (λ (y : Tally). y.held) (own_tally a k xs g t e known shown there) ∙ held_right a k xs g t e known all shown there);
+      (λ t e there. ap (λ (y : Tally). y.held) (alike_tally a k xs ys known all alike t e there) ∙ alike_held a k xs ys known all alike t e there);
 }

@@ -28,7 +28,7 @@ use Rattle.name_registry.proofs.Passed.{IsReady, Passing, onward_below, passed_e
 -- What stands in a log
 
 -- the word of c was taken
-record IsTaken (c w : ℕ) (log : List Deed) : Type 0 where
+pub record IsTaken (c w : ℕ) (log : List Deed) : Type 0 where
   before : List Deed
   after : List Deed
   are : log ≡ before ++ has_taken c w ∷ after
@@ -132,15 +132,44 @@ glanced words seen after (suc n) k l is =
 -- From hold to hold
 
 -- so far: the keeper had done `before` as it heard the caller, and what was detached by then had passed or was retired, with these numbers; since then it took the words of all CPUs, and saw out of their sections those that are seen
-record SoFar (cpus : ℕ) (x : OnCpu) (words : List ℕ) (numbers : List (Option ℕ)) (seen : List Bool) (m : OnCpu) : Type 0 where
-  before : List Deed
-  since : List Deed
-  are : m.deeds ≡ before ++ since
-  known : IsPrefix x.deeds before
-  pass : length x.view.pass ≤ changes_in before
-  ready : (t n : ℕ) → IsDetachedFrom t n before → IsReady cpus numbers before t n
-  taken : (c : ℕ) → c < cpus → IsTaken c (word_of words c) since
-  out : (c : ℕ) → c < cpus → is_seen seen c ≡ true → IsSeenOut c since
+pub record SoFar (cpus : ℕ) (x : OnCpu) (words : List ℕ) (numbers : List (Option ℕ)) (seen : List Bool) (m : OnCpu) : Type 0 where
+  pub before : List Deed
+  pub since : List Deed
+  pub are : m.deeds ≡ before ++ since
+  pub known : IsPrefix x.deeds before
+  pub pass : length x.view.pass ≤ changes_in before
+  pub ready : (t n : ℕ) → IsDetachedFrom t n before → IsReady cpus numbers before t n
+  pub taken : (c : ℕ) → c < cpus → IsTaken c (word_of words c) since
+  pub out : (c : ℕ) → c < cpus → is_seen seen c ≡ true → IsSeenOut c since
+
+-- it stays so of whoever knows more
+pub so_far_on : (cpus : ℕ) (x : OnCpu) (words : List ℕ) (numbers : List (Option ℕ)) (seen : List Bool) (m y : OnCpu) → IsPrefix m.deeds y.deeds → SoFar cpus x words numbers seen m → SoFar cpus x words numbers seen y
+so_far_on cpus x words numbers seen m y more had = record {
+  before = had.before;
+  since = had.since ++ more.0;
+  are = sym more.1 ∙ (ap (λ (l : List Deed). l ++ more.0) had.are ∙ append_assoc had.before had.since more.0);
+  known = had.known;
+  pass = had.pass;
+  ready = had.ready;
+  taken = λ c lt. taken_more c (word_of words c) had.since more.0 (had.taken c lt);
+  out = λ c lt now. seen_more c had.since more.0 (had.out c lt now);
+}
+
+-- and of other numbers, where each entry that was retired has its own among them
+pub so_far_by : (cpus : ℕ) (x : OnCpu) (words : List ℕ) (numbers others : List (Option ℕ)) (seen : List Bool) (m : OnCpu) → ((t n : ℕ) → get_or numbers t None ≡ Some n → get_or others t None ≡ Some n) → SoFar cpus x words numbers seen m → SoFar cpus x words others seen m
+so_far_by cpus x words numbers others seen m same had = record {
+  before = had.before;
+  since = had.since;
+  are = had.are;
+  known = had.known;
+  pass = had.pass;
+  ready = λ t n gone. ⊎_elim
+      (λ (then : (c : ℕ) → c < cpus → HasPassedOn t c had.before). inl then)
+      (λ (retired : (get_or numbers t None ≡ Some n) × ((j : ℕ) → j < cpus → (w : ℕ) × IsSnapped t j w had.before)). inr (same t n retired.0, retired.1))
+      (had.ready t n gone);
+  taken = had.taken;
+  out = had.out;
+}
 
 -- a hold's end: the log of the keeper, and what came to be known beyond it
 record After (log more : List Deed) (y : OnCpu) : Type 0 where
@@ -159,7 +188,7 @@ after_hold looks a x b y hold more are =
 none_is_seen : (c : ℕ) → is_seen none_seen c ≡ true → ⊥
 none_is_seen c is = false≢true (sym (get_or_all {X = Bool} 8 false c) ∙ is)
 
-so_far_begun : (z : Settings) (x : OnCpu) (words : List ℕ) (numbers : List (Option ℕ)) (y : OnCpu) → SomeBegan z x words numbers y → SoFar z.cpus x words numbers none_seen y
+pub so_far_begun : (z : Settings) (x : OnCpu) (words : List ℕ) (numbers : List (Option ℕ)) (y : OnCpu) → SomeBegan z x words numbers y → SoFar z.cpus x words numbers none_seen y
 so_far_begun z x words numbers y is =
     let hold = is.2.hold in
     let p = snapped words z.cpus _ hold.end hold.made in
@@ -175,7 +204,7 @@ so_far_begun z x words numbers y is =
       out = λ c lt seen. absurd (none_is_seen c seen);
     }
 
-so_far_turn : (z : Settings) (x : OnCpu) (words : List ℕ) (numbers : List (Option ℕ)) (seen : List Bool) (m : OnCpu) (told : Option ℕ) (after : List Bool) (y : OnCpu) → SoFar z.cpus x words numbers seen m → SomeGlanced z words m seen told after y → SoFar z.cpus x words numbers after y
+pub so_far_turn : (z : Settings) (x : OnCpu) (words : List ℕ) (numbers : List (Option ℕ)) (seen : List Bool) (m : OnCpu) (told : Option ℕ) (after : List Bool) (y : OnCpu) → SoFar z.cpus x words numbers seen m → SomeGlanced z words m seen told after y → SoFar z.cpus x words numbers after y
 so_far_turn z x words numbers seen m told after y had is =
     let hold = is.2.hold in
     let p = glanced words seen after z.cpus _ hold.end hold.made in
@@ -207,7 +236,7 @@ so_far_turns z x words numbers zero m seen y after had is = subst (λ (p : OnCpu
 so_far_turns z x words numbers (suc n) m seen y after had is = so_far_turn z x words numbers is.1 is.0 (Some is.2) after y (so_far_turns z x words numbers n m seen is.0 is.1 had is.3) is.4
 
 -- where no CPU was told, all were seen out
-all_seen : (z : Settings) (x : OnCpu) (words : List ℕ) (numbers : List (Option ℕ)) (m : OnCpu) (seen : List Bool) (told : Option ℕ) (after : List Bool) (y : OnCpu) → (had : SoFar z.cpus x words numbers after y) → SomeGlanced z words m seen told after y → told ≡ None → HasWaited had.since z.cpus
+pub all_seen : (z : Settings) (x : OnCpu) (words : List ℕ) (numbers : List (Option ℕ)) (m : OnCpu) (seen : List Bool) (told : Option ℕ) (after : List Bool) (y : OnCpu) → (had : SoFar z.cpus x words numbers after y) → SomeGlanced z words m seen told after y → told ≡ None → HasWaited had.since z.cpus
 all_seen z x words numbers m seen told after y had is none = λ c lt. had.out c lt (not-false (is_seen after c) (least_none (λ d. not (is_seen after d)) z.cpus (sym is.2.least ∙ none) c lt))
 
 -- The end
@@ -220,7 +249,7 @@ waited_on : (since more : List Deed) (cpus : ℕ) → HasWaited since cpus → H
 waited_on since more cpus waited c lt = seen_more c since more (waited c lt)
 
 -- once all were seen out, the passes are made, and the CPU is told what the keeper did
-passed_out : (z : Settings) (x : OnCpu) (words : List ℕ) (numbers : List (Option ℕ)) (seen : List Bool) (m : OnCpu) (y : OnCpu) → (had : SoFar z.cpus x words numbers seen m) → HasWaited had.since z.cpus → SomePassed z m numbers y → HasSeenAllOut z.cpus x y
+pub passed_out : (z : Settings) (x : OnCpu) (words : List ℕ) (numbers : List (Option ℕ)) (seen : List Bool) (m : OnCpu) (y : OnCpu) → (had : SoFar z.cpus x words numbers seen m) → HasWaited had.since z.cpus → SomePassed z m numbers y → HasSeenAllOut z.cpus x y
 passed_out z x words numbers seen m y had waited is =
     let a = is.0 in
     let does = is.2 in
@@ -283,7 +312,7 @@ Learns x y = HasLearned x y × (y.made ≡ x.made)
 pub learns_none : (x : OnCpu) → Learns x x
 learns_none x = (record { pass = ([], append-nil x.view.pass); deeds = ([], append-nil x.deeds); is = refl }, refl)
 
-learns_more : (x m y : OnCpu) → Learns x m → Learns m y → Learns x y
+pub learns_more : (x m y : OnCpu) → Learns x m → Learns m y → Learns x y
 learns_more x m y first second = (
   record {
     pass = prefix_trans x.view.pass m.view.pass y.view.pass first.0.pass second.0.pass;

@@ -1,12 +1,15 @@
 -- What looks and collections for a retired entry ask of the keeper, and what they leave.
-use Rattle.std.proofs.Common.{◌≡◌, ◌∙◌, inr, ℕ, zero, suc, ◌+◌, ◌<◌, Bool, true, false, List, [], get_or, Option, Some, None, refl, sym, ap, subst, arith}
+use Rattle.std.proofs.Common.{◌≡◌, ◌∙◌, inr, ℕ, zero, suc, ◌+◌, ◌<◌, Bool, true, false, List, [], ◌++◌, append-nil, append_assoc, get_or, Option, Some, None, refl, sym, ap, subst, arith}
 use Rattle.std.proofs.lemmas.Bool.{or_left}
+use mathlib.Core.List.{IsPrefix}
 use Rattle.atomic_table.specs.Seated.{TableId}
 use Rattle.registry_values.specs.declared.entry.Entry.{Entry}
 use Rattle.registry_values.specs.declared.entry.Kind.{Kind}
 use Rattle.registry_values.specs.declared.entry.Kind.TheVariants.{Iface, Driver}
 use Rattle.protocol.specs.declared.event.Event.{Event}
+use Rattle.protocol.specs.declared.event.Event.TheVariants.{Collect, TotalAdd}
 use Rattle.protocol.specs.declared.event.Reply.{Reply}
+use Rattle.protocol.specs.declared.event.Reply.TheVariants.{Done, Word}
 use Rattle.registry_values.specs.declared.settings.Settings.{Settings}
 use Rattle.registry_values.specs.declared.mark.Mark.{Mark}
 use Rattle.registry_values.specs.declared.slot.Slot.{Slot}
@@ -23,7 +26,7 @@ use Rattle.protocol.proofs.slots.Cells.{total_other}
 use Rattle.cpu_words.specs.declared.view.KeeperView.{KeeperView}
 use Rattle.cpu_words.specs.declared.view.Deed.{Deed}
 use Rattle.cpu_words.specs.declared.view.View.TheVariants.{Keeper}
-use Rattle.cpu_words.specs.Rule.{IsShown}
+use Rattle.cpu_words.specs.Rule.{IsShown, did}
 use Rattle.cpu_words.specs.Steps.{Makes}
 use Rattle.cpu_words.proofs.by_keeper.KeeperSees.{seen_by_keeper}
 use Rattle.passive_list.specs.declared.keeper.KeptSlot.{KeptSlot}
@@ -78,8 +81,12 @@ still_works z a b t may worked = record {
 
 -- One turn after the other
 
+-- a log that goes on, and goes on again
+pub prefix_on : (a b c : List Deed) → IsPrefix a b → IsPrefix b c → IsPrefix a c
+prefix_on a b c p q = (p.0 ++ q.0, sym (append_assoc a p.0 q.0) ∙ (ap (λ (l : List Deed). l ++ q.0) p.1 ∙ q.1))
+
 pub worked_none : (a : OnKeeper) (t : ℕ) → HasWorkedFor a t a
-worked_none a t = record { only = refl; marks = marks_grow_none a.view.marks t; totals = λ u off. refl; looks = omega arith; slots = refl }
+worked_none a t = record { only = refl; marks = marks_grow_none a.view.marks t; totals = λ u off. refl; looks = omega arith; slots = refl; log = ([], append-nil a.log) }
 
 pub worked_more : (a b d : OnKeeper) (t : ℕ) → HasWorkedFor a t b → HasWorkedFor b t d → HasWorkedFor a t d
 worked_more a b d t x y = record {
@@ -88,6 +95,7 @@ worked_more a b d t x y = record {
   totals = λ u off. y.totals u off ∙ x.totals u off;
   looks = let first = x.looks in let then = y.looks in omega (arith, first, then);
   slots = y.slots ∙ x.slots;
+  log = prefix_on _ _ _ x.log y.log;
 }
 
 pub looked_none : (a : OnKeeper) (t : ℕ) → HasLookedFor a t a
@@ -105,9 +113,9 @@ pub cleared_grows : (m : Mark) (w : ℕ) → Grows m (mark_after_passive_look m 
 cleared_grows m w = record { snapshot = refl; passed = λ p. p; clear = λ p. or_left m.clear _ p; collected = λ p. p }
 
 -- a look makes m of the mark of c
-pub look_leaves : (a b : OnKeeper) (ev : Event) (r : Reply) (t c : ℕ) (m : Mark) → Grows (mark_at a.view.marks t c) m → b.view ≡ marked a.view ev r t c m → b.slots ≡ a.slots → HasLookedFor a t b
-look_leaves a b ev r t c m grows view slots = subst (λ (l : KeeperView). HasLookedFor a t (record b { view = l })) (sym view) record {
-  worked = record { only = refl; marks = mark_grows a.view.marks t c m grows; totals = λ u off. refl; looks = omega arith; slots = slots };
+pub look_leaves : (a b : OnKeeper) (ev : Event) (r : Reply) (t c : ℕ) (m : Mark) → Grows (mark_at a.view.marks t c) m → b.view ≡ marked a.view ev r t c m → b.slots ≡ a.slots → IsPrefix a.log b.log → HasLookedFor a t b
+look_leaves a b ev r t c m grows view slots log = subst (λ (l : KeeperView). HasLookedFor a t (record b { view = l })) (sym view) record {
+  worked = record { only = refl; marks = mark_grows a.view.marks t c m grows; totals = λ u off. refl; looks = omega arith; slots = slots; log = log };
   totals = refl;
 }
 
@@ -118,6 +126,7 @@ collection_leaves a b t c has = subst (λ (l : KeeperView). HasWorkedFor a t (re
   totals = λ u off. total_other a.view.totals t _ u off;
   looks = omega arith;
   slots = has.slots;
+  log = (did (Collect t c) (Word has.word) ++ did (TotalAdd t) Done, sym (append_assoc a.log (did (Collect t c) (Word has.word)) (did (TotalAdd t) Done)) ∙ sym has.log);
 }
 
 -- the mark that a step writes is there
@@ -174,9 +183,9 @@ is_drained z x t held may passed clear mark_after_collect total none =
     }
 
 -- where so many local references are held the work ends there, and nothing changes
-pub settled_held : (m b : OnKeeper) (t held : ℕ) → (held ≡ 0 → ⊥) → AreHeld m.view t held → b ≡ m → Settles m t (stage_of t None None held) b
-settled_held m b t zero some are same = absurd (some refl)
-settled_held m b t (suc k) some are same = (some, are, same)
+pub settled_held : (m b : OnKeeper) (t held : ℕ) → (held ≡ 0 → ⊥) → AreHeld m.view t held → held + bias ≡ total_at m.view.totals t → b ≡ m → Settles m t (stage_of t None None held) b
+settled_held m b t zero some are total same = absurd (some refl)
+settled_held m b t (suc k) some are total same = (some, are, total, same)
 
 -- where none is the drained slot comes to its end
 pub settled_free : (m b : OnKeeper) (t held : ℕ) → held ≡ 0 → IsDrainedOn m t → HasEnded m t b → Settles m t (stage_of t None None held) b

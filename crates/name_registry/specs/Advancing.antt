@@ -1,7 +1,8 @@
 -- A turn of the work on a retired entry: what it answers is what the keeper saw, and what it leaves.
-use Rattle.std.specs.Prelude.{◌≡◌, ◌≢◌, ◌⊎◌, ℕ, zero, suc, ◌<◌, ◌≤◌, ◌%◌, List, [], ◌∷◌, ◌++◌, slice_set, Option, true, false, Some, None, Bool, Result, Ok, Err}
+use Rattle.std.specs.Prelude.{◌≡◌, ◌≢◌, ◌⊎◌, ℕ, zero, suc, ◌+◌, ◌<◌, ◌≤◌, ◌%◌, List, [], ◌∷◌, ◌++◌, Option, true, false, Some, None, Bool, Result, Ok, Err}
 use Rattle.registry_values.specs.declared.entry.Entry.{Entry}
 use Rattle.registry_values.specs.declared.entry.Kind.TheVariants.{Iface}
+use mathlib.Core.List.{IsPrefix}
 use Rattle.protocol.specs.declared.event.Event.{Event}
 use Rattle.protocol.specs.declared.event.Event.TheVariants.{Look, PassiveLook}
 use Rattle.protocol.specs.declared.event.Reply.TheVariants.{Word}
@@ -11,20 +12,21 @@ use Rattle.registry_values.specs.declared.settings.Settings.{Settings}
 use Rattle.registry_values.specs.declared.stage.Stage.{Stage}
 use Rattle.registry_values.specs.declared.stage.Stage.TheVariants.{Grace, Passive, Local, Freed}
 use Rattle.protocol.specs.declared.state.Due.TheVariants.{Rest}
-use Rattle.registry_values.specs.declared.slot.Slot.TheVariants.{Vacant, Retired}
+use Rattle.registry_values.specs.declared.slot.Slot.TheVariants.{Retired}
+use Rattle.registry_values.specs.Balances.{bias}
 use Rattle.registry_values.specs.Slots.{is_retired_as, retired_slot, slot_at}
 use Rattle.protocol.specs.Marking.{MarksGrow}
 use Rattle.protocol.specs.State.{mark_at, total_at, kept_at}
 use Rattle.cpu_words.specs.declared.view.Deed.{Deed}
 use Rattle.cpu_words.specs.declared.view.KeeperView.{KeeperView}
 use Rattle.cpu_words.specs.declared.view.View.TheVariants.{Keeper}
-use Rattle.cpu_words.specs.Deeds.{has_looked}
+use Rattle.cpu_words.specs.Deeds.{has_looked, has_looked_passive}
 use Rattle.cpu_words.specs.Grace.{HasLooked}
 use Rattle.cpu_words.specs.Rule.{did}
 use Rattle.cpu_words.specs.Steps.{Makes}
 use Rattle.passive_list.specs.declared.keeper.KeptSlot.{KeptSlot}
 use Rattle.passive_list.specs.Keepers.{OnKeeper}
-use Rattle.passive_list.specs.Vacating.{IsDrainedOn}
+use Rattle.passive_list.specs.Vacating.{HasVacated, IsDrainedOn}
 use Rattle.local_count.specs.Draining.{AreHeld, HasFreed}
 
 -- What the work asks, and what it leaves
@@ -39,13 +41,14 @@ pub record MayWork (z : Settings) (x : OnKeeper) (t : ℕ) : Type 0 where
   pub known : slot_at x.view.slots t ≡ Retired e
   pub keeps : (d : ℕ) → kept_at x.view.keeps t ≡ Some d → e.rec.kind ≡ Iface
 
--- looks were made, and words were collected into the total of the slot t: its marks grow, and nothing else changes
+-- looks were made, and words were collected into the total of the slot t: its marks grow, the log goes on, and nothing else changes
 pub record HasWorkedFor (a : OnKeeper) (t : ℕ) (b : OnKeeper) : Type 0 where
   pub only : b.view ≡ record a.view { marks = b.view.marks; totals = b.view.totals; looks = b.view.looks; last_look = b.view.last_look }
   pub marks : MarksGrow a.view.marks b.view.marks t
   pub totals : (u : ℕ) → u ≢ t → total_at b.view.totals u ≡ total_at a.view.totals u
   pub looks : a.view.looks ≤ b.view.looks
   pub slots : b.slots ≡ a.slots
+  pub log : IsPrefix a.log b.log
 
 -- looks alone were made
 pub record HasLookedFor (a : OnKeeper) (t : ℕ) (b : OnKeeper) : Type 0 where
@@ -122,6 +125,7 @@ pub record SeesSection (a : OnKeeper) (t c : ℕ) (b : OnKeeper) : Type 0 where
 pub record SeesPassive (a : OnKeeper) (t c : ℕ) (b : OnKeeper) : Type 0 where
   pub word : ℕ
   pub look : HasLookedLast a.view b.view (PassiveLook t c) word
+  pub log : EndsIn a.log (has_looked_passive t c word) b.log
   pub some : word ≢ 0
   pub unclear : (mark_at b.view.marks t c).clear ≡ false
 
@@ -146,20 +150,21 @@ pub record MeetsPassive (a : OnKeeper) (t c : ℕ) (b : OnKeeper) : Type 0 where
 pub record MeetsLocal (a : OnKeeper) (t n : ℕ) (b : OnKeeper) : Type 0 where
   pub some : n ≢ 0
   pub held : AreHeld b.view t n
+  pub total : n + bias ≡ total_at b.view.totals t
   pub passed : PassedBelow b.view t b.view.settings.cpus
   pub clear : ClearBelow b.view t b.view.settings.cpus
   pub collected : CollectedBelow b.view t b.view.settings.cpus
   pub leaves : HasWorkedFor a t b
 
--- the slot's end: it is taken as vacant, or, where it keeps a driver, gives that up and is vacant
+-- the slot's end: it is vacant, and where it kept a driver that was given up
 abbrev pub HasEnded : OnKeeper → ℕ → OnKeeper → Type 0
-HasEnded m t b = ((kept_at m.view.keeps t ≡ None) × (b.view ≡ m.view) × (b.slots ≡ slice_set m.slots t Vacant)) ⊎ HasFreed m t b
+HasEnded m t b = ((kept_at m.view.keeps t ≡ None) × HasVacated m t b) ⊎ HasFreed m t b
 
 -- the end of the work, at a slot with all marks: so many local references are held and nothing changes, or the slot is drained and ends
 abbrev pub Settles : OnKeeper → ℕ → Stage → OnKeeper → Type 0
 Settles m t (Grace c) b = ⊥
 Settles m t (Passive c) b = ⊥
-Settles m t (Local n) b = (n ≢ 0) × AreHeld m.view t n × (b ≡ m)
+Settles m t (Local n) b = (n ≢ 0) × AreHeld m.view t n × (n + bias ≡ total_at m.view.totals t) × (b ≡ m)
 Settles m t (Freed u) b = (u ≡ t) × IsDrainedOn m t × HasEnded m t b
 
 -- the slot was drained, and then came to its end

@@ -10,6 +10,7 @@ use Rattle.registry_values.specs.Answers as answers
 use Rattle.registry_values.specs.Slots.{key_of_record, is_iface, is_taken, live_count}
 use Rattle.cpu_words.specs.declared.view.ReferenceView.{ReferenceView}
 use Rattle.passive_list.specs.Cpus.{OnCpu}
+use Rattle.cpu_words.specs.Deeds.{IsAttachedKeeping}
 use Rattle.passive_list.specs.Keepers.{OnKeeper}
 use Rattle.passive_list.specs.Notes.{HasHeardOn}
 use Rattle.passive_list.specs.Publishing.{HasAttached}
@@ -46,5 +47,7 @@ pub record HasAttachedFor (a : OnKeeper) (x : OnCpu) (e : Entry) (b : OnKeeper) 
 pub record HasAttachedIfaceFor (a : OnKeeper) (x : OnCpu) (v : ReferenceView) (e : Entry) (b : OnKeeper) (y : OnCpu) : Type 0 where
   pub seen : IsPrefix x.view.pass a.view.history
   pub keeper : HasAttachedKeeping (keeper_after_hear a x) v e b
+  -- of the driver, by what the CPU knows
+  pub keeping : IsAttachedKeeping e.slot e.number v.entry.number y.deeds
   pub cpu : HasHeardOn b.view.history x y
   pub own : HasSeenAttach x y e

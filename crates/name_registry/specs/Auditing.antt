@@ -1,20 +1,27 @@
 -- What an audit answers (localcount(9)): by the counts of all CPUs and the totals, and that it is the tally.
-use Rattle.std.specs.Prelude.{◌≡◌, ℕ, zero, suc, ◌+◌, ℤ, pos, ◌+ℤ◌, ◌-ℤ◌, ◌==◌, All, Bool, ◌&&◌, List, [], ◌∷◌, ◌++◌, map, length, sum_by, if◌then◌else◌}
+use Rattle.std.specs.Prelude.{◌≡◌, ℕ, zero, suc, ◌+◌, ◌*◌, ℤ, pos, ◌+ℤ◌, ◌-ℤ◌, ◌==◌, All, Bool, ◌&&◌, List, [], ◌∷◌, ◌++◌, map, length, sum_by, if◌then◌else◌, Option, Some, None}
 use mathlib.Core.Option.{some}
+use mathlib.Core.List.{IsPrefix}
 use lib.ListN.{get_elem?}
+use Rattle.registry_values.specs.declared.entry.Change.{Change}
+use Rattle.cpu_words.specs.declared.view.Deed.{Deed}
+use Rattle.cpu_words.specs.declared.view.View.TheVariants.{Cpu, Keeper}
+use Rattle.cpu_words.specs.Deeds.{given_up, occupant, sum_collected, word_collected, words_collected, IsShownAfter}
+use Rattle.cpu_words.specs.Notes.{with_heard, keeper_with_heard}
+use Rattle.name_registry.specs.Meeting.{HasLearned}
 use Rattle.registry_values.specs.declared.balance.Balance.{Balance}
 use Rattle.registry_values.specs.declared.entry.Entry.{Entry}
 use Rattle.registry_values.specs.declared.settings.Settings.{Settings}
 use Rattle.registry_values.specs.declared.slot.Slot.{Slot}
 use Rattle.registry_values.specs.declared.slot.Slot.TheVariants.{Vacant, Live, Retired}
-use Rattle.registry_values.specs.Balances.{Tally, less_bias, sum_of, tally_shown}
+use Rattle.registry_values.specs.Balances.{Tally, bias, less_bias, sum_of, tally_shown}
 use Rattle.protocol.specs.Invariant.{IsIn}
 use Rattle.registry_values.specs.Slots.{is_retired, slot_at}
 use Rattle.protocol.specs.State.{State, mark_at, total_at}
 use Rattle.cpu_words.specs.Rule.{Good, IsShown}
 use Rattle.cpu_words.specs.Views.{number_at, CpuShown, KeeperShown}
 use Rattle.passive_list.specs.Cpus.{OnCpu}
-use Rattle.passive_list.specs.Keepers.{IsAtRest, OnKeeper, TakenAs}
+use Rattle.passive_list.specs.Keepers.{IsAtRest, OnKeeper}
 
 -- the slice is CPU 0, 1, .., in this order
 pub record AreAllCpus (cpus : ℕ) (xs : List OnCpu) : Type 0 where
@@ -125,21 +132,84 @@ pub record AreShown (g : State) (k : OnKeeper) (xs : List OnCpu) : Type 0 where
   pub keeper : KeeperShown g k.view
   pub cpus : (c : ℕ) (x : OnCpu) → get_elem? xs c ≡ some x → CpuShown g x.view
 
--- What is held is the tally, whatever state the views are of.
+-- What is held is the tally.
 abbrev pub IsTallied : OnKeeper → List OnCpu → Tally → Type 0
-IsTallied k xs b = (g : State) → AreShown g k xs → b.held ≡ tally k xs b.number
+IsTallied k xs b = b.held ≡ tally k xs b.number
 
--- What is known of the keeper behind the lock, which no contract can name: it is at rest, some state of the core shows its view, and in its slots it has what its view has, or nothing where an entry may be vacated.
+-- Before it sums, an audit lets all know the same of the keeper's deeds: the keeper tells, each CPU hears in turn and tells on, and the keeper hears the last one. Then each view is shown by a state of its own, in which the keeper had done just the same.
+
+-- with another note beside it, some state shows the CPU, in which the keeper had done just this
+abbrev pub IsShownOn : List Deed → OnCpu → Type 0
+IsShownOn log x = (h : List Change) × IsShownAfter log (Cpu (with_heard x.view h))
+
+-- each of the CPUs knows just this of the keeper's deeds
+abbrev pub KnowAll : List Deed → List OnCpu → Type 0
+KnowAll log ys = (c : ℕ) (y : OnCpu) → get_elem? ys c ≡ some y → y.deeds ≡ log
+
+-- of the keeper and the CPUs as they were, and the CPUs as they have heard
+pub record AreAlike (k : OnKeeper) (xs ys : List OnCpu) : Type 0 where
+  pub log : List Deed
+  pub known : KnowAll log ys
+  pub keeper : (h : List Change) × IsShownAfter log (Keeper (keeper_with_heard k.view h))
+  pub cpus : (c : ℕ) (x : OnCpu) → get_elem? xs c ≡ some x → IsShownOn log x
+
+-- of the keeper nothing changed but what it heard, and its log, which goes on
+pub record HasListened (a b : OnKeeper) : Type 0 where
+  pub log : IsPrefix a.log b.log
+  pub is : (h : List Change) × (b ≡ record a { view = keeper_with_heard a.view h; log = b.log })
+
+-- of each CPU what it knows has grown, and nothing else of it changed
+pub record HaveLearned (xs ys : List OnCpu) : Type 0 where
+  pub size : length ys ≡ length xs
+  pub each : (c : ℕ) (x y : OnCpu) → get_elem? xs c ≡ some x → get_elem? ys c ≡ some y → HasLearned x y × (y.made ≡ x.made)
+
+-- What is known of the keeper behind the lock, which no contract can name: it is at rest, some state of the core shows its view, and in its slots it has what its view has.
 pub record IsKeeperOf (z : Settings) (k : OnKeeper) : Type 0 where
   pub view : IsAtRest z k.view
   pub is_shown : IsShown k.view
-  pub slots : (t : ℕ) → TakenAs k.view t (slot_at k.slots t)
+  pub slots : (t : ℕ) → slot_at k.view.slots t ≡ slot_at k.slots t
+
+-- By the keeper's log alone: what is said of each slot that has an entry by it
+
+-- what a CPU's count adds to the audit of n: its net count, and nothing where its word was collected
+abbrev pub net_unless : Option ℕ → ℤ → ℤ
+net_unless None net = net
+net_unless (Some w) net = pos 0
+
+abbrev pub local_in : List Deed → ℕ → ℕ → OnCpu → ℤ
+local_in log t n x = net_unless (word_collected t x.view.id log) (net_of n x)
+
+-- what was collected, less the biases of the words and what was given up
+abbrev pub total_in : List Deed → ℕ → ℕ → ℤ
+total_in log t n = pos (sum_collected t log) -ℤ pos (bias * words_collected t log + given_up n log)
+
+-- the tally of n: local references that all CPUs acquired, less those that they released, less those that the keeper gave up
+abbrev pub tally_in : List Deed → List OnCpu → ℕ → ℤ
+tally_in log xs n = pos (sum_by (acquired_of n) xs) -ℤ pos (sum_by (released_of n) xs + given_up n log)
+
+abbrev pub audited : List Deed → List OnCpu → ℕ → ℕ → Tally
+audited log xs n t = record { number = n; slot = t; held = tally_in log xs n; locals = map (local_in log t n) xs; total = total_in log t n }
+
+abbrev pub audited_at : List Deed → List OnCpu → ℕ → Option ℕ → List Tally
+audited_at log xs t None = []
+audited_at log xs t (Some n) = audited log xs n t ∷ []
+
+-- the slots below a number, least first
+abbrev pub audited_below : List Deed → List OnCpu → ℕ → List Tally
+audited_below log xs zero = []
+audited_below log xs (suc t) = audited_below log xs t ++ audited_at log xs t (occupant t log)
+
+-- What is answered of the CPUs xs: by a log that all know as it is answered, so that no keeper has to be named.
+pub record IsAuditBy (z : Settings) (xs ys : List OnCpu) (list : List Balance) : Type 0 where
+  pub log : List Deed
+  pub known : KnowAll log ys
+  pub answer : map tally_shown list ≡ audited_below log xs z.slots
 
 -- What is answered of the keeper k and all CPUs.
 pub record IsAuditOf (z : Settings) (k : OnKeeper) (xs : List OnCpu) (list : List Balance) : Type 0 where
   pub keeper : IsKeeperOf z k
   -- of each slot with an entry: the CPUs' own counts by their places, and the keeper's total
   pub met : map tally_shown list ≡ tallies_met k xs z.slots
-  -- whatever state the views are of, these are the net counts, and what is held is the tally
-  pub answer : (g : State) → AreShown g k xs → map tally_shown list ≡ tallies_below k xs z.slots
+  -- these are the net counts, and what is held is the tally
+  pub answer : map tally_shown list ≡ tallies_below k xs z.slots
   pub tally : All (λ b. IsTallied k xs (tally_shown b)) list

@@ -1,13 +1,20 @@
 -- Destroying a retired entry: how many turns of the work on it were made, and what the last one's answer makes of it.
-use Rattle.std.specs.Prelude.{◌≡◌, ◌⊎◌, ℕ, zero, suc, ◌<◌, Bool, true, false, Result, Ok, Err, IfOk}
+use Rattle.std.specs.Prelude.{◌≡◌, ◌⊎◌, ℕ, zero, suc, ◌<◌, ◌≤◌, Bool, true, false, List, length, Result, Ok, Err, IfOk}
 use Rattle.registry_values.specs.declared.refusal.Refusal.{Refusal}
 use Rattle.registry_values.specs.declared.refusal.Refusal.TheVariants.{Inside}
 use Rattle.registry_values.specs.declared.settings.Settings.{Settings}
 use Rattle.registry_values.specs.declared.stage.Stage.{Stage}
 use Rattle.registry_values.specs.Stages.{IsObstacle, destroy_result_of}
+use mathlib.Core.List.{IsPrefix}
+use Rattle.passive_list.specs.Cpus.{OnCpu}
 use Rattle.passive_list.specs.Keepers.{OnKeeper}
+use Rattle.cpu_words.specs.Deeds.{changes_in}
+use Rattle.passive_list.specs.Logs.{HasOwnLog}
+use Rattle.passive_list.specs.Notes.{HasHeardOn}
 use Rattle.name_registry.specs.Advancing.{HasAdvanced}
 use Rattle.name_registry.specs.Locking.{IsStageOf}
+use Rattle.name_registry.specs.Obstacles.{IsTurn}
+use Rattle.name_registry.specs.Meeting.{keeper_after_hear, keeper_after_tell}
 
 -- a turn that met an obstacle; after any other answer there is nothing more to do
 abbrev pub MeetsObstacle : Result Stage Refusal → Type 0
@@ -35,19 +42,32 @@ module _ {X : Type 0} (turn : X → Result Stage Refusal → X → Type 0) where
     pub enough : (MeetsObstacle met → ⊥) ⊎ (suc earlier ≡ turns)
     pub told : answer ≡ destroy_result_of met
 
+-- A turn with the caller's CPU x: the keeper a hears first what the CPU knows, makes the turn, and hears once more, so that its log has what it found. Then the CPU hears the history and all that the keeper did.
+pub record HasAdvancedFor (z : Settings) (a : OnKeeper) (x : OnCpu) (n : ℕ) (answer : Result Stage Refusal) (b : OnKeeper) (y : OnCpu) : Type 0 where
+  pub known : IsPrefix x.deeds a.log
+  pub seen : length x.view.pass ≤ changes_in a.log
+  pub own : HasOwnLog z a
+  pub end : OnKeeper
+  pub made : HasAdvanced (keeper_after_hear a x) n answer end
+  pub own_end : HasOwnLog z end
+  pub is : b ≡ keeper_after_tell (keeper_after_hear end x)
+  pub hears : HasHeardOn end.view.history x y
+  pub told : IsPrefix b.log y.deeds
+
 -- Through the lock, whose value no contract can name: of some keeper, as the call found it and left it
 
 -- one turn of the work on the entry n; a stage speaks of a CPU or a slot that there is
 abbrev pub SomeAdvanced : Settings → ℕ → Result Stage Refusal → Type 0
 SomeAdvanced z n answer = ((a : OnKeeper) × (b : OnKeeper) × HasAdvanced a n answer b) × IfOk answer (λ stage. IsStageOf z stage)
 
-abbrev pub advance_through : Settings → ℕ → Unit {0} → Result Stage Refusal → Unit {0} → Type 0
-advance_through z n x answer y = SomeAdvanced z n answer
+-- the same for a CPU, which knows then what the turn met, by the keeper's log
+abbrev pub SomeAdvancedFor : Settings → ℕ → OnCpu → Result Stage Refusal → OnCpu → Type 0
+SomeAdvancedFor z n x answer y = ((a : OnKeeper) × (b : OnKeeper) × HasAdvancedFor z a x n answer b y) × IfOk answer (λ stage. IsStageOf z stage) × IsTurn z n x answer y
 
-abbrev pub HasDestroyed : Settings → ℕ → ℕ → Result ℕ Refusal → Type 0
-HasDestroyed z n turns answer = Destroys (advance_through z n) turns tt answer tt
+abbrev pub HasDestroyed : Settings → ℕ → ℕ → OnCpu → Result ℕ Refusal → OnCpu → Type 0
+HasDestroyed z n turns x answer y = Destroys (SomeAdvancedFor z n) turns x answer y
 
 -- outside a section it was made, and this is its answer
-abbrev pub DestroysOutside : Settings → ℕ → ℕ → Bool → Result ℕ Refusal → Type 0
-DestroysOutside z n turns true result = result ≡ Err Inside
-DestroysOutside z n turns false result = HasDestroyed z n turns result
+abbrev pub DestroysOutside : Settings → ℕ → ℕ → Bool → OnCpu → Result ℕ Refusal → OnCpu → Type 0
+DestroysOutside z n turns true x result y = (result ≡ Err Inside) × (y ≡ x)
+DestroysOutside z n turns false x result y = HasDestroyed z n turns x result y

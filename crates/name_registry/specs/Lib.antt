@@ -1,4 +1,5 @@
 pub mod Meeting
+pub mod Obstacles
 pub mod Rows
 pub mod Attaching
 pub mod Destroying

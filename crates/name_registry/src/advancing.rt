@@ -187,7 +187,8 @@ fn settle<D: Domain>(words: &Words, keeper: &mut Keeper<D>, slot: u8) -> Stage
     stage
 }
 
-/// Makes the drained slot vacant; where it keeps a reference to a driver, that is given up.
+/// Makes the drained slot vacant; where it keeps a reference to a driver, that is given up. The keeper hears as it does so, so by its log the
+/// entry is gone from there.
 fn free<D: Domain>(words: &Words, keeper: &mut Keeper<D>, slot: u8)
     requires words { AreWordsOf words.now D.table D.settings }
     requires works { MayWork D.settings keeper.old slot }
@@ -198,5 +199,5 @@ fn free<D: Domain>(words: &Words, keeper: &mut Keeper<D>, slot: u8)
         free_iface(words, keeper, slot);
         return;
     }
-    vacate(keeper, slot);
+    vacate(words, keeper, slot);
 }

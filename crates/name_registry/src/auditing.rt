@@ -2,17 +2,21 @@
 
 ghost use Rattle.std.specs.Prelude.{◌≡◌, ◌↔◌, ◌⊎◌, ◌+ℤ◌, ◌≤ℤ◌, ◌<◌, ◌≤◌, ◌^◌, All, IfOk, IfErr, IsErrOf, IsTrue, OnErr, length, map, neg_ℤ, pos};
 ghost use Rattle.registry_values.specs.Balances.{sum_of, tally_shown};
+ghost use mathlib.Core.List.{IsPrefix};
 ghost use Rattle.cpu_words.specs.Domains.{AreWordsOf};
-ghost use Rattle.name_registry.specs.Auditing.{AreAllCpus, IsAuditOf, IsOccupied, Occupies, is_collected, local_met, locals_met, place_of, places_below, tallies_met, tally_met};
+ghost use Rattle.passive_list.specs.Notes.{HasHeardOn, WasShown};
+ghost use Rattle.name_registry.specs.Auditing.{AreAllCpus, AreAlike, HasListened, HaveLearned, IsAuditBy, IsAuditOf, IsOccupied, Occupies, is_collected, local_met, locals_met, place_of, places_below, tallies_met, tally_met};
 
 use cpu_words::{Domain, Words};
 use local_count::net_count;
-use passive_list::{Cpu, Keeper, PlainCpu};
+use passive_list::{Cpu, Keeper, Note, PlainCpu, hear, hear_keeper, tell, tell_keeper};
 use registry_values::{Balance, Refusal, Slot, less_bias, sum};
 use std::alloc::{AllocError, Global};
 
 /// What the counts say of each live or retired entry, least slot first: of each CPU its own net count, 0 where the keeper has collected its
-/// count word, and as total what was collected, less what was given up. It makes no step.
+/// count word, and as total what was collected, less what was given up. So what it says is held is the tally (`answer`). It makes three loads
+/// for each CPU and three by the keeper, so that all know the same of the keeper's deeds: the keeper's log has each collected word, and a CPU
+/// that has heard it all knows that this word was its net count. So the whole list is said by that log and the CPUs alone (`known`).
 /// Refused, in this order: `MissingCpu` where the slice isn't CPU 0, 1, .. of this registry in this order; `NoMemory`, and not where there
 /// is no such entry.
 pub fn audit_in<D: Domain>(
@@ -29,17 +33,44 @@ pub fn audit_in<D: Domain>(
     ensures sums { IfOk result (λ list. All (λ b. b.held ≡ sum_of b.locals.items +ℤ b.total) list.items) }
     ensures locals { IfOk result (λ list. All (λ b. length b.locals.items ≡ D.settings.cpus) list.items) }
     ensures answer { IfOk result (λ list. IsAuditOf D.settings keeper.old cpus.old list.items) }
-    ensures same { (keeper.new ≡ keeper.old) × (cpus.new ≡ cpus.old) }
+    ensures known { IfOk result (λ list. IsAuditBy D.settings cpus.old cpus.new list.items) }
+    ensures keeper { HasListened keeper.old keeper.new }
+    ensures cpus { HaveLearned cpus.old cpus.new }
 {
-    // The contract alone speaks of the words: whoever has them has the table that the CPUs and the keeper are of.
-    let _words = words;
     if !are_all(keeper.settings.cpus, cpus) {
         return Err(Refusal::MissingCpu);
     }
+    gather(words, keeper, cpus);
     match balances(alloc, keeper, cpus) {
         Ok(list) => Ok(list),
         Err(_) => Err(Refusal::NoMemory),
     }
+}
+
+/// Lets all know the same of what the keeper did: the keeper tells, each CPU hears in turn and tells on, and the keeper hears the last one.
+fn gather<D: Domain>(words: &Words, keeper: &mut Keeper<D>, cpus: &mut [Cpu<D>])
+    requires words { AreWordsOf words.now D.table D.settings }
+    ensures alike { AreAlike keeper.old cpus.old cpus.new }
+    ensures keeper { HasListened keeper.old keeper.new }
+    ensures cpus { HaveLearned cpus.old cpus.new }
+{
+    let mut note = tell_keeper(words, keeper);
+    for c in 0..cpus.len() {
+        note = pass_on(words, &mut cpus[c], note);
+    }
+    hear_keeper(words, keeper, note);
+}
+
+/// One CPU hears the note and tells on what it knows then.
+fn pass_on<D: Domain>(words: &Words, cpu: &mut Cpu<D>, note: Note<D>) -> Note<D>
+    requires words { AreWordsOf words.now D.table D.settings }
+    ensures heard { HasHeardOn note.pass cpu.old cpu.new }
+    ensures told { IsPrefix note.deeds cpu.new.deeds }
+    ensures shown { WasShown note.pass cpu.old cpu.new }
+    ensures note { result.deeds ≡ cpu.new.deeds }
+{
+    hear(words, cpu, note);
+    tell(words, cpu)
 }
 
 /// Whether these are so many CPUs, 0, 1, .., in this order.

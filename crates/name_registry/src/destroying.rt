@@ -1,14 +1,19 @@
 //! Destroying a retired entry, in several turns.
 
 ghost use Rattle.std.specs.Prelude.{◌≡◌, ◌<◌, ◌≤◌, IfOk, IfErr, false};
-ghost use Rattle.name_registry.specs.Destroying.{Destroys, DestroysOutside};
-ghost use Rattle.name_registry.specs.Locking.{IsDestroyRefusal};
-ghost use Rattle.name_registry.specs.Meeting.{is_inside};
+ghost use Rattle.cpu_words.specs.Deeds.{IsFreedFrom};
+ghost use Rattle.cpu_words.specs.Domains.{AreWordsOf};
+ghost use Rattle.name_registry.specs.Destroying.{Destroys, DestroysOutside, HasAdvancedFor};
+ghost use Rattle.name_registry.specs.Locking.{IsDestroyRefusal, IsStageOf};
+ghost use Rattle.name_registry.specs.Obstacles.{IsDestroyAnswer, IsTurn};
+ghost use Rattle.name_registry.specs.Meeting.{is_inside, HasLearned};
 
+use crate::advancing::advance_in;
 use crate::locked::Locked;
+use crate::meeting::{hear_cpu, show_cpu};
 use crate::registry::Registry;
-use cpu_words::Domain;
-use passive_list::Cpu;
+use cpu_words::{Domain, Words};
+use passive_list::{Cpu, Keeper};
 use registry_values::{Refusal, Stage, destroyed};
 use std::sync::Wait;
 use std::thread::yield_now;
@@ -17,6 +22,13 @@ impl<D: Domain> Registry<D> {
     /// Destroys the retired entry `number` (psref_target_destroy of psref(9), localcount_drain of localcount(9)): `advance` at most `turns`
     /// times. Between them the interlock is free, and other threads may have the processor. The answer is the slot, from 0, that is vacant
     /// again.
+    ///
+    /// Ok says in what this CPU knows (`gone`): the entry was attached in that slot and detached, and then the keeper made the slot vacant. By the
+    /// law `running_headline` (`freed`) it has no slot, and no section, passive reference or local reference holds it: whatever the table is, now
+    /// or later. What the last turn met is in what the CPU knows, too (`answer`): as that turn began the keeper had heard all that the caller knew
+    /// at the call, and by the keeper's log then the entry was retired, or, for `NotRetired`, it wasn't; as it ended the slot was free, or the last
+    /// word that it loaded stopped it, or so many local references were left. To know this the CPU tells the keeper what it knows as a turn begins
+    /// and ends, and hears it then: nine loads in each turn beside those of the work, and its pass grows as by `hear`.
     /// Condition: at least one turn.
     /// Refused, in this order: `Inside` where the CPU is inside a section, and nothing has changed then; `NotRetired` where no slot has the
     /// retired entry `number`, also where another caller freed it between two turns; `StillHeld` with the obstacle that the last turn met.
@@ -31,59 +43,89 @@ impl<D: Domain> Registry<D> {
         requires { 1 ≤ turns }
         ensures freed { IfOk result (λ slot. (is_inside cpu.old ≡ false) × (slot < D.settings.slots)) }
         ensures refused { IfErr result (λ refusal. IsDestroyRefusal D.settings (is_inside cpu.old) refusal) }
-        ensures made { DestroysOutside D.settings number turns (is_inside cpu.old) result }
-        ensures same { cpu.new ≡ cpu.old }
+        ensures gone { IfOk result (λ slot. IsFreedFrom slot number cpu.new.deeds) }
+        ensures answer { IsDestroyAnswer D.settings number cpu.old result cpu.new }
+        ensures made { DestroysOutside D.settings number turns (is_inside cpu.old) cpu.old result cpu.new }
+        ensures learned { HasLearned cpu.old cpu.new × (cpu.new.made ≡ cpu.old.made) }
     {
         if cpu.inside() {
             return Err(Refusal::Inside);
         }
         let mut interlock = Locked { registry: self };
-        destroy_in_turns(rt, &mut interlock, number, turns)
+        destroy_in_turns(rt, &mut interlock, cpu, number, turns)
     }
 }
 
-/// What a `destroy` does under the interlock, which it takes anew for each turn.
-trait AdvancesUnderInterlock {
+/// What a `destroy` does under the interlock, which it takes anew for each turn. What stands between two turns is the caller's CPU.
+trait AdvancesUnderInterlock<D: Domain> {
     ghost use Rattle.std.specs.Prelude.{ℕ, Result};
     ghost use Rattle.registry_values.specs.declared.refusal.Refusal.{Refusal};
     ghost use Rattle.registry_values.specs.declared.stage.Stage.{Stage};
+    ghost use Rattle.passive_list.specs.Cpus.{OnCpu};
 
-    // of the number and the state before: the answer, and the state after
-    ghost advances: { ℕ → Self → Result Stage Refusal → Self → Type 0 };
+    // of the number and the CPU before: the answer, and the CPU after
+    ghost advances: { ℕ → OnCpu → Result Stage Refusal → OnCpu → Type 0 };
 
     /// One turn of the work on the retired entry `number`: the first obstacle, or `Freed`.
-    fn advance<R: Wait>(&mut self, rt: &R, number: u64) -> Result<Stage, Refusal>
-        ensures { advances number self.old result self.new };
+    fn advance<R: Wait>(&mut self, rt: &R, cpu: &mut Cpu<D>, number: u64) -> Result<Stage, Refusal>
+        ensures { advances number cpu.old result cpu.new };
 }
 
 /// Makes at most so many turns, and none after one that met no obstacle. Between two it lets another thread run, which may be a reader in
 /// the middle of its section, without a processor.
-fn destroy_in_turns<I: AdvancesUnderInterlock, R: Wait>(
+fn destroy_in_turns<D: Domain, I: AdvancesUnderInterlock<D>, R: Wait>(
     rt: &R,
     interlock: &mut I,
+    cpu: &mut Cpu<D>,
     number: u64,
     turns: u32,
 ) -> Result<u8, Refusal>
     requires { 1 ≤ turns }
-    ensures { Destroys (I.advances number) turns interlock.old result interlock.new }
+    ensures { Destroys (I.advances number) turns cpu.old result cpu.new }
 {
-    let mut stage = interlock.advance(rt, number)?;
+    let mut stage = interlock.advance(rt, cpu, number)?;
     for _ in 1..turns {
         if let Stage::Freed(slot) = stage {
             return Ok(slot);
         }
         yield_now();
-        stage = interlock.advance(rt, number)?;
+        stage = interlock.advance(rt, cpu, number)?;
     }
     destroyed(stage)
 }
 
-impl<'a, D: Domain> AdvancesUnderInterlock for Locked<'a, D> {
-    ghost use Rattle.name_registry.specs.Destroying.{SomeAdvanced};
+/// `advance_in` for a caller with a CPU: the keeper hears first what the CPU knows, and once more after the turn, so that it finds in its log what it
+/// did. Then the CPU hears what the keeper did, all of it: what the turn met is in what the CPU knows (`turn`).
+pub fn advance_for<D: Domain>(
+    words: &Words,
+    keeper: &mut Keeper<D>,
+    cpu: &mut Cpu<D>,
+    number: u64,
+) -> Result<Stage, Refusal>
+    requires words { AreWordsOf words.now D.table D.settings }
+    ensures answer { HasAdvancedFor D.settings keeper.old cpu.old number result keeper.new cpu.new }
+    ensures turn { IsTurn D.settings number cpu.old result cpu.new }
+    ensures stage { IfOk result (λ stage. IsStageOf D.settings stage) }
+{
+    hear_cpu(words, keeper, cpu);
+    let answer = advance_in(words, keeper, number);
+    hear_cpu(words, keeper, cpu);
+    show_cpu(words, keeper, cpu);
+    answer
+}
 
-    ghost advances = { λ number x answer y. SomeAdvanced D.settings number answer };
+impl<'a, D: Domain> AdvancesUnderInterlock<D> for Locked<'a, D> {
+    ghost use Rattle.name_registry.specs.Destroying.{SomeAdvancedFor};
 
-    fn advance<R: Wait>(&mut self, rt: &R, number: u64) -> Result<Stage, Refusal> {
-        self.registry.advance(rt, number)
+    ghost advances = { SomeAdvancedFor D.settings };
+
+    fn advance<R: Wait>(
+        &mut self,
+        rt: &R,
+        cpu: &mut Cpu<D>,
+        number: u64,
+    ) -> Result<Stage, Refusal> {
+        let keeper = &mut self.registry.interlock.lock(rt).keeper;
+        advance_for(&self.registry.words, keeper, cpu, number)
     }
 }

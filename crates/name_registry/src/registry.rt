@@ -6,9 +6,9 @@ ghost use Rattle.registry_values.specs.declared.entry.Change.TheVariants.{Attach
 ghost use Rattle.registry_values.specs.declared.entry.Kind.TheVariants.{Iface};
 ghost use Rattle.registry_values.specs.Names.{is_lawful};
 ghost use Rattle.registry_values.specs.Slots.{is_iface};
+ghost use Rattle.cpu_words.specs.Deeds.{IsAttachedKeeping};
 ghost use Rattle.cpu_words.specs.Domains.{AreWordsOf};
-ghost use Rattle.passive_list.specs.Keepers.{OnKeeper};
-ghost use Rattle.name_registry.specs.Auditing.{AreAllCpus, IsAuditOf};
+ghost use Rattle.name_registry.specs.Auditing.{AreAllCpus, HaveLearned, IsAuditBy};
 ghost use Rattle.name_registry.specs.Changes.{HasMade};
 ghost use Rattle.name_registry.specs.Destroying.{SomeAdvanced};
 ghost use Rattle.name_registry.specs.Locking.{MayAttach, IsAttachRefusal, IsDetachRefusedTo, IsStageOf};
@@ -75,6 +75,7 @@ impl<D: Domain> Registry<D> {
         ensures may { IfOk result (λ _. MayAttach (is_inside cpu.old) (is_iface reference.entry.rec.kind)) }
         ensures ok { IfOk result (λ e. (e.rec ≡ rec) × HasLearned cpu.old cpu.new × HasSeenAttach cpu.old cpu.new e) }
         ensures made { IfOk result (λ e. HasMade cpu.old (Attach e) cpu.new) }
+        ensures keeping { IfOk result (λ e. IsAttachedKeeping e.slot e.number reference.entry.number cpu.new.deeds) }
         ensures refused { IfErr result (λ back. IsAttachRefusal (is_inside cpu.old) (is_iface reference.entry.rec.kind) back.0 × (back.1 ≡ reference) × (cpu.new ≡ cpu.old)) }
     {
         let interlock = &mut self.interlock.lock(rt);
@@ -101,7 +102,8 @@ impl<D: Domain> Registry<D> {
     }
 
     /// One turn of the work on the retired entry `number` under the interlock, as `advance_in` does: the answer is the first obstacle, or
-    /// `Freed` with the slot that is vacant again.
+    /// `Freed` with the slot that is vacant again. It is given no CPU, so there is nobody who could know what the keeper did: its contract says what
+    /// some keeper would answer, and no more. `destroy` with one turn makes the same turn for a CPU, which knows then what was met.
     /// Refused: `NotRetired` where no slot has the retired entry `number`; nothing has changed then.
     pub fn advance<R: Wait>(&self, rt: &R, number: u64) -> Result<Stage, Refusal>
         ensures ok { IfOk result (λ stage. IsStageOf D.settings stage) }
@@ -113,10 +115,10 @@ impl<D: Domain> Registry<D> {
 
     /// The audit of local references (localcount(9)) under the interlock, as `audit_in` does: of each live or retired slot, least first,
     /// each CPU's own net count, by its place, or 0 where the keeper has collected it, the keeper's total, and their sum, which is held.
-    /// No contract can name the keeper: the answer is right for one that is at rest, that some state of the core shows, and that may have
-    /// any history. What is held is the tally in each state that shows this keeper and these CPUs together. That there is one, whatever
-    /// the table is while they are held, is the law `exact_audit`; no call can say it of its own keeper, since a step on the words knows the
-    /// view of its own seat alone.
+    /// What is held is the tally: what the CPUs acquired, less what they released, less what was given up. The CPUs hear the keeper, as by `hear`, and
+    /// nothing else of them changes: all of them know the keeper's log then, and the whole list is said by that log and the CPUs (`tally`): which slots
+    /// have entries, which of the CPUs' counts were collected, and what was given up. So no keeper can be made up for it, and a list that leaves an
+    /// entry out is refused.
     /// Refused, in this order: `MissingCpu` where the slice isn't CPU 0, 1, .. of this registry in this order; `NoMemory`.
     pub fn audit<R: Wait>(
         &self,
@@ -128,8 +130,8 @@ impl<D: Domain> Registry<D> {
         ensures err { IfErr result (λ refusal. (refusal ≡ Refusal.MissingCpu) ⊎ (refusal ≡ Refusal.NoMemory)) }
         ensures sums { IfOk result (λ list. All (λ b. b.held ≡ sum_of b.locals.items +ℤ b.total) list.items) }
         ensures locals { IfOk result (λ list. All (λ b. length b.locals.items ≡ D.settings.cpus) list.items) }
-        ensures tally { IfOk result (λ list. (k : OnKeeper) × IsAuditOf D.settings k cpus.old list.items) }
-        ensures same { cpus.new ≡ cpus.old }
+        ensures tally { IfOk result (λ list. IsAuditBy D.settings cpus.old cpus.new list.items) }
+        ensures cpus { HaveLearned cpus.old cpus.new }
     {
         let keeper = &mut self.interlock.lock(rt).keeper;
         audit_in(alloc, &self.words, keeper, cpus)

@@ -13,21 +13,22 @@ use Rattle.registry_values.specs.declared.slot.Slot.TheVariants.{Retired}
 use Rattle.registry_values.specs.declared.refusal.Refusal.{Refusal}
 use Rattle.registry_values.specs.declared.stage.Stage.{Stage}
 use Rattle.registry_values.specs.declared.stage.Stage.TheVariants.{Grace, Passive, Local, Freed}
-use Rattle.passive_core.specs.Advancing.{AdvanceLeaves, Settles, Empties, Gathers, HoldersAreOpen, LeavesMarks, MarksPass, Passes, StageLeaves, advance_answer, count_given_up, has_passive, is_open_since, is_snapshot, plain_stage}
+use Rattle.passive_core.specs.Advancing.{AdvanceLeaves, Settles, Empties, Gathers, HoldersAreOpen, LeavesMarks, MarksPass, Passes, Clears, MarksClear, PassedBelow, ClearBelow, AllNoted, SameBut, StageMarks, AdvanceMarks, StageLeaves, advance_answer, count_given_up, has_passive, is_open_since, is_snapshot, plain_stage}
 use Rattle.protocol.specs.Marking.{AllClear, AllCollected, AllPassed, MarksGrow}
-use Rattle.registry_values.specs.Marks.{least_below, mark_after_look, mark_after_passive_look, mark_after_collect, are_collected, has_changed, have_passed, is_even}
+use Rattle.registry_values.specs.Marks.{no_mark, least_below, mark_after_look, mark_after_passive_look, mark_after_collect, are_collected, has_changed, have_passed, is_even}
 use Rattle.registry_values.specs.Stages.{stage_of}
 use Rattle.registry_values.specs.Slots.{retired_slot, has_number, is_retired, slot_of, slot_at}
 use Rattle.passive_core.specs.Commands.{may_act}
 use Rattle.protocol.specs.Events.{Outcome, guard, some_outcome, step, after_look, after_look_passive, after_collect, after_total, after_kept_sub, after_vacate, may_collect, may_examine, may_look_passive, may_vacate, is_drainable, is_drained, is_iface_slot, keeps_rightly}
 use Rattle.protocol.specs.Invariant.{Holds, one_if, held_at}
-use Rattle.protocol.specs.State.{at_rest, State, section_at, begin_at, count_at, kept_at, mark_at, passive_at, total_at}
+use Rattle.protocol.specs.State.{at_rest, State, section_at, begin_at, count_at, kept_at, mark_at, passive_at, total_at, with_cell}
 use Rattle.registry_values.specs.Balances.{bias}
 use Rattle.protocol.proofs.slots.Occupied.{at_rest_tells, in_within, is_retired_tells, number_in, has_it, one_number, slot_found}
 use Rattle.protocol.proofs.counts.Bounds.{driver_positive}
 use Rattle.protocol.proofs.counts.CountBounds.{all_collected}
 use Rattle.protocol.proofs.keeps.Drivers.{kept_found}
 use Rattle.protocol.proofs.keeps.MarkKeeps.{is_drained_tells}
+use Rattle.protocol.proofs.keeps.Marking.{row_cases}
 use Rattle.protocol.proofs.keeps.Searching.{within_some}
 use Rattle.std.proofs.lemmas.List.{set-get_or}
 use Rattle.passive_core.proofs.Acting.{made_is}
@@ -156,6 +157,42 @@ passing_grows a b t x = record {
   here = λ c. record { snapshot = (x.here c).snapshot; passed = (x.here c).passed; clear = λ p. (x.here c).clear ∙ p; collected = λ p. (x.here c).collected ∙ p };
 }
 
+clears_none : (m : Mark) → Clears m m
+clears_none m = record { snapshot = refl; passed = λ p. p; clear = λ p. p; collected = refl }
+
+pub marks_clear_none : (marks : List (List Mark)) (t : ℕ) → MarksClear marks marks t
+marks_clear_none marks t = record { elsewhere = λ u off. refl; here = λ c. clears_none (mark_at marks t c) }
+
+pub marks_clear_more : (a b d : List (List Mark)) (t : ℕ) → MarksClear a b t → MarksClear b d t → MarksClear a d t
+marks_clear_more a b d t x y = record {
+  elsewhere = λ u off. y.elsewhere u off ∙ x.elsewhere u off;
+  here = λ c. record {
+    snapshot = (y.here c).snapshot ∙ (x.here c).snapshot;
+    passed = λ p. (y.here c).passed ((x.here c).passed p);
+    clear = λ p. (y.here c).clear ((x.here c).clear p);
+    collected = (y.here c).collected ∙ (x.here c).collected;
+  };
+}
+
+pub passing_clears : (a b : List (List Mark)) (t : ℕ) → MarksPass a b t → MarksClear a b t
+passing_clears a b t x = record {
+  elsewhere = x.elsewhere;
+  here = λ c. record { snapshot = (x.here c).snapshot; passed = (x.here c).passed; clear = λ p. (x.here c).clear ∙ p; collected = (x.here c).collected };
+}
+
+pub clearing_grows : (a b : List (List Mark)) (t : ℕ) → MarksClear a b t → MarksGrow a b t
+clearing_grows a b t x = record {
+  elsewhere = x.elsewhere;
+  here = λ c. record { snapshot = (x.here c).snapshot; passed = (x.here c).passed; clear = (x.here c).clear; collected = λ p. (x.here c).collected ∙ p };
+}
+
+-- a mark beside the one that is written
+pub mark_beside : (marks : List (List Mark)) (t c : ℕ) (m : Mark) → SameBut marks (with_cell marks t c m) t c
+mark_beside marks t c m j off = ⊎_elim
+    (λ (here : (t ≡ t) × (j ≡ c) × (mark_at (with_cell marks t c m) t j ≡ m)). absurd (off here.1))
+    (λ (old : mark_at (with_cell marks t c m) t j ≡ mark_at marks t j). old)
+    (row_cases no_mark marks t c m t j)
+
 -- Looks at passive words
 
 shows_clear : (m : Mark) (w : ℕ) → (m.clear ≡ true → w ≡ 0) → (m.clear || (w == 0)) ≡ not (nat_lt 0 w)
@@ -181,9 +218,14 @@ examines_passive s t c rest gone passed lt = and_from (may_examine s t c) _ (exa
 pub passive_look_is : (s n : State) (t c : ℕ) (r : Reply) → at_rest s.due ≡ true → is_retired (slot_at s.slots t) ≡ true → AllPassed s t → c < s.settings.cpus → step s (PassiveLook t c) ≡ Some (record { state = n; reply = r }) → n ≡ after_look_passive s t c
 passive_look_is s n t c r rest gone passed lt made = made_is (may_look_passive s t c) (after_look_passive s t c) n _ r (examines_passive s t c rest gone passed lt) made
 
-pub passive_look_marks : (s : State) (t c : ℕ) → MarksGrow s.marks (after_look_passive s t c).marks t
-passive_look_marks s t c = mark_grows s.marks t c (mark_after_passive_look (mark_at s.marks t c) (passive_at s.passive c t))
-    (record { snapshot = refl; passed = λ p. p; clear = λ p. ap (λ (b : Bool). b || (passive_at s.passive c t == 0)) p; collected = λ p. p })
+pub passive_look_marks : (s : State) (t c : ℕ) → MarksClear s.marks (after_look_passive s t c).marks t
+passive_look_marks s t c =
+    let m : Mark = mark_after_passive_look (mark_at s.marks t c) (passive_at s.passive c t) in
+    record {
+      elsewhere = row_elsewhere s.marks t c m;
+      here = mark_written Clears s.marks t c m clears_none
+          (record { snapshot = refl; passed = λ p. p; clear = λ p. ap (λ (b : Bool). b || (passive_at s.passive c t == 0)) p; collected = refl });
+    }
 
 -- Collections
 
@@ -357,7 +399,7 @@ stage_kept s m t n only marks =
     let third : held_at m.locals m.hands m.keeps m.due n t ≡ held_at s.locals s.hands s.keeps s.due n t = ap (λ (x : State). held_at x.locals x.hands x.keeps x.due n t) only in
     rw (first, second, third) refl
 
-abbrev is_freed : Stage → Bool
+abbrev pub is_freed : Stage → Bool
 is_freed (Grace c) = false
 is_freed (Passive c) = false
 is_freed (Local k) = false
@@ -369,22 +411,22 @@ stage_again s m t n (Passive c) held left = stage_kept s m t n (subst (λ (x : S
 stage_again s m t n (Local k) held left = stage_kept s m t n left.only left.marks
 stage_again s m t n (Freed u) held left = absurd (let q : ◌≡◌ {A = Bool} true false = held in cc)
 
-slots_again : (s m : State) (t : ℕ) (stage : Stage) → is_freed stage ≡ false → StageLeaves s m t stage → m.slots ≡ s.slots
+pub slots_again : (s m : State) (t : ℕ) (stage : Stage) → is_freed stage ≡ false → StageLeaves s m t stage → m.slots ≡ s.slots
 slots_again s m t (Grace c) held left = ap (λ (x : State). x.slots) left.only
 slots_again s m t (Passive c) held left = ap (λ (x : State). x.slots) left.only
 slots_again s m t (Local k) held left = ap (λ (x : State). x.slots) left.only
 slots_again s m t (Freed u) held left = absurd (let q : ◌≡◌ {A = Bool} true false = held in cc)
 
-marks_again : (s m n : State) (t : ℕ) → LeavesMarks s m t → LeavesMarks m n t → LeavesMarks s n t
-marks_again s m n t x y = record {
+marks_leave_again : (s m n : State) (t : ℕ) → LeavesMarks s m t → LeavesMarks m n t → LeavesMarks s n t
+marks_leave_again s m n t x y = record {
   only = subst (λ (z : State). n ≡ record z { seated = z.settings.cpus; marks = n.marks }) x.only y.only;
   marks = marks_grow_more s.marks m.marks n.marks t x.marks y.marks;
 }
 
 -- the same stage was met twice
 pub leaves_again : (s m n : State) (t : ℕ) (stage : Stage) → is_freed stage ≡ false → StageLeaves s m t stage → StageLeaves m n t stage → StageLeaves s n t stage
-leaves_again s m n t (Grace c) held x y = marks_again s m n t x y
-leaves_again s m n t (Passive c) held x y = marks_again s m n t x y
+leaves_again s m n t (Grace c) held x y = marks_leave_again s m n t x y
+leaves_again s m n t (Passive c) held x y = marks_leave_again s m n t x y
 leaves_again s m n t (Local k) held x y = record {
   only = subst (λ (z : State). n ≡ record z { seated = z.settings.cpus; marks = n.marks; counts = n.counts; totals = n.totals }) x.only y.only;
   marks = marks_grow_more s.marks m.marks n.marks t x.marks y.marks;
@@ -394,6 +436,24 @@ leaves_again s m n t (Local k) held x y = record {
   total = y.total;
 }
 leaves_again s m n t (Freed u) held x y = absurd (let q : ◌≡◌ {A = Bool} true false = held in cc)
+
+-- the marks of two turns that met the same obstacle
+pub marks_of_turns : (s m n : State) (t : ℕ) (stage : Stage) → StageMarks s m t stage → StageMarks m n t stage → StageMarks s n t stage
+marks_of_turns s m n t (Grace c) x y = record {
+  marks = marks_pass_more s.marks m.marks n.marks t x.marks y.marks;
+  below = y.below;
+  here = y.here;
+  above = λ d lt. y.above d lt ∙ x.above d lt;
+}
+marks_of_turns s m n t (Passive c) x y = record {
+  marks = marks_clear_more s.marks m.marks n.marks t x.marks y.marks;
+  passed = y.passed;
+  below = y.below;
+  here = y.here;
+  above = λ d lt. y.above d lt ∙ x.above d lt;
+}
+marks_of_turns s m n t (Local k) x y = y
+marks_of_turns s m n t (Freed u) x y = y
 
 -- the answer is the same the next time, where nothing was freed
 pub answer_again : (s m : State) (number : ℕ) (stage : Stage) → is_freed stage ≡ false → AdvanceLeaves s m number (Ok stage) → advance_answer m number ≡ advance_answer s number
@@ -409,6 +469,14 @@ advance_again s m n number stage next held x y same =
     let one : y.0 ≡ x.0 = same_Some y.0 x.0 place in
     let second : StageLeaves m n x.0 stage = subst (λ (k : ℕ). StageLeaves m n k stage) one (subst (StageLeaves m n y.0) same y.2) in
     (x.0, x.1, subst (StageLeaves s n x.0) (sym same) (leaves_again s m n x.0 stage held x.2 second))
+
+pub marks_again : (s m n : State) (number : ℕ) (stage next : Stage) → is_freed stage ≡ false → AdvanceLeaves s m number (Ok stage) → AdvanceMarks s m number (Ok stage) → AdvanceMarks m n number (Ok next) → next ≡ stage → AdvanceMarks s n number (Ok next)
+marks_again s m n number stage next held left x y same =
+    let slots = slots_again s m left.0 stage held left.2 in
+    let place : Some y.0 ≡ Some x.0 = sym y.1 ∙ (ap (λ (l : List Slot). retired_slot l number) slots ∙ x.1) in
+    let one : y.0 ≡ x.0 = same_Some y.0 x.0 place in
+    let second : StageMarks m n x.0 stage = subst (λ (k : ℕ). StageMarks m n k stage) one (subst (StageMarks m n y.0) same y.2) in
+    (x.0, x.1, subst (StageMarks s n x.0) (sym same) (marks_of_turns s m n x.0 stage x.2 second))
 
 pub not_freed : (stage : Stage) → ((t : ℕ) → stage ≡ Freed t → ⊥) → is_freed stage ≡ false
 not_freed (Grace c) off = refl

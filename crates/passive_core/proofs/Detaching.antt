@@ -109,7 +109,7 @@ snapping_ends s t on =
     λ i. record s { marks = set s.marks t (map snapshot_mark (all i) ++ replicate (8 - s.settings.cpus) no_mark); due = if none i then Snapshots t s.settings.cpus else Rest }
 
 -- and the next one
-snap_more : (s : State) (t k : ℕ) → t < length s.marks → k < length s.section → k < 8 → after_snapshot (snapping s t k) t k ≡ snapping s t (k + 1)
+pub snap_more : (s : State) (t k : ℕ) → t < length s.marks → k < length s.section → k < 8 → after_snapshot (snapping s t k) t k ≡ snapping s t (k + 1)
 snap_more s t k lt within small =
     let row : get_or (set s.marks t (row_so_far s k)) t [] ≡ row_so_far s k = get_or-set_same s.marks t (row_so_far s k) [] lt in
     let marks : set (set s.marks t (row_so_far s k)) t (set (get_or (set s.marks t (row_so_far s k)) t []) k (snapshot_mark (section_at s k))) ≡ set s.marks t (row_so_far s (k + 1)) =
@@ -123,7 +123,7 @@ due_within s t on due =
     let gone = (subst (DueHolds s.settings.cpus s.slots) due on.references.due_at).1 in
     omega (arith, in_within s.slots t gone.0 (inr gone.1), on.shape.slots, on.shape.marks)
 
-due_is : (s : State) (t k : ℕ) → k < s.settings.cpus → is_snapshot_due (due_from s t k) t k ≡ true
+pub due_is : (s : State) (t k : ℕ) → k < s.settings.cpus → is_snapshot_due (due_from s t k) t k ≡ true
 due_is s t k lt = rw (lt-ltb k s.settings.cpus lt, eq-eqb t t refl, eq-eqb k k refl) refl
 
 -- the next snapshot is the one that is due
@@ -155,7 +155,7 @@ may_by : (s : State) (t : ℕ) (e : Entry) (before : Option ℕ) (d : ℕ) → m
 may_by s t e None d = refl
 may_by s t e (Some p) d = refl
 
-settings_by : (s : State) (t : ℕ) (e : Entry) (before : Option ℕ) → (with_retired (with_link_past s t before) t e).settings ≡ s.settings
+pub settings_by : (s : State) (t : ℕ) (e : Entry) (before : Option ℕ) → (with_retired (with_link_past s t before) t e).settings ≡ s.settings
 settings_by s t e None = refl
 settings_by s t e (Some p) = refl
 

@@ -6,5 +6,6 @@ pub mod Detaching
 pub mod Entering
 pub mod Finding
 pub mod Locals
+pub mod Making
 pub mod Passives
 pub mod Performing

@@ -1,5 +1,5 @@
 -- How far the destruction of a retired entry has come, in plain terms, and what the keeper's work on it leaves.
-use Rattle.std.specs.Prelude.{◌≡◌, ℕ, ◌+◌, ◌==◌, nat_lt, List, Option, Some, None, Bool, true, false, ◌&&◌, Result, Ok, Err, slice_set}
+use Rattle.std.specs.Prelude.{◌≡◌, ◌<◌, ℕ, ◌+◌, ◌==◌, nat_lt, List, Option, Some, None, Bool, true, false, ◌&&◌, Result, Ok, Err, slice_set}
 use Rattle.registry_values.specs.declared.entry.Entry.{Entry}
 use Rattle.registry_values.specs.declared.refusal.Refusal.{Refusal}
 use Rattle.registry_values.specs.declared.refusal.Refusal.TheVariants.{StillHeld}
@@ -14,7 +14,7 @@ use Rattle.registry_values.specs.Balances.{bias}
 use Rattle.registry_values.specs.Slots.{slot_at, has_number, retired_slot}
 use Rattle.protocol.specs.Events.{is_inside}
 use Rattle.protocol.specs.Invariant.{held_at, one_if}
-use Rattle.protocol.specs.Marking.{MarksGrow, SameElsewhere}
+use Rattle.protocol.specs.Marking.{AllClear, AllCollected, AllPassed, MarksGrow, SameElsewhere}
 use Rattle.registry_values.specs.Marks.{least_below}
 use Rattle.registry_values.specs.Stages as stages
 use Rattle.registry_values.specs.Stages.{stage_of}
@@ -58,6 +58,43 @@ pub record Passes (old new : Mark) : Type 0 where
 pub record MarksPass (old new : List (List Mark)) (t : ℕ) : Type 0 where
   pub elsewhere : SameElsewhere old new t
   pub here : (c : ℕ) → Passes (mark_at old t c) (mark_at new t c)
+
+-- a mark that may only have come to say passed and clear
+pub record Clears (old new : Mark) : Type 0 where
+  pub snapshot : new.snapshot ≡ old.snapshot
+  pub passed : old.passed ≡ true → new.passed ≡ true
+  pub clear : old.clear ≡ true → new.clear ≡ true
+  pub collected : new.collected ≡ old.collected
+
+-- the same, where nothing but looks at section words and passive words was done
+pub record MarksClear (old new : List (List Mark)) (t : ℕ) : Type 0 where
+  pub elsewhere : SameElsewhere old new t
+  pub here : (c : ℕ) → Clears (mark_at old t c) (mark_at new t c)
+
+-- the marks for the slot t of all CPUs but c are as they were
+abbrev pub SameBut : List (List Mark) → List (List Mark) → ℕ → ℕ → Type 0
+SameBut old new t c = (d : ℕ) → (d ≡ c → ⊥) → mark_at new t d ≡ mark_at old t d
+
+-- The CPUs below c have passed for the slot t and c hasn't. Those above c weren't looked at, and nothing but passes was noted.
+pub record PassedBelow (old new : State) (t c : ℕ) : Type 0 where
+  pub marks : MarksPass old.marks new.marks t
+  pub below : (d : ℕ) → d < c → (mark_at new.marks t d).passed ≡ true
+  pub here : (mark_at new.marks t c).passed ≡ false
+  pub above : (d : ℕ) → c < d → mark_at new.marks t d ≡ mark_at old.marks t d
+
+-- All CPUs have passed for the slot t, those below c are clear and c isn't. Those above c are as clear as they were, and nothing was collected.
+pub record ClearBelow (old new : State) (t c : ℕ) : Type 0 where
+  pub marks : MarksClear old.marks new.marks t
+  pub passed : AllPassed new t
+  pub below : (d : ℕ) → d < c → (mark_at new.marks t d).clear ≡ true
+  pub here : (mark_at new.marks t c).clear ≡ false
+  pub above : (d : ℕ) → c < d → (mark_at new.marks t d).clear ≡ (mark_at old.marks t d).clear
+
+-- All CPUs have passed for the slot t, are clear and have their count words collected.
+pub record AllNoted (s : State) (t : ℕ) : Type 0 where
+  pub passed : AllPassed s t
+  pub clear : AllClear s t
+  pub collected : AllCollected s t
 
 -- a section or a passive reference stands in the way: seats and marks of the slot t are all that changes
 pub record LeavesMarks (old new : State) (t : ℕ) : Type 0 where
@@ -119,6 +156,18 @@ abbrev pub AdvanceLeaves : State → State → ℕ → Result Stage Refusal → 
 AdvanceLeaves old new n (Err refusal) = new ≡ old
 AdvanceLeaves old new n (Ok stage) = (t : ℕ) × (retired_slot old.slots n ≡ Some t) × StageLeaves old new t stage
 
+-- Which marks the slot t has, by the obstacle that the work on it met.
+abbrev pub StageMarks : State → State → ℕ → Stage → Type 0
+StageMarks old new t (Grace c) = PassedBelow old new t c
+StageMarks old new t (Passive c) = ClearBelow old new t c
+StageMarks old new t (Local k) = AllNoted new t
+StageMarks old new t (Freed u) = AllNoted new t
+
+-- Which marks an advance leaves, by its answer.
+abbrev pub AdvanceMarks : State → State → ℕ → Result Stage Refusal → Type 0
+AdvanceMarks old new n (Err refusal) = new.marks ≡ old.marks
+AdvanceMarks old new n (Ok stage) = (t : ℕ) × (retired_slot old.slots n ≡ Some t) × StageMarks old new t stage
+
 -- The answer of destroy.
 abbrev pub destroy_answer : State → ℕ → ℕ → Result ℕ Refusal
 destroy_answer s c n = stages.destroy_answer (is_inside s c) (advance_answer s n)
@@ -131,3 +180,12 @@ HeldLeaves old new n _ = new ≡ old
 abbrev pub DestroyLeaves : State → State → ℕ → Result ℕ Refusal → Type 0
 DestroyLeaves old new n (Ok t) = AdvanceLeaves old new n (Ok (Freed t))
 DestroyLeaves old new n (Err refusal) = HeldLeaves old new n refusal
+
+-- Which marks a destroy leaves, by its answer.
+abbrev pub HeldMarks : State → State → ℕ → Refusal → Type 0
+HeldMarks old new n (StillHeld stage) = AdvanceMarks old new n (Ok stage)
+HeldMarks old new n _ = new.marks ≡ old.marks
+
+abbrev pub DestroyMarks : State → State → ℕ → Result ℕ Refusal → Type 0
+DestroyMarks old new n (Ok t) = AdvanceMarks old new n (Ok (Freed t))
+DestroyMarks old new n (Err refusal) = HeldMarks old new n refusal

@@ -3,6 +3,8 @@ use Rattle.std.specs.Prelude.{◌≡◌, ℕ, ◌+◌, ◌-◌, nat_lt, List, []
 use Rattle.registry_values.specs.declared.entry.Entry.{Entry}
 use Rattle.registry_values.specs.declared.refusal.Refusal.{Refusal}
 use Rattle.registry_values.specs.declared.refusal.Refusal.TheVariants.{NoMemory, NothingFound}
+use Rattle.protocol.specs.declared.event.Event.{Event}
+use Rattle.protocol.specs.declared.event.Event.TheVariants.{JoinRef, CountDown, SplitBack, JoinKeeper, TotalSub}
 use Rattle.protocol.specs.declared.state.LocalPlace.{LocalPlace}
 use Rattle.protocol.specs.declared.state.LocalPlace.TheVariants.{Free, Standing}
 use Rattle.registry_values.specs.declared.slot.Slot.{Slot}
@@ -78,6 +80,15 @@ with_total_less s id (Some t) = record s { totals = slice_set s.totals t (total_
 
 abbrev pub after_release_local : State → ℕ → ℕ → State
 after_release_local s c id = if is_counting s c (local_slot s id) then with_count_less (all_seated s) c id (local_slot s id) else with_total_less (all_seated s) id (local_slot s id)
+
+-- the events of a release under the interlock, by the total of that slot
+abbrev pub under_events : ℕ → Option ℕ → List Event
+under_events id None = []
+under_events id (Some t) = JoinKeeper id ∷ TotalSub t ∷ []
+
+-- the events of a release, once all CPUs are seated
+abbrev pub release_events : State → ℕ → ℕ → List Event
+release_events s c id = if is_counting s c (local_slot s id) then JoinRef c id ∷ CountDown c ∷ [] else (JoinRef c id ∷ CountDown c ∷ SplitBack c ∷ []) ++ under_events id (local_slot s id)
 
 -- a list of places has a free one, which is added at its end if need be
 abbrev pub free_added : List LocalPlace → Option ℕ → List LocalPlace

@@ -1,6 +1,5 @@
 -- An entry is published: the keeper may do so, and what it has agrees with what its seat knows then.
-use Rattle.std.proofs.Common.{◌≡◌, inl, inr, ⊎_elim, ℕ, zero, suc, ◌+◌, ◌<◌, ◌≤◌, Bool, true, false, List, [], ◌∷◌, length, get_or, set, replicate, Some, IsTrue, refl, sym, ap, ◌∙◌, subst, arith, get_or-set_same, length-set}
-use Rattle.std.proofs.lemmas.List.{set-set}
+use Rattle.std.proofs.Common.{◌≡◌, inl, ℕ, zero, suc, ◌+◌, ◌<◌, ◌≤◌, Bool, true, false, List, [], ◌∷◌, length, get_or, set, Option, Some, IsTrue, refl, sym, ap, ◌∙◌, subst, arith, get_or-set_same, length-set}
 use Rattle.std.proofs.lemmas.List.Folds.{list_any_at}
 use Rattle.std.proofs.lemmas.List.Sums.{sum_by-cons}
 use Rattle.atomic_table.specs.Seated.{TableId}
@@ -14,7 +13,7 @@ use Rattle.registry_values.specs.declared.settings.Settings.{Settings}
 use Rattle.registry_values.specs.declared.slot.Key.{Key}
 use Rattle.registry_values.specs.declared.slot.Slot.{Slot}
 use Rattle.registry_values.specs.declared.slot.Slot.TheVariants.{Vacant, Live, Retired}
-use Rattle.protocol.specs.State.{with_biases, no_words, row_at as words_at, total_at, kept_at}
+use Rattle.protocol.specs.State.{with_biases, no_words, row_at as words_at, kept_at}
 use Rattle.registry_values.specs.Slots.{key_of_record, key_of, is_live, is_live_as, is_taken, kind_word, live_count, same_key, slot_at}
 use Rattle.protocol.specs.Events.{entry_if, entry_of, keeps_rightly, kind_of, words_of}
 use Rattle.protocol.specs.History.{after_change}
@@ -24,18 +23,19 @@ use Rattle.protocol.proofs.slots.Cells.{slot_here, slot_other}
 use Rattle.registry_values.proofs.Fit.{ranges}
 use Rattle.protocol.proofs.history.History.{length-after_change}
 use Rattle.protocol.proofs.keeps.ListKeeps.{live_count_set, rows_put}
-use Rattle.protocol.proofs.slots.Occupied.{in_within, slot_cases}
+use Rattle.protocol.proofs.slots.Occupied.{in_within}
 use Rattle.cpu_words.specs.declared.view.KeeperView.{KeeperView}
 use Rattle.cpu_words.specs.declared.view.Deed.{Deed}
+use Rattle.cpu_words.specs.Deeds.{IsAttachedKeeping}
 use Rattle.cpu_words.specs.Publishing.{LeadsBelow, MayPublish, HasPublished}
 use Rattle.cpu_words.specs.Publishing.LeadsBelow.{To_end, To_slot}
 use Rattle.cpu_words.specs.Rule.{IsShown}
-use Rattle.cpu_words.specs.Vacating.{MayVacate, MayWrite, as_vacant, vacant_from}
+use Rattle.cpu_words.specs.Vacating.{MayWrite}
 use Rattle.passive_list.specs.declared.keeper.KeptSlot.{KeptSlot}
-use Rattle.passive_list.specs.Keepers.{OnKeeper, row_at, states_of, TakenAs, IsAtRest, RowsAgree, IsOurKeeper}
+use Rattle.passive_list.specs.Keepers.{OnKeeper, row_at, states_of, IsAtRest, RowsAgree, IsOurKeeper}
 use Rattle.passive_list.specs.Publishing.{keeper_after_stores, keeper_after_publish, MayAttach}
 use Rattle.passive_list.proofs.Rows.{state_at, live_in, row_stays, rows_set}
-use Rattle.passive_list.proofs.Preparing.{vacant_now, as_vacant_is, biases_size, bias_stored, vacant_sized}
+use Rattle.passive_list.proofs.Preparing.{biases_size, bias_stored}
 
 -- Who is live
 
@@ -50,37 +50,7 @@ pub live_rows : (a : Settings) (k : KeeperView) (rows : List KeptSlot) → IsAtR
 live_rows a k rows at agree u f live =
     let within = in_within k.slots u f (inl live) in
     let size = at.sized.slots in
-    state_at rows u ∙ by (row_at rows u).state (agree.each u (omega (arith, within, size))).state
-  where
-    by : (x : Slot) → TakenAs k u x → x ≡ Live f
-    by Vacant is = absurd (⊎_elim
-        (λ (vacant : slot_at k.slots u ≡ Vacant). let q : Slot.Vacant ≡ Live f = sym vacant ∙ live in cc)
-        (λ (may : MayVacate k u). let q : Retired may.drained.retired.0 ≡ Live f = sym may.drained.retired.1 ∙ live in cc)
-        is)
-    by (Live e) is = sym is ∙ live
-    by (Retired e) is = absurd (let q : Retired e ≡ Live f = sym is ∙ live in cc)
-
-pub vacant_live : (k : KeeperView) (t : ℕ) → LiveIn (as_vacant k t).slots k.slots
-vacant_live k t u f = by (slot_at k.slots t) refl
-  where
-    by : (x : Slot) → slot_at k.slots t ≡ x → slot_at (vacant_from x k t).slots u ≡ Live f → slot_at k.slots u ≡ Live f
-    by Vacant is live = live
-    by (Live e) is live = live
-    by (Retired e) is live = ⊎_elim
-        (λ (here : (u ≡ t) × (slot_at (set k.slots t Vacant) u ≡ Vacant)). absurd (let q : Slot.Vacant ≡ Live f = sym here.1 ∙ live in cc))
-        (λ (off : (u ≡ t → ⊥) × (slot_at (set k.slots t Vacant) u ≡ slot_at k.slots u)). sym off.1 ∙ live)
-        (slot_cases k.slots t Vacant u (in_within k.slots t e (inr is)))
-
-live_vacant : (k : KeeperView) (t : ℕ) → LiveIn k.slots (as_vacant k t).slots
-live_vacant k t u f live = by (slot_at k.slots t) refl
-  where
-    by : (x : Slot) → slot_at k.slots t ≡ x → slot_at (vacant_from x k t).slots u ≡ Live f
-    by Vacant is = live
-    by (Live e) is = live
-    by (Retired e) is = ⊎_elim
-        (λ (here : (u ≡ t) × (slot_at (set k.slots t Vacant) u ≡ Vacant)). absurd (let q : Retired e ≡ Live f = sym is ∙ (ap (slot_at k.slots) (sym here.0) ∙ live) in cc))
-        (λ (off : (u ≡ t → ⊥) × (slot_at (set k.slots t Vacant) u ≡ slot_at k.slots u)). off.1 ∙ live)
-        (slot_cases k.slots t Vacant u (in_within k.slots t e (inr is)))
+    state_at rows u ∙ (sym (agree.each u (omega (arith, within, size))).state ∙ live)
 
 pub leads_on : (xs ys : List Slot) (n v : ℕ) → LiveIn xs ys → LiveIn ys xs → LeadsBelow xs n v → LeadsBelow ys n v
 leads_on xs ys n v on back (To_end none) = To_end (λ u h live below. none u h (back u h live) below)
@@ -148,41 +118,35 @@ pub asked_write : (a : Settings) (k : KeeperView) (rows : List KeptSlot) (t : �
 asked_write a k rows t at agree lt vacant = record {
   rest = at.rest;
   slot = subst (λ (z : Settings). t < z.slots) (sym at.settings) lt;
-  vacant = subst (TakenAs k t) (sym (state_at rows t) ∙ vacant) (agree.each t lt).state;
+  vacant = (agree.each t lt).state ∙ (sym (state_at rows t) ∙ vacant);
 }
 
 pub may_publish : (a : Settings) (k : KeeperView) (rows : List KeptSlot) (e : Entry) (v : ℕ) → MayAttach a k rows e → LeadsBelow (states_of rows) e.number v → MayPublish (keeper_after_stores k e v) e.slot e
 may_publish a k rows e v asked link =
     let at = asked.at in
     let t = e.slot in
-    let w = as_vacant k t in
-    let is = as_vacant_is k t in
     let may = asked_write a k rows t at asked.agree asked.slot asked.vacant in
-    let sized = vacant_sized a.slots k t at.sized in
     let lt = asked.slot in
     let row_size = at.sized.rows in
     let next_size = at.sized.next in
-    let count_size = sized.counts in
-    let settings : w.settings ≡ a = ap (λ (x : KeeperView). x.settings) is ∙ at.settings in
-    let history : w.history ≡ k.history = ap (λ (x : KeeperView). x.history) is in
-    let number : e.number ≡ suc (length w.history) = asked.number ∙ sym (ap (λ (h : List Change). suc (length h)) history) in
-    let back : LiveIn w.slots (states_of rows) = λ u f live. live_rows a k rows at asked.agree u f (vacant_live k t u f live) in
-    let on : LiveIn (states_of rows) w.slots = λ u f live. live_vacant k t u f (rows_live a k rows asked.agree u f live) in
+    let count_size = at.sized.counts in
+    let back = live_rows a k rows at asked.agree in
+    let on = rows_live a k rows asked.agree in
     let had = asked.agree.each t lt in
     let none : ℕ = 0 in
     record {
-      rest = ap (λ (x : KeeperView). x.due) is ∙ at.rest;
-      slot = subst (λ (z : Settings). t < z.slots) (sym settings) lt;
-      vacant = vacant_now k t may;
+      rest = may.rest;
+      slot = may.slot;
+      vacant = may.vacant;
       entry = ap (entry_of t) (get_or-set_same k.rows t (words_of e) no_words (omega (arith, lt, row_size))) ∙ entry_is e asked.name;
-      number = number;
-      free = free_on (key_of e) (states_of rows) w.slots back asked.free;
-      room = let count = count_on w.slots (states_of rows) back in let long = ap (λ (h : List Change). length h) history in let room = asked.room in let limit = ap (λ (z : Settings). z.change_limit) settings in omega (arith, count, long, room, limit);
-      link = subst (LeadsBelow w.slots (suc (length w.history))) (sym (get_or-set_same k.next t v none (omega (arith, lt, next_size))))
-          (subst (λ (n : ℕ). LeadsBelow w.slots n v) number (leads_on (states_of rows) w.slots e.number v on back link));
-      counts = λ c cpu. bias_stored w.counts t k.settings.cpus c (get_or w.counts t []) (omega (arith, lt, count_size)) (subst (λ (z : Settings). c < z.cpus) (settings ∙ sym at.settings) cpu);
-      total = ap (λ (x : KeeperView). total_at x.totals t) is ∙ (sym had.total ∙ had.unused (sym (state_at rows t) ∙ asked.vacant));
-      keeps = ap (λ (x : KeeperView). keeps_rightly (kept_at x.keeps t) e.rec.kind) is ∙ asked.keeps;
+      number = asked.number;
+      free = free_on (key_of e) (states_of rows) k.slots back asked.free;
+      room = let count = count_on k.slots (states_of rows) back in let room = asked.room in let limit = ap (λ (z : Settings). z.change_limit) at.settings in omega (arith, count, room, limit);
+      link = subst (LeadsBelow k.slots (suc (length k.history))) (sym (get_or-set_same k.next t v none (omega (arith, lt, next_size))))
+          (subst (λ (n : ℕ). LeadsBelow k.slots n v) asked.number (leads_on (states_of rows) k.slots e.number v on back link));
+      counts = λ c cpu. bias_stored k.counts t k.settings.cpus c (get_or k.counts t []) (omega (arith, lt, count_size)) cpu;
+      total = sym had.total ∙ had.unused (sym (state_at rows t) ∙ asked.vacant);
+      keeps = asked.keeps;
     }
 
 -- what publishing leaves, in one view
@@ -193,40 +157,10 @@ published_is k l m e v at told may =
     let f = told.0 in
     let same : f ≡ e = one f e (sym (ap (λ (x : KeeperView). entry_of t (words_at x.rows t)) (sym at) ∙ told.1.entry) ∙ may.entry) in
     told.2 ∙ (ap (λ (x : KeeperView). record x { head = t + 1; history = after_change x.history (Attach f); slots = set x.slots t (Live f) }) at
-    ∙ (ap (λ (x : Entry). record p { head = t + 1; history = after_change p.history (Attach x); slots = set p.slots t (Live x) }) same
-    ∙ by (slot_at k.slots t)))
+    ∙ ap (λ (x : Entry). record p { head = t + 1; history = after_change p.history (Attach x); slots = set p.slots t (Live x) }) same)
   where
     one : (x y : Entry) → Some x ≡ Some y → x ≡ y
     one x y q = cc
-
-    made : KeeperView → KeeperView
-    made w = record w {
-      head = e.slot + 1;
-      history = after_change w.history (Attach e);
-      slots = set w.slots e.slot (Live e);
-      next = set k.next e.slot v;
-      rows = set k.rows e.slot (words_of e);
-      counts = set w.counts e.slot (with_biases k.settings.cpus (get_or w.counts e.slot []));
-    }
-
-    aim : KeeperView → KeeperView
-    aim w = record k {
-      head = e.slot + 1;
-      history = after_change k.history (Attach e);
-      slots = set k.slots e.slot (Live e);
-      next = set k.next e.slot v;
-      rows = set k.rows e.slot (words_of e);
-      counts = set k.counts e.slot (with_biases k.settings.cpus (get_or w.counts e.slot []));
-    }
-
-    by : (x : Slot) → made (vacant_from x k e.slot) ≡ aim (vacant_from x k e.slot)
-    by Vacant = refl
-    by (Live x) = refl
-    by (Retired x) =
-        let none : ℕ = 0 in
-        let row = with_biases k.settings.cpus (get_or (set k.counts e.slot (replicate 8 none)) e.slot []) in
-        ap (λ (slots : List Slot). record (aim (vacant_from (Retired x) k e.slot)) { slots = slots; counts = set (set k.counts e.slot (replicate 8 none)) e.slot row }) (set-set k.slots e.slot Vacant (Live e))
-        ∙ ap (λ (counts : List (List ℕ)). record (aim (vacant_from (Retired x) k e.slot)) { counts = counts }) (set-set k.counts e.slot (replicate 8 none) row)
 
 abbrev pub row_live : KeptSlot → Entry → KeptSlot
 row_live r e = record { state = Live e; marks = r.marks; total = r.total; keeps = r.keeps }
@@ -236,12 +170,11 @@ published_at_rest a k rows e v asked =
     let at = asked.at in
     let t = e.slot in
     let lt = asked.slot in
-    let sized = vacant_sized a.slots k t at.sized in
     let few = (ranges a at.fit).cpus in
     let cpus = ap (λ (z : Settings). z.cpus) at.settings in
-    let wide = sized.counts in
-    let row = get_or (as_vacant k t).counts t [] in
-    let long = sized.count_rows t (omega (arith, lt, wide)) in
+    let wide = at.sized.counts in
+    let row = get_or k.counts t [] in
+    let long = at.sized.count_rows t (omega (arith, lt, wide)) in
     record {
       settings = at.settings;
       fit = at.fit;
@@ -292,7 +225,7 @@ published_keeper z a table k l its rows n e v same settings was asked change is_
             keeps = had.keeps;
             unused = λ vacant. absurd (let q : Live e ≡ Vacant = vacant in cc);
           }
-          (λ u off was. row_stays k p u (row_at rows u) at.rest refl (slot_other k.slots t (Live e) u off) refl refl refl was));
+          (λ u off was. row_stays k p u (row_at rows u) (slot_other k.slots t (Live e) u off) refl refl refl was));
     }
 
 -- what is asked of a caller, of the keeper's own view
@@ -310,3 +243,11 @@ ask z a table k its rows n t rec x our is vacant keeps name free room = record {
   room = subst (λ (y : OnKeeper). length y.view.history + live_count y.slots + 2 ≤ a.change_limit) (sym is) room;
   number = let changes = our.changes in omega (arith, changes);
 }
+
+-- what the log says of the slot's driver, of the entry by its number
+pub attached_as : (k m : KeeperView) (e : Entry) (v d : ℕ) (log : List Deed) → m ≡ keeper_after_stores k e v → e.number ≡ suc (length k.history)
+    → (kept_at m.keeps e.slot ≡ Some d → IsAttachedKeeping e.slot (suc (length m.history)) d log) → kept_at k.keeps e.slot ≡ Some d → IsAttachedKeeping e.slot e.number d log
+attached_as k m e v d log stored number told keeps =
+    let kept : m.keeps ≡ k.keeps = ap (λ (x : KeeperView). x.keeps) stored in
+    let history : m.history ≡ k.history = ap (λ (x : KeeperView). x.history) stored in
+    subst (λ (n : ℕ). IsAttachedKeeping e.slot n d log) (ap (λ (h : List Change). suc (length h)) history ∙ sym number) (told (ap (λ (l : List (Option ℕ)). kept_at l e.slot) kept ∙ keeps))

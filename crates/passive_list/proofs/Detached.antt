@@ -115,5 +115,5 @@ detached_keeper z a table table' k l its rows n t e p v marks our is marks_size 
             keeps = had.keeps;
             unused = λ vacant. absurd (let q : Retired e ≡ Vacant = vacant in cc);
           }
-          (λ u off was. row_stays k d u (row_at rows u) refl refl (slot_other k.slots t (Retired e) u off) (get_or-set_other (set k.marks t fresh) t u marks [] off ∙ get_or-set_other k.marks t u fresh [] off) refl refl was));
+          (λ u off was. row_stays k d u (row_at rows u) (slot_other k.slots t (Retired e) u off) (get_or-set_other (set k.marks t fresh) t u marks [] off ∙ get_or-set_other k.marks t u fresh [] off) refl refl was));
     }

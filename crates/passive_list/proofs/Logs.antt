@@ -1,5 +1,5 @@
--- What the keeper's log says of the keeper: of its rows too, which may have a drained slot as vacant.
-use Rattle.std.proofs.Common.{◌≡◌, ⊎_elim, ℕ, ◌<◌, ◌≤◌, List, [], length, get_or, Some, true, sym, ap, ◌∙◌, subst, arith}
+-- What the keeper's log says of the keeper: of its rows too.
+use Rattle.std.proofs.Common.{◌≡◌, ⊎_elim, ℕ, ◌<◌, ◌≤◌, List, Some, true, sym, ap, ◌∙◌, subst, arith}
 use Rattle.std.proofs.lemmas.Bool.{cases_lt}
 use Rattle.std.proofs.lemmas.List.{get_or_past, length-map}
 use Rattle.atomic_table.specs.Seated.{TableId}
@@ -8,36 +8,18 @@ use Rattle.registry_values.specs.declared.mark.Mark.{Mark}
 use Rattle.registry_values.specs.declared.settings.Settings.{Settings}
 use Rattle.registry_values.specs.declared.slot.Slot.{Slot}
 use Rattle.registry_values.specs.declared.slot.Slot.TheVariants.{Vacant, Retired}
-use Rattle.registry_values.specs.Marks.{is_passed, no_mark}
 use Rattle.registry_values.specs.Slots.{is_retired, slot_at}
-use Rattle.registry_values.proofs.Fit.{ranges}
 use Rattle.protocol.specs.State.{at_rest, mark_at}
-use Rattle.protocol.proofs.keeps.Marking.{list_all_within}
 use Rattle.protocol.proofs.slots.MarkRows.{snapshot_stands}
 use Rattle.cpu_words.specs.declared.view.Deed.{Deed}
 use Rattle.cpu_words.specs.declared.view.KeeperView.{KeeperView}
-use Rattle.cpu_words.specs.Deeds.{HasPassedOn, IsDetachedFrom, IsOwnLog}
-use Rattle.cpu_words.specs.Vacating.{MayVacate}
+use Rattle.cpu_words.specs.Deeds.{occupant_of, IsOwnLog}
+use Rattle.cpu_words.specs.Notes.{keeper_with_heard}
 use Rattle.cpu_words.proofs.by_keeper.KeeperSees.{seen_by_keeper}
 use Rattle.passive_list.specs.declared.keeper.KeptSlot.{KeptSlot}
-use Rattle.passive_list.specs.Keepers.{state_of, states_of, TakenAs, IsAtRest, IsOurKeeper}
+use Rattle.passive_list.specs.Keepers.{state_of, states_of, IsOurKeeper}
 use Rattle.passive_list.specs.Logs.{HasOwnLog}
-use Rattle.passive_list.proofs.Rows.{live_in, retired_in, state_at}
-
--- a slot that may be taken as vacant has all its passes
-vacated_passed : (a : Settings) (k : KeeperView) (t c : ℕ) → IsAtRest a k → t < a.slots → MayVacate k t → c < a.cpus → (mark_at k.marks t c).passed ≡ true
-vacated_passed a k t c rest lt may low =
-    let row : List Mark = get_or k.marks t [] in
-    let place : t < length k.marks = omega (arith, lt, rest.sized.marks) in
-    let cpus : c < k.settings.cpus = subst (λ (z : Settings). c < z.cpus) (sym rest.settings) low in
-    let wide : c < length row = omega (arith, low, (ranges a rest.fit).cpus, rest.sized.mark_rows t place) in
-    list_all_within is_passed row k.settings.cpus c no_mark may.drained.passed cpus wide
-
-taken_passed : (a : Settings) (k : KeeperView) (t n c : ℕ) (log note : List Deed) → IsAtRest a k → IsOwnLog log note k → t < a.slots → TakenAs k t Vacant → IsDetachedFrom t n log → c < a.cpus → HasPassedOn t c log
-taken_passed a k t n c log note rest own lt taken gone low = ⊎_elim
-    (λ (vacant : slot_at k.slots t ≡ Vacant). own.slots.vacant t n c vacant gone (subst (λ (z : Settings). c < z.cpus) (sym rest.settings) low))
-    (λ (may : MayVacate k t). own.marks.passed t c (vacated_passed a k t c rest lt may low))
-    taken
+use Rattle.passive_list.proofs.Rows.{live_in, retired_in, slots_agree}
 
 -- the entry of a slot that is retired was snapped on each CPU, as the keeper is at rest
 snapped_at : (z : TableId) (a : Settings) (table : TableId) (k : KeeperView) (its : Settings) (rows : List KeptSlot) (n t c : ℕ) (e : Entry) → IsOurKeeper z a table k its rows n → slot_at k.slots t ≡ Retired e → c < a.cpus
@@ -55,19 +37,22 @@ pub own_log : (z : TableId) (a : Settings) (table : TableId) (k : KeeperView) (i
     → HasOwnLog a (record { view = k; slots = states_of rows; log = log })
 own_log z a table k its rows n log note our own = record {
   settings = our.view.settings;
+  rest = our.view.rest;
   size = length-map rows state_of ∙ our.rows.size;
   changes = own.changes;
   marks = own.marks;
   slots = record {
     live = λ t e is. own.slots.live t e (live_in a k rows t e our.rows is).1;
     retired = λ t e is. own.slots.retired t e (retired_in a k rows t e our.rows is).1;
-    vacant = λ t m c is gone low. ⊎_elim
-        (λ (lt : t < a.slots). taken_passed a k t m c log note our.view own lt (subst (TakenAs k t) (sym (state_at rows t) ∙ is) (our.rows.each t lt).state) gone low)
-        (λ (past : a.slots ≤ t). own.slots.vacant t m c (get_or_past k.slots t Vacant (omega (arith, past, our.view.sized.slots))) gone (subst (λ (s : Settings). c < s.cpus) (sym our.view.settings) low))
-        (cases_lt t a.slots);
+    vacant = λ t m c is gone low. own.slots.vacant t m c (slots_agree a k rows t our.view our.rows ∙ is) gone (subst (λ (s : Settings). c < s.cpus) (sym our.view.settings) low);
   };
+  occupants = λ t.
+      let shown = own.counts.1 in
+      let seen = seen_by_keeper shown.g (keeper_with_heard k own.counts.0) shown.good shown.shown in
+      shown.counts.occupants t ∙ ap occupant_of (ap (λ (xs : List Slot). slot_at xs t) (sym seen.slots) ∙ slots_agree a k rows t our.view our.rows);
   snapped = λ t c e is low.
       let w = snapped_at z a table k its rows n t c e our (retired_in a k rows t e our.rows is).1 low in
       (w.0, own.marks.snapped t c w.0 w.1);
   grow = own.grow;
+  counts = own.counts;
 }

@@ -1,31 +1,37 @@
 -- Looks and the end of a drain: one mark or the state of one row changes.
-use Rattle.std.proofs.Common.{◌≡◌, inr, ℕ, ◌<◌, true, ◌&&◌, ◌==◌, List, length, set, get_or, None, refl, sym, ap, ◌∙◌, subst, arith, length-set, eqb-true}
+use Rattle.std.proofs.Common.{◌≡◌, ℕ, ◌+◌, ◌<◌, true, ◌&&◌, ◌==◌, List, ◌++◌, length, set, replicate, get_or, None, refl, sym, ap, ◌∙◌, subst, arith, length-set, eqb-true}
 use Rattle.std.proofs.lemmas.Bool.{and_parts}
+use Rattle.std.proofs.lemmas.List.{map-set}
 use Rattle.std.proofs.Math.Seq.{map-set_same}
 use Rattle.atomic_table.specs.Seated.{TableId}
 use Rattle.registry_values.specs.declared.entry.Entry.{Entry}
 use Rattle.protocol.specs.declared.event.Event.{Event}
+use Rattle.protocol.specs.declared.event.Event.TheVariants.{Hear, Vacate}
 use Rattle.protocol.specs.declared.event.Reply.{Reply}
+use Rattle.protocol.specs.declared.event.Reply.TheVariants.{Done}
 use Rattle.registry_values.specs.declared.settings.Settings.{Settings}
 use Rattle.registry_values.specs.declared.mark.Mark.{Mark}
 use Rattle.registry_values.specs.declared.slot.Slot.TheVariants.{Vacant, Retired}
-use Rattle.registry_values.specs.Slots.{is_retired, slot_at}
+use Rattle.registry_values.specs.Slots.{is_retired, live_count, slot_at}
 use Rattle.registry_values.specs.Marks.{have_passed, are_clear, are_collected, no_mark}
 use Rattle.registry_values.specs.Balances.{bias}
-use Rattle.protocol.specs.State.{with_cell, mark_at, kept_at}
-use Rattle.protocol.proofs.slots.Cells.{row_here, row_other, cell_here}
+use Rattle.protocol.specs.State.{with_cell, mark_at}
+use Rattle.protocol.proofs.slots.Cells.{row_here, row_other, cell_here, slot_here, slot_other}
 use Rattle.registry_values.proofs.Fit.{ranges}
-use Rattle.protocol.proofs.keeps.ListKeeps.{rows_cell}
+use Rattle.protocol.proofs.keeps.ListKeeps.{live_count_put, rows_cell, rows_put}
 use Rattle.protocol.proofs.slots.Occupied.{is_retired_tells}
 use Rattle.cpu_words.specs.declared.view.KeeperView.{KeeperView}
 use Rattle.cpu_words.specs.declared.view.Deed.{Deed}
 use Rattle.cpu_words.specs.declared.view.View.TheVariants.{Keeper}
 use Rattle.cpu_words.specs.Grace.{MayLook, keeper_after_look}
+use Rattle.cpu_words.specs.Deeds.{IsFreedFrom}
+use Rattle.cpu_words.specs.Rule.{IsShown, did}
 use Rattle.cpu_words.specs.Steps.{Makes}
+use Rattle.cpu_words.specs.Vacating.{keeper_after_vacate}
 use Rattle.cpu_words.proofs.shown.KeepersShown.{step_is_shown}
 use Rattle.passive_list.specs.declared.keeper.KeptSlot.{KeptSlot}
-use Rattle.passive_list.specs.Keepers.{no_row, row_at, state_of, states_of, TakenAs, IsAtRest, RowsAgree, IsOurKeeper}
-use Rattle.passive_list.specs.Vacating.{IsDrainedOn, is_drained_row}
+use Rattle.passive_list.specs.Keepers.{OnKeeper, no_row, row_at, state_of, states_of, IsAtRest, RowsAgree, IsOurKeeper}
+use Rattle.passive_list.specs.Vacating.{HasVacated, IsDrainedOn, is_drained_row}
 use Rattle.passive_list.proofs.Rows.{state_at, retired_in, row_stays, rows_set}
 
 -- Looks
@@ -73,13 +79,13 @@ marked_rows a k rows ev r t c m e at agree is =
     let size = at.sized.marks in
     rows_set a k (marked k ev r t c m) rows t (row_marked (row_at rows t) c m) lt (omega (arith, lt, most)) agree
     record {
-      state = subst (TakenAs (marked k ev r t c m) t) (sym (sym (state_at rows t) ∙ is)) retired.1;
+      state = had.state;
       marks = ap (λ (ms : List Mark). set ms c m) had.marks ∙ sym (row_here k.marks t c m (omega (arith, lt, size)));
       total = had.total;
       keeps = had.keeps;
       unused = had.unused;
     }
-    (λ u off was. row_stays k (marked k ev r t c m) u (row_at rows u) at.rest refl refl (row_other k.marks t c m u off) refl refl was)
+    (λ u off was. row_stays k (marked k ev r t c m) u (row_at rows u) refl (row_other k.marks t c m u off) refl refl was)
 
 -- the mark in a retired slot's row is the mark in the view
 row_mark : (a : Settings) (k : KeeperView) (rows : List KeptSlot) (t c : ℕ) (e : Entry) → RowsAgree a k rows → slot_at (states_of rows) t ≡ Retired e → get_or (row_at rows t).marks c no_mark ≡ mark_at k.marks t c
@@ -121,27 +127,69 @@ looked_states rows t c m = map-set_same state_of rows t (row_marked (row_at rows
 abbrev pub row_vacated : KeptSlot → KeptSlot
 row_vacated r = record { state = Vacant; marks = r.marks; total = r.total; keeps = r.keeps }
 
-pub vacated_keeper : {log : List Deed} (z : TableId) (a : Settings) (table : TableId) (k : KeeperView) (its : Settings) (rows : List KeptSlot) (n t : ℕ) → IsOurKeeper z a table k its rows n → IsDrainedOn (record { view = k; slots = states_of rows; log = log }) t → kept_at k.keeps t ≡ None
-    → IsOurKeeper z a table k its (set rows t (row_vacated (row_at rows t))) n
-vacated_keeper z a table k its rows n t our is keeps =
-    let lt = (retired_in a k rows t is.retired.0 our.rows is.retired.1).0 in
+vacated_at_rest : (a : Settings) (k : KeeperView) (t : ℕ) (e : Entry) → IsAtRest a k → t < a.slots → slot_at k.slots t ≡ Retired e → IsAtRest a (keeper_after_vacate k t)
+vacated_at_rest a k t e at lt retired = record {
+  settings = at.settings;
+  fit = at.fit;
+  rest = at.rest;
+  seated = at.seated;
+  sized = record {
+    slots = length-set k.slots t Vacant ∙ at.sized.slots;
+    marks = at.sized.marks;
+    mark_rows = at.sized.mark_rows;
+    keeps = at.sized.keeps;
+    next = at.sized.next;
+    rows = at.sized.rows;
+    totals = at.sized.totals;
+    counts = length-set k.counts t (replicate 8 0) ∙ at.sized.counts;
+    count_rows = rows_put k.counts t (replicate 8 0) refl at.sized.count_rows;
+  };
+  room =
+      let size = at.sized.slots in
+      let same : live_count (set k.slots t Vacant) + 0 ≡ live_count k.slots + 0 = live_count_put k.slots t (Retired e) Vacant (omega (arith, lt, size)) retired in
+      let room = at.room in
+      omega (arith, same, room);
+}
+
+pub vacated_keeper : {log : List Deed} (z : TableId) (a : Settings) (table table' : TableId) (k l : KeeperView) (its : Settings) (rows : List KeptSlot) (n t : ℕ) → IsOurKeeper z a table k its rows n → IsDrainedOn (record { view = k; slots = states_of rows; log = log }) t
+    → table' ≡ table → l ≡ keeper_after_vacate k t → IsShown l → IsOurKeeper z a table' l its (set rows t (row_vacated (row_at rows t))) n
+vacated_keeper z a table table' k l its rows n t our is same change is_shown =
+    let here = retired_in a k rows t is.retired.0 our.rows is.retired.1 in
+    let lt = here.0 in
     let most = (ranges a our.view.fit).slots in
+    let size = our.view.sized.slots in
     let had = our.rows.each t lt in
+    let m = keeper_after_vacate k t in
+    let after = set rows t (row_vacated (row_at rows t)) in
     record {
-      table = our.table;
+      table = same ∙ our.table;
       settings = our.settings;
-      view = our.view;
-      is_shown = our.is_shown;
-      changes = our.changes;
-      rows = rows_set a k k rows t (row_vacated (row_at rows t)) lt (omega (arith, lt, most)) our.rows
+      view = subst (IsAtRest a) (sym change) (vacated_at_rest a k t is.retired.0 our.view lt here.1);
+      is_shown = is_shown;
+      changes = our.changes ∙ sym (ap (λ (y : KeeperView). length y.history) change);
+      rows = subst (λ (y : KeeperView). RowsAgree a y after) (sym change) (rows_set a k m rows t (row_vacated (row_at rows t)) lt (omega (arith, lt, most)) our.rows
           record {
-            state = inr record { drained = is.drained; keeps_nothing = keeps };
+            state = slot_here k.slots t Vacant (omega (arith, lt, size));
             marks = had.marks;
             total = had.total;
             keeps = had.keeps;
             unused = λ vacant. had.total ∙ is.drained.total;
           }
-          (λ u off was. was);
+          (λ u off was. row_stays k m u (row_at rows u) (slot_other k.slots t Vacant u off) refl refl refl was));
+    }
+
+-- what it leaves of the keeper
+pub has_vacated : {log later : List Deed} (a : Settings) (k l : KeeperView) (rows : List KeptSlot) (t : ℕ) (r : KeptSlot) (x : OnKeeper) → record { view = k; slots = states_of rows; log = log } ≡ x → RowsAgree a k rows → Makes (Vacate t) Done (Keeper k) (Keeper l) → Makes (Hear None) Done (Keeper l) (Keeper l)
+    → l ≡ keeper_after_vacate k t → later ≡ log ++ did (Vacate t) Done ++ did (Hear None) Done → ((e : Entry) → slot_at k.slots t ≡ Retired e → IsFreedFrom t e.number later)
+    → HasVacated x t (record { view = l; slots = states_of (set rows t (row_vacated r)); log = later })
+has_vacated {later} a k l rows t r x is agree made heard change goes_on freed =
+    subst (λ (y : OnKeeper). HasVacated y t (record { view = l; slots = states_of (set rows t (row_vacated r)); log = later })) is record {
+      made = made;
+      heard = heard;
+      view = change;
+      slots = map-set state_of rows t (row_vacated r);
+      log = goes_on;
+      freed = λ e at. freed e (retired_in a k rows t e agree at).1;
     }
 
 -- what the row says of a drain is what the view says

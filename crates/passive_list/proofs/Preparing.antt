@@ -1,5 +1,5 @@
 -- The words of a slot before its entry is published: a slot that is written stays vacant, and each store is a line more.
-use Rattle.std.proofs.Common.{◌≡◌, inl, inr, ⊎_elim, ℕ, ◌+◌, ◌<◌, ◌≤◌, List, [], ◌∷◌, ◌++◌, length, drop, get_or, set, replicate, refl, sym, ap, ◌∙◌, subst, arith, get_or-set_same, length-set}
+use Rattle.std.proofs.Common.{◌≡◌, ⊎_elim, ℕ, ◌+◌, ◌<◌, ◌≤◌, List, [], ◌∷◌, ◌++◌, length, drop, get_or, set, replicate, sym, ap, ◌∙◌, subst, arith, get_or-set_same, length-set}
 use Rattle.std.proofs.lemmas.Bool.{cases_lt}
 use Rattle.std.proofs.lemmas.List.{length-replicate, replicate_more, set-set, set_at, set_past, append_assoc, length-append, length-drop, get_or_append_left, get_or-replicate}
 use Rattle.std.proofs.Math.Seq.{drop-cons}
@@ -7,49 +7,15 @@ use Rattle.std.proofs.Math.Numerals.{add-one}
 use Rattle.registry_values.specs.declared.entry.Entry.{Entry}
 use Rattle.registry_values.specs.declared.settings.Settings.{Settings}
 use Rattle.protocol.specs.declared.state.RecordWords.{RecordWords}
-use Rattle.registry_values.specs.declared.slot.Slot.{Slot}
-use Rattle.registry_values.specs.declared.slot.Slot.TheVariants.{Vacant, Live, Retired}
 use Rattle.protocol.specs.State.{with_biases, no_words, row_at, count_at, with_cell}
 use Rattle.protocol.specs.Events.{with_word, words_of}
 use Rattle.registry_values.specs.Balances.{bias}
-use Rattle.registry_values.specs.Slots.{slot_at}
-use Rattle.protocol.proofs.slots.Cells.{slot_here, cell_in_new}
-use Rattle.protocol.proofs.keeps.ListKeeps.{rows_put}
-use Rattle.protocol.proofs.slots.Occupied.{in_within}
+use Rattle.protocol.proofs.slots.Cells.{cell_in_new}
 use Rattle.cpu_words.specs.declared.view.KeeperView.{KeeperView}
 use Rattle.cpu_words.specs.Storing.{HasRecordWord, HasCountWord, HasLink}
-use Rattle.cpu_words.specs.Vacating.{MayVacate, MayWrite, as_vacant, vacant_from}
+use Rattle.cpu_words.specs.Vacating.{MayWrite}
 use Rattle.passive_list.specs.Keepers.{AreSized}
 use Rattle.passive_list.specs.Publishing.{with_row, with_counts, keeper_after_stores}
-
--- A slot that may be written, taken as vacant
-
-not_live : (k : KeeperView) (t : ℕ) (e : Entry) → MayWrite k t → slot_at k.slots t ≡ Live e → ⊥
-not_live k t e may is = ⊎_elim
-    (λ (vacant : slot_at k.slots t ≡ Vacant). let q : Slot.Vacant ≡ Live e = sym vacant ∙ is in cc)
-    (λ (vacated : MayVacate k t). let q : Retired vacated.drained.retired.0 ≡ Live e = sym vacated.drained.retired.1 ∙ is in cc)
-    may.vacant
-
-pub vacant_now : (k : KeeperView) (t : ℕ) → MayWrite k t → slot_at (as_vacant k t).slots t ≡ Vacant
-vacant_now k t may = by (slot_at k.slots t) refl
-  where
-    by : (x : Slot) → slot_at k.slots t ≡ x → slot_at (vacant_from x k t).slots t ≡ Vacant
-    by Vacant is = is
-    by (Live e) is = absurd (not_live k t e may is)
-    by (Retired e) is = slot_here k.slots t Vacant (in_within k.slots t e (inr is))
-
--- it is the same view but for the slots and the count words
-pub as_vacant_is : (k : KeeperView) (t : ℕ) → as_vacant k t ≡ record k { slots = (as_vacant k t).slots; counts = (as_vacant k t).counts }
-as_vacant_is k t = by (slot_at k.slots t)
-  where
-    by : (x : Slot) → vacant_from x k t ≡ record k { slots = (vacant_from x k t).slots; counts = (vacant_from x k t).counts }
-    by Vacant = refl
-    by (Live e) = refl
-    by (Retired e) = refl
-
--- a slot that is vacant is taken as it is
-pub again : (k : KeeperView) (t : ℕ) → slot_at k.slots t ≡ Vacant → as_vacant k t ≡ k
-again k t is = ap (λ (x : Slot). vacant_from x k t) is
 
 -- The record
 
@@ -62,18 +28,11 @@ row_again rows t r j v = ⊎_elim
 
 -- a view whose slot is written may be written again
 pub row_may : (k l : KeeperView) (t : ℕ) (r : RecordWords) → MayWrite k t → l ≡ with_row k t r → MayWrite l t
-row_may k l t r may at = subst (λ (x : KeeperView). MayWrite x t) (sym at) record {
-  rest = ap (λ (x : KeeperView). x.due) (as_vacant_is k t) ∙ may.rest;
-  slot = subst (λ (z : Settings). t < z.slots) (sym (ap (λ (x : KeeperView). x.settings) (as_vacant_is k t))) may.slot;
-  vacant = inl (vacant_now k t may);
-}
+row_may k l t r may at = subst (λ (x : KeeperView). MayWrite x t) (sym at) record { rest = may.rest; slot = may.slot; vacant = may.vacant }
 
 -- one word more
-pub row_next : (k l m : KeeperView) (t j v : ℕ) (r : RecordWords) → MayWrite k t → l ≡ with_row k t r → HasRecordWord l t j v m → m ≡ with_row k t (with_word r j v)
-row_next k l m t j v r may at is =
-    is ∙ (ap (λ (x : KeeperView). record (as_vacant x t) { rows = set x.rows t (with_word (row_at x.rows t) j v) }) at
-    ∙ (ap (λ (x : KeeperView). record x { rows = set (set k.rows t r) t (with_word (row_at (set k.rows t r) t) j v) }) (again (with_row k t r) t (vacant_now k t may))
-    ∙ ap (λ (rows : List RecordWords). record (as_vacant k t) { rows = rows }) (row_again k.rows t r j v)))
+pub row_next : (k l m : KeeperView) (t j v : ℕ) (r : RecordWords) → l ≡ with_row k t r → HasRecordWord l t j v m → m ≡ with_row k t (with_word r j v)
+row_next k l m t j v r at is = is ∙ (ap (λ (x : KeeperView). record x { rows = set x.rows t (with_word (row_at x.rows t) j v) }) at ∙ ap (λ (rows : List RecordWords). record k { rows = rows }) (row_again k.rows t r j v))
 
 -- The count words
 
@@ -92,17 +51,15 @@ counts_set k t c low lt =
     let more : set (get_or (set k.counts t (with_biases c row)) t []) c bias ≡ with_biases (c + 1) row = ap (λ (xs : List ℕ). set xs c bias) here ∙ biases_more row c lt in
     set-set k.counts t (with_biases c row) (set (get_or (set k.counts t (with_biases c row)) t []) c bias) ∙ ap (set k.counts t) more
 
-pub counts_next : (k l m : KeeperView) (t c : ℕ) → slot_at k.slots t ≡ Vacant → AreSized k.settings.slots k → t < k.settings.slots → c < 8 → l ≡ with_counts k t c → HasCountWord l t c bias m → m ≡ with_counts k t (c + 1)
-counts_next k l m t c vacant sized low few at is =
+pub counts_next : (k l m : KeeperView) (t c : ℕ) → AreSized k.settings.slots k → t < k.settings.slots → c < 8 → l ≡ with_counts k t c → HasCountWord l t c bias m → m ≡ with_counts k t (c + 1)
+counts_next k l m t c sized low few at is =
     let size = sized.counts in
     let within : t < length k.counts = omega (arith, size, low) in
     let long = sized.count_rows t within in
-    is ∙ (ap (λ (x : KeeperView). record (as_vacant x t) { counts = with_cell (as_vacant x t).counts t c bias }) at
-    ∙ (ap (λ (x : KeeperView). record x { counts = with_cell x.counts t c bias }) (again (with_counts k t c) t vacant)
-    ∙ ap (λ (counts : List (List ℕ)). record k { counts = counts }) (counts_set k t c within (omega (arith, long, few)))))
+    is ∙ (ap (λ (x : KeeperView). record x { counts = with_cell x.counts t c bias }) at ∙ ap (λ (counts : List (List ℕ)). record k { counts = counts }) (counts_set k t c within (omega (arith, long, few))))
 
-pub counts_may : (k l : KeeperView) (t c : ℕ) → slot_at k.slots t ≡ Vacant → MayWrite k t → l ≡ with_counts k t c → MayWrite l t
-counts_may k l t c vacant may at = subst (λ (x : KeeperView). MayWrite x t) (sym at) record { rest = may.rest; slot = may.slot; vacant = inl vacant }
+pub counts_may : (k l : KeeperView) (t c : ℕ) → MayWrite k t → l ≡ with_counts k t c → MayWrite l t
+counts_may k l t c may at = subst (λ (x : KeeperView). MayWrite x t) (sym at) record { rest = may.rest; slot = may.slot; vacant = may.vacant }
 
 -- a row of count words has a place for each CPU, stored or not
 pub biases_size : (row : List ℕ) (c : ℕ) → length row ≡ 8 → c ≤ 8 → length (with_biases c row) ≡ 8
@@ -120,53 +77,30 @@ bias_stored counts t n c row within lt =
 
 -- Sizes
 
-pub vacant_sized : (n : ℕ) (k : KeeperView) (t : ℕ) → AreSized n k → AreSized n (as_vacant k t)
-vacant_sized n k t had = by (slot_at k.slots t)
-  where
-    by : (x : Slot) → AreSized n (vacant_from x k t)
-    by Vacant = had
-    by (Live e) = had
-    by (Retired e) = let none : ℕ = 0 in record {
-      slots = length-set k.slots t Vacant ∙ had.slots;
-      marks = had.marks;
-      mark_rows = had.mark_rows;
-      keeps = had.keeps;
-      next = had.next;
-      rows = had.rows;
-      totals = had.totals;
-      counts = length-set k.counts t (replicate 8 none) ∙ had.counts;
-      count_rows = rows_put k.counts t (replicate 8 none) refl had.count_rows;
-    }
-
 pub row_sized : (n : ℕ) (k : KeeperView) (t : ℕ) (r : RecordWords) → AreSized n k → AreSized n (with_row k t r)
-row_sized n k t r had = let was = vacant_sized n k t had in record {
-  slots = was.slots;
-  marks = was.marks;
-  mark_rows = was.mark_rows;
-  keeps = was.keeps;
-  next = was.next;
+row_sized n k t r had = record {
+  slots = had.slots;
+  marks = had.marks;
+  mark_rows = had.mark_rows;
+  keeps = had.keeps;
+  next = had.next;
   rows = length-set k.rows t r ∙ had.rows;
-  totals = was.totals;
-  counts = was.counts;
-  count_rows = was.count_rows;
+  totals = had.totals;
+  counts = had.counts;
+  count_rows = had.count_rows;
 }
 
 -- All words
 
 pub row_settings : (k l : KeeperView) (t : ℕ) (r : RecordWords) → l ≡ with_row k t r → l.settings ≡ k.settings
-row_settings k l t r at = ap (λ (x : KeeperView). x.settings) at ∙ ap (λ (x : KeeperView). x.settings) (as_vacant_is k t)
+row_settings k l t r at = ap (λ (x : KeeperView). x.settings) at
 
 pub sized_after : (k l : KeeperView) (t : ℕ) (r : RecordWords) → AreSized k.settings.slots k → l ≡ with_row k t r → AreSized l.settings.slots l
 sized_after k l t r had at = subst (λ (n : ℕ). AreSized n l) (sym (ap (λ (z : Settings). z.slots) (row_settings k l t r at))) (subst (AreSized k.settings.slots) (sym at) (row_sized k.settings.slots k t r had))
 
-pub vacant_after : (k l : KeeperView) (t : ℕ) (r : RecordWords) → MayWrite k t → l ≡ with_row k t r → slot_at l.slots t ≡ Vacant
-vacant_after k l t r may at = ap (λ (x : KeeperView). slot_at x.slots t) at ∙ vacant_now k t may
-
-pub prepared_from : (k l m o : KeeperView) (e : Entry) (cpus v : ℕ) → MayWrite k e.slot → cpus ≡ k.settings.cpus → l ≡ with_row k e.slot (words_of e) → m ≡ with_counts l e.slot cpus → HasLink m e.slot v o → o ≡ keeper_after_stores k e v
-prepared_from k l m o e cpus v may same row counts link =
+pub prepared_from : (k l m o : KeeperView) (e : Entry) (cpus v : ℕ) → cpus ≡ k.settings.cpus → l ≡ with_row k e.slot (words_of e) → m ≡ with_counts l e.slot cpus → HasLink m e.slot v o → o ≡ keeper_after_stores k e v
+prepared_from k l m o e cpus v same row counts link =
     let t = e.slot in
     let w = with_counts (with_row k t (words_of e)) t k.settings.cpus in
     let at : m ≡ w = counts ∙ (ap (λ (x : KeeperView). with_counts x t cpus) row ∙ ap (with_counts (with_row k t (words_of e)) t) same) in
-    link ∙ (ap (λ (x : KeeperView). record (as_vacant x t) { next = set x.next t v }) at
-    ∙ (ap (λ (x : KeeperView). record x { next = set w.next t v }) (again w t (vacant_now k t may))
-    ∙ ap (λ (next : List ℕ). record w { next = set next t v }) (ap (λ (x : KeeperView). x.next) (as_vacant_is k t))))
+    link ∙ ap (λ (x : KeeperView). record x { next = set x.next t v }) at

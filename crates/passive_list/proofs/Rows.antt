@@ -1,14 +1,13 @@
 -- The rows of the keeper: what they say of a view, as one row or the view changes.
-use Rattle.std.proofs.Common.{◌≡◌, ◌≢◌, inl, inr, ⊎_elim, ◌||◌, ℕ, zero, suc, ◌<◌, ◌≤◌, List, [], ◌∷◌, length, get_or, set, replicate, None, IsTrue, refl, sym, ap, ◌∙◌, subst, arith, length-set}
+use Rattle.std.proofs.Common.{◌≡◌, ◌≢◌, ⊎_elim, ◌||◌, ℕ, zero, suc, ◌<◌, ◌≤◌, List, [], ◌∷◌, length, get_or, set, replicate, None, IsTrue, refl, sym, ap, ◌∙◌, subst, arith, length-set}
 use Rattle.std.specs.List.{list_any}
 use Rattle.std.proofs.lemmas.Bool.{cases_lt}
-use Rattle.std.proofs.lemmas.List.{length-replicate, get_or-replicate}
+use Rattle.std.proofs.lemmas.List.{length-replicate, get_or-replicate, get_or_past}
 use Rattle.registry_values.specs.declared.entry.Entry.{Entry}
 use Rattle.registry_values.specs.declared.settings.Settings.{Settings}
 use Rattle.registry_values.specs.declared.slot.Key.{Key}
 use Rattle.registry_values.specs.declared.slot.Slot.{Slot}
 use Rattle.registry_values.specs.declared.slot.Slot.TheVariants.{Vacant, Live, Retired}
-use Rattle.protocol.specs.declared.state.Due.TheVariants.{Rest}
 use Rattle.registry_values.specs.Limits.{are_fit}
 use Rattle.registry_values.specs.Balances.{bias}
 use Rattle.registry_values.specs.Marks.{no_mark}
@@ -20,9 +19,8 @@ use Rattle.protocol.proofs.slots.Occupied.{place_cases}
 use Rattle.registry_values.proofs.Fit.{ranges}
 use Rattle.cpu_words.specs.declared.view.KeeperView.{KeeperView}
 use Rattle.cpu_words.specs.Opening.{keeper_with}
-use Rattle.cpu_words.specs.Vacating.{IsDrained, MayVacate}
 use Rattle.passive_list.specs.declared.keeper.KeptSlot.{KeptSlot}
-use Rattle.passive_list.specs.Keepers.{no_row, row_at, state_of, states_of, TakenAs, RowAgrees, IsAtRest, RowsAgree}
+use Rattle.passive_list.specs.Keepers.{no_row, row_at, state_of, states_of, RowAgrees, IsAtRest, RowsAgree}
 
 -- At the start
 
@@ -67,7 +65,7 @@ taken_in_rows key (r ∷ rows) = ap (λ b. is_live_as key r.state || b) (taken_i
 -- such a row agrees with the view at the start
 first_agrees : (a : Settings) (t : ℕ) → t < a.slots → RowAgrees (keeper_with a a.cpus) t first_row
 first_agrees a t lt = record {
-  state = inl (get_or-replicate a.slots t Vacant Vacant lt);
+  state = get_or-replicate a.slots t Vacant Vacant lt;
   marks = sym (get_or-replicate a.slots t (replicate 8 no_mark) [] lt);
   total = sym (get_or-replicate a.slots t bias 0 lt);
   keeps = sym (get_or-replicate a.slots t None None lt);
@@ -94,10 +92,19 @@ not_vacant_within a k rows t agree some = ⊎_elim
     (cases_lt t a.slots)
 
 -- and what its row says is what the view says
-pub taken_in : (a : Settings) (k : KeeperView) (rows : List KeptSlot) (t : ℕ) (x : Slot) → RowsAgree a k rows → slot_at (states_of rows) t ≡ x → (x ≡ Vacant → ⊥) → (t < a.slots) × TakenAs k t x
+pub taken_in : (a : Settings) (k : KeeperView) (rows : List KeptSlot) (t : ℕ) (x : Slot) → RowsAgree a k rows → slot_at (states_of rows) t ≡ x → (x ≡ Vacant → ⊥) → (t < a.slots) × (slot_at k.slots t ≡ x)
 taken_in a k rows t x agree is some =
     let lt = not_vacant_within a k rows t agree (λ v. some (sym is ∙ v)) in
-    (lt, subst (TakenAs k t) (sym (state_at rows t) ∙ is) (agree.each t lt).state)
+    (lt, (agree.each t lt).state ∙ (sym (state_at rows t) ∙ is))
+
+-- the keeper has in each slot just what its seat has there
+pub slots_agree : (a : Settings) (k : KeeperView) (rows : List KeptSlot) (t : ℕ) → IsAtRest a k → RowsAgree a k rows → slot_at k.slots t ≡ slot_at (states_of rows) t
+slots_agree a k rows t view agree = ⊎_elim
+    (λ (lt : t < a.slots). (agree.each t lt).state ∙ sym (state_at rows t))
+    (λ (past : a.slots ≤ t).
+    let none : slot_at k.slots t ≡ Vacant = get_or_past k.slots t Vacant (omega (arith, view.sized.slots, past)) in
+    none ∙ sym (state_at rows t ∙ agree.beyond t past))
+    (cases_lt t a.slots)
 
 pub retired_in : (a : Settings) (k : KeeperView) (rows : List KeptSlot) (t : ℕ) (e : Entry) → RowsAgree a k rows → slot_at (states_of rows) t ≡ Retired e → (t < a.slots) × (slot_at k.slots t ≡ Retired e)
 retired_in a k rows t e agree is = taken_in a k rows t (Retired e) agree is (λ v. cc)
@@ -106,33 +113,15 @@ pub live_in : (a : Settings) (k : KeeperView) (rows : List KeptSlot) (t : ℕ) (
 live_in a k rows t e agree is = taken_in a k rows t (Live e) agree is (λ v. cc)
 
 -- what a row says goes with what the view says of its slot
-pub row_stays : (k l : KeeperView) (t : ℕ) (r : KeptSlot) → l.due ≡ Rest → l.settings ≡ k.settings → slot_at l.slots t ≡ slot_at k.slots t → get_or l.marks t [] ≡ get_or k.marks t []
+pub row_stays : (k l : KeeperView) (t : ℕ) (r : KeptSlot) → slot_at l.slots t ≡ slot_at k.slots t → get_or l.marks t [] ≡ get_or k.marks t []
     → total_at l.totals t ≡ total_at k.totals t → kept_at l.keeps t ≡ kept_at k.keeps t → RowAgrees k t r → RowAgrees l t r
-row_stays k l t r rest settings slot marks total keeps had = record {
-  state = taken r.state had.state;
+row_stays k l t r slot marks total keeps had = record {
+  state = slot ∙ had.state;
   marks = had.marks ∙ sym marks;
   total = had.total ∙ sym total;
   keeps = had.keeps ∙ sym keeps;
   unused = had.unused;
 }
-  where
-    drained : IsDrained k t → IsDrained l t
-    drained is = record {
-      rest = rest;
-      retired = (is.retired.0, slot ∙ is.retired.1);
-      passed = rw (settings, marks) is.passed;
-      clear = rw (settings, marks) is.clear;
-      collected = rw (settings, marks) is.collected;
-      total = total ∙ is.total;
-    }
-
-    taken : (x : Slot) → TakenAs k t x → TakenAs l t x
-    taken Vacant is = ⊎_elim
-        (λ (vacant : slot_at k.slots t ≡ Vacant). inl (slot ∙ vacant))
-        (λ (may : MayVacate k t). inr record { drained = drained may.drained; keeps_nothing = keeps ∙ may.keeps_nothing })
-        is
-    taken (Live e) is = slot ∙ is
-    taken (Retired e) is = slot ∙ is
 
 -- one row changes with its slot, and the others stay
 pub rows_set : (a : Settings) (k l : KeeperView) (rows : List KeptSlot) (t : ℕ) (r : KeptSlot) → t < a.slots → t < 32 → RowsAgree a k rows → RowAgrees l t r → ((u : ℕ) → u ≢ t → RowAgrees k u (row_at rows u) → RowAgrees l u (row_at rows u))

@@ -1,9 +1,9 @@
 -- The keeper: how its plain data agree with what its seat knows.
-use Rattle.std.specs.Prelude.{◌≡◌, ◌⊎◌, ℕ, ◌+◌, ◌<◌, ◌≤◌, List, [], length, map, slice_index_or, None, IsTrue}
+use Rattle.std.specs.Prelude.{◌≡◌, ℕ, ◌+◌, ◌<◌, ◌≤◌, List, [], length, map, slice_index_or, None, IsTrue}
 use Rattle.atomic_table.specs.Seated.{TableId}
 use Rattle.registry_values.specs.declared.settings.Settings.{Settings}
 use Rattle.registry_values.specs.declared.slot.Slot.{Slot}
-use Rattle.registry_values.specs.declared.slot.Slot.TheVariants.{Vacant, Live, Retired}
+use Rattle.registry_values.specs.declared.slot.Slot.TheVariants.{Vacant}
 use Rattle.protocol.specs.declared.state.Due.TheVariants.{Rest}
 use Rattle.protocol.specs.Invariant.{AreRows}
 use Rattle.registry_values.specs.Limits.{are_fit}
@@ -13,7 +13,6 @@ use Rattle.protocol.specs.State.{total_at, kept_at}
 use Rattle.cpu_words.specs.declared.view.KeeperView.{KeeperView}
 use Rattle.cpu_words.specs.declared.view.Deed.{Deed}
 use Rattle.cpu_words.specs.Rule.{IsShown}
-use Rattle.cpu_words.specs.Vacating.{MayVacate}
 use Rattle.passive_list.specs.declared.keeper.KeptSlot.{KeptSlot}
 
 -- the keeper, to a contract: what its seat knows, the slots as it has them, and what it did
@@ -35,14 +34,8 @@ state_of r = r.state
 abbrev pub states_of : List KeptSlot → List Slot
 states_of rows = map state_of rows
 
--- what the keeper has of the slot t: just what its seat knows, or Vacant where the slot may be taken as vacant
-abbrev pub TakenAs : KeeperView → ℕ → Slot → Type 0
-TakenAs k t Vacant = (slot_at k.slots t ≡ Vacant) ⊎ MayVacate k t
-TakenAs k t (Live e) = slot_at k.slots t ≡ Live e
-TakenAs k t (Retired e) = slot_at k.slots t ≡ Retired e
-
 pub record RowAgrees (k : KeeperView) (t : ℕ) (r : KeptSlot) : Type 0 where
-  pub state : TakenAs k t r.state
+  pub state : slot_at k.slots t ≡ r.state
   pub marks : r.marks ≡ slice_index_or k.marks t []
   pub total : r.total ≡ total_at k.totals t
   pub keeps : r.keeps ≡ kept_at k.keeps t

@@ -1,18 +1,26 @@
 -- What the keeper's log says of the keeper, as it is told whenever the keeper hears.
-use Rattle.std.specs.Prelude.{◌≡◌, ℕ, ◌<◌, length}
+use Rattle.std.specs.Prelude.{◌≡◌, ℕ, ◌<◌, List, length}
+use Rattle.registry_values.specs.declared.entry.Change.{Change}
 use Rattle.registry_values.specs.declared.entry.Entry.{Entry}
 use Rattle.registry_values.specs.declared.settings.Settings.{Settings}
 use Rattle.registry_values.specs.declared.slot.Slot.TheVariants.{Retired}
 use Rattle.registry_values.specs.Slots.{slot_at}
-use Rattle.cpu_words.specs.Deeds.{changes_in, IsSnapped, AreMarksOf, AreSlotsOf, WordsGrow}
+use Rattle.protocol.specs.declared.state.Due.TheVariants.{Rest}
+use Rattle.cpu_words.specs.declared.view.View.TheVariants.{Keeper}
+use Rattle.cpu_words.specs.Deeds.{changes_in, occupant, occupant_of, IsSnapped, AreMarksOf, AreSlotsOf, IsShownAfter, WordsGrow}
+use Rattle.cpu_words.specs.Notes.{keeper_with_heard}
 use Rattle.passive_list.specs.Keepers.{OnKeeper}
 
--- The history is as long as the log says, the marks and the slots, as the keeper has them, are in it, each retired entry was snapped on each CPU, and the words that were found grow
+-- The keeper is at rest. The history is as long as the log says, the marks, the slots and their entries, as the keeper has them, are in it, each retired entry was snapped on each CPU, and the words that were found grow
 pub record HasOwnLog (z : Settings) (a : OnKeeper) : Type 0 where
   pub settings : a.view.settings ≡ z
+  pub rest : a.view.due ≡ Rest
   pub size : length a.slots ≡ 32
   pub changes : length a.view.history ≡ changes_in a.log
   pub marks : AreMarksOf a.log a.view.marks
   pub slots : AreSlotsOf z.cpus a.log a.slots
+  pub occupants : (t : ℕ) → occupant t a.log ≡ occupant_of (slot_at a.slots t)
   pub snapped : (t c : ℕ) (e : Entry) → slot_at a.slots t ≡ Retired e → c < z.cpus → (w : ℕ) × IsSnapped t c w a.log
   pub grow : WordsGrow a.log
+  -- with another note beside it, some state shows the view, in which the keeper had done just this
+  pub counts : (h : List Change) × IsShownAfter a.log (Keeper (keeper_with_heard a.view h))

@@ -3,6 +3,9 @@ use Rattle.std.specs.Prelude.{◌≡◌, List}
 use mathlib.Core.List.{IsPrefix}
 use Rattle.registry_values.specs.declared.entry.Change.{Change}
 use Rattle.cpu_words.specs.declared.view.Deed.{Deed}
+use Rattle.cpu_words.specs.declared.view.View.TheVariants.{Cpu}
+use Rattle.cpu_words.specs.Deeds.{IsShownAfter}
+use Rattle.cpu_words.specs.Notes.{with_heard}
 use Rattle.passive_list.specs.Cpus.{OnCpu}
 
 -- a note, to a contract: a prefix of the history, and what its teller had heard that the keeper did
@@ -16,3 +19,7 @@ pub record HasHeardOn (note : List Change) (a b : OnCpu) : Type 0 where
   pub pass : IsPrefix a.view.pass b.view.pass
   pub deeds : IsPrefix a.deeds b.deeds
   pub is : b ≡ record a { view = record a.view { pass = b.view.pass; heard = note }; deeds = b.deeds }
+
+-- as the CPU heard the note, some state showed it, in which the keeper had done just what the CPU knows of it then
+abbrev pub WasShown : List Change → OnCpu → OnCpu → Type 0
+WasShown note a b = IsShownAfter b.deeds (Cpu (with_heard a.view note))

@@ -16,15 +16,14 @@ use Rattle.cpu_words.specs.declared.view.KeeperView.{KeeperView}
 use Rattle.cpu_words.specs.declared.view.View.TheVariants.{Keeper}
 use Rattle.cpu_words.specs.Publishing.{LeadsBelow}
 use Rattle.cpu_words.specs.Steps.{Makes}
-use Rattle.cpu_words.specs.Vacating.{as_vacant}
 use Rattle.passive_list.specs.declared.keeper.KeptSlot.{KeptSlot}
 use Rattle.passive_list.specs.Keepers.{OnKeeper, IsAtRest, RowsAgree, states_of}
 
 -- Publish
 
--- the record words of the slot t, taken as vacant, are r
+-- the record words of the slot t are r
 abbrev pub with_row : KeeperView → ℕ → RecordWords → KeeperView
-with_row k t r = record (as_vacant k t) { rows = slice_set k.rows t r }
+with_row k t r = record k { rows = slice_set k.rows t r }
 
 -- the count words of the first c CPUs for the slot t stand for no reference
 abbrev pub with_counts : KeeperView → ℕ → ℕ → KeeperView
@@ -42,7 +41,7 @@ keeper_after_publish k e v = record k {
   slots = slice_set k.slots e.slot (Live e);
   next = slice_set k.next e.slot v;
   rows = slice_set k.rows e.slot (words_of e);
-  counts = slice_set k.counts e.slot (with_biases k.settings.cpus (slice_index_or (as_vacant k e.slot).counts e.slot []));
+  counts = slice_set k.counts e.slot (with_biases k.settings.cpus (slice_index_or k.counts e.slot []));
 }
 
 -- what publishing asks of the keeper's view, its rows and the entry

@@ -1,11 +1,17 @@
 -- A retired slot that is drained, as the keeper has it.
-use Rattle.std.specs.Prelude.{◌≡◌, ℕ, Bool, ◌&&◌, ◌==◌}
+use Rattle.std.specs.Prelude.{◌≡◌, ℕ, Bool, None, ◌++◌, ◌&&◌, ◌==◌, slice_set}
 use Rattle.registry_values.specs.declared.entry.Entry.{Entry}
-use Rattle.registry_values.specs.declared.slot.Slot.TheVariants.{Retired}
+use Rattle.registry_values.specs.declared.slot.Slot.TheVariants.{Vacant, Retired}
+use Rattle.protocol.specs.declared.event.Event.TheVariants.{Hear, Vacate}
+use Rattle.protocol.specs.declared.event.Reply.TheVariants.{Done}
 use Rattle.registry_values.specs.Balances.{bias}
 use Rattle.registry_values.specs.Slots.{slot_at, is_retired}
 use Rattle.registry_values.specs.Marks.{have_passed, are_clear, are_collected}
-use Rattle.cpu_words.specs.Vacating.{IsDrained}
+use Rattle.cpu_words.specs.declared.view.View.TheVariants.{Keeper}
+use Rattle.cpu_words.specs.Deeds.{IsFreedFrom}
+use Rattle.cpu_words.specs.Rule.{did}
+use Rattle.cpu_words.specs.Steps.{Makes}
+use Rattle.cpu_words.specs.Vacating.{IsDrained, keeper_after_vacate}
 use Rattle.passive_list.specs.declared.keeper.KeptSlot.{KeptSlot}
 use Rattle.passive_list.specs.Keepers.{OnKeeper}
 
@@ -17,3 +23,12 @@ pub record IsDrainedOn (x : OnKeeper) (t : ℕ) : Type 0 where
 -- the row of a slot says so
 abbrev pub is_drained_row : ℕ → KeptSlot → Bool
 is_drained_row cpus r = is_retired r.state && (have_passed cpus r.marks && (are_clear cpus r.marks && (are_collected cpus r.marks && r.total == bias)))
+
+-- the slot is vacant: Vacate, and a Hear; the entry that it had is gone from there, by the log
+pub record HasVacated (a : OnKeeper) (t : ℕ) (b : OnKeeper) : Type 0 where
+  pub made : Makes (Vacate t) Done (Keeper a.view) (Keeper b.view)
+  pub heard : Makes (Hear None) Done (Keeper b.view) (Keeper b.view)
+  pub view : b.view ≡ keeper_after_vacate a.view t
+  pub slots : b.slots ≡ slice_set a.slots t Vacant
+  pub log : b.log ≡ a.log ++ did (Vacate t) Done ++ did (Hear None) Done
+  pub freed : (e : Entry) → slot_at a.slots t ≡ Retired e → IsFreedFrom t e.number b.log

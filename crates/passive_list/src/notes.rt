@@ -3,7 +3,7 @@
 ghost use Rattle.std.specs.Prelude.{◌≡◌};
 ghost use mathlib.Core.List.{IsPrefix};
 ghost use Rattle.cpu_words.specs.Domains.{AreWordsOf};
-ghost use Rattle.passive_list.specs.Notes.{HasHeardOn};
+ghost use Rattle.passive_list.specs.Notes.{HasHeardOn, WasShown};
 
 use crate::cpu::Cpu;
 use crate::plain_cpu::PlainCpu;
@@ -50,6 +50,7 @@ pub fn hear<D: Domain>(words: &Words, cpu: &mut Cpu<D>, note: Note<D>)
     requires words { AreWordsOf words.now D.table D.settings }
     ensures heard { HasHeardOn note.pass cpu.old cpu.new }
     ensures deeds { IsPrefix note.deeds cpu.new.deeds }
+    ensures shown { WasShown note.pass cpu.old cpu.new }
 {
     let Note { seat, domain: _ } = note;
     hear_on(words, &mut cpu.plain, seat);
@@ -61,6 +62,7 @@ pub fn hear_on(words: &Words, cpu: &mut PlainCpu, note: NoteSeat)
     requires note { note.table ≡ cpu.old.words.table }
     ensures heard { HasHeardOn note.view cpu.old.cpu cpu.new.cpu }
     ensures deeds { IsPrefix note.deeds cpu.new.cpu.deeds }
+    ensures shown { WasShown note.view cpu.old.cpu cpu.new.cpu }
     ensures words { cpu.new.words ≡ cpu.old.words }
 {
     steps::hear(words, &mut cpu.seat, cpu.id, note);

@@ -1,11 +1,12 @@
 //! An entry is published: all words of its slot are stored, and then the head, so that searches find it.
 
-ghost use Rattle.std.specs.Prelude.{◌≡◌, ◌<◌, ◌≤◌, ◌+◌, suc, IsTrue, false, length};
+ghost use Rattle.std.specs.Prelude.{◌≡◌, ℕ, ◌<◌, ◌≤◌, ◌+◌, suc, Some, IsTrue, false, length};
 ghost use Rattle.registry_values.specs.declared.slot.Slot.TheVariants.{Vacant};
 ghost use Rattle.registry_values.specs.Slots.{key_of_record, is_taken, live_count, slot_at};
 ghost use Rattle.protocol.specs.Events.{keeps_rightly, words_of};
 ghost use Rattle.registry_values.specs.Names.{is_lawful};
 ghost use Rattle.protocol.specs.State.{kept_at};
+ghost use Rattle.cpu_words.specs.Deeds.{IsAttachedKeeping};
 ghost use Rattle.cpu_words.specs.Domains.{AreWordsOf};
 ghost use Rattle.cpu_words.specs.Vacating.{MayWrite};
 ghost use Rattle.passive_list.specs.Keepers.{AreSized};
@@ -49,6 +50,7 @@ pub fn publish_entry(words: &Words, seat: &mut KeeperSeat, rows: &[KeptSlot; 32]
     requires may { MayAttach words.now.settings seat.old.view rows.now entry.now }
     ensures table { seat.new.table ≡ seat.old.table }
     ensures change { HasEntry seat.old.view entry.now seat.new.view }
+    ensures attached { (d : ℕ) → kept_at seat.old.view.keeps entry.now.slot ≡ Some d → IsAttachedKeeping entry.now.slot entry.now.number d seat.new.log }
 {
     let link = link_below(rows, entry.number);
     prepare(words, seat, entry, words.settings().cpus, link);
@@ -89,7 +91,6 @@ fn store_row(words: &Words, seat: &mut KeeperSeat, entry: &Entry)
 fn store_counts(words: &Words, seat: &mut KeeperSeat, slot: u8, cpus: u8)
     requires table { seat.old.table ≡ words.now.table }
     requires may { MayWrite seat.old.view slot }
-    requires vacant { slot_at seat.old.view.slots slot ≡ Vacant }
     requires sized { AreSized seat.old.view.settings.slots seat.old.view }
     requires fit { (seat.old.view.settings.slots ≤ 32) × (cpus ≡ seat.old.view.settings.cpus) × (cpus ≤ 8) }
     ensures table { seat.new.table ≡ seat.old.table }

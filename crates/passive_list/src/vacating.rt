@@ -1,12 +1,12 @@
 //! The end of a drain: the slot of a retired entry is vacant again.
 
-ghost use Rattle.std.specs.Prelude.{◌≡◌, ◌↔◌, ◌<◌, IsTrue, None, slice_set};
-ghost use Rattle.registry_values.specs.declared.slot.Slot.TheVariants.{Vacant};
+ghost use Rattle.std.specs.Prelude.{◌≡◌, ◌↔◌, ◌<◌, IsTrue, None};
 ghost use Rattle.protocol.specs.State.{kept_at};
-ghost use Rattle.passive_list.specs.Vacating.{IsDrainedOn, is_drained_row};
+ghost use Rattle.cpu_words.specs.Domains.{AreWordsOf};
+ghost use Rattle.passive_list.specs.Vacating.{HasVacated, IsDrainedOn, is_drained_row};
 
 use crate::keeper::{Keeper, KeptSlot, SlotState};
-use cpu_words::Domain;
+use cpu_words::{Domain, Words, steps};
 use registry_values::{BIAS, are_clear, are_collected, have_passed};
 
 impl<D: Domain> Keeper<D> {
@@ -21,16 +21,15 @@ impl<D: Domain> Keeper<D> {
     }
 }
 
-/// Takes the slot of a drained entry as vacant: the event Vacate, which touches no word and shows from the first word that is stored in
-/// the slot on.
+/// Makes the slot of a drained entry vacant: the event Vacate, with a load by which the keeper hears.
 /// Condition: the slot is drained (`Keeper::is_drained`), and keeps nothing (`Keeper::keeps`).
-pub fn vacate<D: Domain>(keeper: &mut Keeper<D>, slot: u8)
+pub fn vacate<D: Domain>(words: &Words, keeper: &mut Keeper<D>, slot: u8)
+    requires words { AreWordsOf words.now D.table D.settings }
     requires drained { IsDrainedOn keeper.old slot }
     requires keeps { kept_at keeper.old.view.keeps slot ≡ None }
-    ensures view { keeper.new.view ≡ keeper.old.view }
-    ensures slots { keeper.new.slots ≡ slice_set keeper.old.slots slot Vacant }
-    ensures log { keeper.new.log ≡ keeper.old.log }
+    ensures change { HasVacated keeper.old slot keeper.new }
 {
+    steps::vacate(words, &mut keeper.seat, slot);
     keeper.rows[slot as usize].state = SlotState::Vacant;
 }
 

@@ -30,7 +30,7 @@
  *
  * It can't be tested, and so it is required: a handle is {0} before its first use, is never copied and never looked into; one call at a
  * time uses a handle, and a handle goes to another thread by a lock, or by the start or the join of a thread; calls with a keeper are made
- * under the caller's lock. The handles of one call are of one registry: nothing at run time tells two registries apart. Pointers are to what
+ * under the caller's lock; a wait goes from call to call as the call before left it. The handles of one call are of one registry: nothing at run time tells two registries apart. Pointers are to what
  * they say, aligned, and different parameters don't overlap. No call is made from a signal handler, or in the child of a fork.
  */
 #ifndef REGISTRY_H
@@ -145,7 +145,7 @@ struct registry_balance {
 	int64_t total;		/* what was collected, less what was given up under the interlock */
 };
 
-/* A wait for open sections, between two turns of it. */
+/* A wait for open sections, between two turns of it. The calls alone write it: whoever changes it gets an answer that says nothing. */
 struct registry_wait {
 	uint64_t snapshots[REGISTRY_MOST_CPUS];
 	uint64_t retired[REGISTRY_MOST_SLOTS];
@@ -357,7 +357,8 @@ uint32_t registry_detach(struct registry_keeper *keeper, struct registry_cpu *cp
 /*
  * registry_advance - one turn of the work on the retired entry with this number
  *
- * What holds it first is written to `met`, or REGISTRY_FREED with its slot, which is vacant from now on.
+ * What holds it first is written to `met`, or REGISTRY_FREED with its slot, which is vacant from now on: the entry is gone for good then, as
+ * where registry_destroy is done.
  * Answers REGISTRY_EMPTY_HANDLE, REGISTRY_NOT_RETIRED.
  */
 uint32_t registry_advance(struct registry_keeper *keeper, uint64_t number, struct registry_stage *met);
@@ -366,9 +367,10 @@ uint32_t registry_advance(struct registry_keeper *keeper, uint64_t number, struc
  * registry_destroy - one turn of destroying it: done just where its slot is vacant again
  *
  * psref_target_destroy and localcount_drain: the caller repeats it, without the interlock between, until it is done or has waited enough.
- * Where it is done, REGISTRY_FREED and the slot are written to `met`.
+ * Done says that the entry is gone for good: no section may hold it, no passive and no local reference to it is held, and no slot keeps it, on
+ * whatever CPU, now or later. REGISTRY_FREED and the slot that it had are written to `met`.
  * Answers REGISTRY_EMPTY_HANDLE for either handle, REGISTRY_INSIDE, REGISTRY_NOT_RETIRED, REGISTRY_STILL_HELD, and then writes what holds it
- * to `met`. What the turn noted and collected stays.
+ * to `met`. What the turn noted and collected stays, and the CPU has seen every change so far, whatever it answers but the first two.
  */
 uint32_t registry_destroy(struct registry_keeper *keeper, struct registry_cpu *cpu, uint64_t number, struct registry_stage *met);
 
@@ -384,8 +386,13 @@ uint32_t registry_perform(struct registry_keeper *keeper, struct registry_cpu *c
 /*
  * registry_perform_turn - one turn of that wait: done just where all those sections were seen to have ended
  *
- * Each CPU is then looked at for the entries that were retired as the wait began, so that it passes for them. Whom the turn has seen is
- * written to the wait, and the CPU has seen every change so far, whatever it answers but the first two.
+ * Done says that each section, on whatever CPU, that was open as the wait began has ended. So no section may hold an entry of which the CPU
+ * that began the wait had seen by then that it was detached. And each CPU has passed for the entries that were retired as the wait began,
+ * but for those whose slots were given again since: a later registry_advance or registry_destroy needn't look at its section for them.
+ * For this the caller leaves the wait alone: nothing but these calls writes it, and each turn gets it just as the call before left it, with the
+ * keeper of the same registry. Between the calls the CPU may do whatever else it does. Another CPU may make a turn once it has heard the keeper
+ * by a registry_perform, registry_perform_turn or registry_destroy of its own since the last call with this wait.
+ * Whom the turn has seen is written to the wait, and the CPU has seen every change so far, whatever it answers but the first two.
  * Answers REGISTRY_EMPTY_HANDLE for either handle, REGISTRY_INSIDE, REGISTRY_WAITING, and then writes the least CPU that wasn't seen out of its
  * section to `waited`.
  */
@@ -395,7 +402,8 @@ uint32_t registry_perform_turn(struct registry_keeper *keeper, struct registry_c
  * registry_audit - what the counts say of each live or retired entry, the least slot first
  *
  * The caller holds the interlock and all CPUs, in their order. `length` is how many balances were written; with REGISTRY_NO_ROOM, which writes
- * none, it is how many there are.
+ * none, it is how many there are. Done says of each entry just what the CPUs' counts and the keeper's total are, and each CPU has seen every
+ * change so far then: for this the keeper and each CPU make three loads.
  * Answers REGISTRY_EMPTY_HANDLE for the keeper's, REGISTRY_MISSING_CPU where the handles aren't those of CPU 0, 1, .., all of them,
  * REGISTRY_NO_ROOM.
  */

@@ -17,11 +17,12 @@ use Rattle.protocol.specs.Invariant.{IsIn}
 use Rattle.protocol.specs.State.{total_at}
 use Rattle.passive_list.specs.Cpus.{OnCpu, OnPlainCpu}
 use Rattle.passive_list.specs.Keepers.{OnKeeper}
-use Rattle.name_registry.specs.Auditing.{AreAllCpus, IsKeeperOf, IsTallied, each_at, each_below, listed_at, local_met, locals_met, places_below, tallies_met, tally_met, tally_of}
+use Rattle.name_registry.specs.Auditing.{AreAllCpus, AreAlike, HasListened, IsKeeperOf, IsTallied, each_at, each_below, listed_at, local_met, locals_met, places_below, tallies_met, tally_met, tally_of}
 use Rattle.name_registry.proofs.Audits.{cpu_at, each_all, each_more, each_none, each_same, tally_is}
-use Rattle.name_registry.proofs.Tallies.{held_right, own_tally}
+use Rattle.name_registry.proofs.Gathered.{tallies_learned}
+use Rattle.name_registry.proofs.Tallies.{alike_held, alike_tally}
 use Rattle.registry_c.specs.declared.audit.CBalance.{CBalance}
-use Rattle.registry_c.specs.Audits.{AreAllHere, AreTold, AuditWrites, IsCut, WritesNext, cpu_in, cpus_in, entries_in, occupied, tally_in}
+use Rattle.registry_c.specs.Audits.{AreAllHere, AreTold, AuditWrites, HaveHeard, IsCut, WritesNext, cpu_in, cpus_in, entries_in, occupied, tally_in}
 use Rattle.registry_c.specs.Opening.{body_at}
 
 -- The CPUs behind the handles
@@ -185,20 +186,21 @@ all_of : {X Y : Type 0} (f : X → Y) (P : Y → Type 0) (list : List X) → All
 all_of f P [] all = All-nil (λ x. P (f x))
 all_of f P (x ∷ list) all = All-cons (λ y. P (f y)) x list (All-head P (f x) (map f list) all) (all_of f P list (All-tail P (f x) (map f list) all))
 
-pub audit_told : (z : Settings) (k : OnKeeper) (cs : List (Option OnPlainCpu)) (t at : ℕ) (first list : List CBalance) → t ≡ z.slots → IsKeeperOf z k → AreAllHere z.cpus cs → AreTold z k cs t at first list → AuditWrites z k cs first list
-audit_told z k cs t at first list end known here told =
-    let xs = cpus_in cs in
-    let all = all_cpus z.cpus cs here in
-    let place : occupied k z.slots ≡ at = ap (occupied k) (sym end) ∙ sym told.place in
-    let met : map (tally_in z.cpus) (take (occupied k z.slots) list) ≡ tallies_met k xs z.slots = ap (λ n. map (tally_in z.cpus) (take n list)) place ∙ (told.met ∙ ap (tallies_met k xs) end) in
+pub audit_told : (z : Settings) (k a : OnKeeper) (ys : List OnCpu) (cs ds : List (Option OnPlainCpu)) (first list : List CBalance) → IsKeeperOf z a → AreAllHere z.cpus ds → AreAlike a (cpus_in ds) ys → HasListened a k → HaveHeard ds cs
+    → AreTold z k cs z.slots (occupied k z.slots) first list → AuditWrites z a ds first list
+audit_told z k a ys cs ds first list known here alike heard have told =
+    let xs = cpus_in ds in
+    let all = all_cpus z.cpus ds here in
+    let place : occupied k z.slots ≡ occupied a z.slots = ap (λ (b : OnKeeper). occupied b z.slots) heard.is.1 in
+    let met : map (tally_in z.cpus) (take (occupied a z.slots) list) ≡ tallies_met a xs z.slots = ap (λ n. map (tally_in z.cpus) (take n list)) (sym place) ∙ (told.met ∙ tallies_learned a k xs (cpus_in cs) z.slots heard have.learned) in
     record {
       told = record {
         keeper = known;
         met = met;
-        answer = λ g shown. met ∙ each_same (tally_met k xs) (tally_of k xs) k.slots z.slots (λ u e there. own_tally z k xs g u e known shown there);
-        tally = all_of (tally_in z.cpus) (IsTallied k xs) (take (occupied k z.slots) list) (subst (All (IsTallied k xs)) (sym met)
-            (each_all (IsTallied k xs) (tally_met k xs) k.slots z.slots (λ u e there g shown. ap (λ (y : Tally). y.held) (own_tally z k xs g u e known shown there) ∙ held_right z k xs g u e known all shown there)));
-        cut = subst (λ n. All (IsCut z.cpus) (take n list)) (sym place) told.cut;
+        answer = met ∙ each_same (tally_met a xs) (tally_of a xs) a.slots z.slots (λ u e there. alike_tally z a xs ys known all alike u e there);
+        tally = all_of (tally_in z.cpus) (IsTallied a xs) (take (occupied a z.slots) list) (subst (All (IsTallied a xs)) (sym met)
+            (each_all (IsTallied a xs) (tally_met a xs) a.slots z.slots (λ u e there. ap (λ (y : Tally). y.held) (alike_tally z a xs ys known all alike u e there) ∙ alike_held z a xs ys known all alike u e there)));
+        cut = subst (λ n. All (IsCut z.cpus) (take n list)) place told.cut;
       };
-      rest = ap (λ n. drop n list) place ∙ (told.rest ∙ ap (λ n. drop n first) (sym place));
+      rest = ap (λ n. drop n list) (sym place) ∙ (told.rest ∙ ap (λ n. drop n first) place);
     }

@@ -5,6 +5,7 @@ pub mod Collected
 pub mod Acquired
 pub mod Seats
 pub mod Opened
+pub mod Gathering
 pub mod Handles
 pub mod Audited
 pub mod Written
@@ -12,3 +13,7 @@ pub mod Made
 pub mod Here
 pub mod Opens
 pub mod AuditsAnswered
+pub mod Numbered
+pub mod Gone
+pub mod Turned
+pub mod Waits

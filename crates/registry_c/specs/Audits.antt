@@ -9,14 +9,18 @@ use Rattle.registry_values.specs.Balances.{Tally}
 use Rattle.registry_values.specs.Slots.{slot_at}
 use Rattle.protocol.specs.Invariant.{IsIn}
 use Rattle.registry_values.specs.Refusals.{number_of_refusal}
-use Rattle.protocol.specs.State.{State}
 use Rattle.cpu_words.specs.Views.{new_cpu, no_settings}
 use Rattle.passive_list.specs.Cpus.{OnCpu, OnPlainCpu}
 use Rattle.passive_list.specs.Keepers.{OnKeeper}
-use Rattle.name_registry.specs.Auditing.{AreShown, IsKeeperOf, IsTallied, places_below, tallies_below, tallies_met, tally_met}
+use Rattle.name_registry.specs.Auditing.{HasListened, HaveLearned, IsKeeperOf, IsTallied, places_below, tallies_below, tallies_met, tally_met}
 use Rattle.registry_c.specs.declared.values.TheConstants.{DONE, EMPTY_HANDLE, NO_ROOM}
 use Rattle.registry_c.specs.declared.audit.CBalance.{CBalance}
 use Rattle.registry_c.specs.Bodies.{OnKeeperBody}
+use Rattle.atomic_table.specs.Seated.{TableId}
+use mathlib.Core.List.{IsPrefix}
+use Rattle.registry_values.specs.declared.entry.Change.{Change}
+use Rattle.cpu_words.specs.declared.view.Deed.{Deed}
+use Rattle.passive_list.specs.Notes.{HasHeardOn, WasShown}
 use Rattle.registry_c.specs.Opening.{body_at}
 
 -- the CPU behind a handle; nothing is said of what isn't behind an empty one
@@ -72,7 +76,7 @@ pub record AreTold (z : Settings) (k : OnKeeper) (cs : List (Option OnPlainCpu))
 pub record IsAuditTold (z : Settings) (k : OnKeeper) (xs : List OnCpu) (list : List CBalance) : Type 0 where
   pub keeper : IsKeeperOf z k
   pub met : map (tally_in z.cpus) list ≡ tallies_met k xs z.slots
-  pub answer : (g : State) → AreShown g k xs → map (tally_in z.cpus) list ≡ tallies_below k xs z.slots
+  pub answer : map (tally_in z.cpus) list ≡ tallies_below k xs z.slots
   pub tally : All (λ b. IsTallied k xs (tally_in z.cpus b)) list
   pub cut : All (IsCut z.cpus) list
 
@@ -86,9 +90,33 @@ pub record Audits (z : Settings) (k : OnKeeper) (cs : List (Option OnPlainCpu)) 
   pub short : AreAllHere z.cpus cs → length old < occupied k z.slots → (n ≡ NO_ROOM) × (new ≡ old) × (count' ≡ occupied k z.slots)
   pub enough : AreAllHere z.cpus cs → occupied k z.slots ≤ length old → (n ≡ DONE) × AuditWrites z k cs old new × (count' ≡ occupied k z.slots)
 
+-- What the CPUs and the keeper hear as all come to know the same of the keeper's deeds
+
+-- the CPU behind the handle heard a note and told on what it knew then
+pub record PassesOn (b : OnPlainCpu) (after : Option OnPlainCpu) (h : List Change) (deeds : List Deed) (z : TableId) (told : List Deed) : Type 0 where
+  pub body : OnPlainCpu
+  pub is : after ≡ Some body
+  pub words : body.words ≡ b.words
+  pub heard : HasHeardOn h b.cpu body.cpu
+  pub knows : IsPrefix deeds body.cpu.deeds
+  pub shown : WasShown h b.cpu body.cpu
+  pub table : z ≡ b.words.table
+  pub note : told ≡ body.cpu.deeds
+
+-- behind each handle stands what stood there, but that it may have heard
+pub record HaveHeard (cs cs' : List (Option OnPlainCpu)) : Type 0 where
+  pub size : length cs' ≡ length cs
+  pub same : (c : ℕ) (b : OnPlainCpu) → body_at cs c ≡ Some b → (a : OnPlainCpu) × (body_at cs' c ≡ Some a) × (a.words ≡ b.words)
+  pub none : (c : ℕ) → body_at cs c ≡ None → body_at cs' c ≡ None
+  pub learned : HaveLearned (cpus_in cs) (cpus_in cs')
+
+abbrev pub HasListenedAt : Option OnKeeperBody → Option OnKeeperBody → Type 0
+HasListenedAt None k' = k' ≡ None
+HasListenedAt (Some a) k' = (b : OnKeeperBody) × (k' ≡ Some b) × (b.words ≡ a.words) × HasListened a.keeper b.keeper
+
 -- through the handles
 pub record AuditAnswers (k k' : Option OnKeeperBody) (cs cs' : List (Option OnPlainCpu)) (n : ℕ) (old new : List CBalance) (count count' : ℕ) : Type 0 where
-  pub keeper : k' ≡ k
-  pub cpus : cs' ≡ cs
+  pub keeper : HasListenedAt k k'
+  pub cpus : HaveHeard cs cs'
   pub empty : k ≡ None → (n ≡ EMPTY_HANDLE) × (new ≡ old) × (count' ≡ count)
   pub full : (a : OnKeeperBody) → k ≡ Some a → Audits a.words.settings a.keeper cs n old new count count'

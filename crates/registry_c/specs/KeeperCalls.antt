@@ -1,5 +1,5 @@
 -- What the keeper's calls answer and leave.
-use Rattle.std.specs.Prelude.{◌≡◌, ℕ, Bool, true, false, List, map, replicate, Option, Some, None, Result, Ok, Err, IfOk, IfErr}
+use Rattle.std.specs.Prelude.{◌≡◌, ℕ, ◌<◌, slice_index_or, Bool, true, false, List, map, replicate, Option, Some, None, Result, Ok, Err, IfOk, IfErr}
 use Rattle.registry_values.specs.declared.entry.Entry.{Entry}
 use Rattle.registry_values.specs.declared.entry.Kind.{Kind}
 use Rattle.registry_values.specs.declared.entry.Kind.TheVariants.{Driver}
@@ -11,14 +11,19 @@ use Rattle.registry_values.specs.declared.settings.Settings.{Settings}
 use Rattle.registry_values.specs.declared.stage.Stage.{Stage}
 use Rattle.registry_values.specs.Names.{name_of_words}
 use Rattle.registry_values.specs.Refusals.{number_of_refusal}
-use Rattle.registry_values.specs.Stages.{destroy_result}
+use Rattle.registry_values.specs.declared.stage.Stage.TheVariants.{Freed}
+use Rattle.registry_values.specs.Stages.{destroy_result, destroy_result_of}
+use Rattle.cpu_words.specs.declared.view.Deed.{Deed}
+use Rattle.cpu_words.specs.Deeds.{IsFreedFrom}
 use Rattle.passive_list.specs.Cpus.{OnCpu, OnPlainCpu}
 use Rattle.passive_list.specs.Keepers.{OnKeeper}
 use Rattle.name_registry.specs.Advancing.{HasAdvanced}
 use Rattle.name_registry.specs.Attaching.{HasAttachedFor, HasAttachedIfaceFor, attach_answer, attach_iface_answer}
+use Rattle.name_registry.specs.Destroying.{HasAdvancedFor}
 use Rattle.name_registry.specs.Detaching.{HasDetachedFor, IsDetachAnswer}
 use Rattle.name_registry.specs.Locking.{IsStageOf}
 use Rattle.name_registry.specs.Meeting.{is_inside}
+use Rattle.name_registry.specs.Obstacles.{IsTurn}
 use Rattle.name_registry.specs.Performing.{Finishes, HasBegun, HasGlanced, HasPassedAll}
 use Rattle.registry_c.specs.declared.values.TheConstants.{DONE, EMPTY_HANDLE, BAD_KIND, BAD_NAME}
 use Rattle.registry_c.specs.declared.values.CEntry.{CEntry}
@@ -26,7 +31,7 @@ use Rattle.registry_c.specs.declared.values.CName.{CName}
 use Rattle.registry_c.specs.declared.values.CStage.{CStage}
 use Rattle.registry_c.specs.declared.wait.CWait.{CWait}
 use Rattle.registry_c.specs.Bodies.{OnKeeperBody, OnLocalBody}
-use Rattle.registry_c.specs.Calls.{Writes}
+use Rattle.registry_c.specs.Calls.{ThroughBoth, Writes}
 use Rattle.registry_c.specs.Flags.{flag_of, is_set, none_or_number, number_or_none}
 use Rattle.registry_c.specs.Values.{entry_out, kind_of, number_of, stage_out}
 
@@ -74,11 +79,25 @@ pub record AttachesIface (rec : Record) (l : OnLocalBody) (k : OnKeeperBody) (c 
 
 -- The work on a retired entry
 
--- the answer r of a turn
+-- where a turn freed the slot, the entry is gone from there by this log
+abbrev pub IsGoneIfFreed : ℕ → Result Stage Refusal → List Deed → Type 0
+IsGoneIfFreed number r log = IfOk (destroy_result_of r) (λ slot. IsFreedFrom slot number log)
+
+-- the answer r of a turn; the keeper's log says of a slot that was freed that the entry is gone from there
 pub record Advances (number : ℕ) (k k' : OnKeeperBody) (r : Result Stage Refusal) : Type 0 where
   pub answer : HasAdvanced k.keeper number r k'.keeper
   pub stage : IfOk r (λ stage. IsStageOf k.words.settings stage)
+  pub gone : IsGoneIfFreed number r k'.keeper.log
   pub words : k'.words ≡ k.words
+
+-- the same with a CPU, which hears what the keeper did and so knows it
+pub record AdvancesFor (number : ℕ) (k : OnKeeperBody) (c : OnPlainCpu) (k' : OnKeeperBody) (c' : OnPlainCpu) (r : Result Stage Refusal) : Type 0 where
+  pub answer : HasAdvancedFor k.words.settings k.keeper c.cpu number r k'.keeper c'.cpu
+  pub stage : IfOk r (λ stage. IsStageOf k.words.settings stage)
+  pub gone : IsGoneIfFreed number r c'.cpu.deeds
+  -- what the turn met is in what the CPU knows
+  pub turn : IsTurn k.words.settings number c.cpu r c'.cpu
+  pub words : KeepsWords k c k' c'
 
 pub record AdvanceAnswers (number : ℕ) (k k' : OnKeeperBody) (n : ℕ) (old new : CStage) : Type 0 where
   pub r : Result Stage Refusal
@@ -91,10 +110,11 @@ abbrev pub WritesDestroyed : Result Stage Refusal → ℕ → CStage → CStage 
 WritesDestroyed (Ok stage) n old new = (n ≡ number_of (destroy_result stage)) × (new ≡ stage_out stage)
 WritesDestroyed (Err refusal) n old new = (n ≡ number_of_refusal refusal) × (new ≡ old)
 
--- on a CPU that is inside a section, or isn't
-pub record DestroyAnswers (within : Bool) (number : ℕ) (k k' : OnKeeperBody) (n : ℕ) (old new : CStage) : Type 0 where
-  pub inside : within ≡ true → (n ≡ number_of_refusal Inside) × (k' ≡ k) × (new ≡ old)
-  pub outside : within ≡ false → (r : Result Stage Refusal) × Advances number k k' r × WritesDestroyed r n old new
+-- On a CPU that is inside a section, or isn't. `done`: the slot is written, and in what the CPU knows the entry was attached there, was detached, and then the slot was freed.
+pub record DestroyAnswers (within : Bool) (number : ℕ) (k : OnKeeperBody) (c : OnPlainCpu) (k' : OnKeeperBody) (c' : OnPlainCpu) (n : ℕ) (old new : CStage) : Type 0 where
+  pub inside : within ≡ true → (n ≡ number_of_refusal Inside) × (k' ≡ k) × (c' ≡ c) × (new ≡ old)
+  pub outside : within ≡ false → (r : Result Stage Refusal) × AdvancesFor number k c k' c' r × WritesDestroyed r n old new
+  pub done : n ≡ DONE → (slot : ℕ) × (new ≡ stage_out (Freed slot)) × IsFreedFrom slot number c'.cpu.deeds
 
 -- Waiting
 
@@ -103,6 +123,8 @@ pub record Begins (k : OnKeeperBody) (c : OnPlainCpu) (k' : OnKeeperBody) (c' : 
   pub numbers : List (Option ℕ)
   pub begun : HasBegun k.words.settings k.keeper c.cpu new.snapshots numbers k'.keeper c'.cpu
   pub retired : new.retired ≡ map number_or_none numbers
+  -- no entry has the number that stands for none
+  pub named : (t n : ℕ) → slice_index_or numbers t None ≡ Some n → 0 < n
   pub seen : new.seen ≡ replicate 8 0
   pub words : KeepsWords k c k' c'
 
@@ -124,6 +146,10 @@ pub record PerformAnswers (k : OnKeeperBody) (c : OnPlainCpu) (k' : OnKeeperBody
   pub inside : is_inside c.cpu ≡ true → (n ≡ number_of_refusal Inside) × (k' ≡ k) × (c' ≡ c) × (new ≡ old)
   pub outside : is_inside c.cpu ≡ false → (n ≡ DONE) × Begins k c k' c' new
 
+-- the whole call, through the handles
+abbrev pub PerformCalls : Option OnKeeperBody → Option OnPlainCpu → Option OnKeeperBody → Option OnPlainCpu → ℕ → CWait → CWait → Type 0
+PerformCalls k c k' c' n old new = ThroughBoth k k' c c' n (new ≡ old) (λ a x b y. PerformAnswers a x b y n old new)
+
 -- what a turn writes of the CPU that it told
 abbrev pub WritesTold : Option ℕ → ℕ → ℕ → ℕ → Type 0
 WritesTold None n old new = (n ≡ DONE) × (new ≡ old)
@@ -132,6 +158,9 @@ WritesTold (Some c) n old new = (n ≡ number_of_refusal (Waiting c)) × (new �
 pub record TurnAnswers (k : OnKeeperBody) (c : OnPlainCpu) (k' : OnKeeperBody) (c' : OnPlainCpu) (n : ℕ) (wait wait' : CWait) (old new : ℕ) : Type 0 where
   pub inside : is_inside c.cpu ≡ true → (n ≡ number_of_refusal Inside) × (k' ≡ k) × (c' ≡ c) × (wait' ≡ wait) × (new ≡ old)
   pub outside : is_inside c.cpu ≡ false → (told : Option ℕ) × Turns k c k' c' told wait wait' × WritesTold told n old new
+
+abbrev pub TurnCalls : Option OnKeeperBody → Option OnPlainCpu → Option OnKeeperBody → Option OnPlainCpu → ℕ → CWait → CWait → ℕ → ℕ → Type 0
+TurnCalls k c k' c' n wait wait' old new = ThroughBoth k k' c c' n ((wait' ≡ wait) × (new ≡ old)) (λ a x b y. TurnAnswers a x b y n wait wait' old new)
 
 -- the keeper is given up
 pub record KeeperCloses (old new : Option OnKeeperBody) (n : ℕ) : Type 0 where

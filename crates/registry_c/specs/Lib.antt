@@ -9,3 +9,4 @@ pub mod LocalCalls
 pub mod Opening
 pub mod Texts
 pub mod Audits
+pub mod Waits

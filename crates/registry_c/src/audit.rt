@@ -5,20 +5,21 @@ ghost use Rattle.registry_values.specs.declared.entry.Entry.{Entry};
 ghost use Rattle.registry_values.specs.Slots.{slot_at};
 ghost use Rattle.protocol.specs.Invariant.{IsIn};
 ghost use Rattle.passive_list.specs.Cpus.{OnPlainCpu};
-ghost use Rattle.name_registry.specs.Auditing.{Occupies, local_met, locals_met, tally_met};
-ghost use Rattle.registry_c.specs.Audits.{AreAllHere, AreAllOf, AuditAnswers, AuditWrites, Audits, IsCut, WritesNext, cpus_in, entries_in, occupied, tally_in};
+ghost use Rattle.cpu_words.specs.Domains.{AreWordsOf};
+ghost use Rattle.name_registry.specs.Auditing.{AreAlike, HasListened, Occupies, local_met, locals_met, tally_met};
+ghost use Rattle.registry_c.specs.Audits.{AreAllHere, AreAllOf, AreTold, AuditAnswers, Audits, HaveHeard, IsCut, PassesOn, WritesNext, cpus_in, entries_in, occupied, tally_in};
 ghost use Rattle.registry_c.specs.Opening.{bodies_of, body_at};
 
 use crate::handle::{CpuHandle, KeeperHandle};
 use crate::keeper_body::KeeperBody;
 use crate::values::{DONE, EMPTY_HANDLE, NO_ROOM, refused};
-use cpu_words::Domain;
+use cpu_words::{Domain, NoteSeat, Words};
 use held::CHandle;
 use name_registry::local_on;
-use passive_list::Keeper;
+use passive_list::{Keeper, Note, hear_keeper, tell_keeper};
 use registry_values::{Refusal, Slot, less_bias, sum};
 use std::alloc::Global;
-use std::marker::Brand;
+use std::marker::{Brand, PhantomData};
 
 /// What the counts say of the local references to a live or retired entry.
 #[repr(C)]
@@ -58,8 +59,8 @@ fn audit_body(
     length: &mut usize,
 ) -> (KeeperBody, u32)
     requires { (c : ℕ) (b : OnPlainCpu) → body_at (bodies_of cpus.old) c ≡ Some b → b.words ≡ keeper.words }
-    ensures keeper { result.0 ≡ keeper }
-    ensures cpus { bodies_of cpus.new ≡ bodies_of cpus.old }
+    ensures keeper { (result.0.words ≡ keeper.words) × HasListened keeper.keeper result.0.keeper }
+    ensures cpus { HaveHeard (bodies_of cpus.old) (bodies_of cpus.new) }
     ensures answer { Audits keeper.words.settings keeper.keeper (bodies_of cpus.old) result.1 list.old list.new length.old length.new }
 {
     audit_at::<Brand>(keeper, cpus, list, length)
@@ -73,24 +74,27 @@ fn audit_at<D: Domain>(
 ) -> (KeeperBody, u32)
     requires table { (keeper.words.table ≡ D.table) × (keeper.words.settings ≡ D.settings) }
     requires same { (c : ℕ) (b : OnPlainCpu) → body_at (bodies_of cpus.old) c ≡ Some b → b.words ≡ keeper.words }
-    ensures keeper { result.0 ≡ keeper }
-    ensures cpus { bodies_of cpus.new ≡ bodies_of cpus.old }
+    ensures keeper { (result.0.words ≡ keeper.words) × HasListened keeper.keeper result.0.keeper }
+    ensures cpus { HaveHeard (bodies_of cpus.old) (bodies_of cpus.new) }
     ensures answer { Audits keeper.words.settings keeper.keeper (bodies_of cpus.old) result.1 list.old list.new length.old length.new }
 {
-    let (words, keeper) = keeper.into_keeper::<D>();
-    let answer = audit_all(&keeper, cpus, list, length);
+    let (words, mut keeper) = keeper.into_keeper::<D>();
+    let answer = audit_all(&words, &mut keeper, cpus, list, length);
     (KeeperBody::of_keeper(words, keeper), answer)
 }
 
 fn audit_all<D: Domain>(
-    keeper: &Keeper<D>,
+    words: &Words,
+    keeper: &mut Keeper<D>,
     cpus: &mut [CpuHandle],
     list: &mut [CBalance],
     length: &mut usize,
 ) -> u32
-    requires { (c : ℕ) (b : OnPlainCpu) → body_at (bodies_of cpus.old) c ≡ Some b → b.words.settings ≡ D.settings }
-    ensures cpus { bodies_of cpus.new ≡ bodies_of cpus.old }
-    ensures answer { Audits D.settings keeper.now (bodies_of cpus.old) result list.old list.new length.old length.new }
+    requires words { AreWordsOf words.now D.table D.settings }
+    requires same { (c : ℕ) (b : OnPlainCpu) → body_at (bodies_of cpus.old) c ≡ Some b → b.words ≡ record { table = D.table; settings = D.settings } }
+    ensures keeper { HasListened keeper.old keeper.new }
+    ensures cpus { HaveHeard (bodies_of cpus.old) (bodies_of cpus.new) }
+    ensures answer { Audits D.settings keeper.old (bodies_of cpus.old) result list.old list.new length.old length.new }
 {
     if !are_all(keeper.settings.cpus, cpus) {
         return refused(Refusal::MissingCpu);
@@ -100,8 +104,43 @@ fn audit_all<D: Domain>(
     if list.len() < count {
         return NO_ROOM;
     }
+    gather(words, keeper, cpus);
     write_balances(keeper, cpus, list);
     DONE
+}
+
+/// Lets all know the same of what the keeper did: the keeper tells, each CPU hears in turn and tells on, and the keeper hears the last one.
+fn gather<D: Domain>(words: &Words, keeper: &mut Keeper<D>, cpus: &mut [CpuHandle])
+    requires words { AreWordsOf words.now D.table D.settings }
+    requires all { AreAllHere D.settings.cpus (bodies_of cpus.old) }
+    requires same { (c : ℕ) (b : OnPlainCpu) → body_at (bodies_of cpus.old) c ≡ Some b → b.words ≡ record { table = D.table; settings = D.settings } }
+    ensures alike { AreAlike keeper.old (cpus_in (bodies_of cpus.old)) (cpus_in (bodies_of cpus.new)) }
+    ensures keeper { HasListened keeper.old keeper.new }
+    ensures cpus { HaveHeard (bodies_of cpus.old) (bodies_of cpus.new) }
+{
+    let Note {
+        seat: mut note,
+        domain: _,
+    } = tell_keeper(words, keeper);
+    for c in 0..cpus.len() {
+        note = pass_on(&mut cpus[c], note);
+    }
+    let note = Note {
+        seat: note,
+        domain: PhantomData,
+    };
+    hear_keeper(words, keeper, note);
+}
+
+/// One CPU hears the note and tells on what it knows then.
+fn pass_on(cpu: &mut CpuHandle, note: NoteSeat) -> NoteSeat
+    requires cpu { (b : OnPlainCpu) × (cpu.old.body ≡ Some b) × (note.table ≡ b.words.table) }
+    ensures { (b : OnPlainCpu) → cpu.old.body ≡ Some b → PassesOn b cpu.new.body note.view note.deeds result.table result.deeds }
+{
+    match cpu.body_mut() {
+        None => unreachable!(),
+        Some(body) => body.pass_on(note),
+    }
 }
 
 /// Whether these are so many CPUs, 0, 1, .., in this order.
@@ -159,7 +198,7 @@ fn write_balances<D: Domain>(keeper: &Keeper<D>, cpus: &mut [CpuHandle], list: &
     requires settings { (c : ℕ) (b : OnPlainCpu) → body_at (bodies_of cpus.old) c ≡ Some b → b.words.settings ≡ D.settings }
     requires room { occupied keeper.now D.settings.slots ≤ length list.old }
     ensures cpus { bodies_of cpus.new ≡ bodies_of cpus.old }
-    ensures list { AuditWrites D.settings keeper.now (bodies_of cpus.old) list.old list.new }
+    ensures list { AreTold D.settings keeper.now (bodies_of cpus.old) D.settings.slots (occupied keeper.now D.settings.slots) list.old list.new }
 {
     let mut at = 0;
     for t in 0..keeper.settings.slots {

@@ -5,13 +5,15 @@ ghost use Rattle.registry_values.specs.Refusals.{Answers};
 ghost use Rattle.cpu_words.specs.Domains.{AreWordsOf};
 ghost use Rattle.cpu_words.specs.Searching.{key_with};
 ghost use Rattle.cpu_words.specs.Views.{references_to};
+ghost use mathlib.Core.List.{IsPrefix};
 ghost use Rattle.passive_list.specs.Lookups.{HasFound};
+ghost use Rattle.passive_list.specs.Notes.{HasHeardOn, WasShown};
 ghost use Rattle.passive_list.specs.Sections.{AreSpent, HasEnteredOn, HasExitedOn};
 ghost use Rattle.name_registry.specs.Meeting.{is_inside};
 ghost use Rattle.passive_ref.specs.Psrefs.{GivesBack, HasOneLess, IsAcquired, IsCopied, IsReferredTo, why_not_acquired, why_not_copied, why_unusable};
 
-use cpu_words::{Domain, Words};
-use passive_list::{Cpu, PlainCpu, enter_on, exit_on, find_on};
+use cpu_words::{Domain, NoteSeat, Words, steps};
+use passive_list::{Cpu, PlainCpu, enter_on, exit_on, find_on, hear_on};
 use passive_ref::{Psref, acquire_on, copy_on, held_on, read_entry_on, release_on};
 use registry_values::{Entry, Kind, Name, Refusal};
 use std::alloc::{AllocError, Global};
@@ -121,6 +123,19 @@ impl CpuBody {
         ensures { result ≡ is_inside self.now.cpu }
     {
         self.inside()
+    }
+
+    /// Hears a note, and tells on what it knows then. Condition: the note is of its table.
+    pub fn pass_on(&mut self, note: NoteSeat) -> NoteSeat
+        requires { note.table ≡ self.old.words.table }
+        ensures words { self.new.words ≡ self.old.words }
+        ensures heard { HasHeardOn note.view self.old.cpu self.new.cpu }
+        ensures knows { IsPrefix note.deeds self.new.cpu.deeds }
+        ensures shown { WasShown note.view self.old.cpu self.new.cpu }
+        ensures note { (result.table ≡ self.old.words.table) × (result.deeds ≡ self.new.cpu.deeds) }
+    {
+        hear_on(&self.words, &mut self.cpu, note);
+        steps::tell(&self.words, &mut self.cpu.seat, self.cpu.id)
     }
 
     /// How many enters are open.

@@ -2,12 +2,13 @@
 
 ghost use Rattle.std.specs.Prelude.{◌≡◌};
 ghost use Rattle.registry_values.specs.Stages.{destroy_result};
+ghost use Rattle.name_registry.specs.Meeting.{is_inside};
 ghost use Rattle.registry_c.specs.Values.{number_of};
 ghost use Rattle.registry_c.specs.KeeperCalls.{AdvanceAnswers, AttachAnswers, DestroyAnswers, DetachAnswers, PerformAnswers, TurnAnswers};
 
 use crate::cpu_body::CpuBody;
 use crate::keeper_body::KeeperBody;
-use crate::keeper_calls::{advance_body, attach_bodies, detach_bodies};
+use crate::keeper_calls::{advance_bodies, advance_body, attach_bodies, detach_bodies};
 use crate::values::{
     BAD_KIND, BAD_NAME, CEntry, CName, CStage, DONE, entry_out, kind_of, refused, stage_out,
 };
@@ -81,20 +82,26 @@ pub fn advance(keeper: KeeperBody, number: u64, met: &mut CStage) -> (KeeperBody
     }
 }
 
-/// One turn of destroying it.
-pub fn destroy(keeper: KeeperBody, inside: bool, number: u64, met: &mut CStage) -> (KeeperBody, u32)
-    ensures { DestroyAnswers inside number keeper result.0 result.1 met.old met.new }
+/// One turn of destroying it. The CPU hears what the keeper did.
+pub fn destroy(
+    keeper: KeeperBody,
+    cpu: CpuBody,
+    number: u64,
+    met: &mut CStage,
+) -> (KeeperBody, CpuBody, u32)
+    requires { cpu.words ≡ keeper.words }
+    ensures { DestroyAnswers (is_inside cpu.cpu) number keeper cpu result.0 result.1 result.2 met.old met.new }
 {
-    if inside {
-        return (keeper, refused(Refusal::Inside));
+    if cpu.is_inside() {
+        return (keeper, cpu, refused(Refusal::Inside));
     }
-    let (keeper, answer) = advance_body(keeper, number);
+    let (keeper, cpu, answer) = advance_bodies(keeper, cpu, number);
     match answer {
         Ok(stage) => {
             *met = stage_out(stage);
-            (keeper, destroyed_number(stage))
+            (keeper, cpu, destroyed_number(stage))
         }
-        Err(refusal) => (keeper, refused(refusal)),
+        Err(refusal) => (keeper, cpu, refused(refusal)),
     }
 }
 

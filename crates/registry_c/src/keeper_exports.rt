@@ -3,7 +3,7 @@
 ghost use Rattle.std.specs.Prelude.{◌≡◌};
 ghost use Rattle.name_registry.specs.Meeting.{is_inside};
 ghost use Rattle.registry_c.specs.Calls.{AreOfOne, Through, ThroughBoth};
-ghost use Rattle.registry_c.specs.KeeperCalls.{AdvanceAnswers, AttachAnswers, DestroyAnswers, DetachAnswers, KeeperCloses, PerformAnswers, TurnAnswers};
+ghost use Rattle.registry_c.specs.KeeperCalls.{AdvanceAnswers, AttachAnswers, DestroyAnswers, DetachAnswers, KeeperCloses, PerformCalls, TurnCalls};
 ghost use Rattle.registry_c.specs.Values.{settings_out};
 
 use crate::handle::{CpuHandle, KeeperHandle};
@@ -123,16 +123,18 @@ pub extern "C" fn registry_destroy(
 ) -> u32
     requires { AreOfOne keeper.old.body cpu.old.body }
     ensures { ThroughBoth keeper.old.body keeper.new.body cpu.old.body cpu.new.body result (met.new ≡ met.old)
-        (λ k c l d. (d ≡ c) × DestroyAnswers (is_inside c.cpu) number k l result met.old met.new) }
+        (λ k c l d. DestroyAnswers (is_inside c.cpu) number k c l d result met.old met.new) }
 {
-    let Some(c) = cpu.body_mut() else {
-        return EMPTY_HANDLE;
-    };
     let Some((k, room)) = keeper.take(alloc) else {
         return EMPTY_HANDLE;
     };
-    let (k, answer) = keeper_answers::destroy(k, c.is_inside(), number, met);
+    let Some((c, place)) = cpu.take(alloc) else {
+        keeper.give(k, room);
+        return EMPTY_HANDLE;
+    };
+    let (k, c, answer) = keeper_answers::destroy(k, c, number, met);
     keeper.give(k, room);
+    cpu.give(c, place);
     answer
 }
 
@@ -145,8 +147,7 @@ pub extern "C" fn registry_perform(
     wait: &mut CWait,
 ) -> u32
     requires { AreOfOne keeper.old.body cpu.old.body }
-    ensures { ThroughBoth keeper.old.body keeper.new.body cpu.old.body cpu.new.body result (wait.new ≡ wait.old)
-        (λ k c l d. PerformAnswers k c l d result wait.old wait.new) }
+    ensures { PerformCalls keeper.old.body cpu.old.body keeper.new.body cpu.new.body result wait.old wait.new }
 {
     let Some((k, room)) = keeper.take(alloc) else {
         return EMPTY_HANDLE;
@@ -171,8 +172,7 @@ pub extern "C" fn registry_perform_turn(
     waited: &mut u64,
 ) -> u32
     requires { AreOfOne keeper.old.body cpu.old.body }
-    ensures { ThroughBoth keeper.old.body keeper.new.body cpu.old.body cpu.new.body result ((wait.new ≡ wait.old) × (waited.new ≡ waited.old))
-        (λ k c l d. TurnAnswers k c l d result wait.old wait.new waited.old waited.new) }
+    ensures { TurnCalls keeper.old.body cpu.old.body keeper.new.body cpu.new.body result wait.old wait.new waited.old waited.new }
 {
     let Some((k, room)) = keeper.take(alloc) else {
         return EMPTY_HANDLE;

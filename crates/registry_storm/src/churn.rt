@@ -156,7 +156,7 @@ impl Churn {
         cpu: &mut Cpu<D>,
         counts: &mut Counts,
     )
-        ensures same { cpu.new ≡ cpu.old }
+        ensures section { SameSection cpu.old cpu.new }
         ensures counted { counts.new.lookups ≡ counts.old.lookups }
     {
         for slot in 0..SLOTS {
@@ -177,7 +177,7 @@ pub fn destroy_one<D: Domain, R: Wait>(
     slot: u8,
     counts: &mut Counts,
 )
-    ensures same { cpu.new ≡ cpu.old }
+    ensures section { SameSection cpu.old cpu.new }
     ensures counted { counts.new.lookups ≡ counts.old.lookups }
 {
     let freed = registry.destroy(rt, cpu, number, 1);

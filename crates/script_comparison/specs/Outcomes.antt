@@ -1,4 +1,5 @@
--- What the engines may write on a script, and when they were seen apart.
+-- What the engines may write on a script, and when they were seen apart. A run may end for want of memory at any place, so both Apart and Alike
+-- hold of each script: they say which runs an answer comes of, and nothing of the script. Which scripts are apart is tested.
 use Rattle.std.specs.Prelude.{◌≡◌, ℕ, List, [], Result, Some}
 use Rattle.registry_script.specs.declared.engine.Engine.{Engine}
 use Rattle.registry_script.specs.declared.engine.Engine.TheVariants.{Core, Live}

@@ -23,7 +23,7 @@ use Rattle.cpu_words.specs.declared.view.CpuView.{CpuView}
 use Rattle.cpu_words.specs.declared.view.View.{View}
 use Rattle.cpu_words.specs.declared.view.View.TheVariants.{Keeper, Cpu, Reference, Note, Spent}
 use Rattle.cpu_words.specs.Views.{CpuOwn, own_of, cpu_view, SameHand, depth_of, GivesUp, CpuShown}
-use Rattle.cpu_words.specs.Rule.{Agrees, IsFresh, Good, Ruled, GoesOn, did}
+use Rattle.cpu_words.specs.Rule.{Agrees, IsFresh, Good, Ruled, GoesOn, by_number, did}
 use Rattle.cpu_words.specs.Steps.{Makes}
 use Rattle.cpu_words.proofs.shown.Showing.{standing_in, Stay, shows_set}
 use Rattle.cpu_words.proofs.laws.Reaching.{more}
@@ -133,7 +133,7 @@ good_after g l c e r good leaves lt made = record {
 pub cpu_makes : (z : Settings) (s : Table ℕ View) (r : Ruled z s) (i : ℕ) (x : CpuView) (word m : ℕ) (l : CpuLists) (e : Event) (rep : Reply) (own : CpuOwn)
     → get_elem? s.views i ≡ some (Cpu x) → step r.g e ≡ Some (record { state = with_lists r.g l; reply = rep }) → LeavesOthers r.g x.id l
     → ((n : ℕ) → sum_by (standing_of n) l.locals ≡ standing_in n r.g) → own.heard ≡ x.heard → CpuShown (with_lists r.g l) (cpu_view (with_lists r.g l) x.id own) → Agrees (set s.words word m) (with_lists r.g l)
-    → GoesOn z s r (did e rep) (stepped s word m i [] (Cpu (cpu_view (with_lists r.g l) x.id own)) keeps) × Makes e rep (Cpu x) (Cpu (cpu_view (with_lists r.g l) x.id own))
+    → GoesOn z s r (did (by_number r.g e) rep) (stepped s word m i [] (Cpu (cpu_view (with_lists r.g l) x.id own)) keeps) × Makes e rep (Cpu x) (Cpu (cpu_view (with_lists r.g l) x.id own))
 cpu_makes z s r i x word m l e rep own at made leaves count heard shown words =
     let g = r.g in
     let g' = with_lists g l in
@@ -149,7 +149,7 @@ cpu_makes z s r i x word m l e rep own at made leaves count heard shown words =
           good = good;
           reached = (more z g g' e rep r.reached made).0;
           words = words;
-          shows = shows_set g g' r.seat s.views i (Cpu x) (Cpu y) r.shows at (cpu_stays g l x.id r.seat i leaves had.0) (had.0, shown) (λ n. let h = count n in omega arith);
+          shows = shows_set g g' r.seat s.views i (Cpu x) (Cpu y) r.shows at (cpu_stays g l x.id r.seat i leaves had.0) (had.0, shown) refl refl (λ n. let h = count n in omega arith);
         };
         goes_on = (more z g g' e rep r.reached made).1;
         seated = omega arith;

@@ -1,5 +1,5 @@
 -- What is in a CPU's hand changes, and the places of references: why the other views stay, and what a split or a join of the CPU's seat makes.
-use Rattle.std.proofs.Common.{◌++◌, ◌≡◌, ◌≢◌, ⊎_elim, ℕ, ◌+◌, ◌<◌, ◌≤◌, ◌==◌, List, set, sum_by, Option, Some, None, refl, sym, ap, ◌∙◌, subst, arith, get_or-set_same, get_or-set_other}
+use Rattle.std.proofs.Common.{◌++◌, ◌≡◌, ◌≢◌, inl, ⊎_elim, ℕ, ◌+◌, ◌<◌, ◌≤◌, ◌==◌, List, set, sum_by, Option, Some, None, refl, sym, ap, ◌∙◌, subst, arith, get_or-set_same, get_or-set_other}
 use mathlib.Core.Option.{some}
 use lib.ListN.{get_elem?}
 use Rattle.atomic_table.specs.Table.{Splits, Joins}
@@ -34,7 +34,7 @@ use Rattle.cpu_words.specs.declared.view.View.{View}
 use Rattle.cpu_words.specs.declared.view.View.TheVariants.{Cpu, Reference, Spent}
 use Rattle.cpu_words.specs.Spots.{Spot, section_of, passive_of, count_of, head_word, next_of, record_of, total_of, word_at}
 use Rattle.cpu_words.specs.Views.{is_to, SameHand, HandFits, IsCollectedFor, CpuShown, ReferenceShown, cpu_of, reference_of}
-use Rattle.cpu_words.specs.Rule.{reference_to, Good, event_without_id, did, deeds}
+use Rattle.cpu_words.specs.Rule.{reference_to, Good, number_or_none, number_of_id, by_number, did, deeds}
 use Rattle.cpu_words.specs.Logs.{the_cpu, maker, LoggedRuled, logged_after_split, no_deeds, fresh, joined_seat, spent_seat, leaves_hand, cuts_off, takes_in}
 use Rattle.cpu_words.specs.Steps.{SplitsBy, JoinsBy, SplitsOn, JoinsOn}
 use Rattle.cpu_words.specs.Sections.{IsIdle}
@@ -139,7 +139,7 @@ pub record Leaving (e : Event) (x : CpuView) (g : State) : Type 0 where
   pub r : Reply
   pub step : HandStep g x e r NoEntry
   -- the reply is an id, which the seat isn't told
-  pub told : did e r ≡ did e (Ref 0)
+  pub told : did (by_number g e) r ≡ did e (Ref 0)
   pub right : ReferenceShown g (reference_in x.id x.hand)
   pub count : (n : ℕ) → one_if (is_to n (reference_in x.id x.hand).entry) + standing_in n g ≡ sum_by (standing_of n) step.locals
 
@@ -178,13 +178,13 @@ splits z i x e leaves s r at =
         reached = (more z g (with_lists g l) e p.r r.reached m.made).0;
         words = agrees_same s.words g (with_lists g l) r.words refl (λ q there. same_words g x.id m.h m.locals q);
         shows = shows_split g (with_lists g l) r.seat s.views i (Cpu x) (with_empty_hand (Cpu x)) (reference_of_hand (Cpu x)) r.shows at (cpu_stays g l x.id r.seat i after had.0)
-            (had.0, shown_hand g x m.h m.locals NoEntry r.good had.1 m.same m.fits) (λ j. tt) (record { attached = p.right.attached; collected = p.right.collected }) (λ n. let h = p.count n in omega arith);
+            (had.0, shown_hand g x m.h m.locals NoEntry r.good had.1 m.same m.fits) (tt, record { attached = p.right.attached; collected = p.right.collected }) (λ c lt. inl lt) refl (λ n. let h = p.count n in omega arith);
       };
     }
 
 -- the same of a seat, whose view is a CPU's
 
-pub seat_splits : (z : Settings) (i : ℕ) (l : Logged) (x : CpuView) (e : Event) → l ≡ record l { view = Cpu (cpu_of l.view) } → cpu_of l.view ≡ x → maker (event_without_id e) ≡ the_cpu x.id → leaves_hand x.id x.hand ≡ did e (Ref 0) → LeavesHand e x
+pub seat_splits : (z : Settings) (i : ℕ) (l : Logged) (x : CpuView) (e : Event) → l ≡ record l { view = Cpu (cpu_of l.view) } → cpu_of l.view ≡ x → maker e ≡ the_cpu x.id → leaves_hand x.id x.hand ≡ did e (Ref 0) → LeavesHand e x
     → Splits (LoggedRuled z) i l (logged_after_split with_empty_hand cuts_off l) (fresh reference_of_hand no_deeds l)
 seat_splits z i l x e is view own does leaves = seat_cut z i l (Cpu x) with_empty_hand reference_of_hand cuts_off no_deeds (did e (Ref 0)) (is ∙ ap (λ (u : CpuView). record l { view = Cpu u }) view) tt (own, tt) does (tells_nothing (record l { view = Cpu x }) (did e (Ref 0))) (splits z i x e leaves)
 
@@ -255,6 +255,7 @@ split_back_leaves x c id may = subst (λ d. LeavesHand (SplitBack d) x) id (λ g
 -- the event that puts a reference into the CPU's hand, and what it leaves
 pub record Coming (c : ℕ) (x : CpuView) (e : Entry) (g : State) : Type 0 where
   pub id : ℕ
+  pub names : number_of_id g id ≡ e.number
   pub step : HandStep g x (JoinRef c id) Done (GivingEntry e)
   pub count : (n : ℕ) → sum_by (standing_of n) step.locals + one_if (is_to n e) ≡ standing_in n g
 
@@ -266,6 +267,7 @@ coming x c id idle e g good had attached some_one =
     let stands : number_standing (local_at g.locals p) ≡ Some n = ap number_standing place.1 in
     let seen = seen_of g x good had in subst (λ d. Coming d x e g) id (record {
       id = p;
+      names = ap number_or_none stands;
       step = record {
         h = Giving n p;
         locals = set g.locals p (Lifted x.id);
@@ -289,6 +291,7 @@ joins_by x c v id idle g good had shown has =
     let p = coming x c id idle v.entry g good had shown.attached (stands_for g v has) in
     let m = p.step in record {
       id = p.id;
+      names = p.names;
       after = handed g x.id m.h m.locals;
       made = m.made;
       good_after = good_after g (hand_lists g x.id m.h m.locals) x.id (JoinRef c p.id) Done good (leaves_hands g x.id m.h m.locals) had.seated m.made;
@@ -296,7 +299,7 @@ joins_by x c v id idle g good had shown has =
       count = λ n. let h = p.count n in omega arith;
     }
 
-joins : (z : Settings) (i o : ℕ) (x : CpuView) (v : ReferenceView) → IsIdle x → JoinsOn z i (Cpu x) o (Reference v) (with_reference_in_hand (Cpu x) (Reference v)) Spent (did (JoinRef x.id 0) Done)
+joins : (z : Settings) (i o : ℕ) (x : CpuView) (v : ReferenceView) → IsIdle x → JoinsOn z i (Cpu x) o (Reference v) (with_reference_in_hand (Cpu x) (Reference v)) Spent (did (JoinRef x.id v.entry.number) Done)
 joins z i o x v idle s r at apart there =
     let g = r.g in
     let both = with_reference_in_hand (Cpu x) (Reference v) in
@@ -311,7 +314,7 @@ joins z i o x v idle s r at apart there =
     let l = hand_lists g x.id m.h m.locals in
     let after = leaves_hands g x.id m.h m.locals in
     record {
-      goes_on = (more z g (with_lists g l) (JoinRef x.id p.id) Done r.reached m.made).1;
+      goes_on = (more z g (with_lists g l) (JoinRef x.id p.id) Done r.reached m.made).1 ∙ ap (λ (n : ℕ). deeds z r.reached.events ++ did (JoinRef x.id n) Done) p.names;
       seated = omega arith;
       seats = λ c lt. refl;
       ruled = record {
@@ -322,7 +325,7 @@ joins z i o x v idle s r at apart there =
         reached = (more z g (with_lists g l) (JoinRef x.id p.id) Done r.reached m.made).0;
         words = agrees_same s.words g (with_lists g l) r.words refl (λ q there. same_words g x.id m.h m.locals q);
         shows = shows_join g (with_lists g l) r.seat s.views i (Cpu x) o (Reference v) both r.shows at apart was (cpu_stays g l x.id r.seat i after had.0)
-            (had.0, shown_hand g x m.h m.locals (GivingEntry v.entry) r.good had.1 m.same m.fits) (λ n. let h = p.count n in omega arith) there;
+            (had.0, shown_hand g x m.h m.locals (GivingEntry v.entry) r.good had.1 m.same m.fits) refl (refl, refl) (λ n. let h = p.count n in omega arith) there;
       };
     }
 
@@ -330,7 +333,7 @@ joins z i o x v idle s r at apart there =
 
 pub seat_joins : (z : Settings) (i o : ℕ) (l m : Logged) (x : CpuView) → l ≡ record l { view = Cpu (cpu_of l.view) } → cpu_of l.view ≡ x → m ≡ record m { view = Reference (reference_of m.view) } → IsIdle x
     → Joins (LoggedRuled z) i l o m (joined_seat with_reference_in_hand takes_in l m) spent_seat
-seat_joins z i o l m x is view that idle = seat_join z i o l m (Cpu x) (Reference (reference_of m.view)) with_reference_in_hand takes_in (did (JoinRef x.id 0) Done) (is ∙ ap (λ (u : CpuView). record l { view = Cpu u }) view) that tt (refl, tt) refl (joins z i o x (reference_of m.view) idle)
+seat_joins z i o l m x is view that idle = seat_join z i o l m (Cpu x) (Reference (reference_of m.view)) with_reference_in_hand takes_in (did (JoinRef x.id (reference_of m.view).entry.number) Done) (is ∙ ap (λ (u : CpuView). record l { view = Cpu u }) view) that tt (refl, tt) refl (joins z i o x (reference_of m.view) idle)
 
 pub seat_joins_by : (v a : View) (x : CpuView) (c : ℕ) (u : View) (w : ReferenceView) → cpu_of v ≡ x → reference_of u ≡ w → a ≡ with_reference_in_hand v u → x.id ≡ c → IsIdle x → JoinsBy (JoinRef c) (Cpu x) (Reference w) (Cpu (cpu_of a))
 seat_joins_by v a x c u w view that both id idle =

@@ -30,7 +30,7 @@ use Rattle.cpu_words.specs.declared.view.View.{View}
 use Rattle.cpu_words.specs.declared.view.View.TheVariants.{Cpu}
 use Rattle.cpu_words.specs.Spots.{Spot, section_of, passive_of, count_of, head_word, next_of, record_of, total_of, word_at}
 use Rattle.cpu_words.specs.Views.{CpuOwn, own_of, cpu_view, depth_of, references_to, without, CpuShown, cpu_of}
-use Rattle.cpu_words.specs.Rule.{Agrees, Good, Ruled, GoesOn, did}
+use Rattle.cpu_words.specs.Rule.{Agrees, Good, Ruled, GoesOn, by_number, did}
 use Rattle.cpu_words.specs.Steps.{Makes, CpuMay}
 use Rattle.cpu_words.specs.Sections.{IsIdle}
 use Rattle.cpu_words.specs.Passives.{MayAdd, MayUse, HasSubtracted, IsAloneAt, tells_added, tells_subtracted, tells_passive}
@@ -190,7 +190,7 @@ put_makes : (z : Settings) (s : Table ℕ View) (r : Ruled z s) (i : ℕ) (x : C
     → get_elem? s.views i ≡ some (Cpu x) → Known r.g x e → m ≡ references_to e.number references
     → ((n : ℕ) → (e.number ≡ n → ⊥) → references_to n references ≡ references_to n x.references) → ((f : Entry) → Contains references f → IsAttached x.pass f)
     → step r.g event ≡ Some (record { state = with_lists r.g (put r.g x.id e.slot m); reply = Word (passive_at r.g.passive x.id e.slot) })
-    → (y : CpuView) × (y ≡ record x { references = references }) × GoesOn z s r (did event (Word (slice_index s.words (80 * x.id + 1 + e.slot)))) (stepped s (80 * x.id + 1 + e.slot) m i [] (Cpu y) keeps) × Makes event (Word (slice_index s.words (80 * x.id + 1 + e.slot))) (Cpu x) (Cpu y)
+    → (y : CpuView) × (y ≡ record x { references = references }) × GoesOn z s r (did (by_number r.g event) (Word (slice_index s.words (80 * x.id + 1 + e.slot)))) (stepped s (80 * x.id + 1 + e.slot) m i [] (Cpu y) keeps) × Makes event (Word (slice_index s.words (80 * x.id + 1 + e.slot))) (Cpu x) (Cpu y)
 put_makes z s r i x e references m event at known is others attached made =
     let g = r.g in
     let had : CpuShown g x = (r.shows.fits i (Cpu x) at).1 in

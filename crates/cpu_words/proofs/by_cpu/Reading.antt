@@ -13,11 +13,12 @@ use Rattle.protocol.specs.declared.event.RecordOf.TheVariants.{Local}
 use Rattle.protocol.specs.declared.event.Reply.{Reply}
 use Rattle.protocol.specs.declared.event.Reply.TheVariants.{Word}
 use Rattle.protocol.specs.declared.state.RecordWords.{RecordWords}
+use Rattle.protocol.specs.declared.state.LocalPlace.{LocalPlace}
 use Rattle.protocol.specs.declared.state.LocalPlace.TheVariants.{Standing}
 use Rattle.protocol.specs.State.{State, row_at, local_at}
 use Rattle.registry_values.specs.Slots.{slot_at, slot_of}
 use Rattle.registry_values.specs.Names.{is_lawful}
-use Rattle.protocol.specs.Events.{step, word, words_of}
+use Rattle.protocol.specs.Events.{number_standing, step, word, words_of}
 use Rattle.protocol.specs.Invariant.{IsIn, Occupies}
 use Rattle.protocol.proofs.history.History.{one_entry}
 use Rattle.protocol.proofs.counts.HeldSums.{one_self}
@@ -29,7 +30,7 @@ use Rattle.cpu_words.specs.declared.view.View.{View}
 use Rattle.cpu_words.specs.declared.view.View.TheVariants.{Reference}
 use Rattle.cpu_words.specs.Spots.{Spot, record_of, index, IsSpot}
 use Rattle.cpu_words.specs.Views.{ReferenceShown}
-use Rattle.cpu_words.specs.Rule.{Good, Ruled, GoesOn, did}
+use Rattle.cpu_words.specs.Rule.{Good, Ruled, GoesOn, number_or_none, by_number, did}
 use Rattle.cpu_words.specs.Steps.{OneSeat, Makes, ReferenceMay}
 use Rattle.cpu_words.specs.Reading.{tells_local}
 use Rattle.cpu_words.proofs.laws.Reaching.{more}
@@ -47,7 +48,7 @@ row_lawful g e good here = (good.holds.rows e.slot e here).1
 -- a load that leaves the core and the view keeps the rule, and is its event
 pub keeps_view : (z : Settings) (s : Table ℕ View) (r : Ruled z s) (i : ℕ) (v : View) (p : Spot) (e : Event) (rep : Reply)
     → get_elem? s.views i ≡ some v → IsSpot r.g.settings p → step r.g e ≡ Some (record { state = r.g; reply = rep }) → OneSeat v v
-    → GoesOn z s r (did e rep) (stepped s (index p) (slice_index s.words (index p)) i [] v keeps) × Makes e rep v v
+    → GoesOn z s r (did (by_number r.g e) rep) (stepped s (index p) (slice_index s.words (index p)) i [] v keeps) × Makes e rep v v
 keeps_view z s r i v p e rep at there made same =
     let g = r.g in
     let had = r.shows.fits i v at in (
@@ -59,7 +60,7 @@ keeps_view z s r i v p e rep at there made same =
           good = r.good;
           reached = (more z g g e rep r.reached made).0;
           words = agrees_set s.words g g p (slice_index s.words (index p)) r.good.holds.fit r.words refl there (sym (r.words.at p there)) (λ q also ne. refl);
-          shows = shows_set g g r.seat s.views i v v r.shows at (λ j u ne sits shown backed. shown) had (λ n. refl);
+          shows = shows_set g g r.seat s.views i v v r.shows at (λ j u ne sits shown backed. shown) had refl refl (λ n. refl);
         };
         goes_on = (more z g g e rep r.reached made).1;
         seated = omega arith;
@@ -78,8 +79,8 @@ local_here g v id good shown stands =
     subst (λ (t : ℕ). IsIn v.entry (slot_at g.slots t)) at (subst (λ (f : Entry). IsIn f (slot_at g.slots has.0)) (sym one) has.2)
 
 -- the step: the seat's reference is live, so its entry has its slot
-pub local_may : (z : Settings) (v : ReferenceView) (t k : ℕ) → v.entry.slot ≡ t → k < 5 → ReferenceMay z v (657 + 8 * t + k) (λ n. did (LoadRecord (Local 0 k)) (Word n)) (tells_local (LoadRecord (Local 0 k)))
-local_may z v t k slot few = subst (λ (u : ℕ). ReferenceMay z v (657 + 8 * u + k) (λ n. did (LoadRecord (Local 0 k)) (Word n)) (tells_local (LoadRecord (Local 0 k)))) slot
+pub local_may : (z : Settings) (v : ReferenceView) (t k : ℕ) → v.entry.slot ≡ t → k < 5 → ReferenceMay z v (657 + 8 * t + k) (λ n. did (LoadRecord (Local v.entry.number k)) (Word n)) (tells_local (LoadRecord (Local 0 k)))
+local_may z v t k slot few = subst (λ (u : ℕ). ReferenceMay z v (657 + 8 * u + k) (λ n. did (LoadRecord (Local v.entry.number k)) (Word n)) (tells_local (LoadRecord (Local 0 k)))) slot
     (λ s r i at fits.
     let g = r.g in
     let e = v.entry in
@@ -97,7 +98,7 @@ local_may z v t k slot few = subst (λ (u : ℕ). ReferenceMay z v (657 + 8 * u 
     rw (place.1, of, lt-ltb k 5 few) (λ j. Some (record { state = g; reply = Word (sym stands j) })) in
     let done = keeps_view z s r i (Reference v) (record_of e.slot k) (LoadRecord (Local place.0 k)) (Word found) at (lt, few) made refl in (
       Reference v,
-      done.0,
+      subst (λ (n : ℕ). GoesOn z s r (did (LoadRecord (Local n k)) (Word found)) (stepped s (index (record_of e.slot k)) found i [] (Reference v) keeps)) (ap (λ (x : LocalPlace). number_or_none (number_standing x)) place.1) done.0,
       (
         refl,
         λ id j event.

@@ -1,7 +1,8 @@
 -- Looks and snapshots on the words.
-use Rattle.std.proofs.Common.{◌≡◌, ℕ, ◌+◌, ◌*◌, ◌<◌, List, Some, None, Bool, true, false, nat_lt, if◌then◌else◌, refl, sym, ap, ◌∙◌, subst, arith}
+use Rattle.std.proofs.Common.{◌≡◌, ℕ, ◌+◌, ◌*◌, ◌<◌, List, [], Some, None, Bool, true, false, nat_lt, if◌then◌else◌, refl, sym, ap, ◌∙◌, subst, arith}
 use Rattle.std.proofs.lemmas.Bool.{lt-ltb, eq-eqb}
 use Rattle.std.specs.Prelude.{slice_index}
+use Rattle.atomic_table.specs.Table.{keeps, stepped}
 use Rattle.registry_values.specs.declared.settings.Settings.{Settings}
 use Rattle.registry_values.specs.declared.slot.Slot.{Slot}
 use Rattle.registry_values.specs.declared.slot.Slot.TheVariants.{Retired}
@@ -20,7 +21,7 @@ use Rattle.cpu_words.specs.declared.view.KeeperView.{KeeperView}
 use Rattle.cpu_words.specs.declared.view.View.TheVariants.{Keeper}
 use Rattle.cpu_words.specs.Spots.{section_of}
 use Rattle.cpu_words.specs.Views.{KeeperOwn, keeper_own, keeper_view, KeeperShown}
-use Rattle.cpu_words.specs.Rule.{did}
+use Rattle.cpu_words.specs.Rule.{GoesOn, by_number, did}
 use Rattle.cpu_words.specs.Steps.{Makes, KeeperMay}
 use Rattle.cpu_words.specs.Grace.{MayGlance, MayLook, MaySnapshot, due_next, LookTold, keeper_after_look}
 use Rattle.cpu_words.proofs.by_keeper.KeeperSteps.{KeeperLists, keeper_lists, with_keeper, leaves_all, keeper_makes}
@@ -49,7 +50,7 @@ look_may z k t c may s r i at fits =
     (Keeper (keeper_view (with_keeper g l) own), done.0, (refl, (done.1, change)))
 
 -- a load of a section word for no entry
-glance_may : (z : Settings) (k : KeeperView) (c : ℕ) (e : Event) → MayGlance k c → ((g : State) → at_rest g.due ≡ true → nat_lt c g.settings.cpus ≡ true → step g e ≡ Some (record { state = g; reply = Word (section_at g c) }))
+glance_may : (z : Settings) (k : KeeperView) (c : ℕ) (e : Event) → MayGlance k c → ((g : State) → at_rest g.due ≡ true → nat_lt c g.settings.cpus ≡ true → (step g e ≡ Some (record { state = g; reply = Word (section_at g c) })) × (by_number g e ≡ e))
     → KeeperMay z k (80 * c) (λ n. n) (λ n. did e (Word n)) (λ v n l. Makes e (Word n) (Keeper v) (Keeper l) × (l ≡ keeper_after_look v e (Word n)))
 glance_may z k c e may steps s r i at fits =
     let g = r.g in
@@ -60,16 +61,17 @@ glance_may z k c e may steps s r i at fits =
     let found : w ≡ section_at g c = r.words.at (section_of c) lt in
     let l = keeper_lists g in
     let own : KeeperOwn = keeper_own (keeper_after_look k e (Word w)) in
-    let made : step g e ≡ Some (record { state = with_keeper g l; reply = Word w }) = steps g (ap at_rest (sym seen.due ∙ may.rest)) (lt-ltb c g.settings.cpus lt) ∙ ap (λ n. Some (record { state = g; reply = Word n })) (sym found) in
+    let steps_here = steps g (ap at_rest (sym seen.due ∙ may.rest)) (lt-ltb c g.settings.cpus lt) in
+    let made : step g e ≡ Some (record { state = with_keeper g l; reply = Word w }) = steps_here.0 ∙ ap (λ n. Some (record { state = g; reply = Word n })) (sym found) in
     let shown : KeeperShown (with_keeper g l) (keeper_view (with_keeper g l) own) = record { is = refl; counts = had.counts; sized = had.sized; rows = had.rows; live_total = had.live_total; gives_up = had.gives_up; later = had.later; beyond = had.beyond; heard = had.heard } in
     let done = keeper_makes z s r i k (80 * c) w l e (Word w) own at made (leaves_all g l refl refl refl refl (λ t d is. is)) (λ n. refl) refl shown (loads s.words g (with_keeper g l) (80 * c) r.words refl (λ q _. refl)) in
-    (Keeper (keeper_view (with_keeper g l) own), done.0, (refl, (done.1, ap (λ (v : KeeperView). keeper_after_look v e (Word w)) (sym had.is))))
+    (Keeper (keeper_view (with_keeper g l) own), subst (λ (f : Event). GoesOn z s r (did f (Word w)) (stepped s (80 * c) w i [] (Keeper (keeper_view (with_keeper g l) own)) keeps)) steps_here.1 done.0, (refl, (done.1, ap (λ (v : KeeperView). keeper_after_look v e (Word w)) (sym had.is))))
 
 pub look_now_may : (z : Settings) (k : KeeperView) (c : ℕ) → MayGlance k c → KeeperMay z k (80 * c) (λ n. n) (λ n. did (Look None c) (Word n)) (λ v n l. Makes (Look None c) (Word n) (Keeper v) (Keeper l) × LookTold (Look None c) v n l)
-look_now_may z k c may = glance_may z k c (Look None c) may (λ g rest lt. rw (rest, lt) refl)
+look_now_may z k c may = glance_may z k c (Look None c) may (λ g rest lt. (rw (rest, lt) refl, refl))
 
 pub snapshot_now_may : (z : Settings) (k : KeeperView) (c : ℕ) → MayGlance k c → KeeperMay z k (80 * c) (λ n. n) (λ n. did (Snapshot None c) (Word n)) (λ v n l. Makes (Snapshot None c) (Word n) (Keeper v) (Keeper l) × LookTold (Snapshot None c) v n l)
-snapshot_now_may z k c may = glance_may z k c (Snapshot None c) may (λ g rest lt. rw (rest, lt) refl)
+snapshot_now_may z k c may = glance_may z k c (Snapshot None c) may (λ g rest lt. (rw (rest, lt) refl, refl))
 
 -- snapshots are due, or nothing: no total is to change
 alike_after : (z : Settings) (t c : ℕ) (due : Due) → due ≡ Snapshots t c → DueAlike (due_next z t c) due

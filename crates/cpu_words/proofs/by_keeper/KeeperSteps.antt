@@ -38,7 +38,7 @@ use Rattle.cpu_words.specs.declared.view.View.{View}
 use Rattle.cpu_words.specs.declared.view.View.TheVariants.{Keeper, Cpu, Reference, Note, Spent}
 use Rattle.cpu_words.specs.Views.{KeeperOwn, own_of, cpu_view, keeper_view, references_to, is_to, SameHand, HandFits, CpuShown, KeeperShown}
 use Rattle.cpu_words.specs.Spots.{Spot, section_of, passive_of, count_of, head_word, next_of, record_of, total_of, word_at}
-use Rattle.cpu_words.specs.Rule.{Agrees, IsFresh, Good, Ruled, GoesOn, did}
+use Rattle.cpu_words.specs.Rule.{Agrees, IsFresh, Good, Ruled, GoesOn, by_number, did}
 use Rattle.cpu_words.specs.Steps.{Makes}
 use Rattle.cpu_words.proofs.shown.Showing.{standing_in, IsBacked, Stay, shows_set}
 use Rattle.cpu_words.proofs.shown.Passes.{attached_on, attached_prefix, prefix_on, take_on}
@@ -72,9 +72,9 @@ Stayed g l t e = IsIn e (slot_at g.slots t) × ((c : ℕ) → count_at l.nets c 
 abbrev pub Came : State → KeeperLists → ℕ → Entry → Type 0
 Came g l t e = (length g.history < e.number) × ((c : ℕ) → passive_at g.passive c t ≡ 0) × ((c : ℕ) → c < g.settings.cpus → count_at l.nets c t ≡ bias)
 
--- the history grows, who comes is new, and who goes leaves no passive reference; what was collected stays so
+-- no CPU gets its seat, the history grows, who comes is new, and who goes leaves no passive reference; what was collected stays so
 pub record LeavesCpus (g : State) (l : KeeperLists) : Type 0 where
-  pub seated : g.seated ≤ l.seated
+  pub seated : l.seated ≡ g.seated
   pub more : (zs : List Change) × (l.history ≡ g.history ++ zs)
   pub stay : (t : ℕ) (e : Entry) → IsIn e (slot_at l.slots t) → Stayed g l t e ⊎ Came g l t e
   pub go : (t : ℕ) (e : Entry) → IsIn e (slot_at g.slots t) → IsIn e (slot_at l.slots t) ⊎ ((c : ℕ) → passive_at g.passive c t ≡ 0)
@@ -122,7 +122,7 @@ cpu_shown_on g l y good after leaves had =
     let zs = leaves.more.0 in
     let more : l.history ≡ g.history ++ zs = leaves.more.1 in
     let longer : length l.history ≡ length g.history + length zs = ap length more ∙ length-append g.history zs in
-    let seats : g.seated ≤ l.seated = leaves.seated in
+    let seats : l.seated ≡ g.seated = leaves.seated in
     let was : y.id < g.seated = had.seated in
     let within : seen_at g y.id ≤ length g.history = good.holds.sections.prefix y.id in
     let pass : take (seen_at g y.id) g.history ≡ take (seen_at g y.id) l.history = sym (take_on (seen_at g y.id) g.history zs within) ∙ ap (take (seen_at g y.id)) (sym more) in record {
@@ -186,17 +186,14 @@ unseated_stays g l leaves c lt fresh = record {
 pub keeper_good_after : (g : State) (l : KeeperLists) (e : Event) (r : Reply) → Good g → LeavesCpus g l → step g e ≡ Some (record { state = with_keeper g l; reply = r }) → Good (with_keeper g l)
 keeper_good_after g l e r good leaves made = record {
   holds = step_holds g (with_keeper g l) e r good.holds made;
-  fresh = λ c le lt. unseated_stays g l leaves c lt (good.fresh c (le_trans leaves.seated le) lt);
+  fresh = λ c le lt. unseated_stays g l leaves c lt (good.fresh c (subst (λ (n : ℕ). n ≤ c) leaves.seated le) lt);
 }
-  where
-    le_trans : {a b c : ℕ} → a ≤ b → b ≤ c → a ≤ c
-    le_trans p q = omega arith
 
 -- the keeper's step on a word keeps the rule, and is its event
 pub keeper_makes : (z : Settings) (s : Table ℕ View) (r : Ruled z s) (i : ℕ) (k : KeeperView) (word m : ℕ) (l : KeeperLists) (e : Event) (rep : Reply) (own : KeeperOwn)
     → get_elem? s.views i ≡ some (Keeper k) → step r.g e ≡ Some (record { state = with_keeper r.g l; reply = rep }) → LeavesCpus r.g l
     → ((n : ℕ) → sum_by (standing_of n) l.locals ≡ standing_in n r.g) → own.heard ≡ k.heard → KeeperShown (with_keeper r.g l) (keeper_view (with_keeper r.g l) own) → Agrees (set s.words word m) (with_keeper r.g l)
-    → GoesOn z s r (did e rep) (stepped s word m i [] (Keeper (keeper_view (with_keeper r.g l) own)) keeps) × Makes e rep (Keeper k) (Keeper (keeper_view (with_keeper r.g l) own))
+    → GoesOn z s r (did (by_number r.g e) rep) (stepped s word m i [] (Keeper (keeper_view (with_keeper r.g l) own)) keeps) × Makes e rep (Keeper k) (Keeper (keeper_view (with_keeper r.g l) own))
 keeper_makes z s r i k word m l e rep own at made leaves count heard shown words =
     let g = r.g in
     let g' = with_keeper g l in
@@ -212,10 +209,10 @@ keeper_makes z s r i k word m l e rep own at made leaves count heard shown words
           good = good;
           reached = (more z g g' e rep r.reached made).0;
           words = words;
-          shows = shows_set g g' r.seat s.views i (Keeper k) (Keeper w) r.shows at (keeper_stays g l r.seat i r.good good.holds leaves count had.0) (had.0, shown) (λ n. let h = count n in omega arith);
+          shows = shows_set g g' r.seat s.views i (Keeper k) (Keeper w) r.shows at (keeper_stays g l r.seat i r.good good.holds leaves count had.0) (had.0, shown) leaves.seated refl (λ n. let h = count n in omega arith);
         };
         goes_on = (more z g g' e rep r.reached made).1;
-        seated = leaves.seated;
+        seated = omega (arith, leaves.seated);
         seats = λ c lt. refl;
       },
       record { g = g; after = g'; good = r.good; good_after = good; before = was; made = made; shown = shown; same = (sym (ap (λ (v : KeeperView). v.settings) was.is), heard) },
@@ -225,7 +222,7 @@ keeper_makes z s r i k word m l e rep own at made leaves count heard shown words
 pub leaves_all : (g : State) (l : KeeperLists) → l.history ≡ g.history → l.seated ≡ g.seated → l.slots ≡ g.slots → l.nets ≡ g.nets
     → ((t c : ℕ) → (mark_at g.marks t c).collected ≡ true → (mark_at l.marks t c).collected ≡ true) → LeavesCpus g l
 leaves_all g l history seated slots nets collected = record {
-  seated = omega (arith, seated);
+  seated = seated;
   more = ([], history ∙ sym (append-nil g.history));
   stay = λ t e here. inl (subst (λ (x : List Slot). IsIn e (slot_at x t)) slots here, (λ c. ap (λ (n : List (List ℕ)). count_at n c t) nets));
   go = λ t e here. inl (subst (λ (x : List Slot). IsIn e (slot_at x t)) (sym slots) here);
@@ -237,10 +234,10 @@ leaves_all g l history seated slots nets collected = record {
 abbrev pub beside : State → List LocalPlace → Due → List (Option ℕ) → KeeperLists
 beside g locals due kept = record (keeper_lists g) { locals = locals; due = due; keeps = kept }
 
-pub beside_stays : (g : State) (locals : List LocalPlace) (due : Due) (kept : List (Option ℕ)) (seat : ℕ → ℕ) (i : ℕ) → i ≡ 0 → Stay g (with_keeper g (beside g locals due kept)) seat i
-beside_stays g locals due kept seat i mine j (Keeper k) ne sits shown backed = absurd (ne (sits ∙ sym mine))
-beside_stays g locals due kept seat i mine j (Cpu y) ne sits shown backed = record {
-  seated = shown.seated;
+-- nor does a CPU's view speak of the seats of the others
+pub cpu_beside_shown : (g : State) (n : ℕ) (locals : List LocalPlace) (due : Due) (kept : List (Option ℕ)) (y : CpuView) → (y.id < g.seated → y.id < n) → CpuShown g y → CpuShown (with_keeper g (record (beside g locals due kept) { seated = n })) y
+cpu_beside_shown g n locals due kept y more shown = record {
+  seated = more shown.seated;
   is = shown.is;
   hand = shown.hand;
   in_hand = shown.in_hand;
@@ -255,6 +252,10 @@ beside_stays g locals due kept seat i mine j (Cpu y) ne sits shown backed = reco
   references = shown.references;
   heard = shown.heard;
 }
+
+pub beside_stays : (g : State) (locals : List LocalPlace) (due : Due) (kept : List (Option ℕ)) (seat : ℕ → ℕ) (i : ℕ) → i ≡ 0 → Stay g (with_keeper g (beside g locals due kept)) seat i
+beside_stays g locals due kept seat i mine j (Keeper k) ne sits shown backed = absurd (ne (sits ∙ sym mine))
+beside_stays g locals due kept seat i mine j (Cpu y) ne sits shown backed = cpu_beside_shown g g.seated locals due kept y (λ lt. lt) shown
 beside_stays g locals due kept seat i mine j (Reference v) ne sits shown backed = record { attached = shown.attached; collected = shown.collected }
 beside_stays g locals due kept seat i mine j (Note h) ne sits shown backed = shown
 beside_stays g locals due kept seat i mine j Spent ne sits shown backed = tt

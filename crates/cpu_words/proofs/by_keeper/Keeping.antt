@@ -1,59 +1,44 @@
--- Keep by the keeper's seat: a reference's seat is joined into it, for a slot that is vacant or may be taken as vacant.
-use Rattle.std.proofs.Common.{◌++◌, ◌≡◌, ◌≢◌, inl, inr, ⊎_elim, ℕ, ◌≤◌, ◌<◌, List, set, Option, Some, None, true, refl, sym, ap, ◌∙◌, subst, arith, get_or-set_same}
+-- Keep by the keeper's seat: a reference's seat is joined into it, for a vacant slot.
+use Rattle.std.proofs.Common.{◌++◌, ◌≡◌, ◌≢◌, ⊎_elim, ℕ, ◌≤◌, ◌<◌, List, set, Option, Some, None, true, refl, sym, ap, ◌∙◌, subst, arith}
 use Rattle.std.proofs.lemmas.Bool.{lt-ltb}
 use mathlib.Core.Option.{some}
 use lib.ListN.{get_elem?}
-use Rattle.atomic_table.specs.Table.{State as Table, Joins as TableJoins}
+use Rattle.atomic_table.specs.Table.{Joins as TableJoins}
 use Rattle.atomic_table.proofs.Lists.{at_set}
 use Rattle.registry_values.specs.declared.entry.Entry.{Entry}
 use Rattle.registry_values.specs.declared.entry.Kind.TheVariants.{Driver}
 use Rattle.registry_values.specs.declared.settings.Settings.{Settings}
-use Rattle.protocol.specs.declared.event.Event.TheVariants.{Keep, Vacate}
+use Rattle.protocol.specs.declared.event.Event.TheVariants.{Keep}
 use Rattle.protocol.specs.declared.event.Reply.TheVariants.{Done}
 use Rattle.registry_values.specs.declared.slot.Slot.{Slot}
 use Rattle.registry_values.specs.declared.slot.Slot.TheVariants.{Vacant, Live, Retired}
+use Rattle.protocol.specs.declared.state.LocalPlace.{LocalPlace}
 use Rattle.protocol.specs.declared.state.LocalPlace.TheVariants.{Free, Standing}
 use Rattle.protocol.specs.declared.state.Due.TheVariants.{Rest}
 use Rattle.registry_values.specs.Slots.{slot_at, slot_of, is_driver}
 use Rattle.protocol.specs.State.{kept_at}
-use Rattle.protocol.specs.Events.{step, is_driver_slot}
+use Rattle.protocol.specs.Events.{number_standing, step, is_driver_slot}
 use Rattle.protocol.specs.Invariant.{IsIn, one_if}
 use Rattle.protocol.proofs.slots.Numbers.{slot_number}
 use Rattle.protocol.proofs.counts.Sums.{one_at, local_changed, standing_within}
-use Rattle.protocol.proofs.slots.Occupied.{in_within}
 use Rattle.cpu_words.specs.declared.view.KeeperView.{KeeperView}
 use Rattle.cpu_words.specs.declared.view.ReferenceView.{ReferenceView}
-use Rattle.cpu_words.specs.declared.view.Deed.{Deed}
 use Rattle.cpu_words.specs.declared.view.Logged.{Logged}
 use Rattle.cpu_words.specs.declared.view.View.{View}
 use Rattle.cpu_words.specs.declared.view.View.TheVariants.{Keeper, Reference, Spent}
 use Rattle.cpu_words.specs.Views.{is_to, keeper_of, reference_of}
-use Rattle.cpu_words.specs.Rule.{Ruled, GoesOn, did}
-use Rattle.cpu_words.specs.Steps.{ChangesBy, JoinsBy, JoinsOn}
-use Rattle.cpu_words.specs.Vacating.{MayVacate, keeper_after_vacate, vacant_from, as_vacant, vacate_first}
-use Rattle.cpu_words.specs.Keeping.{MayKeep, keeper_after_keep, IsVacated, with_kept}
+use Rattle.cpu_words.specs.Rule.{number_or_none, did, deeds}
+use Rattle.cpu_words.specs.Steps.{JoinsBy, JoinsOn}
+use Rattle.cpu_words.specs.Keeping.{MayKeep, keeper_after_keep, with_kept}
 use Rattle.cpu_words.proofs.shown.Placing.{agrees_same}
-use Rattle.cpu_words.proofs.laws.Reaching.{more, goes_both}
-use Rattle.cpu_words.proofs.logs.Makers.{vacates_by}
+use Rattle.cpu_words.proofs.laws.Reaching.{more}
 use Rattle.cpu_words.proofs.logs.Seats.{seat_join}
 use Rattle.cpu_words.specs.Logs.{LoggedRuled, joined_seat, spent_seat, keeps_for}
 use Rattle.cpu_words.proofs.shown.Standing.{standing_place}
 use Rattle.cpu_words.proofs.shown.Showing.{standing_in, backed, shows_join}
 use Rattle.cpu_words.proofs.by_keeper.KeeperSteps.{KeeperLists, with_keeper, leaves_all, keeper_good_after, beside, beside_stays, beside_words}
 use Rattle.cpu_words.proofs.by_keeper.KeeperSees.{seen_by_keeper}
-use Rattle.cpu_words.proofs.by_keeper.Vacating.{vacates, vacate_by, with_view, view_here, views_again, same_beside}
 use Rattle.cpu_words.proofs.by_cpu.Reading.{local_here}
-
--- the keeper is at rest, the slot is vacant and keeps nothing, and the reference is to a driver
-record MayTake (k : KeeperView) (t : ℕ) (v : ReferenceView) : Type 0 where
-  pub rest : k.due ≡ Rest
-  pub slot : t < k.settings.slots
-  pub vacant : slot_at k.slots t ≡ Vacant
-  pub nothing : kept_at k.keeps t ≡ None
-  pub driver : v.entry.rec.kind ≡ Driver
-
-abbrev taking : KeeperView → ℕ → ReferenceView → KeeperView
-taking k t v = record k { keeps = set k.keeps t (Some v.entry.number) }
 
 driver_slot : (e : Entry) (x : Slot) → IsIn e x → e.rec.kind ≡ Driver → is_driver_slot x ≡ true
 driver_slot e x here kind = ⊎_elim
@@ -61,14 +46,14 @@ driver_slot e x here kind = ⊎_elim
     (λ (retired : x ≡ Retired e). ap is_driver_slot retired ∙ ap is_driver kind)
     here
 
-keep_law : (k : KeeperView) (t : ℕ) (v : ReferenceView) → MayTake k t v → JoinsBy (Keep t) (Keeper k) (Reference v) (Keeper (taking k t v))
-keep_law k t v may g good had ref backs =
+keep_makes : (k : KeeperView) (t : ℕ) (v : ReferenceView) → MayKeep k t v → JoinsBy (Keep t) (Keeper k) (Reference v) (Keeper (keeper_after_keep k t v))
+keep_makes k t v may g good had ref backs =
     let e = v.entry in
     let n = e.number in
     let seen = seen_by_keeper g k good had in
-    let rest : g.due ≡ Rest = sym seen.due ∙ may.rest in
-    let lt : t < g.settings.slots = subst (λ (z : Settings). t < z.slots) seen.settings may.slot in
-    let vacant : slot_at g.slots t ≡ Vacant = ap (λ (x : List Slot). slot_at x t) (sym seen.slots) ∙ may.vacant in
+    let rest : g.due ≡ Rest = sym seen.due ∙ may.write.rest in
+    let lt : t < g.settings.slots = subst (λ (z : Settings). t < z.slots) seen.settings may.write.slot in
+    let vacant : slot_at g.slots t ≡ Vacant = ap (λ (x : List Slot). slot_at x t) (sym seen.slots) ∙ may.write.vacant in
     let nothing : kept_at g.keeps t ≡ None = ap (λ (x : List (Option ℕ)). kept_at x t) (sym seen.keeps) ∙ may.nothing in
     let one : one_if (is_to n e) ≡ 1 = one_at n n refl in
     let some_one : one_if (is_to n e) ≤ standing_in n g = backs n in
@@ -80,11 +65,12 @@ keep_law k t v may g good had ref backs =
     let made : step g (Keep t id) ≡ Some (record { state = with_keeper g l; reply = Done }) = rw (place.1, of, rest, lt-ltb t g.settings.slots lt, vacant, nothing, driver_slot e (slot_at g.slots e.slot) here may.driver) refl in
     record {
       id = id;
+      names = ap (λ (x : LocalPlace). number_or_none (number_standing x)) place.1;
       after = with_keeper g l;
       made = made;
       good_after = keeper_good_after g l (Keep t id) Done good (leaves_all g l refl refl refl refl (λ u d on. on)) made;
       shown = record {
-        is = ap (λ (x : KeeperView). taking x t v) had.is;
+        is = ap (λ (x : KeeperView). keeper_after_keep x t v) had.is;
         counts = had.counts;
         sized = had.sized;
         rows = had.rows;
@@ -97,21 +83,21 @@ keep_law k t v may g good had ref backs =
       count = λ m. let a = local_changed m g.locals id (Standing n) Free (standing_within g.locals id n place.1) place.1 in omega arith;
     }
 
-takes_at : (z : Settings) (i : ℕ) (k : KeeperView) (o t : ℕ) (v : ReferenceView) → MayTake k t v → JoinsOn z i (Keeper k) o (Reference v) (Keeper (taking k t v)) Spent (did (Keep t 0) Done)
-unfolding keep_law
-takes_at z i k o t v may s r at apart there =
+keeps : (z : Settings) (i : ℕ) (k : KeeperView) (o t : ℕ) (v : ReferenceView) → MayKeep k t v → JoinsOn z i (Keeper k) o (Reference v) (Keeper (keeper_after_keep k t v)) Spent (did (Keep t v.entry.number) Done)
+unfolding keep_makes
+keeps z i k o t v may s r at apart there =
     let g = r.g in
-    let both = Keeper (taking k t v) in
+    let both = Keeper (keeper_after_keep k t v) in
     let had = r.shows.fits i (Keeper k) at in
     let was : get_elem? s.views o ≡ some (Reference v) = ⊎_elim
     (λ (q : (o ≡ i) × (both ≡ Reference v)). absurd (apart q.0))
     (λ (q : (o ≢ i) × (get_elem? s.views o ≡ some (Reference v))). q.1)
     (at_set s.views i o both (Reference v) there) in
-    let law = keep_law k t v may g r.good had.1 (r.shows.fits o (Reference v) was).1 (backed g r.seat s.views o (Reference v) r.shows was) in
+    let law = keep_makes k t v may g r.good had.1 (r.shows.fits o (Reference v) was).1 (backed g r.seat s.views o (Reference v) r.shows was) in
     let locals = set g.locals law.id Free in
     let kept = set g.keeps t (Some v.entry.number) in
     record {
-      goes_on = (more z g law.after (Keep t law.id) Done r.reached law.made).1;
+      goes_on = (more z g law.after (Keep t law.id) Done r.reached law.made).1 ∙ ap (λ (n : ℕ). deeds z r.reached.events ++ did (Keep t n) Done) law.names;
       seated = omega arith;
       seats = λ c lt. refl;
       ruled = record {
@@ -121,74 +107,19 @@ takes_at z i k o t v may s r at apart there =
         good = law.good_after;
         reached = (more z g law.after (Keep t law.id) Done r.reached law.made).0;
         words = agrees_same s.words g law.after r.words refl (λ q _. beside_words g locals g.due kept q);
-        shows = shows_join g law.after r.seat s.views i (Keeper k) o (Reference v) both r.shows at apart was (beside_stays g locals g.due kept r.seat i had.0) (had.0, law.shown) law.count there;
+        shows = shows_join g law.after r.seat s.views i (Keeper k) o (Reference v) both r.shows at apart was (beside_stays g locals g.due kept r.seat i had.0) (had.0, law.shown) refl (refl, refl) law.count there;
       };
     }
-
--- from the view with the slot taken as vacant
-keeps_from : (z : Settings) (i : ℕ) (k u : KeeperView) (o t : ℕ) (v : ReferenceView) (before : List Deed)
-    → ((s : Table ℕ View) (r : Ruled z s) (id : ℕ) → get_elem? s.views id ≡ some (Keeper k) → GoesOn z s r before (with_view s id (Keeper u))) → MayTake u t v → JoinsOn z i (Keeper k) o (Reference v) (Keeper (taking u t v)) Spent (before ++ did (Keep t 0) Done)
-keeps_from z i k u o t v before first may s r at apart there =
-    let both = Keeper (taking u t v) in
-    let a = first s r i at in
-    let again : set (set s.views i (Keeper u)) i both ≡ set s.views i both = views_again s.views i (Keeper u) both in
-    let there' : get_elem? (set (set s.views i (Keeper u)) i both) o ≡ some (Reference v) = ap (λ (l : List View). get_elem? l o) again ∙ there in
-    let b = takes_at z i u o t v may (with_view s i (Keeper u)) a.ruled (view_here s.views i (Keeper k) (Keeper u) at) apart there' in
-    subst (λ (l : List View). GoesOn z s r (before ++ did (Keep t 0) Done) (record { words = s.words; homes = s.homes; views = set l o Spent })) again (goes_both z s (with_view s i (Keeper u)) _ r before (did (Keep t 0) Done) a b)
-
--- what Keep asks, of a slot that is vacant and of one that is drained
-
-now_vacant : (k : KeeperView) (t : ℕ) (v : ReferenceView) → MayKeep k t v → slot_at k.slots t ≡ Vacant → MayTake k t v
-now_vacant k t v may vacant = record { rest = may.write.rest; slot = may.write.slot; vacant = vacant; nothing = may.nothing; driver = may.driver }
-
-once_vacated : (k : KeeperView) (t : ℕ) (v : ReferenceView) → MayKeep k t v → MayVacate k t → MayTake (keeper_after_vacate k t) t v
-once_vacated k t v may drained =
-    let retired = drained.drained.retired in
-    record { rest = may.write.rest; slot = may.write.slot; vacant = get_or-set_same k.slots t Vacant Vacant (in_within k.slots t retired.0 (inr retired.1)); nothing = may.nothing; driver = may.driver }
-
-vacant_is : (k : KeeperView) (t : ℕ) → slot_at k.slots t ≡ Vacant → k ≡ as_vacant k t
-vacant_is k t vacant = ap (λ (x : Slot). vacant_from x k t) (sym vacant)
-
-vacated_is : (k : KeeperView) (t : ℕ) → MayVacate k t → keeper_after_vacate k t ≡ as_vacant k t
-vacated_is k t drained = ap (λ (x : Slot). vacant_from x k t) (sym drained.drained.retired.1)
-
--- the view after it, by the view with the slot taken as vacant
-kept_is : (k u : KeeperView) (t : ℕ) (v : ReferenceView) → u ≡ as_vacant k t → taking u t v ≡ keeper_after_keep k t v
-kept_is k u t v same = ap (λ (x : KeeperView). taking x t v) same ∙ ap (λ (x : List (Option ℕ)). record (as_vacant k t) { keeps = set x t (Some v.entry.number) }) (same_beside (slot_at k.slots t) k t).2
-
-keeps : (z : Settings) (i : ℕ) (k : KeeperView) (o t : ℕ) (v : ReferenceView) → MayKeep k t v → JoinsOn z i (Keeper k) o (Reference v) (Keeper (keeper_after_keep k t v)) Spent (vacate_first (slot_at k.slots t) t (did (Keep t 0) Done))
-keeps z i k o t v may = ⊎_elim
-    (λ (vacant : slot_at k.slots t ≡ Vacant). subst (λ (w : KeeperView). JoinsOn z i (Keeper k) o (Reference v) (Keeper w) Spent (vacate_first (slot_at k.slots t) t (did (Keep t 0) Done))) (kept_is k k t v (vacant_is k t vacant))
-    (subst (λ (x : Slot). JoinsOn z i (Keeper k) o (Reference v) (Keeper (taking k t v)) Spent (vacate_first x t (did (Keep t 0) Done))) (sym vacant) (takes_at z i k o t v (now_vacant k t v may vacant))))
-    (λ (drained : MayVacate k t). subst (λ (w : KeeperView). JoinsOn z i (Keeper k) o (Reference v) (Keeper w) Spent (vacate_first (slot_at k.slots t) t (did (Keep t 0) Done))) (kept_is k (keeper_after_vacate k t) t v (vacated_is k t drained))
-    (subst (λ (x : Slot). JoinsOn z i (Keeper k) o (Reference v) (Keeper (taking (keeper_after_vacate k t) t v)) Spent (vacate_first x t (did (Keep t 0) Done))) (sym drained.drained.retired.1)
-    (keeps_from z i k (keeper_after_vacate k t) o t v (did (Vacate t) Done) (λ s r id at. (vacates z k t drained s r id at).0) (once_vacated k t v may drained))))
-    may.write.vacant
-
-pub keep_makes : (k : KeeperView) (t : ℕ) (v : ReferenceView) → MayKeep k t v → JoinsBy (Keep t) (Keeper (as_vacant k t)) (Reference v) (Keeper (keeper_after_keep k t v))
-keep_makes k t v may = ⊎_elim
-    (λ (vacant : slot_at k.slots t ≡ Vacant). by k (vacant_is k t vacant) (now_vacant k t v may vacant))
-    (λ (drained : MayVacate k t). by (keeper_after_vacate k t) (vacated_is k t drained) (once_vacated k t v may drained))
-    may.write.vacant
-  where
-    by : (u : KeeperView) → u ≡ as_vacant k t → MayTake u t v → JoinsBy (Keep t) (Keeper (as_vacant k t)) (Reference v) (Keeper (keeper_after_keep k t v))
-    by u same take = subst (λ (p : KeeperView × KeeperView). JoinsBy (Keep t) (Keeper p.0) (Reference v) (Keeper p.1)) (λ j. (same j, kept_is k u t v same j)) (keep_law u t v take)
-
-pub is_vacated : (k : KeeperView) (t : ℕ) (v : ReferenceView) → MayKeep k t v → IsVacated k t
-is_vacated k t v may = ⊎_elim
-    (λ (vacant : slot_at k.slots t ≡ Vacant). inl vacant)
-    (λ (drained : MayVacate k t). inr (subst (λ (w : KeeperView). ChangesBy (Vacate t) (Keeper k) (Keeper w)) (vacated_is k t drained) (vacate_by k t drained)))
-    may.write.vacant
 
 -- the same of seats' views
 pub keeps_seats : (z : Settings) (i : ℕ) (x : Logged) (o : ℕ) (u : Logged) (named t : ℕ) (k : KeeperView) (v : ReferenceView) → named ≡ t → x ≡ record x { view = Keeper (keeper_of x.view) } → keeper_of x.view ≡ k
     → u ≡ record u { view = Reference (reference_of u.view) } → reference_of u.view ≡ v → MayKeep k t v → TableJoins (LoggedRuled z) i x o u (joined_seat (with_kept named) (keeps_for named) x u) spent_seat
 keeps_seats z i x o u named t k v is keeper k_is ref v_is may =
     subst (λ (m : ℕ). TableJoins (LoggedRuled z) i x o u (joined_seat (with_kept m) (keeps_for m) x u) spent_seat) (sym is)
-    (seat_join z i o x u (Keeper k) (Reference v) (with_kept t) (keeps_for t) (vacate_first (slot_at k.slots t) t (did (Keep t 0) Done)) (keeper ∙ ap (λ (y : KeeperView). record x { view = Keeper y }) k_is)
-    (ref ∙ ap (λ (y : ReferenceView). record u { view = Reference y }) v_is) tt (vacates_by (slot_at k.slots t) t (did (Keep t 0) Done) (refl, tt)) refl (keeps z i k o t v may))
+    (seat_join z i o x u (Keeper k) (Reference v) (with_kept t) (keeps_for t) (did (Keep t v.entry.number) Done) (keeper ∙ ap (λ (y : KeeperView). record x { view = Keeper y }) k_is)
+    (ref ∙ ap (λ (y : ReferenceView). record u { view = Reference y }) v_is) tt (refl, tt) refl (keeps z i k o t v may))
 
-pub keep_by : (x u y : View) (named t : ℕ) (k : KeeperView) (v : ReferenceView) → named ≡ t → keeper_of x ≡ k → reference_of u ≡ v → y ≡ with_kept named x u → MayKeep k t v → JoinsBy (Keep t) (Keeper (as_vacant k t)) (Reference v) (Keeper (keeper_of y))
+pub keep_by : (x u y : View) (named t : ℕ) (k : KeeperView) (v : ReferenceView) → named ≡ t → keeper_of x ≡ k → reference_of u ≡ v → y ≡ with_kept named x u → MayKeep k t v → JoinsBy (Keep t) (Keeper k) (Reference v) (Keeper (keeper_of y))
 keep_by x u y named t k v same k_is v_is y_is may =
     let is : keeper_of y ≡ keeper_after_keep k t v = ap keeper_of y_is ∙ (λ j. keeper_after_keep (k_is j) (same j) (v_is j)) in
-    subst (λ w. JoinsBy (Keep t) (Keeper (as_vacant k t)) (Reference v) (Keeper w)) (sym is) (keep_makes k t v may)
+    subst (λ w. JoinsBy (Keep t) (Keeper k) (Reference v) (Keeper w)) (sym is) (keep_makes k t v may)

@@ -1,10 +1,8 @@
--- The stores of the keeper into a slot that is vacant, or may be taken as vacant.
-use Rattle.std.proofs.Common.{◌≡◌, ◌≢◌, inl, inr, ⊎_elim, ℕ, zero, suc, ◌+◌, ◌-◌, ◌*◌, ◌<◌, List, [], length, get_or, set, Some, false, nat_lt, refl, sym, ap, ◌∙◌, subst, arith, length-set, get_or-set_same, get_or-set_other}
+-- The stores of the keeper into a vacant slot.
+use Rattle.std.proofs.Common.{◌≡◌, ◌≢◌, ⊎_elim, ℕ, zero, suc, ◌+◌, ◌-◌, ◌*◌, ◌<◌, List, [], length, get_or, set, Some, false, nat_lt, refl, sym, ap, ◌∙◌, subst, arith, length-set, get_or-set_same, get_or-set_other}
 use Rattle.std.proofs.lemmas.Bool.{cases_eq, lt-ltb, le-ltb}
 use Rattle.registry_values.specs.declared.settings.Settings.{Settings}
-use Rattle.atomic_table.specs.Table.{keeps, stepped}
-use Rattle.protocol.specs.declared.event.Event.{Event}
-use Rattle.protocol.specs.declared.event.Event.TheVariants.{StoreSlot, StoreNext, Vacate}
+use Rattle.protocol.specs.declared.event.Event.TheVariants.{StoreSlot, StoreNext}
 use Rattle.protocol.specs.declared.event.Reply.TheVariants.{Done}
 use Rattle.protocol.specs.declared.state.RecordWords.{RecordWords}
 use Rattle.registry_values.specs.declared.slot.Slot.{Slot}
@@ -15,26 +13,18 @@ use Rattle.registry_values.specs.Slots.{slot_at}
 use Rattle.protocol.specs.Events.{step, word, with_word}
 use Rattle.protocol.proofs.slots.Cells.{by_cell, cell_here, cell_other}
 use Rattle.protocol.proofs.keeps.ListKeeps.{rows_cell}
-use Rattle.protocol.proofs.slots.Occupied.{in_within}
 use Rattle.registry_values.proofs.Fit.{ranges}
 use Rattle.cpu_words.specs.declared.view.KeeperView.{KeeperView}
 use Rattle.cpu_words.specs.declared.view.View.TheVariants.{Keeper}
 use Rattle.cpu_words.specs.Spots.{Spot, section_of, passive_of, count_of, head_word, next_of, record_of, total_of, IsSpot, word_at}
-use Rattle.cpu_words.specs.Views.{KeeperOwn, keeper_of, keeper_own, keeper_view, KeeperShown}
-use Rattle.cpu_words.specs.Rule.{Agrees, Good, GoesOn, did}
+use Rattle.cpu_words.specs.Views.{KeeperOwn, keeper_own, keeper_view, KeeperShown}
+use Rattle.cpu_words.specs.Rule.{Agrees, Good, did}
 use Rattle.cpu_words.specs.Steps.{Makes, KeeperStores}
-use Rattle.cpu_words.specs.Vacating.{MayVacate, keeper_after_vacate, vacant_from, as_vacant, vacate_first, MayWrite, IsTakenAsVacant}
+use Rattle.cpu_words.specs.Vacating.{MayWrite}
 use Rattle.cpu_words.specs.Storing.{HasRecordWord, HasCountWord, HasLink}
 use Rattle.cpu_words.proofs.shown.Placing.{agrees_set}
 use Rattle.cpu_words.proofs.by_keeper.KeeperSteps.{KeeperLists, keeper_lists, with_keeper, leaves_all, keeper_makes}
 use Rattle.cpu_words.proofs.by_keeper.KeeperSees.{SeenByKeeper, seen_by_keeper}
-use Rattle.cpu_words.proofs.by_keeper.Vacating.{vacates, moves_after, same_beside}
-
--- the keeper is at rest, and the slot is vacant
-record MayStore (k : KeeperView) (t : ℕ) : Type 0 where
-  pub rest : k.due ≡ Rest
-  pub slot : t < k.settings.slots
-  pub vacant : slot_at k.slots t ≡ Vacant
 
 -- what such a store needs of the core
 record Stores (g : State) (k : KeeperView) (t : ℕ) : Type 0 where
@@ -43,7 +33,7 @@ record Stores (g : State) (k : KeeperView) (t : ℕ) : Type 0 where
   pub slot : t < g.settings.slots
   pub vacant : slot_at g.slots t ≡ Vacant
 
-stores_of : (g : State) (k : KeeperView) (t : ℕ) → Good g → KeeperShown g k → MayStore k t → Stores g k t
+stores_of : (g : State) (k : KeeperView) (t : ℕ) → Good g → KeeperShown g k → MayWrite k t → Stores g k t
 stores_of g k t good had may =
     let seen = seen_by_keeper g k good had in record {
       seen = seen;
@@ -51,24 +41,6 @@ stores_of g k t good had may =
       slot = subst (λ (z : Settings). t < z.slots) seen.settings may.slot;
       vacant = ap (λ (x : List Slot). slot_at x t) (sym seen.slots) ∙ may.vacant;
     }
-
--- a store into a slot that may be taken as vacant, from one into a vacant slot
-taking : (z : Settings) (k : KeeperView) (t i v : ℕ) (e : Event) (T : KeeperView → KeeperView → Type 0) → MayWrite k t → ((x : KeeperView) → MayStore x t → KeeperStores z x i v (λ _. did e Done) (λ x n y. T x y))
-    → KeeperStores z k i v (λ _. vacate_first (slot_at k.slots t) t (did e Done)) (λ x n y. IsTakenAsVacant k t × T (as_vacant k t) y)
-taking z k t i v e T may stores = ⊎_elim
-    (λ (vacant : slot_at k.slots t ≡ Vacant).
-    let same : k ≡ as_vacant k t = ap (λ (x : Slot). vacant_from x k t) (sym vacant) in
-    λ s r id at fits.
-    let done = stores k (record { rest = may.rest; slot = may.slot; vacant = vacant }) s r id at fits in
-    (done.0, subst (λ (x : Slot). GoesOn z s r (vacate_first x t (did e Done)) (stepped s i v id [] done.0 keeps)) (sym vacant) done.1, (done.2.0, (inl vacant, subst (λ (x : KeeperView). T x (keeper_of done.0)) same done.2.1))))
-    (λ (drained : MayVacate k t).
-    let retired = drained.drained.retired in
-    let same : keeper_after_vacate k t ≡ as_vacant k t = ap (λ (x : Slot). vacant_from x k t) (sym retired.1) in
-    let now : MayStore (keeper_after_vacate k t) t = record { rest = may.rest; slot = may.slot; vacant = get_or-set_same k.slots t Vacant Vacant (in_within k.slots t retired.0 (inr retired.1)) } in
-    λ s r id at fits.
-    let done = moves_after z (Keeper k) (Keeper (keeper_after_vacate k t)) i (λ _. v) (did (Vacate t) Done) (λ _. did e Done) (λ _ w. (w ≡ Keeper (keeper_of w)) × T (keeper_after_vacate k t) (keeper_of w)) (Makes (Vacate t) Done (Keeper k) (Keeper (keeper_after_vacate k t))) (vacates z k t drained) (stores (keeper_after_vacate k t) now) s r id at fits in
-    (done.0, subst (λ (x : Slot). GoesOn z s r (vacate_first x t (did e Done)) (stepped s i v id [] done.0 keeps)) (sym retired.1) done.1, (done.2.1.0, (inr (subst (λ (x : KeeperView). Makes (Vacate t) Done (Keeper k) (Keeper x)) same done.2.0), subst (λ (x : KeeperView). T x (keeper_of done.0)) same done.2.1.1))))
-    may.vacant
 
 -- Links
 
@@ -84,8 +56,8 @@ link_words words g t v good slot agrees = agrees_set words g (with_keeper g (rec
     other (record_of u j) here ne = refl
     other (total_of u) here ne = refl
 
-link_may : (z : Settings) (t v : ℕ) (k : KeeperView) → MayStore k t → KeeperStores z k (656 + 8 * t) v (λ _. did (StoreNext t v) Done) (λ x n y. Makes (StoreNext t v) Done (Keeper x) (Keeper y) × (y ≡ record x { next = set x.next t v }))
-link_may z t v k may s r i at fits =
+pub store_next_may : (z : Settings) (k : KeeperView) (t v : ℕ) → MayWrite k t → KeeperStores z k (656 + 8 * t) v (λ _. did (StoreNext t v) Done) (λ x n y. Makes (StoreNext t v) Done (Keeper x) (Keeper y) × HasLink x t v y)
+store_next_may z k t v may s r i at fits =
     let g = r.g in
     let had : KeeperShown g k = (r.shows.fits i (Keeper k) at).1 in
     let on = stores_of g k t r.good had may in
@@ -95,12 +67,6 @@ link_may z t v k may s r i at fits =
     let shown : KeeperShown (with_keeper g l) (keeper_view (with_keeper g l) own) = record { is = refl; counts = had.counts; sized = had.sized; rows = had.rows; live_total = had.live_total; gives_up = had.gives_up; later = had.later; beyond = had.beyond; heard = had.heard } in
     let done = keeper_makes z s r i k (656 + 8 * t) v l (StoreNext t v) Done own at made (leaves_all g l refl refl refl refl (λ u d is. is)) (λ n. refl) refl shown (link_words s.words g t v r.good on.slot r.words) in
     (Keeper (keeper_view (with_keeper g l) own), done.0, (refl, (done.1, ap (λ (x : KeeperView). record x { next = set x.next t v }) (sym had.is))))
-
-pub store_next_may : (z : Settings) (k : KeeperView) (t v : ℕ) → MayWrite k t → KeeperStores z k (656 + 8 * t) v (λ _. vacate_first (slot_at k.slots t) t (did (StoreNext t v) Done)) (λ x n y. IsTakenAsVacant x t × Makes (StoreNext t v) Done (Keeper (as_vacant x t)) (Keeper y) × HasLink x t v y)
-store_next_may z k t v may s r i at fits =
-    let done = taking z k t (656 + 8 * t) v (StoreNext t v) (λ x y. Makes (StoreNext t v) Done (Keeper x) (Keeper y) × (y ≡ record x { next = set x.next t v })) may (link_may z t v) s r i at fits in
-    let same = (same_beside (slot_at k.slots t) k t).0 in
-    (done.0, done.1, (done.2.0, (done.2.1.0, done.2.1.1.0, done.2.1.1.1 ∙ ap (λ (n : List ℕ). record (as_vacant k t) { next = set n t v }) same)))
 
 -- Record words
 
@@ -161,8 +127,8 @@ record_words words g t j v good slot lt agrees = agrees_set words g (with_keeper
         (cases_eq u t)
     other (total_of u) there ne = refl
 
-record_may : (z : Settings) (t j v : ℕ) → j < 5 → (k : KeeperView) → MayStore k t → KeeperStores z k (657 + 8 * t + j) v (λ _. did (StoreSlot t j v) Done) (λ x n y. Makes (StoreSlot t j v) Done (Keeper x) (Keeper y) × (y ≡ record x { rows = set x.rows t (with_word (row_at x.rows t) j v) }))
-record_may z t j v lt k may s r i at fits =
+pub store_record_may : (z : Settings) (k : KeeperView) (t j v : ℕ) → j < 5 → MayWrite k t → KeeperStores z k (657 + 8 * t + j) v (λ _. did (StoreSlot t j v) Done) (λ x n y. Makes (StoreSlot t j v) Done (Keeper x) (Keeper y) × HasRecordWord x t j v y)
+store_record_may z k t j v lt may s r i at fits =
     let g = r.g in
     let had : KeeperShown g k = (r.shows.fits i (Keeper k) at).1 in
     let on = stores_of g k t r.good had may in
@@ -172,12 +138,6 @@ record_may z t j v lt k may s r i at fits =
     let shown : KeeperShown (with_keeper g l) (keeper_view (with_keeper g l) own) = record { is = refl; counts = had.counts; sized = had.sized; rows = had.rows; live_total = had.live_total; gives_up = had.gives_up; later = had.later; beyond = had.beyond; heard = had.heard } in
     let done = keeper_makes z s r i k (657 + 8 * t + j) v l (StoreSlot t j v) Done own at made (leaves_all g l refl refl refl refl (λ u d is. is)) (λ n. refl) refl shown (record_words s.words g t j v r.good on.slot lt r.words) in
     (Keeper (keeper_view (with_keeper g l) own), done.0, (refl, (done.1, ap (λ (x : KeeperView). record x { rows = set x.rows t (with_word (row_at x.rows t) j v) }) (sym had.is))))
-
-pub store_record_may : (z : Settings) (k : KeeperView) (t j v : ℕ) → j < 5 → MayWrite k t → KeeperStores z k (657 + 8 * t + j) v (λ _. vacate_first (slot_at k.slots t) t (did (StoreSlot t j v) Done)) (λ x n y. IsTakenAsVacant x t × Makes (StoreSlot t j v) Done (Keeper (as_vacant x t)) (Keeper y) × HasRecordWord x t j v y)
-store_record_may z k t j v lt may s r i at fits =
-    let done = taking z k t (657 + 8 * t + j) v (StoreSlot t j v) (λ x y. Makes (StoreSlot t j v) Done (Keeper x) (Keeper y) × (y ≡ record x { rows = set x.rows t (with_word (row_at x.rows t) j v) })) may (record_may z t j v lt) s r i at fits in
-    let same = (same_beside (slot_at k.slots t) k t).1 in
-    (done.0, done.1, (done.2.0, (done.2.1.0, done.2.1.1.0, done.2.1.1.1 ∙ ap (λ (n : List RecordWords). record (as_vacant k t) { rows = set n t (with_word (row_at n t) j v) }) same)))
 
 -- Count words
 
@@ -214,12 +174,12 @@ counts_follow g k t c v good had slot lt d u vacant =
     (cell_here 0 g.counts t c v in_core (omega (arith, row, few, lt)) ∙ sym (cell_here 0 k.counts t c v in_own (omega (arith, own_row, few, lt))))
     (λ off. cell_other 0 g.counts t c v u d off ∙ had.counts d u vacant ∙ sym (cell_other 0 k.counts t c v u d off))
 
-count_may : (z : Settings) (t c v : ℕ) → c < z.cpus → (k : KeeperView) → MayStore k t → KeeperStores z k (80 * c + 33 + t) v (λ _. did (StoreSlot t (5 + c) v) Done) (λ x n y. Makes (StoreSlot t (5 + c) v) Done (Keeper x) (Keeper y) × (y ≡ record x { counts = with_cell x.counts t c v }))
-count_may z t c v within k may s r i at fits =
+pub store_count_may : (z : Settings) (k : KeeperView) (t c v : ℕ) → c < k.settings.cpus → MayWrite k t → KeeperStores z k (80 * c + 33 + t) v (λ _. did (StoreSlot t (5 + c) v) Done) (λ x n y. Makes (StoreSlot t (5 + c) v) Done (Keeper x) (Keeper y) × HasCountWord x t ((5 + c) - 5) v y)
+store_count_may z k t c v within may s r i at fits =
     let g = r.g in
     let had : KeeperShown g k = (r.shows.fits i (Keeper k) at).1 in
     let on = stores_of g k t r.good had may in
-    let lt : c < g.settings.cpus = subst (λ (a : Settings). c < a.cpus) (sym r.settings) within in
+    let lt : c < g.settings.cpus = subst (λ (a : Settings). c < a.cpus) on.seen.settings within in
     let l = with_count g t c v in
     let own : KeeperOwn = record (keeper_own k) { counts = with_cell k.counts t c v } in
     let past : nat_lt (5 + c) 5 ≡ false = le-ltb (5 + c) 5 (omega arith) in
@@ -227,13 +187,4 @@ count_may z t c v within k may s r i at fits =
     let made : step g (StoreSlot t (5 + c) v) ≡ Some (record { state = with_keeper g l; reply = Done }) = rw (past, back, on.rest, lt-ltb t g.settings.slots on.slot, on.vacant, lt-ltb c g.settings.cpus lt) refl in
     let shown : KeeperShown (with_keeper g l) (keeper_view (with_keeper g l) own) = record { is = refl; counts = counts_follow g k t c v r.good had on.slot lt; sized = length-set k.counts t _ ∙ had.sized; rows = rows_cell k.counts t c v had.rows; live_total = had.live_total; gives_up = had.gives_up; later = had.later; beyond = had.beyond; heard = had.heard } in
     let done = keeper_makes z s r i k (80 * c + 33 + t) v l (StoreSlot t (5 + c) v) Done own at made (leaves_all g l refl refl refl refl (λ u d is. is)) (λ n. refl) refl shown (count_words s.words g t c v r.good on.slot lt r.words) in
-    (Keeper (keeper_view (with_keeper g l) own), done.0, (refl, (done.1, ap (λ (x : KeeperView). record x { counts = with_cell k.counts t c v }) (sym had.is))))
-
-pub store_count_may : (z : Settings) (k : KeeperView) (t c v : ℕ) → c < k.settings.cpus → MayWrite k t
-    → KeeperStores z k (80 * c + 33 + t) v (λ _. vacate_first (slot_at k.slots t) t (did (StoreSlot t (5 + c) v) Done)) (λ x n y. IsTakenAsVacant x t × Makes (StoreSlot t (5 + c) v) Done (Keeper (as_vacant x t)) (Keeper y) × HasCountWord x t ((5 + c) - 5) v y)
-store_count_may z k t c v lt may s r i at fits =
-    let seen = seen_by_keeper r.g k r.good (r.shows.fits i (Keeper k) at).1 in
-    let within : c < z.cpus = subst (λ (a : Settings). c < a.cpus) (seen.settings ∙ r.settings) lt in
-    let done = taking z k t (80 * c + 33 + t) v (StoreSlot t (5 + c) v) (λ x y. Makes (StoreSlot t (5 + c) v) Done (Keeper x) (Keeper y) × (y ≡ record x { counts = with_cell x.counts t c v })) may (count_may z t c v within) s r i at fits in
-    let back : c ≡ (5 + c) - 5 = omega arith in
-    (done.0, done.1, (done.2.0, (done.2.1.0, done.2.1.1.0, done.2.1.1.1 ∙ ap (λ d. record (as_vacant k t) { counts = with_cell (as_vacant k t).counts t d v }) back)))
+    (Keeper (keeper_view (with_keeper g l) own), done.0, (refl, (done.1, ap (λ (x : KeeperView). record x { counts = with_cell k.counts t c v }) (sym had.is) ∙ ap (λ d. record k { counts = with_cell k.counts t d v }) (sym back))))

@@ -1,5 +1,5 @@
 -- Totals on the words: what was collected is added, and a reference that is given up is subtracted.
-use Rattle.std.proofs.Common.{◌≡◌, ◌≢◌, inl, inr, ⊎_elim, ℕ, ◌+◌, ◌-◌, ◌%◌, ◌^◌, ◌≤◌, ◌<◌, ◌==◌, List, [], length, get_or, set, Some, Bool, true, false, cond, eq-eqb, ne_eqb, refl, sym, ap, ◌∙◌, subst, arith}
+use Rattle.std.proofs.Common.{◌≡◌, ◌≢◌, inl, inr, ⊎_elim, ℕ, ◌+◌, ◌-◌, ◌%◌, ◌^◌, ◌≤◌, ◌<◌, ◌==◌, List, [], ◌++◌, length, get_or, set, Some, Bool, true, false, cond, eq-eqb, ne_eqb, refl, sym, ap, ◌∙◌, subst, arith}
 use Rattle.std.proofs.lemmas.Bool.{cases_eq, cases_lt}
 use Rattle.std.specs.Prelude.{slice_index}
 use mathlib.Core.Option.{some}
@@ -12,6 +12,7 @@ use Rattle.registry_values.specs.declared.settings.Settings.{Settings}
 use Rattle.registry_values.specs.declared.mark.Mark.{Mark}
 use Rattle.registry_values.specs.declared.slot.Slot.{Slot}
 use Rattle.registry_values.specs.declared.slot.Slot.TheVariants.{Live, Retired}
+use Rattle.protocol.specs.declared.state.LocalPlace.{LocalPlace}
 use Rattle.protocol.specs.declared.state.LocalPlace.TheVariants.{Free, Standing}
 use Rattle.protocol.specs.declared.state.Due.TheVariants.{Rest, Adding, Subtracting}
 use Rattle.protocol.specs.declared.event.Event.TheVariants.{TotalAdd, TotalSub, JoinKeeper}
@@ -20,7 +21,7 @@ use Rattle.protocol.specs.State.{State, mark_at, total_at}
 use Rattle.registry_values.specs.Balances.{bias}
 use Rattle.registry_values.specs.Marks.{no_mark, is_collected, is_some_collected}
 use Rattle.registry_values.specs.Slots.{slot_at, slot_of}
-use Rattle.protocol.specs.Events.{step, total_add, total_sub}
+use Rattle.protocol.specs.Events.{number_standing, step, total_add, total_sub}
 use Rattle.protocol.specs.Invariant.{IsIn, one_if, subtraction_due_at, addition_due_at, is_adding_at}
 use Rattle.protocol.proofs.history.History.{at_within, one_entry}
 use Rattle.protocol.proofs.slots.Occupied.{attached_in, one_in, one_number, in_within}
@@ -39,7 +40,7 @@ use Rattle.cpu_words.specs.declared.view.View.{View}
 use Rattle.cpu_words.specs.declared.view.View.TheVariants.{Keeper, Reference, Spent}
 use Rattle.cpu_words.specs.Spots.{Spot, section_of, passive_of, count_of, head_word, next_of, record_of, total_of, word_at}
 use Rattle.cpu_words.specs.Views.{KeeperOwn, keeper_own, keeper_view, number_at, one_more, is_to, IsCollectedFor, KeeperShown, ReferenceShown, GivesUp, keeper_of, reference_of}
-use Rattle.cpu_words.specs.Rule.{Agrees, Good, did}
+use Rattle.cpu_words.specs.Rule.{Agrees, Good, number_or_none, did, deeds}
 use Rattle.cpu_words.specs.Steps.{Makes, JoinsBy, JoinsOn, KeeperMay, KeeperStores}
 use Rattle.cpu_words.specs.Draining.{MayTotalAdd, TotalAddTold, MayTotalSub, TotalSubTold, MayJoinKeeper, keeper_after_join, with_given_up}
 use Rattle.cpu_words.proofs.laws.Reaching.{more}
@@ -147,7 +148,7 @@ number_in_history : (g : State) (t : ℕ) (e : Entry) → Good g → IsIn e (slo
 number_in_history g t e good here = (at_within g.history e.number (Attach e) (attached_in g.history g.slots t e good.holds.slots here).0).1
 
 -- 1 at the slot t, where a subtraction is due, and 0 at the others
-abbrev one_due : ℕ → ℕ → ℕ
+abbrev pub one_due : ℕ → ℕ → ℕ
 one_due t u = subtraction_due_at u (Subtracting t)
 
 -- one more reference to the entry e of t is given up: what is counted of all occupants
@@ -168,7 +169,7 @@ one_given g t e given_up good here u f there =
     (cases_eq u t)
 
 -- the total of t is one less: what the totals of all slots were
-one_subtracted : (totals : List ℕ) (t : ℕ) → t < length totals → 0 < total_at totals t → (u : ℕ) → total_at (set totals t (total_at totals t - 1)) u + one_due t u ≡ total_at totals u
+pub one_subtracted : (totals : List ℕ) (t : ℕ) → t < length totals → 0 < total_at totals t → (u : ℕ) → total_at (set totals t (total_at totals t - 1)) u + one_due t u ≡ total_at totals u
 one_subtracted totals t lt some_left u = ⊎_elim
     (λ (is : u ≡ t).
     let new = ap (total_at (set totals t (total_at totals t - 1))) is ∙ total_here totals t (total_at totals t - 1) lt in
@@ -303,6 +304,7 @@ join_keeper_law k v may g good had ref backs =
     let made : step g (JoinKeeper id) ≡ Some (record { state = with_keeper g l; reply = Done }) = rw (place.1, of, there.retired, rest, there.some_one) refl in
     record {
       id = id;
+      names = ap (λ (x : LocalPlace). number_or_none (number_standing x)) place.1;
       after = with_keeper g l;
       made = made;
       good_after = keeper_good_after g l (JoinKeeper id) Done good (leaves_all g l refl refl refl refl (λ u d on. on)) made;
@@ -328,7 +330,7 @@ join_keeper_law k v may g good had ref backs =
       count = λ m. let a = local_changed m g.locals id (Standing n) Free (standing_within g.locals id n place.1) place.1 in omega arith;
     }
 
-joins_at : (z : Settings) (i : ℕ) (k : KeeperView) (o : ℕ) (v : ReferenceView) → MayJoinKeeper k v → JoinsOn z i (Keeper k) o (Reference v) (Keeper (keeper_after_join k v)) Spent (did (JoinKeeper 0) Done)
+joins_at : (z : Settings) (i : ℕ) (k : KeeperView) (o : ℕ) (v : ReferenceView) → MayJoinKeeper k v → JoinsOn z i (Keeper k) o (Reference v) (Keeper (keeper_after_join k v)) Spent (did (JoinKeeper v.entry.number) Done)
 unfolding join_keeper_law
 joins_at z i k o v may s r at apart there =
     let g = r.g in
@@ -340,7 +342,7 @@ joins_at z i k o v may s r at apart there =
     (at_set s.views i o both (Reference v) there) in
     let law = join_keeper_law k v may g r.good had.1 (r.shows.fits o (Reference v) was).1 (backed g r.seat s.views o (Reference v) r.shows was) in
     record {
-      goes_on = (more z g law.after (JoinKeeper law.id) Done r.reached law.made).1;
+      goes_on = (more z g law.after (JoinKeeper law.id) Done r.reached law.made).1 ∙ ap (λ (n : ℕ). deeds z r.reached.events ++ did (JoinKeeper n) Done) law.names;
       seated = omega arith;
       seats = λ c lt. refl;
       ruled = record {
@@ -350,7 +352,7 @@ joins_at z i k o v may s r at apart there =
         good = law.good_after;
         reached = (more z g law.after (JoinKeeper law.id) Done r.reached law.made).0;
         words = agrees_same s.words g law.after r.words refl (λ q _. beside_words g (set g.locals law.id Free) (Subtracting v.entry.slot) g.keeps q);
-        shows = shows_join g law.after r.seat s.views i (Keeper k) o (Reference v) both r.shows at apart was (beside_stays g (set g.locals law.id Free) (Subtracting v.entry.slot) g.keeps r.seat i had.0) (had.0, law.shown) law.count there;
+        shows = shows_join g law.after r.seat s.views i (Keeper k) o (Reference v) both r.shows at apart was (beside_stays g (set g.locals law.id Free) (Subtracting v.entry.slot) g.keeps r.seat i had.0) (had.0, law.shown) refl (refl, refl) law.count there;
       };
     }
 
@@ -358,7 +360,7 @@ joins_at z i k o v may s r at apart there =
 pub joins_keeper : (z : Settings) (i : ℕ) (x : Logged) (o : ℕ) (u : Logged) (k : KeeperView) (v : ReferenceView) → x ≡ record x { view = Keeper (keeper_of x.view) } → keeper_of x.view ≡ k
     → u ≡ record u { view = Reference (reference_of u.view) } → reference_of u.view ≡ v → MayJoinKeeper k v → TableJoins (LoggedRuled z) i x o u (joined_seat with_given_up gives_up x u) spent_seat
 joins_keeper z i x o u k v keeper k_is ref v_is may =
-    seat_join z i o x u (Keeper k) (Reference v) with_given_up gives_up (did (JoinKeeper 0) Done) (keeper ∙ ap (λ (y : KeeperView). record x { view = Keeper y }) k_is)
+    seat_join z i o x u (Keeper k) (Reference v) with_given_up gives_up (did (JoinKeeper v.entry.number) Done) (keeper ∙ ap (λ (y : KeeperView). record x { view = Keeper y }) k_is)
     (ref ∙ ap (λ (y : ReferenceView). record u { view = Reference y }) v_is) tt (refl, tt) refl (joins_at z i k o v may)
 
 pub join_keeper_by : (x u y : View) (k : KeeperView) (v : ReferenceView) → keeper_of x ≡ k → reference_of u ≡ v → y ≡ with_given_up x u → MayJoinKeeper k v → JoinsBy JoinKeeper (Keeper k) (Reference v) (Keeper (keeper_of y))

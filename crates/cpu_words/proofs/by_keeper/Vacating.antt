@@ -1,4 +1,4 @@
--- Vacate by the keeper's seat: it touches no word, so it is made just before the first word that is stored.
+-- Vacate by the keeper's seat: it changes no word, so it is made just before the load of the head by which the keeper hears.
 use Rattle.std.proofs.Common.{◌≡◌, inl, inr, ℕ, zero, suc, List, [], ◌∷◌, ◌++◌, set, replicate, Option, Some, None, refl, sym, ap, ◌∙◌, subst, length-set}
 use Rattle.std.proofs.lemmas.List.{set-get_or}
 use Rattle.std.specs.Prelude.{slice_index}
@@ -7,9 +7,9 @@ use lib.ListN.{get_elem?}
 use Rattle.atomic_table.specs.Table.{State as Table}
 use Rattle.registry_values.specs.declared.entry.Entry.{Entry}
 use Rattle.registry_values.specs.declared.settings.Settings.{Settings}
-use Rattle.protocol.specs.declared.event.Event.TheVariants.{Vacate}
+use Rattle.protocol.specs.declared.event.Event.TheVariants.{Hear, Vacate}
+use Rattle.protocol.specs.declared.state.Due.TheVariants.{Rest}
 use Rattle.protocol.specs.declared.event.Reply.TheVariants.{Done}
-use Rattle.registry_values.specs.declared.slot.Slot.{Slot}
 use Rattle.registry_values.specs.declared.slot.Slot.TheVariants.{Vacant, Live, Retired}
 use Rattle.protocol.specs.State.{State, kept_at}
 use Rattle.protocol.specs.Events.{step, after_vacate}
@@ -18,12 +18,14 @@ use Rattle.cpu_words.specs.declared.view.KeeperView.{KeeperView}
 use Rattle.cpu_words.specs.declared.view.Deed.{Deed}
 use Rattle.cpu_words.specs.declared.view.View.{View}
 use Rattle.cpu_words.specs.declared.view.View.TheVariants.{Keeper}
-use Rattle.cpu_words.specs.Views.{keeper_own, keeper_view, KeeperShown}
+use Rattle.cpu_words.specs.Views.{keeper_of, keeper_own, keeper_view, KeeperShown}
+use Rattle.cpu_words.specs.Notes.{KeeperHasHeard}
 use Rattle.cpu_words.proofs.laws.Reaching.{goes_both}
 use Rattle.cpu_words.specs.Rule.{Ruled, GoesOn, did}
-use Rattle.cpu_words.specs.Steps.{ChangesBy, Makes, Moves}
-use Rattle.cpu_words.specs.Vacating.{MayVacate, keeper_after_vacate, vacant_from}
-use Rattle.cpu_words.proofs.by_keeper.KeeperSteps.{KeeperLists, with_keeper, keeper_good_after, keeper_makes}
+use Rattle.cpu_words.specs.Steps.{Makes, Moves, KeeperMay}
+use Rattle.cpu_words.specs.Vacating.{MayVacate, keeper_after_vacate, VacateTold}
+use Rattle.cpu_words.proofs.seats.Notes.{hear_keeper_may}
+use Rattle.cpu_words.proofs.by_keeper.KeeperSteps.{KeeperLists, with_keeper, keeper_makes}
 use Rattle.cpu_words.proofs.by_keeper.Drained.{Drained, drained_of, vacating, vacated_leaves, vacated_counts, stood}
 use Rattle.cpu_words.proofs.by_keeper.KeeperSees.{seen_by_keeper, loads}
 
@@ -45,32 +47,11 @@ shown_vacated g k t e had drained = record {
 }
 
 -- the table with another view of the seat i
-abbrev pub with_view : Table ℕ View → ℕ → View → Table ℕ View
+abbrev with_view : Table ℕ View → ℕ → View → Table ℕ View
 with_view s i v = record s { views = set s.views i v }
 
--- Vacate is the change of the view alone
-pub vacate_by : (k : KeeperView) (t : ℕ) → MayVacate k t → ChangesBy (Vacate t) (Keeper k) (Keeper (keeper_after_vacate k t))
-vacate_by k t may g good had =
-    let drained = drained_of g k t good had may.drained in
-    let e = may.drained.retired.0 in
-    let keeps_none : kept_at g.keeps t ≡ None = ap (λ (x : List (Option ℕ)). kept_at x t) (sym (seen_by_keeper g k good had).keeps) ∙ may.keeps_nothing in
-    let made : step g (Vacate t) ≡ Some (record { state = after_vacate g t; reply = Done }) = rw (keeps_none, drained.is) refl in
-    let is : keeper_view (with_keeper g (emptied g t)) (keeper_own (keeper_after_vacate k t)) ≡ keeper_after_vacate k t = ap (λ (v : KeeperView). record v { slots = set v.slots t Vacant; counts = set k.counts t (replicate 8 0) }) (sym had.is) in
-    record {
-      after = with_keeper g (emptied g t);
-      made = made;
-      good_after = keeper_good_after g (emptied g t) (Vacate t) Done good (vacated_leaves g t e g.totals g.keeps good drained) made;
-      shown = subst (λ (v : KeeperView). KeeperShown (with_keeper g (emptied g t)) v) is (shown_vacated g k t e had drained);
-    }
-
--- the words beside its counts stay as a slot is taken as vacant
-pub same_beside : (x : Slot) (k : KeeperView) (t : ℕ) → ((vacant_from x k t).next ≡ k.next) × ((vacant_from x k t).rows ≡ k.rows) × ((vacant_from x k t).keeps ≡ k.keeps)
-same_beside Vacant k t = (refl, refl, refl)
-same_beside (Live e) k t = (refl, refl, refl)
-same_beside (Retired e) k t = (refl, refl, refl)
-
--- the rule holds on as the keeper takes a drained slot as vacant
-pub vacates : (z : Settings) (k : KeeperView) (t : ℕ) → MayVacate k t → (s : Table ℕ View) (r : Ruled z s) (i : ℕ) → get_elem? s.views i ≡ some (Keeper k)
+-- the rule holds on as a drained slot is made vacant
+vacates : (z : Settings) (k : KeeperView) (t : ℕ) → MayVacate k t → (s : Table ℕ View) (r : Ruled z s) (i : ℕ) → get_elem? s.views i ≡ some (Keeper k)
     → GoesOn z s r (did (Vacate t) Done) (with_view s i (Keeper (keeper_after_vacate k t))) × Makes (Vacate t) Done (Keeper k) (Keeper (keeper_after_vacate k t))
 vacates z k t may s r i at =
     let g = r.g in
@@ -91,20 +72,33 @@ vacates z k t may s r i at =
     )
 
 -- a seat's view that is written twice
-pub views_again : (views : List View) (i : ℕ) (v w : View) → set (set views i v) i w ≡ set views i w
+views_again : (views : List View) (i : ℕ) (v w : View) → set (set views i v) i w ≡ set views i w
 views_again [] i v w = refl
 views_again (x ∷ xs) zero v w = refl
 views_again (x ∷ xs) (suc i) v w = ap (λ l. x ∷ l) (views_again xs i v w)
 
-pub view_here : (views : List View) (i : ℕ) (v w : View) → get_elem? views i ≡ some v → get_elem? (set views i w) i ≡ some w
+view_here : (views : List View) (i : ℕ) (v w : View) → get_elem? views i ≡ some v → get_elem? (set views i w) i ≡ some w
 view_here [] i v w e = absurd (some-ne-none v (sym e))
 view_here (x ∷ xs) zero v w e = refl
 view_here (x ∷ xs) (suc i) v w e = view_here xs i v w e
 
 -- a step that may be made by the view with a change that touches no word may be made by the view before it
-pub moves_after : (z : Settings) (v u : View) (i : ℕ) (f : ℕ → ℕ) (before : List Deed) (es : ℕ → List Deed) (tells : ℕ → View → Type 0) (T : Type 0)
+moves_after : (z : Settings) (v u : View) (i : ℕ) (f : ℕ → ℕ) (before : List Deed) (es : ℕ → List Deed) (tells : ℕ → View → Type 0) (T : Type 0)
     → ((s : Table ℕ View) (r : Ruled z s) (id : ℕ) → get_elem? s.views id ≡ some v → GoesOn z s r before (with_view s id u) × T) → Moves z u i f es tells → Moves z v i f (λ n. before ++ es n) (λ n w. T × tells n w)
 moves_after z v u i f before es tells T first then s r id at fits =
     let a = first s r id at in
     let b = then (with_view s id u) a.0.ruled id (view_here s.views id v u at) fits in
     (b.0, subst (λ (views : List View). GoesOn z s r (before ++ es (slice_index s.words i)) (record { words = set s.words i (f (slice_index s.words i)); homes = s.homes; views = views })) (views_again s.views id u b.0) (goes_both z s (with_view s id u) _ r before (es (slice_index s.words i)) a.0 b.1), (a.1, b.2))
+
+-- Vacate with a load by which the keeper hears
+pub vacating_may : (z : Settings) (k : KeeperView) (t : ℕ) → MayVacate k t
+    → KeeperMay z k 648 (λ n. n) (λ n. did (Vacate t) Done ++ did (Hear None) Done) (λ v n l. Makes (Vacate t) Done (Keeper v) (Keeper l) × Makes (Hear None) Done (Keeper l) (Keeper l) × VacateTold (Vacate t) v l)
+vacating_may z k t may s r id at fits =
+    let m = keeper_after_vacate k t in
+    let done = moves_after z (Keeper k) (Keeper m) 648 (λ n. n) (did (Vacate t) Done) (λ _. did (Hear None) Done) (λ _ w. (w ≡ Keeper (keeper_of w)) × Makes (Hear None) Done (Keeper m) (Keeper (keeper_of w)) × KeeperHasHeard m (keeper_of w))
+    (Makes (Vacate t) Done (Keeper k) (Keeper m)) (vacates z k t may) (hears z m may.drained.rest) s r id at fits in
+    let same : keeper_of done.0 ≡ m = done.2.1.2.1 in
+    (done.0, done.1, (done.2.1.0, (subst (λ (l : KeeperView). Makes (Vacate t) Done (Keeper k) (Keeper l)) (sym same) done.2.0, subst (λ (l : KeeperView). Makes (Hear None) Done (Keeper l) (Keeper (keeper_of done.0))) (sym same) done.2.1.1, same)))
+  where
+    hears : (z : Settings) (m : KeeperView) → m.due ≡ Rest → Moves z (Keeper m) 648 (λ n. n) (λ _. did (Hear None) Done) (λ _ w. (w ≡ Keeper (keeper_of w)) × Makes (Hear None) Done (Keeper m) (Keeper (keeper_of w)) × KeeperHasHeard m (keeper_of w))
+    hears z m rest s r id at fits = let d = hear_keeper_may z m rest s r id at fits in (d.0, d.1, (d.2.0, d.2.1.0, d.2.1.1))

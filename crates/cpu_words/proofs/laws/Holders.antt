@@ -84,7 +84,7 @@ cpu_has g e x good shown holds = ⊎_elim
     (λ (is : IsInHand e.number x.hand). hand_occupies g.slots g.locals x.id (hand_at g x.id) e.number (good.holds.references.in_hands x.id) (same_number (hand_at g x.id) x.hand e.number shown.hand is))
     holds
 
-seat_has_slot : (g : State) (e : Entry) (v : View) → Good g → Shown g v → IsBacked g v → IsAttached g.history e → SeatHolds g.history e v → IsIn e (slot_at g.slots e.slot)
+pub seat_has_slot : (g : State) (e : Entry) (v : View) → Good g → Shown g v → IsBacked g v → IsAttached g.history e → SeatHolds g.history e v → IsIn e (slot_at g.slots e.slot)
 seat_has_slot g e (Keeper k) good shown has attached holds =
     let kept = good.holds.kept_drivers.drivers holds.0 e.number (sym (ap (λ (l : List (Option ℕ)). kept_at l holds.0) (seen_by_keeper g k good shown).keeps) ∙ holds.1) in
     its_slot g e good attached (kept.0, kept.1, kept.2, kept.3)

@@ -95,7 +95,7 @@ waited_for c s acts es t since rest run on mine seen =
 
 -- The law
 
-own_first : (seat : ℕ → ℕ) (n : ℕ) (a b : List (ℕ × Deed)) → AreByOwn seat n (a ++ b) → AreByOwn seat n a
+pub own_first : (seat : ℕ → ℕ) (n : ℕ) (a b : List (ℕ × Deed)) → AreByOwn seat n (a ++ b) → AreByOwn seat n a
 own_first seat n [] b own = tt
 own_first seat n (x ∷ rest) b own = (own.0, own_first seat n rest b own.1)
 

@@ -25,7 +25,7 @@ use Rattle.protocol.proofs.keeps.Keeping.{step_holds}
 use Rattle.protocol.proofs.runs.Steps.{Sort, Refused, Left, Entered, Exited, Sought, Heard, Searched, Published, Unpublished, Kept, Gave_up, Vacated, step_sort}
 use Rattle.cpu_words.specs.declared.view.Deed.{Deed}
 use Rattle.cpu_words.specs.declared.view.Logged.{Logged}
-use Rattle.cpu_words.specs.Rule.{event_without_id}
+use Rattle.cpu_words.specs.Rule.{by_number}
 use Rattle.cpu_words.proofs.logs.Runs.{Follows, follows}
 use Rattle.cpu_words.specs.Deeds.{changes_of, changes_in}
 use Rattle.cpu_words.specs.Logs.{part, maker, IsSeatOf, AreByOwn, LoggedRuled}
@@ -95,14 +95,9 @@ changes_up e n = omega arith
 
 -- A run
 
-pub unnamed_changes : (e : Event) (n : ℕ) → changes_of (event_without_id e) n ≡ changes_of e n
-unnamed_changes (LoadRecord of) n = one of n
-  where
-    one : (of : RecordOf) (n : ℕ) → changes_of (event_without_id (LoadRecord of)) n ≡ n
-    one (OfSearch c) n = refl
-    one (Passive c m k) n = refl
-    one (Local id k) n = refl
-unnamed_changes e n = refl
+pub unnamed_changes : (s : State) (e : Event) (n : ℕ) → changes_of (by_number s e) n ≡ changes_of e n
+unnamed_changes s (Publish t) n = refl
+unnamed_changes s e n = refl
 
 pub moves_past : (e : Event) (a b : ℕ) → changes_of e a + b ≡ a + changes_of e b
 moves_past (Publish t) a b = omega arith
@@ -125,7 +120,7 @@ counted seat n s (a ∷ more) (e ∷ es) t on holds own =
     let grows : length o.state.history ≡ changes_of e (length s.history) = subst (Grows s e) on.1 (step_grows s e holds) in
     let c = changes_in (part 0 more) in
     let here : c + length o.state.history ≡ changes_of a.1.event c + length s.history =
-    ap (λ n. c + n) grows ∙ (sym (moves_past e c (length s.history)) ∙ (λ k. (sym (unnamed_changes e c) ∙ ap (λ (d : Deed). changes_of d.event c) (sym on.2)) k + length s.history)) in
+    ap (λ n. c + n) grows ∙ (sym (moves_past e c (length s.history)) ∙ (λ k. (sym (unnamed_changes s e c) ∙ ap (λ (d : Deed). changes_of d.event c) (sym on.2)) k + length s.history)) in
     ⊎_elim
     (λ (same : a.0 ≡ 0). rest ∙ (here ∙ sym (ap (λ (b : Bool). changes_in (cond b (a.1 ∷ part 0 more) (part 0 more)) + length s.history) (eq-eqb a.0 0 same))))
     (λ (off : a.0 ≢ 0). rest ∙ (here ∙ ((λ k. changes_off seat n a.0 a.1.event c own.0 off k + length s.history) ∙ sym (ap (λ (b : Bool). changes_in (cond b (a.1 ∷ part 0 more) (part 0 more)) + length s.history) (ne_eqb a.0 0 off)))))

@@ -1,5 +1,5 @@
 -- What the keeper's log says of the state, by a walk over the run: how many changes there were, marks and slots.
-use Rattle.std.proofs.Common.{◌≡◌, ◌≢◌, ⊎_elim, ℕ, ◌+◌, ◌<◌, ◌≤◌, Bool, true, false, if◌then◌else◌, nat_lt, List, [], ◌∷◌, ◌++◌, length, set, replicate, Some, None, refl, sym, ap, ◌∙◌, subst, arith}
+use Rattle.std.proofs.Common.{◌≡◌, ◌≢◌, ⊎_elim, ℕ, ◌+◌, ◌<◌, ◌≤◌, Bool, true, false, if◌then◌else◌, nat_lt, List, [], ◌∷◌, ◌++◌, length, set, replicate, Option, Some, None, refl, sym, ap, ◌∙◌, subst, arith}
 use Rattle.registry_values.specs.declared.entry.Entry.{Entry}
 use Rattle.registry_values.specs.declared.mark.Mark.{Mark}
 use Rattle.registry_values.specs.declared.settings.Settings.{Settings}
@@ -10,22 +10,25 @@ use Rattle.protocol.specs.declared.event.Event.{Event}
 use Rattle.protocol.specs.declared.event.Event.TheVariants.{Publish, Unpublish, Snapshot, Look, PassiveLook, Collect}
 use Rattle.protocol.specs.declared.state.Due.{Due}
 use Rattle.protocol.specs.declared.state.Due.TheVariants.{Rest, Snapshots}
-use Rattle.protocol.specs.State.{State, opening, with_cell, section_at, mark_at}
+use Rattle.protocol.specs.State.{State, opening, with_cell, section_at, mark_at, kept_at}
 use Rattle.protocol.specs.Events.{Outcome, step, snapshot_mark, due_after}
 use Rattle.protocol.specs.Invariant.{Holds, DueHolds}
 use Rattle.protocol.proofs.keeps.Unlinking.{within_retired}
 use Rattle.protocol.proofs.slots.Cells.{cell_cases, cell_other}
 use Rattle.protocol.proofs.slots.MarkRows.{mark_there}
 use Rattle.cpu_words.specs.declared.view.Deed.{Deed}
-use Rattle.cpu_words.specs.Rule.{event_without_id}
-use Rattle.cpu_words.specs.Deeds.{changes_of, changes_in, AreMarksOf, AreSlotsOf}
+use Rattle.cpu_words.specs.Rule.{by_number}
+use Rattle.cpu_words.specs.Deeds.{changes_of, changes_in, AreCountsOf, AreTotalsOf, AreMarksOf, AreSlotsOf, keeping}
 use Rattle.cpu_words.specs.Logs.{maker, IsSeatOf}
 use Rattle.cpu_words.proofs.logs.Changes.{Grows, step_grows, unnamed_changes}
+use Rattle.cpu_words.proofs.logs.Kept.{kept_own, kept_off}
+use Rattle.cpu_words.proofs.logs.Counted.{counts_own, counts_off, no_counts}
 use Rattle.cpu_words.proofs.logs.Dues.{DueAfter, Dues, step_dues}
 use Rattle.cpu_words.proofs.logs.Marks.{Marks, IsFirst, marks_after, step_marks, marks_off, fresh, more_marks, no_marks}
 use Rattle.cpu_words.proofs.logs.Runs.{deed_of}
 use Rattle.cpu_words.proofs.logs.Slots.{slots_own, slots_off, no_slots}
 use Rattle.cpu_words.proofs.logs.Standings.{changes_last}
+use Rattle.cpu_words.proofs.logs.Totalled.{totals_own, totals_off, no_totals}
 use Rattle.cpu_words.proofs.logs.Walks.{Stays}
 
 -- a snapshot that is due wasn't taken yet
@@ -37,7 +40,10 @@ pub record Known (cpus : ℕ) (log : List Deed) (s : State) : Type 0 where
   pub changes : length s.history ≡ changes_in log
   pub marks : AreMarksOf log s.marks
   pub slots : AreSlotsOf cpus log s.slots
+  pub kept : (t : ℕ) → kept_at s.keeps t ≡ keeping t log
   pub ahead : NoneAhead s.due s.marks
+  pub counts : AreCountsOf log s
+  pub totals : AreTotalsOf log s
 
 -- Snapshots that are due
 
@@ -90,33 +96,36 @@ first_taken s e n on due none = tt
 
 -- The walk
 
-known_own : (cpus : ℕ) (log : List Deed) (s : State) (e : Event) (o : Outcome) → Holds s → step s e ≡ Some o → Known cpus log s → Known cpus (log ++ deed_of e o.reply ∷ []) o.state
+known_own : (cpus : ℕ) (log : List Deed) (s : State) (e : Event) (o : Outcome) → Holds s → step s e ≡ Some o → Known cpus log s → Known cpus (log ++ deed_of s e o.reply ∷ []) o.state
 known_own cpus log s e o on made known =
     let dues : Dues s e (Some o) = subst (Dues s e) made (step_dues s e) in
     let marks : Marks s e (Some o) = subst (Marks s e) made (step_marks s e) in
     let grows : length o.state.history ≡ changes_of e (length s.history) = subst (Grows s e) made (step_grows s e on) in
-    let d : Deed = deed_of e o.reply in
+    let d : Deed = deed_of s e o.reply in
     let slots : AreSlotsOf s.settings.cpus log s.slots = subst (λ (n : ℕ). AreSlotsOf n log s.slots) (sym known.settings) known.slots in
     record {
       settings = ap (λ (z : Settings). z.cpus) dues.0 ∙ known.settings;
-      changes = grows ∙ (ap (changes_of e) known.changes ∙ (sym (unnamed_changes e (changes_in log)) ∙ sym (changes_last log d)));
+      changes = grows ∙ (ap (changes_of e) known.changes ∙ (sym (unnamed_changes s e (changes_in log)) ∙ sym (changes_last log d)));
       marks = subst (AreMarksOf (log ++ d ∷ [])) (sym marks.0) (more_marks log s e o.reply marks.1 (first_taken s e o.state on dues.1 known.ahead) known.marks);
       slots = subst (λ (n : ℕ). AreSlotsOf n (log ++ d ∷ []) o.state.slots) known.settings (slots_own log s e o on made known.changes known.marks slots);
+      kept = λ t. kept_own log s e o on made known.kept t;
       ahead = subst (NoneAhead o.state.due) (sym marks.0) (ahead_after s e o.state dues.1 known.ahead);
+      counts = counts_own log s e o on made known.changes known.counts;
+      totals = totals_own log s e o on made (record { changes = known.changes; kept = known.kept; counts = known.counts; totals = known.totals });
     }
 
-changes_off : (seat : ℕ → ℕ) (n i : ℕ) (e : Event) (m : ℕ) → IsSeatOf seat n i (maker (event_without_id e)) → i ≢ 0 → changes_of e m ≡ m
-changes_off seat n i (Publish t) m is off = absurd (off is)
-changes_off seat n i (Unpublish t) m is off = absurd (off is)
-changes_off seat n i e m is off = refl
+changes_off : (seat : ℕ → ℕ) (n i : ℕ) (s : State) (e : Event) (m : ℕ) → IsSeatOf seat n i (maker (by_number s e)) → i ≢ 0 → changes_of e m ≡ m
+changes_off seat n i s (Publish t) m is off = absurd (off is)
+changes_off seat n i s (Unpublish t) m is off = absurd (off is)
+changes_off seat n i s e m is off = refl
 
-due_off : (seat : ℕ → ℕ) (n i : ℕ) (s : State) (e : Event) (t : State) → IsSeatOf seat n i (maker (event_without_id e)) → i ≢ 0 → DueAfter s e t → (u d : ℕ) → t.due ≡ Snapshots u d → s.due ≡ Snapshots u d
+due_off : (seat : ℕ → ℕ) (n i : ℕ) (s : State) (e : Event) (t : State) → IsSeatOf seat n i (maker (by_number s e)) → i ≢ 0 → DueAfter s e t → (u d : ℕ) → t.due ≡ Snapshots u d → s.due ≡ Snapshots u d
 due_off seat n i s (Unpublish v) t is off due = absurd (off is)
 due_off seat n i s (Snapshot None c) t is off due = due
 due_off seat n i s (Snapshot (Some v) c) t is off due = absurd (off is)
 due_off seat n i s e t is off due = due
 
-known_off : (seat : ℕ → ℕ) (n cpus i : ℕ) (log : List Deed) (s : State) (e : Event) (o : Outcome) → IsSeatOf seat n i (maker (event_without_id e)) → i ≢ 0 → Holds s → step s e ≡ Some o → Known cpus log s → Known cpus log o.state
+known_off : (seat : ℕ → ℕ) (n cpus i : ℕ) (log : List Deed) (s : State) (e : Event) (o : Outcome) → IsSeatOf seat n i (maker (by_number s e)) → i ≢ 0 → Holds s → step s e ≡ Some o → Known cpus log s → Known cpus log o.state
 known_off seat n cpus i log s e o is off on made known =
     let dues : Dues s e (Some o) = subst (Dues s e) made (step_dues s e) in
     let marks : Marks s e (Some o) = subst (Marks s e) made (step_marks s e) in
@@ -125,10 +134,13 @@ known_off seat n cpus i log s e o is off on made known =
     let slots : AreSlotsOf s.settings.cpus log s.slots = subst (λ (k : ℕ). AreSlotsOf k log s.slots) (sym known.settings) known.slots in
     record {
       settings = ap (λ (z : Settings). z.cpus) dues.0 ∙ known.settings;
-      changes = grows ∙ (changes_off seat n i e (length s.history) is off ∙ known.changes);
+      changes = grows ∙ (changes_off seat n i s e (length s.history) is off ∙ known.changes);
       marks = subst (AreMarksOf log) (sym same) known.marks;
       slots = subst (λ (k : ℕ). AreSlotsOf k log o.state.slots) known.settings (slots_off seat n i log s e o is off on made known.marks slots);
+      kept = λ t. ap (λ (k : List (Option ℕ)). kept_at k t) (kept_off seat n i s e o is off on made) ∙ known.kept t;
       ahead = subst (NoneAhead o.state.due) (sym same) (same_snapshots s.due o.state.due s.marks s.marks (due_off seat n i s e o.state is off dues.1) (λ u j. refl) known.ahead);
+      counts = counts_off seat n i log s e o is off on made known.counts;
+      totals = totals_off seat n i log s e o is off made known.totals;
     }
 
 pub known_stays : (seat : ℕ → ℕ) (n cpus : ℕ) → Stays seat n (Known cpus)
@@ -139,4 +151,4 @@ known_stays seat n cpus = record {
 
 -- before all events
 pub known_first : (z : Settings) → Known z.cpus [] (opening z)
-known_first z = record { settings = refl; changes = refl; marks = no_marks z; slots = no_slots z; ahead = λ t c j is le. absurd (let q : Rest ≡ Snapshots t c = is in cc) }
+known_first z = record { settings = refl; changes = refl; marks = no_marks z; slots = no_slots z; kept = λ t. Rattle.protocol.proofs.slots.Cells.get_or_all z.slots None t; counts = no_counts z; totals = no_totals z; ahead = λ t c j is le. absurd (let q : Rest ≡ Snapshots t c = is in cc) }

@@ -15,7 +15,7 @@ use Rattle.protocol.proofs.keeps.Keeping.{step_holds}
 use Rattle.protocol.proofs.keeps.SectionKeeps.{idle_parts}
 use Rattle.protocol.proofs.runs.Steps.{Sort, Refused, Left, Entered, Exited, Sought, Heard, Searched, Published, Unpublished, Kept, Gave_up, Vacated, step_sort}
 use Rattle.cpu_words.specs.declared.view.Deed.{Deed}
-use Rattle.cpu_words.specs.Rule.{event_without_id, reply_without_id}
+use Rattle.cpu_words.specs.Rule.{by_number, reply_without_id}
 use Rattle.cpu_words.specs.Deeds.{changes_of, has_taken, has_found}
 use Rattle.cpu_words.specs.Logs.{part}
 use Rattle.cpu_words.proofs.logs.Changes.{Grows, step_grows, changes_up}
@@ -190,17 +190,12 @@ is_whole (Keep t id) = false
 is_whole (LoadRecord of) = false
 is_whole e = true
 
-pub same_event : (e f : Event) → f ≡ event_without_id e → is_whole f ≡ true → f ≡ e
-same_event (JoinRef c id) f is whole = absurd (let q : true ≡ false = sym whole ∙ ap is_whole is in cc)
-same_event (JoinKeeper id) f is whole = absurd (let q : true ≡ false = sym whole ∙ ap is_whole is in cc)
-same_event (Keep t id) f is whole = absurd (let q : true ≡ false = sym whole ∙ ap is_whole is in cc)
-same_event (LoadRecord of) f is whole = absurd (let q : true ≡ false = sym whole ∙ (ap is_whole is ∙ never of) in cc)
-  where
-    never : (of : RecordOf) → is_whole (event_without_id (LoadRecord of)) ≡ false
-    never (OfSearch c) = refl
-    never (Passive c n k) = refl
-    never (Local id k) = refl
-same_event e f is whole = is
+pub same_event : (s : State) (e f : Event) → f ≡ by_number s e → is_whole f ≡ true → f ≡ e
+same_event s (JoinRef c id) f is whole = absurd (let q : true ≡ false = sym whole ∙ ap is_whole is in cc)
+same_event s (JoinKeeper id) f is whole = absurd (let q : true ≡ false = sym whole ∙ ap is_whole is in cc)
+same_event s (Keep t id) f is whole = absurd (let q : true ≡ false = sym whole ∙ ap is_whole is in cc)
+same_event s (LoadRecord of) f is whole = absurd (let q : true ≡ false = sym whole ∙ ap is_whole is in cc)
+same_event s e f is whole = is
 
 abbrev pub word_of : Reply → ℕ
 word_of (Word w) = w
@@ -219,15 +214,15 @@ loaded true s w o is = let same = sym (same_Some _ o is) in (ap (λ (p : Outcome
 loaded false s w o is = absurd (none-some o is)
 
 -- the state stays, and its word of c is the one found
-pub word_taken : (s : State) (e : Event) (o : Outcome) (c w : ℕ) → step s e ≡ Some o → has_taken c w ≡ deed_of e o.reply → (o.state ≡ s) × (section_at s c ≡ w)
+pub word_taken : (s : State) (e : Event) (o : Outcome) (c w : ℕ) → step s e ≡ Some o → has_taken c w ≡ deed_of s e o.reply → (o.state ≡ s) × (section_at s c ≡ w)
 word_taken s e o c w made is =
-    let same : Snapshot None c ≡ e = same_event e (Snapshot None c) (ap (λ (d : Deed). d.event) is) refl in
+    let same : Snapshot None c ≡ e = same_event s e (Snapshot None c) (ap (λ (d : Deed). d.event) is) refl in
     let p = loaded (may_glance s c) s (section_at s c) o (ap (step s) same ∙ made) in
     (p.0, sym (replied_word o.reply w (ap (λ (d : Deed). d.reply) is) ∙ p.1))
 
-pub word_found : (s : State) (e : Event) (o : Outcome) (c w : ℕ) → step s e ≡ Some o → has_found c w ≡ deed_of e o.reply → (o.state ≡ s) × (section_at s c ≡ w)
+pub word_found : (s : State) (e : Event) (o : Outcome) (c w : ℕ) → step s e ≡ Some o → has_found c w ≡ deed_of s e o.reply → (o.state ≡ s) × (section_at s c ≡ w)
 word_found s e o c w made is =
-    let same : Look None c ≡ e = same_event e (Look None c) (ap (λ (d : Deed). d.event) is) refl in
+    let same : Look None c ≡ e = same_event s e (Look None c) (ap (λ (d : Deed). d.event) is) refl in
     let p = loaded (may_glance s c) s (section_at s c) o (ap (step s) same ∙ made) in
     (p.0, sym (replied_word o.reply w (ap (λ (d : Deed). d.reply) is) ∙ p.1))
 

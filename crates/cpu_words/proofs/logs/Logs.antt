@@ -27,7 +27,7 @@ cond_append : (b : Bool) (d : Deed) (x y : List Deed) → cond b (d ∷ (x ++ y)
 cond_append true d x y = refl
 cond_append false d x y = refl
 
-part_append : (i : ℕ) (a b : List (ℕ × Deed)) → part i (a ++ b) ≡ part i a ++ part i b
+pub part_append : (i : ℕ) (a b : List (ℕ × Deed)) → part i (a ++ b) ≡ part i a ++ part i b
 part_append i [] b = refl
 part_append i (x ∷ xs) b = ap (λ (l : List Deed). cond (x.0 == i) (x.1 ∷ l) l) (part_append i xs b) ∙ cond_append (x.0 == i) x.1 (part i xs) (part i b)
 
@@ -177,15 +177,15 @@ logged_moves z l i f ds tells stands by moves s r id at fits =
 
 -- the same of a load that hears: what the seat has heard then is all that the keeper did
 abbrev pub LoggedHears : Settings → Logged → ℕ → (ℕ → ℕ) → (ℕ → List Deed) → (ℕ → View → Type 0) → Type 0
-LoggedHears z l i f ds tells = (s : Table ℕ Logged) → LoggedRuled z s → (id : ℕ) → get_elem? s.views id ≡ some l → slice_index s.words i < 18446744073709551616
-    → (w : View) × (d : List Deed) × LoggedRuled z (stepped s i (f (slice_index s.words i)) id [] (record l { view = w; log = l.log ++ ds (slice_index s.words i); deeds = d }) keeps) × tells (slice_index s.words i) w × HasHeardDeeds l.deeds l.laid d
+LoggedHears z l i f ds tells = (s : Table ℕ Logged) (r : LoggedRuled z s) (id : ℕ) → get_elem? s.views id ≡ some l → slice_index s.words i < 18446744073709551616
+    → (w : View) × (d : List Deed) × LoggedRuled z (stepped s i (f (slice_index s.words i)) id [] (record l { view = w; log = l.log ++ ds (slice_index s.words i); deeds = d }) keeps) × tells (slice_index s.words i) w × HasHeardDeeds l.deeds l.laid d × (d ≡ part 0 r.acts)
 
 pub logged_hears : (z : Settings) (l : Logged) (i : ℕ) (f : ℕ → ℕ) (ds : ℕ → List Deed) (tells : ℕ → View → Type 0) → IsStanding l.view → ((n : ℕ) → AreBy (who l.view) (ds n)) → Moves z l.view i f ds tells → LoggedHears z l i f ds tells
 logged_hears z l i f ds tells stands by moves s r id at fits =
     let word = slice_index s.words i in
     let done = moves (plain s) r.run id (at_map (λ (x : Logged). x.view) s.views id l at) fits in
     let all = part 0 r.acts in
-    (done.0, all, logged_goes z l i (f word) (ds word) done.0 s r id at stands (by word) done.1 all ([], append-nil all), done.2, r.known id l at)
+    (done.0, all, logged_goes z l i (f word) (ds word) done.0 s r id at stands (by word) done.1 all ([], append-nil all), done.2, r.known id l at, refl)
 
 -- A seat is cut in two, or takes in another
 

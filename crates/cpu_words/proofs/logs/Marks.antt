@@ -27,11 +27,11 @@ use Rattle.protocol.specs.Events
 use Rattle.protocol.specs.Events.{Outcome, guard, some_outcome, with_some, step, snapshot_mark, entry_of}
 use Rattle.protocol.proofs.slots.Cells.{cell_cases, cell_in_new, cell_in_old, get_or_all}
 use Rattle.cpu_words.specs.declared.view.Deed.{Deed}
-use Rattle.cpu_words.specs.Rule.{event_without_id}
+use Rattle.cpu_words.specs.Rule.{by_number}
 use Rattle.cpu_words.specs.Deeds.{has_snapped, has_looked, is_detach_from, KeepsEntry, IsSnapped, HasPassedOn, AreMarksOf}
 use Rattle.cpu_words.specs.Logs.{maker, IsSeatOf}
 use Rattle.cpu_words.proofs.logs.Loads.{no_place}
-use Rattle.cpu_words.proofs.logs.Runs.{deed_of, same_first, same_rest}
+use Rattle.cpu_words.proofs.logs.Runs.{deed_as, deed_of, same_first, same_rest}
 
 -- What an event makes of the marks
 
@@ -194,7 +194,7 @@ step_marks s (KeptSub t) = on_some s (KeptSub t) (kept_at s.keeps t) _ (λ d. on
 step_marks s (Vacate t) = on_made s (Vacate t) _ _ _ refl tt
 
 -- the events of CPUs and of references leave them
-pub marks_off : (seat : ℕ → ℕ) (n i : ℕ) (s : State) (e : Event) → IsSeatOf seat n i (maker (event_without_id e)) → i ≢ 0 → marks_after s e ≡ s.marks
+pub marks_off : (seat : ℕ → ℕ) (n i : ℕ) (s : State) (e : Event) → IsSeatOf seat n i (maker (by_number s e)) → i ≢ 0 → marks_after s e ≡ s.marks
 marks_off seat n i s (Unpublish t) is off = absurd (off is)
 marks_off seat n i s (Snapshot None c) is off = refl
 marks_off seat n i s (Snapshot (Some t) c) is off = absurd (off is)
@@ -274,10 +274,10 @@ fresh marks t c = ⊎_elim
     (λ (ge : length marks ≤ t). ap (λ (m : List (List Mark)). mark_at m t c) (set_past marks t (replicate 8 no_mark) ge) ∙ ap (λ (r : List Mark). get_or r c no_mark) (get_or_past marks t [] ge))
     (cases_lt t (length marks))
 
-detach_marks : (log : List Deed) (marks : List (List Mark)) (t : ℕ) (r : Reply) → AreMarksOf log marks → AreMarksOf (log ++ deed_of (Unpublish t) r ∷ []) (set marks t (replicate 8 no_mark))
+detach_marks : (log : List Deed) (marks : List (List Mark)) (t : ℕ) (r : Reply) → AreMarksOf log marks → AreMarksOf (log ++ deed_as (Unpublish t) r ∷ []) (set marks t (replicate 8 no_mark))
 detach_marks log marks t r are =
     let new = set marks t (replicate 8 no_mark) in
-    let d = deed_of (Unpublish t) r in record {
+    let d = deed_as (Unpublish t) r in record {
       snapped = λ u c w is. ⊎_elim
           (λ (same : u ≡ t). let p : mark_at new u c ≡ no_mark = ap (λ (k : ℕ). mark_at new k c) same ∙ fresh marks t c in absurd (none-some w (sym (ap (λ (m : Mark). m.snapshot) p) ∙ is)))
           (λ (off : u ≡ t → ⊥). snapped_more u c w log d (ne_eqb t u (λ (e : t ≡ u). off (sym e))) (are.snapped u c w (sym (ap (λ (m : Mark). m.snapshot) (cell_in_old no_mark marks t (replicate 8 no_mark) u c off)) ∙ is)))
@@ -372,32 +372,21 @@ look_marks log marks t c w are =
     (or_cases m.passed (is_even w || has_changed m.snapshot w) is))
     are
 
-unnamed_detach : (of : RecordOf) (t : ℕ) → is_detach_from t (event_without_id (LoadRecord of)) ≡ false
-unnamed_detach (OfSearch c) t = refl
-unnamed_detach (Passive c n k) t = refl
-unnamed_detach (Local id k) t = refl
-
-unnamed_for : (of : RecordOf) → is_for_entry (event_without_id (LoadRecord of)) ≡ false
-unnamed_for (OfSearch c) = refl
-unnamed_for (Passive c n k) = refl
-unnamed_for (Local id k) = refl
-
 -- a snapshot that is taken for an entry is the first for it, and its mark has a place
 abbrev pub IsFirst : State → Event → Type 0
 IsFirst s (Snapshot (Some t) c) = ((mark_at s.marks t c).snapshot ≡ None) × (mark_at (with_cell s.marks t c (snapshot_mark (section_at s c))) t c ≡ snapshot_mark (section_at s c))
 IsFirst s e = Unit {0}
 
 -- the keeper's next deed
-pub more_marks : (log : List Deed) (s : State) (e : Event) (r : Reply) → Answers s e r → IsFirst s e → AreMarksOf log s.marks → AreMarksOf (log ++ deed_of e r ∷ []) (marks_after s e)
+pub more_marks : (log : List Deed) (s : State) (e : Event) (r : Reply) → Answers s e r → IsFirst s e → AreMarksOf log s.marks → AreMarksOf (log ++ deed_of s e r ∷ []) (marks_after s e)
 more_marks log s (Unpublish t) r is first are = detach_marks log s.marks t r are
-more_marks log s (Snapshot None c) r is first are = other_marks log s.marks (deed_of (Snapshot None c) r) (λ t. refl) refl are
-more_marks log s (Snapshot (Some t) c) r is first are = subst (λ (q : Reply). AreMarksOf (log ++ deed_of (Snapshot (Some t) c) q ∷ []) (marks_after s (Snapshot (Some t) c))) (sym is) (snapshot_marks log s.marks t c (section_at s c) first.0 first.1 are)
-more_marks log s (Look None c) r is first are = other_marks log s.marks (deed_of (Look None c) r) (λ t. refl) refl are
-more_marks log s (Look (Some t) c) r is first are = subst (λ (q : Reply). AreMarksOf (log ++ deed_of (Look (Some t) c) q ∷ []) (marks_after s (Look (Some t) c))) (sym is) (look_marks log s.marks t c (section_at s c) are)
-more_marks log s (PassiveLook t c) r is first are = cell_marks log s.marks t c _ (deed_of (PassiveLook t c) r) (λ u. refl) refl refl (λ was. passed_more t c log (deed_of (PassiveLook t c) r) refl (are.passed t c was)) are
-more_marks log s (Collect t c) r is first are = cell_marks log s.marks t c _ (deed_of (Collect t c) r) (λ u. refl) refl refl (λ was. passed_more t c log (deed_of (Collect t c) r) refl (are.passed t c was)) are
-more_marks log s (LoadRecord of) r is first are = other_marks log s.marks (deed_of (LoadRecord of) r) (unnamed_detach of) (unnamed_for of) are
-more_marks log s e r is first are = other_marks log s.marks (deed_of e r) (λ t. refl) refl are
+more_marks log s (Snapshot None c) r is first are = other_marks log s.marks (deed_as (Snapshot None c) r) (λ t. refl) refl are
+more_marks log s (Snapshot (Some t) c) r is first are = subst (λ (q : Reply). AreMarksOf (log ++ deed_as (Snapshot (Some t) c) q ∷ []) (marks_after s (Snapshot (Some t) c))) (sym is) (snapshot_marks log s.marks t c (section_at s c) first.0 first.1 are)
+more_marks log s (Look None c) r is first are = other_marks log s.marks (deed_as (Look None c) r) (λ t. refl) refl are
+more_marks log s (Look (Some t) c) r is first are = subst (λ (q : Reply). AreMarksOf (log ++ deed_as (Look (Some t) c) q ∷ []) (marks_after s (Look (Some t) c))) (sym is) (look_marks log s.marks t c (section_at s c) are)
+more_marks log s (PassiveLook t c) r is first are = cell_marks log s.marks t c _ (deed_as (PassiveLook t c) r) (λ u. refl) refl refl (λ was. passed_more t c log (deed_as (PassiveLook t c) r) refl (are.passed t c was)) are
+more_marks log s (Collect t c) r is first are = cell_marks log s.marks t c _ (deed_as (Collect t c) r) (λ u. refl) refl refl (λ was. passed_more t c log (deed_as (Collect t c) r) refl (are.passed t c was)) are
+more_marks log s e r is first are = other_marks log s.marks (deed_of s e r) (λ t. refl) refl are
 
 -- The opening
 

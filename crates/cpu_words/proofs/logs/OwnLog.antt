@@ -1,26 +1,32 @@
 -- What the keeper knows of its own log once it hears: it has all changes of the history, its marks and slots, and section words that grow.
-use Rattle.std.proofs.Common.{◌≡◌, ⊎_elim, ℕ, Some, List, [], ◌∷◌, ◌++◌, length, refl, sym, ap, ◌∙◌, subst, arith}
+use Rattle.std.proofs.Common.{◌≡◌, ⊎_elim, ℕ, suc, Some, List, [], ◌∷◌, ◌++◌, length, refl, sym, ap, ◌∙◌, subst, arith}
 use mathlib.Core.Option.{some}
 use mathlib.Core.List.{IsPrefix}
 use lib.ListN.{get_elem?}
 use Rattle.atomic_table.specs.Table.{State as Table}
 use Rattle.atomic_table.proofs.Lists.{at_map}
+use Rattle.registry_values.specs.declared.entry.Entry.{Entry}
 use Rattle.registry_values.specs.declared.settings.Settings.{Settings}
+use Rattle.registry_values.specs.declared.slot.Slot.TheVariants.{Retired}
+use Rattle.registry_values.specs.Slots.{slot_at}
 use Rattle.registry_values.specs.declared.entry.Change.{Change}
 use Rattle.protocol.specs.declared.event.Event.{Event}
-use Rattle.protocol.specs.declared.event.Event.TheVariants.{Snapshot, Look}
-use Rattle.protocol.specs.declared.event.Reply.TheVariants.{Word}
-use Rattle.protocol.specs.State.{State, opening, section_at}
+use Rattle.protocol.specs.declared.event.Event.TheVariants.{Publish, Snapshot, Look}
+use Rattle.protocol.specs.declared.event.Reply.TheVariants.{Done, Word}
+use Rattle.protocol.specs.State.{State, opening, section_at, kept_at}
 use Rattle.protocol.specs.Events.{Outcome, step}
 use Rattle.protocol.specs.Invariant.{Holds}
+use Rattle.protocol.specs.Laws.{destroyed_slot}
 use Rattle.protocol.proofs.keeps.Keeping.{opening_holds}
 use Rattle.cpu_words.specs.declared.view.Deed.{Deed}
+use Rattle.cpu_words.specs.declared.view.CpuView.{CpuView}
 use Rattle.cpu_words.specs.declared.view.KeeperView.{KeeperView}
 use Rattle.cpu_words.specs.declared.view.Logged.{Logged}
-use Rattle.cpu_words.specs.declared.view.View.TheVariants.{Keeper}
-use Rattle.cpu_words.specs.Deeds.{changes_in, AreMarksOf, AreSlotsOf, FindsWord, WordsGrow, IsOwnLog}
+use Rattle.cpu_words.specs.declared.view.View.{View}
+use Rattle.cpu_words.specs.declared.view.View.TheVariants.{Keeper, Cpu}
+use Rattle.cpu_words.specs.Deeds.{changes_in, AreMarksOf, AreSlotsOf, FindsWord, WordsGrow, IsFreedFrom, IsAttachedKeeping, IsShownAfter, IsOwnLog, keeping}
 use Rattle.cpu_words.specs.Logs.{part, LoggedRuled}
-use Rattle.cpu_words.specs.Notes.{keeper_with_heard}
+use Rattle.cpu_words.specs.Notes.{with_heard, keeper_with_heard}
 use Rattle.cpu_words.proofs.logs.Changes.{run_of, fit_of}
 use Rattle.cpu_words.proofs.logs.Loads.{place, same_event, word_of, replied_word, run_since}
 use Rattle.cpu_words.proofs.logs.Known.{Known, known_stays, known_first}
@@ -30,16 +36,16 @@ use Rattle.cpu_words.proofs.logs.Runs.{deed_of, Follows, follows_holds, cut}
 
 -- Words grow
 
-found_word : (s : State) (e : Event) (o : Outcome) (c w : ℕ) (d : Deed) → step s e ≡ Some o → d ≡ deed_of e o.reply → FindsWord c w d → section_at s c ≡ w
+found_word : (s : State) (e : Event) (o : Outcome) (c w : ℕ) (d : Deed) → step s e ≡ Some o → d ≡ deed_of s e o.reply → FindsWord c w d → section_at s c ≡ w
 found_word s e o c w d made is finds =
     let answers : Answers s e o.reply = (subst (Marks s e) made (step_marks s e)).1 in
     ⊎_elim
     (λ (p : d ≡ record { event = Snapshot finds.0 c; reply = Word w }).
-    let event : Snapshot finds.0 c ≡ e = same_event e (Snapshot finds.0 c) (ap (λ (x : Deed). x.event) (sym p ∙ is)) refl in
+    let event : Snapshot finds.0 c ≡ e = same_event s e (Snapshot finds.0 c) (ap (λ (x : Deed). x.event) (sym p ∙ is)) refl in
     let reply : o.reply ≡ Word (section_at s c) = subst (λ (x : Event). Answers s x o.reply) (sym event) answers in
     sym (replied_word o.reply w (ap (λ (x : Deed). x.reply) (sym p ∙ is)) ∙ ap word_of reply))
     (λ (p : d ≡ record { event = Look finds.0 c; reply = Word w }).
-    let event : Look finds.0 c ≡ e = same_event e (Look finds.0 c) (ap (λ (x : Deed). x.event) (sym p ∙ is)) refl in
+    let event : Look finds.0 c ≡ e = same_event s e (Look finds.0 c) (ap (λ (x : Deed). x.event) (sym p ∙ is)) refl in
     let reply : o.reply ≡ Word (section_at s c) = subst (λ (x : Event). Answers s x o.reply) (sym event) answers in
     sym (replied_word o.reply w (ap (λ (x : Deed). x.reply) (sym p ∙ is)) ∙ ap word_of reply))
     finds.1
@@ -65,6 +71,18 @@ log_known : (z : Settings) (s : Table ℕ Logged) (r : LoggedRuled z s) → Know
 log_known z s r = subst (Known z.cpus (part 0 r.acts)) (sym r.run.reached.run)
     (walked r.run.seat r.run.g.seated (Known z.cpus) [] (opening z) r.acts r.run.reached.events _ (known_stays r.run.seat r.run.g.seated z.cpus) (run_of z s r) (opening_holds z (fit_of z s r)) r.owners (known_first z))
 
+-- a state that shows a seat's view is one in which the keeper had done just what it did
+pub shown_after : (z : Settings) (v : View) (l : Logged) (s : Table ℕ Logged) (r : LoggedRuled z s) (i : ℕ) → get_elem? s.views i ≡ some (record l { view = v }) → IsShownAfter (part 0 r.acts) v
+shown_after z v l s r i at =
+    let its = r.run.shows.fits i v (at_map (λ (x : Logged). x.view) s.views i (record l { view = v }) at) in
+    let known = log_known z s r in record {
+      g = r.run.g;
+      good = r.run.good;
+      shown = its.1;
+      counts = known.counts;
+      totals = known.totals;
+    }
+
 pub own_log : (z : Settings) (k : KeeperView) (l : Logged) (s : Table ℕ Logged) (r : LoggedRuled z s) (i : ℕ) → get_elem? s.views i ≡ some (record l { view = Keeper k }) → IsOwnLog l.log l.laid k
 own_log z k l s r i at =
     let its = r.run.shows.fits i (Keeper k) (at_map (λ (x : Logged). x.view) s.views i (record l { view = Keeper k }) at) in
@@ -81,8 +99,14 @@ own_log z k l s r i at =
       marks = subst (λ (ds : List Deed). AreMarksOf ds k.marks) (sym whole) (subst (AreMarksOf (part 0 r.acts)) (sym marks) known.marks);
       slots = subst (λ (ds : List Deed). AreSlotsOf k.settings.cpus ds k.slots) (sym whole)
           (subst (AreSlotsOf k.settings.cpus (part 0 r.acts)) (sym slots) (subst (λ (n : ℕ). AreSlotsOf n (part 0 r.acts) r.run.g.slots) (sym cpus) known.slots));
+      kept = λ t. ap (λ (x : KeeperView). kept_at x.keeps t) its.1.is ∙ (known.kept t ∙ ap (keeping t) (sym whole));
       grow = subst WordsGrow (sym whole) (words_grow (opening z) r.acts r.run.reached.events _ (run_of z s r) (opening_holds z (fit_of z s r)));
+      counts = (k.heard, subst (λ (ds : List Deed). IsShownAfter ds (Keeper k)) (sym whole) (shown_after z (Keeper k) l s r i at));
     }
+
+-- with the note beside it a CPU's view is shown
+pub shown_laid : (ds : List Deed) (x y : CpuView) (h : List Change) → y ≡ with_heard x h → IsShownAfter ds (Cpu y) → IsShownAfter ds (Cpu (with_heard x h))
+shown_laid ds x y h is shown = subst (λ (v : CpuView). IsShownAfter ds (Cpu v)) is shown
 
 -- a note that is laid beside the keeper's view changes neither its log nor its history and marks
 pub own_laid : (log same note laid : List Deed) (k l : KeeperView) (h : List Change) → l ≡ keeper_with_heard k h → same ≡ log → laid ≡ note → IsOwnLog same laid l → IsOwnLog log note k
@@ -91,5 +115,15 @@ own_laid log same note laid k l h is logs notes own = record {
   changes = sym (ap (λ (x : KeeperView). length x.history) is) ∙ (own.changes ∙ ap changes_in logs);
   marks = subst (AreMarksOf log) (ap (λ (x : KeeperView). x.marks) is) (subst (λ (ds : List Deed). AreMarksOf ds l.marks) logs own.marks);
   slots = subst (λ (ds : List Deed). AreSlotsOf k.settings.cpus ds k.slots) logs (subst (λ (x : KeeperView). AreSlotsOf x.settings.cpus same x.slots) is own.slots);
+  kept = λ t. sym (ap (λ (x : KeeperView). kept_at x.keeps t) is) ∙ (own.kept t ∙ ap (keeping t) logs);
   grow = subst WordsGrow logs own.grow;
+  counts = (own.counts.0, subst (λ (ds : List Deed). IsShownAfter ds (Keeper (keeper_with_heard k own.counts.0))) logs (subst (λ (x : KeeperView). IsShownAfter same (Keeper (keeper_with_heard x own.counts.0))) is own.counts.1));
 }
+
+-- the deed that makes a retired slot vacant frees it from its entry
+pub freed_by : (t : ℕ) (log note : List Deed) (k : KeeperView) (e : Entry) (d : Deed) (more later : List Deed) → IsOwnLog log note k → slot_at k.slots t ≡ Retired e → destroyed_slot d.event ≡ Some t → later ≡ log ++ d ∷ more → IsFreedFrom t e.number later
+freed_by t log note k e d more later own at freed are = record { before = log; deed = d; after = more; are = are; detached = own.slots.retired t e at; freed = freed }
+
+-- an attach in a slot that keeps a driver
+pub attached_by : (t : ℕ) (log note : List Deed) (k : KeeperView) (d : ℕ) (later : List Deed) → IsOwnLog log note k → kept_at k.keeps t ≡ Some d → later ≡ log ++ record { event = Publish t; reply = Done } ∷ [] → IsAttachedKeeping t (suc (length k.history)) d later
+attached_by t log note k d later own keeps are = record { before = log; after = []; are = are; number = ap suc own.changes; keeps = sym (own.kept t) ∙ keeps }

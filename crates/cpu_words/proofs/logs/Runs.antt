@@ -10,17 +10,22 @@ use Rattle.protocol.specs.Laws.{after}
 use Rattle.protocol.proofs.keeps.Keeping.{step_holds}
 use Rattle.protocol.proofs.runs.Steps.{after_more}
 use Rattle.cpu_words.specs.declared.view.Deed.{Deed}
-use Rattle.cpu_words.specs.Rule.{event_without_id, reply_without_id, deeds_with, deeds_from}
+use Rattle.cpu_words.specs.Rule.{by_number, reply_without_id, deeds_with, deeds_from}
 
-abbrev pub deed_of : Event → Reply → Deed
-deed_of e r = record { event = event_without_id e; reply = reply_without_id r }
+-- an event as its seat knows it
+abbrev pub deed_as : Event → Reply → Deed
+deed_as e r = record { event = e; reply = reply_without_id r }
+
+-- an event that is made in the state s
+abbrev pub deed_of : State → Event → Reply → Deed
+deed_of s e r = deed_as (by_number s e) r
 
 -- from s the events lead to t, each made, and each is its act's
 abbrev pub Follows : State → List (ℕ × Deed) → List Event → State → Type 0
 Follows s [] [] t = t ≡ s
 Follows s [] (e ∷ es) t = ⊥
 Follows s (a ∷ more) [] t = ⊥
-Follows s (a ∷ more) (e ∷ es) t = (o : Outcome) × (step s e ≡ Some o) × (a.1 ≡ deed_of e o.reply) × Follows o.state more es t
+Follows s (a ∷ more) (e ∷ es) t = (o : Outcome) × (step s e ≡ Some o) × (a.1 ≡ deed_of s e o.reply) × Follows o.state more es t
 
 abbrev first_of : Deed → List Deed → Deed
 first_of d [] = d
@@ -38,16 +43,16 @@ same_rest x y xs ys same = ap rest_of same
 
 -- What was done, where all was made
 
-few_noted : (e : Event) (o : Option Outcome) (ds : List Deed) (n : ℕ) → length ds ≤ n → length (deeds_with e o ds) ≤ suc n
-few_noted e None ds n le = omega arith
-few_noted e (Some o) ds n le = omega arith
+few_noted : (s : State) (e : Event) (o : Option Outcome) (ds : List Deed) (n : ℕ) → length ds ≤ n → length (deeds_with s e o ds) ≤ suc n
+few_noted s e None ds n le = omega arith
+few_noted s e (Some o) ds n le = omega arith
 
 few : (r : Ran) (es : List Event) → length (deeds_from r es) ≤ length es
 few r [] = omega arith
-few r (e ∷ es) = few_noted e (step r.state e) (deeds_from (run_with_event r (step r.state e)) es) (length es) (few (run_with_event r (step r.state e)) es)
+few r (e ∷ es) = few_noted r.state e (step r.state e) (deeds_from (run_with_event r (step r.state e)) es) (length es) (few (run_with_event r (step r.state e)) es)
 
 follow : (r : Ran) (acts : List (ℕ × Deed)) (e : Event) (es : List Event) (o : Option Outcome) → step r.state e ≡ o
-    → map (λ (a : ℕ × Deed). a.1) acts ≡ deeds_with e o (deeds_from (run_with_event r o) es) → length (deeds_with e o (deeds_from (run_with_event r o) es)) ≡ suc (length es)
+    → map (λ (a : ℕ × Deed). a.1) acts ≡ deeds_with r.state e o (deeds_from (run_with_event r o) es) → length (deeds_with r.state e o (deeds_from (run_with_event r o) es)) ≡ suc (length es)
     → ((more : List (ℕ × Deed)) → map (λ (a : ℕ × Deed). a.1) more ≡ deeds_from (run_with_event r o) es → length (deeds_from (run_with_event r o) es) ≡ length es → Follows (run_with_event r o).state more es (run_of_events (run_with_event r o) es).state)
     → Follows r.state acts (e ∷ es) (run_of_events (run_with_event r o) es).state
 follow r acts e es None is are all on = absurd (let le = few (run_with_event r None) es in omega (arith, le, all))
@@ -55,8 +60,8 @@ follow r [] e es (Some o) is are all on = absurd (let size : 0 ≡ suc (length (
 follow r (a ∷ more) e es (Some o) is are all on = (
   o,
   is,
-  same_first a.1 (deed_of e o.reply) (map (λ (x : ℕ × Deed). x.1) more) (deeds_from (run_with_event r (Some o)) es) are,
-  on more (same_rest a.1 (deed_of e o.reply) (map (λ (x : ℕ × Deed). x.1) more) (deeds_from (run_with_event r (Some o)) es) are) (omega arith),
+  same_first a.1 (deed_of r.state e o.reply) (map (λ (x : ℕ × Deed). x.1) more) (deeds_from (run_with_event r (Some o)) es) are,
+  on more (same_rest a.1 (deed_of r.state e o.reply) (map (λ (x : ℕ × Deed). x.1) more) (deeds_from (run_with_event r (Some o)) es) are) (omega arith),
 )
 
 pub follows : (r : Ran) (acts : List (ℕ × Deed)) (es : List Event) → map (λ (a : ℕ × Deed). a.1) acts ≡ deeds_from r es → length (deeds_from r es) ≡ length es → Follows r.state acts es (run_of_events r es).state

@@ -29,8 +29,8 @@ seat_cut z i l v left right does tells ds is stands by same may on =
     (subst (λ (d : List Deed). Splits (LoggedRuled z) i (record l { view = v }) (record l { view = left v; log = l.log ++ d }) (record { view = right v; log = []; deeds = tells (record l { view = v }); laid = [] })) (sym same)
     (logged_splits z i (record l { view = v }) (left v) (right v) ds (tells (record l { view = v })) stands by may on))
 
-pub seat_join : (z : Settings) (i o : ℕ) (l m : Logged) (v w : View) (both : View → View → View) (does : View → List Deed) (ds : List Deed)
-    → l ≡ record l { view = v } → m ≡ record m { view = w } → IsStanding v → AreBy (who v) ds → does v ≡ ds → JoinsOn z i v o w (both v w) Spent ds → Joins (LoggedRuled z) i l o m (joined_seat both does l m) spent_seat
+pub seat_join : (z : Settings) (i o : ℕ) (l m : Logged) (v w : View) (both : View → View → View) (does : View → View → List Deed) (ds : List Deed)
+    → l ≡ record l { view = v } → m ≡ record m { view = w } → IsStanding v → AreBy (who v) ds → does v w ≡ ds → JoinsOn z i v o w (both v w) Spent ds → Joins (LoggedRuled z) i l o m (joined_seat both does l m) spent_seat
 seat_join z i o l m v w both does ds is that stands by same on =
     subst (λ (p : Logged × Logged). Joins (LoggedRuled z) i p.0 o p.1 (joined_seat both does p.0 p.1) spent_seat) (λ k. (sym is k, sym that k))
     (subst (λ (d : List Deed). Joins (LoggedRuled z) i (record l { view = v }) o (record m { view = w }) (record l { view = both v w; log = l.log ++ d }) spent_seat) (sym same)

@@ -1,11 +1,10 @@
 -- What slots have by a log, and how that goes on.
 use Rattle.std.proofs.Common.{◌≡◌, ℕ, suc, ◌+◌, Bool, true, false, if◌then◌else◌, List, [], ◌∷◌, ◌++◌, refl, sym, ap, ◌∙◌, arith}
 use Rattle.protocol.specs.declared.event.Event.{Event}
-use Rattle.protocol.specs.declared.event.Event.TheVariants.{Publish, Unpublish, LoadRecord}
-use Rattle.protocol.specs.declared.event.RecordOf.{RecordOf}
-use Rattle.protocol.specs.declared.event.RecordOf.TheVariants.{Search as OfSearch, Passive, Local}
+use Rattle.protocol.specs.declared.event.Event.TheVariants.{Publish, Unpublish}
+use Rattle.protocol.specs.State.{State}
 use Rattle.cpu_words.specs.declared.view.Deed.{Deed}
-use Rattle.cpu_words.specs.Rule.{event_without_id}
+use Rattle.cpu_words.specs.Rule.{by_number}
 use Rattle.cpu_words.specs.Deeds.{changes_of, changes_in, is_detach_from, KeepsEntry, Standing, nothing, attached, detached, number_of, stands_after, stands_from, standing, IsDetachedFrom, is_change_at, KeepsSlot}
 use Rattle.cpu_words.proofs.logs.Changes.{is_change, moves_past}
 
@@ -41,17 +40,11 @@ left_standing t n (Publish u) x other = ap (λ (b : Bool). if b then attached (s
 left_standing t n (Unpublish u) x other = ap (λ (b : Bool). if b then detached (number_of x) else x) other
 left_standing t n e x other = refl
 
-unnamed_change : (t : ℕ) (of : RecordOf) → is_change_at t (event_without_id (LoadRecord of)) ≡ false
-unnamed_change t (OfSearch c) = refl
-unnamed_change t (Passive c n k) = refl
-unnamed_change t (Local id k) = refl
-
 -- no attach or detach at all
-pub no_change_at : (t : ℕ) (e : Event) → is_change e ≡ false → is_change_at t (event_without_id e) ≡ false
-no_change_at t (Publish u) other = absurd (let q : true ≡ false = other in cc)
-no_change_at t (Unpublish u) other = absurd (let q : true ≡ false = other in cc)
-no_change_at t (LoadRecord of) other = unnamed_change t of
-no_change_at t e other = refl
+pub no_change_at : (t : ℕ) (s : State) (e : Event) → is_change e ≡ false → is_change_at t (by_number s e) ≡ false
+no_change_at t s (Publish u) other = absurd (let q : true ≡ false = other in cc)
+no_change_at t s (Unpublish u) other = absurd (let q : true ≡ false = other in cc)
+no_change_at t s e other = refl
 
 pub no_detach_from : (t : ℕ) (e : Event) → is_change_at t e ≡ false → is_detach_from t e ≡ false
 no_detach_from t (Unpublish u) other = other

@@ -8,14 +8,14 @@ use Rattle.protocol.specs.Events.{Outcome, step}
 use Rattle.protocol.specs.Invariant.{Holds}
 use Rattle.protocol.proofs.keeps.Keeping.{step_holds}
 use Rattle.cpu_words.specs.declared.view.Deed.{Deed}
-use Rattle.cpu_words.specs.Rule.{event_without_id}
+use Rattle.cpu_words.specs.Rule.{by_number}
 use Rattle.cpu_words.specs.Logs.{part, maker, IsSeatOf, AreByOwn}
 use Rattle.cpu_words.proofs.logs.Runs.{deed_of, Follows}
 
 -- it stays so by each event: the keeper's log goes on with one of its own, and no other is the keeper's
 pub record Stays (seat : ℕ → ℕ) (n : ℕ) (P : List Deed → State → Type 0) : Type 0 where
-  pub own : (log : List Deed) (s : State) (e : Event) (o : Outcome) → Holds s → step s e ≡ Some o → P log s → P (log ++ deed_of e o.reply ∷ []) o.state
-  pub off : (i : ℕ) (log : List Deed) (s : State) (e : Event) (o : Outcome) → IsSeatOf seat n i (maker (event_without_id e)) → i ≢ 0 → Holds s → step s e ≡ Some o → P log s → P log o.state
+  pub own : (log : List Deed) (s : State) (e : Event) (o : Outcome) → Holds s → step s e ≡ Some o → P log s → P (log ++ deed_of s e o.reply ∷ []) o.state
+  pub off : (i : ℕ) (log : List Deed) (s : State) (e : Event) (o : Outcome) → IsSeatOf seat n i (maker (by_number s e)) → i ≢ 0 → Holds s → step s e ≡ Some o → P log s → P log o.state
 
 pub walked : (seat : ℕ → ℕ) (n : ℕ) (P : List Deed → State → Type 0) (log : List Deed) (s : State) (acts : List (ℕ × Deed)) (es : List Event) (t : State)
     → Stays seat n P → Follows s acts es t → Holds s → AreByOwn seat n acts → P log s → P (log ++ part 0 acts) t
@@ -32,7 +32,7 @@ walked seat n P log s (a ∷ more) (e ∷ es) t stays run on own so =
     append_assoc log (a.1 ∷ []) (part 0 more) ∙ sym (ap (λ (b : Bool). log ++ cond b (a.1 ∷ part 0 more) (part 0 more)) (eq-eqb a.0 0 same)) in
     subst (λ (l : List Deed). P l t) whole (walked seat n P (log ++ a.1 ∷ []) o.state more es t stays run.3 holds own.1 next))
     (λ (off : a.0 ≢ 0).
-    let mine : IsSeatOf seat n a.0 (maker (event_without_id e)) = subst (λ (d : Deed). IsSeatOf seat n a.0 (maker d.event)) run.2 own.0 in
+    let mine : IsSeatOf seat n a.0 (maker (by_number s e)) = subst (λ (d : Deed). IsSeatOf seat n a.0 (maker d.event)) run.2 own.0 in
     let next : P log o.state = stays.off a.0 log s e o mine off on run.1 so in
     let whole : log ++ part 0 more ≡ log ++ part 0 (a ∷ more) = sym (ap (λ (b : Bool). log ++ cond b (a.1 ∷ part 0 more) (part 0 more)) (ne_eqb a.0 0 off)) in
     subst (λ (l : List Deed). P l t) whole (walked seat n P log o.state more es t stays run.3 holds own.1 next))

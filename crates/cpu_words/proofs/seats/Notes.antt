@@ -1,5 +1,5 @@
 -- Notes on the words: what a seat has seen is told and heard.
-use Rattle.std.proofs.Common.{[], ◌≡◌, ◌≢◌, ⊎_elim, ℕ, ◌*◌, ◌≤◌, List, length, take, get_or, set, Some, None, refl, sym, ap, ◌∙◌, subst, arith, get_or-set_same, get_or-set_other}
+use Rattle.std.proofs.Common.{◌++◌, [], ◌≡◌, ◌≢◌, inl, ⊎_elim, ℕ, ◌*◌, ◌≤◌, List, length, take, get_or, set, Some, None, refl, sym, ap, ◌∙◌, subst, arith, get_or-set_same, get_or-set_other}
 use Rattle.std.specs.Prelude.{slice_index}
 use mathlib.Core.Option.{some}
 use mathlib.Core.List.{IsPrefix}
@@ -20,13 +20,13 @@ use Rattle.cpu_words.specs.declared.view.Logged.{Logged}
 use Rattle.cpu_words.specs.declared.view.View.{View}
 use Rattle.cpu_words.specs.declared.view.View.TheVariants.{Keeper, Cpu, Note, Spent}
 use Rattle.cpu_words.specs.Views.{KeeperOwn, own_of, cpu_view, keeper_own, keeper_view, depth_of, CpuShown, KeeperShown, Shown, cpu_of, keeper_of, note_of}
-use Rattle.cpu_words.specs.Rule.{Sits, reference_to, Good, did, deeds}
+use Rattle.cpu_words.specs.Rule.{Sits, reference_to, Good, by_number, did, deeds}
 use Rattle.cpu_words.specs.Steps.{Makes, SplitsBy, CpuMay, KeeperMay}
 use Rattle.cpu_words.specs.Steps.{SplitsOn, JoinsOn}
 use Rattle.std.proofs.lemmas.List.{append-nil}
 use Rattle.cpu_words.proofs.laws.Reaching.{more}
 use Rattle.cpu_words.proofs.logs.Seats.{tells_heard, tells_whole, seat_cut, seat_laid}
-use Rattle.cpu_words.specs.Logs.{the_cpu, LoggedRuled, logged_after_split, deeds_heard, deeds_done, fresh, logged_with_note, spent_seat, tells_pass, tells_history}
+use Rattle.cpu_words.specs.Logs.{the_cpu, who, LoggedRuled, logged_after_split, deeds_heard, deeds_done, fresh, logged_with_note, spent_seat, tells_pass, tells_history}
 use Rattle.cpu_words.specs.Sections.{IsIdle}
 use Rattle.cpu_words.specs.Notes.{as_before, pass_told, history_told, with_heard, keeper_with_heard, beside_cpu, beside_keeper, HasHeard, KeeperHasHeard}
 use Rattle.cpu_words.proofs.shown.Showing.{Stay, shows_split, shows_join}
@@ -44,7 +44,7 @@ own_view_alone g seat i j u ne sits shown backed = shown
 
 -- the event that tells, and that what is told is of the history
 abbrev pub Tells : Event → View → List Change → Type 0
-Tells e v h = (g : State) → Good g → Shown g v → (step g e ≡ Some (record { state = g; reply = Done })) × IsPrefix h g.history
+Tells e v h = (g : State) → Good g → Shown g v → (step g e ≡ Some (record { state = g; reply = Done })) × IsPrefix h g.history × (by_number g e ≡ e)
 
 tells_by : (e : Event) (v : View) (h : List Change) → Tells e v h → SplitsBy e v v (Note h)
 tells_by e v h tells g good had =
@@ -63,7 +63,7 @@ splits z i e v h tells s r at =
     let g = r.g in
     let had = r.shows.fits i v at in
     let told = tells g r.good had.1 in record {
-      goes_on = (more z g g e Done r.reached told.0).1;
+      goes_on = (more z g g e Done r.reached told.0).1 ∙ ap (λ (f : Event). deeds z r.reached.events ++ did f Done) told.2;
       seated = omega arith;
       seats = λ c lt. refl;
       ruled = record {
@@ -73,20 +73,20 @@ splits z i e v h tells s r at =
         good = r.good;
         reached = (more z g g e Done r.reached told.0).0;
         words = r.words;
-        shows = shows_split g g r.seat s.views i v v (Note h) r.shows at (own_view_alone g r.seat i) had (λ j. tt) told.1 (λ n. omega arith);
+        shows = shows_split g g r.seat s.views i v v (Note h) r.shows at (own_view_alone g r.seat i) had (tt, told.1) (λ c lt. inl lt) refl (λ n. omega arith);
       };
     }
 
 cpu_tells : (x : CpuView) (c : ℕ) → x.id ≡ c → IsIdle x → Tells (Tell (Some c)) (Cpu x) x.pass
 cpu_tells x c id idle = subst (λ d. Tells (Tell (Some d)) (Cpu x) x.pass) id (λ g good had.
     let seen = seen_of g x good had in
-    (rw (idle_of g x seen had idle) refl, subst (λ p. IsPrefix p g.history) (sym seen.pass) (taken_is_prefix (seen_at g x.id) g.history)))
+    (rw (idle_of g x seen had idle) refl, subst (λ p. IsPrefix p g.history) (sym seen.pass) (taken_is_prefix (seen_at g x.id) g.history), refl))
 
 keeper_tells : (k : KeeperView) → k.due ≡ Rest → Tells (Tell None) (Keeper k) k.history
 keeper_tells k may g good had =
     let seen = seen_by_keeper g k good had in
     let rest : g.due ≡ Rest = sym seen.due ∙ may in
-    (rw (rest) refl, subst (λ h. IsPrefix h g.history) (sym seen.history) (whole g.history))
+    (rw (rest) refl, subst (λ h. IsPrefix h g.history) (sym seen.history) (whole g.history), refl)
   where
     whole : (h : List Change) → IsPrefix h h
     whole h = subst (λ p. IsPrefix p h) (take_whole h) (taken_is_prefix (length h) h)
@@ -115,6 +115,7 @@ keeper_splits_by v a k view right may =
 pub record Beside (v both : View) (h : List Change) : Type 0 where
   pub sits : (seat : ℕ → ℕ) (i : ℕ) → Sits seat i v → Sits seat i both
   pub shown : (g : State) → Shown g v → IsPrefix h g.history → Shown g both
+  pub owner : who both ≡ who v
   pub references : (n : ℕ) → reference_to n both ≡ reference_to n v
 
 joins : (z : Settings) (i o : ℕ) (v both : View) (h : List Change) → Beside v both h → JoinsOn z i v o (Note h) both Spent []
@@ -137,7 +138,7 @@ joins z i o v both h beside s r at apart there =
         good = r.good;
         reached = r.reached;
         words = r.words;
-        shows = shows_join g g r.seat s.views i v o (Note h) both r.shows at apart was (own_view_alone g r.seat i) (beside.sits r.seat i had.0, beside.shown g had.1 told)
+        shows = shows_join g g r.seat s.views i v o (Note h) both r.shows at apart was (own_view_alone g r.seat i) (beside.sits r.seat i had.0, beside.shown g had.1 told) refl (beside.owner, refl)
             (λ n. let same = beside.references n in omega arith) there;
       };
     }
@@ -161,6 +162,7 @@ cpu_beside x h = record {
     references = had.references;
     heard = told;
   };
+  owner = refl;
   references = λ n. refl;
 }
 
@@ -178,6 +180,7 @@ keeper_beside k h = record {
     beyond = had.beyond;
     heard = told;
   };
+  owner = refl;
   references = λ n. refl;
 }
 

@@ -28,7 +28,7 @@ use Rattle.cpu_words.specs.declared.view.KeeperView.{KeeperView}
 use Rattle.cpu_words.specs.declared.view.Logged.{Logged}
 use Rattle.cpu_words.specs.declared.view.View.{View}
 use Rattle.cpu_words.specs.Spots.{Spot, section_of, passive_of, count_of, head_word, next_of, record_of, total_of, index, IsSpot, word_at}
-use Rattle.cpu_words.specs.Views.{Seated, new_cpu, first_view, Shown}
+use Rattle.cpu_words.specs.Views.{Seated, new_cpu, new_keeper, first_view, Shown}
 use Rattle.cpu_words.specs.Rule.{Sits, Good, Ruled}
 use Rattle.cpu_words.specs.Logs.{IsStanding, Knows, LoggedRuled, first_logged}
 use Rattle.cpu_words.specs.Opening.{AreOpening, AreSeats, keeper_with}
@@ -91,7 +91,7 @@ plain_opens z words fit are = record {
   good = first_good z fit;
   reached = record { events = []; run = refl; made = refl };
   words = record { size = are.size; at = first_words z words fit are };
-  shows = record { fits = one; references = λ n. refl };
+  shows = record { fits = one; each = record { keeper = (new_keeper z, refl); cpus = λ c lt. absurd (omega (arith, lt)) }; references = λ n. refl };
 }
   where
     one : (i : ℕ) (v : View) → get_elem? (first_view z ∷ []) i ≡ some v → Sits (λ _. 0) i v × Shown (opening z) v

@@ -1,9 +1,6 @@
 -- A CPU gets its seat: the keeper's seat is cut in two, and the new view is shown since the CPU has made no step.
-use Rattle.std.proofs.Common.{◌≡◌, ◌≢◌, ◌⊎◌, inl, inr, ⊎_elim, ℕ, zero, suc, ◌+◌, ◌<◌, ◌≤◌, ◌==◌, eq-eqb, ne_eqb, cond, List, [], ◌∷◌, ◌++◌, length, take, set, Option, Some, None, refl, sym, ap, ◌∙◌, subst, arith}
-use Rattle.std.proofs.lemmas.List.{append-nil}
-use Rattle.std.proofs.lemmas.List.Sums.{sum_by_push}
-use Rattle.std.proofs.lemmas.Bool.{lt-ltb}
-use mathlib.Core.Option.{some, some-ne-none, some-injective}
+use Rattle.std.proofs.Common.{◌≡◌, ◌≢◌, inl, inr, ⊎_elim, ℕ, ◌+◌, ◌<◌, ◌≤◌, ◌==◌, eq-eqb, ne_eqb, cond, List, length, take, Option, Some, None, refl, sym, ap, ◌∙◌, subst, arith}
+use Rattle.std.proofs.lemmas.Bool.{lt-ltb, cases_eq}
 use lib.ListN.{get_elem?}
 use Rattle.atomic_table.specs.Table.{Splits}
 use Rattle.registry_values.specs.declared.entry.Entry.{Entry}
@@ -15,6 +12,7 @@ use Rattle.protocol.specs.declared.state.Due.TheVariants.{Rest}
 use Rattle.protocol.specs.State.{State, begin_at, found_at, at_rest}
 use Rattle.protocol.specs.Events.{step}
 use Rattle.protocol.specs.Invariant.{Holds}
+use Rattle.protocol.proofs.keeps.Keeping.{step_holds}
 use Rattle.cpu_words.specs.declared.view.InHand.TheVariants.{Empty as NoEntry}
 use Rattle.cpu_words.specs.declared.view.CpuView.{CpuView}
 use Rattle.cpu_words.specs.declared.view.KeeperView.{KeeperView}
@@ -23,15 +21,15 @@ use Rattle.cpu_words.specs.declared.view.View.{View}
 use Rattle.cpu_words.specs.declared.view.View.TheVariants.{Keeper, Cpu, Reference, Note, Spent}
 use Rattle.cpu_words.specs.Spots.{Spot, section_of, passive_of, count_of, head_word, next_of, record_of, total_of, word_at}
 use Rattle.cpu_words.specs.Views.{SameHand, own_of, cpu_view, new_cpu, CpuShown, KeeperShown, Shown, cpu_of, keeper_of}
-use Rattle.cpu_words.specs.Rule.{Sits, reference_to, Shows, IsFresh, Good, did}
+use Rattle.cpu_words.specs.Rule.{Sits, Shows, IsFresh, Good, did}
 use Rattle.cpu_words.specs.Steps.{SplitsBy, SplitsOn}
 use Rattle.cpu_words.specs.Opening.{MaySeat, one_seated, with_cpu_seated, next_seat}
 use Rattle.cpu_words.proofs.laws.Reaching.{more}
 use Rattle.cpu_words.proofs.logs.Seats.{tells_nothing, seat_cut}
-use Rattle.cpu_words.specs.Logs.{LoggedRuled, logged_after_split, no_deeds, fresh, seats_next}
-use Rattle.cpu_words.proofs.shown.Showing.{shows_set}
+use Rattle.cpu_words.specs.Logs.{the_cpu, LoggedRuled, logged_after_split, no_deeds, fresh, seats_next}
+use Rattle.cpu_words.proofs.shown.Showing.{Stay, SeatsWith, shows_split}
 use Rattle.cpu_words.proofs.shown.Placing.{agrees_same}
-use Rattle.cpu_words.proofs.by_keeper.KeeperSteps.{KeeperLists, keeper_lists, with_keeper, LeavesCpus, keeper_stays, keeper_good_after}
+use Rattle.cpu_words.proofs.by_keeper.KeeperSteps.{KeeperLists, keeper_lists, with_keeper, cpu_beside_shown}
 use Rattle.cpu_words.proofs.by_keeper.KeeperSees.{seen_by_keeper}
 
 -- the core with one more CPU seated
@@ -41,13 +39,21 @@ seated_lists g = record (keeper_lists g) { seated = g.seated + 1 }
 abbrev pub one_more_seated : State → State
 one_more_seated g = with_keeper g (seated_lists g)
 
-leaves_seated : (g : State) → LeavesCpus g (seated_lists g)
-leaves_seated g = record {
-  seated = omega arith;
-  more = ([], sym (append-nil g.history));
-  stay = λ t e here. inl (here, (λ c. refl));
-  go = λ t e here. inl here;
-  collected = λ t c e retired is there. (retired, is);
+-- the other views don't speak of the new seat
+others_stay : (g : State) (seat : ℕ → ℕ) (i : ℕ) → i ≡ 0 → Stay g (one_more_seated g) seat i
+others_stay g seat i mine j (Keeper k) ne sits shown backed = absurd (ne (sits ∙ sym mine))
+others_stay g seat i mine j (Cpu y) ne sits shown backed = cpu_beside_shown g (g.seated + 1) g.locals g.due g.keeps y (λ lt. omega (arith, lt)) shown
+others_stay g seat i mine j (Reference v) ne sits shown backed = record { attached = shown.attached; collected = shown.collected }
+others_stay g seat i mine j (Note h) ne sits shown backed = shown
+others_stay g seat i mine j Spent ne sits shown backed = tt
+
+-- the CPUs that have no seat yet have made no step
+good_seated : (g : State) → Good g → step g (Seat g.seated) ≡ Some (record { state = one_more_seated g; reply = Done }) → Good (one_more_seated g)
+good_seated g good made = record {
+  holds = step_holds g (one_more_seated g) (Seat g.seated) Done good.holds made;
+  fresh = λ c le lt.
+      let was = good.fresh c (omega (arith, le)) lt in
+      record { section = was.section; depth = was.depth; seen = was.seen; passive = was.passive; nets = was.nets };
 }
 
 -- no word tells of a seat
@@ -141,7 +147,7 @@ seats_of g k may good had =
       settings = seen.settings;
       lt = lt;
       made = made;
-      good = keeper_good_after g (seated_lists g) (Seat g.seated) Done good (leaves_seated g) made;
+      good = good_seated g good made;
       new = subst (λ (p : Settings × ℕ). CpuShown (one_more_seated g) (new_cpu p.0 p.1)) (λ n. (sym seen.settings n, sym number n)) (new_shown g good lt);
       keeper = keeper_shown g k had;
     }
@@ -178,25 +184,22 @@ sits_on g seat i j Spent sits shown = tt
 shows_reseated : (g : State) (seat : ℕ → ℕ) (i : ℕ) (views : List View) → Shows g seat views → Shows g (seat_with seat g.seated i) views
 shows_reseated g seat i views shows = record {
   fits = λ j u e. let had = shows.fits j u e in (sits_on g seat i j u had.0 had.1, had.1);
+  each = record {
+    keeper = shows.each.keeper;
+    cpus = λ c lt.
+        let was = shows.each.cpus c lt in
+        let same : seat_with seat g.seated i c ≡ seat c = ap (λ b. cond b i (seat c)) (ne_eqb c g.seated (λ e. omega (arith, lt, e))) in
+        (was.0, ap (get_elem? views) same ∙ was.1, was.2);
+  };
   references = shows.references;
 }
 
--- a view of a pushed list is an old one, or the new one at the end
-at_end : (l : List View) (a b : View) (j : ℕ) → get_elem? (l ++ a ∷ []) j ≡ some b → (get_elem? l j ≡ some b) ⊎ ((j ≡ length l) × (a ≡ b))
-at_end [] a b zero e = inr (refl, some-injective a b e)
-at_end [] a b (suc j) e = absurd (some-ne-none b (sym e))
-at_end (x ∷ xs) a b zero e = inl e
-at_end (x ∷ xs) a b (suc j) e = ⊎_elim (λ h. inl h) (λ (h : (j ≡ length xs) × (a ≡ b)). inr (ap suc h.0, h.1)) (at_end xs a b j e)
-
--- one more view, of no reference
-shows_push : (g : State) (seat : ℕ → ℕ) (views : List View) (w : View) → Shows g seat views → Sits seat (length views) w × Shown g w → ((n : ℕ) → reference_to n w ≡ 0) → Shows g seat (views ++ w ∷ [])
-shows_push g seat views w shows new none = record {
-  fits = λ j u e. ⊎_elim
-      (λ (was : get_elem? views j ≡ some u). shows.fits j u was)
-      (λ (x : (j ≡ length views) × (w ≡ u)). subst (λ (y : ℕ × View). Sits seat y.0 y.1 × Shown g y.1) (λ k. (sym x.0 k, x.1 k)) new)
-      (at_end views w u j e);
-  references = λ n. let a = shows.references n in let b = none n in let c = sum_by_push (reference_to n) views w in omega arith;
-}
+-- who is seated was so, or is the new CPU
+seats_one : (g : State) (seat : ℕ → ℕ) (i : ℕ) (k : KeeperView) → k.seated ≡ g.seated → SeatsWith g.seated (g.seated + 1) (seat_with seat g.seated i) i (next_seat (Keeper k))
+seats_one g seat i k number c lt = ⊎_elim
+    (λ (same : c ≡ g.seated). inr (ap (λ b. cond b i (seat c)) (eq-eqb c g.seated same), ap the_cpu (number ∙ sym same)))
+    (λ (off : c ≢ g.seated). inl (omega (arith, lt, off)))
+    (cases_eq c g.seated)
 
 splits : (z : Settings) (i : ℕ) (k : KeeperView) → MaySeat k → SplitsOn z i (Keeper k) (with_cpu_seated (Keeper k)) (next_seat (Keeper k)) (did (Seat k.seated) Done)
 splits z i k may s r at =
@@ -204,11 +207,9 @@ splits z i k may s r at =
     let g' = one_more_seated g in
     let had = r.shows.fits i (Keeper k) at in
     let p = seats_of g k may r.good had.1 in
-    let views = set s.views i (with_cpu_seated (Keeper k)) in
-    let far = length views in
+    let far = length s.views in
     let seat' = seat_with r.seat g.seated far in
-    let stays = keeper_stays g (seated_lists g) seat' i r.good p.good.holds (leaves_seated g) (λ n. refl) had.0 in
-    let changed : Shows g' seat' views = shows_set g g' seat' s.views i (Keeper k) (with_cpu_seated (Keeper k)) (shows_reseated g r.seat far s.views r.shows) at stays (had.0, p.keeper) (λ n. refl) in
+    let reseated = shows_reseated g r.seat far s.views r.shows in
     let here : far ≡ seat' k.seated = sym (ap (λ b. cond b far (r.seat k.seated)) (eq-eqb k.seated g.seated p.number)) in record {
       goes_on = (more z g g' (Seat k.seated) Done r.reached (subst (λ c. step g (Seat c) ≡ Some (record { state = g'; reply = Done })) (sym p.number) p.made)).1;
       seated = omega arith;
@@ -220,7 +221,7 @@ splits z i k may s r at =
         good = p.good;
         reached = (more z g g' (Seat k.seated) Done r.reached (subst (λ c. step g (Seat c) ≡ Some (record { state = g'; reply = Done })) (sym p.number) p.made)).0;
         words = agrees_same s.words g g' r.words refl (λ q there. same_words g q);
-        shows = shows_push g' seat' views (next_seat (Keeper k)) changed (here, p.new) (λ n. refl);
+        shows = shows_split g g' seat' s.views i (Keeper k) (with_cpu_seated (Keeper k)) (next_seat (Keeper k)) reseated at (others_stay g seat' i had.0) (had.0, p.keeper) (here, p.new) (seats_one g r.seat far k p.number) refl (λ n. refl);
       };
     }
 

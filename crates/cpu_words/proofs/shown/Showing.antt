@@ -1,15 +1,18 @@
 -- The views of a table: how they are shown on as one of them changes, is cut in two, or is joined into another.
-use Rattle.std.proofs.Common.{◌≡◌, ◌≢◌, ℕ, zero, suc, ◌+◌, ◌≤◌, List, [], ◌∷◌, ◌++◌, set, sum_by, sym, ap, subst, ⊎_elim, arith}
+use Rattle.std.proofs.Common.{◌≡◌, ◌≢◌, ◌⊎◌, inl, inr, ℕ, zero, suc, ◌+◌, ◌<◌, ◌≤◌, List, [], ◌∷◌, ◌++◌, length, set, sum_by, refl, sym, ap, ◌∙◌, subst, ⊎_elim, arith, length-set}
 use Rattle.std.proofs.lemmas.List.Sums.{sum_by-cons, sum_by_push}
 use mathlib.Core.Option.{some, some-ne-none, some-injective}
 use lib.ListN.{get_elem?}
-use Rattle.atomic_table.proofs.Lists.{at_set, at_snoc}
+use Rattle.atomic_table.proofs.Lists.{at_set, at_longer, at_last}
 use Rattle.protocol.specs.State.{State}
 use Rattle.protocol.specs.Invariant.{standing_of}
+use Rattle.cpu_words.specs.declared.view.CpuView.{CpuView}
+use Rattle.cpu_words.specs.declared.view.KeeperView.{KeeperView}
 use Rattle.cpu_words.specs.declared.view.View.{View}
-use Rattle.cpu_words.specs.declared.view.View.TheVariants.{Spent}
+use Rattle.cpu_words.specs.declared.view.View.TheVariants.{Keeper, Cpu, Reference, Note, Spent}
 use Rattle.cpu_words.specs.Views.{Shown}
-use Rattle.cpu_words.specs.Rule.{Sits, reference_to, Shows}
+use Rattle.cpu_words.specs.Rule.{Sits, reference_to, HaveViews, Shows}
+use Rattle.cpu_words.specs.Logs.{Maker, the_keeper, the_cpu, another, who}
 
 sum_at : (f : View → ℕ) (l : List View) (i : ℕ) (v w : View) → get_elem? l i ≡ some v → sum_by f (set l i w) + f v ≡ sum_by f l + f w
 sum_at f [] i v w e = absurd (some-ne-none v (sym e))
@@ -46,42 +49,120 @@ IsBacked g v = (n : ℕ) → reference_to n v ≤ standing_in n g
 pub backed : (g : State) (seat : ℕ → ℕ) (views : List View) (i : ℕ) (v : View) → Shows g seat views → get_elem? views i ≡ some v → IsBacked g v
 backed g seat views i v shows at n = let a = weight_at (reference_to n) views i v at in let b = shows.references n in omega arith
 
+-- Whose views are there: a change of a view leaves it its owner's
+
+abbrev HasOwner : List View → ℕ → Maker → Type 0
+HasOwner views j m = (u : View) × (get_elem? views j ≡ some u) × (who u ≡ m)
+
+keeper_is : (u : View) → who u ≡ the_keeper → (k : KeeperView) × (u ≡ Keeper k)
+keeper_is (Keeper k) own = (k, refl)
+keeper_is (Cpu x) own = absurd (let q : the_cpu x.id ≡ the_keeper = own in cc)
+keeper_is (Reference v) own = absurd (let q : another ≡ the_keeper = own in cc)
+keeper_is (Note h) own = absurd (let q : another ≡ the_keeper = own in cc)
+keeper_is Spent own = absurd (let q : another ≡ the_keeper = own in cc)
+
+cpu_is : (u : View) (c : ℕ) → who u ≡ the_cpu c → (x : CpuView) × (u ≡ Cpu x) × (x.id ≡ c)
+cpu_is (Keeper k) c own = absurd (let q : the_keeper ≡ the_cpu c = own in cc)
+cpu_is (Cpu x) c own = (x, refl, (let q : the_cpu x.id ≡ the_cpu c = own in cc))
+cpu_is (Reference v) c own = absurd (let q : another ≡ the_cpu c = own in cc)
+cpu_is (Note h) c own = absurd (let q : another ≡ the_cpu c = own in cc)
+cpu_is Spent c own = absurd (let q : another ≡ the_cpu c = own in cc)
+
+-- each seat that has an owner in the one list has it in the other
+abbrev OwnersStay : List View → List View → Type 0
+OwnersStay views later = (j : ℕ) (u : View) → get_elem? views j ≡ some u → (who u ≡ another → ⊥) → HasOwner later j (who u)
+
+have_on : (seat : ℕ → ℕ) (n : ℕ) (views later : List View) → OwnersStay views later → HaveViews seat n views → HaveViews seat n later
+have_on seat n views later stay have = record {
+  keeper =
+      let was = have.keeper in
+      let is = stay 0 (Keeper was.0) was.1 (λ e. let q : the_keeper ≡ another = e in cc) in
+      let own = keeper_is is.0 is.2 in
+      (own.0, is.1 ∙ ap some own.1);
+  cpus = λ c lt.
+      let was = have.cpus c lt in
+      let is = stay (seat c) (Cpu was.0) was.1 (λ e. let q : the_cpu (was.0).id ≡ another = e in cc) in
+      let own = cpu_is is.0 (was.0).id is.2 in
+      (own.0, is.1 ∙ ap some own.1, own.2 ∙ was.2);
+}
+
+-- one view changes, and is its owner's as before; or it was no owner's
+owners_set : (views : List View) (i j : ℕ) (v w u : View) → get_elem? views i ≡ some v → (who w ≡ who v) ⊎ (who v ≡ another) → get_elem? views j ≡ some u → (who u ≡ another → ⊥) → HasOwner (set views i w) j (who u)
+owners_set [] i j v w u at same there owned = absurd (some-ne-none v (sym at))
+owners_set (x ∷ xs) zero zero v w u at same there owned =
+    let one : v ≡ u = sym (some-injective x v at) ∙ some-injective x u there in
+    (w, refl, ⊎_elim (λ (own : who w ≡ who v). own ∙ ap who one) (λ (none : who v ≡ another). absurd (owned (sym (ap who one) ∙ none))) same)
+owners_set (x ∷ xs) zero (suc j) v w u at same there owned = (u, there, refl)
+owners_set (x ∷ xs) (suc i) zero v w u at same there owned = (u, there, refl)
+owners_set (x ∷ xs) (suc i) (suc j) v w u at same there owned = owners_set xs i j v w u at same there owned
+
+have_set : (seat : ℕ → ℕ) (n m : ℕ) (views : List View) (i : ℕ) (v w : View) → m ≡ n → get_elem? views i ≡ some v → (who w ≡ who v) ⊎ (who v ≡ another) → HaveViews seat n views → HaveViews seat m (set views i w)
+have_set seat n m views i v w more at same have = subst (λ (k : ℕ). HaveViews seat k (set views i w)) (sym more)
+    (have_on seat n views (set views i w) (λ j u there owned. owners_set views i j v w u at same there owned) have)
+
+-- who is seated was so, or has the new view at the end
+abbrev pub SeatsWith : ℕ → ℕ → (ℕ → ℕ) → ℕ → View → Type 0
+SeatsWith n m seat i w = (c : ℕ) → c < m → (c < n) ⊎ ((seat c ≡ i) × (who w ≡ the_cpu c))
+
+have_push : (seat : ℕ → ℕ) (n m : ℕ) (views : List View) (w : View) → SeatsWith n m seat (length views) w → HaveViews seat n views → HaveViews seat m (views ++ w ∷ [])
+have_push seat n m views w seats have = record {
+  keeper = let was = have.keeper in (was.0, at_longer views (w ∷ []) 0 (Keeper was.0) was.1);
+  cpus = λ c lt. ⊎_elim
+      (λ (old : c < n). let was = have.cpus c old in (was.0, at_longer views (w ∷ []) (seat c) (Cpu was.0) was.1, was.2))
+      (λ (new : (seat c ≡ length views) × (who w ≡ the_cpu c)).
+      let own = cpu_is w c new.1 in
+      (own.0, at_last views w (seat c) (sym new.0) ∙ ap some own.1, own.2))
+      (seats c lt);
+}
+
+-- a view of a pushed list is an old one, or the new one at the end
+at_end : (l : List View) (a b : View) (j : ℕ) → get_elem? (l ++ a ∷ []) j ≡ some b → (get_elem? l j ≡ some b) ⊎ ((j ≡ length l) × (a ≡ b))
+at_end [] a b zero e = inr (refl, some-injective a b e)
+at_end [] a b (suc j) e = absurd (some-ne-none b (sym e))
+at_end (x ∷ xs) a b zero e = inl e
+at_end (x ∷ xs) a b (suc j) e = ⊎_elim (λ h. inl h) (λ (h : (j ≡ length xs) × (a ≡ b)). inr (ap suc h.0, h.1)) (at_end xs a b j e)
+
 -- each other view is shown on
 abbrev pub Stay : State → State → (ℕ → ℕ) → ℕ → Type 0
 Stay g g' seat i = (j : ℕ) (u : View) → j ≢ i → Sits seat j u → Shown g u → IsBacked g u → Shown g' u
 
--- one view changes
+-- one view changes, and is its owner's as before
 pub shows_set : (g g' : State) (seat : ℕ → ℕ) (views : List View) (i : ℕ) (v w : View)
-    → Shows g seat views → get_elem? views i ≡ some v → Stay g g' seat i → Sits seat i w × Shown g' w
+    → Shows g seat views → get_elem? views i ≡ some v → Stay g g' seat i → Sits seat i w × Shown g' w → g'.seated ≡ g.seated → who w ≡ who v
     → ((n : ℕ) → reference_to n w + standing_in n g ≡ reference_to n v + standing_in n g') → Shows g' seat (set views i w)
-shows_set g g' seat views i v w shows at stay mine count = record {
+shows_set g g' seat views i v w shows at stay mine seated same count = record {
   fits = λ j u e. ⊎_elim
       (λ (x : (j ≡ i) × (w ≡ u)). subst (λ (y : ℕ × View). Sits seat y.0 y.1 × Shown g' y.1) (λ k. (sym x.0 k, x.1 k)) mine)
       (λ (x : (j ≢ i) × (get_elem? views j ≡ some u)). let was = shows.fits j u x.1 in (was.0, stay j u x.0 was.0 was.1 (backed g seat views j u shows x.1)))
       (at_set views i j w u e);
+  each = have_set seat g.seated g'.seated views i v w seated at (inl same) shows.each;
   references = λ n. let a = sum_at (reference_to n) views i v w at in let b = shows.references n in let c = count n in omega arith;
 }
 
--- one view is cut in two
+-- one view is cut in two: the left part is the owner's, and the right one is nobody's, or that of a CPU that gets its seat
 pub shows_split : (g g' : State) (seat : ℕ → ℕ) (views : List View) (i : ℕ) (v left right : View)
-    → Shows g seat views → get_elem? views i ≡ some v → Stay g g' seat i → Sits seat i left × Shown g' left → ((j : ℕ) → Sits seat j right) → Shown g' right
+    → Shows g seat views → get_elem? views i ≡ some v → Stay g g' seat i → Sits seat i left × Shown g' left → Sits seat (length views) right × Shown g' right
+    → SeatsWith g.seated g'.seated seat (length views) right → who left ≡ who v
     → ((n : ℕ) → reference_to n left + reference_to n right + standing_in n g ≡ reference_to n v + standing_in n g') → Shows g' seat (set views i left ++ right ∷ [])
-shows_split g g' seat views i v left right shows at stay mine sits new count = record {
-  fits = λ j u e. ⊎_elim
-      (λ (was : get_elem? (set views i left) j ≡ some u). ⊎_elim
-      (λ (x : (j ≡ i) × (left ≡ u)). subst (λ (y : ℕ × View). Sits seat y.0 y.1 × Shown g' y.1) (λ k. (sym x.0 k, x.1 k)) mine)
-      (λ (x : (j ≢ i) × (get_elem? views j ≡ some u)). let had = shows.fits j u x.1 in (had.0, stay j u x.0 had.0 had.1 (backed g seat views j u shows x.1)))
-      (at_set views i j left u was))
-      (λ (same : right ≡ u). subst (λ (y : View). Sits seat j y × Shown g' y) same (sits j, new))
-      (at_snoc (set views i left) right u j e);
-  references = λ n. let a = sum_at (reference_to n) views i v left at in let b = shows.references n in let c = count n in let d = sum_by_push (reference_to n) (set views i left) right in omega arith;
-}
+shows_split g g' seat views i v left right shows at stay mine new seats same count =
+    let size : length (set views i left) ≡ length views = length-set views i left in record {
+      fits = λ j u e. ⊎_elim
+          (λ (was : get_elem? (set views i left) j ≡ some u). ⊎_elim
+          (λ (x : (j ≡ i) × (left ≡ u)). subst (λ (y : ℕ × View). Sits seat y.0 y.1 × Shown g' y.1) (λ k. (sym x.0 k, x.1 k)) mine)
+          (λ (x : (j ≢ i) × (get_elem? views j ≡ some u)). let had = shows.fits j u x.1 in (had.0, stay j u x.0 had.0 had.1 (backed g seat views j u shows x.1)))
+          (at_set views i j left u was))
+          (λ (x : (j ≡ length (set views i left)) × (right ≡ u)). subst (λ (y : ℕ × View). Sits seat y.0 y.1 × Shown g' y.1) (λ k. (sym (x.0 ∙ size) k, x.1 k)) new)
+          (at_end (set views i left) right u j e);
+      each = have_push seat g.seated g'.seated (set views i left) right (subst (λ (n : ℕ). SeatsWith g.seated g'.seated seat n right) (sym size) seats)
+          (have_set seat g.seated g.seated views i v left refl at (inl same) shows.each);
+      references = λ n. let a = sum_at (reference_to n) views i v left at in let b = shows.references n in let c = count n in let d = sum_by_push (reference_to n) (set views i left) right in omega arith;
+    }
 
--- one view is put into another, and is spent
+-- one view is put into another, and is spent: it is neither the keeper's nor a CPU's
 pub shows_join : (g g' : State) (seat : ℕ → ℕ) (views : List View) (i : ℕ) (v : View) (o : ℕ) (u both : View)
-    → Shows g seat views → get_elem? views i ≡ some v → o ≢ i → get_elem? views o ≡ some u → Stay g g' seat i → Sits seat i both × Shown g' both
+    → Shows g seat views → get_elem? views i ≡ some v → o ≢ i → get_elem? views o ≡ some u → Stay g g' seat i → Sits seat i both × Shown g' both → g'.seated ≡ g.seated → (who both ≡ who v) × (who u ≡ another)
     → ((n : ℕ) → reference_to n both + standing_in n g ≡ reference_to n v + reference_to n u + standing_in n g') → get_elem? (set views i both) o ≡ some u → Shows g' seat (set (set views i both) o Spent)
-shows_join g g' seat views i v o u both shows at apart there stay mine count there' = record {
+shows_join g g' seat views i v o u both shows at apart there stay mine seated same count there' = record {
   fits = λ j y e. ⊎_elim
       (λ (x : (j ≡ o) × (Spent ≡ y)). subst (λ (z : View). Sits seat j z × Shown g' z) x.1 (tt, tt))
       (λ (x : (j ≢ o) × (get_elem? (set views i both) j ≡ some y)). ⊎_elim
@@ -89,6 +170,7 @@ shows_join g g' seat views i v o u both shows at apart there stay mine count the
       (λ (z : (j ≢ i) × (get_elem? views j ≡ some y)). let had = shows.fits j y z.1 in (had.0, stay j y z.0 had.0 had.1 (backed g seat views j y shows z.1)))
       (at_set views i j both y x.1))
       (at_set (set views i both) o j Spent y e);
+  each = have_set seat g'.seated g'.seated (set views i both) o u Spent refl there' (inr same.1) (have_set seat g.seated g'.seated views i v both seated at (inl same.0) shows.each);
   references = λ n.
       let a = sum_at (reference_to n) views i v both at in
       let b = sum_at (reference_to n) (set views i both) o u Spent there' in

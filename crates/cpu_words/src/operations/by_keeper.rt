@@ -1,10 +1,11 @@
 //! Steps of the keeper's seat.
 
 ghost use Rattle.std.specs.Prelude.{◌≡◌, ℕ, ◌<◌, ◌++◌, ◌+◌, ◌-◌, ◌%◌, ◌^◌};
+ghost use Rattle.cpu_words.specs.Deeds.{IsOwnLog};
 ghost use Rattle.cpu_words.specs.Logs.{the_keeper, AreBy};
 ghost use Rattle.cpu_words.specs.Steps.{KeeperMay, KeeperStores};
 
-use crate::law::{KeeperPlay, KeeperTale, Words};
+use crate::law::{KeeperHearing, KeeperPlay, KeeperTale, Words};
 use crate::seat::KeeperSeat;
 use protocol::Event;
 
@@ -31,7 +32,7 @@ pub(crate) fn load<T: KeeperTale>(
         .load::<KeeperPlay<T>>(&mut seat.token, word)
 }
 
-/// Stores a word.
+/// Stores a word, and hears what its log has.
 pub(crate) fn store<T: KeeperTale>(
     words: &Words,
     seat: &mut KeeperSeat,
@@ -46,13 +47,14 @@ pub(crate) fn store<T: KeeperTale>(
     ensures table { seat.new.table ≡ seat.old.table }
     ensures told { T.tells seat.old.view value seat.new.view }
     ensures log { seat.new.log ≡ seat.old.log ++ T.does seat.old.view value }
+    ensures deeds { IsOwnLog seat.old.log seat.old.laid seat.old.view }
 {
     // The contract alone speaks of the event.
     let _event = event;
     words
         .table
         .shared
-        .store::<KeeperPlay<T>>(&mut seat.token, word, value);
+        .store::<KeeperHearing<T>>(&mut seat.token, word, value);
 }
 
 /// Writes a word. It answers the word as it was.
@@ -79,7 +81,7 @@ pub(crate) fn swap<T: KeeperTale>(
         .swap::<KeeperPlay<T>>(&mut seat.token, word, value)
 }
 
-/// Subtracts from a word. It answers the word as it was.
+/// Subtracts from a word, and hears what its log has. It answers the word as it was.
 pub(crate) fn subtract<T: KeeperTale>(
     words: &Words,
     seat: &mut KeeperSeat,
@@ -94,11 +96,12 @@ pub(crate) fn subtract<T: KeeperTale>(
     ensures table { seat.new.table ≡ seat.old.table }
     ensures told { T.tells seat.old.view result seat.new.view }
     ensures log { seat.new.log ≡ seat.old.log ++ T.does seat.old.view result }
+    ensures deeds { IsOwnLog seat.old.log seat.old.laid seat.old.view }
 {
     // The contract alone speaks of the event.
     let _event = event;
     words
         .table
         .shared
-        .fetch_sub::<KeeperPlay<T>>(&mut seat.token, word, k)
+        .fetch_sub::<KeeperHearing<T>>(&mut seat.token, word, k)
 }

@@ -1,7 +1,8 @@
 //! How a note is cut off a seat that has seen something, and laid beside the view of a seat that is to hear it.
 
 ghost use Rattle.std.specs.Prelude.{◌≡◌, ℕ, ◌<◌, ◌++◌};
-ghost use Rattle.cpu_words.specs.Deeds.{HasHeardDeeds, IsOwnLog};
+ghost use Rattle.cpu_words.specs.declared.view.View.TheVariants.{Cpu};
+ghost use Rattle.cpu_words.specs.Deeds.{HasHeardDeeds, IsOwnLog, IsShownAfter};
 ghost use Rattle.cpu_words.specs.Logs.{the_cpu, the_keeper, AreBy};
 ghost use Rattle.cpu_words.specs.Notes.{with_heard, keeper_with_heard};
 ghost use Rattle.cpu_words.specs.Steps.{CpuMay, KeeperMay};
@@ -99,6 +100,7 @@ pub(crate) fn listen<T: CpuTale>(
     ensures told { T.tells seat.old.view result seat.new.view }
     ensures log { seat.new.log ≡ seat.old.log ++ T.does seat.old.view result }
     ensures deeds { HasHeardDeeds seat.old.deeds seat.old.laid seat.new.deeds }
+    ensures counts { IsShownAfter seat.new.deeds (Cpu seat.old.view) }
 {
     // The contract alone speaks of the event.
     let _event = event;

@@ -2,9 +2,13 @@
 //! into the total, and references found collected are given up by the total.
 
 ghost use Rattle.std.specs.Prelude.{◌≡◌, ◌<◌, ℕ, ◌++◌};
+ghost use Rattle.registry_values.specs.declared.entry.Entry.{Entry};
+ghost use Rattle.registry_values.specs.declared.slot.Slot.TheVariants.{Retired};
+ghost use Rattle.registry_values.specs.Slots.{slot_at};
 ghost use Rattle.protocol.specs.declared.event.Event.TheVariants.{PassiveLook, Collect, TotalAdd, TotalSub, JoinKeeper, KeptSub};
 ghost use Rattle.protocol.specs.declared.event.Reply.TheVariants.{Done, Word};
 ghost use Rattle.cpu_words.specs.declared.view.View.TheVariants.{Keeper, Reference};
+ghost use Rattle.cpu_words.specs.Deeds.{IsFreedFrom};
 ghost use Rattle.cpu_words.specs.Rule.{did};
 ghost use Rattle.cpu_words.specs.Steps.{Makes, JoinsBy};
 ghost use Rattle.cpu_words.specs.Draining.{MayPassiveLook, HasLookedPassive, MayCollect, HasCollected, MayTotalAdd, HasAdded, MayTotalSub, HasSubtracted, MayJoinKeeper, keeper_after_join, MayKeptSub, HasKeptSub};
@@ -103,7 +107,7 @@ pub fn join_keeper(words: &Words, keeper: &mut KeeperSeat, reference: ReferenceS
     ensures table { keeper.new.table ≡ keeper.old.table }
     ensures event { JoinsBy JoinKeeper (Keeper keeper.old.view) (Reference reference.view) (Keeper keeper.new.view) }
     ensures change { keeper.new.view ≡ keeper_after_join keeper.old.view reference.view }
-    ensures log { keeper.new.log ≡ keeper.old.log ++ did (JoinKeeper 0) Done }
+    ensures log { keeper.new.log ≡ keeper.old.log ++ did (JoinKeeper reference.view.entry.number) Done }
 {
     let ReferenceSeat { token } = reference;
     words
@@ -113,7 +117,8 @@ pub fn join_keeper(words: &Words, keeper: &mut KeeperSeat, reference: ReferenceS
 }
 
 /// The retired interface in `slot` gives up the reference to the driver that it keeps: the total of the driver's slot, `driver_slot`, is one
-/// less, and the interface's slot is vacant and keeps nothing.
+/// less, and the interface's slot is vacant and keeps nothing. The keeper hears that the entry, which its log has as detached from the slot, has
+/// gone from there (`freed`).
 /// Condition: the slot is drained, its entry is an interface, and the driver that it keeps is in `driver_slot`.
 pub fn kept_sub(words: &Words, keeper: &mut KeeperSeat, slot: u8, driver_slot: u8)
     requires table { keeper.old.table ≡ words.now.table }
@@ -123,6 +128,7 @@ pub fn kept_sub(words: &Words, keeper: &mut KeeperSeat, slot: u8, driver_slot: u
     ensures event { Makes (KeptSub slot) Done (Keeper keeper.old.view) (Keeper keeper.new.view) }
     ensures change { HasKeptSub keeper.old.view slot driver_slot keeper.new.view }
     ensures log { keeper.new.log ≡ keeper.old.log ++ did (KeptSub slot) Done }
+    ensures freed { (e : Entry) → slot_at keeper.old.view.slots slot ≡ Retired e → IsFreedFrom slot e.number keeper.new.log }
 {
     by_keeper::subtract::<Brand>(
         words,

@@ -1,14 +1,12 @@
 //! Kept drivers: an interface's slot keeps a local reference to its driver. The reference's seat is spent, and no word changes.
 
 ghost use Rattle.std.specs.Prelude.{◌≡◌, ◌++◌};
-ghost use Rattle.registry_values.specs.Slots.{slot_at};
 ghost use Rattle.protocol.specs.declared.event.Event.TheVariants.{Keep};
 ghost use Rattle.protocol.specs.declared.event.Reply.TheVariants.{Done};
 ghost use Rattle.cpu_words.specs.declared.view.View.TheVariants.{Keeper, Reference};
 ghost use Rattle.cpu_words.specs.Rule.{did};
 ghost use Rattle.cpu_words.specs.Steps.{JoinsBy};
-ghost use Rattle.cpu_words.specs.Vacating.{as_vacant, vacate_first};
-ghost use Rattle.cpu_words.specs.Keeping.{MayKeep, IsVacated, keeper_after_keep};
+ghost use Rattle.cpu_words.specs.Keeping.{MayKeep, keeper_after_keep};
 
 use crate::law::Words;
 use crate::operations::kept;
@@ -21,10 +19,9 @@ pub fn keep(words: &Words, keeper: &mut KeeperSeat, slot: u8, reference: Referen
     requires table { (keeper.old.table ≡ words.now.table) × (reference.table ≡ words.now.table) }
     requires may { MayKeep keeper.old.view slot reference.view }
     ensures table { keeper.new.table ≡ keeper.old.table }
-    ensures vacant { IsVacated keeper.old.view slot }
-    ensures event { JoinsBy (Keep slot) (Keeper (as_vacant keeper.old.view slot)) (Reference reference.view) (Keeper keeper.new.view) }
+    ensures event { JoinsBy (Keep slot) (Keeper keeper.old.view) (Reference reference.view) (Keeper keeper.new.view) }
     ensures change { keeper.new.view ≡ keeper_after_keep keeper.old.view slot reference.view }
-    ensures log { keeper.new.log ≡ keeper.old.log ++ vacate_first (slot_at keeper.old.view.slots slot) slot (did (Keep slot 0) Done) }
+    ensures log { keeper.new.log ≡ keeper.old.log ++ did (Keep slot reference.view.entry.number) Done }
 {
     kept::join::<Brand>(words, keeper, reference, slot);
 }

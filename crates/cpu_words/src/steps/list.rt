@@ -1,13 +1,12 @@
 //! The words of a slot that the keeper's seat stores before it links an entry: StoreSlot and StoreNext, a store each.
 
 ghost use Rattle.std.specs.Prelude.{◌≡◌, ◌<◌, ◌+◌, ◌++◌};
-ghost use Rattle.registry_values.specs.Slots.{slot_at};
 ghost use Rattle.protocol.specs.declared.event.Event.TheVariants.{StoreSlot, StoreNext};
 ghost use Rattle.protocol.specs.declared.event.Reply.TheVariants.{Done};
 ghost use Rattle.cpu_words.specs.declared.view.View.TheVariants.{Keeper};
 ghost use Rattle.cpu_words.specs.Rule.{did};
 ghost use Rattle.cpu_words.specs.Steps.{Makes};
-ghost use Rattle.cpu_words.specs.Vacating.{MayWrite, IsTakenAsVacant, as_vacant, vacate_first};
+ghost use Rattle.cpu_words.specs.Vacating.{MayWrite};
 ghost use Rattle.cpu_words.specs.Storing.{HasRecordWord, HasCountWord, HasLink};
 
 use crate::law::Words;
@@ -17,17 +16,15 @@ use protocol::Event;
 use std::marker::Brand;
 
 /// Stores record word `k` (0 number, 1 kind, 2 and 3 the name, 4 value) of `slot`.
-/// Condition: the keeper is at rest, and the slot is vacant, or retired and drained and keeping nothing; then the slot is taken as vacant
-/// (Vacate) by this store.
+/// Condition: the keeper is at rest, and the slot is vacant.
 pub fn store_record(words: &Words, keeper: &mut KeeperSeat, slot: u8, k: u8, value: u64)
     requires table { keeper.old.table ≡ words.now.table }
     requires place { (slot < 32) × (k < 5) }
     requires may { MayWrite keeper.old.view slot }
     ensures table { keeper.new.table ≡ keeper.old.table }
-    ensures vacant { IsTakenAsVacant keeper.old.view slot }
-    ensures event { Makes (StoreSlot slot k value) Done (Keeper (as_vacant keeper.old.view slot)) (Keeper keeper.new.view) }
+    ensures event { Makes (StoreSlot slot k value) Done (Keeper keeper.old.view) (Keeper keeper.new.view) }
     ensures change { HasRecordWord keeper.old.view slot k value keeper.new.view }
-    ensures log { keeper.new.log ≡ keeper.old.log ++ vacate_first (slot_at keeper.old.view.slots slot) slot (did (StoreSlot slot k value) Done) }
+    ensures log { keeper.new.log ≡ keeper.old.log ++ did (StoreSlot slot k value) Done }
 {
     let place = 657 + 8 * slot as usize + k as usize;
     let event = Event::StoreSlot(slot, k, value);
@@ -40,10 +37,9 @@ pub fn store_count(words: &Words, keeper: &mut KeeperSeat, slot: u8, cpu: u8, va
     requires place { (slot < 32) × (cpu < keeper.old.view.settings.cpus) × (cpu < 8) }
     requires may { MayWrite keeper.old.view slot }
     ensures table { keeper.new.table ≡ keeper.old.table }
-    ensures vacant { IsTakenAsVacant keeper.old.view slot }
-    ensures event { Makes (StoreSlot slot (5 + cpu) value) Done (Keeper (as_vacant keeper.old.view slot)) (Keeper keeper.new.view) }
+    ensures event { Makes (StoreSlot slot (5 + cpu) value) Done (Keeper keeper.old.view) (Keeper keeper.new.view) }
     ensures change { HasCountWord keeper.old.view slot cpu value keeper.new.view }
-    ensures log { keeper.new.log ≡ keeper.old.log ++ vacate_first (slot_at keeper.old.view.slots slot) slot (did (StoreSlot slot (5 + cpu) value) Done) }
+    ensures log { keeper.new.log ≡ keeper.old.log ++ did (StoreSlot slot (5 + cpu) value) Done }
 {
     let place = 80 * cpu as usize + 33 + slot as usize;
     let event = Event::StoreSlot(slot, 5 + cpu, value);
@@ -56,10 +52,9 @@ pub fn store_next(words: &Words, keeper: &mut KeeperSeat, slot: u8, link: u64)
     requires place { slot < 32 }
     requires may { MayWrite keeper.old.view slot }
     ensures table { keeper.new.table ≡ keeper.old.table }
-    ensures vacant { IsTakenAsVacant keeper.old.view slot }
-    ensures event { Makes (StoreNext slot link) Done (Keeper (as_vacant keeper.old.view slot)) (Keeper keeper.new.view) }
+    ensures event { Makes (StoreNext slot link) Done (Keeper keeper.old.view) (Keeper keeper.new.view) }
     ensures change { HasLink keeper.old.view slot link keeper.new.view }
-    ensures log { keeper.new.log ≡ keeper.old.log ++ vacate_first (slot_at keeper.old.view.slots slot) slot (did (StoreNext slot link) Done) }
+    ensures log { keeper.new.log ≡ keeper.old.log ++ did (StoreNext slot link) Done }
 {
     let place = 656 + 8 * slot as usize;
     by_keeper::store::<Brand>(words, keeper, place, link, Event::StoreNext(slot, link));

@@ -95,7 +95,7 @@ pub fn join_ref(words: &Words, seat: &mut CpuSeat, cpu: u8, reference: Reference
     ensures table { seat.new.table ≡ seat.old.table }
     ensures event { JoinsBy (JoinRef cpu) (Cpu seat.old.view) (Reference reference.view) (Cpu seat.new.view) }
     ensures change { seat.new.view ≡ with_hand seat.old.view (GivingEntry reference.view.entry) }
-    ensures log { seat.new.log ≡ seat.old.log ++ did (JoinRef cpu 0) Done }
+    ensures log { seat.new.log ≡ seat.old.log ++ did (JoinRef cpu reference.view.entry.number) Done }
     ensures deeds { seat.new.deeds ≡ seat.old.deeds }
 {
     // The contract alone speaks of the CPU's number.

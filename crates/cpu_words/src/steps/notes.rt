@@ -11,7 +11,7 @@ ghost use Rattle.cpu_words.specs.Sections.{IsIdle};
 ghost use Rattle.cpu_words.specs.Rule.{did};
 ghost use Rattle.cpu_words.specs.Steps.{Makes, SplitsBy};
 ghost use Rattle.cpu_words.specs.Notes.{with_heard, keeper_with_heard};
-ghost use Rattle.cpu_words.specs.Deeds.{HasHeardDeeds, IsOwnLog};
+ghost use Rattle.cpu_words.specs.Deeds.{HasHeardDeeds, IsOwnLog, IsShownAfter};
 
 use crate::law::Words;
 use crate::operations::notes;
@@ -71,6 +71,7 @@ pub fn hear(words: &Words, seat: &mut CpuSeat, cpu: u8, note: NoteSeat)
     ensures change { IsPrefix seat.old.view.pass seat.new.view.pass × (seat.new.view ≡ record seat.old.view { pass = seat.new.view.pass; heard = note.view }) }
     ensures log { seat.new.log ≡ seat.old.log ++ did (Hear (Some cpu)) Done }
     ensures deeds { HasHeardDeeds seat.old.deeds note.deeds seat.new.deeds }
+    ensures counts { IsShownAfter seat.new.deeds (Cpu (with_heard seat.old.view note.view)) }
 {
     notes::lay(words, seat, note);
     notes::listen::<Brand>(words, seat, 80 * cpu as usize, Event::Hear(Some(cpu)));

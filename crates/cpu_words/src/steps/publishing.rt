@@ -1,11 +1,13 @@
 //! The list of live entries, newest first: an entry is published by one store to the head, and unpublished by one store to the link
 //! that leads to it.
 
-ghost use Rattle.std.specs.Prelude.{◌≡◌, ◌<◌, Some, None, ◌++◌};
+ghost use Rattle.std.specs.Prelude.{◌≡◌, ℕ, ◌<◌, Some, None, ◌++◌, suc, length};
 ghost use Rattle.registry_values.specs.declared.entry.Entry.{Entry};
 ghost use Rattle.protocol.specs.declared.event.Event.TheVariants.{Publish, Unpublish};
 ghost use Rattle.protocol.specs.declared.event.Reply.TheVariants.{Done};
 ghost use Rattle.cpu_words.specs.declared.view.View.TheVariants.{Keeper};
+ghost use Rattle.protocol.specs.State.{kept_at};
+ghost use Rattle.cpu_words.specs.Deeds.{IsAttachedKeeping};
 ghost use Rattle.cpu_words.specs.Rule.{did};
 ghost use Rattle.cpu_words.specs.Steps.{Makes};
 ghost use Rattle.cpu_words.specs.Publishing.{MayPublish, HasPublished, MayUnpublish, HasUnpublished, IsLinkPlace, link_index};
@@ -30,6 +32,7 @@ pub fn publish(words: &Words, keeper: &mut KeeperSeat, slot: u8)
     ensures change { (e : Entry) × MayPublish keeper.old.view slot e
         × HasPublished keeper.old.view slot e keeper.new.view }
     ensures log { keeper.new.log ≡ keeper.old.log ++ did (Publish slot) Done }
+    ensures attached { (d : ℕ) → kept_at keeper.old.view.keeps slot ≡ Some d → IsAttachedKeeping slot (suc (length keeper.old.view.history)) d keeper.new.log }
 {
     by_keeper::store::<Brand>(words, keeper, 648, slot as u64 + 1, Event::Publish(slot));
 }

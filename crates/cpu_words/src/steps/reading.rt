@@ -29,7 +29,7 @@ pub fn load_local(words: &Words, seat: &mut ReferenceSeat, slot: u8, k: u8) -> u
     ensures event { (id : ℕ) × Makes (LoadRecord (Local id k)) (Word result) (Reference seat.old.view) (Reference seat.new.view) }
     ensures word { result ≡ word (words_of seat.old.view.entry) k }
     ensures name { IsTrue (is_lawful seat.old.view.entry.rec.name) }
-    ensures log { seat.new.log ≡ seat.old.log ++ did (LoadRecord (Local 0 k)) (Word result) }
+    ensures log { seat.new.log ≡ seat.old.log ++ did (LoadRecord (Local seat.old.view.entry.number k)) (Word result) }
 {
     let place = 657 + 8 * slot as usize + k as usize;
     let event = Event::LoadRecord(RecordOf::Local(0, k));

@@ -39,7 +39,7 @@ none_passive s c n None is off = refl
 none_passive s c n (Some t) is off = absurd (off (slot_occupied s.slots n t is))
 
 -- an entry that has no slot any more is held by nothing
-unheld_unoccupied : (s : State) (e : Entry) → Holds s → IsAttached s.history e → (Occupies s.slots e.number → ⊥) → IsUnheld (picture s) e.number
+pub unheld_unoccupied : (s : State) (e : Entry) → Holds s → IsAttached s.history e → (Occupies s.slots e.number → ⊥) → IsUnheld (picture s) e.number
 unheld_unoccupied s e on attached off =
     let none = unoccupied s.settings.cpus s.slots s.hands s.keeps s.due s.locals e.number off on.references on.kept_drivers in
     record {

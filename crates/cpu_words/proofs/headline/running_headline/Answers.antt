@@ -1,6 +1,9 @@
 use Rattle.cpu_words.proofs.laws.Safety.{running_headline}
 use Rattle.cpu_words.proofs.laws.Holders.{held_have_slots}
 use Rattle.cpu_words.proofs.laws.Waiting.{waiting_ends}
+use Rattle.cpu_words.proofs.laws.Freed.{freed_is_gone}
+use Rattle.cpu_words.proofs.laws.Kept.{attached_keeps}
+use Rattle.cpu_words.proofs.laws.Balance.{seats_balance}
 use Rattle.cpu_words.proofs.headline.running_headline.Goals as goal
 
 pub returns-clause-run : goal.returns-clause-run
@@ -11,3 +14,12 @@ returns-clause-held c = held_have_slots
 
 pub returns-clause-waiting : goal.returns-clause-waiting
 returns-clause-waiting c = waiting_ends
+
+pub returns-clause-freed : goal.returns-clause-freed
+returns-clause-freed c = freed_is_gone
+
+pub returns-clause-kept : goal.returns-clause-kept
+returns-clause-kept c = attached_keeps
+
+pub returns-clause-balance : goal.returns-clause-balance
+returns-clause-balance c = seats_balance

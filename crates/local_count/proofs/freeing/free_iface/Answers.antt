@@ -43,4 +43,4 @@ invariant_of-keeper g c =
 pub returns : goal.returns
 returns g c =
     let inside = c.keeper.inside in
-    record { change = has_freed inside.seat.view c.kept_sub.new.keeper.view inside.rows c.args.slot c.in-Some.driver_slot (row_at inside.rows c.args.slot) c.args.keeper.now c.keeper.view_is c.kept_sub.ensures.event c.kept_sub.ensures.change c.kept_sub.ensures.log }
+    record { change = has_freed g.D.Domain.settings inside.seat.view c.kept_sub.new.keeper.view inside.rows c.args.slot c.in-Some.driver_slot (row_at inside.rows c.args.slot) c.args.keeper.now c.keeper.view_is c.keeper.invariant.rows c.kept_sub.ensures.event c.kept_sub.ensures.change c.kept_sub.ensures.log c.kept_sub.ensures.freed }

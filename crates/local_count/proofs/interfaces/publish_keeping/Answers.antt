@@ -11,13 +11,12 @@ use Rattle.cpu_words.specs.declared.view.KeeperView.{KeeperView}
 use Rattle.cpu_words.specs.declared.view.ReferenceView.{ReferenceView}
 use Rattle.cpu_words.specs.declared.view.View.TheVariants.{Keeper, Reference}
 use Rattle.cpu_words.specs.Steps.{JoinsBy}
-use Rattle.cpu_words.specs.Vacating.{as_vacant}
 use Rattle.cpu_words.proofs.shown.KeepersShown.{step_is_shown}
 use Rattle.passive_list.specs.Keepers.{OnKeeper, row_at, state_of, states_of}
 use Rattle.passive_list.specs.Publishing.{MayAttach, HasEntry, keeper_after_stores}
 use Rattle.passive_list.proofs.Attached.{published_keeper, row_live}
 use Rattle.local_count.specs.Draining.{HasAttachedKeeping}
-use Rattle.local_count.proofs.Keeping.{rows_keeping, states_keeping, may_attach, same_history}
+use Rattle.local_count.proofs.Keeping.{keeps_it, rows_keeping, states_keeping, may_attach, same_history}
 use Rattle.local_count.proofs.interfaces.publish_keeping.Goals as goal
 
 pub publish_entry-requires-clause-may : goal.publish_entry-requires-clause-may
@@ -49,10 +48,10 @@ returns-clause-change g c =
     let e : Entry = record { number = inside.changes + 1; slot = t; rec = c.args.rec } in
     let b : OnKeeper = record { view = l; slots = states_of (set rows t (row_live (row_at rows t) e)); log = c.publish_entry.new.seat.log } in
     subst (λ (p : OnKeeper × ReferenceView). HasAttachedKeeping p.0 p.1 e b) (λ i. (c.keeper.view_is i, (c.reference.view_is i).reference)) record {
-      vacated = c.keep.ensures.vacant;
-      kept = subst (λ (x : KeeperView). JoinsBy (Keep t) (Keeper (as_vacant k t)) (Reference v) (Keeper x)) c.keep.ensures.change c.keep.ensures.event;
+      kept = subst (λ (x : KeeperView). JoinsBy (Keep t) (Keeper k) (Reference v) (Keeper x)) c.keep.ensures.change c.keep.ensures.event;
       attached = record {
         entry = subst (λ (x : KeeperView). HasEntry x e l) c.keep.ensures.change c.publish_entry.ensures.change;
         slots = map-set state_of rows t (row_live (row_at rows t) e) ∙ ap (λ (xs : List Slot). set xs t (Live e)) (states_keeping inside.rows t c.reference.inside.number);
       };
+      keeping = c.publish_entry.ensures.attached v.entry.number (keeps_it _ _ _ _ _ _ _ _ t v c.keeper.invariant c.requires.vacant.0 c.keep.ensures.change);
     }

@@ -17,7 +17,7 @@ returns-then-not-passes-clause-met g c =
     let l = c.loop-cpu in
     let works = may_work _ _ _ _ _ _ _ c.args.keeper.now c.args.slot c.requires.retired.0 c.keeper.invariant c.keeper.view_is c.requires.retired.1 in
     grace_met g.D.Domain.settings c.args.keeper.now l.keeper c.passes.new.keeper c.args.slot l.cpu works (subst (λ (z : Settings). l.cpu < z.cpus) c.keeper.invariant.settings c.loop-cpu-test.true)
-    l.invariant.leaves (looks_go_on l.cpu c.args.keeper.now c.args.slot l.keeper l.invariant.looks) l.invariant.passed c.passes.ensures.leaves (c.passes.ensures.sees c.if-not-passes.true)
+    l.invariant.leaves l.invariant.passed c.passes.ensures.leaves (c.passes.ensures.sees c.if-not-passes.true)
 
 pub returns-then-not-passes-clause-leaves : goal.returns-then-not-passes-clause-leaves
 returns-then-not-passes-clause-leaves g c = looked_more c.args.keeper.now c.loop-cpu.keeper c.passes.new.keeper c.args.slot c.loop-cpu.invariant.leaves c.passes.ensures.leaves

@@ -12,4 +12,4 @@ returns-clause-sees g c = λ unset. let change = c.look.ensures.change in
 
 pub returns-clause-leaves : goal.returns-clause-leaves
 returns-clause-leaves g c = let change = c.look.ensures.change in
-    look_leaves c.args.keeper.now c.look.new.keeper _ _ c.args.slot c.args.cpu _ (looked_grows _ change.0) change.1 c.look.ensures.slots
+    look_leaves c.args.keeper.now c.look.new.keeper _ _ c.args.slot c.args.cpu _ (looked_grows _ change.0) change.1 c.look.ensures.slots (_, sym change.3)

@@ -17,7 +17,7 @@ total-held-requires-clause-collected g c = all_collected c.args.keeper.now.view 
 
 pub returns-then-held-ne0 : goal.returns-then-held-ne0
 returns-then-held-ne0 g c =
-    subst (λ (s : Stage). Settles c.args.keeper.now c.args.slot s c.total-held.new.keeper) (sym c.settled-stage.ensures) (settled_held c.args.keeper.now c.total-held.new.keeper c.args.slot c.total-held.result c.if-held-ne0.true c.total-held.ensures.held c.total-held.ensures.same)
+    subst (λ (s : Stage). Settles c.args.keeper.now c.args.slot s c.total-held.new.keeper) (sym c.settled-stage.ensures) (settled_held c.args.keeper.now c.total-held.new.keeper c.args.slot c.total-held.result c.if-held-ne0.true c.total-held.ensures.held c.total-held.ensures.value c.total-held.ensures.same)
 
 pub free-requires-clause-drained : goal.free-requires-clause-drained
 free-requires-clause-drained g c = subst (λ (x : OnKeeper). IsDrainedOn x c.args.slot) (sym c.total-held.ensures.same)

@@ -1,16 +1,13 @@
-use Rattle.std.proofs.Common.{◌∙◌, ◌<◌, Result, Ok, IfOk, refl, sym, ap, subst, List}
+use Rattle.std.proofs.Common.{◌∙◌, ◌<◌, Result, Ok, IfOk, refl, sym, ap, subst}
 use Rattle.registry_values.specs.declared.entry.Entry.{Entry}
 use Rattle.registry_values.specs.declared.refusal.Refusal.{Refusal}
-use Rattle.registry_values.specs.declared.entry.Change.{Change}
-use Rattle.registry_values.specs.declared.entry.Change.TheVariants.{Attach}
-use Rattle.protocol.specs.History.{after_change}
 use Rattle.registry_values.specs.Answers.{attach_answer}
 use Rattle.registry_values.specs.Slots.{is_iface}
 use Rattle.cpu_words.specs.declared.view.KeeperView.{KeeperView}
 use Rattle.passive_list.specs.Keepers.{OnKeeper}
 use Rattle.local_count.specs.Draining.{HasAttachedKeeping}
 use Rattle.name_registry.specs.Attaching.{HasAttachedIfaceFor}
-use Rattle.name_registry.proofs.Attached.{a_driver, inside_is, taken_tells, attach_met, keeping_told, keeping_history}
+use Rattle.name_registry.proofs.Attached.{keeping_more, log_told, a_driver, inside_is, taken_tells, attach_met, keeping_told}
 use Rattle.name_registry.proofs.attaching.attach_iface_in.Goals as goal
 
 pub publish_iface-entry-requires-clause-vacant : goal.publish_iface-entry-requires-clause-vacant
@@ -53,11 +50,12 @@ returns-clause-ok g c =
     let e = c.publish_iface-entry.result in
     let b = c.publish_iface-entry.new.keeper in
     let has = c.publish_iface-entry.ensures.change in
-    let after = ap (λ (k : KeeperView). k.history) has.attached.entry.view ∙ ap (λ (h : List Change). after_change h (Attach e)) (keeping_history m.view e.slot v) in
+    let after = ap (λ (k : KeeperView). k.history) has.attached.entry.view in
     let met = attach_met a x m c.hear_cpu.new.cpu e b c.show_cpu.new.cpu c.hear_cpu.ensures.keeper c.hear_cpu.ensures.cpu c.hear_cpu.ensures.seen (ap (λ x. x.number) c.publish_iface-entry.ensures.entry) after c.show_cpu.ensures.cpu in
     subst (λ (k : OnKeeper). HasAttachedIfaceFor a x v e k c.show_cpu.new.cpu) (sym c.show_cpu.ensures.keeper) record {
       seen = met.0;
       keeper = keeping_told _ v e b (subst (λ (k : OnKeeper). HasAttachedKeeping k v e b) c.hear_cpu.ensures.keeper has);
+      keeping = keeping_more e.slot e.number v.entry.number b.log c.show_cpu.new.cpu.deeds (log_told b c.show_cpu.new.keeper c.show_cpu.new.cpu c.show_cpu.ensures.keeper c.show_cpu.ensures.told) has.keeping;
       cpu = met.1;
       own = met.2;
     }

@@ -9,5 +9,5 @@ returns-in_err-stage-2 g c =
     let n : ℕ = c.loop.invariant.0 in
     let few : suc n < c.args.turns = omega (arith, c.loop.invariant.1, c.loop-test.true) in
     let told = handed_on c.from_residual-in_err-stage-2.result c.in_err-stage-2.field-0.0 c.from_residual-in_err-stage-2.ensures.0 c.from_residual-in_err-stage-2.ensures.1 in
-    ends_unretired (g.I.AdvancesUnderInterlock.advances c.args.number) n c.args.turns c.args.interlock.now c.loop.interlock c.advance-in-loop.new.self c.loop.stage c.in_err-stage-2.field-0.0
+    ends_unretired (g.I.AdvancesUnderInterlock.advances c.args.number) n c.args.turns c.args.cpu.now c.loop.cpu c.advance-in-loop.new.cpu c.loop.stage c.in_err-stage-2.field-0.0
     c.from_residual-in_err-stage-2.result few c.loop.invariant.2 c.in_default.not-Freed c.in_err-stage-2.ensures told

@@ -4,11 +4,12 @@ ghost use Rattle.std.specs.Prelude.{◌≡◌, ◌<◌, IfSome, ℕ, Some, None,
 ghost use Rattle.registry_values.specs.declared.entry.Entry.{Entry as AnEntry};
 ghost use Rattle.registry_values.specs.declared.slot.Slot.TheVariants.{Retired};
 ghost use Rattle.registry_values.specs.Slots.{is_retired_as, retired_slot, is_retired, slot_at};
-ghost use Rattle.passive_core.specs.Advancing.{is_open_since, has_passive, advance_answer, plain_stage, AdvanceLeaves, StageLeaves, Settles, Empties, Gathers, HoldersAreOpen, MarksPass};
+ghost use Rattle.passive_core.specs.Advancing.{is_open_since, has_passive, advance_answer, plain_stage, AdvanceLeaves, StageLeaves, Settles, Empties, Gathers, HoldersAreOpen, MarksPass, MarksClear, SameBut, PassedBelow, ClearBelow, StageMarks, AdvanceMarks};
 ghost use Rattle.registry_values.specs.Marks.{least_below};
 ghost use Rattle.registry_values.specs.Stages.{stage_of};
-ghost use Rattle.protocol.specs.Marking.{MarksGrow, AllPassed, AllClear, AllCollected};
+ghost use Rattle.protocol.specs.Marking.{AllPassed, AllClear, AllCollected};
 ghost use Rattle.passive_core.specs.Commands.{may_act};
+ghost use Rattle.passive_core.specs.Making.{AdvanceMakes, MakesOnly, IsWork, IsLookFor, IsPassiveLookFor, IsCollectionFor, IsFreeingOf};
 ghost use Rattle.protocol.specs.Events.{is_drained};
 ghost use Rattle.protocol.specs.Invariant.{held_at};
 ghost use Rattle.protocol.specs.State.{at_rest, count_at, mark_at};
@@ -28,6 +29,8 @@ impl Core {
         requires { at_rest self.old.due ≡ true }
         ensures answer { result ≡ advance_answer self.old number }
         ensures after { AdvanceLeaves self.old self.new number result }
+        ensures marks { AdvanceMarks self.old self.new number result }
+        ensures made { AdvanceMakes self.old self.new number result }
         ensures holders { HoldersAreOpen self.old }
         ensures settings { self.new.settings ≡ self.old.settings }
         ensures rest { at_rest self.new.due ≡ true }
@@ -50,6 +53,8 @@ impl Core {
         requires retired { is_retired (slot_at self.old.slots t) ≡ true }
         ensures stage { (e : AnEntry) → slot_at self.old.slots t ≡ Retired e → result ≡ plain_stage self.old t e.number }
         ensures after { StageLeaves self.old self.new t result }
+        ensures marks { StageMarks self.old self.new t result }
+        ensures made { MakesOnly (IsWork result t) self.old self.new }
     {
         if let Some(c) = self.look_at_all(t) {
             return Stage::Grace(c);
@@ -81,7 +86,9 @@ impl Core {
         ensures answer { result ≡ least_below (is_open_since self.old t) self.old.settings.cpus }
         ensures only { self.new ≡ record self.old { marks = self.new.marks } }
         ensures marks { MarksPass self.old.marks self.new.marks t }
+        ensures made { MakesOnly (IsLookFor t) self.old self.new }
         ensures passed { result ≡ None → AllPassed self.new t }
+        ensures stopped { IfSome result (λ c. PassedBelow self.old self.new t c) }
     {
         let cpus = self.settings.cpus;
         for c in 0..cpus {
@@ -101,6 +108,8 @@ impl Core {
         ensures answer { result ≡ not (is_open_since self.old t c) }
         ensures only { self.new ≡ record self.old { marks = self.new.marks } }
         ensures marks { MarksPass self.old.marks self.new.marks t }
+        ensures made { MakesOnly (IsLookFor t) self.old self.new }
+        ensures others { SameBut self.old.marks self.new.marks t c }
         ensures passed { result ≡ (mark_at self.new.marks t c).passed }
     {
         // For the proof alone: reading a field opens what the type keeps.
@@ -121,8 +130,10 @@ impl Core {
         requires passed { AllPassed self.old t }
         ensures answer { result ≡ least_below (has_passive self.old t) self.old.settings.cpus }
         ensures only { self.new ≡ record self.old { marks = self.new.marks } }
-        ensures marks { MarksGrow self.old.marks self.new.marks t }
+        ensures marks { MarksClear self.old.marks self.new.marks t }
+        ensures made { MakesOnly (IsPassiveLookFor t) self.old self.new }
         ensures clear { result ≡ None → AllClear self.new t }
+        ensures stopped { IfSome result (λ c. ClearBelow self.old self.new t c) }
     {
         let cpus = self.settings.cpus;
         for c in 0..cpus {
@@ -142,7 +153,9 @@ impl Core {
         requires cpu { c < self.old.settings.cpus }
         ensures answer { result ≡ not (has_passive self.old t c) }
         ensures only { self.new ≡ record self.old { marks = self.new.marks } }
-        ensures marks { MarksGrow self.old.marks self.new.marks t }
+        ensures marks { MarksClear self.old.marks self.new.marks t }
+        ensures made { MakesOnly (IsPassiveLookFor t) self.old self.new }
+        ensures others { SameBut self.old.marks self.new.marks t c }
         ensures clear { result ≡ (mark_at self.new.marks t c).clear }
     {
         // For the proof alone: reading a field opens what the type keeps.
@@ -162,6 +175,7 @@ impl Core {
         requires passed { AllPassed self.old t }
         requires clear { AllClear self.old t }
         ensures gathered { Gathers self.old self.new t }
+        ensures made { MakesOnly (IsCollectionFor t) self.old self.new }
         ensures collected { AllCollected self.new t }
     {
         let cpus = self.settings.cpus;
@@ -179,6 +193,7 @@ impl Core {
         requires clear { AllClear self.old t }
         requires cpu { c < self.old.settings.cpus }
         ensures gathered { Gathers self.old self.new t }
+        ensures made { MakesOnly (IsCollectionFor t) self.old self.new }
         ensures collected { (mark_at self.new.marks t c).collected ≡ true }
     {
         // For the proof alone: reading a field opens what the type keeps.
@@ -200,6 +215,7 @@ impl Core {
         requires collected { AllCollected self.old t }
         ensures stage { (e : AnEntry) → slot_at self.old.slots t ≡ Retired e → result ≡ stage_of t None None (held_at self.old.locals self.old.hands self.old.keeps self.old.due e.number t) }
         ensures after { Settles self.old self.new t result }
+        ensures made { MakesOnly (IsWork result t) self.old self.new }
         ensures emptied { (c : ℕ) → count_at self.old.counts c t ≡ 0 }
     {
         // For the proof alone: reading a field opens what the type keeps.
@@ -217,7 +233,8 @@ impl Core {
     fn free(&mut self, t: u8)
         requires slot { t < self.old.settings.slots }
         requires drained { is_drained self.old t ≡ true }
-        ensures { Empties self.old self.new t }
+        ensures after { Empties self.old self.new t }
+        ensures made { MakesOnly (IsFreeingOf t) self.old self.new }
     {
         // For the proof alone: reading a field opens what the type keeps.
         let _ = &self.settings;

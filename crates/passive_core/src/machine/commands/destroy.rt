@@ -1,8 +1,9 @@
 //! Destroying a retired entry.
 
 ghost use Rattle.std.specs.Prelude.{◌≡◌, ◌<◌, ◌≤◌, ℕ, true};
-ghost use Rattle.passive_core.specs.Advancing.{destroy_answer, DestroyLeaves};
+ghost use Rattle.passive_core.specs.Advancing.{destroy_answer, DestroyLeaves, DestroyMarks};
 ghost use Rattle.passive_core.specs.Commands.{may_act};
+ghost use Rattle.passive_core.specs.Making.{DestroyMakes};
 ghost use Rattle.protocol.specs.State.{at_rest};
 
 use crate::machine::Core;
@@ -22,6 +23,8 @@ impl Core {
         requires some { 1 ≤ turns }
         ensures answer { result ≡ destroy_answer self.old c number }
         ensures after { DestroyLeaves self.old self.new number result }
+        ensures marks { DestroyMarks self.old self.new number result }
+        ensures made { DestroyMakes self.old self.new number result }
         ensures settings { self.new.settings ≡ self.old.settings }
         ensures rest { at_rest self.new.due ≡ true }
         ensures ready { (d : ℕ) → may_act self.old d ≡ true → may_act self.new d ≡ true }

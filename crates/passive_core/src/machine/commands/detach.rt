@@ -3,6 +3,7 @@
 ghost use Rattle.std.specs.Prelude.{◌≡◌, ◌<◌, ℕ, IfErr, IfOk, IfSome, OnErr, OnOk, replicate, slice_index_or, [], true};
 ghost use Rattle.passive_core.specs.Commands.{all_seated, may_act};
 ghost use Rattle.passive_core.specs.Detaching.{after_detach, with_all_snapshots, IsDetachAnswer, IsLookupNow};
+ghost use Rattle.passive_core.specs.Making.{Makes, detach_events, seats_and, snapshots_from};
 ghost use Rattle.protocol.specs.Events.{after_unpublish, is_idle};
 ghost use Rattle.protocol.specs.State.{at_rest};
 ghost use Rattle.registry_values.specs.Marks.{no_mark};
@@ -27,6 +28,7 @@ impl Core {
         ensures answer { IsDetachAnswer self.old c (record { kind = kind; name = name.now }) result }
         ensures live { IfOk result (λ e. slot_at self.old.slots e.slot ≡ Live e) }
         ensures after { self.new ≡ after_detach self.old c result }
+        ensures made { IfOk result (λ e. Makes self.old (seats_and self.old (detach_events self.old.settings.cpus c e.slot)) self.new) }
         ensures settings { self.new.settings ≡ self.old.settings }
         ensures rest { at_rest self.new.due ≡ true }
         ensures ready { (d : ℕ) → may_act self.old d ≡ true → may_act self.new d ≡ true }
@@ -84,7 +86,8 @@ impl Core {
     fn take_snapshots(&mut self, t: u8)
         requires due { self.old.due ≡ Snapshots t 0 }
         requires blank { slice_index_or self.old.marks t [] ≡ replicate 8 no_mark }
-        ensures { self.new ≡ with_all_snapshots self.old t }
+        ensures after { self.new ≡ with_all_snapshots self.old t }
+        ensures made { Makes self.old (snapshots_from t 0 self.old.settings.cpus) self.new }
     {
         let cpus = self.settings.cpus;
         for d in 0..cpus {

@@ -2,7 +2,10 @@
 
 ghost use Rattle.std.specs.Prelude.{◌≡◌, ◌<◌, ℕ, IsSome, Some, length, true};
 ghost use Rattle.passive_core.specs.Commands.{all_seated, may_act};
-ghost use Rattle.protocol.specs.Events.{is_inside};
+ghost use Rattle.passive_core.specs.Making.{FindMakes};
+ghost use Rattle.protocol.specs.declared.event.Event.{Event as AnEvent};
+ghost use Rattle.protocol.specs.Events.{is_inside, step};
+ghost use Rattle.protocol.specs.Laws.{IsLoadOf};
 ghost use Rattle.passive_core.specs.Finding.{after_find, next_load};
 ghost use Rattle.protocol.specs.History.{IsLookup};
 ghost use Rattle.protocol.specs.Invariant.{Holds};
@@ -22,6 +25,7 @@ impl Core {
         requires inside { is_inside self.old c ≡ true }
         ensures answer { IsLookup self.old.history (length self.old.history) (record { kind = kind; name = name.now }) result }
         ensures after { self.new ≡ after_find (all_seated self.old) c result }
+        ensures made { FindMakes self.old self.new c (record { kind = kind; name = name.now }) }
         ensures settings { self.new.settings ≡ self.old.settings }
         ensures rest { at_rest self.new.due ≡ true }
         ensures ready { (d : ℕ) → may_act self.old d ≡ true → may_act self.new d ≡ true }
@@ -44,6 +48,7 @@ impl Core {
         requires { IsSome (search_at self.old c) }
         ensures made { next_load self.old c (search_at self.old c) ≡ Some (record { state = self.new; reply = result }) }
         ensures holds { Holds self.old }
+        ensures event { (event : AnEvent) × IsLoadOf c event × (step self.old event ≡ Some (record { state = self.new; reply = result })) }
     {
         // For the proof alone: reading a field opens what the type keeps.
         let _ = &self.due;

@@ -1,9 +1,12 @@
 //! Local references (localcount(9)): acquired in a section, and released on any CPU.
 
-ghost use Rattle.std.specs.Prelude.{◌≡◌, ℕ, ◌+◌, ◌<◌, nat_lt, IsTrue, Some, None, false, true};
+ghost use Rattle.std.specs.Prelude.{◌≡◌, ℕ, ◌+◌, ◌<◌, nat_lt, IfOk, IsTrue, Some, None, [], ◌∷◌, ◌++◌, if◌then◌else◌, false, true};
 ghost use Rattle.passive_core.specs.Commands.{all_seated, may_act};
+ghost use Rattle.passive_core.specs.Making.{Makes, record_loads, seats_and};
+ghost use Rattle.protocol.specs.declared.event.Event.TheVariants.{CountAdd, SplitRef, JoinRef, CountDown, SplitBack};
+ghost use Rattle.protocol.specs.declared.event.RecordOf.TheVariants.{Local as OfLocal};
 ghost use Rattle.protocol.specs.Events.{is_idle, number_standing};
-ghost use Rattle.passive_core.specs.Locals.{IsCounted, after_acquire_local, after_release_local, count_in, count_refusal, is_counting, is_live_local, local_slot, with_count_less, with_total_less};
+ghost use Rattle.passive_core.specs.Locals.{IsCounted, after_acquire_local, after_release_local, release_events, under_events, count_in, count_refusal, is_counting, is_live_local, local_slot, with_count_less, with_total_less};
 ghost use Rattle.passive_core.specs.Passives.{IsRecordOf};
 ghost use Rattle.protocol.specs.State.{at_rest, found_at, local_at};
 ghost use Rattle.registry_values.specs.Answers.{why_uncounted};
@@ -26,6 +29,7 @@ impl Core {
         requires ready { may_act self.old c ≡ true }
         ensures answer { IsCounted self.old (count_refusal self.old c (found_at self.old c)) result }
         ensures after { self.new ≡ after_acquire_local self.old c result }
+        ensures made { IfOk result (λ _. Makes self.old (seats_and self.old (CountAdd c ∷ SplitRef c ∷ [])) self.new) }
         ensures settings { self.new.settings ≡ self.old.settings }
         ensures rest { at_rest self.new.due ≡ true }
         ensures ready { (d : ℕ) → may_act self.old d ≡ true → may_act self.new d ≡ true }
@@ -70,6 +74,7 @@ impl Core {
         requires live { is_live_local self.old id ≡ true }
         ensures answer { (n : ℕ) → number_standing (local_at self.old.locals id) ≡ Some n → IsRecordOf self.old.history n result }
         ensures after { self.new ≡ all_seated self.old }
+        ensures made { Makes self.old (seats_and self.old (record_loads (λ k. OfLocal id k))) self.new }
         ensures ready { (d : ℕ) → may_act self.old d ≡ true → may_act self.new d ≡ true }
     {
         self.begin();
@@ -84,6 +89,7 @@ impl Core {
         requires ready { may_act self.old c ≡ true }
         requires live { is_live_local self.old id ≡ true }
         ensures after { self.new ≡ after_release_local self.old c id }
+        ensures made { Makes self.old (seats_and self.old (release_events self.old c id)) self.new }
         ensures settings { self.new.settings ≡ self.old.settings }
         ensures rest { at_rest self.new.due ≡ true }
         ensures ready { (d : ℕ) → may_act self.old d ≡ true → may_act self.new d ≡ true }
@@ -123,6 +129,7 @@ impl Core {
         ensures value { result ≡ is_counting self.old c (local_slot self.old id) }
         ensures counted { IsTrue result → self.new ≡ with_count_less self.old c id (local_slot self.old id) }
         ensures kept { result ≡ false → self.new ≡ self.old }
+        ensures made { Makes self.old (JoinRef c id ∷ CountDown c ∷ (if result then [] else SplitBack c ∷ [])) self.new }
     {
         // For the proof alone: reading a field opens what the type keeps.
         let _ = &self.settings;
@@ -144,7 +151,8 @@ impl Core {
         requires rest { at_rest self.old.due ≡ true }
         requires live { is_live_local self.old id ≡ true }
         requires collected { is_counting self.old c (local_slot self.old id) ≡ false }
-        ensures { self.new ≡ with_total_less self.old id (local_slot self.old id) }
+        ensures after { self.new ≡ with_total_less self.old id (local_slot self.old id) }
+        ensures made { Makes self.old (under_events id (local_slot self.old id)) self.new }
     {
         // For the proof alone: reading a field opens what the type keeps.
         let _ = &self.settings;
@@ -161,6 +169,7 @@ impl Core {
         requires { is_live_local self.old id ≡ true }
         ensures record { (n : ℕ) → number_standing (local_at self.old.locals id) ≡ Some n → IsRecordOf self.old.history n result }
         ensures same { self.new ≡ self.old }
+        ensures made { Makes self.old (record_loads (λ k. OfLocal id k)) self.new }
     {
         // For the proof alone: reading a field opens what the type keeps.
         let _ = &self.settings;

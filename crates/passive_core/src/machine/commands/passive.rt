@@ -1,7 +1,10 @@
 //! Passive references (psref(9)): acquired, copied, read and released on one CPU.
 
-ghost use Rattle.std.specs.Prelude.{◌≡◌, ℕ, ◌<◌, ◌||◌, nat_lt, IfOk, Option, Some, None, true};
+ghost use Rattle.std.specs.Prelude.{◌≡◌, ℕ, ◌<◌, ◌||◌, nat_lt, IfOk, Option, Some, None, [], ◌∷◌, true};
 ghost use Rattle.passive_core.specs.Commands.{all_seated, may_act};
+ghost use Rattle.passive_core.specs.Making.{Makes, record_loads, seats_and};
+ghost use Rattle.protocol.specs.declared.event.Event.TheVariants.{PassiveAdd, PassiveSub};
+ghost use Rattle.protocol.specs.declared.event.RecordOf.TheVariants.{Passive as OfPassive};
 ghost use Rattle.protocol.specs.Events.{is_idle, is_number, load_record, some_outcome};
 ghost use Rattle.protocol.specs.Invariant.{Holds};
 ghost use Rattle.protocol.specs.State.{found_at, at_rest};
@@ -28,6 +31,7 @@ impl Core {
         requires ready { may_act self.old c ≡ true }
         ensures answer { result ≡ psref_to_found self.old c (found_at self.old c) }
         ensures after { self.new ≡ after_acquire self.old c result }
+        ensures made { IfOk result (λ psref. Makes self.old (seats_and self.old (PassiveAdd c psref.number ∷ [])) self.new) }
         ensures counted { IfOk result (λ psref. IsOneMore self.old self.new c psref.number) }
         ensures settings { self.new.settings ≡ self.old.settings }
         ensures rest { at_rest self.new.due ≡ true }
@@ -56,6 +60,7 @@ impl Core {
         requires ready { may_act self.old c ≡ true }
         ensures answer { result ≡ psref_copy self.old c psref.number (refusal_of self.old c psref) }
         ensures after { self.new ≡ after_acquire self.old c result }
+        ensures made { IfOk result (λ psref. Makes self.old (seats_and self.old (PassiveAdd c psref.number ∷ [])) self.new) }
         ensures counted { IfOk result (λ psref. IsOneMore self.old self.new c psref.number) }
         ensures settings { self.new.settings ≡ self.old.settings }
         ensures rest { at_rest self.new.due ≡ true }
@@ -89,6 +94,7 @@ impl Core {
         requires ready { may_act self.old c ≡ true }
         ensures answer { Answers (refusal_of self.old c psref) (IsRecordOf self.old.history psref.number) result }
         ensures after { self.new ≡ after_read self.old result }
+        ensures made { IfOk result (λ _. Makes self.old (seats_and self.old (record_loads (λ k. OfPassive c psref.number k))) self.new) }
         ensures settings { self.new.settings ≡ self.old.settings }
         ensures rest { at_rest self.new.due ≡ true }
         ensures ready { (d : ℕ) → may_act self.old d ≡ true → may_act self.new d ≡ true }
@@ -110,6 +116,7 @@ impl Core {
         requires ready { may_act self.old c ≡ true }
         ensures answer { Answers (refusal_of self.old c psref) (λ _. Unit {0}) result }
         ensures after { self.new ≡ after_release self.old c psref.number result }
+        ensures made { IfOk result (λ _. Makes self.old (seats_and self.old (PassiveSub c psref.number ∷ [])) self.new) }
         ensures counted { IfOk result (λ _. IsOneLess self.old self.new c psref.number) }
         ensures settings { self.new.settings ≡ self.old.settings }
         ensures rest { at_rest self.new.due ≡ true }
@@ -130,6 +137,7 @@ impl Core {
         requires has { (is_number number (found_at self.old c) || nat_lt 0 (passive_of self.old c number)) ≡ true }
         requires room { nat_lt (passive_of self.old c number) self.old.settings.passive_limit ≡ true }
         ensures after { self.new ≡ with_one_more self.old c (slot_of self.old.slots number) }
+        ensures made { Makes self.old (seats_and self.old (PassiveAdd c number ∷ [])) self.new }
         ensures counted { IsOneMore self.old self.new c number }
         ensures ready { (d : ℕ) → may_act self.old d ≡ true → may_act self.new d ≡ true }
     {
@@ -144,6 +152,7 @@ impl Core {
         requires ready { may_act self.old c ≡ true }
         requires held { nat_lt 0 (passive_of self.old c number) ≡ true }
         ensures after { self.new ≡ with_one_less self.old c (slot_of self.old.slots number) }
+        ensures made { Makes self.old (seats_and self.old (PassiveSub c number ∷ [])) self.new }
         ensures counted { IsOneLess self.old self.new c number }
         ensures ready { (d : ℕ) → may_act self.old d ≡ true → may_act self.new d ≡ true }
     {
@@ -170,6 +179,7 @@ impl Core {
         requires held { nat_lt 0 (passive_of self.old c number) ≡ true }
         ensures record { IsRecordOf self.old.history number result }
         ensures same { self.new ≡ self.old }
+        ensures made { Makes self.old (record_loads (λ k. OfPassive c number k)) self.new }
     {
         // For the proof alone: reading a field opens what the type keeps.
         let _ = &self.settings;

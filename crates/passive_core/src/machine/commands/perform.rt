@@ -4,6 +4,7 @@ ghost use Rattle.std.specs.Prelude.{◌≡◌, ◌<◌, ◌≤◌, ℕ, true, fa
 ghost use Rattle.protocol.specs.Marking.{AllPassed};
 ghost use Rattle.registry_values.specs.Marks.{least_below};
 ghost use Rattle.passive_core.specs.Commands.{may_act};
+ghost use Rattle.passive_core.specs.Making.{IsWaiting, MakesOnly};
 ghost use Rattle.protocol.specs.Events.{is_inside};
 ghost use Rattle.registry_values.specs.Slots.{retired_number, is_retired, slot_at};
 ghost use Rattle.passive_core.specs.Performing.{perform_answer, PerformLeaves, OnlyPasses, AllOutside, AreSeen, AreWords};
@@ -26,6 +27,7 @@ impl Core {
         requires some { 1 ≤ turns }
         ensures answer { result ≡ perform_answer self.old c }
         ensures after { PerformLeaves self.old self.new result }
+        ensures made { MakesOnly IsWaiting self.old self.new }
         ensures settings { self.new.settings ≡ self.old.settings }
         ensures rest { at_rest self.new.due ≡ true }
         ensures ready { (d : ℕ) → may_act self.old d ≡ true → may_act self.new d ≡ true }
@@ -147,6 +149,7 @@ impl Core {
         requires outside { AllOutside self.old }
         requires numbers { (t : ℕ) → t < self.old.settings.slots → slice_index_or numbers.now t None ≡ retired_number (slot_at self.old.slots t) }
         ensures only { OnlyPasses self.old self.new }
+        ensures made { MakesOnly IsWaiting self.old self.new }
         ensures passed { (t : ℕ) → is_retired (slot_at self.old.slots t) ≡ true → AllPassed self.new t }
     {
         let slots = self.settings.slots;
@@ -160,6 +163,7 @@ impl Core {
         requires rest { at_rest self.old.due ≡ true }
         requires outside { AllOutside self.old }
         ensures only { OnlyPasses self.old self.new }
+        ensures made { MakesOnly IsWaiting self.old self.new }
         ensures passed { (t : ℕ) → is_retired (slot_at self.old.slots t) ≡ true → number ≡ retired_number (slot_at self.old.slots t) → AllPassed self.new t }
     {
         // For the proof alone: reading a field opens what the type keeps.

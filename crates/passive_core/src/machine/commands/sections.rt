@@ -1,9 +1,12 @@
 //! Sections: what a caller may test of a CPU, and how a CPU begins and ends its read section (pserialize(9)).
 
-ghost use Rattle.std.specs.Prelude.{◌≡◌, ◌<◌, ◌≤◌, ℕ, true};
+ghost use Rattle.std.specs.Prelude.{◌≡◌, ◌<◌, ◌≤◌, ℕ, OnOk, [], ◌∷◌, false, true};
 ghost use Rattle.passive_core.specs.Commands.{all_seated, may_act};
 ghost use Rattle.passive_core.specs.Entering.{enter_answer, may_begin, after_enter_command, after_exit_command, with_depth};
+ghost use Rattle.passive_core.specs.Making.{Makes, seats_and};
+ghost use Rattle.protocol.specs.declared.event.Event.TheVariants.{Enter, Exit};
 ghost use Rattle.protocol.specs.Events.{is_idle, is_inside};
+ghost use Rattle.protocol.specs.Invariant.{Holds};
 ghost use Rattle.protocol.specs.State.{at_rest, depth_at};
 
 use crate::machine::Core;
@@ -46,6 +49,8 @@ impl Core {
         requires ready { may_act self.old c ≡ true }
         ensures answer { result ≡ enter_answer self.old c }
         ensures after { self.new ≡ after_enter_command self.old c }
+        ensures made { OnOk result (is_inside self.old c ≡ false → Makes self.old (seats_and self.old (Enter c ∷ [])) self.new) }
+        ensures nested { is_inside self.old c ≡ true → self.new ≡ record self.old { depths = self.new.depths } }
         ensures settings { self.new.settings ≡ self.old.settings }
         ensures rest { at_rest self.new.due ≡ true }
         ensures ready { (d : ℕ) → may_act self.old d ≡ true → may_act self.new d ≡ true }
@@ -71,6 +76,8 @@ impl Core {
         requires ready { may_act self.old c ≡ true }
         requires inside { is_inside self.old c ≡ true }
         ensures after { self.new ≡ after_exit_command self.old c }
+        ensures made { depth_at self.old c ≡ 1 → Makes self.old (seats_and self.old (Exit c ∷ [])) self.new }
+        ensures nested { (depth_at self.old c ≡ 1 → ⊥) → self.new ≡ record self.old { depths = self.new.depths } }
         ensures settings { self.new.settings ≡ self.old.settings }
         ensures rest { at_rest self.new.due ≡ true }
         ensures ready { (d : ℕ) → may_act self.old d ≡ true → may_act self.new d ≡ true }
@@ -101,6 +108,7 @@ impl Core {
         requires ready { may_act self.old c ≡ true }
         ensures after { self.new ≡ all_seated self.old }
         ensures idle { is_idle self.new c ≡ true }
+        ensures sound { Holds self.old }
         ensures ready { (d : ℕ) → may_act self.old d ≡ true → may_act self.new d ≡ true }
     {
         // For the proof alone: reading a field opens what the type keeps.

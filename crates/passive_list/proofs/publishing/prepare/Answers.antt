@@ -1,14 +1,11 @@
 use Rattle.std.proofs.Common.{◌∙◌, ◌≤◌, sym, ap, subst}
 use Rattle.registry_values.specs.declared.settings.Settings.{Settings}
 use Rattle.protocol.specs.Events.{words_of}
-use Rattle.passive_list.proofs.Preparing.{row_may, row_settings, sized_after, vacant_after, counts_may, prepared_from}
+use Rattle.passive_list.proofs.Preparing.{row_may, row_settings, sized_after, counts_may, prepared_from}
 use Rattle.passive_list.proofs.publishing.prepare.Goals as goal
 
 pub store_counts-requires-clause-may : goal.store_counts-requires-clause-may
 store_counts-requires-clause-may c = row_may c.args.seat.now.view c.store_row.new.seat.view c.args.entry.now.slot (words_of c.args.entry.now) c.requires.may c.store_row.ensures.row
-
-pub store_counts-requires-clause-vacant : goal.store_counts-requires-clause-vacant
-store_counts-requires-clause-vacant c = vacant_after c.args.seat.now.view c.store_row.new.seat.view c.args.entry.now.slot (words_of c.args.entry.now) c.requires.may c.store_row.ensures.row
 
 pub store_counts-requires-clause-sized : goal.store_counts-requires-clause-sized
 store_counts-requires-clause-sized c = sized_after c.args.seat.now.view c.store_row.new.seat.view c.args.entry.now.slot (words_of c.args.entry.now) c.requires.sized c.store_row.ensures.row
@@ -24,7 +21,7 @@ store_next-requires-clause-may c =
     let l = c.store_row.new.seat.view in
     let t = c.args.entry.now.slot in
     let w = words_of c.args.entry.now in
-    counts_may l c.store_counts.new.seat.view t c.args.cpus (vacant_after k l t w c.requires.may c.store_row.ensures.row) (row_may k l t w c.requires.may c.store_row.ensures.row) c.store_counts.ensures.counts
+    counts_may l c.store_counts.new.seat.view t c.args.cpus (row_may k l t w c.requires.may c.store_row.ensures.row) c.store_counts.ensures.counts
 
 pub returns-clause-prepared : goal.returns-clause-prepared
-returns-clause-prepared c = prepared_from c.args.seat.now.view c.store_row.new.seat.view c.store_counts.new.seat.view c.store_next.new.keeper.view c.args.entry.now c.args.cpus c.args.link c.requires.may c.requires.fit.1 c.store_row.ensures.row c.store_counts.ensures.counts c.store_next.ensures.change
+returns-clause-prepared c = prepared_from c.args.seat.now.view c.store_row.new.seat.view c.store_counts.new.seat.view c.store_next.new.keeper.view c.args.entry.now c.args.cpus c.args.link c.requires.fit.1 c.store_row.ensures.row c.store_counts.ensures.counts c.store_next.ensures.change

@@ -6,7 +6,7 @@ use Rattle.cpu_words.specs.declared.view.View.TheVariants.{Keeper}
 use Rattle.cpu_words.specs.Publishing.{MayPublish}
 use Rattle.cpu_words.specs.Steps.{Makes}
 use Rattle.passive_list.specs.Keepers.{states_of}
-use Rattle.passive_list.proofs.Attached.{may_publish, published_is, leads_on, rows_live, live_rows}
+use Rattle.passive_list.proofs.Attached.{attached_as, may_publish, published_is, leads_on, rows_live, live_rows}
 use Rattle.passive_list.proofs.publishing.publish_entry.Goals as goal
 
 pub publish-requires-clause-may : goal.publish-requires-clause-may
@@ -28,3 +28,6 @@ returns-clause-change c =
       made = subst (λ (x : KeeperView). Makes (Publish e.slot) Done (Keeper x) (Keeper c.publish.new.keeper.view)) c.prepare.ensures.prepared c.publish.ensures.event;
       view = published_is k c.prepare.new.seat.view c.publish.new.keeper.view e v c.prepare.ensures.prepared c.publish.ensures.change may;
     }
+
+pub returns-clause-attached : goal.returns-clause-attached
+returns-clause-attached c d keeps = attached_as c.args.seat.now.view c.prepare.new.seat.view c.args.entry.now c.link_below-link.result d c.publish.new.keeper.log c.prepare.ensures.prepared c.requires.may.number (λ is. c.publish.ensures.attached d is) keeps

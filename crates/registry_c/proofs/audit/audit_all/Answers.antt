@@ -2,9 +2,13 @@
 use Rattle.std.proofs.Common.{ℕ, List, Option, refl, sym, ap, ◌∙◌, subst, arith}
 use Rattle.registry_values.specs.declared.settings.Settings.{Settings}
 use Rattle.passive_list.specs.Cpus.{OnPlainCpu}
-use Rattle.registry_c.specs.Audits.{AreAllHere, AuditWrites, Audits}
+use Rattle.name_registry.proofs.Gathered.{listened_none}
+use Rattle.name_registry.proofs.Tallies.{known_keeper}
+use Rattle.registry_c.specs.Audits.{AreAllHere, AuditWrites, Audits, cpus_in}
 use Rattle.registry_c.specs.Opening.{bodies_of, body_at}
+use Rattle.registry_c.proofs.Audited.{audit_told}
 use Rattle.registry_c.proofs.AuditsAnswered.{audited, missing_cpu, no_room}
+use Rattle.registry_c.proofs.Gathering.{here_still, none_heard}
 use Rattle.registry_c.proofs.audit.audit_all.Goals as goal
 
 pub returns-then-not-are_all : goal.returns-then-not-are_all
@@ -12,7 +16,8 @@ returns-then-not-are_all g c =
     let z = g.D.Domain.settings in
     let cs = bodies_of c.args.cpus.now in
     record {
-      cpus = c.are_all.ensures.same;
+      keeper = listened_none c.args.keeper.now;
+      cpus = none_heard cs _ c.are_all.ensures.same;
       answer = subst (λ (n : ℕ). Audits z c.args.keeper.now cs n c.args.list.now c.args.list.now c.args.length.now c.args.length.now) (sym c.refused.ensures)
           (missing_cpu z _ cs _ _ _ _ (λ all. c.are_all.ensures.missing c.if-not-are_all.true (subst (λ (a : Settings). AreAllHere a.cpus cs) (sym c.keeper.invariant.settings) all)) refl refl);
     }
@@ -23,28 +28,35 @@ returns-then-list-count g c =
     let cs = bodies_of c.args.cpus.now in
     let all = subst (λ (a : Settings). AreAllHere a.cpus cs) c.keeper.invariant.settings (c.are_all.ensures.all c.if-not-are_all.false) in
     record {
-      cpus = c.are_all.ensures.same;
+      keeper = listened_none c.args.keeper.now;
+      cpus = none_heard cs _ c.are_all.ensures.same;
       answer = no_room z c.args.keeper.now cs _ _ _ _ all (omega (arith, c.if-list-count.true, c.count_entries-count.ensures)) refl c.count_entries-count.ensures;
     }
 
-pub write_balances-requires : goal.write_balances-requires
-write_balances-requires g c =
+pub gather-requires : goal.gather-requires
+gather-requires g c =
     let same = c.are_all.ensures.same in
     let all = subst (λ (a : Settings). AreAllHere a.cpus (bodies_of c.args.cpus.now)) c.keeper.invariant.settings (c.are_all.ensures.all c.if-not-are_all.false) in
     record {
+      words = c.requires.words;
       all = subst (AreAllHere g.D.Domain.settings.cpus) (sym same) all;
-      settings = λ k b at. c.requires k b (ap (λ (l : List (Option OnPlainCpu)). body_at l k) (sym same) ∙ at);
-      room = omega (arith, c.if-list-count.false, c.count_entries-count.ensures);
+      same = λ k b at. c.requires.same k b (ap (λ (l : List (Option OnPlainCpu)). body_at l k) (sym same) ∙ at);
     }
 
-pub returns : goal.returns
-returns g c =
+pub write_balances-requires-clause-all : goal.write_balances-requires-clause-all
+write_balances-requires-clause-all g c =
+    let all = subst (λ (a : Settings). AreAllHere a.cpus (bodies_of c.args.cpus.now)) c.keeper.invariant.settings (c.are_all.ensures.all c.if-not-are_all.false) in
+    here_still g.D.Domain.settings.cpus _ _ c.gather.ensures.cpus (subst (AreAllHere g.D.Domain.settings.cpus) (sym c.are_all.ensures.same) all)
+
+pub returns-clause-answer : goal.returns-clause-answer
+returns-clause-answer g c =
     let z = g.D.Domain.settings in
+    let k = c.args.keeper.now in
     let cs = bodies_of c.args.cpus.now in
+    let ds = bodies_of c.are_all.new.cpus in
     let same = c.are_all.ensures.same in
     let all = subst (λ (a : Settings). AreAllHere a.cpus cs) c.keeper.invariant.settings (c.are_all.ensures.all c.if-not-are_all.false) in
-    record {
-      cpus = c.write_balances.ensures.cpus ∙ same;
-      answer = audited z c.args.keeper.now cs _ _ _ _ all (omega (arith, c.if-list-count.false, c.count_entries-count.ensures))
-          (subst (λ (l : List (Option OnPlainCpu)). AuditWrites z c.args.keeper.now l c.args.list.now c.write_balances.new.list) same c.write_balances.ensures.list) c.count_entries-count.ensures;
-    }
+    let known = known_keeper _ _ _ _ _ _ _ _ c.keeper.invariant c.keeper.view_is in
+    let writes = audit_told z c.gather.new.keeper k (cpus_in (bodies_of c.gather.new.cpus)) (bodies_of c.gather.new.cpus) ds c.args.list.now c.write_balances.new.list known (subst (AreAllHere z.cpus) (sym same) all) c.gather.ensures.alike c.gather.ensures.keeper c.gather.ensures.cpus c.write_balances.ensures.list in
+    audited z k cs _ _ _ _ all (omega (arith, c.if-list-count.false, c.count_entries-count.ensures))
+    (subst (λ (l : List (Option OnPlainCpu)). AuditWrites z k l c.args.list.now c.write_balances.new.list) same writes) c.count_entries-count.ensures

@@ -1,11 +1,10 @@
 -- The entries of all slots, one after the other.
-use Rattle.std.proofs.Common.{◌≡◌, ◌<◌, List, Option, refl, sym, ap, ◌∙◌, subst, arith, rules}
+use Rattle.std.proofs.Common.{◌≡◌, ◌<◌, ℕ, List, Option, refl, sym, ap, ◌∙◌, subst, arith, rules}
 use Rattle.registry_values.specs.declared.settings.Settings.{Settings}
 use Rattle.passive_list.specs.Cpus.{OnPlainCpu}
-use Rattle.name_registry.proofs.Tallies.{known_keeper}
-use Rattle.registry_c.specs.Audits.{AreAllHere, WritesNext}
+use Rattle.registry_c.specs.Audits.{AreAllHere, AreTold, WritesNext, occupied}
 use Rattle.registry_c.specs.Opening.{bodies_of, body_at}
-use Rattle.registry_c.proofs.Audited.{audit_told, has_place, none_told, told_more}
+use Rattle.registry_c.proofs.Audited.{has_place, none_told, told_more}
 use Rattle.registry_c.proofs.audit.write_balances.Goals as goal
 
 pub loop-t-init : goal.loop-t-init
@@ -34,8 +33,9 @@ loop-t-preserved g c =
 pub returns : goal.returns
 returns g c =
     let i = c.loop-t.invariant in
+    let k = c.args.keeper.now in
     let end : c.loop-t.t ≡ g.D.Domain.settings.slots = omega (arith, c.loop-t-test.false, c.loop-t.auto.t-end, ap (λ (z : Settings). z.slots) c.keeper.invariant.settings) in
     record {
       cpus = i.0;
-      list = audit_told g.D.Domain.settings c.args.keeper.now (bodies_of c.args.cpus.now) c.loop-t.t c.loop-t.at c.args.list.now c.loop-t.list end (known_keeper _ _ _ _ _ _ _ _ c.keeper.invariant c.keeper.view_is) c.requires.all i.1;
+      list = subst (λ (p : ℕ × ℕ). AreTold g.D.Domain.settings k (bodies_of c.args.cpus.now) p.0 p.1 c.args.list.now c.loop-t.list) (λ j. (end j, (i.1.place ∙ ap (occupied k) end) j)) i.1;
     }

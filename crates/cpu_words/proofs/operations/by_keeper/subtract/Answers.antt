@@ -2,7 +2,7 @@ use mathlib.Core.Option.{none}
 use Rattle.std.proofs.Common.{ℕ, ◌+◌, ◌-◌, ◌%◌, ◌^◌, sym, ap, ◌∙◌, arith}
 use Rattle.cpu_words.specs.Views.{Named, Seated}
 use Rattle.cpu_words.specs.declared.view.KeeperView.{KeeperView}
-use Rattle.cpu_words.proofs.logs.Allowing.{allows_keeper}
+use Rattle.cpu_words.proofs.logs.Allowing.{allows_keeper_hearing}
 use Rattle.cpu_words.proofs.operations.by_keeper.subtract.Goals as goal
 
 pub fetch_sub-requires : goal.fetch_sub-requires
@@ -11,5 +11,5 @@ fetch_sub-requires g c =
     let table = ap (λ (s : Seated KeeperView). s.table) c.seat.view_is ∙ c.requires.table ∙ sym (ap (λ (w : Named). w.table) c.words.view_is) in (
       table,
       omega (arith, c.requires.place, c.words.invariant.1),
-      allows_keeper _ _ _ _ _ _ _ (λ (n : ℕ). (n + (2 ^ 64 - c.args.k)) % 2 ^ 64) g.T.KeeperTale.does g.T.KeeperTale.tells (record { slots = 0; word = 0; first = 0; second = 0; said = none }) same (sym (ap (λ (s : Seated KeeperView). s.view) c.seat.view_is)) c.seat.invariant c.requires.own c.requires.may,
+      allows_keeper_hearing _ _ _ _ _ _ _ (λ (n : ℕ). (n + (2 ^ 64 - c.args.k)) % 2 ^ 64) g.T.KeeperTale.does g.T.KeeperTale.tells (record { slots = 0; word = 0; first = 0; second = 0; said = none }) same (sym (ap (λ (s : Seated KeeperView). s.view) c.seat.view_is)) c.seat.invariant c.requires.own c.requires.may,
     )

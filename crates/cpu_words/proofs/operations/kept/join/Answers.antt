@@ -4,9 +4,9 @@ use Rattle.cpu_words.specs.declared.view.KeeperView.{KeeperView}
 use Rattle.cpu_words.specs.declared.view.ReferenceView.{ReferenceView}
 use Rattle.cpu_words.specs.declared.view.Logged.{Logged}
 use Rattle.cpu_words.specs.Views.{Seated}
-use Rattle.cpu_words.proofs.by_keeper.Keeping.{keeps_seats, keep_by, is_vacated}
+use Rattle.cpu_words.proofs.by_keeper.Keeping.{keeps_seats, keep_by}
 use Rattle.cpu_words.specs.Logs.{keeps_for}
-use Rattle.cpu_words.specs.declared.view.View.TheVariants.{Keeper}
+use Rattle.cpu_words.specs.declared.view.View.TheVariants.{Keeper, Reference}
 use Rattle.cpu_words.proofs.operations.kept.join.Goals as goal
 
 pub join_seat-requires : goal.join_seat-requires
@@ -19,12 +19,9 @@ join_seat-requires g c = (
       (ap (λ (m : Me ℕ Logged). m.0) c.reference.invariant) (ap (λ (s : Seated ReferenceView). s.view) c.reference.view_is) c.requires.may,
 )
 
-pub returns-clause-vacant : goal.returns-clause-vacant
-returns-clause-vacant g c = is_vacated _ _ _ c.requires.may
-
 pub returns-clause-event : goal.returns-clause-event
 returns-clause-event g c = keep_by c.keeper.inside.token.me.0.view c.reference.inside.token.me.0.view c.join_seat.new.seat.me.0.view g.S.KeepingSlot.slot _ c.args.keeper.now.view c.args.reference.view c.requires.slot
     (ap (λ (s : Seated KeeperView). s.view) c.keeper.view_is) (ap (λ (s : Seated ReferenceView). s.view) c.reference.view_is) (ap (λ (m : Me ℕ Logged). m.0.view) c.join_seat.ensures.2) c.requires.may
 
 pub returns-clause-log : goal.returns-clause-log
-returns-clause-log g c = ap (λ (m : Me ℕ Logged). m.0.log) c.join_seat.ensures.2 ∙ (λ k. ap (λ (s : Seated KeeperView). s.log) c.keeper.view_is k ++ keeps_for (c.requires.slot k) (Keeper (ap (λ (s : Seated KeeperView). s.view) c.keeper.view_is k)))
+returns-clause-log g c = ap (λ (m : Me ℕ Logged). m.0.log) c.join_seat.ensures.2 ∙ (λ k. ap (λ (s : Seated KeeperView). s.log) c.keeper.view_is k ++ keeps_for (c.requires.slot k) (Keeper (ap (λ (s : Seated KeeperView). s.view) c.keeper.view_is k)) (Reference (ap (λ (s : Seated ReferenceView). s.view) c.reference.view_is k)))

@@ -1,5 +1,6 @@
 use Rattle.std.proofs.Common.{refl}
 use Rattle.cpu_words.proofs.by_keeper.KeptDrivers.{kept_sub_may, kept_sub_change}
+use Rattle.cpu_words.proofs.logs.OwnLog.{freed_by}
 use Rattle.cpu_words.proofs.steps.drain.kept_sub.Goals as goal
 
 pub subtract-requires-clause-may : goal.subtract-requires-clause-may
@@ -10,3 +11,6 @@ returns-clause-change c = kept_sub_change _ _ _ _ c.requires.may c.subtract.ensu
 
 pub subtract-requires-clause-own : goal.subtract-requires-clause-own
 subtract-requires-clause-own c n = (refl, tt)
+
+pub returns-clause-freed : goal.returns-clause-freed
+returns-clause-freed c e at = freed_by c.args.slot c.args.keeper.now.log _ c.args.keeper.now.view e _ _ _ c.subtract.ensures.deeds at refl c.subtract.ensures.log

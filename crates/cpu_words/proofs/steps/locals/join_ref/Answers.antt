@@ -24,4 +24,4 @@ returns-clause-event c = seat_joins_by c.seat.inside.token.me.0.view _ c.args.se
     (ap (λ (s : Seated ReferenceView). s.view) c.reference.view_is) (ap (λ (m : Me ℕ Logged). m.0.view) c.join_seat.ensures.2) c.requires.cpu c.requires.may
 
 pub returns-clause-log : goal.returns-clause-log
-returns-clause-log c = ap (λ (m : Me ℕ Logged). m.0.log) c.join_seat.ensures.2 ∙ (λ k. ap (λ (s : Seated CpuView). s.log) c.seat.view_is k ++ did (JoinRef ((ap (λ (s : Seated CpuView). s.view.id) c.seat.view_is ∙ c.requires.cpu) k) 0) Done)
+returns-clause-log c = ap (λ (m : Me ℕ Logged). m.0.log) c.join_seat.ensures.2 ∙ (λ k. ap (λ (s : Seated CpuView). s.log) c.seat.view_is k ++ did (JoinRef ((ap (λ (s : Seated CpuView). s.view.id) c.seat.view_is ∙ c.requires.cpu) k) (ap (λ (s : Seated ReferenceView). s.view) c.reference.view_is k).entry.number) Done)

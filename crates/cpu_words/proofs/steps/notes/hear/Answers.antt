@@ -2,6 +2,7 @@ use Rattle.std.proofs.Common.{sym, ap, ◌∙◌}
 use Rattle.cpu_words.proofs.seats.Notes.{hear_laid_may, cpu_heard}
 use Rattle.cpu_words.specs.Logs.{the_cpu}
 use Rattle.cpu_words.specs.declared.view.CpuView.{CpuView}
+use Rattle.cpu_words.proofs.logs.OwnLog.{shown_laid}
 use Rattle.cpu_words.proofs.steps.notes.hear.Goals as goal
 
 pub listen-requires-clause-may : goal.listen-requires-clause-may
@@ -15,3 +16,6 @@ returns-clause-change c = let heard = cpu_heard c.args.seat.now.view _ _ _ c.lay
 
 pub listen-requires-clause-own : goal.listen-requires-clause-own
 listen-requires-clause-own c n = (ap the_cpu (sym (ap (λ (x : CpuView). x.id) c.lay.ensures.change ∙ c.requires.cpu.1)), tt)
+
+pub returns-clause-counts : goal.returns-clause-counts
+returns-clause-counts c = shown_laid _ c.args.seat.now.view _ _ c.lay.ensures.change c.listen.ensures.counts

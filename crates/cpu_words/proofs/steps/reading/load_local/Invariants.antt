@@ -1,7 +1,7 @@
 use Rattle.protocol.specs.declared.event.Reply.TheVariants.{Word}
-use Rattle.cpu_words.specs.Reading.{tells_local}
+use Rattle.cpu_words.specs.Reading.{loads_by, tells_local}
 use Rattle.cpu_words.specs.Rule.{did}
 use Rattle.cpu_words.proofs.steps.reading.load_local.Given as goal
 
 abbrev pub ghosts-load : goal.ghosts-load
-ghosts-load a = record { does = λ x n. did a.event (Word n); tells = tells_local a.event }
+ghosts-load a = record { does = λ x n. did (loads_by a.event x) (Word n); tells = tells_local a.event }

@@ -1,4 +1,6 @@
-use Rattle.std.proofs.Common.{Ok}
+use Rattle.std.proofs.Common.{Ok, sym, subst}
+use Rattle.cpu_words.specs.Deeds.{IsAttachedKeeping}
+use Rattle.passive_list.specs.Cpus.{OnCpu}
 use Rattle.registry_values.specs.declared.entry.Change.TheVariants.{Attach}
 use Rattle.name_registry.proofs.Counted.{attach_counted, iface_numbered, few_changes, one_made}
 use Rattle.name_registry.proofs.Owned.{iface_may, iface_owned}
@@ -22,3 +24,8 @@ returns-clause-made g c =
     let e = c.in_ok-entry.entry in
     let few = few_changes _ _ _ _ _ _ _ c.keeper.invariant in
     one_made _ x c.attach_iface_in.new.cpu c.count_attach.new.cpu (Attach e) (iface_numbered z k x c.args.rec c.args.reference e few.0 c.in_ok-entry.ensures.answer) c.in_ok-entry.ensures.ok.cpu c.count_attach.ensures.cpu
+
+pub returns-clause-keeping : goal.returns-clause-keeping
+returns-clause-keeping g c =
+    let e = c.in_ok-entry.entry in
+    subst (λ (y : OnCpu). IsAttachedKeeping e.slot e.number c.args.reference.entry.number y.deeds) (sym c.count_attach.ensures.cpu) c.in_ok-entry.ensures.ok.keeping

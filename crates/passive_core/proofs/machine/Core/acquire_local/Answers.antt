@@ -6,6 +6,8 @@ use Rattle.protocol.specs.Invariant.{Holds}
 use Rattle.passive_core.specs.Locals.{after_counting, count_refusal, with_count_more}
 use Rattle.registry_values.specs.declared.refusal.Refusal.TheVariants.{LocalFull}
 use Rattle.passive_core.proofs.Locals.{acquires, count_allowed, more_count_ready, none_from}
+use Rattle.passive_core.proofs.Making.{acquire_makes}
+use Rattle.passive_core.proofs.Acting.{acting_idle}
 use Rattle.passive_core.proofs.machine.Core.acquire_local.Goals as goal
 
 pub make-requires-clause-allowed : goal.make-requires-clause-allowed
@@ -67,3 +69,14 @@ returns-clause-ready c = λ d may.
     let room = c.why_uncounted.ensures.room (none_from c.why_uncounted.result c.in_default-why_uncounted.not-Some) in
     let all = acquires s c.begin.new.self c.make.new.self c.split_in_place.new.self c.args.c c.split_in_place.result c.in-Some.found _ on (sym c.in-Some.ensures.value) c.requires.known (c.begin.ensures.seated ∙ ap all_seated made) idle room c.make.ensures c.split_in_place.ensures in
     subst (λ (x : State). may_act x d ≡ true) (sym all.1.state) (more_count_ready s c.args.c c.in-Some.found.number (Some all.0) on d may)
+
+pub returns-clause-made : goal.returns-clause-made
+returns-clause-made c =
+    let s = c.args.self.now in
+    let on = subst Holds c.self.view_is c.self.invariant in
+    let made = c.in-Ok.ensures.ok in
+    let idle = c.begin.ensures.idle c.args.c (subst (λ (x : State). c.args.c < x.settings.cpus) (sym made) c.requires.known) (subst (λ (x : State). may_act x c.args.c ≡ true) (sym made) c.requires.ready) in
+    let found = sym c.in-Some.ensures.value in
+    let room = c.why_uncounted.ensures.room (none_from c.why_uncounted.result c.in_default-why_uncounted.not-Some) in
+    let all = acquires s c.begin.new.self c.make.new.self c.split_in_place.new.self c.args.c c.split_in_place.result c.in-Some.found _ on found c.requires.known (c.begin.ensures.seated ∙ ap all_seated made) idle room c.make.ensures c.split_in_place.ensures in
+    acquire_makes s c.split_in_place.new.self c.args.c all.0 c.in-Some.found on c.requires.rest found c.requires.known (acting_idle s c.args.c on c.requires.known c.requires.ready) room all.1.slot all.1.state

@@ -1,12 +1,15 @@
-use Rattle.std.proofs.Common.{◌≡◌, sym, ap, subst, ◌∙◌}
+use Rattle.std.proofs.Common.{◌≡◌, inr, refl, sym, ap, subst, ◌∙◌}
 use Rattle.registry_values.specs.declared.mark.Mark.{Mark}
-use Rattle.protocol.specs.Marking.{MarksGrow}
+use Rattle.passive_core.specs.Advancing.{MarksClear, SameBut}
 use Rattle.protocol.specs.Events.{after_look_passive, may_look_passive}
 use Rattle.registry_values.specs.Marks.{mark_after_passive_look}
 use Rattle.protocol.specs.Invariant.{Holds}
 use Rattle.protocol.specs.State.{State, mark_at, passive_at}
-use Rattle.passive_core.proofs.Advancing.{clear_left, examines_passive, guard_some, passive_clears, passive_look_is, passive_look_marks}
+use Rattle.passive_core.proofs.Advancing.{clear_left, examines_passive, guard_some, mark_beside, passive_clears, passive_look_is, passive_look_marks}
 use Rattle.protocol.proofs.slots.MarkRows.{mark_there}
+use Rattle.protocol.specs.declared.event.Event.TheVariants.{PassiveLook}
+use Rattle.passive_core.specs.Making.{IsPassiveLookFor}
+use Rattle.passive_core.proofs.Making.{only_none, only_one}
 use Rattle.passive_core.proofs.machine.Core.clears.Goals as goal
 
 pub returns-then-mark_at-clause-answer : goal.returns-then-mark_at-clause-answer
@@ -33,4 +36,16 @@ pub returns-clause-marks : goal.returns-clause-marks
 returns-clause-marks c =
     let s = c.args.self.now in
     let new : c.make.new.self ≡ after_look_passive s c.args.t c.args.c = passive_look_is s c.make.new.self c.args.t c.args.c c.make.result c.requires.rest c.requires.retired c.requires.passed c.requires.cpu c.make.ensures in
-    subst (λ (x : State). MarksGrow s.marks x.marks c.args.t) (sym new) (passive_look_marks s c.args.t c.args.c)
+    subst (λ (x : State). MarksClear s.marks x.marks c.args.t) (sym new) (passive_look_marks s c.args.t c.args.c)
+
+pub returns-clause-others : goal.returns-clause-others
+returns-clause-others c =
+    let s = c.args.self.now in
+    let new : c.make.new.self ≡ after_look_passive s c.args.t c.args.c = passive_look_is s c.make.new.self c.args.t c.args.c c.make.result c.requires.rest c.requires.retired c.requires.passed c.requires.cpu c.make.ensures in
+    subst (λ (x : State). SameBut s.marks x.marks c.args.t c.args.c) (sym new) (mark_beside s.marks c.args.t c.args.c (mark_after_passive_look (mark_at s.marks c.args.t c.args.c) (passive_at s.passive c.args.c c.args.t)))
+
+pub returns-then-mark_at-clause-made : goal.returns-then-mark_at-clause-made
+returns-then-mark_at-clause-made c = only_none (IsPassiveLookFor c.args.t) c.args.self.now
+
+pub returns-clause-made : goal.returns-clause-made
+returns-clause-made c = only_one (IsPassiveLookFor c.args.t) c.args.self.now c.make.new.self (PassiveLook c.args.t c.args.c) c.make.result (inr (c.args.c, refl)) c.make.ensures

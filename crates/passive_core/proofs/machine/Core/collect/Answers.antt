@@ -1,11 +1,13 @@
-use Rattle.std.proofs.Common.{◌≡◌, false, sym, ap, subst, ◌∙◌}
+use Rattle.std.proofs.Common.{◌≡◌, inl, inr, refl, false, sym, ap, subst, ◌∙◌}
 use Rattle.registry_values.specs.declared.mark.Mark.{Mark}
-use Rattle.protocol.specs.declared.event.Event.TheVariants.{TotalAdd}
+use Rattle.protocol.specs.declared.event.Event.TheVariants.{Collect, TotalAdd}
 use Rattle.protocol.specs.declared.event.Reply.TheVariants.{Done}
 use Rattle.protocol.specs.Events.{may_collect, step}
 use Rattle.protocol.specs.Invariant.{Holds}
 use Rattle.protocol.specs.State.{mark_at}
 use Rattle.passive_core.proofs.Advancing.{added, adds, collect_is, collected_there, collects, guard_some, left_by}
+use Rattle.passive_core.specs.Making.{IsCollectionFor}
+use Rattle.passive_core.proofs.Making.{only_after, only_none, only_one}
 use Rattle.passive_core.proofs.machine.Core.collect.Goals as goal
 
 pub make-requires-clause-allowed : goal.make-requires-clause-allowed
@@ -28,3 +30,11 @@ returns-clause-collected c =
     let yet : (mark_at s.marks c.args.t c.args.c).collected ≡ false = ap (λ (m : Mark). m.collected) (sym c.mark_at.ensures) ∙ c.if-mark_at.false in
     let first = collect_is s c.make.new.self c.args.t c.args.c c.make.result c.requires.rest c.requires.retired c.requires.passed c.requires.clear c.requires.cpu yet c.make.ensures in
     collected_there s c.make-2.new.self c.args.t c.args.c on c.requires.slot c.requires.cpu (left_by (step c.make.new.self (TotalAdd c.args.t)) _ c.make-2.new.self Done c.make-2.result (adds s c.make.new.self c.args.t c.args.c first) c.make-2.ensures)
+
+pub returns-then-mark_at-clause-made : goal.returns-then-mark_at-clause-made
+returns-then-mark_at-clause-made c = only_none (IsCollectionFor c.args.t) c.args.self.now
+
+pub returns-clause-made : goal.returns-clause-made
+returns-clause-made c = only_after (IsCollectionFor c.args.t) c.args.self.now c.make.new.self c.make-2.new.self
+    (only_one (IsCollectionFor c.args.t) c.args.self.now c.make.new.self (Collect c.args.t c.args.c) c.make.result (inr (inl (c.args.c, refl))) c.make.ensures)
+    (only_one (IsCollectionFor c.args.t) c.make.new.self c.make-2.new.self (TotalAdd c.args.t) c.make-2.result (inr (inr refl)) c.make-2.ensures)

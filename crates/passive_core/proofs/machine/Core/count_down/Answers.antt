@@ -1,12 +1,13 @@
-use Rattle.std.proofs.Common.{◌∙◌, ap, subst, sym}
+use Rattle.std.proofs.Common.{[], ◌∷◌, ◌∙◌, ap, subst, sym}
 use Rattle.protocol.specs.Invariant.{Holds}
 use Rattle.protocol.specs.Events.{step}
 use Rattle.passive_core.specs.Locals.{is_counting, with_count_less}
-use Rattle.protocol.specs.declared.event.Event.TheVariants.{JoinRef}
+use Rattle.protocol.specs.declared.event.Event.TheVariants.{JoinRef, CountDown, SplitBack}
 use Rattle.protocol.proofs.keeps.CountKeeps.{idle_tells}
 use Rattle.passive_core.proofs.Locals.{back_allowed, counted_down, down_allowed, down_fell, down_went, gone_back, joins, live_slot, slot_is}
 use Rattle.passive_core.proofs.Passives.{made}
 use Rattle.protocol.proofs.keeps.References.{standing_tells}
+use Rattle.passive_core.proofs.Making.{makes_first, makes_one}
 use Rattle.passive_core.proofs.machine.Core.count_down.Goals as goal
 
 pub make-requires-2-clause-allowed : goal.make-requires-2-clause-allowed
@@ -65,4 +66,11 @@ returns-in_default c =
       value = sym (ap (is_counting s c.args.c) at ∙ went.0);
       counted = λ _. went.1 ∙ (counted_down s c.args.c n c.args.id t.0 told.1 ∙ ap (with_count_less s c.args.c c.args.id) (sym at));
       kept = λ no. absurd (let q = no in cc);
+      made = makes_first s c.make.new.self c.make-2.new.self (JoinRef c.args.c c.args.id) c.make.result (CountDown c.args.c ∷ []) c.make.ensures (makes_one c.make.new.self c.make-2.new.self (CountDown c.args.c) c.make-2.result c.make-2.ensures);
     }
+
+pub returns-in-Collected-clause-made : goal.returns-in-Collected-clause-made
+returns-in-Collected-clause-made c =
+    makes_first c.args.self.now c.make.new.self c.make-in-Collected.new.self (JoinRef c.args.c c.args.id) c.make.result (CountDown c.args.c ∷ SplitBack c.args.c ∷ []) c.make.ensures
+    (makes_first c.make.new.self c.make-2.new.self c.make-in-Collected.new.self (CountDown c.args.c) c.make-2.result (SplitBack c.args.c ∷ []) c.make-2.ensures
+    (makes_one c.make-2.new.self c.make-in-Collected.new.self (SplitBack c.args.c) c.make-in-Collected.result c.make-in-Collected.ensures))

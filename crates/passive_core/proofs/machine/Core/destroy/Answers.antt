@@ -1,5 +1,6 @@
 use Rattle.std.proofs.Common.{sym, ◌∙◌}
-use Rattle.passive_core.proofs.Advancing.{advance_again, answer_again, not_freed, same_Ok}
+use Rattle.passive_core.proofs.Advancing.{advance_again, answer_again, marks_again, not_freed, same_Ok}
+use Rattle.passive_core.proofs.Making.{work_again}
 use Rattle.passive_core.proofs.machine.Core.destroy.Goals as goal
 
 pub loop-preserved : goal.loop-preserved
@@ -11,6 +12,8 @@ loop-preserved c =
     record {
       stage = answer;
       after = advance_again s l.self c.advance-in-loop.new.self c.args.number l.stage c.in_ok-stage-2.stage held l.invariant.after c.in_ok-stage-2.ensures.after (same_Ok c.in_ok-stage-2.stage l.stage (answer ∙ sym l.invariant.stage));
+      marks = marks_again s l.self c.advance-in-loop.new.self c.args.number l.stage c.in_ok-stage-2.stage held l.invariant.after l.invariant.marks c.in_ok-stage-2.ensures.marks (same_Ok c.in_ok-stage-2.stage l.stage (answer ∙ sym l.invariant.stage));
+      made = work_again s l.self c.advance-in-loop.new.self c.args.number l.stage c.in_ok-stage-2.stage held l.invariant.after l.invariant.made c.in_ok-stage-2.ensures.made (same_Ok c.in_ok-stage-2.stage l.stage (answer ∙ sym l.invariant.stage));
       rest = c.in_ok-stage-2.ensures.rest;
       settings = c.in_ok-stage-2.ensures.settings ∙ l.invariant.settings;
       ready = λ d acts. c.in_ok-stage-2.ensures.ready d (l.invariant.ready d acts);

@@ -1,7 +1,8 @@
 use Rattle.std.proofs.Common.{◌≡◌, ℕ, true, Ok}
-use Rattle.passive_core.specs.Advancing.{AdvanceLeaves, advance_answer}
+use Rattle.passive_core.specs.Advancing.{AdvanceLeaves, AdvanceMarks, advance_answer}
 use Rattle.passive_core.specs.Commands.{may_act}
 use Rattle.protocol.specs.State.{at_rest}
+use Rattle.passive_core.specs.Making.{AdvanceMakes}
 use Rattle.passive_core.proofs.machine.Core.destroy.Given as goal
 
 -- the turns so far are as one
@@ -9,6 +10,8 @@ abbrev pub invariant-loop : goal.invariant-loop
 invariant-loop l = record {
   stage : Ok l.stage ≡ advance_answer l.fn.self l.number;
   after : AdvanceLeaves l.fn.self l.self l.number (Ok l.stage);
+  marks : AdvanceMarks l.fn.self l.self l.number (Ok l.stage);
+  made : AdvanceMakes l.fn.self l.self l.number (Ok l.stage);
   rest : at_rest l.self.due ≡ true;
   settings : l.self.settings ≡ l.fn.self.settings;
   ready : (d : ℕ) → may_act l.fn.self d ≡ true → may_act l.self d ≡ true;

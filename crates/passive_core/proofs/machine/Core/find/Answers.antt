@@ -3,13 +3,14 @@ use Rattle.passive_core.specs.Commands.{all_seated, may_act}
 use Rattle.protocol.specs.Events.{guard, some_outcome, after_seek, is_inside, may_seek}
 use Rattle.passive_core.specs.Finding.{after_find, next_load}
 use Rattle.protocol.specs.Invariant.{Holds}
-use Rattle.protocol.specs.State.{State, search_at}
+use Rattle.protocol.specs.State.{State, at_rest, search_at}
 use Rattle.registry_values.specs.declared.entry.Entry.{Entry}
 use Rattle.protocol.specs.declared.event.Reply.{Reply}
 use Rattle.protocol.specs.declared.event.Reply.TheVariants.{Done, Found, Missed}
 use Rattle.registry_values.specs.declared.slot.Key.{Key}
 use Rattle.passive_core.proofs.Acting.{acting_idle, acting_on, idle_unsearching}
 use Rattle.passive_core.proofs.Finding.{IsTurn, Walks, left, load_turns, seek_starts, walk_goes_on}
+use Rattle.passive_core.proofs.Making.{find_goes_on, find_starts}
 use Rattle.passive_core.proofs.machine.Core.find.Goals as goal
 
 pub make-requires-clause-allowed : goal.make-requires-clause-allowed
@@ -30,8 +31,10 @@ starts s b t c key r on lt ready inside seated made =
 pub walk-init : goal.walk-init
 walk-init c =
     let on : Holds c.args.self.now = subst Holds c.self.view_is c.self.invariant in
-    starts c.args.self.now c.seat_all.new.self c.make.new.self c.args.c (record { kind = c.args.kind; name = c.args.name.now }) c.make.result on
-    c.requires.known c.requires.ready c.requires.inside c.seat_all.ensures c.make.ensures
+    let key : Key = record { kind = c.args.kind; name = c.args.name.now } in (
+      starts c.args.self.now c.seat_all.new.self c.make.new.self c.args.c key c.make.result on c.requires.known c.requires.ready c.requires.inside c.seat_all.ensures c.make.ensures,
+      find_starts c.args.self.now c.seat_all.new.self c.make.new.self c.args.c key c.make.result on c.requires.rest c.seat_all.ensures c.make.ensures,
+    )
 
 turns : (b s t : State) (c : ℕ) (key : Key) (q r : Reply) → Holds b → c < b.settings.cpus → may_act b c ≡ true → Holds s → Walks (all_seated b) s c key → q ≡ r
     → next_load s c (search_at s c) ≡ Some (record { state = t; reply = q }) → IsTurn (all_seated b) c key (left s (search_at s c)) t r
@@ -43,25 +46,25 @@ pub returns-in-Found-clause-answer : goal.returns-in-Found-clause-answer
 returns-in-Found-clause-answer c =
     let on : Holds c.args.self.now = subst Holds c.self.view_is c.self.invariant in
     (turns c.args.self.now c.walk.self c.load_next.new.self c.args.c (record { kind = c.args.kind; name = c.args.name.now }) c.load_next.result (Found c.in-Found.entry) on
-    c.requires.known c.requires.ready c.load_next.ensures.holds c.walk.invariant c.in-Found.is c.load_next.ensures.made).0
+    c.requires.known c.requires.ready c.load_next.ensures.holds c.walk.invariant.0 c.in-Found.is c.load_next.ensures.made).0
 
 pub returns-in-Found-clause-after : goal.returns-in-Found-clause-after
 returns-in-Found-clause-after c =
     let on : Holds c.args.self.now = subst Holds c.self.view_is c.self.invariant in
     (turns c.args.self.now c.walk.self c.load_next.new.self c.args.c (record { kind = c.args.kind; name = c.args.name.now }) c.load_next.result (Found c.in-Found.entry) on
-    c.requires.known c.requires.ready c.load_next.ensures.holds c.walk.invariant c.in-Found.is c.load_next.ensures.made).1
+    c.requires.known c.requires.ready c.load_next.ensures.holds c.walk.invariant.0 c.in-Found.is c.load_next.ensures.made).1
 
 pub returns-in-Missed-clause-answer : goal.returns-in-Missed-clause-answer
 returns-in-Missed-clause-answer c =
     let on : Holds c.args.self.now = subst Holds c.self.view_is c.self.invariant in
     (turns c.args.self.now c.walk.self c.load_next.new.self c.args.c (record { kind = c.args.kind; name = c.args.name.now }) c.load_next.result Missed on
-    c.requires.known c.requires.ready c.load_next.ensures.holds c.walk.invariant c.in-Missed.is c.load_next.ensures.made).0
+    c.requires.known c.requires.ready c.load_next.ensures.holds c.walk.invariant.0 c.in-Missed.is c.load_next.ensures.made).0
 
 pub returns-in-Missed-clause-after : goal.returns-in-Missed-clause-after
 returns-in-Missed-clause-after c =
     let on : Holds c.args.self.now = subst Holds c.self.view_is c.self.invariant in
     (turns c.args.self.now c.walk.self c.load_next.new.self c.args.c (record { kind = c.args.kind; name = c.args.name.now }) c.load_next.result Missed on
-    c.requires.known c.requires.ready c.load_next.ensures.holds c.walk.invariant c.in-Missed.is c.load_next.ensures.made).1
+    c.requires.known c.requires.ready c.load_next.ensures.holds c.walk.invariant.0 c.in-Missed.is c.load_next.ensures.made).1
 
 ready_after : (s t : State) (c : ℕ) (answer : Option Entry) → Holds s → t ≡ after_find (all_seated s) c answer → (d : ℕ) → may_act s d ≡ true → may_act t d ≡ true
 ready_after s t c answer on after d may = subst (λ (x : State). may_act x d ≡ true) (sym after) (acting_on s d on may)
@@ -71,14 +74,14 @@ returns-in-Found-clause-ready c =
     let on : Holds c.args.self.now = subst Holds c.self.view_is c.self.invariant in
     ready_after c.args.self.now c.load_next.new.self c.args.c (Some c.in-Found.entry) on
     (turns c.args.self.now c.walk.self c.load_next.new.self c.args.c (record { kind = c.args.kind; name = c.args.name.now }) c.load_next.result (Found c.in-Found.entry) on
-    c.requires.known c.requires.ready c.load_next.ensures.holds c.walk.invariant c.in-Found.is c.load_next.ensures.made).1
+    c.requires.known c.requires.ready c.load_next.ensures.holds c.walk.invariant.0 c.in-Found.is c.load_next.ensures.made).1
 
 pub returns-in-Missed-clause-ready : goal.returns-in-Missed-clause-ready
 returns-in-Missed-clause-ready c =
     let on : Holds c.args.self.now = subst Holds c.self.view_is c.self.invariant in
     ready_after c.args.self.now c.load_next.new.self c.args.c None on
     (turns c.args.self.now c.walk.self c.load_next.new.self c.args.c (record { kind = c.args.kind; name = c.args.name.now }) c.load_next.result Missed on
-    c.requires.known c.requires.ready c.load_next.ensures.holds c.walk.invariant c.in-Missed.is c.load_next.ensures.made).1
+    c.requires.known c.requires.ready c.load_next.ensures.holds c.walk.invariant.0 c.in-Missed.is c.load_next.ensures.made).1
 
 goes_on : (b s t : State) (c : ℕ) (key : Key) (r : Reply) → Holds b → c < b.settings.cpus → may_act b c ≡ true → Holds s → Walks (all_seated b) s c key
     → next_load s c (search_at s c) ≡ Some (record { state = t; reply = r }) → ((e : Entry) → r ≡ Found e → ⊥) → (r ≡ Missed → ⊥)
@@ -90,10 +93,29 @@ pub walk-smaller : goal.walk-smaller
 walk-smaller c =
     let on : Holds c.args.self.now = subst Holds c.self.view_is c.self.invariant in
     (goes_on c.args.self.now c.walk.self c.load_next.new.self c.args.c (record { kind = c.args.kind; name = c.args.name.now }) c.load_next.result on
-    c.requires.known c.requires.ready c.load_next.ensures.holds c.walk.invariant c.load_next.ensures.made c.in_default.not-Found c.in_default.not-Missed).1
+    c.requires.known c.requires.ready c.load_next.ensures.holds c.walk.invariant.0 c.load_next.ensures.made c.in_default.not-Found c.in_default.not-Missed).1
 
 pub walk-preserved : goal.walk-preserved
 walk-preserved c =
     let on : Holds c.args.self.now = subst Holds c.self.view_is c.self.invariant in
-    (goes_on c.args.self.now c.walk.self c.load_next.new.self c.args.c (record { kind = c.args.kind; name = c.args.name.now }) c.load_next.result on
-    c.requires.known c.requires.ready c.load_next.ensures.holds c.walk.invariant c.load_next.ensures.made c.in_default.not-Found c.in_default.not-Missed).0
+    let key : Key = record { kind = c.args.kind; name = c.args.name.now } in (
+      (goes_on c.args.self.now c.walk.self c.load_next.new.self c.args.c key c.load_next.result on
+          c.requires.known c.requires.ready c.load_next.ensures.holds c.walk.invariant.0 c.load_next.ensures.made c.in_default.not-Found c.in_default.not-Missed).0,
+      find_goes_on c.args.self.now c.walk.self c.load_next.new.self c.args.c key c.load_next.result c.load_next.ensures.event c.walk.invariant.1,
+    )
+
+pub returns-in-Found-clause-made : goal.returns-in-Found-clause-made
+returns-in-Found-clause-made c =
+    let key : Key = record { kind = c.args.kind; name = c.args.name.now } in
+    find_goes_on c.args.self.now c.walk.self c.load_next.new.self c.args.c key c.load_next.result c.load_next.ensures.event c.walk.invariant.1
+
+pub returns-in-Missed-clause-made : goal.returns-in-Missed-clause-made
+returns-in-Missed-clause-made c =
+    let key : Key = record { kind = c.args.kind; name = c.args.name.now } in
+    find_goes_on c.args.self.now c.walk.self c.load_next.new.self c.args.c key c.load_next.result c.load_next.ensures.event c.walk.invariant.1
+
+pub returns-in-Found-clause-rest : goal.returns-in-Found-clause-rest
+returns-in-Found-clause-rest c = ap (λ (x : State). at_rest x.due) (returns-in-Found-clause-after c) ∙ c.requires.rest
+
+pub returns-in-Missed-clause-rest : goal.returns-in-Missed-clause-rest
+returns-in-Missed-clause-rest c = ap (λ (x : State). at_rest x.due) (returns-in-Missed-clause-after c) ∙ c.requires.rest

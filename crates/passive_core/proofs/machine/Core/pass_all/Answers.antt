@@ -1,11 +1,14 @@
-use Rattle.std.proofs.Common.{◌≡◌, ℕ, ◌<◌, ◌≤◌, true, sym, ap, subst, ◌∙◌, arith, length, inr, ⊎_elim}
+use Rattle.std.proofs.Common.{refl, ◌≡◌, ℕ, ◌<◌, ◌≤◌, true, sym, ap, subst, ◌∙◌, arith, length, inr, ⊎_elim}
 use Rattle.std.proofs.lemmas.Bool.{cases_eq}
 use Rattle.protocol.specs.Marking.{AllPassed}
 use Rattle.protocol.specs.Invariant.{Holds}
 use Rattle.registry_values.specs.Slots.{retired_number, is_retired, slot_at}
-use Rattle.protocol.specs.State.{State}
+use Rattle.protocol.specs.State.{State, mark_at}
 use Rattle.protocol.proofs.slots.Occupied.{in_within, is_retired_tells}
 use Rattle.passive_core.proofs.Performing.{only_more, still_passed}
+use Rattle.passive_core.specs.Making.{IsWaiting}
+use Rattle.passive_core.proofs.Advancing.{passes_none}
+use Rattle.passive_core.proofs.Making.{only_after, only_none}
 use Rattle.passive_core.proofs.machine.Core.pass_all.Goals as goal
 
 size : (s : State) → Holds s → length s.slots ≡ s.settings.slots
@@ -19,6 +22,7 @@ loop-t-preserved c =
     let lt : l.t < s.settings.slots = subst (λ (x : State). l.t < x.settings.slots) c.self.view_is c.loop-t-test.true in
     let slots : (u : ℕ) → slot_at l.self.slots u ≡ slot_at s.slots u = λ u. ap (λ (x : State). slot_at x.slots u) l.invariant.only.only in
     record {
+      made = only_after IsWaiting s l.self n l.invariant.made c.pass_entry.ensures.made;
       only = only_more s l.self n l.invariant.only c.pass_entry.ensures.only;
       passed = λ u below gone. ⊎_elim
           (λ (same : u ≡ l.t).
@@ -34,3 +38,10 @@ returns-clause-passed c = λ t gone.
     let e = is_retired_tells (slot_at s.slots t) gone in
     let lt : t < s.settings.slots = omega (arith, in_within s.slots t e.0 (inr e.1), size s (subst Holds c.self.view_is c.self.invariant)) in
     c.loop-t.invariant.passed t (omega (arith, lt, subst (λ (x : State). x.settings.slots ≤ c.loop-t.t) c.self.view_is c.loop-t-test.false)) gone
+
+pub loop-t-init : goal.loop-t-init
+loop-t-init c = record {
+  only = record { only = refl; marks = λ t d. passes_none (mark_at c.args.self.now.marks t d); elsewhere = λ t off. refl };
+  passed = λ u below gone. absurd (omega (arith, below));
+  made = only_none IsWaiting c.args.self.now;
+}

@@ -2,6 +2,7 @@ use Rattle.std.proofs.Common.{◌≡◌, ◌<◌, ℕ, true}
 use Rattle.protocol.specs.Marking.{AllPassed}
 use Rattle.passive_core.specs.Performing.{OnlyPasses}
 use Rattle.registry_values.specs.Slots.{is_retired, slot_at}
+use Rattle.passive_core.specs.Making.{IsWaiting, MakesOnly}
 use Rattle.passive_core.proofs.machine.Core.pass_all.Given as goal
 
 -- every CPU has passed for the retired entries so far
@@ -9,4 +10,5 @@ abbrev pub invariant-loop-t : goal.invariant-loop-t
 invariant-loop-t l = record {
   only : OnlyPasses l.fn.self l.self;
   passed : (u : ℕ) → u < l.t → is_retired (slot_at l.fn.self.slots u) ≡ true → AllPassed l.self u;
+  made : MakesOnly IsWaiting l.fn.self l.self;
 }

@@ -1,12 +1,15 @@
-use Rattle.std.proofs.Common.{◌≡◌, sym, ap, subst, ◌∙◌}
+use Rattle.std.proofs.Common.{◌≡◌, inr, refl, Some, sym, ap, subst, ◌∙◌}
 use Rattle.registry_values.specs.declared.mark.Mark.{Mark}
-use Rattle.passive_core.specs.Advancing.{MarksPass}
+use Rattle.passive_core.specs.Advancing.{MarksPass, SameBut}
 use Rattle.protocol.specs.Events.{after_look}
 use Rattle.registry_values.specs.Marks.{mark_after_look}
 use Rattle.protocol.specs.Invariant.{Holds}
 use Rattle.protocol.specs.State.{State, section_at, mark_at}
-use Rattle.passive_core.proofs.Advancing.{look_is, look_marks, look_passes, passed_left}
+use Rattle.passive_core.proofs.Advancing.{look_is, look_marks, mark_beside, look_passes, passed_left}
 use Rattle.protocol.proofs.slots.MarkRows.{mark_there}
+use Rattle.protocol.specs.declared.event.Event.TheVariants.{Look}
+use Rattle.passive_core.specs.Making.{IsLookFor}
+use Rattle.passive_core.proofs.Making.{only_none, only_one}
 use Rattle.passive_core.proofs.machine.Core.passes.Goals as goal
 
 pub returns-then-mark_at-clause-answer : goal.returns-then-mark_at-clause-answer
@@ -29,3 +32,15 @@ returns-clause-marks c =
     let s = c.args.self.now in
     let new : c.make.new.self ≡ after_look s c.args.t c.args.c = look_is s c.make.new.self c.args.t c.args.c c.make.result c.requires.rest c.requires.retired c.requires.cpu c.make.ensures in
     subst (λ (x : State). MarksPass s.marks x.marks c.args.t) (sym new) (look_marks s c.args.t c.args.c)
+
+pub returns-clause-others : goal.returns-clause-others
+returns-clause-others c =
+    let s = c.args.self.now in
+    let new : c.make.new.self ≡ after_look s c.args.t c.args.c = look_is s c.make.new.self c.args.t c.args.c c.make.result c.requires.rest c.requires.retired c.requires.cpu c.make.ensures in
+    subst (λ (x : State). SameBut s.marks x.marks c.args.t c.args.c) (sym new) (mark_beside s.marks c.args.t c.args.c (mark_after_look (mark_at s.marks c.args.t c.args.c) (section_at s c.args.c)))
+
+pub returns-then-mark_at-clause-made : goal.returns-then-mark_at-clause-made
+returns-then-mark_at-clause-made c = only_none (IsLookFor c.args.t) c.args.self.now
+
+pub returns-clause-made : goal.returns-clause-made
+returns-clause-made c = only_one (IsLookFor c.args.t) c.args.self.now c.make.new.self (Look (Some c.args.t) c.args.c) c.make.result (inr (c.args.c, refl)) c.make.ensures

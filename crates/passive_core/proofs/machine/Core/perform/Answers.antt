@@ -10,6 +10,8 @@ use Rattle.protocol.specs.State.{State}
 use Rattle.registry_values.proofs.Answers.{handed_on}
 use Rattle.registry_values.proofs.Least.{least_none}
 use Rattle.passive_core.proofs.Acting.{acting_on}
+use Rattle.passive_core.specs.Making.{IsWaiting}
+use Rattle.passive_core.proofs.Making.{only_after, only_none, seats_wait}
 use Rattle.passive_core.proofs.machine.Core.perform.Goals as goal
 
 pub returns-in_err-waiting_for-clause-ready : goal.returns-in_err-waiting_for-clause-ready
@@ -63,3 +65,16 @@ returns-clause-ready c = λ d acts.
     let seated : c.wait_for_sections.new.self ≡ all_seated s = c.wait_for_sections.ensures.same ∙ c.seat_all.ensures in
     let before : may_act c.wait_for_sections.new.self d ≡ true = ap (λ (x : State). may_act x d) seated ∙ acting_on s d (subst Holds c.self.view_is c.self.invariant) acts in
     ap (λ (x : State). may_act x d) c.pass_all.ensures.only.only ∙ before
+
+pub returns-then-inside-clause-made : goal.returns-then-inside-clause-made
+returns-then-inside-clause-made c = only_none IsWaiting c.args.self.now
+
+pub returns-in_err-waiting_for-clause-made : goal.returns-in_err-waiting_for-clause-made
+returns-in_err-waiting_for-clause-made c =
+    seats_wait c.args.self.now c.seat_all.new.self c.wait_for_sections.new.self (subst Holds c.self.view_is c.self.invariant) c.requires.rest c.seat_all.ensures c.wait_for_sections.ensures.same
+
+pub returns-clause-made : goal.returns-clause-made
+returns-clause-made c =
+    let s = c.args.self.now in
+    only_after IsWaiting s c.wait_for_sections.new.self c.pass_all.new.self
+    (seats_wait s c.seat_all.new.self c.wait_for_sections.new.self (subst Holds c.self.view_is c.self.invariant) c.requires.rest c.seat_all.ensures c.wait_for_sections.ensures.same) c.pass_all.ensures.made

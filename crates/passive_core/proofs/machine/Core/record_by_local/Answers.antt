@@ -4,6 +4,10 @@ use Rattle.protocol.specs.Events.{load_local}
 use Rattle.protocol.specs.Invariant.{Holds}
 use Rattle.passive_core.proofs.Locals.{local_shows}
 use Rattle.passive_core.proofs.Passives.{load_ok, lawful_words, word_is}
+use Rattle.std.proofs.Common.{[], ◌∷◌}
+use Rattle.protocol.specs.declared.event.Event.TheVariants.{LoadRecord}
+use Rattle.protocol.specs.declared.event.RecordOf.TheVariants.{Local as OfLocal}
+use Rattle.passive_core.proofs.Making.{makes_load}
 use Rattle.passive_core.proofs.machine.Core.record_by_local.Goals as goal
 
 pub load_word-kind-requires : goal.load_word-kind-requires
@@ -57,3 +61,10 @@ returns-clause-record c = λ n live.
           (word_is s c.load_word-high.new.self c.number-number.result 3 c.load_word-low.result load shows second refl c.load_word-low.ensures.word)
           (word_is s c.load_word-low.new.self c.number-number.result 4 c.load_word-value.result load shows third refl c.load_word-value.ensures.word),
     )
+
+pub returns-clause-made : goal.returns-clause-made
+returns-clause-made c =
+    makes_load c.args.self.now c.load_word-kind.new.self (OfLocal c.args.id 1) c.load_word-kind.result (LoadRecord (OfLocal c.args.id 2) ∷ LoadRecord (OfLocal c.args.id 3) ∷ LoadRecord (OfLocal c.args.id 4) ∷ []) c.load_word-value.new.self c.load_word-kind.ensures.word c.load_word-kind.ensures.same
+    (makes_load c.load_word-kind.new.self c.load_word-high.new.self (OfLocal c.args.id 2) c.load_word-high.result (LoadRecord (OfLocal c.args.id 3) ∷ LoadRecord (OfLocal c.args.id 4) ∷ []) c.load_word-value.new.self c.load_word-high.ensures.word c.load_word-high.ensures.same
+    (makes_load c.load_word-high.new.self c.load_word-low.new.self (OfLocal c.args.id 3) c.load_word-low.result (LoadRecord (OfLocal c.args.id 4) ∷ []) c.load_word-value.new.self c.load_word-low.ensures.word c.load_word-low.ensures.same
+    (makes_load c.load_word-low.new.self c.load_word-value.new.self (OfLocal c.args.id 4) c.load_word-value.result ([]) c.load_word-value.new.self c.load_word-value.ensures.word c.load_word-value.ensures.same refl)))

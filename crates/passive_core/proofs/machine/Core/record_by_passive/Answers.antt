@@ -3,6 +3,10 @@ use Rattle.protocol.specs.State.{State}
 use Rattle.protocol.specs.Events.{load_passive}
 use Rattle.protocol.specs.Invariant.{Holds}
 use Rattle.passive_core.proofs.Passives.{load_ok, lawful_words, passive_shows, word_is}
+use Rattle.std.proofs.Common.{[], ◌∷◌}
+use Rattle.protocol.specs.declared.event.Event.TheVariants.{LoadRecord}
+use Rattle.protocol.specs.declared.event.RecordOf.TheVariants.{Passive as OfPassive}
+use Rattle.passive_core.proofs.Making.{makes_load}
 use Rattle.passive_core.proofs.machine.Core.record_by_passive.Goals as goal
 
 pub load_word-kind-requires : goal.load_word-kind-requires
@@ -55,3 +59,10 @@ returns-clause-record c =
           (word_is s c.load_word-high.new.self c.args.number 3 c.load_word-low.result load shows second refl c.load_word-low.ensures.word)
           (word_is s c.load_word-low.new.self c.args.number 4 c.load_word-value.result load shows third refl c.load_word-value.ensures.word),
     )
+
+pub returns-clause-made : goal.returns-clause-made
+returns-clause-made c =
+    makes_load c.args.self.now c.load_word-kind.new.self (OfPassive c.args.c c.args.number 1) c.load_word-kind.result (LoadRecord (OfPassive c.args.c c.args.number 2) ∷ LoadRecord (OfPassive c.args.c c.args.number 3) ∷ LoadRecord (OfPassive c.args.c c.args.number 4) ∷ []) c.load_word-value.new.self c.load_word-kind.ensures.word c.load_word-kind.ensures.same
+    (makes_load c.load_word-kind.new.self c.load_word-high.new.self (OfPassive c.args.c c.args.number 2) c.load_word-high.result (LoadRecord (OfPassive c.args.c c.args.number 3) ∷ LoadRecord (OfPassive c.args.c c.args.number 4) ∷ []) c.load_word-value.new.self c.load_word-high.ensures.word c.load_word-high.ensures.same
+    (makes_load c.load_word-high.new.self c.load_word-low.new.self (OfPassive c.args.c c.args.number 3) c.load_word-low.result (LoadRecord (OfPassive c.args.c c.args.number 4) ∷ []) c.load_word-value.new.self c.load_word-low.ensures.word c.load_word-low.ensures.same
+    (makes_load c.load_word-low.new.self c.load_word-value.new.self (OfPassive c.args.c c.args.number 4) c.load_word-value.result ([]) c.load_word-value.new.self c.load_word-value.ensures.word c.load_word-value.ensures.same refl)))

@@ -2,11 +2,14 @@ use Rattle.std.proofs.Common.{◌≡◌, ℕ, ◌+◌, None, sym, ap, subst, ◌
 use Rattle.protocol.specs.Invariant.{Holds, held_at}
 use Rattle.registry_values.specs.Balances.{bias}
 use Rattle.registry_values.specs.Slots.{slot_at}
+use Rattle.registry_values.specs.declared.stage.Stage.{Stage}
 use Rattle.registry_values.specs.Stages.{stage_of}
 use Rattle.protocol.specs.State.{total_at}
 use Rattle.passive_core.specs.Advancing.{Settles}
 use Rattle.passive_core.proofs.Advancing.{drained_from, gathered_total, gathered_words, settled_free, settled_held}
 use Rattle.protocol.proofs.slots.Occupied.{is_retired_tells}
+use Rattle.passive_core.specs.Making.{IsWork, MakesOnly}
+use Rattle.passive_core.proofs.Making.{only_none}
 use Rattle.passive_core.proofs.machine.Core.settle.Goals as goal
 
 pub overflow_sub-held : goal.overflow_sub-held
@@ -52,7 +55,13 @@ returns-clause-stage c = λ e is.
     c.settled-stage.ensures ∙ ap (stage_of c.args.t None None) (omega (arith, total, c.total_at-held.ensures))
 
 pub returns-clause-after : goal.returns-clause-after
-returns-clause-after c = subst (Settles c.args.self.now c.free.new.self c.args.t) (sym c.settled-stage.ensures) (settled_free c.args.self.now c.free.new.self c.args.t _ c.if-held-ne0.false c.free.ensures)
+returns-clause-after c = subst (Settles c.args.self.now c.free.new.self c.args.t) (sym c.settled-stage.ensures) (settled_free c.args.self.now c.free.new.self c.args.t _ c.if-held-ne0.false c.free.ensures.after)
 
 pub returns-clause-emptied : goal.returns-clause-emptied
 returns-clause-emptied c = gathered_words c.args.self.now c.args.t (subst Holds c.self.view_is c.self.invariant) c.requires.retired c.requires.collected
+
+pub returns-then-held-ne0-clause-made : goal.returns-then-held-ne0-clause-made
+returns-then-held-ne0-clause-made c = only_none (IsWork c.settled-stage.result c.args.t) c.args.self.now
+
+pub returns-clause-made : goal.returns-clause-made
+returns-clause-made c = subst (λ (x : Stage). MakesOnly (IsWork x c.args.t) c.args.self.now c.free.new.self) (sym (c.settled-stage.ensures ∙ ap (stage_of c.args.t None None) c.if-held-ne0.false)) c.free.ensures.made

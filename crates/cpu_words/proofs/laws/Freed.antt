@@ -1,0 +1,226 @@
+-- Destroying: an entry whose slot the keeper made vacant has no slot and no holder in any later state.
+use Rattle.std.proofs.Common.{◌≡◌, inr, ⊎_elim, ℕ, ◌&&◌, Bool, true, false, IsTrue, List, [], ◌∷◌, ◌++◌, length, set, Option, Some, None, IsSome, refl, sym, ap, ◌∙◌, subst, append_assoc, length-append, arith}
+use Rattle.std.proofs.lemmas.List.{append-nil, length-map}
+use Rattle.std.proofs.lemmas.Option.{none-some, same_Some}
+use mathlib.Core.Option.{some}
+use mathlib.Core.List.{IsPrefix}
+use lib.ListN.{get_elem?}
+use Rattle.atomic_table.specs.Table.{State as Table}
+use Rattle.registry_values.specs.declared.entry.Entry.{Entry}
+use Rattle.registry_values.specs.declared.entry.Change.{Change}
+use Rattle.registry_values.specs.declared.entry.Change.TheVariants.{Attach, Detach}
+use Rattle.registry_values.specs.declared.settings.Settings.{Settings}
+use Rattle.registry_values.specs.declared.slot.Slot.TheVariants.{Vacant, Retired}
+use Rattle.registry_values.specs.Limits.{are_fit}
+use Rattle.registry_values.specs.Slots.{slot_at, slot_of}
+use Rattle.protocol.specs.declared.event.Event.{Event}
+use Rattle.protocol.specs.declared.event.Event.TheVariants.{Vacate, KeptSub}
+use Rattle.protocol.specs.declared.event.Reply.TheVariants.{Done}
+use Rattle.protocol.specs.History.{IsAttached, EndsAt}
+use Rattle.protocol.specs.State.{State, opening, kept_at}
+use Rattle.protocol.specs.Events.{Outcome, guard, with_some, some_outcome, step, state_after, is_drained, may_vacate, is_iface_slot, after_vacate, after_kept_sub}
+use Rattle.protocol.specs.Invariant.{Holds, Occupies}
+use Rattle.protocol.specs.Ran.{empty_run}
+use Rattle.protocol.specs.Model.{IsUnheld}
+use Rattle.protocol.specs.Picture.{number_in, picture}
+use Rattle.protocol.specs.Laws.{after, occupant_of, destroyed_slot, IsAllowed}
+use Rattle.protocol.proofs.history.History.{one_entry, at_within}
+use Rattle.protocol.proofs.keeps.Keeping.{opening_holds, step_holds}
+use Rattle.protocol.proofs.keeps.MarkKeeps.{is_drained_tells}
+use Rattle.protocol.proofs.model.RefiningEntries.{number_of}
+use Rattle.protocol.proofs.runs.Headline.{unheld_unoccupied}
+use Rattle.protocol.proofs.runs.Reuse.{number_is, destroyed_drained}
+use Rattle.protocol.proofs.runs.State.{obeys_laws}
+use Rattle.protocol.proofs.slots.Occupied.{attached_in, in_within, slot_cases}
+use Rattle.cpu_words.specs.declared.view.Deed.{Deed}
+use Rattle.cpu_words.specs.declared.view.Logged.{Logged}
+use Rattle.cpu_words.specs.declared.view.View.{View}
+use Rattle.cpu_words.specs.Rule.{Good, Shows, deeds}
+use Rattle.cpu_words.specs.Deeds.{IsDetachedFrom, IsFreedFrom}
+use Rattle.cpu_words.specs.Logs.{part, plain, AreByOwn}
+use Rattle.cpu_words.specs.Headline.{RunsAsLogged}
+use Rattle.cpu_words.specs.Freed.{IsGone, HasGone, FreedIsGone}
+use Rattle.cpu_words.proofs.shown.Passes.{at_prefix, attached_prefix}
+use Rattle.cpu_words.proofs.shown.Showing.{backed}
+use Rattle.cpu_words.proofs.laws.Safety.{running_headline}
+use Rattle.cpu_words.proofs.laws.Holders.{seat_has_slot}
+use Rattle.cpu_words.proofs.laws.Waiting.{own_first}
+use Rattle.cpu_words.proofs.logs.Known.{Known, known_stays, known_first}
+use Rattle.cpu_words.proofs.logs.Loads.{is_whole, same_event, place, halve}
+use Rattle.cpu_words.proofs.logs.Logs.{part_append}
+use Rattle.cpu_words.proofs.logs.Runs.{Follows, follows, follows_after, follows_holds, cut}
+use Rattle.cpu_words.proofs.logs.Standings.{one_detached}
+use Rattle.cpu_words.proofs.logs.Walks.{walked}
+
+-- The event
+
+-- where it is allowed the slot is vacant after it
+abbrev Empties : State → ℕ → Option Outcome → Type 0
+Empties s t None = Unit {0}
+Empties s t (Some o) = o.state.slots ≡ set s.slots t Vacant
+
+empties_guard : (s : State) (t : ℕ) (b : Bool) (o : Option Outcome) → Empties s t o → Empties s t (guard b o)
+empties_guard s t true o empties = empties
+empties_guard s t false o empties = tt
+
+empties_some : {X : Type 0} (s : State) (t : ℕ) (x : Option X) (f : X → Option Outcome) → ((y : X) → Empties s t (f y)) → Empties s t (with_some x f)
+empties_some s t None f empties = tt
+empties_some s t (Some y) f empties = empties y
+
+empties : (s : State) (e : Event) (t : ℕ) → destroyed_slot e ≡ Some t → Empties s t (step s e)
+empties s (Vacate u) t of = empties_guard s t (may_vacate s u) (some_outcome (after_vacate s u) Done) (ap (λ (k : ℕ). set s.slots k Vacant) (same_Some u t of))
+empties s (KeptSub u) t of = empties_some s t (kept_at s.keeps u) _ (λ d. empties_some s t (slot_of s.slots d) _ (λ v. empties_guard s t (is_iface_slot (slot_at s.slots u) && is_drained s u) (some_outcome (after_kept_sub s u v) Done) (ap (λ (k : ℕ). set s.slots k Vacant) (same_Some u t of))))
+empties s e t of = absurd (none-some t of)
+
+whole : (f : Event) (t : ℕ) → destroyed_slot f ≡ Some t → is_whole f ≡ true
+whole (Vacate u) t of = refl
+whole (KeptSub u) t of = refl
+whole f t of = absurd (none-some t of)
+
+-- the entry's number is in no slot of n, which comes after m
+record Freed (m n : State) (t k : ℕ) : Type 0 where
+  e : Entry
+  number : e.number ≡ k
+  slot : e.slot ≡ t
+  attached : IsAttached m.history e
+  ended : (p : ℕ) × EndsAt m.history k p
+  off : (u : ℕ) → occupant_of n u ≡ Some k → ⊥
+
+freed_now : (cpus : ℕ) (log : List Deed) (m : State) (e : Event) (o : Outcome) (t k : ℕ) → Holds m → step m e ≡ Some o → destroyed_slot e ≡ Some t → Known cpus log m → IsDetachedFrom t k log → Freed m o.state t k
+freed_now cpus log m e o t k on made of known gone =
+    let allowed : IsAllowed m e = subst (λ (p : Option Outcome). IsSome p) (sym made) refl in
+    let told = is_drained_tells m t on (destroyed_drained m e t of allowed) in
+    let f : Entry = told.1.0 in
+    let at : slot_at m.slots t ≡ Retired f = told.1.1 in
+    let was = on.slots.retired t f at in
+    let same : f.number ≡ k = one_detached t f.number k log (known.slots.retired t f at) gone in
+    let slots : o.state.slots ≡ set m.slots t Vacant = subst (Empties m t) made (empties m e t of) in
+    let its = attached_in m.history m.slots t f on.slots (inr at) in
+    record {
+      e = f;
+      number = same;
+      slot = its.1;
+      attached = its.0;
+      ended = (was.2.0, subst (λ (j : ℕ). EndsAt m.history j was.2.0) same was.2.1);
+      off = λ u is. ⊎_elim
+          (λ (here : (u ≡ t) × (slot_at (set m.slots t Vacant) u ≡ Vacant)). none-some k (sym (ap number_in (ap (λ l. slot_at l u) slots ∙ here.1)) ∙ is))
+          (λ (old : (u ≡ t → ⊥) × (slot_at (set m.slots t Vacant) u ≡ slot_at m.slots u)).
+          let has = number_is (slot_at m.slots u) k (ap number_in (sym (ap (λ l. slot_at l u) slots ∙ old.1)) ∙ is) in
+          let there = attached_in m.history m.slots u has.0 on.slots has.1 in
+          let one : has.0 ≡ f = one_entry m.history has.0 f there.0 its.0 (has.2 ∙ sym same) in
+          old.0 (sym there.1 ∙ (ap (λ (g : Entry). g.slot) one ∙ its.1)))
+          (slot_cases m.slots t Vacant u (in_within m.slots t f (inr at)));
+    }
+
+-- The run
+
+prefix_both : (p q r : List Change) → IsPrefix p q → IsPrefix q r → IsPrefix p r
+prefix_both p q r first second = (first.0 ++ second.0, sym (append_assoc p first.0 second.0) ∙ (ap (λ l. l ++ second.0) first.1 ∙ second.1))
+
+histories : (s : State) (acts : List (ℕ × Deed)) (es : List Event) (t : State) → Follows s acts es t → Holds s → IsPrefix s.history t.history
+histories s [] [] t is on = ([], append-nil s.history ∙ sym (ap (λ (g : State). g.history) is))
+histories s [] (e ∷ es) t run on = absurd run
+histories s (a ∷ more) [] t run on = absurd run
+histories s (a ∷ more) (e ∷ es) t run on =
+    let o = run.0 in
+    let grows = (obeys_laws s on).answers.history e in
+    let next : o.state.history ≡ s.history ++ grows.0 = subst (λ (p : Option Outcome). (state_after s p).history ≡ s.history ++ grows.0) run.1 grows.1 in
+    prefix_both s.history o.state.history t.history (grows.0, sym next) (histories o.state more es t run.3 (step_holds s o.state e o.reply on run.1))
+
+since_freed : (cpus : ℕ) (log : List Deed) (m : State) (d : Deed) (more : List (ℕ × Deed)) (es : List Event) (g : State) (t k : ℕ)
+    → Follows m ((0, d) ∷ more) es g → Holds m → Known cpus log m → IsDetachedFrom t k log → destroyed_slot d.event ≡ Some t → Freed m g t k
+since_freed cpus log m d more [] g t k run on known gone of = absurd run
+since_freed cpus log m d more (e ∷ es) g t k run on known gone of =
+    let o = run.0 in
+    let same : d.event ≡ e = same_event m e d.event (ap (λ (x : Deed). x.event) run.2) (whole d.event t of) in
+    let its : destroyed_slot e ≡ Some t = ap destroyed_slot (sym same) ∙ of in
+    let f : Freed m o.state t k = freed_now cpus log m e o t k on run.1 its known gone in
+    let holds : Holds o.state = step_holds m o.state e o.reply on run.1 in
+    let grows = (obeys_laws m on).answers.history e in
+    let next : o.state.history ≡ m.history ++ grows.0 = subst (λ (p : Option Outcome). (state_after m p).history ≡ m.history ++ grows.0) run.1 grows.1 in
+    let size = ap (λ (h : List Change). length h) next ∙ length-append m.history grows.0 in
+    let low = (at_within m.history f.e.number (Attach f.e) f.attached).1 in
+    let number = f.number in
+    record {
+      e = f.e;
+      number = f.number;
+      slot = f.slot;
+      attached = f.attached;
+      ended = f.ended;
+      off = λ u is. (obeys_laws o.state holds).reuse.never es u k (omega (arith, size, low, number)) (f.off u) (ap (λ (q : State). occupant_of q u) (sym (follows_after o.state more es g run.3)) ∙ is);
+    }
+
+-- The law
+
+-- what no slot has is held by no seat
+gone_of : (m g : State) (seat : ℕ → ℕ) (s : Table ℕ View) (t k : ℕ) → Good g → Shows g seat s.views → IsPrefix m.history g.history → Freed m g t k → IsGone g s t k
+gone_of m g seat s t k good shows grows f =
+    let attached : IsAttached g.history f.e = attached_prefix m.history g.history f.e grows f.attached in
+    let none : Occupies g.slots k → ⊥ = λ has. f.off has.0 (number_of (slot_at g.slots has.0) has.1 has.2 ∙ ap (λ (j : ℕ). Some j) has.3) in
+    let within = (at_within m.history f.ended.0 (Detach k) f.ended.1).1 in
+    record {
+      e = f.e;
+      number = f.number;
+      slot = f.slot;
+      attached = attached;
+      ended = (f.ended.0, subst (λ (h : List Change). EndsAt h k f.ended.0) grows.1 (at_prefix m.history grows.0 f.ended.0 within ∙ f.ended.1));
+      slotless = f.off;
+      unheld = subst (λ (j : ℕ). IsUnheld (picture g) j) f.number
+          (unheld_unoccupied g f.e good.holds attached (λ has. none (has.0, has.1, has.2, has.3 ∙ f.number)));
+      seats = λ j v there holds. none (f.e.slot, f.e, seat_has_slot g f.e v good (shows.fits j v there).1 (backed g seat s.views j v shows there) attached holds, f.number);
+    }
+
+-- among acts of which a seat's are d and more, no own one stands before d
+none_before : (a : List Deed) (d : Deed) (more : List Deed) (b : List Deed) → a ++ d ∷ b ≡ d ∷ more → b ≡ more → a ≡ []
+none_before [] d more b is same = refl
+none_before (x ∷ xs) d more b is same =
+    absurd (let size = sym (length-append (x ∷ xs) (d ∷ b)) ∙ ap (λ (l : List Deed). length l) is in let size' = ap (λ (l : List Deed). length l) same in omega (arith, size, size'))
+
+-- the state in which the keeper made the deed, and what its log had before
+pub record AtDeed (cpus : ℕ) (before : List Deed) (d : Deed) (g : State) : Type 0 where
+  pub m : State
+  pub more : List (ℕ × Deed)
+  pub es : List Event
+  pub run : Follows m ((0, d) ∷ more) es g
+  pub on : Holds m
+  pub known : Known cpus before m
+
+pub at_deed : (z : Settings) (s : Table ℕ Logged) (i : ℕ) (l : Logged) (before after_it : List Deed) (deed : Deed) → (r : RunsAsLogged z s) → get_elem? s.views i ≡ some l → l.deeds ≡ before ++ deed ∷ after_it → AtDeed z.cpus before deed (after (opening z) r.run.events)
+at_deed z s i l before after_it deed r at log_is =
+    let run = r.run in
+    let g = after (opening z) run.events in
+    let known = (r.known i l at).0 in
+    let later : List Deed = after_it ++ known.0 in
+    let mine : part 0 r.acts ≡ before ++ deed ∷ later = sym known.1 ∙ (ap (λ (d : List Deed). d ++ known.0) log_is ∙ append_assoc before (deed ∷ after_it) known.0) in
+    let h = halve 0 r.acts before (deed ∷ later) mine in
+    let p = place 0 h.second [] later deed h.rest in
+    let end : List (ℕ × Deed) = (0, deed) ∷ p.second in
+    let first : List (ℕ × Deed) = h.first ++ p.first in
+    let are : r.acts ≡ first ++ end = h.are ∙ (ap (λ (x : List (ℕ × Deed)). h.first ++ x) p.are ∙ sym (append_assoc h.first p.first end)) in
+    let quiet : part 0 p.first ≡ [] = none_before (part 0 p.first) deed later (part 0 p.second) (sym (part_append 0 p.first end) ∙ (ap (part 0) (sym p.are) ∙ h.rest)) p.rest in
+    let did : part 0 first ≡ before = part_append 0 h.first p.first ∙ ((λ k. h.mine k ++ quiet k) ∙ append-nil before) in
+    let made : length (deeds z run.events) ≡ length run.events = sym (ap (λ (d : List Deed). length d) r.are) ∙ (length-map r.acts (λ (a : ℕ × Deed). a.1) ∙ r.all) in
+    let whole : Follows (opening z) r.acts run.events g = follows (empty_run (opening z)) r.acts run.events r.are made in
+    let k = cut (opening z) first end run.events g (subst (λ (x : List (ℕ × Deed)). Follows (opening z) x run.events g) are whole) in
+    let fit : IsTrue (are_fit z) = subst (λ (a : Settings). IsTrue (are_fit a)) run.settings run.good.holds.fit in
+    let own = own_first run.seat g.seated first end (subst (AreByOwn run.seat g.seated) are r.owners) in
+    record {
+      m = k.between;
+      more = p.second;
+      es = k.later;
+      run = k.since;
+      on = follows_holds (opening z) first k.earlier k.between k.before (opening_holds z fit);
+      known = subst (λ (d : List Deed). Known z.cpus d k.between) did
+          (walked run.seat g.seated (Known z.cpus) [] (opening z) first k.earlier k.between (known_stays run.seat g.seated z.cpus) k.before (opening_holds z fit) own (known_first z));
+    }
+
+freed_gone : (z : Settings) (s : Table ℕ Logged) (i : ℕ) (l : Logged) (t n : ℕ) → RunsAsLogged z s → get_elem? s.views i ≡ some l → IsFreedFrom t n l.deeds → HasGone z s t n
+freed_gone z s i l t n r at f =
+    let run = r.run in
+    let g = after (opening z) run.events in
+    let a = at_deed z s i l f.before f.after f.deed r at f.are in
+    let freed : Freed a.m g t n = since_freed z.cpus f.before a.m f.deed a.more a.es g t n a.run a.on a.known f.detached f.freed in
+    record { run = r; gone = gone_of a.m g run.seat (plain s) t n run.good run.shows (histories a.m ((0, f.deed) ∷ a.more) a.es g a.run a.on) freed }
+
+pub freed_is_gone : FreedIsGone
+freed_is_gone z s i l t n r at f = freed_gone z s i l t n (running_headline z s r) at f

@@ -1,0 +1,11 @@
+use Rattle.std.specs.Prelude.{None, ◌++◌}
+use Rattle.protocol.specs.declared.event.Event.TheVariants.{Hear}
+use Rattle.protocol.specs.declared.event.Reply.TheVariants.{Done}
+use Rattle.cpu_words.specs.declared.view.View.TheVariants.{Keeper}
+use Rattle.cpu_words.specs.Steps.{Makes}
+use Rattle.cpu_words.specs.Vacating.{VacateTold}
+use Rattle.cpu_words.specs.Rule.{did}
+use Rattle.cpu_words.proofs.steps.vacating.vacate.Given as goal
+
+abbrev pub ghosts-listen_by_keeper : goal.ghosts-listen_by_keeper
+ghosts-listen_by_keeper a = record { does = λ k n. did a.event Done ++ did (Hear None) Done; tells = λ k n l. Makes a.event Done (Keeper k) (Keeper l) × Makes (Hear None) Done (Keeper l) (Keeper l) × VacateTold a.event k l }

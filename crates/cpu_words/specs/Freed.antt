@@ -1,0 +1,40 @@
+-- Destroying (psref(9), localcount(9)): what a seat knows of an entry for good, once it has heard that the keeper made its slot vacant.
+use Rattle.std.specs.Prelude.{◌≡◌, ℕ, Some}
+use mathlib.Core.Option.{some}
+use lib.ListN.{get_elem?}
+use Rattle.atomic_table.specs.Table.{State as Table}
+use Rattle.registry_values.specs.declared.entry.Entry.{Entry}
+use Rattle.registry_values.specs.declared.settings.Settings.{Settings}
+use Rattle.protocol.specs.History.{IsAttached, EndsAt}
+use Rattle.protocol.specs.State.{State, opening}
+use Rattle.protocol.specs.Model.{IsUnheld}
+use Rattle.protocol.specs.Picture.{picture}
+use Rattle.protocol.specs.Laws.{after, occupant_of}
+use Rattle.cpu_words.specs.declared.view.Logged.{Logged}
+use Rattle.cpu_words.specs.declared.view.View.{View}
+use Rattle.cpu_words.specs.Deeds.{IsFreedFrom}
+use Rattle.cpu_words.specs.Logs.{plain, LoggedRuled}
+use Rattle.cpu_words.specs.Headline.{RunsAsLogged, SeatHolds}
+
+-- In the state g, which shows these views, the entry n of the slot t is gone: it was attached and detached, has no slot, and nothing holds it.
+pub record IsGone (g : State) (s : Table ℕ View) (t n : ℕ) : Type 0 where
+  pub e : Entry
+  pub number : e.number ≡ n
+  pub slot : e.slot ≡ t
+  pub attached : IsAttached g.history e
+  pub ended : (p : ℕ) × EndsAt g.history n p
+  -- its own slot is vacant, or has a later entry
+  pub slotless : (u : ℕ) → occupant_of g u ≡ Some n → ⊥
+  -- no open section may hold it, no CPU has a passive reference to it, no local reference to it is there, and no slot keeps one
+  pub unheld : IsUnheld (picture g) n
+  -- the same of each seat: no CPU, no local reference and no slot of the keeper's holds it
+  pub seats : (j : ℕ) (v : View) → get_elem? s.views j ≡ some v → SeatHolds g.history e v → ⊥
+
+-- so it is in the state that a list of events leads to, and that the table shows
+pub record HasGone (z : Settings) (s : Table ℕ Logged) (t n : ℕ) : Type 0 where
+  pub run : RunsAsLogged z s
+  pub gone : IsGone (after (opening z) run.run.events) (plain s) t n
+
+-- a seat that has heard that the keeper made the slot vacant, from which the entry was detached last, knows this of the table, whatever it is now
+abbrev pub FreedIsGone : Type 0
+FreedIsGone = (z : Settings) (s : Table ℕ Logged) (i : ℕ) (l : Logged) (t n : ℕ) → LoggedRuled z s → get_elem? s.views i ≡ some l → IsFreedFrom t n l.deeds → HasGone z s t n

@@ -1,0 +1,35 @@
+//! The end of a drain (psref(9), localcount(9)): the slot of a retired entry that nothing holds is vacant again.
+
+ghost use Rattle.std.specs.Prelude.{◌≡◌, ◌++◌, None};
+ghost use Rattle.registry_values.specs.declared.entry.Entry.{Entry};
+ghost use Rattle.registry_values.specs.declared.slot.Slot.TheVariants.{Retired};
+ghost use Rattle.registry_values.specs.Slots.{slot_at};
+ghost use Rattle.protocol.specs.declared.event.Event.TheVariants.{Hear, Vacate};
+ghost use Rattle.protocol.specs.declared.event.Reply.TheVariants.{Done};
+ghost use Rattle.cpu_words.specs.declared.view.View.TheVariants.{Keeper};
+ghost use Rattle.cpu_words.specs.Deeds.{IsFreedFrom};
+ghost use Rattle.cpu_words.specs.Rule.{did};
+ghost use Rattle.cpu_words.specs.Steps.{Makes};
+ghost use Rattle.cpu_words.specs.Vacating.{MayVacate, keeper_after_vacate};
+
+use crate::law::Words;
+use crate::operations::notes;
+use crate::seat::KeeperSeat;
+use protocol::Event;
+use std::marker::Brand;
+
+/// Makes the slot vacant, and hears. Vacate touches no word; the load of the head by which the keeper hears tells that the entry, which its log
+/// has as detached from the slot, has gone from there (`freed`): by the law `running_headline` nothing holds it, now or later.
+/// Condition: the keeper is at rest, and the slot is retired and drained, and keeps nothing.
+pub fn vacate(words: &Words, keeper: &mut KeeperSeat, slot: u8)
+    requires table { keeper.old.table ≡ words.now.table }
+    requires may { MayVacate keeper.old.view slot }
+    ensures table { keeper.new.table ≡ keeper.old.table }
+    ensures event { Makes (Vacate slot) Done (Keeper keeper.old.view) (Keeper keeper.new.view) }
+    ensures hears { Makes (Hear None) Done (Keeper keeper.new.view) (Keeper keeper.new.view) }
+    ensures change { keeper.new.view ≡ keeper_after_vacate keeper.old.view slot }
+    ensures log { keeper.new.log ≡ keeper.old.log ++ did (Vacate slot) Done ++ did (Hear None) Done }
+    ensures freed { (e : Entry) → slot_at keeper.old.view.slots slot ≡ Retired e → IsFreedFrom slot e.number keeper.new.log }
+{
+    notes::listen_by_keeper::<Brand>(words, keeper, 648, Event::Vacate(slot));
+}

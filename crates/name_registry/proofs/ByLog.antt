@@ -1,0 +1,90 @@
+-- What an audit answers is said by the keeper's log and the CPUs alone.
+use Rattle.std.proofs.Common.{◌≡◌, ◌∙◌, ⊎_elim, inl, inr, ℕ, zero, suc, ◌+◌, ◌*◌, ℤ, pos, ◌+ℤ◌, ◌-ℤ◌, Bool, true, false, ◌&&◌, if◌then◌else◌, List, [], ◌∷◌, ◌++◌, map, sum_by, Option, Some, None, refl, sym, ap, subst, arith}
+use Rattle.std.proofs.lemmas.Int.{ints}
+use mathlib.Core.Option.{some}
+use lib.ListN.{get_elem?}
+use Rattle.registry_values.specs.declared.balance.Balance.{Balance}
+use Rattle.registry_values.specs.declared.entry.Entry.{Entry}
+use Rattle.registry_values.specs.declared.mark.Mark.{Mark}
+use Rattle.registry_values.specs.declared.settings.Settings.{Settings}
+use Rattle.registry_values.specs.declared.slot.Slot.{Slot}
+use Rattle.registry_values.specs.declared.slot.Slot.TheVariants.{Vacant, Live, Retired}
+use Rattle.registry_values.specs.Balances.{Tally, bias, less_bias, tally_shown}
+use Rattle.registry_values.specs.Slots.{is_retired, slot_at}
+use Rattle.protocol.specs.declared.state.Due.TheVariants.{Rest}
+use Rattle.protocol.specs.Invariant.{IsIn, addition_due_at, is_adding_at, subtraction_due_at}
+use Rattle.protocol.specs.State.{State, count_at, mark_at, total_at}
+use Rattle.cpu_words.specs.declared.view.Deed.{Deed}
+use Rattle.cpu_words.specs.Deeds.{given_up, is_drawn, occupant, occupant_of, sum_collected, word_collected, word_if, words_collected}
+use Rattle.cpu_words.specs.Notes.{keeper_with_heard}
+use Rattle.cpu_words.specs.Views.{number_at}
+use Rattle.cpu_words.proofs.by_keeper.KeeperSees.{SeenByKeeper, seen_by_keeper}
+use Rattle.cpu_words.proofs.logs.Totalled.{given_by_log}
+use Rattle.passive_list.specs.Cpus.{OnCpu}
+use Rattle.passive_list.specs.Keepers.{OnKeeper}
+use Rattle.name_registry.specs.Auditing.{AreAllCpus, AreAlike, IsAuditBy, IsAuditOf, IsKeeperOf, acquired_of, audited, audited_at, audited_below, each_at, each_below, is_collected, local_in, local_of, net_of, net_unless, released_of, tallies_below, tallies_met, tally, tally_in, tally_of, total_in}
+use Rattle.name_registry.proofs.Tallies.{alike_held, in_occupant, locals_same}
+
+-- a count word adds its CPU's net count, unless it was collected
+unless_if : (b : Bool) (w : ℕ) (net : ℤ) → net_unless (word_if b w) net ≡ (if b then pos 0 else net)
+unless_if true w net = refl
+unless_if false w net = refl
+
+module _ (a : Settings) (k : OnKeeper) (xs ys : List OnCpu) (known : IsKeeperOf a k) (all : AreAllCpus a.cpus xs) (alike : AreAlike k xs ys) where
+  abbrev g : State
+  g = alike.keeper.1.g
+
+  abbrev pub log : List Deed
+  log = alike.log
+
+  seen : SeenByKeeper alike.keeper.1.g (keeper_with_heard k.view alike.keeper.0)
+  seen = seen_by_keeper alike.keeper.1.g (keeper_with_heard k.view alike.keeper.0) alike.keeper.1.good alike.keeper.1.shown
+
+  -- a slot of the keeper's is the state's
+  same_slot : (t : ℕ) → slot_at k.slots t ≡ slot_at g.slots t
+  same_slot t = sym (known.slots t) ∙ ap (λ (l : List Slot). slot_at l t) seen.slots
+
+  by_log : (t : ℕ) → occupant t log ≡ occupant_of (slot_at k.slots t)
+  by_log t = alike.keeper.1.counts.occupants t ∙ ap occupant_of (sym (same_slot t))
+
+  drawn : (t c : ℕ) → is_drawn g t c ≡ is_collected k t c
+  drawn t c = let slot = same_slot t in let marks = seen.marks in λ i. is_retired (sym slot i) && (mark_at (sym marks i) t c).collected
+
+  local : (t n : ℕ) (x : OnCpu) → local_in log t n x ≡ local_of k t n x
+  local t n x =
+      ap (λ (w : Option ℕ). net_unless w (net_of n x)) (alike.keeper.1.counts.words t x.view.id)
+      ∙ (unless_if (is_drawn g t x.view.id) (count_at g.nets x.view.id t) (net_of n x) ∙ ap (λ (b : Bool). if b then pos 0 else net_of n x) (drawn t x.view.id))
+
+  total : (t n : ℕ) → occupant t log ≡ Some n → total_in log t n ≡ less_bias (total_at k.view.totals t)
+  total t n is =
+      let due : g.due ≡ Rest = sym seen.due ∙ known.view.rest in
+      let adding : addition_due_at t g.due ≡ 0 = ap (addition_due_at t) due in
+      let is_adding : is_adding_at t g.due ≡ 0 = ap (is_adding_at t) due in
+      let subtracting : subtraction_due_at t g.due ≡ 0 = ap (subtraction_due_at t) due in
+      let same : total_at k.view.totals t ≡ total_at g.totals t = ap (λ (l : List ℕ). total_at l t) seen.totals in
+      let sum = alike.keeper.1.totals.total t n is in
+      omega (arith, ints, sum, same, adding, is_adding, subtracting)
+
+  -- what is said of one entry
+  pub audited_is : (t : ℕ) (e : Entry) → IsIn e (slot_at k.slots t) → audited log xs e.number t ≡ tally_of k xs e.number t
+  audited_is t e is =
+      let has : occupant t log ≡ Some e.number = by_log t ∙ in_occupant e (slot_at k.slots t) is in
+      let given : number_at k.view.given_up e.number ≡ given_up e.number log = given_by_log log g (keeper_with_heard k.view alike.keeper.0) t e.number alike.keeper.1.good alike.keeper.1.shown alike.keeper.1.counts alike.keeper.1.totals (sym seen.due ∙ known.view.rest) has in
+      let locals = locals_same (local_in log t e.number) (local_of k t e.number) xs (λ c x at. local t e.number x) in
+      let held : tally_in log xs e.number ≡ (tally_of k xs e.number t).held =
+      ap (λ (m : ℕ). pos (sum_by (acquired_of e.number) xs) -ℤ pos (sum_by (released_of e.number) xs + m)) (sym given) ∙ sym (alike_held a k xs ys known all alike t e is) in
+      let sum = total t e.number has in
+      λ i. record { number = e.number; slot = t; held = held i; locals = locals i; total = sum i }
+
+  at_slot : (t : ℕ) (x : Slot) → slot_at k.slots t ≡ x → audited_at log xs t (occupant t log) ≡ each_at (tally_of k xs) t x
+  at_slot t Vacant is = ap (audited_at log xs t) (by_log t ∙ ap occupant_of is)
+  at_slot t (Live e) is = ap (audited_at log xs t) (by_log t ∙ ap occupant_of is) ∙ ap (λ (b : Tally). b ∷ []) (audited_is t e (inl is))
+  at_slot t (Retired e) is = ap (audited_at log xs t) (by_log t ∙ ap occupant_of is) ∙ ap (λ (b : Tally). b ∷ []) (audited_is t e (inr is))
+
+  pub audited_all : (n : ℕ) → audited_below log xs n ≡ tallies_below k xs n
+  audited_all zero = refl
+  audited_all (suc t) = let first = audited_all t in let last = at_slot t (slot_at k.slots t) refl in λ i. first i ++ last i
+
+-- the whole list
+pub audit_known : (a : Settings) (k : OnKeeper) (xs ys : List OnCpu) (list : List Balance) → IsKeeperOf a k → AreAllCpus a.cpus xs → AreAlike k xs ys → IsAuditOf a k xs list → IsAuditBy a xs ys list
+audit_known a k xs ys list known all alike is = record { log = alike.log; known = alike.known; answer = is.answer ∙ sym (audited_all a k xs ys known all alike a.slots) }

@@ -1,0 +1,178 @@
+-- How an audit lets all know the same of the keeper's deeds: a note goes from the keeper through all CPUs, and back.
+use Rattle.std.proofs.Common.{append_assoc, ◌≡◌, ◌≢◌, ⊎_elim, ℕ, zero, suc, ◌+◌, ◌<◌, ◌≤◌, ℤ, List, [], ◌∷◌, ◌++◌, length, map, set, length-set, refl, sym, ap, ◌∙◌, subst, arith}
+use Rattle.std.proofs.lemmas.Bool.{cases_eq}
+use Rattle.std.proofs.lemmas.List.{append-nil, length-append}
+use mathlib.Core.List.{IsPrefix}
+use mathlib.Core.Option.{some, some-injective, some-ne-none}
+use lib.ListN.{get_elem?}
+use Rattle.atomic_table.proofs.Lists.{at_set}
+use Rattle.registry_values.specs.declared.entry.Change.{Change}
+use Rattle.registry_values.specs.declared.settings.Settings.{Settings}
+use Rattle.cpu_words.specs.declared.view.Deed.{Deed}
+use Rattle.cpu_words.specs.declared.view.KeeperView.{KeeperView}
+use Rattle.cpu_words.specs.declared.view.View.TheVariants.{Cpu, Keeper}
+use Rattle.cpu_words.specs.Deeds.{IsShownAfter}
+use Rattle.cpu_words.specs.Notes.{with_heard, keeper_with_heard}
+use Rattle.passive_list.specs.Cpus.{OnCpu}
+use Rattle.passive_list.specs.Keepers.{OnKeeper}
+use Rattle.passive_list.specs.Logs.{HasOwnLog}
+use Rattle.passive_list.specs.Notes.{HasHeardOn, WasShown}
+use Rattle.name_registry.specs.Meeting.{HasLearned}
+use Rattle.name_registry.specs.Auditing.{AreAllCpus, AreAlike, HasListened, HaveLearned, IsShownOn, local_met, tallies_met, tally_by, tally_met}
+use Rattle.name_registry.proofs.Audits.{each_same}
+use Rattle.name_registry.proofs.Worked.{prefix_on}
+
+at_within : (l : List OnCpu) (i : ℕ) (a : OnCpu) → get_elem? l i ≡ some a → i < length l
+at_within [] i a e = absurd (some-ne-none a (sym e))
+at_within (x ∷ xs) zero a e = omega arith
+at_within (x ∷ xs) (suc i) a e = let h = at_within xs i a e in omega (arith, h)
+
+-- Prefixes
+
+-- what goes on from a list and begins it is that list
+prefix_both : (a b : List Deed) → IsPrefix a b → IsPrefix b a → a ≡ b
+prefix_both a b first second = by first.0 first.1
+  where
+    by : (more : List Deed) → a ++ more ≡ b → a ≡ b
+    by [] is = sym (append-nil a) ∙ is
+    by (d ∷ more) is = absurd (let long = ap (λ (l : List Deed). length l) (sym is) ∙ length-append a (d ∷ more) in let short = ap (λ (l : List Deed). length l) (sym second.1) ∙ length-append b second.0 in omega (arith, long, short))
+
+-- CPU by CPU
+
+-- the first n of the CPUs xs have heard, and are ys then; the note tells on what the last one knows
+pub record Gathered (xs ys : List OnCpu) (n : ℕ) (log note : List Deed) : Type 0 where
+  pub size : length ys ≡ length xs
+  pub told : IsPrefix log note
+  pub learned : (c : ℕ) (x y : OnCpu) → c < n → get_elem? xs c ≡ some x → get_elem? ys c ≡ some y → HasLearned x y × (y.made ≡ x.made)
+  pub shown : (c : ℕ) (x : OnCpu) → c < n → get_elem? xs c ≡ some x → (d : List Deed) × IsPrefix log d × IsPrefix d note × IsShownOn d x
+  pub knows : (c : ℕ) (y : OnCpu) → c < n → get_elem? ys c ≡ some y → IsPrefix log y.deeds × IsPrefix y.deeds note
+  pub rest : (c : ℕ) → n ≤ c → get_elem? ys c ≡ get_elem? xs c
+
+pub gathered_none : (xs : List OnCpu) (log note : List Deed) → note ≡ log → Gathered xs xs 0 log note
+gathered_none xs log note is = record {
+  size = refl;
+  told = ([], append-nil log ∙ sym is);
+  learned = λ c x y lt was now. absurd (omega (arith, lt));
+  shown = λ c x lt at. absurd (omega (arith, lt));
+  knows = λ c y lt at. absurd (omega (arith, lt));
+  rest = λ c le. refl;
+}
+
+pub learned_of : (note : List Change) (x y : OnCpu) → HasHeardOn note x y → HasLearned x y × (y.made ≡ x.made)
+learned_of note x y heard = (
+  record {
+    pass = heard.pass;
+    deeds = heard.deeds;
+    is = heard.is ∙ (λ j. record x { view = record x.view { pass = y.view.pass; heard = sym (ap (λ (z : OnCpu). z.view.heard) heard.is) j }; made = sym (ap (λ (z : OnCpu). z.made) heard.is) j; deeds = y.deeds });
+  },
+  ap (λ (z : OnCpu). z.made) heard.is,
+)
+
+past_set : (xs : List OnCpu) (n c : ℕ) (y : OnCpu) → (c ≡ n → ⊥) → get_elem? (set xs n y) c ≡ get_elem? xs c
+past_set [] n c y off = refl
+past_set (x ∷ xs) zero zero y off = absurd (off refl)
+past_set (x ∷ xs) zero (suc c) y off = refl
+past_set (x ∷ xs) (suc n) zero y off = refl
+past_set (x ∷ xs) (suc n) (suc c) y off = past_set xs n c y (λ same. off (ap suc same))
+
+pub gathered_more : (xs ys : List OnCpu) (n : ℕ) (log note told : List Deed) (h : List Change) (x y : OnCpu) → Gathered xs ys n log note → get_elem? ys n ≡ some x → HasHeardOn h x y → IsPrefix note y.deeds → WasShown h x y → told ≡ y.deeds
+    → Gathered xs (set ys n y) (n + 1) log told
+gathered_more xs ys n log note told h x y so_far at heard knows shown is =
+    let next : IsPrefix note told = subst (IsPrefix note) (sym is) knows in
+    let mine : get_elem? xs n ≡ some x = sym (so_far.rest n (omega arith)) ∙ at in
+    record {
+      size = length-set ys n y ∙ so_far.size;
+      told = prefix_on _ _ _ so_far.told next;
+      learned = λ c u v lt was now. ⊎_elim
+          (λ (p : (c ≡ n) × (y ≡ v)).
+          let same : x ≡ u = some-injective x u (sym mine ∙ (ap (get_elem? xs) (sym p.0) ∙ was)) in
+          subst (λ (z : OnCpu). HasLearned z v × (v.made ≡ z.made)) same (subst (λ (z : OnCpu). HasLearned x z × (z.made ≡ x.made)) p.1 (learned_of h x y heard)))
+          (λ (p : (c ≢ n) × (get_elem? ys c ≡ some v)). so_far.learned c u v (let off = p.0 in omega (arith, lt, off)) was p.1)
+          (at_set ys n c y v now);
+      shown = λ c u lt was. ⊎_elim
+          (λ (same : c ≡ n).
+          let one : x ≡ u = some-injective x u (sym mine ∙ (ap (get_elem? xs) (sym same) ∙ was)) in
+          (told, prefix_on _ _ _ so_far.told next, ([], append-nil told), subst (IsShownOn told) one (h, subst (λ (d : List Deed). IsShownAfter d (Cpu (with_heard x.view h))) (sym is) shown)))
+          (λ (off : c ≡ n → ⊥).
+          let p = so_far.shown c u (omega (arith, lt, off)) was in
+          (p.0, p.1, prefix_on _ _ _ p.2 next, p.3))
+          (cases_eq c n);
+      knows = λ c v lt now. ⊎_elim
+          (λ (p : (c ≡ n) × (y ≡ v)). subst (λ (z : OnCpu). IsPrefix log z.deeds × IsPrefix z.deeds told) p.1 (prefix_on _ _ _ so_far.told knows, subst (IsPrefix y.deeds) (sym is) ([], append-nil y.deeds)))
+          (λ (p : (c ≢ n) × (get_elem? ys c ≡ some v)). let had = so_far.knows c v (let off = p.0 in omega (arith, lt, off)) p.1 in (had.0, prefix_on _ _ _ had.1 next))
+          (at_set ys n c y v now);
+      rest = λ c le. past_set ys n c y (λ same. omega (arith, le, same)) ∙ so_far.rest c (omega (arith, le));
+    }
+
+-- all have heard, and the keeper has heard the last one
+pub gathered_alike : (z : Settings) (a k : OnKeeper) (xs ys : List OnCpu) (n : ℕ) (log note : List Deed) → Gathered xs ys n k.log note → length ys ≤ n → k ≡ record a { log = log } → IsPrefix note k.log → HasOwnLog z k → AreAlike a xs ys
+gathered_alike z a k xs ys n log note all done is back own =
+    record {
+      log = k.log;
+      known = λ c y at.
+          let low = at_within ys c y at in
+          let p = all.knows c y (omega (arith, low, done)) at in
+          prefix_both y.deeds k.log (prefix_on _ _ _ p.1 back) p.0;
+      keeper = (own.counts.0, subst (λ (v : KeeperView). IsShownAfter k.log (Keeper (keeper_with_heard v own.counts.0))) (ap (λ (x : OnKeeper). x.view) is) own.counts.1);
+      cpus = λ c x at.
+          let low = at_within xs c x at in
+          let size = all.size in
+          let p = all.shown c x (omega (arith, low, size, done)) at in
+          let same : p.0 ≡ k.log = prefix_both p.0 k.log (prefix_on _ _ _ p.2 back) p.1 in
+          subst (λ (d : List Deed). IsShownOn d x) same p.3;
+    }
+
+pub gathered_learned : (xs ys : List OnCpu) (n : ℕ) (log note : List Deed) → Gathered xs ys n log note → length ys ≤ n → HaveLearned xs ys
+gathered_learned xs ys n log note all done = record {
+  size = all.size;
+  each = λ c x y was now. let low = at_within xs c x was in let size = all.size in all.learned c x y (omega (arith, low, size, done)) was now;
+}
+
+-- nothing was done
+
+pub learned_none : (xs : List OnCpu) → HaveLearned xs xs
+learned_none xs = record {
+  size = refl;
+  each = λ c x y was now.
+      let same : x ≡ y = some-injective x y (sym was ∙ now) in
+      subst (λ (z : OnCpu). HasLearned x z × (z.made ≡ x.made)) same (record { pass = ([], append-nil x.view.pass); deeds = ([], append-nil x.deeds); is = refl }, refl);
+}
+
+there : (xs : List OnCpu) (c : ℕ) → c < length xs → (x : OnCpu) × (get_elem? xs c ≡ some x)
+there [] c lt = absurd (omega (arith, lt))
+there (x ∷ xs) zero lt = (x, refl)
+there (x ∷ xs) (suc c) lt = there xs c (omega (arith, lt))
+
+-- all CPUs stay all CPUs
+pub all_learned : (n : ℕ) (xs ys : List OnCpu) → HaveLearned xs ys → AreAllCpus n xs → AreAllCpus n ys
+all_learned n xs ys learned all = record {
+  count = learned.size ∙ all.count;
+  each = λ c y at.
+      let lt = at_within ys c y at in
+      let size = learned.size in
+      let was = there xs c (omega (arith, lt, size)) in
+      ap (λ (z : OnCpu). z.view.id) (learned.each c was.0 y was.1 at).0.is ∙ all.each c was.0 was.1;
+}
+
+pub listened_none : (a : OnKeeper) → HasListened a a
+listened_none a = record { log = ([], append-nil a.log); is = (a.view.heard, refl) }
+
+pub listened : (a b : OnKeeper) (h : List Change) (log more : List Deed) → b.view ≡ keeper_with_heard a.view h → b.slots ≡ a.slots → b.log ≡ (a.log ++ log) ++ more → HasListened a b
+listened a b h log more view slots is = record {
+  log = (log ++ more, sym (append_assoc a.log log more) ∙ sym is);
+  is = (h, λ j. record { view = view j; slots = slots j; log = b.log });
+}
+
+-- What it answers is by the places, which are as they were
+
+map_learned : (f : OnCpu → ℤ) (xs ys : List OnCpu) → length ys ≡ length xs → ((c : ℕ) (x y : OnCpu) → get_elem? xs c ≡ some x → get_elem? ys c ≡ some y → f y ≡ f x) → map f ys ≡ map f xs
+map_learned f [] [] size each = refl
+map_learned f [] (y ∷ ys) size each = absurd (omega (arith, size))
+map_learned f (x ∷ xs) [] size each = absurd (omega (arith, size))
+map_learned f (x ∷ xs) (y ∷ ys) size each = let one = each 0 x y refl refl in let rest = map_learned f xs ys (omega (arith, size)) (λ c u v was now. each (suc c) u v was now) in λ j. one j ∷ rest j
+
+pub tallies_learned : (a b : OnKeeper) (xs ys : List OnCpu) (slots : ℕ) → HasListened a b → HaveLearned xs ys → tallies_met b ys slots ≡ tallies_met a xs slots
+tallies_learned a b xs ys slots heard learned =
+    ap (λ (k : OnKeeper). tallies_met k ys slots) heard.is.1
+    ∙ each_same (tally_met a ys) (tally_met a xs) a.slots slots (λ t e there. ap (λ locals. tally_by a locals e.number t)
+    (map_learned (local_met a t e.number) xs ys learned.size (λ c x y was now. ap (local_met a t e.number) (learned.each c x y was now).0.is)))

@@ -1,0 +1,179 @@
+-- What a turn of a destroy tells the caller's CPU, by the keeper's log.
+use Rattle.std.proofs.Common.{◌≡◌, ◌∙◌, ⊎_elim, ℕ, ◌+◌, ◌*◌, ◌<◌, ◌≤◌, ◌&&◌, Bool, true, List, [], ◌∷◌, ◌++◌, length, Option, Some, None, Result, Ok, Err, eq-eqb, refl, sym, ap, subst, append-nil, append_assoc, arith}
+use Rattle.std.proofs.lemmas.List.{length-append}
+use Rattle.std.proofs.lemmas.Option.{none-some, same_Some}
+use mathlib.Core.List.{IsPrefix}
+use Rattle.registry_values.specs.declared.entry.Change.{Change}
+use Rattle.registry_values.specs.declared.entry.Entry.{Entry}
+use Rattle.registry_values.specs.declared.refusal.Refusal.{Refusal}
+use Rattle.registry_values.specs.declared.settings.Settings.{Settings}
+use Rattle.registry_values.specs.declared.slot.Slot.{Slot}
+use Rattle.registry_values.specs.declared.slot.Slot.TheVariants.{Vacant, Live, Retired}
+use Rattle.registry_values.specs.declared.stage.Stage.{Stage}
+use Rattle.registry_values.specs.declared.stage.Stage.TheVariants.{Grace, Passive, Local, Freed}
+use Rattle.registry_values.specs.declared.mark.Mark.{Mark}
+use Rattle.registry_values.specs.Balances.{bias}
+use Rattle.registry_values.specs.Slots.{is_retired, is_retired_as, retired_slot, slot_at}
+use Rattle.registry_values.proofs.Slots.{retired_slot_tells}
+use Rattle.protocol.specs.declared.event.Event.TheVariants.{Hear, KeptSub, Tell, Vacate}
+use Rattle.protocol.specs.declared.event.Reply.TheVariants.{Done}
+use Rattle.protocol.specs.declared.state.Due.TheVariants.{Rest}
+use Rattle.protocol.specs.Invariant.{addition_due_at, is_adding_at, subtraction_due_at}
+use Rattle.protocol.specs.State.{State, count_at, mark_at, total_at}
+use Rattle.protocol.proofs.keeps.Unlinking.{within_retired}
+use Rattle.protocol.proofs.slots.Numbers.{position_fails}
+use Rattle.cpu_words.specs.declared.view.Deed.{Deed}
+use Rattle.cpu_words.specs.Deeds.{changes_in, given_up, has_looked, has_looked_passive, is_drawn, occupant, occupant_of, sum_collected, word_if, words_collected, IsFreedFrom}
+use Rattle.cpu_words.specs.Notes.{keeper_with_heard}
+use Rattle.cpu_words.specs.Rule.{did}
+use Rattle.cpu_words.proofs.by_keeper.KeeperSees.{seen_by_keeper}
+use Rattle.cpu_words.proofs.logs.Standings.{not_attached}
+use Rattle.passive_list.specs.Cpus.{OnCpu}
+use Rattle.passive_list.specs.Keepers.{OnKeeper}
+use Rattle.passive_list.specs.Logs.{HasOwnLog}
+use Rattle.passive_list.specs.Notes.{HasHeardOn}
+use Rattle.local_count.specs.Draining.{HasFreed}
+use Rattle.name_registry.specs.Advancing.{EndsIn, HasAdvanced, HasEnded, Meets, MeetsGrace, MeetsLocal, MeetsPassive}
+use Rattle.name_registry.specs.Destroying.{HasAdvancedFor}
+use Rattle.name_registry.specs.Meeting.{keeper_after_hear, keeper_after_tell}
+use Rattle.name_registry.specs.Obstacles.{AnswersBy, HasMet, IsNotRetired, IsRetiredIn, IsTurn, MetLocals, MetReference, MetSection}
+use Rattle.name_registry.proofs.Worked.{prefix_on}
+
+-- What is retired, by the keeper and by its log
+
+retired_in_log : (z : Settings) (a : OnKeeper) (t n : ℕ) (e : Entry) → HasOwnLog z a → slot_at a.slots t ≡ Retired e → e.number ≡ n → IsRetiredIn t n a.log
+retired_in_log z a t n e own at same = subst (λ (m : ℕ). IsRetiredIn t m a.log) same (own.occupants t ∙ ap occupant_of at, own.slots.retired t e at)
+
+not_retired : (z : Settings) (a : OnKeeper) (n : ℕ) → HasOwnLog z a → retired_slot a.slots n ≡ None → IsNotRetired n a.log
+not_retired z a n own none t is = by (slot_at a.slots t) refl
+  where
+    by : (x : Slot) → slot_at a.slots t ≡ x → ⊥
+    by Vacant at = none-some n (sym (own.occupants t ∙ ap occupant_of at) ∙ is.0)
+    by (Live e) at = not_attached t n e.number a.log is.1 (own.slots.live t e at)
+    by (Retired e) at =
+        let same : e.number ≡ n = same_Some e.number n (sym (own.occupants t ∙ ap occupant_of at) ∙ is.0) in
+        position_fails (is_retired_as n) a.slots t Vacant none (within_retired a.slots t e at) (ap (is_retired_as n) at ∙ eq-eqb e.number n same)
+
+-- What was met
+
+-- the last deed is the one that ends the log, and was made since the turn began
+ends_in : (begin old new : List Deed) (d : Deed) → IsPrefix begin old → EndsIn old d new → (before : List Deed) × IsPrefix begin before × (new ≡ before ++ d ∷ [])
+ends_in begin old new d from ends = (old ++ ends.0, prefix_on _ _ _ from (ends.0, refl), ends.1)
+
+met_section : (z : Settings) (a b : OnKeeper) (t c : ℕ) (begin : List Deed) → HasOwnLog z b → IsPrefix begin a.log → MeetsGrace a t c b → MetSection t c begin b.log
+met_section z a b t c begin own from meets =
+    let last = ends_in begin a.log b.log (has_looked t c meets.sees.word) from meets.sees.log in record {
+      word = meets.sees.word;
+      before = last.0;
+      since = last.1;
+      are = last.2;
+      odd = meets.sees.odd;
+      snapped = own.marks.snapped t c meets.sees.word meets.sees.snapshot;
+      lesser = λ d lt. own.marks.passed t d (meets.lesser d lt);
+    }
+
+met_reference : (z : Settings) (a b : OnKeeper) (t c : ℕ) (begin : List Deed) → HasOwnLog z b → IsPrefix begin a.log → MeetsPassive a t c b → MetReference z.cpus t c begin b.log
+met_reference z a b t c begin own from meets =
+    let last = ends_in begin a.log b.log (has_looked_passive t c meets.sees.word) from meets.sees.log in record {
+      word = meets.sees.word;
+      before = last.0;
+      since = last.1;
+      are = last.2;
+      some = meets.sees.some;
+      passed = λ d lt. own.marks.passed t d (meets.passed d (subst (λ (s : Settings). d < s.cpus) (sym own.settings) lt));
+    }
+
+met_locals : (z : Settings) (a b : OnKeeper) (t n k : ℕ) (e : Entry) → HasOwnLog z b → slot_at a.slots t ≡ Retired e → e.number ≡ n → MeetsLocal a t k b → MetLocals z.cpus t n k b.log
+met_locals z a b t n k e own at same meets =
+    let s = own.counts.1 in
+    let g : State = s.g in
+    let seen = seen_by_keeper g (keeper_with_heard b.view own.counts.0) s.good s.shown in
+    let occupied : occupant t b.log ≡ Some n = own.occupants t ∙ ap occupant_of (ap (λ (l : List Slot). slot_at l t) meets.leaves.slots ∙ at) ∙ ap (λ (m : ℕ). Some m) same in
+    let gone : is_retired (slot_at g.slots t) ≡ true = ap is_retired (ap (λ (l : List Slot). slot_at l t) (sym seen.slots) ∙ meets.held.retired) in
+    let due : g.due ≡ Rest = sym seen.due ∙ own.rest in
+    let adding : addition_due_at t g.due ≡ 0 = ap (addition_due_at t) due in
+    let is_adding : is_adding_at t g.due ≡ 0 = ap (is_adding_at t) due in
+    let subtracting : subtraction_due_at t g.due ≡ 0 = ap (subtraction_due_at t) due in
+    let totals : total_at b.view.totals t ≡ total_at g.totals t = ap (λ (l : List ℕ). total_at l t) seen.totals in
+    let low : (d : ℕ) → d < z.cpus → d < b.view.settings.cpus = λ d lt. subst (λ (y : Settings). d < y.cpus) (sym own.settings) lt in
+    record {
+      some = meets.some;
+      collected = λ d lt.
+          let drawn : is_drawn g t d ≡ true = let marked = ap (λ (ms : List (List Mark)). (mark_at ms t d).collected) (sym seen.marks) ∙ meets.collected d (low d lt) in λ i. gone i && marked i in
+          (count_at g.nets d t, s.counts.words t d ∙ ap (λ (y : Bool). word_if y (count_at g.nets d t)) drawn);
+      left = let total = s.totals.total t n occupied in let held = meets.total in omega (arith, total, held, totals, adding, is_adding, subtracting);
+      passed = λ d lt. own.marks.passed t d (meets.passed d (low d lt));
+    }
+
+pub ended_freed : (m : OnKeeper) (t : ℕ) (b : OnKeeper) (e : Entry) → HasEnded m t b → slot_at m.slots t ≡ Retired e → IsFreedFrom t e.number b.log
+ended_freed m t b e ended at = ⊎_elim (λ v. v.1.freed e at) (λ (f : HasFreed m t b). f.freed e at) ended
+
+has_met : (z : Settings) (a b : OnKeeper) (t n : ℕ) (e : Entry) (begin : List Deed) (stage : Stage) → HasOwnLog z b → IsPrefix begin a.log → slot_at a.slots t ≡ Retired e → e.number ≡ n → Meets a t stage b → HasMet z.cpus t n stage begin b.log
+has_met z a b t n e begin (Grace c) own from at same meets = met_section z a b t c begin own from meets
+has_met z a b t n e begin (Passive c) own from at same meets = met_reference z a b t c begin own from meets
+has_met z a b t n e begin (Local k) own from at same meets = met_locals z a b t n k e own at same meets
+has_met z a b t n e begin (Freed u) own from at same meets =
+    let m = meets.1.between in
+    (meets.0, subst (λ (j : ℕ). IsFreedFrom t j b.log) same (ended_freed m t b e meets.1.ended (ap (λ (l : List Slot). slot_at l t) meets.1.leaves.slots ∙ at)))
+
+-- The log goes on
+
+ended_on : (m : OnKeeper) (t : ℕ) (b : OnKeeper) → HasEnded m t b → IsPrefix m.log b.log
+ended_on m t b ended = ⊎_elim
+    (λ v. (did (Vacate t) Done ++ did (Hear None) Done, sym (append_assoc m.log (did (Vacate t) Done) (did (Hear None) Done)) ∙ sym v.1.log))
+    (λ (f : HasFreed m t b). (did (KeptSub t) Done, sym f.log))
+    ended
+
+meets_on : (a : OnKeeper) (t : ℕ) (stage : Stage) (b : OnKeeper) → Meets a t stage b → IsPrefix a.log b.log
+meets_on a t (Grace c) b meets = meets.leaves.worked.log
+meets_on a t (Passive c) b meets = meets.leaves.worked.log
+meets_on a t (Local n) b meets = meets.leaves.log
+meets_on a t (Freed u) b meets = prefix_on _ _ _ meets.1.leaves.log (ended_on meets.1.between t b meets.1.ended)
+
+advanced_on : (a : OnKeeper) (n : ℕ) (answer : Result Stage Refusal) (b : OnKeeper) → HasAdvanced a n answer b → IsPrefix a.log b.log
+advanced_on a n (Ok stage) b has = meets_on a has.0 stage b has.2
+advanced_on a n (Err refusal) b has = ([], append-nil a.log ∙ ap (λ (k : OnKeeper). k.log) (sym has.2))
+
+-- The turn
+
+answers_by : (z : Settings) (a h b : OnKeeper) (n : ℕ) (answer : Result Stage Refusal) → HasOwnLog z a → HasOwnLog z b → h.slots ≡ a.slots → IsPrefix a.log h.log → HasAdvanced h n answer b → AnswersBy z.cpus n answer a.log b.log
+answers_by z a h b n (Ok stage) own end slots from has =
+    let told = (retired_slot_tells h.slots n has.0 has.1).1 in
+    let at : slot_at a.slots has.0 ≡ Retired told.0 = ap (λ (l : List Slot). slot_at l has.0) (sym slots) ∙ told.1 in
+    (has.0, retired_in_log z a has.0 n told.0 own at told.2, has_met z h b has.0 n told.0 a.log stage end from told.1 told.2 has.2)
+answers_by z a h b n (Err refusal) own end slots from has = (has.0, not_retired z a n own (ap (λ (l : List Slot). retired_slot l n) (sym slots) ∙ has.1))
+
+-- what the CPU hears has the keeper's log as the turn ended
+heard_end : (a b : OnKeeper) (x y : OnCpu) → b ≡ keeper_after_tell (keeper_after_hear a x) → IsPrefix b.log y.deeds → IsPrefix a.log y.deeds
+heard_end a b x y is told =
+    let log : b.log ≡ a.log ++ (did (Hear None) Done ++ did (Tell None) Done) = ap (λ (k : OnKeeper). k.log) is ∙ append_assoc a.log (did (Hear None) Done) (did (Tell None) Done) in
+    prefix_on _ _ _ (did (Hear None) Done ++ did (Tell None) Done, sym log) told
+
+pub told_turn : (z : Settings) (a : OnKeeper) (x : OnCpu) (n : ℕ) (answer : Result Stage Refusal) (b : OnKeeper) (y : OnCpu) → HasAdvancedFor z a x n answer b y → IsTurn z n x answer y
+told_turn z a x n answer b y has = record {
+  begin = a.log;
+  log = has.end.log;
+  known = has.known;
+  seen = has.seen;
+  on = prefix_on _ _ _ (did (Hear None) Done, refl) (advanced_on (keeper_after_hear a x) n answer has.end has.made);
+  heard = heard_end has.end b x y has.is has.told;
+  answers = answers_by z a (keeper_after_hear a x) has.end n answer has.own has.own_end refl (did (Hear None) Done, refl) has.made;
+}
+
+-- the steps of one, put together
+pub made_turn : (z : Settings) (a h end k b : OnKeeper) (x same after y : OnCpu) (n : ℕ) (answer : Result Stage Refusal) → IsPrefix x.deeds a.log → IsPrefix x.view.pass h.view.history → HasOwnLog z a → h ≡ keeper_after_hear a x → same ≡ x
+    → HasAdvanced h n answer end → HasOwnLog z end → k ≡ keeper_after_hear end same → after ≡ same → b ≡ keeper_after_tell k → HasHeardOn k.view.history after y → IsPrefix b.log y.deeds → HasAdvancedFor z a x n answer b y
+made_turn z a h end k b x same after y n answer known seen own heard first made own_end again second is hears told = record {
+  known = known;
+  seen =
+      let history : h.view.history ≡ a.view.history = ap (λ (o : OnKeeper). o.view.history) heard in
+      let long = ap (λ (l : List Change). length l) (sym seen.1) ∙ length-append x.view.pass seen.0 in
+      omega (arith, long, ap (λ (l : List Change). length l) history, own.changes);
+  own = own;
+  end = end;
+  made = subst (λ (o : OnKeeper). HasAdvanced o n answer end) heard made;
+  own_end = own_end;
+  is = is ∙ ap keeper_after_tell (again ∙ ap (keeper_after_hear end) first);
+  hears = subst (λ (o : OnCpu). HasHeardOn end.view.history o y) (second ∙ first) (subst (λ (l : List Change). HasHeardOn l after y) (ap (λ (o : OnKeeper). o.view.history) again) hears);
+  told = told;
+}

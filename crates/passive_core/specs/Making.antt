@@ -1,0 +1,97 @@
+-- The events that a command makes, one after the other.
+use Rattle.std.specs.Prelude.{◌≡◌, ℕ, zero, suc, ◌+◌, ◌-◌, ◌⊎◌, List, [], ◌∷◌, ◌++◌, All, Option, Some, None, Result, Ok, Err}
+use Rattle.registry_values.specs.declared.refusal.Refusal.{Refusal}
+use Rattle.registry_values.specs.declared.refusal.Refusal.TheVariants.{StillHeld, Waiting}
+use Rattle.registry_values.specs.declared.stage.Stage.{Stage}
+use Rattle.registry_values.specs.declared.stage.Stage.TheVariants.{Grace, Passive, Local, Freed}
+use Rattle.registry_values.specs.Slots.{retired_slot}
+use Rattle.protocol.specs.declared.event.Event.{Event}
+use Rattle.protocol.specs.declared.event.Event.TheVariants.{Seat, Seek, LoadRecord, Unpublish, Tell, Hear, Snapshot, Look, PassiveLook, Collect, TotalAdd, KeptSub, Vacate}
+use Rattle.protocol.specs.declared.event.RecordOf.{RecordOf}
+use Rattle.registry_values.specs.declared.slot.Key.{Key}
+use Rattle.protocol.specs.Laws.{IsLoadOf}
+use Rattle.protocol.specs.State.{State}
+use Rattle.protocol.specs.Events.{Outcome, step}
+
+-- Each event is allowed once those before it were made, and new is what they leave of old.
+abbrev pub Makes : State → List Event → State → Type 0
+Makes old [] new = new ≡ old
+Makes old (event ∷ events) new = (o : Outcome) × (step old event ≡ Some o) × Makes o.state events new
+
+-- Some events lead from old to new, and each is of one kind.
+pub record MakesOnly (P : Event → Type 0) (old new : State) : Type 0 where
+  pub events : List Event
+  pub kind : All P events
+  pub made : Makes old events new
+
+-- the seats of so many CPUs, from c on
+abbrev pub seats_from : ℕ → ℕ → List Event
+seats_from c zero = []
+seats_from c (suc n) = Seat c ∷ seats_from (c + 1) n
+
+-- The seats of all CPUs that have none yet, and then these events.
+abbrev pub seats_and : State → List Event → List Event
+seats_and s events = seats_from s.seated (s.settings.cpus - s.seated) ++ events
+
+-- the loads of a record's words 1 to 4
+abbrev pub record_loads : (ℕ → RecordOf) → List Event
+record_loads of = LoadRecord (of 1) ∷ LoadRecord (of 2) ∷ LoadRecord (of 3) ∷ LoadRecord (of 4) ∷ []
+
+-- The events of a lookup of c: the seats, the start of its search, and loads of that search.
+abbrev pub FindMakes : State → State → ℕ → Key → Type 0
+FindMakes old new c key = (loads : List Event) × All (IsLoadOf c) loads × Makes old (seats_and old (Seek c key.kind key.name ∷ loads)) new
+
+-- the snapshots for the slot t of so many CPUs, from c on
+abbrev pub snapshots_from : ℕ → ℕ → ℕ → List Event
+snapshots_from t c zero = []
+snapshots_from t c (suc n) = Snapshot (Some t) c ∷ snapshots_from t (c + 1) n
+
+-- The events of a detach by c of what stands in the slot t, once all CPUs are seated: c tells the keeper of its pass, the entry is unlinked and each CPU's snapshot taken, and c hears of it.
+abbrev pub detach_events : ℕ → ℕ → ℕ → List Event
+detach_events cpus c t = Tell (Some c) ∷ Hear None ∷ Unpublish t ∷ (snapshots_from t 0 cpus ++ Tell None ∷ Hear (Some c) ∷ [])
+
+-- The work on the slot t
+
+abbrev pub IsSeat : Event → Type 0
+IsSeat event = (c : ℕ) × (event ≡ Seat c)
+
+-- a look at a section word for the slot, or a seat
+abbrev pub IsLookFor : ℕ → Event → Type 0
+IsLookFor t event = IsSeat event ⊎ ((c : ℕ) × (event ≡ Look (Some t) c))
+
+-- or a look at a passive word
+abbrev pub IsPassiveLookFor : ℕ → Event → Type 0
+IsPassiveLookFor t event = IsLookFor t event ⊎ ((c : ℕ) × (event ≡ PassiveLook t c))
+
+-- or a swap of a count word for 0, or its addition to the total
+abbrev pub IsCollectionFor : ℕ → Event → Type 0
+IsCollectionFor t event = IsPassiveLookFor t event ⊎ (((c : ℕ) × (event ≡ Collect t c)) ⊎ (event ≡ TotalAdd t))
+
+-- or the end of the slot's use
+abbrev pub IsFreeingOf : ℕ → Event → Type 0
+IsFreeingOf t event = IsCollectionFor t event ⊎ ((event ≡ KeptSub t) ⊎ (event ≡ Vacate t))
+
+-- what the work is made of that came so far
+abbrev pub IsWork : Stage → ℕ → Event → Type 0
+IsWork (Grace c) t event = IsLookFor t event
+IsWork (Passive c) t event = IsPassiveLookFor t event
+IsWork (Local k) t event = IsCollectionFor t event
+IsWork (Freed u) t event = IsFreeingOf t event
+
+-- The events of an advance, by its answer: none where it is refused.
+abbrev pub AdvanceMakes : State → State → ℕ → Result Stage Refusal → Type 0
+AdvanceMakes old new n (Err refusal) = Makes old [] new
+AdvanceMakes old new n (Ok stage) = (t : ℕ) × (retired_slot old.slots n ≡ Some t) × MakesOnly (IsWork stage t) old new
+
+-- The events of a destroy, by its answer.
+abbrev pub HeldMakes : State → State → ℕ → Refusal → Type 0
+HeldMakes old new n (StillHeld stage) = AdvanceMakes old new n (Ok stage)
+HeldMakes old new n _ = Makes old [] new
+
+abbrev pub DestroyMakes : State → State → ℕ → Result ℕ Refusal → Type 0
+DestroyMakes old new n (Ok t) = AdvanceMakes old new n (Ok (Freed t))
+DestroyMakes old new n (Err refusal) = HeldMakes old new n refusal
+
+-- a seat, or a load of a section word that isn't the snapshot of an entry
+abbrev pub IsWaiting : Event → Type 0
+IsWaiting event = IsSeat event ⊎ (((c : ℕ) × (event ≡ Snapshot None c)) ⊎ ((to : Option ℕ) × (c : ℕ) × (event ≡ Look to c)))

@@ -1,0 +1,123 @@
+-- A wait from C that went from call to call: what its turns say together.
+use Rattle.std.proofs.Common.{◌≡◌, ℕ, zero, suc, Bool, true, false, List, [], ◌∷◌, map, Option, Some, None, refl, sym, ap, subst}
+use Rattle.std.proofs.lemmas.Option.{same_Some}
+use mathlib.Core.List.{IsPrefix}
+use Rattle.registry_values.specs.declared.settings.Settings.{Settings}
+use Rattle.cpu_words.specs.Views.{Named}
+use Rattle.passive_list.specs.Cpus.{OnCpu, OnPlainCpu}
+use Rattle.passive_list.specs.Keepers.{OnKeeper}
+use Rattle.name_registry.specs.Meeting.{is_inside}
+use Rattle.name_registry.specs.Performing.{Finishes, HasSeenAllOut, none_seen}
+use Rattle.name_registry.proofs.Waited.{SoFar, all_seen, passed_out, so_far_begun, so_far_by, so_far_on, so_far_turn}
+use Rattle.registry_c.specs.declared.values.TheConstants.{DONE}
+use Rattle.registry_c.specs.declared.wait.CWait.{CWait}
+use Rattle.registry_c.specs.Bodies.{OnKeeperBody}
+use Rattle.registry_c.specs.Flags.{flag_of, is_set, none_or_number, number_or_none}
+use Rattle.registry_c.specs.KeeperCalls.{Begins, PassesHeld, PerformAnswers, TurnAnswers, Turns, WritesTold}
+use Rattle.registry_c.specs.Waits.{IsTurnOfWait, TurnsOn, WaitsEnd}
+use Rattle.registry_c.proofs.Numbered.{goes_through}
+
+-- What is so between two calls: of the CPU that began, of the wait, and of what the CPU knows now
+abbrev Goes : Settings → OnPlainCpu → CWait → OnCpu → Type 0
+Goes z x wait y = SoFar z.cpus x.cpu wait.snapshots (map none_or_number wait.retired) (map is_set wait.seen) y
+
+seen_back : (seen : List Bool) → map is_set (map flag_of seen) ≡ seen
+seen_back [] = refl
+seen_back (true ∷ xs) = ap (λ (l : List Bool). true ∷ l) (seen_back xs)
+seen_back (false ∷ xs) = ap (λ (l : List Bool). false ∷ l) (seen_back xs)
+
+-- as it was begun
+
+begun : (k : OnKeeperBody) (x : OnPlainCpu) (l : OnKeeperBody) (y : OnPlainCpu) (wait : CWait) → Begins k x l y wait → Goes k.words.settings x wait y.cpu
+begun k x l y wait is =
+    let z = k.words.settings in
+    let first = so_far_begun z x.cpu wait.snapshots is.numbers y.cpu (k.keeper, l.keeper, is.begun) in
+    let through = so_far_by z.cpus x.cpu wait.snapshots is.numbers (map none_or_number (map number_or_none is.numbers)) none_seen y.cpu (λ t n at. goes_through is.numbers t n at (is.named t n at)) first in
+    let seen : none_seen ≡ map is_set wait.seen = sym (ap (map is_set) is.seen) in
+    subst (λ (p : List ℕ × List Bool). SoFar z.cpus x.cpu wait.snapshots (map none_or_number p.0) p.1 y.cpu) (λ i. (sym is.retired i, seen i)) through
+
+-- in a turn
+
+-- as the glances left the CPU
+glanced : (z : Settings) (x : OnPlainCpu) (m : OnCpu) (k : OnKeeperBody) (c : OnPlainCpu) (l : OnKeeperBody) (y : OnPlainCpu) (told : Option ℕ) (old new : CWait) → k.words.settings ≡ z → Goes z x old m → IsPrefix m.deeds c.cpu.deeds → (is : Turns k c l y told old new) → Goes z x new is.cpu
+glanced z x m k c l y told old new ours had knows is =
+    let start = so_far_on z.cpus x.cpu old.snapshots (map none_or_number old.retired) (map is_set old.seen) m c.cpu knows had in
+    let after = so_far_turn k.words.settings x.cpu old.snapshots (map none_or_number old.retired) (map is_set old.seen) c.cpu told is.seen is.cpu
+    (subst (λ (s : Settings). Goes s x old c.cpu) (sym ours) start) (k.keeper, is.keeper, is.glanced) in
+    let again : Goes z x (record old { seen = map flag_of is.seen }) is.cpu =
+    subst (λ (s : Settings). SoFar s.cpus x.cpu old.snapshots (map none_or_number old.retired) (map is_set (map flag_of is.seen)) is.cpu) ours
+    (subst (λ (l : List Bool). SoFar k.words.settings.cpus x.cpu old.snapshots (map none_or_number old.retired) l is.cpu) (sym (seen_back is.seen)) after) in
+    subst (λ (w : CWait). Goes z x w is.cpu) (sym is.wait) again
+
+-- and as the end left it
+finished : (z : Settings) (numbers : List (Option ℕ)) (k : OnKeeper) (c : OnCpu) (told : Option ℕ) (l : OnKeeper) (y : OnCpu) → Finishes (PassesHeld z) numbers (k, c) told (l, y) → (P : OnCpu → Type 0) → ((a b : OnCpu) → IsPrefix a.deeds b.deeds → P a → P b) → P c → P y
+finished z numbers k c None l y is P on has = on c y is.hears.deeds has
+finished z numbers k c (Some other) l y is P on has = subst P (sym (ap (λ (p : OnKeeper × OnCpu). p.1) is)) has
+
+went_on : (z : Settings) (x : OnPlainCpu) (m : OnCpu) (k : OnKeeperBody) (c : OnPlainCpu) (l : OnKeeperBody) (y : OnPlainCpu) (told : Option ℕ) (old new : CWait) → k.words.settings ≡ z → Goes z x old m → IsPrefix m.deeds c.cpu.deeds → Turns k c l y told old new → Goes z x new y.cpu
+went_on z x m k c l y told old new ours had knows is =
+    finished k.words.settings (map none_or_number old.retired) is.keeper is.cpu told l.keeper y.cpu is.finished (Goes z x new)
+    (λ a b more so_far. so_far_on z.cpus x.cpu new.snapshots (map none_or_number new.retired) (map is_set new.seen) a b more so_far)
+    (glanced z x m k c l y told old new ours had knows is)
+
+-- the last one told none
+ended : (z : Settings) (x : OnPlainCpu) (m : OnCpu) (k : OnKeeperBody) (c : OnPlainCpu) (l : OnKeeperBody) (y : OnPlainCpu) (told : Option ℕ) (old new : CWait) → k.words.settings ≡ z → told ≡ None → Goes z x old m → IsPrefix m.deeds c.cpu.deeds → Turns k c l y told old new → HasSeenAllOut z.cpus x.cpu y.cpu
+ended z x m k c l y told old new ours none had knows is =
+    let numbers = map none_or_number old.retired in
+    let s = k.words.settings in
+    let start = subst (λ (s : Settings). Goes s x old c.cpu) (sym ours) (so_far_on z.cpus x.cpu old.snapshots numbers (map is_set old.seen) m c.cpu knows had) in
+    let after = so_far_turn s x.cpu old.snapshots numbers (map is_set old.seen) c.cpu told is.seen is.cpu start (k.keeper, is.keeper, is.glanced) in
+    let waited = all_seen s x.cpu old.snapshots numbers c.cpu (map is_set old.seen) told is.seen is.cpu after (k.keeper, is.keeper, is.glanced) none in
+    let passes : Finishes (PassesHeld s) numbers (is.keeper, is.cpu) None (l.keeper, y.cpu) = subst (λ (o : Option ℕ). Finishes (PassesHeld s) numbers (is.keeper, is.cpu) o (l.keeper, y.cpu)) none is.finished in
+    subst (λ (s : Settings). HasSeenAllOut s.cpus x.cpu y.cpu) ours
+    (passed_out s x.cpu old.snapshots numbers is.seen is.cpu y.cpu after waited (is.keeper, l.keeper, passes))
+
+-- by the answer
+
+begun_by : (k : OnKeeperBody) (x : OnPlainCpu) (l : OnKeeperBody) (y : OnPlainCpu) (old new : CWait) (b : Bool) → is_inside x.cpu ≡ b → PerformAnswers k x l y DONE old new → Goes k.words.settings x new y.cpu
+begun_by k x l y old new true at is = absurd (let q : ◌≡◌ {A = ℕ} 0 7 = (is.inside at).0 in cc)
+begun_by k x l y old new false at is = begun k x l y new (is.outside at).1
+
+went_by : (z : Settings) (x : OnPlainCpu) (m : OnCpu) (k : OnKeeperBody) (c : OnPlainCpu) (l : OnKeeperBody) (y : OnPlainCpu) (n : ℕ) (old new : CWait) (before after : ℕ) (b : Bool) → is_inside c.cpu ≡ b → k.words.settings ≡ z → Goes z x old m → IsPrefix m.deeds c.cpu.deeds → TurnAnswers k c l y n old new before after → Goes z x new y.cpu
+went_by z x m k c l y n old new before after true at ours had knows is =
+    let same = is.inside at in
+    let start = so_far_on z.cpus x.cpu old.snapshots (map none_or_number old.retired) (map is_set old.seen) m c.cpu knows had in
+    subst (λ (p : CWait × OnPlainCpu). Goes z x p.0 p.1.cpu) (λ i. (sym same.3 i, sym same.2 i)) start
+went_by z x m k c l y n old new before after false at ours had knows is = let made = is.outside at in went_on z x m k c l y made.0 old new ours had knows made.1
+
+told_none : (told : Option ℕ) (old new : ℕ) → WritesTold told DONE old new → told ≡ None
+told_none None old new is = refl
+told_none (Some c) old new is = absurd (let q : ◌≡◌ {A = ℕ} 0 17 = is.0 in cc)
+
+ended_by : (z : Settings) (x : OnPlainCpu) (m : OnCpu) (k : OnKeeperBody) (c : OnPlainCpu) (l : OnKeeperBody) (y : OnPlainCpu) (old new : CWait) (before after : ℕ) (b : Bool) → is_inside c.cpu ≡ b → k.words.settings ≡ z → Goes z x old m → IsPrefix m.deeds c.cpu.deeds → TurnAnswers k c l y DONE old new before after → HasSeenAllOut z.cpus x.cpu y.cpu
+ended_by z x m k c l y old new before after true at ours had knows is = absurd (let q : ◌≡◌ {A = ℕ} 0 7 = (is.inside at).0 in cc)
+ended_by z x m k c l y old new before after false at ours had knows is = let made = is.outside at in ended z x m k c l y made.0 old new ours (told_none made.0 before after made.2) had knows made.1
+
+-- through the handles
+
+of_words : (words : Named) (k : OnKeeperBody) → k.words ≡ words → k.words.settings ≡ words.settings
+of_words words k is = ap (λ (w : Named). w.settings) is
+
+turn_on : (words : Named) (x m : OnPlainCpu) (old : CWait) (answer : ℕ) (y : OnPlainCpu) (new : CWait) → Goes words.settings x old m.cpu → IsTurnOfWait words m old answer y new → Goes words.settings x new y.cpu
+turn_on words x m old answer y new had is =
+    let call = is.call.full is.keeper is.cpu refl refl in
+    let same : call.1 ≡ y = sym (same_Some _ _ call.3) in
+    subst (λ (o : OnPlainCpu). Goes words.settings x new o.cpu) same
+    (went_by words.settings x m.cpu is.keeper is.cpu call.0 call.1 answer old new is.before is.after (is_inside is.cpu.cpu) refl (of_words words is.keeper is.ours) had is.knows call.4)
+
+turns_on : (words : Named) (x : OnPlainCpu) (n : ℕ) (m : OnPlainCpu) (old : CWait) (y : OnPlainCpu) (new : CWait) → Goes words.settings x old m.cpu → TurnsOn n words m old y new → Goes words.settings x new y.cpu
+turns_on words x zero m old y new had is = subst (λ (p : CWait × OnPlainCpu). Goes words.settings x p.0 p.1.cpu) (λ i. (sym is.1 i, sym is.0 i)) had
+turns_on words x (suc n) m old y new had is = turn_on words x is.0 is.1 is.2 y new (turns_on words x n m old is.0 is.1 had is.3) is.4
+
+pub waits_end : WaitsEnd
+waits_end words x y is =
+    let z = words.settings in
+    let call = is.begins.full is.keeper x refl refl in
+    let first : Goes is.keeper.words.settings x is.begun call.1.cpu = begun_by is.keeper x call.0 call.1 is.first is.begun (is_inside x.cpu) refl call.4 in
+    let same : call.1 ≡ is.cpu = sym (same_Some _ _ call.3) in
+    let start : Goes z x is.begun is.cpu.cpu = subst (λ (p : Settings × OnPlainCpu). Goes p.0 x is.begun p.1.cpu) (λ i. (of_words words is.keeper is.ours i, same i)) first in
+    let near = turns_on words x is.turns is.cpu is.begun is.near is.left start is.between in
+    let last = is.last.call.full is.last.keeper is.last.cpu refl refl in
+    let end : last.1 ≡ y = sym (same_Some _ _ last.3) in
+    subst (λ (o : OnPlainCpu). HasSeenAllOut z.cpus x.cpu o.cpu) end
+    (ended_by z x is.near.cpu is.last.keeper is.last.cpu last.0 last.1 is.left is.end is.last.before is.last.after (is_inside is.last.cpu.cpu) refl (of_words words is.last.keeper is.last.ours) near is.last.knows last.4)

@@ -1,0 +1,18 @@
+use Rattle.std.proofs.Common.{◌≡◌, ◌++◌, None}
+use Rattle.protocol.specs.declared.event.Event.TheVariants.{Tell}
+use Rattle.protocol.specs.declared.event.Reply.TheVariants.{Done}
+use Rattle.cpu_words.specs.Rule.{did}
+use Rattle.name_registry.proofs.Gathered.{Gathered}
+use Rattle.registry_c.specs.Audits.{cpus_in}
+use Rattle.registry_c.specs.Opening.{bodies_of}
+use Rattle.registry_c.proofs.Gathering.{SameBehind}
+use Rattle.registry_c.proofs.audit.gather.Given as goal
+
+-- the CPUs so far have heard
+abbrev pub invariant-loop-c : goal.invariant-loop-c
+invariant-loop-c g l = record {
+  keeper : l.keeper ≡ record l.fn.keeper { log = l.fn.keeper.log ++ did (Tell None) Done };
+  table : l.note.table ≡ g.D.Domain.table;
+  gathered : Gathered (cpus_in (bodies_of l.fn.cpus)) (cpus_in (bodies_of l.cpus)) l.c l.keeper.log l.note.deeds;
+  same : SameBehind (bodies_of l.fn.cpus) (bodies_of l.cpus);
+}

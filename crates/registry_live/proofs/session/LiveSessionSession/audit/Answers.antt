@@ -1,0 +1,5 @@
+use Rattle.name_registry.proofs.Gathered.{all_learned}
+use Rattle.registry_live.proofs.session.LiveSessionSession.audit.Goals as goal
+
+pub invariant_of-self : goal.invariant_of-self
+invariant_of-self g c = record { all = all_learned _ c.args.self.now.cpus.now c.audit.new.cpus c.audit.ensures.cpus c.args.self.now.all }
