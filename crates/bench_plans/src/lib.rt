@@ -6,4 +6,4 @@ mod failure;
 mod plan;
 
 pub use failure::Failure;
-pub use plan::{MOST_ENTRIES, MOST_THREADS, Operation, Plan, WaitPlan};
+pub use plan::{MOST_ENTRIES, MOST_THREADS, Operation, RunPlan, WaitPlan, changes_of};

@@ -13,6 +13,9 @@ const MOST_HELD: u32 = 1_000;
 /// The most replacements: each of them is made twice, and is two changes.
 const MOST_REPLACED: u32 = 200_000;
 
+/// The most rounds of changes: each of them is forty-eight changes.
+const MOST_ROUNDS: u32 = 20_000;
+
 /// An operation that is measured.
 #[derive(Clone, Copy, Debug, PartialEq, Eq)]
 pub enum Operation {
@@ -24,11 +27,13 @@ pub enum Operation {
     Passive,
     /// A local reference is acquired and released.
     Local,
+    /// A passive reference by a section of its own: enter, find, acquire, exit, release.
+    Get,
 }
 
 /// So many threads make so many operations each, on a list of so many entries.
 #[derive(Clone, Copy, Debug, PartialEq, Eq)]
-pub struct Plan {
+pub struct RunPlan {
     /// 1 to 8.
     pub threads: u8,
     /// 1 to 32.
@@ -37,14 +42,14 @@ pub struct Plan {
     pub operations: u32,
 }
 
-impl Plan {
+impl RunPlan {
     /// The plan that three words say. Refused: `Usage`, where one of them is no number in its range, or is missing.
     pub fn parse(
         threads: Option<String>,
         entries: Option<String>,
         operations: Option<String>,
-    ) -> Result<Plan, Failure> {
-        Ok(Plan {
+    ) -> Result<RunPlan, Failure> {
+        Ok(RunPlan {
             threads: number(threads, 1, u32::from(MOST_THREADS))? as u8,
             entries: number(entries, 1, u32::from(MOST_ENTRIES))? as u8,
             operations: number(operations, 1, u32::MAX)?,
@@ -80,6 +85,12 @@ impl WaitPlan {
             count: number(count, 1, MOST_REPLACED)?,
         })
     }
+}
+
+/// How often each call behind the interlock is made, by a word: from 1, and so often that the registry's history has room for all of them.
+/// Refused: `Usage`, where it is no number in its range, or is missing.
+pub fn changes_of(word: Option<String>) -> Result<u32, Failure> {
+    number(word, 1, MOST_ROUNDS)
 }
 
 /// A number from `least` to `most`.

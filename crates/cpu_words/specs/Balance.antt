@@ -15,7 +15,7 @@ use Rattle.cpu_words.specs.declared.view.CpuView.{CpuView}
 use Rattle.cpu_words.specs.declared.view.KeeperView.{KeeperView}
 use Rattle.cpu_words.specs.declared.view.View.{View}
 use Rattle.cpu_words.specs.declared.view.View.TheVariants.{Keeper, Cpu, Reference, Note, Spent}
-use Rattle.cpu_words.specs.Deeds.{sum_below}
+use Rattle.cpu_words.specs.KeeperLog.{sum_below}
 use Rattle.cpu_words.specs.Spots.{count_of, total_of, index}
 use Rattle.cpu_words.specs.Views.{is_to}
 use Rattle.cpu_words.specs.Rule.{Ruled, reference_to}

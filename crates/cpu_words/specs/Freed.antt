@@ -12,8 +12,8 @@ use Rattle.protocol.specs.Picture.{picture}
 use Rattle.protocol.specs.Laws.{after, occupant_of}
 use Rattle.cpu_words.specs.declared.view.Logged.{Logged}
 use Rattle.cpu_words.specs.declared.view.View.{View}
-use Rattle.cpu_words.specs.Deeds.{IsFreedFrom}
-use Rattle.cpu_words.specs.Logs.{plain, LoggedRuled}
+use Rattle.cpu_words.specs.KeeperLog.{IsFreedFrom}
+use Rattle.cpu_words.specs.Logs.{without_logs, LoggedRuled}
 use Rattle.cpu_words.specs.Headline.{RunsAsLogged, SeatHolds}
 
 -- In the state g, which shows these views, the entry n of the slot t is gone: it was attached and detached, has no slot, and nothing holds it.
@@ -33,8 +33,8 @@ pub record IsGone (g : State) (s : Table ℕ View) (t n : ℕ) : Type 0 where
 -- so it is in the state that a list of events leads to, and that the table shows
 pub record HasGone (z : Settings) (s : Table ℕ Logged) (t n : ℕ) : Type 0 where
   pub run : RunsAsLogged z s
-  pub gone : IsGone (after (opening z) run.run.events) (plain s) t n
+  pub gone : IsGone (after (opening z) run.run.events) (without_logs s) t n
 
 -- a seat that has heard that the keeper made the slot vacant, from which the entry was detached last, knows this of the table, whatever it is now
 abbrev pub FreedIsGone : Type 0
-FreedIsGone = (z : Settings) (s : Table ℕ Logged) (i : ℕ) (l : Logged) (t n : ℕ) → LoggedRuled z s → get_elem? s.views i ≡ some l → IsFreedFrom t n l.deeds → HasGone z s t n
+FreedIsGone = (z : Settings) (s : Table ℕ Logged) (i : ℕ) (l : Logged) (t n : ℕ) → LoggedRuled z s → get_elem? s.views i ≡ some l → IsFreedFrom t n l.known_log → HasGone z s t n

@@ -20,14 +20,14 @@ use Rattle.cpu_words.specs.declared.view.InHand.{InHand}
 use Rattle.cpu_words.specs.declared.view.InHand.TheVariants.{Empty, Taking, Giving, Back}
 use Rattle.cpu_words.specs.declared.view.CpuView.{CpuView}
 use Rattle.cpu_words.specs.declared.view.KeeperView.{KeeperView}
-use Rattle.cpu_words.specs.declared.view.Deed.{Deed}
+use Rattle.cpu_words.specs.declared.view.LogItem.{LogItem}
 use Rattle.cpu_words.specs.declared.view.Logged.{Logged}
 use Rattle.cpu_words.specs.declared.view.View.{View}
 use Rattle.cpu_words.specs.declared.view.View.TheVariants.{Keeper, Cpu, Reference, Note, Spent}
 use Rattle.cpu_words.specs.Spots.{passive_of, count_of, index}
 use Rattle.cpu_words.specs.Views.{references_to}
-use Rattle.cpu_words.specs.Rule.{Agrees, Shows, Good, Ruled, deeds}
-use Rattle.cpu_words.specs.Logs.{plain, part, IsStanding, AreByOwn, Knows, LoggedRuled}
+use Rattle.cpu_words.specs.Rule.{Agrees, ShowsViews, Good, Ruled, log_of_events}
+use Rattle.cpu_words.specs.Logs.{without_logs, part, IsStanding, AreByOwn, Knows, LoggedRuled}
 use Rattle.cpu_words.specs.Vacating.{IsDrained}
 
 -- The headline of the running words
@@ -39,7 +39,7 @@ pub record RunsLawfully (z : Settings) (s : Table ℕ View) : Type 0 where
   -- the words and the views of all seats show the state
   pub settings : (after (opening z) events).settings ≡ z
   pub words : Agrees s.words (after (opening z) events)
-  pub shows : Shows (after (opening z) events) seat s.views
+  pub shows : ShowsViews (after (opening z) events) seat s.views
   -- it has the core invariant, and a CPU without a seat has made no step
   pub good : Good (after (opening z) events)
   -- a run of the model reaches its picture
@@ -49,13 +49,13 @@ pub record RunsLawfully (z : Settings) (s : Table ℕ View) : Type 0 where
 
 -- and what the seats did is that list: each event with its reply and the place of the seat that made it, and each seat's log is its part
 pub record RunsAsLogged (z : Settings) (s : Table ℕ Logged) : Type 0 where
-  pub run : RunsLawfully z (plain s)
-  pub acts : List (ℕ × Deed)
-  pub are : map (λ (a : ℕ × Deed). a.1) acts ≡ deeds z run.events
+  pub run : RunsLawfully z (without_logs s)
+  pub acts : List (ℕ × LogItem)
+  pub are : map (λ (a : ℕ × LogItem). a.1) acts ≡ log_of_events z run.events
   pub all : length acts ≡ length run.events
   pub owners : AreByOwn run.seat (after (opening z) run.events).seated acts
   pub logs : (i : ℕ) (l : Logged) → get_elem? s.views i ≡ some l → IsStanding l.view → l.log ≡ part i acts
-  -- what a seat has heard of the keeper's deeds is a prefix of the keeper's part
+  -- what a seat has heard of the keeper's log is a prefix of the keeper's part
   pub known : (i : ℕ) (l : Logged) → get_elem? s.views i ≡ some l → Knows l (part 0 acts)
 
 -- so it is between any two steps

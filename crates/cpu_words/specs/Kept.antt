@@ -7,7 +7,7 @@ use Rattle.registry_values.specs.declared.settings.Settings.{Settings}
 use Rattle.protocol.specs.State.{State, opening, kept_at}
 use Rattle.protocol.specs.Laws.{after, occupant_of}
 use Rattle.cpu_words.specs.declared.view.Logged.{Logged}
-use Rattle.cpu_words.specs.Deeds.{IsAttachedKeeping}
+use Rattle.cpu_words.specs.KeeperLog.{IsAttachedKeeping}
 use Rattle.cpu_words.specs.Logs.{LoggedRuled}
 use Rattle.cpu_words.specs.Headline.{RunsAsLogged}
 
@@ -24,4 +24,4 @@ pub record KeepsAsLong (z : Settings) (s : Table ℕ Logged) (t n d : ℕ) : Typ
 
 -- a seat that has heard that the keeper attached n in the slot t, which kept d, knows this of the table, whatever it is now
 abbrev pub AttachedKeeps : Type 0
-AttachedKeeps = (z : Settings) (s : Table ℕ Logged) (i : ℕ) (l : Logged) (t n d : ℕ) → LoggedRuled z s → get_elem? s.views i ≡ some l → IsAttachedKeeping t n d l.deeds → KeepsAsLong z s t n d
+AttachedKeeps = (z : Settings) (s : Table ℕ Logged) (i : ℕ) (l : Logged) (t n d : ℕ) → LoggedRuled z s → get_elem? s.views i ≡ some l → IsAttachedKeeping t n d l.known_log → KeepsAsLong z s t n d

@@ -1,7 +1,7 @@
 pub mod Spots
 pub mod Views
 pub mod Rule
-pub mod Deeds
+pub mod KeeperLog
 pub mod Steps
 pub mod Sections
 pub mod Grace

@@ -1,4 +1,4 @@
--- What each seat did, and what it has heard of the keeper's deeds: beside its view stands its log, and the rule says that this is the list's part by that seat.
+-- What each seat did, and what it has heard of the keeper's log: beside its view stands its log, and the rule says that this is the list's part by that seat.
 use Rattle.std.specs.Prelude.{◌≡◌, ℕ, ◌<◌, ◌≤◌, ◌==◌, if◌then◌else◌, List, [], ◌∷◌, ◌++◌, map, length, Option, Some, None}
 use mathlib.Core.Option.{some}
 use mathlib.Core.List.{IsPrefix}
@@ -14,20 +14,20 @@ use Rattle.cpu_words.specs.declared.view.InHand.TheVariants.{Empty as NoEntry, T
 use Rattle.cpu_words.specs.declared.view.CpuView.{CpuView}
 use Rattle.cpu_words.specs.declared.view.KeeperView.{KeeperView}
 use Rattle.cpu_words.specs.declared.view.ReferenceView.{ReferenceView}
-use Rattle.cpu_words.specs.declared.view.Deed.{Deed}
+use Rattle.cpu_words.specs.declared.view.LogItem.{LogItem}
 use Rattle.cpu_words.specs.declared.view.Logged.{Logged}
 use Rattle.cpu_words.specs.declared.view.View.{View}
 use Rattle.cpu_words.specs.declared.view.View.TheVariants.{Keeper, Cpu, Reference, Note, Spent}
 use Rattle.cpu_words.specs.Views.{first_view, cpu_of, keeper_of, reference_of}
-use Rattle.cpu_words.specs.Rule.{did, deeds, Ruled}
-use Rattle.cpu_words.specs.Deeds.{HasHeardDeeds, IsOwnLog, IsShownAfter}
+use Rattle.cpu_words.specs.Rule.{did, log_of_events, Ruled}
+use Rattle.cpu_words.specs.KeeperLog.{KnownLogGrows, IsOwnLog, IsShownAfter}
 
 -- the table without the logs
-abbrev pub plain : Table ℕ Logged → Table ℕ View
-plain s = record { words = s.words; homes = s.homes; views = map (λ (l : Logged). l.view) s.views }
+abbrev pub without_logs : Table ℕ Logged → Table ℕ View
+without_logs s = record { words = s.words; homes = s.homes; views = map (λ (l : Logged). l.view) s.views }
 
 -- of what the seats did in order, each by its place among the seats: the part by the seat i
-abbrev pub part : ℕ → List (ℕ × Deed) → List Deed
+abbrev pub part : ℕ → List (ℕ × LogItem) → List LogItem
 part i [] = []
 part i (a ∷ rest) = if a.0 == i then a.1 ∷ part i rest else part i rest
 
@@ -90,7 +90,7 @@ who (Note h) = another
 who Spent = another
 
 -- all are events of one maker
-abbrev pub AreBy : Maker → List Deed → Type 0
+abbrev pub AreBy : Maker → List LogItem → Type 0
 AreBy m [] = Unit {0}
 AreBy m (d ∷ ds) = (maker d.event ≡ m) × AreBy m ds
 
@@ -101,106 +101,106 @@ IsSeatOf seat n i (the_cpu c) = (i ≡ seat c) × (c < n)
 IsSeatOf seat n i another = Unit {0}
 
 -- each event was made by the seat whose it is
-abbrev pub AreByOwn : (ℕ → ℕ) → ℕ → List (ℕ × Deed) → Type 0
+abbrev pub AreByOwn : (ℕ → ℕ) → ℕ → List (ℕ × LogItem) → Type 0
 AreByOwn seat n [] = Unit {0}
 AreByOwn seat n (a ∷ rest) = IsSeatOf seat n a.0 (maker a.1.event) × AreByOwn seat n rest
 
--- of what the keeper did, which is `all`, the seat has heard a prefix, and so has the note that told it something
-abbrev pub Knows : Logged → List Deed → Type 0
-Knows l all = IsPrefix l.deeds all × IsPrefix l.laid all
+-- of what the keeper did, which is `all`, the seat has heard a prefix, and so had the teller of the note beside its view
+abbrev pub Knows : Logged → List LogItem → Type 0
+Knows l all = IsPrefix l.known_log all × IsPrefix l.noted_log all
 
--- the rule: the list's events are the seats' deeds, each by its own seat, each log is its seat's part, and what seats have heard of the keeper's deeds is so
+-- the rule: the list's events are those of the seats' logs, each by its own seat; each log is its seat's part, and each known log is a prefix of the keeper's
 pub record LoggedRuled (z : Settings) (s : Table ℕ Logged) : Type 0 where
-  pub run : Ruled z (plain s)
-  pub acts : List (ℕ × Deed)
-  pub are : map (λ (a : ℕ × Deed). a.1) acts ≡ deeds z run.reached.events
+  pub run : Ruled z (without_logs s)
+  pub acts : List (ℕ × LogItem)
+  pub are : map (λ (a : ℕ × LogItem). a.1) acts ≡ log_of_events z run.reached.events
   pub owners : AreByOwn run.seat run.g.seated acts
   pub logs : (i : ℕ) (l : Logged) → get_elem? s.views i ≡ some l → IsStanding l.view → l.log ≡ part i acts
   -- a seat that isn't there yet did nothing
   pub unseated : (i : ℕ) → length s.views ≤ i → part i acts ≡ []
-  -- what a seat has heard of the keeper's deeds, and what a note told it, are prefixes of what the keeper did
+  -- a seat's known log, and that of the note beside its view, are prefixes of what the keeper did
   pub known : (i : ℕ) (l : Logged) → get_elem? s.views i ≡ some l → Knows l (part 0 acts)
 
 -- the keeper's seat, alone
 abbrev pub first_logged : Settings → Logged
-first_logged z = record { view = first_view z; log = []; deeds = []; laid = [] }
+first_logged z = record { view = first_view z; log = []; known_log = []; noted_log = [] }
 
--- What a step is told: the seat stays of its kind, takes no slots, its log goes on with just these events, what it has heard stays, and the tale holds
+-- What a step is told: the seat stays of its kind, takes no slots, its log goes on with just these events, its known log stays, and the tale holds
 
-abbrev pub IsToldByCpu : (CpuView → ℕ → List Deed) → (CpuView → ℕ → CpuView → Type 0) → Step ℕ → Me ℕ Logged → ℕ → Me ℕ Logged → Type 0
+abbrev pub IsToldByCpu : (CpuView → ℕ → List LogItem) → (CpuView → ℕ → CpuView → Type 0) → Step ℕ → Me ℕ Logged → ℕ → Me ℕ Logged → Type 0
 IsToldByCpu does tells st m n l = (l ≡ (record m.0 { view = Cpu (cpu_of l.0.view); log = l.0.log }, m.1)) × (l.0.log ≡ m.0.log ++ does (cpu_of m.0.view) n) × tells (cpu_of m.0.view) n (cpu_of l.0.view)
 
-abbrev pub IsToldByKeeper : (KeeperView → ℕ → List Deed) → (KeeperView → ℕ → KeeperView → Type 0) → Step ℕ → Me ℕ Logged → ℕ → Me ℕ Logged → Type 0
+abbrev pub IsToldByKeeper : (KeeperView → ℕ → List LogItem) → (KeeperView → ℕ → KeeperView → Type 0) → Step ℕ → Me ℕ Logged → ℕ → Me ℕ Logged → Type 0
 IsToldByKeeper does tells st m n l = (l ≡ (record m.0 { view = Keeper (keeper_of l.0.view); log = l.0.log }, m.1)) × (l.0.log ≡ m.0.log ++ does (keeper_of m.0.view) n) × tells (keeper_of m.0.view) n (keeper_of l.0.view)
 
-abbrev pub IsToldByReference : (ReferenceView → ℕ → List Deed) → (ReferenceView → ℕ → Type 0) → Step ℕ → Me ℕ Logged → ℕ → Me ℕ Logged → Type 0
+abbrev pub IsToldByReference : (ReferenceView → ℕ → List LogItem) → (ReferenceView → ℕ → Type 0) → Step ℕ → Me ℕ Logged → ℕ → Me ℕ Logged → Type 0
 IsToldByReference does tells st m n l = (l ≡ (record m.0 { log = l.0.log }, m.1)) × (l.0.log ≡ m.0.log ++ does (reference_of m.0.view) n) × tells (reference_of m.0.view) n
 
 -- A load that hears. A CPU's seat has heard then what the keeper did: what it had heard, and what the note told, are prefixes of that, and some state shows its view in which the keeper had done just this
-abbrev pub heard_by_cpu : (CpuView → ℕ → List Deed) → (CpuView → ℕ → CpuView → Type 0) → Step ℕ → Me ℕ Logged → ℕ → Me ℕ Logged → Type 0
-heard_by_cpu does tells st m n l = (l ≡ (record m.0 { view = Cpu (cpu_of l.0.view); log = l.0.log; deeds = l.0.deeds }, m.1)) × (l.0.log ≡ m.0.log ++ does (cpu_of m.0.view) n) × tells (cpu_of m.0.view) n (cpu_of l.0.view) × HasHeardDeeds m.0.deeds m.0.laid l.0.deeds × IsShownAfter l.0.deeds (Cpu (cpu_of m.0.view))
+abbrev pub heard_by_cpu : (CpuView → ℕ → List LogItem) → (CpuView → ℕ → CpuView → Type 0) → Step ℕ → Me ℕ Logged → ℕ → Me ℕ Logged → Type 0
+heard_by_cpu does tells st m n l = (l ≡ (record m.0 { view = Cpu (cpu_of l.0.view); log = l.0.log; known_log = l.0.known_log }, m.1)) × (l.0.log ≡ m.0.log ++ does (cpu_of m.0.view) n) × tells (cpu_of m.0.view) n (cpu_of l.0.view) × KnownLogGrows m.0.known_log m.0.noted_log l.0.known_log × IsShownAfter l.0.known_log (Cpu (cpu_of m.0.view))
 
 -- the keeper finds what the note told in its own log, and its history as long as that says
-abbrev pub heard_by_keeper : (KeeperView → ℕ → List Deed) → (KeeperView → ℕ → KeeperView → Type 0) → Step ℕ → Me ℕ Logged → ℕ → Me ℕ Logged → Type 0
-heard_by_keeper does tells st m n l = IsToldByKeeper does tells st m n l × IsOwnLog m.0.log m.0.laid (keeper_of m.0.view)
+abbrev pub heard_by_keeper : (KeeperView → ℕ → List LogItem) → (KeeperView → ℕ → KeeperView → Type 0) → Step ℕ → Me ℕ Logged → ℕ → Me ℕ Logged → Type 0
+heard_by_keeper does tells st m n l = IsToldByKeeper does tells st m n l × IsOwnLog m.0.log m.0.noted_log (keeper_of m.0.view)
 
 -- How seats are cut and joined: the log goes on, and a new seat's is empty
 
-abbrev pub logged_after_split : (View → View) → (View → List Deed) → Logged → Logged
+abbrev pub logged_after_split : (View → View) → (View → List LogItem) → Logged → Logged
 logged_after_split left does l = record l { view = left l.view; log = l.log ++ does l.view }
 
--- what a new seat has heard of the keeper's deeds as it is cut off: nothing; a CPU's note what the CPU has; the keeper's note all that the keeper did
+-- what a new seat has heard of the keeper's log as it is cut off: nothing; a CPU's note what the CPU has; the keeper's note all that the keeper did
 
-abbrev pub no_deeds : Logged → List Deed
-no_deeds l = []
+abbrev pub no_log : Logged → List LogItem
+no_log l = []
 
-abbrev pub deeds_heard : Logged → List Deed
-deeds_heard l = l.deeds
+abbrev pub known_log_of : Logged → List LogItem
+known_log_of l = l.known_log
 
-abbrev pub deeds_done : (View → List Deed) → Logged → List Deed
-deeds_done does l = l.log ++ does l.view
+abbrev pub whole_log : (View → List LogItem) → Logged → List LogItem
+whole_log does l = l.log ++ does l.view
 
-abbrev pub fresh : (View → View) → (Logged → List Deed) → Logged → Logged
-fresh right tells l = record { view = right l.view; log = []; deeds = tells l; laid = [] }
+abbrev pub fresh : (View → View) → (Logged → List LogItem) → Logged → Logged
+fresh right tells l = record { view = right l.view; log = []; known_log = tells l; noted_log = [] }
 
-abbrev pub joined_seat : (View → View → View) → (View → View → List Deed) → Logged → Logged → Logged
+abbrev pub joined_seat : (View → View → View) → (View → View → List LogItem) → Logged → Logged → Logged
 joined_seat both does l m = record l { view = both l.view m.view; log = l.log ++ does l.view m.view }
 
 -- a note is laid beside the view: this is no event
 abbrev pub logged_with_note : (View → View → View) → Logged → Logged → Logged
-logged_with_note both l m = record l { view = both l.view m.view; laid = m.deeds }
+logged_with_note both l m = record l { view = both l.view m.view; noted_log = m.known_log }
 
 abbrev pub spent_seat : Logged
-spent_seat = record { view = Spent; log = []; deeds = []; laid = [] }
+spent_seat = record { view = Spent; log = []; known_log = []; noted_log = [] }
 
 -- What a cut or a join does
 
 abbrev pub itself : View → View
 itself v = v
 
-abbrev pub seats_next : View → List Deed
+abbrev pub seats_next : View → List LogItem
 seats_next v = did (Seat (keeper_of v).seated) Done
 
-abbrev pub tells_pass : View → List Deed
+abbrev pub tells_pass : View → List LogItem
 tells_pass v = did (Tell (Some (cpu_of v).id)) Done
 
-abbrev pub tells_history : View → List Deed
+abbrev pub tells_history : View → List LogItem
 tells_history v = did (Tell None) Done
 
-abbrev pub leaves_hand : ℕ → InHand → List Deed
+abbrev pub leaves_hand : ℕ → InHand → List LogItem
 leaves_hand c NoEntry = []
 leaves_hand c (TakingEntry e) = did (SplitRef c) (Ref 0)
 leaves_hand c (GivingEntry e) = []
 leaves_hand c (BackEntry e) = did (SplitBack c) (Ref 0)
 
-abbrev pub cuts_off : View → List Deed
+abbrev pub cuts_off : View → List LogItem
 cuts_off v = leaves_hand (cpu_of v).id (cpu_of v).hand
 
-abbrev pub takes_in : View → View → List Deed
+abbrev pub takes_in : View → View → List LogItem
 takes_in v u = did (JoinRef (cpu_of v).id (reference_of u).entry.number) Done
 
-abbrev pub gives_up : View → View → List Deed
+abbrev pub gives_up : View → View → List LogItem
 gives_up v u = did (JoinKeeper (reference_of u).entry.number) Done
 
-abbrev pub keeps_for : ℕ → View → View → List Deed
+abbrev pub keeps_for : ℕ → View → View → List LogItem
 keeps_for t v u = did (Keep t (reference_of u).entry.number) Done

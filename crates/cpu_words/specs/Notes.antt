@@ -23,22 +23,22 @@ history_told v = Note (keeper_of v).history
 
 -- A seat that hears: first the note is laid beside its view
 
-abbrev pub with_heard : CpuView → List Change → CpuView
-with_heard x h = record x { heard = h }
+abbrev pub with_note : CpuView → List Change → CpuView
+with_note x h = record x { noted_pass = h }
 
-abbrev pub keeper_with_heard : KeeperView → List Change → KeeperView
-keeper_with_heard k h = record k { heard = h }
+abbrev pub keeper_with_note : KeeperView → List Change → KeeperView
+keeper_with_note k h = record k { noted_pass = h }
 
 abbrev pub beside_cpu : View → View → View
-beside_cpu v u = Cpu (with_heard (cpu_of v) (note_of u))
+beside_cpu v u = Cpu (with_note (cpu_of v) (note_of u))
 
 abbrev pub beside_keeper : View → View → View
-beside_keeper v u = Keeper (keeper_with_heard (keeper_of v) (note_of u))
+beside_keeper v u = Keeper (keeper_with_note (keeper_of v) (note_of u))
 
--- then a load sees the whole history: the pass is a longer prefix of it, with what was heard in it
+-- then a load sees the whole history: the pass is a longer prefix of it, with the note's pass in it
 abbrev pub HasHeard : CpuView → CpuView → Type 0
-HasHeard x y = IsPrefix x.heard y.pass × IsPrefix x.pass y.pass × (y ≡ record x { pass = y.pass })
+HasHeard x y = IsPrefix x.noted_pass y.pass × IsPrefix x.pass y.pass × (y ≡ record x { pass = y.pass })
 
--- the keeper's view has the whole history, with what was heard in it
+-- the keeper's view has the whole history, with the note's pass in it
 abbrev pub KeeperHasHeard : KeeperView → KeeperView → Type 0
-KeeperHasHeard k l = IsPrefix k.heard l.history × (l ≡ k)
+KeeperHasHeard k l = IsPrefix k.noted_pass l.history × (l ≡ k)

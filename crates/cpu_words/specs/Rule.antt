@@ -12,7 +12,7 @@ use Rattle.protocol.specs.declared.event.RecordOf.TheVariants.{Local}
 use Rattle.protocol.specs.declared.event.Reply.{Reply}
 use Rattle.protocol.specs.declared.event.Reply.TheVariants.{Ref}
 use Rattle.protocol.specs.Events.{Outcome, number_standing, step}
-use Rattle.protocol.specs.Ran.{Ran, empty_run, run_with_event}
+use Rattle.protocol.specs.Run.{Run, empty_run, run_with_event}
 use Rattle.protocol.specs.State.{State, opening, section_at, depth_at, seen_at, passive_at, count_at, local_at}
 use Rattle.registry_values.specs.Balances.{bias}
 use Rattle.registry_values.specs.Slots.{slot_at}
@@ -22,7 +22,7 @@ use Rattle.cpu_words.specs.Spots.{Spot, index, IsSpot, word_at}
 use Rattle.cpu_words.specs.Views.{KeeperShown, Shown, is_to}
 use Rattle.cpu_words.specs.declared.view.CpuView.{CpuView}
 use Rattle.cpu_words.specs.declared.view.KeeperView.{KeeperView}
-use Rattle.cpu_words.specs.declared.view.Deed.{Deed}
+use Rattle.cpu_words.specs.declared.view.LogItem.{LogItem}
 use Rattle.cpu_words.specs.declared.view.View.{View}
 use Rattle.cpu_words.specs.declared.view.View.TheVariants.{Keeper, Cpu, Reference, Note, Spent}
 
@@ -53,7 +53,7 @@ pub record HaveViews (seat : ℕ → ℕ) (n : ℕ) (views : List View) : Type 0
   pub cpus : (c : ℕ) → c < n → (x : CpuView) × (get_elem? views (seat c) ≡ some (Cpu x)) × (x.id ≡ c)
 
 -- each view is shown, no seated CPU's is missing, and the seats of references to n are as many as the core's live references to n
-pub record Shows (g : State) (seat : ℕ → ℕ) (views : List View) : Type 0 where
+pub record ShowsViews (g : State) (seat : ℕ → ℕ) (views : List View) : Type 0 where
   pub fits : (i : ℕ) (v : View) → get_elem? views i ≡ some v → Sits seat i v × Shown g v
   pub each : HaveViews seat g.seated views
   pub references : (n : ℕ) → sum_by (reference_to n) views ≡ sum_by (standing_of n) g.locals
@@ -103,27 +103,27 @@ reply_without_id (Ref id) = Ref 0
 reply_without_id r = r
 
 -- just this event, as its seat knows it, with this reply
-abbrev pub did : Event → Reply → List Deed
+abbrev pub did : Event → Reply → List LogItem
 did e r = record { event = e; reply = reply_without_id r } ∷ []
 
-abbrev pub deeds_with : State → Event → Option Outcome → List Deed → List Deed
-deeds_with s e None ds = ds
-deeds_with s e (Some o) ds = did (by_number s e) o.reply ++ ds
+abbrev pub log_with : State → Event → Option Outcome → List LogItem → List LogItem
+log_with s e None ds = ds
+log_with s e (Some o) ds = did (by_number s e) o.reply ++ ds
 
 -- the events of a run that were made, in order, each with its reply
-abbrev pub deeds_from : Ran → List Event → List Deed
-deeds_from r [] = []
-deeds_from r (e ∷ es) = deeds_with r.state e (step r.state e) (deeds_from (run_with_event r (step r.state e)) es)
+abbrev pub log_from : Run → List Event → List LogItem
+log_from r [] = []
+log_from r (e ∷ es) = log_with r.state e (step r.state e) (log_from (run_with_event r (step r.state e)) es)
 
-abbrev pub deeds : Settings → List Event → List Deed
-deeds z events = deeds_from (empty_run (opening z)) events
+abbrev pub log_of_events : Settings → List Event → List LogItem
+log_of_events z events = log_from (empty_run (opening z)) events
 
 -- a list of events leads from the opening of the settings to the state
 pub record Reached (z : Settings) (g : State) : Type 0 where
   pub events : List Event
   pub run : g ≡ after (opening z) events
   -- all were made: none was left out
-  pub made : length (deeds z events) ≡ length events
+  pub made : length (log_of_events z events) ≡ length events
 
 -- there is a state of the core that the table shows, and events lead to it
 pub record Ruled (z : Settings) (s : Table ℕ View) : Type 0 where
@@ -133,11 +133,11 @@ pub record Ruled (z : Settings) (s : Table ℕ View) : Type 0 where
   pub good : Good g
   pub reached : Reached z g
   pub words : Agrees s.words g
-  pub shows : Shows g seat s.views
+  pub shows : ShowsViews g seat s.views
 
 -- the table t is shown by a run that goes on with just these events and replies, and no CPU's seat is another
-pub record GoesOn (z : Settings) (s : Table ℕ View) (r : Ruled z s) (new : List Deed) (t : Table ℕ View) : Type 0 where
+pub record GoesOn (z : Settings) (s : Table ℕ View) (r : Ruled z s) (new : List LogItem) (t : Table ℕ View) : Type 0 where
   pub ruled : Ruled z t
-  pub goes_on : deeds z ruled.reached.events ≡ deeds z r.reached.events ++ new
+  pub goes_on : log_of_events z ruled.reached.events ≡ log_of_events z r.reached.events ++ new
   pub seated : r.g.seated ≤ ruled.g.seated
   pub seats : (c : ℕ) → c < r.g.seated → ruled.seat c ≡ r.seat c

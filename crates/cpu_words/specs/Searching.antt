@@ -1,11 +1,12 @@
 -- Searches by a CPU's seat: from the head along the links, and in each slot over its record words.
-use Rattle.std.specs.Prelude.{◌≡◌, ℕ, zero, suc, ◌<◌, List, [], ◌++◌, length, Option, Some, None}
+use Rattle.std.specs.Prelude.{◌≡◌, ℕ, zero, suc, ◌<◌, ◌≤◌, List, [], ◌++◌, length, Option, Some, None, true}
 use mathlib.Core.List.{IsPrefix}
 use Rattle.registry_values.specs.declared.name.Name.{Name}
 use Rattle.registry_values.specs.declared.entry.Kind.{Kind}
 use Rattle.registry_values.specs.declared.entry.Entry.{Entry}
 use Rattle.registry_values.specs.declared.entry.Change.{Change}
 use Rattle.registry_values.specs.declared.settings.Settings.{Settings}
+use Rattle.registry_values.specs.Names.{are_name_words}
 use Rattle.protocol.specs.declared.event.Event.{Event}
 use Rattle.protocol.specs.declared.event.Event.TheVariants.{Seek, LoadLink}
 use Rattle.protocol.specs.declared.event.Reply.{Reply}
@@ -17,12 +18,13 @@ use Rattle.protocol.specs.declared.state.RecordWords.{RecordWords}
 use Rattle.protocol.specs.declared.state.Search.{Search}
 use Rattle.protocol.specs.declared.state.Loaded.{Loaded}
 use Rattle.protocol.specs.declared.state.Loaded.TheVariants.{On, Over}
-use Rattle.protocol.specs.History.{IsAttached, IsLawful}
+use Rattle.protocol.specs.Events.{word, words_of}
+use Rattle.protocol.specs.History.{IsAttached, IsLiveAt, IsLegal, IsLawful}
 use Rattle.protocol.specs.Invariant.{StandsOn}
 use Rattle.protocol.specs.Loaded.{loaded_at}
 use Rattle.cpu_words.specs.declared.view.CpuView.{CpuView}
 use Rattle.cpu_words.specs.declared.view.View.TheVariants.{Cpu}
-use Rattle.cpu_words.specs.declared.view.Deed.{Deed}
+use Rattle.cpu_words.specs.declared.view.LogItem.{LogItem}
 use Rattle.cpu_words.specs.Rule.{did}
 use Rattle.cpu_words.specs.Steps.{Makes}
 use Rattle.cpu_words.specs.Sections.{IsIdle}
@@ -77,11 +79,28 @@ abbrev pub Descends : List Change → Search → ℕ → ℕ → List Change →
 Descends p q s zero r = Unit {0}
 Descends p q s (suc t) r = (e f : Entry) → MayStandOn p q s e → MayStandOn r q t f → f.number < e.number
 
+-- The link n leads past no entry below the number `above` that was live after the first `from` changes and is live at the end of the pass r.
+abbrev pub SkipsNone : List Change → ℕ → ℕ → ℕ → Type 0
+SkipsNone r from above zero = (f : Entry) → IsLiveAt r from f → IsLiveAt r (length r) f → f.number < above → ⊥
+SkipsNone r from above (suc t) = (e f : Entry) → StandsOn r from (length r) t e → IsLiveAt r from f → IsLiveAt r (length r) f → f.number < above → f.number ≤ e.number
+
+-- what a search that started at `from` tells of its pass r, and of when its section began
+pub record PassTells (begin : Option ℕ) (from : ℕ) (r : List Change) : Type 0 where
+  pub legal : IsLegal r
+  pub since : (b : ℕ) → begin ≡ Some b → b ≤ from
+  -- it may stand on at most one entry of a slot, and that has a name
+  pub one : (t : ℕ) (e f : Entry) → StandsOn r from (length r) t e → StandsOn r from (length r) t f → e ≡ f
+  pub named : (t : ℕ) (e : Entry) → StandsOn r from (length r) t e → are_name_words e.rec.name.high e.rec.name.low ≡ true
+
 pub record HasFollowed (x : CpuView) (q : Search) (n : ℕ) (y : CpuView) : Type 0 where
   pub pass : IsPrefix x.pass y.pass
   pub is : y ≡ cpu_after_link x q n y.pass
   pub holds : LinkHolds x.settings q n y.pass
   pub descends : (s : ℕ) → q.place ≡ AtNext s → Descends x.pass q s n y.pass
+  pub tells : PassTells x.begin q.start y.pass
+  -- the head leads to the newest, the link of an entry's slot to the next one below its number
+  pub first : q.place ≡ AtHead → SkipsNone y.pass q.start (suc (length y.pass)) n
+  pub next : (s : ℕ) (e : Entry) → q.place ≡ AtNext s → MayStandOn x.pass q s e → SkipsNone y.pass q.start e.number n
 
 -- the search that is under way has loaded the link n
 abbrev pub HasLoadedLink : CpuView → ℕ → CpuView → Type 0
@@ -89,7 +108,7 @@ HasLoadedLink x n y = (q : Search) → x.search ≡ Some q → HasFollowed x q n
 
 -- what one load of the head tells of a Seek and of the first LoadLink of its search
 -- the seat's part of the list: the search begins, and loads the head
-abbrev pub sought : Event → ℕ → List Deed
+abbrev pub sought : Event → ℕ → List LogItem
 sought (Seek c kind name) n = did (Seek c kind name) Done ++ did (LoadLink c) (link_answer n)
 sought _ n = []
 
@@ -147,6 +166,8 @@ pub record HasSearched (x : CpuView) (q : Search) (n : ℕ) (y : CpuView) : Type
   pub holds : FoundHolds q (loaded_of (Some q) n) y.pass
   -- a number is that of an entry on which the search may stand
   pub number : (t : ℕ) → q.place ≡ AtNumber t → (e : Entry) × MayStandOn y.pass q t e × (e.number ≡ n)
+  -- a word is that of each entry on which the search may stand there
+  pub words : (t k : ℕ) (e : Entry) → IsAtWord q.place t k → MayStandOn y.pass q t e → word (words_of e) k ≡ n
 
 -- the search that is under way has loaded the record word n
 abbrev pub HasLoadedWord : CpuView → ℕ → CpuView → Type 0

@@ -13,7 +13,7 @@ use Rattle.protocol.specs.Invariant.{standing_of}
 use Rattle.cpu_words.specs.declared.view.CpuView.{CpuView}
 use Rattle.cpu_words.specs.declared.view.KeeperView.{KeeperView}
 use Rattle.cpu_words.specs.declared.view.ReferenceView.{ReferenceView}
-use Rattle.cpu_words.specs.declared.view.Deed.{Deed}
+use Rattle.cpu_words.specs.declared.view.LogItem.{LogItem}
 use Rattle.cpu_words.specs.declared.view.View.{View}
 use Rattle.cpu_words.specs.declared.view.View.TheVariants.{Keeper, Cpu, Reference}
 use Rattle.cpu_words.specs.Views.{Shown, cpu_of, keeper_of, reference_of}
@@ -21,8 +21,8 @@ use Rattle.cpu_words.specs.Rule.{Good, Ruled, GoesOn, number_of_id, reference_to
 
 -- the two views are of one seat
 abbrev pub OneSeat : View → View → Type 0
-OneSeat (Keeper k) (Keeper l) = (l.settings ≡ k.settings) × (l.heard ≡ k.heard)
-OneSeat (Cpu x) (Cpu y) = (y.settings ≡ x.settings) × (y.id ≡ x.id) × (y.heard ≡ x.heard)
+OneSeat (Keeper k) (Keeper l) = (l.settings ≡ k.settings) × (l.noted_pass ≡ k.noted_pass)
+OneSeat (Cpu x) (Cpu y) = (y.settings ≡ x.settings) × (y.id ≡ x.id) × (y.noted_pass ≡ x.noted_pass)
 OneSeat (Reference v) (Reference w) = w ≡ v
 OneSeat v w = ⊥
 
@@ -69,28 +69,28 @@ JoinsBy e v u both = (g : State) → Good g → Shown g v → Shown g u → ((n 
 
 -- A seat is cut in two, or takes in another: the run goes on with just these events.
 
-abbrev pub SplitsOn : Settings → ℕ → View → View → View → List Deed → Type 0
+abbrev pub SplitsOn : Settings → ℕ → View → View → View → List LogItem → Type 0
 SplitsOn z i v left right ds = (s : Table ℕ View) (r : Ruled z s) → get_elem? s.views i ≡ some v → GoesOn z s r ds (record { words = s.words; homes = s.homes; views = slice_set s.views i left ++ right ∷ [] })
 
-abbrev pub JoinsOn : Settings → ℕ → View → ℕ → View → View → View → List Deed → Type 0
+abbrev pub JoinsOn : Settings → ℕ → View → ℕ → View → View → View → List LogItem → Type 0
 JoinsOn z i v o w both spent ds = (s : Table ℕ View) (r : Ruled z s) → get_elem? s.views i ≡ some v → ¬ (o ≡ i) → get_elem? (slice_set s.views i both) o ≡ some w
     → GoesOn z s r ds (record { words = s.words; homes = s.homes; views = slice_set (slice_set s.views i both) o spent })
 
 -- Whatever the table is when the word becomes f of what it was, the seat has a view after, with which the rule holds, and the tale of the word found.
 -- For a load or an exchange n is the word found, for a store the word stored. The run goes on with just the events that the word found makes.
 
-abbrev pub Moves : Settings → View → ℕ → (ℕ → ℕ) → (ℕ → List Deed) → (ℕ → View → Type 0) → Type 0
+abbrev pub Moves : Settings → View → ℕ → (ℕ → ℕ) → (ℕ → List LogItem) → (ℕ → View → Type 0) → Type 0
 Moves z v i f ds tells = (s : Table ℕ View) (r : Ruled z s) → (id : ℕ) → get_elem? s.views id ≡ some v → slice_index s.words i < 18446744073709551616
     → (w : View) × GoesOn z s r (ds (slice_index s.words i)) (stepped s i (f (slice_index s.words i)) id [] w keeps) × tells (slice_index s.words i) w
 
-abbrev pub CpuMay : Settings → CpuView → ℕ → (ℕ → ℕ) → (ℕ → List Deed) → (CpuView → ℕ → CpuView → Type 0) → Type 0
+abbrev pub CpuMay : Settings → CpuView → ℕ → (ℕ → ℕ) → (ℕ → List LogItem) → (CpuView → ℕ → CpuView → Type 0) → Type 0
 CpuMay z x i f ds tells = Moves z (Cpu x) i f ds (λ n w. (w ≡ Cpu (cpu_of w)) × tells x n (cpu_of w))
 
-abbrev pub KeeperMay : Settings → KeeperView → ℕ → (ℕ → ℕ) → (ℕ → List Deed) → (KeeperView → ℕ → KeeperView → Type 0) → Type 0
+abbrev pub KeeperMay : Settings → KeeperView → ℕ → (ℕ → ℕ) → (ℕ → List LogItem) → (KeeperView → ℕ → KeeperView → Type 0) → Type 0
 KeeperMay z k i f ds tells = Moves z (Keeper k) i f ds (λ n w. (w ≡ Keeper (keeper_of w)) × tells k n (keeper_of w))
 
-abbrev pub KeeperStores : Settings → KeeperView → ℕ → ℕ → (ℕ → List Deed) → (KeeperView → ℕ → KeeperView → Type 0) → Type 0
+abbrev pub KeeperStores : Settings → KeeperView → ℕ → ℕ → (ℕ → List LogItem) → (KeeperView → ℕ → KeeperView → Type 0) → Type 0
 KeeperStores z k i n ds tells = Moves z (Keeper k) i (λ _. n) (λ _. ds n) (λ _ w. (w ≡ Keeper (keeper_of w)) × tells k n (keeper_of w))
 
-abbrev pub ReferenceMay : Settings → ReferenceView → ℕ → (ℕ → List Deed) → (ReferenceView → ℕ → Type 0) → Type 0
+abbrev pub ReferenceMay : Settings → ReferenceView → ℕ → (ℕ → List LogItem) → (ReferenceView → ℕ → Type 0) → Type 0
 ReferenceMay z v i ds tells = Moves z (Reference v) i (λ n. n) ds (λ n w. (w ≡ Reference v) × tells v n)

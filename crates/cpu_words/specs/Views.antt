@@ -22,7 +22,7 @@ use Rattle.protocol.specs.Invariant.{AreRows, IsIn, Occupies, subtraction_due_at
 use Rattle.cpu_words.specs.declared.view.InHand.{InHand}
 use Rattle.cpu_words.specs.declared.view.InHand.TheVariants.{Empty as NoEntry, Taking as TakingEntry, Giving as GivingEntry, Back as BackEntry}
 use Rattle.cpu_words.specs.declared.view.Looked.{Looked}
-use Rattle.cpu_words.specs.declared.view.Deed.{Deed}
+use Rattle.cpu_words.specs.declared.view.LogItem.{LogItem}
 use Rattle.cpu_words.specs.declared.view.CpuView.{CpuView}
 use Rattle.cpu_words.specs.declared.view.KeeperView.{KeeperView}
 use Rattle.cpu_words.specs.declared.view.ReferenceView.{ReferenceView}
@@ -34,10 +34,10 @@ pub record Seated (X : Type 0) : Type 0 where
   pub table : TableId
   pub view : X
   -- what the seat did, in order
-  pub log : List Deed
-  -- what it has heard that the keeper did, in order, and what a note told of that
-  pub deeds : List Deed
-  pub laid : List Deed
+  pub log : List LogItem
+  -- what it has heard of the keeper's log, and what the note beside its view knows of that
+  pub known_log : List LogItem
+  pub noted_log : List LogItem
 
 -- a table and what it was made for, to a contract
 pub record Named : Type 0 where
@@ -78,20 +78,20 @@ pub record CpuOwn : Type 0 where
   pub acquired : List ℕ
   pub released : List ℕ
   pub met : List ℕ
-  pub heard : List Change
+  pub noted_pass : List Change
 
 pub record KeeperOwn : Type 0 where
   pub counts : List (List ℕ)
   pub given_up : List ℕ
   pub looks : ℕ
   pub last_look : Option Looked
-  pub heard : List Change
+  pub noted_pass : List Change
 
 abbrev pub own_of : CpuView → CpuOwn
-own_of x = record { hand = x.hand; references = x.references; acquired = x.acquired; released = x.released; met = x.met; heard = x.heard }
+own_of x = record { hand = x.hand; references = x.references; acquired = x.acquired; released = x.released; met = x.met; noted_pass = x.noted_pass }
 
 abbrev pub keeper_own : KeeperView → KeeperOwn
-keeper_own k = record { counts = k.counts; given_up = k.given_up; looks = k.looks; last_look = k.last_look; heard = k.heard }
+keeper_own k = record { counts = k.counts; given_up = k.given_up; looks = k.looks; last_look = k.last_look; noted_pass = k.noted_pass }
 
 -- the view of the CPU c, and the keeper's, in a state of the core
 abbrev pub cpu_view : State → ℕ → CpuOwn → CpuView
@@ -108,7 +108,7 @@ cpu_view g c own = record {
   acquired = own.acquired;
   released = own.released;
   met = own.met;
-  heard = own.heard;
+  noted_pass = own.noted_pass;
 }
 
 abbrev pub keeper_view : State → KeeperOwn → KeeperView
@@ -128,7 +128,7 @@ keeper_view g own = record {
   given_up = own.given_up;
   looks = own.looks;
   last_look = own.last_look;
-  heard = own.heard;
+  noted_pass = own.noted_pass;
 }
 
 -- the hand of the core, by entry
@@ -174,7 +174,7 @@ pub record CpuShown (g : State) (x : CpuView) : Type 0 where
   -- what it found and refers to is in its pass
   pub found : (e : Entry) → x.found ≡ Some e → IsAttached x.pass e
   pub references : (e : Entry) → Contains x.references e → IsAttached x.pass e
-  pub heard : IsPrefix x.heard g.history
+  pub noted_pass : IsPrefix x.noted_pass g.history
 
 -- of one CPU: its net count where its word was collected
 abbrev pub collected_net : Mark × ℕ → ℕ
@@ -200,7 +200,7 @@ pub record KeeperShown (g : State) (k : KeeperView) : Type 0 where
   pub gives_up : (t : ℕ) (e : Entry) → slot_at g.slots t ≡ Retired e → GivesUp g k.given_up t e.number
   pub later : (n : ℕ) → length g.history < n → number_at k.given_up n ≡ 0
   pub beyond : (c t : ℕ) → g.settings.cpus ≤ c → (mark_at g.marks t c).collected ≡ false
-  pub heard : IsPrefix k.heard g.history
+  pub noted_pass : IsPrefix k.noted_pass g.history
 
 pub record ReferenceShown (g : State) (v : ReferenceView) : Type 0 where
   pub attached : IsAttached g.history v.entry
@@ -233,7 +233,7 @@ new_keeper z = record {
   given_up = [];
   looks = 0;
   last_look = None;
-  heard = [];
+  noted_pass = [];
 }
 
 abbrev pub first_view : Settings → View
@@ -253,7 +253,7 @@ new_cpu z c = record {
   acquired = [];
   released = [];
   met = [];
-  heard = [];
+  noted_pass = [];
 }
 
 abbrev pub no_table : TableId

@@ -1,4 +1,4 @@
--- Waiting for open sections (pserialize(9)): what a seat knows of all CPUs by what it has heard of the keeper's deeds.
+-- Waiting for open sections (pserialize(9)): what a seat knows of all CPUs by what it has heard of the keeper's log.
 use Rattle.std.specs.Prelude.{◌≡◌, ℕ, ◌<◌, ◌≤◌, List, ◌++◌, length, take, Some}
 use mathlib.Core.Option.{some}
 use lib.ListN.{get_elem?}
@@ -7,19 +7,33 @@ use Rattle.registry_values.specs.declared.entry.Entry.{Entry}
 use Rattle.registry_values.specs.declared.settings.Settings.{Settings}
 use Rattle.protocol.specs.declared.event.Event.{Event}
 use Rattle.protocol.specs.History.{EndsAt}
-use Rattle.protocol.specs.State.{opening, begin_at}
+use Rattle.protocol.specs.State.{opening, section_at, begin_at}
 use Rattle.protocol.specs.Laws.{after, HasExit}
 use Rattle.cpu_words.specs.declared.view.CpuView.{CpuView}
 use Rattle.cpu_words.specs.declared.view.KeeperView.{KeeperView}
-use Rattle.cpu_words.specs.declared.view.Deed.{Deed}
+use Rattle.cpu_words.specs.declared.view.LogItem.{LogItem}
 use Rattle.cpu_words.specs.declared.view.Logged.{Logged}
 use Rattle.cpu_words.specs.declared.view.View.TheVariants.{Keeper, Cpu}
-use Rattle.cpu_words.specs.Deeds.{changes_in, HasWaited}
-use Rattle.cpu_words.specs.Logs.{plain, part, LoggedRuled}
+use Rattle.cpu_words.specs.KeeperLog.{changes_in, HasWaited, IsSeenOut}
+use Rattle.cpu_words.specs.Logs.{without_logs, part, LoggedRuled}
 use Rattle.cpu_words.specs.Headline.{RunsAsLogged, SectionMayHold}
 
+-- Of one CPU: the keeper took its section word in `looks`, after it had done `before`. The section that was open on this CPU at that load has ended, also one that began after `before`.
+pub record HasEndedOn (z : Settings) (s : Table ℕ Logged) (r : RunsAsLogged z s) (before looks : List LogItem) (c : ℕ) : Type 0 where
+  pub seen : IsSeenOut c looks
+  -- the events until the load, and those since
+  pub earlier : List Event
+  pub later : List Event
+  pub are : r.run.events ≡ earlier ++ later
+  pub did : part 0 (take (length earlier) r.acts) ≡ before ++ seen.before
+  pub taken : section_at (after (opening z) earlier) c ≡ seen.old
+  -- there was its exit
+  pub exits : (b : ℕ) → begin_at (after (opening z) earlier) c ≡ Some b → HasExit (after (opening z) earlier) c later
+  -- so a section of it that is open now began later
+  pub begun : (b : ℕ) → begin_at (after (opening z) r.run.events) c ≡ Some b → length (after (opening z) earlier).history ≤ b
+
 -- Each section that was open when the keeper had done just `before` has ended: so it is of a list of events that leads to what the table shows.
-pub record HaveEnded (z : Settings) (s : Table ℕ Logged) (before : List Deed) : Type 0 where
+pub record HaveEnded (z : Settings) (s : Table ℕ Logged) (before looks : List LogItem) : Type 0 where
   pub run : RunsAsLogged z s
   -- the events until then, and those since
   pub earlier : List Event
@@ -30,12 +44,14 @@ pub record HaveEnded (z : Settings) (s : Table ℕ Logged) (before : List Deed) 
   pub changes : length (after (opening z) earlier).history ≡ changes_in before
   -- a section of a CPU that was open then has ended: there was its exit
   pub exits : (c b : ℕ) → c < z.cpus → begin_at (after (opening z) earlier) c ≡ Some b → HasExit (after (opening z) earlier) c since
+  -- and so has the section that was open on a CPU as the keeper took this CPU's word
+  pub each : (c : ℕ) → c < z.cpus → HasEndedOn z s run before looks c
   -- so a section that is open now began later
   pub begun : (c b : ℕ) → begin_at (after (opening z) run.run.events) c ≡ Some b → changes_in before ≤ b
   -- and no open section may hold an entry that was detached by then
-  pub none : (i j p : ℕ) (k : KeeperView) (x : CpuView) (e : Entry) → get_elem? (plain s).views i ≡ some (Keeper k) → get_elem? (plain s).views j ≡ some (Cpu x)
+  pub none : (i j p : ℕ) (k : KeeperView) (x : CpuView) (e : Entry) → get_elem? (without_logs s).views i ≡ some (Keeper k) → get_elem? (without_logs s).views j ≡ some (Cpu x)
       → EndsAt k.history e.number p → p ≤ changes_in before → SectionMayHold k.history e x → ⊥
 
 -- a seat that has heard that the keeper saw each CPU out of a section, after it had done `before`, knows this of the table, whatever it is now
 abbrev pub WaitingEnds : Type 0
-WaitingEnds = (z : Settings) (s : Table ℕ Logged) (i : ℕ) (l : Logged) (before since : List Deed) → LoggedRuled z s → get_elem? s.views i ≡ some l → l.deeds ≡ before ++ since → HasWaited since z.cpus → HaveEnded z s before
+WaitingEnds = (z : Settings) (s : Table ℕ Logged) (i : ℕ) (l : Logged) (before since : List LogItem) → LoggedRuled z s → get_elem? s.views i ≡ some l → l.known_log ≡ before ++ since → HasWaited since z.cpus → HaveEnded z s before since

@@ -10,7 +10,7 @@ use std::marker::{Brand, Model, PhantomData};
 use std::sync::ledger::Ledger;
 
 /// The rule: the words and the views of all seats show a state of the core, a list of events leads to it from the opening, what each seat did
-/// is its part of that list, and what a seat has heard of the keeper's deeds is a prefix of the keeper's part.
+/// is its part of that list, and what a seat has heard of the keeper's log is a prefix of the keeper's part.
 pub struct RegistryRule;
 
 impl TableRule<u8, Logged, Settings> for RegistryRule {
@@ -70,11 +70,11 @@ impl Domain for Brand {
 /// What a step of a CPU's seat tells of the view before, the word found and the view after. Each call of an inner step picks its own.
 pub(crate) trait CpuTale {
     ghost use Rattle.std.specs.Prelude.{ℕ, List};
-    ghost use Rattle.cpu_words.specs.declared.view.Deed.{Deed};
+    ghost use Rattle.cpu_words.specs.declared.view.LogItem.{LogItem};
     ghost use Rattle.cpu_words.specs.declared.view.CpuView.{CpuView};
 
     // the events that it is, with their replies, by the view before and the word found
-    ghost does: { CpuView → ℕ → List Deed };
+    ghost does: { CpuView → ℕ → List LogItem };
 
     ghost tells: { CpuView → ℕ → CpuView → Type 0 };
 }
@@ -90,11 +90,11 @@ impl CpuTale for Brand {
 /// The same for the keeper's seat.
 pub(crate) trait KeeperTale {
     ghost use Rattle.std.specs.Prelude.{ℕ, List};
-    ghost use Rattle.cpu_words.specs.declared.view.Deed.{Deed};
+    ghost use Rattle.cpu_words.specs.declared.view.LogItem.{LogItem};
     ghost use Rattle.cpu_words.specs.declared.view.KeeperView.{KeeperView};
 
     // the events that it is, with their replies, by the view before and the word found
-    ghost does: { KeeperView → ℕ → List Deed };
+    ghost does: { KeeperView → ℕ → List LogItem };
 
     ghost tells: { KeeperView → ℕ → KeeperView → Type 0 };
 }
@@ -110,11 +110,11 @@ impl KeeperTale for Brand {
 /// The same for the seat of a local reference, whose view no step changes.
 pub(crate) trait ReferenceTale {
     ghost use Rattle.std.specs.Prelude.{ℕ, List};
-    ghost use Rattle.cpu_words.specs.declared.view.Deed.{Deed};
+    ghost use Rattle.cpu_words.specs.declared.view.LogItem.{LogItem};
     ghost use Rattle.cpu_words.specs.declared.view.ReferenceView.{ReferenceView};
 
     // the events that it is, with their replies, by the view and the word found
-    ghost does: { ReferenceView → ℕ → List Deed };
+    ghost does: { ReferenceView → ℕ → List LogItem };
 
     ghost tells: { ReferenceView → ℕ → Type 0 };
 }

@@ -24,24 +24,24 @@ pub struct Looked {
     pub reply: Reply,
 }
 
-/// What a seat did: an event, and what it replied. The ids that the core gives its references are 0 here.
-pub struct Deed {
+/// An item of a seat's log: an event that it made, and what that replied. The ids that the core gives its references are 0 here.
+pub struct LogItem {
     /// The event of the protocol that the step made.
     pub event: Event,
     /// What the step answered.
     pub reply: Reply,
 }
 
-/// A seat's view, and beside it all that the seat did, in order, and what it has heard of the keeper's deeds.
+/// A seat's view, and beside it all that the seat did, in order, and what it knows of the keeper's log.
 pub struct Logged {
     /// What the seat knows now.
     pub view: View,
-    /// What it did, the first deed first.
-    pub log: LinkedList<Deed>,
-    /// What it has heard that the keeper did: a prefix of the keeper's log.
-    pub deeds: LinkedList<Deed>,
-    /// What a note told of the keeper's log, until the next load that hears.
-    pub laid: LinkedList<Deed>,
+    /// What it did, the first item first.
+    pub log: LinkedList<LogItem>,
+    /// What it has heard of the keeper's log: a prefix of it.
+    pub known_log: LinkedList<LogItem>,
+    /// What the note that was laid beside the view last knows of the keeper's log.
+    pub noted_log: LinkedList<LogItem>,
 }
 
 /// What the keeper's seat knows: all that only the keeper writes, and what it has counted itself.
@@ -76,8 +76,8 @@ pub struct KeeperView {
     pub looks: u64,
     /// The last of them.
     pub last_look: Option<Looked>,
-    /// What the note told that was laid here last.
-    pub heard: LinkedList<Change>,
+    /// The pass of the note that was laid here last.
+    pub noted_pass: LinkedList<Change>,
 }
 
 /// What a CPU's seat knows: its words and its pass, and what it holds.
@@ -105,8 +105,8 @@ pub struct CpuView {
     pub released: LinkedList<u64>,
     /// By slot: the number of the entry there that this CPU last counted a reference to, up or down; 0 for none.
     pub met: LinkedList<u64>,
-    /// What the note told that was laid here last.
-    pub heard: LinkedList<Change>,
+    /// The pass of the note that was laid here last.
+    pub noted_pass: LinkedList<Change>,
 }
 
 /// What a local reference's seat knows: its entry, and the CPU whose count word a release of it found collected.

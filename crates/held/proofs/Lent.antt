@@ -1,8 +1,7 @@
--- A handle lends what stands behind it: what its pointer points to leaves as a `&mut`, and the handle follows that.
+-- A struct of one pointer lends what lies behind it: that leaves as a `&mut`, and the struct follows it.
 use Rattle.std.proofs.Common.{◌≡◌, ℕ, List, [], ◌∷◌, ◌++◌, refl, sym, ap, ◌∙◌, subst, lit<, Option, Some, None, MutBor}
 use seplogic.Ra.Ura.{Ura}
 use mir.Syntax.{Fn, Callee, Lifetime, Ty, named, erased, mut, local, value_local, ty_ptr, ty_ref, ty_bool, ty_enum, ty_named, ty_struct, tcons, tnil, ttcons, ttnil, place, deref, field, assign, rv_opd, op2, ptr_eq, copy, int, w8, w64, aggregate, addr_of, cond, skip, block, seq, return}
-use mir.Raw.{raw as bare}
 use mir.Val.{Val, vptr, vstruct, vcons, vnil, of_list}
 use base.Fraction.{full_share}
 use base.Logic.{SProp, ent, sep, emp}
@@ -39,9 +38,9 @@ use Rattle.core.specs.Option.{ghost_name_of}
 use Rattle.core.proofs.alloc.Shapes.{after}
 use Rattle.core.proofs.option.Made.{Some-of, none_of}
 use Rattle.std.proofs.raw_atomic.Walks.{proved}
-use Rattle.held.specs.Handles.{holds, is_null, token}
+use Rattle.held.specs.Handles.{may_lie_at, is_null}
 use Rattle.held.specs.Lent.{IsLent}
-use Rattle.held.proofs.Holding.{either}
+use Rattle.held.proofs.Holding.{Tests, either}
 use Rattle.held.proofs.Turned.{Word, word, fits}
 
 -- the type of what is lent, where the type behind it is written as τ
@@ -49,11 +48,11 @@ abbrev loan : Lifetime → Ty → Ty
 loan ℓ τ = ty_enum (OP.the_type RawPtr).name (ttcons tnil (ttcons (tcons (ty_ref ℓ mut τ) tnil) ttnil))
 
 -- a type as it is written behind a reference: a struct by its name
-abbrev by_name : Ty → Ty
+abbrev pub by_name : Ty → Ty
 by_name (ty_struct ν fields) = ty_named (ν, []) tnil
 by_name σ = σ
 
-module _ (P : Owning) (at : Word P.D) (R : RattleType) where
+module _ (more : Ptr → Fml) (tests : Tests more) (P : Owning) (at : Word P.D) (R : RattleType) where
   abbrev A : RattleType
   A = row (word P at)
 
@@ -98,7 +97,7 @@ module _ (P : Owning) (at : Word P.D) (R : RattleType) where
     abbrev pub spec : {M : Type 1} {𝓤 : Ura M} (𝓛 : Logic 𝓤) → Clauses 𝓤 En
     spec {𝓤 = 𝓤} 𝓛 κs a = record { ghost = Unit {0}; requires = λ _. emp 𝓤; ensures = λ _ r _. sep 𝓤 (sem 𝓛 (follows_if A R a.0.ghost_name (ghost_name_of r) (filled a.0.now) a.0.now)) (fact 𝓤 (IsLent (body a.0.now) r)) }
 
-    module _ (owns : (d : P.D) → P.heap d ≡ holds R (at d).0 (body d)) (keeps : (d : P.D) (x : R.Denot) → at (filled d x) ≡ at d) (fills : (d : P.D) (x : R.Denot) → P.heap (filled d x) ≡ holds R (at d).0 (Some x)) {M : Type 1} {𝓤 : Ura M} (𝓛 : Logic 𝓤) where
+    module _ (owns : (d : P.D) → P.heap d ≡ may_lie_at more R full_share (at d).0 (body d)) (keeps : (d : P.D) (x : R.Denot) → at (filled d x) ≡ at d) (fills : (d : P.D) (x : R.Denot) → P.heap (filled d x) ≡ may_lie_at more R full_share (at d).0 (Some x)) {M : Type 1} {𝓤 : Ura M} (𝓛 : Logic 𝓤) where
       open 𝓛 use {H, A as 𝓐}
 
       module _ (κ : Lft) (q : Share) (rb ro : ℕ) (γ : GName) (d : P.D) where
@@ -114,13 +113,13 @@ module _ (P : Owning) (at : Word P.D) (R : RattleType) where
         module _ (b o : ℕ) where
           -- all of the handle but what is behind it
           abbrev Rest : Fml
-          Rest = fsep (token (bare (layout R)) (block_ptr b o)) (cell_at full_share A.mir (word_of (block_ptr b o) ∷ []) rb ro)
+          Rest = fsep (more (block_ptr b o)) (cell_at full_share A.mir (word_of (block_ptr b o) ∷ []) rb ro)
 
           back : (at d).0 ≡ block_ptr b o → (x : R.Denot) → ent 𝓤 (sep 𝓤 (sem 𝓛 ((mem R).own_at x b o)) (sem 𝓛 Rest)) (sem 𝓛 ((mem A).own_at (filled d x) rb ro))
           unfolding part_of
           back e x =
               let w : Val = word_of (block_ptr b o) in
-              let heap : holds R (block_ptr b o) (Some x) ≡ P.heap (filled d x) = ap (λ (p : Ptr). holds R p (Some x)) (sym e) ∙ sym (fills d x) in
+              let heap : may_lie_at more R full_share (block_ptr b o) (Some x) ≡ P.heap (filled d x) = ap (λ (p : Ptr). may_lie_at more R full_share p (Some x)) (sym e) ∙ sym (fills d x) in
               qed 𝓛 (‵ (part_at R full_share x b o) ∷ ‵ Rest ∷ []) ∵ move ! (1 ∷ []) $ fsplit ! $ move ! (2 ∷ 0 ∷ []) $ fjoin ! $
               rewrite ! 0 (λ (F : Fml). ‵ F) heap refl $ pointing ! (filled d x) (block_ptr b o) ((λ i. (keeps d x i).0) ∙ e) $ fjoin ! $ move ! (1 ∷ 0 ∷ []) $ fjoin ! $
               fpack ! (List Val) (λ us. fsep (cell_at full_share A.mir us rb ro) (A.own_val (filled d x) us)) (w ∷ []) $ done !
@@ -156,10 +155,10 @@ module _ (P : Owning) (at : Word P.D) (R : RattleType) where
             split ! $ split ! $ move ! (2 ∷ []) $ split ! $ keep ! (0 ∷ 2 ∷ []) $
             enter ! 𝓣.C 𝓣.Λ lends vs Q $ alloc_all ! (λ l. pass_all ! refl ((tt, tt), tt) $ let Ev = env lends.locals l in
             fsplit3 ! $ drop ! $ move ! (0 ∷ 1 ∷ 2 ∷ []) $ opens ! tt A rb ro (λ us. move ! (1 ∷ []) $ fsplit ! $ fpick ! (λ vss. fsplit ! $ feq_l ! (λ ev. fsplit ! $ feq_l ! (λ ep. drop ! $
-            rewrite ! 0 (λ (F : Fml). ‵ F) (owns d) refl $ either R ! (at d).0 (body d)
+            rewrite ! 0 (λ (F : Fml). ‵ F) (owns d) refl $ either more tests R full_share ! (at d).0 (body d)
             (λ is_none is.
             let w : Val = word_of null_ptr in let ws : us ≡ w ∷ [] = subst (λ (ps : List Val). us ≡ vstruct (of_list (ps ++ [])) ∷ []) (ep ∙ ap (λ (p : Ptr). ptr_val p ∷ []) is) ev in
-            let heap : is_null (at d).0 ≡ P.heap d = ap (λ (held : Option R.Denot). holds R (at d).0 held) (sym is_none) ∙ sym (owns d) in
+            let heap : is_null (at d).0 ≡ P.heap d = ap (λ (held : Option R.Denot). may_lie_at more R full_share (at d).0 held) (sym is_none) ∙ sym (owns d) in
             rewrite ! 0 (λ (xs : List Val). ‵ (Cell xs)) ws refl $ sets ! (of_opd ! (load ! (through ! refl (fld ! refl (stop !))) (look_in ! 0 (sub ! 0 refl (whole !))))) refl (fits null_ptr) $
             sets ! (of_opd ! (get ! refl)) refl (fits null_ptr) $ sets ! (bin ! (get ! refl) (lit ! tt) tt) refl (tt, tt) $ first ! $ branches ! (get ! refl) (λ _.
             sets ! (agg ! (and_then ! (lit ! tt) (no_more !))) refl (tt, (record { fits = lit< tt }, tt)) $
@@ -168,7 +167,7 @@ module _ (P : Owning) (at : Word P.D) (R : RattleType) where
             (λ b o x is_some e test.
             let w : Val = word_of (block_ptr b o) in let ws : us ≡ w ∷ [] = subst (λ (ps : List Val). us ≡ vstruct (of_list (ps ++ [])) ∷ []) (ep ∙ ap (λ (p : Ptr). ptr_val p ∷ []) e) ev in
             let rest : SProp 𝓤 = sem 𝓛 (Rest κ q rb ro γ d b o) in let way = back κ q rb ro γ d b o e in let code = A.coded.code d in
-            -- [the value; the right to free it; the handle's cell; the open borrow, in three entries]
+            -- [the value; what is had beside it; the handle's cell; the open borrow, in three entries]
             fsplit ! $ rewrite ! 2 (λ (xs : List Val). ‵ (Cell xs)) ws refl $ sets ! (of_opd ! (load ! (through ! refl (fld ! refl (stop !))) (look_in ! 2 (sub ! 0 refl (whole !))))) refl (tt, tt) $
             sets ! (of_opd ! (get ! refl)) refl (tt, tt) $ sets ! (bin ! (get ! refl) (lit ! tt) (tests_null (block_ptr b o) test)) refl (tt, tt) $ first ! $ branches ! (get ! refl) (λ wrong. absurd wrong) (λ _.
             skips ! $ exec ! 𝓣.C 𝓣.Λ Ev (after 4 lends.body) (at_ret Ev Q) $

@@ -1,5 +1,5 @@
 //! A value on the heap by its pointer and its allocator, so that a handle that C keeps can hold the pointer: a box taken apart, or a block that
-//! a value was put into.
+//! a value was put into. And a block that is kept for the next value.
 #![tactic(auto)]
 
 ghost use Rattle.std.specs.Prelude.{◌≡◌};
@@ -10,8 +10,10 @@ use std::marker::Model;
 use std_alloc::room::Vacant;
 
 mod handle;
+mod spare;
 
 pub use handle::{CHandle, Handle};
+pub use spare::Spare;
 
 /// A value on the heap by its pointer. It owns what a box of it would own, and can't be dropped: `into_box` makes a box of it, and `take` gives
 /// the value and its block.

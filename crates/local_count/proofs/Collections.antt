@@ -17,14 +17,14 @@ use Rattle.protocol.proofs.slots.Cells.{total_here, total_other}
 use Rattle.registry_values.proofs.Fit.{ranges}
 use Rattle.protocol.proofs.keeps.ListKeeps.{rows_put}
 use Rattle.cpu_words.specs.declared.view.KeeperView.{KeeperView}
-use Rattle.cpu_words.specs.declared.view.Deed.{Deed}
+use Rattle.cpu_words.specs.declared.view.LogItem.{LogItem}
 use Rattle.cpu_words.specs.declared.view.View.TheVariants.{Keeper}
 use Rattle.cpu_words.specs.Draining.{row_of, HasCollected, MayTotalAdd, HasAdded}
 use Rattle.cpu_words.specs.Rule.{IsShown, did}
 use Rattle.cpu_words.specs.Steps.{Makes}
 use Rattle.cpu_words.proofs.shown.KeepersShown.{step_is_shown}
 use Rattle.passive_list.specs.declared.keeper.KeptSlot.{KeptSlot}
-use Rattle.passive_list.specs.Keepers.{OnKeeper, no_row, row_at, state_of, states_of, IsAtRest, RowsAgree, IsOurKeeper}
+use Rattle.passive_list.specs.Keepers.{OnKeeper, OnPlainKeeper, on_keeper, no_row, row_at, state_of, states_of, IsAtRest, RowsAgree, IsOurKeeper}
 use Rattle.passive_list.proofs.Rows.{state_at, not_vacant_within, retired_in, row_stays, rows_set}
 use Rattle.local_count.specs.Draining.{keeper_after_collect, HasCollectedInto, AreHeld}
 use Rattle.local_count.proofs.Balanced.{none_at_rest, total_collected, bias_within, adding_fits}
@@ -76,12 +76,10 @@ with_total_rows a k rows t marks total given_up at agree some =
     (λ u other was. row_stays k l u (row_at rows u) refl (get_or-set_other k.marks t u marks [] other) (total_other k.totals t total u other) refl was)
 
 -- the keeper's data agree with such a view, where the slot isn't vacant
-pub with_total_keeper : (z : TableId) (a : Settings) (table table' : TableId) (k l : KeeperView) (its : Settings) (rows : List KeptSlot) (n t : ℕ) (marks : List Mark) (total : ℕ) (given_up : List ℕ)
-    → IsOurKeeper z a table k its rows n → (slot_at (states_of rows) t ≡ Vacant → ⊥) → length marks ≡ 8 → table' ≡ table → l ≡ with_total k t marks total given_up → IsShown l
-    → IsOurKeeper z a table' l its (set rows t (row_with_total (row_at rows t) marks total)) n
-with_total_keeper z a table table' k l its rows n t marks total given_up our some size same change is_shown = record {
-  table = same ∙ our.table;
-  settings = our.settings;
+pub with_total_keeper : (a : Settings) (k l : KeeperView) (rows : List KeptSlot) (n t : ℕ) (marks : List Mark) (total : ℕ) (given_up : List ℕ)
+    → IsOurKeeper a k rows n → (slot_at (states_of rows) t ≡ Vacant → ⊥) → length marks ≡ 8 → l ≡ with_total k t marks total given_up → IsShown l
+    → IsOurKeeper a l (set rows t (row_with_total (row_at rows t) marks total)) n
+with_total_keeper a k l rows n t marks total given_up our some size change is_shown = record {
   view = subst (IsAtRest a) (sym change) (with_total_at_rest a k t marks total given_up our.view size);
   is_shown = is_shown;
   changes = our.changes ∙ sym (ap (λ (x : KeeperView). length x.history) change);
@@ -97,9 +95,9 @@ pub record CollectionTells (k : KeeperView) (rows : List KeptSlot) (t w : ℕ) :
   pub fits : (row_at rows t).total + w < 2 ^ 64
   pub may : (old : ℕ) × MayTotalAdd k t old ((row_at rows t).total + w - bias)
 
-pub collection_tells : {log : List Deed} (z : TableId) (a : Settings) (table : TableId) (k l : KeeperView) (its : Settings) (rows : List KeptSlot) (n : ℕ) (x : OnKeeper) (t c w : ℕ) (e : Entry) → IsOurKeeper z a table k its rows n → record { view = k; slots = states_of rows; log = log } ≡ x
+pub collection_tells : {log : List LogItem} (a : Settings) (k l : KeeperView) (rows : List KeptSlot) (n : ℕ) (x : OnKeeper) (t c w : ℕ) (e : Entry) → IsOurKeeper a k rows n → record { view = k; slots = states_of rows; log = log } ≡ x
     → slot_at x.slots t ≡ Retired e → HasCollected k t c w l → Makes (Collect t c) (Word w) (Keeper k) (Keeper l) → CollectionTells l rows t w
-collection_tells z a table k l its rows n x t c w e our is retired change made =
+collection_tells a k l rows n x t c w e our is retired change made =
     let lt = (retired_in a k rows t e our.rows (ap (λ (y : OnKeeper). slot_at y.slots t) is ∙ retired)).0 in
     let most = (ranges a our.view.fit).slots in
     let due = ap (λ (v : KeeperView). v.due) change in
@@ -120,21 +118,21 @@ added_is k l b rows t c w m row change mark added =
     added ∙ ap (λ (x : KeeperView). record x { totals = set x.totals t v; due = Rest }) change
     ∙ sym (ap (λ (x : Mark). with_total k t (set (row_at rows t).marks c x) v k.given_up) mark ∙ ap (λ (ms : List Mark). with_total k t (set ms c (mark_after_collect (get_or ms c no_mark))) v k.given_up) row)
 
-pub collected_keeper : {log : List Deed} (z : TableId) (a : Settings) (table table' : TableId) (k l b : KeeperView) (its : Settings) (rows : List KeptSlot) (n : ℕ) (x : OnKeeper) (t c w : ℕ) (e : Entry) (m : Mark) → IsOurKeeper z a table k its rows n → record { view = k; slots = states_of rows; log = log } ≡ x
-    → slot_at x.slots t ≡ Retired e → HasCollected k t c w l → m ≡ mark_after_collect (get_or (row_at rows t).marks c no_mark) → HasAdded l t ((row_at rows t).total + w - bias) b → Makes (TotalAdd t) Done (Keeper l) (Keeper b) → table' ≡ table
-    → IsOurKeeper z a table' b its (set rows t (row_with_total (row_at rows t) (set (row_at rows t).marks c m) ((row_at rows t).total + w - bias))) n
-collected_keeper z a table table' k l b its rows n x t c w e m our is retired change mark added made same =
+pub collected_keeper : {log : List LogItem} (a : Settings) (k l b : KeeperView) (rows : List KeptSlot) (n : ℕ) (x : OnKeeper) (t c w : ℕ) (e : Entry) (m : Mark) → IsOurKeeper a k rows n → record { view = k; slots = states_of rows; log = log } ≡ x
+    → slot_at x.slots t ≡ Retired e → HasCollected k t c w l → m ≡ mark_after_collect (get_or (row_at rows t).marks c no_mark) → HasAdded l t ((row_at rows t).total + w - bias) b → Makes (TotalAdd t) Done (Keeper l) (Keeper b)
+    → IsOurKeeper a b (set rows t (row_with_total (row_at rows t) (set (row_at rows t).marks c m) ((row_at rows t).total + w - bias))) n
+collected_keeper a k l b rows n x t c w e m our is retired change mark added made =
     let here = ap (λ (y : OnKeeper). slot_at y.slots t) is ∙ retired in
     let lt = (retired_in a k rows t e our.rows here).0 in
     let row = (our.rows.each t lt).marks in
     let size = our.view.sized.marks in
     let long : length (set (row_at rows t).marks c m) ≡ 8 = length-set (row_at rows t).marks c m ∙ (ap (λ (ms : List Mark). length ms) row ∙ our.view.sized.mark_rows t (omega (arith, lt, size))) in
-    with_total_keeper z a table table' k b its rows n t (set (row_at rows t).marks c m) ((row_at rows t).total + w - bias) k.given_up our (λ v. let q : Retired e ≡ Vacant = sym here ∙ v in cc) long same (added_is k l b rows t c w m row change mark added) (step_is_shown (TotalAdd t) Done l b made)
+    with_total_keeper a k b rows n t (set (row_at rows t).marks c m) ((row_at rows t).total + w - bias) k.given_up our (λ v. let q : Retired e ≡ Vacant = sym here ∙ v in cc) long (added_is k l b rows t c w m row change mark added) (step_is_shown (TotalAdd t) Done l b made)
 
-pub collected_into : {log between later : List Deed} (z : TableId) (a : Settings) (table : TableId) (k l b : KeeperView) (its : Settings) (rows : List KeptSlot) (n : ℕ) (x : OnKeeper) (t c w : ℕ) (e : Entry) (r : KeptSlot) → IsOurKeeper z a table k its rows n → record { view = k; slots = states_of rows; log = log } ≡ x
+pub collected_into : {log between later : List LogItem} (a : Settings) (k l b : KeeperView) (rows : List KeptSlot) (n : ℕ) (x : OnKeeper) (t c w : ℕ) (e : Entry) (r : KeptSlot) → IsOurKeeper a k rows n → record { view = k; slots = states_of rows; log = log } ≡ x
     → slot_at x.slots t ≡ Retired e → HasCollected k t c w l → Makes (Collect t c) (Word w) (Keeper k) (Keeper l) → HasAdded l t ((row_at rows t).total + w - bias) b → Makes (TotalAdd t) Done (Keeper l) (Keeper b) → r.state ≡ (row_at rows t).state
     → between ≡ log ++ did (Collect t c) (Word w) → later ≡ between ++ did (TotalAdd t) Done → HasCollectedInto x t c (record { view = b; slots = states_of (set rows t r); log = later })
-collected_into {log} {later} z a table k l b its rows n x t c w e r our is retired change made added made_too state first then =
+collected_into {log} {later} a k l b rows n x t c w e r our is retired change made added made_too state first then =
     let lt = (retired_in a k rows t e our.rows (ap (λ (y : OnKeeper). slot_at y.slots t) is ∙ retired)).0 in
     let v = (row_at rows t).total + w - bias in
     let total : v ≡ total_at k.totals t + w - bias = ap (λ (u : ℕ). u + w - bias) (our.rows.each t lt).total in
@@ -144,7 +142,7 @@ collected_into {log} {later} z a table k l b its rows n x t c w e r our is retir
       added = subst (λ (y : KeeperView). Makes (TotalAdd t) Done (Keeper y) (Keeper b)) change made_too;
       view = added ∙ ap (λ (y : KeeperView). record y { totals = set y.totals t v; due = Rest }) change ∙ (λ i. record (keeper_after_collect k t c w) { totals = set k.totals t (total i); due = sym our.view.rest i });
       slots = map-set_same state_of rows t r no_row state;
-      log = then ∙ ap (λ (ds : List Deed). ds ++ did (TotalAdd t) Done) first;
+      log = then ∙ ap (λ (ds : List LogItem). ds ++ did (TotalAdd t) Done) first;
     }
 
 -- Once all words are collected
@@ -155,14 +153,14 @@ pub record TotalTells (k : KeeperView) (t total : ℕ) : Type 0 where
   pub held : AreHeld k t (total - bias)
 
 -- the row of a retired slot has the total, which is the bias and what is held
-pub total_tells : {log : List Deed} (z : TableId) (a : Settings) (table : TableId) (k : KeeperView) (its : Settings) (rows : List KeptSlot) (n : ℕ) (x : OnKeeper) (t : ℕ) (e : Entry) → IsOurKeeper z a table k its rows n → record { view = k; slots = states_of rows; log = log } ≡ x
-    → slot_at x.slots t ≡ Retired e → are_collected a.cpus (row_of x.view t) ≡ true → TotalTells x.view t (row_at rows t).total
-total_tells z a table k its rows n x t e our is retired all =
-    let here = retired_in a k rows t e our.rows (ap (λ (y : OnKeeper). slot_at y.slots t) is ∙ retired) in
+pub total_tells : {table : TableId} {log : List LogItem} (a : Settings) (k : KeeperView) (rows : List KeptSlot) (n : ℕ) (x : OnPlainKeeper) (t : ℕ) (e : Entry) → IsOurKeeper a k rows n → on_keeper table a k rows log ≡ x
+    → slot_at x.keeper.slots t ≡ Retired e → are_collected x.words.settings.cpus (row_of x.keeper.view t) ≡ true → TotalTells x.keeper.view t (row_at rows t).total
+total_tells a k rows n x t e our is retired all =
+    let here = retired_in a k rows t e our.rows (ap (λ (y : OnPlainKeeper). slot_at y.keeper.slots t) is ∙ retired) in
     let total : (row_at rows t).total ≡ total_at k.totals t = (our.rows.each t here.0).total in
-    let told : are_collected k.settings.cpus (row_of k t) ≡ true = (λ i. are_collected (our.view.settings i).cpus (row_of (is i).view t)) ∙ all in
+    let told : are_collected k.settings.cpus (row_of k t) ≡ true = ap (λ (z : Settings). are_collected z.cpus (row_of k t)) our.view.settings ∙ (ap (λ (y : OnPlainKeeper). are_collected y.words.settings.cpus (row_of y.keeper.view t)) is ∙ all) in
     let floor = bias_within k t e our.is_shown our.view.rest here.1 told in
-    subst (λ (y : OnKeeper). TotalTells y.view t (row_at rows t).total) is record {
+    subst (λ (y : OnPlainKeeper). TotalTells y.keeper.view t (row_at rows t).total) is record {
       floor = omega (arith, floor, total);
       is = omega (arith, floor, total);
       held = record {

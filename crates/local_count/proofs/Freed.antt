@@ -3,7 +3,6 @@ use Rattle.std.proofs.Common.{◌≡◌, ◌≢◌, inr, ℕ, ◌+◌, ◌-◌, 
 use Rattle.std.proofs.lemmas.List.{map-set}
 use Rattle.std.proofs.lemmas.List.Quantifiers.{position-Some}
 use Rattle.std.proofs.Math.Seq.{map-set_same}
-use Rattle.atomic_table.specs.Seated.{TableId}
 use Rattle.registry_values.specs.declared.entry.Entry.{Entry}
 use Rattle.registry_values.specs.declared.entry.Kind.TheVariants.{Iface}
 use Rattle.protocol.specs.declared.event.Event.TheVariants.{KeptSub}
@@ -22,9 +21,9 @@ use Rattle.registry_values.proofs.Fit.{ranges}
 use Rattle.protocol.proofs.keeps.ListKeeps.{live_count_put, rows_put}
 use Rattle.protocol.proofs.slots.Occupied.{has_it, not_vacant, number_in, one_number, position_found, slot_found, slot_has}
 use Rattle.cpu_words.specs.declared.view.KeeperView.{KeeperView}
-use Rattle.cpu_words.specs.declared.view.Deed.{Deed}
+use Rattle.cpu_words.specs.declared.view.LogItem.{LogItem}
 use Rattle.cpu_words.specs.declared.view.View.TheVariants.{Keeper}
-use Rattle.cpu_words.specs.Deeds.{IsFreedFrom}
+use Rattle.cpu_words.specs.KeeperLog.{IsFreedFrom}
 use Rattle.cpu_words.specs.Draining.{MayKeptSub, HasKeptSub}
 use Rattle.cpu_words.specs.Rule.{IsShown, did}
 use Rattle.cpu_words.specs.Steps.{Makes}
@@ -105,9 +104,9 @@ abbrev IsIface : OnKeeper → ℕ → Type 0
 IsIface x t = (e : Entry) × (slot_at x.slots t ≡ Retired e) × (e.rec.kind ≡ Iface)
 
 -- so the slot is found by the rows
-pub keeps_on : {log : List Deed} (z : TableId) (a : Settings) (table : TableId) (k : KeeperView) (its : Settings) (rows : List KeptSlot) (n t : ℕ) (x : OnKeeper) → IsOurKeeper z a table k its rows n → record { view = k; slots = states_of rows; log = log } ≡ x → IsIface x t
+pub keeps_on : {log : List LogItem} (a : Settings) (k : KeeperView) (rows : List KeptSlot) (n t : ℕ) (x : OnKeeper) → IsOurKeeper a k rows n → record { view = k; slots = states_of rows; log = log } ≡ x → IsIface x t
     → (u : ℕ) × (kept_slot (row_at rows t).keeps rows ≡ Some u) × KeepsHeld k t u
-keeps_on z a table k its rows n t x our is iface =
+keeps_on a k rows n t x our is iface =
     let retired = retired_in a k rows t iface.0 our.rows (ap (λ (y : OnKeeper). slot_at y.slots t) is ∙ iface.1) in
     let it = keeps_shown k t iface.0 our.is_shown our.view.rest retired.1 iface.2 in
     let s = it.1 in (
@@ -117,17 +116,17 @@ keeps_on z a table k its rows n t x our is iface =
     )
 
 -- where they have found u
-pub keeps_at : {log : List Deed} (z : TableId) (a : Settings) (table : TableId) (k : KeeperView) (its : Settings) (rows : List KeptSlot) (n t u : ℕ) (x : OnKeeper) → IsOurKeeper z a table k its rows n → record { view = k; slots = states_of rows; log = log } ≡ x → IsIface x t
+pub keeps_at : {log : List LogItem} (a : Settings) (k : KeeperView) (rows : List KeptSlot) (n t u : ℕ) (x : OnKeeper) → IsOurKeeper a k rows n → record { view = k; slots = states_of rows; log = log } ≡ x → IsIface x t
     → kept_slot (row_at rows t).keeps rows ≡ Some u → KeepsHeld k t u
-keeps_at z a table k its rows n t u x our is iface found =
-    let it = keeps_on z a table k its rows n t x our is iface in
+keeps_at a k rows n t u x our is iface found =
+    let it = keeps_on a k rows n t x our is iface in
     let same : it.0 ≡ u = let q : ◌≡◌ {A = Option ℕ} (Some it.0) (Some u) = sym it.1 ∙ found in cc in
     subst (KeepsHeld k t) same it.2
 
 -- and the keeper may give the driver up
-pub may_free : {log : List Deed} (z : TableId) (a : Settings) (table : TableId) (k : KeeperView) (its : Settings) (rows : List KeptSlot) (n t u : ℕ) (x : OnKeeper) → IsOurKeeper z a table k its rows n → record { view = k; slots = states_of rows; log = log } ≡ x → IsIface x t
+pub may_free : {log : List LogItem} (a : Settings) (k : KeeperView) (rows : List KeptSlot) (n t u : ℕ) (x : OnKeeper) → IsOurKeeper a k rows n → record { view = k; slots = states_of rows; log = log } ≡ x → IsIface x t
     → IsDrainedOn x t → KeepsHeld k t u → MayKeptSub k t u
-may_free z a table k its rows n t u x our is iface drained keeps =
+may_free a k rows n t u x our is iface drained keeps =
     let d = (subst (λ (y : OnKeeper). IsDrainedOn y t) (sym is) drained).drained in
     let retired = retired_in a k rows t iface.0 our.rows (ap (λ (y : OnKeeper). slot_at y.slots t) is ∙ iface.1) in
     let one : d.retired.0 ≡ iface.0 = let q : Retired d.retired.0 ≡ Retired iface.0 = sym d.retired.1 ∙ retired.1 in cc in
@@ -200,16 +199,14 @@ freed_rows a k rows t d u at agree held off lt total =
     }
     (λ v other was. row_stays m (freed k t d u) v (row_at rows' v) (slot_other k.slots t Vacant v other) refl refl (get_or-set_other k.keeps t v None None other) was)
 
-pub freed_keeper : {log : List Deed} (z : TableId) (a : Settings) (table table' : TableId) (k l : KeeperView) (its : Settings) (rows : List KeptSlot) (n t u : ℕ) (x : OnKeeper) → IsOurKeeper z a table k its rows n → record { view = k; slots = states_of rows; log = log } ≡ x → IsDrainedOn x t → KeepsHeld k t u
-    → table' ≡ table → HasKeptSub k t u l → IsShown l → IsOurKeeper z a table' l its (set (set rows u (row_less (row_at rows u))) t (row_freed (row_at rows t))) n
-freed_keeper z a table table' k l its rows n t u x our is drained keeps same told is_shown =
+pub freed_keeper : {log : List LogItem} (a : Settings) (k l : KeeperView) (rows : List KeptSlot) (n t u : ℕ) (x : OnKeeper) → IsOurKeeper a k rows n → record { view = k; slots = states_of rows; log = log } ≡ x → IsDrainedOn x t → KeepsHeld k t u
+    → HasKeptSub k t u l → IsShown l → IsOurKeeper a l (set (set rows u (row_less (row_at rows u))) t (row_freed (row_at rows t))) n
+freed_keeper a k l rows n t u x our is drained keeps told is_shown =
     let d = subst (λ (y : OnKeeper). IsDrainedOn y t) (sym is) drained in
     let here = retired_in a k rows t d.retired.0 our.rows d.retired.1 in
     let change = freed_is k l t keeps.d u keeps.kept told in
     let after = set (set rows u (row_less (row_at rows u))) t (row_freed (row_at rows t)) in
     record {
-      table = same ∙ our.table;
-      settings = our.settings;
       view = subst (IsAtRest a) (sym change) (freed_at_rest a k t keeps.d u d.retired.0 our.view here.0 here.1);
       is_shown = is_shown;
       changes = our.changes ∙ sym (ap (λ (y : KeeperView). length y.history) change);
@@ -217,7 +214,7 @@ freed_keeper z a table table' k l its rows n t u x our is drained keeps same tol
     }
 
 -- what it leaves of the keeper
-pub has_freed : {log later : List Deed} (a : Settings) (k l : KeeperView) (rows : List KeptSlot) (t u : ℕ) (r : KeptSlot) (x : OnKeeper) → record { view = k; slots = states_of rows; log = log } ≡ x → RowsAgree a k rows → Makes (KeptSub t) Done (Keeper k) (Keeper l) → HasKeptSub k t u l → later ≡ log ++ did (KeptSub t) Done
+pub has_freed : {log later : List LogItem} (a : Settings) (k l : KeeperView) (rows : List KeptSlot) (t u : ℕ) (r : KeptSlot) (x : OnKeeper) → record { view = k; slots = states_of rows; log = log } ≡ x → RowsAgree a k rows → Makes (KeptSub t) Done (Keeper k) (Keeper l) → HasKeptSub k t u l → later ≡ log ++ did (KeptSub t) Done
     → ((e : Entry) → slot_at k.slots t ≡ Retired e → IsFreedFrom t e.number later) → HasFreed x t (record { view = l; slots = states_of (set (set rows u (row_less (row_at rows u))) t (row_freed r)); log = later })
 has_freed {later} a k l rows t u r x is agree made told goes_on freed =
     let after = set (set rows u (row_less (row_at rows u))) t (row_freed r) in

@@ -1,7 +1,6 @@
 -- A reference is given up under the interlock: its entry's row has one to subtract, and what the keeper has agrees with what its seat knows then.
 use Rattle.std.proofs.Common.{◌≡◌, inl, inr, ⊎_elim, ℕ, ◌-◌, List, ◌++◌, set, Some, true, refl, sym, ap, ◌∙◌, subst}
 use Rattle.std.proofs.Math.Seq.{map-set_same}
-use Rattle.atomic_table.specs.Seated.{TableId}
 use Rattle.registry_values.specs.declared.entry.Entry.{Entry}
 use Rattle.protocol.specs.declared.event.Event.TheVariants.{JoinKeeper, TotalSub}
 use Rattle.protocol.specs.declared.event.Reply.TheVariants.{Done}
@@ -12,7 +11,7 @@ use Rattle.registry_values.specs.declared.slot.Slot.TheVariants.{Retired}
 use Rattle.registry_values.specs.Slots.{slot_at}
 use Rattle.protocol.specs.State.{mark_at, total_at}
 use Rattle.cpu_words.specs.declared.view.KeeperView.{KeeperView}
-use Rattle.cpu_words.specs.declared.view.Deed.{Deed}
+use Rattle.cpu_words.specs.declared.view.LogItem.{LogItem}
 use Rattle.cpu_words.specs.declared.view.ReferenceView.{ReferenceView}
 use Rattle.cpu_words.specs.declared.view.View.TheVariants.{Keeper, Reference}
 use Rattle.cpu_words.specs.Draining.{IsFoundCollected, MayJoinKeeper, keeper_after_join, HasSubtracted}
@@ -29,9 +28,9 @@ use Rattle.local_count.proofs.Collections.{with_total_keeper}
 use Rattle.local_count.proofs.Subtracting.{HeldRow, held_row, less, row_less, less_is}
 
 -- what the rows say of a collected word, the seat knows
-pub may_take_in : {log : List Deed} (z : TableId) (a : Settings) (table : TableId) (k : KeeperView) (its : Settings) (rows : List KeptSlot) (n : ℕ) (v w : ReferenceView) (x : OnKeeper) → IsOurKeeper z a table k its rows n → record { view = k; slots = states_of rows; log = log } ≡ x → v ≡ w
+pub may_take_in : {log : List LogItem} (a : Settings) (k : KeeperView) (rows : List KeptSlot) (n : ℕ) (v w : ReferenceView) (x : OnKeeper) → IsOurKeeper a k rows n → record { view = k; slots = states_of rows; log = log } ≡ x → v ≡ w
     → IsFoundCollected x.slots x.view.marks w → MayJoinKeeper k v
-may_take_in z a table k its rows n v w x our is is_too found = record {
+may_take_in a k rows n v w x our is is_too found = record {
   rest = our.view.rest;
   is_collected = ⊎_elim
       (λ (there : (c : ℕ) × (v.collected ≡ Some c)). inl there)
@@ -55,8 +54,8 @@ held_before k j l v joined made =
     }
 
 -- so its slot's row has it
-pub given_row : (z : TableId) (a : Settings) (table : TableId) (k j l : KeeperView) (its : Settings) (rows : List KeptSlot) (n t : ℕ) (v : ReferenceView) → IsOurKeeper z a table k its rows n → v.entry.slot ≡ t → j ≡ keeper_after_join k v → Makes (TotalSub t) Done (Keeper j) (Keeper l) → HeldRow k rows t
-given_row z a table k j l its rows n t v our slot joined made =
+pub given_row : (a : Settings) (k j l : KeeperView) (rows : List KeptSlot) (n t : ℕ) (v : ReferenceView) → IsOurKeeper a k rows n → v.entry.slot ≡ t → j ≡ keeper_after_join k v → Makes (TotalSub t) Done (Keeper j) (Keeper l) → HeldRow k rows t
+given_row a k j l rows n t v our slot joined made =
     let held = held_before k j l v joined (subst (λ (u : ℕ). Makes (TotalSub u) Done (Keeper j) (Keeper l)) (sym slot) made) in
     held_row a k rows t our.view our.rows (subst (IsHeldIn k) slot held)
 
@@ -65,16 +64,16 @@ given_is : (k j l : KeeperView) (t : ℕ) (v : ReferenceView) → k.due ≡ Rest
 given_is k j l t v rest joined told = told.2 ∙ ap (λ (x : KeeperView). record x { totals = set x.totals t (total_at x.totals t - 1); due = Rest }) joined
     ∙ ap (λ (d : Due). record (less k t (one_more k.given_up v.entry.number)) { due = d }) (sym rest)
 
-pub given_keeper : (z : TableId) (a : Settings) (table table' : TableId) (k j l : KeeperView) (its : Settings) (rows : List KeptSlot) (n t : ℕ) (v : ReferenceView) → IsOurKeeper z a table k its rows n → v.entry.slot ≡ t → j ≡ keeper_after_join k v
-    → Makes (TotalSub t) Done (Keeper j) (Keeper l) → HasSubtracted j t l → table' ≡ table → IsOurKeeper z a table' l its (set rows t (row_less (row_at rows t))) n
-given_keeper z a table table' k j l its rows n t v our slot joined made told same =
-    let row = given_row z a table k j l its rows n t v our slot joined made in
+pub given_keeper : (a : Settings) (k j l : KeeperView) (rows : List KeptSlot) (n t : ℕ) (v : ReferenceView) → IsOurKeeper a k rows n → v.entry.slot ≡ t → j ≡ keeper_after_join k v
+    → Makes (TotalSub t) Done (Keeper j) (Keeper l) → HasSubtracted j t l → IsOurKeeper a l (set rows t (row_less (row_at rows t))) n
+given_keeper a k j l rows n t v our slot joined made told =
+    let row = given_row a k j l rows n t v our slot joined made in
     let given_up = one_more k.given_up v.entry.number in
-    with_total_keeper z a table table' k l its rows n t (row_at rows t).marks ((row_at rows t).total - 1) given_up our row.some row.size same
+    with_total_keeper a k l rows n t (row_at rows t).marks ((row_at rows t).total - 1) given_up our row.some row.size
     (given_is k j l t v our.view.rest joined told ∙ less_is k rows t given_up our.view.rest row) (step_is_shown (TotalSub t) Done j l made)
 
 -- what is left of the keeper
-pub has_given_up : {log between later : List Deed} (k j l : KeeperView) (rows : List KeptSlot) (t : ℕ) (v w : ReferenceView) (x : OnKeeper) → record { view = k; slots = states_of rows; log = log } ≡ x → v ≡ w → k.due ≡ Rest → v.entry.slot ≡ t → j ≡ keeper_after_join k v
+pub has_given_up : {log between later : List LogItem} (k j l : KeeperView) (rows : List KeptSlot) (t : ℕ) (v w : ReferenceView) (x : OnKeeper) → record { view = k; slots = states_of rows; log = log } ≡ x → v ≡ w → k.due ≡ Rest → v.entry.slot ≡ t → j ≡ keeper_after_join k v
     → JoinsBy JoinKeeper (Keeper k) (Reference v) (Keeper j) → Makes (TotalSub t) Done (Keeper j) (Keeper l) → HasSubtracted j t l
     → between ≡ log ++ did (JoinKeeper v.entry.number) Done → later ≡ between ++ did (TotalSub t) Done → HasGivenUp x w (record { view = l; slots = states_of (set rows t (row_less (row_at rows t))); log = later })
 has_given_up {log} {later} k j l rows t v w x is is_too rest slot joined joins made told first then =
@@ -83,7 +82,7 @@ has_given_up {log} {later} k j l rows t v w x is is_too rest slot joined joins m
     let made_there : Makes (TotalSub s) Done (Keeper j) (Keeper l) = subst (λ (u : ℕ). Makes (TotalSub u) Done (Keeper j) (Keeper l)) (sym slot) made in
     let told_there : HasSubtracted j s l = subst (λ (u : ℕ). HasSubtracted j u l) (sym slot) told in
     let both : later ≡ log ++ did (JoinKeeper v.entry.number) Done ++ did (TotalSub s) Done =
-    then ∙ ap (λ (ds : List Deed). ds ++ did (TotalSub t) Done) first ∙ ap (λ (u : ℕ). log ++ did (JoinKeeper v.entry.number) Done ++ did (TotalSub u) Done) (sym slot) in
+    then ∙ ap (λ (ds : List LogItem). ds ++ did (TotalSub t) Done) first ∙ ap (λ (u : ℕ). log ++ did (JoinKeeper v.entry.number) Done ++ did (TotalSub u) Done) (sym slot) in
     subst (λ (y : OnKeeper). HasGivenUp y w (record { view = l; slots = after; log = later })) is (subst (λ (u : ReferenceView). HasGivenUp (record { view = k; slots = states_of rows; log = log }) u (record { view = l; slots = after; log = later })) is_too record {
       joined = subst (λ (y : KeeperView). JoinsBy JoinKeeper (Keeper k) (Reference v) (Keeper y)) joined joins;
       subtracted = subst (λ (y : KeeperView). Makes (TotalSub s) Done (Keeper y) (Keeper l)) joined made_there;

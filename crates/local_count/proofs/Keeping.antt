@@ -13,13 +13,13 @@ use Rattle.registry_values.specs.Names.{is_lawful}
 use Rattle.protocol.specs.State.{kept_at}
 use Rattle.registry_values.proofs.Fit.{ranges}
 use Rattle.cpu_words.specs.declared.view.KeeperView.{KeeperView}
-use Rattle.cpu_words.specs.declared.view.Deed.{Deed}
+use Rattle.cpu_words.specs.declared.view.LogItem.{LogItem}
 use Rattle.cpu_words.specs.declared.view.ReferenceView.{ReferenceView}
 use Rattle.cpu_words.specs.Keeping.{keeper_after_keep}
 use Rattle.passive_list.specs.declared.keeper.KeptSlot.{KeptSlot}
-use Rattle.passive_list.specs.Keepers.{OnKeeper, no_row, row_at, state_of, states_of, IsAtRest, RowsAgree, IsOurKeeper}
+use Rattle.passive_list.specs.Keepers.{OnPlainKeeper, on_keeper, no_row, row_at, state_of, states_of, IsAtRest, RowsAgree, IsOurKeeper}
 use Rattle.passive_list.specs.Publishing.{MayAttach}
-use Rattle.passive_list.proofs.Rows.{row_stays, rows_set}
+use Rattle.passive_list.proofs.Rows.{row_stays, rows_set, settings_are}
 
 keeping_at_rest : (a : Settings) (k : KeeperView) (t : ℕ) (v : ReferenceView) → IsAtRest a k → IsAtRest a (keeper_after_keep k t v)
 keeping_at_rest a k t v at = record {
@@ -73,19 +73,19 @@ pub same_history : (k l : KeeperView) (t : ℕ) (v : ReferenceView) → l ≡ ke
 same_history k l t v at = sym (ap (λ (x : KeeperView). length x.history) at)
 
 -- what publishing asks of the keeper once the slot keeps the reference, from what is asked of a caller
-pub may_attach : {log : List Deed} (z : TableId) (a : Settings) (table : TableId) (k l : KeeperView) (its : Settings) (rows : List KeptSlot) (c t n : ℕ) (rec : Record) (v : ReferenceView) (x : OnKeeper) → IsOurKeeper z a table k its rows c → record { view = k; slots = states_of rows; log = log } ≡ x
-    → l ≡ keeper_after_keep k t v → v.entry.number ≡ n → (t < a.slots) × (slot_at x.slots t ≡ Vacant) → rec.kind ≡ Iface → IsTrue (is_lawful rec.name) → is_taken (key_of_record rec) x.slots ≡ false → length x.view.history + live_count x.slots + 2 ≤ a.change_limit
+pub may_attach : {table : TableId} {log : List LogItem} (a : Settings) (k l : KeeperView) (rows : List KeptSlot) (c t n : ℕ) (rec : Record) (v : ReferenceView) (x : OnPlainKeeper) → IsOurKeeper a k rows c → on_keeper table a k rows log ≡ x
+    → l ≡ keeper_after_keep k t v → v.entry.number ≡ n → (t < x.words.settings.slots) × (slot_at x.keeper.slots t ≡ Vacant) → rec.kind ≡ Iface → IsTrue (is_lawful rec.name) → is_taken (key_of_record rec) x.keeper.slots ≡ false → length x.keeper.view.history + live_count x.keeper.slots + 2 ≤ x.words.settings.change_limit
     → MayAttach a l (rows_keeping rows t n) (record { number = c + 1; slot = t; rec = rec })
-may_attach z a table k l its rows c t n rec v x our is at number vacant kind name free room =
+may_attach a k l rows c t n rec v x our is at number vacant kind name free room =
     let rest = our.view in
-    let empty : slot_at (states_of rows) t ≡ Vacant = ap (λ (y : OnKeeper). slot_at y.slots t) is ∙ vacant.1 in
+    let empty : slot_at (states_of rows) t ≡ Vacant = ap (λ (y : OnPlainKeeper). slot_at y.keeper.slots t) is ∙ vacant.1 in
     let same = states_keeping rows t n in
     let wide = rest.sized.keeps in
-    let lt = vacant.0 in
+    let lt = subst (λ (y : OnPlainKeeper). t < y.words.settings.slots) (sym is) vacant.0 in
     let some = Some v.entry.number in
     let kept : kept_at (keeper_after_keep k t v).keeps t ≡ some = get_or-set_same k.keeps t some None (omega (arith, lt, wide)) in
-    let history : (keeper_after_keep k t v).history ≡ x.view.history = ap (λ (y : OnKeeper). y.view.history) is in
-    let states : states_of (rows_keeping rows t n) ≡ x.slots = same ∙ ap (λ (y : OnKeeper). y.slots) is in
+    let history : (keeper_after_keep k t v).history ≡ x.keeper.view.history = ap (λ (y : OnPlainKeeper). y.keeper.view.history) is in
+    let states : states_of (rows_keeping rows t n) ≡ x.keeper.slots = same ∙ ap (λ (y : OnPlainKeeper). y.keeper.slots) is in
     subst (λ (y : KeeperView). MayAttach a y (rows_keeping rows t n) (record { number = c + 1; slot = t; rec = rec })) (sym at) record {
       at = keeping_at_rest a k t v rest;
       agree = keeping_rows a k rows t n v rest our.rows lt number;
@@ -94,12 +94,12 @@ may_attach z a table k l its rows c t n rec v x our is at number vacant kind nam
       keeps = rw (kept, kind) refl;
       name = name;
       free = ap (is_taken (key_of_record rec)) states ∙ free;
-      room = rw (history, states) room;
-      number = let changes = our.changes in let long = ap (λ (h : List Change). length h) history in let was = ap (λ (y : OnKeeper). length y.view.history) is in omega (arith, changes, long, was);
+      room = rw (history, states) (subst (λ (z : Settings). length x.keeper.view.history + live_count x.keeper.slots + 2 ≤ z.change_limit) (sym (settings_are is)) room);
+      number = let changes = our.changes in let long = ap (λ (h : List Change). length h) history in let was = ap (λ (y : OnPlainKeeper). length y.keeper.view.history) is in omega (arith, changes, long, was);
     }
 
 -- the slot keeps the reference then
-pub keeps_it : (z : TableId) (a : Settings) (table : TableId) (k l : KeeperView) (its : Settings) (rows : List KeptSlot) (n t : ℕ) (v : ReferenceView) → IsOurKeeper z a table k its rows n → t < a.slots → l ≡ keeper_after_keep k t v → kept_at l.keeps t ≡ Some v.entry.number
-keeps_it z a table k l its rows n t v our lt change =
+pub keeps_it : (a : Settings) (k l : KeeperView) (rows : List KeptSlot) (n t : ℕ) (v : ReferenceView) → IsOurKeeper a k rows n → t < a.slots → l ≡ keeper_after_keep k t v → kept_at l.keeps t ≡ Some v.entry.number
+keeps_it a k l rows n t v our lt change =
     let size = our.view.sized.keeps in
     ap (λ (x : KeeperView). kept_at x.keeps t) change ∙ get_or-set_same k.keeps t (Some v.entry.number) None (omega (arith, lt, size))

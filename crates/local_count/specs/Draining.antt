@@ -13,7 +13,7 @@ use Rattle.registry_values.specs.Balances.{bias}
 use Rattle.cpu_words.specs.declared.view.KeeperView.{KeeperView}
 use Rattle.cpu_words.specs.declared.view.ReferenceView.{ReferenceView}
 use Rattle.cpu_words.specs.declared.view.View.TheVariants.{Keeper, Reference}
-use Rattle.cpu_words.specs.Deeds.{IsAttachedKeeping, IsFreedFrom}
+use Rattle.cpu_words.specs.KeeperLog.{IsAttachedKeeping, IsFreedFrom}
 use Rattle.cpu_words.specs.Draining.{keeper_after_join, HasKeptSub}
 use Rattle.cpu_words.specs.Keeping.{keeper_after_keep}
 use Rattle.cpu_words.specs.Rule.{Good, did}

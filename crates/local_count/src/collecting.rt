@@ -10,7 +10,7 @@ ghost use Rattle.protocol.specs.State.{mark_at, total_at};
 ghost use Rattle.cpu_words.specs.Domains.{AreWordsOf};
 ghost use Rattle.local_count.specs.Draining.{HasCollectedInto, AreHeld};
 
-use cpu_words::{Domain, Words, steps};
+use cpu_words::{Words, steps};
 use passive_list::Keeper;
 use registry_values::{BIAS, collected as collected_mark};
 
@@ -18,14 +18,15 @@ use registry_values::{BIAS, collected as collected_mark};
 /// From now on a release on that CPU comes back (`try_release`).
 /// Condition: the slot's entry is retired, all CPUs have passed and are clear for it (`Keeper::have_passed`, `Keeper::are_clear`), and
 /// this CPU's word isn't collected yet (`collected`).
-pub fn collect<D: Domain>(words: &Words, keeper: &mut Keeper<D>, slot: u8, cpu: u8)
-    requires words { AreWordsOf words.now D.table D.settings }
-    requires cpu { cpu < D.settings.cpus }
-    requires retired { (e : Entry) × (slot_at keeper.old.slots slot ≡ Retired e) }
-    requires passed { have_passed D.settings.cpus (slice_index_or keeper.old.view.marks slot []) ≡ true }
-    requires clear { are_clear D.settings.cpus (slice_index_or keeper.old.view.marks slot []) ≡ true }
-    requires uncollected { (mark_at keeper.old.view.marks slot cpu).collected ≡ false }
-    ensures change { HasCollectedInto keeper.old slot cpu keeper.new }
+pub fn collect(words: &Words, keeper: &mut Keeper, slot: u8, cpu: u8)
+    requires words { AreWordsOf words.now keeper.old.words.table keeper.old.words.settings }
+    requires cpu { cpu < keeper.old.words.settings.cpus }
+    requires retired { (e : Entry) × (slot_at keeper.old.keeper.slots slot ≡ Retired e) }
+    requires passed { have_passed keeper.old.words.settings.cpus (slice_index_or keeper.old.keeper.view.marks slot []) ≡ true }
+    requires clear { are_clear keeper.old.words.settings.cpus (slice_index_or keeper.old.keeper.view.marks slot []) ≡ true }
+    requires uncollected { (mark_at keeper.old.keeper.view.marks slot cpu).collected ≡ false }
+    ensures change { HasCollectedInto keeper.old.keeper slot cpu keeper.new.keeper }
+    ensures words { keeper.new.words ≡ keeper.old.words }
 {
     let word = steps::collect(words, &mut keeper.seat, slot, cpu);
     let mut row = keeper.rows[slot as usize];
@@ -37,9 +38,9 @@ pub fn collect<D: Domain>(words: &Words, keeper: &mut Keeper<D>, slot: u8, cpu: 
 
 /// Whether the keeper has collected the count word of a CPU for the retired entry in `slot`.
 /// Condition: the slot and the CPU are of the table.
-pub fn collected<D: Domain>(keeper: &Keeper<D>, slot: u8, cpu: u8) -> bool
-    requires { (slot < D.settings.slots) × (cpu < D.settings.cpus) }
-    ensures { result ≡ (mark_at keeper.now.view.marks slot cpu).collected }
+pub fn collected(keeper: &Keeper, slot: u8, cpu: u8) -> bool
+    requires { (slot < keeper.now.words.settings.slots) × (cpu < keeper.now.words.settings.cpus) }
+    ensures { result ≡ (mark_at keeper.now.keeper.view.marks slot cpu).collected }
 {
     keeper.mark(slot, cpu).collected
 }
@@ -48,14 +49,14 @@ pub fn collected<D: Domain>(keeper: &Keeper<D>, slot: u8, cpu: u8) -> bool
 /// no step: the keeper alone writes totals.
 /// Condition: the slot's entry is retired, and all CPUs have passed, are clear and collected for it (`Keeper::have_passed`,
 /// `Keeper::are_clear`, `Keeper::are_collected`).
-pub fn total<D: Domain>(words: &Words, keeper: &mut Keeper<D>, slot: u8) -> u64
-    requires words { AreWordsOf words.now D.table D.settings }
-    requires retired { (e : Entry) × (slot_at keeper.old.slots slot ≡ Retired e) }
-    requires passed { have_passed D.settings.cpus (slice_index_or keeper.old.view.marks slot []) ≡ true }
-    requires clear { are_clear D.settings.cpus (slice_index_or keeper.old.view.marks slot []) ≡ true }
-    requires collected { are_collected D.settings.cpus (slice_index_or keeper.old.view.marks slot []) ≡ true }
-    ensures value { result + bias ≡ total_at keeper.old.view.totals slot }
-    ensures held { AreHeld keeper.old.view slot result }
+pub fn total(words: &Words, keeper: &mut Keeper, slot: u8) -> u64
+    requires words { AreWordsOf words.now keeper.old.words.table keeper.old.words.settings }
+    requires retired { (e : Entry) × (slot_at keeper.old.keeper.slots slot ≡ Retired e) }
+    requires passed { have_passed keeper.old.words.settings.cpus (slice_index_or keeper.old.keeper.view.marks slot []) ≡ true }
+    requires clear { are_clear keeper.old.words.settings.cpus (slice_index_or keeper.old.keeper.view.marks slot []) ≡ true }
+    requires collected { are_collected keeper.old.words.settings.cpus (slice_index_or keeper.old.keeper.view.marks slot []) ≡ true }
+    ensures value { result + bias ≡ total_at keeper.old.keeper.view.totals slot }
+    ensures held { AreHeld keeper.old.keeper.view slot result }
     ensures same { keeper.new ≡ keeper.old }
 {
     // The contract alone speaks of the words.

@@ -9,17 +9,18 @@ ghost use Rattle.cpu_words.specs.Domains.{AreWordsOf};
 ghost use Rattle.passive_list.specs.Vacating.{IsDrainedOn};
 ghost use Rattle.local_count.specs.Draining.{HasFreed, kept_slot, place_of};
 
-use cpu_words::{Domain, Words, steps};
+use cpu_words::{Words, steps};
 use passive_list::{Keeper, KeptSlot, SlotState};
 use registry_values::has_number;
 
 /// Frees the slot of a retired and drained interface: the reference to its driver is given up in the same step.
 /// Condition: the slot is drained (`Keeper::is_drained`), and its entry is an interface.
-pub fn free_iface<D: Domain>(words: &Words, keeper: &mut Keeper<D>, slot: u8)
-    requires words { AreWordsOf words.now D.table D.settings }
-    requires drained { IsDrainedOn keeper.old slot }
-    requires iface { (e : Entry) × (slot_at keeper.old.slots slot ≡ Retired e) × (e.rec.kind ≡ Iface) }
-    ensures change { HasFreed keeper.old slot keeper.new }
+pub fn free_iface(words: &Words, keeper: &mut Keeper, slot: u8)
+    requires words { AreWordsOf words.now keeper.old.words.table keeper.old.words.settings }
+    requires drained { IsDrainedOn keeper.old.keeper slot }
+    requires iface { (e : Entry) × (slot_at keeper.old.keeper.slots slot ≡ Retired e) × (e.rec.kind ≡ Iface) }
+    ensures change { HasFreed keeper.old.keeper slot keeper.new.keeper }
+    ensures words { keeper.new.words ≡ keeper.old.words }
 {
     let row = keeper.rows[slot as usize];
     let Some(driver_slot) = kept_slot(row.keeps, &keeper.rows) else {

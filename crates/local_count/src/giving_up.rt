@@ -13,21 +13,24 @@ use passive_list::Keeper;
 /// Releases a local reference under the interlock: the total of its entry's slot is one less.
 /// Condition: some count word of its slot was collected. `try_release` found it so where it handed the reference back; else the keeper
 /// has an entry with the reference's number retired in a slot (`Keeper::slot`), and `collected` tells of some CPU.
-pub fn release_under<D: Domain>(words: &Words, keeper: &mut Keeper<D>, reference: LocalRef<D>)
-    requires words { AreWordsOf words.now D.table D.settings }
-    requires collected { IsFoundCollected keeper.old.slots keeper.old.view.marks reference }
-    ensures change { HasGivenUp keeper.old reference keeper.new }
+pub fn release_under<D: Domain>(words: &Words, keeper: &mut Keeper, reference: LocalRef<D>)
+    requires words { AreWordsOf words.now keeper.old.words.table keeper.old.words.settings }
+    requires named { keeper.old.words.table ≡ D.table }
+    requires collected { IsFoundCollected keeper.old.keeper.slots keeper.old.keeper.view.marks reference }
+    ensures change { HasGivenUp keeper.old.keeper reference keeper.new.keeper }
+    ensures words { keeper.new.words ≡ keeper.old.words }
 {
     let LocalRef { plain, domain: _ } = reference;
-    give_up(words, keeper, plain);
+    release_under_on(words, keeper, plain);
 }
 
-/// The total of the reference's slot is one less, and the reference is gone.
-fn give_up<D: Domain>(words: &Words, keeper: &mut Keeper<D>, reference: PlainRef)
-    requires words { AreWordsOf words.now D.table D.settings }
-    requires reference { reference.table ≡ D.table }
-    requires collected { IsFoundCollected keeper.old.slots keeper.old.view.marks reference.reference }
-    ensures change { HasGivenUp keeper.old reference.reference keeper.new }
+/// `release_under` where no type names the reference's table. Condition: it is the keeper's.
+pub fn release_under_on(words: &Words, keeper: &mut Keeper, reference: PlainRef)
+    requires words { AreWordsOf words.now keeper.old.words.table keeper.old.words.settings }
+    requires reference { reference.table ≡ keeper.old.words.table }
+    requires collected { IsFoundCollected keeper.old.keeper.slots keeper.old.keeper.view.marks reference.reference }
+    ensures change { HasGivenUp keeper.old.keeper reference.reference keeper.new.keeper }
+    ensures words { keeper.new.words ≡ keeper.old.words }
 {
     let PlainRef {
         seat,

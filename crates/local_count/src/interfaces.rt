@@ -22,45 +22,48 @@ use registry_values::{Entry, Record};
 /// for the detach of each live entry, the new one too.
 pub fn publish_iface<D: Domain>(
     words: &Words,
-    keeper: &mut Keeper<D>,
+    keeper: &mut Keeper,
     slot: u8,
     rec: Record,
     reference: LocalRef<D>,
 ) -> Entry
-    requires words { AreWordsOf words.now D.table D.settings }
-    requires vacant { (slot < D.settings.slots) × (slot_at keeper.old.slots slot ≡ Vacant) }
-    requires nothing { kept_at keeper.old.view.keeps slot ≡ None }
+    requires words { AreWordsOf words.now keeper.old.words.table keeper.old.words.settings }
+    requires named { keeper.old.words.table ≡ D.table }
+    requires vacant { (slot < keeper.old.words.settings.slots) × (slot_at keeper.old.keeper.slots slot ≡ Vacant) }
+    requires nothing { kept_at keeper.old.keeper.view.keeps slot ≡ None }
     requires kind { rec.kind ≡ Iface }
     requires driver { reference.entry.rec.kind ≡ Driver }
     requires name { IsTrue (is_lawful rec.name) }
-    requires free { is_taken (key_of_record rec) keeper.old.slots ≡ false }
-    requires room { length keeper.old.view.history + live_count keeper.old.slots + 2 ≤ D.settings.change_limit }
-    ensures entry { result ≡ record { number = suc (length keeper.old.view.history); slot = slot; rec = rec } }
-    ensures change { HasAttachedKeeping keeper.old reference result keeper.new }
+    requires free { is_taken (key_of_record rec) keeper.old.keeper.slots ≡ false }
+    requires room { length keeper.old.keeper.view.history + live_count keeper.old.keeper.slots + 2 ≤ keeper.old.words.settings.change_limit }
+    ensures entry { result ≡ record { number = suc (length keeper.old.keeper.view.history); slot = slot; rec = rec } }
+    ensures change { HasAttachedKeeping keeper.old.keeper reference result keeper.new.keeper }
+    ensures words { keeper.new.words ≡ keeper.old.words }
 {
     let LocalRef { plain, domain: _ } = reference;
-    publish_keeping(words, keeper, slot, rec, plain)
+    publish_iface_on(words, keeper, slot, rec, plain)
 }
 
-/// Publishes an interface in `slot`, which keeps the reference.
-fn publish_keeping<D: Domain>(
+/// `publish_iface` where no type names the reference's table. Condition: it is the keeper's, beside the others.
+pub fn publish_iface_on(
     words: &Words,
-    keeper: &mut Keeper<D>,
+    keeper: &mut Keeper,
     slot: u8,
     rec: Record,
     reference: PlainRef,
 ) -> Entry
-    requires words { AreWordsOf words.now D.table D.settings }
-    requires reference { reference.table ≡ D.table }
-    requires vacant { (slot < D.settings.slots) × (slot_at keeper.old.slots slot ≡ Vacant) }
-    requires nothing { kept_at keeper.old.view.keeps slot ≡ None }
+    requires words { AreWordsOf words.now keeper.old.words.table keeper.old.words.settings }
+    requires reference { reference.table ≡ keeper.old.words.table }
+    requires vacant { (slot < keeper.old.words.settings.slots) × (slot_at keeper.old.keeper.slots slot ≡ Vacant) }
+    requires nothing { kept_at keeper.old.keeper.view.keeps slot ≡ None }
     requires kind { rec.kind ≡ Iface }
     requires driver { reference.reference.entry.rec.kind ≡ Driver }
     requires name { IsTrue (is_lawful rec.name) }
-    requires free { is_taken (key_of_record rec) keeper.old.slots ≡ false }
-    requires room { length keeper.old.view.history + live_count keeper.old.slots + 2 ≤ D.settings.change_limit }
-    ensures entry { result ≡ record { number = suc (length keeper.old.view.history); slot = slot; rec = rec } }
-    ensures change { HasAttachedKeeping keeper.old reference.reference result keeper.new }
+    requires free { is_taken (key_of_record rec) keeper.old.keeper.slots ≡ false }
+    requires room { length keeper.old.keeper.view.history + live_count keeper.old.keeper.slots + 2 ≤ keeper.old.words.settings.change_limit }
+    ensures entry { result ≡ record { number = suc (length keeper.old.keeper.view.history); slot = slot; rec = rec } }
+    ensures change { HasAttachedKeeping keeper.old.keeper reference.reference result keeper.new.keeper }
+    ensures words { keeper.new.words ≡ keeper.old.words }
 {
     let PlainRef {
         seat,

@@ -15,15 +15,15 @@ use Rattle.registry_values.specs.declared.entry.Record.{Record}
 use Rattle.registry_values.specs.declared.settings.Settings.{Settings}
 use Rattle.registry_values.specs.declared.slot.Slot.{Slot}
 use Rattle.registry_values.specs.declared.slot.Slot.TheVariants.{Vacant, Live, Retired}
-use Rattle.registry_values.specs.Slots.{is_plain, key_of_record, is_iface, is_taken, live_count, slot_at}
+use Rattle.registry_values.specs.Slots.{is_available, key_of_record, is_iface, is_taken, live_count, slot_at}
 use Rattle.registry_values.proofs.Answers.{given_tells}
 use Rattle.protocol.specs.declared.event.Event.TheVariants.{Publish, Tell}
 use Rattle.protocol.specs.declared.event.Reply.TheVariants.{Done}
 use Rattle.protocol.specs.Events.{keeps_rightly}
 use Rattle.protocol.specs.History.{after_change}
 use Rattle.protocol.specs.State.{kept_at}
-use Rattle.cpu_words.specs.declared.view.Deed.{Deed}
-use Rattle.cpu_words.specs.Deeds.{IsAttachedKeeping}
+use Rattle.cpu_words.specs.declared.view.LogItem.{LogItem}
+use Rattle.cpu_words.specs.KeeperLog.{IsAttachedKeeping}
 use Rattle.cpu_words.specs.Rule.{did}
 use Rattle.cpu_words.specs.declared.view.ReferenceView.{ReferenceView}
 use Rattle.passive_list.specs.Cpus.{OnCpu}
@@ -31,17 +31,17 @@ use Rattle.passive_list.specs.Keepers.{OnKeeper}
 use Rattle.passive_list.specs.Notes.{HasHeardOn}
 use Rattle.passive_list.specs.Publishing.{HasAttached}
 use Rattle.local_count.specs.Draining.{HasAttachedKeeping}
-use Rattle.name_registry.specs.Attaching.{given_entry, plain_slot, room_of}
+use Rattle.name_registry.specs.Attaching.{given_entry, first_fit, room_of}
 use Rattle.name_registry.specs.Meeting.{keeper_after_hear, keeper_after_tell, HasSeenAttach}
 use Rattle.name_registry.proofs.Heard.{seen_attach}
 
 -- The entry that is given
 
-plain_parts : (x : Slot) (kept : Option ℕ) → is_plain (x, kept) ≡ true → (x ≡ Vacant) × (kept ≡ None)
-plain_parts Vacant None is = (refl, refl)
-plain_parts Vacant (Some n) is = absurd (let q : ◌≡◌ {A = Bool} false true = is in cc)
-plain_parts (Live e) kept is = absurd (let q : ◌≡◌ {A = Bool} false true = is in cc)
-plain_parts (Retired e) kept is = absurd (let q : ◌≡◌ {A = Bool} false true = is in cc)
+available_parts : (x : Slot) (kept : Option ℕ) → is_available (x, kept) ≡ true → (x ≡ Vacant) × (kept ≡ None)
+available_parts Vacant None is = (refl, refl)
+available_parts Vacant (Some n) is = absurd (let q : ◌≡◌ {A = Bool} false true = is in cc)
+available_parts (Live e) kept is = absurd (let q : ◌≡◌ {A = Bool} false true = is in cc)
+available_parts (Retired e) kept is = absurd (let q : ◌≡◌ {A = Bool} false true = is in cc)
 
 -- what is so of the entry that was given, where the keeper m has heard a CPU since: it may be published in its slot
 pub record MayTake (a : Settings) (m : OnKeeper) (rec : Record) (e : Entry) : Type 0 where
@@ -54,12 +54,12 @@ pub record MayTake (a : Settings) (m : OnKeeper) (rec : Record) (e : Entry) : Ty
 pub given_takes : (a : Settings) (k : OnKeeper) (rec : Record) (e : Entry) → given_entry a k rec ≡ Ok e → MayTake a k rec e
 given_takes a k rec e is =
     let keeps = k.view.keeps in
-    let told = given_tells (is_taken (key_of_record rec) k.slots) (plain_slot k) (room_of a k) rec e is in
-    let at = position-Some is_plain (zip k.slots keeps) e.slot (Vacant, None) told.place in
+    let told = given_tells (is_taken (key_of_record rec) k.slots) (first_fit k) (room_of a k) rec e is in
+    let at = position-Some is_available (zip k.slots keeps) e.slot (Vacant, None) told.place in
     let size = length-zip k.slots keeps in
     let lt = at.0 in
     let pair = get_or-zip k.slots keeps e.slot (Vacant, None) (omega (arith, lt, size)) (omega (arith, lt, size)) in
-    let parts = plain_parts (slot_at k.slots e.slot) (kept_at keeps e.slot) (ap is_plain (sym pair) ∙ at.1) in
+    let parts = available_parts (slot_at k.slots e.slot) (kept_at keeps e.slot) (ap is_available (sym pair) ∙ at.1) in
     record {
       vacant = parts.0;
       nothing = parts.1;
@@ -107,11 +107,11 @@ attach_met a x m n e b y heard same seen number after hears = (
 pub attached_told : (a : OnKeeper) (e : Entry) (b : OnKeeper) → HasAttached a e b → HasAttached a e (keeper_after_tell b)
 attached_told a e b has = record { entry = has.entry; slots = has.slots }
 
-pub keeping_more : (t n d : ℕ) (log later : List Deed) → IsPrefix log later → IsAttachedKeeping t n d log → IsAttachedKeeping t n d later
+pub keeping_more : (t n d : ℕ) (log later : List LogItem) → IsPrefix log later → IsAttachedKeeping t n d log → IsAttachedKeeping t n d later
 keeping_more t n d log later pre is = record {
   before = is.before;
   after = is.after ++ pre.0;
-  are = sym pre.1 ∙ (ap (λ (l : List Deed). l ++ pre.0) is.are ∙ append_assoc is.before (record { event = Publish t; reply = Done } ∷ is.after) pre.0);
+  are = sym pre.1 ∙ (ap (λ (l : List LogItem). l ++ pre.0) is.are ∙ append_assoc is.before (record { event = Publish t; reply = Done } ∷ is.after) pre.0);
   number = is.number;
   keeps = is.keeps;
 }
@@ -120,7 +120,7 @@ pub keeping_told : (a : OnKeeper) (v : ReferenceView) (e : Entry) (b : OnKeeper)
 keeping_told a v e b has = record { kept = has.kept; attached = attached_told _ e b has.attached; keeping = keeping_more e.slot e.number v.entry.number b.log (b.log ++ did (Tell None) Done) (did (Tell None) Done, refl) has.keeping }
 
 -- what the keeper did before it told its log is in what the CPU knows
-pub log_told : (b told : OnKeeper) (y : OnCpu) → told ≡ keeper_after_tell b → IsPrefix told.log y.deeds → IsPrefix b.log y.deeds
+pub log_told : (b told : OnKeeper) (y : OnCpu) → told ≡ keeper_after_tell b → IsPrefix told.log y.known_log → IsPrefix b.log y.known_log
 log_told b told y is pre =
     let log : told.log ≡ b.log ++ did (Tell None) Done = ap (λ (k : OnKeeper). k.log) is in
-    (did (Tell None) Done ++ pre.0, sym (append_assoc b.log (did (Tell None) Done) pre.0) ∙ (ap (λ (l : List Deed). l ++ pre.0) (sym log) ∙ pre.1))
+    (did (Tell None) Done ++ pre.0, sym (append_assoc b.log (did (Tell None) Done) pre.0) ∙ (ap (λ (l : List LogItem). l ++ pre.0) (sym log) ∙ pre.1))

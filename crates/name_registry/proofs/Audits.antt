@@ -10,7 +10,6 @@ use mathlib.Core.Logic.{dite}
 use mathlib.Core.Option.{some, some-injective, some-ne-none}
 use native.Mathlib.Decide.{ℕ_discrete}
 use lib.ListN.{get_elem?}
-use Rattle.atomic_table.specs.Seated.{TableId}
 use Rattle.registry_values.specs.declared.balance.Balance.{Balance}
 use Rattle.registry_values.specs.declared.entry.Entry.{Entry}
 use Rattle.registry_values.specs.declared.entry.Change.TheVariants.{Attach}
@@ -25,7 +24,7 @@ use Rattle.registry_values.proofs.Fit.{ranges}
 use Rattle.protocol.proofs.history.History.{at_within}
 use Rattle.protocol.proofs.slots.Occupied.{attached_in}
 use Rattle.cpu_words.specs.declared.view.CpuView.{CpuView}
-use Rattle.cpu_words.specs.declared.view.Deed.{Deed}
+use Rattle.cpu_words.specs.declared.view.LogItem.{LogItem}
 use Rattle.cpu_words.specs.declared.view.KeeperView.{KeeperView}
 use Rattle.cpu_words.specs.Views.{number_at}
 use Rattle.cpu_words.proofs.by_keeper.KeeperSees.{seen_by_keeper}
@@ -62,17 +61,17 @@ pub record Has (a : Settings) (x : OnKeeper) (rows : List KeptSlot) (t n : ℕ) 
   pub high : total_at x.view.totals t ≤ bias + 2 ^ 43
 
 -- an entry that the keeper has in a slot is there in its view
-pub in_view : (z : TableId) (a : Settings) (table : TableId) (k : KeeperView) (its : Settings) (rows : List KeptSlot) (n t : ℕ) (e : Entry) → IsOurKeeper z a table k its rows n → IsIn e (slot_at (states_of rows) t)
+pub in_view : (a : Settings) (k : KeeperView) (rows : List KeptSlot) (n t : ℕ) (e : Entry) → IsOurKeeper a k rows n → IsIn e (slot_at (states_of rows) t)
     → (t < a.slots) × IsIn e (slot_at k.slots t)
-in_view z a table k its rows n t e our is = ⊎_elim
+in_view a k rows n t e our is = ⊎_elim
     (λ (live : slot_at (states_of rows) t ≡ Live e). let here = live_in a k rows t e our.rows live in (here.0, inl here.1))
     (λ (gone : slot_at (states_of rows) t ≡ Retired e). let here = retired_in a k rows t e our.rows gone in (here.0, inr here.1))
     is
 
-pub has : {log : List Deed} (z : TableId) (a : Settings) (table : TableId) (k : KeeperView) (its : Settings) (rows : List KeptSlot) (n : ℕ) (x : OnKeeper) (t m : ℕ) → IsOurKeeper z a table k its rows n → record { view = k; slots = states_of rows; log = log } ≡ x → Occupies x t m → Has a x rows t m
-has z a table k its rows n x t m our is there =
+pub has : {log : List LogItem} (a : Settings) (k : KeeperView) (rows : List KeptSlot) (n : ℕ) (x : OnKeeper) (t m : ℕ) → IsOurKeeper a k rows n → record { view = k; slots = states_of rows; log = log } ≡ x → Occupies x t m → Has a x rows t m
+has a k rows n x t m our is there =
     let e = there.0 in
-    let here = in_view z a table k its rows n t e our (subst (λ (y : OnKeeper). IsIn e (slot_at y.slots t)) (sym is) there.1) in
+    let here = in_view a k rows n t e our (subst (λ (y : OnKeeper). IsIn e (slot_at y.slots t)) (sym is) there.1) in
     let g = our.is_shown.g in
     let good = our.is_shown.good in
     let seen = seen_by_keeper g k good our.is_shown.shown in
@@ -95,10 +94,10 @@ has z a table k its rows n x t m our is there =
 -- Of one CPU
 
 -- what its place says of a number is its net count, where it met it there last
-pub net_is : (x : CpuView) (depth made : ℕ) (deeds : List Deed) (places : List NumberedCount) (t n w : ℕ) → NetAgree x places → 0 < n → w ≡ net_by (place_at places t) n → less_bias w ≡ net_met t n (record { view = x; depth = depth; made = made; deeds = deeds })
-net_is x depth made deeds places t n w agree begun is =
+pub net_is : (x : CpuView) (depth made : ℕ) (known_log : List LogItem) (places : List NumberedCount) (t n w : ℕ) → NetAgree x places → 0 < n → w ≡ net_by (place_at places t) n → less_bias w ≡ net_met t n (record { view = x; depth = depth; made = made; known_log = known_log })
+net_is x depth made known_log places t n w agree begun is =
     let place = place_count x places t n w agree begun is in
-    let net = net_of n (record { view = x; depth = depth; made = made; deeds = deeds }) in
+    let net = net_of n (record { view = x; depth = depth; made = made; known_log = known_log }) in
     dite (ℕ_discrete (number_at x.met t) n)
     (λ (same : number_at x.met t ≡ n). omega (arith, ints, place.met same) ∙ sym (ap (λ b. cond b net (pos 0)) (eq-eqb (number_at x.met t) n same)))
     (λ (off : number_at x.met t ≢ n). omega (arith, ints, place.other off) ∙ sym (ap (λ b. cond b net (pos 0)) (ne_eqb (number_at x.met t) n off)))

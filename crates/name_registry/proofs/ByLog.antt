@@ -14,9 +14,9 @@ use Rattle.registry_values.specs.Slots.{is_retired, slot_at}
 use Rattle.protocol.specs.declared.state.Due.TheVariants.{Rest}
 use Rattle.protocol.specs.Invariant.{IsIn, addition_due_at, is_adding_at, subtraction_due_at}
 use Rattle.protocol.specs.State.{State, count_at, mark_at, total_at}
-use Rattle.cpu_words.specs.declared.view.Deed.{Deed}
-use Rattle.cpu_words.specs.Deeds.{given_up, is_drawn, occupant, occupant_of, sum_collected, word_collected, word_if, words_collected}
-use Rattle.cpu_words.specs.Notes.{keeper_with_heard}
+use Rattle.cpu_words.specs.declared.view.LogItem.{LogItem}
+use Rattle.cpu_words.specs.KeeperLog.{given_up, is_drawn, occupant, occupant_of, sum_collected, word_collected, word_if, words_collected}
+use Rattle.cpu_words.specs.Notes.{keeper_with_note}
 use Rattle.cpu_words.specs.Views.{number_at}
 use Rattle.cpu_words.proofs.by_keeper.KeeperSees.{SeenByKeeper, seen_by_keeper}
 use Rattle.cpu_words.proofs.logs.Totalled.{given_by_log}
@@ -34,11 +34,11 @@ module _ (a : Settings) (k : OnKeeper) (xs ys : List OnCpu) (known : IsKeeperOf 
   abbrev g : State
   g = alike.keeper.1.g
 
-  abbrev pub log : List Deed
+  abbrev pub log : List LogItem
   log = alike.log
 
-  seen : SeenByKeeper alike.keeper.1.g (keeper_with_heard k.view alike.keeper.0)
-  seen = seen_by_keeper alike.keeper.1.g (keeper_with_heard k.view alike.keeper.0) alike.keeper.1.good alike.keeper.1.shown
+  seen : SeenByKeeper alike.keeper.1.g (keeper_with_note k.view alike.keeper.0)
+  seen = seen_by_keeper alike.keeper.1.g (keeper_with_note k.view alike.keeper.0) alike.keeper.1.good alike.keeper.1.shown
 
   -- a slot of the keeper's is the state's
   same_slot : (t : ℕ) → slot_at k.slots t ≡ slot_at g.slots t
@@ -69,7 +69,7 @@ module _ (a : Settings) (k : OnKeeper) (xs ys : List OnCpu) (known : IsKeeperOf 
   pub audited_is : (t : ℕ) (e : Entry) → IsIn e (slot_at k.slots t) → audited log xs e.number t ≡ tally_of k xs e.number t
   audited_is t e is =
       let has : occupant t log ≡ Some e.number = by_log t ∙ in_occupant e (slot_at k.slots t) is in
-      let given : number_at k.view.given_up e.number ≡ given_up e.number log = given_by_log log g (keeper_with_heard k.view alike.keeper.0) t e.number alike.keeper.1.good alike.keeper.1.shown alike.keeper.1.counts alike.keeper.1.totals (sym seen.due ∙ known.view.rest) has in
+      let given : number_at k.view.given_up e.number ≡ given_up e.number log = given_by_log log g (keeper_with_note k.view alike.keeper.0) t e.number alike.keeper.1.good alike.keeper.1.shown alike.keeper.1.counts alike.keeper.1.totals (sym seen.due ∙ known.view.rest) has in
       let locals = locals_same (local_in log t e.number) (local_of k t e.number) xs (λ c x at. local t e.number x) in
       let held : tally_in log xs e.number ≡ (tally_of k xs e.number t).held =
       ap (λ (m : ℕ). pos (sum_by (acquired_of e.number) xs) -ℤ pos (sum_by (released_of e.number) xs + m)) (sym given) ∙ sym (alike_held a k xs ys known all alike t e is) in

@@ -14,7 +14,6 @@ use Rattle.registry_values.specs.Answers as answers
 use Rattle.registry_values.specs.Slots.{is_iface, is_retired_as, slot_at}
 use Rattle.registry_values.proofs.Answers.{attach_tells}
 use Rattle.registry_values.proofs.Fit.{ranges}
-use Rattle.atomic_table.specs.Seated.{TableId}
 use Rattle.protocol.specs.History.{after_change}
 use Rattle.cpu_words.specs.declared.view.KeeperView.{KeeperView}
 use Rattle.cpu_words.specs.declared.view.ReferenceView.{ReferenceView}
@@ -37,7 +36,7 @@ use Rattle.name_registry.proofs.Attached.{given_takes}
 
 -- a CPU that has learned, and whose calls are counted
 counted : (n : ℕ) (x y : OnCpu) → HasLearned x y → HasLearned x (record y { made = n })
-counted n x y has = record { pass = has.pass; deeds = has.deeds; is = ap (λ (o : OnCpu). record o { made = n }) has.is }
+counted n x y has = record { pass = has.pass; known_log = has.known_log; is = ap (λ (o : OnCpu). record o { made = n }) has.is }
 
 pub attach_counted : (x y z : OnCpu) (e : Entry) (n : ℕ) → z ≡ record y { made = n } → HasLearned x y × HasSeenAttach x y e → HasLearned x z × HasSeenAttach x z e
 attach_counted x y z e n is has = subst (λ (o : OnCpu). HasLearned x o × HasSeenAttach x o e) (sym is) (counted n x y has.0, record { later = has.1.later; attached = has.1.attached })
@@ -69,8 +68,8 @@ pub detach_numbered : (k : OnKeeper) (x : OnCpu) (key : Key) (e : Entry) → len
 detach_numbered k x key e short answer = let begun = answer.1.0.begun in omega (arith, begun, short)
 
 -- what the keeper's type keeps of that
-pub few_changes : (z : TableId) (a : Settings) (table : TableId) (k : KeeperView) (its : Settings) (rows : List KeptSlot) (n : ℕ) → IsOurKeeper z a table k its rows n → (a.change_limit ≤ 1000000) × (length k.history ≤ 1000000)
-few_changes z a table k its rows n our =
+pub few_changes : (a : Settings) (k : KeeperView) (rows : List KeptSlot) (n : ℕ) → IsOurKeeper a k rows n → (a.change_limit ≤ 1000000) × (length k.history ≤ 1000000)
+few_changes a k rows n our =
     let most = (ranges a our.view.fit).changes in
     let room = our.view.room in (most, omega (arith, most, room))
 

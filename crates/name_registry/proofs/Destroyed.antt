@@ -14,8 +14,8 @@ use Rattle.registry_values.specs.Stages.{IsObstacle, destroy_result, destroy_res
 use Rattle.registry_values.proofs.Slots.{retired_slot_tells}
 use Rattle.protocol.specs.declared.event.Event.TheVariants.{Tell}
 use Rattle.protocol.specs.declared.event.Reply.TheVariants.{Done}
-use Rattle.cpu_words.specs.declared.view.Deed.{Deed}
-use Rattle.cpu_words.specs.Deeds.{IsFreedFrom}
+use Rattle.cpu_words.specs.declared.view.LogItem.{LogItem}
+use Rattle.cpu_words.specs.KeeperLog.{IsFreedFrom}
 use Rattle.cpu_words.specs.Rule.{did}
 use Rattle.passive_list.specs.Cpus.{OnCpu}
 use Rattle.passive_list.specs.Keepers.{OnKeeper}
@@ -87,12 +87,12 @@ destroys_inside z number turns inside x in_ = subst (λ (b : Bool). DestroysOuts
 
 -- What the CPU knows then: the entry is gone from its slot
 
-pub freed_more : (t n : ℕ) (log later : List Deed) → IsPrefix log later → IsFreedFrom t n log → IsFreedFrom t n later
+pub freed_more : (t n : ℕ) (log later : List LogItem) → IsPrefix log later → IsFreedFrom t n log → IsFreedFrom t n later
 freed_more t n log later pre is = record {
   before = is.before;
-  deed = is.deed;
+  item = is.item;
   after = is.after ++ pre.0;
-  are = sym pre.1 ∙ (ap (λ (l : List Deed). l ++ pre.0) is.are ∙ append_assoc is.before (is.deed ∷ is.after) pre.0);
+  are = sym pre.1 ∙ (ap (λ (l : List LogItem). l ++ pre.0) is.are ∙ append_assoc is.before (is.item ∷ is.after) pre.0);
   detached = is.detached;
   freed = is.freed;
 }
@@ -105,23 +105,23 @@ advanced_freed a n t b has =
     let freed : IsFreedFrom has.0 told.0.number b.log = ended_freed meets.between has.0 b told.0 meets.ended at in
     subst (λ (p : ℕ × ℕ). IsFreedFrom p.0 p.1 b.log) (λ k. (sym has.2.0 k, told.2 k)) freed
 
-turn_freed : (z : Settings) (n t : ℕ) (x y : OnCpu) → SomeAdvancedFor z n x (Ok (Freed t)) y → IsFreedFrom t n y.deeds
+turn_freed : (z : Settings) (n t : ℕ) (x y : OnCpu) → SomeAdvancedFor z n x (Ok (Freed t)) y → IsFreedFrom t n y.known_log
 turn_freed z n t x y is =
     let turn = is.2 in
-    freed_more t n turn.log y.deeds turn.heard (subst (λ (u : ℕ). IsFreedFrom u n turn.log) (sym turn.answers.2.0) turn.answers.2.1)
+    freed_more t n turn.log y.known_log turn.told (subst (λ (u : ℕ). IsFreedFrom u n turn.log) (sym turn.answers.2.0) turn.answers.2.1)
 
-stage_gone : (z : Settings) (n : ℕ) (x y : OnCpu) (stage : Stage) → SomeAdvancedFor z n x (Ok stage) y → IfOk (destroy_result stage) (λ t. IsFreedFrom t n y.deeds)
+stage_gone : (z : Settings) (n : ℕ) (x y : OnCpu) (stage : Stage) → SomeAdvancedFor z n x (Ok stage) y → IfOk (destroy_result stage) (λ t. IsFreedFrom t n y.known_log)
 stage_gone z n x y (Grace c) is = tt
 stage_gone z n x y (Passive c) is = tt
 stage_gone z n x y (Local k) is = tt
 stage_gone z n x y (Freed t) is = turn_freed z n t x y is
 
-pub met_gone : (z : Settings) (n : ℕ) (x y : OnCpu) (met : Result Stage Refusal) → SomeAdvancedFor z n x met y → IfOk (destroy_result_of met) (λ t. IsFreedFrom t n y.deeds)
+pub met_gone : (z : Settings) (n : ℕ) (x y : OnCpu) (met : Result Stage Refusal) → SomeAdvancedFor z n x met y → IfOk (destroy_result_of met) (λ t. IsFreedFrom t n y.known_log)
 met_gone z n x y (Ok stage) is = stage_gone z n x y stage is
 met_gone z n x y (Err refusal) is = tt
 
-pub destroyed_gone : (z : Settings) (n turns : ℕ) (x y : OnCpu) (answer : Result ℕ Refusal) → HasDestroyed z n turns x answer y → IfOk answer (λ t. IsFreedFrom t n y.deeds)
-destroyed_gone z n turns x y answer is = subst (λ (r : Result ℕ Refusal). IfOk r (λ t. IsFreedFrom t n y.deeds)) (sym is.told) (met_gone z n is.last.0 y is.met is.last.2)
+pub destroyed_gone : (z : Settings) (n turns : ℕ) (x y : OnCpu) (answer : Result ℕ Refusal) → HasDestroyed z n turns x answer y → IfOk answer (λ t. IsFreedFrom t n y.known_log)
+destroyed_gone z n turns x y answer is = subst (λ (r : Result ℕ Refusal). IfOk r (λ t. IsFreedFrom t n y.known_log)) (sym is.told) (met_gone z n is.last.0 y is.met is.last.2)
 
 -- What else changed of the CPU
 
@@ -142,10 +142,10 @@ turn_since : (z : Settings) (n : ℕ) (x m : OnCpu) (answer : Result Stage Refus
 turn_since z n x m answer y learns turn = record {
   begin = turn.begin;
   log = turn.log;
-  known = prefix_on _ _ _ learns.0.deeds turn.known;
+  known = prefix_on _ _ _ learns.0.known_log turn.known;
   seen = let less = prefix_short x.view.pass m.view.pass learns.0.pass in omega (arith, less, turn.seen);
   on = turn.on;
-  heard = turn.heard;
+  told = turn.told;
   answers = turn.answers;
 }
 

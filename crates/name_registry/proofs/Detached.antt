@@ -2,7 +2,6 @@
 use Rattle.std.proofs.Common.{◌≡◌, ◌∙◌, inl, ℕ, Bool, true, false, Option, Some, None, Result, Ok, Err, position, List, length, sym, ap, subst}
 use Rattle.std.proofs.lemmas.List.Quantifiers.{position-Some}
 use mathlib.Core.List.{IsPrefix}
-use Rattle.atomic_table.specs.Seated.{TableId}
 use Rattle.registry_values.specs.declared.entry.Change.{Change}
 use Rattle.registry_values.specs.declared.entry.Entry.{Entry}
 use Rattle.registry_values.specs.declared.refusal.Refusal.{Refusal}
@@ -18,7 +17,7 @@ use Rattle.registry_values.proofs.Slots.{key_same, live_tells}
 use Rattle.protocol.proofs.slots.Numbers.{position_fails}
 use Rattle.protocol.proofs.slots.Occupied.{in_within, live_one}
 use Rattle.cpu_words.specs.declared.view.KeeperView.{KeeperView}
-use Rattle.cpu_words.specs.declared.view.Deed.{Deed}
+use Rattle.cpu_words.specs.declared.view.LogItem.{LogItem}
 use Rattle.cpu_words.proofs.by_keeper.KeeperSees.{seen_by_keeper}
 use Rattle.passive_list.specs.declared.keeper.KeptSlot.{KeptSlot}
 use Rattle.passive_list.specs.Cpus.{OnCpu}
@@ -38,8 +37,8 @@ pub record ShowsLive (x : OnKeeper) : Type 0 where
   pub placed : (e : Entry) → IsLiveAt x.view.history (length x.view.history) e → slot_at x.slots e.slot ≡ Live e
 
 -- by any state of the core that shows its view
-pub keeper_shows : {log : List Deed} (z : TableId) (a : Settings) (table : TableId) (k : KeeperView) (its : Settings) (rows : List KeptSlot) (n : ℕ) (x : OnKeeper) → IsOurKeeper z a table k its rows n → record { view = k; slots = states_of rows; log = log } ≡ x → ShowsLive x
-keeper_shows z a table k its rows n x our is =
+pub keeper_shows : {log : List LogItem} (a : Settings) (k : KeeperView) (rows : List KeptSlot) (n : ℕ) (x : OnKeeper) → IsOurKeeper a k rows n → record { view = k; slots = states_of rows; log = log } ≡ x → ShowsLive x
+keeper_shows a k rows n x our is =
     let p = our.is_shown in
     let seen = seen_by_keeper p.g k p.good p.shown in
     let shown = p.good.holds.slots in

@@ -1,4 +1,4 @@
--- How an audit lets all know the same of the keeper's deeds: a note goes from the keeper through all CPUs, and back.
+-- How an audit lets all know the same of the keeper's log: a note goes from the keeper through all CPUs, and back.
 use Rattle.std.proofs.Common.{append_assoc, ◌≡◌, ◌≢◌, ⊎_elim, ℕ, zero, suc, ◌+◌, ◌<◌, ◌≤◌, ℤ, List, [], ◌∷◌, ◌++◌, length, map, set, length-set, refl, sym, ap, ◌∙◌, subst, arith}
 use Rattle.std.proofs.lemmas.Bool.{cases_eq}
 use Rattle.std.proofs.lemmas.List.{append-nil, length-append}
@@ -8,11 +8,11 @@ use lib.ListN.{get_elem?}
 use Rattle.atomic_table.proofs.Lists.{at_set}
 use Rattle.registry_values.specs.declared.entry.Change.{Change}
 use Rattle.registry_values.specs.declared.settings.Settings.{Settings}
-use Rattle.cpu_words.specs.declared.view.Deed.{Deed}
+use Rattle.cpu_words.specs.declared.view.LogItem.{LogItem}
 use Rattle.cpu_words.specs.declared.view.KeeperView.{KeeperView}
 use Rattle.cpu_words.specs.declared.view.View.TheVariants.{Cpu, Keeper}
-use Rattle.cpu_words.specs.Deeds.{IsShownAfter}
-use Rattle.cpu_words.specs.Notes.{with_heard, keeper_with_heard}
+use Rattle.cpu_words.specs.KeeperLog.{IsShownAfter}
+use Rattle.cpu_words.specs.Notes.{with_note, keeper_with_note}
 use Rattle.passive_list.specs.Cpus.{OnCpu}
 use Rattle.passive_list.specs.Keepers.{OnKeeper}
 use Rattle.passive_list.specs.Logs.{HasOwnLog}
@@ -30,25 +30,25 @@ at_within (x ∷ xs) (suc i) a e = let h = at_within xs i a e in omega (arith, h
 -- Prefixes
 
 -- what goes on from a list and begins it is that list
-prefix_both : (a b : List Deed) → IsPrefix a b → IsPrefix b a → a ≡ b
+prefix_both : (a b : List LogItem) → IsPrefix a b → IsPrefix b a → a ≡ b
 prefix_both a b first second = by first.0 first.1
   where
-    by : (more : List Deed) → a ++ more ≡ b → a ≡ b
+    by : (more : List LogItem) → a ++ more ≡ b → a ≡ b
     by [] is = sym (append-nil a) ∙ is
-    by (d ∷ more) is = absurd (let long = ap (λ (l : List Deed). length l) (sym is) ∙ length-append a (d ∷ more) in let short = ap (λ (l : List Deed). length l) (sym second.1) ∙ length-append b second.0 in omega (arith, long, short))
+    by (d ∷ more) is = absurd (let long = ap (λ (l : List LogItem). length l) (sym is) ∙ length-append a (d ∷ more) in let short = ap (λ (l : List LogItem). length l) (sym second.1) ∙ length-append b second.0 in omega (arith, long, short))
 
 -- CPU by CPU
 
 -- the first n of the CPUs xs have heard, and are ys then; the note tells on what the last one knows
-pub record Gathered (xs ys : List OnCpu) (n : ℕ) (log note : List Deed) : Type 0 where
+pub record Gathered (xs ys : List OnCpu) (n : ℕ) (log note : List LogItem) : Type 0 where
   pub size : length ys ≡ length xs
   pub told : IsPrefix log note
   pub learned : (c : ℕ) (x y : OnCpu) → c < n → get_elem? xs c ≡ some x → get_elem? ys c ≡ some y → HasLearned x y × (y.made ≡ x.made)
-  pub shown : (c : ℕ) (x : OnCpu) → c < n → get_elem? xs c ≡ some x → (d : List Deed) × IsPrefix log d × IsPrefix d note × IsShownOn d x
-  pub knows : (c : ℕ) (y : OnCpu) → c < n → get_elem? ys c ≡ some y → IsPrefix log y.deeds × IsPrefix y.deeds note
+  pub shown : (c : ℕ) (x : OnCpu) → c < n → get_elem? xs c ≡ some x → (d : List LogItem) × IsPrefix log d × IsPrefix d note × IsShownOn d x
+  pub knows : (c : ℕ) (y : OnCpu) → c < n → get_elem? ys c ≡ some y → IsPrefix log y.known_log × IsPrefix y.known_log note
   pub rest : (c : ℕ) → n ≤ c → get_elem? ys c ≡ get_elem? xs c
 
-pub gathered_none : (xs : List OnCpu) (log note : List Deed) → note ≡ log → Gathered xs xs 0 log note
+pub gathered_none : (xs : List OnCpu) (log note : List LogItem) → note ≡ log → Gathered xs xs 0 log note
 gathered_none xs log note is = record {
   size = refl;
   told = ([], append-nil log ∙ sym is);
@@ -62,8 +62,8 @@ pub learned_of : (note : List Change) (x y : OnCpu) → HasHeardOn note x y → 
 learned_of note x y heard = (
   record {
     pass = heard.pass;
-    deeds = heard.deeds;
-    is = heard.is ∙ (λ j. record x { view = record x.view { pass = y.view.pass; heard = sym (ap (λ (z : OnCpu). z.view.heard) heard.is) j }; made = sym (ap (λ (z : OnCpu). z.made) heard.is) j; deeds = y.deeds });
+    known_log = heard.known_log;
+    is = heard.is ∙ (λ j. record x { view = record x.view { pass = y.view.pass; noted_pass = sym (ap (λ (z : OnCpu). z.view.noted_pass) heard.is) j }; made = sym (ap (λ (z : OnCpu). z.made) heard.is) j; known_log = y.known_log });
   },
   ap (λ (z : OnCpu). z.made) heard.is,
 )
@@ -75,7 +75,7 @@ past_set (x ∷ xs) zero (suc c) y off = refl
 past_set (x ∷ xs) (suc n) zero y off = refl
 past_set (x ∷ xs) (suc n) (suc c) y off = past_set xs n c y (λ same. off (ap suc same))
 
-pub gathered_more : (xs ys : List OnCpu) (n : ℕ) (log note told : List Deed) (h : List Change) (x y : OnCpu) → Gathered xs ys n log note → get_elem? ys n ≡ some x → HasHeardOn h x y → IsPrefix note y.deeds → WasShown h x y → told ≡ y.deeds
+pub gathered_more : (xs ys : List OnCpu) (n : ℕ) (log note told : List LogItem) (h : List Change) (x y : OnCpu) → Gathered xs ys n log note → get_elem? ys n ≡ some x → HasHeardOn h x y → IsPrefix note y.known_log → WasShown h x y → told ≡ y.known_log
     → Gathered xs (set ys n y) (n + 1) log told
 gathered_more xs ys n log note told h x y so_far at heard knows shown is =
     let next : IsPrefix note told = subst (IsPrefix note) (sym is) knows in
@@ -92,37 +92,37 @@ gathered_more xs ys n log note told h x y so_far at heard knows shown is =
       shown = λ c u lt was. ⊎_elim
           (λ (same : c ≡ n).
           let one : x ≡ u = some-injective x u (sym mine ∙ (ap (get_elem? xs) (sym same) ∙ was)) in
-          (told, prefix_on _ _ _ so_far.told next, ([], append-nil told), subst (IsShownOn told) one (h, subst (λ (d : List Deed). IsShownAfter d (Cpu (with_heard x.view h))) (sym is) shown)))
+          (told, prefix_on _ _ _ so_far.told next, ([], append-nil told), subst (IsShownOn told) one (h, subst (λ (d : List LogItem). IsShownAfter d (Cpu (with_note x.view h))) (sym is) shown)))
           (λ (off : c ≡ n → ⊥).
           let p = so_far.shown c u (omega (arith, lt, off)) was in
           (p.0, p.1, prefix_on _ _ _ p.2 next, p.3))
           (cases_eq c n);
       knows = λ c v lt now. ⊎_elim
-          (λ (p : (c ≡ n) × (y ≡ v)). subst (λ (z : OnCpu). IsPrefix log z.deeds × IsPrefix z.deeds told) p.1 (prefix_on _ _ _ so_far.told knows, subst (IsPrefix y.deeds) (sym is) ([], append-nil y.deeds)))
+          (λ (p : (c ≡ n) × (y ≡ v)). subst (λ (z : OnCpu). IsPrefix log z.known_log × IsPrefix z.known_log told) p.1 (prefix_on _ _ _ so_far.told knows, subst (IsPrefix y.known_log) (sym is) ([], append-nil y.known_log)))
           (λ (p : (c ≢ n) × (get_elem? ys c ≡ some v)). let had = so_far.knows c v (let off = p.0 in omega (arith, lt, off)) p.1 in (had.0, prefix_on _ _ _ had.1 next))
           (at_set ys n c y v now);
       rest = λ c le. past_set ys n c y (λ same. omega (arith, le, same)) ∙ so_far.rest c (omega (arith, le));
     }
 
 -- all have heard, and the keeper has heard the last one
-pub gathered_alike : (z : Settings) (a k : OnKeeper) (xs ys : List OnCpu) (n : ℕ) (log note : List Deed) → Gathered xs ys n k.log note → length ys ≤ n → k ≡ record a { log = log } → IsPrefix note k.log → HasOwnLog z k → AreAlike a xs ys
+pub gathered_alike : (z : Settings) (a k : OnKeeper) (xs ys : List OnCpu) (n : ℕ) (log note : List LogItem) → Gathered xs ys n k.log note → length ys ≤ n → k ≡ record a { log = log } → IsPrefix note k.log → HasOwnLog z k → AreAlike a xs ys
 gathered_alike z a k xs ys n log note all done is back own =
     record {
       log = k.log;
       known = λ c y at.
           let low = at_within ys c y at in
           let p = all.knows c y (omega (arith, low, done)) at in
-          prefix_both y.deeds k.log (prefix_on _ _ _ p.1 back) p.0;
-      keeper = (own.counts.0, subst (λ (v : KeeperView). IsShownAfter k.log (Keeper (keeper_with_heard v own.counts.0))) (ap (λ (x : OnKeeper). x.view) is) own.counts.1);
+          prefix_both y.known_log k.log (prefix_on _ _ _ p.1 back) p.0;
+      keeper = (own.counts.0, subst (λ (v : KeeperView). IsShownAfter k.log (Keeper (keeper_with_note v own.counts.0))) (ap (λ (x : OnKeeper). x.view) is) own.counts.1);
       cpus = λ c x at.
           let low = at_within xs c x at in
           let size = all.size in
           let p = all.shown c x (omega (arith, low, size, done)) at in
           let same : p.0 ≡ k.log = prefix_both p.0 k.log (prefix_on _ _ _ p.2 back) p.1 in
-          subst (λ (d : List Deed). IsShownOn d x) same p.3;
+          subst (λ (d : List LogItem). IsShownOn d x) same p.3;
     }
 
-pub gathered_learned : (xs ys : List OnCpu) (n : ℕ) (log note : List Deed) → Gathered xs ys n log note → length ys ≤ n → HaveLearned xs ys
+pub gathered_learned : (xs ys : List OnCpu) (n : ℕ) (log note : List LogItem) → Gathered xs ys n log note → length ys ≤ n → HaveLearned xs ys
 gathered_learned xs ys n log note all done = record {
   size = all.size;
   each = λ c x y was now. let low = at_within xs c x was in let size = all.size in all.learned c x y (omega (arith, low, size, done)) was now;
@@ -135,7 +135,7 @@ learned_none xs = record {
   size = refl;
   each = λ c x y was now.
       let same : x ≡ y = some-injective x y (sym was ∙ now) in
-      subst (λ (z : OnCpu). HasLearned x z × (z.made ≡ x.made)) same (record { pass = ([], append-nil x.view.pass); deeds = ([], append-nil x.deeds); is = refl }, refl);
+      subst (λ (z : OnCpu). HasLearned x z × (z.made ≡ x.made)) same (record { pass = ([], append-nil x.view.pass); known_log = ([], append-nil x.known_log); is = refl }, refl);
 }
 
 there : (xs : List OnCpu) (c : ℕ) → c < length xs → (x : OnCpu) × (get_elem? xs c ≡ some x)
@@ -155,9 +155,9 @@ all_learned n xs ys learned all = record {
 }
 
 pub listened_none : (a : OnKeeper) → HasListened a a
-listened_none a = record { log = ([], append-nil a.log); is = (a.view.heard, refl) }
+listened_none a = record { log = ([], append-nil a.log); is = (a.view.noted_pass, refl) }
 
-pub listened : (a b : OnKeeper) (h : List Change) (log more : List Deed) → b.view ≡ keeper_with_heard a.view h → b.slots ≡ a.slots → b.log ≡ (a.log ++ log) ++ more → HasListened a b
+pub listened : (a b : OnKeeper) (h : List Change) (log more : List LogItem) → b.view ≡ keeper_with_note a.view h → b.slots ≡ a.slots → b.log ≡ (a.log ++ log) ++ more → HasListened a b
 listened a b h log more view slots is = record {
   log = (log ++ more, sym (append_assoc a.log log more) ∙ sym is);
   is = (h, λ j. record { view = view j; slots = slots j; log = b.log });

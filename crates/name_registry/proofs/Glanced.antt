@@ -10,11 +10,10 @@ use Rattle.registry_values.specs.declared.refusal.Refusal.{Refusal}
 use Rattle.registry_values.specs.declared.settings.Settings.{Settings}
 use Rattle.registry_values.specs.declared.refusal.Refusal.TheVariants.{Inside}
 use Rattle.registry_values.specs.Answers.{wait_answer}
-use Rattle.atomic_table.specs.Seated.{TableId}
 use Rattle.cpu_words.specs.declared.view.KeeperView.{KeeperView}
-use Rattle.cpu_words.specs.Deeds.{changes_in}
+use Rattle.cpu_words.specs.KeeperLog.{changes_in}
 use Rattle.cpu_words.specs.Grace.{MayGlance}
-use Rattle.cpu_words.specs.Notes.{keeper_with_heard}
+use Rattle.cpu_words.specs.Notes.{keeper_with_note}
 use Rattle.cpu_words.specs.Rule.{IsShown, did}
 use Rattle.cpu_words.proofs.shown.KeepersShown.{step_is_shown}
 use Rattle.passive_list.specs.Cpus.{OnCpu}
@@ -66,7 +65,7 @@ glances_more n b snapshots seen after k m l lt is once = subst (λ (j : ℕ). Gl
 
 -- looks and notes alone were counted
 abbrev pub OnlyLooked : KeeperView → KeeperView → Type 0
-OnlyLooked k l = l ≡ record k { looks = l.looks; last_look = l.last_look; heard = l.heard }
+OnlyLooked k l = l ≡ record k { looks = l.looks; last_look = l.last_look; noted_pass = l.noted_pass }
 
 -- looks alone were made, and some state shows what is known then
 pub record Looked (k l : Looking) : Type 0 where
@@ -76,13 +75,13 @@ pub record Looked (k l : Looking) : Type 0 where
 looked_none : (k l : Looking) → l ≡ k → Looked k l
 looked_none k l is = record { only = ap (λ (x : Looking). x.view) is ∙ both l.view k.view (ap (λ (x : Looking). x.view) is); is_shown = λ p. subst (λ (x : Looking). IsShown x.view) (sym is) p }
   where
-    both : (a b : KeeperView) → a ≡ b → b ≡ record b { looks = a.looks; last_look = a.last_look; heard = a.heard }
-    both a b same = λ j. record b { looks = sym (ap (λ (x : KeeperView). x.looks) same) j; last_look = sym (ap (λ (x : KeeperView). x.last_look) same) j; heard = sym (ap (λ (x : KeeperView). x.heard) same) j }
+    both : (a b : KeeperView) → a ≡ b → b ≡ record b { looks = a.looks; last_look = a.last_look; noted_pass = a.noted_pass }
+    both a b same = λ j. record b { looks = sym (ap (λ (x : KeeperView). x.looks) same) j; last_look = sym (ap (λ (x : KeeperView). x.last_look) same) j; noted_pass = sym (ap (λ (x : KeeperView). x.noted_pass) same) j }
 
 looked_once : (k m l : Looking) (e : Event) (w : ℕ) → Looked k m → LooksOnce m e w l → Looked k l
 looked_once k m l e w had once =
     let view : l.view ≡ record m.view { looks = suc m.view.looks; last_look = Some (record { event = e; reply = Word w }) } = ap (λ (x : Looking). x.view) once.change in record {
-      only = subst (λ (v : KeeperView). v ≡ record k.view { looks = v.looks; last_look = v.last_look; heard = v.heard }) (sym view)
+      only = subst (λ (v : KeeperView). v ≡ record k.view { looks = v.looks; last_look = v.last_look; noted_pass = v.noted_pass }) (sym view)
           (ap (λ (v : KeeperView). record v { looks = suc m.view.looks; last_look = Some (record { event = e; reply = Word w }) }) had.only);
       is_shown = λ p. step_is_shown e (Word w) m.view l.view once.event;
     }
@@ -99,20 +98,18 @@ pub glances_look : (snapshots : List ℕ) (seen after : List Bool) (n : ℕ) (k 
 glances_look snapshots seen after zero k l is = looked_none k l is
 glances_look snapshots seen after (suc n) k l is = glance_looks (word_of snapshots n) n (is_seen seen n) (is_seen after n) k is.0 l (glances_look snapshots seen after n k is.0 is.1) is.2
 
--- what was known before a note was heard is known still, but for what was heard
-pub only_heard : (k h l : KeeperView) (pass : List Change) → h ≡ keeper_with_heard k pass → OnlyLooked h l → OnlyLooked k l
-only_heard k h l pass heard only = only ∙ ap (λ (v : KeeperView). record v { looks = l.looks; last_look = l.last_look; heard = l.heard }) heard
+-- what was known before a note was heard is known still, but for the note beside the view
+pub only_noted : (k h l : KeeperView) (pass : List Change) → h ≡ keeper_with_note k pass → OnlyLooked h l → OnlyLooked k l
+only_noted k h l pass heard only = only ∙ ap (λ (v : KeeperView). record v { looks = l.looks; last_look = l.last_look; noted_pass = l.noted_pass }) heard
 
 -- so the keeper may look on
 pub may_on : (k l : Looking) (c : ℕ) → Looked k l → MayGlance k.view c → MayGlance l.view c
 may_on k l c had may = record { rest = ap (λ (v : KeeperView). v.due) had.only ∙ may.rest; cpu = subst (λ (v : KeeperView). c < v.settings.cpus) (sym had.only) may.cpu }
 
 -- and its rows agree with what it knows
-pub still_ours : (z : TableId) (a : Settings) (table table' : TableId) (k l : KeeperView) (its : Settings) (rows : List KeptSlot) (n : ℕ) → IsOurKeeper z a table k its rows n → table' ≡ table → OnlyLooked k l → IsShown l → IsOurKeeper z a table' l its rows n
-still_ours z a table table' k l its rows n our same only is_shown =
-    let m : KeeperView = record k { looks = l.looks; last_look = l.last_look; heard = l.heard } in record {
-      table = same ∙ our.table;
-      settings = our.settings;
+pub still_ours : (a : Settings) (k l : KeeperView) (rows : List KeptSlot) (n : ℕ) → IsOurKeeper a k rows n → OnlyLooked k l → IsShown l → IsOurKeeper a l rows n
+still_ours a k l rows n our only is_shown =
+    let m : KeeperView = record k { looks = l.looks; last_look = l.last_look; noted_pass = l.noted_pass } in record {
       view = subst (IsAtRest a) (sym only) record {
         settings = our.view.settings;
         fit = our.view.fit;
@@ -141,8 +138,8 @@ still_ours z a table table' k l its rows n our same only is_shown =
     }
 
 -- a hold, from what its three parts say: the hearing, which leaves the CPU, the looks, and the telling
-pub made_hold : (looks : Looking → Looking → Type 0) (a : OnKeeper) (x same : OnCpu) (h l : Looking) (b : OnKeeper) (y : OnCpu) → h ≡ record { view = keeper_with_heard a.view x.view.pass; log = a.log ++ did (Hear None) Done }
-    → IsPrefix x.deeds a.log → length x.view.pass ≤ changes_in a.log → same ≡ x → looks h l → b.view ≡ l.view → b.slots ≡ a.slots → b.log ≡ l.log ++ did (Tell None) Done → HasHeardOn l.view.history same y → IsPrefix b.log y.deeds → Hold looks a x b y
+pub made_hold : (looks : Looking → Looking → Type 0) (a : OnKeeper) (x same : OnCpu) (h l : Looking) (b : OnKeeper) (y : OnCpu) → h ≡ record { view = keeper_with_note a.view x.view.pass; log = a.log ++ did (Hear None) Done }
+    → IsPrefix x.known_log a.log → length x.view.pass ≤ changes_in a.log → same ≡ x → looks h l → b.view ≡ l.view → b.slots ≡ a.slots → b.log ≡ l.log ++ did (Tell None) Done → HasHeardOn l.view.history same y → IsPrefix b.log y.known_log → Hold looks a x b y
 made_hold looks a x same h l b y heard known seen is made view slots log hears told = record {
   known = known;
   seen = seen;

@@ -12,6 +12,7 @@ pub mod Looks
 pub mod Rows
 pub mod Worked
 pub mod Seen
+pub mod Sharing
 pub mod Placed
 pub mod Tallies
 pub mod ByLog

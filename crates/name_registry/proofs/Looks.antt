@@ -1,24 +1,24 @@
 -- Looks for a retired entry, CPU by CPU, stand in the keeper's log.
 use Rattle.std.proofs.Common.{◌≡◌, ◌∙◌, ℕ, zero, suc, ◌+◌, Bool, true, false, List, [], ◌∷◌, ◌++◌, refl, sym, ap, subst, append-nil, append_assoc, arith}
 use Rattle.protocol.specs.State.{mark_at}
-use Rattle.cpu_words.specs.declared.view.Deed.{Deed}
-use Rattle.cpu_words.specs.Deeds.{has_looked}
+use Rattle.cpu_words.specs.declared.view.LogItem.{LogItem}
+use Rattle.cpu_words.specs.KeeperLog.{has_looked}
 use Rattle.passive_list.specs.Keepers.{OnKeeper}
 use Rattle.name_registry.specs.Advancing.{AreLooks, GoesOnByLooks, LooksBelow, LooksUnless}
 
 -- The log
 
-both_looks : (t : ℕ) (ds es : List Deed) → AreLooks t ds → AreLooks t es → AreLooks t (ds ++ es)
+both_looks : (t : ℕ) (ds es : List LogItem) → AreLooks t ds → AreLooks t es → AreLooks t (ds ++ es)
 both_looks t [] es first then = then
 both_looks t (d ∷ ds) es first then = (first.0, both_looks t ds es first.1 then)
 
-pub no_looks : (t : ℕ) (log new : List Deed) → new ≡ log → GoesOnByLooks t log new
+pub no_looks : (t : ℕ) (log new : List LogItem) → new ≡ log → GoesOnByLooks t log new
 no_looks t log new same = record { since = []; are = same ∙ sym (append-nil log); only = tt }
 
-pub more_looks : (t : ℕ) (log between new : List Deed) → GoesOnByLooks t log between → GoesOnByLooks t between new → GoesOnByLooks t log new
+pub more_looks : (t : ℕ) (log between new : List LogItem) → GoesOnByLooks t log between → GoesOnByLooks t between new → GoesOnByLooks t log new
 more_looks t log between new first then = record {
   since = first.since ++ then.since;
-  are = then.are ∙ ap (λ (ds : List Deed). ds ++ then.since) first.are ∙ append_assoc log first.since then.since;
+  are = then.are ∙ ap (λ (ds : List LogItem). ds ++ then.since) first.are ∙ append_assoc log first.since then.since;
   only = both_looks t first.since then.since first.only then.only;
 }
 

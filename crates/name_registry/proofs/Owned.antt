@@ -17,19 +17,19 @@ use Rattle.cpu_words.specs.declared.view.ReferenceView.{ReferenceView}
 use Rattle.passive_list.specs.Cpus.{OnCpu}
 use Rattle.passive_list.specs.Keepers.{OnKeeper}
 use Rattle.passive_list.specs.Notes.{HasHeardOn}
-use Rattle.name_registry.specs.Attaching.{attach_answer, attach_iface_answer, given_entry, plain_slot, room_of, HasAttachedFor, HasAttachedIfaceFor}
+use Rattle.name_registry.specs.Attaching.{attach_answer, attach_iface_answer, given_entry, first_fit, room_of, HasAttachedFor, HasAttachedIfaceFor}
 use Rattle.name_registry.specs.Detaching.{IsDetachAnswer, IsDetachRefusal, HasDetachedFor}
 use Rattle.name_registry.specs.Locking.{MayAttach, IsAttachRefusal, IsDetachRefusedTo, IsPerformRefusal}
 use Rattle.name_registry.specs.Meeting.{is_inside, HasLearned, HasSeenAttach, HasSeenDetach}
 
 pub learned : (note : List Change) (x y : OnCpu) → HasHeardOn note x y → HasLearned x y
 learned note x y has =
-    let note_is = ap (λ (o : OnCpu). o.view.heard) has.is in
+    let note_is = ap (λ (o : OnCpu). o.view.noted_pass) has.is in
     let made_is = ap (λ (o : OnCpu). o.made) has.is in
-    let heard : y ≡ record x { view = record x.view { pass = y.view.pass; heard = y.view.heard }; deeds = y.deeds } = subst (λ (l : List Change). y ≡ record x { view = record x.view { pass = y.view.pass; heard = l }; deeds = y.deeds }) (sym note_is) has.is in record {
+    let heard : y ≡ record x { view = record x.view { pass = y.view.pass; noted_pass = y.view.noted_pass }; known_log = y.known_log } = subst (λ (l : List Change). y ≡ record x { view = record x.view { pass = y.view.pass; noted_pass = l }; known_log = y.known_log }) (sym note_is) has.is in record {
       pass = has.pass;
-      deeds = has.deeds;
-      is = subst (λ n. y ≡ record x { view = record x.view { pass = y.view.pass; heard = y.view.heard }; made = n; deeds = y.deeds }) (sym made_is) heard;
+      known_log = has.known_log;
+      is = subst (λ n. y ≡ record x { view = record x.view { pass = y.view.pass; noted_pass = y.view.noted_pass }; made = n; known_log = y.known_log }) (sym made_is) heard;
     }
 
 -- Attaching
@@ -42,16 +42,16 @@ by_room : (room : Bool) (e : Entry) (f : Refusal) → ◌≡◌ {A = Result Entr
 by_room true e f is = absurd (let q : ◌≡◌ {A = Result Entry Refusal} (Ok e) (Err f) = is in cc)
 by_room false e f is = inr (inr (let q : ◌≡◌ {A = Result Entry Refusal} (Err HistoryFull) (Err f) = is in cc))
 
-by_slot : (plain : Option ℕ) (room : Room) (rec : Record) (f : Refusal) → entry_in plain room rec ≡ Err f → IsGivenRefusal f
+by_slot : (fit : Option ℕ) (room : Room) (rec : Record) (f : Refusal) → entry_in fit room rec ≡ Err f → IsGivenRefusal f
 by_slot None room rec f is = inr (inl (let q : ◌≡◌ {A = Result Entry Refusal} (Err NoSlot) (Err f) = is in cc))
 by_slot (Some t) room rec f is = by_room (has_room room) (next_entry room.changes rec t) f is
 
-by_name : (taken : Bool) (plain : Option ℕ) (room : Room) (rec : Record) (f : Refusal) → answers.given_entry taken plain room rec ≡ Err f → IsGivenRefusal f
-by_name true plain room rec f is = inl (let q : ◌≡◌ {A = Result Entry Refusal} (Err NameTaken) (Err f) = is in cc)
-by_name false plain room rec f is = by_slot plain room rec f is
+by_name : (taken : Bool) (fit : Option ℕ) (room : Room) (rec : Record) (f : Refusal) → answers.given_entry taken fit room rec ≡ Err f → IsGivenRefusal f
+by_name true fit room rec f is = inl (let q : ◌≡◌ {A = Result Entry Refusal} (Err NameTaken) (Err f) = is in cc)
+by_name false fit room rec f is = by_slot fit room rec f is
 
 given_refused : (z : Settings) (k : OnKeeper) (rec : Record) (f : Refusal) → given_entry z k rec ≡ Err f → IsGivenRefusal f
-given_refused z k rec f is = by_name (is_taken (key_of_record rec) k.slots) (plain_slot k) (room_of z k) rec f is
+given_refused z k rec f is = by_name (is_taken (key_of_record rec) k.slots) (first_fit k) (room_of z k) rec f is
 
 given_refusal : (f : Refusal) → IsGivenRefusal f → IsAttachRefusal false false f
 given_refusal f is = ⊎_elim
@@ -72,7 +72,7 @@ entry_may inside unfit given e is = let told = attach_tells inside unfit given e
 entry_rec : (z : Settings) (k : OnKeeper) (rec : Record) (inside unfit : Bool) (e : Entry) → answers.attach_answer inside unfit (given_entry z k rec) ≡ Ok e → e.rec ≡ rec
 entry_rec z k rec inside unfit e is =
     let given = (attach_tells inside unfit (given_entry z k rec) e is).2 in
-    ap (λ (x : Entry). x.rec) (given_tells (is_taken (key_of_record rec) k.slots) (plain_slot k) (room_of z k) rec e given).entry
+    ap (λ (x : Entry). x.rec) (given_tells (is_taken (key_of_record rec) k.slots) (first_fit k) (room_of z k) rec e given).entry
 
 pub attach_may : (z : Settings) (k : OnKeeper) (x : OnCpu) (rec : Record) (r : Result Entry Refusal) → r ≡ attach_answer z k x rec → IfOk r (λ _. MayAttach (is_inside x) (is_iface rec.kind))
 attach_may z k x rec (Ok e) is = entry_may (is_inside x) (is_iface rec.kind) (given_entry z k rec) e (sym is)

@@ -15,9 +15,9 @@ use Rattle.registry_values.specs.Slots.{is_retired_as, retired_number, slot_at}
 use Rattle.protocol.specs.State.{mark_at}
 use Rattle.protocol.proofs.slots.MarkRows.{grows_none, grows_more}
 use Rattle.protocol.proofs.slots.Occupied.{in_within}
-use Rattle.cpu_words.specs.declared.view.Deed.{Deed}
+use Rattle.cpu_words.specs.declared.view.LogItem.{LogItem}
 use Rattle.cpu_words.specs.declared.view.KeeperView.{KeeperView}
-use Rattle.cpu_words.specs.Deeds.{has_looked, standing, HasPassedOn, HasWaited, IsDetachedFrom, IsSnapped, KeepsSlot}
+use Rattle.cpu_words.specs.KeeperLog.{has_looked, standing, HasPassedOn, HasWaited, IsDetachedFrom, IsSnapped, KeepsSlot}
 use Rattle.cpu_words.proofs.logs.Growing.{StandsIn, no_open, snapped_on, stands_more, stands_past}
 use Rattle.cpu_words.proofs.logs.Standings.{kept_entry, kept_standing, not_attached, one_detached}
 use Rattle.passive_list.specs.Cpus.{OnCpu}
@@ -44,7 +44,7 @@ onward_more : (a m b : OnKeeper) → Onward a m → Onward m b → Onward a b
 onward_more a m b p q = record {
   settings = q.settings ∙ p.settings;
   slots = q.slots ∙ p.slots;
-  log = (p.log.0 ++ q.log.0, sym (append_assoc a.log p.log.0 q.log.0) ∙ (ap (λ (l : List Deed). l ++ q.log.0) p.log.1 ∙ q.log.1));
+  log = (p.log.0 ++ q.log.0, sym (append_assoc a.log p.log.0 q.log.0) ∙ (ap (λ (l : List LogItem). l ++ q.log.0) p.log.1 ∙ q.log.1));
   marks = λ t c. grows_more _ _ _ (p.marks t c) (q.marks t c);
 }
 
@@ -101,14 +101,14 @@ passed_at z numbers (suc n) a b is t k e lt number at same = ⊎_elim
 -- After the wait
 
 -- The keeper h has heard the caller, who knew then what it had done `before` and since; it had waited since for all CPUs. After its passes it is `end`.
-pub record Passing (z : Settings) (numbers : List (Option ℕ)) (h end : OnKeeper) (before since gap : List Deed) : Type 0 where
+pub record Passing (z : Settings) (numbers : List (Option ℕ)) (h end : OnKeeper) (before since gap : List LogItem) : Type 0 where
   pub passes : PassesBelow z numbers 32 h end
   pub own : HasOwnLog z end
   pub log : h.log ≡ (before ++ since) ++ gap
   pub waited : HasWaited since z.cpus
 
 -- no look met a section of a snapshot that was taken before
-met_none : (z : Settings) (numbers : List (Option ℕ)) (h end : OnKeeper) (before since gap more : List Deed) (t j : ℕ) → Passing z numbers h end before since gap → (p : PassedAt z h t end) → ((c : ℕ) → c < z.cpus → (w : ℕ) × IsSnapped t c w before)
+met_none : (z : Settings) (numbers : List (Option ℕ)) (h end : OnKeeper) (before since gap more : List LogItem) (t j : ℕ) → Passing z numbers h end before since gap → (p : PassedAt z h t end) → ((c : ℕ) → c < z.cpus → (w : ℕ) × IsSnapped t c w before)
     → end.log ≡ before ++ more → KeepsSlot t more → MeetsGrace p.before t j p.after → ⊥
 met_none z numbers h end before since gap more t j on p snapped all keeps meets =
     let sees = meets.sees in
@@ -120,19 +120,19 @@ met_none z numbers h end before since gap more t j on p snapped all keeps meets 
     let old = snapped j low in
     let by_log : (mark_at end.view.marks t j).snapshot ≡ Some old.0 = on.own.marks.marked t j old.0 (subst (IsSnapped t j old.0) (sym all) (snapped_on t j old.0 before more (kept_entry t more keeps) old.1)) in
     let same : w ≡ old.0 = same_Some w old.0 (sym now ∙ by_log) in
-    let first : List Deed = p.first.log.0 in
-    let last : List Deed = p.last.log.0 in
-    let looks : List Deed = sees.log.0 ++ d ∷ [] in
-    let rest : List Deed = gap ++ (first ++ (looks ++ last)) in
-    let to_first : p.before.log ≡ ((before ++ since) ++ gap) ++ first = sym p.first.log.1 ∙ ap (λ (l : List Deed). l ++ first) on.log in
-    let to_looks : p.after.log ≡ (((before ++ since) ++ gap) ++ first) ++ looks = sees.log.1 ∙ (append_assoc p.before.log sees.log.0 (d ∷ []) ∙ ap (λ (l : List Deed). l ++ looks) to_first) in
+    let first : List LogItem = p.first.log.0 in
+    let last : List LogItem = p.last.log.0 in
+    let looks : List LogItem = sees.log.0 ++ d ∷ [] in
+    let rest : List LogItem = gap ++ (first ++ (looks ++ last)) in
+    let to_first : p.before.log ≡ ((before ++ since) ++ gap) ++ first = sym p.first.log.1 ∙ ap (λ (l : List LogItem). l ++ first) on.log in
+    let to_looks : p.after.log ≡ (((before ++ since) ++ gap) ++ first) ++ looks = sees.log.1 ∙ (append_assoc p.before.log sees.log.0 (d ∷ []) ∙ ap (λ (l : List LogItem). l ++ looks) to_first) in
     let whole : end.log ≡ before ++ (since ++ rest) =
-    sym p.last.log.1 ∙ (ap (λ (l : List Deed). l ++ last) to_looks ∙ (append_assoc (((before ++ since) ++ gap) ++ first) looks last
+    sym p.last.log.1 ∙ (ap (λ (l : List LogItem). l ++ last) to_looks ∙ (append_assoc (((before ++ since) ++ gap) ++ first) looks last
     ∙ (append_assoc ((before ++ since) ++ gap) first (looks ++ last) ∙ (append_assoc (before ++ since) gap (first ++ (looks ++ last)) ∙ append_assoc before since rest)))) in
     let there : StandsIn d rest = stands_past d gap (first ++ (looks ++ last)) (stands_past d first (looks ++ last) (stands_more d looks last (record { before = sees.log.0; after = []; are = refl }))) in
     no_open t j old.0 w end.log before since rest on.own.grow whole old.1 (on.waited j low) there same sees.odd
 
-by_slot : (z : Settings) (numbers : List (Option ℕ)) (h end : OnKeeper) (before since gap more : List Deed) (t n c : ℕ) (x : Slot) → slot_at end.slots t ≡ x → Passing z numbers h end before since gap → c < z.cpus → get_or numbers t None ≡ Some n
+by_slot : (z : Settings) (numbers : List (Option ℕ)) (h end : OnKeeper) (before since gap more : List LogItem) (t n c : ℕ) (x : Slot) → slot_at end.slots t ≡ x → Passing z numbers h end before since gap → c < z.cpus → get_or numbers t None ≡ Some n
     → ((j : ℕ) → j < z.cpus → (w : ℕ) × IsSnapped t j w before) → IsDetachedFrom t n end.log → end.log ≡ before ++ more → KeepsSlot t more → HasPassedOn t c end.log
 by_slot z numbers h end before since gap more t n c Vacant at on low number snapped gone all keeps = on.own.slots.vacant t n c at gone low
 by_slot z numbers h end before since gap more t n c (Live e) at on low number snapped gone all keeps = absurd (not_attached t n e.number end.log gone (on.own.slots.live t e at))
@@ -147,7 +147,7 @@ by_slot z numbers h end before since gap more t n c (Retired e) at on low number
     p.passes.met
 
 -- so the entry that had been detached by then has passed, if its slot wasn't given again
-pub passed_end : (z : Settings) (numbers : List (Option ℕ)) (h end : OnKeeper) (before since gap more : List Deed) (t n c : ℕ) → Passing z numbers h end before since gap → c < z.cpus → IsDetachedFrom t n before → get_or numbers t None ≡ Some n
+pub passed_end : (z : Settings) (numbers : List (Option ℕ)) (h end : OnKeeper) (before since gap more : List LogItem) (t n c : ℕ) → Passing z numbers h end before since gap → c < z.cpus → IsDetachedFrom t n before → get_or numbers t None ≡ Some n
     → ((j : ℕ) → j < z.cpus → (w : ℕ) × IsSnapped t j w before) → end.log ≡ before ++ more → KeepsSlot t more → HasPassedOn t c end.log
 passed_end z numbers h end before since gap more t n c on low gone number snapped all keeps =
     by_slot z numbers h end before since gap more t n c (slot_at end.slots t) refl on low number snapped (ap (standing t) all ∙ (kept_standing t before more keeps ∙ gone)) all keeps
@@ -155,7 +155,7 @@ passed_end z numbers h end before since gap more t n c on low gone number snappe
 -- As the perform began
 
 -- an entry that was detached by then had passed on all CPUs, or its number was taken, and it has a snapshot of each CPU
-abbrev pub IsReady : ℕ → List (Option ℕ) → List Deed → ℕ → ℕ → Type 0
+abbrev pub IsReady : ℕ → List (Option ℕ) → List LogItem → ℕ → ℕ → Type 0
 IsReady cpus numbers before t n = ((c : ℕ) → c < cpus → HasPassedOn t c before) ⊎ ((get_or numbers t None ≡ Some n) × ((j : ℕ) → j < cpus → (w : ℕ) × IsSnapped t j w before))
 
 ready_by : (z : Settings) (a : OnKeeper) (numbers : List (Option ℕ)) (t n : ℕ) (x : Slot) → slot_at a.slots t ≡ x → HasOwnLog z a → ((u : ℕ) → u < 32 → get_or numbers u None ≡ retired_number (slot_at a.slots u)) → IsDetachedFrom t n a.log → IsReady z.cpus numbers a.log t n
@@ -171,8 +171,8 @@ ready z a numbers own are t n gone = ready_by z a numbers t n (slot_at a.slots t
 
 -- The hold, from what its parts say
 
-pub made_passes : (z : Settings) (numbers : List (Option ℕ)) (a h end k b : OnKeeper) (x same after y : OnCpu) → IsPrefix x.deeds a.log → h ≡ keeper_after_hear a x → same ≡ x → PassesBelow z numbers 32 h end → HasOwnLog z end
-    → k ≡ keeper_after_hear end same → after ≡ same → b ≡ keeper_after_tell k → HasHeardOn k.view.history after y → IsPrefix b.log y.deeds → HasPassedAll z a x numbers b y
+pub made_passes : (z : Settings) (numbers : List (Option ℕ)) (a h end k b : OnKeeper) (x same after y : OnCpu) → IsPrefix x.known_log a.log → h ≡ keeper_after_hear a x → same ≡ x → PassesBelow z numbers 32 h end → HasOwnLog z end
+    → k ≡ keeper_after_hear end same → after ≡ same → b ≡ keeper_after_tell k → HasHeardOn k.view.history after y → IsPrefix b.log y.known_log → HasPassedAll z a x numbers b y
 made_passes z numbers a h end k b x same after y known heard first passes own again second is hears told = record {
   known = known;
   end = end;

@@ -2,19 +2,18 @@
 use Rattle.std.proofs.Common.{◌≡◌, ℕ, suc, ◌+◌, ◌<◌, ◌≤◌, Bool, not, cond, List, [], ◌∷◌, length, map, take, Option, position, refl, sym, ap, ◌∙◌, arith}
 use Rattle.std.specs.List.{prefix_len, zip}
 use Rattle.std.proofs.lemmas.List.{length-map}
-use Rattle.atomic_table.specs.Seated.{TableId}
 use Rattle.registry_values.specs.declared.settings.Settings.{Settings}
 use Rattle.registry_values.specs.declared.slot.Key.{Key}
 use Rattle.registry_values.specs.declared.slot.Slot.{Slot}
-use Rattle.registry_values.specs.Slots.{is_plain, is_live_as}
+use Rattle.registry_values.specs.Slots.{is_available, is_live_as}
 use Rattle.protocol.specs.State.{kept_at}
 use Rattle.registry_values.proofs.Fit.{ranges}
 use Rattle.cpu_words.specs.declared.view.KeeperView.{KeeperView}
-use Rattle.cpu_words.specs.declared.view.Deed.{Deed}
+use Rattle.cpu_words.specs.declared.view.LogItem.{LogItem}
 use Rattle.passive_list.specs.declared.keeper.KeptSlot.{KeptSlot}
 use Rattle.passive_list.specs.Keepers.{OnKeeper, row_at, state_of, states_of, IsOurKeeper}
-use Rattle.name_registry.specs.Attaching.{plain_slot}
-use Rattle.name_registry.specs.Rows.{is_live_row, is_plain_row}
+use Rattle.name_registry.specs.Attaching.{first_fit}
+use Rattle.name_registry.specs.Rows.{is_live_row, is_available_row}
 
 prefix_map : {X Y : Type 0} (p : Y → Bool) (f : X → Y) (xs : List X) → prefix_len p (map f xs) ≡ prefix_len (λ x. p (f x)) xs
 prefix_map p f [] = refl
@@ -28,7 +27,7 @@ position_map p f xs = rw (prefix_map (λ y. not (p y)) f xs, length-map xs f) re
 pub live_in_rows : (key : Key) (rows : List KeptSlot) → position (is_live_as key) (states_of rows) ≡ position (is_live_row key) rows
 live_in_rows key rows = position_map (is_live_as key) state_of rows
 
--- the least plain slot
+-- the first-fit slot
 
 abbrev pair_of : KeptSlot → Slot × Option ℕ
 pair_of r = (r.state, r.keeps)
@@ -42,12 +41,12 @@ pairs (r ∷ rows) (x ∷ keeps) le each =
     let rest = pairs rows keeps (omega (arith, le)) (λ t lt. each (suc t) (omega (arith, lt))) in
     rw (rest, first) refl
 
-pub plain_in_rows : {log : List Deed} (z : TableId) (a : Settings) (table : TableId) (k : KeeperView) (its : Settings) (rows : List KeptSlot) (n : ℕ) (x : OnKeeper) → IsOurKeeper z a table k its rows n → record { view = k; slots = states_of rows; log = log } ≡ x → position is_plain_row (take its.slots rows) ≡ plain_slot x
-plain_in_rows z a table k its rows n x our is =
+pub first_fit_in_rows : {log : List LogItem} (a : Settings) (k : KeeperView) (rows : List KeptSlot) (n : ℕ) (x : OnKeeper) → IsOurKeeper a k rows n → record { view = k; slots = states_of rows; log = log } ≡ x → position is_available_row (take a.slots rows) ≡ first_fit x
+first_fit_in_rows a k rows n x our is =
     let size : length k.keeps ≡ a.slots = our.view.sized.keeps in
     let most = (ranges a our.view.fit).slots in
     let long = our.rows.size in
-    ap (λ m. position is_plain_row (take m rows)) (ap (λ (s : Settings). s.slots) our.settings ∙ sym size)
-    ∙ (sym (position_map is_plain pair_of (take (length k.keeps) rows))
-    ∙ (ap (position is_plain) (sym (pairs rows k.keeps (omega (arith, size, most, long)) (λ t lt. (our.rows.each t (omega (arith, size, lt))).keeps)))
-    ∙ ap plain_slot is))
+    ap (λ m. position is_available_row (take m rows)) (sym size)
+    ∙ (sym (position_map is_available pair_of (take (length k.keeps) rows))
+    ∙ (ap (position is_available) (sym (pairs rows k.keeps (omega (arith, size, most, long)) (λ t lt. (our.rows.each t (omega (arith, size, lt))).keeps)))
+    ∙ ap first_fit is))

@@ -14,10 +14,10 @@ use Rattle.registry_values.specs.Marks.{mark_after_look, mark_after_passive_look
 use Rattle.registry_values.specs.Slots.{is_retired, slot_at}
 use Rattle.protocol.specs.State.{at_rest, mark_at}
 use Rattle.protocol.proofs.slots.MarkRows.{snapshot_stands}
-use Rattle.cpu_words.specs.declared.view.Deed.{Deed}
+use Rattle.cpu_words.specs.declared.view.LogItem.{LogItem}
 use Rattle.cpu_words.specs.declared.view.KeeperView.{KeeperView}
 use Rattle.cpu_words.specs.declared.view.View.TheVariants.{Keeper}
-use Rattle.cpu_words.specs.Deeds.{has_looked, has_looked_passive}
+use Rattle.cpu_words.specs.KeeperLog.{has_looked, has_looked_passive}
 use Rattle.cpu_words.specs.Draining.{HasLookedPassive}
 use Rattle.cpu_words.specs.Grace.{HasLooked}
 use Rattle.cpu_words.specs.Rule.{did}
@@ -64,7 +64,7 @@ sees_section z a b t c w may cpu change made log unset =
     record {
       word = w;
       look = record { more = let looks = ap (λ (l : KeeperView). l.looks) change in omega (arith, looks); last = ap (λ (l : KeeperView). l.last_look) change };
-      log = ([], log ∙ ap (λ (ds : List Deed). ds ++ did (Look (Some t) c) (Word w)) (sym (append-nil a.log)));
+      log = ([], log ∙ ap (λ (ds : List LogItem). ds ++ did (Look (Some t) c) (Word w)) (sym (append-nil a.log)));
       odd = tells.0;
       snapshot = ap (λ (n : Mark). n.snapshot) there ∙ tells.1;
       unpassed = unset;
@@ -78,7 +78,7 @@ sees_passive z a b t c w may cpu change made log unset =
     record {
       word = w;
       look = record { more = let looks = ap (λ (l : KeeperView). l.looks) change in omega (arith, looks); last = ap (λ (l : KeeperView). l.last_look) change };
-      log = ([], log ∙ ap (λ (ds : List Deed). ds ++ did (PassiveLook t c) (Word w)) (sym (append-nil a.log)));
+      log = ([], log ∙ ap (λ (ds : List LogItem). ds ++ did (PassiveLook t c) (Word w)) (sym (append-nil a.log)));
       some = eqb-false w 0 (or_parts m.clear (w == 0) (sym (ap (λ (n : Mark). n.clear) there) ∙ unset)).1;
       unclear = unset;
     }
@@ -88,10 +88,10 @@ sees_passive z a b t c w may cpu change made log unset =
 looked_since : (a b d : OnKeeper) (t w : ℕ) (ev : Event) → HasWorkedFor a t b → HasLookedLast b.view d.view ev w → HasLookedLast a.view d.view ev w
 looked_since a b d t w ev worked last = record { more = let first = worked.looks in let then = last.more in omega (arith, first, then); last = last.last }
 
-ends_since : (old log new : List Deed) (d : Deed) → IsPrefix old log → EndsIn log d new → EndsIn old d new
+ends_since : (old log new : List LogItem) (d : LogItem) → IsPrefix old log → EndsIn log d new → EndsIn old d new
 ends_since old log new d on ends = (
   on.0 ++ ends.0,
-  ends.1 ∙ ap (λ (ds : List Deed). ds ++ ends.0 ++ d ∷ []) (sym on.1) ∙ ap (λ (ds : List Deed). ds ++ d ∷ []) (append_assoc old on.0 ends.0),
+  ends.1 ∙ ap (λ (ds : List LogItem). ds ++ ends.0 ++ d ∷ []) (sym on.1) ∙ ap (λ (ds : List LogItem). ds ++ d ∷ []) (append_assoc old on.0 ends.0),
 )
 
 section_since : (a b d : OnKeeper) (t c : ℕ) → HasWorkedFor a t b → SeesSection b t c d → SeesSection a t c d

@@ -25,18 +25,18 @@ use Rattle.protocol.specs.State.{State, mark_at, count_at, total_at}
 use Rattle.registry_values.specs.Marks.{no_mark}
 use Rattle.protocol.proofs.slots.Occupied.{in_within}
 use Rattle.cpu_words.specs.declared.view.KeeperView.{KeeperView}
-use Rattle.cpu_words.specs.declared.view.Deed.{Deed}
+use Rattle.cpu_words.specs.declared.view.LogItem.{LogItem}
 use Rattle.cpu_words.specs.Locals.{IsPlaceCount}
 use Rattle.cpu_words.specs.Views.{number_at, collected_net, collected_one, CpuShown, KeeperShown}
 use Rattle.cpu_words.specs.Rule.{Good}
-use Rattle.cpu_words.specs.Notes.{with_heard, keeper_with_heard}
-use Rattle.cpu_words.specs.Deeds.{AreCountsOf, is_drawn, occupant_of, word_if, word_in}
+use Rattle.cpu_words.specs.Notes.{with_note, keeper_with_note}
+use Rattle.cpu_words.specs.KeeperLog.{AreCountsOf, is_drawn, occupant_of, word_if, word_in}
 use Rattle.registry_values.specs.declared.entry.Change.{Change}
 use Rattle.cpu_words.proofs.by_cpu.Counting.{place_is}
 use Rattle.cpu_words.proofs.by_keeper.KeeperSees.{seen_by_keeper}
 use Rattle.passive_list.specs.Cpus.{OnCpu}
 use Rattle.passive_list.specs.declared.keeper.KeptSlot.{KeptSlot}
-use Rattle.passive_list.specs.Keepers.{IsAtRest, IsOurKeeper, OnKeeper, RowsAgree, states_of}
+use Rattle.passive_list.specs.Keepers.{IsAtRest, IsOurKeeper, OnKeeper, OnPlainKeeper, RowsAgree, on_keeper, states_of}
 use Rattle.passive_list.proofs.Rows.{slots_agree}
 use Rattle.name_registry.specs.Auditing.{AreAllCpus, AreAlike, AreShown, IsAuditOf, IsKeeperOf, IsTallied, acquired_of, is_collected, local_by, local_met, local_of, locals_of, net_met, net_of, released_of, tallies_met, tally, tally_by, tally_met, tally_of}
 use Rattle.name_registry.proofs.Audits.{all_met, each_same}
@@ -91,8 +91,8 @@ sums k t n (p ∷ row) (x ∷ xs) a each past =
 
 -- Of a slot in such a state
 
-pub known_keeper : {log : List Deed} (z : TableId) (a : Settings) (table : TableId) (k : KeeperView) (its : Settings) (rows : List KeptSlot) (n : ℕ) (x : OnKeeper) → IsOurKeeper z a table k its rows n → record { view = k; slots = states_of rows; log = log } ≡ x → IsKeeperOf a x
-known_keeper z a table k its rows n x our is = subst (IsKeeperOf a) is record {
+pub known_keeper : {table : TableId} {log : List LogItem} (a : Settings) (k : KeeperView) (rows : List KeptSlot) (n : ℕ) (x : OnPlainKeeper) → IsOurKeeper a k rows n → on_keeper table a k rows log ≡ x → IsKeeperOf x.words.settings x.keeper
+known_keeper a k rows n x our is = subst (λ (y : OnPlainKeeper). IsKeeperOf y.words.settings y.keeper) is record {
   view = our.view;
   is_shown = our.is_shown;
   slots = λ t. slots_agree a k rows t our.view our.rows;
@@ -112,7 +112,7 @@ zip_at (m ∷ ms) (n ∷ ns) (suc c) same = zip_at ms ns c (omega (arith, same))
 -- a state shows the keeper, with another note beside it
 record IsOfKeeper (g : State) (k : OnKeeper) (h : List Change) : Type 0 where
   good : Good g
-  keeper : KeeperShown g (keeper_with_heard k.view h)
+  keeper : KeeperShown g (keeper_with_note k.view h)
 
 -- the CPUs' net counts are what the state has, where it says that they were collected for the entry n of the slot t
 abbrev AreNets : State → List OnCpu → ℕ → ℕ → Type 0
@@ -121,7 +121,7 @@ AreNets g xs t n = (c : ℕ) (x : OnCpu) → get_elem? xs c ≡ some x → is_dr
 -- a live entry: no word was collected, and the total is the bias less what was given up
 held_live : (k : OnKeeper) (xs : List OnCpu) (g : State) (h : List Change) (t : ℕ) (e : Entry) → IsOfKeeper g k h → slot_at k.slots t ≡ Live e → slot_at k.view.slots t ≡ Live e → (tally_of k xs e.number t).held ≡ tally k xs e.number
 held_live k xs g h t e shown live there =
-    let seen = seen_by_keeper g (keeper_with_heard k.view h) shown.good shown.keeper in
+    let seen = seen_by_keeper g (keeper_with_note k.view h) shown.good shown.keeper in
     let each : (c : ℕ) (x : OnCpu) → get_elem? xs c ≡ some x → IsDrawn k t e.number nothing x = λ c x at. record { mark = ap (λ (y : Slot). is_retired y && (mark_at k.view.marks t x.view.id).collected) live; net = λ never. absurd (false≢true never) } in
     let sum = sums k t e.number [] xs (pos 0) each (λ c le. refl) in
     let total = shown.keeper.live_total t e (ap (λ (y : List Slot). slot_at y t) (sym seen.slots) ∙ there) in
@@ -132,7 +132,7 @@ held_live k xs g h t e shown live there =
 held_retired : (a : Settings) (k : OnKeeper) (xs : List OnCpu) (g : State) (h : List Change) (t : ℕ) (e : Entry) → IsKeeperOf a k → AreAllCpus a.cpus xs → IsOfKeeper g k h → AreNets g xs t e.number → slot_at k.slots t ≡ Retired e → slot_at k.view.slots t ≡ Retired e
     → (tally_of k xs e.number t).held ≡ tally k xs e.number
 held_retired a k xs g h t e known all shown nets gone there =
-    let seen = seen_by_keeper g (keeper_with_heard k.view h) shown.good shown.keeper in
+    let seen = seen_by_keeper g (keeper_with_note k.view h) shown.good shown.keeper in
     let here : slot_at g.slots t ≡ Retired e = ap (λ (y : List Slot). slot_at y t) (sym seen.slots) ∙ there in
     let shape = shown.good.holds.shape in
     let within = in_within g.slots t e (inr here) in
@@ -167,7 +167,7 @@ pub held_right : (a : Settings) (k : OnKeeper) (xs : List OnCpu) (g : State) (t 
 held_right a k xs g t e known all shown is =
     let seen = seen_by_keeper g k.view shown.good shown.keeper in
     let here : IsIn e (slot_at g.slots t) = subst (λ (y : List Slot). IsIn e (slot_at y t)) seen.slots (there_too a k t e known is) in
-    held_by a k xs g k.view.heard t e known all (record { good = shown.good; keeper = shown.keeper }) (λ c x at on. ap (λ i. count_at g.nets i t + released_of e.number x) (sym (all.each c x at)) ∙ (shown.cpus c x at).nets t e here) is
+    held_by a k xs g k.view.noted_pass t e known all (record { good = shown.good; keeper = shown.keeper }) (λ c x at on. ap (λ i. count_at g.nets i t + released_of e.number x) (sym (all.each c x at)) ∙ (shown.cpus c x at).nets t e here) is
 
 -- A CPU's place says its own net count
 
@@ -202,7 +202,7 @@ occupant_in n (Live d) is = (d, inl refl, same_Some d.number n is)
 occupant_in n (Retired d) is = (d, inr refl, same_Some d.number n is)
 
 -- an entry of a slot is there in the other state
-occupied_too : (log : List Deed) (g f : State) (t : ℕ) (e : Entry) → AreCountsOf log g → AreCountsOf log f → IsIn e (slot_at g.slots t) → (d : Entry) × IsIn d (slot_at f.slots t) × (d.number ≡ e.number)
+occupied_too : (log : List LogItem) (g f : State) (t : ℕ) (e : Entry) → AreCountsOf log g → AreCountsOf log f → IsIn e (slot_at g.slots t) → (d : Entry) × IsIn d (slot_at f.slots t) × (d.number ≡ e.number)
 occupied_too log g f t e own other is = occupant_in e.number (slot_at f.slots t) (sym (other.occupants t) ∙ (own.occupants t ∙ in_occupant e (slot_at g.slots t) is))
 
 word_some : (b : Bool) (w v : ℕ) → word_if b w ≡ Some v → (b ≡ true) × (w ≡ v)
@@ -210,14 +210,14 @@ word_some true w v is = (refl, same_Some w v is)
 word_some false w v is = absurd (none-some v is)
 
 -- a net count that was collected is the same in both
-drawn_too : (log : List Deed) (g f : State) (t c : ℕ) → AreCountsOf log g → AreCountsOf log f → is_drawn g t c ≡ true → count_at f.nets c t ≡ count_at g.nets c t
+drawn_too : (log : List LogItem) (g f : State) (t c : ℕ) → AreCountsOf log g → AreCountsOf log f → is_drawn g t c ≡ true → count_at f.nets c t ≡ count_at g.nets c t
 drawn_too log g f t c own other on =
     let mine : word_in g t c ≡ Some (count_at g.nets c t) = ap (λ (b : Bool). word_if b (count_at g.nets c t)) on in
     (word_some (is_drawn f t c) (count_at f.nets c t) (count_at g.nets c t) (sym (other.words t c) ∙ (own.words t c ∙ mine))).1
 
 module _ (a : Settings) (k : OnKeeper) (xs ys : List OnCpu) (known : IsKeeperOf a k) (all : AreAllCpus a.cpus xs) (alike : AreAlike k xs ys) (t : ℕ) (e : Entry) (is : IsIn e (slot_at k.slots t)) where
   here : IsIn e (slot_at alike.keeper.1.g.slots t)
-  here = let seen = seen_by_keeper alike.keeper.1.g (keeper_with_heard k.view alike.keeper.0) alike.keeper.1.good alike.keeper.1.shown in
+  here = let seen = seen_by_keeper alike.keeper.1.g (keeper_with_note k.view alike.keeper.0) alike.keeper.1.good alike.keeper.1.shown in
       subst (λ (y : List Slot). IsIn e (slot_at y t)) seen.slots (there_too a k t e known is)
 
   alike_nets : AreNets alike.keeper.1.g xs t e.number
@@ -235,7 +235,7 @@ module _ (a : Settings) (k : OnKeeper) (xs ys : List OnCpu) (known : IsKeeperOf 
       let own = alike.cpus c x at in
       let f = own.1.g in
       let there = occupied_too alike.log alike.keeper.1.g f t e alike.keeper.1.counts own.1.counts here in
-      subst (λ n. net_met t n x ≡ net_of n x) there.2 (own_net f (record x { view = with_heard x.view own.0 }) t there.0 own.1.shown there.1)
+      subst (λ n. net_met t n x ≡ net_of n x) there.2 (own_net f (record x { view = with_note x.view own.0 }) t there.0 own.1.shown there.1)
 
   pub alike_tally : tally_met k xs e.number t ≡ tally_of k xs e.number t
   alike_tally = ap (λ locals. tally_by k locals e.number t)

@@ -22,9 +22,9 @@ use Rattle.protocol.specs.Invariant.{addition_due_at, is_adding_at, subtraction_
 use Rattle.protocol.specs.State.{State, count_at, mark_at, total_at}
 use Rattle.protocol.proofs.keeps.Unlinking.{within_retired}
 use Rattle.protocol.proofs.slots.Numbers.{position_fails}
-use Rattle.cpu_words.specs.declared.view.Deed.{Deed}
-use Rattle.cpu_words.specs.Deeds.{changes_in, given_up, has_looked, has_looked_passive, is_drawn, occupant, occupant_of, sum_collected, word_if, words_collected, IsFreedFrom}
-use Rattle.cpu_words.specs.Notes.{keeper_with_heard}
+use Rattle.cpu_words.specs.declared.view.LogItem.{LogItem}
+use Rattle.cpu_words.specs.KeeperLog.{changes_in, given_up, has_looked, has_looked_passive, is_drawn, occupant, occupant_of, sum_collected, word_if, words_collected, IsFreedFrom}
+use Rattle.cpu_words.specs.Notes.{keeper_with_note}
 use Rattle.cpu_words.specs.Rule.{did}
 use Rattle.cpu_words.proofs.by_keeper.KeeperSees.{seen_by_keeper}
 use Rattle.cpu_words.proofs.logs.Standings.{not_attached}
@@ -56,11 +56,11 @@ not_retired z a n own none t is = by (slot_at a.slots t) refl
 
 -- What was met
 
--- the last deed is the one that ends the log, and was made since the turn began
-ends_in : (begin old new : List Deed) (d : Deed) → IsPrefix begin old → EndsIn old d new → (before : List Deed) × IsPrefix begin before × (new ≡ before ++ d ∷ [])
+-- the last item is the one that ends the log, and was made since the turn began
+ends_in : (begin old new : List LogItem) (d : LogItem) → IsPrefix begin old → EndsIn old d new → (before : List LogItem) × IsPrefix begin before × (new ≡ before ++ d ∷ [])
 ends_in begin old new d from ends = (old ++ ends.0, prefix_on _ _ _ from (ends.0, refl), ends.1)
 
-met_section : (z : Settings) (a b : OnKeeper) (t c : ℕ) (begin : List Deed) → HasOwnLog z b → IsPrefix begin a.log → MeetsGrace a t c b → MetSection t c begin b.log
+met_section : (z : Settings) (a b : OnKeeper) (t c : ℕ) (begin : List LogItem) → HasOwnLog z b → IsPrefix begin a.log → MeetsGrace a t c b → MetSection t c begin b.log
 met_section z a b t c begin own from meets =
     let last = ends_in begin a.log b.log (has_looked t c meets.sees.word) from meets.sees.log in record {
       word = meets.sees.word;
@@ -72,7 +72,7 @@ met_section z a b t c begin own from meets =
       lesser = λ d lt. own.marks.passed t d (meets.lesser d lt);
     }
 
-met_reference : (z : Settings) (a b : OnKeeper) (t c : ℕ) (begin : List Deed) → HasOwnLog z b → IsPrefix begin a.log → MeetsPassive a t c b → MetReference z.cpus t c begin b.log
+met_reference : (z : Settings) (a b : OnKeeper) (t c : ℕ) (begin : List LogItem) → HasOwnLog z b → IsPrefix begin a.log → MeetsPassive a t c b → MetReference z.cpus t c begin b.log
 met_reference z a b t c begin own from meets =
     let last = ends_in begin a.log b.log (has_looked_passive t c meets.sees.word) from meets.sees.log in record {
       word = meets.sees.word;
@@ -87,7 +87,7 @@ met_locals : (z : Settings) (a b : OnKeeper) (t n k : ℕ) (e : Entry) → HasOw
 met_locals z a b t n k e own at same meets =
     let s = own.counts.1 in
     let g : State = s.g in
-    let seen = seen_by_keeper g (keeper_with_heard b.view own.counts.0) s.good s.shown in
+    let seen = seen_by_keeper g (keeper_with_note b.view own.counts.0) s.good s.shown in
     let occupied : occupant t b.log ≡ Some n = own.occupants t ∙ ap occupant_of (ap (λ (l : List Slot). slot_at l t) meets.leaves.slots ∙ at) ∙ ap (λ (m : ℕ). Some m) same in
     let gone : is_retired (slot_at g.slots t) ≡ true = ap is_retired (ap (λ (l : List Slot). slot_at l t) (sym seen.slots) ∙ meets.held.retired) in
     let due : g.due ≡ Rest = sym seen.due ∙ own.rest in
@@ -108,7 +108,7 @@ met_locals z a b t n k e own at same meets =
 pub ended_freed : (m : OnKeeper) (t : ℕ) (b : OnKeeper) (e : Entry) → HasEnded m t b → slot_at m.slots t ≡ Retired e → IsFreedFrom t e.number b.log
 ended_freed m t b e ended at = ⊎_elim (λ v. v.1.freed e at) (λ (f : HasFreed m t b). f.freed e at) ended
 
-has_met : (z : Settings) (a b : OnKeeper) (t n : ℕ) (e : Entry) (begin : List Deed) (stage : Stage) → HasOwnLog z b → IsPrefix begin a.log → slot_at a.slots t ≡ Retired e → e.number ≡ n → Meets a t stage b → HasMet z.cpus t n stage begin b.log
+has_met : (z : Settings) (a b : OnKeeper) (t n : ℕ) (e : Entry) (begin : List LogItem) (stage : Stage) → HasOwnLog z b → IsPrefix begin a.log → slot_at a.slots t ≡ Retired e → e.number ≡ n → Meets a t stage b → HasMet z.cpus t n stage begin b.log
 has_met z a b t n e begin (Grace c) own from at same meets = met_section z a b t c begin own from meets
 has_met z a b t n e begin (Passive c) own from at same meets = met_reference z a b t c begin own from meets
 has_met z a b t n e begin (Local k) own from at same meets = met_locals z a b t n k e own at same meets
@@ -144,8 +144,8 @@ answers_by z a h b n (Ok stage) own end slots from has =
 answers_by z a h b n (Err refusal) own end slots from has = (has.0, not_retired z a n own (ap (λ (l : List Slot). retired_slot l n) (sym slots) ∙ has.1))
 
 -- what the CPU hears has the keeper's log as the turn ended
-heard_end : (a b : OnKeeper) (x y : OnCpu) → b ≡ keeper_after_tell (keeper_after_hear a x) → IsPrefix b.log y.deeds → IsPrefix a.log y.deeds
-heard_end a b x y is told =
+told_end : (a b : OnKeeper) (x y : OnCpu) → b ≡ keeper_after_tell (keeper_after_hear a x) → IsPrefix b.log y.known_log → IsPrefix a.log y.known_log
+told_end a b x y is told =
     let log : b.log ≡ a.log ++ (did (Hear None) Done ++ did (Tell None) Done) = ap (λ (k : OnKeeper). k.log) is ∙ append_assoc a.log (did (Hear None) Done) (did (Tell None) Done) in
     prefix_on _ _ _ (did (Hear None) Done ++ did (Tell None) Done, sym log) told
 
@@ -156,13 +156,13 @@ told_turn z a x n answer b y has = record {
   known = has.known;
   seen = has.seen;
   on = prefix_on _ _ _ (did (Hear None) Done, refl) (advanced_on (keeper_after_hear a x) n answer has.end has.made);
-  heard = heard_end has.end b x y has.is has.told;
+  told = told_end has.end b x y has.is has.told;
   answers = answers_by z a (keeper_after_hear a x) has.end n answer has.own has.own_end refl (did (Hear None) Done, refl) has.made;
 }
 
 -- the steps of one, put together
-pub made_turn : (z : Settings) (a h end k b : OnKeeper) (x same after y : OnCpu) (n : ℕ) (answer : Result Stage Refusal) → IsPrefix x.deeds a.log → IsPrefix x.view.pass h.view.history → HasOwnLog z a → h ≡ keeper_after_hear a x → same ≡ x
-    → HasAdvanced h n answer end → HasOwnLog z end → k ≡ keeper_after_hear end same → after ≡ same → b ≡ keeper_after_tell k → HasHeardOn k.view.history after y → IsPrefix b.log y.deeds → HasAdvancedFor z a x n answer b y
+pub made_turn : (z : Settings) (a h end k b : OnKeeper) (x same after y : OnCpu) (n : ℕ) (answer : Result Stage Refusal) → IsPrefix x.known_log a.log → IsPrefix x.view.pass h.view.history → HasOwnLog z a → h ≡ keeper_after_hear a x → same ≡ x
+    → HasAdvanced h n answer end → HasOwnLog z end → k ≡ keeper_after_hear end same → after ≡ same → b ≡ keeper_after_tell k → HasHeardOn k.view.history after y → IsPrefix b.log y.known_log → HasAdvancedFor z a x n answer b y
 made_turn z a h end k b x same after y n answer known seen own heard first made own_end again second is hears told = record {
   known = known;
   seen =

@@ -12,8 +12,8 @@ use Rattle.registry_values.specs.declared.settings.Settings.{Settings}
 use Rattle.registry_values.specs.Answers.{wait_answer}
 use Rattle.registry_values.specs.Marks.{is_even, is_out}
 use Rattle.registry_values.proofs.Least.{least_none}
-use Rattle.cpu_words.specs.declared.view.Deed.{Deed}
-use Rattle.cpu_words.specs.Deeds.{changes_in, has_taken, has_found, HasPassedOn, HasWaited, IsDetachedFrom, IsSeenOut, IsSnapped, KeepsSlot}
+use Rattle.cpu_words.specs.declared.view.LogItem.{LogItem}
+use Rattle.cpu_words.specs.KeeperLog.{changes_in, has_taken, has_found, HasPassedOn, HasWaited, IsDetachedFrom, IsSeenOut, IsSnapped, KeepsSlot}
 use Rattle.cpu_words.specs.Rule.{did}
 use Rattle.cpu_words.proofs.logs.Growing.{passed_on}
 use Rattle.cpu_words.proofs.logs.Standings.{kept_entry, kept_parts}
@@ -28,40 +28,40 @@ use Rattle.name_registry.proofs.Passed.{IsReady, Passing, onward_below, passed_e
 -- What stands in a log
 
 -- the word of c was taken
-pub record IsTaken (c w : ℕ) (log : List Deed) : Type 0 where
-  before : List Deed
-  after : List Deed
+pub record IsTaken (c w : ℕ) (log : List LogItem) : Type 0 where
+  before : List LogItem
+  after : List LogItem
   are : log ≡ before ++ has_taken c w ∷ after
 
 -- it was found out of the section of the word `old`
-record IsFound (c old : ℕ) (log : List Deed) : Type 0 where
+record IsFound (c old : ℕ) (log : List LogItem) : Type 0 where
   new : ℕ
-  before : List Deed
-  after : List Deed
+  before : List LogItem
+  after : List LogItem
   are : log ≡ before ++ has_found c new ∷ after
   out : is_out old new ≡ true
 
-taken_more : (c w : ℕ) (log more : List Deed) → IsTaken c w log → IsTaken c w (log ++ more)
-taken_more c w log more is = record { before = is.before; after = is.after ++ more; are = ap (λ (l : List Deed). l ++ more) is.are ∙ append_assoc is.before (has_taken c w ∷ is.after) more }
+taken_more : (c w : ℕ) (log more : List LogItem) → IsTaken c w log → IsTaken c w (log ++ more)
+taken_more c w log more is = record { before = is.before; after = is.after ++ more; are = ap (λ (l : List LogItem). l ++ more) is.are ∙ append_assoc is.before (has_taken c w ∷ is.after) more }
 
-taken_past : (c w : ℕ) (first log : List Deed) → IsTaken c w log → IsTaken c w (first ++ log)
-taken_past c w first log is = record { before = first ++ is.before; after = is.after; are = ap (λ (l : List Deed). first ++ l) is.are ∙ sym (append_assoc first is.before (has_taken c w ∷ is.after)) }
+taken_past : (c w : ℕ) (first log : List LogItem) → IsTaken c w log → IsTaken c w (first ++ log)
+taken_past c w first log is = record { before = first ++ is.before; after = is.after; are = ap (λ (l : List LogItem). first ++ l) is.are ∙ sym (append_assoc first is.before (has_taken c w ∷ is.after)) }
 
-found_more : (c old : ℕ) (log more : List Deed) → IsFound c old log → IsFound c old (log ++ more)
-found_more c old log more is = record { new = is.new; before = is.before; after = is.after ++ more; are = ap (λ (l : List Deed). l ++ more) is.are ∙ append_assoc is.before (has_found c is.new ∷ is.after) more; out = is.out }
+found_more : (c old : ℕ) (log more : List LogItem) → IsFound c old log → IsFound c old (log ++ more)
+found_more c old log more is = record { new = is.new; before = is.before; after = is.after ++ more; are = ap (λ (l : List LogItem). l ++ more) is.are ∙ append_assoc is.before (has_found c is.new ∷ is.after) more; out = is.out }
 
-found_past : (c old : ℕ) (first log : List Deed) → IsFound c old log → IsFound c old (first ++ log)
-found_past c old first log is = record { new = is.new; before = first ++ is.before; after = is.after; are = ap (λ (l : List Deed). first ++ l) is.are ∙ sym (append_assoc first is.before (has_found c is.new ∷ is.after)); out = is.out }
+found_past : (c old : ℕ) (first log : List LogItem) → IsFound c old log → IsFound c old (first ++ log)
+found_past c old first log is = record { new = is.new; before = first ++ is.before; after = is.after; are = ap (λ (l : List LogItem). first ++ l) is.are ∙ sym (append_assoc first is.before (has_found c is.new ∷ is.after)); out = is.out }
 
-seen_more : (c : ℕ) (log more : List Deed) → IsSeenOut c log → IsSeenOut c (log ++ more)
+seen_more : (c : ℕ) (log more : List LogItem) → IsSeenOut c log → IsSeenOut c (log ++ more)
 seen_more c log more is = record {
   old = is.old;
   new = is.new;
   before = is.before;
   between = is.between;
   after = is.after ++ more;
-  are = ap (λ (l : List Deed). l ++ more) is.are ∙ (append_assoc is.before (has_taken c is.old ∷ (is.between ++ has_found c is.new ∷ is.after)) more
-      ∙ ap (λ (l : List Deed). is.before ++ has_taken c is.old ∷ l) (append_assoc is.between (has_found c is.new ∷ is.after) more));
+  are = ap (λ (l : List LogItem). l ++ more) is.are ∙ (append_assoc is.before (has_taken c is.old ∷ (is.between ++ has_found c is.new ∷ is.after)) more
+      ∙ ap (λ (l : List LogItem). is.before ++ has_taken c is.old ∷ l) (append_assoc is.between (has_found c is.new ∷ is.after) more));
   moved = is.moved;
 }
 
@@ -72,7 +72,7 @@ moved old new is = ⊎_elim
     (λ (other : not (old == new) ≡ true). inr (λ same. eqb-false old new (not-true (old == new) other) (sym same)))
     (or_cases (is_even new) (not (old == new)) is)
 
-seen_out : (c w : ℕ) (first second : List Deed) → IsTaken c w first → IsFound c w second → IsSeenOut c (first ++ second)
+seen_out : (c w : ℕ) (first second : List LogItem) → IsTaken c w first → IsFound c w second → IsSeenOut c (first ++ second)
 seen_out c w first second taken found = record {
   old = w;
   new = found.new;
@@ -80,14 +80,14 @@ seen_out c w first second taken found = record {
   between = taken.after ++ found.before;
   after = found.after;
   are = (λ k. taken.are k ++ found.are k) ∙ (append_assoc taken.before (has_taken c w ∷ taken.after) (found.before ++ has_found c found.new ∷ found.after)
-      ∙ ap (λ (l : List Deed). taken.before ++ has_taken c w ∷ l) (sym (append_assoc taken.after found.before (has_found c found.new ∷ found.after))));
+      ∙ ap (λ (l : List LogItem). taken.before ++ has_taken c w ∷ l) (sym (append_assoc taken.after found.before (has_found c found.new ∷ found.after))));
   moved = moved w found.new found.out;
 }
 
 -- What looks add to the log
 
 record Snapped (words : List ℕ) (n : ℕ) (k l : Looking) : Type 0 where
-  more : List Deed
+  more : List LogItem
   are : l.log ≡ k.log ++ more
   taken : (c : ℕ) → c < n → IsTaken c (word_of words c) more
 
@@ -95,9 +95,9 @@ snapped : (words : List ℕ) (n : ℕ) (k l : Looking) → SnapshotsBelow words 
 snapped words zero k l is = record { more = []; are = ap (λ (x : Looking). x.log) is ∙ sym (append-nil k.log); taken = λ c lt. absurd (omega (arith, lt)) }
 snapped words (suc n) k l is =
     let p = snapped words n k is.0 is.1 in
-    let d : List Deed = has_taken n (word_of words n) ∷ [] in record {
+    let d : List LogItem = has_taken n (word_of words n) ∷ [] in record {
       more = p.more ++ d;
-      are = ap (λ (x : Looking). x.log) is.2.change ∙ (ap (λ (x : List Deed). x ++ d) p.are ∙ append_assoc k.log p.more d);
+      are = ap (λ (x : Looking). x.log) is.2.change ∙ (ap (λ (x : List LogItem). x ++ d) p.are ∙ append_assoc k.log p.more d);
       taken = λ c lt. ⊎_elim
           (λ (below : c < n). taken_more c (word_of words c) p.more d (p.taken c below))
           (λ (le : n ≤ c). let same : n ≡ c = omega (arith, lt, le) in subst (λ (m : ℕ). IsTaken m (word_of words m) (p.more ++ d)) same (taken_past n (word_of words n) p.more d (record { before = []; after = []; are = refl })))
@@ -105,11 +105,11 @@ snapped words (suc n) k l is =
     }
 
 record Glanced (words : List ℕ) (seen after : List Bool) (n : ℕ) (k l : Looking) : Type 0 where
-  more : List Deed
+  more : List LogItem
   are : l.log ≡ k.log ++ more
   found : (c : ℕ) → c < n → is_seen after c ≡ true → (is_seen seen c ≡ true) ⊎ IsFound c (word_of words c) more
 
-once : (old c : ℕ) (before after : Bool) (m l : Looking) → GlancesOnce old c before m after l → (d : List Deed) × (l.log ≡ m.log ++ d) × (after ≡ true → (before ≡ true) ⊎ IsFound c old d)
+once : (old c : ℕ) (before after : Bool) (m l : Looking) → GlancesOnce old c before m after l → (d : List LogItem) × (l.log ≡ m.log ++ d) × (after ≡ true → (before ≡ true) ⊎ IsFound c old d)
 once old c true after m l is = ([], ap (λ (x : Looking). x.log) is.1 ∙ sym (append-nil m.log), λ t. inl refl)
 once old c false after m l is = (has_found c is.0 ∷ [], ap (λ (x : Looking). x.log) is.1.change, λ t. inr (record { new = is.0; before = []; after = []; are = refl; out = sym is.2 ∙ t }))
 
@@ -119,7 +119,7 @@ glanced words seen after (suc n) k l is =
     let p = glanced words seen after n k is.0 is.1 in
     let o = once (word_of words n) n (is_seen seen n) (is_seen after n) is.0 l is.2 in record {
       more = p.more ++ o.0;
-      are = o.1 ∙ (ap (λ (x : List Deed). x ++ o.0) p.are ∙ append_assoc k.log p.more o.0);
+      are = o.1 ∙ (ap (λ (x : List LogItem). x ++ o.0) p.are ∙ append_assoc k.log p.more o.0);
       found = λ c lt t. ⊎_elim
           (λ (below : c < n). ⊎_elim (λ (was : is_seen seen c ≡ true). inl was) (λ (now : IsFound c (word_of words c) p.more). inr (found_more c (word_of words c) p.more o.0 now)) (p.found c below t))
           (λ (le : n ≤ c).
@@ -133,21 +133,21 @@ glanced words seen after (suc n) k l is =
 
 -- so far: the keeper had done `before` as it heard the caller, and what was detached by then had passed or was retired, with these numbers; since then it took the words of all CPUs, and saw out of their sections those that are seen
 pub record SoFar (cpus : ℕ) (x : OnCpu) (words : List ℕ) (numbers : List (Option ℕ)) (seen : List Bool) (m : OnCpu) : Type 0 where
-  pub before : List Deed
-  pub since : List Deed
-  pub are : m.deeds ≡ before ++ since
-  pub known : IsPrefix x.deeds before
+  pub before : List LogItem
+  pub since : List LogItem
+  pub are : m.known_log ≡ before ++ since
+  pub known : IsPrefix x.known_log before
   pub pass : length x.view.pass ≤ changes_in before
   pub ready : (t n : ℕ) → IsDetachedFrom t n before → IsReady cpus numbers before t n
   pub taken : (c : ℕ) → c < cpus → IsTaken c (word_of words c) since
   pub out : (c : ℕ) → c < cpus → is_seen seen c ≡ true → IsSeenOut c since
 
 -- it stays so of whoever knows more
-pub so_far_on : (cpus : ℕ) (x : OnCpu) (words : List ℕ) (numbers : List (Option ℕ)) (seen : List Bool) (m y : OnCpu) → IsPrefix m.deeds y.deeds → SoFar cpus x words numbers seen m → SoFar cpus x words numbers seen y
+pub so_far_on : (cpus : ℕ) (x : OnCpu) (words : List ℕ) (numbers : List (Option ℕ)) (seen : List Bool) (m y : OnCpu) → IsPrefix m.known_log y.known_log → SoFar cpus x words numbers seen m → SoFar cpus x words numbers seen y
 so_far_on cpus x words numbers seen m y more had = record {
   before = had.before;
   since = had.since ++ more.0;
-  are = sym more.1 ∙ (ap (λ (l : List Deed). l ++ more.0) had.are ∙ append_assoc had.before had.since more.0);
+  are = sym more.1 ∙ (ap (λ (l : List LogItem). l ++ more.0) had.are ∙ append_assoc had.before had.since more.0);
   known = had.known;
   pass = had.pass;
   ready = had.ready;
@@ -172,17 +172,17 @@ so_far_by cpus x words numbers others seen m same had = record {
 }
 
 -- a hold's end: the log of the keeper, and what came to be known beyond it
-record After (log more : List Deed) (y : OnCpu) : Type 0 where
-  tail : List Deed
-  are : y.deeds ≡ log ++ (did (Hear None) Done ++ (more ++ tail))
+record After (log more : List LogItem) (y : OnCpu) : Type 0 where
+  tail : List LogItem
+  are : y.known_log ≡ log ++ (did (Hear None) Done ++ (more ++ tail))
 
-after_hold : (looks : Looking → Looking → Type 0) (a : OnKeeper) (x : OnCpu) (b : OnKeeper) (y : OnCpu) (hold : Hold looks a x b y) (more : List Deed) → hold.end.log ≡ (a.log ++ did (Hear None) Done) ++ more → After a.log more y
+after_hold : (looks : Looking → Looking → Type 0) (a : OnKeeper) (x : OnCpu) (b : OnKeeper) (y : OnCpu) (hold : Hold looks a x b y) (more : List LogItem) → hold.end.log ≡ (a.log ++ did (Hear None) Done) ++ more → After a.log more y
 after_hold looks a x b y hold more are =
-    let h : List Deed = did (Hear None) Done in
-    let t : List Deed = did (Tell None) Done ++ hold.told.0 in record {
+    let h : List LogItem = did (Hear None) Done in
+    let t : List LogItem = did (Tell None) Done ++ hold.told.0 in record {
       tail = t;
-      are = sym hold.told.1 ∙ (ap (λ (l : List Deed). l ++ hold.told.0) hold.log ∙ (append_assoc hold.end.log (did (Tell None) Done) hold.told.0
-          ∙ (ap (λ (l : List Deed). l ++ t) are ∙ (append_assoc (a.log ++ h) more t ∙ append_assoc a.log h (more ++ t)))));
+      are = sym hold.told.1 ∙ (ap (λ (l : List LogItem). l ++ hold.told.0) hold.log ∙ (append_assoc hold.end.log (did (Tell None) Done) hold.told.0
+          ∙ (ap (λ (l : List LogItem). l ++ t) are ∙ (append_assoc (a.log ++ h) more t ∙ append_assoc a.log h (more ++ t)))));
     }
 
 none_is_seen : (c : ℕ) → is_seen none_seen c ≡ true → ⊥
@@ -193,7 +193,7 @@ so_far_begun z x words numbers y is =
     let hold = is.2.hold in
     let p = snapped words z.cpus _ hold.end hold.made in
     let q = after_hold _ is.0 x is.1 y hold p.more p.are in
-    let rest : List Deed = p.more ++ q.tail in record {
+    let rest : List LogItem = p.more ++ q.tail in record {
       before = is.0.log;
       since = did (Hear None) Done ++ rest;
       are = q.are;
@@ -209,12 +209,12 @@ so_far_turn z x words numbers seen m told after y had is =
     let hold = is.2.hold in
     let p = glanced words seen after z.cpus _ hold.end hold.made in
     let q = after_hold _ is.0 m is.1 y hold p.more p.are in
-    let h : List Deed = did (Hear None) Done in
-    let rest : List Deed = h ++ (p.more ++ q.tail) in
+    let h : List LogItem = did (Hear None) Done in
+    let rest : List LogItem = h ++ (p.more ++ q.tail) in
     let gap = hold.known.0 in
-    let new : List Deed = gap ++ rest in
-    let are : y.deeds ≡ had.before ++ (had.since ++ new) =
-    q.are ∙ (ap (λ (l : List Deed). l ++ rest) (sym hold.known.1 ∙ ap (λ (l : List Deed). l ++ gap) had.are)
+    let new : List LogItem = gap ++ rest in
+    let are : y.known_log ≡ had.before ++ (had.since ++ new) =
+    q.are ∙ (ap (λ (l : List LogItem). l ++ rest) (sym hold.known.1 ∙ ap (λ (l : List LogItem). l ++ gap) had.are)
     ∙ (append_assoc (had.before ++ had.since) gap rest ∙ append_assoc had.before had.since new)) in
     record {
       before = had.before;
@@ -241,11 +241,11 @@ all_seen z x words numbers m seen told after y had is none = λ c lt. had.out c 
 
 -- The end
 
-kept_both : (t : ℕ) (a b : List Deed) → KeepsSlot t a → KeepsSlot t b → KeepsSlot t (a ++ b)
+kept_both : (t : ℕ) (a b : List LogItem) → KeepsSlot t a → KeepsSlot t b → KeepsSlot t (a ++ b)
 kept_both t [] b first second = second
 kept_both t (d ∷ ds) b first second = (first.0, kept_both t ds b first.1 second)
 
-waited_on : (since more : List Deed) (cpus : ℕ) → HasWaited since cpus → HasWaited (since ++ more) cpus
+waited_on : (since more : List LogItem) (cpus : ℕ) → HasWaited since cpus → HasWaited (since ++ more) cpus
 waited_on since more cpus waited c lt = seen_more c since more (waited c lt)
 
 -- once all were seen out, the passes are made, and the CPU is told what the keeper did
@@ -255,22 +255,22 @@ passed_out z x words numbers seen m y had waited is =
     let does = is.2 in
     let before = had.before in
     let since = had.since in
-    let hear : List Deed = did (Hear None) Done in
-    let tell : List Deed = did (Tell None) Done in
+    let hear : List LogItem = did (Hear None) Done in
+    let tell : List LogItem = did (Tell None) Done in
     let h = keeper_after_hear a m in
-    let gap : List Deed = does.known.0 ++ hear in
+    let gap : List LogItem = does.known.0 ++ hear in
     let log : h.log ≡ (before ++ since) ++ gap =
-    ap (λ (l : List Deed). l ++ hear) (sym does.known.1 ∙ ap (λ (l : List Deed). l ++ does.known.0) had.are) ∙ append_assoc (before ++ since) does.known.0 hear in
+    ap (λ (l : List LogItem). l ++ hear) (sym does.known.1 ∙ ap (λ (l : List LogItem). l ++ does.known.0) had.are) ∙ append_assoc (before ++ since) does.known.0 hear in
     let on = onward_below z numbers 32 h does.end does.passes in
-    let looks : List Deed = gap ++ on.log.0 in
+    let looks : List LogItem = gap ++ on.log.0 in
     let whole : does.end.log ≡ before ++ (since ++ looks) =
-    sym on.log.1 ∙ (ap (λ (l : List Deed). l ++ on.log.0) log ∙ (append_assoc (before ++ since) gap on.log.0 ∙ append_assoc before since looks)) in
-    let tail : List Deed = hear ++ (tell ++ does.told.0) in
-    let to_tail : y.deeds ≡ does.end.log ++ tail =
+    sym on.log.1 ∙ (ap (λ (l : List LogItem). l ++ on.log.0) log ∙ (append_assoc (before ++ since) gap on.log.0 ∙ append_assoc before since looks)) in
+    let tail : List LogItem = hear ++ (tell ++ does.told.0) in
+    let to_tail : y.known_log ≡ does.end.log ++ tail =
     sym does.told.1 ∙ (ap (λ (k : OnKeeper). k.log ++ does.told.0) does.is ∙ (append_assoc (does.end.log ++ hear) tell does.told.0 ∙ append_assoc does.end.log hear (tell ++ does.told.0))) in
-    let all : List Deed = since ++ (looks ++ tail) in
-    let are : y.deeds ≡ before ++ all =
-    to_tail ∙ (ap (λ (l : List Deed). l ++ tail) whole ∙ (append_assoc before (since ++ looks) tail ∙ ap (λ (l : List Deed). before ++ l) (append_assoc since looks tail))) in
+    let all : List LogItem = since ++ (looks ++ tail) in
+    let are : y.known_log ≡ before ++ all =
+    to_tail ∙ (ap (λ (l : List LogItem). l ++ tail) whole ∙ (append_assoc before (since ++ looks) tail ∙ ap (λ (l : List LogItem). before ++ l) (append_assoc since looks tail))) in
     let passing : Passing z numbers h does.end before since gap = record { passes = does.passes; own = does.own; log = log; waited = waited } in
     record {
       before = before;
@@ -310,14 +310,14 @@ abbrev pub Learns : OnCpu → OnCpu → Type 0
 Learns x y = HasLearned x y × (y.made ≡ x.made)
 
 pub learns_none : (x : OnCpu) → Learns x x
-learns_none x = (record { pass = ([], append-nil x.view.pass); deeds = ([], append-nil x.deeds); is = refl }, refl)
+learns_none x = (record { pass = ([], append-nil x.view.pass); known_log = ([], append-nil x.known_log); is = refl }, refl)
 
 pub learns_more : (x m y : OnCpu) → Learns x m → Learns m y → Learns x y
 learns_more x m y first second = (
   record {
     pass = prefix_trans x.view.pass m.view.pass y.view.pass first.0.pass second.0.pass;
-    deeds = (first.0.deeds.0 ++ second.0.deeds.0, sym (append_assoc x.deeds first.0.deeds.0 second.0.deeds.0) ∙ (ap (λ (l : List Deed). l ++ second.0.deeds.0) first.0.deeds.1 ∙ second.0.deeds.1));
-    is = second.0.is ∙ ap (λ (o : OnCpu). record o { view = record o.view { pass = y.view.pass; heard = y.view.heard }; made = y.made; deeds = y.deeds }) first.0.is;
+    known_log = (first.0.known_log.0 ++ second.0.known_log.0, sym (append_assoc x.known_log first.0.known_log.0 second.0.known_log.0) ∙ (ap (λ (l : List LogItem). l ++ second.0.known_log.0) first.0.known_log.1 ∙ second.0.known_log.1));
+    is = second.0.is ∙ ap (λ (o : OnCpu). record o { view = record o.view { pass = y.view.pass; noted_pass = y.view.noted_pass }; made = y.made; known_log = y.known_log }) first.0.is;
   },
   second.1 ∙ first.1,
 )

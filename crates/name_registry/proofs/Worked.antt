@@ -24,13 +24,13 @@ use Rattle.registry_values.specs.Slots.{slot_at}
 use Rattle.protocol.proofs.slots.MarkRows.{mark_grows, mark_there, marks_grow_none, marks_grow_more, passed_from, clear_from, collected_from}
 use Rattle.protocol.proofs.slots.Cells.{total_other}
 use Rattle.cpu_words.specs.declared.view.KeeperView.{KeeperView}
-use Rattle.cpu_words.specs.declared.view.Deed.{Deed}
+use Rattle.cpu_words.specs.declared.view.LogItem.{LogItem}
 use Rattle.cpu_words.specs.declared.view.View.TheVariants.{Keeper}
 use Rattle.cpu_words.specs.Rule.{IsShown, did}
 use Rattle.cpu_words.specs.Steps.{Makes}
 use Rattle.cpu_words.proofs.by_keeper.KeeperSees.{seen_by_keeper}
 use Rattle.passive_list.specs.declared.keeper.KeptSlot.{KeptSlot}
-use Rattle.passive_list.specs.Keepers.{OnKeeper, states_of, IsOurKeeper}
+use Rattle.passive_list.specs.Keepers.{OnKeeper, OnPlainKeeper, on_keeper, states_of, IsOurKeeper}
 use Rattle.passive_list.specs.Vacating.{IsDrainedOn}
 use Rattle.passive_list.proofs.Marks.{marked}
 use Rattle.passive_list.proofs.Rows.{retired_in}
@@ -52,12 +52,12 @@ keeps_iface k t d e is_shown is kept =
     iface_if (kept_at k.keeps t) e.rec.kind d (keeps.rightly t e (inr is)) kept
 
 -- a keeper has work at each slot that it has as retired
-pub may_work : {log : List Deed} (z : TableId) (a : Settings) (table : TableId) (k : KeeperView) (its : Settings) (rows : List KeptSlot) (n : ℕ) (x : OnKeeper) (t : ℕ) (e : Entry) → IsOurKeeper z a table k its rows n → record { view = k; slots = states_of rows; log = log } ≡ x
-    → slot_at x.slots t ≡ Retired e → MayWork a x t
-may_work z a table k its rows n x t e our is retired =
-    let there : slot_at (states_of rows) t ≡ Retired e = ap (λ (y : OnKeeper). slot_at y.slots t) is ∙ retired in
+pub may_work : {table : TableId} {log : List LogItem} (a : Settings) (k : KeeperView) (rows : List KeptSlot) (n : ℕ) (x : OnPlainKeeper) (t : ℕ) (e : Entry) → IsOurKeeper a k rows n → on_keeper table a k rows log ≡ x
+    → slot_at x.keeper.slots t ≡ Retired e → MayWork x.words.settings x.keeper t
+may_work a k rows n x t e our is retired =
+    let there : slot_at (states_of rows) t ≡ Retired e = ap (λ (y : OnPlainKeeper). slot_at y.keeper.slots t) is ∙ retired in
     let known = retired_in a k rows t e our.rows there in
-    subst (λ (y : OnKeeper). MayWork a y t) is record {
+    subst (λ (y : OnPlainKeeper). MayWork y.words.settings y.keeper t) is record {
       settings = our.view.settings;
       rest = our.view.rest;
       slot = known.0;
@@ -82,8 +82,8 @@ still_works z a b t may worked = record {
 -- One turn after the other
 
 -- a log that goes on, and goes on again
-pub prefix_on : (a b c : List Deed) → IsPrefix a b → IsPrefix b c → IsPrefix a c
-prefix_on a b c p q = (p.0 ++ q.0, sym (append_assoc a p.0 q.0) ∙ (ap (λ (l : List Deed). l ++ q.0) p.1 ∙ q.1))
+pub prefix_on : (a b c : List LogItem) → IsPrefix a b → IsPrefix b c → IsPrefix a c
+prefix_on a b c p q = (p.0 ++ q.0, sym (append_assoc a p.0 q.0) ∙ (ap (λ (l : List LogItem). l ++ q.0) p.1 ∙ q.1))
 
 pub worked_none : (a : OnKeeper) (t : ℕ) → HasWorkedFor a t a
 worked_none a t = record { only = refl; marks = marks_grow_none a.view.marks t; totals = λ u off. refl; looks = omega arith; slots = refl; log = ([], append-nil a.log) }
@@ -147,14 +147,14 @@ collection_marks z a b t c may cpu has =
 abbrev marks_in : Settings → KeeperView → State
 marks_in z k = record (opening z) { marks = k.marks }
 
-pub all_passed : (k : KeeperView) (t : ℕ) (z : Settings) → PassedBelow k t z.cpus → have_passed z.cpus (get_or k.marks t []) ≡ true
-all_passed k t z each = passed_from (marks_in z k) t each
+pub all_passed : {z a : Settings} (k : KeeperView) (t : ℕ) → z ≡ a → PassedBelow k t z.cpus → have_passed a.cpus (get_or k.marks t []) ≡ true
+all_passed {z} k t same each = subst (λ (s : Settings). have_passed s.cpus (get_or k.marks t []) ≡ true) same (passed_from (marks_in z k) t each)
 
-pub all_clear : (k : KeeperView) (t : ℕ) (z : Settings) → ClearBelow k t z.cpus → are_clear z.cpus (get_or k.marks t []) ≡ true
-all_clear k t z each = clear_from (marks_in z k) t each
+pub all_clear : {z a : Settings} (k : KeeperView) (t : ℕ) → z ≡ a → ClearBelow k t z.cpus → are_clear a.cpus (get_or k.marks t []) ≡ true
+all_clear {z} k t same each = subst (λ (s : Settings). are_clear s.cpus (get_or k.marks t []) ≡ true) same (clear_from (marks_in z k) t each)
 
-pub all_collected : (k : KeeperView) (t : ℕ) (z : Settings) → CollectedBelow k t z.cpus → are_collected z.cpus (get_or k.marks t []) ≡ true
-all_collected k t z each = collected_from (marks_in z k) t each
+pub all_collected : {z a : Settings} (k : KeeperView) (t : ℕ) → z ≡ a → CollectedBelow k t z.cpus → are_collected a.cpus (get_or k.marks t []) ≡ true
+all_collected {z} k t same each = subst (λ (s : Settings). are_collected s.cpus (get_or k.marks t []) ≡ true) same (collected_from (marks_in z k) t each)
 
 -- and stay so
 pub still_passed : (a b : OnKeeper) (t n : ℕ) → HasWorkedFor a t b → PassedBelow a.view t n → PassedBelow b.view t n
@@ -169,15 +169,14 @@ still_collected a b t n worked each c lt = (worked.marks.here c).collected (each
 -- a slot with all marks is drained once nothing is held
 pub is_drained : (z : Settings) (x : OnKeeper) (t held : ℕ) → MayWork z x t → PassedBelow x.view t z.cpus → ClearBelow x.view t z.cpus → CollectedBelow x.view t z.cpus → held + bias ≡ total_at x.view.totals t → held ≡ 0 → IsDrainedOn x t
 is_drained z x t held may passed clear mark_after_collect total none =
-    let cpus : x.view.settings.cpus ≡ z.cpus = ap (λ (s : Settings). s.cpus) may.settings in
     record {
       retired = (may.e, may.retired);
       drained = record {
         rest = may.rest;
         retired = (may.e, may.known);
-        passed = rw cpus (all_passed x.view t z passed);
-        clear = rw cpus (all_clear x.view t z clear);
-        collected = rw cpus (all_collected x.view t z mark_after_collect);
+        passed = all_passed x.view t (sym may.settings) passed;
+        clear = all_clear x.view t (sym may.settings) clear;
+        collected = all_collected x.view t (sym may.settings) mark_after_collect;
         total = omega (arith, total, none);
       };
     }

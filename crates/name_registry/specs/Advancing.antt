@@ -17,10 +17,10 @@ use Rattle.registry_values.specs.Balances.{bias}
 use Rattle.registry_values.specs.Slots.{is_retired_as, retired_slot, slot_at}
 use Rattle.protocol.specs.Marking.{MarksGrow}
 use Rattle.protocol.specs.State.{mark_at, total_at, kept_at}
-use Rattle.cpu_words.specs.declared.view.Deed.{Deed}
+use Rattle.cpu_words.specs.declared.view.LogItem.{LogItem}
 use Rattle.cpu_words.specs.declared.view.KeeperView.{KeeperView}
 use Rattle.cpu_words.specs.declared.view.View.TheVariants.{Keeper}
-use Rattle.cpu_words.specs.Deeds.{has_looked, has_looked_passive}
+use Rattle.cpu_words.specs.KeeperLog.{has_looked, has_looked_passive}
 use Rattle.cpu_words.specs.Grace.{HasLooked}
 use Rattle.cpu_words.specs.Rule.{did}
 use Rattle.cpu_words.specs.Steps.{Makes}
@@ -80,13 +80,13 @@ looked_at cpus None = cpus
 looked_at cpus (Some c) = suc c
 
 -- these are looks for the slot t alone
-abbrev pub AreLooks : ℕ → List Deed → Type 0
+abbrev pub AreLooks : ℕ → List LogItem → Type 0
 AreLooks t [] = Unit {0}
 AreLooks t (d ∷ ds) = ((c : ℕ) × (w : ℕ) × (d ≡ has_looked t c w)) × AreLooks t ds
 
 -- the log went on by such looks
-pub record GoesOnByLooks (t : ℕ) (old new : List Deed) : Type 0 where
-  pub since : List Deed
+pub record GoesOnByLooks (t : ℕ) (old new : List LogItem) : Type 0 where
+  pub since : List LogItem
   pub are : new ≡ old ++ since
   pub only : AreLooks t since
 
@@ -108,9 +108,9 @@ pub record HasLookedLast (a b : KeeperView) (e : Event) (w : ℕ) : Type 0 where
   pub more : a.looks < b.looks
   pub last : b.last_look ≡ Some (record { event = e; reply = Word w })
 
--- since the log `old` the last deed is this one
-abbrev pub EndsIn : List Deed → Deed → List Deed → Type 0
-EndsIn old d new = (between : List Deed) × (new ≡ old ++ between ++ d ∷ [])
+-- since the log `old` the last item is this one
+abbrev pub EndsIn : List LogItem → LogItem → List LogItem → Type 0
+EndsIn old d new = (between : List LogItem) × (new ≡ old ++ between ++ d ∷ [])
 
 -- it saw the section word of c odd and as in the snapshot: the section that was open then is open, and may hold the entry
 pub record SeesSection (a : OnKeeper) (t c : ℕ) (b : OnKeeper) : Type 0 where

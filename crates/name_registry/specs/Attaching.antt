@@ -10,15 +10,15 @@ use Rattle.registry_values.specs.Answers as answers
 use Rattle.registry_values.specs.Slots.{key_of_record, is_iface, is_taken, live_count}
 use Rattle.cpu_words.specs.declared.view.ReferenceView.{ReferenceView}
 use Rattle.passive_list.specs.Cpus.{OnCpu}
-use Rattle.cpu_words.specs.Deeds.{IsAttachedKeeping}
+use Rattle.cpu_words.specs.KeeperLog.{IsAttachedKeeping}
 use Rattle.passive_list.specs.Keepers.{OnKeeper}
 use Rattle.passive_list.specs.Notes.{HasHeardOn}
 use Rattle.passive_list.specs.Publishing.{HasAttached}
 use Rattle.local_count.specs.Draining.{HasAttachedKeeping}
 use Rattle.name_registry.specs.Meeting.{is_inside, keeper_after_hear, HasSeenAttach}
 
-abbrev pub plain_slot : OnKeeper → Option ℕ
-plain_slot k = answers.plain_slot k.slots k.view.keeps
+abbrev pub first_fit : OnKeeper → Option ℕ
+first_fit k = answers.first_fit k.slots k.view.keeps
 
 -- what an attach asks of the history
 abbrev pub room_of : Settings → OnKeeper → Room
@@ -26,7 +26,7 @@ room_of a k = record { changes = length k.view.history; live = live_count k.slot
 
 -- the entry that an attach of the record makes
 abbrev pub given_entry : Settings → OnKeeper → Record → Result Entry Refusal
-given_entry a k rec = answers.given_entry (is_taken (key_of_record rec) k.slots) (plain_slot k) (room_of a k) rec
+given_entry a k rec = answers.given_entry (is_taken (key_of_record rec) k.slots) (first_fit k) (room_of a k) rec
 
 -- The answers of the two calls: the record of an interface is unfit for the one, a reference to an interface for the other.
 
@@ -48,6 +48,6 @@ pub record HasAttachedIfaceFor (a : OnKeeper) (x : OnCpu) (v : ReferenceView) (e
   pub seen : IsPrefix x.view.pass a.view.history
   pub keeper : HasAttachedKeeping (keeper_after_hear a x) v e b
   -- of the driver, by what the CPU knows
-  pub keeping : IsAttachedKeeping e.slot e.number v.entry.number y.deeds
+  pub keeping : IsAttachedKeeping e.slot e.number v.entry.number y.known_log
   pub cpu : HasHeardOn b.view.history x y
   pub own : HasSeenAttach x y e

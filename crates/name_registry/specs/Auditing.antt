@@ -4,10 +4,10 @@ use mathlib.Core.Option.{some}
 use mathlib.Core.List.{IsPrefix}
 use lib.ListN.{get_elem?}
 use Rattle.registry_values.specs.declared.entry.Change.{Change}
-use Rattle.cpu_words.specs.declared.view.Deed.{Deed}
+use Rattle.cpu_words.specs.declared.view.LogItem.{LogItem}
 use Rattle.cpu_words.specs.declared.view.View.TheVariants.{Cpu, Keeper}
-use Rattle.cpu_words.specs.Deeds.{given_up, occupant, sum_collected, word_collected, words_collected, IsShownAfter}
-use Rattle.cpu_words.specs.Notes.{with_heard, keeper_with_heard}
+use Rattle.cpu_words.specs.KeeperLog.{given_up, occupant, sum_collected, word_collected, words_collected, IsShownAfter}
+use Rattle.cpu_words.specs.Notes.{with_note, keeper_with_note}
 use Rattle.name_registry.specs.Meeting.{HasLearned}
 use Rattle.registry_values.specs.declared.balance.Balance.{Balance}
 use Rattle.registry_values.specs.declared.entry.Entry.{Entry}
@@ -136,27 +136,27 @@ pub record AreShown (g : State) (k : OnKeeper) (xs : List OnCpu) : Type 0 where
 abbrev pub IsTallied : OnKeeper → List OnCpu → Tally → Type 0
 IsTallied k xs b = b.held ≡ tally k xs b.number
 
--- Before it sums, an audit lets all know the same of the keeper's deeds: the keeper tells, each CPU hears in turn and tells on, and the keeper hears the last one. Then each view is shown by a state of its own, in which the keeper had done just the same.
+-- Before it sums, an audit lets all know the same of the keeper's log: the keeper tells, each CPU hears in turn and tells on, and the keeper hears the last one. Then each view is shown by a state of its own, in which the keeper had done just the same.
 
 -- with another note beside it, some state shows the CPU, in which the keeper had done just this
-abbrev pub IsShownOn : List Deed → OnCpu → Type 0
-IsShownOn log x = (h : List Change) × IsShownAfter log (Cpu (with_heard x.view h))
+abbrev pub IsShownOn : List LogItem → OnCpu → Type 0
+IsShownOn log x = (h : List Change) × IsShownAfter log (Cpu (with_note x.view h))
 
--- each of the CPUs knows just this of the keeper's deeds
-abbrev pub KnowAll : List Deed → List OnCpu → Type 0
-KnowAll log ys = (c : ℕ) (y : OnCpu) → get_elem? ys c ≡ some y → y.deeds ≡ log
+-- each of the CPUs knows just this of the keeper's log
+abbrev pub KnowAll : List LogItem → List OnCpu → Type 0
+KnowAll log ys = (c : ℕ) (y : OnCpu) → get_elem? ys c ≡ some y → y.known_log ≡ log
 
 -- of the keeper and the CPUs as they were, and the CPUs as they have heard
 pub record AreAlike (k : OnKeeper) (xs ys : List OnCpu) : Type 0 where
-  pub log : List Deed
+  pub log : List LogItem
   pub known : KnowAll log ys
-  pub keeper : (h : List Change) × IsShownAfter log (Keeper (keeper_with_heard k.view h))
+  pub keeper : (h : List Change) × IsShownAfter log (Keeper (keeper_with_note k.view h))
   pub cpus : (c : ℕ) (x : OnCpu) → get_elem? xs c ≡ some x → IsShownOn log x
 
 -- of the keeper nothing changed but what it heard, and its log, which goes on
 pub record HasListened (a b : OnKeeper) : Type 0 where
   pub log : IsPrefix a.log b.log
-  pub is : (h : List Change) × (b ≡ record a { view = keeper_with_heard a.view h; log = b.log })
+  pub is : (h : List Change) × (b ≡ record a { view = keeper_with_note a.view h; log = b.log })
 
 -- of each CPU what it knows has grown, and nothing else of it changed
 pub record HaveLearned (xs ys : List OnCpu) : Type 0 where
@@ -176,32 +176,32 @@ abbrev pub net_unless : Option ℕ → ℤ → ℤ
 net_unless None net = net
 net_unless (Some w) net = pos 0
 
-abbrev pub local_in : List Deed → ℕ → ℕ → OnCpu → ℤ
+abbrev pub local_in : List LogItem → ℕ → ℕ → OnCpu → ℤ
 local_in log t n x = net_unless (word_collected t x.view.id log) (net_of n x)
 
 -- what was collected, less the biases of the words and what was given up
-abbrev pub total_in : List Deed → ℕ → ℕ → ℤ
+abbrev pub total_in : List LogItem → ℕ → ℕ → ℤ
 total_in log t n = pos (sum_collected t log) -ℤ pos (bias * words_collected t log + given_up n log)
 
 -- the tally of n: local references that all CPUs acquired, less those that they released, less those that the keeper gave up
-abbrev pub tally_in : List Deed → List OnCpu → ℕ → ℤ
+abbrev pub tally_in : List LogItem → List OnCpu → ℕ → ℤ
 tally_in log xs n = pos (sum_by (acquired_of n) xs) -ℤ pos (sum_by (released_of n) xs + given_up n log)
 
-abbrev pub audited : List Deed → List OnCpu → ℕ → ℕ → Tally
+abbrev pub audited : List LogItem → List OnCpu → ℕ → ℕ → Tally
 audited log xs n t = record { number = n; slot = t; held = tally_in log xs n; locals = map (local_in log t n) xs; total = total_in log t n }
 
-abbrev pub audited_at : List Deed → List OnCpu → ℕ → Option ℕ → List Tally
+abbrev pub audited_at : List LogItem → List OnCpu → ℕ → Option ℕ → List Tally
 audited_at log xs t None = []
 audited_at log xs t (Some n) = audited log xs n t ∷ []
 
 -- the slots below a number, least first
-abbrev pub audited_below : List Deed → List OnCpu → ℕ → List Tally
+abbrev pub audited_below : List LogItem → List OnCpu → ℕ → List Tally
 audited_below log xs zero = []
 audited_below log xs (suc t) = audited_below log xs t ++ audited_at log xs t (occupant t log)
 
 -- What is answered of the CPUs xs: by a log that all know as it is answered, so that no keeper has to be named.
 pub record IsAuditBy (z : Settings) (xs ys : List OnCpu) (list : List Balance) : Type 0 where
-  pub log : List Deed
+  pub log : List LogItem
   pub known : KnowAll log ys
   pub answer : map tally_shown list ≡ audited_below log xs z.slots
 

@@ -8,7 +8,7 @@ use Rattle.registry_values.specs.Stages.{IsObstacle, destroy_result_of}
 use mathlib.Core.List.{IsPrefix}
 use Rattle.passive_list.specs.Cpus.{OnCpu}
 use Rattle.passive_list.specs.Keepers.{OnKeeper}
-use Rattle.cpu_words.specs.Deeds.{changes_in}
+use Rattle.cpu_words.specs.KeeperLog.{changes_in}
 use Rattle.passive_list.specs.Logs.{HasOwnLog}
 use Rattle.passive_list.specs.Notes.{HasHeardOn}
 use Rattle.name_registry.specs.Advancing.{HasAdvanced}
@@ -44,7 +44,7 @@ module _ {X : Type 0} (turn : X → Result Stage Refusal → X → Type 0) where
 
 -- A turn with the caller's CPU x: the keeper a hears first what the CPU knows, makes the turn, and hears once more, so that its log has what it found. Then the CPU hears the history and all that the keeper did.
 pub record HasAdvancedFor (z : Settings) (a : OnKeeper) (x : OnCpu) (n : ℕ) (answer : Result Stage Refusal) (b : OnKeeper) (y : OnCpu) : Type 0 where
-  pub known : IsPrefix x.deeds a.log
+  pub known : IsPrefix x.known_log a.log
   pub seen : length x.view.pass ≤ changes_in a.log
   pub own : HasOwnLog z a
   pub end : OnKeeper
@@ -52,7 +52,7 @@ pub record HasAdvancedFor (z : Settings) (a : OnKeeper) (x : OnCpu) (n : ℕ) (a
   pub own_end : HasOwnLog z end
   pub is : b ≡ keeper_after_tell (keeper_after_hear end x)
   pub hears : HasHeardOn end.view.history x y
-  pub told : IsPrefix b.log y.deeds
+  pub told : IsPrefix b.log y.known_log
 
 -- Through the lock, whose value no contract can name: of some keeper, as the call found it and left it
 

@@ -5,27 +5,31 @@ use Rattle.registry_values.specs.declared.entry.Entry.{Entry}
 use Rattle.protocol.specs.History.{IsAttached, EndsAt}
 use Rattle.protocol.specs.declared.event.Event.TheVariants.{Hear, Tell}
 use Rattle.protocol.specs.declared.event.Reply.TheVariants.{Done}
-use Rattle.cpu_words.specs.Notes.{keeper_with_heard}
+use Rattle.cpu_words.specs.Notes.{keeper_with_note}
 use Rattle.cpu_words.specs.Rule.{did}
-use Rattle.passive_list.specs.Cpus.{OnCpu}
-use Rattle.passive_list.specs.Keepers.{OnKeeper}
+use Rattle.passive_list.specs.Cpus.{OnCpu, OnPlainCpu}
+use Rattle.passive_list.specs.Keepers.{OnKeeper, OnPlainKeeper}
+
+-- both are of the tables that they were of
+abbrev pub KeepsWords : OnPlainKeeper → OnPlainCpu → OnPlainKeeper → OnPlainCpu → Type 0
+KeepsWords k x k' x' = (k'.words ≡ k.words) × (x'.words ≡ x.words)
 
 abbrev pub is_inside : OnCpu → Bool
 is_inside x = is_some x.view.begin
 
 -- the keeper as it has heard what the CPU has seen
 abbrev pub keeper_after_hear : OnKeeper → OnCpu → OnKeeper
-keeper_after_hear a x = record { view = keeper_with_heard a.view x.view.pass; slots = a.slots; log = a.log ++ did (Hear None) Done }
+keeper_after_hear a x = record { view = keeper_with_note a.view x.view.pass; slots = a.slots; log = a.log ++ did (Hear None) Done }
 
 -- and as it has told the history
 abbrev pub keeper_after_tell : OnKeeper → OnKeeper
 keeper_after_tell a = record a { log = a.log ++ did (Tell None) Done }
 
--- the CPU's pass has grown, and what it knows of the keeper's deeds, and nothing else of it changed but what it heard, and what its calls have made
+-- the CPU's pass has grown, and its known log, and nothing else of it changed but the pass noted beside its view, and what its calls have made
 pub record HasLearned (x y : OnCpu) : Type 0 where
   pub pass : IsPrefix x.view.pass y.view.pass
-  pub deeds : IsPrefix x.deeds y.deeds
-  pub is : y ≡ record x { view = record x.view { pass = y.view.pass; heard = y.view.heard }; made = y.made; deeds = y.deeds }
+  pub known_log : IsPrefix x.known_log y.known_log
+  pub is : y ≡ record x { view = record x.view { pass = y.view.pass; noted_pass = y.view.noted_pass }; made = y.made; known_log = y.known_log }
 
 -- the attach of e stands after all that the CPU had seen, and the CPU has seen it
 pub record HasSeenAttach (x y : OnCpu) (e : Entry) : Type 0 where

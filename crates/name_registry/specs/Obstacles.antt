@@ -7,22 +7,22 @@ use Rattle.registry_values.specs.declared.settings.Settings.{Settings}
 use Rattle.registry_values.specs.declared.stage.Stage.{Stage}
 use Rattle.registry_values.specs.declared.stage.Stage.TheVariants.{Grace, Passive, Local, Freed}
 use Rattle.registry_values.specs.Balances.{bias}
-use Rattle.cpu_words.specs.declared.view.Deed.{Deed}
-use Rattle.cpu_words.specs.Deeds.{changes_in, given_up, has_looked, has_looked_passive, occupant, sum_collected, word_collected, words_collected, HasPassedOn, IsDetachedFrom, IsFreedFrom, IsSnapped}
+use Rattle.cpu_words.specs.declared.view.LogItem.{LogItem}
+use Rattle.cpu_words.specs.KeeperLog.{changes_in, given_up, has_looked, has_looked_passive, occupant, sum_collected, word_collected, words_collected, HasPassedOn, IsDetachedFrom, IsFreedFrom, IsSnapped}
 use Rattle.passive_list.specs.Cpus.{OnCpu}
 
 -- by the log the slot t has the entry n, which was detached
-abbrev pub IsRetiredIn : ℕ → ℕ → List Deed → Type 0
+abbrev pub IsRetiredIn : ℕ → ℕ → List LogItem → Type 0
 IsRetiredIn t n log = (occupant t log ≡ Some n) × IsDetachedFrom t n log
 
 -- by the log no slot has it so
-abbrev pub IsNotRetired : ℕ → List Deed → Type 0
+abbrev pub IsNotRetired : ℕ → List LogItem → Type 0
 IsNotRetired n log = (t : ℕ) → IsRetiredIn t n log → ⊥
 
 -- The last thing that the keeper did, and in this turn, which began after `begin`, was to load the section word of c, which was odd, and as it was at the snapshot: the section that was open then was open still, and may hold the entry. The CPUs before c have passed.
-pub record MetSection (t c : ℕ) (begin log : List Deed) : Type 0 where
+pub record MetSection (t c : ℕ) (begin log : List LogItem) : Type 0 where
   pub word : ℕ
-  pub before : List Deed
+  pub before : List LogItem
   pub since : IsPrefix begin before
   pub are : log ≡ before ++ has_looked t c word ∷ []
   pub odd : word % 2 ≡ 1
@@ -30,41 +30,41 @@ pub record MetSection (t c : ℕ) (begin log : List Deed) : Type 0 where
   pub lesser : (d : ℕ) → d < c → HasPassedOn t d log
 
 -- The last thing that the keeper did, and in this turn, was to load the passive word of c for the slot, which wasn't 0: c has a passive reference. All CPUs have passed.
-pub record MetReference (cpus t c : ℕ) (begin log : List Deed) : Type 0 where
+pub record MetReference (cpus t c : ℕ) (begin log : List LogItem) : Type 0 where
   pub word : ℕ
-  pub before : List Deed
+  pub before : List LogItem
   pub since : IsPrefix begin before
   pub are : log ≡ before ++ has_looked_passive t c word ∷ []
   pub some : word ≢ 0
   pub passed : (d : ℕ) → d < cpus → HasPassedOn t d log
 
 -- So many local references are left: the count words of all CPUs were collected, and it is what they come to, less the references that were given up under the interlock. All CPUs have passed.
-pub record MetLocals (cpus t n k : ℕ) (log : List Deed) : Type 0 where
+pub record MetLocals (cpus t n k : ℕ) (log : List LogItem) : Type 0 where
   pub some : k ≢ 0
   pub collected : (d : ℕ) → d < cpus → (w : ℕ) × (word_collected t d log ≡ Some w)
   pub left : k + given_up n log + bias * words_collected t log ≡ sum_collected t log
   pub passed : (d : ℕ) → d < cpus → HasPassedOn t d log
 
 -- the work on the entry n of the slot t came so far
-abbrev pub HasMet : ℕ → ℕ → ℕ → Stage → List Deed → List Deed → Type 0
+abbrev pub HasMet : ℕ → ℕ → ℕ → Stage → List LogItem → List LogItem → Type 0
 HasMet cpus t n (Grace c) begin log = MetSection t c begin log
 HasMet cpus t n (Passive c) begin log = MetReference cpus t c begin log
 HasMet cpus t n (Local k) begin log = MetLocals cpus t n k log
 HasMet cpus t n (Freed u) begin log = (u ≡ t) × IsFreedFrom t n log
 
 -- the answer, by the keeper's log as the turn began and as it ended
-abbrev pub AnswersBy : ℕ → ℕ → Result Stage Refusal → List Deed → List Deed → Type 0
+abbrev pub AnswersBy : ℕ → ℕ → Result Stage Refusal → List LogItem → List LogItem → Type 0
 AnswersBy cpus n (Ok stage) begin log = (t : ℕ) × IsRetiredIn t n begin × HasMet cpus t n stage begin log
 AnswersBy cpus n (Err refusal) begin log = (refusal ≡ NotRetired) × IsNotRetired n begin
 
 -- A turn: as it began the keeper had heard all that the CPU x knew, and as it ends the CPU has heard all that the keeper did in it.
 pub record IsTurn (z : Settings) (n : ℕ) (x : OnCpu) (answer : Result Stage Refusal) (y : OnCpu) : Type 0 where
-  pub begin : List Deed
-  pub log : List Deed
-  pub known : IsPrefix x.deeds begin
+  pub begin : List LogItem
+  pub log : List LogItem
+  pub known : IsPrefix x.known_log begin
   pub seen : length x.view.pass ≤ changes_in begin
   pub on : IsPrefix begin log
-  pub heard : IsPrefix log y.deeds
+  pub told : IsPrefix log y.known_log
   pub answers : AnswersBy z.cpus n answer begin log
 
 -- what a destroy answers is what such a turn met; the caller knew at the call what the CPU x knows

@@ -10,12 +10,12 @@ use Rattle.registry_values.specs.declared.settings.Settings.{Settings}
 use Rattle.registry_values.specs.Answers.{wait_answer}
 use Rattle.registry_values.specs.Marks.{is_out, least_below}
 use Rattle.registry_values.specs.Slots.{is_retired_as, retired_number, slot_at}
-use Rattle.cpu_words.specs.declared.view.Deed.{Deed}
+use Rattle.cpu_words.specs.declared.view.LogItem.{LogItem}
 use Rattle.cpu_words.specs.declared.view.KeeperView.{KeeperView}
 use Rattle.cpu_words.specs.declared.view.View.TheVariants.{Keeper}
-use Rattle.cpu_words.specs.Deeds.{changes_in, HasPassedOn, HasWaited, IsDetachedFrom, KeepsSlot}
+use Rattle.cpu_words.specs.KeeperLog.{changes_in, HasPassedOn, HasWaited, IsDetachedFrom, KeepsSlot}
 use Rattle.cpu_words.specs.Grace.{keeper_after_look}
-use Rattle.cpu_words.specs.Notes.{keeper_with_heard}
+use Rattle.cpu_words.specs.Notes.{keeper_with_note}
 use Rattle.cpu_words.specs.Rule.{did}
 use Rattle.cpu_words.specs.Steps.{Makes}
 use Rattle.cpu_words.specs.Views.{Seated}
@@ -31,7 +31,7 @@ use Rattle.name_registry.specs.Meeting.{keeper_after_hear, keeper_after_tell}
 -- the keeper's seat in one hold of the interlock: what it knows, and what it did
 pub record Looking : Type 0 where
   pub view : KeeperView
-  pub log : List Deed
+  pub log : List LogItem
 
 abbrev pub looking : Seated KeeperView → Looking
 looking s = record { view = s.view; log = s.log }
@@ -69,15 +69,15 @@ GlancesBelow snapshots seen after (suc n) k l =
 
 -- The keeper a hears first what the CPU x knows: its log goes on from that, and its history is as long as the log says. Then it makes the looks, and nothing else. At the end the CPU hears the history and all that the keeper did.
 pub record Hold (looks : Looking → Looking → Type 0) (a : OnKeeper) (x : OnCpu) (b : OnKeeper) (y : OnCpu) : Type 0 where
-  pub known : IsPrefix x.deeds a.log
+  pub known : IsPrefix x.known_log a.log
   pub seen : length x.view.pass ≤ changes_in a.log
   pub end : Looking
-  pub made : looks (record { view = keeper_with_heard a.view x.view.pass; log = a.log ++ did (Hear None) Done }) end
+  pub made : looks (record { view = keeper_with_note a.view x.view.pass; log = a.log ++ did (Hear None) Done }) end
   pub view : b.view ≡ end.view
   pub slots : b.slots ≡ a.slots
   pub log : b.log ≡ end.log ++ did (Tell None) Done
   pub hears : HasHeardOn b.view.history x y
-  pub told : IsPrefix b.log y.deeds
+  pub told : IsPrefix b.log y.known_log
 
 -- The parts that are lent the keeper
 
@@ -118,13 +118,13 @@ PassesBelow z numbers (suc n) a b = (m : OnKeeper) × PassesBelow z numbers n a 
 
 -- As a perform ends: the keeper a hears what the CPU x knows, makes its looks for the entries with these numbers, and hears once more, so that its log has what they told. At the end the CPU hears the history and all that the keeper did.
 pub record HasPassedAll (z : Settings) (a : OnKeeper) (x : OnCpu) (numbers : List (Option ℕ)) (b : OnKeeper) (y : OnCpu) : Type 0 where
-  pub known : IsPrefix x.deeds a.log
+  pub known : IsPrefix x.known_log a.log
   pub end : OnKeeper
   pub passes : PassesBelow z numbers 32 (keeper_after_hear a x) end
   pub own : HasOwnLog z end
   pub is : b ≡ keeper_after_tell (keeper_after_hear end x)
   pub hears : HasHeardOn b.view.history x y
-  pub told : IsPrefix b.log y.deeds
+  pub told : IsPrefix b.log y.known_log
 
 -- The turns: X is what stands between two holds of the interlock
 
@@ -189,12 +189,12 @@ PerformsOutside z turns false x result y = (told : Option ℕ) × (result ≡ wa
 
 -- What the caller's CPU knows at the end
 
--- When the keeper had done just `before`, it had heard all that the CPU knew as the call began: what the CPU knew of the keeper's deeds, and its pass. Since then it saw each CPU out of a section: by the law `running_headline` (`waiting`) each section that was open then has ended. And each entry that had been detached by then, and whose slot wasn't given again since, has passed on each CPU.
+-- When the keeper had done just `before`, it had heard all that the CPU knew as the call began: what the CPU knew of the keeper's log, and its pass. Since then it saw each CPU out of a section: by the law `running_headline` (`waiting`) each section that was open then has ended. And each entry that had been detached by then, and whose slot wasn't given again since, has passed on each CPU.
 pub record HasSeenAllOut (cpus : ℕ) (x y : OnCpu) : Type 0 where
-  pub before : List Deed
-  pub since : List Deed
-  pub are : y.deeds ≡ before ++ since
-  pub known : IsPrefix x.deeds before
+  pub before : List LogItem
+  pub since : List LogItem
+  pub are : y.known_log ≡ before ++ since
+  pub known : IsPrefix x.known_log before
   pub seen : length x.view.pass ≤ changes_in before
   pub waited : HasWaited since cpus
-  pub passed : (t n c : ℕ) → c < cpus → IsDetachedFrom t n before → KeepsSlot t since → HasPassedOn t c y.deeds
+  pub passed : (t n c : ℕ) → c < cpus → IsDetachedFrom t n before → KeepsSlot t since → HasPassedOn t c y.known_log

@@ -10,7 +10,7 @@ ghost use Rattle.passive_list.specs.Vacating.{IsDrainedOn};
 ghost use Rattle.name_registry.specs.Advancing.{HasAdvanced, Meets, MeetsGrace, MeetsPassive, HasLookedFor, HasWorkedFor, GoesOnByLooks, LooksBelow, LooksUnless, MayWork, SeesSection, SeesPassive, Settles, HasEnded, PassedBelow, ClearBelow, CollectedBelow, is_retired_row, looked_at};
 ghost use Rattle.name_registry.specs.Locking.{IsStageOf};
 
-use cpu_words::{Domain, Words};
+use cpu_words::Words;
 use local_count::{collect, collected, free_iface, total};
 use passive_list::{Keeper, KeptSlot, look, vacate};
 use passive_ref::look_passive;
@@ -21,14 +21,11 @@ use registry_values::{Refusal, Stage, is_retired_as, settled};
 /// with the number of local references to it (localcount(9)), never 0, of which the count words are then collected. Where there is none,
 /// its slot becomes vacant, and the answer is `Freed` with the slot, from 0. It takes no memory.
 /// Refused: `NotRetired` where no slot has the retired entry `number`; nothing has changed then.
-pub fn advance_in<D: Domain>(
-    words: &Words,
-    keeper: &mut Keeper<D>,
-    number: u64,
-) -> Result<Stage, Refusal>
-    requires words { AreWordsOf words.now D.table D.settings }
-    ensures answer { HasAdvanced keeper.old number result keeper.new }
-    ensures stage { IfOk result (λ stage. IsStageOf D.settings stage) }
+pub fn advance_in(words: &Words, keeper: &mut Keeper, number: u64) -> Result<Stage, Refusal>
+    requires words { AreWordsOf words.now keeper.old.words.table keeper.old.words.settings }
+    ensures answer { HasAdvanced keeper.old.keeper number result keeper.new.keeper }
+    ensures stage { IfOk result (λ stage. IsStageOf keeper.old.words.settings stage) }
+    ensures words { keeper.new.words ≡ keeper.old.words }
 {
     let Some(slot) = retired_place(keeper, number) else {
         return Err(Refusal::NotRetired);
@@ -37,9 +34,9 @@ pub fn advance_in<D: Domain>(
 }
 
 /// The slot of the retired entry with this number.
-fn retired_place<D: Domain>(keeper: &Keeper<D>, number: u64) -> Option<u8>
-    ensures value { result ≡ retired_slot keeper.now.slots number }
-    ensures works { IfSome result (λ t. MayWork D.settings keeper.now t) }
+fn retired_place(keeper: &Keeper, number: u64) -> Option<u8>
+    ensures value { result ≡ retired_slot keeper.now.keeper.slots number }
+    ensures works { IfSome result (λ t. MayWork keeper.now.words.settings keeper.now.keeper t) }
 {
     match place_retired_as(&keeper.rows, number) {
         Some(slot) => Some(slot as u8),
@@ -55,10 +52,11 @@ fn place_retired_as(rows: &[KeptSlot], number: u64) -> Option<usize>
 }
 
 /// The work on the slot's retired entry, up to the first obstacle.
-fn advance_slot<D: Domain>(words: &Words, keeper: &mut Keeper<D>, slot: u8) -> Stage
-    requires words { AreWordsOf words.now D.table D.settings }
-    requires works { MayWork D.settings keeper.old slot }
-    ensures { Meets keeper.old slot result keeper.new }
+fn advance_slot(words: &Words, keeper: &mut Keeper, slot: u8) -> Stage
+    requires words { AreWordsOf words.now keeper.old.words.table keeper.old.words.settings }
+    requires works { MayWork words.now.settings keeper.old.keeper slot }
+    ensures meets { Meets keeper.old.keeper slot result keeper.new.keeper }
+    ensures words { keeper.new.words ≡ keeper.old.words }
 {
     if let Some(cpu) = look_at_all(words, keeper, slot) {
         return Stage::Grace(cpu);
@@ -72,14 +70,15 @@ fn advance_slot<D: Domain>(words: &Words, keeper: &mut Keeper<D>, slot: u8) -> S
 
 /// Looks at the section word of each CPU that hasn't passed for the slot's retired entry, once each, up to the first that doesn't pass: it is
 /// the answer. The keeper's log goes on by these looks alone.
-pub(crate) fn look_at_all<D: Domain>(words: &Words, keeper: &mut Keeper<D>, slot: u8) -> Option<u8>
-    requires words { AreWordsOf words.now D.table D.settings }
-    requires retired { (e : Entry) × (slot_at keeper.old.slots slot ≡ Retired e) }
-    ensures met { IfSome result (λ c. MeetsGrace keeper.old slot c keeper.new) }
-    ensures passed { result ≡ None → PassedBelow keeper.new.view slot D.settings.cpus }
-    ensures leaves { HasLookedFor keeper.old slot keeper.new }
-    ensures looks { LooksBelow (looked_at D.settings.cpus result) keeper.old slot keeper.new }
-    ensures log { GoesOnByLooks slot keeper.old.log keeper.new.log }
+pub(crate) fn look_at_all(words: &Words, keeper: &mut Keeper, slot: u8) -> Option<u8>
+    requires words { AreWordsOf words.now keeper.old.words.table keeper.old.words.settings }
+    requires retired { (e : Entry) × (slot_at keeper.old.keeper.slots slot ≡ Retired e) }
+    ensures met { IfSome result (λ c. MeetsGrace keeper.old.keeper slot c keeper.new.keeper) }
+    ensures passed { result ≡ None → PassedBelow keeper.new.keeper.view slot words.now.settings.cpus }
+    ensures leaves { HasLookedFor keeper.old.keeper slot keeper.new.keeper }
+    ensures looks { LooksBelow (looked_at words.now.settings.cpus result) keeper.old.keeper slot keeper.new.keeper }
+    ensures log { GoesOnByLooks slot keeper.old.keeper.log keeper.new.keeper.log }
+    ensures words { keeper.new.words ≡ keeper.old.words }
 {
     for cpu in 0..keeper.settings.cpus {
         if !passes(words, keeper, slot, cpu) {
@@ -90,14 +89,15 @@ pub(crate) fn look_at_all<D: Domain>(words: &Words, keeper: &mut Keeper<D>, slot
 }
 
 /// Whether the CPU has passed, by an earlier look or by this one.
-fn passes<D: Domain>(words: &Words, keeper: &mut Keeper<D>, slot: u8, cpu: u8) -> bool
-    requires words { AreWordsOf words.now D.table D.settings }
-    requires works { MayWork D.settings keeper.old slot }
-    requires cpu { cpu < D.settings.cpus }
-    ensures passed { result ≡ (mark_at keeper.new.view.marks slot cpu).passed }
-    ensures sees { result ≡ false → SeesSection keeper.old slot cpu keeper.new }
-    ensures leaves { HasLookedFor keeper.old slot keeper.new }
-    ensures looks { LooksUnless (mark_at keeper.old.view.marks slot cpu).passed keeper.old slot cpu keeper.new }
+fn passes(words: &Words, keeper: &mut Keeper, slot: u8, cpu: u8) -> bool
+    requires words { AreWordsOf words.now keeper.old.words.table keeper.old.words.settings }
+    requires works { MayWork words.now.settings keeper.old.keeper slot }
+    requires cpu { cpu < words.now.settings.cpus }
+    ensures passed { result ≡ (mark_at keeper.new.keeper.view.marks slot cpu).passed }
+    ensures sees { result ≡ false → SeesSection keeper.old.keeper slot cpu keeper.new.keeper }
+    ensures leaves { HasLookedFor keeper.old.keeper slot keeper.new.keeper }
+    ensures looks { LooksUnless (mark_at keeper.old.keeper.view.marks slot cpu).passed keeper.old.keeper slot cpu keeper.new.keeper }
+    ensures words { keeper.new.words ≡ keeper.old.words }
 {
     if keeper.mark(slot, cpu).passed {
         return true;
@@ -107,13 +107,14 @@ fn passes<D: Domain>(words: &Words, keeper: &mut Keeper<D>, slot: u8, cpu: u8) -
 
 /// Looks at the passive word of each CPU that isn't clear for the slot's retired entry, up to the first that doesn't become clear: it is
 /// the answer.
-fn look_at_passive<D: Domain>(words: &Words, keeper: &mut Keeper<D>, slot: u8) -> Option<u8>
-    requires words { AreWordsOf words.now D.table D.settings }
-    requires works { MayWork D.settings keeper.old slot }
-    requires passed { PassedBelow keeper.old.view slot D.settings.cpus }
-    ensures met { IfSome result (λ c. MeetsPassive keeper.old slot c keeper.new) }
-    ensures clear { result ≡ None → ClearBelow keeper.new.view slot D.settings.cpus }
-    ensures leaves { HasLookedFor keeper.old slot keeper.new }
+fn look_at_passive(words: &Words, keeper: &mut Keeper, slot: u8) -> Option<u8>
+    requires words { AreWordsOf words.now keeper.old.words.table keeper.old.words.settings }
+    requires works { MayWork words.now.settings keeper.old.keeper slot }
+    requires passed { PassedBelow keeper.old.keeper.view slot words.now.settings.cpus }
+    ensures met { IfSome result (λ c. MeetsPassive keeper.old.keeper slot c keeper.new.keeper) }
+    ensures clear { result ≡ None → ClearBelow keeper.new.keeper.view slot words.now.settings.cpus }
+    ensures leaves { HasLookedFor keeper.old.keeper slot keeper.new.keeper }
+    ensures words { keeper.new.words ≡ keeper.old.words }
 {
     for cpu in 0..keeper.settings.cpus {
         if !clears(words, keeper, slot, cpu) {
@@ -124,14 +125,15 @@ fn look_at_passive<D: Domain>(words: &Words, keeper: &mut Keeper<D>, slot: u8) -
 }
 
 /// Whether the CPU is clear, by an earlier look or by this one.
-fn clears<D: Domain>(words: &Words, keeper: &mut Keeper<D>, slot: u8, cpu: u8) -> bool
-    requires words { AreWordsOf words.now D.table D.settings }
-    requires works { MayWork D.settings keeper.old slot }
-    requires passed { PassedBelow keeper.old.view slot D.settings.cpus }
-    requires cpu { cpu < D.settings.cpus }
-    ensures clear { result ≡ (mark_at keeper.new.view.marks slot cpu).clear }
-    ensures sees { result ≡ false → SeesPassive keeper.old slot cpu keeper.new }
-    ensures leaves { HasLookedFor keeper.old slot keeper.new }
+fn clears(words: &Words, keeper: &mut Keeper, slot: u8, cpu: u8) -> bool
+    requires words { AreWordsOf words.now keeper.old.words.table keeper.old.words.settings }
+    requires works { MayWork words.now.settings keeper.old.keeper slot }
+    requires passed { PassedBelow keeper.old.keeper.view slot words.now.settings.cpus }
+    requires cpu { cpu < words.now.settings.cpus }
+    ensures clear { result ≡ (mark_at keeper.new.keeper.view.marks slot cpu).clear }
+    ensures sees { result ≡ false → SeesPassive keeper.old.keeper slot cpu keeper.new.keeper }
+    ensures leaves { HasLookedFor keeper.old.keeper slot keeper.new.keeper }
+    ensures words { keeper.new.words ≡ keeper.old.words }
 {
     if keeper.mark(slot, cpu).clear {
         return true;
@@ -140,13 +142,14 @@ fn clears<D: Domain>(words: &Words, keeper: &mut Keeper<D>, slot: u8, cpu: u8) -
 }
 
 /// Collects the count words of all CPUs for the slot's retired entry that aren't collected yet.
-fn collect_all<D: Domain>(words: &Words, keeper: &mut Keeper<D>, slot: u8)
-    requires words { AreWordsOf words.now D.table D.settings }
-    requires works { MayWork D.settings keeper.old slot }
-    requires passed { PassedBelow keeper.old.view slot D.settings.cpus }
-    requires clear { ClearBelow keeper.old.view slot D.settings.cpus }
-    ensures collected { CollectedBelow keeper.new.view slot D.settings.cpus }
-    ensures leaves { HasWorkedFor keeper.old slot keeper.new }
+fn collect_all(words: &Words, keeper: &mut Keeper, slot: u8)
+    requires words { AreWordsOf words.now keeper.old.words.table keeper.old.words.settings }
+    requires works { MayWork words.now.settings keeper.old.keeper slot }
+    requires passed { PassedBelow keeper.old.keeper.view slot words.now.settings.cpus }
+    requires clear { ClearBelow keeper.old.keeper.view slot words.now.settings.cpus }
+    ensures collected { CollectedBelow keeper.new.keeper.view slot words.now.settings.cpus }
+    ensures leaves { HasWorkedFor keeper.old.keeper slot keeper.new.keeper }
+    ensures words { keeper.new.words ≡ keeper.old.words }
 {
     for cpu in 0..keeper.settings.cpus {
         collect_one(words, keeper, slot, cpu);
@@ -154,14 +157,15 @@ fn collect_all<D: Domain>(words: &Words, keeper: &mut Keeper<D>, slot: u8)
 }
 
 /// Collects the count word of the CPU, if that isn't done yet.
-fn collect_one<D: Domain>(words: &Words, keeper: &mut Keeper<D>, slot: u8, cpu: u8)
-    requires words { AreWordsOf words.now D.table D.settings }
-    requires works { MayWork D.settings keeper.old slot }
-    requires passed { PassedBelow keeper.old.view slot D.settings.cpus }
-    requires clear { ClearBelow keeper.old.view slot D.settings.cpus }
-    requires cpu { cpu < D.settings.cpus }
-    ensures collected { (mark_at keeper.new.view.marks slot cpu).collected ≡ true }
-    ensures leaves { HasWorkedFor keeper.old slot keeper.new }
+fn collect_one(words: &Words, keeper: &mut Keeper, slot: u8, cpu: u8)
+    requires words { AreWordsOf words.now keeper.old.words.table keeper.old.words.settings }
+    requires works { MayWork words.now.settings keeper.old.keeper slot }
+    requires passed { PassedBelow keeper.old.keeper.view slot words.now.settings.cpus }
+    requires clear { ClearBelow keeper.old.keeper.view slot words.now.settings.cpus }
+    requires cpu { cpu < words.now.settings.cpus }
+    ensures collected { (mark_at keeper.new.keeper.view.marks slot cpu).collected ≡ true }
+    ensures leaves { HasWorkedFor keeper.old.keeper slot keeper.new.keeper }
+    ensures words { keeper.new.words ≡ keeper.old.words }
 {
     if collected(keeper, slot, cpu) {
         return;
@@ -170,13 +174,14 @@ fn collect_one<D: Domain>(words: &Words, keeper: &mut Keeper<D>, slot: u8, cpu: 
 }
 
 /// Frees the slot, whose count words are all collected, where no local reference to its entry is held.
-fn settle<D: Domain>(words: &Words, keeper: &mut Keeper<D>, slot: u8) -> Stage
-    requires words { AreWordsOf words.now D.table D.settings }
-    requires works { MayWork D.settings keeper.old slot }
-    requires passed { PassedBelow keeper.old.view slot D.settings.cpus }
-    requires clear { ClearBelow keeper.old.view slot D.settings.cpus }
-    requires collected { CollectedBelow keeper.old.view slot D.settings.cpus }
-    ensures { Settles keeper.old slot result keeper.new }
+fn settle(words: &Words, keeper: &mut Keeper, slot: u8) -> Stage
+    requires words { AreWordsOf words.now keeper.old.words.table keeper.old.words.settings }
+    requires works { MayWork words.now.settings keeper.old.keeper slot }
+    requires passed { PassedBelow keeper.old.keeper.view slot words.now.settings.cpus }
+    requires clear { ClearBelow keeper.old.keeper.view slot words.now.settings.cpus }
+    requires collected { CollectedBelow keeper.old.keeper.view slot words.now.settings.cpus }
+    ensures settles { Settles keeper.old.keeper slot result keeper.new.keeper }
+    ensures words { keeper.new.words ≡ keeper.old.words }
 {
     let held = total(words, keeper, slot);
     let stage = settled(held, slot);
@@ -189,11 +194,12 @@ fn settle<D: Domain>(words: &Words, keeper: &mut Keeper<D>, slot: u8) -> Stage
 
 /// Makes the drained slot vacant; where it keeps a reference to a driver, that is given up. The keeper hears as it does so, so by its log the
 /// entry is gone from there.
-fn free<D: Domain>(words: &Words, keeper: &mut Keeper<D>, slot: u8)
-    requires words { AreWordsOf words.now D.table D.settings }
-    requires works { MayWork D.settings keeper.old slot }
-    requires drained { IsDrainedOn keeper.old slot }
-    ensures { HasEnded keeper.old slot keeper.new }
+fn free(words: &Words, keeper: &mut Keeper, slot: u8)
+    requires words { AreWordsOf words.now keeper.old.words.table keeper.old.words.settings }
+    requires works { MayWork words.now.settings keeper.old.keeper slot }
+    requires drained { IsDrainedOn keeper.old.keeper slot }
+    ensures ended { HasEnded keeper.old.keeper slot keeper.new.keeper }
+    ensures words { keeper.new.words ≡ keeper.old.words }
 {
     if keeper.keeps(slot).is_some() {
         free_iface(words, keeper, slot);

@@ -5,12 +5,13 @@ ghost use Rattle.registry_values.specs.declared.entry.Kind.TheVariants.{Iface};
 ghost use Rattle.registry_values.specs.Names.{is_lawful};
 ghost use Rattle.cpu_words.specs.Domains.{AreWordsOf};
 ghost use Rattle.name_registry.specs.Attaching.{attach_answer, attach_iface_answer, HasAttachedFor, HasAttachedIfaceFor};
+ghost use Rattle.name_registry.specs.Meeting.{KeepsWords};
 
+use crate::first_fit::entry_for;
 use crate::meeting::{hear_cpu, show_cpu};
-use crate::plain::entry_for;
-use cpu_words::{Domain, Words};
-use local_count::{LocalRef, publish_iface};
-use passive_list::{Cpu, Keeper, publish};
+use cpu_words::Words;
+use local_count::{PlainRef, publish_iface_on};
+use passive_list::{Keeper, PlainCpu, publish};
 use registry_values::{Entry, Record, Refusal, attach_answer, is_iface};
 
 /// Attaches a driver: it gets the next number, from 1, and the least slot, from 0, that is vacant and keeps nothing; lookups that begin
@@ -19,17 +20,19 @@ use registry_values::{Entry, Record, Refusal, attach_answer, is_iface};
 /// Refused, in this order, and nothing has changed then: `Inside` where the CPU is inside a section; `NeedsDriver` where the record's kind
 /// is Iface; `NameTaken` where a live entry has this kind and name; `NoSlot`; `HistoryFull` where the history has no room for this attach
 /// and the detach of each live entry, the new one too.
-pub fn attach_in<D: Domain>(
+pub fn attach_in(
     words: &Words,
-    keeper: &mut Keeper<D>,
-    cpu: &mut Cpu<D>,
+    keeper: &mut Keeper,
+    cpu: &mut PlainCpu,
     rec: Record,
 ) -> Result<Entry, Refusal>
-    requires words { AreWordsOf words.now D.table D.settings }
+    requires words { AreWordsOf words.now keeper.old.words.table keeper.old.words.settings }
+    requires cpu { AreWordsOf words.now cpu.old.words.table cpu.old.words.settings }
     requires name { IsTrue (is_lawful rec.name) }
-    ensures answer { result ≡ attach_answer D.settings keeper.old cpu.old rec }
-    ensures ok { IfOk result (λ e. HasAttachedFor keeper.old cpu.old e keeper.new cpu.new) }
+    ensures answer { result ≡ attach_answer keeper.old.words.settings keeper.old.keeper cpu.old.cpu rec }
+    ensures ok { IfOk result (λ e. HasAttachedFor keeper.old.keeper cpu.old.cpu e keeper.new.keeper cpu.new.cpu) }
     ensures refused { IfErr result (λ _. (keeper.new ≡ keeper.old) × (cpu.new ≡ cpu.old)) }
+    ensures words { KeepsWords keeper.old cpu.old keeper.new cpu.new }
 {
     let given = entry_for(keeper, rec);
     let entry = attach_answer(cpu.inside(), is_iface(rec.kind), given)?;
@@ -44,20 +47,23 @@ pub fn attach_in<D: Domain>(
 /// Condition: the record's kind is Iface, and its name is lawful.
 /// Refused, in this order, and nothing has changed then, and the reference comes back: `Inside` where the CPU is inside a section;
 /// `NeedsDriver` where the reference is to an interface; `NameTaken`; `NoSlot`; `HistoryFull`.
-pub fn attach_iface_in<D: Domain>(
+pub fn attach_iface_in(
     words: &Words,
-    keeper: &mut Keeper<D>,
-    cpu: &mut Cpu<D>,
+    keeper: &mut Keeper,
+    cpu: &mut PlainCpu,
     rec: Record,
-    reference: LocalRef<D>,
-) -> Result<Entry, (Refusal, LocalRef<D>)>
-    requires words { AreWordsOf words.now D.table D.settings }
+    reference: PlainRef,
+) -> Result<Entry, (Refusal, PlainRef)>
+    requires words { AreWordsOf words.now keeper.old.words.table keeper.old.words.settings }
+    requires cpu { AreWordsOf words.now cpu.old.words.table cpu.old.words.settings }
+    requires reference { reference.table ≡ keeper.old.words.table }
     requires kind { rec.kind ≡ Iface }
     requires name { IsTrue (is_lawful rec.name) }
-    ensures answer { IfOk result (λ e. attach_iface_answer D.settings keeper.old cpu.old rec reference ≡ Ok e) }
-    ensures ok { IfOk result (λ e. HasAttachedIfaceFor keeper.old cpu.old reference e keeper.new cpu.new) }
-    ensures refused { IfErr result (λ back. (attach_iface_answer D.settings keeper.old cpu.old rec reference ≡ Err back.0) × (back.1 ≡ reference)
+    ensures answer { IfOk result (λ e. attach_iface_answer keeper.old.words.settings keeper.old.keeper cpu.old.cpu rec reference.reference ≡ Ok e) }
+    ensures ok { IfOk result (λ e. HasAttachedIfaceFor keeper.old.keeper cpu.old.cpu reference.reference e keeper.new.keeper cpu.new.cpu) }
+    ensures refused { IfErr result (λ back. (attach_iface_answer keeper.old.words.settings keeper.old.keeper cpu.old.cpu rec reference.reference ≡ Err back.0) × (back.1 ≡ reference)
         × (keeper.new ≡ keeper.old) × (cpu.new ≡ cpu.old)) }
+    ensures words { KeepsWords keeper.old cpu.old keeper.new cpu.new }
 {
     let given = entry_for(keeper, rec);
     let entry = match attach_answer(cpu.inside(), is_iface(reference.kind()), given) {
@@ -65,7 +71,7 @@ pub fn attach_iface_in<D: Domain>(
         Err(refusal) => return Err((refusal, reference)),
     };
     hear_cpu(words, keeper, cpu);
-    let entry = publish_iface(words, keeper, entry.slot, rec, reference);
+    let entry = publish_iface_on(words, keeper, entry.slot, rec, reference);
     show_cpu(words, keeper, cpu);
     Ok(entry)
 }

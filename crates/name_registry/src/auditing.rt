@@ -7,35 +7,37 @@ ghost use Rattle.cpu_words.specs.Domains.{AreWordsOf};
 ghost use Rattle.passive_list.specs.Notes.{HasHeardOn, WasShown};
 ghost use Rattle.name_registry.specs.Auditing.{AreAllCpus, AreAlike, HasListened, HaveLearned, IsAuditBy, IsAuditOf, IsOccupied, Occupies, is_collected, local_met, locals_met, place_of, places_below, tallies_met, tally_met};
 
-use cpu_words::{Domain, Words};
+use cpu_words::{Domain, NoteSeat, Words};
 use local_count::net_count;
-use passive_list::{Cpu, Keeper, Note, PlainCpu, hear, hear_keeper, tell, tell_keeper};
+use passive_list::{Cpu, Keeper, PlainCpu, hear_keeper_on, hear_on, tell_keeper_on, tell_on};
 use registry_values::{Balance, Refusal, Slot, less_bias, sum};
 use std::alloc::{AllocError, Global};
 
 /// What the counts say of each live or retired entry, least slot first: of each CPU its own net count, 0 where the keeper has collected its
 /// count word, and as total what was collected, less what was given up. So what it says is held is the tally (`answer`). It makes three loads
-/// for each CPU and three by the keeper, so that all know the same of the keeper's deeds: the keeper's log has each collected word, and a CPU
+/// for each CPU and three by the keeper, so that all know the same of the keeper's log: the keeper's log has each collected word, and a CPU
 /// that has heard it all knows that this word was its net count. So the whole list is said by that log and the CPUs alone (`known`).
 /// Refused, in this order: `MissingCpu` where the slice isn't CPU 0, 1, .. of this registry in this order; `NoMemory`, and not where there
 /// is no such entry.
 pub fn audit_in<D: Domain>(
     alloc: Global,
     words: &Words,
-    keeper: &mut Keeper<D>,
+    keeper: &mut Keeper,
     cpus: &mut [Cpu<D>],
 ) -> Result<Vec<Balance>, Refusal>
-    requires words { AreWordsOf words.now D.table D.settings }
-    ensures missing { IsErrOf result Refusal.MissingCpu ↔ (AreAllCpus D.settings.cpus cpus.old → ⊥) }
+    requires words { AreWordsOf words.now keeper.old.words.table keeper.old.words.settings }
+    requires named { AreWordsOf keeper.old.words D.table D.settings }
+    ensures missing { IsErrOf result Refusal.MissingCpu ↔ (AreAllCpus keeper.old.words.settings.cpus cpus.old → ⊥) }
     ensures err { IfErr result (λ refusal. (refusal ≡ Refusal.MissingCpu) ⊎ (refusal ≡ Refusal.NoMemory)) }
-    ensures wanted { IsErrOf result Refusal.NoMemory → IsOccupied keeper.old }
-    ensures places { IfOk result (λ list. map place_of list.items ≡ places_below keeper.old D.settings.slots) }
+    ensures wanted { IsErrOf result Refusal.NoMemory → IsOccupied keeper.old.keeper }
+    ensures places { IfOk result (λ list. map place_of list.items ≡ places_below keeper.old.keeper keeper.old.words.settings.slots) }
     ensures sums { IfOk result (λ list. All (λ b. b.held ≡ sum_of b.locals.items +ℤ b.total) list.items) }
-    ensures locals { IfOk result (λ list. All (λ b. length b.locals.items ≡ D.settings.cpus) list.items) }
-    ensures answer { IfOk result (λ list. IsAuditOf D.settings keeper.old cpus.old list.items) }
-    ensures known { IfOk result (λ list. IsAuditBy D.settings cpus.old cpus.new list.items) }
-    ensures keeper { HasListened keeper.old keeper.new }
+    ensures locals { IfOk result (λ list. All (λ b. length b.locals.items ≡ keeper.old.words.settings.cpus) list.items) }
+    ensures answer { IfOk result (λ list. IsAuditOf keeper.old.words.settings keeper.old.keeper cpus.old list.items) }
+    ensures known { IfOk result (λ list. IsAuditBy keeper.old.words.settings cpus.old cpus.new list.items) }
+    ensures keeper { HasListened keeper.old.keeper keeper.new.keeper }
     ensures cpus { HaveLearned cpus.old cpus.new }
+    ensures words { keeper.new.words ≡ keeper.old.words }
 {
     if !are_all(keeper.settings.cpus, cpus) {
         return Err(Refusal::MissingCpu);
@@ -48,29 +50,32 @@ pub fn audit_in<D: Domain>(
 }
 
 /// Lets all know the same of what the keeper did: the keeper tells, each CPU hears in turn and tells on, and the keeper hears the last one.
-fn gather<D: Domain>(words: &Words, keeper: &mut Keeper<D>, cpus: &mut [Cpu<D>])
-    requires words { AreWordsOf words.now D.table D.settings }
-    ensures alike { AreAlike keeper.old cpus.old cpus.new }
-    ensures keeper { HasListened keeper.old keeper.new }
+fn gather<D: Domain>(words: &Words, keeper: &mut Keeper, cpus: &mut [Cpu<D>])
+    requires words { AreWordsOf words.now keeper.old.words.table keeper.old.words.settings }
+    requires named { AreWordsOf keeper.old.words D.table D.settings }
+    ensures alike { AreAlike keeper.old.keeper cpus.old cpus.new }
+    ensures keeper { HasListened keeper.old.keeper keeper.new.keeper }
     ensures cpus { HaveLearned cpus.old cpus.new }
+    ensures words { keeper.new.words ≡ keeper.old.words }
 {
-    let mut note = tell_keeper(words, keeper);
+    let mut note = tell_keeper_on(words, keeper);
     for c in 0..cpus.len() {
         note = pass_on(words, &mut cpus[c], note);
     }
-    hear_keeper(words, keeper, note);
+    hear_keeper_on(words, keeper, note);
 }
 
 /// One CPU hears the note and tells on what it knows then.
-fn pass_on<D: Domain>(words: &Words, cpu: &mut Cpu<D>, note: Note<D>) -> Note<D>
+fn pass_on<D: Domain>(words: &Words, cpu: &mut Cpu<D>, note: NoteSeat) -> NoteSeat
     requires words { AreWordsOf words.now D.table D.settings }
-    ensures heard { HasHeardOn note.pass cpu.old cpu.new }
-    ensures told { IsPrefix note.deeds cpu.new.deeds }
-    ensures shown { WasShown note.pass cpu.old cpu.new }
-    ensures note { result.deeds ≡ cpu.new.deeds }
+    requires note { note.table ≡ D.table }
+    ensures heard { HasHeardOn note.view cpu.old cpu.new }
+    ensures told { IsPrefix note.known_log cpu.new.known_log }
+    ensures shown { WasShown note.view cpu.old cpu.new }
+    ensures note { (result.table ≡ D.table) × (result.known_log ≡ cpu.new.known_log) }
 {
-    hear(words, cpu, note);
-    tell(words, cpu)
+    hear_on(words, &mut cpu.plain, note);
+    tell_on(words, &mut cpu.plain)
 }
 
 /// Whether these are so many CPUs, 0, 1, .., in this order.
@@ -90,12 +95,12 @@ fn are_all<D: Domain>(count: u8, cpus: &[Cpu<D>]) -> bool
 
 fn balances<D: Domain>(
     alloc: Global,
-    keeper: &Keeper<D>,
+    keeper: &Keeper,
     cpus: &[Cpu<D>],
 ) -> Result<Vec<Balance>, AllocError>
     requires { length cpus.now ≤ 8 }
-    ensures value { IfOk result (λ list. map tally_shown list.items ≡ tallies_met keeper.now cpus.now D.settings.slots) }
-    ensures wanted { OnErr result (IsOccupied keeper.now) }
+    ensures value { IfOk result (λ list. map tally_shown list.items ≡ tallies_met keeper.now.keeper cpus.now keeper.now.words.settings.slots) }
+    ensures wanted { OnErr result (IsOccupied keeper.now.keeper) }
 {
     let mut list = Vec::new(alloc);
     let slots = keeper.settings.slots;
@@ -113,14 +118,14 @@ fn balances<D: Domain>(
 /// What the counts say of the entry with `number` in the slot `t`.
 fn balance<D: Domain>(
     alloc: Global,
-    keeper: &Keeper<D>,
+    keeper: &Keeper,
     cpus: &[Cpu<D>],
     t: u8,
     number: u64,
 ) -> Result<Balance, AllocError>
-    requires entry { Occupies keeper.now t number }
+    requires entry { Occupies keeper.now.keeper t number }
     requires few { length cpus.now ≤ 8 }
-    ensures { IfOk result (λ b. tally_shown b ≡ tally_met keeper.now cpus.now number t) }
+    ensures { IfOk result (λ b. tally_shown b ≡ tally_met keeper.now.keeper cpus.now number t) }
 {
     let total = less_bias(keeper.rows[t as usize].total);
     let locals = locals(alloc, keeper, cpus, t, number)?;
@@ -137,13 +142,13 @@ fn balance<D: Domain>(
 /// Of each CPU its net count for the entry.
 fn locals<D: Domain>(
     alloc: Global,
-    keeper: &Keeper<D>,
+    keeper: &Keeper,
     cpus: &[Cpu<D>],
     t: u8,
     number: u64,
 ) -> Result<Vec<i64>, AllocError>
-    requires { (t < D.settings.slots) × (0 < number) }
-    ensures value { IfOk result (λ list. list.items ≡ locals_met keeper.now cpus.now t number) }
+    requires { (t < 32) × (0 < number) }
+    ensures value { IfOk result (λ list. list.items ≡ locals_met keeper.now.keeper cpus.now t number) }
     ensures range { IfOk result (λ list. All (λ z. (neg_ℤ (pos (2 ^ 50)) ≤ℤ z) × (z ≤ℤ pos (2 ^ 50))) list.items) }
 {
     let mut list = Vec::new(alloc);
@@ -154,9 +159,9 @@ fn locals<D: Domain>(
 }
 
 /// A CPU's net count for the entry, by its place; 0 where the keeper has collected it.
-fn local<D: Domain>(keeper: &Keeper<D>, cpu: &Cpu<D>, t: u8, number: u64) -> i64
-    requires { (t < D.settings.slots) × (0 < number) }
-    ensures value { result ≡ local_met keeper.now t number cpu.now }
+fn local<D: Domain>(keeper: &Keeper, cpu: &Cpu<D>, t: u8, number: u64) -> i64
+    requires { (t < 32) × (0 < number) }
+    ensures value { result ≡ local_met keeper.now.keeper t number cpu.now }
     ensures range { (neg_ℤ (pos (2 ^ 50)) ≤ℤ result) × (result ≤ℤ pos (2 ^ 50)) }
 {
     local_on(keeper, &cpu.plain, t, number)
@@ -164,11 +169,10 @@ fn local<D: Domain>(keeper: &Keeper<D>, cpu: &Cpu<D>, t: u8, number: u64) -> i64
 
 /// What an audit says of one CPU, for a caller that is lent the CPUs one at a time, each naming its own table: its net count for the entry
 /// with `number` in the slot `t`, by its place; 0 where the keeper has collected it. It makes no step.
-/// Condition: the CPU is one of the registry, and the slot too; an entry's number is never 0.
-pub fn local_on<D: Domain>(keeper: &Keeper<D>, cpu: &PlainCpu, t: u8, number: u64) -> i64
-    requires settings { cpu.now.words.settings ≡ D.settings }
-    requires entry { (t < D.settings.slots) × (0 < number) }
-    ensures value { result ≡ local_met keeper.now t number cpu.now.cpu }
+/// Condition: the slot is below 32; an entry's number is never 0.
+pub fn local_on(keeper: &Keeper, cpu: &PlainCpu, t: u8, number: u64) -> i64
+    requires { (t < 32) × (0 < number) }
+    ensures value { result ≡ local_met keeper.now.keeper t number cpu.now.cpu }
     ensures range { (neg_ℤ (pos (2 ^ 50)) ≤ℤ result) × (result ≤ℤ pos (2 ^ 50)) }
 {
     if is_collected(keeper, t, cpu.id) {
@@ -179,9 +183,9 @@ pub fn local_on<D: Domain>(keeper: &Keeper<D>, cpu: &PlainCpu, t: u8, number: u6
 }
 
 /// Whether the keeper has collected the CPU's count word for the entry in the slot `t`.
-fn is_collected<D: Domain>(keeper: &Keeper<D>, t: u8, cpu: u8) -> bool
-    requires { (t < D.settings.slots) × (cpu < 8) }
-    ensures { result ≡ is_collected keeper.now t cpu }
+fn is_collected(keeper: &Keeper, t: u8, cpu: u8) -> bool
+    requires { (t < 32) × (cpu < 8) }
+    ensures { result ≡ is_collected keeper.now.keeper t cpu }
 {
     let row = keeper.rows[t as usize];
     matches!(row.state, Slot::Retired(_)) && row.marks[cpu as usize].collected

@@ -1,19 +1,19 @@
 //! Destroying a retired entry, in several turns.
 
 ghost use Rattle.std.specs.Prelude.{◌≡◌, ◌<◌, ◌≤◌, IfOk, IfErr, false};
-ghost use Rattle.cpu_words.specs.Deeds.{IsFreedFrom};
+ghost use Rattle.cpu_words.specs.KeeperLog.{IsFreedFrom};
 ghost use Rattle.cpu_words.specs.Domains.{AreWordsOf};
 ghost use Rattle.name_registry.specs.Destroying.{Destroys, DestroysOutside, HasAdvancedFor};
 ghost use Rattle.name_registry.specs.Locking.{IsDestroyRefusal, IsStageOf};
 ghost use Rattle.name_registry.specs.Obstacles.{IsDestroyAnswer, IsTurn};
-ghost use Rattle.name_registry.specs.Meeting.{is_inside, HasLearned};
+ghost use Rattle.name_registry.specs.Meeting.{KeepsWords, is_inside, HasLearned};
 
 use crate::advancing::advance_in;
 use crate::locked::Locked;
 use crate::meeting::{hear_cpu, show_cpu};
 use crate::registry::Registry;
 use cpu_words::{Domain, Words};
-use passive_list::{Cpu, Keeper};
+use passive_list::{Cpu, Keeper, PlainCpu};
 use registry_values::{Refusal, Stage, destroyed};
 use std::sync::Wait;
 use std::thread::yield_now;
@@ -43,7 +43,7 @@ impl<D: Domain> Registry<D> {
         requires { 1 ≤ turns }
         ensures freed { IfOk result (λ slot. (is_inside cpu.old ≡ false) × (slot < D.settings.slots)) }
         ensures refused { IfErr result (λ refusal. IsDestroyRefusal D.settings (is_inside cpu.old) refusal) }
-        ensures gone { IfOk result (λ slot. IsFreedFrom slot number cpu.new.deeds) }
+        ensures gone { IfOk result (λ slot. IsFreedFrom slot number cpu.new.known_log) }
         ensures answer { IsDestroyAnswer D.settings number cpu.old result cpu.new }
         ensures made { DestroysOutside D.settings number turns (is_inside cpu.old) cpu.old result cpu.new }
         ensures learned { HasLearned cpu.old cpu.new × (cpu.new.made ≡ cpu.old.made) }
@@ -96,16 +96,18 @@ fn destroy_in_turns<D: Domain, I: AdvancesUnderInterlock<D>, R: Wait>(
 
 /// `advance_in` for a caller with a CPU: the keeper hears first what the CPU knows, and once more after the turn, so that it finds in its log what it
 /// did. Then the CPU hears what the keeper did, all of it: what the turn met is in what the CPU knows (`turn`).
-pub fn advance_for<D: Domain>(
+pub fn advance_for(
     words: &Words,
-    keeper: &mut Keeper<D>,
-    cpu: &mut Cpu<D>,
+    keeper: &mut Keeper,
+    cpu: &mut PlainCpu,
     number: u64,
 ) -> Result<Stage, Refusal>
-    requires words { AreWordsOf words.now D.table D.settings }
-    ensures answer { HasAdvancedFor D.settings keeper.old cpu.old number result keeper.new cpu.new }
-    ensures turn { IsTurn D.settings number cpu.old result cpu.new }
-    ensures stage { IfOk result (λ stage. IsStageOf D.settings stage) }
+    requires words { AreWordsOf words.now keeper.old.words.table keeper.old.words.settings }
+    requires cpu { AreWordsOf words.now cpu.old.words.table cpu.old.words.settings }
+    ensures answer { HasAdvancedFor keeper.old.words.settings keeper.old.keeper cpu.old.cpu number result keeper.new.keeper cpu.new.cpu }
+    ensures turn { IsTurn keeper.old.words.settings number cpu.old.cpu result cpu.new.cpu }
+    ensures stage { IfOk result (λ stage. IsStageOf keeper.old.words.settings stage) }
+    ensures words { KeepsWords keeper.old cpu.old keeper.new cpu.new }
 {
     hear_cpu(words, keeper, cpu);
     let answer = advance_in(words, keeper, number);
@@ -126,6 +128,6 @@ impl<'a, D: Domain> AdvancesUnderInterlock<D> for Locked<'a, D> {
         number: u64,
     ) -> Result<Stage, Refusal> {
         let keeper = &mut self.registry.interlock.lock(rt).keeper;
-        advance_for(&self.registry.words, keeper, cpu, number)
+        advance_for(&self.registry.words, keeper, &mut cpu.plain, number)
     }
 }

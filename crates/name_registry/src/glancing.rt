@@ -6,33 +6,35 @@ ghost use mathlib.Core.List.{IsPrefix};
 ghost use Rattle.registry_values.specs.Slots.{retired_number, slot_at};
 ghost use Rattle.protocol.specs.declared.event.Event.TheVariants.{Hear, Tell};
 ghost use Rattle.protocol.specs.declared.event.Reply.TheVariants.{Done};
-ghost use Rattle.cpu_words.specs.Deeds.{changes_in, IsOwnLog};
+ghost use Rattle.cpu_words.specs.KeeperLog.{changes_in, IsOwnLog};
 ghost use Rattle.cpu_words.specs.Domains.{AreWordsOf};
 ghost use Rattle.cpu_words.specs.Grace.{MayGlance};
-ghost use Rattle.cpu_words.specs.Notes.{keeper_with_heard};
+ghost use Rattle.cpu_words.specs.Notes.{keeper_with_note};
 ghost use Rattle.cpu_words.specs.Rule.{IsShown, did};
 ghost use Rattle.passive_list.specs.Notes.{HasHeardOn};
 ghost use Rattle.protocol.specs.declared.state.Due.TheVariants.{Rest};
 ghost use Rattle.name_registry.specs.Performing.{GlancesBelow, GlancesOnce, HasBegun, HasGlanced, HasPassedAll, PassesBelow, PassesEntry, SnapshotsBelow, looking};
+ghost use Rattle.name_registry.specs.Meeting.{KeepsWords};
 
 use crate::advancing::look_at_all;
 use crate::meeting::{hear_cpu, show_cpu};
-use cpu_words::{Domain, KeeperSeat, Words, steps};
-use passive_list::{Cpu, Keeper, Note, hear, tell};
+use cpu_words::{KeeperSeat, Words, steps};
+use passive_list::{Keeper, PlainCpu, hear_on, tell_on};
 use registry_values::{first_unseen, is_out, is_retired_as, retired_number};
-use std::marker::PhantomData;
 
 /// Begins a wait until each section that is open now has ended: the section word of each CPU, and the number of each retired entry, slot by
 /// slot. It takes no memory. The waiting is by `glance_at_all`, and its end by `pass_all`.
 /// Condition: there are at most 8 CPUs, as in each registry.
-pub fn begin<D: Domain>(
+pub fn begin(
     words: &Words,
-    keeper: &mut Keeper<D>,
-    cpu: &mut Cpu<D>,
+    keeper: &mut Keeper,
+    cpu: &mut PlainCpu,
 ) -> ([u64; 8], [Option<u64>; 32])
-    requires words { AreWordsOf words.now D.table D.settings }
-    requires few { D.settings.cpus ≤ 8 }
-    ensures { HasBegun D.settings keeper.old cpu.old result.0 result.1 keeper.new cpu.new }
+    requires words { AreWordsOf words.now keeper.old.words.table keeper.old.words.settings }
+    requires cpu { AreWordsOf words.now cpu.old.words.table cpu.old.words.settings }
+    requires few { keeper.old.words.settings.cpus ≤ 8 }
+    ensures begun { HasBegun keeper.old.words.settings keeper.old.keeper cpu.old.cpu result.0 result.1 keeper.new.keeper cpu.new.cpu }
+    ensures words { KeepsWords keeper.old cpu.old keeper.new cpu.new }
 {
     let numbers = retired_numbers(keeper);
     hear_caller(words, &mut keeper.seat, cpu);
@@ -41,43 +43,38 @@ pub fn begin<D: Domain>(
     (snapshots, numbers)
 }
 
-/// The keeper hears what the CPU knows: its pass is in the history, and what it has heard of the keeper's deeds begins the keeper's log, which
+/// The keeper hears what the CPU knows: its pass is in the history, and what it has heard of the keeper's log begins that log, which
 /// has what the keeper has (`own`).
-fn hear_caller<D: Domain>(words: &Words, seat: &mut KeeperSeat, cpu: &mut Cpu<D>)
-    requires words { AreWordsOf words.now D.table D.settings }
-    requires table { seat.old.table ≡ D.table }
+fn hear_caller(words: &Words, seat: &mut KeeperSeat, cpu: &mut PlainCpu)
+    requires words { AreWordsOf words.now cpu.old.words.table cpu.old.words.settings }
+    requires table { seat.old.table ≡ words.now.table }
     requires may { seat.old.view.due ≡ Rest }
     ensures table { seat.new.table ≡ seat.old.table }
-    ensures view { seat.new.view ≡ keeper_with_heard seat.old.view cpu.old.view.pass }
+    ensures view { seat.new.view ≡ keeper_with_note seat.old.view cpu.old.cpu.view.pass }
     ensures is_shown { IsShown seat.new.view }
     ensures log { seat.new.log ≡ seat.old.log ++ did (Hear None) Done }
-    ensures own { IsOwnLog seat.old.log cpu.old.deeds seat.old.view }
-    ensures seen { length cpu.old.view.pass ≤ changes_in seat.old.log }
+    ensures own { IsOwnLog seat.old.log cpu.old.cpu.known_log seat.old.view }
+    ensures seen { length cpu.old.cpu.view.pass ≤ changes_in seat.old.log }
     ensures cpu { cpu.new ≡ cpu.old }
 {
-    let Note {
-        seat: note,
-        domain: _,
-    } = tell(words, cpu);
+    let note = tell_on(words, cpu);
     steps::hear_keeper(words, seat, note);
 }
 
 /// The CPU hears the history, and what the keeper did.
-fn tell_caller<D: Domain>(words: &Words, seat: &mut KeeperSeat, cpu: &mut Cpu<D>)
-    requires words { AreWordsOf words.now D.table D.settings }
-    requires table { seat.old.table ≡ D.table }
+fn tell_caller(words: &Words, seat: &mut KeeperSeat, cpu: &mut PlainCpu)
+    requires words { AreWordsOf words.now cpu.old.words.table cpu.old.words.settings }
+    requires table { seat.old.table ≡ words.now.table }
     requires may { seat.old.view.due ≡ Rest }
     ensures table { seat.new.table ≡ seat.old.table }
     ensures view { seat.new.view ≡ seat.old.view }
     ensures log { seat.new.log ≡ seat.old.log ++ did (Tell None) Done }
-    ensures hears { HasHeardOn seat.old.view.history cpu.old cpu.new }
-    ensures told { IsPrefix seat.new.log cpu.new.deeds }
+    ensures hears { HasHeardOn seat.old.view.history cpu.old.cpu cpu.new.cpu }
+    ensures told { IsPrefix seat.new.log cpu.new.cpu.known_log }
+    ensures words { cpu.new.words ≡ cpu.old.words }
 {
-    let note = Note {
-        seat: steps::tell_keeper(words, seat),
-        domain: PhantomData,
-    };
-    hear(words, cpu, note);
+    let note = steps::tell_keeper(words, seat);
+    hear_on(words, cpu, note);
 }
 
 /// One snapshot of each CPU, CPU 0 first.
@@ -95,8 +92,8 @@ fn snapshot_all(words: &Words, seat: &mut KeeperSeat, cpus: u8) -> [u64; 8]
     snapshots
 }
 
-fn retired_numbers<D: Domain>(keeper: &Keeper<D>) -> [Option<u64>; 32]
-    ensures { (t : ℕ) → t < 32 → slice_index_or result t None ≡ retired_number (slot_at keeper.now.slots t) }
+fn retired_numbers(keeper: &Keeper) -> [Option<u64>; 32]
+    ensures { (t : ℕ) → t < 32 → slice_index_or result t None ≡ retired_number (slot_at keeper.now.keeper.slots t) }
 {
     let mut numbers = [None; 32];
     for slot in 0..32 {
@@ -108,16 +105,18 @@ fn retired_numbers<D: Domain>(keeper: &Keeper<D>) -> [Option<u64>; 32]
 /// One turn of such a wait: a glance at each CPU that wasn't seen out of the section of its snapshot yet. The answer is the least that still
 /// wasn't. It takes no memory.
 /// Condition: there are at most 8 CPUs, as in each registry.
-pub fn glance_at_all<D: Domain>(
+pub fn glance_at_all(
     words: &Words,
-    keeper: &mut Keeper<D>,
-    cpu: &mut Cpu<D>,
+    keeper: &mut Keeper,
+    cpu: &mut PlainCpu,
     snapshots: &[u64; 8],
     seen: &mut [bool; 8],
 ) -> Option<u8>
-    requires words { AreWordsOf words.now D.table D.settings }
-    requires few { D.settings.cpus ≤ 8 }
-    ensures { HasGlanced D.settings snapshots.now keeper.old cpu.old seen.old result seen.new keeper.new cpu.new }
+    requires words { AreWordsOf words.now keeper.old.words.table keeper.old.words.settings }
+    requires cpu { AreWordsOf words.now cpu.old.words.table cpu.old.words.settings }
+    requires few { keeper.old.words.settings.cpus ≤ 8 }
+    ensures glanced { HasGlanced keeper.old.words.settings snapshots.now keeper.old.keeper cpu.old.cpu seen.old result seen.new keeper.new.keeper cpu.new.cpu }
+    ensures words { KeepsWords keeper.old cpu.old keeper.new cpu.new }
 {
     let cpus = words.settings().cpus;
     hear_caller(words, &mut keeper.seat, cpu);
@@ -163,14 +162,11 @@ fn glances(words: &Words, seat: &mut KeeperSeat, cpu: u8, snapshot: u64, seen: b
 /// The end of such a wait, once all CPUs were seen: looks at each CPU for the retired entries with these numbers, one by slot. One that was
 /// freed since is left out. The keeper hears once more after its looks, so that it finds in its log what they told, and tells the CPU that
 /// log. It takes no memory.
-pub fn pass_all<D: Domain>(
-    words: &Words,
-    keeper: &mut Keeper<D>,
-    cpu: &mut Cpu<D>,
-    numbers: &[Option<u64>; 32],
-)
-    requires words { AreWordsOf words.now D.table D.settings }
-    ensures { HasPassedAll D.settings keeper.old cpu.old numbers.now keeper.new cpu.new }
+pub fn pass_all(words: &Words, keeper: &mut Keeper, cpu: &mut PlainCpu, numbers: &[Option<u64>; 32])
+    requires words { AreWordsOf words.now keeper.old.words.table keeper.old.words.settings }
+    requires cpu { AreWordsOf words.now cpu.old.words.table cpu.old.words.settings }
+    ensures passed { HasPassedAll keeper.old.words.settings keeper.old.keeper cpu.old.cpu numbers.now keeper.new.keeper cpu.new.cpu }
+    ensures words { KeepsWords keeper.old cpu.old keeper.new cpu.new }
 {
     hear_cpu(words, keeper, cpu);
     pass_entries(words, keeper, numbers);
@@ -178,9 +174,10 @@ pub fn pass_all<D: Domain>(
     show_cpu(words, keeper, cpu);
 }
 
-fn pass_entries<D: Domain>(words: &Words, keeper: &mut Keeper<D>, numbers: &[Option<u64>; 32])
-    requires words { AreWordsOf words.now D.table D.settings }
-    ensures { PassesBelow D.settings numbers.now 32 keeper.old keeper.new }
+fn pass_entries(words: &Words, keeper: &mut Keeper, numbers: &[Option<u64>; 32])
+    requires words { AreWordsOf words.now keeper.old.words.table keeper.old.words.settings }
+    ensures passes { PassesBelow words.now.settings numbers.now 32 keeper.old.keeper keeper.new.keeper }
+    ensures words { keeper.new.words ≡ keeper.old.words }
 {
     for slot in 0..32 {
         if let Some(number) = numbers[slot as usize] {
@@ -190,10 +187,11 @@ fn pass_entries<D: Domain>(words: &Words, keeper: &mut Keeper<D>, numbers: &[Opt
 }
 
 /// Looks at each CPU for the entry with this number, where it is still retired in its slot, up to the first CPU that doesn't pass.
-fn pass_entry<D: Domain>(words: &Words, keeper: &mut Keeper<D>, slot: u8, number: u64)
-    requires words { AreWordsOf words.now D.table D.settings }
+fn pass_entry(words: &Words, keeper: &mut Keeper, slot: u8, number: u64)
+    requires words { AreWordsOf words.now keeper.old.words.table keeper.old.words.settings }
     requires place { slot < 32 }
-    ensures { PassesEntry D.settings keeper.old slot number keeper.new }
+    ensures passes { PassesEntry words.now.settings keeper.old.keeper slot number keeper.new.keeper }
+    ensures words { keeper.new.words ≡ keeper.old.words }
 {
     if is_retired_as(number, &keeper.slot(slot)) {
         look_at_all(words, keeper, slot);

@@ -5,7 +5,7 @@ ghost use Rattle.registry_values.specs.Names.{is_lawful};
 ghost use Rattle.registry_values.specs.Slots.{is_iface};
 ghost use Rattle.registry_values.specs.declared.entry.Change.TheVariants.{Attach, Detach};
 ghost use Rattle.registry_values.specs.declared.entry.Kind.TheVariants.{Iface};
-ghost use Rattle.cpu_words.specs.Deeds.{IsAttachedKeeping};
+ghost use Rattle.cpu_words.specs.KeeperLog.{IsAttachedKeeping};
 ghost use Rattle.cpu_words.specs.Domains.{AreWordsOf};
 ghost use Rattle.name_registry.specs.Changes.{HasMade, weigh, weight};
 ghost use Rattle.name_registry.specs.Locking.{MayAttach, IsAttachRefusal, IsDetachRefusedTo};
@@ -22,13 +22,14 @@ use std::sync::ledger::Book;
 /// More than twice the greatest number of an entry.
 const UNIT: u64 = 4_294_967_296;
 
-/// The keeper and the book. The book's total is what all changes of the history weigh, so a change is made only where it is counted, to the
+/// The keeper of D's table, and the book. The book's total is what all changes of the history weigh, so a change is made only where it is counted, to the
 /// share of some CPU. The book takes no bytes.
 #[derive(Drop)]
 pub(crate) struct Interlock<D: Domain> {
-    pub(crate) keeper: Keeper<D>,
+    pub(crate) keeper: Keeper,
     pub(crate) book: Book<D>,
-    ghost counted: { book.total ≡ weigh keeper.view.history },
+    ghost named: { AreWordsOf keeper.words D.table D.settings },
+    ghost counted: { book.total ≡ weigh keeper.keeper.view.history },
 }
 
 impl<D: Domain> Interlock<D> {
@@ -49,7 +50,7 @@ impl<D: Domain> Interlock<D> {
         let Interlock { keeper, book } = self;
         // Reading it opens what its type keeps: how long its history may be.
         let _changes = keeper.changes;
-        let entry = attach_in(words, keeper, cpu, rec)?;
+        let entry = attach_in(words, keeper, &mut cpu.plain, rec)?;
         count_attach(book, cpu, entry);
         Ok(entry)
     }
@@ -68,15 +69,20 @@ impl<D: Domain> Interlock<D> {
         ensures may { IfOk result (λ _. MayAttach (is_inside cpu.old) (is_iface reference.entry.rec.kind)) }
         ensures ok { IfOk result (λ e. (e.rec ≡ rec) × HasLearned cpu.old cpu.new × HasSeenAttach cpu.old cpu.new e) }
         ensures made { IfOk result (λ e. HasMade cpu.old (Attach e) cpu.new) }
-        ensures keeping { IfOk result (λ e. IsAttachedKeeping e.slot e.number reference.entry.number cpu.new.deeds) }
+        ensures keeping { IfOk result (λ e. IsAttachedKeeping e.slot e.number reference.entry.number cpu.new.known_log) }
         ensures refused { IfErr result (λ back. IsAttachRefusal (is_inside cpu.old) (is_iface reference.entry.rec.kind) back.0 × (back.1 ≡ reference) × (cpu.new ≡ cpu.old)) }
     {
         let Interlock { keeper, book } = self;
         // Reading it opens what its type keeps: how long its history may be.
         let _changes = keeper.changes;
-        let entry = attach_iface_in(words, keeper, cpu, rec, reference)?;
-        count_attach(book, cpu, entry);
-        Ok(entry)
+        let LocalRef { plain, domain } = reference;
+        match attach_iface_in(words, keeper, &mut cpu.plain, rec, plain) {
+            Ok(entry) => {
+                count_attach(book, cpu, entry);
+                Ok(entry)
+            }
+            Err((refusal, plain)) => Err((refusal, LocalRef { plain, domain })),
+        }
     }
 
     /// `detach_in`, counted to the CPU.
@@ -96,7 +102,7 @@ impl<D: Domain> Interlock<D> {
         let Interlock { keeper, book } = self;
         // Reading it opens what its type keeps: how long its history may be.
         let _changes = keeper.changes;
-        let entry = detach_in(words, keeper, cpu, kind, name)?;
+        let entry = detach_in(words, keeper, &mut cpu.plain, kind, name)?;
         count_detach(book, cpu, entry.number);
         Ok(entry)
     }

@@ -9,8 +9,8 @@ use passive_list::{Cpu, Keeper};
 /// Whoever holds the keeper, and has made no step yet, finds the balance of each slot equal to the local references held to its entry
 /// (localcount(9)): whatever the words and the seats of all threads are then. A list of events leads to the state that is balanced, and
 /// the words and the views of all seats show it. The answer says nothing; the contract is the law.
-pub fn free_interlock<D: Domain>(keeper: &Keeper<D>) -> u64
-    ensures law { FreeInterlock D.settings keeper.now }
+pub fn free_interlock(keeper: &Keeper) -> u64
+    ensures law { FreeInterlock keeper.now.words.settings keeper.now.keeper }
 {
     keeper.changes
 }
@@ -19,8 +19,8 @@ pub fn free_interlock<D: Domain>(keeper: &Keeper<D>) -> u64
 /// are then, a list of events leads to a state that the words, this keeper and these CPUs show. So what an audit of them lists
 /// (localcount(9)) are the CPUs' net counts, and what it says is held is the tally, and, where they are all CPUs, the number of local
 /// references held to the entry. The answer says nothing; the contract is the law.
-pub fn exact_audit<D: Domain>(keeper: &Keeper<D>, cpus: &[Cpu<D>]) -> u64
-    ensures law { ExactAudit D.settings keeper.now cpus.now }
+pub fn exact_audit<D: Domain>(keeper: &Keeper, cpus: &[Cpu<D>]) -> u64
+    ensures law { ExactAudit keeper.now.words.settings keeper.now.keeper cpus.now }
 {
     // The law alone speaks of the CPUs.
     let _cpus = cpus;

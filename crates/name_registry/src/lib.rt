@@ -13,13 +13,13 @@ mod auditing;
 mod blank;
 mod destroying;
 mod detaching;
+mod first_fit;
 mod glancing;
 mod interlock;
 mod law;
 mod locked;
 mod meeting;
 mod performing;
-mod plain;
 mod registry;
 mod releasing;
 

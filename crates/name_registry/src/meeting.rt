@@ -5,32 +5,36 @@ ghost use mathlib.Core.List.{IsPrefix};
 ghost use Rattle.cpu_words.specs.Domains.{AreWordsOf};
 ghost use Rattle.passive_list.specs.Logs.{HasOwnLog};
 ghost use Rattle.passive_list.specs.Notes.{HasHeardOn};
-ghost use Rattle.name_registry.specs.Meeting.{keeper_after_hear, keeper_after_tell};
+ghost use Rattle.name_registry.specs.Meeting.{KeepsWords, keeper_after_hear, keeper_after_tell};
 
-use cpu_words::{Domain, Words};
-use passive_list::{Cpu, Keeper, hear, hear_keeper, tell, tell_keeper};
+use cpu_words::Words;
+use passive_list::{Keeper, PlainCpu, hear_keeper_on, hear_on, tell_keeper_on, tell_on};
 
-/// The keeper hears what the CPU has seen: from now on it is known to be in the keeper's history. What the CPU knows of the keeper's deeds
+/// The keeper hears what the CPU has seen: from now on it is known to be in the keeper's history. What the CPU knows of the keeper's log
 /// begins the keeper's log, and that log has what the keeper has.
-pub(crate) fn hear_cpu<D: Domain>(words: &Words, keeper: &mut Keeper<D>, cpu: &mut Cpu<D>)
-    requires words { AreWordsOf words.now D.table D.settings }
-    ensures seen { IsPrefix cpu.old.view.pass keeper.new.view.history }
-    ensures keeper { keeper.new ≡ keeper_after_hear keeper.old cpu.old }
-    ensures known { IsPrefix cpu.old.deeds keeper.old.log }
-    ensures own { HasOwnLog D.settings keeper.old }
+pub(crate) fn hear_cpu(words: &Words, keeper: &mut Keeper, cpu: &mut PlainCpu)
+    requires words { AreWordsOf words.now keeper.old.words.table keeper.old.words.settings }
+    requires cpu { AreWordsOf words.now cpu.old.words.table cpu.old.words.settings }
+    ensures seen { IsPrefix cpu.old.cpu.view.pass keeper.new.keeper.view.history }
+    ensures keeper { keeper.new.keeper ≡ keeper_after_hear keeper.old.keeper cpu.old.cpu }
+    ensures known { IsPrefix cpu.old.cpu.known_log keeper.old.keeper.log }
+    ensures own { HasOwnLog words.now.settings keeper.old.keeper }
     ensures cpu { cpu.new ≡ cpu.old }
+    ensures words { KeepsWords keeper.old cpu.old keeper.new cpu.new }
 {
-    let note = tell(words, cpu);
-    hear_keeper(words, keeper, note);
+    let note = tell_on(words, cpu);
+    hear_keeper_on(words, keeper, note);
 }
 
 /// The CPU hears the whole history, and all that the keeper did: what the keeper changed is in its pass.
-pub(crate) fn show_cpu<D: Domain>(words: &Words, keeper: &mut Keeper<D>, cpu: &mut Cpu<D>)
-    requires words { AreWordsOf words.now D.table D.settings }
-    ensures keeper { keeper.new ≡ keeper_after_tell keeper.old }
-    ensures cpu { HasHeardOn keeper.old.view.history cpu.old cpu.new }
-    ensures told { IsPrefix keeper.new.log cpu.new.deeds }
+pub(crate) fn show_cpu(words: &Words, keeper: &mut Keeper, cpu: &mut PlainCpu)
+    requires words { AreWordsOf words.now keeper.old.words.table keeper.old.words.settings }
+    requires cpu { AreWordsOf words.now cpu.old.words.table cpu.old.words.settings }
+    ensures keeper { keeper.new.keeper ≡ keeper_after_tell keeper.old.keeper }
+    ensures cpu { HasHeardOn keeper.old.keeper.view.history cpu.old.cpu cpu.new.cpu }
+    ensures told { IsPrefix keeper.new.keeper.log cpu.new.cpu.known_log }
+    ensures words { KeepsWords keeper.old cpu.old keeper.new cpu.new }
 {
-    let note = tell_keeper(words, keeper);
-    hear(words, cpu, note);
+    let note = tell_keeper_on(words, keeper);
+    hear_on(words, cpu, note);
 }

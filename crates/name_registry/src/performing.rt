@@ -135,7 +135,7 @@ impl<'a, D: Domain> UnderInterlock<D> for Locked<'a, D> {
         begin(
             &self.registry.words,
             &mut self.registry.interlock.lock(rt).keeper,
-            cpu,
+            &mut cpu.plain,
         )
     }
 
@@ -147,11 +147,17 @@ impl<'a, D: Domain> UnderInterlock<D> for Locked<'a, D> {
         seen: &mut [bool; 8],
     ) -> Option<u8> {
         let keeper = &mut self.registry.interlock.lock(rt).keeper;
-        glance_at_all(&self.registry.words, keeper, cpu, snapshots, seen)
+        glance_at_all(
+            &self.registry.words,
+            keeper,
+            &mut cpu.plain,
+            snapshots,
+            seen,
+        )
     }
 
     fn pass<R: Wait>(&mut self, rt: &R, cpu: &mut Cpu<D>, numbers: &[Option<u64>; 32]) {
         let keeper = &mut self.registry.interlock.lock(rt).keeper;
-        pass_all(&self.registry.words, keeper, cpu, numbers);
+        pass_all(&self.registry.words, keeper, &mut cpu.plain, numbers);
     }
 }

@@ -6,7 +6,7 @@ ghost use Rattle.registry_values.specs.declared.entry.Change.TheVariants.{Attach
 ghost use Rattle.registry_values.specs.declared.entry.Kind.TheVariants.{Iface};
 ghost use Rattle.registry_values.specs.Names.{is_lawful};
 ghost use Rattle.registry_values.specs.Slots.{is_iface};
-ghost use Rattle.cpu_words.specs.Deeds.{IsAttachedKeeping};
+ghost use Rattle.cpu_words.specs.KeeperLog.{IsAttachedKeeping};
 ghost use Rattle.cpu_words.specs.Domains.{AreWordsOf};
 ghost use Rattle.name_registry.specs.Auditing.{AreAllCpus, HaveLearned, IsAuditBy};
 ghost use Rattle.name_registry.specs.Changes.{HasMade};
@@ -75,7 +75,7 @@ impl<D: Domain> Registry<D> {
         ensures may { IfOk result (λ _. MayAttach (is_inside cpu.old) (is_iface reference.entry.rec.kind)) }
         ensures ok { IfOk result (λ e. (e.rec ≡ rec) × HasLearned cpu.old cpu.new × HasSeenAttach cpu.old cpu.new e) }
         ensures made { IfOk result (λ e. HasMade cpu.old (Attach e) cpu.new) }
-        ensures keeping { IfOk result (λ e. IsAttachedKeeping e.slot e.number reference.entry.number cpu.new.deeds) }
+        ensures keeping { IfOk result (λ e. IsAttachedKeeping e.slot e.number reference.entry.number cpu.new.known_log) }
         ensures refused { IfErr result (λ back. IsAttachRefusal (is_inside cpu.old) (is_iface reference.entry.rec.kind) back.0 × (back.1 ≡ reference) × (cpu.new ≡ cpu.old)) }
     {
         let interlock = &mut self.interlock.lock(rt);

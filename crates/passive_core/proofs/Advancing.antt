@@ -13,7 +13,7 @@ use Rattle.registry_values.specs.declared.slot.Slot.TheVariants.{Retired}
 use Rattle.registry_values.specs.declared.refusal.Refusal.{Refusal}
 use Rattle.registry_values.specs.declared.stage.Stage.{Stage}
 use Rattle.registry_values.specs.declared.stage.Stage.TheVariants.{Grace, Passive, Local, Freed}
-use Rattle.passive_core.specs.Advancing.{AdvanceLeaves, Settles, Empties, Gathers, HoldersAreOpen, LeavesMarks, MarksPass, Passes, Clears, MarksClear, PassedBelow, ClearBelow, AllNoted, SameBut, StageMarks, AdvanceMarks, StageLeaves, advance_answer, count_given_up, has_passive, is_open_since, is_snapshot, plain_stage}
+use Rattle.passive_core.specs.Advancing.{AdvanceLeaves, Settles, Empties, Gathers, HoldersAreOpen, LeavesMarks, MarksPass, Passes, Clears, MarksClear, PassedBelow, ClearBelow, AllNoted, SameBut, StageMarks, AdvanceMarks, StageLeaves, advance_answer, count_given_up, has_passive, is_open_since, is_snapshot, first_obstacle}
 use Rattle.protocol.specs.Marking.{AllClear, AllCollected, AllPassed, MarksGrow}
 use Rattle.registry_values.specs.Marks.{no_mark, least_below, mark_after_look, mark_after_passive_look, mark_after_collect, are_collected, has_changed, have_passed, is_even}
 use Rattle.registry_values.specs.Stages.{stage_of}
@@ -390,7 +390,7 @@ least_same p q zero same = refl
 least_same p q (suc n) same = rw (least_same p q n same, same n) refl
 
 -- a stage stays while only seats, marks, counts and totals change
-stage_kept : (s m : State) (t n : ℕ) → m ≡ record s { seated = s.settings.cpus; marks = m.marks; counts = m.counts; totals = m.totals } → MarksGrow s.marks m.marks t → plain_stage m t n ≡ plain_stage s t n
+stage_kept : (s m : State) (t n : ℕ) → m ≡ record s { seated = s.settings.cpus; marks = m.marks; counts = m.counts; totals = m.totals } → MarksGrow s.marks m.marks t → first_obstacle m t n ≡ first_obstacle s t n
 stage_kept s m t n only marks =
     let open_ : (c : ℕ) → is_open_since m t c ≡ is_open_since s t c = λ c. rw (ap (λ (x : State). x.begins) only, ap (λ (x : State). x.section) only, (marks.here c).snapshot) refl in
     let first : least_below (is_open_since m t) m.settings.cpus ≡ least_below (is_open_since s t) s.settings.cpus =
@@ -405,7 +405,7 @@ is_freed (Passive c) = false
 is_freed (Local k) = false
 is_freed (Freed t) = true
 
-pub stage_again : (s m : State) (t n : ℕ) (stage : Stage) → is_freed stage ≡ false → StageLeaves s m t stage → plain_stage m t n ≡ plain_stage s t n
+pub stage_again : (s m : State) (t n : ℕ) (stage : Stage) → is_freed stage ≡ false → StageLeaves s m t stage → first_obstacle m t n ≡ first_obstacle s t n
 stage_again s m t n (Grace c) held left = stage_kept s m t n (subst (λ (x : State). x ≡ record s { seated = s.settings.cpus; marks = x.marks; counts = x.counts; totals = x.totals }) (sym left.only) refl) left.marks
 stage_again s m t n (Passive c) held left = stage_kept s m t n (subst (λ (x : State). x ≡ record s { seated = s.settings.cpus; marks = x.marks; counts = x.counts; totals = x.totals }) (sym left.only) refl) left.marks
 stage_again s m t n (Local k) held left = stage_kept s m t n left.only left.marks

@@ -21,10 +21,10 @@ use Rattle.protocol.specs.declared.state.LocalPlace.TheVariants.{Free, Standing,
 use Rattle.protocol.specs.declared.state.RecordWords.{RecordWords}
 use Rattle.registry_values.specs.declared.slot.Slot.{Slot}
 use Rattle.registry_values.specs.declared.slot.Slot.TheVariants.{Vacant}
-use Rattle.passive_core.specs.Attaching.{IsAnswer, with_reference_given_back, given_entry, is_driver_in, is_driver_number, is_to_driver, with_reference_kept, plain_slot, with_prepared, with_attach_undone, words_before}
+use Rattle.passive_core.specs.Attaching.{IsAnswer, with_reference_given_back, given_entry, is_driver_in, is_driver_number, is_to_driver, with_reference_kept, first_fit, with_prepared, with_attach_undone, words_before}
 use Rattle.registry_values.specs.Answers.{attach_answer, next_entry}
 use Rattle.registry_values.proofs.Answers as answers
-use Rattle.registry_values.specs.Slots.{is_plain, key_of_record, key_of, is_iface, is_taken, is_vacant, slot_of, slot_at}
+use Rattle.registry_values.specs.Slots.{is_available, key_of_record, key_of, is_iface, is_taken, is_vacant, slot_of, slot_at}
 use Rattle.protocol.specs.State.{with_biases, at_rest, State, kept_at, local_at, no_words, row_at, total_at}
 use Rattle.passive_core.specs.Commands.{all_seated, may_act}
 use Rattle.protocol.specs.Events.{Outcome, after_count_store, after_keep, after_publish, after_row_store, after_seeing, are_unused, entry_of, has_room, room_of, is_bias, is_driver_slot, is_prepared, keeps_rightly, may_keep, may_publish, may_write, number_standing, step, with_word, words_of}
@@ -109,14 +109,14 @@ counts_stored s now next r t c on write lt at is =
 
 -- The slot.
 
--- a plain slot is vacant and keeps nothing
-pub plain_tells : (s : State) (t : ℕ) → Holds s → plain_slot s ≡ Some t → (t < s.settings.slots) × (is_vacant (slot_at s.slots t) ≡ true) × (kept_at s.keeps t ≡ None)
-plain_tells s t on is =
+-- the first-fit slot is vacant and keeps nothing
+pub first_fit_tells : (s : State) (t : ℕ) → Holds s → first_fit s ≡ Some t → (t < s.settings.slots) × (is_vacant (slot_at s.slots t) ≡ true) × (kept_at s.keeps t ≡ None)
+first_fit_tells s t on is =
     let size : length s.keeps ≡ length s.slots = omega (arith, on.shape.keeps, on.shape.slots) in
-    let at = position-Some is_plain (zip s.slots s.keeps) t (Vacant, None) is in
+    let at = position-Some is_available (zip s.slots s.keeps) t (Vacant, None) is in
     let low : t < length s.slots = omega (arith, at.0, length-zip s.slots s.keeps) in
     let pair = get_or-zip s.slots s.keeps t (Vacant, None) low (omega (arith, size)) in
-    let test : is_plain (slot_at s.slots t, kept_at s.keeps t) ≡ true = subst (λ (q : Slot × Option ℕ). is_plain q ≡ true) pair at.1 in
+    let test : is_available (slot_at s.slots t, kept_at s.keeps t) ≡ true = subst (λ (q : Slot × Option ℕ). is_available q ≡ true) pair at.1 in
     let parts = and_parts (is_vacant (slot_at s.slots t)) (is_none (kept_at s.keeps t)) test in
     (omega (arith, on.shape.slots), parts.0, none_from (kept_at s.keeps t) parts.1)
 
@@ -124,19 +124,19 @@ plain_tells s t on is =
 pub record IsGiven (s : State) (rec : Record) (e : Entry) : Type 0 where
   pub entry : e ≡ next_entry (length s.history) rec e.slot
   pub free : is_taken (key_of_record rec) s.slots ≡ false
-  pub plain : plain_slot s ≡ Some e.slot
+  pub fit : first_fit s ≡ Some e.slot
   pub room : has_room s ≡ true
 
 pub given_tells : (s : State) (rec : Record) (e : Entry) → given_entry s rec ≡ Ok e → IsGiven s rec e
 given_tells s rec e is =
-    let told = answers.given_tells (is_taken (key_of_record rec) s.slots) (plain_slot s) (room_of s) rec e is in
-    record { entry = told.entry; free = told.free; plain = told.place; room = told.fits }
+    let told = answers.given_tells (is_taken (key_of_record rec) s.slots) (first_fit s) (room_of s) rec e is in
+    record { entry = told.entry; free = told.free; fit = told.place; room = told.fits }
 
 pub given_writes : (s : State) (rec : Record) (e : Entry) → Holds s → at_rest s.due ≡ true → IsGiven s rec e → may_write s e.slot ≡ true
 given_writes s rec e on rest given =
-    let plain = plain_tells s e.slot on given.plain in
+    let fit = first_fit_tells s e.slot on given.fit in
     and_from (at_rest s.due) (nat_lt e.slot s.settings.slots && is_vacant (slot_at s.slots e.slot)) rest
-    (and_from (nat_lt e.slot s.settings.slots) (is_vacant (slot_at s.slots e.slot)) (lt-ltb e.slot s.settings.slots plain.0) plain.1)
+    (and_from (nat_lt e.slot s.settings.slots) (is_vacant (slot_at s.slots e.slot)) (lt-ltb e.slot s.settings.slots fit.0) fit.1)
 
 -- A refused attach: the answer is that of the parts.
 pub answer_refused : (inside unfit x y : Bool) (given g : Result Entry Refusal) (f : Refusal) → inside ≡ x → unfit ≡ y → given ≡ g → ◌≡◌ {A = Result Entry Refusal} (Err f) (attach_answer inside unfit given)
@@ -254,8 +254,8 @@ driver_keeps kept Driver none other = ap (λ (o : Option ℕ). keeps_rightly o D
 pub driver_links : (s : State) (rec : Record) (e : Entry) → Holds s → at_rest s.due ≡ true → given_entry s rec ≡ Ok e → is_iface rec.kind ≡ false → IsTrue (is_lawful rec.name) → MayLink (all_seated s) e
 driver_links s rec e on rest is other lawful =
     let given = given_tells s rec e is in
-    let plain = plain_tells s e.slot on given.plain in
-    may_link (all_seated s) rec e (seated_keeps s on) (given_writes s rec e on rest given) given.entry given.free given.room lawful (driver_keeps (kept_at s.keeps e.slot) rec.kind plain.2 other)
+    let fit = first_fit_tells s e.slot on given.fit in
+    may_link (all_seated s) rec e (seated_keeps s on) (given_writes s rec e on rest given) given.entry given.free given.room lawful (driver_keeps (kept_at s.keeps e.slot) rec.kind fit.2 other)
 
 -- The same along a call: `room`, `begun`, `ready` and `now` are the states that its steps leave.
 pub call_restored : (s room begun ready now : State) (e : Entry) (before : Before) → room ≡ s → before ≡ words_before room e.slot → begun ≡ all_seated room → ready ≡ with_prepared begun e → now ≡ ready
@@ -295,7 +295,7 @@ pub iface_links : (s : State) (rec : Record) (e : Entry) (id : ℕ) → Holds s 
 iface_links s rec e id on rest is driver iface lawful =
     let t = e.slot in
     let given = given_tells s rec e is in
-    let plain = plain_tells s t on given.plain in
+    let fit = first_fit_tells s t on given.fit in
     let writes = given_writes s rec e on rest given in
     let number = number_from s.slots (local_at s.locals id) driver in
     let n : ℕ = number.0 in
@@ -303,14 +303,14 @@ iface_links s rec e id on rest is driver iface lawful =
     let place = driver_from s.slots (slot_of s.slots n) number.2 in
     let u : ℕ = place.0 in
     let may : may_keep s t u ≡ true = and_from (may_write s t) (is_none (kept_at s.keeps t) && is_driver_slot (slot_at s.slots u)) writes
-    (and_from (is_none (kept_at s.keeps t)) (is_driver_slot (slot_at s.slots u)) (ap is_none plain.2) place.2) in
+    (and_from (is_none (kept_at s.keeps t)) (is_driver_slot (slot_at s.slots u)) (ap is_none fit.2) place.2) in
     let kept : with_reference_kept s t id ≡ after_keep s t id n = ap (λ (o : Option ℕ). record s { locals = set s.locals id Free; keeps = set s.keeps t o }) (ap number_standing at) in
     let holds : Holds (with_reference_kept s t id) = subst Holds (sym kept) (keep_keeps s t id n u on at place.1 may) in
-    let now : kept_at (with_reference_kept s t id).keeps t ≡ Some n = get_or-set_same s.keeps t (number_standing (local_at s.locals id)) None (omega (arith, plain.0, on.shape.keeps)) ∙ ap number_standing at in
+    let now : kept_at (with_reference_kept s t id).keeps t ≡ Some n = get_or-set_same s.keeps t (number_standing (local_at s.locals id)) None (omega (arith, fit.0, on.shape.keeps)) ∙ ap number_standing at in
     let rightly : keeps_rightly (kept_at (with_reference_kept s t id).keeps t) rec.kind ≡ true = ap (λ (o : Option ℕ). keeps_rightly o rec.kind) now ∙ iface_keeps n rec.kind iface in
     record {
       writes = writes;
-      empty = plain.2;
+      empty = fit.2;
       holds = holds;
       links = may_link (with_reference_kept (all_seated s) t id) rec e (seated_keeps (with_reference_kept s t id) holds) writes given.entry given.free given.room lawful rightly;
     }

@@ -30,7 +30,7 @@ use Rattle.protocol.proofs.counts.Counts.{counting_cases, held_stays}
 use Rattle.registry_values.proofs.Fit.{ranges}
 use Rattle.protocol.proofs.slots.Numbers.{entry_attached, occupied_slot, position_fails}
 use Rattle.protocol.proofs.slots.Occupied.{at_rest_tells, slot_has}
-use Rattle.passive_core.proofs.Passives.{Shows, both, found_slot, is_some, made, may_still}
+use Rattle.passive_core.proofs.Passives.{ShowsRecord, both, found_slot, is_some, made, may_still}
 use Rattle.protocol.proofs.keeps.References.{references_places, standing_tells}
 use Rattle.protocol.proofs.slots.MarkRows.{any_within}
 
@@ -280,7 +280,7 @@ subtracted s v w id t r rest is was =
 
 -- The events of an acquire.
 
-pub local_shows : (s : State) (id n : ℕ) → Holds s → number_standing (local_at s.locals id) ≡ Some n → Shows s n (load_local s id)
+pub local_shows : (s : State) (id n : ℕ) → Holds s → number_standing (local_at s.locals id) ≡ Some n → ShowsRecord s n (load_local s id)
 local_shows s id n on live =
     let t = live_slot s id n on live in
     let has = slot_has s.slots n t.0 t.1 in

@@ -9,11 +9,11 @@ use Rattle.registry_values.specs.declared.stage.Stage.{Stage}
 use Rattle.registry_values.specs.declared.stage.Stage.TheVariants.{Grace, Passive, Local, Freed}
 use Rattle.registry_values.specs.Slots.{retired_slot}
 use Rattle.protocol.specs.declared.event.Event.{Event}
-use Rattle.protocol.specs.declared.event.Event.TheVariants.{Seat, Seek, Look, LoadRecord, Unpublish, Tell, Hear, Snapshot, CountAdd, SplitRef, JoinRef, CountDown, SplitBack}
+use Rattle.protocol.specs.declared.event.Event.TheVariants.{Seat, Seek, Look, LoadRecord, Publish, Unpublish, Tell, Hear, Snapshot, CountAdd, SplitRef, JoinRef, CountDown, SplitBack}
 use Rattle.protocol.specs.declared.event.RecordOf.{RecordOf}
 use Rattle.protocol.specs.declared.event.Reply.{Reply}
 use Rattle.protocol.specs.declared.event.Reply.TheVariants.{Done, Ref, Word}
-use Rattle.protocol.specs.Events.{Outcome, after_count_add, after_snapshot, after_split, after_unpublish, is_idle, least_id, load_record, some_outcome, step}
+use Rattle.protocol.specs.Events.{Outcome, after_count_add, after_count_store, after_publish, after_snapshot, after_split, after_unpublish, is_idle, least_id, load_record, may_write, some_outcome, step}
 use Rattle.protocol.specs.Invariant.{Holds}
 use Rattle.protocol.proofs.keeps.CountKeeps.{empty_from}
 use Rattle.registry_values.proofs.Fit.{ranges}
@@ -26,6 +26,7 @@ use Rattle.registry_values.specs.declared.slot.Slot.TheVariants.{Live}
 use Rattle.protocol.specs.declared.state.Due.TheVariants.{Snapshots}
 use Rattle.protocol.specs.declared.state.Hand.{Hand}
 use Rattle.protocol.specs.declared.state.Hand.TheVariants.{Empty, Taking}
+use Rattle.passive_core.proofs.Attaching.{count_places, count_store_allowed, counts_first, counts_next, with_counts}
 use Rattle.passive_core.specs.Detaching.{with_all_snapshots}
 use Rattle.passive_core.proofs.Detaching.{due_is, due_within, settings_by, snap_more, snapping, snapping_ends, snapping_starts}
 use Rattle.passive_core.proofs.Locals.{set_back}
@@ -36,7 +37,7 @@ use Rattle.passive_core.specs.Commands.{all_seated}
 use Rattle.passive_core.specs.Advancing.{AdvanceLeaves, Settles}
 use Rattle.passive_core.proofs.Advancing.{is_freed, slots_again}
 use Rattle.passive_core.specs.Locals.{is_counting, local_slot, count_in, release_events, under_events, with_count_more}
-use Rattle.passive_core.specs.Making.{AdvanceMakes, IsWork, detach_events, snapshots_from, FindMakes, IsCollectionFor, IsLookFor, IsPassiveLookFor, IsSeat, IsWaiting, Makes, MakesOnly, seats_and, seats_from}
+use Rattle.passive_core.specs.Making.{AdvanceMakes, IsWork, count_stores_from, detach_events, linking_events, prepare_events, snapshots_from, FindMakes, IsCollectionFor, IsLookFor, IsPassiveLookFor, IsSeat, IsWaiting, Makes, MakesOnly, seats_and, seats_from}
 
 pub makes_one : (s n : State) (event : Event) (r : Reply) → step s event ≡ Some (record { state = n; reply = r }) → Makes s (event ∷ []) n
 makes_one s n event r made = (record { state = n; reply = r }, made, refl)
@@ -204,6 +205,37 @@ detach_makes s u v w n e c q r on rest idle live is snaps tells hears =
     (makes_first (all_seated s) (all_seated s) n (Hear None) Done (Unpublish e.slot ∷ (snapshots_from e.slot 0 s.settings.cpus ++ Tell None ∷ Hear (Some c) ∷ [])) (rw rest refl)
     (makes_first (all_seated s) (after_unpublish (all_seated s) e.slot e) n (Unpublish e.slot) Done (snapshots_from e.slot 0 s.settings.cpus ++ Tell None ∷ Hear (Some c) ∷ []) (rw (live, rest) refl)
     (subst (λ (x : State). Makes x (snapshots_from e.slot 0 s.settings.cpus ++ Tell None ∷ Hear (Some c) ∷ []) n) is end))))
+
+-- Attaches
+
+counts_on : (s : State) (t k n : ℕ) → Holds s → may_write s t ≡ true → k + n ≡ s.settings.cpus → Makes (with_counts s t k) (count_stores_from t k n) (with_counts s t s.settings.cpus)
+counts_on s t k zero on write all =
+    let last : s.settings.cpus ≡ k = omega (arith, all) in
+    ap (with_counts s t) last
+counts_on s t k (suc n) on write all =
+    let lt : k < s.settings.cpus = omega (arith, all) in
+    let places = count_places s t k on write lt in (
+      record { state = after_count_store (with_counts s t k) t k bias; reply = Done },
+      count_store_allowed (with_counts s t k) t k bias write lt,
+      subst (λ (x : State). Makes x (count_stores_from t (k + 1) n) (with_counts s t s.settings.cpus)) (sym (counts_next s t k places.0 places.1)) (counts_on s t (k + 1) n on write (omega (arith, all))),
+    )
+
+pub counts_make : (s : State) (t : ℕ) → Holds s → may_write s t ≡ true → Makes s (count_stores_from t 0 s.settings.cpus) (with_counts s t s.settings.cpus)
+counts_make s t on write =
+    subst (λ (x : State). Makes x (count_stores_from t 0 s.settings.cpus) (with_counts s t s.settings.cpus)) (sym (counts_first s t)) (counts_on s t 0 s.settings.cpus on write (omega arith))
+
+-- from the first store in e's slot on: b is the state before it, and `ready` has all words stored
+pub linking_makes : (b ready made now : State) (e : Entry) (c : ℕ) → Makes b (prepare_events b e) ready → step ready (Publish e.slot) ≡ Some (record { state = after_publish ready e.slot e; reply = Done }) → made ≡ after_publish ready e.slot e
+    → Makes made (Tell None ∷ Hear (Some c) ∷ []) now → Makes b (linking_events b c e) now
+linking_makes b ready made now e c stores may links tells =
+    makes_more b ready now (prepare_events b e) (Publish e.slot ∷ Tell None ∷ Hear (Some c) ∷ []) stores
+    (makes_first ready made now (Publish e.slot) Done (Tell None ∷ Hear (Some c) ∷ []) (subst (λ (x : State). step ready (Publish e.slot) ≡ Some (record { state = x; reply = Done })) (sym links) may) tells)
+
+-- the seats come first, and c tells the keeper of its pass
+pub begun_makes : (s room begun now : State) (c : ℕ) (events : List Event) → room ≡ s → Makes room (seats_and room (Tell (Some c) ∷ Hear None ∷ [])) begun → Makes begun events now → Makes s (seats_and s (Tell (Some c) ∷ Hear None ∷ events)) now
+begun_makes s room begun now c events same begins more =
+    makes_inside s begun now (seats_from s.seated (s.settings.cpus - s.seated)) (Tell (Some c) ∷ Hear None ∷ []) events
+    (subst (λ (x : State). Makes x (seats_and x (Tell (Some c) ∷ Hear None ∷ [])) begun) same begins) more
 
 -- Local references
 

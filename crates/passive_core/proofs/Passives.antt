@@ -128,7 +128,7 @@ counted_less s c n on low held d m =
 
 -- What the loads by a passive reference show: the words of the entry that has the number.
 
-pub record Shows (s : State) (n : ℕ) (load : ℕ → Option Outcome) : Type 0 where
+pub record ShowsRecord (s : State) (n : ℕ) (load : ℕ → Option Outcome) : Type 0 where
   pub entry : Entry
   pub attached : IsAttached s.history entry
   pub numbered : entry.number ≡ n
@@ -139,7 +139,7 @@ loads_at : (s : State) (c n t k : ℕ) (e : Entry) → slot_of s.slots n ≡ Som
     → load_passive s c n k ≡ some_outcome s (Word (word (words_of e) k))
 loads_at s c n t k e of idle some few row = rw (of, idle, some, few, row) refl
 
-pub passive_shows : (s : State) (c n : ℕ) → Holds s → is_idle s c ≡ true → nat_lt 0 (passive_of s c n) ≡ true → Shows s n (load_passive s c n)
+pub passive_shows : (s : State) (c n : ℕ) → Holds s → is_idle s c ≡ true → nat_lt 0 (passive_of s c n) ≡ true → ShowsRecord s n (load_passive s c n)
 passive_shows s c n on idle held =
     let t = held_slot s.passive c (slot_of s.slots n) held in
     let has = slot_has s.slots n t.0 t.1 in
@@ -167,14 +167,14 @@ pub same_word : (s : State) (o : Option Outcome) (v w : ℕ) → o ≡ some_outc
 same_word s o v w is was = ap replied (sym is ∙ was)
 
 -- a load in the same state is allowed, and replies the word of that entry
-pub load_ok : (s u : State) (n k : ℕ) (load : State → ℕ → Option Outcome) → Shows s n (load s) → u ≡ s → nat_lt k 5 ≡ true → (w : ℕ) × (load u k ≡ some_outcome u (Word w))
+pub load_ok : (s u : State) (n k : ℕ) (load : State → ℕ → Option Outcome) → ShowsRecord s n (load s) → u ≡ s → nat_lt k 5 ≡ true → (w : ℕ) × (load u k ≡ some_outcome u (Word w))
 load_ok s u n k load shows same few = subst (λ (x : State). (w : ℕ) × (load x k ≡ some_outcome x (Word w))) (sym same) (word (words_of shows.entry) k, shows.loads k few)
 
-pub word_is : (s u : State) (n k v : ℕ) (load : State → ℕ → Option Outcome) (shows : Shows s n (load s)) → u ≡ s → nat_lt k 5 ≡ true → load u k ≡ some_outcome u (Word v) → v ≡ word (words_of shows.entry) k
+pub word_is : (s u : State) (n k v : ℕ) (load : State → ℕ → Option Outcome) (shows : ShowsRecord s n (load s)) → u ≡ s → nat_lt k 5 ≡ true → load u k ≡ some_outcome u (Word v) → v ≡ word (words_of shows.entry) k
 word_is s u n k v load shows same few was = same_word s (load s k) v (word (words_of shows.entry) k) (subst (λ (x : State). load x k ≡ some_outcome x (Word v)) same was) (shows.loads k few)
 
 -- a name of these words is lawful
-pub lawful_words : (s : State) (n high low : ℕ) (load : ℕ → Option Outcome) (shows : Shows s n load) → high ≡ shows.entry.rec.name.high → low ≡ shows.entry.rec.name.low → are_name_words high low ≡ true
+pub lawful_words : (s : State) (n high low : ℕ) (load : ℕ → Option Outcome) (shows : ShowsRecord s n load) → high ≡ shows.entry.rec.name.high → low ≡ shows.entry.rec.name.low → are_name_words high low ≡ true
 lawful_words s n high low load shows h l = rw (h, l) shows.lawful
 
 -- other CPUs, and this one, may act as before

@@ -33,11 +33,11 @@ abbrev pub has_passive : State → ℕ → ℕ → Bool
 has_passive s t c = nat_lt 0 (passive_at s.passive c t)
 
 -- what stands between the retired entry n in the slot t and the freeing of t
-abbrev pub plain_stage : State → ℕ → ℕ → Stage
-plain_stage s t n = stage_of t (least_below (is_open_since s t) s.settings.cpus) (least_below (has_passive s t) s.settings.cpus) (held_at s.locals s.hands s.keeps s.due n t)
+abbrev pub first_obstacle : State → ℕ → ℕ → Stage
+first_obstacle s t n = stage_of t (least_below (is_open_since s t) s.settings.cpus) (least_below (has_passive s t) s.settings.cpus) (held_at s.locals s.hands s.keeps s.due n t)
 
 abbrev pub stage_in : State → ℕ → Option ℕ → Result Stage Refusal
-stage_in s n place = stages.stage_in (λ t. plain_stage s t n) place
+stage_in s n place = stages.stage_in (λ t. first_obstacle s t n) place
 
 -- The answer of advance.
 abbrev pub advance_answer : State → ℕ → Result Stage Refusal

@@ -14,12 +14,12 @@ use Rattle.registry_values.specs.Answers as answers
 use Rattle.registry_values.specs.Slots.{is_iface, is_taken, slot_of, slot_at, key_of_record}
 use Rattle.protocol.specs.State.{State, row_at, local_at, with_biases}
 
-abbrev pub plain_slot : State → Option ℕ
-plain_slot s = answers.plain_slot s.slots s.keeps
+abbrev pub first_fit : State → Option ℕ
+first_fit s = answers.first_fit s.slots s.keeps
 
 -- the entry that an attach of the record makes
 abbrev pub given_entry : State → Record → Result Entry Refusal
-given_entry s rec = answers.given_entry (is_taken (key_of_record rec) s.slots) (plain_slot s) (room_of s) rec
+given_entry s rec = answers.given_entry (is_taken (key_of_record rec) s.slots) (first_fit s) (room_of s) rec
 
 -- the record of an interface is unfit
 abbrev pub attach_answer : State → ℕ → Record → Result Entry Refusal

@@ -1,12 +1,14 @@
 -- The events that a command makes, one after the other.
 use Rattle.std.specs.Prelude.{◌≡◌, ℕ, zero, suc, ◌+◌, ◌-◌, ◌⊎◌, List, [], ◌∷◌, ◌++◌, All, Option, Some, None, Result, Ok, Err}
+use Rattle.registry_values.specs.declared.entry.Entry.{Entry}
 use Rattle.registry_values.specs.declared.refusal.Refusal.{Refusal}
 use Rattle.registry_values.specs.declared.refusal.Refusal.TheVariants.{StillHeld, Waiting}
 use Rattle.registry_values.specs.declared.stage.Stage.{Stage}
 use Rattle.registry_values.specs.declared.stage.Stage.TheVariants.{Grace, Passive, Local, Freed}
-use Rattle.registry_values.specs.Slots.{retired_slot}
+use Rattle.registry_values.specs.Balances.{bias}
+use Rattle.registry_values.specs.Slots.{kind_word, retired_slot}
 use Rattle.protocol.specs.declared.event.Event.{Event}
-use Rattle.protocol.specs.declared.event.Event.TheVariants.{Seat, Seek, LoadRecord, Unpublish, Tell, Hear, Snapshot, Look, PassiveLook, Collect, TotalAdd, KeptSub, Vacate}
+use Rattle.protocol.specs.declared.event.Event.TheVariants.{Seat, Seek, LoadRecord, StoreSlot, StoreNext, Publish, Unpublish, Tell, Hear, Snapshot, Look, PassiveLook, Collect, TotalAdd, Keep, KeptSub, Vacate}
 use Rattle.protocol.specs.declared.event.RecordOf.{RecordOf}
 use Rattle.registry_values.specs.declared.slot.Key.{Key}
 use Rattle.protocol.specs.Laws.{IsLoadOf}
@@ -49,6 +51,38 @@ snapshots_from t c (suc n) = Snapshot (Some t) c ∷ snapshots_from t (c + 1) n
 -- The events of a detach by c of what stands in the slot t, once all CPUs are seated: c tells the keeper of its pass, the entry is unlinked and each CPU's snapshot taken, and c hears of it.
 abbrev pub detach_events : ℕ → ℕ → ℕ → List Event
 detach_events cpus c t = Tell (Some c) ∷ Hear None ∷ Unpublish t ∷ (snapshots_from t 0 cpus ++ Tell None ∷ Hear (Some c) ∷ [])
+
+-- Attaches
+
+-- the stores of the words of e's record
+abbrev pub record_stores : Entry → List Event
+record_stores e = StoreSlot e.slot 0 e.number ∷ StoreSlot e.slot 1 (kind_word e.rec.kind) ∷ StoreSlot e.slot 2 e.rec.name.high ∷ StoreSlot e.slot 3 e.rec.name.low ∷ StoreSlot e.slot 4 e.rec.value ∷ []
+
+-- the stores of the bias to the slot t's counts of so many CPUs, from c on
+abbrev pub count_stores_from : ℕ → ℕ → ℕ → List Event
+count_stores_from t c zero = []
+count_stores_from t c (suc n) = StoreSlot t (5 + c) bias ∷ count_stores_from t (c + 1) n
+
+-- All words of e's slot: its record, its counts, and its link to the entry that is the newest in s.
+abbrev pub prepare_events : State → Entry → List Event
+prepare_events s e = record_stores e ++ (count_stores_from e.slot 0 s.settings.cpus ++ StoreNext e.slot s.head ∷ [])
+
+-- The words of e's slot are stored, e is linked, and c hears of it.
+abbrev pub linking_events : State → ℕ → Entry → List Event
+linking_events s c e = prepare_events s e ++ Publish e.slot ∷ Tell None ∷ Hear (Some c) ∷ []
+
+-- The events of an attach of e by c, once all CPUs are seated: c tells the keeper of its pass, and e is linked.
+abbrev pub attach_events : State → ℕ → Entry → List Event
+attach_events s c e = Tell (Some c) ∷ Hear None ∷ linking_events s c e
+
+-- An interface's slot takes the reference over before its first word is stored.
+abbrev pub attach_iface_events : State → ℕ → ℕ → Entry → List Event
+attach_iface_events s c id e = Tell (Some c) ∷ Hear None ∷ Keep e.slot id ∷ linking_events s c e
+
+-- By the answer: none where it is refused.
+abbrev pub AttachMakes : State → State → (Entry → List Event) → Result Entry Refusal → Type 0
+AttachMakes old new events (Ok e) = Makes old (seats_and old (events e)) new
+AttachMakes old new events (Err refusal) = Makes old [] new
 
 -- The work on the slot t
 

@@ -22,7 +22,7 @@ pub record OnlyPasses (old new : State) : Type 0 where
   pub elsewhere : (t : ℕ) → is_retired (slot_at old.slots t) ≡ false → slice_index_or new.marks t [] ≡ slice_index_or old.marks t []
 
 -- every CPU has passed for each retired entry
-pub record Performs (old new : State) : Type 0 where
+pub record PerformPasses (old new : State) : Type 0 where
   pub only : new ≡ record old { seated = old.settings.cpus; marks = new.marks }
   pub marks : (t c : ℕ) → Passes (mark_at old.marks t c) (mark_at new.marks t c)
   pub elsewhere : (t : ℕ) → is_retired (slot_at old.slots t) ≡ false → slice_index_or new.marks t [] ≡ slice_index_or old.marks t []
@@ -35,7 +35,7 @@ WaitLeaves old new _ = new ≡ old
 
 -- What a perform leaves, by its answer.
 abbrev pub PerformLeaves : State → State → Result (Unit {0}) Refusal → Type 0
-PerformLeaves old new (Ok done) = Performs old new
+PerformLeaves old new (Ok done) = PerformPasses old new
 PerformLeaves old new (Err refusal) = WaitLeaves old new refusal
 
 -- No CPU is inside a section.

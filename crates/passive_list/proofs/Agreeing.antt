@@ -135,13 +135,13 @@ exited_agrees z a t u x y c w d e ps ns our same last had =
     } in
     subst (λ (v : CpuView). IsOurCpu z a u v c (w + 1) 0 (record e { number = 0 }) ps ns) (sym had) there
 
--- the pass grows, another entry may be the last found one, and a note may have been heard
+-- the pass grows, another entry may be the last found one, and another note may lie beside the view
 pub seen_agrees : (z : TableId) (a : Settings) (t u : TableId) (x y : CpuView) (c w d : ℕ) (e k : Found) (f : Option Entry) (ps ns : List NumberedCount) (h : List Change)
-    → IsOurCpu z a t x c w d e ps ns → u ≡ t → IsPrefix x.pass y.pass → y ≡ record x { pass = y.pass; found = f; heard = h } → IsKept k f
+    → IsOurCpu z a t x c w d e ps ns → u ≡ t → IsPrefix x.pass y.pass → y ≡ record x { pass = y.pass; found = f; noted_pass = h } → IsKept k f
     → ((g : Entry) → f ≡ Some g → (g.slot < 32) × IsAttached y.pass g) → IsOurCpu z a u y c w d k ps ns
 seen_agrees z a t u x y c w d e k f ps ns h our same longer is kept seen =
     let p = y.pass in
-    let z0 : CpuView = record x { pass = p; found = f; heard = h } in
+    let z0 : CpuView = record x { pass = p; found = f; noted_pass = h } in
     let there : IsOurCpu z a u z0 c w d k ps ns = record {
       table = same ∙ our.table;
       settings = our.settings;
@@ -157,9 +157,9 @@ seen_agrees z a t u x y c w d e k f ps ns h our same longer is kept seen =
     } in
     subst (λ (v : CpuView). IsOurCpu z a u v c w d k ps ns) (sym is) there
 
-pub heard_agrees : (z : TableId) (a : Settings) (t u : TableId) (x y : CpuView) (c w d : ℕ) (e : Found) (ps ns : List NumberedCount) (h : List Change)
-    → IsOurCpu z a t x c w d e ps ns → u ≡ t → IsPrefix x.pass y.pass → y ≡ record x { pass = y.pass; heard = h } → IsOurCpu z a u y c w d e ps ns
-heard_agrees z a t u x y c w d e ps ns h our same longer is =
+pub noted_agrees : (z : TableId) (a : Settings) (t u : TableId) (x y : CpuView) (c w d : ℕ) (e : Found) (ps ns : List NumberedCount) (h : List Change)
+    → IsOurCpu z a t x c w d e ps ns → u ≡ t → IsPrefix x.pass y.pass → y ≡ record x { pass = y.pass; noted_pass = h } → IsOurCpu z a u y c w d e ps ns
+noted_agrees z a t u x y c w d e ps ns h our same longer is =
     seen_agrees z a t u x y c w d e e x.found ps ns h our same longer is our.found.is (λ g q. found_longer x y.pass g longer (our.found.seen g q))
 
 -- a lookup is over
@@ -168,7 +168,7 @@ pub looked_up_agrees : (z : TableId) (a : Settings) (t u : TableId) (x y : CpuVi
 looked_up_agrees z a t u x y c w d e k f ps ns key our same kept had =
     let p = y.pass in
     let is : y ≡ record x { pass = p; found = f } = had.is ∙ ap (λ (s : Option Search). record x { pass = p; search = s; found = f }) (sym our.idle.search) in
-    seen_agrees z a t u x y c w d e k f ps ns x.heard our same had.pass is kept had.seen
+    seen_agrees z a t u x y c w d e k f ps ns x.noted_pass our same had.pass is kept had.seen
 
 -- the data of a CPU agree with its view by the table and the settings that its own seat has
 pub own_agrees : (z : TableId) (a : Settings) (t : TableId) (x : CpuView) (c w d : ℕ) (e : Found) (ps ns : List NumberedCount) → IsOurCpu z a t x c w d e ps ns → IsOurCpu t x.settings t x c w d e ps ns

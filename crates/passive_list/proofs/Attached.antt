@@ -25,14 +25,14 @@ use Rattle.protocol.proofs.history.History.{length-after_change}
 use Rattle.protocol.proofs.keeps.ListKeeps.{live_count_set, rows_put}
 use Rattle.protocol.proofs.slots.Occupied.{in_within}
 use Rattle.cpu_words.specs.declared.view.KeeperView.{KeeperView}
-use Rattle.cpu_words.specs.declared.view.Deed.{Deed}
-use Rattle.cpu_words.specs.Deeds.{IsAttachedKeeping}
+use Rattle.cpu_words.specs.declared.view.LogItem.{LogItem}
+use Rattle.cpu_words.specs.KeeperLog.{IsAttachedKeeping}
 use Rattle.cpu_words.specs.Publishing.{LeadsBelow, MayPublish, HasPublished}
 use Rattle.cpu_words.specs.Publishing.LeadsBelow.{To_end, To_slot}
 use Rattle.cpu_words.specs.Rule.{IsShown}
 use Rattle.cpu_words.specs.Vacating.{MayWrite}
 use Rattle.passive_list.specs.declared.keeper.KeptSlot.{KeptSlot}
-use Rattle.passive_list.specs.Keepers.{OnKeeper, row_at, states_of, IsAtRest, RowsAgree, IsOurKeeper}
+use Rattle.passive_list.specs.Keepers.{OnPlainKeeper, on_keeper, row_at, states_of, IsAtRest, RowsAgree, IsOurKeeper}
 use Rattle.passive_list.specs.Publishing.{keeper_after_stores, keeper_after_publish, MayAttach}
 use Rattle.passive_list.proofs.Rows.{state_at, live_in, row_stays, rows_set}
 use Rattle.passive_list.proofs.Preparing.{biases_size, bias_stored}
@@ -201,9 +201,9 @@ published_at_rest a k rows e v asked =
     }
 
 -- what the keeper has agrees with what it publishes, whatever step before brought its seat to the view k
-pub published_keeper : (z : TableId) (a : Settings) (table : TableId) (k l : KeeperView) (its : Settings) (rows : List KeptSlot) (n : ℕ) (e : Entry) (v : ℕ) → table ≡ z → its ≡ a → n ≡ length k.history → MayAttach a k rows e → l ≡ keeper_after_publish k e v → IsShown l
-    → IsOurKeeper z a table l its (set rows e.slot (row_live (row_at rows e.slot) e)) (n + 1)
-published_keeper z a table k l its rows n e v same settings was asked change is_shown =
+pub published_keeper : (a : Settings) (k l : KeeperView) (rows : List KeptSlot) (n : ℕ) (e : Entry) (v : ℕ) → n ≡ length k.history → MayAttach a k rows e → l ≡ keeper_after_publish k e v → IsShown l
+    → IsOurKeeper a l (set rows e.slot (row_live (row_at rows e.slot) e)) (n + 1)
+published_keeper a k l rows n e v was asked change is_shown =
     let at = asked.at in
     let t = e.slot in
     let lt = asked.slot in
@@ -212,8 +212,6 @@ published_keeper z a table k l its rows n e v same settings was asked change is_
     let size = at.sized.slots in
     let had = asked.agree.each t lt in
     record {
-      table = same;
-      settings = settings;
       view = subst (IsAtRest a) (sym change) (published_at_rest a k rows e v asked);
       is_shown = is_shown;
       changes = let long = length-after_change k.history (Attach e) in let now = ap (λ (x : KeeperView). length x.history) change in omega (arith, was, long, now);
@@ -229,23 +227,23 @@ published_keeper z a table k l its rows n e v same settings was asked change is_
     }
 
 -- what is asked of a caller, of the keeper's own view
-pub ask : {log : List Deed} (z : TableId) (a : Settings) (table : TableId) (k : KeeperView) (its : Settings) (rows : List KeptSlot) (n t : ℕ) (rec : Record) (x : OnKeeper) → IsOurKeeper z a table k its rows n → record { view = k; slots = states_of rows; log = log } ≡ x
-    → (t < a.slots) × (slot_at x.slots t ≡ Vacant) → IsTrue (keeps_rightly (kept_at x.view.keeps t) rec.kind) → IsTrue (is_lawful rec.name) → is_taken (key_of_record rec) x.slots ≡ false
-    → length x.view.history + live_count x.slots + 2 ≤ a.change_limit → MayAttach a k rows (record { number = n + 1; slot = t; rec = rec })
-ask z a table k its rows n t rec x our is vacant keeps name free room = record {
+pub ask : {table : TableId} {log : List LogItem} (a : Settings) (k : KeeperView) (rows : List KeptSlot) (n t : ℕ) (rec : Record) (x : OnPlainKeeper) → IsOurKeeper a k rows n → on_keeper table a k rows log ≡ x
+    → (t < x.words.settings.slots) × (slot_at x.keeper.slots t ≡ Vacant) → IsTrue (keeps_rightly (kept_at x.keeper.view.keeps t) rec.kind) → IsTrue (is_lawful rec.name) → is_taken (key_of_record rec) x.keeper.slots ≡ false
+    → length x.keeper.view.history + live_count x.keeper.slots + 2 ≤ x.words.settings.change_limit → MayAttach a k rows (record { number = n + 1; slot = t; rec = rec })
+ask a k rows n t rec x our is vacant keeps name free room = record {
   at = our.view;
   agree = our.rows;
-  slot = vacant.0;
-  vacant = ap (λ (y : OnKeeper). slot_at y.slots t) is ∙ vacant.1;
-  keeps = ap (λ (y : OnKeeper). keeps_rightly (kept_at y.view.keeps t) rec.kind) is ∙ keeps;
+  slot = subst (λ (y : OnPlainKeeper). t < y.words.settings.slots) (sym is) vacant.0;
+  vacant = ap (λ (y : OnPlainKeeper). slot_at y.keeper.slots t) is ∙ vacant.1;
+  keeps = ap (λ (y : OnPlainKeeper). keeps_rightly (kept_at y.keeper.view.keeps t) rec.kind) is ∙ keeps;
   name = name;
-  free = ap (λ (y : OnKeeper). is_taken (key_of_record rec) y.slots) is ∙ free;
-  room = subst (λ (y : OnKeeper). length y.view.history + live_count y.slots + 2 ≤ a.change_limit) (sym is) room;
+  free = ap (λ (y : OnPlainKeeper). is_taken (key_of_record rec) y.keeper.slots) is ∙ free;
+  room = subst (λ (y : OnPlainKeeper). length y.keeper.view.history + live_count y.keeper.slots + 2 ≤ y.words.settings.change_limit) (sym is) room;
   number = let changes = our.changes in omega (arith, changes);
 }
 
 -- what the log says of the slot's driver, of the entry by its number
-pub attached_as : (k m : KeeperView) (e : Entry) (v d : ℕ) (log : List Deed) → m ≡ keeper_after_stores k e v → e.number ≡ suc (length k.history)
+pub attached_as : (k m : KeeperView) (e : Entry) (v d : ℕ) (log : List LogItem) → m ≡ keeper_after_stores k e v → e.number ≡ suc (length k.history)
     → (kept_at m.keeps e.slot ≡ Some d → IsAttachedKeeping e.slot (suc (length m.history)) d log) → kept_at k.keeps e.slot ≡ Some d → IsAttachedKeeping e.slot e.number d log
 attached_as k m e v d log stored number told keeps =
     let kept : m.keeps ≡ k.keeps = ap (λ (x : KeeperView). x.keeps) stored in

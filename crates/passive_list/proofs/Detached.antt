@@ -1,6 +1,5 @@
 -- An entry is retired: the keeper may unlink it, and what it has agrees with what its seat knows then.
 use Rattle.std.proofs.Common.{◌≡◌, ℕ, ◌+◌, ◌<◌, List, [], length, set, replicate, Option, Some, None, refl, sym, ap, ◌∙◌, subst, arith, get_or-set_same, get_or-set_other, length-set}
-use Rattle.atomic_table.specs.Seated.{TableId}
 use Rattle.registry_values.specs.declared.entry.Change.TheVariants.{Detach}
 use Rattle.registry_values.specs.declared.entry.Entry.{Entry}
 use Rattle.registry_values.specs.declared.settings.Settings.{Settings}
@@ -88,9 +87,9 @@ detached_at_rest a k t e p v marks at lt live size =
 abbrev pub row_retired : KeptSlot → Entry → List Mark → KeptSlot
 row_retired r e marks = record { state = Retired e; marks = marks; total = r.total; keeps = r.keeps }
 
-pub detached_keeper : (z : TableId) (a : Settings) (table table' : TableId) (k l : KeeperView) (its : Settings) (rows : List KeptSlot) (n t : ℕ) (e : Entry) (p : Option ℕ) (v : ℕ) (marks : List Mark) → IsOurKeeper z a table k its rows n → (row_at rows t).state ≡ Live e → length marks ≡ 8
-    → table' ≡ table → l ≡ detached k t e p v marks → IsShown l → IsOurKeeper z a table' l its (set rows t (row_retired (row_at rows t) e marks)) (n + 1)
-detached_keeper z a table table' k l its rows n t e p v marks our is marks_size same change is_shown =
+pub detached_keeper : (a : Settings) (k l : KeeperView) (rows : List KeptSlot) (n t : ℕ) (e : Entry) (p : Option ℕ) (v : ℕ) (marks : List Mark) → IsOurKeeper a k rows n → (row_at rows t).state ≡ Live e → length marks ≡ 8
+    → l ≡ detached k t e p v marks → IsShown l → IsOurKeeper a l (set rows t (row_retired (row_at rows t) e marks)) (n + 1)
+detached_keeper a k l rows n t e p v marks our is marks_size change is_shown =
     let at = our.view in
     let live = live_in a k rows t e our.rows (state_at rows t ∙ is) in
     let lt = live.0 in
@@ -102,8 +101,6 @@ detached_keeper z a table table' k l its rows n t e p v marks our is marks_size 
     let long = length-set k.marks t fresh in
     let had = our.rows.each t lt in
     record {
-      table = same ∙ our.table;
-      settings = our.settings;
       view = subst (IsAtRest a) (sym change) (detached_at_rest a k t e p v marks at lt live.1 marks_size);
       is_shown = is_shown;
       changes = let was = our.changes in let more = length-after_change k.history (Detach e.number) in let now = ap (λ (x : KeeperView). length x.history) change in omega (arith, was, more, now);

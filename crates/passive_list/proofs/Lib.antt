@@ -9,3 +9,6 @@ pub mod Attached
 pub mod Taking
 pub mod Detached
 pub mod Logs
+pub mod Standing
+pub mod Noting
+pub mod FoundAgain

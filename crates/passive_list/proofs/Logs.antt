@@ -2,7 +2,6 @@
 use Rattle.std.proofs.Common.{◌≡◌, ⊎_elim, ℕ, ◌<◌, ◌≤◌, List, Some, true, sym, ap, ◌∙◌, subst, arith}
 use Rattle.std.proofs.lemmas.Bool.{cases_lt}
 use Rattle.std.proofs.lemmas.List.{get_or_past, length-map}
-use Rattle.atomic_table.specs.Seated.{TableId}
 use Rattle.registry_values.specs.declared.entry.Entry.{Entry}
 use Rattle.registry_values.specs.declared.mark.Mark.{Mark}
 use Rattle.registry_values.specs.declared.settings.Settings.{Settings}
@@ -11,10 +10,10 @@ use Rattle.registry_values.specs.declared.slot.Slot.TheVariants.{Vacant, Retired
 use Rattle.registry_values.specs.Slots.{is_retired, slot_at}
 use Rattle.protocol.specs.State.{at_rest, mark_at}
 use Rattle.protocol.proofs.slots.MarkRows.{snapshot_stands}
-use Rattle.cpu_words.specs.declared.view.Deed.{Deed}
+use Rattle.cpu_words.specs.declared.view.LogItem.{LogItem}
 use Rattle.cpu_words.specs.declared.view.KeeperView.{KeeperView}
-use Rattle.cpu_words.specs.Deeds.{occupant_of, IsOwnLog}
-use Rattle.cpu_words.specs.Notes.{keeper_with_heard}
+use Rattle.cpu_words.specs.KeeperLog.{occupant_of, IsOwnLog}
+use Rattle.cpu_words.specs.Notes.{keeper_with_note}
 use Rattle.cpu_words.proofs.by_keeper.KeeperSees.{seen_by_keeper}
 use Rattle.passive_list.specs.declared.keeper.KeptSlot.{KeptSlot}
 use Rattle.passive_list.specs.Keepers.{state_of, states_of, IsOurKeeper}
@@ -22,9 +21,9 @@ use Rattle.passive_list.specs.Logs.{HasOwnLog}
 use Rattle.passive_list.proofs.Rows.{live_in, retired_in, slots_agree}
 
 -- the entry of a slot that is retired was snapped on each CPU, as the keeper is at rest
-snapped_at : (z : TableId) (a : Settings) (table : TableId) (k : KeeperView) (its : Settings) (rows : List KeptSlot) (n t c : ℕ) (e : Entry) → IsOurKeeper z a table k its rows n → slot_at k.slots t ≡ Retired e → c < a.cpus
+snapped_at : (a : Settings) (k : KeeperView) (rows : List KeptSlot) (n t c : ℕ) (e : Entry) → IsOurKeeper a k rows n → slot_at k.slots t ≡ Retired e → c < a.cpus
     → (w : ℕ) × ((mark_at k.marks t c).snapshot ≡ Some w)
-snapped_at z a table k its rows n t c e our is low =
+snapped_at a k rows n t c e our is low =
     let g = our.is_shown.g in
     let seen = seen_by_keeper g k our.is_shown.good our.is_shown.shown in
     let rest : at_rest g.due ≡ true = ap at_rest (sym seen.due ∙ our.view.rest) in
@@ -33,9 +32,9 @@ snapped_at z a table k its rows n t c e our is low =
     let x = snapshot_stands g t c our.is_shown.good.holds rest gone lt in
     (x.0, ap (λ (ms : List (List Mark)). (mark_at ms t c).snapshot) seen.marks ∙ x.1)
 
-pub own_log : (z : TableId) (a : Settings) (table : TableId) (k : KeeperView) (its : Settings) (rows : List KeptSlot) (n : ℕ) (log note : List Deed) → IsOurKeeper z a table k its rows n → IsOwnLog log note k
+pub own_log : (a : Settings) (k : KeeperView) (rows : List KeptSlot) (n : ℕ) (log note : List LogItem) → IsOurKeeper a k rows n → IsOwnLog log note k
     → HasOwnLog a (record { view = k; slots = states_of rows; log = log })
-own_log z a table k its rows n log note our own = record {
+own_log a k rows n log note our own = record {
   settings = our.view.settings;
   rest = our.view.rest;
   size = length-map rows state_of ∙ our.rows.size;
@@ -48,10 +47,10 @@ own_log z a table k its rows n log note our own = record {
   };
   occupants = λ t.
       let shown = own.counts.1 in
-      let seen = seen_by_keeper shown.g (keeper_with_heard k own.counts.0) shown.good shown.shown in
+      let seen = seen_by_keeper shown.g (keeper_with_note k own.counts.0) shown.good shown.shown in
       shown.counts.occupants t ∙ ap occupant_of (ap (λ (xs : List Slot). slot_at xs t) (sym seen.slots) ∙ slots_agree a k rows t our.view our.rows);
   snapped = λ t c e is low.
-      let w = snapped_at z a table k its rows n t c e our (retired_in a k rows t e our.rows is).1 low in
+      let w = snapped_at a k rows n t c e our (retired_in a k rows t e our.rows is).1 low in
       (w.0, own.marks.snapped t c w.0 w.1);
   grow = own.grow;
   counts = own.counts;

@@ -3,7 +3,6 @@ use Rattle.std.proofs.Common.{◌≡◌, ℕ, ◌+◌, ◌<◌, true, ◌&&◌, 
 use Rattle.std.proofs.lemmas.Bool.{and_parts}
 use Rattle.std.proofs.lemmas.List.{map-set}
 use Rattle.std.proofs.Math.Seq.{map-set_same}
-use Rattle.atomic_table.specs.Seated.{TableId}
 use Rattle.registry_values.specs.declared.entry.Entry.{Entry}
 use Rattle.protocol.specs.declared.event.Event.{Event}
 use Rattle.protocol.specs.declared.event.Event.TheVariants.{Hear, Vacate}
@@ -21,10 +20,10 @@ use Rattle.registry_values.proofs.Fit.{ranges}
 use Rattle.protocol.proofs.keeps.ListKeeps.{live_count_put, rows_cell, rows_put}
 use Rattle.protocol.proofs.slots.Occupied.{is_retired_tells}
 use Rattle.cpu_words.specs.declared.view.KeeperView.{KeeperView}
-use Rattle.cpu_words.specs.declared.view.Deed.{Deed}
+use Rattle.cpu_words.specs.declared.view.LogItem.{LogItem}
 use Rattle.cpu_words.specs.declared.view.View.TheVariants.{Keeper}
 use Rattle.cpu_words.specs.Grace.{MayLook, keeper_after_look}
-use Rattle.cpu_words.specs.Deeds.{IsFreedFrom}
+use Rattle.cpu_words.specs.KeeperLog.{IsFreedFrom}
 use Rattle.cpu_words.specs.Rule.{IsShown, did}
 use Rattle.cpu_words.specs.Steps.{Makes}
 use Rattle.cpu_words.specs.Vacating.{keeper_after_vacate}
@@ -92,15 +91,13 @@ row_mark : (a : Settings) (k : KeeperView) (rows : List KeptSlot) (t c : ℕ) (e
 row_mark a k rows t c e agree is = ap (λ (ms : List Mark). get_or ms c no_mark) (agree.each t (retired_in a k rows t e agree is).0).marks
 
 -- after a look that made f of the mark, in the row as in the view, the rows agree
-pub looked_keeper : (z : TableId) (a : Settings) (table table' : TableId) (k l : KeeperView) (its : Settings) (rows : List KeptSlot) (n : ℕ) (ev : Event) (r : Reply) (t c : ℕ) (f : Mark → Mark) (m : Mark) (e : Entry)
-    → IsOurKeeper z a table k its rows n → slot_at (states_of rows) t ≡ Retired e → table' ≡ table → m ≡ f (get_or (row_at rows t).marks c no_mark) → l ≡ marked k ev r t c (f (mark_at k.marks t c)) → Makes ev r (Keeper k) (Keeper l)
-    → IsOurKeeper z a table' l its (set rows t (row_marked (row_at rows t) c m)) n
-looked_keeper z a table table' k l its rows n ev r t c f m e our is same made change event =
+pub looked_keeper : (a : Settings) (k l : KeeperView) (rows : List KeptSlot) (n : ℕ) (ev : Event) (r : Reply) (t c : ℕ) (f : Mark → Mark) (m : Mark) (e : Entry)
+    → IsOurKeeper a k rows n → slot_at (states_of rows) t ≡ Retired e → m ≡ f (get_or (row_at rows t).marks c no_mark) → l ≡ marked k ev r t c (f (mark_at k.marks t c)) → Makes ev r (Keeper k) (Keeper l)
+    → IsOurKeeper a l (set rows t (row_marked (row_at rows t) c m)) n
+looked_keeper a k l rows n ev r t c f m e our is made change event =
     let mark : m ≡ f (mark_at k.marks t c) = made ∙ ap f (row_mark a k rows t c e our.rows is) in
     let now : l ≡ marked k ev r t c m = change ∙ ap (marked k ev r t c) (sym mark) in
     record {
-      table = same ∙ our.table;
-      settings = our.settings;
       is_shown = step_is_shown ev r k l event;
       view = subst (IsAtRest a) (sym now) (marked_at_rest a k ev r t c m our.view);
       changes = our.changes ∙ sym (ap (λ (x : KeeperView). length x.history) now);
@@ -151,9 +148,9 @@ vacated_at_rest a k t e at lt retired = record {
       omega (arith, same, room);
 }
 
-pub vacated_keeper : {log : List Deed} (z : TableId) (a : Settings) (table table' : TableId) (k l : KeeperView) (its : Settings) (rows : List KeptSlot) (n t : ℕ) → IsOurKeeper z a table k its rows n → IsDrainedOn (record { view = k; slots = states_of rows; log = log }) t
-    → table' ≡ table → l ≡ keeper_after_vacate k t → IsShown l → IsOurKeeper z a table' l its (set rows t (row_vacated (row_at rows t))) n
-vacated_keeper z a table table' k l its rows n t our is same change is_shown =
+pub vacated_keeper : {log : List LogItem} (a : Settings) (k l : KeeperView) (rows : List KeptSlot) (n t : ℕ) → IsOurKeeper a k rows n → IsDrainedOn (record { view = k; slots = states_of rows; log = log }) t
+    → l ≡ keeper_after_vacate k t → IsShown l → IsOurKeeper a l (set rows t (row_vacated (row_at rows t))) n
+vacated_keeper a k l rows n t our is change is_shown =
     let here = retired_in a k rows t is.retired.0 our.rows is.retired.1 in
     let lt = here.0 in
     let most = (ranges a our.view.fit).slots in
@@ -162,8 +159,6 @@ vacated_keeper z a table table' k l its rows n t our is same change is_shown =
     let m = keeper_after_vacate k t in
     let after = set rows t (row_vacated (row_at rows t)) in
     record {
-      table = same ∙ our.table;
-      settings = our.settings;
       view = subst (IsAtRest a) (sym change) (vacated_at_rest a k t is.retired.0 our.view lt here.1);
       is_shown = is_shown;
       changes = our.changes ∙ sym (ap (λ (y : KeeperView). length y.history) change);
@@ -179,7 +174,7 @@ vacated_keeper z a table table' k l its rows n t our is same change is_shown =
     }
 
 -- what it leaves of the keeper
-pub has_vacated : {log later : List Deed} (a : Settings) (k l : KeeperView) (rows : List KeptSlot) (t : ℕ) (r : KeptSlot) (x : OnKeeper) → record { view = k; slots = states_of rows; log = log } ≡ x → RowsAgree a k rows → Makes (Vacate t) Done (Keeper k) (Keeper l) → Makes (Hear None) Done (Keeper l) (Keeper l)
+pub has_vacated : {log later : List LogItem} (a : Settings) (k l : KeeperView) (rows : List KeptSlot) (t : ℕ) (r : KeptSlot) (x : OnKeeper) → record { view = k; slots = states_of rows; log = log } ≡ x → RowsAgree a k rows → Makes (Vacate t) Done (Keeper k) (Keeper l) → Makes (Hear None) Done (Keeper l) (Keeper l)
     → l ≡ keeper_after_vacate k t → later ≡ log ++ did (Vacate t) Done ++ did (Hear None) Done → ((e : Entry) → slot_at k.slots t ≡ Retired e → IsFreedFrom t e.number later)
     → HasVacated x t (record { view = l; slots = states_of (set rows t (row_vacated r)); log = later })
 has_vacated {later} a k l rows t r x is agree made heard change goes_on freed =
@@ -193,7 +188,7 @@ has_vacated {later} a k l rows t r x is agree made heard change goes_on freed =
     }
 
 -- what the row says of a drain is what the view says
-pub drained_tells : {log : List Deed} (a : Settings) (k : KeeperView) (rows : List KeptSlot) (t cpus : ℕ) → IsAtRest a k → RowsAgree a k rows → t < a.slots → cpus ≡ a.cpus → is_drained_row cpus (row_at rows t) ≡ true → IsDrainedOn (record { view = k; slots = states_of rows; log = log }) t
+pub drained_tells : {log : List LogItem} (a : Settings) (k : KeeperView) (rows : List KeptSlot) (t cpus : ℕ) → IsAtRest a k → RowsAgree a k rows → t < a.slots → cpus ≡ a.cpus → is_drained_row cpus (row_at rows t) ≡ true → IsDrainedOn (record { view = k; slots = states_of rows; log = log }) t
 drained_tells a k rows t cpus at agree lt same is =
     let r = row_at rows t in
     let had = agree.each t lt in
@@ -216,7 +211,7 @@ drained_tells a k rows t cpus at agree lt same is =
       };
     }
 
-pub drained_from : {log : List Deed} (a : Settings) (k : KeeperView) (rows : List KeptSlot) (t cpus : ℕ) → IsAtRest a k → RowsAgree a k rows → t < a.slots → cpus ≡ a.cpus → IsDrainedOn (record { view = k; slots = states_of rows; log = log }) t → is_drained_row cpus (row_at rows t) ≡ true
+pub drained_from : {log : List LogItem} (a : Settings) (k : KeeperView) (rows : List KeptSlot) (t cpus : ℕ) → IsAtRest a k → RowsAgree a k rows → t < a.slots → cpus ≡ a.cpus → IsDrainedOn (record { view = k; slots = states_of rows; log = log }) t → is_drained_row cpus (row_at rows t) ≡ true
 drained_from a k rows t cpus at agree lt same is =
     let had = agree.each t lt in
     let d = is.drained in

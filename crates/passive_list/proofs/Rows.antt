@@ -20,7 +20,8 @@ use Rattle.registry_values.proofs.Fit.{ranges}
 use Rattle.cpu_words.specs.declared.view.KeeperView.{KeeperView}
 use Rattle.cpu_words.specs.Opening.{keeper_with}
 use Rattle.passive_list.specs.declared.keeper.KeptSlot.{KeptSlot}
-use Rattle.passive_list.specs.Keepers.{no_row, row_at, state_of, states_of, RowAgrees, IsAtRest, RowsAgree}
+use Rattle.passive_list.specs.Cpus.{OnPlainCpu}
+use Rattle.passive_list.specs.Keepers.{OnPlainKeeper, no_row, row_at, state_of, states_of, RowAgrees, IsAtRest, RowsAgree}
 
 -- At the start
 
@@ -137,3 +138,14 @@ rows_set a k l rows t r lt place agree here others = record {
       (λ (off : (u ≡ t → ⊥) × (row_at (set rows t r) u ≡ row_at rows u)). ap state_of off.1 ∙ agree.beyond u past)
       (place_cases no_row rows t r u (let size = agree.size in omega arith));
 }
+
+-- A keeper's value, or a CPU's: what is so of it is so of its parts
+
+pub keeper_is : {x y : OnPlainKeeper} → x ≡ y → x.keeper ≡ y.keeper
+keeper_is is i = (is i).keeper
+
+pub settings_are : {x y : OnPlainKeeper} → x ≡ y → x.words.settings ≡ y.words.settings
+settings_are is i = (is i).words.settings
+
+pub cpu_is : {x y : OnPlainCpu} → x ≡ y → x.cpu ≡ y.cpu
+cpu_is is i = (is i).cpu

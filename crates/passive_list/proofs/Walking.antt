@@ -12,7 +12,7 @@ use Rattle.protocol.specs.History.{IsAttached, IsLawful}
 use Rattle.protocol.specs.Invariant.{StandsOn}
 use Rattle.protocol.specs.Loaded.{loaded_at, loaded_of_name, entry_with}
 use Rattle.cpu_words.specs.declared.view.CpuView.{CpuView}
-use Rattle.cpu_words.specs.Searching.{MayLoadLink, MayLoadSearched, IsAtWord, every_word, cpu_after_record_word, HasLoadedLink, HasLoadedWord, HasFollowed, cpu_after_seek, search_for}
+use Rattle.cpu_words.specs.Searching.{MayLoadLink, MayLoadSearched, IsAtWord, every_word, cpu_after_record_word, HasLoadedLink, HasLoadedWord, HasFollowed, PassTells, cpu_after_seek, search_for}
 use Rattle.passive_list.specs.declared.lookup.Seen.{Seen}
 use Rattle.passive_list.specs.Walking.{entry_seen, search_at, IsUnderWay, cpu_with_search_at, after_visit, HasVisitedFrom, HasVisited, HasTaken, HasMissed, IsOn, IsAtLink, HasLookedUp}
 
@@ -22,7 +22,7 @@ prefix_trans p q r a b = (a.0 ++ b.0, sym (append_assoc p a.0 b.0) ∙ ap (λ l.
 -- One load
 
 -- the search goes on at another place
-on_word : (x y : CpuView) (key : Key) (from : ℕ) (p q : SearchPlace) (n w : ℕ) → IsUnderWay x key from p → loaded_at (search_at key from p) p (every_word n) ≡ Some (On q w) → HasLoadedWord x n y → y ≡ cpu_with_search_at x key from q
+pub on_word : (x y : CpuView) (key : Key) (from : ℕ) (p q : SearchPlace) (n w : ℕ) → IsUnderWay x key from p → loaded_at (search_at key from p) p (every_word n) ≡ Some (On q w) → HasLoadedWord x n y → y ≡ cpu_with_search_at x key from q
 on_word x y key from p q n w at on had = (had (search_at key from p) at).is ∙ ap (cpu_after_record_word x (search_at key from p)) on
 
 pub goes_on : (x y : CpuView) (key : Key) (from : ℕ) (p q : SearchPlace) (n w : ℕ) → IsUnderWay x key from p → loaded_at (search_at key from p) p (every_word n) ≡ Some (On q w) → HasLoadedWord x n y → IsUnderWay y key from q
@@ -36,7 +36,7 @@ may_follow x key from t at = record { search = search_at key from (AtNext t); un
 
 -- One slot
 
-judged_at : (t n l : ℕ) (b : Bool) → loaded_of_name t n l b ≡ On (after_visit t n b) l
+pub judged_at : (t n l : ℕ) (b : Bool) → loaded_of_name t n l b ≡ On (after_visit t n b) l
 judged_at t n l true = refl
 judged_at t n l false = refl
 
@@ -74,8 +74,8 @@ took x y key t n value had from at =
 
 -- the head was loaded
 pub begins : (x y : CpuView) (key : Key) (n last : ℕ) → length y.pass < last → HasFollowed (cpu_after_seek key x) (search_for key x) n y → IsAtLink key x n last y
-begins x y key zero last few had = record { pass = had.pass; is = had.is; lawful = had.holds }
-begins x y key (suc t) last few had = record { pass = had.pass; is = had.is; slot = had.holds.1; below = λ e stands. omega (arith, stands.begun) }
+begins x y key zero last few had = record { pass = had.pass; is = had.is; lawful = had.holds; tells = had.tells }
+begins x y key (suc t) last few had = record { pass = had.pass; is = had.is; slot = had.holds.1; below = λ e stands. omega (arith, stands.begun); tells = had.tells }
 
 -- the slot of a link
 pub on_slot : (key : Key) (x y : CpuView) (n last : ℕ) → n ≢ 0 → IsAtLink key x n last y → IsOn key x (n - 1) last y
@@ -109,6 +109,7 @@ followed_on key x y z w t n zero last on v had =
       pass = prefix_trans x.pass y.pass w.pass on.pass (subst (λ p. IsPrefix p w.pass) pass had.pass);
       is = had.is ∙ ap (λ (u : CpuView). record u { pass = w.pass; search = None; found = None }) left;
       lawful = had.holds;
+      tells = subst (λ (b : Option ℕ). PassTells b (length x.pass) w.pass) (ap (λ (u : CpuView). u.begin) left) had.tells;
     }
 followed_on key x y z w t n (suc u) last on v had =
     let left = left_slot key x y z t n last false on v in
@@ -120,6 +121,7 @@ followed_on key x y z w t n (suc u) last on v had =
       below = λ f stands.
           let from_here = subst (λ (p : List Change). StandsOn p (length x.pass) (length p) t v.entry) (sym pass) v.stands in
           omega (arith, had.descends t refl v.entry f from_here stands, v.number);
+      tells = subst (λ (b : Option ℕ). PassTells b (length x.pass) w.pass) (ap (λ (u : CpuView). u.begin) left) had.tells;
     }
 
 pub follows : (key : Key) (x y z w : CpuView) (t n m last : ℕ) → IsOn key x t last y → HasVisited y key t n false z → HasLoadedLink z m w → IsAtLink key x m n w
@@ -146,7 +148,7 @@ follow_id key x w (suc t) n at = ap (λ (u : CpuView). u.id) at.is
 -- The whole search
 
 pub missed : (key : Key) (x y : CpuView) → HasMissed key x y → HasLookedUp key x y None
-missed key x y had = record { pass = had.pass; is = had.is; lawful = had.lawful; seen = λ e (q : None ≡ Some e). cc }
+missed key x y had = record { pass = had.pass; is = had.is; lawful = had.lawful; seen = λ e (q : None ≡ Some e). cc; tells = had.tells }
 
 pub found : (key : Key) (x y z w : CpuView) (t n value last : ℕ) → IsOn key x t last y → HasVisited y key t n true z → HasLoadedWord z value w → HasLookedUp key x w (Some (entry_with key t n value))
 found key x y z w t n value last on had last_word =
@@ -165,6 +167,7 @@ found key x y z w t n value last on had last_word =
       seen = λ g (q : Some e ≡ Some g).
           let same : e ≡ g = cc in
           subst (λ (i : Entry). (i.slot < 32) × IsAttached w.pass i) same (on.slot, subst (λ (p : List Change). IsAttached p e) (sym to_z) f.attached);
+      tells = subst (λ (p : List Change). PassTells x.begin (length x.pass) p) (sym (to_z ∙ to_y)) on.tells;
     }
 
 -- the slot of what a search found

@@ -11,18 +11,18 @@ use Rattle.protocol.specs.History.{IsAttached}
 use Rattle.protocol.specs.Invariant.{greatest_limit}
 use Rattle.registry_values.specs.Balances.{bias}
 use Rattle.cpu_words.specs.declared.view.CpuView.{CpuView}
-use Rattle.cpu_words.specs.declared.view.Deed.{Deed}
+use Rattle.cpu_words.specs.declared.view.LogItem.{LogItem}
 use Rattle.cpu_words.specs.Views.{Named, number_at, references_to, depth_of}
 use Rattle.cpu_words.specs.Sections.{IsIdle}
 use Rattle.passive_list.specs.declared.place.Found.{Found}
 use Rattle.passive_list.specs.declared.place.NumberedCount.{NumberedCount}
 
--- a CPU, to a contract: what its seat knows, the depth of its section, what the changes that its calls have made come to in the ledger, and what it has heard of the keeper's deeds
+-- a CPU, to a contract: what its seat knows, the depth of its section, what the changes that its calls have made come to in the ledger, and what it has heard of the keeper's log
 pub record OnCpu : Type 0 where
   pub view : CpuView
   pub depth : ℕ
   pub made : ℕ
-  pub deeds : List Deed
+  pub known_log : List LogItem
 
 -- a CPU that names its own table: that table and its settings, and the CPU; it has no share of a ledger, so it says 0 of what it made
 pub record OnPlainCpu : Type 0 where

@@ -10,8 +10,9 @@ use Rattle.registry_values.specs.Limits.{are_fit}
 use Rattle.registry_values.specs.Slots.{live_count, slot_at}
 use Rattle.registry_values.specs.Balances.{bias}
 use Rattle.protocol.specs.State.{total_at, kept_at}
+use Rattle.cpu_words.specs.Views.{Named}
 use Rattle.cpu_words.specs.declared.view.KeeperView.{KeeperView}
-use Rattle.cpu_words.specs.declared.view.Deed.{Deed}
+use Rattle.cpu_words.specs.declared.view.LogItem.{LogItem}
 use Rattle.cpu_words.specs.Rule.{IsShown}
 use Rattle.passive_list.specs.declared.keeper.KeptSlot.{KeptSlot}
 
@@ -19,7 +20,12 @@ use Rattle.passive_list.specs.declared.keeper.KeptSlot.{KeptSlot}
 pub record OnKeeper : Type 0 where
   pub view : KeeperView
   pub slots : List Slot
-  pub log : List Deed
+  pub log : List LogItem
+
+-- the `Keeper`, which names its own table: that table and its settings, and the keeper
+pub record OnPlainKeeper : Type 0 where
+  pub words : Named
+  pub keeper : OnKeeper
 
 -- what is past the rows
 abbrev pub no_row : KeptSlot
@@ -69,10 +75,12 @@ pub record RowsAgree (a : Settings) (k : KeeperView) (rows : List KeptSlot) : Ty
   pub each : (t : ℕ) → t < a.slots → RowAgrees k t (row_at rows t)
   pub beyond : (t : ℕ) → a.slots ≤ t → (row_at rows t).state ≡ Vacant
 
-pub record IsOurKeeper (z : TableId) (a : Settings) (seat_table : TableId) (k : KeeperView) (its : Settings) (rs : List KeptSlot) (n : ℕ) : Type 0 where
-  pub table : seat_table ≡ z
-  pub settings : its ≡ a
+pub record IsOurKeeper (a : Settings) (k : KeeperView) (rs : List KeptSlot) (n : ℕ) : Type 0 where
   pub view : IsAtRest a k
   pub is_shown : IsShown k
   pub changes : n ≡ length k.history
   pub rows : RowsAgree a k rs
+
+-- the keeper of this table with these settings, by what its seat knows, its rows and its log
+abbrev pub on_keeper : TableId → Settings → KeeperView → List KeptSlot → List LogItem → OnPlainKeeper
+on_keeper table a k rows log = record { words = record { table = table; settings = a }; keeper = record { view = k; slots = states_of rows; log = log } }

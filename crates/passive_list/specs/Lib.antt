@@ -9,3 +9,5 @@ pub mod Links
 pub mod Publishing
 pub mod Retiring
 pub mod Logs
+pub mod Walks
+pub mod Noting

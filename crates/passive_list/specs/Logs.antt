@@ -7,8 +7,8 @@ use Rattle.registry_values.specs.declared.slot.Slot.TheVariants.{Retired}
 use Rattle.registry_values.specs.Slots.{slot_at}
 use Rattle.protocol.specs.declared.state.Due.TheVariants.{Rest}
 use Rattle.cpu_words.specs.declared.view.View.TheVariants.{Keeper}
-use Rattle.cpu_words.specs.Deeds.{changes_in, occupant, occupant_of, IsSnapped, AreMarksOf, AreSlotsOf, IsShownAfter, WordsGrow}
-use Rattle.cpu_words.specs.Notes.{keeper_with_heard}
+use Rattle.cpu_words.specs.KeeperLog.{changes_in, occupant, occupant_of, IsSnapped, AreMarksOf, AreSlotsOf, IsShownAfter, WordsGrow}
+use Rattle.cpu_words.specs.Notes.{keeper_with_note}
 use Rattle.passive_list.specs.Keepers.{OnKeeper}
 
 -- The keeper is at rest. The history is as long as the log says, the marks, the slots and their entries, as the keeper has them, are in it, each retired entry was snapped on each CPU, and the words that were found grow
@@ -23,4 +23,4 @@ pub record HasOwnLog (z : Settings) (a : OnKeeper) : Type 0 where
   pub snapped : (t c : ℕ) (e : Entry) → slot_at a.slots t ≡ Retired e → c < z.cpus → (w : ℕ) × IsSnapped t c w a.log
   pub grow : WordsGrow a.log
   -- with another note beside it, some state shows the view, in which the keeper had done just this
-  pub counts : (h : List Change) × IsShownAfter a.log (Keeper (keeper_with_heard a.view h))
+  pub counts : (h : List Change) × IsShownAfter a.log (Keeper (keeper_with_note a.view h))

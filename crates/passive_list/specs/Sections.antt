@@ -10,7 +10,7 @@ pub record HasEnteredOn (a b : OnCpu) : Type 0 where
   pub inner : a.depth ≢ 0 → b.view ≡ a.view
   pub depth : b.depth ≡ a.depth + 1
   pub made : b.made ≡ a.made
-  pub deeds : b.deeds ≡ a.deeds
+  pub known_log : b.known_log ≡ a.known_log
 
 -- the outermost exit ends the section; an inner one is counted, and nothing else
 pub record HasExitedOn (a b : OnCpu) : Type 0 where
@@ -18,7 +18,7 @@ pub record HasExitedOn (a b : OnCpu) : Type 0 where
   pub inner : a.depth ≢ 1 → b.view ≡ a.view
   pub depth : b.depth + 1 ≡ a.depth
   pub made : b.made ≡ a.made
-  pub deeds : b.deeds ≡ a.deeds
+  pub known_log : b.known_log ≡ a.known_log
 
 -- this CPU has begun as many sections as it may
 abbrev pub AreSpent : CpuView → Type 0

@@ -8,7 +8,7 @@ use Rattle.registry_values.specs.Balances.{bias}
 use Rattle.registry_values.specs.Slots.{slot_at, is_retired}
 use Rattle.registry_values.specs.Marks.{have_passed, are_clear, are_collected}
 use Rattle.cpu_words.specs.declared.view.View.TheVariants.{Keeper}
-use Rattle.cpu_words.specs.Deeds.{IsFreedFrom}
+use Rattle.cpu_words.specs.KeeperLog.{IsFreedFrom}
 use Rattle.cpu_words.specs.Rule.{did}
 use Rattle.cpu_words.specs.Steps.{Makes}
 use Rattle.cpu_words.specs.Vacating.{IsDrained, keeper_after_vacate}

@@ -9,6 +9,7 @@ use Rattle.protocol.specs.declared.state.Search.{Search}
 use Rattle.protocol.specs.History.{IsAttached, IsLawful}
 use Rattle.protocol.specs.Invariant.{StandsOn}
 use Rattle.protocol.specs.Loaded.{entry_with}
+use Rattle.cpu_words.specs.Searching.{PassTells}
 use Rattle.cpu_words.specs.declared.view.CpuView.{CpuView}
 use Rattle.passive_list.specs.declared.lookup.Seen.{Seen}
 
@@ -56,6 +57,7 @@ pub record HasMissed (key : Key) (x y : CpuView) : Type 0 where
   pub pass : IsPrefix x.pass y.pass
   pub is : y ≡ record x { pass = y.pass; search = None; found = None }
   pub lawful : IsLawful y.pass (length x.pass) (length y.pass) key None
+  pub tells : PassTells x.begin (length x.pass) y.pass
 
 -- it is to visit the slot t, whose entry has a number below `last`
 pub record IsOn (key : Key) (x : CpuView) (t last : ℕ) (y : CpuView) : Type 0 where
@@ -63,6 +65,7 @@ pub record IsOn (key : Key) (x : CpuView) (t last : ℕ) (y : CpuView) : Type 0 
   pub is : y ≡ record x { pass = y.pass; search = Some (search_at key (length x.pass) (AtNumber t)) }
   pub slot : t < 32
   pub below : (e : Entry) → StandsOn y.pass (length x.pass) (length y.pass) t e → e.number < last
+  pub tells : PassTells x.begin (length x.pass) y.pass
 
 -- a link is 0 at the end of the list, else a slot plus 1
 abbrev pub IsAtLink : Key → CpuView → ℕ → ℕ → CpuView → Type 0
@@ -80,3 +83,4 @@ pub record HasLookedUp (key : Key) (x y : CpuView) (answer : Option Entry) : Typ
   pub is : y ≡ record x { pass = y.pass; search = None; found = answer }
   pub lawful : IsLawful y.pass (length x.pass) (length y.pass) key answer
   pub seen : (e : Entry) → answer ≡ Some e → (e.slot < 32) × IsAttached y.pass e
+  pub tells : PassTells x.begin (length x.pass) y.pass

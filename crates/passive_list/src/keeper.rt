@@ -6,11 +6,10 @@ ghost use Rattle.registry_values.specs.Limits.{are_fit};
 ghost use Rattle.registry_values.specs.Slots.{slot_at};
 ghost use Rattle.protocol.specs.State.{kept_at};
 ghost use Rattle.cpu_words.specs.Opening.{keeper_with};
-ghost use Rattle.passive_list.specs.Keepers.{states_of};
 
-use cpu_words::{Domain, KeeperSeat};
+use cpu_words::KeeperSeat;
 use registry_values::{BIAS, Mark, NO_MARK, Settings};
-use std::marker::{Model, PhantomData};
+use std::marker::Model;
 
 /// What stands in a slot, as the keeper has it: a slot that was retired and drained is `Vacant` once it was vacated.
 pub use registry_values::Slot as SlotState;
@@ -28,10 +27,10 @@ pub struct KeptSlot {
     pub keeps: Option<u64>,
 }
 
-/// The keeper of the table that D names. To a contract it is what its seat knows, the slots as it has them, and its log: what it did, each
-/// event with its reply, in order. It is at rest: no operation of it is half done.
+/// The keeper of the table that its seat is of. To a contract it is that table with its settings, and what its seat knows, the slots as it has
+/// them, and its log: what it did, each event with its reply, in order. It is at rest: no operation of it is half done.
 #[derive(Drop)]
-pub struct Keeper<D: Domain> {
+pub struct Keeper {
     /// The seat that it steps with.
     pub seat: KeeperSeat,
     /// What the table was made for.
@@ -40,18 +39,16 @@ pub struct Keeper<D: Domain> {
     pub rows: [KeptSlot; 32],
     /// How many changes there were: attaches and detaches.
     pub changes: u64,
-    /// The name of the table.
-    pub domain: PhantomData<D>,
 }
 
-impl<D: Domain> Model for Keeper<D> {
-    ghost use Rattle.passive_list.specs.Keepers.{OnKeeper, IsOurKeeper, states_of};
+impl Model for Keeper {
+    ghost use Rattle.passive_list.specs.Keepers.{OnPlainKeeper, IsOurKeeper, on_keeper};
 
-    ghost Value = { OnKeeper };
+    ghost Value = { OnPlainKeeper };
 
-    ghost view = { λ k. record { view = k.seat.view; slots = states_of k.rows; log = k.seat.log } };
+    ghost view = { λ k. on_keeper k.seat.table k.settings k.seat.view k.rows k.seat.log };
 
-    ghost invariant = { λ k. IsOurKeeper D.table D.settings k.seat.table k.seat.view k.settings k.rows k.changes };
+    ghost invariant = { λ k. IsOurKeeper k.settings k.seat.view k.rows k.changes };
 }
 
 /// A slot that nothing was ever in.
@@ -62,22 +59,20 @@ const VACANT_SLOT: KeptSlot = KeptSlot {
     keeps: None,
 };
 
-impl<D: Domain> Keeper<D> {
+impl Keeper {
     /// The keeper of a new seat: all slots are vacant, and there was no change.
-    /// Condition: the seat is of D's table, as `Words::new` gave it for these settings.
-    pub fn of_seat(seat: KeeperSeat, settings: Settings) -> Keeper<D>
-        requires table { (seat.table ≡ D.table) × (settings ≡ D.settings) × IsTrue (are_fit settings) }
+    /// Condition: the seat is as `Words::new` gave it for these settings.
+    pub fn of_seat(seat: KeeperSeat, settings: Settings) -> Keeper
+        requires fit { IsTrue (are_fit settings) }
         requires new { seat.view ≡ keeper_with settings settings.cpus }
-        ensures view { result.view ≡ keeper_with settings settings.cpus }
-        ensures slots { result.slots ≡ replicate 32 Vacant }
-        ensures log { result.log ≡ seat.log }
+        ensures words { result.words ≡ record { table = seat.table; settings = settings } }
+        ensures keeper { result.keeper ≡ record { view = keeper_with settings settings.cpus; slots = replicate 32 Vacant; log = seat.log } }
     {
         Keeper {
             seat,
             settings,
             rows: [VACANT_SLOT; 32],
             changes: 0,
-            domain: PhantomData,
         }
     }
 
@@ -85,14 +80,14 @@ impl<D: Domain> Keeper<D> {
     /// Condition: the slot is below 32.
     pub fn slot(&self, s: u8) -> SlotState
         requires { s < 32 }
-        ensures { result ≡ slot_at self.now.slots s }
+        ensures { result ≡ slot_at self.now.keeper.slots s }
     {
         self.rows[s as usize].state
     }
 
     /// How many changes there were: attaches and detaches.
     pub fn changes(&self) -> u64
-        ensures { result ≡ length self.now.view.history }
+        ensures { result ≡ length self.now.keeper.view.history }
     {
         self.changes
     }
@@ -100,8 +95,8 @@ impl<D: Domain> Keeper<D> {
     /// The number of the driver to which a slot keeps a reference.
     /// Condition: the slot is one of the table's.
     pub fn keeps(&self, s: u8) -> Option<u64>
-        requires { s < D.settings.slots }
-        ensures { result ≡ kept_at self.now.view.keeps s }
+        requires { s < self.now.words.settings.slots }
+        ensures { result ≡ kept_at self.now.keeper.view.keeps s }
     {
         self.rows[s as usize].keeps
     }

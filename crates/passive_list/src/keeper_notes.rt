@@ -5,40 +5,70 @@ ghost use mathlib.Core.List.{IsPrefix};
 ghost use Rattle.protocol.specs.declared.event.Event.TheVariants.{Hear, Tell};
 ghost use Rattle.protocol.specs.declared.event.Reply.TheVariants.{Done};
 ghost use Rattle.cpu_words.specs.Domains.{AreWordsOf};
-ghost use Rattle.cpu_words.specs.Notes.{keeper_with_heard};
+ghost use Rattle.cpu_words.specs.Notes.{keeper_with_note};
 ghost use Rattle.cpu_words.specs.Rule.{did};
 ghost use Rattle.passive_list.specs.Logs.{HasOwnLog};
 
 use crate::keeper::Keeper;
 use crate::notes::Note;
-use cpu_words::{Domain, Words, steps};
+use cpu_words::{Domain, NoteSeat, Words, steps};
 use std::marker::PhantomData;
 
 /// The keeper tells the history: the note has just that, and all that the keeper did, this with it. It changes nothing but the log.
-pub fn tell_keeper<D: Domain>(words: &Words, keeper: &mut Keeper<D>) -> Note<D>
-    requires words { AreWordsOf words.now D.table D.settings }
-    ensures note { result.pass ≡ keeper.old.view.history }
-    ensures deeds { result.deeds ≡ keeper.new.log }
-    ensures log { keeper.new ≡ record keeper.old { log = keeper.old.log ++ did (Tell None) Done } }
+/// Condition: D names the keeper's table.
+pub fn tell_keeper<D: Domain>(words: &Words, keeper: &mut Keeper) -> Note<D>
+    requires words { AreWordsOf words.now keeper.old.words.table keeper.old.words.settings }
+    requires named { keeper.old.words.table ≡ D.table }
+    ensures note { result.pass ≡ keeper.old.keeper.view.history }
+    ensures known_log { result.known_log ≡ keeper.new.keeper.log }
+    ensures log { keeper.new ≡ record keeper.old { keeper = record keeper.old.keeper { log = keeper.old.keeper.log ++ did (Tell None) Done } } }
 {
-    let seat = steps::tell_keeper(words, &mut keeper.seat);
     Note {
-        seat,
+        seat: tell_keeper_on(words, keeper),
         domain: PhantomData,
     }
 }
 
-/// The keeper hears a note: what the note tells is in its history, and what it tells of the keeper's deeds begins the keeper's log. That log has
+/// `tell_keeper` where no type names the keeper's table.
+pub fn tell_keeper_on(words: &Words, keeper: &mut Keeper) -> NoteSeat
+    requires words { AreWordsOf words.now keeper.old.words.table keeper.old.words.settings }
+    ensures table { result.table ≡ keeper.old.words.table }
+    ensures note { result.view ≡ keeper.old.keeper.view.history }
+    ensures known_log { result.known_log ≡ keeper.new.keeper.log }
+    ensures log { keeper.new ≡ record keeper.old { keeper = record keeper.old.keeper { log = keeper.old.keeper.log ++ did (Tell None) Done } } }
+{
+    steps::tell_keeper(words, &mut keeper.seat)
+}
+
+/// The keeper hears a note: what the note tells is in its history, and what it tells of the keeper's log begins that log. It has
 /// all that the keeper has in its slots and marks (`own`). Of the keeper nothing changes but the note that it heard last, and the log.
-pub fn hear_keeper<D: Domain>(words: &Words, keeper: &mut Keeper<D>, note: Note<D>)
-    requires words { AreWordsOf words.now D.table D.settings }
-    ensures told { IsPrefix note.pass keeper.new.view.history }
-    ensures view { keeper.new.view ≡ keeper_with_heard keeper.old.view note.pass }
-    ensures slots { keeper.new.slots ≡ keeper.old.slots }
-    ensures log { keeper.new.log ≡ keeper.old.log ++ did (Hear None) Done }
-    ensures heard { IsPrefix note.deeds keeper.old.log }
-    ensures own { HasOwnLog D.settings keeper.old }
+/// Condition: D names the keeper's table.
+pub fn hear_keeper<D: Domain>(words: &Words, keeper: &mut Keeper, note: Note<D>)
+    requires words { AreWordsOf words.now keeper.old.words.table keeper.old.words.settings }
+    requires named { keeper.old.words.table ≡ D.table }
+    ensures told { IsPrefix note.pass keeper.new.keeper.view.history }
+    ensures view { keeper.new.keeper.view ≡ keeper_with_note keeper.old.keeper.view note.pass }
+    ensures slots { keeper.new.keeper.slots ≡ keeper.old.keeper.slots }
+    ensures log { keeper.new.keeper.log ≡ keeper.old.keeper.log ++ did (Hear None) Done }
+    ensures known_log { IsPrefix note.known_log keeper.old.keeper.log }
+    ensures own { HasOwnLog keeper.old.words.settings keeper.old.keeper }
+    ensures words { keeper.new.words ≡ keeper.old.words }
 {
     let Note { seat, domain: _ } = note;
-    steps::hear_keeper(words, &mut keeper.seat, seat);
+    hear_keeper_on(words, keeper, seat);
+}
+
+/// `hear_keeper` where no type names the keeper's table. Condition: the words and the note's seat are of it.
+pub fn hear_keeper_on(words: &Words, keeper: &mut Keeper, note: NoteSeat)
+    requires words { AreWordsOf words.now keeper.old.words.table keeper.old.words.settings }
+    requires note { note.table ≡ keeper.old.words.table }
+    ensures told { IsPrefix note.view keeper.new.keeper.view.history }
+    ensures view { keeper.new.keeper.view ≡ keeper_with_note keeper.old.keeper.view note.view }
+    ensures slots { keeper.new.keeper.slots ≡ keeper.old.keeper.slots }
+    ensures log { keeper.new.keeper.log ≡ keeper.old.keeper.log ++ did (Hear None) Done }
+    ensures known_log { IsPrefix note.known_log keeper.old.keeper.log }
+    ensures own { HasOwnLog keeper.old.words.settings keeper.old.keeper }
+    ensures words { keeper.new.words ≡ keeper.old.words }
+{
+    steps::hear_keeper(words, &mut keeper.seat, note);
 }

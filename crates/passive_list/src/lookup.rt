@@ -42,10 +42,10 @@ pub fn find_on(words: &Words, cpu: &mut PlainCpu, kind: Kind, name: &Name) -> Op
 
 /// The words of an entry that a search found.
 #[derive(Clone, Copy)]
-struct Seen {
-    number: u64,
-    slot: u64,
-    value: u64,
+pub struct Seen {
+    pub number: u64,
+    pub slot: u64,
+    pub value: u64,
 }
 
 /// Keeps what a search found, and answers it. The entry is put together here, once and from words: it has bytes between its fields, and
@@ -75,13 +75,13 @@ fn keep(found: &mut Found, seen: Option<Seen>, kind: Kind, name: Name) -> Option
 }
 
 /// The whole search, by the CPU's seat.
-fn look_up(words: &Words, seat: &mut CpuSeat, cpu: u8, kind: Kind, name: Name) -> Option<Seen>
+pub fn look_up(words: &Words, seat: &mut CpuSeat, cpu: u8, kind: Kind, name: Name) -> Option<Seen>
     requires table { seat.old.table ≡ words.now.table }
     requires cpu { (cpu < 8) × (seat.old.view.id ≡ cpu) }
     requires may { MaySeek seat.old.view }
     ensures table { seat.new.table ≡ seat.old.table }
     ensures change { HasLookedUp (key_with kind name) seat.old.view seat.new.view (entry_seen (key_with kind name) result) }
-    ensures deeds { seat.new.deeds ≡ seat.old.deeds }
+    ensures known_log { seat.new.known_log ≡ seat.old.known_log }
 {
     let mut last = ABOVE_ALL;
     let mut link = steps::seek(words, seat, cpu, kind, name);
@@ -117,7 +117,7 @@ fn visit(
     requires may { MayVisit seat.old.view (key_with kind name) slot }
     ensures table { seat.new.table ≡ seat.old.table }
     ensures change { HasVisited seat.old.view (key_with kind name) slot result.0 result.1 seat.new.view }
-    ensures deeds { seat.new.deeds ≡ seat.old.deeds }
+    ensures known_log { seat.new.known_log ≡ seat.old.known_log }
 {
     let number = steps::load_searched(words, seat, cpu, slot, 0);
     let found = steps::load_searched(words, seat, cpu, slot, 1);

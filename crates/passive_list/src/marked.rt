@@ -5,15 +5,14 @@ ghost use Rattle.registry_values.specs.Marks.{have_passed, are_clear, are_collec
 ghost use Rattle.protocol.specs.State.{mark_at};
 
 use crate::keeper::Keeper;
-use cpu_words::Domain;
 use registry_values::{Mark, are_clear, are_collected, have_passed};
 
-impl<D: Domain> Keeper<D> {
+impl Keeper {
     /// The mark of a CPU for the retired entry in `slot`; for another slot it says nothing.
     /// Condition: the slot and the CPU are of the table.
     pub fn mark(&self, slot: u8, cpu: u8) -> Mark
-        requires { (slot < D.settings.slots) × (cpu < D.settings.cpus) }
-        ensures { result ≡ mark_at self.now.view.marks slot cpu }
+        requires { (slot < self.now.words.settings.slots) × (cpu < self.now.words.settings.cpus) }
+        ensures { result ≡ mark_at self.now.keeper.view.marks slot cpu }
     {
         self.rows[slot as usize].marks[cpu as usize]
     }
@@ -21,8 +20,8 @@ impl<D: Domain> Keeper<D> {
     /// Whether all CPUs have passed for the entry in `slot` (pserialize(9)): no section may hold it any more.
     /// Condition: the slot is one of the table's.
     pub fn have_passed(&self, slot: u8) -> bool
-        requires { slot < D.settings.slots }
-        ensures { result ≡ have_passed D.settings.cpus (slice_index_or self.now.view.marks slot []) }
+        requires { slot < self.now.words.settings.slots }
+        ensures { result ≡ have_passed self.now.words.settings.cpus (slice_index_or self.now.keeper.view.marks slot []) }
     {
         have_passed(self.settings.cpus, &self.rows[slot as usize].marks)
     }
@@ -30,8 +29,8 @@ impl<D: Domain> Keeper<D> {
     /// Whether all CPUs are clear for the entry in `slot` (psref(9)): none has a passive reference to it any more.
     /// Condition: the slot is one of the table's.
     pub fn are_clear(&self, slot: u8) -> bool
-        requires { slot < D.settings.slots }
-        ensures { result ≡ are_clear D.settings.cpus (slice_index_or self.now.view.marks slot []) }
+        requires { slot < self.now.words.settings.slots }
+        ensures { result ≡ are_clear self.now.words.settings.cpus (slice_index_or self.now.keeper.view.marks slot []) }
     {
         are_clear(self.settings.cpus, &self.rows[slot as usize].marks)
     }
@@ -39,8 +38,8 @@ impl<D: Domain> Keeper<D> {
     /// Whether the count words of all CPUs for the entry in `slot` were collected (localcount(9)).
     /// Condition: the slot is one of the table's.
     pub fn are_collected(&self, slot: u8) -> bool
-        requires { slot < D.settings.slots }
-        ensures { result ≡ are_collected D.settings.cpus (slice_index_or self.now.view.marks slot []) }
+        requires { slot < self.now.words.settings.slots }
+        ensures { result ≡ are_collected self.now.words.settings.cpus (slice_index_or self.now.keeper.view.marks slot []) }
     {
         are_collected(self.settings.cpus, &self.rows[slot as usize].marks)
     }

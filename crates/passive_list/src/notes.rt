@@ -11,7 +11,7 @@ use cpu_words::{Domain, NoteSeat, Words, steps};
 use std::marker::{Model, PhantomData};
 
 /// What a CPU or the keeper of the table that D names had seen as it told. To a contract it is that prefix of the history, and what its
-/// teller knew of the keeper's deeds. It moves between threads, and may be dropped.
+/// teller knew of the keeper's log. It moves between threads, and may be dropped.
 #[derive(Drop)]
 pub struct Note<D: Domain> {
     pub seat: NoteSeat,
@@ -24,32 +24,41 @@ impl<D: Domain> Model for Note<D> {
 
     ghost Value = { OnNote };
 
-    ghost view = { λ n. record { pass = n.seat.view; deeds = n.seat.deeds } };
+    ghost view = { λ n. record { pass = n.seat.view; known_log = n.seat.known_log } };
 
     ghost invariant = { λ n. n.seat.table ≡ D.table };
 }
 
-/// Tells what this CPU has seen: the note has just its pass, and what it has heard of the keeper's deeds. It changes nothing, inside a
+/// Tells what this CPU has seen: the note has just its pass, and what it has heard of the keeper's log. It changes nothing, inside a
 /// section or outside.
 pub fn tell<D: Domain>(words: &Words, cpu: &mut Cpu<D>) -> Note<D>
     requires words { AreWordsOf words.now D.table D.settings }
-    ensures note { result ≡ record { pass = cpu.old.view.pass; deeds = cpu.old.deeds } }
+    ensures note { result ≡ record { pass = cpu.old.view.pass; known_log = cpu.old.known_log } }
     ensures same { cpu.new ≡ cpu.old }
 {
-    let seat = steps::tell(words, &mut cpu.plain.seat, cpu.plain.id);
     Note {
-        seat,
+        seat: tell_on(words, &mut cpu.plain),
         domain: PhantomData,
     }
 }
 
+/// `tell` on a CPU that names its own table. Condition: the words are of its table.
+pub fn tell_on(words: &Words, cpu: &mut PlainCpu) -> NoteSeat
+    requires words { AreWordsOf words.now cpu.old.words.table cpu.old.words.settings }
+    ensures table { result.table ≡ cpu.old.words.table }
+    ensures note { (result.view ≡ cpu.old.cpu.view.pass) × (result.known_log ≡ cpu.old.cpu.known_log) }
+    ensures same { cpu.new ≡ cpu.old }
+{
+    steps::tell(words, &mut cpu.seat, cpu.id)
+}
+
 /// Hears a note: from here on this CPU has seen what the note tells, and every lookup answers from there on. Its pass grows, and has what the
-/// note told, and it has heard what the note tells of the keeper's deeds; nothing else changes but the note that it heard last, inside a
+/// note told, and it has heard what the note tells of the keeper's log; nothing else changes but the note that it heard last, inside a
 /// section or outside.
 pub fn hear<D: Domain>(words: &Words, cpu: &mut Cpu<D>, note: Note<D>)
     requires words { AreWordsOf words.now D.table D.settings }
     ensures heard { HasHeardOn note.pass cpu.old cpu.new }
-    ensures deeds { IsPrefix note.deeds cpu.new.deeds }
+    ensures known_log { IsPrefix note.known_log cpu.new.known_log }
     ensures shown { WasShown note.pass cpu.old cpu.new }
 {
     let Note { seat, domain: _ } = note;
@@ -61,7 +70,7 @@ pub fn hear_on(words: &Words, cpu: &mut PlainCpu, note: NoteSeat)
     requires words { AreWordsOf words.now cpu.old.words.table cpu.old.words.settings }
     requires note { note.table ≡ cpu.old.words.table }
     ensures heard { HasHeardOn note.view cpu.old.cpu cpu.new.cpu }
-    ensures deeds { IsPrefix note.deeds cpu.new.cpu.deeds }
+    ensures known_log { IsPrefix note.known_log cpu.new.cpu.known_log }
     ensures shown { WasShown note.view cpu.old.cpu cpu.new.cpu }
     ensures words { cpu.new.words ≡ cpu.old.words }
 {

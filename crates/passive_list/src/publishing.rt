@@ -6,7 +6,7 @@ ghost use Rattle.registry_values.specs.Slots.{key_of_record, is_taken, live_coun
 ghost use Rattle.protocol.specs.Events.{keeps_rightly, words_of};
 ghost use Rattle.registry_values.specs.Names.{is_lawful};
 ghost use Rattle.protocol.specs.State.{kept_at};
-ghost use Rattle.cpu_words.specs.Deeds.{IsAttachedKeeping};
+ghost use Rattle.cpu_words.specs.KeeperLog.{IsAttachedKeeping};
 ghost use Rattle.cpu_words.specs.Domains.{AreWordsOf};
 ghost use Rattle.cpu_words.specs.Vacating.{MayWrite};
 ghost use Rattle.passive_list.specs.Keepers.{AreSized};
@@ -14,22 +14,23 @@ ghost use Rattle.passive_list.specs.Publishing.{MayAttach, HasEntry, HasAttached
 
 use crate::keeper::{Keeper, KeptSlot, SlotState};
 use crate::links::link_below;
-use cpu_words::{Domain, KeeperSeat, Words, steps};
+use cpu_words::{KeeperSeat, Words, steps};
 use registry_values::{BIAS, Entry, Record, kind_word};
 
 /// Publishes an entry in `slot`: from now on lookups find it, and the history ends with its attach. Its number is how many changes there
 /// are then. It answers the entry.
 /// Condition: the slot is one of the table's and vacant, and keeps a reference exactly if the kind is Iface. The name is lawful, no live
 /// entry has this kind and name, and the history has room for this change and for the detach of each live entry, the new one too.
-pub fn publish<D: Domain>(words: &Words, keeper: &mut Keeper<D>, slot: u8, rec: Record) -> Entry
-    requires words { AreWordsOf words.now D.table D.settings }
-    requires vacant { (slot < D.settings.slots) × (slot_at keeper.old.slots slot ≡ Vacant) }
-    requires keeps { IsTrue (keeps_rightly (kept_at keeper.old.view.keeps slot) rec.kind) }
+pub fn publish(words: &Words, keeper: &mut Keeper, slot: u8, rec: Record) -> Entry
+    requires words { AreWordsOf words.now keeper.old.words.table keeper.old.words.settings }
+    requires vacant { (slot < keeper.old.words.settings.slots) × (slot_at keeper.old.keeper.slots slot ≡ Vacant) }
+    requires keeps { IsTrue (keeps_rightly (kept_at keeper.old.keeper.view.keeps slot) rec.kind) }
     requires name { IsTrue (is_lawful rec.name) }
-    requires free { is_taken (key_of_record rec) keeper.old.slots ≡ false }
-    requires room { length keeper.old.view.history + live_count keeper.old.slots + 2 ≤ D.settings.change_limit }
-    ensures entry { result ≡ record { number = suc (length keeper.old.view.history); slot = slot; rec = rec } }
-    ensures change { HasAttached keeper.old result keeper.new }
+    requires free { is_taken (key_of_record rec) keeper.old.keeper.slots ≡ false }
+    requires room { length keeper.old.keeper.view.history + live_count keeper.old.keeper.slots + 2 ≤ keeper.old.words.settings.change_limit }
+    ensures entry { result ≡ record { number = suc (length keeper.old.keeper.view.history); slot = slot; rec = rec } }
+    ensures change { HasAttached keeper.old.keeper result keeper.new.keeper }
+    ensures words { keeper.new.words ≡ keeper.old.words }
 {
     let entry = Entry {
         number: keeper.changes + 1,

@@ -11,17 +11,18 @@ ghost use Rattle.passive_list.specs.Retiring.{HasDetached, with_snapshots, AreSn
 
 use crate::keeper::{Keeper, KeptSlot, SlotState};
 use crate::links::{link_below, slot_above};
-use cpu_words::{Domain, KeeperSeat, Words, steps};
+use cpu_words::{KeeperSeat, Words, steps};
 use registry_values::{Entry, Mark, NO_MARK};
 
 /// Retires the live entry in `slot`: from now on lookups that begin don't find it, the history ends with its detach, and a section that
 /// may hold it is one that is open at a snapshot. It answers the entry.
 /// Condition: the slot's entry is live.
-pub fn retire<D: Domain>(words: &Words, keeper: &mut Keeper<D>, slot: u8) -> Entry
-    requires words { AreWordsOf words.now D.table D.settings }
-    requires live { (e : Entry) × (slot_at keeper.old.slots slot ≡ Live e) }
-    ensures entry { slot_at keeper.old.slots slot ≡ Live result }
-    ensures change { HasDetached keeper.old slot result keeper.new }
+pub fn retire(words: &Words, keeper: &mut Keeper, slot: u8) -> Entry
+    requires words { AreWordsOf words.now keeper.old.words.table keeper.old.words.settings }
+    requires live { (e : Entry) × (slot_at keeper.old.keeper.slots slot ≡ Live e) }
+    ensures entry { slot_at keeper.old.keeper.slots slot ≡ Live result }
+    ensures change { HasDetached keeper.old.keeper slot result keeper.new.keeper }
+    ensures words { keeper.new.words ≡ keeper.old.words }
 {
     let row = keeper.rows[slot as usize];
     let SlotState::Live(entry) = row.state else {

@@ -6,16 +6,16 @@ ghost use Rattle.cpu_words.specs.Domains.{AreWordsOf};
 ghost use Rattle.passive_list.specs.Vacating.{HasVacated, IsDrainedOn, is_drained_row};
 
 use crate::keeper::{Keeper, KeptSlot, SlotState};
-use cpu_words::{Domain, Words, steps};
+use cpu_words::{Words, steps};
 use registry_values::{BIAS, are_clear, are_collected, have_passed};
 
-impl<D: Domain> Keeper<D> {
+impl Keeper {
     /// Whether the entry in `slot` is retired and drained: all CPUs have passed, are clear and collected, and the total stands for no
     /// local reference.
     /// Condition: the slot is one of the table's.
     pub fn is_drained(&self, slot: u8) -> bool
-        requires { slot < D.settings.slots }
-        ensures { IsTrue result ↔ IsDrainedOn self.now slot }
+        requires { slot < self.now.words.settings.slots }
+        ensures { IsTrue result ↔ IsDrainedOn self.now.keeper slot }
     {
         is_drained_row(self.settings.cpus, &self.rows[slot as usize])
     }
@@ -23,11 +23,12 @@ impl<D: Domain> Keeper<D> {
 
 /// Makes the slot of a drained entry vacant: the event Vacate, with a load by which the keeper hears.
 /// Condition: the slot is drained (`Keeper::is_drained`), and keeps nothing (`Keeper::keeps`).
-pub fn vacate<D: Domain>(words: &Words, keeper: &mut Keeper<D>, slot: u8)
-    requires words { AreWordsOf words.now D.table D.settings }
-    requires drained { IsDrainedOn keeper.old slot }
-    requires keeps { kept_at keeper.old.view.keeps slot ≡ None }
-    ensures change { HasVacated keeper.old slot keeper.new }
+pub fn vacate(words: &Words, keeper: &mut Keeper, slot: u8)
+    requires words { AreWordsOf words.now keeper.old.words.table keeper.old.words.settings }
+    requires drained { IsDrainedOn keeper.old.keeper slot }
+    requires keeps { kept_at keeper.old.keeper.view.keeps slot ≡ None }
+    ensures change { HasVacated keeper.old.keeper slot keeper.new.keeper }
+    ensures words { keeper.new.words ≡ keeper.old.words }
 {
     steps::vacate(words, &mut keeper.seat, slot);
     keeper.rows[slot as usize].state = SlotState::Vacant;

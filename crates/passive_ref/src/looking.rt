@@ -14,23 +14,24 @@ ghost use Rattle.cpu_words.specs.Draining.{HasLookedPassive};
 ghost use Rattle.cpu_words.specs.Rule.{did};
 ghost use Rattle.cpu_words.specs.Steps.{Makes};
 
-use cpu_words::{Domain, Words, steps};
+use cpu_words::{Words, steps};
 use passive_list::Keeper;
 use registry_values::cleared;
 
 /// Looks at the passive word of a CPU for the retired entry in `slot`. True where the CPU has no passive reference to it left, by an
 /// earlier look or by this one: its word is 0, and no section may acquire one any more. It is counted as a look.
 /// Condition: the slot's entry is retired, the CPU is one of the table's, and all CPUs have passed (`Keeper::have_passed`).
-pub fn look_passive<D: Domain>(words: &Words, keeper: &mut Keeper<D>, slot: u8, cpu: u8) -> bool
-    requires words { AreWordsOf words.now D.table D.settings }
-    requires cpu { cpu < D.settings.cpus }
-    requires retired { (e : Entry) × (slot_at keeper.old.slots slot ≡ Retired e) }
-    requires passed { have_passed D.settings.cpus (slice_index_or keeper.old.view.marks slot []) ≡ true }
-    ensures clear { result ≡ (mark_at keeper.new.view.marks slot cpu).clear }
-    ensures change { (w : ℕ) × HasLookedPassive keeper.old.view slot cpu w keeper.new.view
-        × Makes (PassiveLook slot cpu) (Word w) (OfKeeper keeper.old.view) (OfKeeper keeper.new.view)
-        × (keeper.new.log ≡ keeper.old.log ++ did (PassiveLook slot cpu) (Word w)) }
-    ensures slots { keeper.new.slots ≡ keeper.old.slots }
+pub fn look_passive(words: &Words, keeper: &mut Keeper, slot: u8, cpu: u8) -> bool
+    requires words { AreWordsOf words.now keeper.old.words.table keeper.old.words.settings }
+    requires cpu { cpu < keeper.old.words.settings.cpus }
+    requires retired { (e : Entry) × (slot_at keeper.old.keeper.slots slot ≡ Retired e) }
+    requires passed { have_passed keeper.old.words.settings.cpus (slice_index_or keeper.old.keeper.view.marks slot []) ≡ true }
+    ensures clear { result ≡ (mark_at keeper.new.keeper.view.marks slot cpu).clear }
+    ensures change { (w : ℕ) × HasLookedPassive keeper.old.keeper.view slot cpu w keeper.new.keeper.view
+        × Makes (PassiveLook slot cpu) (Word w) (OfKeeper keeper.old.keeper.view) (OfKeeper keeper.new.keeper.view)
+        × (keeper.new.keeper.log ≡ keeper.old.keeper.log ++ did (PassiveLook slot cpu) (Word w)) }
+    ensures slots { keeper.new.keeper.slots ≡ keeper.old.keeper.slots }
+    ensures words { keeper.new.words ≡ keeper.old.words }
 {
     let word = steps::passive_look(words, &mut keeper.seat, slot, cpu);
     let mark = cleared(keeper.rows[slot as usize].marks[cpu as usize], word);

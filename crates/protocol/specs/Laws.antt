@@ -17,7 +17,7 @@ use Rattle.registry_values.specs.Balances.{bias}
 use Rattle.registry_values.specs.Slots.{slot_at}
 use Rattle.protocol.specs.Events.{Outcome, step, state_after}
 use Rattle.protocol.specs.Invariant.{Holds, IsIn, IsCounting, kept_of, held_at, one_if_used, itself}
-use Rattle.protocol.specs.Ran.{run_of_events, empty_run}
+use Rattle.protocol.specs.Run.{run_of_events, empty_run}
 use Rattle.protocol.specs.Model.{IsUnheld, IsModelRun}
 use Rattle.protocol.specs.Picture.{number_in, picture}
 

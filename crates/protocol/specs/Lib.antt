@@ -6,7 +6,7 @@ pub mod Loaded
 pub mod Marking
 pub mod Model
 pub mod Picture
-pub mod Ran
 pub mod Rows
+pub mod Run
 pub mod State
 pub mod Taken

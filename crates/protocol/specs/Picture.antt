@@ -11,7 +11,7 @@ use Rattle.registry_values.specs.Limits.{are_fit}
 use Rattle.protocol.specs.State.{State, begin_at, seen_at, search_at, found_at, kept_at, passive_at, opening}
 use Rattle.registry_values.specs.Slots.{slot_at, has_number, slot_of}
 use Rattle.protocol.specs.Invariant.{standing_of, in_hand}
-use Rattle.protocol.specs.Ran.{run_of_events, empty_run}
+use Rattle.protocol.specs.Run.{run_of_events, empty_run}
 use Rattle.protocol.specs.Model.{Model, Lookup, empty_model, IsModelRun}
 
 abbrev pub lookup_of : Option Search → Option Lookup

@@ -18,7 +18,7 @@ use Rattle.protocol.specs.State.{State, opening}
 use Rattle.registry_values.specs.Balances.{bias}
 use Rattle.registry_values.specs.Marks.{no_mark}
 use Rattle.protocol.specs.Events.{Outcome, step, state_after, words_of, snapshot_mark}
-use Rattle.protocol.specs.Ran.{run_of_events, empty_run}
+use Rattle.protocol.specs.Run.{run_of_events, empty_run}
 use Rattle.protocol.specs.Laws.{after}
 
 abbrev pub reply_of : Option Outcome → Option Reply

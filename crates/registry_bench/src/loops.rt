@@ -28,16 +28,17 @@ pub fn make<D: Domain, R: Wait>(
     match operation {
         Operation::Lookup => look_up_all(words, cpu, names, count),
         Operation::Batch => look_up_batches(words, cpu, names, count),
-        Operation::Passive => refer_passively(words, cpu, count),
+        Operation::Passive => refer_passively(words, cpu, names, false, count),
         Operation::Local => refer_locally(rt, words, cpu, count),
+        Operation::Get => refer_passively(words, cpu, names, true, count),
     }
 }
 
-/// Begins a section in which the last entry was found, for what acquires references to it; lookups begin their own.
+/// Begins a section in which the last entry was found, for the pairs that acquire references to it; all else begins its own.
 pub fn prepare<D: Domain>(words: &Words, cpu: &mut Cpu<D>, names: &[Name], operation: Operation)
     requires words { AreWordsOf words.now D.table D.settings }
 {
-    if operation == Operation::Lookup || operation == Operation::Batch {
+    if operation != Operation::Passive && operation != Operation::Local {
         return;
     }
     if let Some(name) = names.last() {
@@ -141,22 +142,45 @@ fn found_value<D: Domain>(words: &Words, cpu: &mut Cpu<D>, name: &Name) -> Optio
     find(words, cpu, Kind::Driver, name).map(|entry| entry.rec.value)
 }
 
-/// Acquires and releases passive references to the last found entry, until one is refused.
-fn refer_passively<D: Domain>(words: &Words, cpu: &mut Cpu<D>, count: u32) -> u32
+/// Acquires and releases passive references, until one is refused or an answer is wrong: to the last found entry, or each to the next name's,
+/// by a section of its own. One loop for both: where acquire and release have one caller each, the compiler puts them in line.
+fn refer_passively<D: Domain>(
+    words: &Words,
+    cpu: &mut Cpu<D>,
+    names: &[Name],
+    alone: bool,
+    count: u32,
+) -> u32
     requires words { AreWordsOf words.now D.table D.settings }
 {
+    let mut place = 0;
     for made in 0..count {
-        if !passive_pair(words, cpu) {
+        if alone {
+            if place >= names.len() || begin_at(words, cpu, &names[place]) != Some(place as u64) {
+                return made;
+            }
+            place = if place + 1 < names.len() {
+                place + 1
+            } else {
+                0
+            };
+        }
+        if !passive_pair(words, cpu, alone) {
             return made;
         }
     }
     count
 }
 
-fn passive_pair<D: Domain>(words: &Words, cpu: &mut Cpu<D>) -> bool
+/// Acquires a reference to the last found entry and releases it, and ends the section between the two where that is asked for.
+fn passive_pair<D: Domain>(words: &Words, cpu: &mut Cpu<D>, ends: bool) -> bool
     requires words { AreWordsOf words.now D.table D.settings }
 {
-    let Ok(reference) = acquire(words, cpu) else {
+    let acquired = acquire(words, cpu);
+    if ends {
+        leave(words, cpu);
+    }
+    let Ok(reference) = acquired else {
         return false;
     };
     match release(words, cpu, reference) {
@@ -198,13 +222,14 @@ fn hold<D: Domain, R: Wait>(rt: &R, _reference: LocalRef<D>) -> bool {
     unreachable!()
 }
 
-/// Begins a section and finds the entry in it, so that references to it can be acquired.
-fn begin_at<D: Domain>(words: &Words, cpu: &mut Cpu<D>, name: &Name)
+/// Begins a section and finds the driver in it, so that references to it can be acquired. It answers the value found.
+fn begin_at<D: Domain>(words: &Words, cpu: &mut Cpu<D>, name: &Name) -> Option<u64>
     requires words { AreWordsOf words.now D.table D.settings }
 {
-    if enter(words, cpu).is_ok() && cpu.inside() {
-        find(words, cpu, Kind::Driver, name);
+    if enter(words, cpu).is_err() || !cpu.inside() {
+        return None;
     }
+    found_value(words, cpu, name)
 }
 
 /// Ends the section, where there is one.

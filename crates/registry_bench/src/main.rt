@@ -2,6 +2,7 @@
 //! others read.
 #![tactic(auto)]
 
+mod changes;
 mod gate;
 mod loops;
 mod measure;
@@ -9,7 +10,8 @@ mod opening;
 mod parts;
 mod waiting;
 
-use bench_plans::{Failure, MOST_ENTRIES, MOST_THREADS, Operation, Plan, WaitPlan};
+use bench_plans::{Failure, MOST_ENTRIES, MOST_THREADS, Operation, RunPlan, WaitPlan, changes_of};
+use changes::{Changes, measure_changes};
 use measure::measure;
 use parts::Parts;
 use std::alloc::Global;
@@ -32,9 +34,11 @@ enum Task {
     /// A line for each count of threads.
     Every,
     /// One line.
-    One(Plan),
-    /// One line, of changes.
+    One(RunPlan),
+    /// One line, of changes while others read.
     Wait(WaitPlan),
+    /// One line, of each call behind the interlock, made so many times.
+    Changes(u32),
     /// What was done, and no time.
     Check,
 }
@@ -44,6 +48,7 @@ fn main(rt: HostRuntime) -> ExitCode {
         Ok(Task::Every) => run_every(&rt),
         Ok(Task::One(plan)) => run_one(&rt, plan),
         Ok(Task::Wait(plan)) => run_waiting(&rt, plan),
+        Ok(Task::Changes(count)) => run_changes(&rt, count),
         Ok(Task::Check) => check(&rt),
         Err(failure) => Err(failure),
     };
@@ -65,7 +70,8 @@ fn chosen(rt: &(impl Env + Alloc<A = Global>)) -> Result<Task, Failure> {
     };
     let task = match word.as_str() {
         "check" => Task::Check,
-        "run" => Task::One(Plan::parse(words.next(), words.next(), words.next())?),
+        "run" => Task::One(RunPlan::parse(words.next(), words.next(), words.next())?),
+        "changes" => Task::Changes(changes_of(words.next())?),
         "wait" => Task::Wait(WaitPlan::parse([
             words.next(),
             words.next(),
@@ -86,7 +92,7 @@ fn run_every<R: Print + Alloc<A = Global> + Threads + Wait + Clock + Sync>(
     rt: &R,
 ) -> Result<(), Failure> {
     for threads in 1..MOST_THREADS + 1 {
-        let plan = Plan {
+        let plan = RunPlan {
             threads,
             entries: ENTRIES,
             operations: OPERATIONS,
@@ -99,9 +105,9 @@ fn run_every<R: Print + Alloc<A = Global> + Threads + Wait + Clock + Sync>(
 /// Prints the nanoseconds of each operation on one line.
 fn run_one<R: Print + Alloc<A = Global> + Threads + Wait + Clock + Sync>(
     rt: &R,
-    plan: Plan,
+    plan: RunPlan,
 ) -> Result<(), Failure> {
-    let Plan {
+    let RunPlan {
         threads,
         entries,
         operations,
@@ -110,9 +116,9 @@ fn run_one<R: Print + Alloc<A = Global> + Threads + Wait + Clock + Sync>(
     let batch = measure(rt, rt.alloc(), plan, Operation::Batch)?.nanoseconds_each(operations);
     let passive = measure(rt, rt.alloc(), plan, Operation::Passive)?.nanoseconds_each(operations);
     let local = measure(rt, rt.alloc(), plan, Operation::Local)?.nanoseconds_each(operations);
-    println!(rt;
-        "threads {threads} entries {entries} lookup {lookup:.2} batch {batch:.2} passive {passive:.2} local {local:.2}"
-    )?;
+    let get = measure(rt, rt.alloc(), plan, Operation::Get)?.nanoseconds_each(operations);
+    print!(rt; "threads {threads} entries {entries} lookup {lookup:.2} batch {batch:.2}")?;
+    println!(rt; " passive {passive:.2} local {local:.2} get {get:.2}")?;
     Ok(())
 }
 
@@ -149,12 +155,31 @@ fn run_waiting<R: Print + Alloc<A = Global> + Threads + Wait + Clock + Sync>(
     Ok(())
 }
 
+/// Prints the nanoseconds of each call behind the interlock on one line.
+fn run_changes<R: Print + Alloc<A = Global> + Wait + Clock>(
+    rt: &R,
+    count: u32,
+) -> Result<(), Failure> {
+    let Changes {
+        attach,
+        detach,
+        freed,
+        grace,
+        local,
+        perform,
+        audit,
+    } = measure_changes(rt, rt.alloc(), count)?;
+    print!(rt; "changes {count} attach {attach:.1} detach {detach:.1} freed {freed:.1}")?;
+    println!(rt; " grace {grace:.1} local {local:.1} perform {perform:.1} audit {audit:.1}")?;
+    Ok(())
+}
+
 /// Prints how many operations of each kind went as they should, and no time.
 fn check<R: Print + Alloc<A = Global> + Threads + Wait + Clock + Sync>(
     rt: &R,
 ) -> Result<(), Failure> {
     for entries in [1, 8, MOST_ENTRIES] {
-        let plan = Plan {
+        let plan = RunPlan {
             threads: 2,
             entries,
             operations: 100,
@@ -163,9 +188,9 @@ fn check<R: Print + Alloc<A = Global> + Threads + Wait + Clock + Sync>(
         let batches = measure(rt, rt.alloc(), plan, Operation::Batch)?.right;
         let passives = measure(rt, rt.alloc(), plan, Operation::Passive)?.right;
         let locals = measure(rt, rt.alloc(), plan, Operation::Local)?.right;
-        println!(rt;
-            "threads 2 entries {entries} lookups {lookups} batches {batches} passives {passives} locals {locals}"
-        )?;
+        let gets = measure(rt, rt.alloc(), plan, Operation::Get)?.right;
+        print!(rt; "threads 2 entries {entries} lookups {lookups} batches {batches}")?;
+        println!(rt; " passives {passives} locals {locals} gets {gets}")?;
     }
     check_waiting(rt)
 }
@@ -188,5 +213,7 @@ fn check_waiting<R: Print + Alloc<A = Global> + Threads + Wait + Clock + Sync>(
             plan.count
         )?;
     }
+    measure_changes(rt, rt.alloc(), 20)?;
+    println!(rt; "changes 20")?;
     Ok(())
 }

@@ -6,7 +6,7 @@ ghost use Rattle.name_registry.specs.Opening.{IsBlankOf};
 use crate::gate::Gate;
 use crate::loops::{leave, make, prepare};
 use crate::opening::{attach_all, settings_for};
-use bench_plans::{Failure, Operation, Plan};
+use bench_plans::{Failure, Operation, RunPlan};
 use cpu_words::Domain;
 use name_registry::{Blank, Registry};
 use passive_list::Cpu;
@@ -24,22 +24,22 @@ const WARMING: u32 = 3;
 
 /// What a thread, or all of them, did: how many operations went as they should, and when the first began and the last ended.
 #[derive(Clone, Copy)]
-pub struct Ran {
+pub struct Measured {
     /// How many operations went as they should.
     pub right: u64,
     began: Instant,
     ended: Instant,
 }
 
-impl Ran {
+impl Measured {
     /// The nanoseconds that an operation took its thread: from the first thread's first operation to the last thread's last, over the
     /// operations of one thread.
     pub fn nanoseconds_each(&self, operations: u32) -> f64 {
         self.ended.duration_since(self.began).as_secs_f64() * 1e9 / f64::from(operations)
     }
 
-    fn with(self, other: Ran) -> Ran {
-        Ran {
+    fn with(self, other: Measured) -> Measured {
+        Measured {
             right: self.right.wrapping_add(other.right),
             began: self.began.min(other.began),
             ended: self.ended.max(other.ended),
@@ -52,9 +52,9 @@ impl Ran {
 pub fn measure<R: Threads + Wait + Clock + Sync>(
     rt: &R,
     alloc: Global,
-    plan: Plan,
+    plan: RunPlan,
     operation: Operation,
-) -> Result<Ran, Failure> {
+) -> Result<Measured, Failure> {
     let blank = Blank::new(alloc, settings_for(plan.threads, plan.entries))?;
     let ran = measure_on::<Brand, R>(rt, alloc, blank, plan, operation)?;
     if ran.right != u64::from(plan.threads) * u64::from(plan.operations) {
@@ -68,9 +68,9 @@ fn measure_on<D: Domain + Send + Sync, R: Threads + Wait + Clock + Sync>(
     rt: &R,
     alloc: Global,
     blank: Blank,
-    plan: Plan,
+    plan: RunPlan,
     operation: Operation,
-) -> Result<Ran, Failure>
+) -> Result<Measured, Failure>
     requires { IsBlankOf blank D.table D.settings D.name D.parts }
 {
     let Ok((registry, mut cpus)) = blank.open::<D>(alloc) else {
@@ -84,7 +84,7 @@ fn measure_on<D: Domain + Send + Sync, R: Threads + Wait + Clock + Sync>(
     let all = thread::map_vec(
         rt,
         cpus,
-        &|cpu: Cpu<D>| -> io::Result<Ran> {
+        &|cpu: Cpu<D>| -> io::Result<Measured> {
             run(
                 rt,
                 &registry,
@@ -108,7 +108,7 @@ fn run<D: Domain, R: Wait + Clock>(
     operation: Operation,
     count: u32,
     gate: &Gate,
-) -> io::Result<Ran> {
+) -> io::Result<Measured> {
     let words = registry.words();
     prepare(words, &mut cpu, names, operation);
     make(rt, words, &mut cpu, names, operation, count / WARMING);
@@ -117,7 +117,7 @@ fn run<D: Domain, R: Wait + Clock>(
     let right = make(rt, words, &mut cpu, names, operation, count);
     let ended = Instant::now(rt)?;
     leave(words, &mut cpu);
-    Ok(Ran {
+    Ok(Measured {
         right: u64::from(right),
         began,
         ended,
@@ -125,8 +125,8 @@ fn run<D: Domain, R: Wait + Clock>(
 }
 
 /// What all threads did together.
-fn together(all: Vec<io::Result<Ran>>) -> Result<Ran, Failure> {
-    let mut sum: Option<Ran> = None;
+fn together(all: Vec<io::Result<Measured>>) -> Result<Measured, Failure> {
+    let mut sum: Option<Measured> = None;
     for ran in all {
         let ran = ran?;
         sum = Some(match sum {

@@ -8,8 +8,9 @@ use Rattle.passive_list.specs.Keepers.{OnKeeper}
 use Rattle.registry_c.specs.declared.audit.CBalance.{CBalance}
 use Rattle.registry_c.specs.declared.values.TheConstants.{DONE, NO_ROOM}
 use Rattle.registry_c.specs.Audits.{AreAllHere, AuditWrites, Audits, occupied}
+use Rattle.registry_c.specs.Places.{put}
 
-module _ (z : Settings) (k : OnKeeper) (cs : List (Option OnPlainCpu)) (old new : List CBalance) (count count' : ℕ) where
+module _ (z : Settings) (k : OnKeeper) (cs : List (Option OnPlainCpu)) (old new : List CBalance) (count count' : Option ℕ) where
   pub missing_cpu : (AreAllHere z.cpus cs → ⊥) → new ≡ old → count' ≡ count → Audits z k cs (number_of_refusal MissingCpu) old new count count'
   missing_cpu missing same left = record {
     missing = λ _. (refl, same, left);
@@ -17,14 +18,14 @@ module _ (z : Settings) (k : OnKeeper) (cs : List (Option OnPlainCpu)) (old new 
     enough = λ all _. absurd (missing all);
   }
 
-  pub no_room : AreAllHere z.cpus cs → length old < occupied k z.slots → new ≡ old → count' ≡ occupied k z.slots → Audits z k cs NO_ROOM old new count count'
+  pub no_room : AreAllHere z.cpus cs → length old < occupied k z.slots → new ≡ old → count' ≡ put count (occupied k z.slots) → Audits z k cs NO_ROOM old new count count'
   no_room all short same counted = record {
     missing = λ missing. absurd (missing all);
     short = λ _ _. (refl, same, counted);
     enough = λ _ room. absurd (omega (arith, short, room));
   }
 
-  pub audited : AreAllHere z.cpus cs → occupied k z.slots ≤ length old → AuditWrites z k cs old new → count' ≡ occupied k z.slots → Audits z k cs DONE old new count count'
+  pub audited : AreAllHere z.cpus cs → occupied k z.slots ≤ length old → AuditWrites z k cs old new → count' ≡ put count (occupied k z.slots) → Audits z k cs DONE old new count count'
   audited all room writes counted = record {
     missing = λ missing. absurd (missing all);
     short = λ _ short. absurd (omega (arith, short, room));

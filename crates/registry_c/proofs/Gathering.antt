@@ -1,4 +1,4 @@
--- How an audit lets all know the same of the keeper's deeds, through the handles.
+-- How an audit lets all know the same of the keeper's log, through the handles.
 use Rattle.std.proofs.Common.{◌≡◌, ⊎_elim, ℕ, zero, suc, ◌+◌, ◌<◌, ◌≤◌, List, [], ◌∷◌, length, get_or, set, Option, Some, refl, sym, ap, ◌∙◌, subst, arith}
 use Rattle.std.proofs.lemmas.Bool.{cases_eq, cases_lt}
 use Rattle.std.proofs.lemmas.List.{length-map}
@@ -8,7 +8,7 @@ use lib.ListN.{get_elem?}
 use Rattle.atomic_table.specs.Seated.{TableId}
 use Rattle.registry_values.specs.declared.entry.Change.{Change}
 use Rattle.cpu_words.specs.Views.{Named}
-use Rattle.cpu_words.specs.declared.view.Deed.{Deed}
+use Rattle.cpu_words.specs.declared.view.LogItem.{LogItem}
 use Rattle.passive_list.specs.Cpus.{OnCpu, OnPlainCpu}
 use Rattle.name_registry.proofs.Gathered.{Gathered, gathered_learned, gathered_more, learned_none}
 use Rattle.registry_c.specs.declared.handle.CpuHandle.{CpuHandle}
@@ -36,12 +36,12 @@ body_set (g ∷ hs) zero h lt = refl
 body_set (g ∷ hs) (suc c) h lt = body_set hs c h (omega (arith, lt))
 
 -- what passes it on, of whatever stands behind the handle
-abbrev pub PassesAt : CpuHandle → CpuHandle → List Change → List Deed → TableId → List Deed → Type 0
-PassesAt h after note deeds table told = (b : OnPlainCpu) → h.body ≡ Some b → PassesOn b after.body note deeds table told
+abbrev pub PassesAt : CpuHandle → CpuHandle → List Change → List LogItem → TableId → List LogItem → Type 0
+PassesAt h after note known_log table told = (b : OnPlainCpu) → h.body ≡ Some b → PassesOn b after.body note known_log table told
 
-pub behind_more : (cs : List (Option OnPlainCpu)) (hs : List CpuHandle) (n : ℕ) (d h : CpuHandle) (note : List Change) (deeds : List Deed) (table : TableId) (told : List Deed) → n < length hs → PassesAt (get_or hs n d) h note deeds table told
+pub behind_more : (cs : List (Option OnPlainCpu)) (hs : List CpuHandle) (n : ℕ) (d h : CpuHandle) (note : List Change) (known_log : List LogItem) (table : TableId) (told : List LogItem) → n < length hs → PassesAt (get_or hs n d) h note known_log table told
     → SameBehind cs (bodies_of hs) → SameBehind cs (bodies_of (set hs n h))
-behind_more cs hs n d h note deeds table told lt passes same c b at = ⊎_elim
+behind_more cs hs n d h note known_log table told lt passes same c b at = ⊎_elim
     (λ (here : c ≡ n).
     let was = same n b (ap (body_at cs) (sym here) ∙ at) in
     let p = passes was.0 (sym (body_is hs n d lt) ∙ was.1) in
@@ -51,13 +51,13 @@ behind_more cs hs n d h note deeds table told lt passes same c b at = ⊎_elim
     (was.0, others_stay hs n c h off ∙ was.1, was.2))
     (cases_eq c n)
 
-pub gathered_next : (cs : List (Option OnPlainCpu)) (hs : List CpuHandle) (n : ℕ) (log : List Deed) (d h : CpuHandle) (b : OnPlainCpu) (note : List Change) (deeds : List Deed) (table : TableId) (told : List Deed) → n < length hs → body_at cs n ≡ Some b
-    → PassesAt (get_or hs n d) h note deeds table told → SameBehind cs (bodies_of hs) → Gathered (cpus_in cs) (cpus_in (bodies_of hs)) n log deeds → Gathered (cpus_in cs) (cpus_in (bodies_of (set hs n h))) (n + 1) log told
-gathered_next cs hs n log d h b note deeds table told lt at passes same so_far =
+pub gathered_next : (cs : List (Option OnPlainCpu)) (hs : List CpuHandle) (n : ℕ) (log : List LogItem) (d h : CpuHandle) (b : OnPlainCpu) (note : List Change) (known_log : List LogItem) (table : TableId) (told : List LogItem) → n < length hs → body_at cs n ≡ Some b
+    → PassesAt (get_or hs n d) h note known_log table told → SameBehind cs (bodies_of hs) → Gathered (cpus_in cs) (cpus_in (bodies_of hs)) n log known_log → Gathered (cpus_in cs) (cpus_in (bodies_of (set hs n h))) (n + 1) log told
+gathered_next cs hs n log d h b note known_log table told lt at passes same so_far =
     let was = same n b at in
     let p = passes was.0 (sym (body_is hs n d lt) ∙ was.1) in
     subst (λ ys. Gathered (cpus_in cs) ys (n + 1) log told) (sym (cpus_set hs n h p.body p.is))
-    (gathered_more (cpus_in cs) (cpus_in (bodies_of hs)) n log deeds told note was.0.cpu p.body.cpu so_far (at_behind (bodies_of hs) n was.0 was.1) p.heard p.knows p.shown p.note)
+    (gathered_more (cpus_in cs) (cpus_in (bodies_of hs)) n log known_log told note was.0.cpu p.body.cpu so_far (at_behind (bodies_of hs) n was.0 was.1) p.heard p.knows p.shown p.note)
 
 -- the next handle has a CPU, whose table the note is of
 pub behind_next : (cpus : ℕ) (w : Named) (cs : List (Option OnPlainCpu)) (hs : List CpuHandle) (n : ℕ) (d : CpuHandle) (table : TableId) → AreAllHere cpus cs → ((c : ℕ) (b : OnPlainCpu) → body_at cs c ≡ Some b → b.words ≡ w) → n < cpus → n < length hs → table ≡ w.table → SameBehind cs (bodies_of hs)
@@ -67,9 +67,9 @@ behind_next cpus w cs hs n d table all named low lt is same =
     let was = same n has.0 has.1 in
     (was.0, sym (body_is hs n d lt) ∙ was.1, is ∙ sym (ap (λ (x : Named). x.table) (was.2 ∙ named n has.0 has.1)))
 
-pub passed_table : (cpus : ℕ) (w : Named) (cs : List (Option OnPlainCpu)) (hs : List CpuHandle) (n : ℕ) (d h : CpuHandle) (note : List Change) (deeds : List Deed) (table : TableId) (told : List Deed) → AreAllHere cpus cs → ((c : ℕ) (b : OnPlainCpu) → body_at cs c ≡ Some b → b.words ≡ w) → n < cpus → n < length hs
-    → PassesAt (get_or hs n d) h note deeds table told → SameBehind cs (bodies_of hs) → table ≡ w.table
-passed_table cpus w cs hs n d h note deeds table told all named low lt passes same =
+pub passed_table : (cpus : ℕ) (w : Named) (cs : List (Option OnPlainCpu)) (hs : List CpuHandle) (n : ℕ) (d h : CpuHandle) (note : List Change) (known_log : List LogItem) (table : TableId) (told : List LogItem) → AreAllHere cpus cs → ((c : ℕ) (b : OnPlainCpu) → body_at cs c ≡ Some b → b.words ≡ w) → n < cpus → n < length hs
+    → PassesAt (get_or hs n d) h note known_log table told → SameBehind cs (bodies_of hs) → table ≡ w.table
+passed_table cpus w cs hs n d h note known_log table told all named low lt passes same =
     let has = all.each n low in
     let was = same n has.0 has.1 in
     let p = passes was.0 (sym (body_is hs n d lt) ∙ was.1) in
@@ -78,15 +78,15 @@ passed_table cpus w cs hs n d h note deeds table told all named low lt passes sa
 same_size : (cs : List (Option OnPlainCpu)) (hs : List CpuHandle) → length (cpus_in (bodies_of hs)) ≡ length (cpus_in cs) → length (bodies_of hs) ≡ length cs
 same_size cs hs size = sym (length-map (bodies_of hs) cpu_in) ∙ (size ∙ length-map cs cpu_in)
 
-pub gathered_size : (cs : List (Option OnPlainCpu)) (hs : List CpuHandle) (n : ℕ) (log deeds : List Deed) → Gathered (cpus_in cs) (cpus_in (bodies_of hs)) n log deeds → length hs ≡ length cs
-gathered_size cs hs n log deeds so_far = sym (count_bodies hs) ∙ same_size cs hs so_far.size
+pub gathered_size : (cs : List (Option OnPlainCpu)) (hs : List CpuHandle) (n : ℕ) (log known_log : List LogItem) → Gathered (cpus_in cs) (cpus_in (bodies_of hs)) n log known_log → length hs ≡ length cs
+gathered_size cs hs n log known_log so_far = sym (count_bodies hs) ∙ same_size cs hs so_far.size
 
 pub cpus_size : (hs : List CpuHandle) → length (cpus_in (bodies_of hs)) ≡ length hs
 cpus_size hs = length-map (bodies_of hs) cpu_in ∙ count_bodies hs
 
 -- all have heard
-pub all_heard : (cpus : ℕ) (cs : List (Option OnPlainCpu)) (hs : List CpuHandle) (n : ℕ) (log deeds : List Deed) → AreAllHere cpus cs → Gathered (cpus_in cs) (cpus_in (bodies_of hs)) n log deeds → length hs ≤ n → SameBehind cs (bodies_of hs) → HaveHeard cs (bodies_of hs)
-all_heard cpus cs hs n log deeds all so_far done same =
+pub all_heard : (cpus : ℕ) (cs : List (Option OnPlainCpu)) (hs : List CpuHandle) (n : ℕ) (log known_log : List LogItem) → AreAllHere cpus cs → Gathered (cpus_in cs) (cpus_in (bodies_of hs)) n log known_log → length hs ≤ n → SameBehind cs (bodies_of hs) → HaveHeard cs (bodies_of hs)
+all_heard cpus cs hs n log known_log all so_far done same =
     let size = same_size cs hs so_far.size in
     record {
       size = size;
@@ -95,7 +95,7 @@ all_heard cpus cs hs n log deeds all so_far done same =
           (λ (low : c < cpus). let has = all.each c low in absurd (none-some has.0 (sym at ∙ has.1)))
           (λ (past : cpus ≤ c). none_past (bodies_of hs) c (let count = all.count in omega (arith, past, size, count)))
           (cases_lt c cpus);
-      learned = gathered_learned (cpus_in cs) (cpus_in (bodies_of hs)) n log deeds so_far (let long = cpus_size hs in omega (arith, done, long));
+      learned = gathered_learned (cpus_in cs) (cpus_in (bodies_of hs)) n log known_log so_far (let long = cpus_size hs in omega (arith, done, long));
     }
 
 -- none has

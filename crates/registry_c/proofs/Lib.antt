@@ -4,12 +4,12 @@ pub mod Named
 pub mod Collected
 pub mod Acquired
 pub mod Seats
+pub mod Sent
 pub mod Opened
 pub mod Gathering
 pub mod Handles
 pub mod Audited
 pub mod Written
-pub mod Made
 pub mod Here
 pub mod Opens
 pub mod AuditsAnswered
@@ -17,3 +17,4 @@ pub mod Numbered
 pub mod Gone
 pub mod Turned
 pub mod Waits
+pub mod UsualCalls

@@ -1,7 +1,6 @@
 -- No entry that the keeper has as retired has the number 0, which stands for none in a wait.
 use Rattle.std.proofs.Common.{◌≡◌, ne_eqb, Bool, if◌then◌else◌, ℕ, ◌<◌, List, [], ◌∷◌, get_or, map, Option, Some, None, refl, sym, ap, ◌∙◌, subst, arith, zero, suc}
 use Rattle.std.proofs.lemmas.Option.{same_Some}
-use Rattle.atomic_table.specs.Seated.{TableId}
 use Rattle.registry_values.specs.declared.entry.Change.TheVariants.{Attach}
 use Rattle.registry_values.specs.declared.entry.Entry.{Entry}
 use Rattle.registry_values.specs.declared.settings.Settings.{Settings}
@@ -9,7 +8,7 @@ use Rattle.registry_values.specs.declared.slot.Slot.{Slot}
 use Rattle.registry_values.specs.declared.slot.Slot.TheVariants.{Vacant, Live, Retired}
 use Rattle.registry_values.specs.Slots.{retired_number, slot_at}
 use Rattle.protocol.proofs.history.History.{at_within}
-use Rattle.cpu_words.specs.declared.view.Deed.{Deed}
+use Rattle.cpu_words.specs.declared.view.LogItem.{LogItem}
 use Rattle.cpu_words.specs.declared.view.KeeperView.{KeeperView}
 use Rattle.cpu_words.specs.Rule.{IsShown}
 use Rattle.cpu_words.proofs.by_keeper.KeeperSees.{seen_by_keeper}
@@ -30,9 +29,9 @@ some_number k t e is_shown at =
     let there : slot_at is_shown.g.slots t ≡ Retired e = ap (λ (x : List Slot). slot_at x t) (sym seen.slots) ∙ at in
     (at_within is_shown.g.history e.number (Attach e) (is_shown.good.holds.slots.retired t e there).0).0
 
-pub numbered : {log : List Deed} (z : TableId) (a : Settings) (table : TableId) (k : KeeperView) (its : Settings) (rows : List KeptSlot) (n : ℕ) (x : OnKeeper) (t m : ℕ) → IsOurKeeper z a table k its rows n → record { view = k; slots = states_of rows; log = log } ≡ x
+pub numbered : {log : List LogItem} (a : Settings) (k : KeeperView) (rows : List KeptSlot) (n : ℕ) (x : OnKeeper) (t m : ℕ) → IsOurKeeper a k rows n → record { view = k; slots = states_of rows; log = log } ≡ x
     → retired_number (slot_at x.slots t) ≡ Some m → 0 < m
-numbered z a table k its rows n x t m our is retired =
+numbered a k rows n x t m our is retired =
     let there = retired_some (slot_at (states_of rows) t) m (ap (λ (y : OnKeeper). retired_number (slot_at y.slots t)) is ∙ retired) in
     let known = retired_in a k rows t there.0 our.rows there.1 in
     subst (λ (j : ℕ). 0 < j) there.2 (some_number k t there.0 our.is_shown known.1)

@@ -7,18 +7,18 @@ use Rattle.registry_values.specs.Refusals.{number_of_refusal}
 use Rattle.passive_list.specs.Cpus.{OnPlainCpu}
 use Rattle.registry_c.specs.declared.values.TheConstants.{FULL_HANDLE}
 use Rattle.registry_c.specs.declared.values.CSettings.{CSettings}
-use Rattle.registry_c.specs.Bodies.{OnKeeperBody}
+use Rattle.passive_list.specs.Keepers.{OnPlainKeeper}
 use Rattle.registry_c.specs.Opening.{AreEmpty, HasOpened, IsFull, IsSomeFull, Opens, StaysClosed}
 use Rattle.registry_c.specs.Values.{settings_in}
 use Rattle.registry_c.proofs.Acquired.{no_body}
 
-none_full : (k : Option OnKeeperBody) (cs : List (Option OnPlainCpu)) → k ≡ None → AreEmpty cs → IsFull k cs → ⊥
+none_full : (k : Option OnPlainKeeper) (cs : List (Option OnPlainCpu)) → k ≡ None → AreEmpty cs → IsFull k cs → ⊥
 none_full k cs none empty full = ⊎_elim
-    (λ (some : (a : OnKeeperBody) × (k ≡ Some a)). no_body k some.0 some.1 none)
+    (λ (some : (a : OnPlainKeeper) × (k ≡ Some a)). no_body k some.0 some.1 none)
     (λ (some : IsSomeFull cs). no_body _ some.1 some.2 (empty some.0))
     full
 
-module _ (given : CSettings) (k k' : Option OnKeeperBody) (cs cs' : List (Option OnPlainCpu)) where
+module _ (given : CSettings) (k k' : Option OnPlainKeeper) (cs cs' : List (Option OnPlainCpu)) where
   pub bad_settings : are_fit (settings_in given) ≡ false → StaysClosed k k' cs cs' → Opens given k k' cs cs' (number_of_refusal BadSettings)
   bad_settings unfit stays = record {
     bad = λ _. (refl, stays);

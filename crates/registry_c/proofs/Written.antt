@@ -1,9 +1,10 @@
 -- A text is written byte by byte, and a zero after it.
-use Rattle.std.proofs.Common.{◌≡◌, ◌≢◌, ⊎_elim, ℕ, suc, ◌+◌, ◌-◌, ◌<◌, ◌≤◌, List, length, get_or, set, refl, sym, ap, ◌∙◌, arith, length-set}
+use Rattle.std.proofs.Common.{◌≡◌, ◌≢◌, ⊎_elim, ℕ, zero, suc, ◌+◌, ◌-◌, ◌<◌, ◌≤◌, List, [], ◌∷◌, length, get_or, set, take, Option, Some, None, refl, sym, ap, ◌∙◌, arith, length-set}
 use Rattle.std.proofs.lemmas.Bool.{cases_lt}
 use Rattle.std.proofs.lemmas.List.{get_or-set_other, get_or-set_same}
 use mathlib.Core.Logic.{dite}
 use native.Mathlib.Decide.{ℕ_discrete}
+use Rattle.held.specs.Rows.{IsThere, number_at}
 use Rattle.registry_c.specs.Texts.{IsWritten}
 
 -- the first k bytes of the text are there, and the others are as before
@@ -52,3 +53,22 @@ not_written t first none = record {
   cut = λ short some. absurd (omega (arith, some, none));
   rest = λ k past. refl;
 }
+
+-- the first k of the bytes are in the first places of a row
+pub record AreRead (bytes : Option (List ℕ)) (row : List ℕ) (k : ℕ) : Type 0 where
+  pub size : length row ≡ 15
+  pub done : (j : ℕ) → j < k → get_or row j 0 ≡ number_at bytes j
+
+same_first : (n : ℕ) (row xs : List ℕ) → length xs ≡ n → n ≤ length row → ((j : ℕ) → j < n → get_or row j 0 ≡ get_or xs j 0) → take n row ≡ xs
+same_first zero row [] count room same = refl
+same_first zero row (x ∷ xs) count room same = absurd (omega (arith, count))
+same_first (suc n) row [] count room same = absurd (omega (arith, count))
+same_first (suc n) [] (x ∷ xs) count room same = absurd (omega (arith, room))
+same_first (suc n) (r ∷ row) (x ∷ xs) count room same =
+    let rest = same_first n row xs (omega (arith, count)) (omega (arith, room)) (λ j lt. same (suc j) (omega (arith, lt))) in
+    λ i. same 0 (omega arith) i ∷ rest i
+
+-- all of them are
+pub all_read : (bytes : Option (List ℕ)) (row : List ℕ) (n : ℕ) → IsThere bytes n → n ≤ 15 → AreRead bytes row n → bytes ≡ Some (take n row)
+all_read None row n there few so_far = absurd there
+all_read (Some xs) row n there few so_far = ap Some (sym (same_first n row xs there (omega (arith, few, so_far.size)) so_far.done))

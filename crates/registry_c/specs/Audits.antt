@@ -11,21 +11,22 @@ use Rattle.protocol.specs.Invariant.{IsIn}
 use Rattle.registry_values.specs.Refusals.{number_of_refusal}
 use Rattle.cpu_words.specs.Views.{new_cpu, no_settings}
 use Rattle.passive_list.specs.Cpus.{OnCpu, OnPlainCpu}
-use Rattle.passive_list.specs.Keepers.{OnKeeper}
+use Rattle.passive_list.specs.Keepers.{OnKeeper, OnPlainKeeper}
 use Rattle.name_registry.specs.Auditing.{HasListened, HaveLearned, IsKeeperOf, IsTallied, places_below, tallies_below, tallies_met, tally_met}
-use Rattle.registry_c.specs.declared.values.TheConstants.{DONE, EMPTY_HANDLE, NO_ROOM}
+use Rattle.registry_c.specs.declared.values.TheConstants.{DONE, NO_ROOM, NULL}
 use Rattle.registry_c.specs.declared.audit.CBalance.{CBalance}
-use Rattle.registry_c.specs.Bodies.{OnKeeperBody}
 use Rattle.atomic_table.specs.Seated.{TableId}
 use mathlib.Core.List.{IsPrefix}
 use Rattle.registry_values.specs.declared.entry.Change.{Change}
-use Rattle.cpu_words.specs.declared.view.Deed.{Deed}
+use Rattle.cpu_words.specs.declared.view.LogItem.{LogItem}
 use Rattle.passive_list.specs.Notes.{HasHeardOn, WasShown}
-use Rattle.registry_c.specs.Opening.{body_at}
+use Rattle.registry_c.specs.declared.handle.CpuHandle.{CpuHandle}
+use Rattle.registry_c.specs.Opening.{bodies_of, body_at}
+use Rattle.registry_c.specs.Places.{DoesBy, put}
 
 -- the CPU behind a handle; nothing is said of what isn't behind an empty one
 abbrev pub cpu_in : Option OnPlainCpu → OnCpu
-cpu_in None = record { view = new_cpu no_settings 0; depth = 0; made = 0; deeds = [] }
+cpu_in None = record { view = new_cpu no_settings 0; depth = 0; made = 0; known_log = [] }
 cpu_in (Some b) = b.cpu
 
 abbrev pub cpus_in : List (Option OnPlainCpu) → List OnCpu
@@ -37,8 +38,8 @@ pub record AreAllHere (cpus : ℕ) (cs : List (Option OnPlainCpu)) : Type 0 wher
   pub each : (c : ℕ) → c < cpus → (b : OnPlainCpu) × (body_at cs c ≡ Some b) × (b.cpu.view.id ≡ c)
 
 -- those that aren't empty are of the keeper's registry: the caller sees to it
-abbrev pub AreAllOf : Option OnKeeperBody → List (Option OnPlainCpu) → Type 0
-AreAllOf k cs = (a : OnKeeperBody) (c : ℕ) (b : OnPlainCpu) → k ≡ Some a → body_at cs c ≡ Some b → b.words ≡ a.words
+abbrev pub AreAllOf : Option OnPlainKeeper → List (Option OnPlainCpu) → Type 0
+AreAllOf k cs = (a : OnPlainKeeper) (c : ℕ) (b : OnPlainCpu) → k ≡ Some a → body_at cs c ≡ Some b → b.words ≡ a.words
 
 -- what a balance says, where there are so many CPUs
 abbrev pub tally_in : ℕ → CBalance → Tally
@@ -85,23 +86,23 @@ pub record AuditWrites (z : Settings) (k : OnKeeper) (cs : List (Option OnPlainC
   pub told : IsAuditTold z k (cpus_in cs) (take (occupied k z.slots) new)
   pub rest : drop (occupied k z.slots) new ≡ drop (occupied k z.slots) old
 
-pub record Audits (z : Settings) (k : OnKeeper) (cs : List (Option OnPlainCpu)) (n : ℕ) (old new : List CBalance) (count count' : ℕ) : Type 0 where
+pub record Audits (z : Settings) (k : OnKeeper) (cs : List (Option OnPlainCpu)) (n : ℕ) (old new : List CBalance) (count count' : Option ℕ) : Type 0 where
   pub missing : (AreAllHere z.cpus cs → ⊥) → (n ≡ number_of_refusal MissingCpu) × (new ≡ old) × (count' ≡ count)
-  pub short : AreAllHere z.cpus cs → length old < occupied k z.slots → (n ≡ NO_ROOM) × (new ≡ old) × (count' ≡ occupied k z.slots)
-  pub enough : AreAllHere z.cpus cs → occupied k z.slots ≤ length old → (n ≡ DONE) × AuditWrites z k cs old new × (count' ≡ occupied k z.slots)
+  pub short : AreAllHere z.cpus cs → length old < occupied k z.slots → (n ≡ NO_ROOM) × (new ≡ old) × (count' ≡ put count (occupied k z.slots))
+  pub enough : AreAllHere z.cpus cs → occupied k z.slots ≤ length old → (n ≡ DONE) × AuditWrites z k cs old new × (count' ≡ put count (occupied k z.slots))
 
--- What the CPUs and the keeper hear as all come to know the same of the keeper's deeds
+-- What the CPUs and the keeper hear as all come to know the same of the keeper's log
 
 -- the CPU behind the handle heard a note and told on what it knew then
-pub record PassesOn (b : OnPlainCpu) (after : Option OnPlainCpu) (h : List Change) (deeds : List Deed) (z : TableId) (told : List Deed) : Type 0 where
+pub record PassesOn (b : OnPlainCpu) (after : Option OnPlainCpu) (h : List Change) (known_log : List LogItem) (z : TableId) (told : List LogItem) : Type 0 where
   pub body : OnPlainCpu
   pub is : after ≡ Some body
   pub words : body.words ≡ b.words
   pub heard : HasHeardOn h b.cpu body.cpu
-  pub knows : IsPrefix deeds body.cpu.deeds
+  pub knows : IsPrefix known_log body.cpu.known_log
   pub shown : WasShown h b.cpu body.cpu
   pub table : z ≡ b.words.table
-  pub note : told ≡ body.cpu.deeds
+  pub note : told ≡ body.cpu.known_log
 
 -- behind each handle stands what stood there, but that it may have heard
 pub record HaveHeard (cs cs' : List (Option OnPlainCpu)) : Type 0 where
@@ -110,13 +111,19 @@ pub record HaveHeard (cs cs' : List (Option OnPlainCpu)) : Type 0 where
   pub none : (c : ℕ) → body_at cs c ≡ None → body_at cs' c ≡ None
   pub learned : HaveLearned (cpus_in cs) (cpus_in cs')
 
-abbrev pub HasListenedAt : Option OnKeeperBody → Option OnKeeperBody → Type 0
-HasListenedAt None k' = k' ≡ None
-HasListenedAt (Some a) k' = (b : OnKeeperBody) × (k' ≡ Some b) × (b.words ≡ a.words) × HasListened a.keeper b.keeper
-
--- through the handles
-pub record AuditAnswers (k k' : Option OnKeeperBody) (cs cs' : List (Option OnPlainCpu)) (n : ℕ) (old new : List CBalance) (count count' : ℕ) : Type 0 where
-  pub keeper : HasListenedAt k k'
+-- the keeper and the CPUs behind handles have done it
+pub record AuditsBodies (a b : OnPlainKeeper) (cs cs' : List (Option OnPlainCpu)) (n : ℕ) (old new : List CBalance) (count count' : Option ℕ) : Type 0 where
+  pub words : b.words ≡ a.words
+  pub keeper : HasListened a.keeper b.keeper
   pub cpus : HaveHeard cs cs'
-  pub empty : k ≡ None → (n ≡ EMPTY_HANDLE) × (new ≡ old) × (count' ≡ count)
-  pub full : (a : OnKeeperBody) → k ≡ Some a → Audits a.words.settings a.keeper cs n old new count count'
+  pub answer : Audits a.words.settings a.keeper cs n old new count count'
+
+-- into a list of so many places
+abbrev pub AuditsList : OnPlainKeeper → OnPlainKeeper → ℕ → List (Option OnPlainCpu) → List (Option OnPlainCpu) → ℕ → Option (List CBalance) → Option (List CBalance) → Option ℕ → Option ℕ → Type 0
+AuditsList a b n cs cs' room list list' count count' =
+    DoesBy room list list' ((n ≡ NULL) × (b ≡ a) × (cs' ≡ cs) × (count' ≡ count)) (λ old new. AuditsBodies a b cs cs' n old new count count')
+
+-- of a row of so many handles
+abbrev pub AuditsRows : OnPlainKeeper → OnPlainKeeper → ℕ → ℕ → Option (List CpuHandle) → Option (List CpuHandle) → ℕ → Option (List CBalance) → Option (List CBalance) → Option ℕ → Option ℕ → Type 0
+AuditsRows a b n handles cpus cpus' room list list' count count' =
+    DoesBy handles cpus cpus' ((n ≡ NULL) × (b ≡ a) × (list' ≡ list) × (count' ≡ count)) (λ old new. AuditsList a b n (bodies_of old) (bodies_of new) room list list' count count')

@@ -1,23 +1,23 @@
--- What stands behind the handles, to a contract. Behind a CPU's handle stands an `OnPlainCpu`.
-use Rattle.std.specs.Prelude.{◌≡◌, Bool, is_some}
+-- What stands behind the handles, to a contract. Behind a CPU's handle stands an `OnPlainCpu`, behind the keeper's an `OnPlainKeeper`.
+use Rattle.std.specs.Prelude.{◌≡◌, ◌<◌, ℕ, Option, None, Some}
 use Rattle.atomic_table.specs.Seated.{TableId}
-use Rattle.cpu_words.specs.Views.{Named}
 use Rattle.cpu_words.specs.declared.view.ReferenceView.{ReferenceView}
-use Rattle.passive_list.specs.Keepers.{OnKeeper}
 use Rattle.registry_c.specs.declared.values.CEntry.{CEntry}
 use Rattle.registry_c.specs.Values.{entry_out}
-
--- the keeper, and its table
-pub record OnKeeperBody : Type 0 where
-  pub words : Named
-  pub keeper : OnKeeper
 
 -- a local reference, and its table
 pub record OnLocalBody : Type 0 where
   pub table : TableId
   pub reference : ReferenceView
 
--- the entry that is kept is the reference's, which is marked just where a release found its CPU's count collected
-pub record IsOurLocal (v : ReferenceView) (e : CEntry) (b : Bool) : Type 0 where
+-- 1 where a release found its CPU's count collected, and else 0
+abbrev pub back_word : Option ℕ → ℕ
+back_word None = 0
+back_word (Some place) = 1
+
+-- What is kept beside the seat: the entry, which is the reference's, and whether it came back. Number and slot are an entry's.
+pub record IsOurLocal (v : ReferenceView) (e : CEntry) (b : ℕ) : Type 0 where
   pub entry : e ≡ entry_out v.entry
-  pub back : b ≡ is_some v.collected
+  pub back : b ≡ back_word v.collected
+  pub begun : 0 < v.entry.number
+  pub few : v.entry.slot < 32

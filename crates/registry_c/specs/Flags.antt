@@ -1,5 +1,7 @@
--- The numbers by which a wait keeps entries and CPUs.
+-- The numbers by which a wait keeps entries and CPUs, and the one that says that it was begun.
 use Rattle.std.specs.Prelude.{ℕ, ◌==◌, Bool, not, Option, Some, None, if◌then◌else◌}
+use Rattle.registry_c.specs.declared.wait.TheConstants.{BEGUN}
+use Rattle.registry_c.specs.declared.wait.CWait.{CWait}
 
 -- an entry's number, or 0 for none
 abbrev pub number_or_none : Option ℕ → ℕ
@@ -14,3 +16,6 @@ flag_of seen = if seen then 1 else 0
 
 abbrev pub is_set : ℕ → Bool
 is_set n = not (n == 0)
+
+abbrev pub is_begun : CWait → Bool
+is_begun wait = wait.begun == BEGUN

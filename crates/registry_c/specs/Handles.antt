@@ -4,7 +4,8 @@ use base.Fml.{Fml}
 use denote.RawPtr.{Ptr}
 use Rattle.held.specs.Handles.{holds}
 use Rattle.passive_list.specs.Cpus.{OnPlainCpu}
-use Rattle.registry_c.specs.Bodies.{OnKeeperBody, OnLocalBody}
+use Rattle.passive_list.specs.Keepers.{OnPlainKeeper}
+use Rattle.registry_c.specs.Bodies.{OnLocalBody}
 use Rattle.registry_c.specs.contracts.cpu_body.CpuBody.{the_row as cpu_row}
 use Rattle.registry_c.specs.contracts.keeper_body.KeeperBody.{the_row as keeper_row}
 use Rattle.registry_c.specs.contracts.local_body.LocalBody.{the_row as local_row}
@@ -12,7 +13,7 @@ use Rattle.registry_c.specs.contracts.local_body.LocalBody.{the_row as local_row
 abbrev pub holds_cpu : Ptr → Option OnPlainCpu → Fml
 holds_cpu = holds cpu_row
 
-abbrev pub holds_keeper : Ptr → Option OnKeeperBody → Fml
+abbrev pub holds_keeper : Ptr → Option OnPlainKeeper → Fml
 holds_keeper = holds keeper_row
 
 abbrev pub holds_local : Ptr → Option OnLocalBody → Fml

@@ -1,12 +1,17 @@
 pub mod Bodies
 pub mod Handles
+pub mod Lent
+pub mod Given
+pub mod Places
 pub mod Values
 pub mod Flags
 pub mod Collected
 pub mod Calls
+pub mod UsualCalls
 pub mod KeeperCalls
 pub mod LocalCalls
 pub mod Opening
 pub mod Texts
 pub mod Audits
 pub mod Waits
+pub mod Walks

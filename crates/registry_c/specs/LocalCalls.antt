@@ -10,12 +10,14 @@ use Rattle.cpu_words.specs.declared.view.ReferenceView.{ReferenceView}
 use Rattle.passive_list.specs.Cpus.{OnPlainCpu}
 use Rattle.local_count.specs.Draining.{HasGivenUp}
 use Rattle.local_count.specs.References.{HasAcquired, HasComeBack, HasReleased, IsFull}
-use Rattle.registry_c.specs.declared.values.TheConstants.{DONE, EMPTY_HANDLE, FULL_HANDLE, BAD_NAME, COLLECTED, NOT_COLLECTED}
+use Rattle.registry_c.specs.declared.values.TheConstants.{DONE, EMPTY_HANDLE, FULL_HANDLE, BAD_NAME, COLLECTED, NOT_COLLECTED, NULL}
 use Rattle.registry_c.specs.declared.values.CEntry.{CEntry}
 use Rattle.registry_c.specs.declared.values.CName.{CName}
-use Rattle.registry_c.specs.Bodies.{OnKeeperBody, OnLocalBody}
+use Rattle.passive_list.specs.Keepers.{OnPlainKeeper}
+use Rattle.registry_c.specs.Bodies.{OnLocalBody}
 use Rattle.registry_c.specs.Collected.{are_collected_for}
 use Rattle.registry_c.specs.KeeperCalls.{AttachesIface, record_of, words_name}
+use Rattle.registry_c.specs.Places.{put}
 use Rattle.registry_c.specs.Values.{entry_out, number_of}
 
 -- what is there where the answer is no refusal
@@ -52,11 +54,11 @@ pub record LocalReleases (a : OnPlainCpu) (v : OnLocalBody) (b : OnPlainCpu) (n 
       ⊎ ((n ≡ COLLECTED) × (w : ReferenceView) × HasComeBack a.cpu v.reference b.cpu w × (l ≡ Some (record { table = v.table; reference = w })))
 
 -- no release has found its CPU's count collected, and the keeper has collected none
-abbrev pub IsUncollected : OnKeeperBody → ReferenceView → Type 0
+abbrev pub IsUncollected : OnPlainKeeper → ReferenceView → Type 0
 IsUncollected k v = (v.collected ≡ None) × (are_collected_for k.keeper v.entry.slot v.entry.number k.words.settings.cpus ≡ false)
 
 -- it was given up under the interlock, or no count was collected
-pub record LocalGivesUp (k : OnKeeperBody) (v : OnLocalBody) (k' : OnKeeperBody) (n : ℕ) (l : Option OnLocalBody) : Type 0 where
+pub record LocalGivesUp (k : OnPlainKeeper) (v : OnLocalBody) (k' : OnPlainKeeper) (n : ℕ) (l : Option OnLocalBody) : Type 0 where
   pub words : k'.words ≡ k.words
   pub how : ((n ≡ DONE) × HasGivenUp k.keeper v.reference k'.keeper × (l ≡ None))
       ⊎ ((n ≡ NOT_COLLECTED) × (k' ≡ k) × (l ≡ Some v) × IsUncollected k v.reference)
@@ -66,19 +68,30 @@ pub record ThroughLocal {B : Type 0} (c c' : Option B) (l l' : Option OnLocalBod
   pub empty : (c ≡ None) ⊎ (l ≡ None) → (n ≡ EMPTY_HANDLE) × (c' ≡ c) × (l' ≡ l)
   pub full : (a : B) (v : OnLocalBody) → c ≡ Some a → l ≡ Some v → (b : B) × (c' ≡ Some b) × P a v b l'
 
+-- The handle of a reference is emptied. Nothing else is behind it that could change: the reference stays held.
+pub record LocalForgets (old new : Option OnLocalBody) (n : ℕ) : Type 0 where
+  pub empty : old ≡ None → n ≡ EMPTY_HANDLE
+  pub full : (v : OnLocalBody) → old ≡ Some v → n ≡ DONE
+  pub none : new ≡ None
+
 -- Attaching an interface
 
 -- the entry is written and the reference is spent, or it comes back
-abbrev pub WritesIface : Result Entry (Refusal × OnLocalBody) → ℕ → Option OnLocalBody → CEntry → CEntry → Type 0
-WritesIface (Ok e) n l old new = (n ≡ DONE) × (l ≡ None) × (new ≡ entry_out e)
+abbrev pub WritesIface : Result Entry (Refusal × OnLocalBody) → ℕ → Option OnLocalBody → Option CEntry → Option CEntry → Type 0
+WritesIface (Ok e) n l old new = (n ≡ DONE) × (l ≡ None) × (new ≡ put old (entry_out e))
 WritesIface (Err back) n l old new = (n ≡ number_of_refusal back.0) × (l ≡ Some back.1) × (new ≡ old)
 
-pub record AttachIfaceAnswers (name : CName) (value : ℕ) (k : OnKeeperBody) (c : OnPlainCpu) (v : OnLocalBody) (k' : OnKeeperBody) (c' : OnPlainCpu) (l : Option OnLocalBody) (n : ℕ) (old new : CEntry) : Type 0 where
+pub record AttachIfaceAnswers (name : CName) (value : ℕ) (k : OnPlainKeeper) (c : OnPlainCpu) (v : OnLocalBody) (k' : OnPlainKeeper) (c' : OnPlainCpu) (l : Option OnLocalBody) (n : ℕ) (old new : Option CEntry) : Type 0 where
   pub bad : words_name name ≡ None → (n ≡ BAD_NAME) × (k' ≡ k) × (c' ≡ c) × (l ≡ Some v) × (new ≡ old)
   pub good : (m : Name) → words_name name ≡ Some m → (r : Result Entry (Refusal × OnLocalBody)) × AttachesIface (record_of Iface m value) v k c k' c' r × WritesIface r n l old new
 
+-- by a name that was given, or by none
+pub record AttachesIfaceNamed (name : Option CName) (value : ℕ) (k : OnPlainKeeper) (c : OnPlainCpu) (v : OnLocalBody) (k' : OnPlainKeeper) (c' : OnPlainCpu) (l : Option OnLocalBody) (n : ℕ) (old new : Option CEntry) : Type 0 where
+  pub null : name ≡ None → (n ≡ NULL) × (k' ≡ k) × (c' ≡ c) × (l ≡ Some v) × (new ≡ old)
+  pub named : (m : CName) → name ≡ Some m → AttachIfaceAnswers m value k c v k' c' l n old new
+
 -- through the three handles
-pub record ThroughAll (k k' : Option OnKeeperBody) (c c' : Option OnPlainCpu) (l l' : Option OnLocalBody) (n : ℕ) (Same : Type 0)
-    (P : OnKeeperBody → OnPlainCpu → OnLocalBody → OnKeeperBody → OnPlainCpu → Option OnLocalBody → Type 0) : Type 0 where
+pub record ThroughAll (k k' : Option OnPlainKeeper) (c c' : Option OnPlainCpu) (l l' : Option OnLocalBody) (n : ℕ) (Same : Type 0)
+    (P : OnPlainKeeper → OnPlainCpu → OnLocalBody → OnPlainKeeper → OnPlainCpu → Option OnLocalBody → Type 0) : Type 0 where
   pub empty : (k ≡ None) ⊎ ((c ≡ None) ⊎ (l ≡ None)) → (n ≡ EMPTY_HANDLE) × (k' ≡ k) × (c' ≡ c) × (l' ≡ l) × Same
-  pub full : (a : OnKeeperBody) (x : OnPlainCpu) (v : OnLocalBody) → k ≡ Some a → c ≡ Some x → l ≡ Some v → (b : OnKeeperBody) × (y : OnPlainCpu) × (k' ≡ Some b) × (c' ≡ Some y) × P a x v b y l'
+  pub full : (a : OnPlainKeeper) (x : OnPlainCpu) (v : OnLocalBody) → k ≡ Some a → c ≡ Some x → l ≡ Some v → (b : OnPlainKeeper) × (y : OnPlainCpu) × (k' ≡ Some b) × (c' ≡ Some y) × P a x v b y l'

@@ -1,29 +1,35 @@
 -- Names from bytes, and what an answer says.
-use Rattle.std.specs.Prelude.{◌≡◌, ◌≢◌, ◌⊎◌, ℕ, suc, ◌-◌, ◌<◌, ◌≤◌, List, length, get_or, Result, Ok, Err}
+use Rattle.std.specs.Prelude.{◌≡◌, ◌≢◌, ◌⊎◌, ℕ, suc, ◌-◌, ◌<◌, ◌≤◌, List, [], length, get_or, Option, Some, None, Result, Ok, Err}
 use Rattle.registry_values.specs.declared.name.Name.{Name}
 use Rattle.registry_values.specs.declared.name.NameFault.{NameFault}
 use Rattle.registry_values.specs.declared.name.NameFault.TheVariants.{Empty, TooLong, BadByte}
 use Rattle.registry_values.specs.Names.{name_of_bytes}
-use Rattle.registry_c.specs.declared.values.TheConstants.{DONE, NAME_EMPTY, NAME_TOO_LONG, NAME_BAD_BYTE}
+use Rattle.registry_c.specs.declared.values.TheConstants.{DONE, NAME_EMPTY, NAME_TOO_LONG, NAME_BAD_BYTE, NULL}
 use Rattle.registry_c.specs.declared.values.CName.{CName}
+use Rattle.registry_c.specs.Places.{put}
 use Rattle.registry_c.specs.Values.{name_out}
 
 -- what is answered and written of a name, or of the first fault
-abbrev pub WritesName : Result Name NameFault → ℕ → CName → CName → ℕ → ℕ → Type 0
-WritesName (Ok m) n old new place place' = (n ≡ DONE) × (new ≡ name_out m) × (place' ≡ place)
+abbrev pub WritesName : Result Name NameFault → ℕ → Option CName → Option CName → Option ℕ → Option ℕ → Type 0
+WritesName (Ok m) n old new place place' = (n ≡ DONE) × (new ≡ put old (name_out m)) × (place' ≡ place)
 WritesName (Err Empty) n old new place place' = (n ≡ NAME_EMPTY) × (new ≡ old) × (place' ≡ place)
 WritesName (Err TooLong) n old new place place' = (n ≡ NAME_TOO_LONG) × (new ≡ old) × (place' ≡ place)
-WritesName (Err (BadByte at)) n old new place place' = (n ≡ NAME_BAD_BYTE) × (new ≡ old) × (place' ≡ at)
+WritesName (Err (BadByte at)) n old new place place' = (n ≡ NAME_BAD_BYTE) × (new ≡ old) × (place' ≡ put place at)
 
 -- the answer of a parse: the name that the bytes are, or the first fault
-pub record Parses (bytes : List ℕ) (n : ℕ) (old new : CName) (place place' : ℕ) : Type 0 where
+pub record Parses (bytes : List ℕ) (n : ℕ) (old new : Option CName) (place place' : Option ℕ) : Type 0 where
   pub r : Result Name NameFault
   pub is : r ≡ name_of_bytes bytes
   pub writes : WritesName r n old new place place'
 
+-- of bytes that were given: at null there are none, and it is refused where there should be some
+abbrev pub ParsesGiven : ℕ → Option (List ℕ) → ℕ → Option CName → Option CName → Option ℕ → Option ℕ → Type 0
+ParsesGiven length None n old new place place' = (length ≢ 0 → (n ≡ NULL) × (new ≡ old) × (place' ≡ place)) × (length ≡ 0 → Parses [] n old new place place')
+ParsesGiven length (Some bytes) n old new place place' = Parses bytes n old new place place'
+
 -- some call answers so
 abbrev pub IsAnswer : ℕ → Type 0
-IsAnswer n = (n ≤ 19) ⊎ ((64 ≤ n) × (n ≤ 75) × (n ≢ 67))
+IsAnswer n = ((n ≤ 19) × (n ≢ 11)) ⊎ ((64 ≤ n) × (n ≤ 77) × (n ≢ 67))
 
 -- A text and a zero are written, cut to the room; with no room nothing is.
 pub record IsWritten (t old new : List ℕ) : Type 0 where
@@ -39,3 +45,8 @@ pub record Tells (answer n : ℕ) (old new : List ℕ) : Type 0 where
   pub known : IsAnswer answer → 0 < n
   pub unknown : 0 < n → IsAnswer answer
   pub written : IsWritten t old new
+
+-- at a place: at null nothing is written, whatever room is said to be there
+abbrev pub TellsBy : ℕ → ℕ → Option (List ℕ) → Option (List ℕ) → Type 0
+TellsBy answer n None after = (after ≡ None) × Tells answer n [] []
+TellsBy answer n (Some old) after = (new : List ℕ) × (after ≡ Some new) × Tells answer n old new

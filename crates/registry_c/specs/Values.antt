@@ -30,8 +30,8 @@ fault_of TooLong = NAME_TOO_LONG
 fault_of (BadByte place) = NAME_BAD_BYTE
 
 -- the kind of a word
-abbrev pub kind_of : ℕ → Option Kind
-kind_of word = if word == 1 then Some Iface else (if word == 2 then Some Driver else None)
+abbrev pub kind_in : ℕ → Option Kind
+kind_in word = if word == 1 then Some Iface else (if word == 2 then Some Driver else None)
 
 -- From C, and to C
 

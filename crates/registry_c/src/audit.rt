@@ -7,19 +7,23 @@ ghost use Rattle.protocol.specs.Invariant.{IsIn};
 ghost use Rattle.passive_list.specs.Cpus.{OnPlainCpu};
 ghost use Rattle.cpu_words.specs.Domains.{AreWordsOf};
 ghost use Rattle.name_registry.specs.Auditing.{AreAlike, HasListened, Occupies, local_met, locals_met, tally_met};
-ghost use Rattle.registry_c.specs.Audits.{AreAllHere, AreAllOf, AreTold, AuditAnswers, Audits, HaveHeard, IsCut, PassesOn, WritesNext, cpus_in, entries_in, occupied, tally_in};
+ghost use Rattle.held.specs.Rows.{IsLong};
+ghost use Rattle.registry_c.specs.Calls.{Through};
+ghost use Rattle.registry_c.specs.Audits.{AreAllHere, AreAllOf, AreTold, Audits, AuditsList, AuditsRows, HaveHeard, IsCut, PassesOn, WritesNext, cpus_in, entries_in, occupied, tally_in};
 ghost use Rattle.registry_c.specs.Opening.{bodies_of, body_at};
+ghost use Rattle.registry_c.specs.Places.{row_in};
 
+use crate::answer::AuditAnswer;
 use crate::handle::{CpuHandle, KeeperHandle};
 use crate::keeper_body::KeeperBody;
-use crate::values::{DONE, EMPTY_HANDLE, NO_ROOM, refused};
-use cpu_words::{Domain, NoteSeat, Words};
+use crate::place::NumberPlace;
+use crate::rows::{BalancesPlace, CpusPlace};
+use crate::values::{DONE, EMPTY_HANDLE, NO_ROOM, NULL, refused};
+use cpu_words::{NoteSeat, Words};
 use held::CHandle;
 use name_registry::local_on;
-use passive_list::{Keeper, Note, hear_keeper, tell_keeper};
+use passive_list::{Keeper, hear_keeper_on, tell_keeper_on};
 use registry_values::{Refusal, Slot, less_bias, sum};
-use std::alloc::Global;
-use std::marker::{Brand, PhantomData};
 
 /// What the counts say of the local references to a live or retired entry.
 #[repr(C)]
@@ -35,72 +39,107 @@ pub struct CBalance {
 /// `registry_audit` of the header.
 #[unsafe(no_mangle)]
 pub extern "C" fn registry_audit(
-    alloc: Global,
     keeper: &mut KeeperHandle,
-    cpus: &mut [CpuHandle],
-    list: &mut [CBalance],
-    length: &mut usize,
-) -> u32
-    requires { AreAllOf keeper.old.body (bodies_of cpus.old) }
-    ensures { AuditAnswers keeper.old.body keeper.new.body (bodies_of cpus.old) (bodies_of cpus.new) result list.old list.new length.old length.new }
+    mut cpus: CpusPlace,
+    count: usize,
+    mut list: BalancesPlace,
+    room: usize,
+    mut length: NumberPlace,
+) -> AuditAnswer
+    requires count { IsLong cpus.value count }
+    requires room { IsLong list.value room }
+    requires words { AreAllOf keeper.old.body (bodies_of (row_in cpus.value)) }
+    ensures places { (result.cpus.at ≡ cpus.at) × (result.list.at ≡ list.at) × (result.place.at ≡ length.at) }
+    ensures call { Through keeper.old.body keeper.new.body result.number ((result.cpus.value ≡ cpus.value) × (result.list.value ≡ list.value) × (result.place.value ≡ length.value))
+        (λ a b. AuditsRows a b result.number count cpus.value result.cpus.value room list.value result.list.value length.value result.place.value) }
 {
-    let Some((body, room)) = keeper.take(alloc) else {
-        return EMPTY_HANDLE;
+    let answer = match keeper.body_mut() {
+        None => EMPTY_HANDLE,
+        Some(body) => audit_into(body, &mut cpus, count, &mut list, room, &mut length),
     };
-    let (body, answer) = audit_body(body, cpus, list, length);
-    keeper.give(body, room);
-    answer
+    length.answer(answer).with_list(list).with_cpus(cpus)
+}
+
+/// Audits with the CPUs, if there are any or needn't be.
+fn audit_into(
+    keeper: &mut KeeperBody,
+    cpus: &mut CpusPlace,
+    count: usize,
+    list: &mut BalancesPlace,
+    room: usize,
+    length: &mut NumberPlace,
+) -> u32
+    requires count { IsLong cpus.old.value count }
+    requires room { IsLong list.old.value room }
+    requires same { (c : ℕ) (b : OnPlainCpu) → body_at (bodies_of (row_in cpus.old.value)) c ≡ Some b → b.words ≡ keeper.old.words }
+    ensures places { (cpus.new.at ≡ cpus.old.at) × (list.new.at ≡ list.old.at) × (length.new.at ≡ length.old.at) }
+    ensures call { AuditsRows keeper.old keeper.new result count cpus.old.value cpus.new.value room list.old.value list.new.value length.old.value length.new.value }
+{
+    if !cpus.is_null() {
+        return audit_list(keeper, cpus.row_mut(count), list, room, length);
+    }
+    if count != 0 {
+        return NULL;
+    }
+    audit_list(keeper, &mut [], list, room, length)
+}
+
+/// Audits into the list, if there is one or needn't be.
+fn audit_list(
+    keeper: &mut KeeperBody,
+    cpus: &mut [CpuHandle],
+    list: &mut BalancesPlace,
+    room: usize,
+    length: &mut NumberPlace,
+) -> u32
+    requires room { IsLong list.old.value room }
+    requires same { (c : ℕ) (b : OnPlainCpu) → body_at (bodies_of cpus.old) c ≡ Some b → b.words ≡ keeper.old.words }
+    ensures places { (list.new.at ≡ list.old.at) × (length.new.at ≡ length.old.at) }
+    ensures call { AuditsList keeper.old keeper.new result (bodies_of cpus.old) (bodies_of cpus.new) room list.old.value list.new.value length.old.value length.new.value }
+{
+    if !list.is_null() {
+        return audit_body(keeper, cpus, list.row_mut(room), length);
+    }
+    if room != 0 {
+        return NULL;
+    }
+    audit_body(keeper, cpus, &mut [], length)
 }
 
 fn audit_body(
-    keeper: KeeperBody,
+    keeper: &mut KeeperBody,
     cpus: &mut [CpuHandle],
     list: &mut [CBalance],
-    length: &mut usize,
-) -> (KeeperBody, u32)
-    requires { (c : ℕ) (b : OnPlainCpu) → body_at (bodies_of cpus.old) c ≡ Some b → b.words ≡ keeper.words }
-    ensures keeper { (result.0.words ≡ keeper.words) × HasListened keeper.keeper result.0.keeper }
-    ensures cpus { HaveHeard (bodies_of cpus.old) (bodies_of cpus.new) }
-    ensures answer { Audits keeper.words.settings keeper.keeper (bodies_of cpus.old) result.1 list.old list.new length.old length.new }
-{
-    audit_at::<Brand>(keeper, cpus, list, length)
-}
-
-fn audit_at<D: Domain>(
-    keeper: KeeperBody,
-    cpus: &mut [CpuHandle],
-    list: &mut [CBalance],
-    length: &mut usize,
-) -> (KeeperBody, u32)
-    requires table { (keeper.words.table ≡ D.table) × (keeper.words.settings ≡ D.settings) }
-    requires same { (c : ℕ) (b : OnPlainCpu) → body_at (bodies_of cpus.old) c ≡ Some b → b.words ≡ keeper.words }
-    ensures keeper { (result.0.words ≡ keeper.words) × HasListened keeper.keeper result.0.keeper }
-    ensures cpus { HaveHeard (bodies_of cpus.old) (bodies_of cpus.new) }
-    ensures answer { Audits keeper.words.settings keeper.keeper (bodies_of cpus.old) result.1 list.old list.new length.old length.new }
-{
-    let (words, mut keeper) = keeper.into_keeper::<D>();
-    let answer = audit_all(&words, &mut keeper, cpus, list, length);
-    (KeeperBody::of_keeper(words, keeper), answer)
-}
-
-fn audit_all<D: Domain>(
-    words: &Words,
-    keeper: &mut Keeper<D>,
-    cpus: &mut [CpuHandle],
-    list: &mut [CBalance],
-    length: &mut usize,
+    length: &mut NumberPlace,
 ) -> u32
-    requires words { AreWordsOf words.now D.table D.settings }
-    requires same { (c : ℕ) (b : OnPlainCpu) → body_at (bodies_of cpus.old) c ≡ Some b → b.words ≡ record { table = D.table; settings = D.settings } }
-    ensures keeper { HasListened keeper.old keeper.new }
+    requires { (c : ℕ) (b : OnPlainCpu) → body_at (bodies_of cpus.old) c ≡ Some b → b.words ≡ keeper.old.words }
+    ensures keeper { (keeper.new.words ≡ keeper.old.words) × HasListened keeper.old.keeper keeper.new.keeper }
     ensures cpus { HaveHeard (bodies_of cpus.old) (bodies_of cpus.new) }
-    ensures answer { Audits D.settings keeper.old (bodies_of cpus.old) result list.old list.new length.old length.new }
+    ensures place { length.new.at ≡ length.old.at }
+    ensures answer { Audits keeper.old.words.settings keeper.old.keeper (bodies_of cpus.old) result list.old list.new length.old.value length.new.value }
+{
+    audit_all(&keeper.words, &mut keeper.keeper, cpus, list, length)
+}
+
+fn audit_all(
+    words: &Words,
+    keeper: &mut Keeper,
+    cpus: &mut [CpuHandle],
+    list: &mut [CBalance],
+    length: &mut NumberPlace,
+) -> u32
+    requires words { AreWordsOf words.now keeper.old.words.table keeper.old.words.settings }
+    requires same { (c : ℕ) (b : OnPlainCpu) → body_at (bodies_of cpus.old) c ≡ Some b → b.words ≡ keeper.old.words }
+    ensures keeper { (keeper.new.words ≡ keeper.old.words) × HasListened keeper.old.keeper keeper.new.keeper }
+    ensures cpus { HaveHeard (bodies_of cpus.old) (bodies_of cpus.new) }
+    ensures place { length.new.at ≡ length.old.at }
+    ensures answer { Audits keeper.old.words.settings keeper.old.keeper (bodies_of cpus.old) result list.old list.new length.old.value length.new.value }
 {
     if !are_all(keeper.settings.cpus, cpus) {
         return refused(Refusal::MissingCpu);
     }
     let count = count_entries(keeper);
-    *length = count;
+    length.put(count as u64);
     if list.len() < count {
         return NO_ROOM;
     }
@@ -110,32 +149,25 @@ fn audit_all<D: Domain>(
 }
 
 /// Lets all know the same of what the keeper did: the keeper tells, each CPU hears in turn and tells on, and the keeper hears the last one.
-fn gather<D: Domain>(words: &Words, keeper: &mut Keeper<D>, cpus: &mut [CpuHandle])
-    requires words { AreWordsOf words.now D.table D.settings }
-    requires all { AreAllHere D.settings.cpus (bodies_of cpus.old) }
-    requires same { (c : ℕ) (b : OnPlainCpu) → body_at (bodies_of cpus.old) c ≡ Some b → b.words ≡ record { table = D.table; settings = D.settings } }
-    ensures alike { AreAlike keeper.old (cpus_in (bodies_of cpus.old)) (cpus_in (bodies_of cpus.new)) }
-    ensures keeper { HasListened keeper.old keeper.new }
+fn gather(words: &Words, keeper: &mut Keeper, cpus: &mut [CpuHandle])
+    requires words { AreWordsOf words.now keeper.old.words.table keeper.old.words.settings }
+    requires all { AreAllHere keeper.old.words.settings.cpus (bodies_of cpus.old) }
+    requires same { (c : ℕ) (b : OnPlainCpu) → body_at (bodies_of cpus.old) c ≡ Some b → b.words ≡ keeper.old.words }
+    ensures alike { AreAlike keeper.old.keeper (cpus_in (bodies_of cpus.old)) (cpus_in (bodies_of cpus.new)) }
+    ensures keeper { (keeper.new.words ≡ keeper.old.words) × HasListened keeper.old.keeper keeper.new.keeper }
     ensures cpus { HaveHeard (bodies_of cpus.old) (bodies_of cpus.new) }
 {
-    let Note {
-        seat: mut note,
-        domain: _,
-    } = tell_keeper(words, keeper);
+    let mut note = tell_keeper_on(words, keeper);
     for c in 0..cpus.len() {
         note = pass_on(&mut cpus[c], note);
     }
-    let note = Note {
-        seat: note,
-        domain: PhantomData,
-    };
-    hear_keeper(words, keeper, note);
+    hear_keeper_on(words, keeper, note);
 }
 
 /// One CPU hears the note and tells on what it knows then.
 fn pass_on(cpu: &mut CpuHandle, note: NoteSeat) -> NoteSeat
     requires cpu { (b : OnPlainCpu) × (cpu.old.body ≡ Some b) × (note.table ≡ b.words.table) }
-    ensures { (b : OnPlainCpu) → cpu.old.body ≡ Some b → PassesOn b cpu.new.body note.view note.deeds result.table result.deeds }
+    ensures { (b : OnPlainCpu) → cpu.old.body ≡ Some b → PassesOn b cpu.new.body note.view note.known_log result.table result.known_log }
 {
     match cpu.body_mut() {
         None => unreachable!(),
@@ -173,8 +205,8 @@ fn is_cpu(cpu: &mut CpuHandle, id: u8) -> bool
 }
 
 /// How many slots have an entry.
-fn count_entries<D: Domain>(keeper: &Keeper<D>) -> usize
-    ensures { result ≡ occupied keeper.now D.settings.slots }
+fn count_entries(keeper: &Keeper) -> usize
+    ensures { result ≡ occupied keeper.now.keeper keeper.now.words.settings.slots }
 {
     let mut count = 0;
     for t in 0..keeper.settings.slots {
@@ -193,12 +225,11 @@ fn entries_in(slot: Slot) -> usize
 }
 
 /// Writes the balance of each entry, the least slot first.
-fn write_balances<D: Domain>(keeper: &Keeper<D>, cpus: &mut [CpuHandle], list: &mut [CBalance])
-    requires all { AreAllHere D.settings.cpus (bodies_of cpus.old) }
-    requires settings { (c : ℕ) (b : OnPlainCpu) → body_at (bodies_of cpus.old) c ≡ Some b → b.words.settings ≡ D.settings }
-    requires room { occupied keeper.now D.settings.slots ≤ length list.old }
+fn write_balances(keeper: &Keeper, cpus: &mut [CpuHandle], list: &mut [CBalance])
+    requires all { AreAllHere keeper.now.words.settings.cpus (bodies_of cpus.old) }
+    requires room { occupied keeper.now.keeper keeper.now.words.settings.slots ≤ length list.old }
     ensures cpus { bodies_of cpus.new ≡ bodies_of cpus.old }
-    ensures list { AreTold D.settings keeper.now (bodies_of cpus.old) D.settings.slots (occupied keeper.now D.settings.slots) list.old list.new }
+    ensures list { AreTold keeper.now.words.settings keeper.now.keeper (bodies_of cpus.old) keeper.now.words.settings.slots (occupied keeper.now.keeper keeper.now.words.settings.slots) list.old list.new }
 {
     let mut at = 0;
     for t in 0..keeper.settings.slots {
@@ -207,19 +238,18 @@ fn write_balances<D: Domain>(keeper: &Keeper<D>, cpus: &mut [CpuHandle], list: &
 }
 
 /// Writes the balance of the slot's entry, if it has one. The answer is the next place in the list.
-fn write_next<D: Domain>(
-    keeper: &Keeper<D>,
+fn write_next(
+    keeper: &Keeper,
     cpus: &mut [CpuHandle],
     list: &mut [CBalance],
     t: u8,
     at: usize,
 ) -> usize
-    requires all { AreAllHere D.settings.cpus (bodies_of cpus.old) }
-    requires settings { (c : ℕ) (b : OnPlainCpu) → body_at (bodies_of cpus.old) c ≡ Some b → b.words.settings ≡ D.settings }
+    requires all { AreAllHere keeper.now.words.settings.cpus (bodies_of cpus.old) }
     requires slot { t < 32 }
-    requires room { (e : Entry) → IsIn e (slot_at keeper.now.slots t) → at < length list.old }
+    requires room { (e : Entry) → IsIn e (slot_at keeper.now.keeper.slots t) → at < length list.old }
     ensures cpus { bodies_of cpus.new ≡ bodies_of cpus.old }
-    ensures next { WritesNext D.settings keeper.now (bodies_of cpus.old) t at list.old result list.new }
+    ensures next { WritesNext keeper.now.words.settings keeper.now.keeper (bodies_of cpus.old) t at list.old result list.new }
 {
     match keeper.slot(t) {
         Slot::Vacant => at,
@@ -231,13 +261,12 @@ fn write_next<D: Domain>(
 }
 
 /// What the counts say of the entry with this number in the slot.
-fn balance<D: Domain>(keeper: &Keeper<D>, cpus: &mut [CpuHandle], t: u8, number: u64) -> CBalance
-    requires all { AreAllHere D.settings.cpus (bodies_of cpus.old) }
-    requires settings { (c : ℕ) (b : OnPlainCpu) → body_at (bodies_of cpus.old) c ≡ Some b → b.words.settings ≡ D.settings }
-    requires entry { Occupies keeper.now t number }
+fn balance(keeper: &Keeper, cpus: &mut [CpuHandle], t: u8, number: u64) -> CBalance
+    requires all { AreAllHere keeper.now.words.settings.cpus (bodies_of cpus.old) }
+    requires entry { Occupies keeper.now.keeper t number }
     ensures cpus { bodies_of cpus.new ≡ bodies_of cpus.old }
-    ensures tally { tally_in D.settings.cpus result ≡ tally_met keeper.now (cpus_in (bodies_of cpus.old)) number t }
-    ensures cut { IsCut D.settings.cpus result }
+    ensures tally { tally_in keeper.now.words.settings.cpus result ≡ tally_met keeper.now.keeper (cpus_in (bodies_of cpus.old)) number t }
+    ensures cut { IsCut keeper.now.words.settings.cpus result }
 {
     let total = less_bias(keeper.rows[t as usize].total);
     let locals = locals(keeper, cpus, t, number);
@@ -252,14 +281,13 @@ fn balance<D: Domain>(keeper: &Keeper<D>, cpus: &mut [CpuHandle], t: u8, number:
 }
 
 /// Of each CPU its net count for the entry, and zeros past the last.
-fn locals<D: Domain>(keeper: &Keeper<D>, cpus: &mut [CpuHandle], t: u8, number: u64) -> [i64; 8]
-    requires all { AreAllHere D.settings.cpus (bodies_of cpus.old) }
-    requires settings { (c : ℕ) (b : OnPlainCpu) → body_at (bodies_of cpus.old) c ≡ Some b → b.words.settings ≡ D.settings }
-    requires few { D.settings.cpus ≤ 8 }
-    requires entry { (t < D.settings.slots) × (0 < number) }
+fn locals(keeper: &Keeper, cpus: &mut [CpuHandle], t: u8, number: u64) -> [i64; 8]
+    requires all { AreAllHere keeper.now.words.settings.cpus (bodies_of cpus.old) }
+    requires few { keeper.now.words.settings.cpus ≤ 8 }
+    requires entry { (t < 32) × (0 < number) }
     ensures cpus { bodies_of cpus.new ≡ bodies_of cpus.old }
-    ensures value { take D.settings.cpus result ≡ locals_met keeper.now (cpus_in (bodies_of cpus.old)) t number }
-    ensures cut { (c : ℕ) → D.settings.cpus ≤ c → get_or result c (pos 0) ≡ pos 0 }
+    ensures value { take keeper.now.words.settings.cpus result ≡ locals_met keeper.now.keeper (cpus_in (bodies_of cpus.old)) t number }
+    ensures cut { (c : ℕ) → keeper.now.words.settings.cpus ≤ c → get_or result c (pos 0) ≡ pos 0 }
     ensures range { (c : ℕ) → (neg_ℤ (pos (2 ^ 50)) ≤ℤ get_or result c (pos 0)) × (get_or result c (pos 0) ≤ℤ pos (2 ^ 50)) }
 {
     let mut locals = [0; 8];
@@ -271,11 +299,11 @@ fn locals<D: Domain>(keeper: &Keeper<D>, cpus: &mut [CpuHandle], t: u8, number: 
 }
 
 /// One CPU's net count for the entry.
-fn local<D: Domain>(keeper: &Keeper<D>, cpu: &mut CpuHandle, t: u8, number: u64) -> i64
-    requires cpu { (b : OnPlainCpu) × (cpu.old.body ≡ Some b) × (b.words.settings ≡ D.settings) }
-    requires entry { (t < D.settings.slots) × (0 < number) }
+fn local(keeper: &Keeper, cpu: &mut CpuHandle, t: u8, number: u64) -> i64
+    requires cpu { (b : OnPlainCpu) × (cpu.old.body ≡ Some b) }
+    requires entry { (t < 32) × (0 < number) }
     ensures same { cpu.new.body ≡ cpu.old.body }
-    ensures value { (b : OnPlainCpu) → cpu.old.body ≡ Some b → result ≡ local_met keeper.now t number b.cpu }
+    ensures value { (b : OnPlainCpu) → cpu.old.body ≡ Some b → result ≡ local_met keeper.now.keeper t number b.cpu }
     ensures range { (neg_ℤ (pos (2 ^ 50)) ≤ℤ result) × (result ≤ℤ pos (2 ^ 50)) }
 {
     match cpu.body_mut() {

@@ -1,6 +1,6 @@
 //! What stands behind a CPU's handle.
 
-ghost use Rattle.std.specs.Prelude.{◌≡◌, ◌≢◌, ◌↔◌, ◌⊎◌, ◌<◌, IsTrue, None, IfOk, IfErr, IsErrOf};
+ghost use Rattle.std.specs.Prelude.{◌≡◌, ◌≢◌, ◌↔◌, ◌⊎◌, ◌<◌, ◌≤◌, IsTrue, None, IfOk, IfErr, IsErrOf, take};
 ghost use Rattle.registry_values.specs.Refusals.{Answers};
 ghost use Rattle.cpu_words.specs.Domains.{AreWordsOf};
 ghost use Rattle.cpu_words.specs.Searching.{key_with};
@@ -8,24 +8,29 @@ ghost use Rattle.cpu_words.specs.Views.{references_to};
 ghost use mathlib.Core.List.{IsPrefix};
 ghost use Rattle.passive_list.specs.Lookups.{HasFound};
 ghost use Rattle.passive_list.specs.Notes.{HasHeardOn, WasShown};
+ghost use Rattle.passive_list.specs.Walks.{HasWalked};
 ghost use Rattle.passive_list.specs.Sections.{AreSpent, HasEnteredOn, HasExitedOn};
 ghost use Rattle.name_registry.specs.Meeting.{is_inside};
 ghost use Rattle.passive_ref.specs.Psrefs.{GivesBack, HasOneLess, IsAcquired, IsCopied, IsReferredTo, why_not_acquired, why_not_copied, why_unusable};
 
-use cpu_words::{Domain, NoteSeat, Words, steps};
-use passive_list::{Cpu, PlainCpu, enter_on, exit_on, find_on, hear_on};
+use crate::local_body::LocalBody;
+use cpu_words::{NoteSeat, Words};
+use held::Spare;
+use passive_list::{PlainCpu, enter_on, exit_on, find_on, hear_on, tell_on, walk_on};
 use passive_ref::{Psref, acquire_on, copy_on, held_on, read_entry_on, release_on};
 use registry_values::{Entry, Kind, Name, Refusal};
 use std::alloc::{AllocError, Global};
 use std::marker::Model;
 use std::sync::Arc;
-use std::sync::ledger::Blank;
+use std_alloc::room::Vacant;
 
-/// A CPU, and its share of its table's words. To a contract it is what the CPU is.
+/// A CPU, its share of its table's words, and a block that it keeps for its next local reference. To a contract it is what the CPU is.
 #[derive(Drop)]
 pub struct CpuBody {
     pub words: Arc<Words, Global>,
     pub cpu: PlainCpu,
+    /// The block of a local reference that was released here, for the next one that is acquired here. It is freed as the CPU is.
+    spare: Spare<LocalBody>,
     /// Never written: it keeps the CPU's data off the cache lines of the body in the next block.
     pub apart: [u64; 16],
 }
@@ -52,42 +57,9 @@ impl CpuBody {
         Ok(CpuBody {
             words,
             cpu,
+            spare: Spare::empty(),
             apart: [0; 16],
         })
-    }
-
-    /// Puts its table's name on, for one call. The CPU's share is all of a ledger that is made for the call.
-    /// Condition: D names the table, its settings and the ledger, which has one part.
-    pub fn into_cpu<D: Domain>(self, changes: Blank) -> (Arc<Words, Global>, Cpu<D>)
-        requires table { (self.words.table ≡ D.table) × (self.words.settings ≡ D.settings) }
-        requires ledger { (changes.name ≡ D.name) × (changes.parts ≡ D.parts) × (D.parts ≡ 1) }
-        ensures body { (result.0.value ≡ self.words) × (result.1 ≡ self.cpu) }
-        ensures none { result.1.made ≡ 0 }
-    {
-        let CpuBody {
-            words,
-            cpu,
-            apart: _,
-        } = self;
-        // Reading it opens what a plain CPU says of itself: that it made nothing.
-        let _depth = cpu.depth;
-        let (_book, share) = changes.open::<D>();
-        (words, Cpu { plain: cpu, share })
-    }
-
-    /// Takes it off again. Condition: the call made nothing, as its share counts it.
-    pub fn of_cpu<D: Domain>(words: Arc<Words, Global>, cpu: Cpu<D>) -> CpuBody
-        requires table { (words.value.table ≡ D.table) × (words.value.settings ≡ D.settings) }
-        requires none { cpu.made ≡ 0 }
-        ensures { result ≡ record { words = words.value; cpu = cpu } }
-    {
-        let Cpu { plain, share: _ } = cpu;
-        let _depth = plain.depth;
-        CpuBody {
-            words,
-            cpu: plain,
-            apart: [0; 16],
-        }
     }
 
     /// The CPU's number, from 0.
@@ -102,6 +74,20 @@ impl CpuBody {
         ensures { result.now ≡ self.now }
     {
         &self.cpu
+    }
+
+    /// A block for a local reference: the one that the CPU keeps, or a new one where it keeps none.
+    pub fn take_room(&mut self, alloc: Global) -> Result<Vacant<LocalBody, Global>, AllocError>
+        ensures { self.new ≡ self.old }
+    {
+        self.spare.take(alloc)
+    }
+
+    /// Keeps a block for the next local reference. One that the CPU kept already is freed.
+    pub fn keep_room(&mut self, room: Vacant<LocalBody, Global>)
+        ensures { self.new ≡ self.old }
+    {
+        self.spare.keep(room);
     }
 
     /// The CPU's own passive reference to that number.
@@ -130,12 +116,12 @@ impl CpuBody {
         requires { note.table ≡ self.old.words.table }
         ensures words { self.new.words ≡ self.old.words }
         ensures heard { HasHeardOn note.view self.old.cpu self.new.cpu }
-        ensures knows { IsPrefix note.deeds self.new.cpu.deeds }
+        ensures knows { IsPrefix note.known_log self.new.cpu.known_log }
         ensures shown { WasShown note.view self.old.cpu self.new.cpu }
-        ensures note { (result.table ≡ self.old.words.table) × (result.deeds ≡ self.new.cpu.deeds) }
+        ensures note { (result.table ≡ self.old.words.table) × (result.known_log ≡ self.new.cpu.known_log) }
     {
         hear_on(&self.words, &mut self.cpu, note);
-        steps::tell(&self.words, &mut self.cpu.seat, self.cpu.id)
+        tell_on(&self.words, &mut self.cpu)
     }
 
     /// How many enters are open.
@@ -174,6 +160,16 @@ impl CpuBody {
         ensures words { self.new.words ≡ self.old.words }
     {
         find_on(&self.words, &mut self.cpu, kind, name)
+    }
+
+    /// Walks over all entries, and answers how many it wrote. Condition: inside.
+    pub fn walk(&mut self, row: &mut [Entry; 32]) -> usize
+        requires inside { self.old.cpu.view.begin ≢ None }
+        ensures count { result ≤ 32 }
+        ensures walked { HasWalked self.old.cpu self.new.cpu (take result row.new) }
+        ensures words { self.new.words ≡ self.old.words }
+    {
+        walk_on(&self.words, &mut self.cpu, row)
     }
 
     /// Acquires a passive reference to the last found entry.

@@ -1,13 +1,16 @@
 //! The calls of one CPU, by what stands behind its handle: each answers its number, and writes what it finds.
 
-ghost use Rattle.std.specs.Prelude.{◌≡◌};
-ghost use Rattle.registry_c.specs.Calls.{Acquires, Copies, Enters, Exits, Finds, Reads, Releases};
+ghost use Rattle.std.specs.Prelude.{◌≡◌, ◌≢◌, ℕ, Option, IfErr};
+ghost use Rattle.registry_c.specs.declared.values.TheConstants.{DONE};
+ghost use Rattle.registry_c.specs.declared.values.CEntry.{CEntry};
+ghost use Rattle.registry_c.specs.Calls.{Acquires, Copies, Enters, Exits, Finds, FindsNamed, Reads, Releases, TellsFound};
 
 use crate::cpu_body::CpuBody;
+use crate::place::{EntryPlace, NumberPlace};
 use crate::values::{
-    BAD_KIND, CEntry, CName, DONE, OUTSIDE, answered, entry_out, kind_of, name_in, refused,
+    BAD_KIND, CName, DONE, NULL, OUTSIDE, answered, entry_out, kind_in, name_in, refused,
 };
-use registry_values::Refusal;
+use registry_values::{Entry, Kind, Refusal};
 
 /// Enters a section, or the open one once more.
 pub fn enter(cpu: &mut CpuBody) -> u32
@@ -27,32 +30,74 @@ pub fn exit(cpu: &mut CpuBody) -> u32
     DONE
 }
 
-/// Looks an entry up.
-pub fn find(cpu: &mut CpuBody, kind: u64, name: &CName, found: &mut CEntry) -> u32
-    ensures { Finds kind name.now cpu.old cpu.new result found.old found.new }
+/// Looks an entry up by the name, if one is given.
+pub fn find_named(cpu: &mut CpuBody, kind: u64, name: Option<CName>, found: &mut EntryPlace) -> u32
+    ensures place { found.new.at ≡ found.old.at }
+    ensures call { FindsNamed kind name cpu.old cpu.new result found.old.value found.new.value }
 {
-    let Some(kind) = kind_of(kind) else {
-        return BAD_KIND;
+    let answer = look(cpu, kind, name);
+    tell(answer, found)
+}
+
+/// Looks an entry up by the name, if one is given: the entry, or the number of the refusal.
+#[inline(always)]
+pub fn look(cpu: &mut CpuBody, kind: u64, name: Option<CName>) -> Result<Entry, u32>
+    ensures call { (n : ℕ) (old new : Option CEntry) → TellsFound result n old new → FindsNamed kind name cpu.old cpu.new n old new }
+    ensures refused { IfErr result (λ refusal. refusal ≢ DONE) }
+{
+    match name {
+        None => Err(NULL),
+        Some(name) => find(cpu, kind, &name),
+    }
+}
+
+/// Looks an entry up.
+#[inline(always)]
+fn find(cpu: &mut CpuBody, kind: u64, name: &CName) -> Result<Entry, u32>
+    ensures call { (n : ℕ) (old new : Option CEntry) → TellsFound result n old new → Finds kind name.now cpu.old cpu.new n old new }
+    ensures refused { IfErr result (λ refusal. refusal ≢ DONE) }
+{
+    let Some(kind) = kind_in(kind) else {
+        return Err(BAD_KIND);
     };
     if !cpu.inside() {
-        return OUTSIDE;
+        return Err(OUTSIDE);
     }
-    match cpu.find(kind, &name_in(name)) {
-        None => refused(Refusal::NotFound),
-        Some(entry) => {
-            *found = entry_out(entry);
+    let name = name_in(name);
+    // A search for each kind: a loop that knows the kind needs no register for it, and a call saves fewer registers as it begins.
+    let found = match kind {
+        Kind::Iface => cpu.find(Kind::Iface, &name),
+        Kind::Driver => cpu.find(Kind::Driver, &name),
+    };
+    match found {
+        None => Err(refused(Refusal::NotFound)),
+        Some(entry) => Ok(entry),
+    }
+}
+
+/// Writes the entry of a call that is done, and answers its number.
+#[inline(always)]
+pub fn tell(answer: Result<Entry, u32>, found: &mut EntryPlace) -> u32
+    ensures place { found.new.at ≡ found.old.at }
+    ensures told { TellsFound answer result found.old.value found.new.value }
+{
+    match answer {
+        Ok(entry) => {
+            found.put(entry_out(entry));
             DONE
         }
+        Err(refusal) => refusal,
     }
 }
 
 /// Acquires a passive reference to the last found entry.
-pub fn acquire(cpu: &mut CpuBody, number: &mut u64) -> u32
-    ensures { Acquires cpu.old cpu.new result number.old number.new }
+pub fn acquire(cpu: &mut CpuBody, number: &mut NumberPlace) -> u32
+    ensures place { number.new.at ≡ number.old.at }
+    ensures call { Acquires cpu.old cpu.new result number.old.value number.new.value }
 {
     match cpu.acquire() {
         Ok(psref) => {
-            *number = psref.number();
+            number.put(psref.number());
             psref.forget();
             DONE
         }
@@ -77,15 +122,16 @@ pub fn copy(cpu: &mut CpuBody, number: u64) -> u32
 }
 
 /// The entry that the CPU refers to.
-pub fn read(cpu: &mut CpuBody, number: u64, entry: &mut CEntry) -> u32
-    ensures { Reads number cpu.old cpu.new result entry.old entry.new }
+pub fn read(cpu: &mut CpuBody, number: u64, entry: &mut EntryPlace) -> u32
+    ensures place { entry.new.at ≡ entry.old.at }
+    ensures call { Reads number cpu.old cpu.new result entry.old.value entry.new.value }
 {
     let psref = cpu.own(number);
     let answer = cpu.read(&psref);
     psref.forget();
     match answer {
         Ok(read) => {
-            *entry = entry_out(read);
+            entry.put(entry_out(read));
             DONE
         }
         Err(refusal) => refused(refusal),

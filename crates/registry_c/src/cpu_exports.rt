@@ -1,12 +1,16 @@
 //! The calls of one CPU, through its handle.
 
-ghost use Rattle.std.specs.Prelude.{◌≡◌, ◌≢◌, ◌↔◌, ◌<◌, IsTrue, None};
-ghost use Rattle.cpu_words.specs.Views.{references_to};
-ghost use Rattle.registry_c.specs.Calls.{Acquires, Copies, CpuCloses, Enters, Exits, Finds, Reads, Releases, Through};
+ghost use Rattle.std.specs.Prelude.{◌≡◌, None};
+ghost use Rattle.name_registry.specs.Meeting.{is_inside};
+ghost use Rattle.registry_c.specs.Places.{put};
+ghost use Rattle.registry_c.specs.Calls.{Acquires, Copies, CpuCloses, Enters, Exits, FindsNamed, HoldsSay, Reads, Releases, Through};
 
+use crate::answer::{EntryAnswer, FlagAnswer, NamedAnswer, NumberAnswer};
 use crate::cpu_calls;
+use crate::given::GivenName;
 use crate::handle::CpuHandle;
-use crate::values::{CEntry, CName, DONE, EMPTY_HANDLE, refused};
+use crate::place::{EntryPlace, FlagPlace, NumberPlace};
+use crate::values::{DONE, EMPTY_HANDLE, refused};
 use held::CHandle;
 use registry_values::Refusal;
 use std::alloc::Global;
@@ -50,28 +54,30 @@ pub extern "C" fn registry_exit(cpu: &mut CpuHandle) -> u32
 
 /// `registry_inside` of the header.
 #[unsafe(no_mangle)]
-pub extern "C" fn registry_inside(cpu: &mut CpuHandle, inside: &mut bool) -> u32
-    ensures { Through cpu.old.body cpu.new.body result (inside.new ≡ inside.old)
-        (λ a b. (result ≡ DONE) × (b ≡ a) × (IsTrue inside.new ↔ a.cpu.view.begin ≢ None)) }
+pub extern "C" fn registry_inside(cpu: &mut CpuHandle, mut inside: FlagPlace) -> FlagAnswer
+    ensures place { result.place.at ≡ inside.at }
+    ensures call { Through cpu.old.body cpu.new.body result.number (result.place.value ≡ inside.value)
+        (λ a b. (result.number ≡ DONE) × (b ≡ a) × (result.place.value ≡ put inside.value (is_inside a.cpu))) }
 {
     let Some(body) = cpu.body_mut() else {
-        return EMPTY_HANDLE;
+        return inside.answer(EMPTY_HANDLE);
     };
-    *inside = body.inside();
-    DONE
+    inside.put(body.is_inside());
+    inside.answer(DONE)
 }
 
 /// `registry_depth` of the header.
 #[unsafe(no_mangle)]
-pub extern "C" fn registry_depth(cpu: &mut CpuHandle, depth: &mut u64) -> u32
-    ensures { Through cpu.old.body cpu.new.body result (depth.new ≡ depth.old)
-        (λ a b. (result ≡ DONE) × (b ≡ a) × (depth.new ≡ a.cpu.depth)) }
+pub extern "C" fn registry_depth(cpu: &mut CpuHandle, mut depth: NumberPlace) -> NumberAnswer
+    ensures place { result.place.at ≡ depth.at }
+    ensures call { Through cpu.old.body cpu.new.body result.number (result.place.value ≡ depth.value)
+        (λ a b. (result.number ≡ DONE) × (b ≡ a) × (result.place.value ≡ put depth.value a.cpu.depth)) }
 {
     let Some(body) = cpu.body_mut() else {
-        return EMPTY_HANDLE;
+        return depth.answer(EMPTY_HANDLE);
     };
-    *depth = u64::from(body.depth());
-    DONE
+    depth.put(u64::from(body.depth()));
+    depth.answer(DONE)
 }
 
 /// `registry_find` of the header.
@@ -79,28 +85,32 @@ pub extern "C" fn registry_depth(cpu: &mut CpuHandle, depth: &mut u64) -> u32
 pub extern "C" fn registry_find(
     cpu: &mut CpuHandle,
     kind: u64,
-    name: &CName,
-    found: &mut CEntry,
-) -> u32
-    ensures { Through cpu.old.body cpu.new.body result (found.new ≡ found.old)
-        (λ a b. Finds kind name.now a b result found.old found.new) }
+    mut name: GivenName,
+    mut found: EntryPlace,
+) -> NamedAnswer
+    ensures places { (result.name ≡ name) × (result.place.at ≡ found.at) }
+    ensures call { Through cpu.old.body cpu.new.body result.number (result.place.value ≡ found.value)
+        (λ a b. FindsNamed kind name.name a b result.number found.value result.place.value) }
 {
     let Some(body) = cpu.body_mut() else {
-        return EMPTY_HANDLE;
+        return found.answer(EMPTY_HANDLE).with_name(name);
     };
-    cpu_calls::find(body, kind, name, found)
+    let answer = cpu_calls::find_named(body, kind, name.name(), &mut found);
+    found.answer(answer).with_name(name)
 }
 
 /// `registry_acquire` of the header.
 #[unsafe(no_mangle)]
-pub extern "C" fn registry_acquire(cpu: &mut CpuHandle, number: &mut u64) -> u32
-    ensures { Through cpu.old.body cpu.new.body result (number.new ≡ number.old)
-        (λ a b. Acquires a b result number.old number.new) }
+pub extern "C" fn registry_acquire(cpu: &mut CpuHandle, mut number: NumberPlace) -> NumberAnswer
+    ensures place { result.place.at ≡ number.at }
+    ensures call { Through cpu.old.body cpu.new.body result.number (result.place.value ≡ number.value)
+        (λ a b. Acquires a b result.number number.value result.place.value) }
 {
     let Some(body) = cpu.body_mut() else {
-        return EMPTY_HANDLE;
+        return number.answer(EMPTY_HANDLE);
     };
-    cpu_calls::acquire(body, number)
+    let answer = cpu_calls::acquire(body, &mut number);
+    number.answer(answer)
 }
 
 /// `registry_copy` of the header.
@@ -116,27 +126,34 @@ pub extern "C" fn registry_copy(cpu: &mut CpuHandle, number: u64) -> u32
 
 /// `registry_held` of the header.
 #[unsafe(no_mangle)]
-pub extern "C" fn registry_held(cpu: &mut CpuHandle, number: u64, held: &mut bool) -> u32
-    ensures { Through cpu.old.body cpu.new.body result (held.new ≡ held.old)
-        (λ a b. (result ≡ DONE) × (b ≡ a) × (IsTrue held.new ↔ 0 < references_to number a.cpu.view.references)) }
+pub extern "C" fn registry_held(cpu: &mut CpuHandle, number: u64, mut held: FlagPlace) -> FlagAnswer
+    ensures place { result.place.at ≡ held.at }
+    ensures call { Through cpu.old.body cpu.new.body result.number (result.place.value ≡ held.value)
+        (λ a b. (result.number ≡ DONE) × (b ≡ a) × HoldsSay number a held.value result.place.value) }
 {
     let Some(body) = cpu.body_mut() else {
-        return EMPTY_HANDLE;
+        return held.answer(EMPTY_HANDLE);
     };
-    *held = body.held(number);
-    DONE
+    held.put(body.held(number));
+    held.answer(DONE)
 }
 
 /// `registry_read` of the header.
 #[unsafe(no_mangle)]
-pub extern "C" fn registry_read(cpu: &mut CpuHandle, number: u64, entry: &mut CEntry) -> u32
-    ensures { Through cpu.old.body cpu.new.body result (entry.new ≡ entry.old)
-        (λ a b. Reads number a b result entry.old entry.new) }
+pub extern "C" fn registry_read(
+    cpu: &mut CpuHandle,
+    number: u64,
+    mut entry: EntryPlace,
+) -> EntryAnswer
+    ensures place { result.place.at ≡ entry.at }
+    ensures call { Through cpu.old.body cpu.new.body result.number (result.place.value ≡ entry.value)
+        (λ a b. Reads number a b result.number entry.value result.place.value) }
 {
     let Some(body) = cpu.body_mut() else {
-        return EMPTY_HANDLE;
+        return entry.answer(EMPTY_HANDLE);
     };
-    cpu_calls::read(body, number, entry)
+    let answer = cpu_calls::read(body, number, &mut entry);
+    entry.answer(answer)
 }
 
 /// `registry_release` of the header.

@@ -2,7 +2,8 @@
 
 ghost use Rattle.std.specs.Prelude.{◌≡◌, Option};
 ghost use Rattle.passive_list.specs.Cpus.{OnPlainCpu};
-ghost use Rattle.registry_c.specs.Bodies.{OnKeeperBody, OnLocalBody};
+ghost use Rattle.passive_list.specs.Keepers.{OnPlainKeeper};
+ghost use Rattle.registry_c.specs.Bodies.{OnLocalBody};
 
 use crate::cpu_body::CpuBody;
 use crate::keeper_body::KeeperBody;
@@ -65,7 +66,7 @@ unsafe impl Send for CpuHandle {}
 #[repr(C)]
 pub struct KeeperHandle {
     at: *mut u8,
-    pub ghost body: { Option OnKeeperBody },
+    pub ghost body: { Option OnPlainKeeper },
 }
 
 impl Model for KeeperHandle {

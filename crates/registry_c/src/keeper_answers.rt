@@ -4,104 +4,135 @@ ghost use Rattle.std.specs.Prelude.{◌≡◌};
 ghost use Rattle.registry_values.specs.Stages.{destroy_result};
 ghost use Rattle.name_registry.specs.Meeting.{is_inside};
 ghost use Rattle.registry_c.specs.Values.{number_of};
-ghost use Rattle.registry_c.specs.KeeperCalls.{AdvanceAnswers, AttachAnswers, DestroyAnswers, DetachAnswers, PerformAnswers, TurnAnswers};
+ghost use Rattle.registry_c.specs.KeeperCalls.{AdvanceAnswers, AttachAnswers, AttachesNamed, DestroyAnswers, DetachAnswers, DetachesNamed, PerformAnswers, PerformsAt, TurnAnswers, TurnsAt};
 
 use crate::cpu_body::CpuBody;
 use crate::keeper_body::KeeperBody;
-use crate::keeper_calls::{advance_bodies, advance_body, attach_bodies, detach_bodies};
+use crate::place::{EntryPlace, NumberPlace, StagePlace, WaitPlace};
 use crate::values::{
-    BAD_KIND, BAD_NAME, CEntry, CName, CStage, DONE, entry_out, kind_of, refused, stage_out,
+    BAD_KIND, BAD_NAME, CName, DONE, NOT_BEGUN, NULL, entry_out, kind_in, refused, stage_out,
 };
-use crate::wait::CWait;
+use crate::wait::{CWait, is_begun};
 use crate::waiting::{begin_body, turn_body};
 use registry_values::{Kind, Name, Record, Refusal, Stage, destroyed};
 
+/// Attaches a driver by the name, if one is given.
+pub fn attach_named(
+    keeper: &mut KeeperBody,
+    cpu: &mut CpuBody,
+    name: Option<CName>,
+    value: u64,
+    made: &mut EntryPlace,
+) -> u32
+    requires { cpu.old.words ≡ keeper.old.words }
+    ensures place { made.new.at ≡ made.old.at }
+    ensures call { AttachesNamed name value keeper.old cpu.old keeper.new cpu.new result made.old.value made.new.value }
+{
+    match name {
+        None => NULL,
+        Some(name) => attach(keeper, cpu, &name, value, made),
+    }
+}
+
 /// Attaches a driver.
-pub fn attach(
-    keeper: KeeperBody,
-    cpu: CpuBody,
+fn attach(
+    keeper: &mut KeeperBody,
+    cpu: &mut CpuBody,
     name: &CName,
     value: u64,
-    made: &mut CEntry,
-) -> (KeeperBody, CpuBody, u32)
-    requires { cpu.words ≡ keeper.words }
-    ensures { AttachAnswers name.now value keeper cpu result.0 result.1 result.2 made.old made.new }
+    made: &mut EntryPlace,
+) -> u32
+    requires { cpu.old.words ≡ keeper.old.words }
+    ensures place { made.new.at ≡ made.old.at }
+    ensures call { AttachAnswers name.now value keeper.old cpu.old keeper.new cpu.new result made.old.value made.new.value }
 {
     let Some(name) = Name::from_words(name.high, name.low) else {
-        return (keeper, cpu, BAD_NAME);
+        return BAD_NAME;
     };
     let kind = Kind::Driver;
-    let (keeper, cpu, answer) = attach_bodies(keeper, cpu, Record { kind, name, value });
-    match answer {
+    match keeper.attach(cpu, Record { kind, name, value }) {
         Ok(entry) => {
-            *made = entry_out(entry);
-            (keeper, cpu, DONE)
+            made.put(entry_out(entry));
+            DONE
         }
-        Err(refusal) => (keeper, cpu, refused(refusal)),
+        Err(refusal) => refused(refusal),
+    }
+}
+
+/// Detaches an entry by the name, if one is given.
+pub fn detach_named(
+    keeper: &mut KeeperBody,
+    cpu: &mut CpuBody,
+    kind: u64,
+    name: Option<CName>,
+    gone: &mut EntryPlace,
+) -> u32
+    requires { cpu.old.words ≡ keeper.old.words }
+    ensures place { gone.new.at ≡ gone.old.at }
+    ensures call { DetachesNamed kind name keeper.old cpu.old keeper.new cpu.new result gone.old.value gone.new.value }
+{
+    match name {
+        None => NULL,
+        Some(name) => detach(keeper, cpu, kind, &name, gone),
     }
 }
 
 /// Detaches an entry.
-pub fn detach(
-    keeper: KeeperBody,
-    cpu: CpuBody,
+fn detach(
+    keeper: &mut KeeperBody,
+    cpu: &mut CpuBody,
     kind: u64,
     name: &CName,
-    gone: &mut CEntry,
-) -> (KeeperBody, CpuBody, u32)
-    requires { cpu.words ≡ keeper.words }
-    ensures { DetachAnswers kind name.now keeper cpu result.0 result.1 result.2 gone.old gone.new }
+    gone: &mut EntryPlace,
+) -> u32
+    requires { cpu.old.words ≡ keeper.old.words }
+    ensures place { gone.new.at ≡ gone.old.at }
+    ensures call { DetachAnswers kind name.now keeper.old cpu.old keeper.new cpu.new result gone.old.value gone.new.value }
 {
-    let Some(kind) = kind_of(kind) else {
-        return (keeper, cpu, BAD_KIND);
+    let Some(kind) = kind_in(kind) else {
+        return BAD_KIND;
     };
     let Some(name) = Name::from_words(name.high, name.low) else {
-        return (keeper, cpu, BAD_NAME);
+        return BAD_NAME;
     };
-    let (keeper, cpu, answer) = detach_bodies(keeper, cpu, kind, &name);
-    match answer {
+    match keeper.detach(cpu, kind, &name) {
         Ok(entry) => {
-            *gone = entry_out(entry);
-            (keeper, cpu, DONE)
+            gone.put(entry_out(entry));
+            DONE
         }
-        Err(refusal) => (keeper, cpu, refused(refusal)),
+        Err(refusal) => refused(refusal),
     }
 }
 
 /// One turn of the work on a retired entry.
-pub fn advance(keeper: KeeperBody, number: u64, met: &mut CStage) -> (KeeperBody, u32)
-    ensures { AdvanceAnswers number keeper result.0 result.1 met.old met.new }
+pub fn advance(keeper: &mut KeeperBody, number: u64, met: &mut StagePlace) -> u32
+    ensures place { met.new.at ≡ met.old.at }
+    ensures call { AdvanceAnswers number keeper.old keeper.new result met.old.value met.new.value }
 {
-    let (keeper, answer) = advance_body(keeper, number);
-    match answer {
+    match keeper.advance(number) {
         Ok(stage) => {
-            *met = stage_out(stage);
-            (keeper, DONE)
+            met.put(stage_out(stage));
+            DONE
         }
-        Err(refusal) => (keeper, refused(refusal)),
+        Err(refusal) => refused(refusal),
     }
 }
 
 /// One turn of destroying it. The CPU hears what the keeper did.
-pub fn destroy(
-    keeper: KeeperBody,
-    cpu: CpuBody,
-    number: u64,
-    met: &mut CStage,
-) -> (KeeperBody, CpuBody, u32)
-    requires { cpu.words ≡ keeper.words }
-    ensures { DestroyAnswers (is_inside cpu.cpu) number keeper cpu result.0 result.1 result.2 met.old met.new }
+pub fn destroy(keeper: &mut KeeperBody, cpu: &mut CpuBody, number: u64, met: &mut StagePlace) -> u32
+    requires { cpu.old.words ≡ keeper.old.words }
+    ensures place { met.new.at ≡ met.old.at }
+    ensures call { DestroyAnswers (is_inside cpu.old.cpu) number keeper.old cpu.old keeper.new cpu.new result met.old.value met.new.value }
 {
     if cpu.is_inside() {
-        return (keeper, cpu, refused(Refusal::Inside));
+        return refused(Refusal::Inside);
     }
-    let (keeper, cpu, answer) = advance_bodies(keeper, cpu, number);
-    match answer {
+    match keeper.advance_for(cpu, number) {
         Ok(stage) => {
-            *met = stage_out(stage);
-            (keeper, cpu, destroyed_number(stage))
+            met.put(stage_out(stage));
+            destroyed_number(stage)
         }
-        Err(refusal) => (keeper, cpu, refused(refusal)),
+        Err(refusal) => refused(refusal),
     }
 }
 
@@ -115,37 +146,69 @@ fn destroyed_number(stage: Stage) -> u32
     }
 }
 
-/// Begins a wait for open sections.
-pub fn perform(keeper: KeeperBody, cpu: CpuBody, wait: &mut CWait) -> (KeeperBody, CpuBody, u32)
-    requires { cpu.words ≡ keeper.words }
-    ensures { PerformAnswers keeper cpu result.0 result.1 result.2 wait.old wait.new }
+/// Begins a wait for open sections, if there is one at the place.
+pub fn perform_at(keeper: &mut KeeperBody, cpu: &mut CpuBody, wait: &mut WaitPlace) -> u32
+    requires { cpu.old.words ≡ keeper.old.words }
+    ensures place { wait.new.at ≡ wait.old.at }
+    ensures call { PerformsAt keeper.old cpu.old keeper.new cpu.new result wait.old.value wait.new.value }
 {
-    if cpu.is_inside() {
-        return (keeper, cpu, refused(Refusal::Inside));
+    match wait.value_mut() {
+        None => NULL,
+        Some(wait) => perform(keeper, cpu, wait),
     }
-    let (keeper, cpu) = begin_body(keeper, cpu, wait);
-    (keeper, cpu, DONE)
 }
 
-/// One turn of it.
-pub fn turn(
-    keeper: KeeperBody,
-    cpu: CpuBody,
-    wait: &mut CWait,
-    waited: &mut u64,
-) -> (KeeperBody, CpuBody, u32)
-    requires { cpu.words ≡ keeper.words }
-    ensures { TurnAnswers keeper cpu result.0 result.1 result.2 wait.old wait.new waited.old waited.new }
+/// Begins a wait for open sections.
+fn perform(keeper: &mut KeeperBody, cpu: &mut CpuBody, wait: &mut CWait) -> u32
+    requires { cpu.old.words ≡ keeper.old.words }
+    ensures { PerformAnswers keeper.old cpu.old keeper.new cpu.new result wait.old wait.new }
 {
     if cpu.is_inside() {
-        return (keeper, cpu, refused(Refusal::Inside));
+        return refused(Refusal::Inside);
     }
-    let (keeper, cpu, told) = turn_body(keeper, cpu, wait);
-    match told {
-        None => (keeper, cpu, DONE),
+    begin_body(keeper, cpu, wait);
+    DONE
+}
+
+/// One turn of it, if there is one at the place.
+pub fn turn_at(
+    keeper: &mut KeeperBody,
+    cpu: &mut CpuBody,
+    wait: &mut WaitPlace,
+    waited: &mut NumberPlace,
+) -> u32
+    requires { cpu.old.words ≡ keeper.old.words }
+    ensures places { (wait.new.at ≡ wait.old.at) × (waited.new.at ≡ waited.old.at) }
+    ensures call { TurnsAt keeper.old cpu.old keeper.new cpu.new result wait.old.value wait.new.value waited.old.value waited.new.value }
+{
+    match wait.value_mut() {
+        None => NULL,
+        Some(wait) => turn(keeper, cpu, wait, waited),
+    }
+}
+
+/// One turn of it. A wait that was never begun is refused, whether or not the CPU is inside.
+fn turn(
+    keeper: &mut KeeperBody,
+    cpu: &mut CpuBody,
+    wait: &mut CWait,
+    waited: &mut NumberPlace,
+) -> u32
+    requires { cpu.old.words ≡ keeper.old.words }
+    ensures place { waited.new.at ≡ waited.old.at }
+    ensures call { TurnAnswers keeper.old cpu.old keeper.new cpu.new result wait.old wait.new waited.old.value waited.new.value }
+{
+    if !is_begun(wait) {
+        return NOT_BEGUN;
+    }
+    if cpu.is_inside() {
+        return refused(Refusal::Inside);
+    }
+    match turn_body(keeper, cpu, wait) {
+        None => DONE,
         Some(other) => {
-            *waited = u64::from(other);
-            (keeper, cpu, refused(Refusal::Waiting(other)))
+            waited.put(u64::from(other));
+            refused(Refusal::Waiting(other))
         }
     }
 }

@@ -1,78 +1,31 @@
-//! What stands behind the keeper's handle: the keeper without the name of its table.
+//! What stands behind the keeper's handle.
 
 ghost use Rattle.std.specs.Prelude.{◌≡◌};
 
-use cpu_words::{Domain, KeeperSeat, Words};
-use passive_list::{Keeper, KeptSlot};
+use cpu_words::Words;
+use passive_list::Keeper;
 use registry_values::Settings;
 use std::alloc::Global;
-use std::marker::{Model, PhantomData};
+use std::marker::Model;
 use std::sync::Arc;
 
-/// The keeper, and its share of the words. It names its own table.
+/// The keeper, and its share of its table's words. To a contract it is what the keeper is. Its calls work on it where it lies.
 #[derive(Drop)]
 pub struct KeeperBody {
     pub words: Arc<Words, Global>,
-    pub seat: KeeperSeat,
-    pub settings: Settings,
-    pub rows: [KeptSlot; 32],
-    pub changes: u64,
+    pub keeper: Keeper,
 }
 
 impl Model for KeeperBody {
-    ghost use Rattle.passive_list.specs.Keepers.{IsOurKeeper, states_of};
-    ghost use Rattle.registry_c.specs.Bodies.{OnKeeperBody};
+    ghost use Rattle.std.specs.Prelude.{◌≡◌};
+    ghost use Rattle.cpu_words.specs.Domains.{AreWordsOf};
+    ghost use Rattle.passive_list.specs.Keepers.{OnPlainKeeper};
 
-    ghost Value = { OnKeeperBody };
+    ghost Value = { OnPlainKeeper };
 
-    ghost view = { λ b. record { words = b.words.value; keeper = record { view = b.seat.view; slots = states_of b.rows; log = b.seat.log } } };
+    ghost view = { λ b. b.keeper };
 
-    ghost invariant = { λ b. IsOurKeeper b.words.value.table b.words.value.settings b.seat.table b.seat.view b.settings b.rows b.changes };
-}
-
-impl KeeperBody {
-    /// Takes the table's name off.
-    pub fn of_keeper<D: Domain>(words: Arc<Words, Global>, keeper: Keeper<D>) -> KeeperBody
-        requires { (words.value.table ≡ D.table) × (words.value.settings ≡ D.settings) }
-        ensures { result ≡ record { words = words.value; keeper = keeper } }
-    {
-        let Keeper {
-            seat,
-            settings,
-            rows,
-            changes,
-            domain: _,
-        } = keeper;
-        KeeperBody {
-            words,
-            seat,
-            settings,
-            rows,
-            changes,
-        }
-    }
-
-    /// Puts it on again.
-    pub fn into_keeper<D: Domain>(self) -> (Arc<Words, Global>, Keeper<D>)
-        requires { (self.words.table ≡ D.table) × (self.words.settings ≡ D.settings) }
-        ensures { (result.0.value ≡ self.words) × (result.1 ≡ self.keeper) }
-    {
-        let KeeperBody {
-            words,
-            seat,
-            settings,
-            rows,
-            changes,
-        } = self;
-        let keeper = Keeper {
-            seat,
-            settings,
-            rows,
-            changes,
-            domain: PhantomData,
-        };
-        (words, keeper)
-    }
+    ghost invariant = { λ b. AreWordsOf b.words.value b.keeper.words.table b.keeper.words.settings };
 }
 
 impl KeeperBody {
@@ -80,7 +33,7 @@ impl KeeperBody {
     pub fn settings(&self) -> Settings
         ensures { result ≡ self.now.words.settings }
     {
-        self.settings
+        self.keeper.settings
     }
 }
 

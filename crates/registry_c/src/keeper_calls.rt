@@ -1,150 +1,81 @@
-//! The keeper's calls, each at a name for its table that holds during the call.
+//! The keeper's calls, each on the bodies where they lie.
 
 ghost use Rattle.std.specs.Prelude.{◌≡◌, IfOk, IfErr, IsTrue, Ok, Err};
 ghost use Rattle.registry_values.specs.declared.entry.Kind.TheVariants.{Iface};
 ghost use Rattle.registry_values.specs.Names.{is_lawful};
 ghost use Rattle.name_registry.specs.Attaching.{HasAttachedFor, HasAttachedIfaceFor, attach_answer, attach_iface_answer};
 ghost use Rattle.name_registry.specs.Detaching.{HasDetachedFor, IsDetachAnswer};
-ghost use Rattle.registry_c.specs.KeeperCalls.{Advances, AdvancesFor, KeepsWords};
+ghost use Rattle.name_registry.specs.Meeting.{KeepsWords};
+ghost use Rattle.registry_c.specs.KeeperCalls.{Advances, AdvancesFor};
 
 use crate::cpu_body::CpuBody;
 use crate::keeper_body::KeeperBody;
-use cpu_words::Domain;
-use name_registry::{advance_for, advance_in, attach_in, detach_in};
+use crate::local_body::LocalBody;
+use name_registry::{advance_for, advance_in, attach_iface_in, attach_in, detach_in};
 use registry_values::{Entry, Kind, Name, Record, Refusal, Stage};
-use std::marker::Brand;
-use std::sync::ledger::Blank;
 
-/// Attaches a driver.
-pub fn attach_bodies(
-    keeper: KeeperBody,
-    cpu: CpuBody,
-    rec: Record,
-) -> (KeeperBody, CpuBody, Result<Entry, Refusal>)
-    requires same { cpu.words ≡ keeper.words }
-    requires name { IsTrue (is_lawful rec.name) }
-    ensures answer { result.2 ≡ attach_answer keeper.words.settings keeper.keeper cpu.cpu rec }
-    ensures ok { IfOk result.2 (λ e. HasAttachedFor keeper.keeper cpu.cpu e result.0.keeper result.1.cpu) }
-    ensures refused { IfErr result.2 (λ _. (result.0 ≡ keeper) × (result.1 ≡ cpu)) }
-    ensures words { KeepsWords keeper cpu result.0 result.1 }
-{
-    let changes = Blank::new(1);
-    attach_at::<Brand>(keeper, cpu, rec, changes)
-}
+impl KeeperBody {
+    /// Attaches a driver. Conditions: the CPU is of its table; the name is lawful.
+    pub fn attach(&mut self, cpu: &mut CpuBody, rec: Record) -> Result<Entry, Refusal>
+        requires same { cpu.old.words ≡ self.old.words }
+        requires name { IsTrue (is_lawful rec.name) }
+        ensures answer { result ≡ attach_answer self.old.words.settings self.old.keeper cpu.old.cpu rec }
+        ensures ok { IfOk result (λ e. HasAttachedFor self.old.keeper cpu.old.cpu e self.new.keeper cpu.new.cpu) }
+        ensures refused { IfErr result (λ _. (self.new ≡ self.old) × (cpu.new ≡ cpu.old)) }
+        ensures words { KeepsWords self.old cpu.old self.new cpu.new }
+    {
+        attach_in(&self.words, &mut self.keeper, &mut cpu.cpu, rec)
+    }
 
-fn attach_at<D: Domain>(
-    keeper: KeeperBody,
-    cpu: CpuBody,
-    rec: Record,
-    changes: Blank,
-) -> (KeeperBody, CpuBody, Result<Entry, Refusal>)
-    requires table { (keeper.words.table ≡ D.table) × (keeper.words.settings ≡ D.settings) }
-    requires ledger { (changes.name ≡ D.name) × (changes.parts ≡ D.parts) × (D.parts ≡ 1) }
-    requires same { cpu.words ≡ keeper.words }
-    requires name { IsTrue (is_lawful rec.name) }
-    ensures answer { result.2 ≡ attach_answer keeper.words.settings keeper.keeper cpu.cpu rec }
-    ensures ok { IfOk result.2 (λ e. HasAttachedFor keeper.keeper cpu.cpu e result.0.keeper result.1.cpu) }
-    ensures refused { IfErr result.2 (λ _. (result.0 ≡ keeper) × (result.1 ≡ cpu)) }
-    ensures words { KeepsWords keeper cpu result.0 result.1 }
-{
-    let (words, mut keeper) = keeper.into_keeper::<D>();
-    let (share, mut cpu) = cpu.into_cpu::<D>(changes);
-    let made = attach_in(&words, &mut keeper, &mut cpu, rec);
-    (
-        KeeperBody::of_keeper(words, keeper),
-        CpuBody::of_cpu(share, cpu),
-        made,
-    )
-}
+    /// Attaches an interface on the driver that the reference is to. The reference comes back where that is refused.
+    /// Conditions: the CPU and the reference are of its table; the record's kind is Iface, and its name is lawful.
+    pub fn attach_iface(
+        &mut self,
+        cpu: &mut CpuBody,
+        rec: Record,
+        local: LocalBody,
+    ) -> Result<Entry, (Refusal, LocalBody)>
+        requires same { (cpu.old.words ≡ self.old.words) × (local.table ≡ self.old.words.table) }
+        requires kind { rec.kind ≡ Iface }
+        requires name { IsTrue (is_lawful rec.name) }
+        ensures answer { IfOk result (λ e. attach_iface_answer self.old.words.settings self.old.keeper cpu.old.cpu rec local.reference ≡ Ok e) }
+        ensures ok { IfOk result (λ e. HasAttachedIfaceFor self.old.keeper cpu.old.cpu local.reference e self.new.keeper cpu.new.cpu) }
+        ensures refused { IfErr result (λ back. (attach_iface_answer self.old.words.settings self.old.keeper cpu.old.cpu rec local.reference ≡ Err back.0) × (back.1 ≡ local)
+            × (self.new ≡ self.old) × (cpu.new ≡ cpu.old)) }
+        ensures words { KeepsWords self.old cpu.old self.new cpu.new }
+    {
+        let driver = local.entry();
+        let back = local.back();
+        let reference = local.into_reference();
+        match attach_iface_in(&self.words, &mut self.keeper, &mut cpu.cpu, rec, reference) {
+            Ok(entry) => Ok(entry),
+            Err((refusal, reference)) => Err((refusal, LocalBody::of(reference, driver, back))),
+        }
+    }
 
-/// Detaches an entry.
-pub fn detach_bodies(
-    keeper: KeeperBody,
-    cpu: CpuBody,
-    kind: Kind,
-    name: &Name,
-) -> (KeeperBody, CpuBody, Result<Entry, Refusal>)
-    requires same { cpu.words ≡ keeper.words }
-    ensures answer { IsDetachAnswer keeper.keeper cpu.cpu (record { kind = kind; name = name.now }) result.2 }
-    ensures ok { IfOk result.2 (λ e. HasDetachedFor keeper.keeper cpu.cpu e result.0.keeper result.1.cpu) }
-    ensures refused { IfErr result.2 (λ _. (result.0 ≡ keeper) × (result.1 ≡ cpu)) }
-    ensures words { KeepsWords keeper cpu result.0 result.1 }
-{
-    let changes = Blank::new(1);
-    detach_at::<Brand>(keeper, cpu, kind, name, changes)
-}
+    /// Detaches an entry. Condition: the CPU is of its table.
+    pub fn detach(&mut self, cpu: &mut CpuBody, kind: Kind, name: &Name) -> Result<Entry, Refusal>
+        requires same { cpu.old.words ≡ self.old.words }
+        ensures answer { IsDetachAnswer self.old.keeper cpu.old.cpu (record { kind = kind; name = name.now }) result }
+        ensures ok { IfOk result (λ e. HasDetachedFor self.old.keeper cpu.old.cpu e self.new.keeper cpu.new.cpu) }
+        ensures refused { IfErr result (λ _. (self.new ≡ self.old) × (cpu.new ≡ cpu.old)) }
+        ensures words { KeepsWords self.old cpu.old self.new cpu.new }
+    {
+        detach_in(&self.words, &mut self.keeper, &mut cpu.cpu, kind, name)
+    }
 
-fn detach_at<D: Domain>(
-    keeper: KeeperBody,
-    cpu: CpuBody,
-    kind: Kind,
-    name: &Name,
-    changes: Blank,
-) -> (KeeperBody, CpuBody, Result<Entry, Refusal>)
-    requires table { (keeper.words.table ≡ D.table) × (keeper.words.settings ≡ D.settings) }
-    requires ledger { (changes.name ≡ D.name) × (changes.parts ≡ D.parts) × (D.parts ≡ 1) }
-    requires same { cpu.words ≡ keeper.words }
-    ensures answer { IsDetachAnswer keeper.keeper cpu.cpu (record { kind = kind; name = name.now }) result.2 }
-    ensures ok { IfOk result.2 (λ e. HasDetachedFor keeper.keeper cpu.cpu e result.0.keeper result.1.cpu) }
-    ensures refused { IfErr result.2 (λ _. (result.0 ≡ keeper) × (result.1 ≡ cpu)) }
-    ensures words { KeepsWords keeper cpu result.0 result.1 }
-{
-    let (words, mut keeper) = keeper.into_keeper::<D>();
-    let (share, mut cpu) = cpu.into_cpu::<D>(changes);
-    let gone = detach_in(&words, &mut keeper, &mut cpu, kind, name);
-    (
-        KeeperBody::of_keeper(words, keeper),
-        CpuBody::of_cpu(share, cpu),
-        gone,
-    )
-}
+    /// One turn of the work on a retired entry.
+    pub fn advance(&mut self, number: u64) -> Result<Stage, Refusal>
+        ensures { Advances number self.old self.new result }
+    {
+        advance_in(&self.words, &mut self.keeper, number)
+    }
 
-/// One turn of the work on a retired entry.
-pub fn advance_body(keeper: KeeperBody, number: u64) -> (KeeperBody, Result<Stage, Refusal>)
-    ensures { Advances number keeper result.0 result.1 }
-{
-    advance_at::<Brand>(keeper, number)
-}
-
-fn advance_at<D: Domain>(keeper: KeeperBody, number: u64) -> (KeeperBody, Result<Stage, Refusal>)
-    requires table { (keeper.words.table ≡ D.table) × (keeper.words.settings ≡ D.settings) }
-    ensures { Advances number keeper result.0 result.1 }
-{
-    let (words, mut keeper) = keeper.into_keeper::<D>();
-    let stage = advance_in(&words, &mut keeper, number);
-    (KeeperBody::of_keeper(words, keeper), stage)
-}
-
-/// The same with a CPU, which hears what the keeper did.
-pub fn advance_bodies(
-    keeper: KeeperBody,
-    cpu: CpuBody,
-    number: u64,
-) -> (KeeperBody, CpuBody, Result<Stage, Refusal>)
-    requires same { cpu.words ≡ keeper.words }
-    ensures { AdvancesFor number keeper cpu result.0 result.1 result.2 }
-{
-    let changes = Blank::new(1);
-    advance_for_at::<Brand>(keeper, cpu, number, changes)
-}
-
-fn advance_for_at<D: Domain>(
-    keeper: KeeperBody,
-    cpu: CpuBody,
-    number: u64,
-    changes: Blank,
-) -> (KeeperBody, CpuBody, Result<Stage, Refusal>)
-    requires table { (keeper.words.table ≡ D.table) × (keeper.words.settings ≡ D.settings) }
-    requires ledger { (changes.name ≡ D.name) × (changes.parts ≡ D.parts) × (D.parts ≡ 1) }
-    requires same { cpu.words ≡ keeper.words }
-    ensures { AdvancesFor number keeper cpu result.0 result.1 result.2 }
-{
-    let (words, mut keeper) = keeper.into_keeper::<D>();
-    let (share, mut cpu) = cpu.into_cpu::<D>(changes);
-    let stage = advance_for(&words, &mut keeper, &mut cpu, number);
-    (
-        KeeperBody::of_keeper(words, keeper),
-        CpuBody::of_cpu(share, cpu),
-        stage,
-    )
+    /// The same with a CPU, which hears what the keeper did. Condition: it is of its table.
+    pub fn advance_for(&mut self, cpu: &mut CpuBody, number: u64) -> Result<Stage, Refusal>
+        requires same { cpu.old.words ≡ self.old.words }
+        ensures { AdvancesFor number self.old cpu.old self.new cpu.new result }
+    {
+        advance_for(&self.words, &mut self.keeper, &mut cpu.cpu, number)
+    }
 }

@@ -3,13 +3,16 @@
 ghost use Rattle.std.specs.Prelude.{◌≡◌};
 ghost use Rattle.name_registry.specs.Meeting.{is_inside};
 ghost use Rattle.registry_c.specs.Calls.{AreOfOne, Through, ThroughBoth};
-ghost use Rattle.registry_c.specs.KeeperCalls.{AdvanceAnswers, AttachAnswers, DestroyAnswers, DetachAnswers, KeeperCloses, PerformCalls, TurnCalls};
+ghost use Rattle.registry_c.specs.KeeperCalls.{AdvanceAnswers, AttachesNamed, DestroyAnswers, DetachesNamed, KeeperCloses, PerformCalls, TurnCalls};
+ghost use Rattle.registry_c.specs.Places.{put};
 ghost use Rattle.registry_c.specs.Values.{settings_out};
 
+use crate::answer::{NamedAnswer, SettingsAnswer, StageAnswer, TurnAnswer, WaitAnswer};
+use crate::given::GivenName;
 use crate::handle::{CpuHandle, KeeperHandle};
 use crate::keeper_answers;
-use crate::values::{CEntry, CName, CSettings, CStage, DONE, EMPTY_HANDLE, settings_out};
-use crate::wait::CWait;
+use crate::place::{EntryPlace, NumberPlace, SettingsPlace, StagePlace, WaitPlace};
+use crate::values::{DONE, EMPTY_HANDLE, settings_out};
 use held::CHandle;
 use std::alloc::Global;
 
@@ -28,161 +31,149 @@ pub extern "C" fn registry_close_keeper(alloc: Global, keeper: &mut KeeperHandle
 
 /// `registry_settings_of` of the header.
 #[unsafe(no_mangle)]
-pub extern "C" fn registry_settings_of(keeper: &mut KeeperHandle, settings: &mut CSettings) -> u32
-    ensures { Through keeper.old.body keeper.new.body result (settings.new ≡ settings.old)
-        (λ k l. (result ≡ DONE) × (l ≡ k) × (settings.new ≡ settings_out k.words.settings)) }
+pub extern "C" fn registry_settings_of(
+    keeper: &mut KeeperHandle,
+    mut settings: SettingsPlace,
+) -> SettingsAnswer
+    ensures place { result.place.at ≡ settings.at }
+    ensures call { Through keeper.old.body keeper.new.body result.number (result.place.value ≡ settings.value)
+        (λ k l. (result.number ≡ DONE) × (l ≡ k) × (result.place.value ≡ put settings.value (settings_out k.words.settings))) }
 {
     let Some(body) = keeper.body_mut() else {
-        return EMPTY_HANDLE;
+        return settings.answer(EMPTY_HANDLE);
     };
-    *settings = settings_out(body.settings());
-    DONE
+    settings.put(settings_out(body.settings()));
+    settings.answer(DONE)
 }
 
 /// `registry_attach` of the header.
 #[unsafe(no_mangle)]
 pub extern "C" fn registry_attach(
-    alloc: Global,
     keeper: &mut KeeperHandle,
     cpu: &mut CpuHandle,
-    name: &CName,
+    mut name: GivenName,
     value: u64,
-    made: &mut CEntry,
-) -> u32
+    mut made: EntryPlace,
+) -> NamedAnswer
     requires { AreOfOne keeper.old.body cpu.old.body }
-    ensures { ThroughBoth keeper.old.body keeper.new.body cpu.old.body cpu.new.body result (made.new ≡ made.old)
-        (λ k c l d. AttachAnswers name.now value k c l d result made.old made.new) }
+    ensures places { (result.name ≡ name) × (result.place.at ≡ made.at) }
+    ensures call { ThroughBoth keeper.old.body keeper.new.body cpu.old.body cpu.new.body result.number (result.place.value ≡ made.value)
+        (λ k c l d. AttachesNamed name.name value k c l d result.number made.value result.place.value) }
 {
-    let Some((k, room)) = keeper.take(alloc) else {
-        return EMPTY_HANDLE;
+    let Some(k) = keeper.body_mut() else {
+        return made.answer(EMPTY_HANDLE).with_name(name);
     };
-    let Some((c, place)) = cpu.take(alloc) else {
-        keeper.give(k, room);
-        return EMPTY_HANDLE;
+    let Some(c) = cpu.body_mut() else {
+        return made.answer(EMPTY_HANDLE).with_name(name);
     };
-    let (k, c, answer) = keeper_answers::attach(k, c, name, value, made);
-    keeper.give(k, room);
-    cpu.give(c, place);
-    answer
+    let answer = keeper_answers::attach_named(k, c, name.name(), value, &mut made);
+    made.answer(answer).with_name(name)
 }
 
 /// `registry_detach` of the header.
 #[unsafe(no_mangle)]
 pub extern "C" fn registry_detach(
-    alloc: Global,
     keeper: &mut KeeperHandle,
     cpu: &mut CpuHandle,
     kind: u64,
-    name: &CName,
-    gone: &mut CEntry,
-) -> u32
+    mut name: GivenName,
+    mut gone: EntryPlace,
+) -> NamedAnswer
     requires { AreOfOne keeper.old.body cpu.old.body }
-    ensures { ThroughBoth keeper.old.body keeper.new.body cpu.old.body cpu.new.body result (gone.new ≡ gone.old)
-        (λ k c l d. DetachAnswers kind name.now k c l d result gone.old gone.new) }
+    ensures places { (result.name ≡ name) × (result.place.at ≡ gone.at) }
+    ensures call { ThroughBoth keeper.old.body keeper.new.body cpu.old.body cpu.new.body result.number (result.place.value ≡ gone.value)
+        (λ k c l d. DetachesNamed kind name.name k c l d result.number gone.value result.place.value) }
 {
-    let Some((k, room)) = keeper.take(alloc) else {
-        return EMPTY_HANDLE;
+    let Some(k) = keeper.body_mut() else {
+        return gone.answer(EMPTY_HANDLE).with_name(name);
     };
-    let Some((c, place)) = cpu.take(alloc) else {
-        keeper.give(k, room);
-        return EMPTY_HANDLE;
+    let Some(c) = cpu.body_mut() else {
+        return gone.answer(EMPTY_HANDLE).with_name(name);
     };
-    let (k, c, answer) = keeper_answers::detach(k, c, kind, name, gone);
-    keeper.give(k, room);
-    cpu.give(c, place);
-    answer
+    let answer = keeper_answers::detach_named(k, c, kind, name.name(), &mut gone);
+    gone.answer(answer).with_name(name)
 }
 
 /// `registry_advance` of the header.
 #[unsafe(no_mangle)]
 pub extern "C" fn registry_advance(
-    alloc: Global,
     keeper: &mut KeeperHandle,
     number: u64,
-    met: &mut CStage,
-) -> u32
-    ensures { Through keeper.old.body keeper.new.body result (met.new ≡ met.old)
-        (λ k l. AdvanceAnswers number k l result met.old met.new) }
+    mut met: StagePlace,
+) -> StageAnswer
+    ensures place { result.place.at ≡ met.at }
+    ensures call { Through keeper.old.body keeper.new.body result.number (result.place.value ≡ met.value)
+        (λ k l. AdvanceAnswers number k l result.number met.value result.place.value) }
 {
-    let Some((k, room)) = keeper.take(alloc) else {
-        return EMPTY_HANDLE;
+    let Some(k) = keeper.body_mut() else {
+        return met.answer(EMPTY_HANDLE);
     };
-    let (k, answer) = keeper_answers::advance(k, number, met);
-    keeper.give(k, room);
-    answer
+    let answer = keeper_answers::advance(k, number, &mut met);
+    met.answer(answer)
 }
 
 /// `registry_destroy` of the header.
 #[unsafe(no_mangle)]
 pub extern "C" fn registry_destroy(
-    alloc: Global,
     keeper: &mut KeeperHandle,
     cpu: &mut CpuHandle,
     number: u64,
-    met: &mut CStage,
-) -> u32
+    mut met: StagePlace,
+) -> StageAnswer
     requires { AreOfOne keeper.old.body cpu.old.body }
-    ensures { ThroughBoth keeper.old.body keeper.new.body cpu.old.body cpu.new.body result (met.new ≡ met.old)
-        (λ k c l d. DestroyAnswers (is_inside c.cpu) number k c l d result met.old met.new) }
+    ensures place { result.place.at ≡ met.at }
+    ensures call { ThroughBoth keeper.old.body keeper.new.body cpu.old.body cpu.new.body result.number (result.place.value ≡ met.value)
+        (λ k c l d. DestroyAnswers (is_inside c.cpu) number k c l d result.number met.value result.place.value) }
 {
-    let Some((k, room)) = keeper.take(alloc) else {
-        return EMPTY_HANDLE;
+    let Some(k) = keeper.body_mut() else {
+        return met.answer(EMPTY_HANDLE);
     };
-    let Some((c, place)) = cpu.take(alloc) else {
-        keeper.give(k, room);
-        return EMPTY_HANDLE;
+    let Some(c) = cpu.body_mut() else {
+        return met.answer(EMPTY_HANDLE);
     };
-    let (k, c, answer) = keeper_answers::destroy(k, c, number, met);
-    keeper.give(k, room);
-    cpu.give(c, place);
-    answer
+    let answer = keeper_answers::destroy(k, c, number, &mut met);
+    met.answer(answer)
 }
 
-/// `registry_perform` of the header.
+/// `registry_perform_begin` of the header.
 #[unsafe(no_mangle)]
-pub extern "C" fn registry_perform(
-    alloc: Global,
+pub extern "C" fn registry_perform_begin(
     keeper: &mut KeeperHandle,
     cpu: &mut CpuHandle,
-    wait: &mut CWait,
-) -> u32
+    mut wait: WaitPlace,
+) -> WaitAnswer
     requires { AreOfOne keeper.old.body cpu.old.body }
-    ensures { PerformCalls keeper.old.body cpu.old.body keeper.new.body cpu.new.body result wait.old wait.new }
+    ensures place { result.place.at ≡ wait.at }
+    ensures call { PerformCalls keeper.old.body cpu.old.body keeper.new.body cpu.new.body result.number wait.value result.place.value }
 {
-    let Some((k, room)) = keeper.take(alloc) else {
-        return EMPTY_HANDLE;
+    let Some(k) = keeper.body_mut() else {
+        return wait.answer(EMPTY_HANDLE);
     };
-    let Some((c, place)) = cpu.take(alloc) else {
-        keeper.give(k, room);
-        return EMPTY_HANDLE;
+    let Some(c) = cpu.body_mut() else {
+        return wait.answer(EMPTY_HANDLE);
     };
-    let (k, c, answer) = keeper_answers::perform(k, c, wait);
-    keeper.give(k, room);
-    cpu.give(c, place);
-    answer
+    let answer = keeper_answers::perform_at(k, c, &mut wait);
+    wait.answer(answer)
 }
 
 /// `registry_perform_turn` of the header.
 #[unsafe(no_mangle)]
 pub extern "C" fn registry_perform_turn(
-    alloc: Global,
     keeper: &mut KeeperHandle,
     cpu: &mut CpuHandle,
-    wait: &mut CWait,
-    waited: &mut u64,
-) -> u32
+    mut wait: WaitPlace,
+    mut waited: NumberPlace,
+) -> TurnAnswer
     requires { AreOfOne keeper.old.body cpu.old.body }
-    ensures { TurnCalls keeper.old.body cpu.old.body keeper.new.body cpu.new.body result wait.old wait.new waited.old waited.new }
+    ensures places { (result.wait.at ≡ wait.at) × (result.place.at ≡ waited.at) }
+    ensures call { TurnCalls keeper.old.body cpu.old.body keeper.new.body cpu.new.body result.number wait.value result.wait.value waited.value result.place.value }
 {
-    let Some((k, room)) = keeper.take(alloc) else {
-        return EMPTY_HANDLE;
+    let Some(k) = keeper.body_mut() else {
+        return waited.answer(EMPTY_HANDLE).with_wait(wait);
     };
-    let Some((c, place)) = cpu.take(alloc) else {
-        keeper.give(k, room);
-        return EMPTY_HANDLE;
+    let Some(c) = cpu.body_mut() else {
+        return waited.answer(EMPTY_HANDLE).with_wait(wait);
     };
-    let (k, c, answer) = keeper_answers::turn(k, c, wait, waited);
-    keeper.give(k, room);
-    cpu.give(c, place);
-    answer
+    let answer = keeper_answers::turn_at(k, c, &mut wait, &mut waited);
+    waited.answer(answer).with_wait(wait)
 }

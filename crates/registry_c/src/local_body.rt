@@ -4,28 +4,33 @@ ghost use Rattle.std.specs.Prelude.{◌≡◌, ◌↔◌, ◌⊎◌, ◌<◌, If
 ghost use Rattle.registry_values.specs.declared.entry.Entry.{Entry};
 ghost use Rattle.cpu_words.specs.Domains.{AreWordsOf};
 ghost use Rattle.local_count.specs.References.{HasAcquired, IsFull};
+ghost use Rattle.registry_c.specs.Bodies.{back_word};
 ghost use Rattle.registry_c.specs.LocalCalls.{LocalReleases};
 ghost use Rattle.registry_c.specs.Values.{entry_out};
 
 use crate::cpu_body::CpuBody;
 use crate::values::{CEntry, CName, COLLECTED, DONE};
-use cpu_words::Words;
 use cpu_words::steps::load_local;
+use cpu_words::{ReferenceSeat, Words};
 use local_count::{PlainRef, acquire_local_on, net_count, try_release_on};
 use passive_list::PlainCpu;
-use registry_values::{BIAS, Refusal, kind_word, why_uncounted};
+use registry_values::{BIAS, Kind, Refusal, kind_word, why_uncounted};
 use std::alloc::Global;
 use std::marker::Model;
+use std::mem::ManuallyDrop;
 use std_alloc::room::Vacant;
 
 /// A local reference, and its entry as C has it. An entry's words stay as they were published, so one read at the acquire serves: the
-/// reference needs no share of the table's words, whose count of owners all CPUs would write. It can't be dropped: it is spent by a release.
+/// reference needs no share of the table's words, whose count of owners all CPUs would write. It can't be dropped: it is spent by a release,
+/// or forgotten.
+///
+/// All of it are words: no byte is padding, which the compiler would carry from copy to copy, and an acquire and a release copy it.
 pub struct LocalBody {
-    pub reference: PlainRef,
-    /// Its entry, just as it was attached.
-    pub entry: CEntry,
-    /// Whether a release found its CPU's count collected.
-    pub back: bool,
+    seat: ReferenceSeat,
+    /// Its entry, just as it was attached. Its number, slot and kind are the reference's.
+    entry: CEntry,
+    /// 1 where a release found its CPU's count collected, and else 0.
+    back: u64,
 }
 
 impl Model for LocalBody {
@@ -33,12 +38,49 @@ impl Model for LocalBody {
 
     ghost Value = { OnLocalBody };
 
-    ghost view = { λ b. record { table = b.reference.table; reference = b.reference.reference } };
+    ghost view = { λ b. record { table = b.seat.table; reference = b.seat.view } };
 
-    ghost invariant = { λ b. IsOurLocal b.reference.reference b.entry b.back };
+    ghost invariant = { λ b. IsOurLocal b.seat.view b.entry b.back };
 }
 
 impl LocalBody {
+    /// A reference with its entry, and with 1 where it came back, else 0.
+    pub fn of(reference: PlainRef, entry: CEntry, back: u64) -> LocalBody
+        requires entry { entry ≡ entry_out reference.reference.entry }
+        requires back { back ≡ back_word reference.reference.collected }
+        ensures { (result.table ≡ reference.table) × (result.reference ≡ reference.reference) }
+    {
+        let PlainRef {
+            seat,
+            number: _,
+            slot: _,
+            kind: _,
+        } = reference;
+        LocalBody { seat, entry, back }
+    }
+
+    /// The reference itself.
+    pub fn into_reference(self) -> PlainRef
+        ensures { (result.table ≡ self.table) × (result.reference ≡ self.reference) }
+    {
+        let LocalBody {
+            seat,
+            entry,
+            back: _,
+        } = self;
+        let kind = if entry.kind == 1 {
+            Kind::Iface
+        } else {
+            Kind::Driver
+        };
+        PlainRef {
+            seat,
+            number: entry.number,
+            slot: entry.slot as u8,
+            kind,
+        }
+    }
+
     /// The entry that the reference is to, just as it was attached.
     pub fn entry(&self) -> CEntry
         ensures { result ≡ entry_out self.now.reference.entry }
@@ -50,7 +92,7 @@ impl LocalBody {
     pub fn number(&self) -> u64
         ensures { result ≡ self.now.reference.entry.number }
     {
-        self.reference.number()
+        self.entry.number
     }
 
     /// The slot of its entry, from 0.
@@ -58,19 +100,34 @@ impl LocalBody {
         ensures slot { result ≡ self.now.reference.entry.slot }
         ensures few { result < 32 }
     {
-        self.reference.slot
+        self.entry.slot as u8
     }
 
     /// Whether a release found its CPU's count collected.
     pub fn is_back(&self) -> bool
         ensures { result ≡ is_some self.now.reference.collected }
     {
+        self.back == 1
+    }
+
+    /// The same as a word: 1 or 0.
+    pub fn back(&self) -> u64
+        ensures { result ≡ back_word self.now.reference.collected }
+    {
         self.back
+    }
+
+    /// Lets the value go and leaves the reference held, for good: nobody has its seat then, so no step can release it, and whatever counts it
+    /// goes on doing so.
+    pub fn forget(self) {
+        // What isn't dropped frees nothing and makes no step. That is sound: what holds of the words while a seat stands holds whoever has
+        // the seat, and a body owns no memory beyond its own.
+        let _held = unsafe { ManuallyDrop::new_unchecked(self) };
     }
 }
 
-/// Acquires a local reference to the CPU's last found entry, with its entry, and a block for it.
-/// Refused, in this order, and nothing has changed: `NothingFound`, `LocalFull`, `NoMemory`.
+/// Acquires a local reference to the CPU's last found entry, with its entry, and a block for it: the one that the CPU keeps, or a new one.
+/// Refused, in this order, and nothing has changed: `NothingFound`, `LocalFull`, `NoMemory`. A block that isn't needed then is kept.
 pub fn acquire_local(
     alloc: Global,
     cpu: &mut CpuBody,
@@ -83,24 +140,16 @@ pub fn acquire_local(
     ensures no_other { IfErr result (λ refusal. (refusal ≡ Refusal.NothingFound) ⊎ ((refusal ≡ Refusal.LocalFull) ⊎ (refusal ≡ Refusal.NoMemory))) }
     ensures words { cpu.new.words ≡ cpu.old.words }
 {
-    let Ok(room) = Vacant::take(alloc) else {
+    let Ok(room) = cpu.take_room(alloc) else {
         return Err(why_no_local(&cpu.words, &cpu.cpu));
     };
     match acquire_local_on(&cpu.words, &mut cpu.cpu) {
         Ok(mut reference) => {
             let entry = read_entry(&cpu.words, &mut reference);
-            let back = false;
-            Ok((
-                LocalBody {
-                    reference,
-                    entry,
-                    back,
-                },
-                room,
-            ))
+            Ok((LocalBody::of(reference, entry, 0), room))
         }
         Err(refusal) => {
-            room.free();
+            cpu.keep_room(room);
             Err(refusal)
         }
     }
@@ -143,27 +192,19 @@ fn why_no_local(words: &Words, cpu: &PlainCpu) -> Refusal
     Refusal::NoMemory
 }
 
-/// Releases the reference on this CPU. It comes back where the keeper had collected the CPU's count.
+/// Releases the reference on this CPU. It comes back where the keeper had collected the CPU's count; its entry is read again then, so that a
+/// release that is done carries no entry past its step.
 /// Condition: both are of one registry.
 pub fn release_local(cpu: &mut CpuBody, local: LocalBody) -> (u32, Option<LocalBody>)
     requires { local.table ≡ cpu.old.words.table }
     ensures { LocalReleases cpu.old local cpu.new result.0 result.1 }
 {
-    let LocalBody {
-        reference,
-        entry,
-        back: _,
-    } = local;
+    let reference = local.into_reference();
     match try_release_on(&cpu.words, &mut cpu.cpu, reference) {
         Ok(()) => (DONE, None),
-        Err(reference) => {
-            let back = true;
-            let local = LocalBody {
-                reference,
-                entry,
-                back,
-            };
-            (COLLECTED, Some(local))
+        Err(mut reference) => {
+            let entry = read_entry(&cpu.words, &mut reference);
+            (COLLECTED, Some(LocalBody::of(reference, entry, 1)))
         }
     }
 }

@@ -1,16 +1,22 @@
 //! The calls of local references, through the handles.
 
-ghost use Rattle.std.specs.Prelude.{◌≡◌};
+ghost use Rattle.std.specs.Prelude.{◌≡◌, None};
 ghost use Rattle.registry_c.specs.Calls.{AreOfOne, IsOfCpu, IsOfKeeper, Through};
-ghost use Rattle.registry_c.specs.LocalCalls.{AttachIfaceAnswers, LocalAcquireAnswers, LocalGivesUp, LocalReleases, ThroughAll, ThroughLocal};
+ghost use Rattle.registry_c.specs.LocalCalls.{AttachesIfaceNamed, LocalAcquireAnswers, LocalForgets, LocalGivesUp, LocalReleases, ThroughAll, ThroughLocal};
+ghost use Rattle.registry_c.specs.Places.{put};
 ghost use Rattle.registry_c.specs.Values.{entry_out};
 
+use crate::answer::{EntryAnswer, NamedAnswer};
+use crate::cpu_body::CpuBody;
+use crate::given::GivenName;
 use crate::handle::{CpuHandle, KeeperHandle, LocalHandle};
-use crate::local_body::{acquire_local, release_local};
-use crate::local_keeper::{attach_iface, give_up};
-use crate::values::{CEntry, CName, DONE, EMPTY_HANDLE, FULL_HANDLE, refused};
+use crate::local_body::{LocalBody, acquire_local, release_local};
+use crate::local_keeper::{attach_iface_named, give_up};
+use crate::place::EntryPlace;
+use crate::values::{DONE, EMPTY_HANDLE, FULL_HANDLE, refused};
 use held::CHandle;
 use std::alloc::Global;
+use std_alloc::room::Vacant;
 
 /// `registry_local_acquire` of the header.
 #[unsafe(no_mangle)]
@@ -38,15 +44,16 @@ pub extern "C" fn registry_local_acquire(
 
 /// `registry_local_read` of the header.
 #[unsafe(no_mangle)]
-pub extern "C" fn registry_local_read(local: &mut LocalHandle, entry: &mut CEntry) -> u32
-    ensures { Through local.old.body local.new.body result (entry.new ≡ entry.old)
-        (λ v w. (result ≡ DONE) × (w ≡ v) × (entry.new ≡ entry_out v.reference.entry)) }
+pub extern "C" fn registry_local_read(local: &mut LocalHandle, mut entry: EntryPlace) -> EntryAnswer
+    ensures place { result.place.at ≡ entry.at }
+    ensures call { Through local.old.body local.new.body result.number (result.place.value ≡ entry.value)
+        (λ v w. (result.number ≡ DONE) × (w ≡ v) × (result.place.value ≡ put entry.value (entry_out v.reference.entry))) }
 {
     let Some(reference) = local.body_mut() else {
-        return EMPTY_HANDLE;
+        return entry.answer(EMPTY_HANDLE);
     };
-    *entry = reference.entry();
-    DONE
+    entry.put(reference.entry());
+    entry.answer(DONE)
 }
 
 /// `registry_local_release` of the header.
@@ -66,8 +73,25 @@ pub extern "C" fn registry_local_release(
         return EMPTY_HANDLE;
     };
     let (answer, back) = release_local(body, reference);
-    local.settle(back, room);
+    settle_on(body, local, back, room);
     answer
+}
+
+/// Puts what came back behind its handle again, in its block; with nothing, the CPU keeps the block. Condition: the handle is empty.
+fn settle_on(
+    cpu: &mut CpuBody,
+    local: &mut LocalHandle,
+    back: Option<LocalBody>,
+    room: Vacant<LocalBody, Global>,
+)
+    requires { local.old.body ≡ None }
+    ensures handle { local.new.body ≡ back }
+    ensures cpu { cpu.new ≡ cpu.old }
+{
+    match back {
+        None => cpu.keep_room(room),
+        Some(reference) => local.give(reference, room),
+    }
 }
 
 /// `registry_local_give_up` of the header.
@@ -80,17 +104,28 @@ pub extern "C" fn registry_local_give_up(
     requires { IsOfKeeper keeper.old.body local.old.body }
     ensures { ThroughLocal keeper.old.body keeper.new.body local.old.body local.new.body result (λ k v j l. LocalGivesUp k v j result l) }
 {
-    let Some((k, place)) = keeper.take(alloc) else {
+    let Some(k) = keeper.body_mut() else {
         return EMPTY_HANDLE;
     };
     let Some((reference, room)) = local.take(alloc) else {
-        keeper.give(k, place);
         return EMPTY_HANDLE;
     };
-    let (k, answer, back) = give_up(k, reference);
-    keeper.give(k, place);
+    let (answer, back) = give_up(k, reference);
     local.settle(back, room);
     answer
+}
+
+/// `registry_local_forget` of the header.
+#[unsafe(no_mangle)]
+pub extern "C" fn registry_local_forget(alloc: Global, local: &mut LocalHandle) -> u32
+    ensures { LocalForgets local.old.body local.new.body result }
+{
+    let Some((reference, room)) = local.take(alloc) else {
+        return EMPTY_HANDLE;
+    };
+    reference.forget();
+    room.free();
+    DONE
 }
 
 /// `registry_attach_iface` of the header.
@@ -100,30 +135,26 @@ pub extern "C" fn registry_attach_iface(
     keeper: &mut KeeperHandle,
     cpu: &mut CpuHandle,
     driver: &mut LocalHandle,
-    name: &CName,
+    mut name: GivenName,
     value: u64,
-    made: &mut CEntry,
-) -> u32
+    mut made: EntryPlace,
+) -> NamedAnswer
     requires same { AreOfOne keeper.old.body cpu.old.body }
     requires driver { IsOfKeeper keeper.old.body driver.old.body }
-    ensures { ThroughAll keeper.old.body keeper.new.body cpu.old.body cpu.new.body driver.old.body driver.new.body result (made.new ≡ made.old)
-        (λ k c v j d l. AttachIfaceAnswers name.now value k c v j d l result made.old made.new) }
+    ensures places { (result.name ≡ name) × (result.place.at ≡ made.at) }
+    ensures call { ThroughAll keeper.old.body keeper.new.body cpu.old.body cpu.new.body driver.old.body driver.new.body result.number (result.place.value ≡ made.value)
+        (λ k c v j d l. AttachesIfaceNamed name.name value k c v j d l result.number made.value result.place.value) }
 {
-    let Some((k, place)) = keeper.take(alloc) else {
-        return EMPTY_HANDLE;
+    let Some(k) = keeper.body_mut() else {
+        return made.answer(EMPTY_HANDLE).with_name(name);
     };
-    let Some((c, site)) = cpu.take(alloc) else {
-        keeper.give(k, place);
-        return EMPTY_HANDLE;
+    let Some(c) = cpu.body_mut() else {
+        return made.answer(EMPTY_HANDLE).with_name(name);
     };
     let Some((reference, room)) = driver.take(alloc) else {
-        keeper.give(k, place);
-        cpu.give(c, site);
-        return EMPTY_HANDLE;
+        return made.answer(EMPTY_HANDLE).with_name(name);
     };
-    let (k, c, answer, back) = attach_iface(k, c, reference, name, value, made);
-    keeper.give(k, place);
-    cpu.give(c, site);
-    driver.settle(back, room);
-    answer
+    let (answer, back) = attach_iface_named(k, c, reference, name.name(), value, &mut made);
+    settle_on(c, driver, back, room);
+    made.answer(answer).with_name(name)
 }

@@ -1,85 +1,50 @@
-//! The calls of whoever holds the keeper that take a local reference, each at a name for its table that holds during the call.
+//! The calls of whoever holds the keeper that take a local reference.
 
-ghost use Rattle.std.specs.Prelude.{◌≡◌, ◌<◌, IfOk, IfErr, IsTrue, Ok, Err, None};
-ghost use Rattle.registry_values.specs.declared.entry.Kind.TheVariants.{Iface};
-ghost use Rattle.registry_values.specs.Names.{is_lawful};
-ghost use Rattle.cpu_words.specs.Domains.{AreWordsOf};
+ghost use Rattle.std.specs.Prelude.{◌≡◌, ◌<◌, None};
 ghost use Rattle.cpu_words.specs.Draining.{IsFoundCollected};
 ghost use Rattle.local_count.specs.Draining.{HasGivenUp};
-ghost use Rattle.name_registry.specs.Attaching.{HasAttachedIfaceFor, attach_iface_answer};
 ghost use Rattle.registry_c.specs.Collected.{are_collected_for};
-ghost use Rattle.registry_c.specs.KeeperCalls.{KeepsWords};
-ghost use Rattle.registry_c.specs.LocalCalls.{AttachIfaceAnswers, LocalGivesUp};
+ghost use Rattle.registry_c.specs.LocalCalls.{AttachIfaceAnswers, AttachesIfaceNamed, LocalGivesUp};
 
 use crate::cpu_body::CpuBody;
 use crate::keeper_body::KeeperBody;
 use crate::local_body::LocalBody;
-use crate::values::{BAD_NAME, CEntry, CName, DONE, NOT_COLLECTED, entry_out, refused};
-use cpu_words::{Domain, Words};
-use local_count::{LocalRef, release_under};
-use name_registry::attach_iface_in;
+use crate::place::EntryPlace;
+use crate::values::{BAD_NAME, CName, DONE, NOT_COLLECTED, NULL, entry_out, refused};
+use local_count::release_under_on;
 use passive_list::Keeper;
-use registry_values::{Entry, Kind, Name, Record, Refusal, is_retired_as};
-use std::alloc::Global;
-use std::marker::{Brand, PhantomData};
-use std::sync::Arc;
-use std::sync::ledger::Blank;
+use registry_values::{Kind, Name, Record, is_retired_as};
 
 /// Releases the reference under the interlock, where a count of its entry was collected. It comes back where none was.
 /// Condition: both are of one registry.
-pub fn give_up(keeper: KeeperBody, local: LocalBody) -> (KeeperBody, u32, Option<LocalBody>)
-    requires { local.table ≡ keeper.words.table }
-    ensures { LocalGivesUp keeper local result.0 result.1 result.2 }
+pub fn give_up(keeper: &mut KeeperBody, local: LocalBody) -> (u32, Option<LocalBody>)
+    requires { local.table ≡ keeper.old.words.table }
+    ensures { LocalGivesUp keeper.old local keeper.new result.0 result.1 }
 {
-    give_up_at::<Brand>(keeper, local)
-}
-
-fn give_up_at<D: Domain>(
-    keeper: KeeperBody,
-    local: LocalBody,
-) -> (KeeperBody, u32, Option<LocalBody>)
-    requires table { (keeper.words.table ≡ D.table) × (keeper.words.settings ≡ D.settings) }
-    requires same { local.table ≡ keeper.words.table }
-    ensures { LocalGivesUp keeper local result.0 result.1 result.2 }
-{
-    let (words, keeper) = keeper.into_keeper::<D>();
     if local.is_back() {
-        return spend(words, keeper, local);
+        return spend(keeper, local);
     }
-    if are_collected(&keeper, local.slot(), local.number()) {
-        return spend(words, keeper, local);
+    if are_collected(&keeper.keeper, local.slot(), local.number()) {
+        return spend(keeper, local);
     }
-    let keeper = KeeperBody::of_keeper(words, keeper);
-    (keeper, NOT_COLLECTED, Some(local))
+    (NOT_COLLECTED, Some(local))
 }
 
-/// Releases the reference. Condition: a count of its entry was collected.
-fn spend<D: Domain>(
-    words: Arc<Words, Global>,
-    keeper: Keeper<D>,
-    local: LocalBody,
-) -> (KeeperBody, u32, Option<LocalBody>)
-    requires words { AreWordsOf words.value D.table D.settings }
-    requires same { local.table ≡ words.value.table }
-    requires collected { IsFoundCollected keeper.slots keeper.view.marks local.reference }
-    ensures words { result.0.words ≡ words.value }
-    ensures done { (result.1 ≡ DONE) × HasGivenUp keeper local.reference result.0.keeper × (result.2 ≡ None) }
+/// Releases the reference. Conditions: both are of one registry; a count of its entry was collected.
+fn spend(keeper: &mut KeeperBody, local: LocalBody) -> (u32, Option<LocalBody>)
+    requires same { local.table ≡ keeper.old.words.table }
+    requires collected { IsFoundCollected keeper.old.keeper.slots keeper.old.keeper.view.marks local.reference }
+    ensures words { keeper.new.words ≡ keeper.old.words }
+    ensures done { (result.0 ≡ DONE) × HasGivenUp keeper.old.keeper local.reference keeper.new.keeper × (result.1 ≡ None) }
 {
-    let mut keeper = keeper;
-    let LocalBody {
-        reference: plain,
-        entry: _,
-        back: _,
-    } = local;
-    let domain = PhantomData;
-    release_under(&words, &mut keeper, LocalRef::<D> { plain, domain });
-    (KeeperBody::of_keeper(words, keeper), DONE, None)
+    release_under_on(&keeper.words, &mut keeper.keeper, local.into_reference());
+    (DONE, None)
 }
 
 /// Whether the entry with this number is retired in the slot, and the count of some CPU was collected for it.
-fn are_collected<D: Domain>(keeper: &Keeper<D>, slot: u8, number: u64) -> bool
+fn are_collected(keeper: &Keeper, slot: u8, number: u64) -> bool
     requires { slot < 32 }
-    ensures { result ≡ are_collected_for keeper.now slot number D.settings.cpus }
+    ensures { result ≡ are_collected_for keeper.now.keeper slot number keeper.now.words.settings.cpus }
 {
     let cpus = keeper.settings.cpus;
     if !is_retired_as(number, &keeper.slot(slot)) {
@@ -93,96 +58,48 @@ fn are_collected<D: Domain>(keeper: &Keeper<D>, slot: u8, number: u64) -> bool
     false
 }
 
-/// Attaches an interface on the driver that the reference is to. The reference comes back where that is refused.
+/// Attaches an interface, by the name, if one is given, on the driver that the reference is to. The reference comes back where that is refused.
 /// Condition: all are of one registry.
-pub fn attach_iface(
-    keeper: KeeperBody,
-    cpu: CpuBody,
+pub fn attach_iface_named(
+    keeper: &mut KeeperBody,
+    cpu: &mut CpuBody,
     local: LocalBody,
-    name: &CName,
+    name: Option<CName>,
     value: u64,
-    made: &mut CEntry,
-) -> (KeeperBody, CpuBody, u32, Option<LocalBody>)
-    requires same { (cpu.words ≡ keeper.words) × (local.table ≡ keeper.words.table) }
-    ensures { AttachIfaceAnswers name.now value keeper cpu local result.0 result.1 result.3 result.2 made.old made.new }
+    made: &mut EntryPlace,
+) -> (u32, Option<LocalBody>)
+    requires same { (cpu.old.words ≡ keeper.old.words) × (local.table ≡ keeper.old.words.table) }
+    ensures place { made.new.at ≡ made.old.at }
+    ensures call { AttachesIfaceNamed name value keeper.old cpu.old local keeper.new cpu.new result.1 result.0 made.old.value made.new.value }
 {
-    let Some(name) = Name::from_words(name.high, name.low) else {
-        return (keeper, cpu, BAD_NAME, Some(local));
-    };
-    let kind = Kind::Iface;
-    let rec = Record { kind, name, value };
-    let (keeper, cpu, answer) = attach_iface_bodies(keeper, cpu, rec, local);
-    match answer {
-        Ok(entry) => {
-            *made = entry_out(entry);
-            (keeper, cpu, DONE, None)
-        }
-        Err((refusal, local)) => (keeper, cpu, refused(refusal), Some(local)),
+    match name {
+        None => (NULL, Some(local)),
+        Some(name) => attach_iface(keeper, cpu, local, &name, value, made),
     }
 }
 
-fn attach_iface_bodies(
-    keeper: KeeperBody,
-    cpu: CpuBody,
-    rec: Record,
+/// Attaches an interface.
+fn attach_iface(
+    keeper: &mut KeeperBody,
+    cpu: &mut CpuBody,
     local: LocalBody,
-) -> (KeeperBody, CpuBody, Result<Entry, (Refusal, LocalBody)>)
-    requires same { (cpu.words ≡ keeper.words) × (local.table ≡ keeper.words.table) }
-    requires kind { rec.kind ≡ Iface }
-    requires name { IsTrue (is_lawful rec.name) }
-    ensures answer { IfOk result.2 (λ e. attach_iface_answer keeper.words.settings keeper.keeper cpu.cpu rec local.reference ≡ Ok e) }
-    ensures ok { IfOk result.2 (λ e. HasAttachedIfaceFor keeper.keeper cpu.cpu local.reference e result.0.keeper result.1.cpu) }
-    ensures refused { IfErr result.2 (λ back. (attach_iface_answer keeper.words.settings keeper.keeper cpu.cpu rec local.reference ≡ Err back.0) × (back.1 ≡ local)
-        × (result.0 ≡ keeper) × (result.1 ≡ cpu)) }
-    ensures words { KeepsWords keeper cpu result.0 result.1 }
+    name: &CName,
+    value: u64,
+    made: &mut EntryPlace,
+) -> (u32, Option<LocalBody>)
+    requires same { (cpu.old.words ≡ keeper.old.words) × (local.table ≡ keeper.old.words.table) }
+    ensures place { made.new.at ≡ made.old.at }
+    ensures call { AttachIfaceAnswers name.now value keeper.old cpu.old local keeper.new cpu.new result.1 result.0 made.old.value made.new.value }
 {
-    let changes = Blank::new(1);
-    attach_iface_at::<Brand>(keeper, cpu, rec, local, changes)
-}
-
-fn attach_iface_at<D: Domain>(
-    keeper: KeeperBody,
-    cpu: CpuBody,
-    rec: Record,
-    local: LocalBody,
-    changes: Blank,
-) -> (KeeperBody, CpuBody, Result<Entry, (Refusal, LocalBody)>)
-    requires table { (keeper.words.table ≡ D.table) × (keeper.words.settings ≡ D.settings) }
-    requires ledger { (changes.name ≡ D.name) × (changes.parts ≡ D.parts) × (D.parts ≡ 1) }
-    requires same { (cpu.words ≡ keeper.words) × (local.table ≡ keeper.words.table) }
-    requires kind { rec.kind ≡ Iface }
-    requires name { IsTrue (is_lawful rec.name) }
-    ensures answer { IfOk result.2 (λ e. attach_iface_answer keeper.words.settings keeper.keeper cpu.cpu rec local.reference ≡ Ok e) }
-    ensures ok { IfOk result.2 (λ e. HasAttachedIfaceFor keeper.keeper cpu.cpu local.reference e result.0.keeper result.1.cpu) }
-    ensures refused { IfErr result.2 (λ back. (attach_iface_answer keeper.words.settings keeper.keeper cpu.cpu rec local.reference ≡ Err back.0) × (back.1 ≡ local)
-        × (result.0 ≡ keeper) × (result.1 ≡ cpu)) }
-    ensures words { KeepsWords keeper cpu result.0 result.1 }
-{
-    let (words, mut keeper) = keeper.into_keeper::<D>();
-    let _fit = keeper.settings.cpus;
-    let (share, mut cpu) = cpu.into_cpu::<D>(changes);
-    let LocalBody {
-        reference: plain,
-        entry: kept,
-        back,
-    } = local;
-    let domain = PhantomData;
-    let reference = LocalRef::<D> { plain, domain };
-    let answer = match attach_iface_in(&words, &mut keeper, &mut cpu, rec, reference) {
-        Ok(entry) => Ok(entry),
-        Err((refusal, reference)) => {
-            let LocalRef { plain, domain: _ } = reference;
-            let local = LocalBody {
-                reference: plain,
-                entry: kept,
-                back,
-            };
-            Err((refusal, local))
-        }
+    let Some(name) = Name::from_words(name.high, name.low) else {
+        return (BAD_NAME, Some(local));
     };
-    (
-        KeeperBody::of_keeper(words, keeper),
-        CpuBody::of_cpu(share, cpu),
-        answer,
-    )
+    let kind = Kind::Iface;
+    match keeper.attach_iface(cpu, Record { kind, name, value }, local) {
+        Ok(entry) => {
+            made.put(entry_out(entry));
+            (DONE, None)
+        }
+        Err((refusal, local)) => (refused(refusal), Some(local)),
+    }
 }

@@ -4,25 +4,83 @@ ghost use Rattle.std.specs.Prelude.{◌≡◌, length, true, false, IfOk, IfErr,
 ghost use Rattle.registry_values.specs.Limits.{are_fit};
 ghost use Rattle.cpu_words.specs.Opening.{AreSeats, keeper_with};
 ghost use Rattle.passive_list.specs.Cpus.{OnPlainCpu};
-ghost use Rattle.registry_c.specs.Opening.{AreEmpty, AreGiven, HasOpened, IsFull, IsSomeFull, Opens, StaysClosed, bodies_of, boxed, opened_down, opened_keeper};
-ghost use Rattle.registry_c.specs.Bodies.{OnKeeperBody};
+ghost use Rattle.held.specs.Rows.{IsLong};
+ghost use Rattle.registry_c.specs.Opening.{AreEmpty, AreGiven, HasOpened, IsFull, IsSomeFull, Opens, OpensBy, OpensInto, StaysClosed, bodies_of, boxed, opened_down, opened_keeper};
+ghost use Rattle.passive_list.specs.Keepers.{OnPlainKeeper};
 ghost use Rattle.registry_c.specs.Values.{settings_in};
 
+use crate::answer::OpenedAnswer;
 use crate::cpu_body::CpuBody;
+use crate::given::GivenSettings;
 use crate::handle::{CpuHandle, KeeperHandle};
 use crate::keeper_body::KeeperBody;
-use crate::values::{CSettings, DONE, FULL_HANDLE, refused, settings_in};
-use cpu_words::{CpuSeat, Domain, KeeperSeat, Words};
+use crate::rows::CpusPlace;
+use crate::values::{CSettings, DONE, FULL_HANDLE, NULL, refused, settings_in};
+use cpu_words::{CpuSeat, KeeperSeat, Words};
 use held::CHandle;
 use passive_list::{Keeper, PlainCpu};
 use registry_values::{Refusal, Settings};
 use std::alloc::{AllocError, Global};
-use std::marker::Brand;
 use std::sync::Arc;
 
 /// `registry_open` of the header.
 #[unsafe(no_mangle)]
 pub extern "C" fn registry_open(
+    alloc: Global,
+    mut settings: GivenSettings,
+    keeper: &mut KeeperHandle,
+    mut cpus: CpusPlace,
+    count: usize,
+) -> OpenedAnswer
+    requires count { IsLong cpus.value count }
+    ensures given { result.settings ≡ settings }
+    ensures place { result.cpus.at ≡ cpus.at }
+    ensures call { OpensInto settings.settings keeper.old.body keeper.new.body count cpus.value result.cpus.value result.number }
+{
+    let answer = open_at(alloc, &mut settings, keeper, &mut cpus, count);
+    settings.answer(answer).with_cpus(cpus)
+}
+
+/// Opens a registry into the handles, if there are any or needn't be.
+fn open_at(
+    alloc: Global,
+    settings: &mut GivenSettings,
+    keeper: &mut KeeperHandle,
+    cpus: &mut CpusPlace,
+    count: usize,
+) -> u32
+    requires count { IsLong cpus.old.value count }
+    ensures given { settings.new ≡ settings.old }
+    ensures place { cpus.new.at ≡ cpus.old.at }
+    ensures call { OpensInto settings.old.settings keeper.old.body keeper.new.body count cpus.old.value cpus.new.value result }
+{
+    if !cpus.is_null() {
+        return open_given(alloc, settings, keeper, cpus.row_mut(count));
+    }
+    if count != 0 {
+        return NULL;
+    }
+    open_given(alloc, settings, keeper, &mut [])
+}
+
+/// Opens a registry with the settings, if there are any.
+fn open_given(
+    alloc: Global,
+    settings: &mut GivenSettings,
+    keeper: &mut KeeperHandle,
+    cpus: &mut [CpuHandle],
+) -> u32
+    ensures given { settings.new ≡ settings.old }
+    ensures call { OpensBy settings.old.settings keeper.old.body keeper.new.body (bodies_of cpus.old) (bodies_of cpus.new) result }
+{
+    match settings.settings() {
+        None => NULL,
+        Some(given) => open_by(alloc, &given, keeper, cpus),
+    }
+}
+
+/// Opens a registry with these settings.
+fn open_by(
     alloc: Global,
     settings: &CSettings,
     keeper: &mut KeeperHandle,
@@ -130,40 +188,40 @@ fn open(
     let Ok(words) = Arc::new(alloc, words) else {
         return Err(Refusal::NoMemory);
     };
-    match open_at::<Brand>(alloc, words, keeper, seats) {
+    match open_on(alloc, words, keeper, seats) {
         Ok(made) => Ok(made),
         Err(_) => Err(Refusal::NoMemory),
     }
 }
 
-fn open_at<D: Domain>(
+/// The same over these words.
+fn open_on(
     alloc: Global,
     words: Arc<Words, Global>,
     keeper: KeeperSeat,
     seats: Vec<CpuSeat>,
 ) -> Result<(Box<KeeperBody, Global>, Vec<Box<CpuBody, Global>>), AllocError>
-    requires words { (words.value.table ≡ D.table) × (words.value.settings ≡ D.settings) × IsTrue (are_fit D.settings) }
-    requires keeper { (keeper.table ≡ D.table) × (keeper.view ≡ keeper_with D.settings D.settings.cpus) }
-    requires seats { AreSeats D.table D.settings D.settings.cpus seats.items }
+    requires fit { IsTrue (are_fit words.value.settings) }
+    requires keeper { (keeper.table ≡ words.value.table) × (keeper.view ≡ keeper_with words.value.settings words.value.settings.cpus) }
+    requires seats { AreSeats words.value.table words.value.settings words.value.settings.cpus seats.items }
     ensures words { IfOk result (λ made. made.0.value.words ≡ words.value) }
     ensures keeper { IfOk result (λ made. made.0.value ≡ opened_keeper words.value made.0.value.keeper.log) }
-    ensures cpus { IfOk result (λ made. boxed made.1.items ≡ opened_down words.value D.settings.cpus D.settings.cpus) }
+    ensures cpus { IfOk result (λ made. boxed made.1.items ≡ opened_down words.value words.value.settings.cpus words.value.settings.cpus) }
 {
-    let cpus = cpus_of::<D>(alloc, &words, seats)?;
-    let settings = words.settings();
-    let keeper = Keeper::<D>::of_seat(keeper, settings);
-    let keeper = Box::new(alloc, KeeperBody::of_keeper(words, keeper))?;
+    let cpus = cpus_of(alloc, &words, seats)?;
+    let keeper = Keeper::of_seat(keeper, words.settings());
+    let keeper = Box::new(alloc, KeeperBody { words, keeper })?;
     Ok((keeper, cpus))
 }
 
-fn cpus_of<D: Domain>(
+fn cpus_of(
     alloc: Global,
     words: &Arc<Words, Global>,
     mut seats: Vec<CpuSeat>,
 ) -> Result<Vec<Box<CpuBody, Global>>, AllocError>
-    requires words { (words.now.value.table ≡ D.table) × (words.now.value.settings ≡ D.settings) × IsTrue (are_fit D.settings) }
-    requires seats { AreSeats D.table D.settings D.settings.cpus seats.items }
-    ensures { IfOk result (λ cpus. boxed cpus.items ≡ opened_down words.now.value D.settings.cpus D.settings.cpus) }
+    requires fit { IsTrue (are_fit words.now.value.settings) }
+    requires seats { AreSeats words.now.value.table words.now.value.settings words.now.value.settings.cpus seats.items }
+    ensures { IfOk result (λ cpus. boxed cpus.items ≡ opened_down words.now.value words.now.value.settings.cpus words.now.value.settings.cpus) }
 {
     let mut cpus = Vec::new(alloc);
     while let Some(seat) = seats.pop() {

@@ -1,23 +1,84 @@
 //! Names from bytes, and what an answer says: calls that need no handle.
 
-ghost use Rattle.std.specs.Prelude.{◌≡◌, ◌-◌, ◌<◌, ◌≤◌, length};
-ghost use Rattle.registry_c.specs.Texts.{IsAnswer, IsWritten, Parses, Tells};
+ghost use Rattle.std.specs.Prelude.{◌≡◌, ◌-◌, ◌<◌, ◌≤◌, length, take, Some};
+ghost use Rattle.held.specs.Rows.{IsLong, IsThere};
+ghost use Rattle.registry_c.specs.Texts.{IsAnswer, IsWritten, Parses, ParsesGiven, TellsBy};
 
-use crate::values::{CName, DONE, faulty, name_out};
+use crate::answer::{BytesAnswer, TextAnswer};
+use crate::given::GivenBytes;
+use crate::place::{NamePlace, NumberPlace};
+use crate::rows::TextPlace;
+use crate::values::{DONE, NULL, faulty, name_out};
 use registry_values::{Name, NameFault};
 
 /// `registry_name_parse` of the header.
 #[unsafe(no_mangle)]
-pub extern "C" fn registry_name_parse(bytes: &[u8], name: &mut CName, place: &mut u64) -> u32
-    ensures { Parses bytes.now result name.old name.new place.old place.new }
+pub extern "C" fn registry_name_parse(
+    mut bytes: GivenBytes,
+    length: usize,
+    mut name: NamePlace,
+    mut place: NumberPlace,
+) -> BytesAnswer
+    requires length { IsLong bytes.bytes length }
+    ensures given { result.bytes ≡ bytes }
+    ensures places { (result.name.at ≡ name.at) × (result.place.at ≡ place.at) }
+    ensures call { ParsesGiven length bytes.bytes result.number name.value result.name.value place.value result.place.value }
+{
+    let answer = parse_given(&mut bytes, length, &mut name, &mut place);
+    place.answer(answer).with_name(name).with_bytes(bytes)
+}
+
+/// Parses the bytes, if there are any or needn't be.
+fn parse_given(
+    bytes: &mut GivenBytes,
+    length: usize,
+    name: &mut NamePlace,
+    place: &mut NumberPlace,
+) -> u32
+    requires length { IsLong bytes.old.bytes length }
+    ensures given { bytes.new ≡ bytes.old }
+    ensures places { (name.new.at ≡ name.old.at) × (place.new.at ≡ place.old.at) }
+    ensures call { ParsesGiven length bytes.old.bytes result name.old.value name.new.value place.old.value place.new.value }
+{
+    if bytes.is_null() {
+        if length != 0 {
+            return NULL;
+        }
+        return parse(&[], name, place);
+    }
+    if length > 15 {
+        return faulty(NameFault::TooLong);
+    }
+    let row = read_bytes(bytes, length);
+    parse(&row[..length], name, place)
+}
+
+/// So many bytes, in the first places. Conditions: there are so many, and not too many.
+fn read_bytes(bytes: &mut GivenBytes, length: usize) -> [u8; 15]
+    requires there { IsThere bytes.old.bytes length }
+    requires few { length ≤ 15 }
+    ensures same { bytes.new ≡ bytes.old }
+    ensures read { bytes.old.bytes ≡ Some (take length result) }
+{
+    let mut row = [0; 15];
+    for k in 0..length {
+        row[k] = bytes.byte(k);
+    }
+    row
+}
+
+/// Writes the name that the bytes are, or where the bad byte stands.
+fn parse(bytes: &[u8], name: &mut NamePlace, place: &mut NumberPlace) -> u32
+    ensures places { (name.new.at ≡ name.old.at) × (place.new.at ≡ place.old.at) }
+    ensures call { Parses bytes.now result name.old.value name.new.value place.old.value place.new.value }
 {
     match Name::parse(bytes) {
         Ok(parsed) => {
-            *name = name_out(parsed);
+            name.put(name_out(parsed));
             DONE
         }
         Err(NameFault::BadByte(at)) => {
-            *place = u64::from(at);
+            place.put(u64::from(at));
             faulty(NameFault::BadByte(at))
         }
         Err(fault) => faulty(fault),
@@ -26,11 +87,26 @@ pub extern "C" fn registry_name_parse(bytes: &[u8], name: &mut CName, place: &mu
 
 /// `registry_text` of the header.
 #[unsafe(no_mangle)]
-pub extern "C" fn registry_text(answer: u32, text: &mut [u8]) -> usize
-    ensures { Tells answer result text.old text.new }
+pub extern "C" fn registry_text(answer: u32, mut text: TextPlace, room: usize) -> TextAnswer
+    requires room { IsLong text.value room }
+    ensures place { result.place.at ≡ text.at }
+    ensures call { TellsBy answer result.number text.value result.place.value }
+{
+    let length = tell(answer, &mut text, room);
+    text.answer(length)
+}
+
+/// Writes what the answer says, if there is a place for it. The answer is how long it is.
+fn tell(answer: u32, text: &mut TextPlace, room: usize) -> usize
+    requires room { IsLong text.old.value room }
+    ensures place { text.new.at ≡ text.old.at }
+    ensures call { TellsBy answer result text.old.value text.new.value }
 {
     let words = text_of(answer);
-    write_text(words, text);
+    if text.is_null() {
+        return words.len();
+    }
+    write_text(words, text.row_mut(room));
     words.len()
 }
 
@@ -64,10 +140,13 @@ fn text_of(answer: u32) -> &'static [u8]
     ensures known { IsAnswer answer → 0 < length result.now }
     ensures unknown { 0 < length result.now → IsAnswer answer }
 {
+    if answer == 11 || answer == 67 {
+        return b"";
+    }
     if answer < 20 {
         return refusal_text(answer);
     }
-    if answer < 64 || answer > 75 || answer == 67 {
+    if answer < 64 || answer > 77 {
         return b"";
     }
     own_text(answer)
@@ -88,11 +167,13 @@ fn own_text(answer: u32) -> &'static [u8]
         72 => b"a byte of the name may not stand there",
         73 => b"the keeper has collected this CPU's count of the entry",
         74 => b"the keeper has collected no count of the entry",
-        _ => b"the list is too short",
+        75 => b"the list is too short",
+        76 => b"the wait was never begun",
+        _ => b"a pointer is null to something that the call needs",
     }
 }
 
-/// What a refusal says, by its number; 0 is none.
+/// What a refusal says, by its number; 0 is none, and 11 is one that no call answers: a passive reference is a number here.
 fn refusal_text(answer: u32) -> &'static [u8]
     ensures { 0 < length result.now }
 {
@@ -108,7 +189,6 @@ fn refusal_text(answer: u32) -> &'static [u8]
         8 => b"this CPU has begun as many sections as it may",
         9 => b"this CPU has no last found entry",
         10 => b"this CPU has as many passive references to the entry as it may",
-        11 => b"the reference is another CPU's",
         12 => b"this CPU holds no passive reference to that entry",
         13 => b"this CPU's net count of local references to the entry is at its limit",
         14 => b"no retired entry has this number",

@@ -3,7 +3,7 @@
 ghost use Rattle.std.specs.Prelude.{◌≡◌, IfOk, IfErr, false};
 ghost use Rattle.registry_values.specs.Limits.{are_fit};
 ghost use Rattle.registry_values.specs.Refusals.{number_of_refusal};
-ghost use Rattle.registry_c.specs.Values.{entry_out, fault_of, kind_of, name_in, name_out, number_of, settings_in, settings_out, stage_out};
+ghost use Rattle.registry_c.specs.Values.{entry_out, fault_of, kind_in, name_in, name_out, number_of, settings_in, settings_out, stage_out};
 
 use registry_values::{Entry, Kind, Name, NameFault, Refusal, Settings, Stage, kind_word};
 
@@ -31,6 +31,10 @@ pub const COLLECTED: u32 = 73;
 pub const NOT_COLLECTED: u32 = 74;
 /// The list is too short for the answer.
 pub const NO_ROOM: u32 = 75;
+/// The wait was never begun.
+pub const NOT_BEGUN: u32 = 76;
+/// A pointer is null to something that the call needs.
+pub const NULL: u32 = 77;
 
 /// A name, by its two words.
 #[repr(C)]
@@ -42,7 +46,7 @@ pub struct CName {
 
 /// Settings.
 #[repr(C)]
-#[derive(Drop)]
+#[derive(Clone, Copy)]
 pub struct CSettings {
     pub cpus: u64,
     pub slots: u64,
@@ -100,8 +104,8 @@ pub fn faulty(fault: NameFault) -> u32
 }
 
 /// The kind of a word: 1 an interface, 2 a driver.
-pub fn kind_of(word: u64) -> Option<Kind>
-    ensures { result ≡ kind_of word }
+pub fn kind_in(word: u64) -> Option<Kind>
+    ensures { result ≡ kind_in word }
 {
     if word == 1 {
         return Some(Kind::Iface);

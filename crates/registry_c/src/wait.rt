@@ -1,7 +1,10 @@
 //! A wait for open sections, as C keeps it between two turns.
 
 ghost use Rattle.std.specs.Prelude.{◌≡◌, map};
-ghost use Rattle.registry_c.specs.Flags.{flag_of, is_set, none_or_number, number_or_none};
+ghost use Rattle.registry_c.specs.Flags.{flag_of, is_begun, is_set, none_or_number, number_or_none};
+
+/// What stands in a wait that was begun: a number that no caller writes by chance.
+pub const BEGUN: u64 = 0x9d3f_51c6_a87b_e204;
 
 /// A wait for open sections, between two turns of it.
 #[repr(C)]
@@ -10,6 +13,15 @@ pub struct CWait {
     pub snapshots: [u64; 8],
     pub retired: [u64; 32],
     pub seen: [u64; 8],
+    /// `BEGUN` from its beginning on.
+    pub begun: u64,
+}
+
+/// Whether the wait was begun.
+pub fn is_begun(wait: &CWait) -> bool
+    ensures { result ≡ is_begun wait.now }
+{
+    wait.begun == BEGUN
 }
 
 /// The numbers of entries, to C: 0 for none.

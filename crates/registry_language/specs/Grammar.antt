@@ -20,8 +20,8 @@ use Rattle.registry_language.specs.declared.command.Command.TheVariants.{Domain,
 use Rattle.registry_language.specs.declared.fault.Cause.{Cause}
 use Rattle.registry_language.specs.declared.fault.Cause.TheVariants.{TooLong, LongLine, BadByte, UnknownCommand, Misplaced, WrongCount, BadNumber, BadCpu, BadKind, BadName, BadLabel, BadSettings, NoDomain}
 use Rattle.registry_language.specs.declared.fault.ScriptFault.{ScriptFault}
-use Rattle.registry_language.specs.Words.{lines_of, words_of, number_of, verb_of}
-use Rattle.registry_language.specs.Program.{Program, Plan, blank, settings_for, with_limits, are_turns, with_command}
+use Rattle.registry_language.specs.Words.{lines_of, words_in_line, number_of, verb_of}
+use Rattle.registry_language.specs.Program.{Program, ProgramDraft, empty_draft, settings_for, with_limits, are_turns, with_command}
 
 infixl 10 ◌>>=◌
 abbrev pub ◌>>=◌ : {A B E : Type 0} → Result A E → (A → Result B E) → Result B E
@@ -41,8 +41,8 @@ cpu_of cpus word = do
   n ← or_cause (number_of word) BadCpu
   cpu_below cpus n
 
-abbrev pub kind_of : List ℕ → Result Kind Cause
-kind_of word = if bytes_eq word (codes "iface") then Ok Iface else (if bytes_eq word (codes "driver") then Ok Driver else Err BadKind)
+abbrev pub kind_from_text : List ℕ → Result Kind Cause
+kind_from_text word = if bytes_eq word (codes "iface") then Ok Iface else (if bytes_eq word (codes "driver") then Ok Driver else Err BadKind)
 
 abbrev pub name_if : Result Name NameFault → Result Name Cause
 name_if (Ok name) = Ok name
@@ -89,7 +89,7 @@ limits_of s _ = Err WrongCount
 unfoldable pub attach_words : Settings → List ℕ → List ℕ → List ℕ → List ℕ → Result Command Cause
 attach_words s cpu kind name value = do
   c ← cpu_of s.cpus cpu
-  k ← kind_of kind
+  k ← kind_from_text kind
   n ← name_if (name_of_bytes name)
   v ← or_cause (number_of value) BadNumber
   Ok (Attach c (record { kind = k; name = n; value = v }))
@@ -114,7 +114,7 @@ plug_of s _ = Err WrongCount
 unfoldable pub detach_words : Settings → List ℕ → List ℕ → List ℕ → Result Command Cause
 detach_words s cpu kind name = do
   c ← cpu_of s.cpus cpu
-  k ← kind_of kind
+  k ← kind_from_text kind
   n ← name_if (name_of_bytes name)
   Ok (Detach c k n)
 
@@ -137,7 +137,7 @@ exit_of s _ = Err WrongCount
 unfoldable pub find_words : Settings → List ℕ → List ℕ → List ℕ → Result Command Cause
 find_words s cpu kind name = do
   c ← cpu_of s.cpus cpu
-  k ← kind_of kind
+  k ← kind_from_text kind
   n ← name_if (name_of_bytes name)
   Ok (Find c k n)
 
@@ -289,7 +289,7 @@ is_bad_byte b = nat_lt b 32 || nat_lt 126 b
 
 -- what a line says
 unfoldable pub line_of : Position → List ℕ → Result (Option Command) Cause
-line_of place line = if nat_lt 120 (length line) then Err LongLine else (if list_any is_bad_byte line then Err BadByte else said place (words_of line))
+line_of place line = if nat_lt 120 (length line) then Err LongLine else (if list_any is_bad_byte line then Err BadByte else said place (words_in_line line))
 
 -- with the number of the line
 abbrev pub at_line : {A : Type 0} → ℕ → Result A Cause → Result A ScriptFault
@@ -297,18 +297,18 @@ at_line n (Ok x) = Ok x
 at_line n (Err cause) = Err (record { line = n; cause = cause })
 
 -- the lines from the n-th on
-unfoldable pub plan_of : ℕ → Plan → List (List ℕ) → Result Plan ScriptFault
-plan_of n plan [] = Ok plan
-plan_of n plan (line ∷ lines) = at_line n (line_of plan.place line) >>= λ said. plan_of (n + 1) (with_command plan said) lines
+unfoldable pub draft_of_lines : ℕ → ProgramDraft → List (List ℕ) → Result ProgramDraft ScriptFault
+draft_of_lines n draft [] = Ok draft
+draft_of_lines n draft (line ∷ lines) = at_line n (line_of draft.place line) >>= λ said. draft_of_lines (n + 1) (with_command draft said) lines
 
 abbrev pub program_of : Position → List Command → Result Program ScriptFault
 program_of First commands = Err (record { line = 1; cause = NoDomain })
 program_of (Second s) commands = Ok (record { settings = s; commands = commands })
 program_of (Later s) commands = Ok (record { settings = s; commands = commands })
 
-abbrev pub program_of_plan : Plan → Result Program ScriptFault
-program_of_plan plan = program_of plan.place plan.commands
+abbrev pub program_of_draft : ProgramDraft → Result Program ScriptFault
+program_of_draft draft = program_of draft.place draft.commands
 
 -- what the bytes of a script say, or their first fault
 unfoldable pub program_of_bytes : List ℕ → Result Program ScriptFault
-program_of_bytes text = if nat_lt 65536 (length text) then Err (record { line = 1; cause = TooLong }) else (plan_of 1 blank (lines_of text) >>= program_of_plan)
+program_of_bytes text = if nat_lt 65536 (length text) then Err (record { line = 1; cause = TooLong }) else (draft_of_lines 1 empty_draft (lines_of text) >>= program_of_draft)

@@ -1,7 +1,7 @@
 -- What a parser returned, against what the grammar says.
 use Rattle.std.specs.Prelude.{◌≡◌, Result, Ok, Err, Option}
 use Rattle.registry_language.specs.declared.command.Command.{Command}
-use Rattle.registry_language.specs.Program.{Plan, with_command}
+use Rattle.registry_language.specs.Program.{ProgramDraft, with_command}
 use Rattle.registry_language.specs.declared.fault.Cause.{Cause}
 use Rattle.registry_language.specs.declared.fault.LineFault.{LineFault}
 use Rattle.registry_language.specs.declared.fault.LineFault.TheVariants as line
@@ -20,8 +20,8 @@ ParseGives (Ok x) read = read ≡ Ok x
 ParseGives (Err (parse.Script fault)) read = read ≡ Err fault
 ParseGives (Err parse.Memory) read = Unit {0}
 
--- a plan that took a line
-abbrev pub LineTakes : Plan → Result (Unit {0}) LineFault → Result (Option Command) Cause → Plan → Type 0
+-- a draft that took a line
+abbrev pub LineTakes : ProgramDraft → Result (Unit {0}) LineFault → Result (Option Command) Cause → ProgramDraft → Type 0
 LineTakes new (Ok u) read old = (said : Option Command) × (read ≡ Ok said) × (new ≡ with_command old said)
 LineTakes new (Err (line.Cause cause)) read old = read ≡ Err cause
 LineTakes new (Err line.Memory) read old = Unit {0}

@@ -16,12 +16,12 @@ pub record Program : Type 0 where
   pub commands : List Command
 
 -- where the next command stands, and the commands before it
-pub record Plan : Type 0 where
+pub record ProgramDraft : Type 0 where
   pub place : Position
   pub commands : List Command
 
-abbrev pub blank : Plan
-blank = record { place = First; commands = [] }
+abbrev pub empty_draft : ProgramDraft
+empty_draft = record { place = First; commands = [] }
 
 -- the limits of a script that gives none
 abbrev pub settings_for : ℕ → ℕ → Settings
@@ -100,7 +100,7 @@ position_after First _ = First
 position_after (Second s) command = Later (settings_after s command)
 position_after (Later s) command = Later s
 
-abbrev pub with_command : Plan → Option Command → Plan
+abbrev pub with_command : ProgramDraft → Option Command → ProgramDraft
 with_command p None = p
 with_command p (Some command) = record { place = position_after p.place command; commands = p.commands ++ command ∷ [] }
 
@@ -114,5 +114,5 @@ AreBefore First commands = commands ≡ []
 AreBefore (Second s) commands = IsProgram (record { settings = s; commands = commands })
 AreBefore (Later s) commands = IsProgram (record { settings = s; commands = commands })
 
-abbrev pub IsPlan : Plan → Type 0
-IsPlan p = AreBefore p.place p.commands
+abbrev pub IsDraft : ProgramDraft → Type 0
+IsDraft p = AreBefore p.place p.commands

@@ -12,8 +12,8 @@ abbrev pub lines_of : List ℕ → List (List ℕ)
 lines_of text = slice_split (λ b. b == 10) text
 
 -- words are separated by one or more spaces
-abbrev pub words_of : List ℕ → List (List ℕ)
-words_of line = filter (λ w. not (length w == 0)) (slice_split (λ b. b == 32) line)
+abbrev pub words_in_line : List ℕ → List (List ℕ)
+words_in_line line = filter (λ w. not (length w == 0)) (slice_split (λ b. b == 32) line)
 
 abbrev pub is_numeral : List ℕ → Bool
 is_numeral w = nat_le 1 (length w) && nat_le (length w) 20 && list_all is_ascii_digit w

@@ -3,8 +3,8 @@
 ghost use Rattle.std.specs.Prelude.{◌≡◌, ◌+◌, ◌<◌, ◌≤◌, ◌^◌, IfOk, IfSome, IfErr, OnErr, IsTrue, Some, None, Ok, length, map};
 ghost use Rattle.std.specs.List.{list_all};
 ghost use Rattle.registry_values.specs.Limits.{are_fit};
-ghost use Rattle.registry_language.specs.Program.{Program, Plan, blank, suits, may_follow, with_command};
-ghost use Rattle.registry_language.specs.Grammar.{line_of, plan_of, program_of_plan, program_of_bytes};
+ghost use Rattle.registry_language.specs.Program.{Program, ProgramDraft, empty_draft, suits, may_follow, with_command};
+ghost use Rattle.registry_language.specs.Grammar.{line_of, draft_of_lines, program_of_draft, program_of_bytes};
 ghost use Rattle.registry_language.specs.Parsing.{LineTakes, LineGives, ParseGives};
 
 use super::command::Command;
@@ -59,18 +59,18 @@ struct Draft {
 }
 
 impl Model for Draft {
-    ghost use Rattle.registry_language.specs.Program.{Plan, IsPlan};
+    ghost use Rattle.registry_language.specs.Program.{ProgramDraft, IsDraft};
 
-    ghost Value = { Plan };
+    ghost Value = { ProgramDraft };
 
     ghost view = { λ a. record { place = a.place; commands = a.commands.items } };
 
-    ghost invariant = { λ a. IsPlan (record { place = a.place; commands = a.commands.items }) };
+    ghost invariant = { λ a. IsDraft (record { place = a.place; commands = a.commands.items }) };
 }
 
 impl Draft {
     fn new(alloc: Global) -> Draft
-        ensures { result ≡ blank }
+        ensures { result ≡ empty_draft }
     {
         Draft {
             place: Position::First,
@@ -101,7 +101,7 @@ impl Draft {
     }
 
     fn finish(self) -> Result<Script, ScriptFault>
-        ensures { result ≡ program_of_plan self }
+        ensures { result ≡ program_of_draft self }
     {
         let Draft { place, commands } = self;
         match place {
@@ -136,7 +136,7 @@ pub fn parse_script(alloc: Global, text: &[u8]) -> Result<Script, ParseFault>
 
 fn draft_of(alloc: Global, lines: &[&[u8]]) -> Result<Draft, ParseFault>
     requires { length lines.now ≤ 65537 }
-    ensures { ParseGives result (plan_of 1 blank (map (λ x. x.now) lines.now)) }
+    ensures { ParseGives result (draft_of_lines 1 empty_draft (map (λ x. x.now) lines.now)) }
 {
     let mut draft = Draft::new(alloc);
     for (index, line) in lines.iter().enumerate() {

@@ -1,7 +1,7 @@
 //! Lines, words and numbers.
 
 ghost use Rattle.std.specs.Prelude.{◌≡◌, ◌+◌, ◌*◌, ◌<◌, ◌≤◌, IfOk, map, length, vec_len};
-ghost use Rattle.registry_language.specs.Words.{lines_of, words_of, is_numeral, within_u64, number_of, registry_verbs, reference_verbs, verb_among, verb_of};
+ghost use Rattle.registry_language.specs.Words.{lines_of, words_in_line, is_numeral, within_u64, number_of, registry_verbs, reference_verbs, verb_among, verb_of};
 ghost use Rattle.std.specs.List.{list_all};
 ghost use Rattle.std.specs.Char.{is_ascii_digit};
 
@@ -18,7 +18,7 @@ pub fn lines(alloc: Global, text: &[u8]) -> Result<Vec<&[u8]>, AllocError>
 
 /// The words of a line.
 pub fn words(alloc: Global, line: &[u8]) -> Result<Vec<&[u8]>, AllocError>
-    ensures { IfOk result (λ v. map (λ x. x.now) v.items ≡ words_of line.now) }
+    ensures { IfOk result (λ v. map (λ x. x.now) v.items ≡ words_in_line line.now) }
 {
     line.split(|b| *b == b' ')
         .filter(|w| !w.is_empty())

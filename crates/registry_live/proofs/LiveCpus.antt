@@ -21,13 +21,21 @@ use Rattle.name_registry.specs.Locking.{IsAttachRefusal, IsDetachRefusedTo}
 use Rattle.name_registry.specs.Meeting.{HasLearned, HasSeenAttach, HasSeenDetach}
 use Rattle.name_registry.specs.Releasing.{IsLetGo}
 use Rattle.name_registry.proofs.Audits.{cpu_at}
-use Rattle.registry_live.specs.Calls.{IsGivenBack}
+use Rattle.registry_live.specs.Calls.{IsGivenBack, OnOne}
+
+-- the CPU that a command names
+pub named : (n : ℕ) (xs : List OnCpu) (c : ℕ) (x : OnCpu) → AreAllCpus n xs → c < n → x ≡ get_or xs c x → get_elem? xs c ≡ some x
+named n xs c x all known is = let count = all.count in at_index xs c x (omega (arith, known, count)) is
+
+-- it went from one to the other, and the others are as they were
+pub on_one : (n : ℕ) (xs : List OnCpu) (c : ℕ) (x y : OnCpu) (does : OnCpu → OnCpu → Type 0) → AreAllCpus n xs → c < n → x ≡ get_or xs c x → does (get_or xs c x) y → OnOne xs c does (set xs c y)
+on_one n xs c x y does all known is did = (x, y, named n xs c x all known is, subst (λ z. does z y) (sym is) did, refl)
 
 pub all_with : (n : ℕ) (xs : List OnCpu) (c : ℕ) (x y : OnCpu) → AreAllCpus n xs → c < n → x ≡ get_or xs c x → y.view.id ≡ (get_or xs c x).view.id → AreAllCpus n (set xs c y)
 all_with n xs c x y all known is same = record { count = length-set xs c y ∙ all.count; each = each }
   where
     there : get_elem? xs c ≡ some x
-    there = let count = all.count in at_index xs c x (omega (arith, known, count)) is
+    there = named n xs c x all known is
 
     each : (k : ℕ) (z : OnCpu) → get_elem? (set xs c y) k ≡ some z → z.view.id ≡ k
     each k z at = ⊎_elim

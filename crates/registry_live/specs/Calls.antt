@@ -1,5 +1,5 @@
 -- The calls of a session over a running registry: why a command has no answer, and what stands in a label's place.
-use Rattle.std.specs.Prelude.{◌≡◌, Bool, List, slice_set, true, false, Option, Some, None, Result, Ok, Err, if◌then◌else◌}
+use Rattle.std.specs.Prelude.{◌≡◌, ℕ, Bool, List, slice_set, true, false, Option, Some, None, Result, Ok, Err, if◌then◌else◌}
 use mathlib.Core.Option.{some}
 use lib.ListN.{get_elem?}
 use Rattle.registry_values.specs.declared.refusal.Refusal.{Refusal}
@@ -7,8 +7,12 @@ use Rattle.registry_values.specs.Slots.{is_iface}
 use Rattle.cpu_words.specs.declared.view.ReferenceView.{ReferenceView}
 use Rattle.passive_list.specs.Cpus.{OnCpu}
 use Rattle.passive_ref.specs.Psrefs.{HasOneLess, OnPsref, why_unusable}
+use Rattle.registry_values.specs.declared.settings.Settings.{Settings}
+use Rattle.name_registry.specs.Destroying.{DestroysOutside}
 use Rattle.name_registry.specs.Locking.{IsAttachRefusal}
 use Rattle.name_registry.specs.Meeting.{is_inside}
+use Rattle.name_registry.specs.Performing.{PerformsOutside}
+use Rattle.registry_report.specs.Answers.{command_answer}
 use Rattle.registry_report.specs.declared.hitch.Hitch.{Hitch}
 use Rattle.registry_report.specs.declared.hitch.Hitch.TheVariants.{NoLabel, LabelTaken, NotInside, Refused}
 
@@ -49,3 +53,15 @@ IsPlugHitch x place h = ⊥
 -- its own CPU has released the reference, where it may, and the others are as they were
 abbrev pub IsGivenBack : List OnCpu → List OnCpu → OnPsref → Type 0
 IsGivenBack xs ys p = (x : OnCpu) → get_elem? xs p.cpu ≡ some x → why_unusable x.view p ≡ None → (y : OnCpu) × HasOneLess p.number x y × (ys ≡ slice_set xs p.cpu y)
+
+-- this CPU went from one to the other, and the others are as they were
+abbrev pub OnOne : List OnCpu → ℕ → (OnCpu → OnCpu → Type 0) → List OnCpu → Type 0
+OnOne xs c does ys = (x y : OnCpu) × (get_elem? xs c ≡ some x) × does x y × (ys ≡ slice_set xs c y)
+
+-- the CPU made one destroy, of at most so many turns, which answered this
+abbrev pub DestroysBy : Settings → ℕ → ℕ → Result ℕ Hitch → OnCpu → OnCpu → Type 0
+DestroysBy z number turns answer x y = (told : Result ℕ Refusal) × (answer ≡ command_answer told) × DestroysOutside z number turns (is_inside x) x told y
+
+-- the CPU made one perform, of at most so many turns, which answered this
+abbrev pub PerformsBy : Settings → ℕ → Result (Unit {0}) Hitch → OnCpu → OnCpu → Type 0
+PerformsBy z turns answer x y = (told : Result (Unit {0}) Refusal) × (answer ≡ command_answer told) × PerformsOutside z turns (is_inside x) x told y

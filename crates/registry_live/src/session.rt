@@ -163,6 +163,7 @@ fn release_passive<D: Domain>(registry: &Registry<D>, cpus: &mut [Cpu<D>], place
 
 impl<'a, D: Domain, R: Wait> Session for LiveSession<'a, D, R> {
     ghost use Rattle.std.specs.Prelude.{ℕ};
+    ghost use Rattle.registry_live.specs.Calls.{DestroysBy, OnOne, PerformsBy};
 
     // which slice of CPUs the session has
     ghost Kept = { ℕ };
@@ -173,6 +174,11 @@ impl<'a, D: Domain, R: Wait> Session for LiveSession<'a, D, R> {
 
     // Others may use the registry too.
     ghost shows = { λ _ _. ⊥ };
+
+    // The CPU makes the call once, with these turns, and the other CPUs are as they were.
+    ghost destroys = { λ s c number turns answer t. OnOne s.cpus.now c (DestroysBy D.settings number turns answer) t.cpus.now };
+
+    ghost performs = { λ s c turns answer t. OnOne s.cpus.now c (PerformsBy D.settings turns answer) t.cpus.now };
 
     fn attach(&mut self, cpu: u8, rec: Record) -> Result<Entry, Hitch> {
         let (rt, registry) = (self.rt, self.registry);

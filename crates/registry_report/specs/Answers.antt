@@ -1,4 +1,4 @@
--- What each command answers: by lookups in the history, the plain slot, the plain stage, and who holds what.
+-- What each command answers: by lookups in the history, the first-fit slot, the first obstacle, and who holds what.
 use Rattle.std.specs.Prelude.{ℕ, zero, suc, ◌+◌, ◌==◌, nat_lt, List, [], ◌∷◌, ◌++◌, length, Option, Some, None, is_none, is_some, Bool, false, not, ◌&&◌, Result, Ok, Err, if◌then◌else◌, ℤ, pos, neg_ℤ, ◌-ℤ◌}
 use Rattle.registry_values.specs.declared.answer.Room.{Room}
 use Rattle.registry_values.specs.declared.entry.Entry.{Entry}
@@ -40,11 +40,11 @@ lookup_now r key = lookup r.model.history key (length r.model.history)
 -- Entries
 
 -- a slot without an occupant that keeps nothing, and the least of them
-abbrev pub is_plain : Registry → ℕ → Bool
-is_plain r t = is_none (r.model.occupants t) && is_none (r.model.keeps t)
+abbrev pub is_available : Registry → ℕ → Bool
+is_available r t = is_none (r.model.occupants t) && is_none (r.model.keeps t)
 
-abbrev pub plain_slot : Registry → Option ℕ
-plain_slot r = least_below (is_plain r) r.settings.slots
+abbrev pub first_fit : Registry → Option ℕ
+first_fit r = least_below (is_available r) r.settings.slots
 
 -- what an attach asks of the history
 abbrev pub room_of : Registry → Room
@@ -52,7 +52,7 @@ room_of r = record { changes = length r.model.history; live = live_entries r.mod
 
 -- the entry that an attach of the record makes
 abbrev pub given_entry : Registry → Record → Result Entry Refusal
-given_entry r rec = answers.given_entry (is_some (lookup_now r (key_of_record rec))) (plain_slot r) (room_of r) rec
+given_entry r rec = answers.given_entry (is_some (lookup_now r (key_of_record rec))) (first_fit r) (room_of r) rec
 
 abbrev pub attach_answer : Registry → ℕ → Record → Result Entry Refusal
 attach_answer r c rec = answers.attach_answer (is_inside r c) (is_iface rec.kind) (given_entry r rec)
@@ -166,8 +166,8 @@ abbrev pub has_passive : Registry → ℕ → ℕ → Bool
 has_passive r n c = nat_lt 0 (r.model.passive c n)
 
 -- what stands between the retired entry n in the slot t and the freeing of t
-abbrev pub plain_stage : Registry → ℕ → ℕ → Stage
-plain_stage r n t = stage_of t (least_below (has_section r n) r.settings.cpus) (least_below (has_passive r n) r.settings.cpus) (held_count r n)
+abbrev pub first_obstacle : Registry → ℕ → ℕ → Stage
+first_obstacle r n t = stage_of t (least_below (has_section r n) r.settings.cpus) (least_below (has_passive r n) r.settings.cpus) (held_count r n)
 
 -- the slot whose occupant is n
 abbrev pub slot_of : Registry → ℕ → Option ℕ
@@ -177,7 +177,7 @@ abbrev pub retired_slot : Registry → ℕ → Option ℕ
 retired_slot r n = if has_ended r.model.history n then slot_of r n else None
 
 abbrev pub stage_in : Registry → ℕ → Option ℕ → Result Stage Refusal
-stage_in r n place = stages.stage_in (plain_stage r n) place
+stage_in r n place = stages.stage_in (first_obstacle r n) place
 
 abbrev pub advance_answer : Registry → ℕ → Result Stage Refusal
 advance_answer r n = stage_in r n (retired_slot r n)
@@ -191,17 +191,17 @@ perform_answer r c = answers.perform_answer (is_inside r c) (least_below (is_ins
 
 -- Audits
 
--- c's net count for n; nothing once n is drained
+-- c's net count for n; nothing once n's counts are collected
 abbrev pub net_count : Registry → ℕ → ℕ → ℤ
-net_count r n c = if r.drained n then pos 0 else pos (r.acquired c n) -ℤ pos (r.released c n)
+net_count r n c = if r.is_collected n then pos 0 else pos (r.acquired c n) -ℤ pos (r.released c n)
 
 abbrev pub list_below : {X : Type 0} → (ℕ → X) → ℕ → List X
 list_below f zero = []
 list_below f (suc n) = list_below f n ++ f n ∷ []
 
--- what was drained, or what was given up, with a minus
+-- what was collected, or what was given up, with a minus
 abbrev pub total_of : Registry → ℕ → ℤ
-total_of r n = if r.drained n then pos (held_count r n) else neg_ℤ (pos (r.given_up n))
+total_of r n = if r.is_collected n then pos (held_count r n) else neg_ℤ (pos (r.given_up n))
 
 abbrev pub tally_of : Registry → ℕ → ℕ → Tally
 tally_of r n t = record { number = n; slot = t; held = pos (held_count r n); locals = list_below (net_count r n) r.settings.cpus; total = total_of r n }

@@ -23,6 +23,6 @@ LookupIsExact = (h : List Change) → IsLegal h → (key : Key) (k : ℕ) → Is
 abbrev pub EndIsExact : Type 0
 EndIsExact = (h : List Change) → IsLegal h → (n p : ℕ) → (end_of h n ≡ Some p) ↔ EndsAt h n p
 
--- The least number below a bound passes, and none below it does: the plain slot and the first obstacle are least.
+-- The least number below a bound passes, and none below it does: the first-fit slot and the first obstacle are least.
 abbrev pub LeastIsLeast : Type 0
 LeastIsLeast = (p : ℕ → Bool) (n c : ℕ) → (least_below p n ≡ Some c) ↔ ((c < n) × (p c ≡ true) × ((d : ℕ) → d < c → p d ≡ false))

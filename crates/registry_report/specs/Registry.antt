@@ -15,7 +15,7 @@ pub record Registry : Type 0 where
   pub released : ℕ → ℕ → ℕ
   -- of each number: the local references given up under the interlock, and whether an advance has come past its passive references
   pub given_up : ℕ → ℕ
-  pub drained : ℕ → Bool
+  pub is_collected : ℕ → Bool
   -- what the labels stand for: a passive reference, and the number that a local one is to
   pub passive_labels : ℕ → Option CorePsref
   pub local_labels : ℕ → Option ℕ
@@ -30,7 +30,7 @@ opening_registry settings = record {
   acquired = λ c n. 0;
   released = λ c n. 0;
   given_up = λ n. 0;
-  drained = λ n. false;
+  is_collected = λ n. false;
   passive_labels = λ x. None;
   local_labels = λ x. None;
 }

@@ -43,19 +43,19 @@ abbrev pub SnapshotsFollow : List Change → List Slot → List (List Mark) → 
 SnapshotsFollow h slots marks section begins = (t p c b w : ℕ) (e : Entry) → slot_at slots t ≡ Retired e → EndsAt h e.number p → slice_index_or begins c None ≡ Some b → (mark_at marks t c).snapshot ≡ Some w → slice_index_or section c 0 ≡ w → b < p
 
 -- a number that is to come has no counts
-pub record IsFresh (acquired released : ℕ → ℕ → ℕ) (given_up : ℕ → ℕ) (drained : ℕ → Bool) (n : ℕ) : Type 0 where
+pub record IsFresh (acquired released : ℕ → ℕ → ℕ) (given_up : ℕ → ℕ) (is_collected : ℕ → Bool) (n : ℕ) : Type 0 where
   pub unacquired : (c : ℕ) → acquired c n ≡ 0
   pub unreleased : (c : ℕ) → released c n ≡ 0
   pub kept : given_up n ≡ 0
-  pub undrained : drained n ≡ false
+  pub uncollected : is_collected n ≡ false
 
 -- the net counts are what was acquired less what was released; before the drain each word is its net count and the total what was given up
-pub record ShowsTallies (cpus : ℕ) (h : List Change) (slots : List Slot) (counts nets : List (List ℕ)) (totals : List ℕ) (acquired released : ℕ → ℕ → ℕ) (given_up : ℕ → ℕ) (drained : ℕ → Bool) : Type 0 where
+pub record ShowsTallies (cpus : ℕ) (h : List Change) (slots : List Slot) (counts nets : List (List ℕ)) (totals : List ℕ) (acquired released : ℕ → ℕ → ℕ) (given_up : ℕ → ℕ) (is_collected : ℕ → Bool) : Type 0 where
   pub net : (t c : ℕ) (e : Entry) → IsIn e (slot_at slots t) → c < cpus → count_at nets c t + released c e.number ≡ bias + acquired c e.number
-  pub word : (t c : ℕ) (e : Entry) → IsIn e (slot_at slots t) → c < cpus → drained e.number ≡ false → count_at counts c t ≡ count_at nets c t
-  pub total : (t : ℕ) (e : Entry) → IsIn e (slot_at slots t) → drained e.number ≡ false → total_at totals t + given_up e.number ≡ bias
-  pub collected : (t c : ℕ) (e : Entry) → IsIn e (slot_at slots t) → drained e.number ≡ true → count_at counts c t ≡ 0
-  pub fresh : (n : ℕ) → length h < n → IsFresh acquired released given_up drained n
+  pub word : (t c : ℕ) (e : Entry) → IsIn e (slot_at slots t) → c < cpus → is_collected e.number ≡ false → count_at counts c t ≡ count_at nets c t
+  pub total : (t : ℕ) (e : Entry) → IsIn e (slot_at slots t) → is_collected e.number ≡ false → total_at totals t + given_up e.number ≡ bias
+  pub collected : (t c : ℕ) (e : Entry) → IsIn e (slot_at slots t) → is_collected e.number ≡ true → count_at counts c t ≡ 0
+  pub fresh : (n : ℕ) → length h < n → IsFresh acquired released given_up is_collected n
 
 -- the number that the live reference with an id is to
 abbrev pub number_at : List LocalPlace → Option ℕ → Option ℕ
@@ -72,5 +72,5 @@ pub record Shows (s : SessionState) (r : Registry) : Type 0 where
   pub sections : ShowsSections s.core.section s.core.depths s.core.begins r.depths r.begun
   pub live : CountsLive s.core.history s.core.slots
   pub grace : SnapshotsFollow s.core.history s.core.slots s.core.marks s.core.section s.core.begins
-  pub tallies : ShowsTallies s.core.settings.cpus s.core.history s.core.slots s.core.counts s.core.nets s.core.totals r.acquired r.released r.given_up r.drained
+  pub tallies : ShowsTallies s.core.settings.cpus s.core.history s.core.slots s.core.counts s.core.nets s.core.totals r.acquired r.released r.given_up r.is_collected
   pub labels : ShowsLabels s.core.locals s.passives s.locals r.passive_labels r.local_labels

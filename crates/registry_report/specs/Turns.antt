@@ -94,12 +94,12 @@ with_one_counted r c x n = record r {
   local_labels = put r.local_labels x (Some n);
 }
 
--- one less: by c's own count, or once n is drained under the interlock
+-- one less: by c's own count, or, once its counts are collected, under the interlock
 abbrev pub with_one_uncounted : Registry → ℕ → ℕ → ℕ → Registry
 with_one_uncounted r c x n = record r {
   model = with_locals r.model n (r.model.locals n - 1);
-  released = if r.drained n then r.released else put_at r.released c n (r.released c n + 1);
-  given_up = if r.drained n then put r.given_up n (r.given_up n + 1) else r.given_up;
+  released = if r.is_collected n then r.released else put_at r.released c n (r.released c n + 1);
+  given_up = if r.is_collected n then put r.given_up n (r.given_up n + 1) else r.given_up;
   local_labels = put r.local_labels x None;
 }
 
@@ -114,7 +114,7 @@ with_freed r t (Some d) = record r {
 abbrev pub after_stage : Registry → ℕ → Stage → Registry
 after_stage r n (Grace c) = r
 after_stage r n (Passive c) = r
-after_stage r n (Local k) = record r { drained = put r.drained n true }
+after_stage r n (Local k) = record r { is_collected = put r.is_collected n true }
 after_stage r n (Freed t) = with_freed r t (r.model.keeps t)
 
 abbrev pub after_advance : Registry → ℕ → Registry

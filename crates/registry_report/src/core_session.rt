@@ -74,6 +74,11 @@ impl Session for CoreSession {
 
     ghost shows = { Shows };
 
+    // Nobody else acts between the turns of the pure machine, so each answers as the first.
+    ghost destroys = { λ _ _ _ _ _ _. Unit {0} };
+
+    ghost performs = { λ _ _ _ _ _. Unit {0} };
+
     fn attach(&mut self, cpu: u8, rec: Record) -> Result<Entry, Hitch> {
         let answer = self.core.attach(cpu, rec);
         prove!(self.core.at_rest());

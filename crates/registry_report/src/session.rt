@@ -32,7 +32,9 @@ pub struct Reading {
 /// Where a session shows the registry that the report speaks of, each answer is the report's. A session over
 /// a registry that others use too shows none.
 pub trait Session {
+    ghost use Rattle.std.specs.Prelude.{ℕ, Result};
     ghost use Rattle.registry_values.specs.declared.settings.Settings.{Settings};
+    ghost use Rattle.registry_report.specs.declared.hitch.Hitch.{Hitch};
     ghost use Rattle.registry_report.specs.Registry.{Registry};
 
     // What no command changes: the settings of the registry, and whatever else a session says of itself.
@@ -44,6 +46,11 @@ pub trait Session {
 
     // The session shows all of a registry that the answers depend on.
     ghost shows: { Self → Registry → Type 0 };
+
+    // of the session before, the CPU, the number of a destroy, and the turns: the answer, and the session after
+    ghost destroys: { Self → ℕ → ℕ → ℕ → Result ℕ Hitch → Self → Type 0 };
+
+    ghost performs: { Self → ℕ → ℕ → Result (Unit {0}) Hitch → Self → Type 0 };
 
     /// The CPU attaches the record.
     fn attach(&mut self, cpu: u8, rec: Record) -> Result<Entry, Hitch>
@@ -184,6 +191,7 @@ pub trait Session {
         ensures kept { kept self.new ≡ kept self.old }
         ensures answer { AnswersFor (shows self.old) (λ r. command_answer (destroy_answer r cpu number)) result }
         ensures shows { LeavesFor (shows self.old) (shows self.new) (command.Destroy cpu number turns) result }
+        ensures made { destroys self.old cpu number turns result self.new }
         ensures hitch { IfErr result (MayHitch (command.Destroy cpu number turns)) };
 
     /// The CPU waits, for so many turns, until no section that is open now is.
@@ -193,6 +201,7 @@ pub trait Session {
         ensures kept { kept self.new ≡ kept self.old }
         ensures answer { AnswersFor (shows self.old) (λ r. command_answer (perform_answer r cpu)) result }
         ensures shows { LeavesFor (shows self.old) (shows self.new) (command.Perform cpu turns) result }
+        ensures made { performs self.old cpu turns result self.new }
         ensures hitch { IfErr result (MayHitch (command.Perform cpu turns)) };
 
     /// The balance of each live or retired slot.

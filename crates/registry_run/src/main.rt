@@ -5,7 +5,7 @@ ghost use Rattle.std.specs.Prelude.{IfOk};
 ghost use Rattle.run_tasks.specs.Doing.{IsPossible};
 
 use registry_script::RunFault;
-use run_tasks::{Failure, Task, carry_out, exit_code};
+use run_tasks::{Failure, OurStorms, Task, carry_out, exit_code};
 use std::alloc::Global;
 use std::process::ExitCode;
 use std::rt::Env;
@@ -14,8 +14,11 @@ use std::{env, io};
 fn main(rt: HostRuntime) -> ExitCode {
     let ended = match chosen(&rt) {
         Ok(task) => {
+            let alloc = rt.alloc();
             let (mut input, mut output) = (rt.reader(), io::writer(&rt));
-            carry_out(&rt, rt.alloc(), task, &mut input, &mut output).map_err(Failure::Run)
+            carry_out(&rt, alloc, &mut OurStorms, task, &mut input, &mut output).map_err(
+                Failure::Run,
+            )
         }
         Err(failure) => Err(failure),
     };

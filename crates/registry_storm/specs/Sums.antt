@@ -1,5 +1,5 @@
 -- What a storm counts.
-use Rattle.std.specs.Prelude.{◌≡◌, ℕ, ◌+◌, ◌<◌, ◌^◌, ℤ, pos, List, [], ◌∷◌}
+use Rattle.std.specs.Prelude.{◌≡◌, ℕ, ◌+◌, ◌<◌, ◌≤◌, ◌^◌, ℤ, pos, List, [], ◌∷◌}
 use Rattle.registry_values.specs.declared.balance.Balance.{Balance}
 use Rattle.registry_storm.specs.declared.sum.Counts.{Counts}
 use Rattle.registry_storm.specs.declared.sum.StormDeeds.{StormDeeds}
@@ -16,11 +16,12 @@ pub record AreDeedsAdded (a b c : StormDeeds) : Type 0 where
   pub read : IsAdded a.read b.read c.read
   pub handed : IsAdded a.handed b.handed c.handed
 
--- the same of all that is counted; lookups always have room
+-- the same of all that is counted; lookups always have room, and no wrong answer is lost where others have none
 pub record AreAdded (a b c : Counts) : Type 0 where
   pub lookups : c.lookups ≡ a.lookups + b.lookups
   pub references : IsAdded a.references b.references c.references
   pub wrong : IsAdded a.wrong b.wrong c.wrong
+  pub least : (a.wrong ≤ c.wrong) × (b.wrong ≤ c.wrong)
   pub deeds : AreDeedsAdded a.deeds b.deeds c.deeds
 
 -- what the first balance says is held, 0 where there is none

@@ -1,7 +1,8 @@
 //! Baskets in which workers leave local references to one another.
 
-ghost use Rattle.std.specs.Prelude.{◌≡◌, ◌<◌};
-ghost use Rattle.registry_storm.specs.Storms.{SameSection};
+ghost use Rattle.std.specs.Prelude.{◌<◌};
+ghost use Rattle.registry_storm.specs.Judging.{GoesOn};
+ghost use Rattle.registry_storm.specs.Storms.{Unacquired};
 
 use crate::sum::Counts;
 use cpu_words::Domain;
@@ -66,8 +67,8 @@ impl<D: Domain> Baskets<D> {
         cpu: &mut Cpu<D>,
         counts: &mut Counts,
     )
-        ensures section { SameSection cpu.old cpu.new }
-        ensures lookups { counts.new.lookups ≡ counts.old.lookups }
+        ensures section { Unacquired cpu.old cpu.new }
+        ensures counted { GoesOn counts.old counts.new }
     {
         let Baskets {
             places: [first, second, third, fourth, fifth, sixth, seventh, eighth],
@@ -90,8 +91,8 @@ fn empty_place<D: Domain, R: Wait>(
     counts: &mut Counts,
     place: Basket<D>,
 )
-    ensures section { SameSection cpu.old cpu.new }
-    ensures lookups { counts.new.lookups ≡ counts.old.lookups }
+    ensures section { Unacquired cpu.old cpu.new }
+    ensures counted { GoesOn counts.old counts.new }
 {
     if let Some(Laid { by: _by, reference }) = place.into_inner() {
         give_back(rt, registry, cpu, counts, reference);
@@ -106,8 +107,8 @@ pub fn give_back<D: Domain, R: Wait>(
     counts: &mut Counts,
     reference: LocalRef<D>,
 )
-    ensures section { SameSection cpu.old cpu.new }
-    ensures lookups { counts.new.lookups ≡ counts.old.lookups }
+    ensures section { Unacquired cpu.old cpu.new }
+    ensures counted { GoesOn counts.old counts.new }
 {
     registry.release_local(rt, cpu, reference);
     counts.add_reference();

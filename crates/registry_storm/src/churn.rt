@@ -1,15 +1,17 @@
 //! What CPU 0 does beside the other workers: it attaches and detaches an interface, and frees what it has detached.
 
-ghost use Rattle.std.specs.Prelude.{◌≡◌, ◌+◌, ◌*◌, ◌<◌};
-ghost use Rattle.registry_storm.specs.Storms.{IsOutside, SameSection};
+ghost use Rattle.std.specs.Prelude.{◌+◌, ◌*◌, ◌<◌};
+ghost use Rattle.registry_storm.specs.Judging.{GoesOn};
+ghost use Rattle.registry_storm.specs.Storms.{IsOutside, KeepsAcquired, Unacquired};
 
+use crate::calls::{acquire_counted, advance, attach_iface, destroy, detach, find_driver};
 use crate::plan::{Plan, SLOTS};
 use crate::sum::{Counts, count};
 use cpu_words::Domain;
-use local_count::{LocalRef, acquire_local};
+use local_count::LocalRef;
 use name_registry::Registry;
-use passive_list::{Cpu, enter, exit, find};
-use registry_values::{Entry, Kind, Refusal, Stage};
+use passive_list::{Cpu, enter, exit};
+use registry_values::{Entry, Stage};
 use std::sync::Wait;
 
 /// The interface while it is live, and what was retired.
@@ -43,10 +45,11 @@ impl Churn {
         requires turn { turn < 100000 }
         requires cpu { IsOutside (4 * turn) cpu.old }
         ensures cpu { IsOutside (4 * turn + 2) cpu.new }
-        ensures counted { counts.new.lookups ≡ counts.old.lookups }
+        ensures kept { KeepsAcquired cpu.old cpu.new }
+        ensures counted { GoesOn counts.old counts.new }
     {
         match self.live {
-            Some(entry) => self.detach(rt, registry, plan, cpu, entry, counts),
+            Some(entry) => self.detach(rt, registry, cpu, entry, counts),
             None => self.attach(rt, registry, plan, cpu, turn, counts),
         }
         self.advance_all(rt, registry, counts);
@@ -65,20 +68,16 @@ impl Churn {
         requires turn { turn < 100000 }
         requires cpu { IsOutside (4 * turn) cpu.old }
         ensures cpu { IsOutside (4 * turn + 2) cpu.new }
-        ensures counted { counts.new.lookups ≡ counts.old.lookups }
+        ensures kept { KeepsAcquired cpu.old cpu.new }
+        ensures counted { GoesOn counts.old counts.new }
     {
         let Some(reference) = refer_to_driver(registry, plan, cpu, turn, counts) else {
             return;
         };
-        match registry.attach_iface(rt, cpu, plan.iface(turn), reference) {
-            Ok(entry) => {
-                self.live = Some(entry);
-                count(&mut counts.deeds.attached);
-            }
-            Err((refusal, back)) => {
-                counts.judge(refusal == Refusal::NoSlot);
-                registry.release_local(rt, cpu, back);
-            }
+        let answer = attach_iface(rt, registry, plan, cpu, turn, reference, counts);
+        if let Ok(entry) = answer {
+            self.live = Some(entry);
+            count(&mut counts.deeds.attached);
         }
     }
 
@@ -87,17 +86,16 @@ impl Churn {
         &mut self,
         rt: &R,
         registry: &Registry<D>,
-        plan: Plan,
         cpu: &mut Cpu<D>,
         entry: Entry,
         counts: &mut Counts,
     )
-        ensures section { SameSection cpu.old cpu.new }
-        ensures counted { counts.new.lookups ≡ counts.old.lookups }
+        ensures section { Unacquired cpu.old cpu.new }
+        ensures counted { GoesOn counts.old counts.new }
     {
-        let answer = registry.detach(rt, cpu, Kind::Iface, &plan.iface);
-        counts.judge(answer == Ok(entry));
-        let Ok(entry) = answer else { return };
+        let Ok(entry) = detach(rt, registry, cpu, entry, counts) else {
+            return;
+        };
         self.live = None;
         match self.retired.get_mut(entry.slot as usize) {
             Some(place) => {
@@ -115,14 +113,14 @@ impl Churn {
         registry: &Registry<D>,
         counts: &mut Counts,
     )
-        ensures { counts.new.lookups ≡ counts.old.lookups }
+        ensures { GoesOn counts.old counts.new }
     {
         for slot in 0..SLOTS {
             self.advance(rt, registry, slot, counts);
         }
     }
 
-    /// One turn of the work on the interface that was retired in a slot. Nobody refers to it, so it waits for sections alone.
+    /// One turn of the work on the interface that was retired in a slot, where there is one.
     fn advance<D: Domain, R: Wait>(
         &mut self,
         rt: &R,
@@ -131,20 +129,15 @@ impl Churn {
         counts: &mut Counts,
     )
         requires { slot < 4 }
-        ensures { counts.new.lookups ≡ counts.old.lookups }
+        ensures { GoesOn counts.old counts.new }
     {
         let number = self.retired[slot as usize];
         if number == 0 {
             return;
         }
-        match registry.advance(rt, number) {
-            Ok(Stage::Grace(_)) => (),
-            Ok(Stage::Freed(freed)) => {
-                counts.judge(freed == slot);
-                count(&mut counts.deeds.freed);
-                self.retired[slot as usize] = 0;
-            }
-            Ok(Stage::Passive(_) | Stage::Local(_)) | Err(_) => counts.judge(false),
+        if let Ok(Stage::Freed(_)) = advance(rt, registry, number, slot, counts) {
+            count(&mut counts.deeds.freed);
+            self.retired[slot as usize] = 0;
         }
     }
 
@@ -156,8 +149,8 @@ impl Churn {
         cpu: &mut Cpu<D>,
         counts: &mut Counts,
     )
-        ensures section { SameSection cpu.old cpu.new }
-        ensures counted { counts.new.lookups ≡ counts.old.lookups }
+        ensures section { Unacquired cpu.old cpu.new }
+        ensures counted { GoesOn counts.old counts.new }
     {
         for slot in 0..SLOTS {
             let number = self.retired[slot as usize];
@@ -177,12 +170,10 @@ pub fn destroy_one<D: Domain, R: Wait>(
     slot: u8,
     counts: &mut Counts,
 )
-    ensures section { SameSection cpu.old cpu.new }
-    ensures counted { counts.new.lookups ≡ counts.old.lookups }
+    ensures section { Unacquired cpu.old cpu.new }
+    ensures counted { GoesOn counts.old counts.new }
 {
-    let freed = registry.destroy(rt, cpu, number, 1);
-    counts.judge(freed == Ok(slot));
-    if freed.is_ok() {
+    if destroy(rt, registry, cpu, number, slot, counts).is_ok() {
         count(&mut counts.deeds.freed);
     }
 }
@@ -198,16 +189,15 @@ fn refer_to_driver<D: Domain>(
     requires turn { turn < 100000 }
     requires cpu { IsOutside (4 * turn) cpu.old }
     ensures cpu { IsOutside (4 * turn + 2) cpu.new }
-    ensures counted { counts.new.lookups ≡ counts.old.lookups }
+    ensures kept { KeepsAcquired cpu.old cpu.new }
+    ensures counted { GoesOn counts.old counts.new }
 {
     let words = registry.words();
     let Ok(()) = enter(words, cpu) else {
         unreachable!()
     };
-    let driver = find(words, cpu, Kind::Driver, &plan.driver);
-    counts.judge(plan.is_driver(driver));
-    let reference = acquire_local(words, cpu).ok();
-    counts.judge(reference.is_some());
+    find_driver(registry, plan, cpu, counts);
+    let reference = acquire_counted(registry, cpu, counts);
     exit(words, cpu);
     reference
 }

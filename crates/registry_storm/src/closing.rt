@@ -1,16 +1,20 @@
 //! The end of a storm: what is left of it is taken away on CPU 0, and each answer is judged.
 
-ghost use Rattle.std.specs.Prelude.{◌≡◌, IfErr};
+ghost use Rattle.std.specs.Prelude.{◌≡◌, IfErr, IfOk};
+ghost use Rattle.name_registry.specs.Auditing.{AreAllCpus, IsAuditBy};
+ghost use Rattle.registry_storm.specs.Judging.{GoesOn, IsDriverAlone, IsHeld, IsJudged};
 ghost use Rattle.registry_storm.specs.Sums.{held_first};
 
+use crate::calls::detach;
 use crate::churn::{Churn, destroy_one};
+use crate::judging::is_driver_alone;
 use crate::plan::Plan;
 use crate::sum::Counts;
 use cpu_words::Domain;
 use name_registry::Registry;
 use passive_list::Cpu;
 use registry_language::RunFault;
-use registry_values::{Balance, Kind, Refusal};
+use registry_values::{Balance, Refusal};
 use std::alloc::Global;
 use std::sync::Wait;
 
@@ -18,21 +22,20 @@ use std::sync::Wait;
 pub fn close_ifaces<D: Domain, R: Wait>(
     rt: &R,
     registry: &Registry<D>,
-    plan: Plan,
     cpu: &mut Cpu<D>,
     churn: Churn,
     counts: &mut Counts,
 )
-    ensures { counts.new.lookups ≡ counts.old.lookups }
+    ensures { GoesOn counts.old counts.new }
 {
     let mut churn = churn;
     if let Some(entry) = churn.live {
-        churn.detach(rt, registry, plan, cpu, entry, counts);
+        churn.detach(rt, registry, cpu, entry, counts);
     }
     churn.destroy_all(rt, registry, cpu, counts);
 }
 
-/// How many local references to the driver are held, by an audit. Refused: `Memory`.
+/// How many local references to the driver are held, by an audit. Right: it tells of the driver alone. Refused: `Memory`.
 pub fn held_of_driver<D: Domain, R: Wait>(
     rt: &R,
     alloc: Global,
@@ -41,7 +44,8 @@ pub fn held_of_driver<D: Domain, R: Wait>(
     counts: &mut Counts,
 ) -> Result<i64, RunFault>
     ensures memory { IfErr result (λ fault. fault ≡ RunFault.Memory) }
-    ensures counted { counts.new.lookups ≡ counts.old.lookups }
+    ensures held { AreAllCpus D.settings.cpus cpus.old → IfOk result (IsHeld (IsAuditBy D.settings cpus.old cpus.new) counts.old counts.new) }
+    ensures counted { GoesOn counts.old counts.new }
 {
     match registry.audit(rt, alloc, cpus) {
         Ok(balances) => Ok(held_in(&balances, counts)),
@@ -56,14 +60,11 @@ pub fn held_of_driver<D: Domain, R: Wait>(
 /// The local references held to the only entry, which is the driver.
 fn held_in(balances: &[Balance], counts: &mut Counts) -> i64
     ensures held { result ≡ held_first balances.now }
-    ensures counted { counts.new.lookups ≡ counts.old.lookups }
+    ensures judged { IsJudged (IsDriverAlone balances.now) counts.old counts.new }
 {
-    counts.judge(balances.len() == 1);
+    counts.judge(is_driver_alone(balances));
     match balances.first() {
-        Some(balance) => {
-            counts.judge(balance.number == 1);
-            balance.held
-        }
+        Some(balance) => balance.held,
         None => 0,
     }
 }
@@ -76,9 +77,8 @@ pub fn close_driver<D: Domain, R: Wait>(
     cpu: &mut Cpu<D>,
     counts: &mut Counts,
 )
-    ensures { counts.new.lookups ≡ counts.old.lookups }
+    ensures { GoesOn counts.old counts.new }
 {
-    let answer = registry.detach(rt, cpu, Kind::Driver, &plan.driver);
-    counts.judge(plan.is_driver(answer.ok()));
+    detach(rt, registry, cpu, plan.driver_entry(), counts).ok();
     destroy_one(rt, registry, cpu, 1, 0, counts);
 }

@@ -7,9 +7,11 @@
 #![tactic(auto)]
 
 mod baskets;
+mod calls;
 mod churn;
 mod closing;
 mod gate;
+mod judging;
 mod plan;
 mod storms;
 mod sum;

@@ -1,11 +1,11 @@
 //! What all workers of a storm have in common.
 
-ghost use Rattle.std.specs.Prelude.{◌≡◌, ◌↔◌, ◌<◌, ◌≤◌, IsTrue, [], ◌∷◌, Some, IfSome, Ok};
-ghost use Rattle.registry_values.specs.declared.entry.Kind.TheVariants.{Iface};
+ghost use Rattle.std.specs.Prelude.{◌≡◌, ◌↔◌, ◌≤◌, IsTrue, [], ◌∷◌, Some, Ok};
 ghost use Rattle.registry_values.specs.Names.{is_lawful, name_of_bytes};
-ghost use Rattle.registry_storm.specs.Storms.{driver_record, settings_of};
+ghost use Rattle.registry_storm.specs.Judging.{driver_entry, driver_record, iface_record, IsIfaceOf};
+ghost use Rattle.registry_storm.specs.Storms.{settings_of};
 
-use registry_values::{Entry, Kind, Name, Record, Settings};
+use registry_values::{Entry, Kind, Name, Record, Refusal, Settings};
 
 /// How many slots the registry of a storm has.
 pub const SLOTS: u8 = 4;
@@ -60,7 +60,7 @@ impl Plan {
 
     /// The record of the interface that is attached in a turn.
     pub fn iface(&self, turn: u32) -> Record
-        ensures value { result ≡ record { kind = Iface; name = self.now.iface; value = turn } }
+        ensures value { result ≡ iface_record self.now.iface turn }
         ensures lawful { IsTrue (is_lawful result.name) }
     {
         Record {
@@ -70,26 +70,46 @@ impl Plan {
         }
     }
 
-    /// Whether this is the driver, which is the first entry of the registry.
-    pub fn is_driver(&self, entry: Option<Entry>) -> bool
-        ensures { IsTrue result ↔ entry ≡ Some (record { number = 1; slot = 0; rec = driver_record self.now.driver }) }
+    /// The driver, which is the first entry of the registry.
+    pub fn driver_entry(&self) -> Entry
+        ensures { result ≡ driver_entry self.now.driver }
     {
-        entry
-            == Some(Entry {
-                number: 1,
-                slot: 0,
-                rec: self.driver(),
-            })
+        Entry {
+            number: 1,
+            slot: 0,
+            rec: self.driver(),
+        }
+    }
+
+    /// Whether this is the driver.
+    pub fn is_driver(&self, entry: Option<Entry>) -> bool
+        ensures { IsTrue result ↔ (entry ≡ Some (driver_entry self.now.driver)) }
+    {
+        entry == Some(self.driver_entry())
     }
 
     /// Whether no interface was found, or one that was attached in some turn.
     pub fn is_iface(&self, entry: Option<Entry>) -> bool
-        ensures { IsTrue result ↔ IfSome entry (λ e. e.rec.value < self.now.turns) }
+        ensures { IsTrue result ↔ IsIfaceOf self.now.turns entry }
     {
         match entry {
             Some(entry) => entry.rec.value < u64::from(self.turns),
             None => true,
         }
+    }
+
+    /// Whether a record is the driver's, read by a reference to this number.
+    pub fn is_record(&self, number: u64, rec: Record) -> bool
+        ensures { IsTrue result ↔ (number ≡ 1) × (rec ≡ driver_record self.now.driver) }
+    {
+        number == 1 && rec == self.driver()
+    }
+
+    /// Whether a read by a passive reference to this number gave the driver's record.
+    pub fn is_read(&self, number: u64, answer: Result<Record, Refusal>) -> bool
+        ensures { IsTrue result ↔ (number ≡ 1) × (answer ≡ Ok (driver_record self.now.driver)) }
+    {
+        number == 1 && answer == Ok(self.driver())
     }
 }
 

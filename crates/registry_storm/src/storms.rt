@@ -5,6 +5,7 @@ ghost use Rattle.name_registry.specs.Opening.{AreNewCpus, IsBlankOf};
 ghost use Rattle.registry_storm.specs.Storms.{IsOfStorm, IsOutside, IsSumOf, settings_of};
 
 use crate::baskets::Baskets;
+use crate::calls::attach_driver;
 use crate::closing::{close_driver, close_ifaces, held_of_driver};
 use crate::gate::Gate;
 use crate::plan::{DRIVER_VALUE, Plan, settings_of};
@@ -15,7 +16,6 @@ use cpu_words::Domain;
 use name_registry::{Blank, Registry};
 use passive_list::Cpu;
 use registry_language::RunFault;
-use registry_values::Record;
 use std::alloc::Global;
 use std::marker::Brand;
 use std::sync::Wait;
@@ -94,21 +94,11 @@ fn storm_on<D: Domain + Send + Sync, R: Threads + Wait + Sync, G: Gate + Sync>(
         return Err(RunFault::Memory);
     };
     let mut first = take_first(plan, &mut cpus);
-    let driver = Record {
-        value,
-        ..plan.driver()
-    };
-    let entry = registry.attach(rt, &mut first, driver);
+    let mut counts = Counts::NONE;
+    attach_driver(rt, &registry, plan, value, &mut first, &mut counts);
     let mut done = blow(rt, alloc, &registry, plan, gate, &mut first, &mut cpus)?;
-    done.counts.judge(plan.is_driver(entry.ok()));
-    close_ifaces(
-        rt,
-        &registry,
-        plan,
-        &mut first,
-        done.churn,
-        &mut done.counts,
-    );
+    done.counts.add(counts);
+    close_ifaces(rt, &registry, &mut first, done.churn, &mut done.counts);
     if cpus.insert(0, first).is_err() {
         return Err(RunFault::Memory);
     }

@@ -1,6 +1,7 @@
 //! What a storm counts.
 
-ghost use Rattle.std.specs.Prelude.{◌≡◌, ◌+◌, ◌<◌, ◌≤◌, ◌^◌, true, false};
+ghost use Rattle.std.specs.Prelude.{◌≡◌, ◌+◌, ◌<◌, ◌≤◌, ◌^◌, IsTrue};
+ghost use Rattle.registry_storm.specs.Judging.{IsJudged};
 ghost use Rattle.registry_storm.specs.Sums.{AreAdded, AreDeedsAdded, IsAdded};
 
 /// What all workers of a storm did together.
@@ -97,13 +98,11 @@ impl Counts {
         self.references = added(self.references, 1);
     }
 
-    /// Counts an answer that isn't the one expected.
-    pub fn judge(&mut self, expected: bool)
-        ensures right { expected ≡ true → self.new.wrong ≡ self.old.wrong }
-        ensures wrong { expected ≡ false → IsAdded self.old.wrong 1 self.new.wrong }
-        ensures others { (self.new.lookups ≡ self.old.lookups) × (self.new.references ≡ self.old.references) × (self.new.deeds ≡ self.old.deeds) }
+    /// Counts an answer that isn't right.
+    pub fn judge(&mut self, is_right: bool)
+        ensures { IsJudged (IsTrue is_right) self.old self.new }
     {
-        if !expected {
+        if !is_right {
             self.wrong = added(self.wrong, 1);
         }
     }
@@ -129,7 +128,8 @@ pub fn count(number: &mut u64)
 
 /// The sum of two counts, or the greatest number where there is none.
 fn added(a: u64, b: u64) -> u64
-    ensures { IsAdded a b result }
+    ensures sum { IsAdded a b result }
+    ensures least { (a ≤ result) × (b ≤ result) }
 {
     a.saturating_add(b)
 }

@@ -1,19 +1,25 @@
 //! A worker: its turns on its own CPU.
 
-ghost use Rattle.std.specs.Prelude.{◌≡◌, ◌≢◌, ◌+◌, ◌*◌, ◌<◌, ◌≤◌, ◌^◌, None};
-ghost use Rattle.registry_storm.specs.Storms.{IsOutside, SameSection};
+ghost use Rattle.std.specs.Prelude.{◌≡◌, ◌≢◌, ◌+◌, ◌*◌, ◌<◌, ◌≤◌, ◌^◌, IfSome, IsSome, None};
+ghost use Rattle.cpu_words.specs.Views.{number_at};
+ghost use Rattle.passive_list.specs.Cpus.{OnCpu};
+ghost use Rattle.registry_storm.specs.Judging.{driver_record, GoesOn};
+ghost use Rattle.registry_storm.specs.Storms.{HasLookedUp, HasReferred, IsOutside, KeepsAcquired, SameSection, Unacquired};
 
 use crate::baskets::{Baskets, Laid, give_back};
+use crate::calls::{
+    acquire_counted, acquire_passive, find_driver, find_iface, read_local, read_passive,
+    release_passive,
+};
 use crate::churn::Churn;
 use crate::gate::Gate;
 use crate::plan::Plan;
 use crate::sum::{Counts, count};
-use cpu_words::{Domain, Words};
-use local_count::{LocalRef, acquire_local};
+use cpu_words::Domain;
+use local_count::LocalRef;
 use name_registry::Registry;
-use passive_list::{Cpu, enter, exit, find};
-use passive_ref::{Psref, acquire, read, release};
-use registry_values::Kind;
+use passive_list::{Cpu, enter, exit};
+use passive_ref::Psref;
 use std::sync::Wait;
 
 /// What workers share: the registry, the baskets, what is to be done, and the gate.
@@ -52,10 +58,11 @@ struct Held<D: Domain> {
 }
 
 impl<'a, D: Domain, G: Gate> Shared<'a, D, G> {
-    /// All turns of the worker of a CPU.
+    /// All turns of the worker of a CPU. Where it counts no wrong answer, it has acquired a local reference to the driver in each.
     pub fn work<R: Wait>(&self, rt: &R, cpu: &mut Cpu<D>) -> Done
         requires { IsOutside 0 cpu.old }
-        ensures { result.counts.lookups ≡ 2 * self.now.plan.turns }
+        ensures lookups { result.counts.lookups ≡ 2 * self.now.plan.turns }
+        ensures referred { result.counts.wrong ≡ 0 → number_at cpu.old.view.acquired 1 + self.now.plan.turns ≤ number_at cpu.new.view.acquired 1 }
     {
         let mut done = Done::NONE;
         for turn in 0..self.plan.turns {
@@ -70,7 +77,8 @@ impl<'a, D: Domain, G: Gate> Shared<'a, D, G> {
         requires turn { turn < self.now.plan.turns }
         requires cpu { IsOutside (4 * turn) cpu.old }
         ensures cpu { IsOutside (4 * turn + 2) cpu.new }
-        ensures counted { done.new.counts.lookups ≡ done.old.counts.lookups }
+        ensures kept { KeepsAcquired cpu.old cpu.new }
+        ensures counted { GoesOn done.old.counts done.new.counts }
     {
         if cpu.id() == 0 {
             let churn = &mut done.churn;
@@ -85,6 +93,8 @@ impl<'a, D: Domain, G: Gate> Shared<'a, D, G> {
         requires counted { counts.old.lookups ≡ 2 * turn }
         ensures cpu { IsOutside (4 * turn + 4) cpu.new }
         ensures counted { counts.new.lookups ≡ 2 * turn + 2 }
+        ensures wrong { counts.old.wrong ≤ counts.new.wrong }
+        ensures referred { counts.new.wrong ≡ 0 → HasReferred 1 cpu.old cpu.new }
     {
         let words = self.registry.words();
         let Ok(()) = enter(words, cpu) else {
@@ -109,69 +119,69 @@ impl<'a, D: Domain, G: Gate> Shared<'a, D, G> {
         requires few { counts.old.lookups < 2 ^ 62 }
         ensures section { SameSection cpu.old cpu.new }
         ensures counted { counts.new.lookups ≡ counts.old.lookups + 2 }
+        ensures wrong { counts.old.wrong ≤ counts.new.wrong }
+        ensures looked { (looked : OnCpu) × HasLookedUp self.now.plan.turns self.now.plan.iface self.now.plan.driver cpu.old looked counts.new.wrong }
+        ensures referred { counts.new.wrong ≡ 0 → IsSome result.passive × IsSome result.local × HasReferred 1 cpu.old cpu.new }
     {
-        let words = self.registry.words();
-        let plan = self.plan;
-        let iface = find(words, cpu, Kind::Iface, &plan.iface);
+        self.look_up(cpu, counts);
+        let passive = acquire_passive(self.registry, cpu, counts);
+        let local = acquire_counted(self.registry, cpu, counts);
+        Held { passive, local }
+    }
+
+    /// Looks the interface up, and then the driver. Condition: inside.
+    fn look_up(&self, cpu: &mut Cpu<D>, counts: &mut Counts)
+        requires inside { cpu.old.view.begin ≢ None }
+        requires few { counts.old.lookups < 2 ^ 62 }
+        ensures section { Unacquired cpu.old cpu.new }
+        ensures counted { counts.new.lookups ≡ counts.old.lookups + 2 }
+        ensures wrong { counts.old.wrong ≤ counts.new.wrong }
+        ensures looked { HasLookedUp self.now.plan.turns self.now.plan.iface self.now.plan.driver cpu.old cpu.new counts.new.wrong }
+    {
+        let iface = find_iface(self.registry, self.plan, cpu, counts);
         counts.add_lookup();
-        counts.judge(plan.is_iface(iface));
         if iface.is_some() {
             count(&mut counts.deeds.found);
         }
-        let driver = find(words, cpu, Kind::Driver, &plan.driver);
+        find_driver(self.registry, self.plan, cpu, counts);
         counts.add_lookup();
-        counts.judge(plan.is_driver(driver));
-        let passive = acquire(words, cpu).ok();
-        counts.judge(passive.is_some());
-        let local = acquire_local(words, cpu).ok();
-        counts.judge(local.is_some());
-        Held { passive, local }
     }
 
     /// Reads both records, releases the passive reference, and exchanges the local one with what lies in the next CPU's basket, which is
     /// released here.
     fn let_go<R: Wait>(&self, rt: &R, cpu: &mut Cpu<D>, held: Held<D>, counts: &mut Counts)
-        ensures section { SameSection cpu.old cpu.new }
-        ensures counted { counts.new.lookups ≡ counts.old.lookups }
+        ensures section { Unacquired cpu.old cpu.new }
+        ensures counted { GoesOn counts.old counts.new }
     {
         let Held { passive, mut local } = held;
-        self.read_passive(cpu, &passive, counts);
-        self.read_local(&mut local, counts);
-        self.release_passive(cpu, passive, counts);
+        self.read_both(cpu, &passive, &mut local, counts);
+        if let Some(psref) = passive {
+            release_passive(self.registry, cpu, psref, counts);
+        }
         if let Some(reference) = local {
             self.pass_on(rt, cpu, reference, counts);
         }
     }
 
-    fn read_passive(&self, cpu: &mut Cpu<D>, passive: &Option<Psref>, counts: &mut Counts)
-        ensures section { SameSection cpu.old cpu.new }
-        ensures counted { counts.new.lookups ≡ counts.old.lookups }
+    /// Reads the driver's record by each reference that there is.
+    fn read_both(
+        &self,
+        cpu: &mut Cpu<D>,
+        passive: &Option<Psref>,
+        local: &mut Option<LocalRef<D>>,
+        counts: &mut Counts,
+    )
+        ensures section { Unacquired cpu.old cpu.new }
+        ensures counted { GoesOn counts.old counts.new }
+        ensures right { counts.new.wrong ≡ 0 → IfSome passive.now (λ p. p.number ≡ 1) × IfSome local.old (λ r. (r.entry.number ≡ 1) × (r.entry.rec ≡ driver_record self.now.plan.driver)) }
     {
         if let Some(psref) = passive {
-            let rec = read(self.registry.words(), cpu, psref);
-            counts.judge(psref.number() == 1 && rec == Ok(self.plan.driver()));
+            read_passive(self.registry, self.plan, cpu, psref, counts).ok();
             count(&mut counts.deeds.read);
         }
-    }
-
-    fn read_local(&self, local: &mut Option<LocalRef<D>>, counts: &mut Counts)
-        ensures { counts.new.lookups ≡ counts.old.lookups }
-    {
         if let Some(reference) = local {
-            let rec = reference.record(self.registry.words());
-            counts.judge(reference.number() == 1 && rec == self.plan.driver());
+            read_local(self.registry, self.plan, reference, counts);
             count(&mut counts.deeds.read);
-        }
-    }
-
-    fn release_passive(&self, cpu: &mut Cpu<D>, passive: Option<Psref>, counts: &mut Counts)
-        ensures section { SameSection cpu.old cpu.new }
-        ensures counted { counts.new.lookups ≡ counts.old.lookups }
-    {
-        let Some(psref) = passive else { return };
-        if let Err((_, back)) = release(self.registry.words(), cpu, psref) {
-            back.forget();
-            counts.judge(false);
         }
     }
 
@@ -184,8 +194,8 @@ impl<'a, D: Domain, G: Gate> Shared<'a, D, G> {
         reference: LocalRef<D>,
         counts: &mut Counts,
     )
-        ensures section { SameSection cpu.old cpu.new }
-        ensures counted { counts.new.lookups ≡ counts.old.lookups }
+        ensures section { Unacquired cpu.old cpu.new }
+        ensures counted { GoesOn counts.old counts.new }
     {
         let own = cpu.plain.id;
         let next = next_basket(own, self.plan.cpus);
@@ -204,8 +214,8 @@ impl<'a, D: Domain, G: Gate> Shared<'a, D, G> {
         taken: Option<Laid<D>>,
         counts: &mut Counts,
     )
-        ensures section { SameSection cpu.old cpu.new }
-        ensures counted { counts.new.lookups ≡ counts.old.lookups }
+        ensures section { Unacquired cpu.old cpu.new }
+        ensures counted { GoesOn counts.old counts.new }
     {
         if let Some(Laid { by, reference }) = taken {
             if by != cpu.id() {

@@ -9,9 +9,9 @@ use Rattle.registry_values.specs.declared.refusal.Refusal.TheVariants.{NameTaken
 use Rattle.registry_values.specs.Answers.{has_room, next_entry, entry_in, given_entry, attach_answer}
 
 -- what is so where an entry is given
-pub record IsGiven (taken : Bool) (plain : Option ℕ) (room : Room) (rec : Record) (e : Entry) : Type 0 where
+pub record IsGiven (taken : Bool) (fit : Option ℕ) (room : Room) (rec : Record) (e : Entry) : Type 0 where
   pub free : taken ≡ false
-  pub place : plain ≡ Some e.slot
+  pub place : fit ≡ Some e.slot
   pub fits : has_room room ≡ true
   pub entry : e ≡ next_entry room.changes rec e.slot
 
@@ -19,16 +19,16 @@ room_if : (b : Bool) (e f : Entry) → ◌≡◌ {A = Result Entry Refusal} (if 
 room_if true e f is = (refl, let q : ◌≡◌ {A = Result Entry Refusal} (Ok f) (Ok e) = is in cc)
 room_if false e f is = absurd (let q : ◌≡◌ {A = Result Entry Refusal} (Err HistoryFull) (Ok e) = is in cc)
 
-place_if : (plain : Option ℕ) (room : Room) (rec : Record) (e : Entry) → entry_in plain room rec ≡ Ok e → IsGiven false plain room rec e
+place_if : (fit : Option ℕ) (room : Room) (rec : Record) (e : Entry) → entry_in fit room rec ≡ Ok e → IsGiven false fit room rec e
 place_if None room rec e is = absurd (let q : ◌≡◌ {A = Result Entry Refusal} (Err NoSlot) (Ok e) = is in cc)
 place_if (Some t) room rec e is =
     let told = room_if (has_room room) e (next_entry room.changes rec t) is in
     let at : e.slot ≡ t = ap (λ (x : Entry). x.slot) told.1 in
     record { free = refl; place = ap Some (sym at); fits = told.0; entry = told.1 ∙ ap (next_entry room.changes rec) (sym at) }
 
-pub given_tells : (taken : Bool) (plain : Option ℕ) (room : Room) (rec : Record) (e : Entry) → given_entry taken plain room rec ≡ Ok e → IsGiven taken plain room rec e
-given_tells true plain room rec e is = absurd (let q : ◌≡◌ {A = Result Entry Refusal} (Err NameTaken) (Ok e) = is in cc)
-given_tells false plain room rec e is = place_if plain room rec e is
+pub given_tells : (taken : Bool) (fit : Option ℕ) (room : Room) (rec : Record) (e : Entry) → given_entry taken fit room rec ≡ Ok e → IsGiven taken fit room rec e
+given_tells true fit room rec e is = absurd (let q : ◌≡◌ {A = Result Entry Refusal} (Err NameTaken) (Ok e) = is in cc)
+given_tells false fit room rec e is = place_if fit room rec e is
 
 -- the caller is outside, the entry fits the call, and it is the one given
 pub attach_tells : (inside unfit : Bool) (given : Result Entry Refusal) (e : Entry) → attach_answer inside unfit given ≡ Ok e → (inside ≡ false) × (unfit ≡ false) × (given ≡ Ok e)

@@ -7,13 +7,13 @@ use Rattle.registry_values.specs.declared.entry.Record.{Record}
 use Rattle.registry_values.specs.declared.refusal.Refusal.{Refusal}
 use Rattle.registry_values.specs.declared.refusal.Refusal.TheVariants.{NameTaken, NoSlot, HistoryFull, Inside, NeedsDriver, TooDeep, SectionsSpent, PassiveFull, WrongCpu, NotHeld, LocalFull, NotFound, Waiting}
 use Rattle.registry_values.specs.declared.slot.Slot.{Slot}
-use Rattle.registry_values.specs.Slots.{is_plain}
+use Rattle.registry_values.specs.Slots.{is_available}
 
 -- Attaching
 
 -- the least slot that is vacant and keeps nothing
-abbrev pub plain_slot : List Slot → List (Option ℕ) → Option ℕ
-plain_slot slots keeps = position is_plain (zip slots keeps)
+abbrev pub first_fit : List Slot → List (Option ℕ) → Option ℕ
+first_fit slots keeps = position is_available (zip slots keeps)
 
 -- the history has room for an attach, and for the detach of each entry that is live then
 abbrev pub has_room : Room → Bool
@@ -23,14 +23,14 @@ has_room room = nat_le (room.changes + room.live + 2) room.limit
 abbrev pub next_entry : ℕ → Record → ℕ → Entry
 next_entry changes rec t = record { number = changes + 1; slot = t; rec = rec }
 
--- that entry, in the plain slot if there is one
+-- that entry, in the first-fit slot if there is one
 abbrev pub entry_in : Option ℕ → Room → Record → Result Entry Refusal
 entry_in None room rec = Err NoSlot
 entry_in (Some t) room rec = if has_room room then Ok (next_entry room.changes rec t) else Err HistoryFull
 
--- The entry that an attach of the record makes. Refused where its kind and name are taken, no slot is plain, or the history has no room.
+-- The entry that an attach of the record makes. Refused where its kind and name are taken, no slot is available, or the history has no room.
 abbrev pub given_entry : Bool → Option ℕ → Room → Record → Result Entry Refusal
-given_entry taken plain room rec = if taken then Err NameTaken else entry_in plain room rec
+given_entry taken fit room rec = if taken then Err NameTaken else entry_in fit room rec
 
 -- An attach is refused inside a section, and where the entry is unfit for the call: an interface without a driver.
 abbrev pub attach_answer : Bool → Bool → Result Entry Refusal → Result Entry Refusal

@@ -114,8 +114,8 @@ abbrev pub retired_slot : List Slot → ℕ → Option ℕ
 retired_slot slots n = position (is_retired_as n) slots
 
 -- a slot that an attach may take: it is vacant and keeps nothing
-abbrev pub is_plain : Slot × Option ℕ → Bool
-is_plain p = is_vacant p.0 && is_none p.1
+abbrev pub is_available : Slot × Option ℕ → Bool
+is_available p = is_vacant p.0 && is_none p.1
 
 -- what a record is looked up by
 abbrev pub key_of_record : Record → Key

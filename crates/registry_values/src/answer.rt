@@ -28,22 +28,22 @@ pub fn has_room(room: Room) -> bool
     wanted <= room.limit && room.changes <= room.limit - wanted
 }
 
-/// The entry that an attach of the record makes: its number is that of the next change, from 1, and its slot is the least plain one.
-/// Refused, in this order: `NameTaken` where a live entry has its kind and name; `NoSlot` where no slot is plain; `HistoryFull` where the
+/// The entry that an attach of the record makes: its number is that of the next change, from 1, and its slot is the first-fit one.
+/// Refused, in this order: `NameTaken` where a live entry has its kind and name; `NoSlot` where no slot is available; `HistoryFull` where the
 /// history has no room for this attach and the detach of each entry that is live then.
 pub fn given_entry(
     rec: Record,
     is_taken: bool,
-    plain: Option<u8>,
+    fit: Option<u8>,
     room: Room,
 ) -> Result<Entry, Refusal>
-    ensures value { result ≡ given_entry is_taken plain room rec }
-    ensures slot { IfOk result (λ entry. plain ≡ Some entry.slot) }
+    ensures value { result ≡ given_entry is_taken fit room rec }
+    ensures slot { IfOk result (λ entry. fit ≡ Some entry.slot) }
 {
     if is_taken {
         return Err(Refusal::NameTaken);
     }
-    let Some(slot) = plain else {
+    let Some(slot) = fit else {
         return Err(Refusal::NoSlot);
     };
     if !has_room(room) {

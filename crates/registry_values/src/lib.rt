@@ -26,7 +26,7 @@ pub use name::{Name, NameFault, name_laws};
 pub use refusal::Refusal;
 pub use settings::Settings;
 pub use slot::{
-    Key, Slot, are_words_of, has_number, is_live, is_live_as, is_plain, is_retired_as, key_of,
+    Key, Slot, are_words_of, has_number, is_available, is_live, is_live_as, is_retired_as, key_of,
     retired_number,
 };
 pub use stage::{Stage, destroyed, settled};

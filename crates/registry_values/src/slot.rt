@@ -1,7 +1,7 @@
 //! What stands in a slot, and tests of one slot by it.
 
 ghost use Rattle.std.specs.Prelude.{◌≡◌};
-ghost use Rattle.registry_values.specs.Slots.{are_words_of, is_retired_as, is_plain, key_of, retired_number, has_number, is_live, is_live_as, same_key};
+ghost use Rattle.registry_values.specs.Slots.{are_words_of, is_retired_as, is_available, key_of, retired_number, has_number, is_live, is_live_as, same_key};
 
 use crate::entry::{Entry, Kind, kind_word};
 use crate::name::Name;
@@ -98,8 +98,8 @@ pub fn retired_number(slot: Slot) -> Option<u64>
 }
 
 /// Whether an attach may take the slot: it is vacant, and keeps no reference to a driver.
-pub fn is_plain(slot: &Slot, kept: Option<u64>) -> bool
-    ensures { result ≡ is_plain (slot.now, kept) }
+pub fn is_available(slot: &Slot, kept: Option<u64>) -> bool
+    ensures { result ≡ is_available (slot.now, kept) }
 {
     matches!(slot, Slot::Vacant) && kept.is_none()
 }

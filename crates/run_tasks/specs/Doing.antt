@@ -8,7 +8,7 @@ use Rattle.registry_report.specs.Written.{AppendsPrefix}
 use Rattle.registry_script.specs.Ran.{Ran}
 use Rattle.registry_storm.specs.Storms.{IsSumOf}
 use Rattle.registry_storm.specs.declared.sum.StormSum.{StormSum}
-use Rattle.run_tasks.specs.declared.task.Plan.{Plan}
+use Rattle.run_tasks.specs.declared.task.StormSize.{StormSize}
 use Rattle.run_tasks.specs.declared.task.Task.{Task}
 use Rattle.run_tasks.specs.declared.task.Task.TheVariants.{Script, Storm}
 
@@ -32,26 +32,29 @@ storm_text sum =
     (count_lines sum.references sum.wrong sum.held))
 
 -- there is such a storm
-abbrev pub IsStorm : Plan → Type 0
-IsStorm plan = (1 ≤ plan.cpus) × (plan.cpus ≤ 8) × (1 ≤ plan.turns) × (plan.turns ≤ 100000)
+abbrev pub IsStorm : StormSize → Type 0
+IsStorm size = (1 ≤ size.cpus) × (size.cpus ≤ 8) × (1 ≤ size.turns) × (size.turns ≤ 100000)
 
 abbrev pub IsPossible : Task → Type 0
 IsPossible (Script engine) = ⊤
-IsPossible (Storm plan) = IsStorm plan
+IsPossible (Storm size) = IsStorm size
 
--- a storm of this size was made, and of its sum this was written
-abbrev pub TellsStorm : Plan → (StormSum → Type 0) → Type 0
-TellsStorm plan was_written = (sum : StormSum) × IsSumOf plan.cpus plan.turns sum × was_written sum
+module _ {X : Type 0} (made : X → StormSize → Result StormSum RunFault → X → Type 0) where
+  -- one storm of this size was made, and of its sum this was written
+  abbrev pub TellsStorm : StormSize → X → X → (StormSum → Type 0) → Type 0
+  TellsStorm size before after was_written = (sum : StormSum) × made before size (Ok sum) after × IsSumOf size.cpus size.turns sum × was_written sum
 
--- what a storm wrote: its five lines; where the writer failed a front of them; else nothing, for want of memory or of a thread
-abbrev pub Stormed : Plan → Option (List ℕ) → Option (List ℕ) → Result (Unit {0}) RunFault → Type 0
-Stormed plan old new (Ok u) = TellsStorm plan (λ sum. Appends old new (storm_text sum))
-Stormed plan old new (Err run.Write) = TellsStorm plan (λ sum. AppendsPrefix old new (storm_text sum))
-Stormed plan old new (Err run.Memory) = Keeps old new
-Stormed plan old new (Err run.NoThread) = Keeps old new
-Stormed plan old new (Err _) = ⊥
+  -- What a storm wrote: its five lines; where the writer failed a front of them; else nothing, for want of memory or of a thread. One storm was made, or
+  -- begun
+  abbrev pub Stormed : StormSize → X → X → Option (List ℕ) → Option (List ℕ) → Result (Unit {0}) RunFault → Type 0
+  Stormed size before after old new (Ok u) = TellsStorm size before after (λ sum. Appends old new (storm_text sum))
+  Stormed size before after old new (Err run.Write) = TellsStorm size before after (λ sum. AppendsPrefix old new (storm_text sum))
+  Stormed size before after old new (Err run.Memory) = ((found : Result StormSum RunFault) × made before size found after) × Keeps old new
+  Stormed size before after old new (Err run.NoThread) = made before size (Err run.NoThread) after × Keeps old new
+  Stormed size before after old new (Err _) = ⊥
 
--- what was done of a task, from what the reader has left before and after, and what the writer holds before and after. A storm reads nothing
-abbrev pub Did : Task → Option (List ℕ) → Option (List ℕ) → Option (List ℕ) → Option (List ℕ) → Result (Unit {0}) RunFault → Type 0
-Did (Script engine) left rest old new result = Ran engine left rest old new result
-Did (Storm plan) left rest old new result = (rest ≡ left) × Stormed plan old new result
+  -- What was done of a task, from what the reader has left before and after, and what the writer holds before and after. A script makes no storm, and a
+  -- storm reads nothing
+  abbrev pub Did : Task → X → X → Option (List ℕ) → Option (List ℕ) → Option (List ℕ) → Option (List ℕ) → Result (Unit {0}) RunFault → Type 0
+  Did (Script engine) before after left rest old new result = (after ≡ before) × Ran engine left rest old new result
+  Did (Storm size) before after left rest old new result = (rest ≡ left) × Stormed size before after old new result

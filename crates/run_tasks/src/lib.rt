@@ -6,6 +6,6 @@ mod doing;
 mod failure;
 mod task;
 
-pub use doing::carry_out;
+pub use doing::{OurStorms, Storms, carry_out};
 pub use failure::{Failure, exit_code};
-pub use task::{Plan, Task};
+pub use task::{StormSize, Task};

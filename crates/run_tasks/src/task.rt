@@ -18,12 +18,12 @@ pub enum Task {
     /// To run the script on standard input.
     Script(Engine),
     /// To run a storm.
-    Storm(Plan),
+    Storm(StormSize),
 }
 
 /// How large a storm is.
 #[derive(Clone, Copy, Debug, PartialEq, Eq)]
-pub struct Plan {
+pub struct StormSize {
     /// 1 to 8.
     pub cpus: u8,
     /// 1 to 100,000.
@@ -67,7 +67,7 @@ fn storm(word: &[u8], cpus: &[u8], turns: &[u8]) -> Option<Task>
     }
     let cpus = parse_within(cpus, MOST_CPUS)? as u8;
     let turns = parse_within(turns, MOST_TURNS)? as u32;
-    Some(Task::Storm(Plan { cpus, turns }))
+    Some(Task::Storm(StormSize { cpus, turns }))
 }
 
 /// A number from 1 to `most`.

@@ -1,37 +1,28 @@
 //! The shortest of a script on which two engines differ.
 
-ghost use Rattle.std.specs.Prelude.{◌≡◌, ◌<◌, IfOk, IfSome, IsTrue, false, length};
+ghost use Rattle.std.specs.Prelude.{◌<◌, IfOk, IfSome, length};
+ghost use Rattle.script_comparison.specs.Outcomes.{WereApart};
 
+use super::comparing::agreed;
+use super::engines::Runs;
 use std::alloc::{AllocError, Global};
 
 /// The longest run of lines that is left out at once.
 const LONGEST: usize = 256;
 
-/// What runs two engines on a script: both of ours, or a stand-in for them in a test.
-pub trait Judge {
-    ghost use Rattle.std.specs.Prelude.{ℕ, List};
-
-    // Both were run on the script, and differed.
-    ghost apart: { Self → List ℕ → Type 0 };
-
-    // Both were run on the script, and did the same.
-    ghost alike: { Self → List ℕ → Type 0 };
-
-    /// Whether the engines differ on the script.
-    fn are_apart(&self, script: &[u8]) -> bool
-        ensures apart { IsTrue result → apart self.now script.now }
-        ensures alike { result ≡ false → alike self.now script.now };
-}
-
 /// A script on which the engines differ still, of lines of this one. None of its lines can be left out so that they do.
-pub fn shortest<J: Judge>(alloc: Global, judge: &J, script: &[u8]) -> Result<Vec<u8>, AllocError>
-    requires { J.apart judge.now script.now }
-    ensures { IfOk result (λ kept. J.apart judge.now kept.items) }
+pub fn shortest<E: Runs>(
+    alloc: Global,
+    engines: &mut E,
+    script: &[u8],
+) -> Result<Vec<u8>, AllocError>
+    requires { WereApart E.ran script.now }
+    ensures { IfOk result (λ kept. WereApart E.ran kept.items) }
 {
     let mut kept = script.to_vec(alloc)?;
     let mut count = LONGEST;
     loop {
-        match shorter(alloc, judge, &kept, count)? {
+        match shorter(alloc, engines, &kept, count)? {
             Some(next) => kept = next,
             None if count > 1 => count /= 2,
             None => return Ok(kept),
@@ -40,18 +31,18 @@ pub fn shortest<J: Judge>(alloc: Global, judge: &J, script: &[u8]) -> Result<Vec
 }
 
 /// The script without so many lines, one after the other, where the engines differ on it still.
-fn shorter<J: Judge>(
+fn shorter<E: Runs>(
     alloc: Global,
-    judge: &J,
+    engines: &mut E,
     script: &[u8],
     count: usize,
 ) -> Result<Option<Vec<u8>>, AllocError>
-    ensures apart { IfOk result (λ found. IfSome found (λ next. J.apart judge.now next.items)) }
+    ensures apart { IfOk result (λ found. IfSome found (λ next. WereApart E.ran next.items)) }
     ensures less { IfOk result (λ found. IfSome found (λ next. length next.items < length script.now)) }
 {
     for first in 0..script.split(|byte| *byte == b'\n').count() {
         let next = without(alloc, script, first, count)?;
-        if next.len() < script.len() && judge.are_apart(&next) {
+        if next.len() < script.len() && agreed(engines, &next).is_none() {
             return Ok(Some(next));
         }
     }

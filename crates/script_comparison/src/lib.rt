@@ -1,15 +1,20 @@
-//! Scripts made from a seed, both engines run on each, and what comes of it: whether they differ, the shortest script on which they do, and
-//! which answers were met.
+//! Scripts made from a seed, both engines run on each, and what comes of it: whether they differ, the shortest script on which they do, how far
+//! the scripts got, and which answers were met.
 #![tactic(auto)]
 
+mod comparing;
 mod cutting;
-mod judging;
+mod engines;
 mod making;
+mod reach;
 mod sketch;
 mod tally;
+mod telling;
 mod words;
 
-pub use cutting::{Judge, shortest};
-pub use judging::{Engines, Outcome, run_engine};
-pub use making::Maker;
+pub use comparing::{Difference, Scripts, SeedRange, agreed, first_difference};
+pub use cutting::shortest;
+pub use engines::{Engines, Outcome, Runs};
+pub use making::Seeds;
 pub use tally::Tally;
+pub use telling::{compare, exit_code, status};

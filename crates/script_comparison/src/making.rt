@@ -1,15 +1,17 @@
 //! Scripts from random numbers.
 
-use super::sketch::{Effect, Line, Sketch};
+use super::comparing::Scripts;
+use super::sketch::{Effect, Line, NAMES, Sketch};
 use super::words::{
-    ARGUMENTS, Argument, BAD_NUMBERS, COMMANDS, CPUS, FAULTY_LINES, SETTINGS, SLOTS,
+    ARGUMENTS, Argument, BAD_KEYS, BAD_NUMBERS, CHURN, COMMANDS, CPUS, CROWD, FAULTY_LINES,
+    SETTINGS, SLOTS, WORDS_OF_NAMES,
 };
 use rand_core::{Rng, SeedableRng};
 use rand_xoshiro::Xoshiro256PlusPlus;
 use std::alloc::{AllocError, Global};
 
 /// The lines of a script after those of the settings.
-const LINES: u32 = 40;
+const LINES: u32 = 48;
 
 /// How many commands are tried for a line that the registry should carry out.
 const TRIES: u32 = 12;
@@ -19,6 +21,17 @@ const ANY: usize = 6;
 
 /// How often a section may be nested, and once more.
 const TOO_DEEP: u32 = 256;
+
+/// The names of a usual script.
+const FEW_NAMES: usize = 3;
+
+/// The slots of a registry that is to be full, and how many of them may be vacant still.
+const MANY_SLOTS: usize = 32;
+
+const VACANT: usize = 9;
+
+/// How often a slot is given again in a long script: more often would be more bytes than a script may have.
+const ROUNDS: u32 = 1040;
 
 /// What is odd about a script.
 #[derive(Clone, Copy, PartialEq)]
@@ -36,28 +49,61 @@ enum Twist {
     Deep,
 }
 
+/// How much a script does before the lines that are chosen one by one.
+#[derive(Clone, Copy, PartialEq)]
+enum Size {
+    /// Nothing.
+    Usual,
+    /// It attaches drivers until few slots are vacant or none.
+    Crowded,
+    /// It goes on by retiring entries and giving their slots again.
+    Long,
+}
+
+/// What makes a script of each seed.
+#[derive(Clone, Copy, Drop)]
+pub struct Seeds {
+    pub alloc: Global,
+}
+
+impl Scripts for Seeds {
+    // Which script comes of a seed is tested.
+    ghost made = { λ _ _ _. Unit {0} };
+
+    /// A script of one to eight CPUs, most of whose lines the registry carries out. One script in nine has a fault.
+    fn script(&self, seed: u64) -> Result<Vec<u8>, AllocError> {
+        Maker::new(self.alloc, seed).script()
+    }
+}
+
 /// What makes one script.
 #[derive(Drop)]
-pub struct Maker {
+struct Maker {
     alloc: Global,
     rng: Xoshiro256PlusPlus,
     sketch: Sketch,
 }
 
 impl Maker {
-    pub fn new(alloc: Global, seed: u64) -> Maker {
+    fn new(alloc: Global, seed: u64) -> Maker {
         Maker {
             alloc,
             rng: Xoshiro256PlusPlus::seed_from_u64(seed),
-            sketch: Sketch::new(1, 1),
+            sketch: Sketch::new(1, 1, 1),
         }
     }
 
-    /// A script of one to eight CPUs, whose lines the registry carries out, three in four. One script in nine has a fault.
-    pub fn script(mut self) -> Result<Vec<u8>, AllocError> {
+    fn script(mut self) -> Result<Vec<u8>, AllocError> {
         let mut text = Vec::new(self.alloc);
         let twist = self.twist();
-        self.begin(&mut text, twist)?;
+        let size = self.size();
+        self.begin(&mut text, twist, size)?;
+        if size != Size::Usual {
+            self.crowd(&mut text)?;
+        }
+        if size == Size::Long {
+            self.churn(&mut text)?;
+        }
         for _ in 0..LINES {
             self.add_line(&mut text)?;
         }
@@ -76,11 +122,22 @@ impl Maker {
         }
     }
 
+    fn size(&mut self) -> Size {
+        match self.pick(256) {
+            0 => Size::Long,
+            1..=31 => Size::Crowded,
+            _ => Size::Usual,
+        }
+    }
+
     /// Adds the lines of the settings.
-    fn begin(&mut self, text: &mut Vec<u8>, twist: Twist) -> Result<(), AllocError> {
+    fn begin(&mut self, text: &mut Vec<u8>, twist: Twist, size: Size) -> Result<(), AllocError> {
         let cpus = self.choose(CPUS);
-        let slots = self.choose(SLOTS);
-        self.sketch = Sketch::new(cpus, slots);
+        let (slots, names) = match size {
+            Size::Usual => (self.choose(SLOTS), FEW_NAMES),
+            _ => (MANY_SLOTS, NAMES),
+        };
+        self.sketch = Sketch::new(cpus, slots, names);
         let line = self.sketch.any_line(0);
         if twist == Twist::Domain {
             self.add_command(text, b"domain K S", &line, true)?;
@@ -90,9 +147,43 @@ impl Maker {
         }
         if twist == Twist::Limits {
             self.add_command(text, b"limits H M Q Q", &line, true)?;
+        } else if size == Size::Long {
+            text.extend_from_slice(b"limits 1000000 1000000 100 100\n")?;
         } else if self.pick(4) == 0 {
             let limits = self.choose(SETTINGS);
             self.add_command(text, limits, &line, false)?;
+        }
+        Ok(())
+    }
+
+    /// Attaches drivers until few slots are vacant, or none.
+    fn crowd(&mut self, text: &mut Vec<u8>) -> Result<(), AllocError> {
+        for _ in 0..MANY_SLOTS.saturating_sub(self.pick(VACANT)) {
+            self.add_fit(text, CROWD)?;
+        }
+        Ok(())
+    }
+
+    /// Gives slots again and again.
+    fn churn(&mut self, text: &mut Vec<u8>) -> Result<(), AllocError> {
+        for _ in 0..ROUNDS {
+            for command in CHURN {
+                self.add_fit(text, *command)?;
+            }
+        }
+        Ok(())
+    }
+
+    /// Adds a line with this command, if the registry can carry it out.
+    fn add_fit(
+        &mut self,
+        text: &mut Vec<u8>,
+        (command, effect): (&[u8], Effect),
+    ) -> Result<(), AllocError> {
+        let start = self.pick(1 << 20);
+        if let Some(line) = self.sketch.fit_line(command, start) {
+            self.add_command(text, command, &line, false)?;
+            self.sketch.take(effect, &line);
         }
         Ok(())
     }
@@ -207,6 +298,8 @@ impl Maker {
             b'C' | b'I' | b'O' | b'F' | b'P' => self.add_number(text, line.cpu),
             b'R' if faulty => text.extend_from_slice(self.choose(BAD_NUMBERS)),
             b'R' => self.add_number(text, line.number),
+            b'D' if faulty => text.extend_from_slice(self.choose(BAD_KEYS)),
+            b'D' => Maker::add_key(text, line.key),
             _ => text.extend_from_slice(self.word(letter, line, faulty)),
         }
     }
@@ -214,6 +307,17 @@ impl Maker {
     fn add_number(&self, text: &mut Vec<u8>, number: usize) -> Result<(), AllocError> {
         let digits = format!(in self.alloc; "{number}")?;
         text.extend_from_slice(digits.as_bytes())
+    }
+
+    /// Adds the kind and the name with this key.
+    fn add_key(text: &mut Vec<u8>, key: usize) -> Result<(), AllocError> {
+        let (kind, name): (&[u8], usize) = if key < NAMES {
+            (b"driver ", key)
+        } else {
+            (b"iface ", key - NAMES)
+        };
+        text.extend_from_slice(kind)?;
+        text.extend_from_slice(WORDS_OF_NAMES.get(name).copied().unwrap_or_default())
     }
 
     fn word(&mut self, letter: u8, line: &Line, faulty: bool) -> &'static [u8] {

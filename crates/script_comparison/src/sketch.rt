@@ -55,7 +55,10 @@ impl Line {
 }
 
 /// The names of drivers, which are those of interfaces too.
-pub const NAMES: usize = 3;
+pub const NAMES: usize = 32;
+
+/// All kinds with all names: drivers from 0, interfaces from `NAMES` on.
+const KEYS: usize = 64;
 
 /// A passive reference: the number that it is to, 0 for none, and its CPU.
 #[derive(Clone, Copy)]
@@ -68,25 +71,50 @@ impl Hold {
     const NONE: Hold = Hold { number: 0, cpu: 0 };
 }
 
+/// What a slot has: an entry, live or retired, or none.
+#[derive(Clone, Copy)]
+struct Row {
+    /// Of the entry, 0 where there is none.
+    number: usize,
+    key: usize,
+    is_retired: bool,
+    /// How many changes there were when it was retired.
+    ended: usize,
+    /// The driver that an interface keeps until its slot is vacant.
+    kept: usize,
+}
+
+impl Row {
+    const VACANT: Row = Row {
+        number: 0,
+        key: 0,
+        is_retired: false,
+        ended: 0,
+        kept: 0,
+    };
+
+    fn is_live(&self) -> bool {
+        self.number > 0 && !self.is_retired
+    }
+
+    fn is_driver(&self) -> bool {
+        self.number > 0 && self.key < NAMES
+    }
+}
+
 /// What the lines so far leave. Entries go by their numbers, of which 0 is none.
 #[derive(Clone, Copy, Drop)]
 pub struct Sketch {
     cpus: usize,
     slots: usize,
-    occupied: usize,
+    /// How many of the names the script has.
+    names: usize,
     changes: usize,
     depth: [u8; 8],
     /// How many changes there were when the section began.
     entered: [usize; 8],
     found: [usize; 8],
-    /// The live entries, by their keys.
-    live: [usize; 6],
-    drivers: [bool; 64],
-    retired: [bool; 64],
-    /// How many changes there were when the entry was retired.
-    ended: [usize; 64],
-    /// The driver that an interface keeps until its slot is vacant.
-    kept: [usize; 64],
+    rows: [Row; 32],
     held: [Hold; 3],
     counted: [usize; 3],
 }
@@ -114,20 +142,17 @@ fn at<T: Copy>(row: &[T], place: usize, none: T) -> T {
 }
 
 impl Sketch {
-    pub fn new(cpus: usize, slots: usize) -> Sketch {
+    /// Of a script with so many CPUs, slots and names.
+    pub fn new(cpus: usize, slots: usize, names: usize) -> Sketch {
         Sketch {
             cpus,
             slots,
-            occupied: 0,
+            names,
             changes: 0,
             depth: [0; 8],
             entered: [0; 8],
             found: [0; 8],
-            live: [0; 6],
-            drivers: [false; 64],
-            retired: [false; 64],
-            ended: [0; 64],
-            kept: [0; 64],
+            rows: [Row::VACANT; 32],
             held: [Hold::NONE; 3],
             counted: [0; 3],
         }
@@ -140,16 +165,19 @@ impl Sketch {
 
     /// A line with any arguments.
     pub fn any_line(&self, start: usize) -> Line {
+        let names = self.names.clamp(1, NAMES);
+        let name = start / 8 % names;
+        let is_iface = start / 8 / names % 2 == 1;
         Line {
             cpu: start % self.cpus.max(1),
-            driver: start / 8 % NAMES,
-            iface: start / 8 % NAMES,
-            key: start / 8 % 6,
+            driver: name,
+            iface: name,
+            key: if is_iface { name + NAMES } else { name },
             held: start / 64 % 3,
             unheld: start / 256 % 3,
             counted: start / 64 % 3,
             uncounted: start / 256 % 3,
-            number: start / 64 % 24,
+            number: start / 64 % self.changes.clamp(24, 4096),
         }
     }
 
@@ -169,17 +197,17 @@ impl Sketch {
             b'I' => line.cpu = self.cpu_among(self.depth.map(|depth| depth > 0), start)?,
             b'O' => line.cpu = self.cpu_among(self.depth.map(|depth| depth == 0), start)?,
             b'F' => line.cpu = self.cpu_among(self.found.map(|number| number > 0), start)?,
-            b'U' => line.driver = self.free_name(false, rest)?,
-            b'W' => line.iface = self.free_name(true, rest)?,
+            b'U' => line.driver = self.free_name(0, rest)?,
+            b'W' => line.iface = self.free_name(NAMES, rest)?,
             b'E' => line.iface = self.live_iface(rest)?,
-            b'D' => line.key = place_with(&self.live.map(|number| number > 0), rest)?,
+            b'D' => line.key = place_with(&self.live_keys(), rest)?,
             b'A' => line.held = self.label_in_use(rest)?,
             b'P' => line.cpu = at(&self.held, self.label_in_use(rest)?, Hold::NONE).cpu,
             b'B' => line.unheld = place_with(&self.held.map(|hold| hold.number == 0), rest)?,
             b'X' => line.counted = self.label_of_driver(rest)?,
             b'Z' => line.counted = place_with(&self.counted.map(|number| number > 0), rest)?,
             b'Y' => line.uncounted = place_with(&self.counted.map(|number| number == 0), rest)?,
-            b'R' => line.number = place_with(&self.retired, rest)?,
+            b'R' => line.number = self.retired_number(rest)?,
             _ => (),
         }
         Some(())
@@ -189,22 +217,47 @@ impl Sketch {
         place_with(flags.get(..self.cpus)?, start)
     }
 
-    /// A name that no live driver has, or no live interface, where a slot is vacant.
-    fn free_name(&self, of_iface: bool, start: usize) -> Option<usize> {
-        let [a, b, c, d, e, f] = self.live.map(|number| number == 0);
-        if self.occupied >= self.slots {
-            None
-        } else if of_iface {
-            place_with(&[d, e, f], start)
-        } else {
-            place_with(&[a, b, c], start)
+    /// Which keys live entries have.
+    fn live_keys(&self) -> [bool; KEYS] {
+        let mut flags = [false; KEYS];
+        for row in &self.rows {
+            if row.is_live() {
+                set(&mut flags, row.key, true);
+            }
         }
+        flags
+    }
+
+    /// The number of the live entry with this key, or 0.
+    fn live_number(&self, key: usize) -> usize {
+        match self.rows.iter().find(|row| row.is_live() && row.key == key) {
+            Some(row) => row.number,
+            None => 0,
+        }
+    }
+
+    /// The least slot that is vacant.
+    fn vacant_slot(&self) -> Option<usize> {
+        let rows = self.rows.get(..self.slots)?;
+        rows.iter().position(|row| row.number == 0)
+    }
+
+    /// A name that no live entry has whose key is from this one on, where a slot is vacant.
+    fn free_name(&self, first: usize, start: usize) -> Option<usize> {
+        let _slot = self.vacant_slot()?;
+        let is_free = self.live_keys().map(|is_live| !is_live);
+        place_with(is_free.get(first..)?.get(..self.names)?, start)
     }
 
     /// The name of a live interface.
     fn live_iface(&self, start: usize) -> Option<usize> {
-        let [_, _, _, d, e, f] = self.live;
-        place_with(&[d > 0, e > 0, f > 0], start)
+        place_with(self.live_keys().get(NAMES..)?, start)
+    }
+
+    /// The number of a retired entry.
+    fn retired_number(&self, start: usize) -> Option<usize> {
+        let slot = place_with(&self.rows.map(|row| row.is_retired), start)?;
+        Some(at(&self.rows, slot, Row::VACANT).number)
     }
 
     /// A passive label in use.
@@ -220,7 +273,8 @@ impl Sketch {
     }
 
     fn is_driver(&self, number: usize) -> bool {
-        at(&self.drivers, number, false)
+        let mut rows = self.rows.iter();
+        rows.any(|row| row.number == number && row.is_driver())
     }
 
     /// What the command leaves, where it is carried out.
@@ -229,7 +283,10 @@ impl Sketch {
         match effect {
             Effect::Enter => self.enter(line.cpu),
             Effect::Exit => self.exit(line.cpu),
-            Effect::Find if !outside => set(&mut self.found, line.cpu, at(&self.live, line.key, 0)),
+            Effect::Find if !outside => {
+                let found = self.live_number(line.key);
+                set(&mut self.found, line.cpu, found);
+            }
             Effect::Attach if outside => self.attach(line.driver, 0),
             Effect::Plug if outside => self.plug(line),
             Effect::Detach if outside => self.detach(line.key),
@@ -284,12 +341,18 @@ impl Sketch {
 
     /// A new entry, where its name is free and a slot is vacant.
     fn attach(&mut self, key: usize, kept: usize) {
-        if at(&self.live, key, 1) == 0 && self.occupied < self.slots {
+        if self.live_number(key) > 0 {
+            return;
+        }
+        if let Some(slot) = self.vacant_slot() {
             self.changes = self.changes.saturating_add(1);
-            self.occupied = self.occupied.saturating_add(1);
-            set(&mut self.live, key, self.changes);
-            set(&mut self.drivers, self.changes, key < NAMES);
-            set(&mut self.kept, self.changes, kept);
+            let row = Row {
+                number: self.changes,
+                key,
+                kept,
+                ..Row::VACANT
+            };
+            set(&mut self.rows, slot, row);
         }
     }
 
@@ -306,33 +369,35 @@ impl Sketch {
     }
 
     fn detach(&mut self, key: usize) {
-        let number = at(&self.live, key, 0);
-        if number > 0 {
-            self.changes = self.changes.saturating_add(1);
-            set(&mut self.live, key, 0);
-            set(&mut self.retired, number, true);
-            set(&mut self.ended, number, self.changes);
+        let changes = self.changes.saturating_add(1);
+        for row in &mut self.rows {
+            if row.is_live() && row.key == key {
+                row.is_retired = true;
+                row.ended = changes;
+                self.changes = changes;
+            }
         }
     }
 
     /// The slot of a retired entry is vacant, once nobody holds it.
     fn free(&mut self, number: usize) {
-        if at(&self.retired, number, false) && self.is_let_go(number) {
-            set(&mut self.retired, number, false);
-            set(&mut self.kept, number, 0);
-            self.occupied = self.occupied.saturating_sub(1);
+        let rows = self.rows;
+        for (slot, row) in rows.iter().enumerate() {
+            if row.is_retired && row.number == number && self.is_let_go(row) {
+                set(&mut self.rows, slot, Row::VACANT);
+            }
         }
     }
 
     /// Whether no section that was open when the entry was retired is open still, and no reference holds it.
-    fn is_let_go(&self, number: usize) -> bool {
-        let ended = at(&self.ended, number, 0);
+    fn is_let_go(&self, row: &Row) -> bool {
         let waits = self
             .depth
             .iter()
             .zip(&self.entered)
-            .any(|(depth, entered)| *depth > 0 && *entered < ended);
-        let is_held = self.held.iter().any(|hold| hold.number == number);
-        !waits && !is_held && !self.counted.contains(&number) && !self.kept.contains(&number)
+            .any(|(depth, entered)| *depth > 0 && *entered < row.ended);
+        let is_held = self.held.iter().any(|hold| hold.number == row.number);
+        let is_kept = self.rows.iter().any(|other| other.kept == row.number);
+        !waits && !is_held && !is_kept && !self.counted.contains(&row.number)
     }
 }

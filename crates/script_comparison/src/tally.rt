@@ -1,14 +1,17 @@
-//! Which answers the reports have to which commands, and how many of the lines were carried out.
+//! Which answers the reports have to which commands and how often, how many of the lines were carried out, and how far the scripts got.
 
-use registry_script::Cause;
-use std::io;
+use super::engines::Outcome;
+use super::reach::Reach;
+use registry_script::{Cause, RunFault, write_text};
+use std::alloc::Global;
+use std::io::Write;
 
 /// A command, and how a line begins that answers it.
 type Answer = (&'static [u8], &'static [u8]);
 
 /// Each answer that a script can meet. It can't meet these: `NotHeld`, since a label stands only for a reference that its CPU holds, and
 /// `NoMemory`, which ends a run without a line.
-const ANSWERS: [Answer; 85] = [
+const ANSWERS: [Answer; 88] = [
     (b"domain", b"domain"),
     (b"limits", b"limits"),
     (b"attach", b"attached"),
@@ -36,11 +39,11 @@ const ANSWERS: [Answer; 85] = [
     (b"find", b"found"),
     (b"find", b"none"),
     (b"find", b"not inside"),
-    (b"ref", b"ref"),
+    (b"ref", b"ref "),
     (b"ref", b"label taken"),
     (b"ref", b"refused NothingFound"),
     (b"ref", b"refused PassiveFull"),
-    (b"copy", b"ref"),
+    (b"copy", b"ref "),
     (b"copy", b"no label"),
     (b"copy", b"label taken"),
     (b"copy", b"refused WrongCpu"),
@@ -66,34 +69,37 @@ const ANSWERS: [Answer; 85] = [
     (b"advance", b"grace cpu 7"),
     (b"advance", b"passive cpu 0"),
     (b"advance", b"passive cpu 7"),
-    (b"advance", b"local 1"),
-    (b"advance", b"local 2"),
-    (b"advance", b"freed slot 0"),
-    (b"advance", b"freed slot 3"),
+    (b"advance", b"local 1\n"),
+    (b"advance", b"local 2\n"),
+    (b"advance", b"freed slot 0\n"),
+    (b"advance", b"freed slot 3\n"),
+    (b"advance", b"freed slot 31\n"),
     (b"advance", b"refused NotRetired"),
-    (b"destroy", b"destroyed slot 0"),
-    (b"destroy", b"destroyed slot 3"),
+    (b"destroy", b"destroyed slot 0\n"),
+    (b"destroy", b"destroyed slot 3\n"),
+    (b"destroy", b"destroyed slot 31\n"),
     (b"destroy", b"refused Inside"),
     (b"destroy", b"refused NotRetired"),
     (b"destroy", b"refused StillHeld grace cpu 0"),
     (b"destroy", b"refused StillHeld grace cpu 7"),
     (b"destroy", b"refused StillHeld passive cpu 0"),
     (b"destroy", b"refused StillHeld passive cpu 7"),
-    (b"destroy", b"refused StillHeld local 1"),
-    (b"destroy", b"refused StillHeld local 2"),
+    (b"destroy", b"refused StillHeld local 1\n"),
+    (b"destroy", b"refused StillHeld local 2\n"),
     (b"perform", b"performed"),
     (b"perform", b"refused Inside"),
     (b"perform", b"refused Waiting cpu 0"),
     (b"perform", b"refused Waiting cpu 7"),
     (b"audit", b"empty"),
-    (b"audit", b"slot 0"),
-    (b"audit", b"slot 3"),
-    (b"audit", b"held 0"),
-    (b"audit", b"held 2"),
-    (b"audit", b"locals 1"),
-    (b"audit", b"locals -1"),
-    (b"audit", b"total 1"),
-    (b"audit", b"total -1"),
+    (b"audit", b"slot 0 "),
+    (b"audit", b"slot 3 "),
+    (b"audit", b"slot 31 "),
+    (b"audit", b"held 0 "),
+    (b"audit", b"held 2 "),
+    (b"audit", b"locals 1 "),
+    (b"audit", b"locals -1 "),
+    (b"audit", b"total 1\n"),
+    (b"audit", b"total -1\n"),
 ];
 
 /// The faults that a script can have, but for TooLong and NoDomain: the parser alone answers them, and it is the same for both engines.
@@ -111,13 +117,14 @@ const FAULTS: [Cause; 11] = [
     Cause::BadSettings,
 ];
 
-/// What was met.
+/// What was met, and how often.
 #[derive(Drop)]
 pub struct Tally {
     lines: u64,
     refused: u64,
-    answers: [bool; 85],
-    faults: [bool; 11],
+    answers: [u64; 88],
+    faults: [u64; 11],
+    reach: Reach,
 }
 
 /// Whether a line says that a command did nothing.
@@ -142,27 +149,44 @@ fn is_no_audit(line: &[u8]) -> bool {
     !line.starts_with(b"audit") && !line.is_empty()
 }
 
+/// Whether the line is one of this command.
+fn is_of(line: &[u8], command: &[u8]) -> bool {
+    match line.strip_prefix(command) {
+        Some(rest) => rest.starts_with(b" ") || rest.starts_with(b"\n"),
+        None => false,
+    }
+}
+
 impl Tally {
     pub fn new() -> Tally {
         Tally {
             lines: 0,
             refused: 0,
-            answers: [false; 85],
-            faults: [false; 11],
+            answers: [0; 88],
+            faults: [0; 11],
+            reach: Reach::NOWHERE,
+        }
+    }
+
+    /// Counts a script, and what both engines did on it.
+    pub fn add(&mut self, script: &[u8], outcome: &Outcome) {
+        match outcome.ended {
+            Err(RunFault::Script(fault)) => self.add_fault(fault.cause),
+            _ => self.add_report(script, &outcome.written),
         }
     }
 
     /// Counts a script's fault.
-    pub fn add_fault(&mut self, cause: Cause) {
-        for (fault, is_met) in FAULTS.iter().zip(&mut self.faults) {
+    fn add_fault(&mut self, cause: Cause) {
+        for (fault, count) in FAULTS.iter().zip(&mut self.faults) {
             if *fault == cause {
-                *is_met = true;
+                *count = count.saturating_add(1);
             }
         }
     }
 
     /// Counts the lines of a script without a fault, and those of its report.
-    pub fn add_report(&mut self, script: &[u8], report: &[u8]) {
+    fn add_report(&mut self, script: &[u8], report: &[u8]) {
         let mut answers = report.split_inclusive(|byte| *byte == b'\n');
         for command in script.split_inclusive(|byte| *byte == b'\n') {
             if is_no_audit(command)
@@ -176,31 +200,31 @@ impl Tally {
                 self.add_balance(line);
             }
         }
+        self.reach.add(report);
     }
 
     fn add_answer(&mut self, command: &[u8], answer: &[u8]) {
-        self.lines = self.lines.wrapping_add(1);
+        self.lines = self.lines.saturating_add(1);
         if is_refusal(answer) {
-            self.refused = self.refused.wrapping_add(1);
+            self.refused = self.refused.saturating_add(1);
         }
         self.note(command, answer);
     }
 
     /// Counts each part of an audit's line that begins with a word.
     fn add_balance(&mut self, line: &[u8]) {
-        self.note(b"audit", line);
+        self.note(b"audit\n", line);
         for (n, byte) in line.iter().enumerate() {
             if *byte == b' ' {
-                self.note(b"audit", line.get(n + 1..).unwrap_or_default());
+                self.note(b"audit\n", line.get(n + 1..).unwrap_or_default());
             }
         }
     }
 
     fn note(&mut self, command: &[u8], answer: &[u8]) {
-        for ((name, begin), is_met) in ANSWERS.iter().zip(&mut self.answers) {
-            // What was met already costs no comparison.
-            if !*is_met && command.starts_with(name) && answer.starts_with(begin) {
-                *is_met = true;
+        for ((name, begin), count) in ANSWERS.iter().zip(&mut self.answers) {
+            if answer.starts_with(begin) && is_of(command, name) {
+                *count = count.saturating_add(1);
             }
         }
     }
@@ -213,26 +237,29 @@ impl Tally {
 
     /// How many answers and faults were never met.
     pub fn unmet(&self) -> usize {
-        let answers = self.answers.iter().filter(|is_met| !**is_met).count();
-        let faults = self.faults.iter().filter(|is_met| !**is_met).count();
+        let answers = self.answers.iter().filter(|count| **count == 0).count();
+        let faults = self.faults.iter().filter(|count| **count == 0).count();
         answers.saturating_add(faults)
     }
 
-    /// Prints how many lines were carried out, and what was never met.
-    pub fn print<R: Print>(&self, rt: &R) -> io::Result<()> {
-        println!(rt; "of 100 lines {} are carried out", self.percent())?;
-        println!(rt; "answers and faults never met: {}", self.unmet())?;
-        for ((command, answer), is_met) in ANSWERS.iter().zip(&self.answers) {
-            if !*is_met {
-                let command = std::str::from_utf8(command).unwrap_or_default();
-                let answer = std::str::from_utf8(answer).unwrap_or_default();
-                println!(rt; "never met: {command}: {}", answer.trim_end())?;
-            }
+    /// Writes how many lines were carried out, how far the scripts got, and how often each answer and each fault was met.
+    pub fn tell<W: Write>(&self, alloc: Global, writer: &mut W) -> Result<(), RunFault> {
+        let (lines, percent, unmet) = (self.lines, self.percent(), self.unmet());
+        let text = format!(in alloc;
+            "commands {lines}, of 100 are carried out {percent}\nanswers and faults never met: {unmet}\n"
+        )?;
+        write_text(writer, text.as_bytes())?;
+        self.reach.tell(alloc, writer)?;
+        for ((command, answer), count) in ANSWERS.iter().zip(&self.answers) {
+            let command = std::str::from_utf8(command).unwrap_or_default();
+            let answer = std::str::from_utf8(answer).unwrap_or_default();
+            let answer = answer.trim_end();
+            let text = format!(in alloc; "{count} {command}: {answer}\n")?;
+            write_text(writer, text.as_bytes())?;
         }
-        for (cause, is_met) in FAULTS.iter().zip(&self.faults) {
-            if !*is_met {
-                println!(rt; "never met: {cause}")?;
-            }
+        for (cause, count) in FAULTS.iter().zip(&self.faults) {
+            let text = format!(in alloc; "{count} {cause}\n")?;
+            write_text(writer, text.as_bytes())?;
         }
         Ok(())
     }

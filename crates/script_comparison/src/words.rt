@@ -48,12 +48,24 @@ pub const COMMANDS: &[(&[u8], Effect)] = &[
     (b"advance R", Effect::Advance),
     (b"destroy O R T", Effect::Destroy),
     (b"destroy O R T", Effect::Destroy),
+    (b"destroy O R T", Effect::Destroy),
+    (b"destroy O R T", Effect::Destroy),
     (b"perform O T", Effect::Nothing),
     (b"audit", Effect::Nothing),
 ];
 
+/// A driver, as a crowd has many.
+pub const CROWD: (&[u8], Effect) = (b"attach O driver U 7", Effect::Attach);
+
+/// A slot is given again.
+pub const CHURN: &[(&[u8], Effect)] = &[
+    (b"detach O D", Effect::Detach),
+    (b"advance R", Effect::Advance),
+    CROWD,
+];
+
 /// The numbers of CPUs that scripts have.
-pub const CPUS: &[usize] = &[1, 2, 2, 3, 4, 5, 6, 7, 8, 8, 8];
+pub const CPUS: &[usize] = &[1, 2, 2, 3, 4, 5, 6, 7, 8, 8, 8, 8, 8];
 
 /// The numbers of slots that scripts have.
 pub const SLOTS: &[usize] = &[1, 2, 3, 4, 6, 32, 32, 32];
@@ -75,7 +87,41 @@ pub struct Argument {
     pub without: &'static [&'static [u8]],
 }
 
-const NAMES: &[&[u8]] = &[b"w", b"wm0", b"abcdefghijklm09"];
+/// All names. Most scripts have the first three.
+pub const WORDS_OF_NAMES: &[&[u8]] = &[
+    b"w",
+    b"wm0",
+    b"abcdefghijklm09",
+    b"an",
+    b"ath",
+    b"aue",
+    b"awi",
+    b"bge",
+    b"bwi",
+    b"cd",
+    b"cue",
+    b"dc",
+    b"em",
+    b"ep",
+    b"fxp",
+    b"gif",
+    b"iwn",
+    b"le",
+    b"lo",
+    b"ne",
+    b"ppp",
+    b"ral",
+    b"re",
+    b"rum",
+    b"sd",
+    b"sip",
+    b"sk",
+    b"st",
+    b"tap",
+    b"tun",
+    b"vlan",
+    b"wd",
+];
 
 const BAD_NAMES: &[&[u8]] = &[b"Wm", b"0wm", b"w-m", b"abcdefghijklmnop"];
 
@@ -83,16 +129,8 @@ const LABELS: &[&[u8]] = &[b"a", b"n", b"z"];
 
 const BAD_LABELS: &[&[u8]] = &[b"`", b"{", b"ab", b"A"];
 
-const KEYS: &[&[u8]] = &[
-    b"driver w",
-    b"driver wm0",
-    b"driver abcdefghijklm09",
-    b"iface w",
-    b"iface wm0",
-    b"iface abcdefghijklm09",
-];
-
-const BAD_KEYS: &[&[u8]] = &[b"drivers w", b"Iface w", b"iface W", b"driver 0"];
+/// What is no kind and name.
+pub const BAD_KEYS: &[&[u8]] = &[b"drivers w", b"Iface w", b"iface W", b"driver 0"];
 
 const VALUES: &[&[u8]] = &[b"0", b"1", b"18446744073709551615"];
 
@@ -112,23 +150,18 @@ pub const BAD_NUMBERS: &[&[u8]] = &[b"-1", b"x", b"18446744073709551616"];
 /// What each letter stands for that isn't a number of the script's own.
 pub const ARGUMENTS: &[Argument] = &[
     Argument {
-        letter: b'D',
-        within: KEYS,
-        without: BAD_KEYS,
-    },
-    Argument {
         letter: b'U',
-        within: NAMES,
+        within: WORDS_OF_NAMES,
         without: BAD_NAMES,
     },
     Argument {
         letter: b'W',
-        within: NAMES,
+        within: WORDS_OF_NAMES,
         without: BAD_NAMES,
     },
     Argument {
         letter: b'E',
-        within: NAMES,
+        within: WORDS_OF_NAMES,
         without: BAD_NAMES,
     },
     Argument {

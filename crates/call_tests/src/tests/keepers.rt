@@ -51,11 +51,13 @@ pub(crate) enum Writer {
 pub(crate) fn by_keeper<D: Domain, R: Abort>(
     rt: &R,
     words: &Words,
-    keeper: &mut Keeper<D>,
+    keeper: &mut Keeper,
     refs: &mut Held<D>,
     call: Writer,
 ) -> Answer
-    requires words { AreWordsOf words.now D.table D.settings }
+    requires words { AreWordsOf words.now keeper.old.words.table keeper.old.words.settings }
+    requires named { keeper.old.words.table ≡ D.table }
+    ensures words { keeper.new.words ≡ keeper.old.words }
 {
     assert!(rt; 0 < keeper.settings.cpus);
     match call {
@@ -82,15 +84,16 @@ pub(crate) fn by_keeper<D: Domain, R: Abort>(
 }
 
 /// The keeper publishes a driver in a vacant slot.
-pub(crate) fn published<D: Domain, R: Abort>(
+pub(crate) fn published<R: Abort>(
     rt: &R,
     words: &Words,
-    keeper: &mut Keeper<D>,
+    keeper: &mut Keeper,
     slot: u8,
     rec: Record,
 ) -> Entry
-    requires words { AreWordsOf words.now D.table D.settings }
+    requires words { AreWordsOf words.now keeper.old.words.table keeper.old.words.settings }
     requires name { IsTrue (is_lawful rec.name) }
+    ensures words { keeper.new.words ≡ keeper.old.words }
 {
     assert!(rt; rec.kind == Kind::Driver);
     takes(rt, keeper, slot, rec);
@@ -101,13 +104,15 @@ pub(crate) fn published<D: Domain, R: Abort>(
 fn plugged<D: Domain, R: Abort>(
     rt: &R,
     words: &Words,
-    keeper: &mut Keeper<D>,
+    keeper: &mut Keeper,
     refs: &mut Held<D>,
     slot: u8,
     rec: Record,
 ) -> Answer
-    requires words { AreWordsOf words.now D.table D.settings }
+    requires words { AreWordsOf words.now keeper.old.words.table keeper.old.words.settings }
+    requires named { keeper.old.words.table ≡ D.table }
     requires name { IsTrue (is_lawful rec.name) }
+    ensures words { keeper.new.words ≡ keeper.old.words }
 {
     let reference = refs.take_local(rt);
     assert!(rt; rec.kind == Kind::Iface);
@@ -117,11 +122,11 @@ fn plugged<D: Domain, R: Abort>(
 }
 
 /// The slot is vacant and keeps nothing, no live entry has the record's kind and name, and the history has room.
-fn takes<D: Domain, R: Abort>(rt: &R, keeper: &Keeper<D>, slot: u8, rec: Record)
-    ensures vacant { (slot < D.settings.slots) × (slot_at keeper.now.slots slot ≡ Vacant) }
-    ensures nothing { kept_at keeper.now.view.keeps slot ≡ None }
-    ensures free { is_taken (key_of_record rec) keeper.now.slots ≡ false }
-    ensures room { length keeper.now.view.history + live_count keeper.now.slots + 2 ≤ D.settings.change_limit }
+fn takes<R: Abort>(rt: &R, keeper: &Keeper, slot: u8, rec: Record)
+    ensures vacant { (slot < keeper.now.words.settings.slots) × (slot_at keeper.now.keeper.slots slot ≡ Vacant) }
+    ensures nothing { kept_at keeper.now.keeper.view.keeps slot ≡ None }
+    ensures free { is_taken (key_of_record rec) keeper.now.keeper.slots ≡ false }
+    ensures room { length keeper.now.keeper.view.history + live_count keeper.now.keeper.slots + 2 ≤ keeper.now.words.settings.change_limit }
 {
     assert!(rt; slot < keeper.settings.slots);
     assert!(rt; keeper.slot(slot) == SlotState::Vacant);
@@ -132,8 +137,8 @@ fn takes<D: Domain, R: Abort>(rt: &R, keeper: &Keeper<D>, slot: u8, rec: Record)
 
 /// Whether a live entry has the record's kind and name.
 #[tactic(auto, using(passive_list::proofs::Rows::taken_in_rows))]
-fn is_taken<D: Domain>(keeper: &Keeper<D>, rec: Record) -> bool
-    ensures { result ≡ is_taken (key_of_record rec) keeper.now.slots }
+fn is_taken(keeper: &Keeper, rec: Record) -> bool
+    ensures { result ≡ is_taken (key_of_record rec) keeper.now.keeper.slots }
 {
     let key = Key {
         kind: rec.kind,
@@ -149,29 +154,27 @@ fn is_live_in(rows: &[KeptSlot], key: Key) -> bool
 }
 
 /// The keeper retires the driver of slot 0.
-pub(crate) fn retired<D: Domain, R: Abort>(rt: &R, words: &Words, keeper: &mut Keeper<D>) -> Entry
-    requires words { AreWordsOf words.now D.table D.settings }
+pub(crate) fn retired<R: Abort>(rt: &R, words: &Words, keeper: &mut Keeper) -> Entry
+    requires words { AreWordsOf words.now keeper.old.words.table keeper.old.words.settings }
+    ensures words { keeper.new.words ≡ keeper.old.words }
 {
     assert!(rt; matches!(keeper.slot(0), SlotState::Live(_)));
     retire(words, keeper, 0)
 }
 
 /// What a look at each CPU's section answers.
-fn looks<D: Domain, R: Abort>(rt: &R, words: &Words, keeper: &mut Keeper<D>) -> Answer
-    requires words { AreWordsOf words.now D.table D.settings }
+fn looks<R: Abort>(rt: &R, words: &Words, keeper: &mut Keeper) -> Answer
+    requires words { AreWordsOf words.now keeper.old.words.table keeper.old.words.settings }
+    ensures words { keeper.new.words ≡ keeper.old.words }
 {
     let first = looked(rt, words, keeper, 0);
     Answer::Looks(first, looked(rt, words, keeper, 1))
 }
 
 /// What a look at the CPU's section answers.
-pub(crate) fn looked<D: Domain, R: Abort>(
-    rt: &R,
-    words: &Words,
-    keeper: &mut Keeper<D>,
-    cpu: u8,
-) -> bool
-    requires words { AreWordsOf words.now D.table D.settings }
+pub(crate) fn looked<R: Abort>(rt: &R, words: &Words, keeper: &mut Keeper, cpu: u8) -> bool
+    requires words { AreWordsOf words.now keeper.old.words.table keeper.old.words.settings }
+    ensures words { keeper.new.words ≡ keeper.old.words }
 {
     assert!(rt; cpu < keeper.settings.cpus);
     assert!(rt; matches!(keeper.slot(0), SlotState::Retired(_)));
@@ -179,21 +182,18 @@ pub(crate) fn looked<D: Domain, R: Abort>(
 }
 
 /// What a look at each CPU's passive references answers, once all CPUs have passed.
-fn passive_looks<D: Domain, R: Abort>(rt: &R, words: &Words, keeper: &mut Keeper<D>) -> Answer
-    requires words { AreWordsOf words.now D.table D.settings }
+fn passive_looks<R: Abort>(rt: &R, words: &Words, keeper: &mut Keeper) -> Answer
+    requires words { AreWordsOf words.now keeper.old.words.table keeper.old.words.settings }
+    ensures words { keeper.new.words ≡ keeper.old.words }
 {
     let first = passive_look(rt, words, keeper, 0);
     Answer::Looks(first, passive_look(rt, words, keeper, 1))
 }
 
 /// What a look at the CPU's passive references answers, once all CPUs have passed.
-pub(crate) fn passive_look<D: Domain, R: Abort>(
-    rt: &R,
-    words: &Words,
-    keeper: &mut Keeper<D>,
-    cpu: u8,
-) -> bool
-    requires words { AreWordsOf words.now D.table D.settings }
+pub(crate) fn passive_look<R: Abort>(rt: &R, words: &Words, keeper: &mut Keeper, cpu: u8) -> bool
+    requires words { AreWordsOf words.now keeper.old.words.table keeper.old.words.settings }
+    ensures words { keeper.new.words ≡ keeper.old.words }
 {
     assert!(rt; cpu < keeper.settings.cpus);
     assert!(rt; 0 < keeper.settings.slots);

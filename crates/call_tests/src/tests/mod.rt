@@ -2,6 +2,7 @@
 
 mod answers;
 mod bench;
+mod full_registry;
 mod keepers;
 mod memory_tests;
 mod readers;
@@ -11,5 +12,6 @@ mod sections;
 mod table;
 mod threads;
 mod turns;
+mod walks;
 mod word_rows;
 mod words;

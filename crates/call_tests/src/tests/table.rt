@@ -14,7 +14,7 @@ use passive_list::{Cpu, Keeper, hear, hear_keeper, tell, tell_keeper};
 use registry_values::Settings;
 use std::alloc::Global;
 use std::process::Abort;
-use std::sync::ledger::Blank;
+use std::sync::ledger;
 use std::test::Fail;
 
 /// A new table, before it is named.
@@ -24,7 +24,7 @@ pub(crate) struct Table {
     pub(crate) keeper: KeeperSeat,
     pub(crate) first: CpuSeat,
     pub(crate) second: CpuSeat,
-    pub(crate) changes: Blank,
+    pub(crate) changes: ledger::Blank,
     ghost fit: { IsTrue (are_fit words.settings) },
     ghost cpus: { words.settings.cpus ≡ 2 },
     ghost with_keeper: { (keeper.table ≡ words.table) × (keeper.view ≡ keeper_with words.settings words.settings.cpus) },
@@ -50,7 +50,7 @@ pub(crate) fn opened(alloc: Global, section_limit: u64) -> Result<Table, Fail> {
             keeper,
             first,
             second,
-            changes: Blank::new(8),
+            changes: ledger::Blank::new(8),
         }),
         _ => Err(Fail::from("two seats")),
     }
@@ -60,10 +60,11 @@ pub(crate) fn opened(alloc: Global, section_limit: u64) -> Result<Table, Fail> {
 #[derive(Drop)]
 pub(crate) struct Seats<D: Domain> {
     pub(crate) words: Words,
-    pub(crate) keeper: Keeper<D>,
+    pub(crate) keeper: Keeper,
     pub(crate) first: Cpu<D>,
     pub(crate) second: Cpu<D>,
     ghost named: { AreWordsOf words D.table D.settings },
+    ghost kept: { AreWordsOf keeper.words D.table D.settings },
 }
 
 impl<D: Domain> Seats<D> {

@@ -57,7 +57,7 @@ fn one_lookup<D: Domain + Send, R: Threads + Abort + Sync>(rt: &R, table: Table)
             requires words { AreWordsOf words.now D.table D.settings }
         { find_at_last(words, first, &driver.name, missed) },
         move || -> Option<u64>
-            requires words { AreWordsOf words.now D.table D.settings }
+            requires words { AreWordsOf words.now keeper.words.table keeper.words.settings }
             requires driver { IsTrue (is_lawful driver.name) }
         { publish_once_missed(rt, words, keeper, driver, missed) },
     );
@@ -101,14 +101,14 @@ fn find_in_section<D: Domain>(
 }
 
 /// Waits until the flag is set, and then publishes the driver. It answers the number.
-fn publish_once_missed<D: Domain, R: Abort>(
+fn publish_once_missed<R: Abort>(
     rt: &R,
     words: &Words,
-    mut keeper: Keeper<D>,
+    mut keeper: Keeper,
     driver: Record,
     missed: &AtomicBool,
 ) -> Option<u64>
-    requires words { AreWordsOf words.now D.table D.settings }
+    requires words { AreWordsOf words.now keeper.words.table keeper.words.settings }
     requires driver { IsTrue (is_lawful driver.name) }
 {
     if !was_set(missed) {
@@ -151,7 +151,8 @@ fn told_twice<D: Domain + Send, R: Threads + Abort + Sync>(rt: &R, table: Table)
     let ((published, note), _) = join(
         rt,
         move || -> (u64, Note<D>)
-            requires words { AreWordsOf words.now D.table D.settings }
+            requires words { AreWordsOf words.now keeper.words.table keeper.words.settings }
+            requires named { keeper.words.table ≡ D.table }
             requires driver { IsTrue (is_lawful driver.name) }
         { publish_and_tell(rt, words, keeper, driver) },
         || (),
@@ -172,10 +173,11 @@ fn told_twice<D: Domain + Send, R: Threads + Abort + Sync>(rt: &R, table: Table)
 fn publish_and_tell<D: Domain, R: Abort>(
     rt: &R,
     words: &Words,
-    mut keeper: Keeper<D>,
+    mut keeper: Keeper,
     driver: Record,
 ) -> (u64, Note<D>)
-    requires words { AreWordsOf words.now D.table D.settings }
+    requires words { AreWordsOf words.now keeper.words.table keeper.words.settings }
+    requires named { keeper.words.table ≡ D.table }
     requires driver { IsTrue (is_lawful driver.name) }
 {
     let entry = published(rt, words, &mut keeper, 0, driver);
@@ -266,8 +268,9 @@ fn read_and_release<D: Domain, R: Abort>(
 }
 
 /// Drains the retired driver as far as looks and collections go. It answers how many local references to it are held.
-fn total_once_drained<D: Domain, R: Abort>(rt: &R, words: &Words, keeper: &mut Keeper<D>) -> u64
-    requires words { AreWordsOf words.now D.table D.settings }
+fn total_once_drained<R: Abort>(rt: &R, words: &Words, keeper: &mut Keeper) -> u64
+    requires words { AreWordsOf words.now keeper.old.words.table keeper.old.words.settings }
+    ensures words { keeper.new.words ≡ keeper.old.words }
 {
     assert!(rt; looked(rt, words, keeper, 0));
     assert!(rt; looked(rt, words, keeper, 1));
@@ -282,8 +285,9 @@ fn total_once_drained<D: Domain, R: Abort>(rt: &R, words: &Words, keeper: &mut K
 }
 
 /// Collects the CPU's count word for the retired driver.
-fn collect_once_clear<D: Domain, R: Abort>(rt: &R, words: &Words, keeper: &mut Keeper<D>, cpu: u8)
-    requires words { AreWordsOf words.now D.table D.settings }
+fn collect_once_clear<R: Abort>(rt: &R, words: &Words, keeper: &mut Keeper, cpu: u8)
+    requires words { AreWordsOf words.now keeper.old.words.table keeper.old.words.settings }
+    ensures words { keeper.new.words ≡ keeper.old.words }
 {
     assert!(rt; cpu < keeper.settings.cpus);
     assert!(rt; 0 < keeper.settings.slots);

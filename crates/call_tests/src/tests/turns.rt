@@ -125,6 +125,95 @@ fn ended_in_the_middle<D: Domain + Send + Sync, R: Threads + Wait + Abort + Sync
     Ok(())
 }
 
+/// Calls that wait for CPU 1, and what they answer once it has left.
+const WAITING: [(Call, Answer); 2] = [(Perform(TURNS), Done), (Destroy(2, TURNS), Number(1))];
+
+#[test]
+fn the_lock_is_free_between_two_turns(rt: HostRuntime) -> Result<(), Fail> {
+    for (call, answer) in &WAITING {
+        meet(&rt, rt.alloc(), *call, *answer)?;
+    }
+    Ok(())
+}
+
+/// Makes the call on a registry of its own, while another thread attaches.
+fn meet<R: Threads + Wait + Abort + Sync>(
+    rt: &R,
+    alloc: Global,
+    call: Call,
+    answer: Answer,
+) -> Result<(), Fail> {
+    let answers = attached_meanwhile::<Brand, _>(rt, alloc, blank(alloc, 3, 1000)?, call)?;
+    assert_eq!(rt; answers, (answer, At(4, 2)));
+    Ok(())
+}
+
+/// CPU 1 is inside as CPU 0 makes the call, which waits for it. CPU 1 exits only once CPU 2 has attached a driver, and for that CPU 2 gets the
+/// lock: a call that held it over all its turns would wait for itself. What both calls answer.
+fn attached_meanwhile<D: Domain + Send + Sync, R: Threads + Wait + Abort + Sync>(
+    rt: &R,
+    alloc: Global,
+    blank: Blank,
+    call: Call,
+) -> Result<(Answer, Answer), Fail>
+    requires { IsBlankOf blank D.table D.settings D.name D.parts }
+{
+    let Ok((registry, mut cpus)) = blank.open::<D>(alloc) else {
+        return Err(Fail::from("an open registry"));
+    };
+    let (Some(third), Some(mut second), Some(mut first)) = (cpus.pop(), cpus.pop(), cpus.pop())
+    else {
+        return Err(Fail::from("three CPUs"));
+    };
+    let (registry, gone) = (&registry, record(rt, VGA));
+    registry.attach(rt, &mut first, record(rt, WM))?;
+    registry.attach(rt, &mut first, gone)?;
+    enter(registry.words(), &mut second)?;
+    registry.detach(rt, &mut first, gone.kind, &gone.name)?;
+    let begun = &AtomicBool::new(false);
+    Ok(join(
+        rt,
+        move || -> Answer
+            requires { IsSync R.row }
+        { insist(rt, registry, first, Some(call), begun) },
+        move || -> Answer
+            requires { IsSync R.row }
+        { attach_and_leave(rt, registry, third, second, begun) },
+    ))
+}
+
+/// Waits until the flag is set, and a while longer; then CPU 2 attaches a driver, and CPU 1 exits.
+fn attach_and_leave<D: Domain, R: Wait + Abort>(
+    rt: &R,
+    registry: &Registry<D>,
+    mut third: Cpu<D>,
+    mut second: Cpu<D>,
+    begun: &AtomicBool,
+) -> Answer {
+    wait_for(begun);
+    let mut refs = Held::nothing();
+    let answer = by_cpu(rt, registry, &mut third, &mut refs, Attach(DRIVER_WM1));
+    refs.end(rt);
+    if second.inside() {
+        exit(registry.words(), &mut second);
+    }
+    answer
+}
+
+/// Lets others run until the flag is set, and a while longer: long enough for the first turn.
+fn wait_for(begun: &AtomicBool) {
+    let mut left = YIELDS;
+    for _ in 0..TURNS {
+        if left == 0 {
+            break;
+        }
+        if begun.load(Ordering::SeqCst) {
+            left -= 1;
+        }
+        yield_now();
+    }
+}
+
 /// Sets the flag, and makes the call again until the entry has its slot no more. It answers what the last one did.
 fn insist<D: Domain, R: Wait + Abort>(
     rt: &R,
@@ -158,16 +247,7 @@ fn change_section<D: Domain, R: Wait>(
     frees: bool,
     begun: &AtomicBool,
 ) -> Answer {
-    let mut left = YIELDS;
-    for _ in 0..TURNS {
-        if left == 0 {
-            break;
-        }
-        if begun.load(Ordering::SeqCst) {
-            left -= 1;
-        }
-        yield_now();
-    }
+    wait_for(begun);
     if cpu.inside() {
         exit(registry.words(), &mut cpu);
     }

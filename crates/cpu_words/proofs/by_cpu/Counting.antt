@@ -227,5 +227,5 @@ shown_count g x e t w v h locals k acquired released good had here lt count same
       there = there_on g x e t good had here;
       found = λ f is. subst (λ (p : List Change). IsAttached p f) seen.pass (had.found f (seen.found ∙ is));
       references = λ f among. subst (λ (p : List Change). IsAttached p f) seen.pass (had.references f among);
-      heard = had.heard;
+      noted_pass = had.noted_pass;
     }

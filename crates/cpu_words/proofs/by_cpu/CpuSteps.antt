@@ -77,7 +77,7 @@ other_view g l c d own leaves ne n = record {
   acquired = own.acquired;
   released = own.released;
   met = own.met;
-  heard = own.heard;
+  noted_pass = own.noted_pass;
 }
 
 pub cpu_stays : (g : State) (l : CpuLists) (c : ℕ) (seat : ℕ → ℕ) (i : ℕ) → LeavesOthers g c l → i ≡ seat c → Stay g (with_lists g l) seat i
@@ -90,7 +90,7 @@ cpu_stays g l c seat i leaves mine j (Keeper k) ne sits shown backed = record {
   gives_up = λ t e here. leaves.gives_up k.given_up t e here (shown.gives_up t e here);
   later = shown.later;
   beyond = shown.beyond;
-  heard = shown.heard;
+  noted_pass = shown.noted_pass;
 }
 cpu_stays g l c seat i leaves mine j (Cpu y) ne sits shown backed =
     let other : y.id ≢ c = λ e. ne (sits ∙ ap seat e ∙ sym mine) in record {
@@ -107,7 +107,7 @@ cpu_stays g l c seat i leaves mine j (Cpu y) ne sits shown backed =
       there = shown.there;
       found = shown.found;
       references = shown.references;
-      heard = shown.heard;
+      noted_pass = shown.noted_pass;
     }
 cpu_stays g l c seat i leaves mine j (Reference v) ne sits shown backed = record { attached = shown.attached; collected = shown.collected }
 cpu_stays g l c seat i leaves mine j (Note h) ne sits shown backed = shown
@@ -132,9 +132,9 @@ good_after g l c e r good leaves lt made = record {
 -- a CPU's step on a word keeps the rule, and is its event
 pub cpu_makes : (z : Settings) (s : Table ℕ View) (r : Ruled z s) (i : ℕ) (x : CpuView) (word m : ℕ) (l : CpuLists) (e : Event) (rep : Reply) (own : CpuOwn)
     → get_elem? s.views i ≡ some (Cpu x) → step r.g e ≡ Some (record { state = with_lists r.g l; reply = rep }) → LeavesOthers r.g x.id l
-    → ((n : ℕ) → sum_by (standing_of n) l.locals ≡ standing_in n r.g) → own.heard ≡ x.heard → CpuShown (with_lists r.g l) (cpu_view (with_lists r.g l) x.id own) → Agrees (set s.words word m) (with_lists r.g l)
+    → ((n : ℕ) → sum_by (standing_of n) l.locals ≡ standing_in n r.g) → own.noted_pass ≡ x.noted_pass → CpuShown (with_lists r.g l) (cpu_view (with_lists r.g l) x.id own) → Agrees (set s.words word m) (with_lists r.g l)
     → GoesOn z s r (did (by_number r.g e) rep) (stepped s word m i [] (Cpu (cpu_view (with_lists r.g l) x.id own)) keeps) × Makes e rep (Cpu x) (Cpu (cpu_view (with_lists r.g l) x.id own))
-cpu_makes z s r i x word m l e rep own at made leaves count heard shown words =
+cpu_makes z s r i x word m l e rep own at made leaves count noted_pass shown words =
     let g = r.g in
     let g' = with_lists g l in
     let y = cpu_view g' x.id own in
@@ -155,7 +155,7 @@ cpu_makes z s r i x word m l e rep own at made leaves count heard shown words =
         seated = omega arith;
         seats = λ c lt. refl;
       },
-      record { g = g; after = g'; good = r.good; good_after = good; before = was; made = made; shown = shown; same = (sym (ap (λ (v : CpuView). v.settings) was.is), refl, heard) },
+      record { g = g; after = g'; good = r.good; good_after = good; before = was; made = made; shown = shown; same = (sym (ap (λ (v : CpuView). v.settings) was.is), refl, noted_pass) },
     )
 
 -- A step that leaves the CPU's hand, its references and its counts
@@ -196,7 +196,7 @@ shown_on g x l had hands passive nets depth more within found = record {
   there = had.there;
   found = found;
   references = λ e among. attached_longer g.history (seen_at g x.id) (get_or l.seen x.id 0) e more within (subst (λ (p : List Change). IsAttached p e) (ap (λ (v : CpuView). v.pass) had.is) (had.references e among));
-  heard = had.heard;
+  noted_pass = had.noted_pass;
 }
 
 -- what the CPU had found stays in its pass

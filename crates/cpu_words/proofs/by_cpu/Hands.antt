@@ -28,14 +28,14 @@ use Rattle.cpu_words.specs.declared.view.InHand.{InHand}
 use Rattle.cpu_words.specs.declared.view.InHand.TheVariants.{Empty as NoEntry, Taking as TakingEntry, Giving as GivingEntry, Back as BackEntry}
 use Rattle.cpu_words.specs.declared.view.CpuView.{CpuView}
 use Rattle.cpu_words.specs.declared.view.ReferenceView.{ReferenceView}
-use Rattle.cpu_words.specs.declared.view.Deed.{Deed}
+use Rattle.cpu_words.specs.declared.view.LogItem.{LogItem}
 use Rattle.cpu_words.specs.declared.view.Logged.{Logged}
 use Rattle.cpu_words.specs.declared.view.View.{View}
 use Rattle.cpu_words.specs.declared.view.View.TheVariants.{Cpu, Reference, Spent}
 use Rattle.cpu_words.specs.Spots.{Spot, section_of, passive_of, count_of, head_word, next_of, record_of, total_of, word_at}
 use Rattle.cpu_words.specs.Views.{is_to, SameHand, HandFits, IsCollectedFor, CpuShown, ReferenceShown, cpu_of, reference_of}
-use Rattle.cpu_words.specs.Rule.{reference_to, Good, number_or_none, number_of_id, by_number, did, deeds}
-use Rattle.cpu_words.specs.Logs.{the_cpu, maker, LoggedRuled, logged_after_split, no_deeds, fresh, joined_seat, spent_seat, leaves_hand, cuts_off, takes_in}
+use Rattle.cpu_words.specs.Rule.{reference_to, Good, number_or_none, number_of_id, by_number, did, log_of_events}
+use Rattle.cpu_words.specs.Logs.{the_cpu, maker, LoggedRuled, logged_after_split, no_log, fresh, joined_seat, spent_seat, leaves_hand, cuts_off, takes_in}
 use Rattle.cpu_words.specs.Steps.{SplitsBy, JoinsBy, SplitsOn, JoinsOn}
 use Rattle.cpu_words.specs.Sections.{IsIdle}
 use Rattle.cpu_words.specs.Locals.{with_hand, reference_in, with_empty_hand, reference_of_hand, with_reference_in_hand, IsTaking, IsBack}
@@ -129,7 +129,7 @@ shown_hand g x h locals k good had same fits =
       there = had.there;
       found = had.found;
       references = had.references;
-      heard = had.heard;
+      noted_pass = had.noted_pass;
     }
 
 -- A reference leaves the hand
@@ -167,7 +167,7 @@ splits z i x e leaves s r at =
     let m = p.step in
     let l = hand_lists g x.id m.h m.locals in
     let after = leaves_hands g x.id m.h m.locals in record {
-      goes_on = (more z g (with_lists g l) e p.r r.reached m.made).1 ∙ ap (λ (ds : List Deed). deeds z r.reached.events ++ ds) p.told;
+      goes_on = (more z g (with_lists g l) e p.r r.reached m.made).1 ∙ ap (λ (ds : List LogItem). log_of_events z r.reached.events ++ ds) p.told;
       seated = omega arith;
       seats = λ c lt. refl;
       ruled = record {
@@ -185,8 +185,8 @@ splits z i x e leaves s r at =
 -- the same of a seat, whose view is a CPU's
 
 pub seat_splits : (z : Settings) (i : ℕ) (l : Logged) (x : CpuView) (e : Event) → l ≡ record l { view = Cpu (cpu_of l.view) } → cpu_of l.view ≡ x → maker e ≡ the_cpu x.id → leaves_hand x.id x.hand ≡ did e (Ref 0) → LeavesHand e x
-    → Splits (LoggedRuled z) i l (logged_after_split with_empty_hand cuts_off l) (fresh reference_of_hand no_deeds l)
-seat_splits z i l x e is view own does leaves = seat_cut z i l (Cpu x) with_empty_hand reference_of_hand cuts_off no_deeds (did e (Ref 0)) (is ∙ ap (λ (u : CpuView). record l { view = Cpu u }) view) tt (own, tt) does (tells_nothing (record l { view = Cpu x }) (did e (Ref 0))) (splits z i x e leaves)
+    → Splits (LoggedRuled z) i l (logged_after_split with_empty_hand cuts_off l) (fresh reference_of_hand no_log l)
+seat_splits z i l x e is view own does leaves = seat_cut z i l (Cpu x) with_empty_hand reference_of_hand cuts_off no_log (did e (Ref 0)) (is ∙ ap (λ (u : CpuView). record l { view = Cpu u }) view) tt (own, tt) does (tells_nothing (record l { view = Cpu x }) (did e (Ref 0))) (splits z i x e leaves)
 
 -- what is in the hand says which
 pub does_split_ref : (x : CpuView) (c : ℕ) → x.id ≡ c → (e : Entry) × IsTaking x e → leaves_hand x.id x.hand ≡ did (SplitRef c) (Ref 0)
@@ -314,7 +314,7 @@ joins z i o x v idle s r at apart there =
     let l = hand_lists g x.id m.h m.locals in
     let after = leaves_hands g x.id m.h m.locals in
     record {
-      goes_on = (more z g (with_lists g l) (JoinRef x.id p.id) Done r.reached m.made).1 ∙ ap (λ (n : ℕ). deeds z r.reached.events ++ did (JoinRef x.id n) Done) p.names;
+      goes_on = (more z g (with_lists g l) (JoinRef x.id p.id) Done r.reached m.made).1 ∙ ap (λ (n : ℕ). log_of_events z r.reached.events ++ did (JoinRef x.id n) Done) p.names;
       seated = omega arith;
       seats = λ c lt. refl;
       ruled = record {

@@ -25,7 +25,7 @@ use Rattle.protocol.proofs.slots.Cells.{cell_here, cell_other}
 use Rattle.protocol.proofs.slots.Occupied.{attached_in, one_in, in_within, one_number, slot_occupied, slot_found}
 use Rattle.protocol.proofs.slots.Numbers.{slot_number}
 use Rattle.cpu_words.specs.declared.view.CpuView.{CpuView}
-use Rattle.cpu_words.specs.declared.view.Deed.{Deed}
+use Rattle.cpu_words.specs.declared.view.LogItem.{LogItem}
 use Rattle.cpu_words.specs.declared.view.View.{View}
 use Rattle.cpu_words.specs.declared.view.View.TheVariants.{Cpu}
 use Rattle.cpu_words.specs.Spots.{Spot, section_of, passive_of, count_of, head_word, next_of, record_of, total_of, word_at}
@@ -159,7 +159,7 @@ put_shown g x e references m good had known is others attached = record {
   there = had.there;
   found = λ f found. subst (λ (p : List Change). IsAttached p f) pass (had.found f (ap (λ (v : CpuView). v.found) had.is ∙ found));
   references = λ f among. subst (λ (p : List Change). IsAttached p f) pass (attached f among);
-  heard = had.heard;
+  noted_pass = had.noted_pass;
 }
   where
     seen : Seen g x
@@ -206,7 +206,7 @@ put_makes z s r i x e references m event at known is others attached made =
     (cpu_view (with_lists g l) x.id own, change, done.0, done.1)
 
 -- a CPU's seat has a view after
-moved : (z : Settings) (s : Table ℕ View) (r : Ruled z s) (es : List Deed) (i : ℕ) (x : CpuView) (p m : ℕ) (tells : CpuView → ℕ → CpuView → Type 0) (y : CpuView) → GoesOn z s r es (stepped s p m i [] (Cpu y) keeps) → tells x (slice_index s.words p) y
+moved : (z : Settings) (s : Table ℕ View) (r : Ruled z s) (es : List LogItem) (i : ℕ) (x : CpuView) (p m : ℕ) (tells : CpuView → ℕ → CpuView → Type 0) (y : CpuView) → GoesOn z s r es (stepped s p m i [] (Cpu y) keeps) → tells x (slice_index s.words p) y
     → (w : View) × GoesOn z s r es (stepped s p m i [] w keeps) × ((w ≡ Cpu (cpu_of w)) × tells x (slice_index s.words p) (cpu_of w))
 moved z s r es i x p m tells y ruled told = (Cpu y, ruled, (refl, told))
 

@@ -26,16 +26,17 @@ use Rattle.protocol.specs.declared.state.Search.{Search}
 use Rattle.protocol.specs.declared.state.Loaded.{Loaded}
 use Rattle.protocol.specs.declared.state.Loaded.TheVariants.{On, Over}
 use Rattle.protocol.specs.History.{change_at, IsAttached, EndsAt, IsLiveAt, IsLawful}
+use Rattle.registry_values.specs.declared.slot.Slot.TheVariants.{Live, Retired}
 use Rattle.protocol.specs.State.{State, begin_at, seen_at, search_at, found_at, row_at}
 use Rattle.registry_values.specs.Slots.{are_words_of, slot_at}
-use Rattle.protocol.specs.Events.{step, with_some, load_link, link_loaded, load_searched, word}
+use Rattle.protocol.specs.Events.{step, with_some, load_link, link_loaded, load_searched, word, words_of}
 use Rattle.protocol.specs.Loaded.{loaded_at, loaded_of_name, entry_with, row_of_place, outcome_of, SlotWithin}
-use Rattle.protocol.specs.Invariant.{StandsOn, Holds, PlaceHolds}
+use Rattle.protocol.specs.Invariant.{StandsOn, Leads, To_end, To_entry, Holds, PlaceHolds}
 use Rattle.registry_values.proofs.Fit.{ranges}
 use Rattle.protocol.proofs.counts.Bounds.{search_within}
 use Rattle.protocol.proofs.history.History.{at_within}
 use Rattle.protocol.proofs.keeps.Loading.{loaded_is}
-use Rattle.protocol.proofs.keeps.SearchKeeps.{IsAnswer, Answers, record_answers}
+use Rattle.protocol.proofs.keeps.SearchKeeps.{IsAnswer, AnswersLookup, record_answers}
 use Rattle.protocol.proofs.slots.Cells.{one_in}
 use Rattle.protocol.proofs.keeps.Searching.{Walks, stands_in, words_stand, search_walks, LinkTells, link_tells, head_ahead, at_next_ahead}
 use Rattle.cpu_words.specs.declared.view.CpuView.{CpuView}
@@ -46,7 +47,7 @@ use Rattle.cpu_words.specs.Views.{own_of, cpu_view, cpu_of, depth_of, CpuShown}
 use Rattle.cpu_words.proofs.laws.Reaching.{goes_both}
 use Rattle.cpu_words.specs.Rule.{Agrees, Good, Ruled, GoesOn, did}
 use Rattle.cpu_words.specs.Steps.{Makes, CpuMay}
-use Rattle.cpu_words.specs.Searching.{sought, MaySeek, key_with, search_for, cpu_after_seek, search_with_place, MayLoadLink, link_answer, cpu_after_link, LinkHolds, MayStandOn, Descends, HasFollowed, HasLoadedLink, HasSought, IsAtWord, MayLoadSearched, every_word, loaded_of, loaded_answer, cpu_after_record_word, FoundHolds, HasSearched, HasLoadedWord}
+use Rattle.cpu_words.specs.Searching.{sought, MaySeek, key_with, search_for, cpu_after_seek, search_with_place, MayLoadLink, link_answer, cpu_after_link, LinkHolds, MayStandOn, Descends, SkipsNone, PassTells, HasFollowed, HasLoadedLink, HasSought, IsAtWord, MayLoadSearched, every_word, loaded_of, loaded_answer, cpu_after_record_word, FoundHolds, HasSearched, HasLoadedWord}
 use Rattle.cpu_words.proofs.shown.Placing.{agrees_same}
 use Rattle.cpu_words.proofs.shown.Passes.{at_prefix, attached_take, attached_prefix, taken_is_prefix, prefix_longer, take_whole}
 use Rattle.cpu_words.proofs.by_cpu.CpuSteps.{CpuLists, lists_of, with_lists, same_counts, shown_on, found_on, cpu_makes}
@@ -108,6 +109,49 @@ descends g c n (suc t) s q p r on walk whole tells above = λ e f old new.
     let stands : StandsOn g.history q.start (length g.history) t f = subst (λ h. MayStandOn h q t f) whole new in
     omega (arith, one_stands g c q.start (length g.history) (length g.history) t tells.0 f on walk tells.1 stands, tells.3, above e old)
 
+-- What a link leads past
+
+-- the link x led, at some point from `from` on, to the greatest number below n that was live then
+pub record LeadsSince (h : List Change) (from n x : ℕ) : Type 0 where
+  pub point : ℕ
+  pub from_on : from ≤ point
+  pub up_to : point ≤ length h
+  pub leads : Leads h point n x
+
+-- so does the link of the entry on which a walk stands, a live one or a retired one
+next_leads : (g : State) (c from to t : ℕ) (e : Entry) → Holds g → Walks g c from → StandsOn g.history from to t e → LeadsSince g.history from e.number (get_or g.next t 0)
+next_leads g c from to t e on walk stands = ⊎_elim
+    (λ (live : slot_at g.slots t ≡ Live e). record { point = length g.history; from_on = walk.by_now; up_to = omega arith; leads = on.list.links t e live })
+    (λ (gone : slot_at g.slots t ≡ Retired e).
+    let end : (p : ℕ) × EndsAt g.history e.number p = (on.slots.retired t e gone).2 in
+    let past : from < end.0 = stands.unended end.0 end.1 in record {
+      point = end.0;
+      from_on = omega (arith, past);
+      up_to = (at_within g.history end.0 (Detach e.number) end.1).1;
+      leads = on.frozen_links t end.0 c walk.begin e gone end.1 walk.open_since (omega (arith, past, walk.since));
+    })
+    (stands_in g c from to t e on walk stands)
+
+live_between : (h : List Change) (from k : ℕ) (f : Entry) → from ≤ k → k ≤ length h → IsLiveAt h from f → IsLiveAt h (length h) f → IsLiveAt h k f
+live_between h from k f low high first last = record { attached = first.attached; begun = omega (arith, first.begun); unended = λ p ends. omega (arith, last.unended p ends) }
+
+skips_none : (g : State) (c from n m : ℕ) → Holds g → Walks g c from → LeadsSince g.history from n m → SkipsNone g.history from n m
+skips_none g c from n m on walk since = by_leads m since.leads
+  where
+    by_leads : (m : ℕ) → Leads g.history since.point n m → SkipsNone g.history from n m
+    by_leads _ (To_end none) = λ f first last lt. none f (live_between g.history from since.point f since.from_on since.up_to first last) lt
+    by_leads _ (To_entry i live lt most) = λ e f stands first last below.
+        let there : StandsOn g.history from (length g.history) i.slot i = record { attached = live.attached; at = refl; begun = omega (arith, live.begun, since.up_to); unended = λ p ends. omega (arith, live.unended p ends, since.from_on) } in
+        omega (arith, one_stands g c from (length g.history) (length g.history) i.slot i e on walk there stands, most f (live_between g.history from since.point f since.from_on since.up_to first last) below)
+
+pass_tells : (g : State) (c from : ℕ) → Holds g → Walks g c from → PassTells (begin_at g c) from g.history
+pass_tells g c from on walk = record {
+  legal = on.legal;
+  since = λ b is. omega (arith, same_Some b walk.begin (sym is ∙ walk.open_since), walk.since);
+  one = λ t e f here there. one_in f e (slot_at g.slots t) (stands_in g c from (length g.history) t f on walk there) (stands_in g c from (length g.history) t e on walk here);
+  named = λ t e stands. (on.rows t e (stands_in g c from (length g.history) t e on walk stands)).1;
+}
+
 -- What a link makes of a search and of the last found entry
 
 abbrev pub next_search : Search → ℕ → Option Search
@@ -152,9 +196,9 @@ link_holds g q n (suc t) p good is tells = (omega (arith, tells.4, good.holds.sh
 -- the search q of x loads the link m, which is at its place
 pub follows : (z : Settings) (s : Table ℕ View) (r : Ruled z s) (i : ℕ) (x : CpuView) (spot m n : ℕ) (q : Search) → get_elem? s.views i ≡ some (Cpu x) → x.search ≡ Some q
     → slice_index s.words spot ≡ m → load_link r.g x.id q q.place ≡ link_loaded r.g x.id q m → LinkTells r.g q.start q.key n m
-    → ((t : ℕ) (e : Entry) → q.place ≡ AtNext t → MayStandOn x.pass q t e → n ≤ e.number)
+    → LeadsSince r.g.history q.start n m → (q.place ≡ AtHead → n ≡ suc (length r.g.history)) → ((t : ℕ) (e : Entry) → q.place ≡ AtNext t → MayStandOn x.pass q t e → e.number ≡ n)
     → (y : CpuView) × GoesOn z s r (did (LoadLink x.id) (link_answer m)) (stepped s spot m i [] (Cpu y) keeps) × Makes (LoadLink x.id) (link_answer m) (Cpu x) (Cpu y) × HasFollowed x q m y
-follows z s r i x spot m n q at under found link tells above =
+follows z s r i x spot m n q at under found link tells leads at_head above =
     let g = r.g in
     let had : CpuShown g x = (r.shows.fits i (Cpu x) at).1 in
     let seen = seen_of g x r.good had in
@@ -179,8 +223,23 @@ follows z s r i x spot m n q at under found link tells above =
     let longer : IsPrefix x.pass y.pass = subst (λ p. IsPrefix p y.pass) (sym seen.pass) (prefix_longer g.history (seen_at g x.id) (get_or l.seen x.id 0) more within) in
     let holds : LinkHolds x.settings q m y.pass = subst (λ (a : Settings). LinkHolds a q m y.pass) (sym seen.settings) (link_holds g q n m y.pass r.good passes tells) in
     let walk : Walks g x.id q.start = search_walks g x.id q r.good.holds (sym seen.search ∙ under) in
-    let down : (t : ℕ) → q.place ≡ AtNext t → Descends x.pass q t m y.pass = λ t place. descends g x.id n m t q x.pass y.pass r.good.holds walk passes tells (λ e stands. above t e place stands) in
-    (y, done.0, done.1, record { pass = longer; is = change; holds = holds; descends = down })
+    let down : (t : ℕ) → q.place ≡ AtNext t → Descends x.pass q t m y.pass = λ t place. descends g x.id n m t q x.pass y.pass r.good.holds walk passes tells (λ e stands. omega (arith, above t e place stands)) in
+    let skips : SkipsNone y.pass q.start n m = subst (λ (p : List Change). SkipsNone p q.start n m) (sym passes) (skips_none g x.id q.start n m r.good.holds walk leads) in
+    let told : PassTells x.begin q.start y.pass = subst (λ (p : List Change). PassTells x.begin q.start p) (sym passes) (subst (λ (b : Option ℕ). PassTells b q.start g.history) (sym seen.begin) (pass_tells g x.id q.start r.good.holds walk)) in
+    let size : length y.pass ≡ length g.history = ap (λ (p : List Change). length p) passes in (
+      y,
+      done.0,
+      done.1,
+      record {
+        pass = longer;
+        is = change;
+        holds = holds;
+        descends = down;
+        tells = told;
+        first = λ place. subst (λ k. SkipsNone y.pass q.start k m) (at_head place ∙ ap suc (sym size)) skips;
+        next = λ t e place stands. subst (λ k. SkipsNone y.pass q.start k m) (sym (above t e place stands)) skips;
+      },
+    )
 
 same_next : (s t : ℕ) → AtNext s ≡ AtNext t → s ≡ t
 same_next s t e = cc
@@ -202,14 +261,16 @@ load_link_may z x c t id may = subst (λ d. CpuMay z x (656 + 8 * t) (λ n. n) (
     let found : slice_index s.words (656 + 8 * t) ≡ get_or g.next t 0 = r.words.at (next_of t) lt in
     let tells = link_tells g x.id q.start stands.0.number (get_or g.next t 0) q.key on walk ahead.1 in
     let link : load_link g x.id q q.place ≡ link_loaded g x.id q (slice_index s.words (656 + 8 * t)) = ap (load_link g x.id q) may.place ∙ ap (link_loaded g x.id q) (sym found) in
-    let above : (u : ℕ) (e : Entry) → q.place ≡ AtNext u → MayStandOn x.pass q u e → stands.0.number ≤ e.number = λ u e place on_e.
+    let leads = next_leads g x.id q.start (seen_at g x.id) t stands.0 on walk stands.1 in
+    let at_head : q.place ≡ AtHead → stands.0.number ≡ suc (length g.history) = λ place. absurd (let wrong : AtHead ≡ AtNext t = sym place ∙ may.place in cc) in
+    let above : (u : ℕ) (e : Entry) → q.place ≡ AtNext u → MayStandOn x.pass q u e → e.number ≡ stands.0.number = λ u e place on_e.
     let same : u ≡ t = same_next u t (sym place ∙ may.place) in
     let by_pass : MayStandOn (take (seen_at g x.id) g.history) q t e = subst (λ (v : ℕ). MayStandOn (take (seen_at g x.id) g.history) q v e) same (subst (λ (p : List Change). MayStandOn p q u e) seen.pass on_e) in
     let by_history = stands_by_history g.history (seen_at g x.id) t q e seen.within (on.searches x.id q searching).started by_pass in
-    omega (arith, one_stands g x.id q.start (seen_at g x.id) (seen_at g x.id) t stands.0 e on walk stands.1 by_history) in
+    one_stands g x.id q.start (seen_at g x.id) (seen_at g x.id) t stands.0 e on walk stands.1 by_history in
     told z s r i x (656 + 8 * t) (slice_index s.words (656 + 8 * t)) q may.under_way
     (follows z s r i x (656 + 8 * t) (slice_index s.words (656 + 8 * t)) stands.0.number q at may.under_way (refl {a = slice_index s.words (656 + 8 * t)}) link
-    (subst (LinkTells g q.start q.key stands.0.number) (sym found) tells) above))
+    (subst (LinkTells g q.start q.key stands.0.number) (sym found) tells) (subst (LeadsSince g.history q.start stands.0.number) (sym found) leads) at_head above))
   where
     told : (z : Settings) (s : Table ℕ View) (r : Ruled z s) (i : ℕ) (x : CpuView) (spot m : ℕ) (q : Search) → x.search ≡ Some q
         → (y : CpuView) × GoesOn z s r (did (LoadLink x.id) (link_answer m)) (stepped s spot m i [] (Cpu y) keeps) × Makes (LoadLink x.id) (link_answer m) (Cpu x) (Cpu y) × HasFollowed x q m y
@@ -281,6 +342,8 @@ seek_at z x kind name may s r i at fits =
         let tells = link_tells g v.id q.start (suc (length g.history)) g.head q.key on walk (head_ahead g q.start q.key on walk.by_now) in
         let link : load_link g v.id q q.place ≡ link_loaded g v.id q m = ap (load_link g v.id q) place ∙ ap (link_loaded g v.id q) head in
         follows z t r i v 648 m (suc (length g.history)) q at under is link (subst (LinkTells g q.start q.key (suc (length g.history))) head tells)
+        (record { point = length g.history; from_on = walk.by_now; up_to = omega arith; leads = subst (Leads g.history (length g.history) (suc (length g.history))) head on.list.first })
+        (λ at_head. refl)
         (λ u e next stands. absurd (let wrong : AtHead ≡ AtNext u = sym place ∙ next in cc))
 
 pub seek_may : (z : Settings) (x : CpuView) (c : ℕ) (kind : Kind) (name : Name) → x.id ≡ c → MaySeek x → CpuMay z x 648 (λ n. n) (sought (Seek c kind name)) (HasSought (Seek c kind name))
@@ -316,6 +379,16 @@ at_word_within (AtValue s n) t k size at within = (omega (arith, at.0), omega (a
 -- the word found at the place
 word_there : (rows : List RecordWords) (s t k j n : ℕ) → (s ≡ t) × (k ≡ j) → n ≡ word (row_at rows t) k → word (row_at rows s) j ≡ n
 word_there rows s t k j n at is = ap (λ u. word (row_at rows u) j) at.0 ∙ ap (word (row_at rows t)) (sym at.1) ∙ sym is
+
+-- a place is at one word
+one_spot : (p : SearchPlace) (u j t k : ℕ) → IsAtWord p u j → IsAtWord p t k → (u ≡ t) × (j ≡ k)
+one_spot AtHead u j t k first second = absurd first
+one_spot (AtNext s) u j t k first second = absurd first
+one_spot (AtNumber s) u j t k first second = (sym first.0 ∙ second.0, first.1 ∙ sym second.1)
+one_spot (AtKind s n) u j t k first second = (sym first.0 ∙ second.0, first.1 ∙ sym second.1)
+one_spot (AtHigh s n w) u j t k first second = (sym first.0 ∙ second.0, first.1 ∙ sym second.1)
+one_spot (AtLow s n w h) u j t k first second = (sym first.0 ∙ second.0, first.1 ∙ sym second.1)
+one_spot (AtValue s n) u j t k first second = (sym first.0 ∙ second.0, first.1 ∙ sym second.1)
 
 -- of the record words a search takes only the one at its place
 one_word : (q : Search) (p : SearchPlace) (rows : List RecordWords) (t k n : ℕ) → IsAtWord p t k → n ≡ word (row_at rows t) k → loaded_at q p (row_of_place rows p) ≡ loaded_at q p (every_word n)
@@ -378,9 +451,9 @@ found_shown p q old (Over f) before holds e is = subst (IsAttached p) (same_Some
 
 searches_word : (z : Settings) (s : Table ℕ View) (r : Ruled z s) (i : ℕ) (x : CpuView) (spot m : ℕ) (q : Search) (o : Loaded) → get_elem? s.views i ≡ some (Cpu x) → x.search ≡ Some q
     → slice_index s.words spot ≡ m → loaded_of (Some q) m ≡ Some o → loaded_at q q.place (row_of_place r.g.rows q.place) ≡ Some o
-    → ((t : ℕ) → q.place ≡ AtNumber t → (row_at r.g.rows t).number ≡ m)
+    → ((t k : ℕ) → IsAtWord q.place t k → word (row_at r.g.rows t) k ≡ m)
     → (y : CpuView) × GoesOn z s r (did (LoadRecord (OfSearch x.id)) (loaded_answer (Some o))) (stepped s spot m i [] (Cpu y) keeps) × Makes (LoadRecord (OfSearch x.id)) (loaded_answer (Some o)) (Cpu x) (Cpu y) × HasSearched x q m y
-searches_word z s r i x spot m q o at under found makes load numbered =
+searches_word z s r i x spot m q o at under found makes load worded =
     let g = r.g in
     let had : CpuShown g x = (r.shows.fits i (Cpu x) at).1 in
     let seen = seen_of g x r.good had in
@@ -394,7 +467,7 @@ searches_word z s r i x spot m q o at under found makes load numbered =
     loaded_is g x.id q q.place ∙ ap (outcome_of g x.id q) load ∙ loaded_made g x.id q o in
     let made : step g (LoadRecord (OfSearch x.id)) ≡ Some (record { state = with_lists g l; reply = loaded_answer (Some o) }) =
     ap (λ (p : Option Search). with_some p (λ p. load_searched g x.id p p.place (row_at g.rows))) searching ∙ outcome in
-    let answer : IsAnswer g.history q.start sees q.key (loaded_answer (Some o)) = subst (Answers x.id q) outcome (record_answers g x.id q r.good.holds searching) in
+    let answer : IsAnswer g.history q.start sees q.key (loaded_answer (Some o)) = subst (AnswersLookup x.id q) outcome (record_answers g x.id q r.good.holds searching) in
     let holds : FoundHolds q (Some o) (take sees g.history) = found_holds g.history sees q o seen.within answer in
     let leaves = same_counts g x.id l refl refl refl refl (λ d ne. refl) (λ d ne. refl) (λ d ne. refl) (λ d ne. refl)
     (λ d ne. get_or-set_other g.searches x.id d _ None ne) (λ d ne. founds_there g.found x.id d o ne) in
@@ -408,8 +481,11 @@ searches_word z s r i x spot m q o at under found makes load numbered =
     let number : (t : ℕ) → q.place ≡ AtNumber t → (e : Entry) × MayStandOn y.pass q t e × (e.number ≡ m) = λ t place.
     let stands = subst (PlaceHolds g.history q.start sees q.key) place (on.searches x.id q searching).stands in
     let row = words_stand g x.id q.start sees t stands.0 on walk stands.1 in
-    (stands.0, stands_by_pass g.history sees t q stands.0 seen.within stands.1, sym (ap (λ (w : RecordWords). w.number) row) ∙ numbered t place) in
-    (y, done.0, done.1, record { is = change ∙ ap (cpu_after_record_word x q) (sym makes); holds = subst (λ (u : Option Loaded). FoundHolds q u y.pass) (sym makes) holds; number = number })
+    (stands.0, stands_by_pass g.history sees t q stands.0 seen.within stands.1, sym (ap (λ (w : RecordWords). w.number) row) ∙ worded t 0 (subst (λ (p : SearchPlace). IsAtWord p t 0) (sym place) (refl, refl))) in
+    let each_word : (t k : ℕ) (e : Entry) → IsAtWord q.place t k → MayStandOn y.pass q t e → word (words_of e) k ≡ m = λ t k e place stands.
+    let by_history = stands_by_history g.history sees t q e seen.within (on.searches x.id q searching).started stands in
+    ap (λ (w : RecordWords). word w k) (sym (words_stand g x.id q.start sees t e on walk by_history)) ∙ worded t k place in
+    (y, done.0, done.1, record { is = change ∙ ap (cpu_after_record_word x q) (sym makes); holds = subst (λ (u : Option Loaded). FoundHolds q u y.pass) (sym makes) holds; number = number; words = each_word })
 
 pub load_searched_may : (z : Settings) (x : CpuView) (c t k : ℕ) → x.id ≡ c → MayLoadSearched x t k
     → CpuMay z x (657 + 8 * t + k) (λ n. n) (λ n. did (LoadRecord (OfSearch c)) (loaded_answer (loaded_of x.search n))) (λ v n y. Makes (LoadRecord (OfSearch c)) (loaded_answer (loaded_of v.search n)) (Cpu v) (Cpu y) × HasLoadedWord v n y)
@@ -426,8 +502,10 @@ load_searched_may z x c t k id may = subst (λ d. CpuMay z x (657 + 8 * t + k) (
     let found : m ≡ word (row_at g.rows t) k = r.words.at (record_of t k) (omega (arith, within.0, on.shape.slots), within.1) in
     let some = makes_some q q.place t k m may.place in
     let load = one_word q q.place g.rows t k m may.place found ∙ some.1 in
-    let numbered : (u : ℕ) → q.place ≡ AtNumber u → (row_at g.rows u).number ≡ m = λ u at_number. word_there g.rows u t k 0 m (subst (λ (p : SearchPlace). IsAtWord p t k) at_number may.place) found in
-    let done = searches_word z s r i x place m q some.0 at may.under_way refl some.1 load numbered in
+    let worded : (u j : ℕ) → IsAtWord q.place u j → word (row_at g.rows u) j ≡ m = λ u j there.
+    let same = one_spot q.place u j t k there may.place in
+    ap (λ v. word (row_at g.rows v) j) same.0 ∙ ap (word (row_at g.rows t)) same.1 ∙ sym found in
+    let done = searches_word z s r i x place m q some.0 at may.under_way refl some.1 load worded in
     let answer : loaded_answer (Some some.0) ≡ loaded_answer (loaded_of x.search m) = ap loaded_answer (sym some.1 ∙ ap (λ (p : Option Search). loaded_of p m) (sym may.under_way)) in (
       Cpu done.0,
       subst (λ (a : Reply). GoesOn z s r (did (LoadRecord (OfSearch x.id)) a) (stepped s place m i [] (Cpu done.0) keeps)) answer done.1,

@@ -124,7 +124,7 @@ shown_collected g k t c good had here still = record {
       (λ (at : (u ≡ t) × (d ≡ c) × (cell no_mark (with_cell g.marks t c (mark_after_collect (mark_at g.marks t c))) u d ≡ mark_after_collect (mark_at g.marks t c))). absurd (let e = at.1 in omega (arith, e, past, here.cpu)))
       (λ (off : cell no_mark (with_cell g.marks t c (mark_after_collect (mark_at g.marks t c))) u d ≡ cell no_mark g.marks u d). ap (λ (x : Mark). x.collected) off ∙ had.beyond d u past)
       (cell_cases no_mark g.marks t c (mark_after_collect (mark_at g.marks t c)) u d);
-  heard = had.heard;
+  noted_pass = had.noted_pass;
 }
 
 -- what was collected stays so

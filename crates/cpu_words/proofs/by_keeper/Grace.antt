@@ -63,7 +63,7 @@ glance_may z k c e may steps s r i at fits =
     let own : KeeperOwn = keeper_own (keeper_after_look k e (Word w)) in
     let steps_here = steps g (ap at_rest (sym seen.due ∙ may.rest)) (lt-ltb c g.settings.cpus lt) in
     let made : step g e ≡ Some (record { state = with_keeper g l; reply = Word w }) = steps_here.0 ∙ ap (λ n. Some (record { state = g; reply = Word n })) (sym found) in
-    let shown : KeeperShown (with_keeper g l) (keeper_view (with_keeper g l) own) = record { is = refl; counts = had.counts; sized = had.sized; rows = had.rows; live_total = had.live_total; gives_up = had.gives_up; later = had.later; beyond = had.beyond; heard = had.heard } in
+    let shown : KeeperShown (with_keeper g l) (keeper_view (with_keeper g l) own) = record { is = refl; counts = had.counts; sized = had.sized; rows = had.rows; live_total = had.live_total; gives_up = had.gives_up; later = had.later; beyond = had.beyond; noted_pass = had.noted_pass } in
     let done = keeper_makes z s r i k (80 * c) w l e (Word w) own at made (leaves_all g l refl refl refl refl (λ t d is. is)) (λ n. refl) refl shown (loads s.words g (with_keeper g l) (80 * c) r.words refl (λ q _. refl)) in
     (Keeper (keeper_view (with_keeper g l) own), subst (λ (f : Event). GoesOn z s r (did f (Word w)) (stepped s (80 * c) w i [] (Keeper (keeper_view (with_keeper g l) own)) keeps)) steps_here.1 done.0, (refl, (done.1, ap (λ (v : KeeperView). keeper_after_look v e (Word w)) (sym had.is))))
 

@@ -151,7 +151,7 @@ cpu_shown_on g l y good after leaves had =
       there = λ t some_one. let e = had.there t some_one in (e.0, attached_prefix g.history l.history e.0 (zs, sym more) e.1, e.2, e.3);
       found = had.found;
       references = had.references;
-      heard = subst (IsPrefix y.heard) (sym more) (prefix_on y.heard g.history zs had.heard);
+      noted_pass = subst (IsPrefix y.noted_pass) (sym more) (prefix_on y.noted_pass g.history zs had.noted_pass);
     }
   where
     below : {a b c : ℕ} → a < b → b ≤ c → a < c
@@ -192,9 +192,9 @@ keeper_good_after g l e r good leaves made = record {
 -- the keeper's step on a word keeps the rule, and is its event
 pub keeper_makes : (z : Settings) (s : Table ℕ View) (r : Ruled z s) (i : ℕ) (k : KeeperView) (word m : ℕ) (l : KeeperLists) (e : Event) (rep : Reply) (own : KeeperOwn)
     → get_elem? s.views i ≡ some (Keeper k) → step r.g e ≡ Some (record { state = with_keeper r.g l; reply = rep }) → LeavesCpus r.g l
-    → ((n : ℕ) → sum_by (standing_of n) l.locals ≡ standing_in n r.g) → own.heard ≡ k.heard → KeeperShown (with_keeper r.g l) (keeper_view (with_keeper r.g l) own) → Agrees (set s.words word m) (with_keeper r.g l)
+    → ((n : ℕ) → sum_by (standing_of n) l.locals ≡ standing_in n r.g) → own.noted_pass ≡ k.noted_pass → KeeperShown (with_keeper r.g l) (keeper_view (with_keeper r.g l) own) → Agrees (set s.words word m) (with_keeper r.g l)
     → GoesOn z s r (did (by_number r.g e) rep) (stepped s word m i [] (Keeper (keeper_view (with_keeper r.g l) own)) keeps) × Makes e rep (Keeper k) (Keeper (keeper_view (with_keeper r.g l) own))
-keeper_makes z s r i k word m l e rep own at made leaves count heard shown words =
+keeper_makes z s r i k word m l e rep own at made leaves count noted_pass shown words =
     let g = r.g in
     let g' = with_keeper g l in
     let w = keeper_view g' own in
@@ -215,7 +215,7 @@ keeper_makes z s r i k word m l e rep own at made leaves count heard shown words
         seated = omega (arith, leaves.seated);
         seats = λ c lt. refl;
       },
-      record { g = g; after = g'; good = r.good; good_after = good; before = was; made = made; shown = shown; same = (sym (ap (λ (v : KeeperView). v.settings) was.is), heard) },
+      record { g = g; after = g'; good = r.good; good_after = good; before = was; made = made; shown = shown; same = (sym (ap (λ (v : KeeperView). v.settings) was.is), noted_pass) },
     )
 
 -- a step that leaves the history, the slots, the counts and what was collected
@@ -250,7 +250,7 @@ cpu_beside_shown g n locals due kept y more shown = record {
   there = shown.there;
   found = shown.found;
   references = shown.references;
-  heard = shown.heard;
+  noted_pass = shown.noted_pass;
 }
 
 pub beside_stays : (g : State) (locals : List LocalPlace) (due : Due) (kept : List (Option ℕ)) (seat : ℕ → ℕ) (i : ℕ) → i ≡ 0 → Stay g (with_keeper g (beside g locals due kept)) seat i

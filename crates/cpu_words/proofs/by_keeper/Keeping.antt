@@ -27,7 +27,7 @@ use Rattle.cpu_words.specs.declared.view.Logged.{Logged}
 use Rattle.cpu_words.specs.declared.view.View.{View}
 use Rattle.cpu_words.specs.declared.view.View.TheVariants.{Keeper, Reference, Spent}
 use Rattle.cpu_words.specs.Views.{is_to, keeper_of, reference_of}
-use Rattle.cpu_words.specs.Rule.{number_or_none, did, deeds}
+use Rattle.cpu_words.specs.Rule.{number_or_none, did, log_of_events}
 use Rattle.cpu_words.specs.Steps.{JoinsBy, JoinsOn}
 use Rattle.cpu_words.specs.Keeping.{MayKeep, keeper_after_keep, with_kept}
 use Rattle.cpu_words.proofs.shown.Placing.{agrees_same}
@@ -78,7 +78,7 @@ keep_makes k t v may g good had ref backs =
         gives_up = had.gives_up;
         later = had.later;
         beyond = had.beyond;
-        heard = had.heard;
+        noted_pass = had.noted_pass;
       };
       count = λ m. let a = local_changed m g.locals id (Standing n) Free (standing_within g.locals id n place.1) place.1 in omega arith;
     }
@@ -97,7 +97,7 @@ keeps z i k o t v may s r at apart there =
     let locals = set g.locals law.id Free in
     let kept = set g.keeps t (Some v.entry.number) in
     record {
-      goes_on = (more z g law.after (Keep t law.id) Done r.reached law.made).1 ∙ ap (λ (n : ℕ). deeds z r.reached.events ++ did (Keep t n) Done) law.names;
+      goes_on = (more z g law.after (Keep t law.id) Done r.reached law.made).1 ∙ ap (λ (n : ℕ). log_of_events z r.reached.events ++ did (Keep t n) Done) law.names;
       seated = omega arith;
       seats = λ c lt. refl;
       ruled = record {

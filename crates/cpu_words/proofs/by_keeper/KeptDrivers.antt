@@ -79,7 +79,7 @@ shown_kept_sub g k t d u e good had x = record {
       omega (arith, was, less);
   later = later_less g k u x.driver good had x.here;
   beyond = had.beyond;
-  heard = had.heard;
+  noted_pass = had.noted_pass;
 }
 
 pub kept_sub_may : (z : Settings) (k : KeeperView) (t u : ℕ) → MayKeptSub k t u → KeeperMay z k (912 + u) (λ n. (n + (2 ^ 64 - 1)) % 2 ^ 64) (λ n. did (KeptSub t) Done) (λ v n l. Makes (KeptSub t) Done (Keeper v) (Keeper l) × KeptSubTold (KeptSub t) v l)

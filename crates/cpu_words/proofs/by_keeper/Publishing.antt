@@ -162,7 +162,7 @@ shown_published g k t e good had may =
           (slot_cases g.slots t (Live e) u may.within);
       later = λ n above. had.later n (omega (arith, above, longer));
       beyond = had.beyond;
-      heard = prefix_on k.heard g.history (Attach e ∷ []) had.heard;
+      noted_pass = prefix_on k.noted_pass g.history (Attach e ∷ []) had.noted_pass;
     }
 
 pub publish_may : (z : Settings) (k : KeeperView) (t : ℕ) (e : Entry) → MayPublish k t e → KeeperStores z k 648 (t + 1) (λ n. did (Publish t) Done) (λ v n l. Makes (Publish t) Done (Keeper v) (Keeper l) × PublishTold (Publish t) v l)

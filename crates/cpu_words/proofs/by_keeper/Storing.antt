@@ -64,7 +64,7 @@ store_next_may z k t v may s r i at fits =
     let l : KeeperLists = record (keeper_lists g) { next = set g.next t v } in
     let own = keeper_own k in
     let made : step g (StoreNext t v) ≡ Some (record { state = with_keeper g l; reply = Done }) = rw (on.rest, lt-ltb t g.settings.slots on.slot, on.vacant) refl in
-    let shown : KeeperShown (with_keeper g l) (keeper_view (with_keeper g l) own) = record { is = refl; counts = had.counts; sized = had.sized; rows = had.rows; live_total = had.live_total; gives_up = had.gives_up; later = had.later; beyond = had.beyond; heard = had.heard } in
+    let shown : KeeperShown (with_keeper g l) (keeper_view (with_keeper g l) own) = record { is = refl; counts = had.counts; sized = had.sized; rows = had.rows; live_total = had.live_total; gives_up = had.gives_up; later = had.later; beyond = had.beyond; noted_pass = had.noted_pass } in
     let done = keeper_makes z s r i k (656 + 8 * t) v l (StoreNext t v) Done own at made (leaves_all g l refl refl refl refl (λ u d is. is)) (λ n. refl) refl shown (link_words s.words g t v r.good on.slot r.words) in
     (Keeper (keeper_view (with_keeper g l) own), done.0, (refl, (done.1, ap (λ (x : KeeperView). record x { next = set x.next t v }) (sym had.is))))
 
@@ -135,7 +135,7 @@ store_record_may z k t j v lt may s r i at fits =
     let l = with_record g t j v in
     let own = keeper_own k in
     let made : step g (StoreSlot t j v) ≡ Some (record { state = with_keeper g l; reply = Done }) = rw (lt-ltb j 5 lt, on.rest, lt-ltb t g.settings.slots on.slot, on.vacant) refl in
-    let shown : KeeperShown (with_keeper g l) (keeper_view (with_keeper g l) own) = record { is = refl; counts = had.counts; sized = had.sized; rows = had.rows; live_total = had.live_total; gives_up = had.gives_up; later = had.later; beyond = had.beyond; heard = had.heard } in
+    let shown : KeeperShown (with_keeper g l) (keeper_view (with_keeper g l) own) = record { is = refl; counts = had.counts; sized = had.sized; rows = had.rows; live_total = had.live_total; gives_up = had.gives_up; later = had.later; beyond = had.beyond; noted_pass = had.noted_pass } in
     let done = keeper_makes z s r i k (657 + 8 * t + j) v l (StoreSlot t j v) Done own at made (leaves_all g l refl refl refl refl (λ u d is. is)) (λ n. refl) refl shown (record_words s.words g t j v r.good on.slot lt r.words) in
     (Keeper (keeper_view (with_keeper g l) own), done.0, (refl, (done.1, ap (λ (x : KeeperView). record x { rows = set x.rows t (with_word (row_at x.rows t) j v) }) (sym had.is))))
 
@@ -185,6 +185,6 @@ store_count_may z k t c v within may s r i at fits =
     let past : nat_lt (5 + c) 5 ≡ false = le-ltb (5 + c) 5 (omega arith) in
     let back : (5 + c) - 5 ≡ c = omega arith in
     let made : step g (StoreSlot t (5 + c) v) ≡ Some (record { state = with_keeper g l; reply = Done }) = rw (past, back, on.rest, lt-ltb t g.settings.slots on.slot, on.vacant, lt-ltb c g.settings.cpus lt) refl in
-    let shown : KeeperShown (with_keeper g l) (keeper_view (with_keeper g l) own) = record { is = refl; counts = counts_follow g k t c v r.good had on.slot lt; sized = length-set k.counts t _ ∙ had.sized; rows = rows_cell k.counts t c v had.rows; live_total = had.live_total; gives_up = had.gives_up; later = had.later; beyond = had.beyond; heard = had.heard } in
+    let shown : KeeperShown (with_keeper g l) (keeper_view (with_keeper g l) own) = record { is = refl; counts = counts_follow g k t c v r.good had on.slot lt; sized = length-set k.counts t _ ∙ had.sized; rows = rows_cell k.counts t c v had.rows; live_total = had.live_total; gives_up = had.gives_up; later = had.later; beyond = had.beyond; noted_pass = had.noted_pass } in
     let done = keeper_makes z s r i k (80 * c + 33 + t) v l (StoreSlot t (5 + c) v) Done own at made (leaves_all g l refl refl refl refl (λ u d is. is)) (λ n. refl) refl shown (count_words s.words g t c v r.good on.slot lt r.words) in
     (Keeper (keeper_view (with_keeper g l) own), done.0, (refl, (done.1, ap (λ (x : KeeperView). record x { counts = with_cell k.counts t c v }) (sym had.is) ∙ ap (λ d. record k { counts = with_cell k.counts t d v }) (sym back))))

@@ -40,7 +40,7 @@ use Rattle.cpu_words.specs.declared.view.View.{View}
 use Rattle.cpu_words.specs.declared.view.View.TheVariants.{Keeper, Reference, Spent}
 use Rattle.cpu_words.specs.Spots.{Spot, section_of, passive_of, count_of, head_word, next_of, record_of, total_of, word_at}
 use Rattle.cpu_words.specs.Views.{KeeperOwn, keeper_own, keeper_view, number_at, one_more, is_to, IsCollectedFor, KeeperShown, ReferenceShown, GivesUp, keeper_of, reference_of}
-use Rattle.cpu_words.specs.Rule.{Agrees, Good, number_or_none, did, deeds}
+use Rattle.cpu_words.specs.Rule.{Agrees, Good, number_or_none, did, log_of_events}
 use Rattle.cpu_words.specs.Steps.{Makes, JoinsBy, JoinsOn, KeeperMay, KeeperStores}
 use Rattle.cpu_words.specs.Draining.{MayTotalAdd, TotalAddTold, MayTotalSub, TotalSubTold, MayJoinKeeper, keeper_after_join, with_given_up}
 use Rattle.cpu_words.proofs.laws.Reaching.{more}
@@ -98,7 +98,7 @@ shown_added g k t old good had due = record {
   gives_up = λ u e retired. each u e (had.gives_up u e retired);
   later = had.later;
   beyond = had.beyond;
-  heard = had.heard;
+  noted_pass = had.noted_pass;
 }
   where
     v : ℕ
@@ -223,7 +223,7 @@ shown_subtracted g k t e good had retired due =
           omega (arith, was, less u, d.0, d.1, d.2);
       later = had.later;
       beyond = had.beyond;
-      heard = had.heard;
+      noted_pass = had.noted_pass;
     }
 
 pub total_sub_may : (z : Settings) (k : KeeperView) (t : ℕ) → MayTotalSub k t → KeeperMay z k (912 + t) (λ n. (n + (2 ^ 64 - 1)) % 2 ^ 64) (λ n. did (TotalSub t) Done) (λ v n l. Makes (TotalSub t) Done (Keeper v) (Keeper l) × TotalSubTold (TotalSub t) v l)
@@ -325,7 +325,7 @@ join_keeper_law k v may g good had ref backs =
             omega (arith, was, given, d.0, d.1, d.2);
         later = later_less g k t v.entry good had (inr there.retired);
         beyond = had.beyond;
-        heard = had.heard;
+        noted_pass = had.noted_pass;
       };
       count = λ m. let a = local_changed m g.locals id (Standing n) Free (standing_within g.locals id n place.1) place.1 in omega arith;
     }
@@ -342,7 +342,7 @@ joins_at z i k o v may s r at apart there =
     (at_set s.views i o both (Reference v) there) in
     let law = join_keeper_law k v may g r.good had.1 (r.shows.fits o (Reference v) was).1 (backed g r.seat s.views o (Reference v) r.shows was) in
     record {
-      goes_on = (more z g law.after (JoinKeeper law.id) Done r.reached law.made).1 ∙ ap (λ (n : ℕ). deeds z r.reached.events ++ did (JoinKeeper n) Done) law.names;
+      goes_on = (more z g law.after (JoinKeeper law.id) Done r.reached law.made).1 ∙ ap (λ (n : ℕ). log_of_events z r.reached.events ++ did (JoinKeeper n) Done) law.names;
       seated = omega arith;
       seats = λ c lt. refl;
       ruled = record {

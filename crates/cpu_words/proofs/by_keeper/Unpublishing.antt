@@ -169,7 +169,7 @@ shown_unlinked g k t e p v had may =
           (λ (off : (u ≡ t → ⊥) × (get_or (set g.marks t (replicate 8 no_mark)) u [] ≡ get_or g.marks u [])).
           ap (λ (row : List Mark). (get_or row c no_mark).collected) off.1 ∙ had.beyond c u past)
           (place_cases [] g.marks t (replicate 8 no_mark) u may.in_marks);
-      heard = prefix_on k.heard g.history (Detach e.number ∷ []) had.heard;
+      noted_pass = prefix_on k.noted_pass g.history (Detach e.number ∷ []) had.noted_pass;
     }
 
 -- no other word changes than the link of the slot before, or the head

@@ -15,7 +15,7 @@ use Rattle.protocol.specs.State.{State, kept_at}
 use Rattle.protocol.specs.Events.{step, after_vacate}
 use Rattle.protocol.proofs.keeps.ListKeeps.{rows_put}
 use Rattle.cpu_words.specs.declared.view.KeeperView.{KeeperView}
-use Rattle.cpu_words.specs.declared.view.Deed.{Deed}
+use Rattle.cpu_words.specs.declared.view.LogItem.{LogItem}
 use Rattle.cpu_words.specs.declared.view.View.{View}
 use Rattle.cpu_words.specs.declared.view.View.TheVariants.{Keeper}
 use Rattle.cpu_words.specs.Views.{keeper_of, keeper_own, keeper_view, KeeperShown}
@@ -43,7 +43,7 @@ shown_vacated g k t e had drained = record {
   gives_up = λ u f gone. had.gives_up u f (stood g t u e f (Retired f) drained gone (inr refl));
   later = had.later;
   beyond = had.beyond;
-  heard = had.heard;
+  noted_pass = had.noted_pass;
 }
 
 -- the table with another view of the seat i
@@ -83,7 +83,7 @@ view_here (x ∷ xs) zero v w e = refl
 view_here (x ∷ xs) (suc i) v w e = view_here xs i v w e
 
 -- a step that may be made by the view with a change that touches no word may be made by the view before it
-moves_after : (z : Settings) (v u : View) (i : ℕ) (f : ℕ → ℕ) (before : List Deed) (es : ℕ → List Deed) (tells : ℕ → View → Type 0) (T : Type 0)
+moves_after : (z : Settings) (v u : View) (i : ℕ) (f : ℕ → ℕ) (before : List LogItem) (es : ℕ → List LogItem) (tells : ℕ → View → Type 0) (T : Type 0)
     → ((s : Table ℕ View) (r : Ruled z s) (id : ℕ) → get_elem? s.views id ≡ some v → GoesOn z s r before (with_view s id u) × T) → Moves z u i f es tells → Moves z v i f (λ n. before ++ es n) (λ n w. T × tells n w)
 moves_after z v u i f before es tells T first then s r id at fits =
     let a = first s r id at in

@@ -22,8 +22,8 @@ use Rattle.cpu_words.specs.declared.view.View.{View}
 use Rattle.cpu_words.specs.declared.view.View.TheVariants.{Keeper, Cpu, Reference, Note, Spent}
 use Rattle.cpu_words.specs.Spots.{count_of, total_of}
 use Rattle.cpu_words.specs.Views.{SameHand, CpuShown, Shown}
-use Rattle.cpu_words.specs.Rule.{Agrees, Sits, Shows, Good}
-use Rattle.cpu_words.specs.Deeds.{sum_below}
+use Rattle.cpu_words.specs.Rule.{Agrees, Sits, ShowsViews, Good}
+use Rattle.cpu_words.specs.KeeperLog.{sum_below}
 use Rattle.cpu_words.specs.Balance.{count_word, total_word, in_hand_to, hand_to, held_by_seats, HasOneSeat, IsBalanced, SeatsBalance}
 use Rattle.cpu_words.proofs.by_keeper.KeeperSees.{SeenByKeeper, seen_by_keeper}
 
@@ -135,7 +135,7 @@ other_below seat n m j (Note h) sits ne = refl
 other_below seat n m j Spent sits ne = refl
 
 -- the hands of the first m CPUs
-hands_below : (g : State) (seat : ℕ → ℕ) (views : List View) (n m : ℕ) → Shows g seat views → m ≤ g.seated → sum_by (hand_below n m) views ≡ sum_below (λ c. in_hand n (hand_at g c)) m
+hands_below : (g : State) (seat : ℕ → ℕ) (views : List View) (n m : ℕ) → ShowsViews g seat views → m ≤ g.seated → sum_by (hand_below n m) views ≡ sum_below (λ c. in_hand n (hand_at g c)) m
 hands_below g seat views n zero shows le = none_of_all n views
 hands_below g seat views n (suc m) shows le =
     let own = shows.each.cpus m (omega (arith, le)) in
@@ -158,7 +158,7 @@ all_below g n (Note h) shown = refl
 all_below g n Spent shown = refl
 
 -- the hands of all seats are those of the core: a CPU without a seat has an empty one
-hands_of_all : (g : State) (seat : ℕ → ℕ) (views : List View) (n : ℕ) → Good g → Shows g seat views → sum_by (hand_to n) views ≡ sum_by (in_hand n) g.hands
+hands_of_all : (g : State) (seat : ℕ → ℕ) (views : List View) (n : ℕ) → Good g → ShowsViews g seat views → sum_by (hand_to n) views ≡ sum_by (in_hand n) g.hands
 hands_of_all g seat views n good shows =
     views_same (hand_below n g.seated) (hand_to n) views (λ j u at. all_below g n u (shows.fits j u at).1)
     ∙ hands_below g seat views n g.seated shows (omega arith)
@@ -173,7 +173,7 @@ counts_of_all words g t f good agrees slot none =
 
 -- Seats
 
-one_seat : (g : State) (seat : ℕ → ℕ) (views : List View) (c : ℕ) → Shows g seat views → c < g.seated → HasOneSeat views c
+one_seat : (g : State) (seat : ℕ → ℕ) (views : List View) (c : ℕ) → ShowsViews g seat views → c < g.seated → HasOneSeat views c
 one_seat g seat views c shows lt =
     let own = shows.each.cpus c lt in record {
       place = seat c;
@@ -184,7 +184,7 @@ one_seat g seat views c shows lt =
     }
 
 -- the balance where the words and the views show a state
-balanced : (g : State) (seat : ℕ → ℕ) (words : List ℕ) (views : List View) (k : KeeperView) (t : ℕ) (e : Entry) → Good g → Agrees words g → Shows g seat views → SeenByKeeper g k → IsIn e (slot_at g.slots t)
+balanced : (g : State) (seat : ℕ → ℕ) (words : List ℕ) (views : List View) (k : KeeperView) (t : ℕ) (e : Entry) → Good g → Agrees words g → ShowsViews g seat views → SeenByKeeper g k → IsIn e (slot_at g.slots t)
     → IsBalanced g.settings.cpus words views k t e.number
 balanced g seat words views k t e good agrees shows seen here = record {
   balance = balance;

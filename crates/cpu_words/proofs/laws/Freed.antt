@@ -20,7 +20,7 @@ use Rattle.protocol.specs.History.{IsAttached, EndsAt}
 use Rattle.protocol.specs.State.{State, opening, kept_at}
 use Rattle.protocol.specs.Events.{Outcome, guard, with_some, some_outcome, step, state_after, is_drained, may_vacate, is_iface_slot, after_vacate, after_kept_sub}
 use Rattle.protocol.specs.Invariant.{Holds, Occupies}
-use Rattle.protocol.specs.Ran.{empty_run}
+use Rattle.protocol.specs.Run.{empty_run}
 use Rattle.protocol.specs.Model.{IsUnheld}
 use Rattle.protocol.specs.Picture.{number_in, picture}
 use Rattle.protocol.specs.Laws.{after, occupant_of, destroyed_slot, IsAllowed}
@@ -32,12 +32,12 @@ use Rattle.protocol.proofs.runs.Headline.{unheld_unoccupied}
 use Rattle.protocol.proofs.runs.Reuse.{number_is, destroyed_drained}
 use Rattle.protocol.proofs.runs.State.{obeys_laws}
 use Rattle.protocol.proofs.slots.Occupied.{attached_in, in_within, slot_cases}
-use Rattle.cpu_words.specs.declared.view.Deed.{Deed}
+use Rattle.cpu_words.specs.declared.view.LogItem.{LogItem}
 use Rattle.cpu_words.specs.declared.view.Logged.{Logged}
 use Rattle.cpu_words.specs.declared.view.View.{View}
-use Rattle.cpu_words.specs.Rule.{Good, Shows, deeds}
-use Rattle.cpu_words.specs.Deeds.{IsDetachedFrom, IsFreedFrom}
-use Rattle.cpu_words.specs.Logs.{part, plain, AreByOwn}
+use Rattle.cpu_words.specs.Rule.{Good, ShowsViews, log_of_events}
+use Rattle.cpu_words.specs.KeeperLog.{IsDetachedFrom, IsFreedFrom}
+use Rattle.cpu_words.specs.Logs.{part, without_logs, AreByOwn}
 use Rattle.cpu_words.specs.Headline.{RunsAsLogged}
 use Rattle.cpu_words.specs.Freed.{IsGone, HasGone, FreedIsGone}
 use Rattle.cpu_words.proofs.shown.Passes.{at_prefix, attached_prefix}
@@ -86,7 +86,7 @@ record Freed (m n : State) (t k : ℕ) : Type 0 where
   ended : (p : ℕ) × EndsAt m.history k p
   off : (u : ℕ) → occupant_of n u ≡ Some k → ⊥
 
-freed_now : (cpus : ℕ) (log : List Deed) (m : State) (e : Event) (o : Outcome) (t k : ℕ) → Holds m → step m e ≡ Some o → destroyed_slot e ≡ Some t → Known cpus log m → IsDetachedFrom t k log → Freed m o.state t k
+freed_now : (cpus : ℕ) (log : List LogItem) (m : State) (e : Event) (o : Outcome) (t k : ℕ) → Holds m → step m e ≡ Some o → destroyed_slot e ≡ Some t → Known cpus log m → IsDetachedFrom t k log → Freed m o.state t k
 freed_now cpus log m e o t k on made of known gone =
     let allowed : IsAllowed m e = subst (λ (p : Option Outcome). IsSome p) (sym made) refl in
     let told = is_drained_tells m t on (destroyed_drained m e t of allowed) in
@@ -117,7 +117,7 @@ freed_now cpus log m e o t k on made of known gone =
 prefix_both : (p q r : List Change) → IsPrefix p q → IsPrefix q r → IsPrefix p r
 prefix_both p q r first second = (first.0 ++ second.0, sym (append_assoc p first.0 second.0) ∙ (ap (λ l. l ++ second.0) first.1 ∙ second.1))
 
-histories : (s : State) (acts : List (ℕ × Deed)) (es : List Event) (t : State) → Follows s acts es t → Holds s → IsPrefix s.history t.history
+histories : (s : State) (acts : List (ℕ × LogItem)) (es : List Event) (t : State) → Follows s acts es t → Holds s → IsPrefix s.history t.history
 histories s [] [] t is on = ([], append-nil s.history ∙ sym (ap (λ (g : State). g.history) is))
 histories s [] (e ∷ es) t run on = absurd run
 histories s (a ∷ more) [] t run on = absurd run
@@ -127,12 +127,12 @@ histories s (a ∷ more) (e ∷ es) t run on =
     let next : o.state.history ≡ s.history ++ grows.0 = subst (λ (p : Option Outcome). (state_after s p).history ≡ s.history ++ grows.0) run.1 grows.1 in
     prefix_both s.history o.state.history t.history (grows.0, sym next) (histories o.state more es t run.3 (step_holds s o.state e o.reply on run.1))
 
-since_freed : (cpus : ℕ) (log : List Deed) (m : State) (d : Deed) (more : List (ℕ × Deed)) (es : List Event) (g : State) (t k : ℕ)
+since_freed : (cpus : ℕ) (log : List LogItem) (m : State) (d : LogItem) (more : List (ℕ × LogItem)) (es : List Event) (g : State) (t k : ℕ)
     → Follows m ((0, d) ∷ more) es g → Holds m → Known cpus log m → IsDetachedFrom t k log → destroyed_slot d.event ≡ Some t → Freed m g t k
 since_freed cpus log m d more [] g t k run on known gone of = absurd run
 since_freed cpus log m d more (e ∷ es) g t k run on known gone of =
     let o = run.0 in
-    let same : d.event ≡ e = same_event m e d.event (ap (λ (x : Deed). x.event) run.2) (whole d.event t of) in
+    let same : d.event ≡ e = same_event m e d.event (ap (λ (x : LogItem). x.event) run.2) (whole d.event t of) in
     let its : destroyed_slot e ≡ Some t = ap destroyed_slot (sym same) ∙ of in
     let f : Freed m o.state t k = freed_now cpus log m e o t k on run.1 its known gone in
     let holds : Holds o.state = step_holds m o.state e o.reply on run.1 in
@@ -153,7 +153,7 @@ since_freed cpus log m d more (e ∷ es) g t k run on known gone of =
 -- The law
 
 -- what no slot has is held by no seat
-gone_of : (m g : State) (seat : ℕ → ℕ) (s : Table ℕ View) (t k : ℕ) → Good g → Shows g seat s.views → IsPrefix m.history g.history → Freed m g t k → IsGone g s t k
+gone_of : (m g : State) (seat : ℕ → ℕ) (s : Table ℕ View) (t k : ℕ) → Good g → ShowsViews g seat s.views → IsPrefix m.history g.history → Freed m g t k → IsGone g s t k
 gone_of m g seat s t k good shows grows f =
     let attached : IsAttached g.history f.e = attached_prefix m.history g.history f.e grows f.attached in
     let none : Occupies g.slots k → ⊥ = λ has. f.off has.0 (number_of (slot_at g.slots has.0) has.1 has.2 ∙ ap (λ (j : ℕ). Some j) has.3) in
@@ -171,37 +171,37 @@ gone_of m g seat s t k good shows grows f =
     }
 
 -- among acts of which a seat's are d and more, no own one stands before d
-none_before : (a : List Deed) (d : Deed) (more : List Deed) (b : List Deed) → a ++ d ∷ b ≡ d ∷ more → b ≡ more → a ≡ []
+none_before : (a : List LogItem) (d : LogItem) (more : List LogItem) (b : List LogItem) → a ++ d ∷ b ≡ d ∷ more → b ≡ more → a ≡ []
 none_before [] d more b is same = refl
 none_before (x ∷ xs) d more b is same =
-    absurd (let size = sym (length-append (x ∷ xs) (d ∷ b)) ∙ ap (λ (l : List Deed). length l) is in let size' = ap (λ (l : List Deed). length l) same in omega (arith, size, size'))
+    absurd (let size = sym (length-append (x ∷ xs) (d ∷ b)) ∙ ap (λ (l : List LogItem). length l) is in let size' = ap (λ (l : List LogItem). length l) same in omega (arith, size, size'))
 
--- the state in which the keeper made the deed, and what its log had before
-pub record AtDeed (cpus : ℕ) (before : List Deed) (d : Deed) (g : State) : Type 0 where
+-- the state in which the keeper made the item, and what its log had before
+pub record AtItem (cpus : ℕ) (before : List LogItem) (d : LogItem) (g : State) : Type 0 where
   pub m : State
-  pub more : List (ℕ × Deed)
+  pub more : List (ℕ × LogItem)
   pub es : List Event
   pub run : Follows m ((0, d) ∷ more) es g
   pub on : Holds m
   pub known : Known cpus before m
 
-pub at_deed : (z : Settings) (s : Table ℕ Logged) (i : ℕ) (l : Logged) (before after_it : List Deed) (deed : Deed) → (r : RunsAsLogged z s) → get_elem? s.views i ≡ some l → l.deeds ≡ before ++ deed ∷ after_it → AtDeed z.cpus before deed (after (opening z) r.run.events)
-at_deed z s i l before after_it deed r at log_is =
+pub at_item : (z : Settings) (s : Table ℕ Logged) (i : ℕ) (l : Logged) (before after_it : List LogItem) (item : LogItem) → (r : RunsAsLogged z s) → get_elem? s.views i ≡ some l → l.known_log ≡ before ++ item ∷ after_it → AtItem z.cpus before item (after (opening z) r.run.events)
+at_item z s i l before after_it item r at log_is =
     let run = r.run in
     let g = after (opening z) run.events in
     let known = (r.known i l at).0 in
-    let later : List Deed = after_it ++ known.0 in
-    let mine : part 0 r.acts ≡ before ++ deed ∷ later = sym known.1 ∙ (ap (λ (d : List Deed). d ++ known.0) log_is ∙ append_assoc before (deed ∷ after_it) known.0) in
-    let h = halve 0 r.acts before (deed ∷ later) mine in
-    let p = place 0 h.second [] later deed h.rest in
-    let end : List (ℕ × Deed) = (0, deed) ∷ p.second in
-    let first : List (ℕ × Deed) = h.first ++ p.first in
-    let are : r.acts ≡ first ++ end = h.are ∙ (ap (λ (x : List (ℕ × Deed)). h.first ++ x) p.are ∙ sym (append_assoc h.first p.first end)) in
-    let quiet : part 0 p.first ≡ [] = none_before (part 0 p.first) deed later (part 0 p.second) (sym (part_append 0 p.first end) ∙ (ap (part 0) (sym p.are) ∙ h.rest)) p.rest in
+    let later : List LogItem = after_it ++ known.0 in
+    let mine : part 0 r.acts ≡ before ++ item ∷ later = sym known.1 ∙ (ap (λ (d : List LogItem). d ++ known.0) log_is ∙ append_assoc before (item ∷ after_it) known.0) in
+    let h = halve 0 r.acts before (item ∷ later) mine in
+    let p = place 0 h.second [] later item h.rest in
+    let end : List (ℕ × LogItem) = (0, item) ∷ p.second in
+    let first : List (ℕ × LogItem) = h.first ++ p.first in
+    let are : r.acts ≡ first ++ end = h.are ∙ (ap (λ (x : List (ℕ × LogItem)). h.first ++ x) p.are ∙ sym (append_assoc h.first p.first end)) in
+    let quiet : part 0 p.first ≡ [] = none_before (part 0 p.first) item later (part 0 p.second) (sym (part_append 0 p.first end) ∙ (ap (part 0) (sym p.are) ∙ h.rest)) p.rest in
     let did : part 0 first ≡ before = part_append 0 h.first p.first ∙ ((λ k. h.mine k ++ quiet k) ∙ append-nil before) in
-    let made : length (deeds z run.events) ≡ length run.events = sym (ap (λ (d : List Deed). length d) r.are) ∙ (length-map r.acts (λ (a : ℕ × Deed). a.1) ∙ r.all) in
+    let made : length (log_of_events z run.events) ≡ length run.events = sym (ap (λ (d : List LogItem). length d) r.are) ∙ (length-map r.acts (λ (a : ℕ × LogItem). a.1) ∙ r.all) in
     let whole : Follows (opening z) r.acts run.events g = follows (empty_run (opening z)) r.acts run.events r.are made in
-    let k = cut (opening z) first end run.events g (subst (λ (x : List (ℕ × Deed)). Follows (opening z) x run.events g) are whole) in
+    let k = cut (opening z) first end run.events g (subst (λ (x : List (ℕ × LogItem)). Follows (opening z) x run.events g) are whole) in
     let fit : IsTrue (are_fit z) = subst (λ (a : Settings). IsTrue (are_fit a)) run.settings run.good.holds.fit in
     let own = own_first run.seat g.seated first end (subst (AreByOwn run.seat g.seated) are r.owners) in
     record {
@@ -210,17 +210,17 @@ at_deed z s i l before after_it deed r at log_is =
       es = k.later;
       run = k.since;
       on = follows_holds (opening z) first k.earlier k.between k.before (opening_holds z fit);
-      known = subst (λ (d : List Deed). Known z.cpus d k.between) did
+      known = subst (λ (d : List LogItem). Known z.cpus d k.between) did
           (walked run.seat g.seated (Known z.cpus) [] (opening z) first k.earlier k.between (known_stays run.seat g.seated z.cpus) k.before (opening_holds z fit) own (known_first z));
     }
 
-freed_gone : (z : Settings) (s : Table ℕ Logged) (i : ℕ) (l : Logged) (t n : ℕ) → RunsAsLogged z s → get_elem? s.views i ≡ some l → IsFreedFrom t n l.deeds → HasGone z s t n
+freed_gone : (z : Settings) (s : Table ℕ Logged) (i : ℕ) (l : Logged) (t n : ℕ) → RunsAsLogged z s → get_elem? s.views i ≡ some l → IsFreedFrom t n l.known_log → HasGone z s t n
 freed_gone z s i l t n r at f =
     let run = r.run in
     let g = after (opening z) run.events in
-    let a = at_deed z s i l f.before f.after f.deed r at f.are in
-    let freed : Freed a.m g t n = since_freed z.cpus f.before a.m f.deed a.more a.es g t n a.run a.on a.known f.detached f.freed in
-    record { run = r; gone = gone_of a.m g run.seat (plain s) t n run.good run.shows (histories a.m ((0, f.deed) ∷ a.more) a.es g a.run a.on) freed }
+    let a = at_item z s i l f.before f.after f.item r at f.are in
+    let freed : Freed a.m g t n = since_freed z.cpus f.before a.m f.item a.more a.es g t n a.run a.on a.known f.detached f.freed in
+    record { run = r; gone = gone_of a.m g run.seat (without_logs s) t n run.good run.shows (histories a.m ((0, f.item) ∷ a.more) a.es g a.run a.on) freed }
 
 pub freed_is_gone : FreedIsGone
 freed_is_gone z s i l t n r at f = freed_gone z s i l t n (running_headline z s r) at f

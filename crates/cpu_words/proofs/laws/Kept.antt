@@ -20,12 +20,12 @@ use Rattle.protocol.proofs.keeps.ListKeeps.{may_write_tells}
 use Rattle.protocol.proofs.model.RefiningEntries.{number_of}
 use Rattle.protocol.proofs.runs.State.{obeys_laws}
 use Rattle.protocol.proofs.slots.Cells.{slot_here}
-use Rattle.cpu_words.specs.declared.view.Deed.{Deed}
+use Rattle.cpu_words.specs.declared.view.LogItem.{LogItem}
 use Rattle.cpu_words.specs.declared.view.Logged.{Logged}
-use Rattle.cpu_words.specs.Deeds.{changes_in, keeping, IsAttachedKeeping}
+use Rattle.cpu_words.specs.KeeperLog.{changes_in, keeping, IsAttachedKeeping}
 use Rattle.cpu_words.specs.Headline.{RunsAsLogged}
 use Rattle.cpu_words.specs.Kept.{KeepsDriver, KeepsAsLong, AttachedKeeps}
-use Rattle.cpu_words.proofs.laws.Freed.{AtDeed, at_deed}
+use Rattle.cpu_words.proofs.laws.Freed.{AtItem, at_item}
 use Rattle.cpu_words.proofs.laws.Safety.{running_headline}
 use Rattle.cpu_words.proofs.logs.Kept.{keeps_on}
 use Rattle.cpu_words.proofs.logs.Known.{Known}
@@ -53,12 +53,12 @@ publish_numbers s t on = numbers_some s t (entry_of t (row_at s.rows t)) _ (λ e
     let same : e.number ≡ suc (length s.history) = omega (arith, number) in
     ap number_in (slot_here s.slots t (Live e) (may_write_tells s t on.shape p.0).1) ∙ ap (λ (n : ℕ). Some n) same))
 
-kept_since : (cpus : ℕ) (log : List Deed) (m : State) (more : List (ℕ × Deed)) (es : List Event) (g : State) (t n d : ℕ)
+kept_since : (cpus : ℕ) (log : List LogItem) (m : State) (more : List (ℕ × LogItem)) (es : List Event) (g : State) (t n d : ℕ)
     → Follows m ((0, record { event = Publish t; reply = Done }) ∷ more) es g → Holds m → Known cpus log m → n ≡ suc (changes_in log) → keeping t log ≡ Some d → occupant_of g t ≡ Some n → KeepsDriver g t d
 kept_since cpus log m more [] g t n d run on known number keeps is = absurd run
 kept_since cpus log m more (e ∷ es) g t n d run on known number keeps is =
     let o = run.0 in
-    let same : Publish t ≡ e = same_event m e (Publish t) (ap (λ (x : Deed). x.event) run.2) refl in
+    let same : Publish t ≡ e = same_event m e (Publish t) (ap (λ (x : LogItem). x.event) run.2) refl in
     let made : step m (Publish t) ≡ Some o = ap (step m) same ∙ run.1 in
     let holds : Holds o.state = step_holds m o.state e o.reply on run.1 in
     let has : occupant_of o.state t ≡ Some n = subst (Numbers m t) made (publish_numbers m t on) ∙ ap (λ (k : ℕ). Some (suc k)) known.changes ∙ ap (λ (k : ℕ). Some k) (sym number) in
@@ -74,9 +74,9 @@ kept_since cpus log m more (e ∷ es) g t n d run on known number keeps is =
       stands = ap (λ (q : State). occupant_of q stands.0) leads ∙ long.1;
     }
 
-keeps_long : (z : Settings) (s : Table ℕ Logged) (i : ℕ) (l : Logged) (t n d : ℕ) → RunsAsLogged z s → get_elem? s.views i ≡ some l → IsAttachedKeeping t n d l.deeds → KeepsAsLong z s t n d
+keeps_long : (z : Settings) (s : Table ℕ Logged) (i : ℕ) (l : Logged) (t n d : ℕ) → RunsAsLogged z s → get_elem? s.views i ≡ some l → IsAttachedKeeping t n d l.known_log → KeepsAsLong z s t n d
 keeps_long z s i l t n d r at f =
-    let a = at_deed z s i l f.before f.after (record { event = Publish t; reply = Done }) r at f.are in
+    let a = at_item z s i l f.before f.after (record { event = Publish t; reply = Done }) r at f.are in
     record { run = r; keeps = λ is. kept_since z.cpus f.before a.m a.more a.es (after (opening z) r.run.events) t n d a.run a.on a.known f.number f.keeps is }
 
 pub attached_keeps : AttachedKeeps

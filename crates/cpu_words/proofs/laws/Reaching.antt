@@ -5,40 +5,40 @@ use Rattle.protocol.specs.declared.event.Event.{Event}
 use Rattle.protocol.specs.declared.event.Reply.{Reply}
 use Rattle.protocol.specs.State.{State, opening}
 use Rattle.protocol.specs.Events.{Outcome, step}
-use Rattle.protocol.specs.Ran.{Ran, run_of_events, empty_run, run_with_event}
+use Rattle.protocol.specs.Run.{Run, run_of_events, empty_run, run_with_event}
 use Rattle.protocol.specs.Laws.{after}
 use Rattle.protocol.proofs.runs.Runs.{ran_push}
 use Rattle.atomic_table.specs.Table.{State as Table}
-use Rattle.cpu_words.specs.declared.view.Deed.{Deed}
+use Rattle.cpu_words.specs.declared.view.LogItem.{LogItem}
 use Rattle.cpu_words.specs.declared.view.View.{View}
-use Rattle.cpu_words.specs.Rule.{Reached, Ruled, GoesOn, by_number, did, deeds_with, deeds_from, deeds}
+use Rattle.cpu_words.specs.Rule.{Reached, Ruled, GoesOn, by_number, did, log_with, log_from, log_of_events}
 
-noted_push : (s : State) (e : Event) (o : Option Outcome) (a b : List Deed) → deeds_with s e o (a ++ b) ≡ deeds_with s e o a ++ b
+noted_push : (s : State) (e : Event) (o : Option Outcome) (a b : List LogItem) → log_with s e o (a ++ b) ≡ log_with s e o a ++ b
 noted_push s e None a b = refl
 noted_push s e (Some o) a b = refl
 
-deeds_push : (r : Ran) (es : List Event) (e : Event) (h : State) (rep : Reply) → step (run_of_events r es).state e ≡ Some (record { state = h; reply = rep }) → deeds_from r (es ++ e ∷ []) ≡ deeds_from r es ++ did (by_number (run_of_events r es).state e) rep
-deeds_push r [] e h rep made = ap (λ (o : Option Outcome). deeds_with r.state e o []) made
-deeds_push r (f ∷ fs) e h rep made =
+log_push : (r : Run) (es : List Event) (e : Event) (h : State) (rep : Reply) → step (run_of_events r es).state e ≡ Some (record { state = h; reply = rep }) → log_from r (es ++ e ∷ []) ≡ log_from r es ++ did (by_number (run_of_events r es).state e) rep
+log_push r [] e h rep made = ap (λ (o : Option Outcome). log_with r.state e o []) made
+log_push r (f ∷ fs) e h rep made =
     let next = run_with_event r (step r.state f) in
-    ap (deeds_with r.state f (step r.state f)) (deeds_push next fs e h rep made) ∙ noted_push r.state f (step r.state f) (deeds_from next fs) (did (by_number (run_of_events next fs).state e) rep)
+    ap (log_with r.state f (step r.state f)) (log_push next fs e h rep made) ∙ noted_push r.state f (step r.state f) (log_from next fs) (did (by_number (run_of_events next fs).state e) rep)
 
 pub more : (z : Settings) (g h : State) (e : Event) (rep : Reply) (reached : Reached z g) → step g e ≡ Some (record { state = h; reply = rep })
-    → (next : Reached z h) × (deeds z next.events ≡ deeds z reached.events ++ did (by_number g e) rep)
+    → (next : Reached z h) × (log_of_events z next.events ≡ log_of_events z reached.events ++ did (by_number g e) rep)
 more z g h e rep reached made =
-    let r : Ran = run_of_events (empty_run (opening z)) reached.events in
+    let r : Run = run_of_events (empty_run (opening z)) reached.events in
     let here : step r.state e ≡ Some (record { state = h; reply = rep }) = ap (λ (s : State). step s e) (sym reached.run) ∙ made in
-    let run : h ≡ after (opening z) (reached.events ++ e ∷ []) = sym (ap (λ (x : Ran). x.state) (ran_push (empty_run (opening z)) reached.events e) ∙ ap (λ (o : Option Outcome). (run_with_event r o).state) here) in
-    let longer = deeds_push (empty_run (opening z)) reached.events e h rep here in
-    let all : length (deeds z (reached.events ++ e ∷ [])) ≡ length (reached.events ++ e ∷ []) =
-    omega (arith, ap (λ (ds : List Deed). length ds) longer, length-append (deeds z reached.events) (did (by_number r.state e) rep), length-append reached.events (e ∷ []), reached.made) in
-    (record { events = reached.events ++ e ∷ []; run = run; made = all }, longer ∙ ap (λ (s : State). deeds z reached.events ++ did (by_number s e) rep) (sym reached.run))
+    let run : h ≡ after (opening z) (reached.events ++ e ∷ []) = sym (ap (λ (x : Run). x.state) (ran_push (empty_run (opening z)) reached.events e) ∙ ap (λ (o : Option Outcome). (run_with_event r o).state) here) in
+    let longer = log_push (empty_run (opening z)) reached.events e h rep here in
+    let all : length (log_of_events z (reached.events ++ e ∷ [])) ≡ length (reached.events ++ e ∷ []) =
+    omega (arith, ap (λ (ds : List LogItem). length ds) longer, length-append (log_of_events z reached.events) (did (by_number r.state e) rep), length-append reached.events (e ∷ []), reached.made) in
+    (record { events = reached.events ++ e ∷ []; run = run; made = all }, longer ∙ ap (λ (s : State). log_of_events z reached.events ++ did (by_number s e) rep) (sym reached.run))
 
 -- one going on after another
-pub goes_both : (z : Settings) (s t u : Table ℕ View) (r : Ruled z s) (first second : List Deed) (a : GoesOn z s r first t) → GoesOn z t a.ruled second u → GoesOn z s r (first ++ second) u
+pub goes_both : (z : Settings) (s t u : Table ℕ View) (r : Ruled z s) (first second : List LogItem) (a : GoesOn z s r first t) → GoesOn z t a.ruled second u → GoesOn z s r (first ++ second) u
 goes_both z s t u r first second a b = record {
   ruled = b.ruled;
-  goes_on = b.goes_on ∙ (ap (λ (ds : List Deed). ds ++ second) a.goes_on ∙ append_assoc (deeds z r.reached.events) first second);
+  goes_on = b.goes_on ∙ (ap (λ (ds : List LogItem). ds ++ second) a.goes_on ∙ append_assoc (log_of_events z r.reached.events) first second);
   seated = let p = a.seated in let q = b.seated in omega arith;
   seats = λ c lt. b.seats c (let p = a.seated in omega (arith, lt, p)) ∙ a.seats c lt;
 }

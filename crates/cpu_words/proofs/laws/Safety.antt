@@ -8,10 +8,10 @@ use Rattle.protocol.specs.State.{State}
 use Rattle.protocol.proofs.runs.Reuse.{every_run_keeps}
 use Rattle.protocol.proofs.runs.State.{obeys_laws}
 use Rattle.protocol.proofs.model.Refining.{every_run_is_model_run}
-use Rattle.cpu_words.specs.declared.view.Deed.{Deed}
+use Rattle.cpu_words.specs.declared.view.LogItem.{LogItem}
 use Rattle.cpu_words.specs.declared.view.View.{View}
-use Rattle.cpu_words.specs.Logs.{plain, AreByOwn}
-use Rattle.cpu_words.specs.Rule.{Agrees, Shows, Good, Ruled}
+use Rattle.cpu_words.specs.Logs.{without_logs, AreByOwn}
+use Rattle.cpu_words.specs.Rule.{Agrees, ShowsViews, Good, Ruled}
 use Rattle.cpu_words.specs.Headline.{RunsLawfully, RunningHeadline}
 
 pub runs_lawfully : (z : Settings) (s : Table ℕ View) → Ruled z s → RunsLawfully z s
@@ -22,7 +22,7 @@ runs_lawfully z s r =
       seat = r.seat;
       settings = subst (λ (g : State). g.settings ≡ z) run r.settings;
       words = subst (λ (g : State). Agrees s.words g) run r.words;
-      shows = subst (λ (g : State). Shows g r.seat s.views) run r.shows;
+      shows = subst (λ (g : State). ShowsViews g r.seat s.views) run r.shows;
       good = subst (λ (g : State). Good g) run r.good;
       modelled = every_run_is_model_run z r.reached.events fit;
       laws = obeys_laws _ (every_run_keeps z r.reached.events fit);
@@ -31,10 +31,10 @@ runs_lawfully z s r =
 pub running_headline : RunningHeadline
 unfolding runs_lawfully
 running_headline z s r = record {
-  run = runs_lawfully z (plain s) r.run;
+  run = runs_lawfully z (without_logs s) r.run;
   acts = r.acts;
   are = r.are;
-  all = sym (length-map r.acts (λ (a : ℕ × Deed). a.1)) ∙ ap (λ (ds : List Deed). length ds) r.are ∙ r.run.reached.made;
+  all = sym (length-map r.acts (λ (a : ℕ × LogItem). a.1)) ∙ ap (λ (ds : List LogItem). length ds) r.are ∙ r.run.reached.made;
   owners = subst (λ (g : State). AreByOwn r.run.seat g.seated r.acts) r.run.reached.run r.owners;
   logs = r.logs;
   known = r.known;

@@ -1,8 +1,9 @@
 -- Waiting: where the keeper took the section word of each CPU, and later found each even or another one, each section that was open before has ended.
-use Rattle.std.proofs.Common.{◌≡◌, ◌⊎◌, inl, inr, ⊎_elim, ℕ, ◌%◌, ◌<◌, ◌≤◌, IsTrue, List, [], ◌∷◌, ◌++◌, length, take, Some, sym, ap, ◌∙◌, subst, append_assoc, arith}
+use Rattle.std.proofs.Common.{◌≡◌, ◌⊎◌, inl, inr, ⊎_elim, ℕ, ◌+◌, ◌%◌, ◌<◌, ◌≤◌, IsTrue, List, [], ◌∷◌, ◌++◌, length, take, Some, refl, sym, ap, ◌∙◌, subst, length-append, append_assoc, arith}
 use Rattle.std.proofs.lemmas.Bool.{cases_lt}
-use Rattle.std.proofs.lemmas.List.{take_at, length-map}
+use Rattle.std.proofs.lemmas.List.{append_cancel_right, take_at, length-map}
 use Rattle.std.proofs.lemmas.Option.{none-some}
+use Rattle.std.proofs.Math.Seq.{take-append-add}
 use mathlib.Core.Option.{some}
 use lib.ListN.{get_elem?}
 use Rattle.atomic_table.specs.Table.{State as Table}
@@ -12,23 +13,24 @@ use Rattle.protocol.specs.declared.event.Event.{Event}
 use Rattle.protocol.specs.declared.event.Event.TheVariants.{Exit}
 use Rattle.protocol.specs.State.{State, opening, section_at, begin_at}
 use Rattle.protocol.specs.Invariant.{Holds}
-use Rattle.protocol.specs.Ran.{empty_run}
+use Rattle.protocol.specs.Run.{empty_run}
 use Rattle.protocol.specs.Laws.{after, after_event, IsAllowed, HasExit, HasMoved}
 use Rattle.protocol.proofs.keeps.Keeping.{opening_holds}
 use Rattle.protocol.proofs.runs.Grace.{ends_by_exit}
-use Rattle.cpu_words.specs.declared.view.Deed.{Deed}
+use Rattle.cpu_words.specs.declared.view.LogItem.{LogItem}
 use Rattle.cpu_words.specs.declared.view.Logged.{Logged}
 use Rattle.cpu_words.specs.declared.view.View.TheVariants.{Cpu}
-use Rattle.cpu_words.specs.Rule.{deeds}
-use Rattle.cpu_words.specs.Deeds.{changes_in, has_taken, has_found, IsSeenOut, HasWaited}
+use Rattle.cpu_words.specs.Rule.{log_of_events}
+use Rattle.cpu_words.specs.KeeperLog.{changes_in, has_taken, has_found, IsSeenOut, HasWaited}
 use Rattle.cpu_words.specs.Logs.{part, AreByOwn}
 use Rattle.cpu_words.specs.Headline.{RunsAsLogged}
-use Rattle.cpu_words.specs.Waiting.{HaveEnded, WaitingEnds}
+use Rattle.cpu_words.specs.Waiting.{HasEndedOn, HaveEnded, WaitingEnds}
 use Rattle.cpu_words.proofs.shown.Seeing.{seen_of}
 use Rattle.cpu_words.proofs.laws.Safety.{running_headline}
 use Rattle.cpu_words.proofs.logs.Changes.{counted}
-use Rattle.cpu_words.proofs.logs.Runs.{Follows, follows, follows_after, follows_holds, cut}
-use Rattle.cpu_words.proofs.logs.Loads.{Same, Late, late_on, run_since, place, halve, starts_taken, starts_found}
+use Rattle.cpu_words.proofs.logs.Runs.{Follows, after_append, follows, follows_after, follows_holds, cut}
+use Rattle.cpu_words.proofs.logs.Loads.{Same, Late, late_on, run_since, Placed, place, part_same, halve, starts_taken, starts_found}
+use Rattle.cpu_words.proofs.logs.Logs.{part_append}
 
 -- Waiting for one CPU
 
@@ -39,10 +41,26 @@ exit_on s c (e ∷ es) more has = ⊎_elim
     (λ (later : HasExit (after_event s e) c es). inr (exit_on (after_event s e) c es more later))
     has
 
--- its section that was open in s has ended, and one that is open in t began since
-record WaitedFor (c : ℕ) (s : State) (es : List Event) (t : State) : Type 0 where
+-- its section that was open in s has ended, and one that is open in t began since; so it is from where its word was taken, too
+record WaitedFor (c : ℕ) (s : State) (acts : List (ℕ × LogItem)) (es : List Event) (t : State) (looks : List LogItem) : Type 0 where
   exits : (b : ℕ) → begin_at s c ≡ Some b → HasExit s c es
   begun : Late (length s.history) c t
+  seen : IsSeenOut c looks
+  earlier : List Event
+  later : List Event
+  between : State
+  are : es ≡ earlier ++ later
+  until : between ≡ after s earlier
+  did : part 0 (take (length earlier) acts) ≡ seen.before
+  taken : section_at between c ≡ seen.old
+  own : (b : ℕ) → begin_at between c ≡ Some b → HasExit between c later
+  late : Late (length between.history) c t
+
+-- what a seat had done before an item of its own that stands in the acts
+part_placed : (i : ℕ) (acts : List (ℕ × LogItem)) (a b : List LogItem) (d : LogItem) → part i acts ≡ a ++ d ∷ b → (p : Placed i acts d b) → part i p.first ≡ a
+part_placed i acts a b d is p = append_cancel_right (part i p.first) a (d ∷ b)
+    (sym (part_append i p.first ((i, d) ∷ p.second) ∙ ap (λ (l : List LogItem). part i p.first ++ l) (part_same i (i, d) p.second refl ∙ ap (λ (l : List LogItem). d ∷ l) p.rest))
+    ∙ (ap (part i) (sym p.are) ∙ is))
 
 moved_late : (c old new : ℕ) (s m : State) → Holds m → section_at s c ≡ old → section_at m c ≡ new → HasMoved old new → Same c s m ⊎ Late (length s.history) c m → Late (length s.history) c m
 moved_late c old new s m on first second moved since b is = ⊎_elim
@@ -61,18 +79,18 @@ moved_from a old new b le up is moved = ⊎_elim
     (λ (off : new ≡ old → ⊥). inr (λ (same : b ≡ a). off (omega (arith, le, up, is, same))))
     moved
 
-waited_for : (c : ℕ) (s : State) (acts : List (ℕ × Deed)) (es : List Event) (t : State) (since rest : List Deed) → Follows s acts es t → Holds s → part 0 acts ≡ since ++ rest → IsSeenOut c since → WaitedFor c s es t
+waited_for : (c : ℕ) (s : State) (acts : List (ℕ × LogItem)) (es : List Event) (t : State) (since rest : List LogItem) → Follows s acts es t → Holds s → part 0 acts ≡ since ++ rest → IsSeenOut c since → WaitedFor c s acts es t since
 waited_for c s acts es t since rest run on mine seen =
-    let last : List Deed = seen.after ++ rest in
+    let last : List LogItem = seen.after ++ rest in
     let flat : since ++ rest ≡ seen.before ++ has_taken c seen.old ∷ (seen.between ++ has_found c seen.new ∷ last) =
-    ap (λ (l : List Deed). l ++ rest) seen.are ∙ (append_assoc seen.before (has_taken c seen.old ∷ (seen.between ++ has_found c seen.new ∷ seen.after)) rest
-    ∙ ap (λ (l : List Deed). seen.before ++ has_taken c seen.old ∷ l) (append_assoc seen.between (has_found c seen.new ∷ seen.after) rest)) in
+    ap (λ (l : List LogItem). l ++ rest) seen.are ∙ (append_assoc seen.before (has_taken c seen.old ∷ (seen.between ++ has_found c seen.new ∷ seen.after)) rest
+    ∙ ap (λ (l : List LogItem). seen.before ++ has_taken c seen.old ∷ l) (append_assoc seen.between (has_found c seen.new ∷ seen.after) rest)) in
     let p = place 0 acts seen.before (seen.between ++ has_found c seen.new ∷ last) (has_taken c seen.old) (mine ∙ flat) in
     let q = place 0 p.second seen.between last (has_found c seen.new) p.rest in
-    let middle : List (ℕ × Deed) = (0, has_taken c seen.old) ∷ q.first in
-    let end : List (ℕ × Deed) = (0, has_found c seen.new) ∷ q.second in
-    let are : acts ≡ (p.first ++ middle) ++ end = p.are ∙ (ap (λ (l : List (ℕ × Deed)). p.first ++ (0, has_taken c seen.old) ∷ l) q.are ∙ sym (append_assoc p.first middle end)) in
-    let k = cut s (p.first ++ middle) end es t (subst (λ (l : List (ℕ × Deed)). Follows s l es t) are run) in
+    let middle : List (ℕ × LogItem) = (0, has_taken c seen.old) ∷ q.first in
+    let end : List (ℕ × LogItem) = (0, has_found c seen.new) ∷ q.second in
+    let are : acts ≡ (p.first ++ middle) ++ end = p.are ∙ (ap (λ (l : List (ℕ × LogItem)). p.first ++ (0, has_taken c seen.old) ∷ l) q.are ∙ sym (append_assoc p.first middle end)) in
+    let k = cut s (p.first ++ middle) end es t (subst (λ (l : List (ℕ × LogItem)). Follows s l es t) are run) in
     let j = cut s p.first middle k.earlier k.between k.before in
     let m1 = j.between in
     let m2 = k.between in
@@ -86,7 +104,20 @@ waited_for c s acts es t since rest run on mine seen =
     let late1 : Late (length m1.history) c m2 = moved_late c seen.old seen.new m1 m2 on2 old new seen.moved b.0.1 in
     let late2 : Late (length s.history) c m2 = λ n is. let h = late1 n is in let le = a.1 in omega (arith, h, le) in
     let le : length s.history ≤ length m2.history = let x = a.1 in let y = b.1 in omega (arith, x, y) in
+    let ends : section_at (after m1 j.later) c ≡ seen.new = ap (λ (g : State). section_at g c) (sym (follows_after m1 middle j.later m2 j.since)) ∙ new in
     record {
+      seen = seen;
+      earlier = j.earlier;
+      later = j.later ++ k.later;
+      between = m1;
+      are = k.are ∙ (ap (λ (l : List Event). l ++ k.later) j.are ∙ append_assoc j.earlier j.later k.later);
+      until = follows_after s p.first j.earlier m1 j.before;
+      did = ap (part 0) (ap (take (length j.earlier)) (are ∙ append_assoc p.first middle end) ∙ take_at p.first (middle ++ end) (length j.earlier) (sym j.size))
+          ∙ part_placed 0 acts seen.before (seen.between ++ has_found c seen.new ∷ last) (has_taken c seen.old) (mine ∙ flat) p;
+      taken = old;
+      own = λ n is. exit_on m1 c j.later k.later (ends_by_exit m1 on1 c n j.later is
+          (moved_from (section_at m1 c) seen.old seen.new (section_at (after m1 j.later) c) (omega (arith, old)) (let x = b.0.0 in omega (arith, x, old, new)) ends seen.moved));
+      late = late_on (length m1.history) c m2 t b.1 late1 d.0.1;
       exits = λ n is. subst (HasExit s c) (sym k.are) (exit_on s c k.earlier k.later (ends_by_exit s on c n k.earlier is
           (moved_from (section_at s c) seen.old seen.new (section_at (after s k.earlier) c) (let x = a.0.0 in omega (arith, x, old)) (let x = b.0.0 in omega (arith, x, old, new))
           (ap (λ (g : State). section_at g c) (sym (follows_after s (p.first ++ middle) k.earlier m2 k.before)) ∙ new) seen.moved)));
@@ -95,7 +126,7 @@ waited_for c s acts es t since rest run on mine seen =
 
 -- The law
 
-pub own_first : (seat : ℕ → ℕ) (n : ℕ) (a b : List (ℕ × Deed)) → AreByOwn seat n (a ++ b) → AreByOwn seat n a
+pub own_first : (seat : ℕ → ℕ) (n : ℕ) (a b : List (ℕ × LogItem)) → AreByOwn seat n (a ++ b) → AreByOwn seat n a
 own_first seat n [] b own = tt
 own_first seat n (x ∷ rest) b own = (own.0, own_first seat n rest b own.1)
 
@@ -109,20 +140,40 @@ within s c b n on same is = ⊎_elim
     (λ (le : n ≤ c). absurd (beyond s c b on (omega (arith, same, le)) is))
     (cases_lt c n)
 
-have_ended : (z : Settings) (s : Table ℕ Logged) (i : ℕ) (l : Logged) (before since : List Deed) → RunsAsLogged z s → get_elem? s.views i ≡ some l → l.deeds ≡ before ++ since → HasWaited since z.cpus → HaveEnded z s before
+-- of one CPU, over the whole run
+ended_on : (z : Settings) (s : Table ℕ Logged) (r : RunsAsLogged z s) (before since rest : List LogItem) (first second : List (ℕ × LogItem)) → r.acts ≡ first ++ second → part 0 first ≡ before
+    → (earlier later : List Event) (m : State) → r.run.events ≡ earlier ++ later → length earlier ≡ length first → m ≡ after (opening z) earlier
+    → (c : ℕ) → WaitedFor c m second later (after (opening z) r.run.events) since → HasEndedOn z s r before since c
+ended_on z s r before since rest first second acts mine earlier later m are size there c w =
+    let start = opening z in
+    let at : w.between ≡ after start (earlier ++ w.earlier) = w.until ∙ (ap (λ (q : State). after q w.earlier) there ∙ sym (after_append start earlier w.earlier)) in
+    let cut_at : take (length (earlier ++ w.earlier)) r.acts ≡ first ++ take (length w.earlier) second =
+    ap (λ (n : ℕ). take n r.acts) (length-append earlier w.earlier ∙ ap (λ (n : ℕ). n + length w.earlier) size) ∙ (ap (take (length first + length w.earlier)) acts ∙ take-append-add first second (length w.earlier)) in
+    record {
+      seen = w.seen;
+      earlier = earlier ++ w.earlier;
+      later = w.later;
+      are = are ∙ (ap (λ (l : List Event). earlier ++ l) w.are ∙ sym (append_assoc earlier w.earlier w.later));
+      did = ap (part 0) cut_at ∙ (part_append 0 first (take (length w.earlier) second) ∙ (λ k. mine k ++ w.did k));
+      taken = ap (λ (q : State). section_at q c) (sym at) ∙ w.taken;
+      exits = λ b is. subst (λ (q : State). HasExit q c w.later) at (w.own b (ap (λ (q : State). begin_at q c) at ∙ is));
+      begun = λ b is. subst (λ (q : State). length q.history ≤ b) at (w.late b is);
+    }
+
+have_ended : (z : Settings) (s : Table ℕ Logged) (i : ℕ) (l : Logged) (before since : List LogItem) → RunsAsLogged z s → get_elem? s.views i ≡ some l → l.known_log ≡ before ++ since → HasWaited since z.cpus → HaveEnded z s before since
 have_ended z s i l before since r at are waited =
     let run = r.run in
     let g = after (opening z) run.events in
     let known = (r.known i l at).0 in
-    let mine : part 0 r.acts ≡ before ++ (since ++ known.0) = sym known.1 ∙ (ap (λ (d : List Deed). d ++ known.0) are ∙ append_assoc before since known.0) in
+    let mine : part 0 r.acts ≡ before ++ (since ++ known.0) = sym known.1 ∙ (ap (λ (d : List LogItem). d ++ known.0) are ∙ append_assoc before since known.0) in
     let h = halve 0 r.acts before (since ++ known.0) mine in
-    let made : length (deeds z run.events) ≡ length run.events = sym (ap (λ (d : List Deed). length d) r.are) ∙ (length-map r.acts (λ (a : ℕ × Deed). a.1) ∙ r.all) in
+    let made : length (log_of_events z run.events) ≡ length run.events = sym (ap (λ (d : List LogItem). length d) r.are) ∙ (length-map r.acts (λ (a : ℕ × LogItem). a.1) ∙ r.all) in
     let whole : Follows (opening z) r.acts run.events g = follows (empty_run (opening z)) r.acts run.events r.are made in
-    let k = cut (opening z) h.first h.second run.events g (subst (λ (l : List (ℕ × Deed)). Follows (opening z) l run.events g) h.are whole) in
+    let k = cut (opening z) h.first h.second run.events g (subst (λ (l : List (ℕ × LogItem)). Follows (opening z) l run.events g) h.are whole) in
     let fit : IsTrue (are_fit z) = subst (λ (a : Settings). IsTrue (are_fit a)) run.settings run.good.holds.fit in
     let on : Holds k.between = follows_holds (opening z) h.first k.earlier k.between k.before (opening_holds z fit) in
     let there : k.between ≡ after (opening z) k.earlier = follows_after (opening z) h.first k.earlier k.between k.before in
-    let w : (c : ℕ) → c < z.cpus → WaitedFor c k.between k.later g = λ c lt. waited_for c k.between h.second k.later g since known.0 k.since on h.rest (waited c lt) in
+    let w : (c : ℕ) → c < z.cpus → WaitedFor c k.between h.second k.later g since = λ c lt. waited_for c k.between h.second k.later g since known.0 k.since on h.rest (waited c lt) in
     let own = own_first run.seat g.seated h.first h.second (subst (AreByOwn run.seat g.seated) h.are r.owners) in
     let long : length k.between.history ≡ changes_in before = let n = counted run.seat g.seated (opening z) h.first k.earlier k.between k.before (opening_holds z fit) own in let same = ap changes_in h.mine in omega (arith, n, same) in
     let begun : (c b : ℕ) → begin_at g c ≡ Some b → changes_in before ≤ b = λ c b is.
@@ -135,6 +186,7 @@ have_ended z s i l before since r at are waited =
       did = ap (part 0) (ap (take (length k.earlier)) h.are ∙ take_at h.first h.second (length k.earlier) (sym k.size)) ∙ h.mine;
       changes = ap (λ (q : State). length q.history) (sym there) ∙ long;
       exits = λ c b lt is. subst (λ (q : State). HasExit q c k.later) there ((w c lt).exits b (ap (λ (q : State). begin_at q c) there ∙ is));
+      each = λ c lt. ended_on z s r before since known.0 h.first h.second h.are h.mine k.earlier k.later k.between k.are k.size there c (w c lt);
       begun = begun;
       none = λ i j p k x e keeper cpu ends le may.
           let shown = (run.shows.fits j (Cpu x) cpu).1 in

@@ -6,17 +6,17 @@ use Rattle.registry_values.specs.declared.settings.Settings.{Settings}
 use Rattle.cpu_words.specs.declared.view.CpuView.{CpuView}
 use Rattle.cpu_words.specs.declared.view.KeeperView.{KeeperView}
 use Rattle.cpu_words.specs.declared.view.ReferenceView.{ReferenceView}
-use Rattle.cpu_words.specs.declared.view.Deed.{Deed}
+use Rattle.cpu_words.specs.declared.view.LogItem.{LogItem}
 use Rattle.cpu_words.specs.declared.view.Logged.{Logged}
 use Rattle.cpu_words.specs.declared.view.View.TheVariants.{Keeper, Cpu, Reference}
 use Rattle.cpu_words.specs.Views.{cpu_of, keeper_of, reference_of}
-use Rattle.cpu_words.specs.Deeds.{IsShownAfter}
+use Rattle.cpu_words.specs.KeeperLog.{IsShownAfter}
 use Rattle.cpu_words.specs.Steps.{CpuMay, KeeperMay, KeeperStores, ReferenceMay}
 use Rattle.cpu_words.specs.Logs.{the_keeper, the_cpu, another, AreBy, LoggedRuled, IsToldByCpu, IsToldByKeeper, IsToldByReference, heard_by_cpu, heard_by_keeper}
 use Rattle.cpu_words.proofs.logs.Logs.{logged_moves, logged_hears}
 use Rattle.cpu_words.proofs.logs.OwnLog.{own_log, shown_after}
 
-pub allows_cpu : (z y : Settings) (x : CpuView) (slots id : ℕ) (me : Me ℕ Logged) (i : ℕ) (f : ℕ → ℕ) (does : CpuView → ℕ → List Deed) (tells : CpuView → ℕ → CpuView → Type 0) (st : Step ℕ)
+pub allows_cpu : (z y : Settings) (x : CpuView) (slots id : ℕ) (me : Me ℕ Logged) (i : ℕ) (f : ℕ → ℕ) (does : CpuView → ℕ → List LogItem) (tells : CpuView → ℕ → CpuView → Type 0) (st : Step ℕ)
     → z ≡ y → x ≡ cpu_of me.0.view → me ≡ (record me.0 { view = Cpu (cpu_of me.0.view) }, []) → ((n : ℕ) → AreBy (the_cpu x.id) (does x n)) → CpuMay z x i f (does x) tells → Allows (LoggedRuled y) slots id me i f (IsToldByCpu does tells st me)
 allows_cpu z y x slots id me i f does tells st same view is own may =
     subst (λ (m : Me ℕ Logged). Allows (LoggedRuled y) slots id m i f (IsToldByCpu does tells st m)) (sym is)
@@ -28,7 +28,7 @@ allows_cpu z y x slots id me i f does tells st same view is own may =
         let after = l.log ++ does u (slice_index s.words i) in
         (record l { view = d.0; log = after }, keeps, tt, d.1, ((λ k. (record l { view = d.2.0 k; log = after }, [])), refl, d.2.1))
 
-pub allows_keeper : (z y : Settings) (x : KeeperView) (slots id : ℕ) (me : Me ℕ Logged) (i : ℕ) (f : ℕ → ℕ) (does : KeeperView → ℕ → List Deed) (tells : KeeperView → ℕ → KeeperView → Type 0) (st : Step ℕ)
+pub allows_keeper : (z y : Settings) (x : KeeperView) (slots id : ℕ) (me : Me ℕ Logged) (i : ℕ) (f : ℕ → ℕ) (does : KeeperView → ℕ → List LogItem) (tells : KeeperView → ℕ → KeeperView → Type 0) (st : Step ℕ)
     → z ≡ y → x ≡ keeper_of me.0.view → me ≡ (record me.0 { view = Keeper (keeper_of me.0.view) }, []) → ((n : ℕ) → AreBy the_keeper (does x n)) → KeeperMay z x i f (does x) tells → Allows (LoggedRuled y) slots id me i f (IsToldByKeeper does tells st me)
 allows_keeper z y x slots id me i f does tells st same view is own may =
     subst (λ (m : Me ℕ Logged). Allows (LoggedRuled y) slots id m i f (IsToldByKeeper does tells st m)) (sym is)
@@ -40,7 +40,7 @@ allows_keeper z y x slots id me i f does tells st same view is own may =
         let after = l.log ++ does u (slice_index s.words i) in
         (record l { view = d.0; log = after }, keeps, tt, d.1, ((λ k. (record l { view = d.2.0 k; log = after }, [])), refl, d.2.1))
 
-pub allows_store : (z y : Settings) (x : KeeperView) (slots id : ℕ) (me : Me ℕ Logged) (i n : ℕ) (does : KeeperView → ℕ → List Deed) (tells : KeeperView → ℕ → KeeperView → Type 0) (st : Step ℕ)
+pub allows_store : (z y : Settings) (x : KeeperView) (slots id : ℕ) (me : Me ℕ Logged) (i n : ℕ) (does : KeeperView → ℕ → List LogItem) (tells : KeeperView → ℕ → KeeperView → Type 0) (st : Step ℕ)
     → z ≡ y → x ≡ keeper_of me.0.view → me ≡ (record me.0 { view = Keeper (keeper_of me.0.view) }, []) → ((n : ℕ) → AreBy the_keeper (does x n)) → KeeperStores z x i n (does x) tells → Allows (LoggedRuled y) slots id me i (λ _. n) (λ _ l. heard_by_keeper does tells st me n l)
 allows_store z y x slots id me i n does tells st same view is own may =
     subst (λ (m : Me ℕ Logged). Allows (LoggedRuled y) slots id m i (λ _. n) (λ _ l. heard_by_keeper does tells st m n l)) (sym is)
@@ -52,7 +52,7 @@ allows_store z y x slots id me i n does tells st same view is own may =
         let after = l.log ++ does u n in
         (record l { view = d.0; log = after }, keeps, tt, d.1, (((λ k. (record l { view = d.2.0 k; log = after }, [])), refl, d.2.1), own_log y u l s r id at))
 
-pub allows_reference : (z y : Settings) (x : ReferenceView) (slots id : ℕ) (me : Me ℕ Logged) (i : ℕ) (does : ReferenceView → ℕ → List Deed) (tells : ReferenceView → ℕ → Type 0) (st : Step ℕ)
+pub allows_reference : (z y : Settings) (x : ReferenceView) (slots id : ℕ) (me : Me ℕ Logged) (i : ℕ) (does : ReferenceView → ℕ → List LogItem) (tells : ReferenceView → ℕ → Type 0) (st : Step ℕ)
     → z ≡ y → x ≡ reference_of me.0.view → me ≡ (record me.0 { view = Reference (reference_of me.0.view) }, []) → ((n : ℕ) → AreBy another (does x n)) → ReferenceMay z x i (does x) tells → Allows (LoggedRuled y) slots id me i (λ n. n) (IsToldByReference does tells st me)
 allows_reference z y x slots id me i does tells st same view is own may =
     subst (λ (m : Me ℕ Logged). Allows (LoggedRuled y) slots id m i (λ n. n) (IsToldByReference does tells st m)) (sym is)
@@ -66,7 +66,7 @@ allows_reference z y x slots id me i does tells st same view is own may =
 
 -- Loads that hear
 
-pub allows_hearing : (z y : Settings) (x : CpuView) (slots id : ℕ) (me : Me ℕ Logged) (i : ℕ) (does : CpuView → ℕ → List Deed) (tells : CpuView → ℕ → CpuView → Type 0) (st : Step ℕ)
+pub allows_hearing : (z y : Settings) (x : CpuView) (slots id : ℕ) (me : Me ℕ Logged) (i : ℕ) (does : CpuView → ℕ → List LogItem) (tells : CpuView → ℕ → CpuView → Type 0) (st : Step ℕ)
     → z ≡ y → x ≡ cpu_of me.0.view → me ≡ (record me.0 { view = Cpu (cpu_of me.0.view) }, []) → ((n : ℕ) → AreBy (the_cpu x.id) (does x n)) → CpuMay z x i (λ n. n) (does x) tells → Allows (LoggedRuled y) slots id me i (λ n. n) (heard_by_cpu does tells st me)
 allows_hearing z y x slots id me i does tells st same view is own may =
     subst (λ (m : Me ℕ Logged). Allows (LoggedRuled y) slots id m i (λ n. n) (heard_by_cpu does tells st m)) (sym is)
@@ -76,9 +76,9 @@ allows_hearing z y x slots id me i does tells st same view is own may =
     by u l own may s r size at fits =
         let d = logged_hears y (record l { view = Cpu u }) i (λ n. n) (does u) (λ n w. (w ≡ Cpu (cpu_of w)) × tells u n (cpu_of w)) tt own may s r id at fits in
         let after = l.log ++ does u (slice_index s.words i) in
-        (record l { view = d.0; log = after; deeds = d.1 }, keeps, tt, d.2, ((λ k. (record l { view = d.3.0 k; log = after; deeds = d.1 }, [])), refl, d.3.1, d.4, subst (λ (ds : List Deed). IsShownAfter ds (Cpu u)) (sym d.5) (shown_after y (Cpu u) l s r id at)))
+        (record l { view = d.0; log = after; known_log = d.1 }, keeps, tt, d.2, ((λ k. (record l { view = d.3.0 k; log = after; known_log = d.1 }, [])), refl, d.3.1, d.4, subst (λ (ds : List LogItem). IsShownAfter ds (Cpu u)) (sym d.5) (shown_after y (Cpu u) l s r id at)))
 
-pub allows_keeper_hearing : (z y : Settings) (x : KeeperView) (slots id : ℕ) (me : Me ℕ Logged) (i : ℕ) (f : ℕ → ℕ) (does : KeeperView → ℕ → List Deed) (tells : KeeperView → ℕ → KeeperView → Type 0) (st : Step ℕ)
+pub allows_keeper_hearing : (z y : Settings) (x : KeeperView) (slots id : ℕ) (me : Me ℕ Logged) (i : ℕ) (f : ℕ → ℕ) (does : KeeperView → ℕ → List LogItem) (tells : KeeperView → ℕ → KeeperView → Type 0) (st : Step ℕ)
     → z ≡ y → x ≡ keeper_of me.0.view → me ≡ (record me.0 { view = Keeper (keeper_of me.0.view) }, []) → ((n : ℕ) → AreBy the_keeper (does x n)) → KeeperMay z x i f (does x) tells → Allows (LoggedRuled y) slots id me i f (heard_by_keeper does tells st me)
 allows_keeper_hearing z y x slots id me i f does tells st same view is own may =
     subst (λ (m : Me ℕ Logged). Allows (LoggedRuled y) slots id m i f (heard_by_keeper does tells st m)) (sym is)

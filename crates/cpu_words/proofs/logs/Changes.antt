@@ -18,16 +18,16 @@ use Rattle.protocol.specs.declared.event.Reply.TheVariants.{Done}
 use Rattle.protocol.specs.State.{State, opening, row_at, at_rest}
 use Rattle.protocol.specs.Events.{Outcome, guard, some_outcome, with_some, step, entry_of, unpublish, with_link_past, may_publish, after_publish, after_unpublish}
 use Rattle.protocol.specs.Invariant.{Holds}
-use Rattle.protocol.specs.Ran.{empty_run}
+use Rattle.protocol.specs.Run.{empty_run}
 use Rattle.protocol.specs.Laws.{after}
 use Rattle.protocol.proofs.history.History.{length-after_change}
 use Rattle.protocol.proofs.keeps.Keeping.{step_holds}
 use Rattle.protocol.proofs.runs.Steps.{Sort, Refused, Left, Entered, Exited, Sought, Heard, Searched, Published, Unpublished, Kept, Gave_up, Vacated, step_sort}
-use Rattle.cpu_words.specs.declared.view.Deed.{Deed}
+use Rattle.cpu_words.specs.declared.view.LogItem.{LogItem}
 use Rattle.cpu_words.specs.declared.view.Logged.{Logged}
 use Rattle.cpu_words.specs.Rule.{by_number}
 use Rattle.cpu_words.proofs.logs.Runs.{Follows, follows}
-use Rattle.cpu_words.specs.Deeds.{changes_of, changes_in}
+use Rattle.cpu_words.specs.KeeperLog.{changes_of, changes_in}
 use Rattle.cpu_words.specs.Logs.{part, maker, IsSeatOf, AreByOwn, LoggedRuled}
 
 -- One event
@@ -110,7 +110,7 @@ changes_off seat n i (Unpublish t) m is off = absurd (off is)
 changes_off seat n i e m is off = refl
 
 -- the keeper's part of the acts has all the changes
-pub counted : (seat : ℕ → ℕ) (n : ℕ) (s : State) (acts : List (ℕ × Deed)) (es : List Event) (t : State) → Follows s acts es t → Holds s → AreByOwn seat n acts → length t.history ≡ changes_in (part 0 acts) + length s.history
+pub counted : (seat : ℕ → ℕ) (n : ℕ) (s : State) (acts : List (ℕ × LogItem)) (es : List Event) (t : State) → Follows s acts es t → Holds s → AreByOwn seat n acts → length t.history ≡ changes_in (part 0 acts) + length s.history
 counted seat n s [] [] t is holds own = let size : length t.history ≡ length s.history = ap (λ (g : State). length g.history) is in omega arith
 counted seat n s [] (e ∷ es) t on holds own = absurd on
 counted seat n s (a ∷ more) [] t on holds own = absurd on
@@ -120,7 +120,7 @@ counted seat n s (a ∷ more) (e ∷ es) t on holds own =
     let grows : length o.state.history ≡ changes_of e (length s.history) = subst (Grows s e) on.1 (step_grows s e holds) in
     let c = changes_in (part 0 more) in
     let here : c + length o.state.history ≡ changes_of a.1.event c + length s.history =
-    ap (λ n. c + n) grows ∙ (sym (moves_past e c (length s.history)) ∙ (λ k. (sym (unnamed_changes s e c) ∙ ap (λ (d : Deed). changes_of d.event c) (sym on.2)) k + length s.history)) in
+    ap (λ n. c + n) grows ∙ (sym (moves_past e c (length s.history)) ∙ (λ k. (sym (unnamed_changes s e c) ∙ ap (λ (d : LogItem). changes_of d.event c) (sym on.2)) k + length s.history)) in
     ⊎_elim
     (λ (same : a.0 ≡ 0). rest ∙ (here ∙ sym (ap (λ (b : Bool). changes_in (cond b (a.1 ∷ part 0 more) (part 0 more)) + length s.history) (eq-eqb a.0 0 same))))
     (λ (off : a.0 ≢ 0). rest ∙ (here ∙ ((λ k. changes_off seat n a.0 a.1.event c own.0 off k + length s.history) ∙ sym (ap (λ (b : Bool). changes_in (cond b (a.1 ∷ part 0 more) (part 0 more)) + length s.history) (ne_eqb a.0 0 off)))))

@@ -34,13 +34,13 @@ use Rattle.protocol.proofs.keeps.References.{snapshot_due_tells}
 use Rattle.protocol.proofs.keeps.Unlinking.{within_live, within_retired}
 use Rattle.protocol.proofs.slots.Cells.{by_cell, cell_cases, cell_here, cell_in_old, cell_other, get_or_all}
 use Rattle.protocol.proofs.slots.Occupied.{is_retired_tells, slot_cases, slot_has}
-use Rattle.cpu_words.specs.declared.view.Deed.{Deed}
+use Rattle.cpu_words.specs.declared.view.LogItem.{LogItem}
 use Rattle.cpu_words.specs.Rule.{by_number, reply_without_id}
-use Rattle.cpu_words.specs.Deeds.{changes_of, changes_in, occupant_after, occupant_from, occupant, replied, word_after, word_from, word_collected, occupant_of, word_if, is_drawn, word_in, AreCountsOf}
+use Rattle.cpu_words.specs.KeeperLog.{changes_of, changes_in, occupant_after, occupant_from, occupant, replied, word_after, word_from, word_collected, occupant_of, word_if, is_drawn, word_in, AreCountsOf}
 use Rattle.cpu_words.specs.Logs.{maker, IsSeatOf}
 use Rattle.cpu_words.proofs.logs.Changes.{moves_past}
 use Rattle.cpu_words.proofs.logs.Marks.{fresh}
-use Rattle.cpu_words.proofs.logs.Runs.{deed_of}
+use Rattle.cpu_words.proofs.logs.Runs.{item_of}
 
 -- One event
 
@@ -352,7 +352,7 @@ step_counted s (KeptSub t) on = on_some s (KeptSub t) (kept_at s.keeps t) _ (λ 
     (λ may. vacated_does s (Events.after_kept_sub s t u) t on (and_parts (Events.is_iface_slot (slot_at s.slots t)) (is_drained s t) may).1 refl refl refl)))
 step_counted s (Vacate t) on = on_made s (Vacate t) (Events.may_vacate s t) _ _ (λ may. vacated_does s (Events.after_vacate s t) t on (and_parts _ (is_drained s t) may).1 refl refl refl)
 
--- A log with one deed more
+-- A log with one item more
 
 unnamed_occupant : (u n : ℕ) (s : State) (e : Event) (x : Option ℕ) → occupant_after u n (by_number s e) x ≡ occupant_after u n e x
 unnamed_occupant u n s (Publish t) x = refl
@@ -366,30 +366,30 @@ unnamed_word : (u d : ℕ) (s : State) (e : Event) (r : Reply) (x : Option ℕ) 
 unnamed_word u d s (Collect t c) r x = ap (λ (w : Option ℕ). if t == u && c == d then w else x) (same_replied r)
 unnamed_word u d s e r x = refl
 
-occupant_both : (t n : ℕ) (x : Option ℕ) (a b : List Deed) → occupant_from t n x (a ++ b) ≡ occupant_from t (changes_in a + n) (occupant_from t n x a) b
+occupant_both : (t n : ℕ) (x : Option ℕ) (a b : List LogItem) → occupant_from t n x (a ++ b) ≡ occupant_from t (changes_in a + n) (occupant_from t n x a) b
 occupant_both t n x [] b = let same : n ≡ 0 + n = omega arith in ap (λ (m : ℕ). occupant_from t m x b) same
 occupant_both t n x (d ∷ ds) b =
     occupant_both t (changes_of d.event n) (occupant_after t n d.event x) ds b ∙ ap (λ (m : ℕ). occupant_from t m (occupant_from t (changes_of d.event n) (occupant_after t n d.event x) ds) b) (sym (moves_past d.event (changes_in ds) n))
 
-occupant_last : (t : ℕ) (log : List Deed) (d : Deed) → occupant t (log ++ d ∷ []) ≡ occupant_after t (changes_in log) d.event (occupant t log)
+occupant_last : (t : ℕ) (log : List LogItem) (d : LogItem) → occupant t (log ++ d ∷ []) ≡ occupant_after t (changes_in log) d.event (occupant t log)
 occupant_last t log d = let same : changes_in log + 0 ≡ changes_in log = omega arith in occupant_both t 0 None log (d ∷ []) ∙ ap (λ (m : ℕ). occupant_after t m d.event (occupant t log)) same
 
-word_both : (t c : ℕ) (x : Option ℕ) (a b : List Deed) → word_from t c x (a ++ b) ≡ word_from t c (word_from t c x a) b
+word_both : (t c : ℕ) (x : Option ℕ) (a b : List LogItem) → word_from t c x (a ++ b) ≡ word_from t c (word_from t c x a) b
 word_both t c x [] b = refl
 word_both t c x (d ∷ ds) b = word_both t c (word_after t c d.event d.reply x) ds b
 
--- by the keeper's next deed
+-- by the keeper's next item
 
-pub occupant_next : (t : ℕ) (log : List Deed) (s : State) (e : Event) (r : Reply) → occupant t (log ++ deed_of s e r ∷ []) ≡ occupant_after t (changes_in log) e (occupant t log)
-occupant_next t log s e r = occupant_last t log (deed_of s e r) ∙ unnamed_occupant t (changes_in log) s e (occupant t log)
+pub occupant_next : (t : ℕ) (log : List LogItem) (s : State) (e : Event) (r : Reply) → occupant t (log ++ item_of s e r ∷ []) ≡ occupant_after t (changes_in log) e (occupant t log)
+occupant_next t log s e r = occupant_last t log (item_of s e r) ∙ unnamed_occupant t (changes_in log) s e (occupant t log)
 
-pub word_next : (t c : ℕ) (log : List Deed) (s : State) (e : Event) (r : Reply) → word_collected t c (log ++ deed_of s e r ∷ []) ≡ word_after t c e r (word_collected t c log)
-word_next t c log s e r = word_both t c None log (deed_of s e r ∷ []) ∙ unnamed_word t c s e r (word_collected t c log)
+pub word_next : (t c : ℕ) (log : List LogItem) (s : State) (e : Event) (r : Reply) → word_collected t c (log ++ item_of s e r ∷ []) ≡ word_after t c e r (word_collected t c log)
+word_next t c log s e r = word_both t c None log (item_of s e r ∷ []) ∙ unnamed_word t c s e r (word_collected t c log)
 
 -- The walk
 
--- the keeper's next deed
-pub counts_own : (log : List Deed) (s : State) (e : Event) (o : Outcome) → Holds s → step s e ≡ Some o → length s.history ≡ changes_in log → AreCountsOf log s → AreCountsOf (log ++ deed_of s e o.reply ∷ []) o.state
+-- the keeper's next item
+pub counts_own : (log : List LogItem) (s : State) (e : Event) (o : Outcome) → Holds s → step s e ≡ Some o → length s.history ≡ changes_in log → AreCountsOf log s → AreCountsOf (log ++ item_of s e o.reply ∷ []) o.state
 counts_own log s e o on made changes are =
     let does : Counted s e (Some o) = subst (Counted s e) made (step_counted s e on) in record {
       occupants = λ t. occupant_next t log s e o.reply ∙ ((λ k. occupant_after t (sym changes k) e (are.occupants t k)) ∙ sym (does.0 t));
@@ -409,7 +409,7 @@ word_off seat n i u d s (Vacate t) r x is off = absurd (off is)
 word_off seat n i u d s e r x is off = refl
 
 -- an event of another seat
-pub counts_off : (seat : ℕ → ℕ) (n i : ℕ) (log : List Deed) (s : State) (e : Event) (o : Outcome) → IsSeatOf seat n i (maker (by_number s e)) → (i ≡ 0 → ⊥) → Holds s → step s e ≡ Some o → AreCountsOf log s → AreCountsOf log o.state
+pub counts_off : (seat : ℕ → ℕ) (n i : ℕ) (log : List LogItem) (s : State) (e : Event) (o : Outcome) → IsSeatOf seat n i (maker (by_number s e)) → (i ≡ 0 → ⊥) → Holds s → step s e ≡ Some o → AreCountsOf log s → AreCountsOf log o.state
 counts_off seat n i log s e o is off on made are =
     let does : Counted s e (Some o) = subst (Counted s e) made (step_counted s e on) in record {
       occupants = λ t. are.occupants t ∙ sym (does.0 t ∙ occupant_off seat n i t (length s.history) s e (occupant_of (slot_at s.slots t)) is off);

@@ -13,13 +13,13 @@ use Rattle.registry_values.specs.Slots.{slot_at, slot_of}
 use Rattle.protocol.proofs.keeps.ListKeeps.{may_write_tells}
 use Rattle.protocol.proofs.keeps.Searching.{within_some}
 use Rattle.protocol.proofs.runs.Steps.{Sort, Refused, Left, Entered, Exited, Sought, Heard, Searched, Published, Unpublished, Kept, Gave_up, Vacated, step_sort}
-use Rattle.cpu_words.specs.declared.view.Deed.{Deed}
+use Rattle.cpu_words.specs.declared.view.LogItem.{LogItem}
 use Rattle.cpu_words.specs.Rule.{number_or_none, by_number}
-use Rattle.cpu_words.specs.Deeds.{keeps_next, keeping_from, keeping}
+use Rattle.cpu_words.specs.KeeperLog.{keeps_next, keeping_from, keeping}
 use Rattle.cpu_words.specs.Logs.{maker, IsSeatOf}
-use Rattle.cpu_words.proofs.logs.Runs.{deed_of}
+use Rattle.cpu_words.proofs.logs.Runs.{item_of}
 
-keeping_both : (t : ℕ) (x : Option ℕ) (a b : List Deed) → keeping_from t x (a ++ b) ≡ keeping_from t (keeping_from t x a) b
+keeping_both : (t : ℕ) (x : Option ℕ) (a b : List LogItem) → keeping_from t x (a ++ b) ≡ keeping_from t (keeping_from t x a) b
 keeping_both t x [] b = refl
 keeping_both t x (d ∷ ds) b = keeping_both t (keeps_next t d.event x) ds b
 
@@ -51,7 +51,7 @@ next_left t s e x other = refl
 
 -- One event
 
--- the slot keeps after the outcome, if there is one, what the deed says
+-- the slot keeps after the outcome, if there is one, what the item says
 abbrev pub KeepsOn : ℕ → State → Event → Option Outcome → Type 0
 KeepsOn t s e None = Unit {0}
 KeepsOn t s e (Some o) = kept_at o.state.keeps t ≡ keeps_next t (by_number s e) (kept_at s.keeps t)
@@ -80,10 +80,10 @@ keeps_on t s (KeptSub u) o on made = subst (KeepsOn t s (KeptSub u)) made (on_so
     on_guard t s (KeptSub u) (is_iface_slot (slot_at s.slots u) && is_drained s u) (some_outcome (after_kept_sub s u v) Done) (λ may. written s.keeps u t None (within_some s.keeps u d is)))))
 keeps_on t s e o on made = ap (λ (k : List (Option ℕ)). kept_at k t) (kept_left s e (step s e) (step_sort s e on) refl o made) ∙ sym (next_left t s e (kept_at s.keeps t) refl)
 
--- The keeper's next deed, and one of another seat
+-- The keeper's next item, and one of another seat
 
-pub kept_own : (log : List Deed) (s : State) (e : Event) (o : Outcome) → Holds s → step s e ≡ Some o → ((t : ℕ) → kept_at s.keeps t ≡ keeping t log) → (t : ℕ) → kept_at o.state.keeps t ≡ keeping t (log ++ deed_of s e o.reply ∷ [])
-kept_own log s e o on made kept t = keeps_on t s e o on made ∙ (ap (keeps_next t (by_number s e)) (kept t) ∙ sym (keeping_both t None log (deed_of s e o.reply ∷ [])))
+pub kept_own : (log : List LogItem) (s : State) (e : Event) (o : Outcome) → Holds s → step s e ≡ Some o → ((t : ℕ) → kept_at s.keeps t ≡ keeping t log) → (t : ℕ) → kept_at o.state.keeps t ≡ keeping t (log ++ item_of s e o.reply ∷ [])
+kept_own log s e o on made kept t = keeps_on t s e o on made ∙ (ap (keeps_next t (by_number s e)) (kept t) ∙ sym (keeping_both t None log (item_of s e o.reply ∷ [])))
 
 pub kept_off : (seat : ℕ → ℕ) (n i : ℕ) (s : State) (e : Event) (o : Outcome) → IsSeatOf seat n i (maker (by_number s e)) → i ≢ 0 → Holds s → step s e ≡ Some o → o.state.keeps ≡ s.keeps
 kept_off seat n i s (Keep t id) o is off on made = absurd (off is)

@@ -16,16 +16,16 @@ use Rattle.protocol.specs.Invariant.{Holds, DueHolds}
 use Rattle.protocol.proofs.keeps.Unlinking.{within_retired}
 use Rattle.protocol.proofs.slots.Cells.{cell_cases, cell_other}
 use Rattle.protocol.proofs.slots.MarkRows.{mark_there}
-use Rattle.cpu_words.specs.declared.view.Deed.{Deed}
+use Rattle.cpu_words.specs.declared.view.LogItem.{LogItem}
 use Rattle.cpu_words.specs.Rule.{by_number}
-use Rattle.cpu_words.specs.Deeds.{changes_of, changes_in, AreCountsOf, AreTotalsOf, AreMarksOf, AreSlotsOf, keeping}
+use Rattle.cpu_words.specs.KeeperLog.{changes_of, changes_in, AreCountsOf, AreTotalsOf, AreMarksOf, AreSlotsOf, keeping}
 use Rattle.cpu_words.specs.Logs.{maker, IsSeatOf}
 use Rattle.cpu_words.proofs.logs.Changes.{Grows, step_grows, unnamed_changes}
 use Rattle.cpu_words.proofs.logs.Kept.{kept_own, kept_off}
 use Rattle.cpu_words.proofs.logs.Counted.{counts_own, counts_off, no_counts}
 use Rattle.cpu_words.proofs.logs.Dues.{DueAfter, Dues, step_dues}
 use Rattle.cpu_words.proofs.logs.Marks.{Marks, IsFirst, marks_after, step_marks, marks_off, fresh, more_marks, no_marks}
-use Rattle.cpu_words.proofs.logs.Runs.{deed_of}
+use Rattle.cpu_words.proofs.logs.Runs.{item_of}
 use Rattle.cpu_words.proofs.logs.Slots.{slots_own, slots_off, no_slots}
 use Rattle.cpu_words.proofs.logs.Standings.{changes_last}
 use Rattle.cpu_words.proofs.logs.Totalled.{totals_own, totals_off, no_totals}
@@ -35,7 +35,7 @@ use Rattle.cpu_words.proofs.logs.Walks.{Stays}
 abbrev pub NoneAhead : Due → List (List Mark) → Type 0
 NoneAhead due marks = (t c j : ℕ) → due ≡ Snapshots t c → c ≤ j → (mark_at marks t j).snapshot ≡ None
 
-pub record Known (cpus : ℕ) (log : List Deed) (s : State) : Type 0 where
+pub record Known (cpus : ℕ) (log : List LogItem) (s : State) : Type 0 where
   pub settings : s.settings.cpus ≡ cpus
   pub changes : length s.history ≡ changes_in log
   pub marks : AreMarksOf log s.marks
@@ -96,12 +96,12 @@ first_taken s e n on due none = tt
 
 -- The walk
 
-known_own : (cpus : ℕ) (log : List Deed) (s : State) (e : Event) (o : Outcome) → Holds s → step s e ≡ Some o → Known cpus log s → Known cpus (log ++ deed_of s e o.reply ∷ []) o.state
+known_own : (cpus : ℕ) (log : List LogItem) (s : State) (e : Event) (o : Outcome) → Holds s → step s e ≡ Some o → Known cpus log s → Known cpus (log ++ item_of s e o.reply ∷ []) o.state
 known_own cpus log s e o on made known =
     let dues : Dues s e (Some o) = subst (Dues s e) made (step_dues s e) in
     let marks : Marks s e (Some o) = subst (Marks s e) made (step_marks s e) in
     let grows : length o.state.history ≡ changes_of e (length s.history) = subst (Grows s e) made (step_grows s e on) in
-    let d : Deed = deed_of s e o.reply in
+    let d : LogItem = item_of s e o.reply in
     let slots : AreSlotsOf s.settings.cpus log s.slots = subst (λ (n : ℕ). AreSlotsOf n log s.slots) (sym known.settings) known.slots in
     record {
       settings = ap (λ (z : Settings). z.cpus) dues.0 ∙ known.settings;
@@ -125,7 +125,7 @@ due_off seat n i s (Snapshot None c) t is off due = due
 due_off seat n i s (Snapshot (Some v) c) t is off due = absurd (off is)
 due_off seat n i s e t is off due = due
 
-known_off : (seat : ℕ → ℕ) (n cpus i : ℕ) (log : List Deed) (s : State) (e : Event) (o : Outcome) → IsSeatOf seat n i (maker (by_number s e)) → i ≢ 0 → Holds s → step s e ≡ Some o → Known cpus log s → Known cpus log o.state
+known_off : (seat : ℕ → ℕ) (n cpus i : ℕ) (log : List LogItem) (s : State) (e : Event) (o : Outcome) → IsSeatOf seat n i (maker (by_number s e)) → i ≢ 0 → Holds s → step s e ≡ Some o → Known cpus log s → Known cpus log o.state
 known_off seat n cpus i log s e o is off on made known =
     let dues : Dues s e (Some o) = subst (Dues s e) made (step_dues s e) in
     let marks : Marks s e (Some o) = subst (Marks s e) made (step_marks s e) in

@@ -1,4 +1,4 @@
--- What a run does to the section of each CPU, where a deed of a seat stands in it, and what a deed that loads a section word tells of the state.
+-- What a run does to the section of each CPU, where an item of a seat stands in it, and what an item that loads a section word tells of the state.
 use Rattle.std.proofs.Common.{◌≡◌, ◌≢◌, ◌⊎◌, inl, inr, ⊎_elim, ℕ, suc, ◌+◌, ◌*◌, ◌<◌, ◌≤◌, ◌==◌, ◌&&◌, Bool, true, false, cond, nat_lt, List, [], ◌∷◌, ◌++◌, length, set, get_or, Option, Some, None, eq-eqb, ne_eqb, refl, sym, ap, ◌∙◌, subst, length-append, get_or-set_same, get_or-set_other, arith}
 use Rattle.std.proofs.lemmas.Bool.{and_parts, cases_eq}
 use Rattle.std.proofs.lemmas.Option.{none-some, same_Some}
@@ -14,12 +14,12 @@ use Rattle.protocol.specs.Invariant.{Holds}
 use Rattle.protocol.proofs.keeps.Keeping.{step_holds}
 use Rattle.protocol.proofs.keeps.SectionKeeps.{idle_parts}
 use Rattle.protocol.proofs.runs.Steps.{Sort, Refused, Left, Entered, Exited, Sought, Heard, Searched, Published, Unpublished, Kept, Gave_up, Vacated, step_sort}
-use Rattle.cpu_words.specs.declared.view.Deed.{Deed}
+use Rattle.cpu_words.specs.declared.view.LogItem.{LogItem}
 use Rattle.cpu_words.specs.Rule.{by_number, reply_without_id}
-use Rattle.cpu_words.specs.Deeds.{changes_of, has_taken, has_found}
+use Rattle.cpu_words.specs.KeeperLog.{changes_of, has_taken, has_found}
 use Rattle.cpu_words.specs.Logs.{part}
 use Rattle.cpu_words.proofs.logs.Changes.{Grows, step_grows, changes_up}
-use Rattle.cpu_words.proofs.logs.Runs.{deed_of, Follows, same_first, same_rest}
+use Rattle.cpu_words.proofs.logs.Runs.{item_of, Follows, same_first, same_rest}
 
 -- What an event does to the section of a CPU
 
@@ -102,7 +102,7 @@ since_on c s m t le first second = (
 )
 
 -- a run
-pub run_since : (c : ℕ) (s : State) (acts : List (ℕ × Deed)) (es : List Event) (t : State) → Follows s acts es t → Holds s → Since c s t × (length s.history ≤ length t.history)
+pub run_since : (c : ℕ) (s : State) (acts : List (ℕ × LogItem)) (es : List Event) (t : State) → Follows s acts es t → Holds s → Since c s t × (length s.history ≤ length t.history)
 run_since c s [] [] t is on = (since_same c s t (ap (λ (g : State). section_at g c) is, ap (λ (g : State). begin_at g c) is), let n : length t.history ≡ length s.history = ap (λ (g : State). length g.history) is in omega arith)
 run_since c s [] (e ∷ es) t run on = absurd run
 run_since c s (a ∷ more) [] t run on = absurd run
@@ -116,71 +116,71 @@ run_since c s (a ∷ more) (e ∷ es) t run on =
     let le' = rest.1 in
     (since_on c s o.state t le first rest.0, omega arith)
 
--- Where a deed of a seat stands among all acts
+-- Where an item of a seat stands among all acts
 
-pub record Placed (i : ℕ) (acts : List (ℕ × Deed)) (d : Deed) (later : List Deed) : Type 0 where
-  pub first : List (ℕ × Deed)
-  pub second : List (ℕ × Deed)
+pub record Placed (i : ℕ) (acts : List (ℕ × LogItem)) (d : LogItem) (later : List LogItem) : Type 0 where
+  pub first : List (ℕ × LogItem)
+  pub second : List (ℕ × LogItem)
   pub are : acts ≡ first ++ (i, d) ∷ second
   pub rest : part i second ≡ later
 
-pub no_place : (a b : List Deed) (d : Deed) → [] ≡ a ++ d ∷ b → ⊥
-no_place a b d is = let size : 0 ≡ length (a ++ d ∷ b) = ap (λ (l : List Deed). length l) is in omega (arith, size, length-append a (d ∷ b))
+pub no_place : (a b : List LogItem) (d : LogItem) → [] ≡ a ++ d ∷ b → ⊥
+no_place a b d is = let size : 0 ≡ length (a ++ d ∷ b) = ap (λ (l : List LogItem). length l) is in omega (arith, size, length-append a (d ∷ b))
 
-pub part_same : (i : ℕ) (x : ℕ × Deed) (more : List (ℕ × Deed)) → x.0 ≡ i → part i (x ∷ more) ≡ x.1 ∷ part i more
+pub part_same : (i : ℕ) (x : ℕ × LogItem) (more : List (ℕ × LogItem)) → x.0 ≡ i → part i (x ∷ more) ≡ x.1 ∷ part i more
 part_same i x more same = ap (λ (b : Bool). cond b (x.1 ∷ part i more) (part i more)) (eq-eqb x.0 i same)
 
-pub part_off : (i : ℕ) (x : ℕ × Deed) (more : List (ℕ × Deed)) → x.0 ≢ i → part i (x ∷ more) ≡ part i more
+pub part_off : (i : ℕ) (x : ℕ × LogItem) (more : List (ℕ × LogItem)) → x.0 ≢ i → part i (x ∷ more) ≡ part i more
 part_off i x more off = ap (λ (b : Bool). cond b (x.1 ∷ part i more) (part i more)) (ne_eqb x.0 i off)
 
-pub one_more : (i : ℕ) (x : ℕ × Deed) (more : List (ℕ × Deed)) (d : Deed) (later : List Deed) → Placed i more d later → Placed i (x ∷ more) d later
-one_more i x more d later p = record { first = x ∷ p.first; second = p.second; are = ap (λ (l : List (ℕ × Deed)). x ∷ l) p.are; rest = p.rest }
+pub one_more : (i : ℕ) (x : ℕ × LogItem) (more : List (ℕ × LogItem)) (d : LogItem) (later : List LogItem) → Placed i more d later → Placed i (x ∷ more) d later
+one_more i x more d later p = record { first = x ∷ p.first; second = p.second; are = ap (λ (l : List (ℕ × LogItem)). x ∷ l) p.are; rest = p.rest }
 
-pub place_here : (i : ℕ) (x : ℕ × Deed) (more : List (ℕ × Deed)) (a b : List Deed) (d : Deed) → x.0 ≡ i → x.1 ∷ part i more ≡ a ++ d ∷ b → ((y : Deed) (c : List Deed) → part i more ≡ c ++ d ∷ b → Placed i more d b) → Placed i (x ∷ more) d b
+pub place_here : (i : ℕ) (x : ℕ × LogItem) (more : List (ℕ × LogItem)) (a b : List LogItem) (d : LogItem) → x.0 ≡ i → x.1 ∷ part i more ≡ a ++ d ∷ b → ((y : LogItem) (c : List LogItem) → part i more ≡ c ++ d ∷ b → Placed i more d b) → Placed i (x ∷ more) d b
 place_here i x more [] b d same is go = record {
   first = [];
   second = more;
-  are = ap (λ (y : ℕ × Deed). y ∷ more) (λ k. (same k, same_first x.1 d (part i more) b is k));
+  are = ap (λ (y : ℕ × LogItem). y ∷ more) (λ k. (same k, same_first x.1 d (part i more) b is k));
   rest = same_rest x.1 d (part i more) b is;
 }
 place_here i x more (y ∷ c) b d same is go = one_more i x more d b (go y c (same_rest x.1 y (part i more) (c ++ d ∷ b) is))
 
-pub place : (i : ℕ) (acts : List (ℕ × Deed)) (a b : List Deed) (d : Deed) → part i acts ≡ a ++ d ∷ b → Placed i acts d b
+pub place : (i : ℕ) (acts : List (ℕ × LogItem)) (a b : List LogItem) (d : LogItem) → part i acts ≡ a ++ d ∷ b → Placed i acts d b
 place i [] a b d is = absurd (no_place a b d is)
 place i (x ∷ more) a b d is = ⊎_elim
     (λ (same : x.0 ≡ i). place_here i x more a b d same (sym (part_same i x more same) ∙ is) (λ y c rest. place i more c b d rest))
     (λ (off : x.0 ≢ i). one_more i x more d b (place i more a b d (sym (part_off i x more off) ∙ is)))
     (cases_eq x.0 i)
 
-pub record Halved (i : ℕ) (acts : List (ℕ × Deed)) (a b : List Deed) : Type 0 where
-  pub first : List (ℕ × Deed)
-  pub second : List (ℕ × Deed)
+pub record Halved (i : ℕ) (acts : List (ℕ × LogItem)) (a b : List LogItem) : Type 0 where
+  pub first : List (ℕ × LogItem)
+  pub second : List (ℕ × LogItem)
   pub are : acts ≡ first ++ second
   pub mine : part i first ≡ a
   pub rest : part i second ≡ b
 
-pub halve_on : (i : ℕ) (x : ℕ × Deed) (more : List (ℕ × Deed)) (d : Deed) (a b : List Deed) → x.0 ≡ i → x.1 ≡ d → Halved i more a b → Halved i (x ∷ more) (d ∷ a) b
+pub halve_on : (i : ℕ) (x : ℕ × LogItem) (more : List (ℕ × LogItem)) (d : LogItem) (a b : List LogItem) → x.0 ≡ i → x.1 ≡ d → Halved i more a b → Halved i (x ∷ more) (d ∷ a) b
 halve_on i x more d a b same is p = record {
   first = x ∷ p.first;
   second = p.second;
-  are = ap (λ (l : List (ℕ × Deed)). x ∷ l) p.are;
+  are = ap (λ (l : List (ℕ × LogItem)). x ∷ l) p.are;
   mine = part_same i x p.first same ∙ (λ k. is k ∷ p.mine k);
   rest = p.rest;
 }
 
-pub halve_past : (i : ℕ) (x : ℕ × Deed) (more : List (ℕ × Deed)) (a b : List Deed) → x.0 ≢ i → Halved i more a b → Halved i (x ∷ more) a b
-halve_past i x more a b off p = record { first = x ∷ p.first; second = p.second; are = ap (λ (l : List (ℕ × Deed)). x ∷ l) p.are; mine = part_off i x p.first off ∙ p.mine; rest = p.rest }
+pub halve_past : (i : ℕ) (x : ℕ × LogItem) (more : List (ℕ × LogItem)) (a b : List LogItem) → x.0 ≢ i → Halved i more a b → Halved i (x ∷ more) a b
+halve_past i x more a b off p = record { first = x ∷ p.first; second = p.second; are = ap (λ (l : List (ℕ × LogItem)). x ∷ l) p.are; mine = part_off i x p.first off ∙ p.mine; rest = p.rest }
 
 -- the acts until the seat had done just a
-pub halve : (i : ℕ) (acts : List (ℕ × Deed)) (a b : List Deed) → part i acts ≡ a ++ b → Halved i acts a b
+pub halve : (i : ℕ) (acts : List (ℕ × LogItem)) (a b : List LogItem) → part i acts ≡ a ++ b → Halved i acts a b
 halve i acts [] b is = record { first = []; second = acts; are = refl; mine = refl; rest = is }
-halve i [] (d ∷ a) b is = absurd (let size : 0 ≡ suc (length (a ++ b)) = ap (λ (l : List Deed). length l) is in omega arith)
+halve i [] (d ∷ a) b is = absurd (let size : 0 ≡ suc (length (a ++ b)) = ap (λ (l : List LogItem). length l) is in omega arith)
 halve i (x ∷ more) (d ∷ a) b is = ⊎_elim
     (λ (same : x.0 ≡ i). let both = sym (part_same i x more same) ∙ is in halve_on i x more d a b same (same_first x.1 d (part i more) (a ++ b) both) (halve i more a b (same_rest x.1 d (part i more) (a ++ b) both)))
     (λ (off : x.0 ≢ i). halve_past i x more (d ∷ a) b off (halve i more (d ∷ a) b (sym (part_off i x more off) ∙ is)))
     (cases_eq x.0 i)
 
--- What a deed that loads a section word tells of the state
+-- What an item that loads a section word tells of the state
 
 -- the event has no id
 abbrev pub is_whole : Event → Bool
@@ -214,24 +214,24 @@ loaded true s w o is = let same = sym (same_Some _ o is) in (ap (λ (p : Outcome
 loaded false s w o is = absurd (none-some o is)
 
 -- the state stays, and its word of c is the one found
-pub word_taken : (s : State) (e : Event) (o : Outcome) (c w : ℕ) → step s e ≡ Some o → has_taken c w ≡ deed_of s e o.reply → (o.state ≡ s) × (section_at s c ≡ w)
+pub word_taken : (s : State) (e : Event) (o : Outcome) (c w : ℕ) → step s e ≡ Some o → has_taken c w ≡ item_of s e o.reply → (o.state ≡ s) × (section_at s c ≡ w)
 word_taken s e o c w made is =
-    let same : Snapshot None c ≡ e = same_event s e (Snapshot None c) (ap (λ (d : Deed). d.event) is) refl in
+    let same : Snapshot None c ≡ e = same_event s e (Snapshot None c) (ap (λ (d : LogItem). d.event) is) refl in
     let p = loaded (may_glance s c) s (section_at s c) o (ap (step s) same ∙ made) in
-    (p.0, sym (replied_word o.reply w (ap (λ (d : Deed). d.reply) is) ∙ p.1))
+    (p.0, sym (replied_word o.reply w (ap (λ (d : LogItem). d.reply) is) ∙ p.1))
 
-pub word_found : (s : State) (e : Event) (o : Outcome) (c w : ℕ) → step s e ≡ Some o → has_found c w ≡ deed_of s e o.reply → (o.state ≡ s) × (section_at s c ≡ w)
+pub word_found : (s : State) (e : Event) (o : Outcome) (c w : ℕ) → step s e ≡ Some o → has_found c w ≡ item_of s e o.reply → (o.state ≡ s) × (section_at s c ≡ w)
 word_found s e o c w made is =
-    let same : Look None c ≡ e = same_event s e (Look None c) (ap (λ (d : Deed). d.event) is) refl in
+    let same : Look None c ≡ e = same_event s e (Look None c) (ap (λ (d : LogItem). d.event) is) refl in
     let p = loaded (may_glance s c) s (section_at s c) o (ap (step s) same ∙ made) in
-    (p.0, sym (replied_word o.reply w (ap (λ (d : Deed). d.reply) is) ∙ p.1))
+    (p.0, sym (replied_word o.reply w (ap (λ (d : LogItem). d.reply) is) ∙ p.1))
 
--- A run that begins with such a deed
+-- A run that begins with such an item
 
-pub starts_taken : (s : State) (c w : ℕ) (more : List (ℕ × Deed)) (es : List Event) (t : State) → Follows s ((0, has_taken c w) ∷ more) es t → section_at s c ≡ w
+pub starts_taken : (s : State) (c w : ℕ) (more : List (ℕ × LogItem)) (es : List Event) (t : State) → Follows s ((0, has_taken c w) ∷ more) es t → section_at s c ≡ w
 starts_taken s c w more [] t run = absurd run
 starts_taken s c w more (e ∷ es) t run = (word_taken s e run.0 c w run.1 run.2).1
 
-pub starts_found : (s : State) (c w : ℕ) (more : List (ℕ × Deed)) (es : List Event) (t : State) → Follows s ((0, has_found c w) ∷ more) es t → section_at s c ≡ w
+pub starts_found : (s : State) (c w : ℕ) (more : List (ℕ × LogItem)) (es : List Event) (t : State) → Follows s ((0, has_found c w) ∷ more) es t → section_at s c ≡ w
 starts_found s c w more [] t run = absurd run
 starts_found s c w more (e ∷ es) t run = (word_found s e run.0 c w run.1 run.2).1

@@ -8,40 +8,40 @@ use lib.ListN.{get_elem?}
 use Rattle.atomic_table.specs.Table.{State as Table, Splits, Joins, keeps, stepped}
 use Rattle.atomic_table.proofs.Lists.{at_set, at_map}
 use Rattle.registry_values.specs.declared.settings.Settings.{Settings}
-use Rattle.cpu_words.specs.declared.view.Deed.{Deed}
+use Rattle.cpu_words.specs.declared.view.LogItem.{LogItem}
 use Rattle.cpu_words.specs.declared.view.Logged.{Logged}
 use Rattle.cpu_words.specs.declared.view.View.{View}
 use Rattle.cpu_words.specs.declared.view.View.TheVariants.{Keeper, Cpu, Reference, Note, Spent}
 use Rattle.cpu_words.specs.Views.{Shown}
 use Rattle.protocol.specs.State.{State}
-use Rattle.cpu_words.specs.Rule.{Sits, GoesOn, deeds}
+use Rattle.cpu_words.specs.Rule.{Sits, GoesOn, log_of_events}
 use Rattle.cpu_words.specs.Steps.{Moves, SplitsOn, JoinsOn}
-use Rattle.cpu_words.specs.Logs.{plain, part, IsStanding, Maker, the_keeper, the_cpu, another, maker, who, AreBy, IsSeatOf, AreByOwn, Knows, LoggedRuled}
-use Rattle.cpu_words.specs.Deeds.{HasHeardDeeds}
+use Rattle.cpu_words.specs.Logs.{without_logs, part, IsStanding, Maker, the_keeper, the_cpu, another, maker, who, AreBy, IsSeatOf, AreByOwn, Knows, LoggedRuled}
+use Rattle.cpu_words.specs.KeeperLog.{KnownLogGrows}
 
 -- what the seat i did more
-abbrev by_seat : ℕ → List Deed → List (ℕ × Deed)
-by_seat i ds = map (λ (d : Deed). (i, d)) ds
+abbrev by_seat : ℕ → List LogItem → List (ℕ × LogItem)
+by_seat i ds = map (λ (d : LogItem). (i, d)) ds
 
-cond_append : (b : Bool) (d : Deed) (x y : List Deed) → cond b (d ∷ (x ++ y)) (x ++ y) ≡ cond b (d ∷ x) x ++ y
+cond_append : (b : Bool) (d : LogItem) (x y : List LogItem) → cond b (d ∷ (x ++ y)) (x ++ y) ≡ cond b (d ∷ x) x ++ y
 cond_append true d x y = refl
 cond_append false d x y = refl
 
-pub part_append : (i : ℕ) (a b : List (ℕ × Deed)) → part i (a ++ b) ≡ part i a ++ part i b
+pub part_append : (i : ℕ) (a b : List (ℕ × LogItem)) → part i (a ++ b) ≡ part i a ++ part i b
 part_append i [] b = refl
-part_append i (x ∷ xs) b = ap (λ (l : List Deed). cond (x.0 == i) (x.1 ∷ l) l) (part_append i xs b) ∙ cond_append (x.0 == i) x.1 (part i xs) (part i b)
+part_append i (x ∷ xs) b = ap (λ (l : List LogItem). cond (x.0 == i) (x.1 ∷ l) l) (part_append i xs b) ∙ cond_append (x.0 == i) x.1 (part i xs) (part i b)
 
-part_own : (i : ℕ) (ds : List Deed) → part i (by_seat i ds) ≡ ds
+part_own : (i : ℕ) (ds : List LogItem) → part i (by_seat i ds) ≡ ds
 part_own i [] = refl
-part_own i (d ∷ ds) = ap (λ (b : Bool). cond b (d ∷ part i (by_seat i ds)) (part i (by_seat i ds))) (eq-eqb i i refl) ∙ ap (λ (l : List Deed). d ∷ l) (part_own i ds)
+part_own i (d ∷ ds) = ap (λ (b : Bool). cond b (d ∷ part i (by_seat i ds)) (part i (by_seat i ds))) (eq-eqb i i refl) ∙ ap (λ (l : List LogItem). d ∷ l) (part_own i ds)
 
-part_other : (i j : ℕ) (ds : List Deed) → j ≢ i → part j (by_seat i ds) ≡ []
+part_other : (i j : ℕ) (ds : List LogItem) → j ≢ i → part j (by_seat i ds) ≡ []
 part_other i j [] ne = refl
 part_other i j (d ∷ ds) ne = ap (λ (b : Bool). cond b (d ∷ part j (by_seat i ds)) (part j (by_seat i ds))) (ne_eqb i j (λ same. ne (sym same))) ∙ part_other i j ds ne
 
-deeds_of_seat : (i : ℕ) (ds : List Deed) → map (λ (a : ℕ × Deed). a.1) (by_seat i ds) ≡ ds
-deeds_of_seat i [] = refl
-deeds_of_seat i (d ∷ ds) = ap (λ (l : List Deed). d ∷ l) (deeds_of_seat i ds)
+items_of_seat : (i : ℕ) (ds : List LogItem) → map (λ (a : ℕ × LogItem). a.1) (by_seat i ds) ≡ ds
+items_of_seat i [] = refl
+items_of_seat i (d ∷ ds) = ap (λ (l : List LogItem). d ∷ l) (items_of_seat i ds)
 
 at_within : (l : List Logged) (i : ℕ) (a : Logged) → get_elem? l i ≡ some a → i < length l
 at_within [] i a e = absurd (some-ne-none a (sym e))
@@ -61,15 +61,15 @@ seat_of_more seat next n more i the_keeper le same is = is
 seat_of_more seat next n more i (the_cpu c) le same is = (is.0 ∙ sym (same c is.1), let lt = is.1 in omega arith)
 seat_of_more seat next n more i another le same is = tt
 
-by_own_more : (seat next : ℕ → ℕ) (n more : ℕ) (acts : List (ℕ × Deed)) → n ≤ more → ((c : ℕ) → c < n → next c ≡ seat c) → AreByOwn seat n acts → AreByOwn next more acts
+by_own_more : (seat next : ℕ → ℕ) (n more : ℕ) (acts : List (ℕ × LogItem)) → n ≤ more → ((c : ℕ) → c < n → next c ≡ seat c) → AreByOwn seat n acts → AreByOwn next more acts
 by_own_more seat next n more [] le same are = tt
 by_own_more seat next n more (a ∷ rest) le same are = (seat_of_more seat next n more a.0 (maker a.1.event) le same are.0, by_own_more seat next n more rest le same are.1)
 
-by_own_append : (seat : ℕ → ℕ) (n : ℕ) (a b : List (ℕ × Deed)) → AreByOwn seat n a → AreByOwn seat n b → AreByOwn seat n (a ++ b)
+by_own_append : (seat : ℕ → ℕ) (n : ℕ) (a b : List (ℕ × LogItem)) → AreByOwn seat n a → AreByOwn seat n b → AreByOwn seat n (a ++ b)
 by_own_append seat n [] b first second = second
 by_own_append seat n (x ∷ rest) b first second = (first.0, by_own_append seat n rest b first.1 second)
 
-by_own_seat : (seat : ℕ → ℕ) (n i : ℕ) (m : Maker) (ds : List Deed) → IsSeatOf seat n i m → AreBy m ds → AreByOwn seat n (by_seat i ds)
+by_own_seat : (seat : ℕ → ℕ) (n i : ℕ) (m : Maker) (ds : List LogItem) → IsSeatOf seat n i m → AreBy m ds → AreByOwn seat n (by_seat i ds)
 by_own_seat seat n i m [] is all = tt
 by_own_seat seat n i m (d ∷ ds) is all = (subst (IsSeatOf seat n i) (sym all.0) is, by_own_seat seat n i m ds is all.1)
 
@@ -98,33 +98,33 @@ keeper_sits seat i (Note h) is sits = absurd is
 keeper_sits seat i Spent is sits = absurd is
 
 -- what a seat that is cut off may have heard: of whatever the keeper did, as far as the other seat has heard it, and all of it where that is the keeper's
-abbrev pub MayTell : Logged → List Deed → List Deed → Type 0
-MayTell l ds heard = (all : List Deed) → IsPrefix l.deeds all → (IsKeeper l.view → l.log ++ ds ≡ all) → IsPrefix heard all
+abbrev pub MayTell : Logged → List LogItem → List LogItem → Type 0
+MayTell l ds known_log = (all : List LogItem) → IsPrefix l.known_log all → (IsKeeper l.view → l.log ++ ds ≡ all) → IsPrefix known_log all
 
 -- A prefix of what the keeper did stays one as its log goes on
 
-pub prefix_more : (p l more : List Deed) → IsPrefix p l → IsPrefix p (l ++ more)
-prefix_more p l more pre = (pre.0 ++ more, sym (append_assoc p pre.0 more) ∙ ap (λ (a : List Deed). a ++ more) pre.1)
+pub prefix_more : (p l more : List LogItem) → IsPrefix p l → IsPrefix p (l ++ more)
+prefix_more p l more pre = (pre.0 ++ more, sym (append_assoc p pre.0 more) ∙ ap (λ (a : List LogItem). a ++ more) pre.1)
 
--- what a run that goes on with deeds of the seat id keeps
-record Went (z : Settings) (s : Table ℕ Logged) (r : LoggedRuled z s) (id : ℕ) (log ds : List Deed) (t : Table ℕ View) (goes : GoesOn z (plain s) r.run ds t) : Type 0 where
-  acts : List (ℕ × Deed)
-  are : map (λ (a : ℕ × Deed). a.1) acts ≡ deeds z goes.ruled.reached.events
+-- what a run that goes on with log items of the seat id keeps
+record Went (z : Settings) (s : Table ℕ Logged) (r : LoggedRuled z s) (id : ℕ) (log ds : List LogItem) (t : Table ℕ View) (goes : GoesOn z (without_logs s) r.run ds t) : Type 0 where
+  acts : List (ℕ × LogItem)
+  are : map (λ (a : ℕ × LogItem). a.1) acts ≡ log_of_events z goes.ruled.reached.events
   owners : AreByOwn goes.ruled.seat goes.ruled.g.seated acts
   mine : log ++ ds ≡ part id acts
   others : (j : ℕ) (u : Logged) → j ≢ id → get_elem? s.views j ≡ some u → IsStanding u.view → u.log ≡ part j acts
   unseated : (j : ℕ) → length s.views ≤ j → part j acts ≡ []
-  known : (d : List Deed) → IsPrefix d (part 0 r.acts) → IsPrefix d (part 0 acts)
+  known : (d : List LogItem) → IsPrefix d (part 0 r.acts) → IsPrefix d (part 0 acts)
 
-went : (z : Settings) (s : Table ℕ Logged) (r : LoggedRuled z s) (id : ℕ) (l : Logged) (ds : List Deed) (t : Table ℕ View) (goes : GoesOn z (plain s) r.run ds t)
+went : (z : Settings) (s : Table ℕ Logged) (r : LoggedRuled z s) (id : ℕ) (l : Logged) (ds : List LogItem) (t : Table ℕ View) (goes : GoesOn z (without_logs s) r.run ds t)
     → get_elem? s.views id ≡ some l → IsStanding l.view → AreBy (who l.view) ds → Went z s r id l.log ds t goes
 went z s r id l ds t goes at stands by =
     let its = r.run.shows.fits id l.view (at_map (λ (l : Logged). l.view) s.views id l at) in
     let own : IsSeatOf goes.ruled.seat goes.ruled.g.seated id (who l.view) = seat_of_more r.run.seat goes.ruled.seat r.run.g.seated goes.ruled.g.seated id (who l.view) goes.seated goes.seats (own_seat r.run.g r.run.seat id l.view its.0 its.1) in
-    let longer : (j : ℕ) → j ≢ id → part j (r.acts ++ by_seat id ds) ≡ part j r.acts = λ j ne. part_append j r.acts (by_seat id ds) ∙ (ap (λ (l : List Deed). part j r.acts ++ l) (part_other id j ds ne) ∙ append-nil (part j r.acts)) in
+    let longer : (j : ℕ) → j ≢ id → part j (r.acts ++ by_seat id ds) ≡ part j r.acts = λ j ne. part_append j r.acts (by_seat id ds) ∙ (ap (λ (l : List LogItem). part j r.acts ++ l) (part_other id j ds ne) ∙ append-nil (part j r.acts)) in
     record {
       acts = r.acts ++ by_seat id ds;
-      are = map-append (λ (a : ℕ × Deed). a.1) r.acts (by_seat id ds) ∙ ((λ k. r.are k ++ deeds_of_seat id ds k) ∙ sym goes.goes_on);
+      are = map-append (λ (a : ℕ × LogItem). a.1) r.acts (by_seat id ds) ∙ ((λ k. r.are k ++ items_of_seat id ds k) ∙ sym goes.goes_on);
       owners = by_own_append goes.ruled.seat goes.ruled.g.seated r.acts (by_seat id ds) (by_own_more r.run.seat goes.ruled.seat r.run.g.seated goes.ruled.g.seated r.acts goes.seated goes.seats r.owners)
           (by_own_seat goes.ruled.seat goes.ruled.g.seated id (who l.view) ds own by);
       mine = (λ k. r.logs id l at stands k ++ sym (part_own id ds) k) ∙ sym (part_append id r.acts (by_seat id ds));
@@ -136,19 +136,19 @@ went z s r id l ds t goes at stands by =
 -- A seat moves
 
 -- the seat's view becomes w, its log goes on, and it has heard d
-abbrev moved_to : Logged → View → List Deed → List Deed → Logged
-moved_to l w ds d = record l { view = w; log = l.log ++ ds; deeds = d }
+abbrev moved_to : Logged → View → List LogItem → List LogItem → Logged
+moved_to l w ds d = record l { view = w; log = l.log ++ ds; known_log = d }
 
 -- the rule holds on, whatever prefix of the keeper's log the seat has heard then
-logged_goes : (z : Settings) (l : Logged) (i : ℕ) (n : ℕ) (ds : List Deed) (w : View) (s : Table ℕ Logged) (r : LoggedRuled z s) (id : ℕ) → get_elem? s.views id ≡ some l → IsStanding l.view → AreBy (who l.view) ds
-    → GoesOn z (plain s) r.run ds (stepped (plain s) i n id [] w keeps) → (d : List Deed) → IsPrefix d (part 0 r.acts) → LoggedRuled z (stepped s i n id [] (moved_to l w ds d) keeps)
-logged_goes z l i n ds w s r id at stands by goes_plain d heard =
-    let q = plain s in
+logged_goes : (z : Settings) (l : Logged) (i : ℕ) (n : ℕ) (ds : List LogItem) (w : View) (s : Table ℕ Logged) (r : LoggedRuled z s) (id : ℕ) → get_elem? s.views id ≡ some l → IsStanding l.view → AreBy (who l.view) ds
+    → GoesOn z (without_logs s) r.run ds (stepped (without_logs s) i n id [] w keeps) → (d : List LogItem) → IsPrefix d (part 0 r.acts) → LoggedRuled z (stepped s i n id [] (moved_to l w ds d) keeps)
+logged_goes z l i n ds w s r id at stands by goes_without_logs d known =
+    let q = without_logs s in
     let m : Logged = moved_to l w ds d in
     let t : Table ℕ Logged = stepped s i n id [] m keeps in
-    let same : stepped q i n id [] w keeps ≡ plain t = λ k. record { words = set s.words i n; homes = s.homes; views = sym (map-set (λ (x : Logged). x.view) s.views id m) k } in
-    let goes : GoesOn z q r.run ds (plain t) = subst (GoesOn z q r.run ds) same goes_plain in
-    let on = went z s r id l ds (plain t) goes at stands by in record {
+    let same : stepped q i n id [] w keeps ≡ without_logs t = λ k. record { words = set s.words i n; homes = s.homes; views = sym (map-set (λ (x : Logged). x.view) s.views id m) k } in
+    let goes : GoesOn z q r.run ds (without_logs t) = subst (GoesOn z q r.run ds) same goes_without_logs in
+    let on = went z s r id l ds (without_logs t) goes at stands by in record {
       run = goes.ruled;
       acts = on.acts;
       are = on.are;
@@ -159,51 +159,51 @@ logged_goes z l i n ds w s r id at stands by goes_plain d heard =
           (at_set s.views id j m u there);
       unseated = λ j le. on.unseated j (omega (arith, length-set s.views id m, le));
       known = λ j u there. ⊎_elim
-          (λ (x : (j ≡ id) × (m ≡ u)). subst (λ (y : Logged). Knows y (part 0 on.acts)) x.1 (on.known d heard, on.known l.laid (r.known id l at).1))
-          (λ (x : (j ≢ id) × (get_elem? s.views j ≡ some u)). let k = r.known j u x.1 in (on.known u.deeds k.0, on.known u.laid k.1))
+          (λ (x : (j ≡ id) × (m ≡ u)). subst (λ (y : Logged). Knows y (part 0 on.acts)) x.1 (on.known d known, on.known l.noted_log (r.known id l at).1))
+          (λ (x : (j ≢ id) × (get_elem? s.views j ≡ some u)). let k = r.known j u x.1 in (on.known u.known_log k.0, on.known u.noted_log k.1))
           (at_set s.views id j m u there);
     }
 
 -- what Moves says, of the table with logs
-abbrev pub LoggedMoves : Settings → Logged → ℕ → (ℕ → ℕ) → (ℕ → List Deed) → (ℕ → View → Type 0) → Type 0
+abbrev pub LoggedMoves : Settings → Logged → ℕ → (ℕ → ℕ) → (ℕ → List LogItem) → (ℕ → View → Type 0) → Type 0
 LoggedMoves z l i f ds tells = (s : Table ℕ Logged) → LoggedRuled z s → (id : ℕ) → get_elem? s.views id ≡ some l → slice_index s.words i < 18446744073709551616
     → (w : View) × LoggedRuled z (stepped s i (f (slice_index s.words i)) id [] (record l { view = w; log = l.log ++ ds (slice_index s.words i) }) keeps) × tells (slice_index s.words i) w
 
-pub logged_moves : (z : Settings) (l : Logged) (i : ℕ) (f : ℕ → ℕ) (ds : ℕ → List Deed) (tells : ℕ → View → Type 0) → IsStanding l.view → ((n : ℕ) → AreBy (who l.view) (ds n)) → Moves z l.view i f ds tells → LoggedMoves z l i f ds tells
+pub logged_moves : (z : Settings) (l : Logged) (i : ℕ) (f : ℕ → ℕ) (ds : ℕ → List LogItem) (tells : ℕ → View → Type 0) → IsStanding l.view → ((n : ℕ) → AreBy (who l.view) (ds n)) → Moves z l.view i f ds tells → LoggedMoves z l i f ds tells
 logged_moves z l i f ds tells stands by moves s r id at fits =
     let word = slice_index s.words i in
-    let done = moves (plain s) r.run id (at_map (λ (x : Logged). x.view) s.views id l at) fits in
-    (done.0, logged_goes z l i (f word) (ds word) done.0 s r id at stands (by word) done.1 l.deeds (r.known id l at).0, done.2)
+    let done = moves (without_logs s) r.run id (at_map (λ (x : Logged). x.view) s.views id l at) fits in
+    (done.0, logged_goes z l i (f word) (ds word) done.0 s r id at stands (by word) done.1 l.known_log (r.known id l at).0, done.2)
 
 -- the same of a load that hears: what the seat has heard then is all that the keeper did
-abbrev pub LoggedHears : Settings → Logged → ℕ → (ℕ → ℕ) → (ℕ → List Deed) → (ℕ → View → Type 0) → Type 0
+abbrev pub LoggedHears : Settings → Logged → ℕ → (ℕ → ℕ) → (ℕ → List LogItem) → (ℕ → View → Type 0) → Type 0
 LoggedHears z l i f ds tells = (s : Table ℕ Logged) (r : LoggedRuled z s) (id : ℕ) → get_elem? s.views id ≡ some l → slice_index s.words i < 18446744073709551616
-    → (w : View) × (d : List Deed) × LoggedRuled z (stepped s i (f (slice_index s.words i)) id [] (record l { view = w; log = l.log ++ ds (slice_index s.words i); deeds = d }) keeps) × tells (slice_index s.words i) w × HasHeardDeeds l.deeds l.laid d × (d ≡ part 0 r.acts)
+    → (w : View) × (d : List LogItem) × LoggedRuled z (stepped s i (f (slice_index s.words i)) id [] (record l { view = w; log = l.log ++ ds (slice_index s.words i); known_log = d }) keeps) × tells (slice_index s.words i) w × KnownLogGrows l.known_log l.noted_log d × (d ≡ part 0 r.acts)
 
-pub logged_hears : (z : Settings) (l : Logged) (i : ℕ) (f : ℕ → ℕ) (ds : ℕ → List Deed) (tells : ℕ → View → Type 0) → IsStanding l.view → ((n : ℕ) → AreBy (who l.view) (ds n)) → Moves z l.view i f ds tells → LoggedHears z l i f ds tells
+pub logged_hears : (z : Settings) (l : Logged) (i : ℕ) (f : ℕ → ℕ) (ds : ℕ → List LogItem) (tells : ℕ → View → Type 0) → IsStanding l.view → ((n : ℕ) → AreBy (who l.view) (ds n)) → Moves z l.view i f ds tells → LoggedHears z l i f ds tells
 logged_hears z l i f ds tells stands by moves s r id at fits =
     let word = slice_index s.words i in
-    let done = moves (plain s) r.run id (at_map (λ (x : Logged). x.view) s.views id l at) fits in
+    let done = moves (without_logs s) r.run id (at_map (λ (x : Logged). x.view) s.views id l at) fits in
     let all = part 0 r.acts in
     (done.0, all, logged_goes z l i (f word) (ds word) done.0 s r id at stands (by word) done.1 all ([], append-nil all), done.2, r.known id l at, refl)
 
 -- A seat is cut in two, or takes in another
 
-pub logged_splits : (z : Settings) (i : ℕ) (l : Logged) (left right : View) (ds heard : List Deed) → IsStanding l.view → AreBy (who l.view) ds → MayTell l ds heard → SplitsOn z i l.view left right ds
-    → Splits (LoggedRuled z) i l (record l { view = left; log = l.log ++ ds }) (record { view = right; log = []; deeds = heard; laid = [] })
-logged_splits z i v left right ds heard stands by may splits s r at =
-    let q = plain s in
+pub logged_splits : (z : Settings) (i : ℕ) (l : Logged) (left right : View) (ds known_log : List LogItem) → IsStanding l.view → AreBy (who l.view) ds → MayTell l ds known_log → SplitsOn z i l.view left right ds
+    → Splits (LoggedRuled z) i l (record l { view = left; log = l.log ++ ds }) (record { view = right; log = []; known_log = known_log; noted_log = [] })
+logged_splits z i v left right ds known_log stands by may splits s r at =
+    let q = without_logs s in
     let here : get_elem? q.views i ≡ some v.view = at_map (λ (l : Logged). l.view) s.views i v at in
     let l : Logged = record v { view = left; log = v.log ++ ds } in
-    let b : Logged = record { view = right; log = []; deeds = heard; laid = [] } in
+    let b : Logged = record { view = right; log = []; known_log = known_log; noted_log = [] } in
     let t : Table ℕ Logged = record { words = s.words; homes = s.homes; views = set s.views i l ++ b ∷ [] } in
-    let views : set q.views i left ++ right ∷ [] ≡ (plain t).views = sym (map-append (λ (x : Logged). x.view) (set s.views i l) (b ∷ []) ∙ ap (λ (a : List View). a ++ right ∷ []) (map-set (λ (x : Logged). x.view) s.views i l)) in
-    let goes : GoesOn z q r.run ds (plain t) = subst (λ (vs : List View). GoesOn z q r.run ds (record { words = s.words; homes = s.homes; views = vs })) views (splits q r.run here) in
-    let on = went z s r i v ds (plain t) goes at stands by in
+    let views : set q.views i left ++ right ∷ [] ≡ (without_logs t).views = sym (map-append (λ (x : Logged). x.view) (set s.views i l) (b ∷ []) ∙ ap (λ (a : List View). a ++ right ∷ []) (map-set (λ (x : Logged). x.view) s.views i l)) in
+    let goes : GoesOn z q r.run ds (without_logs t) = subst (λ (vs : List View). GoesOn z q r.run ds (record { words = s.words; homes = s.homes; views = vs })) views (splits q r.run here) in
+    let on = went z s r i v ds (without_logs t) goes at stands by in
     let size : length (set s.views i l) ≡ length s.views = length-set s.views i l in
     let its = (r.run.shows.fits i v.view here).0 in
     let whole : IsKeeper v.view → v.log ++ ds ≡ part 0 on.acts = λ keeper. on.mine ∙ ap (λ (m : ℕ). part m on.acts) (keeper_sits r.run.seat i v.view keeper its) in
-    let told : IsPrefix heard (part 0 on.acts) = may (part 0 on.acts) (on.known v.deeds (r.known i v at).0) whole in
+    let told : IsPrefix known_log (part 0 on.acts) = may (part 0 on.acts) (on.known v.known_log (r.known i v at).0) whole in
     record {
       run = goes.ruled;
       acts = on.acts;
@@ -219,36 +219,36 @@ logged_splits z i v left right ds heard stands by may splits s r at =
       unseated = λ j le. on.unseated j (omega (arith, length-append (set s.views i l) (b ∷ []), size, le));
       known = λ j u there. ⊎_elim
           (λ (was : get_elem? (set s.views i l) j ≡ some u). ⊎_elim
-          (λ (x : (j ≡ i) × (l ≡ u)). let k = r.known i v at in subst (λ (y : Logged). Knows y (part 0 on.acts)) x.1 (on.known v.deeds k.0, on.known v.laid k.1))
-          (λ (x : (j ≢ i) × (get_elem? s.views j ≡ some u)). let k = r.known j u x.1 in (on.known u.deeds k.0, on.known u.laid k.1))
+          (λ (x : (j ≡ i) × (l ≡ u)). let k = r.known i v at in subst (λ (y : Logged). Knows y (part 0 on.acts)) x.1 (on.known v.known_log k.0, on.known v.noted_log k.1))
+          (λ (x : (j ≢ i) × (get_elem? s.views j ≡ some u)). let k = r.known j u x.1 in (on.known u.known_log k.0, on.known u.noted_log k.1))
           (at_set s.views i j l u was))
           (λ (x : (j ≡ length (set s.views i l)) × (b ≡ u)). subst (λ (y : Logged). Knows y (part 0 on.acts)) x.1 (told, (part 0 on.acts, refl)))
           (at_end (set s.views i l) b u j there);
     }
 
 -- what lies beside the view after is what lay there, or what the other has heard
-pub logged_joins : (z : Settings) (i : ℕ) (l : Logged) (o : ℕ) (m : Logged) (both : View) (ds laid : List Deed) → IsStanding l.view → AreBy (who l.view) ds → (laid ≡ l.laid) ⊎ (laid ≡ m.deeds) → JoinsOn z i l.view o m.view both Spent ds
-    → Joins (LoggedRuled z) i l o m (record l { view = both; log = l.log ++ ds; laid = laid }) (record { view = Spent; log = []; deeds = []; laid = [] })
-logged_joins z i v o w both ds laid stands by lies joins s r at apart there =
-    let q = plain s in
+pub logged_joins : (z : Settings) (i : ℕ) (l : Logged) (o : ℕ) (m : Logged) (both : View) (ds noted_log : List LogItem) → IsStanding l.view → AreBy (who l.view) ds → (noted_log ≡ l.noted_log) ⊎ (noted_log ≡ m.known_log) → JoinsOn z i l.view o m.view both Spent ds
+    → Joins (LoggedRuled z) i l o m (record l { view = both; log = l.log ++ ds; noted_log = noted_log }) (record { view = Spent; log = []; known_log = []; noted_log = [] })
+logged_joins z i v o w both ds noted_log stands by lies joins s r at apart there =
+    let q = without_logs s in
     let f = λ (x : Logged). x.view in
     let here : get_elem? q.views i ≡ some v.view = at_map f s.views i v at in
-    let l : Logged = record v { view = both; log = v.log ++ ds; laid = laid } in
-    let b : Logged = record { view = Spent; log = []; deeds = []; laid = [] } in
+    let l : Logged = record v { view = both; log = v.log ++ ds; noted_log = noted_log } in
+    let b : Logged = record { view = Spent; log = []; known_log = []; noted_log = [] } in
     let once : map f (set s.views i l) ≡ set q.views i both = map-set f s.views i l in
     let also : get_elem? (set q.views i both) o ≡ some w.view = subst (λ (vs : List View). get_elem? vs o ≡ some w.view) once (at_map f (set s.views i l) o w there) in
     let t : Table ℕ Logged = record { words = s.words; homes = s.homes; views = set (set s.views i l) o b } in
-    let views : set (set q.views i both) o Spent ≡ (plain t).views = sym (map-set f (set s.views i l) o b ∙ ap (λ (a : List View). set a o Spent) once) in
-    let goes : GoesOn z q r.run ds (plain t) = subst (λ (vs : List View). GoesOn z q r.run ds (record { words = s.words; homes = s.homes; views = vs })) views (joins q r.run here apart also) in
-    let on = went z s r i v ds (plain t) goes at stands by in
+    let views : set (set q.views i both) o Spent ≡ (without_logs t).views = sym (map-set f (set s.views i l) o b ∙ ap (λ (a : List View). set a o Spent) once) in
+    let goes : GoesOn z q r.run ds (without_logs t) = subst (λ (vs : List View). GoesOn z q r.run ds (record { words = s.words; homes = s.homes; views = vs })) views (joins q r.run here apart also) in
+    let on = went z s r i v ds (without_logs t) goes at stands by in
     let mine = r.known i v at in
-    let other : IsPrefix w.deeds (part 0 r.acts) = ⊎_elim
+    let other : IsPrefix w.known_log (part 0 r.acts) = ⊎_elim
     (λ (x : (o ≡ i) × (l ≡ w)). absurd (apart x.0))
     (λ (x : (o ≢ i) × (get_elem? s.views o ≡ some w)). (r.known o w x.1).0)
     (at_set s.views i o l w there) in
-    let beside : IsPrefix laid (part 0 r.acts) = ⊎_elim
-    (λ (x : laid ≡ v.laid). subst (λ (d : List Deed). IsPrefix d (part 0 r.acts)) (sym x) mine.1)
-    (λ (x : laid ≡ w.deeds). subst (λ (d : List Deed). IsPrefix d (part 0 r.acts)) (sym x) other)
+    let beside : IsPrefix noted_log (part 0 r.acts) = ⊎_elim
+    (λ (x : noted_log ≡ v.noted_log). subst (λ (d : List LogItem). IsPrefix d (part 0 r.acts)) (sym x) mine.1)
+    (λ (x : noted_log ≡ w.known_log). subst (λ (d : List LogItem). IsPrefix d (part 0 r.acts)) (sym x) other)
     lies in
     record {
       run = goes.ruled;
@@ -266,15 +266,15 @@ logged_joins z i v o w both ds laid stands by lies joins s r at apart there =
       known = λ j u now. ⊎_elim
           (λ (x : (j ≡ o) × (b ≡ u)). subst (λ (y : Logged). Knows y (part 0 on.acts)) x.1 ((part 0 on.acts, refl), (part 0 on.acts, refl)))
           (λ (x : (j ≢ o) × (get_elem? (set s.views i l) j ≡ some u)). ⊎_elim
-          (λ (y : (j ≡ i) × (l ≡ u)). subst (λ (a : Logged). Knows a (part 0 on.acts)) y.1 (on.known v.deeds mine.0, on.known laid beside))
-          (λ (y : (j ≢ i) × (get_elem? s.views j ≡ some u)). let k = r.known j u y.1 in (on.known u.deeds k.0, on.known u.laid k.1))
+          (λ (y : (j ≡ i) × (l ≡ u)). subst (λ (a : Logged). Knows a (part 0 on.acts)) y.1 (on.known v.known_log mine.0, on.known noted_log beside))
+          (λ (y : (j ≢ i) × (get_elem? s.views j ≡ some u)). let k = r.known j u y.1 in (on.known u.known_log k.0, on.known u.noted_log k.1))
           (at_set s.views i j l u x.1))
           (at_set (set s.views i l) o j b u now);
     }
 
 -- nothing is done: the log stays
-pub logged_joins_same : (z : Settings) (i : ℕ) (l : Logged) (o : ℕ) (m : Logged) (both : View) (laid : List Deed) → IsStanding l.view → (laid ≡ l.laid) ⊎ (laid ≡ m.deeds) → JoinsOn z i l.view o m.view both Spent []
-    → Joins (LoggedRuled z) i l o m (record l { view = both; laid = laid }) (record { view = Spent; log = []; deeds = []; laid = [] })
-logged_joins_same z i v o w both laid stands lies joins =
-    subst (λ (log : List Deed). Joins (LoggedRuled z) i v o w (record v { view = both; log = log; laid = laid }) (record { view = Spent; log = []; deeds = []; laid = [] })) (append-nil v.log)
-    (logged_joins z i v o w both [] laid stands tt lies joins)
+pub logged_joins_same : (z : Settings) (i : ℕ) (l : Logged) (o : ℕ) (m : Logged) (both : View) (noted_log : List LogItem) → IsStanding l.view → (noted_log ≡ l.noted_log) ⊎ (noted_log ≡ m.known_log) → JoinsOn z i l.view o m.view both Spent []
+    → Joins (LoggedRuled z) i l o m (record l { view = both; noted_log = noted_log }) (record { view = Spent; log = []; known_log = []; noted_log = [] })
+logged_joins_same z i v o w both noted_log stands lies joins =
+    subst (λ (log : List LogItem). Joins (LoggedRuled z) i v o w (record v { view = both; log = log; noted_log = noted_log }) (record { view = Spent; log = []; known_log = []; noted_log = [] })) (append-nil v.log)
+    (logged_joins z i v o w both [] noted_log stands tt lies joins)

@@ -26,12 +26,12 @@ use Rattle.protocol.specs.State.{State, with_cell, section_at, search_at, found_
 use Rattle.protocol.specs.Events
 use Rattle.protocol.specs.Events.{Outcome, guard, some_outcome, with_some, step, snapshot_mark, entry_of}
 use Rattle.protocol.proofs.slots.Cells.{cell_cases, cell_in_new, cell_in_old, get_or_all}
-use Rattle.cpu_words.specs.declared.view.Deed.{Deed}
+use Rattle.cpu_words.specs.declared.view.LogItem.{LogItem}
 use Rattle.cpu_words.specs.Rule.{by_number}
-use Rattle.cpu_words.specs.Deeds.{has_snapped, has_looked, is_detach_from, KeepsEntry, IsSnapped, HasPassedOn, AreMarksOf}
+use Rattle.cpu_words.specs.KeeperLog.{has_snapped, has_looked, is_detach_from, KeepsEntry, IsSnapped, HasPassedOn, AreMarksOf}
 use Rattle.cpu_words.specs.Logs.{maker, IsSeatOf}
 use Rattle.cpu_words.proofs.logs.Loads.{no_place}
-use Rattle.cpu_words.proofs.logs.Runs.{deed_as, deed_of, same_first, same_rest}
+use Rattle.cpu_words.proofs.logs.Runs.{item_as, item_of, same_first, same_rest}
 
 -- What an event makes of the marks
 
@@ -44,17 +44,17 @@ marks_after s (Collect t c) = with_cell s.marks t c (mark_after_collect (mark_at
 marks_after s e = s.marks
 
 -- a load of a section word answers that word
-abbrev pub Answers : State → Event → Reply → Type 0
-Answers s (Snapshot to c) r = r ≡ Word (section_at s c)
-Answers s (Look to c) r = r ≡ Word (section_at s c)
-Answers s e r = Unit {0}
+abbrev pub HasReply : State → Event → Reply → Type 0
+HasReply s (Snapshot to c) r = r ≡ Word (section_at s c)
+HasReply s (Look to c) r = r ≡ Word (section_at s c)
+HasReply s e r = Unit {0}
 
 abbrev pub Marks : State → Event → Option Outcome → Type 0
 Marks s e None = Unit {0}
-Marks s e (Some o) = (o.state.marks ≡ marks_after s e) × Answers s e o.reply
+Marks s e (Some o) = (o.state.marks ≡ marks_after s e) × HasReply s e o.reply
 
 -- it may be made, and leads to t
-on_made : (s : State) (e : Event) (b : Bool) (t : State) (r : Reply) → t.marks ≡ marks_after s e → Answers s e r → Marks s e (guard b (some_outcome t r))
+on_made : (s : State) (e : Event) (b : Bool) (t : State) (r : Reply) → t.marks ≡ marks_after s e → HasReply s e r → Marks s e (guard b (some_outcome t r))
 on_made s e true t r marks answers = (marks, answers)
 on_made s e false t r marks answers = tt
 
@@ -66,7 +66,7 @@ on_if : (s : State) (e : Event) (b : Bool) (o p : Option Outcome) → Marks s e 
 on_if s e true o p first second = first
 on_if s e false o p first second = second
 
-on_either : (s : State) (e : Event) (b : Bool) (t u : State) (r q : Reply) → t.marks ≡ marks_after s e → u.marks ≡ marks_after s e → Answers s e r → Answers s e q → Marks s e (if b then some_outcome t r else some_outcome u q)
+on_either : (s : State) (e : Event) (b : Bool) (t u : State) (r q : Reply) → t.marks ≡ marks_after s e → u.marks ≡ marks_after s e → HasReply s e r → HasReply s e q → Marks s e (if b then some_outcome t r else some_outcome u q)
 on_either s e true t u r q first second answers answered = (first, answers)
 on_either s e false t u r q first second answers answered = (second, answered)
 
@@ -204,48 +204,48 @@ marks_off seat n i s (PassiveLook t c) is off = absurd (off is)
 marks_off seat n i s (Collect t c) is off = absurd (off is)
 marks_off seat n i s e is off = refl
 
--- A log with one deed more
+-- A log with one item more
 
-pub keeps_more : (t : ℕ) (a b : List Deed) → KeepsEntry t a → KeepsEntry t b → KeepsEntry t (a ++ b)
+pub keeps_more : (t : ℕ) (a b : List LogItem) → KeepsEntry t a → KeepsEntry t b → KeepsEntry t (a ++ b)
 keeps_more t [] b first second = second
 keeps_more t (d ∷ ds) b first second = (first.0, keeps_more t ds b first.1 second)
 
-pub snapped_more : (t c w : ℕ) (log : List Deed) (d : Deed) → is_detach_from t d.event ≡ false → IsSnapped t c w log → IsSnapped t c w (log ++ d ∷ [])
+pub snapped_more : (t c w : ℕ) (log : List LogItem) (d : LogItem) → is_detach_from t d.event ≡ false → IsSnapped t c w log → IsSnapped t c w (log ++ d ∷ [])
 snapped_more t c w log d other is = record {
   before = is.before;
   after = is.after ++ d ∷ [];
-  are = ap (λ (l : List Deed). l ++ d ∷ []) is.are ∙ append_assoc is.before (has_snapped t c w ∷ is.after) (d ∷ []);
+  are = ap (λ (l : List LogItem). l ++ d ∷ []) is.are ∙ append_assoc is.before (has_snapped t c w ∷ is.after) (d ∷ []);
   since = keeps_more t is.after (d ∷ []) is.since (other, tt);
 }
 
-pub passed_more : (t c : ℕ) (log : List Deed) (d : Deed) → is_detach_from t d.event ≡ false → HasPassedOn t c log → HasPassedOn t c (log ++ d ∷ [])
+pub passed_more : (t c : ℕ) (log : List LogItem) (d : LogItem) → is_detach_from t d.event ≡ false → HasPassedOn t c log → HasPassedOn t c (log ++ d ∷ [])
 passed_more t c log d other is = record {
   new = is.new;
   before = is.before;
   after = is.after ++ d ∷ [];
-  are = ap (λ (l : List Deed). l ++ d ∷ []) is.are ∙ append_assoc is.before (has_looked t c is.new ∷ is.after) (d ∷ []);
+  are = ap (λ (l : List LogItem). l ++ d ∷ []) is.are ∙ append_assoc is.before (has_looked t c is.new ∷ is.after) (d ∷ []);
   since = keeps_more t is.after (d ∷ []) is.since (other, tt);
   out = is.out;
 }
 
--- a log with one more, cut at a deed: that is the last, or stands before it
-cut_last : (log b a : List Deed) (d x : Deed) → log ++ d ∷ [] ≡ b ++ x ∷ a → (d ≡ x) ⊎ ((more : List Deed) × (a ≡ more ++ d ∷ []) × (log ≡ b ++ x ∷ more))
+-- a log with one more, cut at an item: that is the last, or stands before it
+cut_last : (log b a : List LogItem) (d x : LogItem) → log ++ d ∷ [] ≡ b ++ x ∷ a → (d ≡ x) ⊎ ((more : List LogItem) × (a ≡ more ++ d ∷ []) × (log ≡ b ++ x ∷ more))
 cut_last [] [] a d x is = inl (same_first d x [] a is)
 cut_last [] (y ∷ b) a d x is = absurd (no_place b a x (same_rest d y [] (b ++ x ∷ a) is))
 cut_last (y ∷ l) [] a d x is = inr (l, sym (same_rest y x (l ++ d ∷ []) a is), λ k. same_first y x (l ++ d ∷ []) a is k ∷ l)
 cut_last (y ∷ l) (z ∷ b) a d x is = ⊎_elim
     (λ (last : d ≡ x). inl last)
-    (λ (p : (more : List Deed) × (a ≡ more ++ d ∷ []) × (l ≡ b ++ x ∷ more)). inr (p.0, p.1, λ k. same_first y z (l ++ d ∷ []) (b ++ x ∷ a) is k ∷ p.2 k))
+    (λ (p : (more : List LogItem) × (a ≡ more ++ d ∷ []) × (l ≡ b ++ x ∷ more)). inr (p.0, p.1, λ k. same_first y z (l ++ d ∷ []) (b ++ x ∷ a) is k ∷ p.2 k))
     (cut_last l b a d x (same_rest y z (l ++ d ∷ []) (b ++ x ∷ a) is))
 
-keeps_parts : (t : ℕ) (a b : List Deed) → KeepsEntry t (a ++ b) → KeepsEntry t a × KeepsEntry t b
+keeps_parts : (t : ℕ) (a b : List LogItem) → KeepsEntry t (a ++ b) → KeepsEntry t a × KeepsEntry t b
 keeps_parts t [] b keeps = (tt, keeps)
 keeps_parts t (d ∷ ds) b keeps = let p = keeps_parts t ds b keeps.1 in ((keeps.0, p.0), p.1)
 
-unsnapped : (t c w : ℕ) (log : List Deed) (d : Deed) → IsSnapped t c w (log ++ d ∷ []) → (d ≡ has_snapped t c w) ⊎ ((is_detach_from t d.event ≡ false) × IsSnapped t c w log)
+unsnapped : (t c w : ℕ) (log : List LogItem) (d : LogItem) → IsSnapped t c w (log ++ d ∷ []) → (d ≡ has_snapped t c w) ⊎ ((is_detach_from t d.event ≡ false) × IsSnapped t c w log)
 unsnapped t c w log d is = ⊎_elim
     (λ (last : d ≡ has_snapped t c w). inl last)
-    (λ (p : (more : List Deed) × (is.after ≡ more ++ d ∷ []) × (log ≡ is.before ++ has_snapped t c w ∷ more)).
+    (λ (p : (more : List LogItem) × (is.after ≡ more ++ d ∷ []) × (log ≡ is.before ++ has_snapped t c w ∷ more)).
     let keeps = keeps_parts t p.0 (d ∷ []) (subst (KeepsEntry t) p.1 is.since) in
     inr (keeps.1.0, record { before = is.before; after = p.0; are = p.2; since = keeps.0 }))
     (cut_last log is.before is.after d (has_snapped t c w) is.are)
@@ -255,13 +255,13 @@ abbrev pub is_for_entry : Event → Bool
 is_for_entry (Snapshot (Some t) c) = true
 is_for_entry e = false
 
-unsnapped_by : (t c w : ℕ) (log : List Deed) (d : Deed) → is_for_entry d.event ≡ false → IsSnapped t c w (log ++ d ∷ []) → (is_detach_from t d.event ≡ false) × IsSnapped t c w log
+unsnapped_by : (t c w : ℕ) (log : List LogItem) (d : LogItem) → is_for_entry d.event ≡ false → IsSnapped t c w (log ++ d ∷ []) → (is_detach_from t d.event ≡ false) × IsSnapped t c w log
 unsnapped_by t c w log d other is = ⊎_elim
-    (λ (last : d ≡ has_snapped t c w). absurd (let q : true ≡ false = sym (ap (λ (x : Deed). is_for_entry x.event) last) ∙ other in cc))
+    (λ (last : d ≡ has_snapped t c w). absurd (let q : true ≡ false = sym (ap (λ (x : LogItem). is_for_entry x.event) last) ∙ other in cc))
     (λ (p : (is_detach_from t d.event ≡ false) × IsSnapped t c w log). p)
     (unsnapped t c w log d is)
 
-other_marks : (log : List Deed) (marks : List (List Mark)) (d : Deed) → ((t : ℕ) → is_detach_from t d.event ≡ false) → is_for_entry d.event ≡ false → AreMarksOf log marks → AreMarksOf (log ++ d ∷ []) marks
+other_marks : (log : List LogItem) (marks : List (List Mark)) (d : LogItem) → ((t : ℕ) → is_detach_from t d.event ≡ false) → is_for_entry d.event ≡ false → AreMarksOf log marks → AreMarksOf (log ++ d ∷ []) marks
 other_marks log marks d other none are = record {
   snapped = λ t c w is. snapped_more t c w log d (other t) (are.snapped t c w is);
   marked = λ t c w is. are.marked t c w (unsnapped_by t c w log d none is).1;
@@ -274,10 +274,10 @@ fresh marks t c = ⊎_elim
     (λ (ge : length marks ≤ t). ap (λ (m : List (List Mark)). mark_at m t c) (set_past marks t (replicate 8 no_mark) ge) ∙ ap (λ (r : List Mark). get_or r c no_mark) (get_or_past marks t [] ge))
     (cases_lt t (length marks))
 
-detach_marks : (log : List Deed) (marks : List (List Mark)) (t : ℕ) (r : Reply) → AreMarksOf log marks → AreMarksOf (log ++ deed_as (Unpublish t) r ∷ []) (set marks t (replicate 8 no_mark))
+detach_marks : (log : List LogItem) (marks : List (List Mark)) (t : ℕ) (r : Reply) → AreMarksOf log marks → AreMarksOf (log ++ item_as (Unpublish t) r ∷ []) (set marks t (replicate 8 no_mark))
 detach_marks log marks t r are =
     let new = set marks t (replicate 8 no_mark) in
-    let d = deed_as (Unpublish t) r in record {
+    let d = item_as (Unpublish t) r in record {
       snapped = λ u c w is. ⊎_elim
           (λ (same : u ≡ t). let p : mark_at new u c ≡ no_mark = ap (λ (k : ℕ). mark_at new k c) same ∙ fresh marks t c in absurd (none-some w (sym (ap (λ (m : Mark). m.snapshot) p) ∙ is)))
           (λ (off : u ≡ t → ⊥). snapped_more u c w log d (ne_eqb t u (λ (e : t ≡ u). off (sym e))) (are.snapped u c w (sym (ap (λ (m : Mark). m.snapshot) (cell_in_old no_mark marks t (replicate 8 no_mark) u c off)) ∙ is)))
@@ -291,7 +291,7 @@ detach_marks log marks t r are =
           (cases_eq u t);
     }
 
-snapshot_marks : (log : List Deed) (marks : List (List Mark)) (t c v : ℕ) → (mark_at marks t c).snapshot ≡ None → mark_at (with_cell marks t c (snapshot_mark v)) t c ≡ snapshot_mark v → AreMarksOf log marks → AreMarksOf (log ++ has_snapped t c v ∷ []) (with_cell marks t c (snapshot_mark v))
+snapshot_marks : (log : List LogItem) (marks : List (List Mark)) (t c v : ℕ) → (mark_at marks t c).snapshot ≡ None → mark_at (with_cell marks t c (snapshot_mark v)) t c ≡ snapshot_mark v → AreMarksOf log marks → AreMarksOf (log ++ has_snapped t c v ∷ []) (with_cell marks t c (snapshot_mark v))
 snapshot_marks log marks t c v free there are =
     let l = log ++ has_snapped t c v ∷ [] in
     let here : IsSnapped t c v l = record { before = log; after = []; are = refl; since = tt } in record {
@@ -302,8 +302,8 @@ snapshot_marks log marks t c v free there are =
           (cell_cases no_mark marks t c (snapshot_mark v) u j);
       marked = λ u j w is. ⊎_elim
           (λ (last : has_snapped t c v ≡ has_snapped u j w).
-          let q : Snapshot (Some t) c ≡ Snapshot (Some u) j = ap (λ (d : Deed). d.event) last in
-          let r : Word v ≡ Word w = ap (λ (d : Deed). d.reply) last in
+          let q : Snapshot (Some t) c ≡ Snapshot (Some u) j = ap (λ (d : LogItem). d.event) last in
+          let r : Word v ≡ Word w = ap (λ (d : LogItem). d.reply) last in
           let at_slot : t ≡ u = cc in
           let at_cpu : c ≡ j = cc in
           let word : v ≡ w = cc in
@@ -328,7 +328,7 @@ changed None w is = absurd (let q : false ≡ true = is in cc)
 changed (Some x) w is = (x, refl, λ (same : w ≡ x). eqb-false x w (not-true (x == w) is) (sym same))
 
 -- a mark at t and c whose snapshot stays; it may have passed now
-cell_marks : (log : List Deed) (marks : List (List Mark)) (t c : ℕ) (m : Mark) (d : Deed) → ((u : ℕ) → is_detach_from u d.event ≡ false) → is_for_entry d.event ≡ false → m.snapshot ≡ (mark_at marks t c).snapshot → (m.passed ≡ true → HasPassedOn t c (log ++ d ∷ []))
+cell_marks : (log : List LogItem) (marks : List (List Mark)) (t c : ℕ) (m : Mark) (d : LogItem) → ((u : ℕ) → is_detach_from u d.event ≡ false) → is_for_entry d.event ≡ false → m.snapshot ≡ (mark_at marks t c).snapshot → (m.passed ≡ true → HasPassedOn t c (log ++ d ∷ []))
     → AreMarksOf log marks → AreMarksOf (log ++ d ∷ []) (with_cell marks t c m)
 cell_marks log marks t c m d other none same pass are =
     let l = log ++ d ∷ [] in
@@ -352,7 +352,7 @@ cell_marks log marks t c m d other none same pass are =
           (cell_cases no_mark marks t c m u j);
     }
 
-look_marks : (log : List Deed) (marks : List (List Mark)) (t c w : ℕ) → AreMarksOf log marks → AreMarksOf (log ++ has_looked t c w ∷ []) (with_cell marks t c (mark_after_look (mark_at marks t c) w))
+look_marks : (log : List LogItem) (marks : List (List Mark)) (t c w : ℕ) → AreMarksOf log marks → AreMarksOf (log ++ has_looked t c w ∷ []) (with_cell marks t c (mark_after_look (mark_at marks t c) w))
 look_marks log marks t c w are =
     let m = mark_at marks t c in
     cell_marks log marks t c (mark_after_look m w) (has_looked t c w) (λ u. refl) refl refl
@@ -377,16 +377,16 @@ abbrev pub IsFirst : State → Event → Type 0
 IsFirst s (Snapshot (Some t) c) = ((mark_at s.marks t c).snapshot ≡ None) × (mark_at (with_cell s.marks t c (snapshot_mark (section_at s c))) t c ≡ snapshot_mark (section_at s c))
 IsFirst s e = Unit {0}
 
--- the keeper's next deed
-pub more_marks : (log : List Deed) (s : State) (e : Event) (r : Reply) → Answers s e r → IsFirst s e → AreMarksOf log s.marks → AreMarksOf (log ++ deed_of s e r ∷ []) (marks_after s e)
+-- the keeper's next item
+pub more_marks : (log : List LogItem) (s : State) (e : Event) (r : Reply) → HasReply s e r → IsFirst s e → AreMarksOf log s.marks → AreMarksOf (log ++ item_of s e r ∷ []) (marks_after s e)
 more_marks log s (Unpublish t) r is first are = detach_marks log s.marks t r are
-more_marks log s (Snapshot None c) r is first are = other_marks log s.marks (deed_as (Snapshot None c) r) (λ t. refl) refl are
-more_marks log s (Snapshot (Some t) c) r is first are = subst (λ (q : Reply). AreMarksOf (log ++ deed_as (Snapshot (Some t) c) q ∷ []) (marks_after s (Snapshot (Some t) c))) (sym is) (snapshot_marks log s.marks t c (section_at s c) first.0 first.1 are)
-more_marks log s (Look None c) r is first are = other_marks log s.marks (deed_as (Look None c) r) (λ t. refl) refl are
-more_marks log s (Look (Some t) c) r is first are = subst (λ (q : Reply). AreMarksOf (log ++ deed_as (Look (Some t) c) q ∷ []) (marks_after s (Look (Some t) c))) (sym is) (look_marks log s.marks t c (section_at s c) are)
-more_marks log s (PassiveLook t c) r is first are = cell_marks log s.marks t c _ (deed_as (PassiveLook t c) r) (λ u. refl) refl refl (λ was. passed_more t c log (deed_as (PassiveLook t c) r) refl (are.passed t c was)) are
-more_marks log s (Collect t c) r is first are = cell_marks log s.marks t c _ (deed_as (Collect t c) r) (λ u. refl) refl refl (λ was. passed_more t c log (deed_as (Collect t c) r) refl (are.passed t c was)) are
-more_marks log s e r is first are = other_marks log s.marks (deed_of s e r) (λ t. refl) refl are
+more_marks log s (Snapshot None c) r is first are = other_marks log s.marks (item_as (Snapshot None c) r) (λ t. refl) refl are
+more_marks log s (Snapshot (Some t) c) r is first are = subst (λ (q : Reply). AreMarksOf (log ++ item_as (Snapshot (Some t) c) q ∷ []) (marks_after s (Snapshot (Some t) c))) (sym is) (snapshot_marks log s.marks t c (section_at s c) first.0 first.1 are)
+more_marks log s (Look None c) r is first are = other_marks log s.marks (item_as (Look None c) r) (λ t. refl) refl are
+more_marks log s (Look (Some t) c) r is first are = subst (λ (q : Reply). AreMarksOf (log ++ item_as (Look (Some t) c) q ∷ []) (marks_after s (Look (Some t) c))) (sym is) (look_marks log s.marks t c (section_at s c) are)
+more_marks log s (PassiveLook t c) r is first are = cell_marks log s.marks t c _ (item_as (PassiveLook t c) r) (λ u. refl) refl refl (λ was. passed_more t c log (item_as (PassiveLook t c) r) refl (are.passed t c was)) are
+more_marks log s (Collect t c) r is first are = cell_marks log s.marks t c _ (item_as (Collect t c) r) (λ u. refl) refl refl (λ was. passed_more t c log (item_as (Collect t c) r) refl (are.passed t c was)) are
+more_marks log s e r is first are = other_marks log s.marks (item_of s e r) (λ t. refl) refl are
 
 -- The opening
 

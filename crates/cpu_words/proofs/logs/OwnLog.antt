@@ -18,49 +18,49 @@ use Rattle.protocol.specs.Events.{Outcome, step}
 use Rattle.protocol.specs.Invariant.{Holds}
 use Rattle.protocol.specs.Laws.{destroyed_slot}
 use Rattle.protocol.proofs.keeps.Keeping.{opening_holds}
-use Rattle.cpu_words.specs.declared.view.Deed.{Deed}
+use Rattle.cpu_words.specs.declared.view.LogItem.{LogItem}
 use Rattle.cpu_words.specs.declared.view.CpuView.{CpuView}
 use Rattle.cpu_words.specs.declared.view.KeeperView.{KeeperView}
 use Rattle.cpu_words.specs.declared.view.Logged.{Logged}
 use Rattle.cpu_words.specs.declared.view.View.{View}
 use Rattle.cpu_words.specs.declared.view.View.TheVariants.{Keeper, Cpu}
-use Rattle.cpu_words.specs.Deeds.{changes_in, AreMarksOf, AreSlotsOf, FindsWord, WordsGrow, IsFreedFrom, IsAttachedKeeping, IsShownAfter, IsOwnLog, keeping}
+use Rattle.cpu_words.specs.KeeperLog.{changes_in, AreMarksOf, AreSlotsOf, FindsWord, WordsGrow, IsFreedFrom, IsAttachedKeeping, IsShownAfter, IsOwnLog, keeping}
 use Rattle.cpu_words.specs.Logs.{part, LoggedRuled}
-use Rattle.cpu_words.specs.Notes.{with_heard, keeper_with_heard}
+use Rattle.cpu_words.specs.Notes.{with_note, keeper_with_note}
 use Rattle.cpu_words.proofs.logs.Changes.{run_of, fit_of}
 use Rattle.cpu_words.proofs.logs.Loads.{place, same_event, word_of, replied_word, run_since}
 use Rattle.cpu_words.proofs.logs.Known.{Known, known_stays, known_first}
-use Rattle.cpu_words.proofs.logs.Marks.{Answers, Marks, step_marks}
+use Rattle.cpu_words.proofs.logs.Marks.{HasReply, Marks, step_marks}
 use Rattle.cpu_words.proofs.logs.Walks.{walked}
-use Rattle.cpu_words.proofs.logs.Runs.{deed_of, Follows, follows_holds, cut}
+use Rattle.cpu_words.proofs.logs.Runs.{item_of, Follows, follows_holds, cut}
 
 -- Words grow
 
-found_word : (s : State) (e : Event) (o : Outcome) (c w : ℕ) (d : Deed) → step s e ≡ Some o → d ≡ deed_of s e o.reply → FindsWord c w d → section_at s c ≡ w
+found_word : (s : State) (e : Event) (o : Outcome) (c w : ℕ) (d : LogItem) → step s e ≡ Some o → d ≡ item_of s e o.reply → FindsWord c w d → section_at s c ≡ w
 found_word s e o c w d made is finds =
-    let answers : Answers s e o.reply = (subst (Marks s e) made (step_marks s e)).1 in
+    let answers : HasReply s e o.reply = (subst (Marks s e) made (step_marks s e)).1 in
     ⊎_elim
     (λ (p : d ≡ record { event = Snapshot finds.0 c; reply = Word w }).
-    let event : Snapshot finds.0 c ≡ e = same_event s e (Snapshot finds.0 c) (ap (λ (x : Deed). x.event) (sym p ∙ is)) refl in
-    let reply : o.reply ≡ Word (section_at s c) = subst (λ (x : Event). Answers s x o.reply) (sym event) answers in
-    sym (replied_word o.reply w (ap (λ (x : Deed). x.reply) (sym p ∙ is)) ∙ ap word_of reply))
+    let event : Snapshot finds.0 c ≡ e = same_event s e (Snapshot finds.0 c) (ap (λ (x : LogItem). x.event) (sym p ∙ is)) refl in
+    let reply : o.reply ≡ Word (section_at s c) = subst (λ (x : Event). HasReply s x o.reply) (sym event) answers in
+    sym (replied_word o.reply w (ap (λ (x : LogItem). x.reply) (sym p ∙ is)) ∙ ap word_of reply))
     (λ (p : d ≡ record { event = Look finds.0 c; reply = Word w }).
-    let event : Look finds.0 c ≡ e = same_event s e (Look finds.0 c) (ap (λ (x : Deed). x.event) (sym p ∙ is)) refl in
-    let reply : o.reply ≡ Word (section_at s c) = subst (λ (x : Event). Answers s x o.reply) (sym event) answers in
-    sym (replied_word o.reply w (ap (λ (x : Deed). x.reply) (sym p ∙ is)) ∙ ap word_of reply))
+    let event : Look finds.0 c ≡ e = same_event s e (Look finds.0 c) (ap (λ (x : LogItem). x.event) (sym p ∙ is)) refl in
+    let reply : o.reply ≡ Word (section_at s c) = subst (λ (x : Event). HasReply s x o.reply) (sym event) answers in
+    sym (replied_word o.reply w (ap (λ (x : LogItem). x.reply) (sym p ∙ is)) ∙ ap word_of reply))
     finds.1
 
-starts_word : (s : State) (d : Deed) (c w : ℕ) (more : List (ℕ × Deed)) (es : List Event) (t : State) → Follows s ((0, d) ∷ more) es t → FindsWord c w d → section_at s c ≡ w
+starts_word : (s : State) (d : LogItem) (c w : ℕ) (more : List (ℕ × LogItem)) (es : List Event) (t : State) → Follows s ((0, d) ∷ more) es t → FindsWord c w d → section_at s c ≡ w
 starts_word s d c w more [] t run finds = absurd run
 starts_word s d c w more (e ∷ es) t run finds = found_word s e run.0 c w d run.1 run.2 finds
 
-words_grow : (s : State) (acts : List (ℕ × Deed)) (es : List Event) (t : State) → Follows s acts es t → Holds s → WordsGrow (part 0 acts)
+words_grow : (s : State) (acts : List (ℕ × LogItem)) (es : List Event) (t : State) → Follows s acts es t → Holds s → WordsGrow (part 0 acts)
 words_grow s acts es t run on c v w d e before between after are first second =
     let p = place 0 acts before (between ++ e ∷ after) d are in
-    let x = cut s p.first ((0, d) ∷ p.second) es t (subst (λ (a : List (ℕ × Deed)). Follows s a es t) p.are run) in
+    let x = cut s p.first ((0, d) ∷ p.second) es t (subst (λ (a : List (ℕ × LogItem)). Follows s a es t) p.are run) in
     let taken : section_at x.between c ≡ v = starts_word x.between d c v p.second x.later t x.since first in
     let q = place 0 p.second between after e p.rest in
-    let y = cut x.between ((0, d) ∷ q.first) ((0, e) ∷ q.second) x.later t (subst (λ (a : List (ℕ × Deed)). Follows x.between ((0, d) ∷ a) x.later t) q.are x.since) in
+    let y = cut x.between ((0, d) ∷ q.first) ((0, e) ∷ q.second) x.later t (subst (λ (a : List (ℕ × LogItem)). Follows x.between ((0, d) ∷ a) x.later t) q.are x.since) in
     let found : section_at y.between c ≡ w = starts_word y.between e c w q.second y.later t y.since second in
     let up = (run_since c x.between ((0, d) ∷ q.first) y.earlier y.between y.before (follows_holds s p.first x.earlier x.between x.before on)).0.0 in
     omega (arith, taken, found, up)
@@ -83,7 +83,7 @@ shown_after z v l s r i at =
       totals = known.totals;
     }
 
-pub own_log : (z : Settings) (k : KeeperView) (l : Logged) (s : Table ℕ Logged) (r : LoggedRuled z s) (i : ℕ) → get_elem? s.views i ≡ some (record l { view = Keeper k }) → IsOwnLog l.log l.laid k
+pub own_log : (z : Settings) (k : KeeperView) (l : Logged) (s : Table ℕ Logged) (r : LoggedRuled z s) (i : ℕ) → get_elem? s.views i ≡ some (record l { view = Keeper k }) → IsOwnLog l.log l.noted_log k
 own_log z k l s r i at =
     let its = r.run.shows.fits i (Keeper k) (at_map (λ (x : Logged). x.view) s.views i (record l { view = Keeper k }) at) in
     let here : i ≡ 0 = its.0 in
@@ -94,36 +94,36 @@ own_log z k l s r i at =
     let cpus : k.settings.cpus ≡ z.cpus = ap (λ (x : KeeperView). x.settings.cpus) its.1.is ∙ ap (λ (a : Settings). a.cpus) r.run.settings in
     let known : Known z.cpus (part 0 r.acts) r.run.g = log_known z s r in
     record {
-      told = subst (IsPrefix l.laid) (sym whole) (r.known i (record l { view = Keeper k }) at).1;
+      told = subst (IsPrefix l.noted_log) (sym whole) (r.known i (record l { view = Keeper k }) at).1;
       changes = ap (λ (h : List Change). length h) history ∙ known.changes ∙ ap changes_in (sym whole);
-      marks = subst (λ (ds : List Deed). AreMarksOf ds k.marks) (sym whole) (subst (AreMarksOf (part 0 r.acts)) (sym marks) known.marks);
-      slots = subst (λ (ds : List Deed). AreSlotsOf k.settings.cpus ds k.slots) (sym whole)
+      marks = subst (λ (ds : List LogItem). AreMarksOf ds k.marks) (sym whole) (subst (AreMarksOf (part 0 r.acts)) (sym marks) known.marks);
+      slots = subst (λ (ds : List LogItem). AreSlotsOf k.settings.cpus ds k.slots) (sym whole)
           (subst (AreSlotsOf k.settings.cpus (part 0 r.acts)) (sym slots) (subst (λ (n : ℕ). AreSlotsOf n (part 0 r.acts) r.run.g.slots) (sym cpus) known.slots));
       kept = λ t. ap (λ (x : KeeperView). kept_at x.keeps t) its.1.is ∙ (known.kept t ∙ ap (keeping t) (sym whole));
       grow = subst WordsGrow (sym whole) (words_grow (opening z) r.acts r.run.reached.events _ (run_of z s r) (opening_holds z (fit_of z s r)));
-      counts = (k.heard, subst (λ (ds : List Deed). IsShownAfter ds (Keeper k)) (sym whole) (shown_after z (Keeper k) l s r i at));
+      counts = (k.noted_pass, subst (λ (ds : List LogItem). IsShownAfter ds (Keeper k)) (sym whole) (shown_after z (Keeper k) l s r i at));
     }
 
 -- with the note beside it a CPU's view is shown
-pub shown_laid : (ds : List Deed) (x y : CpuView) (h : List Change) → y ≡ with_heard x h → IsShownAfter ds (Cpu y) → IsShownAfter ds (Cpu (with_heard x h))
-shown_laid ds x y h is shown = subst (λ (v : CpuView). IsShownAfter ds (Cpu v)) is shown
+pub shown_with_note : (ds : List LogItem) (x y : CpuView) (h : List Change) → y ≡ with_note x h → IsShownAfter ds (Cpu y) → IsShownAfter ds (Cpu (with_note x h))
+shown_with_note ds x y h is shown = subst (λ (v : CpuView). IsShownAfter ds (Cpu v)) is shown
 
 -- a note that is laid beside the keeper's view changes neither its log nor its history and marks
-pub own_laid : (log same note laid : List Deed) (k l : KeeperView) (h : List Change) → l ≡ keeper_with_heard k h → same ≡ log → laid ≡ note → IsOwnLog same laid l → IsOwnLog log note k
-own_laid log same note laid k l h is logs notes own = record {
-  told = subst (λ (p : List Deed). IsPrefix p log) notes (subst (IsPrefix laid) logs own.told);
+pub own_with_note : (log same note noted_log : List LogItem) (k l : KeeperView) (h : List Change) → l ≡ keeper_with_note k h → same ≡ log → noted_log ≡ note → IsOwnLog same noted_log l → IsOwnLog log note k
+own_with_note log same note noted_log k l h is logs notes own = record {
+  told = subst (λ (p : List LogItem). IsPrefix p log) notes (subst (IsPrefix noted_log) logs own.told);
   changes = sym (ap (λ (x : KeeperView). length x.history) is) ∙ (own.changes ∙ ap changes_in logs);
-  marks = subst (AreMarksOf log) (ap (λ (x : KeeperView). x.marks) is) (subst (λ (ds : List Deed). AreMarksOf ds l.marks) logs own.marks);
-  slots = subst (λ (ds : List Deed). AreSlotsOf k.settings.cpus ds k.slots) logs (subst (λ (x : KeeperView). AreSlotsOf x.settings.cpus same x.slots) is own.slots);
+  marks = subst (AreMarksOf log) (ap (λ (x : KeeperView). x.marks) is) (subst (λ (ds : List LogItem). AreMarksOf ds l.marks) logs own.marks);
+  slots = subst (λ (ds : List LogItem). AreSlotsOf k.settings.cpus ds k.slots) logs (subst (λ (x : KeeperView). AreSlotsOf x.settings.cpus same x.slots) is own.slots);
   kept = λ t. sym (ap (λ (x : KeeperView). kept_at x.keeps t) is) ∙ (own.kept t ∙ ap (keeping t) logs);
   grow = subst WordsGrow logs own.grow;
-  counts = (own.counts.0, subst (λ (ds : List Deed). IsShownAfter ds (Keeper (keeper_with_heard k own.counts.0))) logs (subst (λ (x : KeeperView). IsShownAfter same (Keeper (keeper_with_heard x own.counts.0))) is own.counts.1));
+  counts = (own.counts.0, subst (λ (ds : List LogItem). IsShownAfter ds (Keeper (keeper_with_note k own.counts.0))) logs (subst (λ (x : KeeperView). IsShownAfter same (Keeper (keeper_with_note x own.counts.0))) is own.counts.1));
 }
 
--- the deed that makes a retired slot vacant frees it from its entry
-pub freed_by : (t : ℕ) (log note : List Deed) (k : KeeperView) (e : Entry) (d : Deed) (more later : List Deed) → IsOwnLog log note k → slot_at k.slots t ≡ Retired e → destroyed_slot d.event ≡ Some t → later ≡ log ++ d ∷ more → IsFreedFrom t e.number later
-freed_by t log note k e d more later own at freed are = record { before = log; deed = d; after = more; are = are; detached = own.slots.retired t e at; freed = freed }
+-- the item that makes a retired slot vacant frees it from its entry
+pub freed_by : (t : ℕ) (log note : List LogItem) (k : KeeperView) (e : Entry) (d : LogItem) (more later : List LogItem) → IsOwnLog log note k → slot_at k.slots t ≡ Retired e → destroyed_slot d.event ≡ Some t → later ≡ log ++ d ∷ more → IsFreedFrom t e.number later
+freed_by t log note k e d more later own at freed are = record { before = log; item = d; after = more; are = are; detached = own.slots.retired t e at; freed = freed }
 
 -- an attach in a slot that keeps a driver
-pub attached_by : (t : ℕ) (log note : List Deed) (k : KeeperView) (d : ℕ) (later : List Deed) → IsOwnLog log note k → kept_at k.keeps t ≡ Some d → later ≡ log ++ record { event = Publish t; reply = Done } ∷ [] → IsAttachedKeeping t (suc (length k.history)) d later
+pub attached_by : (t : ℕ) (log note : List LogItem) (k : KeeperView) (d : ℕ) (later : List LogItem) → IsOwnLog log note k → kept_at k.keeps t ≡ Some d → later ≡ log ++ record { event = Publish t; reply = Done } ∷ [] → IsAttachedKeeping t (suc (length k.history)) d later
 attached_by t log note k d later own keeps are = record { before = log; after = []; are = are; number = ap suc own.changes; keeps = sym (own.kept t) ∙ keeps }

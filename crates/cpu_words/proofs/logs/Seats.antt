@@ -3,7 +3,7 @@ use Rattle.std.proofs.Common.{◌≡◌, inl, inr, ℕ, List, [], ◌++◌, refl
 use Rattle.std.proofs.lemmas.List.{append-nil}
 use Rattle.atomic_table.specs.Table.{Splits, Joins}
 use Rattle.registry_values.specs.declared.settings.Settings.{Settings}
-use Rattle.cpu_words.specs.declared.view.Deed.{Deed}
+use Rattle.cpu_words.specs.declared.view.LogItem.{LogItem}
 use Rattle.cpu_words.specs.declared.view.Logged.{Logged}
 use Rattle.cpu_words.specs.declared.view.View.{View}
 use Rattle.cpu_words.specs.declared.view.View.TheVariants.{Spent}
@@ -13,31 +13,31 @@ use Rattle.cpu_words.proofs.logs.Logs.{MayTell, IsKeeper, logged_splits, logged_
 
 -- what a seat that is cut off has heard: nothing; what the other has; or all that the keeper did
 
-pub tells_nothing : (l : Logged) (ds : List Deed) → MayTell l ds []
-tells_nothing l ds all heard whole = (all, refl)
+pub tells_nothing : (l : Logged) (ds : List LogItem) → MayTell l ds []
+tells_nothing l ds all known whole = (all, refl)
 
-pub tells_heard : (l : Logged) (ds : List Deed) → MayTell l ds l.deeds
-tells_heard l ds all heard whole = heard
+pub tells_known : (l : Logged) (ds : List LogItem) → MayTell l ds l.known_log
+tells_known l ds all known whole = known
 
-pub tells_whole : (l : Logged) (ds : List Deed) → IsKeeper l.view → MayTell l ds (l.log ++ ds)
-tells_whole l ds keeper all heard whole = ([], append-nil (l.log ++ ds) ∙ whole keeper)
+pub tells_whole : (l : Logged) (ds : List LogItem) → IsKeeper l.view → MayTell l ds (l.log ++ ds)
+tells_whole l ds keeper all known whole = ([], append-nil (l.log ++ ds) ∙ whole keeper)
 
-pub seat_cut : (z : Settings) (i : ℕ) (l : Logged) (v : View) (left right : View → View) (does : View → List Deed) (tells : Logged → List Deed) (ds : List Deed)
+pub seat_cut : (z : Settings) (i : ℕ) (l : Logged) (v : View) (left right : View → View) (does : View → List LogItem) (tells : Logged → List LogItem) (ds : List LogItem)
     → l ≡ record l { view = v } → IsStanding v → AreBy (who v) ds → does v ≡ ds → MayTell (record l { view = v }) ds (tells (record l { view = v })) → SplitsOn z i v (left v) (right v) ds → Splits (LoggedRuled z) i l (logged_after_split left does l) (fresh right tells l)
 seat_cut z i l v left right does tells ds is stands by same may on =
     subst (λ (m : Logged). Splits (LoggedRuled z) i m (logged_after_split left does m) (fresh right tells m)) (sym is)
-    (subst (λ (d : List Deed). Splits (LoggedRuled z) i (record l { view = v }) (record l { view = left v; log = l.log ++ d }) (record { view = right v; log = []; deeds = tells (record l { view = v }); laid = [] })) (sym same)
+    (subst (λ (d : List LogItem). Splits (LoggedRuled z) i (record l { view = v }) (record l { view = left v; log = l.log ++ d }) (record { view = right v; log = []; known_log = tells (record l { view = v }); noted_log = [] })) (sym same)
     (logged_splits z i (record l { view = v }) (left v) (right v) ds (tells (record l { view = v })) stands by may on))
 
-pub seat_join : (z : Settings) (i o : ℕ) (l m : Logged) (v w : View) (both : View → View → View) (does : View → View → List Deed) (ds : List Deed)
+pub seat_join : (z : Settings) (i o : ℕ) (l m : Logged) (v w : View) (both : View → View → View) (does : View → View → List LogItem) (ds : List LogItem)
     → l ≡ record l { view = v } → m ≡ record m { view = w } → IsStanding v → AreBy (who v) ds → does v w ≡ ds → JoinsOn z i v o w (both v w) Spent ds → Joins (LoggedRuled z) i l o m (joined_seat both does l m) spent_seat
 seat_join z i o l m v w both does ds is that stands by same on =
     subst (λ (p : Logged × Logged). Joins (LoggedRuled z) i p.0 o p.1 (joined_seat both does p.0 p.1) spent_seat) (λ k. (sym is k, sym that k))
-    (subst (λ (d : List Deed). Joins (LoggedRuled z) i (record l { view = v }) o (record m { view = w }) (record l { view = both v w; log = l.log ++ d }) spent_seat) (sym same)
-    (logged_joins z i (record l { view = v }) o (record m { view = w }) (both v w) ds l.laid stands by (inl refl) on))
+    (subst (λ (d : List LogItem). Joins (LoggedRuled z) i (record l { view = v }) o (record m { view = w }) (record l { view = both v w; log = l.log ++ d }) spent_seat) (sym same)
+    (logged_joins z i (record l { view = v }) o (record m { view = w }) (both v w) ds l.noted_log stands by (inl refl) on))
 
-pub seat_laid : (z : Settings) (i o : ℕ) (l m : Logged) (v w : View) (both : View → View → View)
+pub seat_with_note : (z : Settings) (i o : ℕ) (l m : Logged) (v w : View) (both : View → View → View)
     → l ≡ record l { view = v } → m ≡ record m { view = w } → IsStanding v → JoinsOn z i v o w (both v w) Spent [] → Joins (LoggedRuled z) i l o m (logged_with_note both l m) spent_seat
-seat_laid z i o l m v w both is that stands on =
+seat_with_note z i o l m v w both is that stands on =
     subst (λ (p : Logged × Logged). Joins (LoggedRuled z) i p.0 o p.1 (logged_with_note both p.0 p.1) spent_seat) (λ k. (sym is k, sym that k))
-    (logged_joins_same z i (record l { view = v }) o (record m { view = w }) (both v w) m.deeds stands (inr refl) on)
+    (logged_joins_same z i (record l { view = v }) o (record m { view = w }) (both v w) m.known_log stands (inr refl) on)

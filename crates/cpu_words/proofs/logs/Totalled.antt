@@ -28,30 +28,30 @@ use Rattle.protocol.proofs.keeps.ListKeeps.{may_write_tells, false_from}
 use Rattle.protocol.proofs.keeps.MarkKeeps.{is_drained_tells, may_examine_tells}
 use Rattle.protocol.proofs.slots.Cells.{total_here, total_other}
 use Rattle.protocol.proofs.slots.Occupied.{at_rest_tells, fresh_unoccupied, in_within, one_number, slot_has}
-use Rattle.cpu_words.specs.declared.view.Deed.{Deed}
+use Rattle.cpu_words.specs.declared.view.LogItem.{LogItem}
 use Rattle.cpu_words.specs.declared.view.KeeperView.{KeeperView}
 use Rattle.cpu_words.specs.Views.{number_at, collected_net, collected_one, GivesUp, KeeperShown}
 use Rattle.cpu_words.specs.Rule.{Good, number_or_none, by_number}
-use Rattle.cpu_words.specs.Deeds.{changes_of, changes_in, keeping, names, occupant_after, occupant, word_after, word_collected, replied, occupant_of, word_if, AreCountsOf, given_by, given_after, given_up, sum_below, is_there, word_or_none, words_collected, sum_collected, AreTotalsOf}
+use Rattle.cpu_words.specs.KeeperLog.{changes_of, changes_in, keeping, names, occupant_after, occupant, word_after, word_collected, replied, occupant_of, word_if, AreCountsOf, given_by, given_after, given_up, sum_below, is_there, word_or_none, words_collected, sum_collected, AreTotalsOf}
 use Rattle.cpu_words.specs.Logs.{maker, IsSeatOf}
 use Rattle.cpu_words.proofs.by_keeper.Marked.{due_alike}
 use Rattle.cpu_words.proofs.by_keeper.Totals.{one_subtracted}
 use Rattle.cpu_words.proofs.logs.Changes.{changes_up, unnamed_changes}
 use Rattle.cpu_words.proofs.logs.Counted.{no_word, occupant_next, undrawn_slot, undrawn_mark, word_next}
 use Rattle.cpu_words.proofs.logs.Dues.{DueAfter, Dues, SameTotals, TotalsAfter, step_dues}
-use Rattle.cpu_words.proofs.logs.Runs.{deed_of}
+use Rattle.cpu_words.proofs.logs.Runs.{item_of}
 use Rattle.cpu_words.proofs.logs.Standings.{changes_last}
 
--- References given up, with one deed more
+-- References given up, with one item more
 
-given_last : (before : List Deed) (n : ℕ) (a : List Deed) (d : Deed) → given_after before n (a ++ d ∷ []) ≡ given_after before n a + given_by (before ++ a) n d.event
-given_last before n [] d = let same = ap (λ (l : List Deed). given_by l n d.event) (append-nil before) in omega (arith, same)
+given_last : (before : List LogItem) (n : ℕ) (a : List LogItem) (d : LogItem) → given_after before n (a ++ d ∷ []) ≡ given_after before n a + given_by (before ++ a) n d.event
+given_last before n [] d = let same = ap (λ (l : List LogItem). given_by l n d.event) (append-nil before) in omega (arith, same)
 given_last before n (x ∷ a) d =
     let rest = given_last (before ++ x ∷ []) n a d in
-    let whole = ap (λ (l : List Deed). given_by l n d.event) (append_assoc before (x ∷ []) a) in
+    let whole = ap (λ (l : List LogItem). given_by l n d.event) (append_assoc before (x ∷ []) a) in
     omega (arith, rest, whole)
 
-pub given_more : (n : ℕ) (log : List Deed) (d : Deed) → given_up n (log ++ d ∷ []) ≡ given_up n log + given_by log n d.event
+pub given_more : (n : ℕ) (log : List LogItem) (d : LogItem) → given_up n (log ++ d ∷ []) ≡ given_up n log + given_by log n d.event
 given_more n log d = given_last [] n log d
 
 -- Sums over the places for CPUs
@@ -121,26 +121,26 @@ none_above s n m t on of above =
 -- One slot, as an event is made
 
 -- what the keeper's log said before
-pub record SaidBefore (log : List Deed) (s : State) : Type 0 where
+pub record SaidBefore (log : List LogItem) (s : State) : Type 0 where
   pub changes : length s.history ≡ changes_in log
   pub kept : (t : ℕ) → kept_at s.keeps t ≡ keeping t log
   pub counts : AreCountsOf log s
   pub totals : AreTotalsOf log s
 
 -- the total of the slot t, where the entry n is, is by the log
-abbrev IsEven : List Deed → State → ℕ → ℕ → Type 0
+abbrev IsEven : List LogItem → State → ℕ → ℕ → Type 0
 IsEven log s t n = total_at s.totals t + addition_due_at t s.due + given_up n log + bias * words_collected t log ≡ bias * (1 + is_adding_at t s.due) + sum_collected t log + subtraction_due_at t s.due
 
 -- what the event makes of the total, of what is due and of the references given up to n is as much on either side
-abbrev IsAsMuch : List Deed → State → Event → State → ℕ → ℕ → Type 0
+abbrev IsAsMuch : List LogItem → State → Event → State → ℕ → ℕ → Type 0
 IsAsMuch log s e o t n = total_at o.totals t + addition_due_at t o.due + given_by log n (by_number s e) + bias * is_adding_at t s.due + subtraction_due_at t s.due
     ≡ total_at s.totals t + addition_due_at t s.due + bias * is_adding_at t o.due + subtraction_due_at t o.due
 
 -- the slot's words stay
-as_much : (log : List Deed) (s : State) (e : Event) (o : Outcome) (t n : ℕ) → ((c : ℕ) → word_after t c e o.reply (word_collected t c log) ≡ word_collected t c log)
-    → IsAsMuch log s e o.state t n → IsEven log s t n → IsEven (log ++ deed_of s e o.reply ∷ []) o.state t n
+as_much : (log : List LogItem) (s : State) (e : Event) (o : Outcome) (t n : ℕ) → ((c : ℕ) → word_after t c e o.reply (word_collected t c log) ≡ word_collected t c log)
+    → IsAsMuch log s e o.state t n → IsEven log s t n → IsEven (log ++ item_of s e o.reply ∷ []) o.state t n
 as_much log s e o t n stay much even =
-    let d : Deed = deed_of s e o.reply in
+    let d : LogItem = item_of s e o.reply in
     let word : (c : ℕ) → word_collected t c (log ++ d ∷ []) ≡ word_collected t c log = λ c. word_next t c log s e o.reply ∙ stay c in
     let words : words_collected t (log ++ d ∷ []) ≡ words_collected t log = sum_other (λ c. is_there (word_collected t c log)) (λ c. is_there (word_collected t c (log ++ d ∷ []))) 8 (λ c lt. ap is_there (word c)) in
     let sum : sum_collected t (log ++ d ∷ []) ≡ sum_collected t log = sum_other (λ c. word_or_none (word_collected t c log)) (λ c. word_or_none (word_collected t c (log ++ d ∷ []))) 8 (λ c lt. ap word_or_none (word c)) in
@@ -148,7 +148,7 @@ as_much log s e o t n stay much even =
     omega (arith, words, sum, given, much, even)
 
 -- totals stay, and what is due, and nothing is given up
-untouched : (log : List Deed) (s : State) (e : Event) (n : State) (t m : ℕ) → given_by log m (by_number s e) ≡ 0 → SameTotals s n → IsAsMuch log s e n t m
+untouched : (log : List LogItem) (s : State) (e : Event) (n : State) (t m : ℕ) → given_by log m (by_number s e) ≡ 0 → SameTotals s n → IsAsMuch log s e n t m
 untouched log s e n t m none same =
     let total = ap (λ (x : List ℕ). total_at x t) same.0 in
     let d = due_alike n.due s.due same.1 t in
@@ -172,7 +172,7 @@ quiet_after : (s : State) (due : Due) (t u c : ℕ) → due ≡ due_after s u c 
 quiet_after s due t u c is = subst (λ (x : Due). IsQuiet x t) (sym is) (quiet_if t u (c + 1) (nat_lt (c + 1) s.settings.cpus))
 
 -- totals stay, nothing is due for any, and nothing is given up
-quietly : (log : List Deed) (s : State) (e : Event) (n : State) (t m : ℕ) → given_by log m (by_number s e) ≡ 0 → n.totals ≡ s.totals → IsQuiet s.due t → IsQuiet n.due t → IsAsMuch log s e n t m
+quietly : (log : List LogItem) (s : State) (e : Event) (n : State) (t m : ℕ) → given_by log m (by_number s e) ≡ 0 → n.totals ≡ s.totals → IsQuiet s.due t → IsQuiet n.due t → IsAsMuch log s e n t m
 quietly log s e n t m none same before after =
     let total = ap (λ (x : List ℕ). total_at x t) same in
     omega (arith, none, total, before.0, before.1, before.2, after.0, after.1, after.2)
@@ -180,8 +180,8 @@ quietly log s e n t m none same before after =
 -- Each event
 
 -- after the event, too
-abbrev Next : List Deed → State → Event → Outcome → ℕ → ℕ → Type 0
-Next log s e o t n = IsEven (log ++ deed_of s e o.reply ∷ []) o.state t n
+abbrev Next : List LogItem → State → Event → Outcome → ℕ → ℕ → Type 0
+Next log s e o t n = IsEven (log ++ item_of s e o.reply ∷ []) o.state t n
 
 -- the event is at the slot t, or at another
 
@@ -192,7 +192,7 @@ if_off : {X : Type 0} (u t : ℕ) (x y : X) → (u ≡ t → ⊥) → (if u == t
 if_off u t x y off = ap (λ (b : Bool). if b then x else y) (ne_eqb u t off)
 
 -- a slot is published with its total at the bias; nothing was collected for the new entry, and nothing given up
-published_next : (log : List Deed) (s : State) (u : ℕ) (o : Outcome) (t n : ℕ) → Holds s → TotalsAfter s (Publish u) o → occupant_after t (changes_in log) (Publish u) (occupant t log) ≡ Some n → SaidBefore log s → Next log s (Publish u) o t n
+published_next : (log : List LogItem) (s : State) (u : ℕ) (o : Outcome) (t n : ℕ) → Holds s → TotalsAfter s (Publish u) o → occupant_after t (changes_in log) (Publish u) (occupant t log) ≡ Some n → SaidBefore log s → Next log s (Publish u) o t n
 published_next log s u o t n on does is known = ⊎_elim
     (λ (same : u ≡ t).
     let number : suc (changes_in log) ≡ n = same_Some (suc (changes_in log)) n (sym (if_here u t (Some (suc (changes_in log))) (occupant t log) same) ∙ is) in
@@ -208,7 +208,7 @@ published_next log s u o t n on does is known = ⊎_elim
     let vacant : is_retired (slot_at s.slots t) ≡ false = ap is_retired (ap (slot_at s.slots) (sym same) ∙ told.2) in
     let total : total_at o.state.totals t ≡ bias = ap (λ (x : List ℕ). total_at x t) does.1.0 ∙ (ap (total_at s.totals) (sym same) ∙ eqb-true (total_at s.totals u) bias p6.1) in
     let quiet = quiet_rest o.state.due t (does.1.1 ∙ told.0) in
-    let d : Deed = deed_of s (Publish u) o.reply in
+    let d : LogItem = item_of s (Publish u) o.reply in
     let word : (c : ℕ) → word_collected t c (log ++ d ∷ []) ≡ None = λ c. word_next t c log s (Publish u) o.reply ∙ (known.counts.words t c ∙ no_word s t c (undrawn_slot s t c vacant)) in
     let words : words_collected t (log ++ d ∷ []) ≡ 0 = sum_other (λ c. 0) (λ c. is_there (word_collected t c (log ++ d ∷ []))) 8 (λ c lt. ap is_there (word c)) in
     let sum : sum_collected t (log ++ d ∷ []) ≡ 0 = sum_other (λ c. 0) (λ c. word_or_none (word_collected t c (log ++ d ∷ []))) 8 (λ c lt. ap word_or_none (word c)) in
@@ -219,24 +219,24 @@ published_next log s u o t n on does is known = ⊎_elim
     as_much log s (Publish u) o t n (λ c. refl) (untouched log s (Publish u) o.state t n refl does.1) (known.totals.total t n (sym (if_off u t (Some (suc (changes_in log))) (occupant t log) off) ∙ is)))
     (cases_eq u t)
 
-unpublished_next : (log : List Deed) (s : State) (u : ℕ) (o : Outcome) (t n : ℕ) → DueAfter s (Unpublish u) o.state → TotalsAfter s (Unpublish u) o → occupant t log ≡ Some n → SaidBefore log s → Next log s (Unpublish u) o t n
+unpublished_next : (log : List LogItem) (s : State) (u : ℕ) (o : Outcome) (t n : ℕ) → DueAfter s (Unpublish u) o.state → TotalsAfter s (Unpublish u) o → occupant t log ≡ Some n → SaidBefore log s → Next log s (Unpublish u) o t n
 unpublished_next log s u o t n due does is known = as_much log s (Unpublish u) o t n (λ c. refl)
     (quietly log s (Unpublish u) o.state t n refl does.1 (quiet_rest s.due t (at_rest_tells s.due does.0)) (quiet_snapshots o.state.due t u 0 due)) (known.totals.total t n is)
 
-snapped_next : (log : List Deed) (s : State) (u c : ℕ) (o : Outcome) (t n : ℕ) → DueAfter s (Snapshot (Some u) c) o.state → TotalsAfter s (Snapshot (Some u) c) o → occupant t log ≡ Some n → SaidBefore log s → Next log s (Snapshot (Some u) c) o t n
+snapped_next : (log : List LogItem) (s : State) (u c : ℕ) (o : Outcome) (t n : ℕ) → DueAfter s (Snapshot (Some u) c) o.state → TotalsAfter s (Snapshot (Some u) c) o → occupant t log ≡ Some n → SaidBefore log s → Next log s (Snapshot (Some u) c) o t n
 snapped_next log s u c o t n due does is known = as_much log s (Snapshot (Some u) c) o t n (λ d. refl)
     (quietly log s (Snapshot (Some u) c) o.state t n refl does (quiet_snapshots s.due t u c due.1) (quiet_after s o.state.due t u c due.0)) (known.totals.total t n is)
 
 -- the word that is collected is one more, and counts once it is added
 
-collected_here : (log : List Deed) (s : State) (c : ℕ) (o : Outcome) (t n : ℕ) → Holds s → TotalsAfter s (Collect t c) o → occupant t log ≡ Some n → SaidBefore log s → Next log s (Collect t c) o t n
+collected_here : (log : List LogItem) (s : State) (c : ℕ) (o : Outcome) (t n : ℕ) → Holds s → TotalsAfter s (Collect t c) o → occupant t log ≡ Some n → SaidBefore log s → Next log s (Collect t c) o t n
 collected_here log s c o t n on does is known =
     let w = count_at s.counts c t in
     let p = and_parts (may_examine s t c) (is_drainable s t && not (mark_at s.marks t c).collected) does.0 in
     let q = and_parts (is_drainable s t) (not (mark_at s.marks t c).collected) p.1 in
     let told = may_examine_tells s t c p.0 in
     let low : c < 8 = omega (arith, told.1, (ranges s.settings on.fit).cpus) in
-    let d : Deed = deed_of s (Collect t c) o.reply in
+    let d : LogItem = item_of s (Collect t c) o.reply in
     let old : word_collected t c log ≡ None = known.counts.words t c ∙ no_word s t c (undrawn_mark s t c (false_from (mark_at s.marks t c).collected q.1)) in
     let here = eq-eqb t t refl in
     let new : word_collected t c (log ++ d ∷ []) ≡ Some w = word_next t c log s (Collect t c) o.reply
@@ -258,7 +258,7 @@ collected_here log s c o t n on does is known =
     let none : subtraction_due_at t o.state.due ≡ 0 = ap (subtraction_due_at t) does.3 in
     omega (arith, words, sum, one_old, one_new, word_old, word_new, given, even, total, quiet.0, quiet.1, quiet.2, added, adding, none)
 
-collected_off : (log : List Deed) (s : State) (u c : ℕ) (o : Outcome) (t n : ℕ) → (u ≡ t → ⊥) → TotalsAfter s (Collect u c) o → occupant t log ≡ Some n → SaidBefore log s → Next log s (Collect u c) o t n
+collected_off : (log : List LogItem) (s : State) (u c : ℕ) (o : Outcome) (t n : ℕ) → (u ≡ t → ⊥) → TotalsAfter s (Collect u c) o → occupant t log ≡ Some n → SaidBefore log s → Next log s (Collect u c) o t n
 collected_off log s u c o t n off does is known =
     let w = count_at s.counts c u in
     let p = and_parts (may_examine s u c) (is_drainable s u && not (mark_at s.marks u c).collected) does.0 in
@@ -270,14 +270,14 @@ collected_off log s u c o t n off does is known =
     let much : IsAsMuch log s (Collect u c) o.state t n = omega (arith, quiet.0, quiet.1, quiet.2, total, added, adding, none) in
     as_much log s (Collect u c) o t n (λ j. ap (λ (b : Bool). if b && c == j then replied o.reply else word_collected t j log) (ne_eqb u t off)) much (known.totals.total t n is)
 
-collected_next : (log : List Deed) (s : State) (u c : ℕ) (o : Outcome) (t n : ℕ) → Holds s → TotalsAfter s (Collect u c) o → occupant t log ≡ Some n → SaidBefore log s → Next log s (Collect u c) o t n
+collected_next : (log : List LogItem) (s : State) (u c : ℕ) (o : Outcome) (t n : ℕ) → Holds s → TotalsAfter s (Collect u c) o → occupant t log ≡ Some n → SaidBefore log s → Next log s (Collect u c) o t n
 collected_next log s u c o t n on does is known = ⊎_elim
     (λ (same : u ≡ t). subst (λ (v : ℕ). TotalsAfter s (Collect v c) o → Next log s (Collect v c) o t n) (sym same) (λ here. collected_here log s c o t n on here is known) does)
     (λ (off : u ≡ t → ⊥). collected_off log s u c o t n off does is known)
     (cases_eq u t)
 
 -- what was collected is in the total then, less its bias
-added_next : (log : List Deed) (s : State) (u : ℕ) (o : Outcome) (t n : ℕ) → Holds s → TotalsAfter s (TotalAdd u) o → occupant t log ≡ Some n → SaidBefore log s → Next log s (TotalAdd u) o t n
+added_next : (log : List LogItem) (s : State) (u : ℕ) (o : Outcome) (t n : ℕ) → Holds s → TotalsAfter s (TotalAdd u) o → occupant t log ≡ Some n → SaidBefore log s → Next log s (TotalAdd u) o t n
 added_next log s u o t n on does is known =
     let old = does.0 in
     let due = does.1 in
@@ -301,7 +301,7 @@ added_next log s u o t n on does is known =
     as_much log s (TotalAdd u) o t n (λ c. refl) much (known.totals.total t n is)
 
 -- the reference that was given up is subtracted
-subtracted_next : (log : List Deed) (s : State) (u : ℕ) (o : Outcome) (t n : ℕ) → Holds s → TotalsAfter s (TotalSub u) o → occupant t log ≡ Some n → SaidBefore log s → Next log s (TotalSub u) o t n
+subtracted_next : (log : List LogItem) (s : State) (u : ℕ) (o : Outcome) (t n : ℕ) → Holds s → TotalsAfter s (TotalSub u) o → occupant t log ≡ Some n → SaidBefore log s → Next log s (TotalSub u) o t n
 subtracted_next log s u o t n on does is known =
     let range = subtracting_range s u on does.0 in
     let less = one_subtracted s.totals u (omega (arith, range.0, on.shape.totals)) range.1 t in
@@ -311,7 +311,7 @@ subtracted_next log s u o t n on does is known =
     as_much log s (TotalSub u) o t n (λ c. refl) (omega (arith, less, total, before.0, before.1, before.2, after.0, after.1, after.2)) (known.totals.total t n is)
 
 -- a reference is given up, and is due for subtraction from its entry's slot
-joined_next : (log : List Deed) (s : State) (id : ℕ) (o : Outcome) (t n : ℕ) → Holds s → TotalsAfter s (JoinKeeper id) o → occupant t log ≡ Some n → SaidBefore log s → Next log s (JoinKeeper id) o t n
+joined_next : (log : List LogItem) (s : State) (id : ℕ) (o : Outcome) (t n : ℕ) → Holds s → TotalsAfter s (JoinKeeper id) o → occupant t log ≡ Some n → SaidBefore log s → Next log s (JoinKeeper id) o t n
 joined_next log s id o t n on does is known =
     let m = does.0 in
     let u = does.1 in
@@ -325,7 +325,7 @@ joined_next log s id o t n on does is known =
     as_much log s (JoinKeeper id) o t n (λ c. refl) (omega (arith, alike, given, total, before.0, before.1, before.2, after.0, after.1, after.2)) (known.totals.total t n is)
 
 -- of another slot than the one made vacant: the driver's total is 1 less, and one more reference to it is given up
-gave_up_next : (log : List Deed) (s : State) (v : ℕ) (o : Outcome) (t n : ℕ) → Holds s → TotalsAfter s (KeptSub v) o → occupant_after t (changes_in log) (KeptSub v) (occupant t log) ≡ Some n → SaidBefore log s → Next log s (KeptSub v) o t n
+gave_up_next : (log : List LogItem) (s : State) (v : ℕ) (o : Outcome) (t n : ℕ) → Holds s → TotalsAfter s (KeptSub v) o → occupant_after t (changes_in log) (KeptSub v) (occupant t log) ≡ Some n → SaidBefore log s → Next log s (KeptSub v) o t n
 gave_up_next log s v o t n on does is known = ⊎_elim
     (λ (same : v ≡ t). absurd (let q : ◌≡◌ {A = Option ℕ} None (Some n) = sym (if_here v t None (occupant t log) same) ∙ is in cc))
     (λ (off : v ≡ t → ⊥).
@@ -343,14 +343,14 @@ gave_up_next log s v o t n on does is known = ⊎_elim
     as_much log s (KeptSub v) o t n (λ c. if_off v t None (word_collected t c log) off) (omega (arith, alike, given, less, total, before.0, before.1, before.2, after.0, after.1, after.2)) (known.totals.total t n was))
     (cases_eq v t)
 
-vacated_next : (log : List Deed) (s : State) (v : ℕ) (o : Outcome) (t n : ℕ) → TotalsAfter s (Vacate v) o → occupant_after t (changes_in log) (Vacate v) (occupant t log) ≡ Some n → SaidBefore log s → Next log s (Vacate v) o t n
+vacated_next : (log : List LogItem) (s : State) (v : ℕ) (o : Outcome) (t n : ℕ) → TotalsAfter s (Vacate v) o → occupant_after t (changes_in log) (Vacate v) (occupant t log) ≡ Some n → SaidBefore log s → Next log s (Vacate v) o t n
 vacated_next log s v o t n does is known = ⊎_elim
     (λ (same : v ≡ t). absurd (let q : ◌≡◌ {A = Option ℕ} None (Some n) = sym (if_here v t None (occupant t log) same) ∙ is in cc))
     (λ (off : v ≡ t → ⊥).
     as_much log s (Vacate v) o t n (λ c. if_off v t None (word_collected t c log) off) (untouched log s (Vacate v) o.state t n refl does) (known.totals.total t n (sym (if_off v t None (occupant t log) off) ∙ is)))
     (cases_eq v t)
 
-total_next : (log : List Deed) (s : State) (e : Event) (o : Outcome) (t n : ℕ) → Holds s → DueAfter s e o.state → TotalsAfter s e o → occupant_after t (changes_in log) e (occupant t log) ≡ Some n → SaidBefore log s → Next log s e o t n
+total_next : (log : List LogItem) (s : State) (e : Event) (o : Outcome) (t n : ℕ) → Holds s → DueAfter s e o.state → TotalsAfter s e o → occupant_after t (changes_in log) e (occupant t log) ≡ Some n → SaidBefore log s → Next log s e o t n
 total_next log s (Publish u) o t n on due does is known = published_next log s u o t n on does is known
 total_next log s (Unpublish u) o t n on due does is known = unpublished_next log s u o t n due does is known
 total_next log s (Snapshot (Some u) c) o t n on due does is known = snapped_next log s u c o t n due does is known
@@ -364,7 +364,7 @@ total_next log s (Vacate v) o t n on due does is known = vacated_next log s v o 
 total_next log s e o t n on due does is known = as_much log s e o t n (λ c. refl) (untouched log s e o.state t n refl does) (known.totals.total t n is)
 
 -- nothing is given up to an entry that isn't there yet
-none_given : (log : List Deed) (s : State) (e : Event) (o : Outcome) (n : ℕ) → Holds s → TotalsAfter s e o → SaidBefore log s → changes_in log < n → given_by log n (by_number s e) ≡ 0
+none_given : (log : List LogItem) (s : State) (e : Event) (o : Outcome) (n : ℕ) → Holds s → TotalsAfter s e o → SaidBefore log s → changes_in log < n → given_by log n (by_number s e) ≡ 0
 none_given log s (JoinKeeper id) o n on does known above =
     ap (λ (x : Option ℕ). one_if (number_or_none x == n)) does.2 ∙ none_above s n does.0 does.1 on does.3 (omega (arith, above, known.changes))
 none_given log s (KeptSub v) o n on does known above =
@@ -373,11 +373,11 @@ none_given log s e o n on does known above = refl
 
 -- The walk
 
--- the keeper's next deed
-pub totals_own : (log : List Deed) (s : State) (e : Event) (o : Outcome) → Holds s → step s e ≡ Some o → SaidBefore log s → AreTotalsOf (log ++ deed_of s e o.reply ∷ []) o.state
+-- the keeper's next item
+pub totals_own : (log : List LogItem) (s : State) (e : Event) (o : Outcome) → Holds s → step s e ≡ Some o → SaidBefore log s → AreTotalsOf (log ++ item_of s e o.reply ∷ []) o.state
 totals_own log s e o on made known =
     let dues : Dues s e (Some o) = subst (Dues s e) made (step_dues s e) in
-    let d : Deed = deed_of s e o.reply in record {
+    let d : LogItem = item_of s e o.reply in record {
       total = λ t n is. total_next log s e o t n on dues.1 dues.2 (sym (occupant_next t log s e o.reply) ∙ is) known;
       later = λ n above.
           let grows : changes_in (log ++ d ∷ []) ≡ changes_of e (changes_in log) = changes_last log d ∙ unnamed_changes s e (changes_in log) in
@@ -399,7 +399,7 @@ left_off seat n i s (JoinKeeper id) o is off does = absurd (off is)
 left_off seat n i s (KeptSub t) o is off does = absurd (off is)
 left_off seat n i s e o is off does = does
 
-pub totals_off : (seat : ℕ → ℕ) (n i : ℕ) (log : List Deed) (s : State) (e : Event) (o : Outcome) → IsSeatOf seat n i (maker (by_number s e)) → (i ≡ 0 → ⊥) → step s e ≡ Some o → AreTotalsOf log s → AreTotalsOf log o.state
+pub totals_off : (seat : ℕ → ℕ) (n i : ℕ) (log : List LogItem) (s : State) (e : Event) (o : Outcome) → IsSeatOf seat n i (maker (by_number s e)) → (i ≡ 0 → ⊥) → step s e ≡ Some o → AreTotalsOf log s → AreTotalsOf log o.state
 totals_off seat n i log s e o is off made are =
     let dues : Dues s e (Some o) = subst (Dues s e) made (step_dues s e) in
     let same = left_off seat n i s e o is off dues.2 in record {
@@ -418,7 +418,7 @@ no_totals z = record { total = λ t n is. absurd (let q : ◌≡◌ {A = Option 
 -- What callers want
 
 -- at rest a total is by the log alone
-pub total_by_log : (log : List Deed) (s : State) (t n : ℕ) → AreTotalsOf log s → s.due ≡ Rest → occupant t log ≡ Some n → total_at s.totals t + given_up n log + bias * words_collected t log ≡ bias + sum_collected t log
+pub total_by_log : (log : List LogItem) (s : State) (t n : ℕ) → AreTotalsOf log s → s.due ≡ Rest → occupant t log ≡ Some n → total_at s.totals t + given_up n log + bias * words_collected t log ≡ bias + sum_collected t log
 total_by_log log s t n are rest is =
     let even : IsEven log s t n = are.total t n is in
     let quiet = quiet_rest s.due t rest in
@@ -446,7 +446,7 @@ net_collected true w = refl
 net_collected false w = refl
 
 -- as the keeper's view has it, so many references to the slot's entry were given up
-pub given_by_log : (log : List Deed) (g : State) (k : KeeperView) (t n : ℕ) → Good g → KeeperShown g k → AreCountsOf log g → AreTotalsOf log g → g.due ≡ Rest → occupant t log ≡ Some n → number_at k.given_up n ≡ given_up n log
+pub given_by_log : (log : List LogItem) (g : State) (k : KeeperView) (t n : ℕ) → Good g → KeeperShown g k → AreCountsOf log g → AreTotalsOf log g → g.due ≡ Rest → occupant t log ≡ Some n → number_at k.given_up n ≡ given_up n log
 given_by_log log g k t n good had counts totals rest is = by (slot_at g.slots t) refl
   where
     even : total_at g.totals t + given_up n log + bias * words_collected t log ≡ bias + sum_collected t log

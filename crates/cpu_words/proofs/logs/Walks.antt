@@ -7,19 +7,19 @@ use Rattle.protocol.specs.State.{State}
 use Rattle.protocol.specs.Events.{Outcome, step}
 use Rattle.protocol.specs.Invariant.{Holds}
 use Rattle.protocol.proofs.keeps.Keeping.{step_holds}
-use Rattle.cpu_words.specs.declared.view.Deed.{Deed}
+use Rattle.cpu_words.specs.declared.view.LogItem.{LogItem}
 use Rattle.cpu_words.specs.Rule.{by_number}
 use Rattle.cpu_words.specs.Logs.{part, maker, IsSeatOf, AreByOwn}
-use Rattle.cpu_words.proofs.logs.Runs.{deed_of, Follows}
+use Rattle.cpu_words.proofs.logs.Runs.{item_of, Follows}
 
 -- it stays so by each event: the keeper's log goes on with one of its own, and no other is the keeper's
-pub record Stays (seat : ℕ → ℕ) (n : ℕ) (P : List Deed → State → Type 0) : Type 0 where
-  pub own : (log : List Deed) (s : State) (e : Event) (o : Outcome) → Holds s → step s e ≡ Some o → P log s → P (log ++ deed_of s e o.reply ∷ []) o.state
-  pub off : (i : ℕ) (log : List Deed) (s : State) (e : Event) (o : Outcome) → IsSeatOf seat n i (maker (by_number s e)) → i ≢ 0 → Holds s → step s e ≡ Some o → P log s → P log o.state
+pub record Stays (seat : ℕ → ℕ) (n : ℕ) (P : List LogItem → State → Type 0) : Type 0 where
+  pub own : (log : List LogItem) (s : State) (e : Event) (o : Outcome) → Holds s → step s e ≡ Some o → P log s → P (log ++ item_of s e o.reply ∷ []) o.state
+  pub off : (i : ℕ) (log : List LogItem) (s : State) (e : Event) (o : Outcome) → IsSeatOf seat n i (maker (by_number s e)) → i ≢ 0 → Holds s → step s e ≡ Some o → P log s → P log o.state
 
-pub walked : (seat : ℕ → ℕ) (n : ℕ) (P : List Deed → State → Type 0) (log : List Deed) (s : State) (acts : List (ℕ × Deed)) (es : List Event) (t : State)
+pub walked : (seat : ℕ → ℕ) (n : ℕ) (P : List LogItem → State → Type 0) (log : List LogItem) (s : State) (acts : List (ℕ × LogItem)) (es : List Event) (t : State)
     → Stays seat n P → Follows s acts es t → Holds s → AreByOwn seat n acts → P log s → P (log ++ part 0 acts) t
-walked seat n P log s [] [] t stays is on own so = subst (P (log ++ [])) (sym is) (subst (λ (l : List Deed). P l s) (sym (append-nil log)) so)
+walked seat n P log s [] [] t stays is on own so = subst (P (log ++ [])) (sym is) (subst (λ (l : List LogItem). P l s) (sym (append-nil log)) so)
 walked seat n P log s [] (e ∷ es) t stays run on own so = absurd run
 walked seat n P log s (a ∷ more) [] t stays run on own so = absurd run
 walked seat n P log s (a ∷ more) (e ∷ es) t stays run on own so =
@@ -27,13 +27,13 @@ walked seat n P log s (a ∷ more) (e ∷ es) t stays run on own so =
     let holds : Holds o.state = step_holds s o.state e o.reply on run.1 in
     ⊎_elim
     (λ (same : a.0 ≡ 0).
-    let next : P (log ++ a.1 ∷ []) o.state = subst (λ (d : Deed). P (log ++ d ∷ []) o.state) (sym run.2) (stays.own log s e o on run.1 so) in
+    let next : P (log ++ a.1 ∷ []) o.state = subst (λ (d : LogItem). P (log ++ d ∷ []) o.state) (sym run.2) (stays.own log s e o on run.1 so) in
     let whole : (log ++ a.1 ∷ []) ++ part 0 more ≡ log ++ part 0 (a ∷ more) =
     append_assoc log (a.1 ∷ []) (part 0 more) ∙ sym (ap (λ (b : Bool). log ++ cond b (a.1 ∷ part 0 more) (part 0 more)) (eq-eqb a.0 0 same)) in
-    subst (λ (l : List Deed). P l t) whole (walked seat n P (log ++ a.1 ∷ []) o.state more es t stays run.3 holds own.1 next))
+    subst (λ (l : List LogItem). P l t) whole (walked seat n P (log ++ a.1 ∷ []) o.state more es t stays run.3 holds own.1 next))
     (λ (off : a.0 ≢ 0).
-    let mine : IsSeatOf seat n a.0 (maker (by_number s e)) = subst (λ (d : Deed). IsSeatOf seat n a.0 (maker d.event)) run.2 own.0 in
+    let mine : IsSeatOf seat n a.0 (maker (by_number s e)) = subst (λ (d : LogItem). IsSeatOf seat n a.0 (maker d.event)) run.2 own.0 in
     let next : P log o.state = stays.off a.0 log s e o mine off on run.1 so in
     let whole : log ++ part 0 more ≡ log ++ part 0 (a ∷ more) = sym (ap (λ (b : Bool). log ++ cond b (a.1 ∷ part 0 more) (part 0 more)) (ne_eqb a.0 0 off)) in
-    subst (λ (l : List Deed). P l t) whole (walked seat n P log o.state more es t stays run.3 holds own.1 next))
+    subst (λ (l : List LogItem). P l t) whole (walked seat n P log o.state more es t stays run.3 holds own.1 next))
     (cases_eq a.0 0)

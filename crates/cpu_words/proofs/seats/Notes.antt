@@ -20,15 +20,15 @@ use Rattle.cpu_words.specs.declared.view.Logged.{Logged}
 use Rattle.cpu_words.specs.declared.view.View.{View}
 use Rattle.cpu_words.specs.declared.view.View.TheVariants.{Keeper, Cpu, Note, Spent}
 use Rattle.cpu_words.specs.Views.{KeeperOwn, own_of, cpu_view, keeper_own, keeper_view, depth_of, CpuShown, KeeperShown, Shown, cpu_of, keeper_of, note_of}
-use Rattle.cpu_words.specs.Rule.{Sits, reference_to, Good, by_number, did, deeds}
+use Rattle.cpu_words.specs.Rule.{Sits, reference_to, Good, by_number, did, log_of_events}
 use Rattle.cpu_words.specs.Steps.{Makes, SplitsBy, CpuMay, KeeperMay}
 use Rattle.cpu_words.specs.Steps.{SplitsOn, JoinsOn}
 use Rattle.std.proofs.lemmas.List.{append-nil}
 use Rattle.cpu_words.proofs.laws.Reaching.{more}
-use Rattle.cpu_words.proofs.logs.Seats.{tells_heard, tells_whole, seat_cut, seat_laid}
-use Rattle.cpu_words.specs.Logs.{the_cpu, who, LoggedRuled, logged_after_split, deeds_heard, deeds_done, fresh, logged_with_note, spent_seat, tells_pass, tells_history}
+use Rattle.cpu_words.proofs.logs.Seats.{tells_known, tells_whole, seat_cut, seat_with_note}
+use Rattle.cpu_words.specs.Logs.{the_cpu, who, LoggedRuled, logged_after_split, known_log_of, whole_log, fresh, logged_with_note, spent_seat, tells_pass, tells_history}
 use Rattle.cpu_words.specs.Sections.{IsIdle}
-use Rattle.cpu_words.specs.Notes.{as_before, pass_told, history_told, with_heard, keeper_with_heard, beside_cpu, beside_keeper, HasHeard, KeeperHasHeard}
+use Rattle.cpu_words.specs.Notes.{as_before, pass_told, history_told, with_note, keeper_with_note, beside_cpu, beside_keeper, HasHeard, KeeperHasHeard}
 use Rattle.cpu_words.proofs.shown.Showing.{Stay, shows_split, shows_join}
 use Rattle.cpu_words.proofs.shown.Passes.{taken_is_prefix, prefix_longer, take_whole}
 use Rattle.cpu_words.proofs.shown.Seeing.{seen_of, idle_of}
@@ -63,7 +63,7 @@ splits z i e v h tells s r at =
     let g = r.g in
     let had = r.shows.fits i v at in
     let told = tells g r.good had.1 in record {
-      goes_on = (more z g g e Done r.reached told.0).1 ∙ ap (λ (f : Event). deeds z r.reached.events ++ did f Done) told.2;
+      goes_on = (more z g g e Done r.reached told.0).1 ∙ ap (λ (f : Event). log_of_events z r.reached.events ++ did f Done) told.2;
       seated = omega arith;
       seats = λ c lt. refl;
       ruled = record {
@@ -93,16 +93,16 @@ keeper_tells k may g good had =
 
 -- the same of a seat
 
-pub cpu_splits : (z : Settings) (i : ℕ) (l : Logged) (x : CpuView) (c : ℕ) → l ≡ record l { view = Cpu (cpu_of l.view) } → cpu_of l.view ≡ x → x.id ≡ c → IsIdle x → Splits (LoggedRuled z) i l (logged_after_split as_before tells_pass l) (fresh pass_told deeds_heard l)
-cpu_splits z i l x c is view id idle = seat_cut z i l (Cpu x) as_before pass_told tells_pass deeds_heard (did (Tell (Some c)) Done) (is ∙ ap (λ (u : CpuView). record l { view = Cpu u }) view) tt (ap the_cpu (sym id), tt) (λ k. did (Tell (Some (id k))) Done) (tells_heard (record l { view = Cpu x }) (did (Tell (Some c)) Done)) (splits z i (Tell (Some c)) (Cpu x) x.pass (cpu_tells x c id idle))
+pub cpu_splits : (z : Settings) (i : ℕ) (l : Logged) (x : CpuView) (c : ℕ) → l ≡ record l { view = Cpu (cpu_of l.view) } → cpu_of l.view ≡ x → x.id ≡ c → IsIdle x → Splits (LoggedRuled z) i l (logged_after_split as_before tells_pass l) (fresh pass_told known_log_of l)
+cpu_splits z i l x c is view id idle = seat_cut z i l (Cpu x) as_before pass_told tells_pass known_log_of (did (Tell (Some c)) Done) (is ∙ ap (λ (u : CpuView). record l { view = Cpu u }) view) tt (ap the_cpu (sym id), tt) (λ k. did (Tell (Some (id k))) Done) (tells_known (record l { view = Cpu x }) (did (Tell (Some c)) Done)) (splits z i (Tell (Some c)) (Cpu x) x.pass (cpu_tells x c id idle))
 
 pub cpu_splits_by : (v a : View) (x : CpuView) (c : ℕ) → cpu_of v ≡ x → a ≡ pass_told v → x.id ≡ c → IsIdle x → SplitsBy (Tell (Some c)) (Cpu x) (Cpu x) (Note (note_of a))
 cpu_splits_by v a x c view right id idle =
     let p : note_of a ≡ x.pass = ap note_of right ∙ ap (λ (u : CpuView). u.pass) view in
     subst (λ h. SplitsBy (Tell (Some c)) (Cpu x) (Cpu x) (Note h)) (sym p) (tells_by (Tell (Some c)) (Cpu x) x.pass (cpu_tells x c id idle))
 
-pub keeper_splits : (z : Settings) (i : ℕ) (l : Logged) (k : KeeperView) → l ≡ record l { view = Keeper (keeper_of l.view) } → keeper_of l.view ≡ k → k.due ≡ Rest → Splits (LoggedRuled z) i l (logged_after_split as_before tells_history l) (fresh history_told (deeds_done tells_history) l)
-keeper_splits z i l k is view may = seat_cut z i l (Keeper k) as_before history_told tells_history (deeds_done tells_history) (did (Tell None) Done) (is ∙ ap (λ (u : KeeperView). record l { view = Keeper u }) view) tt (refl, tt) refl (tells_whole (record l { view = Keeper k }) (did (Tell None) Done) tt) (splits z i (Tell None) (Keeper k) k.history (keeper_tells k may))
+pub keeper_splits : (z : Settings) (i : ℕ) (l : Logged) (k : KeeperView) → l ≡ record l { view = Keeper (keeper_of l.view) } → keeper_of l.view ≡ k → k.due ≡ Rest → Splits (LoggedRuled z) i l (logged_after_split as_before tells_history l) (fresh history_told (whole_log tells_history) l)
+keeper_splits z i l k is view may = seat_cut z i l (Keeper k) as_before history_told tells_history (whole_log tells_history) (did (Tell None) Done) (is ∙ ap (λ (u : KeeperView). record l { view = Keeper u }) view) tt (refl, tt) refl (tells_whole (record l { view = Keeper k }) (did (Tell None) Done) tt) (splits z i (Tell None) (Keeper k) k.history (keeper_tells k may))
 
 pub keeper_splits_by : (v a : View) (k : KeeperView) → keeper_of v ≡ k → a ≡ history_told v → k.due ≡ Rest → SplitsBy (Tell None) (Keeper k) (Keeper k) (Note (note_of a))
 keeper_splits_by v a k view right may =
@@ -128,7 +128,7 @@ joins z i o v both h beside s r at apart there =
     (at_set s.views i o both (Note h) there) in
     let told : IsPrefix h g.history = (r.shows.fits o (Note h) was).1 in
     record {
-      goes_on = sym (append-nil (deeds z r.reached.events));
+      goes_on = sym (append-nil (log_of_events z r.reached.events));
       seated = omega arith;
       seats = λ c lt. refl;
       ruled = record {
@@ -143,12 +143,12 @@ joins z i o v both h beside s r at apart there =
       };
     }
 
-cpu_beside : (x : CpuView) (h : List Change) → Beside (Cpu x) (Cpu (with_heard x h)) h
+cpu_beside : (x : CpuView) (h : List Change) → Beside (Cpu x) (Cpu (with_note x h)) h
 cpu_beside x h = record {
   sits = λ seat i here. here;
   shown = λ g had told. record {
     seated = had.seated;
-    is = ap (λ (v : CpuView). with_heard v h) had.is;
+    is = ap (λ (v : CpuView). with_note v h) had.is;
     hand = had.hand;
     in_hand = had.in_hand;
     depth = had.depth;
@@ -160,17 +160,17 @@ cpu_beside x h = record {
     there = had.there;
     found = had.found;
     references = had.references;
-    heard = told;
+    noted_pass = told;
   };
   owner = refl;
   references = λ n. refl;
 }
 
-keeper_beside : (k : KeeperView) (h : List Change) → Beside (Keeper k) (Keeper (keeper_with_heard k h)) h
+keeper_beside : (k : KeeperView) (h : List Change) → Beside (Keeper k) (Keeper (keeper_with_note k h)) h
 keeper_beside k h = record {
   sits = λ seat i here. here;
   shown = λ g had told. record {
-    is = ap (λ (v : KeeperView). keeper_with_heard v h) had.is;
+    is = ap (λ (v : KeeperView). keeper_with_note v h) had.is;
     counts = had.counts;
     sized = had.sized;
     rows = had.rows;
@@ -178,7 +178,7 @@ keeper_beside k h = record {
     gives_up = had.gives_up;
     later = had.later;
     beyond = had.beyond;
-    heard = told;
+    noted_pass = told;
   };
   owner = refl;
   references = λ n. refl;
@@ -187,11 +187,11 @@ keeper_beside k h = record {
 -- the same of two seats, whose views are a CPU's or the keeper's, and a note
 
 pub cpu_joins : (z : Settings) (i o : ℕ) (l m : Logged) → l ≡ record l { view = Cpu (cpu_of l.view) } → m ≡ record m { view = Note (note_of m.view) } → Joins (LoggedRuled z) i l o m (logged_with_note beside_cpu l m) spent_seat
-cpu_joins z i o l m is that = seat_laid z i o l m (Cpu (cpu_of l.view)) (Note (note_of m.view)) beside_cpu is that tt
+cpu_joins z i o l m is that = seat_with_note z i o l m (Cpu (cpu_of l.view)) (Note (note_of m.view)) beside_cpu is that tt
     (joins z i o (Cpu (cpu_of l.view)) (beside_cpu (Cpu (cpu_of l.view)) (Note (note_of m.view))) (note_of m.view) (cpu_beside (cpu_of l.view) (note_of m.view)))
 
 pub keeper_joins : (z : Settings) (i o : ℕ) (l m : Logged) → l ≡ record l { view = Keeper (keeper_of l.view) } → m ≡ record m { view = Note (note_of m.view) } → Joins (LoggedRuled z) i l o m (logged_with_note beside_keeper l m) spent_seat
-keeper_joins z i o l m is that = seat_laid z i o l m (Keeper (keeper_of l.view)) (Note (note_of m.view)) beside_keeper is that tt
+keeper_joins z i o l m is that = seat_with_note z i o l m (Keeper (keeper_of l.view)) (Note (note_of m.view)) beside_keeper is that tt
     (joins z i o (Keeper (keeper_of l.view)) (beside_keeper (Keeper (keeper_of l.view)) (Note (note_of m.view))) (note_of m.view) (keeper_beside (keeper_of l.view) (note_of m.view)))
 
 -- The load that hears
@@ -214,7 +214,7 @@ hear_may z x c id idle = subst (λ d. CpuMay z x (80 * d) (λ n. n) (λ n. did (
     let shown = shown_on g x l had refl refl refl (had.depth ∙ ap depth_of seen.begin) more within (found_on g x (get_or l.seen x.id 0) had more within) in
     let words = loads s.words g (with_lists g l) (80 * x.id) r.words refl (λ q _. refl) in
     let done = cpu_makes z s r i x (80 * x.id) (slice_index s.words (80 * x.id)) l (Hear (Some x.id)) Done (own_of x) at made leaves (λ k. refl) refl shown words in
-    let told : IsPrefix x.heard y.pass = subst (IsPrefix x.heard) (sym passes) had.heard in
+    let told : IsPrefix x.noted_pass y.pass = subst (IsPrefix x.noted_pass) (sym passes) had.noted_pass in
     let longer : IsPrefix x.pass y.pass = subst (λ p. IsPrefix p y.pass) (sym seen.pass) (prefix_longer g.history (seen_at g x.id) (get_or l.seen x.id 0) more within) in
     let change : y ≡ record x { pass = y.pass } = ap (λ (v : CpuView). record v { pass = y.pass }) (sym had.is) in
     (Cpu y, done.0, (refl, (done.1, (told, longer, change)))))
@@ -228,22 +228,22 @@ hear_keeper_may z k may s r i at fits =
     let l = keeper_lists g in
     let own : KeeperOwn = keeper_own k in
     let made : step g (Hear None) ≡ Some (record { state = with_keeper g l; reply = Done }) = rw (rest) refl in
-    let shown : KeeperShown (with_keeper g l) (keeper_view (with_keeper g l) own) = record { is = refl; counts = had.counts; sized = had.sized; rows = had.rows; live_total = had.live_total; gives_up = had.gives_up; later = had.later; beyond = had.beyond; heard = had.heard } in
+    let shown : KeeperShown (with_keeper g l) (keeper_view (with_keeper g l) own) = record { is = refl; counts = had.counts; sized = had.sized; rows = had.rows; live_total = had.live_total; gives_up = had.gives_up; later = had.later; beyond = had.beyond; noted_pass = had.noted_pass } in
     let done = keeper_makes z s r i k 648 (slice_index s.words 648) l (Hear None) Done own at made (leaves_all g l refl refl refl refl (λ t d is. is)) (λ n. refl) refl shown (loads s.words g (with_keeper g l) 648 r.words refl (λ q _. refl)) in
-    (Keeper (keeper_view (with_keeper g l) own), done.0, (refl, (done.1, (had.heard, sym had.is))))
+    (Keeper (keeper_view (with_keeper g l) own), done.0, (refl, (done.1, (had.noted_pass, sym had.is))))
 
 -- the same of a seat with the note beside its view
 
-pub hear_laid_may : (z : Settings) (x y : CpuView) (h : List Change) (c : ℕ) → y ≡ with_heard x h → x.id ≡ c → IsIdle x → CpuMay z y (80 * c) (λ n. n) (λ n. did (Hear (Some c)) Done) (λ v n w. Makes (Hear (Some c)) Done (Cpu v) (Cpu w) × HasHeard v w)
-hear_laid_may z x y h c logged_with_note id idle = hear_may z y c (ap (λ (v : CpuView). v.id) logged_with_note ∙ id) (record { search = ap (λ (v : CpuView). v.search) logged_with_note ∙ idle.search; hand = ap (λ (v : CpuView). v.hand) logged_with_note ∙ idle.hand })
+pub hear_with_note_may : (z : Settings) (x y : CpuView) (h : List Change) (c : ℕ) → y ≡ with_note x h → x.id ≡ c → IsIdle x → CpuMay z y (80 * c) (λ n. n) (λ n. did (Hear (Some c)) Done) (λ v n w. Makes (Hear (Some c)) Done (Cpu v) (Cpu w) × HasHeard v w)
+hear_with_note_may z x y h c logged_with_note id idle = hear_may z y c (ap (λ (v : CpuView). v.id) logged_with_note ∙ id) (record { search = ap (λ (v : CpuView). v.search) logged_with_note ∙ idle.search; hand = ap (λ (v : CpuView). v.hand) logged_with_note ∙ idle.hand })
 
-pub hear_keeper_laid_may : (z : Settings) (k l : KeeperView) (h : List Change) → l ≡ keeper_with_heard k h → k.due ≡ Rest → KeeperMay z l 648 (λ n. n) (λ n. did (Hear None) Done) (λ v n w. Makes (Hear None) Done (Keeper v) (Keeper w) × KeeperHasHeard v w)
-hear_keeper_laid_may z k l h logged_with_note may = hear_keeper_may z l (ap (λ (v : KeeperView). v.due) logged_with_note ∙ may)
+pub hear_keeper_with_note_may : (z : Settings) (k l : KeeperView) (h : List Change) → l ≡ keeper_with_note k h → k.due ≡ Rest → KeeperMay z l 648 (λ n. n) (λ n. did (Hear None) Done) (λ v n w. Makes (Hear None) Done (Keeper v) (Keeper w) × KeeperHasHeard v w)
+hear_keeper_with_note_may z k l h logged_with_note may = hear_keeper_may z l (ap (λ (v : KeeperView). v.due) logged_with_note ∙ may)
 
 -- what was heard is what the note told
 
-pub cpu_heard : (x y w : CpuView) (h : List Change) → y ≡ with_heard x h → HasHeard y w → IsPrefix h w.pass × IsPrefix x.pass w.pass × (w ≡ record x { pass = w.pass; heard = h })
+pub cpu_heard : (x y w : CpuView) (h : List Change) → y ≡ with_note x h → HasHeard y w → IsPrefix h w.pass × IsPrefix x.pass w.pass × (w ≡ record x { pass = w.pass; noted_pass = h })
 cpu_heard x y w h logged_with_note heard = subst (λ v. HasHeard v w) logged_with_note heard
 
-pub keeper_heard : (k l w : KeeperView) (h : List Change) → l ≡ keeper_with_heard k h → KeeperHasHeard l w → IsPrefix h w.history × (w ≡ keeper_with_heard k h)
+pub keeper_heard : (k l w : KeeperView) (h : List Change) → l ≡ keeper_with_note k h → KeeperHasHeard l w → IsPrefix h w.history × (w ≡ keeper_with_note k h)
 keeper_heard k l w h logged_with_note heard = subst (λ v. KeeperHasHeard v w) logged_with_note heard

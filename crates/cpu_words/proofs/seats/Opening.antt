@@ -80,11 +80,11 @@ first_shown z = record {
   gives_up = λ t e is. absurd (none_in z t e (inr is));
   later = λ n above. refl;
   beyond = λ c t past. ap (λ (m : Mark). m.collected) (cell_all z.slots 8 no_mark t c);
-  heard = ([], refl);
+  noted_pass = ([], refl);
 }
 
-plain_opens : (z : Settings) (words : List ℕ) → IsTrue (are_fit z) → AreOpening words → Ruled z (opening_table words [] (first_view z))
-plain_opens z words fit are = record {
+opens_without_logs : (z : Settings) (words : List ℕ) → IsTrue (are_fit z) → AreOpening words → Ruled z (opening_table words [] (first_view z))
+opens_without_logs z words fit are = record {
   g = opening z;
   seat = λ _. 0;
   settings = refl;
@@ -100,9 +100,9 @@ plain_opens z words fit are = record {
 
 -- nobody has done anything
 pub opens : (z : Settings) (words : List ℕ) → IsTrue (are_fit z) → AreOpening words → LoggedRuled z (opening_table words [] (first_logged z))
-unfolding plain_opens
+unfolding opens_without_logs
 opens z words fit are = record {
-  run = plain_opens z words fit are;
+  run = opens_without_logs z words fit are;
   acts = [];
   are = refl;
   owners = tt;
@@ -121,15 +121,15 @@ opens z words fit are = record {
 
 -- the seats of the first CPUs
 
-pub more_seats : (table : TableId) (z : Settings) (n : ℕ) (seats : List (Seated CpuView)) (new : Seated CpuView) → AreSeats table z n seats → new ≡ record { table = table; view = new_cpu z n; log = []; deeds = []; laid = [] } → AreSeats table z (n + 1) (seats ++ new ∷ [])
+pub more_seats : (table : TableId) (z : Settings) (n : ℕ) (seats : List (Seated CpuView)) (new : Seated CpuView) → AreSeats table z n seats → new ≡ record { table = table; view = new_cpu z n; log = []; known_log = []; noted_log = [] } → AreSeats table z (n + 1) (seats ++ new ∷ [])
 more_seats table z n seats new are is =
     let size : length seats ≡ n = are.count in record {
       count = length-append seats (new ∷ []) ∙ ap (λ k. k + 1) size;
       each = below_more _ n
-          (λ c lt. at_longer seats (new ∷ []) c (record { table = table; view = new_cpu z c; log = []; deeds = []; laid = [] }) (are.each c lt))
+          (λ c lt. at_longer seats (new ∷ []) c (record { table = table; view = new_cpu z c; log = []; known_log = []; noted_log = [] }) (are.each c lt))
           (at_last seats new n size ∙ ap some is);
     }
 
 -- the seat that is cut from the seat of a keeper that has seated n CPUs
-pub seat_is : (new : Seated CpuView) (table : TableId) (z : Settings) (n : ℕ) (k : KeeperView) → new.table ≡ table → new.view ≡ new_cpu k.settings k.seated → new.log ≡ [] → (new.deeds ≡ []) × (new.laid ≡ []) → k ≡ keeper_with z n → new ≡ record { table = table; view = new_cpu z n; log = []; deeds = []; laid = [] }
-seat_is new table z n k at view log deeds is i = record { table = at i; view = (view ∙ ap (λ (u : KeeperView). new_cpu u.settings u.seated) is) i; log = log i; deeds = deeds.0 i; laid = deeds.1 i }
+pub seat_is : (new : Seated CpuView) (table : TableId) (z : Settings) (n : ℕ) (k : KeeperView) → new.table ≡ table → new.view ≡ new_cpu k.settings k.seated → new.log ≡ [] → (new.known_log ≡ []) × (new.noted_log ≡ []) → k ≡ keeper_with z n → new ≡ record { table = table; view = new_cpu z n; log = []; known_log = []; noted_log = [] }
+seat_is new table z n k at view log known_log is i = record { table = at i; view = (view ∙ ap (λ (u : KeeperView). new_cpu u.settings u.seated) is) i; log = log i; known_log = known_log.0 i; noted_log = known_log.1 i }

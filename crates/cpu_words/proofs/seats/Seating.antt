@@ -21,12 +21,12 @@ use Rattle.cpu_words.specs.declared.view.View.{View}
 use Rattle.cpu_words.specs.declared.view.View.TheVariants.{Keeper, Cpu, Reference, Note, Spent}
 use Rattle.cpu_words.specs.Spots.{Spot, section_of, passive_of, count_of, head_word, next_of, record_of, total_of, word_at}
 use Rattle.cpu_words.specs.Views.{SameHand, own_of, cpu_view, new_cpu, CpuShown, KeeperShown, Shown, cpu_of, keeper_of}
-use Rattle.cpu_words.specs.Rule.{Sits, Shows, IsFresh, Good, did}
+use Rattle.cpu_words.specs.Rule.{Sits, ShowsViews, IsFresh, Good, did}
 use Rattle.cpu_words.specs.Steps.{SplitsBy, SplitsOn}
 use Rattle.cpu_words.specs.Opening.{MaySeat, one_seated, with_cpu_seated, next_seat}
 use Rattle.cpu_words.proofs.laws.Reaching.{more}
 use Rattle.cpu_words.proofs.logs.Seats.{tells_nothing, seat_cut}
-use Rattle.cpu_words.specs.Logs.{the_cpu, LoggedRuled, logged_after_split, no_deeds, fresh, seats_next}
+use Rattle.cpu_words.specs.Logs.{the_cpu, LoggedRuled, logged_after_split, no_log, fresh, seats_next}
 use Rattle.cpu_words.proofs.shown.Showing.{Stay, SeatsWith, shows_split}
 use Rattle.cpu_words.proofs.shown.Placing.{agrees_same}
 use Rattle.cpu_words.proofs.by_keeper.KeeperSteps.{KeeperLists, keeper_lists, with_keeper, cpu_beside_shown}
@@ -102,7 +102,7 @@ new_shown g good lt =
       there = λ t some_one. absurd (some_one refl);
       found = λ e is. absurd (let q : ◌≡◌ {A = Option Entry} None (Some e) = is in cc);
       references = λ e among. let lt : among.0 < 0 = among.1 in absurd (omega arith);
-      heard = (g.history, refl);
+      noted_pass = (g.history, refl);
     }
   where
     self : (n : ℕ) → n ≤ n
@@ -121,7 +121,7 @@ keeper_shown g k had = record {
   gives_up = had.gives_up;
   later = had.later;
   beyond = had.beyond;
-  heard = had.heard;
+  noted_pass = had.noted_pass;
 }
 
 -- the keeper's view tells that the event may be made
@@ -181,7 +181,7 @@ sits_on g seat i j (Reference v) sits shown = tt
 sits_on g seat i j (Note h) sits shown = tt
 sits_on g seat i j Spent sits shown = tt
 
-shows_reseated : (g : State) (seat : ℕ → ℕ) (i : ℕ) (views : List View) → Shows g seat views → Shows g (seat_with seat g.seated i) views
+shows_reseated : (g : State) (seat : ℕ → ℕ) (i : ℕ) (views : List View) → ShowsViews g seat views → ShowsViews g (seat_with seat g.seated i) views
 shows_reseated g seat i views shows = record {
   fits = λ j u e. let had = shows.fits j u e in (sits_on g seat i j u had.0 had.1, had.1);
   each = record {
@@ -227,8 +227,8 @@ splits z i k may s r at =
 
 -- the same of a seat, whose view is the keeper's
 
-pub seat_splits : (z : Settings) (i : ℕ) (l : Logged) (k : KeeperView) → l ≡ record l { view = Keeper (keeper_of l.view) } → keeper_of l.view ≡ k → MaySeat k → Splits (LoggedRuled z) i l (logged_after_split with_cpu_seated seats_next l) (fresh next_seat no_deeds l)
-seat_splits z i l k is view may = seat_cut z i l (Keeper k) with_cpu_seated next_seat seats_next no_deeds (did (Seat k.seated) Done) (is ∙ ap (λ (u : KeeperView). record l { view = Keeper u }) view) tt (refl, tt) refl (tells_nothing (record l { view = Keeper k }) (did (Seat k.seated) Done)) (splits z i k may)
+pub seat_splits : (z : Settings) (i : ℕ) (l : Logged) (k : KeeperView) → l ≡ record l { view = Keeper (keeper_of l.view) } → keeper_of l.view ≡ k → MaySeat k → Splits (LoggedRuled z) i l (logged_after_split with_cpu_seated seats_next l) (fresh next_seat no_log l)
+seat_splits z i l k is view may = seat_cut z i l (Keeper k) with_cpu_seated next_seat seats_next no_log (did (Seat k.seated) Done) (is ∙ ap (λ (u : KeeperView). record l { view = Keeper u }) view) tt (refl, tt) refl (tells_nothing (record l { view = Keeper k }) (did (Seat k.seated) Done)) (splits z i k may)
 
 pub seat_splits_by : (v a b : View) (k : KeeperView) → keeper_of v ≡ k → a ≡ with_cpu_seated v → b ≡ next_seat v → MaySeat k → SplitsBy (Seat k.seated) (Keeper k) (Keeper (keeper_of a)) (Cpu (cpu_of b))
 seat_splits_by v a b k view left right may =

@@ -11,7 +11,7 @@ use Rattle.cpu_words.specs.declared.view.KeeperView.{KeeperView}
 use Rattle.cpu_words.specs.declared.view.View.{View}
 use Rattle.cpu_words.specs.declared.view.View.TheVariants.{Keeper, Cpu, Reference, Note, Spent}
 use Rattle.cpu_words.specs.Views.{Shown}
-use Rattle.cpu_words.specs.Rule.{Sits, reference_to, HaveViews, Shows}
+use Rattle.cpu_words.specs.Rule.{Sits, reference_to, HaveViews, ShowsViews}
 use Rattle.cpu_words.specs.Logs.{Maker, the_keeper, the_cpu, another, who}
 
 sum_at : (f : View → ℕ) (l : List View) (i : ℕ) (v w : View) → get_elem? l i ≡ some v → sum_by f (set l i w) + f v ≡ sum_by f l + f w
@@ -46,7 +46,7 @@ standing_in n g = sum_by (standing_of n) g.locals
 abbrev pub IsBacked : State → View → Type 0
 IsBacked g v = (n : ℕ) → reference_to n v ≤ standing_in n g
 
-pub backed : (g : State) (seat : ℕ → ℕ) (views : List View) (i : ℕ) (v : View) → Shows g seat views → get_elem? views i ≡ some v → IsBacked g v
+pub backed : (g : State) (seat : ℕ → ℕ) (views : List View) (i : ℕ) (v : View) → ShowsViews g seat views → get_elem? views i ≡ some v → IsBacked g v
 backed g seat views i v shows at n = let a = weight_at (reference_to n) views i v at in let b = shows.references n in omega arith
 
 -- Whose views are there: a change of a view leaves it its owner's
@@ -128,8 +128,8 @@ Stay g g' seat i = (j : ℕ) (u : View) → j ≢ i → Sits seat j u → Shown 
 
 -- one view changes, and is its owner's as before
 pub shows_set : (g g' : State) (seat : ℕ → ℕ) (views : List View) (i : ℕ) (v w : View)
-    → Shows g seat views → get_elem? views i ≡ some v → Stay g g' seat i → Sits seat i w × Shown g' w → g'.seated ≡ g.seated → who w ≡ who v
-    → ((n : ℕ) → reference_to n w + standing_in n g ≡ reference_to n v + standing_in n g') → Shows g' seat (set views i w)
+    → ShowsViews g seat views → get_elem? views i ≡ some v → Stay g g' seat i → Sits seat i w × Shown g' w → g'.seated ≡ g.seated → who w ≡ who v
+    → ((n : ℕ) → reference_to n w + standing_in n g ≡ reference_to n v + standing_in n g') → ShowsViews g' seat (set views i w)
 shows_set g g' seat views i v w shows at stay mine seated same count = record {
   fits = λ j u e. ⊎_elim
       (λ (x : (j ≡ i) × (w ≡ u)). subst (λ (y : ℕ × View). Sits seat y.0 y.1 × Shown g' y.1) (λ k. (sym x.0 k, x.1 k)) mine)
@@ -141,9 +141,9 @@ shows_set g g' seat views i v w shows at stay mine seated same count = record {
 
 -- one view is cut in two: the left part is the owner's, and the right one is nobody's, or that of a CPU that gets its seat
 pub shows_split : (g g' : State) (seat : ℕ → ℕ) (views : List View) (i : ℕ) (v left right : View)
-    → Shows g seat views → get_elem? views i ≡ some v → Stay g g' seat i → Sits seat i left × Shown g' left → Sits seat (length views) right × Shown g' right
+    → ShowsViews g seat views → get_elem? views i ≡ some v → Stay g g' seat i → Sits seat i left × Shown g' left → Sits seat (length views) right × Shown g' right
     → SeatsWith g.seated g'.seated seat (length views) right → who left ≡ who v
-    → ((n : ℕ) → reference_to n left + reference_to n right + standing_in n g ≡ reference_to n v + standing_in n g') → Shows g' seat (set views i left ++ right ∷ [])
+    → ((n : ℕ) → reference_to n left + reference_to n right + standing_in n g ≡ reference_to n v + standing_in n g') → ShowsViews g' seat (set views i left ++ right ∷ [])
 shows_split g g' seat views i v left right shows at stay mine new seats same count =
     let size : length (set views i left) ≡ length views = length-set views i left in record {
       fits = λ j u e. ⊎_elim
@@ -160,8 +160,8 @@ shows_split g g' seat views i v left right shows at stay mine new seats same cou
 
 -- one view is put into another, and is spent: it is neither the keeper's nor a CPU's
 pub shows_join : (g g' : State) (seat : ℕ → ℕ) (views : List View) (i : ℕ) (v : View) (o : ℕ) (u both : View)
-    → Shows g seat views → get_elem? views i ≡ some v → o ≢ i → get_elem? views o ≡ some u → Stay g g' seat i → Sits seat i both × Shown g' both → g'.seated ≡ g.seated → (who both ≡ who v) × (who u ≡ another)
-    → ((n : ℕ) → reference_to n both + standing_in n g ≡ reference_to n v + reference_to n u + standing_in n g') → get_elem? (set views i both) o ≡ some u → Shows g' seat (set (set views i both) o Spent)
+    → ShowsViews g seat views → get_elem? views i ≡ some v → o ≢ i → get_elem? views o ≡ some u → Stay g g' seat i → Sits seat i both × Shown g' both → g'.seated ≡ g.seated → (who both ≡ who v) × (who u ≡ another)
+    → ((n : ℕ) → reference_to n both + standing_in n g ≡ reference_to n v + reference_to n u + standing_in n g') → get_elem? (set views i both) o ≡ some u → ShowsViews g' seat (set (set views i both) o Spent)
 shows_join g g' seat views i v o u both shows at apart there stay mine seated same count there' = record {
   fits = λ j y e. ⊎_elim
       (λ (x : (j ≡ o) × (Spent ≡ y)). subst (λ (z : View). Sits seat j z × Shown g' z) x.1 (tt, tt))

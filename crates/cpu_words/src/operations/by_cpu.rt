@@ -25,7 +25,7 @@ pub(crate) fn add<T: CpuTale>(
     ensures table { seat.new.table ≡ seat.old.table }
     ensures told { T.tells seat.old.view result seat.new.view }
     ensures log { seat.new.log ≡ seat.old.log ++ T.does seat.old.view result }
-    ensures deeds { seat.new.deeds ≡ seat.old.deeds }
+    ensures known_log { seat.new.known_log ≡ seat.old.known_log }
 {
     // The contract alone speaks of the event.
     let _event = event;
@@ -50,7 +50,7 @@ pub(crate) fn subtract<T: CpuTale>(
     ensures table { seat.new.table ≡ seat.old.table }
     ensures told { T.tells seat.old.view result seat.new.view }
     ensures log { seat.new.log ≡ seat.old.log ++ T.does seat.old.view result }
-    ensures deeds { seat.new.deeds ≡ seat.old.deeds }
+    ensures known_log { seat.new.known_log ≡ seat.old.known_log }
 {
     // The contract alone speaks of the event.
     let _event = event;
@@ -69,7 +69,7 @@ pub(crate) fn load<T: CpuTale>(words: &Words, seat: &mut CpuSeat, word: usize, e
     ensures table { seat.new.table ≡ seat.old.table }
     ensures told { T.tells seat.old.view result seat.new.view }
     ensures log { seat.new.log ≡ seat.old.log ++ T.does seat.old.view result }
-    ensures deeds { seat.new.deeds ≡ seat.old.deeds }
+    ensures known_log { seat.new.known_log ≡ seat.old.known_log }
 {
     // The contract alone speaks of the event.
     let _event = event;
@@ -92,7 +92,7 @@ pub(crate) fn compare_exchange<T: CpuTale>(
     ensures table { seat.new.table ≡ seat.old.table }
     ensures told { T.tells seat.old.view result seat.new.view }
     ensures log { seat.new.log ≡ seat.old.log ++ T.does seat.old.view result }
-    ensures deeds { seat.new.deeds ≡ seat.old.deeds }
+    ensures known_log { seat.new.known_log ≡ seat.old.known_log }
 {
     // The contract alone speaks of the event.
     let _event = event;

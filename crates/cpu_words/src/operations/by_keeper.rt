@@ -1,7 +1,7 @@
 //! Steps of the keeper's seat.
 
 ghost use Rattle.std.specs.Prelude.{◌≡◌, ℕ, ◌<◌, ◌++◌, ◌+◌, ◌-◌, ◌%◌, ◌^◌};
-ghost use Rattle.cpu_words.specs.Deeds.{IsOwnLog};
+ghost use Rattle.cpu_words.specs.KeeperLog.{IsOwnLog};
 ghost use Rattle.cpu_words.specs.Logs.{the_keeper, AreBy};
 ghost use Rattle.cpu_words.specs.Steps.{KeeperMay, KeeperStores};
 
@@ -47,7 +47,7 @@ pub(crate) fn store<T: KeeperTale>(
     ensures table { seat.new.table ≡ seat.old.table }
     ensures told { T.tells seat.old.view value seat.new.view }
     ensures log { seat.new.log ≡ seat.old.log ++ T.does seat.old.view value }
-    ensures deeds { IsOwnLog seat.old.log seat.old.laid seat.old.view }
+    ensures own_log { IsOwnLog seat.old.log seat.old.noted_log seat.old.view }
 {
     // The contract alone speaks of the event.
     let _event = event;
@@ -96,7 +96,7 @@ pub(crate) fn subtract<T: KeeperTale>(
     ensures table { seat.new.table ≡ seat.old.table }
     ensures told { T.tells seat.old.view result seat.new.view }
     ensures log { seat.new.log ≡ seat.old.log ++ T.does seat.old.view result }
-    ensures deeds { IsOwnLog seat.old.log seat.old.laid seat.old.view }
+    ensures own_log { IsOwnLog seat.old.log seat.old.noted_log seat.old.view }
 {
     // The contract alone speaks of the event.
     let _event = event;

@@ -2,9 +2,9 @@
 
 ghost use Rattle.std.specs.Prelude.{◌≡◌, ℕ, ◌<◌, ◌++◌};
 ghost use Rattle.cpu_words.specs.declared.view.View.TheVariants.{Cpu};
-ghost use Rattle.cpu_words.specs.Deeds.{HasHeardDeeds, IsOwnLog, IsShownAfter};
+ghost use Rattle.cpu_words.specs.KeeperLog.{KnownLogGrows, IsOwnLog, IsShownAfter};
 ghost use Rattle.cpu_words.specs.Logs.{the_cpu, the_keeper, AreBy};
-ghost use Rattle.cpu_words.specs.Notes.{with_heard, keeper_with_heard};
+ghost use Rattle.cpu_words.specs.Notes.{with_note, keeper_with_note};
 ghost use Rattle.cpu_words.specs.Steps.{CpuMay, KeeperMay};
 
 use crate::law::{CpuHearing, CpuTale, KeeperHearing, KeeperTale, Words};
@@ -18,11 +18,11 @@ pub(crate) struct CpuNote;
 
 impl Split<Logged> for CpuNote {
     ghost use Rattle.cpu_words.specs.Notes.{as_before, pass_told};
-    ghost use Rattle.cpu_words.specs.Logs.{logged_after_split, fresh, deeds_heard, tells_pass};
+    ghost use Rattle.cpu_words.specs.Logs.{logged_after_split, fresh, known_log_of, tells_pass};
 
     ghost left = { logged_after_split as_before tells_pass };
 
-    ghost right = { fresh pass_told deeds_heard };
+    ghost right = { fresh pass_told known_log_of };
 }
 
 impl Join<Logged> for CpuNote {
@@ -39,11 +39,11 @@ pub(crate) struct KeeperNote;
 
 impl Split<Logged> for KeeperNote {
     ghost use Rattle.cpu_words.specs.Notes.{as_before, history_told};
-    ghost use Rattle.cpu_words.specs.Logs.{logged_after_split, fresh, deeds_done, tells_history};
+    ghost use Rattle.cpu_words.specs.Logs.{logged_after_split, fresh, whole_log, tells_history};
 
     ghost left = { logged_after_split as_before tells_history };
 
-    ghost right = { fresh history_told (deeds_done tells_history) };
+    ghost right = { fresh history_told (whole_log tells_history) };
 }
 
 impl Join<Logged> for KeeperNote {
@@ -59,9 +59,9 @@ impl Join<Logged> for KeeperNote {
 pub(crate) fn lay(words: &Words, seat: &mut CpuSeat, note: NoteSeat)
     requires table { (seat.old.table ≡ words.now.table) × (note.table ≡ words.now.table) }
     ensures table { seat.new.table ≡ seat.old.table }
-    ensures change { seat.new.view ≡ with_heard seat.old.view note.view }
+    ensures change { seat.new.view ≡ with_note seat.old.view note.view }
     ensures log { seat.new.log ≡ seat.old.log }
-    ensures deeds { (seat.new.deeds ≡ seat.old.deeds) × (seat.new.laid ≡ note.deeds) }
+    ensures known_log { (seat.new.known_log ≡ seat.old.known_log) × (seat.new.noted_log ≡ note.known_log) }
 {
     let NoteSeat { token } = note;
     words
@@ -74,9 +74,9 @@ pub(crate) fn lay(words: &Words, seat: &mut CpuSeat, note: NoteSeat)
 pub(crate) fn lay_by_keeper(words: &Words, keeper: &mut KeeperSeat, note: NoteSeat)
     requires table { (keeper.old.table ≡ words.now.table) × (note.table ≡ words.now.table) }
     ensures table { keeper.new.table ≡ keeper.old.table }
-    ensures change { keeper.new.view ≡ keeper_with_heard keeper.old.view note.view }
+    ensures change { keeper.new.view ≡ keeper_with_note keeper.old.view note.view }
     ensures log { keeper.new.log ≡ keeper.old.log }
-    ensures deeds { keeper.new.laid ≡ note.deeds }
+    ensures known_log { keeper.new.noted_log ≡ note.known_log }
 {
     let NoteSeat { token } = note;
     words
@@ -99,8 +99,8 @@ pub(crate) fn listen<T: CpuTale>(
     ensures table { seat.new.table ≡ seat.old.table }
     ensures told { T.tells seat.old.view result seat.new.view }
     ensures log { seat.new.log ≡ seat.old.log ++ T.does seat.old.view result }
-    ensures deeds { HasHeardDeeds seat.old.deeds seat.old.laid seat.new.deeds }
-    ensures counts { IsShownAfter seat.new.deeds (Cpu seat.old.view) }
+    ensures known_log { KnownLogGrows seat.old.known_log seat.old.noted_log seat.new.known_log }
+    ensures counts { IsShownAfter seat.new.known_log (Cpu seat.old.view) }
 {
     // The contract alone speaks of the event.
     let _event = event;
@@ -124,7 +124,7 @@ pub(crate) fn listen_by_keeper<T: KeeperTale>(
     ensures table { keeper.new.table ≡ keeper.old.table }
     ensures told { T.tells keeper.old.view result keeper.new.view }
     ensures log { keeper.new.log ≡ keeper.old.log ++ T.does keeper.old.view result }
-    ensures deeds { IsOwnLog keeper.old.log keeper.old.laid keeper.old.view }
+    ensures own_log { IsOwnLog keeper.old.log keeper.old.noted_log keeper.old.view }
 {
     // The contract alone speaks of the event.
     let _event = event;

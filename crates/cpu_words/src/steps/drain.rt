@@ -8,7 +8,7 @@ ghost use Rattle.registry_values.specs.Slots.{slot_at};
 ghost use Rattle.protocol.specs.declared.event.Event.TheVariants.{PassiveLook, Collect, TotalAdd, TotalSub, JoinKeeper, KeptSub};
 ghost use Rattle.protocol.specs.declared.event.Reply.TheVariants.{Done, Word};
 ghost use Rattle.cpu_words.specs.declared.view.View.TheVariants.{Keeper, Reference};
-ghost use Rattle.cpu_words.specs.Deeds.{IsFreedFrom};
+ghost use Rattle.cpu_words.specs.KeeperLog.{IsFreedFrom};
 ghost use Rattle.cpu_words.specs.Rule.{did};
 ghost use Rattle.cpu_words.specs.Steps.{Makes, JoinsBy};
 ghost use Rattle.cpu_words.specs.Draining.{MayPassiveLook, HasLookedPassive, MayCollect, HasCollected, MayTotalAdd, HasAdded, MayTotalSub, HasSubtracted, MayJoinKeeper, keeper_after_join, MayKeptSub, HasKeptSub};

@@ -35,7 +35,7 @@ pub fn count_add(words: &Words, seat: &mut CpuSeat, cpu: u8, slot: u8, number: u
     ensures room { result < bias + seat.old.view.settings.count_limit }
     ensures alone { IsMetAlone seat.old.view slot number }
     ensures log { seat.new.log ≡ seat.old.log ++ did (CountAdd cpu) (Word result) }
-    ensures deeds { seat.new.deeds ≡ seat.old.deeds }
+    ensures known_log { seat.new.known_log ≡ seat.old.known_log }
 {
     // The contract alone speaks of the entry's number.
     let _number = number;
@@ -53,7 +53,7 @@ pub fn split_ref(words: &Words, seat: &mut CpuSeat, cpu: u8) -> ReferenceSeat
     ensures event { SplitsBy (SplitRef cpu) (Cpu seat.old.view) (Cpu seat.new.view) (Reference result.view) }
     ensures change { HasSplit seat.old.view seat.new.view result.view }
     ensures log { (seat.new.log ≡ seat.old.log ++ did (SplitRef cpu) (Ref 0)) × (result.log ≡ []) }
-    ensures deeds { seat.new.deeds ≡ seat.old.deeds }
+    ensures known_log { seat.new.known_log ≡ seat.old.known_log }
 {
     // The contract alone speaks of the CPU's number.
     let _cpu = cpu;
@@ -75,7 +75,7 @@ pub fn split_back(words: &Words, seat: &mut CpuSeat, cpu: u8) -> ReferenceSeat
     ensures event { SplitsBy (SplitBack cpu) (Cpu seat.old.view) (Cpu seat.new.view) (Reference result.view) }
     ensures change { HasSplitBack seat.old.view seat.new.view result.view }
     ensures log { (seat.new.log ≡ seat.old.log ++ did (SplitBack cpu) (Ref 0)) × (result.log ≡ []) }
-    ensures deeds { seat.new.deeds ≡ seat.old.deeds }
+    ensures known_log { seat.new.known_log ≡ seat.old.known_log }
 {
     // The contract alone speaks of the CPU's number.
     let _cpu = cpu;
@@ -96,7 +96,7 @@ pub fn join_ref(words: &Words, seat: &mut CpuSeat, cpu: u8, reference: Reference
     ensures event { JoinsBy (JoinRef cpu) (Cpu seat.old.view) (Reference reference.view) (Cpu seat.new.view) }
     ensures change { seat.new.view ≡ with_hand seat.old.view (GivingEntry reference.view.entry) }
     ensures log { seat.new.log ≡ seat.old.log ++ did (JoinRef cpu reference.view.entry.number) Done }
-    ensures deeds { seat.new.deeds ≡ seat.old.deeds }
+    ensures known_log { seat.new.known_log ≡ seat.old.known_log }
 {
     // The contract alone speaks of the CPU's number.
     let _cpu = cpu;
@@ -131,7 +131,7 @@ pub fn count_down(
     ensures counted { result ≡ expected → Makes (CountDown cpu) (Word result) (Cpu seat.old.view) (Cpu seat.new.view) × HasCountedDown seat.old.view slot number seat.new.view }
     ensures collected { result ≢ expected → Makes (CountDown cpu) Collected (Cpu seat.old.view) (Cpu seat.new.view) × HasFoundCollected seat.old.view number seat.new.view }
     ensures log { seat.new.log ≡ seat.old.log ++ did (CountDown cpu) (down_reply expected result) }
-    ensures deeds { seat.new.deeds ≡ seat.old.deeds }
+    ensures known_log { seat.new.known_log ≡ seat.old.known_log }
 {
     // The contract alone speaks of the entry's number.
     let _number = number;

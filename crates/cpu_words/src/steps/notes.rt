@@ -1,5 +1,5 @@
 //! Notes: what one seat has seen reaches another. A note is a seat of its own, which knows a prefix of the history, and what its teller
-//! knew of the keeper's deeds.
+//! knew of the keeper's log.
 
 ghost use Rattle.std.specs.Prelude.{◌≡◌, ◌<◌, Some, None, ◌++◌, []};
 ghost use mathlib.Core.List.{IsPrefix};
@@ -10,8 +10,8 @@ ghost use Rattle.cpu_words.specs.declared.view.View.TheVariants.{Keeper, Cpu, No
 ghost use Rattle.cpu_words.specs.Sections.{IsIdle};
 ghost use Rattle.cpu_words.specs.Rule.{did};
 ghost use Rattle.cpu_words.specs.Steps.{Makes, SplitsBy};
-ghost use Rattle.cpu_words.specs.Notes.{with_heard, keeper_with_heard};
-ghost use Rattle.cpu_words.specs.Deeds.{HasHeardDeeds, IsOwnLog, IsShownAfter};
+ghost use Rattle.cpu_words.specs.Notes.{with_note, keeper_with_note};
+ghost use Rattle.cpu_words.specs.KeeperLog.{KnownLogGrows, IsOwnLog, IsShownAfter};
 
 use crate::law::Words;
 use crate::operations::notes;
@@ -20,7 +20,7 @@ use crate::seat::{CpuSeat, KeeperSeat, NoteSeat};
 use protocol::Event;
 use std::marker::Brand;
 
-/// CPU `cpu` tells what it has seen: the note has its pass, and what it has heard of the keeper's deeds. Condition: the seat is that CPU's, and idle.
+/// CPU `cpu` tells what it has seen: the note has its pass, and what it has heard of the keeper's log. Condition: the seat is that CPU's, and idle.
 pub fn tell(words: &Words, seat: &mut CpuSeat, cpu: u8) -> NoteSeat
     requires table { seat.old.table ≡ words.now.table }
     requires cpu { seat.old.view.id ≡ cpu }
@@ -30,7 +30,7 @@ pub fn tell(words: &Words, seat: &mut CpuSeat, cpu: u8) -> NoteSeat
     ensures note { result.view ≡ seat.old.view.pass }
     ensures event { SplitsBy (Tell (Some cpu)) (Cpu seat.old.view) (Cpu seat.old.view) (Note result.view) }
     ensures log { (seat.new.log ≡ seat.old.log ++ did (Tell (Some cpu)) Done) × (result.log ≡ []) }
-    ensures deeds { (seat.new.deeds ≡ seat.old.deeds) × (result.deeds ≡ seat.old.deeds) }
+    ensures known_log { (seat.new.known_log ≡ seat.old.known_log) × (result.known_log ≡ seat.old.known_log) }
 {
     // The contract alone speaks of the CPU's number.
     let _cpu = cpu;
@@ -48,7 +48,7 @@ pub fn tell_keeper(words: &Words, keeper: &mut KeeperSeat) -> NoteSeat
     ensures note { result.view ≡ keeper.old.view.history }
     ensures event { SplitsBy (Tell None) (Keeper keeper.old.view) (Keeper keeper.old.view) (Note result.view) }
     ensures log { (keeper.new.log ≡ keeper.old.log ++ did (Tell None) Done) × (result.log ≡ []) }
-    ensures deeds { result.deeds ≡ keeper.new.log }
+    ensures known_log { result.known_log ≡ keeper.new.log }
 {
     NoteSeat {
         token: words
@@ -58,37 +58,37 @@ pub fn tell_keeper(words: &Words, keeper: &mut KeeperSeat) -> NoteSeat
     }
 }
 
-/// CPU `cpu` hears a note: its pass becomes the whole history, with what the note tells in it, and what it has heard of the keeper's deeds
-/// goes on to all that the note tells of them. The note is laid beside the seat's view, and one load of the CPU's section word is the event.
+/// CPU `cpu` hears a note: its pass becomes the whole history, with what the note tells in it, and what it has heard of the keeper's log
+/// goes on to all that the note tells of it. The note is laid beside the seat's view, and one load of the CPU's section word is the event.
 /// Condition: the seat is that CPU's, and idle.
 pub fn hear(words: &Words, seat: &mut CpuSeat, cpu: u8, note: NoteSeat)
     requires table { (seat.old.table ≡ words.now.table) × (note.table ≡ words.now.table) }
     requires cpu { (cpu < 8) × (seat.old.view.id ≡ cpu) }
     requires may { IsIdle seat.old.view }
     ensures table { seat.new.table ≡ seat.old.table }
-    ensures event { Makes (Hear (Some cpu)) Done (Cpu (with_heard seat.old.view note.view)) (Cpu seat.new.view) }
+    ensures event { Makes (Hear (Some cpu)) Done (Cpu (with_note seat.old.view note.view)) (Cpu seat.new.view) }
     ensures told { IsPrefix note.view seat.new.view.pass }
-    ensures change { IsPrefix seat.old.view.pass seat.new.view.pass × (seat.new.view ≡ record seat.old.view { pass = seat.new.view.pass; heard = note.view }) }
+    ensures change { IsPrefix seat.old.view.pass seat.new.view.pass × (seat.new.view ≡ record seat.old.view { pass = seat.new.view.pass; noted_pass = note.view }) }
     ensures log { seat.new.log ≡ seat.old.log ++ did (Hear (Some cpu)) Done }
-    ensures deeds { HasHeardDeeds seat.old.deeds note.deeds seat.new.deeds }
-    ensures counts { IsShownAfter seat.new.deeds (Cpu (with_heard seat.old.view note.view)) }
+    ensures known_log { KnownLogGrows seat.old.known_log note.known_log seat.new.known_log }
+    ensures counts { IsShownAfter seat.new.known_log (Cpu (with_note seat.old.view note.view)) }
 {
     notes::lay(words, seat, note);
     notes::listen::<Brand>(words, seat, 80 * cpu as usize, Event::Hear(Some(cpu)));
 }
 
-/// The keeper hears a note: what the note tells is in its history, what it tells of the keeper's deeds begins the keeper's log, and the
+/// The keeper hears a note: what the note tells is in its history, what it tells of the keeper's log begins that log, and the
 /// history is as long as the log says. The note is laid beside the seat's view, and one load of the head is the event.
 /// Condition: the keeper is at rest.
 pub fn hear_keeper(words: &Words, keeper: &mut KeeperSeat, note: NoteSeat)
     requires table { (keeper.old.table ≡ words.now.table) × (note.table ≡ words.now.table) }
     requires may { keeper.old.view.due ≡ Rest }
     ensures table { keeper.new.table ≡ keeper.old.table }
-    ensures event { Makes (Hear None) Done (Keeper (keeper_with_heard keeper.old.view note.view)) (Keeper keeper.new.view) }
+    ensures event { Makes (Hear None) Done (Keeper (keeper_with_note keeper.old.view note.view)) (Keeper keeper.new.view) }
     ensures told { IsPrefix note.view keeper.new.view.history }
-    ensures change { keeper.new.view ≡ keeper_with_heard keeper.old.view note.view }
+    ensures change { keeper.new.view ≡ keeper_with_note keeper.old.view note.view }
     ensures log { keeper.new.log ≡ keeper.old.log ++ did (Hear None) Done }
-    ensures deeds { IsOwnLog keeper.old.log note.deeds keeper.old.view }
+    ensures own_log { IsOwnLog keeper.old.log note.known_log keeper.old.view }
 {
     notes::lay_by_keeper(words, keeper, note);
     notes::listen_by_keeper::<Brand>(words, keeper, 648, Event::Hear(None));

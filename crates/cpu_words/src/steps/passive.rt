@@ -31,7 +31,7 @@ pub fn passive_add(words: &Words, seat: &mut CpuSeat, cpu: u8, slot: u8, number:
     ensures count { result ≡ references_to number seat.old.view.references }
     ensures alone { IsAloneAt seat.old.view slot number }
     ensures log { seat.new.log ≡ seat.old.log ++ did (PassiveAdd cpu number) (Word result) }
-    ensures deeds { seat.new.deeds ≡ seat.old.deeds }
+    ensures known_log { seat.new.known_log ≡ seat.old.known_log }
 {
     let word = 80 * cpu as usize + 1 + slot as usize;
     by_cpu::add::<Brand>(words, seat, word, 1, Event::PassiveAdd(cpu, number))
@@ -50,7 +50,7 @@ pub fn passive_sub(words: &Words, seat: &mut CpuSeat, cpu: u8, slot: u8, number:
     ensures count { result ≡ references_to number seat.old.view.references }
     ensures alone { IsAloneAt seat.old.view slot number }
     ensures log { seat.new.log ≡ seat.old.log ++ did (PassiveSub cpu number) (Word result) }
-    ensures deeds { seat.new.deeds ≡ seat.old.deeds }
+    ensures known_log { seat.new.known_log ≡ seat.old.known_log }
 {
     let word = 80 * cpu as usize + 1 + slot as usize;
     by_cpu::subtract::<Brand>(words, seat, word, 1, Event::PassiveSub(cpu, number))
@@ -72,7 +72,7 @@ pub fn load_passive(words: &Words, seat: &mut CpuSeat, cpu: u8, slot: u8, number
     ensures alone { IsAloneAt seat.old.view slot number }
     ensures name { IsNamed seat.old.view slot number }
     ensures log { seat.new.log ≡ seat.old.log ++ did (LoadRecord (Passive cpu number k)) (Word result) }
-    ensures deeds { seat.new.deeds ≡ seat.old.deeds }
+    ensures known_log { seat.new.known_log ≡ seat.old.known_log }
 {
     let word = 657 + 8 * slot as usize + k as usize;
     let event = Event::LoadRecord(RecordOf::Passive(cpu, number, k));

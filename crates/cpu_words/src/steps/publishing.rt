@@ -7,7 +7,7 @@ ghost use Rattle.protocol.specs.declared.event.Event.TheVariants.{Publish, Unpub
 ghost use Rattle.protocol.specs.declared.event.Reply.TheVariants.{Done};
 ghost use Rattle.cpu_words.specs.declared.view.View.TheVariants.{Keeper};
 ghost use Rattle.protocol.specs.State.{kept_at};
-ghost use Rattle.cpu_words.specs.Deeds.{IsAttachedKeeping};
+ghost use Rattle.cpu_words.specs.KeeperLog.{IsAttachedKeeping};
 ghost use Rattle.cpu_words.specs.Rule.{did};
 ghost use Rattle.cpu_words.specs.Steps.{Makes};
 ghost use Rattle.cpu_words.specs.Publishing.{MayPublish, HasPublished, MayUnpublish, HasUnpublished, IsLinkPlace, link_index};

@@ -28,7 +28,7 @@ pub fn seek(words: &Words, seat: &mut CpuSeat, cpu: u8, kind: Kind, name: Name) 
     ensures event { Makes (LoadLink cpu) (link_answer result) (Cpu (cpu_after_seek (key_with kind name) seat.old.view)) (Cpu seat.new.view) }
     ensures change { HasFollowed (cpu_after_seek (key_with kind name) seat.old.view) (search_for (key_with kind name) seat.old.view) result seat.new.view }
     ensures log { seat.new.log ≡ seat.old.log ++ did (Seek cpu kind name) Done ++ did (LoadLink cpu) (link_answer result) }
-    ensures deeds { seat.new.deeds ≡ seat.old.deeds }
+    ensures known_log { seat.new.known_log ≡ seat.old.known_log }
 {
     by_cpu::load::<Brand>(words, seat, 648, Event::Seek(cpu, kind, name))
 }
@@ -45,7 +45,7 @@ pub fn load_link(words: &Words, seat: &mut CpuSeat, cpu: u8, link: u64) -> u64
     ensures event { Makes (LoadLink cpu) (link_answer result) (Cpu seat.old.view) (Cpu seat.new.view) }
     ensures change { HasLoadedLink seat.old.view result seat.new.view }
     ensures log { seat.new.log ≡ seat.old.log ++ did (LoadLink cpu) (link_answer result) }
-    ensures deeds { seat.new.deeds ≡ seat.old.deeds }
+    ensures known_log { seat.new.known_log ≡ seat.old.known_log }
 {
     by_cpu::load::<Brand>(words, seat, 648 + 8 * link as usize, Event::LoadLink(cpu))
 }
@@ -62,7 +62,7 @@ pub fn load_searched(words: &Words, seat: &mut CpuSeat, cpu: u8, slot: usize, k:
     ensures event { Makes (LoadRecord (OfSearch cpu)) (loaded_answer (loaded_of seat.old.view.search result)) (Cpu seat.old.view) (Cpu seat.new.view) }
     ensures change { HasLoadedWord seat.old.view result seat.new.view }
     ensures log { seat.new.log ≡ seat.old.log ++ did (LoadRecord (OfSearch cpu)) (loaded_answer (loaded_of seat.old.view.search result)) }
-    ensures deeds { seat.new.deeds ≡ seat.old.deeds }
+    ensures known_log { seat.new.known_log ≡ seat.old.known_log }
 {
     by_cpu::load::<Brand>(
         words,

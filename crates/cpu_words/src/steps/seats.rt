@@ -23,7 +23,7 @@ pub fn seat(words: &Words, keeper: &mut KeeperSeat) -> CpuSeat
     ensures keeper { keeper.new.view ≡ record keeper.old.view { seated = keeper.old.view.seated + 1 } }
     ensures new { result.view ≡ new_cpu keeper.old.view.settings keeper.old.view.seated }
     ensures log { (keeper.new.log ≡ keeper.old.log ++ did (Seat keeper.old.view.seated) Done) × (result.log ≡ []) }
-    ensures deeds { (result.deeds ≡ []) × (result.laid ≡ []) }
+    ensures known_log { (result.known_log ≡ []) × (result.noted_log ≡ []) }
 {
     CpuSeat {
         token: words.table.shared.split_seat::<NextSeat>(&mut keeper.token),

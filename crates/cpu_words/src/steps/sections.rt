@@ -24,7 +24,7 @@ pub fn enter(words: &Words, seat: &mut CpuSeat, cpu: u8)
     ensures event { Makes (Enter cpu) Done (Cpu seat.old.view) (Cpu seat.new.view) }
     ensures change { HasEntered seat.old.view seat.new.view }
     ensures log { seat.new.log ≡ seat.old.log ++ did (Enter cpu) Done }
-    ensures deeds { seat.new.deeds ≡ seat.old.deeds }
+    ensures known_log { seat.new.known_log ≡ seat.old.known_log }
 {
     by_cpu::add::<Brand>(words, seat, 80 * cpu as usize, 1, Event::Enter(cpu));
 }
@@ -39,7 +39,7 @@ pub fn exit(words: &Words, seat: &mut CpuSeat, cpu: u8)
     ensures event { Makes (Exit cpu) Done (Cpu seat.old.view) (Cpu seat.new.view) }
     ensures change { HasExited seat.old.view seat.new.view }
     ensures log { seat.new.log ≡ seat.old.log ++ did (Exit cpu) Done }
-    ensures deeds { seat.new.deeds ≡ seat.old.deeds }
+    ensures known_log { seat.new.known_log ≡ seat.old.known_log }
 {
     by_cpu::add::<Brand>(words, seat, 80 * cpu as usize, 1, Event::Exit(cpu));
 }

@@ -7,7 +7,7 @@ ghost use Rattle.registry_values.specs.Slots.{slot_at};
 ghost use Rattle.protocol.specs.declared.event.Event.TheVariants.{Hear, Vacate};
 ghost use Rattle.protocol.specs.declared.event.Reply.TheVariants.{Done};
 ghost use Rattle.cpu_words.specs.declared.view.View.TheVariants.{Keeper};
-ghost use Rattle.cpu_words.specs.Deeds.{IsFreedFrom};
+ghost use Rattle.cpu_words.specs.KeeperLog.{IsFreedFrom};
 ghost use Rattle.cpu_words.specs.Rule.{did};
 ghost use Rattle.cpu_words.specs.Steps.{Makes};
 ghost use Rattle.cpu_words.specs.Vacating.{MayVacate, keeper_after_vacate};

@@ -2,7 +2,7 @@
 
 ghost use Rattle.std.specs.Prelude.{◌≡◌, ◌<◌, IfOk, IfErr, take, length, slice_index_or};
 ghost use Rattle.protocol.specs.Taken.{Steps, WantsMemory};
-ghost use Rattle.protocol.specs.Ran.{run_of_events, empty_run};
+ghost use Rattle.protocol.specs.Run.{run_of_events, empty_run};
 ghost use Rattle.protocol.specs.declared.event.Event.TheVariants.{LoadRecord, Seat};
 
 use crate::machine::Core;

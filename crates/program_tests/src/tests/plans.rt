@@ -1,6 +1,6 @@
 //! What the benchmark says of a failure, its status, and which words are a plan.
 
-use bench_plans::{Failure, Plan};
+use bench_plans::{Failure, RunPlan};
 use registry_values::{NameFault, Refusal};
 use std::alloc::Global;
 use std::test::Fail;
@@ -10,7 +10,7 @@ fn failures_and_their_statuses(rt: HostRuntime) -> Result<(), Fail> {
     let rows = [
         (
             Failure::Usage,
-            "usage: registry_bench [check | run THREADS ENTRIES OPERATIONS | wait CPUS READERS SLOTS HELD COUNT]",
+            "usage: registry_bench [check | run THREADS ENTRIES OPERATIONS | wait CPUS READERS SLOTS HELD COUNT | changes COUNT]",
             2,
         ),
         (
@@ -40,8 +40,8 @@ fn failures_and_their_statuses(rt: HostRuntime) -> Result<(), Fail> {
 }
 
 /// The plan that three words say.
-fn plan_of(alloc: Global, words: [&str; 3]) -> Result<Result<Plan, Failure>, Fail> {
-    Ok(Plan::parse(
+fn plan_of(alloc: Global, words: [&str; 3]) -> Result<Result<RunPlan, Failure>, Fail> {
+    Ok(RunPlan::parse(
         Some(words[0].to_string(alloc)?),
         Some(words[1].to_string(alloc)?),
         Some(words[2].to_string(alloc)?),
@@ -50,7 +50,7 @@ fn plan_of(alloc: Global, words: [&str; 3]) -> Result<Result<Plan, Failure>, Fai
 
 #[test]
 fn plans_and_their_ranges(rt: HostRuntime) -> Result<(), Fail> {
-    let most = Plan {
+    let most = RunPlan {
         threads: 8,
         entries: 32,
         operations: 4_294_967_295,
@@ -69,6 +69,6 @@ fn plans_and_their_ranges(rt: HostRuntime) -> Result<(), Fail> {
     for words in bad {
         assert_eq!(rt; plan_of(rt.alloc(), words)?, Err(Failure::Usage));
     }
-    assert_eq!(rt; Plan::parse(None, None, None), Err(Failure::Usage));
+    assert_eq!(rt; RunPlan::parse(None, None, None), Err(Failure::Usage));
     Ok(())
 }

@@ -1,11 +1,13 @@
 //! What the words of `registry_run` ask for, what it does of them, and what it says of a failure, with its status.
 
-use registry_script::{Cause, Engine, RunFault, ScriptFault};
-use run_tasks::{Failure, Plan, Task, carry_out};
+use registry_script::{Cause, Engine, RunFault, ScriptFault, StormSum};
+use run_tasks::{Failure, OurStorms, StormSize, Storms, Task, carry_out};
 use std::alloc::{AllocError, Global};
 use std::io;
 use std::io::Write;
+use std::sync::Wait;
 use std::test::*;
+use std::thread::Threads;
 
 #[test]
 fn failures_and_their_statuses(rt: HostRuntime) -> Result<(), Fail> {
@@ -41,11 +43,11 @@ const CORE: Option<Task> = Some(Task::Script(Engine::Core));
 
 const LIVE: Option<Task> = Some(Task::Script(Engine::Live));
 
-const LEAST: Option<Task> = Some(Task::Storm(Plan { cpus: 1, turns: 1 }));
+const LEAST: Option<Task> = Some(Task::Storm(StormSize { cpus: 1, turns: 1 }));
 
-const SMALL: Option<Task> = Some(Task::Storm(Plan { cpus: 2, turns: 3 }));
+const SMALL: Option<Task> = Some(Task::Storm(StormSize { cpus: 2, turns: 3 }));
 
-const GREATEST: Option<Task> = Some(Task::Storm(Plan {
+const GREATEST: Option<Task> = Some(Task::Storm(StormSize {
     cpus: 8,
     turns: 100_000,
 }));
@@ -168,12 +170,77 @@ fn tasks_that_are_done(rt: HostRuntime) -> Result<(), Fail> {
             taken: Vec::new(rt.alloc()),
             room: *room,
         };
-        let ended = carry_out(&rt, rt.alloc(), task, &mut input, &mut sheet);
+        let alloc = rt.alloc();
+        let ended = carry_out(&rt, alloc, &mut OurStorms, task, &mut input, &mut sheet);
         assert_eq!(rt;
             (sheet.taken.as_slice(), ended),
             (*written, *end),
             "at {task:?}"
         );
+    }
+    Ok(())
+}
+
+/// Stands for storms that go wrong, each with more wrong answers than the one before; there is memory for two of them.
+#[derive(Drop)]
+struct Wrongs {
+    made: u64,
+}
+
+impl Storms for Wrongs {
+    ghost made = { λ _ _ _ _. Unit {0} };
+
+    fn storm<H: Threads + Wait + Sync>(
+        &mut self,
+        _rt: &H,
+        _alloc: Global,
+        size: StormSize,
+    ) -> Result<StormSum, RunFault> {
+        self.made = self.made.saturating_add(1);
+        if self.made > 2 {
+            return Err(RunFault::Memory);
+        }
+        Ok(StormSum {
+            cpus: size.cpus,
+            turns: size.turns,
+            lookups: 2 * u64::from(size.turns) * u64::from(size.cpus),
+            references: 5,
+            wrong: self.made,
+            held: -4,
+        })
+    }
+}
+
+/// A task, how many storms were made once it is done, what is written, and the end.
+type Told = (Option<Task>, u64, &'static [u8], Result<(), RunFault>);
+
+const TOLD: &[Told] = &[
+    (
+        SMALL,
+        1,
+        b"storm 2 3\nlookups 12\nreferences 5\nwrong 1\nheld -4\n",
+        Ok(()),
+    ),
+    (CORE, 1, REPORT, Ok(())),
+    (
+        LEAST,
+        2,
+        b"storm 1 1\nlookups 2\nreferences 5\nwrong 2\nheld -4\n",
+        Ok(()),
+    ),
+    (SMALL, 3, b"", Err(RunFault::Memory)),
+];
+
+#[test]
+fn a_storm_is_made_once_and_told_as_it_is(rt: HostRuntime) -> Result<(), Fail> {
+    let alloc = rt.alloc();
+    let mut storms = Wrongs { made: 0 };
+    for (task, made, wanted, end) in TOLD {
+        let Some(task) = *task else { continue };
+        let (mut input, mut written) = (SCRIPT, Vec::new(alloc));
+        let ended = carry_out(&rt, alloc, &mut storms, task, &mut input, &mut written);
+        assert_eq!(rt; (storms.made, ended), (*made, *end), "at {task:?}");
+        assert_eq!(rt; written.as_slice(), *wanted);
     }
     Ok(())
 }

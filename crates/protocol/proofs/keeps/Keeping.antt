@@ -21,7 +21,7 @@ use Rattle.registry_values.specs.Marks.{mark_after_passive_look, mark_after_look
 use Rattle.registry_values.specs.Slots.{key_of, is_taken, slot_of, slot_at}
 use Rattle.protocol.specs.Invariant.{Holds, held_at}
 use Rattle.registry_values.specs.Limits.{are_fit}
-use Rattle.protocol.specs.Ran.{Ran, run_of_events, run_with_event}
+use Rattle.protocol.specs.Run.{Run, run_of_events, run_with_event}
 use Rattle.protocol.specs.State.{at_rest, State, found_at, hand_at, kept_at, local_at, mark_at, opening, passive_at, row_at, search_at, section_at, total_at}
 use Rattle.registry_values.specs.Balances.{bias}
 use Rattle.protocol.specs.Taken.{Keeps}
@@ -236,10 +236,10 @@ pub after_keeps : (s : State) (o : Option Outcome) → Holds s → Keeps o → H
 after_keeps s None on keeps = on
 after_keeps s (Some o) on keeps = keeps
 
-pub turned_keeps : (r : Ran) (o : Option Outcome) → Holds r.state → Keeps o → Holds (run_with_event r o).state
+pub turned_keeps : (r : Run) (o : Option Outcome) → Holds r.state → Keeps o → Holds (run_with_event r o).state
 turned_keeps r None on keeps = on
 turned_keeps r (Some o) on keeps = keeps
 
-pub ran_keeps : (r : Ran) (es : List Event) → Holds r.state → Holds (run_of_events r es).state
+pub ran_keeps : (r : Run) (es : List Event) → Holds r.state → Holds (run_of_events r es).state
 ran_keeps r [] on = on
 ran_keeps r (e ∷ es) on = ran_keeps (run_with_event r (step r.state e)) es (turned_keeps r (step r.state e) on (step_keeps r.state e on))

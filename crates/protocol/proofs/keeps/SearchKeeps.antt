@@ -31,9 +31,9 @@ IsAnswer h from to key (Ref id) = Unit {0}
 IsAnswer h from to key Collected = Unit {0}
 
 -- the search q of the CPU c began at its start; what ends it is lawful
-abbrev pub Answers : ℕ → Search → Option Outcome → Type 0
-Answers c q None = Unit {0}
-Answers c q (Some o) = IsAnswer o.state.history q.start (seen_at o.state c) q.key o.reply
+abbrev pub AnswersLookup : ℕ → Search → Option Outcome → Type 0
+AnswersLookup c q None = Unit {0}
+AnswersLookup c q (Some o) = IsAnswer o.state.history q.start (seen_at o.state c) q.key o.reply
 
 -- the search of a seated CPU is q now
 searching_keeps : (s : State) (c : ℕ) (q : Search) → Holds s → c < s.seated → SearchHolds s.history (begin_at s c) (seen_at s c) q → Holds (record s { searches = set s.searches c (Some q) })
@@ -171,7 +171,7 @@ pub record_keeps : (s : State) (c : ℕ) (q : Search) → Holds s → search_at 
 record_keeps s c q on is = load_searched_keeps s c q q.place on is (on.searches c q is).stands
 
 -- The reply of a load that ends a search is lawful.
-pub step_answers : (c : ℕ) (q : Search) (n : ℕ) (o : Option Outcome) → Steps c q.start q n o → Answers c q o
+pub step_answers : (c : ℕ) (q : Search) (n : ℕ) (o : Option Outcome) → Steps c q.start q n o → AnswersLookup c q o
 step_answers c q n None steps = tt
 step_answers c q n (Some o) steps = go o.reply steps
   where
@@ -183,9 +183,9 @@ step_answers c q n (Some o) steps = go o.reply steps
     go (Ref id) is = tt
     go Collected is = tt
 
-pub link_answers : (s : State) (c : ℕ) (q : Search) → Holds s → search_at s c ≡ Some q → Answers c q (load_link s c q q.place)
+pub link_answers : (s : State) (c : ℕ) (q : Search) → Holds s → search_at s c ≡ Some q → AnswersLookup c q (load_link s c q q.place)
 link_answers s c q on is = step_answers c q (weight s q.place) (load_link s c q q.place) (load_link_steps s c q.start q q.place on (search_walks s c q on is) is (on.searches c q is).stands)
 
-pub record_answers : (s : State) (c : ℕ) (q : Search) → Holds s → search_at s c ≡ Some q → Answers c q (load_searched s c q q.place (row_at s.rows))
+pub record_answers : (s : State) (c : ℕ) (q : Search) → Holds s → search_at s c ≡ Some q → AnswersLookup c q (load_searched s c q q.place (row_at s.rows))
 record_answers s c q on is =
     step_answers c q (weight s q.place) (load_searched s c q q.place (row_at s.rows)) (load_searched_steps s c q.start q q.place on (search_walks s c q on is) (on.searches c q is).started is (on.searches c q is).stands)

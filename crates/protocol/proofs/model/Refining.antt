@@ -21,7 +21,7 @@ use Rattle.registry_values.specs.Balances.{bias}
 use Rattle.registry_values.specs.Slots.{slot_at, slot_of}
 use Rattle.protocol.specs.Events
 use Rattle.protocol.specs.Events.{Outcome, guard, some_outcome, step}
-use Rattle.protocol.specs.Ran.{Ran, run_with_event, run_of_events, empty_run}
+use Rattle.protocol.specs.Run.{Run, run_with_event, run_of_events, empty_run}
 use Rattle.protocol.specs.Invariant.{Holds}
 use Rattle.protocol.specs.Model.{Model, empty_model, IsModelRun, Stays}
 use Rattle.protocol.specs.Picture.{passive_in, lookup_of, number_in, picture, EveryRunIsModelRun}
@@ -213,15 +213,15 @@ opening_pictured z = same_model (picture (opening z)) empty_model (record {
     no_sum n = omega (arith, no_hand n (replicate z.cpus Empty) (λ c named. let q : ◌≡◌ {A = Option ℕ} None (Some n) = ap number_of (sym (get_or_all z.cpus Empty c)) ∙ named in cc))
 
 -- an event more, made or passed over
-turned_holds : (r : Ran) (o : Option Outcome) → Holds r.state → ((t : State) (reply : Reply) → o ≡ Some (record { state = t; reply = reply }) → Holds t) → Holds (run_with_event r o).state
+turned_holds : (r : Run) (o : Option Outcome) → Holds r.state → ((t : State) (reply : Reply) → o ≡ Some (record { state = t; reply = reply }) → Holds t) → Holds (run_with_event r o).state
 turned_holds r None on now = on
 turned_holds r (Some o) on now = now o.state o.reply refl
 
-turned_refines : (r : Ran) (o : Option Outcome) → Holds (run_with_event r o).state → Makes (picture r.state) o → IsModelRun (picture r.state) (picture (run_with_event r o).state)
+turned_refines : (r : Run) (o : Option Outcome) → Holds (run_with_event r o).state → Makes (picture r.state) o → IsModelRun (picture r.state) (picture (run_with_event r o).state)
 turned_refines r None now made = Stays
 turned_refines r (Some o) now made = made now
 
-pub ran_refines : (r : Ran) (es : List Event) → Holds r.state → IsModelRun (picture r.state) (picture (run_of_events r es).state)
+pub ran_refines : (r : Run) (es : List Event) → Holds r.state → IsModelRun (picture r.state) (picture (run_of_events r es).state)
 ran_refines r [] on = Stays
 ran_refines r (e ∷ es) on =
     let now : Holds (run_with_event r (step r.state e)).state = turned_holds r (step r.state e) on (λ t reply is. step_holds r.state t e reply on is) in

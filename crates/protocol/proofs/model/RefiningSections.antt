@@ -18,7 +18,7 @@ use Rattle.protocol.specs.Picture.{lookup_of, picture}
 use Rattle.protocol.proofs.keeps.Searching.{within_some}
 use Rattle.protocol.proofs.keeps.SectionKeeps.{none_from, some_from, idle_parts}
 use Rattle.protocol.proofs.keeps.MarkKeeps.{idle_within}
-use Rattle.protocol.proofs.keeps.SearchKeeps.{Answers, link_answers, record_answers}
+use Rattle.protocol.proofs.keeps.SearchKeeps.{AnswersLookup, link_answers, record_answers}
 use Rattle.protocol.proofs.model.Picturing.{Alike, Makes, same_model, no_step, one_step, written, unwritten}
 
 pub seat_refines : (s : State) (c : ℕ) → IsModelRun (picture s) (picture (after_seat s c))
@@ -150,11 +150,11 @@ followed_refines s c q t on is =
     one_step (picture s) (picture (after_seeing s c)) (picture (with_search_at (after_seeing s c) c q (AtNumber t))) (see_step s c on (omega (arith, within_some s.searches c q is, on.shape.searches)))
     (going_on_alike (after_seeing s c) c q (AtNumber t) is)
 
-link_loaded_makes : (s : State) (c : ℕ) (q : Search) (x : ℕ) → Holds s → search_at s c ≡ Some q → Answers c q (link_loaded s c q x) → Makes (picture s) (link_loaded s c q x)
+link_loaded_makes : (s : State) (c : ℕ) (q : Search) (x : ℕ) → Holds s → search_at s c ≡ Some q → AnswersLookup c q (link_loaded s c q x) → Makes (picture s) (link_loaded s c q x)
 link_loaded_makes s c q zero on is lawful = λ now. missed_refines s c q on is lawful
 link_loaded_makes s c q (suc t) on is lawful = λ now. followed_refines s c q t on is
 
-load_link_makes : (s : State) (c : ℕ) (q : Search) (place : SearchPlace) → Holds s → search_at s c ≡ Some q → Answers c q (load_link s c q place) → Makes (picture s) (load_link s c q place)
+load_link_makes : (s : State) (c : ℕ) (q : Search) (place : SearchPlace) → Holds s → search_at s c ≡ Some q → AnswersLookup c q (load_link s c q place) → Makes (picture s) (load_link s c q place)
 load_link_makes s c q AtHead on is lawful = link_loaded_makes s c q s.head on is lawful
 load_link_makes s c q (AtNext t) on is lawful = link_loaded_makes s c q (get_or s.next t 0) on is lawful
 load_link_makes s c q (AtNumber t) on is lawful = tt
@@ -170,7 +170,7 @@ compared_makes : (s : State) (c : ℕ) (q : Search) (t n l : ℕ) (b : Bool) →
 compared_makes s c q t n l true is = λ now. going_on_refines s c q (AtValue t n) is
 compared_makes s c q t n l false is = λ now. going_on_refines s c q (AtNext t) is
 
-load_searched_makes : (s : State) (c : ℕ) (q : Search) (place : SearchPlace) (row : ℕ → RecordWords) → Holds s → search_at s c ≡ Some q → Answers c q (load_searched s c q place row) → Makes (picture s) (load_searched s c q place row)
+load_searched_makes : (s : State) (c : ℕ) (q : Search) (place : SearchPlace) (row : ℕ → RecordWords) → Holds s → search_at s c ≡ Some q → AnswersLookup c q (load_searched s c q place row) → Makes (picture s) (load_searched s c q place row)
 load_searched_makes s c q AtHead row on is lawful = tt
 load_searched_makes s c q (AtNext t) row on is lawful = tt
 load_searched_makes s c q (AtNumber t) row on is lawful = λ now. going_on_refines s c q (AtKind t (row t).number) is

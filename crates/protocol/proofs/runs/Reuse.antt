@@ -15,7 +15,7 @@ use Rattle.protocol.specs.Events.{Outcome, guard, with_some, step, state_after, 
 use Rattle.protocol.specs.Invariant.{Holds, IsIn}
 use Rattle.protocol.specs.Model.{IsUnheld}
 use Rattle.protocol.specs.Picture.{number_in, picture}
-use Rattle.protocol.specs.Ran.{empty_run}
+use Rattle.protocol.specs.Run.{empty_run}
 use Rattle.protocol.specs.Laws.{after, IsAllowed, occupant_of, destroyed_slot, given_slot, EveryRunKeeps}
 use Rattle.protocol.proofs.keeps.Keeping.{ran_keeps, opening_holds}
 use Rattle.protocol.proofs.model.RefiningEntries.{Drained, drained}

@@ -1,7 +1,7 @@
 -- All laws of a state with the invariant.
 use Rattle.protocol.specs.State.{State}
 use Rattle.protocol.specs.Invariant.{Holds}
-use Rattle.protocol.specs.Ran.{empty_run}
+use Rattle.protocol.specs.Run.{empty_run}
 use Rattle.protocol.specs.Laws.{ObeysLaws, InvariantSuffices}
 use Rattle.protocol.proofs.keeps.Keeping.{ran_keeps}
 use Rattle.protocol.proofs.runs.Headline.{is_safe}

@@ -26,9 +26,9 @@ use Rattle.registry_values.specs.Slots.{are_words_of, slot_at, slot_of, slot_bef
 use Rattle.protocol.specs.Events
 use Rattle.protocol.specs.Events.{Outcome, guard, some_outcome, with_some, step, state_after, is_idle, may_enter, after_enter, may_exit, after_exit, may_seek, after_seek, after_seeing, load_link, load_searched, link_loaded, outcome_of_name, entry_of, may_publish, after_publish, with_link_past, with_retired, after_unpublish, may_keep, after_keep, is_drained, after_kept_sub, may_vacate, after_vacate}
 use Rattle.protocol.specs.Invariant.{Holds}
-use Rattle.protocol.specs.Ran.{Ran, run_of_events, empty_run, run_with_event}
+use Rattle.protocol.specs.Run.{Run, run_of_events, empty_run, run_with_event}
 use Rattle.protocol.specs.Laws.{after, after_event, answer_of, IsLoadOf}
-use Rattle.protocol.proofs.keeps.SearchKeeps.{Answers, link_answers, record_answers}
+use Rattle.protocol.proofs.keeps.SearchKeeps.{AnswersLookup, link_answers, record_answers}
 
 -- all of them stay, and the reply is no answer
 pub record Leaves (s : State) (o : Outcome) : Type 0 where
@@ -73,7 +73,7 @@ pub data Sort (s : State) : Event → Option Outcome → Type 0 where
   Exited : (c : ℕ) → may_exit s c ≡ true → Sort s (Exit c) (some_outcome (after_exit s c) Done)
   Sought : (c : ℕ) (kind : Kind) (name : Name) → may_seek s c ≡ true → Sort s (Seek c kind name) (some_outcome (after_seek s c (record { kind = kind; name = name })) Done)
   Heard : (c : ℕ) → is_idle s c ≡ true → Sort s (Hear (Some c)) (some_outcome (after_seeing s c) Done)
-  Searched : (e : Event) (c : ℕ) (q : Search) (o : Outcome) → IsLoadOf c e → search_at s c ≡ Some q → Loads s c q o.state → Answers c q (Some o) → Sort s e (Some o)
+  Searched : (e : Event) (c : ℕ) (q : Search) (o : Outcome) → IsLoadOf c e → search_at s c ≡ Some q → Loads s c q o.state → AnswersLookup c q (Some o) → Sort s e (Some o)
   Published : (t : ℕ) (e : Entry) → entry_of t (row_at s.rows t) ≡ Some e → may_publish s t e ≡ true → Sort s (Publish t) (some_outcome (after_publish s t e) Done)
   Unpublished : (t : ℕ) (e : Entry) (n : State) → slot_at s.slots t ≡ Live e → Retires s t e n → Sort s (Unpublish t) (some_outcome n Done)
   Kept : (t id n u : ℕ) → may_keep s t u ≡ true → Sort s (Keep t id) (some_outcome (after_keep s t id n) Done)
@@ -98,7 +98,7 @@ sort_if s e false o p first second = second
 
 -- Searches
 
-load_sort : (s t : State) (e : Event) (c : ℕ) (q : Search) (r : Reply) → IsLoadOf c e → search_at s c ≡ Some q → Loads s c q t → Answers c q (some_outcome t r) → Sort s e (some_outcome t r)
+load_sort : (s t : State) (e : Event) (c : ℕ) (q : Search) (r : Reply) → IsLoadOf c e → search_at s c ≡ Some q → Loads s c q t → AnswersLookup c q (some_outcome t r) → Sort s e (some_outcome t r)
 load_sort s t e c q r of is loads answers = Searched e c q (record { state = t; reply = r }) of is loads answers
 
 over_loads : (s : State) (c : ℕ) (q : Search) (answer : Option Entry) → Loads s c q (Events.search_over s c answer)
@@ -107,11 +107,11 @@ over_loads s c q answer = record { history = refl; slots = refl; keeps = refl; s
 on_loads : (s : State) (c : ℕ) (q : Search) (p : SearchPlace) → Loads s c q (Events.with_search_at s c q p)
 on_loads s c q p = record { history = refl; slots = refl; keeps = refl; section = refl; begins = refl; seen = inl refl; searches = inr (p, refl) }
 
-link_loaded_sort : (s : State) (c : ℕ) (q : Search) (x : ℕ) → search_at s c ≡ Some q → Answers c q (link_loaded s c q x) → Sort s (LoadLink c) (link_loaded s c q x)
+link_loaded_sort : (s : State) (c : ℕ) (q : Search) (x : ℕ) → search_at s c ≡ Some q → AnswersLookup c q (link_loaded s c q x) → Sort s (LoadLink c) (link_loaded s c q x)
 link_loaded_sort s c q zero is answers = load_sort s _ (LoadLink c) c q _ (inl refl) is (record { history = refl; slots = refl; keeps = refl; section = refl; begins = refl; seen = inr refl; searches = inl refl }) answers
 link_loaded_sort s c q (suc t) is answers = load_sort s _ (LoadLink c) c q _ (inl refl) is (record { history = refl; slots = refl; keeps = refl; section = refl; begins = refl; seen = inr refl; searches = inr (AtNumber t, refl) }) answers
 
-load_link_sort : (s : State) (c : ℕ) (q : Search) (place : SearchPlace) → search_at s c ≡ Some q → Answers c q (load_link s c q place) → Sort s (LoadLink c) (load_link s c q place)
+load_link_sort : (s : State) (c : ℕ) (q : Search) (place : SearchPlace) → search_at s c ≡ Some q → AnswersLookup c q (load_link s c q place) → Sort s (LoadLink c) (load_link s c q place)
 load_link_sort s c q AtHead is answers = link_loaded_sort s c q s.head is answers
 load_link_sort s c q (AtNext t) is answers = link_loaded_sort s c q (get_or s.next t 0) is answers
 load_link_sort s c q (AtNumber t) is answers = Refused (LoadLink c)
@@ -120,11 +120,11 @@ load_link_sort s c q (AtHigh t n k) is answers = Refused (LoadLink c)
 load_link_sort s c q (AtLow t n k h) is answers = Refused (LoadLink c)
 load_link_sort s c q (AtValue t n) is answers = Refused (LoadLink c)
 
-compared_sort : (s : State) (c : ℕ) (q : Search) (t n l : ℕ) (b : Bool) → search_at s c ≡ Some q → Answers c q (outcome_of_name s c q t n l b) → Sort s (LoadRecord (OfSearch c)) (outcome_of_name s c q t n l b)
+compared_sort : (s : State) (c : ℕ) (q : Search) (t n l : ℕ) (b : Bool) → search_at s c ≡ Some q → AnswersLookup c q (outcome_of_name s c q t n l b) → Sort s (LoadRecord (OfSearch c)) (outcome_of_name s c q t n l b)
 compared_sort s c q t n l true is answers = load_sort s _ (LoadRecord (OfSearch c)) c q _ (inr refl) is (on_loads s c q (AtValue t n)) answers
 compared_sort s c q t n l false is answers = load_sort s _ (LoadRecord (OfSearch c)) c q _ (inr refl) is (on_loads s c q (AtNext t)) answers
 
-searched_sort : (s : State) (c : ℕ) (q : Search) (place : SearchPlace) → search_at s c ≡ Some q → Answers c q (load_searched s c q place (row_at s.rows)) → Sort s (LoadRecord (OfSearch c)) (load_searched s c q place (row_at s.rows))
+searched_sort : (s : State) (c : ℕ) (q : Search) (place : SearchPlace) → search_at s c ≡ Some q → AnswersLookup c q (load_searched s c q place (row_at s.rows)) → Sort s (LoadRecord (OfSearch c)) (load_searched s c q place (row_at s.rows))
 searched_sort s c q AtHead is answers = Refused (LoadRecord (OfSearch c))
 searched_sort s c q (AtNext t) is answers = Refused (LoadRecord (OfSearch c))
 searched_sort s c q (AtNumber t) is answers = load_sort s _ (LoadRecord (OfSearch c)) c q _ (inr refl) is (on_loads s c q (AtKind t (row_at s.rows t).number)) answers
@@ -237,11 +237,11 @@ step_sort s (Vacate t) on = sort_guard s (Vacate t) _ _ (λ may. Vacated t may)
 -- Runs
 
 -- the counts of a run don't matter to its state
-turned_state : (r : Ran) (o : Option Outcome) → (run_with_event r o).state ≡ state_after r.state o
+turned_state : (r : Run) (o : Option Outcome) → (run_with_event r o).state ≡ state_after r.state o
 turned_state r None = refl
 turned_state r (Some o) = refl
 
-pub same_states : (q r : Ran) (es : List Event) → q.state ≡ r.state → (run_of_events q es).state ≡ (run_of_events r es).state
+pub same_states : (q r : Run) (es : List Event) → q.state ≡ r.state → (run_of_events q es).state ≡ (run_of_events r es).state
 same_states q r [] same = same
 same_states q r (e ∷ es) same = same_states (run_with_event q (step q.state e)) (run_with_event r (step r.state e)) es
     (turned_state q (step q.state e) ∙ (ap (λ (s : State). state_after s (step s e)) same ∙ sym (turned_state r (step r.state e))))

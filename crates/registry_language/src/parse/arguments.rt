@@ -1,7 +1,7 @@
 //! The words after a command's first: CPUs, kinds, names, labels and turns.
 
 ghost use Rattle.std.specs.Prelude.{◌≡◌, IfOk, IsTrue, map, ◌<◌, ◌≤◌};
-ghost use Rattle.registry_language.specs.Grammar.{cpu_of, kind_of, name_if, turns_of, label_of, cpu_label_of, cpu_label_words};
+ghost use Rattle.registry_language.specs.Grammar.{cpu_of, kind_from_text, name_if, turns_of, label_of, cpu_label_of, cpu_label_words};
 ghost use Rattle.registry_language.specs.Program.{is_label, are_turns};
 ghost use Rattle.registry_values.specs.Names.{name_of_bytes, is_lawful};
 
@@ -24,7 +24,7 @@ pub fn cpu(settings: Settings, word: &[u8]) -> Result<u8, Cause>
 
 /// `iface` or `driver`.
 pub fn kind(word: &[u8]) -> Result<Kind, Cause>
-    ensures { result ≡ kind_of word.now }
+    ensures { result ≡ kind_from_text word.now }
 {
     if word == b"iface".as_slice() {
         Ok(Kind::Iface)

@@ -28,7 +28,7 @@ use Rattle.registry_values.specs.Slots.{is_iface, slot_before, slot_of, slot_at}
 use Rattle.protocol.specs.State.{State, local_at}
 use Rattle.registry_values.proofs.Answers.{attach_tells}
 use Rattle.registry_values.specs.Marks.{no_mark}
-use Rattle.passive_core.proofs.Attaching.{given_tells, plain_tells, seated_keeps, iface_links}
+use Rattle.passive_core.proofs.Attaching.{given_tells, first_fit_tells, seated_keeps, iface_links}
 use Rattle.protocol.proofs.history.History.{at_within}
 use Rattle.protocol.proofs.slots.Occupied.{is_vacant_tells, in_other, in_unpublished, in_within, in_written, live_one}
 use Rattle.protocol.proofs.model.Picturing.{unwritten}
@@ -53,7 +53,7 @@ use Rattle.registry_report.proofs.shows.Sectioned.{inside_is}
 attached_shows : (s : SessionState) (r : Registry) (c : ℕ) (rec : Record) (e : Entry) → Holds s.core → Holds (core.with_attached s.core c e) → Shows s r → core.given_entry s.core rec ≡ Ok e → Shows (with_core s (core.with_attached s.core c e)) (with_attached r c e)
 attached_shows s r c rec e holds later on is =
     let given = given_tells s.core rec e is in
-    let plain = plain_tells s.core e.slot holds given.plain in
+    let fit = first_fit_tells s.core e.slot holds given.fit in
     let number : e.number ≡ suc (length s.core.history) = omega (arith, ap (λ (x : Entry). x.number) given.entry) in
     linked_shows (with_core s (all_seated s.core)) r c e (seated_keeps s.core holds) later (record {
       settings = on.settings;
@@ -63,7 +63,7 @@ attached_shows s r c rec e holds later on is =
       grace = on.grace;
       tallies = on.tallies;
       labels = on.labels;
-    }) (omega (arith, plain.0, holds.shape.slots)) (is_vacant_tells (slot_at s.core.slots e.slot) plain.1) number
+    }) (omega (arith, fit.0, holds.shape.slots)) (is_vacant_tells (slot_at s.core.slots e.slot) fit.1) number
 
 -- what was given and left, of an answer a
 abbrev AttachDone : SessionState → Registry → ℕ → Record → Result Entry Refusal → Type 0
@@ -96,12 +96,12 @@ plugged_shows : (s : SessionState) (r : Registry) (c : ℕ) (rec : Record) (e : 
     → Shows (record s { core = core.with_attached_iface s.core c e id; locals = set s.locals x None }) (with_attached_iface r c e x n)
 plugged_shows s r c rec e x id n is on small at place driver iface lawful later given_ok =
     let given = given_tells s.core rec e given_ok in
-    let plain = plain_tells s.core e.slot is.holds given.plain in
+    let fit = first_fit_tells s.core e.slot is.holds given.fit in
     let number : e.number ≡ suc (length s.core.history) = omega (arith, ap (λ (x : Entry). x.number) given.entry) in
     let may = iface_links s.core rec e id is.holds is.quiet.rest given_ok driver iface lawful in
     linked_shows (record s { core = core.with_reference_kept (all_seated s.core) e.slot id; locals = set s.locals x None }) (record r { model = with_reference_kept r.model e.slot n; local_labels = put r.local_labels x None }) c e
-    (seated_keeps (core.with_reference_kept s.core e.slot id) may.holds) later (keeping_shows s r e.slot x id n is on plain.0 small at place)
-    (omega (arith, plain.0, is.holds.shape.slots)) (is_vacant_tells (slot_at s.core.slots e.slot) plain.1) number
+    (seated_keeps (core.with_reference_kept s.core e.slot id) may.holds) later (keeping_shows s r e.slot x id n is on fit.0 small at place)
+    (omega (arith, fit.0, is.holds.shape.slots)) (is_vacant_tells (slot_at s.core.slots e.slot) fit.1) number
 
 -- the label is free once the interface is attached
 abbrev pub after_plugging : SessionState → ℕ → ℕ → ℕ → Result Entry Refusal → SessionState
@@ -196,7 +196,7 @@ detached_by s r c e None holds later on at = record {
   sections = on.sections;
   live = detach_counts s.core.history s.core.slots e.slot e (in_within s.core.slots e.slot e (inl at)) at on.live;
   grace = detached_follows s r e (replicate 8 no_mark) (snapshot_row s.core) holds on at;
-  tallies = retired_tallies s.core.settings.cpus s.core.history s.core.slots s.core.counts s.core.nets s.core.totals r.acquired r.released r.given_up r.drained e.slot e at on.tallies;
+  tallies = retired_tallies s.core.settings.cpus s.core.history s.core.slots s.core.counts s.core.nets s.core.totals r.acquired r.released r.given_up r.is_collected e.slot e at on.tallies;
   labels = on.labels;
 }
 detached_by s r c e (Some p) holds later on at = record {
@@ -205,7 +205,7 @@ detached_by s r c e (Some p) holds later on at = record {
   sections = on.sections;
   live = detach_counts s.core.history s.core.slots e.slot e (in_within s.core.slots e.slot e (inl at)) at on.live;
   grace = detached_follows s r e (replicate 8 no_mark) (snapshot_row s.core) holds on at;
-  tallies = retired_tallies s.core.settings.cpus s.core.history s.core.slots s.core.counts s.core.nets s.core.totals r.acquired r.released r.given_up r.drained e.slot e at on.tallies;
+  tallies = retired_tallies s.core.settings.cpus s.core.history s.core.slots s.core.counts s.core.nets s.core.totals r.acquired r.released r.given_up r.is_collected e.slot e at on.tallies;
   labels = on.labels;
 }
 

@@ -36,7 +36,7 @@ use Rattle.protocol.proofs.counts.Sums.{local_changed, none_at, one_at, standing
 use Rattle.protocol.proofs.model.RefiningEntries.{passive_moved}
 use Rattle.registry_values.proofs.Least.{least_agrees}
 use Rattle.registry_report.specs.Changes.{lookup, live_entries, is_driver_entry, is_driver_number}
-use Rattle.registry_report.specs.Answers.{attach_iface_answer, is_plain, lookup_now, plain_slot, room_of, given_entry, attach_answer}
+use Rattle.registry_report.specs.Answers.{attach_iface_answer, is_available, lookup_now, first_fit, room_of, given_entry, attach_answer}
 use Rattle.registry_report.specs.Registry.{Registry}
 use Rattle.registry_report.specs.Session.{SessionState, with_core, IsSession}
 use Rattle.registry_report.specs.Shows.{Shows, number_at}
@@ -88,18 +88,18 @@ vacant_is Vacant = refl
 vacant_is (Live e) = refl
 vacant_is (Retired e) = refl
 
-plain_at : (s : SessionState) (r : Registry) (t : ℕ) → Shows s r → values.is_plain (slot_at s.core.slots t, kept_at s.core.keeps t) ≡ is_plain r t
-plain_at s r t on = λ i. (vacant_is (slot_at s.core.slots t) ∙ ap is_none (sym (on.model.occupants t))) i && is_none (sym (on.model.kept t) i)
+available_at : (s : SessionState) (r : Registry) (t : ℕ) → Shows s r → values.is_available (slot_at s.core.slots t, kept_at s.core.keeps t) ≡ is_available r t
+available_at s r t on = λ i. (vacant_is (slot_at s.core.slots t) ∙ ap is_none (sym (on.model.occupants t))) i && is_none (sym (on.model.kept t) i)
 
-pub plain_is : (s : SessionState) (r : Registry) → Holds s.core → Shows s r → core.plain_slot s.core ≡ plain_slot r
-plain_is s r holds on =
+pub first_fit_is : (s : SessionState) (r : Registry) → Holds s.core → Shows s r → core.first_fit s.core ≡ first_fit r
+first_fit_is s r holds on =
     let size : length s.core.keeps ≡ length s.core.slots = omega (arith, holds.shape.keeps, holds.shape.slots) in
     let all : length (zip s.core.slots s.core.keeps) ≡ r.settings.slots = omega (arith, length-zip s.core.slots s.core.keeps, holds.shape.slots, ap (λ (z : Settings). z.slots) on.settings) in
-    position_is values.is_plain (zip s.core.slots s.core.keeps) (Vacant, None)
-    ∙ (least_agrees (λ t. values.is_plain (get_or (zip s.core.slots s.core.keeps) t (Vacant, None))) (is_plain r) (length (zip s.core.slots s.core.keeps))
-    (λ t lt. ap values.is_plain (get_or-zip s.core.slots s.core.keeps t (Vacant, None) (omega (arith, length-zip s.core.slots s.core.keeps)) (omega (arith, length-zip s.core.slots s.core.keeps)))
-    ∙ plain_at s r t on)
-    ∙ ap (least_below (is_plain r)) all)
+    position_is values.is_available (zip s.core.slots s.core.keeps) (Vacant, None)
+    ∙ (least_agrees (λ t. values.is_available (get_or (zip s.core.slots s.core.keeps) t (Vacant, None))) (is_available r) (length (zip s.core.slots s.core.keeps))
+    (λ t lt. ap values.is_available (get_or-zip s.core.slots s.core.keeps t (Vacant, None) (omega (arith, length-zip s.core.slots s.core.keeps)) (omega (arith, length-zip s.core.slots s.core.keeps)))
+    ∙ available_at s r t on)
+    ∙ ap (least_below (is_available r)) all)
 
 pub room_is : (s : SessionState) (r : Registry) → Shows s r → events.room_of s.core ≡ room_of r
 room_is s r on =
@@ -109,7 +109,7 @@ room_is s r on =
 
 pub given_is : (s : SessionState) (r : Registry) (rec : Record) → Holds s.core → Shows s r → core.given_entry s.core rec ≡ given_entry r rec
 given_is s r rec holds on =
-    λ i. answers.given_entry (taken_is s r (key_of_record rec) holds on i) (plain_is s r holds on i) (room_is s r on i) rec
+    λ i. answers.given_entry (taken_is s r (key_of_record rec) holds on i) (first_fit_is s r holds on i) (room_is s r on i) rec
 
 pub attach_answers : (s : SessionState) (r : Registry) (c : ℕ) (rec : Record) → Holds s.core → Shows s r → core.attach_answer s.core c rec ≡ attach_answer r c rec
 attach_answers s r c rec holds on = λ i. answers.attach_answer (sym (inside_is s r c on) i) (is_iface rec.kind) (given_is s r rec holds on i)
@@ -145,7 +145,7 @@ linked_shows s r c e holds later on lt vacant number = record {
   sections = on.sections;
   live = attach_counts s.core.history s.core.slots e lt vacant on.live;
   grace = attach_follows s.core.history s.core.slots s.core.marks s.core.section s.core.begins e lt vacant on.grace;
-  tallies = published_tallies s.core.settings.cpus s.core.history s.core.slots s.core.counts s.core.nets s.core.totals r.acquired r.released r.given_up r.drained e
+  tallies = published_tallies s.core.settings.cpus s.core.history s.core.slots s.core.counts s.core.nets s.core.totals r.acquired r.released r.given_up r.is_collected e
       (ranges s.core.settings holds.fit).cpus lt (omega (arith, holds.shape.slots, holds.shape.counts)) (omega (arith, holds.shape.slots, holds.shape.nets)) vacant number (holds.balance.vacant e.slot lt vacant) on.tallies;
   labels = on.labels;
 }

@@ -34,7 +34,7 @@ row_below {X} f g row (suc n) le same =
 used_word : (w : ℕ) → 0 < w → local_of w ≡ less_bias w
 used_word w some = ap (λ (b : Bool). if b then pos 0 else less_bias w) (ne_eqb w 0 (λ none. omega (arith, none, some)))
 
-net_by : (s : SessionState) (r : Registry) (t c : ℕ) (e : Entry) (b : Bool) → IsSession s → Shows s r → IsIn e (slot_at s.core.slots t) → c < s.core.settings.cpus → r.drained e.number ≡ b
+net_by : (s : SessionState) (r : Registry) (t c : ℕ) (e : Entry) (b : Bool) → IsSession s → Shows s r → IsIn e (slot_at s.core.slots t) → c < s.core.settings.cpus → r.is_collected e.number ≡ b
     → local_of (count_at s.core.counts c t) ≡ (if b then pos 0 else pos (r.acquired c e.number) -ℤ pos (r.released c e.number))
 net_by s r t c e true is on in_ lt at = ap local_of (on.tallies.collected t c e in_ at)
 net_by s r t c e false is on in_ lt at =
@@ -45,7 +45,7 @@ net_by s r t c e false is on in_ lt at =
 
 pub locals_are : (s : SessionState) (r : Registry) (t : ℕ) (e : Entry) → IsSession s → Shows s r → IsIn e (slot_at s.core.slots t) → core.locals_at s.core t ≡ list_below (net_count r e.number) r.settings.cpus
 locals_are s r t e is on in_ =
-    row_below local_of (net_count r e.number) (get_or s.core.counts t []) s.core.settings.cpus (long s.core.settings.cpus refl) (λ c lt. net_by s r t c e (r.drained e.number) is on in_ lt refl)
+    row_below local_of (net_count r e.number) (get_or s.core.counts t []) s.core.settings.cpus (long s.core.settings.cpus refl) (λ c lt. net_by s r t c e (r.is_collected e.number) is on in_ lt refl)
     ∙ ap (λ z. list_below (net_count r e.number) z.cpus) (sym on.settings)
   where
     long : (n : ℕ) → n ≡ s.core.settings.cpus → n ≤ length (get_or s.core.counts t [])
@@ -54,7 +54,7 @@ locals_are s r t e is on in_ =
 
 -- The total is what was given up, or what is held.
 
-total_by : (s : SessionState) (r : Registry) (t : ℕ) (e : Entry) (b : Bool) → IsSession s → Shows s r → IsIn e (slot_at s.core.slots t) → r.drained e.number ≡ b
+total_by : (s : SessionState) (r : Registry) (t : ℕ) (e : Entry) (b : Bool) → IsSession s → Shows s r → IsIn e (slot_at s.core.slots t) → r.is_collected e.number ≡ b
     → less_bias (total_at s.core.totals t) ≡ (if b then pos (held_count r e.number) else neg_ℤ (pos (r.given_up e.number)))
 total_by s r t e true is on in_ at =
     let due = at_rest_tells s.core.due is.quiet.rest in
@@ -69,7 +69,7 @@ pub tally_is : (s : SessionState) (r : Registry) (t : ℕ) (e : Entry) → IsSes
 tally_is s r t e is on in_ =
     let held_count = rightly s.core t e is.holds is.quiet.rest in_ ∙ ap pos (held_is s r e.number t is on) in
     let locals = locals_are s r t e is on in_ in
-    let total = total_by s r t e (r.drained e.number) is on in_ refl in
+    let total = total_by s r t e (r.is_collected e.number) is on in_ refl in
     λ i. record { number = e.number; slot = t; held = held_count i; locals = locals i; total = total i }
 
 slot_tallies : (s : SessionState) (r : Registry) (t : ℕ) (x : Slot) → IsSession s → Shows s r → slot_at s.core.slots t ≡ x → core.tallies_at s.core t x ≡ tallies_in r t (number_in x)

@@ -96,11 +96,11 @@ stands_there {s} {c} {n} {t} has show u f at same = (one_number s.history s.slot
 -- The tallies of a session's core, before and after
 
 abbrev Tallied : State → (ℕ → ℕ → ℕ) → (ℕ → ℕ → ℕ) → (ℕ → ℕ) → (ℕ → Bool) → Type 0
-Tallied s acquired released given_up drained = ShowsTallies s.settings.cpus s.history s.slots s.counts s.nets s.totals acquired released given_up drained
+Tallied s acquired released given_up is_collected = ShowsTallies s.settings.cpus s.history s.slots s.counts s.nets s.totals acquired released given_up is_collected
 
-net_is : (s : State) (c n t : ℕ) (acquired released : ℕ → ℕ → ℕ) (given_up : ℕ → ℕ) (drained : ℕ → Bool) → c < s.settings.cpus → HasWords s c n t → Tallied s acquired released given_up drained
+net_is : (s : State) (c n t : ℕ) (acquired released : ℕ → ℕ → ℕ) (given_up : ℕ → ℕ) (is_collected : ℕ → Bool) → c < s.settings.cpus → HasWords s c n t → Tallied s acquired released given_up is_collected
     → count_at s.nets c t + released c n ≡ bias + acquired c n
-net_is s c n t acquired released given_up drained low has on = subst (λ (m : ℕ). count_at s.nets c t + released c m ≡ bias + acquired c m) has.numbered (on.net t c has.entry has.there low)
+net_is s c n t acquired released given_up is_collected low has on = subst (λ (m : ℕ). count_at s.nets c t + released c m ≡ bias + acquired c m) has.numbered (on.net t c has.entry has.there low)
 
 -- c's own count for n changes, and else nothing does
 record Recounts (acquired released acquired_now released_now : ℕ → ℕ → ℕ) (c n w : ℕ) : Type 0 where
@@ -108,10 +108,10 @@ record Recounts (acquired released acquired_now released_now : ℕ → ℕ → �
   acquired_else : (d m : ℕ) → (d ≡ c → m ≡ n → ⊥) → acquired_now d m ≡ acquired d m
   released_else : (d m : ℕ) → (d ≡ c → m ≡ n → ⊥) → released_now d m ≡ released d m
 
-recounted : (s : State) (c n t v w : ℕ) (acquired released acquired_now released_now : ℕ → ℕ → ℕ) (given_up : ℕ → ℕ) (drained : ℕ → Bool)
-    → SlotsShow s.history s.slots → HasWords s c n t → drained n ≡ false → v ≡ w → Recounts acquired released acquired_now released_now c n w → Tallied s acquired released given_up drained
-    → Tallied (record s { counts = with_cell s.counts t c v; nets = with_cell s.nets t c w }) acquired_now released_now given_up drained
-recounted s c n t v w acquired released acquired_now released_now given_up drained show has live same now on =
+recounted : (s : State) (c n t v w : ℕ) (acquired released acquired_now released_now : ℕ → ℕ → ℕ) (given_up : ℕ → ℕ) (is_collected : ℕ → Bool)
+    → SlotsShow s.history s.slots → HasWords s c n t → is_collected n ≡ false → v ≡ w → Recounts acquired released acquired_now released_now c n w → Tallied s acquired released given_up is_collected
+    → Tallied (record s { counts = with_cell s.counts t c v; nets = with_cell s.nets t c w }) acquired_now released_now given_up is_collected
+recounted s c n t v w acquired released acquired_now released_now given_up is_collected show has live same now on =
     let count_now : count_at (with_cell s.counts t c v) c t ≡ v = cell_here 0 s.counts t c v has.counts has.count_row in
     let net_now : count_at (with_cell s.nets t c w) c t ≡ w = cell_here 0 s.nets t c w has.nets has.net_row in
     record {
@@ -120,12 +120,12 @@ recounted s c n t v w acquired released acquired_now released_now given_up drain
           (λ off at low.
           let away : d ≡ c → f.number ≡ n → ⊥ = λ here is. off (stands_there has show u f at is) here in
           omega (arith, cell_other 0 s.nets t c w u d off, now.acquired_else d f.number away, now.released_else d f.number away, on.net u d f at low));
-      word = λ u d f. by_cell (λ u d. IsIn f (slot_at s.slots u) → d < s.settings.cpus → drained f.number ≡ false → count_at (with_cell s.counts t c v) d u ≡ count_at (with_cell s.nets t c w) d u) t c u d
+      word = λ u d f. by_cell (λ u d. IsIn f (slot_at s.slots u) → d < s.settings.cpus → is_collected f.number ≡ false → count_at (with_cell s.counts t c v) d u ≡ count_at (with_cell s.nets t c w) d u) t c u d
           (λ at low dry. count_now ∙ (same ∙ sym net_now))
           (λ off at low dry. cell_other 0 s.counts t c v u d off ∙ (on.word u d f at low dry ∙ sym (cell_other 0 s.nets t c w u d off)));
       total = on.total;
-      collected = λ u d f. by_cell (λ u d. IsIn f (slot_at s.slots u) → drained f.number ≡ true → count_at (with_cell s.counts t c v) d u ≡ 0) t c u d
-          (λ at dry. absurd (let q : ◌≡◌ {A = Bool} true false = sym dry ∙ (ap drained (is_there has t f at refl) ∙ live) in cc))
+      collected = λ u d f. by_cell (λ u d. IsIn f (slot_at s.slots u) → is_collected f.number ≡ true → count_at (with_cell s.counts t c v) d u ≡ 0) t c u d
+          (λ at dry. absurd (let q : ◌≡◌ {A = Bool} true false = sym dry ∙ (ap is_collected (is_there has t f at refl) ∙ live) in cc))
           (λ off at dry. cell_other 0 s.counts t c v u d off ∙ on.collected u d f at dry);
       fresh = λ m new.
           let off : m ≡ n → ⊥ = λ is. absurd (omega (arith, is, new, has.old)) in
@@ -133,26 +133,26 @@ recounted s c n t v w acquired released acquired_now released_now given_up drain
             unacquired = λ d. now.acquired_else d m (λ here is. off is) ∙ (on.fresh m new).unacquired d;
             unreleased = λ d. now.released_else d m (λ here is. off is) ∙ (on.fresh m new).unreleased d;
             kept = (on.fresh m new).kept;
-            undrained = (on.fresh m new).undrained;
+            uncollected = (on.fresh m new).uncollected;
           };
     }
 
 -- one local reference to n is given up under the interlock
-given : (s : State) (c n t k : ℕ) (acquired released : ℕ → ℕ → ℕ) (given_up : ℕ → ℕ) (drained : ℕ → Bool)
-    → SlotsShow s.history s.slots → HasWords s c n t → drained n ≡ true → Tallied s acquired released given_up drained
-    → Tallied (record s { totals = set s.totals t k }) acquired released (put given_up n (given_up n + 1)) drained
-given s c n t k acquired released given_up drained show has gone on = record {
+given : (s : State) (c n t k : ℕ) (acquired released : ℕ → ℕ → ℕ) (given_up : ℕ → ℕ) (is_collected : ℕ → Bool)
+    → SlotsShow s.history s.slots → HasWords s c n t → is_collected n ≡ true → Tallied s acquired released given_up is_collected
+    → Tallied (record s { totals = set s.totals t k }) acquired released (put given_up n (given_up n + 1)) is_collected
+given s c n t k acquired released given_up is_collected show has gone on = record {
   net = on.net;
   word = on.word;
   total = λ u f at dry.
-      let off : f.number ≡ n → ⊥ = λ is. absurd (let q : ◌≡◌ {A = Bool} true false = sym gone ∙ (ap drained (sym is) ∙ dry) in cc) in
+      let off : f.number ≡ n → ⊥ = λ is. absurd (let q : ◌≡◌ {A = Bool} true false = sym gone ∙ (ap is_collected (sym is) ∙ dry) in cc) in
       omega (arith, get_or-set_other s.totals t u k 0 (λ same. off (is_there has u f at same)), put_other given_up n (given_up n + 1) f.number off, on.total u f at dry);
   collected = on.collected;
   fresh = λ m new. record {
     unacquired = (on.fresh m new).unacquired;
     unreleased = (on.fresh m new).unreleased;
     kept = put_other given_up n (given_up n + 1) m (λ is. absurd (omega (arith, is, new, has.old))) ∙ (on.fresh m new).kept;
-    undrained = (on.fresh m new).undrained;
+    uncollected = (on.fresh m new).uncollected;
   };
 }
 
@@ -166,7 +166,7 @@ found_number (Some e) = Ok e.number
 uncounted_is : (s : SessionState) (r : Registry) (c n t : ℕ) → Holds s.core → Shows s r → c < s.core.settings.cpus → slot_of s.core.slots n ≡ Some t
     → answers.why_uncounted (count_in s.core.nets c (slot_of s.core.slots n)) (bias + s.core.settings.count_limit) ≡ why_uncounted r c n
 uncounted_is s r c n t holds on low of =
-    let net = net_is s.core c n t r.acquired r.released r.given_up r.drained low (has_words s.core c n t holds low of) on.tallies in
+    let net = net_is s.core c n t r.acquired r.released r.given_up r.is_collected low (has_words s.core c n t holds low of) on.tallies in
     let limit : r.settings.count_limit ≡ s.core.settings.count_limit = ap (λ (z : _). z.count_limit) on.settings in
     ap (λ (o : Option ℕ). answers.why_uncounted (count_in s.core.nets c o) (bias + s.core.settings.count_limit)) of
     ∙ ap (λ (b : Bool). if b then None else Some LocalFull) (same_test (count_at s.core.nets c t) (bias + s.core.settings.count_limit) (r.acquired c n) (r.released c n + r.settings.count_limit)
@@ -260,7 +260,7 @@ labels_removed places ids labels x id within here apart shows = put_is labels (�
 -- counts, totals, live references and their labels change
 changed : (s : SessionState) (r : Registry) (counts nets : List (List ℕ)) (totals : List ℕ) (places : List LocalPlace) (ids : List (Option ℕ)) (n k : ℕ) (acquired released : ℕ → ℕ → ℕ) (given_up : ℕ → ℕ) (labels : ℕ → Option ℕ)
     → Shows s r → ((m : ℕ) → put r.model.locals n k m ≡ sum_by (standing_of m) places)
-    → Tallied (record s.core { counts = counts; nets = nets; totals = totals }) acquired released given_up r.drained
+    → Tallied (record s.core { counts = counts; nets = nets; totals = totals }) acquired released given_up r.is_collected
     → ((y : ℕ) → labels y ≡ number_at places (get_or ids y None))
     → Shows (record s { core = record (all_seated s.core) { counts = counts; nets = nets; totals = totals; locals = places }; locals = ids })
     (record r { model = with_locals r.model n k; acquired = acquired; released = released; given_up = given_up; local_labels = labels })
@@ -282,15 +282,15 @@ changed s r counts nets totals places ids n k acquired released given_up labels 
   labels = record { passive = on.labels.passive; local = stand };
 }
 
--- what a CPU has found isn't drained: its word for it still counts
-found_undrained : (s : SessionState) (r : Registry) (c t : ℕ) (e : Entry) → Holds s.core → Shows s r → c < s.core.settings.cpus → found_at s.core c ≡ Some e → slot_of s.core.slots e.number ≡ Some t → r.drained e.number ≡ false
-found_undrained s r c t e holds on low found of =
+-- what a CPU has found isn't collected: its word for it still counts
+found_uncollected : (s : SessionState) (r : Registry) (c t : ℕ) (e : Entry) → Holds s.core → Shows s r → c < s.core.settings.cpus → found_at s.core c ≡ Some e → slot_of s.core.slots e.number ≡ Some t → r.is_collected e.number ≡ false
+found_uncollected s r c t e holds on low found of =
     let is = held_counting s.core c t e holds found of in
     let some = (holds.balance.counted c t low is.1).1 in
     ⊎_elim
-    (λ (dry : r.drained e.number ≡ true). absurd (omega (arith, some, on.tallies.collected t c e is.0 dry)))
-    (λ (live : r.drained e.number ≡ false). live)
-    (cases_Bool (r.drained e.number))
+    (λ (dry : r.is_collected e.number ≡ true). absurd (omega (arith, some, on.tallies.collected t c e is.0 dry)))
+    (λ (live : r.is_collected e.number ≡ false). live)
+    (cases_Bool (r.is_collected e.number))
 
 -- the sum of the live references with one more
 more_standing : (s : SessionState) (r : Registry) (n : ℕ) → Shows s r → (m : ℕ) → put r.model.locals n (r.model.locals n + 1) m ≡ sum_by (standing_of m) (with_local s.core.locals (least_id s.core.locals) (Standing n))
@@ -306,17 +306,17 @@ less_standing s r id n on at =
     (λ m off. omega (arith, on.model.counted m, local_changed m s.core.locals id (Standing n) Free within at, none_at n m (λ same. off (sym same))))
 
 -- one more, counted by c
-more_shows : (s : SessionState) (r : Registry) (c x n t : ℕ) → IsSession s → Shows s r → c < s.core.settings.cpus → x < length s.locals → slot_of s.core.slots n ≡ Some t → r.drained n ≡ false
+more_shows : (s : SessionState) (r : Registry) (c x n t : ℕ) → IsSession s → Shows s r → c < s.core.settings.cpus → x < length s.locals → slot_of s.core.slots n ≡ Some t → r.is_collected n ≡ false
     → Shows (record s { core = with_count_more s.core c n (Some t); locals = set s.locals x (Some (least_id s.core.locals)) }) (with_one_counted r c x n)
 more_shows s r c x n t session on low within of live =
     let has = has_words s.core c n t session.holds low of in
-    let net = net_is s.core c n t r.acquired r.released r.given_up r.drained low has on.tallies in
-    let word : count_at s.core.counts c t ≡ count_at s.core.nets c t = on.tallies.word t c has.entry has.there low (ap r.drained has.numbered ∙ live) in
+    let net = net_is s.core c n t r.acquired r.released r.given_up r.is_collected low has on.tallies in
+    let word : count_at s.core.counts c t ≡ count_at s.core.nets c t = on.tallies.word t c has.entry has.there low (ap r.is_collected has.numbered ∙ live) in
     changed s r (with_cell s.core.counts t c (count_at s.core.counts c t + 1)) (with_cell s.core.nets t c (count_at s.core.nets c t + 1)) s.core.totals
     (with_local s.core.locals (least_id s.core.locals) (Standing n)) (set s.locals x (Some (least_id s.core.locals))) n (r.model.locals n + 1)
     (put_at r.acquired c n (r.acquired c n + 1)) r.released r.given_up (put r.local_labels x (Some n)) on
     (more_standing s r n on)
-    (recounted s.core c n t (count_at s.core.counts c t + 1) (count_at s.core.nets c t + 1) r.acquired r.released (put_at r.acquired c n (r.acquired c n + 1)) r.released r.given_up r.drained session.holds.slots has live
+    (recounted s.core c n t (count_at s.core.counts c t + 1) (count_at s.core.nets c t + 1) r.acquired r.released (put_at r.acquired c n (r.acquired c n + 1)) r.released r.given_up r.is_collected session.holds.slots has live
     (ap (λ (k : ℕ). k + 1) word)
     (record {
       net = omega (arith, net, put_at_here r.acquired c n (r.acquired c n + 1));
@@ -333,7 +333,7 @@ counting_shows s r c x e session on low within found =
     let at = found_slot s.core c e session.holds found in
     subst (λ (o : Option Entry). Shows (record s { core = after_counting s.core c o; locals = set s.locals x (Some (least_id s.core.locals)) }) (with_one_counted r c x e.number)) (sym found)
     (subst (λ (o : Option ℕ). Shows (record s { core = with_count_more s.core c e.number o; locals = set s.locals x (Some (least_id s.core.locals)) }) (with_one_counted r c x e.number)) (sym at.1)
-    (more_shows s r c x e.number at.0 session on low within at.1 (found_undrained s r c at.0 e session.holds on low found at.1)))
+    (more_shows s r c x e.number at.0 session on low within at.1 (found_uncollected s r c at.0 e session.holds on low found at.1)))
 
 -- of an acquire that answers id: the entry, the registry's answer, and the session that stands for what that leaves
 pub record Counts (s : SessionState) (r : Registry) (c x id : ℕ) : Type 0 where
@@ -356,17 +356,17 @@ acquire_local_shows s r c x id session on low within is =
 
 -- Releases
 
--- c's word counts a live reference's entry just until that is drained
-counting_by : (s : SessionState) (r : Registry) (c n t : ℕ) (b : Bool) → Holds s.core → Shows s r → c < s.core.settings.cpus → HasWords s.core c n t → r.drained n ≡ b → nat_lt 0 (count_at s.core.counts c t) ≡ not b
-counting_by s r c n t true holds on low has dry = le-ltb 0 (count_at s.core.counts c t) (omega (arith, on.tallies.collected t c has.entry has.there (ap r.drained has.numbered ∙ dry)))
+-- c's word counts a live reference's entry just until that is collected
+counting_by : (s : SessionState) (r : Registry) (c n t : ℕ) (b : Bool) → Holds s.core → Shows s r → c < s.core.settings.cpus → HasWords s.core c n t → r.is_collected n ≡ b → nat_lt 0 (count_at s.core.counts c t) ≡ not b
+counting_by s r c n t true holds on low has dry = le-ltb 0 (count_at s.core.counts c t) (omega (arith, on.tallies.collected t c has.entry has.there (ap r.is_collected has.numbered ∙ dry)))
 counting_by s r c n t false holds on low has live = lt-ltb 0 (count_at s.core.counts c t)
-    (omega (arith, on.tallies.word t c has.entry has.there low (ap r.drained has.numbered ∙ live), holds.balance.used c t has.entry low has.there))
+    (omega (arith, on.tallies.word t c has.entry has.there low (ap r.is_collected has.numbered ∙ live), holds.balance.used c t has.entry low has.there))
 
-pub counting_is : (s : SessionState) (r : Registry) (c id n : ℕ) → Holds s.core → Shows s r → c < s.core.settings.cpus → number_standing (local_at s.core.locals id) ≡ Some n → is_counting s.core c (local_slot s.core id) ≡ not (r.drained n)
+pub counting_is : (s : SessionState) (r : Registry) (c id n : ℕ) → Holds s.core → Shows s r → c < s.core.settings.cpus → number_standing (local_at s.core.locals id) ≡ Some n → is_counting s.core c (local_slot s.core id) ≡ not (r.is_collected n)
 counting_is s r c id n holds on low live =
     let at = live_slot s.core id n holds live in
     ap (is_counting s.core c) (slot_is s.core id n at.0 live at.1)
-    ∙ counting_by s r c n at.0 (r.drained n) holds on low (has_words s.core c n at.0 holds low at.1) refl
+    ∙ counting_by s r c n at.0 (r.is_collected n) holds on low (has_words s.core c n at.0 holds low at.1) refl
 
 -- one less: by c's own count, or under the interlock
 abbrev uncounted_by : Bool → Registry → ℕ → ℕ → ℕ → Registry
@@ -378,17 +378,17 @@ uncounted_by b r c x n = record r {
 }
 
 own_shows : (s : SessionState) (r : Registry) (c x id n t : ℕ) → IsSession s → Shows s r → c < s.core.settings.cpus → x < length s.locals → get_or s.locals x None ≡ Some id → local_at s.core.locals id ≡ Standing n → slot_of s.core.slots n ≡ Some t
-    → r.drained n ≡ false → Shows (record s { core = with_count_less (all_seated s.core) c id (Some t); locals = set s.locals x None }) (uncounted_by false r c x n)
+    → r.is_collected n ≡ false → Shows (record s { core = with_count_less (all_seated s.core) c id (Some t); locals = set s.locals x None }) (uncounted_by false r c x n)
 own_shows s r c x id n t session on low within label at of live =
     let has = has_words s.core c n t session.holds low of in
-    let net = net_is s.core c n t r.acquired r.released r.given_up r.drained low has on.tallies in
+    let net = net_is s.core c n t r.acquired r.released r.given_up r.is_collected low has on.tallies in
     let used = session.holds.balance.used c t has.entry low has.there in
-    let word : count_at s.core.counts c t ≡ count_at s.core.nets c t = on.tallies.word t c has.entry has.there low (ap r.drained has.numbered ∙ live) in
+    let word : count_at s.core.counts c t ≡ count_at s.core.nets c t = on.tallies.word t c has.entry has.there low (ap r.is_collected has.numbered ∙ live) in
     changed s r (with_cell s.core.counts t c (count_at s.core.counts c t - 1)) (with_cell s.core.nets t c (count_at s.core.nets c t - 1)) s.core.totals
     (set s.core.locals id Free) (set s.locals x None) n (r.model.locals n - 1)
     r.acquired (put_at r.released c n (r.released c n + 1)) r.given_up (put r.local_labels x None) on
     (less_standing s r id n on at)
-    (recounted s.core c n t (count_at s.core.counts c t - 1) (count_at s.core.nets c t - 1) r.acquired r.released r.acquired (put_at r.released c n (r.released c n + 1)) r.given_up r.drained session.holds.slots has live
+    (recounted s.core c n t (count_at s.core.counts c t - 1) (count_at s.core.nets c t - 1) r.acquired r.released r.acquired (put_at r.released c n (r.released c n + 1)) r.given_up r.is_collected session.holds.slots has live
     (ap (λ (k : ℕ). k - 1) word)
     (record {
       net = omega (arith, net, used, put_at_here r.released c n (r.released c n + 1));
@@ -398,20 +398,20 @@ own_shows s r c x id n t session on low within label at of live =
     on.tallies)
     (labels_removed s.core.locals s.locals r.local_labels x id within label session.apart on.labels.local)
 
--- the total of a drained entry is one less
+-- the total of a collected entry is one less
 interlock_shows : (s : SessionState) (r : Registry) (c x id n t : ℕ) → IsSession s → Shows s r → c < s.core.settings.cpus → x < length s.locals → get_or s.locals x None ≡ Some id → local_at s.core.locals id ≡ Standing n → slot_of s.core.slots n ≡ Some t
-    → r.drained n ≡ true → Shows (record s { core = with_total_less (all_seated s.core) id (Some t); locals = set s.locals x None }) (uncounted_by true r c x n)
+    → r.is_collected n ≡ true → Shows (record s { core = with_total_less (all_seated s.core) id (Some t); locals = set s.locals x None }) (uncounted_by true r c x n)
 interlock_shows s r c x id n t session on low within label at of dry =
     let has = has_words s.core c n t session.holds low of in
     changed s r s.core.counts s.core.nets (set s.core.totals t (total_at s.core.totals t - 1))
     (set s.core.locals id Free) (set s.locals x None) n (r.model.locals n - 1)
     r.acquired r.released (put r.given_up n (r.given_up n + 1)) (put r.local_labels x None) on
     (less_standing s r id n on at)
-    (given s.core c n t (total_at s.core.totals t - 1) r.acquired r.released r.given_up r.drained session.holds.slots has dry on.tallies)
+    (given s.core c n t (total_at s.core.totals t - 1) r.acquired r.released r.given_up r.is_collected session.holds.slots has dry on.tallies)
     (labels_removed s.core.locals s.locals r.local_labels x id within label session.apart on.labels.local)
 
 less_by : (s : SessionState) (r : Registry) (c x id n t : ℕ) (b : Bool) → IsSession s → Shows s r → c < s.core.settings.cpus → x < length s.locals → get_or s.locals x None ≡ Some id → local_at s.core.locals id ≡ Standing n → slot_of s.core.slots n ≡ Some t
-    → r.drained n ≡ b
+    → r.is_collected n ≡ b
     → Shows (record s { core = if not b then with_count_less (all_seated s.core) c id (Some t) else with_total_less (all_seated s.core) id (Some t); locals = set s.locals x None }) (uncounted_by b r c x n)
 less_by s r c x id n t true session on low within label at of is = interlock_shows s r c x id n t session on low within label at of is
 less_by s r c x id n t false session on low within label at of is = own_shows s r c x id n t session on low within label at of is
@@ -422,8 +422,8 @@ pub release_local_shows : (s : SessionState) (r : Registry) (c x id n : ℕ) →
 release_local_shows s r c x id n session on low within label live =
     let of = live_slot s.core id n session.holds live in
     let slot : local_slot s.core id ≡ Some of.0 = slot_is s.core id n of.0 live of.1 in
-    let by : is_counting s.core c (local_slot s.core id) ≡ not (r.drained n) = counting_is s r c id n session.holds on low live in
-    let after : (if not (r.drained n) then with_count_less (all_seated s.core) c id (Some of.0) else with_total_less (all_seated s.core) id (Some of.0)) ≡ after_release_local s.core c id =
+    let by : is_counting s.core c (local_slot s.core id) ≡ not (r.is_collected n) = counting_is s r c id n session.holds on low live in
+    let after : (if not (r.is_collected n) then with_count_less (all_seated s.core) c id (Some of.0) else with_total_less (all_seated s.core) id (Some of.0)) ≡ after_release_local s.core c id =
     λ i. if sym by i then with_count_less (all_seated s.core) c id (sym slot i) else with_total_less (all_seated s.core) id (sym slot i) in
     subst (λ (core : State). Shows (record s { core = core; locals = set s.locals x None }) (with_one_uncounted r c x n)) after
-    (less_by s r c x id n of.0 (r.drained n) session on low within label (standing_tells (local_at s.core.locals id) n live) of.1 refl)
+    (less_by s r c x id n of.0 (r.is_collected n) session on low within label (standing_tells (local_at s.core.locals id) n live) of.1 refl)

@@ -46,10 +46,10 @@ opened_shows z = record {
   grace = λ t p c b w e at end begun snapshot same. absurd (none-some b (sym (get_or_all z.cpus None c) ∙ begun));
   tallies = record {
     net = λ t c e is low. absurd (nobody z.slots t e is);
-    word = λ t c e is low undrained. absurd (nobody z.slots t e is);
-    total = λ t e is undrained. absurd (nobody z.slots t e is);
-    collected = λ t c e is drained. absurd (nobody z.slots t e is);
-    fresh = λ n later. record { unacquired = λ c. refl; unreleased = λ c. refl; kept = refl; undrained = refl };
+    word = λ t c e is low uncollected. absurd (nobody z.slots t e is);
+    total = λ t e is uncollected. absurd (nobody z.slots t e is);
+    collected = λ t c e is is_collected. absurd (nobody z.slots t e is);
+    fresh = λ n later. record { unacquired = λ c. refl; unreleased = λ c. refl; kept = refl; uncollected = refl };
   };
   labels = record {
     passive = λ x. sym (get_or_all 26 None x);

@@ -42,36 +42,36 @@ pub biases_at : (cpus c : ℕ) (row : List ℕ) → c < cpus → get_or (with_bi
 biases_at cpus c row lt = get_or_append_left (replicate cpus bias) (drop cpus row) 0 c (omega (arith, length-replicate cpus bias)) ∙ get_or-replicate cpus c bias 0 lt
 
 -- the net counts of a new entry are those of none
-pub published_tallies : (cpus : ℕ) (h : List Change) (slots : List Slot) (counts nets : List (List ℕ)) (totals : List ℕ) (acquired released : ℕ → ℕ → ℕ) (given_up : ℕ → ℕ) (drained : ℕ → Bool) (e : Entry)
+pub published_tallies : (cpus : ℕ) (h : List Change) (slots : List Slot) (counts nets : List (List ℕ)) (totals : List ℕ) (acquired released : ℕ → ℕ → ℕ) (given_up : ℕ → ℕ) (is_collected : ℕ → Bool) (e : Entry)
     → cpus ≤ 8 → e.slot < length slots → length counts ≡ length slots → length nets ≡ length slots → slot_at slots e.slot ≡ Vacant → e.number ≡ suc (length h) → total_at totals e.slot ≡ bias
-    → ShowsTallies cpus h slots counts nets totals acquired released given_up drained
-    → ShowsTallies cpus (after_change h (Attach e)) (set slots e.slot (Live e)) (set counts e.slot (with_biases cpus (get_or counts e.slot []))) (set nets e.slot (replicate 8 bias)) totals acquired released given_up drained
-published_tallies cpus h slots counts nets totals acquired released given_up drained e few lt counts_size nets_size vacant number unused on =
+    → ShowsTallies cpus h slots counts nets totals acquired released given_up is_collected
+    → ShowsTallies cpus (after_change h (Attach e)) (set slots e.slot (Live e)) (set counts e.slot (with_biases cpus (get_or counts e.slot []))) (set nets e.slot (replicate 8 bias)) totals acquired released given_up is_collected
+published_tallies cpus h slots counts nets totals acquired released given_up is_collected e few lt counts_size nets_size vacant number unused on =
     let row = with_biases cpus (get_or counts e.slot []) in
-    let fresh : IsFresh acquired released given_up drained e.number = on.fresh e.number (omega arith) in
+    let fresh : IsFresh acquired released given_up is_collected e.number = on.fresh e.number (omega arith) in
     let counted : (c : ℕ) → c < cpus → count_at (set counts e.slot row) c e.slot ≡ bias = λ c low. cell_in_new 0 counts e.slot row c (omega arith) ∙ biases_at cpus c (get_or counts e.slot []) low in
     let net : (c : ℕ) → c < cpus → count_at (set nets e.slot (replicate 8 bias)) c e.slot ≡ bias = λ c low. cell_in_new 0 nets e.slot (replicate 8 bias) c (omega arith) ∙ get_or-replicate 8 c bias 0 (omega arith) in
     record {
       net = λ t c f is low. by_published (λ u g. count_at (set nets e.slot (replicate 8 bias)) c u + released c g.number ≡ bias + acquired c g.number) slots e t f lt vacant is
           (omega (arith, net c low, fresh.unreleased c, fresh.unacquired c))
           (λ off was. ap (λ (w : ℕ). w + released c f.number) (cell_in_old 0 nets e.slot (replicate 8 bias) t c off) ∙ on.net t c f was low);
-      word = λ t c f is low. by_published (λ u g. drained g.number ≡ false → count_at (set counts e.slot row) c u ≡ count_at (set nets e.slot (replicate 8 bias)) c u) slots e t f lt vacant is
-          (λ undrained. counted c low ∙ sym (net c low))
-          (λ off was undrained. cell_in_old 0 counts e.slot row t c off ∙ (on.word t c f was low undrained ∙ sym (cell_in_old 0 nets e.slot (replicate 8 bias) t c off)));
-      total = λ t f is. by_published (λ u g. drained g.number ≡ false → total_at totals u + given_up g.number ≡ bias) slots e t f lt vacant is
-          (λ undrained. omega (arith, unused, fresh.kept))
-          (λ off was undrained. on.total t f was undrained);
-      collected = λ t c f is. by_published (λ u g. drained g.number ≡ true → count_at (set counts e.slot row) c u ≡ 0) slots e t f lt vacant is
-          (λ is. absurd (let q : ◌≡◌ {A = Bool} false true = sym fresh.undrained ∙ is in cc))
+      word = λ t c f is low. by_published (λ u g. is_collected g.number ≡ false → count_at (set counts e.slot row) c u ≡ count_at (set nets e.slot (replicate 8 bias)) c u) slots e t f lt vacant is
+          (λ uncollected. counted c low ∙ sym (net c low))
+          (λ off was uncollected. cell_in_old 0 counts e.slot row t c off ∙ (on.word t c f was low uncollected ∙ sym (cell_in_old 0 nets e.slot (replicate 8 bias) t c off)));
+      total = λ t f is. by_published (λ u g. is_collected g.number ≡ false → total_at totals u + given_up g.number ≡ bias) slots e t f lt vacant is
+          (λ uncollected. omega (arith, unused, fresh.kept))
+          (λ off was uncollected. on.total t f was uncollected);
+      collected = λ t c f is. by_published (λ u g. is_collected g.number ≡ true → count_at (set counts e.slot row) c u ≡ 0) slots e t f lt vacant is
+          (λ is. absurd (let q : ◌≡◌ {A = Bool} false true = sym fresh.uncollected ∙ is in cc))
           (λ off was is. cell_in_old 0 counts e.slot row t c off ∙ on.collected t c f was is);
       fresh = λ n later. on.fresh n (omega (arith, length-after_change h (Attach e)));
     }
 
 -- what stood there is what stands there, once an entry is retired
-pub retired_tallies : (cpus : ℕ) (h : List Change) (slots : List Slot) (counts nets : List (List ℕ)) (totals : List ℕ) (acquired released : ℕ → ℕ → ℕ) (given_up : ℕ → ℕ) (drained : ℕ → Bool) (t : ℕ) (e : Entry) → slot_at slots t ≡ Live e
-    → ShowsTallies cpus h slots counts nets totals acquired released given_up drained
-    → ShowsTallies cpus (after_change h (Detach e.number)) (set slots t (Retired e)) counts nets totals acquired released given_up drained
-retired_tallies cpus h slots counts nets totals acquired released given_up drained t e at on = record {
+pub retired_tallies : (cpus : ℕ) (h : List Change) (slots : List Slot) (counts nets : List (List ℕ)) (totals : List ℕ) (acquired released : ℕ → ℕ → ℕ) (given_up : ℕ → ℕ) (is_collected : ℕ → Bool) (t : ℕ) (e : Entry) → slot_at slots t ≡ Live e
+    → ShowsTallies cpus h slots counts nets totals acquired released given_up is_collected
+    → ShowsTallies cpus (after_change h (Detach e.number)) (set slots t (Retired e)) counts nets totals acquired released given_up is_collected
+retired_tallies cpus h slots counts nets totals acquired released given_up is_collected t e at on = record {
   net = λ u c f is. on.net u c f (in_unpublished slots t u e f at is);
   word = λ u c f is. on.word u c f (in_unpublished slots t u e f at is);
   total = λ u f is. on.total u f (in_unpublished slots t u e f at is);

@@ -43,7 +43,7 @@ use Rattle.protocol.proofs.slots.Occupied.{at_rest_tells, attached_in, has_it, i
 use Rattle.protocol.proofs.model.Picturing.{put_here, put_is, put_other, unwritten}
 use Rattle.protocol.proofs.model.RefiningEntries.{passive_moved}
 use Rattle.protocol.proofs.keeps.Searching.{within_some}
-use Rattle.registry_report.specs.Answers.{advance_answer, count_below, destroy_answer, is_inside, perform_answer, has_passive, has_section, held_count, is_this, plain_stage, retired_slot, stage_in}
+use Rattle.registry_report.specs.Answers.{advance_answer, count_below, destroy_answer, is_inside, perform_answer, has_passive, has_section, held_count, is_this, first_obstacle, retired_slot, stage_in}
 use Rattle.registry_report.specs.Changes.{end_of, has_ended, may_hold}
 use Rattle.registry_report.specs.Registry.{Registry}
 use Rattle.registry_report.specs.Session.{IsSession, SessionState, with_core}
@@ -154,7 +154,7 @@ open_is s r t c e is on gone lt =
 pub passive_is : (s : SessionState) (r : Registry) (t c : ℕ) (e : Entry) → Holds s.core → Shows s r → IsIn e (slot_at s.core.slots t) → r.model.passive c e.number ≡ passive_at s.core.passive c t
 passive_is s r t c e holds on in_ = on.model.held c e.number ∙ ap (passive_in s.core.passive c) (slot_number s.core.history s.core.slots e t holds.slots in_)
 
-pub stage_is : (s : SessionState) (r : Registry) (t : ℕ) (e : Entry) → IsSession s → Shows s r → slot_at s.core.slots t ≡ Retired e → core.plain_stage s.core t e.number ≡ plain_stage r e.number t
+pub stage_is : (s : SessionState) (r : Registry) (t : ℕ) (e : Entry) → IsSession s → Shows s r → slot_at s.core.slots t ≡ Retired e → core.first_obstacle s.core t e.number ≡ first_obstacle r e.number t
 stage_is s r t e is on gone =
     let cpus : s.core.settings.cpus ≡ r.settings.cpus = sym (ap (λ z. z.cpus) on.settings) in
     let first : least_below (is_open_since s.core t) s.core.settings.cpus ≡ least_below (has_section r e.number) r.settings.cpus =
@@ -167,7 +167,7 @@ stage_by : (s : SessionState) (r : Registry) (n : ℕ) (o : Option ℕ) → IsSe
 stage_by s r n None is on at = refl
 stage_by s r n (Some t) is on at =
     let told = retired_slot_tells s.core.slots n t at in
-    ap Ok (subst (λ k. core.plain_stage s.core t k ≡ plain_stage r k t) told.1.2 (stage_is s r t told.1.0 is on told.1.1))
+    ap Ok (subst (λ k. core.first_obstacle s.core t k ≡ first_obstacle r k t) told.1.2 (stage_is s r t told.1.0 is on told.1.1))
 
 -- The answers of an advance are the same.
 pub advance_answers : (s : SessionState) (r : Registry) (n : ℕ) → IsSession s → Shows s r → core.advance_answer s.core n ≡ advance_answer r n
@@ -202,49 +202,49 @@ marked_shows s r marks on same = record {
 marks_shows : (s : SessionState) (r : Registry) (k : State) (t : ℕ) → Shows s r → LeavesMarks s.core k t → Shows (with_core s k) r
 marks_shows s r k t on left = subst (λ (x : State). Shows (with_core s x) r) (sym left.only) (marked_shows s r k.marks on (grown_snapshots s.core.marks k.marks t left.marks))
 
--- Drained
+-- Collected
 
 -- an occupant's number is no later than the history
 number_within : (h : List Change) (slots : List Slot) (t : ℕ) (e : Entry) → SlotsShow h slots → IsIn e (slot_at slots t) → e.number ≤ length h
 number_within h slots t e show is = (at_within h e.number (Attach e) (attached_in h slots t e show is).0).1
 
 -- the words of one slot are collected
-collected_tallies : (cpus : ℕ) (h : List Change) (slots : List Slot) (counts now nets : List (List ℕ)) (totals left : List ℕ) (acquired released : ℕ → ℕ → ℕ) (given : ℕ → ℕ) (drained : ℕ → Bool) (t : ℕ) (e : Entry)
+collected_tallies : (cpus : ℕ) (h : List Change) (slots : List Slot) (counts now nets : List (List ℕ)) (totals left : List ℕ) (acquired released : ℕ → ℕ → ℕ) (given : ℕ → ℕ) (is_collected : ℕ → Bool) (t : ℕ) (e : Entry)
     → SlotsShow h slots → IsIn e (slot_at slots t) → SameElsewhere counts now t → ((c : ℕ) → count_at now c t ≡ 0) → ((u : ℕ) → (u ≡ t → ⊥) → total_at left u ≡ total_at totals u)
-    → ShowsTallies cpus h slots counts nets totals acquired released given drained → ShowsTallies cpus h slots now nets left acquired released given (put drained e.number true)
-collected_tallies cpus h slots counts now nets totals left acquired released given drained t e show in_ elsewhere emptied same was = record {
+    → ShowsTallies cpus h slots counts nets totals acquired released given is_collected → ShowsTallies cpus h slots now nets left acquired released given (put is_collected e.number true)
+collected_tallies cpus h slots counts now nets totals left acquired released given is_collected t e show in_ elsewhere emptied same was = record {
   net = was.net;
-  word = λ u c f is lt undrained. let o = other u f is undrained in ap (λ (row : List ℕ). get_or row c 0) (elsewhere u o.0) ∙ was.word u c f is lt o.1;
-  total = λ u f is undrained. let o = other u f is undrained in ap (λ (k : ℕ). k + given f.number) (same u o.0) ∙ was.total u f is o.1;
+  word = λ u c f is lt uncollected. let o = other u f is uncollected in ap (λ (row : List ℕ). get_or row c 0) (elsewhere u o.0) ∙ was.word u c f is lt o.1;
+  total = λ u f is uncollected. let o = other u f is uncollected in ap (λ (k : ℕ). k + given f.number) (same u o.0) ∙ was.total u f is o.1;
   collected = λ u c f is gone. ⊎_elim
       (λ (here : u ≡ t). ap (count_at now c) here ∙ emptied c)
       (λ (off : u ≡ t → ⊥). ap (λ (row : List ℕ). get_or row c 0) (elsewhere u off)
-      ∙ was.collected u c f is (sym (put_other drained e.number true f.number (λ number. off (one_number h slots t u e f show in_ is number).0)) ∙ gone))
+      ∙ was.collected u c f is (sym (put_other is_collected e.number true f.number (λ number. off (one_number h slots t u e f show in_ is number).0)) ∙ gone))
       (cases_eq u t);
   fresh = λ m above. let old = was.fresh m above in record {
     unacquired = old.unacquired;
     unreleased = old.unreleased;
     kept = old.kept;
-    undrained = put_other drained e.number true m (λ number. omega (arith, number, above, number_within h slots t e show in_)) ∙ old.undrained;
+    uncollected = put_other is_collected e.number true m (λ number. omega (arith, number, above, number_within h slots t e show in_)) ∙ old.uncollected;
   };
 }
   where
-    other : (u : ℕ) (f : Entry) → IsIn f (slot_at slots u) → put drained e.number true f.number ≡ false → (u ≡ t → ⊥) × (drained f.number ≡ false)
-    other u f is undrained =
-        let number : f.number ≡ e.number → ⊥ = λ same. let q : ◌≡◌ {A = Bool} true false = sym (ap (put drained e.number true) same ∙ put_here drained e.number true) ∙ undrained in cc in (
+    other : (u : ℕ) (f : Entry) → IsIn f (slot_at slots u) → put is_collected e.number true f.number ≡ false → (u ≡ t → ⊥) × (is_collected f.number ≡ false)
+    other u f is uncollected =
+        let number : f.number ≡ e.number → ⊥ = λ same. let q : ◌≡◌ {A = Bool} true false = sym (ap (put is_collected e.number true) same ∙ put_here is_collected e.number true) ∙ uncollected in cc in (
           λ here. number (ap (λ (g : Entry). g.number) (one_in f e (slot_at slots t) in_ (subst (λ (k : ℕ). IsIn f (slot_at slots k)) here is))),
-          sym (put_other drained e.number true f.number number) ∙ undrained,
+          sym (put_other is_collected e.number true f.number number) ∙ uncollected,
         )
 
-drained_shows : (s : SessionState) (r : Registry) (k : State) (t j : ℕ) (e : Entry) → Holds s.core → Shows s r → slot_at s.core.slots t ≡ Retired e → LeavesTotal s.core k t j
-    → Shows (with_core s k) (record r { drained = put r.drained e.number true })
-drained_shows s r k t j e holds on gone left = subst (λ (x : State). Shows (with_core s x) (record r { drained = put r.drained e.number true })) (sym left.only) (record {
+collected_shows : (s : SessionState) (r : Registry) (k : State) (t j : ℕ) (e : Entry) → Holds s.core → Shows s r → slot_at s.core.slots t ≡ Retired e → LeavesTotal s.core k t j
+    → Shows (with_core s k) (record r { is_collected = put r.is_collected e.number true })
+collected_shows s r k t j e holds on gone left = subst (λ (x : State). Shows (with_core s x) (record r { is_collected = put r.is_collected e.number true })) (sym left.only) (record {
   settings = on.settings;
   model = on.model;
   sections = on.sections;
   live = on.live;
   grace = grown_follows s.core.history s.core.slots s.core.marks k.marks s.core.section s.core.begins (grown_snapshots s.core.marks k.marks t left.marks) on.grace;
-  tallies = collected_tallies s.core.settings.cpus s.core.history s.core.slots s.core.counts k.counts s.core.nets s.core.totals k.totals r.acquired r.released r.given_up r.drained t e holds.slots (inr gone)
+  tallies = collected_tallies s.core.settings.cpus s.core.history s.core.slots s.core.counts k.counts s.core.nets s.core.totals k.totals r.acquired r.released r.given_up r.is_collected t e holds.slots (inr gone)
       left.counts left.collected left.totals on.tallies;
   labels = on.labels;
 })
@@ -252,20 +252,20 @@ drained_shows s r k t j e holds on gone left = subst (λ (x : State). Shows (wit
 -- Freed
 
 -- the slot is vacant: who was elsewhere stays, and what an other slot kept is given up
-freed_tallies : (cpus : ℕ) (h : List Change) (slots : List Slot) (counts now nets : List (List ℕ)) (totals left : List ℕ) (acquired released : ℕ → ℕ → ℕ) (given more : ℕ → ℕ) (drained : ℕ → Bool) (t : ℕ) (e : Entry) (kept : Option ℕ)
+freed_tallies : (cpus : ℕ) (h : List Change) (slots : List Slot) (counts now nets : List (List ℕ)) (totals left : List ℕ) (acquired released : ℕ → ℕ → ℕ) (given more : ℕ → ℕ) (is_collected : ℕ → Bool) (t : ℕ) (e : Entry) (kept : Option ℕ)
     → slot_at slots t ≡ Retired e → SameElsewhere counts now t → ((u : ℕ) → (u ≡ t → ⊥) → total_at left u + core.count_given_up kept (slot_at slots u) ≡ total_at totals u)
     → ((u : ℕ) (f : Entry) → IsIn f (slot_at slots u) → more f.number ≡ given f.number + core.count_given_up kept (slot_at slots u)) → ((m : ℕ) → length h < m → more m ≡ given m)
-    → ShowsTallies cpus h slots counts nets totals acquired released given drained → ShowsTallies cpus h (set slots t Vacant) now nets left acquired released more drained
-freed_tallies cpus h slots counts now nets totals left acquired released given more drained t e kept gone elsewhere same gives fresh was = record {
+    → ShowsTallies cpus h slots counts nets totals acquired released given is_collected → ShowsTallies cpus h (set slots t Vacant) now nets left acquired released more is_collected
+freed_tallies cpus h slots counts now nets totals left acquired released given more is_collected t e kept gone elsewhere same gives fresh was = record {
   net = λ u c f is. was.net u c f (stays u f is).1;
-  word = λ u c f is lt undrained. let o = stays u f is in ap (λ (row : List ℕ). get_or row c 0) (elsewhere u o.0) ∙ was.word u c f o.1 lt undrained;
-  total = λ u f is undrained. let o = stays u f is in omega (arith, same u o.0, gives u f o.1, was.total u f o.1 undrained);
+  word = λ u c f is lt uncollected. let o = stays u f is in ap (λ (row : List ℕ). get_or row c 0) (elsewhere u o.0) ∙ was.word u c f o.1 lt uncollected;
+  total = λ u f is uncollected. let o = stays u f is in omega (arith, same u o.0, gives u f o.1, was.total u f o.1 uncollected);
   collected = λ u c f is all. let o = stays u f is in ap (λ (row : List ℕ). get_or row c 0) (elsewhere u o.0) ∙ was.collected u c f o.1 all;
   fresh = λ m above. let old = was.fresh m above in record {
     unacquired = old.unacquired;
     unreleased = old.unreleased;
     kept = fresh m above ∙ old.kept;
-    undrained = old.undrained;
+    uncollected = old.uncollected;
   };
 }
   where
@@ -336,7 +336,7 @@ freed_by s r k t e None holds on u at = record {
   live = vacant_live s.core.history s.core.slots t e u.gone on.live;
   grace = vacant_follows s.core.history s.core.slots k.marks s.core.section s.core.begins t e u.gone
       (grown_follows s.core.history s.core.slots s.core.marks k.marks s.core.section s.core.begins (grown_snapshots s.core.marks k.marks t u.left.marks) on.grace);
-  tallies = freed_tallies s.core.settings.cpus s.core.history s.core.slots s.core.counts k.counts s.core.nets s.core.totals k.totals r.acquired r.released r.given_up r.given_up r.drained t e None
+  tallies = freed_tallies s.core.settings.cpus s.core.history s.core.slots s.core.counts k.counts s.core.nets s.core.totals k.totals r.acquired r.released r.given_up r.given_up r.is_collected t e None
       u.gone u.left.counts (λ v off. ap (λ (x : Option ℕ). total_at k.totals v + core.count_given_up x (slot_at s.core.slots v)) (sym at) ∙ u.left.totals v off) (λ v f is. omega arith) (λ m above. refl) on.tallies;
   labels = on.labels;
 }
@@ -350,7 +350,7 @@ freed_by s r k t e (Some d) holds on u at =
       live = vacant_live s.core.history s.core.slots t e u.gone on.live;
       grace = vacant_follows s.core.history s.core.slots k.marks s.core.section s.core.begins t e u.gone
           (grown_follows s.core.history s.core.slots s.core.marks k.marks s.core.section s.core.begins (grown_snapshots s.core.marks k.marks t u.left.marks) on.grace);
-      tallies = freed_tallies s.core.settings.cpus s.core.history s.core.slots s.core.counts k.counts s.core.nets s.core.totals k.totals r.acquired r.released r.given_up (put r.given_up d (r.given_up d + 1)) r.drained t e (Some d)
+      tallies = freed_tallies s.core.settings.cpus s.core.history s.core.slots s.core.counts k.counts s.core.nets s.core.totals k.totals r.acquired r.released r.given_up (put r.given_up d (r.given_up d + 1)) r.is_collected t e (Some d)
           u.gone u.left.counts (λ v off. ap (λ (x : Option ℕ). total_at k.totals v + core.count_given_up x (slot_at s.core.slots v)) (sym at) ∙ u.left.totals v off)
           (λ v f is. gives_one s.core.slots r.given_up d v f is)
           (λ m above. put_other r.given_up d (r.given_up d + 1) m (λ same. omega (arith, same, above, driver.3, number_within s.core.history s.core.slots driver.0 driver.1 holds.slots driver.2))) on.tallies;
@@ -373,7 +373,7 @@ no_words : (w : ℕ) → nat_lt 0 w ≡ false → w ≡ 0
 no_words zero is = refl
 no_words (suc w) is = absurd (let q : ◌≡◌ {A = Bool} true false = sym (lt-ltb 0 (suc w) (omega arith)) ∙ is in cc)
 
-unheld_at : (s : SessionState) (k : State) (n t u : ℕ) (e : Entry) → Holds s.core → Holds k → core.plain_stage s.core t n ≡ Freed u → slot_at s.core.slots t ≡ Retired e → LeavesFree s.core k t → Unheld s.core k t e
+unheld_at : (s : SessionState) (k : State) (n t u : ℕ) (e : Entry) → Holds s.core → Holds k → core.first_obstacle s.core t n ≡ Freed u → slot_at s.core.slots t ≡ Retired e → LeavesFree s.core k t → Unheld s.core k t e
 unheld_at s k n t u e holds now stage gone left = record {
   gone = gone;
   passive = λ c. ⊎_elim
@@ -384,13 +384,13 @@ unheld_at s k n t u e holds now stage gone left = record {
   now = now;
 }
 
-staged_shows : (s : SessionState) (r : Registry) (k : State) (n t : ℕ) (stage : Stage) → Holds s.core → Holds k → Shows s r → core.plain_stage s.core t n ≡ stage → values.retired_slot s.core.slots n ≡ Some t → StageLeaves s.core k t stage
+staged_shows : (s : SessionState) (r : Registry) (k : State) (n t : ℕ) (stage : Stage) → Holds s.core → Holds k → Shows s r → core.first_obstacle s.core t n ≡ stage → values.retired_slot s.core.slots n ≡ Some t → StageLeaves s.core k t stage
     → Shows (with_core s k) (after_stage r n stage)
 staged_shows s r k n t (Grace c) holds now on is at left = marks_shows s r k t on left
 staged_shows s r k n t (Passive c) holds now on is at left = marks_shows s r k t on left
 staged_shows s r k n t (Local j) holds now on is at left =
     let told = retired_slot_tells s.core.slots n t at in
-    subst (λ m. Shows (with_core s k) (record r { drained = put r.drained m true })) told.1.2 (drained_shows s r k t j told.1.0 holds on told.1.1 left)
+    subst (λ m. Shows (with_core s k) (record r { is_collected = put r.is_collected m true })) told.1.2 (collected_shows s r k t j told.1.0 holds on told.1.1 left)
 staged_shows s r k n t (Freed u) holds now on is at left =
     let told = retired_slot_tells s.core.slots n t at in
     let here : t ≡ u = sym (free_tells t u _ _ _ is).0 in
@@ -403,7 +403,7 @@ advance_by : (s : SessionState) (r : Registry) (k : State) (n : ℕ) (answer : R
     → Shows (with_core s k) (on_ok r answer (after_stage r n))
 advance_by s r k n (Err f) holds now on is left = subst (λ (x : State). Shows (with_core s x) r) (sym left) on
 advance_by s r k n (Ok stage) holds now on is left =
-    staged_shows s r k n left.0 stage holds now on (same_stage (core.plain_stage s.core left.0 n) stage (ap (core.stage_in s.core n) (sym left.1) ∙ is)) left.1 left.2
+    staged_shows s r k n left.0 stage holds now on (same_stage (core.first_obstacle s.core left.0 n) stage (ap (core.stage_in s.core n) (sym left.1) ∙ is)) left.1 left.2
 
 -- What an advance leaves shows what it leaves of the registry.
 pub advance_shows : (s : SessionState) (r : Registry) (k : State) (n : ℕ) → IsSession s → Holds k → Shows s r → AdvanceLeaves s.core k n (core.advance_answer s.core n) → Shows (with_core s k) (after_advance r n)
@@ -428,7 +428,7 @@ stage_leaves s k n (Freed t) left = left
 
 turn_leaves : (s k : State) (n : ℕ) (o : Option ℕ) → DestroyLeaves s k n (destroy_result_of (core.stage_in s n o)) → AdvanceLeaves s k n (core.stage_in s n o)
 turn_leaves s k n None left = left
-turn_leaves s k n (Some t) left = stage_leaves s k n (core.plain_stage s t n) left
+turn_leaves s k n (Some t) left = stage_leaves s k n (core.first_obstacle s t n) left
 
 destroy_by : (s : SessionState) (r : Registry) (k : State) (n : ℕ) (b : Bool) → IsSession s → Holds k → Shows s r → DestroyLeaves s.core k n (if b then Err Inside else destroy_result_of (core.advance_answer s.core n))
     → Shows (with_core s k) (if b then r else after_advance r n)

@@ -25,7 +25,7 @@ use Rattle.protocol.proofs.keeps.Publishing.{legal_attach, live_cases}
 use Rattle.protocol.proofs.keeps.SectionKeeps.{none_from}
 use Rattle.protocol.proofs.keeps.Unlinking.{attached_before, legal_detach, was_there}
 use Rattle.registry_values.specs.Answers.{found_answer}
-use Rattle.registry_report.specs.Answers.{attach_answer, attach_iface_answer, detach_answer, given_entry, command_answer, is_inside, is_plain, lookup_now, plain_slot, room_of, plug_answer, with_label}
+use Rattle.registry_report.specs.Answers.{attach_answer, attach_iface_answer, detach_answer, given_entry, command_answer, is_inside, is_available, lookup_now, first_fit, room_of, plug_answer, with_label}
 use Rattle.registry_report.specs.Changes.{entry_of, is_driver_entry, is_driver_number}
 use Rattle.registry_report.specs.Registry.{Registry}
 use Rattle.registry_report.specs.Sound.{HasSlot, IsSound, IsSoundModel, IsLawfulTurn}
@@ -105,14 +105,14 @@ record Given (r : Registry) (rec : Record) (e : Entry) : Type 0 where
 
 given_tells : (r : Registry) (rec : Record) (e : Entry) → given_entry r rec ≡ Ok e → Given r rec e
 given_tells r rec e is =
-    let told = answers.given_tells (is_some (lookup_now r (key_of_record rec))) (plain_slot r) (room_of r) rec e is in
-    let least = least_some (is_plain r) r.settings.slots e.slot told.place in
-    let plain = and_parts (is_none (r.model.occupants e.slot)) (is_none (r.model.keeps e.slot)) least.1 in
+    let told = answers.given_tells (is_some (lookup_now r (key_of_record rec))) (first_fit r) (room_of r) rec e is in
+    let least = least_some (is_available r) r.settings.slots e.slot told.place in
+    let fit = and_parts (is_none (r.model.occupants e.slot)) (is_none (r.model.keeps e.slot)) least.1 in
     record {
       new_key = none_is (lookup_now r (key_of_record rec)) told.free;
       within = least.0;
-      vacant = none_from (r.model.occupants e.slot) plain.0;
-      keepless = none_from (r.model.keeps e.slot) plain.1;
+      vacant = none_from (r.model.occupants e.slot) fit.0;
+      keepless = none_from (r.model.keeps e.slot) fit.1;
       number = omega (arith, ap (λ (x : Entry). x.number) told.entry);
       is = ap (λ (x : Entry). x.rec) told.entry;
     }

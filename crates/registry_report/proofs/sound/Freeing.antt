@@ -15,7 +15,7 @@ use Rattle.protocol.specs.Model.{Model, put, with_locals, IsUnheld, Stays, Goes_
 use Rattle.protocol.proofs.history.History.{at_within}
 use Rattle.registry_values.proofs.Least.{least_none}
 use Rattle.protocol.proofs.model.Picturing.{put_here, put_is, put_other, two_steps}
-use Rattle.registry_report.specs.Answers.{advance_answer, has_passive, has_section, held_count, is_inside, is_this, plain_stage, retired_slot, slot_of, stage_in}
+use Rattle.registry_report.specs.Answers.{advance_answer, has_passive, has_section, held_count, is_inside, is_this, first_obstacle, retired_slot, slot_of, stage_in}
 use Rattle.registry_report.specs.Changes.{end_of, has_ended, may_hold}
 use Rattle.registry_report.specs.Registry.{Registry}
 use Rattle.registry_report.specs.Sound.{IsSound, IsSoundModel, IsLawfulTurn}
@@ -40,7 +40,7 @@ record IsFree (r : Registry) (n t : ℕ) : Type 0 where
   unheld : IsUnheld r.model n
 
 -- no section may hold an entry that ended where each such section would stand in the way
-unheld_from : (r : Registry) (n t p : ℕ) → IsSound r → end_of r.model.history n ≡ Some p → EndsAt r.model.history n p → plain_stage r n t ≡ Freed t → IsUnheld r.model n
+unheld_from : (r : Registry) (n t p : ℕ) → IsSound r → end_of r.model.history n ≡ Some p → EndsAt r.model.history n p → first_obstacle r n t ≡ Freed t → IsUnheld r.model n
 unheld_from r n t p on end ends stage =
     let none = freed_tells t t (least_below (has_section r n) r.settings.cpus) (least_below (has_passive r n) r.settings.cpus) (held_count r n) stage in
     record {
@@ -65,9 +65,9 @@ retired_tells : (b : Bool) (o : Option ℕ) (t : ℕ) → (if b then o else None
 retired_tells true o t is = (refl, is)
 retired_tells false o t is = absurd (none-some t is)
 
-stage_tells : (r : Registry) (n : ℕ) (o : Option ℕ) (stage : Stage) → stage_in r n o ≡ Ok stage → (t : ℕ) × (o ≡ Some t) × (plain_stage r n t ≡ stage)
+stage_tells : (r : Registry) (n : ℕ) (o : Option ℕ) (stage : Stage) → stage_in r n o ≡ Ok stage → (t : ℕ) × (o ≡ Some t) × (first_obstacle r n t ≡ stage)
 stage_tells r n None stage is = absurd (not_ok NotRetired stage is)
-stage_tells r n (Some t) stage is = (t, refl, same_ok {E = Refusal} (plain_stage r n t) stage is)
+stage_tells r n (Some t) stage is = (t, refl, same_ok {E = Refusal} (first_obstacle r n t) stage is)
 
 free_tells : (r : Registry) (n t : ℕ) → IsSound r → advance_answer r n ≡ Ok (Freed t) → IsFree r n t
 free_tells r n t on is =
@@ -81,7 +81,7 @@ free_tells r n t on is =
       position = end.0;
       ends = ends;
       occupant = ap r.model.occupants (sym own) ∙ is_this_tells n (r.model.occupants at.0) found.1;
-      unheld = unheld_from r n t end.0 on end.1 ends (subst (λ (u : ℕ). plain_stage r n u ≡ Freed t) own at.2);
+      unheld = unheld_from r n t end.0 on end.1 ends (subst (λ (u : ℕ). first_obstacle r n u ≡ Freed t) own at.2);
     }
 
 -- What freeing keeps

@@ -103,6 +103,36 @@ const ROWS: &[Row] = &[
     ),
     ("tab", &[(b"\tatt", 1)], Err((1, Cause::BadByte))),
     (
+        "ten thousand commands",
+        &[(b"domain 1 1\n", 1), (b"audit\n", 10_000)],
+        Ok(&[(b"domain 1 1\n", 1), (b"empty\n", 10_000)]),
+    ),
+    (
+        "sixty words",
+        &[(b"domain 1 1\n", 1), (b"a ", 60)],
+        Err((2, Cause::UnknownCommand)),
+    ),
+    (
+        "fifty-eight words after a command",
+        &[(b"domain 1 1\naudit", 1), (b" a", 57)],
+        Err((2, Cause::WrongCount)),
+    ),
+    (
+        "sixty words of a comment",
+        &[(b"# ", 60), (b"\ndomain 1 1", 1)],
+        Ok(&[(b"domain 1 1\n", 1)]),
+    ),
+    (
+        "the most words that a command has, far apart",
+        &[
+            (b"domain 1 1\n", 1),
+            (b" ", 60),
+            (b"plug  0  w  18446744073709551615  a", 1),
+            (b" ", 25),
+        ],
+        Ok(&[(b"domain 1 1\nno label\n", 1)]),
+    ),
+    (
         "spaces and comments",
         &[(b"\n   \n #~!\n  domain   002  2 \n #", 1)],
         Ok(&[(b"domain 2 2\n", 1)]),

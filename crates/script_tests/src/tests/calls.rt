@@ -64,7 +64,7 @@ fn attach_wm<D: Domain, R: Wait>(
 type Row = (&'static str, &'static str, Result<(), RunFault>, Stage);
 
 /// Scripts that find wm attached, hold references to it at their end, and detach it. The first is the row of the call tests; then the first
-/// and the last label, a reference of another CPU, and one whose count is collected.
+/// and the last label, a reference of another CPU, one whose count is collected, and references of far CPUs by all labels.
 const AT_THE_END: &[Row] = &[
     (
         HOLDING,
@@ -87,6 +87,24 @@ const AT_THE_END: &[Row] = &[
     (
         "domain 2 2; enter 1; find 1 driver wm; count 1 x; exit 1; detach 0 driver wm; advance 1",
         "domain 2 2; inside; found 1 slot 0 value 7; count x 1; outside; retired 1 slot 0; local 1",
+        Ok(()),
+        Stage::Freed(0),
+    ),
+    (
+        "domain 8 32; enter 7; find 7 driver wm; ref 7 z; exit 7; detach 0 driver wm; advance 1",
+        "domain 8 32; inside; found 1 slot 0 value 7; ref z 1; outside; retired 1 slot 0; passive cpu 7",
+        Ok(()),
+        Stage::Freed(0),
+    ),
+    (
+        "domain 8 32; enter 7; find 7 driver wm; count 7 z; exit 7; detach 0 driver wm; advance 1",
+        "domain 8 32; inside; found 1 slot 0 value 7; count z 1; outside; retired 1 slot 0; local 1",
+        Ok(()),
+        Stage::Freed(0),
+    ),
+    (
+        "domain 3 2; enter 2; find 2 driver wm; ref 2 a; ref 2 m; ref 2 y; count 2 b; count 2 n; count 2 y; exit 2; detach 0 driver wm; advance 1",
+        "domain 3 2; inside; found 1 slot 0 value 7; ref a 1; ref m 1; ref y 1; count b 1; count n 1; count y 1; outside; retired 1 slot 0; passive cpu 2",
         Ok(()),
         Stage::Freed(0),
     ),
@@ -175,7 +193,7 @@ fn run_on<D: Domain, R: Wait + Abort>(
         ended == *end && writer.taken == report,
         "what is written, and the end"
     );
-    let [first, second] = cpus else {
+    let [first, second, ..] = cpus else {
         return Err(Fail::from("two CPUs"));
     };
     is_seen_off(rt, registry, first, second, end.is_ok(), *stage)

@@ -10,6 +10,7 @@ mod ends;
 mod faults;
 mod memory_tests;
 mod rows;
+mod sizes;
 mod storm_deeds;
 mod storms;
 mod streams;

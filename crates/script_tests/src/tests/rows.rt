@@ -43,6 +43,11 @@ const ROWS: &[Row] = &[
         "domain 2 2; attached 1 slot 0; inside; found 1 slot 0 value 1500; ref a 1; outside; refused WrongCpu; yes; no",
     ),
     (
+        "held-by-label",
+        "domain 2 2; attach 0 driver wm 7; attach 0 driver vga 8; enter 0; find 0 driver wm; ref 0 a; enter 1; find 1 driver vga; ref 1 b; held 0 a; held 0 b; held 1 a; held 1 b; held 0 c; drop 0 a; held 1 b; held 0 a",
+        "domain 2 2; attached 1 slot 0; attached 2 slot 1; inside; found 1 slot 0 value 7; ref a 1; inside; found 2 slot 1 value 8; ref b 2; yes; no; no; yes; no label; dropped a 1; yes; no label",
+    ),
+    (
         "slot-pressure",
         "domain 2 1; attach 0 driver wm 7; enter 1; detach 0 driver wm; attach 0 driver vga 8; advance 1; exit 1; advance 1; attach 0 driver vga 8",
         "domain 2 1; attached 1 slot 0; inside; retired 1 slot 0; refused NoSlot; grace cpu 1; outside; freed slot 0; attached 3 slot 0",

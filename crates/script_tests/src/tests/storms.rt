@@ -76,6 +76,104 @@ impl Meeting {
     }
 }
 
+/// How many turns are met in.
+const TURNS: u32 = 12;
+
+/// A mark for each CPU, a digit of its own: the sum of all marks tells who has come, and how often.
+const MARKS: [u64; 8] = [
+    0x1,
+    0x10,
+    0x100,
+    0x1000,
+    0x1_0000,
+    0x10_0000,
+    0x100_0000,
+    0x1000_0000,
+];
+
+/// A gate that holds each CPU inside its section of each turn until every CPU is inside its own section of that turn, told by its own number.
+/// It lets go after some time, and tells that.
+#[derive(Drop)]
+struct Meetings {
+    /// The marks of all CPUs of the storm together.
+    all: u64,
+    /// By turn, the marks of the CPUs that have come.
+    come: [AtomicU64; 12],
+    missed: AtomicBool,
+}
+
+impl Gate for Meetings {
+    fn pass(&self, cpu: u8, turn: u32) {
+        match (self.come.get(turn as usize), MARKS.get(cpu as usize)) {
+            (Some(come), Some(mark)) => {
+                come.fetch_add(*mark, Ordering::SeqCst);
+                self.wait(come);
+            }
+            _ => self.missed.store(true, Ordering::SeqCst),
+        }
+    }
+}
+
+impl Meetings {
+    /// Before the first turn of a storm of so many CPUs, 8 at most.
+    fn new(cpus: u8) -> Meetings {
+        let mut all = 0_u64;
+        for mark in MARKS.iter().take(cpus as usize) {
+            all = all.wrapping_add(*mark);
+        }
+        Meetings {
+            all,
+            come: [
+                AtomicU64::new(0),
+                AtomicU64::new(0),
+                AtomicU64::new(0),
+                AtomicU64::new(0),
+                AtomicU64::new(0),
+                AtomicU64::new(0),
+                AtomicU64::new(0),
+                AtomicU64::new(0),
+                AtomicU64::new(0),
+                AtomicU64::new(0),
+                AtomicU64::new(0),
+                AtomicU64::new(0),
+            ],
+            missed: AtomicBool::new(false),
+        }
+    }
+
+    /// Waits until all have come to the turn. Once one CPU has waited too long nobody waits any more.
+    fn wait(&self, come: &AtomicU64) {
+        for _ in 0..PATIENCE {
+            if come.load(Ordering::SeqCst) == self.all || self.missed.load(Ordering::SeqCst) {
+                return;
+            }
+            thread::yield_now();
+        }
+        self.missed.store(true, Ordering::SeqCst);
+    }
+
+    /// Whether each CPU came once to each turn, and all were there at once.
+    fn all_met(&self) -> bool {
+        let each_once = self
+            .come
+            .iter()
+            .all(|come| come.load(Ordering::SeqCst) == self.all);
+        each_once && !self.missed.load(Ordering::SeqCst)
+    }
+}
+
+/// Two, three and eight CPUs are inside at once in every turn, so none is idle, and none waits for another one's end.
+#[test]
+fn every_cpu_meets_in_every_turn(rt: HostRuntime) -> Result<(), Fail> {
+    for (cpus, lookups, references) in [(2, 48, 24), (3, 72, 36), (8, 192, 96)] {
+        let gate = Meetings::new(cpus);
+        let sum = storm(&rt, rt.alloc(), cpus, TURNS, &gate);
+        assert!(rt; gate.all_met());
+        assert_eq!(rt; sum, Ok(calm(cpus, TURNS, lookups, references)));
+    }
+    Ok(())
+}
+
 #[test]
 fn all_workers_meet(rt: HostRuntime) -> Result<(), Fail> {
     let gate = Meeting {

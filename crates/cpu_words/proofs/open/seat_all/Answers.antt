@@ -14,7 +14,7 @@ loop-preserved c =
       c.seat.ensures.table.0 ∙ i.0,
       c.seat.ensures.keeper ∙ ap one_seated i.1,
       subst (λ (l : List (Seated CpuView)). AreSeats table z (n + 1) l) (sym c.push_reserved.ensures.items)
-          (more_seats table z n c.loop.seats.items c.seat.result i.2 (seat_is c.seat.result table z n c.loop.keeper.view (c.seat.ensures.table.1 ∙ i.0) c.seat.ensures.new c.seat.ensures.log.1 c.seat.ensures.deeds i.1)),
+          (more_seats table z n c.loop.seats.items c.seat.result i.2 (seat_is c.seat.result table z n c.loop.keeper.view (c.seat.ensures.table.1 ∙ i.0) c.seat.ensures.new c.seat.ensures.log.1 c.seat.ensures.known_log i.1)),
       c.push_reserved.ensures.len ∙ ap (λ k. k + 1) i.3,
       subst (λ k. z.cpus ≤ k) (sym c.push_reserved.ensures.capacity) i.4,
     )

@@ -1,21 +1,22 @@
-use Rattle.std.proofs.Common.{◌∙◌, refl, arith}
+use Rattle.std.proofs.Common.{refl, arith}
+use Rattle.passive_list.proofs.Rows.{keeper_is}
 use Rattle.local_count.proofs.Collections.{collection_tells, collected_keeper, collected_into}
 use Rattle.local_count.proofs.collecting.collect.Goals as goal
 
 pub overflow_add-row : goal.overflow_add-row
-overflow_add-row g c = let tells = collection_tells _ _ _ _ _ _ _ _ _ _ _ _ _ c.keeper.invariant c.keeper.view_is c.requires.retired.1 c.collect-word.ensures.change c.collect-word.ensures.event in omega (arith, tells.fits)
+overflow_add-row c = let tells = collection_tells _ _ _ _ _ _ _ _ _ _ c.keeper.invariant (keeper_is c.keeper.view_is) c.requires.retired.1 c.collect-word.ensures.change c.collect-word.ensures.event in omega (arith, tells.fits)
 
 pub overflow_sub-row : goal.overflow_sub-row
-overflow_sub-row g c = (collection_tells _ _ _ _ _ _ _ _ _ _ _ _ _ c.keeper.invariant c.keeper.view_is c.requires.retired.1 c.collect-word.ensures.change c.collect-word.ensures.event).floor
+overflow_sub-row c = (collection_tells _ _ _ _ _ _ _ _ _ _ c.keeper.invariant (keeper_is c.keeper.view_is) c.requires.retired.1 c.collect-word.ensures.change c.collect-word.ensures.event).floor
 
 pub total_add-requires-clause-may : goal.total_add-requires-clause-may
-total_add-requires-clause-may g c = (collection_tells _ _ _ _ _ _ _ _ _ _ _ _ _ c.keeper.invariant c.keeper.view_is c.requires.retired.1 c.collect-word.ensures.change c.collect-word.ensures.event).may
+total_add-requires-clause-may c = (collection_tells _ _ _ _ _ _ _ _ _ _ c.keeper.invariant (keeper_is c.keeper.view_is) c.requires.retired.1 c.collect-word.ensures.change c.collect-word.ensures.event).may
 
 pub bounds-keeper-inside-slot-2 : goal.bounds-keeper-inside-slot-2
-bounds-keeper-inside-slot-2 g c = (collection_tells _ _ _ _ _ _ _ _ _ _ _ _ _ c.keeper.invariant c.keeper.view_is c.requires.retired.1 c.collect-word.ensures.change c.collect-word.ensures.event).place
+bounds-keeper-inside-slot-2 c = (collection_tells _ _ _ _ _ _ _ _ _ _ c.keeper.invariant (keeper_is c.keeper.view_is) c.requires.retired.1 c.collect-word.ensures.change c.collect-word.ensures.event).place
 
 pub invariant_of-keeper : goal.invariant_of-keeper
-invariant_of-keeper g c = collected_keeper _ _ _ _ _ _ _ _ _ _ _ _ _ _ _ _ c.keeper.invariant c.keeper.view_is c.requires.retired.1 c.collect-word.ensures.change c.collected.ensures c.total_add.ensures.change c.total_add.ensures.event (c.total_add.ensures.table ∙ c.collect-word.ensures.table)
+invariant_of-keeper c = collected_keeper _ _ _ _ _ _ _ _ _ _ _ _ c.keeper.invariant (keeper_is c.keeper.view_is) c.requires.retired.1 c.collect-word.ensures.change c.collected.ensures c.total_add.ensures.change c.total_add.ensures.event
 
-pub returns : goal.returns
-returns g c = record { change = collected_into _ _ _ _ _ _ _ _ _ _ _ _ _ _ _ c.keeper.invariant c.keeper.view_is c.requires.retired.1 c.collect-word.ensures.change c.collect-word.ensures.event c.total_add.ensures.change c.total_add.ensures.event refl c.collect-word.ensures.log c.total_add.ensures.log }
+pub returns-clause-change : goal.returns-clause-change
+returns-clause-change c = collected_into _ _ _ _ _ _ _ _ _ _ _ _ c.keeper.invariant (keeper_is c.keeper.view_is) c.requires.retired.1 c.collect-word.ensures.change c.collect-word.ensures.event c.total_add.ensures.change c.total_add.ensures.event refl c.collect-word.ensures.log c.total_add.ensures.log

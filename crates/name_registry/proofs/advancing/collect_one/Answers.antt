@@ -2,16 +2,16 @@ use Rattle.name_registry.proofs.Worked.{worked_none, collection_leaves, collecti
 use Rattle.name_registry.proofs.advancing.collect_one.Goals as goal
 
 pub collect-requires-clause-passed : goal.collect-requires-clause-passed
-collect-requires-clause-passed g c = all_passed c.args.keeper.now.view c.args.slot g.D.Domain.settings c.requires.passed
+collect-requires-clause-passed c = all_passed c.args.keeper.now.keeper.view c.args.slot c.requires.words.1 c.requires.passed
 
 pub collect-requires-clause-clear : goal.collect-requires-clause-clear
-collect-requires-clause-clear g c = all_clear c.args.keeper.now.view c.args.slot g.D.Domain.settings c.requires.clear
+collect-requires-clause-clear c = all_clear c.args.keeper.now.keeper.view c.args.slot c.requires.words.1 c.requires.clear
 
 pub returns-then-collected-clause-leaves : goal.returns-then-collected-clause-leaves
-returns-then-collected-clause-leaves g c = worked_none c.args.keeper.now c.args.slot
+returns-then-collected-clause-leaves c = worked_none c.args.keeper.now.keeper c.args.slot
 
 pub returns-clause-collected : goal.returns-clause-collected
-returns-clause-collected g c = collection_marks g.D.Domain.settings c.args.keeper.now c.collect.new.keeper c.args.slot c.args.cpu c.requires.works c.requires.cpu c.collect.ensures.change
+returns-clause-collected c = collection_marks c.args.words.now.settings c.args.keeper.now.keeper c.collect.new.keeper.keeper c.args.slot c.args.cpu c.requires.works c.requires.cpu c.collect.ensures.change
 
 pub returns-clause-leaves : goal.returns-clause-leaves
-returns-clause-leaves g c = collection_leaves c.args.keeper.now c.collect.new.keeper c.args.slot c.args.cpu c.collect.ensures.change
+returns-clause-leaves c = collection_leaves c.args.keeper.now.keeper c.collect.new.keeper.keeper c.args.slot c.args.cpu c.collect.ensures.change

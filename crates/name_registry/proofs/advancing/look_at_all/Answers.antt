@@ -2,42 +2,45 @@ use Rattle.std.proofs.Common.{◌≡◌, ◌∙◌, true, sym, subst, ◌<◌}
 use borrow.Author.Count.{below_more}
 use Rattle.registry_values.specs.declared.settings.Settings.{Settings}
 use Rattle.protocol.specs.State.{mark_at}
+use Rattle.passive_list.proofs.Rows.{settings_are}
+use Rattle.name_registry.specs.Advancing.{MayWork}
 use Rattle.name_registry.proofs.Looks.{look_goes_on, looks_go_on, looks_more, more_looks}
 use Rattle.name_registry.proofs.Seen.{grace_met}
 use Rattle.name_registry.proofs.Worked.{may_work, still_works, looked_more, still_passed}
 use Rattle.name_registry.proofs.advancing.look_at_all.Goals as goal
 
 pub passes-requires-clause-works : goal.passes-requires-clause-works
-passes-requires-clause-works g c =
-    let works = may_work _ _ _ _ _ _ _ c.args.keeper.now c.args.slot c.requires.retired.0 c.keeper.invariant c.keeper.view_is c.requires.retired.1 in
-    still_works g.D.Domain.settings c.args.keeper.now c.loop-cpu.keeper c.args.slot works c.loop-cpu.invariant.leaves.worked
+passes-requires-clause-works c =
+    let works = subst (λ (z : Settings). MayWork z c.args.keeper.now.keeper c.args.slot) (sym c.requires.words.1) (may_work _ _ _ _ _ c.args.slot c.requires.retired.0 c.keeper.invariant c.keeper.view_is c.requires.retired.1) in
+    still_works c.args.words.now.settings c.args.keeper.now.keeper c.loop-cpu.keeper.keeper c.args.slot works c.loop-cpu.invariant.leaves.worked
 
 pub returns-then-not-passes-clause-met : goal.returns-then-not-passes-clause-met
-returns-then-not-passes-clause-met g c =
+returns-then-not-passes-clause-met c =
     let l = c.loop-cpu in
-    let works = may_work _ _ _ _ _ _ _ c.args.keeper.now c.args.slot c.requires.retired.0 c.keeper.invariant c.keeper.view_is c.requires.retired.1 in
-    grace_met g.D.Domain.settings c.args.keeper.now l.keeper c.passes.new.keeper c.args.slot l.cpu works (subst (λ (z : Settings). l.cpu < z.cpus) c.keeper.invariant.settings c.loop-cpu-test.true)
+    let works = subst (λ (z : Settings). MayWork z c.args.keeper.now.keeper c.args.slot) (sym c.requires.words.1) (may_work _ _ _ _ _ c.args.slot c.requires.retired.0 c.keeper.invariant c.keeper.view_is c.requires.retired.1) in
+    grace_met c.args.words.now.settings c.args.keeper.now.keeper l.keeper.keeper c.passes.new.keeper.keeper c.args.slot l.cpu works (subst (λ (z : Settings). l.cpu < z.cpus) (settings_are c.keeper.view_is ∙ sym c.requires.words.1) c.loop-cpu-test.true)
     l.invariant.leaves l.invariant.passed c.passes.ensures.leaves (c.passes.ensures.sees c.if-not-passes.true)
 
 pub returns-then-not-passes-clause-leaves : goal.returns-then-not-passes-clause-leaves
-returns-then-not-passes-clause-leaves g c = looked_more c.args.keeper.now c.loop-cpu.keeper c.passes.new.keeper c.args.slot c.loop-cpu.invariant.leaves c.passes.ensures.leaves
+returns-then-not-passes-clause-leaves c = looked_more c.args.keeper.now.keeper c.loop-cpu.keeper.keeper c.passes.new.keeper.keeper c.args.slot c.loop-cpu.invariant.leaves c.passes.ensures.leaves
 
 pub loop-cpu-preserved : goal.loop-cpu-preserved
-loop-cpu-preserved g c =
+loop-cpu-preserved c =
     let l = c.loop-cpu in
     record {
-      leaves = looked_more c.args.keeper.now l.keeper c.passes.new.keeper c.args.slot l.invariant.leaves c.passes.ensures.leaves;
-      passed = below_more (λ d. (mark_at c.passes.new.keeper.view.marks c.args.slot d).passed ≡ true) l.cpu
-          (still_passed l.keeper c.passes.new.keeper c.args.slot l.cpu c.passes.ensures.leaves.worked l.invariant.passed) (sym c.passes.ensures.passed ∙ c.if-not-passes.false);
-      looks = looks_more l.cpu c.args.keeper.now c.args.slot l.keeper c.passes.new.keeper l.invariant.looks c.passes.ensures.looks;
+      words = c.passes.ensures.words ∙ l.invariant.words;
+      leaves = looked_more c.args.keeper.now.keeper l.keeper.keeper c.passes.new.keeper.keeper c.args.slot l.invariant.leaves c.passes.ensures.leaves;
+      passed = below_more (λ d. (mark_at c.passes.new.keeper.keeper.view.marks c.args.slot d).passed ≡ true) l.cpu
+          (still_passed l.keeper.keeper c.passes.new.keeper.keeper c.args.slot l.cpu c.passes.ensures.leaves.worked l.invariant.passed) (sym c.passes.ensures.passed ∙ c.if-not-passes.false);
+      looks = looks_more l.cpu c.args.keeper.now.keeper c.args.slot l.keeper.keeper c.passes.new.keeper.keeper l.invariant.looks c.passes.ensures.looks;
     }
 
 pub returns-then-not-passes-clause-log : goal.returns-then-not-passes-clause-log
-returns-then-not-passes-clause-log g c =
+returns-then-not-passes-clause-log c =
     let l = c.loop-cpu in
-    let a = c.args.keeper.now in
+    let a = c.args.keeper.now.keeper in
     let t = c.args.slot in
-    more_looks t a.log l.keeper.log c.passes.new.keeper.log (looks_go_on l.cpu a t l.keeper l.invariant.looks) (look_goes_on _ l.keeper t l.cpu c.passes.new.keeper c.passes.ensures.looks)
+    more_looks t a.log l.keeper.keeper.log c.passes.new.keeper.keeper.log (looks_go_on l.cpu a t l.keeper.keeper l.invariant.looks) (look_goes_on _ l.keeper.keeper t l.cpu c.passes.new.keeper.keeper c.passes.ensures.looks)
 
 pub returns-clause-log : goal.returns-clause-log
-returns-clause-log g c = looks_go_on c.loop-cpu.cpu c.args.keeper.now c.args.slot c.loop-cpu.keeper c.loop-cpu.invariant.looks
+returns-clause-log c = looks_go_on c.loop-cpu.cpu c.args.keeper.now.keeper c.args.slot c.loop-cpu.keeper.keeper c.loop-cpu.invariant.looks

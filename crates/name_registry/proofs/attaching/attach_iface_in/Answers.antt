@@ -1,61 +1,66 @@
-use Rattle.std.proofs.Common.{◌∙◌, ◌<◌, Result, Ok, IfOk, refl, sym, ap, subst}
+use Rattle.std.proofs.Common.{◌≡◌, ◌∙◌, ◌+◌, ◌<◌, ◌≤◌, length, Result, Ok, IfOk, refl, sym, ap, subst}
 use Rattle.registry_values.specs.declared.entry.Entry.{Entry}
 use Rattle.registry_values.specs.declared.refusal.Refusal.{Refusal}
 use Rattle.registry_values.specs.Answers.{attach_answer}
-use Rattle.registry_values.specs.Slots.{is_iface}
+use Rattle.registry_values.specs.Slots.{is_iface, live_count, slot_at}
 use Rattle.cpu_words.specs.declared.view.KeeperView.{KeeperView}
 use Rattle.passive_list.specs.Keepers.{OnKeeper}
 use Rattle.local_count.specs.Draining.{HasAttachedKeeping}
+use Rattle.passive_list.proofs.Rows.{cpu_is}
+use Rattle.cpu_words.specs.Views.{Named}
+use Rattle.registry_values.specs.declared.slot.Slot.TheVariants.{Vacant}
 use Rattle.name_registry.specs.Attaching.{HasAttachedIfaceFor}
 use Rattle.name_registry.proofs.Attached.{keeping_more, log_told, a_driver, inside_is, taken_tells, attach_met, keeping_told}
 use Rattle.name_registry.proofs.attaching.attach_iface_in.Goals as goal
 
-pub publish_iface-entry-requires-clause-vacant : goal.publish_iface-entry-requires-clause-vacant
-publish_iface-entry-requires-clause-vacant g c =
-    let takes = taken_tells g.D.Domain.settings c.args.keeper.now c.args.cpu.now c.hear_cpu.new.keeper c.args.rec c.in-Ok.entry c.hear_cpu.ensures.keeper (sym c.entry_for-given.ensures.value ∙ c.in-Ok.ensures.fit.2) in
-    (subst (λ (r : Result Entry Refusal). IfOk r (λ e. e.slot < g.D.Domain.settings.slots)) c.in-Ok.ensures.fit.2 c.entry_for-given.ensures.within, takes.vacant)
+pub publish_iface_on-entry-requires-clause-vacant : goal.publish_iface_on-entry-requires-clause-vacant
+publish_iface_on-entry-requires-clause-vacant c =
+    let takes = taken_tells c.args.keeper.now.words.settings c.args.keeper.now.keeper c.args.cpu.now.cpu c.hear_cpu.new.keeper.keeper c.args.rec c.in-Ok.entry c.hear_cpu.ensures.keeper (sym c.entry_for-given.ensures.value ∙ c.in-Ok.ensures.fit.2) in
+    subst (λ (w : Named). (c.in-Ok.entry.slot < w.settings.slots) × (slot_at c.hear_cpu.new.keeper.keeper.slots c.in-Ok.entry.slot ≡ Vacant)) (sym c.hear_cpu.ensures.words.0)
+    (subst (λ (r : Result Entry Refusal). IfOk r (λ e. e.slot < c.args.keeper.now.words.settings.slots)) c.in-Ok.ensures.fit.2 c.entry_for-given.ensures.within, takes.vacant)
 
-pub publish_iface-entry-requires-clause-free : goal.publish_iface-entry-requires-clause-free
-publish_iface-entry-requires-clause-free g c =
-    (taken_tells g.D.Domain.settings c.args.keeper.now c.args.cpu.now c.hear_cpu.new.keeper c.args.rec c.in-Ok.entry c.hear_cpu.ensures.keeper (sym c.entry_for-given.ensures.value ∙ c.in-Ok.ensures.fit.2)).free
+pub publish_iface_on-entry-requires-clause-free : goal.publish_iface_on-entry-requires-clause-free
+publish_iface_on-entry-requires-clause-free c =
+    (taken_tells c.args.keeper.now.words.settings c.args.keeper.now.keeper c.args.cpu.now.cpu c.hear_cpu.new.keeper.keeper c.args.rec c.in-Ok.entry c.hear_cpu.ensures.keeper (sym c.entry_for-given.ensures.value ∙ c.in-Ok.ensures.fit.2)).free
 
-pub publish_iface-entry-requires-clause-room : goal.publish_iface-entry-requires-clause-room
-publish_iface-entry-requires-clause-room g c =
-    (taken_tells g.D.Domain.settings c.args.keeper.now c.args.cpu.now c.hear_cpu.new.keeper c.args.rec c.in-Ok.entry c.hear_cpu.ensures.keeper (sym c.entry_for-given.ensures.value ∙ c.in-Ok.ensures.fit.2)).room
+pub publish_iface_on-entry-requires-clause-room : goal.publish_iface_on-entry-requires-clause-room
+publish_iface_on-entry-requires-clause-room c =
+    subst (λ (w : Named). length c.hear_cpu.new.keeper.keeper.view.history + live_count c.hear_cpu.new.keeper.keeper.slots + 2 ≤ w.settings.change_limit) (sym c.hear_cpu.ensures.words.0)
+    (taken_tells c.args.keeper.now.words.settings c.args.keeper.now.keeper c.args.cpu.now.cpu c.hear_cpu.new.keeper.keeper c.args.rec c.in-Ok.entry c.hear_cpu.ensures.keeper (sym c.entry_for-given.ensures.value ∙ c.in-Ok.ensures.fit.2)).room
 
-pub publish_iface-entry-requires-clause-nothing : goal.publish_iface-entry-requires-clause-nothing
-publish_iface-entry-requires-clause-nothing g c =
-    (taken_tells g.D.Domain.settings c.args.keeper.now c.args.cpu.now c.hear_cpu.new.keeper c.args.rec c.in-Ok.entry c.hear_cpu.ensures.keeper (sym c.entry_for-given.ensures.value ∙ c.in-Ok.ensures.fit.2)).nothing
+pub publish_iface_on-entry-requires-clause-nothing : goal.publish_iface_on-entry-requires-clause-nothing
+publish_iface_on-entry-requires-clause-nothing c =
+    (taken_tells c.args.keeper.now.words.settings c.args.keeper.now.keeper c.args.cpu.now.cpu c.hear_cpu.new.keeper.keeper c.args.rec c.in-Ok.entry c.hear_cpu.ensures.keeper (sym c.entry_for-given.ensures.value ∙ c.in-Ok.ensures.fit.2)).nothing
 
-pub publish_iface-entry-requires-clause-driver : goal.publish_iface-entry-requires-clause-driver
-publish_iface-entry-requires-clause-driver g c = a_driver _ (ap is_iface (sym c.kind.ensures) ∙ (sym c.is_iface.ensures ∙ c.in-Ok.ensures.fit.1))
+pub publish_iface_on-entry-requires-clause-driver : goal.publish_iface_on-entry-requires-clause-driver
+publish_iface_on-entry-requires-clause-driver c = a_driver _ (ap is_iface (sym c.kind.ensures) ∙ (sym c.is_iface.ensures ∙ c.in-Ok.ensures.fit.1))
 
 pub returns-clause-answer : goal.returns-clause-answer
-returns-clause-answer g c =
-    let takes = taken_tells g.D.Domain.settings c.args.keeper.now c.args.cpu.now c.hear_cpu.new.keeper c.args.rec c.in-Ok.entry c.hear_cpu.ensures.keeper (sym c.entry_for-given.ensures.value ∙ c.in-Ok.ensures.fit.2) in
-    let inside = inside_is c.inside.result c.args.cpu.now.view.begin c.inside.ensures in
-    sym (ap (λ (e : Entry). Ok e) (c.publish_iface-entry.ensures.entry ∙ takes.entry) ∙ (c.in-Ok.ensures.value ∙ (λ i. attach_answer (inside i) ((c.is_iface.ensures ∙ ap is_iface c.kind.ensures) i) (c.entry_for-given.ensures.value i))))
+returns-clause-answer c =
+    let takes = taken_tells c.args.keeper.now.words.settings c.args.keeper.now.keeper c.args.cpu.now.cpu c.hear_cpu.new.keeper.keeper c.args.rec c.in-Ok.entry c.hear_cpu.ensures.keeper (sym c.entry_for-given.ensures.value ∙ c.in-Ok.ensures.fit.2) in
+    let inside = inside_is c.inside.result c.args.cpu.now.cpu.view.begin c.inside.ensures in
+    sym (ap (λ (e : Entry). Ok e) (c.publish_iface_on-entry.ensures.entry ∙ takes.entry) ∙ (c.in-Ok.ensures.value ∙ (λ i. attach_answer (inside i) ((c.is_iface.ensures ∙ ap is_iface c.kind.ensures) i) (c.entry_for-given.ensures.value i))))
 
 pub returns-in-Err-clause-refused : goal.returns-in-Err-clause-refused
-returns-in-Err-clause-refused g c =
-    let inside = inside_is c.inside.result c.args.cpu.now.view.begin c.inside.ensures in
+returns-in-Err-clause-refused c =
+    let inside = inside_is c.inside.result c.args.cpu.now.cpu.view.begin c.inside.ensures in
     (sym (c.in-Err.ensures.value ∙ (λ i. attach_answer (inside i) ((c.is_iface.ensures ∙ ap is_iface c.kind.ensures) i) (c.entry_for-given.ensures.value i))), refl, refl, refl)
 
 pub returns-clause-ok : goal.returns-clause-ok
-returns-clause-ok g c =
-    let a = c.args.keeper.now in
-    let x = c.args.cpu.now in
-    let v = c.args.reference in
-    let m = c.hear_cpu.new.keeper in
-    let e = c.publish_iface-entry.result in
-    let b = c.publish_iface-entry.new.keeper in
-    let has = c.publish_iface-entry.ensures.change in
+returns-clause-ok c =
+    let a = c.args.keeper.now.keeper in
+    let x = c.args.cpu.now.cpu in
+    let v = c.args.reference.reference in
+    let m = c.hear_cpu.new.keeper.keeper in
+    let e = c.publish_iface_on-entry.result in
+    let b = c.publish_iface_on-entry.new.keeper.keeper in
+    let has = c.publish_iface_on-entry.ensures.change in
     let after = ap (λ (k : KeeperView). k.history) has.attached.entry.view in
-    let met = attach_met a x m c.hear_cpu.new.cpu e b c.show_cpu.new.cpu c.hear_cpu.ensures.keeper c.hear_cpu.ensures.cpu c.hear_cpu.ensures.seen (ap (λ x. x.number) c.publish_iface-entry.ensures.entry) after c.show_cpu.ensures.cpu in
-    subst (λ (k : OnKeeper). HasAttachedIfaceFor a x v e k c.show_cpu.new.cpu) (sym c.show_cpu.ensures.keeper) record {
+    let met = attach_met a x m c.hear_cpu.new.cpu.cpu e b c.show_cpu.new.cpu.cpu c.hear_cpu.ensures.keeper (cpu_is c.hear_cpu.ensures.cpu) c.hear_cpu.ensures.seen (ap (λ x. x.number) c.publish_iface_on-entry.ensures.entry) after c.show_cpu.ensures.cpu in
+    subst (λ (k : OnKeeper). HasAttachedIfaceFor a x v e k c.show_cpu.new.cpu.cpu) (sym c.show_cpu.ensures.keeper) record {
       seen = met.0;
       keeper = keeping_told _ v e b (subst (λ (k : OnKeeper). HasAttachedKeeping k v e b) c.hear_cpu.ensures.keeper has);
-      keeping = keeping_more e.slot e.number v.entry.number b.log c.show_cpu.new.cpu.deeds (log_told b c.show_cpu.new.keeper c.show_cpu.new.cpu c.show_cpu.ensures.keeper c.show_cpu.ensures.told) has.keeping;
+      keeping = keeping_more e.slot e.number v.entry.number b.log c.show_cpu.new.cpu.cpu.known_log (log_told b c.show_cpu.new.keeper.keeper c.show_cpu.new.cpu.cpu c.show_cpu.ensures.keeper c.show_cpu.ensures.told) has.keeping;
       cpu = met.1;
       own = met.2;
     }

@@ -1,4 +1,4 @@
-use Rattle.std.proofs.Common.{◌∙◌, ◌<◌, Result, Ok, IfOk, sym, ap, subst}
+use Rattle.std.proofs.Common.{◌≡◌, ◌∙◌, ◌+◌, ◌<◌, ◌≤◌, length, Result, Ok, IfOk, sym, ap, subst}
 use Rattle.registry_values.specs.declared.entry.Entry.{Entry}
 use Rattle.registry_values.specs.declared.refusal.Refusal.{Refusal}
 use Rattle.registry_values.specs.Answers.{attach_answer}
@@ -6,49 +6,55 @@ use Rattle.registry_values.proofs.Answers.{handed_on}
 use Rattle.cpu_words.specs.declared.view.KeeperView.{KeeperView}
 use Rattle.passive_list.specs.Keepers.{OnKeeper}
 use Rattle.passive_list.specs.Publishing.{HasAttached}
+use Rattle.passive_list.proofs.Rows.{cpu_is}
+use Rattle.registry_values.specs.Slots.{live_count, slot_at}
+use Rattle.cpu_words.specs.Views.{Named}
+use Rattle.registry_values.specs.declared.slot.Slot.TheVariants.{Vacant}
 use Rattle.name_registry.specs.Attaching.{HasAttachedFor}
 use Rattle.name_registry.proofs.Attached.{inside_is, taken_tells, driver_keeps, attach_met, attached_told}
 use Rattle.name_registry.proofs.attaching.attach_in.Goals as goal
 
 pub publish-entry-requires-clause-vacant : goal.publish-entry-requires-clause-vacant
-publish-entry-requires-clause-vacant g c =
-    let takes = taken_tells g.D.Domain.settings c.args.keeper.now c.args.cpu.now c.hear_cpu.new.keeper c.args.rec c.in_ok-entry.entry c.hear_cpu.ensures.keeper (sym c.entry_for-given.ensures.value ∙ c.in_ok-entry.ensures.fit.2) in
-    (subst (λ (r : Result Entry Refusal). IfOk r (λ e. e.slot < g.D.Domain.settings.slots)) c.in_ok-entry.ensures.fit.2 c.entry_for-given.ensures.within, takes.vacant)
+publish-entry-requires-clause-vacant c =
+    let takes = taken_tells c.args.keeper.now.words.settings c.args.keeper.now.keeper c.args.cpu.now.cpu c.hear_cpu.new.keeper.keeper c.args.rec c.in_ok-entry.entry c.hear_cpu.ensures.keeper (sym c.entry_for-given.ensures.value ∙ c.in_ok-entry.ensures.fit.2) in
+    subst (λ (w : Named). (c.in_ok-entry.entry.slot < w.settings.slots) × (slot_at c.hear_cpu.new.keeper.keeper.slots c.in_ok-entry.entry.slot ≡ Vacant)) (sym c.hear_cpu.ensures.words.0)
+    (subst (λ (r : Result Entry Refusal). IfOk r (λ e. e.slot < c.args.keeper.now.words.settings.slots)) c.in_ok-entry.ensures.fit.2 c.entry_for-given.ensures.within, takes.vacant)
 
 pub publish-entry-requires-clause-free : goal.publish-entry-requires-clause-free
-publish-entry-requires-clause-free g c =
-    (taken_tells g.D.Domain.settings c.args.keeper.now c.args.cpu.now c.hear_cpu.new.keeper c.args.rec c.in_ok-entry.entry c.hear_cpu.ensures.keeper (sym c.entry_for-given.ensures.value ∙ c.in_ok-entry.ensures.fit.2)).free
+publish-entry-requires-clause-free c =
+    (taken_tells c.args.keeper.now.words.settings c.args.keeper.now.keeper c.args.cpu.now.cpu c.hear_cpu.new.keeper.keeper c.args.rec c.in_ok-entry.entry c.hear_cpu.ensures.keeper (sym c.entry_for-given.ensures.value ∙ c.in_ok-entry.ensures.fit.2)).free
 
 pub publish-entry-requires-clause-room : goal.publish-entry-requires-clause-room
-publish-entry-requires-clause-room g c =
-    (taken_tells g.D.Domain.settings c.args.keeper.now c.args.cpu.now c.hear_cpu.new.keeper c.args.rec c.in_ok-entry.entry c.hear_cpu.ensures.keeper (sym c.entry_for-given.ensures.value ∙ c.in_ok-entry.ensures.fit.2)).room
+publish-entry-requires-clause-room c =
+    subst (λ (w : Named). length c.hear_cpu.new.keeper.keeper.view.history + live_count c.hear_cpu.new.keeper.keeper.slots + 2 ≤ w.settings.change_limit) (sym c.hear_cpu.ensures.words.0)
+    (taken_tells c.args.keeper.now.words.settings c.args.keeper.now.keeper c.args.cpu.now.cpu c.hear_cpu.new.keeper.keeper c.args.rec c.in_ok-entry.entry c.hear_cpu.ensures.keeper (sym c.entry_for-given.ensures.value ∙ c.in_ok-entry.ensures.fit.2)).room
 
 pub publish-entry-requires-clause-keeps : goal.publish-entry-requires-clause-keeps
-publish-entry-requires-clause-keeps g c =
-    let takes = taken_tells g.D.Domain.settings c.args.keeper.now c.args.cpu.now c.hear_cpu.new.keeper c.args.rec c.in_ok-entry.entry c.hear_cpu.ensures.keeper (sym c.entry_for-given.ensures.value ∙ c.in_ok-entry.ensures.fit.2) in
+publish-entry-requires-clause-keeps c =
+    let takes = taken_tells c.args.keeper.now.words.settings c.args.keeper.now.keeper c.args.cpu.now.cpu c.hear_cpu.new.keeper.keeper c.args.rec c.in_ok-entry.entry c.hear_cpu.ensures.keeper (sym c.entry_for-given.ensures.value ∙ c.in_ok-entry.ensures.fit.2) in
     driver_keeps _ c.args.rec.kind takes.nothing (sym c.is_iface.ensures ∙ c.in_ok-entry.ensures.fit.1)
 
 pub returns-clause-answer : goal.returns-clause-answer
-returns-clause-answer g c =
-    let takes = taken_tells g.D.Domain.settings c.args.keeper.now c.args.cpu.now c.hear_cpu.new.keeper c.args.rec c.in_ok-entry.entry c.hear_cpu.ensures.keeper (sym c.entry_for-given.ensures.value ∙ c.in_ok-entry.ensures.fit.2) in
-    let inside = inside_is c.inside.result c.args.cpu.now.view.begin c.inside.ensures in
+returns-clause-answer c =
+    let takes = taken_tells c.args.keeper.now.words.settings c.args.keeper.now.keeper c.args.cpu.now.cpu c.hear_cpu.new.keeper.keeper c.args.rec c.in_ok-entry.entry c.hear_cpu.ensures.keeper (sym c.entry_for-given.ensures.value ∙ c.in_ok-entry.ensures.fit.2) in
+    let inside = inside_is c.inside.result c.args.cpu.now.cpu.view.begin c.inside.ensures in
     ap (λ (e : Entry). Ok e) (c.publish-entry.ensures.entry ∙ takes.entry) ∙ (c.in_ok-entry.ensures.value ∙ (λ i. attach_answer (inside i) (c.is_iface.ensures i) (c.entry_for-given.ensures.value i)))
 
 pub returns-in_err-entry-clause-answer : goal.returns-in_err-entry-clause-answer
-returns-in_err-entry-clause-answer g c =
-    let inside = inside_is c.inside.result c.args.cpu.now.view.begin c.inside.ensures in
+returns-in_err-entry-clause-answer c =
+    let inside = inside_is c.inside.result c.args.cpu.now.cpu.view.begin c.inside.ensures in
     handed_on c.from_residual.result c.in_err-entry.field-0.0 c.from_residual.ensures.0 c.from_residual.ensures.1 ∙ (c.in_err-entry.ensures.value ∙ (λ i. attach_answer (inside i) (c.is_iface.ensures i) (c.entry_for-given.ensures.value i)))
 
 pub returns-clause-ok : goal.returns-clause-ok
-returns-clause-ok g c =
-    let a = c.args.keeper.now in
-    let x = c.args.cpu.now in
-    let m = c.hear_cpu.new.keeper in
+returns-clause-ok c =
+    let a = c.args.keeper.now.keeper in
+    let x = c.args.cpu.now.cpu in
+    let m = c.hear_cpu.new.keeper.keeper in
     let e = c.publish-entry.result in
-    let b = c.publish-entry.new.keeper in
+    let b = c.publish-entry.new.keeper.keeper in
     let has = c.publish-entry.ensures.change in
-    let met = attach_met a x m c.hear_cpu.new.cpu e b c.show_cpu.new.cpu c.hear_cpu.ensures.keeper c.hear_cpu.ensures.cpu c.hear_cpu.ensures.seen (ap (λ x. x.number) c.publish-entry.ensures.entry) (ap (λ (k : KeeperView). k.history) has.entry.view) c.show_cpu.ensures.cpu in
-    subst (λ (k : OnKeeper). HasAttachedFor a x e k c.show_cpu.new.cpu) (sym c.show_cpu.ensures.keeper) record {
+    let met = attach_met a x m c.hear_cpu.new.cpu.cpu e b c.show_cpu.new.cpu.cpu c.hear_cpu.ensures.keeper (cpu_is c.hear_cpu.ensures.cpu) c.hear_cpu.ensures.seen (ap (λ x. x.number) c.publish-entry.ensures.entry) (ap (λ (k : KeeperView). k.history) has.entry.view) c.show_cpu.ensures.cpu in
+    subst (λ (k : OnKeeper). HasAttachedFor a x e k c.show_cpu.new.cpu.cpu) (sym c.show_cpu.ensures.keeper) record {
       seen = met.0;
       keeper = attached_told _ e b (subst (λ (k : OnKeeper). HasAttached k e b) c.hear_cpu.ensures.keeper has);
       cpu = met.1;

@@ -7,7 +7,7 @@ use Rattle.name_registry.proofs.auditing.balances.Goals as goal
 
 pub loop-t-preserved : goal.loop-t-preserved
 loop-t-preserved g c =
-    let k = c.args.keeper.now in
+    let k = c.args.keeper.now.keeper in
     let xs = c.args.cpus.now in
     let t = c.loop-t.t in
     let x = c.slot.result in

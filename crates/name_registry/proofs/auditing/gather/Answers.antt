@@ -13,19 +13,21 @@ loop-c-preserved g c =
     let at = at_index l.cpus l.c c.index-cpus-c.result (omega (arith, c.loop-c-test.true, l.auto.cpus)) c.index-cpus-c.is ∙ ap some c.index-cpus-c.is in
     record {
       keeper = l.invariant.keeper;
-      gathered = gathered_more c.args.cpus.now l.cpus l.c c.tell_keeper-note.new.keeper.log l.note.deeds c.pass_on-note.result.deeds l.note.pass _ c.pass_on-note.new.cpu l.invariant.gathered at e.heard e.told e.shown e.note;
+      note = e.note.0;
+      words = l.invariant.words;
+      gathered = gathered_more c.args.cpus.now l.cpus l.c c.tell_keeper_on-note.new.keeper.keeper.log l.note.known_log c.pass_on-note.result.known_log l.note.view _ c.pass_on-note.new.cpu l.invariant.gathered at e.heard e.told e.shown e.note.1;
     }
 
 pub returns-clause-alike : goal.returns-clause-alike
 returns-clause-alike g c =
     let l = c.loop-c in
-    gathered_alike g.D.Domain.settings c.args.keeper.now c.tell_keeper-note.new.keeper c.args.cpus.now l.cpus l.c _ l.note.deeds l.invariant.gathered (omega (arith, c.loop-c-test.false, l.auto.cpus)) l.invariant.keeper c.hear_keeper.ensures.heard c.hear_keeper.ensures.own
+    gathered_alike _ c.args.keeper.now.keeper c.tell_keeper_on-note.new.keeper.keeper c.args.cpus.now l.cpus l.c _ l.note.known_log l.invariant.gathered (omega (arith, c.loop-c-test.false, l.auto.cpus)) l.invariant.keeper c.hear_keeper_on.ensures.known_log c.hear_keeper_on.ensures.own
 
 pub returns-clause-keeper : goal.returns-clause-keeper
 returns-clause-keeper g c =
     let told = c.loop-c.invariant.keeper in
-    let e = c.hear_keeper.ensures in
-    listened c.args.keeper.now c.hear_keeper.new.keeper c.loop-c.note.pass _ _ (e.view ∙ ap (λ (k : OnKeeper). record k.view { heard = c.loop-c.note.pass }) told) (e.slots ∙ ap (λ (k : OnKeeper). k.slots) told) (e.log ∙ ap (λ (k : OnKeeper). k.log ++ _) told)
+    let e = c.hear_keeper_on.ensures in
+    listened c.args.keeper.now.keeper c.hear_keeper_on.new.keeper.keeper c.loop-c.note.view _ _ (e.view ∙ ap (λ (k : OnKeeper). record k.view { noted_pass = c.loop-c.note.view }) told) (e.slots ∙ ap (λ (k : OnKeeper). k.slots) told) (e.log ∙ ap (λ (k : OnKeeper). k.log ++ _) told)
 
 pub returns-clause-cpus : goal.returns-clause-cpus
 returns-clause-cpus g c = gathered_learned c.args.cpus.now c.loop-c.cpus c.loop-c.c _ _ c.loop-c.invariant.gathered (omega (arith, c.loop-c-test.false, c.loop-c.auto.cpus))

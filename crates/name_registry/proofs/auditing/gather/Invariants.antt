@@ -8,6 +8,8 @@ use Rattle.name_registry.proofs.auditing.gather.Given as goal
 -- the CPUs so far have heard
 abbrev pub invariant-loop-c : goal.invariant-loop-c
 invariant-loop-c g l = record {
-  keeper : l.keeper ≡ record l.fn.keeper { log = l.fn.keeper.log ++ did (Tell None) Done };
-  gathered : Gathered l.fn.cpus l.cpus l.c l.keeper.log l.note.deeds;
+  keeper : l.keeper.keeper ≡ record l.fn.keeper.keeper { log = l.fn.keeper.keeper.log ++ did (Tell None) Done };
+  note : l.note.table ≡ g.D.Domain.table;
+  words : l.keeper.words ≡ l.fn.keeper.words;
+  gathered : Gathered l.fn.cpus l.cpus l.c l.keeper.keeper.log l.note.known_log;
 }

@@ -1,26 +1,17 @@
 -- A CPU's place says its net count.
-use Rattle.std.proofs.Common.{◌≡◌, ap, sym, ◌∙◌, subst, arith, IsTrue}
+use Rattle.std.proofs.Common.{◌≡◌, ap, sym, ◌∙◌, subst, arith}
 use Rattle.std.proofs.lemmas.Int.{ints}
-use Rattle.registry_values.specs.declared.settings.Settings.{Settings}
-use Rattle.registry_values.specs.Limits.{are_fit}
-use Rattle.registry_values.proofs.Fit.{ranges}
 use Rattle.passive_list.specs.Cpus.{OnPlainCpu}
 use Rattle.name_registry.specs.Auditing.{net_met}
 use Rattle.name_registry.proofs.Audits.{local_is, net_is}
 use Rattle.name_registry.proofs.auditing.local_on.Goals as goal
 
 pub is_collected-requires : goal.is_collected-requires
-is_collected-requires g c = (c.requires.entry.0, c.cpu.invariant.few)
-
-pub bounds-cpu-inside-t : goal.bounds-cpu-inside-t
-bounds-cpu-inside-t g c =
-    let same = ap (λ (x : OnPlainCpu). x.words.settings) c.cpu.view_is ∙ c.requires.settings in
-    let fit = subst (λ (z : Settings). IsTrue (are_fit z)) same c.cpu.invariant.fit in
-    omega (arith, c.requires.entry.0, (ranges g.D.Domain.settings fit).slots)
+is_collected-requires c = (c.requires.0, c.cpu.invariant.few)
 
 pub returns-else-is_collected-clause-value : goal.returns-else-is_collected-clause-value
-returns-else-is_collected-clause-value g c =
+returns-else-is_collected-clause-value c =
     let id = ap (λ (x : OnPlainCpu). x.cpu.view.id) (sym c.cpu.view_is) ∙ c.cpu.invariant.id in
-    let net = net_is _ c.cpu.inside.depth 0 c.cpu.inside.seat.deeds _ _ _ _ c.cpu.invariant.net c.requires.entry.1 c.net_count.ensures in
+    let net = net_is _ c.cpu.inside.depth 0 c.cpu.inside.seat.known_log _ _ _ _ c.cpu.invariant.net c.requires.1 c.net_count.ensures in
     let says = subst (λ (x : OnPlainCpu). c.less_bias.result ≡ net_met c.args.t c.args.number x.cpu) c.cpu.view_is (c.less_bias.ensures ∙ net) in
-    omega (arith, ints, local_is c.args.keeper.now c.args.cpu.now.cpu _ _ _ _ id (sym c.is_collected.ensures ∙ c.if-is_collected.false) says, c.less_bias.type_inv)
+    omega (arith, ints, local_is c.args.keeper.now.keeper c.args.cpu.now.cpu _ _ _ _ id (sym c.is_collected.ensures ∙ c.if-is_collected.false) says, c.less_bias.type_inv)

@@ -1,16 +1,17 @@
 use Rattle.std.proofs.Common.{◌∙◌, position, sym, ap}
 use Rattle.registry_values.specs.Slots.{is_live_as}
 use Rattle.passive_list.specs.Keepers.{OnKeeper}
+use Rattle.passive_list.proofs.Rows.{keeper_is}
 use Rattle.name_registry.proofs.Detached.{keeper_shows, place_tells, no_place}
 use Rattle.name_registry.proofs.Rows.{live_in_rows}
 use Rattle.name_registry.proofs.detaching.live_place.Goals as goal
 
 pub returns-in-Some-clause-lookup : goal.returns-in-Some-clause-lookup
-returns-in-Some-clause-lookup g c =
-    let at = ap (λ (x : OnKeeper). position (is_live_as c.args.key) x.slots) (sym c.keeper.view_is) ∙ (live_in_rows c.args.key c.keeper.inside.rows ∙ sym c.in-Some.ensures.value) in
-    place_tells c.args.keeper.now c.args.key c.in-Some.slot (keeper_shows _ _ _ _ _ _ _ c.args.keeper.now c.keeper.invariant c.keeper.view_is) at
+returns-in-Some-clause-lookup c =
+    let at = ap (λ (x : OnKeeper). position (is_live_as c.args.key) x.slots) (sym (keeper_is c.keeper.view_is)) ∙ (live_in_rows c.args.key c.keeper.inside.rows ∙ sym c.in-Some.ensures.value) in
+    place_tells c.args.keeper.now.keeper c.args.key c.in-Some.slot (keeper_shows _ _ _ _ c.args.keeper.now.keeper c.keeper.invariant (keeper_is c.keeper.view_is)) at
 
 pub returns-in-None-clause-lookup : goal.returns-in-None-clause-lookup
-returns-in-None-clause-lookup g c =
-    let at = ap (λ (x : OnKeeper). position (is_live_as c.args.key) x.slots) (sym c.keeper.view_is) ∙ (live_in_rows c.args.key c.keeper.inside.rows ∙ sym c.in-None.ensures.value) in
-    no_place c.args.keeper.now c.args.key (keeper_shows _ _ _ _ _ _ _ c.args.keeper.now c.keeper.invariant c.keeper.view_is) at
+returns-in-None-clause-lookup c =
+    let at = ap (λ (x : OnKeeper). position (is_live_as c.args.key) x.slots) (sym (keeper_is c.keeper.view_is)) ∙ (live_in_rows c.args.key c.keeper.inside.rows ∙ sym c.in-None.ensures.value) in
+    no_place c.args.keeper.now.keeper c.args.key (keeper_shows _ _ _ _ c.args.keeper.now.keeper c.keeper.invariant (keeper_is c.keeper.view_is)) at

@@ -4,4 +4,4 @@ use Rattle.name_registry.proofs.glancing.retired_numbers.Given as goal
 
 -- the numbers of the slots so far are there
 abbrev pub invariant-loop-slot : goal.invariant-loop-slot
-invariant-loop-slot g l = (length l.numbers ≡ 32) × ((t : ℕ) → t < l.slot → slice_index_or l.numbers t None ≡ retired_number (slot_at l.keeper.slots t))
+invariant-loop-slot l = (length l.numbers ≡ 32) × ((t : ℕ) → t < l.slot → slice_index_or l.numbers t None ≡ retired_number (slot_at l.keeper.keeper.slots t))

@@ -4,7 +4,7 @@ ghost use Rattle.std.specs.Prelude.{◌≡◌, ◌<◌, IfSome, ℕ, Some, None,
 ghost use Rattle.registry_values.specs.declared.entry.Entry.{Entry as AnEntry};
 ghost use Rattle.registry_values.specs.declared.slot.Slot.TheVariants.{Retired};
 ghost use Rattle.registry_values.specs.Slots.{is_retired_as, retired_slot, is_retired, slot_at};
-ghost use Rattle.passive_core.specs.Advancing.{is_open_since, has_passive, advance_answer, plain_stage, AdvanceLeaves, StageLeaves, Settles, Empties, Gathers, HoldersAreOpen, MarksPass, MarksClear, SameBut, PassedBelow, ClearBelow, StageMarks, AdvanceMarks};
+ghost use Rattle.passive_core.specs.Advancing.{is_open_since, has_passive, advance_answer, first_obstacle, AdvanceLeaves, StageLeaves, Settles, Empties, Gathers, HoldersAreOpen, MarksPass, MarksClear, SameBut, PassedBelow, ClearBelow, StageMarks, AdvanceMarks};
 ghost use Rattle.registry_values.specs.Marks.{least_below};
 ghost use Rattle.registry_values.specs.Stages.{stage_of};
 ghost use Rattle.protocol.specs.Marking.{AllPassed, AllClear, AllCollected};
@@ -51,7 +51,7 @@ impl Core {
         requires seated { self.old.seated ≡ self.old.settings.cpus }
         requires slot { t < self.old.settings.slots }
         requires retired { is_retired (slot_at self.old.slots t) ≡ true }
-        ensures stage { (e : AnEntry) → slot_at self.old.slots t ≡ Retired e → result ≡ plain_stage self.old t e.number }
+        ensures stage { (e : AnEntry) → slot_at self.old.slots t ≡ Retired e → result ≡ first_obstacle self.old t e.number }
         ensures after { StageLeaves self.old self.new t result }
         ensures marks { StageMarks self.old self.new t result }
         ensures made { MakesOnly (IsWork result t) self.old self.new }

@@ -1,11 +1,12 @@
 //! Attaching an entry: a vacant slot's words are stored, and one store to the head of the list links it.
 
-ghost use Rattle.std.specs.Prelude.{◌≡◌, ◌<◌, ◌+◌, ℕ, IfErr, IfOk, IfSome, IsSome, IsTrue, None, OnErr, OnOk, Ok, Some, [], length, position, slice_set, slice_index_or, true};
+ghost use Rattle.std.specs.Prelude.{◌≡◌, ◌<◌, ◌+◌, ◌∷◌, ℕ, IfErr, IfOk, IfSome, IsSome, IsTrue, None, OnErr, OnOk, Ok, Some, [], length, position, slice_set, slice_index_or, true};
 ghost use Rattle.std.specs.List.{zip};
-ghost use Rattle.protocol.specs.declared.event.Event.TheVariants.{Publish};
+ghost use Rattle.protocol.specs.declared.event.Event.TheVariants.{Hear, Keep, Publish, StoreSlot, Tell};
 ghost use Rattle.protocol.specs.declared.event.Reply.TheVariants.{Done};
-ghost use Rattle.passive_core.specs.Attaching.{IsAnswer, after_attach, after_attach_iface, attach_answer, attach_iface_answer, with_reference_given_back, given_entry, is_to_driver, with_reference_kept, plain_slot, with_prepared, with_attach_undone, words_before};
-ghost use Rattle.registry_values.specs.Slots.{is_plain, is_iface};
+ghost use Rattle.passive_core.specs.Attaching.{IsAnswer, after_attach, after_attach_iface, attach_answer, attach_iface_answer, with_reference_given_back, given_entry, is_to_driver, with_reference_kept, first_fit, with_prepared, with_attach_undone, words_before};
+ghost use Rattle.passive_core.specs.Making.{AttachMakes, Makes, attach_events, attach_iface_events, count_stores_from, prepare_events, record_stores, seats_and};
+ghost use Rattle.registry_values.specs.Slots.{is_available, is_iface};
 ghost use Rattle.protocol.specs.State.{with_biases, at_rest, kept_at, local_at};
 ghost use Rattle.passive_core.specs.Commands.{all_seated, may_act};
 ghost use Rattle.protocol.specs.Events.{after_publish, after_row_store, after_seeing, is_idle, may_write, number_standing, step, words_of};
@@ -16,7 +17,7 @@ use crate::machine::drain::is_driver_slot;
 use crate::machine::{Core, make_room};
 use protocol::{Event, LocalPlace, RecordWords};
 use registry_values::{
-    BIAS, Entry, Key, Record, Refusal, Slot, attach_answer, given_entry, is_iface, is_plain,
+    BIAS, Entry, Key, Record, Refusal, Slot, attach_answer, given_entry, is_available, is_iface,
     kind_word,
 };
 
@@ -42,6 +43,7 @@ impl Core {
         requires lawful { IsTrue (is_lawful rec.name) }
         ensures answer { IsAnswer (attach_answer self.old c rec) result }
         ensures after { self.new ≡ after_attach self.old c result }
+        ensures made { AttachMakes self.old self.new (attach_events self.old c) result }
         ensures settings { self.new.settings ≡ self.old.settings }
         ensures rest { at_rest self.new.due ≡ true }
         ensures ready { (d : ℕ) → may_act self.old d ≡ true → may_act self.new d ≡ true }
@@ -80,6 +82,7 @@ impl Core {
         requires lawful { IsTrue (is_lawful rec.name) }
         ensures answer { IsAnswer (attach_iface_answer self.old c rec id) result }
         ensures after { self.new ≡ after_attach_iface self.old c id result }
+        ensures made { AttachMakes self.old self.new (attach_iface_events self.old c id) result }
         ensures settings { self.new.settings ≡ self.old.settings }
         ensures rest { at_rest self.new.due ≡ true }
         ensures ready { (d : ℕ) → may_act self.old d ≡ true → may_act self.new d ≡ true }
@@ -124,7 +127,8 @@ impl Core {
         requires write { may_write self.old t ≡ true }
         requires nothing { kept_at self.old.keeps t ≡ None }
         requires driver { is_to_driver self.old id ≡ true }
-        ensures { self.new ≡ with_reference_kept self.old t id }
+        ensures after { self.new ≡ with_reference_kept self.old t id }
+        ensures made { Makes self.old (Keep t id ∷ []) self.new }
     {
         self.make(Event::Keep(t, id));
     }
@@ -154,11 +158,11 @@ impl Core {
     }
 
     /// The least slot that is vacant and keeps nothing.
-    fn plain_slot(&self) -> Option<u8>
-        ensures value { result ≡ plain_slot self.now }
+    fn first_fit(&self) -> Option<u8>
+        ensures value { result ≡ first_fit self.now }
         ensures within { IfSome result (λ t. t < self.now.settings.slots) }
     {
-        match plain_place(&self.slots, &self.keeps) {
+        match first_fit_place(&self.slots, &self.keeps) {
             Some(t) => Some(t as u8),
             None => None,
         }
@@ -173,7 +177,7 @@ impl Core {
             kind: rec.kind,
             name: rec.name,
         };
-        given_entry(rec, self.is_taken(key), self.plain_slot(), self.room())
+        given_entry(rec, self.is_taken(key), self.first_fit(), self.room())
     }
 
     /// Makes room for one more change. Refused: `NoMemory`. Nothing that the core shows changes.
@@ -216,6 +220,7 @@ impl Core {
         requires rest { at_rest self.old.due ≡ true }
         requires ready { may_act self.old c ≡ true }
         ensures after { self.new ≡ all_seated self.old }
+        ensures made { Makes self.old (seats_and self.old (Tell (Some c) ∷ Hear None ∷ [])) self.new }
         ensures idle { is_idle self.new c ≡ true }
         ensures ready { (d : ℕ) → may_act self.old d ≡ true → may_act self.new d ≡ true }
     {
@@ -228,7 +233,8 @@ impl Core {
     fn end_change(&mut self, c: u8)
         requires rest { at_rest self.old.due ≡ true }
         requires idle { is_idle self.old c ≡ true }
-        ensures { self.new ≡ after_seeing self.old c }
+        ensures after { self.new ≡ after_seeing self.old c }
+        ensures made { Makes self.old (Tell None ∷ Hear (Some c) ∷ []) self.new }
     {
         self.make(Event::Tell(None));
         self.make(Event::Hear(Some(c)));
@@ -237,7 +243,8 @@ impl Core {
     /// Stores all words of the entry's slot.
     fn prepare(&mut self, entry: &Entry)
         requires { may_write self.old entry.now.slot ≡ true }
-        ensures { self.new ≡ with_prepared self.old entry.now }
+        ensures after { self.new ≡ with_prepared self.old entry.now }
+        ensures made { Makes self.old (prepare_events self.old entry.now) self.new }
     {
         self.store_record_words(entry);
         self.store_counts(entry.slot);
@@ -247,7 +254,8 @@ impl Core {
 
     fn store_record_words(&mut self, entry: &Entry)
         requires { may_write self.old entry.now.slot ≡ true }
-        ensures { self.new ≡ record self.old { rows = slice_set self.old.rows entry.now.slot (words_of entry.now) } }
+        ensures after { self.new ≡ record self.old { rows = slice_set self.old.rows entry.now.slot (words_of entry.now) } }
+        ensures made { Makes self.old (record_stores entry.now) self.new }
     {
         let t = entry.slot;
         let (high, low) = entry.rec.name.words();
@@ -262,6 +270,7 @@ impl Core {
         requires write { may_write self.old t ≡ true }
         requires word { k < 5 }
         ensures after { self.new ≡ after_row_store self.old t k v }
+        ensures made { Makes self.old (StoreSlot t k v ∷ []) self.new }
         ensures write { may_write self.new t ≡ true }
     {
         self.make(Event::StoreSlot(t, k, v));
@@ -270,7 +279,8 @@ impl Core {
     /// Stores the slot's count words of all CPUs.
     fn store_counts(&mut self, t: u8)
         requires { may_write self.old t ≡ true }
-        ensures { self.new ≡ record self.old { counts = slice_set self.old.counts t (with_biases self.old.settings.cpus (slice_index_or self.old.counts t [])) } }
+        ensures after { self.new ≡ record self.old { counts = slice_set self.old.counts t (with_biases self.old.settings.cpus (slice_index_or self.old.counts t [])) } }
+        ensures made { Makes self.old (count_stores_from t 0 self.old.settings.cpus) self.new }
     {
         let cpus = self.settings.cpus;
         for c in 0..cpus {
@@ -291,12 +301,12 @@ impl Core {
     }
 }
 
-fn plain_place(slots: &[Slot], keeps: &[Option<u64>]) -> Option<usize>
-    ensures value { result ≡ position is_plain (zip slots.now keeps.now) }
+fn first_fit_place(slots: &[Slot], keeps: &[Option<u64>]) -> Option<usize>
+    ensures value { result ≡ position is_available (zip slots.now keeps.now) }
     ensures within { IfSome result (λ t. t < length slots.now) }
 {
     slots
         .iter()
         .zip(keeps)
-        .position(|(slot, kept)| is_plain(slot, *kept))
+        .position(|(slot, kept)| is_available(slot, *kept))
 }

@@ -90,6 +90,6 @@ loop-link-preserved c =
     record {
       table = c.load_link-link.ensures.table ∙ c.visit-number.ensures.table ∙ c.loop-link.invariant.table;
       cpu = follow_id key x w m n at ∙ c.requires.cpu.1;
-      deeds = c.load_link-link.ensures.deeds ∙ c.visit-number.ensures.deeds ∙ c.loop-link.invariant.deeds;
+      known_log = c.load_link-link.ensures.known_log ∙ c.visit-number.ensures.known_log ∙ c.loop-link.invariant.known_log;
       at = at;
     }

@@ -7,7 +7,7 @@ abbrev pub invariant-loop-link : goal.invariant-loop-link
 invariant-loop-link l = record {
   table : l.seat.table ≡ l.fn.seat.table;
   cpu : l.seat.view.id ≡ l.cpu;
-  deeds : l.seat.deeds ≡ l.fn.seat.deeds;
+  known_log : l.seat.known_log ≡ l.fn.seat.known_log;
   at : IsAtLink (key_with l.kind l.name) l.fn.seat.view l.link l.last l.seat.view;
 }
 

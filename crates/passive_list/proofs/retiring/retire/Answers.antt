@@ -7,22 +7,22 @@ use Rattle.cpu_words.specs.declared.view.KeeperView.{KeeperView}
 use Rattle.cpu_words.specs.declared.view.View.TheVariants.{Keeper}
 use Rattle.cpu_words.specs.Steps.{Makes}
 use Rattle.cpu_words.proofs.shown.KeepersShown.{step_is_shown}
-use Rattle.passive_list.specs.Keepers.{OnKeeper, row_at, state_of, states_of}
+use Rattle.passive_list.specs.Keepers.{OnKeeper, OnPlainKeeper, row_at, state_of, states_of}
 use Rattle.passive_list.specs.Retiring.{AreSnapshots, HasDetached}
 use Rattle.passive_list.proofs.Rows.{state_at, live_in}
 use Rattle.passive_list.proofs.Detached.{before_in, leads_in, may_unpublish, unpublished_is, detached_is, detached_keeper, row_retired}
 use Rattle.passive_list.proofs.retiring.retire.Goals as goal
 
 pub unpublish-requires-clause-may : goal.unpublish-requires-clause-may
-unpublish-requires-clause-may g c =
+unpublish-requires-clause-may c =
     let inside = c.keeper.inside in
-    may_unpublish g.D.Domain.settings inside.seat.view inside.rows c.args.slot c.in-Live.entry c.slot_above-before.result c.link_below-link.result c.keeper.invariant.view c.keeper.invariant.rows c.in-Live.is c.slot_above-before.ensures.before c.link_below-link.ensures
+    may_unpublish inside.settings inside.seat.view inside.rows c.args.slot c.in-Live.entry c.slot_above-before.result c.link_below-link.result c.keeper.invariant.view c.keeper.invariant.rows c.in-Live.is c.slot_above-before.ensures.before c.link_below-link.ensures
 
 pub snapshots-marks-requires-clause-is_shown : goal.snapshots-marks-requires-clause-is_shown
-snapshots-marks-requires-clause-is_shown g c = step_is_shown (Unpublish c.args.slot) Done c.keeper.inside.seat.view c.unpublish.new.keeper.view c.unpublish.ensures.event
+snapshots-marks-requires-clause-is_shown c = step_is_shown (Unpublish c.args.slot) Done c.keeper.inside.seat.view c.unpublish.new.keeper.view c.unpublish.ensures.event
 
 pub invariant_of-keeper : goal.invariant_of-keeper
-invariant_of-keeper g c =
+invariant_of-keeper c =
     let inside = c.keeper.inside in
     let k = inside.seat.view in
     let t = c.args.slot in
@@ -30,15 +30,15 @@ invariant_of-keeper g c =
     let p = c.slot_above-before.result in
     let v = c.link_below-link.result in
     let our = c.keeper.invariant in
-    let live = live_in g.D.Domain.settings k inside.rows t e our.rows (state_at inside.rows t ∙ c.in-Live.is) in
+    let live = live_in inside.settings k inside.rows t e our.rows (state_at inside.rows t ∙ c.in-Live.is) in
     let is = detached_is k c.unpublish.new.keeper.view c.snapshots-marks.new.seat.view t e p v c.snapshots-marks.result live.1 c.unpublish.ensures.change c.snapshots-marks.ensures.view in
-    detached_keeper g.D.Domain.table g.D.Domain.settings inside.seat.table c.snapshots-marks.new.seat.table k c.snapshots-marks.new.seat.view inside.settings inside.rows inside.changes t e p v c.snapshots-marks.result our c.in-Live.is
-    c.snapshots-marks.ensures.marks.size (c.snapshots-marks.ensures.table ∙ c.unpublish.ensures.table) is c.snapshots-marks.ensures.is_shown
+    detached_keeper inside.settings k c.snapshots-marks.new.seat.view inside.rows inside.changes t e p v c.snapshots-marks.result our c.in-Live.is
+    c.snapshots-marks.ensures.marks.size is c.snapshots-marks.ensures.is_shown
 
 pub returns-clause-change : goal.returns-clause-change
-returns-clause-change g c =
+returns-clause-change c =
     let inside = c.keeper.inside in
-    let a = g.D.Domain.settings in
+    let a = inside.settings in
     let k = inside.seat.view in
     let t = c.args.slot in
     let e = c.in-Live.entry in
@@ -48,14 +48,14 @@ returns-clause-change g c =
     let our = c.keeper.invariant in
     let live = live_in a k inside.rows t e our.rows (state_at inside.rows t ∙ c.in-Live.is) in
     let b : OnKeeper = record { view = c.snapshots-marks.new.seat.view; slots = states_of (set inside.rows t (row_retired (row_at inside.rows t) e marks)); log = c.snapshots-marks.new.seat.log } in
-    subst (λ (x : OnKeeper). HasDetached x t e b) c.keeper.view_is record {
+    subst (λ (x : OnPlainKeeper). HasDetached x.keeper t e b) c.keeper.view_is record {
       before = p;
       is_before = before_in a k inside.rows e.number p our.view our.rows c.slot_above-before.ensures.before;
       link = v;
       leads = leads_in a k inside.rows e.number v our.view our.rows c.link_below-link.ensures;
       made = subst (λ (x : KeeperView). Makes (Unpublish t) Done (Keeper k) (Keeper x)) (unpublished_is k c.unpublish.new.keeper.view t e p v live.1 c.unpublish.ensures.change) c.unpublish.ensures.event;
       marks = marks;
-      snapshots = subst (λ (z : Settings). AreSnapshots z.cpus marks) (our.settings ∙ sym our.view.settings) c.snapshots-marks.ensures.marks;
+      snapshots = subst (λ (z : Settings). AreSnapshots z.cpus marks) (sym our.view.settings) c.snapshots-marks.ensures.marks;
       view = detached_is k c.unpublish.new.keeper.view c.snapshots-marks.new.seat.view t e p v marks live.1 c.unpublish.ensures.change c.snapshots-marks.ensures.view;
       slots = map-set state_of inside.rows t (row_retired (row_at inside.rows t) e marks);
     }

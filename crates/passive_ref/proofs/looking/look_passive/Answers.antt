@@ -1,22 +1,22 @@
 -- A look at a passive word makes `mark_after_passive_look` of the CPU's mark.
-use Rattle.std.proofs.Common.{◌∙◌, ap}
+use Rattle.std.proofs.Common.{◌∙◌, ◌<◌, ap, subst, sym}
 use Rattle.registry_values.specs.declared.mark.Mark.{Mark}
 use Rattle.registry_values.specs.Slots.{slot_at}
 use Rattle.registry_values.specs.Marks.{mark_after_passive_look}
-use Rattle.passive_list.specs.Keepers.{OnKeeper}
+use Rattle.passive_list.specs.Keepers.{OnPlainKeeper}
 use Rattle.passive_list.proofs.Marks.{looked_keeper, looked_mark, looked_states}
 use Rattle.passive_ref.proofs.looking.look_passive.Goals as goal
 
 pub invariant_of-keeper : goal.invariant_of-keeper
-invariant_of-keeper g c =
-    let retired = ap (λ (x : OnKeeper). slot_at x.slots c.args.slot) c.keeper.view_is ∙ c.requires.retired.1 in
-    looked_keeper _ _ _ _ _ _ _ _ _ _ _ _ _ (λ m. mark_after_passive_look m c.passive_look-word.result) _ _ c.keeper.invariant retired c.passive_look-word.ensures.table c.cleared-mark.ensures c.passive_look-word.ensures.change c.passive_look-word.ensures.event
+invariant_of-keeper c =
+    let retired = ap (λ (x : OnPlainKeeper). slot_at x.keeper.slots c.args.slot) c.keeper.view_is ∙ c.requires.retired.1 in
+    looked_keeper _ _ _ _ _ _ _ _ _ (λ m. mark_after_passive_look m c.passive_look-word.result) _ _ c.keeper.invariant retired c.cleared-mark.ensures c.passive_look-word.ensures.change c.passive_look-word.ensures.event
 
 pub returns-clause-clear : goal.returns-clause-clear
-returns-clause-clear g c =
-    let retired = ap (λ (x : OnKeeper). slot_at x.slots c.args.slot) c.keeper.view_is ∙ c.requires.retired.1 in
+returns-clause-clear c =
+    let retired = ap (λ (x : OnPlainKeeper). slot_at x.keeper.slots c.args.slot) c.keeper.view_is ∙ c.requires.retired.1 in
     let our = c.keeper.invariant in
-    ap (λ (m : Mark). m.clear) (looked_mark _ _ _ _ _ _ _ _ (λ m. mark_after_passive_look m c.passive_look-word.result) _ _ our.view our.rows retired c.requires.cpu c.cleared-mark.ensures c.passive_look-word.ensures.change)
+    ap (λ (m : Mark). m.clear) (looked_mark _ _ _ _ _ _ _ _ (λ m. mark_after_passive_look m c.passive_look-word.result) _ _ our.view our.rows retired (subst (λ (x : OnPlainKeeper). c.args.cpu < x.words.settings.cpus) (sym c.keeper.view_is) c.requires.cpu) c.cleared-mark.ensures c.passive_look-word.ensures.change)
 
 pub returns-clause-slots : goal.returns-clause-slots
-returns-clause-slots g c = looked_states c.keeper.inside.rows c.args.slot c.args.cpu c.cleared-mark.result ∙ ap (λ (x : OnKeeper). x.slots) c.keeper.view_is
+returns-clause-slots c = looked_states c.keeper.inside.rows c.args.slot c.args.cpu c.cleared-mark.result ∙ ap (λ (x : OnPlainKeeper). x.keeper.slots) c.keeper.view_is

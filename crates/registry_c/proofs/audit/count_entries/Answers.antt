@@ -5,11 +5,11 @@ use Rattle.registry_c.proofs.Audited.{occupied_few, occupied_next, one_at_most}
 use Rattle.registry_c.proofs.audit.count_entries.Goals as goal
 
 pub overflow_add-count : goal.overflow_add-count
-overflow_add-count g c =
-    let k = c.args.keeper.now in
+overflow_add-count c =
+    let k = c.args.keeper.now.keeper in
     omega (arith, c.loop-t.invariant, c.entries_in-count.ensures, occupied_few k c.loop-t.t, one_at_most c.slot.result)
 
 pub loop-t-preserved : goal.loop-t-preserved
-loop-t-preserved g c =
-    let k = c.args.keeper.now in
+loop-t-preserved c =
+    let k = c.args.keeper.now.keeper in
     (λ i. c.loop-t.invariant i + (c.entries_in-count.ensures ∙ ap entries_in c.slot.ensures) i) ∙ sym (occupied_next k c.loop-t.t)

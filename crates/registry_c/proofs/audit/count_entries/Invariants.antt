@@ -4,4 +4,4 @@ use Rattle.registry_c.proofs.audit.count_entries.Given as goal
 
 -- the entries of the slots so far are counted
 abbrev pub invariant-loop-t : goal.invariant-loop-t
-invariant-loop-t g l = l.count ≡ occupied l.keeper l.t
+invariant-loop-t l = l.count ≡ occupied l.keeper.keeper l.t

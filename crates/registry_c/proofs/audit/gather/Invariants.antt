@@ -10,9 +10,10 @@ use Rattle.registry_c.proofs.audit.gather.Given as goal
 
 -- the CPUs so far have heard
 abbrev pub invariant-loop-c : goal.invariant-loop-c
-invariant-loop-c g l = record {
-  keeper : l.keeper ≡ record l.fn.keeper { log = l.fn.keeper.log ++ did (Tell None) Done };
-  table : l.note.table ≡ g.D.Domain.table;
-  gathered : Gathered (cpus_in (bodies_of l.fn.cpus)) (cpus_in (bodies_of l.cpus)) l.c l.keeper.log l.note.deeds;
+invariant-loop-c l = record {
+  words : l.keeper.words ≡ l.fn.keeper.words;
+  keeper : l.keeper.keeper ≡ record l.fn.keeper.keeper { log = l.fn.keeper.keeper.log ++ did (Tell None) Done };
+  table : l.note.table ≡ l.fn.keeper.words.table;
+  gathered : Gathered (cpus_in (bodies_of l.fn.cpus)) (cpus_in (bodies_of l.cpus)) l.c l.keeper.keeper.log l.note.known_log;
   same : SameBehind (bodies_of l.fn.cpus) (bodies_of l.cpus);
 }

@@ -5,4 +5,4 @@ use Rattle.registry_c.proofs.audit.write_balances.Given as goal
 
 -- the balances of the slots so far are written
 abbrev pub invariant-loop-t : goal.invariant-loop-t
-invariant-loop-t g l = (bodies_of l.cpus ≡ bodies_of l.fn.cpus) × AreTold g.D.Domain.settings l.keeper (bodies_of l.fn.cpus) l.t l.at l.fn.list l.list
+invariant-loop-t l = (bodies_of l.cpus ≡ bodies_of l.fn.cpus) × AreTold l.fn.keeper.words.settings l.keeper.keeper (bodies_of l.fn.cpus) l.t l.at l.fn.list l.list

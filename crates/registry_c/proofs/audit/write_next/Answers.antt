@@ -4,14 +4,14 @@ use Rattle.protocol.specs.Invariant.{IsIn}
 use Rattle.registry_c.proofs.audit.write_next.Goals as goal
 
 pub offset_bounds-list-at : goal.offset_bounds-list-at
-offset_bounds-list-at g c =
+offset_bounds-list-at c =
     let lt : c.args.at < length c.args.list.now = c.requires.room c.in-Live.entry (subst (IsIn c.in-Live.entry) c.slot.ensures c.in-Live.is) in
     search rules
 
 pub bounds-list-at : goal.bounds-list-at
-bounds-list-at g c = c.requires.room c.in-Live.entry (subst (IsIn c.in-Live.entry) c.slot.ensures c.in-Live.is)
+bounds-list-at c = c.requires.room c.in-Live.entry (subst (IsIn c.in-Live.entry) c.slot.ensures c.in-Live.is)
 
 pub overflow_add-result : goal.overflow_add-result
-overflow_add-result g c =
+overflow_add-result c =
     let lt : c.args.at < length c.args.list.now = c.requires.room c.in-Live.entry (subst (IsIn c.in-Live.entry) c.slot.ensures c.in-Live.is) in
     search rules

@@ -1,4 +1,4 @@
-use Rattle.std.proofs.Common.{Ok, Err, Some, refl, subst, ◌∙◌}
+use Rattle.std.proofs.Common.{Ok, Err, refl, subst, ◌∙◌}
 use Rattle.passive_list.specs.Cpus.{OnPlainCpu}
 use Rattle.registry_c.specs.LocalCalls.{LocalAcquires}
 use Rattle.registry_c.proofs.Acquired.{no_body, not_refused, one_body, refused_too}

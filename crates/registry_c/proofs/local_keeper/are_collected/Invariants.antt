@@ -4,4 +4,4 @@ use Rattle.registry_c.proofs.local_keeper.are_collected.Given as goal
 
 -- of the CPUs so far none was collected
 abbrev pub invariant-loop-cpu : goal.invariant-loop-cpu
-invariant-loop-cpu g l = some_collected l.keeper l.slot l.cpu ≡ false
+invariant-loop-cpu l = some_collected l.keeper.keeper l.slot l.cpu ≡ false

@@ -1,5 +1,5 @@
 -- An attach under a lawful name.
-use Rattle.std.proofs.Common.{None, Some, Ok, Err, refl, sym, subst, ◌∙◌}
+use Rattle.std.proofs.Common.{None, Some, Ok, Err, refl, sym, ap, subst, ◌∙◌}
 use Rattle.std.specs.Prelude.{Result}
 use Rattle.registry_values.specs.declared.entry.Entry.{Entry}
 use Rattle.registry_values.specs.declared.entry.Kind.TheVariants.{Iface}
@@ -8,37 +8,38 @@ use Rattle.registry_values.specs.declared.refusal.Refusal.{Refusal}
 use Rattle.registry_c.specs.Bodies.{OnLocalBody}
 use Rattle.registry_c.specs.KeeperCalls.{AttachesIface, record_of}
 use Rattle.registry_c.specs.LocalCalls.{WritesIface}
+use Rattle.registry_c.specs.Places.{put}
 use Rattle.registry_c.proofs.Named.{no_name, one_name}
 use Rattle.registry_c.proofs.local_keeper.attach_iface.Goals as goal
 
-pub returns-in-Ok : goal.returns-in-Ok
-returns-in-Ok c =
-    let k = c.args.keeper in
-    let x = c.args.cpu in
+pub returns-in-Ok-clause-call : goal.returns-in-Ok-clause-call
+returns-in-Ok-clause-call c =
+    let k = c.args.keeper.now in
+    let x = c.args.cpu.now in
     let v = c.args.local in
-    let l = c.attach_iface_bodies-keeper.result.0 in
-    let y = c.attach_iface_bodies-keeper.result.1 in
-    let e = c.attach_iface_bodies-keeper.ensures in
+    let l = c.attach_iface.new.self in
+    let y = c.attach_iface.new.cpu in
+    let e = c.attach_iface.ensures in
     let named = sym c.from_words.ensures ∙ c.in-Some.is in
-    let made : AttachesIface (record_of Iface c.in-Some.name c.args.value) v k x l y c.attach_iface_bodies-keeper.result.2 = record { answer = e.answer; ok = e.ok; refused = e.refused; words = e.words } in
+    let made : AttachesIface (record_of Iface c.in-Some.name c.args.value) v k x l y c.attach_iface.result = record { answer = e.answer; ok = e.ok; refused = e.refused; words = e.words } in
     record {
       bad = λ none. absurd (no_name _ _ named none);
-      good = λ m is. subst (λ (n : Name). (r : Result Entry (Refusal × OnLocalBody)) × AttachesIface (record_of Iface n c.args.value) v k x l y r × WritesIface r 0 None c.args.made.now c.entry_out.result) (one_name _ _ _ named is)
-          (Ok c.in-Ok.entry, subst (λ (r : Result Entry (Refusal × OnLocalBody)). AttachesIface (record_of Iface c.in-Some.name c.args.value) v k x l y r) c.in-Ok.is made, (refl, refl, c.entry_out.ensures));
+      good = λ m is. subst (λ (n : Name). (r : Result Entry (Refusal × OnLocalBody)) × AttachesIface (record_of Iface n c.args.value) v k x l y r × WritesIface r 0 None c.args.made.now.value c.put.new.self.value) (one_name _ _ _ named is)
+          (Ok c.in-Ok.entry, subst (λ (r : Result Entry (Refusal × OnLocalBody)). AttachesIface (record_of Iface c.in-Some.name c.args.value) v k x l y r) c.in-Ok.is made, (refl, refl, c.put.ensures.value ∙ ap (put c.args.made.now.value) c.entry_out.ensures));
     }
 
-pub returns-in-Err : goal.returns-in-Err
-returns-in-Err c =
-    let k = c.args.keeper in
-    let x = c.args.cpu in
+pub returns-in-Err-clause-call : goal.returns-in-Err-clause-call
+returns-in-Err-clause-call c =
+    let k = c.args.keeper.now in
+    let x = c.args.cpu.now in
     let v = c.args.local in
-    let l = c.attach_iface_bodies-keeper.result.0 in
-    let y = c.attach_iface_bodies-keeper.result.1 in
-    let e = c.attach_iface_bodies-keeper.ensures in
+    let l = c.attach_iface.new.self in
+    let y = c.attach_iface.new.cpu in
+    let e = c.attach_iface.ensures in
     let named = sym c.from_words.ensures ∙ c.in-Some.is in
-    let made : AttachesIface (record_of Iface c.in-Some.name c.args.value) v k x l y c.attach_iface_bodies-keeper.result.2 = record { answer = e.answer; ok = e.ok; refused = e.refused; words = e.words } in
+    let made : AttachesIface (record_of Iface c.in-Some.name c.args.value) v k x l y c.attach_iface.result = record { answer = e.answer; ok = e.ok; refused = e.refused; words = e.words } in
     record {
       bad = λ none. absurd (no_name _ _ named none);
-      good = λ m is. subst (λ (n : Name). (r : Result Entry (Refusal × OnLocalBody)) × AttachesIface (record_of Iface n c.args.value) v k x l y r × WritesIface r c.refused.result (Some c.in-Err.local) c.args.made.now c.args.made.now) (one_name _ _ _ named is)
+      good = λ m is. subst (λ (n : Name). (r : Result Entry (Refusal × OnLocalBody)) × AttachesIface (record_of Iface n c.args.value) v k x l y r × WritesIface r c.refused.result (Some c.in-Err.local) c.args.made.now.value c.args.made.now.value) (one_name _ _ _ named is)
           (Err (c.in-Err.refusal, c.in-Err.local), subst (λ (r : Result Entry (Refusal × OnLocalBody)). AttachesIface (record_of Iface c.in-Some.name c.args.value) v k x l y r) c.in-Err.is made, (c.refused.ensures, refl, refl));
     }

@@ -5,9 +5,9 @@ use Rattle.registry_c.proofs.opening.cpus_of.Given as goal
 
 -- the seats of the first CPUs are left, and the others have their CPUs
 abbrev pub invariant-loop-seat : goal.invariant-loop-seat
-invariant-loop-seat g l =
-    let n = g.D.Domain.settings.cpus in
-    AreLeft g.D.Domain.table g.D.Domain.settings l.seats.items × (boxed l.cpus.items ≡ opened_down l.words.value n (n - length l.seats.items))
+invariant-loop-seat l =
+    let n = l.words.value.settings.cpus in
+    AreLeft l.words.value.table l.words.value.settings l.seats.items × (boxed l.cpus.items ≡ opened_down l.words.value n (n - length l.seats.items))
 
 abbrev pub decreases-loop-seat : goal.decreases-loop-seat
-decreases-loop-seat g l = length l.seats.items
+decreases-loop-seat l = length l.seats.items

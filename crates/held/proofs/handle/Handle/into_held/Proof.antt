@@ -30,7 +30,11 @@ use Rattle.std_heap.specs.contracts.Global as heap
 use Rattle.std_heap.proofs.Global.TheLaws as heap_laws
 use Rattle.std_heap.specs.contracts.GlobalAllocator.TheImpl.{ghosts}
 use Rattle.held.proofs.Values.{both, Held, held_good, held_in}
-use Rattle.held.proofs.Holding.{either}
+use mir.Raw.{raw as bare}
+use base.Fraction.{full_share}
+use denote.Memory.{lone}
+use Rattle.held.specs.Handles.{token}
+use Rattle.held.proofs.Holding.{either, token_tests}
 use Rattle.held.specs.contracts.handle.Handle as handle
 use Rattle.held.specs.contracts.handle.Handle.into_held as f
 use Rattle.held.proofs.handle.Handle.into_held.Statement.{statement}
@@ -47,7 +51,7 @@ into_held_spec 𝓤 𝓛 𝓜 𝓡 wired T L =
     let toks = ‵ (flft κs.0 qs.0) ⊛ ‵ ftrue in let Out : RattleType = type_at En.signature.result κs in
     qed 𝓛 ((toks ⊛ ‵ (owns (types_at En.signature.params κs) z.0.3 z.0.4)) ∷ raw ((c κs z.0.3).requires z.1) ∷ []) ∵ split ! $ keep ! (1 ∷ 0 ∷ []) $ fsplit ! $ fsplit ! $ fpick ! (λ vss. fsplit ! $ feq_l ! (λ ev. fsplit ! $ feq_l ! (λ ep. drop ! $
     let spelled : z.0.4.0 ≡ vstruct (of_list (ptr_val v.at ∷ [])) ∷ [] = subst (λ (ps : List Val). z.0.4.0 ≡ vstruct (of_list (ps ++ [])) ∷ []) ep ev in
-    either R ! v.at v.body
+    either (token (bare (lone R.mir))) (token_tests R) R full_share ! v.at v.body
     (λ is_none is_null.
     fsplit ! $ handle_tells al ! a z.0.4.1.0 (λ h ea fits.
     let w : Val = vstruct (vcons (ptr_val null_ptr) vnil) in let ws : z.0.4.0 ≡ w ∷ [] = subst (λ (p : Ptr). z.0.4.0 ≡ vstruct (of_list (ptr_val p ∷ [])) ∷ []) is_null spelled in

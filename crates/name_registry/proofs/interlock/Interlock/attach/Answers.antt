@@ -1,24 +1,38 @@
-use Rattle.std.proofs.Common.{Ok}
+use Rattle.std.proofs.Common.{◌≡◌, ◌≤◌, Ok, subst}
 use Rattle.registry_values.specs.declared.entry.Change.TheVariants.{Attach}
+use Rattle.registry_values.specs.declared.settings.Settings.{Settings}
+use Rattle.passive_list.specs.Cpus.{OnCpu}
+use Rattle.passive_list.proofs.Rows.{settings_are}
+use Rattle.name_registry.specs.Attaching.{HasAttachedFor, attach_answer}
 use Rattle.name_registry.proofs.Counted.{attach_counted, attach_numbered, few_changes, one_made}
 use Rattle.name_registry.proofs.Owned.{attach_may, attach_owned}
+use Rattle.name_registry.proofs.Sharing.{attached, sharing}
 use Rattle.name_registry.proofs.interlock.Interlock.attach.Goals as goal
 
 pub returns-clause-may : goal.returns-clause-may
-returns-clause-may g c = attach_may g.D.Domain.settings c.args.self.now.keeper c.args.cpu.now c.args.rec (Ok c.in_ok-entry.entry) c.in_ok-entry.ensures.answer
+returns-clause-may g c =
+    let k = c.args.self.now.keeper in
+    let e = c.in_ok-entry.entry in
+    attach_may k.words.settings k.keeper c.args.cpu.now c.args.rec (Ok e) (subst (λ (x : OnCpu). Ok e ≡ attach_answer k.words.settings k.keeper x c.args.rec) c.cpu.view_is c.in_ok-entry.ensures.answer)
 
 pub returns-clause-ok : goal.returns-clause-ok
 returns-clause-ok g c =
-    let x = c.args.cpu.now in
+    let k = c.args.self.now.keeper in
+    let b = c.attach_in.new.keeper.keeper in
     let e = c.in_ok-entry.entry in
-    let owned = attach_owned g.D.Domain.settings c.args.self.now.keeper c.attach_in.new.keeper x c.attach_in.new.cpu c.args.rec (Ok e) c.in_ok-entry.ensures.answer c.in_ok-entry.ensures.ok in
-    let counted = attach_counted x c.attach_in.new.cpu c.count_attach.new.cpu e _ c.count_attach.ensures.cpu (owned.1, owned.2) in (owned.0, counted.0, counted.1)
+    let y = sharing c.cpu.inside.share.amount c.attach_in.new.cpu.cpu in
+    let is = subst (λ (x : OnCpu). Ok e ≡ attach_answer k.words.settings k.keeper x c.args.rec) c.cpu.view_is c.in_ok-entry.ensures.answer in
+    let has = subst (λ (x : OnCpu). HasAttachedFor k.keeper x e b y) c.cpu.view_is (attached c.cpu.inside.share.amount _ _ _ _ _ c.in_ok-entry.ensures.ok) in
+    let owned = attach_owned k.words.settings k.keeper b c.args.cpu.now y c.args.rec (Ok e) is has in
+    let counted = attach_counted c.args.cpu.now y c.count_attach.new.cpu e _ c.count_attach.ensures.cpu (owned.1, owned.2) in (owned.0, counted.0, counted.1)
 
 pub returns-clause-made : goal.returns-clause-made
 returns-clause-made g c =
-    let z = g.D.Domain.settings in
     let k = c.args.self.now.keeper in
-    let x = c.args.cpu.now in
+    let b = c.attach_in.new.keeper.keeper in
     let e = c.in_ok-entry.entry in
-    let few = few_changes _ _ _ _ _ _ _ c.keeper.invariant in
-    one_made _ x c.attach_in.new.cpu c.count_attach.new.cpu (Attach e) (attach_numbered z k x c.args.rec e few.0 c.in_ok-entry.ensures.answer) c.in_ok-entry.ensures.ok.cpu c.count_attach.ensures.cpu
+    let y = sharing c.cpu.inside.share.amount c.attach_in.new.cpu.cpu in
+    let is = subst (λ (x : OnCpu). Ok e ≡ attach_answer k.words.settings k.keeper x c.args.rec) c.cpu.view_is c.in_ok-entry.ensures.answer in
+    let has = subst (λ (x : OnCpu). HasAttachedFor k.keeper x e b y) c.cpu.view_is (attached c.cpu.inside.share.amount _ _ _ _ _ c.in_ok-entry.ensures.ok) in
+    let few = subst (λ (z : Settings). z.change_limit ≤ 1000000) (settings_are c.keeper.view_is) (few_changes _ _ _ _ c.keeper.invariant).0 in
+    one_made _ c.args.cpu.now y c.count_attach.new.cpu (Attach e) (attach_numbered k.words.settings k.keeper c.args.cpu.now c.args.rec e few is) has.cpu c.count_attach.ensures.cpu

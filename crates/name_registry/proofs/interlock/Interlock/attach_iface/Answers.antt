@@ -1,31 +1,60 @@
-use Rattle.std.proofs.Common.{Ok, sym, subst}
-use Rattle.cpu_words.specs.Deeds.{IsAttachedKeeping}
-use Rattle.passive_list.specs.Cpus.{OnCpu}
+use Rattle.std.proofs.Common.{◌≡◌, ◌≤◌, Ok, Err, ap, sym, subst}
 use Rattle.registry_values.specs.declared.entry.Change.TheVariants.{Attach}
+use Rattle.registry_values.specs.declared.settings.Settings.{Settings}
+use Rattle.cpu_words.specs.KeeperLog.{IsAttachedKeeping}
+use Rattle.cpu_words.specs.declared.view.ReferenceView.{ReferenceView}
+use Rattle.passive_list.specs.Cpus.{OnCpu, OnPlainCpu}
+use Rattle.local_count.specs.References.{OnPlainRef}
+use Rattle.passive_list.proofs.Rows.{keeper_is, settings_are}
+use Rattle.registry_values.specs.Slots.{is_iface}
+use Rattle.name_registry.specs.Attaching.{HasAttachedIfaceFor, attach_iface_answer}
+use Rattle.name_registry.specs.Locking.{IsAttachRefusal}
+use Rattle.name_registry.specs.Meeting.{is_inside}
 use Rattle.name_registry.proofs.Counted.{attach_counted, iface_numbered, few_changes, one_made}
-use Rattle.name_registry.proofs.Owned.{iface_may, iface_owned}
+use Rattle.name_registry.proofs.Owned.{iface_may, iface_owned, iface_refused}
+use Rattle.name_registry.proofs.Sharing.{iface_attached, sharing}
 use Rattle.name_registry.proofs.interlock.Interlock.attach_iface.Goals as goal
 
-pub returns-clause-may : goal.returns-clause-may
-returns-clause-may g c = iface_may g.D.Domain.settings c.args.self.now.keeper c.args.cpu.now c.args.rec c.args.reference (Ok c.in_ok-entry.entry) c.in_ok-entry.ensures.answer
-
-pub returns-clause-ok : goal.returns-clause-ok
-returns-clause-ok g c =
-    let x = c.args.cpu.now in
-    let e = c.in_ok-entry.entry in
-    let owned = iface_owned g.D.Domain.settings c.args.self.now.keeper c.attach_iface_in.new.keeper x c.attach_iface_in.new.cpu c.args.rec c.args.reference (Ok e) c.in_ok-entry.ensures.answer c.in_ok-entry.ensures.ok in
-    let counted = attach_counted x c.attach_iface_in.new.cpu c.count_attach.new.cpu e _ c.count_attach.ensures.cpu (owned.1, owned.2) in (owned.0, counted.0, counted.1)
-
-pub returns-clause-made : goal.returns-clause-made
-returns-clause-made g c =
-    let z = g.D.Domain.settings in
+pub returns-in-Ok-clause-may : goal.returns-in-Ok-clause-may
+returns-in-Ok-clause-may g c =
     let k = c.args.self.now.keeper in
-    let x = c.args.cpu.now in
-    let e = c.in_ok-entry.entry in
-    let few = few_changes _ _ _ _ _ _ _ c.keeper.invariant in
-    one_made _ x c.attach_iface_in.new.cpu c.count_attach.new.cpu (Attach e) (iface_numbered z k x c.args.rec c.args.reference e few.0 c.in_ok-entry.ensures.answer) c.in_ok-entry.ensures.ok.cpu c.count_attach.ensures.cpu
+    let e = c.in-Ok.entry in
+    iface_may k.words.settings k.keeper c.args.cpu.now c.args.rec c.args.reference (Ok e) (subst (λ (p : OnCpu × ReferenceView). attach_iface_answer k.words.settings k.keeper p.0 c.args.rec p.1 ≡ Ok e) (λ i. (c.cpu.view_is i, c.reference.view_is i)) c.in-Ok.ensures.answer)
 
-pub returns-clause-keeping : goal.returns-clause-keeping
-returns-clause-keeping g c =
-    let e = c.in_ok-entry.entry in
-    subst (λ (y : OnCpu). IsAttachedKeeping e.slot e.number c.args.reference.entry.number y.deeds) (sym c.count_attach.ensures.cpu) c.in_ok-entry.ensures.ok.keeping
+pub returns-in-Ok-clause-ok : goal.returns-in-Ok-clause-ok
+returns-in-Ok-clause-ok g c =
+    let k = c.args.self.now.keeper in
+    let b = c.attach_iface_in.new.keeper.keeper in
+    let e = c.in-Ok.entry in
+    let y = sharing c.cpu.inside.share.amount c.attach_iface_in.new.cpu.cpu in
+    let is = subst (λ (p : OnCpu × ReferenceView). attach_iface_answer k.words.settings k.keeper p.0 c.args.rec p.1 ≡ Ok e) (λ i. (c.cpu.view_is i, c.reference.view_is i)) c.in-Ok.ensures.answer in
+    let has = subst (λ (p : OnCpu × ReferenceView). HasAttachedIfaceFor k.keeper p.0 p.1 e b y) (λ i. (c.cpu.view_is i, c.reference.view_is i)) (iface_attached c.cpu.inside.share.amount _ _ _ _ _ _ c.in-Ok.ensures.ok) in
+    let owned = iface_owned k.words.settings k.keeper b c.args.cpu.now y c.args.rec c.args.reference (Ok e) is has in
+    let counted = attach_counted c.args.cpu.now y c.count_attach.new.cpu e _ c.count_attach.ensures.cpu (owned.1, owned.2) in (owned.0, counted.0, counted.1)
+
+pub returns-in-Ok-clause-made : goal.returns-in-Ok-clause-made
+returns-in-Ok-clause-made g c =
+    let k = c.args.self.now.keeper in
+    let b = c.attach_iface_in.new.keeper.keeper in
+    let e = c.in-Ok.entry in
+    let y = sharing c.cpu.inside.share.amount c.attach_iface_in.new.cpu.cpu in
+    let is = subst (λ (p : OnCpu × ReferenceView). attach_iface_answer k.words.settings k.keeper p.0 c.args.rec p.1 ≡ Ok e) (λ i. (c.cpu.view_is i, c.reference.view_is i)) c.in-Ok.ensures.answer in
+    let has = subst (λ (p : OnCpu × ReferenceView). HasAttachedIfaceFor k.keeper p.0 p.1 e b y) (λ i. (c.cpu.view_is i, c.reference.view_is i)) (iface_attached c.cpu.inside.share.amount _ _ _ _ _ _ c.in-Ok.ensures.ok) in
+    let few = subst (λ (z : Settings). z.change_limit ≤ 1000000) (settings_are c.keeper.view_is) (few_changes _ _ _ _ c.keeper.invariant).0 in
+    one_made _ c.args.cpu.now y c.count_attach.new.cpu (Attach e) (iface_numbered k.words.settings k.keeper c.args.cpu.now c.args.rec c.args.reference e few is) has.cpu c.count_attach.ensures.cpu
+
+pub returns-in-Ok-clause-keeping : goal.returns-in-Ok-clause-keeping
+returns-in-Ok-clause-keeping g c =
+    let e = c.in-Ok.entry in
+    subst (λ (p : OnCpu × ReferenceView). IsAttachedKeeping e.slot e.number p.1.entry.number p.0.known_log) (λ i. (sym c.count_attach.ensures.cpu i, c.reference.view_is i)) c.in-Ok.ensures.ok.keeping
+
+pub returns-in-Err-clause-refused : goal.returns-in-Err-clause-refused
+returns-in-Err-clause-refused g c =
+    let k = c.args.self.now.keeper in
+    let m = c.cpu.inside.share.amount in
+    let y = sharing m c.attach_iface_in.new.cpu.cpu in
+    let f = c.in-Err.refusal in
+    let back = c.in-Err.plain.reference in
+    let r = c.in-Err.ensures.refused in
+    subst (λ (p : OnCpu × ReferenceView). IsAttachRefusal (is_inside p.0) (is_iface p.1.entry.rec.kind) f × (back ≡ p.1) × (y ≡ p.0)) (λ i. (c.cpu.view_is i, c.reference.view_is i))
+    (iface_refused k.words.settings k.keeper c.attach_iface_in.new.keeper.keeper (sharing m c.cpu.inside.plain.cpu) y c.args.rec c.reference.inside.plain.reference (Err (f, back)) (r.0, ap (λ (o : OnPlainRef). o.reference) r.1, keeper_is r.2, ap (λ (o : OnPlainCpu). sharing m o.cpu) r.3))

@@ -1,9 +1,21 @@
--- Snapshots change nothing of the history.
+-- Snapshots change nothing of the history, and the CPU has the share that it had.
+use Rattle.std.proofs.Common.{subst}
+use Rattle.registry_values.specs.declared.settings.Settings.{Settings}
+use Rattle.passive_list.specs.Cpus.{OnCpu}
+use Rattle.name_registry.specs.Performing.{HasBegun}
 use Rattle.name_registry.proofs.Counted.{begun_same, still_booked}
+use Rattle.name_registry.proofs.Sharing.{begun, sharing}
 use Rattle.name_registry.proofs.performing.LockedUnderInterlock.begin.Goals as goal
 
-pub invariant_of-deref_mut : goal.invariant_of-deref_mut
-invariant_of-deref_mut g c =
+pub invariant_of-deref_mut-clause-counted : goal.invariant_of-deref_mut-clause-counted
+invariant_of-deref_mut-clause-counted g c =
     let x = c.deref_mut.result.now in
-    let same = begun_same g.D.Domain.settings x.keeper c.args.cpu.now c.begin.result.0 c.begin.result.1 c.begin.new.keeper c.begin.new.cpu c.begin.ensures in
-    record { counted = still_booked x.book.total x.keeper c.begin.new.keeper x.counted same }
+    still_booked x.book.total x.keeper.keeper c.begin.new.keeper.keeper x.counted (begun_same _ _ _ _ _ _ _ c.begin.ensures.begun)
+
+pub returns : goal.returns
+returns g c =
+    let k = c.deref_mut.result.now.keeper.keeper in
+    let b = c.begin in
+    let m = c.cpu.inside.share.amount in
+    let had = subst (λ (z : Settings). HasBegun z k c.cpu.inside.plain.cpu b.result.0 b.result.1 b.new.keeper.keeper b.new.cpu.cpu) c.deref_mut.result.now.named.1 b.ensures.begun in
+    (k, b.new.keeper.keeper, subst (λ (x : OnCpu). HasBegun g.D.Domain.settings k x b.result.0 b.result.1 b.new.keeper.keeper (sharing m b.new.cpu.cpu)) c.cpu.view_is (begun m _ _ _ _ _ _ _ had))

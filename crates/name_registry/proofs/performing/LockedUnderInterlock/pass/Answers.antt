@@ -1,8 +1,21 @@
--- Looks change nothing of the history.
+-- Looks change nothing of the history, and the CPU has the share that it had.
+use Rattle.std.proofs.Common.{subst}
+use Rattle.registry_values.specs.declared.settings.Settings.{Settings}
+use Rattle.passive_list.specs.Cpus.{OnCpu}
+use Rattle.name_registry.specs.Performing.{HasPassedAll}
 use Rattle.name_registry.proofs.Counted.{passed_same, still_booked}
+use Rattle.name_registry.proofs.Sharing.{passed, sharing}
 use Rattle.name_registry.proofs.performing.LockedUnderInterlock.pass.Goals as goal
 
-pub invariant_of-deref_mut : goal.invariant_of-deref_mut
-invariant_of-deref_mut g c =
+pub invariant_of-deref_mut-clause-counted : goal.invariant_of-deref_mut-clause-counted
+invariant_of-deref_mut-clause-counted g c =
     let x = c.deref_mut.result.now in
-    record { counted = still_booked x.book.total x.keeper c.pass_all.new.keeper x.counted (passed_same g.D.Domain.settings x.keeper c.args.cpu.now c.args.numbers.now c.pass_all.new.keeper c.pass_all.new.cpu c.pass_all.ensures) }
+    still_booked x.book.total x.keeper.keeper c.pass_all.new.keeper.keeper x.counted (passed_same _ _ _ _ _ _ c.pass_all.ensures.passed)
+
+pub returns : goal.returns
+returns g c =
+    let k = c.deref_mut.result.now.keeper.keeper in
+    let b = c.pass_all in
+    let m = c.cpu.inside.share.amount in
+    let had = subst (λ (z : Settings). HasPassedAll z k c.cpu.inside.plain.cpu c.args.numbers.now b.new.keeper.keeper b.new.cpu.cpu) c.deref_mut.result.now.named.1 b.ensures.passed in
+    (k, b.new.keeper.keeper, subst (λ (x : OnCpu). HasPassedAll g.D.Domain.settings k x c.args.numbers.now b.new.keeper.keeper (sharing m b.new.cpu.cpu)) c.cpu.view_is (passed m _ _ _ _ _ _ had))

@@ -1,7 +1,7 @@
 use Rattle.std.proofs.Common.{◌≡◌, true, sym, ap, subst, ◌∙◌, Ok}
 use Rattle.registry_values.specs.declared.slot.Slot.TheVariants.{Retired}
 use Rattle.registry_values.specs.declared.stage.Stage.{Stage}
-use Rattle.passive_core.specs.Advancing.{plain_stage, stage_in}
+use Rattle.passive_core.specs.Advancing.{first_obstacle, stage_in}
 use Rattle.passive_core.specs.Commands.{may_act}
 use Rattle.protocol.specs.Invariant.{Holds}
 use Rattle.registry_values.specs.Slots.{is_retired, slot_at}
@@ -26,8 +26,8 @@ returns-clause-answer c =
     let s = c.args.self.now in
     let e = retired_slot_tells s.slots c.args.number c.in-Some.t (sym c.in-Some.ensures.value) in
     let there : slot_at c.seat_all.new.self.slots c.in-Some.t ≡ Retired e.1.0 = ap (λ (x : State). slot_at x.slots c.in-Some.t) c.seat_all.ensures ∙ e.1.1 in
-    let stage : c.advance_slot.result ≡ plain_stage s c.in-Some.t c.args.number =
-    c.advance_slot.ensures.stage e.1.0 there ∙ (ap (λ (x : State). plain_stage x c.in-Some.t e.1.0.number) c.seat_all.ensures ∙ ap (plain_stage s c.in-Some.t) e.1.2) in
+    let stage : c.advance_slot.result ≡ first_obstacle s c.in-Some.t c.args.number =
+    c.advance_slot.ensures.stage e.1.0 there ∙ (ap (λ (x : State). first_obstacle x c.in-Some.t e.1.0.number) c.seat_all.ensures ∙ ap (first_obstacle s c.in-Some.t) e.1.2) in
     ap (λ (x : Stage). Ok x) stage ∙ ap (stage_in s c.args.number) c.in-Some.ensures.value
 
 pub returns-clause-holders : goal.returns-clause-holders

@@ -1,11 +1,15 @@
-use Rattle.std.proofs.Common.{◌≡◌, true, not, subst, sym, ap, ◌∙◌}
+use Rattle.std.proofs.Common.{◌≡◌, [], ◌∷◌, true, not, subst, sym, ap, ◌∙◌}
 use Rattle.std.proofs.lemmas.Bool.{not-false}
 use Rattle.std.specs.Prelude.{Result}
 use Rattle.registry_values.specs.declared.entry.Entry.{Entry}
 use Rattle.registry_values.specs.declared.refusal.Refusal.{Refusal}
 use Rattle.registry_values.proofs.Answers.{handed_on}
-use Rattle.passive_core.specs.Attaching.{IsAnswer, attach_iface_answer}
-use Rattle.passive_core.specs.Commands.{may_act}
+use Rattle.passive_core.specs.Attaching.{IsAnswer, attach_iface_answer, with_reference_kept}
+use Rattle.passive_core.specs.Commands.{all_seated, may_act}
+use Rattle.passive_core.specs.Making.{Makes, linking_events}
+use Rattle.passive_core.proofs.Making.{begun_makes, linking_makes, makes_more}
+use Rattle.protocol.specs.State.{State}
+use Rattle.protocol.specs.declared.event.Event.TheVariants.{Keep}
 use Rattle.protocol.specs.Invariant.{Holds}
 use Rattle.passive_core.proofs.Attaching.{PlugSteps, answer_refused, call_acts, iface_links, plug_restored, plug_words_restored}
 use Rattle.passive_core.proofs.machine.Core.attach_iface.Goals as goal
@@ -34,14 +38,14 @@ prepare-requires c =
     let s = c.args.self.now in
     let on = subst Holds c.self.view_is c.self.invariant in
     let may = iface_links s c.args.rec c.in_ok-entry.entry c.args.id on c.requires.rest (sym c.given_entry-given.ensures.value ∙ c.in_ok-entry.ensures.fit.2) (sym c.is_to_driver.ensures ∙ not-false c.is_to_driver.result c.in_ok-entry.ensures.fit.1) c.requires.iface c.requires.lawful in
-    rw (c.keep.ensures, c.begin_change.ensures.after, c.in_ok-make_room.ensures.same) may.links.writes
+    rw (c.keep.ensures.after, c.begin_change.ensures.after, c.in_ok-make_room.ensures.same) may.links.writes
 
 pub link-requires : goal.link-requires
 link-requires c =
     let s = c.args.self.now in
     let on = subst Holds c.self.view_is c.self.invariant in
     let may = iface_links s c.args.rec c.in_ok-entry.entry c.args.id on c.requires.rest (sym c.given_entry-given.ensures.value ∙ c.in_ok-entry.ensures.fit.2) (sym c.is_to_driver.ensures ∙ not-false c.is_to_driver.result c.in_ok-entry.ensures.fit.1) c.requires.iface c.requires.lawful in
-    rw (c.prepare.ensures, c.keep.ensures, c.begin_change.ensures.after, c.in_ok-make_room.ensures.same) may.links.links
+    rw (c.prepare.ensures.after, c.keep.ensures.after, c.begin_change.ensures.after, c.in_ok-make_room.ensures.same) may.links.links
 
 pub restore-requires-clause-holds : goal.restore-requires-clause-holds
 restore-requires-clause-holds c =
@@ -53,8 +57,8 @@ restore-requires-clause-holds c =
       same = c.in_ok-make_room.ensures.same;
       saved = c.words_before-before.ensures;
       seats = c.begin_change.ensures.after;
-      keeps = c.keep.ensures;
-      words = c.prepare.ensures;
+      keeps = c.keep.ensures.after;
+      words = c.prepare.ensures.after;
       stays = c.in-Err.ensures.err;
     } in
     subst Holds (sym (plug_words_restored s c.make_room.new.self c.begin_change.new.self c.keep.new.self c.prepare.new.self c.link.new.self e c.args.id c.words_before-before.result steps)) may.holds
@@ -69,8 +73,8 @@ give_back-requires-clause-holds c =
       same = c.in_ok-make_room.ensures.same;
       saved = c.words_before-before.ensures;
       seats = c.begin_change.ensures.after;
-      keeps = c.keep.ensures;
-      words = c.prepare.ensures;
+      keeps = c.keep.ensures.after;
+      words = c.prepare.ensures.after;
       stays = c.in-Err.ensures.err;
     } in
     let words = c.restore.ensures ∙ plug_words_restored s c.make_room.new.self c.begin_change.new.self c.keep.new.self c.prepare.new.self c.link.new.self e c.args.id c.words_before-before.result steps in
@@ -86,8 +90,8 @@ returns-in-Err-clause-after c =
       same = c.in_ok-make_room.ensures.same;
       saved = c.words_before-before.ensures;
       seats = c.begin_change.ensures.after;
-      keeps = c.keep.ensures;
-      words = c.prepare.ensures;
+      keeps = c.keep.ensures.after;
+      words = c.prepare.ensures.after;
       stays = c.in-Err.ensures.err;
     } in
     let words = c.restore.ensures ∙ plug_words_restored s c.make_room.new.self c.begin_change.new.self c.keep.new.self c.prepare.new.self c.link.new.self e c.args.id c.words_before-before.result steps in
@@ -96,5 +100,23 @@ returns-in-Err-clause-after c =
 pub returns-in-Ok-clause-ready : goal.returns-in-Ok-clause-ready
 returns-in-Ok-clause-ready c d may =
     let before : may_act c.make_room.new.self d ≡ true = rw c.in_ok-make_room.ensures.same may in
-    let kept : may_act c.keep.new.self d ≡ true = rw c.keep.ensures (c.begin_change.ensures.ready d before) in
-    call_acts c.keep.new.self c.prepare.new.self c.link.new.self c.end_change.new.self c.in_ok-entry.entry c.args.c d c.prepare.ensures c.in-Ok.ensures.ok c.end_change.ensures kept
+    let kept : may_act c.keep.new.self d ≡ true = rw c.keep.ensures.after (c.begin_change.ensures.ready d before) in
+    call_acts c.keep.new.self c.prepare.new.self c.link.new.self c.end_change.new.self c.in_ok-entry.entry c.args.c d c.prepare.ensures.after c.in-Ok.ensures.ok c.end_change.ensures.after kept
+
+pub returns-in-Ok-clause-made : goal.returns-in-Ok-clause-made
+returns-in-Ok-clause-made c =
+    let s = c.args.self.now in
+    let e = c.in_ok-entry.entry in
+    let on = subst Holds c.self.view_is c.self.invariant in
+    let may = iface_links s c.args.rec e c.args.id on c.requires.rest (sym c.given_entry-given.ensures.value ∙ c.in_ok-entry.ensures.fit.2) (sym c.is_to_driver.ensures ∙ not-false c.is_to_driver.result c.in_ok-entry.ensures.fit.1) c.requires.iface c.requires.lawful in
+    let u = c.begin_change.new.self in
+    let k = c.keep.new.self in
+    let n = c.end_change.new.self in
+    let seated : u ≡ all_seated s = c.begin_change.ensures.after ∙ ap all_seated c.in_ok-make_room.ensures.same in
+    let kept : k ≡ with_reference_kept (all_seated s) e.slot c.args.id = c.keep.ensures.after ∙ ap (λ (x : State). with_reference_kept x e.slot c.args.id) seated in
+    let links = linking_makes k c.prepare.new.self c.link.new.self n e c.args.c c.prepare.ensures.made (rw (c.prepare.ensures.after, kept) may.links.links) c.in-Ok.ensures.ok c.end_change.ensures.made in
+    begun_makes s c.make_room.new.self u n c.args.c (Keep e.slot c.args.id ∷ linking_events s c.args.c e) c.in_ok-make_room.ensures.same c.begin_change.ensures.made
+    (makes_more u k n (Keep e.slot c.args.id ∷ []) (linking_events s c.args.c e) c.keep.ensures.made (subst (λ (x : State). Makes k (linking_events x c.args.c e) n) kept links))
+
+pub returns-in-Err-clause-made : goal.returns-in-Err-clause-made
+returns-in-Err-clause-made c = returns-in-Err-clause-after c

@@ -3,7 +3,7 @@ use denote.Param.Send.{IsSend}
 use Rattle.held.proofs.Sent.{keyless, sent}
 use Rattle.registry_c.specs.contracts.cpu_body.CpuBody.{the_row as body}
 use Rattle.registry_c.specs.contracts.handle.CpuHandle.{the_row, the_type}
-use Rattle.registry_c.proofs.cpu_body.CpuBody.TheSendSync.{the_send}
+use Rattle.registry_c.proofs.Sent.{cpu_send}
 
 pub send : IsSend the_row
-send = sent the_type (λ h. (h.at, tt)) (λ h. keyless body the_send h.at h.body)
+send = sent the_type (λ h. (h.at, tt)) (λ h. keyless body cpu_send h.at h.body)

@@ -1,7 +1,7 @@
-use Rattle.std.specs.Prelude.{◌≡◌}
-use Rattle.registry_storm.specs.Storms.{SameSection}
+use Rattle.registry_storm.specs.Judging.{GoesOn}
+use Rattle.registry_storm.specs.Storms.{Unacquired}
 use Rattle.registry_storm.proofs.churn.Churn.destroy_all.Given as goal
 
--- the section of the CPU is as it was, and no lookup is counted
+-- the section of the CPU is as it was, no lookup is counted, and no wrong answer is taken back
 abbrev pub invariant-loop-slot : goal.invariant-loop-slot
-invariant-loop-slot g l = SameSection l.fn.cpu l.cpu × (l.counts.lookups ≡ l.fn.counts.lookups)
+invariant-loop-slot g l = Unacquired l.fn.cpu l.cpu × GoesOn l.fn.counts l.counts

@@ -1,0 +1,61 @@
+-- One noted entry after the other.
+use Rattle.std.proofs.Common.{List, ◌≡◌, length, take, refl, ap, ◌∙◌, subst, arith, take_all}
+use Rattle.std.proofs.lemmas.List.{length-map}
+use Rattle.registry_values.specs.declared.entry.Entry.{Entry}
+use Rattle.passive_list.specs.declared.walks.Noted.{Noted}
+use Rattle.passive_list.specs.Noting.{noted_of, HaveBeenFound}
+use Rattle.passive_list.proofs.FoundAgain.{none_found, searched_none, searched_on, searched_id, may_seek_again, next_found, rest_stays, few_written, size_stays}
+use Rattle.passive_list.proofs.walks.find_noted.Goals as goal
+
+abbrev no_words : Noted
+no_words = record { number = 0; kind = 0; high = 0; low = 0 }
+
+pub loop-entry-init : goal.loop-entry-init
+loop-entry-init c = record {
+  table = refl;
+  cpu = c.requires.cpu.1;
+  known_log = refl;
+  few = omega arith;
+  size = c.told-row;
+  view = searched_none c.args.seat.now.view c.requires.may;
+  found = λ es are. none_found c.args.seat.now.view c.args.seat.now.view;
+  rest = refl;
+}
+
+pub find_again-found-requires-clause-may : goal.find_again-found-requires-clause-may
+find_again-found-requires-clause-may c = may_seek_again c.args.seat.now.view c.loop-entry.seat.view c.loop-entry.invariant.view c.requires.may
+
+pub loop-entry-preserved : goal.loop-entry-preserved
+loop-entry-preserved c =
+    let x = c.args.seat.now.view in
+    let y = c.loop-entry.seat.view in
+    let w = c.find_again-found.new.seat.view in
+    let i = c.loop-entry.entry-index in
+    let n = c.loop-entry.count in
+    let old = c.loop-entry.row in
+    let new = c.write_next-count.new.row in
+    let next = c.write_next-count.result in
+    let answer = c.find_again-found.result in
+    let so_far = c.loop-entry.invariant in
+    let wrote = c.write_next-count.ensures in
+    let again = c.find_again-found.ensures in
+    record {
+      table = again.table ∙ so_far.table;
+      cpu = searched_id y w again.view ∙ so_far.cpu;
+      known_log = again.known_log ∙ so_far.known_log;
+      few = few_written old new n next i answer wrote so_far.few;
+      size = size_stays old new n next answer wrote ∙ so_far.size;
+      view = searched_on x y w so_far.view again.view;
+      found = λ es are. next_found x y w c.args.noted.now no_words old new n next i answer c.loop-entry-test.true (omega (arith, so_far.few, c.loop-entry-test.true, so_far.size, c.requires.few))
+          so_far.view again.view again.change wrote es are (so_far.found es are);
+      rest = rest_stays c.args.row.now old new n next answer wrote so_far.rest;
+    }
+
+pub returns-clause-found : goal.returns-clause-found
+returns-clause-found c = λ es are.
+    let x = c.args.seat.now.view in
+    let y = c.loop-entry.seat.view in
+    let i = c.loop-entry.entry-index in
+    let size : length c.args.noted.now ≡ length es = ap (λ (l : List Noted). length l) are.are ∙ length-map es noted_of in
+    let all : take i es ≡ es = take_all i es (omega (arith, size, c.loop-entry-test.false)) in
+    subst (λ (l : List Entry). HaveBeenFound x l (take c.loop-entry.count c.loop-entry.row) y) all (c.loop-entry.invariant.found es are)

@@ -1,0 +1,43 @@
+-- The words of a slot, one after the other.
+use Rattle.std.proofs.Common.{refl}
+use Rattle.protocol.specs.declared.state.SearchPlace.TheVariants.{AtNumber, AtKind, AtHigh, AtLow}
+use Rattle.passive_list.specs.Noting.{nobody}
+use Rattle.passive_list.proofs.Noting.{noted}
+use Rattle.passive_list.proofs.Walking.{goes_on, may_load}
+use Rattle.passive_list.proofs.walks.note.Goals as goal
+
+pub load_searched-kind-requires-clause-may : goal.load_searched-kind-requires-clause-may
+load_searched-kind-requires-clause-may c =
+    let from = c.requires.may.0 in
+    let t = c.args.slot in
+    let n = c.load_searched-number.result in
+    let at = goes_on c.args.seat.now.view c.load_searched-number.new.seat.view nobody from (AtNumber t) (AtKind t n) n n c.requires.may.1 refl c.load_searched-number.ensures.change in
+    may_load _ nobody from t 1 (AtKind t n) at (refl, refl)
+
+pub load_searched-high-requires-clause-may : goal.load_searched-high-requires-clause-may
+load_searched-high-requires-clause-may c =
+    let from = c.requires.may.0 in
+    let t = c.args.slot in
+    let n = c.load_searched-number.result in
+    let k = c.load_searched-kind.result in
+    let at1 = goes_on c.args.seat.now.view c.load_searched-number.new.seat.view nobody from (AtNumber t) (AtKind t n) n n c.requires.may.1 refl c.load_searched-number.ensures.change in
+    let at2 = goes_on c.load_searched-number.new.seat.view c.load_searched-kind.new.seat.view nobody from (AtKind t n) (AtHigh t n k) k k at1 refl c.load_searched-kind.ensures.change in
+    may_load _ nobody from t 2 (AtHigh t n k) at2 (refl, refl)
+
+pub load_searched-low-requires-clause-may : goal.load_searched-low-requires-clause-may
+load_searched-low-requires-clause-may c =
+    let from = c.requires.may.0 in
+    let t = c.args.slot in
+    let n = c.load_searched-number.result in
+    let k = c.load_searched-kind.result in
+    let h = c.load_searched-high.result in
+    let at1 = goes_on c.args.seat.now.view c.load_searched-number.new.seat.view nobody from (AtNumber t) (AtKind t n) n n c.requires.may.1 refl c.load_searched-number.ensures.change in
+    let at2 = goes_on c.load_searched-number.new.seat.view c.load_searched-kind.new.seat.view nobody from (AtKind t n) (AtHigh t n k) k k at1 refl c.load_searched-kind.ensures.change in
+    let at3 = goes_on c.load_searched-kind.new.seat.view c.load_searched-high.new.seat.view nobody from (AtHigh t n k) (AtLow t n k h) h h at2 refl c.load_searched-high.ensures.change in
+    may_load _ nobody from t 3 (AtLow t n k h) at3 (refl, refl)
+
+pub returns-clause-change : goal.returns-clause-change
+returns-clause-change c =
+    noted c.args.seat.now.view c.load_searched-number.new.seat.view c.load_searched-kind.new.seat.view c.load_searched-high.new.seat.view c.load_searched-low.new.seat.view
+    c.args.slot c.load_searched-number.result c.load_searched-kind.result c.load_searched-high.result c.load_searched-low.result
+    c.load_searched-number.ensures.change c.load_searched-kind.ensures.change c.load_searched-high.ensures.change c.load_searched-low.ensures.change

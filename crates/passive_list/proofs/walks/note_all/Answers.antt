@@ -1,0 +1,92 @@
+-- One slot on the list after the other.
+use Rattle.std.proofs.Common.{◌≡◌, ◌+◌, ◌-◌, set, ap, ◌∙◌, subst, arith, length-set}
+use Rattle.registry_values.specs.declared.entry.Kind.TheVariants.{Iface}
+use Rattle.registry_values.specs.declared.slot.Key.{Key}
+use Rattle.cpu_words.specs.Searching.{HasFollowed, cpu_after_seek, search_for, key_with}
+use Rattle.passive_list.specs.Noting.{nobody, HasNotedSoFar}
+use Rattle.passive_list.proofs.Noting.{noting_begins, none_noted, on_slot, slot_within, may_note, may_go_on, has_room, one_more_noted, noted_id, slot_id}
+use Rattle.passive_list.proofs.walks.note_all.Goals as goal
+
+pub loop-link-init : goal.loop-link-init
+loop-link-init c =
+    let x = c.args.seat.now.view in
+    let y = c.seek-link.new.seat.view in
+    let m = c.seek-link.result in
+    let key : key_with Iface c.of_words.result ≡ nobody = ap (key_with Iface) c.of_words.ensures in
+    let had = subst (λ (k : Key). HasFollowed (cpu_after_seek k x) (search_for k x) m y) key c.seek-link.ensures.change in
+    let none : HasNotedSoFar x c.args.noted.now 0 m y = none_noted x y c.args.noted.now m (noting_begins x y m had) in
+    record {
+      table = c.seek-link.ensures.table;
+      cpu = noted_id x y c.args.noted.now 0 m none ∙ c.requires.cpu.1;
+      known_log = c.seek-link.ensures.known_log;
+      few = omega arith;
+      size = c.told-noted;
+      noted = none;
+    }
+
+pub note-entry-requires-clause-cpu : goal.note-entry-requires-clause-cpu
+note-entry-requires-clause-cpu c = (c.requires.cpu.0, c.loop-link.invariant.cpu)
+
+pub note-entry-requires-clause-slot : goal.note-entry-requires-clause-slot
+note-entry-requires-clause-slot c =
+    let so_far = on_slot c.args.seat.now.view c.loop-link.seat.view c.loop-link.noted c.loop-link.count c.loop-link.link c.loop-link-test.true c.loop-link.invariant.noted in
+    slot_within c.args.seat.now.view c.loop-link.seat.view c.loop-link.noted c.loop-link.count (c.loop-link.link - 1) so_far
+
+pub note-entry-requires-clause-may : goal.note-entry-requires-clause-may
+note-entry-requires-clause-may c =
+    let so_far = on_slot c.args.seat.now.view c.loop-link.seat.view c.loop-link.noted c.loop-link.count c.loop-link.link c.loop-link-test.true c.loop-link.invariant.noted in
+    may_note c.args.seat.now.view c.loop-link.seat.view c.loop-link.noted c.loop-link.count (c.loop-link.link - 1) so_far
+
+pub bounds-noted-count : goal.bounds-noted-count
+bounds-noted-count c =
+    let so_far = on_slot c.args.seat.now.view c.loop-link.seat.view c.loop-link.noted c.loop-link.count c.loop-link.link c.loop-link-test.true c.loop-link.invariant.noted in
+    has_room c.args.seat.now.view c.loop-link.seat.view c.note-entry.new.seat.view c.loop-link.noted c.loop-link.count (c.loop-link.link - 1) c.note-entry.result so_far c.note-entry.ensures.change
+
+pub load_link-link-requires-clause-cpu : goal.load_link-link-requires-clause-cpu
+load_link-link-requires-clause-cpu c =
+    let so_far = on_slot c.args.seat.now.view c.loop-link.seat.view c.loop-link.noted c.loop-link.count c.loop-link.link c.loop-link-test.true c.loop-link.invariant.noted in
+    (c.requires.cpu.0, slot_id c.args.seat.now.view c.loop-link.seat.view c.note-entry.new.seat.view c.loop-link.noted c.loop-link.count (c.loop-link.link - 1) c.note-entry.result so_far c.note-entry.ensures.change ∙ c.loop-link.invariant.cpu)
+
+pub load_link-link-requires-clause-slot : goal.load_link-link-requires-clause-slot
+load_link-link-requires-clause-slot c =
+    let so_far = on_slot c.args.seat.now.view c.loop-link.seat.view c.loop-link.noted c.loop-link.count c.loop-link.link c.loop-link-test.true c.loop-link.invariant.noted in
+    let within = slot_within c.args.seat.now.view c.loop-link.seat.view c.loop-link.noted c.loop-link.count (c.loop-link.link - 1) so_far in
+    (omega (arith, c.loop-link-test.true), omega (arith, within))
+
+pub load_link-link-requires-clause-may : goal.load_link-link-requires-clause-may
+load_link-link-requires-clause-may c =
+    let so_far = on_slot c.args.seat.now.view c.loop-link.seat.view c.loop-link.noted c.loop-link.count c.loop-link.link c.loop-link-test.true c.loop-link.invariant.noted in
+    may_go_on c.args.seat.now.view c.loop-link.seat.view c.note-entry.new.seat.view c.loop-link.noted c.loop-link.count (c.loop-link.link - 1) c.note-entry.result so_far c.note-entry.ensures.change
+
+pub loop-link-smaller : goal.loop-link-smaller
+loop-link-smaller c =
+    let so_far = on_slot c.args.seat.now.view c.loop-link.seat.view c.loop-link.noted c.loop-link.count c.loop-link.link c.loop-link-test.true c.loop-link.invariant.noted in
+    let room = has_room c.args.seat.now.view c.loop-link.seat.view c.note-entry.new.seat.view c.loop-link.noted c.loop-link.count (c.loop-link.link - 1) c.note-entry.result so_far c.note-entry.ensures.change in
+    omega (arith, room)
+
+pub loop-link-preserved : goal.loop-link-preserved
+loop-link-preserved c =
+    let x = c.args.seat.now.view in
+    let y = c.loop-link.seat.view in
+    let z = c.note-entry.new.seat.view in
+    let w = c.load_link-link.new.seat.view in
+    let row = c.loop-link.noted in
+    let count = c.loop-link.count in
+    let t = c.loop-link.link - 1 in
+    let m = c.load_link-link.result in
+    let n = c.note-entry.result in
+    let so_far = on_slot x y row count c.loop-link.link c.loop-link-test.true c.loop-link.invariant.noted in
+    let had = c.note-entry.ensures.change in
+    let room = has_room x y z row count t n so_far had in
+    let more = one_more_noted x y z w row count t m n (omega (arith, room, c.loop-link.invariant.size)) so_far had c.load_link-link.ensures.change in
+    record {
+      table = c.load_link-link.ensures.table ∙ c.note-entry.ensures.table ∙ c.loop-link.invariant.table;
+      cpu = noted_id x w (set row count n) (count + 1) m more ∙ c.requires.cpu.1;
+      known_log = c.load_link-link.ensures.known_log ∙ c.note-entry.ensures.known_log ∙ c.loop-link.invariant.known_log;
+      few = omega (arith, room);
+      size = length-set row count n ∙ c.loop-link.invariant.size;
+      noted = more;
+    }
+
+pub returns-clause-noted : goal.returns-clause-noted
+returns-clause-noted c = subst (λ m. HasNotedSoFar c.args.seat.now.view c.loop-link.noted c.loop-link.count m c.loop-link.seat.view) c.loop-link-test.false c.loop-link.invariant.noted

@@ -1,0 +1,17 @@
+use Rattle.std.proofs.Common.{◌≡◌, ◌≤◌, ◌-◌, length}
+use Rattle.passive_list.specs.Noting.{HasNotedSoFar}
+use Rattle.passive_list.proofs.walks.note_all.Given as goal
+
+-- the slots so far are noted, and the link leads to the next one
+abbrev pub invariant-loop-link : goal.invariant-loop-link
+invariant-loop-link l = record {
+  table : l.seat.table ≡ l.fn.seat.table;
+  cpu : l.seat.view.id ≡ l.cpu;
+  known_log : l.seat.known_log ≡ l.fn.seat.known_log;
+  few : l.count ≤ 32;
+  size : length l.noted ≡ 32;
+  noted : HasNotedSoFar l.fn.seat.view l.noted l.count l.link l.seat.view;
+}
+
+abbrev pub decreases-loop-link : goal.decreases-loop-link
+decreases-loop-link l = 32 - l.count

@@ -1,0 +1,26 @@
+-- The data agree with the view as a walk is over.
+use Rattle.std.proofs.Common.{◌≡◌, Option, Some, None, take, refl, sym, ap, ◌∙◌, subst}
+use Rattle.registry_values.specs.declared.entry.Entry.{Entry}
+use Rattle.protocol.specs.declared.state.Search.{Search}
+use Rattle.passive_list.specs.Cpus.{OnCpu, OnPlainCpu}
+use Rattle.passive_list.specs.Walks.{HasWalked}
+use Rattle.passive_list.proofs.Agreeing.{seen_agrees, own_agrees}
+use Rattle.passive_list.proofs.FoundAgain.{walked}
+use Rattle.passive_list.proofs.walks.walk_on.Goals as goal
+
+pub invariant_of-cpu : goal.invariant_of-cpu
+invariant_of-cpu c =
+    let x = c.cpu.inside.seat.view in
+    let y = c.go_over-count.new.seat.view in
+    let had = c.go_over-count.ensures.change in
+    let is : y ≡ record x { pass = y.pass; found = None } = had.is ∙ ap (λ (s : Option Search). record x { pass = y.pass; search = s; found = None }) (sym c.cpu.invariant.idle.search) in
+    own_agrees _ _ _ _ _ _ _ _ _ _ (seen_agrees _ _ _ _ x y _ _ _ _ _ None _ _ x.noted_pass c.cpu.invariant c.go_over-count.ensures.table had.pass is refl (λ (e : Entry) (q : None ≡ Some e). cc))
+
+pub returns-clause-walked : goal.returns-clause-walked
+returns-clause-walked c =
+    let x = c.cpu.inside.seat in
+    let y = c.go_over-count.new.seat in
+    let a : OnCpu = record { view = x.view; depth = c.cpu.inside.depth; made = 0; known_log = x.known_log } in
+    let b : OnCpu = record { view = y.view; depth = c.cpu.inside.depth; made = 0; known_log = y.known_log } in
+    let row = take c.go_over-count.result c.go_over-count.new.row in
+    subst (λ (v : OnPlainCpu). HasWalked v.cpu b row) c.cpu.view_is (walked a b row c.cpu.invariant.idle.search c.go_over-count.ensures.change refl refl c.go_over-count.ensures.known_log)

@@ -1,0 +1,106 @@
+-- The two parts of a walk: a search for what no entry is named notes each entry on the list, and a search for each of these finds its value.
+use Rattle.std.specs.Prelude.{◌≡◌, ◌⊎◌, ℕ, zero, suc, ◌+◌, ◌<◌, ◌≤◌, List, take, length, map, slice_set, Option, Some, None}
+use Rattle.std.specs.List.{Contains}
+use mathlib.Core.List.{IsPrefix}
+use Rattle.registry_values.specs.declared.entry.Entry.{Entry}
+use Rattle.registry_values.specs.declared.entry.Change.{Change}
+use Rattle.registry_values.specs.declared.entry.Kind.TheVariants.{Iface}
+use Rattle.registry_values.specs.declared.slot.Key.{Key}
+use Rattle.registry_values.specs.Slots.{kind_word}
+use Rattle.protocol.specs.declared.state.SearchPlace.TheVariants.{AtNext, AtNumber}
+use Rattle.protocol.specs.History.{IsAttached, IsLiveAt}
+use Rattle.protocol.specs.Invariant.{StandsOn}
+use Rattle.cpu_words.specs.declared.view.CpuView.{CpuView}
+use Rattle.cpu_words.specs.Searching.{PassTells}
+use Rattle.passive_list.specs.declared.walks.Noted.{Noted}
+use Rattle.passive_list.specs.Walking.{search_at, IsUnderWay, cpu_with_search_at}
+use Rattle.passive_list.specs.Walks.{AreNewestFirst, WasLive}
+
+-- what no entry is looked up by: no name has two words of 0
+abbrev pub nobody : Key
+nobody = record { kind = Iface; name = record { high = 0; low = 0 } }
+
+-- what is noted of an entry
+abbrev pub noted_of : Entry → Noted
+noted_of e = record { number = e.number; kind = kind_word e.rec.kind; high = e.rec.name.high; low = e.rec.name.low }
+
+-- a search that started at `from` may stand on each of these, as the pass h tells
+pub record AreStoodOn (h : List Change) (from : ℕ) (es : List Entry) : Type 0 where
+  pub stands : (e : Entry) → Contains es e → StandsOn h from (length h) e.slot e × (e.slot < 32)
+  pub newest_first : AreNewestFirst es
+
+-- the words of the slot t were loaded: n is of an entry on which the search may stand, and the search goes on at the link
+pub record HasNotedFrom (x : CpuView) (from t : ℕ) (n : Noted) (y : CpuView) : Type 0 where
+  pub is : y ≡ cpu_with_search_at x nobody from (AtNext t)
+  pub entry : Entry
+  pub stands : StandsOn x.pass from (length x.pass) t entry
+  pub noted : n ≡ noted_of entry
+
+abbrev pub HasNoted : CpuView → ℕ → Noted → CpuView → Type 0
+HasNoted x t n y = (from : ℕ) → IsUnderWay x nobody from (AtNumber t) → PassTells x.begin from x.pass → HasNotedFrom x from t n y
+
+-- the view of a CPU whose search, begun in the view x, has loaded a link
+abbrev pub view_at_link : CpuView → ℕ → List Change → CpuView
+view_at_link x zero p = record x { pass = p; search = None; found = None }
+view_at_link x (suc t) p = record x { pass = p; search = Some (search_at nobody (length x.pass) (AtNumber t)) }
+
+-- f has been live since `from`, as the pass h tells
+abbrev pub IsLiveSince : List Change → ℕ → Entry → Type 0
+IsLiveSince h from f = IsLiveAt h from f × IsLiveAt h (length h) f
+
+-- what a link leads to, with es noted: each entry that has been live since is among them or not yet gone past
+abbrev pub GoesOnAt : List Change → ℕ → List Entry → ℕ → Type 0
+GoesOnAt h from es zero = (f : Entry) → IsLiveSince h from f → Contains es f
+GoesOnAt h from es (suc t) = (t < 32) × ((e : Entry) → StandsOn h from (length h) t e
+    → ((f : Entry) → Contains es f → e.number < f.number) × ((f : Entry) → IsLiveSince h from f → (f.number ≤ e.number) ⊎ Contains es f))
+
+-- the search begun in the view x has noted es, and has loaded the link
+pub record IsNoting (x : CpuView) (es : List Entry) (link : ℕ) (y : CpuView) : Type 0 where
+  pub pass : IsPrefix x.pass y.pass
+  pub is : y ≡ view_at_link x link y.pass
+  pub tells : PassTells x.begin (length x.pass) y.pass
+  pub noted : AreStoodOn y.pass (length x.pass) es
+  pub goes_on : GoesOnAt y.pass (length x.pass) es link
+
+-- the first so many places of the row are what the search noted
+pub record HasNotedSoFar (x : CpuView) (noted : List Noted) (count link : ℕ) (y : CpuView) : Type 0 where
+  pub entries : List Entry
+  pub are : take count noted ≡ map noted_of entries
+  pub size : length entries ≡ count
+  pub noting : IsNoting x entries link y
+
+-- what the second part is given: these were noted, of entries of the pass
+pub record AreNoted (h : List Change) (noted : List Noted) (es : List Entry) : Type 0 where
+  pub are : noted ≡ map noted_of es
+  pub attached : (e : Entry) → Contains es e → IsAttached h e
+  pub newest_first : AreNewestFirst es
+
+-- searches are over that changed just the pass and the last found entry
+pub record HaveSearched (x y : CpuView) : Type 0 where
+  pub pass : IsPrefix x.pass y.pass
+  pub is : y ≡ record x { pass = y.pass; search = None; found = y.found }
+
+-- e was sought by its kind and name: the answer is e, live at some point since, or none where e is live no longer
+pub record HasFoundAgain (x : CpuView) (e : Entry) (answer : Option Entry) (y : CpuView) : Type 0 where
+  pub some : (f : Entry) → answer ≡ Some f → (f ≡ e) × WasLive y.pass (length x.pass) (length y.pass) e
+  pub none : answer ≡ None → IsLiveAt y.pass (length y.pass) e → ⊥
+
+-- of the entries es those that were found again by their kind and name, among them all that are live still
+pub record HaveBeenFound (x : CpuView) (es found : List Entry) (y : CpuView) : Type 0 where
+  pub each : (e : Entry) → Contains found e → Contains es e × WasLive y.pass (length x.pass) (length y.pass) e
+  pub all : (e : Entry) → Contains es e → IsLiveAt y.pass (length y.pass) e → Contains found e
+  pub newest_first : AreNewestFirst found
+
+-- what was found is written at the next place
+abbrev pub WritesNext : Option Entry → ℕ → List Entry → ℕ → List Entry → Type 0
+WritesNext None place old next new = (next ≡ place) × (new ≡ old)
+WritesNext (Some e) place old next new = (next ≡ place + 1) × (new ≡ slice_set old place e)
+
+-- the whole walk by a CPU's seat
+pub record HasGoneOver (x y : CpuView) (row : List Entry) : Type 0 where
+  pub pass : IsPrefix x.pass y.pass
+  pub is : y ≡ record x { pass = y.pass; search = None; found = None }
+  pub since : (b : ℕ) → x.begin ≡ Some b → b ≤ length x.pass
+  pub all : (e : Entry) → IsLiveSince y.pass (length x.pass) e → Contains row e
+  pub each : (e : Entry) → Contains row e → WasLive y.pass (length x.pass) (length y.pass) e
+  pub newest_first : AreNewestFirst row

@@ -1,0 +1,207 @@
+//! A walk over all entries in a section: loads alone. No shared word is written, and nobody waits.
+//!
+//! A search answers the value of the one entry that it finds, and is over then. So a walk has two parts. The first is one search for what no
+//! entry is named: it goes by each entry on the list, and the walk notes its number, its kind and its name. The second is a search for each of
+//! these, which finds its value. Where that finds another entry or none, the noted one was detached since, and is left out.
+
+ghost use Rattle.std.specs.Prelude.{◌≡◌, ◌≢◌, ◌<◌, ◌≤◌, None, List, take, drop, length};
+ghost use Rattle.registry_values.specs.declared.entry.Entry.{Entry};
+ghost use Rattle.registry_values.specs.declared.entry.Kind.{Kind};
+ghost use Rattle.registry_values.specs.Slots.{kind_word};
+ghost use Rattle.protocol.specs.History.{IsAttached};
+ghost use Rattle.cpu_words.specs.Domains.{AreWordsOf};
+ghost use Rattle.cpu_words.specs.Searching.{MaySeek};
+ghost use Rattle.passive_list.specs.Walking.{MayVisit};
+ghost use Rattle.passive_list.specs.Noting.{nobody, HasNoted, HasNotedSoFar, AreNoted, HasFoundAgain, HaveSearched, HaveBeenFound, HasGoneOver, WritesNext, noted_of};
+ghost use Rattle.passive_list.specs.Walks.{HasWalked};
+
+use crate::cpu::Cpu;
+use crate::lookup::look_up;
+use crate::plain_cpu::PlainCpu;
+use cpu_words::{CpuSeat, Domain, Words, steps};
+use registry_values::{Entry, Kind, Name, Record};
+
+/// What a walk notes of an entry as it goes by: its number, and the words of its kind and its name.
+#[derive(Clone, Copy)]
+struct Noted {
+    number: u64,
+    kind: u64,
+    high: u64,
+    low: u64,
+}
+
+impl Noted {
+    /// Of no entry.
+    const NONE: Noted = Noted {
+        number: 0,
+        kind: 0,
+        high: 0,
+        low: 0,
+    };
+}
+
+/// Walks over all entries: it writes the live ones into the row, the newest first, and answers how many they are. What stands in the row
+/// past them stays. Each entry that is live from the start to the end is among them, once; each of them was live at some point from what this
+/// CPU had seen at the call to what it has seen at the return, and keeps its slot until this section ends. An entry that is attached or
+/// detached meanwhile may be among them or not. The last found entry is cleared.
+/// The steps are loads alone, and it takes no memory. Where n entries stand on the list and none changes, the loads are
+/// 5 n (n + 5) / 2 + n + 2.
+/// Condition: inside.
+pub fn walk<D: Domain>(words: &Words, cpu: &mut Cpu<D>, row: &mut [Entry; 32]) -> usize
+    requires words { AreWordsOf words.now D.table D.settings }
+    requires inside { cpu.old.view.begin ≢ None }
+    ensures count { result ≤ 32 }
+    ensures walked { HasWalked cpu.old cpu.new (take result row.new) }
+    ensures rest { drop result row.new ≡ drop result row.old }
+{
+    walk_on(words, &mut cpu.plain, row)
+}
+
+/// `walk` on a CPU that names its own table. Conditions: the words are its table's; inside.
+pub fn walk_on(words: &Words, cpu: &mut PlainCpu, row: &mut [Entry; 32]) -> usize
+    requires words { AreWordsOf words.now cpu.old.words.table cpu.old.words.settings }
+    requires inside { cpu.old.cpu.view.begin ≢ None }
+    ensures count { result ≤ 32 }
+    ensures walked { HasWalked cpu.old.cpu cpu.new.cpu (take result row.new) }
+    ensures rest { drop result row.new ≡ drop result row.old }
+    ensures words { cpu.new.words ≡ cpu.old.words }
+{
+    let count = go_over(words, &mut cpu.seat, cpu.id, row);
+    cpu.found.number = 0;
+    count
+}
+
+/// The whole walk, by the CPU's seat. Its last search finds nothing, as its first: so the last found entry is cleared.
+fn go_over(words: &Words, seat: &mut CpuSeat, cpu: u8, row: &mut [Entry; 32]) -> usize
+    requires table { seat.old.table ≡ words.now.table }
+    requires cpu { (cpu < 8) × (seat.old.view.id ≡ cpu) }
+    requires may { MaySeek seat.old.view }
+    ensures table { seat.new.table ≡ seat.old.table }
+    ensures count { result ≤ 32 }
+    ensures change { HasGoneOver seat.old.view seat.new.view (take result row.new) }
+    ensures rest { drop result row.new ≡ drop result row.old }
+    ensures known_log { seat.new.known_log ≡ seat.old.known_log }
+{
+    let mut noted = [Noted::NONE; 32];
+    let count = note_all(words, seat, cpu, &mut noted);
+    let found = find_noted(words, seat, cpu, &noted[..count], row);
+    look_up(words, seat, cpu, Kind::Iface, Name::of_words(0, 0));
+    found
+}
+
+/// The first part: it notes each entry on the list, and answers how many they are.
+fn note_all(words: &Words, seat: &mut CpuSeat, cpu: u8, noted: &mut [Noted; 32]) -> usize
+    requires table { seat.old.table ≡ words.now.table }
+    requires cpu { (cpu < 8) × (seat.old.view.id ≡ cpu) }
+    requires may { MaySeek seat.old.view }
+    ensures table { seat.new.table ≡ seat.old.table }
+    ensures count { result ≤ 32 }
+    ensures noted { HasNotedSoFar seat.old.view noted.new result 0 seat.new.view }
+    ensures known_log { seat.new.known_log ≡ seat.old.known_log }
+{
+    let mut count = 0;
+    let mut link = steps::seek(words, seat, cpu, Kind::Iface, Name::of_words(0, 0));
+    while link != 0 {
+        let slot = (link - 1) as usize;
+        let entry = note(words, seat, cpu, slot);
+        noted[count] = entry;
+        count += 1;
+        link = steps::load_link(words, seat, cpu, link);
+    }
+    count
+}
+
+/// Loads the number, the kind and the name of a slot.
+fn note(words: &Words, seat: &mut CpuSeat, cpu: u8, slot: usize) -> Noted
+    requires table { seat.old.table ≡ words.now.table }
+    requires cpu { (cpu < 8) × (seat.old.view.id ≡ cpu) }
+    requires slot { slot < 32 }
+    requires may { MayVisit seat.old.view nobody slot }
+    ensures table { seat.new.table ≡ seat.old.table }
+    ensures change { HasNoted seat.old.view slot result seat.new.view }
+    ensures known_log { seat.new.known_log ≡ seat.old.known_log }
+{
+    let number = steps::load_searched(words, seat, cpu, slot, 0);
+    let kind = steps::load_searched(words, seat, cpu, slot, 1);
+    let high = steps::load_searched(words, seat, cpu, slot, 2);
+    let low = steps::load_searched(words, seat, cpu, slot, 3);
+    Noted {
+        number,
+        kind,
+        high,
+        low,
+    }
+}
+
+/// The second part: it looks each noted entry up by its kind and name, and writes it where that finds it. It answers how many it wrote.
+fn find_noted(
+    words: &Words,
+    seat: &mut CpuSeat,
+    cpu: u8,
+    noted: &[Noted],
+    row: &mut [Entry; 32],
+) -> usize
+    requires table { seat.old.table ≡ words.now.table }
+    requires cpu { (cpu < 8) × (seat.old.view.id ≡ cpu) }
+    requires may { MaySeek seat.old.view }
+    requires few { length noted.now ≤ 32 }
+    ensures table { seat.new.table ≡ seat.old.table }
+    ensures count { result ≤ 32 }
+    ensures view { HaveSearched seat.old.view seat.new.view }
+    ensures found { (es : List Entry) → AreNoted seat.old.view.pass noted.now es → HaveBeenFound seat.old.view es (take result row.new) seat.new.view }
+    ensures rest { drop result row.new ≡ drop result row.old }
+    ensures known_log { seat.new.known_log ≡ seat.old.known_log }
+{
+    let mut count = 0;
+    for entry in noted {
+        let found = find_again(words, seat, cpu, *entry);
+        count = write_next(row, count, found);
+    }
+    count
+}
+
+/// Writes what was found at the next place of the row. The answer is the place after it.
+fn write_next(row: &mut [Entry; 32], place: usize, found: Option<Entry>) -> usize
+    requires room { place < 32 }
+    ensures { WritesNext found place row.old result row.new }
+{
+    let Some(entry) = found else {
+        return place;
+    };
+    row[place] = entry;
+    place + 1
+}
+
+/// Looks a noted entry up. The answer is `None` where that finds another one or none: then it was detached meanwhile.
+fn find_again(words: &Words, seat: &mut CpuSeat, cpu: u8, noted: Noted) -> Option<Entry>
+    requires table { seat.old.table ≡ words.now.table }
+    requires cpu { (cpu < 8) × (seat.old.view.id ≡ cpu) }
+    requires may { MaySeek seat.old.view }
+    ensures table { seat.new.table ≡ seat.old.table }
+    ensures change { (e : Entry) → noted ≡ noted_of e → IsAttached seat.old.view.pass e → HasFoundAgain seat.old.view e result seat.new.view }
+    ensures view { HaveSearched seat.old.view seat.new.view }
+    ensures known_log { seat.new.known_log ≡ seat.old.known_log }
+{
+    let kind = noted_kind(noted.kind);
+    let name = Name::of_words(noted.high, noted.low);
+    let seen = look_up(words, seat, cpu, kind, name)?;
+    if seen.number != noted.number {
+        return None;
+    }
+    Some(Entry {
+        number: seen.number,
+        slot: seen.slot as u8,
+        rec: Record {
+            kind,
+            name,
+            value: seen.value,
+        },
+    })
+}
+
+/// The kind whose word this is.
+fn noted_kind(word: u64) -> Kind
+    ensures { (kind : Kind) → word ≡ kind_word kind → result ≡ kind }
+{
+    if word == 1 { Kind::Iface } else { Kind::Driver }
+}

@@ -1,0 +1,19 @@
+-- `with_cpus` keeps both.
+use Rattle.std.proofs.Common.{◌≡◌, refl}
+use base.Logic.{emp}
+use contract.Monad.{fact_i}
+use Rattle.held.proofs.Answered.{joined}
+use Rattle.registry_c.specs.declared.answer.AuditAnswer.{AuditAnswer}
+use Rattle.registry_c.specs.contracts.answer.ListAnswer.{the_type as from}
+use Rattle.registry_c.specs.contracts.rows.CpusPlace.{the_type as other}
+use Rattle.registry_c.specs.contracts.answer.AuditAnswer.{the_type as into}
+use Rattle.registry_c.specs.contracts.answer.ListAnswer.with_cpus as f
+use Rattle.registry_c.proofs.answer.ListAnswer.with_cpus.Statement.{statement}
+use Rattle.registry_c.proofs.answer.ListAnswer.with_cpus.Code as code
+
+abbrev both : from.D → other.D → AuditAnswer
+both a g = record { number = a.number; place = a.place; list = a.list; cpus = g }
+
+pub with_cpus_spec : {M : Type 1} → statement M
+with_cpus_spec 𝓤 𝓛 𝓜 𝓡 wired = joined from other into (λ a. a.number) (λ g. (g.at, tt)) (λ a. a.number) 𝓛 𝓜 𝓡 both
+    (λ a g. refl) (λ a g. refl) (f.clauses 𝓛 𝓜.mem 𝓡.returns) (λ y. fact_i 𝓤 (both y.0.3.0 y.0.3.1.0 ≡ both y.0.3.0 y.0.3.1.0) (emp 𝓤) refl) f.Key.name (code.unfolded 𝓤 𝓛.H 𝓜 𝓡 wired)

@@ -1,0 +1,10 @@
+use Rattle.std.proofs.Common.{subst}
+use Rattle.passive_list.specs.Keepers.{OnPlainKeeper}
+use Rattle.registry_c.specs.KeeperCalls.{Advances}
+use Rattle.registry_c.proofs.Turned.{advances_by}
+use Rattle.registry_c.proofs.keeper_body.KeeperBody.advance.Goals as goal
+
+pub returns : goal.returns
+returns c =
+    let made = c.advance_in in
+    subst (λ (k : OnPlainKeeper). Advances c.args.number k made.new.keeper made.result) c.self.view_is (advances_by _ _ _ _ made.ensures.words made.ensures.answer made.ensures.stage)

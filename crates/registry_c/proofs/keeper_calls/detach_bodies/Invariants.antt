@@ -1,8 +1,0 @@
--- The table's name in this call, and its ledger's.
-use Rattle.registry_c.proofs.keeper_calls.detach_bodies.Given as goal
-
-abbrev pub ghosts-detach_at-D-Domain : goal.ghosts-detach_at-D-Domain
-ghosts-detach_at-D-Domain a = record { table = a.keeper.words.table; settings = a.keeper.words.settings }
-
-abbrev pub ghosts-detach_at-D-Ledger : goal.ghosts-detach_at-D-Ledger
-ghosts-detach_at-D-Ledger a = record { name = a.changes.name; parts = 1 }

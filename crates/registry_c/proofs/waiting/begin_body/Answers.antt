@@ -1,0 +1,17 @@
+use Rattle.std.proofs.Common.{◌≡◌, length, replicate, rules, subst}
+use Rattle.passive_list.specs.Cpus.{OnPlainCpu}
+use Rattle.passive_list.specs.Keepers.{OnPlainKeeper}
+use Rattle.passive_list.proofs.Rows.{keeper_is}
+use Rattle.registry_c.specs.declared.wait.CWait.{CWait}
+use Rattle.registry_c.specs.declared.wait.TheConstants.{BEGUN}
+use Rattle.registry_c.specs.KeeperCalls.{Begins}
+use Rattle.registry_c.proofs.Turned.{begins_by}
+use Rattle.registry_c.proofs.waiting.begin_body.Goals as goal
+
+pub returns : goal.returns
+returns c =
+    let made = c.begin in
+    let size : length made.result.1 ≡ 32 = search rules in
+    let wait : CWait = record { snapshots = made.result.0; retired = c.numbers_out-wait.result; seen = replicate 8 0; begun = BEGUN } in
+    subst (λ (p : OnPlainKeeper × OnPlainCpu). Begins p.0 p.1 made.new.keeper made.new.cpu wait) (λ i. (c.body.view_is i, c.cpu.view_is i))
+    (begins_by _ _ _ _ _ _ _ _ made.result.0 made.result.1 c.numbers_out-wait.result size c.keeper.invariant (keeper_is c.keeper.view_is) made.ensures.words made.ensures.begun c.numbers_out-wait.ensures)

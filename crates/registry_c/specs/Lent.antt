@@ -1,0 +1,57 @@
+-- What C lends a call by each kind of pointer: a value that the call may write until it answers, or nothing, by null.
+use Rattle.std.specs.Prelude.{ℕ, Bool, List, Option}
+use base.Fml.{Fml}
+use base.Fraction.{full_share}
+use denote.Builtin.{bool, u8, u64}
+use denote.RawPtr.{Ptr}
+use Rattle.held.specs.Handles.{lends}
+use Rattle.held.specs.Rows.{lends_row}
+use Rattle.registry_c.specs.declared.values.CEntry.{CEntry}
+use Rattle.registry_c.specs.declared.wait.CWait.{CWait}
+use Rattle.registry_c.specs.contracts.wait.CWait.{the_row as wait}
+use Rattle.registry_c.specs.contracts.values.CEntry.{the_row as entry}
+use Rattle.registry_c.specs.declared.values.CName.{CName}
+use Rattle.registry_c.specs.contracts.values.CName.{the_row as name}
+use Rattle.registry_c.specs.declared.values.CStage.{CStage}
+use Rattle.registry_c.specs.contracts.values.CStage.{the_row as stage}
+use Rattle.registry_c.specs.declared.values.CSettings.{CSettings}
+use Rattle.registry_c.specs.contracts.values.CSettings.{the_row as settings}
+use Rattle.registry_c.specs.declared.audit.CBalance.{CBalance}
+use Rattle.registry_c.specs.contracts.audit.CBalance.{the_row as balance}
+use Rattle.registry_c.specs.declared.handle.CpuHandle.{CpuHandle}
+use Rattle.registry_c.specs.contracts.handle.CpuHandle.{the_row as cpu}
+
+abbrev pub lends_flag : Ptr → Option Bool → Fml
+lends_flag = lends bool full_share
+
+abbrev pub lends_number : Ptr → Option ℕ → Fml
+lends_number = lends u64 full_share
+
+abbrev pub lends_entry : Ptr → Option CEntry → Fml
+lends_entry = lends entry full_share
+
+abbrev pub lends_settings : Ptr → Option CSettings → Fml
+lends_settings = lends settings full_share
+
+abbrev pub lends_stage : Ptr → Option CStage → Fml
+lends_stage = lends stage full_share
+
+abbrev pub lends_name : Ptr → Option CName → Fml
+lends_name = lends name full_share
+
+abbrev pub lends_wait : Ptr → Option CWait → Fml
+lends_wait = lends wait full_share
+
+-- by a pointer beside its length: that many of them, or none
+
+abbrev pub lends_text : Ptr → Option (List ℕ) → Fml
+lends_text = lends_row u8 full_share
+
+abbrev pub lends_entries : Ptr → Option (List CEntry) → Fml
+lends_entries = lends_row entry full_share
+
+abbrev pub lends_balances : Ptr → Option (List CBalance) → Fml
+lends_balances = lends_row balance full_share
+
+abbrev pub lends_cpus : Ptr → Option (List CpuHandle) → Fml
+lends_cpus = lends_row cpu full_share

@@ -1,0 +1,97 @@
+//! The calls of the usual path, by what stands behind the CPU's handle: each makes several calls of `cpu_calls`, and opens a section for them.
+//! It writes to C's place last: stores before the addition that ends the section would have to be done before it is.
+
+ghost use Rattle.std.specs.Prelude.{◌≡◌, ◌≢◌, ℕ, Option, None};
+ghost use Rattle.registry_c.specs.declared.values.CEntry.{CEntry};
+ghost use Rattle.registry_c.specs.declared.values.TheConstants.{DONE};
+ghost use Rattle.registry_c.specs.Calls.{Enters, TellsFound};
+ghost use Rattle.registry_c.specs.UsualCalls.{EntersAndFinds, FindsAndAcquires, Gets, LooksUp};
+
+use crate::cpu_body::CpuBody;
+use crate::cpu_calls::{enter, exit, look, tell};
+use crate::place::EntryPlace;
+use crate::values::{CName, DONE, entry_out, refused};
+use registry_values::Entry;
+
+/// Looks an entry up, in a section of the call's own. Each answer has an exit of its own: with one exit for both more words would be carried past it,
+/// and a call saves each register that it uses.
+pub fn look_up(cpu: &mut CpuBody, kind: u64, name: Option<CName>, found: &mut EntryPlace) -> u32
+    ensures place { found.new.at ≡ found.old.at }
+    ensures call { LooksUp kind name cpu.old cpu.new result found.old.value found.new.value }
+{
+    let entered = enter_inside(cpu);
+    if entered != DONE {
+        return entered;
+    }
+    let looked = look(cpu, kind, name);
+    match looked {
+        Ok(seen) => {
+            exit(cpu);
+            found.put(entry_out(seen));
+            DONE
+        }
+        Err(why) => {
+            exit(cpu);
+            why
+        }
+    }
+}
+
+/// Looks an entry up and acquires a passive reference to it, in a section of the call's own.
+pub fn get(cpu: &mut CpuBody, kind: u64, name: Option<CName>, found: &mut EntryPlace) -> u32
+    ensures place { found.new.at ≡ found.old.at }
+    ensures call { Gets kind name cpu.old cpu.new result found.old.value found.new.value }
+{
+    let entered = enter_inside(cpu);
+    if entered != DONE {
+        return entered;
+    }
+    let got = look_and_acquire(cpu, kind, name);
+    exit(cpu);
+    tell(got, found)
+}
+
+/// Enters a section and looks an entry up in it: done leaves the CPU inside, and a refusal as deep as it was.
+pub fn enter_find(cpu: &mut CpuBody, kind: u64, name: Option<CName>, found: &mut EntryPlace) -> u32
+    ensures place { found.new.at ≡ found.old.at }
+    ensures call { EntersAndFinds kind name cpu.old cpu.new result found.old.value found.new.value }
+{
+    let entered = enter_inside(cpu);
+    if entered != DONE {
+        return entered;
+    }
+    match look(cpu, kind, name) {
+        Ok(entry) => {
+            found.put(entry_out(entry));
+            DONE
+        }
+        Err(refusal) => {
+            exit(cpu);
+            refusal
+        }
+    }
+}
+
+/// Enters a section, or the open one once more: done leaves the CPU inside.
+fn enter_inside(cpu: &mut CpuBody) -> u32
+    ensures call { Enters cpu.old cpu.new result }
+    ensures inside { result ≡ DONE → cpu.new.cpu.view.begin ≢ None }
+{
+    // Reading it opens what the CPU says of itself: that a section is open where its depth isn't 0.
+    let _depth = cpu.cpu.depth;
+    enter(cpu)
+}
+
+/// Looks an entry up and acquires a passive reference to it: the entry, or the number of the refusal.
+fn look_and_acquire(cpu: &mut CpuBody, kind: u64, name: Option<CName>) -> Result<Entry, u32>
+    ensures { (n : ℕ) (old new : Option CEntry) → TellsFound result n old new → FindsAndAcquires kind name cpu.old cpu.new n old new }
+{
+    let entry = look(cpu, kind, name)?;
+    match cpu.acquire() {
+        Ok(psref) => {
+            psref.forget();
+            Ok(entry)
+        }
+        Err(refusal) => Err(refused(refusal)),
+    }
+}

@@ -1,0 +1,70 @@
+//! The calls of the usual path, through a CPU's handle.
+
+ghost use Rattle.std.specs.Prelude.{◌≡◌};
+ghost use Rattle.registry_c.specs.Calls.{Through};
+ghost use Rattle.registry_c.specs.UsualCalls.{EntersAndFinds, Gets, LooksUp};
+
+use crate::answer::NamedAnswer;
+use crate::given::GivenName;
+use crate::handle::CpuHandle;
+use crate::place::EntryPlace;
+use crate::usual_calls;
+use crate::values::EMPTY_HANDLE;
+use held::CHandle;
+
+/// `registry_look_up` of the header.
+#[unsafe(no_mangle)]
+pub extern "C" fn registry_look_up(
+    cpu: &mut CpuHandle,
+    kind: u64,
+    mut name: GivenName,
+    mut found: EntryPlace,
+) -> NamedAnswer
+    ensures places { (result.name ≡ name) × (result.place.at ≡ found.at) }
+    ensures call { Through cpu.old.body cpu.new.body result.number (result.place.value ≡ found.value)
+        (λ a b. LooksUp kind name.name a b result.number found.value result.place.value) }
+{
+    let Some(body) = cpu.body_mut() else {
+        return found.answer(EMPTY_HANDLE).with_name(name);
+    };
+    let answer = usual_calls::look_up(body, kind, name.name(), &mut found);
+    found.answer(answer).with_name(name)
+}
+
+/// `registry_get` of the header.
+#[unsafe(no_mangle)]
+pub extern "C" fn registry_get(
+    cpu: &mut CpuHandle,
+    kind: u64,
+    mut name: GivenName,
+    mut found: EntryPlace,
+) -> NamedAnswer
+    ensures places { (result.name ≡ name) × (result.place.at ≡ found.at) }
+    ensures call { Through cpu.old.body cpu.new.body result.number (result.place.value ≡ found.value)
+        (λ a b. Gets kind name.name a b result.number found.value result.place.value) }
+{
+    let Some(body) = cpu.body_mut() else {
+        return found.answer(EMPTY_HANDLE).with_name(name);
+    };
+    let answer = usual_calls::get(body, kind, name.name(), &mut found);
+    found.answer(answer).with_name(name)
+}
+
+/// `registry_enter_find` of the header.
+#[unsafe(no_mangle)]
+pub extern "C" fn registry_enter_find(
+    cpu: &mut CpuHandle,
+    kind: u64,
+    mut name: GivenName,
+    mut found: EntryPlace,
+) -> NamedAnswer
+    ensures places { (result.name ≡ name) × (result.place.at ≡ found.at) }
+    ensures call { Through cpu.old.body cpu.new.body result.number (result.place.value ≡ found.value)
+        (λ a b. EntersAndFinds kind name.name a b result.number found.value result.place.value) }
+{
+    let Some(body) = cpu.body_mut() else {
+        return found.answer(EMPTY_HANDLE).with_name(name);
+    };
+    let answer = usual_calls::enter_find(body, kind, name.name(), &mut found);
+    found.answer(answer).with_name(name)
+}

@@ -1,0 +1,239 @@
+//! The calls of a storm, each with the judgement of its answer. A contract here says what the call beneath says, and that just this answer was
+//! judged: so an answer can't be passed over, nor another one judged in its place.
+
+ghost use Rattle.std.specs.Prelude.{◌≡◌, ◌≢◌, IsSome, IsNone, IfSome, IfOk, IfErr, Some, None, Ok};
+ghost use Rattle.cpu_words.specs.KeeperLog.{IsFreedFrom};
+ghost use Rattle.cpu_words.specs.Searching.{key_with};
+ghost use Rattle.local_count.specs.References.{HasAcquired};
+ghost use Rattle.name_registry.specs.Changes.{HasMade};
+ghost use Rattle.name_registry.specs.Destroying.{SomeAdvanced};
+ghost use Rattle.passive_list.specs.Lookups.{HasFound};
+ghost use Rattle.passive_ref.specs.Psrefs.{HasOneLess, IsAcquired, IsRead, why_unusable};
+ghost use Rattle.registry_values.specs.Refusals.{Answers};
+ghost use Rattle.registry_values.specs.declared.entry.Change.TheVariants.{Attach, Detach};
+ghost use Rattle.registry_values.specs.declared.entry.Kind.TheVariants.{Driver, Iface};
+ghost use Rattle.registry_storm.specs.Judging.{driver_entry, driver_record, iface_record, IsAttachOf, IsIfaceOf, IsJudged, IsTurnOf};
+ghost use Rattle.registry_storm.specs.Storms.{Unacquired};
+
+use crate::judging::{is_attach, is_destroyed, is_detached, is_turn};
+use crate::plan::Plan;
+use crate::sum::Counts;
+use cpu_words::Domain;
+use local_count::{LocalRef, acquire_local};
+use name_registry::Registry;
+use passive_list::{Cpu, find};
+use passive_ref::{Psref, acquire, read, release};
+use registry_values::{Entry, Kind, Record, Refusal, Stage};
+use std::sync::Wait;
+
+/// Looks the driver up. Right: it is found. Condition: inside.
+pub fn find_driver<D: Domain>(
+    registry: &Registry<D>,
+    plan: Plan,
+    cpu: &mut Cpu<D>,
+    counts: &mut Counts,
+) -> Option<Entry>
+    requires inside { cpu.old.view.begin ≢ None }
+    ensures found { HasFound (key_with Driver plan.driver) cpu.old cpu.new result }
+    ensures judged { IsJudged (result ≡ Some (driver_entry plan.driver)) counts.old counts.new }
+{
+    let found = find(registry.words(), cpu, Kind::Driver, &plan.driver);
+    counts.judge(plan.is_driver(found));
+    found
+}
+
+/// Looks the interface up. Right: there is none, or that of some turn. Condition: inside.
+pub fn find_iface<D: Domain>(
+    registry: &Registry<D>,
+    plan: Plan,
+    cpu: &mut Cpu<D>,
+    counts: &mut Counts,
+) -> Option<Entry>
+    requires inside { cpu.old.view.begin ≢ None }
+    ensures found { HasFound (key_with Iface plan.iface) cpu.old cpu.new result }
+    ensures judged { IsJudged (IsIfaceOf plan.turns result) counts.old counts.new }
+{
+    let found = find(registry.words(), cpu, Kind::Iface, &plan.iface);
+    counts.judge(plan.is_iface(found));
+    found
+}
+
+/// Acquires a passive reference to what was found last. Right: there is one.
+pub fn acquire_passive<D: Domain>(
+    registry: &Registry<D>,
+    cpu: &mut Cpu<D>,
+    counts: &mut Counts,
+) -> Option<Psref>
+    ensures acquired { IfSome result (IsAcquired cpu.old cpu.new) }
+    ensures refused { IsNone result → cpu.new ≡ cpu.old }
+    ensures judged { IsJudged (IsSome result) counts.old counts.new }
+{
+    let passive = acquire(registry.words(), cpu).ok();
+    counts.judge(passive.is_some());
+    passive
+}
+
+/// Acquires a local reference to what was found last. Right: there is one.
+pub fn acquire_counted<D: Domain>(
+    registry: &Registry<D>,
+    cpu: &mut Cpu<D>,
+    counts: &mut Counts,
+) -> Option<LocalRef<D>>
+    ensures acquired { IfSome result (λ v. HasAcquired cpu.old cpu.new v) }
+    ensures refused { IsNone result → cpu.new ≡ cpu.old }
+    ensures judged { IsJudged (IsSome result) counts.old counts.new }
+{
+    let local = acquire_local(registry.words(), cpu).ok();
+    counts.judge(local.is_some());
+    local
+}
+
+/// Reads by a passive reference. Right: it is to the driver, whose record it gives.
+pub fn read_passive<D: Domain>(
+    registry: &Registry<D>,
+    plan: Plan,
+    cpu: &mut Cpu<D>,
+    psref: &Psref,
+    counts: &mut Counts,
+) -> Result<Record, Refusal>
+    ensures answer { Answers (why_unusable cpu.old.view psref.now) (IsRead cpu.old.view psref.now.number) result }
+    ensures same { cpu.new ≡ cpu.old }
+    ensures judged { IsJudged ((psref.now.number ≡ 1) × (result ≡ Ok (driver_record plan.driver))) counts.old counts.new }
+{
+    let answer = read(registry.words(), cpu, psref);
+    counts.judge(plan.is_read(psref.number(), answer));
+    answer
+}
+
+/// Reads by a local reference. Right: it is to the driver, whose record it gives.
+pub fn read_local<D: Domain>(
+    registry: &Registry<D>,
+    plan: Plan,
+    reference: &mut LocalRef<D>,
+    counts: &mut Counts,
+)
+    ensures same { reference.new ≡ reference.old }
+    ensures judged { IsJudged ((reference.old.entry.number ≡ 1) × (reference.old.entry.rec ≡ driver_record plan.driver)) counts.old counts.new }
+{
+    let rec = reference.record(registry.words());
+    counts.judge(plan.is_record(reference.number(), rec));
+}
+
+/// Releases a passive reference; one that comes back is forgotten. Right: it is released.
+pub fn release_passive<D: Domain>(
+    registry: &Registry<D>,
+    cpu: &mut Cpu<D>,
+    psref: Psref,
+    counts: &mut Counts,
+)
+    ensures released { why_unusable cpu.old.view psref ≡ None → HasOneLess psref.number cpu.old cpu.new }
+    ensures section { Unacquired cpu.old cpu.new }
+    ensures judged { IsJudged (why_unusable cpu.old.view psref ≡ None) counts.old counts.new }
+{
+    match release(registry.words(), cpu, psref) {
+        Ok(()) => counts.judge(true),
+        Err((_, back)) => {
+            back.forget();
+            counts.judge(false);
+        }
+    }
+}
+
+/// Attaches the driver, with this value. Right: it is the driver that workers expect.
+pub fn attach_driver<D: Domain, R: Wait>(
+    rt: &R,
+    registry: &Registry<D>,
+    plan: Plan,
+    value: u64,
+    cpu: &mut Cpu<D>,
+    counts: &mut Counts,
+) -> Option<Entry>
+    ensures made { IfSome result (λ e. HasMade cpu.old (Attach e) cpu.new) }
+    ensures section { Unacquired cpu.old cpu.new }
+    ensures judged { IsJudged (result ≡ Some (driver_entry plan.driver)) counts.old counts.new }
+{
+    let driver = Record {
+        value,
+        ..plan.driver()
+    };
+    let attached = registry.attach(rt, cpu, driver).ok();
+    counts.judge(plan.is_driver(attached));
+    attached
+}
+
+/// Attaches the interface of a turn on the driver that the reference is to; a reference that comes back is released. Right: it is attached,
+/// or no slot is vacant.
+pub fn attach_iface<D: Domain, R: Wait>(
+    rt: &R,
+    registry: &Registry<D>,
+    plan: Plan,
+    cpu: &mut Cpu<D>,
+    turn: u32,
+    reference: LocalRef<D>,
+    counts: &mut Counts,
+) -> Result<Entry, Refusal>
+    ensures made { IfOk result (λ e. (e.rec ≡ iface_record plan.iface turn) × HasMade cpu.old (Attach e) cpu.new) }
+    ensures section { Unacquired cpu.old cpu.new }
+    ensures judged { IsJudged (IsAttachOf result) counts.old counts.new }
+{
+    let answer = match registry.attach_iface(rt, cpu, plan.iface(turn), reference) {
+        Ok(entry) => Ok(entry),
+        Err((refusal, back)) => {
+            registry.release_local(rt, cpu, back);
+            Err(refusal)
+        }
+    };
+    counts.judge(is_attach(answer));
+    answer
+}
+
+/// Detaches what has this entry's kind and name. Right: it is this entry.
+pub fn detach<D: Domain, R: Wait>(
+    rt: &R,
+    registry: &Registry<D>,
+    cpu: &mut Cpu<D>,
+    entry: Entry,
+    counts: &mut Counts,
+) -> Result<Entry, Refusal>
+    ensures made { IfOk result (λ e. (e.rec.kind ≡ entry.rec.kind) × (e.rec.name ≡ entry.rec.name) × HasMade cpu.old (Detach e.number) cpu.new) }
+    ensures section { Unacquired cpu.old cpu.new }
+    ensures judged { IsJudged (result ≡ Ok entry) counts.old counts.new }
+{
+    let answer = registry.detach(rt, cpu, entry.rec.kind, &entry.rec.name);
+    counts.judge(is_detached(answer, entry));
+    answer
+}
+
+/// One turn of the work on the interface that was retired in the slot. Right: it waits for a section, or that slot is free.
+pub fn advance<D: Domain, R: Wait>(
+    rt: &R,
+    registry: &Registry<D>,
+    number: u64,
+    slot: u8,
+    counts: &mut Counts,
+) -> Result<Stage, Refusal>
+    ensures made { SomeAdvanced D.settings number result }
+    ensures judged { IsJudged (IsTurnOf slot result) counts.old counts.new }
+{
+    let answer = registry.advance(rt, number);
+    counts.judge(is_turn(answer, slot));
+    answer
+}
+
+/// Destroys in one turn the entry that was retired in the slot. Right: that slot is free.
+pub fn destroy<D: Domain, R: Wait>(
+    rt: &R,
+    registry: &Registry<D>,
+    cpu: &mut Cpu<D>,
+    number: u64,
+    slot: u8,
+    counts: &mut Counts,
+) -> Result<u8, Refusal>
+    ensures gone { IfOk result (λ t. IsFreedFrom t number cpu.new.known_log) }
+    ensures section { Unacquired cpu.old cpu.new }
+    ensures judged { IsJudged (result ≡ Ok slot) counts.old counts.new }
+{
+    let answer = registry.destroy(rt, cpu, number, 1);
+    counts.judge(is_destroyed(answer, slot));
+    answer
+}
