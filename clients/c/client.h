@@ -1,5 +1,5 @@
 /*
- * What the clients share: a test that ends the program where it fails, and names.
+ * What the clients share: calls that have to be done, and names.
  */
 #ifndef CLIENT_H
 #define CLIENT_H
@@ -8,16 +8,8 @@
 #include <stdlib.h>
 #include <string.h>
 
+#include "expect.h"
 #include "registry.h"
-
-/* Ends the program with status 1 where a condition doesn't hold, and says which. */
-#define EXPECT(condition)                                                                                                          \
-	do {                                                                                                                       \
-		if (!(condition)) {                                                                                                \
-			fprintf(stderr, "%s:%d: not so: %s\n", __FILE__, __LINE__, #condition);                                    \
-			exit(1);                                                                                                   \
-		}                                                                                                                  \
-	} while (0)
 
 /* Ends the program where a call isn't done. */
 #define DONE(call) EXPECT((call) == REGISTRY_DONE)

@@ -47,6 +47,18 @@ static uint32_t send_by(struct registry_cpu *cpu, const struct registry_name *na
 	return registry_release(cpu, number);
 }
 
+/* The same, with one call for the first four. */
+static uint32_t send_at_once(struct registry_cpu *cpu, const struct registry_name *name)
+{
+	struct registry_entry found;
+
+	uint32_t answer = registry_get(cpu, REGISTRY_INTERFACE, name, &found);
+	if (answer != REGISTRY_DONE)
+		return answer;
+	send_packet(&found);	/* may sleep */
+	return registry_release(cpu, found.number);
+}
+
 /* Takes an interface out, and waits until nobody holds it. */
 static uint32_t take_out(struct registry_cpu *cpu, const struct registry_name *name)
 {
@@ -67,12 +79,12 @@ static uint32_t take_out(struct registry_cpu *cpu, const struct registry_name *n
 	return answer;
 }
 
-/* Sends until the interface isn't found any more. */
+/* Sends in both ways until the interface isn't found any more. */
 static void *send_all(void *cpu)
 {
 	uint32_t answer = REGISTRY_DONE;
-	while (answer == REGISTRY_DONE)
-		answer = send_by(cpu, &wm0);
+	for (unsigned packet = 0; answer == REGISTRY_DONE; packet++)
+		answer = packet % 2 == 0 ? send_by(cpu, &wm0) : send_at_once(cpu, &wm0);
 	EXPECT(answer == REGISTRY_NOT_FOUND);
 	return NULL;
 }

@@ -21,7 +21,7 @@ enum script_verb {
 /* The most bytes of a script, of a line, and labels of a sort. */
 enum { SCRIPT_BYTES = 65536, LINE_BYTES = 120, LABELS = 26 };
 
-/* One command. Which members mean something is told by its verb. */
+/* One command. Its verb says which members mean something. */
 struct script_command {
 	enum script_verb verb;
 	uint8_t cpu;

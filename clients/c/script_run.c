@@ -312,7 +312,7 @@ static enum script_end perform(struct run *run, const struct script_command *com
 {
 	struct registry_wait wait;
 	uint64_t waited;
-	uint32_t answer = registry_perform(&run->keeper, &run->cpus[command->cpu], &wait);
+	uint32_t answer = registry_perform_begin(&run->keeper, &run->cpus[command->cpu], &wait);
 	if (answer != REGISTRY_DONE)
 		return refused(run, answer);
 	answer = REGISTRY_WAITING;

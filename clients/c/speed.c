@@ -1,6 +1,8 @@
 /*
  * speed THREADS ENTRIES OPERATIONS - what a lookup and a pair of acquire and release take, through registry.h
  *
+ * `lookup` makes three calls, `read` is the same in two (enter with find, and exit), `look_up` in one; `get` gets a reference in one call, and
+ * releases it.
  * The operations, the threads and the time are those of bench/: see bench/README.md. It prints a line as the programs there do.
  */
 #include <inttypes.h>
@@ -53,6 +55,46 @@ static uint64_t look_up(unsigned thread, const struct key *key)
 static uint64_t lookups(unsigned thread, uint64_t count)
 {
 	return in_turn(thread, count, look_up);
+}
+
+static uint64_t read_in_section(unsigned thread, const struct key *key)
+{
+	struct registry_cpu *cpu = &seats[thread].cpu;
+	struct registry_entry found;
+	bool right = registry_enter_find(cpu, REGISTRY_DRIVER, &names[key - keys], &found) == REGISTRY_DONE;
+	right = right && registry_exit(cpu) == REGISTRY_DONE;
+	return right ? found.value : UINT64_MAX;
+}
+
+static uint64_t reads(unsigned thread, uint64_t count)
+{
+	return in_turn(thread, count, read_in_section);
+}
+
+static uint64_t look_up_at_once(unsigned thread, const struct key *key)
+{
+	struct registry_entry found;
+	uint32_t answer = registry_look_up(&seats[thread].cpu, REGISTRY_DRIVER, &names[key - keys], &found);
+	return answer == REGISTRY_DONE ? found.value : UINT64_MAX;
+}
+
+static uint64_t lookups_at_once(unsigned thread, uint64_t count)
+{
+	return in_turn(thread, count, look_up_at_once);
+}
+
+static uint64_t get(unsigned thread, const struct key *key)
+{
+	struct registry_cpu *cpu = &seats[thread].cpu;
+	struct registry_entry found;
+	bool right = registry_get(cpu, REGISTRY_DRIVER, &names[key - keys], &found) == REGISTRY_DONE;
+	right = right && registry_release(cpu, found.number) == REGISTRY_DONE;
+	return right ? found.value : UINT64_MAX;
+}
+
+static uint64_t gets(unsigned thread, uint64_t count)
+{
+	return in_turn(thread, count, get);
 }
 
 /* Finds the first entry in a section, for what acquires references to it. */
@@ -111,7 +153,9 @@ int main(int argc, char **argv)
 	}
 	FACE.open(&plan);
 	printf("threads %u entries %u lookup %.2f", plan.threads, plan.entries, nanoseconds_each(&FACE, FACE.lookups, &plan));
-	printf(" passive %.2f local %.2f\n", nanoseconds_each(&FACE, FACE.passives, &plan), nanoseconds_each(&FACE, FACE.locals, &plan));
+	printf(" passive %.2f local %.2f", nanoseconds_each(&FACE, FACE.passives, &plan), nanoseconds_each(&FACE, FACE.locals, &plan));
+	printf(" read %.2f look_up %.2f", nanoseconds_each(&FACE, reads, &plan), nanoseconds_each(&FACE, lookups_at_once, &plan));
+	printf(" get %.2f\n", nanoseconds_each(&FACE, gets, &plan));
 	for (unsigned i = 0; i < plan.threads; i++)
 		DONE(registry_close_cpu(&seats[i].cpu));
 	DONE(registry_close_keeper(&keeper));

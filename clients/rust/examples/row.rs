@@ -40,11 +40,11 @@ fn turns() -> (Turn, Turn) {
 }
 
 /// CPU 0, which finds `wm` and is inside while it is retired.
-fn look_up(cpu: &Cpu<'_>, wm: &Name, turn: &Turn) -> Result<(), Refusal> {
+fn look_up(cpu: &Cpu<u64>, wm: &Name, turn: &Turn) -> Result<(), Refusal> {
     let mut section = cpu.enter()?;
     println!("inside");
     if let Some(found) = section.find(Kind::Driver, wm) {
-        println!("found {} slot {} value {}", found.number, found.slot, found.value);
+        println!("found {} slot {} value {}", found.entry().number, found.entry().slot, *found);
     }
     turn.hand();
     turn.wait();
@@ -59,7 +59,7 @@ fn look_up(cpu: &Cpu<'_>, wm: &Name, turn: &Turn) -> Result<(), Refusal> {
 }
 
 /// CPU 1, which retires it and waits.
-fn retire<'id>(registry: Registry<'id>, cpu: &Cpu<'id>, wm: &Name, turn: &Turn) -> Result<(), Refusal> {
+fn retire(registry: &Registry<u64>, cpu: &Cpu<u64>, wm: &Name, turn: &Turn) -> Result<(), Refusal> {
     turn.wait();
     let gone = registry.detach(cpu, Kind::Driver, wm)?;
     println!("retired {} slot {}", gone.number, gone.slot);
@@ -73,18 +73,15 @@ fn retire<'id>(registry: Registry<'id>, cpu: &Cpu<'id>, wm: &Name, turn: &Turn) 
 
 fn main() -> Result<(), Box<dyn Error>> {
     let wm = Name::parse("wm")?;
-    Registry::open(Settings::new(2, 2), |registry, mut cpus| {
-        println!("domain 2 2");
-        let attached = registry.attach(&cpus[0], &wm, 7)?;
-        println!("attached {} slot {}", attached.number, attached.slot);
-        let (first, second) = turns();
-        let (one, zero) = (cpus.remove(1), cpus.remove(0));
-        thread::scope(|scope| {
-            let reader = scope.spawn(move || look_up(&zero, &wm, &first));
-            let writer = scope.spawn(move || retire(registry, &one, &wm, &second));
-            reader.join().expect("it doesn't panic")?;
-            writer.join().expect("it doesn't panic")
-        })
-    })??;
+    let (registry, mut cpus) = Registry::open(Settings::new(2, 2))?;
+    println!("domain 2 2");
+    let attached = registry.attach(&cpus[0], &wm, 7)?;
+    println!("attached {} slot {}", attached.number, attached.slot);
+    let (first, second) = turns();
+    let (one, zero) = (cpus.remove(1), cpus.remove(0));
+    let reader = thread::spawn(move || look_up(&zero, &wm, &first));
+    let writer = thread::spawn(move || retire(&registry, &one, &wm, &second));
+    reader.join().expect("it doesn't panic")?;
+    writer.join().expect("it doesn't panic")?;
     Ok(())
 }

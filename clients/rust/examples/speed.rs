@@ -1,5 +1,9 @@
 //! `speed THREADS ENTRIES OPERATIONS`: what a lookup and a pair of acquire and release take, through this crate.
 //!
+//! `lookup` reads what the entry found carries, a number in a block of its own; `plain` is the same lookup that leaves it alone, and reads the
+//! entry's number. `read` is `lookup` by a guard, which is two calls; `look_up` is `plain` by one call; `get` gets a reference by one call,
+//! reads what the entry carries, and releases it. `local` releases each local reference on the CPU, `guarded` drops it bound to the CPU, and
+//! `dropped` drops it unbound and has the CPU release it then.
 //! The operations are those of `bench/` of the repository, whose README says what one is. It prints a line as the programs there do.
 
 use registry::{Cpu, Kind, Name, Refusal, Registry, Settings};
@@ -9,22 +13,70 @@ use std::thread;
 use std::time::Instant;
 
 /// Makes so many operations on a CPU. It answers how many went as they should.
-type Operations = fn(&Cpu<'_>, &[Name], u64) -> Result<u64, Refusal>;
+type Operations = fn(&Cpu<u64>, &[Name], u64) -> Result<u64, Refusal>;
 
-fn lookups(cpu: &Cpu<'_>, names: &[Name], count: u64) -> Result<u64, Refusal> {
+fn lookups(cpu: &Cpu<u64>, names: &[Name], count: u64) -> Result<u64, Refusal> {
     let mut right = 0;
     let mut place = 0;
     for _ in 0..count {
         let mut section = cpu.enter()?;
         let found = section.find(Kind::Driver, &names[place]);
-        right += u64::from(found.map_or(false, |entry| entry.value == place as u64));
+        right += u64::from(found.map_or(false, |found| *found == place as u64));
         drop(section);
         place = if place + 1 < names.len() { place + 1 } else { 0 };
     }
     Ok(right)
 }
 
-fn passives(cpu: &Cpu<'_>, names: &[Name], count: u64) -> Result<u64, Refusal> {
+fn plain_lookups(cpu: &Cpu<u64>, names: &[Name], count: u64) -> Result<u64, Refusal> {
+    let mut right = 0;
+    let mut place = 0;
+    for _ in 0..count {
+        let mut section = cpu.enter()?;
+        let found = section.find(Kind::Driver, &names[place]);
+        place += 1;
+        right += u64::from(found.map_or(false, |found| found.entry().number == place as u64));
+        drop(section);
+        place = if place < names.len() { place } else { 0 };
+    }
+    Ok(right)
+}
+
+fn reads(cpu: &Cpu<u64>, names: &[Name], count: u64) -> Result<u64, Refusal> {
+    let mut right = 0;
+    let mut place = 0;
+    for _ in 0..count {
+        right += u64::from(*cpu.read(Kind::Driver, &names[place])? == place as u64);
+        place = if place + 1 < names.len() { place + 1 } else { 0 };
+    }
+    Ok(right)
+}
+
+fn lookups_at_once(cpu: &Cpu<u64>, names: &[Name], count: u64) -> Result<u64, Refusal> {
+    let mut right = 0;
+    let mut place = 0;
+    for _ in 0..count {
+        let entry = cpu.look_up(Kind::Driver, &names[place])?;
+        place += 1;
+        right += u64::from(entry.number == place as u64);
+        place = if place < names.len() { place } else { 0 };
+    }
+    Ok(right)
+}
+
+fn gets(cpu: &Cpu<u64>, names: &[Name], count: u64) -> Result<u64, Refusal> {
+    let mut right = 0;
+    let mut place = 0;
+    for _ in 0..count {
+        let reference = cpu.get(Kind::Driver, &names[place])?;
+        right += u64::from(*reference == place as u64);
+        reference.release();
+        place = if place + 1 < names.len() { place + 1 } else { 0 };
+    }
+    Ok(right)
+}
+
+fn passives(cpu: &Cpu<u64>, names: &[Name], count: u64) -> Result<u64, Refusal> {
     let mut section = cpu.enter()?;
     let found = section.find(Kind::Driver, &names[0]).ok_or(Refusal::NotFound)?;
     for _ in 0..count {
@@ -33,18 +85,37 @@ fn passives(cpu: &Cpu<'_>, names: &[Name], count: u64) -> Result<u64, Refusal> {
     Ok(count)
 }
 
-fn locals(cpu: &Cpu<'_>, names: &[Name], count: u64) -> Result<u64, Refusal> {
+fn locals(cpu: &Cpu<u64>, names: &[Name], count: u64) -> Result<u64, Refusal> {
     let mut section = cpu.enter()?;
     let found = section.find(Kind::Driver, &names[0]).ok_or(Refusal::NotFound)?;
     for _ in 0..count {
-        found.acquire_local()?.release(cpu);
+        found.acquire_local()?.release(cpu)?;
+    }
+    Ok(count)
+}
+
+fn drops(cpu: &Cpu<u64>, names: &[Name], count: u64) -> Result<u64, Refusal> {
+    let mut section = cpu.enter()?;
+    let found = section.find(Kind::Driver, &names[0]).ok_or(Refusal::NotFound)?;
+    for _ in 0..count {
+        drop(found.acquire_local()?);
+        cpu.release_dropped();
+    }
+    Ok(count)
+}
+
+fn guards(cpu: &Cpu<u64>, names: &[Name], count: u64) -> Result<u64, Refusal> {
+    let mut section = cpu.enter()?;
+    let found = section.find(Kind::Driver, &names[0]).ok_or(Refusal::NotFound)?;
+    for _ in 0..count {
+        drop(found.acquire_local()?.guard(cpu)?);
     }
     Ok(count)
 }
 
 /// The nanoseconds that an operation takes its thread: the time from the first thread's first to the last thread's last, over the operations
 /// of one thread. Each thread makes some before, which don't count, and begins when all have.
-fn nanoseconds_each(cpus: &mut Vec<Cpu<'_>>, names: &[Name], make: Operations, count: u64) -> Result<f64, Refusal> {
+fn nanoseconds_each(cpus: &mut [Cpu<u64>], names: &[Name], make: Operations, count: u64) -> Result<f64, Refusal> {
     let meeting = Barrier::new(cpus.len());
     let spans: Vec<(Instant, Instant)> = thread::scope(|scope| {
         let workers: Vec<_> = cpus
@@ -72,15 +143,18 @@ fn nanoseconds_each(cpus: &mut Vec<Cpu<'_>>, names: &[Name], make: Operations, c
 
 fn run(threads: u8, entries: u8, count: u64) -> Result<(), Box<dyn Error>> {
     let names: Vec<Name> = (0..entries).map(|i| Name::parse(format!("d{i:02}"))).collect::<Result<_, _>>()?;
-    Registry::open(Settings::new(threads, 32), |registry, mut cpus| {
-        for (value, name) in (0..).zip(&names) {
-            registry.attach(&cpus[0], name, value)?;
-        }
-        let mut time = |make| nanoseconds_each(&mut cpus, &names, make, count);
-        print!("threads {threads} entries {entries} lookup {:.2}", time(lookups)?);
-        println!(" passive {:.2} local {:.2}", time(passives)?, time(locals)?);
-        Ok(())
-    })?
+    let (registry, mut cpus) = Registry::open(Settings::new(threads, 32))?;
+    for (value, name) in (0..).zip(&names) {
+        registry.attach(&cpus[0], name, value)?;
+    }
+    let mut time = |make| nanoseconds_each(&mut cpus, &names, make, count);
+    print!("threads {threads} entries {entries} lookup {:.2}", time(lookups)?);
+    print!(" passive {:.2} local {:.2}", time(passives)?, time(locals)?);
+    print!(" plain {:.2}", time(plain_lookups)?);
+    print!(" read {:.2}", time(reads)?);
+    print!(" look_up {:.2} get {:.2}", time(lookups_at_once)?, time(gets)?);
+    println!(" guarded {:.2} dropped {:.2}", time(guards)?, time(drops)?);
+    Ok(())
 }
 
 fn main() -> Result<(), Box<dyn Error>> {

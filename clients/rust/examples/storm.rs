@@ -6,7 +6,7 @@
 //! released, audited and destroyed on CPU 0. It prints what `registry_run storm` prints; `wrong` counts each answer that wasn't the one
 //! expected.
 
-use registry::{Cpu, Entry, Kind, LocalRef, Name, Refusal, Refused, Registry, Settings, Stage};
+use registry::{Advance, Cpu, Entry, Holder, Kind, LocalRef, Name, Patience, Refusal, Refused, Registry, Settings};
 use std::sync::Mutex;
 use std::{env, process, thread};
 
@@ -14,9 +14,9 @@ const SLOTS: u8 = 4;
 const DRIVER_VALUE: u64 = 7;
 
 /// What all CPUs have in common.
-struct Storm<'id> {
-    registry: Registry<'id>,
-    baskets: Vec<Mutex<Option<LocalRef<'id>>>>,
+struct Storm {
+    registry: Registry<u64>,
+    baskets: Vec<Mutex<Option<LocalRef<u64>>>>,
     turns: u32,
     drv: Name,
     wm0: Name,
@@ -55,20 +55,15 @@ impl Counts {
     }
 }
 
-impl<'id> Storm<'id> {
-    fn is_driver(&self, entry: &Entry) -> bool {
-        let Entry {
-            number,
-            slot,
-            kind,
-            name,
-            value,
-        } = *entry;
+impl Storm {
+    /// Whether this is the driver, and what it carries.
+    fn is_driver(&self, entry: Entry, value: u64) -> bool {
+        let Entry { number, slot, kind, name } = entry;
         (number, slot, kind, name, value) == (1, 0, Kind::Driver, self.drv, DRIVER_VALUE)
     }
 
     /// All turns of a CPU.
-    fn work(&self, cpu: &Cpu<'id>) -> (Counts, Churn) {
+    fn work(&self, cpu: &Cpu<u64>) -> (Counts, Churn) {
         let mut counts = Counts::default();
         let mut churn = Churn::default();
         for turn in 0..self.turns {
@@ -81,7 +76,7 @@ impl<'id> Storm<'id> {
     }
 
     /// What CPU 0 alone does in a turn.
-    fn churn(&self, cpu: &Cpu<'id>, turn: u32, churn: &mut Churn, counts: &mut Counts) {
+    fn churn(&self, cpu: &Cpu<u64>, turn: u32, churn: &mut Churn, counts: &mut Counts) {
         match churn.live {
             Some(_) => self.detach(cpu, churn, counts),
             None => self.attach(cpu, turn, churn, counts),
@@ -92,29 +87,29 @@ impl<'id> Storm<'id> {
     }
 
     /// Attaches the interface. That no slot is vacant is no wrong answer.
-    fn attach(&self, cpu: &Cpu<'id>, turn: u32, churn: &mut Churn, counts: &mut Counts) {
+    fn attach(&self, cpu: &Cpu<u64>, turn: u32, churn: &mut Churn, counts: &mut Counts) {
         let driver = match self.refer_to_driver(cpu, counts) {
             Some(driver) => driver,
             None => return,
         };
-        match self.registry.attach_iface(cpu, &self.wm0, u64::from(turn), driver) {
+        match self.registry.attach_iface(cpu, &self.wm0, driver, u64::from(turn)) {
             Ok(entry) => churn.live = Some(entry),
-            Err(Refused { refusal, driver }) => {
-                counts.judge(refusal == Refusal::NoSlot);
-                driver.release(cpu);
+            Err(Refused { refusal, given }) => {
+                counts.judge(refusal == Refusal::NoSlot && given.1 == u64::from(turn));
+                counts.judge(given.0.release(cpu).is_ok());
             }
         }
     }
 
     /// A local reference to the driver, acquired in a section of its own.
-    fn refer_to_driver(&self, cpu: &Cpu<'id>, counts: &mut Counts) -> Option<LocalRef<'id>> {
+    fn refer_to_driver(&self, cpu: &Cpu<u64>, counts: &mut Counts) -> Option<LocalRef<u64>> {
         let mut section = counts.good(cpu.enter())?;
         let found = section.find(Kind::Driver, &self.drv);
-        counts.judge(found.as_deref().map_or(false, |entry| self.is_driver(entry)));
+        counts.judge(found.as_ref().map_or(false, |found| self.is_driver(found.entry(), **found)));
         counts.good(found?.acquire_local())
     }
 
-    fn detach(&self, cpu: &Cpu<'id>, churn: &mut Churn, counts: &mut Counts) {
+    fn detach(&self, cpu: &Cpu<u64>, churn: &mut Churn, counts: &mut Counts) {
         let gone = self.registry.detach(cpu, Kind::Iface, &self.wm0).ok();
         let right = gone == churn.live && gone.map_or(false, |entry| entry.slot < SLOTS);
         counts.judge(right);
@@ -134,55 +129,55 @@ impl<'id> Storm<'id> {
             None => return,
         };
         match self.registry.advance(number) {
-            Ok(Stage::Grace(_)) => (),
-            Ok(Stage::Freed(freed)) if freed == slot => *place = None,
+            Ok(Advance::Held(Holder::Grace(_))) => (),
+            Ok(Advance::Freed(freed)) if freed.entry.slot == slot && freed.value < u64::from(self.turns) => *place = None,
             _ => counts.judge(false),
         }
     }
 
     /// One turn of a CPU.
-    fn make_turn(&self, cpu: &Cpu<'id>, counts: &mut Counts) {
+    fn make_turn(&self, cpu: &Cpu<u64>, counts: &mut Counts) {
         let mut section = match counts.good(cpu.enter()) {
             Some(section) => section,
             None => return,
         };
         let iface = section.find(Kind::Iface, &self.wm0);
-        counts.judge(iface.map_or(true, |entry| entry.value < u64::from(self.turns)));
+        counts.judge(iface.map_or(true, |found| *found < u64::from(self.turns)));
         let driver = section.find(Kind::Driver, &self.drv);
         counts.lookups += 2;
-        counts.judge(driver.as_deref().map_or(false, |entry| self.is_driver(entry)));
+        counts.judge(driver.as_ref().map_or(false, |found| self.is_driver(found.entry(), **found)));
         let (passive, local) = match driver {
             Some(found) => (counts.good(found.acquire()), counts.good(found.acquire_local())),
             None => return,
         };
         section.exit();
         if let Some(passive) = passive {
-            counts.judge(self.is_driver(&passive.read()));
+            counts.judge(self.is_driver(passive.entry(), *passive));
         }
-        if let Some(mut local) = local {
-            counts.judge(self.is_driver(&local.read()));
+        if let Some(local) = local {
+            counts.judge(self.is_driver(local.entry(), *local));
             self.pass_on(cpu, local, counts);
         }
     }
 
     /// Lays a reference into the next CPU's basket, and releases what lay there and what lies in this CPU's own.
-    fn pass_on(&self, cpu: &Cpu<'id>, local: LocalRef<'id>, counts: &mut Counts) {
+    fn pass_on(&self, cpu: &Cpu<u64>, local: LocalRef<u64>, counts: &mut Counts) {
         let own = usize::from(cpu.id());
         let next = (own + 1) % self.baskets.len();
         let back = self.baskets[next].lock().unwrap().replace(local);
         let handed = self.baskets[own].lock().unwrap().take();
         for reference in back.into_iter().chain(handed) {
-            reference.release(cpu);
+            counts.judge(reference.release(cpu).is_ok());
             counts.references += 1;
         }
     }
 
     /// Takes away on CPU 0 what is left, and answers how many references to the driver are held then.
-    fn finish(&self, cpus: &[Cpu<'id>], mut churn: Churn, counts: &mut Counts) -> i64 {
+    fn finish(&self, cpus: &[Cpu<u64>], mut churn: Churn, counts: &mut Counts) -> i64 {
         let cpu = &cpus[0];
         for basket in &self.baskets {
             if let Some(reference) = basket.lock().unwrap().take() {
-                reference.release(cpu);
+                counts.judge(reference.release(cpu).is_ok());
                 counts.references += 1;
             }
         }
@@ -191,20 +186,22 @@ impl<'id> Storm<'id> {
         }
         for (slot, number) in (0..SLOTS).zip(churn.retired) {
             if let Some(number) = number {
-                counts.judge(self.registry.destroy(cpu, number, 1) == Ok(slot));
+                let freed = self.registry.destroy(cpu, number, Patience::Turns(1));
+                counts.judge(freed.map_or(false, |freed| freed.entry.slot == slot));
             }
         }
         let balances = counts.good(self.registry.audit(cpus)).unwrap_or_default();
         counts.judge(balances.len() == 1 && balances[0].number == 1);
         let gone = self.registry.detach(cpu, Kind::Driver, &self.drv);
-        counts.judge(gone.map_or(false, |entry| self.is_driver(&entry)));
-        counts.judge(self.registry.destroy(cpu, 1, 1) == Ok(0));
+        counts.judge(gone.is_ok());
+        let freed = self.registry.destroy(cpu, 1, Patience::Turns(1));
+        counts.judge(freed.map_or(false, |freed| self.is_driver(freed.entry, freed.value)));
         balances.first().map_or(0, |balance| balance.held)
     }
 }
 
 /// Runs all CPUs, each on a thread, and adds up what they counted. The CPUs come back.
-fn blow<'id>(storm: &Storm<'id>, cpus: Vec<Cpu<'id>>) -> (Vec<Cpu<'id>>, Counts, Churn) {
+fn blow(storm: &Storm, cpus: Vec<Cpu<u64>>) -> (Vec<Cpu<u64>>, Counts, Churn) {
     let mut sum = Counts::default();
     let mut left = Churn::default();
     let mut back = Vec::new();
@@ -235,25 +232,24 @@ fn run(cpus: u8, turns: u32) -> Result<u64, Refusal> {
         passives: 4,
         ..Settings::new(cpus, SLOTS)
     };
-    Registry::open(settings, |registry, all| {
-        let storm = Storm {
-            registry,
-            baskets: all.iter().map(|_| Mutex::new(None)).collect(),
-            turns,
-            drv: Name::parse("drv").expect("a name"),
-            wm0: Name::parse("wm0").expect("a name"),
-        };
-        let driver = registry.attach(&all[0], &storm.drv, DRIVER_VALUE)?;
-        let (all, mut counts, churn) = blow(&storm, all);
-        counts.judge(storm.is_driver(&driver));
-        let held = storm.finish(&all, churn, &mut counts);
-        println!("storm {cpus} {turns}");
-        println!(
-            "lookups {}\nreferences {}\nwrong {}\nheld {held}",
-            counts.lookups, counts.references, counts.wrong
-        );
-        Ok(counts.wrong)
-    })?
+    let (registry, all) = Registry::open(settings)?;
+    let storm = Storm {
+        registry,
+        baskets: all.iter().map(|_| Mutex::new(None)).collect(),
+        turns,
+        drv: Name::parse("drv").expect("a name"),
+        wm0: Name::parse("wm0").expect("a name"),
+    };
+    let driver = storm.registry.attach(&all[0], &storm.drv, DRIVER_VALUE)?;
+    let (all, mut counts, churn) = blow(&storm, all);
+    counts.judge(storm.is_driver(driver, DRIVER_VALUE));
+    let held = storm.finish(&all, churn, &mut counts);
+    println!("storm {cpus} {turns}");
+    println!(
+        "lookups {}\nreferences {}\nwrong {}\nheld {held}",
+        counts.lookups, counts.references, counts.wrong
+    );
+    Ok(counts.wrong)
 }
 
 /// A number from 1 to the most.

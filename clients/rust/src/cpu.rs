@@ -1,51 +1,54 @@
-//! A CPU, and the sections on it.
+//! A CPU of a registry.
 
 use crate::ffi;
-use crate::local::LocalRef;
-use crate::passive::PassiveRef;
 use crate::refusal::{checked, Refusal};
 use crate::registry::Registry;
-use crate::values::{Entry, Kind, Name};
+use crate::section::Section;
+use crate::shared::{Lease, Shared};
 use std::cell::{Cell, UnsafeCell};
 use std::fmt;
-use std::marker::PhantomData;
 use std::mem;
-use std::ops::Deref;
+use std::sync::Arc;
 
-/// One of the registry's CPUs, for the thread that has it. It may go to another thread, and be used by one at a time.
+/// One of the registry's CPUs, for the thread that has it. It owns a share of its registry: it may be stored, and go to another thread; one
+/// thread at a time uses it. Sections and passive references borrow it, so it can't go while one is there.
 ///
-/// A CPU that is dropped goes back to its registry, which gives it out again: [`Registry::cpu`].
+/// A CPU that is dropped goes back to its registry, which gives it out again: [`Registry::cpu`]. A program with more threads than CPUs lends
+/// them from a [`CpuPool`](crate::CpuPool).
 ///
-/// Threads can't share one:
+/// ```
+/// use registry::{Kind, Name, Registry, Settings};
+/// use std::thread;
 ///
-/// ```compile_fail,E0277
-/// use registry::{Registry, Settings};
-///
-/// Registry::open(Settings::new(1, 1), |_, cpus| {
-///     std::thread::scope(|scope| {
-///         scope.spawn(|| cpus[0].is_inside());
-///     });
-/// })
-/// .unwrap();
+/// let (registry, mut cpus) = Registry::open(Settings::new(2, 4)).unwrap();
+/// let wm = Name::parse("wm").unwrap();
+/// registry.attach(&cpus[0], &wm, 7).unwrap();
+/// let cpu = cpus.remove(1);
+/// let reader = thread::spawn(move || cpu.enter().unwrap().find(Kind::Driver, &wm).map(|found| *found));
+/// assert_eq!(reader.join().unwrap(), Some(7));
+/// assert!(registry.cpu(1).is_some());
 /// ```
 // A lookup writes `last`, so two CPUs lie on cache lines of their own.
 #[repr(align(128))]
-pub struct Cpu<'id> {
-    registry: Registry<'id>,
-    id: u8,
+pub struct Cpu<T> {
     /// In a cell, so that sections and references can be had at once. A CPU isn't `Sync`, and no call calls back: one call at a time.
     handle: UnsafeCell<ffi::Cpu>,
     /// The number of the last found entry, or 0. Past the section it says nothing.
-    last: Cell<u64>,
+    pub(crate) last: Cell<u64>,
+    lease: Arc<Lease<T>>,
+    /// The share of a local reference that was released here, for the next one that is acquired.
+    given_back: Cell<Option<Arc<Lease<T>>>>,
+    id: u8,
 }
 
-impl<'id> Cpu<'id> {
-    pub(crate) fn new(registry: Registry<'id>, id: u8, handle: ffi::Cpu) -> Cpu<'id> {
+impl<T> Cpu<T> {
+    pub(crate) fn new(shared: Arc<Shared<T>>, id: u8, handle: ffi::Cpu) -> Cpu<T> {
         Cpu {
-            registry,
-            id,
             handle: UnsafeCell::new(handle),
             last: Cell::new(0),
+            lease: Arc::new(Lease { shared }),
+            given_back: Cell::new(None),
+            id,
         }
     }
 
@@ -66,14 +69,36 @@ impl<'id> Cpu<'id> {
         unsafe { *self.handle.get() = handle };
     }
 
+    pub(crate) fn shared(&self) -> &Arc<Shared<T>> {
+        &self.lease.shared
+    }
+
+    /// Whether it is of this registry. Both are open, so two registries have two addresses.
+    #[inline]
+    pub(crate) fn is_of(&self, shared: &Arc<Shared<T>>) -> bool {
+        Arc::ptr_eq(self.shared(), shared)
+    }
+
+    /// A share of the registry for a local reference.
+    #[inline]
+    pub(crate) fn share(&self) -> Arc<Lease<T>> {
+        self.given_back.take().unwrap_or_else(|| Arc::clone(&self.lease))
+    }
+
+    /// Keeps the share of a local reference that was released here.
+    #[inline]
+    pub(crate) fn keep_share(&self, lease: Arc<Lease<T>>) {
+        self.given_back.set(Some(lease));
+    }
+
     /// Its number, from 0.
     pub fn id(&self) -> u8 {
         self.id
     }
 
     /// The registry that it is of.
-    pub fn registry(&self) -> Registry<'id> {
-        self.registry
+    pub fn registry(&self) -> Registry<T> {
+        Registry::of(Arc::clone(self.shared()))
     }
 
     /// How many sections are open, one in another: 0 outside.
@@ -89,19 +114,36 @@ impl<'id> Cpu<'id> {
         self.depth() != 0
     }
 
-    /// Enters a section, or the open one once more. It is open until the guard is dropped; of a guard that is forgotten, for ever.
+    /// Enters a section, or the open one once more: `pserialize_read_enter`. It is open until the guard is dropped. One whose guard was
+    /// forgotten stays open until the CPU [leaves](Cpu::leave), is dropped or goes back to its pool; an enter before that is nested in it.
     ///
     /// # Errors
     ///
     /// `TooDeep`, `SectionsSpent`.
     #[inline]
-    pub fn enter(&self) -> Result<Section<'_, 'id>, Refusal> {
+    pub fn enter(&self) -> Result<Section<'_, T>, Refusal> {
         // SAFETY: as for `depth`.
         checked(unsafe { ffi::registry_enter(self.handle()) })?;
-        Ok(Section { cpu: self })
+        Ok(Section::new(self))
     }
 
-    /// Whether this CPU has a passive reference to the entry with that number.
+    /// Exits whatever is still open: sections whose guards were forgotten, since a guard that lives borrows the CPU.
+    ///
+    /// ```
+    /// use registry::{Registry, Settings};
+    ///
+    /// let (_, mut cpus) = Registry::<()>::open(Settings::new(1, 1)).unwrap();
+    /// std::mem::forget(cpus[0].enter().unwrap());
+    /// assert_eq!(cpus[0].depth(), 1);
+    /// cpus[0].leave();
+    /// assert_eq!(cpus[0].depth(), 0);
+    /// ```
+    pub fn leave(&mut self) {
+        // SAFETY: as for `depth`. No guard lives, so nothing that was found in these sections is in use.
+        while unsafe { ffi::registry_exit(self.handle()) } == ffi::DONE {}
+    }
+
+    /// Whether this CPU has a passive reference to the entry with that number: `psref_held`.
     pub fn holds(&self, number: u64) -> bool {
         let mut held = false;
         // SAFETY: as for `depth`.
@@ -109,165 +151,29 @@ impl<'id> Cpu<'id> {
         held
     }
 
-    /// Releases the local references that were dropped on threads without a CPU. Each acquire of a local one does so first.
+    /// Releases the local references that were dropped, on whatever thread. So does each release on a CPU and each call of a registry that
+    /// takes one. It waits for the interlock where a drain has collected this CPU's count.
     #[inline]
     pub fn release_dropped(&self) {
-        if self.registry.shared().has_dropped() {
-            // SAFETY: this thread alone has the CPU, and doesn't hold the interlock, which no code of a caller ever holds.
-            unsafe { self.registry.shared().release_dropped(self.handle()) };
+        if self.shared().has_dropped() {
+            // SAFETY: this thread alone has the CPU, what lies in its registry's basket is of that registry, and no code of a caller ever
+            // holds the interlock.
+            unsafe { self.shared().release_dropped(self.handle()) };
         }
     }
 }
 
-impl Drop for Cpu<'_> {
+impl<T> Drop for Cpu<T> {
+    /// Leaves, and goes back to its registry. What it refers to passively by then was forgotten, and stays held.
     fn drop(&mut self) {
+        self.leave();
         let handle = self.take_out();
-        self.registry.shared().put_cpu(self.id, handle);
+        self.shared().put_cpu(self.id, handle);
     }
 }
 
-impl fmt::Debug for Cpu<'_> {
+impl<T> fmt::Debug for Cpu<T> {
     fn fmt(&self, f: &mut fmt::Formatter<'_>) -> fmt::Result {
         f.debug_struct("Cpu").field("id", &self.id).field("depth", &self.depth()).finish()
-    }
-}
-
-/// An open section, or one nesting of it: what is found in it keeps its slot while it is open. Dropping it exits.
-#[must_use = "a section that is dropped at once protects nothing"]
-pub struct Section<'cpu, 'id> {
-    cpu: &'cpu Cpu<'id>,
-}
-
-impl<'cpu, 'id> Section<'cpu, 'id> {
-    /// Looks a live entry up. It takes no lock, waits for nobody, and writes no word that others write.
-    ///
-    /// What was found can't be used past the section:
-    ///
-    /// ```compile_fail,E0505
-    /// use registry::{Kind, Name, Registry, Settings};
-    ///
-    /// Registry::open(Settings::new(1, 1), |_, cpus| {
-    ///     let mut section = cpus[0].enter().unwrap();
-    ///     let found = section.find(Kind::Driver, &Name::parse("wm").unwrap());
-    ///     drop(section);
-    ///     println!("{:?}", found.map(|entry| entry.value));
-    /// })
-    /// .unwrap();
-    /// ```
-    ///
-    /// nor past the next lookup in it, so that a reference is to the entry that was meant:
-    ///
-    /// ```compile_fail,E0499
-    /// use registry::{Kind, Name, Registry, Settings};
-    ///
-    /// Registry::open(Settings::new(1, 1), |_, cpus| {
-    ///     let (wm, vga) = (Name::parse("wm").unwrap(), Name::parse("vga").unwrap());
-    ///     let mut section = cpus[0].enter().unwrap();
-    ///     let first = section.find(Kind::Driver, &wm);
-    ///     let second = section.find(Kind::Driver, &vga);
-    ///     drop((first, second));
-    /// })
-    /// .unwrap();
-    /// ```
-    #[inline]
-    pub fn find(&mut self, kind: Kind, name: &Name) -> Option<Found<'_, 'cpu, 'id>> {
-        // SAFETY: this thread alone has the CPU, whose handle isn't empty.
-        let found = Entry::written(|found| unsafe { ffi::registry_find(self.cpu.handle(), kind.number(), &name.words, found) });
-        match found {
-            Ok(entry) => {
-                self.cpu.last.set(entry.number);
-                Some(Found {
-                    entry,
-                    cpu: self.cpu,
-                    section: PhantomData,
-                })
-            }
-            Err(answer) => {
-                assert_eq!(answer, ffi::NOT_FOUND, "a lookup in a section");
-                self.cpu.last.set(0);
-                None
-            }
-        }
-    }
-
-    /// The CPU that it is on.
-    pub fn cpu(&self) -> &'cpu Cpu<'id> {
-        self.cpu
-    }
-
-    /// Exits, as dropping it does.
-    #[inline]
-    pub fn exit(self) {}
-}
-
-impl Drop for Section<'_, '_> {
-    #[inline]
-    fn drop(&mut self) {
-        // SAFETY: as for `find`. One exit for the one enter that made the guard, so the CPU is inside.
-        unsafe { ffi::registry_exit(self.cpu.handle()) };
-    }
-}
-
-impl fmt::Debug for Section<'_, '_> {
-    fn fmt(&self, f: &mut fmt::Formatter<'_>) -> fmt::Result {
-        f.debug_struct("Section").field("cpu", &self.cpu.id).finish()
-    }
-}
-
-/// An entry that was found in a section, for as long as the section is open. Whoever needs it longer acquires a reference.
-#[derive(Debug)]
-pub struct Found<'section, 'cpu, 'id> {
-    entry: Entry,
-    cpu: &'cpu Cpu<'id>,
-    section: PhantomData<&'section mut ()>,
-}
-
-impl<'cpu, 'id> Found<'_, 'cpu, 'id> {
-    /// Acquires a passive reference: the entry keeps its slot until it is released, and it can't leave the CPU.
-    ///
-    /// # Errors
-    ///
-    /// `Superseded` where this CPU has looked up something else since, which only a section within this one can; `PassiveFull`.
-    #[inline]
-    pub fn acquire(&self) -> Result<PassiveRef<'cpu, 'id>, Refusal> {
-        self.check_last()?;
-        let mut number = 0;
-        // SAFETY: this thread alone has the CPU, whose handle isn't empty.
-        checked(unsafe { ffi::registry_acquire(self.cpu.handle(), &mut number) })?;
-        Ok(PassiveRef::new(self.cpu, number))
-    }
-
-    /// Acquires a local reference: the entry keeps its slot until it is released, on any CPU of the registry.
-    ///
-    /// # Errors
-    ///
-    /// `Superseded` as of [`Found::acquire`]; `LocalFull`, `NoMemory`.
-    #[inline]
-    pub fn acquire_local(&self) -> Result<LocalRef<'id>, Refusal> {
-        self.check_last()?;
-        self.cpu.release_dropped();
-        let mut local = ffi::Local::EMPTY;
-        // SAFETY: as for `acquire`, and the local handle is empty.
-        checked(unsafe { ffi::registry_local_acquire(self.cpu.handle(), &mut local) })?;
-        Ok(LocalRef::new(self.cpu.registry, self.entry.number, local))
-    }
-
-    /// The CPU's last found entry is this one.
-    #[inline]
-    fn check_last(&self) -> Result<(), Refusal> {
-        if self.cpu.last.get() == self.entry.number {
-            Ok(())
-        } else {
-            Err(Refusal::Superseded)
-        }
-    }
-}
-
-impl Deref for Found<'_, '_, '_> {
-    type Target = Entry;
-
-    #[inline]
-    fn deref(&self) -> &Entry {
-        &self.entry
     }
 }

@@ -1,4 +1,5 @@
-//! The calls of registry.h, as C declares them. What the caller sees to is written there; the modules above say how they see to it.
+//! The calls of registry.h that this crate makes, as C declares them. What the caller must keep is written there; the modules above say how
+//! they keep it.
 
 use std::os::raw::c_void;
 use std::ptr;
@@ -68,6 +69,9 @@ handle! {
     Local
 }
 
+// SAFETY: a shared reference to a handle gives nothing but whether it is empty; every call takes it by a pointer to a value that is owned.
+unsafe impl Sync for Local {}
+
 impl Cpu {
     pub fn is_empty(&self) -> bool {
         self.at.is_null()
@@ -131,6 +135,7 @@ pub struct Wait {
     pub snapshots: [u64; MOST_CPUS],
     pub retired: [u64; MOST_SLOTS],
     pub seen: [u64; MOST_CPUS],
+    pub begun: u64,
 }
 
 extern "C" {
@@ -145,15 +150,18 @@ extern "C" {
     pub fn registry_exit(cpu: *mut Cpu) -> u32;
     pub fn registry_depth(cpu: *mut Cpu, depth: *mut u64) -> u32;
     pub fn registry_find(cpu: *mut Cpu, kind: u64, name: *const Name, found: *mut Entry) -> u32;
+    pub fn registry_walk(cpu: *mut Cpu, row: *mut Entry, room: usize, count: *mut usize) -> u32;
 
     pub fn registry_acquire(cpu: *mut Cpu, number: *mut u64) -> u32;
     pub fn registry_copy(cpu: *mut Cpu, number: u64) -> u32;
     pub fn registry_held(cpu: *mut Cpu, number: u64, held: *mut bool) -> u32;
-    pub fn registry_read(cpu: *mut Cpu, number: u64, entry: *mut Entry) -> u32;
     pub fn registry_release(cpu: *mut Cpu, number: u64) -> u32;
 
+    pub fn registry_look_up(cpu: *mut Cpu, kind: u64, name: *const Name, found: *mut Entry) -> u32;
+    pub fn registry_get(cpu: *mut Cpu, kind: u64, name: *const Name, found: *mut Entry) -> u32;
+    pub fn registry_enter_find(cpu: *mut Cpu, kind: u64, name: *const Name, found: *mut Entry) -> u32;
+
     pub fn registry_local_acquire(cpu: *mut Cpu, local: *mut Local) -> u32;
-    pub fn registry_local_read(local: *mut Local, entry: *mut Entry) -> u32;
     pub fn registry_local_release(cpu: *mut Cpu, local: *mut Local) -> u32;
     pub fn registry_local_give_up(keeper: *mut Keeper, local: *mut Local) -> u32;
 
@@ -170,7 +178,7 @@ extern "C" {
 
     pub fn registry_advance(keeper: *mut Keeper, number: u64, met: *mut Stage) -> u32;
     pub fn registry_destroy(keeper: *mut Keeper, cpu: *mut Cpu, number: u64, met: *mut Stage) -> u32;
-    pub fn registry_perform(keeper: *mut Keeper, cpu: *mut Cpu, wait: *mut Wait) -> u32;
+    pub fn registry_perform_begin(keeper: *mut Keeper, cpu: *mut Cpu, wait: *mut Wait) -> u32;
     pub fn registry_perform_turn(keeper: *mut Keeper, cpu: *mut Cpu, wait: *mut Wait, waited: *mut u64) -> u32;
     pub fn registry_audit(keeper: *mut Keeper, cpus: *mut Cpu, count: usize, list: *mut Balance, room: usize, length: *mut usize) -> u32;
 }

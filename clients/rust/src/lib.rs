@@ -1,66 +1,115 @@
-//! A registry of network interfaces and device drivers over virtual CPUs.
+//! A registry of network interfaces and device drivers over virtual CPUs, each entry of which carries a value of the caller's.
+//!
+//! # The problem
 //!
 //! A kernel looks up a network interface for each packet and a driver for each device call, on every CPU at once. A lock or a reference count
-//! that all of them write is a cache line that all of them fight for. Here a lookup writes no word that another CPU writes; whoever removes an
-//! entry finds out by itself when nobody can hold it any more, and only then gives its slot again.
+//! that all of them write is a cache line that all of them fight for. But where a lookup writes nothing that others see, whoever removes an
+//! interface can't see who still uses it, and has to find out before its memory is used again.
 //!
-//! # Sections
+//! # The mechanism
 //!
-//! A CPU [enters](Cpu::enter) a section, [finds](Section::find) entries in it, and exits when the [`Section`] is dropped. An entry that was
-//! [`Found`] keeps its slot while the section is open, even where it is detached meanwhile.
+//! A lookup writes one word of its own CPU as it begins and as it ends. Whoever removes an entry unlinks it, notes the word of each CPU, and
+//! looks again until each has changed or says that its CPU is outside: no lookup that began afterwards can have found the entry. References
+//! are counted on the CPU that acquires them, and the counts are looked at, or collected, after that. Only then is the entry freed: its slot
+//! is given again, and its `T` comes back.
 //!
-//! # References
+//! # The notions
 //!
-//! To use an entry longer, [acquire](Found::acquire) a [`PassiveRef`], which is cheap and can't leave its CPU, or a [`LocalRef`] by
-//! [`Found::acquire_local`], which may go to another thread and be released on any CPU.
+//! - An [`Entry`] is a driver or an interface that was attached. It is live until it is detached, and retired until it is freed. It carries a
+//!   `T`, which everything that holds the entry derefs to. `T` is one type for all entries of a registry: an `enum` where drivers and
+//!   interfaces carry different things, `()` where they carry nothing.
+//! - A [`Cpu`] is a value that one thread at a time uses; a registry has 1 to 8. It needn't be a processor of the machine. A [`CpuPool`] lends
+//!   CPUs to more threads.
+//! - A [`Section`] is what a CPU is in while it looks entries up. What is [`Found`] in it keeps its slot while it is open.
+//! - A [`PassiveRef`] holds an entry beyond the section, on one CPU; it is cheap, and its holder may sleep. A [`LocalRef`] may go to other
+//!   threads, and be stored; a [`LocalGuard`] is one that a CPU releases as it is dropped.
+//! - The interlock is the lock of a [`Registry`], behind which changes are made, one turn at a time.
 //!
-//! # Changes
+//! # The calls
 //!
-//! [`Registry::attach`], [`Registry::attach_iface`] and [`Registry::detach`] take the registry's lock. A detached entry is retired: its slot
-//! is given again once [`Registry::destroy`], or [`Registry::advance`] turn by turn, has met nobody who may hold it.
+//! | To | call |
+//! |---|---|
+//! | open | [`Registry::open`]; closing is dropping all handles |
+//! | look up | [`Cpu::enter`], [`Section::find`], and drop the section |
+//! | go over all | [`Section::entries`] in a section |
+//! | hold longer | [`Found::acquire`] on this CPU, [`Found::acquire_local`] for any thread |
+//! | look up by one call | [`Cpu::read`] answers the entry with its section, [`Cpu::get`] a reference, [`Cpu::look_up`] the record alone |
+//! | change | [`Registry::attach`], [`Registry::attach_iface`], [`Registry::detach`] |
+//! | free | [`Registry::destroy`] waits, [`Registry::advance`] doesn't; after [`Registry::retire`] later changes do it, or [`Registry::collect`] |
+//! | wait for readers alone | [`Registry::perform`] |
+//! | see the counts | [`Registry::audit`] |
 //!
 //! ```
-//! use registry::{Kind, Name, Registry, Settings, Stage};
+//! use registry::{Advance, Holder, Kind, Name, Registry, Settings};
 //!
-//! Registry::open(Settings::new(2, 4), |registry, cpus| {
-//!     let wm = Name::parse("wm").unwrap();
-//!     registry.attach(&cpus[1], &wm, 7).unwrap();
+//! struct Driver {
+//!     speed: u32,
+//! }
 //!
-//!     let mut section = cpus[0].enter().unwrap();
-//!     let found = section.find(Kind::Driver, &wm).unwrap();
-//!     let gone = registry.detach(&cpus[1], Kind::Driver, &wm).unwrap();
-//!     assert_eq!(registry.advance(gone.number), Ok(Stage::Grace(0)));
-//!     assert_eq!(found.value, 7);
-//!     let reference = found.acquire().unwrap();
-//!     section.exit();
+//! let (registry, cpus) = Registry::open(Settings::new(2, 4)).unwrap();
+//! let wm = Name::parse("wm").unwrap();
+//! registry.attach(&cpus[1], &wm, Driver { speed: 1000 }).unwrap();
 //!
-//!     assert_eq!(registry.advance(gone.number), Ok(Stage::Passive(0)));
-//!     assert_eq!(reference.read(), gone);
-//!     reference.release();
-//!     assert_eq!(registry.advance(gone.number), Ok(Stage::Freed(0)));
-//! })
-//! .unwrap();
+//! let mut section = cpus[0].enter().unwrap();
+//! let found = section.find(Kind::Driver, &wm).unwrap();
+//! let gone = registry.detach(&cpus[1], Kind::Driver, &wm).unwrap();
+//! assert_eq!(registry.advance(gone.number).unwrap().holder(), Some(Holder::Grace(0)));
+//! assert_eq!(found.speed, 1000);
+//! let reference = found.acquire().unwrap();
+//! section.exit();
+//!
+//! assert_eq!(registry.advance(gone.number).unwrap().holder(), Some(Holder::Passive(0)));
+//! assert_eq!(reference.speed, 1000);
+//! reference.release();
+//! let driver: Driver = registry.advance(gone.number).unwrap().freed().unwrap().value;
+//! assert_eq!(driver.speed, 1000);
 //! ```
+//!
+//! # The order of memory
+//!
+//! Whoever finds an entry sees what was written before its attach; and what was done with its `T` comes before the `T` is given back. Each
+//! step on a word that CPUs share is a sequentially consistent atomic operation of the archive: the attach stores the link that the lookup
+//! loads, and a section's exit, a passive reference's release or a local one's writes the word that the turn which frees the entry has loaded
+//! or swapped.
+//!
+//! # What is dropped, forgotten, or panics
+//!
+//! What is dropped is given back: a section is exited, a reference released, a CPU goes back to its registry. What is forgotten stays held,
+//! and nothing is freed under it: the entry of a forgotten reference is never freed, and its `T` never dropped. A section whose guard is
+//! forgotten stays open until its CPU is dropped, goes back to its pool, or [leaves](Cpu::leave). A panic is nothing else than drops. No lock
+//! of the registry is held while a `T` is dropped, so that may call the registry.
 //!
 //! # What is proved
 //!
 //! The protocol, the shared words and the calls of registry.h are proved, in Rattle. This crate is not: it is tested, and its types rule out
-//! what the calls ask of their caller. Its uses of `unsafe` are the calls themselves, each with the reason why it may be made.
+//! what the calls ask of their caller, or a test at run time refuses it by name ([`Refusal::OtherRegistry`]). Its uses of `unsafe` are the
+//! calls themselves, and the way from the word that an entry carries to the `T`; each says which sentence of registry.h makes it sound.
 
 #![warn(missing_docs)]
 
+mod carried;
 mod cpu;
+mod entries;
 mod ffi;
 mod local;
 mod passive;
+mod patience;
+mod pool;
 mod refusal;
 mod registry;
+mod section;
 mod shared;
+mod usual;
 mod values;
 
-pub use cpu::{Cpu, Found, Section};
-pub use local::LocalRef;
+pub use cpu::Cpu;
+pub use entries::{Entries, Listed};
+pub use local::{LocalGuard, LocalRef};
 pub use passive::PassiveRef;
+pub use patience::Patience;
+pub use pool::{CpuPool, Lent};
 pub use refusal::{Refusal, Refused};
 pub use registry::Registry;
-pub use values::{Balance, Entry, Kind, Name, NameFault, Settings, Stage};
+pub use section::{Found, Section};
+pub use usual::ReadGuard;
+pub use values::{Advance, Balance, Entry, Freed, Holder, Kind, Name, NameFault, Settings};

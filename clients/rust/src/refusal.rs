@@ -1,13 +1,20 @@
 //! Why a call was refused.
 
 use crate::ffi;
-use crate::local::LocalRef;
-use crate::values::Stage;
+use crate::values::Holder;
 use std::error::Error;
 use std::fmt;
 
 /// Why a call was refused. A call that is refused has changed nothing, unless it says so; each names what it refuses, in the order in which
-/// it tests it.
+/// it tests it. What each asks of its caller stands in `docs/DRIVERS.md` of the repository, and in registry(3).
+///
+/// ```
+/// use registry::{Refusal, Registry, Settings};
+///
+/// let refusal = Registry::<()>::open(Settings::new(9, 1)).unwrap_err();
+/// assert_eq!((refusal, refusal.number()), (Refusal::BadSettings, 2));
+/// println!("{refusal}");
+/// ```
 #[derive(Clone, Copy, Debug, PartialEq, Eq)]
 #[non_exhaustive]
 pub enum Refusal {
@@ -36,7 +43,7 @@ pub enum Refusal {
     /// The CPUs aren't all CPUs of the registry, in their order.
     MissingCpu,
     /// The last turn met this obstacle.
-    StillHeld(Stage),
+    StillHeld(Holder),
     /// This CPU wasn't seen out of its section.
     Waiting(u8),
     /// The section is nested as deep as it may be.
@@ -45,10 +52,12 @@ pub enum Refusal {
     NeedsDriver,
     /// The CPU has looked up something else since it found this entry.
     Superseded,
+    /// A CPU or a reference is of another registry.
+    OtherRegistry,
 }
 
 impl Refusal {
-    /// The number of the refusal in registry.h; 0 for `Superseded`, which is this crate's own.
+    /// The number of the refusal in registry.h; 0 for `Superseded` and `OtherRegistry`, which are this crate's own.
     pub fn number(&self) -> u32 {
         match self {
             Refusal::NoMemory => ffi::NO_MEMORY,
@@ -67,7 +76,7 @@ impl Refusal {
             Refusal::Waiting(_) => ffi::WAITING,
             Refusal::TooDeep => ffi::TOO_DEEP,
             Refusal::NeedsDriver => ffi::NEEDS_DRIVER,
-            Refusal::Superseded => 0,
+            Refusal::Superseded | Refusal::OtherRegistry => 0,
         }
     }
 }
@@ -116,7 +125,8 @@ impl fmt::Display for Refusal {
     fn fmt(&self, f: &mut fmt::Formatter<'_>) -> fmt::Result {
         match self {
             Refusal::Superseded => f.write_str("this CPU has looked up something else since"),
-            Refusal::StillHeld(stage) => write!(f, "{}: {stage}", text(self.number())),
+            Refusal::OtherRegistry => f.write_str("a CPU or a reference is of another registry"),
+            Refusal::StillHeld(holder) => write!(f, "{}: {holder}", text(self.number())),
             Refusal::Waiting(cpu) => write!(f, "{}: cpu {cpu}", text(self.number())),
             _ => f.write_str(&text(self.number())),
         }
@@ -125,30 +135,47 @@ impl fmt::Display for Refusal {
 
 impl Error for Refusal {}
 
-/// Why an interface wasn't attached, and the reference to its driver, which comes back.
-#[derive(Debug)]
-pub struct Refused<'id> {
-    /// Why not.
+/// Why a call was refused to which something was given away, and what was given, which comes back as it was.
+///
+/// Where the refusal alone is wanted, `?` makes it one, and drops what was given.
+///
+/// ```
+/// use registry::{Refusal, Refused, Registry, Settings};
+///
+/// let (registry, cpus) = Registry::open(Settings::new(1, 2)).unwrap();
+/// let wm = "wm".parse().unwrap();
+/// registry.attach(&cpus[0], &wm, String::from("one")).unwrap();
+/// let Refused { refusal, given } = registry.attach(&cpus[0], &wm, String::from("two")).unwrap_err();
+/// assert_eq!((refusal, given.as_str()), (Refusal::NameTaken, "two"));
+/// ```
+pub struct Refused<G> {
+    /// Why it was refused.
     pub refusal: Refusal,
-    /// The reference, as it was.
-    pub driver: LocalRef<'id>,
+    /// What was given.
+    pub given: G,
 }
 
-impl fmt::Display for Refused<'_> {
+impl<G> fmt::Debug for Refused<G> {
+    fn fmt(&self, f: &mut fmt::Formatter<'_>) -> fmt::Result {
+        f.debug_struct("Refused").field("refusal", &self.refusal).finish_non_exhaustive()
+    }
+}
+
+impl<G> fmt::Display for Refused<G> {
     fn fmt(&self, f: &mut fmt::Formatter<'_>) -> fmt::Result {
         self.refusal.fmt(f)
     }
 }
 
-impl Error for Refused<'_> {
+impl<G> Error for Refused<G> {
     fn source(&self) -> Option<&(dyn Error + 'static)> {
         Some(&self.refusal)
     }
 }
 
-impl From<Refused<'_>> for Refusal {
-    /// Gives the reference back.
-    fn from(refused: Refused<'_>) -> Refusal {
+impl<G> From<Refused<G>> for Refusal {
+    /// Drops what was given.
+    fn from(refused: Refused<G>) -> Refusal {
         refused.refusal
     }
 }

@@ -1,70 +1,61 @@
 //! The registry: its opening, and the calls behind the interlock.
 
+use crate::carried::Carried;
 use crate::cpu::Cpu;
 use crate::ffi;
 use crate::local::LocalRef;
+use crate::patience::{Patience, Pauses};
 use crate::refusal::{checked, refusal_of, Refusal, Refused};
 use crate::shared::{Shared, NO_CPUS};
-use crate::values::{Balance, Entry, Kind, Name, Settings, Stage};
+use crate::values::{Advance, Balance, Entry, Freed, Kind, Name, Settings};
 use std::fmt;
-use std::marker::PhantomData;
-use std::sync::MutexGuard;
-use std::thread;
+use std::sync::Arc;
 
-/// Names one registry: no two have the same `'id`, since the body that [`Registry::open`] calls takes any.
-type Brand<'id> = PhantomData<fn(&'id ()) -> &'id ()>;
-
-/// An open registry. It is copied freely, and threads share it; its keeper is behind a lock, the interlock, which no call holds for more than
-/// one turn.
-#[derive(Clone, Copy)]
-pub struct Registry<'id> {
-    shared: &'id Shared,
-    brand: Brand<'id>,
+/// An open registry, each entry of which carries a `T` of the caller's. A clone is one more handle of the same registry; threads share them,
+/// and a `static` may have one.
+///
+/// The registry is open as long as somebody has a handle of it: a `Registry`, a [`Cpu`] or a [`LocalRef`]. As the last one goes it is closed,
+/// and what its entries still carry is dropped; a handle that is forgotten keeps it open for ever, and so does one that an entry of the same
+/// registry carries.
+///
+/// The keeper is behind a lock, the interlock, which is held for one turn at a time, and never while a `T` is dropped: that may call the
+/// registry again.
+///
+/// ```
+/// use registry::{Kind, Name, Registry, Settings};
+/// use std::sync::Mutex;
+///
+/// static DEVICES: Mutex<Option<Registry<String>>> = Mutex::new(None);
+///
+/// let (registry, cpus) = Registry::open(Settings::new(2, 4)).unwrap();
+/// registry.attach(&cpus[0], &Name::parse("wm").unwrap(), "gigabit".to_string()).unwrap();
+/// *DEVICES.lock().unwrap() = Some(registry);
+/// ```
+pub struct Registry<T> {
+    shared: Arc<Shared<T>>,
 }
 
-impl Registry<'_> {
-    /// Opens a registry, hands it to the body with all its CPUs in order, and closes it afterwards. Nothing of it can leave the body, nor
-    /// meet another registry, since all its values have the lifetime `'id`, which is no other's.
+impl<T> Registry<T> {
+    pub(crate) fn of(shared: Arc<Shared<T>>) -> Registry<T> {
+        Registry { shared }
+    }
+
+    /// Opens a registry, with all its CPUs in order.
     ///
     /// ```
-    /// use registry::{Kind, Name, Registry, Settings};
+    /// use registry::{Registry, Settings};
     ///
-    /// let slot = Registry::open(Settings::new(2, 4), |registry, cpus| {
-    ///     let wm = Name::parse("wm").unwrap();
-    ///     registry.attach(&cpus[0], &wm, 7).map(|entry| entry.slot)
-    /// })
-    /// .unwrap();
-    /// assert_eq!(slot, Ok(0));
+    /// let (registry, cpus) = Registry::<String>::open(Settings::new(2, 4)).unwrap();
+    /// assert_eq!((registry.settings().slots, cpus[1].id()), (4, 1));
     /// ```
     ///
     /// # Errors
     ///
-    /// `BadSettings`, `NoMemory`; then the body wasn't called.
-    ///
-    /// Nothing of it leaves the body:
-    ///
-    /// ```compile_fail
-    /// use registry::{Registry, Settings};
-    ///
-    /// let cpus = Registry::open(Settings::new(2, 4), |_, cpus| cpus).unwrap();
-    /// ```
-    pub fn open<T, B>(settings: Settings, body: B) -> Result<T, Refusal>
-    where
-        B: for<'id> FnOnce(Registry<'id>, Vec<Cpu<'id>>) -> T,
-    {
-        let shared = Shared::open(settings)?;
-        let registry = Registry {
-            shared: &shared,
-            brand: PhantomData,
-        };
+    /// `BadSettings`, `NoMemory`.
+    pub fn open(settings: Settings) -> Result<(Registry<T>, Vec<Cpu<T>>), Refusal> {
+        let registry = Registry::of(Arc::new(Shared::open(settings)?));
         let cpus = (0..settings.cpus).filter_map(|id| registry.cpu(id)).collect();
-        Ok(body(registry, cpus))
-    }
-}
-
-impl<'id> Registry<'id> {
-    pub(crate) fn shared(self) -> &'id Shared {
-        self.shared
+        Ok((registry, cpus))
     }
 
     /// What it was opened with.
@@ -72,129 +63,246 @@ impl<'id> Registry<'id> {
         self.shared.settings()
     }
 
-    /// The CPU with this number, where nobody has it: each that was dropped may be had again, with the references that it holds.
-    pub fn cpu(&self, id: u8) -> Option<Cpu<'id>> {
-        Some(Cpu::new(*self, id, self.shared.take_cpu(id)?))
+    /// The CPU with this number, where nobody has it: each that was dropped may be had again, with the references that it still holds.
+    pub fn cpu(&self, id: u8) -> Option<Cpu<T>> {
+        let handle = self.shared.take_cpu(id)?;
+        Some(Cpu::new(Arc::clone(&self.shared), id, handle))
     }
 
-    /// Attaches a driver. Lookups that begin afterwards find it.
+    /// The CPU is of this registry, else `OtherRegistry`.
+    #[inline]
+    fn check(&self, cpu: &Cpu<T>) -> Result<(), Refusal> {
+        if cpu.is_of(&self.shared) {
+            Ok(())
+        } else {
+            Err(Refusal::OtherRegistry)
+        }
+    }
+
+    /// What comes before a change: the CPU releases what was dropped, and what is deferred and free is dropped. A CPU that is inside does
+    /// neither, since the change will be refused.
+    fn tidy(&self, cpu: &Cpu<T>) -> Result<(), Refusal> {
+        self.check(cpu)?;
+        if !cpu.is_inside() {
+            cpu.release_dropped();
+            drop(self.collect());
+        }
+        Ok(())
+    }
+}
+
+/// Changes. Each first frees what was [retired](Registry::retire) and nobody holds any more.
+impl<T> Registry<T> {
+    /// Attaches a driver that carries this value. Lookups that begin afterwards find it.
     ///
     /// # Errors
     ///
-    /// `Inside`, `NameTaken`, `NoSlot`, `HistoryFull`.
-    pub fn attach(&self, cpu: &Cpu<'id>, name: &Name, value: u64) -> Result<Entry, Refusal> {
-        // SAFETY: the keeper is locked, the CPU is this thread's, both are of one registry, and their handles aren't empty.
-        Entry::written(|made| unsafe { ffi::registry_attach(&mut *self.shared.keeper(), cpu.handle(), &name.words, value, made) })
-            .map_err(refusal_of)
-    }
-
-    /// Attaches an interface on the driver that the reference is to. Its slot keeps the reference, so that the driver outlives it.
-    ///
-    /// # Errors
-    ///
-    /// `Inside`, `NeedsDriver` where the reference is to an interface, `NameTaken`, `NoSlot`, `HistoryFull`; the reference comes back.
-    pub fn attach_iface(&self, cpu: &Cpu<'id>, name: &Name, value: u64, driver: LocalRef<'id>) -> Result<Entry, Refused<'id>> {
-        let number = driver.number();
-        let mut local = driver.into_handle();
-        // SAFETY: as for `attach`, and this is the only use of the reference's handle.
-        Entry::written(|made| unsafe {
-            ffi::registry_attach_iface(&mut *self.shared.keeper(), cpu.handle(), &mut local, &name.words, value, made)
+    /// `OtherRegistry`, `Inside`, `NameTaken`, `NoSlot`, `HistoryFull`; the value comes back.
+    pub fn attach(&self, cpu: &Cpu<T>, name: &Name, value: T) -> Result<Entry, Refused<T>> {
+        if let Err(refusal) = self.tidy(cpu) {
+            return Err(Refused { refusal, given: value });
+        }
+        self.attach_by(value, |keeper, word, made| {
+            // SAFETY: the keeper is locked, the CPU is this thread's, both are of one registry, and their handles aren't empty.
+            unsafe { ffi::registry_attach(keeper, cpu.handle(), &name.words, word, made) }
         })
-        .map_err(|answer| Refused {
-            refusal: refusal_of(answer),
-            driver: LocalRef::new(*self, number, local),
-        })
     }
 
-    /// Detaches the live entry with this kind and name. Lookups that begin afterwards don't find it; it is retired, and has its slot until
-    /// [`Registry::advance`] or [`Registry::destroy`] has freed it.
+    /// Attaches an interface that carries this value, on the driver that the reference is to. Its slot keeps the reference, so that the driver
+    /// outlives it.
+    ///
+    /// ```
+    /// use registry::{Kind, Name, Registry, Settings};
+    ///
+    /// let (registry, cpus) = Registry::open(Settings::new(1, 4)).unwrap();
+    /// let (wm, wm0) = (Name::parse("wm").unwrap(), Name::parse("wm0").unwrap());
+    /// registry.attach(&cpus[0], &wm, 7).unwrap();
+    /// let driver = cpus[0].enter().unwrap().find(Kind::Driver, &wm).unwrap().acquire_local().unwrap();
+    /// let made = registry.attach_iface(&cpus[0], &wm0, driver, 1500).unwrap();
+    /// assert_eq!((made.number, made.kind), (2, Kind::Iface));
+    /// ```
     ///
     /// # Errors
     ///
-    /// `Inside`, `NotFound`.
-    pub fn detach(&self, cpu: &Cpu<'id>, kind: Kind, name: &Name) -> Result<Entry, Refusal> {
+    /// `OtherRegistry` of the CPU or the reference, `Inside`, `NeedsDriver` where the reference is to an interface, `NameTaken`, `NoSlot`,
+    /// `HistoryFull`; the reference and the value come back.
+    pub fn attach_iface(&self, cpu: &Cpu<T>, name: &Name, mut driver: LocalRef<T>, value: T) -> Result<Entry, Refused<(LocalRef<T>, T)>> {
+        let other = if driver.is_of(&self.shared) {
+            self.tidy(cpu).err()
+        } else {
+            Some(Refusal::OtherRegistry)
+        };
+        if let Some(refusal) = other {
+            let given = (driver, value);
+            return Err(Refused { refusal, given });
+        }
+        let made = self.attach_by(value, |keeper, word, made| {
+            let local = driver.handle();
+            // SAFETY: as for `attach`; the reference is of the same registry, and this is the only use of its handle. It is empty afterwards
+            // where the call is done, so that dropping the reference releases nothing.
+            unsafe { ffi::registry_attach_iface(keeper, cpu.handle(), local, &name.words, word, made) }
+        });
+        made.map_err(|Refused { refusal, given }| Refused {
+            refusal,
+            given: (driver, given),
+        })
+    }
+
+    /// Attaches what the call attaches, under the interlock.
+    fn attach_by<C>(&self, value: T, call: C) -> Result<Entry, Refused<T>>
+    where
+        C: FnOnce(&mut ffi::Keeper, u64, *mut ffi::Entry) -> u32,
+    {
+        let carried = Carried::new(value);
+        let mut kept = self.shared.kept();
+        match Entry::written(|made| call(&mut kept.keeper, carried.word(), made)) {
+            Ok((entry, _)) => {
+                kept.note(entry, carried);
+                Ok(entry)
+            }
+            Err(answer) => {
+                drop(kept);
+                // SAFETY: registry.h says of a call that is refused that it changes nothing, so no entry has the address.
+                let given = unsafe { carried.take() };
+                let refusal = refusal_of(answer);
+                Err(Refused { refusal, given })
+            }
+        }
+    }
+
+    /// Detaches the live entry with this kind and name. Lookups that begin afterwards don't find it; it is retired, and has its slot and what
+    /// it carries until [`Registry::destroy`] or [`Registry::advance`] has freed it.
+    ///
+    /// # Errors
+    ///
+    /// `OtherRegistry`, `Inside`, `NotFound`.
+    pub fn detach(&self, cpu: &Cpu<T>, kind: Kind, name: &Name) -> Result<Entry, Refusal> {
+        self.detach_then(cpu, kind, name, false)
+    }
+
+    /// Detaches the live entry with this kind and name, and leaves the rest to later changes: each of them, and [`Registry::collect`], frees
+    /// what nobody holds any more, the oldest first, and drops what it carried.
+    ///
+    /// # Errors
+    ///
+    /// `OtherRegistry`, `Inside`, `NotFound`.
+    pub fn retire(&self, cpu: &Cpu<T>, kind: Kind, name: &Name) -> Result<Entry, Refusal> {
+        self.detach_then(cpu, kind, name, true)
+    }
+
+    fn detach_then(&self, cpu: &Cpu<T>, kind: Kind, name: &Name, deferred: bool) -> Result<Entry, Refusal> {
+        self.tidy(cpu)?;
+        let mut kept = self.shared.kept();
         // SAFETY: as for `attach`.
-        Entry::written(|gone| unsafe { ffi::registry_detach(&mut *self.shared.keeper(), cpu.handle(), kind.number(), &name.words, gone) })
-            .map_err(refusal_of)
+        let gone = Entry::written(|gone| unsafe { ffi::registry_detach(&mut kept.keeper, cpu.handle(), kind.number(), &name.words, gone) });
+        let (entry, _) = gone.map_err(refusal_of)?;
+        if deferred {
+            self.shared.defer(&mut kept, entry.number);
+        }
+        Ok(entry)
+    }
+}
+
+/// The work on retired entries.
+impl<T> Registry<T> {
+    /// How many entries that [`Registry::retire`] has detached wait to be freed.
+    pub fn retired(&self) -> usize {
+        self.shared.deferred()
     }
 
-    /// One turn of the work on the retired entry with this number: what holds it first, or that its slot is vacant from now on.
+    /// Frees what was [retired](Registry::retire) and nobody holds any more, the oldest first, and answers what was freed. It makes one turn
+    /// for each that waits, and waits for nobody but for the interlock.
+    ///
+    /// ```
+    /// use registry::{Kind, Name, Registry, Settings};
+    ///
+    /// let (registry, cpus) = Registry::open(Settings::new(2, 4)).unwrap();
+    /// let wm = Name::parse("wm").unwrap();
+    /// registry.attach(&cpus[0], &wm, 7).unwrap();
+    /// let section = cpus[1].enter().unwrap();
+    /// registry.retire(&cpus[0], Kind::Driver, &wm).unwrap();
+    /// assert_eq!((registry.collect().len(), registry.retired()), (0, 1));
+    /// section.exit();
+    /// assert_eq!((registry.collect()[0].value, registry.retired()), (7, 0));
+    /// ```
+    pub fn collect(&self) -> Vec<Freed<T>> {
+        self.shared.collect()
+    }
+
+    /// One turn of the work on the retired entry with this number: what holds it first, or that its slot is vacant from now on, and what it
+    /// carried. It waits for nobody but for the interlock.
     ///
     /// # Errors
     ///
     /// `NotRetired`.
-    pub fn advance(&self, number: u64) -> Result<Stage, Refusal> {
-        let mut keeper = self.shared.keeper();
-        let met = advance_under(&mut keeper, number)?;
-        if self.is_held_by_dropped(met, &mut keeper) {
-            return advance_under(&mut keeper, number);
-        }
-        Ok(met)
+    pub fn advance(&self, number: u64) -> Result<Advance<T>, Refusal> {
+        // SAFETY: no CPU is given.
+        unsafe { self.shared.turn(None, number) }
     }
 
-    /// Makes turns until the slot of the retired entry is vacant, so many at most and one at least, and answers the slot. The entry is gone
-    /// for good then: nobody holds it, now or later. Between two turns it gives the interlock and the processor up, and after each the CPU
-    /// has seen every change so far.
+    /// Makes turns until the retired entry is freed: `psref_target_destroy`, `localcount_drain`. Nobody holds it then, now or later, and what
+    /// it carried comes back. After each turn the CPU has seen every change so far.
     ///
     /// # Errors
     ///
-    /// `Inside`, `NotRetired`, and `StillHeld` with what the last turn met.
-    pub fn destroy(&self, cpu: &Cpu<'id>, number: u64, turns: u32) -> Result<u8, Refusal> {
-        let mut met = self.destroy_turn(cpu, number)?;
-        for _ in 1..turns {
-            if let Stage::Freed(_) = met {
-                break;
+    /// `OtherRegistry`, `Inside`, `NotRetired`, and `StillHeld` with what the last turn met; the entry may be destroyed later then.
+    pub fn destroy(&self, cpu: &Cpu<T>, number: u64, patience: Patience) -> Result<Freed<T>, Refusal> {
+        self.check(cpu)?;
+        let mut pauses = Pauses::new(patience);
+        loop {
+            let holder = match self.destroy_turn(cpu, number)? {
+                Advance::Freed(freed) => return Ok(freed),
+                Advance::Held(holder) => holder,
+            };
+            if !pauses.another() {
+                return Err(Refusal::StillHeld(holder));
             }
-            thread::yield_now();
-            met = self.destroy_turn(cpu, number)?;
-        }
-        match met {
-            Stage::Freed(slot) => Ok(slot),
-            held => Err(Refusal::StillHeld(held)),
         }
     }
 
-    /// One turn of destroying.
-    fn destroy_turn(&self, cpu: &Cpu<'id>, number: u64) -> Result<Stage, Refusal> {
-        let mut keeper = self.shared.keeper();
-        let met = destroy_under(&mut keeper, cpu, number)?;
-        if self.is_held_by_dropped(met, &mut keeper) {
-            return destroy_under(&mut keeper, cpu, number);
-        }
-        Ok(met)
+    /// One turn of destroying, after what was dropped is released.
+    fn destroy_turn(&self, cpu: &Cpu<T>, number: u64) -> Result<Advance<T>, Refusal> {
+        cpu.release_dropped();
+        // SAFETY: the CPU is this thread's and of this registry, and its handle isn't empty.
+        unsafe { self.shared.turn(Some(cpu.handle()), number) }
     }
 
-    /// Whether local references hold an entry, and some that were dropped were given up just now.
-    fn is_held_by_dropped(&self, met: Stage, keeper: &mut MutexGuard<'_, ffi::Keeper>) -> bool {
-        matches!(met, Stage::Local(_)) && self.shared.has_dropped() && self.shared.give_up_dropped(keeper)
-    }
-
-    /// Waits until each section that is open now has ended, for so many turns at most and one at least. Between two it gives the interlock
-    /// and the processor up. In each turn the keeper first hears what the CPU has seen, and after it the CPU has seen every change so far.
+    /// Waits until each section that is open now has ended: `pserialize_perform`. In each turn the keeper first hears what the CPU has seen,
+    /// and after it the CPU has seen every change so far.
+    ///
+    /// ```
+    /// use registry::{Patience, Refusal, Registry, Settings};
+    ///
+    /// let (registry, cpus) = Registry::<()>::open(Settings::new(2, 4)).unwrap();
+    /// let section = cpus[1].enter().unwrap();
+    /// assert_eq!(registry.perform(&cpus[0], Patience::Turns(3)), Err(Refusal::Waiting(1)));
+    /// section.exit();
+    /// assert_eq!(registry.perform(&cpus[0], Patience::Forever), Ok(()));
+    /// ```
     ///
     /// # Errors
     ///
-    /// `Inside`, and `Waiting` with the least CPU that wasn't seen out of its section.
-    pub fn perform(&self, cpu: &Cpu<'id>, turns: u32) -> Result<(), Refusal> {
+    /// `OtherRegistry`, `Inside`, and `Waiting` with the least CPU that wasn't seen out of its section.
+    pub fn perform(&self, cpu: &Cpu<T>, patience: Patience) -> Result<(), Refusal> {
+        self.check(cpu)?;
+        cpu.release_dropped();
         let mut wait = ffi::Wait::default();
         // SAFETY: as for `attach`.
-        checked(unsafe { ffi::registry_perform(&mut *self.shared.keeper(), cpu.handle(), &mut wait) })?;
-        let mut ended = self.perform_turn(cpu, &mut wait);
-        for _ in 1..turns {
-            match ended {
-                Err(Refusal::Waiting(_)) => thread::yield_now(),
-                _ => break,
+        checked(unsafe { ffi::registry_perform_begin(&mut self.shared.kept().keeper, cpu.handle(), &mut wait) })?;
+        let mut pauses = Pauses::new(patience);
+        loop {
+            let ended = self.perform_turn(cpu, &mut wait);
+            if !matches!(ended, Err(Refusal::Waiting(_))) || !pauses.another() {
+                return ended;
             }
-            ended = self.perform_turn(cpu, &mut wait);
         }
-        ended
     }
 
     /// One turn of the wait.
-    fn perform_turn(&self, cpu: &Cpu<'id>, wait: &mut ffi::Wait) -> Result<(), Refusal> {
+    fn perform_turn(&self, cpu: &Cpu<T>, wait: &mut ffi::Wait) -> Result<(), Refusal> {
         let mut waited = 0;
-        // SAFETY: as for `attach`; the wait is one that `perform` began.
-        let answer = unsafe { ffi::registry_perform_turn(&mut *self.shared.keeper(), cpu.handle(), wait, &mut waited) };
+        // SAFETY: as for `attach`; the wait is one that `perform` began, and only these turns write it.
+        let answer = unsafe { ffi::registry_perform_turn(&mut self.shared.kept().keeper, cpu.handle(), wait, &mut waited) };
         match answer {
             ffi::WAITING => Err(Refusal::Waiting(waited as u8)),
             other => checked(other),
@@ -202,12 +310,22 @@ impl<'id> Registry<'id> {
     }
 
     /// What the counts say of each live or retired entry, the least slot first. It wants all CPUs, in their order. Local references that
-    /// were dropped are given back first.
+    /// were dropped are released first.
+    ///
+    /// ```
+    /// use registry::{Name, Registry, Settings};
+    ///
+    /// let (registry, cpus) = Registry::open(Settings::new(2, 4)).unwrap();
+    /// registry.attach(&cpus[0], &Name::parse("wm").unwrap(), 7).unwrap();
+    /// let balances = registry.audit(&cpus).unwrap();
+    /// assert_eq!((balances.len(), balances[0].held), (1, 0));
+    /// ```
     ///
     /// # Errors
     ///
-    /// `MissingCpu`.
-    pub fn audit(&self, cpus: &[Cpu<'id>]) -> Result<Vec<Balance>, Refusal> {
+    /// `OtherRegistry` of any of them, `MissingCpu`.
+    pub fn audit(&self, cpus: &[Cpu<T>]) -> Result<Vec<Balance>, Refusal> {
+        cpus.iter().try_for_each(|cpu| self.check(cpu))?;
         if cpus.len() > ffi::MOST_CPUS {
             return Err(Refusal::MissingCpu);
         }
@@ -215,54 +333,49 @@ impl<'id> Registry<'id> {
             cpu.release_dropped();
         }
         let mut list = [ffi::Balance::default(); ffi::MOST_SLOTS];
+        let length = self.audit_into(cpus, &mut list)?;
+        let count = self.settings().cpus;
+        Ok(list[..length].iter().map(|balance| Balance::of(balance, count)).collect())
+    }
+
+    /// Writes the balances, and answers how many. The CPUs are of this registry, and at most 8.
+    fn audit_into(&self, cpus: &[Cpu<T>], list: &mut [ffi::Balance]) -> Result<usize, Refusal> {
+        let mut kept = self.shared.kept();
         let mut length = 0;
         let mut handles = NO_CPUS;
         for (place, cpu) in handles.iter_mut().zip(cpus) {
             *place = cpu.take_out();
         }
+        let row = handles.as_mut_ptr();
         // SAFETY: as for `attach`, of so many CPUs; their handles are put back before anything else is done with them.
-        let answer = unsafe {
-            ffi::registry_audit(
-                &mut *self.shared.keeper(),
-                handles.as_mut_ptr(),
-                cpus.len(),
-                list.as_mut_ptr(),
-                list.len(),
-                &mut length,
-            )
-        };
+        let answer = unsafe { ffi::registry_audit(&mut kept.keeper, row, cpus.len(), list.as_mut_ptr(), list.len(), &mut length) };
         for (handle, cpu) in IntoIterator::into_iter(handles).zip(cpus) {
             cpu.put_back(handle);
         }
         checked(answer)?;
-        Ok(list[..length]
-            .iter()
-            .map(|balance| Balance::of(balance, self.settings().cpus))
-            .collect())
+        Ok(length)
     }
 }
 
-/// One turn of the work on a retired entry. Refused: `NotRetired`.
-fn advance_under(keeper: &mut ffi::Keeper, number: u64) -> Result<Stage, Refusal> {
-    let mut met = ffi::Stage::default();
-    // SAFETY: the keeper's handle isn't empty, and whoever has it has locked it.
-    checked(unsafe { ffi::registry_advance(keeper, number, &mut met) })?;
-    Ok(Stage::of(met))
-}
-
-/// The same, on a CPU. Refused: `Inside`, `NotRetired`.
-fn destroy_under(keeper: &mut ffi::Keeper, cpu: &Cpu<'_>, number: u64) -> Result<Stage, Refusal> {
-    let mut met = ffi::Stage::default();
-    // SAFETY: as for `advance_under`; the CPU is this thread's and its handle isn't empty.
-    let answer = unsafe { ffi::registry_destroy(keeper, cpu.handle(), number, &mut met) };
-    if answer != ffi::STILL_HELD {
-        checked(answer)?;
+impl<T> Clone for Registry<T> {
+    fn clone(&self) -> Registry<T> {
+        Registry::of(Arc::clone(&self.shared))
     }
-    Ok(Stage::of(met))
 }
 
-impl fmt::Debug for Registry<'_> {
+impl<T> PartialEq for Registry<T> {
+    /// Whether both are handles of one registry.
+    fn eq(&self, other: &Registry<T>) -> bool {
+        Arc::ptr_eq(&self.shared, &other.shared)
+    }
+}
+
+impl<T> Eq for Registry<T> {}
+
+impl<T> fmt::Debug for Registry<T> {
     fn fmt(&self, f: &mut fmt::Formatter<'_>) -> fmt::Result {
-        f.debug_struct("Registry").field("settings", &self.settings()).finish()
+        f.debug_struct("Registry")
+            .field("settings", &self.settings())
+            .finish_non_exhaustive()
     }
 }

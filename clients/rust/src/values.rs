@@ -1,4 +1,4 @@
-//! Plain values: kinds, names, entries, settings, stages and balances.
+//! Plain values: kinds, names, entries, settings, what a turn met, and balances.
 
 use crate::ffi;
 use std::error::Error;
@@ -7,6 +7,16 @@ use std::mem::MaybeUninit;
 use std::str::FromStr;
 
 /// What an entry is.
+///
+/// ```
+/// use registry::{Kind, Registry, Settings};
+///
+/// let (registry, cpus) = Registry::open(Settings::new(1, 1)).unwrap();
+/// let wm = "wm".parse().unwrap();
+/// registry.attach(&cpus[0], &wm, 7).unwrap();
+/// let mut section = cpus[0].enter().unwrap();
+/// assert!(section.find(Kind::Driver, &wm).is_some() && section.find(Kind::Iface, &wm).is_none());
+/// ```
 #[derive(Clone, Copy, Debug, PartialEq, Eq, Hash)]
 pub enum Kind {
     /// A network interface, which keeps its driver.
@@ -115,7 +125,7 @@ impl fmt::Display for NameFault {
 
 impl Error for NameFault {}
 
-/// An entry as it was attached.
+/// An entry as it was attached. What it carries, the caller's `T`, is read by what was [`Found`](crate::Found) or by a reference.
 #[derive(Clone, Copy, Debug, PartialEq, Eq)]
 pub struct Entry {
     /// From 1, and never given again.
@@ -126,35 +136,44 @@ pub struct Entry {
     pub kind: Kind,
     /// Its name. At most one live entry has this kind and name.
     pub name: Name,
-    /// The caller's own.
-    pub value: u64,
 }
 
 impl Entry {
-    /// The entry that a call writes where it is done, or the call's answer.
+    /// The entry that a call writes where it is done, with the word that it carries; or the call's answer.
     #[inline]
-    pub(crate) fn written(call: impl FnOnce(*mut ffi::Entry) -> u32) -> Result<Entry, u32> {
+    pub(crate) fn written(call: impl FnOnce(*mut ffi::Entry) -> u32) -> Result<(Entry, u64), u32> {
         let mut entry = MaybeUninit::uninit();
         match call(entry.as_mut_ptr()) {
-            // SAFETY: a call that is done has written it.
-            ffi::DONE => Ok(Entry::of(unsafe { entry.assume_init() })),
+            ffi::DONE => {
+                // SAFETY: registry.h says of each call that is given here that it writes the entry where it is done.
+                Ok(Entry::with_word(unsafe { entry.assume_init_ref() }))
+            }
             answer => Err(answer),
         }
     }
 
+    /// An entry that a call wrote, with the word that it carries.
     #[inline]
-    fn of(entry: ffi::Entry) -> Entry {
-        Entry {
+    pub(crate) fn with_word(entry: &ffi::Entry) -> (Entry, u64) {
+        let of = Entry {
             number: entry.number,
             slot: entry.slot as u8,
             kind: if entry.kind == ffi::INTERFACE { Kind::Iface } else { Kind::Driver },
             name: Name { words: entry.name },
-            value: entry.value,
-        }
+        };
+        (of, entry.value)
     }
 }
 
 /// How large a registry is, and how far its counts may go.
+///
+/// ```
+/// use registry::{Registry, Settings};
+///
+/// let settings = Settings { changes: 100, ..Settings::new(2, 4) };
+/// let (registry, cpus) = Registry::<()>::open(settings).unwrap();
+/// assert_eq!((registry.settings(), cpus.len()), (settings, 2));
+/// ```
 #[derive(Clone, Copy, Debug, PartialEq, Eq)]
 pub struct Settings {
     /// 1 to 8.
@@ -196,38 +215,108 @@ impl Settings {
     }
 }
 
-/// How far the destruction of a retired entry has come: what holds it first.
+/// What holds a retired entry first: sections come before passive references, and these before local ones.
 #[derive(Clone, Copy, Debug, PartialEq, Eq)]
-pub enum Stage {
+pub enum Holder {
     /// A section of this CPU may hold it.
     Grace(u8),
     /// This CPU has a passive reference to it.
     Passive(u8),
     /// So many local references to it are held, those that interfaces keep included.
     Local(u64),
-    /// Nothing: this slot is vacant again.
-    Freed(u8),
 }
 
-impl Stage {
-    pub(crate) fn of(stage: ffi::Stage) -> Stage {
-        match stage.stage {
-            ffi::GRACE => Stage::Grace(stage.what as u8),
-            ffi::PASSIVE => Stage::Passive(stage.what as u8),
-            ffi::LOCAL => Stage::Local(stage.what),
-            ffi::FREED => Stage::Freed(stage.what as u8),
-            other => panic!("a stage {other}"),
+impl fmt::Display for Holder {
+    fn fmt(&self, f: &mut fmt::Formatter<'_>) -> fmt::Result {
+        match self {
+            Holder::Grace(cpu) => write!(f, "grace cpu {cpu}"),
+            Holder::Passive(cpu) => write!(f, "passive cpu {cpu}"),
+            Holder::Local(held) => write!(f, "local {held}"),
         }
     }
 }
 
-impl fmt::Display for Stage {
+/// What a turn of C met: what holds the entry, or nothing, and then its slot is vacant.
+#[derive(Clone, Copy)]
+pub(crate) enum Met {
+    Held(Holder),
+    Freed,
+}
+
+impl Met {
+    pub(crate) fn of(stage: ffi::Stage) -> Met {
+        match stage.stage {
+            ffi::GRACE => Met::Held(Holder::Grace(stage.what as u8)),
+            ffi::PASSIVE => Met::Held(Holder::Passive(stage.what as u8)),
+            ffi::LOCAL => Met::Held(Holder::Local(stage.what)),
+            ffi::FREED => Met::Freed,
+            other => panic!("the archive met a stage {other}"),
+        }
+    }
+}
+
+/// An entry that is gone for good: nobody holds it, now or later, and its slot is vacant. What it carried is its owner's again.
+#[derive(Clone, Copy, PartialEq, Eq)]
+pub struct Freed<T> {
+    /// The entry as it was attached.
+    pub entry: Entry,
+    /// What it carried. Whoever doesn't want it drops it.
+    pub value: T,
+}
+
+impl<T> fmt::Debug for Freed<T> {
+    fn fmt(&self, f: &mut fmt::Formatter<'_>) -> fmt::Result {
+        f.debug_struct("Freed").field("entry", &self.entry).finish_non_exhaustive()
+    }
+}
+
+impl<T> fmt::Display for Freed<T> {
+    fn fmt(&self, f: &mut fmt::Formatter<'_>) -> fmt::Result {
+        write!(f, "freed slot {}", self.entry.slot)
+    }
+}
+
+/// What one turn of the work on a retired entry met.
+#[derive(Clone, Copy, PartialEq, Eq)]
+pub enum Advance<T> {
+    /// This holds it first.
+    Held(Holder),
+    /// Nothing: its slot is vacant from now on.
+    Freed(Freed<T>),
+}
+
+impl<T> Advance<T> {
+    /// What was freed, if the turn freed it.
+    pub fn freed(self) -> Option<Freed<T>> {
+        match self {
+            Advance::Held(_) => None,
+            Advance::Freed(freed) => Some(freed),
+        }
+    }
+
+    /// What holds it, if anything does.
+    pub fn holder(&self) -> Option<Holder> {
+        match self {
+            Advance::Held(holder) => Some(*holder),
+            Advance::Freed(_) => None,
+        }
+    }
+}
+
+impl<T> fmt::Debug for Advance<T> {
     fn fmt(&self, f: &mut fmt::Formatter<'_>) -> fmt::Result {
         match self {
-            Stage::Grace(cpu) => write!(f, "grace cpu {cpu}"),
-            Stage::Passive(cpu) => write!(f, "passive cpu {cpu}"),
-            Stage::Local(held) => write!(f, "local {held}"),
-            Stage::Freed(slot) => write!(f, "freed slot {slot}"),
+            Advance::Held(holder) => f.debug_tuple("Held").field(holder).finish(),
+            Advance::Freed(freed) => f.debug_tuple("Freed").field(freed).finish(),
+        }
+    }
+}
+
+impl<T> fmt::Display for Advance<T> {
+    fn fmt(&self, f: &mut fmt::Formatter<'_>) -> fmt::Result {
+        match self {
+            Advance::Held(holder) => holder.fmt(f),
+            Advance::Freed(freed) => freed.fmt(f),
         }
     }
 }

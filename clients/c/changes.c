@@ -1,0 +1,200 @@
+/*
+ * changes COUNT - what each call behind the interlock takes, through registry.h, on one thread
+ *
+ * The calls and their order are those of `registry_bench changes` (see bench/README.md). A lock of the caller's is taken for each call that takes
+ * the keeper, as a program with more threads has to. It prints a line as that program does.
+ */
+#include <inttypes.h>
+#include <pthread.h>
+#include <time.h>
+
+#include "client.h"
+
+enum { CPUS = 2, STAYING = 8, CHANGING = REGISTRY_MOST_SLOTS - STAYING, MOST_ROUNDS = 20000 };
+
+static pthread_mutex_t interlock = PTHREAD_MUTEX_INITIALIZER;
+static struct registry_keeper keeper;
+static struct registry_cpu cpus[CPUS];
+static struct registry_name names[REGISTRY_MOST_SLOTS];
+
+/* The names of the entries that are attached and freed again and again. */
+static const struct registry_name *const changing = names + STAYING;
+
+/* The nanoseconds that all attaches, all detaches and all turns that freed a slot took. */
+struct replaced {
+	double attach, detach, freed;
+};
+
+static double now(void)
+{
+	struct timespec time;
+	clock_gettime(CLOCK_MONOTONIC, &time);
+	return (double)time.tv_sec * 1e9 + (double)time.tv_nsec;
+}
+
+static uint64_t attach(const struct registry_name *name, uint64_t value)
+{
+	struct registry_entry made;
+	pthread_mutex_lock(&interlock);
+	DONE(registry_attach(&keeper, &cpus[0], name, value, &made));
+	pthread_mutex_unlock(&interlock);
+	return made.number;
+}
+
+static uint64_t detach(const struct registry_name *name)
+{
+	struct registry_entry gone;
+	pthread_mutex_lock(&interlock);
+	DONE(registry_detach(&keeper, &cpus[0], REGISTRY_DRIVER, name, &gone));
+	pthread_mutex_unlock(&interlock);
+	return gone.number;
+}
+
+/* One turn of the work on a retired entry, which meets this. */
+static void turn(uint64_t number, uint64_t stage)
+{
+	struct registry_stage met;
+	pthread_mutex_lock(&interlock);
+	DONE(registry_advance(&keeper, number, &met));
+	pthread_mutex_unlock(&interlock);
+	EXPECT(met.stage == stage);
+}
+
+static void open_registry(void)
+{
+	const struct registry_settings settings = {
+	    CPUS, REGISTRY_MOST_SLOTS, REGISTRY_MOST_CHANGES, REGISTRY_MOST_COUNT, REGISTRY_MOST_COUNT, REGISTRY_MOST_COUNT};
+	DONE(registry_open(&settings, &keeper, cpus, CPUS));
+	for (unsigned place = 0; place < REGISTRY_MOST_SLOTS; place++) {
+		const char text[] = {'d', (char)('0' + place / 10), (char)('0' + place % 10), '\0'};
+		names[place] = name_of(text);
+	}
+	for (unsigned place = 0; place < STAYING; place++)
+		attach(&names[place], place);
+}
+
+static void attach_each(void)
+{
+	for (unsigned i = 0; i < CHANGING; i++)
+		attach(&changing[i], i);
+}
+
+static void detach_each(uint64_t *numbers)
+{
+	for (unsigned i = 0; i < CHANGING; i++)
+		numbers[i] = detach(&changing[i]);
+}
+
+static void free_each(const uint64_t *numbers)
+{
+	for (unsigned i = 0; i < CHANGING; i++)
+		turn(numbers[i], REGISTRY_FREED);
+}
+
+/* Gives all slots that are left and frees them, so many times. */
+static struct replaced replace_all(unsigned count)
+{
+	struct replaced replaced = {0};
+	uint64_t numbers[CHANGING];
+	for (unsigned made = 0; made < count; made++) {
+		double began = now();
+		attach_each();
+		double attached = now();
+		detach_each(numbers);
+		double detached = now();
+		free_each(numbers);
+		replaced.attach += attached - began;
+		replaced.detach += detached - attached;
+		replaced.freed += now() - detached;
+	}
+	return replaced;
+}
+
+/* The nanoseconds that so many turns take, each of which meets this. */
+static double turn_all(uint64_t number, uint64_t stage, unsigned count)
+{
+	double began = now();
+	for (unsigned made = 0; made < count; made++)
+		turn(number, stage);
+	return now() - began;
+}
+
+/* Turns on an entry that a section of the other CPU holds, and then on the same while a local reference does. */
+static void meet_all(unsigned count, double *grace, double *local)
+{
+	struct registry_entry found;
+	struct registry_local reference = {0};
+	uint64_t number = attach(&changing[0], 0);
+	DONE(registry_enter(&cpus[1]));
+	DONE(registry_find(&cpus[1], REGISTRY_DRIVER, &changing[0], &found));
+	DONE(registry_local_acquire(&cpus[1], &reference));
+	EXPECT(detach(&changing[0]) == number);
+	*grace = turn_all(number, REGISTRY_GRACE, count);
+	DONE(registry_exit(&cpus[1]));
+	*local = turn_all(number, REGISTRY_LOCAL, count);
+	EXPECT(registry_local_release(&cpus[1], &reference) == REGISTRY_COLLECTED);
+	pthread_mutex_lock(&interlock);
+	DONE(registry_local_give_up(&keeper, &reference));
+	pthread_mutex_unlock(&interlock);
+	turn(number, REGISTRY_FREED);
+}
+
+/* One wait, which nobody prolongs. */
+static void perform(void)
+{
+	struct registry_wait wait;
+	uint64_t waited;
+	pthread_mutex_lock(&interlock);
+	DONE(registry_perform_begin(&keeper, &cpus[0], &wait));
+	pthread_mutex_unlock(&interlock);
+	pthread_mutex_lock(&interlock);
+	DONE(registry_perform_turn(&keeper, &cpus[0], &wait, &waited));
+	pthread_mutex_unlock(&interlock);
+}
+
+static double perform_all(unsigned count)
+{
+	double began = now();
+	for (unsigned made = 0; made < count; made++)
+		perform();
+	return now() - began;
+}
+
+static double audit_all(unsigned count)
+{
+	struct registry_balance list[REGISTRY_MOST_SLOTS];
+	size_t length;
+	double began = now();
+	for (unsigned made = 0; made < count; made++) {
+		pthread_mutex_lock(&interlock);
+		DONE(registry_audit(&keeper, cpus, CPUS, list, REGISTRY_MOST_SLOTS, &length));
+		pthread_mutex_unlock(&interlock);
+		EXPECT(length == STAYING);
+	}
+	return now() - began;
+}
+
+static void run(unsigned count)
+{
+	double grace, local, many = (double)count * CHANGING;
+	open_registry();
+	const struct replaced replaced = replace_all(count);
+	meet_all(count, &grace, &local);
+	printf("changes %u attach %.1f detach %.1f freed %.1f", count, replaced.attach / many, replaced.detach / many, replaced.freed / many);
+	printf(" grace %.1f local %.1f perform %.1f", grace / count, local / count, perform_all(count) / count);
+	printf(" audit %.1f\n", audit_all(count) / count);
+	for (unsigned cpu = 0; cpu < CPUS; cpu++)
+		DONE(registry_close_cpu(&cpus[cpu]));
+	DONE(registry_close_keeper(&keeper));
+}
+
+int main(int argc, char **argv)
+{
+	unsigned long count = argc == 2 ? strtoul(argv[1], NULL, 10) : 0;
+	if (count < 1 || count > MOST_ROUNDS) {
+		fprintf(stderr, "usage: changes COUNT\n");
+		return 2;
+	}
+	run((unsigned)count);
+	return 0;
+}

@@ -1,0 +1,56 @@
+/* installed - a program over the installed library alone, in C and in C++: a driver is attached, found, detached and waited for. */
+#include <kupaldiz/registry.h>
+#include <kupaldiz/registry_waiting.h>
+
+#include <stdio.h>
+#include <stdlib.h>
+#include <string.h>
+
+#ifdef __cplusplus
+#define LANGUAGE "C++"
+#else
+#define LANGUAGE "C"
+#endif
+
+#define DONE(call)                                                                                                                 \
+	do {                                                                                                                       \
+		if ((call) != REGISTRY_DONE) {                                                                                     \
+			fprintf(stderr, "not done: %s\n", #call);                                                                  \
+			exit(1);                                                                                                   \
+		}                                                                                                                  \
+	} while (0)
+
+/* Finds the driver on the CPU, and answers its value. */
+static uint64_t value_of(struct registry_cpu *cpu, const struct registry_name *name)
+{
+	struct registry_entry found;
+	DONE(registry_enter(cpu));
+	DONE(registry_find(cpu, REGISTRY_DRIVER, name, &found));
+	DONE(registry_exit(cpu));
+	return found.value;
+}
+
+int main(void)
+{
+	const struct registry_settings settings = {1, 4, 100, 100, 10, 10};
+	struct registry_keeper keeper = {0};
+	struct registry_cpu cpu = {0};
+	struct registry_name wm;
+	struct registry_entry entry;
+	struct registry_stage met;
+	uint64_t place, waited;
+	pthread_mutex_t mutex = PTHREAD_MUTEX_INITIALIZER;
+	struct registry_lock lock = registry_lock_of_mutex(&mutex);
+	DONE(registry_name_parse((const uint8_t *)"wm", 2, &wm, &place));
+	DONE(registry_open(&settings, &keeper, &cpu, 1));
+	DONE(registry_attach(&keeper, &cpu, &wm, 7, &entry));
+	if (value_of(&cpu, &wm) != 7)
+		return 1;
+	DONE(registry_detach(&keeper, &cpu, REGISTRY_DRIVER, &wm, &entry));
+	DONE(registry_perform_wait(&lock, &keeper, &cpu, NULL, &waited));
+	DONE(registry_destroy_wait(&lock, &keeper, &cpu, entry.number, NULL, &met));
+	DONE(registry_close_cpu(&cpu));
+	DONE(registry_close_keeper(&keeper));
+	printf("%s, version %d.%d.%d\n", LANGUAGE, REGISTRY_VERSION_MAJOR, REGISTRY_VERSION_MINOR, REGISTRY_VERSION_PATCH);
+	return 0;
+}

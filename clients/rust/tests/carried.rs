@@ -1,0 +1,457 @@
+//! What entries carry: each value is dropped once, not before nobody can hold its entry, and never under a lock.
+
+mod common;
+
+use common::{balance, detach, freed, holder, local, name, passive, with_driver, Drops, Tracked};
+use registry::{Advance, Cpu, Holder, Kind, Patience, Refusal, Refused, Registry, Settings};
+use std::cell::{Cell, RefCell};
+use std::mem;
+use std::panic::{catch_unwind, AssertUnwindSafe};
+use std::rc::Rc;
+use std::sync::atomic::{AtomicUsize, Ordering};
+use std::sync::{Arc, Mutex};
+use std::thread;
+
+#[test]
+fn a_value_comes_back_as_its_slot_is_freed() {
+    let drops = Drops::default();
+    let (registry, cpus) = with_driver(drops.make(5));
+    let number = detach(&registry, &cpus[0], "wm");
+    let back = freed(&registry, number);
+    back.value.check();
+    assert_eq!((back.value.label, back.entry.number, drops.dropped()), (5, 1, 0));
+    drop(back);
+    drop((registry, cpus));
+    assert_eq!((drops.made(), drops.dropped()), (1, 1));
+}
+
+#[test]
+fn a_value_that_nobody_takes_is_dropped() {
+    let drops = Drops::default();
+    let (registry, cpus) = with_driver(drops.make(0));
+    let number = detach(&registry, &cpus[0], "wm");
+    assert!(registry.destroy(&cpus[0], number, Patience::Turns(1)).is_ok());
+    assert_eq!(drops.dropped(), 1);
+}
+
+#[test]
+fn a_value_that_is_refused_comes_back() {
+    let drops = Drops::default();
+    let (registry, cpus) = with_driver(drops.make(0));
+    let Refused { refusal, given } = registry.attach(&cpus[0], &name("wm"), drops.make(1)).unwrap_err();
+    given.check();
+    assert_eq!((refusal, given.label, drops.dropped()), (Refusal::NameTaken, 1, 0));
+    let driver = local(&cpus[0], "wm");
+    registry.attach_iface(&cpus[0], &name("wm0"), driver, given).unwrap();
+    let again = registry.attach_iface(&cpus[0], &name("wm0"), local(&cpus[0], "wm"), drops.make(2));
+    assert_eq!(Refusal::from(again.unwrap_err()), Refusal::NameTaken);
+    assert_eq!(drops.dropped(), 1);
+    drop((registry, cpus));
+    assert_eq!((drops.made(), drops.dropped()), (3, 3));
+}
+
+#[test]
+fn what_is_left_is_dropped_at_the_closing() {
+    let drops = Drops::default();
+    let (registry, cpus) = Registry::open(Settings::new(2, 8)).unwrap();
+    for i in 0..6 {
+        registry.attach(&cpus[0], &name(&format!("d{i}")), drops.make(i)).unwrap();
+    }
+    registry.retire(&cpus[0], Kind::Driver, &name("d0")).unwrap();
+    let section = cpus[1].enter().unwrap();
+    detach(&registry, &cpus[0], "d1");
+    registry.retire(&cpus[0], Kind::Driver, &name("d2")).unwrap();
+    section.exit();
+    assert_eq!((registry.retired(), drops.dropped()), (1, 1));
+    drop(cpus);
+    assert_eq!(drops.dropped(), 1);
+    drop(registry);
+    assert_eq!((drops.made(), drops.dropped()), (6, 6));
+}
+
+#[test]
+fn any_handle_keeps_the_registry_open() {
+    let drops = Drops::default();
+    let (registry, mut cpus) = with_driver(drops.make(0));
+    let reference = local(&cpus[0], "wm");
+    let cpu = cpus.remove(1);
+    drop((registry, cpus));
+    reference.check();
+    let again = cpu.registry();
+    assert_eq!(again, cpu.registry());
+    drop((again, cpu));
+    reference.check();
+    assert_eq!(drops.dropped(), 0);
+    drop(reference);
+    assert_eq!(drops.dropped(), 1);
+}
+
+#[test]
+fn references_keep_the_value_of_a_retired_entry() {
+    let drops = Drops::default();
+    let (registry, cpus) = with_driver(drops.make(0));
+    let (one, two) = (passive(&cpus[0], "wm"), local(&cpus[0], "wm"));
+    let number = registry.retire(&cpus[1], Kind::Driver, &name("wm")).unwrap().number;
+    assert_eq!((registry.collect().len(), holder(&registry, number)), (0, Some(Holder::Passive(0))));
+    one.check();
+    drop(one);
+    assert_eq!(holder(&registry, number), Some(Holder::Local(1)));
+    two.check();
+    two.release(&cpus[1]).unwrap();
+    assert_eq!(registry.collect().len(), 1);
+    assert_eq!((registry.retired(), drops.dropped()), (0, 1));
+}
+
+#[test]
+fn what_nobody_holds_is_freed_by_later_changes() {
+    let drops = Drops::default();
+    let (registry, cpus) = Registry::open(Settings::new(2, 3)).unwrap();
+    let (cpu, reader) = (&cpus[0], &cpus[1]);
+    let held: Vec<_> = (0..3)
+        .map(|i| {
+            registry.attach(cpu, &name(&format!("d{i}")), drops.make(i)).unwrap();
+            local(reader, &format!("d{i}"))
+        })
+        .collect();
+    for i in 0..3 {
+        registry.retire(cpu, Kind::Driver, &name(&format!("d{i}"))).unwrap();
+    }
+    assert_eq!(
+        registry.attach(cpu, &name("more"), drops.make(9)).unwrap_err().refusal,
+        Refusal::NoSlot
+    );
+    let mut held = held.into_iter();
+    let (zero, one, two) = (held.next(), held.next(), held.next());
+    // The youngest and the middle one are free: the oldest, which is held, is in nobody's way.
+    one.unwrap().release(reader).unwrap();
+    two.unwrap().release(reader).unwrap();
+    assert_eq!(registry.retired(), 3);
+    assert!(registry.attach(cpu, &name("more"), drops.make(10)).is_ok());
+    assert_eq!((registry.retired(), drops.dropped()), (1, 3));
+    zero.unwrap().release(reader).unwrap();
+    detach(&registry, cpu, "more");
+    assert_eq!((registry.retired(), drops.dropped()), (0, 4));
+}
+
+#[test]
+fn a_collection_frees_the_oldest_first() {
+    let (registry, cpus) = Registry::open(Settings::new(2, 8)).unwrap();
+    for i in 0..8 {
+        registry.attach(&cpus[0], &name(&format!("d{i}")), i).unwrap();
+    }
+    let section = cpus[1].enter().unwrap();
+    for i in [5, 1, 7, 3] {
+        registry.retire(&cpus[0], Kind::Driver, &name(&format!("d{i}"))).unwrap();
+    }
+    // A destroy by hand takes it off the list; so does an advance, and it stays there where it is still held.
+    assert_eq!(holder(&registry, 8), Some(Holder::Grace(1)));
+    assert_eq!((registry.collect().len(), registry.retired()), (0, 4));
+    section.exit();
+    assert_eq!(freed(&registry, 8).value, 7);
+    assert_eq!(registry.retired(), 3);
+    let values: Vec<i32> = registry.collect().into_iter().map(|freed| freed.value).collect();
+    assert_eq!((values, registry.retired()), (vec![5, 1, 3], 0));
+    assert!(registry.collect().is_empty());
+}
+
+#[test]
+fn a_dropped_local_reference_of_a_live_entry_is_given_back() {
+    let (registry, cpus) = with_driver(7);
+    let (one, two) = (local(&cpus[0], "wm"), local(&cpus[1], "wm"));
+    thread::spawn(move || drop(one)).join().unwrap();
+    // An acquire leaves the basket alone; a release empties it on its CPU.
+    let three = local(&cpus[1], "wm");
+    two.release(&cpus[1]).unwrap();
+    assert_eq!(registry.audit(&cpus).unwrap(), [balance(1, &[1, 0], 0)]);
+    // So does each call behind the lock that has a CPU.
+    drop(three);
+    registry.attach(&cpus[1], &name("vga"), 8).unwrap();
+    assert_eq!(registry.audit(&cpus).unwrap()[0], balance(0, &[1, -1], 0));
+    drop(local(&cpus[0], "wm"));
+    registry.perform(&cpus[1], Patience::Turns(1)).unwrap();
+    assert_eq!(registry.audit(&cpus).unwrap()[0], balance(0, &[2, -2], 0));
+    drop(local(&cpus[1], "wm"));
+    assert_eq!(registry.audit(&cpus).unwrap()[0], balance(0, &[1, -1], 0));
+}
+
+#[test]
+fn a_dropped_local_reference_holds_up_no_drain() {
+    let (registry, cpus) = with_driver(7);
+    let (kept, dropped) = (local(&cpus[0], "wm"), local(&cpus[0], "wm"));
+    detach(&registry, &cpus[0], "wm");
+    drop(dropped);
+    // It is given up under the interlock once counts are collected: no CPU is needed.
+    assert_eq!(holder(&registry, 1), Some(Holder::Local(1)));
+    let refused = registry.destroy(&cpus[1], 1, Patience::Turns(3));
+    assert_eq!(refused.unwrap_err(), Refusal::StillHeld(Holder::Local(1)));
+    drop(kept);
+    assert_eq!(registry.destroy(&cpus[1], 1, Patience::Turns(1)).unwrap().value, 7);
+}
+
+#[test]
+fn a_drain_leaves_dropped_references_to_others_in_the_basket() {
+    let (registry, cpus) = with_driver(7);
+    registry.attach(&cpus[0], &name("vga"), 8).unwrap();
+    let (kept, dropped) = (local(&cpus[0], "vga"), local(&cpus[0], "wm"));
+    let number = detach(&registry, &cpus[0], "vga");
+    drop(dropped);
+    assert_eq!(holder(&registry, number), Some(Holder::Local(1)));
+    cpus[1].release_dropped();
+    assert_eq!(registry.audit(&cpus).unwrap()[0], balance(0, &[1, -1], 0));
+    drop(kept);
+    assert_eq!(freed(&registry, number).value, 8);
+}
+
+#[test]
+fn a_local_reference_may_outlive_all_cpus() {
+    let (registry, cpus) = with_driver(7);
+    let reference = local(&cpus[0], "wm");
+    drop(cpus);
+    assert_eq!(*reference, 7);
+    drop(reference);
+    let cpu = registry.cpu(1).unwrap();
+    detach(&registry, &cpu, "wm");
+    assert_eq!(freed(&registry, 1).value, 7);
+}
+
+#[test]
+fn a_forgotten_reference_keeps_its_value() {
+    let drops = Drops::default();
+    let (registry, cpus) = with_driver(drops.make(0));
+    registry.attach(&cpus[0], &name("vga"), drops.make(1)).unwrap();
+    let kept: *const Tracked = {
+        let reference = passive(&cpus[1], "wm");
+        let kept: *const Tracked = &*reference;
+        mem::forget(reference);
+        kept
+    };
+    let number = detach(&registry, &cpus[0], "wm");
+    assert_eq!(holder(&registry, number), Some(Holder::Passive(1)));
+    drop((registry, cpus));
+    // What the forgotten reference holds is still there; the other one was dropped.
+    assert_eq!(drops.dropped(), 1);
+    // SAFETY: the crate promises that what a forgotten reference holds is never dropped.
+    unsafe { (*kept).check() };
+    // SAFETY: it came from a box, and nobody drops it any more.
+    drop(unsafe { Box::from_raw(kept as *mut Tracked) });
+}
+
+#[test]
+fn a_forgotten_section_lasts_as_long_as_its_cpu() {
+    let (registry, mut cpus) = with_driver(7);
+    mem::forget(cpus[1].enter().unwrap());
+    mem::forget(cpus[1].enter().unwrap());
+    let number = detach(&registry, &cpus[0], "wm");
+    assert_eq!((cpus[1].depth(), holder(&registry, number)), (2, Some(Holder::Grace(1))));
+    // An enter is nested in it, and its CPU may go to another thread meanwhile.
+    let reader = cpus.remove(1);
+    let reader = thread::spawn(move || {
+        reader.enter().unwrap().exit();
+        reader
+    });
+    let mut reader = reader.join().unwrap();
+    assert_eq!((reader.depth(), holder(&registry, number)), (2, Some(Holder::Grace(1))));
+    reader.leave();
+    assert_eq!((reader.depth(), freed(&registry, number).value), (0, 7));
+    mem::forget(reader.enter().unwrap());
+    drop(reader);
+    assert_eq!(registry.cpu(1).unwrap().depth(), 0);
+}
+
+/// A forgotten handle keeps the registry open for ever: nothing is freed under anybody.
+#[test]
+fn forgotten_handles_keep_all_values() {
+    let drops = Drops::default();
+    for forgotten in 0..3 {
+        let (registry, mut cpus) = with_driver(drops.make(forgotten));
+        match forgotten {
+            0 => mem::forget(local(&cpus[0], "wm")),
+            1 => mem::forget(cpus.remove(1)),
+            _ => mem::forget(registry.clone()),
+        }
+        drop((registry, cpus));
+    }
+    assert_eq!(drops.dropped(), 0);
+}
+
+#[test]
+fn a_panic_gives_all_back() {
+    let drops = Drops::default();
+    let (registry, cpus) = with_driver(drops.make(0));
+    let ended = catch_unwind(AssertUnwindSafe(|| {
+        let _local = local(&cpus[0], "wm");
+        let _passive = passive(&cpus[1], "wm");
+        let _section = cpus[1].enter().unwrap();
+        panic!("the body's own");
+    }));
+    assert!(ended.is_err() && !cpus[1].is_inside() && !cpus[1].holds(1));
+    assert_eq!(registry.audit(&cpus).unwrap()[0].held, 0);
+    let number = detach(&registry, &cpus[0], "wm");
+    drop(freed(&registry, number));
+    assert_eq!(drops.dropped(), 1);
+}
+
+#[test]
+fn a_panic_in_a_thread_gives_its_cpu_back() {
+    let (registry, mut cpus) = with_driver(7);
+    let cpu = cpus.remove(1);
+    let ended = thread::spawn(move || {
+        let _reference = passive(&cpu, "wm");
+        let _section = cpu.enter().unwrap();
+        panic!("the thread's own");
+    });
+    assert!(ended.join().is_err());
+    let cpu = registry.cpu(1).unwrap();
+    assert!(!cpu.is_inside() && !cpu.holds(1));
+}
+
+/// Panics as it is dropped, once.
+struct Fragile {
+    _tracked: Tracked,
+    panics: bool,
+}
+
+impl Drop for Fragile {
+    fn drop(&mut self) {
+        if mem::take(&mut self.panics) {
+            panic!("a drop's own");
+        }
+    }
+}
+
+fn fragile(drops: &Drops, panics: bool) -> Fragile {
+    let _tracked = drops.make(0);
+    Fragile { _tracked, panics }
+}
+
+#[test]
+fn a_panic_of_a_drop_leaves_the_registry_whole() {
+    let drops = Drops::default();
+    let (registry, cpus) = Registry::open(Settings::new(1, 4)).unwrap();
+    for (text, panics) in [("d0", false), ("d1", true), ("d2", false)] {
+        registry.attach(&cpus[0], &name(text), fragile(&drops, panics)).unwrap();
+    }
+    let section = cpus[0].enter().unwrap();
+    section.exit();
+    let held = local(&cpus[0], "d1");
+    registry.retire(&cpus[0], Kind::Driver, &name("d1")).unwrap();
+    held.release(&cpus[0]).unwrap();
+    // The change before which the value is dropped is not made.
+    let ended = catch_unwind(AssertUnwindSafe(|| registry.retire(&cpus[0], Kind::Driver, &name("d0"))));
+    assert!(ended.is_err());
+    assert_eq!((registry.retired(), drops.dropped()), (0, 1));
+    registry.retire(&cpus[0], Kind::Driver, &name("d0")).unwrap();
+    registry.attach(&cpus[0], &name("d1"), fragile(&drops, true)).unwrap();
+    assert_eq!(drops.dropped(), 2);
+    // A panic at the closing keeps nobody else from being dropped.
+    let ended = catch_unwind(AssertUnwindSafe(move || drop((registry, cpus))));
+    assert!(ended.is_err());
+    assert_eq!((drops.made(), drops.dropped()), (4, 4));
+}
+
+/// What a value needs to call the registry that it was in.
+struct Desk {
+    registry: Registry<Caller>,
+    cpu: Cpu<Caller>,
+}
+
+thread_local! {
+    static DESK: RefCell<Option<Desk>> = const { RefCell::new(None) };
+    static CALLS: Cell<u32> = const { Cell::new(0) };
+}
+
+/// Calls the registry as it is dropped: every call that takes the interlock.
+struct Caller {
+    label: u32,
+}
+
+impl Drop for Caller {
+    fn drop(&mut self) {
+        DESK.with(|desk| {
+            if let Some(Desk { registry, cpu }) = &*desk.borrow() {
+                CALLS.with(|calls| calls.set(calls.get() + 1));
+                registry.perform(cpu, Patience::Turns(1)).unwrap();
+                drop(registry.collect());
+                assert_eq!(registry.advance(u64::MAX).unwrap_err(), Refusal::NotRetired);
+                if self.label > 0 {
+                    let label = self.label - 1;
+                    let text = name(&format!("c{label}"));
+                    registry.attach(cpu, &text, Caller { label }).unwrap();
+                    drop(local(cpu, &format!("c{label}")));
+                    registry.retire(cpu, Kind::Driver, &text).unwrap();
+                }
+            }
+        });
+    }
+}
+
+#[test]
+fn a_drop_may_call_the_registry() {
+    let (registry, mut cpus) = Registry::open(Settings::new(2, 8)).unwrap();
+    let cpu = cpus.remove(0);
+    registry.attach(&cpu, &name("first"), Caller { label: 3 }).unwrap();
+    registry.retire(&cpu, Kind::Driver, &name("first")).unwrap();
+    let desk = Desk {
+        registry: registry.clone(),
+        cpu: cpus.remove(0),
+    };
+    DESK.with(|place| *place.borrow_mut() = Some(desk));
+    // Each value attaches the next one as it is dropped, and retires it.
+    for _ in 0..5 {
+        drop(registry.collect());
+    }
+    assert_eq!((registry.retired(), CALLS.with(Cell::get)), (0, 4));
+    let desk = DESK.with(|place| place.borrow_mut().take());
+    drop(desk);
+}
+
+#[test]
+fn a_value_may_hold_a_reference_of_its_registry() {
+    struct Port {
+        _driver: Mutex<Option<registry::LocalRef<Port>>>,
+        dropped: Arc<AtomicUsize>,
+    }
+    impl Drop for Port {
+        fn drop(&mut self) {
+            self.dropped.fetch_add(1, Ordering::SeqCst);
+        }
+    }
+    let dropped = Arc::new(AtomicUsize::new(0));
+    let port = |driver| Port {
+        _driver: Mutex::new(driver),
+        dropped: Arc::clone(&dropped),
+    };
+    let (registry, cpus) = with_driver(port(None));
+    registry.attach(&cpus[0], &name("wm0"), port(Some(local(&cpus[0], "wm")))).unwrap();
+    let (driver, holding) = (detach(&registry, &cpus[0], "wm"), detach(&registry, &cpus[0], "wm0"));
+    assert_eq!(holder(&registry, driver), Some(Holder::Local(1)));
+    // The value that comes back gives the reference up as it is dropped.
+    drop(freed(&registry, holding));
+    assert!(matches!(registry.advance(driver), Ok(Advance::Freed(_))));
+    assert_eq!(dropped.load(Ordering::SeqCst), 2);
+}
+
+#[test]
+fn values_of_any_size_are_carried() {
+    let (registry, cpus) = with_driver([7u8; 4096]);
+    assert_eq!(local(&cpus[0], "wm")[4095], 7);
+    detach(&registry, &cpus[0], "wm");
+    assert_eq!(freed(&registry, 1).value, [7; 4096]);
+    let (registry, cpus) = with_driver(());
+    assert_eq!(*passive(&cpus[0], "wm"), ());
+    detach(&registry, &cpus[0], "wm");
+    assert_eq!(freed(&registry, 1).value, ());
+}
+
+#[test]
+fn values_of_one_thread_and_borrowed_ones_are_carried() {
+    let counted = Rc::new(Cell::new(0));
+    let (registry, cpus) = with_driver(Rc::clone(&counted));
+    passive(&cpus[0], "wm").set(3);
+    assert_eq!((counted.get(), Rc::strong_count(&counted)), (3, 2));
+    drop((registry, cpus));
+    assert_eq!(Rc::strong_count(&counted), 1);
+    let text = String::from("borrowed");
+    let (_registry, cpus) = with_driver(text.as_str());
+    assert_eq!(*passive(&cpus[0], "wm"), "borrowed");
+}

@@ -1,0 +1,11 @@
+// A lent CPU isn't kept.
+// error: E0507
+
+use registry::CpuPool;
+
+pub fn lend(pool: &CpuPool<u64>) -> u8 {
+    let cpu = pool.lend();
+    #[cfg(fails)]
+    let cpu = *cpu;
+    cpu.id()
+}

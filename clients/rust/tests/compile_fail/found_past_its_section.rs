@@ -1,0 +1,12 @@
+// What was found isn't used past its section.
+// error: E0505
+
+use registry::{Cpu, Kind, Name};
+
+pub fn look(cpu: &Cpu<u64>, wm: &Name) -> Option<u64> {
+    let mut section = cpu.enter().ok()?;
+    let found = section.find(Kind::Driver, wm)?;
+    #[cfg(fails)]
+    drop(section);
+    Some(*found)
+}

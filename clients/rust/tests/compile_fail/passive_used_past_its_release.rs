@@ -1,0 +1,11 @@
+// What an entry carries isn't used past the release of the passive reference.
+// error: E0505
+
+use registry::PassiveRef;
+
+pub fn release(reference: PassiveRef<'_, String>) -> usize {
+    let value: &String = &reference;
+    #[cfg(fails)]
+    reference.release();
+    value.len()
+}

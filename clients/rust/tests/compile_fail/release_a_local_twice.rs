@@ -1,0 +1,10 @@
+// A local reference is released once.
+// error: E0382
+
+use registry::{Cpu, LocalRef};
+
+pub fn release(reference: LocalRef<u64>, cpu: &Cpu<u64>) {
+    let _ = reference.release(cpu);
+    #[cfg(fails)]
+    let _ = reference.release(cpu);
+}

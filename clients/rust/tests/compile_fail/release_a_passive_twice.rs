@@ -1,0 +1,10 @@
+// A passive reference is released once.
+// error: E0382
+
+use registry::PassiveRef;
+
+pub fn release(reference: PassiveRef<'_, u64>) {
+    reference.release();
+    #[cfg(fails)]
+    reference.release();
+}

@@ -1,0 +1,95 @@
+//! Handles of two registries don't meet: each call that takes two handles refuses it by name, and nothing has changed.
+
+mod common;
+
+use common::{balance, detach, freed, local, name, with_driver};
+use registry::{CpuPool, Kind, Patience, Refusal, Refused};
+
+#[test]
+fn changes_by_a_cpu_of_another_registry_are_refused() {
+    let (registry, cpus) = with_driver(7);
+    let (other, others) = with_driver(8);
+    let foreign = &others[0];
+    let Refused { refusal, given } = registry.attach(foreign, &name("vga"), 9).unwrap_err();
+    assert_eq!((refusal, given), (Refusal::OtherRegistry, 9));
+    assert_eq!(registry.detach(foreign, Kind::Driver, &name("wm")), Err(Refusal::OtherRegistry));
+    assert_eq!(registry.retire(foreign, Kind::Driver, &name("wm")), Err(Refusal::OtherRegistry));
+    for all in [registry.audit(&cpus), other.audit(&others)] {
+        assert_eq!(all.unwrap(), [balance(0, &[0, 0], 0)]);
+    }
+    assert!(registry != other && registry == registry.clone() && registry == cpus[0].registry());
+}
+
+#[test]
+fn an_interface_on_handles_of_two_registries_is_refused() {
+    let (registry, cpus) = with_driver(7);
+    let (_other, others) = with_driver(8);
+    let own = local(&cpus[0], "wm");
+    let Refused { refusal, given } = registry.attach_iface(&others[0], &name("wm0"), own, 1500).unwrap_err();
+    assert_eq!((refusal, given.0.entry().number, given.1), (Refusal::OtherRegistry, 1, 1500));
+    let foreign = local(&others[0], "wm");
+    let Refused { refusal, given: back } = registry.attach_iface(&cpus[0], &name("wm0"), foreign, 1500).unwrap_err();
+    assert_eq!((refusal, *back.0), (Refusal::OtherRegistry, 8));
+    back.0.release(&others[0]).unwrap();
+    given.0.release(&cpus[0]).unwrap();
+    assert_eq!(registry.audit(&cpus).unwrap().len(), 1);
+}
+
+#[test]
+fn work_by_a_cpu_of_another_registry_is_refused() {
+    let (registry, cpus) = with_driver(7);
+    let (other, others) = with_driver(8);
+    let number = detach(&registry, &cpus[0], "wm");
+    detach(&other, &others[0], "wm");
+    assert_eq!(registry.destroy(&others[0], number, Patience::Forever), Err(Refusal::OtherRegistry));
+    assert_eq!(registry.perform(&others[0], Patience::Forever), Err(Refusal::OtherRegistry));
+    assert_eq!((freed(&registry, number).value, freed(&other, number).value), (7, 8));
+}
+
+#[test]
+fn a_release_at_another_registry_is_refused() {
+    let (registry, cpus) = with_driver(7);
+    let (other, others) = with_driver(8);
+    let Refused { refusal, given } = local(&cpus[0], "wm").release(&others[0]).unwrap_err();
+    assert_eq!((refusal, *given), (Refusal::OtherRegistry, 7));
+    let Refused { refusal, given } = given.guard(&others[0]).unwrap_err();
+    assert_eq!((refusal, *given), (Refusal::OtherRegistry, 7));
+    assert_eq!(other.audit(&others).unwrap(), [balance(0, &[0, 0], 0)]);
+    drop(given.guard(&cpus[1]).unwrap());
+    assert_eq!(registry.audit(&cpus).unwrap(), [balance(0, &[1, -1], 0)]);
+}
+
+#[test]
+fn an_audit_of_cpus_of_another_registry_is_refused() {
+    let (registry, mut cpus) = with_driver(7);
+    let (other, mut others) = with_driver(8);
+    assert_eq!(registry.audit(&others), Err(Refusal::OtherRegistry));
+    // Even where each has the right number.
+    std::mem::swap(&mut cpus[1], &mut others[1]);
+    assert_eq!(registry.audit(&cpus), Err(Refusal::OtherRegistry));
+    assert_eq!(other.audit(&others), Err(Refusal::OtherRegistry));
+    std::mem::swap(&mut cpus[0], &mut others[0]);
+    assert!(registry.audit(&others).is_ok() && other.audit(&cpus).is_ok());
+}
+
+#[test]
+fn a_pool_is_of_one_registry() {
+    let (registry, mut cpus) = with_driver(7);
+    let (_other, others) = with_driver(8);
+    cpus.extend(others);
+    assert_eq!(CpuPool::new(cpus).unwrap_err(), Refusal::OtherRegistry);
+    assert!(registry.cpu(0).is_some());
+    assert_eq!(CpuPool::<u8>::new(Vec::new()).unwrap_err(), Refusal::MissingCpu);
+}
+
+#[test]
+fn a_basket_is_of_one_registry() {
+    let (registry, cpus) = with_driver(7);
+    let (other, others) = with_driver(8);
+    drop(local(&cpus[0], "wm"));
+    drop(local(&others[1], "wm"));
+    others[0].release_dropped();
+    assert_eq!(other.audit(&others).unwrap(), [balance(0, &[-1, 1], 0)]);
+    cpus[1].release_dropped();
+    assert_eq!(registry.audit(&cpus).unwrap(), [balance(0, &[1, -1], 0)]);
+}

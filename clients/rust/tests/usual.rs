@@ -1,0 +1,319 @@
+//! The usual path in few calls: what `Cpu::get`, `Cpu::look_up` and `Cpu::read` answer and leave.
+
+mod common;
+
+use common::{detach, freed, holder, name, with_driver, Drops, Stops, Tracked};
+use registry::{Cpu, CpuPool, Holder, Kind, Name, Patience, Refusal, Registry, Settings};
+use std::mem;
+use std::panic::{catch_unwind, AssertUnwindSafe};
+use std::sync::atomic::{AtomicBool, Ordering};
+use std::thread;
+
+#[test]
+fn a_get_holds_what_it_found() {
+    let (registry, cpus) = with_driver(7);
+    let wm = name("wm");
+    let reference = cpus[0].get(Kind::Driver, &wm).unwrap();
+    assert_eq!((reference.entry().number, *reference, cpus[0].depth()), (1, 7, 0));
+    let second = cpus[0].get(Kind::Driver, &wm).unwrap();
+    assert_eq!(detach(&registry, &cpus[1], "wm"), 1);
+    assert_eq!(holder(&registry, 1), Some(Holder::Passive(0)));
+    reference.release();
+    assert_eq!((holder(&registry, 1), *second), (Some(Holder::Passive(0)), 7));
+    drop(second);
+    assert!(!cpus[0].holds(1));
+    assert_eq!(freed(&registry, 1).value, 7);
+}
+
+#[test]
+fn a_look_up_holds_nothing() {
+    let (registry, cpus) = with_driver(7);
+    let entry = cpus[0].look_up(Kind::Driver, &name("wm")).unwrap();
+    assert_eq!((entry.number, entry.slot, entry.kind, entry.name), (1, 0, Kind::Driver, name("wm")));
+    assert_eq!((cpus[0].depth(), cpus[0].holds(1)), (0, false));
+    assert_eq!(detach(&registry, &cpus[1], "wm"), 1);
+    assert_eq!(freed(&registry, 1).value, 7);
+}
+
+#[test]
+fn a_read_holds_until_its_guard_goes() {
+    let (registry, cpus) = with_driver(vec![1500, 9000]);
+    let guard = cpus[0].read(Kind::Driver, &name("wm")).unwrap();
+    assert_eq!((guard.entry().number, guard[1], guard.cpu().id(), cpus[0].depth()), (1, 9000, 0, 1));
+    assert_eq!(format!("{guard:?}"), format!("ReadGuard {{ entry: {:?}, .. }}", guard.entry()));
+    assert_eq!(detach(&registry, &cpus[1], "wm"), 1);
+    assert_eq!(holder(&registry, 1), Some(Holder::Grace(0)));
+    assert_eq!(cpus[0].read(Kind::Driver, &name("wm")).unwrap_err(), Refusal::NotFound);
+    assert_eq!((guard.len(), holder(&registry, 1)), (2, Some(Holder::Grace(0))));
+    guard.exit();
+    assert_eq!((cpus[0].is_inside(), freed(&registry, 1).value), (false, vec![1500, 9000]));
+}
+
+#[test]
+fn a_read_is_held_longer_by_references() {
+    let (registry, cpus) = with_driver(7);
+    let guard = cpus[0].read(Kind::Driver, &name("wm")).unwrap();
+    let (passive, local) = (guard.acquire().unwrap(), guard.acquire_local().unwrap());
+    drop(guard);
+    assert_eq!((cpus[0].depth(), detach(&registry, &cpus[1], "wm")), (0, 1));
+    assert_eq!((holder(&registry, 1), *passive), (Some(Holder::Passive(0)), 7));
+    passive.release();
+    assert_eq!((holder(&registry, 1), *local), (Some(Holder::Local(1)), 7));
+    local.release(&cpus[1]).unwrap();
+    assert_eq!(freed(&registry, 1).value, 7);
+}
+
+/// The section lasts from the first guard to the last, in whichever order they go.
+#[test]
+fn reads_are_nested_in_any_order() {
+    let (registry, cpus) = with_driver(7);
+    let (cpu, wm, vga) = (&cpus[0], name("wm"), name("vga"));
+    registry.attach(cpu, &vga, 8).unwrap();
+    let first = cpu.read(Kind::Driver, &wm).unwrap();
+    let second = cpu.read(Kind::Driver, &vga).unwrap();
+    let section = cpu.enter().unwrap();
+    assert_eq!((*first, *second, cpu.depth()), (7, 8, 3));
+    assert_eq!((first.acquire().unwrap_err(), *second.acquire().unwrap()), (Refusal::Superseded, 8));
+    drop(first);
+    assert_eq!(detach(&registry, &cpus[1], "vga"), 2);
+    drop(section);
+    assert_eq!((cpu.depth(), *second, holder(&registry, 2)), (1, 8, Some(Holder::Grace(0))));
+    assert_eq!(*second.acquire_local().unwrap(), 8);
+    cpu.release_dropped();
+    drop(second);
+    assert_eq!((cpu.depth(), freed(&registry, 2).value), (0, 8));
+}
+
+/// A read in a section sets the last found entry there, also where it is refused, and leaves the section open.
+#[test]
+fn in_a_section_a_read_supersedes_what_was_found() {
+    let (registry, cpus) = with_driver(7);
+    let (cpu, wm, vga, pci) = (&cpus[0], name("wm"), name("vga"), name("pci"));
+    registry.attach(cpu, &vga, 8).unwrap();
+    let mut section = cpu.enter().unwrap();
+    let found = section.find(Kind::Driver, &wm).unwrap();
+    assert_eq!(*cpu.read(Kind::Driver, &vga).unwrap(), 8);
+    assert_eq!((found.acquire().unwrap_err(), cpu.depth()), (Refusal::Superseded, 1));
+    assert_eq!(*cpu.read(Kind::Driver, &wm).unwrap().acquire().unwrap(), 7);
+    assert_eq!(*found.acquire().unwrap(), 7);
+    assert_eq!(cpu.read(Kind::Driver, &pci).unwrap_err(), Refusal::NotFound);
+    assert_eq!((found.acquire_local().unwrap_err(), cpu.depth()), (Refusal::Superseded, 1));
+    let guard = cpu.read(Kind::Driver, &wm).unwrap();
+    assert_eq!(cpu.look_up(Kind::Driver, &vga).unwrap().number, 2);
+    assert_eq!(
+        (guard.acquire().unwrap_err(), guard.acquire_local().unwrap_err()),
+        (Refusal::Superseded, Refusal::Superseded)
+    );
+    assert_eq!((*guard, *found), (7, 7));
+}
+
+/// What a guard of an older section found isn't acquired in a newer one by its number.
+#[test]
+fn a_read_after_a_read_starts_anew() {
+    let (_registry, cpus) = with_driver(7);
+    let wm = name("wm");
+    drop(cpus[0].read(Kind::Driver, &wm).unwrap());
+    let section = cpus[0].enter().unwrap();
+    let guard = cpus[0].read(Kind::Driver, &wm).unwrap();
+    assert_eq!(cpus[0].read(Kind::Iface, &wm).unwrap_err(), Refusal::NotFound);
+    assert_eq!(guard.acquire().unwrap_err(), Refusal::Superseded);
+    section.exit();
+    assert_eq!((*guard, cpus[0].depth()), (7, 1));
+}
+
+#[test]
+fn a_forgotten_read_stays_open() {
+    let (registry, mut cpus) = with_driver(7);
+    mem::forget(cpus[0].read(Kind::Driver, &name("wm")).unwrap());
+    assert_eq!((cpus[0].depth(), detach(&registry, &cpus[1], "wm")), (1, 1));
+    assert_eq!(holder(&registry, 1), Some(Holder::Grace(0)));
+    cpus[0].leave();
+    assert_eq!((cpus[0].depth(), freed(&registry, 1).value), (0, 7));
+}
+
+#[test]
+fn a_panic_ends_a_read() {
+    let (registry, cpus) = with_driver(7);
+    let cpu = &cpus[0];
+    let body = AssertUnwindSafe(|| {
+        let guard = cpu.read(Kind::Driver, &name("wm")).unwrap();
+        let _held = guard.acquire().unwrap();
+        let _inner = cpu.read(Kind::Driver, &name("wm")).unwrap();
+        panic!("the body's own, of {}", *guard);
+    });
+    assert!(catch_unwind(body).is_err());
+    assert_eq!((cpu.depth(), cpu.holds(1), detach(&registry, &cpus[1], "wm")), (0, false, 1));
+    assert_eq!(freed(&registry, 1).value, 7);
+}
+
+#[test]
+fn a_lent_cpu_reads() {
+    let (registry, cpus) = with_driver(7);
+    let pool = CpuPool::new(cpus).unwrap();
+    let cpu = pool.lend();
+    assert_eq!(cpu.read(Kind::Driver, &name("wm")).map(|guard| *guard), Ok(7));
+    drop(cpu);
+    let other = pool.lend();
+    assert_eq!(detach(&registry, &other, "wm"), 1);
+    assert_eq!(registry.destroy(&other, 1, Patience::Forever).unwrap().value, 7);
+}
+
+#[test]
+fn in_a_section_what_is_found_keeps_its_slot() {
+    let (registry, cpus) = with_driver(7);
+    let section = cpus[0].enter().unwrap();
+    assert_eq!(cpus[0].look_up(Kind::Driver, &name("wm")).unwrap().number, 1);
+    assert_eq!(cpus[0].depth(), 1);
+    assert_eq!(detach(&registry, &cpus[1], "wm"), 1);
+    assert_eq!(holder(&registry, 1), Some(Holder::Grace(0)));
+    section.exit();
+    assert_eq!(freed(&registry, 1).value, 7);
+}
+
+/// A lookup by one call sets the last found entry of the open section, so what was found before isn't acquired by mistake.
+#[test]
+fn in_a_section_it_supersedes_what_was_found() {
+    let (registry, cpus) = with_driver(7);
+    let cpu = &cpus[0];
+    let (wm, vga, pci) = (name("wm"), name("vga"), name("pci"));
+    registry.attach(cpu, &vga, 8).unwrap();
+    let mut section = cpu.enter().unwrap();
+    let found = section.find(Kind::Driver, &wm).unwrap();
+    assert_eq!(*cpu.get(Kind::Driver, &vga).unwrap(), 8);
+    assert_eq!(found.acquire().unwrap_err(), Refusal::Superseded);
+    assert_eq!(*cpu.get(Kind::Driver, &wm).unwrap(), 7);
+    assert_eq!((*found.acquire().unwrap(), *found.acquire_local().unwrap()), (7, 7));
+    assert_eq!(cpu.look_up(Kind::Driver, &vga).unwrap().number, 2);
+    assert_eq!(found.acquire_local().unwrap_err(), Refusal::Superseded);
+    assert_eq!(cpu.look_up(Kind::Driver, &wm).unwrap().number, 1);
+    assert_eq!(*found.acquire().unwrap(), 7);
+    assert_eq!(cpu.get(Kind::Driver, &pci).unwrap_err(), Refusal::NotFound);
+    assert_eq!((found.acquire().unwrap_err(), *found), (Refusal::Superseded, 7));
+}
+
+#[test]
+fn a_full_count_is_refused() {
+    let (registry, cpus) = Registry::open(Settings {
+        passives: 1,
+        ..Settings::new(1, 2)
+    })
+    .unwrap();
+    let cpu = &cpus[0];
+    let (wm, vga) = (name("wm"), name("vga"));
+    registry.attach(cpu, &wm, 7).unwrap();
+    registry.attach(cpu, &vga, 8).unwrap();
+    let reference = cpu.get(Kind::Driver, &vga).unwrap();
+    assert_eq!(cpu.get(Kind::Driver, &vga).unwrap_err(), Refusal::PassiveFull);
+    let mut section = cpu.enter().unwrap();
+    let found = section.find(Kind::Driver, &wm).unwrap();
+    assert_eq!(cpu.get(Kind::Driver, &vga).unwrap_err(), Refusal::PassiveFull);
+    assert_eq!(found.acquire_local().unwrap_err(), Refusal::Superseded);
+    section.exit();
+    assert_eq!((cpu.depth(), *reference), (0, 8));
+    reference.release();
+    assert_eq!(*cpu.get(Kind::Driver, &vga).unwrap(), 8);
+}
+
+#[test]
+fn what_is_not_there_is_refused() {
+    let (_registry, cpus) = with_driver(7);
+    for (kind, text) in [(Kind::Iface, "wm"), (Kind::Driver, "vga")] {
+        assert_eq!(cpus[0].get(kind, &name(text)).unwrap_err(), Refusal::NotFound);
+        assert_eq!(cpus[0].look_up(kind, &name(text)), Err(Refusal::NotFound));
+        assert_eq!(cpus[0].read(kind, &name(text)).unwrap_err(), Refusal::NotFound);
+    }
+    assert_eq!(cpus[0].depth(), 0);
+}
+
+#[test]
+fn a_call_is_nested_as_deep_as_a_section() {
+    let (_registry, cpus) = with_driver(7);
+    let cpu = &cpus[0];
+    let wm = name("wm");
+    let mut guards: Vec<_> = (0..255).map(|_| cpu.enter().unwrap()).collect();
+    let found = guards[254].find(Kind::Driver, &wm).unwrap();
+    assert_eq!(cpu.get(Kind::Driver, &wm).unwrap_err(), Refusal::TooDeep);
+    assert_eq!(cpu.look_up(Kind::Driver, &wm), Err(Refusal::TooDeep));
+    assert_eq!(cpu.read(Kind::Driver, &wm).unwrap_err(), Refusal::TooDeep);
+    assert_eq!((*found.acquire().unwrap(), cpu.depth()), (7, 255));
+    guards.pop();
+    assert_eq!((*cpu.read(Kind::Driver, &wm).unwrap(), cpu.depth()), (7, 255));
+    assert_eq!(cpu.look_up(Kind::Driver, &wm).unwrap().number, 1);
+    assert_eq!((*cpu.get(Kind::Driver, &wm).unwrap(), cpu.depth()), (7, 254));
+}
+
+#[test]
+fn a_call_outside_counts_as_a_section() {
+    let (registry, cpus) = Registry::open(Settings {
+        sections: 4,
+        ..Settings::new(1, 1)
+    })
+    .unwrap();
+    let (cpu, wm) = (&cpus[0], name("wm"));
+    registry.attach(cpu, &wm, 7).unwrap();
+    let section = cpu.enter().unwrap();
+    assert_eq!(
+        (cpu.look_up(Kind::Driver, &wm).unwrap().number, *cpu.get(Kind::Driver, &wm).unwrap()),
+        (1, 7)
+    );
+    assert_eq!(*cpu.read(Kind::Driver, &wm).unwrap(), 7);
+    section.exit();
+    assert_eq!(cpu.look_up(Kind::Iface, &wm), Err(Refusal::NotFound));
+    assert_eq!(cpu.read(Kind::Iface, &wm).unwrap_err(), Refusal::NotFound);
+    assert_eq!(*cpu.read(Kind::Driver, &wm).unwrap(), 7);
+    assert_eq!(cpu.read(Kind::Driver, &wm).unwrap_err(), Refusal::SectionsSpent);
+    assert_eq!(cpu.look_up(Kind::Driver, &wm), Err(Refusal::SectionsSpent));
+    assert_eq!(cpu.get(Kind::Driver, &wm).unwrap_err(), Refusal::SectionsSpent);
+}
+
+/// Gets and reads the driver until it is told to stop, and checks what it carries. How often it was there.
+fn use_driver(cpu: &Cpu<Tracked>, wm: &Name, stop: &AtomicBool) -> u64 {
+    let mut seen = 0;
+    while !stop.load(Ordering::Relaxed) || seen == 0 {
+        match cpu.get(Kind::Driver, wm) {
+            Ok(reference) => {
+                reference.check();
+                thread::yield_now();
+                reference.check();
+                seen += 1;
+            }
+            Err(refusal) => assert_eq!(refusal, Refusal::NotFound),
+        }
+        if let Ok(guard) = cpu.read(Kind::Driver, wm) {
+            guard.check();
+            thread::yield_now();
+            guard.check();
+        }
+        if let Ok(entry) = cpu.look_up(Kind::Driver, wm) {
+            assert_eq!((entry.kind, entry.name), (Kind::Driver, *wm));
+        }
+    }
+    seen
+}
+
+#[test]
+fn threads_get_what_another_replaces() {
+    let drops = Drops::default();
+    let wm = name("wm");
+    let stop = AtomicBool::new(false);
+    let (registry, mut cpus) = Registry::open(Settings::new(4, 8)).unwrap();
+    let changer = cpus.pop().unwrap();
+    registry.attach(&changer, &wm, drops.make(0)).unwrap();
+    thread::scope(|scope| {
+        let stops = Stops(&stop);
+        for cpu in cpus {
+            let (wm, stop) = (&wm, &stop);
+            scope.spawn(move || assert_ne!(use_driver(&cpu, wm, stop), 0));
+        }
+        for label in 1..200 {
+            registry.retire(&changer, Kind::Driver, &wm).unwrap();
+            while let Err(refused) = registry.attach(&changer, &wm, drops.make(label)) {
+                assert_eq!(refused.refusal, Refusal::NoSlot);
+                thread::yield_now();
+            }
+        }
+        drop(stops);
+    });
+    drop((changer, registry));
+    assert_eq!(drops.made(), drops.dropped());
+}
