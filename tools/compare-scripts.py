@@ -97,12 +97,12 @@ def said_by(command, script):
     return ended.returncode, ended.stdout.decode(), ended.stderr.decode()
 
 
-def said_when_tried(scripts):
-    """What the program says of each script by `rt try`, which prints a heading before each output."""
+def said_when_tried(scripts, engine="live"):
+    """What an engine of the program says of each script by `rt try`, which prints a heading before each output."""
     with tempfile.TemporaryDirectory() as folder:
         for place, script in enumerate(scripts):
             pathlib.Path(folder, f"s{place}").write_text(script)
-        command = ["rt", "try", "--cases", folder, "--", "live"]
+        command = ["rt", "try", "--cases", folder, "--", engine]
         ended = subprocess.run(command, cwd=ROOT / "crates/registry_run", stdout=subprocess.PIPE, stderr=subprocess.PIPE)
     printed = re.split(r"^== s(\d+)\n", ended.stdout.decode(), flags=re.M)
     outputs = dict(zip(map(int, printed[1::2]), printed[2::2]))

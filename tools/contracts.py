@@ -20,7 +20,7 @@ import tarfile
 
 ROOT = pathlib.Path(__file__).resolve().parent.parent
 OWNER = re.compile(r"(?:pub )?(impl|trait)\b(?:<[^{]*?>)?\s*(.*?)\s*(?:where\b.*)?(?:: .*)?\{$")
-FUNCTION = re.compile(r"( *)(pub )?(?:final |const |unsafe )*fn (\w+)")
+FUNCTION = re.compile(r'( *)(pub )?(?:final |const |unsafe |extern "C" )*fn (\w+)')
 
 
 def sources(revision):

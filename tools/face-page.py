@@ -16,7 +16,7 @@ def plain(text):
 
 def of_header(text):
     text = re.sub(r"/\*.*?\*/", "", text, flags=re.S)
-    for result, name, parameters in re.findall(r"^(\w+) (registry_\w+)\(([^)]*)\);", text, re.M):
+    for result, name, parameters in re.findall(r"^((?:struct )?\w+) (registry_\w+)\(([^)]*)\);", text, re.M):
         yield f"{result} {name}({', '.join(plain(it) for it in parameters.split(','))})"
 
 
@@ -26,7 +26,8 @@ def of_page(text):
         lines = part.splitlines()
         words = re.findall(r'"([^"]*)"|(\S+)', " ".join(it for it in lines[1:] if not it.startswith((".Fc", ".Ss"))))
         words = [quoted or bare for quoted, bare in words if bare not in (".Fn", ".Fo", ".Fa")]
-        yield f"{plain(lines[0])} {words[0]}({', '.join(words[1:])})"
+        result = plain(lines[0].replace('"', ""))
+        yield f"{result} {words[0]}({', '.join(words[1:])})"
 
 
 def strayed(text, sources):

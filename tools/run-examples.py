@@ -2,14 +2,15 @@
 """Runs the examples of the documents over both engines, and compares what the program says.
 
 An example is a fenced block `script`, and the next fenced block after it: `report`, what the program must print, with nothing on standard
-error and status 0; or `fault`, what it must say on standard error, with nothing printed and status 2. A file NAME.txt is one example, with
-NAME.report beside it. Without file names the examples are those of docs/ and examples/. The program is
+error and status 0; or `fault`, what it must say on standard error, with nothing printed and status 2. A block `session` has both, a command and
+after two spaces its line of the report. A file NAME.txt is one example, with NAME.report beside it. Without file names the examples are those
+of README.md, docs/ and examples/. The program is
 ./registry_run, or the one that --program names; with --engine it runs one engine alone. It must be the proved one (tools/prove-program.sh),
 since without it ./registry_run says on standard error that nothing is proved. With --try nothing is proved either: `rt try` compiles the
 program anew for each engine. The last line counts the runs.
 
 Code in the documents must be part of a source, up to blank lines; what isn't is said, and fails. A fenced block `rust` is looked for in
-crates/registry_examples/src and in clients/rust, a block `c` in clients/c.
+crates/registry_examples/src and in clients/rust/examples, a block `c` in clients/c or clients/netbsd/tests.
 """
 import argparse
 import pathlib
@@ -23,10 +24,10 @@ ENGINES = ("core", "live")
 WANTED = {"report": lambda text: (0, text, ""), "fault": lambda text: (2, "", text)}
 SOURCES = {
     "rust": [*sorted((ROOT / "crates/registry_examples/src").glob("*.rt")), *sorted((ROOT / "clients/rust/examples").glob("*.rs"))],
-    "c": sorted((ROOT / "clients/c").glob("*.c")),
+    "c": [*sorted((ROOT / "clients/c").glob("*.c")), *sorted((ROOT / "clients/netbsd/tests").glob("*.c"))],
 }
-PAGES = [ROOT / "README.md", ROOT / "clients/README.md", *sorted((ROOT / "docs").glob("*.md"))]
-FILES = [*sorted((ROOT / "docs").glob("*.md")), *sorted((ROOT / "examples").glob("*.txt"))]
+PAGES = [ROOT / "README.md", ROOT / "clients/README.md", ROOT / "clients/rust/README.md", *sorted((ROOT / "docs").glob("*.md"))]
+FILES = [ROOT / "README.md", *sorted((ROOT / "docs").glob("*.md")), *sorted((ROOT / "examples").glob("*.txt"))]
 
 
 def blocks(text):
@@ -50,6 +51,9 @@ def examples(path):
         return
     waiting = None
     for line, word, text in blocks(path.read_bytes().decode()):
+        if word == "session":
+            pairs = [re.split(" {2,}", pair, maxsplit=1) for pair in text.splitlines()]
+            yield f"{path.stem.lower()}-{line}", "".join(f"{pair[0]}\n" for pair in pairs), "report", "".join(f"{pair[-1]}\n" for pair in pairs)
         if waiting and word not in WANTED:
             sys.exit(f"{path.name}:{waiting[0]}: a script without a report or a fault after it")
         if waiting:

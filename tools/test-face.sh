@@ -1,6 +1,7 @@
 #!/usr/bin/env bash
 # Builds the archive of the C face and everything that stands outside of it, and runs it all: the manual page, the clients in C and in Rust.
-# What is missing is installed by apt: gcc, make, cargo, mandoc, valgrind. Each step says what it does; the last line is 'N passed, M failed'.
+# What is missing is installed by apt: gcc, g++, make, ar, cargo, mandoc, man, pkg-config, valgrind. Each step says what it does; the last line is
+# 'N passed, M failed'.
 #
 #     tools/test-face.sh              proves and builds the archive first
 #     tools/test-face.sh --built      takes clients/out/libregistry.a as it stands
@@ -9,36 +10,15 @@ cd "$(dirname "$0")/.."
 header=crates/registry_c/include/registry.h
 page=clients/man/registry.3
 out=clients/out
-passed=0
-failed=0
-log=$(mktemp)
-trap 'rm -f "$log" "$log.said" "$log.wanted"' EXIT
-
-# Counts one check.
-judge() {
-    if [ "$2" -eq 0 ]; then
-        passed=$((passed + 1))
-        echo "ok      $1"
-    else
-        failed=$((failed + 1))
-        echo "FAILED  $1"
-        tail -n 40 "$log"
-    fi
-}
-
-# check NAME COMMAND..: passed where the command's status is 0.
-check() {
-    local name=$1
-    shift
-    "$@" >"$log" 2>&1
-    judge "$name" $?
-}
+# shellcheck source=tools/checks.sh
+. tools/checks.sh
+trap 'forget_log; rm -f "$log.said" "$log.wanted"' EXIT
 
 # counted NAME COMMAND..: a command that counts its own checks in lines with 'N passed, M failed' or 'N passed; M failed'.
 counted() {
     local name=$1 good bad status
     shift
-    "$@" >"$log" 2>&1
+    limited "$@" >"$log" 2>&1
     status=$?
     good=$(grep -oE '[0-9]+ passed' "$log" | awk '{ n += $1 } END { print n + 0 }')
     bad=$(grep -oE '[0-9]+ failed' "$log" | awk '{ n += $1 } END { print n + 0 }')
@@ -51,20 +31,15 @@ counted() {
         echo "ok      $name: $good"
     else
         echo "FAILED  $name: $bad of $((good + bad))"
+        grep -E 'panicked at|signal: |status: |overflowed|aborting|FAILED' "$log" | head -n 12
         tail -n 60 "$log"
     fi
-}
-
-finish() {
-    echo "$passed passed, $failed failed"
-    [ "$failed" -eq 0 ]
-    exit
 }
 
 # Installs each package whose command is missing.
 install_missing() {
     local missing=() pair
-    for pair in gcc:gcc make:make ar:binutils cargo:cargo mandoc:mandoc valgrind:valgrind; do
+    for pair in gcc:gcc g++:g++ make:make ar:binutils cargo:cargo mandoc:mandoc man:man-db pkg-config:pkg-config valgrind:valgrind; do
         command -v "${pair%%:*}" >/dev/null || missing+=("${pair##*:}")
     done
     if [ "${#missing[@]}" -gt 0 ]; then
@@ -83,18 +58,40 @@ page_names() {
     diff <(declared) <(grep -E '^\.Nm registry_' "$page" | awk '{ print $2 }' | sort)
 }
 
-# The page gives each call the parameters that the header gives it.
-page_parameters() {
-    diff <(tools/face-page.py header "$header") <(tools/face-page.py page "$page")
+# same_parameters HEADER PAGE: the page gives each call the parameters that the header gives it.
+same_parameters() {
+    tools/face-page.py header "$1" >"$log.wanted" && tools/face-page.py page "$2" >"$log.said" && [ -s "$log.wanted" ] &&
+        diff "$log.wanted" "$log.said"
+}
+
+# The page of the waits names each call of their header, and no other.
+waiting_names() {
+    diff <(tools/face-page.py header clients/c/waiting.h | grep -oE 'registry_[a-z_]+\(' | tr -d '(' | sort) \
+        <(grep -E '^\.Nm registry_' clients/man/registry_waiting.3 | awk '{ print $2 }' | sort)
 }
 
 page_lints() {
-    mandoc -T lint "$page" >"$log" 2>&1 && [ ! -s "$log" ]
+    mandoc -T lint clients/man/*.3 >"$log" 2>&1 && [ ! -s "$log" ]
+}
+
+# Its proofs may take longer than a program may run.
+build_archive() {
+    tools/build-archive.sh
 }
 
 # The archive has each call of the header, and no other name that begins so.
 archive_names() {
     diff <(declared) <(nm --defined-only "$out/libregistry.a" 2>/dev/null | awk '$2 == "T" && $3 ~ /^registry_/ { print $3 }' | sort)
+}
+
+# The program whose stack is looked at makes each call of the header.
+unwinds_calls() {
+    diff <(declared) <(grep -oE 'registry_[a-z_]+\(' clients/c/unwinds.c | tr -d '(' | sort -u)
+}
+
+# No call takes more stack than the page says.
+stack_within() {
+    tools/frames.py "$out/libregistry.a" 1024 registry_open registry_walk && tools/frames.py "$out/libregistry.a" 4096
 }
 
 # C takes the header alone, without a warning, and so does C++ where it is there.
@@ -112,7 +109,7 @@ header_alone() {
 says() {
     local wanted=$1
     shift
-    "$@" >"$log.said" && diff "$log.said" "$wanted"
+    limited "$@" >"$log.said" && diff "$log.said" "$wanted"
 }
 
 row_says() {
@@ -129,62 +126,127 @@ storm_says() {
 
 # Runs a program so that an access out of bounds, a use of what was never written or a leak of any kind is a failure.
 guarded() {
-    valgrind -q --error-exitcode=99 --leak-check=full --show-leak-kinds=all --errors-for-leak-kinds=all "$@"
+    limited valgrind -q --error-exitcode=99 --leak-check=full --show-leak-kinds=all --errors-for-leak-kinds=all "$@"
 }
 
 # The same for Rust, whose runtime keeps some blocks to the end.
 guarded_rust() {
-    RUST_BACKTRACE=0 valgrind -q --error-exitcode=99 --leak-check=full --show-leak-kinds=definite,indirect \
+    RUST_BACKTRACE=0 limited valgrind -q --error-exitcode=99 --leak-check=full --show-leak-kinds=definite,indirect \
         --errors-for-leak-kinds=definite,indirect "$@"
 }
 
-# The program of the crate's tests.
+# The programs of the crate's tests, but for the one that runs the compiler.
 rust_tests() {
-    (cd clients/rust && cargo test --offline --no-run --test face 2>&1) | grep -oE '/[^ ()]*/face-[0-9a-f]+'
+    (cd clients/rust && cargo test --offline --no-run --tests 2>&1) | grep -oE '/[^ ()]*/(carried|entries|face|pool|threads|two|usual)-[0-9a-f]+'
 }
 
+# Each of them under valgrind, but for what forgets on purpose; the stress with fewer changes.
 guarded_tests() {
-    guarded_rust "$(rust_tests)" --test-threads=1 --skip what_is_forgotten
+    local program programs
+    programs=$(rust_tests)
+    [ "$(wc -w <<<"$programs")" -eq 7 ] || return 1
+    for program in $programs; do
+        REGISTRY_CHANGES=60 guarded_rust "$program" --test-threads=1 --skip forgotten --skip had_again --skip static || return 1
+    done
+}
+
+# The stress ends, and soon, also on a system where a yield lets nobody on: so nothing of it grows while one waits for another.
+ends_without_yields() {
+    echo 'int sched_yield(void) { return 0; }' | gcc -shared -fPIC -o "$out/no_yield.so" -xc - || return 1
+    LD_PRELOAD=$PWD/$out/no_yield.so timeout 30 "$(rust_tests | grep /threads-)"
+}
+
+# A program over the crate ends with 'wrong 0', and has made so many changes.
+changes_say() {
+    local changes=$1
+    shift
+    limited "$@" "$changes" >"$log.said" && grep -qE "^changes $changes( |\$)" "$log.said" && grep -qx 'wrong 0' "$log.said"
 }
 
 guarded_script() {
     guarded "$out/script" live <"$1" >"$log.said" && diff "$log.said" "${1%.txt}.report"
 }
 
+# catches TEXT COMMAND..: the command fails, and says this.
+catches() {
+    local text=$1
+    shift
+    ! limited "$@" >"$log.said" 2>&1 && grep -q "$text" "$log.said" || { tail -n 5 "$log.said"; return 1; }
+}
+
 test_page() {
     check "the page: mandoc -T lint says nothing" page_lints
     check "the page names the header's calls" page_names
-    check "the page has the header's parameters" page_parameters
+    check "the page has the header's parameters" same_parameters "$header" "$page"
+    check "the page of the waits names their calls" waiting_names
+    check "the page of the waits has their parameters" same_parameters clients/c/waiting.h clients/man/registry_waiting.3
     check "the page's examples stand in a client" tools/face-page.py examples "$page" clients/c/*.c
     check "the header alone, in four C standards" header_alone
 }
 
 test_c() {
-    local storm script
+    local storm
     check "C: row" row_says "$out/row"
     check "C: packet" "$out/packet"
     check "C: misuse is answered" "$out/misuse"
     check "C: each allocation refused" "$out/refuse"
+    check "C: the layout of each struct" "$out/layout"
+    check "C: unwinds makes each call" unwinds_calls
+    check "C: a debugger's stack goes through each call" "$out/unwinds"
+    check "C: waits" "$out/waits"
+    check "C: walk" "$out/walk" 5000
+    check "C: usual" "$out/usual" 1000
+    check "C: forwarder" "$out/forwarder"
+    check "C: device_switch" "$out/device_switch"
     for storm in "1 1000" "2 3" "4 20000" "8 5000"; do
         # shellcheck disable=SC2086
         check "C: storm $storm" storm_says $storm "$out/storm"
     done
     check "C: speed, briefly" "$out/speed" 2 8 1000
+    check "C: changes, briefly" "$out/changes" 20
     counted "C: the examples of the docs" tools/run-examples.py --program "$out/script" --engine live
     counted "C: scripts from a seed, beside registry_run" tools/compare-scripts.py
+    counted "C: installed, used by pkg-config alone, and uninstalled" tools/test-install.sh
+}
+
+# The same programs, where each access of the client's, or of all, is watched.
+test_c_watched() {
+    local script
     check "C: row under valgrind" row_says guarded "$out/row"
     check "C: packet under valgrind" guarded "$out/packet"
     check "C: misuse under valgrind" guarded "$out/misuse"
+    check "C: the layout of each struct under valgrind" guarded "$out/layout"
+    check "C: waits under valgrind" guarded "$out/waits"
+    check "C: walk under valgrind" guarded "$out/walk" 50
+    check "C: usual under valgrind" guarded "$out/usual" 50
     check "C: refuse under valgrind" guarded "$out/refuse"
     check "C: storm 4 100 under valgrind" storm_says 4 100 guarded "$out/storm"
     check "C: all of them are built with sanitizers" make -C clients sanitized
     check "C: misuse with sanitizers" "$out/sanitized-misuse"
     check "C: packet with sanitizers" "$out/sanitized-packet"
     check "C: row with sanitizers" row_says "$out/sanitized-row"
+    check "C: walk with sanitizers" "$out/sanitized-walk" 1000
+    check "C: usual with sanitizers" "$out/sanitized-usual" 300
+    check "C: forwarder with sanitizers" "$out/sanitized-forwarder"
+    check "C: device_switch with sanitizers" "$out/sanitized-device_switch"
     check "C: storm 8 1000 with sanitizers" storm_says 8 1000 "$out/sanitized-storm"
     counted "C: the examples of the docs with sanitizers" tools/run-examples.py --program "$out/sanitized-script" --engine live
     for script in examples/*.txt; do
         check "C: $(basename "$script") under valgrind" guarded_script "$script"
+    done
+}
+
+# Objects of the heap behind entries, freed once nobody holds them, under three checkers; each of them catches what frees a turn too early.
+test_heap() {
+    local when
+    check "C: heap_stress is built nine times" make -C clients stresses
+    check "C: heap_stress with the address sanitizer" "$out/heap_stress-address-right" 500
+    check "C: heap_stress with the thread sanitizer" "$out/heap_stress-thread-right" 200
+    check "C: heap_stress under valgrind" guarded "$out/heap_stress-none-right" 20
+    for when in early unperformed; do
+        check "C: freed $when: the address sanitizer sees it" catches heap-use-after-free "$out/heap_stress-address-$when" 500
+        check "C: freed $when: the thread sanitizer sees it" catches 'data race' "$out/heap_stress-thread-$when" 200
+        check "C: freed $when: valgrind sees it" catches 'Invalid read' guarded "$out/heap_stress-none-$when" 20
     done
 }
 
@@ -196,7 +258,8 @@ test_rust() {
     if cargo clippy --version >/dev/null 2>&1; then
         check "Rust: clippy says nothing" cargo clippy --offline --all-targets -- -D warnings
     fi
-    counted "Rust: tests and the docs' examples" cargo test --offline
+    check "Rust: what a package of it has" cargo package --list --allow-dirty --offline
+    counted "Rust: tests and the docs' examples" cargo test --offline --no-fail-fast
     check "Rust: the examples are built" cargo build --offline --release --examples
     cd ../.. || return
     check "Rust: packet" "$target/release/examples/packet"
@@ -205,17 +268,23 @@ test_rust() {
         # shellcheck disable=SC2086
         check "Rust: storm $storm" storm_says $storm "$target/release/examples/storm"
     done
+    check "Rust: forwarder" changes_say 2000 "$target/release/examples/forwarder"
+    check "Rust: device_switch" changes_say 600 "$target/release/examples/device_switch"
+    check "Rust: forwarder under valgrind" changes_say 20 guarded_rust "$target/release/examples/forwarder"
+    check "Rust: device_switch under valgrind" changes_say 20 guarded_rust "$target/release/examples/device_switch"
     check "Rust: packet under valgrind" guarded_rust "$target/release/examples/packet"
     check "Rust: speed, briefly" "$target/release/examples/speed" 2 8 1000
+    check "Rust: changes, briefly" "$target/release/examples/changes" 20
     check "Rust: row under valgrind" row_says guarded_rust "$target/release/examples/row"
     check "Rust: storm 4 100 under valgrind" storm_says 4 100 guarded_rust "$target/release/examples/storm"
-    check "Rust: tests under valgrind, but for the one that forgets" guarded_tests
+    check "Rust: tests under valgrind, but for those that forget" guarded_tests
+    check "Rust: the stress where a yield does nothing" ends_without_yields
 }
 
 install_missing
 test_page
 if [ "${1-}" != --built ]; then
-    check "the archive, proved and built" tools/build-archive.sh
+    check "the archive, proved and built" build_archive
 fi
 if [ ! -e "$out/libregistry.a" ]; then
     failed=$((failed + 1))
@@ -223,7 +292,11 @@ if [ ! -e "$out/libregistry.a" ]; then
     finish
 fi
 check "the archive has the header's calls" archive_names
+check "no call takes more stack than the page says" stack_within
 check "the clients in C are built, no warning" make -C clients
 test_c
+test_c_watched
+test_heap
+counted "C: the manual pages' own names" tools/test-netbsd.sh
 test_rust
 finish

@@ -4,13 +4,15 @@
     tools/test-program.py [PROGRAM]..    crates/registry_run/out/registry_run, which tools/prove-program.sh makes; and beside it what
                                          Rattle's own compiler made, where the gate has just built both
 
-Scripts with and without faults, storms, wrong arguments, and a standard output that is full, closed or gone, or a standard input that can't
-be read. The last line counts the runs.
+Scripts with and without faults, storms, wrong arguments, a standard output that is full, closed or gone, a standard input that can't be read, and
+address spaces in which there is too little memory. The last line counts the runs.
 """
 import os
 import pathlib
+import resource
 import subprocess
 import sys
+import tempfile
 
 ROOT = pathlib.Path(__file__).resolve().parent.parent
 USAGE = b"usage: registry_run core | live | storm C T\n"
@@ -138,6 +140,30 @@ def part_of_report(program):
     yield judged("core, a reader that leaves", (3, b"domain 8 32", b"write fault\n"), (ran.wait(), begin, error))
 
 
+def with_little_memory(program):
+    """Address spaces from one in which nothing starts to one that is ample: want of memory is told as such, wherever it is met, and never as another
+    fault. It is met while the script is read, and later, and in the end no more."""
+    script, report = b"domain 1 1\n" + b"audit\n" * 10000, b"domain 1 1\n" + b"empty\n" * 10000
+    for engine in ("core", "live"):
+        met, odd = set(), []
+        for kilobytes in range(2000, 6000, 20):
+            size = 1024 * kilobytes
+            with tempfile.TemporaryFile(buffering=0) as given:
+                given.write(script)
+                given.seek(0)
+                found = said(program, [engine], stdin=given, stdout=subprocess.PIPE, preexec_fn=lambda: resource.setrlimit(resource.RLIMIT_AS, (size, size)))
+                is_read = given.tell() == len(script)
+            code, text, error = found
+            if found == (0, report, b""):
+                met.add("enough")
+            elif code == 4 and report.startswith(text) and error == b"out of memory\n":
+                met.add("later" if is_read else "reading")
+            # In less the loader can't start the program.
+            elif met or code == 3 or text:
+                odd.append((kilobytes, code, len(text), error))
+        yield judged(f"{engine}, too little memory", ([], {"reading", "later", "enough"}), (odd, met))
+
+
 def programs():
     """What the words name, else what the gate or tools/prove-program.sh built."""
     if sys.argv[1:]:
@@ -156,6 +182,7 @@ def main():
             sys.exit(f"{program} is missing: tools/prove-program.sh makes it")
         for part in (usual, with_ends, with_closed_streams, with_unread_input, part_of_report):
             passed += part(program)
+    passed += with_little_memory(programs()[0])
     print(f"{sum(passed)} passed, {len(passed) - sum(passed)} failed")
     sys.exit(not all(passed))
 

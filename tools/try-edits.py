@@ -5,8 +5,8 @@
     tools/try-edits.py tests  [CRATE | CRATE/EDIT]..    crates/CRATE/must-fail-tests/EDIT.edit:       a test of CRATE must fail under each
 
 Without names it goes over all of them. It works on a copy of the tree, says of each edit whether it was refused and by what, and ends with
-'N passed, M failed'. The prover begins with what the gate has kept on this machine; without that it proves the crates first. What it says of the
-edits it says when all were tried.
+'N passed, M failed'. The prover begins with what earlier checks have kept of the crates below (their folders out/); without that it proves those
+first. What it says of a crate's edits it says when all of them were tried.
 """
 import pathlib
 import shutil
@@ -32,8 +32,7 @@ def chosen(folder, words):
 
 
 def by_prover(tree, edits):
-    """Lets rt try the edits in place of those of the gate, over what it has kept of earlier runs; of each, whether it was refused, and what is
-    said of it."""
+    """Lets rt try the edits in place of those of the gate, crate by crate; of each, whether it was refused, and what is said of it."""
     for folder in tree.glob("crates/*/must-fail"):
         shutil.rmtree(folder)
     for crate, found in edits.items():
@@ -41,8 +40,7 @@ def by_prover(tree, edits):
         folder.mkdir()
         for edit in found:
             shutil.copy(edit, folder)
-    ran = subprocess.run(["rt", "ci", *edits], cwd=tree, stdout=subprocess.PIPE, stderr=subprocess.STDOUT, text=True)
-    for crate, found in edits.items():
+        ran = subprocess.run(["rt", "must-fail", crate], cwd=tree, stdout=subprocess.PIPE, stderr=subprocess.STDOUT, text=True)
         for edit in found:
             label = f"must-fail {crate}/{edit.name}: "
             said = next((line.partition(label)[2] for line in ran.stdout.splitlines() if label in line), "not tried: " + ran.stdout[-300:])
@@ -78,7 +76,8 @@ def main():
     passed = failed = 0
     with tempfile.TemporaryDirectory() as folder:
         tree = pathlib.Path(folder) / "tree"
-        shutil.copytree(ROOT, tree, ignore=shutil.ignore_patterns("out", ".git"))
+        left_out = (".git",) if kind == "prover" else (".git", "out")
+        shutil.copytree(ROOT, tree, ignore=shutil.ignore_patterns(*left_out))
         for crate, edit, refused, said in tries(tree, chosen(FOLDERS[kind], sys.argv[2:])):
             passed, failed = passed + refused, failed + (not refused)
             print(f"{crate}/{edit.stem}: {said}", flush=True)

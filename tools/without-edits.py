@@ -65,7 +65,7 @@ def main():
     by_tests = [place for edit in ROOT.glob("crates/*/must-fail-tests/*.edit") for place in places(edit)]
     for crate in crates:
         folder = ROOT / "crates" / crate
-        functions = [it for path in folder.glob("src/**/*.rt") if "tests" not in path.parts for it in functions_of(path)]
+        functions = [it for path in folder.glob("src/**/*.rt") if "tests" not in path.relative_to(folder).parts for it in functions_of(path)]
         changed = by_tests + [place for edit in folder.glob("must-fail*/**/*.edit") for place in places(edit)]
         public = [it for it in functions if it.is_public]
         missing = [it for it in public if it not in covered(functions, changed)]

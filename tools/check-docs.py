@@ -1,0 +1,115 @@
+#!/usr/bin/env python3
+"""Finds what the documents name and the tree doesn't have: links to files and headings, and names in backquotes; and tables that a line cuts off.
+
+    tools/check-docs.py            says what is missing, and ends with 'N passed, M failed': one check for each document's links, one for its names
+
+A name counts where it stands as a word in some file that isn't a document, in a path, or where FOREIGN lists it with the place that it is from.
+"""
+import pathlib
+import re
+import subprocess
+import sys
+
+ROOT = pathlib.Path(__file__).resolve().parent.parent
+
+# Words in backquotes that no file of this repository has, by where they come from.
+FOREIGN = {
+    "NetBSD": "PSLIST_READER_FOREACH PSLIST_WRITER_INSERT_HEAD PSLIST_WRITER_REMOVE",
+    "Linux": """PERCPU_COUNT_BIAS kfree list_add_rcu list_del_rcu list_for_each_entry_rcu migrate_disable percpu_ref percpu_ref_exit
+        percpu_ref_get percpu_ref_kill percpu_ref_put poll_state_synchronize_rcu srcu_read_lock start_poll_synchronize_rcu
+        synchronize_srcu""",
+    "liburcu": "cds_list_add_rcu cds_list_del_rcu cds_list_for_each_entry_rcu defer_destroy urcu_ref",
+    "ck": "ck_epoch_section_2",
+    "crossbeam": "Collector register",
+    "Debian": "libck",
+    "rt": "RT_JOBS logbook logic plant unsupported dac8208d650f15bf",
+}
+FOREIGN_WORDS = {word for words in FOREIGN.values() for word in words.split()}
+
+FENCED = re.compile(r"^(```|~~~).*?^\1", re.MULTILINE | re.DOTALL)
+QUOTED = re.compile(r"`([^`\n]+)`")
+INLINE = re.compile(r"\[[^\]]*\]\(([^)\s]+)\)")
+BY_LABEL = re.compile(r"\[[^\]]+\]\[([^\]]+)\]")
+LABEL = re.compile(r"^\[([^\]]+)\]:\s*(\S+)", re.MULTILINE)
+HEADING = re.compile(r"^#+\s+(.*)$", re.MULTILINE)
+CUT_OFF = re.compile(r"^\|.*\n(?!\||\n)(.+)", re.MULTILINE)
+WORD = re.compile(r"[A-Za-z_][A-Za-z0-9_]*")
+
+
+def tracked():
+    """The files of the repository, new ones too."""
+    listed = subprocess.run(["git", "ls-files", "-co", "--exclude-standard"], cwd=ROOT, check=True, stdout=subprocess.PIPE, text=True)
+    return [ROOT / name for name in listed.stdout.splitlines() if (ROOT / name).is_file()]
+
+
+def text_of(path):
+    return path.read_text(encoding="utf-8", errors="replace")
+
+
+def slug(heading):
+    """The anchor that a heading has."""
+    kept = re.sub(r"[^\w\- ]", "", heading.replace("`", "").lower())
+    return kept.strip().replace(" ", "-")
+
+
+def anchors(path):
+    return {slug(heading) for heading in HEADING.findall(FENCED.sub("", text_of(path)))}
+
+
+def broken(path, text):
+    """The links of a document that lead nowhere, and the tables that end at a line which is no row."""
+    yield from (f"a table ends at: {line}" for line in CUT_OFF.findall(text))
+    labels = dict(LABEL.findall(text))
+    targets = INLINE.findall(text) + list(labels.values())
+    yield from (f"no link is called [{label}]" for label in BY_LABEL.findall(QUOTED.sub("", text)) if label not in labels)
+    for target in targets:
+        if "://" in target:
+            continue
+        name, _, anchor = target.partition("#")
+        file = (path.parent / name) if name else path
+        if not file.exists():
+            yield f"no file {target}"
+        elif anchor and file.suffix == ".md" and anchor not in anchors(file):
+            yield f"no heading {target}"
+
+
+def named(quoted):
+    """The names in a piece in backquotes. What has dots or capitals in place of a part stands for many names, and isn't looked for."""
+    if ".." in quoted or quoted.startswith("-"):
+        return []
+    return [name for name in WORD.findall(quoted) if len(name) > 2 and not name.startswith("_") and not name.endswith("_") and not name.isupper()]
+
+
+def unknown(text, words):
+    """The names in backquotes that nothing has."""
+    for quoted in QUOTED.findall(text):
+        yield from (f"`{quoted}`: {name}" for name in named(quoted) if name not in words and name not in FOREIGN_WORDS)
+
+
+def words_of(files):
+    """All words of the paths, and of the files that aren't documents."""
+    words = set()
+    for path in files:
+        words.update(WORD.findall(str(path.relative_to(ROOT))))
+        if path.suffix != ".md" and path.resolve() != pathlib.Path(__file__).resolve():
+            words.update(WORD.findall(text_of(path)))
+    return words
+
+
+def main():
+    files = tracked()
+    documents = [path for path in files if path.suffix == ".md"]
+    words = words_of(files)
+    passed = failed = 0
+    for path in documents:
+        text = text_of(path)
+        prose = FENCED.sub("", text)
+        for kind, found in (("links", list(broken(path, prose))), ("names", sorted(set(unknown(prose, words))))):
+            passed, failed = passed + (not found), failed + bool(found)
+            for line in found:
+                print(f"{path.relative_to(ROOT)}: {kind}: {line}")
+    print(f"{passed} passed, {failed} failed")
+    sys.exit(failed > 0)
+
+
+main()

@@ -1,0 +1,142 @@
+#!/usr/bin/env bash
+# Lets the tests of two peers torture the registry: liburcu's rcutorture, and those of ck's epoch tests that don't look into an epoch. Both are built
+# unchanged from Debian's source packages over clients/peers, whose sections and waits are those of clients/netbsd, over clients/out/libregistry.a.
+# Each is also built over a wait that does nothing, and has to find that. It isn't in the gate: it fetches the packages by apt, from where the
+# system's own lists have theirs, and runs for some minutes. The last line is 'N passed, M failed'.
+#
+# It wants gcc, apt-get and dpkg-source (dpkg-dev).
+set -uo pipefail
+cd "$(dirname "$0")/.."
+work=$PWD/clients/out/peers
+apt=$work/apt
+include=(-Iclients/peers -Iclients/netbsd -Icrates/registry_c/include)
+library=(clients/netbsd/netbsd.c clients/out/libregistry.a -pthread)
+# shellcheck source=tools/checks.sh
+. tools/checks.sh
+trap forget_log EXIT
+
+# Lists of source packages, from where the system's own lists have its packages, kept apart from them.
+write_lists() {
+    local list
+    mkdir -p "$apt/lists/partial" "$apt/cache/archives/partial" "$apt/sources"
+    rm -f "$apt/sources"/*
+    for list in /etc/apt/sources.list /etc/apt/sources.list.d/debian.*; do
+        if [ -e "$list" ]; then
+            sed -E 's/^Types: deb$/Types: deb-src/; s/^deb /deb-src /' "$list" >"$apt/sources/${list##*/}"
+        fi
+    done
+    cat >"$apt/apt.conf" <<LIST
+Dir::State::lists "$apt/lists";
+Dir::Cache "$apt/cache";
+Dir::Etc::sourcelist "/dev/null";
+Dir::Etc::sourceparts "$apt/sources";
+APT::Sandbox::User "";
+LIST
+}
+
+# Fetches and unpacks the two packages.
+fetch() {
+    write_lists
+    export APT_CONFIG=$apt/apt.conf
+    (cd "$work" && apt-get -qq update && apt-get -qq source --download-only liburcu ck) >"$work/fetch.log" 2>&1 || return 1
+    unset APT_CONFIG
+    rm -rf "$work/urcu" "$work/ck"
+    dpkg-source --no-check -x "$work"/liburcu_*.dsc "$work/urcu" >>"$work/fetch.log" 2>&1 || return 1
+    dpkg-source --no-check -x "$work"/ck_*.dsc "$work/ck" >>"$work/fetch.log" 2>&1 || return 1
+    echo '#define CONFIG_RCU_SMP 1' >"$work/urcu/include/urcu/config.h"
+    (cd "$work/ck" && ./configure) >"$work/configure.log" 2>&1
+}
+
+# build_torture NAME FLAG..: rcutorture over our sections.
+build_torture() {
+    local name=$1
+    shift
+    gcc -std=gnu11 -D_GNU_SOURCE -O2 "$@" -DRCU_MB "${include[@]}" -I"$work/urcu/include" -I"$work/urcu/tests/common" -I"$work/urcu/tests/utils" \
+        -o "$work/$name" "$work/urcu/tests/regression/urcutorture.c" "$work/urcu/tests/utils/tap.c" clients/peers/urcu.c "${library[@]}"
+}
+
+# build_epoch TEST NAME FLAG..: one of ck's epoch tests over our sections, with the address sanitizer.
+build_epoch() {
+    local test=$1 name=$2
+    shift 2
+    gcc -std=gnu11 -D_GNU_SOURCE -O1 -g -fsanitize=address "$@" -DCORES="$(nproc)" "${include[@]}" -I"$work/ck/include" \
+        -o "$work/$name" "$work/ck/regressions/ck_epoch/validate/$test.c" "${library[@]}"
+}
+
+# Runs rcutorture's stress, and shows what it counted.
+stress() {
+    timeout 120 "$work/$1" "$2" stress >"$work/stress.log" 2>&1 || return 1
+    grep -E 'n_reads|rcu_stress_count' "$work/stress.log"
+}
+
+# counts NAME: passed where rcutorture wrote all its counts, and those from the third column on are 0 (`clean`) or not all of them (`stale`).
+counts() {
+    awk -v wanted="$1" '
+        /rcu_stress_count:/ { sub(/.*rcu_stress_count:/, ""); columns = NF; for (i = 3; i <= NF; i++) if ($i != 0) stale = 1 }
+        END { exit columns != 11 || (wanted == "stale") != stale }' "$work/stress.log"
+}
+
+test_torture() {
+    local readers
+    build_torture torture && build_torture torture-without-wait -DWITHOUT_WAIT
+    judge "rcutorture is built, unchanged" $?
+    for readers in 3 7; do
+        stress torture "$readers" && grep -q 'n_mberror: 0$' "$work/stress.log" && counts clean
+        judge "rcutorture: stress with $readers readers" $?
+    done
+    stress torture-without-wait 3
+    counts stale
+    judge "rcutorture finds a wait that does nothing" $?
+}
+
+# epoch NAME ARGUMENT..: a test of ck's ends by itself with status 0. These tests keep what they allocated to the end.
+epoch() {
+    local name=$1
+    shift
+    ASAN_OPTIONS=detect_leaks=0 timeout 300 "$work/$name" "$@" >"$work/$name.log" 2>&1
+}
+
+# finds NAME ARGUMENT..: a test of ck's meets memory that was freed, in one of so many runs: in a run the readers may come too late.
+finds() {
+    local run
+    for run in {1..20}; do
+        ! epoch "$@" && grep -q 'AddressSanitizer: heap-use-after-free' "$work/$1.log" && return
+    done
+    return 1
+}
+
+test_epochs() {
+    local size=(-DPAIRS=20000 -DPAIRS_S=200 -DITERATE_S=3)
+    local test
+    for test in ck_epoch_section ck_epoch_call ck_epoch_synchronize ck_epoch_poll ck_stack; do
+        build_epoch $test $test "${size[@]}" && build_epoch $test $test-without-wait "${size[@]}" -DWITHOUT_WAIT
+        judge "$test is built, unchanged" $?
+    done
+    epoch ck_epoch_section
+    judge "ck_epoch_section" $?
+    epoch ck_epoch_call
+    judge "ck_epoch_call" $?
+    epoch ck_epoch_synchronize 3 3 1
+    judge "ck_epoch_synchronize: 3 readers, 3 writers" $?
+    epoch ck_epoch_poll 3 3 1
+    judge "ck_epoch_poll: 3 readers, 3 writers" $?
+    epoch ck_stack 4 1
+    judge "ck_stack: 4 threads" $?
+    finds ck_epoch_synchronize-without-wait 3 3 1
+    judge "ck_epoch_synchronize finds a wait that does nothing" $?
+    finds ck_epoch_poll-without-wait 3 3 1
+    judge "ck_epoch_poll finds a wait that does nothing" $?
+    finds ck_stack-without-wait 4 1
+    judge "ck_stack finds a wait that does nothing" $?
+}
+
+if [ ! -e clients/out/libregistry.a ]; then
+    echo "no archive: tools/build-archive.sh makes clients/out/libregistry.a"
+    exit 1
+fi
+mkdir -p "$work"
+fetch
+judge "the source packages are fetched" $?
+test_torture
+test_epochs
+finish

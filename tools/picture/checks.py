@@ -1,0 +1,169 @@
+"""The checks of the pictures: each stands as it is made again, reports that aren't the script's are refused, and the layers are the crates'."""
+import pathlib
+import re
+
+from .commands import Unfit
+from .drawn import FORMS, drawn
+
+ROOT = pathlib.Path(__file__).resolve().parent.parent.parent
+ENDINGS = {"svg": ".svg", "text": ".picture"}
+
+# A script with its report, and reports that aren't its own: which of the lines is replaced, counted from 0, and by what.
+SCRIPT = """domain 2 2
+attach 0 driver wm 7
+enter 0
+find 0 driver wm
+ref 0 a
+count 0 x
+detach 1 driver wm
+advance 1
+exit 0
+advance 1
+drop 0 a
+advance 1
+uncount 1 x
+advance 1
+"""
+REPORT = """domain 2 2
+attached 1 slot 0
+inside
+found 1 slot 0 value 7
+ref a 1
+count x 1
+retired 1 slot 0
+grace cpu 0
+outside
+passive cpu 0
+dropped a 1
+local 1
+uncounted x 1
+freed slot 0
+"""
+PLANTED = {
+    "a line dropped": (4, []),
+    "a line twice": (2, ["inside", "inside"]),
+    "the last line dropped": (13, []),
+    "a line more": (13, ["freed slot 0", "empty"]),
+    "another slot": (1, ["attached 1 slot 1"]),
+    "another CPU's section": (7, ["grace cpu 1"]),
+    "a wait left out": (7, ["freed slot 0"]),
+    "another CPU's reference": (9, ["passive cpu 1"]),
+    "more held than are": (11, ["local 2"]),
+    "freed while held": (11, ["freed slot 0"]),
+    "held when freed": (13, ["local 1"]),
+    "a refusal that wasn't": (4, ["refused PassiveFull"]),
+}
+# Scripts with their reports: words that the rows of the text form have, and words that they have not.
+REFUSED = ("domain 1 1\nattach 0 driver wm 7\nenter 0\nref 0 a\n", "domain 1 1\nattached 1 slot 0\ninside\nrefused NothingFound\n")
+TEXTS = {
+    "a refused reference draws no bar": (*REFUSED, "NothingFound", "├─"),
+    "a reference that is acquired draws one": (SCRIPT, REPORT, "├a: wm─", "├b"),
+    "the section that held a slot is named": (SCRIPT, REPORT, "grace cpu 0", "grace cpu 1"),
+    "the passive reference that held it is named": (SCRIPT, REPORT, "passive cpu 0", "×"),
+    "the local references that held it are counted": (SCRIPT, REPORT, "local 1", "local 2"),
+    "a reference released elsewhere is marked there": (SCRIPT, REPORT, "uncount x", "uncount a"),
+}
+
+
+def examples():
+    return sorted((ROOT / "examples").glob("*.txt"))
+
+
+def pictures():
+    """Each file of a picture of examples/, with its form and its script."""
+    for script in examples():
+        for form, ending in ENDINGS.items():
+            yield script.with_suffix(ending), form, script
+
+
+def drawn_again(form, script):
+    return drawn(form, script.stem, script.read_text(), script.with_suffix(".report").read_text())
+
+
+def differs(path, form, script):
+    """Why a picture of examples/ isn't the one that its script and report make, if so."""
+    try:
+        same = path.is_file() and path.read_text() == drawn_again(form, script)
+    except (Unfit, OSError) as fault:
+        return str(fault)
+    return "" if same else "it isn't what tools/picture.py make writes"
+
+
+def standing():
+    """Each picture of examples/ is the one that its script and report make."""
+    for path, form, script in pictures():
+        yield f"examples/{path.name}", differs(path, form, script)
+    scripts = {script.stem for script in examples()}
+    for ending in ENDINGS.values():
+        for path in sorted((ROOT / "examples").glob(f"*{ending}")):
+            if path.stem not in scripts:
+                yield f"examples/{path.name}", "there is no such script"
+
+
+def documents():
+    """Each script of the documents is drawn with its report."""
+    for page in sorted((ROOT / "docs").glob("*.md")):
+        for place, found in enumerate(re.finditer(r"^```script\n([^`]*)```\n```report\n([^`]*)```", page.read_text(), re.M), 1):
+            try:
+                yield f"{page.name}, script {place}", "" if drawn("text", page.stem, *found.groups()) else "nothing is drawn"
+            except Unfit as fault:
+                yield f"{page.name}, script {place}", str(fault)
+
+
+def planted():
+    """A report with one line changed is refused, and the true one isn't."""
+    for name, (place, lines) in PLANTED.items():
+        said = REPORT.splitlines()
+        said[place:place + 1] = lines
+        for form in FORMS:
+            try:
+                drawn(form, "planted", SCRIPT, "".join(f"{line}\n" for line in said))
+                yield f"{name}, {form}", "it is drawn"
+            except Unfit:
+                yield f"{name}, {form}", ""
+
+
+def said():
+    """What a picture says, and what it doesn't."""
+    for name, (script, report, there, missing) in TEXTS.items():
+        rows = drawn("text", "planted", script, report).split("┣━┫")[0]
+        yield name, "" if there in rows and missing not in rows else f"it should say {there}, and not {missing}"
+
+
+def nearest(crates):
+    """Of each crate the crates that it stands on, without those that another of them stands on."""
+    return {(crate, on) for crate, below in crates.items() for on in below if not any(on in crates.get(it, ()) for it in below)}
+
+
+def layers():
+    """The picture of the layers has the crates of crates.txt, each with an arrow to each of the nearest that it stands on."""
+    crates = {}
+    for line in (ROOT / "crates.txt").read_text().splitlines():
+        if line and not line.startswith("#"):
+            crate, below = line.split(":")
+            crates[crate.split()[0]] = below.split()
+    drawing = (ROOT / "docs/layers.svg").read_text()
+    drawn_boxes = set(re.findall(r'data-crate="(\w+)"', drawing))
+    drawn_arrows = set(re.findall(r'data-from="(\w+)" data-to="(\w+)"', drawing))
+    ours = {(crate, on) for crate, on in nearest(crates) if on in crates}
+    yield "docs/layers.svg, crates", " ".join(sorted(drawn_boxes ^ set(crates)))
+    yield "docs/layers.svg, arrows", " ".join(sorted(f"{crate}-{on}" for crate, on in drawn_arrows ^ ours))
+
+
+def check():
+    """All checks; 1 where one failed."""
+    passed = failed = 0
+    for group in (standing, documents, planted, said, layers):
+        for name, fault in group():
+            passed, failed = passed + (not fault), failed + bool(fault)
+            if fault:
+                print(f"{name}: {fault}")
+    print(f"{passed} passed, {failed} failed")
+    return int(failed > 0)
+
+
+def make():
+    """Writes each picture of examples/ anew."""
+    for path, form, script in pictures():
+        path.write_text(drawn_again(form, script))
+    return 0
