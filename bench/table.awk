@@ -19,7 +19,8 @@ $2 == "threads" {
 }
 
 END {
-    operation_count = split("lookup batch passive local", operations, " ")
+    operation_count = split("lookup batch passive local read look_up get", operations, " ")
+    compare_at_once()
     for (o = 1; o <= operation_count; o++)
         for (l = 1; l <= list_count; l++)
             table(operations[o], lists[l])
@@ -27,6 +28,19 @@ END {
     for (l = 1; l <= list_count; l++)
         list_aims(lists[l])
     tell_noise()
+}
+
+# A lookup by one call or by two from outside is beside a lookup of ours.
+function compare_at_once(    l) {
+    for (l = 1; l <= list_count; l++) {
+        beside_lookup("read", lists[l])
+        beside_lookup("look_up", lists[l])
+    }
+}
+
+function beside_lookup(operation, entries) {
+    best["registry_bench", 1, entries, operation] = best["registry_bench", 1, entries, "lookup"]
+    best["registry_bench", most, entries, operation] = best["registry_bench", most, entries, "lookup"]
 }
 
 function keep(name, threads, entries, operation, time) {
@@ -70,6 +84,13 @@ function list_aims(entries,    o) {
     by_hand("local", "hand-padded", entries, 1.25)
     from_outside("lookup", "from-C", entries, 1.3)
     from_outside("lookup", "from-Rust", entries, 1.3)
+    from_outside("read", "from-C", entries, 1.3)
+    from_outside("read", "from-Rust", entries, 1.3)
+    from_outside("look_up", "from-C", entries, 1.15)
+    from_outside("look_up", "from-Rust", entries, 1.15)
+    from_outside("get", "from-C", entries, 1.15)
+    from_outside("get", "from-Rust", entries, 1.15)
+    from_outside("local", "from-C", entries, 1.5)
     for (o = 1; o <= operation_count; o++)
         by_hand(operations[o], "before", entries, 1.05)
     scaling_aim("lookup: ours, " most " threads / 1 thread", ours(most, entries) / ours(1, entries), 1.5)
