@@ -124,15 +124,19 @@ storm_says() {
     says "$log.wanted" "$@" "$cpus" "$turns"
 }
 
+# valgrind runs one thread at a time: in turn, where it can. Else the threads that want on may keep one from it for minutes, while the rest wait for it.
+watched() {
+    limited valgrind -q --fair-sched=try --error-exitcode=99 --leak-check=full "$@"
+}
+
 # Runs a program so that an access out of bounds, a use of what was never written or a leak of any kind is a failure.
 guarded() {
-    limited valgrind -q --error-exitcode=99 --leak-check=full --show-leak-kinds=all --errors-for-leak-kinds=all "$@"
+    watched --show-leak-kinds=all --errors-for-leak-kinds=all "$@"
 }
 
 # The same for Rust, whose runtime keeps some blocks to the end.
 guarded_rust() {
-    RUST_BACKTRACE=0 limited valgrind -q --error-exitcode=99 --leak-check=full --show-leak-kinds=definite,indirect \
-        --errors-for-leak-kinds=definite,indirect "$@"
+    RUST_BACKTRACE=0 watched --show-leak-kinds=definite,indirect --errors-for-leak-kinds=definite,indirect "$@"
 }
 
 # The programs of the crate's tests, but for the one that runs the compiler.

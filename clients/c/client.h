@@ -1,5 +1,5 @@
 /*
- * What the clients share: calls that have to be done, and names.
+ * What the clients share: calls that have to be done, names, and a rest that lets others on.
  */
 #ifndef CLIENT_H
 #define CLIENT_H
@@ -7,6 +7,7 @@
 #include <stdio.h>
 #include <stdlib.h>
 #include <string.h>
+#include <time.h>
 
 #include "expect.h"
 #include "registry.h"
@@ -21,6 +22,13 @@ static inline struct registry_name name_of(const char *text)
 	uint64_t place;
 	DONE(registry_name_parse((const uint8_t *)text, strlen(text), &name, &place));
 	return name;
+}
+
+/* Lets other threads on. A yield would do so only where the system's does: a sleep does it everywhere, under valgrind too. */
+static inline void rest(void)
+{
+	const struct timespec moment = {0, 10000};
+	nanosleep(&moment, NULL);
 }
 
 #endif

@@ -11,7 +11,6 @@
 #include <inttypes.h>
 #include <pthread.h>
 #include <stdatomic.h>
-#include <time.h>
 
 #include "client.h"
 #include "edges.h"
@@ -52,13 +51,6 @@ static uint64_t count_of(atomic_uint_fast64_t *counter)
 static void count_one(atomic_uint_fast64_t *counter)
 {
 	atomic_fetch_add_explicit(counter, 1, memory_order_relaxed);
-}
-
-/* Lets other threads on. A yield would do so only where the system's does: a sleep does it everywhere, under valgrind too. */
-static void rest(void)
-{
-	const struct timespec moment = {0, 10000};
-	nanosleep(&moment, NULL);
 }
 
 static struct object *make_object(uint64_t word)

@@ -23,7 +23,7 @@ static atomic_bool gone;
 static void send_packet(const struct registry_entry *iface)
 {
 	EXPECT(!atomic_load(&gone) && iface->value == 1500);
-	sched_yield();
+	rest();
 	EXPECT(!atomic_load(&gone));
 	atomic_fetch_add(&sent, 1);
 }
@@ -114,7 +114,7 @@ int main(void)
 	for (int i = 0; i < SENDERS; i++)
 		EXPECT(pthread_create(&senders[i], NULL, send_all, &cpus[i]) == 0);
 	while (atomic_load(&sent) < 1000)
-		sched_yield();
+		rest();
 	DONE(take_out(&cpus[SENDERS], &wm0));
 	atomic_store(&gone, true);
 	for (int i = 0; i < SENDERS; i++)

@@ -5,7 +5,6 @@
  * find a driver and use its object of the heap, while a fourth takes the driver out, frees the object as soon as nobody holds it, and puts a new one in.
  */
 #include <pthread.h>
-#include <sched.h>
 #include <stdatomic.h>
 
 #include "client.h"
@@ -316,7 +315,7 @@ static void free_object(void)
 	EXPECT(detach() == gone.number);
 	DONE(registry_release(&cpus[CHANGER], gone.number));
 	while (turn(gone.number) != REGISTRY_FREED)
-		sched_yield();
+		rest();
 	struct object *object = (struct object *)(uintptr_t)gone.value;
 	object->alive = 0;
 	free(object);
@@ -331,7 +330,7 @@ static void use_inside(struct registry_cpu *cpu)
 		return;
 	const struct object *object = (const struct object *)(uintptr_t)found.value;
 	EXPECT(answer == REGISTRY_DONE && object->alive == ALIVE);
-	sched_yield();
+	rest();
 	EXPECT(object->alive == ALIVE);
 	atomic_fetch_add(&finds, 1);
 	DONE(registry_exit(cpu));
@@ -348,7 +347,7 @@ static void use_driver(struct registry_cpu *cpu)
 		return;
 	const struct object *object = (const struct object *)(uintptr_t)found.value;
 	EXPECT(answer == REGISTRY_DONE && object->alive == ALIVE);
-	sched_yield();
+	rest();
 	EXPECT(object->alive == ALIVE);
 	atomic_fetch_add(&uses, 1);
 	DONE(registry_release(cpu, found.number));
@@ -373,10 +372,10 @@ static void run_threads(unsigned long changes)
 	for (unsigned long made = 0; made < changes; made++) {
 		free_object();
 		attach_object();
-		sched_yield();
+		rest();
 	}
 	while (atomic_load(&uses) == 0 || atomic_load(&finds) == 0)
-		sched_yield();
+		rest();
 	atomic_store(&over, true);
 	for (unsigned i = 0; i < USERS; i++)
 		EXPECT(pthread_join(threads[i], NULL) == 0);

@@ -6,7 +6,6 @@
  */
 #include <inttypes.h>
 #include <pthread.h>
-#include <sched.h>
 #include <stdatomic.h>
 
 #include "client.h"
@@ -45,7 +44,7 @@ static uint64_t bytes_of_all(struct registry_cpu *cpu)
 		if (row[i].kind != REGISTRY_INTERFACE)
 			continue;
 		const struct port *port = (const struct port *)(uintptr_t)row[i].value;
-		sched_yield();
+		rest();
 		EXPECT(port->alive == ALIVE);
 		bytes += port->bytes;
 		staying += port->stays ? 1 : 0;
@@ -106,7 +105,7 @@ static void detach_port(const char *text)
 	DONE(registry_detach(&keeper, &cpus[CHANGER], REGISTRY_INTERFACE, &name, &gone));
 	pthread_mutex_unlock(&interlock);
 	while (advance(gone.number) != REGISTRY_FREED)
-		sched_yield();
+		rest();
 	struct port *port = (struct port *)(uintptr_t)gone.value;
 	memset(port, 0xdb, sizeof *port);
 	free(port);

@@ -6,7 +6,6 @@
 
 #include <pthread.h>
 #include <stdatomic.h>
-#include <time.h>
 
 #include "client.h"
 
@@ -38,10 +37,9 @@ static inline void count_round(void)
 /* Waits until the workers have made so many rounds more. They go on meanwhile, whatever becomes of the entries. */
 static inline void wait_for_rounds(uint64_t more)
 {
-	const struct timespec moment = {0, 10000};
 	uint64_t before = atomic_load_explicit(&rounds, memory_order_relaxed);
 	while (atomic_load_explicit(&rounds, memory_order_relaxed) < before + more)
-		nanosleep(&moment, NULL);
+		rest();
 }
 
 /* Starts so many workers, each with its own `struct worker`. */
