@@ -10,6 +10,8 @@ use Rattle.cpu_words.specs.declared.view.CpuView.{CpuView}
 use Rattle.cpu_words.specs.declared.view.KeeperView.{KeeperView}
 use Rattle.cpu_words.specs.declared.view.View.{View}
 use Rattle.cpu_words.specs.declared.view.View.TheVariants.{Keeper, Cpu}
+use Rattle.cpu_words.specs.declared.layout.TheConstants.{TOTALS, WORDS}
+use Rattle.cpu_words.specs.Spots.{total_of, index}
 use Rattle.cpu_words.specs.Views.{Seated, new_keeper, new_cpu, keeper_of}
 
 -- the keeper is at rest, and a CPU has no seat yet
@@ -31,9 +33,9 @@ next_seat v = Cpu (new_cpu (keeper_of v).settings (keeper_of v).seated)
 
 -- all words are 0 but the totals, which are the bias
 pub record AreOpening (words : List ℕ) : Type 0 where
-  pub size : length words ≡ 944
-  pub unused : (i : ℕ) → i < 912 → slice_index words i ≡ 0
-  pub totals : (t : ℕ) → t < 32 → slice_index words (912 + t) ≡ bias
+  pub size : length words ≡ WORDS
+  pub unused : (i : ℕ) → i < TOTALS → slice_index words i ≡ 0
+  pub totals : (t : ℕ) → t < 32 → slice_index words (index (total_of t)) ≡ bias
 
 -- the seats of the first n CPUs, CPU 0 first
 pub record AreSeats (table : TableId) (z : Settings) (n : ℕ) (seats : List (Seated CpuView)) : Type 0 where

@@ -14,6 +14,7 @@ use Rattle.cpu_words.specs.declared.view.View.TheVariants.{Cpu}
 use Rattle.cpu_words.specs.Views.{references_to, without}
 use Rattle.cpu_words.specs.Steps.{Makes}
 use Rattle.cpu_words.specs.Sections.{IsIdle}
+use Rattle.cpu_words.specs.Spots.{passive_of, record_of, index}
 
 -- the entry has this slot and this number
 pub record IsAt (e : Entry) (t n : ℕ) : Type 0 where
@@ -59,12 +60,12 @@ IsAloneAt x t n = (f : Entry) → Contains x.references f → f.slot ≡ t → f
 
 abbrev pub tells_added : Event → ℕ → CpuView → ℕ → CpuView → Type 0
 tells_added event i x m y = Makes event (Word m) (Cpu x) (Cpu y)
-    × ((c t n : ℕ) → event ≡ PassiveAdd c n → i ≡ 80 * c + 1 + t → HasAdded x t n y × (t < 32) × (m ≡ references_to n x.references) × IsAloneAt x t n)
+    × ((c t n : ℕ) → event ≡ PassiveAdd c n → i ≡ index (passive_of c t) → HasAdded x t n y × (t < 32) × (m ≡ references_to n x.references) × IsAloneAt x t n)
 
 abbrev pub tells_subtracted : Event → ℕ → CpuView → ℕ → CpuView → Type 0
 tells_subtracted event i x m y = Makes event (Word m) (Cpu x) (Cpu y)
-    × ((c t n : ℕ) → event ≡ PassiveSub c n → i ≡ 80 * c + 1 + t → HasSubtracted x n y × (m ≡ references_to n x.references) × IsAloneAt x t n)
+    × ((c t n : ℕ) → event ≡ PassiveSub c n → i ≡ index (passive_of c t) → HasSubtracted x n y × (m ≡ references_to n x.references) × IsAloneAt x t n)
 
 abbrev pub tells_passive : Event → ℕ → CpuView → ℕ → CpuView → Type 0
 tells_passive event i x m y = Makes event (Word m) (Cpu x) (Cpu y)
-    × (y ≡ x) × ((c t n k : ℕ) → event ≡ LoadRecord (Passive c n k) → i ≡ 657 + 8 * t + k → IsWordOf x t n k m × IsAloneAt x t n × IsNamed x t n)
+    × (y ≡ x) × ((c t n k : ℕ) → event ≡ LoadRecord (Passive c n k) → i ≡ index (record_of t k) → IsWordOf x t n k m × IsAloneAt x t n × IsNamed x t n)

@@ -14,6 +14,7 @@ use Rattle.registry_values.specs.Marks.{no_mark}
 use Rattle.protocol.specs.State.{row_at, count_at, total_at, kept_at}
 use Rattle.protocol.specs.Events.{entry_of, keeps_rightly}
 use Rattle.cpu_words.specs.declared.view.KeeperView.{KeeperView}
+use Rattle.cpu_words.specs.Spots.{head_word, next_of, index}
 
 -- the link x leads to the greatest live number below n, or to the end where there is none
 pub data LeadsBelow (slots : List Slot) (n : ℕ) : ℕ → Type 0 where
@@ -54,8 +55,8 @@ PublishTold e k l = ⊥
 
 -- the link of the entry before, or the head where there is none
 abbrev pub link_index : Option ℕ → ℕ
-link_index None = 648
-link_index (Some q) = 656 + 8 * q
+link_index None = index head_word
+link_index (Some q) = index (next_of q)
 
 -- the slot is one that a table can have
 abbrev pub IsLinkPlace : Option ℕ → Type 0

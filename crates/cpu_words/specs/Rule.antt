@@ -25,10 +25,11 @@ use Rattle.cpu_words.specs.declared.view.KeeperView.{KeeperView}
 use Rattle.cpu_words.specs.declared.view.LogItem.{LogItem}
 use Rattle.cpu_words.specs.declared.view.View.{View}
 use Rattle.cpu_words.specs.declared.view.View.TheVariants.{Keeper, Cpu, Reference, Note, Spent}
+use Rattle.cpu_words.specs.declared.layout.TheConstants.{WORDS}
 
 -- the table has the words of the core
 pub record Agrees (words : List ℕ) (g : State) : Type 0 where
-  pub size : length words ≡ 944
+  pub size : length words ≡ WORDS
   pub at : (p : Spot) → IsSpot g.settings p → slice_index words (index p) ≡ word_at g p
 
 -- the keeper has the first seat, and each CPU one

@@ -1,9 +1,10 @@
--- Where the words lie. The strides are constants, for at most 8 CPUs and 32 slots: no place depends on the settings.
+-- Where the words lie: which words there are, and the place of each, by the constants of src/layout.rt.
 use Rattle.std.specs.Prelude.{◌≡◌, ℕ, ◌+◌, ◌*◌, ◌<◌, ◌≤◌, ◌⊎◌, IsTrue, slice_index_or, Option, Some, None}
 use Rattle.registry_values.specs.declared.settings.Settings.{Settings}
 use Rattle.registry_values.specs.Limits.{are_fit}
 use Rattle.protocol.specs.State.{State, section_at, row_at, passive_at, count_at, total_at}
 use Rattle.protocol.specs.Events.{word}
+use Rattle.cpu_words.specs.declared.layout.TheConstants.{ROWS, ROW, PASSIVES, COUNTS, HEAD, NEXTS, RECORDS, LINE, TOTALS}
 
 -- a word of the table: a CPU's section, its passive and count words for each slot, the head, and a slot's link, record words and total
 pub data Spot : Type 0 where
@@ -15,15 +16,15 @@ pub data Spot : Type 0 where
   record_of : ℕ → ℕ → Spot
   total_of : ℕ → Spot
 
--- A CPU's words lie side by side, 80 words from the next CPU's; the shared ones begin at 648, a slot's link and record words in 8, the totals behind.
+-- A CPU's words lie side by side in its row; the shared ones lie behind the rows, a slot's link and record words in one line, the totals last.
 abbrev pub index : Spot → ℕ
-index (section_of c) = 80 * c
-index (passive_of c t) = 80 * c + 1 + t
-index (count_of c t) = 80 * c + 33 + t
-index head_word = 648
-index (next_of t) = 656 + 8 * t
-index (record_of t k) = 657 + 8 * t + k
-index (total_of t) = 912 + t
+index (section_of c) = ROWS + ROW * c
+index (passive_of c t) = ROWS + ROW * c + PASSIVES + t
+index (count_of c t) = ROWS + ROW * c + COUNTS + t
+index head_word = HEAD
+index (next_of t) = NEXTS + LINE * t
+index (record_of t k) = RECORDS + LINE * t + k
+index (total_of t) = TOTALS + t
 
 -- the settings have such a word
 abbrev pub IsSpot : Settings → Spot → Type 0

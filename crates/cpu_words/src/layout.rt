@@ -1,6 +1,105 @@
-//! Where the words of the table lie.
+//! Where the words of the table lie. Code, specs (`index` in specs/Spots.antt) and proofs speak by what is named here, and by no number.
+//!
+//! place                              word                                              written by
+//! ROWS + ROW * c                     section of CPU c                                  CPU c
+//! ROWS + ROW * c + PASSIVES + t      passive references of CPU c to slot t's entry     CPU c
+//! ROWS + ROW * c + COUNTS + t        count of CPU c for slot t                         CPU c, the keeper
+//! HEAD                               slot of the newest live entry plus 1, or 0        the keeper
+//! NEXTS + LINE * t                   slot of the next older entry plus 1, or 0         the keeper
+//! RECORDS + LINE * t + k             word k of the record in slot t                    the keeper
+//! TOTALS + t                         total of slot t                                   the keeper
+//!
+//! CPUs c and slots t count from 0. A table has room for the most CPUs and slots that settings may have: no place depends on them.
 
-ghost use Rattle.cpu_words.specs.Spots.{LinesApart, OnePlace};
+ghost use Rattle.std.specs.Prelude.{◌≡◌, ◌<◌, ◌≤◌, ◌-◌};
+ghost use Rattle.cpu_words.specs.Spots.{section_of, passive_of, count_of, next_of, record_of, total_of, index, LinesApart, OnePlace};
+
+/// The most CPUs.
+const CPUS: usize = 8;
+
+/// The most slots.
+const SLOTS: usize = 32;
+
+/// The row of CPU 0.
+const ROWS: usize = 0;
+
+/// From a CPU's row to the next one: 65 words, and 15 that no one writes.
+const ROW: usize = 80;
+
+/// In a row, the passive word of slot 0.
+const PASSIVES: usize = 1;
+
+/// In a row, the count word of slot 0.
+const COUNTS: usize = PASSIVES + SLOTS;
+
+/// The head of the list: a line behind the rows, and a line before the links.
+pub(crate) const HEAD: usize = ROWS + ROW * CPUS + 8;
+
+/// The link of slot 0.
+const NEXTS: usize = HEAD + 8;
+
+/// The first record word of slot 0.
+const RECORDS: usize = NEXTS + 1;
+
+/// From a slot's link and record to the next one's: 6 words, and 2 that no one writes.
+const LINE: usize = 8;
+
+/// The total of slot 0.
+pub(crate) const TOTALS: usize = NEXTS + LINE * SLOTS;
+
+/// How many words a table has.
+pub(crate) const WORDS: usize = TOTALS + SLOTS;
+
+/// The place of a CPU's section word.
+pub(crate) fn section_place(cpu: u8) -> usize
+    ensures place { result ≡ index (section_of cpu) }
+{
+    ROWS + ROW * cpu as usize
+}
+
+/// The place of a CPU's passive word for a slot.
+pub(crate) fn passive_place(cpu: u8, slot: u8) -> usize
+    ensures place { result ≡ index (passive_of cpu slot) }
+{
+    ROWS + ROW * cpu as usize + PASSIVES + slot as usize
+}
+
+/// The place of a CPU's count word for a slot.
+pub(crate) fn count_place(cpu: u8, slot: u8) -> usize
+    ensures place { result ≡ index (count_of cpu slot) }
+{
+    ROWS + ROW * cpu as usize + COUNTS + slot as usize
+}
+
+/// The place of a slot's link.
+pub(crate) fn next_place(slot: u8) -> usize
+    ensures place { result ≡ index (next_of slot) }
+{
+    NEXTS + LINE * slot as usize
+}
+
+/// The place of the link of the slot that `link` leads to, `link - 1`.
+pub(crate) fn place_behind(link: u64) -> usize
+    requires slot { (0 < link) × (link ≤ 32) }
+    ensures place { result ≡ index (next_of (link - 1)) }
+{
+    NEXTS - LINE + LINE * link as usize
+}
+
+/// The place of word `k` of a slot's record.
+pub(crate) fn record_place(slot: usize, k: u8) -> usize
+    requires slot { slot < 32 }
+    ensures place { result ≡ index (record_of slot k) }
+{
+    RECORDS + LINE * slot + k as usize
+}
+
+/// The place of a slot's total.
+pub(crate) fn total_place(slot: u8) -> usize
+    ensures place { result ≡ index (total_of slot) }
+{
+    TOTALS + slot as usize
+}
 
 /// Does nothing; its contract says where the words lie, for all settings that are fit. `lines_apart`: a CPU's words are at least nine
 /// words from another CPU's and from the shared ones, and so share no line of 64 bytes with them, wherever the block begins.

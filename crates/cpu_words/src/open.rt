@@ -7,6 +7,7 @@ ghost use Rattle.cpu_words.specs.Views.{new_keeper};
 ghost use Rattle.cpu_words.specs.Opening.{AreOpening, AreSeats, keeper_with};
 
 use crate::law::Words;
+use crate::layout::{TOTALS, WORDS};
 use crate::seat::{CpuSeat, KeeperSeat};
 use crate::steps::seat;
 use atomic_table::Table;
@@ -54,12 +55,12 @@ impl Words {
 }
 
 /// The words at the start: all 0 but the totals.
-fn opening_words() -> [u64; 944]
+fn opening_words() -> [u64; WORDS]
     ensures { AreOpening result }
 {
-    let mut words = [0; 944];
+    let mut words = [0; WORDS];
     for t in 0..32 {
-        words[912 + t] = BIAS;
+        words[TOTALS + t] = BIAS;
     }
     words
 }

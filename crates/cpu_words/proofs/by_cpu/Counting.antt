@@ -25,7 +25,7 @@ use Rattle.protocol.proofs.history.History.{at_within, one_entry}
 use Rattle.protocol.proofs.slots.Occupied.{not_vacant, one_in, one_number, attached_in}
 use Rattle.cpu_words.specs.declared.view.InHand.{InHand}
 use Rattle.cpu_words.specs.declared.view.CpuView.{CpuView}
-use Rattle.cpu_words.specs.Spots.{Spot, section_of, passive_of, count_of, head_word, next_of, record_of, total_of, word_at}
+use Rattle.cpu_words.specs.Spots.{Spot, section_of, passive_of, count_of, head_word, next_of, record_of, total_of, word_at, index}
 use Rattle.cpu_words.specs.Views.{number_at, with_number, one_more, own_of, cpu_view, SameHand, HandFits, depth_of, collected_net, collected_one, GivesUp, CpuShown}
 use Rattle.cpu_words.specs.Rule.{Agrees, Good}
 use Rattle.cpu_words.specs.Locals.{IsNetCount, IsPlaceCount, IsMetAlone}
@@ -130,7 +130,7 @@ leaves_counts g c t w v h locals e good here lt counting =
     }
 
 -- the words after a step on a count word
-pub count_words : (words : List ℕ) (g : State) (c t w v : ℕ) (h : Hand) (locals : List LocalPlace) → Good g → Agrees words g → c < g.settings.cpus → t < g.settings.slots → Agrees (set words (80 * c + 33 + t) w) (with_lists g (count_lists g c t w v h locals))
+pub count_words : (words : List ℕ) (g : State) (c t w v : ℕ) (h : Hand) (locals : List LocalPlace) → Good g → Agrees words g → c < g.settings.cpus → t < g.settings.slots → Agrees (set words (index (count_of c t)) w) (with_lists g (count_lists g c t w v h locals))
 count_words words g c t w v h locals good agrees lt there =
     let size : length g.counts ≡ g.settings.slots = good.holds.shape.counts in
     let in_rows : t < length g.counts = omega arith in

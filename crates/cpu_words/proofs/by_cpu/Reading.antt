@@ -79,8 +79,8 @@ local_here g v id good shown stands =
     subst (λ (t : ℕ). IsIn v.entry (slot_at g.slots t)) at (subst (λ (f : Entry). IsIn f (slot_at g.slots has.0)) (sym one) has.2)
 
 -- the step: the seat's reference is live, so its entry has its slot
-pub local_may : (z : Settings) (v : ReferenceView) (t k : ℕ) → v.entry.slot ≡ t → k < 5 → ReferenceMay z v (657 + 8 * t + k) (λ n. did (LoadRecord (Local v.entry.number k)) (Word n)) (tells_local (LoadRecord (Local 0 k)))
-local_may z v t k slot few = subst (λ (u : ℕ). ReferenceMay z v (657 + 8 * u + k) (λ n. did (LoadRecord (Local v.entry.number k)) (Word n)) (tells_local (LoadRecord (Local 0 k)))) slot
+pub local_may : (z : Settings) (v : ReferenceView) (t k : ℕ) → v.entry.slot ≡ t → k < 5 → ReferenceMay z v (index (record_of t k)) (λ n. did (LoadRecord (Local v.entry.number k)) (Word n)) (tells_local (LoadRecord (Local 0 k)))
+local_may z v t k slot few = subst (λ (u : ℕ). ReferenceMay z v (index (record_of u k)) (λ n. did (LoadRecord (Local v.entry.number k)) (Word n)) (tells_local (LoadRecord (Local 0 k)))) slot
     (λ s r i at fits.
     let g = r.g in
     let e = v.entry in
@@ -92,7 +92,7 @@ local_may z v t k slot few = subst (λ (u : ℕ). ReferenceMay z v (657 + 8 * u 
     let within = in_within g.slots e.slot e here in
     let lt : e.slot < g.settings.slots = omega (arith, within, r.good.holds.shape.slots) in
     let of : slot_of g.slots e.number ≡ Some e.slot = slot_number g.history g.slots e e.slot r.good.holds.slots here in
-    let found = slice_index s.words (657 + 8 * e.slot + k) in
+    let found = slice_index s.words (index (record_of e.slot k)) in
     let stands : found ≡ word (row_at g.rows e.slot) k = r.words.at (record_of e.slot k) (lt, few) in
     let made : step g (LoadRecord (Local place.0 k)) ≡ Some (record { state = g; reply = Word found }) =
     rw (place.1, of, lt-ltb k 5 few) (λ j. Some (record { state = g; reply = Word (sym stands j) })) in

@@ -42,7 +42,7 @@ use Rattle.protocol.proofs.keeps.Searching.{Walks, stands_in, words_stand, searc
 use Rattle.cpu_words.specs.declared.view.CpuView.{CpuView}
 use Rattle.cpu_words.specs.declared.view.View.{View}
 use Rattle.cpu_words.specs.declared.view.View.TheVariants.{Cpu}
-use Rattle.cpu_words.specs.Spots.{Spot, section_of, passive_of, count_of, head_word, next_of, record_of, total_of, word_at}
+use Rattle.cpu_words.specs.Spots.{Spot, section_of, passive_of, count_of, head_word, next_of, record_of, total_of, word_at, index}
 use Rattle.cpu_words.specs.Views.{own_of, cpu_view, cpu_of, depth_of, CpuShown}
 use Rattle.cpu_words.proofs.laws.Reaching.{goes_both}
 use Rattle.cpu_words.specs.Rule.{Agrees, Good, Ruled, GoesOn, did}
@@ -244,9 +244,9 @@ follows z s r i x spot m n q at under found link tells leads at_head above =
 same_next : (s t : ℕ) → AtNext s ≡ AtNext t → s ≡ t
 same_next s t e = cc
 
-load_link_may : (z : Settings) (x : CpuView) (c t : ℕ) → x.id ≡ c → MayLoadLink x t
-    → CpuMay z x (656 + 8 * t) (λ n. n) (λ n. did (LoadLink c) (link_answer n)) (λ v n y. Makes (LoadLink c) (link_answer n) (Cpu v) (Cpu y) × HasLoadedLink v n y)
-load_link_may z x c t id may = subst (λ d. CpuMay z x (656 + 8 * t) (λ n. n) (λ n. did (LoadLink d) (link_answer n)) (λ v n y. Makes (LoadLink d) (link_answer n) (Cpu v) (Cpu y) × HasLoadedLink v n y)) id
+pub load_link_may : (z : Settings) (x : CpuView) (c t : ℕ) → x.id ≡ c → MayLoadLink x t
+    → CpuMay z x (index (next_of t)) (λ n. n) (λ n. did (LoadLink c) (link_answer n)) (λ v n y. Makes (LoadLink c) (link_answer n) (Cpu v) (Cpu y) × HasLoadedLink v n y)
+load_link_may z x c t id may = subst (λ d. CpuMay z x (index (next_of t)) (λ n. n) (λ n. did (LoadLink d) (link_answer n)) (λ v n y. Makes (LoadLink d) (link_answer n) (Cpu v) (Cpu y) × HasLoadedLink v n y)) id
     (λ s r i at fits.
     let g = r.g in
     let q = may.search in
@@ -258,9 +258,9 @@ load_link_may z x c t id may = subst (λ d. CpuMay z x (656 + 8 * t) (λ n. n) (
     let stands = subst (PlaceHolds g.history q.start (seen_at g x.id) q.key) may.place (on.searches x.id q searching).stands in
     let ahead = at_next_ahead g x.id q.start (seen_at g x.id) t q.key on walk seen.within stands in
     let lt : t < g.settings.slots = omega (arith, ahead.0, on.shape.links) in
-    let found : slice_index s.words (656 + 8 * t) ≡ get_or g.next t 0 = r.words.at (next_of t) lt in
+    let found : slice_index s.words (index (next_of t)) ≡ get_or g.next t 0 = r.words.at (next_of t) lt in
     let tells = link_tells g x.id q.start stands.0.number (get_or g.next t 0) q.key on walk ahead.1 in
-    let link : load_link g x.id q q.place ≡ link_loaded g x.id q (slice_index s.words (656 + 8 * t)) = ap (load_link g x.id q) may.place ∙ ap (link_loaded g x.id q) (sym found) in
+    let link : load_link g x.id q q.place ≡ link_loaded g x.id q (slice_index s.words (index (next_of t))) = ap (load_link g x.id q) may.place ∙ ap (link_loaded g x.id q) (sym found) in
     let leads = next_leads g x.id q.start (seen_at g x.id) t stands.0 on walk stands.1 in
     let at_head : q.place ≡ AtHead → stands.0.number ≡ suc (length g.history) = λ place. absurd (let wrong : AtHead ≡ AtNext t = sym place ∙ may.place in cc) in
     let above : (u : ℕ) (e : Entry) → q.place ≡ AtNext u → MayStandOn x.pass q u e → e.number ≡ stands.0.number = λ u e place on_e.
@@ -268,20 +268,14 @@ load_link_may z x c t id may = subst (λ d. CpuMay z x (656 + 8 * t) (λ n. n) (
     let by_pass : MayStandOn (take (seen_at g x.id) g.history) q t e = subst (λ (v : ℕ). MayStandOn (take (seen_at g x.id) g.history) q v e) same (subst (λ (p : List Change). MayStandOn p q u e) seen.pass on_e) in
     let by_history = stands_by_history g.history (seen_at g x.id) t q e seen.within (on.searches x.id q searching).started by_pass in
     one_stands g x.id q.start (seen_at g x.id) (seen_at g x.id) t stands.0 e on walk stands.1 by_history in
-    told z s r i x (656 + 8 * t) (slice_index s.words (656 + 8 * t)) q may.under_way
-    (follows z s r i x (656 + 8 * t) (slice_index s.words (656 + 8 * t)) stands.0.number q at may.under_way (refl {a = slice_index s.words (656 + 8 * t)}) link
+    told z s r i x (index (next_of t)) (slice_index s.words (index (next_of t))) q may.under_way
+    (follows z s r i x (index (next_of t)) (slice_index s.words (index (next_of t))) stands.0.number q at may.under_way (refl {a = slice_index s.words (index (next_of t))}) link
     (subst (LinkTells g q.start q.key stands.0.number) (sym found) tells) (subst (LeadsSince g.history q.start stands.0.number) (sym found) leads) at_head above))
   where
     told : (z : Settings) (s : Table ℕ View) (r : Ruled z s) (i : ℕ) (x : CpuView) (spot m : ℕ) (q : Search) → x.search ≡ Some q
         → (y : CpuView) × GoesOn z s r (did (LoadLink x.id) (link_answer m)) (stepped s spot m i [] (Cpu y) keeps) × Makes (LoadLink x.id) (link_answer m) (Cpu x) (Cpu y) × HasFollowed x q m y
         → (w : View) × GoesOn z s r (did (LoadLink x.id) (link_answer m)) (stepped s spot m i [] w keeps) × ((w ≡ Cpu (cpu_of w)) × (Makes (LoadLink x.id) (link_answer m) (Cpu x) (Cpu (cpu_of w)) × HasLoadedLink x m (cpu_of w)))
     told z s r i x spot m q under done = (Cpu done.0, done.1, (refl, (done.2, λ p is. subst (λ (o : Search). HasFollowed x o m done.0) (same_Some q p (sym under ∙ is)) done.3)))
-
--- the same, of the link that led to the slot
-pub load_link_may_by : (z : Settings) (x : CpuView) (c t i : ℕ) → 656 + 8 * t ≡ i → x.id ≡ c → MayLoadLink x t
-    → CpuMay z x i (λ n. n) (λ n. did (LoadLink c) (link_answer n)) (λ v n y. Makes (LoadLink c) (link_answer n) (Cpu v) (Cpu y) × HasLoadedLink v n y)
-load_link_may_by z x c t i place id may =
-    subst (λ (j : ℕ). CpuMay z x j (λ n. n) (λ n. did (LoadLink c) (link_answer n)) (λ v n y. Makes (LoadLink c) (link_answer n) (Cpu v) (Cpu y) × HasLoadedLink v n y)) place (load_link_may z x c t id may)
 
 -- Seek touches no word: it is made with the load of the head
 
@@ -314,23 +308,23 @@ begins_search z s r i x spot m kind name at may found =
     let change : y ≡ cpu_after_seek key x = (λ k. record y { search = search k }) ∙ ap (λ (v : CpuView). record v { search = Some (search_for key x) }) (sym had.is) in
     subst (λ (v : CpuView). GoesOn z s r (did (Seek x.id kind name) Done) (stepped s spot m i [] (Cpu v) keeps) × Makes (Seek x.id kind name) Done (Cpu x) (Cpu v)) change done
 
-seek_at : (z : Settings) (x : CpuView) (kind : Kind) (name : Name) → MaySeek x → CpuMay z x 648 (λ n. n) (sought (Seek x.id kind name)) (HasSought (Seek x.id kind name))
+seek_at : (z : Settings) (x : CpuView) (kind : Kind) (name : Name) → MaySeek x → CpuMay z x (index head_word) (λ n. n) (sought (Seek x.id kind name)) (HasSought (Seek x.id kind name))
 seek_at z x kind name may s r i at fits =
     let key = key_with kind name in
-    let m = slice_index s.words 648 in
-    let begun = begins_search z s r i x 648 m kind name at may refl in
+    let m = slice_index s.words (index head_word) in
+    let begun = begins_search z s r i x (index head_word) m kind name at may refl in
     let v = cpu_after_seek key x in
-    let t : Table ℕ View = stepped s 648 m i [] (Cpu v) keeps in
+    let t : Table ℕ View = stepped s (index head_word) m i [] (Cpu v) keeps in
     let here : get_elem? t.views i ≡ some (Cpu v) = at_same s.views i (Cpu x) (Cpu v) at in
-    let stays : t.words ≡ s.words = set-get_or s.words 648 0 in
-    let found : slice_index t.words 648 ≡ m = ap (λ (ws : List ℕ). slice_index ws 648) stays in
+    let stays : t.words ≡ s.words = set-get_or s.words (index head_word) 0 in
+    let found : slice_index t.words (index head_word) ≡ m = ap (λ (ws : List ℕ). slice_index ws (index head_word)) stays in
     let after = seek_link z t begun.0.ruled i v m (search_for key x) here refl refl found in
-    let same : stepped t 648 m i [] (Cpu after.0) keeps ≡ stepped s 648 m i [] (Cpu after.0) keeps =
-    λ k. record { words = set-set s.words 648 m m k; homes = s.homes; views = set-set s.views i (Cpu v) (Cpu after.0) k } in
+    let same : stepped t (index head_word) m i [] (Cpu after.0) keeps ≡ stepped s (index head_word) m i [] (Cpu after.0) keeps =
+    λ k. record { words = set-set s.words (index head_word) m m k; homes = s.homes; views = set-set s.views i (Cpu v) (Cpu after.0) k } in
     (Cpu after.0, subst (GoesOn z s r (did (Seek x.id kind name) Done ++ did (LoadLink x.id) (link_answer m))) same (goes_both z s t _ r (did (Seek x.id kind name) Done) (did (LoadLink x.id) (link_answer m)) begun.0 after.1), (refl, (begun.1, after.2, after.3)))
   where
-    seek_link : (z : Settings) (t : Table ℕ View) (r : Ruled z t) (i : ℕ) (v : CpuView) (m : ℕ) (q : Search) → get_elem? t.views i ≡ some (Cpu v) → v.search ≡ Some q → q.place ≡ AtHead → slice_index t.words 648 ≡ m
-        → (y : CpuView) × GoesOn z t r (did (LoadLink v.id) (link_answer m)) (stepped t 648 m i [] (Cpu y) keeps) × Makes (LoadLink v.id) (link_answer m) (Cpu v) (Cpu y) × HasFollowed v q m y
+    seek_link : (z : Settings) (t : Table ℕ View) (r : Ruled z t) (i : ℕ) (v : CpuView) (m : ℕ) (q : Search) → get_elem? t.views i ≡ some (Cpu v) → v.search ≡ Some q → q.place ≡ AtHead → slice_index t.words (index head_word) ≡ m
+        → (y : CpuView) × GoesOn z t r (did (LoadLink v.id) (link_answer m)) (stepped t (index head_word) m i [] (Cpu y) keeps) × Makes (LoadLink v.id) (link_answer m) (Cpu v) (Cpu y) × HasFollowed v q m y
     seek_link z t r i v m q at under place is =
         let g = r.g in
         let had : CpuShown g v = (r.shows.fits i (Cpu v) at).1 in
@@ -341,13 +335,13 @@ seek_at z x kind name may s r i at fits =
         let head : g.head ≡ m = sym (r.words.at head_word tt) ∙ is in
         let tells = link_tells g v.id q.start (suc (length g.history)) g.head q.key on walk (head_ahead g q.start q.key on walk.by_now) in
         let link : load_link g v.id q q.place ≡ link_loaded g v.id q m = ap (load_link g v.id q) place ∙ ap (link_loaded g v.id q) head in
-        follows z t r i v 648 m (suc (length g.history)) q at under is link (subst (LinkTells g q.start q.key (suc (length g.history))) head tells)
+        follows z t r i v (index head_word) m (suc (length g.history)) q at under is link (subst (LinkTells g q.start q.key (suc (length g.history))) head tells)
         (record { point = length g.history; from_on = walk.by_now; up_to = omega arith; leads = subst (Leads g.history (length g.history) (suc (length g.history))) head on.list.first })
         (λ at_head. refl)
         (λ u e next stands. absurd (let wrong : AtHead ≡ AtNext u = sym place ∙ next in cc))
 
-pub seek_may : (z : Settings) (x : CpuView) (c : ℕ) (kind : Kind) (name : Name) → x.id ≡ c → MaySeek x → CpuMay z x 648 (λ n. n) (sought (Seek c kind name)) (HasSought (Seek c kind name))
-seek_may z x c kind name id may = subst (λ d. CpuMay z x 648 (λ n. n) (sought (Seek d kind name)) (HasSought (Seek d kind name))) id (seek_at z x kind name may)
+pub seek_may : (z : Settings) (x : CpuView) (c : ℕ) (kind : Kind) (name : Name) → x.id ≡ c → MaySeek x → CpuMay z x (index head_word) (λ n. n) (sought (Seek c kind name)) (HasSought (Seek c kind name))
+seek_may z x c kind name id may = subst (λ d. CpuMay z x (index head_word) (λ n. n) (sought (Seek d kind name)) (HasSought (Seek d kind name))) id (seek_at z x kind name may)
 
 -- Record words
 
@@ -488,12 +482,12 @@ searches_word z s r i x spot m q o at under found makes load worded =
     (y, done.0, done.1, record { is = change ∙ ap (cpu_after_record_word x q) (sym makes); holds = subst (λ (u : Option Loaded). FoundHolds q u y.pass) (sym makes) holds; number = number; words = each_word })
 
 pub load_searched_may : (z : Settings) (x : CpuView) (c t k : ℕ) → x.id ≡ c → MayLoadSearched x t k
-    → CpuMay z x (657 + 8 * t + k) (λ n. n) (λ n. did (LoadRecord (OfSearch c)) (loaded_answer (loaded_of x.search n))) (λ v n y. Makes (LoadRecord (OfSearch c)) (loaded_answer (loaded_of v.search n)) (Cpu v) (Cpu y) × HasLoadedWord v n y)
-load_searched_may z x c t k id may = subst (λ d. CpuMay z x (657 + 8 * t + k) (λ n. n) (λ n. did (LoadRecord (OfSearch d)) (loaded_answer (loaded_of x.search n))) (λ v n y. Makes (LoadRecord (OfSearch d)) (loaded_answer (loaded_of v.search n)) (Cpu v) (Cpu y) × HasLoadedWord v n y)) id
+    → CpuMay z x (index (record_of t k)) (λ n. n) (λ n. did (LoadRecord (OfSearch c)) (loaded_answer (loaded_of x.search n))) (λ v n y. Makes (LoadRecord (OfSearch c)) (loaded_answer (loaded_of v.search n)) (Cpu v) (Cpu y) × HasLoadedWord v n y)
+load_searched_may z x c t k id may = subst (λ d. CpuMay z x (index (record_of t k)) (λ n. n) (λ n. did (LoadRecord (OfSearch d)) (loaded_answer (loaded_of x.search n))) (λ v n y. Makes (LoadRecord (OfSearch d)) (loaded_answer (loaded_of v.search n)) (Cpu v) (Cpu y) × HasLoadedWord v n y)) id
     (λ s r i at fits.
     let g = r.g in
     let q = may.search in
-    let place : ℕ = 657 + 8 * t + k in
+    let place : ℕ = index (record_of t k) in
     let m = slice_index s.words place in
     let had : CpuShown g x = (r.shows.fits i (Cpu x) at).1 in
     let seen = seen_of g x r.good had in

@@ -20,7 +20,7 @@ use Rattle.protocol.proofs.slots.Cells.{cell_cases, cell_here, cell_other}
 use Rattle.protocol.proofs.counts.HeldSums.{one_self, one_other}
 use Rattle.cpu_words.specs.declared.view.KeeperView.{KeeperView}
 use Rattle.cpu_words.specs.declared.view.View.TheVariants.{Keeper}
-use Rattle.cpu_words.specs.Spots.{Spot, section_of, passive_of, count_of, head_word, next_of, record_of, total_of, word_at}
+use Rattle.cpu_words.specs.Spots.{Spot, section_of, passive_of, count_of, head_word, next_of, record_of, total_of, word_at, index}
 use Rattle.cpu_words.specs.Views.{KeeperOwn, keeper_own, keeper_view, KeeperShown, GivesUp, collected_net, collected_one}
 use Rattle.cpu_words.specs.Rule.{Agrees, Good, did}
 use Rattle.cpu_words.specs.Steps.{Makes, KeeperMay}
@@ -54,13 +54,13 @@ looking g k t c good seen may =
 row_told : (f : ℕ → List Mark → Bool) (g : State) (k : KeeperView) (t : ℕ) → SeenByKeeper g k → f k.settings.cpus (get_or k.marks t []) ≡ true → f g.settings.cpus (get_or g.marks t []) ≡ true
 row_told f g k t seen is = sym (λ i. f (seen.settings i).cpus (get_or (seen.marks i) t [])) ∙ is
 
-pub passive_look_may : (z : Settings) (k : KeeperView) (t c : ℕ) → MayPassiveLook k t c → KeeperMay z k (80 * c + 1 + t) (λ n. n) (λ n. did (PassiveLook t c) (Word n)) (λ v n l. Makes (PassiveLook t c) (Word n) (Keeper v) (Keeper l) × LookedPassiveTold (PassiveLook t c) v n l)
+pub passive_look_may : (z : Settings) (k : KeeperView) (t c : ℕ) → MayPassiveLook k t c → KeeperMay z k (index (passive_of c t)) (λ n. n) (λ n. did (PassiveLook t c) (Word n)) (λ v n l. Makes (PassiveLook t c) (Word n) (Keeper v) (Keeper l) × LookedPassiveTold (PassiveLook t c) v n l)
 passive_look_may z k t c may s r i at fits =
     let g = r.g in
     let had : KeeperShown g k = (r.shows.fits i (Keeper k) at).1 in
     let seen = seen_by_keeper g k r.good had in
     let here = looking g k t c r.good seen may.look in
-    let place = 80 * c + 1 + t in
+    let place = index (passive_of c t) in
     let w = slice_index s.words place in
     let found : w ≡ passive_at g.passive c t = r.words.at (passive_of c t) (here.cpu, here.slot) in
     let passed : have_passed g.settings.cpus (get_or g.marks t []) ≡ true = row_told have_passed g k t seen may.passed in
@@ -135,7 +135,7 @@ still_collected g t c u d is = ⊎_elim
     (cell_cases no_mark g.marks t c (mark_after_collect (mark_at g.marks t c)) u d)
 
 -- the words after it
-collect_words : (words : List ℕ) (g : State) (t c : ℕ) → Good g → Looking g t c → Agrees words g → Agrees (set words (80 * c + 33 + t) 0) (with_keeper g (collecting g t c))
+collect_words : (words : List ℕ) (g : State) (t c : ℕ) → Good g → Looking g t c → Agrees words g → Agrees (set words (index (count_of c t)) 0) (with_keeper g (collecting g t c))
 collect_words words g t c good here agrees = agrees_set words g (with_keeper g (collecting g t c)) (count_of c t) 0 good.holds.fit agrees refl (here.cpu, here.slot) (cell_here 0 g.counts t c 0 lt in_row) (λ q _ ne. other q ne)
   where
     lt : t < length g.counts
@@ -153,13 +153,13 @@ collect_words words g t c good here agrees = agrees_set words g (with_keeper g (
     other (record_of u j) ne = refl
     other (total_of u) ne = refl
 
-pub collect_may : (z : Settings) (k : KeeperView) (t c : ℕ) → MayCollect k t c → KeeperMay z k (80 * c + 33 + t) (λ _. 0) (λ n. did (Collect t c) (Word n)) (λ v n l. Makes (Collect t c) (Word n) (Keeper v) (Keeper l) × CollectTold (Collect t c) v n l)
+pub collect_may : (z : Settings) (k : KeeperView) (t c : ℕ) → MayCollect k t c → KeeperMay z k (index (count_of c t)) (λ _. 0) (λ n. did (Collect t c) (Word n)) (λ v n l. Makes (Collect t c) (Word n) (Keeper v) (Keeper l) × CollectTold (Collect t c) v n l)
 collect_may z k t c may s r i at fits =
     let g = r.g in
     let had : KeeperShown g k = (r.shows.fits i (Keeper k) at).1 in
     let seen = seen_by_keeper g k r.good had in
     let here = looking g k t c r.good seen may.look in
-    let place = 80 * c + 33 + t in
+    let place = index (count_of c t) in
     let w = slice_index s.words place in
     let found : w ≡ count_at g.counts c t = r.words.at (count_of c t) (here.cpu, here.slot) in
     let passed : have_passed g.settings.cpus (get_or g.marks t []) ≡ true = row_told have_passed g k t seen may.passed in

@@ -25,7 +25,7 @@ use Rattle.protocol.proofs.history.History.{length-after_change}
 use Rattle.protocol.proofs.slots.Occupied.{slot_cases, in_other, in_published, not_vacant}
 use Rattle.cpu_words.specs.declared.view.KeeperView.{KeeperView}
 use Rattle.cpu_words.specs.declared.view.View.TheVariants.{Keeper}
-use Rattle.cpu_words.specs.Spots.{Spot, section_of, passive_of, count_of, head_word, next_of, record_of, total_of, IsSpot, word_at}
+use Rattle.cpu_words.specs.Spots.{Spot, section_of, passive_of, count_of, head_word, next_of, record_of, total_of, IsSpot, word_at, index}
 use Rattle.cpu_words.specs.Views.{keeper_own, keeper_view, KeeperShown, number_at, collected_net, collected_one}
 use Rattle.cpu_words.specs.Rule.{Agrees, Good, did}
 use Rattle.cpu_words.specs.Steps.{Makes, KeeperStores}
@@ -165,14 +165,14 @@ shown_published g k t e good had may =
       noted_pass = prefix_on k.noted_pass g.history (Attach e ∷ []) had.noted_pass;
     }
 
-pub publish_may : (z : Settings) (k : KeeperView) (t : ℕ) (e : Entry) → MayPublish k t e → KeeperStores z k 648 (t + 1) (λ n. did (Publish t) Done) (λ v n l. Makes (Publish t) Done (Keeper v) (Keeper l) × PublishTold (Publish t) v l)
+pub publish_may : (z : Settings) (k : KeeperView) (t : ℕ) (e : Entry) → MayPublish k t e → KeeperStores z k (index head_word) (t + 1) (λ n. did (Publish t) Done) (λ v n l. Makes (Publish t) Done (Keeper v) (Keeper l) × PublishTold (Publish t) v l)
 publish_may z k t e may s r i at fits =
     let g = r.g in
     let had : KeeperShown g k = (r.shows.fits i (Keeper k) at).1 in
     let does = publishes g k t e r.good had may in
     let l = publish_lists g t e in
-    let words : Agrees (set s.words 648 (t + 1)) (with_keeper g l) = agrees_set s.words g (with_keeper g l) head_word (t + 1) r.good.holds.fit r.words refl tt refl (others g) in
-    let done = keeper_makes z s r i k 648 (t + 1) l (Publish t) Done (keeper_own k) at (made_publish g t e does) (leaves_published g t e r.good does) (λ n. refl) refl (shown_published g k t e r.good had does) words in
+    let words : Agrees (set s.words (index head_word) (t + 1)) (with_keeper g l) = agrees_set s.words g (with_keeper g l) head_word (t + 1) r.good.holds.fit r.words refl tt refl (others g) in
+    let done = keeper_makes z s r i k (index head_word) (t + 1) l (Publish t) Done (keeper_own k) at (made_publish g t e does) (leaves_published g t e r.good does) (λ n. refl) refl (shown_published g k t e r.good had does) words in
     let change : HasPublished k t e (keeper_view (with_keeper g l) (keeper_own k)) =
     ap (λ (v : KeeperView). record v { head = t + 1; history = after_change v.history (Attach e); slots = set v.slots t (Live e) }) (sym had.is) in
     (Keeper (keeper_view (with_keeper g l) (keeper_own k)), done.0, (refl, (done.1, (e, may, change))))

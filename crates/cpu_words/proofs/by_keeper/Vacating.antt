@@ -24,6 +24,7 @@ use Rattle.cpu_words.proofs.laws.Reaching.{goes_both}
 use Rattle.cpu_words.specs.Rule.{Ruled, GoesOn, did}
 use Rattle.cpu_words.specs.Steps.{Makes, Moves, KeeperMay}
 use Rattle.cpu_words.specs.Vacating.{MayVacate, keeper_after_vacate, VacateTold}
+use Rattle.cpu_words.specs.Spots.{head_word, index}
 use Rattle.cpu_words.proofs.seats.Notes.{hear_keeper_may}
 use Rattle.cpu_words.proofs.by_keeper.KeeperSteps.{KeeperLists, with_keeper, keeper_makes}
 use Rattle.cpu_words.proofs.by_keeper.Drained.{Drained, drained_of, vacating, vacated_leaves, vacated_counts, stood}
@@ -92,13 +93,13 @@ moves_after z v u i f before es tells T first then s r id at fits =
 
 -- Vacate with a load by which the keeper hears
 pub vacating_may : (z : Settings) (k : KeeperView) (t : ℕ) → MayVacate k t
-    → KeeperMay z k 648 (λ n. n) (λ n. did (Vacate t) Done ++ did (Hear None) Done) (λ v n l. Makes (Vacate t) Done (Keeper v) (Keeper l) × Makes (Hear None) Done (Keeper l) (Keeper l) × VacateTold (Vacate t) v l)
+    → KeeperMay z k (index head_word) (λ n. n) (λ n. did (Vacate t) Done ++ did (Hear None) Done) (λ v n l. Makes (Vacate t) Done (Keeper v) (Keeper l) × Makes (Hear None) Done (Keeper l) (Keeper l) × VacateTold (Vacate t) v l)
 vacating_may z k t may s r id at fits =
     let m = keeper_after_vacate k t in
-    let done = moves_after z (Keeper k) (Keeper m) 648 (λ n. n) (did (Vacate t) Done) (λ _. did (Hear None) Done) (λ _ w. (w ≡ Keeper (keeper_of w)) × Makes (Hear None) Done (Keeper m) (Keeper (keeper_of w)) × KeeperHasHeard m (keeper_of w))
+    let done = moves_after z (Keeper k) (Keeper m) (index head_word) (λ n. n) (did (Vacate t) Done) (λ _. did (Hear None) Done) (λ _ w. (w ≡ Keeper (keeper_of w)) × Makes (Hear None) Done (Keeper m) (Keeper (keeper_of w)) × KeeperHasHeard m (keeper_of w))
     (Makes (Vacate t) Done (Keeper k) (Keeper m)) (vacates z k t may) (hears z m may.drained.rest) s r id at fits in
     let same : keeper_of done.0 ≡ m = done.2.1.2.1 in
     (done.0, done.1, (done.2.1.0, (subst (λ (l : KeeperView). Makes (Vacate t) Done (Keeper k) (Keeper l)) (sym same) done.2.0, subst (λ (l : KeeperView). Makes (Hear None) Done (Keeper l) (Keeper (keeper_of done.0))) (sym same) done.2.1.1, same)))
   where
-    hears : (z : Settings) (m : KeeperView) → m.due ≡ Rest → Moves z (Keeper m) 648 (λ n. n) (λ _. did (Hear None) Done) (λ _ w. (w ≡ Keeper (keeper_of w)) × Makes (Hear None) Done (Keeper m) (Keeper (keeper_of w)) × KeeperHasHeard m (keeper_of w))
+    hears : (z : Settings) (m : KeeperView) → m.due ≡ Rest → Moves z (Keeper m) (index head_word) (λ n. n) (λ _. did (Hear None) Done) (λ _ w. (w ≡ Keeper (keeper_of w)) × Makes (Hear None) Done (Keeper m) (Keeper (keeper_of w)) × KeeperHasHeard m (keeper_of w))
     hears z m rest s r id at fits = let d = hear_keeper_may z m rest s r id at fits in (d.0, d.1, (d.2.0, d.2.1.0, d.2.1.1))

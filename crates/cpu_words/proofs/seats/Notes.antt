@@ -29,6 +29,7 @@ use Rattle.cpu_words.proofs.logs.Seats.{tells_known, tells_whole, seat_cut, seat
 use Rattle.cpu_words.specs.Logs.{the_cpu, who, LoggedRuled, logged_after_split, known_log_of, whole_log, fresh, logged_with_note, spent_seat, tells_pass, tells_history}
 use Rattle.cpu_words.specs.Sections.{IsIdle}
 use Rattle.cpu_words.specs.Notes.{as_before, pass_told, history_told, with_note, keeper_with_note, beside_cpu, beside_keeper, HasHeard, KeeperHasHeard}
+use Rattle.cpu_words.specs.Spots.{section_of, head_word, index}
 use Rattle.cpu_words.proofs.shown.Showing.{Stay, shows_split, shows_join}
 use Rattle.cpu_words.proofs.shown.Passes.{taken_is_prefix, prefix_longer, take_whole}
 use Rattle.cpu_words.proofs.shown.Seeing.{seen_of, idle_of}
@@ -196,8 +197,8 @@ keeper_joins z i o l m is that = seat_with_note z i o l m (Keeper (keeper_of l.v
 
 -- The load that hears
 
-pub hear_may : (z : Settings) (x : CpuView) (c : ℕ) → x.id ≡ c → IsIdle x → CpuMay z x (80 * c) (λ n. n) (λ n. did (Hear (Some c)) Done) (λ v n y. Makes (Hear (Some c)) Done (Cpu v) (Cpu y) × HasHeard v y)
-hear_may z x c id idle = subst (λ d. CpuMay z x (80 * d) (λ n. n) (λ n. did (Hear (Some d)) Done) (λ v n y. Makes (Hear (Some d)) Done (Cpu v) (Cpu y) × HasHeard v y)) id
+pub hear_may : (z : Settings) (x : CpuView) (c : ℕ) → x.id ≡ c → IsIdle x → CpuMay z x (index (section_of c)) (λ n. n) (λ n. did (Hear (Some c)) Done) (λ v n y. Makes (Hear (Some c)) Done (Cpu v) (Cpu y) × HasHeard v y)
+hear_may z x c id idle = subst (λ d. CpuMay z x (index (section_of d)) (λ n. n) (λ n. did (Hear (Some d)) Done) (λ v n y. Makes (Hear (Some d)) Done (Cpu v) (Cpu y) × HasHeard v y)) id
     (λ s r i at fits.
     let g = r.g in
     let had : CpuShown g x = (r.shows.fits i (Cpu x) at).1 in
@@ -212,14 +213,14 @@ hear_may z x c id idle = subst (λ d. CpuMay z x (80 * d) (λ n. n) (λ n. did (
     let made : step g (Hear (Some x.id)) ≡ Some (record { state = with_lists g l; reply = Done }) = rw (idle_of g x seen had idle) refl in
     let leaves = same_counts g x.id l refl refl refl refl (λ d ne. refl) (λ d ne. refl) (λ d ne. refl) (λ d ne. get_or-set_other g.seen x.id d _ 0 ne) (λ d ne. refl) (λ d ne. refl) in
     let shown = shown_on g x l had refl refl refl (had.depth ∙ ap depth_of seen.begin) more within (found_on g x (get_or l.seen x.id 0) had more within) in
-    let words = loads s.words g (with_lists g l) (80 * x.id) r.words refl (λ q _. refl) in
-    let done = cpu_makes z s r i x (80 * x.id) (slice_index s.words (80 * x.id)) l (Hear (Some x.id)) Done (own_of x) at made leaves (λ k. refl) refl shown words in
+    let words = loads s.words g (with_lists g l) (index (section_of x.id)) r.words refl (λ q _. refl) in
+    let done = cpu_makes z s r i x (index (section_of x.id)) (slice_index s.words (index (section_of x.id))) l (Hear (Some x.id)) Done (own_of x) at made leaves (λ k. refl) refl shown words in
     let told : IsPrefix x.noted_pass y.pass = subst (IsPrefix x.noted_pass) (sym passes) had.noted_pass in
     let longer : IsPrefix x.pass y.pass = subst (λ p. IsPrefix p y.pass) (sym seen.pass) (prefix_longer g.history (seen_at g x.id) (get_or l.seen x.id 0) more within) in
     let change : y ≡ record x { pass = y.pass } = ap (λ (v : CpuView). record v { pass = y.pass }) (sym had.is) in
     (Cpu y, done.0, (refl, (done.1, (told, longer, change)))))
 
-pub hear_keeper_may : (z : Settings) (k : KeeperView) → k.due ≡ Rest → KeeperMay z k 648 (λ n. n) (λ n. did (Hear None) Done) (λ v n l. Makes (Hear None) Done (Keeper v) (Keeper l) × KeeperHasHeard v l)
+pub hear_keeper_may : (z : Settings) (k : KeeperView) → k.due ≡ Rest → KeeperMay z k (index head_word) (λ n. n) (λ n. did (Hear None) Done) (λ v n l. Makes (Hear None) Done (Keeper v) (Keeper l) × KeeperHasHeard v l)
 hear_keeper_may z k may s r i at fits =
     let g = r.g in
     let had : KeeperShown g k = (r.shows.fits i (Keeper k) at).1 in
@@ -229,15 +230,15 @@ hear_keeper_may z k may s r i at fits =
     let own : KeeperOwn = keeper_own k in
     let made : step g (Hear None) ≡ Some (record { state = with_keeper g l; reply = Done }) = rw (rest) refl in
     let shown : KeeperShown (with_keeper g l) (keeper_view (with_keeper g l) own) = record { is = refl; counts = had.counts; sized = had.sized; rows = had.rows; live_total = had.live_total; gives_up = had.gives_up; later = had.later; beyond = had.beyond; noted_pass = had.noted_pass } in
-    let done = keeper_makes z s r i k 648 (slice_index s.words 648) l (Hear None) Done own at made (leaves_all g l refl refl refl refl (λ t d is. is)) (λ n. refl) refl shown (loads s.words g (with_keeper g l) 648 r.words refl (λ q _. refl)) in
+    let done = keeper_makes z s r i k (index head_word) (slice_index s.words (index head_word)) l (Hear None) Done own at made (leaves_all g l refl refl refl refl (λ t d is. is)) (λ n. refl) refl shown (loads s.words g (with_keeper g l) (index head_word) r.words refl (λ q _. refl)) in
     (Keeper (keeper_view (with_keeper g l) own), done.0, (refl, (done.1, (had.noted_pass, sym had.is))))
 
 -- the same of a seat with the note beside its view
 
-pub hear_with_note_may : (z : Settings) (x y : CpuView) (h : List Change) (c : ℕ) → y ≡ with_note x h → x.id ≡ c → IsIdle x → CpuMay z y (80 * c) (λ n. n) (λ n. did (Hear (Some c)) Done) (λ v n w. Makes (Hear (Some c)) Done (Cpu v) (Cpu w) × HasHeard v w)
+pub hear_with_note_may : (z : Settings) (x y : CpuView) (h : List Change) (c : ℕ) → y ≡ with_note x h → x.id ≡ c → IsIdle x → CpuMay z y (index (section_of c)) (λ n. n) (λ n. did (Hear (Some c)) Done) (λ v n w. Makes (Hear (Some c)) Done (Cpu v) (Cpu w) × HasHeard v w)
 hear_with_note_may z x y h c logged_with_note id idle = hear_may z y c (ap (λ (v : CpuView). v.id) logged_with_note ∙ id) (record { search = ap (λ (v : CpuView). v.search) logged_with_note ∙ idle.search; hand = ap (λ (v : CpuView). v.hand) logged_with_note ∙ idle.hand })
 
-pub hear_keeper_with_note_may : (z : Settings) (k l : KeeperView) (h : List Change) → l ≡ keeper_with_note k h → k.due ≡ Rest → KeeperMay z l 648 (λ n. n) (λ n. did (Hear None) Done) (λ v n w. Makes (Hear None) Done (Keeper v) (Keeper w) × KeeperHasHeard v w)
+pub hear_keeper_with_note_may : (z : Settings) (k l : KeeperView) (h : List Change) → l ≡ keeper_with_note k h → k.due ≡ Rest → KeeperMay z l (index head_word) (λ n. n) (λ n. did (Hear None) Done) (λ v n w. Makes (Hear None) Done (Keeper v) (Keeper w) × KeeperHasHeard v w)
 hear_keeper_with_note_may z k l h logged_with_note may = hear_keeper_may z l (ap (λ (v : KeeperView). v.due) logged_with_note ∙ may)
 
 -- what was heard is what the note told

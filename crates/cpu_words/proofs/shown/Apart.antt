@@ -9,8 +9,8 @@ use Rattle.cpu_words.proofs.shown.Placing.{same_spot}
 
 -- a CPU's words lie in its row, and the shared ones behind all rows
 abbrev LiesIn : Option ℕ → ℕ → Type 0
-LiesIn (Some c) i = (c < 8) × (80 * c ≤ i) × (i ≤ 80 * c + 64)
-LiesIn None i = 648 ≤ i
+LiesIn (Some c) i = (c < 8) × (index (section_of c) ≤ i) × (i ≤ index (count_of c 31))
+LiesIn None i = index head_word ≤ i
 
 -- each word lies where its owner's lie
 lies_in : (z : Settings) → IsTrue (are_fit z) → (p : Spot) → IsSpot z p → LiesIn (owner p) (index p)

@@ -8,6 +8,7 @@ use Rattle.protocol.specs.State.{State}
 use Rattle.registry_values.proofs.Fit.{ranges}
 use Rattle.cpu_words.specs.Spots.{Spot, section_of, passive_of, count_of, head_word, next_of, record_of, total_of, index, IsSpot, word_at}
 use Rattle.cpu_words.specs.Rule.{Agrees}
+use Rattle.cpu_words.specs.declared.layout.TheConstants.{WORDS}
 
 -- two words at one place are one word
 pub same_spot : (z : Settings) → IsTrue (are_fit z) → (p q : Spot) → IsSpot z p → IsSpot z q → index q ≡ index p → q ≡ p
@@ -61,7 +62,7 @@ same_spot z fit (total_of t) (next_of t') here there e = absurd (omega (arith, r
 same_spot z fit (total_of t) (record_of t' k') here there e = absurd (omega (arith, ranges z fit))
 same_spot z fit (total_of t) (total_of t') here there e = let i : t' ≡ t = omega arith in ap total_of i
 
-pub below_size : (z : Settings) → IsTrue (are_fit z) → (p : Spot) → IsSpot z p → index p < 944
+pub below_size : (z : Settings) → IsTrue (are_fit z) → (p : Spot) → IsSpot z p → index p < WORDS
 below_size z fit (section_of c) here = omega (arith, ranges z fit)
 below_size z fit (passive_of c t) here = omega (arith, ranges z fit, here)
 below_size z fit (count_of c t) here = omega (arith, ranges z fit, here)
@@ -74,8 +75,8 @@ below_size z fit (total_of t) here = omega (arith, ranges z fit)
 pub agrees_set : (words : List ℕ) (g g' : State) (p : Spot) (n : ℕ) → IsTrue (are_fit g.settings) → Agrees words g → g'.settings ≡ g.settings → IsSpot g.settings p → word_at g' p ≡ n
     → ((q : Spot) → IsSpot g.settings q → (q ≡ p → ⊥) → word_at g' q ≡ word_at g q) → Agrees (set words (index p) n) g'
 agrees_set words g g' p n fit agrees same here is others =
-    let size : length words ≡ 944 = agrees.size in
-    let below : index p < 944 = below_size g.settings fit p here in
+    let size : length words ≡ WORDS = agrees.size in
+    let below : index p < WORDS = below_size g.settings fit p here in
     let lt : index p < length words = omega arith in record {
       size = length-set words (index p) n ∙ agrees.size;
       at = λ q there'.

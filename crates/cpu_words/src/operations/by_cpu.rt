@@ -7,6 +7,7 @@ ghost use Rattle.cpu_words.specs.Logs.{the_cpu, AreBy};
 ghost use Rattle.cpu_words.specs.Steps.{CpuMay};
 
 use crate::law::{CpuPlay, CpuTale, Words};
+use crate::layout::WORDS;
 use crate::seat::CpuSeat;
 use protocol::Event;
 
@@ -19,7 +20,7 @@ pub(crate) fn add<T: CpuTale>(
     event: Event,
 ) -> u64
     requires table { seat.old.table ≡ words.now.table }
-    requires place { word < 944 }
+    requires place { word < WORDS }
     requires own { (n : ℕ) → AreBy (the_cpu seat.old.view.id) (T.does seat.old.view n) }
     requires may { CpuMay words.now.settings seat.old.view word (λ n. (n + k) % 2 ^ 64) (T.does seat.old.view) T.tells }
     ensures table { seat.new.table ≡ seat.old.table }
@@ -44,7 +45,7 @@ pub(crate) fn subtract<T: CpuTale>(
     event: Event,
 ) -> u64
     requires table { seat.old.table ≡ words.now.table }
-    requires place { word < 944 }
+    requires place { word < WORDS }
     requires own { (n : ℕ) → AreBy (the_cpu seat.old.view.id) (T.does seat.old.view n) }
     requires may { CpuMay words.now.settings seat.old.view word (λ n. (n + (2 ^ 64 - k)) % 2 ^ 64) (T.does seat.old.view) T.tells }
     ensures table { seat.new.table ≡ seat.old.table }
@@ -63,7 +64,7 @@ pub(crate) fn subtract<T: CpuTale>(
 /// Loads a word.
 pub(crate) fn load<T: CpuTale>(words: &Words, seat: &mut CpuSeat, word: usize, event: Event) -> u64
     requires table { seat.old.table ≡ words.now.table }
-    requires place { word < 944 }
+    requires place { word < WORDS }
     requires own { (n : ℕ) → AreBy (the_cpu seat.old.view.id) (T.does seat.old.view n) }
     requires may { CpuMay words.now.settings seat.old.view word (λ n. n) (T.does seat.old.view) T.tells }
     ensures table { seat.new.table ≡ seat.old.table }
@@ -86,7 +87,7 @@ pub(crate) fn compare_exchange<T: CpuTale>(
     event: Event,
 ) -> u64
     requires table { seat.old.table ≡ words.now.table }
-    requires place { word < 944 }
+    requires place { word < WORDS }
     requires own { (n : ℕ) → AreBy (the_cpu seat.old.view.id) (T.does seat.old.view n) }
     requires may { CpuMay words.now.settings seat.old.view word (λ n. either (n == old) new n) (T.does seat.old.view) T.tells }
     ensures table { seat.new.table ≡ seat.old.table }

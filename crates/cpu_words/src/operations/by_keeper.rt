@@ -6,6 +6,7 @@ ghost use Rattle.cpu_words.specs.Logs.{the_keeper, AreBy};
 ghost use Rattle.cpu_words.specs.Steps.{KeeperMay, KeeperStores};
 
 use crate::law::{KeeperHearing, KeeperPlay, KeeperTale, Words};
+use crate::layout::WORDS;
 use crate::seat::KeeperSeat;
 use protocol::Event;
 
@@ -17,7 +18,7 @@ pub(crate) fn load<T: KeeperTale>(
     event: Event,
 ) -> u64
     requires table { seat.old.table ≡ words.now.table }
-    requires place { word < 944 }
+    requires place { word < WORDS }
     requires own { (n : ℕ) → AreBy the_keeper (T.does seat.old.view n) }
     requires may { KeeperMay words.now.settings seat.old.view word (λ n. n) (T.does seat.old.view) T.tells }
     ensures table { seat.new.table ≡ seat.old.table }
@@ -41,7 +42,7 @@ pub(crate) fn store<T: KeeperTale>(
     event: Event,
 )
     requires table { seat.old.table ≡ words.now.table }
-    requires place { word < 944 }
+    requires place { word < WORDS }
     requires own { (n : ℕ) → AreBy the_keeper (T.does seat.old.view n) }
     requires may { KeeperStores words.now.settings seat.old.view word value (T.does seat.old.view) T.tells }
     ensures table { seat.new.table ≡ seat.old.table }
@@ -66,7 +67,7 @@ pub(crate) fn swap<T: KeeperTale>(
     event: Event,
 ) -> u64
     requires table { seat.old.table ≡ words.now.table }
-    requires place { word < 944 }
+    requires place { word < WORDS }
     requires own { (n : ℕ) → AreBy the_keeper (T.does seat.old.view n) }
     requires may { KeeperMay words.now.settings seat.old.view word (λ _. value) (T.does seat.old.view) T.tells }
     ensures table { seat.new.table ≡ seat.old.table }
@@ -90,7 +91,7 @@ pub(crate) fn subtract<T: KeeperTale>(
     event: Event,
 ) -> u64
     requires table { seat.old.table ≡ words.now.table }
-    requires place { word < 944 }
+    requires place { word < WORDS }
     requires own { (n : ℕ) → AreBy the_keeper (T.does seat.old.view n) }
     requires may { KeeperMay words.now.settings seat.old.view word (λ n. (n + (2 ^ 64 - k)) % 2 ^ 64) (T.does seat.old.view) T.tells }
     ensures table { seat.new.table ≡ seat.old.table }

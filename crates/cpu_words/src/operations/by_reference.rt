@@ -5,6 +5,7 @@ ghost use Rattle.cpu_words.specs.Logs.{another, AreBy};
 ghost use Rattle.cpu_words.specs.Steps.{ReferenceMay};
 
 use crate::law::{ReferencePlay, ReferenceTale, Words};
+use crate::layout::WORDS;
 use crate::seat::ReferenceSeat;
 use protocol::Event;
 
@@ -16,7 +17,7 @@ pub(crate) fn load<T: ReferenceTale>(
     event: Event,
 ) -> u64
     requires table { seat.old.table ≡ words.now.table }
-    requires place { word < 944 }
+    requires place { word < WORDS }
     requires own { (n : ℕ) → AreBy another (T.does seat.old.view n) }
     requires may { ReferenceMay words.now.settings seat.old.view word (T.does seat.old.view) T.tells }
     ensures table { seat.new.table ≡ seat.old.table }

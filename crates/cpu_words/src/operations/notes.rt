@@ -8,6 +8,7 @@ ghost use Rattle.cpu_words.specs.Notes.{with_note, keeper_with_note};
 ghost use Rattle.cpu_words.specs.Steps.{CpuMay, KeeperMay};
 
 use crate::law::{CpuHearing, CpuTale, KeeperHearing, KeeperTale, Words};
+use crate::layout::WORDS;
 use crate::seat::{CpuSeat, KeeperSeat, NoteSeat};
 use crate::view::Logged;
 use atomic_table::{Join, Split};
@@ -93,7 +94,7 @@ pub(crate) fn listen<T: CpuTale>(
     event: Event,
 ) -> u64
     requires table { seat.old.table ≡ words.now.table }
-    requires place { word < 944 }
+    requires place { word < WORDS }
     requires own { (n : ℕ) → AreBy (the_cpu seat.old.view.id) (T.does seat.old.view n) }
     requires may { CpuMay words.now.settings seat.old.view word (λ n. n) (T.does seat.old.view) T.tells }
     ensures table { seat.new.table ≡ seat.old.table }
@@ -118,7 +119,7 @@ pub(crate) fn listen_by_keeper<T: KeeperTale>(
     event: Event,
 ) -> u64
     requires table { keeper.old.table ≡ words.now.table }
-    requires place { word < 944 }
+    requires place { word < WORDS }
     requires own { (n : ℕ) → AreBy the_keeper (T.does keeper.old.view n) }
     requires may { KeeperMay words.now.settings keeper.old.view word (λ n. n) (T.does keeper.old.view) T.tells }
     ensures table { keeper.new.table ≡ keeper.old.table }

@@ -14,6 +14,7 @@ ghost use Rattle.cpu_words.specs.Steps.{Makes, JoinsBy};
 ghost use Rattle.cpu_words.specs.Draining.{MayPassiveLook, HasLookedPassive, MayCollect, HasCollected, MayTotalAdd, HasAdded, MayTotalSub, HasSubtracted, MayJoinKeeper, keeper_after_join, MayKeptSub, HasKeptSub};
 
 use crate::law::Words;
+use crate::layout::{count_place, passive_place, total_place};
 use crate::operations::by_keeper;
 use crate::operations::given_up::GivenUp;
 use crate::seat::{KeeperSeat, ReferenceSeat};
@@ -35,7 +36,7 @@ pub fn passive_look(words: &Words, keeper: &mut KeeperSeat, slot: u8, cpu: u8) -
     by_keeper::load::<Brand>(
         words,
         keeper,
-        80 * cpu as usize + 1 + slot as usize,
+        passive_place(cpu, slot),
         Event::PassiveLook(slot, cpu),
     )
 }
@@ -56,7 +57,7 @@ pub fn collect(words: &Words, keeper: &mut KeeperSeat, slot: u8, cpu: u8) -> u64
     by_keeper::swap::<Brand>(
         words,
         keeper,
-        80 * cpu as usize + 33 + slot as usize,
+        count_place(cpu, slot),
         0,
         Event::Collect(slot, cpu),
     )
@@ -77,7 +78,7 @@ pub fn total_add(words: &Words, keeper: &mut KeeperSeat, slot: u8, total: u64)
     by_keeper::store::<Brand>(
         words,
         keeper,
-        912 + slot as usize,
+        total_place(slot),
         total,
         Event::TotalAdd(slot),
     );
@@ -94,7 +95,7 @@ pub fn total_sub(words: &Words, keeper: &mut KeeperSeat, slot: u8)
     ensures change { HasSubtracted keeper.old.view slot keeper.new.view }
     ensures log { keeper.new.log ≡ keeper.old.log ++ did (TotalSub slot) Done }
 {
-    by_keeper::subtract::<Brand>(words, keeper, 912 + slot as usize, 1, Event::TotalSub(slot));
+    by_keeper::subtract::<Brand>(words, keeper, total_place(slot), 1, Event::TotalSub(slot));
 }
 
 /// Gives a local reference up by taking it in: its seat is spent, it counts as given up, by its entry's number, from here on, and it is
@@ -133,7 +134,7 @@ pub fn kept_sub(words: &Words, keeper: &mut KeeperSeat, slot: u8, driver_slot: u
     by_keeper::subtract::<Brand>(
         words,
         keeper,
-        912 + driver_slot as usize,
+        total_place(driver_slot),
         1,
         Event::KeptSub(slot),
     );

@@ -9,6 +9,7 @@ ghost use Rattle.cpu_words.specs.Steps.{Makes};
 ghost use Rattle.cpu_words.specs.Grace.{MayGlance, MayLook, MaySnapshot, HasLooked, HasSnapshot, keeper_after_look};
 
 use crate::law::Words;
+use crate::layout::section_place;
 use crate::operations::by_keeper;
 use crate::seat::KeeperSeat;
 use protocol::Event;
@@ -27,7 +28,7 @@ pub fn look(words: &Words, keeper: &mut KeeperSeat, slot: u8, cpu: u8) -> u64
     ensures log { keeper.new.log ≡ keeper.old.log ++ did (Look (Some slot) cpu) (Word result) }
 {
     let look = Event::Look(Some(slot), cpu);
-    by_keeper::load::<Brand>(words, keeper, 80 * cpu as usize, look)
+    by_keeper::load::<Brand>(words, keeper, section_place(cpu), look)
 }
 
 /// Looks at the section word of CPU `cpu` for no entry: the caller compares it with what `snapshot_now` answered. It is counted as a look.
@@ -41,7 +42,7 @@ pub fn look_now(words: &Words, keeper: &mut KeeperSeat, cpu: u8) -> u64
     ensures change { keeper.new.view ≡ keeper_after_look keeper.old.view (Look None cpu) (Word result) }
     ensures log { keeper.new.log ≡ keeper.old.log ++ did (Look None cpu) (Word result) }
 {
-    by_keeper::load::<Brand>(words, keeper, 80 * cpu as usize, Event::Look(None, cpu))
+    by_keeper::load::<Brand>(words, keeper, section_place(cpu), Event::Look(None, cpu))
 }
 
 /// Takes the snapshot of CPU `cpu` for the entry in `slot`, which was just unlinked: its section word now.
@@ -56,7 +57,7 @@ pub fn snapshot(words: &Words, keeper: &mut KeeperSeat, slot: u8, cpu: u8) -> u6
     ensures log { keeper.new.log ≡ keeper.old.log ++ did (Snapshot (Some slot) cpu) (Word result) }
 {
     let event = Event::Snapshot(Some(slot), cpu);
-    by_keeper::load::<Brand>(words, keeper, 80 * cpu as usize, event)
+    by_keeper::load::<Brand>(words, keeper, section_place(cpu), event)
 }
 
 /// Takes a snapshot of CPU `cpu` for no entry: its section word now, as `perform` keeps it. It is counted as a look.
@@ -71,5 +72,5 @@ pub fn snapshot_now(words: &Words, keeper: &mut KeeperSeat, cpu: u8) -> u64
     ensures log { keeper.new.log ≡ keeper.old.log ++ did (Snapshot None cpu) (Word result) }
 {
     let snapshot = Event::Snapshot(None, cpu);
-    by_keeper::load::<Brand>(words, keeper, 80 * cpu as usize, snapshot)
+    by_keeper::load::<Brand>(words, keeper, section_place(cpu), snapshot)
 }

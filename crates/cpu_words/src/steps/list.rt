@@ -10,6 +10,7 @@ ghost use Rattle.cpu_words.specs.Vacating.{MayWrite};
 ghost use Rattle.cpu_words.specs.Storing.{HasRecordWord, HasCountWord, HasLink};
 
 use crate::law::Words;
+use crate::layout::{count_place, next_place, record_place};
 use crate::operations::by_keeper;
 use crate::seat::KeeperSeat;
 use protocol::Event;
@@ -26,7 +27,7 @@ pub fn store_record(words: &Words, keeper: &mut KeeperSeat, slot: u8, k: u8, val
     ensures change { HasRecordWord keeper.old.view slot k value keeper.new.view }
     ensures log { keeper.new.log ≡ keeper.old.log ++ did (StoreSlot slot k value) Done }
 {
-    let place = 657 + 8 * slot as usize + k as usize;
+    let place = record_place(slot as usize, k);
     let event = Event::StoreSlot(slot, k, value);
     by_keeper::store::<Brand>(words, keeper, place, value, event);
 }
@@ -41,7 +42,7 @@ pub fn store_count(words: &Words, keeper: &mut KeeperSeat, slot: u8, cpu: u8, va
     ensures change { HasCountWord keeper.old.view slot cpu value keeper.new.view }
     ensures log { keeper.new.log ≡ keeper.old.log ++ did (StoreSlot slot (5 + cpu) value) Done }
 {
-    let place = 80 * cpu as usize + 33 + slot as usize;
+    let place = count_place(cpu, slot);
     let event = Event::StoreSlot(slot, 5 + cpu, value);
     by_keeper::store::<Brand>(words, keeper, place, value, event);
 }
@@ -56,6 +57,6 @@ pub fn store_next(words: &Words, keeper: &mut KeeperSeat, slot: u8, link: u64)
     ensures change { HasLink keeper.old.view slot link keeper.new.view }
     ensures log { keeper.new.log ≡ keeper.old.log ++ did (StoreNext slot link) Done }
 {
-    let place = 656 + 8 * slot as usize;
+    let place = next_place(slot);
     by_keeper::store::<Brand>(words, keeper, place, link, Event::StoreNext(slot, link));
 }

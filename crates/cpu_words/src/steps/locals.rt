@@ -13,6 +13,7 @@ ghost use Rattle.cpu_words.specs.Steps.{Makes, SplitsBy, JoinsBy};
 ghost use Rattle.cpu_words.specs.Locals.{down_reply, IsTaking, IsBack, IsNetCount, IsMetAlone, MayCount, HasCounted, MayCountDown, HasCountedDown, HasFoundCollected, HasSplit, HasSplitBack, with_hand};
 
 use crate::law::Words;
+use crate::layout::count_place;
 use crate::operations::by_cpu;
 use crate::operations::in_hand::InHandReference;
 use crate::seat::{CpuSeat, ReferenceSeat};
@@ -39,7 +40,7 @@ pub fn count_add(words: &Words, seat: &mut CpuSeat, cpu: u8, slot: u8, number: u
 {
     // The contract alone speaks of the entry's number.
     let _number = number;
-    let word = 80 * cpu as usize + 33 + slot as usize;
+    let word = count_place(cpu, slot);
     by_cpu::add::<Brand>(words, seat, word, 1, Event::CountAdd(cpu))
 }
 
@@ -138,7 +139,7 @@ pub fn count_down(
     by_cpu::compare_exchange::<Brand>(
         words,
         seat,
-        80 * cpu as usize + 33 + slot as usize,
+        count_place(cpu, slot),
         expected,
         expected.wrapping_sub(1),
         Event::CountDown(cpu),

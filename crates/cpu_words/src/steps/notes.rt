@@ -14,6 +14,7 @@ ghost use Rattle.cpu_words.specs.Notes.{with_note, keeper_with_note};
 ghost use Rattle.cpu_words.specs.KeeperLog.{KnownLogGrows, IsOwnLog, IsShownAfter};
 
 use crate::law::Words;
+use crate::layout::{HEAD, section_place};
 use crate::operations::notes;
 use crate::operations::notes::{CpuNote, KeeperNote};
 use crate::seat::{CpuSeat, KeeperSeat, NoteSeat};
@@ -74,7 +75,7 @@ pub fn hear(words: &Words, seat: &mut CpuSeat, cpu: u8, note: NoteSeat)
     ensures counts { IsShownAfter seat.new.known_log (Cpu (with_note seat.old.view note.view)) }
 {
     notes::lay(words, seat, note);
-    notes::listen::<Brand>(words, seat, 80 * cpu as usize, Event::Hear(Some(cpu)));
+    notes::listen::<Brand>(words, seat, section_place(cpu), Event::Hear(Some(cpu)));
 }
 
 /// The keeper hears a note: what the note tells is in its history, what it tells of the keeper's log begins that log, and the
@@ -91,5 +92,5 @@ pub fn hear_keeper(words: &Words, keeper: &mut KeeperSeat, note: NoteSeat)
     ensures own_log { IsOwnLog keeper.old.log note.known_log keeper.old.view }
 {
     notes::lay_by_keeper(words, keeper, note);
-    notes::listen_by_keeper::<Brand>(words, keeper, 648, Event::Hear(None));
+    notes::listen_by_keeper::<Brand>(words, keeper, HEAD, Event::Hear(None));
 }

@@ -11,6 +11,7 @@ ghost use Rattle.cpu_words.specs.Steps.{Makes};
 ghost use Rattle.cpu_words.specs.Passives.{MayAdd, MayUse, HasAdded, HasSubtracted, IsWordOf, IsAloneAt, IsNamed};
 
 use crate::law::Words;
+use crate::layout::{passive_place, record_place};
 use crate::operations::by_cpu;
 use crate::seat::CpuSeat;
 use protocol::{Event, RecordOf};
@@ -33,7 +34,7 @@ pub fn passive_add(words: &Words, seat: &mut CpuSeat, cpu: u8, slot: u8, number:
     ensures log { seat.new.log ≡ seat.old.log ++ did (PassiveAdd cpu number) (Word result) }
     ensures known_log { seat.new.known_log ≡ seat.old.known_log }
 {
-    let word = 80 * cpu as usize + 1 + slot as usize;
+    let word = passive_place(cpu, slot);
     by_cpu::add::<Brand>(words, seat, word, 1, Event::PassiveAdd(cpu, number))
 }
 
@@ -52,7 +53,7 @@ pub fn passive_sub(words: &Words, seat: &mut CpuSeat, cpu: u8, slot: u8, number:
     ensures log { seat.new.log ≡ seat.old.log ++ did (PassiveSub cpu number) (Word result) }
     ensures known_log { seat.new.known_log ≡ seat.old.known_log }
 {
-    let word = 80 * cpu as usize + 1 + slot as usize;
+    let word = passive_place(cpu, slot);
     by_cpu::subtract::<Brand>(words, seat, word, 1, Event::PassiveSub(cpu, number))
 }
 
@@ -74,7 +75,7 @@ pub fn load_passive(words: &Words, seat: &mut CpuSeat, cpu: u8, slot: u8, number
     ensures log { seat.new.log ≡ seat.old.log ++ did (LoadRecord (Passive cpu number k)) (Word result) }
     ensures known_log { seat.new.known_log ≡ seat.old.known_log }
 {
-    let word = 657 + 8 * slot as usize + k as usize;
+    let word = record_place(slot as usize, k);
     let event = Event::LoadRecord(RecordOf::Passive(cpu, number, k));
     by_cpu::load::<Brand>(words, seat, word, event)
 }

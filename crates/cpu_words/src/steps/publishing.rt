@@ -13,6 +13,7 @@ ghost use Rattle.cpu_words.specs.Steps.{Makes};
 ghost use Rattle.cpu_words.specs.Publishing.{MayPublish, HasPublished, MayUnpublish, HasUnpublished, IsLinkPlace, link_index};
 
 use crate::law::Words;
+use crate::layout::{HEAD, next_place};
 use crate::operations::by_keeper;
 use crate::seat::KeeperSeat;
 use protocol::Event;
@@ -34,7 +35,7 @@ pub fn publish(words: &Words, keeper: &mut KeeperSeat, slot: u8)
     ensures log { keeper.new.log ≡ keeper.old.log ++ did (Publish slot) Done }
     ensures attached { (d : ℕ) → kept_at keeper.old.view.keeps slot ≡ Some d → IsAttachedKeeping slot (suc (length keeper.old.view.history)) d keeper.new.log }
 {
-    by_keeper::store::<Brand>(words, keeper, 648, slot as u64 + 1, Event::Publish(slot));
+    by_keeper::store::<Brand>(words, keeper, HEAD, slot as u64 + 1, Event::Publish(slot));
 }
 
 /// Unpublishes the live entry in `slot`: the one link that leads to it is stored, and leads past it. The entry is retired, its own link
@@ -65,7 +66,7 @@ fn link_place(before: Option<u8>) -> usize
     ensures place { result ≡ link_index before }
 {
     match before {
-        None => 648,
-        Some(slot) => 656 + 8 * slot as usize,
+        None => HEAD,
+        Some(slot) => next_place(slot),
     }
 }

@@ -11,6 +11,7 @@ ghost use Rattle.cpu_words.specs.Rule.{did};
 ghost use Rattle.cpu_words.specs.Steps.{Makes};
 
 use crate::law::Words;
+use crate::layout::record_place;
 use crate::operations::by_reference;
 use crate::seat::ReferenceSeat;
 use protocol::{Event, RecordOf};
@@ -31,7 +32,7 @@ pub fn load_local(words: &Words, seat: &mut ReferenceSeat, slot: u8, k: u8) -> u
     ensures name { IsTrue (is_lawful seat.old.view.entry.rec.name) }
     ensures log { seat.new.log ≡ seat.old.log ++ did (LoadRecord (Local seat.old.view.entry.number k)) (Word result) }
 {
-    let place = 657 + 8 * slot as usize + k as usize;
+    let place = record_place(slot as usize, k);
     let event = Event::LoadRecord(RecordOf::Local(0, k));
     by_reference::load::<Brand>(words, seat, place, event)
 }

@@ -11,6 +11,7 @@ ghost use Rattle.cpu_words.specs.Steps.{Makes};
 ghost use Rattle.cpu_words.specs.Searching.{MaySeek, key_with, search_for, cpu_after_seek, MayLoadLink, link_answer, HasFollowed, HasLoadedLink, MayLoadSearched, loaded_of, loaded_answer, HasLoadedWord};
 
 use crate::law::Words;
+use crate::layout::{HEAD, place_behind, record_place};
 use crate::operations::by_cpu;
 use crate::seat::CpuSeat;
 use protocol::{Event, RecordOf};
@@ -30,7 +31,7 @@ pub fn seek(words: &Words, seat: &mut CpuSeat, cpu: u8, kind: Kind, name: Name) 
     ensures log { seat.new.log ≡ seat.old.log ++ did (Seek cpu kind name) Done ++ did (LoadLink cpu) (link_answer result) }
     ensures known_log { seat.new.known_log ≡ seat.old.known_log }
 {
-    by_cpu::load::<Brand>(words, seat, 648, Event::Seek(cpu, kind, name))
+    by_cpu::load::<Brand>(words, seat, HEAD, Event::Seek(cpu, kind, name))
 }
 
 /// The search of CPU `cpu` loads the link of the slot that `link` led to, `link - 1`: a slot plus 1, or 0 where no entry has the kind and
@@ -47,7 +48,7 @@ pub fn load_link(words: &Words, seat: &mut CpuSeat, cpu: u8, link: u64) -> u64
     ensures log { seat.new.log ≡ seat.old.log ++ did (LoadLink cpu) (link_answer result) }
     ensures known_log { seat.new.known_log ≡ seat.old.known_log }
 {
-    by_cpu::load::<Brand>(words, seat, 648 + 8 * link as usize, Event::LoadLink(cpu))
+    by_cpu::load::<Brand>(words, seat, place_behind(link), Event::LoadLink(cpu))
 }
 
 /// The search of CPU `cpu` loads record word `k` of `slot`: 0 the number, 1 the kind, 2 and 3 the words of the name, and where these
@@ -67,7 +68,7 @@ pub fn load_searched(words: &Words, seat: &mut CpuSeat, cpu: u8, slot: usize, k:
     by_cpu::load::<Brand>(
         words,
         seat,
-        657 + 8 * slot + k as usize,
+        record_place(slot, k),
         Event::LoadRecord(RecordOf::Search(cpu)),
     )
 }

@@ -9,6 +9,7 @@ ghost use Rattle.cpu_words.specs.Steps.{Makes};
 ghost use Rattle.cpu_words.specs.Sections.{MayEnter, HasEntered, MayExit, HasExited};
 
 use crate::law::Words;
+use crate::layout::section_place;
 use crate::operations::by_cpu;
 use crate::seat::CpuSeat;
 use protocol::Event;
@@ -26,7 +27,7 @@ pub fn enter(words: &Words, seat: &mut CpuSeat, cpu: u8)
     ensures log { seat.new.log ≡ seat.old.log ++ did (Enter cpu) Done }
     ensures known_log { seat.new.known_log ≡ seat.old.known_log }
 {
-    by_cpu::add::<Brand>(words, seat, 80 * cpu as usize, 1, Event::Enter(cpu));
+    by_cpu::add::<Brand>(words, seat, section_place(cpu), 1, Event::Enter(cpu));
 }
 
 /// CPU `cpu` ends its section: its section word becomes even, and what it had found is not its own any more.
@@ -41,5 +42,5 @@ pub fn exit(words: &Words, seat: &mut CpuSeat, cpu: u8)
     ensures log { seat.new.log ≡ seat.old.log ++ did (Exit cpu) Done }
     ensures known_log { seat.new.known_log ≡ seat.old.known_log }
 {
-    by_cpu::add::<Brand>(words, seat, 80 * cpu as usize, 1, Event::Exit(cpu));
+    by_cpu::add::<Brand>(words, seat, section_place(cpu), 1, Event::Exit(cpu));
 }

@@ -13,6 +13,7 @@ ghost use Rattle.cpu_words.specs.Steps.{Makes};
 ghost use Rattle.cpu_words.specs.Vacating.{MayVacate, keeper_after_vacate};
 
 use crate::law::Words;
+use crate::layout::HEAD;
 use crate::operations::notes;
 use crate::seat::KeeperSeat;
 use protocol::Event;
@@ -31,5 +32,5 @@ pub fn vacate(words: &Words, keeper: &mut KeeperSeat, slot: u8)
     ensures log { keeper.new.log ≡ keeper.old.log ++ did (Vacate slot) Done ++ did (Hear None) Done }
     ensures freed { (e : Entry) → slot_at keeper.old.view.slots slot ≡ Retired e → IsFreedFrom slot e.number keeper.new.log }
 {
-    notes::listen_by_keeper::<Brand>(words, keeper, 648, Event::Vacate(slot));
+    notes::listen_by_keeper::<Brand>(words, keeper, HEAD, Event::Vacate(slot));
 }

@@ -1,6 +1,7 @@
 use Rattle.std.proofs.Common.{ℕ, arith, refl}
 use Rattle.protocol.proofs.slots.Cells.{get_or_all}
+use Rattle.cpu_words.specs.declared.layout.TheConstants.{WORDS}
 use Rattle.cpu_words.proofs.open.opening_words.Goals as goal
 
 pub loop-t-init : goal.loop-t-init
-loop-t-init c = (refl, (λ i lt. get_or_all {X = ℕ} 944 0 i), (λ t lt. absurd (omega arith)))
+loop-t-init c = (refl, (λ i lt. get_or_all {X = ℕ} WORDS 0 i), (λ t lt. absurd (omega arith)))

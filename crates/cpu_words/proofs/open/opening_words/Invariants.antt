@@ -1,7 +1,9 @@
 use Rattle.std.proofs.Common.{◌≡◌, ◌<◌, ◌+◌, ℕ, length, get_or}
 use Rattle.registry_values.specs.Balances.{bias}
+use Rattle.cpu_words.specs.declared.layout.TheConstants.{TOTALS, WORDS}
+use Rattle.cpu_words.specs.Spots.{total_of, index}
 use Rattle.cpu_words.proofs.open.opening_words.Given as goal
 
 -- all words are 0 but the totals so far
 abbrev pub invariant-loop-t : goal.invariant-loop-t
-invariant-loop-t l = (length l.words ≡ 944) × ((i : ℕ) → i < 912 → get_or l.words i 0 ≡ 0) × ((t : ℕ) → t < l.t → get_or l.words (912 + t) 0 ≡ bias)
+invariant-loop-t l = (length l.words ≡ WORDS) × ((i : ℕ) → i < TOTALS → get_or l.words i 0 ≡ 0) × ((t : ℕ) → t < l.t → get_or l.words (index (total_of t)) 0 ≡ bias)

@@ -4,7 +4,7 @@ use Rattle.cpu_words.proofs.logs.OwnLog.{freed_by}
 use Rattle.cpu_words.proofs.steps.drain.kept_sub.Goals as goal
 
 pub subtract-requires-clause-may : goal.subtract-requires-clause-may
-subtract-requires-clause-may c = kept_sub_may _ _ _ _ c.requires.may
+subtract-requires-clause-may c = rw c.total_place.ensures.place (kept_sub_may _ _ _ _ c.requires.may)
 
 pub returns-clause-change : goal.returns-clause-change
 returns-clause-change c = kept_sub_change _ _ _ _ c.requires.may c.subtract.ensures.told.1

@@ -4,7 +4,7 @@ use Rattle.cpu_words.specs.Logs.{the_cpu}
 use Rattle.cpu_words.proofs.steps.locals.count_add.Goals as goal
 
 pub add-requires-clause-may : goal.add-requires-clause-may
-add-requires-clause-may c = count_add_may _ _ _ _ _ c.requires.cpu c.requires.may
+add-requires-clause-may c = rw c.count_place-word.ensures.place (count_add_may _ _ _ _ _ c.requires.cpu c.requires.may)
 
 pub returns-clause-change : goal.returns-clause-change
 returns-clause-change c = (c.add.ensures.told.1 _ _ c.requires.may).0

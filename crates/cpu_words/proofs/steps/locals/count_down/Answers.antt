@@ -4,7 +4,7 @@ use Rattle.cpu_words.specs.Logs.{the_cpu}
 use Rattle.cpu_words.proofs.steps.locals.count_down.Goals as goal
 
 pub compare_exchange-requires-clause-may : goal.compare_exchange-requires-clause-may
-compare_exchange-requires-clause-may c = count_down_may _ _ _ _ _ _ _ c.requires.cpu c.requires.may c.ranges.expected.fits refl
+compare_exchange-requires-clause-may c = rw c.count_place.ensures.place (count_down_may _ _ _ _ _ _ _ c.requires.cpu c.requires.may c.ranges.expected.fits refl)
 
 pub returns-clause-floor : goal.returns-clause-floor
 returns-clause-floor c = (c.compare_exchange.ensures.told _ _ c.requires.may).0

@@ -6,7 +6,7 @@ use Rattle.cpu_words.proofs.logs.OwnLog.{shown_with_note}
 use Rattle.cpu_words.proofs.steps.notes.hear.Goals as goal
 
 pub listen-requires-clause-may : goal.listen-requires-clause-may
-listen-requires-clause-may c = hear_with_note_may _ c.args.seat.now.view _ _ _ c.lay.ensures.change c.requires.cpu.1 c.requires.may
+listen-requires-clause-may c = rw c.section_place.ensures.place (hear_with_note_may _ c.args.seat.now.view _ _ _ c.lay.ensures.change c.requires.cpu.1 c.requires.may)
 
 pub returns-clause-told : goal.returns-clause-told
 returns-clause-told c = (cpu_heard c.args.seat.now.view _ _ _ c.lay.ensures.change c.listen.ensures.told.1).0

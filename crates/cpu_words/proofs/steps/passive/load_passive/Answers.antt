@@ -4,16 +4,16 @@ use Rattle.cpu_words.specs.Logs.{the_cpu}
 use Rattle.cpu_words.proofs.steps.passive.load_passive.Goals as goal
 
 pub load-requires-clause-may : goal.load-requires-clause-may
-load-requires-clause-may c = load_may _ _ _ _ _ _ c.requires.cpu.1 c.requires.place.1 c.requires.may
+load-requires-clause-may c = rw c.record_place-word.ensures.place (load_may _ _ _ _ _ _ c.requires.cpu.1 c.requires.place.1 c.requires.may)
 
 pub returns-clause-word : goal.returns-clause-word
-returns-clause-word c = (c.load.ensures.told.2 c.args.cpu c.args.slot c.args.number c.args.k refl refl).0
+returns-clause-word c = (c.load.ensures.told.2 c.args.cpu c.args.slot c.args.number c.args.k refl c.record_place-word.ensures.place).0
 
 pub returns-clause-alone : goal.returns-clause-alone
-returns-clause-alone c = (c.load.ensures.told.2 c.args.cpu c.args.slot c.args.number c.args.k refl refl).1
+returns-clause-alone c = (c.load.ensures.told.2 c.args.cpu c.args.slot c.args.number c.args.k refl c.record_place-word.ensures.place).1
 
 pub returns-clause-name : goal.returns-clause-name
-returns-clause-name c = (c.load.ensures.told.2 c.args.cpu c.args.slot c.args.number c.args.k refl refl).2
+returns-clause-name c = (c.load.ensures.told.2 c.args.cpu c.args.slot c.args.number c.args.k refl c.record_place-word.ensures.place).2
 
 pub load-requires-clause-own : goal.load-requires-clause-own
 load-requires-clause-own c n = (ap the_cpu (sym c.requires.cpu.1), tt)

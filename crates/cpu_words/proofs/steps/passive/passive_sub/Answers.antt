@@ -4,16 +4,16 @@ use Rattle.cpu_words.specs.Logs.{the_cpu}
 use Rattle.cpu_words.proofs.steps.passive.passive_sub.Goals as goal
 
 pub subtract-requires-clause-may : goal.subtract-requires-clause-may
-subtract-requires-clause-may c = sub_may _ _ _ _ _ c.requires.cpu.1 c.requires.may
+subtract-requires-clause-may c = rw c.passive_place-word.ensures.place (sub_may _ _ _ _ _ c.requires.cpu.1 c.requires.may)
 
 pub returns-clause-change : goal.returns-clause-change
-returns-clause-change c = (c.subtract.ensures.told.1 c.args.cpu c.args.slot c.args.number refl refl).0
+returns-clause-change c = (c.subtract.ensures.told.1 c.args.cpu c.args.slot c.args.number refl c.passive_place-word.ensures.place).0
 
 pub returns-clause-count : goal.returns-clause-count
-returns-clause-count c = (c.subtract.ensures.told.1 c.args.cpu c.args.slot c.args.number refl refl).1
+returns-clause-count c = (c.subtract.ensures.told.1 c.args.cpu c.args.slot c.args.number refl c.passive_place-word.ensures.place).1
 
 pub returns-clause-alone : goal.returns-clause-alone
-returns-clause-alone c = (c.subtract.ensures.told.1 c.args.cpu c.args.slot c.args.number refl refl).2
+returns-clause-alone c = (c.subtract.ensures.told.1 c.args.cpu c.args.slot c.args.number refl c.passive_place-word.ensures.place).2
 
 pub subtract-requires-clause-own : goal.subtract-requires-clause-own
 subtract-requires-clause-own c n = (ap the_cpu (sym c.requires.cpu.1), tt)

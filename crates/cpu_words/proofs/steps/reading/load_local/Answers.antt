@@ -9,7 +9,7 @@ use Rattle.cpu_words.proofs.by_cpu.Reading.{local_may}
 use Rattle.cpu_words.proofs.steps.reading.load_local.Goals as goal
 
 pub load-requires-clause-may : goal.load-requires-clause-may
-load-requires-clause-may c = local_may _ _ _ _ c.requires.slot c.requires.place.1
+load-requires-clause-may c = rw c.record_place-place.ensures.place (local_may _ _ _ _ c.requires.slot c.requires.place.1)
 
 pub returns-clause-event : goal.returns-clause-event
 returns-clause-event c = subst (λ (w : ReferenceView). (o : ℕ) × Makes (LoadRecord (Local o c.args.k)) (Word c.load.result) (Reference c.args.seat.now.view) (Reference w)) (sym c.load.ensures.same)

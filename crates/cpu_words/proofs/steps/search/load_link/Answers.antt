@@ -1,10 +1,10 @@
-use Rattle.std.proofs.Common.{arith, sym, ap}
-use Rattle.cpu_words.proofs.by_cpu.Searching.{load_link_may_by}
+use Rattle.std.proofs.Common.{sym, ap}
+use Rattle.cpu_words.proofs.by_cpu.Searching.{load_link_may}
 use Rattle.cpu_words.specs.Logs.{the_cpu}
 use Rattle.cpu_words.proofs.steps.search.load_link.Goals as goal
 
 pub load-requires-clause-may : goal.load-requires-clause-may
-load-requires-clause-may c = load_link_may_by _ _ _ _ _ (omega (arith, c.requires.slot.0)) c.requires.cpu.1 c.requires.may
+load-requires-clause-may c = rw c.place_behind.ensures.place (load_link_may _ _ _ _ c.requires.cpu.1 c.requires.may)
 
 pub load-requires-clause-own : goal.load-requires-clause-own
 load-requires-clause-own c n = (ap the_cpu (sym c.requires.cpu.1), tt)

@@ -4,7 +4,7 @@ use Rattle.cpu_words.specs.Logs.{the_cpu}
 use Rattle.cpu_words.proofs.steps.sections.enter.Goals as goal
 
 pub add-requires-clause-may : goal.add-requires-clause-may
-add-requires-clause-may c = enter_may _ _ _ c.requires.cpu.1 c.requires.may
+add-requires-clause-may c = rw c.section_place.ensures.place (enter_may _ _ _ c.requires.cpu.1 c.requires.may)
 
 pub add-requires-clause-own : goal.add-requires-clause-own
 add-requires-clause-own c n = (ap the_cpu (sym c.requires.cpu.1), tt)
