@@ -64,6 +64,10 @@ AreApart i j = (i + 9 ≤ j) ⊎ (j + 9 ≤ i)
 abbrev pub LinesApart : Type 0
 LinesApart = (z : Settings) → IsTrue (are_fit z) → (p q : Spot) → IsSpot z p → IsSpot z q → (owner p ≡ owner q → ⊥) → AreApart (index p) (index q)
 
+-- The first sixteen words, two lines of eight, are none of these: no step writes them.
+abbrev pub FirstWordsFree : Type 0
+FirstWordsFree = (z : Settings) → IsTrue (are_fit z) → (p : Spot) → IsSpot z p → 16 ≤ index p
+
 -- Two different words are at different places.
 abbrev pub OnePlace : Type 0
 OnePlace = (z : Settings) → IsTrue (are_fit z) → (p q : Spot) → IsSpot z p → IsSpot z q → (p ≡ q → ⊥) → index p ≡ index q → ⊥

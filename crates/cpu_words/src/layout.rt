@@ -1,6 +1,7 @@
 //! Where the words of the table lie. Code, specs (`index` in specs/Spots.antt) and proofs speak by what is named here, and by no number.
 //!
 //! place                              word                                              written by
+//! 0 to 15                            none                                              no one, once the table is made
 //! ROWS + ROW * c                     section of CPU c                                  CPU c
 //! ROWS + ROW * c + PASSIVES + t      passive references of CPU c to slot t's entry     CPU c
 //! ROWS + ROW * c + COUNTS + t        count of CPU c for slot t                         CPU c, the keeper
@@ -12,7 +13,7 @@
 //! CPUs c and slots t count from 0. A table has room for the most CPUs and slots that settings may have: no place depends on them.
 
 ghost use Rattle.std.specs.Prelude.{◌≡◌, ◌<◌, ◌≤◌, ◌-◌};
-ghost use Rattle.cpu_words.specs.Spots.{section_of, passive_of, count_of, next_of, record_of, total_of, index, LinesApart, OnePlace};
+ghost use Rattle.cpu_words.specs.Spots.{section_of, passive_of, count_of, next_of, record_of, total_of, index, LinesApart, OnePlace, FirstWordsFree};
 
 /// The most CPUs.
 const CPUS: usize = 8;
@@ -20,8 +21,9 @@ const CPUS: usize = 8;
 /// The most slots.
 const SLOTS: usize = 32;
 
-/// The row of CPU 0.
-const ROWS: usize = 0;
+/// The row of CPU 0. Whoever cuts a seat in two or joins two loads word 0, so that its line is in many caches: nothing is written on it,
+/// nor on the next one, which a processor may fetch with it.
+const ROWS: usize = 16;
 
 /// From a CPU's row to the next one: 65 words, and 15 that no one writes.
 const ROW: usize = 80;
@@ -103,8 +105,10 @@ pub(crate) fn total_place(slot: u8) -> usize
 
 /// Does nothing; its contract says where the words lie, for all settings that are fit. `lines_apart`: a CPU's words are at least nine
 /// words from another CPU's and from the shared ones, and so share no line of 64 bytes with them, wherever the block begins.
-/// `one_place`: two different words are at different places.
+/// `one_place`: two different words are at different places. `first_words_free`: none is among the first sixteen, where word 0 is loaded
+/// as a seat is cut in two or two are joined.
 pub fn layout_law()
     ensures lines_apart { LinesApart }
     ensures one_place { OnePlace }
+    ensures first_words_free { FirstWordsFree }
 {}

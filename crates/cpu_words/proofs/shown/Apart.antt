@@ -4,7 +4,7 @@ use Rattle.std.proofs.lemmas.Bool.{cases_order}
 use Rattle.registry_values.specs.declared.settings.Settings.{Settings}
 use Rattle.registry_values.specs.Limits.{are_fit}
 use Rattle.registry_values.proofs.Fit.{ranges}
-use Rattle.cpu_words.specs.Spots.{Spot, section_of, passive_of, count_of, head_word, next_of, record_of, total_of, index, IsSpot, owner, AreApart, LinesApart, OnePlace}
+use Rattle.cpu_words.specs.Spots.{Spot, section_of, passive_of, count_of, head_word, next_of, record_of, total_of, index, IsSpot, owner, AreApart, LinesApart, OnePlace, FirstWordsFree}
 use Rattle.cpu_words.proofs.shown.Placing.{same_spot}
 
 -- a CPU's words lie in its row, and the shared ones behind all rows
@@ -35,6 +35,16 @@ rows_apart (Some c) (Some d) i j at there other = ⊎_elim
 -- words of two owners share no line
 pub lines_apart : LinesApart
 lines_apart z fit p q here there other = rows_apart (owner p) (owner q) (index p) (index q) (lies_in z fit p here) (lies_in z fit q there) other
+
+-- no word is among the first
+pub first_words_free : FirstWordsFree
+first_words_free z fit (section_of c) here = omega arith
+first_words_free z fit (passive_of c t) here = omega arith
+first_words_free z fit (count_of c t) here = omega arith
+first_words_free z fit head_word here = omega arith
+first_words_free z fit (next_of t) here = omega arith
+first_words_free z fit (record_of t k) here = omega arith
+first_words_free z fit (total_of t) here = omega arith
 
 -- two words share no place
 pub one_place : OnePlace
