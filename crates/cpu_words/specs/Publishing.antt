@@ -1,5 +1,5 @@
 -- Publish and Unpublish by the keeper's seat: one store of a link each, which the keeper knows from the live numbers of its own view.
-use Rattle.std.specs.Prelude.{◌≡◌, ℕ, suc, ◌+◌, ◌*◌, ◌<◌, ◌≤◌, true, false, List, length, replicate, slice_index_or, slice_set, Option, Some, None}
+use Rattle.std.specs.Prelude.{◌≡◌, ℕ, suc, ◌+◌, ◌<◌, ◌≤◌, true, false, List, length, replicate, slice_index_or, slice_set, Option, Some, None}
 use Rattle.registry_values.specs.declared.entry.Entry.{Entry}
 use Rattle.registry_values.specs.declared.entry.Change.TheVariants.{Attach, Detach}
 use Rattle.protocol.specs.declared.event.Event.{Event}

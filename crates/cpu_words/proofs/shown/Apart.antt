@@ -1,5 +1,5 @@
 -- The words of two owners are at least nine words apart.
-use Rattle.std.proofs.Common.{◌≡◌, inl, inr, ⊎_elim, ℕ, ◌+◌, ◌*◌, ◌<◌, ◌≤◌, Option, Some, None, IsTrue, refl, sym, ap, arith}
+use Rattle.std.proofs.Common.{◌≡◌, inl, inr, ⊎_elim, ℕ, ◌<◌, ◌≤◌, Option, Some, None, IsTrue, refl, sym, ap, arith}
 use Rattle.std.proofs.lemmas.Bool.{cases_order}
 use Rattle.registry_values.specs.declared.settings.Settings.{Settings}
 use Rattle.registry_values.specs.Limits.{are_fit}
