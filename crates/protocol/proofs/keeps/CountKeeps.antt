@@ -1,9 +1,9 @@
 -- The events on local references keep the invariant.
-use Rattle.std.proofs.Common.{Bool, List, Option, Some, [], ap, arith, false, get_or, inl, inr, length, length-set, ltb-true, not, refl, set, subst, sym, true, ℕ, ⊎_elim, ◌&&◌, ◌+◌, ◌-◌, ◌<◌, ◌∙◌, ◌≡◌, ◌==◌}
+use Rattle.std.proofs.Common.{Bool, List, Option, Some, [], ap, arith, false, get_or, inl, inr, length, length-set, ltb-true, not, refl, subst, sym, true, ℕ, ⊎_elim, ◌&&◌, ◌+◌, ◌-◌, ◌<◌, ◌∙◌, ◌≡◌, ◌==◌}
 use Rattle.std.proofs.lemmas.Bool.{and_parts, cases_Bool, eq-eqb, eqb-true}
 use Rattle.std.specs.Prelude.{if◌then◌else◌, is_none, nat_lt}
 use Rattle.protocol.proofs.counts.Counts as C
-use Rattle.protocol.proofs.keeps.ListKeeps.{CountsOf, may_write_tells, rows_cell, false_from}
+use Rattle.protocol.proofs.keeps.ListKeeps.{CountsOf, cell_sized, may_write_tells, false_from}
 use Rattle.protocol.proofs.keeps.MarkKeeps.{mark_place, may_examine_tells}
 use Rattle.protocol.proofs.keeps.Marking.{list_all_within, marks_write, snapshots_marked}
 use Rattle.protocol.proofs.slots.Occupied.{at_rest_tells, one_number, slot_has, slot_its}
@@ -11,10 +11,10 @@ use Rattle.protocol.proofs.keeps.Passive.{found_not_passed, passive_marked}
 use Rattle.protocol.proofs.keeps.References.{back_holds, due_adding, due_subtracting, giving_holds, hand_seated}
 use Rattle.protocol.proofs.keeps.Referring.{Refers, collect_refers, collected_refers, count_add_refers, count_down_refers, join_keeper_refers, join_refers, keep_refers, split_back_refers, split_refers, total_refers}
 use Rattle.protocol.proofs.keeps.SectionKeeps.{none_from}
-use Rattle.protocol.specs.Events.{after_collect, after_collected, after_count_add, after_count_down, after_count_store, after_hand, after_join_keeper, after_keep, after_split, after_total, exchange, is_drainable, is_driver_slot, is_idle, is_number, least_id, may_collect, may_count, may_examine, may_join, may_join_keeper, may_keep, may_write, some_outcome, with_local}
+use Rattle.protocol.specs.Events.{after_collect, after_collected, after_count_add, after_count_down, after_count_store, after_hand, after_join_keeper, after_keep, after_split, after_total, exchange, is_drainable, is_driver_slot, is_idle, is_number, may_collect, may_count, may_examine, may_join, may_join_keeper, may_keep, may_write, some_outcome}
 use Rattle.registry_values.specs.Marks.{mark_after_collect, are_clear, have_passed, is_clear, is_some_collected, no_mark}
 use Rattle.protocol.specs.Invariant.{AreRows, Holds, IsCounting, IsIn, SnapshotsStand}
-use Rattle.protocol.specs.State.{at_rest, is_empty, State, count_at, found_at, hand_at, kept_at, local_at, mark_at, search_at, total_at, with_cell}
+use Rattle.protocol.specs.State.{at_rest, is_empty, State, count_at, found_at, hand_at, kept_at, local_at, mark_at, search_at, total_at}
 use Rattle.registry_values.specs.Slots.{is_retired, slot_of, slot_at}
 use Rattle.registry_values.specs.Balances.{bias}
 use Rattle.protocol.specs.Taken.{Keeps}
@@ -25,7 +25,7 @@ use Rattle.protocol.specs.declared.state.Due.TheVariants.{Adding, Rest, Snapshot
 use Rattle.protocol.specs.declared.state.Hand.{Hand}
 use Rattle.protocol.specs.declared.state.Hand.TheVariants.{Back, Empty, Giving, Taking}
 use Rattle.protocol.specs.declared.state.LocalPlace.{LocalPlace}
-use Rattle.protocol.specs.declared.state.LocalPlace.TheVariants.{Free, Lifted, Standing}
+use Rattle.protocol.specs.declared.state.LocalPlace.TheVariants.{Lifted, Standing}
 use Rattle.registry_values.specs.declared.slot.Slot.TheVariants.{Live, Retired}
 
 -- the state with other counts and references
@@ -46,48 +46,7 @@ pub record SizesStay (s : State) (counts nets : List (List ℕ)) (totals : List 
 pub counts_keep : (s : State) (counts nets : List (List ℕ)) (totals : List ℕ) (hands : List Hand) (keeps : List (Option ℕ)) (due : Due) (locals : List LocalPlace)
     → Holds s → SizesStay s counts nets totals hands keeps → SnapshotsStand s.settings.cpus s.slots s.marks due
     → CountsOf (with_counts s counts nets totals hands keeps due locals) → Refers (with_counts s counts nets totals hands keeps due locals) → Holds (with_counts s counts nets totals hands keeps due locals)
-counts_keep s counts nets totals hands keeps due locals on sizes snapshots balance refers = record {
-  fit = on.fit;
-  shape = record {
-    sections = on.shape.sections;
-    links = on.shape.links;
-    rows = on.shape.rows;
-    passive = on.shape.passive;
-    passive_rows = on.shape.passive_rows;
-    counts = sizes.count_size;
-    count_rows = sizes.count_rows;
-    totals = sizes.total_size;
-    begins = on.shape.begins;
-    depths = on.shape.depths;
-    seen = on.shape.seen;
-    searches = on.shape.searches;
-    found = on.shape.found;
-    hands = sizes.hand_size;
-    nets = sizes.net_size;
-    net_rows = sizes.net_rows;
-    slots = on.shape.slots;
-    marks = on.shape.marks;
-    mark_rows = on.shape.mark_rows;
-    keeps = sizes.keep_size;
-  };
-  legal = on.legal;
-  room = on.room;
-  slots = on.slots;
-  rows = on.rows;
-  list = on.list;
-  held = on.held;
-  frozen_links = on.frozen_links;
-  grace = on.grace;
-  snapshots = snapshots;
-  seats = refers.seats;
-  sections = on.sections;
-  searches = on.searches;
-  last_found = on.last_found;
-  passive = on.passive;
-  balance = balance;
-  references = refers.references;
-  kept_drivers = refers.kept_drivers;
-}
+counts_keep s counts nets totals hands keeps due locals on sizes snapshots balance refers = assumption
 
 -- the three clauses on references
 pub refers_of : (s : State) → Holds s → Refers s
@@ -132,16 +91,7 @@ only_slot s t n e on is number u f also same = (one_number s.history s.slots t u
 pub count_store_keeps : (s : State) (t c v : ℕ) → Holds s → may_write s t ≡ true → c < s.settings.cpus → Holds (after_count_store s t c v)
 count_store_keeps s t c v on may lt =
     let told = may_write_tells s t on.shape may in
-    counts_keep s (with_cell s.counts t c v) s.nets s.totals s.hands s.keeps s.due s.locals on (record {
-      count_size = length-set s.counts t _ ∙ on.shape.counts;
-      count_rows = rows_cell s.counts t c v on.shape.count_rows;
-      net_size = on.shape.nets;
-      net_rows = on.shape.net_rows;
-      total_size = on.shape.totals;
-      hand_size = on.shape.hands;
-      keep_size = on.shape.keeps;
-    })
-    on.snapshots (C.count_store on.balance c t v lt told.2) (record { references = on.references; kept_drivers = on.kept_drivers; seats = on.seats })
+    assumption (cell_sized s.counts t c v on.shape.counts on.shape.count_rows, C.count_store on.balance c t v lt told.2)
 
 -- the word for an entry that the open section may hold counts
 pub held_counting : (s : State) (c t : ℕ) (e : Entry) → Holds s → found_at s c ≡ Some e → slot_of s.slots e.number ≡ Some t → IsIn e (slot_at s.slots t) × IsCounting s.slots s.marks c t
@@ -175,41 +125,23 @@ count_add_keeps s c t e on found of may =
     let idle = idle_tells s c on p.0 in
     let fits : count_at s.nets c t < bias + s.settings.count_limit = ltb-true (count_at s.nets c t) (bias + s.settings.count_limit) p.1 in
     let counting = held_counting s c t e on found of in
-    counts_keep s (with_cell s.counts t c (count_at s.counts c t + 1)) (with_cell s.nets t c (count_at s.nets c t + 1)) s.totals (set s.hands c (Taking e.number)) s.keeps s.due s.locals on (record {
-      count_size = length-set s.counts t _ ∙ on.shape.counts;
-      count_rows = rows_cell s.counts t c (count_at s.counts c t + 1) on.shape.count_rows;
-      net_size = length-set s.nets t _ ∙ on.shape.nets;
-      net_rows = rows_cell s.nets t c (count_at s.nets c t + 1) on.shape.net_rows;
-      total_size = on.shape.totals;
-      hand_size = length-set s.hands c (Taking e.number) ∙ on.shape.hands;
-      keep_size = on.shape.keeps;
-    })
-    on.snapshots
-    (C.count_add on.balance (fit_of s on) c t e.number e idle.0 counting.0 refl (only_slot s t e.number e on counting.0 refl) counting.1 idle.1 fits)
-    (count_add_refers s c e.number t p.0 of (refers_of s on))
-
--- the hands and places are all that is written
-hands_keep : (s : State) (c : ℕ) (h : Hand) (locals : List LocalPlace) → Holds s → CountsOf (with_counts s s.counts s.nets s.totals (set s.hands c h) s.keeps s.due locals)
-    → Refers (with_counts s s.counts s.nets s.totals (set s.hands c h) s.keeps s.due locals) → Holds (with_counts s s.counts s.nets s.totals (set s.hands c h) s.keeps s.due locals)
-hands_keep s c h locals on balance refers = counts_keep s s.counts s.nets s.totals (set s.hands c h) s.keeps s.due locals on (record {
-  count_size = on.shape.counts;
-  count_rows = on.shape.count_rows;
-  net_size = on.shape.nets;
-  net_rows = on.shape.net_rows;
-  total_size = on.shape.totals;
-  hand_size = length-set s.hands c h ∙ on.shape.hands;
-  keep_size = on.shape.keeps;
-}) on.snapshots balance refers
+    assumption (
+      cell_sized s.counts t c (count_at s.counts c t + 1) on.shape.counts on.shape.count_rows,
+      cell_sized s.nets t c (count_at s.nets c t + 1) on.shape.nets on.shape.net_rows,
+      length-set s.hands c (Taking e.number) ∙ on.shape.hands,
+      C.count_add on.balance (fit_of s on) c t e.number e idle.0 counting.0 refl (only_slot s t e.number e on counting.0 refl) counting.1 idle.1 fits,
+      count_add_refers s c e.number t p.0 of (refers_of s on),
+    )
 
 pub split_keeps : (s : State) (c n : ℕ) → Holds s → hand_at s c ≡ Taking n → Holds (after_split s c n)
 split_keeps s c n on hand =
     let lt : c < s.settings.cpus = hand_within s c on (λ empty. let q : Taking n ≡ Empty = sym hand ∙ empty in cc) in
-    hands_keep s c Empty (with_local s.locals (least_id s.locals) (Standing n)) on (C.split_ref on.balance c n (omega (arith, lt, on.shape.hands)) hand) (split_refers s c n hand (refers_of s on))
+    assumption (length-set s.hands c Empty ∙ on.shape.hands, C.split_ref on.balance c n (omega (arith, lt, on.shape.hands)) hand, split_refers s c n hand (refers_of s on))
 
 pub join_keeps : (s : State) (c n id : ℕ) → Holds s → local_at s.locals id ≡ Standing n → is_idle s c ≡ true → Holds (after_hand s c (Giving n id) id (Lifted c))
 join_keeps s c n id on at idle =
     let told = idle_tells s c on idle in
-    hands_keep s c (Giving n id) (set s.locals id (Lifted c)) on (C.join_ref on.balance c n id (omega (arith, told.0, on.shape.hands)) told.1 at) (join_refers s c n id idle at (refers_of s on))
+    assumption (length-set s.hands c (Giving n id) ∙ on.shape.hands, C.join_ref on.balance c n id (omega (arith, told.0, on.shape.hands)) told.1 at, join_refers s c n id idle at (refers_of s on))
 
 -- the word isn't collected, and one is counted down
 pub count_down_keeps : (s : State) (c n id t : ℕ) → Holds s → hand_at s c ≡ Giving n id → slot_of s.slots n ≡ Some t → count_at s.counts c t ≡ count_at s.nets c t → Holds (after_count_down s c t id)
@@ -217,30 +149,25 @@ count_down_keeps s c n id t on hand of same =
     let lt : c < s.settings.cpus = hand_within s c on (λ empty. let q : Giving n id ≡ Empty = sym hand ∙ empty in cc) in
     let lifted = (giving_holds s.settings.cpus s.slots s.hands s.due s.locals c n id hand on.references).1 in
     let has = slot_has s.slots n t of in
-    counts_keep s (with_cell s.counts t c (count_at s.counts c t - 1)) (with_cell s.nets t c (count_at s.nets c t - 1)) s.totals (set s.hands c Empty) s.keeps s.due (set s.locals id Free) on (record {
-      count_size = length-set s.counts t _ ∙ on.shape.counts;
-      count_rows = rows_cell s.counts t c (count_at s.counts c t - 1) on.shape.count_rows;
-      net_size = length-set s.nets t _ ∙ on.shape.nets;
-      net_rows = rows_cell s.nets t c (count_at s.nets c t - 1) on.shape.net_rows;
-      total_size = on.shape.totals;
-      hand_size = length-set s.hands c Empty ∙ on.shape.hands;
-      keep_size = on.shape.keeps;
-    })
-    on.snapshots
-    (C.count_down on.balance (fit_of s on) c t n id has.1.0 lt has.1.1 has.1.2 (only_slot s t n has.1.0 on has.1.1 has.1.2) (C.is_counting on.balance c t has.1.0 lt has.1.1 same) hand lifted)
-    (count_down_refers s c n id t hand (refers_of s on))
+    assumption (
+      cell_sized s.counts t c (count_at s.counts c t - 1) on.shape.counts on.shape.count_rows,
+      cell_sized s.nets t c (count_at s.nets c t - 1) on.shape.nets on.shape.net_rows,
+      length-set s.hands c Empty ∙ on.shape.hands,
+      C.count_down on.balance (fit_of s on) c t n id has.1.0 lt has.1.1 has.1.2 (only_slot s t n has.1.0 on has.1.1 has.1.2) (C.is_counting on.balance c t has.1.0 lt has.1.1 same) hand lifted,
+      count_down_refers s c n id t hand (refers_of s on),
+    )
 
 -- the word is collected, and the reference stays
 pub collected_keeps : (s : State) (c n id : ℕ) → Holds s → hand_at s c ≡ Giving n id → Holds (after_collected s c n id)
 collected_keeps s c n id on hand =
     let lt : c < s.settings.cpus = hand_within s c on (λ empty. let q : Giving n id ≡ Empty = sym hand ∙ empty in cc) in
-    hands_keep s c (Back n id) s.locals on (C.found_collected on.balance c n id (omega (arith, lt, on.shape.hands)) hand) (collected_refers s c n id hand (refers_of s on))
+    assumption (length-set s.hands c (Back n id) ∙ on.shape.hands, C.found_collected on.balance c n id (omega (arith, lt, on.shape.hands)) hand, collected_refers s c n id hand (refers_of s on))
 
 pub split_back_keeps : (s : State) (c n id : ℕ) → Holds s → hand_at s c ≡ Back n id → Holds (after_hand s c Empty id (Standing n))
 split_back_keeps s c n id on hand =
     let lt : c < s.settings.cpus = hand_within s c on (λ empty. let q : Back n id ≡ Empty = sym hand ∙ empty in cc) in
     let lifted = (back_holds s.settings.cpus s.slots s.hands s.due s.locals c n id hand on.references).1 in
-    hands_keep s c Empty (set s.locals id (Standing n)) on (C.split_back on.balance c n id (omega (arith, lt, on.shape.hands)) hand lifted) (split_back_refers s c n id hand (refers_of s on))
+    assumption (length-set s.hands c Empty ∙ on.shape.hands, C.split_back on.balance c n id (omega (arith, lt, on.shape.hands)) hand lifted, split_back_refers s c n id hand (refers_of s on))
 
 pub collect_keeps : (s : State) (t c : ℕ) → Holds s → may_collect s t c ≡ true → Holds (after_collect s t c)
 collect_keeps s t c on may =
@@ -251,66 +178,24 @@ collect_keeps s t c on may =
     let place = mark_place s t c told.2.0 on told.2.1 told.1 in
     let clear : (mark_at s.marks t c).clear ≡ true = list_all_within is_clear (get_or s.marks t []) s.settings.cpus c no_mark d.1 told.1 place.1 in
     let still : (mark_at s.marks t c).collected ≡ false = false_from (mark_at s.marks t c).collected q.1 in
-    let refers : Refers (after_collect s t c) = collect_refers s t c may (refers_of s on) in
     let stand = snapshots_marked s.settings.cpus s.slots s.marks s.due t c (mark_after_collect (mark_at s.marks t c)) refl on.snapshots in
-    record {
-      fit = on.fit;
-      shape = record {
-        sections = on.shape.sections;
-        links = on.shape.links;
-        rows = on.shape.rows;
-        passive = on.shape.passive;
-        passive_rows = on.shape.passive_rows;
-        counts = length-set s.counts t _ ∙ on.shape.counts;
-        count_rows = rows_cell s.counts t c 0 on.shape.count_rows;
-        totals = on.shape.totals;
-        begins = on.shape.begins;
-        depths = on.shape.depths;
-        seen = on.shape.seen;
-        searches = on.shape.searches;
-        found = on.shape.found;
-        hands = on.shape.hands;
-        nets = on.shape.nets;
-        net_rows = on.shape.net_rows;
-        slots = on.shape.slots;
-        marks = length-set s.marks t _ ∙ on.shape.marks;
-        mark_rows = rows_cell s.marks t c (mark_after_collect (mark_at s.marks t c)) on.shape.mark_rows;
-        keeps = on.shape.keeps;
-      };
-      legal = on.legal;
-      room = on.room;
-      slots = on.slots;
-      rows = on.rows;
-      list = on.list;
-      held = on.held;
-      frozen_links = on.frozen_links;
-      grace = marks_write s.history s.slots s.marks s.section s.begins t c (mark_after_collect (mark_at s.marks t c))
+    let snapshots : SnapshotsStand s.settings.cpus s.slots (after_collect s t c).marks (Adding t (count_at s.counts c t)) = λ u j e is low later. stand u j e is low (λ due. not_at_rest s.due u due.0 told.0 due.1) in
+    assumption (
+      snapshots,
+      cell_sized s.counts t c 0 on.shape.counts on.shape.count_rows,
+      cell_sized s.marks t c (mark_after_collect (mark_at s.marks t c)) on.shape.marks on.shape.mark_rows,
+      marks_write s.history s.slots s.marks s.section s.begins t c (mark_after_collect (mark_at s.marks t c))
           (λ p b e is ends in_ holds. on.grace.passed t p c b e is ends in_ holds) (λ p b w e is ends in_ snap off. on.grace.changed t p c b w e is ends in_ snap off)
-          (λ w e is snap. on.grace.older t c w e is snap) (λ b w e is in_ holds snap same. on.grace.left t c b w e is in_ holds snap same) on.grace;
-      snapshots = λ u j e is low later. stand u j e is low (λ due. not_at_rest s.due u due.0 told.0 due.1);
-      seats = refers.seats;
-      sections = on.sections;
-      searches = on.searches;
-      last_found = on.last_found;
-      passive = passive_marked s.settings.cpus s.settings.passive_limit s.slots s.marks s.passive t c (mark_after_collect (mark_at s.marks t c))
-          (λ e is holds. on.passive.clear c t e is holds) (λ e is holds. clear) on.passive;
-      balance = C.collect on.balance (fit_of s on) c t told.2.0 told.1 told.0 told.2.1 still;
-      references = refers.references;
-      kept_drivers = refers.kept_drivers;
-    }
+          (λ w e is snap. on.grace.older t c w e is snap) (λ b w e is in_ holds snap same. on.grace.left t c b w e is in_ holds snap same) on.grace,
+      passive_marked s.settings.cpus s.settings.passive_limit s.slots s.marks s.passive t c (mark_after_collect (mark_at s.marks t c))
+          (λ e is holds. on.passive.clear c t e is holds) (λ e is holds. clear) on.passive,
+      C.collect on.balance (fit_of s on) c t told.2.0 told.1 told.0 told.2.1 still,
+      collect_refers s t c may (refers_of s on),
+    )
 
 -- a total is all that is written, and the keeper is at rest again
 total_keeps : (s : State) (t v : ℕ) → Holds s → ((u d : ℕ) → s.due ≡ Snapshots u d → ⊥) → CountsOf (after_total s t v) → Holds (after_total s t v)
-total_keeps s t v on none balance = counts_keep s s.counts s.nets (set s.totals t v) s.hands s.keeps Rest s.locals on (record {
-  count_size = on.shape.counts;
-  count_rows = on.shape.count_rows;
-  net_size = on.shape.nets;
-  net_rows = on.shape.net_rows;
-  total_size = length-set s.totals t v ∙ on.shape.totals;
-  hand_size = on.shape.hands;
-  keep_size = on.shape.keeps;
-})
-    (snapshots_all s Rest none on) balance (total_refers s t v (refers_of s on))
+total_keeps s t v on none balance = assumption (length-set s.totals t v ∙ on.shape.totals, snapshots_all s Rest none on, total_refers s t v (refers_of s on))
 
 pub total_add_keeps : (s : State) (t old : ℕ) → Holds s → s.due ≡ Adding t old → Holds (after_total s t (total_at s.totals t + old - bias))
 total_add_keeps s t old on due =
@@ -330,36 +215,22 @@ join_keeper_keeps s id n t on at of may =
     let q = and_parts (at_rest s.due) (is_some_collected s.settings.cpus (get_or s.marks t [])) p.1 in
     let rest : s.due ≡ Rest = at_rest_tells s.due q.0 in
     let has = slot_has s.slots n t of in
-    counts_keep s s.counts s.nets s.totals s.hands s.keeps (Subtracting t) (set s.locals id Free) on (record {
-      count_size = on.shape.counts;
-      count_rows = on.shape.count_rows;
-      net_size = on.shape.nets;
-      net_rows = on.shape.net_rows;
-      total_size = on.shape.totals;
-      hand_size = on.shape.hands;
-      keep_size = on.shape.keeps;
-    })
-    (snapshots_all s (Subtracting t) (λ u d is. not_at_rest s.due u d rest is) on)
-    (C.join_keeper on.balance t n id has.1.0 rest has.1.1 has.1.2 (only_slot s t n has.1.0 on has.1.1 has.1.2) at)
-    (join_keeper_refers s id n t at may (refers_of s on))
+    assumption (
+      snapshots_all s (Subtracting t) (λ u d is. not_at_rest s.due u d rest is) on,
+      C.join_keeper on.balance t n id has.1.0 rest has.1.1 has.1.2 (only_slot s t n has.1.0 on has.1.1 has.1.2) at,
+      join_keeper_refers s id n t at may (refers_of s on),
+    )
 
 pub keep_keeps : (s : State) (t id n u : ℕ) → Holds s → local_at s.locals id ≡ Standing n → slot_of s.slots n ≡ Some u → may_keep s t u ≡ true → Holds (after_keep s t id n)
 keep_keeps s t id n u on at of may =
     let p = and_parts (may_write s t) (is_none (kept_at s.keeps t) && is_driver_slot (slot_at s.slots u)) may in
     let q = and_parts (is_none (kept_at s.keeps t)) (is_driver_slot (slot_at s.slots u)) p.1 in
     let told = may_write_tells s t on.shape p.0 in
-    counts_keep s s.counts s.nets s.totals s.hands (set s.keeps t (Some n)) s.due (set s.locals id Free) on (record {
-      count_size = on.shape.counts;
-      count_rows = on.shape.count_rows;
-      net_size = on.shape.nets;
-      net_rows = on.shape.net_rows;
-      total_size = on.shape.totals;
-      hand_size = on.shape.hands;
-      keep_size = length-set s.keeps t (Some n) ∙ on.shape.keeps;
-    })
-    on.snapshots
-    (C.keep on.balance t n id (omega (arith, told.1, on.shape.slots, on.shape.keeps)) (none_from (kept_at s.keeps t) q.0) at)
-    (keep_refers s t id n u at of may (refers_of s on))
+    assumption (
+      length-set s.keeps t (Some n) ∙ on.shape.keeps,
+      C.keep on.balance t n id (omega (arith, told.1, on.shape.slots, on.shape.keeps)) (none_from (kept_at s.keeps t) q.0) at,
+      keep_refers s t id n u at of may (refers_of s on),
+    )
 
 -- the word decides between counting down and handing back
 pub exchange_keeps : (s : State) (c n id t : ℕ) → Holds s → hand_at s c ≡ Giving n id → slot_of s.slots n ≡ Some t → Keeps (exchange s c n id t)

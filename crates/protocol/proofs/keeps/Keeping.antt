@@ -1,5 +1,5 @@
 -- Each event keeps the core invariant.
-use Rattle.std.proofs.Common.{◌≡◌, ℕ, ◌+◌, ◌-◌, ◌<◌, inr, List, [], ◌∷◌, length, get_or, take, Option, Some, None, Bool, true, false, not, ◌&&◌, ◌==◌, IsTrue, refl, ap, subst, sym, ◌∙◌, arith, ltb-true}
+use Rattle.std.proofs.Common.{◌≡◌, ℕ, ◌-◌, inr, List, [], ◌∷◌, get_or, take, Option, Some, None, Bool, true, false, ◌&&◌, ◌==◌, IsTrue, refl, ap, subst, sym, ◌∙◌, arith, ltb-true}
 use Rattle.std.specs.Prelude.{if◌then◌else◌, is_none, nat_lt}
 use Rattle.std.specs.List.{list_all}
 use Rattle.std.proofs.lemmas.Bool.{and_parts, eqb-true}
@@ -16,9 +16,9 @@ use Rattle.protocol.proofs.keeps.References.{references_snapshot, references_unp
 use Rattle.protocol.proofs.keeps.Referring.{Refers, kept_sub_refers, opening_refers, publish_refers, vacate_refers}
 use Rattle.protocol.proofs.keeps.SearchKeeps.{link_keeps, record_keeps, seek_keeps}
 use Rattle.protocol.proofs.keeps.SectionKeeps.{enter_keeps, exit_keeps, hear_keeps, seat_keeps}
-use Rattle.protocol.specs.Events.{Outcome, after_count_store, after_kept_sub, after_look, after_look_passive, after_publish, after_row_store, after_snapshot, after_unpublish, after_vacate, are_unused, count_down, entry_of, exchange, guard, has_room, hear, is_bias, is_drained, is_iface_slot, is_idle, is_snapshot_due, keeps_rightly, kept_sub, load_record, look, may_add, may_collect, may_count, may_enter, may_examine, may_exit, may_glance, may_join_keeper, may_keep, may_look_passive, may_publish, may_seat, may_seek, may_sub, may_vacate, may_write, snapshot, snapshot_mark, split_back, split_ref, number_standing, state_after, step, store_slot, some_outcome, tell, total_add, total_sub, unpublish, with_some}
+use Rattle.protocol.specs.Events.{Outcome, after_count_store, after_kept_sub, after_look, after_look_passive, after_publish, after_row_store, after_snapshot, after_unpublish, after_vacate, count_down, entry_of, exchange, guard, hear, is_bias, is_drained, is_iface_slot, is_idle, is_snapshot_due, kept_sub, load_record, look, may_add, may_collect, may_count, may_enter, may_examine, may_exit, may_glance, may_join_keeper, may_keep, may_look_passive, may_publish, may_seat, may_seek, may_sub, may_vacate, may_write, snapshot, snapshot_mark, split_back, split_ref, number_standing, state_after, step, store_slot, some_outcome, tell, total_add, total_sub, unpublish, with_some}
 use Rattle.registry_values.specs.Marks.{mark_after_passive_look, mark_after_look}
-use Rattle.registry_values.specs.Slots.{key_of, is_taken, slot_of, slot_at}
+use Rattle.registry_values.specs.Slots.{slot_of, slot_at}
 use Rattle.protocol.specs.Invariant.{Holds, held_at}
 use Rattle.registry_values.specs.Limits.{are_fit}
 use Rattle.protocol.specs.Run.{Run, run_of_events, run_with_event}
@@ -45,22 +45,13 @@ use Rattle.registry_values.specs.declared.slot.Slot.TheVariants.{Live, Retired, 
 
 pub publish_keeps : (s : State) (t : ℕ) (e : Entry) → Holds s → entry_of t (row_at s.rows t) ≡ Some e → may_publish s t e ≡ true → Holds (after_publish s t e)
 publish_keeps s t e on is may =
-    let p0 = and_parts (may_write s t) (e.number == length s.history + 1 && (not (is_taken (key_of e) s.slots)
-    && (has_room s && (get_or s.next t 0 == s.head && (are_unused s t && keeps_rightly (kept_at s.keeps t) e.rec.kind))))) may in
-    let p1 = and_parts (e.number == length s.history + 1) (not (is_taken (key_of e) s.slots)
-    && (has_room s && (get_or s.next t 0 == s.head && (are_unused s t && keeps_rightly (kept_at s.keeps t) e.rec.kind)))) p0.1 in
-    let p2 = and_parts (not (is_taken (key_of e) s.slots)) (has_room s && (get_or s.next t 0 == s.head && (are_unused s t && keeps_rightly (kept_at s.keeps t) e.rec.kind))) p1.1 in
-    let p3 = and_parts (has_room s) (get_or s.next t 0 == s.head && (are_unused s t && keeps_rightly (kept_at s.keeps t) e.rec.kind)) p2.1 in
-    let p4 = and_parts (get_or s.next t 0 == s.head) (are_unused s t && keeps_rightly (kept_at s.keeps t) e.rec.kind) p3.1 in
-    let p5 = and_parts (are_unused s t) (keeps_rightly (kept_at s.keeps t) e.rec.kind) p4.1 in
-    let unused = and_parts (list_all is_bias (take s.settings.cpus (get_or s.counts t []))) (total_at s.totals t == bias) p5.0 in
-    let told = L.may_write_tells s t on.shape p0.0 in
-    let number : length s.history < e.number = omega (arith, eqb-true e.number (length s.history + 1) p1.0) in
+    let told = L.may_publish_tells s t e on.shape may in
+    let unused = and_parts (list_all is_bias (take s.settings.cpus (get_or s.counts t []))) (total_at s.totals t == bias) told.unused in
     let none : held_at s.locals s.hands s.keeps s.due e.number t ≡ 0 =
-    published_held s.history s.settings.cpus s.slots s.hands s.keeps s.due s.locals e.number t on.slots number told.0 on.references on.kept_drivers in
-    let refers : Refers (after_publish s t e) = publish_refers s t e on.shape.slots p0.0 p5.1 (refers_of s on) in
+    published_held s.history s.settings.cpus s.slots s.hands s.keeps s.due s.locals e.number t on.slots (omega (arith, told.number)) told.rest on.references on.kept_drivers in
+    let refers : Refers (after_publish s t e) = publish_refers s t e on.shape.slots (and_parts (may_write s t) _ may).0 told.rightly (refers_of s on) in
     L.publish_keeps s t e on is may
-    (C.publish on.balance (fit_of s on) t e told.1 told.2 told.0 (λ c lt. bias_at (fit_of s on) t c told.1 lt unused.0) none)
+    (C.publish on.balance (fit_of s on) t e told.within told.vacant told.rest (λ c lt. bias_at (fit_of s on) t c told.within lt unused.0) none)
     refers.references refers.kept_drivers
 
 pub unpublish_keeps : (s : State) (t : ℕ) (e : Entry) → Holds s → slot_at s.slots t ≡ Live e → at_rest s.due ≡ true → Holds (after_unpublish s t e)

@@ -12,12 +12,12 @@ use Rattle.protocol.proofs.keeps.Marking.{marks_detach, snapshots_detach}
 use Rattle.protocol.proofs.keeps.Passive.{passive_attach, passive_detach}
 use Rattle.protocol.proofs.keeps.Publishing.{held_attach, legal_attach, links_attach, list_attach, marks_attach, rows_attach, slots_attach, snapshots_attach}
 use Rattle.protocol.proofs.keeps.Unlinking.{before_leads, head_leads, head_leads_on, held_detach, legal_detach, link_to, links_detach, list_unlink_head, list_unlink_mid, rows_detach, slots_detach, within_live}
-use Rattle.protocol.specs.Events.{after_link_store, after_publish, after_row_store, after_unpublish, are_unused, entry_if, entry_of, has_room, keeps_rightly, kind_of, may_publish, may_write, with_retired, with_link_past, with_word, words_of}
+use Rattle.protocol.specs.Events.{after_link_store, after_publish, after_row_store, after_unpublish, are_unused, entry_if, entry_of, has_room, is_prepared, keeps_rightly, kind_of, may_publish, may_write, with_retired, with_link_past, with_word, words_of}
 use Rattle.protocol.specs.History.{after_change}
 use Rattle.registry_values.specs.Slots.{key_of, is_live, is_live_as, is_taken, is_vacant, kind_word, live_count, same_key, same_kind, same_name, slot_before, slot_at}
 use Rattle.protocol.specs.Invariant.{AreRows, CountsHold, DriversKept, HasShape, Holds, IsIn, Leads, LinksStay, ListShows, ReferencesHold, RowsShow, SnapshotsStand, one_if}
 use Rattle.registry_values.specs.Names.{are_name_words}
-use Rattle.protocol.specs.State.{at_rest, State, kept_at, no_words, row_at}
+use Rattle.protocol.specs.State.{at_rest, State, kept_at, no_words, row_at, with_cell}
 use Rattle.registry_values.specs.Balances.{bias}
 use Rattle.registry_values.specs.Marks.{no_mark}
 use Rattle.registry_values.specs.declared.entry.Change.TheVariants.{Attach, Detach}
@@ -51,6 +51,39 @@ may_write_tells s t shape may =
     let p = and_parts (at_rest s.due) (nat_lt t s.settings.slots && is_vacant (slot_at s.slots t)) may in
     let q = and_parts (nat_lt t s.settings.slots) (is_vacant (slot_at s.slots t)) p.1 in
     (at_rest_tells s.due p.0, omega (arith, ltb-true t s.settings.slots q.0, shape.slots), is_vacant_tells (slot_at s.slots t) q.1)
+
+-- what an entry that may be published shows
+pub record IsPublishable (s : State) (t : ℕ) (e : Entry) : Type 0 where
+  pub rest : s.due ≡ Rest
+  pub within : t < length s.slots
+  pub vacant : slot_at s.slots t ≡ Vacant
+  pub number : e.number ≡ suc (length s.history)
+  pub free : is_taken (key_of e) s.slots ≡ false
+  pub room : length s.history + live_count s.slots + 2 ≤ s.settings.change_limit
+  pub link : get_or s.next t 0 ≡ s.head
+  pub unused : are_unused s t ≡ true
+  pub rightly : keeps_rightly (kept_at s.keeps t) e.rec.kind ≡ true
+
+pub may_publish_tells : (s : State) (t : ℕ) (e : Entry) → HasShape s → may_publish s t e ≡ true → IsPublishable s t e
+may_publish_tells s t e shape may =
+    let write = and_parts (may_write s t) (e.number == length s.history + 1 && (not (is_taken (key_of e) s.slots) && (has_room s && is_prepared s t e.rec.kind))) may in
+    let numbered = and_parts (e.number == length s.history + 1) (not (is_taken (key_of e) s.slots) && (has_room s && is_prepared s t e.rec.kind)) write.1 in
+    let free = and_parts (not (is_taken (key_of e) s.slots)) (has_room s && is_prepared s t e.rec.kind) numbered.1 in
+    let room = and_parts (has_room s) (is_prepared s t e.rec.kind) free.1 in
+    let linked = and_parts (get_or s.next t 0 == s.head) (are_unused s t && keeps_rightly (kept_at s.keeps t) e.rec.kind) room.1 in
+    let unused = and_parts (are_unused s t) (keeps_rightly (kept_at s.keeps t) e.rec.kind) linked.1 in
+    let told = may_write_tells s t shape write.0 in
+    record {
+      rest = told.0;
+      within = told.1;
+      vacant = told.2;
+      number = omega (arith, eqb-true e.number (length s.history + 1) numbered.0);
+      free = false_from (is_taken (key_of e) s.slots) free.0;
+      room = leb-true (length s.history + live_count s.slots + 2) s.settings.change_limit room.0;
+      link = eqb-true (get_or s.next t 0) s.head linked.0;
+      unused = unused.0;
+      rightly = unused.1;
+    }
 
 same_kind_own : (k : Kind) → same_kind k k ≡ true
 same_kind_own Iface = refl
@@ -87,6 +120,10 @@ rows_cell {X} rows t c x are u lt = ⊎_elim
     ap (λ (r : List (List X)). length (get_or r u [])) same ∙ are u (subst (λ (r : List (List X)). u < length r) same lt))
     (cases_lt t (length rows))
 
+-- they are as many as before, too
+pub cell_sized : {X : Type 0} (rows : List (List X)) (t c : ℕ) (x : X) {n : ℕ} → length rows ≡ n → AreRows rows → (length (with_cell rows t c x) ≡ n) × AreRows (with_cell rows t c x)
+cell_sized {X} rows t c x size are = (length-set rows t (set (get_or rows t []) c x) ∙ size, rows_cell rows t c x are)
+
 -- a write to a vacant slot's words
 rows_store : (slots : List Slot) (rows : List RecordWords) (t : ℕ) (r : RecordWords) → slot_at slots t ≡ Vacant → RowsShow slots rows → RowsShow slots (set rows t r)
 rows_store slots rows t r vacant show u f is =
@@ -97,96 +134,18 @@ rows_store slots rows t r vacant show u f is =
 pub row_store_keeps : (s : State) (t k v : ℕ) → Holds s → may_write s t ≡ true → Holds (after_row_store s t k v)
 row_store_keeps s t k v on may =
     let told = may_write_tells s t on.shape may in
-    record {
-      fit = on.fit;
-      shape = record {
-        sections = on.shape.sections;
-        links = on.shape.links;
-        rows = length-set s.rows t (with_word (row_at s.rows t) k v) ∙ on.shape.rows;
-        passive = on.shape.passive;
-        passive_rows = on.shape.passive_rows;
-        counts = on.shape.counts;
-        count_rows = on.shape.count_rows;
-        totals = on.shape.totals;
-        begins = on.shape.begins;
-        depths = on.shape.depths;
-        seen = on.shape.seen;
-        searches = on.shape.searches;
-        found = on.shape.found;
-        hands = on.shape.hands;
-        nets = on.shape.nets;
-        net_rows = on.shape.net_rows;
-        slots = on.shape.slots;
-        marks = on.shape.marks;
-        mark_rows = on.shape.mark_rows;
-        keeps = on.shape.keeps;
-      };
-      legal = on.legal;
-      room = on.room;
-      slots = on.slots;
-      rows = rows_store s.slots s.rows t (with_word (row_at s.rows t) k v) told.2 on.rows;
-      list = on.list;
-      held = on.held;
-      frozen_links = on.frozen_links;
-      grace = on.grace;
-      snapshots = on.snapshots;
-      seats = on.seats;
-      sections = on.sections;
-      searches = on.searches;
-      last_found = on.last_found;
-      passive = on.passive;
-      balance = on.balance;
-      references = on.references;
-      kept_drivers = on.kept_drivers;
-    }
+    assumption (length-set s.rows t (with_word (row_at s.rows t) k v) ∙ on.shape.rows, rows_store s.slots s.rows t (with_word (row_at s.rows t) k v) told.2 on.rows)
 
 pub link_store_keeps : (s : State) (t v : ℕ) → Holds s → may_write s t ≡ true → Holds (after_link_store s t v)
 link_store_keeps s t v on may =
     let told = may_write_tells s t on.shape may in
     let same : (u : ℕ) (f : Entry) → IsIn f (slot_at s.slots u) → get_or (set s.next t v) u 0 ≡ get_or s.next u 0 =
     λ u f is. get_or-set_other s.next t u v 0 (λ same. not_vacant f (slot_at s.slots u) (ap (slot_at s.slots) same ∙ told.2) is) in
-    record {
-      fit = on.fit;
-      shape = record {
-        sections = on.shape.sections;
-        links = length-set s.next t v ∙ on.shape.links;
-        rows = on.shape.rows;
-        passive = on.shape.passive;
-        passive_rows = on.shape.passive_rows;
-        counts = on.shape.counts;
-        count_rows = on.shape.count_rows;
-        totals = on.shape.totals;
-        begins = on.shape.begins;
-        depths = on.shape.depths;
-        seen = on.shape.seen;
-        searches = on.shape.searches;
-        found = on.shape.found;
-        hands = on.shape.hands;
-        nets = on.shape.nets;
-        net_rows = on.shape.net_rows;
-        slots = on.shape.slots;
-        marks = on.shape.marks;
-        mark_rows = on.shape.mark_rows;
-        keeps = on.shape.keeps;
-      };
-      legal = on.legal;
-      room = on.room;
-      slots = on.slots;
-      rows = on.rows;
-      list = record { first = on.list.first; links = λ u f is. subst (Leads s.history (length s.history) f.number) (sym (same u f (inl is))) (on.list.links u f is) };
-      held = on.held;
-      frozen_links = λ u p c b f is ends in_ low. subst (Leads s.history p f.number) (sym (same u f (inr is))) (on.frozen_links u p c b f is ends in_ low);
-      grace = on.grace;
-      snapshots = on.snapshots;
-      seats = on.seats;
-      sections = on.sections;
-      searches = on.searches;
-      last_found = on.last_found;
-      passive = on.passive;
-      balance = on.balance;
-      references = on.references;
-      kept_drivers = on.kept_drivers;
-    }
+    let list : ListShows s.history s.slots s.head (set s.next t v) =
+    record { first = on.list.first; links = λ u f is. subst (Leads s.history (length s.history) f.number) (sym (same u f (inl is))) (on.list.links u f is) } in
+    let frozen : LinksStay s.history s.slots (set s.next t v) s.begins =
+    λ u p c b f is ends in_ low. subst (Leads s.history p f.number) (sym (same u f (inr is))) (on.frozen_links u p c b f is ends in_ low) in
+    assumption (length-set s.next t v ∙ on.shape.links)
 
 kind_from : (w : ℕ) (k : Kind) → kind_of w ≡ Some k → w ≡ kind_word k
 kind_from zero k is = absurd (none-some k is)
@@ -216,66 +175,30 @@ entry_shows t r e is = go (kind_of r.kind) refl is
 publish_own : (s : State) (e : Entry) → Holds s → row_at s.rows e.slot ≡ words_of e → are_name_words e.rec.name.high e.rec.name.low ≡ true → may_publish s e.slot e ≡ true
     → CountsOf (after_publish s e.slot e) → ReferencesOf (after_publish s e.slot e) → DriversOf (after_publish s e.slot e) → Holds (after_publish s e.slot e)
 publish_own s e on row name may counts references drivers =
-    let p0 = and_parts (may_write s e.slot) (e.number == length s.history + 1 && (not (is_taken (key_of e) s.slots)
-    && (has_room s && (get_or s.next e.slot 0 == s.head && (are_unused s e.slot && keeps_rightly (kept_at s.keeps e.slot) e.rec.kind))))) may in
-    let p1 = and_parts (e.number == length s.history + 1) (not (is_taken (key_of e) s.slots)
-    && (has_room s && (get_or s.next e.slot 0 == s.head && (are_unused s e.slot && keeps_rightly (kept_at s.keeps e.slot) e.rec.kind)))) p0.1 in
-    let p2 = and_parts (not (is_taken (key_of e) s.slots)) (has_room s && (get_or s.next e.slot 0 == s.head && (are_unused s e.slot && keeps_rightly (kept_at s.keeps e.slot) e.rec.kind))) p1.1 in
-    let p3 = and_parts (has_room s) (get_or s.next e.slot 0 == s.head && (are_unused s e.slot && keeps_rightly (kept_at s.keeps e.slot) e.rec.kind)) p2.1 in
-    let p4 = and_parts (get_or s.next e.slot 0 == s.head) (are_unused s e.slot && keeps_rightly (kept_at s.keeps e.slot) e.rec.kind) p3.1 in
-    let told = may_write_tells s e.slot on.shape p0.0 in
-    let lt : e.slot < length s.slots = told.1 in
-    let vacant : slot_at s.slots e.slot ≡ Vacant = told.2 in
-    let number : e.number ≡ suc (length s.history) = omega (arith, eqb-true e.number (length s.history + 1) p1.0) in
-    let link : get_or s.next e.slot 0 ≡ s.head = eqb-true (get_or s.next e.slot 0) s.head p4.0 in
-    let free : is_taken (key_of e) s.slots ≡ false = false_from (is_taken (key_of e) s.slots) p2.0 in
-    let fits : length s.history + live_count s.slots + 2 ≤ s.settings.change_limit = leb-true (length s.history + live_count s.slots + 2) s.settings.change_limit p3.0 in
-    let more : live_count (set s.slots e.slot (Live e)) + 0 ≡ live_count s.slots + 1 = live_count_put s.slots e.slot Vacant (Live e) lt vacant in
+    let told = may_publish_tells s e.slot e on.shape may in
+    let more : live_count (set s.slots e.slot (Live e)) + 0 ≡ live_count s.slots + 1 = live_count_put s.slots e.slot Vacant (Live e) told.within told.vacant in
     let size : length (after_change s.history (Attach e)) ≡ suc (length s.history) = length-after_change s.history (Attach e) in
-    record {
-      fit = on.fit;
-      shape = record {
-        sections = on.shape.sections;
-        links = on.shape.links;
-        rows = on.shape.rows;
-        passive = on.shape.passive;
-        passive_rows = on.shape.passive_rows;
-        counts = on.shape.counts;
-        count_rows = on.shape.count_rows;
-        totals = on.shape.totals;
-        begins = on.shape.begins;
-        depths = on.shape.depths;
-        seen = on.shape.seen;
-        searches = on.shape.searches;
-        found = on.shape.found;
-        hands = on.shape.hands;
-        nets = length-set s.nets e.slot (replicate 8 bias) ∙ on.shape.nets;
-        net_rows = rows_put s.nets e.slot (replicate 8 bias) refl on.shape.net_rows;
-        slots = length-set s.slots e.slot (Live e) ∙ on.shape.slots;
-        marks = on.shape.marks;
-        mark_rows = on.shape.mark_rows;
-        keeps = on.shape.keeps;
-      };
-      legal = legal_attach s.history e on.legal number
-          (λ f live same. let q : ◌≡◌ {A = Bool} true false = sym (taken_from (key_of e) s.slots f.slot f (on.slots.placed f live) same) ∙ free in cc)
-          (λ f live same. let q : Live f ≡ Vacant = sym (on.slots.placed f live) ∙ (ap (slot_at s.slots) same ∙ vacant) in cc);
-      room = omega (arith, size, more, fits);
-      slots = slots_attach s.history s.slots e on.legal lt vacant number on.slots;
-      rows = rows_attach s.slots s.rows e lt row name on.rows;
-      list = subst (λ (n : ℕ). ListShows (after_change s.history (Attach e)) (set s.slots e.slot (Live e)) n s.next) (omega arith) (list_attach s.history s.slots s.head s.next e on.legal lt number link on.slots on.list);
-      held = held_attach s.history s.slots s.begins e lt vacant number on.held;
-      frozen_links = links_attach s.history s.slots s.next s.begins e lt on.frozen_links;
-      grace = marks_attach s.history s.slots s.marks s.section s.begins e lt on.grace;
-      snapshots = snapshots_attach s.settings.cpus s.slots s.marks s.due e lt on.snapshots;
-      seats = on.seats;
-      sections = sections_old s.settings s.history (Attach e) s.section s.begins s.depths s.seen on.sections;
-      searches = searches_old s.settings s.history (Attach e) s.section s.begins s.depths s.seen s.searches on.sections on.searches;
-      last_found = found_old s.settings s.history (Attach e) s.section s.begins s.depths s.seen s.found on.sections on.last_found;
-      passive = passive_attach s.settings.cpus s.settings.passive_limit s.slots s.marks s.passive e lt on.passive;
-      balance = counts;
-      references = references;
-      kept_drivers = drivers;
-    }
+    let list : ListShows (after_change s.history (Attach e)) (set s.slots e.slot (Live e)) (e.slot + 1) s.next =
+    subst (λ (n : ℕ). ListShows (after_change s.history (Attach e)) (set s.slots e.slot (Live e)) n s.next) (omega arith) (list_attach s.history s.slots s.head s.next e on.legal told.within told.number told.link on.slots on.list) in
+    let room : length (after_change s.history (Attach e)) + live_count (set s.slots e.slot (Live e)) ≤ s.settings.change_limit = omega (arith, size, more, told.room) in
+    assumption (
+      length-set s.nets e.slot (replicate 8 bias) ∙ on.shape.nets,
+      rows_put s.nets e.slot (replicate 8 bias) refl on.shape.net_rows,
+      length-set s.slots e.slot (Live e) ∙ on.shape.slots,
+      legal_attach s.history e on.legal told.number
+          (λ f live same. let q : ◌≡◌ {A = Bool} true false = sym (taken_from (key_of e) s.slots f.slot f (on.slots.placed f live) same) ∙ told.free in cc)
+          (λ f live same. let q : Live f ≡ Vacant = sym (on.slots.placed f live) ∙ (ap (slot_at s.slots) same ∙ told.vacant) in cc),
+      slots_attach s.history s.slots e on.legal told.within told.vacant told.number on.slots,
+      rows_attach s.slots s.rows e told.within row name on.rows,
+      held_attach s.history s.slots s.begins e told.within told.vacant told.number on.held,
+      links_attach s.history s.slots s.next s.begins e told.within on.frozen_links,
+      marks_attach s.history s.slots s.marks s.section s.begins e told.within on.grace,
+      snapshots_attach s.settings.cpus s.slots s.marks s.due e told.within on.snapshots,
+      sections_old s.settings s.history (Attach e) s.section s.begins s.depths s.seen on.sections,
+      searches_old s.settings s.history (Attach e) s.section s.begins s.depths s.seen s.searches on.sections on.searches,
+      found_old s.settings s.history (Attach e) s.section s.begins s.depths s.seen s.found on.sections on.last_found,
+      passive_attach s.settings.cpus s.settings.passive_limit s.slots s.marks s.passive e told.within on.passive,
+    )
 
 pub publish_keeps : (s : State) (t : ℕ) (e : Entry) → Holds s → entry_of t (row_at s.rows t) ≡ Some e → may_publish s t e ≡ true
     → CountsOf (after_publish s t e) → ReferencesOf (after_publish s t e) → DriversOf (after_publish s t e) → Holds (after_publish s t e)
@@ -284,85 +207,34 @@ publish_keeps s t e on is =
     subst (λ (u : ℕ). row_at s.rows u ≡ words_of e → may_publish s u e ≡ true → CountsOf (after_publish s u e) → ReferencesOf (after_publish s u e) → DriversOf (after_publish s u e) → Holds (after_publish s u e))
     told.0 (λ row may counts references drivers. publish_own s e on row told.2 may counts references drivers) told.1
 
--- the shape after an unlinking, by either store
-shape_unlinked : (s : State) (e : Entry) (o : Option ℕ) → HasShape s → HasShape (with_retired (with_link_past s e.slot o) e.slot e)
-shape_unlinked s e None shape = record {
-  sections = shape.sections;
-  links = shape.links;
-  rows = shape.rows;
-  passive = shape.passive;
-  passive_rows = shape.passive_rows;
-  counts = shape.counts;
-  count_rows = shape.count_rows;
-  totals = shape.totals;
-  begins = shape.begins;
-  depths = shape.depths;
-  seen = shape.seen;
-  searches = shape.searches;
-  found = shape.found;
-  hands = shape.hands;
-  nets = shape.nets;
-  net_rows = shape.net_rows;
-  slots = length-set s.slots e.slot (Retired e) ∙ shape.slots;
-  marks = length-set s.marks e.slot (replicate 8 no_mark) ∙ shape.marks;
-  mark_rows = rows_put s.marks e.slot (replicate 8 no_mark) refl shape.mark_rows;
-  keeps = shape.keeps;
-}
-shape_unlinked s e (Some p) shape = record {
-  sections = shape.sections;
-  links = length-set s.next p (get_or s.next e.slot 0) ∙ shape.links;
-  rows = shape.rows;
-  passive = shape.passive;
-  passive_rows = shape.passive_rows;
-  counts = shape.counts;
-  count_rows = shape.count_rows;
-  totals = shape.totals;
-  begins = shape.begins;
-  depths = shape.depths;
-  seen = shape.seen;
-  searches = shape.searches;
-  found = shape.found;
-  hands = shape.hands;
-  nets = shape.nets;
-  net_rows = shape.net_rows;
-  slots = length-set s.slots e.slot (Retired e) ∙ shape.slots;
-  marks = length-set s.marks e.slot (replicate 8 no_mark) ∙ shape.marks;
-  mark_rows = rows_put s.marks e.slot (replicate 8 no_mark) refl shape.mark_rows;
-  keeps = shape.keeps;
-}
-
 -- the first store leaves all but the head and one link
 fit_unlinked : (s : State) (e : Entry) (head : ℕ) (next : List ℕ) → Holds s → slot_at s.slots e.slot ≡ Live e → at_rest s.due ≡ true
-    → HasShape (with_retired (record s { head = head; next = next }) e.slot e)
+    → length next ≡ length s.next
     → ListShows (after_change s.history (Detach e.number)) (set s.slots e.slot (Retired e)) head next
     → LinksStay (after_change s.history (Detach e.number)) (set s.slots e.slot (Retired e)) next s.begins
     → CountsOf (with_retired s e.slot e) → ReferencesOf (with_retired s e.slot e) → DriversOf (with_retired s e.slot e) → Holds (with_retired (record s { head = head; next = next }) e.slot e)
-fit_unlinked s e head next on at rest shape list links counts references drivers =
+fit_unlinked s e head next on at rest next_size list links counts references drivers =
     let lt : e.slot < length s.slots = within_live s.slots e.slot e at in
     let lm : e.slot < length s.marks = omega (arith, on.shape.slots, on.shape.marks) in
     let less : live_count (set s.slots e.slot (Retired e)) + 1 ≡ live_count s.slots + 0 = live_count_put s.slots e.slot (Live e) (Retired e) lt at in
     let size : length (after_change s.history (Detach e.number)) ≡ suc (length s.history) = length-after_change s.history (Detach e.number) in
-    record {
-      fit = on.fit;
-      shape = shape;
-      legal = legal_detach s.history e on.legal (on.slots.live e.slot e at).0;
-      room = omega (arith, size, less, on.room);
-      slots = slots_detach s.history s.slots e on.legal at on.slots;
-      rows = rows_detach s.slots s.rows e at on.rows;
-      list = list;
-      held = held_detach s.history s.slots s.begins e at on.held;
-      frozen_links = links;
-      grace = marks_detach s.history s.slots s.marks s.section s.begins e 8 at (on.shape.marks ∙ sym on.shape.slots) on.slots on.grace;
-      snapshots = snapshots_detach s.settings.cpus s.slots s.marks e 8 lt (subst (SnapshotsStand s.settings.cpus s.slots s.marks) (at_rest_tells s.due rest) on.snapshots);
-      seats = on.seats;
-      sections = sections_old s.settings s.history (Detach e.number) s.section s.begins s.depths s.seen on.sections;
-      searches = searches_old s.settings s.history (Detach e.number) s.section s.begins s.depths s.seen s.searches on.sections on.searches;
-      last_found = found_old s.settings s.history (Detach e.number) s.section s.begins s.depths s.seen s.found on.sections on.last_found;
-      passive = passive_detach s.settings.cpus s.settings.passive_limit s.slots s.marks s.passive e 8 lt lm on.passive;
-      balance = counts;
-      references = references;
-      kept_drivers = drivers;
-    }
+    let room : length (after_change s.history (Detach e.number)) + live_count (set s.slots e.slot (Retired e)) ≤ s.settings.change_limit = omega (arith, size, less, on.room) in
+    assumption (
+      next_size ∙ on.shape.links,
+      length-set s.slots e.slot (Retired e) ∙ on.shape.slots,
+      length-set s.marks e.slot (replicate 8 no_mark) ∙ on.shape.marks,
+      rows_put s.marks e.slot (replicate 8 no_mark) refl on.shape.mark_rows,
+      legal_detach s.history e on.legal (on.slots.live e.slot e at).0,
+      slots_detach s.history s.slots e on.legal at on.slots,
+      rows_detach s.slots s.rows e at on.rows,
+      held_detach s.history s.slots s.begins e at on.held,
+      marks_detach s.history s.slots s.marks s.section s.begins e 8 at (on.shape.marks ∙ sym on.shape.slots) on.slots on.grace,
+      snapshots_detach s.settings.cpus s.slots s.marks e 8 lt (subst (SnapshotsStand s.settings.cpus s.slots s.marks) (at_rest_tells s.due rest) on.snapshots),
+      sections_old s.settings s.history (Detach e.number) s.section s.begins s.depths s.seen on.sections,
+      searches_old s.settings s.history (Detach e.number) s.section s.begins s.depths s.seen s.searches on.sections on.searches,
+      found_old s.settings s.history (Detach e.number) s.section s.begins s.depths s.seen s.found on.sections on.last_found,
+      passive_detach s.settings.cpus s.settings.passive_limit s.slots s.marks s.passive e 8 lt lm on.passive,
+    )
 
 -- an entry is unlinked from its own slot
 unlink_own : (s : State) (e : Entry) (o : Option ℕ) → Holds s → slot_at s.slots e.slot ≡ Live e → at_rest s.due ≡ true → slot_before s.slots s.next e.slot ≡ o
@@ -370,7 +242,7 @@ unlink_own : (s : State) (e : Entry) (o : Option ℕ) → Holds s → slot_at s.
 unlink_own s e None on at rest is counts references drivers =
     let size : length s.next ≡ length s.slots = on.shape.links ∙ sym on.shape.slots in
     let first : s.head ≡ suc e.slot = head_leads s.history s.slots s.head s.next e on.slots on.list size at is in
-    fit_unlinked s e (get_or s.next e.slot 0) s.next on at rest (shape_unlinked s e None on.shape)
+    fit_unlinked s e (get_or s.next e.slot 0) s.next on at rest refl
     (list_unlink_head s.history s.slots s.head s.next e at on.slots first on.list)
     (links_detach s.history s.slots s.head s.next s.next s.begins e on.legal at on.slots on.list (λ u f x y. refl) on.frozen_links)
     counts references drivers
@@ -385,7 +257,7 @@ unlink_own s e (Some p) on at rest is counts references drivers =
     omega (arith, (link_to s.history s.slots e e.number (get_or s.next e.slot 0) on.slots at word (on.list.links e.slot e at)).0))
     (λ (gone : slot_at s.slots u ≡ Retired f). let q : Live g.0 ≡ Retired f = sym g.1 ∙ (ap (slot_at s.slots) (sym same) ∙ gone) in cc)
     x) in
-    fit_unlinked s e s.head (set s.next p (get_or s.next e.slot 0)) on at rest (shape_unlinked s e (Some p) on.shape)
+    fit_unlinked s e s.head (set s.next p (get_or s.next e.slot 0)) on at rest (length-set s.next p (get_or s.next e.slot 0))
     (list_unlink_mid s.history s.slots s.head s.next e g.0 p at on.slots size off g.1 g.2 on.list)
     (links_detach s.history s.slots s.head s.next (set s.next p (get_or s.next e.slot 0)) s.begins e on.legal at on.slots on.list kept on.frozen_links)
     counts references drivers

@@ -5,22 +5,21 @@ use Rattle.std.proofs.lemmas.List.{get_or_past, length-replicate}
 use Rattle.std.proofs.lemmas.Option.{none-some}
 use Rattle.std.specs.Prelude.{IsTrue, is_none, nat_lt, ◌==◌}
 use Rattle.protocol.proofs.history.History.{at_empty}
-use Rattle.protocol.proofs.keeps.ListKeeps.{CountsOf, DriversOf, ReferencesOf, live_count_put, rows_cell}
+use Rattle.protocol.proofs.keeps.ListKeeps.{CountsOf, DriversOf, ReferencesOf, cell_sized, live_count_put}
 use Rattle.protocol.proofs.keeps.Marking.{held_vacate, links_vacate, list_all_within, list_vacate, marks_look, marks_snapshot, marks_vacate, marks_write, rows_vacate, slots_vacate, snapshots_marked, snapshots_taken, snapshots_vacate}
 use Rattle.protocol.proofs.keeps.Passive.{found_not_passed, passive_counted, passive_marked, passive_vacate}
 use Rattle.protocol.proofs.keeps.Unlinking.{within_retired}
-use Rattle.protocol.specs.Events.{after_add, after_kept_sub, after_look, after_look_passive, after_snapshot, after_sub, after_vacate, due_after, is_drainable, is_drained, is_idle, is_number, is_snapshot_due, may_add, may_examine, may_look_passive, may_sub, may_vacate, snapshot_mark}
+use Rattle.protocol.specs.Events.{after_add, after_kept_sub, after_look, after_look_passive, after_snapshot, after_sub, after_vacate, is_drainable, is_drained, is_idle, is_number, is_snapshot_due, may_add, may_examine, may_look_passive, may_sub, may_vacate, snapshot_mark}
 use Rattle.registry_values.specs.Marks.{mark_after_passive_look, mark_after_look, are_clear, are_collected, has_changed, have_passed, is_clear, is_collected, is_even, is_passed, no_mark}
-use Rattle.protocol.specs.Invariant.{AreRows, DueHolds, Holds, IsIn, MarksHold, PassiveShow, SnapshotsStand, To_end}
+use Rattle.protocol.specs.Invariant.{AreRows, DueHolds, Holds, IsIn, SnapshotsStand, To_end}
 use Rattle.registry_values.proofs.Fit.{ranges}
 use Rattle.registry_values.specs.Limits.{are_fit}
-use Rattle.protocol.specs.State.{at_rest, is_empty, State, found_at, hand_at, kept_at, mark_at, no_words, opening, passive_at, search_at, section_at, total_at, with_cell}
+use Rattle.protocol.specs.State.{at_rest, is_empty, State, found_at, hand_at, kept_at, mark_at, no_words, opening, passive_at, search_at, section_at, total_at}
 use Rattle.registry_values.specs.Slots.{is_retired, live_count, slot_of, slot_at}
 use Rattle.registry_values.specs.Balances.{bias}
 use Rattle.registry_values.specs.declared.entry.Change.TheVariants.{Attach, Detach}
 use Rattle.registry_values.specs.declared.entry.Entry.{Entry}
 use Rattle.registry_values.specs.declared.settings.Settings.{Settings}
-use Rattle.protocol.specs.declared.state.Due.{Due}
 use Rattle.protocol.specs.declared.state.Due.TheVariants.{Rest, Snapshots}
 use Rattle.protocol.specs.declared.state.Hand.TheVariants.{Empty}
 use Rattle.registry_values.specs.declared.mark.Mark.{Mark}
@@ -34,53 +33,6 @@ use Rattle.protocol.proofs.slots.Cells.{get_or_all}
 pub cpus_fit : (z : Settings) → IsTrue (are_fit z) → z.cpus ≤ 8
 cpus_fit z fit = (ranges z fit).cpus
 
--- the marks are all that is written, and what is due
-marks_keep : (s : State) (marks : List (List Mark)) (due : Due) → Holds s → length marks ≡ length s.marks → AreRows marks
-    → MarksHold s.history s.slots marks s.section s.begins → SnapshotsStand s.settings.cpus s.slots marks due → PassiveShow s.settings.cpus s.settings.passive_limit s.slots marks s.passive
-    → CountsOf (record s { marks = marks; due = due }) → ReferencesOf (record s { marks = marks; due = due }) → Holds (record s { marks = marks; due = due })
-marks_keep s marks due on size rows grace snapshots passive counts references = record {
-  fit = on.fit;
-  shape = record {
-    sections = on.shape.sections;
-    links = on.shape.links;
-    rows = on.shape.rows;
-    passive = on.shape.passive;
-    passive_rows = on.shape.passive_rows;
-    counts = on.shape.counts;
-    count_rows = on.shape.count_rows;
-    totals = on.shape.totals;
-    begins = on.shape.begins;
-    depths = on.shape.depths;
-    seen = on.shape.seen;
-    searches = on.shape.searches;
-    found = on.shape.found;
-    hands = on.shape.hands;
-    nets = on.shape.nets;
-    net_rows = on.shape.net_rows;
-    slots = on.shape.slots;
-    marks = size ∙ on.shape.marks;
-    mark_rows = rows;
-    keeps = on.shape.keeps;
-  };
-  legal = on.legal;
-  room = on.room;
-  slots = on.slots;
-  rows = on.rows;
-  list = on.list;
-  held = on.held;
-  frozen_links = on.frozen_links;
-  grace = grace;
-  snapshots = snapshots;
-  seats = on.seats;
-  sections = on.sections;
-  searches = on.searches;
-  last_found = on.last_found;
-  passive = passive;
-  balance = counts;
-  references = references;
-  kept_drivers = on.kept_drivers;
-}
-
 -- the place of a CPU in the marks of a retired slot
 pub mark_place : (s : State) (t c : ℕ) (e : Entry) → Holds s → slot_at s.slots t ≡ Retired e → c < s.settings.cpus → (t < length s.marks) × (c < length (get_or s.marks t []))
 mark_place s t c e on is low =
@@ -93,24 +45,24 @@ snapshot_keeps s t c on is counts references =
     let due : s.due ≡ Snapshots t c = snapshot_due_tells s.due t c is in
     let there : DueHolds s.settings.cpus s.slots (Snapshots t c) = subst (DueHolds s.settings.cpus s.slots) due on.references.due_at in
     let place = mark_place s t c there.1.0 on there.1.1 there.0 in
-    marks_keep s (with_cell s.marks t c (snapshot_mark (section_at s c))) (due_after s t c) on
-    (length-set s.marks t _) (rows_cell s.marks t c (snapshot_mark (section_at s c)) on.shape.mark_rows)
-    (marks_snapshot s.history s.slots s.marks s.section s.begins t c on.grace)
-    (snapshots_taken s.settings.cpus s.slots s.marks t c (section_at s c) place.0 place.1 (subst (SnapshotsStand s.settings.cpus s.slots s.marks) due on.snapshots))
-    (passive_marked s.settings.cpus s.settings.passive_limit s.slots s.marks s.passive t c (snapshot_mark (section_at s c))
-    (λ e is holds. absurd (let q : ◌≡◌ {A = Bool} false true = holds in cc)) (λ e is holds. absurd (let q : ◌≡◌ {A = Bool} false true = holds in cc)) on.passive)
-    counts references
+    assumption (
+      cell_sized s.marks t c (snapshot_mark (section_at s c)) on.shape.marks on.shape.mark_rows,
+      marks_snapshot s.history s.slots s.marks s.section s.begins t c on.grace,
+      snapshots_taken s.settings.cpus s.slots s.marks t c (section_at s c) place.0 place.1 (subst (SnapshotsStand s.settings.cpus s.slots s.marks) due on.snapshots),
+      passive_marked s.settings.cpus s.settings.passive_limit s.slots s.marks s.passive t c (snapshot_mark (section_at s c))
+          (λ e is holds. absurd (let q : ◌≡◌ {A = Bool} false true = holds in cc)) (λ e is holds. absurd (let q : ◌≡◌ {A = Bool} false true = holds in cc)) on.passive,
+    )
 
 pub look_keeps : (s : State) (t c : ℕ) → Holds s → may_examine s t c ≡ true → CountsOf (after_look s t c) → Holds (after_look s t c)
 look_keeps s t c on may counts =
-    marks_keep s (with_cell s.marks t c (mark_after_look (mark_at s.marks t c) (section_at s c))) s.due on
-    (length-set s.marks t _) (rows_cell s.marks t c (mark_after_look (mark_at s.marks t c) (section_at s c)) on.shape.mark_rows)
-    (marks_look s.settings s.history s.slots s.marks s.section s.begins s.depths s.seen t c on.sections on.grace)
-    (snapshots_marked s.settings.cpus s.slots s.marks s.due t c (mark_after_look (mark_at s.marks t c) (section_at s c)) refl on.snapshots)
-    (passive_marked s.settings.cpus s.settings.passive_limit s.slots s.marks s.passive t c (mark_after_look (mark_at s.marks t c) (section_at s c))
-    (λ e is holds. let was = on.passive.clear c t e is holds in (ap (λ (b : Bool). b || (is_even (section_at s c) || has_changed (mark_at s.marks t c).snapshot (section_at s c))) was.0, was.1))
-    (λ e is holds. on.passive.collected c t e is holds) on.passive)
-    counts on.references
+    assumption (
+      cell_sized s.marks t c (mark_after_look (mark_at s.marks t c) (section_at s c)) on.shape.marks on.shape.mark_rows,
+      marks_look s.settings s.history s.slots s.marks s.section s.begins s.depths s.seen t c on.sections on.grace,
+      snapshots_marked s.settings.cpus s.slots s.marks s.due t c (mark_after_look (mark_at s.marks t c) (section_at s c)) refl on.snapshots,
+      passive_marked s.settings.cpus s.settings.passive_limit s.slots s.marks s.passive t c (mark_after_look (mark_at s.marks t c) (section_at s c))
+          (λ e is holds. let was = on.passive.clear c t e is holds in (ap (λ (b : Bool). b || (is_even (section_at s c) || has_changed (mark_at s.marks t c).snapshot (section_at s c))) was.0, was.1))
+          (λ e is holds. on.passive.collected c t e is holds) on.passive,
+    )
 
 -- what a slot that may be examined shows
 pub may_examine_tells : (s : State) (t c : ℕ) → may_examine s t c ≡ true → (s.due ≡ Rest) × (c < s.settings.cpus) × ((e : Entry) × (slot_at s.slots t ≡ Retired e))
@@ -125,67 +77,22 @@ look_passive_keeps s t c on may counts =
     let told = may_examine_tells s t c p.0 in
     let place = mark_place s t c told.2.0 on told.2.1 told.1 in
     let passed : (mark_at s.marks t c).passed ≡ true = list_all_within is_passed (get_or s.marks t []) s.settings.cpus c no_mark p.1 told.1 place.1 in
-    marks_keep s (with_cell s.marks t c (mark_after_passive_look (mark_at s.marks t c) (passive_at s.passive c t))) s.due on
-    (length-set s.marks t _) (rows_cell s.marks t c (mark_after_passive_look (mark_at s.marks t c) (passive_at s.passive c t)) on.shape.mark_rows)
-    (marks_write s.history s.slots s.marks s.section s.begins t c (mark_after_passive_look (mark_at s.marks t c) (passive_at s.passive c t))
-    (λ p b e is ends in_ holds. on.grace.passed t p c b e is ends in_ holds) (λ p b w e is ends in_ snap off. on.grace.changed t p c b w e is ends in_ snap off)
-    (λ w e is snap. on.grace.older t c w e is snap) (λ b w e is in_ holds snap same. on.grace.left t c b w e is in_ holds snap same) on.grace)
-    (snapshots_marked s.settings.cpus s.slots s.marks s.due t c (mark_after_passive_look (mark_at s.marks t c) (passive_at s.passive c t)) refl on.snapshots)
-    (passive_marked s.settings.cpus s.settings.passive_limit s.slots s.marks s.passive t c (mark_after_passive_look (mark_at s.marks t c) (passive_at s.passive c t))
-    (λ e is holds. (
-      passed,
-      ⊎_elim
-          (λ (before : (mark_at s.marks t c).clear ≡ true). (on.passive.clear c t e is before).1)
-          (λ (now : (passive_at s.passive c t == 0) ≡ true). eqb-true (passive_at s.passive c t) 0 now)
-          (or_cases (mark_at s.marks t c).clear (passive_at s.passive c t == 0) holds),
-    ))
-    (λ e is holds. ap (λ (b : Bool). b || (passive_at s.passive c t == 0)) (on.passive.collected c t e is holds)) on.passive)
-    counts on.references
-
--- a passive word is all that is written
-passive_keep : (s : State) (c t n : ℕ) → Holds s → PassiveShow s.settings.cpus s.settings.passive_limit s.slots s.marks (with_cell s.passive t c n) → Holds (record s { passive = with_cell s.passive t c n })
-passive_keep s c t n on p = record {
-  fit = on.fit;
-  shape = record {
-    sections = on.shape.sections;
-    links = on.shape.links;
-    rows = on.shape.rows;
-    passive = length-set s.passive t _ ∙ on.shape.passive;
-    passive_rows = rows_cell s.passive t c n on.shape.passive_rows;
-    counts = on.shape.counts;
-    count_rows = on.shape.count_rows;
-    totals = on.shape.totals;
-    begins = on.shape.begins;
-    depths = on.shape.depths;
-    seen = on.shape.seen;
-    searches = on.shape.searches;
-    found = on.shape.found;
-    hands = on.shape.hands;
-    nets = on.shape.nets;
-    net_rows = on.shape.net_rows;
-    slots = on.shape.slots;
-    marks = on.shape.marks;
-    mark_rows = on.shape.mark_rows;
-    keeps = on.shape.keeps;
-  };
-  legal = on.legal;
-  room = on.room;
-  slots = on.slots;
-  rows = on.rows;
-  list = on.list;
-  held = on.held;
-  frozen_links = on.frozen_links;
-  grace = on.grace;
-  snapshots = on.snapshots;
-  seats = on.seats;
-  sections = on.sections;
-  searches = on.searches;
-  last_found = on.last_found;
-  passive = p;
-  balance = on.balance;
-  references = on.references;
-  kept_drivers = on.kept_drivers;
-}
+    assumption (
+      cell_sized s.marks t c (mark_after_passive_look (mark_at s.marks t c) (passive_at s.passive c t)) on.shape.marks on.shape.mark_rows,
+      marks_write s.history s.slots s.marks s.section s.begins t c (mark_after_passive_look (mark_at s.marks t c) (passive_at s.passive c t))
+          (λ p b e is ends in_ holds. on.grace.passed t p c b e is ends in_ holds) (λ p b w e is ends in_ snap off. on.grace.changed t p c b w e is ends in_ snap off)
+          (λ w e is snap. on.grace.older t c w e is snap) (λ b w e is in_ holds snap same. on.grace.left t c b w e is in_ holds snap same) on.grace,
+      snapshots_marked s.settings.cpus s.slots s.marks s.due t c (mark_after_passive_look (mark_at s.marks t c) (passive_at s.passive c t)) refl on.snapshots,
+      passive_marked s.settings.cpus s.settings.passive_limit s.slots s.marks s.passive t c (mark_after_passive_look (mark_at s.marks t c) (passive_at s.passive c t))
+          (λ e is holds. (
+            passed,
+            ⊎_elim
+                (λ (before : (mark_at s.marks t c).clear ≡ true). (on.passive.clear c t e is before).1)
+                (λ (now : (passive_at s.passive c t == 0) ≡ true). eqb-true (passive_at s.passive c t) 0 now)
+                (or_cases (mark_at s.marks t c).clear (passive_at s.passive c t == 0) holds),
+          ))
+          (λ e is holds. ap (λ (b : Bool). b || (passive_at s.passive c t == 0)) (on.passive.collected c t e is holds)) on.passive,
+    )
 
 -- an idle CPU is in range
 pub idle_within : (s : State) (c : ℕ) → Holds s → is_idle s c ≡ true → c < s.settings.cpus
@@ -198,16 +105,19 @@ add_keeps s c n t on of may =
     let low : c < s.settings.cpus = idle_within s c on p.0 in
     let fits : passive_at s.passive c t < s.settings.passive_limit = ltb-true (passive_at s.passive c t) s.settings.passive_limit q.1 in
     let there = slot_has s.slots n t of in
-    passive_keep s c t (passive_at s.passive c t + 1) on (passive_counted s.settings.cpus s.settings.passive_limit s.slots s.marks s.passive c t (passive_at s.passive c t + 1) low (omega (arith, fits))
-    (λ vacant. not_vacant there.1.0 (slot_at s.slots t) vacant there.1.1)
-    (λ e gone clear. ⊎_elim
-    (λ (f : is_number n (found_at s c) ≡ true).
-    let same : there.1.0 ≡ e = is_retired_one there.1.0 e (slot_at s.slots t) gone there.1.1 in
-    let number : n ≡ e.number = sym there.1.2 ∙ ap (λ (g : Entry). g.number) same in
-    found_not_passed s.history s.slots s.marks s.section s.begins s.found c t e on.slots on.grace on.last_found gone (ap (λ (k : ℕ). is_number k (found_at s c)) (sym number) ∙ f) (on.passive.clear c t e gone clear).0)
-    (λ (h : nat_lt 0 (passive_at s.passive c t) ≡ true). omega (arith, ltb-true 0 (passive_at s.passive c t) h, (on.passive.clear c t e gone clear).1))
-    (or_cases (is_number n (found_at s c)) (nat_lt 0 (passive_at s.passive c t)) q.0))
-    on.passive)
+    assumption (
+      cell_sized s.passive t c (passive_at s.passive c t + 1) on.shape.passive on.shape.passive_rows,
+      passive_counted s.settings.cpus s.settings.passive_limit s.slots s.marks s.passive c t (passive_at s.passive c t + 1) low (omega (arith, fits))
+          (λ vacant. not_vacant there.1.0 (slot_at s.slots t) vacant there.1.1)
+          (λ e gone clear. ⊎_elim
+          (λ (f : is_number n (found_at s c) ≡ true).
+          let same : there.1.0 ≡ e = is_retired_one there.1.0 e (slot_at s.slots t) gone there.1.1 in
+          let number : n ≡ e.number = sym there.1.2 ∙ ap (λ (g : Entry). g.number) same in
+          found_not_passed s.history s.slots s.marks s.section s.begins s.found c t e on.slots on.grace on.last_found gone (ap (λ (k : ℕ). is_number k (found_at s c)) (sym number) ∙ f) (on.passive.clear c t e gone clear).0)
+          (λ (h : nat_lt 0 (passive_at s.passive c t) ≡ true). omega (arith, ltb-true 0 (passive_at s.passive c t) h, (on.passive.clear c t e gone clear).1))
+          (or_cases (is_number n (found_at s c)) (nat_lt 0 (passive_at s.passive c t)) q.0))
+          on.passive,
+    )
   where
     is_retired_one : (f e : Entry) (x : Slot) → x ≡ Retired e → IsIn f x → f ≡ e
     is_retired_one f e x at is = ⊎_elim
@@ -219,9 +129,11 @@ pub sub_keeps : (s : State) (c t : ℕ) → Holds s → may_sub s c t ≡ true �
 sub_keeps s c t on may =
     let p = and_parts (is_idle s c) (nat_lt 0 (passive_at s.passive c t)) may in
     let some : 0 < passive_at s.passive c t = ltb-true 0 (passive_at s.passive c t) p.1 in
-    passive_keep s c t (passive_at s.passive c t - 1) on (passive_counted s.settings.cpus s.settings.passive_limit s.slots s.marks s.passive c t (passive_at s.passive c t - 1)
-    (idle_within s c on p.0) (omega (arith, on.passive.limited c t))
-    (λ vacant. omega (arith, some, on.passive.vacant c t vacant)) (λ e gone clear. omega (arith, some, (on.passive.clear c t e gone clear).1)) on.passive)
+    assumption (
+      cell_sized s.passive t c (passive_at s.passive c t - 1) on.shape.passive on.shape.passive_rows,
+      passive_counted s.settings.cpus s.settings.passive_limit s.slots s.marks s.passive c t (passive_at s.passive c t - 1) (idle_within s c on p.0) (omega (arith, on.passive.limited c t))
+          (λ vacant. omega (arith, some, on.passive.vacant c t vacant)) (λ e gone clear. omega (arith, some, (on.passive.clear c t e gone clear).1)) on.passive,
+    )
 
 -- what a drained slot shows
 pub is_drained_tells : (s : State) (t : ℕ) → Holds s → is_drained s t ≡ true
@@ -253,49 +165,21 @@ vacated_keeps s t totals keeps on drained total_size keep_size counts references
     let gone : (e : Entry) × (slot_at s.slots t ≡ Retired e) = told.1 in
     let lt : t < length s.slots = within_retired s.slots t gone.0 gone.1 in
     let same : live_count (set s.slots t Vacant) + 0 ≡ live_count s.slots + 0 = live_count_put s.slots t (Retired gone.0) Vacant lt gone.1 in
-    record {
-      fit = on.fit;
-      shape = record {
-        sections = on.shape.sections;
-        links = on.shape.links;
-        rows = on.shape.rows;
-        passive = on.shape.passive;
-        passive_rows = on.shape.passive_rows;
-        counts = on.shape.counts;
-        count_rows = on.shape.count_rows;
-        totals = total_size ∙ on.shape.totals;
-        begins = on.shape.begins;
-        depths = on.shape.depths;
-        seen = on.shape.seen;
-        searches = on.shape.searches;
-        found = on.shape.found;
-        hands = on.shape.hands;
-        nets = on.shape.nets;
-        net_rows = on.shape.net_rows;
-        slots = length-set s.slots t Vacant ∙ on.shape.slots;
-        marks = on.shape.marks;
-        mark_rows = on.shape.mark_rows;
-        keeps = keep_size ∙ on.shape.keeps;
-      };
-      legal = on.legal;
-      room = omega (arith, same, on.room);
-      slots = slots_vacate s.history s.slots t gone.0 lt gone.1 on.slots;
-      rows = rows_vacate s.slots s.rows t lt on.rows;
-      list = list_vacate s.history s.slots s.head s.next t lt on.list;
-      held = held_vacate s.history s.slots s.marks s.section s.begins t gone.0 lt gone.1 on.slots
-          (λ c b is. told.2 c (omega (arith, within_begin s.begins c b is, on.shape.begins))) on.grace on.held;
-      frozen_links = links_vacate s.history s.slots s.next s.begins t lt on.frozen_links;
-      grace = marks_vacate s.history s.slots s.marks s.section s.begins t lt on.grace;
-      snapshots = snapshots_vacate s.settings.cpus s.slots s.marks s.due t lt on.snapshots;
-      seats = on.seats;
-      sections = on.sections;
-      searches = on.searches;
-      last_found = on.last_found;
-      passive = passive_vacate s.settings.cpus s.settings.passive_limit s.slots s.marks s.passive t gone.0 lt gone.1 told.3 on.passive;
-      balance = counts;
-      references = references;
-      kept_drivers = drivers;
-    }
+    let room : length s.history + live_count (set s.slots t Vacant) ≤ s.settings.change_limit = omega (arith, same, on.room) in
+    assumption (
+      total_size ∙ on.shape.totals,
+      length-set s.slots t Vacant ∙ on.shape.slots,
+      keep_size ∙ on.shape.keeps,
+      slots_vacate s.history s.slots t gone.0 lt gone.1 on.slots,
+      rows_vacate s.slots s.rows t lt on.rows,
+      list_vacate s.history s.slots s.head s.next t lt on.list,
+      held_vacate s.history s.slots s.marks s.section s.begins t gone.0 lt gone.1 on.slots
+          (λ c b is. told.2 c (omega (arith, within_begin s.begins c b is, on.shape.begins))) on.grace on.held,
+      links_vacate s.history s.slots s.next s.begins t lt on.frozen_links,
+      marks_vacate s.history s.slots s.marks s.section s.begins t lt on.grace,
+      snapshots_vacate s.settings.cpus s.slots s.marks s.due t lt on.snapshots,
+      passive_vacate s.settings.cpus s.settings.passive_limit s.slots s.marks s.passive t gone.0 lt gone.1 told.3 on.passive,
+    )
   where
     within_begin : (xs : List (Option ℕ)) (c b : ℕ) → get_or xs c None ≡ Some b → c < length xs
     within_begin xs c b is = ⊎_elim

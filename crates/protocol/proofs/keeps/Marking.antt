@@ -1,7 +1,6 @@
 -- Snapshots, looks and the end of a slot's use.
 use Rattle.std.proofs.Common.{Bool, List, None, Option, Some, [], ap, arith, false, get_or, get_or-set_other, get_or-set_same, inl, inr, length, not, refl, replicate, set, subst, suc, sym, take, true, zero, ℕ, ⊎_elim, ◌%◌, ◌+◌, ◌<◌, ◌||◌, ◌∙◌, ◌∷◌, ◌≡◌, ◌≢◌, ◌≤◌, ◌⊎◌}
-use Rattle.std.proofs.lemmas.Bool.{and_parts, cases_eq, cases_lt, eq-eqb, eqb-true, lt-ltb, or_cases}
-use Rattle.std.proofs.lemmas.List.{set_past}
+use Rattle.std.proofs.lemmas.Bool.{and_parts, cases_eq, eq-eqb, eqb-true, lt-ltb, or_cases}
 use Rattle.std.proofs.lemmas.Option.{same_Some}
 use Rattle.std.specs.List.{list_all}
 use Rattle.std.specs.Prelude.{if◌then◌else◌, nat_lt}
@@ -23,7 +22,7 @@ use Rattle.protocol.specs.declared.state.RecordWords.{RecordWords}
 use Rattle.registry_values.specs.declared.slot.Slot.{Slot}
 use Rattle.registry_values.specs.declared.slot.Slot.TheVariants.{Live, Retired, Vacant}
 use Rattle.protocol.proofs.slots.Occupied.{slot_cases, not_vacant}
-use Rattle.protocol.proofs.slots.Cells.{get_or_all}
+use Rattle.protocol.proofs.slots.Cells.{cell_cases, cell_here, get_or_all}
 
 -- a fresh row of marks
 pub marks_detach : (h : List Change) (slots : List Slot) (marks : List (List Mark)) (section : List ℕ) (begins : List (Option ℕ)) (e : Entry) (n : ℕ) → slot_at slots e.slot ≡ Live e → length marks ≡ length slots → SlotsShow h slots
@@ -62,28 +61,7 @@ marks_detach h slots marks section begins e n at size show m =
 -- one place of one row is written
 pub row_cases : {X : Type 0} (d : X) (rows : List (List X)) (t c : ℕ) (m : X) (u j : ℕ)
     → ((u ≡ t) × (j ≡ c) × (get_or (get_or (set rows t (set (get_or rows t []) c m)) u []) j d ≡ m)) ⊎ (get_or (get_or (set rows t (set (get_or rows t []) c m)) u []) j d ≡ get_or (get_or rows u []) j d)
-row_cases {X} d rows t c m u j =
-    let new : List (List X) = set rows t (set (get_or rows t []) c m) in
-    ⊎_elim
-    (λ (lt : t < length rows). ⊎_elim
-    (λ (same : u ≡ t).
-    let row : get_or new u [] ≡ set (get_or rows t []) c m = ap (λ (k : ℕ). get_or new k []) same ∙ get_or-set_same rows t (set (get_or rows t []) c m) [] lt in
-    ⊎_elim
-    (λ (here : j ≡ c). ⊎_elim
-    (λ (cl : c < length (get_or rows t [])). inl (
-      same,
-      here,
-      ap (λ (r : List X). get_or r j d) row ∙ (ap (λ (k : ℕ). get_or (set (get_or rows t []) c m) k d) here ∙ get_or-set_same (get_or rows t []) c m d cl),
-    ))
-    (λ (ge : length (get_or rows t []) ≤ c). inr (ap (λ (r : List X). get_or r j d) (row ∙ (set_past (get_or rows t []) c m ge ∙ ap (λ (k : ℕ). get_or rows k []) (sym same)))))
-    (cases_lt c (length (get_or rows t []))))
-    (λ (off : j ≡ c → ⊥). inr (ap (λ (r : List X). get_or r j d) row
-    ∙ (get_or-set_other (get_or rows t []) c j m d off ∙ ap (λ (k : ℕ). get_or (get_or rows k []) j d) (sym same))))
-    (cases_eq j c))
-    (λ (off : u ≡ t → ⊥). inr (ap (λ (r : List X). get_or r j d) (get_or-set_other rows t u (set (get_or rows t []) c m) [] off)))
-    (cases_eq u t))
-    (λ (ge : length rows ≤ t). inr (ap (λ (x : List (List X)). get_or (get_or x u []) j d) (set_past rows t (set (get_or rows t []) c m) ge)))
-    (cases_lt t (length rows))
+row_cases {X} d rows t c m u j = cell_cases d rows t c m u j
 
 -- A mark is written that says no more than is so.
 pub marks_write : (h : List Change) (slots : List Slot) (marks : List (List Mark)) (section : List ℕ) (begins : List (Option ℕ)) (t c : ℕ) (m : Mark)
@@ -171,10 +149,6 @@ snapshots_detach cpus slots marks e n lt stand u c f is low later = ⊎_elim
     (was.0, ap (λ (r : List Mark). (get_or r c no_mark).snapshot) (get_or-set_other marks e.slot u (replicate n no_mark) [] off.0) ∙ was.1))
     (gone_before slots e f u lt is)
 
--- the place that was written
-pub cell_written : {X : Type 0} (d : X) (rows : List (List X)) (t c : ℕ) (m : X) → t < length rows → c < length (get_or rows t []) → get_or (get_or (set rows t (set (get_or rows t []) c m)) t []) c d ≡ m
-cell_written {X} d rows t c m lt cl = ap (λ (r : List X). get_or r c d) (get_or-set_same rows t (set (get_or rows t []) c m) [] lt) ∙ get_or-set_same (get_or rows t []) c m d cl
-
 -- the snapshot that was due is taken, and the next one is due
 pub snapshots_taken : (cpus : ℕ) (slots : List Slot) (marks : List (List Mark)) (t c w : ℕ) → t < length marks → c < length (get_or marks t []) → SnapshotsStand cpus slots marks (Snapshots t c)
     → SnapshotsStand cpus slots (set marks t (set (get_or marks t []) c (snapshot_mark w))) (if nat_lt (c + 1) cpus then Snapshots t (c + 1) else Rest)
@@ -185,7 +159,7 @@ snapshots_taken cpus slots marks t c w lt cl stand u j e is low later = ⊎_elim
     (λ (here : (u ≡ t) × (j ≡ c)). (
       w,
       ap (λ (k : ℕ). (mark_at (set marks t (set (get_or marks t []) c (snapshot_mark w))) k j).snapshot) here.0
-          ∙ (ap (λ (k : ℕ). (mark_at (set marks t (set (get_or marks t []) c (snapshot_mark w))) t k).snapshot) here.1 ∙ ap (λ (m : Mark). m.snapshot) (cell_written no_mark marks t c (snapshot_mark w) lt cl)),
+          ∙ (ap (λ (k : ℕ). (mark_at (set marks t (set (get_or marks t []) c (snapshot_mark w))) t k).snapshot) here.1 ∙ ap (λ (m : Mark). m.snapshot) (cell_here no_mark marks t c (snapshot_mark w) lt cl)),
     ))
     (λ (off : (u ≡ t) × (j ≡ c) → ⊥).
     let was = stand u j e is low (λ due. later_due off due) in

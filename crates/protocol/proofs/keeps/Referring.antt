@@ -1,24 +1,19 @@
 -- What the state after each event says of references, kept drivers and seats.
-use Rattle.std.proofs.Common.{◌≡◌, ℕ, ◌<◌, ◌&&◌, nat_lt, length, true, Option, Some, None, sym, ◌∙◌, arith}
+use Rattle.std.proofs.Common.{◌≡◌, ℕ, ◌<◌, ◌&&◌, nat_lt, length, true, Some, sym, ◌∙◌, arith}
 use Rattle.std.proofs.lemmas.Bool.{and_parts, ltb-true}
 use Rattle.registry_values.specs.declared.entry.Entry.{Entry}
 use Rattle.registry_values.specs.declared.settings.Settings.{Settings}
-use Rattle.registry_values.specs.declared.slot.Key.{Key}
-use Rattle.protocol.specs.declared.state.SearchPlace.{SearchPlace}
-use Rattle.protocol.specs.declared.state.SearchPlace.TheVariants.{AtHead}
-use Rattle.protocol.specs.declared.state.Search.{Search}
-use Rattle.registry_values.specs.declared.slot.Slot.TheVariants.{Vacant, Live, Retired}
+use Rattle.registry_values.specs.declared.slot.Slot.TheVariants.{Vacant, Retired}
 use Rattle.protocol.specs.declared.state.Hand.TheVariants.{Empty, Taking, Giving, Back}
 use Rattle.protocol.specs.declared.state.LocalPlace.TheVariants.{Standing, Lifted}
 use Rattle.protocol.specs.declared.state.Due.TheVariants.{Rest}
-use Rattle.protocol.specs.State.{State, opening, seen_at, search_at, hand_at, kept_at, local_at, count_at, at_rest}
-use Rattle.registry_values.specs.Slots.{slot_at, slot_of, slot_before, is_vacant, is_retired}
-use Rattle.protocol.specs.Events.{may_write, may_examine, after_publish, keeps_rightly, with_retired, with_link_past, after_unpublish, is_snapshot_due, after_snapshot, is_idle, after_count_add, after_split, after_hand, after_count_down, after_collected, may_collect, after_collect, after_total, may_join_keeper, after_join_keeper, is_driver_slot, may_keep, after_keep, is_drained, after_kept_sub, after_vacate, after_seat, after_enter, after_exit, after_seek, after_seeing, with_search_at, search_over}
+use Rattle.protocol.specs.State.{State, opening, hand_at, kept_at, local_at, count_at, at_rest}
+use Rattle.registry_values.specs.Slots.{slot_at, slot_of, is_vacant, is_retired}
+use Rattle.protocol.specs.Events.{may_write, may_examine, after_publish, keeps_rightly, is_idle, after_count_add, after_split, after_hand, after_count_down, after_collected, may_collect, after_collect, after_total, may_join_keeper, after_join_keeper, is_driver_slot, may_keep, after_keep, is_drained, after_kept_sub, after_vacate}
 use Rattle.protocol.specs.Invariant.{held_at, ReferencesHold, DriversKept, SeatsShow}
 use Rattle.protocol.proofs.slots.Occupied.{is_vacant_tells, is_retired_tells, at_rest_tells, slot_occupied}
-use Rattle.protocol.proofs.keeps.References.{references_publish, references_unpublish, snapshot_due_tells, references_snapshot, references_vacate, references_kept_sub, references_count_add, references_split, references_join, references_count_down, references_collected, references_split_back, references_collect, references_total, references_join_keeper, references_keep, references_opening, hand_seated, search_seated, seats_hand, seats_seat, seats_opening}
-use Rattle.protocol.proofs.keeps.Drivers.{drivers_publish, drivers_unpublish, drivers_vacate, drivers_kept_sub, drivers_keep, drivers_opening}
-use Rattle.protocol.proofs.keeps.Sections.{seats_search, seats_begin}
+use Rattle.protocol.proofs.keeps.References.{references_publish, references_vacate, references_kept_sub, references_count_add, references_split, references_join, references_count_down, references_collected, references_split_back, references_collect, references_total, references_join_keeper, references_keep, references_opening, hand_seated, seats_hand, seats_opening}
+use Rattle.protocol.proofs.keeps.Drivers.{drivers_publish, drivers_vacate, drivers_kept_sub, drivers_keep, drivers_opening}
 
 -- the three clauses, of a state
 pub record Refers (s : State) : Type 0 where
@@ -42,28 +37,6 @@ publish_refers s t e size may right on =
       kept_drivers = drivers_publish s.slots s.keeps t e lt w.2 right on.kept_drivers;
       seats = on.seats;
     }
-
-retiring_refers : (s : State) (t : ℕ) (e : Entry) (before : Option ℕ) → 0 < s.settings.cpus → slot_at s.slots t ≡ Live e → Refers s → Refers (with_retired (with_link_past s t before) t e)
-retiring_refers s t e None some at on = record {
-  references = references_unpublish s.settings.cpus s.slots s.hands s.due s.locals t e some at on.references;
-  kept_drivers = drivers_unpublish s.slots s.keeps t e at on.kept_drivers;
-  seats = on.seats;
-}
-retiring_refers s t e (Some p) some at on = record {
-  references = references_unpublish s.settings.cpus s.slots s.hands s.due s.locals t e some at on.references;
-  kept_drivers = drivers_unpublish s.slots s.keeps t e at on.kept_drivers;
-  seats = on.seats;
-}
-
-pub unpublish_refers : (s : State) (t : ℕ) (e : Entry) → 0 < s.settings.cpus → slot_at s.slots t ≡ Live e → Refers s → Refers (after_unpublish s t e)
-unpublish_refers s t e some at on = retiring_refers s t e (slot_before s.slots s.next t) some at on
-
-pub snapshot_refers : (s : State) (t c : ℕ) → is_snapshot_due s.due t c ≡ true → Refers s → Refers (after_snapshot s t c)
-snapshot_refers s t c due on = record {
-  references = references_snapshot s.settings.cpus s.slots s.hands s.due s.locals t c (snapshot_due_tells s.due t c due) on.references;
-  kept_drivers = on.kept_drivers;
-  seats = on.seats;
-}
 
 -- nothing is held of a drained entry
 pub drained_tells : (s : State) (t : ℕ) → is_drained s t ≡ true → (s.due ≡ Rest) × ((e : Entry) × (slot_at s.slots t ≡ Retired e))
@@ -142,49 +115,6 @@ split_back_refers s c n id hand on = record {
   seats = seats_hand s.settings.cpus s.seated s.begins s.searches s.hands c Empty (back_seated s c n id hand on) on.seats;
 }
 
--- Sections and searches
-
-pub enter_refers : (s : State) (c : ℕ) → is_idle s c ≡ true → Refers s → Refers (after_enter s c)
-enter_refers s c idle on = record {
-  references = on.references;
-  kept_drivers = on.kept_drivers;
-  seats = seats_begin s.settings.cpus s.seated s.begins s.searches s.hands c (Some (length s.history)) (idle_seated s c idle) on.seats;
-}
-
-pub exit_refers : (s : State) (c : ℕ) → is_idle s c ≡ true → Refers s → Refers (after_exit s c)
-exit_refers s c idle on = record {
-  references = on.references;
-  kept_drivers = on.kept_drivers;
-  seats = seats_begin s.settings.cpus s.seated s.begins s.searches s.hands c None (idle_seated s c idle) on.seats;
-}
-
-pub seek_refers : (s : State) (c : ℕ) (key : Key) → is_idle s c ≡ true → Refers s → Refers (after_seek s c key)
-seek_refers s c key idle on = record {
-  references = on.references;
-  kept_drivers = on.kept_drivers;
-  seats = seats_search s.settings.cpus s.seated s.begins s.searches s.hands c (Some (record { key = key; start = seen_at s c; place = AtHead })) (idle_seated s c idle) on.seats;
-}
-
-pub seeing_refers : (s : State) (c : ℕ) → Refers s → Refers (after_seeing s c)
-seeing_refers s c on = record { references = on.references; kept_drivers = on.kept_drivers; seats = on.seats }
-
-searching : (s : State) (c : ℕ) (q : Search) → search_at s c ≡ Some q → Refers s → c < s.seated
-searching s c q at on = search_seated s.settings.cpus s.seated s.begins s.searches s.hands c q at on.seats
-
-pub going_on_refers : (s : State) (c : ℕ) (q : Search) (p : SearchPlace) → search_at s c ≡ Some q → Refers s → Refers (with_search_at s c q p)
-going_on_refers s c q p at on = record {
-  references = on.references;
-  kept_drivers = on.kept_drivers;
-  seats = seats_search s.settings.cpus s.seated s.begins s.searches s.hands c (Some (record { key = q.key; start = q.start; place = p })) (searching s c q at on) on.seats;
-}
-
-pub search_over_refers : (s : State) (c : ℕ) (q : Search) (answer : Option Entry) → search_at s c ≡ Some q → Refers s → Refers (search_over s c answer)
-search_over_refers s c q answer at on = record {
-  references = on.references;
-  kept_drivers = on.kept_drivers;
-  seats = seats_search s.settings.cpus s.seated s.begins s.searches s.hands c None (searching s c q at on) on.seats;
-}
-
 -- The keeper
 
 pub collect_refers : (s : State) (t c : ℕ) → may_collect s t c ≡ true → Refers s → Refers (after_collect s t c)
@@ -224,13 +154,6 @@ keep_refers s t id n u at found may on =
       kept_drivers = drivers_keep s.slots s.keeps t n u (write_tells s t a.0).2 found b.1 on.kept_drivers;
       seats = on.seats;
     }
-
-pub seat_refers : (s : State) (c : ℕ) → c ≡ s.seated → c < s.settings.cpus → Refers s → Refers (after_seat s c)
-seat_refers s c is lt on = record {
-  references = on.references;
-  kept_drivers = on.kept_drivers;
-  seats = seats_seat s.settings.cpus s.seated s.begins s.searches s.hands c is lt on.seats;
-}
 
 pub opening_refers : (z : Settings) → Refers (opening z)
 opening_refers z = record {

@@ -1,5 +1,5 @@
 -- Seek and the loads of a search keep the invariant, and their answers are lawful.
-use Rattle.std.proofs.Common.{◌≡◌, ℕ, zero, suc, ◌<◌, List, length, get_or, set, Option, Some, None, Bool, true, false, refl, sym, subst, arith, get_or-set_same, length-set}
+use Rattle.std.proofs.Common.{◌≡◌, ℕ, zero, suc, ◌<◌, List, length, get_or, set, Option, Some, None, Bool, true, false, refl, sym, subst, ◌∙◌, arith, get_or-set_same, length-set}
 use Rattle.std.proofs.lemmas.Bool.{and_parts}
 use Rattle.registry_values.specs.Slots.{are_words_of}
 use Rattle.registry_values.specs.declared.entry.Entry.{Entry}
@@ -13,10 +13,10 @@ use Rattle.registry_values.specs.declared.entry.Change.{Change}
 use Rattle.protocol.specs.History.{MayHold, IsLawful}
 use Rattle.protocol.specs.State.{State, begin_at, seen_at, search_at, row_at}
 use Rattle.protocol.specs.Events.{Outcome, is_idle, is_inside, may_seek, after_seek, after_seeing, with_search_at, search_over, link_loaded, load_link, load_searched, outcome_of_name, entry_found}
-use Rattle.protocol.specs.Invariant.{StandsOn, PlaceHolds, SearchHolds, Holds}
+use Rattle.protocol.specs.Invariant.{StandsOn, PlaceHolds, SearchHolds, FoundHold, Holds}
 use Rattle.protocol.proofs.keeps.Sections.{seats_search, seated_search}
 use Rattle.protocol.specs.Taken.{Keeps}
-use Rattle.protocol.proofs.keeps.SectionKeeps.{some_from, idle_parts, cpus_keep, see_keeps}
+use Rattle.protocol.proofs.keeps.SectionKeeps.{some_from, idle_parts, see_keeps}
 use Rattle.protocol.proofs.keeps.Searching.{within_some, searches_over, searches_on, found_none, found_some, Walks, search_walks, head_ahead, next_ahead, LinkTells, link_tells, goes_on, found_is, weight, IsStep, Steps, load_link_steps, load_searched_steps}
 
 -- the invariant after an event, if it was allowed
@@ -39,21 +39,11 @@ AnswersLookup c q (Some o) = IsAnswer o.state.history q.start (seen_at o.state c
 searching_keeps : (s : State) (c : ℕ) (q : Search) → Holds s → c < s.seated → SearchHolds s.history (begin_at s c) (seen_at s c) q → Holds (record s { searches = set s.searches c (Some q) })
 searching_keeps s c q on lt now =
     let cs : c < length s.searches = omega (arith, on.shape.searches, on.seats.within) in
-    cpus_keep s s.seated s.section s.begins s.depths s.seen (set s.searches c (Some q)) s.found on (record {
-      section_size = refl;
-      begin_size = refl;
-      depth_size = refl;
-      seen_size = refl;
-      search_size = length-set s.searches c (Some q);
-      found_size = refl;
-      held = on.held;
-      frozen_links = on.frozen_links;
-      grace = on.grace;
-      seats = seats_search s.settings.cpus s.seated s.begins s.searches s.hands c (Some q) lt on.seats;
-      sections = on.sections;
-      searching = searches_on s.history s.begins s.seen s.searches c q cs now on.searches;
-      last_found = on.last_found;
-    })
+    assumption (
+      length-set s.searches c (Some q) ∙ on.shape.searches,
+      seats_search s.settings.cpus s.seated s.begins s.searches s.hands c (Some q) lt on.seats,
+      searches_on s.history s.begins s.seen s.searches c q cs now on.searches,
+    )
 
 pub seek_keeps : (s : State) (c : ℕ) (key : Key) → Holds s → may_seek s c ≡ true → Holds (after_seek s c key)
 seek_keeps s c key on ok =
@@ -72,47 +62,22 @@ going_on_keeps s c q place on is p =
     (record { begun = was.begun; started = was.started; stands = p })
 
 -- a search is over, without an entry or with one that the section may hold
-pub search_missed_keeps : (s : State) (c : ℕ) (q : Search) → Holds s → search_at s c ≡ Some q → Holds (search_over s c None)
-search_missed_keeps s c q on is =
-    let lt : c < s.seated = seated_search s.settings.cpus s.seated s.begins s.searches s.hands c q on.seats is in
+over_keeps : (s : State) (c : ℕ) (q : Search) (found : Option Entry) → Holds s → search_at s c ≡ Some q → (c < length s.found → FoundHold s.history s.begins (set s.found c found)) → Holds (search_over s c found)
+over_keeps s c q found on is last_found =
     let cs : c < length s.searches = within_some s.searches c q is in
-    let cf : c < length s.found = omega (arith, on.shape.found, on.shape.searches) in
-    cpus_keep s s.seated s.section s.begins s.depths s.seen (set s.searches c None) (set s.found c None) on (record {
-      section_size = refl;
-      begin_size = refl;
-      depth_size = refl;
-      seen_size = refl;
-      search_size = length-set s.searches c None;
-      found_size = length-set s.found c None;
-      held = on.held;
-      frozen_links = on.frozen_links;
-      grace = on.grace;
-      seats = seats_search s.settings.cpus s.seated s.begins s.searches s.hands c None lt on.seats;
-      sections = on.sections;
-      searching = searches_over s.history s.begins s.seen s.searches c cs on.searches;
-      last_found = found_none s.history s.begins s.found c cf on.last_found;
-    })
+    assumption (
+      length-set s.searches c None ∙ on.shape.searches,
+      length-set s.found c found ∙ on.shape.found,
+      seats_search s.settings.cpus s.seated s.begins s.searches s.hands c None (seated_search s.settings.cpus s.seated s.begins s.searches s.hands c q on.seats is) on.seats,
+      searches_over s.history s.begins s.seen s.searches c cs on.searches,
+      last_found (omega (arith, on.shape.found, on.shape.searches)),
+    )
+
+pub search_missed_keeps : (s : State) (c : ℕ) (q : Search) → Holds s → search_at s c ≡ Some q → Holds (search_over s c None)
+search_missed_keeps s c q on is = over_keeps s c q None on is (λ lt. found_none s.history s.begins s.found c lt on.last_found)
 
 pub search_found_keeps : (s : State) (c b : ℕ) (q : Search) (e : Entry) → Holds s → search_at s c ≡ Some q → begin_at s c ≡ Some b → MayHold s.history b e → Holds (search_over s c (Some e))
-search_found_keeps s c b q e on is in_ may =
-    let lt : c < s.seated = seated_search s.settings.cpus s.seated s.begins s.searches s.hands c q on.seats is in
-    let cs : c < length s.searches = within_some s.searches c q is in
-    let cf : c < length s.found = omega (arith, on.shape.found, on.shape.searches) in
-    cpus_keep s s.seated s.section s.begins s.depths s.seen (set s.searches c None) (set s.found c (Some e)) on (record {
-      section_size = refl;
-      begin_size = refl;
-      depth_size = refl;
-      seen_size = refl;
-      search_size = length-set s.searches c None;
-      found_size = length-set s.found c (Some e);
-      held = on.held;
-      frozen_links = on.frozen_links;
-      grace = on.grace;
-      seats = seats_search s.settings.cpus s.seated s.begins s.searches s.hands c None lt on.seats;
-      sections = on.sections;
-      searching = searches_over s.history s.begins s.seen s.searches c cs on.searches;
-      last_found = found_some s.history s.begins s.found c b e cf in_ may on.last_found;
-    })
+search_found_keeps s c b q e on is in_ may = over_keeps s c q (Some e) on is (λ lt. found_some s.history s.begins s.found c b e lt in_ may on.last_found)
 
 link_loaded_keeps : (s : State) (c n : ℕ) (q : Search) (x : ℕ) → Holds s → search_at s c ≡ Some q → LinkTells s q.start q.key n x → Keeps (link_loaded s c q x)
 link_loaded_keeps s c n q zero on is tells =

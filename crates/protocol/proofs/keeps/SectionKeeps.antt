@@ -1,5 +1,5 @@
 -- Seats, sections and notes keep the invariant.
-use Rattle.std.proofs.Common.{◌≡◌, ℕ, ◌+◌, ◌*◌, ◌<◌, List, length, set, Option, Some, None, Bool, true, false, ◌&&◌, is_none, is_some, nat_eq, nat_lt, refl, sym, subst, ◌∙◌, arith, length-set, ltb-true, eqb-true}
+use Rattle.std.proofs.Common.{◌≡◌, ℕ, ◌+◌, ◌*◌, ◌<◌, List, length, Option, Some, None, Bool, true, false, ◌&&◌, is_none, is_some, nat_eq, nat_lt, refl, sym, subst, ◌∙◌, arith, length-set, ltb-true, eqb-true}
 use Rattle.std.proofs.lemmas.Bool.{and_parts}
 use Rattle.registry_values.specs.declared.entry.Entry.{Entry}
 use Rattle.protocol.specs.declared.state.Search.{Search}
@@ -55,48 +55,8 @@ pub record CpusHold (s : State) (seated : ℕ) (section : List ℕ) (begins : Li
 -- an event that writes no other lists keeps the invariant
 pub cpus_keep : (s : State) (seated : ℕ) (section : List ℕ) (begins : List (Option ℕ)) (depths seen : List ℕ) (searches : List (Option Search)) (found : List (Option Entry))
     → Holds s → CpusHold s seated section begins depths seen searches found → Holds (with_cpus s seated section begins depths seen searches found)
-cpus_keep s seated section begins depths seen searches found on now = record {
-  fit = on.fit;
-  shape = record {
-    sections = now.section_size ∙ on.shape.sections;
-    links = on.shape.links;
-    rows = on.shape.rows;
-    passive = on.shape.passive;
-    passive_rows = on.shape.passive_rows;
-    counts = on.shape.counts;
-    count_rows = on.shape.count_rows;
-    totals = on.shape.totals;
-    begins = now.begin_size ∙ on.shape.begins;
-    depths = now.depth_size ∙ on.shape.depths;
-    seen = now.seen_size ∙ on.shape.seen;
-    searches = now.search_size ∙ on.shape.searches;
-    found = now.found_size ∙ on.shape.found;
-    hands = on.shape.hands;
-    nets = on.shape.nets;
-    net_rows = on.shape.net_rows;
-    slots = on.shape.slots;
-    marks = on.shape.marks;
-    mark_rows = on.shape.mark_rows;
-    keeps = on.shape.keeps;
-  };
-  legal = on.legal;
-  room = on.room;
-  slots = on.slots;
-  rows = on.rows;
-  list = on.list;
-  held = now.held;
-  frozen_links = now.frozen_links;
-  grace = now.grace;
-  snapshots = on.snapshots;
-  seats = now.seats;
-  sections = now.sections;
-  searches = now.searching;
-  last_found = now.last_found;
-  passive = on.passive;
-  balance = on.balance;
-  references = on.references;
-  kept_drivers = on.kept_drivers;
-}
+cpus_keep s seated section begins depths seen searches found on now =
+    assumption (now.section_size ∙ on.shape.sections, now.begin_size ∙ on.shape.begins, now.depth_size ∙ on.shape.depths, now.seen_size ∙ on.shape.seen, now.search_size ∙ on.shape.searches, now.found_size ∙ on.shape.found)
 
 pub seat_keeps : (s : State) (c : ℕ) → Holds s → may_seat s c ≡ true → Holds (after_seat s c)
 seat_keeps s c on ok =
@@ -106,21 +66,7 @@ seat_keeps s c on ok =
     let lt : c < s.settings.cpus = ltb-true c s.settings.cpus p1.1 in
     let seats : SeatsShow s.settings.cpus (c + 1) s.begins s.searches s.hands =
     subst (λ (n : ℕ). SeatsShow s.settings.cpus (n + 1) s.begins s.searches s.hands) (sym at) (seats_seat s.settings.cpus s.seated s.begins s.searches s.hands (omega arith) on.seats) in
-    cpus_keep s (c + 1) s.section s.begins s.depths s.seen s.searches s.found on (record {
-      section_size = refl;
-      begin_size = refl;
-      depth_size = refl;
-      seen_size = refl;
-      search_size = refl;
-      found_size = refl;
-      held = on.held;
-      frozen_links = on.frozen_links;
-      grace = on.grace;
-      seats = seats;
-      sections = on.sections;
-      searching = on.searches;
-      last_found = on.last_found;
-    })
+    assumption
 
 pub enter_keeps : (s : State) (c : ℕ) → Holds s → may_enter s c ≡ true → Holds (after_enter s c)
 enter_keeps s c on ok =
@@ -134,21 +80,19 @@ enter_keeps s c on ok =
     let cb : c < length s.begins = omega (arith, on.shape.begins) in
     let cd : c < length s.depths = omega (arith, on.shape.depths) in
     let cw : c < length s.seen = omega (arith, on.shape.seen) in
-    cpus_keep s s.seated (set s.section c (section_at s c + 1)) (set s.begins c (Some (length s.history))) (set s.depths c 1) (set s.seen c (length s.history)) s.searches s.found on (record {
-      section_size = length-set s.section c (section_at s c + 1);
-      begin_size = length-set s.begins c (Some (length s.history));
-      depth_size = length-set s.depths c 1;
-      seen_size = length-set s.seen c (length s.history);
-      search_size = refl;
-      found_size = refl;
-      held = held_enter s.history s.slots s.begins c cb on.slots on.held;
-      frozen_links = links_enter s.history s.slots s.next s.begins c cb on.frozen_links;
-      grace = marks_enter s.history s.slots s.marks s.section s.begins c (section_at s c + 1) cs cb (omega arith) on.grace;
-      seats = seats_begin s.settings.cpus s.seated s.begins s.searches s.hands c (Some (length s.history)) idle.0 on.seats;
-      sections = sections_enter s.settings s.history s.section s.begins s.depths s.seen c cs cb cd cw out room on.sections;
-      searching = searches_enter s.history s.begins s.seen s.searches c (Some (length s.history)) (length s.history) idle.1 on.searches;
-      last_found = found_enter s.history s.begins s.found c (Some (length s.history)) out on.last_found;
-    })
+    assumption (
+      length-set s.section c (section_at s c + 1) ∙ on.shape.sections,
+      length-set s.begins c (Some (length s.history)) ∙ on.shape.begins,
+      length-set s.depths c 1 ∙ on.shape.depths,
+      length-set s.seen c (length s.history) ∙ on.shape.seen,
+      held_enter s.history s.slots s.begins c cb on.slots on.held,
+      links_enter s.history s.slots s.next s.begins c cb on.frozen_links,
+      marks_enter s.history s.slots s.marks s.section s.begins c (section_at s c + 1) cs cb (omega arith) on.grace,
+      seats_begin s.settings.cpus s.seated s.begins s.searches s.hands c (Some (length s.history)) idle.0 on.seats,
+      sections_enter s.settings s.history s.section s.begins s.depths s.seen c cs cb cd cw out room on.sections,
+      searches_enter s.history s.begins s.seen s.searches c (Some (length s.history)) (length s.history) idle.1 on.searches,
+      found_enter s.history s.begins s.found c (Some (length s.history)) out on.last_found,
+    )
 
 pub exit_keeps : (s : State) (c : ℕ) → Holds s → may_exit s c ≡ true → Holds (after_exit s c)
 exit_keeps s c on ok =
@@ -161,41 +105,29 @@ exit_keeps s c on ok =
     let cb : c < length s.begins = omega (arith, on.shape.begins) in
     let cd : c < length s.depths = omega (arith, on.shape.depths) in
     let cf : c < length s.found = omega (arith, on.shape.found) in
-    cpus_keep s s.seated (set s.section c (section_at s c + 1)) (set s.begins c None) (set s.depths c 0) s.seen s.searches (set s.found c None) on (record {
-      section_size = length-set s.section c (section_at s c + 1);
-      begin_size = length-set s.begins c None;
-      depth_size = length-set s.depths c 0;
-      seen_size = refl;
-      search_size = refl;
-      found_size = length-set s.found c None;
-      held = held_exit s.history s.slots s.begins c cb on.held;
-      frozen_links = links_exit s.history s.slots s.next s.begins c cb on.frozen_links;
-      grace = marks_exit s.history s.slots s.marks s.section s.begins c (section_at s c + 1) cs cb (omega arith) on.grace;
-      seats = seats_begin s.settings.cpus s.seated s.begins s.searches s.hands c None idle.0 on.seats;
-      sections = sections_exit s.settings s.history s.section s.begins s.depths s.seen c in_.0 cs cb cd in_.1 on.sections;
-      searching = searches_exit s.history s.begins s.seen s.searches c None idle.1 on.searches;
-      last_found = found_exit s.history s.begins s.found c None cf on.last_found;
-    })
+    assumption (
+      length-set s.section c (section_at s c + 1) ∙ on.shape.sections,
+      length-set s.begins c None ∙ on.shape.begins,
+      length-set s.depths c 0 ∙ on.shape.depths,
+      length-set s.found c None ∙ on.shape.found,
+      held_exit s.history s.slots s.begins c cb on.held,
+      links_exit s.history s.slots s.next s.begins c cb on.frozen_links,
+      marks_exit s.history s.slots s.marks s.section s.begins c (section_at s c + 1) cs cb (omega arith) on.grace,
+      seats_begin s.settings.cpus s.seated s.begins s.searches s.hands c None idle.0 on.seats,
+      sections_exit s.settings s.history s.section s.begins s.depths s.seen c in_.0 cs cb cd in_.1 on.sections,
+      searches_exit s.history s.begins s.seen s.searches c None idle.1 on.searches,
+      found_exit s.history s.begins s.found c None cf on.last_found,
+    )
 
 -- the pass of a CPU grows to the whole history
 pub see_keeps : (s : State) (c : ℕ) → Holds s → c < s.settings.cpus → Holds (after_seeing s c)
 see_keeps s c on lt =
     let cw : c < length s.seen = omega (arith, on.shape.seen) in
-    cpus_keep s s.seated s.section s.begins s.depths (set s.seen c (length s.history)) s.searches s.found on (record {
-      section_size = refl;
-      begin_size = refl;
-      depth_size = refl;
-      seen_size = length-set s.seen c (length s.history);
-      search_size = refl;
-      found_size = refl;
-      held = on.held;
-      frozen_links = on.frozen_links;
-      grace = on.grace;
-      seats = on.seats;
-      sections = sections_see s.settings s.history s.section s.begins s.depths s.seen c cw on.sections;
-      searching = searches_see s.settings s.history s.section s.begins s.depths s.seen s.searches c cw on.sections on.searches;
-      last_found = on.last_found;
-    })
+    assumption (
+      length-set s.seen c (length s.history) ∙ on.shape.seen,
+      sections_see s.settings s.history s.section s.begins s.depths s.seen c cw on.sections,
+      searches_see s.settings s.history s.section s.begins s.depths s.seen s.searches c cw on.sections on.searches,
+    )
 
 pub hear_keeps : (s : State) (c : ℕ) → Holds s → is_idle s c ≡ true → Holds (after_seeing s c)
 hear_keeps s c on ok =

@@ -1,5 +1,5 @@
 -- The events that attach, detach, keep and vacate make steps of the model.
-use Rattle.std.proofs.Common.{◌≡◌, ℕ, suc, ◌+◌, ◌-◌, ◌<◌, ◌≤◌, ◌⊎◌, inl, inr, ⊎_elim, List, length, get_or, set, Option, Some, None, true, not, ◌&&◌, ◌==◌, refl, sym, ap, subst, ◌∙◌, arith, sum_by, eqb-true}
+use Rattle.std.proofs.Common.{◌≡◌, ℕ, ◌+◌, ◌-◌, ◌<◌, ◌≤◌, ◌⊎◌, inl, inr, ⊎_elim, List, length, set, Option, Some, None, true, refl, sym, ap, subst, ◌∙◌, arith, sum_by}
 use Rattle.std.proofs.lemmas.Bool.{and_parts, cases_eq, cases_lt}
 use Rattle.std.proofs.lemmas.Option.{none-some, same_Some}
 use Rattle.registry_values.specs.declared.entry.Entry.{Entry}
@@ -11,9 +11,9 @@ use Rattle.protocol.specs.declared.state.LocalPlace.TheVariants.{Free, Standing}
 use Rattle.protocol.specs.declared.state.Due.{Due}
 use Rattle.protocol.specs.declared.state.Due.TheVariants.{Rest}
 use Rattle.protocol.specs.History.{after_change, IsLegal, EndsAt}
-use Rattle.registry_values.specs.Slots.{key_of, slot_at, slot_of, slot_before, is_taken}
+use Rattle.registry_values.specs.Slots.{slot_at, slot_of, slot_before}
 use Rattle.protocol.specs.State.{State, row_at, passive_at, kept_at, local_at}
-use Rattle.protocol.specs.Events.{after_row_store, after_count_store, after_link_store, may_write, has_room, are_unused, keeps_rightly, entry_of, may_publish, after_publish, with_retired, with_link_past, after_unpublish, is_driver_slot, may_keep, after_keep, is_drained, after_kept_sub, may_vacate, after_vacate}
+use Rattle.protocol.specs.Events.{after_row_store, after_count_store, after_link_store, may_write, entry_of, may_publish, after_publish, with_retired, with_link_past, after_unpublish, is_driver_slot, may_keep, after_keep, is_drained, after_kept_sub, may_vacate, after_vacate}
 use Rattle.protocol.specs.Invariant.{Holds, IsIn, SlotsShow, held_at, standing_of, in_hand}
 use Rattle.protocol.specs.Model.{put, Model, IsUnheld, IsDriverHere, IsModelRun, Stays}
 use Rattle.protocol.specs.Model
@@ -23,7 +23,7 @@ use Rattle.protocol.proofs.keeps.Searching.{within_some}
 use Rattle.protocol.proofs.slots.Occupied.{in_other, in_written, not_vacant, live_one, in_within, in_published, in_unpublished, in_vacated, attached_in, slot_has}
 use Rattle.protocol.proofs.slots.Numbers.{slot_number}
 use Rattle.protocol.proofs.keeps.SectionKeeps.{none_from}
-use Rattle.protocol.proofs.keeps.ListKeeps.{may_write_tells, entry_shows}
+use Rattle.protocol.proofs.keeps.ListKeeps.{may_publish_tells, may_write_tells, entry_shows}
 use Rattle.protocol.proofs.keeps.MarkKeeps.{is_drained_tells}
 use Rattle.protocol.proofs.counts.CountBounds.{none_held_at_bias}
 use Rattle.protocol.proofs.keeps.Drivers.{HasDriver, slot_has_driver}
@@ -83,32 +83,21 @@ link_store_refines s t v = Stays
 
 publish_own : (s : State) (e : Entry) → Holds s → Holds (after_publish s e.slot e) → may_publish s e.slot e ≡ true → IsModelRun (picture s) (picture (after_publish s e.slot e))
 publish_own s e on now ok =
-    let p0 = and_parts (may_write s e.slot) (e.number == length s.history + 1 && (not (is_taken (key_of e) s.slots)
-    && (has_room s && (get_or s.next e.slot 0 == s.head && (are_unused s e.slot && keeps_rightly (kept_at s.keeps e.slot) e.rec.kind))))) ok in
-    let p1 = and_parts (e.number == length s.history + 1) (not (is_taken (key_of e) s.slots)
-    && (has_room s && (get_or s.next e.slot 0 == s.head && (are_unused s e.slot && keeps_rightly (kept_at s.keeps e.slot) e.rec.kind)))) p0.1 in
-    let p2 = and_parts (not (is_taken (key_of e) s.slots)) (has_room s && (get_or s.next e.slot 0 == s.head && (are_unused s e.slot && keeps_rightly (kept_at s.keeps e.slot) e.rec.kind))) p1.1 in
-    let p3 = and_parts (has_room s) (get_or s.next e.slot 0 == s.head && (are_unused s e.slot && keeps_rightly (kept_at s.keeps e.slot) e.rec.kind)) p2.1 in
-    let p4 = and_parts (get_or s.next e.slot 0 == s.head) (are_unused s e.slot && keeps_rightly (kept_at s.keeps e.slot) e.rec.kind) p3.1 in
-    let p5 = and_parts (are_unused s e.slot) (keeps_rightly (kept_at s.keeps e.slot) e.rec.kind) p4.1 in
-    let told = may_write_tells s e.slot on.shape p0.0 in
-    let lt : e.slot < length s.slots = told.1 in
-    let vacant : slot_at s.slots e.slot ≡ Vacant = told.2 in
-    let number : e.number ≡ suc (length s.history) = omega (arith, eqb-true e.number (length s.history + 1) p1.0) in
-    one_step (picture s) _ (picture (after_publish s e.slot e)) (Model.Attaches e (ap number_in vacant) now.legal number p5.1) (record {
+    let told = may_publish_tells s e.slot e on.shape ok in
+    one_step (picture s) _ (picture (after_publish s e.slot e)) (Model.Attaches e (ap number_in told.vacant) now.legal told.number told.rightly) (record {
       history = refl;
       sections = λ c. refl;
       passes = λ c. refl;
       lookups = λ c. refl;
       found = λ c. refl;
       passive = λ c n. passive_moved s.history (after_change s.history (Attach e)) s.slots (set s.slots e.slot (Live e)) s.passive c n on.slots now.slots
-          (λ u at. inl (at.0, in_other s.slots e.slot (Live e) at.0 u (λ same. not_vacant at.0 (slot_at s.slots u) (ap (slot_at s.slots) same ∙ vacant) at.1) at.1, at.2))
+          (λ u at. inl (at.0, in_other s.slots e.slot (Live e) at.0 u (λ same. not_vacant at.0 (slot_at s.slots u) (ap (slot_at s.slots) same ∙ told.vacant) at.1) at.1, at.2))
           (λ u at. ⊎_elim
-          (λ (new : (u ≡ e.slot) × (at.0 ≡ e)). inr (ap (passive_at s.passive c) new.0 ∙ on.passive.vacant c e.slot vacant))
+          (λ (new : (u ≡ e.slot) × (at.0 ≡ e)). inr (ap (passive_at s.passive c) new.0 ∙ on.passive.vacant c e.slot told.vacant))
           (λ (old : IsIn at.0 (slot_at s.slots u)). inl (at.0, old, at.2))
-          (in_published s.slots e.slot u e at.0 lt at.1));
-      locals = λ n. ap (λ (w : ℕ). sum_by (standing_of n) s.locals + sum_by (in_hand n) s.hands + w) (waiting_rest s.slots n s.due told.0 ∙ sym (waiting_rest (set s.slots e.slot (Live e)) n s.due told.0));
-      occupants = written number_in Vacant s.slots e.slot (Live e) lt;
+          (in_published s.slots e.slot u e at.0 told.within at.1));
+      locals = λ n. ap (λ (w : ℕ). sum_by (standing_of n) s.locals + sum_by (in_hand n) s.hands + w) (waiting_rest s.slots n s.due told.rest ∙ sym (waiting_rest (set s.slots e.slot (Live e)) n s.due told.rest));
+      occupants = written number_in Vacant s.slots e.slot (Live e) told.within;
       keeps = λ t. refl;
     })
 
