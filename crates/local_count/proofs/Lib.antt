@@ -1,9 +1,3 @@
 pub mod Agreeing
 pub mod Acquiring
 pub mod Releasing
-pub mod Balanced
-pub mod Collections
-pub mod Subtracting
-pub mod Freed
-pub mod GivenUp
-pub mod Keeping

@@ -1,2 +1,1 @@
 pub mod References
-pub mod Draining

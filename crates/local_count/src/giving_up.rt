@@ -3,12 +3,12 @@
 ghost use Rattle.std.specs.Prelude.{◌≡◌};
 ghost use Rattle.cpu_words.specs.Domains.{AreWordsOf};
 ghost use Rattle.cpu_words.specs.Draining.{IsFoundCollected};
-ghost use Rattle.local_count.specs.Draining.{HasGivenUp};
+ghost use Rattle.passive_list.specs.Draining.{HasGivenUp};
 
 use crate::local_ref::LocalRef;
 use crate::plain_ref::PlainRef;
-use cpu_words::{Domain, Words, steps};
-use passive_list::Keeper;
+use cpu_words::{Domain, Words};
+use passive_list::{Keeper, give_up};
 
 /// Releases a local reference under the interlock: the total of its entry's slot is one less.
 /// Condition: some count word of its slot was collected. `try_release` found it so where it handed the reference back; else the keeper
@@ -38,7 +38,5 @@ pub fn release_under_on(words: &Words, keeper: &mut Keeper, reference: PlainRef)
         slot,
         kind: _,
     } = reference;
-    steps::join_keeper(words, &mut keeper.seat, seat);
-    steps::total_sub(words, &mut keeper.seat, slot);
-    keeper.rows[slot as usize].total -= 1;
+    give_up(words, keeper, seat, slot);
 }

@@ -7,12 +7,12 @@ ghost use Rattle.registry_values.specs.Slots.{key_of_record, is_taken, live_coun
 ghost use Rattle.registry_values.specs.Names.{is_lawful};
 ghost use Rattle.protocol.specs.State.{kept_at};
 ghost use Rattle.cpu_words.specs.Domains.{AreWordsOf};
-ghost use Rattle.local_count.specs.Draining.{HasAttachedKeeping};
+ghost use Rattle.passive_list.specs.Draining.{HasAttachedKeeping};
 
 use crate::local_ref::LocalRef;
 use crate::plain_ref::PlainRef;
-use cpu_words::{Domain, Words, steps};
-use passive_list::{Keeper, SlotState, publish_entry};
+use cpu_words::{Domain, Words};
+use passive_list::{Keeper, publish_keeping};
 use registry_values::{Entry, Record};
 
 /// Publishes an interface in `slot`, which keeps the reference to its driver from now on: as `publish` does, with the reference spent
@@ -71,15 +71,5 @@ pub fn publish_iface_on(
         slot: _,
         kind: _,
     } = reference;
-    let entry = Entry {
-        number: keeper.changes + 1,
-        slot,
-        rec,
-    };
-    steps::keep(words, &mut keeper.seat, slot, seat);
-    keeper.rows[slot as usize].keeps = Some(number);
-    publish_entry(words, &mut keeper.seat, &keeper.rows, &entry);
-    keeper.rows[slot as usize].state = SlotState::Live(entry);
-    keeper.changes += 1;
-    entry
+    publish_keeping(words, keeper, slot, rec, seat, number)
 }

@@ -8,8 +8,6 @@
 #![tactic(auto)]
 
 mod acquire;
-mod collecting;
-mod freeing;
 mod giving_up;
 mod interfaces;
 mod local_ref;
@@ -18,11 +16,10 @@ mod plain_ref;
 mod release;
 
 pub use acquire::{acquire_local, acquire_local_on};
-pub use collecting::{collect, collected, total};
-pub use freeing::free_iface;
 pub use giving_up::{release_under, release_under_on};
 pub use interfaces::{publish_iface, publish_iface_on};
 pub use local_ref::LocalRef;
 pub use net::net_count;
+pub use passive_list::{collect, collected, free_iface, total};
 pub use plain_ref::PlainRef;
 pub use release::{try_release, try_release_on};

@@ -35,7 +35,7 @@ use Rattle.passive_list.specs.Keepers.{IsOurKeeper, OnKeeper, row_at, states_of}
 use Rattle.passive_list.proofs.Rows.{live_in, retired_in}
 use Rattle.local_count.specs.References.{net_by}
 use Rattle.local_count.proofs.Agreeing.{place_count}
-use Rattle.local_count.proofs.Balanced.{none_at_rest, total_near}
+use Rattle.passive_list.proofs.Balanced.{none_at_rest, total_near}
 use Rattle.name_registry.specs.Auditing.{AreAllCpus, Listed, Occupies, each_at, each_below, is_collected, local_met, locals_met, net_met, net_of, place_of, places_below, tallies_met, tally_met}
 
 -- The CPUs

@@ -21,7 +21,7 @@ use Rattle.passive_list.specs.Cpus.{OnCpu}
 use Rattle.passive_list.specs.declared.keeper.KeptSlot.{KeptSlot}
 use Rattle.passive_list.specs.Keepers.{IsOurKeeper, OnKeeper}
 use Rattle.passive_list.specs.Notes.{HasHeardOn}
-use Rattle.local_count.specs.Draining.{HasFreed, HasGivenUp}
+use Rattle.passive_list.specs.Draining.{HasFreed, HasGivenUp}
 use Rattle.name_registry.specs.Advancing.{HasAdvanced, HasEnded, HasWorkedFor, Meets}
 use Rattle.name_registry.specs.Attaching.{HasAttachedFor, HasAttachedIfaceFor, attach_answer, attach_iface_answer, given_entry}
 use Rattle.name_registry.specs.Changes.{HasMade, number_of, weigh, weight}
@@ -131,10 +131,10 @@ hold_same : (looks : Looking → Looking → Type 0) (a : OnKeeper) (x : OnCpu) 
 hold_same looks a x b y only has = ap (λ (k : KeeperView). k.history) has.view ∙ ap (λ (k : KeeperView). k.history) (only _ has.end has.made)
 
 pub begun_same : (z : Settings) (a : OnKeeper) (x : OnCpu) (snapshots : List ℕ) (retired : List (Option ℕ)) (b : OnKeeper) (y : OnCpu) → HasBegun z a x snapshots retired b y → Unchanged a b
-begun_same z a x snapshots retired b y has = hold_same (SnapshotsBelow snapshots z.cpus) a x b y (λ k l is. (snapshots_look snapshots z.cpus k l is).only) has.hold
+begun_same z a x snapshots retired b y has = hold_same (SnapshotsBelow snapshots z.cpus) a x b y (λ k l is. snapshots_look snapshots z.cpus k l is) has.hold
 
 pub glanced_same : (z : Settings) (snapshots : List ℕ) (a : OnKeeper) (x : OnCpu) (seen : List Bool) (told : Option ℕ) (after : List Bool) (b : OnKeeper) (y : OnCpu) → HasGlanced z snapshots a x seen told after b y → Unchanged a b
-glanced_same z snapshots a x seen told after b y has = hold_same (GlancesBelow snapshots seen after z.cpus) a x b y (λ k l is. (glances_look snapshots seen after z.cpus k l is).only) has.hold
+glanced_same z snapshots a x seen told after b y has = hold_same (GlancesBelow snapshots seen after z.cpus) a x b y (λ k l is. glances_look snapshots seen after z.cpus k l is) has.hold
 
 passes_if_same : (still : Bool) (z : Settings) (a : OnKeeper) (t : ℕ) (b : OnKeeper) → PassesIf still z a t b → Unchanged a b
 passes_if_same true z a t b has = worked_same a t b has.leaves.worked

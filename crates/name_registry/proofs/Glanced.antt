@@ -1,27 +1,22 @@
 -- Looks for no entry, CPU by CPU: what a loop over the CPUs has done is so of rows that agree on them, and one CPU more follows.
-use Rattle.std.proofs.Common.{◌≡◌, ℕ, zero, suc, ◌+◌, ◌<◌, ◌≤◌, List, ◌++◌, length, Bool, true, false, Option, Some, None, IfSome, Result, Err, get_or, set, refl, sym, ap, ◌∙◌, subst, arith}
+use Rattle.std.proofs.Common.{◌≡◌, ℕ, zero, suc, ◌+◌, ◌<◌, List, length, Bool, true, false, Option, Some, None, IfSome, Result, Err, get_or, set, refl, sym, ap, ◌∙◌, subst, arith}
 use Rattle.std.proofs.lemmas.List.{get_or-set_same, get_or-set_other}
 use mathlib.Core.List.{IsPrefix}
 use Rattle.protocol.specs.declared.event.Event.{Event}
-use Rattle.protocol.specs.declared.event.Event.TheVariants.{Hear, Look, Snapshot, Tell}
-use Rattle.protocol.specs.declared.event.Reply.TheVariants.{Done, Word}
-use Rattle.registry_values.specs.declared.entry.Change.{Change}
+use Rattle.protocol.specs.declared.event.Event.TheVariants.{Look, Snapshot}
+use Rattle.protocol.specs.declared.event.Reply.TheVariants.{Word}
 use Rattle.registry_values.specs.declared.refusal.Refusal.{Refusal}
 use Rattle.registry_values.specs.declared.settings.Settings.{Settings}
 use Rattle.registry_values.specs.declared.refusal.Refusal.TheVariants.{Inside}
 use Rattle.registry_values.specs.Answers.{wait_answer}
 use Rattle.cpu_words.specs.declared.view.KeeperView.{KeeperView}
-use Rattle.cpu_words.specs.KeeperLog.{changes_in}
-use Rattle.cpu_words.specs.Grace.{MayGlance}
-use Rattle.cpu_words.specs.Notes.{keeper_with_note}
-use Rattle.cpu_words.specs.Rule.{IsShown, did}
-use Rattle.cpu_words.proofs.shown.KeepersShown.{step_is_shown}
 use Rattle.passive_list.specs.Cpus.{OnCpu}
-use Rattle.passive_list.specs.Keepers.{OnKeeper, row_at, IsAtRest, RowsAgree, IsOurKeeper}
+use Rattle.passive_list.specs.Keepers.{OnKeeper}
+use Rattle.passive_list.specs.Logs.{HasOwnLog}
 use Rattle.passive_list.specs.Notes.{HasHeardOn}
-use Rattle.passive_list.proofs.Rows.{row_stays}
-use Rattle.passive_list.specs.declared.keeper.KeptSlot.{KeptSlot}
-use Rattle.name_registry.specs.Performing.{GlancesBelow, GlancesOnce, HasPerformed, Hold, Looking, LooksOnce, PerformsOutside, SnapshotsBelow, is_seen, word_of}
+use Rattle.name_registry.specs.Meeting.{keeper_after_hear, keeper_after_tell}
+use Rattle.name_registry.specs.Performing.{GlancesBelow, GlancesOnce, HasPerformed, Hold, Looking, LooksOnce, PerformsOutside, SnapshotsBelow, is_seen, looking, word_of}
+use Rattle.name_registry.proofs.Heard.{prefix_short}
 use Rattle.name_registry.proofs.Owned.{least_small}
 
 -- two rows agree on the first n CPUs
@@ -67,90 +62,48 @@ glances_more n b snapshots seen after k m l lt is once = subst (λ (j : ℕ). Gl
 abbrev pub OnlyLooked : KeeperView → KeeperView → Type 0
 OnlyLooked k l = l ≡ record k { looks = l.looks; last_look = l.last_look; noted_pass = l.noted_pass }
 
--- looks alone were made, and some state shows what is known then
-pub record Looked (k l : Looking) : Type 0 where
-  pub only : OnlyLooked k.view l.view
-  pub is_shown : IsShown k.view → IsShown l.view
-
-looked_none : (k l : Looking) → l ≡ k → Looked k l
-looked_none k l is = record { only = ap (λ (x : Looking). x.view) is ∙ both l.view k.view (ap (λ (x : Looking). x.view) is); is_shown = λ p. subst (λ (x : Looking). IsShown x.view) (sym is) p }
+looked_none : (k l : Looking) → l ≡ k → OnlyLooked k.view l.view
+looked_none k l is = ap (λ (x : Looking). x.view) is ∙ both l.view k.view (ap (λ (x : Looking). x.view) is)
   where
     both : (a b : KeeperView) → a ≡ b → b ≡ record b { looks = a.looks; last_look = a.last_look; noted_pass = a.noted_pass }
     both a b same = λ j. record b { looks = sym (ap (λ (x : KeeperView). x.looks) same) j; last_look = sym (ap (λ (x : KeeperView). x.last_look) same) j; noted_pass = sym (ap (λ (x : KeeperView). x.noted_pass) same) j }
 
-looked_once : (k m l : Looking) (e : Event) (w : ℕ) → Looked k m → LooksOnce m e w l → Looked k l
+looked_once : (k m l : Looking) (e : Event) (w : ℕ) → OnlyLooked k.view m.view → LooksOnce m e w l → OnlyLooked k.view l.view
 looked_once k m l e w had once =
-    let view : l.view ≡ record m.view { looks = suc m.view.looks; last_look = Some (record { event = e; reply = Word w }) } = ap (λ (x : Looking). x.view) once.change in record {
-      only = subst (λ (v : KeeperView). v ≡ record k.view { looks = v.looks; last_look = v.last_look; noted_pass = v.noted_pass }) (sym view)
-          (ap (λ (v : KeeperView). record v { looks = suc m.view.looks; last_look = Some (record { event = e; reply = Word w }) }) had.only);
-      is_shown = λ p. step_is_shown e (Word w) m.view l.view once.event;
-    }
+    let view : l.view ≡ record m.view { looks = suc m.view.looks; last_look = Some (record { event = e; reply = Word w }) } = ap (λ (x : Looking). x.view) once.change in
+    subst (λ (v : KeeperView). v ≡ record k.view { looks = v.looks; last_look = v.last_look; noted_pass = v.noted_pass }) (sym view)
+    (ap (λ (v : KeeperView). record v { looks = suc m.view.looks; last_look = Some (record { event = e; reply = Word w }) }) had)
 
-pub snapshots_look : (words : List ℕ) (n : ℕ) (k l : Looking) → SnapshotsBelow words n k l → Looked k l
+pub snapshots_look : (words : List ℕ) (n : ℕ) (k l : Looking) → SnapshotsBelow words n k l → OnlyLooked k.view l.view
 snapshots_look words zero k l is = looked_none k l is
 snapshots_look words (suc n) k l is = looked_once k is.0 l (Snapshot None n) (word_of words n) (snapshots_look words n k is.0 is.1) is.2
 
-glance_looks : (snapshot c : ℕ) (seen after : Bool) (k m l : Looking) → Looked k m → GlancesOnce snapshot c seen m after l → Looked k l
-glance_looks snapshot c true after k m l had is = subst (λ (x : Looking). Looked k x) (sym is.1) had
+glance_looks : (snapshot c : ℕ) (seen after : Bool) (k m l : Looking) → OnlyLooked k.view m.view → GlancesOnce snapshot c seen m after l → OnlyLooked k.view l.view
+glance_looks snapshot c true after k m l had is = subst (λ (x : Looking). OnlyLooked k.view x.view) (sym is.1) had
 glance_looks snapshot c false after k m l had is = looked_once k m l (Look None c) is.0 had is.1
 
-pub glances_look : (snapshots : List ℕ) (seen after : List Bool) (n : ℕ) (k l : Looking) → GlancesBelow snapshots seen after n k l → Looked k l
+pub glances_look : (snapshots : List ℕ) (seen after : List Bool) (n : ℕ) (k l : Looking) → GlancesBelow snapshots seen after n k l → OnlyLooked k.view l.view
 glances_look snapshots seen after zero k l is = looked_none k l is
 glances_look snapshots seen after (suc n) k l is = glance_looks (word_of snapshots n) n (is_seen seen n) (is_seen after n) k is.0 l (glances_look snapshots seen after n k is.0 is.1) is.2
 
--- what was known before a note was heard is known still, but for the note beside the view
-pub only_noted : (k h l : KeeperView) (pass : List Change) → h ≡ keeper_with_note k pass → OnlyLooked h l → OnlyLooked k l
-only_noted k h l pass heard only = only ∙ ap (λ (v : KeeperView). record v { looks = l.looks; last_look = l.last_look; noted_pass = l.noted_pass }) heard
-
--- so the keeper may look on
-pub may_on : (k l : Looking) (c : ℕ) → Looked k l → MayGlance k.view c → MayGlance l.view c
-may_on k l c had may = record { rest = ap (λ (v : KeeperView). v.due) had.only ∙ may.rest; cpu = subst (λ (v : KeeperView). c < v.settings.cpus) (sym had.only) may.cpu }
-
--- and its rows agree with what it knows
-pub still_ours : (a : Settings) (k l : KeeperView) (rows : List KeptSlot) (n : ℕ) → IsOurKeeper a k rows n → OnlyLooked k l → IsShown l → IsOurKeeper a l rows n
-still_ours a k l rows n our only is_shown =
-    let m : KeeperView = record k { looks = l.looks; last_look = l.last_look; noted_pass = l.noted_pass } in record {
-      view = subst (IsAtRest a) (sym only) record {
-        settings = our.view.settings;
-        fit = our.view.fit;
-        rest = our.view.rest;
-        seated = our.view.seated;
-        sized = record {
-          slots = our.view.sized.slots;
-          marks = our.view.sized.marks;
-          mark_rows = our.view.sized.mark_rows;
-          keeps = our.view.sized.keeps;
-          next = our.view.sized.next;
-          rows = our.view.sized.rows;
-          totals = our.view.sized.totals;
-          counts = our.view.sized.counts;
-          count_rows = our.view.sized.count_rows;
-        };
-        room = our.view.room;
-      };
-      is_shown = is_shown;
-      changes = our.changes ∙ sym (ap (λ (v : KeeperView). length v.history) only);
-      rows = subst (λ (v : KeeperView). RowsAgree a v rows) (sym only) record {
-        size = our.rows.size;
-        each = λ t lt. row_stays k m t (row_at rows t) refl refl refl refl (our.rows.each t lt);
-        beyond = our.rows.beyond;
-      };
+-- a hold, from what its three parts leave: the hearing, which leaves the CPU, the looks, and the telling
+pub made_hold : (looks : Looking → Looking → Type 0) (z : Settings) (a h l b : OnKeeper) (x same y : OnCpu) → h ≡ keeper_after_hear a x → IsPrefix x.view.pass h.view.history → IsPrefix x.known_log a.log → HasOwnLog z a → same ≡ x
+    → looks (looking h) (looking l) → l.slots ≡ h.slots → b ≡ keeper_after_tell l → HasHeardOn l.view.history same y → IsPrefix b.log y.known_log → Hold looks a x b y
+made_hold looks z a h l b x same y heard pass known own is made slots tells hears told =
+    let short = prefix_short x.view.pass h.view.history pass in
+    let long : length h.view.history ≡ length a.view.history = ap (λ (k : OnKeeper). length k.view.history) heard in
+    let changes = own.changes in
+    record {
+      known = known;
+      seen = omega (arith, short, long, changes);
+      end = looking l;
+      made = subst (λ (k : OnKeeper). looks (looking k) (looking l)) heard made;
+      view = ap (λ (k : OnKeeper). k.view) tells;
+      slots = ap (λ (k : OnKeeper). k.slots) tells ∙ (slots ∙ ap (λ (k : OnKeeper). k.slots) heard);
+      log = ap (λ (k : OnKeeper). k.log) tells;
+      hears = subst (λ (k : OnKeeper). HasHeardOn k.view.history x y) (sym tells) (subst (λ (o : OnCpu). HasHeardOn l.view.history o y) is hears);
+      told = told;
     }
-
--- a hold, from what its three parts say: the hearing, which leaves the CPU, the looks, and the telling
-pub made_hold : (looks : Looking → Looking → Type 0) (a : OnKeeper) (x same : OnCpu) (h l : Looking) (b : OnKeeper) (y : OnCpu) → h ≡ record { view = keeper_with_note a.view x.view.pass; log = a.log ++ did (Hear None) Done }
-    → IsPrefix x.known_log a.log → length x.view.pass ≤ changes_in a.log → same ≡ x → looks h l → b.view ≡ l.view → b.slots ≡ a.slots → b.log ≡ l.log ++ did (Tell None) Done → HasHeardOn l.view.history same y → IsPrefix b.log y.known_log → Hold looks a x b y
-made_hold looks a x same h l b y heard known seen is made view slots log hears told = record {
-  known = known;
-  seen = seen;
-  end = l;
-  made = subst (λ (k : Looking). looks k l) heard made;
-  view = view;
-  slots = slots;
-  log = log;
-  hears = subst (λ (o : OnCpu). HasHeardOn b.view.history o y) is (subst (λ (v : KeeperView). HasHeardOn v.history same y) (sym view) hears);
-  told = told;
-}
 
 -- What was made
 

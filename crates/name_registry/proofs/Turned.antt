@@ -1,5 +1,5 @@
 -- What a turn of a destroy tells the caller's CPU, by the keeper's log.
-use Rattle.std.proofs.Common.{◌≡◌, ◌∙◌, ⊎_elim, ℕ, ◌+◌, ◌*◌, ◌<◌, ◌≤◌, ◌&&◌, Bool, true, List, [], ◌∷◌, ◌++◌, length, Option, Some, None, Result, Ok, Err, eq-eqb, refl, sym, ap, subst, append-nil, append_assoc, arith}
+use Rattle.std.proofs.Common.{◌≡◌, ◌∙◌, ⊎_elim, ℕ, ◌<◌, ◌&&◌, Bool, true, List, [], ◌∷◌, ◌++◌, length, Some, None, Result, Ok, Err, eq-eqb, refl, sym, ap, subst, append-nil, append_assoc, arith}
 use Rattle.std.proofs.lemmas.List.{length-append}
 use Rattle.std.proofs.lemmas.Option.{none-some, same_Some}
 use mathlib.Core.List.{IsPrefix}
@@ -12,7 +12,6 @@ use Rattle.registry_values.specs.declared.slot.Slot.TheVariants.{Vacant, Live, R
 use Rattle.registry_values.specs.declared.stage.Stage.{Stage}
 use Rattle.registry_values.specs.declared.stage.Stage.TheVariants.{Grace, Passive, Local, Freed}
 use Rattle.registry_values.specs.declared.mark.Mark.{Mark}
-use Rattle.registry_values.specs.Balances.{bias}
 use Rattle.registry_values.specs.Slots.{is_retired, is_retired_as, retired_slot, slot_at}
 use Rattle.registry_values.proofs.Slots.{retired_slot_tells}
 use Rattle.protocol.specs.declared.event.Event.TheVariants.{Hear, KeptSub, Tell, Vacate}
@@ -23,7 +22,7 @@ use Rattle.protocol.specs.State.{State, count_at, mark_at, total_at}
 use Rattle.protocol.proofs.keeps.Unlinking.{within_retired}
 use Rattle.protocol.proofs.slots.Numbers.{position_fails}
 use Rattle.cpu_words.specs.declared.view.LogItem.{LogItem}
-use Rattle.cpu_words.specs.KeeperLog.{changes_in, given_up, has_looked, has_looked_passive, is_drawn, occupant, occupant_of, sum_collected, word_if, words_collected, IsFreedFrom}
+use Rattle.cpu_words.specs.KeeperLog.{has_looked, has_looked_passive, is_drawn, occupant, occupant_of, word_if, IsFreedFrom}
 use Rattle.cpu_words.specs.Notes.{keeper_with_note}
 use Rattle.cpu_words.specs.Rule.{did}
 use Rattle.cpu_words.proofs.by_keeper.KeeperSees.{seen_by_keeper}
@@ -32,7 +31,7 @@ use Rattle.passive_list.specs.Cpus.{OnCpu}
 use Rattle.passive_list.specs.Keepers.{OnKeeper}
 use Rattle.passive_list.specs.Logs.{HasOwnLog}
 use Rattle.passive_list.specs.Notes.{HasHeardOn}
-use Rattle.local_count.specs.Draining.{HasFreed}
+use Rattle.passive_list.specs.Draining.{HasFreed}
 use Rattle.name_registry.specs.Advancing.{EndsIn, HasAdvanced, HasEnded, Meets, MeetsGrace, MeetsLocal, MeetsPassive}
 use Rattle.name_registry.specs.Destroying.{HasAdvancedFor}
 use Rattle.name_registry.specs.Meeting.{keeper_after_hear, keeper_after_tell}

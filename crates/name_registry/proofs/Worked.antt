@@ -34,7 +34,7 @@ use Rattle.passive_list.specs.Keepers.{OnKeeper, OnPlainKeeper, on_keeper, state
 use Rattle.passive_list.specs.Vacating.{IsDrainedOn}
 use Rattle.passive_list.proofs.Marks.{marked}
 use Rattle.passive_list.proofs.Rows.{retired_in}
-use Rattle.local_count.specs.Draining.{AreHeld, HasCollectedInto}
+use Rattle.passive_list.specs.Draining.{AreHeld, HasCollectedInto}
 use Rattle.name_registry.specs.Advancing.{MayWork, HasEnded, HasWorkedFor, HasLookedFor, PassedBelow, ClearBelow, CollectedBelow, Settles}
 
 -- Where there is work

@@ -27,7 +27,7 @@ use Rattle.cpu_words.specs.Steps.{Makes}
 use Rattle.passive_list.specs.declared.keeper.KeptSlot.{KeptSlot}
 use Rattle.passive_list.specs.Keepers.{OnKeeper}
 use Rattle.passive_list.specs.Vacating.{HasVacated, IsDrainedOn}
-use Rattle.local_count.specs.Draining.{AreHeld, HasFreed}
+use Rattle.passive_list.specs.Draining.{AreHeld, HasFreed}
 
 -- What the work asks, and what it leaves
 

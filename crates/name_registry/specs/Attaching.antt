@@ -14,7 +14,7 @@ use Rattle.cpu_words.specs.KeeperLog.{IsAttachedKeeping}
 use Rattle.passive_list.specs.Keepers.{OnKeeper}
 use Rattle.passive_list.specs.Notes.{HasHeardOn}
 use Rattle.passive_list.specs.Publishing.{HasAttached}
-use Rattle.local_count.specs.Draining.{HasAttachedKeeping}
+use Rattle.passive_list.specs.Draining.{HasAttachedKeeping}
 use Rattle.name_registry.specs.Meeting.{is_inside, keeper_after_hear, HasSeenAttach}
 
 abbrev pub first_fit : OnKeeper → Option ℕ

@@ -18,7 +18,6 @@ use Rattle.cpu_words.specs.Grace.{keeper_after_look}
 use Rattle.cpu_words.specs.Notes.{keeper_with_note}
 use Rattle.cpu_words.specs.Rule.{did}
 use Rattle.cpu_words.specs.Steps.{Makes}
-use Rattle.cpu_words.specs.Views.{Seated}
 use Rattle.passive_list.specs.Cpus.{OnCpu}
 use Rattle.passive_list.specs.Keepers.{OnKeeper}
 use Rattle.passive_list.specs.Logs.{HasOwnLog}
@@ -28,13 +27,13 @@ use Rattle.name_registry.specs.Meeting.{keeper_after_hear, keeper_after_tell}
 
 -- The keeper's looks for no entry
 
--- the keeper's seat in one hold of the interlock: what it knows, and what it did
+-- the keeper in one hold of the interlock: what its seat knows, and what it did
 pub record Looking : Type 0 where
   pub view : KeeperView
   pub log : List LogItem
 
-abbrev pub looking : Seated KeeperView → Looking
-looking s = record { view = s.view; log = s.log }
+abbrev pub looking : OnKeeper → Looking
+looking k = record { view = k.view; log = k.log }
 
 -- just this look more was made, and found the word w: it is counted with its answer and stands in the log, and nothing else changed
 pub record LooksOnce (k : Looking) (e : Event) (w : ℕ) (l : Looking) : Type 0 where

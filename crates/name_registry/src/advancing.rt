@@ -38,7 +38,7 @@ fn retired_place(keeper: &Keeper, number: u64) -> Option<u8>
     ensures value { result ≡ retired_slot keeper.now.keeper.slots number }
     ensures works { IfSome result (λ t. MayWork keeper.now.words.settings keeper.now.keeper t) }
 {
-    match place_retired_as(&keeper.rows, number) {
+    match place_retired_as(keeper.rows(), number) {
         Some(slot) => Some(slot as u8),
         None => None,
     }
@@ -80,7 +80,7 @@ pub(crate) fn look_at_all(words: &Words, keeper: &mut Keeper, slot: u8) -> Optio
     ensures log { GoesOnByLooks slot keeper.old.keeper.log keeper.new.keeper.log }
     ensures words { keeper.new.words ≡ keeper.old.words }
 {
-    for cpu in 0..keeper.settings.cpus {
+    for cpu in 0..keeper.settings().cpus {
         if !passes(words, keeper, slot, cpu) {
             return Some(cpu);
         }
@@ -116,7 +116,7 @@ fn look_at_passive(words: &Words, keeper: &mut Keeper, slot: u8) -> Option<u8>
     ensures leaves { HasLookedFor keeper.old.keeper slot keeper.new.keeper }
     ensures words { keeper.new.words ≡ keeper.old.words }
 {
-    for cpu in 0..keeper.settings.cpus {
+    for cpu in 0..keeper.settings().cpus {
         if !clears(words, keeper, slot, cpu) {
             return Some(cpu);
         }
@@ -151,7 +151,7 @@ fn collect_all(words: &Words, keeper: &mut Keeper, slot: u8)
     ensures leaves { HasWorkedFor keeper.old.keeper slot keeper.new.keeper }
     ensures words { keeper.new.words ≡ keeper.old.words }
 {
-    for cpu in 0..keeper.settings.cpus {
+    for cpu in 0..keeper.settings().cpus {
         collect_one(words, keeper, slot, cpu);
     }
 }

@@ -39,7 +39,7 @@ pub fn audit_in<D: Domain>(
     ensures cpus { HaveLearned cpus.old cpus.new }
     ensures words { keeper.new.words ≡ keeper.old.words }
 {
-    if !are_all(keeper.settings.cpus, cpus) {
+    if !are_all(keeper.settings().cpus, cpus) {
         return Err(Refusal::MissingCpu);
     }
     gather(words, keeper, cpus);
@@ -103,7 +103,7 @@ fn balances<D: Domain>(
     ensures wanted { OnErr result (IsOccupied keeper.now.keeper) }
 {
     let mut list = Vec::new(alloc);
-    let slots = keeper.settings.slots;
+    let slots = keeper.settings().slots;
     for t in 0..slots {
         match keeper.slot(t) {
             Slot::Vacant => (),
@@ -127,7 +127,7 @@ fn balance<D: Domain>(
     requires few { length cpus.now ≤ 8 }
     ensures { IfOk result (λ b. tally_shown b ≡ tally_met keeper.now.keeper cpus.now number t) }
 {
-    let total = less_bias(keeper.rows[t as usize].total);
+    let total = less_bias(keeper.rows()[t as usize].total);
     let locals = locals(alloc, keeper, cpus, t, number)?;
     let held = sum(&locals) + total;
     Ok(Balance {
@@ -187,6 +187,6 @@ fn is_collected(keeper: &Keeper, t: u8, cpu: u8) -> bool
     requires { (t < 32) × (cpu < 8) }
     ensures { result ≡ is_collected keeper.now.keeper t cpu }
 {
-    let row = keeper.rows[t as usize];
+    let row = &keeper.rows()[t as usize];
     matches!(row.state, Slot::Retired(_)) && row.marks[cpu as usize].collected
 }

@@ -45,7 +45,7 @@ fn live_place(keeper: &Keeper, key: Key) -> Option<u8>
     ensures lookup { IsLivePlace keeper.now.keeper key result }
     ensures within { IfSome result (λ t. t < length keeper.now.keeper.slots) }
 {
-    match place_live_as(&keeper.rows, key) {
+    match place_live_as(keeper.rows(), key) {
         Some(slot) => Some(slot as u8),
         None => None,
     }

@@ -29,7 +29,7 @@ fn is_taken(keeper: &Keeper, rec: Record) -> bool
         kind: rec.kind,
         name: rec.name,
     };
-    is_live_in(&keeper.rows, key)
+    is_live_in(keeper.rows(), key)
 }
 
 fn is_live_in(rows: &[KeptSlot], key: Key) -> bool
@@ -43,7 +43,7 @@ fn first_fit(keeper: &Keeper) -> Option<u8>
     ensures value { result ≡ first_fit keeper.now.keeper }
     ensures within { IfSome result (λ t. t < keeper.now.words.settings.slots) }
 {
-    match first_fit_place(&keeper.rows, keeper.settings.slots) {
+    match first_fit_place(keeper.rows(), keeper.settings().slots) {
         Some(slot) => Some(slot as u8),
         None => None,
     }
@@ -63,9 +63,9 @@ fn room(keeper: &Keeper) -> Room
     ensures { result ≡ room_of keeper.now.words.settings keeper.now.keeper }
 {
     Room {
-        changes: keeper.changes,
-        live: live_count(&keeper.rows) as u8,
-        limit: keeper.settings.change_limit,
+        changes: keeper.changes(),
+        live: live_count(keeper.rows()) as u8,
+        limit: keeper.settings().change_limit,
     }
 }
 

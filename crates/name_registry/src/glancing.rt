@@ -1,25 +1,16 @@
 //! The parts of a `perform`, for a caller that holds the keeper: snapshots, glances, and at the end looks for what was retired. In each hold
 //! of the interlock the keeper hears first what the caller's CPU knows, and at the end the CPU hears what the keeper did.
 
-ghost use Rattle.std.specs.Prelude.{◌≡◌, ◌<◌, ◌≤◌, ◌++◌, ℕ, None, length, slice_index_or};
-ghost use mathlib.Core.List.{IsPrefix};
+ghost use Rattle.std.specs.Prelude.{◌≡◌, ◌<◌, ◌≤◌, ℕ, None, slice_index_or};
 ghost use Rattle.registry_values.specs.Slots.{retired_number, slot_at};
-ghost use Rattle.protocol.specs.declared.event.Event.TheVariants.{Hear, Tell};
-ghost use Rattle.protocol.specs.declared.event.Reply.TheVariants.{Done};
-ghost use Rattle.cpu_words.specs.KeeperLog.{changes_in, IsOwnLog};
 ghost use Rattle.cpu_words.specs.Domains.{AreWordsOf};
-ghost use Rattle.cpu_words.specs.Grace.{MayGlance};
-ghost use Rattle.cpu_words.specs.Notes.{keeper_with_note};
-ghost use Rattle.cpu_words.specs.Rule.{IsShown, did};
-ghost use Rattle.passive_list.specs.Notes.{HasHeardOn};
-ghost use Rattle.protocol.specs.declared.state.Due.TheVariants.{Rest};
 ghost use Rattle.name_registry.specs.Performing.{GlancesBelow, GlancesOnce, HasBegun, HasGlanced, HasPassedAll, PassesBelow, PassesEntry, SnapshotsBelow, looking};
 ghost use Rattle.name_registry.specs.Meeting.{KeepsWords};
 
 use crate::advancing::look_at_all;
 use crate::meeting::{hear_cpu, show_cpu};
-use cpu_words::{KeeperSeat, Words, steps};
-use passive_list::{Keeper, PlainCpu, hear_on, tell_on};
+use cpu_words::Words;
+use passive_list::{Keeper, PlainCpu, glance, snapshot};
 use registry_values::{first_unseen, is_out, is_retired_as, retired_number};
 
 /// Begins a wait until each section that is open now has ended: the section word of each CPU, and the number of each retired entry, slot by
@@ -37,57 +28,23 @@ pub fn begin(
     ensures words { KeepsWords keeper.old cpu.old keeper.new cpu.new }
 {
     let numbers = retired_numbers(keeper);
-    hear_caller(words, &mut keeper.seat, cpu);
-    let snapshots = snapshot_all(words, &mut keeper.seat, words.settings().cpus);
-    tell_caller(words, &mut keeper.seat, cpu);
+    hear_cpu(words, keeper, cpu);
+    let snapshots = snapshot_all(words, keeper);
+    show_cpu(words, keeper, cpu);
     (snapshots, numbers)
 }
 
-/// The keeper hears what the CPU knows: its pass is in the history, and what it has heard of the keeper's log begins that log, which
-/// has what the keeper has (`own`).
-fn hear_caller(words: &Words, seat: &mut KeeperSeat, cpu: &mut PlainCpu)
-    requires words { AreWordsOf words.now cpu.old.words.table cpu.old.words.settings }
-    requires table { seat.old.table ≡ words.now.table }
-    requires may { seat.old.view.due ≡ Rest }
-    ensures table { seat.new.table ≡ seat.old.table }
-    ensures view { seat.new.view ≡ keeper_with_note seat.old.view cpu.old.cpu.view.pass }
-    ensures is_shown { IsShown seat.new.view }
-    ensures log { seat.new.log ≡ seat.old.log ++ did (Hear None) Done }
-    ensures own { IsOwnLog seat.old.log cpu.old.cpu.known_log seat.old.view }
-    ensures seen { length cpu.old.cpu.view.pass ≤ changes_in seat.old.log }
-    ensures cpu { cpu.new ≡ cpu.old }
-{
-    let note = tell_on(words, cpu);
-    steps::hear_keeper(words, seat, note);
-}
-
-/// The CPU hears the history, and what the keeper did.
-fn tell_caller(words: &Words, seat: &mut KeeperSeat, cpu: &mut PlainCpu)
-    requires words { AreWordsOf words.now cpu.old.words.table cpu.old.words.settings }
-    requires table { seat.old.table ≡ words.now.table }
-    requires may { seat.old.view.due ≡ Rest }
-    ensures table { seat.new.table ≡ seat.old.table }
-    ensures view { seat.new.view ≡ seat.old.view }
-    ensures log { seat.new.log ≡ seat.old.log ++ did (Tell None) Done }
-    ensures hears { HasHeardOn seat.old.view.history cpu.old.cpu cpu.new.cpu }
-    ensures told { IsPrefix seat.new.log cpu.new.cpu.known_log }
-    ensures words { cpu.new.words ≡ cpu.old.words }
-{
-    let note = steps::tell_keeper(words, seat);
-    hear_on(words, cpu, note);
-}
-
 /// One snapshot of each CPU, CPU 0 first.
-fn snapshot_all(words: &Words, seat: &mut KeeperSeat, cpus: u8) -> [u64; 8]
-    requires table { seat.old.table ≡ words.now.table }
-    requires may { (c : ℕ) → c < cpus → MayGlance seat.old.view c }
-    requires few { cpus ≤ 8 }
-    ensures table { seat.new.table ≡ seat.old.table }
-    ensures looks { SnapshotsBelow result cpus (looking seat.old) (looking seat.new) }
+fn snapshot_all(words: &Words, keeper: &mut Keeper) -> [u64; 8]
+    requires words { AreWordsOf words.now keeper.old.words.table keeper.old.words.settings }
+    requires few { words.now.settings.cpus ≤ 8 }
+    ensures looks { SnapshotsBelow result words.now.settings.cpus (looking keeper.old.keeper) (looking keeper.new.keeper) }
+    ensures slots { keeper.new.keeper.slots ≡ keeper.old.keeper.slots }
+    ensures words { keeper.new.words ≡ keeper.old.words }
 {
     let mut snapshots = [0; 8];
-    for cpu in 0..cpus {
-        snapshots[cpu as usize] = steps::snapshot_now(words, seat, cpu);
+    for cpu in 0..words.settings().cpus {
+        snapshots[cpu as usize] = snapshot(words, keeper, cpu);
     }
     snapshots
 }
@@ -118,45 +75,38 @@ pub fn glance_at_all(
     ensures glanced { HasGlanced keeper.old.words.settings snapshots.now keeper.old.keeper cpu.old.cpu seen.old result seen.new keeper.new.keeper cpu.new.cpu }
     ensures words { KeepsWords keeper.old cpu.old keeper.new cpu.new }
 {
-    let cpus = words.settings().cpus;
-    hear_caller(words, &mut keeper.seat, cpu);
-    glance_at_cpus(words, &mut keeper.seat, cpus, snapshots, seen);
-    tell_caller(words, &mut keeper.seat, cpu);
-    first_unseen(cpus, seen)
+    hear_cpu(words, keeper, cpu);
+    glance_at_cpus(words, keeper, snapshots, seen);
+    show_cpu(words, keeper, cpu);
+    first_unseen(words.settings().cpus, seen)
 }
 
 /// A glance at each CPU that wasn't seen yet, CPU 0 first.
-fn glance_at_cpus(
-    words: &Words,
-    seat: &mut KeeperSeat,
-    cpus: u8,
-    snapshots: &[u64; 8],
-    seen: &mut [bool; 8],
-)
-    requires table { seat.old.table ≡ words.now.table }
-    requires may { (c : ℕ) → c < cpus → MayGlance seat.old.view c }
-    requires few { cpus ≤ 8 }
-    ensures table { seat.new.table ≡ seat.old.table }
-    ensures looks { GlancesBelow snapshots.now seen.old seen.new cpus (looking seat.old) (looking seat.new) }
+fn glance_at_cpus(words: &Words, keeper: &mut Keeper, snapshots: &[u64; 8], seen: &mut [bool; 8])
+    requires words { AreWordsOf words.now keeper.old.words.table keeper.old.words.settings }
+    requires few { words.now.settings.cpus ≤ 8 }
+    ensures looks { GlancesBelow snapshots.now seen.old seen.new words.now.settings.cpus (looking keeper.old.keeper) (looking keeper.new.keeper) }
+    ensures slots { keeper.new.keeper.slots ≡ keeper.old.keeper.slots }
+    ensures words { keeper.new.words ≡ keeper.old.words }
 {
-    for cpu in 0..cpus {
+    for cpu in 0..words.settings().cpus {
         let at = cpu as usize;
-        seen[at] = glances(words, seat, cpu, snapshots[at], seen[at]);
+        seen[at] = glances(words, keeper, cpu, snapshots[at], seen[at]);
     }
 }
 
 /// Whether the CPU was seen out of the section of its snapshot, before or by a glance at it now.
-fn glances(words: &Words, seat: &mut KeeperSeat, cpu: u8, snapshot: u64, seen: bool) -> bool
-    requires table { seat.old.table ≡ words.now.table }
-    requires place { cpu < 8 }
-    requires may { MayGlance seat.old.view cpu }
-    ensures table { seat.new.table ≡ seat.old.table }
-    ensures looks { GlancesOnce snapshot cpu seen (looking seat.old) result (looking seat.new) }
+fn glances(words: &Words, keeper: &mut Keeper, cpu: u8, snapshot: u64, seen: bool) -> bool
+    requires words { AreWordsOf words.now keeper.old.words.table keeper.old.words.settings }
+    requires cpu { cpu < words.now.settings.cpus }
+    ensures looks { GlancesOnce snapshot cpu seen (looking keeper.old.keeper) result (looking keeper.new.keeper) }
+    ensures slots { keeper.new.keeper.slots ≡ keeper.old.keeper.slots }
+    ensures words { keeper.new.words ≡ keeper.old.words }
 {
     if seen {
         return true;
     }
-    is_out(snapshot, steps::look_now(words, seat, cpu))
+    is_out(snapshot, glance(words, keeper, cpu))
 }
 
 /// The end of such a wait, once all CPUs were seen: looks at each CPU for the retired entries with these numbers, one by slot. One that was

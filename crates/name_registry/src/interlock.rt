@@ -48,8 +48,8 @@ impl<D: Domain> Interlock<D> {
         ensures refused { IfErr result (λ refusal. IsAttachRefusal (is_inside cpu.old) (is_iface rec.kind) refusal × (cpu.new ≡ cpu.old)) }
     {
         let Interlock { keeper, book } = self;
-        // Reading it opens what its type keeps: how long its history may be.
-        let _changes = keeper.changes;
+        // Its clause tells what a keeper keeps of itself: how long its history may be.
+        let _settings = keeper.settings();
         let entry = attach_in(words, keeper, &mut cpu.plain, rec)?;
         count_attach(book, cpu, entry);
         Ok(entry)
@@ -73,8 +73,8 @@ impl<D: Domain> Interlock<D> {
         ensures refused { IfErr result (λ back. IsAttachRefusal (is_inside cpu.old) (is_iface reference.entry.rec.kind) back.0 × (back.1 ≡ reference) × (cpu.new ≡ cpu.old)) }
     {
         let Interlock { keeper, book } = self;
-        // Reading it opens what its type keeps: how long its history may be.
-        let _changes = keeper.changes;
+        // Its clause tells what a keeper keeps of itself: how long its history may be.
+        let _settings = keeper.settings();
         let LocalRef { plain, domain } = reference;
         match attach_iface_in(words, keeper, &mut cpu.plain, rec, plain) {
             Ok(entry) => {
@@ -100,8 +100,8 @@ impl<D: Domain> Interlock<D> {
         ensures refused { IfErr result (λ refusal. IsDetachRefusedTo (is_inside cpu.old) refusal × (cpu.new ≡ cpu.old)) }
     {
         let Interlock { keeper, book } = self;
-        // Reading it opens what its type keeps: how long its history may be.
-        let _changes = keeper.changes;
+        // Its clause tells what a keeper keeps of itself: how long its history may be.
+        let _settings = keeper.settings();
         let entry = detach_in(words, keeper, &mut cpu.plain, kind, name)?;
         count_detach(book, cpu, entry.number);
         Ok(entry)

@@ -12,7 +12,9 @@ use passive_list::{Cpu, Keeper};
 pub fn free_interlock(keeper: &Keeper) -> u64
     ensures law { FreeInterlock keeper.now.words.settings keeper.now.keeper }
 {
-    keeper.changes
+    // Its clause tells what a keeper keeps of itself: that it is at rest.
+    let _settings = keeper.settings();
+    keeper.changes()
 }
 
 /// Whoever holds the keeper and CPUs, and has made no step yet, has the views of one state: whatever the words and the seats of all threads
@@ -24,7 +26,7 @@ pub fn exact_audit<D: Domain>(keeper: &Keeper, cpus: &[Cpu<D>]) -> u64
 {
     // The law alone speaks of the CPUs.
     let _cpus = cpus;
-    keeper.changes
+    keeper.changes()
 }
 
 /// What a CPU's share has grown by tells which change its calls made: where it is one change's weight, they made one change, an attach or a

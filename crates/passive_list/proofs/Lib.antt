@@ -12,3 +12,9 @@ pub mod Logs
 pub mod Standing
 pub mod Noting
 pub mod FoundAgain
+pub mod Balanced
+pub mod Collections
+pub mod Subtracting
+pub mod Freed
+pub mod GivenUp
+pub mod Kept

@@ -3,6 +3,7 @@ use Rattle.std.proofs.Common.{◌≡◌, ◌≢◌, ⊎_elim, ◌||◌, ℕ, zer
 use Rattle.std.specs.List.{list_any}
 use Rattle.std.proofs.lemmas.Bool.{cases_lt}
 use Rattle.std.proofs.lemmas.List.{length-replicate, get_or-replicate, get_or_past}
+use Rattle.atomic_table.specs.Seated.{TableId}
 use Rattle.registry_values.specs.declared.entry.Entry.{Entry}
 use Rattle.registry_values.specs.declared.settings.Settings.{Settings}
 use Rattle.registry_values.specs.declared.slot.Key.{Key}
@@ -18,10 +19,11 @@ use Rattle.protocol.proofs.keeps.MarkKeeps.{none_live, rows_all}
 use Rattle.protocol.proofs.slots.Occupied.{place_cases}
 use Rattle.registry_values.proofs.Fit.{ranges}
 use Rattle.cpu_words.specs.declared.view.KeeperView.{KeeperView}
+use Rattle.cpu_words.specs.declared.view.LogItem.{LogItem}
 use Rattle.cpu_words.specs.Opening.{keeper_with}
 use Rattle.passive_list.specs.declared.keeper.KeptSlot.{KeptSlot}
 use Rattle.passive_list.specs.Cpus.{OnPlainCpu}
-use Rattle.passive_list.specs.Keepers.{OnPlainKeeper, no_row, row_at, state_of, states_of, RowAgrees, IsAtRest, RowsAgree}
+use Rattle.passive_list.specs.Keepers.{OnPlainKeeper, HasRows, on_keeper, no_row, row_at, state_of, states_of, RowAgrees, IsAtRest, IsOurKeeper, RowsAgree}
 
 -- At the start
 
@@ -138,6 +140,10 @@ rows_set a k l rows t r lt place agree here others = record {
       (λ (off : (u ≡ t → ⊥) × (row_at (set rows t r) u ≡ row_at rows u)). ap state_of off.1 ∙ agree.beyond u past)
       (place_cases no_row rows t r u (let size = agree.size in omega arith));
 }
+
+-- The keeper as contracts see it: it has the rows that are in it
+pub has_rows : {table : TableId} {log : List LogItem} (a : Settings) (k : KeeperView) (rows : List KeptSlot) (n : ℕ) (x : OnPlainKeeper) → IsOurKeeper a k rows n → on_keeper table a k rows log ≡ x → HasRows x rows
+has_rows a k rows n x our is = subst (λ (y : OnPlainKeeper). HasRows y rows) is record { are = refl; agree = subst (IsOurKeeper a k rows) our.changes our }
 
 -- A keeper's value, or a CPU's: what is so of it is so of its parts
 

@@ -84,3 +84,8 @@ pub record IsOurKeeper (a : Settings) (k : KeeperView) (rs : List KeptSlot) (n :
 -- the keeper of this table with these settings, by what its seat knows, its rows and its log
 abbrev pub on_keeper : TableId → Settings → KeeperView → List KeptSlot → List LogItem → OnPlainKeeper
 on_keeper table a k rows log = record { words = record { table = table; settings = a }; keeper = record { view = k; slots = states_of rows; log = log } }
+
+-- of the keeper, as contracts see it: these are its rows, and they agree with what its seat knows
+pub record HasRows (x : OnPlainKeeper) (rows : List KeptSlot) : Type 0 where
+  pub are : on_keeper x.words.table x.words.settings x.keeper.view rows x.keeper.log ≡ x
+  pub agree : IsOurKeeper x.words.settings x.keeper.view rows (length x.keeper.view.history)

@@ -11,3 +11,4 @@ pub mod Retiring
 pub mod Logs
 pub mod Walks
 pub mod Noting
+pub mod Draining

@@ -28,17 +28,18 @@ pub struct KeptSlot {
 }
 
 /// The keeper of the table that its seat is of. To a contract it is that table with its settings, and what its seat knows, the slots as it has
-/// them, and its log: what it did, each event with its reply, in order. It is at rest: no operation of it is half done.
+/// them, and its log: what it did, each event with its reply, in order. It is at rest: no operation of it is half done. Its fields are this
+/// crate's alone, each of whose functions leaves it so that the rows agree with what the seat knows.
 #[derive(Drop)]
 pub struct Keeper {
     /// The seat that it steps with.
-    pub seat: KeeperSeat,
+    pub(crate) seat: KeeperSeat,
     /// What the table was made for.
-    pub settings: Settings,
+    pub(crate) settings: Settings,
     /// By slot.
-    pub rows: [KeptSlot; 32],
+    pub(crate) rows: [KeptSlot; 32],
     /// How many changes there were: attaches and detaches.
-    pub changes: u64,
+    pub(crate) changes: u64,
 }
 
 impl Model for Keeper {

@@ -1,15 +1,23 @@
-//! Read sections, lookups, and the keeper's side of both: pserialize(9) over virtual CPUs.
+//! Read sections, lookups, and the keeper: pserialize(9) over virtual CPUs.
 //!
 //! A reader's code runs on a `Cpu`, which the thread that runs it owns. It enters a section, finds entries, and exits; in the section
 //! no entry that it may have found loses its slot. The writer holds the `Keeper`: it publishes an entry, retires it, and looks at each
 //! CPU until all sections that may hold the entry have ended.
+//!
+//! The keeper's fields are this crate's alone. So what it does for passive and local references stands here, too: looks at passive words,
+//! collections into totals, references given up, interfaces and the drivers that they keep.
 #![tactic(auto)]
 
+mod collecting;
 mod cpu;
+mod freeing;
+mod giving_up;
 mod grace;
 mod keeper;
 mod keeper_notes;
+mod keeping;
 mod links;
+mod looking;
 mod lookup;
 mod marked;
 mod notes;
@@ -18,18 +26,24 @@ mod plain_cpu;
 mod publishing;
 mod retiring;
 mod sections;
+mod shown;
 mod vacating;
 mod walks;
 
+pub use collecting::{collect, collected, total};
 pub use cpu::Cpu;
+pub use freeing::free_iface;
+pub use giving_up::give_up;
 pub use grace::{glance, look, snapshot};
 pub use keeper::{Keeper, KeptSlot, SlotState};
 pub use keeper_notes::{hear_keeper, hear_keeper_on, tell_keeper, tell_keeper_on};
+pub use keeping::publish_keeping;
+pub use looking::look_passive;
 pub use lookup::{find, find_on};
 pub use notes::{Note, hear, hear_on, tell, tell_on};
 pub use place::{Found, NumberedCount};
 pub use plain_cpu::PlainCpu;
-pub use publishing::{publish, publish_entry};
+pub use publishing::publish;
 pub use retiring::retire;
 pub use sections::{enter, enter_on, exit, exit_on};
 pub use vacating::vacate;

@@ -46,7 +46,12 @@ pub fn publish(words: &Words, keeper: &mut Keeper, slot: u8, rec: Record) -> Ent
 /// Publishes the entry by the keeper's seat alone, as `publish` does, where the rows say what stands in each slot: for calls that have
 /// done another step with the seat, which the rows say already.
 /// Condition: that of `publish`, of the seat and the rows; the entry's number is how many changes there are then.
-pub fn publish_entry(words: &Words, seat: &mut KeeperSeat, rows: &[KeptSlot; 32], entry: &Entry)
+pub(crate) fn publish_entry(
+    words: &Words,
+    seat: &mut KeeperSeat,
+    rows: &[KeptSlot; 32],
+    entry: &Entry,
+)
     requires table { seat.old.table ≡ words.now.table }
     requires may { MayAttach words.now.settings seat.old.view rows.now entry.now }
     ensures table { seat.new.table ≡ seat.old.table }

@@ -11,12 +11,11 @@
 
 mod acquiring;
 mod holding;
-mod looking;
 mod psref;
 mod reading;
 
 pub use acquiring::{acquire, acquire_on, copy, copy_on, release, release_on};
 pub use holding::{held, held_on};
-pub use looking::look_passive;
+pub use passive_list::look_passive;
 pub use psref::Psref;
 pub use reading::{read, read_entry_on, read_on};

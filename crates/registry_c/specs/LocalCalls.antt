@@ -8,7 +8,7 @@ use Rattle.registry_values.specs.declared.refusal.Refusal.TheVariants.{LocalFull
 use Rattle.registry_values.specs.Refusals.{number_of_refusal}
 use Rattle.cpu_words.specs.declared.view.ReferenceView.{ReferenceView}
 use Rattle.passive_list.specs.Cpus.{OnPlainCpu}
-use Rattle.local_count.specs.Draining.{HasGivenUp}
+use Rattle.passive_list.specs.Draining.{HasGivenUp}
 use Rattle.local_count.specs.References.{HasAcquired, HasComeBack, HasReleased, IsFull}
 use Rattle.registry_c.specs.declared.values.TheConstants.{DONE, EMPTY_HANDLE, FULL_HANDLE, BAD_NAME, COLLECTED, NOT_COLLECTED, NULL}
 use Rattle.registry_c.specs.declared.values.CEntry.{CEntry}

@@ -135,7 +135,7 @@ fn audit_all(
     ensures place { length.new.at ≡ length.old.at }
     ensures answer { Audits keeper.old.words.settings keeper.old.keeper (bodies_of cpus.old) result list.old list.new length.old.value length.new.value }
 {
-    if !are_all(keeper.settings.cpus, cpus) {
+    if !are_all(keeper.settings().cpus, cpus) {
         return refused(Refusal::MissingCpu);
     }
     let count = count_entries(keeper);
@@ -209,7 +209,7 @@ fn count_entries(keeper: &Keeper) -> usize
     ensures { result ≡ occupied keeper.now.keeper keeper.now.words.settings.slots }
 {
     let mut count = 0;
-    for t in 0..keeper.settings.slots {
+    for t in 0..keeper.settings().slots {
         count += entries_in(keeper.slot(t));
     }
     count
@@ -232,7 +232,7 @@ fn write_balances(keeper: &Keeper, cpus: &mut [CpuHandle], list: &mut [CBalance]
     ensures list { AreTold keeper.now.words.settings keeper.now.keeper (bodies_of cpus.old) keeper.now.words.settings.slots (occupied keeper.now.keeper keeper.now.words.settings.slots) list.old list.new }
 {
     let mut at = 0;
-    for t in 0..keeper.settings.slots {
+    for t in 0..keeper.settings().slots {
         at = write_next(keeper, cpus, list, t, at);
     }
 }
@@ -268,9 +268,9 @@ fn balance(keeper: &Keeper, cpus: &mut [CpuHandle], t: u8, number: u64) -> CBala
     ensures tally { tally_in keeper.now.words.settings.cpus result ≡ tally_met keeper.now.keeper (cpus_in (bodies_of cpus.old)) number t }
     ensures cut { IsCut keeper.now.words.settings.cpus result }
 {
-    let total = less_bias(keeper.rows[t as usize].total);
+    let total = less_bias(keeper.rows()[t as usize].total);
     let locals = locals(keeper, cpus, t, number);
-    let held = sum(&locals[..keeper.settings.cpus as usize]) + total;
+    let held = sum(&locals[..keeper.settings().cpus as usize]) + total;
     CBalance {
         number,
         slot: u64::from(t),
@@ -291,7 +291,7 @@ fn locals(keeper: &Keeper, cpus: &mut [CpuHandle], t: u8, number: u64) -> [i64; 
     ensures range { (c : ℕ) → (neg_ℤ (pos (2 ^ 50)) ≤ℤ get_or result c (pos 0)) × (get_or result c (pos 0) ≤ℤ pos (2 ^ 50)) }
 {
     let mut locals = [0; 8];
-    for c in 0..keeper.settings.cpus {
+    for c in 0..keeper.settings().cpus {
         let at = c as usize;
         locals[at] = local(keeper, &mut cpus[at], t, number);
     }

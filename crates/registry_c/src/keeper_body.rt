@@ -33,7 +33,7 @@ impl KeeperBody {
     pub fn settings(&self) -> Settings
         ensures { result ≡ self.now.words.settings }
     {
-        self.keeper.settings
+        self.keeper.settings()
     }
 }
 

@@ -2,7 +2,7 @@
 
 ghost use Rattle.std.specs.Prelude.{◌≡◌, ◌<◌, None};
 ghost use Rattle.cpu_words.specs.Draining.{IsFoundCollected};
-ghost use Rattle.local_count.specs.Draining.{HasGivenUp};
+ghost use Rattle.passive_list.specs.Draining.{HasGivenUp};
 ghost use Rattle.registry_c.specs.Collected.{are_collected_for};
 ghost use Rattle.registry_c.specs.LocalCalls.{AttachIfaceAnswers, AttachesIfaceNamed, LocalGivesUp};
 
@@ -46,7 +46,7 @@ fn are_collected(keeper: &Keeper, slot: u8, number: u64) -> bool
     requires { slot < 32 }
     ensures { result ≡ are_collected_for keeper.now.keeper slot number keeper.now.words.settings.cpus }
 {
-    let cpus = keeper.settings.cpus;
+    let cpus = keeper.settings().cpus;
     if !is_retired_as(number, &keeper.slot(slot)) {
         return false;
     }

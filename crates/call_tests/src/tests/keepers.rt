@@ -59,7 +59,7 @@ pub(crate) fn by_keeper<D: Domain, R: Abort>(
     requires named { keeper.old.words.table ≡ D.table }
     ensures words { keeper.new.words ≡ keeper.old.words }
 {
-    assert!(rt; 0 < keeper.settings.cpus);
+    assert!(rt; 0 < keeper.settings().cpus);
     match call {
         Writer::Publish(slot, wanted) => {
             let rec = record(rt, wanted);
@@ -72,7 +72,7 @@ pub(crate) fn by_keeper<D: Domain, R: Abort>(
             standing(rt, keeper.slot(slot), record(rt, wanted))
         }
         Writer::Keeps(slot) => {
-            assert!(rt; slot < keeper.settings.slots);
+            assert!(rt; slot < keeper.settings().slots);
             keeper.keeps(slot).map_or(Answer::Nothing, Answer::Number)
         }
         Writer::Changes => Answer::Number(keeper.changes()),
@@ -128,11 +128,11 @@ fn takes<R: Abort>(rt: &R, keeper: &Keeper, slot: u8, rec: Record)
     ensures free { is_taken (key_of_record rec) keeper.now.keeper.slots ≡ false }
     ensures room { length keeper.now.keeper.view.history + live_count keeper.now.keeper.slots + 2 ≤ keeper.now.words.settings.change_limit }
 {
-    assert!(rt; slot < keeper.settings.slots);
+    assert!(rt; slot < keeper.settings().slots);
     assert!(rt; keeper.slot(slot) == SlotState::Vacant);
     assert!(rt; keeper.keeps(slot).is_none());
     assert!(rt; !is_taken(keeper, rec));
-    assert!(rt; keeper.changes() + MOST_SLOTS + 2 <= keeper.settings.change_limit);
+    assert!(rt; keeper.changes() + MOST_SLOTS + 2 <= keeper.settings().change_limit);
 }
 
 /// Whether a live entry has the record's kind and name.
@@ -144,7 +144,7 @@ fn is_taken(keeper: &Keeper, rec: Record) -> bool
         kind: rec.kind,
         name: rec.name,
     };
-    is_live_in(&keeper.rows, key)
+    is_live_in(keeper.rows(), key)
 }
 
 fn is_live_in(rows: &[KeptSlot], key: Key) -> bool
@@ -176,7 +176,7 @@ pub(crate) fn looked<R: Abort>(rt: &R, words: &Words, keeper: &mut Keeper, cpu: 
     requires words { AreWordsOf words.now keeper.old.words.table keeper.old.words.settings }
     ensures words { keeper.new.words ≡ keeper.old.words }
 {
-    assert!(rt; cpu < keeper.settings.cpus);
+    assert!(rt; cpu < keeper.settings().cpus);
     assert!(rt; matches!(keeper.slot(0), SlotState::Retired(_)));
     look(words, keeper, 0, cpu)
 }
@@ -195,8 +195,8 @@ pub(crate) fn passive_look<R: Abort>(rt: &R, words: &Words, keeper: &mut Keeper,
     requires words { AreWordsOf words.now keeper.old.words.table keeper.old.words.settings }
     ensures words { keeper.new.words ≡ keeper.old.words }
 {
-    assert!(rt; cpu < keeper.settings.cpus);
-    assert!(rt; 0 < keeper.settings.slots);
+    assert!(rt; cpu < keeper.settings().cpus);
+    assert!(rt; 0 < keeper.settings().slots);
     assert!(rt; matches!(keeper.slot(0), SlotState::Retired(_)));
     assert!(rt; keeper.have_passed(0));
     look_passive(words, keeper, 0, cpu)

@@ -278,7 +278,7 @@ fn total_once_drained<R: Abort>(rt: &R, words: &Words, keeper: &mut Keeper) -> u
     assert!(rt; passive_look(rt, words, keeper, 1));
     collect_once_clear(rt, words, keeper, 0);
     collect_once_clear(rt, words, keeper, 1);
-    assert!(rt; 0 < keeper.settings.slots);
+    assert!(rt; 0 < keeper.settings().slots);
     assert!(rt; matches!(keeper.slot(0), SlotState::Retired(_)));
     assert!(rt; keeper.have_passed(0) && keeper.are_clear(0) && keeper.are_collected(0));
     total(words, keeper, 0)
@@ -289,8 +289,8 @@ fn collect_once_clear<R: Abort>(rt: &R, words: &Words, keeper: &mut Keeper, cpu:
     requires words { AreWordsOf words.now keeper.old.words.table keeper.old.words.settings }
     ensures words { keeper.new.words ≡ keeper.old.words }
 {
-    assert!(rt; cpu < keeper.settings.cpus);
-    assert!(rt; 0 < keeper.settings.slots);
+    assert!(rt; cpu < keeper.settings().cpus);
+    assert!(rt; 0 < keeper.settings().slots);
     assert!(rt; matches!(keeper.slot(0), SlotState::Retired(_)));
     assert!(rt; keeper.have_passed(0) && keeper.are_clear(0) && !collected(keeper, 0, cpu));
     collect(words, keeper, 0, cpu);

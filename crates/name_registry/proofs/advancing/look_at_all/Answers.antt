@@ -2,7 +2,6 @@ use Rattle.std.proofs.Common.{◌≡◌, ◌∙◌, true, sym, subst, ◌<◌}
 use borrow.Author.Count.{below_more}
 use Rattle.registry_values.specs.declared.settings.Settings.{Settings}
 use Rattle.protocol.specs.State.{mark_at}
-use Rattle.passive_list.proofs.Rows.{settings_are}
 use Rattle.name_registry.specs.Advancing.{MayWork}
 use Rattle.name_registry.proofs.Looks.{look_goes_on, looks_go_on, looks_more, more_looks}
 use Rattle.name_registry.proofs.Seen.{grace_met}
@@ -11,14 +10,14 @@ use Rattle.name_registry.proofs.advancing.look_at_all.Goals as goal
 
 pub passes-requires-clause-works : goal.passes-requires-clause-works
 passes-requires-clause-works c =
-    let works = subst (λ (z : Settings). MayWork z c.args.keeper.now.keeper c.args.slot) (sym c.requires.words.1) (may_work _ _ _ _ _ c.args.slot c.requires.retired.0 c.keeper.invariant c.keeper.view_is c.requires.retired.1) in
+    let works = subst (λ (z : Settings). MayWork z c.args.keeper.now.keeper c.args.slot) (sym c.requires.words.1) (may_work _ _ _ _ _ c.args.slot c.requires.retired.0 c.settings-cpu-end.ensures.own.1.agree c.settings-cpu-end.ensures.own.1.are c.requires.retired.1) in
     still_works c.args.words.now.settings c.args.keeper.now.keeper c.loop-cpu.keeper.keeper c.args.slot works c.loop-cpu.invariant.leaves.worked
 
 pub returns-then-not-passes-clause-met : goal.returns-then-not-passes-clause-met
 returns-then-not-passes-clause-met c =
     let l = c.loop-cpu in
-    let works = subst (λ (z : Settings). MayWork z c.args.keeper.now.keeper c.args.slot) (sym c.requires.words.1) (may_work _ _ _ _ _ c.args.slot c.requires.retired.0 c.keeper.invariant c.keeper.view_is c.requires.retired.1) in
-    grace_met c.args.words.now.settings c.args.keeper.now.keeper l.keeper.keeper c.passes.new.keeper.keeper c.args.slot l.cpu works (subst (λ (z : Settings). l.cpu < z.cpus) (settings_are c.keeper.view_is ∙ sym c.requires.words.1) c.loop-cpu-test.true)
+    let works = subst (λ (z : Settings). MayWork z c.args.keeper.now.keeper c.args.slot) (sym c.requires.words.1) (may_work _ _ _ _ _ c.args.slot c.requires.retired.0 c.settings-cpu-end.ensures.own.1.agree c.settings-cpu-end.ensures.own.1.are c.requires.retired.1) in
+    grace_met c.args.words.now.settings c.args.keeper.now.keeper l.keeper.keeper c.passes.new.keeper.keeper c.args.slot l.cpu works (subst (λ (z : Settings). l.cpu < z.cpus) (c.settings-cpu-end.ensures.value ∙ sym c.requires.words.1) c.loop-cpu-test.true)
     l.invariant.leaves l.invariant.passed c.passes.ensures.leaves (c.passes.ensures.sees c.if-not-passes.true)
 
 pub returns-then-not-passes-clause-leaves : goal.returns-then-not-passes-clause-leaves

@@ -2,7 +2,6 @@ use Rattle.std.proofs.Common.{◌≡◌, ◌∙◌, true, sym, subst, ◌<◌}
 use borrow.Author.Count.{below_more}
 use Rattle.registry_values.specs.declared.settings.Settings.{Settings}
 use Rattle.protocol.specs.State.{mark_at}
-use Rattle.passive_list.proofs.Rows.{settings_are}
 use Rattle.name_registry.proofs.Seen.{passive_met}
 use Rattle.name_registry.proofs.Worked.{looked_more, still_clear}
 use Rattle.name_registry.proofs.advancing.look_at_passive.Goals as goal
@@ -10,7 +9,7 @@ use Rattle.name_registry.proofs.advancing.look_at_passive.Goals as goal
 pub returns-then-not-clears-clause-met : goal.returns-then-not-clears-clause-met
 returns-then-not-clears-clause-met c =
     let l = c.loop-cpu in
-    passive_met c.args.words.now.settings c.args.keeper.now.keeper l.keeper.keeper c.clears.new.keeper.keeper c.args.slot l.cpu c.requires.works (subst (λ (z : Settings). l.cpu < z.cpus) (settings_are c.keeper.view_is ∙ sym c.requires.words.1) c.loop-cpu-test.true) c.requires.passed
+    passive_met c.args.words.now.settings c.args.keeper.now.keeper l.keeper.keeper c.clears.new.keeper.keeper c.args.slot l.cpu c.requires.works (subst (λ (z : Settings). l.cpu < z.cpus) (c.settings-cpu-end.ensures.value ∙ sym c.requires.words.1) c.loop-cpu-test.true) c.requires.passed
     l.invariant.leaves l.invariant.clear c.clears.ensures.leaves (c.clears.ensures.sees c.if-not-clears.true)
 
 pub returns-then-not-clears-clause-leaves : goal.returns-then-not-clears-clause-leaves

@@ -5,7 +5,7 @@ use Rattle.registry_values.specs.Answers.{attach_answer}
 use Rattle.registry_values.specs.Slots.{is_iface, live_count, slot_at}
 use Rattle.cpu_words.specs.declared.view.KeeperView.{KeeperView}
 use Rattle.passive_list.specs.Keepers.{OnKeeper}
-use Rattle.local_count.specs.Draining.{HasAttachedKeeping}
+use Rattle.passive_list.specs.Draining.{HasAttachedKeeping}
 use Rattle.passive_list.proofs.Rows.{cpu_is}
 use Rattle.cpu_words.specs.Views.{Named}
 use Rattle.registry_values.specs.declared.slot.Slot.TheVariants.{Vacant}

@@ -1,7 +1,6 @@
 -- What is said of all entries.
 use Rattle.std.proofs.Common.{◌∙◌, ap, subst}
 use Rattle.registry_values.specs.declared.settings.Settings.{Settings}
-use Rattle.passive_list.proofs.Rows.{settings_are}
 use Rattle.cpu_words.specs.Views.{Named}
 use Rattle.name_registry.specs.Auditing.{AreAllCpus, tallies_met}
 use Rattle.name_registry.proofs.Audits.{counts_met, places_met, sums_met}
@@ -18,18 +17,18 @@ returns-in-Ok-clause-sums g c = sums_met c.args.keeper.now.keeper c.args.cpus.no
 
 pub returns-in-Ok-clause-locals : goal.returns-in-Ok-clause-locals
 returns-in-Ok-clause-locals g c =
-    let all = subst (λ (z : Settings). AreAllCpus z.cpus c.args.cpus.now) (settings_are c.keeper.view_is) (c.are_all.ensures.0 c.if-not-are_all.false) in
+    let all = subst (λ (z : Settings). AreAllCpus z.cpus c.args.cpus.now) c.settings.ensures.value (c.are_all.ensures.0 c.if-not-are_all.false) in
     counts_met c.args.keeper.now.keeper c.args.cpus.now c.args.keeper.now.words.settings.cpus c.args.keeper.now.words.settings.slots c.in-Ok.list.items all (c.in-Ok.ensures.value ∙ tallies_learned _ _ _ _ c.gather.new.keeper.words.settings.slots c.gather.ensures.keeper c.gather.ensures.cpus ∙ ap (λ (w : Named). tallies_met c.args.keeper.now.keeper c.args.cpus.now w.settings.slots) c.gather.ensures.words)
 
 pub returns-in-Ok-clause-answer : goal.returns-in-Ok-clause-answer
 returns-in-Ok-clause-answer g c =
-    let all = subst (λ (z : Settings). AreAllCpus z.cpus c.args.cpus.now) (settings_are c.keeper.view_is) (c.are_all.ensures.0 c.if-not-are_all.false) in
-    audit_right c.args.keeper.now.words.settings c.args.keeper.now.keeper c.args.cpus.now c.gather.new.cpus c.in-Ok.list.items (known_keeper _ _ _ _ _ c.keeper.invariant c.keeper.view_is) all c.gather.ensures.alike (c.in-Ok.ensures.value ∙ tallies_learned _ _ _ _ c.gather.new.keeper.words.settings.slots c.gather.ensures.keeper c.gather.ensures.cpus ∙ ap (λ (w : Named). tallies_met c.args.keeper.now.keeper c.args.cpus.now w.settings.slots) c.gather.ensures.words)
+    let all = subst (λ (z : Settings). AreAllCpus z.cpus c.args.cpus.now) c.settings.ensures.value (c.are_all.ensures.0 c.if-not-are_all.false) in
+    audit_right c.args.keeper.now.words.settings c.args.keeper.now.keeper c.args.cpus.now c.gather.new.cpus c.in-Ok.list.items (known_keeper _ _ _ _ _ c.settings.ensures.own.1.agree c.settings.ensures.own.1.are) all c.gather.ensures.alike (c.in-Ok.ensures.value ∙ tallies_learned _ _ _ _ c.gather.new.keeper.words.settings.slots c.gather.ensures.keeper c.gather.ensures.cpus ∙ ap (λ (w : Named). tallies_met c.args.keeper.now.keeper c.args.cpus.now w.settings.slots) c.gather.ensures.words)
 
 pub returns-in-Ok-clause-known : goal.returns-in-Ok-clause-known
 returns-in-Ok-clause-known g c =
-    let all = subst (λ (z : Settings). AreAllCpus z.cpus c.args.cpus.now) (settings_are c.keeper.view_is) (c.are_all.ensures.0 c.if-not-are_all.false) in
-    audit_known c.args.keeper.now.words.settings c.args.keeper.now.keeper c.args.cpus.now c.gather.new.cpus c.in-Ok.list.items (known_keeper _ _ _ _ _ c.keeper.invariant c.keeper.view_is) all c.gather.ensures.alike (returns-in-Ok-clause-answer g c)
+    let all = subst (λ (z : Settings). AreAllCpus z.cpus c.args.cpus.now) c.settings.ensures.value (c.are_all.ensures.0 c.if-not-are_all.false) in
+    audit_known c.args.keeper.now.words.settings c.args.keeper.now.keeper c.args.cpus.now c.gather.new.cpus c.in-Ok.list.items (known_keeper _ _ _ _ _ c.settings.ensures.own.1.agree c.settings.ensures.own.1.are) all c.gather.ensures.alike (returns-in-Ok-clause-answer g c)
 
 pub returns-then-not-are_all-clause-keeper : goal.returns-then-not-are_all-clause-keeper
 returns-then-not-are_all-clause-keeper g c = listened_none c.args.keeper.now.keeper

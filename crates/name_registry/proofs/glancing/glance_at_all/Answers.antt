@@ -1,44 +1,20 @@
-use Rattle.std.proofs.Common.{◌≡◌, ◌∙◌, ℕ, not, sym, ap, subst, ◌≤◌, List, ◌++◌, length, None}
-use mathlib.Core.List.{IsPrefix}
-use Rattle.protocol.specs.declared.event.Event.TheVariants.{Hear}
-use Rattle.protocol.specs.declared.event.Reply.TheVariants.{Done}
-use Rattle.cpu_words.specs.declared.view.LogItem.{LogItem}
-use Rattle.cpu_words.specs.KeeperLog.{changes_in}
+use Rattle.std.proofs.Common.{◌≡◌, not, subst}
 use Rattle.registry_values.specs.declared.settings.Settings.{Settings}
 use Rattle.registry_values.specs.Marks.{least_below}
-use Rattle.cpu_words.specs.declared.view.KeeperView.{KeeperView}
-use Rattle.cpu_words.specs.Notes.{keeper_with_note}
-use Rattle.cpu_words.specs.Rule.{IsShown, did}
-use Rattle.passive_list.specs.Keepers.{OnKeeper}
-use Rattle.passive_list.proofs.Rows.{cpu_is, keeper_is}
-use Rattle.name_registry.specs.Performing.{GlancesBelow, is_seen, looking}
-use Rattle.name_registry.proofs.Glanced.{OnlyLooked, glances_look, made_hold, only_noted, still_ours}
+use Rattle.passive_list.proofs.Rows.{cpu_is}
+use Rattle.name_registry.specs.Performing.{GlancesBelow, HasGlanced, is_seen}
+use Rattle.name_registry.proofs.Glanced.{made_hold}
 use Rattle.name_registry.proofs.glancing.glance_at_all.Goals as goal
-
-pub tell_caller-requires-clause-may : goal.tell_caller-requires-clause-may
-tell_caller-requires-clause-may c =
-    let looked = glances_look c.args.snapshots.now c.args.seen.now c.glance_at_cpus.new.seen c.settings-cpus.result.cpus (looking c.hear_caller.new.seat) (looking c.glance_at_cpus.new.seat) c.glance_at_cpus.ensures.looks in
-    ap (λ (v : KeeperView). v.due) looked.only ∙ (ap (λ (v : KeeperView). v.due) c.hear_caller.ensures.view ∙ c.keeper.invariant.view.rest)
-
-pub invariant_of-keeper : goal.invariant_of-keeper
-invariant_of-keeper c =
-    let hear = c.hear_caller.ensures in
-    let tell = c.tell_caller.ensures in
-    let looked = glances_look c.args.snapshots.now c.args.seen.now c.glance_at_cpus.new.seen c.settings-cpus.result.cpus (looking c.hear_caller.new.seat) (looking c.glance_at_cpus.new.seat) c.glance_at_cpus.ensures.looks in
-    let only : OnlyLooked c.keeper.inside.seat.view c.glance_at_cpus.new.seat.view =
-    only_noted c.keeper.inside.seat.view c.hear_caller.new.seat.view c.glance_at_cpus.new.seat.view c.args.cpu.now.cpu.view.pass hear.view looked.only in
-    still_ours _ _ _ _ _ c.keeper.invariant (subst (OnlyLooked c.keeper.inside.seat.view) (sym tell.view) only)
-    (subst IsShown (sym tell.view) (looked.is_shown hear.is_shown))
 
 pub returns-clause-glanced : goal.returns-clause-glanced
 returns-clause-glanced c =
-    let hear = c.hear_caller.ensures in
-    let tell = c.tell_caller.ensures in
-    let cpus : c.settings-cpus.result.cpus ≡ c.args.keeper.now.words.settings.cpus = ap (λ (z : Settings). z.cpus) (c.settings-cpus.ensures ∙ c.requires.words.1) in
-    let log : c.keeper.inside.seat.log ≡ c.args.keeper.now.keeper.log = ap (λ (y : OnKeeper). y.log) (keeper_is c.keeper.view_is) in
-    record {
-      hold = made_hold (GlancesBelow c.args.snapshots.now c.args.seen.now c.glance_at_cpus.new.seen c.args.keeper.now.words.settings.cpus) c.args.keeper.now.keeper c.args.cpu.now.cpu c.hear_caller.new.cpu.cpu (looking c.hear_caller.new.seat) (looking c.glance_at_cpus.new.seat) _ c.tell_caller.new.cpu.cpu
-          (λ k. record { view = (hear.view ∙ ap (λ (y : OnKeeper). keeper_with_note y.view c.args.cpu.now.cpu.view.pass) (keeper_is c.keeper.view_is)) k; log = (hear.log ∙ ap (λ (l : List LogItem). l ++ did (Hear None) Done) log) k }) (subst (IsPrefix c.args.cpu.now.cpu.known_log) log hear.own.told) (subst (λ (l : List LogItem). length c.args.cpu.now.cpu.view.pass ≤ changes_in l) log hear.seen) (cpu_is hear.cpu)
-          (subst (λ (n : ℕ). GlancesBelow c.args.snapshots.now c.args.seen.now c.glance_at_cpus.new.seen n (looking c.hear_caller.new.seat) (looking c.glance_at_cpus.new.seat)) cpus c.glance_at_cpus.ensures.looks) tell.view (ap (λ (y : OnKeeper). y.slots) (keeper_is c.keeper.view_is)) tell.log tell.hears tell.told;
-      least = subst (λ (n : ℕ). c.first_unseen.result ≡ least_below (λ d. not (is_seen c.glance_at_cpus.new.seen d)) n) cpus c.first_unseen.ensures;
+    let hear = c.hear_cpu.ensures in
+    let looked = c.glance_at_cpus in
+    let show = c.show_cpu.ensures in
+    let z = c.args.words.now.settings in
+    let seen = looked.new.seen in
+    subst (λ (s : Settings). HasGlanced s c.args.snapshots.now c.args.keeper.now.keeper c.args.cpu.now.cpu c.args.seen.now c.first_unseen.result seen c.show_cpu.new.keeper.keeper c.show_cpu.new.cpu.cpu) c.requires.words.1 record {
+      hold = made_hold (GlancesBelow c.args.snapshots.now c.args.seen.now seen z.cpus) z c.args.keeper.now.keeper c.hear_cpu.new.keeper.keeper looked.new.keeper.keeper c.show_cpu.new.keeper.keeper c.args.cpu.now.cpu c.hear_cpu.new.cpu.cpu c.show_cpu.new.cpu.cpu
+          hear.keeper hear.seen hear.known hear.own (cpu_is hear.cpu) looked.ensures.looks looked.ensures.slots show.keeper show.cpu show.told;
+      least = subst (λ (s : Settings). c.first_unseen.result ≡ least_below (λ d. not (is_seen seen d)) s.cpus) c.settings.ensures c.first_unseen.ensures;
     }

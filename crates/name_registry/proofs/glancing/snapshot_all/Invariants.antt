@@ -5,7 +5,8 @@ use Rattle.name_registry.proofs.glancing.snapshot_all.Given as goal
 -- the snapshots of the CPUs so far are taken
 abbrev pub invariant-loop-cpu : goal.invariant-loop-cpu
 invariant-loop-cpu l = record {
-  table : l.seat.table ≡ l.fn.seat.table;
-  looks : SnapshotsBelow l.snapshots l.cpu (looking l.fn.seat) (looking l.seat);
+  words : l.keeper.words ≡ l.fn.keeper.words;
+  slots : l.keeper.keeper.slots ≡ l.fn.keeper.keeper.slots;
+  looks : SnapshotsBelow l.snapshots l.cpu (looking l.fn.keeper.keeper) (looking l.keeper.keeper);
   size : length l.snapshots ≡ 8;
 }

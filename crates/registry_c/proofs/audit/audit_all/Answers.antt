@@ -2,7 +2,6 @@
 use Rattle.std.proofs.Common.{ℕ, List, Option, refl, sym, ap, ◌∙◌, subst, arith}
 use Rattle.registry_values.specs.declared.settings.Settings.{Settings}
 use Rattle.passive_list.specs.Cpus.{OnPlainCpu}
-use Rattle.passive_list.proofs.Rows.{settings_are}
 use Rattle.cpu_words.specs.Views.{Named}
 use Rattle.name_registry.proofs.Gathered.{listened_none}
 use Rattle.name_registry.proofs.Tallies.{known_keeper}
@@ -23,14 +22,14 @@ returns-then-not-are_all c =
       cpus = none_heard cs _ c.are_all.ensures.same;
       place = refl;
       answer = subst (λ (n : ℕ). Audits z c.args.keeper.now.keeper cs n c.args.list.now c.args.list.now c.args.length.now.value c.args.length.now.value) (sym c.refused.ensures)
-          (missing_cpu z _ cs _ _ _ _ (λ all. c.are_all.ensures.missing c.if-not-are_all.true (subst (λ (a : Settings). AreAllHere a.cpus cs) (sym (settings_are c.keeper.view_is)) all)) refl refl);
+          (missing_cpu z _ cs _ _ _ _ (λ all. c.are_all.ensures.missing c.if-not-are_all.true (subst (λ (a : Settings). AreAllHere a.cpus cs) (sym c.settings.ensures.value) all)) refl refl);
     }
 
 pub returns-then-list-count : goal.returns-then-list-count
 returns-then-list-count c =
     let z = c.args.keeper.now.words.settings in
     let cs = bodies_of c.args.cpus.now in
-    let all = subst (λ (a : Settings). AreAllHere a.cpus cs) (settings_are c.keeper.view_is) (c.are_all.ensures.all c.if-not-are_all.false) in
+    let all = subst (λ (a : Settings). AreAllHere a.cpus cs) c.settings.ensures.value (c.are_all.ensures.all c.if-not-are_all.false) in
     record {
       keeper = (refl, listened_none c.args.keeper.now.keeper);
       cpus = none_heard cs _ c.are_all.ensures.same;
@@ -41,7 +40,7 @@ returns-then-list-count c =
 pub gather-requires : goal.gather-requires
 gather-requires c =
     let same = c.are_all.ensures.same in
-    let all = subst (λ (a : Settings). AreAllHere a.cpus (bodies_of c.args.cpus.now)) (settings_are c.keeper.view_is) (c.are_all.ensures.all c.if-not-are_all.false) in
+    let all = subst (λ (a : Settings). AreAllHere a.cpus (bodies_of c.args.cpus.now)) c.settings.ensures.value (c.are_all.ensures.all c.if-not-are_all.false) in
     record {
       words = c.requires.words;
       all = subst (AreAllHere c.args.keeper.now.words.settings.cpus) (sym same) all;
@@ -50,7 +49,7 @@ gather-requires c =
 
 pub write_balances-requires-clause-all : goal.write_balances-requires-clause-all
 write_balances-requires-clause-all c =
-    let all = subst (λ (a : Settings). AreAllHere a.cpus (bodies_of c.args.cpus.now)) (settings_are c.keeper.view_is) (c.are_all.ensures.all c.if-not-are_all.false) in
+    let all = subst (λ (a : Settings). AreAllHere a.cpus (bodies_of c.args.cpus.now)) c.settings.ensures.value (c.are_all.ensures.all c.if-not-are_all.false) in
     subst (λ (w : Named). AreAllHere w.settings.cpus (bodies_of c.gather.new.cpus)) (sym c.gather.ensures.keeper.0)
     (here_still c.args.keeper.now.words.settings.cpus _ _ c.gather.ensures.cpus (subst (AreAllHere c.args.keeper.now.words.settings.cpus) (sym c.are_all.ensures.same) all))
 
@@ -61,8 +60,8 @@ returns-clause-answer c =
     let cs = bodies_of c.args.cpus.now in
     let ds = bodies_of c.are_all.new.cpus in
     let same = c.are_all.ensures.same in
-    let all = subst (λ (a : Settings). AreAllHere a.cpus cs) (settings_are c.keeper.view_is) (c.are_all.ensures.all c.if-not-are_all.false) in
-    let known = known_keeper _ _ _ _ _ c.keeper.invariant c.keeper.view_is in
+    let all = subst (λ (a : Settings). AreAllHere a.cpus cs) c.settings.ensures.value (c.are_all.ensures.all c.if-not-are_all.false) in
+    let known = known_keeper _ _ _ _ _ c.settings.ensures.own.1.agree c.settings.ensures.own.1.are in
     let after = c.gather.new.keeper.keeper in
     let told = subst (λ (w : Named). AreTold w.settings after (bodies_of c.gather.new.cpus) w.settings.slots (occupied after w.settings.slots) c.args.list.now c.write_balances.new.list) c.gather.ensures.keeper.0 c.write_balances.ensures.list in
     let writes = audit_told z c.gather.new.keeper.keeper k (cpus_in (bodies_of c.gather.new.cpus)) (bodies_of c.gather.new.cpus) ds c.args.list.now c.write_balances.new.list known (subst (AreAllHere z.cpus) (sym same) all) c.gather.ensures.alike c.gather.ensures.keeper.1 c.gather.ensures.cpus told in

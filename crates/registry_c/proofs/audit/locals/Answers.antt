@@ -3,7 +3,6 @@ use Rattle.std.proofs.Common.{◌≡◌, ◌<◌, ◌^◌, ◌≤ℤ◌, ℤ, ne
 use Rattle.std.proofs.lemmas.Int.{ints}
 use Rattle.registry_values.specs.declared.settings.Settings.{Settings}
 use Rattle.passive_list.specs.Cpus.{OnPlainCpu}
-use Rattle.passive_list.proofs.Rows.{settings_are}
 use Rattle.registry_c.specs.Opening.{bodies_of, body_at}
 use Rattle.registry_c.proofs.Audited.{locals_more, none_local}
 use Rattle.registry_c.proofs.Handles.{body_is, count_bodies, same_bodies}
@@ -18,7 +17,7 @@ local-requires-clause-cpu c =
     let hs = c.loop-c.cpus in
     let k = c.loop-c.c in
     let h = c.index-cpus-at.result in
-    let few : k < c.args.keeper.now.words.settings.cpus = omega (arith, c.loop-c-test.true, ap (λ (z : Settings). z.cpus) (settings_are c.keeper.view_is)) in
+    let few : k < c.args.keeper.now.words.settings.cpus = omega (arith, c.loop-c-test.true, ap (λ (z : Settings). z.cpus) c.settings-c-end.ensures.value) in
     let lt : k < length hs = omega (arith, few, c.requires.all.count, count_bodies hs, ap length i.0) in
     let at : body_at (bodies_of c.args.cpus.now) k ≡ (get_or hs k h).body = ap (λ (l : List (Option OnPlainCpu)). body_at l k) (sym i.0) ∙ body_is hs k h lt in
     let has = c.requires.all.each k few in
@@ -30,7 +29,7 @@ loop-c-preserved c =
     let hs = c.loop-c.cpus in
     let k = c.loop-c.c in
     let h = c.index-cpus-at.result in
-    let few : k < c.args.keeper.now.words.settings.cpus = omega (arith, c.loop-c-test.true, ap (λ (z : Settings). z.cpus) (settings_are c.keeper.view_is)) in
+    let few : k < c.args.keeper.now.words.settings.cpus = omega (arith, c.loop-c-test.true, ap (λ (z : Settings). z.cpus) c.settings-c-end.ensures.value) in
     let lt : k < length hs = omega (arith, few, c.requires.all.count, count_bodies hs, ap length i.0) in
     let at : body_at (bodies_of c.args.cpus.now) k ≡ (get_or hs k h).body = ap (λ (l : List (Option OnPlainCpu)). body_at l k) (sym i.0) ∙ body_is hs k h lt in
     let has = c.requires.all.each k few in

@@ -1,11 +1,10 @@
 -- The entry is retired in the slot, and the marks are looked at.
-use Rattle.std.proofs.Common.{◌≡◌, ◌+◌, ◌<◌, ◌&&◌, true, false, ap, sym, ◌∙◌, subst, arith, List}
+use Rattle.std.proofs.Common.{◌≡◌, ◌+◌, ◌&&◌, true, false, ap, sym, ◌∙◌, arith}
 use Rattle.registry_values.specs.declared.mark.Mark.{Mark}
 use Rattle.registry_values.specs.declared.settings.Settings.{Settings}
-use Rattle.registry_values.specs.declared.slot.Slot.{Slot}
 use Rattle.registry_values.specs.Slots.{is_retired_as, slot_at}
 use Rattle.passive_list.specs.Keepers.{OnPlainKeeper}
-use Rattle.passive_list.proofs.Rows.{retired_in, settings_are}
+use Rattle.passive_list.proofs.Rows.{retired_in}
 use Rattle.registry_c.specs.Collected.{some_collected}
 use Rattle.registry_c.proofs.Collected.{none_below, retired_of, some_now, some_stays}
 use Rattle.registry_c.proofs.local_keeper.are_collected.Goals as goal
@@ -13,11 +12,11 @@ use Rattle.registry_c.proofs.local_keeper.are_collected.Goals as goal
 pub mark-requires : goal.mark-requires
 mark-requires c =
     let k = c.args.keeper.now.keeper in
-    let slots = ap (λ (x : OnPlainKeeper). x.keeper.slots) c.keeper.view_is in
+    let own = c.settings-cpus.ensures.own in
     let test : is_retired_as c.args.number (slot_at k.slots c.args.slot) ≡ true = ap (is_retired_as c.args.number) (sym c.slot.ensures) ∙ (sym c.is_retired_as.ensures ∙ c.if-not-is_retired_as.false) in
     let gone = retired_of c.args.number (slot_at k.slots c.args.slot) test in (
-      (subst (λ (z : Settings). c.args.slot < z.slots) (settings_are c.keeper.view_is) (retired_in _ c.keeper.inside.seat.view c.keeper.inside.rows c.args.slot gone.0 c.keeper.invariant.rows (ap (λ (l : List Slot). slot_at l c.args.slot) slots ∙ gone.1)).0),
-      omega (arith, c.loop-cpu-test.true, ap (λ (z : Settings). z.cpus) (settings_are c.keeper.view_is)),
+      (retired_in _ k.view own.0 c.args.slot gone.0 own.1.agree.rows (ap (λ (x : OnPlainKeeper). slot_at x.keeper.slots c.args.slot) own.1.are ∙ gone.1)).0,
+      omega (arith, c.loop-cpu-test.true, ap (λ (z : Settings). z.cpus) c.settings-cpus.ensures.value),
     )
 
 pub returns-then-mark : goal.returns-then-mark
@@ -26,7 +25,7 @@ returns-then-mark c =
     let t = c.args.slot in
     let test : is_retired_as c.args.number (slot_at k.slots t) ≡ true = ap (is_retired_as c.args.number) (sym c.slot.ensures) ∙ (sym c.is_retired_as.ensures ∙ c.if-not-is_retired_as.false) in
     let some : some_collected k t c.args.keeper.now.words.settings.cpus ≡ true =
-    some_stays k t (c.loop-cpu.cpu + 1) c.args.keeper.now.words.settings.cpus (omega (arith, c.loop-cpu-test.true, ap (λ (z : Settings). z.cpus) (settings_are c.keeper.view_is)))
+    some_stays k t (c.loop-cpu.cpu + 1) c.args.keeper.now.words.settings.cpus (omega (arith, c.loop-cpu-test.true, ap (λ (z : Settings). z.cpus) c.settings-cpus.ensures.value))
     (some_now k t c.loop-cpu.cpu (ap (λ (m : Mark). m.collected) (sym c.mark.ensures) ∙ c.if-mark.true)) in
     sym (λ i. test i && some i)
 
@@ -36,5 +35,5 @@ returns c =
     let t = c.args.slot in
     let test : is_retired_as c.args.number (slot_at k.slots t) ≡ true = ap (is_retired_as c.args.number) (sym c.slot.ensures) ∙ (sym c.is_retired_as.ensures ∙ c.if-not-is_retired_as.false) in
     let none : some_collected k t c.args.keeper.now.words.settings.cpus ≡ false =
-    none_below k t c.args.keeper.now.words.settings.cpus c.loop-cpu.cpu (omega (arith, c.loop-cpu-test.false, ap (λ (z : Settings). z.cpus) (settings_are c.keeper.view_is))) c.loop-cpu.invariant in
+    none_below k t c.args.keeper.now.words.settings.cpus c.loop-cpu.cpu (omega (arith, c.loop-cpu-test.false, ap (λ (z : Settings). z.cpus) c.settings-cpus.ensures.value)) c.loop-cpu.invariant in
     sym (λ i. test i && none i)

@@ -1,8 +1,6 @@
-use Rattle.std.proofs.Common.{◌≡◌, ◌≤◌, Ok, subst}
+use Rattle.std.proofs.Common.{◌≡◌, Ok, subst}
 use Rattle.registry_values.specs.declared.entry.Change.TheVariants.{Attach}
-use Rattle.registry_values.specs.declared.settings.Settings.{Settings}
 use Rattle.passive_list.specs.Cpus.{OnCpu}
-use Rattle.passive_list.proofs.Rows.{settings_are}
 use Rattle.name_registry.specs.Attaching.{HasAttachedFor, attach_answer}
 use Rattle.name_registry.proofs.Counted.{attach_counted, attach_numbered, few_changes, one_made}
 use Rattle.name_registry.proofs.Owned.{attach_may, attach_owned}
@@ -34,5 +32,5 @@ returns-clause-made g c =
     let y = sharing c.cpu.inside.share.amount c.attach_in.new.cpu.cpu in
     let is = subst (λ (x : OnCpu). Ok e ≡ attach_answer k.words.settings k.keeper x c.args.rec) c.cpu.view_is c.in_ok-entry.ensures.answer in
     let has = subst (λ (x : OnCpu). HasAttachedFor k.keeper x e b y) c.cpu.view_is (attached c.cpu.inside.share.amount _ _ _ _ _ c.in_ok-entry.ensures.ok) in
-    let few = subst (λ (z : Settings). z.change_limit ≤ 1000000) (settings_are c.keeper.view_is) (few_changes _ _ _ _ c.keeper.invariant).0 in
+    let few = (few_changes _ _ _ _ c.settings-settings.ensures.own.1.agree).0 in
     one_made _ c.args.cpu.now y c.count_attach.new.cpu (Attach e) (attach_numbered k.words.settings k.keeper c.args.cpu.now c.args.rec e few is) has.cpu c.count_attach.ensures.cpu

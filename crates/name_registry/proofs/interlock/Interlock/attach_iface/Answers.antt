@@ -1,11 +1,10 @@
-use Rattle.std.proofs.Common.{◌≡◌, ◌≤◌, Ok, Err, ap, sym, subst}
+use Rattle.std.proofs.Common.{◌≡◌, Ok, Err, ap, sym, subst}
 use Rattle.registry_values.specs.declared.entry.Change.TheVariants.{Attach}
-use Rattle.registry_values.specs.declared.settings.Settings.{Settings}
 use Rattle.cpu_words.specs.KeeperLog.{IsAttachedKeeping}
 use Rattle.cpu_words.specs.declared.view.ReferenceView.{ReferenceView}
 use Rattle.passive_list.specs.Cpus.{OnCpu, OnPlainCpu}
 use Rattle.local_count.specs.References.{OnPlainRef}
-use Rattle.passive_list.proofs.Rows.{keeper_is, settings_are}
+use Rattle.passive_list.proofs.Rows.{keeper_is}
 use Rattle.registry_values.specs.Slots.{is_iface}
 use Rattle.name_registry.specs.Attaching.{HasAttachedIfaceFor, attach_iface_answer}
 use Rattle.name_registry.specs.Locking.{IsAttachRefusal}
@@ -40,7 +39,7 @@ returns-in-Ok-clause-made g c =
     let y = sharing c.cpu.inside.share.amount c.attach_iface_in.new.cpu.cpu in
     let is = subst (λ (p : OnCpu × ReferenceView). attach_iface_answer k.words.settings k.keeper p.0 c.args.rec p.1 ≡ Ok e) (λ i. (c.cpu.view_is i, c.reference.view_is i)) c.in-Ok.ensures.answer in
     let has = subst (λ (p : OnCpu × ReferenceView). HasAttachedIfaceFor k.keeper p.0 p.1 e b y) (λ i. (c.cpu.view_is i, c.reference.view_is i)) (iface_attached c.cpu.inside.share.amount _ _ _ _ _ _ c.in-Ok.ensures.ok) in
-    let few = subst (λ (z : Settings). z.change_limit ≤ 1000000) (settings_are c.keeper.view_is) (few_changes _ _ _ _ c.keeper.invariant).0 in
+    let few = (few_changes _ _ _ _ c.settings-settings.ensures.own.1.agree).0 in
     one_made _ c.args.cpu.now y c.count_attach.new.cpu (Attach e) (iface_numbered k.words.settings k.keeper c.args.cpu.now c.args.rec c.args.reference e few is) has.cpu c.count_attach.ensures.cpu
 
 pub returns-in-Ok-clause-keeping : goal.returns-in-Ok-clause-keeping

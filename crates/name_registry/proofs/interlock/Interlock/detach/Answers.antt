@@ -1,8 +1,7 @@
-use Rattle.std.proofs.Common.{◌≤◌, Ok, length, subst}
+use Rattle.std.proofs.Common.{Ok, subst}
 use Rattle.registry_values.specs.declared.entry.Change.TheVariants.{Detach}
 use Rattle.registry_values.specs.declared.slot.Key.{Key}
 use Rattle.passive_list.specs.Cpus.{OnCpu}
-use Rattle.passive_list.specs.Keepers.{OnPlainKeeper}
 use Rattle.name_registry.specs.Detaching.{HasDetachedFor, IsDetachAnswer}
 use Rattle.name_registry.proofs.Counted.{detach_counted, detach_numbered, few_changes, one_made}
 use Rattle.name_registry.proofs.Owned.{detach_may, detach_owned}
@@ -37,5 +36,5 @@ returns-clause-made g c =
     let y = sharing c.cpu.inside.share.amount c.detach_in.new.cpu.cpu in
     let is = subst (λ (x : OnCpu). IsDetachAnswer k x key (Ok e)) c.cpu.view_is c.in_ok-entry.ensures.answer in
     let has = subst (λ (x : OnCpu). HasDetachedFor k x e b y) c.cpu.view_is (detached c.cpu.inside.share.amount _ _ _ _ _ c.in_ok-entry.ensures.ok) in
-    let short = subst (λ (x : OnPlainKeeper). length x.keeper.view.history ≤ 1000000) c.keeper.view_is (few_changes _ _ _ _ c.keeper.invariant).1 in
+    let short = (few_changes _ _ _ _ c.settings-settings.ensures.own.1.agree).1 in
     one_made _ c.args.cpu.now y c.count_detach.new.cpu (Detach e.number) (detach_numbered k c.args.cpu.now key e short is) has.cpu c.count_detach.ensures.cpu

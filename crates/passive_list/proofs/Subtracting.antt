@@ -13,8 +13,8 @@ use Rattle.cpu_words.specs.declared.view.KeeperView.{KeeperView}
 use Rattle.passive_list.specs.declared.keeper.KeptSlot.{KeptSlot}
 use Rattle.passive_list.specs.Keepers.{row_at, states_of, RowAgrees, IsAtRest, RowsAgree}
 use Rattle.passive_list.proofs.Rows.{state_at}
-use Rattle.local_count.proofs.Balanced.{IsHeldIn}
-use Rattle.local_count.proofs.Collections.{with_total, row_with_total, with_total_rows}
+use Rattle.passive_list.proofs.Balanced.{IsHeldIn}
+use Rattle.passive_list.proofs.Collections.{with_total, row_with_total, with_total_rows}
 
 -- What is held
 

@@ -4,9 +4,9 @@ use Rattle.protocol.specs.declared.event.Reply.TheVariants.{Done}
 use Rattle.cpu_words.proofs.shown.KeepersShown.{step_is_shown}
 use Rattle.passive_list.specs.Keepers.{row_at}
 use Rattle.passive_list.proofs.Rows.{keeper_is}
-use Rattle.local_count.proofs.Freed.{keeps_on, keeps_at, may_free, freed_keeper, has_freed}
-use Rattle.local_count.proofs.Subtracting.{held_row}
-use Rattle.local_count.proofs.freeing.free_iface.Goals as goal
+use Rattle.passive_list.proofs.Freed.{keeps_on, keeps_at, may_free, freed_keeper, has_freed}
+use Rattle.passive_list.proofs.Subtracting.{held_row}
+use Rattle.passive_list.proofs.freeing.free_iface.Goals as goal
 
 pub unreachable-requires : goal.unreachable-requires
 unreachable-requires c =

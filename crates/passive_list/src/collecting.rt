@@ -8,10 +8,10 @@ ghost use Rattle.registry_values.specs.Balances.{bias};
 ghost use Rattle.registry_values.specs.Slots.{slot_at};
 ghost use Rattle.protocol.specs.State.{mark_at, total_at};
 ghost use Rattle.cpu_words.specs.Domains.{AreWordsOf};
-ghost use Rattle.local_count.specs.Draining.{HasCollectedInto, AreHeld};
+ghost use Rattle.passive_list.specs.Draining.{HasCollectedInto, AreHeld};
 
+use crate::keeper::Keeper;
 use cpu_words::{Words, steps};
-use passive_list::Keeper;
 use registry_values::{BIAS, collected as collected_mark};
 
 /// Collects the count word of a CPU for the retired entry in `slot`: the word becomes 0, and its net count is added to the slot's total.

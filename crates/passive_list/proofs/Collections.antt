@@ -26,8 +26,8 @@ use Rattle.cpu_words.proofs.shown.KeepersShown.{step_is_shown}
 use Rattle.passive_list.specs.declared.keeper.KeptSlot.{KeptSlot}
 use Rattle.passive_list.specs.Keepers.{OnKeeper, OnPlainKeeper, on_keeper, no_row, row_at, state_of, states_of, IsAtRest, RowsAgree, IsOurKeeper}
 use Rattle.passive_list.proofs.Rows.{state_at, not_vacant_within, retired_in, row_stays, rows_set}
-use Rattle.local_count.specs.Draining.{keeper_after_collect, HasCollectedInto, AreHeld}
-use Rattle.local_count.proofs.Balanced.{none_at_rest, total_collected, bias_within, adding_fits}
+use Rattle.passive_list.specs.Draining.{keeper_after_collect, HasCollectedInto, AreHeld}
+use Rattle.passive_list.proofs.Balanced.{none_at_rest, total_collected, bias_within, adding_fits}
 
 -- The marks and the total of one slot change
 

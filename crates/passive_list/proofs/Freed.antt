@@ -33,9 +33,9 @@ use Rattle.passive_list.specs.declared.keeper.KeptSlot.{KeptSlot}
 use Rattle.passive_list.specs.Keepers.{OnKeeper, no_row, row_at, state_of, states_of, IsAtRest, RowsAgree, IsOurKeeper}
 use Rattle.passive_list.specs.Vacating.{IsDrainedOn}
 use Rattle.passive_list.proofs.Rows.{state_at, taken_in, retired_in, row_stays, rows_set}
-use Rattle.local_count.specs.Draining.{HasFreed, kept_slot, place_of}
-use Rattle.local_count.proofs.Balanced.{IsHeldIn, held_by_slot}
-use Rattle.local_count.proofs.Subtracting.{HeldRow, held_row, row_less, less, less_rows}
+use Rattle.passive_list.specs.Draining.{HasFreed, kept_slot, place_of}
+use Rattle.passive_list.proofs.Balanced.{IsHeldIn, held_by_slot}
+use Rattle.passive_list.proofs.Subtracting.{HeldRow, held_row, row_less, less, less_rows}
 
 -- The driver's row
 

@@ -7,10 +7,10 @@ ghost use Rattle.registry_values.specs.declared.slot.Slot.TheVariants.{Retired};
 ghost use Rattle.registry_values.specs.Slots.{slot_at};
 ghost use Rattle.cpu_words.specs.Domains.{AreWordsOf};
 ghost use Rattle.passive_list.specs.Vacating.{IsDrainedOn};
-ghost use Rattle.local_count.specs.Draining.{HasFreed, kept_slot, place_of};
+ghost use Rattle.passive_list.specs.Draining.{HasFreed, kept_slot, place_of};
 
+use crate::keeper::{Keeper, KeptSlot, SlotState};
 use cpu_words::{Words, steps};
-use passive_list::{Keeper, KeptSlot, SlotState};
 use registry_values::has_number;
 
 /// Frees the slot of a retired and drained interface: the reference to its driver is given up in the same step.

@@ -22,10 +22,10 @@ use Rattle.cpu_words.proofs.shown.KeepersShown.{step_is_shown}
 use Rattle.passive_list.specs.declared.keeper.KeptSlot.{KeptSlot}
 use Rattle.passive_list.specs.Keepers.{OnKeeper, no_row, row_at, state_of, states_of, IsOurKeeper}
 use Rattle.passive_list.proofs.Rows.{retired_in}
-use Rattle.local_count.specs.Draining.{HasGivenUp}
-use Rattle.local_count.proofs.Balanced.{IsHeldIn, held_given_up}
-use Rattle.local_count.proofs.Collections.{with_total_keeper}
-use Rattle.local_count.proofs.Subtracting.{HeldRow, held_row, less, row_less, less_is}
+use Rattle.passive_list.specs.Draining.{HasGivenUp}
+use Rattle.passive_list.proofs.Balanced.{IsHeldIn, held_given_up}
+use Rattle.passive_list.proofs.Collections.{with_total_keeper}
+use Rattle.passive_list.proofs.Subtracting.{HeldRow, held_row, less, row_less, less_is}
 
 -- what the rows say of a collected word, the seat knows
 pub may_take_in : {log : List LogItem} (a : Settings) (k : KeeperView) (rows : List KeptSlot) (n : ℕ) (v w : ReferenceView) (x : OnKeeper) → IsOurKeeper a k rows n → record { view = k; slots = states_of rows; log = log } ≡ x → v ≡ w

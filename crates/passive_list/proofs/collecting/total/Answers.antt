@@ -1,5 +1,5 @@
-use Rattle.local_count.proofs.Collections.{total_tells}
-use Rattle.local_count.proofs.collecting.total.Goals as goal
+use Rattle.passive_list.proofs.Collections.{total_tells}
+use Rattle.passive_list.proofs.collecting.total.Goals as goal
 
 pub overflow_sub-result : goal.overflow_sub-result
 overflow_sub-result c = (total_tells _ _ _ _ _ _ _ c.keeper.invariant c.keeper.view_is c.requires.retired.1 c.requires.collected).floor

@@ -1,7 +1,7 @@
 use Rattle.std.proofs.Common.{refl, arith}
 use Rattle.passive_list.proofs.Rows.{keeper_is}
-use Rattle.local_count.proofs.Collections.{collection_tells, collected_keeper, collected_into}
-use Rattle.local_count.proofs.collecting.collect.Goals as goal
+use Rattle.passive_list.proofs.Collections.{collection_tells, collected_keeper, collected_into}
+use Rattle.passive_list.proofs.collecting.collect.Goals as goal
 
 pub overflow_add-row : goal.overflow_add-row
 overflow_add-row c = let tells = collection_tells _ _ _ _ _ _ _ _ _ _ c.keeper.invariant (keeper_is c.keeper.view_is) c.requires.retired.1 c.collect-word.ensures.change c.collect-word.ensures.event in omega (arith, tells.fits)

@@ -14,8 +14,8 @@ ghost use Rattle.cpu_words.specs.Draining.{HasLookedPassive};
 ghost use Rattle.cpu_words.specs.Rule.{did};
 ghost use Rattle.cpu_words.specs.Steps.{Makes};
 
+use crate::keeper::Keeper;
 use cpu_words::{Words, steps};
-use passive_list::Keeper;
 use registry_values::cleared;
 
 /// Looks at the passive word of a CPU for the retired entry in `slot`. True where the CPU has no passive reference to it left, by an

@@ -5,7 +5,7 @@ use Rattle.registry_values.specs.Slots.{slot_at}
 use Rattle.registry_values.specs.Marks.{mark_after_passive_look}
 use Rattle.passive_list.specs.Keepers.{OnPlainKeeper}
 use Rattle.passive_list.proofs.Marks.{looked_keeper, looked_mark, looked_states}
-use Rattle.passive_ref.proofs.looking.look_passive.Goals as goal
+use Rattle.passive_list.proofs.looking.look_passive.Goals as goal
 
 pub invariant_of-keeper : goal.invariant_of-keeper
 invariant_of-keeper c =

@@ -1,0 +1,55 @@
+//! An interface is published with the local reference that its slot keeps to its driver.
+
+ghost use Rattle.std.specs.Prelude.{◌≡◌, ◌<◌, ◌≤◌, ◌+◌, suc, IsTrue, false, length, None};
+ghost use Rattle.registry_values.specs.declared.entry.Kind.TheVariants.{Iface, Driver};
+ghost use Rattle.registry_values.specs.declared.slot.Slot.TheVariants.{Vacant};
+ghost use Rattle.registry_values.specs.Slots.{key_of_record, is_taken, live_count, slot_at};
+ghost use Rattle.registry_values.specs.Names.{is_lawful};
+ghost use Rattle.protocol.specs.State.{kept_at};
+ghost use Rattle.cpu_words.specs.Domains.{AreWordsOf};
+ghost use Rattle.passive_list.specs.Draining.{HasAttachedKeeping};
+
+use crate::keeper::{Keeper, SlotState};
+use crate::publishing::publish_entry;
+use cpu_words::{ReferenceSeat, Words, steps};
+use registry_values::{Entry, Record};
+
+/// Publishes an interface in `slot`, which keeps the reference whose seat this is from now on: as `publish` does, with the seat spent before
+/// the first word is stored. It answers the entry.
+/// Condition: the slot is one of the table's and vacant, and keeps nothing (`Keeper::keeps`). The record's kind is Iface; the reference is
+/// to a driver, live or retired, whose number this is. The name is lawful, no live entry has this kind and name, and the history has
+/// room for this change and for the detach of each live entry, the new one too.
+pub fn publish_keeping(
+    words: &Words,
+    keeper: &mut Keeper,
+    slot: u8,
+    rec: Record,
+    reference: ReferenceSeat,
+    number: u64,
+) -> Entry
+    requires words { AreWordsOf words.now keeper.old.words.table keeper.old.words.settings }
+    requires reference { reference.table ≡ keeper.old.words.table }
+    requires number { reference.view.entry.number ≡ number }
+    requires vacant { (slot < keeper.old.words.settings.slots) × (slot_at keeper.old.keeper.slots slot ≡ Vacant) }
+    requires nothing { kept_at keeper.old.keeper.view.keeps slot ≡ None }
+    requires kind { rec.kind ≡ Iface }
+    requires driver { reference.view.entry.rec.kind ≡ Driver }
+    requires name { IsTrue (is_lawful rec.name) }
+    requires free { is_taken (key_of_record rec) keeper.old.keeper.slots ≡ false }
+    requires room { length keeper.old.keeper.view.history + live_count keeper.old.keeper.slots + 2 ≤ keeper.old.words.settings.change_limit }
+    ensures entry { result ≡ record { number = suc (length keeper.old.keeper.view.history); slot = slot; rec = rec } }
+    ensures change { HasAttachedKeeping keeper.old.keeper reference.view result keeper.new.keeper }
+    ensures words { keeper.new.words ≡ keeper.old.words }
+{
+    let entry = Entry {
+        number: keeper.changes + 1,
+        slot,
+        rec,
+    };
+    steps::keep(words, &mut keeper.seat, slot, reference);
+    keeper.rows[slot as usize].keeps = Some(number);
+    publish_entry(words, &mut keeper.seat, &keeper.rows, &entry);
+    keeper.rows[slot as usize].state = SlotState::Live(entry);
+    keeper.changes += 1;
+    entry
+}
