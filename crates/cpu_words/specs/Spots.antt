@@ -16,7 +16,7 @@ pub data Spot : Type 0 where
   record_of : ℕ → ℕ → Spot
   total_of : ℕ → Spot
 
--- A CPU's words lie side by side in its row; the shared ones lie behind the rows, a slot's link and record words in one line, the totals last.
+-- A CPU's words lie side by side in its row; the shared ones lie behind the rows, a slot's link and record words side by side, 8 words from the next slot's, the totals last.
 abbrev pub index : Spot → ℕ
 index (section_of c) = ROWS + ROW * c
 index (passive_of c t) = ROWS + ROW * c + PASSIVES + t
@@ -64,7 +64,7 @@ AreApart i j = (i + 9 ≤ j) ⊎ (j + 9 ≤ i)
 abbrev pub LinesApart : Type 0
 LinesApart = (z : Settings) → IsTrue (are_fit z) → (p q : Spot) → IsSpot z p → IsSpot z q → (owner p ≡ owner q → ⊥) → AreApart (index p) (index q)
 
--- The first sixteen words, two lines of eight, are none of these: no step writes them.
+-- None of these is among the first sixteen words, two lines of eight.
 abbrev pub FirstWordsFree : Type 0
 FirstWordsFree = (z : Settings) → IsTrue (are_fit z) → (p : Spot) → IsSpot z p → 16 ≤ index p
 

@@ -1,4 +1,4 @@
-//! Where the words of the table lie. Code, specs (`index` in specs/Spots.antt) and proofs speak by what is named here, and by no number.
+//! Where the words of the table lie. Code, specs (`index` in specs/Spots.antt) and proofs speak of places by what is named here.
 //!
 //! place                              word                                              written by
 //! 0 to 15                            none                                              no one, once the table is made
@@ -21,8 +21,8 @@ const CPUS: usize = 8;
 /// The most slots.
 const SLOTS: usize = 32;
 
-/// The row of CPU 0. Whoever cuts a seat in two or joins two loads word 0, so that its line is in many caches: nothing is written on it,
-/// nor on the next one, which a processor may fetch with it.
+/// The row of CPU 0. Whoever cuts a seat in two or joins two loads word 0, so that its line is in many caches: none of the words lies on
+/// it, nor on the next one, which a processor may fetch with it.
 const ROWS: usize = 16;
 
 /// From a CPU's row to the next one: 65 words, and 15 that no one writes.
@@ -80,7 +80,7 @@ pub(crate) fn next_place(slot: u8) -> usize
     NEXTS + LINE * slot as usize
 }
 
-/// The place of the link of the slot that `link` leads to, `link - 1`.
+/// The place of the link of the slot that `link` leads to, `link - 1`. By the link, so that no subtraction stands before the load (`load_link`).
 pub(crate) fn place_behind(link: u64) -> usize
     requires slot { (0 < link) × (link ≤ 32) }
     ensures place { result ≡ index (next_of (link - 1)) }
@@ -88,7 +88,7 @@ pub(crate) fn place_behind(link: u64) -> usize
     NEXTS - LINE + LINE * link as usize
 }
 
-/// The place of word `k` of a slot's record.
+/// The place of word `k` of a slot's record. The slot is as wide as an address, as a search has it.
 pub(crate) fn record_place(slot: usize, k: u8) -> usize
     requires slot { slot < 32 }
     ensures place { result ≡ index (record_of slot k) }

@@ -10,7 +10,8 @@ use cpu_words::{ReferenceSeat, Words, steps};
 
 /// Gives up the local reference whose seat this is, to the entry in `slot`: the seat is spent, and the total of the slot is one less.
 /// Condition: some count word of the slot was collected. A release found it so, or the keeper has an entry with the reference's number
-/// retired there, and a CPU's count collected for it.
+/// retired there, and a CPU's count collected for it. The slot is that of the reference's entry, which whoever has the seat has beside it
+/// (`PlainRef`); words and seat are of the keeper's table.
 pub fn give_up(words: &Words, keeper: &mut Keeper, reference: ReferenceSeat, slot: u8)
     requires words { AreWordsOf words.now keeper.old.words.table keeper.old.words.settings }
     requires reference { reference.table ≡ keeper.old.words.table }

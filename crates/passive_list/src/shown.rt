@@ -8,7 +8,7 @@ use crate::keeper::{Keeper, KeptSlot};
 use registry_values::Settings;
 
 impl Keeper {
-    /// What the table was made for. Some rows agree with what the keeper's seat knows (`own`): it is at rest, and a state shows it.
+    /// What the table was made for. `own` is what every keeper keeps of itself: it is at rest, some state shows its view, and the settings are fit.
     pub fn settings(&self) -> Settings
         ensures value { result ≡ self.now.words.settings }
         ensures own { (rows : List KeptSlot) × HasRows self.now rows }
@@ -16,7 +16,8 @@ impl Keeper {
         self.settings
     }
 
-    /// What it has of each slot, from 0: these rows agree with what its seat knows.
+    /// What it has of each slot, from 0. The rows of the table's slots agree with what its seat knows; those past them are vacant, and no more is
+    /// said of them.
     pub fn rows(&self) -> &[KeptSlot; 32]
         ensures { HasRows self.now result.now }
     {
