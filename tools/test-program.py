@@ -123,8 +123,9 @@ def with_unread_input(program):
 
 
 def part_of_report(program):
-    """A reader of the report that leaves after a few bytes: the program ends by itself, and its status is 3."""
-    script = b"domain 8 32\n" + b"audit\n" * 9000
+    """A reader of the report that leaves after a few bytes: the program ends by itself, and its status is 3. The report is longer than what a pipe
+    holds, so that the program can't be done before the reader has left."""
+    script = b"domain 8 32\nattach 0 driver wm 7\n" + b"audit\n" * 9000
     ran = subprocess.Popen([program, "core"], stdin=subprocess.PIPE, stdout=subprocess.PIPE, stderr=subprocess.PIPE)
     reader = os.fork()
     if reader == 0:
