@@ -154,10 +154,10 @@ guarded_tests() {
     done
 }
 
-# The stress ends, and soon, also on a system where a yield lets nobody on: so nothing of it grows while one waits for another.
+# The stress ends also on a system where a yield lets nobody on: so nothing of it grows while one waits for another.
 ends_without_yields() {
     echo 'int sched_yield(void) { return 0; }' | gcc -shared -fPIC -o "$out/no_yield.so" -xc - || return 1
-    LD_PRELOAD=$PWD/$out/no_yield.so timeout 30 "$(rust_tests | grep /threads-)"
+    LD_PRELOAD=$PWD/$out/no_yield.so timeout 600 "$(rust_tests | grep /threads-)"
 }
 
 # A program over the crate ends with 'wrong 0', and has made so many changes.
@@ -263,7 +263,8 @@ test_rust() {
         check "Rust: clippy says nothing" cargo clippy --offline --all-targets -- -D warnings
     fi
     check "Rust: what a package of it has" cargo package --list --allow-dirty --offline
-    counted "Rust: tests and the docs' examples" cargo test --offline --no-fail-fast
+    counted "Rust: tests" cargo test --offline --no-fail-fast --lib --tests
+    counted "Rust: the docs' examples" cargo test --offline --doc
     check "Rust: the examples are built" cargo build --offline --release --examples
     cd ../.. || return
     check "Rust: packet" "$target/release/examples/packet"

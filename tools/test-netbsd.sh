@@ -22,14 +22,9 @@ header_alone() {
     fi
 }
 
-# run NAME PROGRAM: a program that ends by itself, within a minute.
-run() {
-    check "$1" timeout 60 "$2"
-}
-
 # The cases of a program that counts them in its last line.
 count_cases() {
-    timeout 120 "$2" >"$log" 2>&1
+    limited "$2" >"$log" 2>&1
     local words
     read -ra words < <(tail -n 1 "$log")
     if [ "${words[1]-}" != passed, ] || [ "${words[3]-}" != failed ]; then
@@ -51,8 +46,8 @@ done
 check "the names and their tests are built, no warning" make -C $folder all
 check "they are built with sanitizers" make -C $folder sanitized
 for test in bind serialize interfaces switch copies; do
-    run "$test" "$out/$test"
-    run "$test with sanitizers" "$out/sanitized-$test"
+    check "$test" "$out/$test"
+    check "$test with sanitizers" "$out/sanitized-$test"
 done
 count_cases "each misuse by its line" "$out/misuse"
 count_cases "each misuse by its line, with sanitizers" "$out/sanitized-misuse"

@@ -418,9 +418,12 @@ static void init_too_many(void)
 
 /* ---- localcount(9). ---- */
 
+static atomic_bool locked;
+
 static void *drain_it(void *arg)
 {
 	mutex_enter(&lock);
+	atomic_store(&locked, true);
 	localcount_drain(&count, &cv, &lock);
 	mutex_exit(&lock);
 	return arg;
@@ -456,8 +459,6 @@ static void drain_without_lock(void)
 {
 	localcount_drain(&count, &cv, &lock);
 }
-
-static atomic_bool locked;
 
 static void *keep_lock(void *arg)
 {
@@ -526,20 +527,17 @@ static void release_drained(void)
 	localcount_release(&count, &cv, &lock);
 }
 
-/* Once a drain has collected the counts, a release wants the lock. */
+/* Once a drain has collected the counts, a release wants the lock. The drain lets go of it only after a turn, and no section is open: that turn
+ * collects. */
 static void release_locked(void)
 {
 	pthread_t drainer;
-	enum { REFERENCES = 5000 };
-	for (int i = 0; i < REFERENCES; i++)
-		count_in();
+	count_in();
 	start_thread(&drainer, drain_it, NULL);
-	for (int i = 0; i < REFERENCES; i++) {
-		mutex_enter(&lock);
-		localcount_release(&count, &cv, &lock);
-		mutex_exit(&lock);
-		sleep_for(1000);
-	}
+	while (!atomic_load(&locked))
+		sleep_for(100);
+	mutex_enter(&lock);
+	localcount_release(&count, &cv, &lock);
 }
 
 static void init_count_twice(void)

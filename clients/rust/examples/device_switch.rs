@@ -112,11 +112,11 @@ impl Switch {
         Ok(())
     }
 
-    /// Opens devices, reads from them and closes them, until it is told to stop.
+    /// Opens devices, reads from them and closes them, until it is told to stop, but one at least.
     fn use_devices(&self, first: usize) -> Result<Tally, Refusal> {
         let mut tally = Tally::default();
         let mut turn = first;
-        while !self.stop.load(Ordering::Relaxed) {
+        loop {
             turn += 1;
             let unit = turn % DRIVERS.len();
             let opened = match self.open(unit)? {
@@ -136,8 +136,10 @@ impl Switch {
             tally.judge(opened.read(turn as u64));
             tally.reads += 1;
             self.hand_on(turn, opened)?;
+            if self.stop.load(Ordering::Relaxed) {
+                return Ok(tally);
+            }
         }
-        Ok(tally)
     }
 
     /// Hands every third open on, and closes the others and what was handed here.

@@ -22,7 +22,7 @@ const BUFFERS: usize = 8;
 const BATCH: u64 = 32;
 
 /// For how long a port waits for a slot: a forwarder that gets no processor in a section holds what was there as that began.
-const PATIENCE: Duration = Duration::from_secs(10);
+const PATIENCE: Duration = Duration::from_secs(600);
 
 /// What a buffer has in it where its port is free.
 const POISON: u64 = u64::MAX;
@@ -123,11 +123,11 @@ struct Yard {
     stop: AtomicBool,
 }
 
-/// Forwards until it is told to stop.
+/// Forwards until it is told to stop, but once at least.
 fn forward(cpu: Cpu<Port>, yard: &Yard) -> Result<Tally, Refusal> {
     let mut tally = Tally::default();
     let mut packet = u64::from(cpu.id());
-    while !yard.stop.load(Ordering::Relaxed) {
+    loop {
         if let Some(port) = forward_batch(&cpu, &yard.ports, packet, &mut tally)? {
             thread::yield_now(); // the packet waits
             tally.judge(port.send(packet));
@@ -135,8 +135,10 @@ fn forward(cpu: Cpu<Port>, yard: &Yard) -> Result<Tally, Refusal> {
         }
         packet += BATCH;
         yard.batches.fetch_add(1, Ordering::Relaxed);
+        if yard.stop.load(Ordering::Relaxed) {
+            return Ok(tally);
+        }
     }
-    Ok(tally)
 }
 
 /// Whoever changes the ports, on a CPU of its own.
@@ -169,7 +171,7 @@ impl Changer<'_> {
                 }) => given = back,
                 Err(refused) => return Err(refused.refusal),
             }
-            thread::yield_now();
+            thread::sleep(Duration::from_micros(10));
         }
         Err(Refusal::NoSlot)
     }

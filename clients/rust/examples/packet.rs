@@ -75,6 +75,9 @@ fn main() -> Result<(), Box<dyn Error>> {
         let port = take_out(&registry, &fourth, wm0)?;
         wire.gone.store(true, Ordering::SeqCst);
         assert_eq!(port.mtu, 1500);
+        for sender in senders {
+            sender.join().expect("it doesn't panic");
+        }
         Ok::<_, Refusal>(())
     })?;
     println!("nobody sent by wm0 once it was taken out");

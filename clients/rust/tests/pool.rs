@@ -58,7 +58,7 @@ fn more_threads_than_cpus_share_them() {
     let in_use = [AtomicBool::new(false), AtomicBool::new(false)];
     let found = AtomicU32::new(0);
     thread::scope(|scope| {
-        for _ in 0..6 {
+        let share = || {
             scope.spawn(|| {
                 for _ in 0..200 {
                     let cpu = pool.lend();
@@ -69,7 +69,11 @@ fn more_threads_than_cpus_share_them() {
                     reference.release(&cpu).unwrap();
                     mine.store(false, Ordering::SeqCst);
                 }
-            });
+            })
+        };
+        let sharers: Vec<_> = (0..6).map(|_| share()).collect();
+        for sharer in sharers {
+            sharer.join().unwrap();
         }
     });
     assert_eq!(found.load(Ordering::SeqCst), 6 * 200 * 7);

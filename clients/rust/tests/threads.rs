@@ -9,6 +9,7 @@ use std::sync::atomic::{AtomicBool, AtomicU64, Ordering};
 use std::sync::mpsc::{sync_channel, Receiver, SyncSender};
 use std::sync::Mutex;
 use std::thread;
+use std::time::Duration;
 
 const NAMES: u64 = 6;
 
@@ -77,6 +78,11 @@ fn take_over(cpu: Cpu<Tracked>, from: Receiver<LocalRef<Tracked>>) -> Cpu<Tracke
     cpu
 }
 
+/// Lets others on also where a yield doesn't, so that whoever wants the interlock gets it.
+fn rest() {
+    thread::sleep(Duration::from_micros(10));
+}
+
 /// Takes one entry out by one of three ways, and attaches another with the same name.
 fn change(registry: &Registry<Tracked>, cpu: &Cpu<Tracked>, drops: &Drops, name: &Name, label: u64) {
     match (label / NAMES) % 3 {
@@ -90,7 +96,7 @@ fn change(registry: &Registry<Tracked>, cpu: &Cpu<Tracked>, drops: &Drops, name:
             loop {
                 match registry.advance(gone.number).unwrap() {
                     Advance::Freed(freed) => break freed.value.check(),
-                    Advance::Held(_) => thread::yield_now(),
+                    Advance::Held(_) => rest(),
                 }
             }
         }
@@ -99,7 +105,7 @@ fn change(registry: &Registry<Tracked>, cpu: &Cpu<Tracked>, drops: &Drops, name:
     while let Err(refused) = registry.attach(cpu, name, value) {
         assert_eq!(refused.refusal, Refusal::NoSlot);
         value = refused.given;
-        thread::yield_now();
+        rest();
     }
 }
 
@@ -126,7 +132,7 @@ fn nobody_meets_a_value_that_was_dropped() {
         let taking = scope.spawn(move || take_over(releaser, from));
         // No change is made before a reader has met the entries: a tool that runs one thread at a time may start them late.
         while seen.load(Ordering::Relaxed) == 0 && !readers.iter().all(|reader| reader.is_finished()) {
-            thread::yield_now();
+            rest();
         }
         for turn in 0..changes() {
             let label = turn + NAMES;

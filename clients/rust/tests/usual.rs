@@ -301,10 +301,11 @@ fn threads_get_what_another_replaces() {
     registry.attach(&changer, &wm, drops.make(0)).unwrap();
     thread::scope(|scope| {
         let stops = Stops(&stop);
-        for cpu in cpus {
+        let use_it = |cpu| {
             let (wm, stop) = (&wm, &stop);
-            scope.spawn(move || assert_ne!(use_driver(&cpu, wm, stop), 0));
-        }
+            scope.spawn(move || assert_ne!(use_driver(&cpu, wm, stop), 0))
+        };
+        let users: Vec<_> = cpus.into_iter().map(use_it).collect();
         for label in 1..200 {
             registry.retire(&changer, Kind::Driver, &wm).unwrap();
             while let Err(refused) = registry.attach(&changer, &wm, drops.make(label)) {
@@ -313,6 +314,9 @@ fn threads_get_what_another_replaces() {
             }
         }
         drop(stops);
+        for user in users {
+            user.join().unwrap();
+        }
     });
     drop((changer, registry));
     assert_eq!(drops.made(), drops.dropped());
