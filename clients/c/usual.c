@@ -321,18 +321,25 @@ static void free_object(void)
 	free(object);
 }
 
-/* Uses the driver that is there, if one is, for a while in a section. */
+/* Uses the object of a driver that the caller holds, for a while, and counts that. */
+static void use_object(const struct registry_entry *driver, atomic_uint_fast64_t *count)
+{
+	const struct object *object = (const struct object *)(uintptr_t)driver->value;
+	EXPECT(object->alive == ALIVE);
+	rest();
+	EXPECT(object->alive == ALIVE);
+	atomic_fetch_add(count, 1);
+}
+
+/* Uses the driver that is there, if one is, in a section. */
 static void use_inside(struct registry_cpu *cpu)
 {
 	struct registry_entry found;
 	uint32_t answer = registry_enter_find(cpu, REGISTRY_DRIVER, &wm, &found);
 	if (answer == REGISTRY_NOT_FOUND)
 		return;
-	const struct object *object = (const struct object *)(uintptr_t)found.value;
-	EXPECT(answer == REGISTRY_DONE && object->alive == ALIVE);
-	rest();
-	EXPECT(object->alive == ALIVE);
-	atomic_fetch_add(&finds, 1);
+	DONE(answer);
+	use_object(&found, &finds);
 	DONE(registry_exit(cpu));
 }
 
@@ -345,11 +352,8 @@ static void use_driver(struct registry_cpu *cpu)
 	answer = registry_get(cpu, REGISTRY_DRIVER, &wm, &found);
 	if (answer == REGISTRY_NOT_FOUND)
 		return;
-	const struct object *object = (const struct object *)(uintptr_t)found.value;
-	EXPECT(answer == REGISTRY_DONE && object->alive == ALIVE);
-	rest();
-	EXPECT(object->alive == ALIVE);
-	atomic_fetch_add(&uses, 1);
+	DONE(answer);
+	use_object(&found, &uses);
 	DONE(registry_release(cpu, found.number));
 }
 
