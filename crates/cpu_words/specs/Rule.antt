@@ -25,12 +25,17 @@ use Rattle.cpu_words.specs.declared.view.KeeperView.{KeeperView}
 use Rattle.cpu_words.specs.declared.view.LogItem.{LogItem}
 use Rattle.cpu_words.specs.declared.view.View.{View}
 use Rattle.cpu_words.specs.declared.view.View.TheVariants.{Keeper, Cpu, Reference, Note, Spent}
-use Rattle.cpu_words.specs.declared.layout.TheConstants.{WORDS}
+use Rattle.cpu_words.specs.declared.layout.TheConstants.{TOTALS, WORDS}
 
--- the table has the words of the core
+-- none of the words is at that place, which lies before the totals
+abbrev pub IsUnused : Settings → ℕ → Type 0
+IsUnused z i = (i < TOTALS) × ((p : Spot) → IsSpot z p → index p ≡ i → ⊥)
+
+-- the table has the words of the core, and 0 at each place between them: no step writes there
 pub record Agrees (words : List ℕ) (g : State) : Type 0 where
   pub size : length words ≡ WORDS
   pub at : (p : Spot) → IsSpot g.settings p → slice_index words (index p) ≡ word_at g p
+  pub unused : (i : ℕ) → IsUnused g.settings i → slice_index words i ≡ 0
 
 -- the keeper has the first seat, and each CPU one
 abbrev pub Sits : (ℕ → ℕ) → ℕ → View → Type 0

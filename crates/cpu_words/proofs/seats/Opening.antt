@@ -90,7 +90,7 @@ opens_without_logs z words fit are = record {
   settings = refl;
   good = first_good z fit;
   reached = record { events = []; run = refl; made = refl };
-  words = record { size = are.size; at = first_words z words fit are };
+  words = record { size = are.size; at = first_words z words fit are; unused = λ i free. are.unused i free.0 };
   shows = record { fits = one; each = record { keeper = (new_keeper z, refl); cpus = λ c lt. absurd (omega (arith, lt)) }; references = λ n. refl };
 }
   where

@@ -7,7 +7,7 @@ use Rattle.registry_values.specs.Limits.{are_fit}
 use Rattle.protocol.specs.State.{State}
 use Rattle.registry_values.proofs.Fit.{ranges}
 use Rattle.cpu_words.specs.Spots.{Spot, section_of, passive_of, count_of, head_word, next_of, record_of, total_of, index, IsSpot, word_at}
-use Rattle.cpu_words.specs.Rule.{Agrees}
+use Rattle.cpu_words.specs.Rule.{Agrees, IsUnused}
 use Rattle.cpu_words.specs.declared.layout.TheConstants.{WORDS}
 
 -- two words at one place are one word
@@ -84,6 +84,9 @@ agrees_set words g g' p n fit agrees same here is others =
           dite (ℕ_discrete (index q) (index p))
           (λ e. ap (λ k. get_or (set words (index p) n) k 0) e ∙ get_or-set_same words (index p) n 0 lt ∙ sym (ap (word_at g') (same_spot g.settings fit p q here there e) ∙ is))
           (λ ne. get_or-set_other words (index p) (index q) n 0 ne ∙ agrees.at q there ∙ sym (others q there (λ e. ne (ap index e))));
+      unused = λ i free'.
+          let free = subst (λ (z : Settings). IsUnused z i) same free' in
+          get_or-set_other words (index p) i n 0 (λ e. free.1 p here (sym e)) ∙ agrees.unused i free;
     }
 
 -- no word changes
@@ -91,4 +94,5 @@ pub agrees_same : (words : List ℕ) (g g' : State) → Agrees words g → g'.se
 agrees_same words g g' agrees same others = record {
   size = agrees.size;
   at = λ q there'. let there = subst (λ (z : Settings). IsSpot z q) same there' in agrees.at q there ∙ sym (others q there);
+  unused = λ i free. agrees.unused i (subst (λ (z : Settings). IsUnused z i) same free);
 }
