@@ -37,8 +37,9 @@ WORD = re.compile(r"[A-Za-z_][A-Za-z0-9_]*")
 
 
 def tracked():
-    """The files of the repository, new ones too."""
-    listed = subprocess.run(["git", "ls-files", "-co", "--exclude-standard"], cwd=ROOT, check=True, stdout=subprocess.PIPE, text=True)
+    """The files of the repository, new ones too. The tree may be another user's."""
+    command = ["git", "-c", "safe.directory=*", "ls-files", "-co", "--exclude-standard"]
+    listed = subprocess.run(command, cwd=ROOT, check=True, stdout=subprocess.PIPE, text=True)
     return [ROOT / name for name in listed.stdout.splitlines() if (ROOT / name).is_file()]
 
 

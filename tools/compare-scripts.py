@@ -18,6 +18,8 @@ import tempfile
 ROOT = pathlib.Path(__file__).resolve().parent.parent
 CLIENT = ROOT / "clients/out/script"
 PROGRAM = ROOT / "crates/registry_run/out/registry_run"
+# After so many seconds a program that is run is taken to wait for ever.
+MOST_SECONDS = 1200
 KINDS = ("driver", "iface")
 # How often each command comes.
 WEIGHTS = {
@@ -93,7 +95,7 @@ class Writer:
 
 
 def said_by(command, script):
-    ended = subprocess.run(command, input=script.encode(), stdout=subprocess.PIPE, stderr=subprocess.PIPE)
+    ended = subprocess.run(command, input=script.encode(), stdout=subprocess.PIPE, stderr=subprocess.PIPE, timeout=MOST_SECONDS)
     return ended.returncode, ended.stdout.decode(), ended.stderr.decode()
 
 
@@ -103,7 +105,8 @@ def said_when_tried(scripts, engine="live"):
         for place, script in enumerate(scripts):
             pathlib.Path(folder, f"s{place}").write_text(script)
         command = ["rt", "try", "--cases", folder, "--", engine]
-        ended = subprocess.run(command, cwd=ROOT / "crates/registry_run", stdout=subprocess.PIPE, stderr=subprocess.PIPE)
+        streams = {"stdout": subprocess.PIPE, "stderr": subprocess.PIPE}
+        ended = subprocess.run(command, cwd=ROOT / "crates/registry_run", timeout=MOST_SECONDS, **streams)
     printed = re.split(r"^== s(\d+)\n", ended.stdout.decode(), flags=re.M)
     outputs = dict(zip(map(int, printed[1::2]), printed[2::2]))
     if len(outputs) != len(scripts):

@@ -21,6 +21,8 @@ import tempfile
 
 ROOT = pathlib.Path(__file__).resolve().parent.parent
 ENGINES = ("core", "live")
+# After so many seconds a program that is run is taken to wait for ever.
+MOST_SECONDS = 1200
 WANTED = {"report": lambda text: (0, text, ""), "fault": lambda text: (2, "", text)}
 SOURCES = {
     "rust": [*sorted((ROOT / "crates/registry_examples/src").glob("*.rt")), *sorted((ROOT / "clients/rust/examples").glob("*.rs"))],
@@ -79,7 +81,8 @@ def strayed():
 def said(program, engine, found):
     """What the program says of each example: status, standard output and standard error."""
     for _, script, _, _ in found:
-        ended = subprocess.run([program, engine], input=script.encode(), stdout=subprocess.PIPE, stderr=subprocess.PIPE)
+        command = [program, engine]
+        ended = subprocess.run(command, input=script.encode(), stdout=subprocess.PIPE, stderr=subprocess.PIPE, timeout=MOST_SECONDS)
         yield ended.returncode, ended.stdout.decode(), ended.stderr.decode()
 
 
@@ -89,7 +92,8 @@ def said_when_tried(engine, found):
         for place, script, _, _ in found:
             pathlib.Path(folder, place).write_bytes(script.encode())
         command = ["rt", "try", "--cases", folder, "--", engine]
-        ended = subprocess.run(command, cwd=ROOT / "crates/registry_run", stdout=subprocess.PIPE, stderr=subprocess.PIPE)
+        streams = {"stdout": subprocess.PIPE, "stderr": subprocess.PIPE}
+        ended = subprocess.run(command, cwd=ROOT / "crates/registry_run", timeout=MOST_SECONDS, **streams)
     printed = re.split(r"^== (\S+)\n", ended.stdout.decode(), flags=re.M)
     outputs = dict(zip(printed[1::2], printed[2::2]))
     complained = re.split(r"^case=(\S+) run=ended status=(\d+) .*\n", ended.stderr.decode(), flags=re.M)

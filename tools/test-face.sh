@@ -44,7 +44,7 @@ install_missing() {
     done
     if [ "${#missing[@]}" -gt 0 ]; then
         echo "installing ${missing[*]}"
-        { apt-get update && apt-get install -y "${missing[@]}"; } >"$log" 2>&1
+        { apt-get update && DEBIAN_FRONTEND=noninteractive apt-get -o DPkg::Lock::Timeout=300 install -y "${missing[@]}"; } >"$log" 2>&1 </dev/null
         judge "installed ${missing[*]}" $?
     fi
 }
@@ -139,9 +139,9 @@ guarded_rust() {
     RUST_BACKTRACE=0 watched --show-leak-kinds=definite,indirect --errors-for-leak-kinds=definite,indirect "$@"
 }
 
-# The programs of the crate's tests, but for the one that runs the compiler.
+# The programs of the crate's tests, but for the one that runs the compiler, as cargo names them where it isn't told to be quiet.
 rust_tests() {
-    (cd clients/rust && cargo test --offline --no-run --tests 2>&1) | grep -oE '/[^ ()]*/(carried|entries|face|pool|threads|two|usual)-[0-9a-f]+'
+    (cd clients/rust && CARGO_TERM_QUIET=false cargo test --offline --no-run --tests 2>&1) | grep -oE '/[^ ()]*/(carried|entries|face|pool|threads|two|usual)-[0-9a-f]+'
 }
 
 # Each of them under valgrind, but for what forgets on purpose; the stress with fewer changes.

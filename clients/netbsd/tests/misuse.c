@@ -218,11 +218,8 @@ static void perform_inside(void)
 	pserialize_perform(psz);
 }
 
-static atomic_bool performing;
-
 static void *perform_it(void *arg)
 {
-	atomic_store(&performing, true);
 	pserialize_perform(psz);
 	return arg;
 }
@@ -234,14 +231,19 @@ static void perform_twice(void)
 	on_two_threads(perform_it);
 }
 
+/* A struct pserialize begins with this flag. No call tells it, and only once it is set is a destroy sure to be stopped. */
+static bool is_performing(void)
+{
+	return atomic_load((atomic_bool *)psz);
+}
+
 static void destroy_performing(void)
 {
 	pthread_t writer;
 	pserialize_read_enter();
 	start_thread(&writer, perform_it, NULL);
-	while (!atomic_load(&performing))
+	while (!is_performing())
 		sleep_for(100);
-	sleep_for(300000);
 	pserialize_destroy(psz);
 }
 

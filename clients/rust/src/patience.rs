@@ -108,8 +108,8 @@ mod tests {
         let began = Instant::now();
         let made = turns(Patience::at_most(Duration::from_millis(30)), usize::MAX);
         assert!(began.elapsed() >= Duration::from_millis(30));
-        // Sixteen that yield, ten that sleep for less than a millisecond, and a millisecond each then.
-        assert!((2..=80).contains(&made), "{made} turns");
+        // Sixteen that yield, ten that sleep for less than a millisecond, and a millisecond each then: no more, however late this thread is let on.
+        assert!(made <= 80, "{made} turns");
     }
 
     #[test]
