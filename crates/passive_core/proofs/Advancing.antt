@@ -13,7 +13,7 @@ use Rattle.registry_values.specs.declared.slot.Slot.TheVariants.{Retired}
 use Rattle.registry_values.specs.declared.refusal.Refusal.{Refusal}
 use Rattle.registry_values.specs.declared.stage.Stage.{Stage}
 use Rattle.registry_values.specs.declared.stage.Stage.TheVariants.{Grace, Passive, Local, Freed}
-use Rattle.passive_core.specs.Advancing.{AdvanceLeaves, Settles, Empties, Gathers, HoldersAreOpen, LeavesMarks, MarksPass, Passes, Clears, MarksClear, PassedBelow, ClearBelow, AllNoted, SameBut, StageMarks, AdvanceMarks, StageLeaves, advance_answer, count_given_up, has_passive, is_open_since, is_snapshot, first_obstacle}
+use Rattle.passive_core.specs.Advancing.{AdvanceLeaves, Settles, Empties, Gathers, HoldersAreOpen, LeavesMarks, MarksPass, Passes, Clears, MarksClear, SameBut, StageMarks, AdvanceMarks, StageLeaves, advance_answer, count_given_up, has_passive, is_open_since, is_snapshot, first_obstacle}
 use Rattle.protocol.specs.Marking.{AllClear, AllCollected, AllPassed, MarksGrow}
 use Rattle.registry_values.specs.Marks.{no_mark, least_below, mark_after_look, mark_after_passive_look, mark_after_collect, are_collected, has_changed, have_passed, is_even}
 use Rattle.registry_values.specs.Stages.{stage_of}

@@ -13,7 +13,8 @@ use Rattle.protocol.specs.declared.state.Search.{Search}
 use Rattle.protocol.specs.History.{IsLookup}
 use Rattle.protocol.specs.Invariant.{Holds}
 use Rattle.protocol.specs.State.{State, seen_at, search_at, row_at}
-use Rattle.protocol.specs.Events.{Outcome, guard, some_outcome, may_seek, after_seeing, after_seek, with_search_at, search_over, link_loaded, load_link, load_searched, outcome_of_name, entry_found}
+use Rattle.protocol.specs.Loaded.{entry_with, loaded_of_name}
+use Rattle.protocol.specs.Events.{Outcome, guard, some_outcome, may_seek, after_seeing, after_seek, with_search_at, search_over, link_loaded, load_link, load_searched, outcome_of}
 use Rattle.passive_core.specs.Finding.{after_find, load_at, next_load}
 use Rattle.passive_core.proofs.Acting.{made_is}
 use Rattle.protocol.proofs.keeps.Searching.{Finds, FindSteps, IsFindStep, find_link, find_record, placed, searching_within, seen_now, weight}
@@ -66,7 +67,7 @@ link_moves : (b s : State) (c : ℕ) (q : Search) (x : ℕ) → Holds s → c < 
 link_moves b s c q zero on lt walk none = over_is b (after_seeing s c) c None (seeing_walks b s c walk) none (seen_now s c on lt ∙ ap length (history_same b s c walk))
 link_moves b s c q (suc t) on lt walk none = going_walks b (after_seeing s c) c q (AtNumber t) (seeing_walks b s c walk)
 
-compared_moves : (b s : State) (c : ℕ) (q : Search) (t n l : ℕ) (test : Bool) → Walking b s c → Moves b c (outcome_of_name s c q t n l test)
+compared_moves : (b s : State) (c : ℕ) (q : Search) (t n l : ℕ) (test : Bool) → Walking b s c → Moves b c (outcome_of s c q (Some (loaded_of_name t n l test)))
 compared_moves b s c q t n l true walk = going_walks b s c q (AtValue t n) walk
 compared_moves b s c q t n l false walk = going_walks b s c q (AtNext t) walk
 
@@ -82,16 +83,16 @@ load_moves b s c q (AtNumber t) on lt walk none seen = going_walks b s c q (AtKi
 load_moves b s c q (AtKind t n) on lt walk none seen = going_walks b s c q (AtHigh t n (row_at s.rows t).kind) walk
 load_moves b s c q (AtHigh t n k) on lt walk none seen = going_walks b s c q (AtLow t n k (row_at s.rows t).high) walk
 load_moves b s c q (AtLow t n k h) on lt walk none seen = compared_moves b s c q t n (row_at s.rows t).low (are_words_of q.key k h (row_at s.rows t).low) walk
-load_moves b s c q (AtValue t n) on lt walk none seen = over_is b s c (Some (entry_found q t n (row_at s.rows t).value)) walk none (past_head t n (seen_at s c ≡ length b.history) seen)
+load_moves b s c q (AtValue t n) on lt walk none seen = over_is b s c (Some (entry_with q.key t n (row_at s.rows t).value)) walk none (past_head t n (seen_at s c ≡ length b.history) seen)
 
 load_finds : (s : State) (c : ℕ) (q : Search) (p : SearchPlace) → q.place ≡ p → Holds s → Finds s c q → FindSteps c q (weight s p) (load_at s c q p)
 load_finds s c q AtHead is on finds = subst (λ (p : SearchPlace). FindSteps c q (weight s p) (load_link s c q p)) is (find_link s c q on finds)
 load_finds s c q (AtNext t) is on finds = subst (λ (p : SearchPlace). FindSteps c q (weight s p) (load_link s c q p)) is (find_link s c q on finds)
-load_finds s c q (AtNumber t) is on finds = subst (λ (p : SearchPlace). FindSteps c q (weight s p) (load_searched s c q p (row_at s.rows))) is (find_record s c q on finds)
-load_finds s c q (AtKind t n) is on finds = subst (λ (p : SearchPlace). FindSteps c q (weight s p) (load_searched s c q p (row_at s.rows))) is (find_record s c q on finds)
-load_finds s c q (AtHigh t n k) is on finds = subst (λ (p : SearchPlace). FindSteps c q (weight s p) (load_searched s c q p (row_at s.rows))) is (find_record s c q on finds)
-load_finds s c q (AtLow t n k h) is on finds = subst (λ (p : SearchPlace). FindSteps c q (weight s p) (load_searched s c q p (row_at s.rows))) is (find_record s c q on finds)
-load_finds s c q (AtValue t n) is on finds = subst (λ (p : SearchPlace). FindSteps c q (weight s p) (load_searched s c q p (row_at s.rows))) is (find_record s c q on finds)
+load_finds s c q (AtNumber t) is on finds = subst (λ (p : SearchPlace). FindSteps c q (weight s p) (load_searched s c q p)) is (find_record s c q on finds)
+load_finds s c q (AtKind t n) is on finds = subst (λ (p : SearchPlace). FindSteps c q (weight s p) (load_searched s c q p)) is (find_record s c q on finds)
+load_finds s c q (AtHigh t n k) is on finds = subst (λ (p : SearchPlace). FindSteps c q (weight s p) (load_searched s c q p)) is (find_record s c q on finds)
+load_finds s c q (AtLow t n k h) is on finds = subst (λ (p : SearchPlace). FindSteps c q (weight s p) (load_searched s c q p)) is (find_record s c q on finds)
+load_finds s c q (AtValue t n) is on finds = subst (λ (p : SearchPlace). FindSteps c q (weight s p) (load_searched s c q p)) is (find_record s c q on finds)
 
 -- what is left of the search that is under way
 abbrev pub left : State → Option Search → ℕ

@@ -1,5 +1,5 @@
 -- Lists of events, one after the other.
-use Rattle.std.proofs.Common.{get_or, get_or-set_same, length, replicate, set, ◌≡◌, ℕ, zero, suc, ◌+◌, ◌-◌, ◌<◌, ◌≤◌, ◌⊎◌, inl, inr, ⊎_elim, List, [], ◌∷◌, ◌++◌, Option, Some, None, Bool, true, false, ◌&&◌, nat_lt, nat_eq, Result, Ok, refl, sym, ap, subst, ◌∙◌, arith, lt-ltb}
+use Rattle.std.proofs.Common.{get_or, get_or-set_same, replicate, ◌≡◌, ℕ, zero, suc, ◌+◌, ◌-◌, ◌<◌, ◌≤◌, inl, inr, ⊎_elim, List, [], ◌∷◌, ◌++◌, Option, Some, None, Bool, true, false, ◌&&◌, nat_lt, Ok, refl, sym, ap, subst, ◌∙◌, arith, lt-ltb}
 use Rattle.std.specs.Prelude.{All, is_none, if◌then◌else◌}
 use Rattle.std.proofs.lemmas.Option.{same_Some}
 use Rattle.std.proofs.lemmas.Bool.{and_parts, eq-eqb}
@@ -9,11 +9,11 @@ use Rattle.registry_values.specs.declared.stage.Stage.{Stage}
 use Rattle.registry_values.specs.declared.stage.Stage.TheVariants.{Grace, Passive, Local, Freed}
 use Rattle.registry_values.specs.Slots.{retired_slot}
 use Rattle.protocol.specs.declared.event.Event.{Event}
-use Rattle.protocol.specs.declared.event.Event.TheVariants.{Seat, Seek, Look, LoadRecord, Publish, Unpublish, Tell, Hear, Snapshot, CountAdd, SplitRef, JoinRef, CountDown, SplitBack}
+use Rattle.protocol.specs.declared.event.Event.TheVariants.{Seat, Seek, Look, LoadRecord, Publish, Unpublish, Tell, Hear, CountAdd, SplitRef, JoinRef, CountDown, SplitBack}
 use Rattle.protocol.specs.declared.event.RecordOf.{RecordOf}
 use Rattle.protocol.specs.declared.event.Reply.{Reply}
 use Rattle.protocol.specs.declared.event.Reply.TheVariants.{Done, Ref, Word}
-use Rattle.protocol.specs.Events.{Outcome, after_count_add, after_count_store, after_publish, after_snapshot, after_split, after_unpublish, is_idle, least_id, load_record, may_write, some_outcome, step}
+use Rattle.protocol.specs.Events.{after_count_add, after_count_store, after_publish, after_snapshot, after_split, after_unpublish, is_idle, least_id, load_record, may_write, some_outcome, step}
 use Rattle.protocol.specs.Invariant.{Holds}
 use Rattle.protocol.proofs.keeps.CountKeeps.{empty_from}
 use Rattle.registry_values.proofs.Fit.{ranges}

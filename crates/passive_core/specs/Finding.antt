@@ -4,7 +4,7 @@ use Rattle.registry_values.specs.declared.entry.Entry.{Entry}
 use Rattle.protocol.specs.declared.state.SearchPlace.{SearchPlace}
 use Rattle.protocol.specs.declared.state.SearchPlace.TheVariants.{AtHead, AtNext, AtNumber, AtKind, AtHigh, AtLow, AtValue}
 use Rattle.protocol.specs.declared.state.Search.{Search}
-use Rattle.protocol.specs.State.{State, row_at}
+use Rattle.protocol.specs.State.{State}
 use Rattle.protocol.specs.Events.{Outcome, with_some, load_link, load_searched}
 
 -- the whole history is seen, and the answer is the last found entry
@@ -15,11 +15,11 @@ after_find s c answer = record s { seen = slice_set s.seen c (length s.history);
 abbrev pub load_at : State → ℕ → Search → SearchPlace → Option Outcome
 load_at s c q AtHead = load_link s c q AtHead
 load_at s c q (AtNext t) = load_link s c q (AtNext t)
-load_at s c q (AtNumber t) = load_searched s c q (AtNumber t) (row_at s.rows)
-load_at s c q (AtKind t n) = load_searched s c q (AtKind t n) (row_at s.rows)
-load_at s c q (AtHigh t n k) = load_searched s c q (AtHigh t n k) (row_at s.rows)
-load_at s c q (AtLow t n k h) = load_searched s c q (AtLow t n k h) (row_at s.rows)
-load_at s c q (AtValue t n) = load_searched s c q (AtValue t n) (row_at s.rows)
+load_at s c q (AtNumber t) = load_searched s c q (AtNumber t)
+load_at s c q (AtKind t n) = load_searched s c q (AtKind t n)
+load_at s c q (AtHigh t n k) = load_searched s c q (AtHigh t n k)
+load_at s c q (AtLow t n k h) = load_searched s c q (AtLow t n k h)
+load_at s c q (AtValue t n) = load_searched s c q (AtValue t n)
 
 abbrev pub next_load : State → ℕ → Option Search → Option Outcome
 next_load s c search = with_some search (λ q. load_at s c q q.place)

@@ -20,6 +20,8 @@ use Rattle.registry_values.specs.declared.mark.Mark.{Mark}
 use Rattle.protocol.specs.declared.state.SearchPlace.{SearchPlace}
 use Rattle.protocol.specs.declared.state.SearchPlace.TheVariants.{AtHead, AtNext, AtNumber, AtKind, AtHigh, AtLow, AtValue}
 use Rattle.protocol.specs.declared.state.Search.{Search}
+use Rattle.protocol.specs.declared.state.Loaded.{Loaded}
+use Rattle.protocol.specs.declared.state.Loaded.TheVariants.{On, Over}
 use Rattle.protocol.specs.declared.state.Hand.{Hand}
 use Rattle.protocol.specs.declared.state.Hand.TheVariants.{Empty, Taking, Giving, Back}
 use Rattle.protocol.specs.declared.state.LocalPlace.{LocalPlace}
@@ -27,8 +29,9 @@ use Rattle.protocol.specs.declared.state.LocalPlace.TheVariants.{Free, Standing,
 use Rattle.protocol.specs.declared.state.Due.{Due}
 use Rattle.protocol.specs.declared.state.Due.TheVariants.{Rest, Snapshots, Adding, Subtracting}
 use Rattle.protocol.specs.History.{after_change}
+use Rattle.protocol.specs.Loaded.{loaded_at, row_of_place}
 use Rattle.registry_values.specs.Answers as answers
-use Rattle.registry_values.specs.Slots.{are_words_of, key_of, slot_at, kind_word, is_iface, is_driver, is_vacant, is_retired, is_taken, live_count, slot_of, slot_before}
+use Rattle.registry_values.specs.Slots.{key_of, slot_at, kind_word, is_iface, is_driver, is_vacant, is_retired, is_taken, live_count, slot_of, slot_before}
 use Rattle.registry_values.specs.Names.{are_name_words}
 use Rattle.protocol.specs.State.{State, with_cell, section_at, begin_at, depth_at, seen_at, search_at, found_at, hand_at, row_at, mark_at, passive_at, count_at, total_at, kept_at, local_at, is_empty, at_rest}
 use Rattle.registry_values.specs.Balances.{bias}
@@ -136,32 +139,27 @@ abbrev pub link_loaded : State → ℕ → Search → ℕ → Option Outcome
 link_loaded s c q zero = some_outcome (search_over (after_seeing s c) c None) Missed
 link_loaded s c q (suc t) = some_outcome (with_search_at (after_seeing s c) c q (AtNumber t)) (Word (suc t))
 
+-- the link that a search at this place is to load
+abbrev pub link_at : State → SearchPlace → Option ℕ
+link_at s AtHead = Some s.head
+link_at s (AtNext t) = Some (slice_index_or s.next t 0)
+link_at s (AtNumber t) = None
+link_at s (AtKind t n) = None
+link_at s (AtHigh t n k) = None
+link_at s (AtLow t n k h) = None
+link_at s (AtValue t n) = None
+
 abbrev pub load_link : State → ℕ → Search → SearchPlace → Option Outcome
-load_link s c q AtHead = link_loaded s c q s.head
-load_link s c q (AtNext t) = link_loaded s c q (slice_index_or s.next t 0)
-load_link s c q (AtNumber t) = None
-load_link s c q (AtKind t n) = None
-load_link s c q (AtHigh t n k) = None
-load_link s c q (AtLow t n k h) = None
-load_link s c q (AtValue t n) = None
+load_link s c q place = with_some (link_at s place) (link_loaded s c q)
 
--- the last word of the name was loaded: the search goes on to the value, or to the next entry
-abbrev pub outcome_of_name : State → ℕ → Search → ℕ → ℕ → ℕ → Bool → Option Outcome
-outcome_of_name s c q t n l true = some_outcome (with_search_at s c q (AtValue t n)) (Word l)
-outcome_of_name s c q t n l false = some_outcome (with_search_at s c q (AtNext t)) (Word l)
+-- what a search makes of a record word: it goes on, or is over with the entry that it found
+abbrev pub outcome_of : State → ℕ → Search → Option Loaded → Option Outcome
+outcome_of s c q None = None
+outcome_of s c q (Some (On p w)) = some_outcome (with_search_at s c q p) (Word w)
+outcome_of s c q (Some (Over e)) = some_outcome (search_over s c (Some e)) (Found e)
 
--- the entry that a search found
-abbrev pub entry_found : Search → ℕ → ℕ → ℕ → Entry
-entry_found q t n value = record { number = n; slot = t; rec = record { kind = q.key.kind; name = q.key.name; value = value } }
-
-abbrev pub load_searched : State → ℕ → Search → SearchPlace → (ℕ → RecordWords) → Option Outcome
-load_searched s c q AtHead row = None
-load_searched s c q (AtNext t) row = None
-load_searched s c q (AtNumber t) row = some_outcome (with_search_at s c q (AtKind t (row t).number)) (Word (row t).number)
-load_searched s c q (AtKind t n) row = some_outcome (with_search_at s c q (AtHigh t n (row t).kind)) (Word (row t).kind)
-load_searched s c q (AtHigh t n k) row = some_outcome (with_search_at s c q (AtLow t n k (row t).high)) (Word (row t).high)
-load_searched s c q (AtLow t n k h) row = outcome_of_name s c q t n (row t).low (are_words_of q.key k h (row t).low)
-load_searched s c q (AtValue t n) row = some_outcome (search_over s c (Some (entry_found q t n (row t).value))) (Found (entry_found q t n (row t).value))
+abbrev pub load_searched : State → ℕ → Search → SearchPlace → Option Outcome
+load_searched s c q place = outcome_of s c q (loaded_at q place (row_of_place s.rows place))
 
 -- Words of records
 
@@ -484,7 +482,7 @@ abbrev pub after_vacate : State → ℕ → State
 after_vacate s t = record s { slots = slice_set s.slots t Vacant }
 
 abbrev pub load_record : State → RecordOf → Option Outcome
-load_record s (OfSearch c) = with_some (search_at s c) (λ q. load_searched s c q q.place (row_at s.rows))
+load_record s (OfSearch c) = with_some (search_at s c) (λ q. load_searched s c q q.place)
 load_record s (OfPassive c n k) = load_passive s c n k
 load_record s (OfLocal id k) = load_local s id k
 

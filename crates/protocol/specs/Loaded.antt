@@ -9,9 +9,7 @@ use Rattle.protocol.specs.declared.state.SearchPlace.TheVariants.{AtHead, AtNext
 use Rattle.protocol.specs.declared.state.Search.{Search}
 use Rattle.protocol.specs.declared.state.Loaded.{Loaded}
 use Rattle.protocol.specs.declared.state.Loaded.TheVariants.{On, Over}
-use Rattle.protocol.specs.State.{State, no_words, row_at}
-use Rattle.protocol.specs.Events.{Outcome, some_outcome, with_search_at, search_over}
-use Rattle.protocol.specs.declared.event.Reply.TheVariants.{Word, Found}
+use Rattle.protocol.specs.State.{no_words, row_at}
 
 abbrev pub entry_with : Key → ℕ → ℕ → ℕ → Entry
 entry_with key t n value = record { number = n; slot = t; rec = record { kind = key.kind; name = key.name; value = value } }
@@ -49,9 +47,3 @@ row_of_place rows (AtKind t n) = row_at rows t
 row_of_place rows (AtHigh t n k) = row_at rows t
 row_of_place rows (AtLow t n k h) = row_at rows t
 row_of_place rows (AtValue t n) = row_at rows t
-
--- what that makes of the core's state
-abbrev pub outcome_of : State → ℕ → Search → Option Loaded → Option Outcome
-outcome_of s c q None = None
-outcome_of s c q (Some (On p w)) = some_outcome (with_search_at s c q p) (Word w)
-outcome_of s c q (Some (Over e)) = some_outcome (search_over s c (Some e)) (Found e)

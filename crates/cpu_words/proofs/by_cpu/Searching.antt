@@ -29,13 +29,12 @@ use Rattle.protocol.specs.History.{change_at, IsAttached, EndsAt, IsLiveAt, IsLa
 use Rattle.registry_values.specs.declared.slot.Slot.TheVariants.{Live, Retired}
 use Rattle.protocol.specs.State.{State, begin_at, seen_at, search_at, found_at, row_at}
 use Rattle.registry_values.specs.Slots.{are_words_of, slot_at}
-use Rattle.protocol.specs.Events.{step, with_some, load_link, link_loaded, load_searched, word, words_of}
-use Rattle.protocol.specs.Loaded.{loaded_at, loaded_of_name, entry_with, row_of_place, outcome_of, SlotWithin}
+use Rattle.protocol.specs.Events.{step, with_some, load_link, link_loaded, load_searched, outcome_of, word, words_of}
+use Rattle.protocol.specs.Loaded.{loaded_at, loaded_of_name, entry_with, row_of_place, SlotWithin}
 use Rattle.protocol.specs.Invariant.{StandsOn, Leads, To_end, To_entry, Holds, PlaceHolds}
 use Rattle.registry_values.proofs.Fit.{ranges}
 use Rattle.protocol.proofs.counts.Bounds.{search_within}
 use Rattle.protocol.proofs.history.History.{at_within}
-use Rattle.protocol.proofs.keeps.Loading.{loaded_is}
 use Rattle.protocol.proofs.keeps.SearchKeeps.{IsAnswer, AnswersLookup, record_answers}
 use Rattle.protocol.proofs.slots.Cells.{one_in}
 use Rattle.protocol.proofs.keeps.Searching.{Walks, stands_in, words_stand, search_walks, LinkTells, link_tells, head_ahead, at_next_ahead}
@@ -457,10 +456,9 @@ searches_word z s r i x spot m q o at under found makes load worded =
     let searching : search_at g x.id ≡ Some q = sym seen.search ∙ under in
     let searches : y.search ≡ loaded_search q o = get_or-set_same g.searches x.id (loaded_search q o) None seen.in_searches in
     let finds : y.found ≡ loaded_found (found_at g x.id) o = founds_here g.found x.id o seen.in_found in
-    let outcome : load_searched g x.id q q.place (row_at g.rows) ≡ Some (record { state = with_lists g l; reply = loaded_answer (Some o) }) =
-    loaded_is g x.id q q.place ∙ ap (outcome_of g x.id q) load ∙ loaded_made g x.id q o in
+    let outcome : load_searched g x.id q q.place ≡ Some (record { state = with_lists g l; reply = loaded_answer (Some o) }) = ap (outcome_of g x.id q) load ∙ loaded_made g x.id q o in
     let made : step g (LoadRecord (OfSearch x.id)) ≡ Some (record { state = with_lists g l; reply = loaded_answer (Some o) }) =
-    ap (λ (p : Option Search). with_some p (λ p. load_searched g x.id p p.place (row_at g.rows))) searching ∙ outcome in
+    ap (λ (p : Option Search). with_some p (λ p. load_searched g x.id p p.place)) searching ∙ outcome in
     let answer : IsAnswer g.history q.start sees q.key (loaded_answer (Some o)) = subst (AnswersLookup x.id q) outcome (record_answers g x.id q r.good.holds searching) in
     let holds : FoundHolds q (Some o) (take sees g.history) = found_holds g.history sees q o seen.within answer in
     let leaves = same_counts g x.id l refl refl refl refl (λ d ne. refl) (λ d ne. refl) (λ d ne. refl) (λ d ne. refl)

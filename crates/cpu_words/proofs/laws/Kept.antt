@@ -1,5 +1,5 @@
 -- Kept drivers: an interface keeps the driver that its slot kept as it was attached, and that driver has its slot.
-use Rattle.std.proofs.Common.{◌≡◌, ℕ, suc, ◌+◌, ◌==◌, ◌&&◌, Bool, true, false, not, List, [], ◌∷◌, ◌++◌, length, set, Option, Some, None, refl, sym, ap, ◌∙◌, subst, arith}
+use Rattle.std.proofs.Common.{◌≡◌, ℕ, suc, ◌+◌, ◌==◌, ◌&&◌, Bool, true, false, not, List, [], ◌∷◌, length, Option, Some, None, refl, sym, ap, ◌∙◌, subst, arith}
 use Rattle.std.proofs.lemmas.Bool.{and_parts, eqb-true}
 use mathlib.Core.Option.{some}
 use lib.ListN.{get_elem?}
@@ -25,7 +25,7 @@ use Rattle.cpu_words.specs.declared.view.Logged.{Logged}
 use Rattle.cpu_words.specs.KeeperLog.{changes_in, keeping, IsAttachedKeeping}
 use Rattle.cpu_words.specs.Headline.{RunsAsLogged}
 use Rattle.cpu_words.specs.Kept.{KeepsDriver, KeepsAsLong, AttachedKeeps}
-use Rattle.cpu_words.proofs.laws.Freed.{AtItem, at_item}
+use Rattle.cpu_words.proofs.laws.Freed.{at_item}
 use Rattle.cpu_words.proofs.laws.Safety.{running_headline}
 use Rattle.cpu_words.proofs.logs.Kept.{keeps_on}
 use Rattle.cpu_words.proofs.logs.Known.{Known}

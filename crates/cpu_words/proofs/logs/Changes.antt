@@ -11,9 +11,7 @@ use Rattle.registry_values.specs.declared.slot.Slot.TheVariants.{Vacant, Live, R
 use Rattle.registry_values.specs.Slots.{slot_at, slot_before}
 use Rattle.registry_values.specs.Limits.{are_fit}
 use Rattle.protocol.specs.declared.event.Event.{Event}
-use Rattle.protocol.specs.declared.event.Event.TheVariants.{LoadRecord, Publish, Unpublish}
-use Rattle.protocol.specs.declared.event.RecordOf.{RecordOf}
-use Rattle.protocol.specs.declared.event.RecordOf.TheVariants.{Search as OfSearch, Passive, Local}
+use Rattle.protocol.specs.declared.event.Event.TheVariants.{Publish, Unpublish}
 use Rattle.protocol.specs.declared.event.Reply.TheVariants.{Done}
 use Rattle.protocol.specs.State.{State, opening, row_at, at_rest}
 use Rattle.protocol.specs.Events.{Outcome, guard, some_outcome, with_some, step, entry_of, unpublish, with_link_past, may_publish, after_publish, after_unpublish}

@@ -1,5 +1,5 @@
 -- What the keeper's log says of counts: which entry each slot has, and the count words that were collected for it, which are net counts.
-use Rattle.std.proofs.Common.{◌≡◌, ℕ, zero, suc, inr, ⊎_elim, ◌+◌, ◌<◌, nat_lt, ◌==◌, ◌&&◌, ◌-◌, Bool, true, false, not, if◌then◌else◌, List, [], ◌∷◌, ◌++◌, length, get_or, set, replicate, Option, Some, None, eq-eqb, ne_eqb, refl, sym, ap, ◌∙◌, subst, arith}
+use Rattle.std.proofs.Common.{◌≡◌, ℕ, zero, suc, inr, ⊎_elim, ◌+◌, ◌<◌, nat_lt, ◌==◌, ◌&&◌, ◌-◌, Bool, true, false, not, if◌then◌else◌, List, [], ◌∷◌, ◌++◌, length, set, replicate, Option, Some, None, eq-eqb, ne_eqb, refl, sym, ap, ◌∙◌, subst, arith}
 use Rattle.std.proofs.lemmas.Bool.{and_parts, cases_eq, eqb-true}
 use Rattle.registry_values.specs.declared.entry.Entry.{Entry}
 use Rattle.registry_values.specs.declared.mark.Mark.{Mark}
@@ -20,9 +20,10 @@ use Rattle.protocol.specs.declared.state.Due.TheVariants.{Rest, Snapshots, Addin
 use Rattle.protocol.specs.declared.state.Hand.{Hand}
 use Rattle.protocol.specs.declared.state.Hand.TheVariants.{Empty, Taking, Giving, Back}
 use Rattle.protocol.specs.declared.state.Search.{Search}
-use Rattle.protocol.specs.declared.state.SearchPlace.{SearchPlace}
-use Rattle.protocol.specs.declared.state.SearchPlace.TheVariants.{AtHead, AtNext, AtNumber, AtKind, AtHigh, AtLow, AtValue}
+use Rattle.protocol.specs.declared.state.Loaded.{Loaded}
+use Rattle.protocol.specs.declared.state.Loaded.TheVariants.{On, Over}
 use Rattle.protocol.specs.State.{State, opening, with_cell, section_at, search_at, found_at, hand_at, row_at, mark_at, passive_at, count_at, kept_at, local_at}
+use Rattle.protocol.specs.Loaded.{loaded_at, row_of_place}
 use Rattle.protocol.specs.Events
 use Rattle.protocol.specs.Events.{Outcome, guard, some_outcome, with_some, step, entry_of, snapshot_mark, may_write, may_publish, has_room, is_prepared, may_examine, is_drainable, is_drained, with_link_past, with_retired}
 use Rattle.protocol.specs.Invariant.{Holds, IsCounting}
@@ -225,30 +226,13 @@ link_counted : (s : State) (c : ℕ) (q : Search) (x : ℕ) → Counted s (LoadL
 link_counted s c q zero = (λ u. refl, λ u d. refl)
 link_counted s c q (suc t) = (λ u. refl, λ u d. refl)
 
-load_link_counted : (s : State) (c : ℕ) (q : Search) (place : SearchPlace) → Counted s (LoadLink c) (Events.load_link s c q place)
-load_link_counted s c q AtHead = link_counted s c q s.head
-load_link_counted s c q (AtNext t) = link_counted s c q (get_or s.next t 0)
-load_link_counted s c q (AtNumber t) = tt
-load_link_counted s c q (AtKind t n) = tt
-load_link_counted s c q (AtHigh t n k) = tt
-load_link_counted s c q (AtLow t n k h) = tt
-load_link_counted s c q (AtValue t n) = tt
-
-compared_counted : (s : State) (c : ℕ) (q : Search) (t n l : ℕ) (b : Bool) → Counted s (LoadRecord (OfSearch c)) (Events.outcome_of_name s c q t n l b)
-compared_counted s c q t n l true = (λ u. refl, λ u d. refl)
-compared_counted s c q t n l false = (λ u. refl, λ u d. refl)
-
-searched_counted : (s : State) (c : ℕ) (q : Search) (place : SearchPlace) → Counted s (LoadRecord (OfSearch c)) (Events.load_searched s c q place (row_at s.rows))
-searched_counted s c q AtHead = tt
-searched_counted s c q (AtNext t) = tt
-searched_counted s c q (AtNumber t) = (λ u. refl, λ u d. refl)
-searched_counted s c q (AtKind t n) = (λ u. refl, λ u d. refl)
-searched_counted s c q (AtHigh t n k) = (λ u. refl, λ u d. refl)
-searched_counted s c q (AtLow t n k h) = compared_counted s c q t n (row_at s.rows t).low (Rattle.registry_values.specs.Slots.are_words_of q.key k h (row_at s.rows t).low)
-searched_counted s c q (AtValue t n) = (λ u. refl, λ u d. refl)
+outcome_counted : (s : State) (c : ℕ) (q : Search) (o : Option Loaded) → Counted s (LoadRecord (OfSearch c)) (Events.outcome_of s c q o)
+outcome_counted s c q None = tt
+outcome_counted s c q (Some (On p w)) = (λ u. refl, λ u d. refl)
+outcome_counted s c q (Some (Over e)) = (λ u. refl, λ u d. refl)
 
 record_counted : (s : State) (of : RecordOf) → Counted s (LoadRecord of) (Events.load_record s of)
-record_counted s (OfSearch c) = on_some s (LoadRecord (OfSearch c)) (search_at s c) _ (λ q at. searched_counted s c q q.place)
+record_counted s (OfSearch c) = on_some s (LoadRecord (OfSearch c)) (search_at s c) _ (λ q at. outcome_counted s c q (loaded_at q q.place (row_of_place s.rows q.place)))
 record_counted s (Passive c n k) = on_some s (LoadRecord (Passive c n k)) (slot_of s.slots n) _ (λ t of. on_made s (LoadRecord (Passive c n k)) _ _ _ (λ may. (λ u. refl, λ u d. refl)))
 record_counted s (Local id k) = on_some s (LoadRecord (Local id k)) (Events.number_standing (local_at s.locals id)) _ (λ n of. on_some s (LoadRecord (Local id k)) (slot_of s.slots n) _ (λ t of. on_made s (LoadRecord (Local id k)) _ _ _ (λ may. (λ u. refl, λ u d. refl))))
 
@@ -324,7 +308,7 @@ step_counted s (Seat c) on = on_made s (Seat c) _ _ _ (λ may. (λ u. refl, λ u
 step_counted s (Enter c) on = on_made s (Enter c) _ _ _ (λ may. (λ u. refl, λ u d. refl))
 step_counted s (Exit c) on = on_made s (Exit c) _ _ _ (λ may. (λ u. refl, λ u d. refl))
 step_counted s (Seek c kind name) on = on_made s (Seek c kind name) _ _ _ (λ may. (λ u. refl, λ u d. refl))
-step_counted s (LoadLink c) on = on_some s (LoadLink c) (search_at s c) _ (λ q at. load_link_counted s c q q.place)
+step_counted s (LoadLink c) on = on_some s (LoadLink c) (search_at s c) _ (λ q at. on_some s (LoadLink c) (Events.link_at s q.place) _ (λ x of. link_counted s c q x))
 step_counted s (LoadRecord of) on = record_counted s of
 step_counted s (StoreSlot t k v) on = store_counted s t k v
 step_counted s (StoreNext t v) on = on_made s (StoreNext t v) _ _ _ (λ may. (λ u. refl, λ u d. refl))

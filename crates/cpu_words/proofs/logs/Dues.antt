@@ -1,5 +1,5 @@
 -- What is due: after which events snapshots are, what becomes of the totals, and that all settings stay.
-use Rattle.std.proofs.Common.{◌≡◌, ℕ, zero, suc, nat_lt, ◌+◌, ◌==◌, ◌&&◌, ◌-◌, Bool, true, false, if◌then◌else◌, get_or, set, Option, Some, None, refl, ap, ◌∙◌}
+use Rattle.std.proofs.Common.{◌≡◌, ℕ, zero, suc, nat_lt, ◌+◌, ◌==◌, ◌&&◌, ◌-◌, Bool, true, false, if◌then◌else◌, set, Option, Some, None, refl, ap, ◌∙◌}
 use Rattle.std.proofs.lemmas.Bool.{and_parts, eqb-true}
 use Rattle.registry_values.specs.declared.entry.Entry.{Entry}
 use Rattle.registry_values.specs.Balances.{bias}
@@ -17,9 +17,10 @@ use Rattle.protocol.specs.declared.state.Due.TheVariants.{Rest, Snapshots, Addin
 use Rattle.protocol.specs.declared.state.Hand.{Hand}
 use Rattle.protocol.specs.declared.state.Hand.TheVariants.{Empty, Taking, Giving, Back}
 use Rattle.protocol.specs.declared.state.Search.{Search}
-use Rattle.protocol.specs.declared.state.SearchPlace.{SearchPlace}
-use Rattle.protocol.specs.declared.state.SearchPlace.TheVariants.{AtHead, AtNext, AtNumber, AtKind, AtHigh, AtLow, AtValue}
+use Rattle.protocol.specs.declared.state.Loaded.{Loaded}
+use Rattle.protocol.specs.declared.state.Loaded.TheVariants.{On, Over}
 use Rattle.protocol.specs.State.{State, search_at, found_at, hand_at, row_at, count_at, total_at, kept_at, local_at, at_rest}
+use Rattle.protocol.specs.Loaded.{loaded_at, row_of_place}
 use Rattle.protocol.specs.Events
 use Rattle.protocol.specs.Events.{Outcome, guard, some_outcome, with_some, step, entry_of, due_after, is_snapshot_due, may_publish, may_collect, may_join_keeper, is_drained}
 
@@ -75,30 +76,13 @@ link_dues : (s : State) (c : ℕ) (q : Search) (x : ℕ) → Dues s (LoadLink c)
 link_dues s c q zero = (refl, λ u d is. is, (refl, refl))
 link_dues s c q (suc t) = (refl, λ u d is. is, (refl, refl))
 
-load_link_dues : (s : State) (c : ℕ) (q : Search) (place : SearchPlace) → Dues s (LoadLink c) (Events.load_link s c q place)
-load_link_dues s c q AtHead = link_dues s c q s.head
-load_link_dues s c q (AtNext t) = link_dues s c q (get_or s.next t 0)
-load_link_dues s c q (AtNumber t) = tt
-load_link_dues s c q (AtKind t n) = tt
-load_link_dues s c q (AtHigh t n k) = tt
-load_link_dues s c q (AtLow t n k h) = tt
-load_link_dues s c q (AtValue t n) = tt
-
-compared_dues : (s : State) (c : ℕ) (q : Search) (t n l : ℕ) (b : Bool) → Dues s (LoadRecord (OfSearch c)) (Events.outcome_of_name s c q t n l b)
-compared_dues s c q t n l true = (refl, λ u d is. is, (refl, refl))
-compared_dues s c q t n l false = (refl, λ u d is. is, (refl, refl))
-
-searched_dues : (s : State) (c : ℕ) (q : Search) (place : SearchPlace) → Dues s (LoadRecord (OfSearch c)) (Events.load_searched s c q place (row_at s.rows))
-searched_dues s c q AtHead = tt
-searched_dues s c q (AtNext t) = tt
-searched_dues s c q (AtNumber t) = (refl, λ u d is. is, (refl, refl))
-searched_dues s c q (AtKind t n) = (refl, λ u d is. is, (refl, refl))
-searched_dues s c q (AtHigh t n k) = (refl, λ u d is. is, (refl, refl))
-searched_dues s c q (AtLow t n k h) = compared_dues s c q t n (row_at s.rows t).low (Rattle.registry_values.specs.Slots.are_words_of q.key k h (row_at s.rows t).low)
-searched_dues s c q (AtValue t n) = (refl, λ u d is. is, (refl, refl))
+outcome_dues : (s : State) (c : ℕ) (q : Search) (o : Option Loaded) → Dues s (LoadRecord (OfSearch c)) (Events.outcome_of s c q o)
+outcome_dues s c q None = tt
+outcome_dues s c q (Some (On p w)) = (refl, λ u d is. is, (refl, refl))
+outcome_dues s c q (Some (Over e)) = (refl, λ u d is. is, (refl, refl))
 
 record_dues : (s : State) (of : RecordOf) → Dues s (LoadRecord of) (Events.load_record s of)
-record_dues s (OfSearch c) = on_some s (LoadRecord (OfSearch c)) (search_at s c) _ (λ q of. searched_dues s c q q.place)
+record_dues s (OfSearch c) = on_some s (LoadRecord (OfSearch c)) (search_at s c) _ (λ q of. outcome_dues s c q (loaded_at q q.place (row_of_place s.rows q.place)))
 record_dues s (Passive c n k) = on_some s (LoadRecord (Passive c n k)) (slot_of s.slots n) _ (λ t of. on_made s (LoadRecord (Passive c n k)) _ _ _ refl (λ may u d is. is) (λ may. (refl, refl)))
 record_dues s (Local id k) = on_some s (LoadRecord (Local id k)) (Events.number_standing (local_at s.locals id)) _ (λ n of. on_some s (LoadRecord (Local id k)) (slot_of s.slots n) _ (λ t of. on_made s (LoadRecord (Local id k)) _ _ _ refl (λ may u d is. is) (λ may. (refl, refl))))
 
@@ -172,7 +156,7 @@ step_dues s (Seat c) = on_made s (Seat c) _ _ _ refl (λ may u d is. is) (λ may
 step_dues s (Enter c) = on_made s (Enter c) _ _ _ refl (λ may u d is. is) (λ may. (refl, refl))
 step_dues s (Exit c) = on_made s (Exit c) _ _ _ refl (λ may u d is. is) (λ may. (refl, refl))
 step_dues s (Seek c kind name) = on_made s (Seek c kind name) _ _ _ refl (λ may u d is. is) (λ may. (refl, refl))
-step_dues s (LoadLink c) = on_some s (LoadLink c) (search_at s c) _ (λ q of. load_link_dues s c q q.place)
+step_dues s (LoadLink c) = on_some s (LoadLink c) (search_at s c) _ (λ q of. on_some s (LoadLink c) (Events.link_at s q.place) _ (λ x at. link_dues s c q x))
 step_dues s (LoadRecord of) = record_dues s of
 step_dues s (StoreSlot t k v) = store_dues s t k v
 step_dues s (StoreNext t v) = on_made s (StoreNext t v) _ _ _ refl (λ may u d is. is) (λ may. (refl, refl))

@@ -20,9 +20,10 @@ use Rattle.protocol.specs.declared.state.Due.TheVariants.{Rest, Snapshots, Addin
 use Rattle.protocol.specs.declared.state.Hand.{Hand}
 use Rattle.protocol.specs.declared.state.Hand.TheVariants.{Empty, Taking, Giving, Back}
 use Rattle.protocol.specs.declared.state.Search.{Search}
-use Rattle.protocol.specs.declared.state.SearchPlace.{SearchPlace}
-use Rattle.protocol.specs.declared.state.SearchPlace.TheVariants.{AtHead, AtNext, AtNumber, AtKind, AtHigh, AtLow, AtValue}
+use Rattle.protocol.specs.declared.state.Loaded.{Loaded}
+use Rattle.protocol.specs.declared.state.Loaded.TheVariants.{On, Over}
 use Rattle.protocol.specs.State.{State, with_cell, section_at, search_at, found_at, hand_at, row_at, mark_at, kept_at, local_at, opening}
+use Rattle.protocol.specs.Loaded.{loaded_at, row_of_place}
 use Rattle.protocol.specs.Events
 use Rattle.protocol.specs.Events.{Outcome, guard, some_outcome, with_some, step, snapshot_mark, entry_of}
 use Rattle.protocol.proofs.slots.Cells.{cell_cases, cell_in_new, cell_in_old, get_or_all}
@@ -74,30 +75,13 @@ link_marks : (s : State) (c : ℕ) (q : Search) (x : ℕ) → Marks s (LoadLink 
 link_marks s c q zero = (refl, tt)
 link_marks s c q (suc t) = (refl, tt)
 
-load_link_marks : (s : State) (c : ℕ) (q : Search) (place : SearchPlace) → Marks s (LoadLink c) (Events.load_link s c q place)
-load_link_marks s c q AtHead = link_marks s c q s.head
-load_link_marks s c q (AtNext t) = link_marks s c q (get_or s.next t 0)
-load_link_marks s c q (AtNumber t) = tt
-load_link_marks s c q (AtKind t n) = tt
-load_link_marks s c q (AtHigh t n k) = tt
-load_link_marks s c q (AtLow t n k h) = tt
-load_link_marks s c q (AtValue t n) = tt
-
-compared_marks : (s : State) (c : ℕ) (q : Search) (t n l : ℕ) (b : Bool) → Marks s (LoadRecord (OfSearch c)) (Events.outcome_of_name s c q t n l b)
-compared_marks s c q t n l true = (refl, tt)
-compared_marks s c q t n l false = (refl, tt)
-
-searched_marks : (s : State) (c : ℕ) (q : Search) (place : SearchPlace) → Marks s (LoadRecord (OfSearch c)) (Events.load_searched s c q place (row_at s.rows))
-searched_marks s c q AtHead = tt
-searched_marks s c q (AtNext t) = tt
-searched_marks s c q (AtNumber t) = (refl, tt)
-searched_marks s c q (AtKind t n) = (refl, tt)
-searched_marks s c q (AtHigh t n k) = (refl, tt)
-searched_marks s c q (AtLow t n k h) = compared_marks s c q t n (row_at s.rows t).low (Rattle.registry_values.specs.Slots.are_words_of q.key k h (row_at s.rows t).low)
-searched_marks s c q (AtValue t n) = (refl, tt)
+outcome_marks : (s : State) (c : ℕ) (q : Search) (o : Option Loaded) → Marks s (LoadRecord (OfSearch c)) (Events.outcome_of s c q o)
+outcome_marks s c q None = tt
+outcome_marks s c q (Some (On p w)) = (refl, tt)
+outcome_marks s c q (Some (Over e)) = (refl, tt)
 
 record_marks : (s : State) (of : RecordOf) → Marks s (LoadRecord of) (Events.load_record s of)
-record_marks s (OfSearch c) = on_some s (LoadRecord (OfSearch c)) (search_at s c) _ (λ q. searched_marks s c q q.place)
+record_marks s (OfSearch c) = on_some s (LoadRecord (OfSearch c)) (search_at s c) _ (λ q. outcome_marks s c q (loaded_at q q.place (row_of_place s.rows q.place)))
 record_marks s (Passive c n k) = on_some s (LoadRecord (Passive c n k)) (slot_of s.slots n) _ (λ t. on_made s (LoadRecord (Passive c n k)) _ _ _ refl tt)
 record_marks s (Local id k) = on_some s (LoadRecord (Local id k)) (Events.number_standing (local_at s.locals id)) _ (λ n. on_some s (LoadRecord (Local id k)) (slot_of s.slots n) _ (λ t. on_made s (LoadRecord (Local id k)) _ _ _ refl tt))
 
@@ -167,7 +151,7 @@ step_marks s (Seat c) = on_made s (Seat c) _ _ _ refl tt
 step_marks s (Enter c) = on_made s (Enter c) _ _ _ refl tt
 step_marks s (Exit c) = on_made s (Exit c) _ _ _ refl tt
 step_marks s (Seek c kind name) = on_made s (Seek c kind name) _ _ _ refl tt
-step_marks s (LoadLink c) = on_some s (LoadLink c) (search_at s c) _ (λ q. load_link_marks s c q q.place)
+step_marks s (LoadLink c) = on_some s (LoadLink c) (search_at s c) _ (λ q. on_some s (LoadLink c) (Events.link_at s q.place) _ (λ x. link_marks s c q x))
 step_marks s (LoadRecord of) = record_marks s of
 step_marks s (StoreSlot t k v) = store_marks s t k v
 step_marks s (StoreNext t v) = on_made s (StoreNext t v) _ _ _ refl tt

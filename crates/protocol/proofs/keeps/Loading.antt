@@ -1,35 +1,21 @@
 -- What the loads of a search do to the state, by what they make of the words.
-use Rattle.std.proofs.Common.{◌≡◌, ℕ, zero, suc, ◌<◌, ◌≤◌, length, get_or, Option, Some, Bool, true, false, refl, subst, arith}
-use Rattle.registry_values.specs.Slots.{are_words_of}
+use Rattle.std.proofs.Common.{◌≡◌, ℕ, zero, suc, ◌<◌, ◌≤◌, length, get_or, Option, Some, subst, arith}
 use Rattle.protocol.specs.declared.state.SearchPlace.{SearchPlace}
-use Rattle.protocol.specs.declared.state.SearchPlace.TheVariants.{AtHead, AtNext, AtNumber, AtKind, AtHigh, AtLow, AtValue}
+use Rattle.protocol.specs.declared.state.SearchPlace.TheVariants.{AtHead, AtNext}
 use Rattle.protocol.specs.declared.state.Search.{Search}
 use Rattle.protocol.specs.declared.state.Loaded.{Loaded}
 use Rattle.registry_values.specs.declared.slot.Key.{Key}
-use Rattle.protocol.specs.State.{State, search_at, row_at}
-use Rattle.protocol.specs.Events.{load_link, load_searched, link_loaded, outcome_of_name}
+use Rattle.protocol.specs.State.{State, search_at}
+use Rattle.protocol.specs.Events.{load_link, link_loaded, outcome_of}
 use Rattle.protocol.specs.Invariant.{Holds, PlaceHolds}
-use Rattle.protocol.specs.Loaded.{loaded_at, loaded_of_name, row_of_place, outcome_of}
+use Rattle.protocol.specs.Loaded.{loaded_at, row_of_place}
 use Rattle.protocol.specs.Taken.{Keeps}
 use Rattle.protocol.proofs.keeps.SearchKeeps.{link_keeps, record_keeps}
 use Rattle.protocol.proofs.keeps.Searching.{LinkTells, head_ahead, at_next_ahead, link_tells, search_walks, Walks}
 
-compared_is : (s : State) (c : ℕ) (q : Search) (t n l : ℕ) (b : Bool) → outcome_of_name s c q t n l b ≡ outcome_of s c q (Some (loaded_of_name t n l b))
-compared_is s c q t n l true = refl
-compared_is s c q t n l false = refl
-
-pub loaded_is : (s : State) (c : ℕ) (q : Search) (place : SearchPlace) → load_searched s c q place (row_at s.rows) ≡ outcome_of s c q (loaded_at q place (row_of_place s.rows place))
-loaded_is s c q AtHead = refl
-loaded_is s c q (AtNext t) = refl
-loaded_is s c q (AtNumber t) = refl
-loaded_is s c q (AtKind t n) = refl
-loaded_is s c q (AtHigh t n k) = refl
-loaded_is s c q (AtLow t n k h) = compared_is s c q t n (row_at s.rows t).low (are_words_of q.key k h (row_at s.rows t).low)
-loaded_is s c q (AtValue t n) = refl
-
 -- a load keeps the invariant, by what it made of the word
 pub loaded_keeps : (s : State) (c : ℕ) (q : Search) (x : Option Loaded) → Holds s → search_at s c ≡ Some q → loaded_at q q.place (row_of_place s.rows q.place) ≡ x → Keeps (outcome_of s c q x)
-loaded_keeps s c q x on is load = subst (λ (y : Option Loaded). Keeps (outcome_of s c q y)) load (subst Keeps (loaded_is s c q q.place) (record_keeps s c q on is))
+loaded_keeps s c q x on is load = subst (λ (y : Option Loaded). Keeps (outcome_of s c q y)) load (record_keeps s c q on is)
 
 pub head_keeps : (s : State) (c : ℕ) (q : Search) → Holds s → search_at s c ≡ Some q → q.place ≡ AtHead → Keeps (link_loaded s c q s.head)
 head_keeps s c q on is at = subst (λ (p : SearchPlace). Keeps (load_link s c q p)) at (link_keeps s c q on is)

@@ -12,7 +12,8 @@ use Rattle.protocol.specs.declared.state.Search.{Search}
 use Rattle.registry_values.specs.declared.entry.Change.{Change}
 use Rattle.protocol.specs.History.{MayHold, IsLawful}
 use Rattle.protocol.specs.State.{State, begin_at, seen_at, search_at, row_at}
-use Rattle.protocol.specs.Events.{Outcome, is_idle, is_inside, may_seek, after_seek, after_seeing, with_search_at, search_over, link_loaded, load_link, load_searched, outcome_of_name, entry_found}
+use Rattle.protocol.specs.Loaded.{entry_with, loaded_of_name}
+use Rattle.protocol.specs.Events.{Outcome, is_idle, is_inside, may_seek, after_seek, after_seeing, with_search_at, search_over, link_loaded, load_link, load_searched, outcome_of}
 use Rattle.protocol.specs.Invariant.{StandsOn, PlaceHolds, SearchHolds, FoundHold, Holds}
 use Rattle.protocol.proofs.keeps.Sections.{seats_search, seated_search}
 use Rattle.protocol.specs.Taken.{Keeps}
@@ -108,12 +109,12 @@ pub link_keeps : (s : State) (c : ℕ) (q : Search) → Holds s → search_at s 
 link_keeps s c q on is = load_link_keeps s c q q.place on is (on.searches c q is).stands
 
 compared_keeps : (s : State) (c : ℕ) (q : Search) (t n l : ℕ) (b : Bool) → Holds s → search_at s c ≡ Some q
-    → (b ≡ true → PlaceHolds s.history q.start (seen_at s c) q.key (AtValue t n)) → (b ≡ false → PlaceHolds s.history q.start (seen_at s c) q.key (AtNext t)) → Keeps (outcome_of_name s c q t n l b)
+    → (b ≡ true → PlaceHolds s.history q.start (seen_at s c) q.key (AtValue t n)) → (b ≡ false → PlaceHolds s.history q.start (seen_at s c) q.key (AtNext t)) → Keeps (outcome_of s c q (Some (loaded_of_name t n l b)))
 compared_keeps s c q t n l true on is right wrong = going_on_keeps s c q (AtValue t n) on is (right refl)
 compared_keeps s c q t n l false on is right wrong = going_on_keeps s c q (AtNext t) on is (wrong refl)
 
 load_searched_keeps : (s : State) (c : ℕ) (q : Search) (place : SearchPlace) → Holds s → search_at s c ≡ Some q
-    → PlaceHolds s.history q.start (seen_at s c) q.key place → Keeps (load_searched s c q place (row_at s.rows))
+    → PlaceHolds s.history q.start (seen_at s c) q.key place → Keeps (load_searched s c q place)
 load_searched_keeps s c q AtHead on is p = tt
 load_searched_keeps s c q (AtNext t) on is p = tt
 load_searched_keeps s c q (AtNumber t) on is p =
@@ -127,12 +128,12 @@ load_searched_keeps s c q (AtLow t n k x) on is p =
     compared_keeps s c q t n (row_at s.rows t).low (are_words_of q.key k x (row_at s.rows t).low) on is next.0 next.1
 load_searched_keeps s c q (AtValue t n) on is p =
     let walk : Walks s c q.start = search_walks s c q on is in
-    let e : Entry = entry_found q t n (row_at s.rows t).value in
+    let e : Entry = entry_with q.key t n (row_at s.rows t).value in
     let same : p.0 ≡ e = found_is s c q.start (seen_at s c) t n q p.0 on walk p.1 p.2 p.3 in
     let stands : StandsOn s.history q.start (seen_at s c) t e = subst (StandsOn s.history q.start (seen_at s c) t) same p.1 in
     search_found_keeps s c walk.begin q e on is walk.open_since (record { attached = stands.attached; unended = λ p x. omega (arith, stands.unended p x, walk.since) })
 
-pub record_keeps : (s : State) (c : ℕ) (q : Search) → Holds s → search_at s c ≡ Some q → Keeps (load_searched s c q q.place (row_at s.rows))
+pub record_keeps : (s : State) (c : ℕ) (q : Search) → Holds s → search_at s c ≡ Some q → Keeps (load_searched s c q q.place)
 record_keeps s c q on is = load_searched_keeps s c q q.place on is (on.searches c q is).stands
 
 -- The reply of a load that ends a search is lawful.
@@ -151,6 +152,6 @@ step_answers c q n (Some o) steps = go o.reply steps
 pub link_answers : (s : State) (c : ℕ) (q : Search) → Holds s → search_at s c ≡ Some q → AnswersLookup c q (load_link s c q q.place)
 link_answers s c q on is = step_answers c q (weight s q.place) (load_link s c q q.place) (load_link_steps s c q.start q q.place on (search_walks s c q on is) is (on.searches c q is).stands)
 
-pub record_answers : (s : State) (c : ℕ) (q : Search) → Holds s → search_at s c ≡ Some q → AnswersLookup c q (load_searched s c q q.place (row_at s.rows))
+pub record_answers : (s : State) (c : ℕ) (q : Search) → Holds s → search_at s c ≡ Some q → AnswersLookup c q (load_searched s c q q.place)
 record_answers s c q on is =
-    step_answers c q (weight s q.place) (load_searched s c q q.place (row_at s.rows)) (load_searched_steps s c q.start q q.place on (search_walks s c q on is) (on.searches c q is).started is (on.searches c q is).stands)
+    step_answers c q (weight s q.place) (load_searched s c q q.place) (load_searched_steps s c q.start q q.place on (search_walks s c q on is) (on.searches c q is).started is (on.searches c q is).stands)

@@ -13,14 +13,16 @@ use Rattle.protocol.specs.declared.event.Reply.TheVariants.{Done, Word, Found, M
 use Rattle.registry_values.specs.declared.slot.Key.{Key}
 use Rattle.protocol.specs.declared.state.RecordWords.{RecordWords}
 use Rattle.registry_values.specs.declared.slot.Slot.TheVariants.{Live, Retired}
+use Rattle.protocol.specs.declared.state.Loaded.{Loaded}
+use Rattle.protocol.specs.declared.state.Loaded.TheVariants.{On, Over}
 use Rattle.protocol.specs.declared.state.SearchPlace.{SearchPlace}
 use Rattle.protocol.specs.declared.state.SearchPlace.TheVariants.{AtHead, AtNext, AtNumber, AtKind, AtHigh, AtLow, AtValue}
 use Rattle.protocol.specs.declared.state.Search.{Search}
 use Rattle.registry_values.specs.Slots.{are_words_of, key_of, slot_at, kind_word}
 use Rattle.protocol.specs.History.{EndsAt, MayHold, IsLookup, IsLawful}
 use Rattle.protocol.specs.State.{State, row_at, seen_at, search_at, begin_at}
-use Rattle.protocol.specs.Events.{Outcome, after_seeing, after_seek, with_search_at, link_loaded, load_link, load_searched, outcome_of_name, entry_found, words_of}
-use Rattle.protocol.specs.Loaded.{SlotWithin}
+use Rattle.protocol.specs.Events.{Outcome, after_seeing, after_seek, with_search_at, with_some, link_at, link_loaded, load_link, load_searched, outcome_of, words_of}
+use Rattle.protocol.specs.Loaded.{SlotWithin, entry_with, loaded_at, loaded_of_name, row_of_place}
 use Rattle.protocol.specs.Invariant.{IsIn, SearchHolds, SearchesHold, FoundHold, StandsOn, AllBelow, PlaceHolds, Holds}
 use Rattle.protocol.proofs.history.History.{at_within, one_entry}
 use Rattle.protocol.proofs.history.Lookup.{Ahead, No_more, One_more, step_ahead, all_below_later, found_lawful, missed_lawful, find_exact}
@@ -259,7 +261,7 @@ key_differs s from to t key e stands below test f live un same = ⊎_elim
 
 -- the walk stands on just the entry that is answered
 pub found_is : (s : State) (c from to t n : ℕ) (q : Search) (e : Entry) → Holds s → Walks s c from → StandsOn s.history from to t e → n ≡ e.number → q.key ≡ key_of e
-    → e ≡ entry_found q t n (row_at s.rows t).value
+    → e ≡ entry_with q.key t n (row_at s.rows t).value
 found_is s c from to t n q e on walk stands number same =
     let row : row_at s.rows t ≡ words_of e = words_stand s c from to t e on walk stands in
     λ i. record { number = sym number i; slot = stands.at i; rec = record { kind = (sym same i).kind; name = (sym same i).name; value = (sym row i).value } }
@@ -296,19 +298,19 @@ goes_on s c from to key (AtValue t n) on walk p = tt
 
 -- what a found entry is
 pub found_tells : (s : State) (c from to t n : ℕ) (q : Search) → Holds s → Walks s c from → from ≤ to → PlaceHolds s.history from to q.key (AtValue t n)
-    → IsLawful s.history from to q.key (Some (entry_found q t n (row_at s.rows t).value))
+    → IsLawful s.history from to q.key (Some (entry_with q.key t n (row_at s.rows t).value))
 found_tells s c from to t n q on walk le p =
-    let same : p.0 ≡ entry_found q t n (row_at s.rows t).value = found_is s c from to t n q p.0 on walk p.1 p.2 p.3 in
-    found_lawful s.history on.legal from to t (entry_found q t n (row_at s.rows t).value) q.key le (subst (StandsOn s.history from to t) same p.1) refl
+    let same : p.0 ≡ entry_with q.key t n (row_at s.rows t).value = found_is s c from to t n q p.0 on walk p.1 p.2 p.3 in
+    found_lawful s.history on.legal from to t (entry_with q.key t n (row_at s.rows t).value) q.key le (subst (StandsOn s.history from to t) same p.1) refl
 
 compared_steps : (s : State) (c from : ℕ) (q : Search) (t n l left : ℕ) (b : Bool) → search_at s c ≡ Some q → left ≡ 6 * (row_at s.rows t).number + 2
-    → (b ≡ true → PlaceHolds s.history from (seen_at s c) q.key (AtValue t n)) → (b ≡ false → PlaceHolds s.history from (seen_at s c) q.key (AtNext t)) → Steps c from q left (outcome_of_name s c q t n l b)
+    → (b ≡ true → PlaceHolds s.history from (seen_at s c) q.key (AtValue t n)) → (b ≡ false → PlaceHolds s.history from (seen_at s c) q.key (AtNext t)) → Steps c from q left (outcome_of s c q (Some (loaded_of_name t n l b)))
 compared_steps s c from q t n l left true is weighs right wrong = (AtValue t n, search_placed s c q (AtValue t n) is, right refl, omega arith)
 compared_steps s c from q t n l left false is weighs right wrong = (AtNext t, search_placed s c q (AtNext t) is, wrong refl, omega arith)
 
 -- LoadRecord: the walk holds at the new place, and what is found is lawful.
 pub load_searched_steps : (s : State) (c from : ℕ) (q : Search) (place : SearchPlace) → Holds s → Walks s c from → from ≤ seen_at s c → search_at s c ≡ Some q
-    → PlaceHolds s.history from (seen_at s c) q.key place → Steps c from q (weight s place) (load_searched s c q place (row_at s.rows))
+    → PlaceHolds s.history from (seen_at s c) q.key place → Steps c from q (weight s place) (load_searched s c q place)
 load_searched_steps s c from q AtHead on walk le is p = tt
 load_searched_steps s c from q (AtNext t) on walk le is p = tt
 load_searched_steps s c from q (AtNumber t) on walk le is p =
@@ -372,28 +374,18 @@ loaded_sees : (s : State) (c : ℕ) (q : Search) (x : ℕ) → Holds s → searc
 loaded_sees s c q zero on is = (refl, seen_now s c on (searching_within s c q on is))
 loaded_sees s c q (suc t) on is = (refl, seen_now s c on (searching_within s c q on is))
 
-link_sees : (s : State) (c : ℕ) (q : Search) (place : SearchPlace) → Holds s → search_at s c ≡ Some q → Sees s c (load_link s c q place)
-link_sees s c q AtHead on is = loaded_sees s c q s.head on is
-link_sees s c q (AtNext t) on is = loaded_sees s c q (get_or s.next t 0) on is
-link_sees s c q (AtNumber t) on is = tt
-link_sees s c q (AtKind t n) on is = tt
-link_sees s c q (AtHigh t n k) on is = tt
-link_sees s c q (AtLow t n k x) on is = tt
-link_sees s c q (AtValue t n) on is = tt
+followed_sees : (s : State) (c : ℕ) (q : Search) (x : Option ℕ) → Holds s → search_at s c ≡ Some q → Sees s c (with_some x (link_loaded s c q))
+followed_sees s c q None on is = tt
+followed_sees s c q (Some x) on is = loaded_sees s c q x on is
 
-compared_sees : (s : State) (c : ℕ) (q : Search) (t n l : ℕ) (b : Bool) → seen_at s c ≡ length s.history → Sees s c (outcome_of_name s c q t n l b)
-compared_sees s c q t n l true all = (refl, all)
-compared_sees s c q t n l false all = (refl, all)
+outcome_sees : (s : State) (c : ℕ) (q : Search) (o : Option Loaded) → seen_at s c ≡ length s.history → Sees s c (outcome_of s c q o)
+outcome_sees s c q None all = tt
+outcome_sees s c q (Some (On p w)) all = (refl, all)
+outcome_sees s c q (Some (Over e)) all = (refl, all)
 
-record_sees : (s : State) (c : ℕ) (q : Search) (place : SearchPlace) → (place ≡ AtHead) ⊎ (seen_at s c ≡ length s.history) → Sees s c (load_searched s c q place (row_at s.rows))
-record_sees s c q place (inl head) = subst (λ (p : SearchPlace). Sees s c (load_searched s c q p (row_at s.rows))) (sym head) tt
-record_sees s c q AtHead (inr all) = tt
-record_sees s c q (AtNext t) (inr all) = tt
-record_sees s c q (AtNumber t) (inr all) = (refl, all)
-record_sees s c q (AtKind t n) (inr all) = (refl, all)
-record_sees s c q (AtHigh t n k) (inr all) = (refl, all)
-record_sees s c q (AtLow t n k x) (inr all) = compared_sees s c q t n (row_at s.rows t).low (are_words_of q.key k x (row_at s.rows t).low) all
-record_sees s c q (AtValue t n) (inr all) = (refl, all)
+record_sees : (s : State) (c : ℕ) (q : Search) (place : SearchPlace) → (place ≡ AtHead) ⊎ (seen_at s c ≡ length s.history) → Sees s c (load_searched s c q place)
+record_sees s c q place (inl head) = subst (λ (p : SearchPlace). Sees s c (load_searched s c q p)) (sym head) tt
+record_sees s c q place (inr all) = outcome_sees s c q (loaded_at q place (row_of_place s.rows place)) all
 
 -- a search that was just begun
 pub find_starts : (s : State) (c : ℕ) (key : Key) → Holds s → c < s.settings.cpus → Finds (after_seek s c key) c (record { key = key; start = seen_at s c; place = AtHead })
@@ -404,12 +396,12 @@ find_starts s c key on lt = record {
 }
 
 pub find_link : (s : State) (c : ℕ) (q : Search) → Holds s → Finds s c q → FindSteps c q (weight s q.place) (load_link s c q q.place)
-find_link s c q on finds = find_steps s c q (weight s q.place) (load_link s c q q.place) (link_sees s c q q.place on finds.searching)
+find_link s c q on finds = find_steps s c q (weight s q.place) (load_link s c q q.place) (followed_sees s c q (link_at s q.place) on finds.searching)
     (load_link_steps s c (length s.history) q q.place on (walks_now s c q on finds.searching) finds.searching finds.stands)
 
-pub find_record : (s : State) (c : ℕ) (q : Search) → Holds s → Finds s c q → FindSteps c q (weight s q.place) (load_searched s c q q.place (row_at s.rows))
+pub find_record : (s : State) (c : ℕ) (q : Search) → Holds s → Finds s c q → FindSteps c q (weight s q.place) (load_searched s c q q.place)
 find_record s c q on finds = ⊎_elim
-    (λ (head : q.place ≡ AtHead). subst (λ (p : SearchPlace). FindSteps c q (weight s p) (load_searched s c q p (row_at s.rows))) (sym head) tt)
-    (λ (all : seen_at s c ≡ length s.history). find_steps s c q (weight s q.place) (load_searched s c q q.place (row_at s.rows)) (record_sees s c q q.place finds.seen)
+    (λ (head : q.place ≡ AtHead). subst (λ (p : SearchPlace). FindSteps c q (weight s p) (load_searched s c q p)) (sym head) tt)
+    (λ (all : seen_at s c ≡ length s.history). find_steps s c q (weight s q.place) (load_searched s c q q.place) (record_sees s c q q.place finds.seen)
     (load_searched_steps s c (length s.history) q q.place on (walks_now s c q on finds.searching) (omega arith) finds.searching finds.stands))
     finds.seen

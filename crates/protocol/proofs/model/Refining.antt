@@ -55,7 +55,7 @@ hear_makes s None on = stays_make s s (at_rest s.due) Done Stays
 hear_makes s (Some c) on = makes_guard (picture s) (Events.is_idle s c) (some_outcome (Events.after_seeing s c) Done) (λ ok now. hear_refines s c on ok)
 
 load_record_makes : (s : State) (of : RecordOf) → Holds s → Makes (picture s) (Events.load_record s of)
-load_record_makes s (OfSearch c) on = makes_some (picture s) (search_at s c) (λ q. Events.load_searched s c q q.place (row_at s.rows)) (λ q is. record_makes s c q on is)
+load_record_makes s (OfSearch c) on = makes_some (picture s) (search_at s c) (λ q. Events.load_searched s c q q.place) (λ q is. record_makes s c q on is)
 load_record_makes s (OfPassive c n k) on =
     makes_some (picture s) (slot_of s.slots n) (λ t. guard (Events.is_idle s c && (nat_lt 0 (passive_at s.passive c t) && nat_lt k 5)) (some_outcome s (Word (Events.word (row_at s.rows t) k))))
     (λ t is. stays_make s s (Events.is_idle s c && (nat_lt 0 (passive_at s.passive c t) && nat_lt k 5)) (Word (Events.word (row_at s.rows t) k)) Stays)

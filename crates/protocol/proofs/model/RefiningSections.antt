@@ -1,16 +1,17 @@
 -- Seats, sections, notes and lookups make steps of the model.
-use Rattle.std.proofs.Common.{◌≡◌, ℕ, zero, suc, ◌*◌, ◌<◌, length, get_or, Option, Some, None, Bool, true, false, ◌&&◌, nat_eq, nat_lt, refl, ap, subst, arith}
+use Rattle.std.proofs.Common.{◌≡◌, ℕ, zero, suc, ◌*◌, ◌<◌, length, Option, Some, None, true, ◌&&◌, nat_eq, nat_lt, refl, ap, subst, arith}
 use Rattle.std.proofs.lemmas.Bool.{and_parts}
-use Rattle.registry_values.specs.Slots.{are_words_of}
 use Rattle.registry_values.specs.declared.entry.Entry.{Entry}
 use Rattle.registry_values.specs.declared.slot.Key.{Key}
-use Rattle.protocol.specs.declared.state.RecordWords.{RecordWords}
+use Rattle.protocol.specs.declared.state.Loaded.{Loaded}
+use Rattle.protocol.specs.declared.state.Loaded.TheVariants.{On, Over}
 use Rattle.protocol.specs.declared.state.SearchPlace.{SearchPlace}
-use Rattle.protocol.specs.declared.state.SearchPlace.TheVariants.{AtHead, AtNext, AtNumber, AtKind, AtHigh, AtLow, AtValue}
+use Rattle.protocol.specs.declared.state.SearchPlace.TheVariants.{AtHead, AtNumber}
 use Rattle.protocol.specs.declared.state.Search.{Search}
 use Rattle.protocol.specs.History.{IsLawful}
-use Rattle.protocol.specs.State.{State, section_at, begin_at, depth_at, seen_at, search_at, row_at}
-use Rattle.protocol.specs.Events.{is_idle, is_outside, is_inside, after_seat, may_enter, after_enter, may_exit, after_exit, after_seeing, may_seek, after_seek, with_search_at, search_over, link_loaded, load_link, load_searched, outcome_of_name, entry_found}
+use Rattle.protocol.specs.State.{State, section_at, begin_at, depth_at, seen_at, search_at}
+use Rattle.protocol.specs.Loaded.{loaded_at, row_of_place}
+use Rattle.protocol.specs.Events.{is_idle, is_outside, is_inside, after_seat, may_enter, after_enter, may_exit, after_exit, after_seeing, may_seek, after_seek, with_search_at, search_over, with_some, link_at, link_loaded, load_link, load_searched, outcome_of}
 use Rattle.protocol.specs.Invariant.{Holds}
 use Rattle.protocol.specs.Model.{Model, IsModelStep, IsModelRun, Stays, Goes_on}
 use Rattle.protocol.specs.Model
@@ -154,30 +155,17 @@ link_loaded_makes : (s : State) (c : ℕ) (q : Search) (x : ℕ) → Holds s →
 link_loaded_makes s c q zero on is lawful = λ now. missed_refines s c q on is lawful
 link_loaded_makes s c q (suc t) on is lawful = λ now. followed_refines s c q t on is
 
-load_link_makes : (s : State) (c : ℕ) (q : Search) (place : SearchPlace) → Holds s → search_at s c ≡ Some q → AnswersLookup c q (load_link s c q place) → Makes (picture s) (load_link s c q place)
-load_link_makes s c q AtHead on is lawful = link_loaded_makes s c q s.head on is lawful
-load_link_makes s c q (AtNext t) on is lawful = link_loaded_makes s c q (get_or s.next t 0) on is lawful
-load_link_makes s c q (AtNumber t) on is lawful = tt
-load_link_makes s c q (AtKind t n) on is lawful = tt
-load_link_makes s c q (AtHigh t n k) on is lawful = tt
-load_link_makes s c q (AtLow t n k h) on is lawful = tt
-load_link_makes s c q (AtValue t n) on is lawful = tt
+followed_makes : (s : State) (c : ℕ) (q : Search) (x : Option ℕ) → Holds s → search_at s c ≡ Some q → AnswersLookup c q (with_some x (link_loaded s c q)) → Makes (picture s) (with_some x (link_loaded s c q))
+followed_makes s c q None on is lawful = tt
+followed_makes s c q (Some x) on is lawful = link_loaded_makes s c q x on is lawful
 
 pub link_makes : (s : State) (c : ℕ) (q : Search) → Holds s → search_at s c ≡ Some q → Makes (picture s) (load_link s c q q.place)
-link_makes s c q on is = load_link_makes s c q q.place on is (link_answers s c q on is)
+link_makes s c q on is = followed_makes s c q (link_at s q.place) on is (link_answers s c q on is)
 
-compared_makes : (s : State) (c : ℕ) (q : Search) (t n l : ℕ) (b : Bool) → search_at s c ≡ Some q → Makes (picture s) (outcome_of_name s c q t n l b)
-compared_makes s c q t n l true is = λ now. going_on_refines s c q (AtValue t n) is
-compared_makes s c q t n l false is = λ now. going_on_refines s c q (AtNext t) is
+outcome_makes : (s : State) (c : ℕ) (q : Search) (o : Option Loaded) → Holds s → search_at s c ≡ Some q → AnswersLookup c q (outcome_of s c q o) → Makes (picture s) (outcome_of s c q o)
+outcome_makes s c q None on is lawful = tt
+outcome_makes s c q (Some (On p w)) on is lawful = λ now. going_on_refines s c q p is
+outcome_makes s c q (Some (Over e)) on is lawful = λ now. over_refines s c q (Some e) on is lawful
 
-load_searched_makes : (s : State) (c : ℕ) (q : Search) (place : SearchPlace) (row : ℕ → RecordWords) → Holds s → search_at s c ≡ Some q → AnswersLookup c q (load_searched s c q place row) → Makes (picture s) (load_searched s c q place row)
-load_searched_makes s c q AtHead row on is lawful = tt
-load_searched_makes s c q (AtNext t) row on is lawful = tt
-load_searched_makes s c q (AtNumber t) row on is lawful = λ now. going_on_refines s c q (AtKind t (row t).number) is
-load_searched_makes s c q (AtKind t n) row on is lawful = λ now. going_on_refines s c q (AtHigh t n (row t).kind) is
-load_searched_makes s c q (AtHigh t n k) row on is lawful = λ now. going_on_refines s c q (AtLow t n k (row t).high) is
-load_searched_makes s c q (AtLow t n k h) row on is lawful = compared_makes s c q t n (row t).low (are_words_of q.key k h (row t).low) is
-load_searched_makes s c q (AtValue t n) row on is lawful = λ now. over_refines s c q (Some (entry_found q t n (row t).value)) on is lawful
-
-pub record_makes : (s : State) (c : ℕ) (q : Search) → Holds s → search_at s c ≡ Some q → Makes (picture s) (load_searched s c q q.place (row_at s.rows))
-record_makes s c q on is = load_searched_makes s c q q.place (row_at s.rows) on is (record_answers s c q on is)
+pub record_makes : (s : State) (c : ℕ) (q : Search) → Holds s → search_at s c ≡ Some q → Makes (picture s) (load_searched s c q q.place)
+record_makes s c q on is = outcome_makes s c q (loaded_at q q.place (row_of_place s.rows q.place)) on is (record_answers s c q on is)

@@ -1,5 +1,5 @@
 -- What each event does to the history, the slots, the sections, the passes and the searches.
-use Rattle.std.proofs.Common.{◌≡◌, ℕ, zero, suc, ◌⊎◌, inl, inr, List, [], ◌∷◌, get_or, set, Option, Some, None, Bool, true, false, ◌==◌, nat_lt, if◌then◌else◌, refl, sym, ap, ◌∙◌}
+use Rattle.std.proofs.Common.{◌≡◌, ℕ, zero, suc, ◌⊎◌, inl, inr, List, [], ◌∷◌, set, Option, Some, None, Bool, true, false, ◌==◌, nat_lt, if◌then◌else◌, refl, sym, ap, ◌∙◌}
 use Rattle.std.proofs.lemmas.Bool.{and_parts}
 use Rattle.registry_values.specs.declared.entry.Kind.{Kind}
 use Rattle.registry_values.specs.declared.entry.Entry.{Entry}
@@ -17,14 +17,17 @@ use Rattle.protocol.specs.declared.state.Hand.{Hand}
 use Rattle.protocol.specs.declared.state.Hand.TheVariants.{Empty, Taking, Giving, Back}
 use Rattle.protocol.specs.declared.state.Due.{Due}
 use Rattle.protocol.specs.declared.state.Due.TheVariants.{Rest, Snapshots, Adding, Subtracting}
+use Rattle.protocol.specs.declared.state.Loaded.{Loaded}
+use Rattle.protocol.specs.declared.state.Loaded.TheVariants.{On, Over}
 use Rattle.protocol.specs.declared.state.SearchPlace.{SearchPlace}
-use Rattle.protocol.specs.declared.state.SearchPlace.TheVariants.{AtHead, AtNext, AtNumber, AtKind, AtHigh, AtLow, AtValue}
+use Rattle.protocol.specs.declared.state.SearchPlace.TheVariants.{AtNumber}
 use Rattle.protocol.specs.declared.state.Search.{Search}
 use Rattle.protocol.specs.History.{after_change}
 use Rattle.protocol.specs.State.{State, search_at, found_at, hand_at, row_at, count_at, kept_at, local_at}
-use Rattle.registry_values.specs.Slots.{are_words_of, slot_at, slot_of, slot_before}
+use Rattle.registry_values.specs.Slots.{slot_at, slot_of, slot_before}
 use Rattle.protocol.specs.Events
-use Rattle.protocol.specs.Events.{Outcome, guard, some_outcome, with_some, step, state_after, is_idle, may_enter, after_enter, may_exit, after_exit, may_seek, after_seek, after_seeing, load_link, load_searched, link_loaded, outcome_of_name, entry_of, may_publish, after_publish, with_link_past, with_retired, after_unpublish, may_keep, after_keep, is_drained, after_kept_sub, may_vacate, after_vacate}
+use Rattle.protocol.specs.Loaded.{loaded_at, row_of_place}
+use Rattle.protocol.specs.Events.{Outcome, guard, some_outcome, with_some, step, state_after, is_idle, may_enter, after_enter, may_exit, after_exit, may_seek, after_seek, after_seeing, load_link, load_searched, link_loaded, entry_of, may_publish, after_publish, with_link_past, with_retired, after_unpublish, may_keep, after_keep, is_drained, after_kept_sub, may_vacate, after_vacate}
 use Rattle.protocol.specs.Invariant.{Holds}
 use Rattle.protocol.specs.Run.{Run, run_of_events, empty_run, run_with_event}
 use Rattle.protocol.specs.Laws.{after, after_event, answer_of, IsLoadOf}
@@ -111,30 +114,17 @@ link_loaded_sort : (s : State) (c : ℕ) (q : Search) (x : ℕ) → search_at s 
 link_loaded_sort s c q zero is answers = load_sort s _ (LoadLink c) c q _ (inl refl) is (record { history = refl; slots = refl; keeps = refl; section = refl; begins = refl; seen = inr refl; searches = inl refl }) answers
 link_loaded_sort s c q (suc t) is answers = load_sort s _ (LoadLink c) c q _ (inl refl) is (record { history = refl; slots = refl; keeps = refl; section = refl; begins = refl; seen = inr refl; searches = inr (AtNumber t, refl) }) answers
 
-load_link_sort : (s : State) (c : ℕ) (q : Search) (place : SearchPlace) → search_at s c ≡ Some q → AnswersLookup c q (load_link s c q place) → Sort s (LoadLink c) (load_link s c q place)
-load_link_sort s c q AtHead is answers = link_loaded_sort s c q s.head is answers
-load_link_sort s c q (AtNext t) is answers = link_loaded_sort s c q (get_or s.next t 0) is answers
-load_link_sort s c q (AtNumber t) is answers = Refused (LoadLink c)
-load_link_sort s c q (AtKind t n) is answers = Refused (LoadLink c)
-load_link_sort s c q (AtHigh t n k) is answers = Refused (LoadLink c)
-load_link_sort s c q (AtLow t n k h) is answers = Refused (LoadLink c)
-load_link_sort s c q (AtValue t n) is answers = Refused (LoadLink c)
+followed_sort : (s : State) (c : ℕ) (q : Search) (x : Option ℕ) → search_at s c ≡ Some q → AnswersLookup c q (Events.with_some x (link_loaded s c q)) → Sort s (LoadLink c) (Events.with_some x (link_loaded s c q))
+followed_sort s c q None is answers = Refused (LoadLink c)
+followed_sort s c q (Some x) is answers = link_loaded_sort s c q x is answers
 
-compared_sort : (s : State) (c : ℕ) (q : Search) (t n l : ℕ) (b : Bool) → search_at s c ≡ Some q → AnswersLookup c q (outcome_of_name s c q t n l b) → Sort s (LoadRecord (OfSearch c)) (outcome_of_name s c q t n l b)
-compared_sort s c q t n l true is answers = load_sort s _ (LoadRecord (OfSearch c)) c q _ (inr refl) is (on_loads s c q (AtValue t n)) answers
-compared_sort s c q t n l false is answers = load_sort s _ (LoadRecord (OfSearch c)) c q _ (inr refl) is (on_loads s c q (AtNext t)) answers
-
-searched_sort : (s : State) (c : ℕ) (q : Search) (place : SearchPlace) → search_at s c ≡ Some q → AnswersLookup c q (load_searched s c q place (row_at s.rows)) → Sort s (LoadRecord (OfSearch c)) (load_searched s c q place (row_at s.rows))
-searched_sort s c q AtHead is answers = Refused (LoadRecord (OfSearch c))
-searched_sort s c q (AtNext t) is answers = Refused (LoadRecord (OfSearch c))
-searched_sort s c q (AtNumber t) is answers = load_sort s _ (LoadRecord (OfSearch c)) c q _ (inr refl) is (on_loads s c q (AtKind t (row_at s.rows t).number)) answers
-searched_sort s c q (AtKind t n) is answers = load_sort s _ (LoadRecord (OfSearch c)) c q _ (inr refl) is (on_loads s c q (AtHigh t n (row_at s.rows t).kind)) answers
-searched_sort s c q (AtHigh t n k) is answers = load_sort s _ (LoadRecord (OfSearch c)) c q _ (inr refl) is (on_loads s c q (AtLow t n k (row_at s.rows t).high)) answers
-searched_sort s c q (AtLow t n k h) is answers = compared_sort s c q t n (row_at s.rows t).low (are_words_of q.key k h (row_at s.rows t).low) is answers
-searched_sort s c q (AtValue t n) is answers = load_sort s _ (LoadRecord (OfSearch c)) c q _ (inr refl) is (over_loads s c q (Some (Events.entry_found q t n (row_at s.rows t).value))) answers
+outcome_sort : (s : State) (c : ℕ) (q : Search) (o : Option Loaded) → search_at s c ≡ Some q → AnswersLookup c q (Events.outcome_of s c q o) → Sort s (LoadRecord (OfSearch c)) (Events.outcome_of s c q o)
+outcome_sort s c q None is answers = Refused (LoadRecord (OfSearch c))
+outcome_sort s c q (Some (On p w)) is answers = load_sort s _ (LoadRecord (OfSearch c)) c q _ (inr refl) is (on_loads s c q p) answers
+outcome_sort s c q (Some (Over e)) is answers = load_sort s _ (LoadRecord (OfSearch c)) c q _ (inr refl) is (over_loads s c q (Some e)) answers
 
 record_sort : (s : State) (of : RecordOf) → Holds s → Sort s (LoadRecord of) (Events.load_record s of)
-record_sort s (OfSearch c) on = sort_some s (LoadRecord (OfSearch c)) (search_at s c) _ (λ q is. searched_sort s c q q.place is (record_answers s c q on is))
+record_sort s (OfSearch c) on = sort_some s (LoadRecord (OfSearch c)) (search_at s c) _ (λ q is. outcome_sort s c q (loaded_at q q.place (row_of_place s.rows q.place)) is (record_answers s c q on is))
 record_sort s (OfPassive c n k) on = sort_some s (LoadRecord (OfPassive c n k)) (slot_of s.slots n) _ (λ t of. sort_guard s (LoadRecord (OfPassive c n k)) _ _ (λ may. left s s (LoadRecord (OfPassive c n k)) _ (record { history = refl; slots = refl; keeps = refl; section = refl; begins = refl; seen = refl; searches = refl; reply = refl })))
 record_sort s (OfLocal id k) on = sort_some s (LoadRecord (OfLocal id k)) (Events.number_standing (local_at s.locals id)) _ (λ n at. sort_some s (LoadRecord (OfLocal id k)) (slot_of s.slots n) _ (λ t of. sort_guard s (LoadRecord (OfLocal id k)) _ _ (λ may. left s s (LoadRecord (OfLocal id k)) _ (record { history = refl; slots = refl; keeps = refl; section = refl; begins = refl; seen = refl; searches = refl; reply = refl }))))
 
@@ -208,7 +198,7 @@ step_sort s (Seat c) on = sort_guard s (Seat c) _ _ (λ may. left s _ (Seat c) D
 step_sort s (Enter c) on = sort_guard s (Enter c) _ _ (λ may. Entered c may)
 step_sort s (Exit c) on = sort_guard s (Exit c) _ _ (λ may. Exited c may)
 step_sort s (Seek c kind name) on = sort_guard s (Seek c kind name) _ _ (λ may. Sought c kind name may)
-step_sort s (LoadLink c) on = sort_some s (LoadLink c) (search_at s c) _ (λ q is. load_link_sort s c q q.place is (link_answers s c q on is))
+step_sort s (LoadLink c) on = sort_some s (LoadLink c) (search_at s c) _ (λ q is. followed_sort s c q (Events.link_at s q.place) is (link_answers s c q on is))
 step_sort s (LoadRecord of) on = record_sort s of on
 step_sort s (StoreSlot t k v) on = store_sort s t k v
 step_sort s (StoreNext t v) on = sort_guard s (StoreNext t v) _ _ (λ may. left s _ (StoreNext t v) Done (record { history = refl; slots = refl; keeps = refl; section = refl; begins = refl; seen = refl; searches = refl; reply = refl }))
