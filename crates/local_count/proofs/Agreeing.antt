@@ -100,7 +100,7 @@ counted_agrees z a t u x c w d o ps ns acquired released s n v our same lt alone
   section = record { word = our.section.word; limit = our.section.limit };
   idle = record { search = our.idle.search; hand = our.idle.hand };
   depth = our.depth;
-  found = record { is = our.found.is; seen = our.found.seen };
+  found = record { is = our.found.is; seen = our.found.seen; none_outside = our.found.none_outside };
   passive = record { size = our.passive.size; counts = our.passive.counts; placed = λ k some. let old = our.passive.placed k some in record { entry = old.entry; attached = old.attached; slot = old.slot; number = old.number }; each = our.passive.each };
   net = net_set x (record x { acquired = acquired; released = released; met = with_number x.met s n }) ns s n v our.net lt alone refl count most others;
 }

@@ -54,7 +54,7 @@ new_agrees z a t c table fit few = record {
   section = record { word = refl; limit = omega arith };
   idle = record { search = refl; hand = refl };
   depth = outside;
-  found = record { is = refl; seen = λ e (q : None ≡ Some e). cc };
+  found = record { is = refl; seen = λ e (q : None ≡ Some e). cc; none_outside = λ _. refl };
   passive = new_passive a c;
   net = new_net a c;
 }
@@ -100,7 +100,7 @@ entered_agrees z a t u x y c w d e ps ns our same shallow room had =
       section = record { word = omega arith; limit = omega arith };
       idle = record { search = our.idle.search; hand = our.idle.hand };
       depth = inside (length p);
-      found = record { is = our.found.is; seen = λ f q. found_longer x p f longer (our.found.seen f q) };
+      found = record { is = our.found.is; seen = λ f q. found_longer x p f longer (our.found.seen f q); none_outside = λ (q : Some (length p) ≡ None). cc };
       passive = passive_longer x z0 ps refl longer our.passive;
       net = net_same x z0 ns refl refl refl our.net;
     } in
@@ -129,17 +129,17 @@ exited_agrees z a t u x y c w d e ps ns our same last had =
       section = record { word = omega arith; limit = omega arith };
       idle = record { search = our.idle.search; hand = our.idle.hand };
       depth = outside;
-      found = record { is = refl; seen = λ f (q : None ≡ Some f). cc };
+      found = record { is = refl; seen = λ f (q : None ≡ Some f). cc; none_outside = λ _. refl };
       passive = passive_longer x z0 ps refl (([], append-nil x.pass)) our.passive;
       net = net_same x z0 ns refl refl refl our.net;
     } in
     subst (λ (v : CpuView). IsOurCpu z a u v c (w + 1) 0 (record e { number = 0 }) ps ns) (sym had) there
 
--- the pass grows, another entry may be the last found one, and another note may lie beside the view
+-- the pass grows, inside another entry may be the last found one, and another note may lie beside the view
 pub seen_agrees : (z : TableId) (a : Settings) (t u : TableId) (x y : CpuView) (c w d : ℕ) (e k : Found) (f : Option Entry) (ps ns : List NumberedCount) (h : List Change)
     → IsOurCpu z a t x c w d e ps ns → u ≡ t → IsPrefix x.pass y.pass → y ≡ record x { pass = y.pass; found = f; noted_pass = h } → IsKept k f
-    → ((g : Entry) → f ≡ Some g → (g.slot < 32) × IsAttached y.pass g) → IsOurCpu z a u y c w d k ps ns
-seen_agrees z a t u x y c w d e k f ps ns h our same longer is kept seen =
+    → ((g : Entry) → f ≡ Some g → (g.slot < 32) × IsAttached y.pass g) → (x.begin ≡ None → f ≡ None) → IsOurCpu z a u y c w d k ps ns
+seen_agrees z a t u x y c w d e k f ps ns h our same longer is kept seen none_outside =
     let p = y.pass in
     let z0 : CpuView = record x { pass = p; found = f; noted_pass = h } in
     let there : IsOurCpu z a u z0 c w d k ps ns = record {
@@ -151,7 +151,7 @@ seen_agrees z a t u x y c w d e k f ps ns h our same longer is kept seen =
       section = record { word = our.section.word; limit = our.section.limit };
       idle = record { search = our.idle.search; hand = our.idle.hand };
       depth = our.depth;
-      found = record { is = kept; seen = seen };
+      found = record { is = kept; seen = seen; none_outside = none_outside };
       passive = passive_longer x z0 ps refl longer our.passive;
       net = net_same x z0 ns refl refl refl our.net;
     } in
@@ -160,15 +160,15 @@ seen_agrees z a t u x y c w d e k f ps ns h our same longer is kept seen =
 pub noted_agrees : (z : TableId) (a : Settings) (t u : TableId) (x y : CpuView) (c w d : ℕ) (e : Found) (ps ns : List NumberedCount) (h : List Change)
     → IsOurCpu z a t x c w d e ps ns → u ≡ t → IsPrefix x.pass y.pass → y ≡ record x { pass = y.pass; noted_pass = h } → IsOurCpu z a u y c w d e ps ns
 noted_agrees z a t u x y c w d e ps ns h our same longer is =
-    seen_agrees z a t u x y c w d e e x.found ps ns h our same longer is our.found.is (λ g q. found_longer x y.pass g longer (our.found.seen g q))
+    seen_agrees z a t u x y c w d e e x.found ps ns h our same longer is our.found.is (λ g q. found_longer x y.pass g longer (our.found.seen g q)) our.found.none_outside
 
 -- a lookup is over
 pub looked_up_agrees : (z : TableId) (a : Settings) (t u : TableId) (x y : CpuView) (c w d : ℕ) (e k : Found) (f : Option Entry) (ps ns : List NumberedCount) (key : Key)
-    → IsOurCpu z a t x c w d e ps ns → u ≡ t → IsKept k f → HasLookedUp key x y f → IsOurCpu z a u y c w d k ps ns
-looked_up_agrees z a t u x y c w d e k f ps ns key our same kept had =
+    → IsOurCpu z a t x c w d e ps ns → u ≡ t → x.begin ≢ None → IsKept k f → HasLookedUp key x y f → IsOurCpu z a u y c w d k ps ns
+looked_up_agrees z a t u x y c w d e k f ps ns key our same some kept had =
     let p = y.pass in
     let is : y ≡ record x { pass = p; found = f } = had.is ∙ ap (λ (s : Option Search). record x { pass = p; search = s; found = f }) (sym our.idle.search) in
-    seen_agrees z a t u x y c w d e k f ps ns x.noted_pass our same had.pass is kept had.seen
+    seen_agrees z a t u x y c w d e k f ps ns x.noted_pass our same had.pass is kept had.seen (λ none. absurd (some none))
 
 -- the data of a CPU agree with its view by the table and the settings that its own seat has
 pub own_agrees : (z : TableId) (a : Settings) (t : TableId) (x : CpuView) (c w d : ℕ) (e : Found) (ps ns : List NumberedCount) → IsOurCpu z a t x c w d e ps ns → IsOurCpu t x.settings t x c w d e ps ns

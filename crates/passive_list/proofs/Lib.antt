@@ -3,6 +3,7 @@ pub mod Walking
 pub mod Rows
 pub mod Marks
 pub mod Entering
+pub mod FromOutside
 pub mod Leading
 pub mod Preparing
 pub mod Attached

@@ -74,10 +74,11 @@ abbrev pub IsKept : Found → Option Entry → Type 0
 IsKept f None = f.number ≡ 0
 IsKept f (Some e) = (f.number ≡ e.number) × (f.slot ≡ e.slot) × (f.kind ≡ e.rec.kind)
 
--- the last found entry is in the pass
+-- the last found entry is in the pass; outside there is none
 pub record FoundAgrees (x : CpuView) (found : Found) : Type 0 where
   pub is : IsKept found x.found
   pub seen : (e : Entry) → x.found ≡ Some e → (e.slot < 32) × IsAttached x.pass e
+  pub none_outside : x.begin ≡ None → x.found ≡ None
 
 -- the fields of a CPU of D's table: its seat's table and view, its number, ended sections and depth, the last found entry, and its places
 pub record IsOurCpu (z : TableId) (a : Settings) (t : TableId) (x : CpuView) (c ended deep : ℕ) (last : Found) (references nets : List NumberedCount) : Type 0 where

@@ -1,10 +1,11 @@
--- A lookup in a section: what it answers, and what it leaves of the CPU.
+-- A lookup: what it answers, and what it leaves of the CPU.
 use Rattle.std.specs.Prelude.{◌≡◌, length, Option, Some}
 use mathlib.Core.List.{IsPrefix}
 use Rattle.registry_values.specs.declared.entry.Entry.{Entry}
 use Rattle.registry_values.specs.declared.slot.Key.{Key}
 use Rattle.protocol.specs.History.{IsAttached, IsLawful}
 use Rattle.passive_list.specs.Cpus.{OnCpu}
+use Rattle.passive_list.specs.Sections.{HasEnteredOn, HasExitedOn}
 
 -- just the pass and the last found entry change; the answer is the registry's at some point not before what the CPU had seen
 pub record HasFound (key : Key) (a b : OnCpu) (answer : Option Entry) : Type 0 where
@@ -12,3 +13,11 @@ pub record HasFound (key : Key) (a b : OnCpu) (answer : Option Entry) : Type 0 w
   pub is : b ≡ record a { view = record a.view { pass = b.view.pass; found = answer } }
   pub lawful : IsLawful b.view.pass (length a.view.pass) (length b.view.pass) key answer
   pub seen : (e : Entry) → answer ≡ Some e → IsAttached b.view.pass e
+
+-- in a section of the lookup's own: `first` is the CPU as it entered it, `last` as it exits it
+pub record HasFoundFromOutside (key : Key) (a b : OnCpu) (answer : Option Entry) : Type 0 where
+  pub first : OnCpu
+  pub last : OnCpu
+  pub enters : HasEnteredOn a first
+  pub finds : HasFound key first last answer
+  pub exits : HasExitedOn last b

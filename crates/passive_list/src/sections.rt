@@ -1,6 +1,6 @@
 //! Read sections (pserialize(9)). Sections nest: only the outermost enter and exit step on the words.
 
-ghost use Rattle.std.specs.Prelude.{◌≡◌, ◌≢◌, ◌↔◌, ◌⊎◌, None, IfOk, IfErr, IsErrOf, false};
+ghost use Rattle.std.specs.Prelude.{◌≡◌, ◌≢◌, ◌↔◌, ◌⊎◌, IsTrue, None, IfOk, IfErr, IsErrOf, false};
 ghost use Rattle.cpu_words.specs.Domains.{AreWordsOf};
 ghost use Rattle.cpu_words.specs.Sections.{HasEntered};
 ghost use Rattle.passive_list.specs.Sections.{HasEnteredOn, HasExitedOn, AreSpent};
@@ -42,6 +42,14 @@ pub fn enter_on(words: &Words, cpu: &mut PlainCpu) -> Result<(), Refusal>
     }
     cpu.depth += 1;
     Ok(())
+}
+
+/// Whether an enter would begin a section: the CPU is outside, and has begun fewer than it may. Condition: the words are its table's.
+pub fn may_begin_on(words: &Words, cpu: &PlainCpu) -> bool
+    requires words { AreWordsOf words.now cpu.now.words.table cpu.now.words.settings }
+    ensures { IsTrue result ↔ (cpu.now.cpu.depth ≡ 0) × (AreSpent cpu.now.cpu.view → ⊥) }
+{
+    cpu.depth == 0 && may_begin(words, cpu)
 }
 
 /// Whether this CPU may begin one section more.

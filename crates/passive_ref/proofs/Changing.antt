@@ -146,7 +146,7 @@ with_references z a t u x c w d o ps qs ns references our same agree = record {
   section = record { word = our.section.word; limit = our.section.limit };
   idle = record { search = our.idle.search; hand = our.idle.hand };
   depth = our.depth;
-  found = record { is = our.found.is; seen = our.found.seen };
+  found = record { is = our.found.is; seen = our.found.seen; none_outside = our.found.none_outside };
   passive = agree;
   net = net_same x (record x { references = references }) ns refl refl refl our.net;
 }

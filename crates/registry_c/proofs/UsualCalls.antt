@@ -1,23 +1,29 @@
 -- A section that a call of the usual path has entered is still open as it exits.
-use Rattle.std.proofs.Common.{◌≡◌, ◌≢◌, ℕ, Option, Some, None, Result, Ok, Err, IfOk, IfErr, refl, sym, ap, subst, ◌∙◌}
+use Rattle.std.proofs.Common.{◌≡◌, ◌≢◌, ℕ, Option, Some, None, Result, Ok, Err, IfOk, IfErr, refl, sym, ap, subst, ◌∙◌, arith}
 use Rattle.std.specs.Prelude.{◌↔◌}
 use mathlib.Core.Logic.{dite}
 use native.Mathlib.Decide.{ℕ_discrete}
 use Rattle.registry_values.specs.declared.entry.Entry.{Entry}
 use Rattle.registry_values.specs.declared.entry.Kind.{Kind}
+use Rattle.registry_values.specs.declared.name.Name.{Name}
 use Rattle.registry_values.specs.declared.refusal.Refusal.{Refusal}
+use Rattle.registry_values.specs.declared.refusal.Refusal.TheVariants.{TooDeep, SectionsSpent}
 use Rattle.registry_values.specs.Refusals.{Answers}
+use Rattle.cpu_words.specs.Searching.{key_with}
 use Rattle.cpu_words.specs.declared.view.CpuView.{CpuView}
 use Rattle.passive_list.specs.Cpus.{OnCpu, OnPlainCpu}
-use Rattle.passive_list.specs.Sections.{HasEnteredOn}
+use Rattle.passive_list.specs.declared.lookup.Seen.{Seen}
+use Rattle.passive_list.specs.Lookups.{HasFound, HasFoundFromOutside}
+use Rattle.passive_list.specs.Sections.{AreSpent, HasEnteredOn}
+use Rattle.passive_list.specs.Walking.{entry_seen}
 use Rattle.passive_ref.specs.Psrefs.{IsAcquired, OnPsref, why_not_acquired}
 use Rattle.registry_c.specs.declared.values.TheConstants.{DONE}
 use Rattle.registry_c.specs.declared.values.CEntry.{CEntry}
 use Rattle.registry_c.specs.declared.values.CName.{CName}
-use Rattle.registry_c.specs.Calls.{Acquires, Enters, Exits, Finds, FindsNamed, TellsFound}
+use Rattle.registry_c.specs.Calls.{Acquires, Enters, Exits, Finds, FindsNamed, TellsFound, WritesFound}
 use Rattle.registry_c.specs.Places.{put}
-use Rattle.registry_c.specs.UsualCalls.{Between, EntersAndFinds, FindsAndAcquires}
-use Rattle.registry_c.specs.Values.{entry_out, kind_in, number_of}
+use Rattle.registry_c.specs.UsualCalls.{Between, EntersAndFinds, FindsAndAcquires, LooksUp}
+use Rattle.registry_c.specs.Values.{entry_out, kind_in, name_in, number_of}
 use Rattle.registry_c.proofs.Gone.{refused_not}
 
 -- the end of the history as the open section began
@@ -68,6 +74,66 @@ between a first last b entered n left Same P enters is inside does same exits = 
   refused = λ off. absurd (off is);
   inside = λ done. (last, does, subst (λ (k : ℕ). Exits last b k) (exits.inside (λ none. inside (sym same ∙ none))).0 exits);
 }
+
+-- A look-up from outside
+
+-- what is written of a find's answer
+abbrev pub writes : Kind → CName → Option Seen → ℕ → Option CEntry → Option CEntry → Type 0
+writes k m s n old new = WritesFound (entry_seen (key_with k (name_in m)) s) n old new
+
+found_inside : (kind : ℕ) (k : Kind) (m : CName) (a b : OnPlainCpu) (s : Option Seen) (n : ℕ) (old new : Option CEntry) → kind_in kind ≡ Some k → begin_of a ≢ None → b.words ≡ a.words
+    → HasFound (key_with k (name_in m)) a.cpu b.cpu (entry_seen (key_with k (name_in m)) s) → writes k m s n old new → Finds kind m a b n old new
+found_inside kind k m a b s n old new is some words had written = record {
+  bad = λ none. let clash : ◌≡◌ {A = Option Kind} (Some k) None = sym is ∙ none in cc;
+  outside = λ j at none. absurd (some none);
+  inside = λ j at begun.
+      let one : Some k ≡ Some j = sym is ∙ at in
+      let same : k ≡ j = cc in
+      subst (λ (i : Kind). (answer : Option Entry) × HasFound (key_with i (name_in m)) a.cpu b.cpu answer × (b.words ≡ a.words) × WritesFound answer n old new) same (entry_seen (key_with k (name_in m)) s, had, words, written);
+}
+
+-- what C is told of an entry by its words
+abbrev pub told : CName → Seen → ℕ → CEntry
+told m s kind = record { number = s.number; slot = s.slot; kind = kind; name = m; value = s.value }
+
+-- it is an enter, a find and an exit, each done
+pub from_outside : (kind : ℕ) (k : Kind) (m : CName) (name : Name) (a b : OnPlainCpu) (s : Option Seen) (n : ℕ) (old new : Option CEntry)
+    → kind_in kind ≡ Some k → name ≡ name_in m → a.cpu.depth ≡ 0 → (AreSpent a.cpu.view → ⊥) → b.words ≡ a.words
+    → HasFoundFromOutside (key_with k name) a.cpu b.cpu (entry_seen (key_with k name) s) → writes k m s n old new → LooksUp kind (Some m) a b n old new
+from_outside kind k m name a b s n old new is named shallow room words seen written =
+    let had = subst (λ (i : Name). HasFoundFromOutside (key_with k i) a.cpu b.cpu (entry_seen (key_with k i) s)) named seen in
+    let first : OnPlainCpu = record { words = a.words; cpu = had.first } in
+    let last : OnPlainCpu = record { words = a.words; cpu = had.last } in
+    let inside : begin_of first ≢ None = some_not _ (begin_of first) (ap (λ (x : CpuView). x.begin) (had.enters.begun shallow).1) in
+    let same : begin_of last ≡ begin_of first = ap (λ (c : OnCpu). c.view.begin) had.finds.is in
+    record {
+      first = first;
+      entered = DONE;
+      enters = record {
+        r = Ok tt;
+        number = refl;
+        ok = had.enters;
+        refused = tt;
+        deep = (λ (q : Ok tt ≡ Err TooDeep). cc, λ deep. absurd (omega (arith, shallow, deep)));
+        spent = (λ (q : Ok tt ≡ Err SectionsSpent). cc, λ both. absurd (room both.1));
+        no_other = tt;
+        words = refl;
+      };
+      refused = λ off. absurd (off refl);
+      inside = λ done. (
+        last,
+        record {
+          null = λ (q : Some m ≡ None). cc;
+          named = λ i (q : Some m ≡ Some i).
+              let one : m ≡ i = cc in
+              subst (λ (j : CName). Finds kind j first last n old new) one (found_inside kind k m first last s n old new is inside refl had.finds written);
+        },
+        record {
+          outside = λ none. absurd (inside (sym same ∙ none));
+          inside = λ some. (refl, had.exits, words);
+        },
+      );
+    }
 
 -- A find and an acquire
 

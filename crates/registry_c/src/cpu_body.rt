@@ -1,13 +1,14 @@
 //! What stands behind a CPU's handle.
 
-ghost use Rattle.std.specs.Prelude.{◌≡◌, ◌≢◌, ◌↔◌, ◌⊎◌, ◌<◌, ◌≤◌, IsTrue, None, IfOk, IfErr, IsErrOf, take};
+ghost use Rattle.std.specs.Prelude.{◌≡◌, ◌≢◌, ◌↔◌, ◌⊎◌, ◌<◌, ◌≤◌, IsTrue, None, IfOk, IfErr, IfSome, IsErrOf, take};
 ghost use Rattle.registry_values.specs.Refusals.{Answers};
 ghost use Rattle.cpu_words.specs.Domains.{AreWordsOf};
 ghost use Rattle.cpu_words.specs.Searching.{key_with};
 ghost use Rattle.cpu_words.specs.Views.{references_to};
 ghost use mathlib.Core.List.{IsPrefix};
-ghost use Rattle.passive_list.specs.Lookups.{HasFound};
+ghost use Rattle.passive_list.specs.Lookups.{HasFound, HasFoundFromOutside};
 ghost use Rattle.passive_list.specs.Notes.{HasHeardOn, WasShown};
+ghost use Rattle.passive_list.specs.Walking.{entry_seen};
 ghost use Rattle.passive_list.specs.Walks.{HasWalked};
 ghost use Rattle.passive_list.specs.Sections.{AreSpent, HasEnteredOn, HasExitedOn};
 ghost use Rattle.name_registry.specs.Meeting.{is_inside};
@@ -16,7 +17,10 @@ ghost use Rattle.passive_ref.specs.Psrefs.{GivesBack, HasOneLess, IsAcquired, Is
 use crate::local_body::LocalBody;
 use cpu_words::{NoteSeat, Words};
 use held::Spare;
-use passive_list::{PlainCpu, enter_on, exit_on, find_on, hear_on, tell_on, walk_on};
+use passive_list::{
+    PlainCpu, Seen, enter_on, exit_on, find_from_outside, find_on, hear_on, may_begin_on, tell_on,
+    walk_on,
+};
 use passive_ref::{Psref, acquire_on, copy_on, held_on, read_entry_on, release_on};
 use registry_values::{Entry, Kind, Name, Refusal};
 use std::alloc::{AllocError, Global};
@@ -160,6 +164,25 @@ impl CpuBody {
         ensures words { self.new.words ≡ self.old.words }
     {
         find_on(&self.words, &mut self.cpu, kind, name)
+    }
+
+    /// Whether an enter would begin a section: the CPU is outside, and has one left.
+    pub fn may_begin(&self) -> bool
+        ensures { IsTrue result ↔ (self.now.cpu.depth ≡ 0) × (AreSpent self.now.cpu.view → ⊥) }
+    {
+        may_begin_on(&self.words, &self.cpu)
+    }
+
+    /// Looks an entry up in a section of its own, and answers its words. Conditions: outside; a section is left.
+    #[inline(always)]
+    pub fn find_from_outside(&mut self, kind: Kind, name: Name) -> Option<Seen>
+        requires outside { self.old.cpu.depth ≡ 0 }
+        requires room { AreSpent self.old.cpu.view → ⊥ }
+        ensures found { HasFoundFromOutside (key_with kind name) self.old.cpu self.new.cpu (entry_seen (key_with kind name) result) }
+        ensures slot { IfSome result (λ seen. seen.slot < 32) }
+        ensures words { self.new.words ≡ self.old.words }
+    {
+        find_from_outside(&self.words, &mut self.cpu, kind, name)
     }
 
     /// Walks over all entries, and answers how many it wrote. Condition: inside.

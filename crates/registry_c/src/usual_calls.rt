@@ -1,20 +1,58 @@
-//! The calls of the usual path, by what stands behind the CPU's handle: each makes several calls of `cpu_calls`, and opens a section for them.
+//! The calls of the usual path, by what stands behind the CPU's handle: each makes several calls of `cpu_calls`, and opens a section for them. A lookup
+//! from outside is one call of the CPU's, which does the same.
 //! It writes to C's place last: stores before the addition that ends the section would have to be done before it is.
 
-ghost use Rattle.std.specs.Prelude.{◌≡◌, ◌≢◌, ℕ, Option, None};
+ghost use Rattle.std.specs.Prelude.{◌≡◌, ◌≢◌, ℕ, Option, Some, None};
+ghost use Rattle.passive_list.specs.Sections.{AreSpent};
 ghost use Rattle.registry_c.specs.declared.values.CEntry.{CEntry};
 ghost use Rattle.registry_c.specs.declared.values.TheConstants.{DONE};
 ghost use Rattle.registry_c.specs.Calls.{Enters, TellsFound};
 ghost use Rattle.registry_c.specs.UsualCalls.{EntersAndFinds, FindsAndAcquires, Gets, LooksUp};
+ghost use Rattle.registry_c.specs.Values.{kind_in};
 
 use crate::cpu_body::CpuBody;
 use crate::cpu_calls::{enter, exit, look, tell};
 use crate::place::EntryPlace;
-use crate::values::{CName, DONE, entry_out, refused};
-use registry_values::Entry;
+use crate::values::{CEntry, CName, DONE, entry_out, name_in, refused};
+use registry_values::{Entry, Kind, Refusal, kind_word};
 
-/// Looks an entry up, in a section of the call's own. Each answer has an exit of its own: with one exit for both more words would be carried past it,
-/// and a call saves each register that it uses.
+/// Looks an entry up, in a section of the call's own, as one call of the CPU's. Conditions: outside; a section is left.
+/// A search for each kind, as in `find` of `cpu_calls`, and what is written after it, too: so no register keeps the kind.
+#[inline(always)]
+pub fn look_from_outside(cpu: &mut CpuBody, kind: Kind, name: CName, found: &mut EntryPlace) -> u32
+    requires outside { cpu.old.cpu.depth ≡ 0 }
+    requires room { AreSpent cpu.old.cpu.view → ⊥ }
+    ensures place { found.new.at ≡ found.old.at }
+    ensures call { (word : ℕ) → kind_in word ≡ Some kind → LooksUp word (Some name) cpu.old cpu.new result found.old.value found.new.value }
+{
+    match kind {
+        Kind::Iface => look_for(cpu, Kind::Iface, name, found),
+        Kind::Driver => look_for(cpu, Kind::Driver, name, found),
+    }
+}
+
+/// The same, of a kind that is known where it is called.
+#[inline(always)]
+fn look_for(cpu: &mut CpuBody, kind: Kind, name: CName, found: &mut EntryPlace) -> u32
+    requires outside { cpu.old.cpu.depth ≡ 0 }
+    requires room { AreSpent cpu.old.cpu.view → ⊥ }
+    ensures place { found.new.at ≡ found.old.at }
+    ensures call { (word : ℕ) → kind_in word ≡ Some kind → LooksUp word (Some name) cpu.old cpu.new result found.old.value found.new.value }
+{
+    let Some(seen) = cpu.find_from_outside(kind, name_in(&name)) else {
+        return refused(Refusal::NotFound);
+    };
+    found.put(CEntry {
+        number: seen.number,
+        slot: seen.slot,
+        kind: kind_word(kind),
+        name,
+        value: seen.value,
+    });
+    DONE
+}
+
+/// Looks an entry up, in a section of the call's own, by an enter, a find and an exit: where a section is open, or the call is refused.
 pub fn look_up(cpu: &mut CpuBody, kind: u64, name: Option<CName>, found: &mut EntryPlace) -> u32
     ensures place { found.new.at ≡ found.old.at }
     ensures call { LooksUp kind name cpu.old cpu.new result found.old.value found.new.value }
@@ -24,17 +62,8 @@ pub fn look_up(cpu: &mut CpuBody, kind: u64, name: Option<CName>, found: &mut En
         return entered;
     }
     let looked = look(cpu, kind, name);
-    match looked {
-        Ok(seen) => {
-            exit(cpu);
-            found.put(entry_out(seen));
-            DONE
-        }
-        Err(why) => {
-            exit(cpu);
-            why
-        }
-    }
+    exit(cpu);
+    tell(looked, found)
 }
 
 /// Looks an entry up and acquires a passive reference to it, in a section of the call's own.

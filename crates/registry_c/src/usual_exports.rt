@@ -5,11 +5,12 @@ ghost use Rattle.registry_c.specs.Calls.{Through};
 ghost use Rattle.registry_c.specs.UsualCalls.{EntersAndFinds, Gets, LooksUp};
 
 use crate::answer::NamedAnswer;
+use crate::cpu_body::CpuBody;
 use crate::given::GivenName;
 use crate::handle::CpuHandle;
 use crate::place::EntryPlace;
 use crate::usual_calls;
-use crate::values::EMPTY_HANDLE;
+use crate::values::{EMPTY_HANDLE, kind_in};
 use held::CHandle;
 
 /// `registry_look_up` of the header.
@@ -27,7 +28,28 @@ pub extern "C" fn registry_look_up(
     let Some(body) = cpu.body_mut() else {
         return found.answer(EMPTY_HANDLE).with_name(name);
     };
-    let answer = usual_calls::look_up(body, kind, name.name(), &mut found);
+    match (name.name(), kind_in(kind)) {
+        (Some(sought), Some(kind)) if body.may_begin() => {
+            let answer = usual_calls::look_from_outside(body, kind, sought, &mut found);
+            found.answer(answer).with_name(name)
+        }
+        _ => look_up_by_calls(body, kind, name, found),
+    }
+}
+
+/// What `registry_look_up` does in an open section, or where it is refused: an enter, a find and an exit. It stands apart, so that a lookup from
+/// outside saves no register for it.
+#[inline(never)]
+fn look_up_by_calls(
+    cpu: &mut CpuBody,
+    kind: u64,
+    mut name: GivenName,
+    mut found: EntryPlace,
+) -> NamedAnswer
+    ensures places { (result.name ≡ name) × (result.place.at ≡ found.at) }
+    ensures call { LooksUp kind name.name cpu.old cpu.new result.number found.value result.place.value }
+{
+    let answer = usual_calls::look_up(cpu, kind, name.name(), &mut found);
     found.answer(answer).with_name(name)
 }
 

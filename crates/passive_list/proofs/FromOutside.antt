@@ -1,0 +1,102 @@
+-- A lookup from outside: the steps that its section allows, how the data agree with the view as it is over, and what it is to a contract.
+use Rattle.std.proofs.Common.{◌≡◌, ◌≢◌, ℕ, ◌+◌, ◌<◌, List, length, Option, Some, None, refl, sym, ap, ◌∙◌, subst, arith}
+use Rattle.atomic_table.specs.Seated.{TableId}
+use Rattle.registry_values.specs.declared.entry.Entry.{Entry}
+use Rattle.registry_values.specs.declared.settings.Settings.{Settings}
+use Rattle.registry_values.specs.declared.slot.Key.{Key}
+use Rattle.protocol.specs.declared.state.Search.{Search}
+use Rattle.cpu_words.specs.declared.view.CpuView.{CpuView}
+use Rattle.cpu_words.specs.declared.view.LogItem.{LogItem}
+use Rattle.cpu_words.specs.Searching.{MaySeek}
+use Rattle.cpu_words.specs.Sections.{IsIdle, HasEntered, MayExit, HasExited}
+use Rattle.passive_list.specs.declared.place.Found.{Found}
+use Rattle.passive_list.specs.declared.place.NumberedCount.{NumberedCount}
+use Rattle.passive_list.specs.Cpus.{OnCpu, DepthAgrees, IsKept, IsOurCpu, no_found}
+use Rattle.passive_list.specs.Lookups.{HasFoundFromOutside}
+use Rattle.passive_list.specs.Sections.{AreSpent}
+use Rattle.passive_list.specs.Walking.{HasLookedUp}
+use Rattle.passive_list.proofs.Agreeing.{entered_agrees, looked_up_agrees, exited_agrees, own_agrees}
+use Rattle.passive_list.proofs.Entering.{unspent}
+
+-- The steps
+
+pub may_seek : (x y : CpuView) → IsIdle x → HasEntered x y → MaySeek y
+may_seek x y idle had = record {
+  idle = record { search = ap (λ (v : CpuView). v.search) had.1 ∙ idle.search; hand = ap (λ (v : CpuView). v.hand) had.1 ∙ idle.hand };
+  inside = (length y.pass, ap (λ (v : CpuView). v.begin) had.1);
+}
+
+pub may_exit : (key : Key) (y v : CpuView) (f : Option Entry) → MaySeek y → HasLookedUp key y v f → MayExit v
+may_exit key y v f may had = record {
+  idle = record { search = ap (λ (i : CpuView). i.search) had.is; hand = ap (λ (i : CpuView). i.hand) had.is ∙ may.idle.hand };
+  inside = (may.inside.0, ap (λ (i : CpuView). i.begin) had.is ∙ may.inside.1);
+}
+
+pub entered_id : (x y : CpuView) → HasEntered x y → y.id ≡ x.id
+entered_id x y had = ap (λ (v : CpuView). v.id) had.1
+
+pub looked_up_id : (key : Key) (y v : CpuView) (f : Option Entry) → HasLookedUp key y v f → v.id ≡ y.id
+looked_up_id key y v f had = ap (λ (i : CpuView). i.id) had.is
+
+-- The data
+
+-- what a find would keep of its answer
+abbrev kept_of : Option Entry → Found
+kept_of None = no_found
+kept_of (Some e) = record { number = e.number; slot = e.slot; kind = e.rec.kind }
+
+are_kept : (f : Option Entry) → IsKept (kept_of f) f
+are_kept None = refl
+are_kept (Some e) = (refl, refl, refl)
+
+-- outside and with nothing found again, as before, and one section more is ended
+pub from_outside_agrees : (z : TableId) (a : Settings) (t u : TableId) (x y v w : CpuView) (c n m d : ℕ) (e : Found) (f : Option Entry) (ps ns : List NumberedCount) (key : Key)
+    → IsOurCpu z a t x c n d e ps ns → u ≡ t → d ≡ 0 → (AreSpent x → ⊥) → HasEntered x y → HasLookedUp key y v f → HasExited v w → m ≡ n + 1 → IsOurCpu u w.settings u w c m d e ps ns
+from_outside_agrees z a t u x y v w c n m d e f ps ns key our same shallow unended entered looked exited one_more =
+    let room : n < a.section_limit = unspent z a t x c n d e ps ns our unended in
+    let begun : y.begin ≡ Some (length y.pass) = ap (λ (i : CpuView). i.begin) entered.1 in
+    let some : y.begin ≢ None = λ none. let clash : ◌≡◌ {A = Option ℕ} (Some (length y.pass)) None = sym begun ∙ none in cc in
+    let inside = entered_agrees z a t u x y c n d e ps ns our same shallow room entered in
+    let sought = looked_up_agrees z a u u y v c n 1 e (kept_of f) f ps ns key inside refl some (are_kept f) looked in
+    let over = exited_agrees z a u u v w c n 1 (kept_of f) ps ns sought refl refl exited in
+    let none : w.found ≡ None = ap (λ (i : CpuView). i.found) exited in
+    let was : IsKept e None = subst (λ (g : Option Entry). IsKept e g) (our.found.none_outside (our.depth.outside.1 shallow)) our.found.is in
+    let there : IsOurCpu z a u w c (n + 1) d e ps ns = record {
+      table = over.table;
+      settings = over.settings;
+      fit = over.fit;
+      id = over.id;
+      few = over.few;
+      section = over.section;
+      idle = over.idle;
+      depth = subst (λ (k : ℕ). DepthAgrees w.begin k) (sym shallow) over.depth;
+      found = record { is = subst (λ (g : Option Entry). IsKept e g) (sym none) was; seen = over.found.seen; none_outside = over.found.none_outside };
+      passive = over.passive;
+      net = over.net;
+    } in
+    own_agrees z a u w c m d e ps ns (subst (λ (k : ℕ). IsOurCpu z a u w c k d e ps ns) (sym one_more) there)
+
+-- To a contract
+
+abbrev cpu_at : CpuView → ℕ → List LogItem → OnCpu
+cpu_at x depth log = record { view = x; depth = depth; made = 0; known_log = log }
+
+pub found_from_outside : (key : Key) (a : OnCpu) (x y v w : CpuView) (d : ℕ) (l m n o : List LogItem) (f : Option Entry)
+    → cpu_at x d l ≡ a → IsIdle x → d ≡ 0 → HasEntered x y → HasLookedUp key y v f → HasExited v w → m ≡ l → n ≡ m → o ≡ n → HasFoundFromOutside key a (cpu_at w d o) f
+found_from_outside key a x y v w d l m n o f at idle shallow entered looked exited known1 known2 known3 =
+    let one : d + 1 ≡ 1 = omega (arith, shallow) in
+    let same : y.search ≡ None = ap (λ (i : CpuView). i.search) entered.1 ∙ idle.search in
+    let is : v ≡ record y { pass = v.pass; found = f } = looked.is ∙ ap (λ (s : Option Search). record y { pass = v.pass; search = s; found = f }) (sym same) in
+    let had : HasFoundFromOutside key (cpu_at x d l) (cpu_at w d o) f = record {
+      first = cpu_at y (d + 1) m;
+      last = cpu_at v (d + 1) n;
+      enters = record { begun = λ _. entered; inner = λ off. absurd (off shallow); depth = refl; made = refl; known_log = known1 };
+      finds = record {
+        pass = looked.pass;
+        is = λ i. record { view = is i; depth = d + 1; made = 0; known_log = known2 i };
+        lawful = looked.lawful;
+        seen = λ e q. (looked.seen e q).1;
+      };
+      exits = record { ended = λ _. exited; inner = λ off. absurd (off one); depth = refl; made = refl; known_log = known3 };
+    } in
+    subst (λ (b : OnCpu). HasFoundFromOutside key b (cpu_at w d o) f) at had

@@ -1,0 +1,39 @@
+-- The section is this CPU's from its enter to its exit, and the data agree with the view again.
+use Rattle.std.proofs.Common.{◌≡◌, Some, ap, ◌∙◌, sym, subst}
+use Rattle.cpu_words.specs.Searching.{key_with}
+use Rattle.passive_list.specs.Cpus.{OnPlainCpu}
+use Rattle.passive_list.specs.Sections.{AreSpent}
+use Rattle.passive_list.proofs.FromOutside.{may_seek, may_exit, from_outside_agrees, found_from_outside}
+use Rattle.passive_list.proofs.Walking.{slot_seen}
+use Rattle.passive_list.proofs.from_outside.find_from_outside.Goals as goal
+
+pub exit_counted-requires-clause-may : goal.exit_counted-requires-clause-may
+exit_counted-requires-clause-may c = may_exit (key_with c.args.kind c.args.name) _ _ _ (may_seek _ _ c.cpu.invariant.idle c.enter.ensures.change) c.in_default.ensures.change
+
+pub invariant_of-cpu : goal.invariant_of-cpu
+invariant_of-cpu c =
+    let shallow : c.cpu.inside.depth ≡ 0 = ap (λ (o : OnPlainCpu). o.cpu.depth) c.cpu.view_is ∙ c.requires.outside in
+    let unended = subst (λ (o : OnPlainCpu). AreSpent o.cpu.view → ⊥) (sym c.cpu.view_is) c.requires.room in
+    from_outside_agrees _ _ _ _ _ _ _ _ _ _ _ _ _ _ _ _ (key_with c.args.kind c.args.name) c.cpu.invariant (c.exit_counted.ensures.table ∙ c.in_default.ensures.table ∙ c.enter.ensures.table) shallow unended c.enter.ensures.change c.in_default.ensures.change c.exit_counted.ensures.change c.exit_counted.ensures.count
+
+pub returns-in_default-clause-found : goal.returns-in_default-clause-found
+returns-in_default-clause-found c =
+    let shallow : c.cpu.inside.depth ≡ 0 = ap (λ (o : OnPlainCpu). o.cpu.depth) c.cpu.view_is ∙ c.requires.outside in
+    found_from_outside (key_with c.args.kind c.args.name) _ _ _ _ _ _ _ _ _ _ _ (ap (λ (o : OnPlainCpu). o.cpu) c.cpu.view_is) c.cpu.invariant.idle shallow c.enter.ensures.change c.in_default.ensures.change c.exit_counted.ensures.change c.enter.ensures.known_log c.in_default.ensures.known_log c.exit_counted.ensures.known_log
+
+pub exit_counted-requires-2-clause-may : goal.exit_counted-requires-2-clause-may
+exit_counted-requires-2-clause-may c = may_exit (key_with c.args.kind c.args.name) _ _ _ (may_seek _ _ c.cpu.invariant.idle c.enter.ensures.change) c.in-Some.ensures.change
+
+pub invariant_of-cpu-2 : goal.invariant_of-cpu-2
+invariant_of-cpu-2 c =
+    let shallow : c.cpu.inside.depth ≡ 0 = ap (λ (o : OnPlainCpu). o.cpu.depth) c.cpu.view_is ∙ c.requires.outside in
+    let unended = subst (λ (o : OnPlainCpu). AreSpent o.cpu.view → ⊥) (sym c.cpu.view_is) c.requires.room in
+    from_outside_agrees _ _ _ _ _ _ _ _ _ _ _ _ _ _ _ _ (key_with c.args.kind c.args.name) c.cpu.invariant (c.exit_counted-2.ensures.table ∙ c.in-Some.ensures.table ∙ c.enter.ensures.table) shallow unended c.enter.ensures.change c.in-Some.ensures.change c.exit_counted-2.ensures.change c.exit_counted-2.ensures.count
+
+pub returns-clause-found : goal.returns-clause-found
+returns-clause-found c =
+    let shallow : c.cpu.inside.depth ≡ 0 = ap (λ (o : OnPlainCpu). o.cpu.depth) c.cpu.view_is ∙ c.requires.outside in
+    found_from_outside (key_with c.args.kind c.args.name) _ _ _ _ _ _ _ _ _ _ _ (ap (λ (o : OnPlainCpu). o.cpu) c.cpu.view_is) c.cpu.invariant.idle shallow c.enter.ensures.change c.in-Some.ensures.change c.exit_counted-2.ensures.change c.enter.ensures.known_log c.in-Some.ensures.known_log c.exit_counted-2.ensures.known_log
+
+pub returns-clause-slot : goal.returns-clause-slot
+returns-clause-slot c = slot_seen (key_with c.args.kind c.args.name) _ _ (Some c.in-Some.seen) c.in-Some.ensures.change

@@ -1,0 +1,51 @@
+//! Lookups from outside, each in a section of its own.
+
+ghost use Rattle.std.specs.Prelude.{◌≡◌, ◌<◌, ◌+◌, ◌^◌, IfSome};
+ghost use Rattle.cpu_words.specs.Domains.{AreWordsOf};
+ghost use Rattle.cpu_words.specs.Searching.{key_with};
+ghost use Rattle.cpu_words.specs.Sections.{MayExit, HasExited};
+ghost use Rattle.passive_list.specs.Lookups.{HasFoundFromOutside};
+ghost use Rattle.passive_list.specs.Sections.{AreSpent};
+ghost use Rattle.passive_list.specs.Walking.{entry_seen};
+
+use crate::lookup::{Seen, look_up};
+use crate::plain_cpu::PlainCpu;
+use cpu_words::{CpuSeat, Words, steps};
+use registry_values::{Kind, Name};
+
+/// Looks an entry up in a section of its own, and answers its words: an enter, a find and an exit in one. What a CPU keeps for the calls that
+/// come in a section, its depth and the last found entry, isn't written. Each answer has an exit of its own: with one for both more words
+/// would be carried past it.
+/// Conditions: the words are the CPU's table's; it is outside, and has a section left (`may_begin_on`).
+#[inline(always)]
+pub fn find_from_outside(words: &Words, cpu: &mut PlainCpu, kind: Kind, name: Name) -> Option<Seen>
+    requires words { AreWordsOf words.now cpu.old.words.table cpu.old.words.settings }
+    requires outside { cpu.old.cpu.depth ≡ 0 }
+    requires room { AreSpent cpu.old.cpu.view → ⊥ }
+    ensures found { HasFoundFromOutside (key_with kind name) cpu.old.cpu cpu.new.cpu (entry_seen (key_with kind name) result) }
+    ensures slot { IfSome result (λ seen. seen.slot < 32) }
+    ensures words { cpu.new.words ≡ cpu.old.words }
+{
+    steps::enter(words, &mut cpu.seat, cpu.id);
+    let Some(seen) = look_up(words, &mut cpu.seat, cpu.id, kind, name) else {
+        exit_counted(words, &mut cpu.seat, cpu.id, &mut cpu.ended);
+        return None;
+    };
+    exit_counted(words, &mut cpu.seat, cpu.id, &mut cpu.ended);
+    Some(seen)
+}
+
+/// Ends the section by the CPU's seat, and counts it as ended.
+fn exit_counted(words: &Words, seat: &mut CpuSeat, cpu: u8, ended: &mut u64)
+    requires table { seat.old.table ≡ words.now.table }
+    requires cpu { (cpu < 8) × (seat.old.view.id ≡ cpu) }
+    requires may { MayExit seat.old.view }
+    requires room { ended.old < 2 ^ 63 }
+    ensures table { seat.new.table ≡ seat.old.table }
+    ensures change { HasExited seat.old.view seat.new.view }
+    ensures count { ended.new ≡ ended.old + 1 }
+    ensures known_log { seat.new.known_log ≡ seat.old.known_log }
+{
+    steps::exit(words, seat, cpu);
+    *ended += 1;
+}
