@@ -1,5 +1,6 @@
 -- Draining by the keeper's seat (psref(9), localcount(9)): where it may make the step, and what changes in its view.
 use Rattle.std.specs.Prelude.{◌≡◌, ℕ, ◌+◌, ◌-◌, ◌⊎◌, List, [], replicate, slice_index_or, slice_set, true, false, Some, None}
+use Rattle.registry_values.specs.declared.settings.TheConstants.{MOST_CPUS}
 use Rattle.registry_values.specs.declared.entry.Entry.{Entry}
 use Rattle.registry_values.specs.declared.entry.Kind.TheVariants.{Iface}
 use Rattle.protocol.specs.declared.event.Event.{Event}
@@ -98,7 +99,7 @@ HasKeptSub k t u l = (d : ℕ) × KeepsIn k t d u × (l ≡ record k {
   totals = slice_set k.totals u (total_at k.totals u - 1);
   slots = slice_set k.slots t Vacant;
   keeps = slice_set k.keeps t None;
-  counts = slice_set k.counts t (replicate 8 0);
+  counts = slice_set k.counts t (replicate MOST_CPUS 0);
   given_up = one_more k.given_up d;
 })
 

@@ -5,6 +5,7 @@ use Rattle.protocol.specs.declared.event.Event.{Event}
 use Rattle.protocol.specs.declared.event.Event.TheVariants.{Publish, Unpublish, Snapshot, Look, PassiveLook, Collect, JoinKeeper, Keep, KeptSub, Vacate}
 use Rattle.protocol.specs.declared.event.Reply.{Reply}
 use Rattle.protocol.specs.declared.event.Reply.TheVariants.{Done, Word}
+use Rattle.registry_values.specs.declared.settings.TheConstants.{MOST_CPUS}
 use Rattle.registry_values.specs.declared.entry.Change.{Change}
 use Rattle.registry_values.specs.declared.entry.Entry.{Entry}
 use Rattle.registry_values.specs.declared.mark.Mark.{Mark}
@@ -260,7 +261,7 @@ given_after before n (d ∷ ds) = given_by before n d.event + given_after (befor
 abbrev pub given_up : ℕ → List LogItem → ℕ
 given_up n log = given_after [] n log
 
--- Of the eight places for CPUs: how many count words were collected for the slot's entry, and their sum
+-- Of the places for CPUs: how many count words were collected for the slot's entry, and their sum
 
 abbrev pub sum_below : (ℕ → ℕ) → ℕ → ℕ
 sum_below f zero = 0
@@ -275,10 +276,10 @@ word_or_none None = 0
 word_or_none (Some w) = w
 
 abbrev pub words_collected : ℕ → List LogItem → ℕ
-words_collected t log = sum_below (λ c. is_there (word_collected t c log)) 8
+words_collected t log = sum_below (λ c. is_there (word_collected t c log)) MOST_CPUS
 
 abbrev pub sum_collected : ℕ → List LogItem → ℕ
-sum_collected t log = sum_below (λ c. word_or_none (word_collected t c log)) 8
+sum_collected t log = sum_below (λ c. word_or_none (word_collected t c log)) MOST_CPUS
 
 -- The total of an occupied slot is by the log: the words that were collected, less the references given up. What is due counts until it is done.
 pub record AreTotalsOf (log : List LogItem) (s : State) : Type 0 where

@@ -4,6 +4,7 @@ use mathlib.Core.Option.{some}
 use lib.ListN.{get_elem?}
 use Rattle.atomic_table.specs.Seated.{TableId}
 use Rattle.registry_values.specs.declared.settings.Settings.{Settings}
+use Rattle.registry_values.specs.declared.settings.TheConstants.{MOST_SLOTS}
 use Rattle.protocol.specs.declared.state.Due.TheVariants.{Rest}
 use Rattle.registry_values.specs.Balances.{bias}
 use Rattle.cpu_words.specs.declared.view.CpuView.{CpuView}
@@ -35,7 +36,7 @@ next_seat v = Cpu (new_cpu (keeper_of v).settings (keeper_of v).seated)
 pub record AreOpening (words : List ℕ) : Type 0 where
   pub size : length words ≡ WORDS
   pub unused : (i : ℕ) → i < TOTALS → slice_index words i ≡ 0
-  pub totals : (t : ℕ) → t < 32 → slice_index words (index (total_of t)) ≡ bias
+  pub totals : (t : ℕ) → t < MOST_SLOTS → slice_index words (index (total_of t)) ≡ bias
 
 -- the seats of the first n CPUs, CPU 0 first
 pub record AreSeats (table : TableId) (z : Settings) (n : ℕ) (seats : List (Seated CpuView)) : Type 0 where

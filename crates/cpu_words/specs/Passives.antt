@@ -1,6 +1,7 @@
 -- Passive references by a CPU's seat: where it may make the step, and what changes in its view.
 use Rattle.std.specs.Prelude.{◌≡◌, ◌⊎◌, ℕ, ◌<◌, ◌∷◌, Some, true}
 use Rattle.std.specs.List.{Contains}
+use Rattle.registry_values.specs.declared.settings.TheConstants.{MOST_SLOTS}
 use Rattle.registry_values.specs.declared.entry.Entry.{Entry}
 use Rattle.protocol.specs.declared.event.Event.{Event}
 use Rattle.protocol.specs.declared.event.Event.TheVariants.{PassiveAdd, PassiveSub, LoadRecord}
@@ -60,7 +61,7 @@ IsAloneAt x t n = (f : Entry) → Contains x.references f → f.slot ≡ t → f
 
 abbrev pub tells_added : Event → ℕ → CpuView → ℕ → CpuView → Type 0
 tells_added event i x m y = Makes event (Word m) (Cpu x) (Cpu y)
-    × ((c t n : ℕ) → event ≡ PassiveAdd c n → i ≡ index (passive_of c t) → HasAdded x t n y × (t < 32) × (m ≡ references_to n x.references) × IsAloneAt x t n)
+    × ((c t n : ℕ) → event ≡ PassiveAdd c n → i ≡ index (passive_of c t) → HasAdded x t n y × (t < MOST_SLOTS) × (m ≡ references_to n x.references) × IsAloneAt x t n)
 
 abbrev pub tells_subtracted : Event → ℕ → CpuView → ℕ → CpuView → Type 0
 tells_subtracted event i x m y = Makes event (Word m) (Cpu x) (Cpu y)

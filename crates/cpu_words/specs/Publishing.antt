@@ -1,5 +1,6 @@
 -- Publish and Unpublish by the keeper's seat: one store of a link each, which the keeper knows from the live numbers of its own view.
 use Rattle.std.specs.Prelude.{◌≡◌, ℕ, suc, ◌+◌, ◌<◌, ◌≤◌, true, false, List, length, replicate, slice_index_or, slice_set, Option, Some, None}
+use Rattle.registry_values.specs.declared.settings.TheConstants.{MOST_CPUS, MOST_SLOTS}
 use Rattle.registry_values.specs.declared.entry.Entry.{Entry}
 use Rattle.registry_values.specs.declared.entry.Change.TheVariants.{Attach, Detach}
 use Rattle.protocol.specs.declared.event.Event.{Event}
@@ -61,7 +62,7 @@ link_index (Some q) = index (next_of q)
 -- the slot is one that a table can have
 abbrev pub IsLinkPlace : Option ℕ → Type 0
 IsLinkPlace None = Unit {0}
-IsLinkPlace (Some q) = q < 32
+IsLinkPlace (Some q) = q < MOST_SLOTS
 
 -- the slot t is live, p is the slot before it, and the link v leads to what is below it
 pub record MayUnpublish (k : KeeperView) (t : ℕ) (p : Option ℕ) (v : ℕ) : Type 0 where
@@ -87,7 +88,7 @@ keeper_after_unpublish k t e p v = record k {
   next = links_with k.next p v;
   history = after_change k.history (Detach e.number);
   slots = slice_set k.slots t (Retired e);
-  marks = slice_set k.marks t (replicate 8 no_mark);
+  marks = slice_set k.marks t (replicate MOST_CPUS no_mark);
   due = Snapshots t 0;
 }
 

@@ -6,6 +6,7 @@ use Rattle.registry_values.specs.declared.entry.Kind.{Kind}
 use Rattle.registry_values.specs.declared.entry.Entry.{Entry}
 use Rattle.registry_values.specs.declared.entry.Change.{Change}
 use Rattle.registry_values.specs.declared.settings.Settings.{Settings}
+use Rattle.registry_values.specs.declared.settings.TheConstants.{MOST_SLOTS}
 use Rattle.registry_values.specs.Names.{are_name_words}
 use Rattle.protocol.specs.declared.event.Event.{Event}
 use Rattle.protocol.specs.declared.event.Event.TheVariants.{Seek, LoadLink}
@@ -68,7 +69,7 @@ cpu_after_link x q (suc t) p = record x { pass = p; search = Some (search_with_p
 -- to have missed is lawful in the CPU's own pass, at some point from the start of the search on; else the link names a slot
 abbrev pub LinkHolds : Settings → Search → ℕ → List Change → Type 0
 LinkHolds z q zero p = IsLawful p q.start (length p) q.key None
-LinkHolds z q (suc t) p = (t < z.slots) × (t < 32)
+LinkHolds z q (suc t) p = (t < z.slots) × (t < MOST_SLOTS)
 
 -- the search q may stand on the entry e in the slot t, as the pass p tells
 abbrev pub MayStandOn : List Change → Search → ℕ → Entry → Type 0

@@ -1,5 +1,6 @@
 -- A retired slot with all its marks is vacated, and a vacant slot may be written. Vacate changes no word: the load that tells of it is one of the head.
 use Rattle.std.specs.Prelude.{◌≡◌, ℕ, ◌<◌, [], replicate, slice_index_or, slice_set, None, true}
+use Rattle.registry_values.specs.declared.settings.TheConstants.{MOST_CPUS}
 use Rattle.registry_values.specs.declared.entry.Entry.{Entry}
 use Rattle.protocol.specs.declared.event.Event.{Event}
 use Rattle.protocol.specs.declared.event.Event.TheVariants.{Vacate}
@@ -26,7 +27,7 @@ pub record MayVacate (k : KeeperView) (t : ℕ) : Type 0 where
 
 -- its count words are 0, as they were collected
 abbrev pub keeper_after_vacate : KeeperView → ℕ → KeeperView
-keeper_after_vacate k t = record k { slots = slice_set k.slots t Vacant; counts = slice_set k.counts t (replicate 8 0) }
+keeper_after_vacate k t = record k { slots = slice_set k.slots t Vacant; counts = slice_set k.counts t (replicate MOST_CPUS 0) }
 
 -- the keeper is at rest and has the slot as vacant: it may write into it
 pub record MayWrite (k : KeeperView) (t : ℕ) : Type 0 where

@@ -7,6 +7,7 @@ use Rattle.registry_values.specs.declared.entry.Entry.{Entry}
 use Rattle.registry_values.specs.declared.entry.Kind.TheVariants.{Driver}
 use Rattle.registry_values.specs.declared.entry.Change.{Change}
 use Rattle.registry_values.specs.declared.settings.Settings.{Settings}
+use Rattle.registry_values.specs.declared.settings.TheConstants.{MOST_CPUS}
 use Rattle.registry_values.specs.declared.slot.Slot.{Slot}
 use Rattle.registry_values.specs.declared.slot.Slot.TheVariants.{Vacant, Live, Retired}
 use Rattle.registry_values.specs.declared.mark.Mark.{Mark}
@@ -222,14 +223,14 @@ new_keeper z = record {
   seated = 0;
   history = [];
   slots = replicate z.slots Vacant;
-  marks = replicate z.slots (replicate 8 no_mark);
+  marks = replicate z.slots (replicate MOST_CPUS no_mark);
   keeps = replicate z.slots None;
   due = Rest;
   head = 0;
   next = replicate z.slots 0;
   rows = replicate z.slots no_words;
   totals = replicate z.slots bias;
-  counts = replicate z.slots (replicate 8 0);
+  counts = replicate z.slots (replicate MOST_CPUS 0);
   given_up = [];
   looks = 0;
   last_look = None;

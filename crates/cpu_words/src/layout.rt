@@ -16,27 +16,23 @@
 ghost use Rattle.std.specs.Prelude.{◌≡◌, ◌<◌, ◌≤◌, ◌-◌};
 ghost use Rattle.cpu_words.specs.Spots.{section_of, passive_of, count_of, next_of, record_of, total_of, index, LinesApart, OnePlace, FirstWordsFree};
 
-/// The most CPUs.
-const CPUS: usize = 8;
-
-/// The most slots.
-const SLOTS: usize = 32;
+use registry_values::{MOST_CPUS, MOST_SLOTS};
 
 /// The row of CPU 0. Whoever cuts a seat in two or joins two loads word 0, so that its line is in many caches: none of the words lies on
 /// it, nor on the next one, which a processor may fetch with it.
 const ROWS: usize = 16;
 
-/// From a CPU's row to the next one: 65 words, and 15 that no one writes.
-const ROW: usize = 80;
-
 /// In a row, the passive word of slot 0.
 const PASSIVES: usize = 1;
 
 /// In a row, the count word of slot 0.
-const COUNTS: usize = PASSIVES + SLOTS;
+const COUNTS: usize = PASSIVES + MOST_SLOTS;
+
+/// From a CPU's row to the next one: its words, and 15 that no one writes.
+const ROW: usize = COUNTS + MOST_SLOTS + 15;
 
 /// The head of the list: a line behind the rows, and a line before the links.
-pub(crate) const HEAD: usize = ROWS + ROW * CPUS + 8;
+pub(crate) const HEAD: usize = ROWS + ROW * MOST_CPUS + 8;
 
 /// The link of slot 0.
 const NEXTS: usize = HEAD + 8;
@@ -48,10 +44,10 @@ const RECORDS: usize = NEXTS + 1;
 const LINE: usize = 8;
 
 /// The total of slot 0.
-pub(crate) const TOTALS: usize = NEXTS + LINE * SLOTS;
+pub(crate) const TOTALS: usize = NEXTS + LINE * MOST_SLOTS;
 
 /// How many words a table has.
-pub(crate) const WORDS: usize = TOTALS + SLOTS;
+pub(crate) const WORDS: usize = TOTALS + MOST_SLOTS;
 
 /// The place of a CPU's section word.
 pub(crate) fn section_place(cpu: u8) -> usize
@@ -83,7 +79,7 @@ pub(crate) fn next_place(slot: u8) -> usize
 
 /// The place of the link of the slot that `link` leads to, `link - 1`. By the link, so that no subtraction stands before the load (`load_link`).
 pub(crate) fn place_behind(link: u64) -> usize
-    requires slot { (0 < link) × (link ≤ 32) }
+    requires slot { (0 < link) × (link ≤ MOST_SLOTS) }
     ensures place { result ≡ index (next_of (link - 1)) }
 {
     NEXTS - LINE + LINE * link as usize
@@ -91,7 +87,7 @@ pub(crate) fn place_behind(link: u64) -> usize
 
 /// The place of word `k` of a slot's record. The slot is as wide as an address, as a search has it.
 pub(crate) fn record_place(slot: usize, k: u8) -> usize
-    requires slot { slot < 32 }
+    requires slot { slot < MOST_SLOTS }
     ensures place { result ≡ index (record_of slot k) }
 {
     RECORDS + LINE * slot + k as usize

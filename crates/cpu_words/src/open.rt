@@ -11,7 +11,7 @@ use crate::layout::{TOTALS, WORDS};
 use crate::seat::{CpuSeat, KeeperSeat};
 use crate::steps::seat;
 use atomic_table::Table;
-use registry_values::{BIAS, Refusal, Settings};
+use registry_values::{BIAS, MOST_SLOTS, Refusal, Settings};
 use std::alloc::{AllocError, Global};
 
 impl Words {
@@ -59,7 +59,7 @@ fn opening_words() -> [u64; WORDS]
     ensures { AreOpening result }
 {
     let mut words = [0; WORDS];
-    for t in 0..32 {
+    for t in 0..MOST_SLOTS {
         words[TOTALS + t] = BIAS;
     }
     words

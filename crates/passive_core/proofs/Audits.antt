@@ -6,6 +6,7 @@ use Rattle.std.proofs.lemmas.Int.{ints}
 use Rattle.std.proofs.lemmas.List.{append-nil, map-append, take_more}
 use Rattle.std.proofs.lemmas.List.Elements.{All-cons, All-head, All-nil, All-tail}
 use Rattle.std.proofs.lemmas.List.Sums.{sum_by-cons}
+use Rattle.registry_values.specs.declared.settings.TheConstants.{MOST_CPUS}
 use Rattle.registry_values.specs.declared.balance.Balance.{Balance}
 use Rattle.registry_values.specs.declared.entry.Entry.{Entry}
 use Rattle.registry_values.specs.declared.slot.Slot.{Slot}
@@ -151,5 +152,5 @@ row_long s c t e on is low = omega (arith, low, on.shape.count_rows t (omega (ar
 pub slot_within : (s : State) (t : ℕ) (e : Entry) → Holds s → IsIn e (slot_at s.slots t) → t < s.settings.slots
 slot_within s t e on is = omega (arith, in_within s.slots t e is, on.shape.slots)
 
-pub few_locals : (s : State) (t : ℕ) → Holds s → length (locals_at s t) ≤ 8
+pub few_locals : (s : State) (t : ℕ) → Holds s → length (locals_at s t) ≤ MOST_CPUS
 few_locals s t on = omega (arith, locals_few s.settings.cpus (get_or s.counts t []), (ranges s.settings on.fit).cpus)

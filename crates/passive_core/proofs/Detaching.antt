@@ -4,6 +4,7 @@ use Rattle.std.specs.Prelude.{if◌then◌else◌, position}
 use Rattle.std.proofs.lemmas.Bool.{eq-eqb, lt-ltb, le-ltb}
 use Rattle.std.proofs.lemmas.List.{append_assoc, length-map, length-take-le, map_more, set-set, set-get_or, set_at, take_all}
 use Rattle.std.proofs.lemmas.List.Quantifiers.{position-Some}
+use Rattle.registry_values.specs.declared.settings.TheConstants.{MOST_CPUS}
 use Rattle.registry_values.specs.declared.entry.Entry.{Entry}
 use Rattle.protocol.specs.declared.event.Reply.{Reply}
 use Rattle.protocol.specs.declared.event.Reply.TheVariants.{Done, Word}
@@ -73,19 +74,19 @@ refused_rightly s c key false None f outside lookup is = subst (IsDetachRefusal 
 refused_rightly s c key false (Some e) f outside lookup is = absurd (let q : ◌≡◌ {A = Result Entry Refusal} (Err f) (Ok e) = is in cc)
 
 -- one more mark of a row whose first k are the snapshots
-row_more : (xs : List ℕ) (k : ℕ) → k < length xs → k < 8
-    → set (map snapshot_mark (take k xs) ++ replicate (8 - k) no_mark) k (snapshot_mark (get_or xs k 0)) ≡ map snapshot_mark (take (k + 1) xs) ++ replicate (8 - (k + 1)) no_mark
+row_more : (xs : List ℕ) (k : ℕ) → k < length xs → k < MOST_CPUS
+    → set (map snapshot_mark (take k xs) ++ replicate (MOST_CPUS - k) no_mark) k (snapshot_mark (get_or xs k 0)) ≡ map snapshot_mark (take (k + 1) xs) ++ replicate (MOST_CPUS - (k + 1)) no_mark
 row_more xs k lt small =
-    let rest : 8 - k ≡ suc (8 - (k + 1)) = omega arith in
+    let rest : MOST_CPUS - k ≡ suc (MOST_CPUS - (k + 1)) = omega arith in
     let reach : length (map snapshot_mark (take k xs)) ≡ k = length-map (take k xs) snapshot_mark ∙ length-take-le k xs (omega arith) in
     ap (λ (n : ℕ). set (map snapshot_mark (take k xs) ++ replicate n no_mark) k (snapshot_mark (get_or xs k 0))) rest
-    ∙ (set_at (map snapshot_mark (take k xs)) no_mark (replicate (8 - (k + 1)) no_mark) (snapshot_mark (get_or xs k 0)) k reach
-    ∙ (sym (append_assoc (map snapshot_mark (take k xs)) (snapshot_mark (get_or xs k 0) ∷ []) (replicate (8 - (k + 1)) no_mark))
-    ∙ ap (λ (row : List Mark). row ++ replicate (8 - (k + 1)) no_mark) (sym (map_more snapshot_mark xs k 0 lt))))
+    ∙ (set_at (map snapshot_mark (take k xs)) no_mark (replicate (MOST_CPUS - (k + 1)) no_mark) (snapshot_mark (get_or xs k 0)) k reach
+    ∙ (sym (append_assoc (map snapshot_mark (take k xs)) (snapshot_mark (get_or xs k 0) ∷ []) (replicate (MOST_CPUS - (k + 1)) no_mark))
+    ∙ ap (λ (row : List Mark). row ++ replicate (MOST_CPUS - (k + 1)) no_mark) (sym (map_more snapshot_mark xs k 0 lt))))
 
 -- the snapshots of the CPUs below k for t were taken
 abbrev pub row_so_far : State → ℕ → List Mark
-row_so_far s k = map snapshot_mark (take k s.section) ++ replicate (8 - k) no_mark
+row_so_far s k = map snapshot_mark (take k s.section) ++ replicate (MOST_CPUS - k) no_mark
 
 abbrev pub due_from : State → ℕ → ℕ → Due
 due_from s t k = if nat_lt k s.settings.cpus then Snapshots t k else Rest
@@ -94,11 +95,11 @@ abbrev pub snapping : State → ℕ → ℕ → State
 snapping s t k = record s { marks = set s.marks t (row_so_far s k); due = due_from s t k }
 
 -- before the first
-pub snapping_starts : (s : State) (t : ℕ) → Holds s → s.due ≡ Snapshots t 0 → get_or s.marks t [] ≡ replicate 8 no_mark → s ≡ snapping s t 0
+pub snapping_starts : (s : State) (t : ℕ) → Holds s → s.due ≡ Snapshots t 0 → get_or s.marks t [] ≡ replicate MOST_CPUS no_mark → s ≡ snapping s t 0
 snapping_starts s t on due blank =
     let some : nat_lt 0 s.settings.cpus ≡ true = lt-ltb 0 s.settings.cpus (ranges s.settings on.fit).some_cpu in
     let first : s.due ≡ due_from s t 0 = due ∙ ap (λ (b : Bool). if b then Snapshots t 0 else Rest) (sym some) in
-    let marks : s.marks ≡ set s.marks t (replicate 8 no_mark) = sym (set-get_or s.marks t []) ∙ ap (set s.marks t) blank in
+    let marks : s.marks ≡ set s.marks t (replicate MOST_CPUS no_mark) = sym (set-get_or s.marks t []) ∙ ap (set s.marks t) blank in
     λ i. record s { marks = marks i; due = first i }
 
 -- after the last
@@ -106,10 +107,10 @@ pub snapping_ends : (s : State) (t : ℕ) → Holds s → snapping s t s.setting
 snapping_ends s t on =
     let none : nat_lt s.settings.cpus s.settings.cpus ≡ false = le-ltb s.settings.cpus s.settings.cpus (omega arith) in
     let all : take s.settings.cpus s.section ≡ s.section = take_all s.settings.cpus s.section (omega (arith, on.shape.sections)) in
-    λ i. record s { marks = set s.marks t (map snapshot_mark (all i) ++ replicate (8 - s.settings.cpus) no_mark); due = if none i then Snapshots t s.settings.cpus else Rest }
+    λ i. record s { marks = set s.marks t (map snapshot_mark (all i) ++ replicate (MOST_CPUS - s.settings.cpus) no_mark); due = if none i then Snapshots t s.settings.cpus else Rest }
 
 -- and the next one
-pub snap_more : (s : State) (t k : ℕ) → t < length s.marks → k < length s.section → k < 8 → after_snapshot (snapping s t k) t k ≡ snapping s t (k + 1)
+pub snap_more : (s : State) (t k : ℕ) → t < length s.marks → k < length s.section → k < MOST_CPUS → after_snapshot (snapping s t k) t k ≡ snapping s t (k + 1)
 snap_more s t k lt within small =
     let row : get_or (set s.marks t (row_so_far s k)) t [] ≡ row_so_far s k = get_or-set_same s.marks t (row_so_far s k) [] lt in
     let marks : set (set s.marks t (row_so_far s k)) t (set (get_or (set s.marks t (row_so_far s k)) t []) k (snapshot_mark (section_at s k))) ≡ set s.marks t (row_so_far s (k + 1)) =
@@ -138,11 +139,11 @@ snap_turns s u v t k r on due lt is made =
     ∙ snap_more s t k (due_within s t on due) (omega (arith, on.shape.sections)) (omega (arith, (ranges s.settings on.fit).cpus, lt)))
 
 -- What an unlinking leaves alone: the link of the one before is a word, and so is the head.
-blank_by : (s : State) (t : ℕ) (e : Entry) (before : Option ℕ) → t < length s.marks → get_or (with_retired (with_link_past s t before) t e).marks t [] ≡ replicate 8 no_mark
-blank_by s t e None lt = get_or-set_same s.marks t (replicate 8 no_mark) [] lt
-blank_by s t e (Some p) lt = get_or-set_same s.marks t (replicate 8 no_mark) [] lt
+blank_by : (s : State) (t : ℕ) (e : Entry) (before : Option ℕ) → t < length s.marks → get_or (with_retired (with_link_past s t before) t e).marks t [] ≡ replicate MOST_CPUS no_mark
+blank_by s t e None lt = get_or-set_same s.marks t (replicate MOST_CPUS no_mark) [] lt
+blank_by s t e (Some p) lt = get_or-set_same s.marks t (replicate MOST_CPUS no_mark) [] lt
 
-pub unlinked_blank : (s u : State) (e : Entry) → Holds s → slot_at s.slots e.slot ≡ Live e → u ≡ after_unpublish (all_seated s) e.slot e → get_or u.marks e.slot [] ≡ replicate 8 no_mark
+pub unlinked_blank : (s u : State) (e : Entry) → Holds s → slot_at s.slots e.slot ≡ Live e → u ≡ after_unpublish (all_seated s) e.slot e → get_or u.marks e.slot [] ≡ replicate MOST_CPUS no_mark
 unlinked_blank s u e on live is =
     ap (λ (x : State). get_or x.marks e.slot []) is
     ∙ blank_by (all_seated s) e.slot e (slot_before s.slots s.next e.slot) (omega (arith, in_within s.slots e.slot e (inl live), on.shape.slots, on.shape.marks))

@@ -21,6 +21,7 @@ use Rattle.registry_values.specs.Balances.{bias}
 use Rattle.registry_values.specs.Marks.{no_mark}
 use Rattle.registry_values.specs.declared.entry.Entry.{Entry}
 use Rattle.registry_values.specs.declared.settings.Settings.{Settings}
+use Rattle.registry_values.specs.declared.settings.TheConstants.{MOST_CPUS}
 use Rattle.registry_values.specs.Slots.{slot_at, slot_before, slot_of}
 use Rattle.registry_values.specs.declared.slot.Slot.TheVariants.{Live}
 use Rattle.protocol.specs.declared.state.Due.TheVariants.{Snapshots}
@@ -188,7 +189,7 @@ snapshots_on s t k (suc n) on due all =
       subst (λ (x : State). Makes x (snapshots_from t (k + 1) n) (with_all_snapshots s t)) (sym more) (snapshots_on s t (k + 1) n on due (omega (arith, all))),
     )
 
-pub snapshots_make : (s : State) (t : ℕ) → Holds s → s.due ≡ Snapshots t 0 → get_or s.marks t [] ≡ replicate 8 no_mark → Makes s (snapshots_from t 0 s.settings.cpus) (with_all_snapshots s t)
+pub snapshots_make : (s : State) (t : ℕ) → Holds s → s.due ≡ Snapshots t 0 → get_or s.marks t [] ≡ replicate MOST_CPUS no_mark → Makes s (snapshots_from t 0 s.settings.cpus) (with_all_snapshots s t)
 snapshots_make s t on due blank =
     subst (λ (x : State). Makes x (snapshots_from t 0 s.settings.cpus) (with_all_snapshots s t)) (sym (snapping_starts s t on due blank)) (snapshots_on s t 0 s.settings.cpus on due (omega arith))
 

@@ -1,5 +1,6 @@
 -- What a detach answers, and what it leaves.
 use Rattle.std.specs.Prelude.{◌≡◌, ℕ, ◌-◌, List, ◌++◌, map, length, replicate, Option, Some, None, Result, Ok, Err, true, false, slice_set}
+use Rattle.registry_values.specs.declared.settings.TheConstants.{MOST_CPUS}
 use Rattle.registry_values.specs.declared.entry.Entry.{Entry}
 use Rattle.registry_values.specs.declared.refusal.Refusal.{Refusal}
 use Rattle.registry_values.specs.declared.refusal.Refusal.TheVariants.{NoMemory, Inside, NotFound}
@@ -14,7 +15,7 @@ use Rattle.registry_values.specs.Marks.{no_mark}
 
 -- of each CPU its section word as the snapshot, and no marks
 abbrev pub snapshot_row : State → List Mark
-snapshot_row s = map snapshot_mark s.section ++ replicate (8 - s.settings.cpus) no_mark
+snapshot_row s = map snapshot_mark s.section ++ replicate (MOST_CPUS - s.settings.cpus) no_mark
 
 -- all snapshots for the slot were taken
 abbrev pub with_all_snapshots : State → ℕ → State

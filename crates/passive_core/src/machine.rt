@@ -19,7 +19,7 @@ ghost use Rattle.protocol.specs.State.{opening};
 ghost use Rattle.passive_core.specs.Commands.{IsQuiet};
 
 use protocol::{Due, Hand, LocalPlace, RecordWords, Search, StepFault};
-use registry_values::{BIAS, Change, Entry, Mark, NO_MARK, Refusal, Settings, Slot};
+use registry_values::{BIAS, Change, Entry, MOST_CPUS, Mark, NO_MARK, Refusal, Settings, Slot};
 pub use run::run_events;
 use std::alloc::{AllocError, Global};
 use std::marker::Model;
@@ -41,8 +41,8 @@ pub struct Core {
     head: u64,
     next: Vec<u64>,
     rows: Vec<RecordWords>,
-    passive: Vec<[u64; 8]>,
-    counts: Vec<[u64; 8]>,
+    passive: Vec<[u64; MOST_CPUS]>,
+    counts: Vec<[u64; MOST_CPUS]>,
     totals: Vec<u64>,
     history: Vec<Change>,
     seated: u8,
@@ -52,9 +52,9 @@ pub struct Core {
     searches: Vec<Option<Search>>,
     found: Vec<Option<Entry>>,
     hands: Vec<Hand>,
-    nets: Vec<[u64; 8]>,
+    nets: Vec<[u64; MOST_CPUS]>,
     slots: Vec<Slot>,
-    marks: Vec<[Mark; 8]>,
+    marks: Vec<[Mark; MOST_CPUS]>,
     keeps: Vec<Option<u64>>,
     due: Due,
     locals: Vec<LocalPlace>,
@@ -102,8 +102,8 @@ impl Core {
             head: 0,
             next: repeated(alloc, 0, slots)?,
             rows: repeated(alloc, NO_WORDS, slots)?,
-            passive: repeated(alloc, [0; 8], slots)?,
-            counts: repeated(alloc, [0; 8], slots)?,
+            passive: repeated(alloc, [0; MOST_CPUS], slots)?,
+            counts: repeated(alloc, [0; MOST_CPUS], slots)?,
             totals: repeated(alloc, BIAS, slots)?,
             history: Vec::new(alloc),
             seated: 0,
@@ -113,9 +113,9 @@ impl Core {
             searches: repeated(alloc, None, cpus)?,
             found: repeated(alloc, None, cpus)?,
             hands: repeated(alloc, Hand::Empty, cpus)?,
-            nets: repeated(alloc, [0; 8], slots)?,
+            nets: repeated(alloc, [0; MOST_CPUS], slots)?,
             slots: repeated(alloc, Slot::Vacant, slots)?,
-            marks: repeated(alloc, [NO_MARK; 8], slots)?,
+            marks: repeated(alloc, [NO_MARK; MOST_CPUS], slots)?,
             keeps: repeated(alloc, None, slots)?,
             due: Due::Rest,
             locals: Vec::new(alloc),

@@ -1,6 +1,7 @@
 -- The events, a line each: where it is allowed, the state that it leaves, and its reply.
 use Rattle.std.specs.Prelude.{ℕ, zero, suc, ◌+◌, ◌-◌, ◌*◌, ◌==◌, nat_lt, List, ◌∷◌, [], ◌++◌, length, replicate, position, Option, Some, None, is_none, is_some, Bool, true, false, not, ◌&&◌, ◌||◌, if◌then◌else◌, slice_index_or, slice_set, take}
 use Rattle.std.specs.List.{list_all}
+use Rattle.registry_values.specs.declared.settings.TheConstants.{MOST_CPUS}
 use Rattle.registry_values.specs.declared.answer.Room.{Room}
 use Rattle.registry_values.specs.declared.entry.Kind.{Kind}
 use Rattle.registry_values.specs.declared.entry.Kind.TheVariants.{Iface, Driver}
@@ -255,7 +256,7 @@ after_publish s t e = record s {
   head = t + 1;
   history = after_change s.history (Attach e);
   slots = slice_set s.slots t (Live e);
-  nets = slice_set s.nets t (replicate 8 bias);
+  nets = slice_set s.nets t (replicate MOST_CPUS bias);
 }
 
 -- the entry e of t is retired, without marks, and all snapshots are due
@@ -263,7 +264,7 @@ abbrev pub with_retired : State → ℕ → Entry → State
 with_retired s t e = record s {
   history = after_change s.history (Detach e.number);
   slots = slice_set s.slots t (Retired e);
-  marks = slice_set s.marks t (replicate 8 no_mark);
+  marks = slice_set s.marks t (replicate MOST_CPUS no_mark);
   due = Snapshots t 0;
 }
 

@@ -4,6 +4,7 @@ use Rattle.registry_values.specs.declared.entry.Kind.TheVariants.{Driver}
 use Rattle.registry_values.specs.declared.entry.Entry.{Entry}
 use Rattle.registry_values.specs.declared.entry.Change.{Change}
 use Rattle.registry_values.specs.declared.settings.Settings.{Settings}
+use Rattle.registry_values.specs.declared.settings.TheConstants.{MOST_CPUS}
 use Rattle.registry_values.specs.declared.slot.Key.{Key}
 use Rattle.protocol.specs.declared.state.RecordWords.{RecordWords}
 use Rattle.registry_values.specs.declared.slot.Slot.{Slot}
@@ -36,7 +37,7 @@ Occupies slots n = (t : ℕ) × (e : Entry) × IsIn e (slot_at slots t) × (e.nu
 
 -- each row has a place for each CPU that there may be
 abbrev pub AreRows : {X : Type 0} → List (List X) → Type 0
-AreRows rows = (t : ℕ) → t < length rows → length (slice_index_or rows t []) ≡ 8
+AreRows rows = (t : ℕ) → t < length rows → length (slice_index_or rows t []) ≡ MOST_CPUS
 
 pub record HasShape (s : State) : Type 0 where
   pub sections : length s.section ≡ s.settings.cpus
@@ -216,7 +217,7 @@ greatest_limit = 1099511627776
 -- the words of all CPUs, the total and what is to be added, less their biases, are the references held
 pub record Balances (row : List ℕ) (total held adding is_adding : ℕ) : Type 0 where
   pub even : sum_by itself row + total + adding ≡ held + bias * (1 + sum_by one_if_used row + is_adding)
-  pub capped : total + adding + greatest_limit * sum_by one_if_used row ≤ bias * (1 + is_adding) + greatest_limit * 8
+  pub capped : total + adding + greatest_limit * sum_by one_if_used row ≤ bias * (1 + is_adding) + greatest_limit * MOST_CPUS
 
 -- the word of the CPU counts: it isn't collected
 abbrev pub IsCounting : List Slot → List (List Mark) → ℕ → ℕ → Type 0

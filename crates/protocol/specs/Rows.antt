@@ -4,6 +4,7 @@ use Rattle.registry_values.specs.declared.entry.Kind.TheVariants.{Driver}
 use Rattle.registry_values.specs.declared.entry.Entry.{Entry}
 use Rattle.registry_values.specs.declared.name.Name.{Name}
 use Rattle.registry_values.specs.declared.settings.Settings.{Settings}
+use Rattle.registry_values.specs.declared.settings.TheConstants.{MOST_CPUS}
 use Rattle.protocol.specs.declared.event.Event.{Event}
 use Rattle.protocol.specs.declared.event.Event.TheVariants.{Seat, Enter, Exit, Seek, LoadLink, LoadRecord, StoreSlot, StoreNext, Publish, Unpublish, Tell, Hear, Snapshot, Look, PassiveLook, CountAdd, SplitRef, JoinRef, CountDown, SplitBack, Collect, TotalAdd, JoinKeeper, TotalSub, Vacate}
 use Rattle.protocol.specs.declared.event.RecordOf.TheVariants.{Search as OfSearch}
@@ -108,7 +109,7 @@ all_three = record (opening two_cpus) {
   history = Attach first ∷ Attach second ∷ Attach third ∷ [];
   seated = 2;
   seen = 0 ∷ 3 ∷ [];
-  nets = replicate 3 (replicate 8 bias);
+  nets = replicate 3 (replicate MOST_CPUS bias);
   slots = Live first ∷ Live second ∷ Live third ∷ [];
 }
 
@@ -139,7 +140,7 @@ unlinked_case = record search_case {
   history = Attach first ∷ Attach second ∷ Attach third ∷ Detach 2 ∷ Detach 1 ∷ [];
   seen = 3 ∷ 5 ∷ [];
   slots = Retired first ∷ Retired second ∷ Live third ∷ [];
-  marks = marks_taken ∷ marks_taken ∷ replicate 8 no_mark ∷ [];
+  marks = marks_taken ∷ marks_taken ∷ replicate MOST_CPUS no_mark ∷ [];
 }
 
 -- the search goes on along it and finds wm0

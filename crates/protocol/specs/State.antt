@@ -3,6 +3,7 @@ use Rattle.std.specs.Prelude.{ℕ, List, [], false, Option, None, replicate, sli
 use Rattle.registry_values.specs.declared.entry.Entry.{Entry}
 use Rattle.registry_values.specs.declared.entry.Change.{Change}
 use Rattle.registry_values.specs.declared.settings.Settings.{Settings}
+use Rattle.registry_values.specs.declared.settings.TheConstants.{MOST_CPUS}
 use Rattle.protocol.specs.declared.state.RecordWords.{RecordWords}
 use Rattle.registry_values.specs.declared.slot.Slot.{Slot}
 use Rattle.registry_values.specs.declared.slot.Slot.TheVariants.{Vacant}
@@ -104,8 +105,8 @@ opening z = record {
   head = 0;
   next = replicate z.slots 0;
   rows = replicate z.slots no_words;
-  passive = replicate z.slots (replicate 8 0);
-  counts = replicate z.slots (replicate 8 0);
+  passive = replicate z.slots (replicate MOST_CPUS 0);
+  counts = replicate z.slots (replicate MOST_CPUS 0);
   totals = replicate z.slots bias;
   history = [];
   seated = 0;
@@ -115,9 +116,9 @@ opening z = record {
   searches = replicate z.cpus None;
   found = replicate z.cpus None;
   hands = replicate z.cpus Empty;
-  nets = replicate z.slots (replicate 8 0);
+  nets = replicate z.slots (replicate MOST_CPUS 0);
   slots = replicate z.slots Vacant;
-  marks = replicate z.slots (replicate 8 no_mark);
+  marks = replicate z.slots (replicate MOST_CPUS no_mark);
   keeps = replicate z.slots None;
   due = Rest;
   locals = [];

@@ -2,13 +2,14 @@
 use Rattle.std.proofs.Common.{◌≡◌, ℕ, ◌^◌, ◌≤◌, true, ◌&&◌, nat_le, IsTrue, leb-true}
 use Rattle.std.proofs.lemmas.Bool.{and_parts}
 use Rattle.registry_values.specs.declared.settings.Settings.{Settings}
+use Rattle.registry_values.specs.declared.settings.TheConstants.{MOST_CPUS, MOST_SLOTS}
 use Rattle.registry_values.specs.Limits.{is_within, are_sizes_fit, are_limits_fit, are_fit}
 
 pub record Ranges (z : Settings) : Type 0 where
   pub some_cpu : 1 ≤ z.cpus
-  pub cpus : z.cpus ≤ 8
+  pub cpus : z.cpus ≤ MOST_CPUS
   pub some_slot : 1 ≤ z.slots
-  pub slots : z.slots ≤ 32
+  pub slots : z.slots ≤ MOST_SLOTS
   pub changes : z.change_limit ≤ 1000000
   pub sections : z.section_limit ≤ 1099511627776
   pub passive : z.passive_limit ≤ 1099511627776
@@ -22,12 +23,12 @@ within least most number is =
 pub ranges : (z : Settings) → IsTrue (are_fit z) → Ranges z
 ranges z fit =
     let p = and_parts (are_sizes_fit z) (are_limits_fit z) fit in
-    let sizes = and_parts (is_within 1 8 z.cpus && is_within 1 32 z.slots) (is_within 1 1000000 z.change_limit) p.0 in
-    let places = and_parts (is_within 1 8 z.cpus) (is_within 1 32 z.slots) sizes.0 in
+    let sizes = and_parts (is_within 1 MOST_CPUS z.cpus && is_within 1 MOST_SLOTS z.slots) (is_within 1 1000000 z.change_limit) p.0 in
+    let places = and_parts (is_within 1 MOST_CPUS z.cpus) (is_within 1 MOST_SLOTS z.slots) sizes.0 in
     let limits = and_parts (is_within 1 (2 ^ 40) z.section_limit && is_within 1 (2 ^ 40) z.passive_limit) (is_within 1 (2 ^ 40) z.count_limit) p.1 in
     let first = and_parts (is_within 1 (2 ^ 40) z.section_limit) (is_within 1 (2 ^ 40) z.passive_limit) limits.0 in
-    let cpus = within 1 8 z.cpus places.0 in
-    let slots = within 1 32 z.slots places.1 in
+    let cpus = within 1 MOST_CPUS z.cpus places.0 in
+    let slots = within 1 MOST_SLOTS z.slots places.1 in
     record {
       some_cpu = cpus.0;
       cpus = cpus.1;

@@ -1,6 +1,7 @@
 -- The ranges of the settings.
 use Rattle.std.specs.Prelude.{ℕ, Bool, ◌&&◌, nat_le, ◌^◌}
 use Rattle.registry_values.specs.declared.settings.Settings.{Settings}
+use Rattle.registry_values.specs.declared.settings.TheConstants.{MOST_CPUS, MOST_SLOTS}
 
 -- both ends included
 abbrev pub is_within : ℕ → ℕ → ℕ → Bool
@@ -8,7 +9,7 @@ is_within least most number = nat_le least number && nat_le number most
 
 -- how large a registry is
 abbrev pub are_sizes_fit : Settings → Bool
-are_sizes_fit s = is_within 1 8 s.cpus && is_within 1 32 s.slots && is_within 1 1000000 s.change_limit
+are_sizes_fit s = is_within 1 MOST_CPUS s.cpus && is_within 1 MOST_SLOTS s.slots && is_within 1 1000000 s.change_limit
 
 -- how far its counts may go
 abbrev pub are_limits_fit : Settings → Bool

@@ -1,11 +1,13 @@
 //! What an audit says of an entry, and what its count words say.
 
-ghost use Rattle.std.specs.Prelude.{◌≡◌, ◌<◌, ◌≤◌, ◌^◌, ◌≤ℤ◌, ℕ, neg_ℤ, pos, length, slice_index_or};
+ghost use Rattle.std.specs.Prelude.{◌≡◌, ◌<◌, ◌≤◌, ◌*◌, ◌^◌, ◌≤ℤ◌, ℕ, neg_ℤ, pos, length, slice_index_or};
 ghost use Rattle.registry_values.specs.Balances.{less_bias, local_of, sum_of};
 
+use crate::settings::MOST_CPUS;
+
 /// Where counts begin: a count word in use is this plus the CPU's net count, and 0 once collected; a slot's total begins with it too. A CPU
-/// may release what another acquired, so a net count may be below 0, though never by more than 2^43: 8 CPUs with 2^40 references each. So a
-/// count word in use is never 0, and a sum of nine such words fits 64 bits.
+/// may release what another acquired, so a net count may be below 0, though never by more than 2^40 references of each of `MOST_CPUS` CPUs. So a
+/// count word in use is never 0, and the sum of all CPUs' words and the total fits 64 bits.
 pub const BIAS: u64 = 1 << 48;
 
 /// The local references held to a live or retired entry (localcount(9)), as the counts say it.
@@ -42,14 +44,14 @@ pub fn local_of(word: u64) -> i64
 }
 
 /// The sum of the net counts of an entry's CPUs.
-/// Condition: they are at most 8, each from -2^50 to 2^50.
+/// Condition: they are at most `MOST_CPUS`, each from -2^50 to 2^50.
 pub fn sum(numbers: &[i64]) -> i64
-    requires few { length numbers.now ≤ 8 }
+    requires few { length numbers.now ≤ MOST_CPUS }
     requires low { (k : ℕ) → k < length numbers.now → neg_ℤ (pos (2 ^ 50)) ≤ℤ slice_index_or numbers.now k (pos 0) }
     requires high { (k : ℕ) → k < length numbers.now → slice_index_or numbers.now k (pos 0) ≤ℤ pos (2 ^ 50) }
     ensures value { result ≡ sum_of numbers.now }
-    ensures least { neg_ℤ (pos (2 ^ 53)) ≤ℤ result }
-    ensures most { result ≤ℤ pos (2 ^ 53) }
+    ensures least { neg_ℤ (pos (MOST_CPUS * 2 ^ 50)) ≤ℤ result }
+    ensures most { result ≤ℤ pos (MOST_CPUS * 2 ^ 50) }
 {
     let mut sum = 0;
     for number in numbers {

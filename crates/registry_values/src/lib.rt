@@ -24,7 +24,7 @@ pub use mark::{
 };
 pub use name::{Name, NameFault, name_laws};
 pub use refusal::Refusal;
-pub use settings::Settings;
+pub use settings::{MOST_CPUS, MOST_SLOTS, Settings};
 pub use slot::{
     Key, Slot, are_words_of, has_number, is_available, is_live, is_live_as, is_retired_as, key_of,
     retired_number,

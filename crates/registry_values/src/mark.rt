@@ -4,6 +4,8 @@
 ghost use Rattle.std.specs.Prelude.{◌≡◌, ◌≤◌, false, not, slice_index_or};
 ghost use Rattle.registry_values.specs.Marks.{least_below, mark_after_look, mark_after_passive_look, mark_after_collect, is_out, has_changed, have_passed, are_clear, are_collected, is_some_collected};
 
+use crate::settings::MOST_CPUS;
+
 /// What is known of one CPU and a retired entry.
 #[derive(Clone, Copy, Debug, PartialEq, Eq)]
 pub struct Mark {
@@ -94,8 +96,8 @@ pub fn is_some_collected(cpus: u8, row: &[Mark]) -> bool
 }
 
 /// The least CPU, below `cpus`, that wasn't seen.
-pub fn first_unseen(cpus: u8, seen: &[bool; 8]) -> Option<u8>
-    requires { cpus ≤ 8 }
+pub fn first_unseen(cpus: u8, seen: &[bool; MOST_CPUS]) -> Option<u8>
+    requires { cpus ≤ MOST_CPUS }
     ensures { result ≡ least_below (λ c. not (slice_index_or seen.now c false)) cpus }
 {
     for c in 0..cpus {

@@ -5,15 +5,21 @@ ghost use Rattle.registry_values.specs.Limits.{is_within, are_sizes_fit, are_lim
 
 use crate::refusal::Refusal;
 
+/// The most CPUs that a registry may have.
+pub const MOST_CPUS: usize = 8;
+
+/// The most entries that a registry may hold at a time, and so the most slots.
+pub const MOST_SLOTS: usize = 32;
+
 /// The largest limit that a count may have, 2^40.
 const LARGEST_LIMIT: u64 = 1 << 40;
 
 /// How large a registry is, and how far its counts may go. `check` tells whether they can be used.
 #[derive(Clone, Copy, Debug, PartialEq, Eq)]
 pub struct Settings {
-    /// How many CPUs it has, 1 to 8.
+    /// How many CPUs it has, 1 to `MOST_CPUS`.
     pub cpus: u8,
-    /// How many entries it holds at a time, live and retired ones together, 1 to 32.
+    /// How many entries it holds at a time, live and retired ones together, 1 to `MOST_SLOTS`.
     pub slots: u8,
     /// How many changes its history has room for, 1 to 1,000,000.
     pub change_limit: u64,
@@ -41,8 +47,8 @@ impl Settings {
     fn are_sizes_fit(&self) -> bool
         ensures { result ≡ are_sizes_fit self.now }
     {
-        is_within(1, 8, u64::from(self.cpus))
-            && is_within(1, 32, u64::from(self.slots))
+        is_within(1, MOST_CPUS as u64, u64::from(self.cpus))
+            && is_within(1, MOST_SLOTS as u64, u64::from(self.slots))
             && is_within(1, 1_000_000, self.change_limit)
     }
 

@@ -5,6 +5,7 @@ use Rattle.std.proofs.lemmas.List.{length-replicate}
 use Rattle.std.proofs.lemmas.List.Sums.{sum_by-cons}
 use mathlib.Core.Logic.{dite}
 use native.Mathlib.Decide.{ℕ_discrete}
+use Rattle.registry_values.specs.declared.settings.TheConstants.{MOST_CPUS}
 use Rattle.registry_values.specs.declared.entry.Entry.{Entry}
 use Rattle.registry_values.specs.declared.entry.Change.{Change}
 use Rattle.registry_values.specs.declared.entry.Change.TheVariants.{Attach}
@@ -135,8 +136,8 @@ count_words words g c t w v h locals good agrees lt there =
     let size : length g.counts ≡ g.settings.slots = good.holds.shape.counts in
     let in_rows : t < length g.counts = omega arith in
     let fit = ranges g.settings good.holds.fit in
-    let most : g.settings.cpus ≤ 8 = fit.cpus in
-    let row : length (get_or g.counts t []) ≡ 8 = good.holds.shape.count_rows t in_rows in
+    let most : g.settings.cpus ≤ MOST_CPUS = fit.cpus in
+    let row : length (get_or g.counts t []) ≡ MOST_CPUS = good.holds.shape.count_rows t in_rows in
     let in_row : c < length (get_or g.counts t []) = omega arith in
     agrees_set words g (with_lists g (count_lists g c t w v h locals)) (count_of c t) w good.holds.fit agrees refl (lt, there) (cell_here 0 g.counts t c w in_rows in_row) (λ q is ne. other q ne)
   where
@@ -196,11 +197,11 @@ pub shown_count : (g : State) (x : CpuView) (e : Entry) (t w v : ℕ) (h : Hand)
     → Recount x e v acquired released → SameHand h k → HandFits g.history g.slots g.marks x.id k → CpuShown (with_lists g (count_lists g x.id t w v h locals)) (recounted g x t e.number (count_lists g x.id t w v h locals) k acquired released)
 shown_count g x e t w v h locals k acquired released good had here lt count same fits =
     let seen = seen_of g x good had in
-    let most : g.settings.cpus ≤ 8 = seen.fit.cpus in
+    let most : g.settings.cpus ≤ MOST_CPUS = seen.fit.cpus in
     let id : x.id < g.settings.cpus = seen.lt in
     let size : length g.nets ≡ g.settings.slots = good.holds.shape.nets in
     let in_rows : t < length g.nets = omega arith in
-    let row : length (get_or g.nets t []) ≡ 8 = good.holds.shape.net_rows t in_rows in
+    let row : length (get_or g.nets t []) ≡ MOST_CPUS = good.holds.shape.net_rows t in_rows in
     let in_row : x.id < length (get_or g.nets t []) = omega arith in
     let number : e.number ≤ length g.history = (at_within g.history e.number (Attach e) (attached_in g.history g.slots t e good.holds.slots here).0).1 in record {
       seated = had.seated;

@@ -11,6 +11,7 @@ use Rattle.atomic_table.specs.Table.{State as Table, keeps, stepped}
 use Rattle.registry_values.specs.declared.entry.Entry.{Entry}
 use Rattle.registry_values.specs.declared.entry.Change.{Change}
 use Rattle.registry_values.specs.declared.settings.Settings.{Settings}
+use Rattle.registry_values.specs.declared.settings.TheConstants.{MOST_SLOTS}
 use Rattle.protocol.specs.declared.event.Event.{Event}
 use Rattle.protocol.specs.declared.event.Event.TheVariants.{PassiveAdd, PassiveSub, LoadRecord}
 use Rattle.protocol.specs.declared.event.RecordOf.TheVariants.{Passive}
@@ -52,7 +53,7 @@ occupied g n (Some t) is must = slot_occupied g.slots n t is
 pub record Known (g : State) (x : CpuView) (e : Entry) : Type 0 where
   pub here : IsIn e (slot_at g.slots e.slot)
   pub lt : e.slot < g.settings.slots
-  pub few : e.slot < 32
+  pub few : e.slot < MOST_SLOTS
   pub of : slot_of g.slots e.number ≡ Some e.slot
   pub count : passive_at g.passive x.id e.slot ≡ references_to e.number x.references
   pub attached : IsAttached x.pass e

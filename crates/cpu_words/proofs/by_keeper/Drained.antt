@@ -2,6 +2,7 @@
 use Rattle.std.proofs.Common.{◌≡◌, ◌≢◌, ◌⊎◌, inl, inr, ⊎_elim, ℕ, ◌≤◌, ◌<◌, List, [], length, replicate, get_or, set, Option, true, eq-eqb, refl, sym, ap, ◌∙◌, subst, arith}
 use Rattle.std.proofs.lemmas.Bool.{cases_eq, cases_lt}
 use Rattle.std.proofs.lemmas.List.{append-nil, get_or_past}
+use Rattle.registry_values.specs.declared.settings.TheConstants.{MOST_CPUS}
 use Rattle.registry_values.specs.declared.entry.Entry.{Entry}
 use Rattle.registry_values.specs.declared.slot.Slot.{Slot}
 use Rattle.registry_values.specs.declared.slot.Slot.TheVariants.{Vacant, Retired}
@@ -87,20 +88,20 @@ vacated_leaves g t e totals keeps good drained = record {
         let was = in_vacated g.slots t v e h drained.retired here in
         was.0 ((one_number g.history g.slots u v f h good.holds.slots (inr gone) was.1 same).0 ∙ at)
 
-empty_row : (rows : List (List ℕ)) (t c : ℕ) → count_at (set rows t (replicate 8 0)) c t ≡ 0
+empty_row : (rows : List (List ℕ)) (t c : ℕ) → count_at (set rows t (replicate MOST_CPUS 0)) c t ≡ 0
 empty_row rows t c = ⊎_elim
-    (λ (is : (t ≡ t) × (get_or (set rows t (replicate 8 0)) t [] ≡ replicate 8 0)). ap (λ (x : List ℕ). get_or x c 0) is.1 ∙ get_or_all 8 0 c)
-    (λ (is : ((t ≡ t → ⊥) ⊎ (length rows ≤ t)) × (get_or (set rows t (replicate 8 0)) t [] ≡ get_or rows t [])). ap (λ (x : List ℕ). get_or x c 0) is.1 ∙ ⊎_elim
+    (λ (is : (t ≡ t) × (get_or (set rows t (replicate MOST_CPUS 0)) t [] ≡ replicate MOST_CPUS 0)). ap (λ (x : List ℕ). get_or x c 0) is.1 ∙ get_or_all MOST_CPUS 0 c)
+    (λ (is : ((t ≡ t → ⊥) ⊎ (length rows ≤ t)) × (get_or (set rows t (replicate MOST_CPUS 0)) t [] ≡ get_or rows t [])). ap (λ (x : List ℕ). get_or x c 0) is.1 ∙ ⊎_elim
     (λ (off : t ≡ t → ⊥). absurd (off refl))
     (λ (past : length rows ≤ t). ap (λ (x : List ℕ). get_or x c 0) (get_or_past rows t [] past))
     is.0)
-    (written_cases [] rows t (replicate 8 0) t)
+    (written_cases [] rows t (replicate MOST_CPUS 0) t)
 
 -- the count words of vacant slots, with those of t
-pub vacated_counts : (g : State) (k : KeeperView) (t : ℕ) (e : Entry) → KeeperShown g k → Drained g t e → (c u : ℕ) → slot_at (set g.slots t Vacant) u ≡ Vacant → count_at g.counts c u ≡ count_at (set k.counts t (replicate 8 0)) c u
+pub vacated_counts : (g : State) (k : KeeperView) (t : ℕ) (e : Entry) → KeeperShown g k → Drained g t e → (c u : ℕ) → slot_at (set g.slots t Vacant) u ≡ Vacant → count_at g.counts c u ≡ count_at (set k.counts t (replicate MOST_CPUS 0)) c u
 vacated_counts g k t e had drained c u vacant = ⊎_elim
-    (λ (is : u ≡ t). ap (count_at g.counts c) is ∙ drained.counts c ∙ sym (ap (count_at (set k.counts t (replicate 8 0)) c) is ∙ empty_row k.counts t c))
-    (λ (off : u ≢ t). had.counts c u (sym (slot_other g.slots t Vacant u off) ∙ vacant) ∙ sym (cell_in_old 0 k.counts t (replicate 8 0) u c off))
+    (λ (is : u ≡ t). ap (count_at g.counts c) is ∙ drained.counts c ∙ sym (ap (count_at (set k.counts t (replicate MOST_CPUS 0)) c) is ∙ empty_row k.counts t c))
+    (λ (off : u ≢ t). had.counts c u (sym (slot_other g.slots t Vacant u off) ∙ vacant) ∙ sym (cell_in_old 0 k.counts t (replicate MOST_CPUS 0) u c off))
     (cases_eq u t)
 
 -- what stands in the other slots

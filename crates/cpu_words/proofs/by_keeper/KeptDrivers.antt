@@ -3,6 +3,7 @@ use Rattle.std.proofs.Common.{length-set, ◌≡◌, inl, inr, ℕ, ◌+◌, ◌
 use Rattle.std.specs.Prelude.{slice_index}
 use Rattle.registry_values.specs.declared.entry.Entry.{Entry}
 use Rattle.registry_values.specs.declared.settings.Settings.{Settings}
+use Rattle.registry_values.specs.declared.settings.TheConstants.{MOST_CPUS}
 use Rattle.registry_values.specs.declared.slot.Slot.{Slot}
 use Rattle.registry_values.specs.declared.slot.Slot.TheVariants.{Vacant, Live, Retired}
 use Rattle.protocol.specs.declared.event.Event.TheVariants.{KeptSub}
@@ -61,14 +62,14 @@ abbrev giving_back : State → ℕ → ℕ → KeeperLists
 giving_back g t u = vacating g t (set g.totals u (total_at g.totals u - 1)) (set g.keeps t None)
 
 abbrev own_after : KeeperView → ℕ → ℕ → KeeperOwn
-own_after k t n = keeper_own (record k { counts = set k.counts t (replicate 8 0); given_up = one_more k.given_up n })
+own_after k t n = keeper_own (record k { counts = set k.counts t (replicate MOST_CPUS 0); given_up = one_more k.given_up n })
 
 shown_kept_sub : (g : State) (k : KeeperView) (t d u : ℕ) (e : Entry) → Good g → KeeperShown g k → (x : Kept g t d u e) → KeeperShown (with_keeper g (giving_back g t u)) (keeper_view (with_keeper g (giving_back g t u)) (own_after k t x.driver.number))
 shown_kept_sub g k t d u e good had x = record {
   is = refl;
   counts = vacated_counts g k t e had x.drained;
-  sized = length-set k.counts t (replicate 8 0) ∙ had.sized;
-  rows = rows_put k.counts t (replicate 8 0) refl had.rows;
+  sized = length-set k.counts t (replicate MOST_CPUS 0) ∙ had.sized;
+  rows = rows_put k.counts t (replicate MOST_CPUS 0) refl had.rows;
   live_total = λ v f live.
       let was = stood g t v e f (Live f) x.drained live (inl refl) in
       shown_less g k u x.driver good x.here x.some_left v f (inl was) ∙ had.live_total v f was;
@@ -100,9 +101,9 @@ kept_sub_may z k t u may s r i at fits =
     let made : step g (KeptSub t) ≡ Some (record { state = with_keeper g l; reply = Done }) = rw (x.kept, x.of, x.drained.is, x.drained.retired, kind) refl in
     let words : Agrees (set s.words (index (total_of u)) ((w + (2 ^ 64 - 1)) % 2 ^ 64)) (with_keeper g l) = subst (λ m. Agrees (set s.words (index (total_of u)) m) (with_keeper g l)) (sym next) (total_words s.words g l u v r.good x.slot r.words refl refl refl refl refl) in
     let done = keeper_makes z s r i k (index (total_of u)) ((w + (2 ^ 64 - 1)) % 2 ^ 64) l (KeptSub t) Done own at made (vacated_leaves g t e (set g.totals u v) (set g.keeps t None) r.good x.drained) (λ m. refl) refl (shown_kept_sub g k t d u e r.good had x) words in
-    let change : keeper_view (with_keeper g l) own ≡ record k { totals = set k.totals u (total_at k.totals u - 1); slots = set k.slots t Vacant; keeps = set k.keeps t None; counts = set k.counts t (replicate 8 0); given_up = one_more k.given_up d } =
-    ap (λ (y : KeeperView). record y { totals = set y.totals u (total_at y.totals u - 1); slots = set y.slots t Vacant; keeps = set y.keeps t None; counts = set y.counts t (replicate 8 0); given_up = one_more y.given_up n }) (sym had.is)
-    ∙ ap (λ m. record k { totals = set k.totals u (total_at k.totals u - 1); slots = set k.slots t Vacant; keeps = set k.keeps t None; counts = set k.counts t (replicate 8 0); given_up = one_more k.given_up m }) x.number in
+    let change : keeper_view (with_keeper g l) own ≡ record k { totals = set k.totals u (total_at k.totals u - 1); slots = set k.slots t Vacant; keeps = set k.keeps t None; counts = set k.counts t (replicate MOST_CPUS 0); given_up = one_more k.given_up d } =
+    ap (λ (y : KeeperView). record y { totals = set y.totals u (total_at y.totals u - 1); slots = set y.slots t Vacant; keeps = set y.keeps t None; counts = set y.counts t (replicate MOST_CPUS 0); given_up = one_more y.given_up n }) (sym had.is)
+    ∙ ap (λ m. record k { totals = set k.totals u (total_at k.totals u - 1); slots = set k.slots t Vacant; keeps = set k.keeps t None; counts = set k.counts t (replicate MOST_CPUS 0); given_up = one_more k.given_up m }) x.number in
     (Keeper (keeper_view (with_keeper g l) own), done.0, (refl, (done.1, (u, (d, may.kept.1, change)))))
 
 -- a view has one slot for what the slot t keeps

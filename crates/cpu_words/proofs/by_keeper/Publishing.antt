@@ -7,6 +7,7 @@ use Rattle.registry_values.specs.declared.entry.Entry.{Entry}
 use Rattle.registry_values.specs.declared.entry.Change.{Change}
 use Rattle.registry_values.specs.declared.entry.Change.TheVariants.{Attach}
 use Rattle.registry_values.specs.declared.settings.Settings.{Settings}
+use Rattle.registry_values.specs.declared.settings.TheConstants.{MOST_CPUS}
 use Rattle.registry_values.specs.declared.slot.Slot.{Slot}
 use Rattle.registry_values.specs.declared.slot.Slot.TheVariants.{Vacant, Live, Retired}
 use Rattle.protocol.specs.declared.state.Due.TheVariants.{Rest}
@@ -38,7 +39,7 @@ use Rattle.cpu_words.proofs.by_keeper.Leading.{one_link}
 
 -- what a publishing changes
 abbrev pub publish_lists : State → ℕ → Entry → KeeperLists
-publish_lists g t e = record (keeper_lists g) { head = t + 1; history = after_change g.history (Attach e); slots = set g.slots t (Live e); nets = set g.nets t (replicate 8 bias) }
+publish_lists g t e = record (keeper_lists g) { head = t + 1; history = after_change g.history (Attach e); slots = set g.slots t (Live e); nets = set g.nets t (replicate MOST_CPUS bias) }
 
 -- what may be published, as the core that shows the keeper's view has it
 pub record Publishes (g : State) (t : ℕ) (e : Entry) : Type 0 where
@@ -119,9 +120,9 @@ leaves_published g t e good may =
           (λ (new : (u ≡ t) × (f ≡ e)). inr (subst (λ (p : ℕ × Entry). Came g (publish_lists g t e) p.0 p.1) (λ i. (sym new.0 i, sym new.1 i)) (
             omega (arith, may.number),
             λ c. good.holds.passive.vacant c t may.vacant,
-            λ c lt. cell_in_new 0 g.nets t (replicate 8 bias) c in_nets ∙ get_or-replicate 8 c bias 0 (omega (arith, lt, fit.cpus)),
+            λ c lt. cell_in_new 0 g.nets t (replicate MOST_CPUS bias) c in_nets ∙ get_or-replicate MOST_CPUS c bias 0 (omega (arith, lt, fit.cpus)),
           )))
-          (λ (old : IsIn f (slot_at g.slots u)). inl (old, λ c. cell_in_old 0 g.nets t (replicate 8 bias) u c (apart u f old)))
+          (λ (old : IsIn f (slot_at g.slots u)). inl (old, λ c. cell_in_old 0 g.nets t (replicate MOST_CPUS bias) u c (apart u f old)))
           (in_published g.slots t u e f may.within here);
       go = λ u f here. inl (in_other g.slots t (Live e) f u (apart u f here) here);
       collected = λ u c f retired is there. (get_or-set_other g.slots t u (Live e) Vacant (apart u f (inr retired)) ∙ retired, is);
@@ -155,7 +156,7 @@ shown_published g k t e good had may =
           (λ (same : (u ≡ t) × (slot_at (set g.slots t (Live e)) u ≡ Live e)). absurd (let q : Retired f ≡ Live e = sym retired ∙ same.1 in cc))
           (λ (off : (u ≡ t → ⊥) × (slot_at (set g.slots t (Live e)) u ≡ slot_at g.slots u)).
           let was = had.gives_up u f (sym off.1 ∙ retired) in
-          let row = get_or-set_other g.nets t u (replicate 8 bias) [] off.0 in
+          let row = get_or-set_other g.nets t u (replicate MOST_CPUS bias) [] off.0 in
           let net = ap (λ (ns : List ℕ). sum_by collected_net (zip (get_or g.marks u []) ns)) row in
           let one = ap (λ (ns : List ℕ). sum_by collected_one (zip (get_or g.marks u []) ns)) row in
           omega (arith, was, net, one))

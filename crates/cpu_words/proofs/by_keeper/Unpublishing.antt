@@ -5,6 +5,7 @@ use Rattle.std.proofs.lemmas.List.Sums.{sum_by-cons}
 use Rattle.registry_values.specs.declared.entry.Entry.{Entry}
 use Rattle.registry_values.specs.declared.entry.Change.TheVariants.{Detach}
 use Rattle.registry_values.specs.declared.settings.Settings.{Settings}
+use Rattle.registry_values.specs.declared.settings.TheConstants.{MOST_CPUS}
 use Rattle.registry_values.specs.declared.slot.Slot.{Slot}
 use Rattle.registry_values.specs.declared.slot.Slot.TheVariants.{Vacant, Live, Retired}
 use Rattle.registry_values.specs.declared.mark.Mark.{Mark}
@@ -42,7 +43,7 @@ unpublish_lists g t e p v = record (keeper_lists g) {
   next = links_with g.next p v;
   history = after_change g.history (Detach e.number);
   slots = set g.slots t (Retired e);
-  marks = set g.marks t (replicate 8 no_mark);
+  marks = set g.marks t (replicate MOST_CPUS no_mark);
   due = Snapshots t 0;
 }
 
@@ -107,7 +108,7 @@ leaves_unlinked g t e p v may = record {
       (slot_cases g.slots t (Retired e) u may.within));
   collected = λ u c f retired is there.
       let off : u ≡ t → ⊥ = λ same. (let q : Retired f ≡ Live e = sym retired ∙ (ap (slot_at g.slots) same ∙ may.live) in cc) in
-      (get_or-set_other g.slots t u (Retired e) Vacant off ∙ retired, ap (λ (m : Mark). m.collected) (cell_in_old no_mark g.marks t (replicate 8 no_mark) u c off) ∙ is);
+      (get_or-set_other g.slots t u (Retired e) Vacant off ∙ retired, ap (λ (m : Mark). m.collected) (cell_in_old no_mark g.marks t (replicate MOST_CPUS no_mark) u c off) ∙ is);
 }
 
 -- a row without marks has nothing collected
@@ -129,7 +130,7 @@ gives_up_unlinked g k t e p v had may u f retired = ⊎_elim
     subst (λ (x : ℕ × ℕ). GivesUp (with_keeper g (unpublish_lists g t e p v)) k.given_up x.0 x.1) (λ i. (sym same.0 i, ap (λ (x : Entry). x.number) (sym one) i)) here)
     (λ (off : (u ≡ t → ⊥) × (slot_at (set g.slots t (Retired e)) u ≡ slot_at g.slots u)).
     let was = had.gives_up u f (sym off.1 ∙ retired) in
-    let row = get_or-set_other g.marks t u (replicate 8 no_mark) [] off.0 in
+    let row = get_or-set_other g.marks t u (replicate MOST_CPUS no_mark) [] off.0 in
     let net = ap (λ (ms : List Mark). sum_by collected_net (zip ms (get_or g.nets u []))) row in
     let one = ap (λ (ms : List Mark). sum_by collected_one (zip ms (get_or g.nets u []))) row in
     let rest = due_alike g.due Rest may.rest u in
@@ -139,9 +140,9 @@ gives_up_unlinked g k t e p v had may u f retired = ⊎_elim
     here : GivesUp (with_keeper g (unpublish_lists g t e p v)) k.given_up t e.number
     here =
         let total = had.live_total t e may.live in
-        let row = get_or-set_same g.marks t (replicate 8 no_mark) [] may.in_marks in
-        let net = ap (λ (ms : List Mark). sum_by collected_net (zip ms (get_or g.nets t []))) row ∙ none_collected collected_net (λ n. refl) 8 (get_or g.nets t []) in
-        let one = ap (λ (ms : List Mark). sum_by collected_one (zip ms (get_or g.nets t []))) row ∙ none_collected collected_one (λ n. refl) 8 (get_or g.nets t []) in
+        let row = get_or-set_same g.marks t (replicate MOST_CPUS no_mark) [] may.in_marks in
+        let net = ap (λ (ms : List Mark). sum_by collected_net (zip ms (get_or g.nets t []))) row ∙ none_collected collected_net (λ n. refl) MOST_CPUS (get_or g.nets t []) in
+        let one = ap (λ (ms : List Mark). sum_by collected_one (zip ms (get_or g.nets t []))) row ∙ none_collected collected_one (λ n. refl) MOST_CPUS (get_or g.nets t []) in
         omega (arith, total, net, one)
 
 -- what the keeper's view shows after it
@@ -164,11 +165,11 @@ shown_unlinked g k t e p v had may =
       gives_up = gives_up_unlinked g k t e p v had may;
       later = λ n above. had.later n (omega (arith, above, longer));
       beyond = λ c u past. ⊎_elim
-          (λ (same : (u ≡ t) × (get_or (set g.marks t (replicate 8 no_mark)) u [] ≡ replicate 8 no_mark)).
-          ap (λ (row : List Mark). (get_or row c no_mark).collected) same.1 ∙ ap (λ (m : Mark). m.collected) (get_or_all 8 no_mark c))
-          (λ (off : (u ≡ t → ⊥) × (get_or (set g.marks t (replicate 8 no_mark)) u [] ≡ get_or g.marks u [])).
+          (λ (same : (u ≡ t) × (get_or (set g.marks t (replicate MOST_CPUS no_mark)) u [] ≡ replicate MOST_CPUS no_mark)).
+          ap (λ (row : List Mark). (get_or row c no_mark).collected) same.1 ∙ ap (λ (m : Mark). m.collected) (get_or_all MOST_CPUS no_mark c))
+          (λ (off : (u ≡ t → ⊥) × (get_or (set g.marks t (replicate MOST_CPUS no_mark)) u [] ≡ get_or g.marks u [])).
           ap (λ (row : List Mark). (get_or row c no_mark).collected) off.1 ∙ had.beyond c u past)
-          (place_cases [] g.marks t (replicate 8 no_mark) u may.in_marks);
+          (place_cases [] g.marks t (replicate MOST_CPUS no_mark) u may.in_marks);
       noted_pass = prefix_on k.noted_pass g.history (Detach e.number ∷ []) had.noted_pass;
     }
 

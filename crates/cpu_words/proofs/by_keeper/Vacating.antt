@@ -7,6 +7,7 @@ use lib.ListN.{get_elem?}
 use Rattle.atomic_table.specs.Table.{State as Table}
 use Rattle.registry_values.specs.declared.entry.Entry.{Entry}
 use Rattle.registry_values.specs.declared.settings.Settings.{Settings}
+use Rattle.registry_values.specs.declared.settings.TheConstants.{MOST_CPUS}
 use Rattle.protocol.specs.declared.event.Event.TheVariants.{Hear, Vacate}
 use Rattle.protocol.specs.declared.state.Due.TheVariants.{Rest}
 use Rattle.protocol.specs.declared.event.Reply.TheVariants.{Done}
@@ -38,8 +39,8 @@ shown_vacated : (g : State) (k : KeeperView) (t : ℕ) (e : Entry) → KeeperSho
 shown_vacated g k t e had drained = record {
   is = refl;
   counts = vacated_counts g k t e had drained;
-  sized = length-set k.counts t (replicate 8 0) ∙ had.sized;
-  rows = rows_put k.counts t (replicate 8 0) refl had.rows;
+  sized = length-set k.counts t (replicate MOST_CPUS 0) ∙ had.sized;
+  rows = rows_put k.counts t (replicate MOST_CPUS 0) refl had.rows;
   live_total = λ u f live. had.live_total u f (stood g t u e f (Live f) drained live (inl refl));
   gives_up = λ u f gone. had.gives_up u f (stood g t u e f (Retired f) drained gone (inr refl));
   later = had.later;
@@ -67,7 +68,7 @@ vacates z k t may s r i at =
     let n = slice_index s.words 0 in
     let done = keeper_makes z s r i k 0 n l (Vacate t) Done own at made (vacated_leaves g t e g.totals g.keeps r.good drained) (λ m. refl) refl (shown_vacated g k t e had drained)
     (loads s.words g (with_keeper g l) 0 r.words refl (λ q _. refl)) in
-    let is : w ≡ keeper_after_vacate k t = ap (λ (v : KeeperView). record v { slots = set v.slots t Vacant; counts = set k.counts t (replicate 8 0) }) (sym had.is) in (
+    let is : w ≡ keeper_after_vacate k t = ap (λ (v : KeeperView). record v { slots = set v.slots t Vacant; counts = set k.counts t (replicate MOST_CPUS 0) }) (sym had.is) in (
       subst (λ (v : KeeperView). GoesOn z s r (did (Vacate t) Done) (with_view s i (Keeper v))) is (subst (λ (ws : List ℕ). GoesOn z s r (did (Vacate t) Done) (record { words = ws; homes = s.homes; views = set s.views i (Keeper w) })) (set-get_or s.words 0 0) done.0),
       subst (λ (v : KeeperView). Makes (Vacate t) Done (Keeper k) (Keeper v)) is done.1,
     )

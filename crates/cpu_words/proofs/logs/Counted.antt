@@ -4,6 +4,7 @@ use Rattle.std.proofs.lemmas.Bool.{and_parts, cases_eq, eqb-true}
 use Rattle.registry_values.specs.declared.entry.Entry.{Entry}
 use Rattle.registry_values.specs.declared.mark.Mark.{Mark}
 use Rattle.registry_values.specs.declared.settings.Settings.{Settings}
+use Rattle.registry_values.specs.declared.settings.TheConstants.{MOST_CPUS}
 use Rattle.registry_values.specs.declared.slot.Slot.{Slot}
 use Rattle.registry_values.specs.declared.slot.Slot.TheVariants.{Vacant, Live, Retired}
 use Rattle.registry_values.specs.Balances.{bias}
@@ -109,7 +110,7 @@ marked_word s n t c m slots nets marks same u d =
 other_slot : (s n : State) (t : ℕ) (u : ℕ) → slot_at n.slots u ≡ slot_at s.slots u → ((d : ℕ) → (mark_at n.marks u d).collected ≡ (mark_at s.marks u d).collected) → ((d : ℕ) → count_at n.nets d u ≡ count_at s.nets d u) → (d : ℕ) → word_in n u d ≡ word_in s u d
 other_slot s n t u slot mark net d = let flag = mark d in same_word s n u d (λ k. is_retired (slot k) && flag k) (λ on. net d)
 
-retired_does : (s n : State) (t : ℕ) (e : Entry) → n.slots ≡ set s.slots t (Retired e) → n.marks ≡ set s.marks t (replicate 8 no_mark) → n.nets ≡ s.nets → slot_at s.slots t ≡ Live e → Does s (Unpublish t) Done n
+retired_does : (s n : State) (t : ℕ) (e : Entry) → n.slots ≡ set s.slots t (Retired e) → n.marks ≡ set s.marks t (replicate MOST_CPUS no_mark) → n.nets ≡ s.nets → slot_at s.slots t ≡ Live e → Does s (Unpublish t) Done n
 retired_does s n t e slots marks nets live =
     let lt = within_live s.slots t e live in (
       λ u. ap (λ (x : List Slot). occupant_of (slot_at x u)) slots ∙ ⊎_elim
@@ -118,11 +119,11 @@ retired_does s n t e slots marks nets live =
           (slot_cases s.slots t (Retired e) u lt),
       λ u d. ⊎_elim
           (λ (here : (u ≡ t) × (slot_at (set s.slots t (Retired e)) u ≡ Retired e)).
-          let new : mark_at n.marks u d ≡ no_mark = ap (λ (x : List (List Mark)). mark_at x u d) marks ∙ (ap (λ (k : ℕ). mark_at (set s.marks t (replicate 8 no_mark)) k d) here.0 ∙ fresh s.marks t d) in
+          let new : mark_at n.marks u d ≡ no_mark = ap (λ (x : List (List Mark)). mark_at x u d) marks ∙ (ap (λ (k : ℕ). mark_at (set s.marks t (replicate MOST_CPUS no_mark)) k d) here.0 ∙ fresh s.marks t d) in
           no_word n u d (undrawn_mark n u d (ap (λ (m : Mark). m.collected) new)) ∙ sym (no_word s u d (undrawn_slot s u d (ap is_retired (ap (slot_at s.slots) here.0 ∙ live)))))
           (λ (old : (u ≡ t → ⊥) × (slot_at (set s.slots t (Retired e)) u ≡ slot_at s.slots u)).
           other_slot s n t u (ap (λ (x : List Slot). slot_at x u) slots ∙ old.1)
-          (λ j. ap (λ (x : List (List Mark)). (mark_at x u j).collected) marks ∙ ap (λ (m : Mark). m.collected) (cell_in_old no_mark s.marks t (replicate 8 no_mark) u j old.0))
+          (λ j. ap (λ (x : List (List Mark)). (mark_at x u j).collected) marks ∙ ap (λ (m : Mark). m.collected) (cell_in_old no_mark s.marks t (replicate MOST_CPUS no_mark) u j old.0))
           (λ j. ap (λ (x : List (List ℕ)). count_at x j u) nets) d)
           (slot_cases s.slots t (Retired e) u lt),
     )
@@ -145,7 +146,7 @@ published_does s t e on may =
           (λ (here : (u ≡ t) × (slot_at new u ≡ Live e)).
           no_word n u d (undrawn_slot n u d (ap is_retired here.1)) ∙ sym (no_word s u d (undrawn_slot s u d (ap is_retired (ap (slot_at s.slots) here.0 ∙ told.2)))))
           (λ (old : (u ≡ t → ⊥) × (slot_at new u ≡ slot_at s.slots u)).
-          other_slot s n t u old.1 (λ j. refl) (λ j. cell_in_old 0 s.nets t (replicate 8 bias) u j old.0) d)
+          other_slot s n t u old.1 (λ j. refl) (λ j. cell_in_old 0 s.nets t (replicate MOST_CPUS bias) u j old.0) d)
           (slot_cases s.slots t (Live e) u told.1),
     )
 

@@ -3,6 +3,7 @@ use Rattle.std.proofs.Common.{◌≡◌, ◌≢◌, ⊎_elim, ℕ, ◌+◌, ◌<
 use Rattle.registry_values.specs.declared.entry.Entry.{Entry}
 use Rattle.registry_values.specs.declared.mark.Mark.{Mark}
 use Rattle.registry_values.specs.declared.settings.Settings.{Settings}
+use Rattle.registry_values.specs.declared.settings.TheConstants.{MOST_CPUS}
 use Rattle.registry_values.specs.declared.slot.Slot.TheVariants.{Retired}
 use Rattle.registry_values.specs.Marks.{no_mark, mark_after_look, mark_after_passive_look, mark_after_collect}
 use Rattle.registry_values.specs.Slots.{slot_at}
@@ -68,11 +69,11 @@ taken_next s t c due next now none u d j is le =
     let old : mark_at (with_cell s.marks t c (snapshot_mark (section_at s c))) t j ≡ mark_at s.marks t j = cell_other no_mark s.marks t c (snapshot_mark (section_at s c)) t j (λ a b. far b) in
     subst (λ (k : ℕ). (mark_at (with_cell s.marks t c (snapshot_mark (section_at s c))) k j).snapshot ≡ None) (sym p.0) (ap (λ (m : Mark). m.snapshot) old ∙ none t c j now low)
 
-retired_next : (marks : List (List Mark)) (t : ℕ) (due : Due) → due ≡ Snapshots t 0 → NoneAhead due (set marks t (replicate 8 no_mark))
+retired_next : (marks : List (List Mark)) (t : ℕ) (due : Due) → due ≡ Snapshots t 0 → NoneAhead due (set marks t (replicate MOST_CPUS no_mark))
 retired_next marks t due now u d j is le =
     let q : Snapshots t 0 ≡ Snapshots u d = sym now ∙ is in
     let same : u ≡ t = cc in
-    ap (λ (k : ℕ). (mark_at (set marks t (replicate 8 no_mark)) k j).snapshot) same ∙ ap (λ (m : Mark). m.snapshot) (fresh marks t j)
+    ap (λ (k : ℕ). (mark_at (set marks t (replicate MOST_CPUS no_mark)) k j).snapshot) same ∙ ap (λ (m : Mark). m.snapshot) (fresh marks t j)
 
 ahead_after : (s : State) (e : Event) (n : State) → DueAfter s e n → NoneAhead s.due s.marks → NoneAhead n.due (marks_after s e)
 ahead_after s (Unpublish t) n due none = retired_next s.marks t n.due due

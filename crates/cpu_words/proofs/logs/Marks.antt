@@ -7,6 +7,7 @@ use Rattle.registry_values.specs.declared.mark.Mark.{Mark}
 use Rattle.registry_values.specs.declared.slot.Slot.{Slot}
 use Rattle.registry_values.specs.declared.slot.Slot.TheVariants.{Vacant, Live, Retired}
 use Rattle.registry_values.specs.declared.settings.Settings.{Settings}
+use Rattle.registry_values.specs.declared.settings.TheConstants.{MOST_CPUS}
 use Rattle.registry_values.specs.Marks.{no_mark, is_even, has_changed, mark_after_look, mark_after_passive_look, mark_after_collect}
 use Rattle.registry_values.specs.Slots.{slot_at, slot_of, slot_before}
 use Rattle.protocol.specs.declared.event.Event.{Event}
@@ -37,7 +38,7 @@ use Rattle.cpu_words.proofs.logs.Runs.{item_as, item_of, same_first, same_rest}
 -- What an event makes of the marks
 
 abbrev pub marks_after : State → Event → List (List Mark)
-marks_after s (Unpublish t) = set s.marks t (replicate 8 no_mark)
+marks_after s (Unpublish t) = set s.marks t (replicate MOST_CPUS no_mark)
 marks_after s (Snapshot (Some t) c) = with_cell s.marks t c (snapshot_mark (section_at s c))
 marks_after s (Look (Some t) c) = with_cell s.marks t c (mark_after_look (mark_at s.marks t c) (section_at s c))
 marks_after s (PassiveLook t c) = with_cell s.marks t c (mark_after_passive_look (mark_at s.marks t c) (Rattle.protocol.specs.State.passive_at s.passive c t))
@@ -107,7 +108,7 @@ unlinked_marks s t (Some p) = refl
 
 unpublish_marks : (s : State) (t : ℕ) (x : Slot) → Marks s (Unpublish t) (Events.unpublish s t x)
 unpublish_marks s t Vacant = tt
-unpublish_marks s t (Live e) = on_made s (Unpublish t) _ _ _ (ap (λ (m : List (List Mark)). set m t (replicate 8 no_mark)) (unlinked_marks s t (slot_before s.slots s.next t))) tt
+unpublish_marks s t (Live e) = on_made s (Unpublish t) _ _ _ (ap (λ (m : List (List Mark)). set m t (replicate MOST_CPUS no_mark)) (unlinked_marks s t (slot_before s.slots s.next t))) tt
 unpublish_marks s t (Retired e) = tt
 
 split_marks : (s : State) (c : ℕ) (h : Hand) → Marks s (SplitRef c) (Events.split_ref s c h)
@@ -252,26 +253,26 @@ other_marks log marks d other none are = record {
   passed = λ t c is. passed_more t c log d (other t) (are.passed t c is);
 }
 
-pub fresh : (marks : List (List Mark)) (t c : ℕ) → mark_at (set marks t (replicate 8 no_mark)) t c ≡ no_mark
+pub fresh : (marks : List (List Mark)) (t c : ℕ) → mark_at (set marks t (replicate MOST_CPUS no_mark)) t c ≡ no_mark
 fresh marks t c = ⊎_elim
-    (λ (lt : t < length marks). cell_in_new no_mark marks t (replicate 8 no_mark) c lt ∙ get_or_all 8 no_mark c)
-    (λ (ge : length marks ≤ t). ap (λ (m : List (List Mark)). mark_at m t c) (set_past marks t (replicate 8 no_mark) ge) ∙ ap (λ (r : List Mark). get_or r c no_mark) (get_or_past marks t [] ge))
+    (λ (lt : t < length marks). cell_in_new no_mark marks t (replicate MOST_CPUS no_mark) c lt ∙ get_or_all MOST_CPUS no_mark c)
+    (λ (ge : length marks ≤ t). ap (λ (m : List (List Mark)). mark_at m t c) (set_past marks t (replicate MOST_CPUS no_mark) ge) ∙ ap (λ (r : List Mark). get_or r c no_mark) (get_or_past marks t [] ge))
     (cases_lt t (length marks))
 
-detach_marks : (log : List LogItem) (marks : List (List Mark)) (t : ℕ) (r : Reply) → AreMarksOf log marks → AreMarksOf (log ++ item_as (Unpublish t) r ∷ []) (set marks t (replicate 8 no_mark))
+detach_marks : (log : List LogItem) (marks : List (List Mark)) (t : ℕ) (r : Reply) → AreMarksOf log marks → AreMarksOf (log ++ item_as (Unpublish t) r ∷ []) (set marks t (replicate MOST_CPUS no_mark))
 detach_marks log marks t r are =
-    let new = set marks t (replicate 8 no_mark) in
+    let new = set marks t (replicate MOST_CPUS no_mark) in
     let d = item_as (Unpublish t) r in record {
       snapped = λ u c w is. ⊎_elim
           (λ (same : u ≡ t). let p : mark_at new u c ≡ no_mark = ap (λ (k : ℕ). mark_at new k c) same ∙ fresh marks t c in absurd (none-some w (sym (ap (λ (m : Mark). m.snapshot) p) ∙ is)))
-          (λ (off : u ≡ t → ⊥). snapped_more u c w log d (ne_eqb t u (λ (e : t ≡ u). off (sym e))) (are.snapped u c w (sym (ap (λ (m : Mark). m.snapshot) (cell_in_old no_mark marks t (replicate 8 no_mark) u c off)) ∙ is)))
+          (λ (off : u ≡ t → ⊥). snapped_more u c w log d (ne_eqb t u (λ (e : t ≡ u). off (sym e))) (are.snapped u c w (sym (ap (λ (m : Mark). m.snapshot) (cell_in_old no_mark marks t (replicate MOST_CPUS no_mark) u c off)) ∙ is)))
           (cases_eq u t);
       marked = λ u c w is.
           let p = unsnapped_by u c w log d refl is in
-          ap (λ (m : Mark). m.snapshot) (cell_in_old no_mark marks t (replicate 8 no_mark) u c (λ (same : u ≡ t). eqb-false t u p.0 (sym same))) ∙ are.marked u c w p.1;
+          ap (λ (m : Mark). m.snapshot) (cell_in_old no_mark marks t (replicate MOST_CPUS no_mark) u c (λ (same : u ≡ t). eqb-false t u p.0 (sym same))) ∙ are.marked u c w p.1;
       passed = λ u c is. ⊎_elim
           (λ (same : u ≡ t). let p : mark_at new u c ≡ no_mark = ap (λ (k : ℕ). mark_at new k c) same ∙ fresh marks t c in absurd (let q : false ≡ true = sym (ap (λ (m : Mark). m.passed) p) ∙ is in cc))
-          (λ (off : u ≡ t → ⊥). passed_more u c log d (ne_eqb t u (λ (e : t ≡ u). off (sym e))) (are.passed u c (sym (ap (λ (m : Mark). m.passed) (cell_in_old no_mark marks t (replicate 8 no_mark) u c off)) ∙ is)))
+          (λ (off : u ≡ t → ⊥). passed_more u c log d (ne_eqb t u (λ (e : t ≡ u). off (sym e))) (are.passed u c (sym (ap (λ (m : Mark). m.passed) (cell_in_old no_mark marks t (replicate MOST_CPUS no_mark) u c off)) ∙ is)))
           (cases_eq u t);
     }
 
@@ -374,9 +375,9 @@ more_marks log s e r is first are = other_marks log s.marks (item_of s e r) (λ 
 
 -- The opening
 
-none_at : (n t c : ℕ) → mark_at (replicate n (replicate 8 no_mark)) t c ≡ no_mark
+none_at : (n t c : ℕ) → mark_at (replicate n (replicate MOST_CPUS no_mark)) t c ≡ no_mark
 none_at zero t c = refl
-none_at (suc n) zero c = get_or_all 8 no_mark c
+none_at (suc n) zero c = get_or_all MOST_CPUS no_mark c
 none_at (suc n) (suc t) c = none_at n t c
 
 -- before all events there is no mark

@@ -9,6 +9,7 @@ use Rattle.std.proofs.lemmas.Option.{same_Some}
 use Rattle.registry_values.specs.declared.entry.Entry.{Entry}
 use Rattle.registry_values.specs.declared.mark.Mark.{Mark}
 use Rattle.registry_values.specs.declared.settings.Settings.{Settings}
+use Rattle.registry_values.specs.declared.settings.TheConstants.{MOST_CPUS}
 use Rattle.registry_values.specs.declared.slot.Slot.{Slot}
 use Rattle.registry_values.specs.declared.slot.Slot.TheVariants.{Vacant, Live, Retired}
 use Rattle.registry_values.specs.Balances.{bias}
@@ -142,8 +143,8 @@ as_much : (log : List LogItem) (s : State) (e : Event) (o : Outcome) (t n : ℕ)
 as_much log s e o t n stay much even =
     let d : LogItem = item_of s e o.reply in
     let word : (c : ℕ) → word_collected t c (log ++ d ∷ []) ≡ word_collected t c log = λ c. word_next t c log s e o.reply ∙ stay c in
-    let words : words_collected t (log ++ d ∷ []) ≡ words_collected t log = sum_other (λ c. is_there (word_collected t c log)) (λ c. is_there (word_collected t c (log ++ d ∷ []))) 8 (λ c lt. ap is_there (word c)) in
-    let sum : sum_collected t (log ++ d ∷ []) ≡ sum_collected t log = sum_other (λ c. word_or_none (word_collected t c log)) (λ c. word_or_none (word_collected t c (log ++ d ∷ []))) 8 (λ c lt. ap word_or_none (word c)) in
+    let words : words_collected t (log ++ d ∷ []) ≡ words_collected t log = sum_other (λ c. is_there (word_collected t c log)) (λ c. is_there (word_collected t c (log ++ d ∷ []))) MOST_CPUS (λ c lt. ap is_there (word c)) in
+    let sum : sum_collected t (log ++ d ∷ []) ≡ sum_collected t log = sum_other (λ c. word_or_none (word_collected t c log)) (λ c. word_or_none (word_collected t c (log ++ d ∷ []))) MOST_CPUS (λ c lt. ap word_or_none (word c)) in
     let given : given_up n (log ++ d ∷ []) ≡ given_up n log + given_by log n (by_number s e) = given_more n log d in
     omega (arith, words, sum, given, much, even)
 
@@ -210,8 +211,8 @@ published_next log s u o t n on does is known = ⊎_elim
     let quiet = quiet_rest o.state.due t (does.1.1 ∙ told.0) in
     let d : LogItem = item_of s (Publish u) o.reply in
     let word : (c : ℕ) → word_collected t c (log ++ d ∷ []) ≡ None = λ c. word_next t c log s (Publish u) o.reply ∙ (known.counts.words t c ∙ no_word s t c (undrawn_slot s t c vacant)) in
-    let words : words_collected t (log ++ d ∷ []) ≡ 0 = sum_other (λ c. 0) (λ c. is_there (word_collected t c (log ++ d ∷ []))) 8 (λ c lt. ap is_there (word c)) in
-    let sum : sum_collected t (log ++ d ∷ []) ≡ 0 = sum_other (λ c. 0) (λ c. word_or_none (word_collected t c (log ++ d ∷ []))) 8 (λ c lt. ap word_or_none (word c)) in
+    let words : words_collected t (log ++ d ∷ []) ≡ 0 = sum_other (λ c. 0) (λ c. is_there (word_collected t c (log ++ d ∷ []))) MOST_CPUS (λ c lt. ap is_there (word c)) in
+    let sum : sum_collected t (log ++ d ∷ []) ≡ 0 = sum_other (λ c. 0) (λ c. word_or_none (word_collected t c (log ++ d ∷ []))) MOST_CPUS (λ c lt. ap word_or_none (word c)) in
     let given : given_up n (log ++ d ∷ []) ≡ given_up n log + 0 = given_more n log d in
     let none : given_up n log ≡ 0 = known.totals.later n (omega (arith, number)) in
     omega (arith, total, quiet.0, quiet.1, quiet.2, words, sum, given, none))
@@ -235,7 +236,7 @@ collected_here log s c o t n on does is known =
     let p = and_parts (may_examine s t c) (is_drainable s t && not (mark_at s.marks t c).collected) does.0 in
     let q = and_parts (is_drainable s t) (not (mark_at s.marks t c).collected) p.1 in
     let told = may_examine_tells s t c p.0 in
-    let low : c < 8 = omega (arith, told.1, (ranges s.settings on.fit).cpus) in
+    let low : c < MOST_CPUS = omega (arith, told.1, (ranges s.settings on.fit).cpus) in
     let d : LogItem = item_of s (Collect t c) o.reply in
     let old : word_collected t c log ≡ None = known.counts.words t c ∙ no_word s t c (undrawn_mark s t c (false_from (mark_at s.marks t c).collected q.1)) in
     let here = eq-eqb t t refl in
@@ -243,8 +244,8 @@ collected_here log s c o t n on does is known =
     ∙ ((λ k. if here k && eq-eqb c c refl k then replied o.reply else word_collected t c log) ∙ ap replied does.1) in
     let other : (j : ℕ) → (j ≡ c → ⊥) → word_collected t j (log ++ d ∷ []) ≡ word_collected t j log = λ j off. word_next t j log s (Collect t c) o.reply
     ∙ (λ k. if here k && ne_eqb c j (λ same. off (sym same)) k then replied o.reply else word_collected t j log) in
-    let words = sum_changed (λ j. is_there (word_collected t j log)) (λ j. is_there (word_collected t j (log ++ d ∷ []))) c 8 low (λ j off. ap is_there (other j off)) in
-    let sum = sum_changed (λ j. word_or_none (word_collected t j log)) (λ j. word_or_none (word_collected t j (log ++ d ∷ []))) c 8 low (λ j off. ap word_or_none (other j off)) in
+    let words = sum_changed (λ j. is_there (word_collected t j log)) (λ j. is_there (word_collected t j (log ++ d ∷ []))) c MOST_CPUS low (λ j off. ap is_there (other j off)) in
+    let sum = sum_changed (λ j. word_or_none (word_collected t j log)) (λ j. word_or_none (word_collected t j (log ++ d ∷ []))) c MOST_CPUS low (λ j off. ap word_or_none (other j off)) in
     let one_old : is_there (word_collected t c log) ≡ 0 = ap is_there old in
     let one_new : is_there (word_collected t c (log ++ d ∷ [])) ≡ 1 = ap is_there new in
     let word_old : word_or_none (word_collected t c log) ≡ 0 = ap word_or_none old in
@@ -461,8 +462,8 @@ given_by_log log g k t n good had counts totals rest is = by (slot_at g.slots t)
         let number : e.number ≡ n = same_Some e.number n (sym (ap occupant_of at) ∙ here) in
         let live = subst (λ (m : ℕ). total_at g.totals t + number_at k.given_up m ≡ bias) number (had.live_total t e at) in
         let word : (c : ℕ) → word_collected t c log ≡ None = λ c. counts.words t c ∙ no_word g t c (undrawn_slot g t c (ap is_retired at)) in
-        let words : words_collected t log ≡ 0 = sum_other (λ c. 0) (λ c. is_there (word_collected t c log)) 8 (λ c lt. ap is_there (word c)) in
-        let sum : sum_collected t log ≡ 0 = sum_other (λ c. 0) (λ c. word_or_none (word_collected t c log)) 8 (λ c lt. ap word_or_none (word c)) in
+        let words : words_collected t log ≡ 0 = sum_other (λ c. 0) (λ c. is_there (word_collected t c log)) MOST_CPUS (λ c lt. ap is_there (word c)) in
+        let sum : sum_collected t log ≡ 0 = sum_other (λ c. 0) (λ c. word_or_none (word_collected t c log)) MOST_CPUS (λ c lt. ap word_or_none (word c)) in
         omega (arith, even, live, words, sum)
     by (Retired e) at =
         let number : e.number ≡ n = same_Some e.number n (sym (ap occupant_of at) ∙ here) in
@@ -470,8 +471,8 @@ given_by_log log g k t n good had counts totals rest is = by (slot_at g.slots t)
         let quiet = quiet_rest g.due t rest in
         let shape = good.holds.shape in
         let lt : t < length g.slots = in_within g.slots t e (inr at) in
-        let marks : length (get_or g.marks t []) ≡ 8 = shape.mark_rows t (omega (arith, lt, shape.slots, shape.marks)) in
-        let nets : length (get_or g.nets t []) ≡ 8 = shape.net_rows t (omega (arith, lt, shape.slots, shape.nets)) in
+        let marks : length (get_or g.marks t []) ≡ MOST_CPUS = shape.mark_rows t (omega (arith, lt, shape.slots, shape.marks)) in
+        let nets : length (get_or g.nets t []) ≡ MOST_CPUS = shape.net_rows t (omega (arith, lt, shape.slots, shape.nets)) in
         let word : (c : ℕ) → word_collected t c log ≡ word_if (mark_at g.marks t c).collected (count_at g.nets c t) =
         λ c. counts.words t c ∙ (λ j. word_if (is_retired (at j) && (mark_at g.marks t c).collected) (count_at g.nets c t)) in
         let words : words_collected t log ≡ sum_by collected_one (zip (get_or g.marks t []) (get_or g.nets t [])) =

@@ -9,6 +9,7 @@ use Rattle.atomic_table.specs.Table.{opening as opening_table}
 use Rattle.atomic_table.proofs.Lists.{at_longer, at_last}
 use Rattle.registry_values.specs.declared.entry.Entry.{Entry}
 use Rattle.registry_values.specs.declared.settings.Settings.{Settings}
+use Rattle.registry_values.specs.declared.settings.TheConstants.{MOST_CPUS}
 use Rattle.protocol.specs.declared.state.RecordWords.{RecordWords}
 use Rattle.registry_values.specs.declared.slot.Slot.TheVariants.{Vacant}
 use Rattle.registry_values.specs.declared.mark.Mark.{Mark}
@@ -45,7 +46,7 @@ first_good z fit = record {
     section = get_or_all {X = ℕ} z.cpus 0 c;
     depth = get_or_all {X = ℕ} z.cpus 0 c;
     seen = get_or_all {X = ℕ} z.cpus 0 c;
-    passive = λ t. cell_all {X = ℕ} z.slots 8 0 t c;
+    passive = λ t. cell_all {X = ℕ} z.slots MOST_CPUS 0 t c;
     nets = λ t e is. absurd (none_in z t e is);
   };
 }
@@ -61,8 +62,8 @@ no_word (suc (suc (suc (suc k)))) = refl
 
 first_words : (z : Settings) (words : List ℕ) → IsTrue (are_fit z) → AreOpening words → (p : Spot) → IsSpot z p → slice_index words (index p) ≡ word_at (opening z) p
 first_words z words fit are (section_of c) here = are.unused (index (section_of c)) (omega (arith, ranges z fit)) ∙ sym (get_or_all {X = ℕ} z.cpus 0 c)
-first_words z words fit are (passive_of c t) here = are.unused (index (passive_of c t)) (omega (arith, ranges z fit, here)) ∙ sym (cell_all {X = ℕ} z.slots 8 0 t c)
-first_words z words fit are (count_of c t) here = are.unused (index (count_of c t)) (omega (arith, ranges z fit, here)) ∙ sym (cell_all {X = ℕ} z.slots 8 0 t c)
+first_words z words fit are (passive_of c t) here = are.unused (index (passive_of c t)) (omega (arith, ranges z fit, here)) ∙ sym (cell_all {X = ℕ} z.slots MOST_CPUS 0 t c)
+first_words z words fit are (count_of c t) here = are.unused (index (count_of c t)) (omega (arith, ranges z fit, here)) ∙ sym (cell_all {X = ℕ} z.slots MOST_CPUS 0 t c)
 first_words z words fit are head_word here = are.unused (index head_word) (omega arith)
 first_words z words fit are (next_of t) here = are.unused (index (next_of t)) (omega (arith, ranges z fit)) ∙ sym (get_or_all {X = ℕ} z.slots 0 t)
 first_words z words fit are (record_of t k) here = are.unused (index (record_of t k)) (omega (arith, ranges z fit, here)) ∙ sym (ap (λ (r : RecordWords). word r k) (get_or_all z.slots no_words t) ∙ no_word k)
@@ -74,12 +75,12 @@ pub first_shown : (z : Settings) → Shown (opening z) (first_view z)
 first_shown z = record {
   is = refl;
   counts = λ c t vacant. refl;
-  sized = length-replicate z.slots (replicate 8 0);
-  rows = rows_all z.slots (replicate 8 0) refl;
+  sized = length-replicate z.slots (replicate MOST_CPUS 0);
+  rows = rows_all z.slots (replicate MOST_CPUS 0) refl;
   live_total = λ t e is. absurd (none_in z t e (inl is));
   gives_up = λ t e is. absurd (none_in z t e (inr is));
   later = λ n above. refl;
-  beyond = λ c t past. ap (λ (m : Mark). m.collected) (cell_all z.slots 8 no_mark t c);
+  beyond = λ c t past. ap (λ (m : Mark). m.collected) (cell_all z.slots MOST_CPUS no_mark t c);
   noted_pass = ([], refl);
 }
 

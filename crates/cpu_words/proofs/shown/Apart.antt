@@ -1,7 +1,8 @@
 -- The words of two owners are at least nine words apart.
-use Rattle.std.proofs.Common.{◌≡◌, inl, inr, ⊎_elim, ℕ, ◌<◌, ◌≤◌, Option, Some, None, IsTrue, refl, sym, ap, arith}
+use Rattle.std.proofs.Common.{◌≡◌, inl, inr, ⊎_elim, ℕ, ◌-◌, ◌<◌, ◌≤◌, Option, Some, None, IsTrue, refl, sym, ap, arith}
 use Rattle.std.proofs.lemmas.Bool.{cases_order}
 use Rattle.registry_values.specs.declared.settings.Settings.{Settings}
+use Rattle.registry_values.specs.declared.settings.TheConstants.{MOST_CPUS, MOST_SLOTS}
 use Rattle.registry_values.specs.Limits.{are_fit}
 use Rattle.registry_values.proofs.Fit.{ranges}
 use Rattle.cpu_words.specs.Spots.{Spot, section_of, passive_of, count_of, head_word, next_of, record_of, total_of, index, IsSpot, owner, AreApart, LinesApart, OnePlace, FirstWordsFree}
@@ -9,7 +10,7 @@ use Rattle.cpu_words.proofs.shown.Placing.{same_spot}
 
 -- a CPU's words lie in its row, and the shared ones behind all rows
 abbrev LiesIn : Option ℕ → ℕ → Type 0
-LiesIn (Some c) i = (c < 8) × (index (section_of c) ≤ i) × (i ≤ index (count_of c 31))
+LiesIn (Some c) i = (c < MOST_CPUS) × (index (section_of c) ≤ i) × (i ≤ index (count_of c (MOST_SLOTS - 1)))
 LiesIn None i = index head_word ≤ i
 
 -- each word lies where its owner's lie

@@ -19,6 +19,7 @@ use crate::operations::by_keeper;
 use crate::operations::given_up::GivenUp;
 use crate::seat::{KeeperSeat, ReferenceSeat};
 use protocol::Event;
+use registry_values::{MOST_CPUS, MOST_SLOTS};
 use std::marker::Brand;
 
 /// Looks at the passive word of CPU `cpu` for the retired entry in `slot`: the CPU is clear where the word is 0. It answers the word, and
@@ -26,7 +27,7 @@ use std::marker::Brand;
 /// Condition: the keeper is at rest, the slot's entry is retired, the CPU is one of the table's, and all CPUs have passed for the slot.
 pub fn passive_look(words: &Words, keeper: &mut KeeperSeat, slot: u8, cpu: u8) -> u64
     requires table { keeper.old.table ≡ words.now.table }
-    requires place { cpu < 8 }
+    requires place { cpu < MOST_CPUS }
     requires may { MayPassiveLook keeper.old.view slot cpu }
     ensures table { keeper.new.table ≡ keeper.old.table }
     ensures event { Makes (PassiveLook slot cpu) (Word result) (Keeper keeper.old.view) (Keeper keeper.new.view) }
@@ -47,7 +48,7 @@ pub fn passive_look(words: &Words, keeper: &mut KeeperSeat, slot: u8, cpu: u8) -
 /// slot, and this CPU's word isn't collected yet.
 pub fn collect(words: &Words, keeper: &mut KeeperSeat, slot: u8, cpu: u8) -> u64
     requires table { keeper.old.table ≡ words.now.table }
-    requires place { cpu < 8 }
+    requires place { cpu < MOST_CPUS }
     requires may { MayCollect keeper.old.view slot cpu }
     ensures table { keeper.new.table ≡ keeper.old.table }
     ensures event { Makes (Collect slot cpu) (Word result) (Keeper keeper.old.view) (Keeper keeper.new.view) }
@@ -68,7 +69,7 @@ pub fn collect(words: &Words, keeper: &mut KeeperSeat, slot: u8, cpu: u8) -> u64
 /// Condition: the keeper has collected the word, and has not added it yet.
 pub fn total_add(words: &Words, keeper: &mut KeeperSeat, slot: u8, total: u64)
     requires table { keeper.old.table ≡ words.now.table }
-    requires place { slot < 32 }
+    requires place { slot < MOST_SLOTS }
     requires may { (old : ℕ) × MayTotalAdd keeper.old.view slot old total }
     ensures table { keeper.new.table ≡ keeper.old.table }
     ensures event { Makes (TotalAdd slot) Done (Keeper keeper.old.view) (Keeper keeper.new.view) }
@@ -88,7 +89,7 @@ pub fn total_add(words: &Words, keeper: &mut KeeperSeat, slot: u8, total: u64)
 /// Condition: the keeper has taken in a reference to the slot's entry, and has not subtracted it yet.
 pub fn total_sub(words: &Words, keeper: &mut KeeperSeat, slot: u8)
     requires table { keeper.old.table ≡ words.now.table }
-    requires place { slot < 32 }
+    requires place { slot < MOST_SLOTS }
     requires may { MayTotalSub keeper.old.view slot }
     ensures table { keeper.new.table ≡ keeper.old.table }
     ensures event { Makes (TotalSub slot) Done (Keeper keeper.old.view) (Keeper keeper.new.view) }
@@ -123,7 +124,7 @@ pub fn join_keeper(words: &Words, keeper: &mut KeeperSeat, reference: ReferenceS
 /// Condition: the slot is drained, its entry is an interface, and the driver that it keeps is in `driver_slot`.
 pub fn kept_sub(words: &Words, keeper: &mut KeeperSeat, slot: u8, driver_slot: u8)
     requires table { keeper.old.table ≡ words.now.table }
-    requires place { driver_slot < 32 }
+    requires place { driver_slot < MOST_SLOTS }
     requires may { MayKeptSub keeper.old.view slot driver_slot }
     ensures table { keeper.new.table ≡ keeper.old.table }
     ensures event { Makes (KeptSub slot) Done (Keeper keeper.old.view) (Keeper keeper.new.view) }

@@ -13,6 +13,7 @@ use crate::layout::section_place;
 use crate::operations::by_keeper;
 use crate::seat::KeeperSeat;
 use protocol::Event;
+use registry_values::MOST_CPUS;
 use std::marker::Brand;
 
 /// Looks at the section word of CPU `cpu` for the retired entry in `slot`: the CPU has passed where the word is even or differs from its
@@ -20,7 +21,7 @@ use std::marker::Brand;
 /// Condition: the keeper is at rest, the slot's entry is retired, and the CPU is one of the table's.
 pub fn look(words: &Words, keeper: &mut KeeperSeat, slot: u8, cpu: u8) -> u64
     requires table { keeper.old.table ≡ words.now.table }
-    requires place { cpu < 8 }
+    requires place { cpu < MOST_CPUS }
     requires may { MayLook keeper.old.view slot cpu }
     ensures table { keeper.new.table ≡ keeper.old.table }
     ensures event { Makes (Look (Some slot) cpu) (Word result) (Keeper keeper.old.view) (Keeper keeper.new.view) }
@@ -35,7 +36,7 @@ pub fn look(words: &Words, keeper: &mut KeeperSeat, slot: u8, cpu: u8) -> u64
 /// Condition: the keeper is at rest, and the CPU is one of the table's.
 pub fn look_now(words: &Words, keeper: &mut KeeperSeat, cpu: u8) -> u64
     requires table { keeper.old.table ≡ words.now.table }
-    requires place { cpu < 8 }
+    requires place { cpu < MOST_CPUS }
     requires may { MayGlance keeper.old.view cpu }
     ensures table { keeper.new.table ≡ keeper.old.table }
     ensures event { Makes (Look None cpu) (Word result) (Keeper keeper.old.view) (Keeper keeper.new.view) }
@@ -49,7 +50,7 @@ pub fn look_now(words: &Words, keeper: &mut KeeperSeat, cpu: u8) -> u64
 /// Condition: this snapshot is what the keeper must do next.
 pub fn snapshot(words: &Words, keeper: &mut KeeperSeat, slot: u8, cpu: u8) -> u64
     requires table { keeper.old.table ≡ words.now.table }
-    requires place { cpu < 8 }
+    requires place { cpu < MOST_CPUS }
     requires may { MaySnapshot keeper.old.view slot cpu }
     ensures table { keeper.new.table ≡ keeper.old.table }
     ensures event { Makes (Snapshot (Some slot) cpu) (Word result) (Keeper keeper.old.view) (Keeper keeper.new.view) }
@@ -64,7 +65,7 @@ pub fn snapshot(words: &Words, keeper: &mut KeeperSeat, slot: u8, cpu: u8) -> u6
 /// Condition: the keeper is at rest, and the CPU is one of the table's.
 pub fn snapshot_now(words: &Words, keeper: &mut KeeperSeat, cpu: u8) -> u64
     requires table { keeper.old.table ≡ words.now.table }
-    requires place { cpu < 8 }
+    requires place { cpu < MOST_CPUS }
     requires may { MayGlance keeper.old.view cpu }
     ensures table { keeper.new.table ≡ keeper.old.table }
     ensures event { Makes (Snapshot None cpu) (Word result) (Keeper keeper.old.view) (Keeper keeper.new.view) }

@@ -14,13 +14,14 @@ use crate::layout::{count_place, next_place, record_place};
 use crate::operations::by_keeper;
 use crate::seat::KeeperSeat;
 use protocol::Event;
+use registry_values::{MOST_CPUS, MOST_SLOTS};
 use std::marker::Brand;
 
 /// Stores record word `k` (0 number, 1 kind, 2 and 3 the name, 4 value) of `slot`.
 /// Condition: the keeper is at rest, and the slot is vacant.
 pub fn store_record(words: &Words, keeper: &mut KeeperSeat, slot: u8, k: u8, value: u64)
     requires table { keeper.old.table ≡ words.now.table }
-    requires place { (slot < 32) × (k < 5) }
+    requires place { (slot < MOST_SLOTS) × (k < 5) }
     requires may { MayWrite keeper.old.view slot }
     ensures table { keeper.new.table ≡ keeper.old.table }
     ensures event { Makes (StoreSlot slot k value) Done (Keeper keeper.old.view) (Keeper keeper.new.view) }
@@ -35,7 +36,7 @@ pub fn store_record(words: &Words, keeper: &mut KeeperSeat, slot: u8, k: u8, val
 /// Stores the count word of CPU `cpu` for `slot`. Condition: as for `store_record`.
 pub fn store_count(words: &Words, keeper: &mut KeeperSeat, slot: u8, cpu: u8, value: u64)
     requires table { keeper.old.table ≡ words.now.table }
-    requires place { (slot < 32) × (cpu < keeper.old.view.settings.cpus) × (cpu < 8) }
+    requires place { (slot < MOST_SLOTS) × (cpu < keeper.old.view.settings.cpus) × (cpu < MOST_CPUS) }
     requires may { MayWrite keeper.old.view slot }
     ensures table { keeper.new.table ≡ keeper.old.table }
     ensures event { Makes (StoreSlot slot (5 + cpu) value) Done (Keeper keeper.old.view) (Keeper keeper.new.view) }
@@ -50,7 +51,7 @@ pub fn store_count(words: &Words, keeper: &mut KeeperSeat, slot: u8, cpu: u8, va
 /// Stores the link of `slot`: 0 for the end, else a slot plus 1. Condition: as for `store_record`.
 pub fn store_next(words: &Words, keeper: &mut KeeperSeat, slot: u8, link: u64)
     requires table { keeper.old.table ≡ words.now.table }
-    requires place { slot < 32 }
+    requires place { slot < MOST_SLOTS }
     requires may { MayWrite keeper.old.view slot }
     ensures table { keeper.new.table ≡ keeper.old.table }
     ensures event { Makes (StoreNext slot link) Done (Keeper keeper.old.view) (Keeper keeper.new.view) }

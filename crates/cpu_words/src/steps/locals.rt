@@ -18,6 +18,7 @@ use crate::operations::by_cpu;
 use crate::operations::in_hand::InHandReference;
 use crate::seat::{CpuSeat, ReferenceSeat};
 use protocol::Event;
+use registry_values::{MOST_CPUS, MOST_SLOTS};
 use std::marker::Brand;
 
 /// CPU `cpu` counts a local reference to its last found entry, the one with `number` (from 1) in `slot` (from 0), and has it in its hand:
@@ -26,7 +27,7 @@ use std::marker::Brand;
 /// last counted another number there, it has counted none to this one.
 pub fn count_add(words: &Words, seat: &mut CpuSeat, cpu: u8, slot: u8, number: u64) -> u64
     requires table { seat.old.table ≡ words.now.table }
-    requires place { (cpu < 8) × (slot < 32) }
+    requires place { (cpu < MOST_CPUS) × (slot < MOST_SLOTS) }
     requires cpu { seat.old.view.id ≡ cpu }
     requires may { MayCount seat.old.view slot number }
     ensures table { seat.new.table ≡ seat.old.table }
@@ -122,7 +123,7 @@ pub fn count_down(
     expected: u64,
 ) -> u64
     requires table { seat.old.table ≡ words.now.table }
-    requires place { (cpu < 8) × (slot < 32) }
+    requires place { (cpu < MOST_CPUS) × (slot < MOST_SLOTS) }
     requires cpu { seat.old.view.id ≡ cpu }
     requires may { MayCountDown seat.old.view slot number expected }
     ensures table { seat.new.table ≡ seat.old.table }

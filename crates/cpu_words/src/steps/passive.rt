@@ -15,6 +15,7 @@ use crate::layout::{passive_place, record_place};
 use crate::operations::by_cpu;
 use crate::seat::CpuSeat;
 use protocol::{Event, RecordOf};
+use registry_values::{MOST_CPUS, MOST_SLOTS};
 use std::marker::Brand;
 
 /// CPU `cpu` gets a passive reference to the entry `number` of slot `slot`, by one addition to its passive word for that slot.
@@ -23,12 +24,12 @@ use std::marker::Brand;
 /// has fewer of them than the passive limit.
 pub fn passive_add(words: &Words, seat: &mut CpuSeat, cpu: u8, slot: u8, number: u64) -> u64
     requires table { seat.old.table ≡ words.now.table }
-    requires cpu { (cpu < 8) × (seat.old.view.id ≡ cpu) }
+    requires cpu { (cpu < MOST_CPUS) × (seat.old.view.id ≡ cpu) }
     requires may { MayAdd seat.old.view slot number }
     ensures table { seat.new.table ≡ seat.old.table }
     ensures event { Makes (PassiveAdd cpu number) (Word result) (Cpu seat.old.view) (Cpu seat.new.view) }
     ensures change { HasAdded seat.old.view slot number seat.new.view }
-    ensures slot { slot < 32 }
+    ensures slot { slot < MOST_SLOTS }
     ensures count { result ≡ references_to number seat.old.view.references }
     ensures alone { IsAloneAt seat.old.view slot number }
     ensures log { seat.new.log ≡ seat.old.log ++ did (PassiveAdd cpu number) (Word result) }
@@ -43,7 +44,7 @@ pub fn passive_add(words: &Words, seat: &mut CpuSeat, cpu: u8, slot: u8, number:
 /// Condition: the seat is that CPU's and idle, and has such a reference.
 pub fn passive_sub(words: &Words, seat: &mut CpuSeat, cpu: u8, slot: u8, number: u64) -> u64
     requires table { seat.old.table ≡ words.now.table }
-    requires cpu { (cpu < 8) × (seat.old.view.id ≡ cpu) }
+    requires cpu { (cpu < MOST_CPUS) × (seat.old.view.id ≡ cpu) }
     requires may { MayUse seat.old.view slot number }
     ensures table { seat.new.table ≡ seat.old.table }
     ensures event { Makes (PassiveSub cpu number) (Word result) (Cpu seat.old.view) (Cpu seat.new.view) }
@@ -59,12 +60,12 @@ pub fn passive_sub(words: &Words, seat: &mut CpuSeat, cpu: u8, slot: u8, number:
 
 /// CPU `cpu` loads word `k` of the record of the entry `number` in slot `slot` by its passive reference: 0 is the number, 1 the kind,
 /// 2 and 3 the name's high and low words, which are those of a name, 4 the value.
-/// Condition: the seat is that CPU's and idle, and has such a reference; the slot is below 32, as `passive_add` ensures, and `k`
+/// Condition: the seat is that CPU's and idle, and has such a reference; the slot is below `MOST_SLOTS`, as `passive_add` ensures, and `k`
 /// below 5.
 pub fn load_passive(words: &Words, seat: &mut CpuSeat, cpu: u8, slot: u8, number: u64, k: u8) -> u64
     requires table { seat.old.table ≡ words.now.table }
-    requires cpu { (cpu < 8) × (seat.old.view.id ≡ cpu) }
-    requires place { (slot < 32) × (k < 5) }
+    requires cpu { (cpu < MOST_CPUS) × (seat.old.view.id ≡ cpu) }
+    requires place { (slot < MOST_SLOTS) × (k < 5) }
     requires may { MayUse seat.old.view slot number }
     ensures table { seat.new.table ≡ seat.old.table }
     ensures event { Makes (LoadRecord (Passive cpu number k)) (Word result) (Cpu seat.old.view) (Cpu seat.new.view) }

@@ -15,14 +15,14 @@ use crate::layout::{HEAD, place_behind, record_place};
 use crate::operations::by_cpu;
 use crate::seat::CpuSeat;
 use protocol::{Event, RecordOf};
-use registry_values::{Kind, Name};
+use registry_values::{Kind, MOST_CPUS, MOST_SLOTS, Name};
 use std::marker::Brand;
 
 /// CPU `cpu` begins a search for a kind and a name, and loads the head of the list: a slot plus 1, or 0 where no entry has them.
 /// Condition: the seat is that CPU's, idle and inside.
 pub fn seek(words: &Words, seat: &mut CpuSeat, cpu: u8, kind: Kind, name: Name) -> u64
     requires table { seat.old.table ≡ words.now.table }
-    requires cpu { (cpu < 8) × (seat.old.view.id ≡ cpu) }
+    requires cpu { (cpu < MOST_CPUS) × (seat.old.view.id ≡ cpu) }
     requires may { MaySeek seat.old.view }
     ensures table { seat.new.table ≡ seat.old.table }
     ensures begun { Makes (Seek cpu kind name) Done (Cpu seat.old.view) (Cpu (cpu_after_seek (key_with kind name) seat.old.view)) }
@@ -39,8 +39,8 @@ pub fn seek(words: &Words, seat: &mut CpuSeat, cpu: u8, kind: Kind, name: Name) 
 /// By the link the place is known a subtraction earlier than the record's: so this load, for which the next entry waits, goes first.
 pub fn load_link(words: &Words, seat: &mut CpuSeat, cpu: u8, link: u64) -> u64
     requires table { seat.old.table ≡ words.now.table }
-    requires cpu { (cpu < 8) × (seat.old.view.id ≡ cpu) }
-    requires slot { (0 < link) × (link ≤ 32) }
+    requires cpu { (cpu < MOST_CPUS) × (seat.old.view.id ≡ cpu) }
+    requires slot { (0 < link) × (link ≤ MOST_SLOTS) }
     requires may { MayLoadLink seat.old.view (link - 1) }
     ensures table { seat.new.table ≡ seat.old.table }
     ensures event { Makes (LoadLink cpu) (link_answer result) (Cpu seat.old.view) (Cpu seat.new.view) }
@@ -56,8 +56,8 @@ pub fn load_link(words: &Words, seat: &mut CpuSeat, cpu: u8, link: u64) -> u64
 /// Condition: the seat is that CPU's, and its search stands at that word; slots count from 0.
 pub fn load_searched(words: &Words, seat: &mut CpuSeat, cpu: u8, slot: usize, k: u8) -> u64
     requires table { seat.old.table ≡ words.now.table }
-    requires cpu { (cpu < 8) × (seat.old.view.id ≡ cpu) }
-    requires slot { (slot < 32) × (k < 5) }
+    requires cpu { (cpu < MOST_CPUS) × (seat.old.view.id ≡ cpu) }
+    requires slot { (slot < MOST_SLOTS) × (k < 5) }
     requires may { MayLoadSearched seat.old.view slot k }
     ensures table { seat.new.table ≡ seat.old.table }
     ensures event { Makes (LoadRecord (OfSearch cpu)) (loaded_answer (loaded_of seat.old.view.search result)) (Cpu seat.old.view) (Cpu seat.new.view) }

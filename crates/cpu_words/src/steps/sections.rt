@@ -13,13 +13,14 @@ use crate::layout::section_place;
 use crate::operations::by_cpu;
 use crate::seat::CpuSeat;
 use protocol::Event;
+use registry_values::MOST_CPUS;
 use std::marker::Brand;
 
 /// CPU `cpu` begins a section: its section word becomes odd, and its pass the whole history.
 /// Condition: the seat is that CPU's, idle and outside, and its section word is below twice the section limit.
 pub fn enter(words: &Words, seat: &mut CpuSeat, cpu: u8)
     requires table { seat.old.table ≡ words.now.table }
-    requires cpu { (cpu < 8) × (seat.old.view.id ≡ cpu) }
+    requires cpu { (cpu < MOST_CPUS) × (seat.old.view.id ≡ cpu) }
     requires may { MayEnter seat.old.view }
     ensures table { seat.new.table ≡ seat.old.table }
     ensures event { Makes (Enter cpu) Done (Cpu seat.old.view) (Cpu seat.new.view) }
@@ -34,7 +35,7 @@ pub fn enter(words: &Words, seat: &mut CpuSeat, cpu: u8)
 /// Condition: the seat is that CPU's, idle and inside.
 pub fn exit(words: &Words, seat: &mut CpuSeat, cpu: u8)
     requires table { seat.old.table ≡ words.now.table }
-    requires cpu { (cpu < 8) × (seat.old.view.id ≡ cpu) }
+    requires cpu { (cpu < MOST_CPUS) × (seat.old.view.id ≡ cpu) }
     requires may { MayExit seat.old.view }
     ensures table { seat.new.table ≡ seat.old.table }
     ensures event { Makes (Exit cpu) Done (Cpu seat.old.view) (Cpu seat.new.view) }

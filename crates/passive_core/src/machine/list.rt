@@ -12,8 +12,8 @@ ghost use Rattle.protocol.specs.Taken.{Steps};
 use crate::machine::{Core, grow};
 use protocol::{Due, RecordWords, Reply, StepFault};
 use registry_values::{
-    BIAS, Change, Entry, Key, Kind, NO_MARK, Name, Record, Room, Slot, has_room, is_live,
-    is_live_as, key_of,
+    BIAS, Change, Entry, Key, Kind, MOST_CPUS, NO_MARK, Name, Record, Room, Slot, has_room,
+    is_live, is_live_as, key_of,
 };
 
 impl Core {
@@ -146,7 +146,7 @@ impl Core {
         grow(&mut self.history, Change::Attach(entry))?;
         self.head = t as u64 + 1;
         self.slots[t as usize] = Slot::Live(entry);
-        self.nets[t as usize] = [BIAS; 8];
+        self.nets[t as usize] = [BIAS; MOST_CPUS];
         Ok(Reply::Done)
     }
 
@@ -186,7 +186,7 @@ impl Core {
             None => self.head = link,
         }
         self.slots[t as usize] = Slot::Retired(entry);
-        self.marks[t as usize] = [NO_MARK; 8];
+        self.marks[t as usize] = [NO_MARK; MOST_CPUS];
         self.due = Due::Snapshots(t, 0);
         Ok(Reply::Done)
     }

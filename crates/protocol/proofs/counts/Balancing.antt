@@ -2,27 +2,28 @@
 use Rattle.std.proofs.Common.{◌≡◌, ℕ, ◌+◌, ◌-◌, ◌*◌, ◌<◌, ◌≤◌, ◌⊎◌, ⊎_elim, List, length, get_or, set, ap, ◌∙◌, arith, get_or-set_same, get_or-set_other}
 use Rattle.std.proofs.lemmas.Bool.{cases_eq}
 use Rattle.std.proofs.lemmas.List.Sums.{sum_by-set}
+use Rattle.registry_values.specs.declared.settings.TheConstants.{MOST_CPUS}
 use Rattle.registry_values.specs.Balances.{bias}
 use Rattle.protocol.specs.Invariant.{Balances, one_if_used, itself, greatest_limit}
 use Rattle.protocol.proofs.counts.Sums.{used-le-length, words-le-used, words-at-bias, words-at-zero, is_used}
 
 -- no word goes further than its limit
 abbrev pub AreWords : List ℕ → Type 0
-AreWords row = (length row ≡ 8) × ((c : ℕ) → get_or row c 0 ≤ bias + greatest_limit)
+AreWords row = (length row ≡ MOST_CPUS) × ((c : ℕ) → get_or row c 0 ≤ bias + greatest_limit)
 
 -- a total, with what is to be added, is far above 0
-pub total_floor : (row : List ℕ) (total held adding is_adding : ℕ) → AreWords row → Balances row total held adding is_adding → bias * (1 + is_adding) + held ≤ total + adding + 8 * greatest_limit
+pub total_floor : (row : List ℕ) (total held adding is_adding : ℕ) → AreWords row → Balances row total held adding is_adding → bias * (1 + is_adding) + held ≤ total + adding + MOST_CPUS * greatest_limit
 total_floor row total held adding is_adding words b =
     let used = used-le-length row in
     let most = words-le-used row words.1 in
     omega (arith, used, most, words.0, b.even)
 
 -- and far below the most that its word can hold
-pub total_ceiling : (row : List ℕ) (total held adding is_adding : ℕ) → Balances row total held adding is_adding → total + adding ≤ bias * (1 + is_adding) + 8 * greatest_limit
+pub total_ceiling : (row : List ℕ) (total held adding is_adding : ℕ) → Balances row total held adding is_adding → total + adding ≤ bias * (1 + is_adding) + MOST_CPUS * greatest_limit
 total_ceiling row total held adding is_adding b = omega (arith, b.capped)
 
 -- a word that isn't collected is far above 0
-pub word_floor : (row : List ℕ) (total held adding is_adding c : ℕ) → AreWords row → c < 8 → 0 < get_or row c 0 → Balances row total held adding is_adding → bias + held ≤ get_or row c 0 + 7 * greatest_limit
+pub word_floor : (row : List ℕ) (total held adding is_adding c : ℕ) → AreWords row → c < MOST_CPUS → 0 < get_or row c 0 → Balances row total held adding is_adding → bias + held ≤ get_or row c 0 + (MOST_CPUS - 1) * greatest_limit
 word_floor row total held adding is_adding c words lt some b =
     let used = used-le-length row in
     let in_ : c < length row = omega (arith, words.0) in
@@ -75,7 +76,7 @@ subtracted row total held words b =
     record { even = omega (arith, floor, b.even); capped = omega (arith, b.capped) }
 
 -- words that are 0 or the bias, and a total that is the bias, count nothing
-pub published : (row : List ℕ) → length row ≡ 8 → ((c : ℕ) → (get_or row c 0 ≡ 0) ⊎ (get_or row c 0 ≡ bias)) → Balances row bias 0 0 0
+pub published : (row : List ℕ) → length row ≡ MOST_CPUS → ((c : ℕ) → (get_or row c 0 ≡ 0) ⊎ (get_or row c 0 ≡ bias)) → Balances row bias 0 0 0
 published row size each = record { even = omega (arith, words-at-bias row each); capped = omega (arith, used-le-length row, size) }
 
 -- once all words are collected, the total says what is held

@@ -4,6 +4,7 @@ use Rattle.std.proofs.lemmas.Bool.{cases_lt, cases_Bool, eq-eqb, ne_eqb}
 use Rattle.std.proofs.lemmas.List.{get_or-replicate, get_or_past, length-replicate}
 use Rattle.registry_values.specs.declared.entry.Entry.{Entry}
 use Rattle.registry_values.specs.declared.settings.Settings.{Settings}
+use Rattle.registry_values.specs.declared.settings.TheConstants.{MOST_CPUS}
 use Rattle.registry_values.specs.declared.slot.Slot.{Slot}
 use Rattle.registry_values.specs.declared.slot.Slot.TheVariants.{Vacant, Live, Retired}
 use Rattle.registry_values.specs.declared.mark.Mark.{Mark}
@@ -28,7 +29,7 @@ use Rattle.protocol.proofs.slots.Occupied.{not_vacant, in_within}
 
 -- the lengths and limits that the lemmas need
 pub record CountsFit (z : Settings) (slots : List Slot) (marks : List (List Mark)) (counts nets : List (List ℕ)) (totals : List ℕ) (hands : List Hand) (keeps : List (Option ℕ)) : Type 0 where
-  pub cpu_limit : z.cpus ≤ 8
+  pub cpu_limit : z.cpus ≤ MOST_CPUS
   pub limit : z.count_limit ≤ greatest_limit
   pub slot_length : length slots ≡ z.slots
   pub mark_length : length marks ≡ z.slots
@@ -60,13 +61,13 @@ counts_fit s fit shape =
     }
 
 -- a word is in its row
-in_counts : {z : Settings} {slots : List Slot} {marks : List (List Mark)} {counts nets : List (List ℕ)} {totals : List ℕ} {hands : List Hand} {keeps : List (Option ℕ)} → CountsFit z slots marks counts nets totals hands keeps → (t : ℕ) (e : Entry) → IsIn e (slot_at slots t) → (t < length counts) × (length (get_or counts t []) ≡ 8)
+in_counts : {z : Settings} {slots : List Slot} {marks : List (List Mark)} {counts nets : List (List ℕ)} {totals : List ℕ} {hands : List Hand} {keeps : List (Option ℕ)} → CountsFit z slots marks counts nets totals hands keeps → (t : ℕ) (e : Entry) → IsIn e (slot_at slots t) → (t < length counts) × (length (get_or counts t []) ≡ MOST_CPUS)
 in_counts {z} {slots} {marks} {counts} {nets} {totals} {hands} {keeps} fit t e is =
     let lt = in_within slots t e is in
     let within : t < length counts = omega (arith, lt, fit.slot_length, fit.count_length) in
     (within, fit.count_rows t within)
 
-in_nets : {z : Settings} {slots : List Slot} {marks : List (List Mark)} {counts nets : List (List ℕ)} {totals : List ℕ} {hands : List Hand} {keeps : List (Option ℕ)} → CountsFit z slots marks counts nets totals hands keeps → (t : ℕ) (e : Entry) → IsIn e (slot_at slots t) → (t < length nets) × (length (get_or nets t []) ≡ 8)
+in_nets : {z : Settings} {slots : List Slot} {marks : List (List Mark)} {counts nets : List (List ℕ)} {totals : List ℕ} {hands : List Hand} {keeps : List (Option ℕ)} → CountsFit z slots marks counts nets totals hands keeps → (t : ℕ) (e : Entry) → IsIn e (slot_at slots t) → (t < length nets) × (length (get_or nets t []) ≡ MOST_CPUS)
 in_nets {z} {slots} {marks} {counts} {nets} {totals} {hands} {keeps} fit t e is =
     let lt = in_within slots t e is in
     let within : t < length nets = omega (arith, lt, fit.slot_length, fit.net_length) in
@@ -395,19 +396,19 @@ snapshot {z} {slots} {marks} {counts} {nets} {totals} {hands} {keeps} {due} {loc
 -- Events that fill or empty a slot
 
 pub publish : {z : Settings} {slots : List Slot} {marks : List (List Mark)} {counts nets : List (List ℕ)} {totals : List ℕ} {hands : List Hand} {keeps : List (Option ℕ)} {due : Due} {locals : List LocalPlace} → CountsHold z slots marks counts nets totals hands keeps due locals → CountsFit z slots marks counts nets totals hands keeps → (t : ℕ) (e : Entry) → t < length slots → slot_at slots t ≡ Vacant → due ≡ Rest → ((c : ℕ) → c < z.cpus → count_at counts c t ≡ bias) → held_at locals hands keeps due e.number t ≡ 0
-    → CountsHold z (set slots t (Live e)) marks counts (set nets t (replicate 8 bias)) totals hands keeps due locals
+    → CountsHold z (set slots t (Live e)) marks counts (set nets t (replicate MOST_CPUS bias)) totals hands keeps due locals
 publish {z} {slots} {marks} {counts} {nets} {totals} {hands} {keeps} {due} {locals} on fit t e lt vacant rest words none =
     let tn : t < length nets = omega (arith, lt, fit.slot_length, fit.net_length) in
     let tc : t < length counts = omega (arith, lt, fit.slot_length, fit.count_length) in
     let here : slot_at (set slots t (Live e)) t ≡ Live e = slot_here slots t (Live e) lt in
     let is : IsIn e (slot_at (set slots t (Live e)) t) = inl here in
-    let net_new : (j : ℕ) → count_at (set nets t (replicate 8 bias)) j t ≡ get_or (replicate 8 bias) j 0 = λ j. cell_in_new 0 nets t (replicate 8 bias) j tn in
-    let net_old : (u j : ℕ) → (u ≡ t → ⊥) → count_at (set nets t (replicate 8 bias)) j u ≡ count_at nets j u = λ u j off. cell_in_old 0 nets t (replicate 8 bias) u j off in
+    let net_new : (j : ℕ) → count_at (set nets t (replicate MOST_CPUS bias)) j t ≡ get_or (replicate MOST_CPUS bias) j 0 = λ j. cell_in_new 0 nets t (replicate MOST_CPUS bias) j tn in
+    let net_old : (u j : ℕ) → (u ≡ t → ⊥) → count_at (set nets t (replicate MOST_CPUS bias)) j u ≡ count_at nets j u = λ u j off. cell_in_old 0 nets t (replicate MOST_CPUS bias) u j off in
     let slot_old : (u : ℕ) → (u ≡ t → ⊥) → slot_at (set slots t (Live e)) u ≡ slot_at slots u = λ u off. slot_other slots t (Live e) u off in
-    let eight : (j : ℕ) → j < z.cpus → get_or (replicate 8 bias) j 0 ≡ bias = λ j below. get_or-replicate 8 j bias 0 (omega (arith, below, fit.cpu_limit)) in
+    let biased : (j : ℕ) → j < z.cpus → get_or (replicate MOST_CPUS bias) j 0 ≡ bias = λ j below. get_or-replicate MOST_CPUS j bias 0 (omega (arith, below, fit.cpu_limit)) in
     record {
-      counted = λ j u below counting. by_place (λ x. IsCounting (set slots t (Live e)) marks j x → (count_at counts j x ≡ count_at (set nets t (replicate 8 bias)) j x) × (0 < count_at counts j x)) t u
-          (λ _. (words j below ∙ sym (net_new j ∙ eight j below), omega (arith, words j below)))
+      counted = λ j u below counting. by_place (λ x. IsCounting (set slots t (Live e)) marks j x → (count_at counts j x ≡ count_at (set nets t (replicate MOST_CPUS bias)) j x) × (0 < count_at counts j x)) t u
+          (λ _. (words j below ∙ sym (net_new j ∙ biased j below), omega (arith, words j below)))
           (λ off there.
           let old : IsCounting slots marks j u = (
             there.0,
@@ -416,8 +417,8 @@ publish {z} {slots} {marks} {counts} {nets} {totals} {hands} {keeps} {due} {loca
           ) in
           let was = on.counted j u below old in (was.0 ∙ sym (net_old u j off), was.1))
           counting;
-      used = λ j u f below in_. by_place (λ x. IsIn f (slot_at (set slots t (Live e)) x) → 0 < count_at (set nets t (replicate 8 bias)) j x) t u
-          (λ _. omega (arith, net_new j, eight j below))
+      used = λ j u f below in_. by_place (λ x. IsIn f (slot_at (set slots t (Live e)) x) → 0 < count_at (set nets t (replicate MOST_CPUS bias)) j x) t u
+          (λ _. omega (arith, net_new j, biased j below))
           (λ off there. omega (arith, net_old u j off, on.used j u f below (subst (IsIn f) (slot_old u off) there)))
           in_;
       emptied = λ j u f gone done. by_place (λ x. slot_at (set slots t (Live e)) x ≡ Retired f → (mark_at marks x j).collected ≡ true → count_at counts j x ≡ 0) t u
@@ -425,7 +426,7 @@ publish {z} {slots} {marks} {counts} {nets} {totals} {hands} {keeps} {due} {loca
           (λ off retired all. on.emptied j u f (sym (slot_old u off) ∙ retired) all)
           gone done;
       beyond = on.beyond;
-      limited = λ j u f in_. by_place (λ x. IsIn f (slot_at (set slots t (Live e)) x) → count_at (set nets t (replicate 8 bias)) j x ≤ bias + z.count_limit) t u
+      limited = λ j u f in_. by_place (λ x. IsIn f (slot_at (set slots t (Live e)) x) → count_at (set nets t (replicate MOST_CPUS bias)) j x ≤ bias + z.count_limit) t u
           (λ _. omega (arith, net_new j, at_most j))
           (λ off there. omega (arith, net_old u j off, on.limited j u f (subst (IsIn f) (slot_old u off) there)))
           in_;
@@ -441,26 +442,26 @@ publish {z} {slots} {marks} {counts} {nets} {totals} {hands} {keeps} {due} {loca
       fresh = on.fresh;
     }
   where
-    at_most : (j : ℕ) → get_or (replicate 8 bias) j 0 ≤ bias
+    at_most : (j : ℕ) → get_or (replicate MOST_CPUS bias) j 0 ≤ bias
     at_most j = ⊎_elim
-        (λ (below : j < 8). omega (arith, get_or-replicate 8 j bias 0 below))
-        (λ (ge : 8 ≤ j). omega (arith, past j ge))
-        (cases_lt j 8)
+        (λ (below : j < MOST_CPUS). omega (arith, get_or-replicate MOST_CPUS j bias 0 below))
+        (λ (ge : MOST_CPUS ≤ j). omega (arith, past j ge))
+        (cases_lt j MOST_CPUS)
       where
-        past : (k : ℕ) → 8 ≤ k → get_or (replicate 8 bias) k 0 ≡ 0
-        past k ge = get_or_past (replicate 8 bias) k 0 (omega (arith, length-replicate 8 bias, ge))
+        past : (k : ℕ) → MOST_CPUS ≤ k → get_or (replicate MOST_CPUS bias) k 0 ≡ 0
+        past k ge = get_or_past (replicate MOST_CPUS bias) k 0 (omega (arith, length-replicate MOST_CPUS bias, ge))
 
 pub unpublish : {z : Settings} {slots : List Slot} {marks : List (List Mark)} {counts nets : List (List ℕ)} {totals : List ℕ} {hands : List Hand} {keeps : List (Option ℕ)} {due : Due} {locals : List LocalPlace} → CountsHold z slots marks counts nets totals hands keeps due locals → CountsFit z slots marks counts nets totals hands keeps → (t : ℕ) (e : Entry) → due ≡ Rest → slot_at slots t ≡ Live e
-    → CountsHold z (set slots t (Retired e)) (set marks t (replicate 8 no_mark)) counts nets totals hands keeps (Snapshots t 0) locals
+    → CountsHold z (set slots t (Retired e)) (set marks t (replicate MOST_CPUS no_mark)) counts nets totals hands keeps (Snapshots t 0) locals
 unpublish {z} {slots} {marks} {counts} {nets} {totals} {hands} {keeps} {due} {locals} on fit t e rest live =
     let is : IsIn e (slot_at slots t) = inl live in
     let lt = in_within slots t e is in
     let tm : t < length marks = omega (arith, lt, fit.slot_length, fit.mark_length) in
     let here : slot_at (set slots t (Retired e)) t ≡ Retired e = slot_here slots t (Retired e) lt in
     let now : IsIn e (slot_at (set slots t (Retired e)) t) = inr here in
-    let marks2 : List (List Mark) = set marks t (replicate 8 no_mark) in
-    let mark_new : (j : ℕ) → mark_at marks2 t j ≡ no_mark = λ j. cell_in_new no_mark marks t (replicate 8 no_mark) j tm ∙ get_or_all 8 no_mark j in
-    let mark_old : (u j : ℕ) → (u ≡ t → ⊥) → mark_at marks2 u j ≡ mark_at marks u j = λ u j off. cell_in_old no_mark marks t (replicate 8 no_mark) u j off in
+    let marks2 : List (List Mark) = set marks t (replicate MOST_CPUS no_mark) in
+    let mark_new : (j : ℕ) → mark_at marks2 t j ≡ no_mark = λ j. cell_in_new no_mark marks t (replicate MOST_CPUS no_mark) j tm ∙ get_or_all MOST_CPUS no_mark j in
+    let mark_old : (u j : ℕ) → (u ≡ t → ⊥) → mark_at marks2 u j ≡ mark_at marks u j = λ u j off. cell_in_old no_mark marks t (replicate MOST_CPUS no_mark) u j off in
     let slot_old : (u : ℕ) → (u ≡ t → ⊥) → slot_at (set slots t (Retired e)) u ≡ slot_at slots u = λ u off. slot_other slots t (Retired e) u off in
     let was_in : (u : ℕ) (f : Entry) → IsIn f (slot_at (set slots t (Retired e)) u) → IsIn f (slot_at slots u) = λ u f in_. by_place (λ x. IsIn f (slot_at (set slots t (Retired e)) x) → IsIn f (slot_at slots x)) t u
     (λ there. subst (λ (g : Entry). IsIn g (slot_at slots t)) (sym (one_in e f (slot_at (set slots t (Retired e)) t) now there)) is)
@@ -559,12 +560,12 @@ count_store {z} {slots} {marks} {counts} {nets} {totals} {hands} {keeps} {due} {
     }
 
 -- all slots are vacant
-pub opening : (z : Settings) → CountsHold z (replicate z.slots Vacant) (replicate z.slots (replicate 8 no_mark)) (replicate z.slots (replicate 8 0)) (replicate z.slots (replicate 8 0)) (replicate z.slots bias) (replicate z.cpus Empty) (replicate z.slots None) Rest []
+pub opening : (z : Settings) → CountsHold z (replicate z.slots Vacant) (replicate z.slots (replicate MOST_CPUS no_mark)) (replicate z.slots (replicate MOST_CPUS 0)) (replicate z.slots (replicate MOST_CPUS 0)) (replicate z.slots bias) (replicate z.cpus Empty) (replicate z.slots None) Rest []
 opening z =
     let none : (t : ℕ) (e : Entry) → IsIn e (slot_at (replicate z.slots Vacant) t) → ⊥ = λ t e is. not_vacant e (slot_at (replicate z.slots Vacant) t) (get_or_all z.slots Vacant t) is in
     record {
       counted = λ c t lt counting. absurd (none t counting.0 (⊎_elim (λ (live : slot_at (replicate z.slots Vacant) t ≡ Live counting.0). inl live)
-          (λ (back : (slot_at (replicate z.slots Vacant) t ≡ Retired counting.0) × ((mark_at (replicate z.slots (replicate 8 no_mark)) t c).collected ≡ false)). inr back.0) counting.1));
+          (λ (back : (slot_at (replicate z.slots Vacant) t ≡ Retired counting.0) × ((mark_at (replicate z.slots (replicate MOST_CPUS no_mark)) t c).collected ≡ false)). inr back.0) counting.1));
       used = λ c t e lt is. absurd (none t e is);
       emptied = λ c t e is done. absurd (none t e (inr is));
       beyond = λ c t ge. zero_at z.slots t c;
@@ -574,7 +575,7 @@ opening z =
       fresh = λ c t d snap. absurd (let q : Rest ≡ Snapshots t d = snap in cc);
     }
   where
-    zero_at : (n t c : ℕ) → count_at (replicate n (replicate 8 0)) c t ≡ 0
+    zero_at : (n t c : ℕ) → count_at (replicate n (replicate MOST_CPUS 0)) c t ≡ 0
     zero_at zero t c = refl
-    zero_at (suc n) zero c = get_or_all 8 0 c
+    zero_at (suc n) zero c = get_or_all MOST_CPUS 0 c
     zero_at (suc n) (suc t) c = zero_at n t c

@@ -14,6 +14,7 @@ use Rattle.protocol.proofs.keeps.Publishing.{held_attach, legal_attach, links_at
 use Rattle.protocol.proofs.keeps.Unlinking.{before_leads, head_leads, head_leads_on, held_detach, legal_detach, link_to, links_detach, list_unlink_head, list_unlink_mid, rows_detach, slots_detach, within_live}
 use Rattle.protocol.specs.Events.{after_link_store, after_publish, after_row_store, after_unpublish, are_unused, entry_if, entry_of, has_room, is_prepared, keeps_rightly, kind_of, may_publish, may_write, with_retired, with_link_past, with_word, words_of}
 use Rattle.protocol.specs.History.{after_change}
+use Rattle.registry_values.specs.declared.settings.TheConstants.{MOST_CPUS}
 use Rattle.registry_values.specs.Slots.{key_of, is_live, is_live_as, is_taken, is_vacant, kind_word, live_count, same_key, same_kind, same_name, slot_before, slot_at}
 use Rattle.protocol.specs.Invariant.{AreRows, CountsHold, DriversKept, HasShape, Holds, IsIn, Leads, LinksStay, ListShows, ReferencesHold, RowsShow, SnapshotsStand, one_if}
 use Rattle.registry_values.specs.Names.{are_name_words}
@@ -106,7 +107,7 @@ pub live_count_put : (slots : List Slot) (t : ℕ) (x y : Slot) → t < length s
 live_count_put slots t x y lt at = subst (λ (z : Slot). live_count (set slots t y) + one_if (is_live z) ≡ live_count slots + one_if (is_live y)) at (live_count_set slots t y lt)
 
 -- a row with a place for each CPU is written
-pub rows_put : {X : Type 0} (rows : List (List X)) (t : ℕ) (row : List X) → length row ≡ 8 → AreRows rows → AreRows (set rows t row)
+pub rows_put : {X : Type 0} (rows : List (List X)) (t : ℕ) (row : List X) → length row ≡ MOST_CPUS → AreRows rows → AreRows (set rows t row)
 rows_put {X} rows t row size are u lt = ⊎_elim
     (λ (same : u ≡ t). ap (λ (k : ℕ). length (get_or (set rows t row) k [])) same ∙ (ap (λ (r : List X). length r) (get_or-set_same rows t row [] (omega (arith, length-set rows t row))) ∙ size))
     (λ (off : u ≡ t → ⊥). ap (λ (r : List X). length r) (get_or-set_other rows t u row [] off) ∙ are u (omega (arith, length-set rows t row)))
@@ -182,8 +183,8 @@ publish_own s e on row name may counts references drivers =
     subst (λ (n : ℕ). ListShows (after_change s.history (Attach e)) (set s.slots e.slot (Live e)) n s.next) (omega arith) (list_attach s.history s.slots s.head s.next e on.legal told.within told.number told.link on.slots on.list) in
     let room : length (after_change s.history (Attach e)) + live_count (set s.slots e.slot (Live e)) ≤ s.settings.change_limit = omega (arith, size, more, told.room) in
     assumption (
-      length-set s.nets e.slot (replicate 8 bias) ∙ on.shape.nets,
-      rows_put s.nets e.slot (replicate 8 bias) refl on.shape.net_rows,
+      length-set s.nets e.slot (replicate MOST_CPUS bias) ∙ on.shape.nets,
+      rows_put s.nets e.slot (replicate MOST_CPUS bias) refl on.shape.net_rows,
       length-set s.slots e.slot (Live e) ∙ on.shape.slots,
       legal_attach s.history e on.legal told.number
           (λ f live same. let q : ◌≡◌ {A = Bool} true false = sym (taken_from (key_of e) s.slots f.slot f (on.slots.placed f live) same) ∙ told.free in cc)
@@ -222,18 +223,18 @@ fit_unlinked s e head next on at rest next_size list links counts references dri
     assumption (
       next_size ∙ on.shape.links,
       length-set s.slots e.slot (Retired e) ∙ on.shape.slots,
-      length-set s.marks e.slot (replicate 8 no_mark) ∙ on.shape.marks,
-      rows_put s.marks e.slot (replicate 8 no_mark) refl on.shape.mark_rows,
+      length-set s.marks e.slot (replicate MOST_CPUS no_mark) ∙ on.shape.marks,
+      rows_put s.marks e.slot (replicate MOST_CPUS no_mark) refl on.shape.mark_rows,
       legal_detach s.history e on.legal (on.slots.live e.slot e at).0,
       slots_detach s.history s.slots e on.legal at on.slots,
       rows_detach s.slots s.rows e at on.rows,
       held_detach s.history s.slots s.begins e at on.held,
-      marks_detach s.history s.slots s.marks s.section s.begins e 8 at (on.shape.marks ∙ sym on.shape.slots) on.slots on.grace,
-      snapshots_detach s.settings.cpus s.slots s.marks e 8 lt (subst (SnapshotsStand s.settings.cpus s.slots s.marks) (at_rest_tells s.due rest) on.snapshots),
+      marks_detach s.history s.slots s.marks s.section s.begins e MOST_CPUS at (on.shape.marks ∙ sym on.shape.slots) on.slots on.grace,
+      snapshots_detach s.settings.cpus s.slots s.marks e MOST_CPUS lt (subst (SnapshotsStand s.settings.cpus s.slots s.marks) (at_rest_tells s.due rest) on.snapshots),
       sections_old s.settings s.history (Detach e.number) s.section s.begins s.depths s.seen on.sections,
       searches_old s.settings s.history (Detach e.number) s.section s.begins s.depths s.seen s.searches on.sections on.searches,
       found_old s.settings s.history (Detach e.number) s.section s.begins s.depths s.seen s.found on.sections on.last_found,
-      passive_detach s.settings.cpus s.settings.passive_limit s.slots s.marks s.passive e 8 lt lm on.passive,
+      passive_detach s.settings.cpus s.settings.passive_limit s.slots s.marks s.passive e MOST_CPUS lt lm on.passive,
     )
 
 -- an entry is unlinked from its own slot

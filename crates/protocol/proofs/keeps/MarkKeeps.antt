@@ -20,6 +20,7 @@ use Rattle.registry_values.specs.Balances.{bias}
 use Rattle.registry_values.specs.declared.entry.Change.TheVariants.{Attach, Detach}
 use Rattle.registry_values.specs.declared.entry.Entry.{Entry}
 use Rattle.registry_values.specs.declared.settings.Settings.{Settings}
+use Rattle.registry_values.specs.declared.settings.TheConstants.{MOST_CPUS}
 use Rattle.protocol.specs.declared.state.Due.TheVariants.{Rest, Snapshots}
 use Rattle.protocol.specs.declared.state.Hand.TheVariants.{Empty}
 use Rattle.registry_values.specs.declared.mark.Mark.{Mark}
@@ -30,7 +31,7 @@ use Rattle.protocol.proofs.keeps.References.{snapshot_due_tells}
 use Rattle.protocol.proofs.slots.Cells.{get_or_all}
 
 -- no more CPUs than a row has places
-pub cpus_fit : (z : Settings) → IsTrue (are_fit z) → z.cpus ≤ 8
+pub cpus_fit : (z : Settings) → IsTrue (are_fit z) → z.cpus ≤ MOST_CPUS
 cpus_fit z fit = (ranges z fit).cpus
 
 -- the place of a CPU in the marks of a retired slot
@@ -207,7 +208,7 @@ cell_all zero m x t c = refl
 cell_all (suc n) m x zero c = get_or_all m x c
 cell_all (suc n) m x (suc t) c = cell_all n m x t c
 
-pub rows_all : {X : Type 0} (n : ℕ) (row : List X) → length row ≡ 8 → AreRows (replicate n row)
+pub rows_all : {X : Type 0} (n : ℕ) (row : List X) → length row ≡ MOST_CPUS → AreRows (replicate n row)
 rows_all zero row size t lt = absurd (omega arith)
 rows_all (suc n) row size zero lt = size
 rows_all (suc n) row size (suc t) lt = rows_all n row size t (omega arith)
@@ -224,10 +225,10 @@ opening_holds z fit counts references drivers =
         sections = length-replicate z.cpus 0;
         links = length-replicate z.slots 0;
         rows = length-replicate z.slots no_words;
-        passive = length-replicate z.slots (replicate 8 0);
-        passive_rows = rows_all z.slots (replicate 8 0) refl;
-        counts = length-replicate z.slots (replicate 8 0);
-        count_rows = rows_all z.slots (replicate 8 0) refl;
+        passive = length-replicate z.slots (replicate MOST_CPUS 0);
+        passive_rows = rows_all z.slots (replicate MOST_CPUS 0) refl;
+        counts = length-replicate z.slots (replicate MOST_CPUS 0);
+        count_rows = rows_all z.slots (replicate MOST_CPUS 0) refl;
         totals = length-replicate z.slots bias;
         begins = length-replicate z.cpus None;
         depths = length-replicate z.cpus 0;
@@ -235,11 +236,11 @@ opening_holds z fit counts references drivers =
         searches = length-replicate z.cpus None;
         found = length-replicate z.cpus None;
         hands = length-replicate z.cpus Empty;
-        nets = length-replicate z.slots (replicate 8 0);
-        net_rows = rows_all z.slots (replicate 8 0) refl;
+        nets = length-replicate z.slots (replicate MOST_CPUS 0);
+        net_rows = rows_all z.slots (replicate MOST_CPUS 0) refl;
         slots = length-replicate z.slots Vacant;
-        marks = length-replicate z.slots (replicate 8 no_mark);
-        mark_rows = rows_all z.slots (replicate 8 no_mark) refl;
+        marks = length-replicate z.slots (replicate MOST_CPUS no_mark);
+        mark_rows = rows_all z.slots (replicate MOST_CPUS no_mark) refl;
         keeps = length-replicate z.slots None;
       };
       legal = record {
@@ -285,11 +286,11 @@ opening_holds z fit counts references drivers =
       searches = λ c q is. absurd (none-some q (sym (get_or_all z.cpus None c) ∙ is));
       last_found = λ c e is. absurd (none-some e (sym (get_or_all z.cpus None c) ∙ is));
       passive = record {
-        vacant = λ c t is. cell_all {X = ℕ} z.slots 8 0 t c;
+        vacant = λ c t is. cell_all {X = ℕ} z.slots MOST_CPUS 0 t c;
         clear = λ c t e is. absurd (not_retired t e is);
         collected = λ c t e is. absurd (not_retired t e is);
-        beyond = λ c t past. cell_all {X = ℕ} z.slots 8 0 t c;
-        limited = λ c t. omega (arith, cell_all {X = ℕ} z.slots 8 0 t c);
+        beyond = λ c t past. cell_all {X = ℕ} z.slots MOST_CPUS 0 t c;
+        limited = λ c t. omega (arith, cell_all {X = ℕ} z.slots MOST_CPUS 0 t c);
       };
       balance = counts;
       references = references;

@@ -3,6 +3,7 @@ use Rattle.std.proofs.Common.{◌≡◌, ℕ, ◌+◌, ◌-◌, List, [], ◌∷
 use Rattle.std.proofs.lemmas.Bool.{and_parts}
 use Rattle.registry_values.specs.declared.entry.Entry.{Entry}
 use Rattle.registry_values.specs.declared.settings.Settings.{Settings}
+use Rattle.registry_values.specs.declared.settings.TheConstants.{MOST_CPUS}
 use Rattle.protocol.specs.declared.event.Event.{Event}
 use Rattle.protocol.specs.declared.event.Event.TheVariants.{Seat, Enter, Exit, Seek, LoadLink, LoadRecord, StoreSlot, StoreNext, Publish, Unpublish, Tell, Hear, Snapshot, Look, PassiveAdd, PassiveSub, PassiveLook, CountAdd, SplitRef, JoinRef, CountDown, SplitBack, Collect, TotalAdd, JoinKeeper, TotalSub, Keep, KeptSub, Vacate}
 use Rattle.protocol.specs.declared.event.RecordOf.{RecordOf}
@@ -205,9 +206,9 @@ opening_pictured z = same_model (picture (opening z)) empty_model (record {
   keeps = λ t. get_or_all z.slots None t;
 })
   where
-    unpassed : (c : ℕ) (o : Option ℕ) → passive_in (replicate z.slots (replicate 8 0)) c o ≡ 0
+    unpassed : (c : ℕ) (o : Option ℕ) → passive_in (replicate z.slots (replicate MOST_CPUS 0)) c o ≡ 0
     unpassed c None = refl
-    unpassed c (Some t) = cell_all {X = ℕ} z.slots 8 0 t c
+    unpassed c (Some t) = cell_all {X = ℕ} z.slots MOST_CPUS 0 t c
 
     no_sum : (n : ℕ) → (picture (opening z)).locals n ≡ 0
     no_sum n = omega (arith, no_hand n (replicate z.cpus Empty) (λ c named. let q : ◌≡◌ {A = Option ℕ} None (Some n) = ap number_of (sym (get_or_all z.cpus Empty c)) ∙ named in cc))

@@ -17,8 +17,8 @@ use crate::machine::drain::is_driver_slot;
 use crate::machine::{Core, make_room};
 use protocol::{Event, LocalPlace, RecordWords};
 use registry_values::{
-    BIAS, Entry, Key, Record, Refusal, Slot, attach_answer, given_entry, is_available, is_iface,
-    kind_word,
+    BIAS, Entry, Key, MOST_CPUS, Record, Refusal, Slot, attach_answer, given_entry, is_available,
+    is_iface, kind_word,
 };
 
 /// The words of a slot and the seats as an attach found them.
@@ -26,7 +26,7 @@ use registry_values::{
 struct Before {
     seated: u8,
     row: RecordWords,
-    counts: [u64; 8],
+    counts: [u64; MOST_CPUS],
     link: u64,
 }
 

@@ -13,7 +13,7 @@ ghost use Rattle.registry_values.specs.declared.slot.Slot.TheVariants.{Live};
 
 use crate::machine::{Core, make_room};
 use protocol::Event;
-use registry_values::{Entry, Key, Kind, Name, Refusal, Slot, detach_answer};
+use registry_values::{Entry, Key, Kind, MOST_CPUS, Name, Refusal, Slot, detach_answer};
 
 impl Core {
     /// Unlinks the live entry with the kind and the name, on CPU `c` (from 0), and answers it. It is retired then, with
@@ -85,7 +85,7 @@ impl Core {
     /// Takes the snapshot of each CPU for a slot that was just unlinked.
     fn take_snapshots(&mut self, t: u8)
         requires due { self.old.due ≡ Snapshots t 0 }
-        requires blank { slice_index_or self.old.marks t [] ≡ replicate 8 no_mark }
+        requires blank { slice_index_or self.old.marks t [] ≡ replicate MOST_CPUS no_mark }
         ensures after { self.new ≡ with_all_snapshots self.old t }
         ensures made { Makes self.old (snapshots_from t 0 self.old.settings.cpus) self.new }
     {

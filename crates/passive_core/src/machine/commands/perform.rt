@@ -12,7 +12,9 @@ ghost use Rattle.protocol.specs.State.{at_rest, section_at};
 
 use crate::machine::Core;
 use protocol::{Event, Reply};
-use registry_values::{Refusal, first_unseen, is_out, retired_number, waiting_for};
+use registry_values::{
+    MOST_CPUS, MOST_SLOTS, Refusal, first_unseen, is_out, retired_number, waiting_for,
+};
 
 impl Core {
     /// Waits on behalf of the CPU `c`, for at most `turns` turns, until each section that is open as the call begins has
@@ -45,11 +47,11 @@ impl Core {
     }
 
     /// The numbers of the retired entries, slot by slot.
-    fn retired_numbers(&self) -> [Option<u64>; 32]
+    fn retired_numbers(&self) -> [Option<u64>; MOST_SLOTS]
         ensures { (t : ℕ) → t < self.now.settings.slots → slice_index_or result t None ≡ retired_number (slot_at self.now.slots t) }
     {
         let slots = self.settings.slots;
-        let mut numbers = [None; 32];
+        let mut numbers = [None; MOST_SLOTS];
         for t in 0..slots {
             numbers[t as usize] = retired_number(self.slot_at(t));
         }
@@ -64,7 +66,7 @@ impl Core {
         ensures same { self.new ≡ self.old }
     {
         let snapshots = self.snapshot_all();
-        let mut seen = [false; 8];
+        let mut seen = [false; MOST_CPUS];
         self.glance_at_all(&snapshots, &mut seen);
         for _ in 1..turns {
             self.glance_at_all(&snapshots, &mut seen);
@@ -73,13 +75,13 @@ impl Core {
     }
 
     /// The section word of each CPU.
-    fn snapshot_all(&mut self) -> [u64; 8]
+    fn snapshot_all(&mut self) -> [u64; MOST_CPUS]
         requires { at_rest self.old.due ≡ true }
         ensures words { AreWords self.old result }
         ensures same { self.new ≡ self.old }
     {
         let cpus = self.settings.cpus;
-        let mut words = [0; 8];
+        let mut words = [0; MOST_CPUS];
         for c in 0..cpus {
             words[c as usize] = self.snapshot_of(c);
         }
@@ -99,7 +101,7 @@ impl Core {
     }
 
     /// Looks at the section word of each CPU that wasn't seen out of the section of its snapshot yet.
-    fn glance_at_all(&mut self, snapshots: &[u64; 8], seen: &mut [bool; 8])
+    fn glance_at_all(&mut self, snapshots: &[u64; MOST_CPUS], seen: &mut [bool; MOST_CPUS])
         requires rest { at_rest self.old.due ≡ true }
         requires words { AreWords self.old snapshots.now }
         requires sound { (c : ℕ) → slice_index_or seen.old c false ≡ true → is_inside self.old c ≡ false }
@@ -144,7 +146,7 @@ impl Core {
     }
 
     /// Looks at each CPU that hasn't passed for the retired entries with these numbers, where no CPU is inside a section.
-    fn pass_all(&mut self, numbers: &[Option<u64>; 32])
+    fn pass_all(&mut self, numbers: &[Option<u64>; MOST_SLOTS])
         requires rest { at_rest self.old.due ≡ true }
         requires outside { AllOutside self.old }
         requires numbers { (t : ℕ) → t < self.old.settings.slots → slice_index_or numbers.now t None ≡ retired_number (slot_at self.old.slots t) }

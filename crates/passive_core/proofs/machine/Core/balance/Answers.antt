@@ -1,6 +1,7 @@
 use Rattle.std.proofs.Common.{◌≡◌, ◌∙◌, ◌<◌, ◌≤◌, ◌^◌, ◌≤ℤ◌, ℕ, ℤ, List, ap, arith, get_or, length, neg_ℤ, pos, subst, sym}
 use Rattle.std.proofs.lemmas.Int.{ints}
 use Rattle.protocol.specs.State.{total_at}
+use Rattle.registry_values.specs.declared.settings.TheConstants.{MOST_CPUS}
 use Rattle.registry_values.specs.Balances.{less_bias, sum_of}
 use Rattle.passive_core.specs.Audits.{locals_at}
 use Rattle.protocol.specs.Invariant.{Holds}
@@ -16,7 +17,7 @@ less_bias-total-requires c =
     omega (arith, c.total_at.ensures, range.1)
 
 pub sum-requires-clause-few : goal.sum-requires-clause-few
-sum-requires-clause-few c = subst (λ (xs : List ℤ). length xs ≤ 8) (sym (c.deref.ensures.value ∙ c.in_ok-locals.ensures.value)) (few_locals c.args.self.now c.args.t (subst Holds c.self.view_is c.self.invariant))
+sum-requires-clause-few c = subst (λ (xs : List ℤ). length xs ≤ MOST_CPUS) (sym (c.deref.ensures.value ∙ c.in_ok-locals.ensures.value)) (few_locals c.args.self.now c.args.t (subst Holds c.self.view_is c.self.invariant))
 
 pub sum-requires-clause-low : goal.sum-requires-clause-low
 sum-requires-clause-low c = subst (λ (xs : List ℤ). (k : ℕ) → k < length xs → neg_ℤ (pos (2 ^ 50)) ≤ℤ get_or xs k (pos 0)) (sym (c.deref.ensures.value ∙ c.in_ok-locals.ensures.value))

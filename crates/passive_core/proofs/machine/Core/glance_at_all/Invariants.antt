@@ -1,4 +1,5 @@
 use Rattle.std.proofs.Common.{◌≡◌, ◌<◌, ℕ, length, slice_index_or, not, false, true}
+use Rattle.registry_values.specs.declared.settings.TheConstants.{MOST_CPUS}
 use Rattle.protocol.specs.Events.{is_inside}
 use Rattle.passive_core.proofs.machine.Core.glance_at_all.Given as goal
 
@@ -6,7 +7,7 @@ use Rattle.passive_core.proofs.machine.Core.glance_at_all.Given as goal
 abbrev pub invariant-loop-c : goal.invariant-loop-c
 invariant-loop-c l = record {
   same : l.self ≡ l.fn.self;
-  long : length l.seen ≡ 8;
+  long : length l.seen ≡ MOST_CPUS;
   seen : (d : ℕ) → d < l.c → slice_index_or l.seen d false ≡ not (is_inside l.fn.self d);
   sound : (d : ℕ) → slice_index_or l.seen d false ≡ true → is_inside l.fn.self d ≡ false;
 }

@@ -1,4 +1,5 @@
 use Rattle.std.proofs.Common.{◌≡◌, ◌<◌, ℕ, length, slice_index_or}
+use Rattle.registry_values.specs.declared.settings.TheConstants.{MOST_CPUS}
 use Rattle.protocol.specs.State.{section_at}
 use Rattle.passive_core.proofs.machine.Core.snapshot_all.Given as goal
 
@@ -6,6 +7,6 @@ use Rattle.passive_core.proofs.machine.Core.snapshot_all.Given as goal
 abbrev pub invariant-loop-c : goal.invariant-loop-c
 invariant-loop-c l = record {
   same : l.self ≡ l.fn.self;
-  long : length l.words ≡ 8;
+  long : length l.words ≡ MOST_CPUS;
   words : (d : ℕ) → d < l.c → slice_index_or l.words d 0 ≡ section_at l.fn.self d;
 }
