@@ -1,5 +1,5 @@
 -- Two worked rows, event by event: a search along the frozen link of an unlinked entry, and a reference given back while its count is collected.
-use Rattle.std.specs.Prelude.{◌≡◌, ℕ, List, ◌∷◌, [], ◌++◌, replicate, Option, Some, None}
+use Rattle.std.specs.Prelude.{◌≡◌, ℕ, ◌-◌, List, ◌∷◌, [], ◌++◌, replicate, Option, Some, None}
 use Rattle.registry_values.specs.declared.entry.Kind.TheVariants.{Driver}
 use Rattle.registry_values.specs.declared.entry.Entry.{Entry}
 use Rattle.registry_values.specs.declared.name.Name.{Name}
@@ -105,7 +105,7 @@ all_three = record (opening two_cpus) {
   head = 3;
   next = 0 ∷ 1 ∷ 2 ∷ [];
   rows = words_of first ∷ words_of second ∷ words_of third ∷ [];
-  counts = replicate 3 (bias ∷ bias ∷ replicate 6 0);
+  counts = replicate 3 (bias ∷ bias ∷ replicate (MOST_CPUS - 2) 0);
   history = Attach first ∷ Attach second ∷ Attach third ∷ [];
   seated = 2;
   seen = 0 ∷ 3 ∷ [];
@@ -131,7 +131,7 @@ abbrev pub detaches : List Event
 detaches = detach_events 1 ++ detach_events 0 ++ try_events 1 ++ try_events 0
 
 abbrev pub marks_taken : List Mark
-marks_taken = snapshot_mark 1 ∷ snapshot_mark 0 ∷ replicate 6 no_mark
+marks_taken = snapshot_mark 1 ∷ snapshot_mark 0 ∷ replicate (MOST_CPUS - 2) no_mark
 
 -- the link of wm1 is frozen
 abbrev pub unlinked_case : State

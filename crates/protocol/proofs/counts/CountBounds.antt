@@ -4,6 +4,7 @@ use Rattle.std.specs.List.{list_all}
 use Rattle.std.proofs.lemmas.Bool.{cases_lt, and_parts, eqb-true, eq-eqb}
 use Rattle.registry_values.specs.declared.entry.Entry.{Entry}
 use Rattle.registry_values.specs.declared.settings.Settings.{Settings}
+use Rattle.registry_values.specs.declared.settings.TheConstants.{MOST_CPUS}
 use Rattle.registry_values.specs.declared.slot.Slot.{Slot}
 use Rattle.registry_values.specs.declared.slot.Slot.TheVariants.{Retired}
 use Rattle.registry_values.specs.declared.mark.Mark.{Mark}
@@ -16,13 +17,13 @@ use Rattle.registry_values.specs.Marks.{no_mark, is_collected, are_collected}
 use Rattle.registry_values.specs.Slots.{slot_at}
 use Rattle.protocol.specs.State.{mark_at, count_at, total_at}
 use Rattle.protocol.specs.Events.{is_bias}
-use Rattle.protocol.specs.Invariant.{IsIn, Balances, IsCounting, CountsHold, held_at, addition_due_at, is_adding_at}
+use Rattle.protocol.specs.Invariant.{IsIn, Balances, IsCounting, CountsHold, held_at, addition_due_at, is_adding_at, greatest_limit}
 use Rattle.protocol.proofs.counts.Balancing.{total_floor as floor_of, total_ceiling as ceiling_of, word_floor as word_floor_of, all_collected as all_of}
 use Rattle.protocol.proofs.counts.Counts.{CountsFit, are_words}
 use Rattle.protocol.proofs.counts.Sums.{one_at}
 
 -- a word that counts is near the bias
-pub word_floor : {z : Settings} {slots : List Slot} {marks : List (List Mark)} {counts nets : List (List ℕ)} {totals : List ℕ} {hands : List Hand} {keeps : List (Option ℕ)} {due : Due} {locals : List LocalPlace} → CountsHold z slots marks counts nets totals hands keeps due locals → CountsFit z slots marks counts nets totals hands keeps → (c t : ℕ) (e : Entry) → c < z.cpus → IsIn e (slot_at slots t) → IsCounting slots marks c t → bias + held_at locals hands keeps due e.number t ≤ count_at counts c t + 2 ^ 43
+pub word_floor : {z : Settings} {slots : List Slot} {marks : List (List Mark)} {counts nets : List (List ℕ)} {totals : List ℕ} {hands : List Hand} {keeps : List (Option ℕ)} {due : Due} {locals : List LocalPlace} → CountsHold z slots marks counts nets totals hands keeps due locals → CountsFit z slots marks counts nets totals hands keeps → (c t : ℕ) (e : Entry) → c < z.cpus → IsIn e (slot_at slots t) → IsCounting slots marks c t → bias + held_at locals hands keeps due e.number t ≤ count_at counts c t + MOST_CPUS * greatest_limit
 word_floor {z} {slots} {marks} {counts} {nets} {totals} {hands} {keeps} {due} {locals} on fit c t e lt is counting =
     let words = are_words on fit t e is in
     let floor = word_floor_of (get_or counts t []) (total_at totals t) (held_at locals hands keeps due e.number t) (addition_due_at t due) (is_adding_at t due) c words (omega (arith, lt, fit.cpu_limit)) (on.counted c t lt counting).1 (on.balance t e is) in
@@ -35,12 +36,12 @@ pub word_limit : {z : Settings} {slots : List Slot} {marks : List (List Mark)} {
 word_limit {z} {slots} {marks} {counts} {nets} {totals} {hands} {keeps} {due} {locals} on c t e lt is counting = omega (arith, (on.counted c t lt counting).0, on.limited c t e is)
 
 -- a total, with what is to be added
-pub total_floor : {z : Settings} {slots : List Slot} {marks : List (List Mark)} {counts nets : List (List ℕ)} {totals : List ℕ} {hands : List Hand} {keeps : List (Option ℕ)} {due : Due} {locals : List LocalPlace} → CountsHold z slots marks counts nets totals hands keeps due locals → CountsFit z slots marks counts nets totals hands keeps → (t : ℕ) (e : Entry) → IsIn e (slot_at slots t) → bias * (1 + is_adding_at t due) + held_at locals hands keeps due e.number t ≤ total_at totals t + addition_due_at t due + 2 ^ 43
+pub total_floor : {z : Settings} {slots : List Slot} {marks : List (List Mark)} {counts nets : List (List ℕ)} {totals : List ℕ} {hands : List Hand} {keeps : List (Option ℕ)} {due : Due} {locals : List LocalPlace} → CountsHold z slots marks counts nets totals hands keeps due locals → CountsFit z slots marks counts nets totals hands keeps → (t : ℕ) (e : Entry) → IsIn e (slot_at slots t) → bias * (1 + is_adding_at t due) + held_at locals hands keeps due e.number t ≤ total_at totals t + addition_due_at t due + MOST_CPUS * greatest_limit
 total_floor {z} {slots} {marks} {counts} {nets} {totals} {hands} {keeps} {due} {locals} on fit t e is =
     let floor = floor_of (get_or counts t []) (total_at totals t) (held_at locals hands keeps due e.number t) (addition_due_at t due) (is_adding_at t due) (are_words on fit t e is) (on.balance t e is) in
     omega (arith, floor)
 
-pub total_ceiling : {z : Settings} {slots : List Slot} {marks : List (List Mark)} {counts nets : List (List ℕ)} {totals : List ℕ} {hands : List Hand} {keeps : List (Option ℕ)} {due : Due} {locals : List LocalPlace} → CountsHold z slots marks counts nets totals hands keeps due locals → (t : ℕ) (e : Entry) → IsIn e (slot_at slots t) → total_at totals t + addition_due_at t due ≤ bias * (1 + is_adding_at t due) + 2 ^ 43
+pub total_ceiling : {z : Settings} {slots : List Slot} {marks : List (List Mark)} {counts nets : List (List ℕ)} {totals : List ℕ} {hands : List Hand} {keeps : List (Option ℕ)} {due : Due} {locals : List LocalPlace} → CountsHold z slots marks counts nets totals hands keeps due locals → (t : ℕ) (e : Entry) → IsIn e (slot_at slots t) → total_at totals t + addition_due_at t due ≤ bias * (1 + is_adding_at t due) + MOST_CPUS * greatest_limit
 total_ceiling {z} {slots} {marks} {counts} {nets} {totals} {hands} {keeps} {due} {locals} on t e is =
     let ceiling = ceiling_of (get_or counts t []) (total_at totals t) (held_at locals hands keeps due e.number t) (addition_due_at t due) (is_adding_at t due) (on.balance t e is) in
     omega (arith, ceiling)
@@ -55,14 +56,14 @@ adding_fits {z} {slots} {marks} {counts} {nets} {totals} {hands} {keeps} {due} {
     (omega (arith, floor, one, word), omega (arith, ceiling, one, word))
 
 -- nothing is being added
-pub total_range : {z : Settings} {slots : List Slot} {marks : List (List Mark)} {counts nets : List (List ℕ)} {totals : List ℕ} {hands : List Hand} {keeps : List (Option ℕ)} {due : Due} {locals : List LocalPlace} → CountsHold z slots marks counts nets totals hands keeps due locals → CountsFit z slots marks counts nets totals hands keeps → (t : ℕ) (e : Entry) → addition_due_at t due ≡ 0 → is_adding_at t due ≡ 0 → IsIn e (slot_at slots t) → (bias + held_at locals hands keeps due e.number t ≤ total_at totals t + 2 ^ 43) × (total_at totals t ≤ bias + 2 ^ 43)
+pub total_range : {z : Settings} {slots : List Slot} {marks : List (List Mark)} {counts nets : List (List ℕ)} {totals : List ℕ} {hands : List Hand} {keeps : List (Option ℕ)} {due : Due} {locals : List LocalPlace} → CountsHold z slots marks counts nets totals hands keeps due locals → CountsFit z slots marks counts nets totals hands keeps → (t : ℕ) (e : Entry) → addition_due_at t due ≡ 0 → is_adding_at t due ≡ 0 → IsIn e (slot_at slots t) → (bias + held_at locals hands keeps due e.number t ≤ total_at totals t + MOST_CPUS * greatest_limit) × (total_at totals t ≤ bias + MOST_CPUS * greatest_limit)
 total_range {z} {slots} {marks} {counts} {nets} {totals} {hands} {keeps} {due} {locals} on fit t e nothing none is = (omega (arith, total_floor on fit t e is, none, nothing), omega (arith, total_ceiling on t e is, none, nothing))
 
-pub total_at_rest : {z : Settings} {slots : List Slot} {marks : List (List Mark)} {counts nets : List (List ℕ)} {totals : List ℕ} {hands : List Hand} {keeps : List (Option ℕ)} {due : Due} {locals : List LocalPlace} → CountsHold z slots marks counts nets totals hands keeps due locals → CountsFit z slots marks counts nets totals hands keeps → (t : ℕ) (e : Entry) → due ≡ Rest → IsIn e (slot_at slots t) → (bias + held_at locals hands keeps due e.number t ≤ total_at totals t + 2 ^ 43) × (total_at totals t ≤ bias + 2 ^ 43)
+pub total_at_rest : {z : Settings} {slots : List Slot} {marks : List (List Mark)} {counts nets : List (List ℕ)} {totals : List ℕ} {hands : List Hand} {keeps : List (Option ℕ)} {due : Due} {locals : List LocalPlace} → CountsHold z slots marks counts nets totals hands keeps due locals → CountsFit z slots marks counts nets totals hands keeps → (t : ℕ) (e : Entry) → due ≡ Rest → IsIn e (slot_at slots t) → (bias + held_at locals hands keeps due e.number t ≤ total_at totals t + MOST_CPUS * greatest_limit) × (total_at totals t ≤ bias + MOST_CPUS * greatest_limit)
 total_at_rest {z} {slots} {marks} {counts} {nets} {totals} {hands} {keeps} {due} {locals} on fit t e rest is = total_range on fit t e (ap (addition_due_at t) rest) (ap (is_adding_at t) rest) is
 
 -- a total from which a reference is subtracted is above 0
-pub total_at_subtraction : {z : Settings} {slots : List Slot} {marks : List (List Mark)} {counts nets : List (List ℕ)} {totals : List ℕ} {hands : List Hand} {keeps : List (Option ℕ)} {due : Due} {locals : List LocalPlace} → CountsHold z slots marks counts nets totals hands keeps due locals → CountsFit z slots marks counts nets totals hands keeps → (t u : ℕ) (e : Entry) → due ≡ Subtracting u → IsIn e (slot_at slots t) → (0 < total_at totals t) × (total_at totals t ≤ bias + 2 ^ 43)
+pub total_at_subtraction : {z : Settings} {slots : List Slot} {marks : List (List Mark)} {counts nets : List (List ℕ)} {totals : List ℕ} {hands : List Hand} {keeps : List (Option ℕ)} {due : Due} {locals : List LocalPlace} → CountsHold z slots marks counts nets totals hands keeps due locals → CountsFit z slots marks counts nets totals hands keeps → (t u : ℕ) (e : Entry) → due ≡ Subtracting u → IsIn e (slot_at slots t) → (0 < total_at totals t) × (total_at totals t ≤ bias + MOST_CPUS * greatest_limit)
 total_at_subtraction {z} {slots} {marks} {counts} {nets} {totals} {hands} {keeps} {due} {locals} on fit t u e was is = let range = total_range on fit t e (ap (addition_due_at t) was) (ap (is_adding_at t) was) is in (omega (arith, range.0), range.1)
 
 -- once all words are collected, the total says what is held
