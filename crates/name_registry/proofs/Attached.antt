@@ -28,12 +28,13 @@ use Rattle.cpu_words.specs.Rule.{did}
 use Rattle.cpu_words.specs.declared.view.ReferenceView.{ReferenceView}
 use Rattle.passive_list.specs.Cpus.{OnCpu}
 use Rattle.passive_list.specs.Keepers.{OnKeeper}
-use Rattle.passive_list.specs.Notes.{HasHeardOn}
+use Rattle.passive_list.specs.Notes.{HasHeardOn, cpu_after_tell, has_heard}
 use Rattle.passive_list.specs.Publishing.{HasAttached}
 use Rattle.passive_list.specs.Draining.{HasAttachedKeeping}
 use Rattle.name_registry.specs.Attaching.{given_entry, first_fit, room_of}
 use Rattle.name_registry.specs.Meeting.{keeper_after_hear, keeper_after_tell, HasSeenAttach}
 use Rattle.name_registry.proofs.Heard.{seen_attach}
+use Rattle.name_registry.proofs.Noted.{met}
 
 -- The entry that is given
 
@@ -93,13 +94,13 @@ inside_is false (Some n) test = test.1 (λ none. none-some n (sym none))
 -- What it leaves
 
 -- The keeper m heard the CPU x, an entry was published, and the CPU heard the history that the keeper b has then.
-pub attach_met : (a : OnKeeper) (x : OnCpu) (m : OnKeeper) (n : OnCpu) (e : Entry) (b : OnKeeper) (y : OnCpu) → m ≡ keeper_after_hear a x → n ≡ x → IsPrefix x.view.pass m.view.history → e.number ≡ suc (length m.view.history)
-    → b.view.history ≡ after_change m.view.history (Attach e) → HasHeardOn b.view.history n y
+pub attach_met : (a : OnKeeper) (x : OnCpu) (m : OnKeeper) (n : OnCpu) (e : Entry) (b : OnKeeper) (y : OnCpu) → m ≡ keeper_after_hear a x → n ≡ cpu_after_tell x → IsPrefix x.view.pass m.view.history → e.number ≡ suc (length m.view.history)
+    → b.view.history ≡ after_change m.view.history (Attach e) → HasHeardOn b.view.history n y → y.log ≡ n.log ++ has_heard n
     → IsPrefix x.view.pass a.view.history × HasHeardOn b.view.history x y × HasSeenAttach x y e
-attach_met a x m n e b y heard same seen number after hears = (
+attach_met a x m n e b y heard same seen number after hears log = (
   subst (λ (k : OnKeeper). IsPrefix x.view.pass k.view.history) heard seen,
   subst (λ (z : OnCpu). HasHeardOn b.view.history z y) same hears,
-  seen_attach m.view.history x y e seen number (subst (λ (h : List Change). IsPrefix h y.view.pass) after hears.told),
+  seen_attach m.view.history x y e seen number (subst (λ (h : List Change). IsPrefix h y.view.pass) after hears.told) (met x n y same log),
 )
 
 -- telling the history changes nothing of it

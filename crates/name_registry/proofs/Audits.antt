@@ -94,10 +94,10 @@ has a k rows n x t m our is there =
 -- Of one CPU
 
 -- what its place says of a number is its net count, where it met it there last
-pub net_is : (x : CpuView) (depth made : ℕ) (known_log : List LogItem) (places : List NumberedCount) (t n w : ℕ) → NetAgree x places → 0 < n → w ≡ net_by (place_at places t) n → less_bias w ≡ net_met t n (record { view = x; depth = depth; made = made; known_log = known_log })
-net_is x depth made known_log places t n w agree begun is =
+pub net_is : (x : CpuView) (depth made : ℕ) (known_log log : List LogItem) (places : List NumberedCount) (t n w : ℕ) → NetAgree x places → 0 < n → w ≡ net_by (place_at places t) n → less_bias w ≡ net_met t n (record { view = x; depth = depth; made = made; known_log = known_log; log = log })
+net_is x depth made known_log log places t n w agree begun is =
     let place = place_count x places t n w agree begun is in
-    let net = net_of n (record { view = x; depth = depth; made = made; known_log = known_log }) in
+    let net = net_of n (record { view = x; depth = depth; made = made; known_log = known_log; log = log }) in
     dite (ℕ_discrete (number_at x.met t) n)
     (λ (same : number_at x.met t ≡ n). omega (arith, ints, place.met same) ∙ sym (ap (λ b. cond b net (pos 0)) (eq-eqb (number_at x.met t) n same)))
     (λ (off : number_at x.met t ≢ n). omega (arith, ints, place.other off) ∙ sym (ap (λ b. cond b net (pos 0)) (ne_eqb (number_at x.met t) n off)))

@@ -36,14 +36,14 @@ use Rattle.name_registry.proofs.Attached.{given_takes}
 
 -- a CPU that has learned, and whose calls are counted
 counted : (n : ℕ) (x y : OnCpu) → HasLearned x y → HasLearned x (record y { made = n })
-counted n x y has = record { pass = has.pass; known_log = has.known_log; is = ap (λ (o : OnCpu). record o { made = n }) has.is }
+counted n x y has = record { pass = has.pass; known_log = has.known_log; is = ap (λ (o : OnCpu). record o { made = n }) has.is; log = has.log }
 
 pub attach_counted : (x y z : OnCpu) (e : Entry) (n : ℕ) → z ≡ record y { made = n } → HasLearned x y × HasSeenAttach x y e → HasLearned x z × HasSeenAttach x z e
-attach_counted x y z e n is has = subst (λ (o : OnCpu). HasLearned x o × HasSeenAttach x o e) (sym is) (counted n x y has.0, record { later = has.1.later; attached = has.1.attached })
+attach_counted x y z e n is has = subst (λ (o : OnCpu). HasLearned x o × HasSeenAttach x o e) (sym is) (counted n x y has.0, record { later = has.1.later; attached = has.1.attached; log = has.1.log })
 
 pub detach_counted : (x y z : OnCpu) (e : Entry) (n : ℕ) → z ≡ record y { made = n } → HasLearned x y × HasSeenDetach x y e → HasLearned x z × HasSeenDetach x z e
 detach_counted x y z e n is has = subst (λ (o : OnCpu). HasLearned x o × HasSeenDetach x o e) (sym is)
-    (counted n x y has.0, record { end = has.1.end; later = has.1.later; ends = has.1.ends; attached = has.1.attached })
+    (counted n x y has.0, record { end = has.1.end; later = has.1.later; ends = has.1.ends; attached = has.1.attached; log = has.1.log })
 
 -- it made just the change that was counted
 pub one_made : (note : List Change) (x y z : OnCpu) (c : Change) → number_of c ≤ 1000000 → HasHeardOn note x y → z ≡ record y { made = y.made + weight c } → HasMade x c z

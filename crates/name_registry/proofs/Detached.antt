@@ -22,12 +22,13 @@ use Rattle.cpu_words.proofs.by_keeper.KeeperSees.{seen_by_keeper}
 use Rattle.passive_list.specs.declared.keeper.KeptSlot.{KeptSlot}
 use Rattle.passive_list.specs.Cpus.{OnCpu}
 use Rattle.passive_list.specs.Keepers.{OnKeeper, states_of, IsOurKeeper}
-use Rattle.passive_list.specs.Notes.{HasHeardOn}
+use Rattle.passive_list.specs.Notes.{HasHeardOn, cpu_after_tell, has_heard}
 use Rattle.passive_list.specs.Retiring.{HasDetached}
 use Rattle.passive_list.proofs.Attached.{rows_live, live_rows}
 use Rattle.name_registry.specs.Detaching.{IsDetachRefusal, IsLookupNow, IsLivePlace, HasDetachedFor}
 use Rattle.name_registry.specs.Meeting.{keeper_after_hear, keeper_after_tell, is_inside}
 use Rattle.name_registry.proofs.Heard.{seen_detach}
+use Rattle.name_registry.proofs.Noted.{met}
 
 -- The live entries
 
@@ -87,16 +88,16 @@ detached_told a t e b has = record {
 }
 
 -- The keeper m heard the CPU x, the entry e in the slot t was retired, and the CPU heard the history that the keeper b has then.
-pub detached_for : (a : OnKeeper) (x : OnCpu) (m : OnKeeper) (n : OnCpu) (t : ℕ) (e : Entry) (b : OnKeeper) (y : OnCpu) → m ≡ keeper_after_hear a x → n ≡ x → IsPrefix x.view.pass m.view.history → IsAttached a.view.history e → e.slot ≡ t
-    → HasDetached m t e b → HasHeardOn b.view.history n y → HasDetachedFor a x e (keeper_after_tell b) y
-detached_for a x m n t e b y heard same seen attached slot has hears =
+pub detached_for : (a : OnKeeper) (x : OnCpu) (m : OnKeeper) (n : OnCpu) (t : ℕ) (e : Entry) (b : OnKeeper) (y : OnCpu) → m ≡ keeper_after_hear a x → n ≡ cpu_after_tell x → IsPrefix x.view.pass m.view.history → IsAttached a.view.history e → e.slot ≡ t
+    → HasDetached m t e b → HasHeardOn b.view.history n y → y.log ≡ n.log ++ has_heard n → HasDetachedFor a x e (keeper_after_tell b) y
+detached_for a x m n t e b y heard same seen attached slot has hears log =
     let before = subst (λ (k : OnKeeper). IsPrefix x.view.pass k.view.history) heard seen in
     let done = subst (λ (u : ℕ). HasDetached (keeper_after_hear a x) u e b) (sym slot) (subst (λ (k : OnKeeper). HasDetached k t e b) heard has) in
     record {
       seen = before;
       keeper = detached_told (keeper_after_hear a x) e.slot e b done;
       cpu = subst (λ (z : OnCpu). HasHeardOn b.view.history z y) same hears;
-      own = seen_detach a.view.history x y e before attached (subst (λ (h : List Change). IsPrefix h y.view.pass) (ap (λ (k : KeeperView). k.history) done.view) hears.told);
+      own = seen_detach a.view.history x y e before attached (subst (λ (h : List Change). IsPrefix h y.view.pass) (ap (λ (k : KeeperView). k.history) done.view) hears.told) (met x n y same log);
     }
 
 same_refusal : (f g : Refusal) → ◌≡◌ {A = Result ℕ Refusal} (Err f) (Err g) → f ≡ g

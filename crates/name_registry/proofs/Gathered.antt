@@ -16,11 +16,12 @@ use Rattle.cpu_words.specs.Notes.{with_note, keeper_with_note}
 use Rattle.passive_list.specs.Cpus.{OnCpu}
 use Rattle.passive_list.specs.Keepers.{OnKeeper}
 use Rattle.passive_list.specs.Logs.{HasOwnLog}
-use Rattle.passive_list.specs.Notes.{HasHeardOn, WasShown}
+use Rattle.passive_list.specs.Notes.{HasHeardOn, WasShown, has_heard, has_told}
 use Rattle.name_registry.specs.Meeting.{HasLearned}
 use Rattle.name_registry.specs.Auditing.{AreAllCpus, AreAlike, HasListened, HaveLearned, IsShownOn, local_met, tallies_met, tally_by, tally_met}
 use Rattle.name_registry.proofs.Audits.{each_same}
 use Rattle.name_registry.proofs.Worked.{prefix_on}
+use Rattle.name_registry.proofs.Noted.{by_passing, no_notes}
 
 at_within : (l : List OnCpu) (i : ℕ) (a : OnCpu) → get_elem? l i ≡ some a → i < length l
 at_within [] i a e = absurd (some-ne-none a (sym e))
@@ -58,12 +59,13 @@ gathered_none xs log note is = record {
   rest = λ c le. refl;
 }
 
-pub learned_of : (note : List Change) (x y : OnCpu) → HasHeardOn note x y → HasLearned x y × (y.made ≡ x.made)
-learned_of note x y heard = (
+pub learned_of : (note : List Change) (x y : OnCpu) → HasHeardOn note x y → y.log ≡ x.log ++ has_heard x ++ has_told x → HasLearned x y × (y.made ≡ x.made)
+learned_of note x y heard log = (
   record {
     pass = heard.pass;
     known_log = heard.known_log;
-    is = heard.is ∙ (λ j. record x { view = record x.view { pass = y.view.pass; noted_pass = sym (ap (λ (z : OnCpu). z.view.noted_pass) heard.is) j }; made = sym (ap (λ (z : OnCpu). z.made) heard.is) j; known_log = y.known_log });
+    is = heard.is ∙ (λ j. record x { view = record x.view { pass = y.view.pass; noted_pass = sym (ap (λ (z : OnCpu). z.view.noted_pass) heard.is) j }; made = sym (ap (λ (z : OnCpu). z.made) heard.is) j; known_log = y.known_log; log = y.log });
+    log = by_passing x y log;
   },
   ap (λ (z : OnCpu). z.made) heard.is,
 )
@@ -75,9 +77,9 @@ past_set (x ∷ xs) zero (suc c) y off = refl
 past_set (x ∷ xs) (suc n) zero y off = refl
 past_set (x ∷ xs) (suc n) (suc c) y off = past_set xs n c y (λ same. off (ap suc same))
 
-pub gathered_more : (xs ys : List OnCpu) (n : ℕ) (log note told : List LogItem) (h : List Change) (x y : OnCpu) → Gathered xs ys n log note → get_elem? ys n ≡ some x → HasHeardOn h x y → IsPrefix note y.known_log → WasShown h x y → told ≡ y.known_log
+pub gathered_more : (xs ys : List OnCpu) (n : ℕ) (log note told : List LogItem) (h : List Change) (x y : OnCpu) → Gathered xs ys n log note → get_elem? ys n ≡ some x → HasHeardOn h x y → IsPrefix note y.known_log → WasShown h x y → told ≡ y.known_log → y.log ≡ x.log ++ has_heard x ++ has_told x
     → Gathered xs (set ys n y) (n + 1) log told
-gathered_more xs ys n log note told h x y so_far at heard knows shown is =
+gathered_more xs ys n log note told h x y so_far at heard knows shown is own =
     let next : IsPrefix note told = subst (IsPrefix note) (sym is) knows in
     let mine : get_elem? xs n ≡ some x = sym (so_far.rest n (omega arith)) ∙ at in
     record {
@@ -86,7 +88,7 @@ gathered_more xs ys n log note told h x y so_far at heard knows shown is =
       learned = λ c u v lt was now. ⊎_elim
           (λ (p : (c ≡ n) × (y ≡ v)).
           let same : x ≡ u = some-injective x u (sym mine ∙ (ap (get_elem? xs) (sym p.0) ∙ was)) in
-          subst (λ (z : OnCpu). HasLearned z v × (v.made ≡ z.made)) same (subst (λ (z : OnCpu). HasLearned x z × (z.made ≡ x.made)) p.1 (learned_of h x y heard)))
+          subst (λ (z : OnCpu). HasLearned z v × (v.made ≡ z.made)) same (subst (λ (z : OnCpu). HasLearned x z × (z.made ≡ x.made)) p.1 (learned_of h x y heard own)))
           (λ (p : (c ≢ n) × (get_elem? ys c ≡ some v)). so_far.learned c u v (let off = p.0 in omega (arith, lt, off)) was p.1)
           (at_set ys n c y v now);
       shown = λ c u lt was. ⊎_elim
@@ -135,7 +137,7 @@ learned_none xs = record {
   size = refl;
   each = λ c x y was now.
       let same : x ≡ y = some-injective x y (sym was ∙ now) in
-      subst (λ (z : OnCpu). HasLearned x z × (z.made ≡ x.made)) same (record { pass = ([], append-nil x.view.pass); known_log = ([], append-nil x.known_log); is = refl }, refl);
+      subst (λ (z : OnCpu). HasLearned x z × (z.made ≡ x.made)) same (record { pass = ([], append-nil x.view.pass); known_log = ([], append-nil x.known_log); is = refl; log = no_notes x.view.id x.log }, refl);
 }
 
 there : (xs : List OnCpu) (c : ℕ) → c < length xs → (x : OnCpu) × (get_elem? xs c ≡ some x)

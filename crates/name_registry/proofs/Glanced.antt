@@ -1,5 +1,5 @@
 -- Looks for no entry, CPU by CPU: what a loop over the CPUs has done is so of rows that agree on them, and one CPU more follows.
-use Rattle.std.proofs.Common.{◌≡◌, ℕ, zero, suc, ◌+◌, ◌<◌, List, length, Bool, true, false, Option, Some, None, IfSome, Result, Err, get_or, set, refl, sym, ap, ◌∙◌, subst, arith}
+use Rattle.std.proofs.Common.{◌≡◌, ℕ, zero, suc, ◌+◌, ◌<◌, List, ◌++◌, length, Bool, true, false, Option, Some, None, IfSome, Result, Err, get_or, set, refl, sym, ap, ◌∙◌, subst, arith}
 use Rattle.std.proofs.lemmas.List.{get_or-set_same, get_or-set_other}
 use mathlib.Core.List.{IsPrefix}
 use Rattle.protocol.specs.declared.event.Event.{Event}
@@ -13,10 +13,11 @@ use Rattle.cpu_words.specs.declared.view.KeeperView.{KeeperView}
 use Rattle.passive_list.specs.Cpus.{OnCpu}
 use Rattle.passive_list.specs.Keepers.{OnKeeper}
 use Rattle.passive_list.specs.Logs.{HasOwnLog}
-use Rattle.passive_list.specs.Notes.{HasHeardOn}
+use Rattle.passive_list.specs.Notes.{HasHeardOn, cpu_after_tell, has_heard}
 use Rattle.name_registry.specs.Meeting.{keeper_after_hear, keeper_after_tell}
 use Rattle.name_registry.specs.Performing.{GlancesBelow, GlancesOnce, HasPerformed, Hold, Looking, LooksOnce, PerformsOutside, SnapshotsBelow, is_seen, looking, word_of}
 use Rattle.name_registry.proofs.Heard.{prefix_short}
+use Rattle.name_registry.proofs.Noted.{met}
 use Rattle.name_registry.proofs.Owned.{least_small}
 
 -- two rows agree on the first n CPUs
@@ -87,9 +88,9 @@ glances_look snapshots seen after zero k l is = looked_none k l is
 glances_look snapshots seen after (suc n) k l is = glance_looks (word_of snapshots n) n (is_seen seen n) (is_seen after n) k is.0 l (glances_look snapshots seen after n k is.0 is.1) is.2
 
 -- a hold, from what its three parts leave: the hearing, which leaves the CPU, the looks, and the telling
-pub made_hold : (looks : Looking → Looking → Type 0) (z : Settings) (a h l b : OnKeeper) (x same y : OnCpu) → h ≡ keeper_after_hear a x → IsPrefix x.view.pass h.view.history → IsPrefix x.known_log a.log → HasOwnLog z a → same ≡ x
-    → looks (looking h) (looking l) → l.slots ≡ h.slots → b ≡ keeper_after_tell l → HasHeardOn l.view.history same y → IsPrefix b.log y.known_log → Hold looks a x b y
-made_hold looks z a h l b x same y heard pass known own is made slots tells hears told =
+pub made_hold : (looks : Looking → Looking → Type 0) (z : Settings) (a h l b : OnKeeper) (x same y : OnCpu) → h ≡ keeper_after_hear a x → IsPrefix x.view.pass h.view.history → IsPrefix x.known_log a.log → HasOwnLog z a → same ≡ cpu_after_tell x
+    → looks (looking h) (looking l) → l.slots ≡ h.slots → b ≡ keeper_after_tell l → HasHeardOn l.view.history same y → IsPrefix b.log y.known_log → y.log ≡ same.log ++ has_heard same → Hold looks a x b y
+made_hold looks z a h l b x same y heard pass known own is made slots tells hears told log =
     let short = prefix_short x.view.pass h.view.history pass in
     let long : length h.view.history ≡ length a.view.history = ap (λ (k : OnKeeper). length k.view.history) heard in
     let changes = own.changes in
@@ -103,6 +104,7 @@ made_hold looks z a h l b x same y heard pass known own is made slots tells hear
       log = ap (λ (k : OnKeeper). k.log) tells;
       hears = subst (λ (k : OnKeeper). HasHeardOn k.view.history x y) (sym tells) (subst (λ (o : OnCpu). HasHeardOn l.view.history o y) is hears);
       told = told;
+      own_log = met x same y is log;
     }
 
 -- What was made

@@ -9,6 +9,7 @@ pub mod Glanced
 pub mod Held
 pub mod Heard
 pub mod Looks
+pub mod Noted
 pub mod Rows
 pub mod Worked
 pub mod Seen

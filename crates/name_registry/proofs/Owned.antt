@@ -20,16 +20,18 @@ use Rattle.passive_list.specs.Notes.{HasHeardOn}
 use Rattle.name_registry.specs.Attaching.{attach_answer, attach_iface_answer, given_entry, first_fit, room_of, HasAttachedFor, HasAttachedIfaceFor}
 use Rattle.name_registry.specs.Detaching.{IsDetachAnswer, IsDetachRefusal, HasDetachedFor}
 use Rattle.name_registry.specs.Locking.{MayAttach, IsAttachRefusal, IsDetachRefusedTo, IsPerformRefusal}
-use Rattle.name_registry.specs.Meeting.{is_inside, HasLearned, HasSeenAttach, HasSeenDetach}
+use Rattle.name_registry.specs.Meeting.{is_inside, GoesOnByNotes, HasLearned, HasSeenAttach, HasSeenDetach}
+use Rattle.name_registry.proofs.Noted.{by_meeting}
 
-pub learned : (note : List Change) (x y : OnCpu) → HasHeardOn note x y → HasLearned x y
-learned note x y has =
+pub learned : (note : List Change) (x y : OnCpu) → HasHeardOn note x y → GoesOnByNotes x.view.id x.log y.log → HasLearned x y
+learned note x y has log =
     let note_is = ap (λ (o : OnCpu). o.view.noted_pass) has.is in
     let made_is = ap (λ (o : OnCpu). o.made) has.is in
-    let heard : y ≡ record x { view = record x.view { pass = y.view.pass; noted_pass = y.view.noted_pass }; known_log = y.known_log } = subst (λ (l : List Change). y ≡ record x { view = record x.view { pass = y.view.pass; noted_pass = l }; known_log = y.known_log }) (sym note_is) has.is in record {
+    let heard : y ≡ record x { view = record x.view { pass = y.view.pass; noted_pass = y.view.noted_pass }; known_log = y.known_log; log = y.log } = subst (λ (l : List Change). y ≡ record x { view = record x.view { pass = y.view.pass; noted_pass = l }; known_log = y.known_log; log = y.log }) (sym note_is) has.is in record {
       pass = has.pass;
       known_log = has.known_log;
-      is = subst (λ n. y ≡ record x { view = record x.view { pass = y.view.pass; noted_pass = y.view.noted_pass }; made = n; known_log = y.known_log }) (sym made_is) heard;
+      is = subst (λ n. y ≡ record x { view = record x.view { pass = y.view.pass; noted_pass = y.view.noted_pass }; made = n; known_log = y.known_log; log = y.log }) (sym made_is) heard;
+      log = log;
     }
 
 -- Attaching
@@ -79,7 +81,7 @@ attach_may z k x rec (Ok e) is = entry_may (is_inside x) (is_iface rec.kind) (gi
 attach_may z k x rec (Err f) is = tt
 
 pub attach_owned : (z : Settings) (k b : OnKeeper) (x y : OnCpu) (rec : Record) (r : Result Entry Refusal) → r ≡ attach_answer z k x rec → IfOk r (λ e. HasAttachedFor k x e b y) → IfOk r (λ e. (e.rec ≡ rec) × HasLearned x y × HasSeenAttach x y e)
-attach_owned z k b x y rec (Ok e) is has = (entry_rec z k rec (is_inside x) (is_iface rec.kind) e (sym is), learned b.view.history x y has.cpu, has.own)
+attach_owned z k b x y rec (Ok e) is has = (entry_rec z k rec (is_inside x) (is_iface rec.kind) e (sym is), learned b.view.history x y has.cpu (by_meeting x y has.own.log), has.own)
 attach_owned z k b x y rec (Err f) is has = tt
 
 pub attach_refused : (z : Settings) (k b : OnKeeper) (x y : OnCpu) (rec : Record) (r : Result Entry Refusal) → r ≡ attach_answer z k x rec → IfErr r (λ _. (b ≡ k) × (y ≡ x)) → IfErr r (λ f. IsAttachRefusal (is_inside x) (is_iface rec.kind) f × (y ≡ x))
@@ -91,7 +93,7 @@ iface_may z k x rec v (Ok e) is = entry_may (is_inside x) (is_iface v.entry.rec.
 iface_may z k x rec v (Err back) is = tt
 
 pub iface_owned : (z : Settings) (k b : OnKeeper) (x y : OnCpu) (rec : Record) (v : ReferenceView) (r : Result Entry (Refusal × ReferenceView)) → IfOk r (λ e. attach_iface_answer z k x rec v ≡ Ok e) → IfOk r (λ e. HasAttachedIfaceFor k x v e b y) → IfOk r (λ e. (e.rec ≡ rec) × HasLearned x y × HasSeenAttach x y e)
-iface_owned z k b x y rec v (Ok e) is has = (entry_rec z k rec (is_inside x) (is_iface v.entry.rec.kind) e is, learned b.view.history x y has.cpu, has.own)
+iface_owned z k b x y rec v (Ok e) is has = (entry_rec z k rec (is_inside x) (is_iface v.entry.rec.kind) e is, learned b.view.history x y has.cpu (by_meeting x y has.own.log), has.own)
 iface_owned z k b x y rec v (Err back) is has = tt
 
 pub iface_refused : (z : Settings) (k b : OnKeeper) (x y : OnCpu) (rec : Record) (v : ReferenceView) (r : Result Entry (Refusal × ReferenceView)) → IfErr r (λ back. (attach_iface_answer z k x rec v ≡ Err back.0) × (back.1 ≡ v) × (b ≡ k) × (y ≡ x)) → IfErr r (λ back. IsAttachRefusal (is_inside x) (is_iface v.entry.rec.kind) back.0 × (back.1 ≡ v) × (y ≡ x))
@@ -126,7 +128,7 @@ detach_may k x key (Ok e) is = is.0
 detach_may k x key (Err f) is = tt
 
 pub detach_owned : (k b : OnKeeper) (x y : OnCpu) (key : Key) (r : Result Entry Refusal) → IsDetachAnswer k x key r → IfOk r (λ e. HasDetachedFor k x e b y) → IfOk r (λ e. (e.rec.kind ≡ key.kind) × (e.rec.name ≡ key.name) × HasLearned x y × HasSeenDetach x y e)
-detach_owned k b x y key (Ok e) is has = (ap (λ (q : Key). q.kind) is.1.1, ap (λ (q : Key). q.name) is.1.1, learned b.view.history x y has.cpu, has.own)
+detach_owned k b x y key (Ok e) is has = (ap (λ (q : Key). q.kind) is.1.1, ap (λ (q : Key). q.name) is.1.1, learned b.view.history x y has.cpu (by_meeting x y has.own.log), has.own)
 detach_owned k b x y key (Err f) is has = tt
 
 pub detach_refused : (k b : OnKeeper) (x y : OnCpu) (key : Key) (r : Result Entry Refusal) → IsDetachAnswer k x key r → IfErr r (λ _. (b ≡ k) × (y ≡ x)) → IfErr r (λ f. IsDetachRefusedTo (is_inside x) f × (y ≡ x))

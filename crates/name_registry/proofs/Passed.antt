@@ -23,10 +23,11 @@ use Rattle.cpu_words.proofs.logs.Standings.{kept_entry, kept_standing, not_attac
 use Rattle.passive_list.specs.Cpus.{OnCpu}
 use Rattle.passive_list.specs.Keepers.{OnKeeper}
 use Rattle.passive_list.specs.Logs.{HasOwnLog}
-use Rattle.passive_list.specs.Notes.{HasHeardOn}
+use Rattle.passive_list.specs.Notes.{HasHeardOn, cpu_after_tell, has_heard}
 use Rattle.name_registry.specs.Advancing.{MeetsGrace, PassedBelow}
 use Rattle.name_registry.specs.Meeting.{keeper_after_hear, keeper_after_tell}
 use Rattle.name_registry.specs.Performing.{HasPassedAll, HasPassedFor, PassesBelow, PassesIf, PassesNumber}
+use Rattle.name_registry.proofs.Noted.{met_again}
 
 -- What passes leave
 
@@ -171,14 +172,15 @@ ready z a numbers own are t n gone = ready_by z a numbers t n (slot_at a.slots t
 
 -- The hold, from what its parts say
 
-pub made_passes : (z : Settings) (numbers : List (Option ℕ)) (a h end k b : OnKeeper) (x same after y : OnCpu) → IsPrefix x.known_log a.log → h ≡ keeper_after_hear a x → same ≡ x → PassesBelow z numbers 32 h end → HasOwnLog z end
-    → k ≡ keeper_after_hear end same → after ≡ same → b ≡ keeper_after_tell k → HasHeardOn k.view.history after y → IsPrefix b.log y.known_log → HasPassedAll z a x numbers b y
-made_passes z numbers a h end k b x same after y known heard first passes own again second is hears told = record {
+pub made_passes : (z : Settings) (numbers : List (Option ℕ)) (a h end k b : OnKeeper) (x same after y : OnCpu) → IsPrefix x.known_log a.log → h ≡ keeper_after_hear a x → same ≡ cpu_after_tell x → PassesBelow z numbers 32 h end → HasOwnLog z end
+    → k ≡ keeper_after_hear end same → after ≡ cpu_after_tell same → b ≡ keeper_after_tell k → HasHeardOn k.view.history after y → IsPrefix b.log y.known_log → y.log ≡ after.log ++ has_heard after → HasPassedAll z a x numbers b y
+made_passes z numbers a h end k b x same after y known heard first passes own again second is hears told log = record {
   known = known;
   end = end;
   passes = subst (λ (m : OnKeeper). PassesBelow z numbers 32 m end) heard passes;
   own = own;
   is = is ∙ ap keeper_after_tell (again ∙ ap (keeper_after_hear end) first);
-  hears = subst (λ (o : OnCpu). HasHeardOn b.view.history o y) (second ∙ first) (subst (λ (h : List Change). HasHeardOn h after y) (sym (ap (λ (o : OnKeeper). o.view.history) is)) hears);
+  hears = subst (λ (o : OnCpu). HasHeardOn b.view.history o y) (second ∙ ap cpu_after_tell first) (subst (λ (h : List Change). HasHeardOn h after y) (sym (ap (λ (o : OnKeeper). o.view.history) is)) hears);
   told = told;
+  own_log = met_again x same after y first second log;
 }

@@ -30,12 +30,13 @@ use Rattle.cpu_words.proofs.logs.Standings.{not_attached}
 use Rattle.passive_list.specs.Cpus.{OnCpu}
 use Rattle.passive_list.specs.Keepers.{OnKeeper}
 use Rattle.passive_list.specs.Logs.{HasOwnLog}
-use Rattle.passive_list.specs.Notes.{HasHeardOn}
+use Rattle.passive_list.specs.Notes.{HasHeardOn, cpu_after_tell, has_heard}
 use Rattle.passive_list.specs.Draining.{HasFreed}
 use Rattle.name_registry.specs.Advancing.{EndsIn, HasAdvanced, HasEnded, Meets, MeetsGrace, MeetsLocal, MeetsPassive}
 use Rattle.name_registry.specs.Destroying.{HasAdvancedFor}
 use Rattle.name_registry.specs.Meeting.{keeper_after_hear, keeper_after_tell}
 use Rattle.name_registry.specs.Obstacles.{AnswersBy, HasMet, IsNotRetired, IsRetiredIn, IsTurn, MetLocals, MetReference, MetSection}
+use Rattle.name_registry.proofs.Noted.{met_again}
 use Rattle.name_registry.proofs.Worked.{prefix_on}
 
 -- What is retired, by the keeper and by its log
@@ -160,9 +161,9 @@ told_turn z a x n answer b y has = record {
 }
 
 -- the steps of one, put together
-pub made_turn : (z : Settings) (a h end k b : OnKeeper) (x same after y : OnCpu) (n : ℕ) (answer : Result Stage Refusal) → IsPrefix x.known_log a.log → IsPrefix x.view.pass h.view.history → HasOwnLog z a → h ≡ keeper_after_hear a x → same ≡ x
-    → HasAdvanced h n answer end → HasOwnLog z end → k ≡ keeper_after_hear end same → after ≡ same → b ≡ keeper_after_tell k → HasHeardOn k.view.history after y → IsPrefix b.log y.known_log → HasAdvancedFor z a x n answer b y
-made_turn z a h end k b x same after y n answer known seen own heard first made own_end again second is hears told = record {
+pub made_turn : (z : Settings) (a h end k b : OnKeeper) (x same after y : OnCpu) (n : ℕ) (answer : Result Stage Refusal) → IsPrefix x.known_log a.log → IsPrefix x.view.pass h.view.history → HasOwnLog z a → h ≡ keeper_after_hear a x → same ≡ cpu_after_tell x
+    → HasAdvanced h n answer end → HasOwnLog z end → k ≡ keeper_after_hear end same → after ≡ cpu_after_tell same → b ≡ keeper_after_tell k → HasHeardOn k.view.history after y → IsPrefix b.log y.known_log → y.log ≡ after.log ++ has_heard after → HasAdvancedFor z a x n answer b y
+made_turn z a h end k b x same after y n answer known seen own heard first made own_end again second is hears told log = record {
   known = known;
   seen =
       let history : h.view.history ≡ a.view.history = ap (λ (o : OnKeeper). o.view.history) heard in
@@ -173,6 +174,7 @@ made_turn z a h end k b x same after y n answer known seen own heard first made 
   made = subst (λ (o : OnKeeper). HasAdvanced o n answer end) heard made;
   own_end = own_end;
   is = is ∙ ap keeper_after_tell (again ∙ ap (keeper_after_hear end) first);
-  hears = subst (λ (o : OnCpu). HasHeardOn end.view.history o y) (second ∙ first) (subst (λ (l : List Change). HasHeardOn l after y) (ap (λ (o : OnKeeper). o.view.history) again) hears);
+  hears = subst (λ (o : OnCpu). HasHeardOn end.view.history o y) (second ∙ ap cpu_after_tell first) (subst (λ (l : List Change). HasHeardOn l after y) (ap (λ (o : OnKeeper). o.view.history) again) hears);
   told = told;
+  own_log = met_again x same after y first second log;
 }

@@ -20,10 +20,11 @@ use Rattle.cpu_words.proofs.logs.Standings.{kept_entry, kept_parts}
 use Rattle.passive_list.specs.Cpus.{OnCpu}
 use Rattle.passive_list.specs.Keepers.{OnKeeper}
 use Rattle.passive_list.proofs.Walking.{prefix_trans}
-use Rattle.name_registry.specs.Meeting.{HasLearned, keeper_after_hear}
+use Rattle.name_registry.specs.Meeting.{GoesOnByNotes, HasLearned, keeper_after_hear}
 use Rattle.name_registry.specs.Performing.{Finishes, GlancesBelow, GlancesOnce, HasPerformed, HasSeenAllOut, Hold, Looking, SnapshotsBelow, SomeBegan, SomeGlanced, SomePassed, TurnsWaiting, is_seen, none_seen, word_of}
 use Rattle.name_registry.proofs.Owned.{learned}
 use Rattle.name_registry.proofs.Passed.{IsReady, Passing, onward_below, passed_end, ready}
+use Rattle.name_registry.proofs.Noted.{by_meeting, by_meeting_again, more_notes, no_notes}
 
 -- What stands in a log
 
@@ -310,27 +311,28 @@ abbrev pub Learns : OnCpu → OnCpu → Type 0
 Learns x y = HasLearned x y × (y.made ≡ x.made)
 
 pub learns_none : (x : OnCpu) → Learns x x
-learns_none x = (record { pass = ([], append-nil x.view.pass); known_log = ([], append-nil x.known_log); is = refl }, refl)
+learns_none x = (record { pass = ([], append-nil x.view.pass); known_log = ([], append-nil x.known_log); is = refl; log = no_notes x.view.id x.log }, refl)
 
 pub learns_more : (x m y : OnCpu) → Learns x m → Learns m y → Learns x y
 learns_more x m y first second = (
   record {
     pass = prefix_trans x.view.pass m.view.pass y.view.pass first.0.pass second.0.pass;
     known_log = (first.0.known_log.0 ++ second.0.known_log.0, sym (append_assoc x.known_log first.0.known_log.0 second.0.known_log.0) ∙ (ap (λ (l : List LogItem). l ++ second.0.known_log.0) first.0.known_log.1 ∙ second.0.known_log.1));
-    is = second.0.is ∙ ap (λ (o : OnCpu). record o { view = record o.view { pass = y.view.pass; noted_pass = y.view.noted_pass }; made = y.made; known_log = y.known_log }) first.0.is;
+    is = second.0.is ∙ ap (λ (o : OnCpu). record o { view = record o.view { pass = y.view.pass; noted_pass = y.view.noted_pass }; made = y.made; known_log = y.known_log; log = y.log }) first.0.is;
+    log = more_notes x.view.id x.log m.log y.log first.0.log (subst (λ (c : ℕ). GoesOnByNotes c m.log y.log) (ap (λ (o : OnCpu). o.view.id) first.0.is) second.0.log);
   },
   second.1 ∙ first.1,
 )
 
 learns_hold : (looks : Looking → Looking → Type 0) (a : OnKeeper) (x : OnCpu) (b : OnKeeper) (y : OnCpu) → Hold looks a x b y → Learns x y
-learns_hold looks a x b y hold = (learned b.view.history x y hold.hears, ap (λ (o : OnCpu). o.made) hold.hears.is)
+learns_hold looks a x b y hold = (learned b.view.history x y hold.hears (by_meeting x y hold.own_log), ap (λ (o : OnCpu). o.made) hold.hears.is)
 
 learns_turns : (z : Settings) (words : List ℕ) (n : ℕ) (x : OnCpu) (seen : List Bool) (y : OnCpu) (after : List Bool) → TurnsWaiting (SomeGlanced z words) n x seen y after → Learns x y
 learns_turns z words zero x seen y after is = subst (λ (o : OnCpu). Learns x o) (sym is.0) (learns_none x)
 learns_turns z words (suc n) x seen y after is = learns_more x is.0 y (learns_turns z words n x seen is.0 is.1 is.3) (learns_hold _ is.4.0 is.0 is.4.1 y is.4.2.hold)
 
 learns_end : (z : Settings) (numbers : List (Option ℕ)) (x : OnCpu) (told : Option ℕ) (y : OnCpu) → Finishes (SomePassed z) numbers x told y → Learns x y
-learns_end z numbers x None y is = (learned is.1.view.history x y is.2.hears, ap (λ (o : OnCpu). o.made) is.2.hears.is)
+learns_end z numbers x None y is = (learned is.1.view.history x y is.2.hears (by_meeting_again x y is.2.own_log), ap (λ (o : OnCpu). o.made) is.2.hears.is)
 learns_end z numbers x (Some c) y is = subst (λ (o : OnCpu). Learns x o) (sym is) (learns_none x)
 
 pub learns_performed : (z : Settings) (turns : ℕ) (x : OnCpu) (told : Option ℕ) (y : OnCpu) → HasPerformed z turns x told y → Learns x y

@@ -1,5 +1,5 @@
 -- Destroying a retired entry: how many turns of the work on it were made, and what the last one's answer makes of it.
-use Rattle.std.specs.Prelude.{◌≡◌, ◌⊎◌, ℕ, zero, suc, ◌<◌, ◌≤◌, Bool, true, false, List, length, Result, Ok, Err, IfOk}
+use Rattle.std.specs.Prelude.{◌≡◌, ◌⊎◌, ℕ, zero, suc, ◌<◌, ◌≤◌, Bool, true, false, List, ◌++◌, length, Result, Ok, Err, IfOk}
 use Rattle.registry_values.specs.declared.refusal.Refusal.{Refusal}
 use Rattle.registry_values.specs.declared.refusal.Refusal.TheVariants.{Inside}
 use Rattle.registry_values.specs.declared.settings.Settings.{Settings}
@@ -14,7 +14,7 @@ use Rattle.passive_list.specs.Notes.{HasHeardOn}
 use Rattle.name_registry.specs.Advancing.{HasAdvanced}
 use Rattle.name_registry.specs.Locking.{IsStageOf}
 use Rattle.name_registry.specs.Obstacles.{IsTurn}
-use Rattle.name_registry.specs.Meeting.{keeper_after_hear, keeper_after_tell}
+use Rattle.name_registry.specs.Meeting.{keeper_after_hear, keeper_after_tell, meets_again}
 
 -- a turn that met an obstacle; after any other answer there is nothing more to do
 abbrev pub MeetsObstacle : Result Stage Refusal → Type 0
@@ -53,6 +53,7 @@ pub record HasAdvancedFor (z : Settings) (a : OnKeeper) (x : OnCpu) (n : ℕ) (a
   pub is : b ≡ keeper_after_tell (keeper_after_hear end x)
   pub hears : HasHeardOn end.view.history x y
   pub told : IsPrefix b.log y.known_log
+  pub own_log : y.log ≡ x.log ++ meets_again x
 
 -- Through the lock, whose value no contract can name: of some keeper, as the call found it and left it
 

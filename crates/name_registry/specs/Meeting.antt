@@ -1,14 +1,16 @@
 -- A call that changes the registry: the keeper hears what the caller's CPU has seen, and then the CPU hears the whole history.
-use Rattle.std.specs.Prelude.{◌≡◌, ℕ, ◌<◌, Bool, ◌++◌, length, None, is_some}
+use Rattle.std.specs.Prelude.{◌≡◌, ◌⊎◌, ℕ, ◌<◌, Bool, List, [], ◌∷◌, ◌++◌, length, Some, None, is_some}
 use mathlib.Core.List.{IsPrefix}
 use Rattle.registry_values.specs.declared.entry.Entry.{Entry}
 use Rattle.protocol.specs.History.{IsAttached, EndsAt}
 use Rattle.protocol.specs.declared.event.Event.TheVariants.{Hear, Tell}
 use Rattle.protocol.specs.declared.event.Reply.TheVariants.{Done}
+use Rattle.cpu_words.specs.declared.view.LogItem.{LogItem}
 use Rattle.cpu_words.specs.Notes.{keeper_with_note}
 use Rattle.cpu_words.specs.Rule.{did}
 use Rattle.passive_list.specs.Cpus.{OnCpu, OnPlainCpu}
 use Rattle.passive_list.specs.Keepers.{OnKeeper, OnPlainKeeper}
+use Rattle.passive_list.specs.Notes.{has_heard, has_told}
 
 -- both are of the tables that they were of
 abbrev pub KeepsWords : OnPlainKeeper → OnPlainCpu → OnPlainKeeper → OnPlainCpu → Type 0
@@ -25,20 +27,45 @@ keeper_after_hear a x = record { view = keeper_with_note a.view x.view.pass; slo
 abbrev pub keeper_after_tell : OnKeeper → OnKeeper
 keeper_after_tell a = record a { log = a.log ++ did (Tell None) Done }
 
--- the CPU's pass has grown, and its known log, and nothing else of it changed but the pass noted beside its view, and what its calls have made
+-- In the CPU's own log: it tells the keeper what it has seen, and at the end it hears.
+abbrev pub meets : OnCpu → List LogItem
+meets x = has_told x ++ has_heard x
+
+-- it tells twice, as the keeper hears before its work and after
+abbrev pub meets_again : OnCpu → List LogItem
+meets_again x = has_told x ++ has_told x ++ has_heard x
+
+-- a note that the CPU c told or heard
+abbrev pub IsNote : ℕ → LogItem → Type 0
+IsNote c d = (d ≡ record { event = Tell (Some c); reply = Done }) ⊎ (d ≡ record { event = Hear (Some c); reply = Done })
+
+abbrev pub AreNotes : ℕ → List LogItem → Type 0
+AreNotes c [] = Unit {0}
+AreNotes c (d ∷ ds) = IsNote c d × AreNotes c ds
+
+-- the log went on by such notes
+pub record GoesOnByNotes (c : ℕ) (old new : List LogItem) : Type 0 where
+  pub since : List LogItem
+  pub are : new ≡ old ++ since
+  pub only : AreNotes c since
+
+-- the CPU's pass has grown, and its known log, by notes alone, and nothing else of it changed but the pass noted beside its view, and what its calls have made
 pub record HasLearned (x y : OnCpu) : Type 0 where
   pub pass : IsPrefix x.view.pass y.view.pass
   pub known_log : IsPrefix x.known_log y.known_log
-  pub is : y ≡ record x { view = record x.view { pass = y.view.pass; noted_pass = y.view.noted_pass }; made = y.made; known_log = y.known_log }
+  pub is : y ≡ record x { view = record x.view { pass = y.view.pass; noted_pass = y.view.noted_pass }; made = y.made; known_log = y.known_log; log = y.log }
+  pub log : GoesOnByNotes x.view.id x.log y.log
 
--- the attach of e stands after all that the CPU had seen, and the CPU has seen it
+-- the attach of e stands after all that the CPU had seen, and the CPU has seen it, by one note to the keeper and one from it
 pub record HasSeenAttach (x y : OnCpu) (e : Entry) : Type 0 where
   pub later : length x.view.pass < e.number
   pub attached : IsAttached y.view.pass e
+  pub log : y.log ≡ x.log ++ meets x
 
--- the detach of e stands after all that the CPU had seen, and the CPU has seen it, and the attach of e
+-- the detach of e stands after all that the CPU had seen, and the CPU has seen it, and the attach of e, by one note to the keeper and one from it
 pub record HasSeenDetach (x y : OnCpu) (e : Entry) : Type 0 where
   pub end : ℕ
   pub later : length x.view.pass < end
   pub ends : EndsAt y.view.pass e.number end
   pub attached : IsAttached y.view.pass e
+  pub log : y.log ≡ x.log ++ meets x

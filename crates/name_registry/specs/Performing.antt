@@ -23,7 +23,7 @@ use Rattle.passive_list.specs.Keepers.{OnKeeper}
 use Rattle.passive_list.specs.Logs.{HasOwnLog}
 use Rattle.passive_list.specs.Notes.{HasHeardOn}
 use Rattle.name_registry.specs.Advancing.{GoesOnByLooks, HasLookedFor, MeetsGrace, PassedBelow}
-use Rattle.name_registry.specs.Meeting.{keeper_after_hear, keeper_after_tell}
+use Rattle.name_registry.specs.Meeting.{keeper_after_hear, keeper_after_tell, meets, meets_again}
 
 -- The keeper's looks for no entry
 
@@ -77,6 +77,7 @@ pub record Hold (looks : Looking → Looking → Type 0) (a : OnKeeper) (x : OnC
   pub log : b.log ≡ end.log ++ did (Tell None) Done
   pub hears : HasHeardOn b.view.history x y
   pub told : IsPrefix b.log y.known_log
+  pub own_log : y.log ≡ x.log ++ meets x
 
 -- The parts that are lent the keeper
 
@@ -124,6 +125,7 @@ pub record HasPassedAll (z : Settings) (a : OnKeeper) (x : OnCpu) (numbers : Lis
   pub is : b ≡ keeper_after_tell (keeper_after_hear end x)
   pub hears : HasHeardOn b.view.history x y
   pub told : IsPrefix b.log y.known_log
+  pub own_log : y.log ≡ x.log ++ meets_again x
 
 -- The turns: X is what stands between two holds of the interlock
 

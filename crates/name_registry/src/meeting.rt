@@ -1,10 +1,10 @@
 //! What the caller's CPU and the keeper have seen reaches the other, by a note each.
 
-ghost use Rattle.std.specs.Prelude.{◌≡◌};
+ghost use Rattle.std.specs.Prelude.{◌≡◌, ◌++◌};
 ghost use mathlib.Core.List.{IsPrefix};
 ghost use Rattle.cpu_words.specs.Domains.{AreWordsOf};
 ghost use Rattle.passive_list.specs.Logs.{HasOwnLog};
-ghost use Rattle.passive_list.specs.Notes.{HasHeardOn};
+ghost use Rattle.passive_list.specs.Notes.{HasHeardOn, cpu_after_tell, has_heard};
 ghost use Rattle.name_registry.specs.Meeting.{KeepsWords, keeper_after_hear, keeper_after_tell};
 
 use cpu_words::Words;
@@ -19,7 +19,7 @@ pub(crate) fn hear_cpu(words: &Words, keeper: &mut Keeper, cpu: &mut PlainCpu)
     ensures keeper { keeper.new.keeper ≡ keeper_after_hear keeper.old.keeper cpu.old.cpu }
     ensures known { IsPrefix cpu.old.cpu.known_log keeper.old.keeper.log }
     ensures own { HasOwnLog words.now.settings keeper.old.keeper }
-    ensures cpu { cpu.new ≡ cpu.old }
+    ensures cpu { cpu.new.cpu ≡ cpu_after_tell cpu.old.cpu }
     ensures words { KeepsWords keeper.old cpu.old keeper.new cpu.new }
 {
     let note = tell_on(words, cpu);
@@ -33,6 +33,7 @@ pub(crate) fn show_cpu(words: &Words, keeper: &mut Keeper, cpu: &mut PlainCpu)
     ensures keeper { keeper.new.keeper ≡ keeper_after_tell keeper.old.keeper }
     ensures cpu { HasHeardOn keeper.old.keeper.view.history cpu.old.cpu cpu.new.cpu }
     ensures told { IsPrefix keeper.new.keeper.log cpu.new.cpu.known_log }
+    ensures log { cpu.new.cpu.log ≡ cpu.old.cpu.log ++ has_heard cpu.old.cpu }
     ensures words { KeepsWords keeper.old cpu.old keeper.new cpu.new }
 {
     let note = tell_keeper_on(words, keeper);

@@ -22,7 +22,8 @@ use Rattle.cpu_words.proofs.shown.Passes.{attached_prefix}
 use Rattle.passive_list.specs.declared.walks.Noted.{Noted}
 use Rattle.passive_list.specs.Walking.{HasLookedUp}
 use Rattle.passive_list.specs.Walks.{WasLive, HasWalked}
-use Rattle.passive_list.specs.Noting.{nobody, noted_of, IsNoting, AreNoted, HaveSearched, HasFoundAgain, HaveBeenFound, WritesNext, HasGoneOver}
+use Rattle.passive_list.specs.Searches.{nobody, HasGoneOverBy}
+use Rattle.passive_list.specs.Noting.{noted_of, IsNoting, AreNoted, HaveSearched, HasFoundAgain, HaveBeenFound, WritesNext, HasGoneOver}
 use Rattle.passive_list.proofs.Walking.{prefix_trans}
 use Rattle.passive_list.proofs.Standing.{prefix_length, live_before, was_live_later, live_stands}
 use Rattle.passive_list.proofs.Noting.{no_zeros}
@@ -239,14 +240,15 @@ gone_over x y z w es rs key answer noted searched_ found is had = record {
     low = prefix_length x.pass y.pass noted.pass
 
 -- to a contract
-pub walked : (a b : OnCpu) (row : List Entry) → a.view.search ≡ None → HasGoneOver a.view b.view row → b.depth ≡ a.depth → b.made ≡ a.made → b.known_log ≡ a.known_log → HasWalked a b row
-walked a b row idle had depth made known_log = record {
+pub walked : (a b : OnCpu) (row : List Entry) → a.view.search ≡ None → HasGoneOver a.view b.view row → b.depth ≡ a.depth → b.made ≡ a.made → b.known_log ≡ a.known_log → HasGoneOverBy a.view.id a.log b.log → HasWalked a b row
+walked a b row idle had depth made known_log log = record {
   pass = had.pass;
-  is = λ i. record { view = (had.is ∙ ap (λ (s : Option Search). record a.view { pass = b.view.pass; search = s; found = None }) (sym idle)) i; depth = depth i; made = made i; known_log = known_log i };
+  is = λ i. record { view = (had.is ∙ ap (λ (s : Option Search). record a.view { pass = b.view.pass; search = s; found = None }) (sym idle)) i; depth = depth i; made = made i; known_log = known_log i; log = b.log };
   all = had.all;
   each = had.each;
   held = λ e s there begun.
       let was = had.each e there in
       record { attached = was.live.attached; unended = λ p ends. omega (arith, had.since s begun, was.from_on, was.live.unended p ends) };
   newest_first = had.newest_first;
+  log = log;
 }

@@ -1,5 +1,6 @@
 pub mod Agreeing
 pub mod Walking
+pub mod Searches
 pub mod Rows
 pub mod Marks
 pub mod Entering

@@ -24,7 +24,8 @@ use Rattle.cpu_words.specs.declared.view.CpuView.{CpuView}
 use Rattle.cpu_words.specs.Searching.{MayLoadLink, PassTells, SkipsNone, Descends, LinkHolds, every_word, HasLoadedLink, HasLoadedWord, HasFollowed, cpu_after_seek, cpu_after_link, search_for}
 use Rattle.passive_list.specs.declared.walks.Noted.{Noted}
 use Rattle.passive_list.specs.Walking.{search_at, IsUnderWay, MayVisit, cpu_with_search_at, after_visit}
-use Rattle.passive_list.specs.Noting.{nobody, noted_of, AreStoodOn, HasNotedFrom, HasNoted, view_at_link, IsLiveSince, GoesOnAt, IsNoting, HasNotedSoFar}
+use Rattle.passive_list.specs.Searches.{nobody}
+use Rattle.passive_list.specs.Noting.{noted_of, AreStoodOn, HasNotedFrom, HasNoted, view_at_link, IsLiveSince, GoesOnAt, IsNoting, HasNotedSoFar}
 use Rattle.passive_list.proofs.Walking.{prefix_trans, on_word, judged_at, may_follow}
 use Rattle.passive_list.proofs.Standing.{prefix_length, stands_later, live_before}
 

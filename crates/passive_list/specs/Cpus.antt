@@ -17,12 +17,13 @@ use Rattle.cpu_words.specs.Sections.{IsIdle}
 use Rattle.passive_list.specs.declared.place.Found.{Found}
 use Rattle.passive_list.specs.declared.place.NumberedCount.{NumberedCount}
 
--- a CPU, to a contract: what its seat knows, the depth of its section, what the changes that its calls have made come to in the ledger, and what it has heard of the keeper's log
+-- a CPU, to a contract: what its seat knows, the depth of its section, what the changes that its calls have made come to in the ledger, what it has heard of the keeper's log, and all that its seat did
 pub record OnCpu : Type 0 where
   pub view : CpuView
   pub depth : ℕ
   pub made : ℕ
   pub known_log : List LogItem
+  pub log : List LogItem
 
 -- a CPU that names its own table: that table and its settings, and the CPU; it has no share of a ledger, so it says 0 of what it made
 pub record OnPlainCpu : Type 0 where

@@ -11,4 +11,5 @@ pub mod Retiring
 pub mod Logs
 pub mod Walks
 pub mod Noting
+pub mod Searches
 pub mod Draining

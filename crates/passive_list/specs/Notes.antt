@@ -1,11 +1,14 @@
 -- Notes: what one CPU has seen reaches another, or the keeper.
-use Rattle.std.specs.Prelude.{◌≡◌, List}
+use Rattle.std.specs.Prelude.{◌≡◌, List, ◌++◌, Some}
 use mathlib.Core.List.{IsPrefix}
 use Rattle.registry_values.specs.declared.entry.Change.{Change}
+use Rattle.protocol.specs.declared.event.Event.TheVariants.{Hear, Tell}
+use Rattle.protocol.specs.declared.event.Reply.TheVariants.{Done}
 use Rattle.cpu_words.specs.declared.view.LogItem.{LogItem}
 use Rattle.cpu_words.specs.declared.view.View.TheVariants.{Cpu}
 use Rattle.cpu_words.specs.KeeperLog.{IsShownAfter}
 use Rattle.cpu_words.specs.Notes.{with_note}
+use Rattle.cpu_words.specs.Rule.{did}
 use Rattle.passive_list.specs.Cpus.{OnCpu}
 
 -- a note, to a contract: a prefix of the history, and what its teller had heard that the keeper did
@@ -13,13 +16,25 @@ pub record OnNote : Type 0 where
   pub pass : List Change
   pub known_log : List LogItem
 
--- the pass is a longer prefix of the history, with what the note tells in it, and the known log goes on; nothing else changes but the pass noted beside the view
+-- the pass is a longer prefix of the history, with what the note tells in it, and the known log goes on; nothing else changes but the pass noted beside the view, and the CPU's own log
 pub record HasHeardOn (note : List Change) (a b : OnCpu) : Type 0 where
   pub told : IsPrefix note b.view.pass
   pub pass : IsPrefix a.view.pass b.view.pass
   pub known_log : IsPrefix a.known_log b.known_log
-  pub is : b ≡ record a { view = record a.view { pass = b.view.pass; noted_pass = note }; known_log = b.known_log }
+  pub is : b ≡ record a { view = record a.view { pass = b.view.pass; noted_pass = note }; known_log = b.known_log; log = b.log }
 
 -- as the CPU heard the note, some state showed it, in which the keeper had done just what the CPU knows of it then
 abbrev pub WasShown : List Change → OnCpu → OnCpu → Type 0
 WasShown note a b = IsShownAfter b.known_log (Cpu (with_note a.view note))
+
+-- The CPU's own log: to tell and to hear is an event each.
+
+abbrev pub has_told : OnCpu → List LogItem
+has_told a = did (Tell (Some a.view.id)) Done
+
+abbrev pub has_heard : OnCpu → List LogItem
+has_heard a = did (Hear (Some a.view.id)) Done
+
+-- the CPU as it has told what it has seen
+abbrev pub cpu_after_tell : OnCpu → OnCpu
+cpu_after_tell a = record a { log = a.log ++ has_told a }

@@ -4,8 +4,6 @@ use Rattle.std.specs.List.{Contains}
 use mathlib.Core.List.{IsPrefix}
 use Rattle.registry_values.specs.declared.entry.Entry.{Entry}
 use Rattle.registry_values.specs.declared.entry.Change.{Change}
-use Rattle.registry_values.specs.declared.entry.Kind.TheVariants.{Iface}
-use Rattle.registry_values.specs.declared.slot.Key.{Key}
 use Rattle.registry_values.specs.Slots.{kind_word}
 use Rattle.protocol.specs.declared.state.SearchPlace.TheVariants.{AtNext, AtNumber}
 use Rattle.protocol.specs.History.{IsAttached, IsLiveAt}
@@ -14,11 +12,8 @@ use Rattle.cpu_words.specs.declared.view.CpuView.{CpuView}
 use Rattle.cpu_words.specs.Searching.{PassTells}
 use Rattle.passive_list.specs.declared.walks.Noted.{Noted}
 use Rattle.passive_list.specs.Walking.{search_at, IsUnderWay, cpu_with_search_at}
+use Rattle.passive_list.specs.Searches.{nobody}
 use Rattle.passive_list.specs.Walks.{AreNewestFirst, WasLive}
-
--- what no entry is looked up by: no name has two words of 0
-abbrev pub nobody : Key
-nobody = record { kind = Iface; name = record { high = 0; low = 0 } }
 
 -- what is noted of an entry
 abbrev pub noted_of : Entry → Noted

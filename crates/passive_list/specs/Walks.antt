@@ -6,6 +6,7 @@ use Rattle.registry_values.specs.declared.entry.Entry.{Entry}
 use Rattle.registry_values.specs.declared.entry.Change.{Change}
 use Rattle.protocol.specs.History.{IsLiveAt, MayHold}
 use Rattle.passive_list.specs.Cpus.{OnCpu}
+use Rattle.passive_list.specs.Searches.{HasGoneOverBy}
 
 -- e is live at each point from `from` up to `to`: it is at both, and an entry ends once
 abbrev pub IsLiveThroughout : List Change → ℕ → ℕ → Entry → Type 0
@@ -22,13 +23,14 @@ pub record WasLive (h : List Change) (from to : ℕ) (e : Entry) : Type 0 where
 abbrev pub AreNewestFirst : List Entry → Type 0
 AreNewestFirst row = AllPairs (λ (e f : Entry). f.number < e.number) row
 
--- just the pass changes and the last found entry, which is cleared; the row has the registry's entries at points not before what the CPU had seen
+-- just the pass changes and the last found entry, which is cleared, by searches alone; the row has the registry's entries at points not before what the CPU had seen
 pub record HasWalked (a b : OnCpu) (row : List Entry) : Type 0 where
   pub pass : IsPrefix a.view.pass b.view.pass
-  pub is : b ≡ record a { view = record a.view { pass = b.view.pass; found = None } }
+  pub is : b ≡ record a { view = record a.view { pass = b.view.pass; found = None }; log = b.log }
   -- each entry that was live from the start to the end is in the row
   pub all : (e : Entry) → IsLiveThroughout b.view.pass (length a.view.pass) (length b.view.pass) e → Contains row e
   -- each in it was live in between, and the open section may hold it
   pub each : (e : Entry) → Contains row e → WasLive b.view.pass (length a.view.pass) (length b.view.pass) e
   pub held : (e : Entry) (s : ℕ) → Contains row e → a.view.begin ≡ Some s → MayHold b.view.pass s e
   pub newest_first : AreNewestFirst row
+  pub log : HasGoneOverBy a.view.id a.log b.log

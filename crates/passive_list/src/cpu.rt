@@ -10,7 +10,8 @@ use std::marker::Model;
 use std::sync::ledger::Share;
 
 /// A virtual CPU of the table that D names. To a contract it is what its seat knows, the depth of its section, what its calls have
-/// changed behind the interlock, as far as that is counted in the ledger that D names, and what it has heard of the keeper's log.
+/// changed behind the interlock, as far as that is counted in the ledger that D names, what it has heard of the keeper's log, and all that its
+/// seat did: each event with its reply, in order.
 /// Binding is ownership: the thread that owns the value runs on that CPU.
 #[derive(Drop)]
 pub struct Cpu<D: Domain> {
@@ -38,7 +39,7 @@ impl<D: Domain> Cpu<D> {
         requires table { (seat.table ≡ D.table) × IsTrue (are_fit D.settings) × (id < 8) }
         requires new { seat.view ≡ new_cpu D.settings id }
         requires part { share.parts ≡ 1 }
-        ensures { result ≡ record { view = new_cpu D.settings id; depth = 0; made = share.amount; known_log = seat.known_log } }
+        ensures { result ≡ record { view = new_cpu D.settings id; depth = 0; made = share.amount; known_log = seat.known_log; log = seat.log } }
     {
         Cpu {
             plain: PlainCpu::of_seat(seat, id),

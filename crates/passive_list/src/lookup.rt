@@ -5,6 +5,7 @@ ghost use Rattle.cpu_words.specs.Domains.{AreWordsOf};
 ghost use Rattle.cpu_words.specs.Searching.{MaySeek, key_with};
 ghost use Rattle.passive_list.specs.Cpus.{IsKept};
 ghost use Rattle.passive_list.specs.Lookups.{HasFound};
+ghost use Rattle.passive_list.specs.Searches.{SearchesOnce, GoesOnByLoads};
 ghost use Rattle.passive_list.specs.Walking.{MayVisit, HasVisited, HasLookedUp, entry_seen};
 
 use crate::cpu::Cpu;
@@ -18,7 +19,7 @@ const ABOVE_ALL: u64 = 1_000_001;
 
 /// Looks an entry up by its kind and name, and keeps the answer as the last found entry: `None` clears it. The answer is the registry's
 /// at some point from what this CPU had seen at the call to what it has seen at the return; a found entry keeps its slot until this
-/// section ends. The steps are loads alone, five for each entry visited, and it takes no memory.
+/// section ends. The steps are one search's, loads alone, five for each entry visited, and it takes no memory.
 /// Condition: inside.
 pub fn find<D: Domain>(words: &Words, cpu: &mut Cpu<D>, kind: Kind, name: &Name) -> Option<Entry>
     requires words { AreWordsOf words.now D.table D.settings }
@@ -82,6 +83,7 @@ pub fn look_up(words: &Words, seat: &mut CpuSeat, cpu: u8, kind: Kind, name: Nam
     ensures table { seat.new.table ≡ seat.old.table }
     ensures change { HasLookedUp (key_with kind name) seat.old.view seat.new.view (entry_seen (key_with kind name) result) }
     ensures known_log { seat.new.known_log ≡ seat.old.known_log }
+    ensures log { SearchesOnce cpu (key_with kind name) seat.old.log seat.new.log }
 {
     let mut last = ABOVE_ALL;
     let mut link = steps::seek(words, seat, cpu, kind, name);
@@ -118,6 +120,7 @@ fn visit(
     ensures table { seat.new.table ≡ seat.old.table }
     ensures change { HasVisited seat.old.view (key_with kind name) slot result.0 result.1 seat.new.view }
     ensures known_log { seat.new.known_log ≡ seat.old.known_log }
+    ensures log { GoesOnByLoads cpu 4 seat.old.log seat.new.log }
 {
     let number = steps::load_searched(words, seat, cpu, slot, 0);
     let found = steps::load_searched(words, seat, cpu, slot, 1);

@@ -1,9 +1,9 @@
 //! Notes: what one thread has seen reaches another. A note is sent beside a message, or kept beside what a lock guards.
 
-ghost use Rattle.std.specs.Prelude.{◌≡◌};
+ghost use Rattle.std.specs.Prelude.{◌≡◌, ◌++◌};
 ghost use mathlib.Core.List.{IsPrefix};
 ghost use Rattle.cpu_words.specs.Domains.{AreWordsOf};
-ghost use Rattle.passive_list.specs.Notes.{HasHeardOn, WasShown};
+ghost use Rattle.passive_list.specs.Notes.{HasHeardOn, WasShown, has_heard, cpu_after_tell};
 
 use crate::cpu::Cpu;
 use crate::plain_cpu::PlainCpu;
@@ -29,12 +29,12 @@ impl<D: Domain> Model for Note<D> {
     ghost invariant = { λ n. n.seat.table ≡ D.table };
 }
 
-/// Tells what this CPU has seen: the note has just its pass, and what it has heard of the keeper's log. It changes nothing, inside a
-/// section or outside.
+/// Tells what this CPU has seen: the note has just its pass, and what it has heard of the keeper's log. It changes nothing but the CPU's own
+/// log, inside a section or outside.
 pub fn tell<D: Domain>(words: &Words, cpu: &mut Cpu<D>) -> Note<D>
     requires words { AreWordsOf words.now D.table D.settings }
     ensures note { result ≡ record { pass = cpu.old.view.pass; known_log = cpu.old.known_log } }
-    ensures same { cpu.new ≡ cpu.old }
+    ensures log { cpu.new ≡ cpu_after_tell cpu.old }
 {
     Note {
         seat: tell_on(words, &mut cpu.plain),
@@ -47,7 +47,8 @@ pub fn tell_on(words: &Words, cpu: &mut PlainCpu) -> NoteSeat
     requires words { AreWordsOf words.now cpu.old.words.table cpu.old.words.settings }
     ensures table { result.table ≡ cpu.old.words.table }
     ensures note { (result.view ≡ cpu.old.cpu.view.pass) × (result.known_log ≡ cpu.old.cpu.known_log) }
-    ensures same { cpu.new ≡ cpu.old }
+    ensures log { cpu.new.cpu ≡ cpu_after_tell cpu.old.cpu }
+    ensures words { cpu.new.words ≡ cpu.old.words }
 {
     steps::tell(words, &mut cpu.seat, cpu.id)
 }
@@ -60,6 +61,7 @@ pub fn hear<D: Domain>(words: &Words, cpu: &mut Cpu<D>, note: Note<D>)
     ensures heard { HasHeardOn note.pass cpu.old cpu.new }
     ensures known_log { IsPrefix note.known_log cpu.new.known_log }
     ensures shown { WasShown note.pass cpu.old cpu.new }
+    ensures log { cpu.new.log ≡ cpu.old.log ++ has_heard cpu.old }
 {
     let Note { seat, domain: _ } = note;
     hear_on(words, &mut cpu.plain, seat);
@@ -72,6 +74,7 @@ pub fn hear_on(words: &Words, cpu: &mut PlainCpu, note: NoteSeat)
     ensures heard { HasHeardOn note.view cpu.old.cpu cpu.new.cpu }
     ensures known_log { IsPrefix note.known_log cpu.new.cpu.known_log }
     ensures shown { WasShown note.view cpu.old.cpu cpu.new.cpu }
+    ensures log { cpu.new.cpu.log ≡ cpu.old.cpu.log ++ has_heard cpu.old.cpu }
     ensures words { cpu.new.words ≡ cpu.old.words }
 {
     steps::hear(words, &mut cpu.seat, cpu.id, note);

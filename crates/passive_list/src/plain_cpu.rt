@@ -32,7 +32,7 @@ impl Model for PlainCpu {
 
     ghost Value = { OnPlainCpu };
 
-    ghost view = { λ c. record { words = record { table = c.seat.table; settings = c.seat.view.settings }; cpu = record { view = c.seat.view; depth = c.depth; made = 0; known_log = c.seat.known_log } } };
+    ghost view = { λ c. record { words = record { table = c.seat.table; settings = c.seat.view.settings }; cpu = record { view = c.seat.view; depth = c.depth; made = 0; known_log = c.seat.known_log; log = c.seat.log } } };
 
     ghost invariant = { λ c. IsOurCpu c.seat.table c.seat.view.settings c.seat.table c.seat.view c.id c.ended c.depth c.found c.passive c.net };
 }
@@ -44,7 +44,7 @@ impl PlainCpu {
         requires fit { IsTrue (are_fit seat.view.settings) × (id < 8) }
         requires new { seat.view ≡ new_cpu seat.view.settings id }
         ensures words { result.words ≡ record { table = seat.table; settings = seat.view.settings } }
-        ensures cpu { result.cpu ≡ record { view = seat.view; depth = 0; made = 0; known_log = seat.known_log } }
+        ensures cpu { result.cpu ≡ record { view = seat.view; depth = 0; made = 0; known_log = seat.known_log; log = seat.log } }
     {
         PlainCpu {
             seat,

@@ -7,12 +7,14 @@
 ghost use Rattle.std.specs.Prelude.{◌≡◌, ◌≢◌, ◌<◌, ◌≤◌, None, List, take, drop, length};
 ghost use Rattle.registry_values.specs.declared.entry.Entry.{Entry};
 ghost use Rattle.registry_values.specs.declared.entry.Kind.{Kind};
+ghost use Rattle.registry_values.specs.declared.slot.Key.{Key};
 ghost use Rattle.registry_values.specs.Slots.{kind_word};
 ghost use Rattle.protocol.specs.History.{IsAttached};
 ghost use Rattle.cpu_words.specs.Domains.{AreWordsOf};
 ghost use Rattle.cpu_words.specs.Searching.{MaySeek};
 ghost use Rattle.passive_list.specs.Walking.{MayVisit};
-ghost use Rattle.passive_list.specs.Noting.{nobody, HasNoted, HasNotedSoFar, AreNoted, HasFoundAgain, HaveSearched, HaveBeenFound, HasGoneOver, WritesNext, noted_of};
+ghost use Rattle.passive_list.specs.Searches.{nobody, GoesOnByLoads, HasSearchedFor, SearchesOnce, SearchesTimes, HasGoneOverBy};
+ghost use Rattle.passive_list.specs.Noting.{HasNoted, HasNotedSoFar, AreNoted, HasFoundAgain, HaveSearched, HaveBeenFound, HasGoneOver, WritesNext, noted_of};
 ghost use Rattle.passive_list.specs.Walks.{HasWalked};
 
 use crate::cpu::Cpu;
@@ -81,6 +83,7 @@ fn go_over(words: &Words, seat: &mut CpuSeat, cpu: u8, row: &mut [Entry; 32]) ->
     ensures change { HasGoneOver seat.old.view seat.new.view (take result row.new) }
     ensures rest { drop result row.new ≡ drop result row.old }
     ensures known_log { seat.new.known_log ≡ seat.old.known_log }
+    ensures log { HasGoneOverBy cpu seat.old.log seat.new.log }
 {
     let mut noted = [Noted::NONE; 32];
     let count = note_all(words, seat, cpu, &mut noted);
@@ -98,6 +101,7 @@ fn note_all(words: &Words, seat: &mut CpuSeat, cpu: u8, noted: &mut [Noted; 32])
     ensures count { result ≤ 32 }
     ensures noted { HasNotedSoFar seat.old.view noted.new result 0 seat.new.view }
     ensures known_log { seat.new.known_log ≡ seat.old.known_log }
+    ensures log { HasSearchedFor cpu nobody result seat.old.log seat.new.log }
 {
     let mut count = 0;
     let mut link = steps::seek(words, seat, cpu, Kind::Iface, Name::of_words(0, 0));
@@ -120,6 +124,7 @@ fn note(words: &Words, seat: &mut CpuSeat, cpu: u8, slot: usize) -> Noted
     ensures table { seat.new.table ≡ seat.old.table }
     ensures change { HasNoted seat.old.view slot result seat.new.view }
     ensures known_log { seat.new.known_log ≡ seat.old.known_log }
+    ensures log { GoesOnByLoads cpu 4 seat.old.log seat.new.log }
 {
     let number = steps::load_searched(words, seat, cpu, slot, 0);
     let kind = steps::load_searched(words, seat, cpu, slot, 1);
@@ -151,6 +156,7 @@ fn find_noted(
     ensures found { (es : List Entry) → AreNoted seat.old.view.pass noted.now es → HaveBeenFound seat.old.view es (take result row.new) seat.new.view }
     ensures rest { drop result row.new ≡ drop result row.old }
     ensures known_log { seat.new.known_log ≡ seat.old.known_log }
+    ensures log { SearchesTimes cpu (length noted.now) seat.old.log seat.new.log }
 {
     let mut count = 0;
     for entry in noted {
@@ -181,6 +187,7 @@ fn find_again(words: &Words, seat: &mut CpuSeat, cpu: u8, noted: Noted) -> Optio
     ensures change { (e : Entry) → noted ≡ noted_of e → IsAttached seat.old.view.pass e → HasFoundAgain seat.old.view e result seat.new.view }
     ensures view { HaveSearched seat.old.view seat.new.view }
     ensures known_log { seat.new.known_log ≡ seat.old.known_log }
+    ensures log { (key : Key) × SearchesOnce cpu key seat.old.log seat.new.log }
 {
     let kind = noted_kind(noted.kind);
     let name = Name::of_words(noted.high, noted.low);

@@ -6,7 +6,6 @@ use Rattle.registry_values.specs.Slots.{is_iface, live_count, slot_at}
 use Rattle.cpu_words.specs.declared.view.KeeperView.{KeeperView}
 use Rattle.passive_list.specs.Keepers.{OnKeeper}
 use Rattle.passive_list.specs.Draining.{HasAttachedKeeping}
-use Rattle.passive_list.proofs.Rows.{cpu_is}
 use Rattle.cpu_words.specs.Views.{Named}
 use Rattle.registry_values.specs.declared.slot.Slot.TheVariants.{Vacant}
 use Rattle.name_registry.specs.Attaching.{HasAttachedIfaceFor}
@@ -56,7 +55,7 @@ returns-clause-ok c =
     let b = c.publish_iface_on-entry.new.keeper.keeper in
     let has = c.publish_iface_on-entry.ensures.change in
     let after = ap (λ (k : KeeperView). k.history) has.attached.entry.view in
-    let met = attach_met a x m c.hear_cpu.new.cpu.cpu e b c.show_cpu.new.cpu.cpu c.hear_cpu.ensures.keeper (cpu_is c.hear_cpu.ensures.cpu) c.hear_cpu.ensures.seen (ap (λ x. x.number) c.publish_iface_on-entry.ensures.entry) after c.show_cpu.ensures.cpu in
+    let met = attach_met a x m c.hear_cpu.new.cpu.cpu e b c.show_cpu.new.cpu.cpu c.hear_cpu.ensures.keeper c.hear_cpu.ensures.cpu c.hear_cpu.ensures.seen (ap (λ x. x.number) c.publish_iface_on-entry.ensures.entry) after c.show_cpu.ensures.cpu c.show_cpu.ensures.log in
     subst (λ (k : OnKeeper). HasAttachedIfaceFor a x v e k c.show_cpu.new.cpu.cpu) (sym c.show_cpu.ensures.keeper) record {
       seen = met.0;
       keeper = keeping_told _ v e b (subst (λ (k : OnKeeper). HasAttachedKeeping k v e b) c.hear_cpu.ensures.keeper has);

@@ -6,7 +6,6 @@ use Rattle.registry_values.proofs.Answers.{handed_on}
 use Rattle.cpu_words.specs.declared.view.KeeperView.{KeeperView}
 use Rattle.passive_list.specs.Keepers.{OnKeeper}
 use Rattle.passive_list.specs.Publishing.{HasAttached}
-use Rattle.passive_list.proofs.Rows.{cpu_is}
 use Rattle.registry_values.specs.Slots.{live_count, slot_at}
 use Rattle.cpu_words.specs.Views.{Named}
 use Rattle.registry_values.specs.declared.slot.Slot.TheVariants.{Vacant}
@@ -53,7 +52,7 @@ returns-clause-ok c =
     let e = c.publish-entry.result in
     let b = c.publish-entry.new.keeper.keeper in
     let has = c.publish-entry.ensures.change in
-    let met = attach_met a x m c.hear_cpu.new.cpu.cpu e b c.show_cpu.new.cpu.cpu c.hear_cpu.ensures.keeper (cpu_is c.hear_cpu.ensures.cpu) c.hear_cpu.ensures.seen (ap (λ x. x.number) c.publish-entry.ensures.entry) (ap (λ (k : KeeperView). k.history) has.entry.view) c.show_cpu.ensures.cpu in
+    let met = attach_met a x m c.hear_cpu.new.cpu.cpu e b c.show_cpu.new.cpu.cpu c.hear_cpu.ensures.keeper c.hear_cpu.ensures.cpu c.hear_cpu.ensures.seen (ap (λ x. x.number) c.publish-entry.ensures.entry) (ap (λ (k : KeeperView). k.history) has.entry.view) c.show_cpu.ensures.cpu c.show_cpu.ensures.log in
     subst (λ (k : OnKeeper). HasAttachedFor a x e k c.show_cpu.new.cpu.cpu) (sym c.show_cpu.ensures.keeper) record {
       seen = met.0;
       keeper = attached_told _ e b (subst (λ (k : OnKeeper). HasAttached k e b) c.hear_cpu.ensures.keeper has);

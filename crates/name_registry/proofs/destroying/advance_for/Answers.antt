@@ -1,6 +1,5 @@
 use Rattle.std.proofs.Common.{subst}
 use Rattle.registry_values.specs.declared.settings.Settings.{Settings}
-use Rattle.passive_list.proofs.Rows.{cpu_is}
 use Rattle.name_registry.specs.Destroying.{HasAdvancedFor}
 use Rattle.name_registry.proofs.Turned.{made_turn, told_turn}
 use Rattle.name_registry.proofs.destroying.advance_for.Goals as goal
@@ -12,7 +11,7 @@ returns-clause-answer c =
     let show = c.show_cpu.ensures in
     subst (λ (z : Settings). HasAdvancedFor z c.args.keeper.now.keeper c.args.cpu.now.cpu c.args.number c.advance_in-answer.result c.show_cpu.new.keeper.keeper c.show_cpu.new.cpu.cpu) c.requires.words.1
     (made_turn c.args.words.now.settings c.args.keeper.now.keeper c.hear_cpu.new.keeper.keeper c.advance_in-answer.new.keeper.keeper c.hear_cpu-2.new.keeper.keeper c.show_cpu.new.keeper.keeper c.args.cpu.now.cpu c.hear_cpu.new.cpu.cpu c.hear_cpu-2.new.cpu.cpu c.show_cpu.new.cpu.cpu c.args.number _
-    hear.known hear.seen hear.own hear.keeper (cpu_is hear.cpu) c.advance_in-answer.ensures.answer again.own again.keeper (cpu_is again.cpu) show.keeper show.cpu show.told)
+    hear.known hear.seen hear.own hear.keeper hear.cpu c.advance_in-answer.ensures.answer again.own again.keeper again.cpu show.keeper show.cpu show.told show.log)
 
 pub returns-clause-turn : goal.returns-clause-turn
 returns-clause-turn c = told_turn c.args.keeper.now.words.settings c.args.keeper.now.keeper c.args.cpu.now.cpu c.args.number _ c.show_cpu.new.keeper.keeper c.show_cpu.new.cpu.cpu (returns-clause-answer c)

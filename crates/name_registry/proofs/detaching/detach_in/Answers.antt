@@ -3,7 +3,6 @@ use Rattle.registry_values.specs.declared.slot.Key.{Key}
 use Rattle.registry_values.specs.Slots.{slot_at}
 use Rattle.registry_values.proofs.Answers.{handed_on}
 use Rattle.passive_list.specs.Keepers.{OnKeeper}
-use Rattle.passive_list.proofs.Rows.{cpu_is}
 use Rattle.name_registry.specs.Detaching.{HasDetachedFor, IsDetachAnswer, IsLivePlace}
 use Rattle.name_registry.proofs.Attached.{inside_is}
 use Rattle.name_registry.proofs.Detached.{place_is, detached_for, refused_rightly}
@@ -42,4 +41,4 @@ returns-clause-ok c =
     let found = subst (IsLivePlace a key) c.in_ok-slot.ensures.found.1 c.live_place.ensures.lookup in
     let is = place_is a x m _ t e c.hear_cpu.ensures.keeper found c.retire-entry.ensures.entry in
     subst (λ (b : OnKeeper). HasDetachedFor a x e b c.show_cpu.new.cpu.cpu) (sym c.show_cpu.ensures.keeper)
-    (detached_for a x m c.hear_cpu.new.cpu.cpu t e c.retire-entry.new.keeper.keeper c.show_cpu.new.cpu.cpu c.hear_cpu.ensures.keeper (cpu_is c.hear_cpu.ensures.cpu) c.hear_cpu.ensures.seen is.0.0.attached is.2 c.retire-entry.ensures.change c.show_cpu.ensures.cpu)
+    (detached_for a x m c.hear_cpu.new.cpu.cpu t e c.retire-entry.new.keeper.keeper c.show_cpu.new.cpu.cpu c.hear_cpu.ensures.keeper c.hear_cpu.ensures.cpu c.hear_cpu.ensures.seen is.0.0.attached is.2 c.retire-entry.ensures.change c.show_cpu.ensures.cpu c.show_cpu.ensures.log)

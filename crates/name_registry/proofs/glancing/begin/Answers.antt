@@ -1,6 +1,5 @@
 use Rattle.std.proofs.Common.{subst}
 use Rattle.registry_values.specs.declared.settings.Settings.{Settings}
-use Rattle.passive_list.proofs.Rows.{cpu_is}
 use Rattle.name_registry.specs.Performing.{HasBegun, SnapshotsBelow}
 use Rattle.name_registry.proofs.Glanced.{made_hold}
 use Rattle.name_registry.proofs.glancing.begin.Goals as goal
@@ -14,6 +13,6 @@ returns-clause-begun c =
     subst (λ (s : Settings). HasBegun s c.args.keeper.now.keeper c.args.cpu.now.cpu looked.result c.retired_numbers-numbers.result c.show_cpu.new.keeper.keeper c.show_cpu.new.cpu.cpu) c.requires.words.1 record {
       own = hear.own;
       hold = made_hold (SnapshotsBelow looked.result z.cpus) z c.args.keeper.now.keeper c.hear_cpu.new.keeper.keeper looked.new.keeper.keeper c.show_cpu.new.keeper.keeper c.args.cpu.now.cpu c.hear_cpu.new.cpu.cpu c.show_cpu.new.cpu.cpu
-          hear.keeper hear.seen hear.known hear.own (cpu_is hear.cpu) looked.ensures.looks looked.ensures.slots show.keeper show.cpu show.told;
+          hear.keeper hear.seen hear.known hear.own hear.cpu looked.ensures.looks looked.ensures.slots show.keeper show.cpu show.told show.log;
       numbers = c.retired_numbers-numbers.ensures;
     }

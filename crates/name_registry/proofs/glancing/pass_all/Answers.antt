@@ -1,6 +1,5 @@
 use Rattle.std.proofs.Common.{subst}
 use Rattle.registry_values.specs.declared.settings.Settings.{Settings}
-use Rattle.passive_list.proofs.Rows.{cpu_is}
 use Rattle.name_registry.specs.Performing.{HasPassedAll}
 use Rattle.name_registry.proofs.Passed.{made_passes}
 use Rattle.name_registry.proofs.glancing.pass_all.Goals as goal
@@ -12,4 +11,4 @@ returns-clause-passed c =
     let show = c.show_cpu.ensures in
     subst (λ (z : Settings). HasPassedAll z c.args.keeper.now.keeper c.args.cpu.now.cpu c.args.numbers.now c.show_cpu.new.keeper.keeper c.show_cpu.new.cpu.cpu) c.requires.words.1
     (made_passes c.args.words.now.settings c.args.numbers.now c.args.keeper.now.keeper c.hear_cpu.new.keeper.keeper c.pass_entries.new.keeper.keeper c.hear_cpu-2.new.keeper.keeper c.show_cpu.new.keeper.keeper c.args.cpu.now.cpu c.hear_cpu.new.cpu.cpu c.hear_cpu-2.new.cpu.cpu c.show_cpu.new.cpu.cpu
-    hear.known hear.keeper (cpu_is hear.cpu) c.pass_entries.ensures.passes again.own again.keeper (cpu_is again.cpu) show.keeper show.cpu show.told)
+    hear.known hear.keeper hear.cpu c.pass_entries.ensures.passes again.own again.keeper again.cpu show.keeper show.cpu show.told show.log)

@@ -4,6 +4,7 @@ use Rattle.protocol.specs.declared.state.SearchPlace.TheVariants.{AtNumber, AtKi
 use Rattle.cpu_words.specs.Searching.{key_with}
 use Rattle.passive_list.specs.Walking.{HasVisited}
 use Rattle.passive_list.proofs.Walking.{goes_on, may_load, visited}
+use Rattle.passive_list.proofs.Searches.{four_loaded}
 use Rattle.passive_list.proofs.lookup.visit.Goals as goal
 
 pub load_searched-found-requires-clause-may : goal.load_searched-found-requires-clause-may
@@ -46,3 +47,6 @@ returns-clause-change c =
     key c.args.slot c.load_searched-number.result c.load_searched-found.result c.load_searched-high.result c.load_searched-low.result
     c.load_searched-number.ensures.change c.load_searched-found.ensures.change c.load_searched-high.ensures.change c.load_searched-low.ensures.change in
     subst (λ (b : Bool). HasVisited c.args.seat.now.view key c.args.slot c.load_searched-number.result b c.load_searched-low.new.seat.view) (sym c.are_words_of.ensures) all
+
+pub returns-clause-log : goal.returns-clause-log
+returns-clause-log c = four_loaded c.args.cpu _ _ _ _ _ _ _ _ _ c.load_searched-number.ensures.log c.load_searched-found.ensures.log c.load_searched-high.ensures.log c.load_searched-low.ensures.log

@@ -1,10 +1,12 @@
 -- One noted entry after the other.
-use Rattle.std.proofs.Common.{List, ◌≡◌, length, take, refl, ap, ◌∙◌, subst, arith, take_all}
+use Rattle.std.proofs.Common.{ℕ, List, ◌≡◌, length, take, refl, ap, ◌∙◌, subst, arith, take_all}
 use Rattle.std.proofs.lemmas.List.{length-map}
 use Rattle.registry_values.specs.declared.entry.Entry.{Entry}
 use Rattle.passive_list.specs.declared.walks.Noted.{Noted}
 use Rattle.passive_list.specs.Noting.{noted_of, HaveBeenFound}
 use Rattle.passive_list.proofs.FoundAgain.{none_found, searched_none, searched_on, searched_id, may_seek_again, next_found, rest_stays, few_written, size_stays}
+use Rattle.passive_list.specs.Searches.{SearchesTimes}
+use Rattle.passive_list.proofs.Searches.{once_more}
 use Rattle.passive_list.proofs.walks.find_noted.Goals as goal
 
 abbrev no_words : Noted
@@ -15,6 +17,7 @@ loop-entry-init c = record {
   table = refl;
   cpu = c.requires.cpu.1;
   known_log = refl;
+  log = refl;
   few = omega arith;
   size = c.told-row;
   view = searched_none c.args.seat.now.view c.requires.may;
@@ -43,6 +46,7 @@ loop-entry-preserved c =
       table = again.table ∙ so_far.table;
       cpu = searched_id y w again.view ∙ so_far.cpu;
       known_log = again.known_log ∙ so_far.known_log;
+      log = once_more c.args.cpu i _ _ _ so_far.log again.log;
       few = few_written old new n next i answer wrote so_far.few;
       size = size_stays old new n next answer wrote ∙ so_far.size;
       view = searched_on x y w so_far.view again.view;
@@ -59,3 +63,9 @@ returns-clause-found c = λ es are.
     let size : length c.args.noted.now ≡ length es = ap (λ (l : List Noted). length l) are.are ∙ length-map es noted_of in
     let all : take i es ≡ es = take_all i es (omega (arith, size, c.loop-entry-test.false)) in
     subst (λ (l : List Entry). HaveBeenFound x l (take c.loop-entry.count c.loop-entry.row) y) all (c.loop-entry.invariant.found es are)
+
+pub returns-clause-log : goal.returns-clause-log
+returns-clause-log c =
+    let i = c.loop-entry.entry-index in
+    let all : i ≡ length c.args.noted.now = omega (arith, c.loop-entry-test.false, c.loop-entry.auto.entry-index-end) in
+    subst (λ (n : ℕ). SearchesTimes c.args.cpu n c.args.seat.now.log c.loop-entry.seat.log) all c.loop-entry.invariant.log

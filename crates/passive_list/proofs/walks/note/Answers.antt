@@ -1,9 +1,10 @@
 -- The words of a slot, one after the other.
 use Rattle.std.proofs.Common.{refl}
 use Rattle.protocol.specs.declared.state.SearchPlace.TheVariants.{AtNumber, AtKind, AtHigh, AtLow}
-use Rattle.passive_list.specs.Noting.{nobody}
+use Rattle.passive_list.specs.Searches.{nobody}
 use Rattle.passive_list.proofs.Noting.{noted}
 use Rattle.passive_list.proofs.Walking.{goes_on, may_load}
+use Rattle.passive_list.proofs.Searches.{four_loaded}
 use Rattle.passive_list.proofs.walks.note.Goals as goal
 
 pub load_searched-kind-requires-clause-may : goal.load_searched-kind-requires-clause-may
@@ -41,3 +42,6 @@ returns-clause-change c =
     noted c.args.seat.now.view c.load_searched-number.new.seat.view c.load_searched-kind.new.seat.view c.load_searched-high.new.seat.view c.load_searched-low.new.seat.view
     c.args.slot c.load_searched-number.result c.load_searched-kind.result c.load_searched-high.result c.load_searched-low.result
     c.load_searched-number.ensures.change c.load_searched-kind.ensures.change c.load_searched-high.ensures.change c.load_searched-low.ensures.change
+
+pub returns-clause-log : goal.returns-clause-log
+returns-clause-log c = four_loaded c.args.cpu _ _ _ _ _ _ _ _ _ c.load_searched-number.ensures.log c.load_searched-kind.ensures.log c.load_searched-high.ensures.log c.load_searched-low.ensures.log

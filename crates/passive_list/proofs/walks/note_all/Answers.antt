@@ -3,8 +3,10 @@ use Rattle.std.proofs.Common.{◌≡◌, ◌+◌, ◌-◌, set, ap, ◌∙◌, s
 use Rattle.registry_values.specs.declared.entry.Kind.TheVariants.{Iface}
 use Rattle.registry_values.specs.declared.slot.Key.{Key}
 use Rattle.cpu_words.specs.Searching.{HasFollowed, cpu_after_seek, search_for, key_with}
-use Rattle.passive_list.specs.Noting.{nobody, HasNotedSoFar}
+use Rattle.passive_list.specs.Searches.{nobody, HasSearchedFor}
+use Rattle.passive_list.specs.Noting.{HasNotedSoFar}
 use Rattle.passive_list.proofs.Noting.{noting_begins, none_noted, on_slot, slot_within, may_note, may_go_on, has_room, one_more_noted, noted_id, slot_id}
+use Rattle.passive_list.proofs.Searches.{search_begun, link_loaded, one_visited}
 use Rattle.passive_list.proofs.walks.note_all.Goals as goal
 
 pub loop-link-init : goal.loop-link-init
@@ -19,6 +21,7 @@ loop-link-init c =
       table = c.seek-link.ensures.table;
       cpu = noted_id x y c.args.noted.now 0 m none ∙ c.requires.cpu.1;
       known_log = c.seek-link.ensures.known_log;
+      log = subst (λ (k : Key). HasSearchedFor c.args.cpu k 0 c.args.seat.now.log c.seek-link.new.seat.log) key (search_begun c.args.cpu _ _ _ _ _ c.seek-link.ensures.log);
       few = omega arith;
       size = c.told-noted;
       noted = none;
@@ -83,6 +86,7 @@ loop-link-preserved c =
       table = c.load_link-link.ensures.table ∙ c.note-entry.ensures.table ∙ c.loop-link.invariant.table;
       cpu = noted_id x w (set row count n) (count + 1) m more ∙ c.requires.cpu.1;
       known_log = c.load_link-link.ensures.known_log ∙ c.note-entry.ensures.known_log ∙ c.loop-link.invariant.known_log;
+      log = one_visited c.args.cpu nobody count _ _ _ _ c.loop-link.invariant.log c.note-entry.ensures.log (link_loaded c.args.cpu _ _ _ c.load_link-link.ensures.log);
       few = omega (arith, room);
       size = length-set row count n ∙ c.loop-link.invariant.size;
       noted = more;

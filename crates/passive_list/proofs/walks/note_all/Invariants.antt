@@ -1,4 +1,5 @@
 use Rattle.std.proofs.Common.{◌≡◌, ◌≤◌, ◌-◌, length}
+use Rattle.passive_list.specs.Searches.{nobody, HasSearchedFor}
 use Rattle.passive_list.specs.Noting.{HasNotedSoFar}
 use Rattle.passive_list.proofs.walks.note_all.Given as goal
 
@@ -8,6 +9,7 @@ invariant-loop-link l = record {
   table : l.seat.table ≡ l.fn.seat.table;
   cpu : l.seat.view.id ≡ l.cpu;
   known_log : l.seat.known_log ≡ l.fn.seat.known_log;
+  log : HasSearchedFor l.cpu nobody l.count l.fn.seat.log l.seat.log;
   few : l.count ≤ 32;
   size : length l.noted ≡ 32;
   noted : HasNotedSoFar l.fn.seat.view l.noted l.count l.link l.seat.view;

@@ -1,8 +1,9 @@
 -- The data agree with the view as a walk is over.
-use Rattle.std.proofs.Common.{◌≡◌, Option, Some, None, take, refl, sym, ap, ◌∙◌, subst}
+use Rattle.std.proofs.Common.{◌≡◌, ℕ, Option, Some, None, take, refl, sym, ap, ◌∙◌, subst}
 use Rattle.registry_values.specs.declared.entry.Entry.{Entry}
 use Rattle.protocol.specs.declared.state.Search.{Search}
 use Rattle.passive_list.specs.Cpus.{OnCpu, OnPlainCpu}
+use Rattle.passive_list.specs.Searches.{HasGoneOverBy}
 use Rattle.passive_list.specs.Walks.{HasWalked}
 use Rattle.passive_list.proofs.Agreeing.{seen_agrees, own_agrees}
 use Rattle.passive_list.proofs.FoundAgain.{walked}
@@ -20,7 +21,8 @@ pub returns-clause-walked : goal.returns-clause-walked
 returns-clause-walked c =
     let x = c.cpu.inside.seat in
     let y = c.go_over-count.new.seat in
-    let a : OnCpu = record { view = x.view; depth = c.cpu.inside.depth; made = 0; known_log = x.known_log } in
-    let b : OnCpu = record { view = y.view; depth = c.cpu.inside.depth; made = 0; known_log = y.known_log } in
+    let a : OnCpu = record { view = x.view; depth = c.cpu.inside.depth; made = 0; known_log = x.known_log; log = x.log } in
+    let b : OnCpu = record { view = y.view; depth = c.cpu.inside.depth; made = 0; known_log = y.known_log; log = y.log } in
     let row = take c.go_over-count.result c.go_over-count.new.row in
-    subst (λ (v : OnPlainCpu). HasWalked v.cpu b row) c.cpu.view_is (walked a b row c.cpu.invariant.idle.search c.go_over-count.ensures.change refl refl c.go_over-count.ensures.known_log)
+    let log = subst (λ (i : ℕ). HasGoneOverBy i x.log y.log) (sym c.cpu.invariant.id) c.go_over-count.ensures.log in
+    subst (λ (v : OnPlainCpu). HasWalked v.cpu b row) c.cpu.view_is (walked a b row c.cpu.invariant.idle.search c.go_over-count.ensures.change refl refl c.go_over-count.ensures.known_log log)

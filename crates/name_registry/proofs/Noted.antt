@@ -1,0 +1,42 @@
+-- A CPU's own log in a hold of the interlock: notes alone.
+use Rattle.std.proofs.Common.{◌≡◌, ◌∙◌, ℕ, List, [], ◌∷◌, ◌++◌, inl, inr, refl, sym, ap, append-nil, append_assoc}
+use Rattle.cpu_words.specs.declared.view.LogItem.{LogItem}
+use Rattle.passive_list.specs.Cpus.{OnCpu}
+use Rattle.passive_list.specs.Notes.{cpu_after_tell, has_heard, has_told}
+use Rattle.name_registry.specs.Meeting.{AreNotes, GoesOnByNotes, meets, meets_again}
+
+-- the CPU x told, then it is n, and then it heard
+pub met : (x n y : OnCpu) → n ≡ cpu_after_tell x → y.log ≡ n.log ++ has_heard n → y.log ≡ x.log ++ meets x
+met x n y told heard = heard ∙ ap (λ (o : OnCpu). o.log ++ has_heard o) told ∙ append_assoc x.log (has_told x) (has_heard x)
+
+-- it told twice
+pub met_again : (x m n y : OnCpu) → m ≡ cpu_after_tell x → n ≡ cpu_after_tell m → y.log ≡ n.log ++ has_heard n → y.log ≡ x.log ++ meets_again x
+met_again x m n y first second heard =
+    heard ∙ ap (λ (o : OnCpu). o.log ++ has_heard o) second ∙ ap (λ (o : OnCpu). (o.log ++ has_told o) ++ has_heard o) first
+    ∙ append_assoc (x.log ++ has_told x) (has_told x) (has_heard x) ∙ append_assoc x.log (has_told x) (has_told x ++ has_heard x)
+
+-- Notes alone
+
+both_notes : (c : ℕ) (ds es : List LogItem) → AreNotes c ds → AreNotes c es → AreNotes c (ds ++ es)
+both_notes c [] es first then = then
+both_notes c (d ∷ ds) es first then = (first.0, both_notes c ds es first.1 then)
+
+pub no_notes : (c : ℕ) (log : List LogItem) → GoesOnByNotes c log log
+no_notes c log = record { since = []; are = sym (append-nil log); only = tt }
+
+pub more_notes : (c : ℕ) (log between new : List LogItem) → GoesOnByNotes c log between → GoesOnByNotes c between new → GoesOnByNotes c log new
+more_notes c log between new first then = record {
+  since = first.since ++ then.since;
+  are = then.are ∙ ap (λ (ds : List LogItem). ds ++ then.since) first.are ∙ append_assoc log first.since then.since;
+  only = both_notes c first.since then.since first.only then.only;
+}
+
+pub by_meeting : (x y : OnCpu) → y.log ≡ x.log ++ meets x → GoesOnByNotes x.view.id x.log y.log
+by_meeting x y is = record { since = meets x; are = is; only = (inl refl, inr refl, tt) }
+
+pub by_meeting_again : (x y : OnCpu) → y.log ≡ x.log ++ meets_again x → GoesOnByNotes x.view.id x.log y.log
+by_meeting_again x y is = record { since = meets_again x; are = is; only = (inl refl, inl refl, inr refl, tt) }
+
+-- a note was passed on: heard and told
+pub by_passing : (x y : OnCpu) → y.log ≡ x.log ++ has_heard x ++ has_told x → GoesOnByNotes x.view.id x.log y.log
+by_passing x y is = record { since = has_heard x ++ has_told x; are = is ∙ append_assoc x.log (has_heard x) (has_told x); only = (inr refl, inl refl, tt) }
