@@ -1,16 +1,17 @@
 -- Local references: how their plain data agree with what the seat knows, and what a CPU's calls leave.
-use Rattle.std.specs.Prelude.{◌≡◌, ℕ, ◌+◌, ◌<◌, ◌≤◌, ◌==◌, if◌then◌else◌, Some, None}
+use Rattle.std.specs.Prelude.{◌≡◌, ℕ, ◌+◌, ◌-◌, ◌++◌, ◌<◌, ◌≤◌, ◌==◌, if◌then◌else◌, Some, None}
 use Rattle.atomic_table.specs.Seated.{TableId}
 use Rattle.registry_values.specs.declared.entry.Entry.{Entry}
 use Rattle.registry_values.specs.declared.entry.Kind.{Kind}
-use Rattle.protocol.specs.declared.event.Event.TheVariants.{CountDown}
-use Rattle.protocol.specs.declared.event.Reply.TheVariants.{Collected}
+use Rattle.protocol.specs.declared.event.Event.TheVariants.{CountAdd, CountDown, JoinRef, SplitBack, SplitRef}
+use Rattle.protocol.specs.declared.event.Reply.TheVariants.{Collected, Done, Ref, Word}
 use Rattle.registry_values.specs.Balances.{bias}
 use Rattle.cpu_words.specs.declared.view.InHand.TheVariants.{Giving as GivingEntry, Back as BackEntry}
 use Rattle.cpu_words.specs.declared.view.CpuView.{CpuView}
 use Rattle.cpu_words.specs.declared.view.ReferenceView.{ReferenceView}
 use Rattle.cpu_words.specs.declared.view.View.TheVariants.{Cpu}
 use Rattle.cpu_words.specs.Views.{number_at, with_number, one_more}
+use Rattle.cpu_words.specs.Rule.{did}
 use Rattle.cpu_words.specs.Steps.{Makes}
 use Rattle.cpu_words.specs.Locals.{with_hand}
 use Rattle.passive_list.specs.declared.place.NumberedCount.{NumberedCount}
@@ -38,19 +39,25 @@ net_by p n = if p.number == n then p.count else bias
 abbrev pub IsFull : CpuView → Entry → Type 0
 IsFull x e = (number_at x.met e.slot ≡ e.number) × (x.settings.count_limit + number_at x.released e.number ≤ number_at x.acquired e.number)
 
--- a reference to the last found entry was counted; of the CPU nothing else changes
+-- the CPU's own net count for n, over the bias, by what its seat knows: its count word, while it is n's
+abbrev pub net_word : CpuView → ℕ → ℕ
+net_word x n = bias + number_at x.acquired n - number_at x.released n
+
+-- a reference to the last found entry was counted, and got its seat; of the CPU nothing else changes
 pub record HasAcquired (a b : OnCpu) (v : ReferenceView) : Type 0 where
   pub entry : Entry
   pub found : a.view.found ≡ Some entry
   pub is : v ≡ record { entry = entry; collected = None }
-  pub cpu : b ≡ record a { view = record a.view { acquired = one_more a.view.acquired entry.number; met = with_number a.view.met entry.slot entry.number } }
+  pub cpu : b ≡ record a { view = record a.view { acquired = one_more a.view.acquired entry.number; met = with_number a.view.met entry.slot entry.number };
+      log = a.log ++ did (CountAdd a.view.id) (Word (net_word a.view entry.number)) ++ did (SplitRef a.view.id) (Ref 0) }
 
--- the reference was released by the CPU's own count; of the CPU nothing else changes
+-- the reference was taken in and released by the CPU's own count; of the CPU nothing else changes
 abbrev pub HasReleased : OnCpu → ReferenceView → OnCpu → Type 0
-HasReleased a v b = b ≡ record a { view = record a.view { released = one_more a.view.released v.entry.number; met = with_number a.view.met v.entry.slot v.entry.number } }
+HasReleased a v b = b ≡ record a { view = record a.view { released = one_more a.view.released v.entry.number; met = with_number a.view.met v.entry.slot v.entry.number };
+    log = a.log ++ did (JoinRef a.view.id v.entry.number) Done ++ did (CountDown a.view.id) (Word (net_word a.view v.entry.number)) }
 
--- the CPU found its count word collected: the reference is to the same entry, and shows it; the CPU is as it was
+-- The CPU found its count word collected, by a compare-exchange that it made: the reference is to the same entry, and shows it; the CPU is as it was, but for its log.
 pub record HasComeBack (a : OnCpu) (v : ReferenceView) (b : OnCpu) (w : ReferenceView) : Type 0 where
-  pub cpu : b ≡ a
+  pub cpu : b ≡ record a { log = a.log ++ did (JoinRef a.view.id v.entry.number) Done ++ did (CountDown a.view.id) Collected ++ did (SplitBack a.view.id) (Ref 0) }
   pub is : w ≡ record { entry = v.entry; collected = Some a.view.id }
   pub found : Makes (CountDown a.view.id) Collected (Cpu (with_hand a.view (GivingEntry v.entry))) (Cpu (with_hand a.view (BackEntry v.entry)))

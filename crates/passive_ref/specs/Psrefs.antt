@@ -1,13 +1,19 @@
 -- Passive references of a CPU (psref(9)): why a call is refused, and what it answers and leaves.
-use Rattle.std.specs.Prelude.{◌≡◌, ◌⊎◌, ℕ, ◌<◌, ◌==◌, ◌&&◌, nat_lt, Bool, ◌∷◌, Option, Some, None, Result, Ok, Err}
+use Rattle.std.specs.Prelude.{◌≡◌, ◌⊎◌, ℕ, ◌<◌, ◌==◌, ◌&&◌, nat_lt, Bool, List, ◌∷◌, ◌++◌, Option, Some, None, Result, Ok, Err}
 use Rattle.std.specs.List.{Contains}
 use Rattle.registry_values.specs.declared.entry.Entry.{Entry}
 use Rattle.registry_values.specs.declared.entry.Record.{Record}
 use Rattle.registry_values.specs.declared.refusal.Refusal.{Refusal}
 use Rattle.registry_values.specs.declared.refusal.Refusal.TheVariants.{NothingFound}
 use Rattle.registry_values.specs.Answers as answers
+use Rattle.protocol.specs.declared.event.Event.TheVariants.{LoadRecord, PassiveAdd, PassiveSub}
+use Rattle.protocol.specs.declared.event.RecordOf.TheVariants.{Passive}
+use Rattle.protocol.specs.declared.event.Reply.TheVariants.{Word}
+use Rattle.protocol.specs.Events.{word, words_of}
 use Rattle.protocol.specs.History.{IsAttached}
 use Rattle.cpu_words.specs.declared.view.CpuView.{CpuView}
+use Rattle.cpu_words.specs.declared.view.LogItem.{LogItem}
+use Rattle.cpu_words.specs.Rule.{did}
 use Rattle.cpu_words.specs.Views.{references_to, without}
 use Rattle.cpu_words.specs.Passives.{IsAt}
 use Rattle.passive_list.specs.declared.place.NumberedCount.{NumberedCount}
@@ -18,13 +24,13 @@ pub record OnPsref : Type 0 where
   pub cpu : ℕ
   pub number : ℕ
 
--- one reference more, to the entry e, and nothing else changes
+-- one reference more, to the entry e, by one event, which replies how many there were, and nothing else changes
 abbrev pub HasOneMore : Entry → OnCpu → OnCpu → Type 0
-HasOneMore e a b = b ≡ record a { view = record a.view { references = e ∷ a.view.references } }
+HasOneMore e a b = b ≡ record a { view = record a.view { references = e ∷ a.view.references }; log = a.log ++ did (PassiveAdd a.view.id e.number) (Word (references_to e.number a.view.references)) }
 
--- one reference to n less, and nothing else changes
+-- one reference to n less, by one event, which replies how many there were, and nothing else changes
 abbrev pub HasOneLess : ℕ → OnCpu → OnCpu → Type 0
-HasOneLess n a b = b ≡ record a { view = record a.view { references = without n a.view.references } }
+HasOneLess n a b = b ≡ record a { view = record a.view { references = without n a.view.references }; log = a.log ++ did (PassiveSub a.view.id n) (Word (references_to n a.view.references)) }
 
 -- p is a new reference of this CPU, to the entry e
 pub record IsNew (e : Entry) (a b : OnCpu) (p : OnPsref) : Type 0 where
@@ -44,15 +50,27 @@ IsCopied n a b p = (e : Entry) × Contains a.view.references e × (e.number ≡ 
 abbrev pub IsAdded : ℕ → ℕ → OnCpu → OnCpu → OnPsref → Type 0
 IsAdded t n a b p = (e : Entry) × IsAt e t n × IsAttached a.view.pass e × IsNew e a b p
 
--- r is the record of the entry n, to which this CPU refers
-abbrev pub IsRead : CpuView → ℕ → Record → Type 0
-IsRead x n r = (e : Entry) × Contains x.references e × IsAttached x.pass e × (e.number ≡ n) × (r ≡ e.rec)
-
 -- e is the entry n, to which this CPU refers
 pub record IsReferredTo (x : CpuView) (n : ℕ) (e : Entry) : Type 0 where
   pub held : Contains x.references e
   pub attached : IsAttached x.pass e
   pub number : e.number ≡ n
+
+-- the load of the word k of e's record by a passive reference of the CPU c
+abbrev pub has_loaded : ℕ → Entry → ℕ → List LogItem
+has_loaded c e k = did (LoadRecord (Passive c e.number k)) (Word (word (words_of e) k))
+
+-- the kind, the two words of the name and the value of e were loaded, and nothing else of the CPU changes
+abbrev pub HasLoaded : Entry → OnCpu → OnCpu → Type 0
+HasLoaded e a b = b ≡ record a { log = a.log ++ has_loaded a.view.id e 1 ++ has_loaded a.view.id e 2 ++ has_loaded a.view.id e 3 ++ has_loaded a.view.id e 4 }
+
+-- e is the entry n, to which this CPU refers, and was loaded
+abbrev pub IsReadAs : ℕ → OnCpu → OnCpu → Entry → Type 0
+IsReadAs n a b e = IsReferredTo a.view n e × HasLoaded e a b
+
+-- r is its record
+abbrev pub IsRead : ℕ → OnCpu → OnCpu → Record → Type 0
+IsRead n a b r = (e : Entry) × IsReadAs n a b e × (r ≡ e.rec)
 
 -- Where a call may be made
 

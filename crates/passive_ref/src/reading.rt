@@ -1,10 +1,14 @@
 //! Reading (psref(9)): the record of an entry that this CPU refers to, by four loads.
 
-ghost use Rattle.std.specs.Prelude.{◌≡◌, ◌<◌};
+ghost use Rattle.std.specs.Prelude.{◌≡◌, ◌<◌, ◌++◌, IfErr};
 ghost use Rattle.registry_values.specs.Refusals.{Answers};
+ghost use Rattle.protocol.specs.declared.event.Event.TheVariants.{LoadRecord};
+ghost use Rattle.protocol.specs.declared.event.RecordOf.TheVariants.{Passive};
+ghost use Rattle.protocol.specs.declared.event.Reply.TheVariants.{Word};
 ghost use Rattle.cpu_words.specs.Domains.{AreWordsOf};
+ghost use Rattle.cpu_words.specs.Rule.{did};
 ghost use Rattle.cpu_words.specs.Passives.{IsWordOf, IsNamed};
-ghost use Rattle.passive_ref.specs.Psrefs.{IsHeldAt, IsRead, IsReferredTo, why_unusable};
+ghost use Rattle.passive_ref.specs.Psrefs.{IsHeldAt, IsRead, IsReadAs, why_unusable};
 
 use crate::holding::usable_slot;
 use crate::psref::Psref;
@@ -13,13 +17,13 @@ use passive_list::{Cpu, PlainCpu};
 use registry_values::{Entry, Record, Refusal, record_from};
 
 /// The record of the entry that the reference is to, which stays while the reference is held (psref(9)). It needs no section, and
-/// changes nothing.
+/// changes nothing but the CPU's log, which has the four loads.
 /// Refused, in this order: `WrongCpu` where the reference names another CPU; `NotHeld` where this CPU holds no passive reference to that
 /// number.
 pub fn read<D: Domain>(words: &Words, cpu: &mut Cpu<D>, psref: &Psref) -> Result<Record, Refusal>
     requires words { AreWordsOf words.now D.table D.settings }
-    ensures answer { Answers (why_unusable cpu.old.view psref.now) (IsRead cpu.old.view psref.now.number) result }
-    ensures same { cpu.new ≡ cpu.old }
+    ensures answer { Answers (why_unusable cpu.old.view psref.now) (IsRead psref.now.number cpu.old cpu.new) result }
+    ensures refused { IfErr result (λ _. cpu.new ≡ cpu.old) }
 {
     read_on(words, &mut cpu.plain, psref)
 }
@@ -27,8 +31,9 @@ pub fn read<D: Domain>(words: &Words, cpu: &mut Cpu<D>, psref: &Psref) -> Result
 /// `read` on a CPU that names its own table. Condition: the words are its table's.
 pub fn read_on(words: &Words, cpu: &mut PlainCpu, psref: &Psref) -> Result<Record, Refusal>
     requires words { AreWordsOf words.now cpu.old.words.table cpu.old.words.settings }
-    ensures answer { Answers (why_unusable cpu.old.cpu.view psref.now) (IsRead cpu.old.cpu.view psref.now.number) result }
-    ensures same { cpu.new ≡ cpu.old }
+    ensures answer { Answers (why_unusable cpu.old.cpu.view psref.now) (IsRead psref.now.number cpu.old.cpu cpu.new.cpu) result }
+    ensures refused { IfErr result (λ _. cpu.new ≡ cpu.old) }
+    ensures words { cpu.new.words ≡ cpu.old.words }
 {
     let slot = usable_slot(cpu, psref)?;
     Ok(load_record(words, cpu, slot, psref.number))
@@ -38,8 +43,9 @@ pub fn read_on(words: &Words, cpu: &mut PlainCpu, psref: &Psref) -> Result<Recor
 /// are its table's.
 pub fn read_entry_on(words: &Words, cpu: &mut PlainCpu, psref: &Psref) -> Result<Entry, Refusal>
     requires words { AreWordsOf words.now cpu.old.words.table cpu.old.words.settings }
-    ensures answer { Answers (why_unusable cpu.old.cpu.view psref.now) (IsReferredTo cpu.old.cpu.view psref.now.number) result }
-    ensures same { cpu.new ≡ cpu.old }
+    ensures answer { Answers (why_unusable cpu.old.cpu.view psref.now) (IsReadAs psref.now.number cpu.old.cpu cpu.new.cpu) result }
+    ensures refused { IfErr result (λ _. cpu.new ≡ cpu.old) }
+    ensures words { cpu.new.words ≡ cpu.old.words }
 {
     let number = psref.number;
     let slot = usable_slot(cpu, psref)?;
@@ -51,8 +57,8 @@ pub fn read_entry_on(words: &Words, cpu: &mut PlainCpu, psref: &Psref) -> Result
 fn load_record(words: &Words, cpu: &mut PlainCpu, slot: u8, number: u64) -> Record
     requires words { AreWordsOf words.now cpu.old.words.table cpu.old.words.settings }
     requires held { IsHeldAt cpu.old.cpu.view slot number }
-    ensures record { IsRead cpu.old.cpu.view number result }
-    ensures same { cpu.new ≡ cpu.old }
+    ensures record { IsRead number cpu.old.cpu cpu.new.cpu result }
+    ensures words { cpu.new.words ≡ cpu.old.words }
 {
     let kind = load_word(words, cpu, slot, number, 1);
     let high = load_word(words, cpu, slot, number, 2);
@@ -68,7 +74,7 @@ fn load_word(words: &Words, cpu: &mut PlainCpu, slot: u8, number: u64, k: u8) ->
     requires place { k < 5 }
     ensures word { IsWordOf cpu.old.cpu.view slot number k result }
     ensures name { IsNamed cpu.old.cpu.view slot number }
-    ensures same { cpu.new ≡ cpu.old }
+    ensures log { cpu.new ≡ record cpu.old { cpu = record cpu.old.cpu { log = cpu.old.cpu.log ++ did (LoadRecord (Passive cpu.old.cpu.view.id number k)) (Word result) } } }
 {
     steps::load_passive(words, &mut cpu.seat, cpu.id, slot, number, k)
 }
