@@ -34,7 +34,7 @@ use Rattle.passive_list.specs.Draining.{HasAttachedKeeping}
 use Rattle.name_registry.specs.Attaching.{given_entry, first_fit, room_of}
 use Rattle.name_registry.specs.Meeting.{keeper_after_hear, keeper_after_tell, HasSeenAttach}
 use Rattle.name_registry.proofs.Heard.{seen_attach}
-use Rattle.name_registry.proofs.Noted.{met}
+use Rattle.name_registry.proofs.Noted.{heard_told, met}
 
 -- The entry that is given
 
@@ -99,7 +99,7 @@ pub attach_met : (a : OnKeeper) (x : OnCpu) (m : OnKeeper) (n : OnCpu) (e : Entr
     → IsPrefix x.view.pass a.view.history × HasHeardOn b.view.history x y × HasSeenAttach x y e
 attach_met a x m n e b y heard same seen number after hears log = (
   subst (λ (k : OnKeeper). IsPrefix x.view.pass k.view.history) heard seen,
-  subst (λ (z : OnCpu). HasHeardOn b.view.history z y) same hears,
+  heard_told b.view.history x y (subst (λ (z : OnCpu). HasHeardOn b.view.history z y) same hears),
   seen_attach m.view.history x y e seen number (subst (λ (h : List Change). IsPrefix h y.view.pass) after hears.told) (met x n y same log),
 )
 

@@ -1,5 +1,5 @@
 -- A detach: the keeper's live slots are the entries live in its history, and what the call leaves.
-use Rattle.std.proofs.Common.{◌≡◌, ◌∙◌, inl, ℕ, Bool, true, false, Option, Some, None, Result, Ok, Err, position, List, length, sym, ap, subst}
+use Rattle.std.proofs.Common.{◌++◌, ◌≡◌, ◌∙◌, inl, ℕ, Bool, true, false, Option, Some, None, Result, Ok, Err, position, List, length, sym, ap, subst}
 use Rattle.std.proofs.lemmas.List.Quantifiers.{position-Some}
 use mathlib.Core.List.{IsPrefix}
 use Rattle.registry_values.specs.declared.entry.Change.{Change}
@@ -28,7 +28,7 @@ use Rattle.passive_list.proofs.Attached.{rows_live, live_rows}
 use Rattle.name_registry.specs.Detaching.{IsDetachRefusal, IsLookupNow, IsLivePlace, HasDetachedFor}
 use Rattle.name_registry.specs.Meeting.{keeper_after_hear, keeper_after_tell, is_inside}
 use Rattle.name_registry.proofs.Heard.{seen_detach}
-use Rattle.name_registry.proofs.Noted.{met}
+use Rattle.name_registry.proofs.Noted.{heard_told, met}
 
 -- The live entries
 
@@ -96,7 +96,7 @@ detached_for a x m n t e b y heard same seen attached slot has hears log =
     record {
       seen = before;
       keeper = detached_told (keeper_after_hear a x) e.slot e b done;
-      cpu = subst (λ (z : OnCpu). HasHeardOn b.view.history z y) same hears;
+      cpu = heard_told b.view.history x y (subst (λ (z : OnCpu). HasHeardOn b.view.history z y) same hears);
       own = seen_detach a.view.history x y e before attached (subst (λ (h : List Change). IsPrefix h y.view.pass) (ap (λ (k : KeeperView). k.history) done.view) hears.told) (met x n y same log);
     }
 

@@ -17,7 +17,7 @@ use Rattle.passive_list.specs.Notes.{HasHeardOn, cpu_after_tell, has_heard}
 use Rattle.name_registry.specs.Meeting.{keeper_after_hear, keeper_after_tell}
 use Rattle.name_registry.specs.Performing.{GlancesBelow, GlancesOnce, HasPerformed, Hold, Looking, LooksOnce, PerformsOutside, SnapshotsBelow, is_seen, looking, word_of}
 use Rattle.name_registry.proofs.Heard.{prefix_short}
-use Rattle.name_registry.proofs.Noted.{met}
+use Rattle.name_registry.proofs.Noted.{heard_told, met}
 use Rattle.name_registry.proofs.Owned.{least_small}
 
 -- two rows agree on the first n CPUs
@@ -102,7 +102,7 @@ made_hold looks z a h l b x same y heard pass known own is made slots tells hear
       view = ap (λ (k : OnKeeper). k.view) tells;
       slots = ap (λ (k : OnKeeper). k.slots) tells ∙ (slots ∙ ap (λ (k : OnKeeper). k.slots) heard);
       log = ap (λ (k : OnKeeper). k.log) tells;
-      hears = subst (λ (k : OnKeeper). HasHeardOn k.view.history x y) (sym tells) (subst (λ (o : OnCpu). HasHeardOn l.view.history o y) is hears);
+      hears = subst (λ (k : OnKeeper). HasHeardOn k.view.history x y) (sym tells) (heard_told l.view.history x y (subst (λ (o : OnCpu). HasHeardOn l.view.history o y) is hears));
       told = told;
       own_log = met x same y is log;
     }

@@ -1,8 +1,9 @@
 -- A CPU's own log in a hold of the interlock: notes alone.
 use Rattle.std.proofs.Common.{◌≡◌, ◌∙◌, ℕ, List, [], ◌∷◌, ◌++◌, inl, inr, refl, sym, ap, append-nil, append_assoc}
+use Rattle.registry_values.specs.declared.entry.Change.{Change}
 use Rattle.cpu_words.specs.declared.view.LogItem.{LogItem}
 use Rattle.passive_list.specs.Cpus.{OnCpu}
-use Rattle.passive_list.specs.Notes.{cpu_after_tell, has_heard, has_told}
+use Rattle.passive_list.specs.Notes.{HasHeardOn, cpu_after_tell, has_heard, has_told}
 use Rattle.name_registry.specs.Meeting.{AreNotes, GoesOnByNotes, meets, meets_again}
 
 -- the CPU x told, then it is n, and then it heard
@@ -14,6 +15,13 @@ pub met_again : (x m n y : OnCpu) → m ≡ cpu_after_tell x → n ≡ cpu_after
 met_again x m n y first second heard =
     heard ∙ ap (λ (o : OnCpu). o.log ++ has_heard o) second ∙ ap (λ (o : OnCpu). (o.log ++ has_told o) ++ has_heard o) first
     ∙ append_assoc (x.log ++ has_told x) (has_told x) (has_heard x) ∙ append_assoc x.log (has_told x) (has_told x ++ has_heard x)
+
+-- that it told before changes nothing of what it heard
+pub heard_told : (h : List Change) (x y : OnCpu) → HasHeardOn h (cpu_after_tell x) y → HasHeardOn h x y
+heard_told h x y had = record { told = had.told; pass = had.pass; known_log = had.known_log; is = had.is }
+
+pub heard_told_again : (h : List Change) (x y : OnCpu) → HasHeardOn h (cpu_after_tell (cpu_after_tell x)) y → HasHeardOn h x y
+heard_told_again h x y had = heard_told h x y (heard_told h (cpu_after_tell x) y had)
 
 -- Notes alone
 
@@ -32,11 +40,11 @@ more_notes c log between new first then = record {
 }
 
 pub by_meeting : (x y : OnCpu) → y.log ≡ x.log ++ meets x → GoesOnByNotes x.view.id x.log y.log
-by_meeting x y is = record { since = meets x; are = is; only = (inl refl, inr refl, tt) }
+by_meeting x y is = record { since = meets x; are = is; only = (inl refl, (inr refl, tt)) }
 
 pub by_meeting_again : (x y : OnCpu) → y.log ≡ x.log ++ meets_again x → GoesOnByNotes x.view.id x.log y.log
-by_meeting_again x y is = record { since = meets_again x; are = is; only = (inl refl, inl refl, inr refl, tt) }
+by_meeting_again x y is = record { since = meets_again x; are = is; only = (inl refl, (inl refl, (inr refl, tt))) }
 
 -- a note was passed on: heard and told
 pub by_passing : (x y : OnCpu) → y.log ≡ x.log ++ has_heard x ++ has_told x → GoesOnByNotes x.view.id x.log y.log
-by_passing x y is = record { since = has_heard x ++ has_told x; are = is ∙ append_assoc x.log (has_heard x) (has_told x); only = (inr refl, inl refl, tt) }
+by_passing x y is = record { since = has_heard x ++ has_told x; are = is ∙ append_assoc x.log (has_heard x) (has_told x); only = (inr refl, (inl refl, tt)) }

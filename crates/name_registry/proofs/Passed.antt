@@ -27,7 +27,7 @@ use Rattle.passive_list.specs.Notes.{HasHeardOn, cpu_after_tell, has_heard}
 use Rattle.name_registry.specs.Advancing.{MeetsGrace, PassedBelow}
 use Rattle.name_registry.specs.Meeting.{keeper_after_hear, keeper_after_tell}
 use Rattle.name_registry.specs.Performing.{HasPassedAll, HasPassedFor, PassesBelow, PassesIf, PassesNumber}
-use Rattle.name_registry.proofs.Noted.{met_again}
+use Rattle.name_registry.proofs.Noted.{heard_told_again, met_again}
 
 -- What passes leave
 
@@ -180,7 +180,7 @@ made_passes z numbers a h end k b x same after y known heard first passes own ag
   passes = subst (λ (m : OnKeeper). PassesBelow z numbers 32 m end) heard passes;
   own = own;
   is = is ∙ ap keeper_after_tell (again ∙ ap (keeper_after_hear end) first);
-  hears = subst (λ (o : OnCpu). HasHeardOn b.view.history o y) (second ∙ ap cpu_after_tell first) (subst (λ (h : List Change). HasHeardOn h after y) (sym (ap (λ (o : OnKeeper). o.view.history) is)) hears);
+  hears = heard_told_again b.view.history x y (subst (λ (o : OnCpu). HasHeardOn b.view.history o y) (second ∙ ap cpu_after_tell first) (subst (λ (h : List Change). HasHeardOn h after y) (sym (ap (λ (o : OnKeeper). o.view.history) is)) hears));
   told = told;
   own_log = met_again x same after y first second log;
 }

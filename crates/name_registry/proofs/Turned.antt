@@ -36,7 +36,7 @@ use Rattle.name_registry.specs.Advancing.{EndsIn, HasAdvanced, HasEnded, Meets, 
 use Rattle.name_registry.specs.Destroying.{HasAdvancedFor}
 use Rattle.name_registry.specs.Meeting.{keeper_after_hear, keeper_after_tell}
 use Rattle.name_registry.specs.Obstacles.{AnswersBy, HasMet, IsNotRetired, IsRetiredIn, IsTurn, MetLocals, MetReference, MetSection}
-use Rattle.name_registry.proofs.Noted.{met_again}
+use Rattle.name_registry.proofs.Noted.{heard_told_again, met_again}
 use Rattle.name_registry.proofs.Worked.{prefix_on}
 
 -- What is retired, by the keeper and by its log
@@ -174,7 +174,7 @@ made_turn z a h end k b x same after y n answer known seen own heard first made 
   made = subst (λ (o : OnKeeper). HasAdvanced o n answer end) heard made;
   own_end = own_end;
   is = is ∙ ap keeper_after_tell (again ∙ ap (keeper_after_hear end) first);
-  hears = subst (λ (o : OnCpu). HasHeardOn end.view.history o y) (second ∙ ap cpu_after_tell first) (subst (λ (l : List Change). HasHeardOn l after y) (ap (λ (o : OnKeeper). o.view.history) again) hears);
+  hears = heard_told_again end.view.history x y (subst (λ (o : OnCpu). HasHeardOn end.view.history o y) (second ∙ ap cpu_after_tell first) (subst (λ (l : List Change). HasHeardOn l after y) (ap (λ (o : OnKeeper). o.view.history) again) hears));
   told = told;
   own_log = met_again x same after y first second log;
 }

@@ -1,18 +1,22 @@
 -- A lookup from outside: the steps that its section allows, how the data agree with the view as it is over, and what it is to a contract.
-use Rattle.std.proofs.Common.{◌≡◌, ◌≢◌, ℕ, ◌+◌, ◌<◌, List, length, Option, Some, None, refl, sym, ap, ◌∙◌, subst, arith}
+use Rattle.std.proofs.Common.{◌≡◌, ◌≢◌, ℕ, ◌+◌, ◌<◌, List, ◌++◌, length, Option, Some, None, refl, sym, ap, ◌∙◌, subst, arith}
 use Rattle.atomic_table.specs.Seated.{TableId}
 use Rattle.registry_values.specs.declared.entry.Entry.{Entry}
 use Rattle.registry_values.specs.declared.settings.Settings.{Settings}
 use Rattle.registry_values.specs.declared.slot.Key.{Key}
+use Rattle.protocol.specs.declared.event.Event.TheVariants.{Enter, Exit}
+use Rattle.protocol.specs.declared.event.Reply.TheVariants.{Done}
 use Rattle.protocol.specs.declared.state.Search.{Search}
 use Rattle.cpu_words.specs.declared.view.CpuView.{CpuView}
 use Rattle.cpu_words.specs.declared.view.LogItem.{LogItem}
+use Rattle.cpu_words.specs.Rule.{did}
 use Rattle.cpu_words.specs.Searching.{MaySeek}
 use Rattle.cpu_words.specs.Sections.{IsIdle, HasEntered, MayExit, HasExited}
 use Rattle.passive_list.specs.declared.place.Found.{Found}
 use Rattle.passive_list.specs.declared.place.NumberedCount.{NumberedCount}
 use Rattle.passive_list.specs.Cpus.{OnCpu, DepthAgrees, IsKept, IsOurCpu, no_found}
 use Rattle.passive_list.specs.Lookups.{HasFoundFromOutside}
+use Rattle.passive_list.specs.Searches.{SearchesOnce}
 use Rattle.passive_list.specs.Sections.{AreSpent}
 use Rattle.passive_list.specs.Walking.{HasLookedUp}
 use Rattle.passive_list.proofs.Agreeing.{entered_agrees, looked_up_agrees, exited_agrees, own_agrees}
@@ -78,25 +82,29 @@ from_outside_agrees z a t u x y v w c n m d e f ps ns key our same shallow unend
 
 -- To a contract
 
-abbrev cpu_at : CpuView → ℕ → List LogItem → OnCpu
-cpu_at x depth log = record { view = x; depth = depth; made = 0; known_log = log }
+abbrev cpu_at : CpuView → ℕ → List LogItem → List LogItem → OnCpu
+cpu_at x depth known log = record { view = x; depth = depth; made = 0; known_log = known; log = log }
 
-pub found_from_outside : (key : Key) (a : OnCpu) (x y v w : CpuView) (d : ℕ) (l m n o : List LogItem) (f : Option Entry)
-    → cpu_at x d l ≡ a → IsIdle x → d ≡ 0 → HasEntered x y → HasLookedUp key y v f → HasExited v w → m ≡ l → n ≡ m → o ≡ n → HasFoundFromOutside key a (cpu_at w d o) f
-found_from_outside key a x y v w d l m n o f at idle shallow entered looked exited known1 known2 known3 =
+pub found_from_outside : (key : Key) (a : OnCpu) (x y v w : CpuView) (c d : ℕ) (l m n o p q r s : List LogItem) (f : Option Entry)
+    → cpu_at x d l p ≡ a → IsIdle x → x.id ≡ c → d ≡ 0 → HasEntered x y → HasLookedUp key y v f → HasExited v w → m ≡ l → n ≡ m → o ≡ n
+    → q ≡ p ++ did (Enter c) Done → SearchesOnce c key q r → s ≡ r ++ did (Exit c) Done → HasFoundFromOutside key a (cpu_at w d o s) f
+found_from_outside key a x y v w c d l m n o p q r s f at idle id shallow entered looked exited known1 known2 known3 log1 log2 log3 =
     let one : d + 1 ≡ 1 = omega (arith, shallow) in
     let same : y.search ≡ None = ap (λ (i : CpuView). i.search) entered.1 ∙ idle.search in
     let is : v ≡ record y { pass = v.pass; found = f } = looked.is ∙ ap (λ (s : Option Search). record y { pass = v.pass; search = s; found = f }) (sym same) in
-    let had : HasFoundFromOutside key (cpu_at x d l) (cpu_at w d o) f = record {
-      first = cpu_at y (d + 1) m;
-      last = cpu_at v (d + 1) n;
-      enters = record { begun = λ _. entered; inner = λ off. absurd (off shallow); depth = refl; made = refl; known_log = known1 };
+    let y_id : y.id ≡ c = entered_id x y entered ∙ id in
+    let v_id : v.id ≡ c = looked_up_id key y v f looked ∙ y_id in
+    let had : HasFoundFromOutside key (cpu_at x d l p) (cpu_at w d o s) f = record {
+      first = cpu_at y (d + 1) m q;
+      last = cpu_at v (d + 1) n r;
+      enters = record { begun = λ _. entered; inner = λ off. absurd (off shallow); depth = refl; made = refl; known_log = known1; event = λ _. log1 ∙ ap (λ (i : ℕ). p ++ did (Enter i) Done) (sym id); none = λ off. absurd (off shallow) };
       finds = record {
         pass = looked.pass;
-        is = λ i. record { view = is i; depth = d + 1; made = 0; known_log = known2 i };
+        is = λ i. record { view = is i; depth = d + 1; made = 0; known_log = known2 i; log = r };
         lawful = looked.lawful;
-        seen = λ e q. (looked.seen e q).1;
+        seen = λ e is_e. (looked.seen e is_e).1;
+        log = subst (λ (i : ℕ). SearchesOnce i key q r) (sym y_id) log2;
       };
-      exits = record { ended = λ _. exited; inner = λ off. absurd (off one); depth = refl; made = refl; known_log = known3 };
+      exits = record { ended = λ _. exited; inner = λ off. absurd (off one); depth = refl; made = refl; known_log = known3; event = λ _. log3 ∙ ap (λ (i : ℕ). r ++ did (Exit i) Done) (sym v_id); none = λ off. absurd (off one) };
     } in
-    subst (λ (b : OnCpu). HasFoundFromOutside key b (cpu_at w d o) f) at had
+    subst (λ (b : OnCpu). HasFoundFromOutside key b (cpu_at w d o s) f) at had

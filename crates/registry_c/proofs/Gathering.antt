@@ -57,7 +57,7 @@ gathered_next cs hs n log d h b note known_log table told lt at passes same so_f
     let was = same n b at in
     let p = passes was.0 (sym (body_is hs n d lt) ∙ was.1) in
     subst (λ ys. Gathered (cpus_in cs) ys (n + 1) log told) (sym (cpus_set hs n h p.body p.is))
-    (gathered_more (cpus_in cs) (cpus_in (bodies_of hs)) n log known_log told note was.0.cpu p.body.cpu so_far (at_behind (bodies_of hs) n was.0 was.1) p.heard p.knows p.shown p.note)
+    (gathered_more (cpus_in cs) (cpus_in (bodies_of hs)) n log known_log told note was.0.cpu p.body.cpu so_far (at_behind (bodies_of hs) n was.0 was.1) p.heard p.knows p.shown p.note p.log)
 
 -- the next handle has a CPU, whose table the note is of
 pub behind_next : (cpus : ℕ) (w : Named) (cs : List (Option OnPlainCpu)) (hs : List CpuHandle) (n : ℕ) (d : CpuHandle) (table : TableId) → AreAllHere cpus cs → ((c : ℕ) (b : OnPlainCpu) → body_at cs c ≡ Some b → b.words ≡ w) → n < cpus → n < length hs → table ≡ w.table → SameBehind cs (bodies_of hs)

@@ -1,5 +1,5 @@
 -- What an audit through the handles answers and writes.
-use Rattle.std.specs.Prelude.{◌≡◌, ℕ, ◌+◌, ◌<◌, ◌≤◌, pos, All, List, [], length, map, take, drop, get_or, slice_set, Option, Some, None}
+use Rattle.std.specs.Prelude.{◌≡◌, ℕ, ◌+◌, ◌<◌, ◌≤◌, pos, All, List, [], ◌++◌, length, map, take, drop, get_or, slice_set, Option, Some, None}
 use Rattle.registry_values.specs.declared.refusal.Refusal.TheVariants.{MissingCpu}
 use Rattle.registry_values.specs.declared.settings.Settings.{Settings}
 use Rattle.registry_values.specs.declared.entry.Entry.{Entry}
@@ -19,14 +19,14 @@ use Rattle.atomic_table.specs.Seated.{TableId}
 use mathlib.Core.List.{IsPrefix}
 use Rattle.registry_values.specs.declared.entry.Change.{Change}
 use Rattle.cpu_words.specs.declared.view.LogItem.{LogItem}
-use Rattle.passive_list.specs.Notes.{HasHeardOn, WasShown}
+use Rattle.passive_list.specs.Notes.{HasHeardOn, WasShown, has_heard, has_told}
 use Rattle.registry_c.specs.declared.handle.CpuHandle.{CpuHandle}
 use Rattle.registry_c.specs.Opening.{bodies_of, body_at}
 use Rattle.registry_c.specs.Places.{DoesBy, put}
 
 -- the CPU behind a handle; nothing is said of what isn't behind an empty one
 abbrev pub cpu_in : Option OnPlainCpu → OnCpu
-cpu_in None = record { view = new_cpu no_settings 0; depth = 0; made = 0; known_log = [] }
+cpu_in None = record { view = new_cpu no_settings 0; depth = 0; made = 0; known_log = []; log = [] }
 cpu_in (Some b) = b.cpu
 
 abbrev pub cpus_in : List (Option OnPlainCpu) → List OnCpu
@@ -103,6 +103,7 @@ pub record PassesOn (b : OnPlainCpu) (after : Option OnPlainCpu) (h : List Chang
   pub shown : WasShown h b.cpu body.cpu
   pub table : z ≡ b.words.table
   pub note : told ≡ body.cpu.known_log
+  pub log : body.cpu.log ≡ b.cpu.log ++ has_heard b.cpu ++ has_told b.cpu
 
 -- behind each handle stands what stood there, but that it may have heard
 pub record HaveHeard (cs cs' : List (Option OnPlainCpu)) : Type 0 where

@@ -10,7 +10,7 @@ use Rattle.cpu_words.specs.Views.{references_to}
 use Rattle.passive_list.specs.Cpus.{OnPlainCpu}
 use Rattle.passive_list.specs.Lookups.{HasFound}
 use Rattle.passive_list.specs.Sections.{AreSpent, HasEnteredOn, HasExitedOn}
-use Rattle.passive_ref.specs.Psrefs.{HasOneLess, IsAcquired, IsCopied, IsReferredTo, OnPsref, why_not_acquired, why_not_copied, why_unusable}
+use Rattle.passive_ref.specs.Psrefs.{HasOneLess, IsAcquired, IsCopied, IsReadAs, OnPsref, why_not_acquired, why_not_copied, why_unusable}
 use Rattle.registry_c.specs.declared.values.TheConstants.{DONE, OUTSIDE, EMPTY_HANDLE, BAD_KIND, NULL}
 use Rattle.registry_c.specs.declared.values.CEntry.{CEntry}
 use Rattle.registry_c.specs.declared.values.CName.{CName}
@@ -115,8 +115,9 @@ HoldsSay number a old new = (says : Bool) × (new ≡ put old says) × (IsTrue s
 pub record Reads (number : ℕ) (a b : OnPlainCpu) (n : ℕ) (old new : Option CEntry) : Type 0 where
   pub r : Result Entry Refusal
   pub is : n ≡ number_of r
-  pub answer : Answers (why_unusable a.cpu.view (own a number)) (IsReferredTo a.cpu.view number) r
-  pub same : b ≡ a
+  pub answer : Answers (why_unusable a.cpu.view (own a number)) (IsReadAs number a.cpu b.cpu) r
+  pub refused : IfErr r (λ _. b ≡ a)
+  pub words : b.words ≡ a.words
   pub writes : Puts entry_out r old new
 
 pub record Releases (number : ℕ) (a b : OnPlainCpu) (n : ℕ) : Type 0 where

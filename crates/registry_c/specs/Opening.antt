@@ -22,7 +22,7 @@ use Rattle.registry_c.specs.Values.{settings_in}
 
 -- the CPU c of a new registry: outside, with nothing found and nothing held
 abbrev pub opened_cpu : Named → ℕ → OnPlainCpu
-opened_cpu w c = record { words = w; cpu = record { view = new_cpu w.settings c; depth = 0; made = 0; known_log = [] } }
+opened_cpu w c = record { words = w; cpu = record { view = new_cpu w.settings c; depth = 0; made = 0; known_log = []; log = [] } }
 
 -- its keeper: all slots are vacant, and there was no change; the log is of the seats that it gave the CPUs
 abbrev pub opened_keeper : Named → List LogItem → OnPlainKeeper

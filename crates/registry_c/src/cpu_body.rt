@@ -1,18 +1,18 @@
 //! What stands behind a CPU's handle.
 
-ghost use Rattle.std.specs.Prelude.{◌≡◌, ◌≢◌, ◌↔◌, ◌⊎◌, ◌<◌, ◌≤◌, IsTrue, None, IfOk, IfErr, IfSome, IsErrOf, take};
+ghost use Rattle.std.specs.Prelude.{◌≡◌, ◌≢◌, ◌↔◌, ◌⊎◌, ◌<◌, ◌≤◌, ◌++◌, IsTrue, None, IfOk, IfErr, IfSome, IsErrOf, take};
 ghost use Rattle.registry_values.specs.Refusals.{Answers};
 ghost use Rattle.cpu_words.specs.Domains.{AreWordsOf};
 ghost use Rattle.cpu_words.specs.Searching.{key_with};
 ghost use Rattle.cpu_words.specs.Views.{references_to};
 ghost use mathlib.Core.List.{IsPrefix};
 ghost use Rattle.passive_list.specs.Lookups.{HasFound, HasFoundFromOutside};
-ghost use Rattle.passive_list.specs.Notes.{HasHeardOn, WasShown};
+ghost use Rattle.passive_list.specs.Notes.{HasHeardOn, WasShown, has_heard, has_told};
 ghost use Rattle.passive_list.specs.Walking.{entry_seen};
 ghost use Rattle.passive_list.specs.Walks.{HasWalked};
 ghost use Rattle.passive_list.specs.Sections.{AreSpent, HasEnteredOn, HasExitedOn};
 ghost use Rattle.name_registry.specs.Meeting.{is_inside};
-ghost use Rattle.passive_ref.specs.Psrefs.{GivesBack, HasOneLess, IsAcquired, IsCopied, IsReferredTo, why_not_acquired, why_not_copied, why_unusable};
+ghost use Rattle.passive_ref.specs.Psrefs.{GivesBack, HasOneLess, IsAcquired, IsCopied, IsReadAs, why_not_acquired, why_not_copied, why_unusable};
 
 use crate::local_body::LocalBody;
 use cpu_words::{NoteSeat, Words};
@@ -122,6 +122,7 @@ impl CpuBody {
         ensures heard { HasHeardOn note.view self.old.cpu self.new.cpu }
         ensures knows { IsPrefix note.known_log self.new.cpu.known_log }
         ensures shown { WasShown note.view self.old.cpu self.new.cpu }
+        ensures log { self.new.cpu.log ≡ self.old.cpu.log ++ has_heard self.old.cpu ++ has_told self.old.cpu }
         ensures note { (result.table ≡ self.old.words.table) × (result.known_log ≡ self.new.cpu.known_log) }
     {
         hear_on(&self.words, &mut self.cpu, note);
@@ -225,8 +226,9 @@ impl CpuBody {
     /// The entry that the reference is to.
     /// Refused: `WrongCpu`, `NotHeld`.
     pub fn read(&mut self, psref: &Psref) -> Result<Entry, Refusal>
-        ensures answer { Answers (why_unusable self.old.cpu.view psref.now) (IsReferredTo self.old.cpu.view psref.now.number) result }
-        ensures same { self.new ≡ self.old }
+        ensures answer { Answers (why_unusable self.old.cpu.view psref.now) (IsReadAs psref.now.number self.old.cpu self.new.cpu) result }
+        ensures refused { IfErr result (λ _. self.new ≡ self.old) }
+        ensures words { self.new.words ≡ self.old.words }
     {
         read_entry_on(&self.words, &mut self.cpu, psref)
     }

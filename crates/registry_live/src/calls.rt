@@ -126,8 +126,8 @@ pub fn read_by<D: Domain>(
     place: &Option<Psref>,
 ) -> Result<Reading, Hitch>
     requires words { AreWordsOf words.now D.table D.settings }
-    ensures answer { Decides (unless_free place.now (λ p. hitch_of (why_unusable cpu.old.view p))) (λ seen. Has place.now (λ p. (seen.number ≡ p.number) × (rec : Record) × IsRead cpu.old.view p.number rec × (seen.value ≡ rec.value))) result }
-    ensures same { cpu.new ≡ cpu.old }
+    ensures answer { Decides (unless_free place.now (λ p. hitch_of (why_unusable cpu.old.view p))) (λ seen. Has place.now (λ p. (seen.number ≡ p.number) × (rec : Record) × IsRead p.number cpu.old cpu.new rec × (seen.value ≡ rec.value))) result }
+    ensures refused { IfErr result (λ _. cpu.new ≡ cpu.old) }
 {
     let Some(psref) = place else {
         return Err(Hitch::NoLabel);

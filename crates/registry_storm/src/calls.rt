@@ -96,8 +96,8 @@ pub fn read_passive<D: Domain>(
     psref: &Psref,
     counts: &mut Counts,
 ) -> Result<Record, Refusal>
-    ensures answer { Answers (why_unusable cpu.old.view psref.now) (IsRead cpu.old.view psref.now.number) result }
-    ensures same { cpu.new ≡ cpu.old }
+    ensures answer { Answers (why_unusable cpu.old.view psref.now) (IsRead psref.now.number cpu.old cpu.new) result }
+    ensures refused { IfErr result (λ _. cpu.new ≡ cpu.old) }
     ensures judged { IsJudged ((psref.now.number ≡ 1) × (result ≡ Ok (driver_record plan.driver))) counts.old counts.new }
 {
     let answer = read(registry.words(), cpu, psref);

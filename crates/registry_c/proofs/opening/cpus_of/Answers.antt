@@ -61,6 +61,7 @@ loop-seat-preserved c =
       depth = 0;
       made = 0;
       known_log = ap (λ (s : Seated CpuView). s.known_log) taken.last i;
+      log = ap (λ (s : Seated CpuView). s.log) taken.last i;
     }) in
     let pushed = ap boxed c.in_ok-push.ensures.items ∙ boxed_last c.loop-seat.cpus.items _ in
     (taken.left, pushed ∙ down_more w n left (boxed c.loop-seat.cpus.items) _ taken.few so_far (c.in_ok-new.ensures.ok ∙ (c.in_ok-body.ensures ∙ (λ i. record { words = named i; cpu = fresh i }))))
