@@ -128,6 +128,7 @@ pub fn read_by<D: Domain>(
     requires words { AreWordsOf words.now D.table D.settings }
     ensures answer { Decides (unless_free place.now (λ p. hitch_of (why_unusable cpu.old.view p))) (λ seen. Has place.now (λ p. (seen.number ≡ p.number) × (rec : Record) × IsRead p.number cpu.old cpu.new rec × (seen.value ≡ rec.value))) result }
     ensures refused { IfErr result (λ _. cpu.new ≡ cpu.old) }
+    ensures id { cpu.new.view.id ≡ cpu.old.view.id }
 {
     let Some(psref) = place else {
         return Err(Hitch::NoLabel);

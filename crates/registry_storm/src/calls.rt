@@ -98,6 +98,7 @@ pub fn read_passive<D: Domain>(
 ) -> Result<Record, Refusal>
     ensures answer { Answers (why_unusable cpu.old.view psref.now) (IsRead psref.now.number cpu.old cpu.new) result }
     ensures refused { IfErr result (λ _. cpu.new ≡ cpu.old) }
+    ensures section { Unacquired cpu.old cpu.new }
     ensures judged { IsJudged ((psref.now.number ≡ 1) × (result ≡ Ok (driver_record plan.driver))) counts.old counts.new }
 {
     let answer = read(registry.words(), cpu, psref);
