@@ -48,13 +48,17 @@ pub record HasAcquired (a b : OnCpu) (v : ReferenceView) : Type 0 where
   pub entry : Entry
   pub found : a.view.found ≡ Some entry
   pub is : v ≡ record { entry = entry; collected = None }
-  pub cpu : b ≡ record a { view = record a.view { acquired = one_more a.view.acquired entry.number; met = with_number a.view.met entry.slot entry.number };
-      log = a.log ++ did (CountAdd a.view.id) (Word (net_word a.view entry.number)) ++ did (SplitRef a.view.id) (Ref 0) }
+  pub cpu : b ≡ record a {
+    view = record a.view { acquired = one_more a.view.acquired entry.number; met = with_number a.view.met entry.slot entry.number };
+    log = a.log ++ did (CountAdd a.view.id) (Word (net_word a.view entry.number)) ++ did (SplitRef a.view.id) (Ref 0);
+  }
 
 -- the reference was taken in and released by the CPU's own count; of the CPU nothing else changes
 abbrev pub HasReleased : OnCpu → ReferenceView → OnCpu → Type 0
-HasReleased a v b = b ≡ record a { view = record a.view { released = one_more a.view.released v.entry.number; met = with_number a.view.met v.entry.slot v.entry.number };
-    log = a.log ++ did (JoinRef a.view.id v.entry.number) Done ++ did (CountDown a.view.id) (Word (net_word a.view v.entry.number)) }
+HasReleased a v b = b ≡ record a {
+  view = record a.view { released = one_more a.view.released v.entry.number; met = with_number a.view.met v.entry.slot v.entry.number };
+  log = a.log ++ did (JoinRef a.view.id v.entry.number) Done ++ did (CountDown a.view.id) (Word (net_word a.view v.entry.number));
+}
 
 -- The CPU found its count word collected, by a compare-exchange that it made: the reference is to the same entry, and shows it; the CPU is as it was, but for its log.
 pub record HasComeBack (a : OnCpu) (v : ReferenceView) (b : OnCpu) (w : ReferenceView) : Type 0 where

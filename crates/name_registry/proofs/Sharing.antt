@@ -63,5 +63,6 @@ advanced m z a x n answer b y had = record {
   own_end = had.own_end;
   is = had.is;
   hears = heard m _ x y had.hears;
-  told = had.told;  own_log = had.own_log;
+  told = had.told;
+  own_log = had.own_log;
 }

@@ -32,8 +32,8 @@ returns-clause-record c =
     let low = word_is a.view b1.view t n 3 c.load_word-low.result held second c.load_word-low.ensures.word in
     let value = word_is a.view b2.view t n 4 c.load_word-value.result held third c.load_word-value.ensures.word in
     let loaded = all_loaded a b0 b1 b2 c.load_word-value.new.cpu.cpu e
-        (after_word a b0 e n 1 _ (ap (λ (o : OnPlainCpu). o.cpu) c.load_word-kind.ensures.log) held.at.number kind)
-        (after_word b0 b1 e n 2 _ (ap (λ (o : OnPlainCpu). o.cpu) c.load_word-high.ensures.log) held.at.number high)
-        (after_word b1 b2 e n 3 _ (ap (λ (o : OnPlainCpu). o.cpu) c.load_word-low.ensures.log) held.at.number low)
-        (after_word b2 c.load_word-value.new.cpu.cpu e n 4 _ (ap (λ (o : OnPlainCpu). o.cpu) c.load_word-value.ensures.log) held.at.number value) in
+    (after_word a b0 e n 1 _ (ap (λ (o : OnPlainCpu). o.cpu) c.load_word-kind.ensures.log) held.at.number kind)
+    (after_word b0 b1 e n 2 _ (ap (λ (o : OnPlainCpu). o.cpu) c.load_word-high.ensures.log) held.at.number high)
+    (after_word b1 b2 e n 3 _ (ap (λ (o : OnPlainCpu). o.cpu) c.load_word-low.ensures.log) held.at.number low)
+    (after_word b2 c.load_word-value.new.cpu.cpu e n 4 _ (ap (λ (o : OnPlainCpu). o.cpu) c.load_word-value.ensures.log) held.at.number value) in
     (e, (record { held = held.held; attached = held.attached; number = held.at.number }, loaded), c.record_from.ensures e.rec kind high low value)
