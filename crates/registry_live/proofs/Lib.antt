@@ -1,2 +1,3 @@
 pub mod AllCpus
+pub mod Labelled
 pub mod LiveCpus

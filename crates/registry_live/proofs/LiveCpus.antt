@@ -43,30 +43,41 @@ all_with n xs c x y all known is same = record { count = length-set xs c y ∙ a
         (λ (off : (k ≢ c) × (get_elem? xs k ≡ some z)). all.each k z off.1)
         (at_set xs c k y z at)
 
--- The number that a CPU keeps, of each call
+-- What a CPU keeps, of each call
 
-pub attached_id : (a b : OnCpu) (rec : Record) (inside unfit : Bool) (answer : Result Entry Refusal) → IfOk answer (λ e. (e.rec ≡ rec) × HasLearned a b × HasSeenAttach a b e) → IfErr answer (λ f. IsAttachRefusal inside unfit f × (b ≡ a)) → b.view.id ≡ a.view.id
-attached_id a b rec inside unfit (Ok e) ok refused = ap (λ (x : OnCpu). x.view.id) ok.1.is
-attached_id a b rec inside unfit (Err f) ok refused = ap (λ (x : OnCpu). x.view.id) refused.1
+-- its number, and its passive references
+pub record StaysOn (a b : OnCpu) : Type 0 where
+  pub id : b.view.id ≡ a.view.id
+  pub references : b.view.references ≡ a.view.references
 
-pub detached_id : (a b : OnCpu) (kind : Kind) (name : Name) (inside : Bool) (answer : Result Entry Refusal) → IfOk answer (λ e. (e.rec.kind ≡ kind) × (e.rec.name ≡ name) × HasLearned a b × HasSeenDetach a b e) → IfErr answer (λ f. IsDetachRefusedTo inside f × (b ≡ a))
-    → b.view.id ≡ a.view.id
-detached_id a b kind name inside (Ok e) ok refused = ap (λ (x : OnCpu). x.view.id) ok.2.is
-detached_id a b kind name inside (Err f) ok refused = ap (λ (x : OnCpu). x.view.id) refused.1
+same_stays : (a b : OnCpu) → b ≡ a → StaysOn a b
+same_stays a b is = record { id = ap (λ (x : OnCpu). x.view.id) is; references = ap (λ (x : OnCpu). x.view.references) is }
 
-once_entered : (a b : OnCpu) → HasEnteredOn a b → b.view.id ≡ a.view.id
+pub learned_stays : (a b : OnCpu) → HasLearned a b → StaysOn a b
+learned_stays a b learned = record { id = ap (λ (x : OnCpu). x.view.id) learned.is; references = ap (λ (x : OnCpu). x.view.references) learned.is }
+
+pub attached_stays : (a b : OnCpu) (rec : Record) (inside unfit : Bool) (answer : Result Entry Refusal) → IfOk answer (λ e. (e.rec ≡ rec) × HasLearned a b × HasSeenAttach a b e) → IfErr answer (λ f. IsAttachRefusal inside unfit f × (b ≡ a)) → StaysOn a b
+attached_stays a b rec inside unfit (Ok e) ok refused = learned_stays a b ok.1
+attached_stays a b rec inside unfit (Err f) ok refused = same_stays a b refused.1
+
+pub detached_stays : (a b : OnCpu) (kind : Kind) (name : Name) (inside : Bool) (answer : Result Entry Refusal) → IfOk answer (λ e. (e.rec.kind ≡ kind) × (e.rec.name ≡ name) × HasLearned a b × HasSeenDetach a b e) → IfErr answer (λ f. IsDetachRefusedTo inside f × (b ≡ a))
+    → StaysOn a b
+detached_stays a b kind name inside (Ok e) ok refused = learned_stays a b ok.2
+detached_stays a b kind name inside (Err f) ok refused = same_stays a b refused.1
+
+once_entered : (a b : OnCpu) → HasEnteredOn a b → StaysOn a b
 once_entered a b left = ⊎_elim
-    (λ (first : a.depth ≡ 0). ap (λ (x : CpuView). x.id) (left.begun first).1)
-    (λ (inner : a.depth ≢ 0). ap (λ (x : CpuView). x.id) (left.inner inner))
+    (λ (first : a.depth ≡ 0). let is = (left.begun first).1 in record { id = ap (λ (x : CpuView). x.id) is; references = ap (λ (x : CpuView). x.references) is })
+    (λ (inner : a.depth ≢ 0). let is = left.inner inner in record { id = ap (λ (x : CpuView). x.id) is; references = ap (λ (x : CpuView). x.references) is })
     (cases_eq a.depth 0)
 
-pub entered_id : (a b : OnCpu) (answer : Result (Unit {0}) Refusal) → IfOk answer (λ done. HasEnteredOn a b) → IfErr answer (λ f. b ≡ a) → b.view.id ≡ a.view.id
-entered_id a b (Ok done) ok refused = once_entered a b ok
-entered_id a b (Err f) ok refused = ap (λ (x : OnCpu). x.view.id) refused
+pub entered_stays : (a b : OnCpu) (answer : Result (Unit {0}) Refusal) → IfOk answer (λ done. HasEnteredOn a b) → IfErr answer (λ f. b ≡ a) → StaysOn a b
+entered_stays a b (Ok done) ok refused = once_entered a b ok
+entered_stays a b (Err f) ok refused = same_stays a b refused
 
-pub uncounted_id : (a b : OnCpu) (v : ReferenceView) → IsLetGo a v b → b.view.id ≡ a.view.id
-uncounted_id a b v (inl is) = ap (λ (x : OnCpu). x.view.id) is
-uncounted_id a b v (inr back) = ap (λ (x : OnCpu). x.view.id) back.1.cpu
+pub uncounted_stays : (a b : OnCpu) (v : ReferenceView) → IsLetGo a v b → StaysOn a b
+uncounted_stays a b v (inl is) = record { id = ap (λ (x : OnCpu). x.view.id) is; references = ap (λ (x : OnCpu). x.view.references) is }
+uncounted_stays a b v (inr back) = same_stays a b back.1.cpu
 
 pub released_id : {X : Type 0} (a b : OnCpu) (p : OnPsref) (why : Option Refusal) (answer : Result X (Refusal × OnPsref)) → GivesBack why p (λ x. HasOneLess p.number a b) answer → IfErr answer (λ e. b ≡ a) → b.view.id ≡ a.view.id
 released_id a b p why (Ok x) is refused = ap (λ (y : OnCpu). y.view.id) is.1

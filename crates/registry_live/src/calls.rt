@@ -30,6 +30,7 @@ pub fn leave<D: Domain>(words: &Words, cpu: &mut Cpu<D>) -> Result<bool, Hitch>
     ensures answer { Decides (why_outside cpu.old) (λ stays. HasExitedOn cpu.old cpu.new × (IsTrue stays ↔ cpu.new.view.begin ≢ None)) result }
     ensures refused { IfErr result (λ _. cpu.new ≡ cpu.old) }
     ensures id { cpu.new.view.id ≡ cpu.old.view.id }
+    ensures references { cpu.new.view.references ≡ cpu.old.view.references }
 {
     if !cpu.inside() {
         return Err(Hitch::NotInside);
@@ -49,6 +50,7 @@ pub fn look_up<D: Domain>(
     ensures answer { Decides (why_outside cpu.old) (HasFound (key_with kind name.now) cpu.old cpu.new) result }
     ensures refused { IfErr result (λ _. cpu.new ≡ cpu.old) }
     ensures id { cpu.new.view.id ≡ cpu.old.view.id }
+    ensures references { cpu.new.view.references ≡ cpu.old.view.references }
 {
     if !cpu.inside() {
         return Err(Hitch::NotInside);
@@ -179,6 +181,7 @@ pub fn count_one<D: Domain>(
     ensures refused { IfErr result (λ h. (place.new ≡ place.old) × (cpu.new ≡ cpu.old)) }
     ensures no_other { IfErr result (λ h. (h ≡ Hitch.LabelTaken) ⊎ ((h ≡ Hitch.Refused Refusal.NothingFound) ⊎ (h ≡ Hitch.Refused Refusal.LocalFull))) }
     ensures id { cpu.new.view.id ≡ cpu.old.view.id }
+    ensures references { cpu.new.view.references ≡ cpu.old.view.references }
 {
     if place.is_some() {
         return Err(Hitch::LabelTaken);
@@ -218,6 +221,7 @@ pub fn uncount_one<D: Domain, R: Wait>(
     ensures free { place.new ≡ None }
     ensures refused { IfErr result (λ _. cpu.new ≡ cpu.old) }
     ensures id { cpu.new.view.id ≡ cpu.old.view.id }
+    ensures references { cpu.new.view.references ≡ cpu.old.view.references }
 {
     let Some(reference) = place.take() else {
         return Err(Hitch::NoLabel);
@@ -243,6 +247,7 @@ pub fn plug_in<D: Domain, R: Wait>(
     ensures refused { IfErr result (λ _. (place.new ≡ place.old) × (cpu.new ≡ cpu.old)) }
     ensures why { IfErr result (IsPlugHitch cpu.old place.old) }
     ensures id { cpu.new.view.id ≡ cpu.old.view.id }
+    ensures references { cpu.new.view.references ≡ cpu.old.view.references }
 {
     let Some(reference) = place.take() else {
         return Err(Hitch::NoLabel);

@@ -5,6 +5,7 @@ ghost use Rattle.name_registry.specs.Auditing.{AreAllCpus};
 ghost use Rattle.name_registry.specs.Opening.{IsBlankOf};
 ghost use Rattle.registry_report.specs.Printed.{WritesFront, WritesRun};
 ghost use Rattle.registry_report.specs.Written.{IsWhileRunning};
+ghost use Rattle.registry_live.specs.Labels.{HoldTheSame};
 
 use crate::session::LiveSession;
 use cpu_words::Domain;
@@ -58,7 +59,8 @@ fn run_on_blank<D: Domain, R: Wait, W: Write>(
 
 /// Runs a script over a registry that others may use too, and writes the text of each command, in order.
 /// At the end, and after a fault, all references that the run still holds are given back, and nothing is printed for
-/// them; a section that is open stays open.
+/// them; a section that is open stays open. So each CPU holds the passive references that it held before the run, to
+/// each entry as many. A local reference is no CPU's: one that a label still stood for is released on CPU 0.
 /// Refused: `Memory` or `Write`, and a front of the report was written.
 /// Condition: the registry has the script's settings, and the slice is all its CPUs in order; so it is afterwards.
 pub fn run_live_on<D: Domain, R: Wait, W: Write>(
@@ -72,6 +74,7 @@ pub fn run_live_on<D: Domain, R: Wait, W: Write>(
     requires settings { script.now.settings ≡ D.settings }
     requires cpus { AreAllCpus D.settings.cpus cpus.old }
     ensures cpus { AreAllCpus D.settings.cpus cpus.new }
+    ensures references { HoldTheSame cpus.old cpus.new }
     ensures run { OnOk result (WritesRun (W.contents writer.old) (W.contents writer.new) script.now.commands) }
     ensures front { OnErr result (WritesFront (W.contents writer.old) (W.contents writer.new) script.now.commands) }
     ensures fault { IfErr result IsWhileRunning }

@@ -1,8 +1,9 @@
 //! A script's run over a registry that is running: its CPUs, and the references that labels stand for.
 
-ghost use Rattle.std.specs.Prelude.{◌≡◌, ◌<◌, IfSome, None, replicate};
+ghost use Rattle.std.specs.Prelude.{◌≡◌, ◌<◌, ◌∷◌, [], IfSome, None, replicate};
 ghost use Rattle.name_registry.specs.Auditing.{AreAllCpus};
 ghost use Rattle.registry_live.specs.Calls.{IsGivenBack};
+ghost use Rattle.registry_live.specs.Labels.{HaveReleased, HoldTheSame};
 
 use crate::calls::{
     copied, count_one, fill, holds, leave, let_go, look_up, peek_at, plug_in, read_by, refer,
@@ -56,6 +57,7 @@ impl<'a, D: Domain, R: Wait> LiveSession<'a, D, R> {
     ) -> LiveSession<'a, D, R>
         requires { AreAllCpus D.settings.cpus cpus.old }
         ensures same_reference { result.cpus.ghost_name ≡ cpus.entry.ghost_name }
+        ensures cpus { result.cpus.now ≡ cpus.old }
         ensures passives { result.passives ≡ replicate 26 None }
         ensures locals { result.locals ≡ replicate 26 None }
     {
@@ -70,9 +72,10 @@ impl<'a, D: Domain, R: Wait> LiveSession<'a, D, R> {
     }
 
     /// Gives back all references that labels stand for: the local ones first, each on CPU 0, and then the passive ones,
-    /// each on its own CPU. Sections stay open.
+    /// each on its own CPU, which holds then what no label stood for. Sections stay open.
     pub fn give_back(self)
-        ensures { AreAllCpus D.settings.cpus self.exit.0.now }
+        ensures all { AreAllCpus D.settings.cpus self.exit.0.now }
+        ensures released { HaveReleased self.entry.cpus.now self.entry.passives self.exit.0.now }
     {
         let LiveSession {
             cpus,
@@ -105,7 +108,8 @@ fn release_locals<D: Domain, R: Wait>(
     locals: [Option<LocalRef<D>>; 26],
 )
     requires { AreAllCpus D.settings.cpus cpus.old }
-    ensures { AreAllCpus D.settings.cpus cpus.new }
+    ensures all { AreAllCpus D.settings.cpus cpus.new }
+    ensures passives { HoldTheSame cpus.old cpus.new }
 {
     spend_each!(locals, place => release_local(rt, registry, cpus, place));
 }
@@ -118,7 +122,8 @@ fn release_local<D: Domain, R: Wait>(
     place: Option<LocalRef<D>>,
 )
     requires { AreAllCpus D.settings.cpus cpus.old }
-    ensures { AreAllCpus D.settings.cpus cpus.new }
+    ensures all { AreAllCpus D.settings.cpus cpus.new }
+    ensures passives { HoldTheSame cpus.old cpus.new }
 {
     if let Some(reference) = place {
         // Reading it opens what its type keeps: it is a reference of this registry, which so has a CPU 0.
@@ -135,7 +140,8 @@ fn release_passives<D: Domain>(
     passives: [Option<Psref>; 26],
 )
     requires { AreAllCpus D.settings.cpus cpus.old }
-    ensures { AreAllCpus D.settings.cpus cpus.new }
+    ensures all { AreAllCpus D.settings.cpus cpus.new }
+    ensures released { HaveReleased cpus.old passives cpus.new }
 {
     spend_each!(passives, place => release_passive(registry, cpus, place));
 }
@@ -146,6 +152,7 @@ fn release_passive<D: Domain>(registry: &Registry<D>, cpus: &mut [Cpu<D>], place
     requires { AreAllCpus D.settings.cpus cpus.old }
     ensures all { AreAllCpus D.settings.cpus cpus.new }
     ensures released { IfSome place (IsGivenBack cpus.old cpus.new) }
+    ensures labels { HaveReleased cpus.old (place ∷ []) cpus.new }
 {
     let Some(psref) = place else {
         return;
@@ -162,13 +169,13 @@ fn release_passive<D: Domain>(registry: &Registry<D>, cpus: &mut [Cpu<D>], place
 }
 
 impl<'a, D: Domain, R: Wait> Session for LiveSession<'a, D, R> {
-    ghost use Rattle.std.specs.Prelude.{ℕ};
     ghost use Rattle.registry_live.specs.Calls.{DestroysBy, OnOne, PerformsBy};
+    ghost use Rattle.registry_live.specs.Labels.{Lent, unlabelled};
 
-    // which slice of CPUs the session has
-    ghost Kept = { ℕ };
+    // which slice of CPUs the session has, and what each CPU holds that no label stands for
+    ghost Kept = { Lent };
 
-    ghost kept = { λ s. s.cpus.ghost_name };
+    ghost kept = { λ s. record { slice = s.cpus.ghost_name; unlabelled = unlabelled s.cpus.now s.passives } };
 
     ghost settings = { λ _. D.settings };
 

@@ -1,5 +1,15 @@
+use Rattle.std.proofs.Common.{◌<◌, length, refl, rules, arith}
 use Rattle.registry_live.proofs.LiveCpus.{all_with}
+use Rattle.registry_live.proofs.Labelled.{lent, named_id, refers}
 use Rattle.registry_live.proofs.session.LiveSessionSession.reference.Goals as goal
 
 pub invariant_of-self : goal.invariant_of-self
 invariant_of-self g c = record { all = all_with _ c.args.self.now.cpus.now c.args.cpu c.index-cpus-cpu.result c.refer.new.cpu c.args.self.now.all c.requires.known c.index-cpus-cpu.is c.refer.ensures.id }
+
+pub returns-clause-kept : goal.returns-clause-kept
+returns-clause-kept g c =
+    let few : c.args.cpu < length c.args.self.now.cpus.now = omega (arith, c.requires.known, c.args.self.now.all.count) in
+    let labels : c.args.label.place < length c.args.self.now.passives = search (rules, arith) in
+    lent _ _ _ _ refl
+    (refers c.args.self.now.cpus.now c.args.self.now.passives c.args.cpu c.args.label.place c.index-cpus-cpu.result c.refer.new.cpu c.index-passives-label.result c.refer.new.place _ c.refer.result few
+    (named_id _ c.args.self.now.cpus.now c.args.cpu c.index-cpus-cpu.result c.args.self.now.all few c.index-cpus-cpu.is) labels c.refer.ensures.answer c.refer.ensures.refused)
