@@ -20,7 +20,7 @@ use std::thread::{Threads, join, yield_now};
 /// How often the device is opened, each time under a minor number of its own.
 const OPENS: usize = 4;
 /// After so many turns a wait is given up.
-const PATIENCE: u32 = 10_000_000;
+const PATIENCE: u32 = 100_000_000;
 
 /// What the switch did.
 #[derive(Clone, Copy)]

@@ -31,8 +31,8 @@ const BATCH: u64 = 32;
 const PLUGS: u64 = 8;
 
 const BATCHES_A_PLUG: u64 = 96;
-/// After so many turns a wait is given up.
-const PATIENCE: u32 = 10_000_000;
+/// After so many turns CPU 4 waits no longer for batches.
+const PATIENCE: u32 = 100_000_000;
 
 /// What the loop did.
 #[derive(Clone, Copy)]
@@ -240,7 +240,7 @@ impl<'a, D: Domain> Bus<'a, D> {
     /// Detaches the interface, and waits until nobody holds it: the sections that were open, and the passive references.
     fn pull_out<R: Wait>(&self, rt: &R, cpu: &mut Cpu<D>) -> Result<(), Failure> {
         let entry = self.registry.detach(rt, cpu, Kind::Iface, &self.iface)?;
-        self.registry.destroy(rt, cpu, entry.number, PATIENCE)?;
+        self.registry.destroy(rt, cpu, entry.number, u32::MAX)?;
         Ok(())
     }
 

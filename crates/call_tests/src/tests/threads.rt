@@ -18,7 +18,7 @@ use std::test::*;
 use std::thread::{Threads, join, yield_now};
 
 /// After so many turns a side gives up, and the test fails.
-const TURNS: u32 = 10_000_000;
+const TURNS: u32 = 1_000_000_000;
 
 /// How many sections a CPU may begin: more than it has turns.
 const SECTIONS: u64 = 1 << 40;

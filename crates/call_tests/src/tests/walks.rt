@@ -22,7 +22,10 @@ use std::thread::{Threads, join, yield_now};
 const SLOTS: u8 = 32;
 
 /// After so many turns a side gives up, and the test fails.
-const TURNS: u32 = 100_000;
+const TURNS: u32 = 100_000_000;
+
+/// How often a driver comes and goes before its last attach waits to be met.
+const CHANGES: u32 = 100_000;
 
 /// The number of what stood in a row before a walk.
 const BEFORE: u64 = 77;
@@ -230,22 +233,24 @@ fn beside<D: Domain + Send, R: Threads + Wait + Abort + Sync>(
         first,
         second,
     } = pair;
-    let (registry, done) = (&registry, &AtomicBool::new(false));
+    let registry = &registry;
+    let (met, done) = (&AtomicBool::new(false), &AtomicBool::new(false));
     let (has_seen_both, changes) = join(
         rt,
-        move || walk_until_both(rt, registry, first, done),
-        move || change_until(rt, registry, second, done),
+        move || walk_until_both(rt, registry, first, met, done),
+        move || change_until(rt, registry, second, met, done),
     );
     assert!(rt; has_seen_both);
     assert!(rt; 0 < changes);
     Ok(())
 }
 
-/// Walks until driver 1 was met, and was missed after that. Driver 0 is in each row once.
+/// Walks until driver 1 was met, and was missed after that: it sets a flag for each. Driver 0 is in each row once.
 fn walk_until_both<D: Domain, R: Abort>(
     rt: &R,
     registry: &Registry<D>,
     mut cpu: Cpu<D>,
+    met: &AtomicBool,
     done: &AtomicBool,
 ) -> bool {
     let mut has_met = false;
@@ -255,10 +260,12 @@ fn walk_until_both<D: Domain, R: Abort>(
             done.store(true, Ordering::SeqCst);
             return true;
         }
-        has_met = has_met || is_there;
+        if is_there {
+            has_met = true;
+            met.store(true, Ordering::SeqCst);
+        }
         yield_now();
     }
-    done.store(true, Ordering::SeqCst);
     false
 }
 
@@ -285,30 +292,40 @@ fn meets_another<D: Domain, R: Abort>(rt: &R, words: &Words, cpu: &mut Cpu<D>) -
     true
 }
 
-/// Attaches driver 1, detaches and destroys it, until the flag is set. It answers how often.
+/// Attaches driver 1, detaches and destroys it, until it was missed after it was met. At the latest it is met by the last attach, which waits for
+/// that, and missed after the last detach: so it doesn't matter which thread has a processor when. It answers how often.
 fn change_until<D: Domain, R: Wait + Abort>(
     rt: &R,
     registry: &Registry<D>,
     mut cpu: Cpu<D>,
+    met: &AtomicBool,
     done: &AtomicBool,
 ) -> u32 {
-    for times in 0..TURNS {
+    for times in 0..CHANGES {
         if done.load(Ordering::SeqCst) {
             return times;
         }
-        change(rt, registry, &mut cpu, nth(rt, 1));
+        change(rt, registry, &mut cpu, nth(rt, 1), met, 1);
     }
-    TURNS
+    change(rt, registry, &mut cpu, nth(rt, 1), met, TURNS);
+    CHANGES + 1
 }
 
-/// Attaches the driver, detaches and destroys it.
-fn change<D: Domain, R: Wait + Abort>(rt: &R, registry: &Registry<D>, cpu: &mut Cpu<D>, rec: Record)
+/// Attaches the driver, waits for so many turns at most until it was met, detaches and destroys it.
+fn change<D: Domain, R: Wait + Abort>(
+    rt: &R,
+    registry: &Registry<D>,
+    cpu: &mut Cpu<D>,
+    rec: Record,
+    met: &AtomicBool,
+    turns: u32,
+)
     requires { IsTrue (is_lawful rec.name) }
 {
     let Ok(entry) = registry.attach(rt, cpu, rec) else {
         panic!(rt; "an attach")
     };
-    yield_now();
+    wait_for(met, turns);
     let Ok(gone) = registry.detach(rt, cpu, Kind::Driver, &rec.name) else {
         panic!(rt; "a detach")
     };
@@ -316,4 +333,14 @@ fn change<D: Domain, R: Wait + Abort>(rt: &R, registry: &Registry<D>, cpu: &mut 
     let Ok(_slot) = registry.destroy(rt, cpu, gone.number, u32::MAX) else {
         panic!(rt; "a destroy")
     };
+}
+
+/// Lets other threads on until the flag is set, for so many turns at most.
+fn wait_for(flag: &AtomicBool, turns: u32) {
+    for _ in 0..turns {
+        yield_now();
+        if flag.load(Ordering::SeqCst) {
+            return;
+        }
+    }
 }

@@ -45,7 +45,7 @@ fn the_greatest_storm(rt: HostRuntime) -> Result<(), Fail> {
 }
 
 /// How often a worker looks before the gate lets go.
-const PATIENCE: u32 = 10_000_000;
+const PATIENCE: u32 = 100_000_000;
 
 /// A gate that holds each CPU inside its section of turn 1 until every CPU is inside its own. It lets go after some time, and tells that.
 #[derive(Drop)]
