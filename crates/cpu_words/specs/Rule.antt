@@ -31,7 +31,7 @@ use Rattle.cpu_words.specs.declared.layout.TheConstants.{TOTALS, WORDS}
 abbrev pub IsUnused : Settings → ℕ → Type 0
 IsUnused z i = (i < TOTALS) × ((p : Spot) → IsSpot z p → index p ≡ i → ⊥)
 
--- the table has the words of the core, and 0 at each place between them: no step writes there
+-- the table has the words of the core, and 0 at each other place before the totals: no step writes anything else there
 pub record Agrees (words : List ℕ) (g : State) : Type 0 where
   pub size : length words ≡ WORDS
   pub at : (p : Spot) → IsSpot g.settings p → slice_index words (index p) ≡ word_at g p

@@ -11,7 +11,7 @@
 //! TOTALS + t                         total of slot t                                   the keeper
 //!
 //! CPUs c and slots t count from 0. A table has room for the most CPUs and slots that settings may have: no place depends on them. What lies
-//! between these words no step writes (`unused` of `Agrees`, specs/Rule.antt).
+//! between these words stays 0 (`unused` of `Agrees`, specs/Rule.antt).
 
 ghost use Rattle.std.specs.Prelude.{◌≡◌, ◌<◌, ◌≤◌, ◌-◌};
 ghost use Rattle.cpu_words.specs.Spots.{section_of, passive_of, count_of, next_of, record_of, total_of, index, LinesApart, OnePlace, FirstWordsFree};

@@ -13,7 +13,7 @@ use passive_list::{Cpu, PlainCpu};
 /// Releases a local reference on this CPU, which needn't be the one that acquired it: this CPU's own net count for the entry goes down
 /// by one, and may be negative.
 /// The reference comes back just where the keeper had collected this CPU's count word for its slot: the reference shows that then, and
-/// the CPU is as it was.
+/// the CPU is as it was but for its log.
 pub fn try_release<D: Domain>(
     words: &Words,
     cpu: &mut Cpu<D>,

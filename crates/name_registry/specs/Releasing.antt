@@ -4,7 +4,7 @@ use Rattle.cpu_words.specs.declared.view.ReferenceView.{ReferenceView}
 use Rattle.local_count.specs.References.{HasReleased, HasComeBack}
 use Rattle.passive_list.specs.Cpus.{OnCpu}
 
--- The CPU is as it was, but for its log, only where its own count word was found collected: in the log stands the compare-exchange that failed, with its
--- reply, and that the reference came back by it.
+-- Only where a compare-exchange found the CPU's own count word collected is the CPU as it was but for its log: the exchange stands there with its reply, and
+-- after it that the reference came back.
 abbrev pub IsLetGo : OnCpu → ReferenceView → OnCpu → Type 0
 IsLetGo x v y = HasReleased x v y ⊎ ((back : ReferenceView) × HasComeBack x v y back)

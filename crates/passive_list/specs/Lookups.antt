@@ -16,7 +16,7 @@ pub record HasFound (key : Key) (a b : OnCpu) (answer : Option Entry) : Type 0 w
   pub seen : (e : Entry) → answer ≡ Some e → IsAttached b.view.pass e
   pub log : SearchesOnce a.view.id key a.log b.log
 
--- in a section of the lookup's own: `first` is the CPU as it entered it, `last` as it exits it
+-- in a section of the lookup's own: an enter, a find and an exit lead from a to b, by way of some CPUs `first` and `last`
 pub record HasFoundFromOutside (key : Key) (a b : OnCpu) (answer : Option Entry) : Type 0 where
   pub first : OnCpu
   pub last : OnCpu

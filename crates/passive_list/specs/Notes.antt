@@ -16,7 +16,7 @@ pub record OnNote : Type 0 where
   pub pass : List Change
   pub known_log : List LogItem
 
--- the pass is a longer prefix of the history, with what the note tells in it, and the known log goes on; nothing else changes but the pass noted beside the view, and the CPU's own log
+-- the pass is a longer prefix of the history, with what the note tells in it, and the known log goes on; nothing else changes but the pass noted beside the view, and the CPU's own log: how that goes on each call says
 pub record HasHeardOn (note : List Change) (a b : OnCpu) : Type 0 where
   pub told : IsPrefix note b.view.pass
   pub pass : IsPrefix a.view.pass b.view.pass

@@ -27,7 +27,7 @@ pub record GoesOnByLoads (c n : ℕ) (old new : List LogItem) : Type 0 where
   pub only : AreLoads c since
   pub count : length since ≡ n
 
--- It went on by one search for the key, which visited so many entries: the search begins, loads the head, and then five words of each entry.
+-- It went on by one search for the key: the search begins, and there are one load and five for each of so many entries. Which loads these are the words allow alone.
 abbrev pub HasSearchedFor : ℕ → Key → ℕ → List LogItem → List LogItem → Type 0
 HasSearchedFor c key visited old new = GoesOnByLoads c (1 + 5 * visited) (old ++ did (Seek c key.kind key.name) Done) new
 
@@ -40,7 +40,7 @@ abbrev pub SearchesTimes : ℕ → ℕ → List LogItem → List LogItem → Typ
 SearchesTimes c zero old new = new ≡ old
 SearchesTimes c (suc n) old new = (m : List LogItem) × (key : Key) × SearchesTimes c n old m × SearchesOnce c key m new
 
--- by a whole walk: a search for nobody visits each entry on the list and notes it, then there is a search for each of these, and one for nobody
+-- by a whole walk: a search for nobody, which visited so many entries, then as many searches, each for some key, and one more for nobody
 pub record HasGoneOverBy (c : ℕ) (old new : List LogItem) : Type 0 where
   pub noted : ℕ
   pub few : noted ≤ 32

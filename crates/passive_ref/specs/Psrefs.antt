@@ -64,7 +64,7 @@ has_loaded c e k = did (LoadRecord (Passive c e.number k)) (Word (word (words_of
 abbrev pub HasLoaded : Entry → OnCpu → OnCpu → Type 0
 HasLoaded e a b = b ≡ record a { log = a.log ++ has_loaded a.view.id e 1 ++ has_loaded a.view.id e 2 ++ has_loaded a.view.id e 3 ++ has_loaded a.view.id e 4 }
 
--- e is the entry n, to which this CPU refers, and was loaded
+-- the CPU refers to the entry n, which is e, and has loaded its words
 abbrev pub IsReadAs : ℕ → OnCpu → OnCpu → Entry → Type 0
 IsReadAs n a b e = IsReferredTo a.view n e × HasLoaded e a b
 

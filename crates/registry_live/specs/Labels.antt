@@ -20,7 +20,7 @@ is_label_to c n (Some p) = p.cpu == c && p.number == n
 abbrev pub labels_to : List (Option OnPsref) → ℕ → ℕ → ℕ
 labels_to places c n = count_by (is_label_to c n) places
 
--- how many the CPU c holds to the entry n that no label stands for
+-- what the CPU c holds to the entry n, less what labels stand for
 abbrev pub unlabelled : List OnCpu → List (Option OnPsref) → ℕ → ℕ → ℤ
 unlabelled xs places c n = pos (references_at xs c n) -ℤ pos (labels_to places c n)
 
@@ -29,7 +29,7 @@ pub record Lent : Type 0 where
   pub slice : ℕ
   pub unlabelled : ℕ → ℕ → ℤ
 
--- each CPU has released those that this many places have, and holds the others
+-- each CPU holds as many fewer to each entry as these places have, and none where they have more
 pub record HaveReleased (xs : List OnCpu) (places : List (Option OnPsref)) (ys : List OnCpu) : Type 0 where
   pub each : (c n : ℕ) → references_at ys c n ≡ references_at xs c n - labels_to places c n
 

@@ -1,5 +1,5 @@
-//! The calls of a storm, each with the judgement of its answer. A contract here says what the call beneath says, and that just this answer was
-//! judged: so an answer can't be passed over, nor another one judged in its place.
+//! The calls of a storm, each with the judgement of its answer. A contract here says, of what the call beneath says, what a storm needs, and that just this
+//! answer was judged: so an answer can't be passed over, nor another one judged in its place.
 
 ghost use Rattle.std.specs.Prelude.{◌≡◌, ◌≢◌, IsSome, IsNone, IfSome, IfOk, IfErr, Some, None, Ok};
 ghost use Rattle.cpu_words.specs.KeeperLog.{IsFreedFrom};
