@@ -77,7 +77,7 @@ entered_stays a b (Err f) ok refused = same_stays a b refused
 
 pub uncounted_stays : (a b : OnCpu) (v : ReferenceView) → IsLetGo a v b → StaysOn a b
 uncounted_stays a b v (inl is) = record { id = ap (λ (x : OnCpu). x.view.id) is; references = ap (λ (x : OnCpu). x.view.references) is }
-uncounted_stays a b v (inr back) = same_stays a b back.1.cpu
+uncounted_stays a b v (inr back) = let is = back.1.cpu in record { id = ap (λ (x : OnCpu). x.view.id) is; references = ap (λ (x : OnCpu). x.view.references) is }
 
 pub released_id : {X : Type 0} (a b : OnCpu) (p : OnPsref) (why : Option Refusal) (answer : Result X (Refusal × OnPsref)) → GivesBack why p (λ x. HasOneLess p.number a b) answer → IfErr answer (λ e. b ≡ a) → b.view.id ≡ a.view.id
 released_id a b p why (Ok x) is refused = ap (λ (y : OnCpu). y.view.id) is.1

@@ -131,6 +131,7 @@ pub fn read_by<D: Domain>(
     ensures answer { Decides (unless_free place.now (λ p. hitch_of (why_unusable cpu.old.view p))) (λ seen. Has place.now (λ p. (seen.number ≡ p.number) × (rec : Record) × IsRead p.number cpu.old cpu.new rec × (seen.value ≡ rec.value))) result }
     ensures refused { IfErr result (λ _. cpu.new ≡ cpu.old) }
     ensures id { cpu.new.view.id ≡ cpu.old.view.id }
+    ensures references { cpu.new.view.references ≡ cpu.old.view.references }
 {
     let Some(psref) = place else {
         return Err(Hitch::NoLabel);
