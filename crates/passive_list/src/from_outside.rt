@@ -16,9 +16,9 @@ use crate::plain_cpu::PlainCpu;
 use cpu_words::{CpuSeat, Words, steps};
 use registry_values::{Kind, Name};
 
-/// Looks an entry up in a section of its own, and answers its words: an enter, a find and an exit in one. What a CPU keeps for the calls that
-/// come in a section, its depth and the last found entry, isn't written. Each answer has an exit of its own: with one for both more words
-/// would be carried past it.
+/// Looks an entry up in a read section of its own (pserialize(9)), and answers its words, or `None` where none was found: an enter, a find and
+/// an exit in one. What a CPU keeps for the calls that come in a section, its depth and the last found entry, isn't written. Each answer has an
+/// exit of its own: with one for both more words would be carried past it.
 /// Conditions: the words are the CPU's table's; it is outside, and has a section left (`may_begin_on`).
 #[inline(always)]
 pub fn find_from_outside(words: &Words, cpu: &mut PlainCpu, kind: Kind, name: Name) -> Option<Seen>

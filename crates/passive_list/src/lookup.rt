@@ -44,8 +44,11 @@ pub fn find_on(words: &Words, cpu: &mut PlainCpu, kind: Kind, name: &Name) -> Op
 /// The words of an entry that a search found.
 #[derive(Clone, Copy)]
 pub struct Seen {
+    /// The entry's number, from 1.
     pub number: u64,
+    /// Its slot, from 0; as wide as the link that led there.
     pub slot: u64,
+    /// The value that its owner gave; the registry doesn't look at it.
     pub value: u64,
 }
 
