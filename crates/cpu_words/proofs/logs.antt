@@ -1,6 +1,8 @@
 pub mod Allowing
 pub mod Changes
 pub mod Counted
+pub mod Parts
+pub mod Told
 pub mod Logs
 pub mod Runs
 pub mod Seats

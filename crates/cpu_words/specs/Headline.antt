@@ -27,7 +27,7 @@ use Rattle.cpu_words.specs.declared.view.View.TheVariants.{Keeper, Cpu, Referenc
 use Rattle.cpu_words.specs.Spots.{passive_of, count_of, index}
 use Rattle.cpu_words.specs.Views.{references_to}
 use Rattle.cpu_words.specs.Rule.{Agrees, ShowsViews, Good, Ruled, log_of_events}
-use Rattle.cpu_words.specs.Logs.{without_logs, part, IsStanding, AreByOwn, Knows, LoggedRuled}
+use Rattle.cpu_words.specs.Logs.{without_logs, part, events_of, IsStanding, AreByOwn, AreToldBefore, Knows, LoggedRuled}
 use Rattle.cpu_words.specs.Vacating.{IsDrained}
 
 -- The headline of the running words
@@ -51,12 +51,14 @@ pub record RunsLawfully (z : Settings) (s : Table ℕ View) : Type 0 where
 pub record RunsAsLogged (z : Settings) (s : Table ℕ Logged) : Type 0 where
   pub run : RunsLawfully z (without_logs s)
   pub acts : List (ℕ × LogItem)
-  pub are : map (λ (a : ℕ × LogItem). a.1) acts ≡ log_of_events z run.events
+  pub are : events_of acts ≡ log_of_events z run.events
   pub all : length acts ≡ length run.events
   pub owners : AreByOwn run.seat (after (opening z) run.events).seated acts
   pub logs : (i : ℕ) (l : Logged) → get_elem? s.views i ≡ some l → IsStanding l.view → l.log ≡ part i acts
   -- what a seat has heard of the keeper's log is a prefix of the keeper's part
   pub known : (i : ℕ) (l : Logged) → get_elem? s.views i ≡ some l → Knows l (part 0 acts)
+  -- where the keeper heard a CPU's note, its log says how far that CPU had come: so many events of it were made before
+  pub told : AreToldBefore run.seat (after (opening z) run.events).seated acts
 
 -- so it is between any two steps
 abbrev pub RunningHeadline : Type 0

@@ -2,7 +2,7 @@
 use Rattle.std.specs.Prelude.{◌≡◌, ◌⊎◌, ℕ, zero, suc, ◌+◌, ◌*◌, ◌==◌, ◌&&◌, ◌%◌, ◌<◌, ◌≤◌, Bool, true, false, if◌then◌else◌, List, [], ◌∷◌, ◌++◌, length, Option, Some, None}
 use mathlib.Core.List.{IsPrefix}
 use Rattle.protocol.specs.declared.event.Event.{Event}
-use Rattle.protocol.specs.declared.event.Event.TheVariants.{Publish, Unpublish, Snapshot, Look, PassiveLook, Collect, JoinKeeper, Keep, KeptSub, Vacate}
+use Rattle.protocol.specs.declared.event.Event.TheVariants.{Hear, Publish, Unpublish, Snapshot, Look, PassiveLook, Collect, JoinKeeper, Keep, KeptSub, Vacate}
 use Rattle.protocol.specs.declared.event.Reply.{Reply}
 use Rattle.protocol.specs.declared.event.Reply.TheVariants.{Done, Word}
 use Rattle.registry_values.specs.declared.settings.TheConstants.{MOST_CPUS}
@@ -20,13 +20,27 @@ use Rattle.cpu_words.specs.declared.view.KeeperView.{KeeperView}
 use Rattle.cpu_words.specs.declared.view.View.{View}
 use Rattle.cpu_words.specs.declared.view.View.TheVariants.{Keeper}
 use Rattle.cpu_words.specs.declared.view.LogItem.{LogItem}
+use Rattle.cpu_words.specs.declared.view.Teller.{Teller}
 use Rattle.cpu_words.specs.Notes.{keeper_with_note}
-use Rattle.cpu_words.specs.Rule.{Good}
+use Rattle.cpu_words.specs.Rule.{Good, log_item}
 use Rattle.cpu_words.specs.Views.{Shown}
 
 -- what was known before, and what a note knew, are prefixes of what is known now
 abbrev pub KnownLogGrows : List LogItem → List LogItem → List LogItem → Type 0
 KnownLogGrows old note new = IsPrefix old new × IsPrefix note new
+
+-- The keeper heard a note of a CPU's, and its log says whose
+
+abbrev pub has_heard_from : Option Teller → LogItem
+has_heard_from h = record { event = Hear None; reply = Done; teller = h }
+
+abbrev pub heard_from : Option Teller → List LogItem
+heard_from h = has_heard_from h ∷ []
+
+pub record HasHeardFrom (h : Teller) (log : List LogItem) : Type 0 where
+  pub before : List LogItem
+  pub after : List LogItem
+  pub are : log ≡ before ++ has_heard_from (Some h) ∷ after
 
 -- an attach or a detach
 abbrev pub changes_of : Event → ℕ → ℕ
@@ -42,10 +56,10 @@ changes_in (d ∷ ds) = changes_of d.event (changes_in ds)
 -- the keeper took the section word of the CPU c, for no entry, or looked at it: this was the word
 
 abbrev pub has_taken : ℕ → ℕ → LogItem
-has_taken c w = record { event = Snapshot None c; reply = Word w }
+has_taken c w = log_item (Snapshot None c) (Word w)
 
 abbrev pub has_found : ℕ → ℕ → LogItem
-has_found c w = record { event = Look None c; reply = Word w }
+has_found c w = log_item (Look None c) (Word w)
 
 -- in this order the CPU's section word was taken, and found even or another one
 pub record IsSeenOut (c : ℕ) (log : List LogItem) : Type 0 where
@@ -64,14 +78,14 @@ HasWaited log cpus = (c : ℕ) → c < cpus → IsSeenOut c log
 -- the same for the entry that is retired in the slot t
 
 abbrev pub has_snapped : ℕ → ℕ → ℕ → LogItem
-has_snapped t c w = record { event = Snapshot (Some t) c; reply = Word w }
+has_snapped t c w = log_item (Snapshot (Some t) c) (Word w)
 
 abbrev pub has_looked : ℕ → ℕ → ℕ → LogItem
-has_looked t c w = record { event = Look (Some t) c; reply = Word w }
+has_looked t c w = log_item (Look (Some t) c) (Word w)
 
 -- the passive word of c was loaded for it, and it was w
 abbrev pub has_looked_passive : ℕ → ℕ → ℕ → LogItem
-has_looked_passive t c w = record { event = PassiveLook t c; reply = Word w }
+has_looked_passive t c w = log_item (PassiveLook t c) (Word w)
 
 abbrev pub is_detach_from : ℕ → Event → Bool
 is_detach_from t (Unpublish u) = u == t
@@ -165,7 +179,7 @@ names (Some m) n = m == n
 pub record IsAttachedKeeping (t n d : ℕ) (log : List LogItem) : Type 0 where
   pub before : List LogItem
   pub after : List LogItem
-  pub are : log ≡ before ++ record { event = Publish t; reply = Done } ∷ after
+  pub are : log ≡ before ++ log_item (Publish t) Done ∷ after
   pub number : n ≡ suc (changes_in before)
   pub keeps : keeping t before ≡ Some d
 
@@ -187,7 +201,7 @@ pub record AreSlotsOf (cpus : ℕ) (log : List LogItem) (slots : List Slot) : Ty
 
 -- the item loaded the section word of the CPU c, for a slot or for none, and found w
 abbrev pub FindsWord : ℕ → ℕ → LogItem → Type 0
-FindsWord c w d = (to : Option ℕ) × ((d ≡ record { event = Snapshot to c; reply = Word w }) ⊎ (d ≡ record { event = Look to c; reply = Word w }))
+FindsWord c w d = (to : Option ℕ) × ((d ≡ log_item (Snapshot to c) (Word w)) ⊎ (d ≡ log_item (Look to c) (Word w)))
 
 -- of two loads of one CPU's section word the later found no smaller one
 abbrev pub WordsGrow : List LogItem → Type 0

@@ -1,5 +1,5 @@
 -- What each seat did, and what it has heard of the keeper's log: beside its view stands its log, and the rule says that this is the list's part by that seat.
-use Rattle.std.specs.Prelude.{◌≡◌, ℕ, ◌<◌, ◌≤◌, ◌==◌, if◌then◌else◌, List, [], ◌∷◌, ◌++◌, map, length, Option, Some, None}
+use Rattle.std.specs.Prelude.{◌≡◌, ℕ, suc, ◌<◌, ◌≤◌, ◌==◌, if◌then◌else◌, List, [], ◌∷◌, ◌++◌, map, length, Option, Some, None}
 use mathlib.Core.Option.{some}
 use mathlib.Core.List.{IsPrefix}
 use lib.ListN.{get_elem?}
@@ -15,12 +15,13 @@ use Rattle.cpu_words.specs.declared.view.CpuView.{CpuView}
 use Rattle.cpu_words.specs.declared.view.KeeperView.{KeeperView}
 use Rattle.cpu_words.specs.declared.view.ReferenceView.{ReferenceView}
 use Rattle.cpu_words.specs.declared.view.LogItem.{LogItem}
+use Rattle.cpu_words.specs.declared.view.Teller.{Teller}
 use Rattle.cpu_words.specs.declared.view.Logged.{Logged}
 use Rattle.cpu_words.specs.declared.view.View.{View}
 use Rattle.cpu_words.specs.declared.view.View.TheVariants.{Keeper, Cpu, Reference, Note, Spent}
 use Rattle.cpu_words.specs.Views.{first_view, cpu_of, keeper_of, reference_of}
-use Rattle.cpu_words.specs.Rule.{did, log_of_events, Ruled}
-use Rattle.cpu_words.specs.KeeperLog.{KnownLogGrows, IsOwnLog, IsShownAfter}
+use Rattle.cpu_words.specs.Rule.{did, log_item, log_of_events, Ruled}
+use Rattle.cpu_words.specs.KeeperLog.{KnownLogGrows, heard_from, IsOwnLog, IsShownAfter}
 
 -- the table without the logs
 abbrev pub without_logs : Table ℕ Logged → Table ℕ View
@@ -30,6 +31,38 @@ without_logs s = record { words = s.words; homes = s.homes; views = map (λ (l :
 abbrev pub part : ℕ → List (ℕ × LogItem) → List LogItem
 part i [] = []
 part i (a ∷ rest) = if a.0 == i then a.1 ∷ part i rest else part i rest
+
+-- Who told the notes that were heard
+
+-- the CPU had made so many events by then: they are in its seat's part
+pub record HasCome (seat : ℕ → ℕ) (n : ℕ) (acts : List (ℕ × LogItem)) (h : Teller) : Type 0 where
+  pub seated : h.cpu < n
+  pub events : h.events ≤ length (part (seat h.cpu) acts)
+
+abbrev pub HasComeIf : (ℕ → ℕ) → ℕ → List (ℕ × LogItem) → Option Teller → Type 0
+HasComeIf seat n acts None = Unit {0}
+HasComeIf seat n acts (Some h) = HasCome seat n acts h
+
+-- only the keeper's Hear has a teller
+abbrev pub teller_if : Event → Option Teller → Option Teller
+teller_if (Hear None) h = h
+teller_if e h = None
+
+-- where the keeper heard a note, its teller had come so far before that
+pub record IsToldBefore (seat : ℕ → ℕ) (n : ℕ) (first : List (ℕ × LogItem)) (d : LogItem) : Type 0 where
+  pub only : d.teller ≡ teller_if d.event d.teller
+  pub before : HasComeIf seat n first d.teller
+
+-- so it is of each item, by what was done before it
+abbrev pub AreToldBefore : (ℕ → ℕ) → ℕ → List (ℕ × LogItem) → Type 0
+AreToldBefore seat n acts = (i : ℕ) (d : LogItem) (first rest : List (ℕ × LogItem)) → acts ≡ first ++ (i, d) ∷ rest → IsToldBefore seat n first d
+
+-- an item as its event and reply alone
+abbrev pub untold : LogItem → LogItem
+untold d = log_item d.event d.reply
+
+abbrev pub events_of : List (ℕ × LogItem) → List LogItem
+events_of acts = map (λ (a : ℕ × LogItem). untold a.1) acts
 
 -- a seat that wasn't joined into another
 abbrev pub IsStanding : View → Type 0
@@ -113,17 +146,20 @@ Knows l all = IsPrefix l.known_log all × IsPrefix l.noted_log all
 pub record LoggedRuled (z : Settings) (s : Table ℕ Logged) : Type 0 where
   pub run : Ruled z (without_logs s)
   pub acts : List (ℕ × LogItem)
-  pub are : map (λ (a : ℕ × LogItem). a.1) acts ≡ log_of_events z run.reached.events
+  pub are : events_of acts ≡ log_of_events z run.reached.events
   pub owners : AreByOwn run.seat run.g.seated acts
   pub logs : (i : ℕ) (l : Logged) → get_elem? s.views i ≡ some l → IsStanding l.view → l.log ≡ part i acts
   -- a seat that isn't there yet did nothing
   pub unseated : (i : ℕ) → length s.views ≤ i → part i acts ≡ []
   -- a seat's known log, and that of the note beside its view, are prefixes of what the keeper did
   pub known : (i : ℕ) (l : Logged) → get_elem? s.views i ≡ some l → Knows l (part 0 acts)
+  -- where the keeper heard a note, and where a note stands or lies beside a view, its teller had come so far
+  pub told : AreToldBefore run.seat run.g.seated acts
+  pub tellers : (i : ℕ) (l : Logged) → get_elem? s.views i ≡ some l → HasComeIf run.seat run.g.seated acts l.teller
 
 -- the keeper's seat, alone
 abbrev pub first_logged : Settings → Logged
-first_logged z = record { view = first_view z; log = []; known_log = []; noted_log = [] }
+first_logged z = record { view = first_view z; log = []; known_log = []; noted_log = []; teller = None }
 
 -- What a step is told: the seat stays of its kind, takes no slots, its log goes on with just these events, its known log stays, and the tale holds
 
@@ -144,6 +180,11 @@ heard_by_cpu does tells st m n l = (l ≡ (record m.0 { view = Cpu (cpu_of l.0.v
 abbrev pub heard_by_keeper : (KeeperView → ℕ → List LogItem) → (KeeperView → ℕ → KeeperView → Type 0) → Step ℕ → Me ℕ Logged → ℕ → Me ℕ Logged → Type 0
 heard_by_keeper does tells st m n l = IsToldByKeeper does tells st m n l × IsOwnLog m.0.log m.0.noted_log (keeper_of m.0.view)
 
+-- The keeper's load that hears a note: its log says who told it
+
+abbrev pub hears_note : (KeeperView → KeeperView → Type 0) → Step ℕ → Me ℕ Logged → ℕ → Me ℕ Logged → Type 0
+hears_note tells st m n l = (l ≡ (record m.0 { view = Keeper (keeper_of l.0.view); log = l.0.log }, m.1)) × (l.0.log ≡ m.0.log ++ heard_from m.0.teller) × tells (keeper_of m.0.view) (keeper_of l.0.view) × IsOwnLog m.0.log m.0.noted_log (keeper_of m.0.view)
+
 -- How seats are cut and joined: the log goes on, and a new seat's is empty
 
 abbrev pub logged_after_split : (View → View) → (View → List LogItem) → Logged → Logged
@@ -160,18 +201,29 @@ known_log_of l = l.known_log
 abbrev pub whole_log : (View → List LogItem) → Logged → List LogItem
 whole_log does l = l.log ++ does l.view
 
-abbrev pub fresh : (View → View) → (Logged → List LogItem) → Logged → Logged
-fresh right tells l = record { view = right l.view; log = []; known_log = tells l; noted_log = [] }
+-- and who told it: where it is a CPU's note that CPU, which has made one event more by that
+
+abbrev pub no_teller : Logged → Option Teller
+no_teller l = None
+
+abbrev pub teller_of : CpuView → List LogItem → Teller
+teller_of x log = record { cpu = x.id; events = suc (length log) }
+
+abbrev pub told_by_cpu : Logged → Option Teller
+told_by_cpu l = Some (teller_of (cpu_of l.view) l.log)
+
+abbrev pub fresh : (View → View) → (Logged → List LogItem) → (Logged → Option Teller) → Logged → Logged
+fresh right tells by l = record { view = right l.view; log = []; known_log = tells l; noted_log = []; teller = by l }
 
 abbrev pub joined_seat : (View → View → View) → (View → View → List LogItem) → Logged → Logged → Logged
 joined_seat both does l m = record l { view = both l.view m.view; log = l.log ++ does l.view m.view }
 
 -- a note is laid beside the view: this is no event
 abbrev pub logged_with_note : (View → View → View) → Logged → Logged → Logged
-logged_with_note both l m = record l { view = both l.view m.view; noted_log = m.known_log }
+logged_with_note both l m = record l { view = both l.view m.view; noted_log = m.known_log; teller = m.teller }
 
 abbrev pub spent_seat : Logged
-spent_seat = record { view = Spent; log = []; known_log = []; noted_log = [] }
+spent_seat = record { view = Spent; log = []; known_log = []; noted_log = []; teller = None }
 
 -- What a cut or a join does
 

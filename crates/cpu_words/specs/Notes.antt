@@ -1,12 +1,15 @@
 -- Notes: what one seat has seen reaches another.
-use Rattle.std.specs.Prelude.{◌≡◌, List}
+use Rattle.std.specs.Prelude.{◌≡◌, List, None}
 use mathlib.Core.List.{IsPrefix}
 use Rattle.registry_values.specs.declared.entry.Change.{Change}
+use Rattle.protocol.specs.declared.event.Event.TheVariants.{Hear}
+use Rattle.protocol.specs.declared.event.Reply.TheVariants.{Done}
 use Rattle.cpu_words.specs.declared.view.CpuView.{CpuView}
 use Rattle.cpu_words.specs.declared.view.KeeperView.{KeeperView}
 use Rattle.cpu_words.specs.declared.view.View.{View}
 use Rattle.cpu_words.specs.declared.view.View.TheVariants.{Keeper, Cpu, Note}
 use Rattle.cpu_words.specs.Views.{cpu_of, keeper_of, note_of}
+use Rattle.cpu_words.specs.Steps.{Makes}
 
 -- A seat that tells has the view that it had
 
@@ -42,3 +45,7 @@ HasHeard x y = IsPrefix x.noted_pass y.pass × IsPrefix x.pass y.pass × (y ≡ 
 -- the keeper's view has the whole history, with the note's pass in it
 abbrev pub KeeperHasHeard : KeeperView → KeeperView → Type 0
 KeeperHasHeard k l = IsPrefix k.noted_pass l.history × (l ≡ k)
+
+-- its load that hears is just that event
+abbrev pub KeeperHears : KeeperView → KeeperView → Type 0
+KeeperHears k l = Makes (Hear None) Done (Keeper k) (Keeper l) × KeeperHasHeard k l

@@ -1,5 +1,5 @@
 -- The table at the start, and the seats of the CPUs.
-use Rattle.std.specs.Prelude.{◌≡◌, ℕ, ◌+◌, ◌<◌, List, [], length, slice_index}
+use Rattle.std.specs.Prelude.{◌≡◌, ℕ, ◌+◌, ◌<◌, List, [], length, slice_index, None}
 use mathlib.Core.Option.{some}
 use lib.ListN.{get_elem?}
 use Rattle.atomic_table.specs.Seated.{TableId}
@@ -41,7 +41,7 @@ pub record AreOpening (words : List ℕ) : Type 0 where
 -- the seats of the first n CPUs, CPU 0 first
 pub record AreSeats (table : TableId) (z : Settings) (n : ℕ) (seats : List (Seated CpuView)) : Type 0 where
   pub count : length seats ≡ n
-  pub each : (c : ℕ) → c < n → get_elem? seats c ≡ some (record { table = table; view = new_cpu z c; log = []; known_log = []; noted_log = [] })
+  pub each : (c : ℕ) → c < n → get_elem? seats c ≡ some (record { table = table; view = new_cpu z c; log = []; known_log = []; noted_log = []; teller = None })
 
 -- the keeper's view where n CPUs have their seats, and it did nothing else
 abbrev pub keeper_with : Settings → ℕ → KeeperView

@@ -108,9 +108,13 @@ abbrev pub reply_without_id : Reply → Reply
 reply_without_id (Ref id) = Ref 0
 reply_without_id r = r
 
+-- an event with its reply, by which no note was heard
+abbrev pub log_item : Event → Reply → LogItem
+log_item e r = record { event = e; reply = r; teller = None }
+
 -- just this event, as its seat knows it, with this reply
 abbrev pub did : Event → Reply → List LogItem
-did e r = record { event = e; reply = reply_without_id r } ∷ []
+did e r = log_item e (reply_without_id r) ∷ []
 
 abbrev pub log_with : State → Event → Option Outcome → List LogItem → List LogItem
 log_with s e None ds = ds

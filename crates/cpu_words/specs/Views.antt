@@ -24,6 +24,7 @@ use Rattle.cpu_words.specs.declared.view.InHand.{InHand}
 use Rattle.cpu_words.specs.declared.view.InHand.TheVariants.{Empty as NoEntry, Taking as TakingEntry, Giving as GivingEntry, Back as BackEntry}
 use Rattle.cpu_words.specs.declared.view.Looked.{Looked}
 use Rattle.cpu_words.specs.declared.view.LogItem.{LogItem}
+use Rattle.cpu_words.specs.declared.view.Teller.{Teller}
 use Rattle.cpu_words.specs.declared.view.CpuView.{CpuView}
 use Rattle.cpu_words.specs.declared.view.KeeperView.{KeeperView}
 use Rattle.cpu_words.specs.declared.view.ReferenceView.{ReferenceView}
@@ -39,6 +40,8 @@ pub record Seated (X : Type 0) : Type 0 where
   -- what it has heard of the keeper's log, and what the note beside its view knows of that
   pub known_log : List LogItem
   pub noted_log : List LogItem
+  -- of a note, who told it; of another seat, who told the note beside its view
+  pub teller : Option Teller
 
 -- a table and what it was made for, to a contract
 pub record Named : Type 0 where

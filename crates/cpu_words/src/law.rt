@@ -172,7 +172,17 @@ impl<T: CpuTale> Play<u8, Logged> for CpuHearing<T> {
     ghost then = { heard_by_cpu T.does T.tells };
 }
 
-/// The same of the keeper's seat.
+/// The keeper's load that hears a note: it stands in the log with who told the note.
+pub(crate) struct NoteHearing;
+
+impl Play<u8, Logged> for NoteHearing {
+    ghost use Rattle.cpu_words.specs.Logs.{hears_note};
+    ghost use Rattle.cpu_words.specs.Notes.{KeeperHears};
+
+    ghost then = { hears_note KeeperHears };
+}
+
+/// A load of the keeper's seat that hears what a note laid beside it tells.
 pub(crate) struct KeeperHearing<T: KeeperTale> {
     marker: PhantomData<T>,
 }

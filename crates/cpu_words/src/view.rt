@@ -24,12 +24,22 @@ pub struct Looked {
     pub reply: Reply,
 }
 
+/// Who told a note: a CPU, and how far it had come.
+pub struct Teller {
+    /// The CPU's number, from 0.
+    pub cpu: u64,
+    /// How many events it had made, this telling among them.
+    pub events: u64,
+}
+
 /// An item of a seat's log: an event that it made, and what that replied. The ids that the core gives its references are 0 here.
 pub struct LogItem {
     /// The event of the protocol that the step made.
     pub event: Event,
     /// What the step answered.
     pub reply: Reply,
+    /// Where the keeper heard a CPU's note: who told it. Of any other event none.
+    pub teller: Option<Teller>,
 }
 
 /// A seat's view, and beside it all that the seat did, in order, and what it knows of the keeper's log.
@@ -42,6 +52,8 @@ pub struct Logged {
     pub known_log: LinkedList<LogItem>,
     /// What the note that was laid beside the view last knows of the keeper's log.
     pub noted_log: LinkedList<LogItem>,
+    /// Of a note, the CPU that told it; of another seat, the CPU that told the note that was laid beside the view last. None of the keeper's.
+    pub teller: Option<Teller>,
 }
 
 /// What the keeper's seat knows: all that only the keeper writes, and what it has counted itself.

@@ -24,7 +24,7 @@ use Rattle.protocol.specs.History.{after_change}
 use Rattle.protocol.specs.State.{kept_at}
 use Rattle.cpu_words.specs.declared.view.LogItem.{LogItem}
 use Rattle.cpu_words.specs.KeeperLog.{IsAttachedKeeping}
-use Rattle.cpu_words.specs.Rule.{did}
+use Rattle.cpu_words.specs.Rule.{did, log_item}
 use Rattle.cpu_words.specs.declared.view.ReferenceView.{ReferenceView}
 use Rattle.passive_list.specs.Cpus.{OnCpu}
 use Rattle.passive_list.specs.Keepers.{OnKeeper}
@@ -112,7 +112,7 @@ pub keeping_more : (t n d : ℕ) (log later : List LogItem) → IsPrefix log lat
 keeping_more t n d log later pre is = record {
   before = is.before;
   after = is.after ++ pre.0;
-  are = sym pre.1 ∙ (ap (λ (l : List LogItem). l ++ pre.0) is.are ∙ append_assoc is.before (record { event = Publish t; reply = Done } ∷ is.after) pre.0);
+  are = sym pre.1 ∙ (ap (λ (l : List LogItem). l ++ pre.0) is.are ∙ append_assoc is.before (log_item (Publish t) Done ∷ is.after) pre.0);
   number = is.number;
   keeps = is.keeps;
 }

@@ -7,7 +7,7 @@ use Rattle.protocol.specs.declared.event.Event.TheVariants.{Hear, Tell}
 use Rattle.protocol.specs.declared.event.Reply.TheVariants.{Done}
 use Rattle.cpu_words.specs.declared.view.LogItem.{LogItem}
 use Rattle.cpu_words.specs.Notes.{keeper_with_note}
-use Rattle.cpu_words.specs.Rule.{did}
+use Rattle.cpu_words.specs.Rule.{did, log_item}
 use Rattle.passive_list.specs.Cpus.{OnCpu, OnPlainCpu}
 use Rattle.passive_list.specs.Keepers.{OnKeeper, OnPlainKeeper}
 use Rattle.passive_list.specs.Notes.{has_heard, has_told}
@@ -37,7 +37,7 @@ meets_again x = has_told x ++ has_told x ++ has_heard x
 
 -- a note that the CPU c told or heard
 abbrev pub IsNote : ℕ → LogItem → Type 0
-IsNote c d = (d ≡ record { event = Tell (Some c); reply = Done }) ⊎ (d ≡ record { event = Hear (Some c); reply = Done })
+IsNote c d = (d ≡ log_item (Tell (Some c)) Done) ⊎ (d ≡ log_item (Hear (Some c)) Done)
 
 abbrev pub AreNotes : ℕ → List LogItem → Type 0
 AreNotes c [] = Unit {0}

@@ -1,4 +1,5 @@
 -- Destroying: an entry whose slot the keeper made vacant has no slot and no holder in any later state.
+use Rattle.cpu_words.proofs.logs.Changes.{run_as_logged}
 use Rattle.std.proofs.Common.{◌≡◌, inr, ⊎_elim, ℕ, ◌&&◌, Bool, true, false, IsTrue, List, [], ◌∷◌, ◌++◌, length, set, Option, Some, None, IsSome, refl, sym, ap, ◌∙◌, subst, append_assoc, length-append, arith}
 use Rattle.std.proofs.lemmas.List.{append-nil, length-map}
 use Rattle.std.proofs.lemmas.Option.{none-some, same_Some}
@@ -47,7 +48,7 @@ use Rattle.cpu_words.proofs.laws.Holders.{seat_has_slot}
 use Rattle.cpu_words.proofs.laws.Waiting.{own_first}
 use Rattle.cpu_words.proofs.logs.Known.{Known, known_stays, known_first}
 use Rattle.cpu_words.proofs.logs.Loads.{is_whole, same_event, place, halve}
-use Rattle.cpu_words.proofs.logs.Logs.{part_append}
+use Rattle.cpu_words.proofs.logs.Parts.{part_append}
 use Rattle.cpu_words.proofs.logs.Runs.{Follows, follows, follows_after, follows_holds, cut}
 use Rattle.cpu_words.proofs.logs.Standings.{one_detached}
 use Rattle.cpu_words.proofs.logs.Walks.{walked}
@@ -199,8 +200,7 @@ at_item z s i l before after_it item r at log_is =
     let are : r.acts ≡ first ++ end = h.are ∙ (ap (λ (x : List (ℕ × LogItem)). h.first ++ x) p.are ∙ sym (append_assoc h.first p.first end)) in
     let quiet : part 0 p.first ≡ [] = none_before (part 0 p.first) item later (part 0 p.second) (sym (part_append 0 p.first end) ∙ (ap (part 0) (sym p.are) ∙ h.rest)) p.rest in
     let did : part 0 first ≡ before = part_append 0 h.first p.first ∙ ((λ k. h.mine k ++ quiet k) ∙ append-nil before) in
-    let made : length (log_of_events z run.events) ≡ length run.events = sym (ap (λ (d : List LogItem). length d) r.are) ∙ (length-map r.acts (λ (a : ℕ × LogItem). a.1) ∙ r.all) in
-    let whole : Follows (opening z) r.acts run.events g = follows (empty_run (opening z)) r.acts run.events r.are made in
+    let whole : Follows (opening z) r.acts run.events g = run_as_logged z s r in
     let k = cut (opening z) first end run.events g (subst (λ (x : List (ℕ × LogItem)). Follows (opening z) x run.events g) are whole) in
     let fit : IsTrue (are_fit z) = subst (λ (a : Settings). IsTrue (are_fit a)) run.settings run.good.holds.fit in
     let own = own_first run.seat g.seated first end (subst (AreByOwn run.seat g.seated) are r.owners) in

@@ -22,6 +22,7 @@ use Rattle.protocol.proofs.runs.State.{obeys_laws}
 use Rattle.protocol.proofs.slots.Cells.{slot_here}
 use Rattle.cpu_words.specs.declared.view.LogItem.{LogItem}
 use Rattle.cpu_words.specs.declared.view.Logged.{Logged}
+use Rattle.cpu_words.specs.Rule.{log_item}
 use Rattle.cpu_words.specs.KeeperLog.{changes_in, keeping, IsAttachedKeeping}
 use Rattle.cpu_words.specs.Headline.{RunsAsLogged}
 use Rattle.cpu_words.specs.Kept.{KeepsDriver, KeepsAsLong, AttachedKeeps}
@@ -54,7 +55,7 @@ publish_numbers s t on = numbers_some s t (entry_of t (row_at s.rows t)) _ (λ e
     ap number_in (slot_here s.slots t (Live e) (may_write_tells s t on.shape p.0).1) ∙ ap (λ (n : ℕ). Some n) same))
 
 kept_since : (cpus : ℕ) (log : List LogItem) (m : State) (more : List (ℕ × LogItem)) (es : List Event) (g : State) (t n d : ℕ)
-    → Follows m ((0, record { event = Publish t; reply = Done }) ∷ more) es g → Holds m → Known cpus log m → n ≡ suc (changes_in log) → keeping t log ≡ Some d → occupant_of g t ≡ Some n → KeepsDriver g t d
+    → Follows m ((0, log_item (Publish t) Done) ∷ more) es g → Holds m → Known cpus log m → n ≡ suc (changes_in log) → keeping t log ≡ Some d → occupant_of g t ≡ Some n → KeepsDriver g t d
 kept_since cpus log m more [] g t n d run on known number keeps is = absurd run
 kept_since cpus log m more (e ∷ es) g t n d run on known number keeps is =
     let o = run.0 in
@@ -76,7 +77,7 @@ kept_since cpus log m more (e ∷ es) g t n d run on known number keeps is =
 
 keeps_long : (z : Settings) (s : Table ℕ Logged) (i : ℕ) (l : Logged) (t n d : ℕ) → RunsAsLogged z s → get_elem? s.views i ≡ some l → IsAttachedKeeping t n d l.known_log → KeepsAsLong z s t n d
 keeps_long z s i l t n d r at f =
-    let a = at_item z s i l f.before f.after (record { event = Publish t; reply = Done }) r at f.are in
+    let a = at_item z s i l f.before f.after (log_item (Publish t) Done) r at f.are in
     record { run = r; keeps = λ is. kept_since z.cpus f.before a.m a.more a.es (after (opening z) r.run.events) t n d a.run a.on a.known f.number f.keeps is }
 
 pub attached_keeps : AttachedKeeps

@@ -10,7 +10,7 @@ use Rattle.protocol.proofs.runs.State.{obeys_laws}
 use Rattle.protocol.proofs.model.Refining.{every_run_is_model_run}
 use Rattle.cpu_words.specs.declared.view.LogItem.{LogItem}
 use Rattle.cpu_words.specs.declared.view.View.{View}
-use Rattle.cpu_words.specs.Logs.{without_logs, AreByOwn}
+use Rattle.cpu_words.specs.Logs.{without_logs, untold, AreByOwn, AreToldBefore}
 use Rattle.cpu_words.specs.Rule.{Agrees, ShowsViews, Good, Ruled}
 use Rattle.cpu_words.specs.Headline.{RunsLawfully, RunningHeadline}
 
@@ -34,8 +34,9 @@ running_headline z s r = record {
   run = runs_lawfully z (without_logs s) r.run;
   acts = r.acts;
   are = r.are;
-  all = sym (length-map r.acts (λ (a : ℕ × LogItem). a.1)) ∙ ap (λ (ds : List LogItem). length ds) r.are ∙ r.run.reached.made;
+  all = sym (length-map r.acts (λ (a : ℕ × LogItem). untold a.1)) ∙ ap (λ (ds : List LogItem). length ds) r.are ∙ r.run.reached.made;
   owners = subst (λ (g : State). AreByOwn r.run.seat g.seated r.acts) r.run.reached.run r.owners;
   logs = r.logs;
   known = r.known;
+  told = subst (λ (g : State). AreToldBefore r.run.seat g.seated r.acts) r.run.reached.run r.told;
 }

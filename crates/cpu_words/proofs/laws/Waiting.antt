@@ -27,10 +27,10 @@ use Rattle.cpu_words.specs.Headline.{RunsAsLogged}
 use Rattle.cpu_words.specs.Waiting.{HasEndedOn, HaveEnded, WaitingEnds}
 use Rattle.cpu_words.proofs.shown.Seeing.{seen_of}
 use Rattle.cpu_words.proofs.laws.Safety.{running_headline}
-use Rattle.cpu_words.proofs.logs.Changes.{counted}
+use Rattle.cpu_words.proofs.logs.Changes.{counted, run_as_logged}
 use Rattle.cpu_words.proofs.logs.Runs.{Follows, after_append, follows, follows_after, follows_holds, cut}
 use Rattle.cpu_words.proofs.logs.Loads.{Same, Late, late_on, run_since, Placed, place, part_same, halve, starts_taken, starts_found}
-use Rattle.cpu_words.proofs.logs.Logs.{part_append}
+use Rattle.cpu_words.proofs.logs.Parts.{part_append}
 
 -- Waiting for one CPU
 
@@ -167,8 +167,7 @@ have_ended z s i l before since r at are waited =
     let known = (r.known i l at).0 in
     let mine : part 0 r.acts ≡ before ++ (since ++ known.0) = sym known.1 ∙ (ap (λ (d : List LogItem). d ++ known.0) are ∙ append_assoc before since known.0) in
     let h = halve 0 r.acts before (since ++ known.0) mine in
-    let made : length (log_of_events z run.events) ≡ length run.events = sym (ap (λ (d : List LogItem). length d) r.are) ∙ (length-map r.acts (λ (a : ℕ × LogItem). a.1) ∙ r.all) in
-    let whole : Follows (opening z) r.acts run.events g = follows (empty_run (opening z)) r.acts run.events r.are made in
+    let whole : Follows (opening z) r.acts run.events g = run_as_logged z s r in
     let k = cut (opening z) h.first h.second run.events g (subst (λ (l : List (ℕ × LogItem)). Follows (opening z) l run.events g) h.are whole) in
     let fit : IsTrue (are_fit z) = subst (λ (a : Settings). IsTrue (are_fit a)) run.settings run.good.holds.fit in
     let on : Holds k.between = follows_holds (opening z) h.first k.earlier k.between k.before (opening_holds z fit) in

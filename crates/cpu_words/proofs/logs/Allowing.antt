@@ -1,5 +1,5 @@
 -- What a step needs of the table's own steps, by what its seat may do.
-use Rattle.std.proofs.Common.{◌≡◌, ℕ, List, [], ◌++◌, refl, sym, subst}
+use Rattle.std.proofs.Common.{◌≡◌, ℕ, List, [], ◌++◌, None, refl, sym, subst}
 use Rattle.std.specs.Prelude.{slice_index}
 use Rattle.atomic_table.specs.Table.{Me, Step, Allows, keeps}
 use Rattle.registry_values.specs.declared.settings.Settings.{Settings}
@@ -10,10 +10,13 @@ use Rattle.cpu_words.specs.declared.view.LogItem.{LogItem}
 use Rattle.cpu_words.specs.declared.view.Logged.{Logged}
 use Rattle.cpu_words.specs.declared.view.View.TheVariants.{Keeper, Cpu, Reference}
 use Rattle.cpu_words.specs.Views.{cpu_of, keeper_of, reference_of}
-use Rattle.cpu_words.specs.KeeperLog.{IsShownAfter}
+use Rattle.protocol.specs.declared.event.Event.TheVariants.{Hear}
+use Rattle.protocol.specs.declared.event.Reply.TheVariants.{Done}
+use Rattle.cpu_words.specs.Rule.{did}
+use Rattle.cpu_words.specs.KeeperLog.{IsShownAfter, heard_from}
 use Rattle.cpu_words.specs.Steps.{CpuMay, KeeperMay, KeeperStores, ReferenceMay}
-use Rattle.cpu_words.specs.Logs.{the_keeper, the_cpu, another, AreBy, LoggedRuled, IsToldByCpu, IsToldByKeeper, IsToldByReference, heard_by_cpu, heard_by_keeper}
-use Rattle.cpu_words.proofs.logs.Logs.{logged_moves, logged_hears}
+use Rattle.cpu_words.specs.Logs.{the_keeper, the_cpu, another, AreBy, LoggedRuled, IsToldByCpu, IsToldByKeeper, IsToldByReference, heard_by_cpu, heard_by_keeper, hears_note}
+use Rattle.cpu_words.proofs.logs.Logs.{logged_moves, logged_hears, logged_heard}
 use Rattle.cpu_words.proofs.logs.OwnLog.{own_log, shown_after}
 
 pub allows_cpu : (z y : Settings) (x : CpuView) (slots id : ℕ) (me : Me ℕ Logged) (i : ℕ) (f : ℕ → ℕ) (does : CpuView → ℕ → List LogItem) (tells : CpuView → ℕ → CpuView → Type 0) (st : Step ℕ)
@@ -77,6 +80,19 @@ allows_hearing z y x slots id me i does tells st same view is own may =
         let d = logged_hears y (record l { view = Cpu u }) i (λ n. n) (does u) (λ n w. (w ≡ Cpu (cpu_of w)) × tells u n (cpu_of w)) tt own may s r id at fits in
         let after = l.log ++ does u (slice_index s.words i) in
         (record l { view = d.0; log = after; known_log = d.1 }, keeps, tt, d.2, ((λ k. (record l { view = d.3.0 k; log = after; known_log = d.1 }, [])), refl, d.3.1, d.4, subst (λ (ds : List LogItem). IsShownAfter ds (Cpu u)) (sym d.5) (shown_after y (Cpu u) l s r id at)))
+
+-- the keeper's load that hears a note
+pub allows_note_hearing : (z y : Settings) (x : KeeperView) (slots id : ℕ) (me : Me ℕ Logged) (i : ℕ) (tells : KeeperView → KeeperView → Type 0) (st : Step ℕ)
+    → z ≡ y → x ≡ keeper_of me.0.view → me ≡ (record me.0 { view = Keeper (keeper_of me.0.view) }, []) → KeeperMay z x i (λ n. n) (λ n. did (Hear None) Done) (λ k n l. tells k l) → Allows (LoggedRuled y) slots id me i (λ n. n) (hears_note tells st me)
+allows_note_hearing z y x slots id me i tells st same view is may =
+    subst (λ (m : Me ℕ Logged). Allows (LoggedRuled y) slots id m i (λ n. n) (hears_note tells st m)) (sym is)
+    (by (keeper_of me.0.view) me.0 (subst (λ (p : Settings × KeeperView). KeeperMay p.0 p.1 i (λ n. n) (λ n. did (Hear None) Done) (λ k n l. tells k l)) (λ k. (same k, view k)) may))
+  where
+    by : (u : KeeperView) (l : Logged) → KeeperMay y u i (λ n. n) (λ n. did (Hear None) Done) (λ k n l. tells k l) → Allows (LoggedRuled y) slots id (record l { view = Keeper u }, []) i (λ n. n) (hears_note tells st (record l { view = Keeper u }, []))
+    by u l may s r size at fits =
+        let d = logged_heard y (record l { view = Keeper u }) i (λ n. n) (λ n w. (w ≡ Keeper (keeper_of w)) × tells u (keeper_of w)) tt refl may s r id at fits in
+        let after = l.log ++ heard_from l.teller in
+        (record l { view = d.0; log = after }, keeps, tt, d.1, ((λ k. (record l { view = d.2.0 k; log = after }, [])), refl, d.2.1, own_log y u l s r id at))
 
 pub allows_keeper_hearing : (z y : Settings) (x : KeeperView) (slots id : ℕ) (me : Me ℕ Logged) (i : ℕ) (f : ℕ → ℕ) (does : KeeperView → ℕ → List LogItem) (tells : KeeperView → ℕ → KeeperView → Type 0) (st : Step ℕ)
     → z ≡ y → x ≡ keeper_of me.0.view → me ≡ (record me.0 { view = Keeper (keeper_of me.0.view) }, []) → ((n : ℕ) → AreBy the_keeper (does x n)) → KeeperMay z x i f (does x) tells → Allows (LoggedRuled y) slots id me i f (heard_by_keeper does tells st me)

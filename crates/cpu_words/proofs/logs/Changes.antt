@@ -1,6 +1,7 @@
 -- How many changes the keeper's log says there were: as many as the history has.
 use Rattle.std.proofs.Common.{◌≡◌, ◌≢◌, ⊎_elim, ℕ, suc, ◌+◌, ◌≤◌, Bool, true, false, cond, IsTrue, List, [], ◌∷◌, length, Option, Some, None, eq-eqb, ne_eqb, refl, sym, ap, ◌∙◌, subst, arith}
 use Rattle.std.proofs.lemmas.Bool.{cases_eq}
+use Rattle.std.proofs.lemmas.List.{length-map}
 use Rattle.std.proofs.lemmas.Option.{none-some, same_Some}
 use Rattle.atomic_table.specs.Table.{State as Table}
 use Rattle.registry_values.specs.declared.settings.Settings.{Settings}
@@ -23,10 +24,11 @@ use Rattle.protocol.proofs.keeps.Keeping.{step_holds}
 use Rattle.protocol.proofs.runs.Steps.{Sort, Refused, Left, Entered, Exited, Sought, Heard, Searched, Published, Unpublished, Kept, Gave_up, Vacated, step_sort}
 use Rattle.cpu_words.specs.declared.view.LogItem.{LogItem}
 use Rattle.cpu_words.specs.declared.view.Logged.{Logged}
-use Rattle.cpu_words.specs.Rule.{by_number}
+use Rattle.cpu_words.specs.Rule.{by_number, log_of_events}
 use Rattle.cpu_words.proofs.logs.Runs.{Follows, follows}
 use Rattle.cpu_words.specs.KeeperLog.{changes_of, changes_in}
-use Rattle.cpu_words.specs.Logs.{part, maker, IsSeatOf, AreByOwn, LoggedRuled}
+use Rattle.cpu_words.specs.Logs.{part, untold, maker, IsSeatOf, AreByOwn, LoggedRuled}
+use Rattle.cpu_words.specs.Headline.{RunsAsLogged}
 
 -- One event
 
@@ -126,7 +128,12 @@ counted seat n s (a ∷ more) (e ∷ es) t on holds own =
 
 -- the run of a table under the rule
 pub run_of : (z : Settings) (s : Table ℕ Logged) (r : LoggedRuled z s) → Follows (opening z) r.acts r.run.reached.events (after (opening z) r.run.reached.events)
-run_of z s r = follows (empty_run (opening z)) r.acts r.run.reached.events r.are r.run.reached.made
+run_of z s r = follows r.run.seat r.run.g.seated (empty_run (opening z)) r.acts r.run.reached.events r.told r.are r.run.reached.made
 
 pub fit_of : (z : Settings) (s : Table ℕ Logged) (r : LoggedRuled z s) → IsTrue (are_fit z)
 fit_of z s r = subst (λ (a : Settings). IsTrue (are_fit a)) r.run.settings r.run.good.holds.fit
+
+pub run_as_logged : (z : Settings) (s : Table ℕ Logged) (r : RunsAsLogged z s) → Follows (opening z) r.acts r.run.events (after (opening z) r.run.events)
+run_as_logged z s r =
+    let made : length (log_of_events z r.run.events) ≡ length r.run.events = sym (ap (λ (d : List LogItem). length d) r.are) ∙ (length-map r.acts (λ (a : ℕ × LogItem). untold a.1) ∙ r.all) in
+    follows r.run.seat (after (opening z) r.run.events).seated (empty_run (opening z)) r.acts r.run.events r.told r.are made

@@ -37,6 +37,7 @@ use Rattle.protocol.proofs.keeps.Unlinking.{within_live, within_retired}
 use Rattle.protocol.proofs.slots.Cells.{by_cell, cell_cases, cell_here, cell_in_old, cell_other, get_or_all}
 use Rattle.protocol.proofs.slots.Occupied.{is_retired_tells, slot_cases, slot_has}
 use Rattle.cpu_words.specs.declared.view.LogItem.{LogItem}
+use Rattle.cpu_words.specs.declared.view.Teller.{Teller}
 use Rattle.cpu_words.specs.Rule.{by_number, reply_without_id}
 use Rattle.cpu_words.specs.KeeperLog.{changes_of, changes_in, occupant_after, occupant_from, occupant, replied, word_after, word_from, word_collected, occupant_of, word_if, is_drawn, word_in, AreCountsOf}
 use Rattle.cpu_words.specs.Logs.{maker, IsSeatOf}
@@ -365,20 +366,20 @@ word_both t c x (d ∷ ds) b = word_both t c (word_after t c d.event d.reply x) 
 
 -- by the keeper's next item
 
-pub occupant_next : (t : ℕ) (log : List LogItem) (s : State) (e : Event) (r : Reply) → occupant t (log ++ item_of s e r ∷ []) ≡ occupant_after t (changes_in log) e (occupant t log)
-occupant_next t log s e r = occupant_last t log (item_of s e r) ∙ unnamed_occupant t (changes_in log) s e (occupant t log)
+pub occupant_next : (t : ℕ) (log : List LogItem) (s : State) (e : Event) (r : Reply) (h : Option Teller) → occupant t (log ++ item_of s e r h ∷ []) ≡ occupant_after t (changes_in log) e (occupant t log)
+occupant_next t log s e r h = occupant_last t log (item_of s e r h) ∙ unnamed_occupant t (changes_in log) s e (occupant t log)
 
-pub word_next : (t c : ℕ) (log : List LogItem) (s : State) (e : Event) (r : Reply) → word_collected t c (log ++ item_of s e r ∷ []) ≡ word_after t c e r (word_collected t c log)
-word_next t c log s e r = word_both t c None log (item_of s e r ∷ []) ∙ unnamed_word t c s e r (word_collected t c log)
+pub word_next : (t c : ℕ) (log : List LogItem) (s : State) (e : Event) (r : Reply) (h : Option Teller) → word_collected t c (log ++ item_of s e r h ∷ []) ≡ word_after t c e r (word_collected t c log)
+word_next t c log s e r h = word_both t c None log (item_of s e r h ∷ []) ∙ unnamed_word t c s e r (word_collected t c log)
 
 -- The walk
 
 -- the keeper's next item
-pub counts_own : (log : List LogItem) (s : State) (e : Event) (o : Outcome) → Holds s → step s e ≡ Some o → length s.history ≡ changes_in log → AreCountsOf log s → AreCountsOf (log ++ item_of s e o.reply ∷ []) o.state
-counts_own log s e o on made changes are =
+pub counts_own : (log : List LogItem) (s : State) (e : Event) (o : Outcome) (h : Option Teller) → Holds s → step s e ≡ Some o → length s.history ≡ changes_in log → AreCountsOf log s → AreCountsOf (log ++ item_of s e o.reply h ∷ []) o.state
+counts_own log s e o h on made changes are =
     let does : Counted s e (Some o) = subst (Counted s e) made (step_counted s e on) in record {
-      occupants = λ t. occupant_next t log s e o.reply ∙ ((λ k. occupant_after t (sym changes k) e (are.occupants t k)) ∙ sym (does.0 t));
-      words = λ t c. word_next t c log s e o.reply ∙ (ap (word_after t c e o.reply) (are.words t c) ∙ sym (does.1 t c));
+      occupants = λ t. occupant_next t log s e o.reply h ∙ ((λ k. occupant_after t (sym changes k) e (are.occupants t k)) ∙ sym (does.0 t));
+      words = λ t c. word_next t c log s e o.reply h ∙ (ap (word_after t c e o.reply) (are.words t c) ∙ sym (does.1 t c));
     }
 
 occupant_off : (seat : ℕ → ℕ) (n i u m : ℕ) (s : State) (e : Event) (x : Option ℕ) → IsSeatOf seat n i (maker (by_number s e)) → (i ≡ 0 → ⊥) → occupant_after u m e x ≡ x

@@ -14,6 +14,7 @@ use Rattle.protocol.proofs.keeps.ListKeeps.{may_write_tells}
 use Rattle.protocol.proofs.keeps.Searching.{within_some}
 use Rattle.protocol.proofs.runs.Steps.{Sort, Refused, Left, Entered, Exited, Sought, Heard, Searched, Published, Unpublished, Kept, Gave_up, Vacated, step_sort}
 use Rattle.cpu_words.specs.declared.view.LogItem.{LogItem}
+use Rattle.cpu_words.specs.declared.view.Teller.{Teller}
 use Rattle.cpu_words.specs.Rule.{number_or_none, by_number}
 use Rattle.cpu_words.specs.KeeperLog.{keeps_next, keeping_from, keeping}
 use Rattle.cpu_words.specs.Logs.{maker, IsSeatOf}
@@ -82,8 +83,8 @@ keeps_on t s e o on made = ap (λ (k : List (Option ℕ)). kept_at k t) (kept_le
 
 -- The keeper's next item, and one of another seat
 
-pub kept_own : (log : List LogItem) (s : State) (e : Event) (o : Outcome) → Holds s → step s e ≡ Some o → ((t : ℕ) → kept_at s.keeps t ≡ keeping t log) → (t : ℕ) → kept_at o.state.keeps t ≡ keeping t (log ++ item_of s e o.reply ∷ [])
-kept_own log s e o on made kept t = keeps_on t s e o on made ∙ (ap (keeps_next t (by_number s e)) (kept t) ∙ sym (keeping_both t None log (item_of s e o.reply ∷ [])))
+pub kept_own : (log : List LogItem) (s : State) (e : Event) (o : Outcome) (h : Option Teller) → Holds s → step s e ≡ Some o → ((t : ℕ) → kept_at s.keeps t ≡ keeping t log) → (t : ℕ) → kept_at o.state.keeps t ≡ keeping t (log ++ item_of s e o.reply h ∷ [])
+kept_own log s e o h on made kept t = keeps_on t s e o on made ∙ (ap (keeps_next t (by_number s e)) (kept t) ∙ sym (keeping_both t None log (item_of s e o.reply h ∷ [])))
 
 pub kept_off : (seat : ℕ → ℕ) (n i : ℕ) (s : State) (e : Event) (o : Outcome) → IsSeatOf seat n i (maker (by_number s e)) → i ≢ 0 → Holds s → step s e ≡ Some o → o.state.keeps ≡ s.keeps
 kept_off seat n i s (Keep t id) o is off on made = absurd (off is)

@@ -18,6 +18,7 @@ use Rattle.protocol.proofs.keeps.Unlinking.{within_retired}
 use Rattle.protocol.proofs.slots.Cells.{cell_cases, cell_other}
 use Rattle.protocol.proofs.slots.MarkRows.{mark_there}
 use Rattle.cpu_words.specs.declared.view.LogItem.{LogItem}
+use Rattle.cpu_words.specs.declared.view.Teller.{Teller}
 use Rattle.cpu_words.specs.Rule.{by_number}
 use Rattle.cpu_words.specs.KeeperLog.{changes_of, changes_in, AreCountsOf, AreTotalsOf, AreMarksOf, AreSlotsOf, keeping}
 use Rattle.cpu_words.specs.Logs.{maker, IsSeatOf}
@@ -97,22 +98,22 @@ first_taken s e n on due none = tt
 
 -- The walk
 
-known_own : (cpus : ℕ) (log : List LogItem) (s : State) (e : Event) (o : Outcome) → Holds s → step s e ≡ Some o → Known cpus log s → Known cpus (log ++ item_of s e o.reply ∷ []) o.state
-known_own cpus log s e o on made known =
+known_own : (cpus : ℕ) (log : List LogItem) (s : State) (e : Event) (o : Outcome) (h : Option Teller) → Holds s → step s e ≡ Some o → Known cpus log s → Known cpus (log ++ item_of s e o.reply h ∷ []) o.state
+known_own cpus log s e o h on made known =
     let dues : Dues s e (Some o) = subst (Dues s e) made (step_dues s e) in
     let marks : Marks s e (Some o) = subst (Marks s e) made (step_marks s e) in
     let grows : length o.state.history ≡ changes_of e (length s.history) = subst (Grows s e) made (step_grows s e on) in
-    let d : LogItem = item_of s e o.reply in
+    let d : LogItem = item_of s e o.reply h in
     let slots : AreSlotsOf s.settings.cpus log s.slots = subst (λ (n : ℕ). AreSlotsOf n log s.slots) (sym known.settings) known.slots in
     record {
       settings = ap (λ (z : Settings). z.cpus) dues.0 ∙ known.settings;
       changes = grows ∙ (ap (changes_of e) known.changes ∙ (sym (unnamed_changes s e (changes_in log)) ∙ sym (changes_last log d)));
-      marks = subst (AreMarksOf (log ++ d ∷ [])) (sym marks.0) (more_marks log s e o.reply marks.1 (first_taken s e o.state on dues.1 known.ahead) known.marks);
-      slots = subst (λ (n : ℕ). AreSlotsOf n (log ++ d ∷ []) o.state.slots) known.settings (slots_own log s e o on made known.changes known.marks slots);
-      kept = λ t. kept_own log s e o on made known.kept t;
+      marks = subst (AreMarksOf (log ++ d ∷ [])) (sym marks.0) (more_marks log s e o.reply h marks.1 (first_taken s e o.state on dues.1 known.ahead) known.marks);
+      slots = subst (λ (n : ℕ). AreSlotsOf n (log ++ d ∷ []) o.state.slots) known.settings (slots_own log s e o h on made known.changes known.marks slots);
+      kept = λ t. kept_own log s e o h on made known.kept t;
       ahead = subst (NoneAhead o.state.due) (sym marks.0) (ahead_after s e o.state dues.1 known.ahead);
-      counts = counts_own log s e o on made known.changes known.counts;
-      totals = totals_own log s e o on made (record { changes = known.changes; kept = known.kept; counts = known.counts; totals = known.totals });
+      counts = counts_own log s e o h on made known.changes known.counts;
+      totals = totals_own log s e o h on made (record { changes = known.changes; kept = known.kept; counts = known.counts; totals = known.totals });
     }
 
 changes_off : (seat : ℕ → ℕ) (n i : ℕ) (s : State) (e : Event) (m : ℕ) → IsSeatOf seat n i (maker (by_number s e)) → i ≢ 0 → changes_of e m ≡ m
@@ -146,7 +147,7 @@ known_off seat n cpus i log s e o is off on made known =
 
 pub known_stays : (seat : ℕ → ℕ) (n cpus : ℕ) → Stays seat n (Known cpus)
 known_stays seat n cpus = record {
-  own = λ log s e o on made known. known_own cpus log s e o on made known;
+  own = λ log s e o h on made known. known_own cpus log s e o h on made known;
   off = λ i log s e o is off on made known. known_off seat n cpus i log s e o is off on made known;
 }
 

@@ -212,13 +212,13 @@ loaded true s w o is = let same = sym (same_Some _ o is) in (ap (λ (p : Outcome
 loaded false s w o is = absurd (none-some o is)
 
 -- the state stays, and its word of c is the one found
-pub word_taken : (s : State) (e : Event) (o : Outcome) (c w : ℕ) → step s e ≡ Some o → has_taken c w ≡ item_of s e o.reply → (o.state ≡ s) × (section_at s c ≡ w)
+pub word_taken : (s : State) (e : Event) (o : Outcome) (c w : ℕ) → step s e ≡ Some o → has_taken c w ≡ item_of s e o.reply None → (o.state ≡ s) × (section_at s c ≡ w)
 word_taken s e o c w made is =
     let same : Snapshot None c ≡ e = same_event s e (Snapshot None c) (ap (λ (d : LogItem). d.event) is) refl in
     let p = loaded (may_glance s c) s (section_at s c) o (ap (step s) same ∙ made) in
     (p.0, sym (replied_word o.reply w (ap (λ (d : LogItem). d.reply) is) ∙ p.1))
 
-pub word_found : (s : State) (e : Event) (o : Outcome) (c w : ℕ) → step s e ≡ Some o → has_found c w ≡ item_of s e o.reply → (o.state ≡ s) × (section_at s c ≡ w)
+pub word_found : (s : State) (e : Event) (o : Outcome) (c w : ℕ) → step s e ≡ Some o → has_found c w ≡ item_of s e o.reply None → (o.state ≡ s) × (section_at s c ≡ w)
 word_found s e o c w made is =
     let same : Look None c ≡ e = same_event s e (Look None c) (ap (λ (d : LogItem). d.event) is) refl in
     let p = loaded (may_glance s c) s (section_at s c) o (ap (step s) same ∙ made) in

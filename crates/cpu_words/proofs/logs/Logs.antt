@@ -1,5 +1,5 @@
 -- Steps, cuts and joins over the table with logs.
-use Rattle.std.proofs.Common.{◌≡◌, ◌≢◌, ◌⊎◌, inl, inr, ⊎_elim, ℕ, zero, suc, ◌<◌, ◌≤◌, ◌==◌, Bool, true, false, cond, List, [], ◌∷◌, ◌++◌, map, length, set, length-set, length-append, eq-eqb, ne_eqb, refl, sym, ap, ◌∙◌, subst, append_assoc, arith}
+use Rattle.std.proofs.Common.{◌≡◌, ◌≢◌, ◌⊎◌, inl, inr, ⊎_elim, ℕ, zero, suc, ◌<◌, ◌≤◌, ◌==◌, Bool, true, false, cond, List, [], ◌∷◌, ◌++◌, map, length, Option, None, set, length-set, length-append, eq-eqb, ne_eqb, refl, sym, ap, ◌∙◌, subst, append_assoc, arith}
 use Rattle.std.proofs.lemmas.List.{map-set, append-nil, map-append}
 use Rattle.std.specs.Prelude.{slice_index}
 use mathlib.Core.Option.{some, some-injective, some-ne-none}
@@ -9,39 +9,21 @@ use Rattle.atomic_table.specs.Table.{State as Table, Splits, Joins, keeps, stepp
 use Rattle.atomic_table.proofs.Lists.{at_set, at_map}
 use Rattle.registry_values.specs.declared.settings.Settings.{Settings}
 use Rattle.cpu_words.specs.declared.view.LogItem.{LogItem}
+use Rattle.cpu_words.specs.declared.view.Teller.{Teller}
 use Rattle.cpu_words.specs.declared.view.Logged.{Logged}
 use Rattle.cpu_words.specs.declared.view.View.{View}
 use Rattle.cpu_words.specs.declared.view.View.TheVariants.{Keeper, Cpu, Reference, Note, Spent}
 use Rattle.cpu_words.specs.Views.{Shown}
-use Rattle.protocol.specs.State.{State}
-use Rattle.cpu_words.specs.Rule.{Sits, GoesOn, log_of_events}
+use Rattle.protocol.specs.declared.event.Event.TheVariants.{Hear}
+use Rattle.protocol.specs.declared.event.Reply.TheVariants.{Done}
+use Rattle.protocol.specs.State.{State, opening}
+use Rattle.protocol.specs.Run.{empty_run}
+use Rattle.cpu_words.specs.Rule.{Sits, Ruled, GoesOn, did, log_of_events}
 use Rattle.cpu_words.specs.Steps.{Moves, SplitsOn, JoinsOn}
-use Rattle.cpu_words.specs.Logs.{without_logs, part, IsStanding, Maker, the_keeper, the_cpu, another, maker, who, AreBy, IsSeatOf, AreByOwn, Knows, LoggedRuled}
-use Rattle.cpu_words.specs.KeeperLog.{KnownLogGrows}
-
--- what the seat i did more
-abbrev by_seat : ℕ → List LogItem → List (ℕ × LogItem)
-by_seat i ds = map (λ (d : LogItem). (i, d)) ds
-
-cond_append : (b : Bool) (d : LogItem) (x y : List LogItem) → cond b (d ∷ (x ++ y)) (x ++ y) ≡ cond b (d ∷ x) x ++ y
-cond_append true d x y = refl
-cond_append false d x y = refl
-
-pub part_append : (i : ℕ) (a b : List (ℕ × LogItem)) → part i (a ++ b) ≡ part i a ++ part i b
-part_append i [] b = refl
-part_append i (x ∷ xs) b = ap (λ (l : List LogItem). cond (x.0 == i) (x.1 ∷ l) l) (part_append i xs b) ∙ cond_append (x.0 == i) x.1 (part i xs) (part i b)
-
-part_own : (i : ℕ) (ds : List LogItem) → part i (by_seat i ds) ≡ ds
-part_own i [] = refl
-part_own i (d ∷ ds) = ap (λ (b : Bool). cond b (d ∷ part i (by_seat i ds)) (part i (by_seat i ds))) (eq-eqb i i refl) ∙ ap (λ (l : List LogItem). d ∷ l) (part_own i ds)
-
-part_other : (i j : ℕ) (ds : List LogItem) → j ≢ i → part j (by_seat i ds) ≡ []
-part_other i j [] ne = refl
-part_other i j (d ∷ ds) ne = ap (λ (b : Bool). cond b (d ∷ part j (by_seat i ds)) (part j (by_seat i ds))) (ne_eqb i j (λ same. ne (sym same))) ∙ part_other i j ds ne
-
-items_of_seat : (i : ℕ) (ds : List LogItem) → map (λ (a : ℕ × LogItem). a.1) (by_seat i ds) ≡ ds
-items_of_seat i [] = refl
-items_of_seat i (d ∷ ds) = ap (λ (l : List LogItem). d ∷ l) (items_of_seat i ds)
+use Rattle.cpu_words.specs.Logs.{without_logs, part, events_of, untold, IsStanding, Maker, the_keeper, the_cpu, another, maker, who, AreBy, IsSeatOf, AreByOwn, Knows, HasComeIf, AreToldBefore, spent_seat, LoggedRuled}
+use Rattle.cpu_words.proofs.logs.Parts.{by_seat, part_append, part_own, part_other, events_of_seat}
+use Rattle.cpu_words.proofs.logs.Told.{AreToldPast, come_more, come_seats, told_more, plain_of_end, plain_from, plain_past, heard_past}
+use Rattle.cpu_words.specs.KeeperLog.{KnownLogGrows, heard_from}
 
 at_within : (l : List Logged) (i : ℕ) (a : Logged) → get_elem? l i ≡ some a → i < length l
 at_within [] i a e = absurd (some-ne-none a (sym e))
@@ -101,37 +83,60 @@ keeper_sits seat i Spent is sits = absurd is
 abbrev pub MayTell : Logged → List LogItem → List LogItem → Type 0
 MayTell l ds known_log = (all : List LogItem) → IsPrefix l.known_log all → (IsKeeper l.view → l.log ++ ds ≡ all) → IsPrefix known_log all
 
+-- who may be named as the teller of what is cut off: one who has come so far, whatever was done, where the seat did this
+abbrev pub MayName : Logged → List LogItem → Option Teller → Type 0
+MayName l ds h = (g : State) (seat : ℕ → ℕ) (i : ℕ) (acts : List (ℕ × LogItem)) → Sits seat i l.view → Shown g l.view → l.log ++ ds ≡ part i acts → HasComeIf seat g.seated acts h
+
 -- A prefix of what the keeper did stays one as its log goes on
 
 pub prefix_more : (p l more : List LogItem) → IsPrefix p l → IsPrefix p (l ++ more)
 prefix_more p l more pre = (pre.0 ++ more, sym (append_assoc p pre.0 more) ∙ ap (λ (a : List LogItem). a ++ more) pre.1)
 
 -- what a run that goes on with log items of the seat id keeps
-record Went (z : Settings) (s : Table ℕ Logged) (r : LoggedRuled z s) (id : ℕ) (log ds : List LogItem) (t : Table ℕ View) (goes : GoesOn z (without_logs s) r.run ds t) : Type 0 where
+record Went (z : Settings) (s : Table ℕ Logged) (r : LoggedRuled z s) (id : ℕ) (log its ds : List LogItem) (t : Table ℕ View) (goes : GoesOn z (without_logs s) r.run ds t) : Type 0 where
   acts : List (ℕ × LogItem)
-  are : map (λ (a : ℕ × LogItem). a.1) acts ≡ log_of_events z goes.ruled.reached.events
+  are : events_of acts ≡ log_of_events z goes.ruled.reached.events
   owners : AreByOwn goes.ruled.seat goes.ruled.g.seated acts
-  mine : log ++ ds ≡ part id acts
+  mine : log ++ its ≡ part id acts
   others : (j : ℕ) (u : Logged) → j ≢ id → get_elem? s.views j ≡ some u → IsStanding u.view → u.log ≡ part j acts
   unseated : (j : ℕ) → length s.views ≤ j → part j acts ≡ []
   known : (d : List LogItem) → IsPrefix d (part 0 r.acts) → IsPrefix d (part 0 acts)
+  told : AreToldBefore goes.ruled.seat goes.ruled.g.seated acts
+  tellers : (h : Option Teller) → HasComeIf r.run.seat r.run.g.seated r.acts h → HasComeIf goes.ruled.seat goes.ruled.g.seated acts h
+  -- one who has come so far by what was done now
+  newer : (h : Option Teller) → HasComeIf r.run.seat r.run.g.seated acts h → HasComeIf goes.ruled.seat goes.ruled.g.seated acts h
 
-went : (z : Settings) (s : Table ℕ Logged) (r : LoggedRuled z s) (id : ℕ) (l : Logged) (ds : List LogItem) (t : Table ℕ View) (goes : GoesOn z (without_logs s) r.run ds t)
-    → get_elem? s.views id ≡ some l → IsStanding l.view → AreBy (who l.view) ds → Went z s r id l.log ds t goes
-went z s r id l ds t goes at stands by =
-    let its = r.run.shows.fits id l.view (at_map (λ (l : Logged). l.view) s.views id l at) in
-    let own : IsSeatOf goes.ruled.seat goes.ruled.g.seated id (who l.view) = seat_of_more r.run.seat goes.ruled.seat r.run.g.seated goes.ruled.g.seated id (who l.view) goes.seated goes.seats (own_seat r.run.g r.run.seat id l.view its.0 its.1) in
-    let longer : (j : ℕ) → j ≢ id → part j (r.acts ++ by_seat id ds) ≡ part j r.acts = λ j ne. part_append j r.acts (by_seat id ds) ∙ (ap (λ (l : List LogItem). part j r.acts ++ l) (part_other id j ds ne) ∙ append-nil (part j r.acts)) in
+-- the items of its log are the events, and where it heard a note they say who told that
+went : (z : Settings) (s : Table ℕ Logged) (r : LoggedRuled z s) (id : ℕ) (l : Logged) (its ds : List LogItem) (t : Table ℕ View) (goes : GoesOn z (without_logs s) r.run ds t)
+    → get_elem? s.views id ≡ some l → IsStanding l.view → AreBy (who l.view) its → map untold its ≡ ds → AreToldPast r.run.seat r.run.g.seated r.acts (by_seat id its) → Went z s r id l.log its ds t goes
+went z s r id l its ds t goes at stands by events told =
+    let sits = r.run.shows.fits id l.view (at_map (λ (l : Logged). l.view) s.views id l at) in
+    let own : IsSeatOf goes.ruled.seat goes.ruled.g.seated id (who l.view) = seat_of_more r.run.seat goes.ruled.seat r.run.g.seated goes.ruled.g.seated id (who l.view) goes.seated goes.seats (own_seat r.run.g r.run.seat id l.view sits.0 sits.1) in
+    let longer : (j : ℕ) → j ≢ id → part j (r.acts ++ by_seat id its) ≡ part j r.acts = λ j ne. part_append j r.acts (by_seat id its) ∙ (ap (λ (l : List LogItem). part j r.acts ++ l) (part_other id j its ne) ∙ append-nil (part j r.acts)) in
     record {
-      acts = r.acts ++ by_seat id ds;
-      are = map-append (λ (a : ℕ × LogItem). a.1) r.acts (by_seat id ds) ∙ ((λ k. r.are k ++ items_of_seat id ds k) ∙ sym goes.goes_on);
-      owners = by_own_append goes.ruled.seat goes.ruled.g.seated r.acts (by_seat id ds) (by_own_more r.run.seat goes.ruled.seat r.run.g.seated goes.ruled.g.seated r.acts goes.seated goes.seats r.owners)
-          (by_own_seat goes.ruled.seat goes.ruled.g.seated id (who l.view) ds own by);
-      mine = (λ k. r.logs id l at stands k ++ sym (part_own id ds) k) ∙ sym (part_append id r.acts (by_seat id ds));
+      acts = r.acts ++ by_seat id its;
+      are = map-append (λ (a : ℕ × LogItem). untold a.1) r.acts (by_seat id its) ∙ ((λ k. r.are k ++ (events_of_seat id its ∙ events) k) ∙ sym goes.goes_on);
+      owners = by_own_append goes.ruled.seat goes.ruled.g.seated r.acts (by_seat id its) (by_own_more r.run.seat goes.ruled.seat r.run.g.seated goes.ruled.g.seated r.acts goes.seated goes.seats r.owners)
+          (by_own_seat goes.ruled.seat goes.ruled.g.seated id (who l.view) its own by);
+      mine = (λ k. r.logs id l at stands k ++ sym (part_own id its) k) ∙ sym (part_append id r.acts (by_seat id its));
       others = λ j u ne there standing. r.logs j u there standing ∙ sym (longer j ne);
       unseated = λ j le. longer j (λ same. let lt = at_within s.views id l at in omega (arith, lt, same, le)) ∙ r.unseated j le;
-      known = λ d pre. subst (IsPrefix d) (sym (part_append 0 r.acts (by_seat id ds))) (prefix_more d (part 0 r.acts) (part 0 (by_seat id ds)) pre);
+      known = λ d pre. subst (IsPrefix d) (sym (part_append 0 r.acts (by_seat id its))) (prefix_more d (part 0 r.acts) (part 0 (by_seat id its)) pre);
+      told = told_more r.run.seat goes.ruled.seat r.run.g.seated goes.ruled.g.seated r.acts (by_seat id its) goes.seated goes.seats r.told told;
+      tellers = λ h come. come_more r.run.seat goes.ruled.seat r.run.g.seated goes.ruled.g.seated r.acts (by_seat id its) h goes.seated goes.seats come;
+      newer = λ h come. come_seats r.run.seat goes.ruled.seat r.run.g.seated goes.ruled.g.seated (r.acts ++ by_seat id its) h goes.seated goes.seats come;
     }
+
+-- the events of a run, and so the items by which no note was heard
+plain : (z : Settings) (s : Table ℕ View) (r : Ruled z s) (ds : List LogItem) (t : Table ℕ View) → GoesOn z s r ds t → map untold ds ≡ ds
+plain z s r ds t goes = plain_of_end (log_of_events z r.reached.events) ds
+    (subst (λ (l : List LogItem). map untold l ≡ l) goes.goes_on (plain_from (empty_run (opening z)) goes.ruled.reached.events))
+
+went_plainly : (z : Settings) (s : Table ℕ Logged) (r : LoggedRuled z s) (id : ℕ) (l : Logged) (ds : List LogItem) (t : Table ℕ View) (goes : GoesOn z (without_logs s) r.run ds t)
+    → get_elem? s.views id ≡ some l → IsStanding l.view → AreBy (who l.view) ds → Went z s r id l.log ds ds t goes
+went_plainly z s r id l ds t goes at stands by =
+    let none = plain z (without_logs s) r.run ds t goes in
+    went z s r id l ds ds t goes at stands by none (plain_past r.run.seat r.run.g.seated id ds r.acts none)
 
 -- A seat moves
 
@@ -140,15 +145,16 @@ abbrev moved_to : Logged → View → List LogItem → List LogItem → Logged
 moved_to l w ds d = record l { view = w; log = l.log ++ ds; known_log = d }
 
 -- the rule holds on, whatever prefix of the keeper's log the seat has heard then
-logged_goes : (z : Settings) (l : Logged) (i : ℕ) (n : ℕ) (ds : List LogItem) (w : View) (s : Table ℕ Logged) (r : LoggedRuled z s) (id : ℕ) → get_elem? s.views id ≡ some l → IsStanding l.view → AreBy (who l.view) ds
-    → GoesOn z (without_logs s) r.run ds (stepped (without_logs s) i n id [] w keeps) → (d : List LogItem) → IsPrefix d (part 0 r.acts) → LoggedRuled z (stepped s i n id [] (moved_to l w ds d) keeps)
-logged_goes z l i n ds w s r id at stands by goes_without_logs d known =
+logged_goes : (z : Settings) (l : Logged) (i : ℕ) (n : ℕ) (its ds : List LogItem) (w : View) (s : Table ℕ Logged) (r : LoggedRuled z s) (id : ℕ) → get_elem? s.views id ≡ some l → IsStanding l.view → AreBy (who l.view) its
+    → map untold its ≡ ds → AreToldPast r.run.seat r.run.g.seated r.acts (by_seat id its)
+    → GoesOn z (without_logs s) r.run ds (stepped (without_logs s) i n id [] w keeps) → (d : List LogItem) → IsPrefix d (part 0 r.acts) → LoggedRuled z (stepped s i n id [] (moved_to l w its d) keeps)
+logged_goes z l i n its ds w s r id at stands by events told goes_without_logs d known =
     let q = without_logs s in
-    let m : Logged = moved_to l w ds d in
+    let m : Logged = moved_to l w its d in
     let t : Table ℕ Logged = stepped s i n id [] m keeps in
     let same : stepped q i n id [] w keeps ≡ without_logs t = λ k. record { words = set s.words i n; homes = s.homes; views = sym (map-set (λ (x : Logged). x.view) s.views id m) k } in
     let goes : GoesOn z q r.run ds (without_logs t) = subst (GoesOn z q r.run ds) same goes_without_logs in
-    let on = went z s r id l ds (without_logs t) goes at stands by in record {
+    let on = went z s r id l its ds (without_logs t) goes at stands by events told in record {
       run = goes.ruled;
       acts = on.acts;
       are = on.are;
@@ -162,7 +168,18 @@ logged_goes z l i n ds w s r id at stands by goes_without_logs d known =
           (λ (x : (j ≡ id) × (m ≡ u)). subst (λ (y : Logged). Knows y (part 0 on.acts)) x.1 (on.known d known, on.known l.noted_log (r.known id l at).1))
           (λ (x : (j ≢ id) × (get_elem? s.views j ≡ some u)). let k = r.known j u x.1 in (on.known u.known_log k.0, on.known u.noted_log k.1))
           (at_set s.views id j m u there);
+      told = on.told;
+      tellers = λ j u there. ⊎_elim
+          (λ (x : (j ≡ id) × (m ≡ u)). subst (λ (y : Logged). HasComeIf goes.ruled.seat goes.ruled.g.seated on.acts y.teller) x.1 (on.tellers l.teller (r.tellers id l at)))
+          (λ (x : (j ≢ id) × (get_elem? s.views j ≡ some u)). on.tellers u.teller (r.tellers j u x.1))
+          (at_set s.views id j m u there);
     }
+
+goes_plainly : (z : Settings) (l : Logged) (i : ℕ) (n : ℕ) (ds : List LogItem) (w : View) (s : Table ℕ Logged) (r : LoggedRuled z s) (id : ℕ) → get_elem? s.views id ≡ some l → IsStanding l.view → AreBy (who l.view) ds
+    → GoesOn z (without_logs s) r.run ds (stepped (without_logs s) i n id [] w keeps) → (d : List LogItem) → IsPrefix d (part 0 r.acts) → LoggedRuled z (stepped s i n id [] (moved_to l w ds d) keeps)
+goes_plainly z l i n ds w s r id at stands by goes d known =
+    let none = plain z (without_logs s) r.run ds (stepped (without_logs s) i n id [] w keeps) goes in
+    logged_goes z l i n ds ds w s r id at stands by none (plain_past r.run.seat r.run.g.seated id ds r.acts none) goes d known
 
 -- what Moves says, of the table with logs
 abbrev pub LoggedMoves : Settings → Logged → ℕ → (ℕ → ℕ) → (ℕ → List LogItem) → (ℕ → View → Type 0) → Type 0
@@ -173,7 +190,7 @@ pub logged_moves : (z : Settings) (l : Logged) (i : ℕ) (f : ℕ → ℕ) (ds :
 logged_moves z l i f ds tells stands by moves s r id at fits =
     let word = slice_index s.words i in
     let done = moves (without_logs s) r.run id (at_map (λ (x : Logged). x.view) s.views id l at) fits in
-    (done.0, logged_goes z l i (f word) (ds word) done.0 s r id at stands (by word) done.1 l.known_log (r.known id l at).0, done.2)
+    (done.0, goes_plainly z l i (f word) (ds word) done.0 s r id at stands (by word) done.1 l.known_log (r.known id l at).0, done.2)
 
 -- the same of a load that hears: what the seat has heard then is all that the keeper did
 abbrev pub LoggedHears : Settings → Logged → ℕ → (ℕ → ℕ) → (ℕ → List LogItem) → (ℕ → View → Type 0) → Type 0
@@ -185,24 +202,31 @@ logged_hears z l i f ds tells stands by moves s r id at fits =
     let word = slice_index s.words i in
     let done = moves (without_logs s) r.run id (at_map (λ (x : Logged). x.view) s.views id l at) fits in
     let all = part 0 r.acts in
-    (done.0, all, logged_goes z l i (f word) (ds word) done.0 s r id at stands (by word) done.1 all ([], append-nil all), done.2, r.known id l at, refl)
+    (done.0, all, goes_plainly z l i (f word) (ds word) done.0 s r id at stands (by word) done.1 all ([], append-nil all), done.2, r.known id l at, refl)
+
+-- and of the keeper's load that hears a note: its log says who told that
+pub logged_heard : (z : Settings) (l : Logged) (i : ℕ) (f : ℕ → ℕ) (tells : ℕ → View → Type 0) → IsStanding l.view → who l.view ≡ the_keeper → Moves z l.view i f (λ _. did (Hear None) Done) tells → LoggedMoves z l i f (λ _. heard_from l.teller) tells
+logged_heard z l i f tells stands keeper moves s r id at fits =
+    let word = slice_index s.words i in
+    let done = moves (without_logs s) r.run id (at_map (λ (x : Logged). x.view) s.views id l at) fits in
+    (done.0, logged_goes z l i (f word) (heard_from l.teller) (did (Hear None) Done) done.0 s r id at stands (sym keeper, tt) refl (heard_past r.run.seat r.run.g.seated id l.teller r.acts (r.tellers id l at)) done.1 l.known_log (r.known id l at).0, done.2)
 
 -- A seat is cut in two, or takes in another
 
-pub logged_splits : (z : Settings) (i : ℕ) (l : Logged) (left right : View) (ds known_log : List LogItem) → IsStanding l.view → AreBy (who l.view) ds → MayTell l ds known_log → SplitsOn z i l.view left right ds
-    → Splits (LoggedRuled z) i l (record l { view = left; log = l.log ++ ds }) (record { view = right; log = []; known_log = known_log; noted_log = [] })
-logged_splits z i v left right ds known_log stands by may splits s r at =
+pub logged_splits : (z : Settings) (i : ℕ) (l : Logged) (left right : View) (ds known_log : List LogItem) (teller : Option Teller) → IsStanding l.view → AreBy (who l.view) ds → MayTell l ds known_log → MayName l ds teller → SplitsOn z i l.view left right ds
+    → Splits (LoggedRuled z) i l (record l { view = left; log = l.log ++ ds }) (record { view = right; log = []; known_log = known_log; noted_log = []; teller = teller })
+logged_splits z i v left right ds known_log teller stands by may named splits s r at =
     let q = without_logs s in
     let here : get_elem? q.views i ≡ some v.view = at_map (λ (l : Logged). l.view) s.views i v at in
     let l : Logged = record v { view = left; log = v.log ++ ds } in
-    let b : Logged = record { view = right; log = []; known_log = known_log; noted_log = [] } in
+    let b : Logged = record { view = right; log = []; known_log = known_log; noted_log = []; teller = teller } in
     let t : Table ℕ Logged = record { words = s.words; homes = s.homes; views = set s.views i l ++ b ∷ [] } in
     let views : set q.views i left ++ right ∷ [] ≡ (without_logs t).views = sym (map-append (λ (x : Logged). x.view) (set s.views i l) (b ∷ []) ∙ ap (λ (a : List View). a ++ right ∷ []) (map-set (λ (x : Logged). x.view) s.views i l)) in
     let goes : GoesOn z q r.run ds (without_logs t) = subst (λ (vs : List View). GoesOn z q r.run ds (record { words = s.words; homes = s.homes; views = vs })) views (splits q r.run here) in
-    let on = went z s r i v ds (without_logs t) goes at stands by in
+    let on = went_plainly z s r i v ds (without_logs t) goes at stands by in
     let size : length (set s.views i l) ≡ length s.views = length-set s.views i l in
-    let its = (r.run.shows.fits i v.view here).0 in
-    let whole : IsKeeper v.view → v.log ++ ds ≡ part 0 on.acts = λ keeper. on.mine ∙ ap (λ (m : ℕ). part m on.acts) (keeper_sits r.run.seat i v.view keeper its) in
+    let its = r.run.shows.fits i v.view here in
+    let whole : IsKeeper v.view → v.log ++ ds ≡ part 0 on.acts = λ keeper. on.mine ∙ ap (λ (m : ℕ). part m on.acts) (keeper_sits r.run.seat i v.view keeper its.0) in
     let told : IsPrefix known_log (part 0 on.acts) = may (part 0 on.acts) (on.known v.known_log (r.known i v at).0) whole in
     record {
       run = goes.ruled;
@@ -224,31 +248,47 @@ logged_splits z i v left right ds known_log stands by may splits s r at =
           (at_set s.views i j l u was))
           (λ (x : (j ≡ length (set s.views i l)) × (b ≡ u)). subst (λ (y : Logged). Knows y (part 0 on.acts)) x.1 (told, (part 0 on.acts, refl)))
           (at_end (set s.views i l) b u j there);
+      told = on.told;
+      tellers = λ j u there. ⊎_elim
+          (λ (was : get_elem? (set s.views i l) j ≡ some u). ⊎_elim
+          (λ (x : (j ≡ i) × (l ≡ u)). subst (λ (y : Logged). HasComeIf goes.ruled.seat goes.ruled.g.seated on.acts y.teller) x.1 (on.tellers v.teller (r.tellers i v at)))
+          (λ (x : (j ≢ i) × (get_elem? s.views j ≡ some u)). on.tellers u.teller (r.tellers j u x.1))
+          (at_set s.views i j l u was))
+          (λ (x : (j ≡ length (set s.views i l)) × (b ≡ u)). subst (λ (y : Logged). HasComeIf goes.ruled.seat goes.ruled.g.seated on.acts y.teller) x.1
+          (on.newer teller (named r.run.g r.run.seat i on.acts its.0 its.1 on.mine)))
+          (at_end (set s.views i l) b u j there);
     }
 
--- what lies beside the view after is what lay there, or what the other has heard
-pub logged_joins : (z : Settings) (i : ℕ) (l : Logged) (o : ℕ) (m : Logged) (both : View) (ds noted_log : List LogItem) → IsStanding l.view → AreBy (who l.view) ds → (noted_log ≡ l.noted_log) ⊎ (noted_log ≡ m.known_log) → JoinsOn z i l.view o m.view both Spent ds
-    → Joins (LoggedRuled z) i l o m (record l { view = both; log = l.log ++ ds; noted_log = noted_log }) (record { view = Spent; log = []; known_log = []; noted_log = [] })
-logged_joins z i v o w both ds noted_log stands by lies joins s r at apart there =
+-- what lies beside the view after is what lay there, or what the other has heard and who told it
+abbrev pub LiesBeside : Logged → Logged → List LogItem → Option Teller → Type 0
+LiesBeside l m noted_log teller = ((noted_log ≡ l.noted_log) × (teller ≡ l.teller)) ⊎ ((noted_log ≡ m.known_log) × (teller ≡ m.teller))
+
+pub logged_joins : (z : Settings) (i : ℕ) (l : Logged) (o : ℕ) (m : Logged) (both : View) (ds noted_log : List LogItem) (teller : Option Teller) → IsStanding l.view → AreBy (who l.view) ds → LiesBeside l m noted_log teller → JoinsOn z i l.view o m.view both Spent ds
+    → Joins (LoggedRuled z) i l o m (record l { view = both; log = l.log ++ ds; noted_log = noted_log; teller = teller }) spent_seat
+logged_joins z i v o w both ds noted_log teller stands by lies joins s r at apart there =
     let q = without_logs s in
     let f = λ (x : Logged). x.view in
     let here : get_elem? q.views i ≡ some v.view = at_map f s.views i v at in
-    let l : Logged = record v { view = both; log = v.log ++ ds; noted_log = noted_log } in
-    let b : Logged = record { view = Spent; log = []; known_log = []; noted_log = [] } in
+    let l : Logged = record v { view = both; log = v.log ++ ds; noted_log = noted_log; teller = teller } in
+    let b : Logged = spent_seat in
     let once : map f (set s.views i l) ≡ set q.views i both = map-set f s.views i l in
     let also : get_elem? (set q.views i both) o ≡ some w.view = subst (λ (vs : List View). get_elem? vs o ≡ some w.view) once (at_map f (set s.views i l) o w there) in
     let t : Table ℕ Logged = record { words = s.words; homes = s.homes; views = set (set s.views i l) o b } in
     let views : set (set q.views i both) o Spent ≡ (without_logs t).views = sym (map-set f (set s.views i l) o b ∙ ap (λ (a : List View). set a o Spent) once) in
     let goes : GoesOn z q r.run ds (without_logs t) = subst (λ (vs : List View). GoesOn z q r.run ds (record { words = s.words; homes = s.homes; views = vs })) views (joins q r.run here apart also) in
-    let on = went z s r i v ds (without_logs t) goes at stands by in
+    let on = went_plainly z s r i v ds (without_logs t) goes at stands by in
     let mine = r.known i v at in
-    let other : IsPrefix w.known_log (part 0 r.acts) = ⊎_elim
+    let was : get_elem? s.views o ≡ some w = ⊎_elim
     (λ (x : (o ≡ i) × (l ≡ w)). absurd (apart x.0))
-    (λ (x : (o ≢ i) × (get_elem? s.views o ≡ some w)). (r.known o w x.1).0)
+    (λ (x : (o ≢ i) × (get_elem? s.views o ≡ some w)). x.1)
     (at_set s.views i o l w there) in
     let beside : IsPrefix noted_log (part 0 r.acts) = ⊎_elim
-    (λ (x : noted_log ≡ v.noted_log). subst (λ (d : List LogItem). IsPrefix d (part 0 r.acts)) (sym x) mine.1)
-    (λ (x : noted_log ≡ w.known_log). subst (λ (d : List LogItem). IsPrefix d (part 0 r.acts)) (sym x) other)
+    (λ (x : (noted_log ≡ v.noted_log) × (teller ≡ v.teller)). subst (λ (d : List LogItem). IsPrefix d (part 0 r.acts)) (sym x.0) mine.1)
+    (λ (x : (noted_log ≡ w.known_log) × (teller ≡ w.teller)). subst (λ (d : List LogItem). IsPrefix d (part 0 r.acts)) (sym x.0) (r.known o w was).0)
+    lies in
+    let come : HasComeIf r.run.seat r.run.g.seated r.acts teller = ⊎_elim
+    (λ (x : (noted_log ≡ v.noted_log) × (teller ≡ v.teller)). subst (HasComeIf r.run.seat r.run.g.seated r.acts) (sym x.1) (r.tellers i v at))
+    (λ (x : (noted_log ≡ w.known_log) × (teller ≡ w.teller)). subst (HasComeIf r.run.seat r.run.g.seated r.acts) (sym x.1) (r.tellers o w was))
     lies in
     record {
       run = goes.ruled;
@@ -270,11 +310,19 @@ logged_joins z i v o w both ds noted_log stands by lies joins s r at apart there
           (λ (y : (j ≢ i) × (get_elem? s.views j ≡ some u)). let k = r.known j u y.1 in (on.known u.known_log k.0, on.known u.noted_log k.1))
           (at_set s.views i j l u x.1))
           (at_set (set s.views i l) o j b u now);
+      told = on.told;
+      tellers = λ j u now. ⊎_elim
+          (λ (x : (j ≡ o) × (b ≡ u)). subst (λ (y : Logged). HasComeIf goes.ruled.seat goes.ruled.g.seated on.acts y.teller) x.1 tt)
+          (λ (x : (j ≢ o) × (get_elem? (set s.views i l) j ≡ some u)). ⊎_elim
+          (λ (y : (j ≡ i) × (l ≡ u)). subst (λ (a : Logged). HasComeIf goes.ruled.seat goes.ruled.g.seated on.acts a.teller) y.1 (on.tellers teller come))
+          (λ (y : (j ≢ i) × (get_elem? s.views j ≡ some u)). on.tellers u.teller (r.tellers j u y.1))
+          (at_set s.views i j l u x.1))
+          (at_set (set s.views i l) o j b u now);
     }
 
 -- nothing is done: the log stays
-pub logged_joins_same : (z : Settings) (i : ℕ) (l : Logged) (o : ℕ) (m : Logged) (both : View) (noted_log : List LogItem) → IsStanding l.view → (noted_log ≡ l.noted_log) ⊎ (noted_log ≡ m.known_log) → JoinsOn z i l.view o m.view both Spent []
-    → Joins (LoggedRuled z) i l o m (record l { view = both; noted_log = noted_log }) (record { view = Spent; log = []; known_log = []; noted_log = [] })
-logged_joins_same z i v o w both noted_log stands lies joins =
-    subst (λ (log : List LogItem). Joins (LoggedRuled z) i v o w (record v { view = both; log = log; noted_log = noted_log }) (record { view = Spent; log = []; known_log = []; noted_log = [] })) (append-nil v.log)
-    (logged_joins z i v o w both [] noted_log stands tt lies joins)
+pub logged_joins_same : (z : Settings) (i : ℕ) (l : Logged) (o : ℕ) (m : Logged) (both : View) (noted_log : List LogItem) (teller : Option Teller) → IsStanding l.view → LiesBeside l m noted_log teller → JoinsOn z i l.view o m.view both Spent []
+    → Joins (LoggedRuled z) i l o m (record l { view = both; noted_log = noted_log; teller = teller }) spent_seat
+logged_joins_same z i v o w both noted_log teller stands lies joins =
+    subst (λ (log : List LogItem). Joins (LoggedRuled z) i v o w (record v { view = both; log = log; noted_log = noted_log; teller = teller }) spent_seat) (append-nil v.log)
+    (logged_joins z i v o w both [] noted_log teller stands tt lies joins)

@@ -29,6 +29,7 @@ use Rattle.protocol.specs.Events
 use Rattle.protocol.specs.Events.{Outcome, guard, some_outcome, with_some, step, snapshot_mark, entry_of}
 use Rattle.protocol.proofs.slots.Cells.{cell_cases, cell_in_new, cell_in_old, get_or_all}
 use Rattle.cpu_words.specs.declared.view.LogItem.{LogItem}
+use Rattle.cpu_words.specs.declared.view.Teller.{Teller}
 use Rattle.cpu_words.specs.Rule.{by_number}
 use Rattle.cpu_words.specs.KeeperLog.{has_snapped, has_looked, is_detach_from, KeepsEntry, IsSnapped, HasPassedOn, AreMarksOf}
 use Rattle.cpu_words.specs.Logs.{maker, IsSeatOf}
@@ -259,10 +260,10 @@ fresh marks t c = ⊎_elim
     (λ (ge : length marks ≤ t). ap (λ (m : List (List Mark)). mark_at m t c) (set_past marks t (replicate MOST_CPUS no_mark) ge) ∙ ap (λ (r : List Mark). get_or r c no_mark) (get_or_past marks t [] ge))
     (cases_lt t (length marks))
 
-detach_marks : (log : List LogItem) (marks : List (List Mark)) (t : ℕ) (r : Reply) → AreMarksOf log marks → AreMarksOf (log ++ item_as (Unpublish t) r ∷ []) (set marks t (replicate MOST_CPUS no_mark))
+detach_marks : (log : List LogItem) (marks : List (List Mark)) (t : ℕ) (r : Reply) → AreMarksOf log marks → AreMarksOf (log ++ item_as (Unpublish t) r None ∷ []) (set marks t (replicate MOST_CPUS no_mark))
 detach_marks log marks t r are =
     let new = set marks t (replicate MOST_CPUS no_mark) in
-    let d = item_as (Unpublish t) r in record {
+    let d = item_as (Unpublish t) r None in record {
       snapped = λ u c w is. ⊎_elim
           (λ (same : u ≡ t). let p : mark_at new u c ≡ no_mark = ap (λ (k : ℕ). mark_at new k c) same ∙ fresh marks t c in absurd (none-some w (sym (ap (λ (m : Mark). m.snapshot) p) ∙ is)))
           (λ (off : u ≡ t → ⊥). snapped_more u c w log d (ne_eqb t u (λ (e : t ≡ u). off (sym e))) (are.snapped u c w (sym (ap (λ (m : Mark). m.snapshot) (cell_in_old no_mark marks t (replicate MOST_CPUS no_mark) u c off)) ∙ is)))
@@ -363,15 +364,15 @@ IsFirst s (Snapshot (Some t) c) = ((mark_at s.marks t c).snapshot ≡ None) × (
 IsFirst s e = Unit {0}
 
 -- the keeper's next item
-pub more_marks : (log : List LogItem) (s : State) (e : Event) (r : Reply) → HasReply s e r → IsFirst s e → AreMarksOf log s.marks → AreMarksOf (log ++ item_of s e r ∷ []) (marks_after s e)
-more_marks log s (Unpublish t) r is first are = detach_marks log s.marks t r are
-more_marks log s (Snapshot None c) r is first are = other_marks log s.marks (item_as (Snapshot None c) r) (λ t. refl) refl are
-more_marks log s (Snapshot (Some t) c) r is first are = subst (λ (q : Reply). AreMarksOf (log ++ item_as (Snapshot (Some t) c) q ∷ []) (marks_after s (Snapshot (Some t) c))) (sym is) (snapshot_marks log s.marks t c (section_at s c) first.0 first.1 are)
-more_marks log s (Look None c) r is first are = other_marks log s.marks (item_as (Look None c) r) (λ t. refl) refl are
-more_marks log s (Look (Some t) c) r is first are = subst (λ (q : Reply). AreMarksOf (log ++ item_as (Look (Some t) c) q ∷ []) (marks_after s (Look (Some t) c))) (sym is) (look_marks log s.marks t c (section_at s c) are)
-more_marks log s (PassiveLook t c) r is first are = cell_marks log s.marks t c _ (item_as (PassiveLook t c) r) (λ u. refl) refl refl (λ was. passed_more t c log (item_as (PassiveLook t c) r) refl (are.passed t c was)) are
-more_marks log s (Collect t c) r is first are = cell_marks log s.marks t c _ (item_as (Collect t c) r) (λ u. refl) refl refl (λ was. passed_more t c log (item_as (Collect t c) r) refl (are.passed t c was)) are
-more_marks log s e r is first are = other_marks log s.marks (item_of s e r) (λ t. refl) refl are
+pub more_marks : (log : List LogItem) (s : State) (e : Event) (r : Reply) (h : Option Teller) → HasReply s e r → IsFirst s e → AreMarksOf log s.marks → AreMarksOf (log ++ item_of s e r h ∷ []) (marks_after s e)
+more_marks log s (Unpublish t) r h is first are = detach_marks log s.marks t r are
+more_marks log s (Snapshot None c) r h is first are = other_marks log s.marks (item_as (Snapshot None c) r None) (λ t. refl) refl are
+more_marks log s (Snapshot (Some t) c) r h is first are = subst (λ (q : Reply). AreMarksOf (log ++ item_as (Snapshot (Some t) c) q None ∷ []) (marks_after s (Snapshot (Some t) c))) (sym is) (snapshot_marks log s.marks t c (section_at s c) first.0 first.1 are)
+more_marks log s (Look None c) r h is first are = other_marks log s.marks (item_as (Look None c) r None) (λ t. refl) refl are
+more_marks log s (Look (Some t) c) r h is first are = subst (λ (q : Reply). AreMarksOf (log ++ item_as (Look (Some t) c) q None ∷ []) (marks_after s (Look (Some t) c))) (sym is) (look_marks log s.marks t c (section_at s c) are)
+more_marks log s (PassiveLook t c) r h is first are = cell_marks log s.marks t c _ (item_as (PassiveLook t c) r None) (λ u. refl) refl refl (λ was. passed_more t c log (item_as (PassiveLook t c) r None) refl (are.passed t c was)) are
+more_marks log s (Collect t c) r h is first are = cell_marks log s.marks t c _ (item_as (Collect t c) r None) (λ u. refl) refl refl (λ was. passed_more t c log (item_as (Collect t c) r None) refl (are.passed t c was)) are
+more_marks log s e r h is first are = other_marks log s.marks (item_of s e r h) (λ t. refl) refl are
 
 -- The opening
 

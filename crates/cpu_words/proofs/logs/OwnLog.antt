@@ -24,6 +24,7 @@ use Rattle.cpu_words.specs.declared.view.KeeperView.{KeeperView}
 use Rattle.cpu_words.specs.declared.view.Logged.{Logged}
 use Rattle.cpu_words.specs.declared.view.View.{View}
 use Rattle.cpu_words.specs.declared.view.View.TheVariants.{Keeper, Cpu}
+use Rattle.cpu_words.specs.Rule.{log_item}
 use Rattle.cpu_words.specs.KeeperLog.{changes_in, AreMarksOf, AreSlotsOf, FindsWord, WordsGrow, IsFreedFrom, IsAttachedKeeping, IsShownAfter, IsOwnLog, keeping}
 use Rattle.cpu_words.specs.Logs.{part, LoggedRuled}
 use Rattle.cpu_words.specs.Notes.{with_note, keeper_with_note}
@@ -36,15 +37,15 @@ use Rattle.cpu_words.proofs.logs.Runs.{item_of, Follows, follows_holds, cut}
 
 -- Words grow
 
-found_word : (s : State) (e : Event) (o : Outcome) (c w : ℕ) (d : LogItem) → step s e ≡ Some o → d ≡ item_of s e o.reply → FindsWord c w d → section_at s c ≡ w
+found_word : (s : State) (e : Event) (o : Outcome) (c w : ℕ) (d : LogItem) → step s e ≡ Some o → d ≡ item_of s e o.reply d.teller → FindsWord c w d → section_at s c ≡ w
 found_word s e o c w d made is finds =
     let answers : HasReply s e o.reply = (subst (Marks s e) made (step_marks s e)).1 in
     ⊎_elim
-    (λ (p : d ≡ record { event = Snapshot finds.0 c; reply = Word w }).
+    (λ (p : d ≡ log_item (Snapshot finds.0 c) (Word w)).
     let event : Snapshot finds.0 c ≡ e = same_event s e (Snapshot finds.0 c) (ap (λ (x : LogItem). x.event) (sym p ∙ is)) refl in
     let reply : o.reply ≡ Word (section_at s c) = subst (λ (x : Event). HasReply s x o.reply) (sym event) answers in
     sym (replied_word o.reply w (ap (λ (x : LogItem). x.reply) (sym p ∙ is)) ∙ ap word_of reply))
-    (λ (p : d ≡ record { event = Look finds.0 c; reply = Word w }).
+    (λ (p : d ≡ log_item (Look finds.0 c) (Word w)).
     let event : Look finds.0 c ≡ e = same_event s e (Look finds.0 c) (ap (λ (x : LogItem). x.event) (sym p ∙ is)) refl in
     let reply : o.reply ≡ Word (section_at s c) = subst (λ (x : Event). HasReply s x o.reply) (sym event) answers in
     sym (replied_word o.reply w (ap (λ (x : LogItem). x.reply) (sym p ∙ is)) ∙ ap word_of reply))
@@ -125,5 +126,5 @@ pub freed_by : (t : ℕ) (log note : List LogItem) (k : KeeperView) (e : Entry) 
 freed_by t log note k e d more later own at freed are = record { before = log; item = d; after = more; are = are; detached = own.slots.retired t e at; freed = freed }
 
 -- an attach in a slot that keeps a driver
-pub attached_by : (t : ℕ) (log note : List LogItem) (k : KeeperView) (d : ℕ) (later : List LogItem) → IsOwnLog log note k → kept_at k.keeps t ≡ Some d → later ≡ log ++ record { event = Publish t; reply = Done } ∷ [] → IsAttachedKeeping t (suc (length k.history)) d later
+pub attached_by : (t : ℕ) (log note : List LogItem) (k : KeeperView) (d : ℕ) (later : List LogItem) → IsOwnLog log note k → kept_at k.keeps t ≡ Some d → later ≡ log ++ log_item (Publish t) Done ∷ [] → IsAttachedKeeping t (suc (length k.history)) d later
 attached_by t log note k d later own keeps are = record { before = log; after = []; are = are; number = ap suc own.changes; keeps = sym (own.kept t) ∙ keeps }

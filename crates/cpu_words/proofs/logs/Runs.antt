@@ -1,5 +1,5 @@
 -- A run whose events were all made, each beside the act that it is: how it is cut in two, and what its state is.
-use Rattle.std.proofs.Common.{◌≡◌, ℕ, suc, ◌≤◌, List, [], ◌∷◌, ◌++◌, map, length, Option, Some, None, refl, sym, ap, ◌∙◌, subst, arith}
+use Rattle.std.proofs.Common.{◌≡◌, ℕ, suc, ◌≤◌, List, [], ◌∷◌, ◌++◌, map, length, Option, Some, None, refl, sym, ap, ◌∙◌, subst, append_assoc, arith}
 use Rattle.protocol.specs.declared.event.Event.{Event}
 use Rattle.protocol.specs.declared.event.Reply.{Reply}
 use Rattle.protocol.specs.State.{State}
@@ -10,22 +10,24 @@ use Rattle.protocol.specs.Laws.{after, after_event}
 use Rattle.protocol.proofs.keeps.Keeping.{step_holds}
 use Rattle.protocol.proofs.runs.Steps.{after_more}
 use Rattle.cpu_words.specs.declared.view.LogItem.{LogItem}
-use Rattle.cpu_words.specs.Rule.{by_number, reply_without_id, log_with, log_from}
+use Rattle.cpu_words.specs.declared.view.Teller.{Teller}
+use Rattle.cpu_words.specs.Rule.{by_number, reply_without_id, log_item, log_with, log_from}
+use Rattle.cpu_words.specs.Logs.{events_of, untold, teller_if, AreToldBefore}
 
--- an event as its seat knows it
-abbrev pub item_as : Event → Reply → LogItem
-item_as e r = record { event = e; reply = reply_without_id r }
+-- an event as its seat knows it; where the keeper heard a note, h told that
+abbrev pub item_as : Event → Reply → Option Teller → LogItem
+item_as e r h = record { event = e; reply = reply_without_id r; teller = teller_if e h }
 
 -- an event that is made in the state s
-abbrev pub item_of : State → Event → Reply → LogItem
-item_of s e r = item_as (by_number s e) r
+abbrev pub item_of : State → Event → Reply → Option Teller → LogItem
+item_of s e r h = item_as (by_number s e) r h
 
 -- from s the events lead to t, each made, and each is its act's
 abbrev pub Follows : State → List (ℕ × LogItem) → List Event → State → Type 0
 Follows s [] [] t = t ≡ s
 Follows s [] (e ∷ es) t = ⊥
 Follows s (a ∷ more) [] t = ⊥
-Follows s (a ∷ more) (e ∷ es) t = (o : Outcome) × (step s e ≡ Some o) × (a.1 ≡ item_of s e o.reply) × Follows o.state more es t
+Follows s (a ∷ more) (e ∷ es) t = (o : Outcome) × (step s e ≡ Some o) × (a.1 ≡ item_of s e o.reply a.1.teller) × Follows o.state more es t
 
 abbrev first_of : LogItem → List LogItem → LogItem
 first_of d [] = d
@@ -51,23 +53,48 @@ few : (r : Run) (es : List Event) → length (log_from r es) ≤ length es
 few r [] = omega arith
 few r (e ∷ es) = few_noted r.state e (step r.state e) (log_from (run_with_event r (step r.state e)) es) (length es) (few (run_with_event r (step r.state e)) es)
 
-follow : (r : Run) (acts : List (ℕ × LogItem)) (e : Event) (es : List Event) (o : Option Outcome) → step r.state e ≡ o
-    → map (λ (a : ℕ × LogItem). a.1) acts ≡ log_with r.state e o (log_from (run_with_event r o) es) → length (log_with r.state e o (log_from (run_with_event r o) es)) ≡ suc (length es)
-    → ((more : List (ℕ × LogItem)) → map (λ (a : ℕ × LogItem). a.1) more ≡ log_from (run_with_event r o) es → length (log_from (run_with_event r o) es) ≡ length es → Follows (run_with_event r o).state more es (run_of_events (run_with_event r o) es).state)
-    → Follows r.state acts (e ∷ es) (run_of_events (run_with_event r o) es).state
-follow r acts e es None is are all on = absurd (let le = few (run_with_event r None) es in omega (arith, le, all))
-follow r [] e es (Some o) is are all on = absurd (let size : 0 ≡ suc (length (log_from (run_with_event r (Some o)) es)) = ap (λ (l : List LogItem). length l) are in omega arith)
-follow r (a ∷ more) e es (Some o) is are all on = (
-  o,
-  is,
-  same_first a.1 (item_of r.state e o.reply) (map (λ (x : ℕ × LogItem). x.1) more) (log_from (run_with_event r (Some o)) es) are,
-  on more (same_rest a.1 (item_of r.state e o.reply) (map (λ (x : ℕ × LogItem). x.1) more) (log_from (run_with_event r (Some o)) es) are) (omega arith),
+-- only a Hear of the keeper's has a teller
+abbrev pub NamesTellers : List (ℕ × LogItem) → Type 0
+NamesTellers [] = Unit {0}
+NamesTellers (a ∷ more) = (a.1.teller ≡ teller_if a.1.event a.1.teller) × NamesTellers more
+
+pub names_tellers : (seat : ℕ → ℕ) (n : ℕ) (first acts : List (ℕ × LogItem)) → AreToldBefore seat n (first ++ acts) → NamesTellers acts
+names_tellers seat n first [] told = tt
+names_tellers seat n first (a ∷ more) told = (
+  (told a.0 a.1 first more refl).only,
+  names_tellers seat n (first ++ a ∷ []) more (subst (AreToldBefore seat n) (sym (append_assoc first (a ∷ []) more)) told),
 )
 
-pub follows : (r : Run) (acts : List (ℕ × LogItem)) (es : List Event) → map (λ (a : ℕ × LogItem). a.1) acts ≡ log_from r es → length (log_from r es) ≡ length es → Follows r.state acts es (run_of_events r es).state
-follows r [] [] are all = refl
-follows r (a ∷ more) [] are all = absurd (let size : suc (length (map (λ (x : ℕ × LogItem). x.1) more)) ≡ 0 = ap (λ (l : List LogItem). length l) are in omega arith)
-follows r acts (e ∷ es) are all = follow r acts e es (step r.state e) refl are all (λ more same size. follows (run_with_event r (step r.state e)) more es same size)
+-- the item is that of the event, with its own teller
+named : (s : State) (e : Event) (r : Reply) (d : LogItem) → untold d ≡ log_item (by_number s e) (reply_without_id r) → d.teller ≡ teller_if d.event d.teller → d ≡ item_of s e r d.teller
+named s e r d is only =
+    let event : d.event ≡ by_number s e = ap (λ (x : LogItem). x.event) is in
+    let reply : d.reply ≡ reply_without_id r = ap (λ (x : LogItem). x.reply) is in
+    let teller : d.teller ≡ teller_if (by_number s e) d.teller = only ∙ ap (λ (f : Event). teller_if f d.teller) event in
+    λ k. record { event = event k; reply = reply k; teller = teller k }
+
+follow : (r : Run) (acts : List (ℕ × LogItem)) (e : Event) (es : List Event) (o : Option Outcome) → NamesTellers acts → step r.state e ≡ o
+    → events_of acts ≡ log_with r.state e o (log_from (run_with_event r o) es) → length (log_with r.state e o (log_from (run_with_event r o) es)) ≡ suc (length es)
+    → ((more : List (ℕ × LogItem)) → NamesTellers more → events_of more ≡ log_from (run_with_event r o) es → length (log_from (run_with_event r o) es) ≡ length es → Follows (run_with_event r o).state more es (run_of_events (run_with_event r o) es).state)
+    → Follows r.state acts (e ∷ es) (run_of_events (run_with_event r o) es).state
+follow r acts e es None names is are all on = absurd (let le = few (run_with_event r None) es in omega (arith, le, all))
+follow r [] e es (Some o) names is are all on = absurd (let size : 0 ≡ suc (length (log_from (run_with_event r (Some o)) es)) = ap (λ (l : List LogItem). length l) are in omega arith)
+follow r (a ∷ more) e es (Some o) names is are all on =
+    let d : LogItem = log_item (by_number r.state e) (reply_without_id o.reply) in
+    let rest : List LogItem = log_from (run_with_event r (Some o)) es in (
+      o,
+      is,
+      named r.state e o.reply a.1 (same_first (untold a.1) d (events_of more) rest are) names.0,
+      on more names.1 (same_rest (untold a.1) d (events_of more) rest are) (omega arith),
+    )
+
+follows_named : (r : Run) (acts : List (ℕ × LogItem)) (es : List Event) → NamesTellers acts → events_of acts ≡ log_from r es → length (log_from r es) ≡ length es → Follows r.state acts es (run_of_events r es).state
+follows_named r [] [] names are all = refl
+follows_named r (a ∷ more) [] names are all = absurd (let size : suc (length (events_of more)) ≡ 0 = ap (λ (l : List LogItem). length l) are in omega arith)
+follows_named r acts (e ∷ es) names are all = follow r acts e es (step r.state e) names refl are all (λ more named same size. follows_named (run_with_event r (step r.state e)) more es named same size)
+
+pub follows : (seat : ℕ → ℕ) (n : ℕ) (r : Run) (acts : List (ℕ × LogItem)) (es : List Event) → AreToldBefore seat n acts → events_of acts ≡ log_from r es → length (log_from r es) ≡ length es → Follows r.state acts es (run_of_events r es).state
+follows seat n r acts es told are all = follows_named r acts es (names_tellers seat n [] acts told) are all
 
 -- What it leads to
 

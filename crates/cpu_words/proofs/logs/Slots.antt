@@ -21,6 +21,7 @@ use Rattle.protocol.proofs.runs.Steps.{Sort, Refused, Left, Entered, Exited, Sou
 use Rattle.protocol.proofs.slots.Cells.{get_or_all}
 use Rattle.protocol.proofs.slots.Occupied.{live_one, not_vacant, retired_one, slot_cases}
 use Rattle.cpu_words.specs.declared.view.LogItem.{LogItem}
+use Rattle.cpu_words.specs.declared.view.Teller.{Teller}
 use Rattle.cpu_words.specs.Rule.{by_number}
 use Rattle.cpu_words.specs.KeeperLog.{changes_in, HasPassedOn, AreMarksOf, Standing, nothing, attached, detached, number_of, standing, is_change_at, AreSlotsOf}
 use Rattle.cpu_words.specs.Logs.{maker, IsSeatOf}
@@ -108,9 +109,9 @@ elsewhere cpus log slots d t x lt other are live retired occupied =
           (slot_cases slots t x u lt);
     }
 
-attached_slots : (cpus : ℕ) (log : List LogItem) (slots : List Slot) (t : ℕ) (r : Reply) (e : Entry) → t < length slots → e.number ≡ suc (changes_in log) → AreSlotsOf cpus log slots → AreSlotsOf cpus (log ++ item_as (Publish t) r ∷ []) (set slots t (Live e))
+attached_slots : (cpus : ℕ) (log : List LogItem) (slots : List Slot) (t : ℕ) (r : Reply) (e : Entry) → t < length slots → e.number ≡ suc (changes_in log) → AreSlotsOf cpus log slots → AreSlotsOf cpus (log ++ item_as (Publish t) r None ∷ []) (set slots t (Live e))
 attached_slots cpus log slots t r e lt number are =
-    let d = item_as (Publish t) r in
+    let d = item_as (Publish t) r None in
     elsewhere cpus log slots d t (Live e) lt (λ u off. ne_eqb t u (λ (same : t ≡ u). off (sym same))) are
     (λ f is.
     standing_last t log d ∙ (ap (λ (b : Bool). if b then attached (suc (changes_in log)) else standing t log) (eq-eqb t t refl)
@@ -118,9 +119,9 @@ attached_slots cpus log slots t r e lt number are =
     (λ f is. absurd (let q : Live e ≡ Retired f = is in cc))
     (λ is. let q : Live e ≡ Vacant = is in cc)
 
-detached_slots : (cpus : ℕ) (log : List LogItem) (slots : List Slot) (t : ℕ) (r : Reply) (e : Entry) → slot_at slots t ≡ Live e → AreSlotsOf cpus log slots → AreSlotsOf cpus (log ++ item_as (Unpublish t) r ∷ []) (set slots t (Retired e))
+detached_slots : (cpus : ℕ) (log : List LogItem) (slots : List Slot) (t : ℕ) (r : Reply) (e : Entry) → slot_at slots t ≡ Live e → AreSlotsOf cpus log slots → AreSlotsOf cpus (log ++ item_as (Unpublish t) r None ∷ []) (set slots t (Retired e))
 detached_slots cpus log slots t r e at are =
-    let d = item_as (Unpublish t) r in
+    let d = item_as (Unpublish t) r None in
     elsewhere cpus log slots d t (Retired e) (within_live slots t e at) (λ u off. ne_eqb t u (λ (same : t ≡ u). off (sym same))) are
     (λ f is. absurd (let q : Retired e ≡ Live f = is in cc))
     (λ f is.
@@ -133,7 +134,7 @@ detached_slots cpus log slots t r e at are =
 -- so the slots are with the outcome, if there is one
 abbrev Gives : List LogItem → State → Event → Option Outcome → Type 0
 Gives log s e None = Unit {0}
-Gives log s e (Some o) = AreSlotsOf s.settings.cpus (log ++ item_of s e o.reply ∷ []) o.state.slots
+Gives log s e (Some o) = AreSlotsOf s.settings.cpus (log ++ item_of s e o.reply None ∷ []) o.state.slots
 
 gives_guard : (log : List LogItem) (s : State) (e : Event) (b : Bool) (o : Option Outcome) → (b ≡ true → Gives log s e o) → Gives log s e (guard b o)
 gives_guard log s e true o gives = gives refl
@@ -157,19 +158,20 @@ unlinked_slots s t (Some p) = refl
 unpublish_gives : (log : List LogItem) (s : State) (t : ℕ) (x : Slot) → slot_at s.slots t ≡ x → AreSlotsOf s.settings.cpus log s.slots → Gives log s (Unpublish t) (unpublish s t x)
 unpublish_gives log s t Vacant at are = tt
 unpublish_gives log s t (Live e) at are = gives_guard log s (Unpublish t) (at_rest s.due) (some_outcome (after_unpublish s t e) Done) (λ rest.
-    subst (λ (slots : List Slot). AreSlotsOf s.settings.cpus (log ++ item_as (Unpublish t) Done ∷ []) (set slots t (Retired e))) (sym (unlinked_slots s t (slot_before s.slots s.next t))) (detached_slots s.settings.cpus log s.slots t Done e at are))
+    subst (λ (slots : List Slot). AreSlotsOf s.settings.cpus (log ++ item_as (Unpublish t) Done None ∷ []) (set slots t (Retired e))) (sym (unlinked_slots s t (slot_before s.slots s.next t))) (detached_slots s.settings.cpus log s.slots t Done e at are))
 unpublish_gives log s t (Retired e) at are = tt
 
-other_gives : (log : List LogItem) (s : State) (e : Event) (o : Outcome) → Holds s → step s e ≡ Some o → is_change e ≡ false → AreMarksOf log s.marks → AreSlotsOf s.settings.cpus log s.slots → Gives log s e (Some o)
-other_gives log s e o on made other marks are =
-    more_slots s.settings.cpus log o.state.slots (item_of s e o.reply) (λ t. no_change_at t s e other) (left_slots s o.state log on (slots_left s e (step s e) (step_sort s e on) other o made) marks are)
+other_gives : (log : List LogItem) (s : State) (e : Event) (o : Outcome) (h : Option Teller) → Holds s → step s e ≡ Some o → is_change e ≡ false → AreMarksOf log s.marks → AreSlotsOf s.settings.cpus log s.slots
+    → AreSlotsOf s.settings.cpus (log ++ item_of s e o.reply h ∷ []) o.state.slots
+other_gives log s e o h on made other marks are =
+    more_slots s.settings.cpus log o.state.slots (item_of s e o.reply h) (λ t. no_change_at t s e other) (left_slots s o.state log on (slots_left s e (step s e) (step_sort s e on) other o made) marks are)
 
 -- the keeper's next item
-pub slots_own : (log : List LogItem) (s : State) (e : Event) (o : Outcome) → Holds s → step s e ≡ Some o → length s.history ≡ changes_in log → AreMarksOf log s.marks → AreSlotsOf s.settings.cpus log s.slots
-    → AreSlotsOf s.settings.cpus (log ++ item_of s e o.reply ∷ []) o.state.slots
-slots_own log s (Publish t) o on made changes marks are = subst (Gives log s (Publish t)) made (publish_gives log s t on changes are)
-slots_own log s (Unpublish t) o on made changes marks are = subst (Gives log s (Unpublish t)) made (unpublish_gives log s t (slot_at s.slots t) refl are)
-slots_own log s e o on made changes marks are = other_gives log s e o on made refl marks are
+pub slots_own : (log : List LogItem) (s : State) (e : Event) (o : Outcome) (h : Option Teller) → Holds s → step s e ≡ Some o → length s.history ≡ changes_in log → AreMarksOf log s.marks → AreSlotsOf s.settings.cpus log s.slots
+    → AreSlotsOf s.settings.cpus (log ++ item_of s e o.reply h ∷ []) o.state.slots
+slots_own log s (Publish t) o h on made changes marks are = subst (Gives log s (Publish t)) made (publish_gives log s t on changes are)
+slots_own log s (Unpublish t) o h on made changes marks are = subst (Gives log s (Unpublish t)) made (unpublish_gives log s t (slot_at s.slots t) refl are)
+slots_own log s e o h on made changes marks are = other_gives log s e o h on made refl marks are
 
 -- an event of another seat
 pub slots_off : (seat : ℕ → ℕ) (n i : ℕ) (log : List LogItem) (s : State) (e : Event) (o : Outcome) → IsSeatOf seat n i (maker (by_number s e)) → i ≢ 0 → Holds s → step s e ≡ Some o → AreMarksOf log s.marks → AreSlotsOf s.settings.cpus log s.slots

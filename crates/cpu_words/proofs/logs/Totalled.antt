@@ -1,4 +1,5 @@
 -- What the keeper's log says of totals: of each occupied slot the words that were collected, less the references given up.
+use Rattle.protocol.specs.declared.event.Reply.{Reply}
 use Rattle.std.proofs.Common.{◌≡◌, inl, inr, ⊎_elim, ℕ, zero, suc, ◌+◌, ◌-◌, ◌*◌, ◌<◌, ◌≤◌, ◌==◌, ◌&&◌, nat_lt, not, Bool, true, false, if◌then◌else◌, List, [], ◌∷◌, ◌++◌, length, get_or, set, sum_by, Option, Some, None, eq-eqb, ne_eqb, refl, sym, ap, ◌∙◌, subst, append_assoc, arith}
 use Rattle.std.specs.List.{zip, list_all}
 use Rattle.std.specs.Prelude.{take}
@@ -30,6 +31,7 @@ use Rattle.protocol.proofs.keeps.MarkKeeps.{is_drained_tells, may_examine_tells}
 use Rattle.protocol.proofs.slots.Cells.{total_here, total_other}
 use Rattle.protocol.proofs.slots.Occupied.{at_rest_tells, fresh_unoccupied, in_within, one_number, slot_has}
 use Rattle.cpu_words.specs.declared.view.LogItem.{LogItem}
+use Rattle.cpu_words.specs.declared.view.Teller.{Teller}
 use Rattle.cpu_words.specs.declared.view.KeeperView.{KeeperView}
 use Rattle.cpu_words.specs.Views.{number_at, collected_net, collected_one, GivesUp, KeeperShown}
 use Rattle.cpu_words.specs.Rule.{Good, number_or_none, by_number}
@@ -139,10 +141,10 @@ IsAsMuch log s e o t n = total_at o.totals t + addition_due_at t o.due + given_b
 
 -- the slot's words stay
 as_much : (log : List LogItem) (s : State) (e : Event) (o : Outcome) (t n : ℕ) → ((c : ℕ) → word_after t c e o.reply (word_collected t c log) ≡ word_collected t c log)
-    → IsAsMuch log s e o.state t n → IsEven log s t n → IsEven (log ++ item_of s e o.reply ∷ []) o.state t n
+    → IsAsMuch log s e o.state t n → IsEven log s t n → IsEven (log ++ item_of s e o.reply None ∷ []) o.state t n
 as_much log s e o t n stay much even =
-    let d : LogItem = item_of s e o.reply in
-    let word : (c : ℕ) → word_collected t c (log ++ d ∷ []) ≡ word_collected t c log = λ c. word_next t c log s e o.reply ∙ stay c in
+    let d : LogItem = item_of s e o.reply None in
+    let word : (c : ℕ) → word_collected t c (log ++ d ∷ []) ≡ word_collected t c log = λ c. word_next t c log s e o.reply None ∙ stay c in
     let words : words_collected t (log ++ d ∷ []) ≡ words_collected t log = sum_other (λ c. is_there (word_collected t c log)) (λ c. is_there (word_collected t c (log ++ d ∷ []))) MOST_CPUS (λ c lt. ap is_there (word c)) in
     let sum : sum_collected t (log ++ d ∷ []) ≡ sum_collected t log = sum_other (λ c. word_or_none (word_collected t c log)) (λ c. word_or_none (word_collected t c (log ++ d ∷ []))) MOST_CPUS (λ c lt. ap word_or_none (word c)) in
     let given : given_up n (log ++ d ∷ []) ≡ given_up n log + given_by log n (by_number s e) = given_more n log d in
@@ -182,7 +184,7 @@ quietly log s e n t m none same before after =
 
 -- after the event, too
 abbrev Next : List LogItem → State → Event → Outcome → ℕ → ℕ → Type 0
-Next log s e o t n = IsEven (log ++ item_of s e o.reply ∷ []) o.state t n
+Next log s e o t n = IsEven (log ++ item_of s e o.reply None ∷ []) o.state t n
 
 -- the event is at the slot t, or at another
 
@@ -209,8 +211,8 @@ published_next log s u o t n on does is known = ⊎_elim
     let vacant : is_retired (slot_at s.slots t) ≡ false = ap is_retired (ap (slot_at s.slots) (sym same) ∙ told.2) in
     let total : total_at o.state.totals t ≡ bias = ap (λ (x : List ℕ). total_at x t) does.1.0 ∙ (ap (total_at s.totals) (sym same) ∙ eqb-true (total_at s.totals u) bias p6.1) in
     let quiet = quiet_rest o.state.due t (does.1.1 ∙ told.0) in
-    let d : LogItem = item_of s (Publish u) o.reply in
-    let word : (c : ℕ) → word_collected t c (log ++ d ∷ []) ≡ None = λ c. word_next t c log s (Publish u) o.reply ∙ (known.counts.words t c ∙ no_word s t c (undrawn_slot s t c vacant)) in
+    let d : LogItem = item_of s (Publish u) o.reply None in
+    let word : (c : ℕ) → word_collected t c (log ++ d ∷ []) ≡ None = λ c. word_next t c log s (Publish u) o.reply None ∙ (known.counts.words t c ∙ no_word s t c (undrawn_slot s t c vacant)) in
     let words : words_collected t (log ++ d ∷ []) ≡ 0 = sum_other (λ c. 0) (λ c. is_there (word_collected t c (log ++ d ∷ []))) MOST_CPUS (λ c lt. ap is_there (word c)) in
     let sum : sum_collected t (log ++ d ∷ []) ≡ 0 = sum_other (λ c. 0) (λ c. word_or_none (word_collected t c (log ++ d ∷ []))) MOST_CPUS (λ c lt. ap word_or_none (word c)) in
     let given : given_up n (log ++ d ∷ []) ≡ given_up n log + 0 = given_more n log d in
@@ -237,12 +239,12 @@ collected_here log s c o t n on does is known =
     let q = and_parts (is_drainable s t) (not (mark_at s.marks t c).collected) p.1 in
     let told = may_examine_tells s t c p.0 in
     let low : c < MOST_CPUS = omega (arith, told.1, (ranges s.settings on.fit).cpus) in
-    let d : LogItem = item_of s (Collect t c) o.reply in
+    let d : LogItem = item_of s (Collect t c) o.reply None in
     let old : word_collected t c log ≡ None = known.counts.words t c ∙ no_word s t c (undrawn_mark s t c (false_from (mark_at s.marks t c).collected q.1)) in
     let here = eq-eqb t t refl in
-    let new : word_collected t c (log ++ d ∷ []) ≡ Some w = word_next t c log s (Collect t c) o.reply
+    let new : word_collected t c (log ++ d ∷ []) ≡ Some w = word_next t c log s (Collect t c) o.reply None
     ∙ ((λ k. if here k && eq-eqb c c refl k then replied o.reply else word_collected t c log) ∙ ap replied does.1) in
-    let other : (j : ℕ) → (j ≡ c → ⊥) → word_collected t j (log ++ d ∷ []) ≡ word_collected t j log = λ j off. word_next t j log s (Collect t c) o.reply
+    let other : (j : ℕ) → (j ≡ c → ⊥) → word_collected t j (log ++ d ∷ []) ≡ word_collected t j log = λ j off. word_next t j log s (Collect t c) o.reply None
     ∙ (λ k. if here k && ne_eqb c j (λ same. off (sym same)) k then replied o.reply else word_collected t j log) in
     let words = sum_changed (λ j. is_there (word_collected t j log)) (λ j. is_there (word_collected t j (log ++ d ∷ []))) c MOST_CPUS low (λ j off. ap is_there (other j off)) in
     let sum = sum_changed (λ j. word_or_none (word_collected t j log)) (λ j. word_or_none (word_collected t j (log ++ d ∷ []))) c MOST_CPUS low (λ j off. ap word_or_none (other j off)) in
@@ -374,18 +376,37 @@ none_given log s e o n on does known above = refl
 
 -- The walk
 
--- the keeper's next item
-pub totals_own : (log : List LogItem) (s : State) (e : Event) (o : Outcome) → Holds s → step s e ≡ Some o → SaidBefore log s → AreTotalsOf (log ++ item_of s e o.reply ∷ []) o.state
-totals_own log s e o on made known =
+-- who told a note that the keeper heard counts for nothing here
+whoever_told : (log : List LogItem) (s : State) (e : Event) (r : Reply) (h : Option Teller) (t : State) → AreTotalsOf (log ++ item_of s e r None ∷ []) t → AreTotalsOf (log ++ item_of s e r h ∷ []) t
+whoever_told log s e r h g are =
+    let d : LogItem = item_of s e r None in
+    let f : LogItem = item_of s e r h in
+    let given : (n : ℕ) → given_up n (log ++ f ∷ []) ≡ given_up n (log ++ d ∷ []) = λ n. given_more n log f ∙ sym (given_more n log d) in
+    let word : (t c : ℕ) → word_collected t c (log ++ f ∷ []) ≡ word_collected t c (log ++ d ∷ []) = λ t c. word_next t c log s e r h ∙ sym (word_next t c log s e r None) in
+    record {
+      total = λ t n is.
+          let even = are.total t n (occupant_next t log s e r None ∙ (sym (occupant_next t log s e r h) ∙ is)) in
+          let words : words_collected t (log ++ f ∷ []) ≡ words_collected t (log ++ d ∷ []) = sum_other (λ c. is_there (word_collected t c (log ++ d ∷ []))) (λ c. is_there (word_collected t c (log ++ f ∷ []))) MOST_CPUS (λ c lt. ap is_there (word t c)) in
+          let sum : sum_collected t (log ++ f ∷ []) ≡ sum_collected t (log ++ d ∷ []) = sum_other (λ c. word_or_none (word_collected t c (log ++ d ∷ []))) (λ c. word_or_none (word_collected t c (log ++ f ∷ []))) MOST_CPUS (λ c lt. ap word_or_none (word t c)) in
+          omega (arith, even, words, sum, given n);
+      later = λ n above. given n ∙ are.later n (let a = changes_last log f in let b = changes_last log d in omega (arith, above, a, b));
+    }
+
+plain_totals : (log : List LogItem) (s : State) (e : Event) (o : Outcome) → Holds s → step s e ≡ Some o → SaidBefore log s → AreTotalsOf (log ++ item_of s e o.reply None ∷ []) o.state
+plain_totals log s e o on made known =
     let dues : Dues s e (Some o) = subst (Dues s e) made (step_dues s e) in
-    let d : LogItem = item_of s e o.reply in record {
-      total = λ t n is. total_next log s e o t n on dues.1 dues.2 (sym (occupant_next t log s e o.reply) ∙ is) known;
+    let d : LogItem = item_of s e o.reply None in record {
+      total = λ t n is. total_next log s e o t n on dues.1 dues.2 (sym (occupant_next t log s e o.reply None) ∙ is) known;
       later = λ n above.
           let grows : changes_in (log ++ d ∷ []) ≡ changes_of e (changes_in log) = changes_last log d ∙ unnamed_changes s e (changes_in log) in
           let low : changes_in log < n = omega (arith, above, grows, changes_up e (changes_in log)) in
           let given : given_up n (log ++ d ∷ []) ≡ given_up n log + given_by log n (by_number s e) = given_more n log d in
           omega (arith, given, known.totals.later n low, none_given log s e o n on dues.2 known low);
     }
+
+-- the keeper's next item
+pub totals_own : (log : List LogItem) (s : State) (e : Event) (o : Outcome) (h : Option Teller) → Holds s → step s e ≡ Some o → SaidBefore log s → AreTotalsOf (log ++ item_of s e o.reply h ∷ []) o.state
+totals_own log s e o h on made known = whoever_told log s e o.reply h o.state (plain_totals log s e o on made known)
 
 -- an event of another seat leaves totals, and what is due
 left_off : (seat : ℕ → ℕ) (n i : ℕ) (s : State) (e : Event) (o : Outcome) → IsSeatOf seat n i (maker (by_number s e)) → (i ≡ 0 → ⊥) → TotalsAfter s e o → SameTotals s o.state

@@ -20,13 +20,13 @@ use Rattle.cpu_words.specs.declared.view.Logged.{Logged}
 use Rattle.cpu_words.specs.declared.view.View.{View}
 use Rattle.cpu_words.specs.declared.view.View.TheVariants.{Keeper, Cpu, Note, Spent}
 use Rattle.cpu_words.specs.Views.{KeeperOwn, own_of, cpu_view, keeper_own, keeper_view, depth_of, CpuShown, KeeperShown, Shown, cpu_of, keeper_of, note_of}
-use Rattle.cpu_words.specs.Rule.{Sits, reference_to, Good, by_number, did, log_of_events}
+use Rattle.cpu_words.specs.Rule.{Sits, reference_to, Good, by_number, did, log_item, log_of_events}
 use Rattle.cpu_words.specs.Steps.{Makes, SplitsBy, CpuMay, KeeperMay}
 use Rattle.cpu_words.specs.Steps.{SplitsOn, JoinsOn}
 use Rattle.std.proofs.lemmas.List.{append-nil}
 use Rattle.cpu_words.proofs.laws.Reaching.{more}
-use Rattle.cpu_words.proofs.logs.Seats.{tells_known, tells_whole, seat_cut, seat_with_note}
-use Rattle.cpu_words.specs.Logs.{the_cpu, who, LoggedRuled, logged_after_split, known_log_of, whole_log, fresh, logged_with_note, spent_seat, tells_pass, tells_history}
+use Rattle.cpu_words.proofs.logs.Seats.{tells_known, tells_whole, seat_cut, seat_with_note, names_nobody, names_cpu}
+use Rattle.cpu_words.specs.Logs.{the_cpu, who, LoggedRuled, logged_after_split, known_log_of, whole_log, fresh, logged_with_note, spent_seat, tells_pass, tells_history, told_by_cpu, no_teller}
 use Rattle.cpu_words.specs.Sections.{IsIdle}
 use Rattle.cpu_words.specs.Notes.{as_before, pass_told, history_told, with_note, keeper_with_note, beside_cpu, beside_keeper, HasHeard, KeeperHasHeard}
 use Rattle.cpu_words.specs.Spots.{section_of, head_word, index}
@@ -94,16 +94,16 @@ keeper_tells k may g good had =
 
 -- the same of a seat
 
-pub cpu_splits : (z : Settings) (i : ℕ) (l : Logged) (x : CpuView) (c : ℕ) → l ≡ record l { view = Cpu (cpu_of l.view) } → cpu_of l.view ≡ x → x.id ≡ c → IsIdle x → Splits (LoggedRuled z) i l (logged_after_split as_before tells_pass l) (fresh pass_told known_log_of l)
-cpu_splits z i l x c is view id idle = seat_cut z i l (Cpu x) as_before pass_told tells_pass known_log_of (did (Tell (Some c)) Done) (is ∙ ap (λ (u : CpuView). record l { view = Cpu u }) view) tt (ap the_cpu (sym id), tt) (λ k. did (Tell (Some (id k))) Done) (tells_known (record l { view = Cpu x }) (did (Tell (Some c)) Done)) (splits z i (Tell (Some c)) (Cpu x) x.pass (cpu_tells x c id idle))
+pub cpu_splits : (z : Settings) (i : ℕ) (l : Logged) (x : CpuView) (c : ℕ) → l ≡ record l { view = Cpu (cpu_of l.view) } → cpu_of l.view ≡ x → x.id ≡ c → IsIdle x → Splits (LoggedRuled z) i l (logged_after_split as_before tells_pass l) (fresh pass_told known_log_of told_by_cpu l)
+cpu_splits z i l x c is view id idle = seat_cut z i l (Cpu x) as_before pass_told tells_pass known_log_of told_by_cpu (did (Tell (Some c)) Done) (is ∙ ap (λ (u : CpuView). record l { view = Cpu u }) view) tt (ap the_cpu (sym id), tt) (λ k. did (Tell (Some (id k))) Done) (tells_known (record l { view = Cpu x }) (did (Tell (Some c)) Done)) (names_cpu l x (log_item (Tell (Some c)) Done)) (splits z i (Tell (Some c)) (Cpu x) x.pass (cpu_tells x c id idle))
 
 pub cpu_splits_by : (v a : View) (x : CpuView) (c : ℕ) → cpu_of v ≡ x → a ≡ pass_told v → x.id ≡ c → IsIdle x → SplitsBy (Tell (Some c)) (Cpu x) (Cpu x) (Note (note_of a))
 cpu_splits_by v a x c view right id idle =
     let p : note_of a ≡ x.pass = ap note_of right ∙ ap (λ (u : CpuView). u.pass) view in
     subst (λ h. SplitsBy (Tell (Some c)) (Cpu x) (Cpu x) (Note h)) (sym p) (tells_by (Tell (Some c)) (Cpu x) x.pass (cpu_tells x c id idle))
 
-pub keeper_splits : (z : Settings) (i : ℕ) (l : Logged) (k : KeeperView) → l ≡ record l { view = Keeper (keeper_of l.view) } → keeper_of l.view ≡ k → k.due ≡ Rest → Splits (LoggedRuled z) i l (logged_after_split as_before tells_history l) (fresh history_told (whole_log tells_history) l)
-keeper_splits z i l k is view may = seat_cut z i l (Keeper k) as_before history_told tells_history (whole_log tells_history) (did (Tell None) Done) (is ∙ ap (λ (u : KeeperView). record l { view = Keeper u }) view) tt (refl, tt) refl (tells_whole (record l { view = Keeper k }) (did (Tell None) Done) tt) (splits z i (Tell None) (Keeper k) k.history (keeper_tells k may))
+pub keeper_splits : (z : Settings) (i : ℕ) (l : Logged) (k : KeeperView) → l ≡ record l { view = Keeper (keeper_of l.view) } → keeper_of l.view ≡ k → k.due ≡ Rest → Splits (LoggedRuled z) i l (logged_after_split as_before tells_history l) (fresh history_told (whole_log tells_history) no_teller l)
+keeper_splits z i l k is view may = seat_cut z i l (Keeper k) as_before history_told tells_history (whole_log tells_history) no_teller (did (Tell None) Done) (is ∙ ap (λ (u : KeeperView). record l { view = Keeper u }) view) tt (refl, tt) refl (tells_whole (record l { view = Keeper k }) (did (Tell None) Done) tt) (names_nobody (record l { view = Keeper k }) (did (Tell None) Done)) (splits z i (Tell None) (Keeper k) k.history (keeper_tells k may))
 
 pub keeper_splits_by : (v a : View) (k : KeeperView) → keeper_of v ≡ k → a ≡ history_told v → k.due ≡ Rest → SplitsBy (Tell None) (Keeper k) (Keeper k) (Note (note_of a))
 keeper_splits_by v a k view right may =

@@ -25,8 +25,8 @@ use Rattle.cpu_words.specs.Rule.{Sits, ShowsViews, IsFresh, Good, did}
 use Rattle.cpu_words.specs.Steps.{SplitsBy, SplitsOn}
 use Rattle.cpu_words.specs.Opening.{MaySeat, one_seated, with_cpu_seated, next_seat}
 use Rattle.cpu_words.proofs.laws.Reaching.{more}
-use Rattle.cpu_words.proofs.logs.Seats.{tells_nothing, seat_cut}
-use Rattle.cpu_words.specs.Logs.{the_cpu, LoggedRuled, logged_after_split, no_log, fresh, seats_next}
+use Rattle.cpu_words.proofs.logs.Seats.{tells_nothing, names_nobody, seat_cut}
+use Rattle.cpu_words.specs.Logs.{the_cpu, LoggedRuled, logged_after_split, no_log, no_teller, fresh, seats_next}
 use Rattle.cpu_words.proofs.shown.Showing.{Stay, SeatsWith, shows_split}
 use Rattle.cpu_words.proofs.shown.Placing.{agrees_same}
 use Rattle.cpu_words.proofs.by_keeper.KeeperSteps.{KeeperLists, keeper_lists, with_keeper, cpu_beside_shown}
@@ -227,8 +227,8 @@ splits z i k may s r at =
 
 -- the same of a seat, whose view is the keeper's
 
-pub seat_splits : (z : Settings) (i : ℕ) (l : Logged) (k : KeeperView) → l ≡ record l { view = Keeper (keeper_of l.view) } → keeper_of l.view ≡ k → MaySeat k → Splits (LoggedRuled z) i l (logged_after_split with_cpu_seated seats_next l) (fresh next_seat no_log l)
-seat_splits z i l k is view may = seat_cut z i l (Keeper k) with_cpu_seated next_seat seats_next no_log (did (Seat k.seated) Done) (is ∙ ap (λ (u : KeeperView). record l { view = Keeper u }) view) tt (refl, tt) refl (tells_nothing (record l { view = Keeper k }) (did (Seat k.seated) Done)) (splits z i k may)
+pub seat_splits : (z : Settings) (i : ℕ) (l : Logged) (k : KeeperView) → l ≡ record l { view = Keeper (keeper_of l.view) } → keeper_of l.view ≡ k → MaySeat k → Splits (LoggedRuled z) i l (logged_after_split with_cpu_seated seats_next l) (fresh next_seat no_log no_teller l)
+seat_splits z i l k is view may = seat_cut z i l (Keeper k) with_cpu_seated next_seat seats_next no_log no_teller (did (Seat k.seated) Done) (is ∙ ap (λ (u : KeeperView). record l { view = Keeper u }) view) tt (refl, tt) refl (tells_nothing (record l { view = Keeper k }) (did (Seat k.seated) Done)) (names_nobody (record l { view = Keeper k }) (did (Seat k.seated) Done)) (splits z i k may)
 
 pub seat_splits_by : (v a b : View) (k : KeeperView) → keeper_of v ≡ k → a ≡ with_cpu_seated v → b ≡ next_seat v → MaySeat k → SplitsBy (Seat k.seated) (Keeper k) (Keeper (keeper_of a)) (Cpu (cpu_of b))
 seat_splits_by v a b k view left right may =

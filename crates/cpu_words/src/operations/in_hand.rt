@@ -8,11 +8,11 @@ pub(crate) struct InHandReference;
 
 impl Split<Logged> for InHandReference {
     ghost use Rattle.cpu_words.specs.Locals.{with_empty_hand, reference_of_hand};
-    ghost use Rattle.cpu_words.specs.Logs.{logged_after_split, fresh, no_log, cuts_off};
+    ghost use Rattle.cpu_words.specs.Logs.{logged_after_split, fresh, no_log, no_teller, cuts_off};
 
     ghost left = { logged_after_split with_empty_hand cuts_off };
 
-    ghost right = { fresh reference_of_hand no_log };
+    ghost right = { fresh reference_of_hand no_log no_teller };
 }
 
 impl Join<Logged> for InHandReference {

@@ -2,13 +2,14 @@
 
 ghost use Rattle.std.specs.Prelude.{◌≡◌, ℕ, ◌<◌, ◌++◌};
 ghost use Rattle.cpu_words.specs.declared.view.View.TheVariants.{Cpu};
-ghost use Rattle.cpu_words.specs.KeeperLog.{KnownLogGrows, IsOwnLog, IsShownAfter};
+ghost use Rattle.protocol.specs.declared.state.Due.TheVariants.{Rest};
+ghost use Rattle.cpu_words.specs.KeeperLog.{KnownLogGrows, heard_from, IsOwnLog, IsShownAfter};
 ghost use Rattle.cpu_words.specs.Logs.{the_cpu, the_keeper, AreBy};
-ghost use Rattle.cpu_words.specs.Notes.{with_note, keeper_with_note};
+ghost use Rattle.cpu_words.specs.Notes.{with_note, keeper_with_note, KeeperHears};
 ghost use Rattle.cpu_words.specs.Steps.{CpuMay, KeeperMay};
 
-use crate::law::{CpuHearing, CpuTale, KeeperHearing, KeeperTale, Words};
-use crate::layout::WORDS;
+use crate::law::{CpuHearing, CpuTale, KeeperHearing, KeeperTale, NoteHearing, Words};
+use crate::layout::{HEAD, WORDS};
 use crate::seat::{CpuSeat, KeeperSeat, NoteSeat};
 use crate::view::Logged;
 use atomic_table::{Join, Split};
@@ -19,11 +20,11 @@ pub(crate) struct CpuNote;
 
 impl Split<Logged> for CpuNote {
     ghost use Rattle.cpu_words.specs.Notes.{as_before, pass_told};
-    ghost use Rattle.cpu_words.specs.Logs.{logged_after_split, fresh, known_log_of, tells_pass};
+    ghost use Rattle.cpu_words.specs.Logs.{logged_after_split, fresh, known_log_of, tells_pass, told_by_cpu};
 
     ghost left = { logged_after_split as_before tells_pass };
 
-    ghost right = { fresh pass_told known_log_of };
+    ghost right = { fresh pass_told known_log_of told_by_cpu };
 }
 
 impl Join<Logged> for CpuNote {
@@ -40,11 +41,11 @@ pub(crate) struct KeeperNote;
 
 impl Split<Logged> for KeeperNote {
     ghost use Rattle.cpu_words.specs.Notes.{as_before, history_told};
-    ghost use Rattle.cpu_words.specs.Logs.{logged_after_split, fresh, whole_log, tells_history};
+    ghost use Rattle.cpu_words.specs.Logs.{logged_after_split, fresh, whole_log, tells_history, no_teller};
 
     ghost left = { logged_after_split as_before tells_history };
 
-    ghost right = { fresh history_told (whole_log tells_history) };
+    ghost right = { fresh history_told (whole_log tells_history) no_teller };
 }
 
 impl Join<Logged> for KeeperNote {
@@ -77,7 +78,7 @@ pub(crate) fn lay_by_keeper(words: &Words, keeper: &mut KeeperSeat, note: NoteSe
     ensures table { keeper.new.table ≡ keeper.old.table }
     ensures change { keeper.new.view ≡ keeper_with_note keeper.old.view note.view }
     ensures log { keeper.new.log ≡ keeper.old.log }
-    ensures known_log { keeper.new.noted_log ≡ note.known_log }
+    ensures known_log { (keeper.new.noted_log ≡ note.known_log) × (keeper.new.teller ≡ note.teller) }
 {
     let NoteSeat { token } = note;
     words
@@ -111,7 +112,22 @@ pub(crate) fn listen<T: CpuTale>(
         .load::<CpuHearing<T>>(&mut seat.token, word)
 }
 
-/// The load by which the keeper hears the note that lies beside its view.
+/// The load of the head by which the keeper hears the note that lies beside its view: its log says who told it.
+pub(crate) fn hear_noted(words: &Words, keeper: &mut KeeperSeat)
+    requires table { keeper.old.table ≡ words.now.table }
+    requires may { keeper.old.view.due ≡ Rest }
+    ensures table { keeper.new.table ≡ keeper.old.table }
+    ensures told { KeeperHears keeper.old.view keeper.new.view }
+    ensures log { keeper.new.log ≡ keeper.old.log ++ heard_from keeper.old.teller }
+    ensures own_log { IsOwnLog keeper.old.log keeper.old.noted_log keeper.old.view }
+{
+    words
+        .table
+        .shared
+        .load::<NoteHearing>(&mut keeper.token, HEAD);
+}
+
+/// A load of the keeper's that finds in its log what the note beside its view told.
 pub(crate) fn listen_by_keeper<T: KeeperTale>(
     words: &Words,
     keeper: &mut KeeperSeat,

@@ -8,9 +8,9 @@ pub(crate) struct NextSeat;
 
 impl Split<Logged> for NextSeat {
     ghost use Rattle.cpu_words.specs.Opening.{with_cpu_seated, next_seat};
-    ghost use Rattle.cpu_words.specs.Logs.{logged_after_split, fresh, no_log, seats_next};
+    ghost use Rattle.cpu_words.specs.Logs.{logged_after_split, fresh, no_log, no_teller, seats_next};
 
     ghost left = { logged_after_split with_cpu_seated seats_next };
 
-    ghost right = { fresh next_seat no_log };
+    ghost right = { fresh next_seat no_log no_teller };
 }

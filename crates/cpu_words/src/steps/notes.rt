@@ -1,5 +1,5 @@
 //! Notes: what one seat has seen reaches another. A note is a seat of its own, which knows a prefix of the history, and what its teller
-//! knew of the keeper's log.
+//! knew of the keeper's log; and of a CPU's note it is known how many events that CPU had made.
 
 ghost use Rattle.std.specs.Prelude.{◌≡◌, ◌<◌, Some, None, ◌++◌, []};
 ghost use mathlib.Core.List.{IsPrefix};
@@ -11,10 +11,11 @@ ghost use Rattle.cpu_words.specs.Sections.{IsIdle};
 ghost use Rattle.cpu_words.specs.Rule.{did};
 ghost use Rattle.cpu_words.specs.Steps.{Makes, SplitsBy};
 ghost use Rattle.cpu_words.specs.Notes.{with_note, keeper_with_note};
-ghost use Rattle.cpu_words.specs.KeeperLog.{KnownLogGrows, IsOwnLog, IsShownAfter};
+ghost use Rattle.cpu_words.specs.KeeperLog.{KnownLogGrows, heard_from, IsOwnLog, IsShownAfter};
+ghost use Rattle.cpu_words.specs.Logs.{teller_of};
 
 use crate::law::Words;
-use crate::layout::{HEAD, section_place};
+use crate::layout::section_place;
 use crate::operations::notes;
 use crate::operations::notes::{CpuNote, KeeperNote};
 use crate::seat::{CpuSeat, KeeperSeat, NoteSeat};
@@ -22,7 +23,8 @@ use protocol::Event;
 use registry_values::MOST_CPUS;
 use std::marker::Brand;
 
-/// CPU `cpu` tells what it has seen: the note has its pass, and what it has heard of the keeper's log. Condition: the seat is that CPU's, and idle.
+/// CPU `cpu` tells what it has seen: the note has its pass, and what it has heard of the keeper's log, and names the CPU as its teller, with
+/// how many events it has made, this one among them. Condition: the seat is that CPU's, and idle.
 pub fn tell(words: &Words, seat: &mut CpuSeat, cpu: u8) -> NoteSeat
     requires table { seat.old.table ≡ words.now.table }
     requires cpu { seat.old.view.id ≡ cpu }
@@ -33,6 +35,7 @@ pub fn tell(words: &Words, seat: &mut CpuSeat, cpu: u8) -> NoteSeat
     ensures event { SplitsBy (Tell (Some cpu)) (Cpu seat.old.view) (Cpu seat.old.view) (Note result.view) }
     ensures log { (seat.new.log ≡ seat.old.log ++ did (Tell (Some cpu)) Done) × (result.log ≡ []) }
     ensures known_log { (seat.new.known_log ≡ seat.old.known_log) × (result.known_log ≡ seat.old.known_log) }
+    ensures teller { result.teller ≡ Some (teller_of seat.old.view seat.old.log) }
 {
     // The contract alone speaks of the CPU's number.
     let _cpu = cpu;
@@ -51,6 +54,7 @@ pub fn tell_keeper(words: &Words, keeper: &mut KeeperSeat) -> NoteSeat
     ensures event { SplitsBy (Tell None) (Keeper keeper.old.view) (Keeper keeper.old.view) (Note result.view) }
     ensures log { (keeper.new.log ≡ keeper.old.log ++ did (Tell None) Done) × (result.log ≡ []) }
     ensures known_log { result.known_log ≡ keeper.new.log }
+    ensures teller { result.teller ≡ None }
 {
     NoteSeat {
         token: words
@@ -80,8 +84,8 @@ pub fn hear(words: &Words, seat: &mut CpuSeat, cpu: u8, note: NoteSeat)
 }
 
 /// The keeper hears a note: what the note tells is in its history, what it tells of the keeper's log begins that log, and the
-/// history is as long as the log says. The note is laid beside the seat's view, and one load of the head is the event.
-/// Condition: the keeper is at rest.
+/// history is as long as the log says. The note is laid beside the seat's view, and one load of the head is the event, which stands in the
+/// keeper's log with the note's teller: so whoever hears that log knows how far the teller had come by then. Condition: the keeper is at rest.
 pub fn hear_keeper(words: &Words, keeper: &mut KeeperSeat, note: NoteSeat)
     requires table { (keeper.old.table ≡ words.now.table) × (note.table ≡ words.now.table) }
     requires may { keeper.old.view.due ≡ Rest }
@@ -89,9 +93,9 @@ pub fn hear_keeper(words: &Words, keeper: &mut KeeperSeat, note: NoteSeat)
     ensures event { Makes (Hear None) Done (Keeper (keeper_with_note keeper.old.view note.view)) (Keeper keeper.new.view) }
     ensures told { IsPrefix note.view keeper.new.view.history }
     ensures change { keeper.new.view ≡ keeper_with_note keeper.old.view note.view }
-    ensures log { keeper.new.log ≡ keeper.old.log ++ did (Hear None) Done }
+    ensures log { keeper.new.log ≡ keeper.old.log ++ heard_from note.teller }
     ensures own_log { IsOwnLog keeper.old.log note.known_log keeper.old.view }
 {
     notes::lay_by_keeper(words, keeper, note);
-    notes::listen_by_keeper::<Brand>(words, keeper, HEAD, Event::Hear(None));
+    notes::hear_noted(words, keeper);
 }

@@ -1,6 +1,6 @@
 //! The seats of the CPUs: each is cut from the keeper's.
 
-ghost use Rattle.std.specs.Prelude.{◌≡◌, ◌+◌, ◌++◌, []};
+ghost use Rattle.std.specs.Prelude.{◌≡◌, ◌+◌, ◌++◌, [], None};
 ghost use Rattle.protocol.specs.declared.event.Event.TheVariants.{Seat};
 ghost use Rattle.protocol.specs.declared.event.Reply.TheVariants.{Done};
 ghost use Rattle.cpu_words.specs.declared.view.View.TheVariants.{Keeper, Cpu};
@@ -23,7 +23,7 @@ pub fn seat(words: &Words, keeper: &mut KeeperSeat) -> CpuSeat
     ensures keeper { keeper.new.view ≡ record keeper.old.view { seated = keeper.old.view.seated + 1 } }
     ensures new { result.view ≡ new_cpu keeper.old.view.settings keeper.old.view.seated }
     ensures log { (keeper.new.log ≡ keeper.old.log ++ did (Seat keeper.old.view.seated) Done) × (result.log ≡ []) }
-    ensures known_log { (result.known_log ≡ []) × (result.noted_log ≡ []) }
+    ensures known_log { (result.known_log ≡ []) × (result.noted_log ≡ []) × (result.teller ≡ None) }
 {
     CpuSeat {
         token: words.table.shared.split_seat::<NextSeat>(&mut keeper.token),

@@ -1,0 +1,130 @@
+-- Who told the notes that the keeper heard: each teller had come as far as the keeper's log says before the note was heard, and that stays so.
+use Rattle.std.proofs.Common.{◌≡◌, ◌≢◌, ◌⊎◌, inl, inr, ⊎_elim, ℕ, suc, ◌<◌, ◌≤◌, List, [], ◌∷◌, ◌++◌, map, length, Option, Some, None, refl, sym, ap, ◌∙◌, subst, length-append, append_assoc, arith}
+use Rattle.std.proofs.lemmas.List.{append-nil}
+use Rattle.protocol.specs.declared.event.Event.{Event}
+use Rattle.protocol.specs.declared.event.Event.TheVariants.{Hear}
+use Rattle.protocol.specs.declared.event.Reply.TheVariants.{Done}
+use Rattle.protocol.specs.Events.{Outcome, step}
+use Rattle.protocol.specs.Run.{Run, run_with_event}
+use Rattle.protocol.specs.State.{State}
+use Rattle.cpu_words.specs.declared.view.LogItem.{LogItem}
+use Rattle.cpu_words.specs.declared.view.Teller.{Teller}
+use Rattle.cpu_words.specs.Rule.{by_number, reply_without_id, log_item, log_with, log_from}
+use Rattle.cpu_words.specs.Logs.{part, HasCome, HasComeIf, IsToldBefore, AreToldBefore, teller_if, untold}
+use Rattle.cpu_words.specs.KeeperLog.{has_heard_from, heard_from}
+use Rattle.cpu_words.proofs.logs.Parts.{by_seat, part_append}
+use Rattle.cpu_words.proofs.logs.Runs.{same_first, same_rest}
+
+-- Where an act stands in two lists, one after the other
+
+abbrev first_act : ℕ × LogItem → List (ℕ × LogItem) → ℕ × LogItem
+first_act x [] = x
+first_act x (y ∷ ys) = y
+
+abbrev other_acts : List (ℕ × LogItem) → List (ℕ × LogItem)
+other_acts [] = []
+other_acts (y ∷ ys) = ys
+
+same_act : (x y : ℕ × LogItem) (xs ys : List (ℕ × LogItem)) → x ∷ xs ≡ y ∷ ys → x ≡ y
+same_act x y xs ys same = ap (first_act x) same
+
+same_acts : (x y : ℕ × LogItem) (xs ys : List (ℕ × LogItem)) → x ∷ xs ≡ y ∷ ys → xs ≡ ys
+same_acts x y xs ys same = ap other_acts same
+
+pub no_act : (first rest : List (ℕ × LogItem)) (x : ℕ × LogItem) → [] ≡ first ++ x ∷ rest → ⊥
+no_act first rest x is = let size : 0 ≡ length (first ++ x ∷ rest) = ap (λ (l : List (ℕ × LogItem)). length l) is in omega (arith, size, length-append first (x ∷ rest))
+
+-- in the first list, or past it
+abbrev StandsInBoth : List (ℕ × LogItem) → List (ℕ × LogItem) → List (ℕ × LogItem) → List (ℕ × LogItem) → ℕ × LogItem → Type 0
+StandsInBoth a b first rest x =
+    ((more : List (ℕ × LogItem)) × (a ≡ first ++ x ∷ more)) ⊎ ((past : List (ℕ × LogItem)) × (first ≡ a ++ past) × (b ≡ past ++ x ∷ rest))
+
+stands : (a b first rest : List (ℕ × LogItem)) (x : ℕ × LogItem) → a ++ b ≡ first ++ x ∷ rest → StandsInBoth a b first rest x
+stands [] b first rest x is = inr (first, refl, is)
+stands (y ∷ a) b [] rest x is = inl (a, λ k. same_act y x (a ++ b) rest is k ∷ a)
+stands (y ∷ a) b (z ∷ first) rest x is =
+    let here = same_act y z (a ++ b) (first ++ x ∷ rest) is in
+    ⊎_elim
+    (λ (p : (more : List (ℕ × LogItem)) × (a ≡ first ++ x ∷ more)). inl (p.0, λ k. here k ∷ p.1 k))
+    (λ (p : (past : List (ℕ × LogItem)) × (first ≡ a ++ past) × (b ≡ past ++ x ∷ rest)). inr (p.0, (λ k. sym here k ∷ p.1 k), p.2))
+    (stands a b first rest x (same_acts y z (a ++ b) (first ++ x ∷ rest) is))
+
+-- A teller has come so far, also when more was done, and when more CPUs have seats
+
+pub come_seats : (seat next : ℕ → ℕ) (n more : ℕ) (acts : List (ℕ × LogItem)) (h : Option Teller) → n ≤ more → ((c : ℕ) → c < n → next c ≡ seat c) → HasComeIf seat n acts h → HasComeIf next more acts h
+come_seats seat next n more acts None le same come = tt
+come_seats seat next n more acts (Some h) le same come = record {
+  seated = let lt = come.seated in omega (arith, lt, le);
+  events = subst (λ (i : ℕ). h.events ≤ length (part i acts)) (sym (same h.cpu come.seated)) come.events;
+}
+
+come_acts : (seat : ℕ → ℕ) (n : ℕ) (acts more : List (ℕ × LogItem)) (h : Option Teller) → HasComeIf seat n acts h → HasComeIf seat n (acts ++ more) h
+come_acts seat n acts more None come = tt
+come_acts seat n acts more (Some h) come = record {
+  seated = come.seated;
+  events =
+      let at = come.events in
+      let size : length (part (seat h.cpu) (acts ++ more)) ≡ length (part (seat h.cpu) acts ++ part (seat h.cpu) more) = ap (λ (l : List LogItem). length l) (part_append (seat h.cpu) acts more) in
+      omega (arith, at, size, length-append (part (seat h.cpu) acts) (part (seat h.cpu) more));
+}
+
+pub come_more : (seat next : ℕ → ℕ) (n all : ℕ) (acts more : List (ℕ × LogItem)) (h : Option Teller) → n ≤ all → ((c : ℕ) → c < n → next c ≡ seat c) → HasComeIf seat n acts h → HasComeIf next all (acts ++ more) h
+come_more seat next n all acts more h le same come = come_acts next all acts more h (come_seats seat next n all acts h le same come)
+
+told_seats : (seat next : ℕ → ℕ) (n more : ℕ) (first : List (ℕ × LogItem)) (d : LogItem) → n ≤ more → ((c : ℕ) → c < n → next c ≡ seat c) → IsToldBefore seat n first d → IsToldBefore next more first d
+told_seats seat next n more first d le same told = record { only = told.only; before = come_seats seat next n more first d.teller le same told.before }
+
+-- the acts that are new: each is told by what was done before it
+abbrev pub AreToldPast : (ℕ → ℕ) → ℕ → List (ℕ × LogItem) → List (ℕ × LogItem) → Type 0
+AreToldPast seat n acts new = (i : ℕ) (d : LogItem) (past rest : List (ℕ × LogItem)) → new ≡ past ++ (i, d) ∷ rest → IsToldBefore seat n (acts ++ past) d
+
+pub told_more : (seat next : ℕ → ℕ) (n all : ℕ) (acts new : List (ℕ × LogItem)) → n ≤ all → ((c : ℕ) → c < n → next c ≡ seat c) → AreToldBefore seat n acts → AreToldPast seat n acts new → AreToldBefore next all (acts ++ new)
+told_more seat next n all acts new le same told past i d first rest is = ⊎_elim
+    (λ (p : (more : List (ℕ × LogItem)) × (acts ≡ first ++ (i, d) ∷ more)). told_seats seat next n all first d le same (told i d first p.0 p.1))
+    (λ (p : (more : List (ℕ × LogItem)) × (first ≡ acts ++ more) × (new ≡ more ++ (i, d) ∷ rest)).
+    subst (λ (l : List (ℕ × LogItem)). IsToldBefore next all l d) (sym p.1) (told_seats seat next n all (acts ++ p.0) d le same (past i d p.0 rest p.2)))
+    (stands acts new first rest (i, d) is)
+
+-- Items by which no note was heard
+
+plain_with : (s : State) (e : Event) (o : Option Outcome) (ds : List LogItem) → map untold ds ≡ ds → map untold (log_with s e o ds) ≡ log_with s e o ds
+plain_with s e None ds plain = plain
+plain_with s e (Some o) ds plain = λ k. log_item (by_number s e) (reply_without_id o.reply) ∷ plain k
+
+-- what a run has of its events is such
+pub plain_from : (r : Run) (es : List Event) → map untold (log_from r es) ≡ log_from r es
+plain_from r [] = refl
+plain_from r (e ∷ es) = plain_with r.state e (step r.state e) (log_from (run_with_event r (step r.state e)) es) (plain_from (run_with_event r (step r.state e)) es)
+
+pub plain_of_end : (a b : List LogItem) → map untold (a ++ b) ≡ a ++ b → map untold b ≡ b
+plain_of_end [] b plain = plain
+plain_of_end (x ∷ a) b plain = plain_of_end a b (same_rest (untold x) x (map untold (a ++ b)) (a ++ b) plain)
+
+no_teller_if : (e : Event) → None ≡ teller_if e None
+no_teller_if (Hear None) = refl
+no_teller_if e = refl
+
+plain_told : (seat : ℕ → ℕ) (n : ℕ) (first : List (ℕ × LogItem)) (d : LogItem) → d.teller ≡ None → IsToldBefore seat n first d
+plain_told seat n first d none = record {
+  only = none ∙ (no_teller_if d.event ∙ ap (teller_if d.event) (sym none));
+  before = subst (HasComeIf seat n first) (sym none) tt;
+}
+
+pub plain_past : (seat : ℕ → ℕ) (n id : ℕ) (ds : List LogItem) (acts : List (ℕ × LogItem)) → map untold ds ≡ ds → AreToldPast seat n acts (by_seat id ds)
+plain_past seat n id [] acts plain i d past rest is = absurd (no_act past rest (i, d) is)
+plain_past seat n id (x ∷ ds) acts plain i d [] rest is =
+    let here : x ≡ d = ap (λ (a : ℕ × LogItem). a.1) (same_act (id, x) (i, d) (by_seat id ds) rest is) in
+    let none : None ≡ x.teller = ap (λ (a : LogItem). a.teller) (same_first (untold x) x (map untold ds) ds plain) in
+    plain_told seat n (acts ++ []) d (ap (λ (a : LogItem). a.teller) (sym here) ∙ sym none)
+plain_past seat n id (x ∷ ds) acts plain i d (y ∷ past) rest is =
+    let one = plain_past seat n id ds (acts ++ y ∷ []) (same_rest (untold x) x (map untold ds) ds plain) i d past rest (same_acts (id, x) y (by_seat id ds) (past ++ (i, d) ∷ rest) is) in
+    subst (λ (l : List (ℕ × LogItem)). IsToldBefore seat n l d) (append_assoc acts (y ∷ []) past) one
+
+-- The keeper's Hear of a note whose teller has come so far
+
+pub heard_past : (seat : ℕ → ℕ) (n id : ℕ) (h : Option Teller) (acts : List (ℕ × LogItem)) → HasComeIf seat n acts h → AreToldPast seat n acts (by_seat id (heard_from h))
+heard_past seat n id h acts come i d [] rest is =
+    let here : has_heard_from h ≡ d = ap (λ (a : ℕ × LogItem). a.1) (same_act (id, has_heard_from h) (i, d) [] rest is) in
+    subst (IsToldBefore seat n (acts ++ [])) here (record { only = refl; before = subst (λ (l : List (ℕ × LogItem)). HasComeIf seat n l h) (sym (append-nil acts)) come })
+heard_past seat n id h acts come i d (y ∷ past) rest is =
+    absurd (no_act past rest (i, d) (same_acts (id, has_heard_from h) y [] (past ++ (i, d) ∷ rest) is))
