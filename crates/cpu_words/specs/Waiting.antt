@@ -13,8 +13,9 @@ use Rattle.cpu_words.specs.declared.view.CpuView.{CpuView}
 use Rattle.cpu_words.specs.declared.view.KeeperView.{KeeperView}
 use Rattle.cpu_words.specs.declared.view.LogItem.{LogItem}
 use Rattle.cpu_words.specs.declared.view.Logged.{Logged}
+use Rattle.cpu_words.specs.declared.view.Teller.{Teller}
 use Rattle.cpu_words.specs.declared.view.View.TheVariants.{Keeper, Cpu}
-use Rattle.cpu_words.specs.KeeperLog.{changes_in, HasWaited, IsSeenOut}
+use Rattle.cpu_words.specs.KeeperLog.{changes_in, HasHeardFrom, HasWaited, IsSeenOut}
 use Rattle.cpu_words.specs.Logs.{without_logs, part, LoggedRuled}
 use Rattle.cpu_words.specs.Headline.{RunsAsLogged, SectionMayHold}
 
@@ -32,6 +33,15 @@ pub record HasEndedOn (z : Settings) (s : Table ℕ Logged) (r : RunsAsLogged z 
   -- so a section of it that is open now began later
   pub begun : (b : ℕ) → begin_at (after (opening z) r.run.events) c ≡ Some b → length (after (opening z) earlier).history ≤ b
 
+-- The list was cut in two at some moment. Each section that was open at that moment, on whatever CPU, has ended, and the history had no more changes then.
+pub record HasEndedSince (z : Settings) (first rest : List Event) (most : ℕ) : Type 0 where
+  pub exits : (c b : ℕ) → c < z.cpus → begin_at (after (opening z) first) c ≡ Some b → HasExit (after (opening z) first) c rest
+  pub changes : length (after (opening z) first).history ≤ most
+
+-- The moment is one before the CPU of h had made so many events: the part of its seat until then is shorter.
+abbrev pub IsBefore : {z : Settings} {s : Table ℕ Logged} → RunsAsLogged z s → Teller → List Event → Type 0
+IsBefore r h first = length (part (r.run.seat h.cpu) (take (length first) r.acts)) < h.events
+
 -- Each section that was open when the keeper had done just `before` has ended: so it is of a list of events that leads to what the table shows.
 pub record HaveEnded (z : Settings) (s : Table ℕ Logged) (before looks : List LogItem) : Type 0 where
   pub run : RunsAsLogged z s
@@ -46,6 +56,8 @@ pub record HaveEnded (z : Settings) (s : Table ℕ Logged) (before looks : List 
   pub exits : (c b : ℕ) → c < z.cpus → begin_at (after (opening z) earlier) c ≡ Some b → HasExit (after (opening z) earlier) c since
   -- and so has the section that was open on a CPU as the keeper took this CPU's word
   pub each : (c : ℕ) → c < z.cpus → HasEndedOn z s run before looks c
+  -- and where the keeper had heard a note by then, so has each section that was open at any moment before that was told, such as the begin of a call that told it
+  pub told : (h : Teller) (first rest : List Event) → HasHeardFrom h before → run.run.events ≡ first ++ rest → IsBefore run h first → HasEndedSince z first rest (changes_in before)
   -- so a section that is open now began later
   pub begun : (c b : ℕ) → begin_at (after (opening z) run.run.events) c ≡ Some b → changes_in before ≤ b
   -- and no open section may hold an entry that was detached by then

@@ -1,7 +1,7 @@
 -- Waiting: where the keeper took the section word of each CPU, and later found each even or another one, each section that was open before has ended.
-use Rattle.std.proofs.Common.{◌≡◌, ◌⊎◌, inl, inr, ⊎_elim, ℕ, ◌+◌, ◌%◌, ◌<◌, ◌≤◌, IsTrue, List, [], ◌∷◌, ◌++◌, length, take, Some, refl, sym, ap, ◌∙◌, subst, length-append, append_assoc, arith}
+use Rattle.std.proofs.Common.{◌≡◌, ◌⊎◌, inl, inr, ⊎_elim, ℕ, ◌+◌, ◌-◌, ◌%◌, ◌<◌, ◌≤◌, IsTrue, List, [], ◌∷◌, ◌++◌, length, take, drop, Some, refl, sym, ap, ◌∙◌, subst, length-append, append_assoc, arith}
 use Rattle.std.proofs.lemmas.Bool.{cases_lt}
-use Rattle.std.proofs.lemmas.List.{append_cancel_right, take_at, length-map}
+use Rattle.std.proofs.lemmas.List.{append_cancel_left, append_cancel_right, take_at, take-append-drop, length-take-le}
 use Rattle.std.proofs.lemmas.Option.{none-some}
 use Rattle.std.proofs.Math.Seq.{take-append-add}
 use mathlib.Core.Option.{some}
@@ -19,18 +19,20 @@ use Rattle.protocol.proofs.keeps.Keeping.{opening_holds}
 use Rattle.protocol.proofs.runs.Grace.{ends_by_exit}
 use Rattle.cpu_words.specs.declared.view.LogItem.{LogItem}
 use Rattle.cpu_words.specs.declared.view.Logged.{Logged}
+use Rattle.cpu_words.specs.declared.view.Teller.{Teller}
 use Rattle.cpu_words.specs.declared.view.View.TheVariants.{Cpu}
 use Rattle.cpu_words.specs.Rule.{log_of_events}
-use Rattle.cpu_words.specs.KeeperLog.{changes_in, has_taken, has_found, IsSeenOut, HasWaited}
+use Rattle.cpu_words.specs.KeeperLog.{changes_in, has_taken, has_found, has_heard_from, HasHeardFrom, IsSeenOut, HasWaited}
 use Rattle.cpu_words.specs.Logs.{part, AreByOwn}
 use Rattle.cpu_words.specs.Headline.{RunsAsLogged}
-use Rattle.cpu_words.specs.Waiting.{HasEndedOn, HaveEnded, WaitingEnds}
+use Rattle.cpu_words.specs.Waiting.{HasEndedOn, HasEndedSince, IsBefore, HaveEnded, WaitingEnds}
 use Rattle.cpu_words.proofs.shown.Seeing.{seen_of}
 use Rattle.cpu_words.proofs.laws.Safety.{running_headline}
 use Rattle.cpu_words.proofs.logs.Changes.{counted, run_as_logged}
 use Rattle.cpu_words.proofs.logs.Runs.{Follows, after_append, follows, follows_after, follows_holds, cut}
 use Rattle.cpu_words.proofs.logs.Loads.{Same, Late, late_on, run_since, Placed, place, part_same, halve, starts_taken, starts_found}
 use Rattle.cpu_words.proofs.logs.Parts.{part_append}
+use Rattle.cpu_words.proofs.logs.Standings.{changes_both}
 
 -- Waiting for one CPU
 
@@ -160,6 +162,98 @@ ended_on z s r before since rest first second acts mine earlier later m are size
       begun = λ b is. subst (λ (q : State). length q.history ≤ b) at (w.late b is);
     }
 
+-- The moment of the cut: so many acts were made, and the seats' parts of these
+
+record CutAt (z : Settings) (acts acts_then : List (ℕ × LogItem)) (first rest : List Event) (t : State) : Type 0 where
+  -- the acts since, up to `acts_then`
+  since : List (ℕ × LogItem)
+  later : List (ℕ × LogItem)
+  before : List (ℕ × LogItem)
+  are : acts_then ≡ before ++ since
+  all : acts ≡ before ++ (since ++ later)
+  run : Follows (after (opening z) first) (since ++ later) rest t
+  on : Holds (after (opening z) first)
+  changes : length (after (opening z) first).history ≤ changes_in (part 0 acts_then)
+
+-- fewer events were made than acts at `acts_then`
+cut_at : (z : Settings) (seat : ℕ → ℕ) (n : ℕ) (acts acts_then later : List (ℕ × LogItem)) (events first rest : List Event) (t : State) → IsTrue (are_fit z) → AreByOwn seat n acts → Follows (opening z) acts events t
+    → acts ≡ acts_then ++ later → events ≡ first ++ rest → length first ≤ length acts_then → CutAt z acts acts_then first rest t
+cut_at z seat n acts acts_then later events first rest t fit owners run are cut_is le =
+    let m = length first in
+    let a = take m acts_then in
+    let b = drop m acts_then in
+    let both : acts_then ≡ a ++ b = sym (take-append-drop m acts_then) in
+    let all : acts ≡ a ++ (b ++ later) = are ∙ (ap (λ (l : List (ℕ × LogItem)). l ++ later) both ∙ append_assoc a b later) in
+    let k = cut (opening z) a (b ++ later) events t (subst (λ (l : List (ℕ × LogItem)). Follows (opening z) l events t) all run) in
+    let size : length k.earlier ≡ m = k.size ∙ length-take-le m acts_then le in
+    let same : first ≡ k.earlier = sym (take_at first rest m refl) ∙ (ap (take m) (sym cut_is ∙ k.are) ∙ take_at k.earlier k.later m size) in
+    let end : rest ≡ k.later = append_cancel_left first rest k.later (sym cut_is ∙ (k.are ∙ ap (λ (l : List Event). l ++ k.later) (sym same))) in
+    let there : k.between ≡ after (opening z) first = follows_after (opening z) a k.earlier k.between k.before ∙ ap (after (opening z)) (sym same) in
+    let on : Holds k.between = follows_holds (opening z) a k.earlier k.between k.before (opening_holds z fit) in
+    let own = own_first seat n a (b ++ later) (subst (AreByOwn seat n) all owners) in
+    let long : length k.between.history ≡ changes_in (part 0 a) + 0 = counted seat n (opening z) a k.earlier k.between k.before (opening_holds z fit) own in
+    let more : changes_in (part 0 acts_then) ≡ changes_in (part 0 a) + changes_in (part 0 b) = ap (λ (l : List (ℕ × LogItem)). changes_in (part 0 l)) both ∙ (ap changes_in (part_append 0 a b) ∙ changes_both (part 0 a) (part 0 b)) in
+    record {
+      since = b;
+      later = later;
+      before = a;
+      are = both;
+      all = all;
+      run = subst (λ (s : State). Follows s (b ++ later) rest t) there (subst (λ (es : List Event). Follows k.between (b ++ later) es t) (sym end) k.since);
+      on = subst Holds there on;
+      changes = let same_length : length k.between.history ≡ length (after (opening z) first).history = ap (λ (s : State). length s.history) there in omega (arith, long, more, same_length);
+    }
+
+-- a wait that was seen later is one that began earlier, too
+seen_past : (c : ℕ) (first looks : List LogItem) → IsSeenOut c looks → IsSeenOut c (first ++ looks)
+seen_past c first looks seen = record {
+  old = seen.old;
+  new = seen.new;
+  before = first ++ seen.before;
+  between = seen.between;
+  after = seen.after;
+  are = ap (λ (l : List LogItem). first ++ l) seen.are ∙ sym (append_assoc first seen.before (has_taken c seen.old ∷ (seen.between ++ has_found c seen.new ∷ seen.after)));
+  moved = seen.moved;
+}
+
+-- The CPU of h had made h's events when the keeper heard it: so a moment at which it had made fewer is before all that the keeper did since.
+few_acts : (z : Settings) (s : Table ℕ Logged) (r : RunsAsLogged z s) (h : Teller) (log : List LogItem) (acts_then later : List (ℕ × LogItem)) (first : List Event)
+    → r.acts ≡ acts_then ++ later → part 0 acts_then ≡ log → HasHeardFrom h log → IsBefore r h first → length first ≤ length acts_then
+few_acts z s r h log acts_then later first are mine heard few =
+    let i = r.run.seat h.cpu in
+    let p = place 0 acts_then heard.before heard.after (has_heard_from (Some h)) (mine ∙ heard.are) in
+    let rest : List (ℕ × LogItem) = (0, has_heard_from (Some h)) ∷ p.second in
+    let whole : r.acts ≡ p.first ++ (0, has_heard_from (Some h)) ∷ (p.second ++ later) = are ∙ (ap (λ (l : List (ℕ × LogItem)). l ++ later) p.are ∙ append_assoc p.first rest later) in
+    let come : h.events ≤ length (part i p.first) = (r.told 0 (has_heard_from (Some h)) p.first (p.second ++ later) whole).before.events in
+    let then_size : length (part i acts_then) ≡ length (part i p.first) + length (part i rest) =
+    ap (λ (l : List (ℕ × LogItem)). length (part i l)) p.are ∙ (ap (λ (l : List LogItem). length l) (part_append i p.first rest) ∙ length-append (part i p.first) (part i rest)) in
+    ⊎_elim
+    (λ (lt : length first < length acts_then). omega (arith, lt))
+    (λ (le : length acts_then ≤ length first).
+    let j = length first - length acts_then in
+    let at : take (length first) r.acts ≡ acts_then ++ take j later =
+    ap (λ (n : ℕ). take n r.acts) (let q : length first ≡ length acts_then + j = omega (arith, le) in q) ∙ (ap (take (length acts_then + j)) are ∙ take-append-add acts_then later j) in
+    let size : length (part i (take (length first) r.acts)) ≡ length (part i acts_then) + length (part i (take j later)) =
+    ap (λ (l : List (ℕ × LogItem)). length (part i l)) at ∙ (ap (λ (l : List LogItem). length l) (part_append i acts_then (take j later)) ∙ length-append (part i acts_then) (part i (take j later))) in
+    absurd (omega (arith, few, size, then_size, come)))
+    (cases_lt (length first) (length acts_then))
+
+-- so each section that was open at that moment has ended
+ended_since : (z : Settings) (s : Table ℕ Logged) (r : RunsAsLogged z s) (before since known : List LogItem) (acts_then later : List (ℕ × LogItem)) (h : Teller) (first rest : List Event)
+    → IsTrue (are_fit z) → r.acts ≡ acts_then ++ later → part 0 acts_then ≡ before → part 0 later ≡ since ++ known → HasWaited since z.cpus → HasHeardFrom h before → r.run.events ≡ first ++ rest → IsBefore r h first
+    → HasEndedSince z first rest (changes_in before)
+ended_since z s r before since known acts_then later h first rest fit are mine its waited heard cut_is few =
+    let g = after (opening z) r.run.events in
+    let k = cut_at z r.run.seat g.seated r.acts acts_then later r.run.events first rest g fit r.owners (run_as_logged z s r) are cut_is (few_acts z s r h before acts_then later first are mine heard few) in
+    let looks : List LogItem = part 0 k.since ++ since in
+    let later_is : k.later ≡ later = append_cancel_left (k.before ++ k.since) k.later later (append_assoc k.before k.since k.later ∙ (sym k.all ∙ (are ∙ ap (λ (l : List (ℕ × LogItem)). l ++ later) k.are))) in
+    let own : part 0 (k.since ++ k.later) ≡ looks ++ known =
+    part_append 0 k.since k.later ∙ (ap (λ (l : List (ℕ × LogItem)). part 0 k.since ++ part 0 l) later_is ∙ (ap (λ (l : List LogItem). part 0 k.since ++ l) its ∙ sym (append_assoc (part 0 k.since) since known))) in
+    record {
+      exits = λ c b lt is. (waited_for c (after (opening z) first) (k.since ++ k.later) rest g looks known k.run k.on own (seen_past c (part 0 k.since) since (waited c lt))).exits b is;
+      changes = subst (λ (l : List LogItem). length (after (opening z) first).history ≤ changes_in l) mine k.changes;
+    }
+
 have_ended : (z : Settings) (s : Table ℕ Logged) (i : ℕ) (l : Logged) (before since : List LogItem) → RunsAsLogged z s → get_elem? s.views i ≡ some l → l.known_log ≡ before ++ since → HasWaited since z.cpus → HaveEnded z s before since
 have_ended z s i l before since r at are waited =
     let run = r.run in
@@ -186,6 +280,7 @@ have_ended z s i l before since r at are waited =
       changes = ap (λ (q : State). length q.history) (sym there) ∙ long;
       exits = λ c b lt is. subst (λ (q : State). HasExit q c k.later) there ((w c lt).exits b (ap (λ (q : State). begin_at q c) there ∙ is));
       each = λ c lt. ended_on z s r before since known.0 h.first h.second h.are h.mine k.earlier k.later k.between k.are k.size there c (w c lt);
+      told = λ m first rest heard cut_is few. ended_since z s r before since known.0 h.first h.second m first rest fit h.are h.mine h.rest waited heard cut_is few;
       begun = begun;
       none = λ i j p k x e keeper cpu ends le may.
           let shown = (run.shows.fits j (Cpu x) cpu).1 in
