@@ -34,7 +34,7 @@ use Rattle.passive_list.specs.Notes.{HasHeardOn, cpu_after_tell, has_heard}
 use Rattle.passive_list.specs.Draining.{HasFreed}
 use Rattle.name_registry.specs.Advancing.{EndsIn, HasAdvanced, HasEnded, Meets, MeetsGrace, MeetsLocal, MeetsPassive}
 use Rattle.name_registry.specs.Destroying.{HasAdvancedFor}
-use Rattle.name_registry.specs.Meeting.{keeper_after_hear, keeper_after_tell}
+use Rattle.name_registry.specs.Meeting.{hears_cpu, keeper_after_hear, keeper_after_tell}
 use Rattle.name_registry.specs.Obstacles.{AnswersBy, HasMet, IsNotRetired, IsRetiredIn, IsTurn, MetLocals, MetReference, MetSection}
 use Rattle.name_registry.proofs.Noted.{heard_told_again, met_again}
 use Rattle.name_registry.proofs.Worked.{prefix_on}
@@ -144,10 +144,11 @@ answers_by z a h b n (Ok stage) own end slots from has =
 answers_by z a h b n (Err refusal) own end slots from has = (has.0, not_retired z a n own (ap (λ (l : List Slot). retired_slot l n) (sym slots) ∙ has.1))
 
 -- what the CPU hears has the keeper's log as the turn ended
-told_end : (a b : OnKeeper) (x y : OnCpu) → b ≡ keeper_after_tell (keeper_after_hear a x) → IsPrefix b.log y.known_log → IsPrefix a.log y.known_log
+told_end : (a b : OnKeeper) (x y : OnCpu) → b ≡ keeper_after_tell (keeper_after_hear a (cpu_after_tell x)) → IsPrefix b.log y.known_log → IsPrefix a.log y.known_log
 told_end a b x y is told =
-    let log : b.log ≡ a.log ++ (did (Hear None) Done ++ did (Tell None) Done) = ap (λ (k : OnKeeper). k.log) is ∙ append_assoc a.log (did (Hear None) Done) (did (Tell None) Done) in
-    prefix_on _ _ _ (did (Hear None) Done ++ did (Tell None) Done, sym log) told
+    let hear : List LogItem = hears_cpu (cpu_after_tell x) in
+    let log : b.log ≡ a.log ++ (hear ++ did (Tell None) Done) = ap (λ (k : OnKeeper). k.log) is ∙ append_assoc a.log hear (did (Tell None) Done) in
+    prefix_on _ _ _ (hear ++ did (Tell None) Done, sym log) told
 
 pub told_turn : (z : Settings) (a : OnKeeper) (x : OnCpu) (n : ℕ) (answer : Result Stage Refusal) (b : OnKeeper) (y : OnCpu) → HasAdvancedFor z a x n answer b y → IsTurn z n x answer y
 told_turn z a x n answer b y has = record {
@@ -155,9 +156,9 @@ told_turn z a x n answer b y has = record {
   log = has.end.log;
   known = has.known;
   seen = has.seen;
-  on = prefix_on _ _ _ (did (Hear None) Done, refl) (advanced_on (keeper_after_hear a x) n answer has.end has.made);
+  on = prefix_on _ _ _ (hears_cpu x, refl) (advanced_on (keeper_after_hear a x) n answer has.end has.made);
   told = told_end has.end b x y has.is has.told;
-  answers = answers_by z a (keeper_after_hear a x) has.end n answer has.own has.own_end refl (did (Hear None) Done, refl) has.made;
+  answers = answers_by z a (keeper_after_hear a x) has.end n answer has.own has.own_end refl (hears_cpu x, refl) has.made;
 }
 
 -- the steps of one, put together

@@ -3,7 +3,7 @@ use Rattle.std.proofs.Common.{◌≡◌, ◌⊎◌, inl, inr, ⊎_elim, ℕ, zer
 use Rattle.std.proofs.lemmas.Bool.{or_cases, not-true, false≢true, eqb-true, eqb-false, cases_lt, not-false}
 use Rattle.std.proofs.lemmas.List.{append-nil}
 use mathlib.Core.List.{IsPrefix}
-use Rattle.protocol.specs.declared.event.Event.TheVariants.{Hear, Tell}
+use Rattle.protocol.specs.declared.event.Event.TheVariants.{Tell}
 use Rattle.protocol.specs.declared.event.Reply.TheVariants.{Done}
 use Rattle.protocol.specs.Laws.{HasMoved}
 use Rattle.protocol.proofs.slots.Cells.{get_or_all}
@@ -13,17 +13,20 @@ use Rattle.registry_values.specs.Answers.{wait_answer}
 use Rattle.registry_values.specs.Marks.{is_even, is_out}
 use Rattle.registry_values.proofs.Least.{least_none}
 use Rattle.cpu_words.specs.declared.view.LogItem.{LogItem}
-use Rattle.cpu_words.specs.KeeperLog.{changes_in, has_taken, has_found, HasPassedOn, HasWaited, IsDetachedFrom, IsSeenOut, IsSnapped, KeepsSlot}
+use Rattle.cpu_words.specs.declared.view.Teller.{Teller}
+use Rattle.cpu_words.specs.KeeperLog.{changes_in, has_taken, has_found, has_heard_from, heard_from, HasHeardFrom, HasPassedOn, HasWaited, IsDetachedFrom, IsSeenOut, IsSnapped, KeepsSlot}
 use Rattle.cpu_words.specs.Rule.{did}
-use Rattle.cpu_words.proofs.logs.Growing.{passed_on}
-use Rattle.cpu_words.proofs.logs.Standings.{kept_entry, kept_parts}
+use Rattle.cpu_words.proofs.logs.Growing.{passed_on, snapped_on}
+use Rattle.cpu_words.proofs.logs.Standings.{changes_last, kept_entry, kept_parts, standing_last}
 use Rattle.passive_list.specs.Cpus.{OnCpu}
+use Rattle.passive_list.specs.Notes.{as_teller, cpu_after_tell}
 use Rattle.passive_list.specs.Keepers.{OnKeeper}
 use Rattle.passive_list.proofs.Walking.{prefix_trans}
-use Rattle.name_registry.specs.Meeting.{GoesOnByNotes, HasLearned, keeper_after_hear}
+use Rattle.name_registry.specs.Meeting.{GoesOnByNotes, HasLearned, hears_cpu, keeper_after_hear}
 use Rattle.name_registry.specs.Performing.{Finishes, GlancesBelow, GlancesOnce, HasPerformed, HasSeenAllOut, Hold, Looking, SnapshotsBelow, SomeBegan, SomeGlanced, SomePassed, TurnsWaiting, is_seen, none_seen, word_of}
 use Rattle.name_registry.proofs.Owned.{learned}
 use Rattle.name_registry.proofs.Passed.{IsReady, Passing, onward_below, passed_end, ready}
+use Rattle.name_registry.proofs.Worked.{prefix_on}
 use Rattle.name_registry.proofs.Noted.{by_meeting, by_meeting_again, more_notes, no_notes}
 
 -- What stands in a log
@@ -137,6 +140,7 @@ pub record SoFar (cpus : ℕ) (x : OnCpu) (words : List ℕ) (numbers : List (Op
   pub before : List LogItem
   pub since : List LogItem
   pub are : m.known_log ≡ before ++ since
+  pub heard : HasHeardFrom (as_teller x) before
   pub known : IsPrefix x.known_log before
   pub pass : length x.view.pass ≤ changes_in before
   pub ready : (t n : ℕ) → IsDetachedFrom t n before → IsReady cpus numbers before t n
@@ -149,6 +153,7 @@ so_far_on cpus x words numbers seen m y more had = record {
   before = had.before;
   since = had.since ++ more.0;
   are = sym more.1 ∙ (ap (λ (l : List LogItem). l ++ more.0) had.are ∙ append_assoc had.before had.since more.0);
+  heard = had.heard;
   known = had.known;
   pass = had.pass;
   ready = had.ready;
@@ -162,6 +167,7 @@ so_far_by cpus x words numbers others seen m same had = record {
   before = had.before;
   since = had.since;
   are = had.are;
+  heard = had.heard;
   known = had.known;
   pass = had.pass;
   ready = λ t n gone. ⊎_elim
@@ -172,19 +178,28 @@ so_far_by cpus x words numbers others seen m same had = record {
   out = had.out;
 }
 
--- a hold's end: the log of the keeper, and what came to be known beyond it
+-- a hold's end: the log of the keeper as it had heard the CPU, and what came to be known beyond it
 record After (log more : List LogItem) (y : OnCpu) : Type 0 where
   tail : List LogItem
-  are : y.known_log ≡ log ++ (did (Hear None) Done ++ (more ++ tail))
+  are : y.known_log ≡ log ++ (more ++ tail)
 
-after_hold : (looks : Looking → Looking → Type 0) (a : OnKeeper) (x : OnCpu) (b : OnKeeper) (y : OnCpu) (hold : Hold looks a x b y) (more : List LogItem) → hold.end.log ≡ (a.log ++ did (Hear None) Done) ++ more → After a.log more y
+after_hold : (looks : Looking → Looking → Type 0) (a : OnKeeper) (x : OnCpu) (b : OnKeeper) (y : OnCpu) (hold : Hold looks a x b y) (more : List LogItem) → hold.end.log ≡ (a.log ++ hears_cpu x) ++ more → After (a.log ++ hears_cpu x) more y
 after_hold looks a x b y hold more are =
-    let h : List LogItem = did (Hear None) Done in
     let t : List LogItem = did (Tell None) Done ++ hold.told.0 in record {
       tail = t;
       are = sym hold.told.1 ∙ (ap (λ (l : List LogItem). l ++ hold.told.0) hold.log ∙ (append_assoc hold.end.log (did (Tell None) Done) hold.told.0
-          ∙ (ap (λ (l : List LogItem). l ++ t) are ∙ (append_assoc (a.log ++ h) more t ∙ append_assoc a.log h (more ++ t)))));
+          ∙ (ap (λ (l : List LogItem). l ++ t) are ∙ append_assoc (a.log ++ hears_cpu x) more t)));
     }
+
+-- a note that the keeper hears makes no change, and no entry another
+heard_changes : (log : List LogItem) (h : Option Teller) → changes_in (log ++ heard_from h) ≡ changes_in log
+heard_changes log h = changes_last log (has_heard_from h)
+
+heard_ready : (cpus : ℕ) (numbers : List (Option ℕ)) (log : List LogItem) (h : Option Teller) → ((t n : ℕ) → IsDetachedFrom t n log → IsReady cpus numbers log t n) → (t n : ℕ) → IsDetachedFrom t n (log ++ heard_from h) → IsReady cpus numbers (log ++ heard_from h) t n
+heard_ready cpus numbers log h are t n gone = ⊎_elim
+    (λ (passed : (c : ℕ) → c < cpus → HasPassedOn t c log). inl (λ c lt. passed_on t c log (heard_from h) (refl, tt) (passed c lt)))
+    (λ (retired : (get_or numbers t None ≡ Some n) × ((j : ℕ) → j < cpus → (w : ℕ) × IsSnapped t j w log)). inr (retired.0, λ j lt. let w = retired.1 j lt in (w.0, snapped_on t j w.0 log (heard_from h) (refl, tt) w.1)))
+    (are t n (sym (standing_last t log (has_heard_from h)) ∙ gone))
 
 none_is_seen : (c : ℕ) → is_seen none_seen c ≡ true → ⊥
 none_is_seen c is = false≢true (sym (get_or_all {X = Bool} 8 false c) ∙ is)
@@ -194,14 +209,15 @@ so_far_begun z x words numbers y is =
     let hold = is.2.hold in
     let p = snapped words z.cpus _ hold.end hold.made in
     let q = after_hold _ is.0 x is.1 y hold p.more p.are in
-    let rest : List LogItem = p.more ++ q.tail in record {
-      before = is.0.log;
-      since = did (Hear None) Done ++ rest;
+    let log = is.0.log in record {
+      before = log ++ hears_cpu x;
+      since = p.more ++ q.tail;
       are = q.are;
-      known = hold.known;
-      pass = hold.seen;
-      ready = ready z is.0 numbers is.2.own is.2.numbers;
-      taken = λ c lt. taken_past c (word_of words c) (did (Hear None) Done) rest (taken_more c (word_of words c) p.more q.tail (p.taken c lt));
+      heard = record { before = log; after = []; are = refl };
+      known = prefix_on x.known_log log (log ++ hears_cpu x) hold.known (hears_cpu x, refl);
+      pass = let n = hold.seen in omega (arith, n, heard_changes log (Some (as_teller x)));
+      ready = heard_ready z.cpus numbers log (Some (as_teller x)) (ready z is.0 numbers is.2.own is.2.numbers);
+      taken = λ c lt. taken_more c (word_of words c) p.more q.tail (p.taken c lt);
       out = λ c lt seen. absurd (none_is_seen c seen);
     }
 
@@ -210,17 +226,18 @@ so_far_turn z x words numbers seen m told after y had is =
     let hold = is.2.hold in
     let p = glanced words seen after z.cpus _ hold.end hold.made in
     let q = after_hold _ is.0 m is.1 y hold p.more p.are in
-    let h : List LogItem = did (Hear None) Done in
+    let h : List LogItem = hears_cpu m in
     let rest : List LogItem = h ++ (p.more ++ q.tail) in
     let gap = hold.known.0 in
     let new : List LogItem = gap ++ rest in
     let are : y.known_log ≡ had.before ++ (had.since ++ new) =
-    q.are ∙ (ap (λ (l : List LogItem). l ++ rest) (sym hold.known.1 ∙ ap (λ (l : List LogItem). l ++ gap) had.are)
+    q.are ∙ (append_assoc is.0.log h (p.more ++ q.tail) ∙ ap (λ (l : List LogItem). l ++ rest) (sym hold.known.1 ∙ ap (λ (l : List LogItem). l ++ gap) had.are)
     ∙ (append_assoc (had.before ++ had.since) gap rest ∙ append_assoc had.before had.since new)) in
     record {
       before = had.before;
       since = had.since ++ new;
       are = are;
+      heard = had.heard;
       known = had.known;
       pass = had.pass;
       ready = had.ready;
@@ -256,7 +273,8 @@ passed_out z x words numbers seen m y had waited is =
     let does = is.2 in
     let before = had.before in
     let since = had.since in
-    let hear : List LogItem = did (Hear None) Done in
+    let hear : List LogItem = hears_cpu m in
+    let again : List LogItem = hears_cpu (cpu_after_tell m) in
     let tell : List LogItem = did (Tell None) Done in
     let h = keeper_after_hear a m in
     let gap : List LogItem = does.known.0 ++ hear in
@@ -266,9 +284,9 @@ passed_out z x words numbers seen m y had waited is =
     let looks : List LogItem = gap ++ on.log.0 in
     let whole : does.end.log ≡ before ++ (since ++ looks) =
     sym on.log.1 ∙ (ap (λ (l : List LogItem). l ++ on.log.0) log ∙ (append_assoc (before ++ since) gap on.log.0 ∙ append_assoc before since looks)) in
-    let tail : List LogItem = hear ++ (tell ++ does.told.0) in
+    let tail : List LogItem = again ++ (tell ++ does.told.0) in
     let to_tail : y.known_log ≡ does.end.log ++ tail =
-    sym does.told.1 ∙ (ap (λ (k : OnKeeper). k.log ++ does.told.0) does.is ∙ (append_assoc (does.end.log ++ hear) tell does.told.0 ∙ append_assoc does.end.log hear (tell ++ does.told.0))) in
+    sym does.told.1 ∙ (ap (λ (k : OnKeeper). k.log ++ does.told.0) does.is ∙ (append_assoc (does.end.log ++ again) tell does.told.0 ∙ append_assoc does.end.log again (tell ++ does.told.0))) in
     let all : List LogItem = since ++ (looks ++ tail) in
     let are : y.known_log ≡ before ++ all =
     to_tail ∙ (ap (λ (l : List LogItem). l ++ tail) whole ∙ (append_assoc before (since ++ looks) tail ∙ ap (λ (l : List LogItem). before ++ l) (append_assoc since looks tail))) in
@@ -277,6 +295,7 @@ passed_out z x words numbers seen m y had waited is =
       before = before;
       since = all;
       are = are;
+      heard = had.heard;
       known = had.known;
       seen = had.pass;
       waited = waited_on since (looks ++ tail) z.cpus waited;

@@ -10,7 +10,7 @@ use Rattle.passive_list.specs.Cpus.{OnCpu}
 use Rattle.passive_list.specs.Keepers.{OnKeeper}
 use Rattle.cpu_words.specs.KeeperLog.{changes_in}
 use Rattle.passive_list.specs.Logs.{HasOwnLog}
-use Rattle.passive_list.specs.Notes.{HasHeardOn}
+use Rattle.passive_list.specs.Notes.{HasHeardOn, cpu_after_tell}
 use Rattle.name_registry.specs.Advancing.{HasAdvanced}
 use Rattle.name_registry.specs.Locking.{IsStageOf}
 use Rattle.name_registry.specs.Obstacles.{IsTurn}
@@ -50,7 +50,7 @@ pub record HasAdvancedFor (z : Settings) (a : OnKeeper) (x : OnCpu) (n : ℕ) (a
   pub end : OnKeeper
   pub made : HasAdvanced (keeper_after_hear a x) n answer end
   pub own_end : HasOwnLog z end
-  pub is : b ≡ keeper_after_tell (keeper_after_hear end x)
+  pub is : b ≡ keeper_after_tell (keeper_after_hear end (cpu_after_tell x))
   pub hears : HasHeardOn end.view.history x y
   pub told : IsPrefix b.log y.known_log
   pub own_log : y.log ≡ x.log ++ meets_again x

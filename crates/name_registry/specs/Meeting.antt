@@ -6,11 +6,12 @@ use Rattle.protocol.specs.History.{IsAttached, EndsAt}
 use Rattle.protocol.specs.declared.event.Event.TheVariants.{Hear, Tell}
 use Rattle.protocol.specs.declared.event.Reply.TheVariants.{Done}
 use Rattle.cpu_words.specs.declared.view.LogItem.{LogItem}
+use Rattle.cpu_words.specs.KeeperLog.{heard_from}
 use Rattle.cpu_words.specs.Notes.{keeper_with_note}
 use Rattle.cpu_words.specs.Rule.{did, log_item}
 use Rattle.passive_list.specs.Cpus.{OnCpu, OnPlainCpu}
 use Rattle.passive_list.specs.Keepers.{OnKeeper, OnPlainKeeper}
-use Rattle.passive_list.specs.Notes.{has_heard, has_told}
+use Rattle.passive_list.specs.Notes.{as_teller, has_heard, has_told}
 
 -- both are of the tables that they were of
 abbrev pub KeepsWords : OnPlainKeeper → OnPlainCpu → OnPlainKeeper → OnPlainCpu → Type 0
@@ -19,9 +20,13 @@ KeepsWords k x k' x' = (k'.words ≡ k.words) × (x'.words ≡ x.words)
 abbrev pub is_inside : OnCpu → Bool
 is_inside x = is_some x.view.begin
 
+-- the keeper heard a note of the CPU's, and its log says that this CPU told it
+abbrev pub hears_cpu : OnCpu → List LogItem
+hears_cpu x = heard_from (Some (as_teller x))
+
 -- the keeper as it has heard what the CPU has seen
 abbrev pub keeper_after_hear : OnKeeper → OnCpu → OnKeeper
-keeper_after_hear a x = record { view = keeper_with_note a.view x.view.pass; slots = a.slots; log = a.log ++ did (Hear None) Done }
+keeper_after_hear a x = record { view = keeper_with_note a.view x.view.pass; slots = a.slots; log = a.log ++ hears_cpu x }
 
 -- and as it has told the history
 abbrev pub keeper_after_tell : OnKeeper → OnKeeper

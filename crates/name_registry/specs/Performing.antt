@@ -2,7 +2,7 @@
 use Rattle.std.specs.Prelude.{◌≡◌, ◌⊎◌, ℕ, zero, suc, ◌<◌, ◌≤◌, List, ◌++◌, length, Option, Some, None, Bool, true, false, not, Result, Err, replicate, slice_index_or}
 use mathlib.Core.List.{IsPrefix}
 use Rattle.protocol.specs.declared.event.Event.{Event}
-use Rattle.protocol.specs.declared.event.Event.TheVariants.{Hear, Look, Snapshot, Tell}
+use Rattle.protocol.specs.declared.event.Event.TheVariants.{Look, Snapshot, Tell}
 use Rattle.protocol.specs.declared.event.Reply.TheVariants.{Done, Word}
 use Rattle.registry_values.specs.declared.refusal.Refusal.{Refusal}
 use Rattle.registry_values.specs.declared.refusal.Refusal.TheVariants.{Inside}
@@ -13,7 +13,7 @@ use Rattle.registry_values.specs.Slots.{is_retired_as, retired_number, slot_at}
 use Rattle.cpu_words.specs.declared.view.LogItem.{LogItem}
 use Rattle.cpu_words.specs.declared.view.KeeperView.{KeeperView}
 use Rattle.cpu_words.specs.declared.view.View.TheVariants.{Keeper}
-use Rattle.cpu_words.specs.KeeperLog.{changes_in, HasPassedOn, HasWaited, IsDetachedFrom, KeepsSlot}
+use Rattle.cpu_words.specs.KeeperLog.{changes_in, HasHeardFrom, HasPassedOn, HasWaited, IsDetachedFrom, KeepsSlot}
 use Rattle.cpu_words.specs.Grace.{keeper_after_look}
 use Rattle.cpu_words.specs.Notes.{keeper_with_note}
 use Rattle.cpu_words.specs.Rule.{did}
@@ -21,9 +21,9 @@ use Rattle.cpu_words.specs.Steps.{Makes}
 use Rattle.passive_list.specs.Cpus.{OnCpu}
 use Rattle.passive_list.specs.Keepers.{OnKeeper}
 use Rattle.passive_list.specs.Logs.{HasOwnLog}
-use Rattle.passive_list.specs.Notes.{HasHeardOn}
+use Rattle.passive_list.specs.Notes.{HasHeardOn, as_teller, cpu_after_tell}
 use Rattle.name_registry.specs.Advancing.{GoesOnByLooks, HasLookedFor, MeetsGrace, PassedBelow}
-use Rattle.name_registry.specs.Meeting.{keeper_after_hear, keeper_after_tell, meets, meets_again}
+use Rattle.name_registry.specs.Meeting.{hears_cpu, keeper_after_hear, keeper_after_tell, meets, meets_again}
 
 -- The keeper's looks for no entry
 
@@ -71,7 +71,7 @@ pub record Hold (looks : Looking → Looking → Type 0) (a : OnKeeper) (x : OnC
   pub known : IsPrefix x.known_log a.log
   pub seen : length x.view.pass ≤ changes_in a.log
   pub end : Looking
-  pub made : looks (record { view = keeper_with_note a.view x.view.pass; log = a.log ++ did (Hear None) Done }) end
+  pub made : looks (record { view = keeper_with_note a.view x.view.pass; log = a.log ++ hears_cpu x }) end
   pub view : b.view ≡ end.view
   pub slots : b.slots ≡ a.slots
   pub log : b.log ≡ end.log ++ did (Tell None) Done
@@ -122,7 +122,7 @@ pub record HasPassedAll (z : Settings) (a : OnKeeper) (x : OnCpu) (numbers : Lis
   pub end : OnKeeper
   pub passes : PassesBelow z numbers 32 (keeper_after_hear a x) end
   pub own : HasOwnLog z end
-  pub is : b ≡ keeper_after_tell (keeper_after_hear end x)
+  pub is : b ≡ keeper_after_tell (keeper_after_hear end (cpu_after_tell x))
   pub hears : HasHeardOn b.view.history x y
   pub told : IsPrefix b.log y.known_log
   pub own_log : y.log ≡ x.log ++ meets_again x
@@ -190,11 +190,12 @@ PerformsOutside z turns false x result y = (told : Option ℕ) × (result ≡ wa
 
 -- What the caller's CPU knows at the end
 
--- When the keeper had done just `before`, it had heard all that the CPU knew as the call began: what the CPU knew of the keeper's log, and its pass. Since then it saw each CPU out of a section: by the law `running_headline` (`waiting`) each section that was open then has ended. And each entry that had been detached by then, and whose slot wasn't given again since, has passed on each CPU.
+-- When the keeper had done just `before`, it had heard the CPU, which told it all that it knew as the call began: what it knew of the keeper's log, and its pass. Since then the keeper saw each CPU out of a section: by the law `running_headline` (`waiting`) each section has ended that was open then, or at any moment before the CPU told the keeper: so each that was open as the call began. And each entry that had been detached by then, and whose slot wasn't given again since, has passed on each CPU.
 pub record HasSeenAllOut (cpus : ℕ) (x y : OnCpu) : Type 0 where
   pub before : List LogItem
   pub since : List LogItem
   pub are : y.known_log ≡ before ++ since
+  pub heard : HasHeardFrom (as_teller x) before
   pub known : IsPrefix x.known_log before
   pub seen : length x.view.pass ≤ changes_in before
   pub waited : HasWaited since cpus

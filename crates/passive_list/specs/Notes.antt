@@ -1,20 +1,27 @@
 -- Notes: what one CPU has seen reaches another, or the keeper.
-use Rattle.std.specs.Prelude.{◌≡◌, List, ◌++◌, Some}
+use Rattle.std.specs.Prelude.{◌≡◌, List, ◌++◌, Option, Some}
 use mathlib.Core.List.{IsPrefix}
 use Rattle.registry_values.specs.declared.entry.Change.{Change}
 use Rattle.protocol.specs.declared.event.Event.TheVariants.{Hear, Tell}
 use Rattle.protocol.specs.declared.event.Reply.TheVariants.{Done}
 use Rattle.cpu_words.specs.declared.view.LogItem.{LogItem}
 use Rattle.cpu_words.specs.declared.view.View.TheVariants.{Cpu}
+use Rattle.cpu_words.specs.declared.view.Teller.{Teller}
 use Rattle.cpu_words.specs.KeeperLog.{IsShownAfter}
+use Rattle.cpu_words.specs.Logs.{teller_of}
 use Rattle.cpu_words.specs.Notes.{with_note}
 use Rattle.cpu_words.specs.Rule.{did}
 use Rattle.passive_list.specs.Cpus.{OnCpu}
 
--- a note, to a contract: a prefix of the history, and what its teller had heard that the keeper did
+-- a note, to a contract: a prefix of the history, what its teller had heard that the keeper did, and which CPU told it, if it isn't the keeper's
 pub record OnNote : Type 0 where
   pub pass : List Change
   pub known_log : List LogItem
+  pub teller : Option Teller
+
+-- a CPU as the teller of a note, that has made one event more by that
+abbrev pub as_teller : OnCpu → Teller
+as_teller a = teller_of a.view a.log
 
 -- the pass is a longer prefix of the history, with what the note tells in it, and the known log goes on; nothing else changes but the pass noted beside the view, and the CPU's own log: how that goes on each call says
 pub record HasHeardOn (note : List Change) (a b : OnCpu) : Type 0 where

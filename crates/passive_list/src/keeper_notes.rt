@@ -2,9 +2,10 @@
 
 ghost use Rattle.std.specs.Prelude.{◌≡◌, ◌++◌, None};
 ghost use mathlib.Core.List.{IsPrefix};
-ghost use Rattle.protocol.specs.declared.event.Event.TheVariants.{Hear, Tell};
+ghost use Rattle.protocol.specs.declared.event.Event.TheVariants.{Tell};
 ghost use Rattle.protocol.specs.declared.event.Reply.TheVariants.{Done};
 ghost use Rattle.cpu_words.specs.Domains.{AreWordsOf};
+ghost use Rattle.cpu_words.specs.KeeperLog.{heard_from};
 ghost use Rattle.cpu_words.specs.Notes.{keeper_with_note};
 ghost use Rattle.cpu_words.specs.Rule.{did};
 ghost use Rattle.passive_list.specs.Logs.{HasOwnLog};
@@ -21,6 +22,7 @@ pub fn tell_keeper<D: Domain>(words: &Words, keeper: &mut Keeper) -> Note<D>
     requires named { keeper.old.words.table ≡ D.table }
     ensures note { result.pass ≡ keeper.old.keeper.view.history }
     ensures known_log { result.known_log ≡ keeper.new.keeper.log }
+    ensures teller { result.teller ≡ None }
     ensures log { keeper.new ≡ record keeper.old { keeper = record keeper.old.keeper { log = keeper.old.keeper.log ++ did (Tell None) Done } } }
 {
     Note {
@@ -35,13 +37,15 @@ pub fn tell_keeper_on(words: &Words, keeper: &mut Keeper) -> NoteSeat
     ensures table { result.table ≡ keeper.old.words.table }
     ensures note { result.view ≡ keeper.old.keeper.view.history }
     ensures known_log { result.known_log ≡ keeper.new.keeper.log }
+    ensures teller { result.teller ≡ None }
     ensures log { keeper.new ≡ record keeper.old { keeper = record keeper.old.keeper { log = keeper.old.keeper.log ++ did (Tell None) Done } } }
 {
     steps::tell_keeper(words, &mut keeper.seat)
 }
 
 /// The keeper hears a note: what the note tells is in its history, and what it tells of the keeper's log begins that log. It has
-/// all that the keeper has in its slots and marks (`own`). Of the keeper nothing changes but the note that it heard last, and the log.
+/// all that the keeper has in its slots and marks (`own`). Of the keeper nothing changes but the note that it heard last, and the log, which says
+/// whose note it was, and how many events that CPU had made by then.
 /// Condition: D names the keeper's table.
 pub fn hear_keeper<D: Domain>(words: &Words, keeper: &mut Keeper, note: Note<D>)
     requires words { AreWordsOf words.now keeper.old.words.table keeper.old.words.settings }
@@ -49,7 +53,7 @@ pub fn hear_keeper<D: Domain>(words: &Words, keeper: &mut Keeper, note: Note<D>)
     ensures told { IsPrefix note.pass keeper.new.keeper.view.history }
     ensures view { keeper.new.keeper.view ≡ keeper_with_note keeper.old.keeper.view note.pass }
     ensures slots { keeper.new.keeper.slots ≡ keeper.old.keeper.slots }
-    ensures log { keeper.new.keeper.log ≡ keeper.old.keeper.log ++ did (Hear None) Done }
+    ensures log { keeper.new.keeper.log ≡ keeper.old.keeper.log ++ heard_from note.teller }
     ensures known_log { IsPrefix note.known_log keeper.old.keeper.log }
     ensures own { HasOwnLog keeper.old.words.settings keeper.old.keeper }
     ensures words { keeper.new.words ≡ keeper.old.words }
@@ -65,7 +69,7 @@ pub fn hear_keeper_on(words: &Words, keeper: &mut Keeper, note: NoteSeat)
     ensures told { IsPrefix note.view keeper.new.keeper.view.history }
     ensures view { keeper.new.keeper.view ≡ keeper_with_note keeper.old.keeper.view note.view }
     ensures slots { keeper.new.keeper.slots ≡ keeper.old.keeper.slots }
-    ensures log { keeper.new.keeper.log ≡ keeper.old.keeper.log ++ did (Hear None) Done }
+    ensures log { keeper.new.keeper.log ≡ keeper.old.keeper.log ++ heard_from note.teller }
     ensures known_log { IsPrefix note.known_log keeper.old.keeper.log }
     ensures own { HasOwnLog keeper.old.words.settings keeper.old.keeper }
     ensures words { keeper.new.words ≡ keeper.old.words }

@@ -1,17 +1,18 @@
 //! Notes: what one thread has seen reaches another. A note is sent beside a message, or kept beside what a lock guards.
 
-ghost use Rattle.std.specs.Prelude.{◌≡◌, ◌++◌};
+ghost use Rattle.std.specs.Prelude.{◌≡◌, ◌++◌, Some};
 ghost use mathlib.Core.List.{IsPrefix};
 ghost use Rattle.cpu_words.specs.Domains.{AreWordsOf};
-ghost use Rattle.passive_list.specs.Notes.{HasHeardOn, WasShown, has_heard, cpu_after_tell};
+ghost use Rattle.passive_list.specs.Notes.{HasHeardOn, WasShown, as_teller, has_heard, cpu_after_tell};
 
 use crate::cpu::Cpu;
 use crate::plain_cpu::PlainCpu;
 use cpu_words::{Domain, NoteSeat, Words, steps};
 use std::marker::{Model, PhantomData};
 
-/// What a CPU or the keeper of the table that D names had seen as it told. To a contract it is that prefix of the history, and what its
-/// teller knew of the keeper's log. It moves between threads, and may be dropped.
+/// What a CPU or the keeper of the table that D names had seen as it told. To a contract it is that prefix of the history, what its
+/// teller knew of the keeper's log, and, where a CPU told it, which one, and how many events that had made. It moves between threads, and may
+/// be dropped.
 #[derive(Drop)]
 pub struct Note<D: Domain> {
     pub seat: NoteSeat,
@@ -24,16 +25,16 @@ impl<D: Domain> Model for Note<D> {
 
     ghost Value = { OnNote };
 
-    ghost view = { λ n. record { pass = n.seat.view; known_log = n.seat.known_log } };
+    ghost view = { λ n. record { pass = n.seat.view; known_log = n.seat.known_log; teller = n.seat.teller } };
 
     ghost invariant = { λ n. n.seat.table ≡ D.table };
 }
 
-/// Tells what this CPU has seen: the note has just its pass, and what it has heard of the keeper's log. It changes nothing but the CPU's own
-/// log, inside a section or outside.
+/// Tells what this CPU has seen: the note has just its pass, and what it has heard of the keeper's log, and names the CPU. It changes nothing
+/// but the CPU's own log, inside a section or outside.
 pub fn tell<D: Domain>(words: &Words, cpu: &mut Cpu<D>) -> Note<D>
     requires words { AreWordsOf words.now D.table D.settings }
-    ensures note { result ≡ record { pass = cpu.old.view.pass; known_log = cpu.old.known_log } }
+    ensures note { result ≡ record { pass = cpu.old.view.pass; known_log = cpu.old.known_log; teller = Some (as_teller cpu.old) } }
     ensures log { cpu.new ≡ cpu_after_tell cpu.old }
 {
     Note {
@@ -46,7 +47,7 @@ pub fn tell<D: Domain>(words: &Words, cpu: &mut Cpu<D>) -> Note<D>
 pub fn tell_on(words: &Words, cpu: &mut PlainCpu) -> NoteSeat
     requires words { AreWordsOf words.now cpu.old.words.table cpu.old.words.settings }
     ensures table { result.table ≡ cpu.old.words.table }
-    ensures note { (result.view ≡ cpu.old.cpu.view.pass) × (result.known_log ≡ cpu.old.cpu.known_log) }
+    ensures note { (result.view ≡ cpu.old.cpu.view.pass) × (result.known_log ≡ cpu.old.cpu.known_log) × (result.teller ≡ Some (as_teller cpu.old.cpu)) }
     ensures log { cpu.new.cpu ≡ cpu_after_tell cpu.old.cpu }
     ensures words { cpu.new.words ≡ cpu.old.words }
 {
