@@ -22,10 +22,11 @@ impl<D: Domain> Registry<D> {
     /// as seen once its own word was even or another one. Once all were seen, each CPU that hasn't passed for one of those entries is looked
     /// at for it, so that it passes, as `advance` has it.
     ///
-    /// Ok says in what this CPU knows (`waited`): there was a moment at which the keeper had heard all that the CPU knew as it called, and each
-    /// section that was open then, of whatever CPU, has ended. So no section that is open now or later may hold an entry that this CPU had
-    /// seen detached: whatever the table is, the law `running_headline` says so of it (`waiting`). And each entry that had been detached by
-    /// that moment has passed on each CPU, if its slot wasn't given again since: the looks at the end met no section that was open still. To
+    /// Ok says in what this CPU knows (`waited`): each section that was open as the call began, of whatever CPU, has ended, whether or not this
+    /// CPU knew of it. For there was a moment at which the keeper had heard this CPU, which had told it all that it knew; the keeper's log says
+    /// so; and each section that was open then, or at any moment before the CPU told, has ended. So no section that is open now or later may
+    /// hold an entry that was detached as the call began: whatever the table is, the law `running_headline` says so of it (`waiting`). And each
+    /// such entry has passed on each CPU, if its slot wasn't given again since: the looks at the end met no section that was open still. To
     /// know this the CPU tells the keeper first as it begins, in each turn and at the end, and hears it at the end of each: its pass grows as
     /// by `hear`.
     /// Condition: at least one turn.

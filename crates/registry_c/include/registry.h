@@ -510,9 +510,9 @@ uint32_t registry_perform_begin(struct registry_keeper *keeper, struct registry_
 /*
  * registry_perform_turn - one turn of that wait: done just where all those sections were seen to have ended
  *
- * Done says that each section, on whatever CPU, that was open as the wait began has ended. So no section may hold an entry of which the CPU
- * that began the wait had seen by then that it was detached. And each CPU has passed for the entries that were retired as the wait began,
- * but for those whose slots were given again since: a later registry_advance or registry_destroy needn't look at its section for them.
+ * Done says that each section, on whatever CPU, that was open as the wait began has ended, whether or not the caller knew of it. So no section
+ * may hold an entry that had been detached by then. And each CPU has passed for the entries that were retired as the wait began, but for those
+ * whose slots were given again since: a later registry_advance or registry_destroy needn't look at its section for them.
  * For this the caller leaves the wait alone: nothing but these calls writes it, and each turn gets it just as the call before left it, with the
  * keeper of the same registry. Between the calls the CPU may do whatever else it does. Another CPU may make a turn once it has heard the keeper
  * by a registry_perform_begin, registry_perform_turn or registry_destroy of its own since the last call with this wait.
