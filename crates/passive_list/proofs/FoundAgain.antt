@@ -1,5 +1,5 @@
 -- The second part of a walk: each noted entry is sought by its kind and name, and is written where that finds it.
-use Rattle.std.proofs.Common.{◌≡◌, ◌≢◌, ⊎_elim, ℕ, ◌+◌, ◌≤◌, ◌<◌, List, [], ◌∷◌, ◌++◌, map, length, get_or, take, drop, Option, Some, None, true, refl, sym, ap, ◌∙◌, subst, arith, drop-set-lt, drop-drop, length-set}
+use Rattle.std.proofs.Common.{take_all, ◌≡◌, ◌≢◌, ⊎_elim, ℕ, ◌+◌, ◌≤◌, ◌<◌, List, [], ◌∷◌, ◌++◌, map, length, get_or, take, drop, Option, Some, None, true, refl, sym, ap, ◌∙◌, subst, arith, drop-set-lt, drop-drop, length-set}
 use Rattle.std.proofs.lemmas.List.{append-nil, get_or_default, get_or-map, get_or-take, take_more, take_more_set, length-take-le, length-map}
 use Rattle.std.proofs.lemmas.List.Elements.{Contains-get_or, Contains-push, Contains-push_cases, Contains-append_left}
 use Rattle.std.proofs.lemmas.List.Quantifiers.{all_pairs_push}
@@ -9,6 +9,7 @@ use Rattle.registry_values.specs.declared.entry.Entry.{Entry}
 use Rattle.registry_values.specs.declared.entry.Kind.{Kind}
 use Rattle.registry_values.specs.declared.entry.Kind.TheVariants.{Iface}
 use Rattle.registry_values.specs.declared.name.Name.{Name}
+use Rattle.registry_values.specs.declared.entry.Change.{Change}
 use Rattle.registry_values.specs.declared.entry.Change.TheVariants.{Attach}
 use Rattle.registry_values.specs.Names.{are_name_words}
 use Rattle.registry_values.specs.Slots.{kind_word, key_of}
@@ -17,16 +18,18 @@ use Rattle.protocol.specs.declared.state.Search.{Search}
 use Rattle.protocol.specs.History.{IsAttached, IsLiveAt}
 use Rattle.protocol.proofs.history.History.{at_within, one_entry, one_live, live_down}
 use Rattle.cpu_words.specs.declared.view.CpuView.{CpuView}
+use Rattle.cpu_words.specs.declared.view.LogItem.{LogItem}
 use Rattle.cpu_words.specs.Searching.{key_with, MaySeek}
 use Rattle.cpu_words.proofs.shown.Passes.{attached_prefix}
 use Rattle.passive_list.specs.declared.walks.Noted.{Noted}
 use Rattle.passive_list.specs.Walking.{HasLookedUp}
-use Rattle.passive_list.specs.Walks.{WasLive, HasWalked}
-use Rattle.passive_list.specs.Searches.{nobody, HasGoneOverBy}
-use Rattle.passive_list.specs.Noting.{noted_of, IsNoting, AreNoted, HaveSearched, HasFoundAgain, HaveBeenFound, WritesNext, HasGoneOver}
+use Rattle.passive_list.specs.Walks.{WasLive, AreGoneBy, HasWalked}
+use Rattle.passive_list.specs.Searches.{nobody, SearchesOnce, Lookup, LooksUpEach, HasGoneOverBy}
+use Rattle.passive_list.specs.Noting.{noted_of, IsNoting, AreNoted, HaveSearched, HasFoundAgain, LooksUpAgain, HaveBeenFound, WritesNext, HasGoneOver}
 use Rattle.passive_list.proofs.Walking.{prefix_trans}
-use Rattle.passive_list.proofs.Standing.{prefix_length, live_before, was_live_later, live_stands}
+use Rattle.passive_list.proofs.Standing.{prefix_length, live_before, was_live_later, live_stands, stood_was_live}
 use Rattle.passive_list.proofs.Noting.{no_zeros}
+use Rattle.passive_list.proofs.Searches.{one_more_looked_up}
 use Rattle.passive_list.specs.Cpus.{OnCpu}
 
 -- One entry
@@ -187,6 +190,44 @@ next_found x y w noted d old new count next i answer lt room before now again wr
         subst (λ l. HaveBeenFound x (take i es ++ e ∷ []) l w) (sym ((λ j. take (wrote.0 j) (wrote.1 j)) ∙ take_more_set old count f room))
         (one_more x y w (take i es) (take count old) e before now attached found f below again)
 
+-- by the log: e was looked up by its kind and name
+pub looked_up_again : (c slots : ℕ) (e : Entry) (key : Key) (answer found : Option Entry) (old new : List LogItem) → key ≡ key_of e → SearchesOnce c slots key found old new → ((f : Entry) → answer ≡ Some f → found ≡ Some f)
+    → LooksUpAgain c slots e answer old new
+looked_up_again c slots e key answer found old new is once replied = (found, subst (λ (k : Key). SearchesOnce c slots k found old new) is once, replied)
+
+only : (f g : Entry) → Contains (f ∷ []) g → f ≡ g
+only f g there = ⊎_elim (λ (none : Contains [] g). absurd (omega (arith, none.1))) (λ (is : f ≡ g). is) (Contains-push_cases [] f g there)
+
+-- the noted entry at i was looked up
+pub next_looked_up : (c slots : ℕ) (y w : CpuView) (h : List Change) (noted : List Noted) (d : Noted) (old new : List Entry) (count next i : ℕ) (answer : Option Entry) (first before after : List LogItem) → i < length noted → count < length old → IsPrefix h y.pass
+    → ((e : Entry) → get_or noted i d ≡ noted_of e → IsAttached y.pass e → HasFoundAgain y e answer w) → ((e : Entry) → get_or noted i d ≡ noted_of e → LooksUpAgain c slots e answer before after)
+    → WritesNext answer count old next new → (es : List Entry) → AreNoted h noted es → LooksUpEach c slots (take i es) (take count old) first before → LooksUpEach c slots (take (i + 1) es) (take next new) first after
+next_looked_up c slots y w h noted d old new count next i answer first before after lt room more again log wrote es are so_far =
+    subst (λ l. LooksUpEach c slots l (take next new) first after) (sym (take_more es i blank within)) (by_cases answer again_e (log e is) wrote)
+  where
+    within : i < length es
+    within = omega (arith, lt, ap (λ (l : List Noted). length l) are.are, length-map es noted_of)
+
+    e : Entry
+    e = get_or es i blank
+
+    is : get_or noted i d ≡ noted_of e
+    is = ap (λ l. get_or l i d) are.are ∙ get_or-map noted_of es i blank d within
+
+    again_e : HasFoundAgain y e answer w
+    again_e = again e is (attached_prefix h y.pass e more (are.attached e (Contains-get_or es i blank within)))
+
+    by_cases : (answer : Option Entry) → HasFoundAgain y e answer w → LooksUpAgain c slots e answer before after → WritesNext answer count old next new → LooksUpEach c slots (take i es ++ e ∷ []) (take next new) first after
+    by_cases None found by wrote = subst (λ l. LooksUpEach c slots (take i es ++ e ∷ []) l first after) (append-nil (take count old) ∙ sym (λ j. take (wrote.0 j) (wrote.1 j)))
+        (one_more_looked_up c slots (take i es) (take count old) [] e by.0 first before after so_far by.1 (λ f there. absurd (omega (arith, there.1))))
+    by_cases (Some f) found by wrote = subst (λ l. LooksUpEach c slots (take i es ++ e ∷ []) l first after) (sym ((λ j. take (wrote.0 j) (wrote.1 j)) ∙ take_more_set old count f room))
+        (one_more_looked_up c slots (take i es) (take count old) (f ∷ []) e by.0 first before after so_far by.1
+        (λ g there. let same : f ≡ g = only f g there in (sym same ∙ (found.some f refl).0, by.2 f refl ∙ ap Some same)))
+
+-- at the end they are all
+pub all_taken : (noted : List Noted) (es : List Entry) (i : ℕ) (h : List Change) → AreNoted h noted es → length noted ≤ i → take i es ≡ es
+all_taken noted es i h are over = let size : length noted ≡ length es = ap (λ (l : List Noted). length l) are.are ∙ length-map es noted_of in take_all i es (omega (arith, size, over))
+
 -- A search may begin again
 
 pub may_seek_again : (x y : CpuView) → HaveSearched x y → MaySeek x → MaySeek y
@@ -201,13 +242,24 @@ searched_none x may = record { pass = ([], append-nil x.pass); is = ap (λ (s : 
 pub searched_id : (x y : CpuView) → HaveSearched x y → y.id ≡ x.id
 searched_id x y had = ap (λ (v : CpuView). v.id) had.is
 
+pub searched_slots : (x y : CpuView) → HaveSearched x y → y.settings.slots ≡ x.settings.slots
+searched_slots x y had = ap (λ (v : CpuView). v.settings.slots) had.is
+
 -- The whole walk
 
 pub noted_searched : (x y : CpuView) (es : List Entry) → IsNoting x es 0 y → HaveSearched x y
 noted_searched x y es at = record { pass = at.pass; is = at.is ∙ ap (λ (e : Option Entry). record x { pass = y.pass; search = None; found = e }) (sym (ap (λ (v : CpuView). v.found) at.is)) }
 
 pub all_noted : (x y : CpuView) (noted : List Noted) (es : List Entry) → noted ≡ map noted_of es → IsNoting x es 0 y → AreNoted y.pass noted es
-all_noted x y noted es are at = record { are = are; attached = λ e there. (at.noted.stands e there).0.attached; newest_first = at.noted.newest_first }
+all_noted x y noted es are at = record { are = are; attached = λ e there. (at.noted.stands e there).attached; newest_first = at.noted.newest_first }
+
+-- it went by these: each was live at some point since, as a later pass tells too
+pub all_gone_by : (x y w : CpuView) (es : List Entry) (link : ℕ) → IsNoting x es link y → IsPrefix y.pass w.pass → AreGoneBy w.pass (length x.pass) (length w.pass) es
+all_gone_by x y w es link at more = record {
+  each = λ e there.
+      was_live_later y.pass w.pass (length x.pass) (length x.pass) e more (omega arith) (stood_was_live y.pass (length x.pass) e.slot e at.tells.legal (prefix_length x.pass y.pass at.pass) (at.noted.stands e there));
+  newest_first = at.noted.newest_first;
+}
 
 -- nobody is found
 pub nobody_found : (x y : CpuView) (key : Key) (answer : Option Entry) → key ≡ nobody → HasLookedUp key x y answer → answer ≡ None
@@ -239,9 +291,28 @@ gone_over x y z w es rs key answer noted searched_ found is had = record {
     low : length x.pass ≤ length y.pass
     low = prefix_length x.pass y.pass noted.pass
 
+noting_slots : (x y : CpuView) (es : List Entry) → IsNoting x es 0 y → y.settings.slots ≡ x.settings.slots
+noting_slots x y es at = ap (λ (v : CpuView). v.settings.slots) at.is
+
+-- by the log
+pub gone_over_by : (c : ℕ) (x y z : CpuView) (es rs : List Entry) (key : Key) (answer : Option Entry) (count : ℕ) (old first second new : List LogItem) → (noted : IsNoting x es 0 y) → HaveSearched y z → key ≡ nobody
+    → ((once : SearchesOnce c x.settings.slots nobody None old first) × (once.visited ≡ count)) → length es ≡ count → LooksUpEach c y.settings.slots es rs first second
+    → answer ≡ None → SearchesOnce c z.settings.slots key answer second new → HasGoneOverBy c x.settings.slots es rs old new
+gone_over_by c x y z es rs key answer count old first second new noted searched_ is notes size finds none clears =
+    let to_x = noting_slots x y es noted in
+    record {
+      first = first;
+      second = second;
+      notes = notes.0;
+      each = notes.1 ∙ sym size;
+      finds = subst (λ (slots : ℕ). LooksUpEach c slots es rs first second) to_x finds;
+      clears = subst (λ (slots : ℕ). SearchesOnce c slots nobody None second new) (searched_slots y z searched_ ∙ to_x) (subst (λ (l : Lookup). SearchesOnce c z.settings.slots l.key l.answer second new) (λ i. record { key = is i; answer = none i }) clears);
+    }
+
 -- to a contract
-pub walked : (a b : OnCpu) (row : List Entry) → a.view.search ≡ None → HasGoneOver a.view b.view row → b.depth ≡ a.depth → b.made ≡ a.made → b.known_log ≡ a.known_log → HasGoneOverBy a.view.id a.log b.log → HasWalked a b row
-walked a b row idle had depth made known_log log = record {
+pub walked : (a b : OnCpu) (row : List Entry) → a.view.search ≡ None → HasGoneOver a.view b.view row → b.depth ≡ a.depth → b.made ≡ a.made → b.known_log ≡ a.known_log
+    → (noted : List Entry) → AreGoneBy b.view.pass (length a.view.pass) (length b.view.pass) noted → HasGoneOverBy a.view.id a.view.settings.slots noted row a.log b.log → HasWalked a b row
+walked a b row idle had depth made known_log noted gone_by log = record {
   pass = had.pass;
   is = λ i. record { view = (had.is ∙ ap (λ (s : Option Search). record a.view { pass = b.view.pass; search = s; found = None }) (sym idle)) i; depth = depth i; made = made i; known_log = known_log i; log = b.log };
   all = had.all;
@@ -250,5 +321,7 @@ walked a b row idle had depth made known_log log = record {
       let was = had.each e there in
       record { attached = was.live.attached; unended = λ p ends. omega (arith, had.since s begun, was.from_on, was.live.unended p ends) };
   newest_first = had.newest_first;
+  noted = noted;
+  gone_by = gone_by;
   log = log;
 }

@@ -87,7 +87,7 @@ cpu_at x depth known log = record { view = x; depth = depth; made = 0; known_log
 
 pub found_from_outside : (key : Key) (a : OnCpu) (x y v w : CpuView) (c d : ℕ) (l m n o p q r s : List LogItem) (f : Option Entry)
     → cpu_at x d l p ≡ a → IsIdle x → x.id ≡ c → d ≡ 0 → HasEntered x y → HasLookedUp key y v f → HasExited v w → m ≡ l → n ≡ m → o ≡ n
-    → q ≡ p ++ did (Enter c) Done → SearchesOnce c key q r → s ≡ r ++ did (Exit c) Done → HasFoundFromOutside key a (cpu_at w d o s) f
+    → q ≡ p ++ did (Enter c) Done → SearchesOnce c y.settings.slots key f q r → s ≡ r ++ did (Exit c) Done → HasFoundFromOutside key a (cpu_at w d o s) f
 found_from_outside key a x y v w c d l m n o p q r s f at idle id shallow entered looked exited known1 known2 known3 log1 log2 log3 =
     let one : d + 1 ≡ 1 = omega (arith, shallow) in
     let same : y.search ≡ None = ap (λ (i : CpuView). i.search) entered.1 ∙ idle.search in
@@ -103,7 +103,7 @@ found_from_outside key a x y v w c d l m n o p q r s f at idle id shallow entere
         is = λ i. record { view = is i; depth = d + 1; made = 0; known_log = known2 i; log = r };
         lawful = looked.lawful;
         seen = λ e is_e. (looked.seen e is_e).1;
-        log = subst (λ (i : ℕ). SearchesOnce i key q r) (sym y_id) log2;
+        log = subst (λ (i : ℕ). SearchesOnce i y.settings.slots key f q r) (sym y_id) log2;
       };
       exits = record { ended = λ _. exited; inner = λ off. absurd (off one); depth = refl; made = refl; known_log = known3; event = λ _. log3 ∙ ap (λ (i : ℕ). r ++ did (Exit i) Done) (sym v_id); none = λ off. absurd (off one) };
     } in

@@ -13,6 +13,7 @@ pub mod Detached
 pub mod Logs
 pub mod Standing
 pub mod Noting
+pub mod Visited
 pub mod FoundAgain
 pub mod Balanced
 pub mod Collections

@@ -85,43 +85,45 @@ noted x y1 y2 y3 y4 t n k h l had1 had2 had3 had4 from at tells =
       noted = λ i. record { number = sym number.2 i; kind = sym kind i; high = sym high i; low = sym low i };
     }
 
--- At most 32
+-- No more than there are slots
 
 -- entries on which one search may stand have slots of their own
-pub few_stood_on : (begin : Option ℕ) (h : List Change) (from : ℕ) (es : List Entry) → PassTells begin from h → AreStoodOn h from es → length es ≤ 32
-few_stood_on begin h from es tells on =
-    omega (arith, size, length-le_from_distinct_below slots 32 (IsDistinct-from_AllPairs Decides-eqb slots pairs) below)
+pub few_stood_on : (begin : Option ℕ) (h : List Change) (from slots : ℕ) (es : List Entry) → PassTells begin from h → AreStoodOn h from slots es → (length es ≤ slots) × (length es ≤ 32)
+few_stood_on begin h from slots es tells on = (few slots (λ e there. (on.slot e there).0), few 32 (λ e there. (on.slot e there).1))
   where
     blank : Entry
     blank = record { number = 0; slot = 0; rec = record { kind = Iface; name = record { high = 0; low = 0 }; value = 0 } }
 
-    slots : List ℕ
-    slots = map (λ (e : Entry). e.slot) es
+    used : List ℕ
+    used = map (λ (e : Entry). e.slot) es
 
-    size : length slots ≡ length es
+    size : length used ≡ length es
     size = length-map es (λ (e : Entry). e.slot)
 
-    slot_of : (i d : ℕ) → i < length es → get_or slots i d ≡ (get_or es i blank).slot
+    slot_of : (i d : ℕ) → i < length es → get_or used i d ≡ (get_or es i blank).slot
     slot_of i d lt = get_or-map (λ (e : Entry). e.slot) es i blank d lt
 
-    at : (i : ℕ) → i < length es → StandsOn h from (length h) (get_or es i blank).slot (get_or es i blank) × ((get_or es i blank).slot < 32)
+    at : (i : ℕ) → i < length es → StandsOn h from (length h) (get_or es i blank).slot (get_or es i blank)
     at i lt = on.stands (get_or es i blank) (Contains-get_or es i blank lt)
 
-    pairs : AllPairs (λ (a b : ℕ). a ≢ b) slots
+    pairs : AllPairs (λ (a b : ℕ). a ≢ b) used
     pairs i j d lt within same =
         let high : j < length es = omega (arith, within, size) in
         let low : i < length es = omega (arith, high, lt) in
         let e = get_or es i blank in
         let f = get_or es j blank in
         let shared : e.slot ≡ f.slot = sym (slot_of i d low) ∙ same ∙ slot_of j d high in
-        let one : e ≡ f = tells.one f.slot e f (subst (λ (t : ℕ). StandsOn h from (length h) t e) shared (at i low).0) (at j high).0 in
+        let one : e ≡ f = tells.one f.slot e f (subst (λ (t : ℕ). StandsOn h from (length h) t e) shared (at i low)) (at j high) in
         omega (arith, on.newest_first i j blank lt high, ap (λ (g : Entry). g.number) one)
 
-    below : (q : ℕ) → list_any (eqb q) slots ≡ true → q < 32
-    below q is =
-        let found = Any-from_list_any (eqb q) slots is in
+    below : (most : ℕ) → ((e : Entry) → Contains es e → e.slot < most) → (q : ℕ) → list_any (eqb q) used ≡ true → q < most
+    below most within q is =
+        let found = Any-from_list_any (eqb q) used is in
         let lt : found.0 < length es = omega (arith, found.2, size) in
-        omega (arith, eqb-true q found.1 found.4, found.3, slot_of found.0 found.1 lt, (at found.0 lt).1)
+        omega (arith, eqb-true q found.1 found.4, found.3, slot_of found.0 found.1 lt, within (get_or es found.0 blank) (Contains-get_or es found.0 blank lt))
+
+    few : (most : ℕ) → ((e : Entry) → Contains es e → e.slot < most) → length es ≤ most
+    few most within = omega (arith, size, length-le_from_distinct_below used most (IsDistinct-from_AllPairs Decides-eqb used pairs) (below most within))
 
 -- From one slot to the next
 
@@ -131,7 +133,7 @@ noting_begins x y m had = record {
   pass = had.pass;
   is = is_at m had.is;
   tells = had.tells;
-  noted = record { stands = λ e there. absurd (omega (arith, there.1)); newest_first = λ i j d lt within. absurd (omega (arith, within)) };
+  noted = record { stands = λ e there. absurd (omega (arith, there.1)); slot = λ e there. absurd (omega (arith, there.1)); newest_first = λ i j d lt within. absurd (omega (arith, within)) };
   goes_on = goes_on m had.holds (had.first refl);
 }
   where
@@ -139,9 +141,9 @@ noting_begins x y m had = record {
     is_at zero is = is
     is_at (suc t) is = is
 
-    goes_on : (m : ℕ) → LinkHolds x.settings (search_for nobody x) m y.pass → SkipsNone y.pass (length x.pass) (suc (length y.pass)) m → GoesOnAt y.pass (length x.pass) [] m
+    goes_on : (m : ℕ) → LinkHolds x.settings (search_for nobody x) m y.pass → SkipsNone y.pass (length x.pass) (suc (length y.pass)) m → GoesOnAt y.pass (length x.pass) x.settings.slots [] m
     goes_on zero holds skips = λ f live. absurd (skips f live.0 live.1 (omega (arith, live.1.begun)))
-    goes_on (suc t) holds skips = (holds.1, λ e stands. (λ f there. absurd (omega (arith, there.1)), λ f live. inl (skips e f stands live.0 live.1 (omega (arith, live.1.begun)))))
+    goes_on (suc t) holds skips = (holds, λ e stands. (λ f there. absurd (omega (arith, there.1)), λ f live. inl (skips e f stands live.0 live.1 (omega (arith, live.1.begun)))))
 
 -- the search is under way at the slot of the link, and its section is the one that was open
 pub noting_on : (x y : CpuView) (es : List Entry) (t : ℕ) → IsNoting x es (suc t) y → IsUnderWay y nobody (length x.pass) (AtNumber t)
@@ -154,12 +156,15 @@ pub noted_there : (x y z : CpuView) (es : List Entry) (t : ℕ) (n : Noted) → 
 noted_there x y z es t n at had = had (length x.pass) (noting_on x y es t at) (tells_on x y es t at)
 
 -- the entry there is one more of those noted
-with_next : (x y : CpuView) (es : List Entry) (t : ℕ) (e : Entry) → IsNoting x es (suc t) y → StandsOn y.pass (length x.pass) (length y.pass) t e → AreStoodOn y.pass (length x.pass) (es ++ e ∷ [])
+with_next : (x y : CpuView) (es : List Entry) (t : ℕ) (e : Entry) → IsNoting x es (suc t) y → StandsOn y.pass (length x.pass) (length y.pass) t e → AreStoodOn y.pass (length x.pass) x.settings.slots (es ++ e ∷ [])
 with_next x y es t e at stands = record {
   stands = λ f there. ⊎_elim
       (λ (old : Contains es f). at.noted.stands f old)
-      (λ (same : e ≡ f). subst (λ (g : Entry). StandsOn y.pass (length x.pass) (length y.pass) g.slot g × (g.slot < 32)) same
-      (subst (λ (u : ℕ). StandsOn y.pass (length x.pass) (length y.pass) u e) (sym stands.at) stands, omega (arith, stands.at, at.goes_on.0)))
+      (λ (same : e ≡ f). subst (λ (g : Entry). StandsOn y.pass (length x.pass) (length y.pass) g.slot g) same (subst (λ (u : ℕ). StandsOn y.pass (length x.pass) (length y.pass) u e) (sym stands.at) stands))
+      (Contains-push_cases es e f there);
+  slot = λ f there. ⊎_elim
+      (λ (old : Contains es f). at.noted.slot f old)
+      (λ (same : e ≡ f). subst (λ (g : Entry). (g.slot < x.settings.slots) × (g.slot < 32)) same (omega (arith, stands.at, at.goes_on.0.0), omega (arith, stands.at, at.goes_on.0.1)))
       (Contains-push_cases es e f there);
   newest_first = all_pairs_push (λ (d f : Entry). f.number < d.number) es e at.noted.newest_first (λ k d lt. (at.goes_on.1 e stands).0 (get_or es k d) (Contains-get_or es k d lt));
 }
@@ -168,7 +173,7 @@ with_next x y es t e at stands = record {
 pub room_for_next : (x y z : CpuView) (es : List Entry) (t : ℕ) (n : Noted) → IsNoting x es (suc t) y → HasNoted y t n z → length es < 32
 room_for_next x y z es t n at had =
     let v = noted_there x y z es t n at had in
-    omega (arith, few_stood_on x.begin y.pass (length x.pass) (es ++ v.entry ∷ []) at.tells (with_next x y es t v.entry at v.stands), length-append es (v.entry ∷ []))
+    omega (arith, (few_stood_on x.begin y.pass (length x.pass) x.settings.slots (es ++ v.entry ∷ []) at.tells (with_next x y es t v.entry at v.stands)).1, length-append es (v.entry ∷ []))
 
 -- its link was loaded
 view_after : (x y z w : CpuView) (t m : ℕ) → y ≡ view_at_link x (suc t) y.pass → z ≡ cpu_with_search_at y nobody (length x.pass) (AtNext t)
@@ -209,17 +214,20 @@ notes_next x y z w es t m n at had loaded_link =
     begin : z.begin ≡ x.begin
     begin = ap (λ (u : CpuView). u.begin) v.is ∙ ap (λ (u : CpuView). u.begin) at.is
 
+    settings : z.settings.slots ≡ x.settings.slots
+    settings = ap (λ (u : CpuView). u.settings.slots) v.is ∙ ap (λ (u : CpuView). u.settings.slots) at.is
+
     tells : PassTells x.begin from w.pass
     tells = subst (λ (b : Option ℕ). PassTells b from w.pass) begin followed.tells
 
     stands_z : StandsOn z.pass from (length z.pass) t e
     stands_z = subst (λ (p : List Change). StandsOn p from (length p) t e) (sym same) v.stands
 
-    before : AreStoodOn y.pass from (es ++ e ∷ [])
+    before : AreStoodOn y.pass from x.settings.slots (es ++ e ∷ [])
     before = with_next x y es t e at v.stands
 
-    noted_on : AreStoodOn w.pass from (es ++ e ∷ [])
-    noted_on = record { stands = λ f there. let old = before.stands f there in (stands_later y.pass w.pass from f.slot f more low old.0, old.1); newest_first = before.newest_first }
+    noted_on : AreStoodOn w.pass from x.settings.slots (es ++ e ∷ [])
+    noted_on = record { stands = λ f there. stands_later y.pass w.pass from f.slot f more low (before.stands f there); slot = before.slot; newest_first = before.newest_first }
 
     -- live since, in the longer pass, so in the shorter one
     earlier : (f : Entry) → IsLiveSince w.pass from f → IsLiveSince y.pass from f
@@ -241,10 +249,10 @@ notes_next x y z w es t m n at had loaded_link =
         ((at.goes_on.1 e v.stands).1 f (earlier f live))
 
     goes_on : (m : ℕ) → LinkHolds z.settings (search_at nobody from (AtNext t)) m w.pass → SkipsNone w.pass from e.number m → Descends z.pass (search_at nobody from (AtNext t)) t m w.pass
-        → GoesOnAt w.pass from (es ++ e ∷ []) m
+        → GoesOnAt w.pass from x.settings.slots (es ++ e ∷ []) m
     goes_on zero holds skips falls = λ f live. ⊎_elim (λ (lt : f.number < e.number). absurd (skips f live.0 live.1 lt)) (λ there. there) (cases f live)
     goes_on (suc u) holds skips falls = (
-      holds.1,
+      subst (λ (slots : ℕ). (u < slots) × (u < 32)) settings holds,
       λ g stands. (
         λ f there.
             let below : g.number < e.number = falls e g stands_z stands in
@@ -278,7 +286,7 @@ on_slot x y row count zero some at = absurd (some refl)
 on_slot x y row count (suc t) some at = let same : suc t ≡ suc (suc t - 1) = omega arith in subst (λ m. HasNotedSoFar x row count m y) same at
 
 pub slot_within : (x y : CpuView) (row : List Noted) (count t : ℕ) → HasNotedSoFar x row count (suc t) y → t < 32
-slot_within x y row count t at = at.noting.goes_on.0
+slot_within x y row count t at = at.noting.goes_on.0.1
 
 pub may_note : (x y : CpuView) (row : List Noted) (count t : ℕ) → HasNotedSoFar x row count (suc t) y → MayVisit y nobody t
 may_note x y row count t at = (length x.pass, noting_on x y at.entries t at.noting)
@@ -288,6 +296,10 @@ may_go_on x y z row count t n at had = may_follow z nobody (length x.pass) t (ap
 
 pub has_room : (x y z : CpuView) (row : List Noted) (count t : ℕ) (n : Noted) → HasNotedSoFar x row count (suc t) y → HasNoted y t n z → count < 32
 has_room x y z row count t n at had = omega (arith, room_for_next x y z at.entries t n at.noting had, at.size)
+
+-- the search has gone by no more entries than there are slots
+pub few_noted : (x y : CpuView) (row : List Noted) (count m : ℕ) → HasNotedSoFar x row count m y → count ≤ x.settings.slots
+few_noted x y row count m at = omega (arith, (few_stood_on x.begin y.pass (length x.pass) x.settings.slots at.entries at.noting.tells at.noting.noted).0, at.size)
 
 -- it is the same CPU's view
 pub noted_id : (x y : CpuView) (row : List Noted) (count m : ℕ) → HasNotedSoFar x row count m y → y.id ≡ x.id

@@ -1,17 +1,21 @@
 -- A search's events, load by load.
-use Rattle.std.proofs.Common.{◌≡◌, ◌∙◌, ℕ, suc, ◌+◌, ◌*◌, List, [], ◌∷◌, ◌++◌, length, inl, inr, refl, sym, ap, subst, append_assoc, arith}
-use Rattle.std.proofs.lemmas.List.{append-nil, length-append}
+use Rattle.std.proofs.Common.{◌≡◌, ◌∙◌, ⊎_elim, ℕ, ◌+◌, ◌*◌, ◌≤◌, List, [], ◌∷◌, ◌++◌, Option, Some, None, inl, inr, refl, sym, ap, subst, append_assoc, arith}
+use Rattle.std.proofs.lemmas.List.{length-append, map-append}
+use Rattle.std.proofs.lemmas.List.Elements.{Contains-push, Contains-append_left, Contains-append_cases}
+use Rattle.std.specs.List.{Contains}
+use Rattle.registry_values.specs.declared.entry.Entry.{Entry}
 use Rattle.registry_values.specs.declared.entry.Kind.{Kind}
 use Rattle.registry_values.specs.declared.name.Name.{Name}
 use Rattle.registry_values.specs.declared.slot.Key.{Key}
+use Rattle.registry_values.specs.Slots.{key_of}
 use Rattle.protocol.specs.declared.event.Event.TheVariants.{Seek, LoadLink, LoadRecord}
 use Rattle.protocol.specs.declared.event.RecordOf.TheVariants.{Search as OfSearch}
 use Rattle.protocol.specs.declared.event.Reply.{Reply}
-use Rattle.protocol.specs.declared.event.Reply.TheVariants.{Done}
+use Rattle.protocol.specs.declared.event.Reply.TheVariants.{Done, Found}
 use Rattle.cpu_words.specs.declared.view.LogItem.{LogItem}
 use Rattle.cpu_words.specs.Rule.{did}
-use Rattle.cpu_words.specs.Searching.{key_with}
-use Rattle.passive_list.specs.Searches.{AreLoads, GoesOnByLoads, HasSearchedFor, SearchesOnce, SearchesTimes}
+use Rattle.cpu_words.specs.Searching.{key_with, link_answer}
+use Rattle.passive_list.specs.Searches.{AreLoads, GoesOnByLoads, HasSearchedFor, SearchesOnce, Lookup, SearchesEach, found_by_name, LooksUpEach}
 
 both_loads : (c : ℕ) (ds es : List LogItem) → AreLoads c ds → AreLoads c es → AreLoads c (ds ++ es)
 both_loads c [] es first then = then
@@ -53,6 +57,53 @@ one_visited c key n old before between new so_far four last =
     so_many c (1 + 5 * n + (4 + 1)) (1 + 5 * (n + 1)) (old ++ did (Seek c key.kind key.name) Done) new (let same : 1 + 5 * n + (4 + 1) ≡ 1 + 5 * (n + 1) = omega arith in same)
     (more_loads c (1 + 5 * n) (4 + 1) (old ++ did (Seek c key.kind key.name) Done) before new so_far (more_loads c 4 1 before between new four last))
 
--- one search more
-pub once_more : (c n : ℕ) (old between new : List LogItem) → SearchesTimes c n old between → ((key : Key) × SearchesOnce c key between new) → SearchesTimes c (n + 1) old new
-once_more c n old between new so_far once = subst (λ (k : ℕ). SearchesTimes c k old new) (let same : suc n ≡ n + 1 = omega arith in same) (between, once.0, so_far, once.1)
+-- The end of a search
+
+-- the log ends with the load of the link n
+abbrev pub EndsAtLink : ℕ → ℕ → List LogItem → Type 0
+EndsAtLink c n log = (before : List LogItem) × (log ≡ before ++ did (LoadLink c) (link_answer n))
+
+-- the link leads nowhere, so the search missed
+pub search_missed : (c slots : ℕ) (key : Key) (n visited : ℕ) (old new : List LogItem) → n ≡ 0 → visited ≤ slots → HasSearchedFor c key visited old new → EndsAtLink c n new
+    → (once : SearchesOnce c slots key None old new) × (once.visited ≡ visited)
+search_missed c slots key n visited old new none few loads last =
+    (record { visited = visited; few = few; loads = loads; ends = (last.0, last.1 ∙ ap (λ (m : ℕ). last.0 ++ did (LoadLink c) (link_answer m)) none) }, refl)
+
+-- the value was loaded last, so the search found its entry
+pub search_found : (c slots : ℕ) (key : Key) (e : Entry) (reply : Reply) (visited : ℕ) (old between new : List LogItem) → reply ≡ Found e → visited ≤ slots → HasSearchedFor c key visited old new
+    → new ≡ between ++ did (LoadRecord (OfSearch c)) reply → SearchesOnce c slots key (Some e) old new
+search_found c slots key e reply visited old between new is few loads last = record {
+  visited = visited;
+  few = few;
+  loads = loads;
+  ends = (between, last ∙ ap (λ (r : Reply). between ++ did (LoadRecord (OfSearch c)) r) is);
+}
+
+-- One search after the other
+
+one_more_search : (c slots : ℕ) (ls : List Lookup) (l : Lookup) (old between new : List LogItem) → SearchesEach c slots ls old between → SearchesOnce c slots l.key l.answer between new
+    → SearchesEach c slots (ls ++ l ∷ []) old new
+one_more_search c slots [] l old between new so_far once = (new, subst (λ (m : List LogItem). SearchesOnce c slots l.key l.answer m new) so_far once, refl)
+one_more_search c slots (k ∷ ks) l old between new so_far once = (so_far.0, so_far.1, one_more_search c slots ks l so_far.0 between new so_far.2 once)
+
+pub none_looked_up : (c slots : ℕ) (log : List LogItem) → LooksUpEach c slots [] [] log log
+none_looked_up c slots log = record { lookups = []; keys = refl; log = refl; found = λ e there. absurd (omega (arith, there.1)) }
+
+-- e was looked up too, and what was found is written at the end of the row
+pub one_more_looked_up : (c slots : ℕ) (es row more : List Entry) (e : Entry) (found : Option Entry) (old between new : List LogItem) → LooksUpEach c slots es row old between → SearchesOnce c slots (key_of e) found between new
+    → ((f : Entry) → Contains more f → (f ≡ e) × (found ≡ Some f)) → LooksUpEach c slots (es ++ e ∷ []) (row ++ more) old new
+one_more_looked_up c slots es row more e found old between new so_far once written = record {
+  lookups = so_far.lookups ++ now ∷ [];
+  keys = map-append (λ (l : Lookup). l.key) so_far.lookups (now ∷ []) ∙ ap (λ (ks : List Key). ks ++ key_of e ∷ []) so_far.keys ∙ sym (map-append key_of es (e ∷ []));
+  log = one_more_search c slots so_far.lookups now old between new so_far.log once;
+  found = λ f there. ⊎_elim
+      (λ (in_ : Contains row f). (Contains-append_left es (e ∷ []) f (so_far.found f in_).0, Contains-append_left so_far.lookups (now ∷ []) (found_by_name f) (so_far.found f in_).1))
+      (λ (in_ : Contains more f). (subst (Contains (es ++ e ∷ [])) (sym (written f in_).0) (Contains-push es e), subst (Contains (so_far.lookups ++ now ∷ [])) (same f (written f in_).0 (written f in_).1) (Contains-push so_far.lookups now)))
+      (Contains-append_cases row more f there);
+}
+  where
+    now : Lookup
+    now = record { key = key_of e; answer = found }
+
+    same : (f : Entry) → f ≡ e → found ≡ Some f → now ≡ found_by_name f
+    same f is answer = λ i. record { key = key_of (sym is i); answer = answer i }

@@ -5,9 +5,9 @@ use mathlib.Core.List.{IsPrefix}
 use Rattle.registry_values.specs.declared.entry.Entry.{Entry}
 use Rattle.registry_values.specs.declared.entry.Change.{Change}
 use Rattle.registry_values.specs.declared.entry.Change.TheVariants.{Detach}
-use Rattle.protocol.specs.History.{change_at, IsAttached, EndsAt, IsLiveAt}
+use Rattle.protocol.specs.History.{change_at, IsAttached, EndsAt, IsLegal, IsLiveAt}
 use Rattle.protocol.specs.Invariant.{StandsOn}
-use Rattle.protocol.proofs.history.History.{at_within}
+use Rattle.protocol.proofs.history.History.{at_within, ends_after}
 use Rattle.cpu_words.proofs.shown.Passes.{at_prefix, attached_prefix}
 use Rattle.passive_list.specs.Walks.{WasLive}
 
@@ -67,3 +67,12 @@ was_live_later p h low from e pre le was = record {
 -- on an entry that is live at the end of the pass, and at some point since, a search may stand
 pub live_stands : (h : List Change) (from k : ℕ) (e : Entry) → from ≤ k → k ≤ length h → IsLiveAt h k e → StandsOn h from (length h) e.slot e
 live_stands h from k e low high live = record { attached = live.attached; at = refl; begun = omega (arith, live.begun, high); unended = λ p ends. omega (arith, low, live.unended p ends) }
+
+-- an entry on which a search may stand was live at some point since the search began
+pub stood_was_live : (h : List Change) (from t : ℕ) (e : Entry) → IsLegal h → from ≤ length h → StandsOn h from (length h) t e → WasLive h from (length h) e
+stood_was_live h from t e legal low stands = ⊎_elim
+    (λ (lt : from < e.number). let live : IsLiveAt h e.number e = record { attached = stands.attached; begun = omega arith; unended = λ p ends. ends_after h legal e.number p ends } in
+    record { point = e.number; from_on = omega (arith, lt); up_to = stands.begun; live = live })
+    (λ (ge : e.number ≤ from). let live : IsLiveAt h from e = record { attached = stands.attached; begun = ge; unended = stands.unended } in
+    record { point = from; from_on = omega arith; up_to = low; live = live })
+    (cases_lt from e.number)

@@ -75,7 +75,7 @@ took x y key t n value had from at =
 -- the head was loaded
 pub begins : (x y : CpuView) (key : Key) (n last : ℕ) → length y.pass < last → HasFollowed (cpu_after_seek key x) (search_for key x) n y → IsAtLink key x n last y
 begins x y key zero last few had = record { pass = had.pass; is = had.is; lawful = had.holds; tells = had.tells }
-begins x y key (suc t) last few had = record { pass = had.pass; is = had.is; slot = had.holds.1; below = λ e stands. omega (arith, stands.begun); tells = had.tells }
+begins x y key (suc t) last few had = record { pass = had.pass; is = had.is; slot = had.holds; below = λ e stands. omega (arith, stands.begun); tells = had.tells }
 
 -- the slot of a link
 pub on_slot : (key : Key) (x y : CpuView) (n last : ℕ) → n ≢ 0 → IsAtLink key x n last y → IsOn key x (n - 1) last y
@@ -117,7 +117,7 @@ followed_on key x y z w t n (suc u) last on v had =
     record {
       pass = prefix_trans x.pass y.pass w.pass on.pass (subst (λ p. IsPrefix p w.pass) pass had.pass);
       is = had.is ∙ ap (λ (i : CpuView). record i { pass = w.pass; search = Some (search_at key (length x.pass) (AtNumber u)) }) left;
-      slot = had.holds.1;
+      slot = (subst (λ (n : ℕ). u < n) (ap (λ (i : CpuView). i.settings.slots) left) had.holds.0, had.holds.1);
       below = λ f stands.
           let from_here = subst (λ (p : List Change). StandsOn p (length x.pass) (length p) t v.entry) (sym pass) v.stands in
           omega (arith, had.descends t refl v.entry f from_here stands, v.number);
@@ -166,7 +166,7 @@ found key x y z w t n value last on had last_word =
       lawful = subst (λ (p : List Change). IsLawful p (length x.pass) (length p) key (Some e)) (sym to_z) f.lawful;
       seen = λ g (q : Some e ≡ Some g).
           let same : e ≡ g = cc in
-          subst (λ (i : Entry). (i.slot < 32) × IsAttached w.pass i) same (on.slot, subst (λ (p : List Change). IsAttached p e) (sym to_z) f.attached);
+          subst (λ (i : Entry). (i.slot < 32) × IsAttached w.pass i) same (on.slot.1, subst (λ (p : List Change). IsAttached p e) (sym to_z) f.attached);
       tells = subst (λ (p : List Change). PassTells x.begin (length x.pass) p) (sym (to_z ∙ to_y)) on.tells;
     }
 

@@ -4,24 +4,26 @@ use Rattle.std.specs.List.{Contains}
 use mathlib.Core.List.{IsPrefix}
 use Rattle.registry_values.specs.declared.entry.Entry.{Entry}
 use Rattle.registry_values.specs.declared.entry.Change.{Change}
-use Rattle.registry_values.specs.Slots.{kind_word}
+use Rattle.registry_values.specs.Slots.{key_of, kind_word}
 use Rattle.protocol.specs.declared.state.SearchPlace.TheVariants.{AtNext, AtNumber}
 use Rattle.protocol.specs.History.{IsAttached, IsLiveAt}
 use Rattle.protocol.specs.Invariant.{StandsOn}
 use Rattle.cpu_words.specs.declared.view.CpuView.{CpuView}
+use Rattle.cpu_words.specs.declared.view.LogItem.{LogItem}
 use Rattle.cpu_words.specs.Searching.{PassTells}
 use Rattle.passive_list.specs.declared.walks.Noted.{Noted}
 use Rattle.passive_list.specs.Walking.{search_at, IsUnderWay, cpu_with_search_at}
-use Rattle.passive_list.specs.Searches.{nobody}
+use Rattle.passive_list.specs.Searches.{nobody, SearchesOnce}
 use Rattle.passive_list.specs.Walks.{AreNewestFirst, WasLive}
 
 -- what is noted of an entry
 abbrev pub noted_of : Entry → Noted
 noted_of e = record { number = e.number; kind = kind_word e.rec.kind; high = e.rec.name.high; low = e.rec.name.low }
 
--- a search that started at `from` may stand on each of these, as the pass h tells
-pub record AreStoodOn (h : List Change) (from : ℕ) (es : List Entry) : Type 0 where
-  pub stands : (e : Entry) → Contains es e → StandsOn h from (length h) e.slot e × (e.slot < 32)
+-- a search that started at `from` may stand on each of these, as the pass h tells, in a table of so many slots
+pub record AreStoodOn (h : List Change) (from slots : ℕ) (es : List Entry) : Type 0 where
+  pub stands : (e : Entry) → Contains es e → StandsOn h from (length h) e.slot e
+  pub slot : (e : Entry) → Contains es e → (e.slot < slots) × (e.slot < 32)
   pub newest_first : AreNewestFirst es
 
 -- the words of the slot t were loaded: n is of an entry on which the search may stand, and the search goes on at the link
@@ -44,9 +46,9 @@ abbrev pub IsLiveSince : List Change → ℕ → Entry → Type 0
 IsLiveSince h from f = IsLiveAt h from f × IsLiveAt h (length h) f
 
 -- what a link leads to, with es noted: each entry that has been live since is among them or not yet gone past
-abbrev pub GoesOnAt : List Change → ℕ → List Entry → ℕ → Type 0
-GoesOnAt h from es zero = (f : Entry) → IsLiveSince h from f → Contains es f
-GoesOnAt h from es (suc t) = (t < 32) × ((e : Entry) → StandsOn h from (length h) t e
+abbrev pub GoesOnAt : List Change → ℕ → ℕ → List Entry → ℕ → Type 0
+GoesOnAt h from slots es zero = (f : Entry) → IsLiveSince h from f → Contains es f
+GoesOnAt h from slots es (suc t) = ((t < slots) × (t < 32)) × ((e : Entry) → StandsOn h from (length h) t e
     → ((f : Entry) → Contains es f → e.number < f.number) × ((f : Entry) → IsLiveSince h from f → (f.number ≤ e.number) ⊎ Contains es f))
 
 -- the search begun in the view x has noted es, and has loaded the link
@@ -54,8 +56,8 @@ pub record IsNoting (x : CpuView) (es : List Entry) (link : ℕ) (y : CpuView) :
   pub pass : IsPrefix x.pass y.pass
   pub is : y ≡ view_at_link x link y.pass
   pub tells : PassTells x.begin (length x.pass) y.pass
-  pub noted : AreStoodOn y.pass (length x.pass) es
-  pub goes_on : GoesOnAt y.pass (length x.pass) es link
+  pub noted : AreStoodOn y.pass (length x.pass) x.settings.slots es
+  pub goes_on : GoesOnAt y.pass (length x.pass) x.settings.slots es link
 
 -- the first so many places of the row are what the search noted
 pub record HasNotedSoFar (x : CpuView) (noted : List Noted) (count link : ℕ) (y : CpuView) : Type 0 where
@@ -79,6 +81,10 @@ pub record HaveSearched (x y : CpuView) : Type 0 where
 pub record HasFoundAgain (x : CpuView) (e : Entry) (answer : Option Entry) (y : CpuView) : Type 0 where
   pub some : (f : Entry) → answer ≡ Some f → (f ≡ e) × WasLive y.pass (length x.pass) (length y.pass) e
   pub none : answer ≡ None → IsLiveAt y.pass (length y.pass) e → ⊥
+
+-- e was looked up by its kind and name: what is answered is what that search replied, or none
+abbrev pub LooksUpAgain : ℕ → ℕ → Entry → Option Entry → List LogItem → List LogItem → Type 0
+LooksUpAgain c slots e answer old new = (found : Option Entry) × SearchesOnce c slots (key_of e) found old new × ((f : Entry) → answer ≡ Some f → found ≡ Some f)
 
 -- of the entries es those that were found again by their kind and name, among them all that are live still
 pub record HaveBeenFound (x : CpuView) (es found : List Entry) (y : CpuView) : Type 0 where

@@ -1,10 +1,13 @@
--- Which events a search makes, by the log of the CPU's seat: it begins once, and then there are loads alone.
-use Rattle.std.specs.Prelude.{◌≡◌, ◌⊎◌, ℕ, zero, suc, ◌+◌, ◌*◌, ◌≤◌, List, [], ◌∷◌, ◌++◌, length}
+-- Which events a search makes, by the log of the CPU's seat: it begins once, then there are loads alone, and the last one replies its answer.
+use Rattle.std.specs.Prelude.{◌≡◌, ◌⊎◌, ℕ, ◌+◌, ◌*◌, ◌≤◌, List, [], ◌∷◌, ◌++◌, length, map, Option, Some, None}
+use Rattle.std.specs.List.{Contains}
 use Rattle.registry_values.specs.declared.entry.Kind.TheVariants.{Iface}
+use Rattle.registry_values.specs.declared.entry.Entry.{Entry}
 use Rattle.registry_values.specs.declared.slot.Key.{Key}
+use Rattle.registry_values.specs.Slots.{key_of}
 use Rattle.protocol.specs.declared.event.Event.TheVariants.{Seek, LoadLink, LoadRecord}
 use Rattle.protocol.specs.declared.event.RecordOf.TheVariants.{Search as OfSearch}
-use Rattle.protocol.specs.declared.event.Reply.TheVariants.{Done}
+use Rattle.protocol.specs.declared.event.Reply.TheVariants.{Done, Found, Missed}
 use Rattle.cpu_words.specs.declared.view.LogItem.{LogItem}
 use Rattle.cpu_words.specs.Rule.{did}
 
@@ -31,21 +34,47 @@ pub record GoesOnByLoads (c n : ℕ) (old new : List LogItem) : Type 0 where
 abbrev pub HasSearchedFor : ℕ → Key → ℕ → List LogItem → List LogItem → Type 0
 HasSearchedFor c key visited old new = GoesOnByLoads c (1 + 5 * visited) (old ++ did (Seek c key.kind key.name) Done) new
 
--- by one search, which visited some entries
-abbrev pub SearchesOnce : ℕ → Key → List LogItem → List LogItem → Type 0
-SearchesOnce c key old new = (visited : ℕ) × HasSearchedFor c key visited old new
+-- the load by which a search of the CPU c replied its answer: of a link where it missed, of the value where it found an entry
+abbrev pub replied : ℕ → Option Entry → List LogItem
+replied c None = did (LoadLink c) Missed
+replied c (Some e) = did (LoadRecord (OfSearch c)) (Found e)
 
--- by n searches, one after the other
-abbrev pub SearchesTimes : ℕ → ℕ → List LogItem → List LogItem → Type 0
-SearchesTimes c zero old new = new ≡ old
-SearchesTimes c (suc n) old new = (m : List LogItem) × (key : Key) × SearchesTimes c n old m × SearchesOnce c key m new
+abbrev pub EndsWithAnswer : ℕ → Option Entry → List LogItem → Type 0
+EndsWithAnswer c answer log = (before : List LogItem) × (log ≡ before ++ replied c answer)
 
--- by a whole walk: a search for nobody, which visited so many entries, then as many searches, each for some key, and one more for nobody
-pub record HasGoneOverBy (c : ℕ) (old new : List LogItem) : Type 0 where
-  pub noted : ℕ
-  pub few : noted ≤ 32
+-- by one search to its end, over a table of so many slots: it visited no more entries than these, and its last load replied the answer
+pub record SearchesOnce (c slots : ℕ) (key : Key) (answer : Option Entry) (old new : List LogItem) : Type 0 where
+  pub visited : ℕ
+  pub few : visited ≤ slots
+  pub loads : HasSearchedFor c key visited old new
+  pub ends : EndsWithAnswer c answer new
+
+-- a search that is over: what it was for, and what it replied
+pub record Lookup : Type 0 where
+  pub key : Key
+  pub answer : Option Entry
+
+-- by these searches, one after the other
+abbrev pub SearchesEach : ℕ → ℕ → List Lookup → List LogItem → List LogItem → Type 0
+SearchesEach c slots [] old new = new ≡ old
+SearchesEach c slots (l ∷ ls) old new = (m : List LogItem) × SearchesOnce c slots l.key l.answer old m × SearchesEach c slots ls m new
+
+-- e was looked up by its own kind and name, and was found
+abbrev pub found_by_name : Entry → Lookup
+found_by_name e = record { key = key_of e; answer = Some e }
+
+-- by a search for each of the entries es, by its kind and name; each entry of the row is one of them, and the answer of its own search
+pub record LooksUpEach (c slots : ℕ) (es row : List Entry) (old new : List LogItem) : Type 0 where
+  pub lookups : List Lookup
+  pub keys : map (λ (l : Lookup). l.key) lookups ≡ map key_of es
+  pub log : SearchesEach c slots lookups old new
+  pub found : (e : Entry) → Contains row e → Contains es e × Contains lookups (found_by_name e)
+
+-- By a whole walk: a search for nobody, which visited as many entries as are noted; then one for each of these, among them those that found the row; and one more for nobody.
+pub record HasGoneOverBy (c slots : ℕ) (noted row : List Entry) (old new : List LogItem) : Type 0 where
   pub first : List LogItem
   pub second : List LogItem
-  pub notes : HasSearchedFor c nobody noted old first
-  pub finds : SearchesTimes c noted first second
-  pub clears : SearchesOnce c nobody second new
+  pub notes : SearchesOnce c slots nobody None old first
+  pub each : notes.visited ≡ length noted
+  pub finds : LooksUpEach c slots noted row first second
+  pub clears : SearchesOnce c slots nobody None second new

@@ -63,7 +63,7 @@ pub record HasMissed (key : Key) (x y : CpuView) : Type 0 where
 pub record IsOn (key : Key) (x : CpuView) (t last : ℕ) (y : CpuView) : Type 0 where
   pub pass : IsPrefix x.pass y.pass
   pub is : y ≡ record x { pass = y.pass; search = Some (search_at key (length x.pass) (AtNumber t)) }
-  pub slot : t < 32
+  pub slot : (t < x.settings.slots) × (t < 32)
   pub below : (e : Entry) → StandsOn y.pass (length x.pass) (length y.pass) t e → e.number < last
   pub tells : PassTells x.begin (length x.pass) y.pass
 

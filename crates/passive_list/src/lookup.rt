@@ -19,7 +19,8 @@ const ABOVE_ALL: u64 = 1_000_001;
 
 /// Looks an entry up by its kind and name, and keeps the answer as the last found entry: `None` clears it. The answer is the registry's
 /// at some point from what this CPU had seen at the call to what it has seen at the return; a found entry keeps its slot until this
-/// section ends. The steps are one search's, loads alone, five for each entry visited, and it takes no memory.
+/// section ends. The steps are one search's: loads alone, one and five for each entry visited, no more entries than there are slots; the
+/// last load replies the answer. It takes no memory.
 /// Condition: inside.
 pub fn find<D: Domain>(words: &Words, cpu: &mut Cpu<D>, kind: Kind, name: &Name) -> Option<Entry>
     requires words { AreWordsOf words.now D.table D.settings }
@@ -86,7 +87,7 @@ pub fn look_up(words: &Words, seat: &mut CpuSeat, cpu: u8, kind: Kind, name: Nam
     ensures table { seat.new.table ≡ seat.old.table }
     ensures change { HasLookedUp (key_with kind name) seat.old.view seat.new.view (entry_seen (key_with kind name) result) }
     ensures known_log { seat.new.known_log ≡ seat.old.known_log }
-    ensures log { SearchesOnce cpu (key_with kind name) seat.old.log seat.new.log }
+    ensures log { SearchesOnce cpu seat.old.view.settings.slots (key_with kind name) (entry_seen (key_with kind name) result) seat.old.log seat.new.log }
 {
     let mut last = ABOVE_ALL;
     let mut link = steps::seek(words, seat, cpu, kind, name);

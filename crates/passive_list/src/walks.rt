@@ -7,15 +7,14 @@
 ghost use Rattle.std.specs.Prelude.{◌≡◌, ◌≢◌, ◌<◌, ◌≤◌, None, List, take, drop, length};
 ghost use Rattle.registry_values.specs.declared.entry.Entry.{Entry};
 ghost use Rattle.registry_values.specs.declared.entry.Kind.{Kind};
-ghost use Rattle.registry_values.specs.declared.slot.Key.{Key};
 ghost use Rattle.registry_values.specs.Slots.{kind_word};
 ghost use Rattle.protocol.specs.History.{IsAttached};
 ghost use Rattle.cpu_words.specs.Domains.{AreWordsOf};
 ghost use Rattle.cpu_words.specs.Searching.{MaySeek};
 ghost use Rattle.passive_list.specs.Walking.{MayVisit};
-ghost use Rattle.passive_list.specs.Searches.{nobody, GoesOnByLoads, HasSearchedFor, SearchesOnce, SearchesTimes, HasGoneOverBy};
-ghost use Rattle.passive_list.specs.Noting.{HasNoted, HasNotedSoFar, AreNoted, HasFoundAgain, HaveSearched, HaveBeenFound, HasGoneOver, WritesNext, noted_of};
-ghost use Rattle.passive_list.specs.Walks.{HasWalked};
+ghost use Rattle.passive_list.specs.Searches.{nobody, GoesOnByLoads, SearchesOnce, LooksUpEach, HasGoneOverBy};
+ghost use Rattle.passive_list.specs.Noting.{HasNoted, HasNotedSoFar, AreNoted, HasFoundAgain, LooksUpAgain, HaveSearched, HaveBeenFound, HasGoneOver, WritesNext, noted_of};
+ghost use Rattle.passive_list.specs.Walks.{AreGoneBy, HasWalked};
 
 use crate::cpu::Cpu;
 use crate::lookup::look_up;
@@ -46,7 +45,8 @@ impl Noted {
 /// past them stays. Each entry that is live from the start to the end is among them, once; each of them was live at some point from what this
 /// CPU had seen at the call to what it has seen at the return, and keeps its slot until this section ends. An entry that is attached or
 /// detached meanwhile may be among them or not. The last found entry is cleared.
-/// The steps are loads alone, and it takes no memory. Where n entries stand on the list and none changes, the loads are
+/// The steps are loads alone, and it takes no memory: a search that goes by each entry on the list, one for each of these by its kind and
+/// name, which replies what is written, and one for nobody. Where n entries stand on the list and none changes, the loads are
 /// 5 n (n + 5) / 2 + n + 2.
 /// Condition: inside.
 pub fn walk<D: Domain>(words: &Words, cpu: &mut Cpu<D>, row: &mut [Entry; 32]) -> usize
@@ -83,7 +83,7 @@ fn go_over(words: &Words, seat: &mut CpuSeat, cpu: u8, row: &mut [Entry; 32]) ->
     ensures change { HasGoneOver seat.old.view seat.new.view (take result row.new) }
     ensures rest { drop result row.new ≡ drop result row.old }
     ensures known_log { seat.new.known_log ≡ seat.old.known_log }
-    ensures log { HasGoneOverBy cpu seat.old.log seat.new.log }
+    ensures log { (noted : List Entry) × AreGoneBy seat.new.view.pass (length seat.old.view.pass) (length seat.new.view.pass) noted × HasGoneOverBy cpu seat.old.view.settings.slots noted (take result row.new) seat.old.log seat.new.log }
 {
     let mut noted = [Noted::NONE; 32];
     let count = note_all(words, seat, cpu, &mut noted);
@@ -101,7 +101,7 @@ fn note_all(words: &Words, seat: &mut CpuSeat, cpu: u8, noted: &mut [Noted; 32])
     ensures count { result ≤ 32 }
     ensures noted { HasNotedSoFar seat.old.view noted.new result 0 seat.new.view }
     ensures known_log { seat.new.known_log ≡ seat.old.known_log }
-    ensures log { HasSearchedFor cpu nobody result seat.old.log seat.new.log }
+    ensures log { (once : SearchesOnce cpu seat.old.view.settings.slots nobody None seat.old.log seat.new.log) × (once.visited ≡ result) }
 {
     let mut count = 0;
     let mut link = steps::seek(words, seat, cpu, Kind::Iface, Name::of_words(0, 0));
@@ -156,7 +156,7 @@ fn find_noted(
     ensures found { (es : List Entry) → AreNoted seat.old.view.pass noted.now es → HaveBeenFound seat.old.view es (take result row.new) seat.new.view }
     ensures rest { drop result row.new ≡ drop result row.old }
     ensures known_log { seat.new.known_log ≡ seat.old.known_log }
-    ensures log { SearchesTimes cpu (length noted.now) seat.old.log seat.new.log }
+    ensures log { (es : List Entry) → AreNoted seat.old.view.pass noted.now es → LooksUpEach cpu seat.old.view.settings.slots es (take result row.new) seat.old.log seat.new.log }
 {
     let mut count = 0;
     for entry in noted {
@@ -187,7 +187,7 @@ fn find_again(words: &Words, seat: &mut CpuSeat, cpu: u8, noted: Noted) -> Optio
     ensures change { (e : Entry) → noted ≡ noted_of e → IsAttached seat.old.view.pass e → HasFoundAgain seat.old.view e result seat.new.view }
     ensures view { HaveSearched seat.old.view seat.new.view }
     ensures known_log { seat.new.known_log ≡ seat.old.known_log }
-    ensures log { (key : Key) × SearchesOnce cpu key seat.old.log seat.new.log }
+    ensures log { (e : Entry) → noted ≡ noted_of e → LooksUpAgain cpu seat.old.view.settings.slots e result seat.old.log seat.new.log }
 {
     let kind = noted_kind(noted.kind);
     let name = Name::of_words(noted.high, noted.low);

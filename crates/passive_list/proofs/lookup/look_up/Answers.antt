@@ -1,9 +1,14 @@
 -- The search from slot to slot.
-use Rattle.std.proofs.Common.{rules, ◌+◌, ◌-◌, Bool, length, ◌∙◌, subst}
+use Rattle.std.proofs.Common.{rules, ◌+◌, ◌-◌, ◌++◌, Bool, length, ◌∙◌, subst}
+use Rattle.protocol.specs.declared.event.Event.TheVariants.{Seek}
+use Rattle.protocol.specs.declared.event.Reply.TheVariants.{Done}
+use Rattle.protocol.specs.Loaded.{entry_with}
+use Rattle.cpu_words.specs.Rule.{did}
 use Rattle.cpu_words.specs.Searching.{key_with}
 use Rattle.passive_list.specs.Walking.{IsAtLink, IsOn, HasVisited}
-use Rattle.passive_list.proofs.Walking.{on_slot, on_way, may_take, may_go, number_falls, follows, found, visit_id, follow_id}
-use Rattle.passive_list.proofs.Searches.{search_begun, link_loaded, word_loaded, one_visited}
+use Rattle.passive_list.proofs.Walking.{on_slot, on_way, may_take, may_go, number_falls, follows, at_end, found, visit_id, follow_id}
+use Rattle.passive_list.proofs.Searches.{search_begun, link_loaded, word_loaded, one_visited, search_missed, search_found}
+use Rattle.passive_list.proofs.Visited.{gone_by_none, gone_by_next, few_missed, few_found, value_replied}
 use Rattle.passive_list.proofs.lookup.look_up.Goals as goal
 
 pub loop-link-init : goal.loop-link-init
@@ -11,7 +16,8 @@ loop-link-init c = record {
   table = c.seek-link.ensures.table;
   cpu = search rules;
   known_log = c.seek-link.ensures.known_log;
-  log = (0, search_begun c.args.cpu c.args.kind c.args.name _ _ _ c.seek-link.ensures.log);
+  visited = (0, search_begun c.args.cpu c.args.kind c.args.name _ _ _ c.seek-link.ensures.log, gone_by_none _ _ _);
+  ends = (c.args.seat.now.log ++ did (Seek c.args.cpu c.args.kind c.args.name) Done, c.seek-link.ensures.log);
   at = search rules;
 }
 
@@ -58,8 +64,18 @@ returns-then-is_sought-clause-change c =
 pub returns-then-is_sought-clause-log : goal.returns-then-is_sought-clause-log
 returns-then-is_sought-clause-log c =
     let key = key_with c.args.kind c.args.name in
-    let so_far = c.loop-link.invariant.log in
-    (so_far.0 + 1, one_visited c.args.cpu key so_far.0 _ _ _ _ so_far.1 c.visit-number.ensures.log (word_loaded c.args.cpu _ _ _ c.load_searched-value.ensures.log))
+    let x = c.args.seat.now.view in
+    let y = c.loop-link.seat.view in
+    let z = c.visit-number.new.seat.view in
+    let t = c.loop-link.link - 1 in
+    let n = c.visit-number.result.0 in
+    let value = c.load_searched-value.result in
+    let on : IsOn key x t c.loop-link.last y = on_slot key x y c.loop-link.link c.loop-link.last c.loop-link-test.true c.loop-link.invariant.at in
+    let had = subst (λ (b : Bool). HasVisited y key t n b z) c.if-is_sought.true c.visit-number.ensures.change in
+    let so_far = c.loop-link.invariant.visited in
+    let loads = one_visited c.args.cpu key so_far.0 _ _ _ _ so_far.1 c.visit-number.ensures.log (word_loaded c.args.cpu _ _ _ c.load_searched-value.ensures.log) in
+    search_found c.args.cpu x.settings.slots key (entry_with key t n value) _ (so_far.0 + 1) _ _ _ (value_replied key x y z t n c.loop-link.last value on had)
+    (few_found key x y z t n c.loop-link.last so_far.0 on had so_far.2) loads c.load_searched-value.ensures.log
 
 pub load_link-link-requires-clause-cpu : goal.load_link-link-requires-clause-cpu
 load_link-link-requires-clause-cpu c =
@@ -102,11 +118,26 @@ loop-link-preserved c =
     let m = c.load_link-link.result in
     let on : IsOn key x t c.loop-link.last y = on_slot key x y c.loop-link.link c.loop-link.last c.loop-link-test.true c.loop-link.invariant.at in
     let had = subst (λ (b : Bool). HasVisited y key t n b z) c.if-is_sought.false c.visit-number.ensures.change in
+    let so_far = c.loop-link.invariant.visited in
     let at : IsAtLink key x m n w = follows key x y z w t n m c.loop-link.last on had c.load_link-link.ensures.change in
     record {
       table = c.load_link-link.ensures.table ∙ c.visit-number.ensures.table ∙ c.loop-link.invariant.table;
       cpu = follow_id key x w m n at ∙ c.requires.cpu.1;
       known_log = c.load_link-link.ensures.known_log ∙ c.visit-number.ensures.known_log ∙ c.loop-link.invariant.known_log;
-      log = (c.loop-link.invariant.log.0 + 1, one_visited c.args.cpu key c.loop-link.invariant.log.0 _ _ _ _ c.loop-link.invariant.log.1 c.visit-number.ensures.log (link_loaded c.args.cpu _ _ _ c.load_link-link.ensures.log));
+      visited = (
+        so_far.0 + 1,
+        one_visited c.args.cpu key so_far.0 _ _ _ _ so_far.1 c.visit-number.ensures.log (link_loaded c.args.cpu _ _ _ c.load_link-link.ensures.log),
+        gone_by_next key x y z w t n m c.loop-link.last so_far.0 on had c.load_link-link.ensures.change so_far.2,
+      );
+      ends = (c.visit-number.new.seat.log, c.load_link-link.ensures.log);
       at = at;
     }
+
+pub returns-clause-log : goal.returns-clause-log
+returns-clause-log c =
+    let key = key_with c.args.kind c.args.name in
+    let x = c.args.seat.now.view in
+    let y = c.loop-link.seat.view in
+    let so_far = c.loop-link.invariant.visited in
+    let missed = at_end key x y c.loop-link.link c.loop-link.last c.loop-link-test.false c.loop-link.invariant.at in
+    (search_missed c.args.cpu x.settings.slots key c.loop-link.link so_far.0 _ _ c.loop-link-test.false (few_missed key x y so_far.0 c.loop-link.last missed so_far.2) so_far.1 c.loop-link.invariant.ends).0

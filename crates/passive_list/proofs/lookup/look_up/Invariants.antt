@@ -1,7 +1,9 @@
-use Rattle.std.proofs.Common.{◌≡◌}
+use Rattle.std.proofs.Common.{◌≡◌, ℕ}
 use Rattle.cpu_words.specs.Searching.{key_with}
-use Rattle.passive_list.specs.Searches.{SearchesOnce}
+use Rattle.passive_list.specs.Searches.{HasSearchedFor}
 use Rattle.passive_list.specs.Walking.{IsAtLink}
+use Rattle.passive_list.proofs.Searches.{EndsAtLink}
+use Rattle.passive_list.proofs.Visited.{HasGoneBy}
 use Rattle.passive_list.proofs.lookup.look_up.Given as goal
 
 abbrev pub invariant-loop-link : goal.invariant-loop-link
@@ -9,7 +11,8 @@ invariant-loop-link l = record {
   table : l.seat.table ≡ l.fn.seat.table;
   cpu : l.seat.view.id ≡ l.cpu;
   known_log : l.seat.known_log ≡ l.fn.seat.known_log;
-  log : SearchesOnce l.cpu (key_with l.kind l.name) l.fn.seat.log l.seat.log;
+  visited : (n : ℕ) × HasSearchedFor l.cpu (key_with l.kind l.name) n l.fn.seat.log l.seat.log × HasGoneBy l.fn.seat.view n l.last l.seat.view.pass;
+  ends : EndsAtLink l.cpu l.link l.seat.log;
   at : IsAtLink (key_with l.kind l.name) l.fn.seat.view l.link l.last l.seat.view;
 }
 

@@ -1,5 +1,5 @@
 -- What the search for a noted entry found.
-use Rattle.std.proofs.Common.{Option, Some, sym, ap, ◌∙◌, subst, arith}
+use Rattle.std.proofs.Common.{◌≡◌, Option, Some, None, sym, ap, ◌∙◌, subst, arith}
 use Rattle.registry_values.specs.declared.entry.Entry.{Entry}
 use Rattle.protocol.specs.Loaded.{entry_with}
 use Rattle.cpu_words.specs.Searching.{key_with}
@@ -7,7 +7,7 @@ use Rattle.passive_list.specs.declared.lookup.Seen.{Seen}
 use Rattle.passive_list.specs.declared.walks.Noted.{Noted}
 use Rattle.passive_list.specs.Noting.{HasFoundAgain}
 use Rattle.passive_list.specs.Walking.{HasLookedUp, entry_seen}
-use Rattle.passive_list.proofs.FoundAgain.{key_noted, missed_again, other_again, same_again}
+use Rattle.passive_list.proofs.FoundAgain.{key_noted, missed_again, other_again, same_again, looked_up_again}
 use Rattle.passive_list.proofs.Walking.{slot_seen}
 use Rattle.passive_list.proofs.walks.find_again.Goals as goal
 
@@ -46,3 +46,24 @@ returns-clause-change c = λ e is attached.
     let s = c.in_ok-seen.seen in
     let had = subst (λ (s : Option Seen). HasLookedUp key x y (entry_seen key s)) c.in_ok-seen.was c.look_up.ensures.change in
     same_again x y e (entry_with key s.slot s.number s.value) key attached had (c.if-seen-noted.false ∙ ap (λ (n : Noted). n.number) is)
+
+pub returns-in_err-seen-clause-log : goal.returns-in_err-seen-clause-log
+returns-in_err-seen-clause-log c = λ e is.
+    let x = c.args.seat.now.view in
+    let key = key_with c.noted_kind-kind.result c.of_words-name.result in
+    let same = key_noted e c.args.noted c.noted_kind-kind.result c.of_words-name.result is c.noted_kind-kind.ensures c.of_words-name.ensures in
+    looked_up_again c.args.cpu x.settings.slots e key _ (entry_seen key c.look_up.result) _ _ same c.look_up.ensures.log (λ f q. let clash : ◌≡◌ {A = Option Entry} None (Some f) = sym c.from_residual.ensures ∙ q in cc)
+
+pub returns-then-seen-noted-clause-log : goal.returns-then-seen-noted-clause-log
+returns-then-seen-noted-clause-log c = λ e is.
+    let x = c.args.seat.now.view in
+    let key = key_with c.noted_kind-kind.result c.of_words-name.result in
+    let same = key_noted e c.args.noted c.noted_kind-kind.result c.of_words-name.result is c.noted_kind-kind.ensures c.of_words-name.ensures in
+    looked_up_again c.args.cpu x.settings.slots e key None (entry_seen key c.look_up.result) _ _ same c.look_up.ensures.log (λ f (q : None ≡ Some f). cc)
+
+pub returns-clause-log : goal.returns-clause-log
+returns-clause-log c = λ e is.
+    let x = c.args.seat.now.view in
+    let key = key_with c.noted_kind-kind.result c.of_words-name.result in
+    let same = key_noted e c.args.noted c.noted_kind-kind.result c.of_words-name.result is c.noted_kind-kind.ensures c.of_words-name.ensures in
+    looked_up_again c.args.cpu x.settings.slots e key _ (entry_seen key c.look_up.result) _ _ same c.look_up.ensures.log (λ f q. ap (entry_seen key) c.in_ok-seen.was ∙ q)

@@ -1,12 +1,11 @@
 -- One noted entry after the other.
-use Rattle.std.proofs.Common.{ℕ, List, ◌≡◌, length, take, refl, ap, ◌∙◌, subst, arith, take_all}
-use Rattle.std.proofs.lemmas.List.{length-map}
+use Rattle.std.proofs.Common.{ℕ, List, ◌<◌, length, take, refl, ◌∙◌, subst, arith}
 use Rattle.registry_values.specs.declared.entry.Entry.{Entry}
 use Rattle.passive_list.specs.declared.walks.Noted.{Noted}
-use Rattle.passive_list.specs.Noting.{noted_of, HaveBeenFound}
-use Rattle.passive_list.proofs.FoundAgain.{none_found, searched_none, searched_on, searched_id, may_seek_again, next_found, rest_stays, few_written, size_stays}
-use Rattle.passive_list.specs.Searches.{SearchesTimes}
-use Rattle.passive_list.proofs.Searches.{once_more}
+use Rattle.passive_list.specs.Noting.{HaveBeenFound, LooksUpAgain}
+use Rattle.passive_list.proofs.FoundAgain.{none_found, searched_none, searched_on, searched_id, may_seek_again, next_found, next_looked_up, all_taken, searched_slots, rest_stays, few_written, size_stays}
+use Rattle.passive_list.specs.Searches.{LooksUpEach}
+use Rattle.passive_list.proofs.Searches.{none_looked_up}
 use Rattle.passive_list.proofs.walks.find_noted.Goals as goal
 
 abbrev no_words : Noted
@@ -17,7 +16,7 @@ loop-entry-init c = record {
   table = refl;
   cpu = c.requires.cpu.1;
   known_log = refl;
-  log = refl;
+  log = λ es are. none_looked_up c.args.cpu c.args.seat.now.view.settings.slots c.args.seat.now.log;
   few = omega arith;
   size = c.told-row;
   view = searched_none c.args.seat.now.view c.requires.may;
@@ -42,15 +41,17 @@ loop-entry-preserved c =
     let so_far = c.loop-entry.invariant in
     let wrote = c.write_next-count.ensures in
     let again = c.find_again-found.ensures in
+    let room : n < length old = omega (arith, so_far.few, c.loop-entry-test.true, so_far.size, c.requires.few) in
     record {
       table = again.table ∙ so_far.table;
       cpu = searched_id y w again.view ∙ so_far.cpu;
       known_log = again.known_log ∙ so_far.known_log;
-      log = once_more c.args.cpu i _ _ _ so_far.log again.log;
+      log = λ es are. next_looked_up c.args.cpu x.settings.slots y w x.pass c.args.noted.now no_words old new n next i answer _ _ _ c.loop-entry-test.true room so_far.view.pass
+          again.change (λ e is. subst (λ (slots : ℕ). LooksUpAgain c.args.cpu slots e answer c.loop-entry.seat.log c.find_again-found.new.seat.log) (searched_slots x y so_far.view) (again.log e is)) wrote es are (so_far.log es are);
       few = few_written old new n next i answer wrote so_far.few;
       size = size_stays old new n next answer wrote ∙ so_far.size;
       view = searched_on x y w so_far.view again.view;
-      found = λ es are. next_found x y w c.args.noted.now no_words old new n next i answer c.loop-entry-test.true (omega (arith, so_far.few, c.loop-entry-test.true, so_far.size, c.requires.few))
+      found = λ es are. next_found x y w c.args.noted.now no_words old new n next i answer c.loop-entry-test.true room
           so_far.view again.view again.change wrote es are (so_far.found es are);
       rest = rest_stays c.args.row.now old new n next answer wrote so_far.rest;
     }
@@ -60,12 +61,13 @@ returns-clause-found c = λ es are.
     let x = c.args.seat.now.view in
     let y = c.loop-entry.seat.view in
     let i = c.loop-entry.entry-index in
-    let size : length c.args.noted.now ≡ length es = ap (λ (l : List Noted). length l) are.are ∙ length-map es noted_of in
-    let all : take i es ≡ es = take_all i es (omega (arith, size, c.loop-entry-test.false)) in
+    let all = all_taken c.args.noted.now es i x.pass are (omega (arith, c.loop-entry-test.false)) in
     subst (λ (l : List Entry). HaveBeenFound x l (take c.loop-entry.count c.loop-entry.row) y) all (c.loop-entry.invariant.found es are)
 
 pub returns-clause-log : goal.returns-clause-log
-returns-clause-log c =
+returns-clause-log c = λ es are.
+    let x = c.args.seat.now.view in
+    let row = take c.loop-entry.count c.loop-entry.row in
     let i = c.loop-entry.entry-index in
-    let all : i ≡ length c.args.noted.now = omega (arith, c.loop-entry-test.false, c.loop-entry.auto.entry-index-end) in
-    subst (λ (n : ℕ). SearchesTimes c.args.cpu n c.args.seat.now.log c.loop-entry.seat.log) all c.loop-entry.invariant.log
+    let all = all_taken c.args.noted.now es i x.pass are (omega (arith, c.loop-entry-test.false)) in
+    subst (λ (l : List Entry). LooksUpEach c.args.cpu x.settings.slots l row c.args.seat.now.log c.loop-entry.seat.log) all (c.loop-entry.invariant.log es are)

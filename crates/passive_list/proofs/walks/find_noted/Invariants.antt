@@ -1,6 +1,6 @@
 use Rattle.std.proofs.Common.{◌≡◌, ◌≤◌, List, length, take, drop}
 use Rattle.registry_values.specs.declared.entry.Entry.{Entry}
-use Rattle.passive_list.specs.Searches.{SearchesTimes}
+use Rattle.passive_list.specs.Searches.{LooksUpEach}
 use Rattle.passive_list.specs.Noting.{AreNoted, HaveSearched, HaveBeenFound}
 use Rattle.passive_list.proofs.walks.find_noted.Given as goal
 
@@ -10,7 +10,7 @@ invariant-loop-entry l = record {
   table : l.seat.table ≡ l.fn.seat.table;
   cpu : l.seat.view.id ≡ l.cpu;
   known_log : l.seat.known_log ≡ l.fn.seat.known_log;
-  log : SearchesTimes l.cpu l.entry-index l.fn.seat.log l.seat.log;
+  log : (es : List Entry) → AreNoted l.fn.seat.view.pass l.noted es → LooksUpEach l.cpu l.fn.seat.view.settings.slots (take l.entry-index es) (take l.count l.row) l.fn.seat.log l.seat.log;
   few : l.count ≤ l.entry-index;
   size : length l.row ≡ 32;
   view : HaveSearched l.fn.seat.view l.seat.view;

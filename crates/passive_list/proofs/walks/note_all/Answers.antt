@@ -1,12 +1,15 @@
 -- One slot on the list after the other.
-use Rattle.std.proofs.Common.{◌≡◌, ◌+◌, ◌-◌, set, ap, ◌∙◌, subst, arith, length-set}
+use Rattle.std.proofs.Common.{◌≡◌, ◌+◌, ◌-◌, ◌++◌, set, ap, ◌∙◌, subst, arith, length-set}
 use Rattle.registry_values.specs.declared.entry.Kind.TheVariants.{Iface}
 use Rattle.registry_values.specs.declared.slot.Key.{Key}
+use Rattle.protocol.specs.declared.event.Event.TheVariants.{Seek}
+use Rattle.protocol.specs.declared.event.Reply.TheVariants.{Done}
+use Rattle.cpu_words.specs.Rule.{did}
 use Rattle.cpu_words.specs.Searching.{HasFollowed, cpu_after_seek, search_for, key_with}
 use Rattle.passive_list.specs.Searches.{nobody, HasSearchedFor}
 use Rattle.passive_list.specs.Noting.{HasNotedSoFar}
-use Rattle.passive_list.proofs.Noting.{noting_begins, none_noted, on_slot, slot_within, may_note, may_go_on, has_room, one_more_noted, noted_id, slot_id}
-use Rattle.passive_list.proofs.Searches.{search_begun, link_loaded, one_visited}
+use Rattle.passive_list.proofs.Noting.{noting_begins, none_noted, on_slot, slot_within, may_note, may_go_on, has_room, one_more_noted, few_noted, noted_id, slot_id}
+use Rattle.passive_list.proofs.Searches.{search_begun, link_loaded, one_visited, search_missed}
 use Rattle.passive_list.proofs.walks.note_all.Goals as goal
 
 pub loop-link-init : goal.loop-link-init
@@ -22,6 +25,7 @@ loop-link-init c =
       cpu = noted_id x y c.args.noted.now 0 m none ∙ c.requires.cpu.1;
       known_log = c.seek-link.ensures.known_log;
       log = subst (λ (k : Key). HasSearchedFor c.args.cpu k 0 c.args.seat.now.log c.seek-link.new.seat.log) key (search_begun c.args.cpu _ _ _ _ _ c.seek-link.ensures.log);
+      ends = (c.args.seat.now.log ++ did (Seek c.args.cpu Iface c.of_words.result) Done, c.seek-link.ensures.log);
       few = omega arith;
       size = c.told-noted;
       noted = none;
@@ -87,6 +91,7 @@ loop-link-preserved c =
       cpu = noted_id x w (set row count n) (count + 1) m more ∙ c.requires.cpu.1;
       known_log = c.load_link-link.ensures.known_log ∙ c.note-entry.ensures.known_log ∙ c.loop-link.invariant.known_log;
       log = one_visited c.args.cpu nobody count _ _ _ _ c.loop-link.invariant.log c.note-entry.ensures.log (link_loaded c.args.cpu _ _ _ c.load_link-link.ensures.log);
+      ends = (c.note-entry.new.seat.log, c.load_link-link.ensures.log);
       few = omega (arith, room);
       size = length-set row count n ∙ c.loop-link.invariant.size;
       noted = more;
@@ -94,3 +99,9 @@ loop-link-preserved c =
 
 pub returns-clause-noted : goal.returns-clause-noted
 returns-clause-noted c = subst (λ m. HasNotedSoFar c.args.seat.now.view c.loop-link.noted c.loop-link.count m c.loop-link.seat.view) c.loop-link-test.false c.loop-link.invariant.noted
+
+pub returns-clause-log : goal.returns-clause-log
+returns-clause-log c =
+    let x = c.args.seat.now.view in
+    let few = few_noted x c.loop-link.seat.view c.loop-link.noted c.loop-link.count c.loop-link.link c.loop-link.invariant.noted in
+    search_missed c.args.cpu x.settings.slots nobody c.loop-link.link c.loop-link.count _ _ c.loop-link-test.false few c.loop-link.invariant.log c.loop-link.invariant.ends

@@ -1,6 +1,7 @@
 use Rattle.std.proofs.Common.{◌≡◌, ◌≤◌, ◌-◌, length}
 use Rattle.passive_list.specs.Searches.{nobody, HasSearchedFor}
 use Rattle.passive_list.specs.Noting.{HasNotedSoFar}
+use Rattle.passive_list.proofs.Searches.{EndsAtLink}
 use Rattle.passive_list.proofs.walks.note_all.Given as goal
 
 -- the slots so far are noted, and the link leads to the next one
@@ -10,6 +11,7 @@ invariant-loop-link l = record {
   cpu : l.seat.view.id ≡ l.cpu;
   known_log : l.seat.known_log ≡ l.fn.seat.known_log;
   log : HasSearchedFor l.cpu nobody l.count l.fn.seat.log l.seat.log;
+  ends : EndsAtLink l.cpu l.link l.seat.log;
   few : l.count ≤ 32;
   size : length l.noted ≡ 32;
   noted : HasNotedSoFar l.fn.seat.view l.noted l.count l.link l.seat.view;
