@@ -41,7 +41,7 @@ impl PlainCpu {
     /// The CPU of a new seat: outside, with nothing found and nothing held.
     /// Condition: the seat is as `Words::new` gave it.
     pub fn of_seat(seat: CpuSeat, id: u8) -> PlainCpu
-        requires fit { IsTrue (are_fit seat.view.settings) × (id < 8) }
+        requires fit { IsTrue (are_fit seat.view.settings) × (id < seat.view.settings.cpus) }
         requires new { seat.view ≡ new_cpu seat.view.settings id }
         ensures words { result.words ≡ record { table = seat.table; settings = seat.view.settings } }
         ensures cpu { result.cpu ≡ record { view = seat.view; depth = 0; made = 0; known_log = seat.known_log; log = seat.log } }

@@ -11,6 +11,7 @@ ghost use Rattle.registry_values.specs.declared.slot.Key.{Key};
 ghost use Rattle.registry_values.specs.Slots.{kind_word};
 ghost use Rattle.protocol.specs.History.{IsAttached};
 ghost use Rattle.cpu_words.specs.Domains.{AreWordsOf};
+ghost use Rattle.cpu_words.specs.Rule.{IsShownCpu};
 ghost use Rattle.cpu_words.specs.Searching.{MaySeek};
 ghost use Rattle.passive_list.specs.Walking.{MayVisit};
 ghost use Rattle.passive_list.specs.Searches.{nobody, GoesOnByLoads, HasSearchedFor, SearchesOnce, SearchesTimes, HasGoneOverBy};
@@ -81,6 +82,7 @@ fn go_over(words: &Words, seat: &mut CpuSeat, cpu: u8, row: &mut [Entry; 32]) ->
     ensures table { seat.new.table ≡ seat.old.table }
     ensures count { result ≤ 32 }
     ensures change { HasGoneOver seat.old.view seat.new.view (take result row.new) }
+    ensures is_shown { IsShownCpu seat.new.view }
     ensures rest { drop result row.new ≡ drop result row.old }
     ensures known_log { seat.new.known_log ≡ seat.old.known_log }
     ensures log { HasGoneOverBy cpu seat.old.log seat.new.log }
