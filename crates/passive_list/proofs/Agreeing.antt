@@ -27,7 +27,7 @@ use Rattle.passive_list.specs.declared.place.NumberedCount.{NumberedCount}
 use Rattle.registry_values.specs.declared.slot.Key.{Key}
 use Rattle.protocol.specs.declared.state.Search.{Search}
 use Rattle.passive_list.specs.Walking.{HasLookedUp}
-use Rattle.passive_list.specs.Cpus.{no_place, no_found, place_at, PassiveAgree, NetAgree, DepthAgrees, SectionAgrees, IsKept, IsOurCpu}
+use Rattle.passive_list.specs.Cpus.{no_place, no_found, place_at, PassiveAgree, NetAgree, DepthAgrees, SectionAgrees, IsKept, HoldsFound, IsOurCpu}
 
 -- each place of a new CPU is of no entry
 blank_number : (t : ℕ) → (place_at (replicate 32 no_place) t).number ≡ 0
@@ -234,3 +234,6 @@ none_outside x shown outside = by_cases x.found refl
     by_cases (Some e) is =
         let held = (found_is_in x e shown is).0 in
         absurd (none-some held.0 (sym outside ∙ held.1))
+
+pub holds_found : (x : CpuView) → IsShownCpu x → HoldsFound x
+holds_found x shown = record { is_shown = shown; held = λ e is. (found_is_in x e shown is).0; slot = λ e is. (found_is_in x e shown is).1 }

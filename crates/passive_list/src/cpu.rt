@@ -2,6 +2,7 @@
 
 ghost use Rattle.std.specs.Prelude.{◌≡◌, ◌≢◌, ◌↔◌, ◌<◌, IsTrue, None};
 ghost use Rattle.cpu_words.specs.Views.{new_cpu};
+ghost use Rattle.passive_list.specs.Cpus.{HoldsFound};
 ghost use Rattle.registry_values.specs.Limits.{are_fit};
 
 use crate::plain_cpu::PlainCpu;
@@ -54,9 +55,11 @@ impl<D: Domain> Cpu<D> {
         self.plain.id()
     }
 
-    /// How many enters are open: 0 outside, at most 255.
+    /// How many enters are open: 0 outside, at most 255. `own` is what every CPU keeps of itself: some state shows its view, and there its open
+    /// section may hold the entry that it found last, which has its slot.
     pub fn depth(&self) -> u8
-        ensures { result ≡ self.now.depth }
+        ensures value { result ≡ self.now.depth }
+        ensures own { HoldsFound self.now.view }
     {
         self.plain.depth()
     }

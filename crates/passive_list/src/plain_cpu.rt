@@ -3,6 +3,7 @@
 ghost use Rattle.std.specs.Prelude.{◌≡◌, ◌≢◌, ◌↔◌, ◌<◌, IsTrue, None};
 ghost use Rattle.registry_values.specs.Limits.{are_fit};
 ghost use Rattle.cpu_words.specs.Views.{new_cpu};
+ghost use Rattle.passive_list.specs.Cpus.{HoldsFound};
 
 use crate::place::{Found, NumberedCount};
 use cpu_words::CpuSeat;
@@ -64,9 +65,11 @@ impl PlainCpu {
         self.id
     }
 
-    /// How many enters are open: 0 outside, at most 255.
+    /// How many enters are open: 0 outside, at most 255. `own` is what every CPU keeps of itself: some state shows its view, and there its open
+    /// section may hold the entry that it found last, which has its slot.
     pub fn depth(&self) -> u8
-        ensures { result ≡ self.now.cpu.depth }
+        ensures value { result ≡ self.now.cpu.depth }
+        ensures own { HoldsFound self.now.cpu.view }
     {
         self.depth
     }
