@@ -20,7 +20,7 @@ use Rattle.cpu_words.specs.Views.{number_at, with_number, one_more}
 use Rattle.cpu_words.specs.Rule.{IsShownCpu}
 use Rattle.cpu_words.specs.Locals.{IsNetCount, IsPlaceCount, IsMetAlone, MayCount, HasCounted, HasSplit}
 use Rattle.cpu_words.proofs.by_cpu.Counting.{one_more_same, one_more_other, place_is}
-use Rattle.cpu_words.proofs.shown.KeepersShown.{found_is_in}
+use Rattle.cpu_words.proofs.shown.CpusShown.{found_is_in}
 use Rattle.passive_list.specs.declared.place.Found.{Found}
 use Rattle.passive_list.specs.declared.place.NumberedCount.{NumberedCount}
 use Rattle.passive_list.specs.Cpus.{OnCpu, place_at, IsOurCpu}

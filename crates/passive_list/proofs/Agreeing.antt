@@ -20,7 +20,7 @@ use Rattle.cpu_words.specs.declared.view.CpuView.{CpuView}
 use Rattle.cpu_words.specs.Rule.{IsShownCpu}
 use Rattle.cpu_words.specs.Views.{number_at, references_to, depth_of, new_cpu}
 use Rattle.cpu_words.specs.Sections.{HasEntered, HasExited}
-use Rattle.cpu_words.proofs.shown.KeepersShown.{found_is_in, new_cpu_is_shown}
+use Rattle.cpu_words.proofs.shown.CpusShown.{found_is_in, new_cpu_is_shown}
 use Rattle.cpu_words.proofs.shown.Passes.{attached_prefix}
 use Rattle.passive_list.specs.declared.place.Found.{Found}
 use Rattle.passive_list.specs.declared.place.NumberedCount.{NumberedCount}

@@ -16,7 +16,7 @@ use Rattle.passive_list.specs.declared.place.Found.{Found}
 use Rattle.passive_list.specs.declared.place.NumberedCount.{NumberedCount}
 use Rattle.passive_list.specs.Cpus.{OnCpu, IsOurCpu}
 use Rattle.passive_list.specs.Sections.{AreSpent, HasEnteredOn}
-use Rattle.cpu_words.proofs.shown.KeepersShown.{entered_whole}
+use Rattle.cpu_words.proofs.shown.CpusShown.{entered_whole}
 
 few : (b : Option ℕ) → depth_of b ≤ 1
 few None = omega arith
