@@ -1,6 +1,7 @@
 pub mod Apart
 pub mod Passes
 pub mod KeepersShown
+pub mod CpusShown
 pub mod Placing
 pub mod ReferenceLists
 pub mod Seeing

@@ -19,7 +19,7 @@ use Rattle.registry_values.specs.Slots.{slot_at}
 use Rattle.protocol.specs.Invariant.{IsIn, one_if, standing_of, Holds}
 use Rattle.protocol.specs.Laws.{after}
 use Rattle.cpu_words.specs.Spots.{Spot, index, IsSpot, word_at}
-use Rattle.cpu_words.specs.Views.{KeeperShown, Shown, is_to}
+use Rattle.cpu_words.specs.Views.{Shown, is_to}
 use Rattle.cpu_words.specs.declared.view.CpuView.{CpuView}
 use Rattle.cpu_words.specs.declared.view.KeeperView.{KeeperView}
 use Rattle.cpu_words.specs.declared.view.LogItem.{LogItem}
@@ -77,11 +77,19 @@ pub record Good (g : State) : Type 0 where
   pub holds : Holds g
   pub fresh : (c : ℕ) → g.seated ≤ c → c < g.settings.cpus → IsFresh g c
 
--- some such state shows the keeper's view
-pub record IsShown (k : KeeperView) : Type 0 where
+-- some such state shows the view
+pub record IsShownAs (v : View) : Type 0 where
   pub g : State
   pub good : Good g
-  pub shown : KeeperShown g k
+  pub shown : Shown g v
+
+-- the keeper's, and a CPU's
+
+abbrev pub IsShown : KeeperView → Type 0
+IsShown k = IsShownAs (Keeper k)
+
+abbrev pub IsShownCpu : CpuView → Type 0
+IsShownCpu x = IsShownAs (Cpu x)
 
 -- An event as its seat knows it. The ids of local references are the core's alone: in their place stands the number of the reference's entry.
 

@@ -3,6 +3,7 @@ use Rattle.std.specs.Prelude.{◌≡◌, ℕ, ◌+◌, ◌*◌, ◌<◌, length,
 use mathlib.Core.List.{IsPrefix}
 use Rattle.cpu_words.specs.declared.view.InHand.TheVariants.{Empty as NoEntry}
 use Rattle.cpu_words.specs.declared.view.CpuView.{CpuView}
+use Rattle.cpu_words.specs.Rule.{IsShownCpu}
 
 -- no search is under way, and the hand is empty
 pub record IsIdle (x : CpuView) : Type 0 where
@@ -17,6 +18,10 @@ pub record MayEnter (x : CpuView) : Type 0 where
 -- the pass is a longer prefix of the history, and the section begins at its end
 abbrev pub HasEntered : CpuView → CpuView → Type 0
 HasEntered x y = IsPrefix x.pass y.pass × (y ≡ record x { section = x.section + 1; begin = Some (length y.pass); pass = y.pass })
+
+-- some state shows the CPU, and its pass is the whole history there
+abbrev pub HasWholePass : CpuView → Type 0
+HasWholePass x = (s : IsShownCpu x) × (x.pass ≡ s.g.history)
 
 pub record MayExit (x : CpuView) : Type 0 where
   pub idle : IsIdle x

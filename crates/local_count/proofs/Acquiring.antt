@@ -1,9 +1,7 @@
 -- A CPU acquires a local reference: why it may, and what it leaves.
-use Rattle.std.proofs.Common.{◌≡◌, ◌≢◌, ℕ, ◌+◌, ◌<◌, ◌≤◌, ◌&&◌, ◌^◌, nat_le, nat_lt, Bool, true, false, List, set, Option, Some, None, Result, Ok, Err, IfOk, IsTrue, refl, sym, ap, ◌∙◌, subst, arith, leb-true}
+use Rattle.std.proofs.Common.{◌≡◌, ◌≢◌, ℕ, ◌+◌, ◌<◌, ◌≤◌, nat_lt, Bool, true, false, List, set, Option, Some, None, Result, Ok, Err, IfOk, refl, sym, ap, ◌∙◌, subst, arith}
 use Rattle.std.specs.Prelude.{if◌then◌else◌}
-use Rattle.std.proofs.lemmas.Bool.{and_parts, ltb-false, ltb-true}
-use mathlib.Core.Logic.{dite}
-use native.Mathlib.Decide.{ℕ_discrete}
+use Rattle.std.proofs.lemmas.Bool.{ltb-false, ltb-true}
 use Rattle.atomic_table.specs.Seated.{TableId}
 use Rattle.registry_values.specs.declared.entry.Entry.{Entry}
 use Rattle.registry_values.specs.declared.entry.Change.TheVariants.{Attach}
@@ -11,7 +9,6 @@ use Rattle.registry_values.specs.declared.settings.Settings.{Settings}
 use Rattle.registry_values.specs.declared.refusal.Refusal.{Refusal}
 use Rattle.registry_values.specs.declared.refusal.Refusal.TheVariants.{LocalFull}
 use Rattle.registry_values.specs.Answers.{why_uncounted}
-use Rattle.registry_values.specs.Limits.{is_within, are_sizes_fit, are_limits_fit, are_fit}
 use Rattle.protocol.specs.Invariant.{greatest_limit}
 use Rattle.registry_values.specs.Balances.{bias}
 use Rattle.registry_values.proofs.Fit.{ranges}
@@ -20,8 +17,10 @@ use Rattle.cpu_words.specs.declared.view.CpuView.{CpuView}
 use Rattle.cpu_words.specs.declared.view.ReferenceView.{ReferenceView}
 use Rattle.cpu_words.specs.declared.view.InHand.TheVariants.{Empty as NoEntry, Taking as TakingEntry}
 use Rattle.cpu_words.specs.Views.{number_at, with_number, one_more}
+use Rattle.cpu_words.specs.Rule.{IsShownCpu}
 use Rattle.cpu_words.specs.Locals.{IsNetCount, IsPlaceCount, IsMetAlone, MayCount, HasCounted, HasSplit}
-use Rattle.cpu_words.proofs.by_cpu.Counting.{one_more_same, one_more_other}
+use Rattle.cpu_words.proofs.by_cpu.Counting.{one_more_same, one_more_other, place_is}
+use Rattle.cpu_words.proofs.shown.CpusShown.{found_is_in}
 use Rattle.passive_list.specs.declared.place.Found.{Found}
 use Rattle.passive_list.specs.declared.place.NumberedCount.{NumberedCount}
 use Rattle.passive_list.specs.Cpus.{OnCpu, place_at, IsOurCpu}
@@ -64,28 +63,30 @@ may_count z a t x c w d k ps ns n our kept count room = record {
   room = subst (λ (b : Settings). n < bias + b.count_limit) (sym our.settings) room;
 }
 
--- settings that are fit allow one reference
-some_count : (a : Settings) → IsTrue (are_fit a) → 1 ≤ a.count_limit
-some_count a fit =
-    let p = and_parts (are_sizes_fit a) (are_limits_fit a) fit in
-    let limits = and_parts (is_within 1 (2 ^ 40) a.section_limit && is_within 1 (2 ^ 40) a.passive_limit) (is_within 1 (2 ^ 40) a.count_limit) p.1 in
-    leb-true 1 a.count_limit (and_parts (nat_le 1 a.count_limit) (nat_le a.count_limit (2 ^ 40)) limits.1).0
-
--- else it is full
-pub full_of : (z : TableId) (a : Settings) (t : TableId) (x : CpuView) (c w d : ℕ) (k : Found) (ps ns : List NumberedCount) (n : ℕ) (kept : IsFoundAs x k)
-    → IsOurCpu z a t x c w d k ps ns → n ≡ net_by (place_at ns k.slot) k.number → bias + a.count_limit ≤ n → IsFull x kept.entry
-full_of z a t x c w d k ps ns n kept our count above =
+-- what its place says is its net count for that entry, which has its slot
+net_of_found : (z : TableId) (a : Settings) (t : TableId) (x : CpuView) (c w d : ℕ) (k : Found) (ps ns : List NumberedCount) (n : ℕ) (kept : IsFoundAs x k)
+    → IsOurCpu z a t x c w d k ps ns → n ≡ net_by (place_at ns k.slot) k.number → IsNetCount x kept.entry.number n
+net_of_found z a t x c w d k ps ns n kept our count =
     let e = kept.entry in
+    let s = our.is_shown in
     let place : IsPlaceCount x e.slot e.number n = subst (λ (p : ℕ × ℕ). IsPlaceCount x p.0 p.1 n) (λ i. (kept.slot i, kept.number i)) (place_count x ns k.slot k.number n our.net (begun_of x k kept) count) in
-    let limit : x.settings.count_limit ≡ a.count_limit = ap (λ (b : Settings). b.count_limit) our.settings in
-    dite (ℕ_discrete (number_at x.met e.slot) e.number)
-    (λ (same : number_at x.met e.slot ≡ e.number).
-    let net : n + number_at x.released e.number ≡ bias + number_at x.acquired e.number = place.met same in
-    (same, omega arith))
-    (λ (off : number_at x.met e.slot ≢ e.number).
-    let none : n ≡ bias = place.other off in
-    let one = some_count a our.fit in
-    absurd (omega arith))
+    place_is s.g x e.slot e n s.shown (found_is_in x e s kept.found).1 place
+
+-- so it is full where that is at the limit, and below it isn't
+
+pub full_of : (z : TableId) (a : Settings) (t : TableId) (x : CpuView) (c w d : ℕ) (k : Found) (ps ns : List NumberedCount) (n : ℕ) (kept : IsFoundAs x k)
+    → IsOurCpu z a t x c w d k ps ns → n ≡ net_by (place_at ns k.slot) k.number → bias + x.settings.count_limit ≤ n → IsFull x kept.entry
+full_of z a t x c w d k ps ns n kept our count above =
+    let net = net_of_found z a t x c w d k ps ns n kept our count in
+    omega (arith, net, above)
+
+pub not_full : (z : TableId) (a : Settings) (t : TableId) (x : CpuView) (c w d : ℕ) (k : Found) (ps ns : List NumberedCount) (n : ℕ) (kept : IsFoundAs x k)
+    → IsOurCpu z a t x c w d k ps ns → n ≡ net_by (place_at ns k.slot) k.number → n < bias + x.settings.count_limit → (e : Entry) → x.found ≡ Some e → IsFull x e → ⊥
+not_full z a t x c w d k ps ns n kept our count room e is full =
+    let net = net_of_found z a t x c w d k ps ns n kept our count in
+    let one : kept.entry ≡ e = let q : ◌≡◌ {A = Option Entry} (Some kept.entry) (Some e) = sym kept.found ∙ is in cc in
+    let same : IsFull x kept.entry = subst (IsFull x) (sym one) full in
+    omega (arith, net, room, same)
 
 -- What the addition and the cut leave
 
@@ -120,9 +121,9 @@ acquired_reference z a t x c w d k ps ns y l v our kept counted cut =
     subst (λ (r : ReferenceView). IsOurReference r k.number k.slot k.kind) (sym left.is) there
 
 pub acquired_agrees : (z : TableId) (a : Settings) (t u : TableId) (x : CpuView) (c w d : ℕ) (k : Found) (ps ns : List NumberedCount) (y l : CpuView) (v : ReferenceView) (n : ℕ)
-    → IsOurCpu z a t x c w d k ps ns → IsFoundAs x k → u ≡ t → HasCounted x k.slot k.number y → HasSplit y l v → IsNetCount x k.number n → n < bias + x.settings.count_limit → IsMetAlone x k.slot k.number
+    → IsOurCpu z a t x c w d k ps ns → IsShownCpu l → IsFoundAs x k → u ≡ t → HasCounted x k.slot k.number y → HasSplit y l v → IsNetCount x k.number n → n < bias + x.settings.count_limit → IsMetAlone x k.slot k.number
     → IsOurCpu z a u l c w d k ps (set ns k.slot (record { number = k.number; count = n + 1 }))
-acquired_agrees z a t u x c w d k ps ns y l v n our kept same counted cut net room alone =
+acquired_agrees z a t u x c w d k ps ns y l v n our is_shown kept same counted cut net room alone =
     let left = acquired_of x y l v kept.entry kept.found our.idle.hand (counted_it x y k kept counted) cut in
     let view : l ≡ record x { acquired = one_more x.acquired k.number; met = with_number x.met k.slot k.number } =
     left.view ∙ (λ i. record x { acquired = one_more x.acquired (sym kept.number i); met = with_number x.met (sym kept.slot i) (sym kept.number i) }) in
@@ -130,7 +131,7 @@ acquired_agrees z a t u x c w d k ps ns y l v n our kept same counted cut net ro
     let count : n + 1 + number_at x.released k.number ≡ bias + number_at (one_more x.acquired k.number) k.number = omega (arith, net, one) in
     let limit : x.settings.count_limit ≤ greatest_limit = subst (λ (b : Settings). b.count_limit ≤ greatest_limit) (sym our.settings) (ranges a our.fit).counts in
     subst (λ (q : CpuView). IsOurCpu z a u q c w d k ps (set ns k.slot (record { number = k.number; count = n + 1 }))) (sym view)
-    (counted_agrees z a t u x c w d k ps ns (one_more x.acquired k.number) x.released k.slot k.number (n + 1) our same kept.few alone count (omega (arith, room, limit)) (λ m off. (one_more_other x.acquired k.number m off, refl)))
+    (counted_agrees z a t u x c w d k ps ns (one_more x.acquired k.number) x.released k.slot k.number (n + 1) our (subst IsShownCpu view is_shown) same kept.few alone count (omega (arith, room, limit)) (λ m off. (one_more_other x.acquired k.number m off, refl)))
 
 -- A CPU with a share: an acquire leaves what the share has
 

@@ -9,6 +9,7 @@ use Rattle.protocol.specs.Invariant.{greatest_limit}
 use Rattle.registry_values.specs.Balances.{bias}
 use Rattle.cpu_words.specs.declared.view.CpuView.{CpuView}
 use Rattle.cpu_words.specs.Views.{number_at, with_number}
+use Rattle.cpu_words.specs.Rule.{IsShownCpu}
 use Rattle.cpu_words.specs.Locals.{IsPlaceCount, IsMetAlone}
 use Rattle.cpu_words.proofs.by_cpu.Counting.{with_number_same, with_number_other}
 use Rattle.passive_list.specs.declared.place.Found.{Found}
@@ -88,10 +89,10 @@ net_set x y l t n v agree lt alone met count most same = record { size = length-
 -- The data agree with the view after a count, up or down
 
 pub counted_agrees : (z : TableId) (a : Settings) (t u : TableId) (x : CpuView) (c w d : ℕ) (o : Found) (ps ns : List NumberedCount) (acquired released : List ℕ) (s n v : ℕ)
-    → IsOurCpu z a t x c w d o ps ns → u ≡ t → s < 32 → IsMetAlone x s n → v + number_at released n ≡ bias + number_at acquired n → v ≤ bias + greatest_limit
+    → IsOurCpu z a t x c w d o ps ns → IsShownCpu (record x { acquired = acquired; released = released; met = with_number x.met s n }) → u ≡ t → s < 32 → IsMetAlone x s n → v + number_at released n ≡ bias + number_at acquired n → v ≤ bias + greatest_limit
     → ((m : ℕ) → m ≢ n → (number_at acquired m ≡ number_at x.acquired m) × (number_at released m ≡ number_at x.released m))
     → IsOurCpu z a u (record x { acquired = acquired; released = released; met = with_number x.met s n }) c w d o ps (set ns s (record { number = n; count = v }))
-counted_agrees z a t u x c w d o ps ns acquired released s n v our same lt alone count most others = record {
+counted_agrees z a t u x c w d o ps ns acquired released s n v our is_shown same lt alone count most others = record {
   table = same ∙ our.table;
   settings = our.settings;
   fit = our.fit;
@@ -100,9 +101,10 @@ counted_agrees z a t u x c w d o ps ns acquired released s n v our same lt alone
   section = record { word = our.section.word; limit = our.section.limit };
   idle = record { search = our.idle.search; hand = our.idle.hand };
   depth = our.depth;
-  found = record { is = our.found.is; seen = our.found.seen; none_outside = our.found.none_outside };
+  found = our.found;
   passive = record { size = our.passive.size; counts = our.passive.counts; placed = λ k some. let old = our.passive.placed k some in record { entry = old.entry; attached = old.attached; slot = old.slot; number = old.number }; each = our.passive.each };
   net = net_set x (record x { acquired = acquired; released = released; met = with_number x.met s n }) ns s n v our.net lt alone refl count most others;
+  is_shown = is_shown;
 }
 
 -- the seat's table and view are as they were

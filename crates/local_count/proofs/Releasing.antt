@@ -9,6 +9,7 @@ use Rattle.cpu_words.specs.declared.view.CpuView.{CpuView}
 use Rattle.cpu_words.specs.declared.view.ReferenceView.{ReferenceView}
 use Rattle.cpu_words.specs.declared.view.InHand.TheVariants.{Empty as NoEntry, Giving as GivingEntry, Back as BackEntry}
 use Rattle.cpu_words.specs.Views.{number_at, with_number, one_more}
+use Rattle.cpu_words.specs.Rule.{IsShownCpu}
 use Rattle.cpu_words.specs.Locals.{IsNetCount, IsMetAlone, HasCountedDown, HasFoundCollected, HasSplitBack, with_hand}
 use Rattle.cpu_words.proofs.by_cpu.Counting.{one_more_same, one_more_other}
 use Rattle.passive_list.specs.declared.place.Found.{Found}
@@ -23,16 +24,17 @@ released_of x y w e s n empty joined counted = counted.4 ∙ ap (λ (k : CpuView
     ∙ (λ k. record x { hand = sym empty k; released = one_more x.released n; met = with_number x.met s n })
 
 pub released_agrees : (z : TableId) (a : Settings) (t u : TableId) (x : CpuView) (c w d : ℕ) (o : Found) (ps ns : List NumberedCount) (v : ReferenceView) (n s count : ℕ) (kind : Kind) (y k : CpuView)
-    → IsOurCpu z a t x c w d o ps ns → IsOurReference v n s kind → u ≡ t → y ≡ with_hand x (GivingEntry v.entry) → HasCountedDown y s n k → 0 < count → count ≡ net_by (place_at ns s) n → IsNetCount y n count → IsMetAlone y s n
+    → IsOurCpu z a t x c w d o ps ns → IsShownCpu k → IsOurReference v n s kind → u ≡ t → y ≡ with_hand x (GivingEntry v.entry) → HasCountedDown y s n k → 0 < count → count ≡ net_by (place_at ns s) n → IsNetCount y n count → IsMetAlone y s n
     → IsOurCpu z a u k c w d o ps (set ns s (record { number = n; count = count - 1 }))
-released_agrees z a t u x c w d o ps ns v n s count kind y k our its same joined counted floor is net alone =
+released_agrees z a t u x c w d o ps ns v n s count kind y k our is_shown its same joined counted floor is net alone =
     let was : count + number_at x.released n ≡ bias + number_at x.acquired n = subst (λ (q : CpuView). IsNetCount q n count) joined net in
     let here : IsMetAlone x s n = subst (λ (q : CpuView). IsMetAlone q s n) joined alone in
     let one = one_more_same x.released n in
     let after : count - 1 + number_at (one_more x.released n) n ≡ bias + number_at x.acquired n = omega (arith, was, one, floor) in
     let most = net_most x ns s n count our.net is in
-    subst (λ (q : CpuView). IsOurCpu z a u q c w d o ps (set ns s (record { number = n; count = count - 1 }))) (sym (released_of x y k v.entry s n our.idle.hand joined counted))
-    (counted_agrees z a t u x c w d o ps ns x.acquired (one_more x.released n) s n (count - 1) our same its.few here after (omega (arith, most)) (λ m off. (refl, one_more_other x.released n m off)))
+    let view = released_of x y k v.entry s n our.idle.hand joined counted in
+    subst (λ (q : CpuView). IsOurCpu z a u q c w d o ps (set ns s (record { number = n; count = count - 1 }))) (sym view)
+    (counted_agrees z a t u x c w d o ps ns x.acquired (one_more x.released n) s n (count - 1) our (subst IsShownCpu view is_shown) same its.few here after (omega (arith, most)) (λ m off. (refl, one_more_other x.released n m off)))
 
 -- What a collected word leaves: the CPU as it was, and the reference again
 

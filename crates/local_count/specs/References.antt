@@ -34,10 +34,9 @@ pub record IsOurReference (v : ReferenceView) (n s : ℕ) (k : Kind) : Type 0 wh
 abbrev pub net_by : NumberedCount → ℕ → ℕ
 net_by p n = if p.number == n then p.count else bias
 
--- The entry is the one that the CPU met last in its slot, and its own net count for it is at the limit.
--- Where it met another number there last, it has counted none to this one.
+-- the CPU's own net count for the entry is at the limit
 abbrev pub IsFull : CpuView → Entry → Type 0
-IsFull x e = (number_at x.met e.slot ≡ e.number) × (x.settings.count_limit + number_at x.released e.number ≤ number_at x.acquired e.number)
+IsFull x e = x.settings.count_limit + number_at x.released e.number ≤ number_at x.acquired e.number
 
 -- the CPU's own net count for n, over the bias, by what its seat knows: its count word, while it is n's
 abbrev pub net_word : CpuView → ℕ → ℕ

@@ -14,8 +14,7 @@ use passive_list::{Cpu, PlainCpu};
 use registry_values::{BIAS, Refusal, why_uncounted};
 use std::marker::PhantomData;
 
-/// Acquires a local reference to the CPU's last found entry: the CPU's own net count for it grows by one. Net counts are kept by slot,
-/// for the number met there last; for another number the count is none.
+/// Acquires a local reference to the CPU's last found entry: the CPU's own net count for it grows by one.
 /// Refused: `NothingFound` where this CPU has no last found entry, then `LocalFull` where its own net count for that entry is
 /// `count_limit`. Nothing changes then.
 pub fn acquire_local<D: Domain>(words: &Words, cpu: &mut Cpu<D>) -> Result<LocalRef<D>, Refusal>

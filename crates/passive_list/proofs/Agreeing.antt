@@ -1,6 +1,7 @@
 -- A CPU's plain data agree with its view on: as it is made, and over its sections.
 use Rattle.std.proofs.Common.{◌≡◌, ◌≢◌, ℕ, ◌+◌, ◌*◌, ◌<◌, ◌≤◌, List, [], length, replicate, IsTrue, Option, Some, None, refl, sym, ap, ◌∙◌, subst, arith}
 use Rattle.std.proofs.lemmas.List.{append-nil}
+use Rattle.std.proofs.lemmas.Option.{none-some}
 use Rattle.std.specs.List.{Contains}
 use mathlib.Core.List.{IsPrefix}
 use Rattle.atomic_table.specs.Seated.{TableId}
@@ -11,18 +12,22 @@ use Rattle.registry_values.specs.declared.settings.Settings.{Settings}
 use Rattle.registry_values.specs.Limits.{are_fit}
 use Rattle.protocol.specs.History.{IsAttached}
 use Rattle.registry_values.specs.Balances.{bias}
+use Rattle.registry_values.proofs.Fit.{ranges}
 use Rattle.protocol.proofs.slots.Cells.{get_or_all}
+use Rattle.protocol.proofs.slots.Occupied.{in_within}
 use Rattle.protocol.proofs.history.History.{at_within}
 use Rattle.cpu_words.specs.declared.view.CpuView.{CpuView}
+use Rattle.cpu_words.specs.Rule.{IsShownCpu}
 use Rattle.cpu_words.specs.Views.{number_at, references_to, depth_of, new_cpu}
 use Rattle.cpu_words.specs.Sections.{HasEntered, HasExited}
+use Rattle.cpu_words.proofs.shown.CpusShown.{found_is_in, new_cpu_is_shown}
 use Rattle.cpu_words.proofs.shown.Passes.{attached_prefix}
 use Rattle.passive_list.specs.declared.place.Found.{Found}
 use Rattle.passive_list.specs.declared.place.NumberedCount.{NumberedCount}
 use Rattle.registry_values.specs.declared.slot.Key.{Key}
 use Rattle.protocol.specs.declared.state.Search.{Search}
 use Rattle.passive_list.specs.Walking.{HasLookedUp}
-use Rattle.passive_list.specs.Cpus.{no_place, no_found, place_at, PassiveAgree, NetAgree, DepthAgrees, SectionAgrees, IsKept, FoundAgrees, IsOurCpu}
+use Rattle.passive_list.specs.Cpus.{no_place, no_found, place_at, PassiveAgree, NetAgree, DepthAgrees, SectionAgrees, IsKept, HoldsFound, IsOurCpu}
 
 -- each place of a new CPU is of no entry
 blank_number : (t : ℕ) → (place_at (replicate 32 no_place) t).number ≡ 0
@@ -44,19 +49,20 @@ inside : (b : ℕ) → DepthAgrees (Some b) 1
 inside b = record { outside = (λ (q : Some b ≡ None). cc, λ (q : 1 ≡ 0). absurd (omega arith)); most = omega arith }
 
 -- a new CPU
-pub new_agrees : (z : TableId) (a : Settings) (t : TableId) (c : ℕ) → t ≡ z → IsTrue (are_fit a) → c < 8 → IsOurCpu z a t (new_cpu a c) c 0 0 no_found (replicate 32 no_place) (replicate 32 no_place)
-new_agrees z a t c table fit few = record {
+pub new_agrees : (z : TableId) (a : Settings) (t : TableId) (c : ℕ) → t ≡ z → IsTrue (are_fit a) → c < a.cpus → IsOurCpu z a t (new_cpu a c) c 0 0 no_found (replicate 32 no_place) (replicate 32 no_place)
+new_agrees z a t c table fit lt = record {
   table = table;
   settings = refl;
   fit = fit;
   id = refl;
-  few = few;
+  few = let most = (ranges a fit).cpus in omega (arith, lt, most);
   section = record { word = refl; limit = omega arith };
   idle = record { search = refl; hand = refl };
   depth = outside;
-  found = record { is = refl; seen = λ e (q : None ≡ Some e). cc; none_outside = λ _. refl };
+  found = refl;
   passive = new_passive a c;
   net = new_net a c;
+  is_shown = new_cpu_is_shown a fit c lt;
 }
 
 -- its references stay in a longer pass
@@ -79,13 +85,13 @@ net_same x y l met acquired released agree = record {
   most = agree.most;
 }
 
-found_longer : (x : CpuView) (p : List Change) (e : Entry) → IsPrefix x.pass p → (e.slot < 32) × IsAttached x.pass e → (e.slot < 32) × IsAttached p e
-found_longer x p e longer old = (old.0, attached_prefix x.pass p e longer old.1)
+as_shown : (y v : CpuView) → y ≡ v → IsShownCpu y → IsShownCpu v
+as_shown y v is shown = subst IsShownCpu is shown
 
 -- a section begins
 pub entered_agrees : (z : TableId) (a : Settings) (t u : TableId) (x y : CpuView) (c w d : ℕ) (e : Found) (ps ns : List NumberedCount)
-    → IsOurCpu z a t x c w d e ps ns → u ≡ t → d ≡ 0 → w < a.section_limit → HasEntered x y → IsOurCpu z a u y c w 1 e ps ns
-entered_agrees z a t u x y c w d e ps ns our same shallow room had =
+    → IsOurCpu z a t x c w d e ps ns → IsShownCpu y → u ≡ t → d ≡ 0 → w < a.section_limit → HasEntered x y → IsOurCpu z a u y c w 1 e ps ns
+entered_agrees z a t u x y c w d e ps ns our is_shown same shallow room had =
     let p = y.pass in
     let longer : IsPrefix x.pass p = had.0 in
     let z0 : CpuView = record x { section = x.section + 1; begin = Some (length p); pass = p } in
@@ -100,9 +106,10 @@ entered_agrees z a t u x y c w d e ps ns our same shallow room had =
       section = record { word = omega arith; limit = omega arith };
       idle = record { search = our.idle.search; hand = our.idle.hand };
       depth = inside (length p);
-      found = record { is = our.found.is; seen = λ f q. found_longer x p f longer (our.found.seen f q); none_outside = λ (q : Some (length p) ≡ None). cc };
+      found = our.found;
       passive = passive_longer x z0 ps refl longer our.passive;
       net = net_same x z0 ns refl refl refl our.net;
+      is_shown = as_shown y z0 had.1 is_shown;
     } in
     subst (λ (v : CpuView). IsOurCpu z a u v c w 1 e ps ns) (sym had.1) there
 
@@ -113,8 +120,8 @@ opened (Some b) some = refl
 
 -- a section ends
 pub exited_agrees : (z : TableId) (a : Settings) (t u : TableId) (x y : CpuView) (c w d : ℕ) (e : Found) (ps ns : List NumberedCount)
-    → IsOurCpu z a t x c w d e ps ns → u ≡ t → d ≡ 1 → HasExited x y → IsOurCpu z a u y c (w + 1) 0 (record e { number = 0 }) ps ns
-exited_agrees z a t u x y c w d e ps ns our same last had =
+    → IsOurCpu z a t x c w d e ps ns → IsShownCpu y → u ≡ t → d ≡ 1 → HasExited x y → IsOurCpu z a u y c (w + 1) 0 (record e { number = 0 }) ps ns
+exited_agrees z a t u x y c w d e ps ns our is_shown same last had =
     let some : x.begin ≢ None = λ q. absurd (let none : d ≡ 0 = our.depth.outside.0 q in omega arith) in
     let z0 : CpuView = record x { section = x.section + 1; begin = None; found = None } in
     let one : depth_of x.begin ≡ 1 = opened x.begin some in
@@ -129,17 +136,17 @@ exited_agrees z a t u x y c w d e ps ns our same last had =
       section = record { word = omega arith; limit = omega arith };
       idle = record { search = our.idle.search; hand = our.idle.hand };
       depth = outside;
-      found = record { is = refl; seen = λ f (q : None ≡ Some f). cc; none_outside = λ _. refl };
+      found = refl;
       passive = passive_longer x z0 ps refl (([], append-nil x.pass)) our.passive;
       net = net_same x z0 ns refl refl refl our.net;
+      is_shown = as_shown y z0 had is_shown;
     } in
     subst (λ (v : CpuView). IsOurCpu z a u v c (w + 1) 0 (record e { number = 0 }) ps ns) (sym had) there
 
--- the pass grows, inside another entry may be the last found one, and another note may lie beside the view
+-- the pass grows, another entry may be the last found one, and another note may lie beside the view
 pub seen_agrees : (z : TableId) (a : Settings) (t u : TableId) (x y : CpuView) (c w d : ℕ) (e k : Found) (f : Option Entry) (ps ns : List NumberedCount) (h : List Change)
-    → IsOurCpu z a t x c w d e ps ns → u ≡ t → IsPrefix x.pass y.pass → y ≡ record x { pass = y.pass; found = f; noted_pass = h } → IsKept k f
-    → ((g : Entry) → f ≡ Some g → (g.slot < 32) × IsAttached y.pass g) → (x.begin ≡ None → f ≡ None) → IsOurCpu z a u y c w d k ps ns
-seen_agrees z a t u x y c w d e k f ps ns h our same longer is kept seen none_outside =
+    → IsOurCpu z a t x c w d e ps ns → IsShownCpu y → u ≡ t → IsPrefix x.pass y.pass → y ≡ record x { pass = y.pass; found = f; noted_pass = h } → IsKept k f → IsOurCpu z a u y c w d k ps ns
+seen_agrees z a t u x y c w d e k f ps ns h our is_shown same longer is kept =
     let p = y.pass in
     let z0 : CpuView = record x { pass = p; found = f; noted_pass = h } in
     let there : IsOurCpu z a u z0 c w d k ps ns = record {
@@ -151,24 +158,24 @@ seen_agrees z a t u x y c w d e k f ps ns h our same longer is kept seen none_ou
       section = record { word = our.section.word; limit = our.section.limit };
       idle = record { search = our.idle.search; hand = our.idle.hand };
       depth = our.depth;
-      found = record { is = kept; seen = seen; none_outside = none_outside };
+      found = kept;
       passive = passive_longer x z0 ps refl longer our.passive;
       net = net_same x z0 ns refl refl refl our.net;
+      is_shown = as_shown y z0 is is_shown;
     } in
     subst (λ (v : CpuView). IsOurCpu z a u v c w d k ps ns) (sym is) there
 
 pub noted_agrees : (z : TableId) (a : Settings) (t u : TableId) (x y : CpuView) (c w d : ℕ) (e : Found) (ps ns : List NumberedCount) (h : List Change)
-    → IsOurCpu z a t x c w d e ps ns → u ≡ t → IsPrefix x.pass y.pass → y ≡ record x { pass = y.pass; noted_pass = h } → IsOurCpu z a u y c w d e ps ns
-noted_agrees z a t u x y c w d e ps ns h our same longer is =
-    seen_agrees z a t u x y c w d e e x.found ps ns h our same longer is our.found.is (λ g q. found_longer x y.pass g longer (our.found.seen g q)) our.found.none_outside
+    → IsOurCpu z a t x c w d e ps ns → IsShownCpu y → u ≡ t → IsPrefix x.pass y.pass → y ≡ record x { pass = y.pass; noted_pass = h } → IsOurCpu z a u y c w d e ps ns
+noted_agrees z a t u x y c w d e ps ns h our is_shown same longer is = seen_agrees z a t u x y c w d e e x.found ps ns h our is_shown same longer is our.found
 
 -- a lookup is over
 pub looked_up_agrees : (z : TableId) (a : Settings) (t u : TableId) (x y : CpuView) (c w d : ℕ) (e k : Found) (f : Option Entry) (ps ns : List NumberedCount) (key : Key)
-    → IsOurCpu z a t x c w d e ps ns → u ≡ t → x.begin ≢ None → IsKept k f → HasLookedUp key x y f → IsOurCpu z a u y c w d k ps ns
-looked_up_agrees z a t u x y c w d e k f ps ns key our same some kept had =
+    → IsOurCpu z a t x c w d e ps ns → IsShownCpu y → u ≡ t → IsKept k f → HasLookedUp key x y f → IsOurCpu z a u y c w d k ps ns
+looked_up_agrees z a t u x y c w d e k f ps ns key our is_shown same kept had =
     let p = y.pass in
     let is : y ≡ record x { pass = p; found = f } = had.is ∙ ap (λ (s : Option Search). record x { pass = p; search = s; found = f }) (sym our.idle.search) in
-    seen_agrees z a t u x y c w d e k f ps ns x.noted_pass our same had.pass is kept had.seen (λ none. absurd (some none))
+    seen_agrees z a t u x y c w d e k f ps ns x.noted_pass our is_shown same had.pass is kept
 
 -- the data of a CPU agree with its view by the table and the settings that its own seat has
 pub own_agrees : (z : TableId) (a : Settings) (t : TableId) (x : CpuView) (c w d : ℕ) (e : Found) (ps ns : List NumberedCount) → IsOurCpu z a t x c w d e ps ns → IsOurCpu t x.settings t x c w d e ps ns
@@ -184,6 +191,7 @@ own_agrees z a t x c w d e ps ns our = record {
   found = our.found;
   passive = our.passive;
   net = our.net;
+  is_shown = our.is_shown;
 }
 
 -- The last found entry, by what is kept of it
@@ -197,20 +205,35 @@ pub record IsFoundAs (x : CpuView) (k : Found) : Type 0 where
   pub few : k.slot < 32
   pub attached : IsAttached x.pass entry
 
-pub found_as : (x : CpuView) (k : Found) → FoundAgrees x k → k.number ≢ 0 → IsFoundAs x k
-found_as x k agree some = by_cases x.found agree.is refl
+pub found_as : (x : CpuView) (k : Found) → IsShownCpu x → IsKept k x.found → k.number ≢ 0 → IsFoundAs x k
+found_as x k shown kept some = by_cases x.found kept refl
   where
     by_cases : (f : Option Entry) → IsKept k f → x.found ≡ f → IsFoundAs x k
     by_cases None none is = absurd (some none)
     by_cases (Some e) kept is =
-        let seen = agree.seen e is in
-        record { entry = e; found = is; number = kept.0; slot = kept.1; kind = kept.2; few = omega (arith, kept.1, seen.0); attached = seen.1 }
+        let within = in_within shown.g.slots e.slot e (found_is_in x e shown is).1 in
+        let most = (ranges shown.g.settings shown.good.holds.fit).slots in
+        let size = shown.good.holds.shape.slots in
+        record { entry = e; found = is; number = kept.0; slot = kept.1; kind = kept.2; few = omega (arith, kept.1, within, most, size); attached = shown.shown.found e is }
 
-pub found_none : (x : CpuView) (k : Found) → FoundAgrees x k → k.number ≡ 0 → x.found ≡ None
-found_none x k agree none = by_cases x.found agree.is refl
+pub found_none : (x : CpuView) (k : Found) → IsShownCpu x → IsKept k x.found → k.number ≡ 0 → x.found ≡ None
+found_none x k shown kept none = by_cases x.found kept refl
   where
     by_cases : (f : Option Entry) → IsKept k f → x.found ≡ f → x.found ≡ None
     by_cases None kept is = is
     by_cases (Some e) kept is =
-        let begun = (at_within x.pass e.number (Attach e) (agree.seen e is).1).0 in
+        let begun = (at_within x.pass e.number (Attach e) (shown.shown.found e is)).0 in
         absurd (omega (arith, kept.0, begun, none))
+
+-- outside there is none
+pub none_outside : (x : CpuView) → IsShownCpu x → x.begin ≡ None → x.found ≡ None
+none_outside x shown outside = by_cases x.found refl
+  where
+    by_cases : (f : Option Entry) → x.found ≡ f → x.found ≡ None
+    by_cases None is = is
+    by_cases (Some e) is =
+        let held = (found_is_in x e shown is).0 in
+        absurd (none-some held.0 (sym outside ∙ held.1))
+
+pub holds_found : (x : CpuView) → IsShownCpu x → HoldsFound x
+holds_found x shown = record { is_shown = shown; held = λ e is. (found_is_in x e shown is).0; slot = λ e is. (found_is_in x e shown is).1 }

@@ -102,7 +102,7 @@ collection_tells a k l rows n x t c w e our is retired change made =
     let most = (ranges a our.view.fit).slots in
     let due = ap (λ (v : KeeperView). v.due) change in
     let total : (row_at rows t).total ≡ total_at l.totals t = (our.rows.each t lt).total ∙ sym (ap (λ (v : KeeperView). total_at v.totals t) change) in
-    let range = adding_fits l t w (step_is_shown (Collect t c) (Word w) k l made) due in
+    let range = adding_fits l t w (step_is_shown made) due in
     record {
       place = omega (arith, lt, most);
       floor = omega (arith, range.0, total);
@@ -127,7 +127,7 @@ collected_keeper a k l b rows n x t c w e m our is retired change mark added mad
     let row = (our.rows.each t lt).marks in
     let size = our.view.sized.marks in
     let long : length (set (row_at rows t).marks c m) ≡ 8 = length-set (row_at rows t).marks c m ∙ (ap (λ (ms : List Mark). length ms) row ∙ our.view.sized.mark_rows t (omega (arith, lt, size))) in
-    with_total_keeper a k b rows n t (set (row_at rows t).marks c m) ((row_at rows t).total + w - bias) k.given_up our (λ v. let q : Retired e ≡ Vacant = sym here ∙ v in cc) long (added_is k l b rows t c w m row change mark added) (step_is_shown (TotalAdd t) Done l b made)
+    with_total_keeper a k b rows n t (set (row_at rows t).marks c m) ((row_at rows t).total + w - bias) k.given_up our (λ v. let q : Retired e ≡ Vacant = sym here ∙ v in cc) long (added_is k l b rows t c w m row change mark added) (step_is_shown made)
 
 pub collected_into : {log between later : List LogItem} (a : Settings) (k l b : KeeperView) (rows : List KeptSlot) (n : ℕ) (x : OnKeeper) (t c w : ℕ) (e : Entry) (r : KeptSlot) → IsOurKeeper a k rows n → record { view = k; slots = states_of rows; log = log } ≡ x
     → slot_at x.slots t ≡ Retired e → HasCollected k t c w l → Makes (Collect t c) (Word w) (Keeper k) (Keeper l) → HasAdded l t ((row_at rows t).total + w - bias) b → Makes (TotalAdd t) Done (Keeper l) (Keeper b) → r.state ≡ (row_at rows t).state

@@ -9,7 +9,9 @@ use Rattle.protocol.specs.declared.event.Reply.TheVariants.{Done}
 use Rattle.protocol.specs.declared.state.Search.{Search}
 use Rattle.cpu_words.specs.declared.view.CpuView.{CpuView}
 use Rattle.cpu_words.specs.declared.view.LogItem.{LogItem}
-use Rattle.cpu_words.specs.Rule.{did}
+use Rattle.cpu_words.specs.declared.view.View.TheVariants.{Cpu}
+use Rattle.cpu_words.specs.Rule.{IsShownCpu, did}
+use Rattle.cpu_words.specs.Steps.{Makes}
 use Rattle.cpu_words.specs.Searching.{MaySeek}
 use Rattle.cpu_words.specs.Sections.{IsIdle, HasEntered, MayExit, HasExited}
 use Rattle.passive_list.specs.declared.place.Found.{Found}
@@ -19,8 +21,9 @@ use Rattle.passive_list.specs.Lookups.{HasFoundFromOutside}
 use Rattle.passive_list.specs.Searches.{SearchesOnce}
 use Rattle.passive_list.specs.Sections.{AreSpent}
 use Rattle.passive_list.specs.Walking.{HasLookedUp}
-use Rattle.passive_list.proofs.Agreeing.{entered_agrees, looked_up_agrees, exited_agrees, own_agrees}
-use Rattle.passive_list.proofs.Entering.{unspent}
+use Rattle.cpu_words.proofs.shown.KeepersShown.{step_is_shown}
+use Rattle.passive_list.proofs.Agreeing.{entered_agrees, looked_up_agrees, exited_agrees, own_agrees, none_outside}
+use Rattle.passive_list.proofs.Entering.{unspent, cpu_at, entered_on}
 
 -- The steps
 
@@ -55,16 +58,14 @@ are_kept (Some e) = (refl, refl, refl)
 
 -- outside and with nothing found again, as before, and one section more is ended
 pub from_outside_agrees : (z : TableId) (a : Settings) (t u : TableId) (x y v w : CpuView) (c n m d : ℕ) (e : Found) (f : Option Entry) (ps ns : List NumberedCount) (key : Key)
-    → IsOurCpu z a t x c n d e ps ns → u ≡ t → d ≡ 0 → (AreSpent x → ⊥) → HasEntered x y → HasLookedUp key y v f → HasExited v w → m ≡ n + 1 → IsOurCpu u w.settings u w c m d e ps ns
-from_outside_agrees z a t u x y v w c n m d e f ps ns key our same shallow unended entered looked exited one_more =
+    → IsOurCpu z a t x c n d e ps ns → u ≡ t → d ≡ 0 → (AreSpent x → ⊥) → Makes (Enter c) Done (Cpu x) (Cpu y) → HasEntered x y → IsShownCpu v → HasLookedUp key y v f → IsShownCpu w → HasExited v w → m ≡ n + 1 → IsOurCpu u w.settings u w c m d e ps ns
+from_outside_agrees z a t u x y v w c n m d e f ps ns key our same shallow unended made entered looked_shown looked exited_shown exited one_more =
     let room : n < a.section_limit = unspent z a t x c n d e ps ns our unended in
-    let begun : y.begin ≡ Some (length y.pass) = ap (λ (i : CpuView). i.begin) entered.1 in
-    let some : y.begin ≢ None = λ none. let clash : ◌≡◌ {A = Option ℕ} (Some (length y.pass)) None = sym begun ∙ none in cc in
-    let inside = entered_agrees z a t u x y c n d e ps ns our same shallow room entered in
-    let sought = looked_up_agrees z a u u y v c n 1 e (kept_of f) f ps ns key inside refl some (are_kept f) looked in
-    let over = exited_agrees z a u u v w c n 1 (kept_of f) ps ns sought refl refl exited in
+    let inside = entered_agrees z a t u x y c n d e ps ns our (step_is_shown made) same shallow room entered in
+    let sought = looked_up_agrees z a u u y v c n 1 e (kept_of f) f ps ns key inside looked_shown refl (are_kept f) looked in
+    let over = exited_agrees z a u u v w c n 1 (kept_of f) ps ns sought exited_shown refl refl exited in
     let none : w.found ≡ None = ap (λ (i : CpuView). i.found) exited in
-    let was : IsKept e None = subst (λ (g : Option Entry). IsKept e g) (our.found.none_outside (our.depth.outside.1 shallow)) our.found.is in
+    let was : IsKept e None = subst (λ (g : Option Entry). IsKept e g) (none_outside x our.is_shown (our.depth.outside.1 shallow)) our.found in
     let there : IsOurCpu z a u w c (n + 1) d e ps ns = record {
       table = over.table;
       settings = over.settings;
@@ -74,21 +75,19 @@ from_outside_agrees z a t u x y v w c n m d e f ps ns key our same shallow unend
       section = over.section;
       idle = over.idle;
       depth = subst (λ (k : ℕ). DepthAgrees w.begin k) (sym shallow) over.depth;
-      found = record { is = subst (λ (g : Option Entry). IsKept e g) (sym none) was; seen = over.found.seen; none_outside = over.found.none_outside };
+      found = subst (λ (g : Option Entry). IsKept e g) (sym none) was;
       passive = over.passive;
       net = over.net;
+      is_shown = over.is_shown;
     } in
     own_agrees z a u w c m d e ps ns (subst (λ (k : ℕ). IsOurCpu z a u w c k d e ps ns) (sym one_more) there)
 
 -- To a contract
 
-abbrev cpu_at : CpuView → ℕ → List LogItem → List LogItem → OnCpu
-cpu_at x depth known log = record { view = x; depth = depth; made = 0; known_log = known; log = log }
-
 pub found_from_outside : (key : Key) (a : OnCpu) (x y v w : CpuView) (c d : ℕ) (l m n o p q r s : List LogItem) (f : Option Entry)
-    → cpu_at x d l p ≡ a → IsIdle x → x.id ≡ c → d ≡ 0 → HasEntered x y → HasLookedUp key y v f → HasExited v w → m ≡ l → n ≡ m → o ≡ n
+    → cpu_at x d l p ≡ a → IsIdle x → x.id ≡ c → d ≡ 0 → Makes (Enter c) Done (Cpu x) (Cpu y) → HasEntered x y → HasLookedUp key y v f → HasExited v w → m ≡ l → n ≡ m → o ≡ n
     → q ≡ p ++ did (Enter c) Done → SearchesOnce c y.settings.slots key f q r → s ≡ r ++ did (Exit c) Done → HasFoundFromOutside key a (cpu_at w d o s) f
-found_from_outside key a x y v w c d l m n o p q r s f at idle id shallow entered looked exited known1 known2 known3 log1 log2 log3 =
+found_from_outside key a x y v w c d l m n o p q r s f at idle id shallow made entered looked exited known1 known2 known3 log1 log2 log3 =
     let one : d + 1 ≡ 1 = omega (arith, shallow) in
     let same : y.search ≡ None = ap (λ (i : CpuView). i.search) entered.1 ∙ idle.search in
     let is : v ≡ record y { pass = v.pass; found = f } = looked.is ∙ ap (λ (s : Option Search). record y { pass = v.pass; search = s; found = f }) (sym same) in
@@ -97,7 +96,7 @@ found_from_outside key a x y v w c d l m n o p q r s f at idle id shallow entere
     let had : HasFoundFromOutside key (cpu_at x d l p) (cpu_at w d o s) f = record {
       first = cpu_at y (d + 1) m q;
       last = cpu_at v (d + 1) n r;
-      enters = record { begun = λ _. entered; inner = λ off. absurd (off shallow); depth = refl; made = refl; known_log = known1; event = λ _. log1 ∙ ap (λ (i : ℕ). p ++ did (Enter i) Done) (sym id); none = λ off. absurd (off shallow) };
+      enters = entered_on (cpu_at x d l p) x y c d (d + 1) l m p q refl id shallow refl made entered known1 log1;
       finds = record {
         pass = looked.pass;
         is = λ i. record { view = is i; depth = d + 1; made = 0; known_log = known2 i; log = r };

@@ -70,7 +70,7 @@ given_keeper a k j l rows n t v our slot joined made told =
     let row = given_row a k j l rows n t v our slot joined made in
     let given_up = one_more k.given_up v.entry.number in
     with_total_keeper a k l rows n t (row_at rows t).marks ((row_at rows t).total - 1) given_up our row.some row.size
-    (given_is k j l t v our.view.rest joined told ∙ less_is k rows t given_up our.view.rest row) (step_is_shown (TotalSub t) Done j l made)
+    (given_is k j l t v our.view.rest joined told ∙ less_is k rows t given_up our.view.rest row) (step_is_shown made)
 
 -- what is left of the keeper
 pub has_given_up : {log between later : List LogItem} (k j l : KeeperView) (rows : List KeptSlot) (t : ℕ) (v w : ReferenceView) (x : OnKeeper) → record { view = k; slots = states_of rows; log = log } ≡ x → v ≡ w → k.due ≡ Rest → v.entry.slot ≡ t → j ≡ keeper_after_join k v

@@ -98,7 +98,7 @@ looked_keeper a k l rows n ev r t c f m e our is made change event =
     let mark : m ≡ f (mark_at k.marks t c) = made ∙ ap f (row_mark a k rows t c e our.rows is) in
     let now : l ≡ marked k ev r t c m = change ∙ ap (marked k ev r t c) (sym mark) in
     record {
-      is_shown = step_is_shown ev r k l event;
+      is_shown = step_is_shown event;
       view = subst (IsAtRest a) (sym now) (marked_at_rest a k ev r t c m our.view);
       changes = our.changes ∙ sym (ap (λ (x : KeeperView). length x.history) now);
       rows = subst (λ (x : KeeperView). RowsAgree a x (set rows t (row_marked (row_at rows t) c m))) (sym now) (marked_rows a k rows ev r t c m e our.view our.rows is);

@@ -8,11 +8,14 @@ use Rattle.registry_values.specs.declared.entry.Kind.TheVariants.{Driver}
 use Rattle.registry_values.specs.declared.settings.Settings.{Settings}
 use Rattle.registry_values.specs.Limits.{are_fit}
 use Rattle.protocol.specs.History.{IsAttached}
-use Rattle.protocol.specs.Invariant.{greatest_limit}
+use Rattle.protocol.specs.Invariant.{IsIn, greatest_limit}
 use Rattle.registry_values.specs.Balances.{bias}
+use Rattle.registry_values.specs.Slots.{slot_at}
 use Rattle.cpu_words.specs.declared.view.CpuView.{CpuView}
 use Rattle.cpu_words.specs.declared.view.LogItem.{LogItem}
 use Rattle.cpu_words.specs.Views.{Named, number_at, references_to, depth_of}
+use Rattle.cpu_words.specs.Headline.{SectionMayHold}
+use Rattle.cpu_words.specs.Rule.{IsShownCpu}
 use Rattle.cpu_words.specs.Sections.{IsIdle}
 use Rattle.passive_list.specs.declared.place.Found.{Found}
 use Rattle.passive_list.specs.declared.place.NumberedCount.{NumberedCount}
@@ -75,13 +78,13 @@ abbrev pub IsKept : Found → Option Entry → Type 0
 IsKept f None = f.number ≡ 0
 IsKept f (Some e) = (f.number ≡ e.number) × (f.slot ≡ e.slot) × (f.kind ≡ e.rec.kind)
 
--- the last found entry is in the pass; outside there is none
-pub record FoundAgrees (x : CpuView) (found : Found) : Type 0 where
-  pub is : IsKept found x.found
-  pub seen : (e : Entry) → x.found ≡ Some e → (e.slot < 32) × IsAttached x.pass e
-  pub none_outside : x.begin ≡ None → x.found ≡ None
+-- some state shows the CPU, and there its open section may hold the last found entry, which has its slot
+pub record HoldsFound (x : CpuView) : Type 0 where
+  pub is_shown : IsShownCpu x
+  pub held : (e : Entry) → x.found ≡ Some e → SectionMayHold is_shown.g.history e x
+  pub slot : (e : Entry) → x.found ≡ Some e → IsIn e (slot_at is_shown.g.slots e.slot)
 
--- the fields of a CPU of D's table: its seat's table and view, its number, ended sections and depth, the last found entry, and its places
+-- the fields of a CPU of D's table: its seat's table and view, its number, ended sections and depth, the last found entry, and its places; some state shows the view
 pub record IsOurCpu (z : TableId) (a : Settings) (t : TableId) (x : CpuView) (c ended deep : ℕ) (last : Found) (references nets : List NumberedCount) : Type 0 where
   pub table : t ≡ z
   pub settings : x.settings ≡ a
@@ -91,6 +94,7 @@ pub record IsOurCpu (z : TableId) (a : Settings) (t : TableId) (x : CpuView) (c 
   pub section : SectionAgrees a x ended
   pub idle : IsIdle x
   pub depth : DepthAgrees x.begin deep
-  pub found : FoundAgrees x last
+  pub found : IsKept last x.found
   pub passive : PassiveAgree x references
   pub net : NetAgree x nets
+  pub is_shown : IsShownCpu x

@@ -4,12 +4,14 @@ use Rattle.protocol.specs.declared.event.Event.TheVariants.{Enter, Exit}
 use Rattle.protocol.specs.declared.event.Reply.TheVariants.{Done}
 use Rattle.cpu_words.specs.declared.view.CpuView.{CpuView}
 use Rattle.cpu_words.specs.Rule.{did}
-use Rattle.cpu_words.specs.Sections.{HasEntered, HasExited}
+use Rattle.cpu_words.specs.Sections.{HasEntered, HasExited, HasWholePass}
 use Rattle.passive_list.specs.Cpus.{OnCpu}
 
 -- the outermost enter begins a section by one event; an inner one is counted, and nothing else
 pub record HasEnteredOn (a b : OnCpu) : Type 0 where
   pub begun : a.depth ≡ 0 → HasEntered a.view b.view
+  -- as it begins, the pass is the whole history
+  pub whole : a.depth ≡ 0 → HasWholePass b.view
   pub inner : a.depth ≢ 0 → b.view ≡ a.view
   pub depth : b.depth ≡ a.depth + 1
   pub made : b.made ≡ a.made

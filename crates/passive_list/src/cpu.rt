@@ -2,6 +2,7 @@
 
 ghost use Rattle.std.specs.Prelude.{◌≡◌, ◌≢◌, ◌↔◌, ◌<◌, IsTrue, None};
 ghost use Rattle.cpu_words.specs.Views.{new_cpu};
+ghost use Rattle.passive_list.specs.Cpus.{HoldsFound};
 ghost use Rattle.registry_values.specs.Limits.{are_fit};
 
 use crate::plain_cpu::PlainCpu;
@@ -36,7 +37,7 @@ impl<D: Domain> Cpu<D> {
     /// The CPU of a new seat: outside, with nothing found and nothing held. What its share has is what its calls have made.
     /// Condition: the seat is of D's table, as `Words::new` gave it, and the share is one part of D's ledger.
     pub fn of_seat(seat: CpuSeat, id: u8, share: Share<D>) -> Cpu<D>
-        requires table { (seat.table ≡ D.table) × IsTrue (are_fit D.settings) × (id < 8) }
+        requires table { (seat.table ≡ D.table) × IsTrue (are_fit D.settings) × (id < D.settings.cpus) }
         requires new { seat.view ≡ new_cpu D.settings id }
         requires part { share.parts ≡ 1 }
         ensures { result ≡ record { view = new_cpu D.settings id; depth = 0; made = share.amount; known_log = seat.known_log; log = seat.log } }
@@ -54,9 +55,11 @@ impl<D: Domain> Cpu<D> {
         self.plain.id()
     }
 
-    /// How many enters are open: 0 outside, at most 255.
+    /// How many enters are open: 0 outside, at most 255. `own` is what every CPU keeps of itself: some state shows its view, and there its open
+    /// section may hold the entry that it found last, which has its slot.
     pub fn depth(&self) -> u8
-        ensures { result ≡ self.now.depth }
+        ensures value { result ≡ self.now.depth }
+        ensures own { HoldsFound self.now.view }
     {
         self.plain.depth()
     }

@@ -4,7 +4,7 @@ ghost use Rattle.std.specs.Prelude.{◌≡◌, ◌<◌, ◌+◌, ◌^◌, ◌++�
 ghost use Rattle.protocol.specs.declared.event.Event.TheVariants.{Exit};
 ghost use Rattle.protocol.specs.declared.event.Reply.TheVariants.{Done};
 ghost use Rattle.cpu_words.specs.Domains.{AreWordsOf};
-ghost use Rattle.cpu_words.specs.Rule.{did};
+ghost use Rattle.cpu_words.specs.Rule.{IsShownCpu, did};
 ghost use Rattle.cpu_words.specs.Searching.{key_with};
 ghost use Rattle.cpu_words.specs.Sections.{MayExit, HasExited};
 ghost use Rattle.passive_list.specs.Lookups.{HasFoundFromOutside};
@@ -46,6 +46,7 @@ fn exit_counted(words: &Words, seat: &mut CpuSeat, cpu: u8, ended: &mut u64)
     requires room { ended.old < 2 ^ 63 }
     ensures table { seat.new.table ≡ seat.old.table }
     ensures change { HasExited seat.old.view seat.new.view }
+    ensures is_shown { IsShownCpu seat.new.view }
     ensures count { ended.new ≡ ended.old + 1 }
     ensures known_log { seat.new.known_log ≡ seat.old.known_log }
     ensures log { seat.new.log ≡ seat.old.log ++ did (Exit cpu) Done }

@@ -2,6 +2,7 @@
 
 ghost use Rattle.std.specs.Prelude.{◌≡◌, ◌≢◌, ◌<◌, None, IfSome};
 ghost use Rattle.cpu_words.specs.Domains.{AreWordsOf};
+ghost use Rattle.cpu_words.specs.Rule.{IsShownCpu};
 ghost use Rattle.cpu_words.specs.Searching.{MaySeek, key_with};
 ghost use Rattle.passive_list.specs.Cpus.{IsKept};
 ghost use Rattle.passive_list.specs.Lookups.{HasFound};
@@ -86,6 +87,7 @@ pub fn look_up(words: &Words, seat: &mut CpuSeat, cpu: u8, kind: Kind, name: Nam
     requires may { MaySeek seat.old.view }
     ensures table { seat.new.table ≡ seat.old.table }
     ensures change { HasLookedUp (key_with kind name) seat.old.view seat.new.view (entry_seen (key_with kind name) result) }
+    ensures is_shown { IsShownCpu seat.new.view }
     ensures known_log { seat.new.known_log ≡ seat.old.known_log }
     ensures log { SearchesOnce cpu seat.old.view.settings.slots (key_with kind name) (entry_seen (key_with kind name) result) seat.old.log seat.new.log }
 {

@@ -3,6 +3,7 @@
 ghost use Rattle.std.specs.Prelude.{◌≡◌, ◌≢◌, ◌↔◌, ◌<◌, IsTrue, None};
 ghost use Rattle.registry_values.specs.Limits.{are_fit};
 ghost use Rattle.cpu_words.specs.Views.{new_cpu};
+ghost use Rattle.passive_list.specs.Cpus.{HoldsFound};
 
 use crate::place::{Found, NumberedCount};
 use cpu_words::CpuSeat;
@@ -41,7 +42,7 @@ impl PlainCpu {
     /// The CPU of a new seat: outside, with nothing found and nothing held.
     /// Condition: the seat is as `Words::new` gave it.
     pub fn of_seat(seat: CpuSeat, id: u8) -> PlainCpu
-        requires fit { IsTrue (are_fit seat.view.settings) × (id < 8) }
+        requires fit { IsTrue (are_fit seat.view.settings) × (id < seat.view.settings.cpus) }
         requires new { seat.view ≡ new_cpu seat.view.settings id }
         ensures words { result.words ≡ record { table = seat.table; settings = seat.view.settings } }
         ensures cpu { result.cpu ≡ record { view = seat.view; depth = 0; made = 0; known_log = seat.known_log; log = seat.log } }
@@ -64,9 +65,11 @@ impl PlainCpu {
         self.id
     }
 
-    /// How many enters are open: 0 outside, at most 255.
+    /// How many enters are open: 0 outside, at most 255. `own` is what every CPU keeps of itself: some state shows its view, and there its open
+    /// section may hold the entry that it found last, which has its slot.
     pub fn depth(&self) -> u8
-        ensures { result ≡ self.now.cpu.depth }
+        ensures value { result ≡ self.now.cpu.depth }
+        ensures own { HoldsFound self.now.cpu.view }
     {
         self.depth
     }

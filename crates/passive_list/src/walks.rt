@@ -10,6 +10,7 @@ ghost use Rattle.registry_values.specs.declared.entry.Kind.{Kind};
 ghost use Rattle.registry_values.specs.Slots.{kind_word};
 ghost use Rattle.protocol.specs.History.{IsAttached};
 ghost use Rattle.cpu_words.specs.Domains.{AreWordsOf};
+ghost use Rattle.cpu_words.specs.Rule.{IsShownCpu};
 ghost use Rattle.cpu_words.specs.Searching.{MaySeek};
 ghost use Rattle.passive_list.specs.Walking.{MayVisit};
 ghost use Rattle.passive_list.specs.Searches.{nobody, GoesOnByLoads, SearchesOnce, LooksUpEach, HasGoneOverBy};
@@ -81,6 +82,7 @@ fn go_over(words: &Words, seat: &mut CpuSeat, cpu: u8, row: &mut [Entry; 32]) ->
     ensures table { seat.new.table ≡ seat.old.table }
     ensures count { result ≤ 32 }
     ensures change { HasGoneOver seat.old.view seat.new.view (take result row.new) }
+    ensures is_shown { IsShownCpu seat.new.view }
     ensures rest { drop result row.new ≡ drop result row.old }
     ensures known_log { seat.new.known_log ≡ seat.old.known_log }
     ensures log { (noted : List Entry) × AreGoneBy seat.new.view.pass (length seat.old.view.pass) (length seat.new.view.pass) noted × HasGoneOverBy cpu seat.old.view.settings.slots noted (take result row.new) seat.old.log seat.new.log }

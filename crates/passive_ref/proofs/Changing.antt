@@ -10,6 +10,7 @@ use Rattle.protocol.specs.History.{IsAttached}
 use Rattle.protocol.proofs.history.History.{at_within}
 use Rattle.cpu_words.specs.declared.view.CpuView.{CpuView}
 use Rattle.cpu_words.specs.Views.{references_to, without}
+use Rattle.cpu_words.specs.Rule.{IsShownCpu}
 use Rattle.cpu_words.specs.Passives.{IsAt, IsAloneAt, HasAdded, HasSubtracted}
 use Rattle.cpu_words.proofs.shown.ReferenceLists.{to_same, to_other, in_cons, counts, one_less, others_stay, was_in}
 use Rattle.passive_list.specs.declared.place.Found.{Found}
@@ -136,8 +137,8 @@ less_passive x ps e t n agree at among = record { size = length-set ps t new ∙
 
 -- a CPU with other references, and places that agree with them
 with_references : (z : TableId) (a : Settings) (t u : TableId) (x : CpuView) (c w d : ℕ) (o : Found) (ps qs ns : List NumberedCount) (references : List Entry)
-    → IsOurCpu z a t x c w d o ps ns → u ≡ t → PassiveAgree (record x { references = references }) qs → IsOurCpu z a u (record x { references = references }) c w d o qs ns
-with_references z a t u x c w d o ps qs ns references our same agree = record {
+    → IsOurCpu z a t x c w d o ps ns → u ≡ t → IsShownCpu (record x { references = references }) → PassiveAgree (record x { references = references }) qs → IsOurCpu z a u (record x { references = references }) c w d o qs ns
+with_references z a t u x c w d o ps qs ns references our same is_shown agree = record {
   table = same ∙ our.table;
   settings = our.settings;
   fit = our.fit;
@@ -146,21 +147,22 @@ with_references z a t u x c w d o ps qs ns references our same agree = record {
   section = record { word = our.section.word; limit = our.section.limit };
   idle = record { search = our.idle.search; hand = our.idle.hand };
   depth = our.depth;
-  found = record { is = our.found.is; seen = our.found.seen; none_outside = our.found.none_outside };
+  found = our.found;
   passive = agree;
   net = net_same x (record x { references = references }) ns refl refl refl our.net;
+  is_shown = is_shown;
 }
 
 -- a reference was added
 pub added_agrees : (z : TableId) (a : Settings) (t u : TableId) (x y : CpuView) (c w d : ℕ) (o : Found) (ps ns : List NumberedCount) (s n m : ℕ)
-    → IsOurCpu z a t x c w d o ps ns → u ≡ t → HasAdded x s n y → s < 32 → IsAloneAt x s n → m ≡ references_to n x.references
+    → IsOurCpu z a t x c w d o ps ns → u ≡ t → IsShownCpu y → HasAdded x s n y → s < 32 → IsAloneAt x s n → m ≡ references_to n x.references
     → IsOurCpu z a u y c w d o (set ps s (record { number = n; count = m + 1 })) ns
-added_agrees z a t u x y c w d o ps ns s n m our same had few alone is = subst (λ (v : CpuView). IsOurCpu z a u v c w d o (set ps s (record { number = n; count = m + 1 })) ns) (sym had.3)
-    (with_references z a t u x c w d o ps (set ps s (record { number = n; count = m + 1 })) ns (had.0 ∷ x.references) our same (added_passive x ps had.0 s n m our.passive had.1 had.2 few alone is))
+added_agrees z a t u x y c w d o ps ns s n m our same is_shown had few alone is = subst (λ (v : CpuView). IsOurCpu z a u v c w d o (set ps s (record { number = n; count = m + 1 })) ns) (sym had.3)
+    (with_references z a t u x c w d o ps (set ps s (record { number = n; count = m + 1 })) ns (had.0 ∷ x.references) our same (subst IsShownCpu had.3 is_shown) (added_passive x ps had.0 s n m our.passive had.1 had.2 few alone is))
 
 -- a reference was taken away
 pub less_agrees : (z : TableId) (a : Settings) (t u : TableId) (x y : CpuView) (c w d : ℕ) (o : Found) (ps ns : List NumberedCount) (e : Entry) (s n : ℕ)
-    → IsOurCpu z a t x c w d o ps ns → u ≡ t → IsAt e s n → Contains x.references e → HasSubtracted x n y
+    → IsOurCpu z a t x c w d o ps ns → u ≡ t → IsShownCpu y → IsAt e s n → Contains x.references e → HasSubtracted x n y
     → IsOurCpu z a u y c w d o (set ps s (record { number = (place_at ps s).number; count = (place_at ps s).count - 1 })) ns
-less_agrees z a t u x y c w d o ps ns e s n our same at among had = subst (λ (v : CpuView). IsOurCpu z a u v c w d o (set ps s (record { number = (place_at ps s).number; count = (place_at ps s).count - 1 })) ns) (sym had)
-    (with_references z a t u x c w d o ps (set ps s (record { number = (place_at ps s).number; count = (place_at ps s).count - 1 })) ns (without n x.references) our same (less_passive x ps e s n our.passive at among))
+less_agrees z a t u x y c w d o ps ns e s n our same is_shown at among had = subst (λ (v : CpuView). IsOurCpu z a u v c w d o (set ps s (record { number = (place_at ps s).number; count = (place_at ps s).count - 1 })) ns) (sym had)
+    (with_references z a t u x c w d o ps (set ps s (record { number = (place_at ps s).number; count = (place_at ps s).count - 1 })) ns (without n x.references) our same (subst IsShownCpu had is_shown) (less_passive x ps e s n our.passive at among))

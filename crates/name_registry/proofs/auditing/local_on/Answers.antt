@@ -2,6 +2,7 @@
 use Rattle.std.proofs.Common.{◌≡◌, ap, sym, ◌∙◌, subst, arith}
 use Rattle.std.proofs.lemmas.Int.{ints}
 use Rattle.passive_list.specs.Cpus.{OnPlainCpu}
+use Rattle.local_count.proofs.Agreeing.{net_most}
 use Rattle.name_registry.specs.Auditing.{net_met}
 use Rattle.name_registry.proofs.Audits.{local_is, net_is}
 use Rattle.name_registry.proofs.auditing.local_on.Goals as goal
@@ -15,3 +16,8 @@ returns-else-is_collected-clause-value c =
     let net = net_is _ c.cpu.inside.depth 0 c.cpu.inside.seat.known_log c.cpu.inside.seat.log _ _ _ _ c.cpu.invariant.net c.requires.1 c.net_count.ensures in
     let says = subst (λ (x : OnPlainCpu). c.less_bias.result ≡ net_met c.args.t c.args.number x.cpu) c.cpu.view_is (c.less_bias.ensures ∙ net) in
     omega (arith, ints, local_is c.args.keeper.now.keeper c.args.cpu.now.cpu _ _ _ _ id (sym c.is_collected.ensures ∙ c.if-is_collected.false) says, c.less_bias.type_inv)
+
+pub returns-else-is_collected-clause-range : goal.returns-else-is_collected-clause-range
+returns-else-is_collected-clause-range c =
+    let most = net_most _ _ c.args.t c.args.number _ c.cpu.invariant.net c.net_count.ensures in
+    omega (arith, ints, most, c.less_bias.ensures, c.less_bias.type_inv)

@@ -39,7 +39,7 @@ invariant_of-keeper c =
     let u = c.in-Some.driver_slot in
     let keeps = keeps_at inside.settings k inside.rows inside.changes t u c.args.keeper.now.keeper c.keeper.invariant (keeper_is c.keeper.view_is) c.requires.iface (sym c.kept_slot.ensures ∙ c.in-Some.is) in
     freed_keeper inside.settings k l inside.rows inside.changes t u c.args.keeper.now.keeper c.keeper.invariant (keeper_is c.keeper.view_is) c.requires.drained keeps
-    c.kept_sub.ensures.change (step_is_shown (KeptSub t) Done k l c.kept_sub.ensures.event)
+    c.kept_sub.ensures.change (step_is_shown c.kept_sub.ensures.event)
 
 pub returns-clause-change : goal.returns-clause-change
 returns-clause-change c =

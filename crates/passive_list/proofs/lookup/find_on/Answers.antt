@@ -1,8 +1,7 @@
 -- The data agree with the view as a lookup is over.
-use Rattle.std.proofs.Common.{◌≢◌, Option, None, subst, sym}
+use Rattle.std.proofs.Common.{Option, subst, sym}
 use Rattle.registry_values.specs.declared.entry.Entry.{Entry}
 use Rattle.cpu_words.specs.Searching.{key_with}
-use Rattle.passive_list.specs.Cpus.{OnPlainCpu}
 use Rattle.passive_list.specs.Walking.{HasLookedUp}
 use Rattle.passive_list.proofs.Agreeing.{looked_up_agrees, own_agrees}
 use Rattle.passive_list.proofs.Walking.{slot_seen}
@@ -15,5 +14,4 @@ pub invariant_of-cpu : goal.invariant_of-cpu
 invariant_of-cpu c =
     let key = key_with c.args.kind c.args.name.now in
     let had = subst (λ (e : Option Entry). HasLookedUp key c.cpu.inside.seat.view c.look_up-seen.new.seat.view e) (sym c.keep.ensures.entry) c.look_up-seen.ensures.change in
-    let some = subst (λ (o : OnPlainCpu). o.cpu.view.begin ≢ None) (sym c.cpu.view_is) c.requires.inside in
-    own_agrees _ _ _ _ _ _ _ _ _ _ (looked_up_agrees _ _ _ _ _ _ _ _ _ _ _ _ _ _ _ c.cpu.invariant c.look_up-seen.ensures.table some c.keep.ensures.kept had)
+    own_agrees _ _ _ _ _ _ _ _ _ _ (looked_up_agrees _ _ _ _ _ _ _ _ _ _ _ _ _ _ _ c.cpu.invariant c.look_up-seen.ensures.is_shown c.look_up-seen.ensures.table c.keep.ensures.kept had)

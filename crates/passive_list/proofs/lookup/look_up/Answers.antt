@@ -5,6 +5,7 @@ use Rattle.protocol.specs.declared.event.Reply.TheVariants.{Done}
 use Rattle.protocol.specs.Loaded.{entry_with}
 use Rattle.cpu_words.specs.Rule.{did}
 use Rattle.cpu_words.specs.Searching.{key_with}
+use Rattle.cpu_words.proofs.shown.KeepersShown.{step_is_shown}
 use Rattle.passive_list.specs.Walking.{IsAtLink, IsOn, HasVisited}
 use Rattle.passive_list.proofs.Walking.{on_slot, on_way, may_take, may_go, number_falls, follows, at_end, found, visit_id, follow_id}
 use Rattle.passive_list.proofs.Searches.{search_begun, link_loaded, word_loaded, one_visited, search_missed, search_found}
@@ -15,6 +16,7 @@ pub loop-link-init : goal.loop-link-init
 loop-link-init c = record {
   table = c.seek-link.ensures.table;
   cpu = search rules;
+  is_shown = step_is_shown c.seek-link.ensures.event;
   known_log = c.seek-link.ensures.known_log;
   visited = (0, search_begun c.args.cpu c.args.kind c.args.name _ _ _ c.seek-link.ensures.log, gone_by_none _ _ _);
   ends = (c.args.seat.now.log ++ did (Seek c.args.cpu c.args.kind c.args.name) Done, c.seek-link.ensures.log);
@@ -60,6 +62,9 @@ returns-then-is_sought-clause-change c =
     let on : IsOn key x t c.loop-link.last y = on_slot key x y c.loop-link.link c.loop-link.last c.loop-link-test.true c.loop-link.invariant.at in
     let had = subst (λ (b : Bool). HasVisited y key t n b z) c.if-is_sought.true c.visit-number.ensures.change in
     found key x y z c.load_searched-value.new.seat.view t n c.load_searched-value.result c.loop-link.last on had c.load_searched-value.ensures.change
+
+pub returns-then-is_sought-clause-is_shown : goal.returns-then-is_sought-clause-is_shown
+returns-then-is_sought-clause-is_shown c = step_is_shown c.load_searched-value.ensures.event
 
 pub returns-then-is_sought-clause-log : goal.returns-then-is_sought-clause-log
 returns-then-is_sought-clause-log c =
@@ -123,6 +128,7 @@ loop-link-preserved c =
     record {
       table = c.load_link-link.ensures.table ∙ c.visit-number.ensures.table ∙ c.loop-link.invariant.table;
       cpu = follow_id key x w m n at ∙ c.requires.cpu.1;
+      is_shown = step_is_shown c.load_link-link.ensures.event;
       known_log = c.load_link-link.ensures.known_log ∙ c.visit-number.ensures.known_log ∙ c.loop-link.invariant.known_log;
       visited = (
         so_far.0 + 1,

@@ -1,4 +1,5 @@
 use Rattle.std.proofs.Common.{◌≡◌, ℕ}
+use Rattle.cpu_words.specs.Rule.{IsShownCpu}
 use Rattle.cpu_words.specs.Searching.{key_with}
 use Rattle.passive_list.specs.Searches.{HasSearchedFor}
 use Rattle.passive_list.specs.Walking.{IsAtLink}
@@ -10,6 +11,7 @@ abbrev pub invariant-loop-link : goal.invariant-loop-link
 invariant-loop-link l = record {
   table : l.seat.table ≡ l.fn.seat.table;
   cpu : l.seat.view.id ≡ l.cpu;
+  is_shown : IsShownCpu l.seat.view;
   known_log : l.seat.known_log ≡ l.fn.seat.known_log;
   visited : (n : ℕ) × HasSearchedFor l.cpu (key_with l.kind l.name) n l.fn.seat.log l.seat.log × HasGoneBy l.fn.seat.view n l.last l.seat.view.pass;
   ends : EndsAtLink l.cpu l.link l.seat.log;

@@ -19,7 +19,7 @@ unpublish-requires-clause-may c =
     may_unpublish inside.settings inside.seat.view inside.rows c.args.slot c.in-Live.entry c.slot_above-before.result c.link_below-link.result c.keeper.invariant.view c.keeper.invariant.rows c.in-Live.is c.slot_above-before.ensures.before c.link_below-link.ensures
 
 pub snapshots-marks-requires-clause-is_shown : goal.snapshots-marks-requires-clause-is_shown
-snapshots-marks-requires-clause-is_shown c = step_is_shown (Unpublish c.args.slot) Done c.keeper.inside.seat.view c.unpublish.new.keeper.view c.unpublish.ensures.event
+snapshots-marks-requires-clause-is_shown c = step_is_shown c.unpublish.ensures.event
 
 pub invariant_of-keeper : goal.invariant_of-keeper
 invariant_of-keeper c =

@@ -13,5 +13,5 @@ loop-c-preserved c =
       c.snapshot-word.ensures.table ∙ i.0,
       taking_next c.args.seat.now.view c.loop-c.seat.view c.snapshot-word.new.keeper.view c.args.slot c.args.cpus c.loop-c.c c.snapshot-word.result c.loop-c.marks c.requires.fresh c.requires.fit.0 i.1 c.snapshot-word.ensures.change,
       one_taken c.loop-c.c c.snapshot-word.result c.loop-c.marks (omega (arith, lt, few)) i.2,
-      step_is_shown (Snapshot (Some c.args.slot) c.loop-c.c) (Word c.snapshot-word.result) c.loop-c.seat.view c.snapshot-word.new.keeper.view c.snapshot-word.ensures.event,
+      step_is_shown c.snapshot-word.ensures.event,
     )

@@ -20,7 +20,7 @@ invariant_of-keeper c =
     let k = inside.seat.view in
     let l = c.vacate.new.keeper.view in
     vacated_keeper inside.settings k l inside.rows inside.changes c.args.slot c.keeper.invariant
-    (subst (λ (x : OnPlainKeeper). IsDrainedOn x.keeper c.args.slot) (sym c.keeper.view_is) c.requires.drained) c.vacate.ensures.change (step_is_shown (Vacate c.args.slot) Done k l c.vacate.ensures.event)
+    (subst (λ (x : OnPlainKeeper). IsDrainedOn x.keeper c.args.slot) (sym c.keeper.view_is) c.requires.drained) c.vacate.ensures.change (step_is_shown c.vacate.ensures.event)
 
 pub returns-clause-change : goal.returns-clause-change
 returns-clause-change c =

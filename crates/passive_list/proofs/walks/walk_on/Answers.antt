@@ -15,7 +15,7 @@ invariant_of-cpu c =
     let y = c.go_over-count.new.seat.view in
     let had = c.go_over-count.ensures.change in
     let is : y ≡ record x { pass = y.pass; found = None } = had.is ∙ ap (λ (s : Option Search). record x { pass = y.pass; search = s; found = None }) (sym c.cpu.invariant.idle.search) in
-    own_agrees _ _ _ _ _ _ _ _ _ _ (seen_agrees _ _ _ _ x y _ _ _ _ _ None _ _ x.noted_pass c.cpu.invariant c.go_over-count.ensures.table had.pass is refl (λ (e : Entry) (q : None ≡ Some e). cc) (λ _. refl))
+    own_agrees _ _ _ _ _ _ _ _ _ _ (seen_agrees _ _ _ _ x y _ _ _ _ _ None _ _ x.noted_pass c.cpu.invariant c.go_over-count.ensures.is_shown c.go_over-count.ensures.table had.pass is refl)
 
 pub returns-clause-walked : goal.returns-clause-walked
 returns-clause-walked c =

@@ -2,6 +2,7 @@
 use Rattle.std.proofs.Common.{◌∙◌, sym, ap}
 use Rattle.passive_list.specs.Cpus.{OnPlainCpu}
 use Rattle.cpu_words.specs.Views.{references_to}
+use Rattle.cpu_words.proofs.shown.KeepersShown.{step_is_shown}
 use Rattle.passive_list.proofs.Agreeing.{own_agrees}
 use Rattle.passive_ref.proofs.Changing.{added_agrees}
 use Rattle.passive_ref.proofs.acquiring.add.Goals as goal
@@ -9,4 +10,4 @@ use Rattle.passive_ref.proofs.acquiring.add.Goals as goal
 pub invariant_of-cpu : goal.invariant_of-cpu
 invariant_of-cpu c =
     let count = c.count_of-count.ensures ∙ ap (λ (o : OnPlainCpu). references_to c.args.number o.cpu.view.references) (sym c.cpu.view_is) in
-    own_agrees _ _ _ _ _ _ _ _ _ _ (added_agrees _ _ _ _ _ _ _ _ _ _ _ _ _ _ _ c.cpu.invariant c.passive_add.ensures.table c.passive_add.ensures.change c.requires.known.few c.passive_add.ensures.alone count)
+    own_agrees _ _ _ _ _ _ _ _ _ _ (added_agrees _ _ _ _ _ _ _ _ _ _ _ _ _ _ _ c.cpu.invariant c.passive_add.ensures.table (step_is_shown c.passive_add.ensures.event) c.passive_add.ensures.change c.requires.known.few c.passive_add.ensures.alone count)

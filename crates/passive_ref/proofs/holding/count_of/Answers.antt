@@ -10,5 +10,5 @@ pub returns-else-place-number : goal.returns-else-place-number
 returns-else-place-number c =
     let known = subst (λ (o : OnPlainCpu). MayRefer o.cpu.view c.args.slot c.args.number) (sym c.cpu.view_is) c.requires in
     let our = c.cpu.invariant in
-    let attached = known_attached _ _ known.entry our.passive (λ f q. (our.found.seen f q).1) known.known in
+    let attached = known_attached _ _ known.entry our.passive our.is_shown.shown.found known.known in
     subst (λ (o : OnPlainCpu). 0 ≡ references_to c.args.number o.cpu.view.references) c.cpu.view_is (sym (uncounted_here _ _ _ _ known.entry our.passive known.at attached c.if-place-number.false))

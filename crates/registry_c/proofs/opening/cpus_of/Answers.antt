@@ -25,8 +25,8 @@ overflow_cast-id c =
 pub of_seat-cpu-requires-clause-fit : goal.of_seat-cpu-requires-clause-fit
 of_seat-cpu-requires-clause-fit c =
     let taken = take_last _ _ _ _ _ c.in-Some.ensures.items c.loop-seat.invariant.0 in
-    let few : c.len-id.result < 8 = omega (arith, c.len-id.ensures, c.pop.new.self.ok.0, taken.few, (ranges c.args.words.now.value.settings c.requires.fit).cpus) in
-    (subst (λ (z : Settings). IsTrue (are_fit z)) (sym (ap (λ (s : Seated CpuView). s.view.settings) taken.last)) c.requires.fit, few)
+    let few : c.len-id.result < c.args.words.now.value.settings.cpus = omega (arith, c.len-id.ensures, c.pop.new.self.ok.0, taken.few) in
+    subst (λ (z : Settings). IsTrue (are_fit z) × (c.len-id.result < z.cpus)) (sym (ap (λ (s : Seated CpuView). s.view.settings) taken.last)) (c.requires.fit, few)
 
 pub of_seat-cpu-requires-clause-new : goal.of_seat-cpu-requires-clause-new
 of_seat-cpu-requires-clause-new c =
