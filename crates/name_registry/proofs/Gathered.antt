@@ -18,7 +18,7 @@ use Rattle.passive_list.specs.Keepers.{OnKeeper}
 use Rattle.passive_list.specs.Logs.{HasOwnLog}
 use Rattle.passive_list.specs.Notes.{HasHeardOn, WasShown, has_heard, has_told}
 use Rattle.name_registry.specs.Meeting.{HasLearned}
-use Rattle.name_registry.specs.Auditing.{AreAllCpus, AreAlike, HasListened, HaveLearned, IsShownOn, local_met, tallies_met, tally_by, tally_met}
+use Rattle.name_registry.specs.Auditing.{AreAllCpus, AreAlike, HasListened, HaveHeardAndTold, HaveLearned, IsShownOn, local_met, tallies_met, tally_by, tally_met}
 use Rattle.name_registry.proofs.Audits.{each_same}
 use Rattle.name_registry.proofs.Worked.{prefix_on}
 use Rattle.name_registry.proofs.Noted.{by_passing, no_notes}
@@ -45,6 +45,7 @@ pub record Gathered (xs ys : List OnCpu) (n : ℕ) (log note : List LogItem) : T
   pub size : length ys ≡ length xs
   pub told : IsPrefix log note
   pub learned : (c : ℕ) (x y : OnCpu) → c < n → get_elem? xs c ≡ some x → get_elem? ys c ≡ some y → HasLearned x y × (y.made ≡ x.made)
+  pub notes : (c : ℕ) (x y : OnCpu) → c < n → get_elem? xs c ≡ some x → get_elem? ys c ≡ some y → y.log ≡ x.log ++ has_heard x ++ has_told x
   pub shown : (c : ℕ) (x : OnCpu) → c < n → get_elem? xs c ≡ some x → (d : List LogItem) × IsPrefix log d × IsPrefix d note × IsShownOn d x
   pub knows : (c : ℕ) (y : OnCpu) → c < n → get_elem? ys c ≡ some y → IsPrefix log y.known_log × IsPrefix y.known_log note
   pub rest : (c : ℕ) → n ≤ c → get_elem? ys c ≡ get_elem? xs c
@@ -54,6 +55,7 @@ gathered_none xs log note is = record {
   size = refl;
   told = ([], append-nil log ∙ sym is);
   learned = λ c x y lt was now. absurd (omega (arith, lt));
+  notes = λ c x y lt was now. absurd (omega (arith, lt));
   shown = λ c x lt at. absurd (omega (arith, lt));
   knows = λ c y lt at. absurd (omega (arith, lt));
   rest = λ c le. refl;
@@ -90,6 +92,12 @@ gathered_more xs ys n log note told h x y so_far at heard knows shown is own =
           let same : x ≡ u = some-injective x u (sym mine ∙ (ap (get_elem? xs) (sym p.0) ∙ was)) in
           subst (λ (z : OnCpu). HasLearned z v × (v.made ≡ z.made)) same (subst (λ (z : OnCpu). HasLearned x z × (z.made ≡ x.made)) p.1 (learned_of h x y heard own)))
           (λ (p : (c ≢ n) × (get_elem? ys c ≡ some v)). so_far.learned c u v (let off = p.0 in omega (arith, lt, off)) was p.1)
+          (at_set ys n c y v now);
+      notes = λ c u v lt was now. ⊎_elim
+          (λ (p : (c ≡ n) × (y ≡ v)).
+          let same : x ≡ u = some-injective x u (sym mine ∙ (ap (get_elem? xs) (sym p.0) ∙ was)) in
+          subst (λ (z : OnCpu). v.log ≡ z.log ++ has_heard z ++ has_told z) same (subst (λ (z : OnCpu). z.log ≡ x.log ++ has_heard x ++ has_told x) p.1 own))
+          (λ (p : (c ≢ n) × (get_elem? ys c ≡ some v)). so_far.notes c u v (let off = p.0 in omega (arith, lt, off)) was p.1)
           (at_set ys n c y v now);
       shown = λ c u lt was. ⊎_elim
           (λ (same : c ≡ n).
@@ -129,6 +137,9 @@ gathered_learned xs ys n log note all done = record {
   size = all.size;
   each = λ c x y was now. let low = at_within xs c x was in let size = all.size in all.learned c x y (omega (arith, low, size, done)) was now;
 }
+
+pub gathered_notes : (xs ys : List OnCpu) (n : ℕ) (log note : List LogItem) → Gathered xs ys n log note → length ys ≤ n → HaveHeardAndTold xs ys
+gathered_notes xs ys n log note all done c x y was now = let low = at_within xs c x was in let size = all.size in all.notes c x y (omega (arith, low, size, done)) was now
 
 -- nothing was done
 

@@ -5,7 +5,7 @@ ghost use Rattle.registry_values.specs.Balances.{sum_of, tally_shown};
 ghost use mathlib.Core.List.{IsPrefix};
 ghost use Rattle.cpu_words.specs.Domains.{AreWordsOf};
 ghost use Rattle.passive_list.specs.Notes.{HasHeardOn, WasShown, has_heard, has_told};
-ghost use Rattle.name_registry.specs.Auditing.{AreAllCpus, AreAlike, HasListened, HaveLearned, IsAuditBy, IsAuditOf, IsOccupied, Occupies, is_collected, local_met, locals_met, place_of, places_below, tallies_met, tally_met};
+ghost use Rattle.name_registry.specs.Auditing.{AreAllCpus, AreAlike, HasListened, HaveHeardAndTold, HaveLearned, IsAuditBy, IsAuditOf, IsOccupied, Occupies, is_collected, local_met, locals_met, place_of, places_below, tallies_met, tally_met};
 
 use cpu_words::{Domain, NoteSeat, Words};
 use local_count::net_count;
@@ -16,9 +16,10 @@ use std::alloc::{AllocError, Global};
 /// What the counts say of each live or retired entry, least slot first: of each CPU its own net count, 0 where the keeper has collected its
 /// count word, and as total what was collected, less what was given up. So what it says is held is the tally (`answer`). It makes three loads
 /// for each CPU and three by the keeper, so that all know the same of the keeper's log: the keeper's log has each collected word, and a CPU
-/// that has heard it all knows that this word was its net count. So the whole list is said by that log and the CPUs alone (`known`).
-/// Refused, in this order: `MissingCpu` where the slice isn't CPU 0, 1, .. of this registry in this order; `NoMemory`, and not where there
-/// is no such entry.
+/// that has heard it all knows that this word was its net count. So the whole list is said by that log and the CPUs alone (`known`). Each CPU
+/// hears once and tells once, and its own log says no more (`notes`).
+/// Refused, in this order: `MissingCpu` where the slice isn't CPU 0, 1, .. of this registry in this order, and nothing has changed then;
+/// `NoMemory`, and not where there is no such entry.
 pub fn audit_in<D: Domain>(
     alloc: Global,
     words: &Words,
@@ -37,6 +38,8 @@ pub fn audit_in<D: Domain>(
     ensures known { IfOk result (λ list. IsAuditBy keeper.old.words.settings cpus.old cpus.new list.items) }
     ensures keeper { HasListened keeper.old.keeper keeper.new.keeper }
     ensures cpus { HaveLearned cpus.old cpus.new }
+    ensures notes { AreAllCpus keeper.old.words.settings.cpus cpus.old → HaveHeardAndTold cpus.old cpus.new }
+    ensures unchanged { IsErrOf result Refusal.MissingCpu → (keeper.new ≡ keeper.old) × (cpus.new ≡ cpus.old) }
     ensures words { keeper.new.words ≡ keeper.old.words }
 {
     if !are_all(keeper.settings().cpus, cpus) {
@@ -56,6 +59,7 @@ fn gather<D: Domain>(words: &Words, keeper: &mut Keeper, cpus: &mut [Cpu<D>])
     ensures alike { AreAlike keeper.old.keeper cpus.old cpus.new }
     ensures keeper { HasListened keeper.old.keeper keeper.new.keeper }
     ensures cpus { HaveLearned cpus.old cpus.new }
+    ensures notes { HaveHeardAndTold cpus.old cpus.new }
     ensures words { keeper.new.words ≡ keeper.old.words }
 {
     let mut note = tell_keeper_on(words, keeper);

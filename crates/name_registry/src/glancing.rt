@@ -15,7 +15,6 @@ use registry_values::{first_unseen, is_out, is_retired_as, retired_number};
 
 /// Begins a wait until each section that is open now has ended: the section word of each CPU, and the number of each retired entry, slot by
 /// slot. It takes no memory. The waiting is by `glance_at_all`, and its end by `pass_all`.
-/// Condition: there are at most 8 CPUs, as in each registry.
 pub fn begin(
     words: &Words,
     keeper: &mut Keeper,
@@ -23,7 +22,6 @@ pub fn begin(
 ) -> ([u64; 8], [Option<u64>; 32])
     requires words { AreWordsOf words.now keeper.old.words.table keeper.old.words.settings }
     requires cpu { AreWordsOf words.now cpu.old.words.table cpu.old.words.settings }
-    requires few { keeper.old.words.settings.cpus ≤ 8 }
     ensures begun { HasBegun keeper.old.words.settings keeper.old.keeper cpu.old.cpu result.0 result.1 keeper.new.keeper cpu.new.cpu }
     ensures words { KeepsWords keeper.old cpu.old keeper.new cpu.new }
 {
@@ -37,13 +35,12 @@ pub fn begin(
 /// One snapshot of each CPU, CPU 0 first.
 fn snapshot_all(words: &Words, keeper: &mut Keeper) -> [u64; 8]
     requires words { AreWordsOf words.now keeper.old.words.table keeper.old.words.settings }
-    requires few { words.now.settings.cpus ≤ 8 }
     ensures looks { SnapshotsBelow result words.now.settings.cpus (looking keeper.old.keeper) (looking keeper.new.keeper) }
     ensures slots { keeper.new.keeper.slots ≡ keeper.old.keeper.slots }
     ensures words { keeper.new.words ≡ keeper.old.words }
 {
     let mut snapshots = [0; 8];
-    for cpu in 0..words.settings().cpus {
+    for cpu in 0..keeper.settings().cpus {
         snapshots[cpu as usize] = snapshot(words, keeper, cpu);
     }
     snapshots
@@ -61,7 +58,6 @@ fn retired_numbers(keeper: &Keeper) -> [Option<u64>; 32]
 
 /// One turn of such a wait: a glance at each CPU that wasn't seen out of the section of its snapshot yet. The answer is the least that still
 /// wasn't. It takes no memory.
-/// Condition: there are at most 8 CPUs, as in each registry.
 pub fn glance_at_all(
     words: &Words,
     keeper: &mut Keeper,
@@ -71,7 +67,6 @@ pub fn glance_at_all(
 ) -> Option<u8>
     requires words { AreWordsOf words.now keeper.old.words.table keeper.old.words.settings }
     requires cpu { AreWordsOf words.now cpu.old.words.table cpu.old.words.settings }
-    requires few { keeper.old.words.settings.cpus ≤ 8 }
     ensures glanced { HasGlanced keeper.old.words.settings snapshots.now keeper.old.keeper cpu.old.cpu seen.old result seen.new keeper.new.keeper cpu.new.cpu }
     ensures words { KeepsWords keeper.old cpu.old keeper.new cpu.new }
 {
@@ -84,12 +79,11 @@ pub fn glance_at_all(
 /// A glance at each CPU that wasn't seen yet, CPU 0 first.
 fn glance_at_cpus(words: &Words, keeper: &mut Keeper, snapshots: &[u64; 8], seen: &mut [bool; 8])
     requires words { AreWordsOf words.now keeper.old.words.table keeper.old.words.settings }
-    requires few { words.now.settings.cpus ≤ 8 }
     ensures looks { GlancesBelow snapshots.now seen.old seen.new words.now.settings.cpus (looking keeper.old.keeper) (looking keeper.new.keeper) }
     ensures slots { keeper.new.keeper.slots ≡ keeper.old.keeper.slots }
     ensures words { keeper.new.words ≡ keeper.old.words }
 {
-    for cpu in 0..words.settings().cpus {
+    for cpu in 0..keeper.settings().cpus {
         let at = cpu as usize;
         seen[at] = glances(words, keeper, cpu, snapshots[at], seen[at]);
     }

@@ -8,7 +8,7 @@ ghost use Rattle.registry_values.specs.Names.{is_lawful};
 ghost use Rattle.registry_values.specs.Slots.{is_iface};
 ghost use Rattle.cpu_words.specs.KeeperLog.{IsAttachedKeeping};
 ghost use Rattle.cpu_words.specs.Domains.{AreWordsOf};
-ghost use Rattle.name_registry.specs.Auditing.{AreAllCpus, HaveLearned, IsAuditBy};
+ghost use Rattle.name_registry.specs.Auditing.{AreAllCpus, HaveHeardAndTold, HaveLearned, IsAuditBy};
 ghost use Rattle.name_registry.specs.Changes.{HasMade};
 ghost use Rattle.name_registry.specs.Destroying.{SomeAdvanced};
 ghost use Rattle.name_registry.specs.Locking.{MayAttach, IsAttachRefusal, IsDetachRefusedTo, IsStageOf};
@@ -115,11 +115,12 @@ impl<D: Domain> Registry<D> {
 
     /// The audit of local references (localcount(9)) under the interlock, as `audit_in` does: of each live or retired slot, least first,
     /// each CPU's own net count, by its place, or 0 where the keeper has collected it, the keeper's total, and their sum, which is held.
-    /// What is held is the tally: what the CPUs acquired, less what they released, less what was given up. The CPUs hear the keeper, as by `hear`, and
-    /// nothing else of them changes: all of them know the keeper's log then, and the whole list is said by that log and the CPUs (`tally`): which slots
+    /// What is held is the tally: what the CPUs acquired, less what they released, less what was given up. Each CPU hears once, as by `hear`, and tells
+    /// once, and nothing else of it changes: all of them know the keeper's log then, and the whole list is said by that log and the CPUs (`tally`): which slots
     /// have entries, which of the CPUs' counts were collected, and what was given up. So no keeper can be made up for it, and a list that leaves an
     /// entry out is refused.
-    /// Refused, in this order: `MissingCpu` where the slice isn't CPU 0, 1, .. of this registry in this order; `NoMemory`.
+    /// Refused, in this order: `MissingCpu` where the slice isn't CPU 0, 1, .. of this registry in this order, and nothing has changed of the CPUs
+    /// then; `NoMemory`.
     pub fn audit<R: Wait>(
         &self,
         rt: &R,
@@ -132,6 +133,8 @@ impl<D: Domain> Registry<D> {
         ensures locals { IfOk result (λ list. All (λ b. length b.locals.items ≡ D.settings.cpus) list.items) }
         ensures tally { IfOk result (λ list. IsAuditBy D.settings cpus.old cpus.new list.items) }
         ensures cpus { HaveLearned cpus.old cpus.new }
+        ensures notes { AreAllCpus D.settings.cpus cpus.old → HaveHeardAndTold cpus.old cpus.new }
+        ensures unchanged { IsErrOf result Refusal.MissingCpu → cpus.new ≡ cpus.old }
     {
         let keeper = &mut self.interlock.lock(rt).keeper;
         audit_in(alloc, &self.words, keeper, cpus)

@@ -1,13 +1,15 @@
 -- What an audit answers, by the test that it came to.
-use Rattle.std.proofs.Common.{◌≡◌, ℕ, ◌<◌, ◌≤◌, List, length, Option, refl, arith}
+use Rattle.std.proofs.Common.{◌≡◌, ℕ, ◌<◌, ◌≤◌, true, List, [], ◌∷◌, length, Option, Some, None, refl, subst, arith}
+use Rattle.std.proofs.lemmas.Bool.{false≢true}
 use Rattle.registry_values.specs.declared.refusal.Refusal.TheVariants.{MissingCpu}
 use Rattle.registry_values.specs.declared.settings.Settings.{Settings}
 use Rattle.registry_values.specs.Refusals.{number_of_refusal}
 use Rattle.passive_list.specs.Cpus.{OnPlainCpu}
-use Rattle.passive_list.specs.Keepers.{OnKeeper}
+use Rattle.passive_list.specs.Keepers.{OnKeeper, OnPlainKeeper}
+use Rattle.held.specs.Rows.{is_nothing}
 use Rattle.registry_c.specs.declared.audit.CBalance.{CBalance}
 use Rattle.registry_c.specs.declared.values.TheConstants.{DONE, NO_ROOM}
-use Rattle.registry_c.specs.Audits.{AreAllHere, AuditWrites, Audits, occupied}
+use Rattle.registry_c.specs.Audits.{AreAllHere, AuditWrites, Audits, AuditsBodies, AuditsList, occupied}
 use Rattle.registry_c.specs.Places.{put}
 
 module _ (z : Settings) (k : OnKeeper) (cs : List (Option OnPlainCpu)) (old new : List CBalance) (count count' : Option ℕ) where
@@ -31,3 +33,10 @@ module _ (z : Settings) (k : OnKeeper) (cs : List (Option OnPlainCpu)) (old new 
     short = λ _ short. absurd (omega (arith, short, room));
     enough = λ _ _. (refl, writes, counted);
   }
+
+-- at null there is no list, and what is asked for has no length
+pub without_list : (a b : OnPlainKeeper) (n : ℕ) (cs cs' : List (Option OnPlainCpu)) (room : ℕ) (list list' : Option (List CBalance)) (new : List CBalance) (count count' : Option ℕ) → is_nothing list ≡ true → list' ≡ list → room ≡ 0 → length new ≡ 0
+    → AuditsBodies a b cs cs' n [] new count count' → AuditsList a b n cs cs' room list list' count count'
+without_list a b n cs cs' room (Some l) list' new count count' null same none size made = absurd (false≢true null)
+without_list a b n cs cs' room None list' (x ∷ new) count count' null same none size made = absurd (omega (arith, size))
+without_list a b n cs cs' room None list' [] count count' null same none size made = (same, λ some. absurd (some none), λ _. made)

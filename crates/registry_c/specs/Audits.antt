@@ -1,5 +1,5 @@
 -- What an audit through the handles answers and writes.
-use Rattle.std.specs.Prelude.{◌≡◌, ℕ, ◌+◌, ◌<◌, ◌≤◌, pos, All, List, [], ◌++◌, length, map, take, drop, get_or, slice_set, Option, Some, None}
+use Rattle.std.specs.Prelude.{◌≡◌, ◌≢◌, ℕ, ◌+◌, ◌<◌, ◌≤◌, pos, All, List, [], ◌++◌, length, map, take, drop, get_or, slice_set, Option, Some, None}
 use Rattle.registry_values.specs.declared.refusal.Refusal.TheVariants.{MissingCpu}
 use Rattle.registry_values.specs.declared.settings.Settings.{Settings}
 use Rattle.registry_values.specs.declared.entry.Entry.{Entry}
@@ -12,7 +12,7 @@ use Rattle.registry_values.specs.Refusals.{number_of_refusal}
 use Rattle.cpu_words.specs.Views.{new_cpu, no_settings}
 use Rattle.passive_list.specs.Cpus.{OnCpu, OnPlainCpu}
 use Rattle.passive_list.specs.Keepers.{OnKeeper, OnPlainKeeper}
-use Rattle.name_registry.specs.Auditing.{HasListened, HaveLearned, IsKeeperOf, IsTallied, places_below, tallies_below, tallies_met, tally_met}
+use Rattle.name_registry.specs.Auditing.{HasListened, HaveHeardAndTold, HaveLearned, IsKeeperOf, IsTallied, places_below, tallies_below, tallies_met, tally_met}
 use Rattle.registry_c.specs.declared.values.TheConstants.{DONE, NO_ROOM, NULL}
 use Rattle.registry_c.specs.declared.audit.CBalance.{CBalance}
 use Rattle.atomic_table.specs.Seated.{TableId}
@@ -112,11 +112,13 @@ pub record HaveHeard (cs cs' : List (Option OnPlainCpu)) : Type 0 where
   pub none : (c : ℕ) → body_at cs c ≡ None → body_at cs' c ≡ None
   pub learned : HaveLearned (cpus_in cs) (cpus_in cs')
 
--- the keeper and the CPUs behind handles have done it
+-- the keeper and the CPUs behind handles have done it; where it was refused, neither has made a step
 pub record AuditsBodies (a b : OnPlainKeeper) (cs cs' : List (Option OnPlainCpu)) (n : ℕ) (old new : List CBalance) (count count' : Option ℕ) : Type 0 where
   pub words : b.words ≡ a.words
   pub keeper : HasListened a.keeper b.keeper
   pub cpus : HaveHeard cs cs'
+  pub notes : n ≡ DONE → HaveHeardAndTold (cpus_in cs) (cpus_in cs')
+  pub unchanged : n ≢ DONE → (b ≡ a) × (cs' ≡ cs)
   pub answer : Audits a.words.settings a.keeper cs n old new count count'
 
 -- into a list of so many places

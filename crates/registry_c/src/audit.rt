@@ -1,14 +1,15 @@
 //! The audit of local references, through the handles: it is lent one CPU at a time, and takes no memory.
 
-ghost use Rattle.std.specs.Prelude.{◌≡◌, ◌<◌, ◌≤◌, ◌≤ℤ◌, ◌^◌, ℕ, length, take, get_or, neg_ℤ, pos, true, false, Some};
+ghost use Rattle.std.specs.Prelude.{◌≡◌, ◌≢◌, ◌<◌, ◌≤◌, ◌≤ℤ◌, ◌^◌, ℕ, length, take, get_or, neg_ℤ, pos, true, false, Some};
 ghost use Rattle.registry_values.specs.declared.entry.Entry.{Entry};
 ghost use Rattle.registry_values.specs.Slots.{slot_at};
 ghost use Rattle.protocol.specs.Invariant.{IsIn};
 ghost use Rattle.passive_list.specs.Cpus.{OnPlainCpu};
 ghost use Rattle.cpu_words.specs.Domains.{AreWordsOf};
-ghost use Rattle.name_registry.specs.Auditing.{AreAlike, HasListened, Occupies, local_met, locals_met, tally_met};
+ghost use Rattle.name_registry.specs.Auditing.{AreAlike, HasListened, HaveHeardAndTold, Occupies, local_met, locals_met, tally_met};
 ghost use Rattle.held.specs.Rows.{IsLong};
 ghost use Rattle.registry_c.specs.Calls.{Through};
+ghost use Rattle.registry_c.specs.declared.values.TheConstants.{DONE};
 ghost use Rattle.registry_c.specs.Audits.{AreAllHere, AreAllOf, AreTold, Audits, AuditsList, AuditsRows, HaveHeard, IsCut, PassesOn, WritesNext, cpus_in, entries_in, occupied, tally_in};
 ghost use Rattle.registry_c.specs.Opening.{bodies_of, body_at};
 ghost use Rattle.registry_c.specs.Places.{row_in};
@@ -115,6 +116,8 @@ fn audit_body(
     requires { (c : ℕ) (b : OnPlainCpu) → body_at (bodies_of cpus.old) c ≡ Some b → b.words ≡ keeper.old.words }
     ensures keeper { (keeper.new.words ≡ keeper.old.words) × HasListened keeper.old.keeper keeper.new.keeper }
     ensures cpus { HaveHeard (bodies_of cpus.old) (bodies_of cpus.new) }
+    ensures notes { result ≡ DONE → HaveHeardAndTold (cpus_in (bodies_of cpus.old)) (cpus_in (bodies_of cpus.new)) }
+    ensures unchanged { result ≢ DONE → (keeper.new ≡ keeper.old) × (bodies_of cpus.new ≡ bodies_of cpus.old) }
     ensures place { length.new.at ≡ length.old.at }
     ensures answer { Audits keeper.old.words.settings keeper.old.keeper (bodies_of cpus.old) result list.old list.new length.old.value length.new.value }
 {
@@ -132,6 +135,8 @@ fn audit_all(
     requires same { (c : ℕ) (b : OnPlainCpu) → body_at (bodies_of cpus.old) c ≡ Some b → b.words ≡ keeper.old.words }
     ensures keeper { (keeper.new.words ≡ keeper.old.words) × HasListened keeper.old.keeper keeper.new.keeper }
     ensures cpus { HaveHeard (bodies_of cpus.old) (bodies_of cpus.new) }
+    ensures notes { result ≡ DONE → HaveHeardAndTold (cpus_in (bodies_of cpus.old)) (cpus_in (bodies_of cpus.new)) }
+    ensures unchanged { result ≢ DONE → (keeper.new ≡ keeper.old) × (bodies_of cpus.new ≡ bodies_of cpus.old) }
     ensures place { length.new.at ≡ length.old.at }
     ensures answer { Audits keeper.old.words.settings keeper.old.keeper (bodies_of cpus.old) result list.old list.new length.old.value length.new.value }
 {
@@ -156,6 +161,7 @@ fn gather(words: &Words, keeper: &mut Keeper, cpus: &mut [CpuHandle])
     ensures alike { AreAlike keeper.old.keeper (cpus_in (bodies_of cpus.old)) (cpus_in (bodies_of cpus.new)) }
     ensures keeper { (keeper.new.words ≡ keeper.old.words) × HasListened keeper.old.keeper keeper.new.keeper }
     ensures cpus { HaveHeard (bodies_of cpus.old) (bodies_of cpus.new) }
+    ensures notes { HaveHeardAndTold (cpus_in (bodies_of cpus.old)) (cpus_in (bodies_of cpus.new)) }
 {
     let mut note = tell_keeper_on(words, keeper);
     for c in 0..cpus.len() {

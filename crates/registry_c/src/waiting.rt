@@ -15,8 +15,8 @@ pub fn begin_body(body: &mut KeeperBody, cpu: &mut CpuBody, wait: &mut CWait)
     ensures { Begins body.old cpu.old body.new cpu.new wait.new }
 {
     let KeeperBody { words, keeper } = body;
-    // Its clause tells what the keeper keeps of itself: that its table has no more than 8 CPUs.
-    let _few = keeper.settings().cpus;
+    // Its clause tells what the keeper keeps of itself: that an entry's number is never 0.
+    let _settings = keeper.settings();
     let (snapshots, numbers) = begin(words, keeper, &mut cpu.cpu);
     wait.snapshots = snapshots;
     wait.retired = numbers_out(&numbers);
@@ -32,8 +32,6 @@ pub fn turn_body(body: &mut KeeperBody, cpu: &mut CpuBody, wait: &mut CWait) -> 
 {
     let KeeperBody { words, keeper } = body;
     let cpu = &mut cpu.cpu;
-    // Its clause tells what the keeper keeps of itself: that its table has no more than 8 CPUs.
-    let _few = keeper.settings().cpus;
     let mut seen = seen_in(&wait.seen);
     let told = glance_at_all(words, keeper, cpu, &wait.snapshots, &mut seen);
     wait.seen = seen_out(&seen);

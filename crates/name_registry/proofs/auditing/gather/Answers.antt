@@ -4,7 +4,7 @@ use mathlib.Core.Option.{some}
 use Rattle.atomic_table.proofs.Lists.{at_index}
 use Rattle.cpu_words.specs.KeeperLog.{heard_from}
 use Rattle.passive_list.specs.Keepers.{OnKeeper}
-use Rattle.name_registry.proofs.Gathered.{gathered_alike, gathered_learned, gathered_more, listened}
+use Rattle.name_registry.proofs.Gathered.{gathered_alike, gathered_learned, gathered_more, gathered_notes, listened}
 use Rattle.name_registry.proofs.auditing.gather.Goals as goal
 
 pub loop-c-preserved : goal.loop-c-preserved
@@ -32,3 +32,6 @@ returns-clause-keeper g c =
 
 pub returns-clause-cpus : goal.returns-clause-cpus
 returns-clause-cpus g c = gathered_learned c.args.cpus.now c.loop-c.cpus c.loop-c.c _ _ c.loop-c.invariant.gathered (omega (arith, c.loop-c-test.false, c.loop-c.auto.cpus))
+
+pub returns-clause-notes : goal.returns-clause-notes
+returns-clause-notes g c = gathered_notes c.args.cpus.now c.loop-c.cpus c.loop-c.c _ _ c.loop-c.invariant.gathered (omega (arith, c.loop-c-test.false, c.loop-c.auto.cpus))

@@ -1,10 +1,13 @@
 -- What an audit answers at each test.
-use Rattle.std.proofs.Common.{ℕ, List, Option, refl, sym, ap, ◌∙◌, subst, arith}
+use Rattle.std.proofs.Common.{◌≡◌, ℕ, List, Option, refl, sym, ap, ◌∙◌, subst, arith}
+use Rattle.registry_values.specs.declared.refusal.Refusal.TheVariants.{MissingCpu}
 use Rattle.registry_values.specs.declared.settings.Settings.{Settings}
+use Rattle.registry_values.specs.Refusals.{number_of_refusal}
 use Rattle.passive_list.specs.Cpus.{OnPlainCpu}
 use Rattle.cpu_words.specs.Views.{Named}
 use Rattle.name_registry.proofs.Gathered.{listened_none}
 use Rattle.name_registry.proofs.Tallies.{known_keeper}
+use Rattle.registry_c.specs.declared.values.TheConstants.{DONE, NO_ROOM}
 use Rattle.registry_c.specs.Audits.{AreAllHere, AreTold, AuditWrites, Audits, cpus_in, occupied}
 use Rattle.registry_c.specs.Opening.{bodies_of, body_at}
 use Rattle.registry_c.specs.Places.{put}
@@ -20,6 +23,8 @@ returns-then-not-are_all c =
     record {
       keeper = (refl, listened_none c.args.keeper.now.keeper);
       cpus = none_heard cs _ c.are_all.ensures.same;
+      notes = λ done. absurd (let is : number_of_refusal MissingCpu ≡ DONE = sym c.refused.ensures ∙ done in omega (arith, is));
+      unchanged = λ _. (refl, c.are_all.ensures.same);
       place = refl;
       answer = subst (λ (n : ℕ). Audits z c.args.keeper.now.keeper cs n c.args.list.now c.args.list.now c.args.length.now.value c.args.length.now.value) (sym c.refused.ensures)
           (missing_cpu z _ cs _ _ _ _ (λ all. c.are_all.ensures.missing c.if-not-are_all.true (subst (λ (a : Settings). AreAllHere a.cpus cs) (sym c.settings.ensures.value) all)) refl refl);
@@ -33,6 +38,8 @@ returns-then-list-count c =
     record {
       keeper = (refl, listened_none c.args.keeper.now.keeper);
       cpus = none_heard cs _ c.are_all.ensures.same;
+      notes = λ (done : NO_ROOM ≡ DONE). absurd (omega (arith, done));
+      unchanged = λ _. (refl, c.are_all.ensures.same);
       place = c.put.ensures.same;
       answer = no_room z c.args.keeper.now.keeper cs _ _ _ _ all (omega (arith, c.if-list-count.true, c.count_entries-count.ensures)) refl (c.put.ensures.value ∙ ap (put c.args.length.now.value) c.count_entries-count.ensures);
     }

@@ -2,7 +2,7 @@
 use Rattle.std.proofs.Common.{◌<◌, ◌∙◌, ◌++◌, length, ap, arith}
 use Rattle.cpu_words.specs.KeeperLog.{heard_from}
 use Rattle.passive_list.specs.Keepers.{OnKeeper}
-use Rattle.name_registry.proofs.Gathered.{gathered_alike, listened}
+use Rattle.name_registry.proofs.Gathered.{gathered_alike, gathered_notes, listened}
 use Rattle.registry_c.specs.Audits.{cpus_in}
 use Rattle.registry_c.specs.Opening.{bodies_of}
 use Rattle.registry_c.proofs.Gathering.{all_heard, behind_more, behind_next, cpus_size, gathered_next, gathered_size, passed_table}
@@ -51,3 +51,6 @@ returns-clause-keeper c =
 
 pub returns-clause-cpus : goal.returns-clause-cpus
 returns-clause-cpus c = all_heard c.args.keeper.now.words.settings.cpus (bodies_of c.args.cpus.now) c.loop-c.cpus c.loop-c.c _ _ c.requires.all c.loop-c.invariant.gathered (omega (arith, c.loop-c-test.false, c.loop-c.auto.cpus)) c.loop-c.invariant.same
+
+pub returns-clause-notes : goal.returns-clause-notes
+returns-clause-notes c = gathered_notes (cpus_in (bodies_of c.args.cpus.now)) (cpus_in (bodies_of c.loop-c.cpus)) c.loop-c.c _ _ c.loop-c.invariant.gathered (let long = cpus_size c.loop-c.cpus in omega (arith, c.loop-c-test.false, c.loop-c.auto.cpus, long))
