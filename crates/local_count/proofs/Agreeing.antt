@@ -7,6 +7,7 @@ use Rattle.atomic_table.specs.Seated.{TableId}
 use Rattle.registry_values.specs.declared.settings.Settings.{Settings}
 use Rattle.protocol.specs.Invariant.{greatest_limit}
 use Rattle.registry_values.specs.Balances.{bias}
+use Rattle.registry_values.specs.declared.settings.TheConstants.{MOST_SLOTS}
 use Rattle.cpu_words.specs.declared.view.CpuView.{CpuView}
 use Rattle.cpu_words.specs.Views.{number_at, with_number}
 use Rattle.cpu_words.specs.Rule.{IsShownCpu}
@@ -44,7 +45,7 @@ net_most x l t n w agree is = subst (λ k. k ≤ bias + greatest_limit) (sym is)
 
 -- The place of a slot is set to a number that was met in no other slot, and its net count
 
-pub net_set : (x y : CpuView) (l : List NumberedCount) (t n v : ℕ) → NetAgree x l → t < 32 → IsMetAlone x t n → y.met ≡ with_number x.met t n → v + number_at y.released n ≡ bias + number_at y.acquired n → v ≤ bias + greatest_limit
+pub net_set : (x y : CpuView) (l : List NumberedCount) (t n v : ℕ) → NetAgree x l → t < MOST_SLOTS → IsMetAlone x t n → y.met ≡ with_number x.met t n → v + number_at y.released n ≡ bias + number_at y.acquired n → v ≤ bias + greatest_limit
     → ((m : ℕ) → m ≢ n → (number_at y.acquired m ≡ number_at x.acquired m) × (number_at y.released m ≡ number_at x.released m)) → NetAgree y (set l t (record { number = n; count = v }))
 net_set x y l t n v agree lt alone met count most same = record { size = length-set l t place ∙ agree.size; met = λ u. found u; counts = λ u some. counted u some; most = λ u. below u }
   where
@@ -52,7 +53,7 @@ net_set x y l t n v agree lt alone met count most same = record { size = length-
     place = record { number = n; count = v }
 
     within : t < length l
-    within = let size : length l ≡ 32 = agree.size in omega arith
+    within = let size : length l ≡ MOST_SLOTS = agree.size in omega arith
 
     here : place_at (set l t place) t ≡ place
     here = get_or-set_same l t place no_place within
@@ -89,7 +90,7 @@ net_set x y l t n v agree lt alone met count most same = record { size = length-
 -- The data agree with the view after a count, up or down
 
 pub counted_agrees : (z : TableId) (a : Settings) (t u : TableId) (x : CpuView) (c w d : ℕ) (o : Found) (ps ns : List NumberedCount) (acquired released : List ℕ) (s n v : ℕ)
-    → IsOurCpu z a t x c w d o ps ns → IsShownCpu (record x { acquired = acquired; released = released; met = with_number x.met s n }) → u ≡ t → s < 32 → IsMetAlone x s n → v + number_at released n ≡ bias + number_at acquired n → v ≤ bias + greatest_limit
+    → IsOurCpu z a t x c w d o ps ns → IsShownCpu (record x { acquired = acquired; released = released; met = with_number x.met s n }) → u ≡ t → s < MOST_SLOTS → IsMetAlone x s n → v + number_at released n ≡ bias + number_at acquired n → v ≤ bias + greatest_limit
     → ((m : ℕ) → m ≢ n → (number_at acquired m ≡ number_at x.acquired m) × (number_at released m ≡ number_at x.released m))
     → IsOurCpu z a u (record x { acquired = acquired; released = released; met = with_number x.met s n }) c w d o ps (set ns s (record { number = n; count = v }))
 counted_agrees z a t u x c w d o ps ns acquired released s n v our is_shown same lt alone count most others = record {

@@ -6,6 +6,7 @@ use Rattle.registry_values.specs.declared.entry.Kind.{Kind}
 use Rattle.protocol.specs.declared.event.Event.TheVariants.{CountAdd, CountDown, JoinRef, SplitBack, SplitRef}
 use Rattle.protocol.specs.declared.event.Reply.TheVariants.{Collected, Done, Ref, Word}
 use Rattle.registry_values.specs.Balances.{bias}
+use Rattle.registry_values.specs.declared.settings.TheConstants.{MOST_SLOTS}
 use Rattle.cpu_words.specs.declared.view.InHand.TheVariants.{Giving as GivingEntry, Back as BackEntry}
 use Rattle.cpu_words.specs.declared.view.CpuView.{CpuView}
 use Rattle.cpu_words.specs.declared.view.ReferenceView.{ReferenceView}
@@ -28,7 +29,7 @@ pub record IsOurReference (v : ReferenceView) (n s : ℕ) (k : Kind) : Type 0 wh
   pub slot : v.entry.slot ≡ s
   pub kind : v.entry.rec.kind ≡ k
   pub begun : 0 < n
-  pub few : s < 32
+  pub few : s < MOST_SLOTS
 
 -- a number's net count by the place of its slot, over the bias: none where the place is for another number
 abbrev pub net_by : NumberedCount → ℕ → ℕ

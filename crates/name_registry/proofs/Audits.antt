@@ -21,6 +21,7 @@ use Rattle.protocol.specs.Invariant.{IsIn}
 use Rattle.registry_values.specs.Slots.{slot_at}
 use Rattle.protocol.specs.State.{total_at}
 use Rattle.registry_values.proofs.Fit.{ranges}
+use Rattle.registry_values.specs.declared.settings.TheConstants.{MOST_SLOTS}
 use Rattle.protocol.proofs.history.History.{at_within}
 use Rattle.protocol.proofs.slots.Occupied.{attached_in}
 use Rattle.cpu_words.specs.declared.view.CpuView.{CpuView}
@@ -54,7 +55,7 @@ pub record Has (a : Settings) (x : OnKeeper) (rows : List KeptSlot) (t n : ℕ) 
   pub number : entry.number ≡ n
   pub there : IsIn entry (slot_at x.view.slots t)
   pub within : t < a.slots
-  pub few : t < 32
+  pub few : t < MOST_SLOTS
   pub begun : 0 < n
   pub total : (row_at rows t).total ≡ total_at x.view.totals t
   pub low : bias ≤ total_at x.view.totals t + 2 ^ 43

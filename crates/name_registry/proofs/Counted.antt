@@ -14,6 +14,7 @@ use Rattle.registry_values.specs.Answers as answers
 use Rattle.registry_values.specs.Slots.{is_iface, is_retired_as, slot_at}
 use Rattle.registry_values.proofs.Answers.{attach_tells}
 use Rattle.registry_values.proofs.Fit.{ranges}
+use Rattle.registry_values.specs.declared.settings.TheConstants.{MOST_SLOTS}
 use Rattle.protocol.specs.History.{after_change}
 use Rattle.cpu_words.specs.declared.view.KeeperView.{KeeperView}
 use Rattle.cpu_words.specs.declared.view.ReferenceView.{ReferenceView}
@@ -149,4 +150,4 @@ passes_same z numbers zero a b is = ap (λ (k : OnKeeper). k.view.history) is
 passes_same z numbers (suc n) a b is = passes_number_same z is.0 n _ b is.2 ∙ passes_same z numbers n a is.0 is.1
 
 pub passed_same : (z : Settings) (a : OnKeeper) (x : OnCpu) (numbers : List (Option ℕ)) (b : OnKeeper) (y : OnCpu) → HasPassedAll z a x numbers b y → Unchanged a b
-passed_same z a x numbers b y has = ap (λ (k : OnKeeper). k.view.history) has.is ∙ passes_same z numbers 32 (keeper_after_hear a x) has.end has.passes
+passed_same z a x numbers b y has = ap (λ (k : OnKeeper). k.view.history) has.is ∙ passes_same z numbers MOST_SLOTS (keeper_after_hear a x) has.end has.passes

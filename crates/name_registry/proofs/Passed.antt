@@ -12,6 +12,7 @@ use Rattle.registry_values.specs.declared.slot.Slot.{Slot}
 use Rattle.registry_values.specs.declared.slot.Slot.TheVariants.{Vacant, Live, Retired}
 use Rattle.registry_values.specs.Marks.{Grows, no_mark}
 use Rattle.registry_values.specs.Slots.{is_retired_as, retired_number, slot_at}
+use Rattle.registry_values.specs.declared.settings.TheConstants.{MOST_SLOTS}
 use Rattle.protocol.specs.State.{mark_at}
 use Rattle.protocol.proofs.slots.MarkRows.{grows_none, grows_more}
 use Rattle.protocol.proofs.slots.Occupied.{in_within}
@@ -103,7 +104,7 @@ passed_at z numbers (suc n) a b is t k e lt number at same = ⊎_elim
 
 -- The keeper h has heard the caller, who knew then what it had done `before` and since; it had waited since for all CPUs. After its passes it is `end`.
 pub record Passing (z : Settings) (numbers : List (Option ℕ)) (h end : OnKeeper) (before since gap : List LogItem) : Type 0 where
-  pub passes : PassesBelow z numbers 32 h end
+  pub passes : PassesBelow z numbers MOST_SLOTS h end
   pub own : HasOwnLog z end
   pub log : h.log ≡ (before ++ since) ++ gap
   pub waited : HasWaited since z.cpus
@@ -139,9 +140,9 @@ by_slot z numbers h end before since gap more t n c Vacant at on low number snap
 by_slot z numbers h end before since gap more t n c (Live e) at on low number snapped gone all keeps = absurd (not_attached t n e.number end.log gone (on.own.slots.live t e at))
 by_slot z numbers h end before since gap more t n c (Retired e) at on low number snapped gone all keeps =
     let same : e.number ≡ n = one_detached t e.number n end.log (on.own.slots.retired t e at) gone in
-    let lt : t < 32 = omega (arith, in_within end.slots t e (inr at), on.own.size) in
-    let there : slot_at h.slots t ≡ Retired e = ap (λ (xs : List Slot). slot_at xs t) (sym (onward_below z numbers 32 h end on.passes).slots) ∙ at in
-    let p = passed_at z numbers 32 h end on.passes t n e lt number there same in
+    let lt : t < MOST_SLOTS = omega (arith, in_within end.slots t e (inr at), on.own.size) in
+    let there : slot_at h.slots t ≡ Retired e = ap (λ (xs : List Slot). slot_at xs t) (sym (onward_below z numbers MOST_SLOTS h end on.passes).slots) ∙ at in
+    let p = passed_at z numbers MOST_SLOTS h end on.passes t n e lt number there same in
     ⊎_elim
     (λ (below : PassedBelow p.after.view t z.cpus). on.own.marks.passed t c ((p.last.marks t c).passed (below c low)))
     (λ (met : (j : ℕ) × MeetsGrace p.before t j p.after). absurd (met_none z numbers h end before since gap more t met.0 on p snapped all keeps met.1))
@@ -159,25 +160,25 @@ passed_end z numbers h end before since gap more t n c on low gone number snappe
 abbrev pub IsReady : ℕ → List (Option ℕ) → List LogItem → ℕ → ℕ → Type 0
 IsReady cpus numbers before t n = ((c : ℕ) → c < cpus → HasPassedOn t c before) ⊎ ((get_or numbers t None ≡ Some n) × ((j : ℕ) → j < cpus → (w : ℕ) × IsSnapped t j w before))
 
-ready_by : (z : Settings) (a : OnKeeper) (numbers : List (Option ℕ)) (t n : ℕ) (x : Slot) → slot_at a.slots t ≡ x → HasOwnLog z a → ((u : ℕ) → u < 32 → get_or numbers u None ≡ retired_number (slot_at a.slots u)) → IsDetachedFrom t n a.log → IsReady z.cpus numbers a.log t n
+ready_by : (z : Settings) (a : OnKeeper) (numbers : List (Option ℕ)) (t n : ℕ) (x : Slot) → slot_at a.slots t ≡ x → HasOwnLog z a → ((u : ℕ) → u < MOST_SLOTS → get_or numbers u None ≡ retired_number (slot_at a.slots u)) → IsDetachedFrom t n a.log → IsReady z.cpus numbers a.log t n
 ready_by z a numbers t n Vacant at own are gone = inl (λ c low. own.slots.vacant t n c at gone low)
 ready_by z a numbers t n (Live e) at own are gone = absurd (not_attached t n e.number a.log gone (own.slots.live t e at))
 ready_by z a numbers t n (Retired e) at own are gone =
     let same : e.number ≡ n = one_detached t e.number n a.log (own.slots.retired t e at) gone in
-    let lt : t < 32 = omega (arith, in_within a.slots t e (inr at), own.size) in
+    let lt : t < MOST_SLOTS = omega (arith, in_within a.slots t e (inr at), own.size) in
     inr (are t lt ∙ (ap retired_number at ∙ ap (λ (k : ℕ). Some k) same), λ j low. own.snapped t j e at low)
 
-pub ready : (z : Settings) (a : OnKeeper) (numbers : List (Option ℕ)) → HasOwnLog z a → ((u : ℕ) → u < 32 → get_or numbers u None ≡ retired_number (slot_at a.slots u)) → (t n : ℕ) → IsDetachedFrom t n a.log → IsReady z.cpus numbers a.log t n
+pub ready : (z : Settings) (a : OnKeeper) (numbers : List (Option ℕ)) → HasOwnLog z a → ((u : ℕ) → u < MOST_SLOTS → get_or numbers u None ≡ retired_number (slot_at a.slots u)) → (t n : ℕ) → IsDetachedFrom t n a.log → IsReady z.cpus numbers a.log t n
 ready z a numbers own are t n gone = ready_by z a numbers t n (slot_at a.slots t) refl own are gone
 
 -- The hold, from what its parts say
 
-pub made_passes : (z : Settings) (numbers : List (Option ℕ)) (a h end k b : OnKeeper) (x same after y : OnCpu) → IsPrefix x.known_log a.log → h ≡ keeper_after_hear a x → same ≡ cpu_after_tell x → PassesBelow z numbers 32 h end → HasOwnLog z end
+pub made_passes : (z : Settings) (numbers : List (Option ℕ)) (a h end k b : OnKeeper) (x same after y : OnCpu) → IsPrefix x.known_log a.log → h ≡ keeper_after_hear a x → same ≡ cpu_after_tell x → PassesBelow z numbers MOST_SLOTS h end → HasOwnLog z end
     → k ≡ keeper_after_hear end same → after ≡ cpu_after_tell same → b ≡ keeper_after_tell k → HasHeardOn k.view.history after y → IsPrefix b.log y.known_log → y.log ≡ after.log ++ has_heard after → HasPassedAll z a x numbers b y
 made_passes z numbers a h end k b x same after y known heard first passes own again second is hears told log = record {
   known = known;
   end = end;
-  passes = subst (λ (m : OnKeeper). PassesBelow z numbers 32 m end) heard passes;
+  passes = subst (λ (m : OnKeeper). PassesBelow z numbers MOST_SLOTS m end) heard passes;
   own = own;
   is = is ∙ ap keeper_after_tell (again ∙ ap (keeper_after_hear end) first);
   hears = heard_told_again b.view.history x y (subst (λ (o : OnCpu). HasHeardOn b.view.history o y) (second ∙ ap cpu_after_tell first) (subst (λ (h : List Change). HasHeardOn h after y) (sym (ap (λ (o : OnKeeper). o.view.history) is)) hears));

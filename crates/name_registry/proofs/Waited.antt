@@ -12,6 +12,7 @@ use Rattle.registry_values.specs.declared.settings.Settings.{Settings}
 use Rattle.registry_values.specs.Answers.{wait_answer}
 use Rattle.registry_values.specs.Marks.{is_even, is_out}
 use Rattle.registry_values.proofs.Least.{least_none}
+use Rattle.registry_values.specs.declared.settings.TheConstants.{MOST_CPUS, MOST_SLOTS}
 use Rattle.cpu_words.specs.declared.view.LogItem.{LogItem}
 use Rattle.cpu_words.specs.declared.view.Teller.{Teller}
 use Rattle.cpu_words.specs.KeeperLog.{changes_in, has_taken, has_found, has_heard_from, heard_from, HasHeardFrom, HasPassedOn, HasWaited, IsDetachedFrom, IsSeenOut, IsSnapped, KeepsSlot}
@@ -202,7 +203,7 @@ heard_ready cpus numbers log h are t n gone = ⊎_elim
     (are t n (sym (standing_last t log (has_heard_from h)) ∙ gone))
 
 none_is_seen : (c : ℕ) → is_seen none_seen c ≡ true → ⊥
-none_is_seen c is = false≢true (sym (get_or_all {X = Bool} 8 false c) ∙ is)
+none_is_seen c is = false≢true (sym (get_or_all {X = Bool} MOST_CPUS false c) ∙ is)
 
 pub so_far_begun : (z : Settings) (x : OnCpu) (words : List ℕ) (numbers : List (Option ℕ)) (y : OnCpu) → SomeBegan z x words numbers y → SoFar z.cpus x words numbers none_seen y
 so_far_begun z x words numbers y is =
@@ -280,7 +281,7 @@ passed_out z x words numbers seen m y had waited is =
     let gap : List LogItem = does.known.0 ++ hear in
     let log : h.log ≡ (before ++ since) ++ gap =
     ap (λ (l : List LogItem). l ++ hear) (sym does.known.1 ∙ ap (λ (l : List LogItem). l ++ does.known.0) had.are) ∙ append_assoc (before ++ since) does.known.0 hear in
-    let on = onward_below z numbers 32 h does.end does.passes in
+    let on = onward_below z numbers MOST_SLOTS h does.end does.passes in
     let looks : List LogItem = gap ++ on.log.0 in
     let whole : does.end.log ≡ before ++ (since ++ looks) =
     sym on.log.1 ∙ (ap (λ (l : List LogItem). l ++ on.log.0) log ∙ (append_assoc (before ++ since) gap on.log.0 ∙ append_assoc before since looks)) in

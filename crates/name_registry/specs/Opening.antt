@@ -5,6 +5,7 @@ use lib.ListN.{get_elem?}
 use Rattle.atomic_table.specs.Seated.{TableId}
 use Rattle.registry_values.specs.declared.settings.Settings.{Settings}
 use Rattle.registry_values.specs.Limits.{are_fit}
+use Rattle.registry_values.specs.declared.settings.TheConstants.{MOST_CPUS}
 use Rattle.cpu_words.specs.declared.view.CpuView.{CpuView}
 use Rattle.cpu_words.specs.declared.view.KeeperView.{KeeperView}
 use Rattle.cpu_words.specs.Views.{Named, Seated, new_cpu}
@@ -26,7 +27,7 @@ pub record OnBlank : Type 0 where
 
 -- D names its table, its settings and its ledger, which has a part for each CPU that there may be: `IsBlankOf b D.table D.settings D.name D.parts`
 abbrev pub IsBlankOf : OnBlank → TableId → Settings → ℕ → ℕ → Type 0
-IsBlankOf b table settings name parts = (b.table ≡ table) × (b.settings ≡ settings) × (b.changes ≡ name) × (parts ≡ 8)
+IsBlankOf b table settings name parts = (b.table ≡ table) × (b.settings ≡ settings) × (b.changes ≡ name) × (parts ≡ MOST_CPUS)
 
 -- the first n CPUs, CPU 0 first, all outside, and nothing was found, is held or was made
 pub record AreNewCpus (z : Settings) (n : ℕ) (xs : List OnCpu) : Type 0 where

@@ -10,6 +10,7 @@ use Rattle.registry_values.specs.declared.settings.Settings.{Settings}
 use Rattle.registry_values.specs.Answers.{wait_answer}
 use Rattle.registry_values.specs.Marks.{is_out, least_below}
 use Rattle.registry_values.specs.Slots.{is_retired_as, retired_number, slot_at}
+use Rattle.registry_values.specs.declared.settings.TheConstants.{MOST_CPUS, MOST_SLOTS}
 use Rattle.cpu_words.specs.declared.view.LogItem.{LogItem}
 use Rattle.cpu_words.specs.declared.view.KeeperView.{KeeperView}
 use Rattle.cpu_words.specs.declared.view.View.TheVariants.{Keeper}
@@ -85,7 +86,7 @@ pub record Hold (looks : Looking → Looking → Type 0) (a : OnKeeper) (x : OnC
 pub record HasBegun (z : Settings) (a : OnKeeper) (x : OnCpu) (snapshots : List ℕ) (retired : List (Option ℕ)) (b : OnKeeper) (y : OnCpu) : Type 0 where
   pub own : HasOwnLog z a
   pub hold : Hold (SnapshotsBelow snapshots z.cpus) a x b y
-  pub numbers : (t : ℕ) → t < 32 → slice_index_or retired t None ≡ retired_number (slot_at a.slots t)
+  pub numbers : (t : ℕ) → t < MOST_SLOTS → slice_index_or retired t None ≡ retired_number (slot_at a.slots t)
 
 -- One turn: a glance at each CPU that wasn't seen yet, and the least that still wasn't.
 pub record HasGlanced (z : Settings) (snapshots : List ℕ) (a : OnKeeper) (x : OnCpu) (seen : List Bool) (told : Option ℕ) (after : List Bool) (b : OnKeeper) (y : OnCpu) : Type 0 where
@@ -120,7 +121,7 @@ PassesBelow z numbers (suc n) a b = (m : OnKeeper) × PassesBelow z numbers n a 
 pub record HasPassedAll (z : Settings) (a : OnKeeper) (x : OnCpu) (numbers : List (Option ℕ)) (b : OnKeeper) (y : OnCpu) : Type 0 where
   pub known : IsPrefix x.known_log a.log
   pub end : OnKeeper
-  pub passes : PassesBelow z numbers 32 (keeper_after_hear a x) end
+  pub passes : PassesBelow z numbers MOST_SLOTS (keeper_after_hear a x) end
   pub own : HasOwnLog z end
   pub is : b ≡ keeper_after_tell (keeper_after_hear end (cpu_after_tell x))
   pub hears : HasHeardOn b.view.history x y
@@ -155,7 +156,7 @@ Finishes passes numbers x (Some c) y = y ≡ x
 
 -- no CPU was seen yet
 abbrev pub none_seen : List Bool
-none_seen = replicate 8 false
+none_seen = replicate MOST_CPUS false
 
 -- A perform: it begins once, waits in at most so many turns for the sections of the snapshots that it took, and at the end passes the entries whose numbers it took.
 pub record Performs {X : Type 0} (begins : X → List ℕ → List (Option ℕ) → X → Type 0) (turn : List ℕ → X → List Bool → Option ℕ → List Bool → X → Type 0)

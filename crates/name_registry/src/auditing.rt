@@ -10,7 +10,7 @@ ghost use Rattle.name_registry.specs.Auditing.{AreAllCpus, AreAlike, HasListened
 use cpu_words::{Domain, NoteSeat, Words};
 use local_count::net_count;
 use passive_list::{Cpu, Keeper, PlainCpu, hear_keeper_on, hear_on, tell_keeper_on, tell_on};
-use registry_values::{Balance, Refusal, Slot, less_bias, sum};
+use registry_values::{Balance, MOST_CPUS, MOST_SLOTS, Refusal, Slot, less_bias, sum};
 use std::alloc::{AllocError, Global};
 
 /// What the counts say of each live or retired entry, least slot first: of each CPU its own net count, 0 where the keeper has collected its
@@ -103,7 +103,7 @@ fn balances<D: Domain>(
     keeper: &Keeper,
     cpus: &[Cpu<D>],
 ) -> Result<Vec<Balance>, AllocError>
-    requires { length cpus.now ≤ 8 }
+    requires { length cpus.now ≤ MOST_CPUS }
     ensures value { IfOk result (λ list. map tally_shown list.items ≡ tallies_met keeper.now.keeper cpus.now keeper.now.words.settings.slots) }
     ensures wanted { OnErr result (IsOccupied keeper.now.keeper) }
 {
@@ -129,7 +129,7 @@ fn balance<D: Domain>(
     number: u64,
 ) -> Result<Balance, AllocError>
     requires entry { Occupies keeper.now.keeper t number }
-    requires few { length cpus.now ≤ 8 }
+    requires few { length cpus.now ≤ MOST_CPUS }
     ensures { IfOk result (λ b. tally_shown b ≡ tally_met keeper.now.keeper cpus.now number t) }
 {
     let total = less_bias(keeper.rows()[t as usize].total);
@@ -152,7 +152,7 @@ fn locals<D: Domain>(
     t: u8,
     number: u64,
 ) -> Result<Vec<i64>, AllocError>
-    requires { (t < 32) × (0 < number) }
+    requires { (t < MOST_SLOTS) × (0 < number) }
     ensures value { IfOk result (λ list. list.items ≡ locals_met keeper.now.keeper cpus.now t number) }
     ensures range { IfOk result (λ list. All (λ z. (neg_ℤ (pos (2 ^ 50)) ≤ℤ z) × (z ≤ℤ pos (2 ^ 50))) list.items) }
 {
@@ -165,7 +165,7 @@ fn locals<D: Domain>(
 
 /// A CPU's net count for the entry, by its place; 0 where the keeper has collected it.
 fn local<D: Domain>(keeper: &Keeper, cpu: &Cpu<D>, t: u8, number: u64) -> i64
-    requires { (t < 32) × (0 < number) }
+    requires { (t < MOST_SLOTS) × (0 < number) }
     ensures value { result ≡ local_met keeper.now.keeper t number cpu.now }
     ensures range { (neg_ℤ (pos (2 ^ 50)) ≤ℤ result) × (result ≤ℤ pos (2 ^ 50)) }
 {
@@ -174,9 +174,9 @@ fn local<D: Domain>(keeper: &Keeper, cpu: &Cpu<D>, t: u8, number: u64) -> i64
 
 /// What an audit says of one CPU, for a caller that is lent the CPUs one at a time, each naming its own table: its net count for the entry
 /// with `number` in the slot `t`, by its place; 0 where the keeper has collected it. It makes no step.
-/// Condition: the slot is below 32; an entry's number is never 0.
+/// Condition: the slot is below `MOST_SLOTS`; an entry's number is never 0.
 pub fn local_on(keeper: &Keeper, cpu: &PlainCpu, t: u8, number: u64) -> i64
-    requires { (t < 32) × (0 < number) }
+    requires { (t < MOST_SLOTS) × (0 < number) }
     ensures value { result ≡ local_met keeper.now.keeper t number cpu.now.cpu }
     ensures range { (neg_ℤ (pos (2 ^ 50)) ≤ℤ result) × (result ≤ℤ pos (2 ^ 50)) }
 {
@@ -189,7 +189,7 @@ pub fn local_on(keeper: &Keeper, cpu: &PlainCpu, t: u8, number: u64) -> i64
 
 /// Whether the keeper has collected the CPU's count word for the entry in the slot `t`.
 fn is_collected(keeper: &Keeper, t: u8, cpu: u8) -> bool
-    requires { (t < 32) × (cpu < 8) }
+    requires { (t < MOST_SLOTS) × (cpu < MOST_CPUS) }
     ensures { result ≡ is_collected keeper.now.keeper t cpu }
 {
     let row = &keeper.rows()[t as usize];

@@ -11,7 +11,7 @@ use crate::interlock::Interlock;
 use crate::registry::Registry;
 use cpu_words::{CpuSeat, Domain, KeeperSeat, Words};
 use passive_list::{Cpu, Keeper};
-use registry_values::{Refusal, Settings};
+use registry_values::{MOST_CPUS, Refusal, Settings};
 use std::alloc::Global;
 use std::marker::Model;
 use std::sync::ledger::Share;
@@ -35,7 +35,7 @@ impl Model for Blank {
 
     ghost view = { λ b. record { table = b.words.table; settings = b.words.settings; changes = b.changes.name } };
 
-    ghost invariant = { λ b. IsBlank b.words b.keeper b.cpus.items × (b.changes.parts ≡ 8) };
+    ghost invariant = { λ b. IsBlank b.words b.keeper b.cpus.items × (b.changes.parts ≡ MOST_CPUS) };
 }
 
 impl Blank {
@@ -51,7 +51,7 @@ impl Blank {
             words,
             keeper,
             cpus,
-            changes: ledger::Blank::new(8),
+            changes: ledger::Blank::new(MOST_CPUS),
         })
     }
 
@@ -87,7 +87,7 @@ fn seat_cpus<D: Domain>(seats: Vec<CpuSeat>, cpus: &mut Vec<Cpu<D>>, mut shares:
     requires fit { IsTrue (are_fit D.settings) }
     requires seats { AreSeats D.table D.settings D.settings.cpus seats.items }
     requires room { (cpus.old.items ≡ []) × (vec_len cpus.old ≡ 0) × (D.settings.cpus ≤ vec_capacity cpus.old) }
-    requires parts { (shares.parts ≡ 8) × (shares.amount ≡ 0) }
+    requires parts { (shares.parts ≡ MOST_CPUS) × (shares.amount ≡ 0) }
     ensures { AreNewCpus D.settings D.settings.cpus cpus.new.items }
 {
     for seat in seats {

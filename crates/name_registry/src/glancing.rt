@@ -11,7 +11,7 @@ use crate::advancing::look_at_all;
 use crate::meeting::{hear_cpu, show_cpu};
 use cpu_words::Words;
 use passive_list::{Keeper, PlainCpu, glance, snapshot};
-use registry_values::{first_unseen, is_out, is_retired_as, retired_number};
+use registry_values::{MOST_CPUS, MOST_SLOTS, first_unseen, is_out, is_retired_as, retired_number};
 
 /// Begins a wait until each section that is open now has ended: the section word of each CPU, and the number of each retired entry, slot by
 /// slot. It takes no memory. The waiting is by `glance_at_all`, and its end by `pass_all`.
@@ -19,7 +19,7 @@ pub fn begin(
     words: &Words,
     keeper: &mut Keeper,
     cpu: &mut PlainCpu,
-) -> ([u64; 8], [Option<u64>; 32])
+) -> ([u64; MOST_CPUS], [Option<u64>; MOST_SLOTS])
     requires words { AreWordsOf words.now keeper.old.words.table keeper.old.words.settings }
     requires cpu { AreWordsOf words.now cpu.old.words.table cpu.old.words.settings }
     ensures begun { HasBegun keeper.old.words.settings keeper.old.keeper cpu.old.cpu result.0 result.1 keeper.new.keeper cpu.new.cpu }
@@ -33,24 +33,24 @@ pub fn begin(
 }
 
 /// One snapshot of each CPU, CPU 0 first.
-fn snapshot_all(words: &Words, keeper: &mut Keeper) -> [u64; 8]
+fn snapshot_all(words: &Words, keeper: &mut Keeper) -> [u64; MOST_CPUS]
     requires words { AreWordsOf words.now keeper.old.words.table keeper.old.words.settings }
     ensures looks { SnapshotsBelow result words.now.settings.cpus (looking keeper.old.keeper) (looking keeper.new.keeper) }
     ensures slots { keeper.new.keeper.slots ≡ keeper.old.keeper.slots }
     ensures words { keeper.new.words ≡ keeper.old.words }
 {
-    let mut snapshots = [0; 8];
+    let mut snapshots = [0; MOST_CPUS];
     for cpu in 0..keeper.settings().cpus {
         snapshots[cpu as usize] = snapshot(words, keeper, cpu);
     }
     snapshots
 }
 
-fn retired_numbers(keeper: &Keeper) -> [Option<u64>; 32]
-    ensures { (t : ℕ) → t < 32 → slice_index_or result t None ≡ retired_number (slot_at keeper.now.keeper.slots t) }
+fn retired_numbers(keeper: &Keeper) -> [Option<u64>; MOST_SLOTS]
+    ensures { (t : ℕ) → t < MOST_SLOTS → slice_index_or result t None ≡ retired_number (slot_at keeper.now.keeper.slots t) }
 {
-    let mut numbers = [None; 32];
-    for slot in 0..32 {
+    let mut numbers = [None; MOST_SLOTS];
+    for slot in 0..MOST_SLOTS as u8 {
         numbers[slot as usize] = retired_number(keeper.slot(slot));
     }
     numbers
@@ -62,8 +62,8 @@ pub fn glance_at_all(
     words: &Words,
     keeper: &mut Keeper,
     cpu: &mut PlainCpu,
-    snapshots: &[u64; 8],
-    seen: &mut [bool; 8],
+    snapshots: &[u64; MOST_CPUS],
+    seen: &mut [bool; MOST_CPUS],
 ) -> Option<u8>
     requires words { AreWordsOf words.now keeper.old.words.table keeper.old.words.settings }
     requires cpu { AreWordsOf words.now cpu.old.words.table cpu.old.words.settings }
@@ -77,7 +77,12 @@ pub fn glance_at_all(
 }
 
 /// A glance at each CPU that wasn't seen yet, CPU 0 first.
-fn glance_at_cpus(words: &Words, keeper: &mut Keeper, snapshots: &[u64; 8], seen: &mut [bool; 8])
+fn glance_at_cpus(
+    words: &Words,
+    keeper: &mut Keeper,
+    snapshots: &[u64; MOST_CPUS],
+    seen: &mut [bool; MOST_CPUS],
+)
     requires words { AreWordsOf words.now keeper.old.words.table keeper.old.words.settings }
     ensures looks { GlancesBelow snapshots.now seen.old seen.new words.now.settings.cpus (looking keeper.old.keeper) (looking keeper.new.keeper) }
     ensures slots { keeper.new.keeper.slots ≡ keeper.old.keeper.slots }
@@ -106,7 +111,12 @@ fn glances(words: &Words, keeper: &mut Keeper, cpu: u8, snapshot: u64, seen: boo
 /// The end of such a wait, once all CPUs were seen: looks at each CPU for the retired entries with these numbers, one by slot. One that was
 /// freed since is left out. The keeper hears once more after its looks, so that it finds in its log what they told, and tells the CPU that
 /// log. It takes no memory.
-pub fn pass_all(words: &Words, keeper: &mut Keeper, cpu: &mut PlainCpu, numbers: &[Option<u64>; 32])
+pub fn pass_all(
+    words: &Words,
+    keeper: &mut Keeper,
+    cpu: &mut PlainCpu,
+    numbers: &[Option<u64>; MOST_SLOTS],
+)
     requires words { AreWordsOf words.now keeper.old.words.table keeper.old.words.settings }
     requires cpu { AreWordsOf words.now cpu.old.words.table cpu.old.words.settings }
     ensures passed { HasPassedAll keeper.old.words.settings keeper.old.keeper cpu.old.cpu numbers.now keeper.new.keeper cpu.new.cpu }
@@ -118,12 +128,12 @@ pub fn pass_all(words: &Words, keeper: &mut Keeper, cpu: &mut PlainCpu, numbers:
     show_cpu(words, keeper, cpu);
 }
 
-fn pass_entries(words: &Words, keeper: &mut Keeper, numbers: &[Option<u64>; 32])
+fn pass_entries(words: &Words, keeper: &mut Keeper, numbers: &[Option<u64>; MOST_SLOTS])
     requires words { AreWordsOf words.now keeper.old.words.table keeper.old.words.settings }
-    ensures passes { PassesBelow words.now.settings numbers.now 32 keeper.old.keeper keeper.new.keeper }
+    ensures passes { PassesBelow words.now.settings numbers.now MOST_SLOTS keeper.old.keeper keeper.new.keeper }
     ensures words { keeper.new.words ≡ keeper.old.words }
 {
-    for slot in 0..32 {
+    for slot in 0..MOST_SLOTS as u8 {
         if let Some(number) = numbers[slot as usize] {
             pass_entry(words, keeper, slot, number);
         }
@@ -133,7 +143,7 @@ fn pass_entries(words: &Words, keeper: &mut Keeper, numbers: &[Option<u64>; 32])
 /// Looks at each CPU for the entry with this number, where it is still retired in its slot, up to the first CPU that doesn't pass.
 fn pass_entry(words: &Words, keeper: &mut Keeper, slot: u8, number: u64)
     requires words { AreWordsOf words.now keeper.old.words.table keeper.old.words.settings }
-    requires place { slot < 32 }
+    requires place { slot < MOST_SLOTS }
     ensures passes { PassesEntry words.now.settings keeper.old.keeper slot number keeper.new.keeper }
     ensures words { keeper.new.words ≡ keeper.old.words }
 {

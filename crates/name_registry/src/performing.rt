@@ -10,7 +10,7 @@ use crate::locked::Locked;
 use crate::registry::Registry;
 use cpu_words::Domain;
 use passive_list::Cpu;
-use registry_values::{Refusal, waiting_for};
+use registry_values::{MOST_CPUS, MOST_SLOTS, Refusal, waiting_for};
 use std::marker::Model;
 use std::sync::Wait;
 use std::thread::yield_now;
@@ -62,7 +62,11 @@ trait UnderInterlock<D: Domain> {
     ghost passes: { OnCpu → List (Option ℕ) → OnCpu → Type 0 };
 
     /// The section word of each CPU, and the number of each retired entry, slot by slot.
-    fn begin<R: Wait>(&mut self, rt: &R, cpu: &mut Cpu<D>) -> ([u64; 8], [Option<u64>; 32])
+    fn begin<R: Wait>(
+        &mut self,
+        rt: &R,
+        cpu: &mut Cpu<D>,
+    ) -> ([u64; MOST_CPUS], [Option<u64>; MOST_SLOTS])
         ensures { begins cpu.old result.0 result.1 cpu.new };
 
     /// One turn: a glance at each CPU that wasn't seen yet. The answer is the least that still wasn't.
@@ -70,13 +74,13 @@ trait UnderInterlock<D: Domain> {
         &mut self,
         rt: &R,
         cpu: &mut Cpu<D>,
-        snapshots: &[u64; 8],
-        seen: &mut [bool; 8],
+        snapshots: &[u64; MOST_CPUS],
+        seen: &mut [bool; MOST_CPUS],
     ) -> Option<u8>
         ensures { glances snapshots.now cpu.old seen.old result seen.new cpu.new };
 
     /// Looks at each CPU for the retired entries with these numbers.
-    fn pass<R: Wait>(&mut self, rt: &R, cpu: &mut Cpu<D>, numbers: &[Option<u64>; 32])
+    fn pass<R: Wait>(&mut self, rt: &R, cpu: &mut Cpu<D>, numbers: &[Option<u64>; MOST_SLOTS])
         ensures { passes cpu.old numbers.now cpu.new };
 }
 
@@ -105,13 +109,13 @@ fn wait_for_sections<D: Domain, I: UnderInterlock<D>, R: Wait>(
     rt: &R,
     interlock: &mut I,
     cpu: &mut Cpu<D>,
-    snapshots: &[u64; 8],
+    snapshots: &[u64; MOST_CPUS],
     turns: u32,
 ) -> Option<u8>
     requires { 1 ≤ turns }
     ensures { WaitsFor (I.glances snapshots.now) turns cpu.old none_seen result cpu.new }
 {
-    let mut seen = [false; 8];
+    let mut seen = [false; MOST_CPUS];
     let mut waited = interlock.glance(rt, cpu, snapshots, &mut seen);
     for _ in 1..turns {
         if waited.is_none() {
@@ -132,7 +136,11 @@ impl<'a, D: Domain> UnderInterlock<D> for Locked<'a, D> {
 
     ghost passes = { SomePassed D.settings };
 
-    fn begin<R: Wait>(&mut self, rt: &R, cpu: &mut Cpu<D>) -> ([u64; 8], [Option<u64>; 32]) {
+    fn begin<R: Wait>(
+        &mut self,
+        rt: &R,
+        cpu: &mut Cpu<D>,
+    ) -> ([u64; MOST_CPUS], [Option<u64>; MOST_SLOTS]) {
         begin(
             &self.registry.words,
             &mut self.registry.interlock.lock(rt).keeper,
@@ -144,8 +152,8 @@ impl<'a, D: Domain> UnderInterlock<D> for Locked<'a, D> {
         &mut self,
         rt: &R,
         cpu: &mut Cpu<D>,
-        snapshots: &[u64; 8],
-        seen: &mut [bool; 8],
+        snapshots: &[u64; MOST_CPUS],
+        seen: &mut [bool; MOST_CPUS],
     ) -> Option<u8> {
         let keeper = &mut self.registry.interlock.lock(rt).keeper;
         glance_at_all(
@@ -157,7 +165,7 @@ impl<'a, D: Domain> UnderInterlock<D> for Locked<'a, D> {
         )
     }
 
-    fn pass<R: Wait>(&mut self, rt: &R, cpu: &mut Cpu<D>, numbers: &[Option<u64>; 32]) {
+    fn pass<R: Wait>(&mut self, rt: &R, cpu: &mut Cpu<D>, numbers: &[Option<u64>; MOST_SLOTS]) {
         let keeper = &mut self.registry.interlock.lock(rt).keeper;
         pass_all(&self.registry.words, keeper, &mut cpu.plain, numbers);
     }

@@ -20,7 +20,7 @@ use crate::interlock::Interlock;
 use cpu_words::{Domain, Words};
 use local_count::LocalRef;
 use passive_list::Cpu;
-use registry_values::{Balance, Entry, Kind, Name, Record, Refusal, Stage};
+use registry_values::{Balance, Entry, Kind, MOST_CPUS, Name, Record, Refusal, Stage};
 use std::alloc::Global;
 use std::sync::{Mutex, Wait};
 
@@ -32,7 +32,7 @@ pub struct Registry<D: Domain> {
     pub(crate) interlock: Mutex<Interlock<D>>,
     ghost table: { words.table ≡ D.table },
     ghost settings: { words.settings ≡ D.settings },
-    ghost few: { D.settings.cpus ≤ 8 },
+    ghost few: { D.settings.cpus ≤ MOST_CPUS },
 }
 
 impl<D: Domain> Registry<D> {

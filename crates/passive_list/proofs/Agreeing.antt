@@ -25,21 +25,22 @@ use Rattle.cpu_words.proofs.shown.Passes.{attached_prefix}
 use Rattle.passive_list.specs.declared.place.Found.{Found}
 use Rattle.passive_list.specs.declared.place.NumberedCount.{NumberedCount}
 use Rattle.registry_values.specs.declared.slot.Key.{Key}
+use Rattle.registry_values.specs.declared.settings.TheConstants.{MOST_SLOTS}
 use Rattle.protocol.specs.declared.state.Search.{Search}
 use Rattle.passive_list.specs.Walking.{HasLookedUp}
 use Rattle.passive_list.specs.Cpus.{no_place, no_found, place_at, PassiveAgree, NetAgree, DepthAgrees, SectionAgrees, IsKept, HoldsFound, IsOurCpu}
 
 -- each place of a new CPU is of no entry
-blank_number : (t : ℕ) → (place_at (replicate 32 no_place) t).number ≡ 0
-blank_number t = ap (λ (p : NumberedCount). p.number) (get_or_all 32 no_place t)
+blank_number : (t : ℕ) → (place_at (replicate MOST_SLOTS no_place) t).number ≡ 0
+blank_number t = ap (λ (p : NumberedCount). p.number) (get_or_all MOST_SLOTS no_place t)
 
-blank_count : (t : ℕ) → (place_at (replicate 32 no_place) t).count ≡ 0
-blank_count t = ap (λ (p : NumberedCount). p.count) (get_or_all 32 no_place t)
+blank_count : (t : ℕ) → (place_at (replicate MOST_SLOTS no_place) t).count ≡ 0
+blank_count t = ap (λ (p : NumberedCount). p.count) (get_or_all MOST_SLOTS no_place t)
 
-new_passive : (a : Settings) (c : ℕ) → PassiveAgree (new_cpu a c) (replicate 32 no_place)
+new_passive : (a : Settings) (c : ℕ) → PassiveAgree (new_cpu a c) (replicate MOST_SLOTS no_place)
 new_passive a c = record { size = refl; counts = λ t. blank_count t; placed = λ t some. absurd (some (blank_number t)); each = λ e there. absurd (omega (arith, there.1)) }
 
-new_net : (a : Settings) (c : ℕ) → NetAgree (new_cpu a c) (replicate 32 no_place)
+new_net : (a : Settings) (c : ℕ) → NetAgree (new_cpu a c) (replicate MOST_SLOTS no_place)
 new_net a c = record { size = refl; met = λ t. blank_number t; counts = λ t some. absurd (some (blank_number t)); most = λ t. omega (arith, blank_count t) }
 
 outside : DepthAgrees None 0
@@ -49,7 +50,7 @@ inside : (b : ℕ) → DepthAgrees (Some b) 1
 inside b = record { outside = (λ (q : Some b ≡ None). cc, λ (q : 1 ≡ 0). absurd (omega arith)); most = omega arith }
 
 -- a new CPU
-pub new_agrees : (z : TableId) (a : Settings) (t : TableId) (c : ℕ) → t ≡ z → IsTrue (are_fit a) → c < a.cpus → IsOurCpu z a t (new_cpu a c) c 0 0 no_found (replicate 32 no_place) (replicate 32 no_place)
+pub new_agrees : (z : TableId) (a : Settings) (t : TableId) (c : ℕ) → t ≡ z → IsTrue (are_fit a) → c < a.cpus → IsOurCpu z a t (new_cpu a c) c 0 0 no_found (replicate MOST_SLOTS no_place) (replicate MOST_SLOTS no_place)
 new_agrees z a t c table fit lt = record {
   table = table;
   settings = refl;
@@ -202,7 +203,7 @@ pub record IsFoundAs (x : CpuView) (k : Found) : Type 0 where
   pub number : k.number ≡ entry.number
   pub slot : k.slot ≡ entry.slot
   pub kind : k.kind ≡ entry.rec.kind
-  pub few : k.slot < 32
+  pub few : k.slot < MOST_SLOTS
   pub attached : IsAttached x.pass entry
 
 pub found_as : (x : CpuView) (k : Found) → IsShownCpu x → IsKept k x.found → k.number ≢ 0 → IsFoundAs x k

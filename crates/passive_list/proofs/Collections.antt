@@ -15,6 +15,7 @@ use Rattle.registry_values.specs.Slots.{slot_at}
 use Rattle.protocol.specs.State.{total_at}
 use Rattle.protocol.proofs.slots.Cells.{total_here, total_other}
 use Rattle.registry_values.proofs.Fit.{ranges}
+use Rattle.registry_values.specs.declared.settings.TheConstants.{MOST_CPUS, MOST_SLOTS}
 use Rattle.protocol.proofs.keeps.ListKeeps.{rows_put}
 use Rattle.cpu_words.specs.declared.view.KeeperView.{KeeperView}
 use Rattle.cpu_words.specs.declared.view.LogItem.{LogItem}
@@ -37,7 +38,7 @@ with_total k t marks total given_up = record k { marks = set k.marks t marks; to
 abbrev pub row_with_total : KeptSlot → List Mark → ℕ → KeptSlot
 row_with_total r marks total = record { state = r.state; marks = marks; total = total; keeps = r.keeps }
 
-with_total_at_rest : (a : Settings) (k : KeeperView) (t : ℕ) (marks : List Mark) (total : ℕ) (given_up : List ℕ) → IsAtRest a k → length marks ≡ 8 → IsAtRest a (with_total k t marks total given_up)
+with_total_at_rest : (a : Settings) (k : KeeperView) (t : ℕ) (marks : List Mark) (total : ℕ) (given_up : List ℕ) → IsAtRest a k → length marks ≡ MOST_CPUS → IsAtRest a (with_total k t marks total given_up)
 with_total_at_rest a k t marks total given_up at size = record {
   settings = at.settings;
   fit = at.fit;
@@ -77,7 +78,7 @@ with_total_rows a k rows t marks total given_up at agree some =
 
 -- the keeper's data agree with such a view, where the slot isn't vacant
 pub with_total_keeper : (a : Settings) (k l : KeeperView) (rows : List KeptSlot) (n t : ℕ) (marks : List Mark) (total : ℕ) (given_up : List ℕ)
-    → IsOurKeeper a k rows n → (slot_at (states_of rows) t ≡ Vacant → ⊥) → length marks ≡ 8 → l ≡ with_total k t marks total given_up → IsShown l
+    → IsOurKeeper a k rows n → (slot_at (states_of rows) t ≡ Vacant → ⊥) → length marks ≡ MOST_CPUS → l ≡ with_total k t marks total given_up → IsShown l
     → IsOurKeeper a l (set rows t (row_with_total (row_at rows t) marks total)) n
 with_total_keeper a k l rows n t marks total given_up our some size change is_shown = record {
   view = subst (IsAtRest a) (sym change) (with_total_at_rest a k t marks total given_up our.view size);
@@ -90,7 +91,7 @@ with_total_keeper a k l rows n t marks total given_up our some size change is_sh
 
 -- the word w was collected for the retired entry of t, and is to be added to the total in the slot's row
 pub record CollectionTells (k : KeeperView) (rows : List KeptSlot) (t w : ℕ) : Type 0 where
-  pub place : t < 32
+  pub place : t < MOST_SLOTS
   pub floor : bias ≤ (row_at rows t).total + w
   pub fits : (row_at rows t).total + w < 2 ^ 64
   pub may : (old : ℕ) × MayTotalAdd k t old ((row_at rows t).total + w - bias)
@@ -126,7 +127,7 @@ collected_keeper a k l b rows n x t c w e m our is retired change mark added mad
     let lt = (retired_in a k rows t e our.rows here).0 in
     let row = (our.rows.each t lt).marks in
     let size = our.view.sized.marks in
-    let long : length (set (row_at rows t).marks c m) ≡ 8 = length-set (row_at rows t).marks c m ∙ (ap (λ (ms : List Mark). length ms) row ∙ our.view.sized.mark_rows t (omega (arith, lt, size))) in
+    let long : length (set (row_at rows t).marks c m) ≡ MOST_CPUS = length-set (row_at rows t).marks c m ∙ (ap (λ (ms : List Mark). length ms) row ∙ our.view.sized.mark_rows t (omega (arith, lt, size))) in
     with_total_keeper a k b rows n t (set (row_at rows t).marks c m) ((row_at rows t).total + w - bias) k.given_up our (λ v. let q : Retired e ≡ Vacant = sym here ∙ v in cc) long (added_is k l b rows t c w m row change mark added) (step_is_shown made)
 
 pub collected_into : {log between later : List LogItem} (a : Settings) (k l b : KeeperView) (rows : List KeptSlot) (n : ℕ) (x : OnKeeper) (t c w : ℕ) (e : Entry) (r : KeptSlot) → IsOurKeeper a k rows n → record { view = k; slots = states_of rows; log = log } ≡ x

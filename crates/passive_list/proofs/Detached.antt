@@ -10,6 +10,7 @@ use Rattle.registry_values.specs.Slots.{live_count, slot_at}
 use Rattle.registry_values.specs.Marks.{no_mark}
 use Rattle.protocol.proofs.slots.Cells.{slot_here, slot_other}
 use Rattle.registry_values.proofs.Fit.{ranges}
+use Rattle.registry_values.specs.declared.settings.TheConstants.{MOST_CPUS}
 use Rattle.protocol.proofs.history.History.{length-after_change}
 use Rattle.protocol.proofs.keeps.ListKeeps.{live_count_put, rows_put}
 use Rattle.cpu_words.specs.declared.view.KeeperView.{KeeperView}
@@ -57,9 +58,9 @@ links_size : (next : List ℕ) (p : Option ℕ) (v : ℕ) → length (links_with
 links_size next None v = refl
 links_size next (Some q) v = length-set next q v
 
-detached_at_rest : (a : Settings) (k : KeeperView) (t : ℕ) (e : Entry) (p : Option ℕ) (v : ℕ) (marks : List Mark) → IsAtRest a k → t < a.slots → slot_at k.slots t ≡ Live e → length marks ≡ 8 → IsAtRest a (detached k t e p v marks)
+detached_at_rest : (a : Settings) (k : KeeperView) (t : ℕ) (e : Entry) (p : Option ℕ) (v : ℕ) (marks : List Mark) → IsAtRest a k → t < a.slots → slot_at k.slots t ≡ Live e → length marks ≡ MOST_CPUS → IsAtRest a (detached k t e p v marks)
 detached_at_rest a k t e p v marks at lt live size =
-    let fresh = replicate 8 no_mark in
+    let fresh = replicate MOST_CPUS no_mark in
     record {
       settings = at.settings;
       fit = at.fit;
@@ -87,14 +88,14 @@ detached_at_rest a k t e p v marks at lt live size =
 abbrev pub row_retired : KeptSlot → Entry → List Mark → KeptSlot
 row_retired r e marks = record { state = Retired e; marks = marks; total = r.total; keeps = r.keeps }
 
-pub detached_keeper : (a : Settings) (k l : KeeperView) (rows : List KeptSlot) (n t : ℕ) (e : Entry) (p : Option ℕ) (v : ℕ) (marks : List Mark) → IsOurKeeper a k rows n → (row_at rows t).state ≡ Live e → length marks ≡ 8
+pub detached_keeper : (a : Settings) (k l : KeeperView) (rows : List KeptSlot) (n t : ℕ) (e : Entry) (p : Option ℕ) (v : ℕ) (marks : List Mark) → IsOurKeeper a k rows n → (row_at rows t).state ≡ Live e → length marks ≡ MOST_CPUS
     → l ≡ detached k t e p v marks → IsShown l → IsOurKeeper a l (set rows t (row_retired (row_at rows t) e marks)) (n + 1)
 detached_keeper a k l rows n t e p v marks our is marks_size change is_shown =
     let at = our.view in
     let live = live_in a k rows t e our.rows (state_at rows t ∙ is) in
     let lt = live.0 in
     let d = detached k t e p v marks in
-    let fresh = replicate 8 no_mark in
+    let fresh = replicate MOST_CPUS no_mark in
     let most = (ranges a at.fit).slots in
     let size = at.sized.slots in
     let wide = at.sized.marks in

@@ -18,6 +18,7 @@ use Rattle.protocol.specs.State.{total_at, kept_at}
 use Rattle.protocol.proofs.slots.Cells.{slot_here, slot_other, total_other}
 use Rattle.protocol.proofs.keeps.Drivers.{kept_number}
 use Rattle.registry_values.proofs.Fit.{ranges}
+use Rattle.registry_values.specs.declared.settings.TheConstants.{MOST_CPUS}
 use Rattle.protocol.proofs.keeps.ListKeeps.{live_count_put, rows_put}
 use Rattle.protocol.proofs.slots.Occupied.{has_it, not_vacant, number_in, one_number, position_found, slot_found, slot_has}
 use Rattle.cpu_words.specs.declared.view.KeeperView.{KeeperView}
@@ -143,7 +144,7 @@ freed k t d u = record k {
   totals = set k.totals u (total_at k.totals u - 1);
   slots = set k.slots t Vacant;
   keeps = set k.keeps t None;
-  counts = set k.counts t (replicate 8 0);
+  counts = set k.counts t (replicate MOST_CPUS 0);
   given_up = one_more k.given_up d;
 }
 
@@ -165,8 +166,8 @@ freed_at_rest a k t d u e at lt retired = record {
     next = at.sized.next;
     rows = at.sized.rows;
     totals = length-set k.totals u _ ∙ at.sized.totals;
-    counts = length-set k.counts t (replicate 8 0) ∙ at.sized.counts;
-    count_rows = rows_put k.counts t (replicate 8 0) refl at.sized.count_rows;
+    counts = length-set k.counts t (replicate MOST_CPUS 0) ∙ at.sized.counts;
+    count_rows = rows_put k.counts t (replicate MOST_CPUS 0) refl at.sized.count_rows;
   };
   room =
       let size = at.sized.slots in

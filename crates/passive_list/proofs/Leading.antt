@@ -7,6 +7,7 @@ use Rattle.registry_values.specs.declared.entry.Entry.{Entry}
 use Rattle.registry_values.specs.declared.slot.Slot.{Slot}
 use Rattle.registry_values.specs.declared.slot.Slot.TheVariants.{Vacant, Live, Retired}
 use Rattle.registry_values.specs.Slots.{slot_at}
+use Rattle.registry_values.specs.declared.settings.TheConstants.{MOST_SLOTS}
 use Rattle.protocol.proofs.slots.Occupied.{in_within}
 use Rattle.cpu_words.specs.Publishing.{LeadsBelow, IsBefore, IsLinkPlace}
 use Rattle.cpu_words.specs.Publishing.LeadsBelow.{To_end, To_slot}
@@ -128,7 +129,7 @@ newest_is rows n zero = λ u h lt live below. omega (arith, lt)
 newest_is rows n (suc d) = newest_more (states_of rows) n d (row_at rows d).state (newest_to rows n d) (state_at rows d) (newest_is rows n d)
 
 -- a live slot has a row
-live_within : (rows : List KeptSlot) → length rows ≡ 32 → (u : ℕ) (h : Entry) → slot_at (states_of rows) u ≡ Live h → u < 32
+live_within : (rows : List KeptSlot) → length rows ≡ MOST_SLOTS → (u : ℕ) (h : Entry) → slot_at (states_of rows) u ≡ Live h → u < MOST_SLOTS
 live_within rows size u h live = let lt = in_within (states_of rows) u h (inl live) in let long = length-map rows state_of in omega (arith, lt, long, size)
 
 -- a live slot is among the first d, where those past them are vacant
@@ -136,8 +137,8 @@ leads_from : (slots : List Slot) (n d : ℕ) (best : Option At) → ((u : ℕ) (
 leads_from slots n d None all had = To_end (λ u h live below. had u h (all u h live) live below)
 leads_from slots n d (Some at) all had = rw add-one (To_slot at.slot had.f had.live had.below (λ u h live below. had.most u h (all u h live) live below))
 
-pub newest_leads : (rows : List KeptSlot) (n : ℕ) → length rows ≡ 32 → LeadsBelow (states_of rows) n (link_to (newest_to rows n 32))
-newest_leads rows n size = leads_from (states_of rows) n 32 (newest_to rows n 32) (live_within rows size) (newest_is rows n 32)
+pub newest_leads : (rows : List KeptSlot) (n : ℕ) → length rows ≡ MOST_SLOTS → LeadsBelow (states_of rows) n (link_to (newest_to rows n MOST_SLOTS))
+newest_leads rows n size = leads_from (states_of rows) n MOST_SLOTS (newest_to rows n MOST_SLOTS) (live_within rows size) (newest_is rows n MOST_SLOTS)
 
 -- The oldest above
 
@@ -211,9 +212,9 @@ before_from : (slots : List Slot) (n d : ℕ) (best : Option At) → ((u : ℕ) 
 before_from slots n d None all had = λ u h live. ⊎_elim (λ (lt : n < h.number). absurd (had u h (all u h live) live lt)) (λ (le : h.number ≤ n). le) (cases_lt n h.number)
 before_from slots n d (Some at) all had = (had.f, had.live, had.above, λ u h live above. had.least u h (all u h live) live above)
 
-place_from : (slots : List Slot) (n : ℕ) (best : Option At) → Oldest slots n 32 best → IsLinkPlace (place_of best)
+place_from : (slots : List Slot) (n : ℕ) (best : Option At) → Oldest slots n MOST_SLOTS best → IsLinkPlace (place_of best)
 place_from slots n None had = tt
 place_from slots n (Some at) had = had.within
 
-pub oldest_before : (rows : List KeptSlot) (n : ℕ) → length rows ≡ 32 → IsBefore (states_of rows) n (place_of (oldest_to rows n 32)) × IsLinkPlace (place_of (oldest_to rows n 32))
-oldest_before rows n size = (before_from (states_of rows) n 32 (oldest_to rows n 32) (live_within rows size) (oldest_is rows n 32), place_from (states_of rows) n (oldest_to rows n 32) (oldest_is rows n 32))
+pub oldest_before : (rows : List KeptSlot) (n : ℕ) → length rows ≡ MOST_SLOTS → IsBefore (states_of rows) n (place_of (oldest_to rows n MOST_SLOTS)) × IsLinkPlace (place_of (oldest_to rows n MOST_SLOTS))
+oldest_before rows n size = (before_from (states_of rows) n MOST_SLOTS (oldest_to rows n MOST_SLOTS) (live_within rows size) (oldest_is rows n MOST_SLOTS), place_from (states_of rows) n (oldest_to rows n MOST_SLOTS) (oldest_is rows n MOST_SLOTS))

@@ -17,6 +17,7 @@ use Rattle.registry_values.specs.Balances.{bias}
 use Rattle.protocol.specs.State.{with_cell, mark_at}
 use Rattle.protocol.proofs.slots.Cells.{row_here, row_other, cell_here, slot_here, slot_other}
 use Rattle.registry_values.proofs.Fit.{ranges}
+use Rattle.registry_values.specs.declared.settings.TheConstants.{MOST_CPUS}
 use Rattle.protocol.proofs.keeps.ListKeeps.{live_count_put, rows_cell, rows_put}
 use Rattle.protocol.proofs.slots.Occupied.{is_retired_tells}
 use Rattle.cpu_words.specs.declared.view.KeeperView.{KeeperView}
@@ -138,8 +139,8 @@ vacated_at_rest a k t e at lt retired = record {
     next = at.sized.next;
     rows = at.sized.rows;
     totals = at.sized.totals;
-    counts = length-set k.counts t (replicate 8 0) ∙ at.sized.counts;
-    count_rows = rows_put k.counts t (replicate 8 0) refl at.sized.count_rows;
+    counts = length-set k.counts t (replicate MOST_CPUS 0) ∙ at.sized.counts;
+    count_rows = rows_put k.counts t (replicate MOST_CPUS 0) refl at.sized.count_rows;
   };
   room =
       let size = at.sized.slots in

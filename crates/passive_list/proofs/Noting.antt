@@ -15,6 +15,7 @@ use Rattle.registry_values.specs.declared.entry.Change.{Change}
 use Rattle.registry_values.specs.declared.entry.Kind.TheVariants.{Iface}
 use Rattle.registry_values.specs.Names.{are_name_words}
 use Rattle.registry_values.specs.Slots.{are_words_of, kind_word}
+use Rattle.registry_values.specs.declared.settings.TheConstants.{MOST_SLOTS}
 use Rattle.protocol.specs.declared.state.SearchPlace.TheVariants.{AtNext, AtNumber, AtKind, AtHigh, AtLow}
 use Rattle.protocol.specs.declared.state.Loaded.TheVariants.{On}
 use Rattle.protocol.specs.Invariant.{StandsOn}
@@ -88,8 +89,8 @@ noted x y1 y2 y3 y4 t n k h l had1 had2 had3 had4 from at tells =
 -- No more than there are slots
 
 -- entries on which one search may stand have slots of their own
-pub few_stood_on : (begin : Option ℕ) (h : List Change) (from slots : ℕ) (es : List Entry) → PassTells begin from h → AreStoodOn h from slots es → (length es ≤ slots) × (length es ≤ 32)
-few_stood_on begin h from slots es tells on = (few slots (λ e there. (on.slot e there).0), few 32 (λ e there. (on.slot e there).1))
+pub few_stood_on : (begin : Option ℕ) (h : List Change) (from slots : ℕ) (es : List Entry) → PassTells begin from h → AreStoodOn h from slots es → (length es ≤ slots) × (length es ≤ MOST_SLOTS)
+few_stood_on begin h from slots es tells on = (few slots (λ e there. (on.slot e there).0), few MOST_SLOTS (λ e there. (on.slot e there).1))
   where
     blank : Entry
     blank = record { number = 0; slot = 0; rec = record { kind = Iface; name = record { high = 0; low = 0 }; value = 0 } }
@@ -164,13 +165,13 @@ with_next x y es t e at stands = record {
       (Contains-push_cases es e f there);
   slot = λ f there. ⊎_elim
       (λ (old : Contains es f). at.noted.slot f old)
-      (λ (same : e ≡ f). subst (λ (g : Entry). (g.slot < x.settings.slots) × (g.slot < 32)) same (omega (arith, stands.at, at.goes_on.0.0), omega (arith, stands.at, at.goes_on.0.1)))
+      (λ (same : e ≡ f). subst (λ (g : Entry). (g.slot < x.settings.slots) × (g.slot < MOST_SLOTS)) same (omega (arith, stands.at, at.goes_on.0.0), omega (arith, stands.at, at.goes_on.0.1)))
       (Contains-push_cases es e f there);
   newest_first = all_pairs_push (λ (d f : Entry). f.number < d.number) es e at.noted.newest_first (λ k d lt. (at.goes_on.1 e stands).0 (get_or es k d) (Contains-get_or es k d lt));
 }
 
 -- so there is room for it
-pub room_for_next : (x y z : CpuView) (es : List Entry) (t : ℕ) (n : Noted) → IsNoting x es (suc t) y → HasNoted y t n z → length es < 32
+pub room_for_next : (x y z : CpuView) (es : List Entry) (t : ℕ) (n : Noted) → IsNoting x es (suc t) y → HasNoted y t n z → length es < MOST_SLOTS
 room_for_next x y z es t n at had =
     let v = noted_there x y z es t n at had in
     omega (arith, (few_stood_on x.begin y.pass (length x.pass) x.settings.slots (es ++ v.entry ∷ []) at.tells (with_next x y es t v.entry at v.stands)).1, length-append es (v.entry ∷ []))
@@ -252,7 +253,7 @@ notes_next x y z w es t m n at had loaded_link =
         → GoesOnAt w.pass from x.settings.slots (es ++ e ∷ []) m
     goes_on zero holds skips falls = λ f live. ⊎_elim (λ (lt : f.number < e.number). absurd (skips f live.0 live.1 lt)) (λ there. there) (cases f live)
     goes_on (suc u) holds skips falls = (
-      subst (λ (slots : ℕ). (u < slots) × (u < 32)) settings holds,
+      subst (λ (slots : ℕ). (u < slots) × (u < MOST_SLOTS)) settings holds,
       λ g stands. (
         λ f there.
             let below : g.number < e.number = falls e g stands_z stands in
@@ -285,7 +286,7 @@ pub on_slot : (x y : CpuView) (row : List Noted) (count m : ℕ) → m ≢ 0 →
 on_slot x y row count zero some at = absurd (some refl)
 on_slot x y row count (suc t) some at = let same : suc t ≡ suc (suc t - 1) = omega arith in subst (λ m. HasNotedSoFar x row count m y) same at
 
-pub slot_within : (x y : CpuView) (row : List Noted) (count t : ℕ) → HasNotedSoFar x row count (suc t) y → t < 32
+pub slot_within : (x y : CpuView) (row : List Noted) (count t : ℕ) → HasNotedSoFar x row count (suc t) y → t < MOST_SLOTS
 slot_within x y row count t at = at.noting.goes_on.0.1
 
 pub may_note : (x y : CpuView) (row : List Noted) (count t : ℕ) → HasNotedSoFar x row count (suc t) y → MayVisit y nobody t
@@ -294,7 +295,7 @@ may_note x y row count t at = (length x.pass, noting_on x y at.entries t at.noti
 pub may_go_on : (x y z : CpuView) (row : List Noted) (count t : ℕ) (n : Noted) → HasNotedSoFar x row count (suc t) y → HasNoted y t n z → MayLoadLink z t
 may_go_on x y z row count t n at had = may_follow z nobody (length x.pass) t (ap (λ (v : CpuView). v.search) (noted_there x y z at.entries t n at.noting had).is)
 
-pub has_room : (x y z : CpuView) (row : List Noted) (count t : ℕ) (n : Noted) → HasNotedSoFar x row count (suc t) y → HasNoted y t n z → count < 32
+pub has_room : (x y z : CpuView) (row : List Noted) (count t : ℕ) (n : Noted) → HasNotedSoFar x row count (suc t) y → HasNoted y t n z → count < MOST_SLOTS
 has_room x y z row count t n at had = omega (arith, room_for_next x y z at.entries t n at.noting had, at.size)
 
 -- the search has gone by no more entries than there are slots

@@ -10,6 +10,7 @@ use Rattle.protocol.specs.declared.state.RecordWords.{RecordWords}
 use Rattle.protocol.specs.State.{with_biases, no_words, row_at, count_at, with_cell}
 use Rattle.protocol.specs.Events.{with_word, words_of}
 use Rattle.registry_values.specs.Balances.{bias}
+use Rattle.registry_values.specs.declared.settings.TheConstants.{MOST_CPUS}
 use Rattle.protocol.proofs.slots.Cells.{cell_in_new}
 use Rattle.cpu_words.specs.declared.view.KeeperView.{KeeperView}
 use Rattle.cpu_words.specs.Storing.{HasRecordWord, HasCountWord, HasLink}
@@ -51,7 +52,7 @@ counts_set k t c low lt =
     let more : set (get_or (set k.counts t (with_biases c row)) t []) c bias ≡ with_biases (c + 1) row = ap (λ (xs : List ℕ). set xs c bias) here ∙ biases_more row c lt in
     set-set k.counts t (with_biases c row) (set (get_or (set k.counts t (with_biases c row)) t []) c bias) ∙ ap (set k.counts t) more
 
-pub counts_next : (k l m : KeeperView) (t c : ℕ) → AreSized k.settings.slots k → t < k.settings.slots → c < 8 → l ≡ with_counts k t c → HasCountWord l t c bias m → m ≡ with_counts k t (c + 1)
+pub counts_next : (k l m : KeeperView) (t c : ℕ) → AreSized k.settings.slots k → t < k.settings.slots → c < MOST_CPUS → l ≡ with_counts k t c → HasCountWord l t c bias m → m ≡ with_counts k t (c + 1)
 counts_next k l m t c sized low few at is =
     let size = sized.counts in
     let within : t < length k.counts = omega (arith, size, low) in
@@ -62,7 +63,7 @@ pub counts_may : (k l : KeeperView) (t c : ℕ) → MayWrite k t → l ≡ with_
 counts_may k l t c may at = subst (λ (x : KeeperView). MayWrite x t) (sym at) record { rest = may.rest; slot = may.slot; vacant = may.vacant }
 
 -- a row of count words has a place for each CPU, stored or not
-pub biases_size : (row : List ℕ) (c : ℕ) → length row ≡ 8 → c ≤ 8 → length (with_biases c row) ≡ 8
+pub biases_size : (row : List ℕ) (c : ℕ) → length row ≡ MOST_CPUS → c ≤ MOST_CPUS → length (with_biases c row) ≡ MOST_CPUS
 biases_size row c size few =
     let whole = length-append (replicate c bias) (drop c row) in
     let front = length-replicate c bias in

@@ -18,6 +18,7 @@ use Rattle.protocol.proofs.slots.Cells.{get_or_all}
 use Rattle.protocol.proofs.keeps.MarkKeeps.{none_live, rows_all}
 use Rattle.protocol.proofs.slots.Occupied.{place_cases}
 use Rattle.registry_values.proofs.Fit.{ranges}
+use Rattle.registry_values.specs.declared.settings.TheConstants.{MOST_CPUS, MOST_SLOTS}
 use Rattle.cpu_words.specs.declared.view.KeeperView.{KeeperView}
 use Rattle.cpu_words.specs.declared.view.LogItem.{LogItem}
 use Rattle.cpu_words.specs.Opening.{keeper_with}
@@ -35,20 +36,20 @@ new_at_rest a fit = record {
   seated = refl;
   sized = record {
     slots = length-replicate a.slots Vacant;
-    marks = length-replicate a.slots (replicate 8 no_mark);
-    mark_rows = rows_all a.slots (replicate 8 no_mark) refl;
+    marks = length-replicate a.slots (replicate MOST_CPUS no_mark);
+    mark_rows = rows_all a.slots (replicate MOST_CPUS no_mark) refl;
     keeps = length-replicate a.slots None;
     next = let none : ℕ = 0 in length-replicate a.slots none;
     rows = length-replicate a.slots no_words;
     totals = length-replicate a.slots bias;
-    counts = let none : ℕ = 0 in length-replicate a.slots (replicate 8 none);
-    count_rows = let none : ℕ = 0 in rows_all a.slots (replicate 8 none) refl;
+    counts = let none : ℕ = 0 in length-replicate a.slots (replicate MOST_CPUS none);
+    count_rows = let none : ℕ = 0 in rows_all a.slots (replicate MOST_CPUS none) refl;
   };
   room = let none = none_live a.slots in omega (arith, none);
 }
 
 abbrev pub first_row : KeptSlot
-first_row = record { state = Vacant; marks = replicate 8 no_mark; total = bias; keeps = None }
+first_row = record { state = Vacant; marks = replicate MOST_CPUS no_mark; total = bias; keeps = None }
 
 -- what stands in a slot, by its row
 pub state_at : (rows : List KeptSlot) (t : ℕ) → slot_at (states_of rows) t ≡ (row_at rows t).state
@@ -69,20 +70,20 @@ taken_in_rows key (r ∷ rows) = ap (λ b. is_live_as key r.state || b) (taken_i
 first_agrees : (a : Settings) (t : ℕ) → t < a.slots → RowAgrees (keeper_with a a.cpus) t first_row
 first_agrees a t lt = record {
   state = get_or-replicate a.slots t Vacant Vacant lt;
-  marks = sym (get_or-replicate a.slots t (replicate 8 no_mark) [] lt);
+  marks = sym (get_or-replicate a.slots t (replicate MOST_CPUS no_mark) [] lt);
   total = sym (get_or-replicate a.slots t bias 0 lt);
   keeps = sym (get_or-replicate a.slots t None None lt);
   unused = λ vacant. refl;
 }
 
-pub new_rows : (a : Settings) → IsTrue (are_fit a) → RowsAgree a (keeper_with a a.cpus) (replicate 32 first_row)
+pub new_rows : (a : Settings) → IsTrue (are_fit a) → RowsAgree a (keeper_with a a.cpus) (replicate MOST_SLOTS first_row)
 new_rows a fit =
     let most = (ranges a fit).slots in
-    let size : length (replicate 32 first_row) ≡ 32 = length-replicate 32 first_row in
+    let size : length (replicate MOST_SLOTS first_row) ≡ MOST_SLOTS = length-replicate MOST_SLOTS first_row in
     record {
       size = size;
-      each = λ t lt. subst (RowAgrees (keeper_with a a.cpus) t) (sym (get_or-replicate 32 t first_row no_row (omega (arith, lt, most)))) (first_agrees a t lt);
-      beyond = λ t past. sym (state_at (replicate 32 first_row) t) ∙ (ap (λ xs. slot_at xs t) (first_states 32) ∙ get_or_all 32 Vacant t);
+      each = λ t lt. subst (RowAgrees (keeper_with a a.cpus) t) (sym (get_or-replicate MOST_SLOTS t first_row no_row (omega (arith, lt, most)))) (first_agrees a t lt);
+      beyond = λ t past. sym (state_at (replicate MOST_SLOTS first_row) t) ∙ (ap (λ xs. slot_at xs t) (first_states MOST_SLOTS) ∙ get_or_all MOST_SLOTS Vacant t);
     }
 
 -- A row
@@ -127,7 +128,7 @@ row_stays k l t r slot marks total keeps had = record {
 }
 
 -- one row changes with its slot, and the others stay
-pub rows_set : (a : Settings) (k l : KeeperView) (rows : List KeptSlot) (t : ℕ) (r : KeptSlot) → t < a.slots → t < 32 → RowsAgree a k rows → RowAgrees l t r → ((u : ℕ) → u ≢ t → RowAgrees k u (row_at rows u) → RowAgrees l u (row_at rows u))
+pub rows_set : (a : Settings) (k l : KeeperView) (rows : List KeptSlot) (t : ℕ) (r : KeptSlot) → t < a.slots → t < MOST_SLOTS → RowsAgree a k rows → RowAgrees l t r → ((u : ℕ) → u ≢ t → RowAgrees k u (row_at rows u) → RowAgrees l u (row_at rows u))
     → RowsAgree a l (set rows t r)
 rows_set a k l rows t r lt place agree here others = record {
   size = length-set rows t r ∙ agree.size;

@@ -8,6 +8,7 @@ use Rattle.registry_values.specs.declared.slot.Slot.TheVariants.{Vacant}
 use Rattle.registry_values.specs.Slots.{slot_at}
 use Rattle.protocol.specs.State.{total_at}
 use Rattle.registry_values.proofs.Fit.{ranges}
+use Rattle.registry_values.specs.declared.settings.TheConstants.{MOST_CPUS, MOST_SLOTS}
 use Rattle.protocol.proofs.slots.Occupied.{not_vacant}
 use Rattle.cpu_words.specs.declared.view.KeeperView.{KeeperView}
 use Rattle.passive_list.specs.declared.keeper.KeptSlot.{KeptSlot}
@@ -21,11 +22,11 @@ use Rattle.passive_list.proofs.Collections.{with_total, row_with_total, with_tot
 -- its row shows it, and one can be subtracted there
 pub record HeldRow (k : KeeperView) (rows : List KeptSlot) (t : ℕ) : Type 0 where
   pub agrees : RowAgrees k t (row_at rows t)
-  pub slot : t < 32
+  pub slot : t < MOST_SLOTS
   pub shown : (row_at rows t).state ≡ slot_at k.slots t
   pub some : slot_at (states_of rows) t ≡ Vacant → ⊥
   pub positive : 1 ≤ (row_at rows t).total
-  pub size : length (row_at rows t).marks ≡ 8
+  pub size : length (row_at rows t).marks ≡ MOST_CPUS
 
 pub held_row : (a : Settings) (k : KeeperView) (rows : List KeptSlot) (t : ℕ) → IsAtRest a k → RowsAgree a k rows → IsHeldIn k t → HeldRow k rows t
 held_row a k rows t at agree held =

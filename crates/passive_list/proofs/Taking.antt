@@ -7,6 +7,7 @@ use Rattle.protocol.specs.declared.state.Due.TheVariants.{Rest, Snapshots}
 use Rattle.registry_values.specs.declared.mark.Mark.{Mark}
 use Rattle.protocol.specs.Events.{snapshot_mark}
 use Rattle.registry_values.specs.Marks.{no_mark}
+use Rattle.registry_values.specs.declared.settings.TheConstants.{MOST_CPUS}
 use Rattle.protocol.specs.State.{with_cell}
 use Rattle.cpu_words.specs.declared.view.KeeperView.{KeeperView}
 use Rattle.cpu_words.specs.Grace.{HasSnapshot}
@@ -34,7 +35,7 @@ taking_next k l m t cpus c w marks fresh same at is =
     ∙ (ap (λ (ms : List (List Mark)). record k { marks = ms; due = due_before k.settings.cpus t (c + 1) }) here
     ∙ ap (λ (n : ℕ). record k { marks = set k.marks t (set marks c x); due = due_before n t (c + 1) }) (sym same)))
 
-pub one_taken : (n w : ℕ) (marks : List Mark) → n < 8 → AreSnapshots n marks → AreSnapshots (n + 1) (set marks n (snapshot_mark w))
+pub one_taken : (n w : ℕ) (marks : List Mark) → n < MOST_CPUS → AreSnapshots n marks → AreSnapshots (n + 1) (set marks n (snapshot_mark w))
 one_taken n w marks few had = record {
   size = length-set marks n (snapshot_mark w) ∙ had.size;
   each = λ c lt. ⊎_elim

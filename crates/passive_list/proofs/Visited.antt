@@ -8,6 +8,7 @@ use mathlib.Core.List.{IsPrefix}
 use Rattle.registry_values.specs.declared.entry.Entry.{Entry}
 use Rattle.registry_values.specs.declared.entry.Change.{Change}
 use Rattle.registry_values.specs.declared.slot.Key.{Key}
+use Rattle.registry_values.specs.declared.settings.TheConstants.{MOST_SLOTS}
 use Rattle.protocol.specs.declared.event.Reply.TheVariants.{Found}
 use Rattle.protocol.specs.declared.state.Search.{Search}
 use Rattle.protocol.specs.declared.state.SearchPlace.TheVariants.{AtNext}
@@ -48,7 +49,7 @@ one_more_gone_by key x y z t n last visited b p on had more so_far = record {
         (Contains-push_cases so_far.entries e f there));
     slot = λ f there. ⊎_elim
         (λ (old : Contains so_far.entries f). so_far.stood.slot f old)
-        (λ (same : e ≡ f). subst (λ (g : Entry). (g.slot < x.settings.slots) × (g.slot < 32)) same (omega (arith, v.stands.at, on.slot.0), omega (arith, v.stands.at, on.slot.1)))
+        (λ (same : e ≡ f). subst (λ (g : Entry). (g.slot < x.settings.slots) × (g.slot < MOST_SLOTS)) same (omega (arith, v.stands.at, on.slot.0), omega (arith, v.stands.at, on.slot.1)))
         (Contains-push_cases so_far.entries e f there);
     newest_first = all_pairs_push (λ (d f : Entry). f.number < d.number) so_far.entries e so_far.stood.newest_first
         (λ k d lt. omega (arith, below, so_far.over (get_or so_far.entries k d) (Contains-get_or so_far.entries k d lt)));

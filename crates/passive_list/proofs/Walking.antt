@@ -5,6 +5,7 @@ use mathlib.Core.List.{IsPrefix}
 use Rattle.registry_values.specs.declared.entry.Entry.{Entry}
 use Rattle.registry_values.specs.declared.entry.Change.{Change}
 use Rattle.registry_values.specs.declared.slot.Key.{Key}
+use Rattle.registry_values.specs.declared.settings.TheConstants.{MOST_SLOTS}
 use Rattle.protocol.specs.declared.state.SearchPlace.{SearchPlace}
 use Rattle.protocol.specs.declared.state.SearchPlace.TheVariants.{AtNext, AtNumber, AtKind, AtHigh, AtLow, AtValue}
 use Rattle.protocol.specs.declared.state.Loaded.TheVariants.{On}
@@ -166,11 +167,11 @@ found key x y z w t n value last on had last_word =
       lawful = subst (λ (p : List Change). IsLawful p (length x.pass) (length p) key (Some e)) (sym to_z) f.lawful;
       seen = λ g (q : Some e ≡ Some g).
           let same : e ≡ g = cc in
-          subst (λ (i : Entry). (i.slot < 32) × IsAttached w.pass i) same (on.slot.1, subst (λ (p : List Change). IsAttached p e) (sym to_z) f.attached);
+          subst (λ (i : Entry). (i.slot < MOST_SLOTS) × IsAttached w.pass i) same (on.slot.1, subst (λ (p : List Change). IsAttached p e) (sym to_z) f.attached);
       tells = subst (λ (p : List Change). PassTells x.begin (length x.pass) p) (sym (to_z ∙ to_y)) on.tells;
     }
 
 -- the slot of what a search found
-pub slot_seen : (key : Key) (x y : CpuView) (s : Option Seen) → HasLookedUp key x y (entry_seen key s) → IfSome s (λ (r : Seen). r.slot < 32)
+pub slot_seen : (key : Key) (x y : CpuView) (s : Option Seen) → HasLookedUp key x y (entry_seen key s) → IfSome s (λ (r : Seen). r.slot < MOST_SLOTS)
 slot_seen key x y None had = tt
 slot_seen key x y (Some r) had = (had.seen (entry_with key r.slot r.number r.value) refl).0

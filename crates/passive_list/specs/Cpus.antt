@@ -11,6 +11,7 @@ use Rattle.protocol.specs.History.{IsAttached}
 use Rattle.protocol.specs.Invariant.{IsIn, greatest_limit}
 use Rattle.registry_values.specs.Balances.{bias}
 use Rattle.registry_values.specs.Slots.{slot_at}
+use Rattle.registry_values.specs.declared.settings.TheConstants.{MOST_CPUS, MOST_SLOTS}
 use Rattle.cpu_words.specs.declared.view.CpuView.{CpuView}
 use Rattle.cpu_words.specs.declared.view.LogItem.{LogItem}
 use Rattle.cpu_words.specs.Views.{Named, number_at, references_to, depth_of}
@@ -48,14 +49,14 @@ pub record IsPlaceOf (h : List Change) (t n : ℕ) : Type 0 where
 
 -- the places of a CPU's passive references: each reference is counted at its entry's slot
 pub record PassiveAgree (x : CpuView) (places : List NumberedCount) : Type 0 where
-  pub size : length places ≡ 32
+  pub size : length places ≡ MOST_SLOTS
   pub counts : (t : ℕ) → (place_at places t).count ≡ references_to (place_at places t).number x.references
   pub placed : (t : ℕ) → (place_at places t).number ≢ 0 → IsPlaceOf x.pass t (place_at places t).number
-  pub each : (e : Entry) → Contains x.references e → (e.slot < 32) × IsAttached x.pass e × ((place_at places e.slot).number ≡ e.number) × (0 < e.number)
+  pub each : (e : Entry) → Contains x.references e → (e.slot < MOST_SLOTS) × IsAttached x.pass e × ((place_at places e.slot).number ≡ e.number) × (0 < e.number)
 
 -- the places of its net counts: each is for the number that the CPU met last in that slot
 pub record NetAgree (x : CpuView) (places : List NumberedCount) : Type 0 where
-  pub size : length places ≡ 32
+  pub size : length places ≡ MOST_SLOTS
   pub met : (t : ℕ) → (place_at places t).number ≡ number_at x.met t
   pub counts : (t : ℕ) → (place_at places t).number ≢ 0 → (place_at places t).count + number_at x.released (place_at places t).number ≡ bias + number_at x.acquired (place_at places t).number
   pub most : (t : ℕ) → (place_at places t).count ≤ bias + greatest_limit
@@ -90,7 +91,7 @@ pub record IsOurCpu (z : TableId) (a : Settings) (t : TableId) (x : CpuView) (c 
   pub settings : x.settings ≡ a
   pub fit : IsTrue (are_fit a)
   pub id : x.id ≡ c
-  pub few : c < 8
+  pub few : c < MOST_CPUS
   pub section : SectionAgrees a x ended
   pub idle : IsIdle x
   pub depth : DepthAgrees x.begin deep

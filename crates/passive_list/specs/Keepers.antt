@@ -9,6 +9,7 @@ use Rattle.protocol.specs.Invariant.{AreRows}
 use Rattle.registry_values.specs.Limits.{are_fit}
 use Rattle.registry_values.specs.Slots.{live_count, slot_at}
 use Rattle.registry_values.specs.Balances.{bias}
+use Rattle.registry_values.specs.declared.settings.TheConstants.{MOST_SLOTS}
 use Rattle.protocol.specs.State.{total_at, kept_at}
 use Rattle.cpu_words.specs.Views.{Named}
 use Rattle.cpu_words.specs.declared.view.KeeperView.{KeeperView}
@@ -71,7 +72,7 @@ pub record IsAtRest (a : Settings) (k : KeeperView) : Type 0 where
 
 -- of the rows: each says what the view says of its slot
 pub record RowsAgree (a : Settings) (k : KeeperView) (rows : List KeptSlot) : Type 0 where
-  pub size : length rows ≡ 32
+  pub size : length rows ≡ MOST_SLOTS
   pub each : (t : ℕ) → t < a.slots → RowAgrees k t (row_at rows t)
   pub beyond : (t : ℕ) → a.slots ≤ t → (row_at rows t).state ≡ Vacant
 

@@ -5,6 +5,7 @@ use Rattle.registry_values.specs.declared.entry.Entry.{Entry}
 use Rattle.registry_values.specs.declared.settings.Settings.{Settings}
 use Rattle.registry_values.specs.declared.slot.Slot.TheVariants.{Retired}
 use Rattle.registry_values.specs.Slots.{slot_at}
+use Rattle.registry_values.specs.declared.settings.TheConstants.{MOST_SLOTS}
 use Rattle.protocol.specs.declared.state.Due.TheVariants.{Rest}
 use Rattle.cpu_words.specs.declared.view.View.TheVariants.{Keeper}
 use Rattle.cpu_words.specs.KeeperLog.{changes_in, occupant, occupant_of, IsSnapped, AreMarksOf, AreSlotsOf, IsShownAfter, WordsGrow}
@@ -15,7 +16,7 @@ use Rattle.passive_list.specs.Keepers.{OnKeeper}
 pub record HasOwnLog (z : Settings) (a : OnKeeper) : Type 0 where
   pub settings : a.view.settings ≡ z
   pub rest : a.view.due ≡ Rest
-  pub size : length a.slots ≡ 32
+  pub size : length a.slots ≡ MOST_SLOTS
   pub changes : length a.view.history ≡ changes_in a.log
   pub marks : AreMarksOf a.log a.view.marks
   pub slots : AreSlotsOf z.cpus a.log a.slots

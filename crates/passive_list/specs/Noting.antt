@@ -5,6 +5,7 @@ use mathlib.Core.List.{IsPrefix}
 use Rattle.registry_values.specs.declared.entry.Entry.{Entry}
 use Rattle.registry_values.specs.declared.entry.Change.{Change}
 use Rattle.registry_values.specs.Slots.{key_of, kind_word}
+use Rattle.registry_values.specs.declared.settings.TheConstants.{MOST_SLOTS}
 use Rattle.protocol.specs.declared.state.SearchPlace.TheVariants.{AtNext, AtNumber}
 use Rattle.protocol.specs.History.{IsAttached, IsLiveAt}
 use Rattle.protocol.specs.Invariant.{StandsOn}
@@ -23,7 +24,7 @@ noted_of e = record { number = e.number; kind = kind_word e.rec.kind; high = e.r
 -- a search that started at `from` may stand on each of these, as the pass h tells, in a table of so many slots
 pub record AreStoodOn (h : List Change) (from slots : ℕ) (es : List Entry) : Type 0 where
   pub stands : (e : Entry) → Contains es e → StandsOn h from (length h) e.slot e
-  pub slot : (e : Entry) → Contains es e → (e.slot < slots) × (e.slot < 32)
+  pub slot : (e : Entry) → Contains es e → (e.slot < slots) × (e.slot < MOST_SLOTS)
   pub newest_first : AreNewestFirst es
 
 -- the words of the slot t were loaded: n is of an entry on which the search may stand, and the search goes on at the link
@@ -48,7 +49,7 @@ IsLiveSince h from f = IsLiveAt h from f × IsLiveAt h (length h) f
 -- what a link leads to, with es noted: each entry that has been live since is among them or not yet gone past
 abbrev pub GoesOnAt : List Change → ℕ → ℕ → List Entry → ℕ → Type 0
 GoesOnAt h from slots es zero = (f : Entry) → IsLiveSince h from f → Contains es f
-GoesOnAt h from slots es (suc t) = ((t < slots) × (t < 32)) × ((e : Entry) → StandsOn h from (length h) t e
+GoesOnAt h from slots es (suc t) = ((t < slots) × (t < MOST_SLOTS)) × ((e : Entry) → StandsOn h from (length h) t e
     → ((f : Entry) → Contains es f → e.number < f.number) × ((f : Entry) → IsLiveSince h from f → (f.number ≤ e.number) ⊎ Contains es f))
 
 -- the search begun in the view x has noted es, and has loaded the link

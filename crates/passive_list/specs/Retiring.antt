@@ -8,6 +8,7 @@ use Rattle.registry_values.specs.declared.slot.Slot.TheVariants.{Retired}
 use Rattle.protocol.specs.declared.state.Due.TheVariants.{Rest}
 use Rattle.protocol.specs.Events.{snapshot_mark}
 use Rattle.registry_values.specs.Marks.{no_mark}
+use Rattle.registry_values.specs.declared.settings.TheConstants.{MOST_CPUS}
 use Rattle.cpu_words.specs.declared.view.KeeperView.{KeeperView}
 use Rattle.cpu_words.specs.declared.view.View.TheVariants.{Keeper}
 use Rattle.cpu_words.specs.Publishing.{LeadsBelow, IsBefore, keeper_after_unpublish}
@@ -17,11 +18,11 @@ use Rattle.passive_list.specs.Keepers.{OnKeeper}
 -- the slot's marks are none, and it has a place for them
 pub record AreFresh (k : KeeperView) (t : ℕ) : Type 0 where
   pub place : t < length k.marks
-  pub marks : slice_index_or k.marks t [] ≡ replicate 8 no_mark
+  pub marks : slice_index_or k.marks t [] ≡ replicate MOST_CPUS no_mark
 
 -- the marks of the first n CPUs are their snapshots
 pub record AreSnapshots (n : ℕ) (marks : List Mark) : Type 0 where
-  pub size : length marks ≡ 8
+  pub size : length marks ≡ MOST_CPUS
   pub each : (c : ℕ) → c < n → (w : ℕ) × (slice_index_or marks c no_mark ≡ snapshot_mark w)
 
 -- the slot t has these marks, and the keeper is at rest

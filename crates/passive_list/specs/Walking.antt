@@ -3,6 +3,7 @@ use Rattle.std.specs.Prelude.{◌≡◌, ℕ, zero, suc, ◌<◌, Bool, true, fa
 use mathlib.Core.List.{IsPrefix}
 use Rattle.registry_values.specs.declared.entry.Entry.{Entry}
 use Rattle.registry_values.specs.declared.slot.Key.{Key}
+use Rattle.registry_values.specs.declared.settings.TheConstants.{MOST_SLOTS}
 use Rattle.protocol.specs.declared.state.SearchPlace.{SearchPlace}
 use Rattle.protocol.specs.declared.state.SearchPlace.TheVariants.{AtNext, AtNumber, AtValue}
 use Rattle.protocol.specs.declared.state.Search.{Search}
@@ -63,7 +64,7 @@ pub record HasMissed (key : Key) (x y : CpuView) : Type 0 where
 pub record IsOn (key : Key) (x : CpuView) (t last : ℕ) (y : CpuView) : Type 0 where
   pub pass : IsPrefix x.pass y.pass
   pub is : y ≡ record x { pass = y.pass; search = Some (search_at key (length x.pass) (AtNumber t)) }
-  pub slot : (t < x.settings.slots) × (t < 32)
+  pub slot : (t < x.settings.slots) × (t < MOST_SLOTS)
   pub below : (e : Entry) → StandsOn y.pass (length x.pass) (length y.pass) t e → e.number < last
   pub tells : PassTells x.begin (length x.pass) y.pass
 
@@ -82,5 +83,5 @@ pub record HasLookedUp (key : Key) (x y : CpuView) (answer : Option Entry) : Typ
   pub pass : IsPrefix x.pass y.pass
   pub is : y ≡ record x { pass = y.pass; search = None; found = answer }
   pub lawful : IsLawful y.pass (length x.pass) (length y.pass) key answer
-  pub seen : (e : Entry) → answer ≡ Some e → (e.slot < 32) × IsAttached y.pass e
+  pub seen : (e : Entry) → answer ≡ Some e → (e.slot < MOST_SLOTS) × IsAttached y.pass e
   pub tells : PassTells x.begin (length x.pass) y.pass

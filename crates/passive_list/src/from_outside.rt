@@ -14,7 +14,7 @@ ghost use Rattle.passive_list.specs.Walking.{entry_seen};
 use crate::lookup::{Seen, look_up};
 use crate::plain_cpu::PlainCpu;
 use cpu_words::{CpuSeat, Words, steps};
-use registry_values::{Kind, Name};
+use registry_values::{Kind, MOST_CPUS, MOST_SLOTS, Name};
 
 /// Looks an entry up in a read section of its own (pserialize(9)), and answers its words, or `None` where none was found: an enter, a find and
 /// an exit in one. What a CPU keeps for the calls that come in a section, its depth and the last found entry, isn't written. Each answer has an
@@ -26,7 +26,7 @@ pub fn find_from_outside(words: &Words, cpu: &mut PlainCpu, kind: Kind, name: Na
     requires outside { cpu.old.cpu.depth ≡ 0 }
     requires room { AreSpent cpu.old.cpu.view → ⊥ }
     ensures found { HasFoundFromOutside (key_with kind name) cpu.old.cpu cpu.new.cpu (entry_seen (key_with kind name) result) }
-    ensures slot { IfSome result (λ seen. seen.slot < 32) }
+    ensures slot { IfSome result (λ seen. seen.slot < MOST_SLOTS) }
     ensures words { cpu.new.words ≡ cpu.old.words }
 {
     steps::enter(words, &mut cpu.seat, cpu.id);
@@ -41,7 +41,7 @@ pub fn find_from_outside(words: &Words, cpu: &mut PlainCpu, kind: Kind, name: Na
 /// Ends the section by the CPU's seat, and counts it as ended.
 fn exit_counted(words: &Words, seat: &mut CpuSeat, cpu: u8, ended: &mut u64)
     requires table { seat.old.table ≡ words.now.table }
-    requires cpu { (cpu < 8) × (seat.old.view.id ≡ cpu) }
+    requires cpu { (cpu < MOST_CPUS) × (seat.old.view.id ≡ cpu) }
     requires may { MayExit seat.old.view }
     requires room { ended.old < 2 ^ 63 }
     ensures table { seat.new.table ≡ seat.old.table }

@@ -8,7 +8,7 @@ ghost use Rattle.protocol.specs.State.{kept_at};
 ghost use Rattle.cpu_words.specs.Opening.{keeper_with};
 
 use cpu_words::KeeperSeat;
-use registry_values::{BIAS, Mark, NO_MARK, Settings};
+use registry_values::{BIAS, MOST_CPUS, MOST_SLOTS, Mark, NO_MARK, Settings};
 use std::marker::Model;
 
 /// What stands in a slot, as the keeper has it: a slot that was retired and drained is `Vacant` once it was vacated.
@@ -20,7 +20,7 @@ pub struct KeptSlot {
     /// Vacant, or the slot's live or retired entry.
     pub state: SlotState,
     /// What was noted of each CPU for a retired entry.
-    pub marks: [Mark; 8],
+    pub marks: [Mark; MOST_CPUS],
     /// The slot's total: the bias, what was collected, less the references given up under the interlock.
     pub total: u64,
     /// The number of the driver to which the slot keeps a reference.
@@ -37,7 +37,7 @@ pub struct Keeper {
     /// What the table was made for.
     pub(crate) settings: Settings,
     /// By slot.
-    pub(crate) rows: [KeptSlot; 32],
+    pub(crate) rows: [KeptSlot; MOST_SLOTS],
     /// How many changes there were: attaches and detaches.
     pub(crate) changes: u64,
 }
@@ -55,7 +55,7 @@ impl Model for Keeper {
 /// A slot that nothing was ever in.
 const VACANT_SLOT: KeptSlot = KeptSlot {
     state: SlotState::Vacant,
-    marks: [NO_MARK; 8],
+    marks: [NO_MARK; MOST_CPUS],
     total: BIAS,
     keeps: None,
 };
@@ -67,20 +67,20 @@ impl Keeper {
         requires fit { IsTrue (are_fit settings) }
         requires new { seat.view ≡ keeper_with settings settings.cpus }
         ensures words { result.words ≡ record { table = seat.table; settings = settings } }
-        ensures keeper { result.keeper ≡ record { view = keeper_with settings settings.cpus; slots = replicate 32 Vacant; log = seat.log } }
+        ensures keeper { result.keeper ≡ record { view = keeper_with settings settings.cpus; slots = replicate MOST_SLOTS Vacant; log = seat.log } }
     {
         Keeper {
             seat,
             settings,
-            rows: [VACANT_SLOT; 32],
+            rows: [VACANT_SLOT; MOST_SLOTS],
             changes: 0,
         }
     }
 
     /// What stands in a slot, from 0.
-    /// Condition: the slot is below 32.
+    /// Condition: the slot is below `MOST_SLOTS`.
     pub fn slot(&self, s: u8) -> SlotState
-        requires { s < 32 }
+        requires { s < MOST_SLOTS }
         ensures { result ≡ slot_at self.now.keeper.slots s }
     {
         self.rows[s as usize].state

@@ -6,6 +6,7 @@ ghost use Rattle.passive_list.specs.Keepers.{states_of};
 ghost use Rattle.passive_list.specs.Links.{is_newer, newer_of, is_older, older_of, link_to, place_of};
 
 use crate::keeper::{KeptSlot, SlotState};
+use registry_values::MOST_SLOTS;
 
 /// A live entry: where it is, and its number.
 #[derive(Clone, Copy)]
@@ -15,23 +16,23 @@ pub(crate) struct At {
 }
 
 /// The link that leads to the live entry with the greatest number below `number`: its slot plus 1, or 0 where there is none.
-pub(crate) fn link_below(rows: &[KeptSlot; 32], number: u64) -> u64
+pub(crate) fn link_below(rows: &[KeptSlot; MOST_SLOTS], number: u64) -> u64
     ensures { LeadsBelow (states_of rows.now) number result }
 {
     let mut best = None;
-    for t in 0..32u8 {
+    for t in 0..MOST_SLOTS as u8 {
         best = newer_of(number, t, best, rows[t as usize].state);
     }
     link_to(best)
 }
 
 /// The slot of the live entry with the least number above `number`.
-pub(crate) fn slot_above(rows: &[KeptSlot; 32], number: u64) -> Option<u8>
+pub(crate) fn slot_above(rows: &[KeptSlot; MOST_SLOTS], number: u64) -> Option<u8>
     ensures before { IsBefore (states_of rows.now) number result }
     ensures place { IsLinkPlace result }
 {
     let mut best = None;
-    for t in 0..32u8 {
+    for t in 0..MOST_SLOTS as u8 {
         best = older_of(number, t, best, rows[t as usize].state);
     }
     place_of(best)

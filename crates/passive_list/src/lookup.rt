@@ -13,7 +13,7 @@ use crate::cpu::Cpu;
 use crate::place::Found;
 use crate::plain_cpu::PlainCpu;
 use cpu_words::{CpuSeat, Domain, Words, steps};
-use registry_values::{Entry, Key, Kind, Name, Record, are_words_of};
+use registry_values::{Entry, Key, Kind, MOST_CPUS, MOST_SLOTS, Name, Record, are_words_of};
 
 /// Above every number that an entry can have.
 const ABOVE_ALL: u64 = 1_000_001;
@@ -57,7 +57,7 @@ pub struct Seen {
 /// Keeps what a search found, and answers it. The entry is put together here, once and from words: it has bytes between its fields, and
 /// handing it on from call to call takes longer than the search.
 fn keep(found: &mut Found, seen: Option<Seen>, kind: Kind, name: Name) -> Option<Entry>
-    requires slot { IfSome seen (λ s. s.slot < 32) }
+    requires slot { IfSome seen (λ s. s.slot < MOST_SLOTS) }
     ensures kept { IsKept found.new result }
     ensures entry { result ≡ entry_seen (key_with kind name) seen }
 {
@@ -83,7 +83,7 @@ fn keep(found: &mut Found, seen: Option<Seen>, kind: Kind, name: Name) -> Option
 /// The whole search, by the CPU's seat.
 pub fn look_up(words: &Words, seat: &mut CpuSeat, cpu: u8, kind: Kind, name: Name) -> Option<Seen>
     requires table { seat.old.table ≡ words.now.table }
-    requires cpu { (cpu < 8) × (seat.old.view.id ≡ cpu) }
+    requires cpu { (cpu < MOST_CPUS) × (seat.old.view.id ≡ cpu) }
     requires may { MaySeek seat.old.view }
     ensures table { seat.new.table ≡ seat.old.table }
     ensures change { HasLookedUp (key_with kind name) seat.old.view seat.new.view (entry_seen (key_with kind name) result) }
@@ -120,8 +120,8 @@ fn visit(
     name: Name,
 ) -> (u64, bool)
     requires table { seat.old.table ≡ words.now.table }
-    requires cpu { (cpu < 8) × (seat.old.view.id ≡ cpu) }
-    requires slot { slot < 32 }
+    requires cpu { (cpu < MOST_CPUS) × (seat.old.view.id ≡ cpu) }
+    requires slot { slot < MOST_SLOTS }
     requires may { MayVisit seat.old.view (key_with kind name) slot }
     ensures table { seat.new.table ≡ seat.old.table }
     ensures change { HasVisited seat.old.view (key_with kind name) slot result.0 result.1 seat.new.view }

@@ -7,6 +7,7 @@ ghost use Rattle.passive_list.specs.Cpus.{HoldsFound};
 
 use crate::place::{Found, NumberedCount};
 use cpu_words::CpuSeat;
+use registry_values::MOST_SLOTS;
 use std::marker::Model;
 
 /// A virtual CPU of the table that its seat is of: the seat, and plain data that agree with what the seat knows. To a contract it is that
@@ -23,9 +24,9 @@ pub struct PlainCpu {
     /// The entry that its last lookup in the open section found.
     pub found: Found,
     /// By slot: its passive references.
-    pub passive: [NumberedCount; 32],
+    pub passive: [NumberedCount; MOST_SLOTS],
     /// By slot: its net count of local references, over the bias.
-    pub net: [NumberedCount; 32],
+    pub net: [NumberedCount; MOST_SLOTS],
 }
 
 impl Model for PlainCpu {
@@ -53,8 +54,8 @@ impl PlainCpu {
             ended: 0,
             depth: 0,
             found: Found::NONE,
-            passive: [NumberedCount::NONE; 32],
-            net: [NumberedCount::NONE; 32],
+            passive: [NumberedCount::NONE; MOST_SLOTS],
+            net: [NumberedCount::NONE; MOST_SLOTS],
         }
     }
 

@@ -15,7 +15,7 @@ ghost use Rattle.passive_list.specs.Publishing.{MayAttach, HasEntry, HasAttached
 use crate::keeper::{Keeper, KeptSlot, SlotState};
 use crate::links::link_below;
 use cpu_words::{KeeperSeat, Words, steps};
-use registry_values::{BIAS, Entry, Record, kind_word};
+use registry_values::{BIAS, Entry, MOST_CPUS, MOST_SLOTS, Record, kind_word};
 
 /// Publishes an entry in `slot`: from now on lookups find it, and the history ends with its attach. Its number is how many changes there
 /// are then. It answers the entry.
@@ -49,7 +49,7 @@ pub fn publish(words: &Words, keeper: &mut Keeper, slot: u8, rec: Record) -> Ent
 pub(crate) fn publish_entry(
     words: &Words,
     seat: &mut KeeperSeat,
-    rows: &[KeptSlot; 32],
+    rows: &[KeptSlot; MOST_SLOTS],
     entry: &Entry,
 )
     requires table { seat.old.table ≡ words.now.table }
@@ -68,7 +68,7 @@ fn prepare(words: &Words, seat: &mut KeeperSeat, entry: &Entry, cpus: u8, link: 
     requires table { seat.old.table ≡ words.now.table }
     requires may { MayWrite seat.old.view entry.now.slot }
     requires sized { AreSized seat.old.view.settings.slots seat.old.view }
-    requires fit { (seat.old.view.settings.slots ≤ 32) × (cpus ≡ seat.old.view.settings.cpus) × (cpus ≤ 8) }
+    requires fit { (seat.old.view.settings.slots ≤ MOST_SLOTS) × (cpus ≡ seat.old.view.settings.cpus) × (cpus ≤ MOST_CPUS) }
     ensures table { seat.new.table ≡ seat.old.table }
     ensures prepared { seat.new.view ≡ keeper_after_stores seat.old.view entry.now link }
 {
@@ -80,7 +80,7 @@ fn prepare(words: &Words, seat: &mut KeeperSeat, entry: &Entry, cpus: u8, link: 
 fn store_row(words: &Words, seat: &mut KeeperSeat, entry: &Entry)
     requires table { seat.old.table ≡ words.now.table }
     requires may { MayWrite seat.old.view entry.now.slot }
-    requires fit { seat.old.view.settings.slots ≤ 32 }
+    requires fit { seat.old.view.settings.slots ≤ MOST_SLOTS }
     ensures table { seat.new.table ≡ seat.old.table }
     ensures row { seat.new.view ≡ with_row seat.old.view entry.now.slot (words_of entry.now) }
 {
@@ -98,7 +98,7 @@ fn store_counts(words: &Words, seat: &mut KeeperSeat, slot: u8, cpus: u8)
     requires table { seat.old.table ≡ words.now.table }
     requires may { MayWrite seat.old.view slot }
     requires sized { AreSized seat.old.view.settings.slots seat.old.view }
-    requires fit { (seat.old.view.settings.slots ≤ 32) × (cpus ≡ seat.old.view.settings.cpus) × (cpus ≤ 8) }
+    requires fit { (seat.old.view.settings.slots ≤ MOST_SLOTS) × (cpus ≡ seat.old.view.settings.cpus) × (cpus ≤ MOST_CPUS) }
     ensures table { seat.new.table ≡ seat.old.table }
     ensures counts { seat.new.view ≡ with_counts seat.old.view slot cpus }
 {

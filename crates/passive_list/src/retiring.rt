@@ -12,7 +12,7 @@ ghost use Rattle.passive_list.specs.Retiring.{HasDetached, with_snapshots, AreSn
 use crate::keeper::{Keeper, KeptSlot, SlotState};
 use crate::links::{link_below, slot_above};
 use cpu_words::{KeeperSeat, Words, steps};
-use registry_values::{Entry, Mark, NO_MARK};
+use registry_values::{Entry, MOST_CPUS, Mark, NO_MARK};
 
 /// Retires the live entry in `slot`: from now on lookups that begin don't find it, the history ends with its detach, and a section that
 /// may hold it is one that is open at a snapshot. It answers the entry.
@@ -42,18 +42,18 @@ pub fn retire(words: &Words, keeper: &mut Keeper, slot: u8) -> Entry
 }
 
 /// Takes the snapshots of all CPUs, CPU 0 first, and answers the marks with them.
-fn snapshots(words: &Words, seat: &mut KeeperSeat, slot: u8, cpus: u8) -> [Mark; 8]
+fn snapshots(words: &Words, seat: &mut KeeperSeat, slot: u8, cpus: u8) -> [Mark; MOST_CPUS]
     requires table { seat.old.table ≡ words.now.table }
     requires due { seat.old.view.due ≡ Snapshots slot 0 }
     requires fresh { AreFresh seat.old.view slot }
     requires is_shown { IsShown seat.old.view }
-    requires fit { (cpus ≡ seat.old.view.settings.cpus) × (1 ≤ cpus) × (cpus ≤ 8) }
+    requires fit { (cpus ≡ seat.old.view.settings.cpus) × (1 ≤ cpus) × (cpus ≤ MOST_CPUS) }
     ensures table { seat.new.table ≡ seat.old.table }
     ensures marks { AreSnapshots cpus result }
     ensures view { seat.new.view ≡ with_snapshots seat.old.view slot result }
     ensures is_shown { IsShown seat.new.view }
 {
-    let mut marks = [NO_MARK; 8];
+    let mut marks = [NO_MARK; MOST_CPUS];
     for c in 0..cpus {
         let word = steps::snapshot(words, seat, slot, c);
         marks[c as usize] = Mark {

@@ -21,7 +21,7 @@ use crate::cpu::Cpu;
 use crate::lookup::look_up;
 use crate::plain_cpu::PlainCpu;
 use cpu_words::{CpuSeat, Domain, Words, steps};
-use registry_values::{Entry, Kind, Name, Record};
+use registry_values::{Entry, Kind, MOST_CPUS, MOST_SLOTS, Name, Record};
 
 /// What a walk notes of an entry as it goes by: its number, and the words of its kind and its name.
 #[derive(Clone, Copy)]
@@ -50,10 +50,10 @@ impl Noted {
 /// name, which replies what is written, and one for nobody. Where n entries stand on the list and none changes, the loads are
 /// 5 n (n + 5) / 2 + n + 2.
 /// Condition: inside.
-pub fn walk<D: Domain>(words: &Words, cpu: &mut Cpu<D>, row: &mut [Entry; 32]) -> usize
+pub fn walk<D: Domain>(words: &Words, cpu: &mut Cpu<D>, row: &mut [Entry; MOST_SLOTS]) -> usize
     requires words { AreWordsOf words.now D.table D.settings }
     requires inside { cpu.old.view.begin ≢ None }
-    ensures count { result ≤ 32 }
+    ensures count { result ≤ MOST_SLOTS }
     ensures walked { HasWalked cpu.old cpu.new (take result row.new) }
     ensures rest { drop result row.new ≡ drop result row.old }
 {
@@ -61,10 +61,10 @@ pub fn walk<D: Domain>(words: &Words, cpu: &mut Cpu<D>, row: &mut [Entry; 32]) -
 }
 
 /// `walk` on a CPU that names its own table. Conditions: the words are its table's; inside.
-pub fn walk_on(words: &Words, cpu: &mut PlainCpu, row: &mut [Entry; 32]) -> usize
+pub fn walk_on(words: &Words, cpu: &mut PlainCpu, row: &mut [Entry; MOST_SLOTS]) -> usize
     requires words { AreWordsOf words.now cpu.old.words.table cpu.old.words.settings }
     requires inside { cpu.old.cpu.view.begin ≢ None }
-    ensures count { result ≤ 32 }
+    ensures count { result ≤ MOST_SLOTS }
     ensures walked { HasWalked cpu.old.cpu cpu.new.cpu (take result row.new) }
     ensures rest { drop result row.new ≡ drop result row.old }
     ensures words { cpu.new.words ≡ cpu.old.words }
@@ -75,19 +75,19 @@ pub fn walk_on(words: &Words, cpu: &mut PlainCpu, row: &mut [Entry; 32]) -> usiz
 }
 
 /// The whole walk, by the CPU's seat. Its last search finds nothing, as its first: so the last found entry is cleared.
-fn go_over(words: &Words, seat: &mut CpuSeat, cpu: u8, row: &mut [Entry; 32]) -> usize
+fn go_over(words: &Words, seat: &mut CpuSeat, cpu: u8, row: &mut [Entry; MOST_SLOTS]) -> usize
     requires table { seat.old.table ≡ words.now.table }
-    requires cpu { (cpu < 8) × (seat.old.view.id ≡ cpu) }
+    requires cpu { (cpu < MOST_CPUS) × (seat.old.view.id ≡ cpu) }
     requires may { MaySeek seat.old.view }
     ensures table { seat.new.table ≡ seat.old.table }
-    ensures count { result ≤ 32 }
+    ensures count { result ≤ MOST_SLOTS }
     ensures change { HasGoneOver seat.old.view seat.new.view (take result row.new) }
     ensures is_shown { IsShownCpu seat.new.view }
     ensures rest { drop result row.new ≡ drop result row.old }
     ensures known_log { seat.new.known_log ≡ seat.old.known_log }
     ensures log { (noted : List Entry) × AreGoneBy seat.new.view.pass (length seat.old.view.pass) (length seat.new.view.pass) noted × HasGoneOverBy cpu seat.old.view.settings.slots noted (take result row.new) seat.old.log seat.new.log }
 {
-    let mut noted = [Noted::NONE; 32];
+    let mut noted = [Noted::NONE; MOST_SLOTS];
     let count = note_all(words, seat, cpu, &mut noted);
     let found = find_noted(words, seat, cpu, &noted[..count], row);
     look_up(words, seat, cpu, Kind::Iface, Name::of_words(0, 0));
@@ -95,12 +95,12 @@ fn go_over(words: &Words, seat: &mut CpuSeat, cpu: u8, row: &mut [Entry; 32]) ->
 }
 
 /// The first part: it notes each entry on the list, and answers how many they are.
-fn note_all(words: &Words, seat: &mut CpuSeat, cpu: u8, noted: &mut [Noted; 32]) -> usize
+fn note_all(words: &Words, seat: &mut CpuSeat, cpu: u8, noted: &mut [Noted; MOST_SLOTS]) -> usize
     requires table { seat.old.table ≡ words.now.table }
-    requires cpu { (cpu < 8) × (seat.old.view.id ≡ cpu) }
+    requires cpu { (cpu < MOST_CPUS) × (seat.old.view.id ≡ cpu) }
     requires may { MaySeek seat.old.view }
     ensures table { seat.new.table ≡ seat.old.table }
-    ensures count { result ≤ 32 }
+    ensures count { result ≤ MOST_SLOTS }
     ensures noted { HasNotedSoFar seat.old.view noted.new result 0 seat.new.view }
     ensures known_log { seat.new.known_log ≡ seat.old.known_log }
     ensures log { (once : SearchesOnce cpu seat.old.view.settings.slots nobody None seat.old.log seat.new.log) × (once.visited ≡ result) }
@@ -120,8 +120,8 @@ fn note_all(words: &Words, seat: &mut CpuSeat, cpu: u8, noted: &mut [Noted; 32])
 /// Loads the number, the kind and the name of a slot.
 fn note(words: &Words, seat: &mut CpuSeat, cpu: u8, slot: usize) -> Noted
     requires table { seat.old.table ≡ words.now.table }
-    requires cpu { (cpu < 8) × (seat.old.view.id ≡ cpu) }
-    requires slot { slot < 32 }
+    requires cpu { (cpu < MOST_CPUS) × (seat.old.view.id ≡ cpu) }
+    requires slot { slot < MOST_SLOTS }
     requires may { MayVisit seat.old.view nobody slot }
     ensures table { seat.new.table ≡ seat.old.table }
     ensures change { HasNoted seat.old.view slot result seat.new.view }
@@ -146,14 +146,14 @@ fn find_noted(
     seat: &mut CpuSeat,
     cpu: u8,
     noted: &[Noted],
-    row: &mut [Entry; 32],
+    row: &mut [Entry; MOST_SLOTS],
 ) -> usize
     requires table { seat.old.table ≡ words.now.table }
-    requires cpu { (cpu < 8) × (seat.old.view.id ≡ cpu) }
+    requires cpu { (cpu < MOST_CPUS) × (seat.old.view.id ≡ cpu) }
     requires may { MaySeek seat.old.view }
-    requires few { length noted.now ≤ 32 }
+    requires few { length noted.now ≤ MOST_SLOTS }
     ensures table { seat.new.table ≡ seat.old.table }
-    ensures count { result ≤ 32 }
+    ensures count { result ≤ MOST_SLOTS }
     ensures view { HaveSearched seat.old.view seat.new.view }
     ensures found { (es : List Entry) → AreNoted seat.old.view.pass noted.now es → HaveBeenFound seat.old.view es (take result row.new) seat.new.view }
     ensures rest { drop result row.new ≡ drop result row.old }
@@ -169,8 +169,8 @@ fn find_noted(
 }
 
 /// Writes what was found at the next place of the row. The answer is the place after it.
-fn write_next(row: &mut [Entry; 32], place: usize, found: Option<Entry>) -> usize
-    requires room { place < 32 }
+fn write_next(row: &mut [Entry; MOST_SLOTS], place: usize, found: Option<Entry>) -> usize
+    requires room { place < MOST_SLOTS }
     ensures { WritesNext found place row.old result row.new }
 {
     let Some(entry) = found else {
@@ -183,7 +183,7 @@ fn write_next(row: &mut [Entry; 32], place: usize, found: Option<Entry>) -> usiz
 /// Looks a noted entry up. The answer is `None` where that finds another one or none: then it was detached meanwhile.
 fn find_again(words: &Words, seat: &mut CpuSeat, cpu: u8, noted: Noted) -> Option<Entry>
     requires table { seat.old.table ≡ words.now.table }
-    requires cpu { (cpu < 8) × (seat.old.view.id ≡ cpu) }
+    requires cpu { (cpu < MOST_CPUS) × (seat.old.view.id ≡ cpu) }
     requires may { MaySeek seat.old.view }
     ensures table { seat.new.table ≡ seat.old.table }
     ensures change { (e : Entry) → noted ≡ noted_of e → IsAttached seat.old.view.pass e → HasFoundAgain seat.old.view e result seat.new.view }

@@ -6,6 +6,7 @@ use Rattle.std.specs.List.{Contains}
 use Rattle.atomic_table.specs.Seated.{TableId}
 use Rattle.registry_values.specs.declared.entry.Entry.{Entry}
 use Rattle.registry_values.specs.declared.settings.Settings.{Settings}
+use Rattle.registry_values.specs.declared.settings.TheConstants.{MOST_SLOTS}
 use Rattle.protocol.specs.History.{IsAttached}
 use Rattle.protocol.proofs.history.History.{at_within}
 use Rattle.cpu_words.specs.declared.view.CpuView.{CpuView}
@@ -20,7 +21,7 @@ use Rattle.passive_list.proofs.Agreeing.{net_same}
 use Rattle.passive_ref.proofs.Places.{place_of}
 
 -- the places of a CPU with p at t
-place_here : (ps : List NumberedCount) (t : ℕ) (p : NumberedCount) → length ps ≡ 32 → t < 32 → place_at (set ps t p) t ≡ p
+place_here : (ps : List NumberedCount) (t : ℕ) (p : NumberedCount) → length ps ≡ MOST_SLOTS → t < MOST_SLOTS → place_at (set ps t p) t ≡ p
 place_here ps t p size few = get_or-set_same ps t p no_place (omega (arith, size, few))
 
 place_other : (ps : List NumberedCount) (t u : ℕ) (p : NumberedCount) → u ≢ t → place_at (set ps t p) u ≡ place_at ps u
@@ -35,7 +36,7 @@ is_of : (x : CpuView) (e : Entry) (t n : ℕ) → IsAt e t n → IsAttached x.pa
 is_of x e t n at attached = record { entry = e; attached = attached; slot = at.slot; number = at.number }
 
 -- one reference more
-pub added_passive : (x : CpuView) (ps : List NumberedCount) (e : Entry) (t n m : ℕ) → PassiveAgree x ps → IsAt e t n → IsAttached x.pass e → t < 32 → IsAloneAt x t n → m ≡ references_to n x.references
+pub added_passive : (x : CpuView) (ps : List NumberedCount) (e : Entry) (t n m : ℕ) → PassiveAgree x ps → IsAt e t n → IsAttached x.pass e → t < MOST_SLOTS → IsAloneAt x t n → m ≡ references_to n x.references
     → PassiveAgree (record x { references = e ∷ x.references }) (set ps t (record { number = n; count = m + 1 }))
 added_passive x ps e t n m agree at attached few alone is = record { size = length-set ps t new ∙ agree.size; counts = counted; placed = placed; each = each }
   where
@@ -67,7 +68,7 @@ added_passive x ps e t n m agree at attached few alone is = record { size = leng
         subst (λ (p : NumberedCount). IsPlaceOf x.pass u p.number) (sym now) (agree.placed u (λ q. some (ap (λ (p : NumberedCount). p.number) now ∙ q))))
         (cases_eq u t)
 
-    later : (f : Entry) → Contains x.references f → (f.slot < 32) × IsAttached x.pass f × ((place_at (set ps t new) f.slot).number ≡ f.number) × (0 < f.number)
+    later : (f : Entry) → Contains x.references f → (f.slot < MOST_SLOTS) × IsAttached x.pass f × ((place_at (set ps t new) f.slot).number ≡ f.number) × (0 < f.number)
     later f among =
         let old = agree.each f among in
         let number : (place_at (set ps t new) f.slot).number ≡ f.number = ⊎_elim
@@ -76,7 +77,7 @@ added_passive x ps e t n m agree at attached few alone is = record { size = leng
         (cases_eq f.slot t) in
         (old.0, old.1, number, old.3)
 
-    first : (e.slot < 32) × IsAttached x.pass e × ((place_at (set ps t new) e.slot).number ≡ e.number) × (0 < e.number)
+    first : (e.slot < MOST_SLOTS) × IsAttached x.pass e × ((place_at (set ps t new) e.slot).number ≡ e.number) × (0 < e.number)
     first =
         let slot = at.slot in (
           omega (arith, few, slot),
@@ -85,9 +86,9 @@ added_passive x ps e t n m agree at attached few alone is = record { size = leng
           (at_within x.pass e.number _ attached).0,
         )
 
-    each : (f : Entry) → Contains (e ∷ x.references) f → (f.slot < 32) × IsAttached x.pass f × ((place_at (set ps t new) f.slot).number ≡ f.number) × (0 < f.number)
+    each : (f : Entry) → Contains (e ∷ x.references) f → (f.slot < MOST_SLOTS) × IsAttached x.pass f × ((place_at (set ps t new) f.slot).number ≡ f.number) × (0 < f.number)
     each f among = ⊎_elim
-        (λ (same : e ≡ f). subst (λ (h : Entry). (h.slot < 32) × IsAttached x.pass h × ((place_at (set ps t new) h.slot).number ≡ h.number) × (0 < h.number)) same first)
+        (λ (same : e ≡ f). subst (λ (h : Entry). (h.slot < MOST_SLOTS) × IsAttached x.pass h × ((place_at (set ps t new) h.slot).number ≡ h.number) × (0 < h.number)) same first)
         (λ (old : Contains x.references f). later f old)
         (in_cons e f x.references among)
 
@@ -99,7 +100,7 @@ less_passive x ps e t n agree at among = record { size = length-set ps t new ∙
     new : NumberedCount
     new = record { number = (place_at ps t).number; count = (place_at ps t).count - 1 }
 
-    few : t < 32
+    few : t < MOST_SLOTS
     few = let its = (agree.each e among).0 in let slot = at.slot in omega (arith, its, slot)
 
     here : place_at (set ps t new) t ≡ new
@@ -130,7 +131,7 @@ less_passive x ps e t n agree at among = record { size = length-set ps t new ∙
     placed : (u : ℕ) → (place_at (set ps t new) u).number ≢ 0 → IsPlaceOf x.pass u (place_at (set ps t new) u).number
     placed u some = subst (λ k. IsPlaceOf x.pass u k) (sym (same_number u)) (agree.placed u (λ q. some (same_number u ∙ q)))
 
-    each : (f : Entry) → Contains (without n x.references) f → (f.slot < 32) × IsAttached x.pass f × ((place_at (set ps t new) f.slot).number ≡ f.number) × (0 < f.number)
+    each : (f : Entry) → Contains (without n x.references) f → (f.slot < MOST_SLOTS) × IsAttached x.pass f × ((place_at (set ps t new) f.slot).number ≡ f.number) × (0 < f.number)
     each f left =
         let old = agree.each f (was_in n x.references f left) in
         (old.0, old.1, same_number f.slot ∙ old.2, old.3)
@@ -155,7 +156,7 @@ with_references z a t u x c w d o ps qs ns references our same is_shown agree = 
 
 -- a reference was added
 pub added_agrees : (z : TableId) (a : Settings) (t u : TableId) (x y : CpuView) (c w d : ℕ) (o : Found) (ps ns : List NumberedCount) (s n m : ℕ)
-    → IsOurCpu z a t x c w d o ps ns → u ≡ t → IsShownCpu y → HasAdded x s n y → s < 32 → IsAloneAt x s n → m ≡ references_to n x.references
+    → IsOurCpu z a t x c w d o ps ns → u ≡ t → IsShownCpu y → HasAdded x s n y → s < MOST_SLOTS → IsAloneAt x s n → m ≡ references_to n x.references
     → IsOurCpu z a u y c w d o (set ps s (record { number = n; count = m + 1 })) ns
 added_agrees z a t u x y c w d o ps ns s n m our same is_shown had few alone is = subst (λ (v : CpuView). IsOurCpu z a u v c w d o (set ps s (record { number = n; count = m + 1 })) ns) (sym had.3)
     (with_references z a t u x c w d o ps (set ps s (record { number = n; count = m + 1 })) ns (had.0 ∷ x.references) our same (subst IsShownCpu had.3 is_shown) (added_passive x ps had.0 s n m our.passive had.1 had.2 few alone is))

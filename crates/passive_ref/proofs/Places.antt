@@ -6,6 +6,7 @@ use Rattle.std.proofs.lemmas.List.Quantifiers.{position-Some}
 use Rattle.std.specs.Prelude.{position}
 use Rattle.std.specs.List.{Contains}
 use Rattle.registry_values.specs.declared.entry.Entry.{Entry}
+use Rattle.registry_values.specs.declared.settings.TheConstants.{MOST_SLOTS}
 use Rattle.protocol.specs.History.{IsAttached}
 use Rattle.protocol.proofs.history.History.{one_entry, at_within}
 use Rattle.protocol.proofs.slots.Numbers.{position_passes}
@@ -43,7 +44,7 @@ place_of x ps t e agree attached same =
     ap (λ (f : Entry). f.slot) one ∙ here.slot
 
 -- a place that counts for n is the slot of an entry that the CPU refers to
-pub held_at : (x : CpuView) (ps : List NumberedCount) (n t : ℕ) → PassiveAgree x ps → t < 32 → (place_at ps t).number ≡ n → 0 < (place_at ps t).count → IsHeldAt x t n
+pub held_at : (x : CpuView) (ps : List NumberedCount) (n t : ℕ) → PassiveAgree x ps → t < MOST_SLOTS → (place_at ps t).number ≡ n → 0 < (place_at ps t).count → IsHeldAt x t n
 held_at x ps n t agree few number some =
     let count = agree.counts t ∙ ap (λ k. references_to k x.references) number in
     let one = some_of n x.references (omega (arith, some, count)) in

@@ -6,6 +6,7 @@ use Rattle.registry_values.specs.declared.entry.Record.{Record}
 use Rattle.registry_values.specs.declared.refusal.Refusal.{Refusal}
 use Rattle.registry_values.specs.declared.refusal.Refusal.TheVariants.{NothingFound}
 use Rattle.registry_values.specs.Answers as answers
+use Rattle.registry_values.specs.declared.settings.TheConstants.{MOST_SLOTS}
 use Rattle.protocol.specs.declared.event.Event.TheVariants.{LoadRecord, PassiveAdd, PassiveSub}
 use Rattle.protocol.specs.declared.event.RecordOf.TheVariants.{Passive}
 use Rattle.protocol.specs.declared.event.Reply.TheVariants.{Word}
@@ -80,14 +81,14 @@ pub record IsHeldAt (x : CpuView) (t n : ℕ) : Type 0 where
   pub at : IsAt entry t n
   pub held : Contains x.references entry
   pub attached : IsAttached x.pass entry
-  pub few : t < 32
+  pub few : t < MOST_SLOTS
 
 -- the CPU found the entry n of the slot t last, or refers to it
 pub record MayRefer (x : CpuView) (t n : ℕ) : Type 0 where
   pub entry : Entry
   pub at : IsAt entry t n
   pub known : (x.found ≡ Some entry) ⊎ Contains x.references entry
-  pub few : t < 32
+  pub few : t < MOST_SLOTS
 
 -- the place counts references to n
 abbrev pub counts_for : ℕ → NumberedCount → Bool

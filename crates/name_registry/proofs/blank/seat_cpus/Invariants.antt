@@ -2,9 +2,10 @@ use Rattle.std.proofs.Common.{◌≡◌, ◌+◌, ◌≤◌, ◌++◌, length, v
 use Rattle.std.specs.Vec.Iter.{into_iter_items}
 use Rattle.name_registry.specs.Opening.{AreNewCpus}
 use Rattle.name_registry.proofs.blank.seat_cpus.Given as goal
+use Rattle.registry_values.specs.declared.settings.TheConstants.{MOST_CPUS}
 
 -- the seats so far have their CPUs, and the list has room for the others; each has a part of the ledger
 abbrev pub invariant-loop-seat : goal.invariant-loop-seat
 invariant-loop-seat g l = (l.fn.seats.items ≡ l.yielded ++ into_iter_items l.seat-iterator) × AreNewCpus g.D.Domain.settings (length l.yielded) l.cpus.items
     × (vec_len l.cpus ≡ length l.yielded) × (g.D.Domain.settings.cpus ≤ vec_capacity l.cpus)
-    × (l.shares.parts + length l.yielded ≡ 8) × (l.shares.amount ≡ 0)
+    × (l.shares.parts + length l.yielded ≡ MOST_CPUS) × (l.shares.amount ≡ 0)

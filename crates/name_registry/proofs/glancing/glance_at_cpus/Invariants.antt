@@ -1,6 +1,7 @@
 use Rattle.std.proofs.Common.{◌≡◌, ◌≤◌, ℕ, length}
 use Rattle.name_registry.specs.Performing.{GlancesBelow, is_seen, looking}
 use Rattle.name_registry.proofs.glancing.glance_at_cpus.Given as goal
+use Rattle.registry_values.specs.declared.settings.TheConstants.{MOST_CPUS}
 
 -- the CPUs so far were glanced at, and of the others is known what was
 abbrev pub invariant-loop-cpu : goal.invariant-loop-cpu
@@ -8,6 +9,6 @@ invariant-loop-cpu l = record {
   words : l.keeper.words ≡ l.fn.keeper.words;
   slots : l.keeper.keeper.slots ≡ l.fn.keeper.keeper.slots;
   looks : GlancesBelow l.snapshots l.fn.seen l.seen l.cpu (looking l.fn.keeper.keeper) (looking l.keeper.keeper);
-  size : length l.seen ≡ 8;
+  size : length l.seen ≡ MOST_CPUS;
   later : (c : ℕ) → l.cpu ≤ c → is_seen l.seen c ≡ is_seen l.fn.seen c;
 }

@@ -1,7 +1,8 @@
 use Rattle.std.proofs.Common.{◌≡◌, ◌<◌, ℕ, None, length, slice_index_or}
 use Rattle.registry_values.specs.Slots.{retired_number, slot_at}
+use Rattle.registry_values.specs.declared.settings.TheConstants.{MOST_SLOTS}
 use Rattle.name_registry.proofs.glancing.retired_numbers.Given as goal
 
 -- the numbers of the slots so far are there
 abbrev pub invariant-loop-slot : goal.invariant-loop-slot
-invariant-loop-slot l = (length l.numbers ≡ 32) × ((t : ℕ) → t < l.slot → slice_index_or l.numbers t None ≡ retired_number (slot_at l.keeper.keeper.slots t))
+invariant-loop-slot l = (length l.numbers ≡ MOST_SLOTS) × ((t : ℕ) → t < l.slot → slice_index_or l.numbers t None ≡ retired_number (slot_at l.keeper.keeper.slots t))

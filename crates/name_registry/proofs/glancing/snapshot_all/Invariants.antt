@@ -1,6 +1,7 @@
 use Rattle.std.proofs.Common.{◌≡◌, length}
 use Rattle.name_registry.specs.Performing.{SnapshotsBelow, looking}
 use Rattle.name_registry.proofs.glancing.snapshot_all.Given as goal
+use Rattle.registry_values.specs.declared.settings.TheConstants.{MOST_CPUS}
 
 -- the snapshots of the CPUs so far are taken
 abbrev pub invariant-loop-cpu : goal.invariant-loop-cpu
@@ -8,5 +9,5 @@ invariant-loop-cpu l = record {
   words : l.keeper.words ≡ l.fn.keeper.words;
   slots : l.keeper.keeper.slots ≡ l.fn.keeper.keeper.slots;
   looks : SnapshotsBelow l.snapshots l.cpu (looking l.fn.keeper.keeper) (looking l.keeper.keeper);
-  size : length l.snapshots ≡ 8;
+  size : length l.snapshots ≡ MOST_CPUS;
 }

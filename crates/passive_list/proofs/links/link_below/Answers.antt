@@ -4,9 +4,10 @@ use Rattle.passive_list.specs.Keepers.{states_of}
 use Rattle.passive_list.specs.Links.{link_to}
 use Rattle.passive_list.proofs.Leading.{newest_to, newest_leads}
 use Rattle.passive_list.proofs.links.link_below.Goals as goal
+use Rattle.registry_values.specs.declared.settings.TheConstants.{MOST_SLOTS}
 
 pub returns : goal.returns
 returns c =
     let rows = c.args.rows.now in
-    let end : c.loop-t.t ≡ 32 = omega (arith, c.loop-t.auto.t-end, c.loop-t-test.false) in
+    let end : c.loop-t.t ≡ MOST_SLOTS = omega (arith, c.loop-t.auto.t-end, c.loop-t-test.false) in
     subst (LeadsBelow (states_of rows) c.args.number) (sym (c.link_to.ensures ∙ ap link_to (c.loop-t.invariant ∙ ap (newest_to rows c.args.number) end))) (newest_leads rows c.args.number c.told-rows)

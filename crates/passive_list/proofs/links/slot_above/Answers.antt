@@ -4,15 +4,16 @@ use Rattle.passive_list.specs.Keepers.{states_of}
 use Rattle.passive_list.specs.Links.{place_of}
 use Rattle.passive_list.proofs.Leading.{oldest_to, oldest_before}
 use Rattle.passive_list.proofs.links.slot_above.Goals as goal
+use Rattle.registry_values.specs.declared.settings.TheConstants.{MOST_SLOTS}
 
 pub returns-clause-before : goal.returns-clause-before
 returns-clause-before c =
     let rows = c.args.rows.now in
-    let end : c.loop-t.t ≡ 32 = omega (arith, c.loop-t.auto.t-end, c.loop-t-test.false) in
+    let end : c.loop-t.t ≡ MOST_SLOTS = omega (arith, c.loop-t.auto.t-end, c.loop-t-test.false) in
     subst (IsBefore (states_of rows) c.args.number) (sym (c.place_of.ensures ∙ ap place_of (c.loop-t.invariant ∙ ap (oldest_to rows c.args.number) end))) (oldest_before rows c.args.number c.told-rows).0
 
 pub returns-clause-place : goal.returns-clause-place
 returns-clause-place c =
     let rows = c.args.rows.now in
-    let end : c.loop-t.t ≡ 32 = omega (arith, c.loop-t.auto.t-end, c.loop-t-test.false) in
+    let end : c.loop-t.t ≡ MOST_SLOTS = omega (arith, c.loop-t.auto.t-end, c.loop-t-test.false) in
     subst IsLinkPlace (sym (c.place_of.ensures ∙ ap place_of (c.loop-t.invariant ∙ ap (oldest_to rows c.args.number) end))) (oldest_before rows c.args.number c.told-rows).1

@@ -1,5 +1,6 @@
 use Rattle.std.proofs.Common.{◌≡◌, ◌≤◌, List, length, take, drop}
 use Rattle.registry_values.specs.declared.entry.Entry.{Entry}
+use Rattle.registry_values.specs.declared.settings.TheConstants.{MOST_SLOTS}
 use Rattle.passive_list.specs.Searches.{LooksUpEach}
 use Rattle.passive_list.specs.Noting.{AreNoted, HaveSearched, HaveBeenFound}
 use Rattle.passive_list.proofs.walks.find_noted.Given as goal
@@ -12,7 +13,7 @@ invariant-loop-entry l = record {
   known_log : l.seat.known_log ≡ l.fn.seat.known_log;
   log : (es : List Entry) → AreNoted l.fn.seat.view.pass l.noted es → LooksUpEach l.cpu l.fn.seat.view.settings.slots (take l.entry-index es) (take l.count l.row) l.fn.seat.log l.seat.log;
   few : l.count ≤ l.entry-index;
-  size : length l.row ≡ 32;
+  size : length l.row ≡ MOST_SLOTS;
   view : HaveSearched l.fn.seat.view l.seat.view;
   found : (es : List Entry) → AreNoted l.fn.seat.view.pass l.noted es → HaveBeenFound l.fn.seat.view (take l.entry-index es) (take l.count l.row) l.seat.view;
   rest : drop l.count l.row ≡ drop l.count l.fn.row;

@@ -3,6 +3,7 @@ use Rattle.passive_list.specs.Searches.{nobody, HasSearchedFor}
 use Rattle.passive_list.specs.Noting.{HasNotedSoFar}
 use Rattle.passive_list.proofs.Searches.{EndsAtLink}
 use Rattle.passive_list.proofs.walks.note_all.Given as goal
+use Rattle.registry_values.specs.declared.settings.TheConstants.{MOST_SLOTS}
 
 -- the slots so far are noted, and the link leads to the next one
 abbrev pub invariant-loop-link : goal.invariant-loop-link
@@ -12,10 +13,10 @@ invariant-loop-link l = record {
   known_log : l.seat.known_log ≡ l.fn.seat.known_log;
   log : HasSearchedFor l.cpu nobody l.count l.fn.seat.log l.seat.log;
   ends : EndsAtLink l.cpu l.link l.seat.log;
-  few : l.count ≤ 32;
-  size : length l.noted ≡ 32;
+  few : l.count ≤ MOST_SLOTS;
+  size : length l.noted ≡ MOST_SLOTS;
   noted : HasNotedSoFar l.fn.seat.view l.noted l.count l.link l.seat.view;
 }
 
 abbrev pub decreases-loop-link : goal.decreases-loop-link
-decreases-loop-link l = 32 - l.count
+decreases-loop-link l = MOST_SLOTS - l.count

@@ -5,6 +5,7 @@ use Rattle.cpu_words.proofs.shown.KeepersShown.{seated_is_shown}
 use Rattle.passive_list.specs.Keepers.{IsAtRest, RowsAgree}
 use Rattle.passive_list.proofs.Rows.{first_row, new_at_rest, new_rows}
 use Rattle.passive_list.proofs.keeper.Keeper.of_seat.Goals as goal
+use Rattle.registry_values.specs.declared.settings.TheConstants.{MOST_SLOTS}
 
 pub invariant_of-result : goal.invariant_of-result
 invariant_of-result c =
@@ -13,5 +14,5 @@ invariant_of-result c =
       view = subst (IsAtRest a) (sym c.requires.new) (new_at_rest a c.requires.fit);
       is_shown = subst IsShown (sym c.requires.new) (seated_is_shown a c.requires.fit a.cpus (omega arith));
       changes = sym (ap (λ (k : KeeperView). length k.history) c.requires.new);
-      rows = subst (λ k. RowsAgree a k (replicate 32 first_row)) (sym c.requires.new) (new_rows a c.requires.fit);
+      rows = subst (λ k. RowsAgree a k (replicate MOST_SLOTS first_row)) (sym c.requires.new) (new_rows a c.requires.fit);
     }

@@ -4,10 +4,11 @@ use Rattle.cpu_words.specs.declared.view.CpuView.{CpuView}
 use Rattle.passive_list.specs.Cpus.{IsOurCpu, no_place, no_found}
 use Rattle.passive_list.proofs.Agreeing.{new_agrees, own_agrees}
 use Rattle.passive_list.proofs.plain_cpu.PlainCpu.of_seat.Goals as goal
+use Rattle.registry_values.specs.declared.settings.TheConstants.{MOST_SLOTS}
 
 pub invariant_of-result : goal.invariant_of-result
 invariant_of-result c =
     let t = c.args.seat.table in
     let a = c.args.seat.view.settings in
     let new = new_agrees t a t c.args.id refl c.requires.fit.0 c.requires.fit.1 in
-    own_agrees _ _ _ _ _ _ _ _ _ _ (subst (λ (v : CpuView). IsOurCpu t a t v c.args.id 0 0 no_found (replicate 32 no_place) (replicate 32 no_place)) (sym c.requires.new) new)
+    own_agrees _ _ _ _ _ _ _ _ _ _ (subst (λ (v : CpuView). IsOurCpu t a t v c.args.id 0 0 no_found (replicate MOST_SLOTS no_place) (replicate MOST_SLOTS no_place)) (sym c.requires.new) new)
