@@ -13,6 +13,7 @@ use Rattle.registry_values.specs.declared.slot.Slot.{Slot}
 use Rattle.registry_values.specs.declared.slot.Slot.TheVariants.{Vacant, Live, Retired}
 use Rattle.registry_values.specs.Balances.{Tally, less_bias, sum_of}
 use Rattle.registry_values.specs.Slots.{slot_at}
+use Rattle.registry_values.specs.declared.settings.TheConstants.{MOST_CPUS}
 use Rattle.protocol.specs.Invariant.{IsIn}
 use Rattle.protocol.specs.State.{total_at}
 use Rattle.passive_list.specs.Cpus.{OnCpu, OnPlainCpu}
@@ -45,7 +46,7 @@ all_cpus n cs all = record {
 
 -- those of the first c CPUs are there, and zeros past them
 pub record AreLocals (k : OnKeeper) (t n : ℕ) (cs : List (Option OnPlainCpu)) (c : ℕ) (locals : List ℤ) : Type 0 where
-  pub size : length locals ≡ 8
+  pub size : length locals ≡ MOST_CPUS
   pub value : take c locals ≡ map (local_met k t n) (take c (cpus_in cs))
   pub cut : (i : ℕ) → c ≤ i → get_or locals i (pos 0) ≡ pos 0
   pub range : (i : ℕ) → (neg_ℤ (pos (2 ^ 50)) ≤ℤ get_or locals i (pos 0)) × (get_or locals i (pos 0) ≤ℤ pos (2 ^ 50))
@@ -56,15 +57,15 @@ same_all (suc n) zero x = refl
 same_all (suc n) (suc i) x = same_all n i x
 
 -- of no CPU yet
-pub none_local : (k : OnKeeper) (t n : ℕ) (cs : List (Option OnPlainCpu)) → AreLocals k t n cs 0 (replicate 8 (pos 0))
+pub none_local : (k : OnKeeper) (t n : ℕ) (cs : List (Option OnPlainCpu)) → AreLocals k t n cs 0 (replicate MOST_CPUS (pos 0))
 none_local k t n cs = record {
   size = refl;
   value = refl;
-  cut = λ i past. same_all 8 i (pos 0);
-  range = λ i. subst (λ (y : ℤ). (neg_ℤ (pos (2 ^ 50)) ≤ℤ y) × (y ≤ℤ pos (2 ^ 50))) (sym (same_all 8 i (pos 0))) (omega (arith, ints), omega (arith, ints));
+  cut = λ i past. same_all MOST_CPUS i (pos 0);
+  range = λ i. subst (λ (y : ℤ). (neg_ℤ (pos (2 ^ 50)) ≤ℤ y) × (y ≤ℤ pos (2 ^ 50))) (sym (same_all MOST_CPUS i (pos 0))) (omega (arith, ints), omega (arith, ints));
 }
 
-pub locals_more : (k : OnKeeper) (t n : ℕ) (cs : List (Option OnPlainCpu)) (c : ℕ) (locals : List ℤ) (b : OnPlainCpu) (z : ℤ) → c < 8 → c < length cs → body_at cs c ≡ Some b → z ≡ local_met k t n b.cpu
+pub locals_more : (k : OnKeeper) (t n : ℕ) (cs : List (Option OnPlainCpu)) (c : ℕ) (locals : List ℤ) (b : OnPlainCpu) (z : ℤ) → c < MOST_CPUS → c < length cs → body_at cs c ≡ Some b → z ≡ local_met k t n b.cpu
     → (neg_ℤ (pos (2 ^ 50)) ≤ℤ z) × (z ≤ℤ pos (2 ^ 50)) → AreLocals k t n cs c locals → AreLocals k t n cs (c + 1) (set locals c z)
 locals_more k t n cs c locals b z few within at is range so_far =
     let f = local_met k t n in

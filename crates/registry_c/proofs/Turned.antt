@@ -5,6 +5,7 @@ use Rattle.std.proofs.lemmas.List.{get_or_past}
 use Rattle.registry_values.specs.declared.refusal.Refusal.{Refusal}
 use Rattle.registry_values.specs.declared.settings.Settings.{Settings}
 use Rattle.registry_values.specs.declared.stage.Stage.{Stage}
+use Rattle.registry_values.specs.declared.settings.TheConstants.{MOST_CPUS, MOST_SLOTS}
 use Rattle.cpu_words.specs.declared.view.LogItem.{LogItem}
 use Rattle.cpu_words.specs.declared.view.KeeperView.{KeeperView}
 use Rattle.passive_list.specs.declared.keeper.KeptSlot.{KeptSlot}
@@ -36,16 +37,16 @@ advances_for_by number k l c d r same made stage turn = record {
 }
 
 -- past the last there is no number
-named_by : {log : List LogItem} (a : Settings) (k : KeeperView) (rows : List KeptSlot) (n : ℕ) (s : Settings) (m b : OnKeeper) (x y : OnCpu) (snapshots : List ℕ) (numbers : List (Option ℕ)) → length numbers ≡ 32
+named_by : {log : List LogItem} (a : Settings) (k : KeeperView) (rows : List KeptSlot) (n : ℕ) (s : Settings) (m b : OnKeeper) (x y : OnCpu) (snapshots : List ℕ) (numbers : List (Option ℕ)) → length numbers ≡ MOST_SLOTS
     → IsOurKeeper a k rows n → record { view = k; slots = states_of rows; log = log } ≡ m → HasBegun s m x snapshots numbers b y → (t j : ℕ) → get_or numbers t None ≡ Some j → 0 < j
 named_by a k rows n s m b x y snapshots numbers size our is begun t j at = ⊎_elim
-    (λ (lt : t < 32). numbered a k rows n m t j our is (sym (begun.numbers t lt) ∙ at))
-    (λ (past : 32 ≤ t). absurd (let q : ◌≡◌ {A = Option ℕ} None (Some j) = sym (get_or_past numbers t None (omega (arith, size, past))) ∙ at in cc))
-    (cases_lt t 32)
+    (λ (lt : t < MOST_SLOTS). numbered a k rows n m t j our is (sym (begun.numbers t lt) ∙ at))
+    (λ (past : MOST_SLOTS ≤ t). absurd (let q : ◌≡◌ {A = Option ℕ} None (Some j) = sym (get_or_past numbers t None (omega (arith, size, past))) ∙ at in cc))
+    (cases_lt t MOST_SLOTS)
 
-pub begins_by : {log : List LogItem} (a : Settings) (view : KeeperView) (rows : List KeptSlot) (n : ℕ) (k l : OnPlainKeeper) (c d : OnPlainCpu) (snapshots : List ℕ) (numbers : List (Option ℕ)) (retired : List ℕ) → length numbers ≡ 32
+pub begins_by : {log : List LogItem} (a : Settings) (view : KeeperView) (rows : List KeptSlot) (n : ℕ) (k l : OnPlainKeeper) (c d : OnPlainCpu) (snapshots : List ℕ) (numbers : List (Option ℕ)) (retired : List ℕ) → length numbers ≡ MOST_SLOTS
     → IsOurKeeper a view rows n → record { view = view; slots = states_of rows; log = log } ≡ k.keeper → KeepsWords k c l d → HasBegun k.words.settings k.keeper c.cpu snapshots numbers l.keeper d.cpu → retired ≡ map number_or_none numbers
-    → Begins k c l d (record { snapshots = snapshots; retired = retired; seen = replicate 8 0; begun = BEGUN })
+    → Begins k c l d (record { snapshots = snapshots; retired = retired; seen = replicate MOST_CPUS 0; begun = BEGUN })
 begins_by a view rows n k l c d snapshots numbers retired size our at same begun out = record {
   numbers = numbers;
   begun = begun;

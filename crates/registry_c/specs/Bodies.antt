@@ -4,6 +4,7 @@ use Rattle.atomic_table.specs.Seated.{TableId}
 use Rattle.cpu_words.specs.declared.view.ReferenceView.{ReferenceView}
 use Rattle.registry_c.specs.declared.values.CEntry.{CEntry}
 use Rattle.registry_c.specs.Values.{entry_out}
+use Rattle.registry_values.specs.declared.settings.TheConstants.{MOST_SLOTS}
 
 -- a local reference, and its table
 pub record OnLocalBody : Type 0 where
@@ -20,4 +21,4 @@ pub record IsOurLocal (v : ReferenceView) (e : CEntry) (b : ℕ) : Type 0 where
   pub entry : e ≡ entry_out v.entry
   pub back : b ≡ back_word v.collected
   pub begun : 0 < v.entry.number
-  pub few : v.entry.slot < 32
+  pub few : v.entry.slot < MOST_SLOTS

@@ -13,6 +13,7 @@ use Rattle.registry_values.specs.Names.{name_of_words}
 use Rattle.registry_values.specs.Refusals.{number_of_refusal}
 use Rattle.registry_values.specs.declared.stage.Stage.TheVariants.{Freed}
 use Rattle.registry_values.specs.Stages.{destroy_result, destroy_result_of}
+use Rattle.registry_values.specs.declared.settings.TheConstants.{MOST_CPUS}
 use Rattle.cpu_words.specs.declared.view.LogItem.{LogItem}
 use Rattle.cpu_words.specs.KeeperLog.{IsFreedFrom}
 use Rattle.passive_list.specs.Cpus.{OnCpu, OnPlainCpu}
@@ -133,7 +134,7 @@ pub record Begins (k : OnPlainKeeper) (c : OnPlainCpu) (k' : OnPlainKeeper) (c' 
   pub retired : new.retired ≡ map number_or_none numbers
   -- no entry has the number that stands for none
   pub named : (t n : ℕ) → slice_index_or numbers t None ≡ Some n → 0 < n
-  pub seen : new.seen ≡ replicate 8 0
+  pub seen : new.seen ≡ replicate MOST_CPUS 0
   -- by this a turn tells it from one that was never begun
   pub marked : new.begun ≡ BEGUN
   pub words : KeepsWords k c k' c'

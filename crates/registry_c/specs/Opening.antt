@@ -9,6 +9,7 @@ use Rattle.registry_values.specs.declared.settings.Settings.{Settings}
 use Rattle.registry_values.specs.declared.slot.Slot.TheVariants.{Vacant}
 use Rattle.registry_values.specs.Limits.{are_fit}
 use Rattle.registry_values.specs.Refusals.{number_of_refusal}
+use Rattle.registry_values.specs.declared.settings.TheConstants.{MOST_SLOTS}
 use Rattle.cpu_words.specs.Opening.{keeper_with}
 use Rattle.cpu_words.specs.Views.{Named, new_cpu}
 use Rattle.cpu_words.specs.declared.view.LogItem.{LogItem}
@@ -26,7 +27,7 @@ opened_cpu w c = record { words = w; cpu = record { view = new_cpu w.settings c;
 
 -- its keeper: all slots are vacant, and there was no change; the log is of the seats that it gave the CPUs
 abbrev pub opened_keeper : Named → List LogItem → OnPlainKeeper
-opened_keeper w log = record { words = w; keeper = record { view = keeper_with w.settings w.settings.cpus; slots = replicate 32 Vacant; log = log } }
+opened_keeper w log = record { words = w; keeper = record { view = keeper_with w.settings w.settings.cpus; slots = replicate MOST_SLOTS Vacant; log = log } }
 
 -- the last k of n CPUs, the greatest first
 abbrev pub opened_down : Named → ℕ → ℕ → List OnPlainCpu

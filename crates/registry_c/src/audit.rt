@@ -24,7 +24,7 @@ use cpu_words::{NoteSeat, Words};
 use held::CHandle;
 use name_registry::local_on;
 use passive_list::{Keeper, hear_keeper_on, tell_keeper_on};
-use registry_values::{Refusal, Slot, less_bias, sum};
+use registry_values::{MOST_CPUS, MOST_SLOTS, Refusal, Slot, less_bias, sum};
 
 /// What the counts say of the local references to a live or retired entry.
 #[repr(C)]
@@ -33,7 +33,7 @@ pub struct CBalance {
     pub number: u64,
     pub slot: u64,
     pub held: i64,
-    pub locals: [i64; 8],
+    pub locals: [i64; MOST_CPUS],
     pub total: i64,
 }
 
@@ -252,7 +252,7 @@ fn write_next(
     at: usize,
 ) -> usize
     requires all { AreAllHere keeper.now.words.settings.cpus (bodies_of cpus.old) }
-    requires slot { t < 32 }
+    requires slot { t < MOST_SLOTS }
     requires room { (e : Entry) → IsIn e (slot_at keeper.now.keeper.slots t) → at < length list.old }
     ensures cpus { bodies_of cpus.new ≡ bodies_of cpus.old }
     ensures next { WritesNext keeper.now.words.settings keeper.now.keeper (bodies_of cpus.old) t at list.old result list.new }
@@ -287,16 +287,16 @@ fn balance(keeper: &Keeper, cpus: &mut [CpuHandle], t: u8, number: u64) -> CBala
 }
 
 /// Of each CPU its net count for the entry, and zeros past the last.
-fn locals(keeper: &Keeper, cpus: &mut [CpuHandle], t: u8, number: u64) -> [i64; 8]
+fn locals(keeper: &Keeper, cpus: &mut [CpuHandle], t: u8, number: u64) -> [i64; MOST_CPUS]
     requires all { AreAllHere keeper.now.words.settings.cpus (bodies_of cpus.old) }
-    requires few { keeper.now.words.settings.cpus ≤ 8 }
-    requires entry { (t < 32) × (0 < number) }
+    requires few { keeper.now.words.settings.cpus ≤ MOST_CPUS }
+    requires entry { (t < MOST_SLOTS) × (0 < number) }
     ensures cpus { bodies_of cpus.new ≡ bodies_of cpus.old }
     ensures value { take keeper.now.words.settings.cpus result ≡ locals_met keeper.now.keeper (cpus_in (bodies_of cpus.old)) t number }
     ensures cut { (c : ℕ) → keeper.now.words.settings.cpus ≤ c → get_or result c (pos 0) ≡ pos 0 }
     ensures range { (c : ℕ) → (neg_ℤ (pos (2 ^ 50)) ≤ℤ get_or result c (pos 0)) × (get_or result c (pos 0) ≤ℤ pos (2 ^ 50)) }
 {
-    let mut locals = [0; 8];
+    let mut locals = [0; MOST_CPUS];
     for c in 0..keeper.settings().cpus {
         let at = c as usize;
         locals[at] = local(keeper, &mut cpus[at], t, number);
@@ -307,7 +307,7 @@ fn locals(keeper: &Keeper, cpus: &mut [CpuHandle], t: u8, number: u64) -> [i64; 
 /// One CPU's net count for the entry.
 fn local(keeper: &Keeper, cpu: &mut CpuHandle, t: u8, number: u64) -> i64
     requires cpu { (b : OnPlainCpu) × (cpu.old.body ≡ Some b) }
-    requires entry { (t < 32) × (0 < number) }
+    requires entry { (t < MOST_SLOTS) × (0 < number) }
     ensures same { cpu.new.body ≡ cpu.old.body }
     ensures value { (b : OnPlainCpu) → cpu.old.body ≡ Some b → result ≡ local_met keeper.now.keeper t number b.cpu }
     ensures range { (neg_ℤ (pos (2 ^ 50)) ≤ℤ result) × (result ≤ℤ pos (2 ^ 50)) }

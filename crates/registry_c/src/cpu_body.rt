@@ -22,7 +22,7 @@ use passive_list::{
     walk_on,
 };
 use passive_ref::{Psref, acquire_on, copy_on, held_on, read_entry_on, release_on};
-use registry_values::{Entry, Kind, Name, Refusal};
+use registry_values::{Entry, Kind, MOST_SLOTS, Name, Refusal};
 use std::alloc::{AllocError, Global};
 use std::marker::Model;
 use std::sync::Arc;
@@ -180,16 +180,16 @@ impl CpuBody {
         requires outside { self.old.cpu.depth ≡ 0 }
         requires room { AreSpent self.old.cpu.view → ⊥ }
         ensures found { HasFoundFromOutside (key_with kind name) self.old.cpu self.new.cpu (entry_seen (key_with kind name) result) }
-        ensures slot { IfSome result (λ seen. seen.slot < 32) }
+        ensures slot { IfSome result (λ seen. seen.slot < MOST_SLOTS) }
         ensures words { self.new.words ≡ self.old.words }
     {
         find_from_outside(&self.words, &mut self.cpu, kind, name)
     }
 
     /// Walks over all entries, and answers how many it wrote. Condition: inside.
-    pub fn walk(&mut self, row: &mut [Entry; 32]) -> usize
+    pub fn walk(&mut self, row: &mut [Entry; MOST_SLOTS]) -> usize
         requires inside { self.old.cpu.view.begin ≢ None }
-        ensures count { result ≤ 32 }
+        ensures count { result ≤ MOST_SLOTS }
         ensures walked { HasWalked self.old.cpu self.new.cpu (take result row.new) }
         ensures words { self.new.words ≡ self.old.words }
     {

@@ -14,7 +14,7 @@ use cpu_words::steps::load_local;
 use cpu_words::{ReferenceSeat, Words};
 use local_count::{PlainRef, acquire_local_on, net_count, try_release_on};
 use passive_list::PlainCpu;
-use registry_values::{BIAS, Kind, Refusal, kind_word, why_uncounted};
+use registry_values::{BIAS, Kind, MOST_SLOTS, Refusal, kind_word, why_uncounted};
 use std::alloc::Global;
 use std::marker::Model;
 use std::mem::ManuallyDrop;
@@ -98,7 +98,7 @@ impl LocalBody {
     /// The slot of its entry, from 0.
     pub fn slot(&self) -> u8
         ensures slot { result ≡ self.now.reference.entry.slot }
-        ensures few { result < 32 }
+        ensures few { result < MOST_SLOTS }
     {
         self.entry.slot as u8
     }

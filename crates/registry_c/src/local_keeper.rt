@@ -13,7 +13,7 @@ use crate::place::EntryPlace;
 use crate::values::{BAD_NAME, CName, DONE, NOT_COLLECTED, NULL, entry_out, refused};
 use local_count::release_under_on;
 use passive_list::Keeper;
-use registry_values::{Kind, Name, Record, is_retired_as};
+use registry_values::{Kind, MOST_SLOTS, Name, Record, is_retired_as};
 
 /// Releases the reference under the interlock, where a count of its entry was collected. It comes back where none was.
 /// Condition: both are of one registry.
@@ -43,7 +43,7 @@ fn spend(keeper: &mut KeeperBody, local: LocalBody) -> (u32, Option<LocalBody>)
 
 /// Whether the entry with this number is retired in the slot, and the count of some CPU was collected for it.
 fn are_collected(keeper: &Keeper, slot: u8, number: u64) -> bool
-    requires { slot < 32 }
+    requires { slot < MOST_SLOTS }
     ensures { result ≡ are_collected_for keeper.now.keeper slot number keeper.now.words.settings.cpus }
 {
     let cpus = keeper.settings().cpus;

@@ -5,7 +5,7 @@ ghost use Rattle.registry_values.specs.Limits.{are_fit};
 ghost use Rattle.registry_values.specs.Refusals.{number_of_refusal};
 ghost use Rattle.registry_c.specs.Values.{entry_out, fault_of, kind_in, name_in, name_out, number_of, settings_in, settings_out, stage_out};
 
-use registry_values::{Entry, Kind, Name, NameFault, Refusal, Settings, Stage, kind_word};
+use registry_values::{Entry, Kind, MOST_CPUS, MOST_SLOTS, Name, NameFault, Refusal, Settings, Stage, kind_word};
 
 /// Done. Numbers 1 to 19 are those of the refusals (`Refusal::number`).
 pub const DONE: u32 = 0;
@@ -128,7 +128,7 @@ pub fn settings_in(given: &CSettings) -> Result<Settings, Refusal>
     ensures ok { IfOk result (λ settings. settings ≡ settings_in given.now) }
     ensures err { IfErr result (λ refusal. (refusal ≡ Refusal.BadSettings) × (are_fit (settings_in given.now) ≡ false)) }
 {
-    if given.cpus > 8 || given.slots > 32 {
+    if given.cpus > MOST_CPUS as u64 || given.slots > MOST_SLOTS as u64 {
         return Err(Refusal::BadSettings);
     }
     Ok(Settings {

@@ -3,6 +3,8 @@
 ghost use Rattle.std.specs.Prelude.{◌≡◌, map};
 ghost use Rattle.registry_c.specs.Flags.{flag_of, is_begun, is_set, none_or_number, number_or_none};
 
+use registry_values::{MOST_CPUS, MOST_SLOTS};
+
 /// What stands in a wait that was begun: a number that no caller writes by chance.
 pub const BEGUN: u64 = 0x9d3f_51c6_a87b_e204;
 
@@ -10,9 +12,9 @@ pub const BEGUN: u64 = 0x9d3f_51c6_a87b_e204;
 #[repr(C)]
 #[derive(Drop)]
 pub struct CWait {
-    pub snapshots: [u64; 8],
-    pub retired: [u64; 32],
-    pub seen: [u64; 8],
+    pub snapshots: [u64; MOST_CPUS],
+    pub retired: [u64; MOST_SLOTS],
+    pub seen: [u64; MOST_CPUS],
     /// `BEGUN` from its beginning on.
     pub begun: u64,
 }
@@ -25,10 +27,10 @@ pub fn is_begun(wait: &CWait) -> bool
 }
 
 /// The numbers of entries, to C: 0 for none.
-pub fn numbers_out(numbers: &[Option<u64>; 32]) -> [u64; 32]
+pub fn numbers_out(numbers: &[Option<u64>; MOST_SLOTS]) -> [u64; MOST_SLOTS]
     ensures { result ≡ map number_or_none numbers.now }
 {
-    let mut out = [0; 32];
+    let mut out = [0; MOST_SLOTS];
     for t in 0..32usize {
         out[t] = number_or_none(numbers[t]);
     }
@@ -36,10 +38,10 @@ pub fn numbers_out(numbers: &[Option<u64>; 32]) -> [u64; 32]
 }
 
 /// The numbers of entries, from C.
-pub fn numbers_in(numbers: &[u64; 32]) -> [Option<u64>; 32]
+pub fn numbers_in(numbers: &[u64; MOST_SLOTS]) -> [Option<u64>; MOST_SLOTS]
     ensures { result ≡ map none_or_number numbers.now }
 {
-    let mut out = [None; 32];
+    let mut out = [None; MOST_SLOTS];
     for t in 0..32usize {
         out[t] = none_or_number(numbers[t]);
     }
@@ -47,10 +49,10 @@ pub fn numbers_in(numbers: &[u64; 32]) -> [Option<u64>; 32]
 }
 
 /// Who was seen, to C: 1 for each that was.
-pub fn seen_out(seen: &[bool; 8]) -> [u64; 8]
+pub fn seen_out(seen: &[bool; MOST_CPUS]) -> [u64; MOST_CPUS]
     ensures { result ≡ map flag_of seen.now }
 {
-    let mut out = [0; 8];
+    let mut out = [0; MOST_CPUS];
     for c in 0..8usize {
         out[c] = flag_of(seen[c]);
     }
@@ -58,10 +60,10 @@ pub fn seen_out(seen: &[bool; 8]) -> [u64; 8]
 }
 
 /// Who was seen, from C: each whose number isn't 0.
-pub fn seen_in(seen: &[u64; 8]) -> [bool; 8]
+pub fn seen_in(seen: &[u64; MOST_CPUS]) -> [bool; MOST_CPUS]
     ensures { result ≡ map is_set seen.now }
 {
-    let mut out = [false; 8];
+    let mut out = [false; MOST_CPUS];
     for c in 0..8usize {
         out[c] = seen[c] != 0;
     }

@@ -7,6 +7,7 @@ use crate::cpu_body::CpuBody;
 use crate::keeper_body::KeeperBody;
 use crate::wait::{BEGUN, CWait, numbers_in, numbers_out, seen_in, seen_out};
 use name_registry::{begin, glance_at_all, pass_all};
+use registry_values::MOST_CPUS;
 
 /// Begins a wait. The keeper hears first what the CPU knows, and at the end the CPU hears what the keeper did.
 /// Condition: both are of one registry.
@@ -20,7 +21,7 @@ pub fn begin_body(body: &mut KeeperBody, cpu: &mut CpuBody, wait: &mut CWait)
     let (snapshots, numbers) = begin(words, keeper, &mut cpu.cpu);
     wait.snapshots = snapshots;
     wait.retired = numbers_out(&numbers);
-    wait.seen = [0; 8];
+    wait.seen = [0; MOST_CPUS];
     wait.begun = BEGUN;
 }
 

@@ -12,7 +12,7 @@ use crate::place::NumberPlace;
 use crate::rows::EntriesPlace;
 use crate::values::{CEntry, DONE, EMPTY_HANDLE, NO_ROOM, NULL, OUTSIDE, entry_out};
 use held::CHandle;
-use registry_values::{Entry, Kind, Name, Record};
+use registry_values::{Entry, Kind, MOST_SLOTS, Name, Record};
 
 /// `registry_walk` of the header.
 #[unsafe(no_mangle)]
@@ -57,7 +57,7 @@ fn walk(cpu: &mut CpuBody, row: &mut [CEntry], count: &mut NumberPlace) -> u32
     if !cpu.inside() {
         return OUTSIDE;
     }
-    let mut walked = [no_entry(); 32];
+    let mut walked = [no_entry(); MOST_SLOTS];
     let met = cpu.walk(&mut walked);
     count.put(met as u64);
     if row.len() < met {

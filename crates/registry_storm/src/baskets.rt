@@ -9,6 +9,7 @@ use cpu_words::Domain;
 use local_count::LocalRef;
 use name_registry::Registry;
 use passive_list::Cpu;
+use registry_values::MOST_CPUS;
 use std::sync::{Mutex, Wait};
 
 /// A local reference in a basket.
@@ -25,7 +26,7 @@ type Basket<D> = Mutex<Option<Laid<D>>>;
 /// A place for each CPU that there may be, each under a lock of its own, which is held only to exchange what lies there. They can't be
 /// dropped: what lies in them is spent by `empty`.
 pub struct Baskets<D: Domain> {
-    places: [Basket<D>; 8],
+    places: [Basket<D>; MOST_CPUS],
 }
 
 impl<D: Domain> Baskets<D> {
@@ -47,14 +48,14 @@ impl<D: Domain> Baskets<D> {
 
     /// Lays the reference into a place, from 0, and takes out what lay there.
     pub fn exchange<R: Wait>(&self, rt: &R, place: u8, laid: Laid<D>) -> Option<Laid<D>>
-        requires { place < 8 }
+        requires { place < MOST_CPUS }
     {
         self.places[place as usize].lock(rt).replace(laid)
     }
 
     /// Takes out what lies in a place, from 0.
     pub fn take<R: Wait>(&self, rt: &R, place: u8) -> Option<Laid<D>>
-        requires { place < 8 }
+        requires { place < MOST_CPUS }
     {
         self.places[place as usize].lock(rt).take()
     }

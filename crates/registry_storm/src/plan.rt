@@ -5,7 +5,7 @@ ghost use Rattle.registry_values.specs.Names.{is_lawful, name_of_bytes};
 ghost use Rattle.registry_storm.specs.Judging.{driver_entry, driver_record, iface_record, IsIfaceOf};
 ghost use Rattle.registry_storm.specs.Storms.{settings_of};
 
-use registry_values::{Entry, Kind, Name, Record, Refusal, Settings};
+use registry_values::{Entry, Kind, MOST_CPUS, Name, Record, Refusal, Settings};
 
 /// How many slots the registry of a storm has.
 pub const SLOTS: u8 = 4;
@@ -24,7 +24,7 @@ pub struct Plan {
     pub driver: Name,
     /// The name of each interface in turn.
     pub iface: Name,
-    ghost some: { (1 ≤ cpus) × (cpus ≤ 8) × (1 ≤ turns) × (turns ≤ 100000) },
+    ghost some: { (1 ≤ cpus) × (cpus ≤ MOST_CPUS) × (1 ≤ turns) × (turns ≤ 100000) },
     ghost names: { (name_of_bytes (100 ∷ 114 ∷ 118 ∷ []) ≡ Ok driver) × (name_of_bytes (119 ∷ 109 ∷ 48 ∷ []) ≡ Ok iface) },
     ghost lawful: { IsTrue (is_lawful driver) × IsTrue (is_lawful iface) },
 }
@@ -32,7 +32,7 @@ pub struct Plan {
 impl Plan {
     /// The plan of a storm over the driver `drv` and the interface `wm0`.
     pub fn new(cpus: u8, turns: u32) -> Plan
-        requires { (1 ≤ cpus) × (cpus ≤ 8) × (1 ≤ turns) × (turns ≤ 100000) }
+        requires { (1 ≤ cpus) × (cpus ≤ MOST_CPUS) × (1 ≤ turns) × (turns ≤ 100000) }
         ensures { (result.cpus ≡ cpus) × (result.turns ≡ turns) }
     {
         let (Ok(driver), Ok(iface)) = (Name::parse(b"drv"), Name::parse(b"wm0")) else {

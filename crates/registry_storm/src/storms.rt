@@ -16,6 +16,7 @@ use cpu_words::Domain;
 use name_registry::{Blank, Registry};
 use passive_list::Cpu;
 use registry_language::RunFault;
+use registry_values::MOST_CPUS;
 use std::alloc::Global;
 use std::marker::Brand;
 use std::sync::Wait;
@@ -44,7 +45,7 @@ pub fn storm<R: Threads + Wait + Sync, G: Gate + Sync>(
     turns: u32,
     gate: &G,
 ) -> Result<StormSum, RunFault>
-    requires cpus { (1 ≤ cpus) × (cpus ≤ 8) }
+    requires cpus { (1 ≤ cpus) × (cpus ≤ MOST_CPUS) }
     requires turns { (1 ≤ turns) × (turns ≤ 100000) }
     ensures ok { IfOk result (λ sum. IsSumOf cpus turns sum) }
     ensures err { IfErr result IsOfStorm }
@@ -65,7 +66,7 @@ pub fn storm_run<R: Threads + Wait + Sync, G: Gate + Sync>(
     value: u64,
     gate: &G,
 ) -> Result<StormRun, RunFault>
-    requires cpus { (1 ≤ cpus) × (cpus ≤ 8) }
+    requires cpus { (1 ≤ cpus) × (cpus ≤ MOST_CPUS) }
     requires turns { (1 ≤ turns) × (turns ≤ 100000) }
     ensures ok { IfOk result (λ run. IsSumOf cpus turns run.sum) }
     ensures err { IfErr result IsOfStorm }

@@ -6,9 +6,8 @@ ghost use Rattle.run_tasks.specs.Asking.{task_of, engine_named, storm_asked, wit
 ghost use Rattle.run_tasks.specs.Doing.{IsPossible};
 
 use registry_script::{Engine, parse_number};
+use registry_values::MOST_CPUS;
 
-/// The most virtual CPUs of a storm.
-const MOST_CPUS: u64 = 8;
 /// The most turns of a storm.
 const MOST_TURNS: u64 = 100_000;
 

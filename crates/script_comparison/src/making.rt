@@ -26,7 +26,7 @@ const TOO_DEEP: u32 = 256;
 const FEW_NAMES: usize = 3;
 
 /// The slots of a registry that is to be full, and how many of them may be vacant still.
-const MANY_SLOTS: usize = 32;
+const MANY_SLOTS: usize = MOST_SLOTS;
 
 const VACANT: usize = 9;
 

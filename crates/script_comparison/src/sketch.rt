@@ -1,6 +1,8 @@
 //! What the lines of a script so far leave: enough to choose lines that the registry can carry out. Where it is wrong, a line is refused, and
 //! nothing else comes of it.
 
+use registry_values::{MOST_CPUS, MOST_SLOTS};
+
 /// What a command leaves.
 #[derive(Clone, Copy, PartialEq)]
 pub enum Effect {
@@ -55,7 +57,7 @@ impl Line {
 }
 
 /// The names of drivers, which are those of interfaces too.
-pub const NAMES: usize = 32;
+pub const NAMES: usize = MOST_SLOTS;
 
 /// All kinds with all names: drivers from 0, interfaces from `NAMES` on.
 const KEYS: usize = 64;
@@ -110,11 +112,11 @@ pub struct Sketch {
     /// How many of the names the script has.
     names: usize,
     changes: usize,
-    depth: [u8; 8],
+    depth: [u8; MOST_CPUS],
     /// How many changes there were when the section began.
-    entered: [usize; 8],
-    found: [usize; 8],
-    rows: [Row; 32],
+    entered: [usize; MOST_CPUS],
+    found: [usize; MOST_CPUS],
+    rows: [Row; MOST_SLOTS],
     held: [Hold; 3],
     counted: [usize; 3],
 }
@@ -149,10 +151,10 @@ impl Sketch {
             slots,
             names,
             changes: 0,
-            depth: [0; 8],
-            entered: [0; 8],
-            found: [0; 8],
-            rows: [Row::VACANT; 32],
+            depth: [0; MOST_CPUS],
+            entered: [0; MOST_CPUS],
+            found: [0; MOST_CPUS],
+            rows: [Row::VACANT; MOST_SLOTS],
             held: [Hold::NONE; 3],
             counted: [0; 3],
         }
@@ -213,7 +215,7 @@ impl Sketch {
         Some(())
     }
 
-    fn cpu_among(&self, flags: [bool; 8], start: usize) -> Option<usize> {
+    fn cpu_among(&self, flags: [bool; MOST_CPUS], start: usize) -> Option<usize> {
         place_with(flags.get(..self.cpus)?, start)
     }
 

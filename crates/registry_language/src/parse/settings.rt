@@ -9,7 +9,7 @@ use crate::command::Command;
 use crate::fault::Cause;
 use crate::position::{Position, settings_for, with_limits};
 use crate::words::number;
-use registry_values::Settings;
+use registry_values::{MOST_CPUS, MOST_SLOTS, Settings};
 
 #[tactic(auto, unfolding(crate::specs::Grammar::domain_of))]
 pub fn domain(arguments: &[&[u8]]) -> Result<Command, Cause>
@@ -29,7 +29,7 @@ fn sized(cpus: u64, slots: u64) -> Result<Command, Cause>
     ensures said { result ≡ fit_command (settings_for cpus slots) (Command.Domain cpus slots) }
     ensures follows { IfOk result (λ command. IsTrue (may_follow Position.First command)) }
 {
-    if cpus > 8 || slots > 32 {
+    if cpus > MOST_CPUS as u64 || slots > MOST_SLOTS as u64 {
         return Err(Cause::BadSettings);
     }
     let cpus = cpus as u8;

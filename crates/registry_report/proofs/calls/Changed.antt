@@ -34,6 +34,7 @@ use Rattle.protocol.proofs.slots.Occupied.{is_vacant_tells, in_other, in_unpubli
 use Rattle.protocol.proofs.model.Picturing.{unwritten}
 use Rattle.protocol.proofs.model.RefiningEntries.{passive_moved}
 use Rattle.registry_values.specs.Answers.{found_answer}
+use Rattle.registry_values.specs.declared.settings.TheConstants.{MOST_CPUS}
 use Rattle.registry_report.specs.Answers.{attach_answer, attach_iface_answer, detach_answer, command_answer, lookup_now, plug_answer, with_label}
 use Rattle.registry_report.specs.declared.hitch.Hitch.{Hitch}
 use Rattle.registry_report.specs.declared.hitch.Hitch.TheVariants.{Refused}
@@ -195,7 +196,7 @@ detached_by s r c e None holds later on at = record {
   model = detached_model s r c e holds on at later.slots;
   sections = on.sections;
   live = detach_counts s.core.history s.core.slots e.slot e (in_within s.core.slots e.slot e (inl at)) at on.live;
-  grace = detached_follows s r e (replicate 8 no_mark) (snapshot_row s.core) holds on at;
+  grace = detached_follows s r e (replicate MOST_CPUS no_mark) (snapshot_row s.core) holds on at;
   tallies = retired_tallies s.core.settings.cpus s.core.history s.core.slots s.core.counts s.core.nets s.core.totals r.acquired r.released r.given_up r.is_collected e.slot e at on.tallies;
   labels = on.labels;
 }
@@ -204,7 +205,7 @@ detached_by s r c e (Some p) holds later on at = record {
   model = detached_model s r c e holds on at later.slots;
   sections = on.sections;
   live = detach_counts s.core.history s.core.slots e.slot e (in_within s.core.slots e.slot e (inl at)) at on.live;
-  grace = detached_follows s r e (replicate 8 no_mark) (snapshot_row s.core) holds on at;
+  grace = detached_follows s r e (replicate MOST_CPUS no_mark) (snapshot_row s.core) holds on at;
   tallies = retired_tallies s.core.settings.cpus s.core.history s.core.slots s.core.counts s.core.nets s.core.totals r.acquired r.released r.given_up r.is_collected e.slot e at on.tallies;
   labels = on.labels;
 }

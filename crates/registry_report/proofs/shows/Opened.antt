@@ -7,6 +7,7 @@ use Rattle.registry_values.specs.declared.slot.Slot.TheVariants.{Vacant}
 use Rattle.protocol.specs.Invariant.{IsIn, one_if}
 use Rattle.protocol.specs.Picture.{number_in, passive_in}
 use Rattle.registry_values.specs.Slots.{slot_of, slot_at}
+use Rattle.registry_values.specs.declared.settings.TheConstants.{MOST_CPUS}
 use Rattle.protocol.specs.State.{opening}
 use Rattle.protocol.proofs.slots.Cells.{get_or_all}
 use Rattle.protocol.proofs.keeps.MarkKeeps.{none_live}
@@ -22,7 +23,7 @@ vacant_at n t = get_or_all n Vacant t
 nobody : (n t : ℕ) (e : Entry) → IsIn e (slot_at (replicate n Vacant) t) → ⊥
 nobody n t e is = not_vacant e (slot_at (replicate n Vacant) t) (vacant_at n t) is
 
-none_held : (z : Settings) (c n : ℕ) (o : Option ℕ) → slot_of (replicate z.slots Vacant) n ≡ o → 0 ≡ passive_in (replicate z.slots (replicate 8 0)) c o
+none_held : (z : Settings) (c n : ℕ) (o : Option ℕ) → slot_of (replicate z.slots Vacant) n ≡ o → 0 ≡ passive_in (replicate z.slots (replicate MOST_CPUS 0)) c o
 none_held z c n None at = refl
 none_held z c n (Some t) at = absurd (let has = slot_has (replicate z.slots Vacant) n t at in nobody z.slots t has.1.0 has.1.1)
 

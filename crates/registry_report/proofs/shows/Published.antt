@@ -15,6 +15,7 @@ use Rattle.protocol.specs.Invariant.{IsIn}
 use Rattle.registry_values.specs.Balances.{bias}
 use Rattle.registry_values.specs.Marks.{no_mark}
 use Rattle.registry_values.specs.Slots.{slot_at}
+use Rattle.registry_values.specs.declared.settings.TheConstants.{MOST_CPUS}
 use Rattle.protocol.proofs.slots.Cells.{cell_in_new, cell_in_old}
 use Rattle.protocol.proofs.history.History.{at_cases, length-after_change}
 use Rattle.protocol.proofs.keeps.ListKeeps.{live_count_put}
@@ -43,21 +44,21 @@ biases_at cpus c row lt = get_or_append_left (replicate cpus bias) (drop cpus ro
 
 -- the net counts of a new entry are those of none
 pub published_tallies : (cpus : ℕ) (h : List Change) (slots : List Slot) (counts nets : List (List ℕ)) (totals : List ℕ) (acquired released : ℕ → ℕ → ℕ) (given_up : ℕ → ℕ) (is_collected : ℕ → Bool) (e : Entry)
-    → cpus ≤ 8 → e.slot < length slots → length counts ≡ length slots → length nets ≡ length slots → slot_at slots e.slot ≡ Vacant → e.number ≡ suc (length h) → total_at totals e.slot ≡ bias
+    → cpus ≤ MOST_CPUS → e.slot < length slots → length counts ≡ length slots → length nets ≡ length slots → slot_at slots e.slot ≡ Vacant → e.number ≡ suc (length h) → total_at totals e.slot ≡ bias
     → ShowsTallies cpus h slots counts nets totals acquired released given_up is_collected
-    → ShowsTallies cpus (after_change h (Attach e)) (set slots e.slot (Live e)) (set counts e.slot (with_biases cpus (get_or counts e.slot []))) (set nets e.slot (replicate 8 bias)) totals acquired released given_up is_collected
+    → ShowsTallies cpus (after_change h (Attach e)) (set slots e.slot (Live e)) (set counts e.slot (with_biases cpus (get_or counts e.slot []))) (set nets e.slot (replicate MOST_CPUS bias)) totals acquired released given_up is_collected
 published_tallies cpus h slots counts nets totals acquired released given_up is_collected e few lt counts_size nets_size vacant number unused on =
     let row = with_biases cpus (get_or counts e.slot []) in
     let fresh : IsFresh acquired released given_up is_collected e.number = on.fresh e.number (omega arith) in
     let counted : (c : ℕ) → c < cpus → count_at (set counts e.slot row) c e.slot ≡ bias = λ c low. cell_in_new 0 counts e.slot row c (omega arith) ∙ biases_at cpus c (get_or counts e.slot []) low in
-    let net : (c : ℕ) → c < cpus → count_at (set nets e.slot (replicate 8 bias)) c e.slot ≡ bias = λ c low. cell_in_new 0 nets e.slot (replicate 8 bias) c (omega arith) ∙ get_or-replicate 8 c bias 0 (omega arith) in
+    let net : (c : ℕ) → c < cpus → count_at (set nets e.slot (replicate MOST_CPUS bias)) c e.slot ≡ bias = λ c low. cell_in_new 0 nets e.slot (replicate MOST_CPUS bias) c (omega arith) ∙ get_or-replicate MOST_CPUS c bias 0 (omega arith) in
     record {
-      net = λ t c f is low. by_published (λ u g. count_at (set nets e.slot (replicate 8 bias)) c u + released c g.number ≡ bias + acquired c g.number) slots e t f lt vacant is
+      net = λ t c f is low. by_published (λ u g. count_at (set nets e.slot (replicate MOST_CPUS bias)) c u + released c g.number ≡ bias + acquired c g.number) slots e t f lt vacant is
           (omega (arith, net c low, fresh.unreleased c, fresh.unacquired c))
-          (λ off was. ap (λ (w : ℕ). w + released c f.number) (cell_in_old 0 nets e.slot (replicate 8 bias) t c off) ∙ on.net t c f was low);
-      word = λ t c f is low. by_published (λ u g. is_collected g.number ≡ false → count_at (set counts e.slot row) c u ≡ count_at (set nets e.slot (replicate 8 bias)) c u) slots e t f lt vacant is
+          (λ off was. ap (λ (w : ℕ). w + released c f.number) (cell_in_old 0 nets e.slot (replicate MOST_CPUS bias) t c off) ∙ on.net t c f was low);
+      word = λ t c f is low. by_published (λ u g. is_collected g.number ≡ false → count_at (set counts e.slot row) c u ≡ count_at (set nets e.slot (replicate MOST_CPUS bias)) c u) slots e t f lt vacant is
           (λ uncollected. counted c low ∙ sym (net c low))
-          (λ off was uncollected. cell_in_old 0 counts e.slot row t c off ∙ (on.word t c f was low uncollected ∙ sym (cell_in_old 0 nets e.slot (replicate 8 bias) t c off)));
+          (λ off was uncollected. cell_in_old 0 counts e.slot row t c off ∙ (on.word t c f was low uncollected ∙ sym (cell_in_old 0 nets e.slot (replicate MOST_CPUS bias) t c off)));
       total = λ t f is. by_published (λ u g. is_collected g.number ≡ false → total_at totals u + given_up g.number ≡ bias) slots e t f lt vacant is
           (λ uncollected. omega (arith, unused, fresh.kept))
           (λ off was uncollected. on.total t f was uncollected);

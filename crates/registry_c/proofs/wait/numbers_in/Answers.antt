@@ -2,8 +2,9 @@ use Rattle.std.proofs.Common.{◌≡◌, ◌∙◌, arith, length, rules, sym, N
 use Rattle.registry_c.specs.Flags.{none_or_number}
 use Rattle.registry_c.proofs.Lists.{map_by_place}
 use Rattle.registry_c.proofs.wait.numbers_in.Goals as goal
+use Rattle.registry_values.specs.declared.settings.TheConstants.{MOST_SLOTS}
 
 pub returns : goal.returns
 returns c =
-    let size : length c.args.numbers.now ≡ 32 = search rules in
+    let size : length c.args.numbers.now ≡ MOST_SLOTS = search rules in
     map_by_place none_or_number c.args.numbers.now c.loop-t.out 0 None (c.loop-t.invariant.0 ∙ sym size) (λ k lt. c.loop-t.invariant.1 k (omega (arith, lt, size, c.loop-t-test.false)))
