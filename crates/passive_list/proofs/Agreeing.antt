@@ -86,9 +86,6 @@ net_same x y l met acquired released agree = record {
   most = agree.most;
 }
 
-as_shown : (y v : CpuView) → y ≡ v → IsShownCpu y → IsShownCpu v
-as_shown y v is shown = subst IsShownCpu is shown
-
 -- a section begins
 pub entered_agrees : (z : TableId) (a : Settings) (t u : TableId) (x y : CpuView) (c w d : ℕ) (e : Found) (ps ns : List NumberedCount)
     → IsOurCpu z a t x c w d e ps ns → IsShownCpu y → u ≡ t → d ≡ 0 → w < a.section_limit → HasEntered x y → IsOurCpu z a u y c w 1 e ps ns
@@ -110,7 +107,7 @@ entered_agrees z a t u x y c w d e ps ns our is_shown same shallow room had =
       found = our.found;
       passive = passive_longer x z0 ps refl longer our.passive;
       net = net_same x z0 ns refl refl refl our.net;
-      is_shown = as_shown y z0 had.1 is_shown;
+      is_shown = subst IsShownCpu had.1 is_shown;
     } in
     subst (λ (v : CpuView). IsOurCpu z a u v c w 1 e ps ns) (sym had.1) there
 
@@ -140,7 +137,7 @@ exited_agrees z a t u x y c w d e ps ns our is_shown same last had =
       found = refl;
       passive = passive_longer x z0 ps refl (([], append-nil x.pass)) our.passive;
       net = net_same x z0 ns refl refl refl our.net;
-      is_shown = as_shown y z0 had is_shown;
+      is_shown = subst IsShownCpu had is_shown;
     } in
     subst (λ (v : CpuView). IsOurCpu z a u v c (w + 1) 0 (record e { number = 0 }) ps ns) (sym had) there
 
@@ -162,7 +159,7 @@ seen_agrees z a t u x y c w d e k f ps ns h our is_shown same longer is kept =
       found = kept;
       passive = passive_longer x z0 ps refl longer our.passive;
       net = net_same x z0 ns refl refl refl our.net;
-      is_shown = as_shown y z0 is is_shown;
+      is_shown = subst IsShownCpu is is_shown;
     } in
     subst (λ (v : CpuView). IsOurCpu z a u v c w d k ps ns) (sym is) there
 

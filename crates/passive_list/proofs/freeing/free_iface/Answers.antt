@@ -1,6 +1,4 @@
 use Rattle.std.proofs.Common.{sym, ◌∙◌}
-use Rattle.protocol.specs.declared.event.Event.TheVariants.{KeptSub}
-use Rattle.protocol.specs.declared.event.Reply.TheVariants.{Done}
 use Rattle.cpu_words.proofs.shown.KeepersShown.{step_is_shown}
 use Rattle.passive_list.specs.Keepers.{row_at}
 use Rattle.passive_list.proofs.Rows.{keeper_is}

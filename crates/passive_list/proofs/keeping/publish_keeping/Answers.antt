@@ -2,8 +2,7 @@
 use Rattle.std.proofs.Common.{◌+◌, ◌<◌, ◌∙◌, List, sym, ap, subst, set}
 use Rattle.std.proofs.lemmas.List.{map-set}
 use Rattle.registry_values.specs.declared.entry.Entry.{Entry}
-use Rattle.protocol.specs.declared.event.Event.TheVariants.{Keep, Publish}
-use Rattle.protocol.specs.declared.event.Reply.TheVariants.{Done}
+use Rattle.protocol.specs.declared.event.Event.TheVariants.{Keep}
 use Rattle.registry_values.specs.declared.settings.Settings.{Settings}
 use Rattle.registry_values.specs.declared.slot.Slot.{Slot}
 use Rattle.registry_values.specs.declared.slot.Slot.TheVariants.{Live}
@@ -12,7 +11,7 @@ use Rattle.cpu_words.specs.declared.view.View.TheVariants.{Keeper, Reference}
 use Rattle.cpu_words.specs.Steps.{JoinsBy}
 use Rattle.cpu_words.proofs.shown.KeepersShown.{step_is_shown}
 use Rattle.passive_list.specs.Keepers.{OnKeeper, row_at, state_of, states_of}
-use Rattle.passive_list.specs.Publishing.{MayAttach, HasEntry, keeper_after_stores}
+use Rattle.passive_list.specs.Publishing.{MayAttach, HasEntry}
 use Rattle.passive_list.proofs.Rows.{keeper_is, settings_are}
 use Rattle.passive_list.proofs.Attached.{published_keeper, row_live}
 use Rattle.passive_list.specs.Draining.{HasAttachedKeeping}

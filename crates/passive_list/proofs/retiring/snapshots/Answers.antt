@@ -1,6 +1,4 @@
-use Rattle.std.proofs.Common.{◌∙◌, Some, arith}
-use Rattle.protocol.specs.declared.event.Event.TheVariants.{Snapshot}
-use Rattle.protocol.specs.declared.event.Reply.TheVariants.{Word}
+use Rattle.std.proofs.Common.{◌∙◌, arith}
 use Rattle.cpu_words.proofs.shown.KeepersShown.{step_is_shown}
 use Rattle.passive_list.proofs.Taking.{taking_next, one_taken}
 use Rattle.passive_list.proofs.retiring.snapshots.Goals as goal

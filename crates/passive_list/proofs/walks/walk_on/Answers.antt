@@ -1,6 +1,5 @@
 -- The data agree with the view as a walk is over.
-use Rattle.std.proofs.Common.{◌≡◌, ℕ, Option, Some, None, take, refl, sym, ap, ◌∙◌, subst}
-use Rattle.registry_values.specs.declared.entry.Entry.{Entry}
+use Rattle.std.proofs.Common.{◌≡◌, ℕ, Option, None, take, refl, sym, ap, ◌∙◌, subst}
 use Rattle.protocol.specs.declared.state.Search.{Search}
 use Rattle.passive_list.specs.Cpus.{OnCpu, OnPlainCpu}
 use Rattle.passive_list.specs.Searches.{HasGoneOverBy}
