@@ -1,5 +1,5 @@
 -- What becomes of the references that CPUs hold and of those that labels stand for, call by call.
-use Rattle.std.proofs.Common.{◌≡◌, ◌≢◌, ◌⊎◌, ⊎_elim, ℕ, zero, suc, ◌+◌, ◌-◌, ◌<◌, ◌≤◌, ◌==◌, ◌&&◌, Bool, true, false, cond, List, [], ◌∷◌, length, get_or, take, set, replicate, Option, Some, None, refl, sym, ap, ◌∙◌, subst, nat_lt, ℤ, pos, ◌-ℤ◌, arith}
+use Rattle.std.proofs.Common.{◌≡◌, ◌≢◌, ◌⊎◌, ⊎_elim, ℕ, zero, suc, ◌+◌, ◌-◌, ◌<◌, ◌≤◌, ◌==◌, ◌&&◌, Bool, true, false, cond, List, [], ◌∷◌, length, map, get_or, take, set, replicate, Option, Some, None, refl, sym, ap, ◌∙◌, subst, nat_lt, ℤ, pos, ◌-ℤ◌, arith}
 use mathlib.Core.Path.{subst₂}
 use Rattle.std.proofs.Math.Path.{fun_ext}
 use Rattle.std.proofs.lemmas.Bool.{cases_eq, cases_Bool, eq-eqb, ne_eqb, eqb-true, ltb-true, ltb-false, and_parts, false≢true}
@@ -22,7 +22,7 @@ use Rattle.passive_ref.specs.Psrefs.{GivesBack, HasOneLess, IsAcquired, IsNew, O
 use Rattle.registry_report.specs.declared.hitch.Hitch.{Hitch}
 use Rattle.registry_report.specs.declared.hitch.Hitch.TheVariants.{LabelTaken, NoLabel, Refused}
 use Rattle.registry_live.specs.Calls.{Decides, Has, hitch_of, unless_free, unless_taken}
-use Rattle.registry_live.specs.Labels.{HaveReleased, HoldTheSame, Lent, is_label_to, labels_to, references_at, unlabelled}
+use Rattle.registry_live.specs.Labels.{HaveReleased, HoldTheSame, Lent, StayInside, inside_of, is_label_to, labels_to, references_at, unlabelled}
 
 -- from the CPUs xs and the places ps to ys and qs: each CPU holds what it held beside what labels stand for
 abbrev pub Keeps : List OnCpu → List (Option OnPsref) → List OnCpu → List (Option OnPsref) → Type 0
@@ -211,6 +211,11 @@ lent s t u v slice same = λ i. lent_of (slice i) (same i)
 pub goes_on_same : (xs : List OnCpu) (c : ℕ) (d y : OnCpu) → y.view.references ≡ (get_or xs c d).view.references → HoldTheSame xs (set xs c y)
 goes_on_same xs c d y is = record { each = same_each xs c d y is }
 
+pub stays_inside : (xs : List OnCpu) (c : ℕ) (d y : OnCpu) → inside_of y ≡ inside_of (get_or xs c d) → StayInside xs (set xs c y)
+stays_inside [] c d y is = refl
+stays_inside (x ∷ xs) zero d y is = λ i. is i ∷ map inside_of xs
+stays_inside (x ∷ xs) (suc c) d y is = let rest = stays_inside xs c d y is in λ i. inside_of x ∷ rest i
+
 pub same_on : (xs ys zs : List OnCpu) → HoldTheSame xs ys → HoldTheSame ys zs → HoldTheSame xs zs
 same_on xs ys zs first second = record { each = λ c n. second.each c n ∙ first.each c n }
 
@@ -235,12 +240,12 @@ unfolding one_label
 single p c n = let all : labels_to (Some p ∷ []) c n ≡ cond (p.cpu == c && p.number == n) 1 0 + 0 = sum_by-cons (λ (o : Option OnPsref). cond (is_label_to c n o) 1 0) (Some p) [] in omega (arith, all)
 
 pub free_released : (xs : List OnCpu) → HaveReleased xs (None ∷ []) xs
-free_released xs = record { each = λ c n. let none : labels_to (None ∷ []) c n ≡ 0 = refl in omega (arith, none) }
+free_released xs = record { each = λ c n. let none : labels_to (None ∷ []) c n ≡ 0 = refl in omega (arith, none); inside = refl }
 
 -- a reference that its CPU doesn't hold: nothing is left to release
-unheld_released : (xs ys : List OnCpu) (p : OnPsref) → ((c n : ℕ) → references_at ys c n ≡ references_at xs c n) → references_at xs p.cpu p.number ≡ 0 → HaveReleased xs (Some p ∷ []) ys
+unheld_released : (xs ys : List OnCpu) (p : OnPsref) → ((c n : ℕ) → references_at ys c n ≡ references_at xs c n) → references_at xs p.cpu p.number ≡ 0 → StayInside xs ys → HaveReleased xs (Some p ∷ []) ys
 unfolding one_label
-unheld_released xs ys p same unheld = record { each = each }
+unheld_released xs ys p same unheld inside = record { each = each; inside = inside }
   where
     each : (c n : ℕ) → references_at ys c n ≡ references_at xs c n - labels_to (Some p ∷ []) c n
     each c n = ⊎_elim
@@ -257,7 +262,7 @@ unheld_released xs ys p same unheld = record { each = each }
         (cases_Bool (p.cpu == c && p.number == n))
 
 pub missing_released : (xs : List OnCpu) (p : OnPsref) → length xs ≤ p.cpu → HaveReleased xs (Some p ∷ []) xs
-missing_released xs p le = unheld_released xs xs p (λ c n. refl) (beyond_at xs p.cpu p.number le)
+missing_released xs p le = unheld_released xs xs p (λ c n. refl) (beyond_at xs p.cpu p.number le) refl
 
 -- where the reference's own CPU refused it, it holds none to that number
 unheld : (x : CpuView) (p : OnPsref) (f : Refusal) → x.id ≡ p.cpu → why_unusable x p ≡ Some f → references_to p.number x.references ≡ 0
@@ -279,10 +284,11 @@ own_released xs p d y (Ok done) few named is refused =
           let less = less_each xs p.cpu p.number d y few (ap (λ (u : OnCpu). u.view.references) is.1) some c n in
           let one = single p c n in
           omega (arith, less, one);
+      inside = stays_inside xs p.cpu d y (ap inside_of is.1);
     }
 own_released xs p d y (Err f) few named is refused =
     unheld_released xs (set xs p.cpu y) p (same_each xs p.cpu d y (ap (λ (u : OnCpu). u.view.references) refused))
-    (here_at xs p.cpu p.number d few ∙ unheld (get_or xs p.cpu d).view p f.0 named is.0)
+    (here_at xs p.cpu p.number d few ∙ unheld (get_or xs p.cpu d).view p f.0 named is.0) (stays_inside xs p.cpu d y (ap inside_of refused))
 
 -- the same of the reference in a place
 pub place_released : {X : Type 0} (m : ℕ) (xs : List OnCpu) (n : ℕ) (x y : OnCpu) (p : OnPsref) (place : Option OnPsref) (answer : Result X (Refusal × OnPsref)) → AreAllCpus m xs → n < length xs → x ≡ get_or xs n x → place ≡ Some p → n ≡ p.cpu
@@ -300,11 +306,11 @@ pub place_free : (xs : List OnCpu) (place : Option OnPsref) → place ≡ None �
 place_free xs place free = subst (λ (o : Option OnPsref). HaveReleased xs (o ∷ []) xs) (sym free) (free_released xs)
 
 pub none_left : (xs : List OnCpu) (ps : List (Option OnPsref)) → HaveReleased xs (take 0 ps) xs
-none_left xs ps = record { each = λ c n. let none : labels_to (take 0 ps) c n ≡ 0 = refl in omega (arith, none) }
+none_left xs ps = record { each = λ c n. let none : labels_to (take 0 ps) c n ≡ 0 = refl in omega (arith, none); inside = refl }
 
 -- the first k places and then the next one
 pub released_next : (xs ys zs : List OnCpu) (ps : List (Option OnPsref)) (k : ℕ) (place : Option OnPsref) → k < length ps → HaveReleased xs (take k ps) ys → HaveReleased ys (place ∷ []) zs → place ≡ get_or ps k place → HaveReleased xs (take (k + 1) ps) zs
-released_next xs ys zs ps k place lt first next is = record { each = each }
+released_next xs ys zs ps k place lt first next is = record { each = each; inside = next.inside ∙ first.inside }
   where
     more : (c n : ℕ) → labels_to (take (k + 1) ps) c n ≡ labels_to (take k ps) c n + cond (is_label_to c n place) 1 0
     more c n = ⊎_elim
@@ -328,6 +334,13 @@ released_next xs ys zs ps k place lt first next is = record { each = each }
 
 pub all_released : (xs ys : List OnCpu) (ps : List (Option OnPsref)) → length ps ≡ 26 → HaveReleased xs (take 26 ps) ys → HaveReleased xs ps ys
 all_released xs ys ps size first = subst (λ (l : List (Option OnPsref)). HaveReleased xs l ys) (take-length ps) (subst (λ (n : ℕ). HaveReleased xs (take n ps) ys) (sym size) first)
+
+-- what the CPUs hold stayed before the places were emptied, and so did their sections
+pub released_later : (xs ys zs : List OnCpu) (ps : List (Option OnPsref)) → HoldTheSame xs ys → StayInside xs ys → HaveReleased ys ps zs → HaveReleased xs ps zs
+released_later xs ys zs ps same inside released = record {
+  each = λ c n. released.each c n ∙ ap (λ (k : ℕ). k - labels_to ps c n) (same.each c n);
+  inside = released.inside ∙ inside;
+}
 
 -- at the end each CPU holds what it held as the run began
 pub given_back : (before xs after : List OnCpu) (ps : List (Option OnPsref)) → unlabelled xs ps ≡ unlabelled before (replicate 26 None) → HaveReleased xs ps after → HoldTheSame before after

@@ -1,3 +1,4 @@
 pub mod AllCpus
 pub mod Labelled
+pub mod LetGo
 pub mod LiveCpus

@@ -1,5 +1,5 @@
 -- The calls of a session over a running registry: why a command has no answer, and what stands in a label's place.
-use Rattle.std.specs.Prelude.{◌≡◌, ℕ, Bool, List, slice_set, true, false, Option, Some, None, Result, Ok, Err, if◌then◌else◌}
+use Rattle.std.specs.Prelude.{◌≡◌, ℕ, Bool, List, [], ◌∷◌, slice_set, true, false, Option, Some, None, Result, Ok, Err, if◌then◌else◌}
 use mathlib.Core.Option.{some}
 use lib.ListN.{get_elem?}
 use Rattle.registry_values.specs.declared.refusal.Refusal.{Refusal}
@@ -12,6 +12,7 @@ use Rattle.name_registry.specs.Destroying.{DestroysOutside}
 use Rattle.name_registry.specs.Locking.{IsAttachRefusal}
 use Rattle.name_registry.specs.Meeting.{is_inside}
 use Rattle.name_registry.specs.Performing.{PerformsOutside}
+use Rattle.name_registry.specs.Releasing.{IsLetGo}
 use Rattle.registry_report.specs.Answers.{command_answer}
 use Rattle.registry_report.specs.declared.hitch.Hitch.{Hitch}
 use Rattle.registry_report.specs.declared.hitch.Hitch.TheVariants.{NoLabel, LabelTaken, NotInside, Refused}
@@ -57,6 +58,16 @@ IsGivenBack xs ys p = (x : OnCpu) → get_elem? xs p.cpu ≡ some x → why_unus
 -- this CPU went from one to the other, and the others are as they were
 abbrev pub OnOne : List OnCpu → ℕ → (OnCpu → OnCpu → Type 0) → List OnCpu → Type 0
 OnOne xs c does ys = (x y : OnCpu) × (get_elem? xs c ≡ some x) × does x y × (ys ≡ slice_set xs c y)
+
+-- CPU 0 let go of the local reference in the place, and the other CPUs are as they were; where the place is free, all are
+abbrev pub LetsGo : List OnCpu → Option ReferenceView → List OnCpu → Type 0
+LetsGo xs None ys = ys ≡ xs
+LetsGo xs (Some v) ys = OnOne xs 0 (λ x y. IsLetGo x v y) ys
+
+-- of the references in these places, one after the other
+abbrev pub LetGo : List OnCpu → List (Option ReferenceView) → List OnCpu → Type 0
+LetGo xs [] ys = ys ≡ xs
+LetGo xs (place ∷ places) ys = (between : List OnCpu) × LetsGo xs place between × LetGo between places ys
 
 -- the CPU made one destroy, of at most so many turns, which answered this
 abbrev pub DestroysBy : Settings → ℕ → ℕ → Result ℕ Hitch → OnCpu → OnCpu → Type 0

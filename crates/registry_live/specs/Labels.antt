@@ -1,5 +1,5 @@
 -- The passive references that labels stand for, beside those that the CPUs hold.
-use Rattle.std.specs.Prelude.{◌≡◌, ℕ, zero, suc, ◌-◌, ℤ, pos, ◌-ℤ◌, ◌==◌, ◌&&◌, Bool, false, List, [], ◌∷◌, Option, Some, None}
+use Rattle.std.specs.Prelude.{◌≡◌, ℕ, zero, suc, ◌-◌, ℤ, pos, ◌-ℤ◌, ◌==◌, ◌&&◌, Bool, false, List, [], ◌∷◌, map, Option, Some, None}
 use Rattle.std.specs.List.{count_by}
 use Rattle.cpu_words.specs.Views.{references_to}
 use Rattle.passive_list.specs.Cpus.{OnCpu}
@@ -29,9 +29,18 @@ pub record Lent : Type 0 where
   pub slice : ℕ
   pub unlabelled : ℕ → ℕ → ℤ
 
--- each CPU holds as many fewer to each entry as these places have, and none where they have more
+-- how many enters of a CPU are open, and where its section began
+abbrev pub inside_of : OnCpu → ℕ × Option ℕ
+inside_of x = (x.depth, x.view.begin)
+
+-- each CPU is as deep in its section as it was, and that section is the same
+abbrev pub StayInside : List OnCpu → List OnCpu → Type 0
+StayInside xs ys = map inside_of ys ≡ map inside_of xs
+
+-- each CPU holds as many fewer to each entry as these places have, and none where they have more; sections stay open
 pub record HaveReleased (xs : List OnCpu) (places : List (Option OnPsref)) (ys : List OnCpu) : Type 0 where
   pub each : (c n : ℕ) → references_at ys c n ≡ references_at xs c n - labels_to places c n
+  pub inside : StayInside xs ys
 
 -- each CPU holds as many passive references to each entry as it did
 pub record HoldTheSame (xs ys : List OnCpu) : Type 0 where

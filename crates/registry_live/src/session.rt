@@ -1,9 +1,10 @@
 //! A script's run over a registry that is running: its CPUs, and the references that labels stand for.
 
-ghost use Rattle.std.specs.Prelude.{◌≡◌, ◌<◌, ◌∷◌, [], IfSome, None, replicate};
+ghost use Rattle.std.specs.Prelude.{◌≡◌, ◌<◌, ◌∷◌, [], IfSome, List, None, replicate};
+ghost use Rattle.passive_list.specs.Cpus.{OnCpu};
 ghost use Rattle.name_registry.specs.Auditing.{AreAllCpus};
-ghost use Rattle.registry_live.specs.Calls.{IsGivenBack};
-ghost use Rattle.registry_live.specs.Labels.{HaveReleased, HoldTheSame};
+ghost use Rattle.registry_live.specs.Calls.{IsGivenBack, LetGo, LetsGo};
+ghost use Rattle.registry_live.specs.Labels.{HaveReleased};
 
 use crate::calls::{
     copied, count_one, fill, holds, leave, let_go, look_up, peek_at, plug_in, read_by, refer,
@@ -72,9 +73,10 @@ impl<'a, D: Domain, R: Wait> LiveSession<'a, D, R> {
     }
 
     /// Gives back all references that labels stand for: the local ones first, each on CPU 0, and then the passive ones,
-    /// each on its own CPU, which holds then what no label stood for. Sections stay open.
+    /// each on its own CPU, which holds then what no label stood for. Sections stay open (`released`).
     pub fn give_back(self)
         ensures all { AreAllCpus D.settings.cpus self.exit.0.now }
+        ensures locals { (between : List OnCpu) × LetGo self.entry.cpus.now self.entry.locals between × HaveReleased between self.entry.passives self.exit.0.now }
         ensures released { HaveReleased self.entry.cpus.now self.entry.passives self.exit.0.now }
     {
         let LiveSession {
@@ -109,7 +111,7 @@ fn release_locals<D: Domain, R: Wait>(
 )
     requires { AreAllCpus D.settings.cpus cpus.old }
     ensures all { AreAllCpus D.settings.cpus cpus.new }
-    ensures passives { HoldTheSame cpus.old cpus.new }
+    ensures locals { LetGo cpus.old locals cpus.new }
 {
     spend_each!(locals, place => release_local(rt, registry, cpus, place));
 }
@@ -123,7 +125,7 @@ fn release_local<D: Domain, R: Wait>(
 )
     requires { AreAllCpus D.settings.cpus cpus.old }
     ensures all { AreAllCpus D.settings.cpus cpus.new }
-    ensures passives { HoldTheSame cpus.old cpus.new }
+    ensures local { LetsGo cpus.old place cpus.new }
 {
     if let Some(reference) = place {
         // Reading it opens what its type keeps: it is a reference of this registry, which so has a CPU 0.

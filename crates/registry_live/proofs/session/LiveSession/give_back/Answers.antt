@@ -1,0 +1,8 @@
+use Rattle.registry_live.proofs.LetGo.{still}
+use Rattle.registry_live.proofs.Labelled.{released_later}
+use Rattle.registry_live.proofs.session.LiveSession.give_back.Goals as goal
+
+pub returns-clause-released : goal.returns-clause-released
+returns-clause-released g c =
+    let stays = still _ _ _ c.release_locals.ensures.locals in
+    released_later _ _ _ _ stays.0 stays.1 c.release_passives.ensures.released
