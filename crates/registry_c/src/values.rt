@@ -5,7 +5,9 @@ ghost use Rattle.registry_values.specs.Limits.{are_fit};
 ghost use Rattle.registry_values.specs.Refusals.{number_of_refusal};
 ghost use Rattle.registry_c.specs.Values.{entry_out, fault_of, kind_in, name_in, name_out, number_of, settings_in, settings_out, stage_out};
 
-use registry_values::{Entry, Kind, MOST_CPUS, MOST_SLOTS, Name, NameFault, Refusal, Settings, Stage, kind_word};
+use registry_values::{
+    Entry, Kind, MOST_CPUS, MOST_SLOTS, Name, NameFault, Refusal, Settings, Stage, kind_word,
+};
 
 /// Done. Numbers 1 to 19 are those of the refusals (`Refusal::number`).
 pub const DONE: u32 = 0;

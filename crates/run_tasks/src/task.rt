@@ -64,7 +64,7 @@ fn storm(word: &[u8], cpus: &[u8], turns: &[u8]) -> Option<Task>
     if word != b"storm".as_slice() {
         return None;
     }
-    let cpus = parse_within(cpus, MOST_CPUS)? as u8;
+    let cpus = parse_within(cpus, MOST_CPUS as u64)? as u8;
     let turns = parse_within(turns, MOST_TURNS)? as u32;
     Some(Task::Storm(StormSize { cpus, turns }))
 }

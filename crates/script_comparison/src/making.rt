@@ -8,6 +8,7 @@ use super::words::{
 };
 use rand_core::{Rng, SeedableRng};
 use rand_xoshiro::Xoshiro256PlusPlus;
+use registry_values::MOST_SLOTS;
 use std::alloc::{AllocError, Global};
 
 /// The lines of a script after those of the settings.
@@ -25,9 +26,7 @@ const TOO_DEEP: u32 = 256;
 /// The names of a usual script.
 const FEW_NAMES: usize = 3;
 
-/// The slots of a registry that is to be full, and how many of them may be vacant still.
-const MANY_SLOTS: usize = MOST_SLOTS;
-
+/// How many slots of a registry that is to be full may be vacant still.
 const VACANT: usize = 9;
 
 /// How often a slot is given again in a long script: more often would be more bytes than a script may have.
@@ -135,7 +134,7 @@ impl Maker {
         let cpus = self.choose(CPUS);
         let (slots, names) = match size {
             Size::Usual => (self.choose(SLOTS), FEW_NAMES),
-            _ => (MANY_SLOTS, NAMES),
+            _ => (MOST_SLOTS, NAMES),
         };
         self.sketch = Sketch::new(cpus, slots, names);
         let line = self.sketch.any_line(0);
@@ -158,7 +157,7 @@ impl Maker {
 
     /// Attaches drivers until few slots are vacant, or none.
     fn crowd(&mut self, text: &mut Vec<u8>) -> Result<(), AllocError> {
-        for _ in 0..MANY_SLOTS.saturating_sub(self.pick(VACANT)) {
+        for _ in 0..MOST_SLOTS.saturating_sub(self.pick(VACANT)) {
             self.add_fit(text, CROWD)?;
         }
         Ok(())

@@ -57,7 +57,7 @@ impl Line {
 }
 
 /// The names of drivers, which are those of interfaces too.
-pub const NAMES: usize = MOST_SLOTS;
+pub const NAMES: usize = 32;
 
 /// All kinds with all names: drivers from 0, interfaces from `NAMES` on.
 const KEYS: usize = 64;
