@@ -1,5 +1,5 @@
 -- What an audit answers, by the test that it came to.
-use Rattle.std.proofs.Common.{◌≡◌, ℕ, ◌<◌, ◌≤◌, true, List, [], ◌∷◌, length, Option, Some, None, refl, subst, arith}
+use Rattle.std.proofs.Common.{◌≡◌, ℕ, ◌<◌, ◌≤◌, true, List, [], ◌∷◌, length, Option, Some, None, refl, arith}
 use Rattle.std.proofs.lemmas.Bool.{false≢true}
 use Rattle.registry_values.specs.declared.refusal.Refusal.TheVariants.{MissingCpu}
 use Rattle.registry_values.specs.declared.settings.Settings.{Settings}
