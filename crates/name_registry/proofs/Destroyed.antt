@@ -127,7 +127,7 @@ destroyed_gone z n turns x y answer is = subst (λ (r : Result ℕ Refusal). IfO
 -- What else changed of the CPU
 
 learns_turn : (z : Settings) (n : ℕ) (x y : OnCpu) (met : Result Stage Refusal) → SomeAdvancedFor z n x met y → Learns x y
-learns_turn z n x y met is = (learned is.0.2.end.view.history x y is.0.2.hears (by_meeting_again x y is.0.2.own_log), ap (λ (o : OnCpu). o.made) is.0.2.hears.is)
+learns_turn z n x y met is = (learned is.0.2.end.view.history x y is.0.2.hears (by_meeting_again x y is.0.2.cpu_log), ap (λ (o : OnCpu). o.made) is.0.2.hears.is)
 
 learns_meeting : (z : Settings) (n turns : ℕ) (x y : OnCpu) → TurnsMeeting (SomeAdvancedFor z n) turns x y → Learns x y
 learns_meeting z n zero x y is = subst (λ (o : OnCpu). Learns x o) (sym is) (learns_none x)

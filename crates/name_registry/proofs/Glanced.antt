@@ -104,7 +104,7 @@ made_hold looks z a h l b x same y heard pass known own is made slots tells hear
       log = ap (λ (k : OnKeeper). k.log) tells;
       hears = subst (λ (k : OnKeeper). HasHeardOn k.view.history x y) (sym tells) (heard_told l.view.history x y (subst (λ (o : OnCpu). HasHeardOn l.view.history o y) is hears));
       told = told;
-      own_log = met x same y is log;
+      cpu_log = met x same y is log;
     }
 
 -- What was made

@@ -4,14 +4,14 @@ use Rattle.registry_values.specs.declared.entry.Change.{Change}
 use Rattle.cpu_words.specs.declared.view.LogItem.{LogItem}
 use Rattle.passive_list.specs.Cpus.{OnCpu}
 use Rattle.passive_list.specs.Notes.{HasHeardOn, cpu_after_tell, has_heard, has_told}
-use Rattle.name_registry.specs.Meeting.{AreNotes, GoesOnByNotes, meets, meets_again}
+use Rattle.name_registry.specs.Meeting.{AreNotes, GoesOnByNotes, tells_and_hears, tells_twice_and_hears}
 
 -- the CPU x told, then it is n, and then it heard
-pub met : (x n y : OnCpu) → n ≡ cpu_after_tell x → y.log ≡ n.log ++ has_heard n → y.log ≡ x.log ++ meets x
+pub met : (x n y : OnCpu) → n ≡ cpu_after_tell x → y.log ≡ n.log ++ has_heard n → y.log ≡ x.log ++ tells_and_hears x
 met x n y told heard = heard ∙ ap (λ (o : OnCpu). o.log ++ has_heard o) told ∙ append_assoc x.log (has_told x) (has_heard x)
 
 -- it told twice
-pub met_again : (x m n y : OnCpu) → m ≡ cpu_after_tell x → n ≡ cpu_after_tell m → y.log ≡ n.log ++ has_heard n → y.log ≡ x.log ++ meets_again x
+pub met_again : (x m n y : OnCpu) → m ≡ cpu_after_tell x → n ≡ cpu_after_tell m → y.log ≡ n.log ++ has_heard n → y.log ≡ x.log ++ tells_twice_and_hears x
 met_again x m n y first second heard =
     heard ∙ ap (λ (o : OnCpu). o.log ++ has_heard o) second ∙ ap (λ (o : OnCpu). (o.log ++ has_told o) ++ has_heard o) first
     ∙ append_assoc (x.log ++ has_told x) (has_told x) (has_heard x) ∙ append_assoc x.log (has_told x) (has_told x ++ has_heard x)
@@ -39,11 +39,11 @@ more_notes c log between new first then = record {
   only = both_notes c first.since then.since first.only then.only;
 }
 
-pub by_meeting : (x y : OnCpu) → y.log ≡ x.log ++ meets x → GoesOnByNotes x.view.id x.log y.log
-by_meeting x y is = record { since = meets x; are = is; only = (inl refl, (inr refl, tt)) }
+pub by_meeting : (x y : OnCpu) → y.log ≡ x.log ++ tells_and_hears x → GoesOnByNotes x.view.id x.log y.log
+by_meeting x y is = record { since = tells_and_hears x; are = is; only = (inl refl, (inr refl, tt)) }
 
-pub by_meeting_again : (x y : OnCpu) → y.log ≡ x.log ++ meets_again x → GoesOnByNotes x.view.id x.log y.log
-by_meeting_again x y is = record { since = meets_again x; are = is; only = (inl refl, (inl refl, (inr refl, tt))) }
+pub by_meeting_again : (x y : OnCpu) → y.log ≡ x.log ++ tells_twice_and_hears x → GoesOnByNotes x.view.id x.log y.log
+by_meeting_again x y is = record { since = tells_twice_and_hears x; are = is; only = (inl refl, (inl refl, (inr refl, tt))) }
 
 -- a note was passed on: heard and told
 pub by_passing : (x y : OnCpu) → y.log ≡ x.log ++ has_heard x ++ has_told x → GoesOnByNotes x.view.id x.log y.log

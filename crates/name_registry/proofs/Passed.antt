@@ -183,5 +183,5 @@ made_passes z numbers a h end k b x same after y known heard first passes own ag
   is = is ∙ ap keeper_after_tell (again ∙ ap (keeper_after_hear end) first);
   hears = heard_told_again b.view.history x y (subst (λ (o : OnCpu). HasHeardOn b.view.history o y) (second ∙ ap cpu_after_tell first) (subst (λ (h : List Change). HasHeardOn h after y) (sym (ap (λ (o : OnKeeper). o.view.history) is)) hears));
   told = told;
-  own_log = met_again x same after y first second log;
+  cpu_log = met_again x same after y first second log;
 }

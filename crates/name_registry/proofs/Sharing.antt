@@ -31,7 +31,7 @@ hold m looks a x b y had = record {
   log = had.log;
   hears = heard m _ x y had.hears;
   told = had.told;
-  own_log = had.own_log;
+  cpu_log = had.cpu_log;
 }
 
 pub begun : (m : ℕ) (z : Settings) (a : OnKeeper) (x : OnCpu) (snapshots : List ℕ) (retired : List (Option ℕ)) (b : OnKeeper) (y : OnCpu) → HasBegun z a x snapshots retired b y → HasBegun z a (sharing m x) snapshots retired b (sharing m y)
@@ -42,7 +42,7 @@ pub glanced : (m : ℕ) (z : Settings) (snapshots : List ℕ) (a : OnKeeper) (x 
 glanced m z snapshots a x seen told after b y had = record { hold = hold m _ a x b y had.hold; least = had.least }
 
 pub passed : (m : ℕ) (z : Settings) (a : OnKeeper) (x : OnCpu) (numbers : List (Option ℕ)) (b : OnKeeper) (y : OnCpu) → HasPassedAll z a x numbers b y → HasPassedAll z a (sharing m x) numbers b (sharing m y)
-passed m z a x numbers b y had = record { known = had.known; end = had.end; passes = had.passes; own = had.own; is = had.is; hears = heard m _ x y had.hears; told = had.told; own_log = had.own_log }
+passed m z a x numbers b y had = record { known = had.known; end = had.end; passes = had.passes; own = had.own; is = had.is; hears = heard m _ x y had.hears; told = had.told; cpu_log = had.cpu_log }
 
 pub attached : (m : ℕ) (a : OnKeeper) (x : OnCpu) (e : Entry) (b : OnKeeper) (y : OnCpu) → HasAttachedFor a x e b y → HasAttachedFor a (sharing m x) e b (sharing m y)
 attached m a x e b y had = record { seen = had.seen; keeper = had.keeper; cpu = heard m _ x y had.cpu; own = record { later = had.own.later; attached = had.own.attached; log = had.own.log } }
@@ -64,5 +64,5 @@ advanced m z a x n answer b y had = record {
   is = had.is;
   hears = heard m _ x y had.hears;
   told = had.told;
-  own_log = had.own_log;
+  cpu_log = had.cpu_log;
 }

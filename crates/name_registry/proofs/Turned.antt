@@ -177,5 +177,5 @@ made_turn z a h end k b x same after y n answer known seen own heard first made 
   is = is ∙ ap keeper_after_tell (again ∙ ap (keeper_after_hear end) first);
   hears = heard_told_again end.view.history x y (subst (λ (o : OnCpu). HasHeardOn end.view.history o y) (second ∙ ap cpu_after_tell first) (subst (λ (l : List Change). HasHeardOn l after y) (ap (λ (o : OnKeeper). o.view.history) again) hears));
   told = told;
-  own_log = met_again x same after y first second log;
+  cpu_log = met_again x same after y first second log;
 }

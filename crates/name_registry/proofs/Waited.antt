@@ -345,14 +345,14 @@ learns_more x m y first second = (
 )
 
 learns_hold : (looks : Looking → Looking → Type 0) (a : OnKeeper) (x : OnCpu) (b : OnKeeper) (y : OnCpu) → Hold looks a x b y → Learns x y
-learns_hold looks a x b y hold = (learned b.view.history x y hold.hears (by_meeting x y hold.own_log), ap (λ (o : OnCpu). o.made) hold.hears.is)
+learns_hold looks a x b y hold = (learned b.view.history x y hold.hears (by_meeting x y hold.cpu_log), ap (λ (o : OnCpu). o.made) hold.hears.is)
 
 learns_turns : (z : Settings) (words : List ℕ) (n : ℕ) (x : OnCpu) (seen : List Bool) (y : OnCpu) (after : List Bool) → TurnsWaiting (SomeGlanced z words) n x seen y after → Learns x y
 learns_turns z words zero x seen y after is = subst (λ (o : OnCpu). Learns x o) (sym is.0) (learns_none x)
 learns_turns z words (suc n) x seen y after is = learns_more x is.0 y (learns_turns z words n x seen is.0 is.1 is.3) (learns_hold _ is.4.0 is.0 is.4.1 y is.4.2.hold)
 
 learns_end : (z : Settings) (numbers : List (Option ℕ)) (x : OnCpu) (told : Option ℕ) (y : OnCpu) → Finishes (SomePassed z) numbers x told y → Learns x y
-learns_end z numbers x None y is = (learned is.1.view.history x y is.2.hears (by_meeting_again x y is.2.own_log), ap (λ (o : OnCpu). o.made) is.2.hears.is)
+learns_end z numbers x None y is = (learned is.1.view.history x y is.2.hears (by_meeting_again x y is.2.cpu_log), ap (λ (o : OnCpu). o.made) is.2.hears.is)
 learns_end z numbers x (Some c) y is = subst (λ (o : OnCpu). Learns x o) (sym is) (learns_none x)
 
 pub learns_performed : (z : Settings) (turns : ℕ) (x : OnCpu) (told : Option ℕ) (y : OnCpu) → HasPerformed z turns x told y → Learns x y

@@ -14,7 +14,7 @@ use Rattle.passive_list.specs.Notes.{HasHeardOn, cpu_after_tell}
 use Rattle.name_registry.specs.Advancing.{HasAdvanced}
 use Rattle.name_registry.specs.Locking.{IsStageOf}
 use Rattle.name_registry.specs.Obstacles.{IsTurn}
-use Rattle.name_registry.specs.Meeting.{keeper_after_hear, keeper_after_tell, meets_again}
+use Rattle.name_registry.specs.Meeting.{keeper_after_hear, keeper_after_tell, tells_twice_and_hears}
 
 -- a turn that met an obstacle; after any other answer there is nothing more to do
 abbrev pub MeetsObstacle : Result Stage Refusal → Type 0
@@ -53,7 +53,7 @@ pub record HasAdvancedFor (z : Settings) (a : OnKeeper) (x : OnCpu) (n : ℕ) (a
   pub is : b ≡ keeper_after_tell (keeper_after_hear end (cpu_after_tell x))
   pub hears : HasHeardOn end.view.history x y
   pub told : IsPrefix b.log y.known_log
-  pub own_log : y.log ≡ x.log ++ meets_again x
+  pub cpu_log : y.log ≡ x.log ++ tells_twice_and_hears x
 
 -- Through the lock, whose value no contract can name: of some keeper, as the call found it and left it
 

@@ -33,12 +33,12 @@ abbrev pub keeper_after_tell : OnKeeper → OnKeeper
 keeper_after_tell a = record a { log = a.log ++ did (Tell None) Done }
 
 -- In the CPU's own log: it tells the keeper what it has seen, and at the end it hears.
-abbrev pub meets : OnCpu → List LogItem
-meets x = has_told x ++ has_heard x
+abbrev pub tells_and_hears : OnCpu → List LogItem
+tells_and_hears x = has_told x ++ has_heard x
 
 -- it tells twice, as the keeper hears before its work and after
-abbrev pub meets_again : OnCpu → List LogItem
-meets_again x = has_told x ++ has_told x ++ has_heard x
+abbrev pub tells_twice_and_hears : OnCpu → List LogItem
+tells_twice_and_hears x = has_told x ++ has_told x ++ has_heard x
 
 -- a note that the CPU c told or heard
 abbrev pub IsNote : ℕ → LogItem → Type 0
@@ -65,7 +65,7 @@ pub record HasLearned (x y : OnCpu) : Type 0 where
 pub record HasSeenAttach (x y : OnCpu) (e : Entry) : Type 0 where
   pub later : length x.view.pass < e.number
   pub attached : IsAttached y.view.pass e
-  pub log : y.log ≡ x.log ++ meets x
+  pub log : y.log ≡ x.log ++ tells_and_hears x
 
 -- the detach of e stands after all that the CPU had seen, and the CPU has seen it, and the attach of e, by one note to the keeper and one from it
 pub record HasSeenDetach (x y : OnCpu) (e : Entry) : Type 0 where
@@ -73,4 +73,4 @@ pub record HasSeenDetach (x y : OnCpu) (e : Entry) : Type 0 where
   pub later : length x.view.pass < end
   pub ends : EndsAt y.view.pass e.number end
   pub attached : IsAttached y.view.pass e
-  pub log : y.log ≡ x.log ++ meets x
+  pub log : y.log ≡ x.log ++ tells_and_hears x

@@ -24,7 +24,7 @@ use Rattle.passive_list.specs.Keepers.{OnKeeper}
 use Rattle.passive_list.specs.Logs.{HasOwnLog}
 use Rattle.passive_list.specs.Notes.{HasHeardOn, as_teller, cpu_after_tell}
 use Rattle.name_registry.specs.Advancing.{GoesOnByLooks, HasLookedFor, MeetsGrace, PassedBelow}
-use Rattle.name_registry.specs.Meeting.{hears_cpu, keeper_after_hear, keeper_after_tell, meets, meets_again}
+use Rattle.name_registry.specs.Meeting.{hears_cpu, keeper_after_hear, keeper_after_tell, tells_and_hears, tells_twice_and_hears}
 
 -- The keeper's looks for no entry
 
@@ -78,7 +78,7 @@ pub record Hold (looks : Looking → Looking → Type 0) (a : OnKeeper) (x : OnC
   pub log : b.log ≡ end.log ++ did (Tell None) Done
   pub hears : HasHeardOn b.view.history x y
   pub told : IsPrefix b.log y.known_log
-  pub own_log : y.log ≡ x.log ++ meets x
+  pub cpu_log : y.log ≡ x.log ++ tells_and_hears x
 
 -- The parts that are lent the keeper
 
@@ -126,7 +126,7 @@ pub record HasPassedAll (z : Settings) (a : OnKeeper) (x : OnCpu) (numbers : Lis
   pub is : b ≡ keeper_after_tell (keeper_after_hear end (cpu_after_tell x))
   pub hears : HasHeardOn b.view.history x y
   pub told : IsPrefix b.log y.known_log
-  pub own_log : y.log ≡ x.log ++ meets_again x
+  pub cpu_log : y.log ≡ x.log ++ tells_twice_and_hears x
 
 -- The turns: X is what stands between two holds of the interlock
 
