@@ -29,6 +29,7 @@ pub struct Blank {
 
 impl Model for Blank {
     ghost use Rattle.std.specs.Prelude.{◌≡◌};
+    ghost use Rattle.registry_values.specs.declared.settings.TheConstants.{MOST_CPUS};
     ghost use Rattle.name_registry.specs.Opening.{IsBlank, OnBlank};
 
     ghost Value = { OnBlank };
@@ -51,7 +52,7 @@ impl Blank {
             words,
             keeper,
             cpus,
-            changes: ledger::Blank::new(MOST_CPUS),
+            changes: ledger::Blank::new(MOST_CPUS as u64),
         })
     }
 

@@ -4,6 +4,7 @@ ghost use Rattle.std.specs.Prelude.{◌≡◌, ◌↔◌, ◌⊎◌, ◌+ℤ◌,
 ghost use Rattle.registry_values.specs.Balances.{sum_of};
 ghost use Rattle.registry_values.specs.declared.entry.Change.TheVariants.{Attach, Detach};
 ghost use Rattle.registry_values.specs.declared.entry.Kind.TheVariants.{Iface};
+ghost use Rattle.registry_values.specs.declared.settings.TheConstants.{MOST_CPUS};
 ghost use Rattle.registry_values.specs.Names.{is_lawful};
 ghost use Rattle.registry_values.specs.Slots.{is_iface};
 ghost use Rattle.cpu_words.specs.KeeperLog.{IsAttachedKeeping};
@@ -20,7 +21,7 @@ use crate::interlock::Interlock;
 use cpu_words::{Domain, Words};
 use local_count::LocalRef;
 use passive_list::Cpu;
-use registry_values::{Balance, Entry, Kind, MOST_CPUS, Name, Record, Refusal, Stage};
+use registry_values::{Balance, Entry, Kind, Name, Record, Refusal, Stage};
 use std::alloc::Global;
 use std::sync::{Mutex, Wait};
 

@@ -1,11 +1,12 @@
 //! What all workers of a storm have in common.
 
 ghost use Rattle.std.specs.Prelude.{◌≡◌, ◌↔◌, ◌≤◌, IsTrue, [], ◌∷◌, Some, Ok};
+ghost use Rattle.registry_values.specs.declared.settings.TheConstants.{MOST_CPUS};
 ghost use Rattle.registry_values.specs.Names.{is_lawful, name_of_bytes};
 ghost use Rattle.registry_storm.specs.Judging.{driver_entry, driver_record, iface_record, IsIfaceOf};
 ghost use Rattle.registry_storm.specs.Storms.{settings_of};
 
-use registry_values::{Entry, Kind, MOST_CPUS, Name, Record, Refusal, Settings};
+use registry_values::{Entry, Kind, Name, Record, Refusal, Settings};
 
 /// How many slots the registry of a storm has.
 pub const SLOTS: u8 = 4;
@@ -16,7 +17,7 @@ pub const DRIVER_VALUE: u64 = 7;
 /// How many CPUs and turns a storm has, and the names of its entries.
 #[derive(Clone, Copy)]
 pub struct Plan {
-    /// From 1 to 8, each with a worker.
+    /// From 1 to `MOST_CPUS`, each with a worker.
     pub cpus: u8,
     /// The turns of each worker, from 1.
     pub turns: u32,
