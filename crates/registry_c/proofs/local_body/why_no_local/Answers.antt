@@ -39,7 +39,9 @@ returns-clause-full c =
     let below = room_tells c.net_count-count.result (bias + c.settings.result.count_limit) c.why_uncounted.result c.in_default.not-Some c.why_uncounted.ensures.room in
     let room : c.net_count-count.result < bias + c.cpu.inside.seat.view.settings.count_limit = omega (arith, below, limit) in
     let view : c.cpu.inside.seat.view ≡ c.args.cpu.now.cpu.view = ap (λ (o : OnPlainCpu). o.cpu.view) c.cpu.view_is in
-    let kept = found_as _ _ c.cpu.invariant.is_shown c.cpu.invariant.found c.if-found-eq0.false in
-    (λ q. cc, λ some.
-      let is = subst (λ (x : CpuView). (e : Entry) × (x.found ≡ Some e) × IsFull x e) (sym view) some in
-      absurd (not_full _ _ _ _ _ _ _ _ _ _ _ kept c.cpu.invariant c.net_count-count.ensures room is.0 is.1 is.2))
+    let kept = found_as _ _ c.cpu.invariant.is_shown c.cpu.invariant.found c.if-found-eq0.false in (
+      λ q. cc,
+      λ some.
+          let is = subst (λ (x : CpuView). (e : Entry) × (x.found ≡ Some e) × IsFull x e) (sym view) some in
+          absurd (not_full _ _ _ _ _ _ _ _ _ _ _ kept c.cpu.invariant c.net_count-count.ensures room is.0 is.1 is.2),
+    )
