@@ -52,7 +52,8 @@ pub struct Logged {
     pub known_log: LinkedList<LogItem>,
     /// What the note that was laid beside the view last knows of the keeper's log.
     pub noted_log: LinkedList<LogItem>,
-    /// Of a note, the CPU that told it; of another seat, the CPU that told the note that was laid beside the view last. None of the keeper's.
+    /// Of a note, the CPU that told it; of another seat, the CPU that told the note that was laid beside the view last. None where the keeper
+    /// told it.
     pub teller: Option<Teller>,
 }
 

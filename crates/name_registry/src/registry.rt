@@ -116,10 +116,10 @@ impl<D: Domain> Registry<D> {
 
     /// The audit of local references (localcount(9)) under the interlock, as `audit_in` does: of each live or retired slot, least first,
     /// each CPU's own net count, by its place, or 0 where the keeper has collected it, the keeper's total, and their sum, which is held.
-    /// What is held is the tally: what the CPUs acquired, less what they released, less what was given up. Each CPU hears once, as by `hear`, and tells
-    /// once, and nothing else of it changes: all of them know the keeper's log then, and the whole list is said by that log and the CPUs (`tally`): which slots
-    /// have entries, which of the CPUs' counts were collected, and what was given up. So no keeper can be made up for it, and a list that leaves an
-    /// entry out is refused.
+    /// What is held is the tally: what the CPUs acquired, less what they released, less what was given up. Each CPU hears once, as by `hear`,
+    /// and tells once, and nothing else of it changes: all of them know the keeper's log then, and the whole list is said by that log and the
+    /// CPUs (`tally`): which slots have entries, which of the CPUs' counts were collected, and what was given up. So no keeper can be made up
+    /// for it, and a list that leaves an entry out is refused.
     /// Refused, in this order: `MissingCpu` where the slice isn't CPU 0, 1, .. of this registry in this order, and nothing has changed of the CPUs
     /// then; `NoMemory`.
     pub fn audit<R: Wait>(

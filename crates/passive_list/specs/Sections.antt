@@ -10,7 +10,7 @@ use Rattle.passive_list.specs.Cpus.{OnCpu}
 -- the outermost enter begins a section by one event; an inner one is counted, and nothing else
 pub record HasEnteredOn (a b : OnCpu) : Type 0 where
   pub begun : a.depth ≡ 0 → HasEntered a.view b.view
-  -- as it begins, the pass is the whole history
+  -- as it begins, some state shows the CPU whose whole history the pass is
   pub whole : a.depth ≡ 0 → HasWholePass b.view
   pub inner : a.depth ≢ 0 → b.view ≡ a.view
   pub depth : b.depth ≡ a.depth + 1

@@ -23,7 +23,7 @@ pub record WasLive (h : List Change) (from to : ℕ) (e : Entry) : Type 0 where
 abbrev pub AreNewestFirst : List Entry → Type 0
 AreNewestFirst row = AllPairs (λ (e f : Entry). f.number < e.number) row
 
--- a walk went by these entries: each was live at some point of it, and none is there twice
+-- what a walk noted: each entry was live at some point of it, and none is there twice
 pub record AreGoneBy (h : List Change) (from to : ℕ) (noted : List Entry) : Type 0 where
   pub each : (e : Entry) → Contains noted e → WasLive h from to e
   pub newest_first : AreNewestFirst noted
@@ -38,7 +38,7 @@ pub record HasWalked (a b : OnCpu) (row : List Entry) : Type 0 where
   pub each : (e : Entry) → Contains row e → WasLive b.view.pass (length a.view.pass) (length b.view.pass) e
   pub held : (e : Entry) (s : ℕ) → Contains row e → a.view.begin ≡ Some s → MayHold b.view.pass s e
   pub newest_first : AreNewestFirst row
-  -- the first search goes by these entries, and each other one but the last is for one of them
+  -- the first search visits as many entries as these are, and each other one but the last is for one of them
   pub noted : List Entry
   pub gone_by : AreGoneBy b.view.pass (length a.view.pass) (length b.view.pass) noted
   pub log : HasGoneOverBy a.view.id a.view.settings.slots noted row a.log b.log

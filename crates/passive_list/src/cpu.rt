@@ -35,7 +35,8 @@ impl<D: Domain> Model for Cpu<D> {
 
 impl<D: Domain> Cpu<D> {
     /// The CPU of a new seat: outside, with nothing found and nothing held. What its share has is what its calls have made.
-    /// Condition: the seat is of D's table, as `Words::new` gave it, and the share is one part of D's ledger.
+    /// Condition: the seat is of D's table, as `Words::new` gave it, `id` is its number, below how many CPUs the table has, and the share is one
+    /// part of D's ledger.
     pub fn of_seat(seat: CpuSeat, id: u8, share: Share<D>) -> Cpu<D>
         requires table { (seat.table ≡ D.table) × IsTrue (are_fit D.settings) × (id < D.settings.cpus) }
         requires new { seat.view ≡ new_cpu D.settings id }

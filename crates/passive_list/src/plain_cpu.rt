@@ -41,7 +41,7 @@ impl Model for PlainCpu {
 
 impl PlainCpu {
     /// The CPU of a new seat: outside, with nothing found and nothing held.
-    /// Condition: the seat is as `Words::new` gave it.
+    /// Condition: the seat is as `Words::new` gave it, and `id` is its number, below how many CPUs the table has.
     pub fn of_seat(seat: CpuSeat, id: u8) -> PlainCpu
         requires fit { IsTrue (are_fit seat.view.settings) × (id < seat.view.settings.cpus) }
         requires new { seat.view ≡ new_cpu seat.view.settings id }

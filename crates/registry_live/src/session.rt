@@ -73,7 +73,9 @@ impl<'a, D: Domain, R: Wait> LiveSession<'a, D, R> {
     }
 
     /// Gives back all references that labels stand for: the local ones first, each on CPU 0, and then the passive ones,
-    /// each on its own CPU, which holds then what no label stood for. Sections stay open (`released`).
+    /// each on its own CPU, which holds then what no label stood for. Sections stay open (`released`). That CPU 0 let the
+    /// local ones go is exact in `release_locals`. `locals` doesn't carry it to the end: `released` says nothing of a
+    /// CPU's counts and log.
     pub fn give_back(self)
         ensures all { AreAllCpus D.settings.cpus self.exit.0.now }
         ensures locals { (between : List OnCpu) × LetGo self.entry.cpus.now self.entry.locals between × HaveReleased between self.entry.passives self.exit.0.now }
