@@ -182,6 +182,81 @@ fn attached_meanwhile<D: Domain + Send + Sync, R: Threads + Wait + Abort + Sync>
     ))
 }
 
+#[test]
+fn a_section_known_by_a_flag_alone_is_waited_for(rt: HostRuntime) -> Result<(), Fail> {
+    see_and_perform(&rt, rt.alloc())
+}
+
+/// On a registry of its own: what CPU 0 answers while CPU 1 is inside, and afterwards.
+fn see_and_perform<R: Threads + Wait + Abort + Sync>(rt: &R, alloc: Global) -> Result<(), Fail> {
+    let answers = perform_beside::<Brand, _>(rt, alloc, blank(alloc, 2, 1000)?)?;
+    assert_eq!(rt; answers, (Refused(Refusal::Waiting(1)), Done));
+    Ok(())
+}
+
+/// CPU 1 enters a section on its own thread, and sets a flag that no note goes with. CPU 0 sees the flag and performs: the section was open as
+/// that call began, so it is waited for. What CPU 0 answers then, and once CPU 1 has left.
+fn perform_beside<D: Domain + Send + Sync, R: Threads + Wait + Abort + Sync>(
+    rt: &R,
+    alloc: Global,
+    blank: Blank,
+) -> Result<(Answer, Answer), Fail>
+    requires { IsBlankOf blank D.table D.settings D.name D.parts }
+{
+    let Ok((registry, mut cpus)) = blank.open::<D>(alloc) else {
+        return Err(Fail::from("an open registry"));
+    };
+    let (Some(_third), Some(second), Some(first)) = (cpus.pop(), cpus.pop(), cpus.pop()) else {
+        return Err(Fail::from("three CPUs"));
+    };
+    let registry = &registry;
+    let (inside, refused) = (&AtomicBool::new(false), &AtomicBool::new(false));
+    let (answers, _) = join(
+        rt,
+        move || -> (Answer, Answer)
+            requires { IsSync R.row }
+        { perform_twice(rt, registry, first, inside, refused) },
+        move || -> Answer
+            requires { IsSync R.row }
+        { stay_inside(registry, second, inside, refused) },
+    );
+    Ok(answers)
+}
+
+/// Once the first flag is set the CPU performs with three turns, in which nobody leaves. It sets the second flag, and performs until the
+/// section has ended.
+fn perform_twice<D: Domain, R: Wait + Abort>(
+    rt: &R,
+    registry: &Registry<D>,
+    mut cpu: Cpu<D>,
+    inside: &AtomicBool,
+    refused: &AtomicBool,
+) -> (Answer, Answer) {
+    wait_for(inside);
+    let mut refs = Held::nothing();
+    let first = by_cpu(rt, registry, &mut cpu, &mut refs, Perform(3));
+    refused.store(true, Ordering::SeqCst);
+    let second = by_cpu(rt, registry, &mut cpu, &mut refs, Perform(TURNS));
+    refs.end(rt);
+    (first, second)
+}
+
+/// Enters a section, sets the first flag, and leaves once the second one is set.
+fn stay_inside<D: Domain>(
+    registry: &Registry<D>,
+    mut cpu: Cpu<D>,
+    inside: &AtomicBool,
+    refused: &AtomicBool,
+) -> Answer {
+    let _entered = enter(registry.words(), &mut cpu);
+    inside.store(true, Ordering::SeqCst);
+    wait_for(refused);
+    if cpu.inside() {
+        exit(registry.words(), &mut cpu);
+    }
+    Answer::Nothing
+}
+
 /// Waits until the flag is set, and a while longer; then CPU 2 attaches a driver, and CPU 1 exits.
 fn attach_and_leave<D: Domain, R: Wait + Abort>(
     rt: &R,

@@ -1,3 +1,4 @@
+use Rattle.registry_values.specs.declared.settings.TheConstants.{MOST_CPUS}
 use Rattle.call_tests.proofs.tests.memory_tests.audit.Given as goal
 
 -- the registry that was just made
@@ -5,4 +6,4 @@ abbrev pub ghosts-audited_again-D-Domain : goal.ghosts-audited_again-D-Domain
 ghosts-audited_again-D-Domain g a = record { table = a.blank.table; settings = a.blank.settings }
 
 abbrev pub ghosts-audited_again-D-Ledger : goal.ghosts-audited_again-D-Ledger
-ghosts-audited_again-D-Ledger g a = record { name = a.blank.changes; parts = 8 }
+ghosts-audited_again-D-Ledger g a = record { name = a.blank.changes; parts = MOST_CPUS }

@@ -1,3 +1,4 @@
+use Rattle.registry_values.specs.declared.settings.TheConstants.{MOST_CPUS}
 use Rattle.call_tests.proofs.tests.turns.meet.Given as goal
 
 -- the registry that was just made
@@ -5,4 +6,4 @@ abbrev pub ghosts-attached_meanwhile-D-Domain : goal.ghosts-attached_meanwhile-D
 ghosts-attached_meanwhile-D-Domain g a = record { table = a.blank.table; settings = a.blank.settings }
 
 abbrev pub ghosts-attached_meanwhile-D-Ledger : goal.ghosts-attached_meanwhile-D-Ledger
-ghosts-attached_meanwhile-D-Ledger g a = record { name = a.blank.changes; parts = 8 }
+ghosts-attached_meanwhile-D-Ledger g a = record { name = a.blank.changes; parts = MOST_CPUS }

@@ -1,3 +1,4 @@
+use Rattle.registry_values.specs.declared.settings.TheConstants.{MOST_CPUS}
 use Rattle.call_tests.proofs.tests.walks.another_thread_attaches_and_detaches.Given as goal
 
 -- the registry that was just made
@@ -5,4 +6,4 @@ abbrev pub ghosts-beside-D-Domain : goal.ghosts-beside-D-Domain
 ghosts-beside-D-Domain g a = record { table = a.blank.table; settings = a.blank.settings }
 
 abbrev pub ghosts-beside-D-Ledger : goal.ghosts-beside-D-Ledger
-ghosts-beside-D-Ledger g a = record { name = a.blank.changes; parts = 8 }
+ghosts-beside-D-Ledger g a = record { name = a.blank.changes; parts = MOST_CPUS }
