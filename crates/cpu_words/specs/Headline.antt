@@ -57,7 +57,7 @@ pub record RunsAsLogged (z : Settings) (s : Table ℕ Logged) : Type 0 where
   pub logs : (i : ℕ) (l : Logged) → get_elem? s.views i ≡ some l → IsStanding l.view → l.log ≡ part i acts
   -- what a seat has heard of the keeper's log is a prefix of the keeper's part
   pub known : (i : ℕ) (l : Logged) → get_elem? s.views i ≡ some l → Knows l (part 0 acts)
-  -- where the keeper heard a CPU's note, its log says how far that CPU had come: so many events of it were made before
+  -- where a seat heard a CPU's note, its log says how far that CPU had come: so many events of it were made before
   pub told : AreToldBefore run.seat (after (opening z) run.events).seated acts
 
 -- so it is between any two steps

@@ -29,18 +29,18 @@ use Rattle.cpu_words.specs.Views.{Shown}
 abbrev pub KnownLogGrows : List LogItem → List LogItem → List LogItem → Type 0
 KnownLogGrows old note new = IsPrefix old new × IsPrefix note new
 
--- The keeper heard a note of a CPU's, and its log says whose
+-- The keeper, or the CPU by, heard a note, and its log says whose: a CPU's, or where h is none the keeper's
 
-abbrev pub has_heard_from : Option Teller → LogItem
-has_heard_from h = record { event = Hear None; reply = Done; teller = h }
+abbrev pub has_heard_from : Option ℕ → Option Teller → LogItem
+has_heard_from by h = record { event = Hear by; reply = Done; teller = h }
 
-abbrev pub heard_from : Option Teller → List LogItem
-heard_from h = has_heard_from h ∷ []
+abbrev pub heard_from : Option ℕ → Option Teller → List LogItem
+heard_from by h = has_heard_from by h ∷ []
 
-pub record HasHeardFrom (h : Teller) (log : List LogItem) : Type 0 where
+pub record HasHeardFrom (by : Option ℕ) (h : Teller) (log : List LogItem) : Type 0 where
   pub before : List LogItem
   pub after : List LogItem
-  pub are : log ≡ before ++ has_heard_from (Some h) ∷ after
+  pub are : log ≡ before ++ has_heard_from by (Some h) ∷ after
 
 -- an attach or a detach
 abbrev pub changes_of : Event → ℕ → ℕ

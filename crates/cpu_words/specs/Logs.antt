@@ -43,12 +43,12 @@ abbrev pub HasComeIf : (ℕ → ℕ) → ℕ → List (ℕ × LogItem) → Optio
 HasComeIf seat n acts None = Unit {0}
 HasComeIf seat n acts (Some h) = HasCome seat n acts h
 
--- only the keeper's Hear has a teller
+-- only a Hear has a teller
 abbrev pub teller_if : Event → Option Teller → Option Teller
-teller_if (Hear None) h = h
+teller_if (Hear by) h = h
 teller_if e h = None
 
--- where the keeper heard a note, its teller had come so far before that
+-- where a seat heard a CPU's note, that CPU had come so far before
 pub record IsToldBefore (seat : ℕ → ℕ) (n : ℕ) (first : List (ℕ × LogItem)) (d : LogItem) : Type 0 where
   pub only : d.teller ≡ teller_if d.event d.teller
   pub before : HasComeIf seat n first d.teller
@@ -173,8 +173,8 @@ abbrev pub IsToldByReference : (ReferenceView → ℕ → List LogItem) → (Ref
 IsToldByReference does tells st m n l = (l ≡ (record m.0 { log = l.0.log }, m.1)) × (l.0.log ≡ m.0.log ++ does (reference_of m.0.view) n) × tells (reference_of m.0.view) n
 
 -- A load that hears. A CPU's seat has heard then what the keeper did: what it had heard, and what the note told, are prefixes of that, and some state shows its view in which the keeper had done just this
-abbrev pub heard_by_cpu : (CpuView → ℕ → List LogItem) → (CpuView → ℕ → CpuView → Type 0) → Step ℕ → Me ℕ Logged → ℕ → Me ℕ Logged → Type 0
-heard_by_cpu does tells st m n l = (l ≡ (record m.0 { view = Cpu (cpu_of l.0.view); log = l.0.log; known_log = l.0.known_log }, m.1)) × (l.0.log ≡ m.0.log ++ does (cpu_of m.0.view) n) × tells (cpu_of m.0.view) n (cpu_of l.0.view) × KnownLogGrows m.0.known_log m.0.noted_log l.0.known_log × IsShownAfter l.0.known_log (Cpu (cpu_of m.0.view))
+abbrev pub heard_by_cpu : (CpuView → CpuView → Type 0) → Step ℕ → Me ℕ Logged → ℕ → Me ℕ Logged → Type 0
+heard_by_cpu tells st m n l = (l ≡ (record m.0 { view = Cpu (cpu_of l.0.view); log = l.0.log; known_log = l.0.known_log }, m.1)) × (l.0.log ≡ m.0.log ++ heard_from (Some (cpu_of m.0.view).id) m.0.teller) × tells (cpu_of m.0.view) (cpu_of l.0.view) × KnownLogGrows m.0.known_log m.0.noted_log l.0.known_log × IsShownAfter l.0.known_log (Cpu (cpu_of m.0.view))
 
 -- the keeper finds what the note told in its own log, and its history as long as that says
 abbrev pub heard_by_keeper : (KeeperView → ℕ → List LogItem) → (KeeperView → ℕ → KeeperView → Type 0) → Step ℕ → Me ℕ Logged → ℕ → Me ℕ Logged → Type 0
@@ -183,7 +183,7 @@ heard_by_keeper does tells st m n l = IsToldByKeeper does tells st m n l × IsOw
 -- The keeper's load that hears a note: its log says who told it
 
 abbrev pub hears_note : (KeeperView → KeeperView → Type 0) → Step ℕ → Me ℕ Logged → ℕ → Me ℕ Logged → Type 0
-hears_note tells st m n l = (l ≡ (record m.0 { view = Keeper (keeper_of l.0.view); log = l.0.log }, m.1)) × (l.0.log ≡ m.0.log ++ heard_from m.0.teller) × tells (keeper_of m.0.view) (keeper_of l.0.view) × IsOwnLog m.0.log m.0.noted_log (keeper_of m.0.view)
+hears_note tells st m n l = (l ≡ (record m.0 { view = Keeper (keeper_of l.0.view); log = l.0.log }, m.1)) × (l.0.log ≡ m.0.log ++ heard_from None m.0.teller) × tells (keeper_of m.0.view) (keeper_of l.0.view) × IsOwnLog m.0.log m.0.noted_log (keeper_of m.0.view)
 
 -- How seats are cut and joined: the log goes on, and a new seat's is empty
 

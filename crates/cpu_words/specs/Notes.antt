@@ -1,5 +1,5 @@
 -- Notes: what one seat has seen reaches another.
-use Rattle.std.specs.Prelude.{◌≡◌, List, None}
+use Rattle.std.specs.Prelude.{◌≡◌, List, Some, None}
 use mathlib.Core.List.{IsPrefix}
 use Rattle.registry_values.specs.declared.entry.Change.{Change}
 use Rattle.protocol.specs.declared.event.Event.TheVariants.{Hear}
@@ -41,6 +41,10 @@ beside_keeper v u = Keeper (keeper_with_note (keeper_of v) (note_of u))
 -- then a load sees the whole history: the pass is a longer prefix of it, with the note's pass in it
 abbrev pub HasHeard : CpuView → CpuView → Type 0
 HasHeard x y = IsPrefix x.noted_pass y.pass × IsPrefix x.pass y.pass × (y ≡ record x { pass = y.pass })
+
+-- its load that hears is just that event
+abbrev pub CpuHears : CpuView → CpuView → Type 0
+CpuHears x y = Makes (Hear (Some x.id)) Done (Cpu x) (Cpu y) × HasHeard x y
 
 -- the keeper's view has the whole history, with the note's pass in it
 abbrev pub KeeperHasHeard : KeeperView → KeeperView → Type 0

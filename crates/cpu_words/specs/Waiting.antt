@@ -1,5 +1,5 @@
 -- Waiting for open sections (pserialize(9)): what a seat knows of all CPUs by what it has heard of the keeper's log.
-use Rattle.std.specs.Prelude.{◌≡◌, ℕ, ◌<◌, ◌≤◌, List, ◌++◌, length, take, Some}
+use Rattle.std.specs.Prelude.{◌≡◌, ℕ, ◌<◌, ◌≤◌, List, ◌++◌, length, take, Some, None}
 use mathlib.Core.Option.{some}
 use lib.ListN.{get_elem?}
 use Rattle.atomic_table.specs.Table.{State as Table}
@@ -39,8 +39,16 @@ pub record HasEndedSince (z : Settings) (first rest : List Event) (most : ℕ) :
   pub changes : length (after (opening z) first).history ≤ most
 
 -- The moment is one before the CPU of h had made so many events: the part of its seat until then is shorter.
-abbrev pub IsBefore : {z : Settings} {s : Table ℕ Logged} → RunsAsLogged z s → Teller → List Event → Type 0
-IsBefore r h first = length (part (r.run.seat h.cpu) (take (length first) r.acts)) < h.events
+abbrev pub IsBeforeTelling : {z : Settings} {s : Table ℕ Logged} → RunsAsLogged z s → Teller → List Event → Type 0
+IsBeforeTelling r h first = length (part (r.run.seat h.cpu) (take (length first) r.acts)) < h.events
+
+-- Before it told, the CPU of h had heard a note of k's: in its own log, which is the part of its seat.
+pub record HadHeard {z : Settings} {s : Table ℕ Logged} (r : RunsAsLogged z s) (h k : Teller) : Type 0 where
+  pub log : List LogItem
+  pub more : List LogItem
+  pub own : part (r.run.seat h.cpu) r.acts ≡ log ++ more
+  pub few : length log < h.events
+  pub heard : HasHeardFrom (Some h.cpu) k log
 
 -- Each section that was open when the keeper had done just `before` has ended: so it is of a list of events that leads to what the table shows.
 pub record HaveEnded (z : Settings) (s : Table ℕ Logged) (before looks : List LogItem) : Type 0 where
@@ -57,7 +65,9 @@ pub record HaveEnded (z : Settings) (s : Table ℕ Logged) (before looks : List 
   -- and so has the section that was open on a CPU as the keeper took this CPU's word
   pub each : (c : ℕ) → c < z.cpus → HasEndedOn z s run before looks c
   -- and where the keeper had heard a note by then, so has each section that was open at any moment before that was told, such as the begin of a call that told it
-  pub told : (h : Teller) (first rest : List Event) → HasHeardFrom h before → run.run.events ≡ first ++ rest → IsBefore run h first → HasEndedSince z first rest (changes_in before)
+  pub told : (h : Teller) (first rest : List Event) → HasHeardFrom None h before → run.run.events ≡ first ++ rest → IsBeforeTelling run h first → HasEndedSince z first rest (changes_in before)
+  -- and before any note was told that the teller had heard by then: so what the teller knew of by notes is among it
+  pub heard : (h k : Teller) (first rest : List Event) → HasHeardFrom None h before → HadHeard run h k → run.run.events ≡ first ++ rest → IsBeforeTelling run k first → HasEndedSince z first rest (changes_in before)
   -- so a section that is open now began later
   pub begun : (c b : ℕ) → begin_at (after (opening z) run.run.events) c ≡ Some b → changes_in before ≤ b
   -- and no open section may hold an entry that was detached by then

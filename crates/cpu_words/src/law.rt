@@ -161,15 +161,14 @@ impl<T: ReferenceTale> Play<u8, Logged> for ReferencePlay<T> {
     ghost then = { IsToldByReference T.does T.tells };
 }
 
-/// A load of a CPU's seat that hears what a note laid beside it tells.
-pub(crate) struct CpuHearing<T: CpuTale> {
-    marker: PhantomData<T>,
-}
+/// A CPU's load that hears a note: it stands in the log with who told the note.
+pub(crate) struct CpuHearing;
 
-impl<T: CpuTale> Play<u8, Logged> for CpuHearing<T> {
+impl Play<u8, Logged> for CpuHearing {
     ghost use Rattle.cpu_words.specs.Logs.{heard_by_cpu};
+    ghost use Rattle.cpu_words.specs.Notes.{CpuHears};
 
-    ghost then = { heard_by_cpu T.does T.tells };
+    ghost then = { heard_by_cpu CpuHears };
 }
 
 /// The keeper's load that hears a note: it stands in the log with who told the note.

@@ -38,7 +38,7 @@ pub struct LogItem {
     pub event: Event,
     /// What the step answered.
     pub reply: Reply,
-    /// Where the keeper heard a CPU's note: who told it. Of any other event none.
+    /// Where the seat heard a CPU's note: who told it. None where it heard the keeper's, and of any other event.
     pub teller: Option<Teller>,
 }
 

@@ -193,14 +193,14 @@ after_hold looks a x b y hold more are =
     }
 
 -- a note that the keeper hears makes no change, and no entry another
-heard_changes : (log : List LogItem) (h : Option Teller) → changes_in (log ++ heard_from h) ≡ changes_in log
-heard_changes log h = changes_last log (has_heard_from h)
+heard_changes : (log : List LogItem) (h : Option Teller) → changes_in (log ++ heard_from None h) ≡ changes_in log
+heard_changes log h = changes_last log (has_heard_from None h)
 
-heard_ready : (cpus : ℕ) (numbers : List (Option ℕ)) (log : List LogItem) (h : Option Teller) → ((t n : ℕ) → IsDetachedFrom t n log → IsReady cpus numbers log t n) → (t n : ℕ) → IsDetachedFrom t n (log ++ heard_from h) → IsReady cpus numbers (log ++ heard_from h) t n
+heard_ready : (cpus : ℕ) (numbers : List (Option ℕ)) (log : List LogItem) (h : Option Teller) → ((t n : ℕ) → IsDetachedFrom t n log → IsReady cpus numbers log t n) → (t n : ℕ) → IsDetachedFrom t n (log ++ heard_from None h) → IsReady cpus numbers (log ++ heard_from None h) t n
 heard_ready cpus numbers log h are t n gone = ⊎_elim
-    (λ (passed : (c : ℕ) → c < cpus → HasPassedOn t c log). inl (λ c lt. passed_on t c log (heard_from h) (refl, tt) (passed c lt)))
-    (λ (retired : (get_or numbers t None ≡ Some n) × ((j : ℕ) → j < cpus → (w : ℕ) × IsSnapped t j w log)). inr (retired.0, λ j lt. let w = retired.1 j lt in (w.0, snapped_on t j w.0 log (heard_from h) (refl, tt) w.1)))
-    (are t n (sym (standing_last t log (has_heard_from h)) ∙ gone))
+    (λ (passed : (c : ℕ) → c < cpus → HasPassedOn t c log). inl (λ c lt. passed_on t c log (heard_from None h) (refl, tt) (passed c lt)))
+    (λ (retired : (get_or numbers t None ≡ Some n) × ((j : ℕ) → j < cpus → (w : ℕ) × IsSnapped t j w log)). inr (retired.0, λ j lt. let w = retired.1 j lt in (w.0, snapped_on t j w.0 log (heard_from None h) (refl, tt) w.1)))
+    (are t n (sym (standing_last t log (has_heard_from None h)) ∙ gone))
 
 none_is_seen : (c : ℕ) → is_seen none_seen c ≡ true → ⊥
 none_is_seen c is = false≢true (sym (get_or_all {X = Bool} MOST_CPUS false c) ∙ is)

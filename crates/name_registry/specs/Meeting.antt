@@ -22,7 +22,7 @@ is_inside x = is_some x.view.begin
 
 -- the keeper heard a note of the CPU's, and its log says that this CPU told it
 abbrev pub hears_cpu : OnCpu → List LogItem
-hears_cpu x = heard_from (Some (as_teller x))
+hears_cpu x = heard_from None (Some (as_teller x))
 
 -- the keeper as it has heard what the CPU has seen
 abbrev pub keeper_after_hear : OnKeeper → OnCpu → OnKeeper

@@ -53,7 +53,7 @@ pub fn hear_keeper<D: Domain>(words: &Words, keeper: &mut Keeper, note: Note<D>)
     ensures told { IsPrefix note.pass keeper.new.keeper.view.history }
     ensures view { keeper.new.keeper.view ≡ keeper_with_note keeper.old.keeper.view note.pass }
     ensures slots { keeper.new.keeper.slots ≡ keeper.old.keeper.slots }
-    ensures log { keeper.new.keeper.log ≡ keeper.old.keeper.log ++ heard_from note.teller }
+    ensures log { keeper.new.keeper.log ≡ keeper.old.keeper.log ++ heard_from None note.teller }
     ensures known_log { IsPrefix note.known_log keeper.old.keeper.log }
     ensures own { HasOwnLog keeper.old.words.settings keeper.old.keeper }
     ensures words { keeper.new.words ≡ keeper.old.words }
@@ -69,7 +69,7 @@ pub fn hear_keeper_on(words: &Words, keeper: &mut Keeper, note: NoteSeat)
     ensures told { IsPrefix note.view keeper.new.keeper.view.history }
     ensures view { keeper.new.keeper.view ≡ keeper_with_note keeper.old.keeper.view note.view }
     ensures slots { keeper.new.keeper.slots ≡ keeper.old.keeper.slots }
-    ensures log { keeper.new.keeper.log ≡ keeper.old.keeper.log ++ heard_from note.teller }
+    ensures log { keeper.new.keeper.log ≡ keeper.old.keeper.log ++ heard_from None note.teller }
     ensures known_log { IsPrefix note.known_log keeper.old.keeper.log }
     ensures own { HasOwnLog keeper.old.words.settings keeper.old.keeper }
     ensures words { keeper.new.words ≡ keeper.old.words }

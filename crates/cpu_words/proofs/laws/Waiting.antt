@@ -1,7 +1,7 @@
 -- Waiting: where the keeper took the section word of each CPU, and later found each even or another one, each section that was open before has ended.
-use Rattle.std.proofs.Common.{◌≡◌, ◌⊎◌, inl, inr, ⊎_elim, ℕ, ◌+◌, ◌-◌, ◌%◌, ◌<◌, ◌≤◌, IsTrue, List, [], ◌∷◌, ◌++◌, length, take, drop, Some, refl, sym, ap, ◌∙◌, subst, length-append, append_assoc, arith}
+use Rattle.std.proofs.Common.{None, ◌≡◌, ◌⊎◌, inl, inr, ⊎_elim, ℕ, ◌+◌, ◌-◌, ◌%◌, ◌<◌, ◌≤◌, IsTrue, List, [], ◌∷◌, ◌++◌, length, take, drop, Some, refl, sym, ap, ◌∙◌, subst, length-append, append_assoc, arith}
 use Rattle.std.proofs.lemmas.Bool.{cases_lt}
-use Rattle.std.proofs.lemmas.List.{append_cancel_left, append_cancel_right, take_at, take-append-drop, length-take-le}
+use Rattle.std.proofs.lemmas.List.{append_cancel_left, append_cancel_right, take_at, take-append-drop, take-append-le, length-take-le}
 use Rattle.std.proofs.lemmas.Option.{none-some}
 use Rattle.std.proofs.Math.Seq.{take-append-add}
 use mathlib.Core.Option.{some}
@@ -25,7 +25,7 @@ use Rattle.cpu_words.specs.Rule.{log_of_events}
 use Rattle.cpu_words.specs.KeeperLog.{changes_in, has_taken, has_found, has_heard_from, HasHeardFrom, IsSeenOut, HasWaited}
 use Rattle.cpu_words.specs.Logs.{part, AreByOwn}
 use Rattle.cpu_words.specs.Headline.{RunsAsLogged}
-use Rattle.cpu_words.specs.Waiting.{HasEndedOn, HasEndedSince, IsBefore, HaveEnded, WaitingEnds}
+use Rattle.cpu_words.specs.Waiting.{HasEndedOn, HasEndedSince, HadHeard, IsBeforeTelling, HaveEnded, WaitingEnds}
 use Rattle.cpu_words.proofs.shown.Seeing.{seen_of}
 use Rattle.cpu_words.proofs.laws.Safety.{running_headline}
 use Rattle.cpu_words.proofs.logs.Changes.{counted, run_as_logged}
@@ -216,31 +216,58 @@ seen_past c first looks seen = record {
   moved = seen.moved;
 }
 
+-- A moment at which a CPU had made fewer events is before one at which it had made these.
+fewer_acts : (i n m : ℕ) (acts acts_then later : List (ℕ × LogItem)) → acts ≡ acts_then ++ later → n ≤ length (part i acts_then) → length (part i (take m acts)) < n → m < length acts_then
+fewer_acts i n m acts acts_then later are come few = ⊎_elim
+    (λ (lt : m < length acts_then). lt)
+    (λ (le : length acts_then ≤ m).
+    let j = m - length acts_then in
+    let at : take m acts ≡ acts_then ++ take j later =
+    ap (λ (n : ℕ). take n acts) (let q : m ≡ length acts_then + j = omega (arith, le) in q) ∙ (ap (take (length acts_then + j)) are ∙ take-append-add acts_then later j) in
+    let size : length (part i (take m acts)) ≡ length (part i acts_then) + length (part i (take j later)) =
+    ap (λ (l : List (ℕ × LogItem)). length (part i l)) at ∙ (ap (λ (l : List LogItem). length l) (part_append i acts_then (take j later)) ∙ length-append (part i acts_then) (part i (take j later))) in
+    absurd (omega (arith, few, size, come)))
+    (cases_lt m (length acts_then))
+
+more_made : (i : ℕ) (first second : List (ℕ × LogItem)) → length (part i first) ≤ length (part i (first ++ second))
+more_made i first second = let size = ap (λ (l : List LogItem). length l) (part_append i first second) ∙ length-append (part i first) (part i second) in omega (arith, size)
+
 -- The CPU of h had made h's events when the keeper heard it: so a moment at which it had made fewer is before all that the keeper did since.
 few_acts : (z : Settings) (s : Table ℕ Logged) (r : RunsAsLogged z s) (h : Teller) (log : List LogItem) (acts_then later : List (ℕ × LogItem)) (first : List Event)
-    → r.acts ≡ acts_then ++ later → part 0 acts_then ≡ log → HasHeardFrom h log → IsBefore r h first → length first ≤ length acts_then
+    → r.acts ≡ acts_then ++ later → part 0 acts_then ≡ log → HasHeardFrom None h log → IsBeforeTelling r h first → length first ≤ length acts_then
 few_acts z s r h log acts_then later first are mine heard few =
     let i = r.run.seat h.cpu in
-    let p = place 0 acts_then heard.before heard.after (has_heard_from (Some h)) (mine ∙ heard.are) in
-    let rest : List (ℕ × LogItem) = (0, has_heard_from (Some h)) ∷ p.second in
-    let whole : r.acts ≡ p.first ++ (0, has_heard_from (Some h)) ∷ (p.second ++ later) = are ∙ (ap (λ (l : List (ℕ × LogItem)). l ++ later) p.are ∙ append_assoc p.first rest later) in
-    let come : h.events ≤ length (part i p.first) = (r.told 0 (has_heard_from (Some h)) p.first (p.second ++ later) whole).before.events in
-    let then_size : length (part i acts_then) ≡ length (part i p.first) + length (part i rest) =
-    ap (λ (l : List (ℕ × LogItem)). length (part i l)) p.are ∙ (ap (λ (l : List LogItem). length l) (part_append i p.first rest) ∙ length-append (part i p.first) (part i rest)) in
-    ⊎_elim
-    (λ (lt : length first < length acts_then). omega (arith, lt))
-    (λ (le : length acts_then ≤ length first).
-    let j = length first - length acts_then in
-    let at : take (length first) r.acts ≡ acts_then ++ take j later =
-    ap (λ (n : ℕ). take n r.acts) (let q : length first ≡ length acts_then + j = omega (arith, le) in q) ∙ (ap (take (length acts_then + j)) are ∙ take-append-add acts_then later j) in
-    let size : length (part i (take (length first) r.acts)) ≡ length (part i acts_then) + length (part i (take j later)) =
-    ap (λ (l : List (ℕ × LogItem)). length (part i l)) at ∙ (ap (λ (l : List LogItem). length l) (part_append i acts_then (take j later)) ∙ length-append (part i acts_then) (part i (take j later))) in
-    absurd (omega (arith, few, size, then_size, come)))
-    (cases_lt (length first) (length acts_then))
+    let item = has_heard_from None (Some h) in
+    let p = place 0 acts_then heard.before heard.after item (mine ∙ heard.are) in
+    let whole : r.acts ≡ p.first ++ (0, item) ∷ (p.second ++ later) = are ∙ (ap (λ (l : List (ℕ × LogItem)). l ++ later) p.are ∙ append_assoc p.first ((0, item) ∷ p.second) later) in
+    let come : h.events ≤ length (part i p.first) = (r.told 0 item p.first (p.second ++ later) whole).before.events in
+    let more = more_made i p.first ((0, item) ∷ p.second) in
+    let size : length (part i acts_then) ≡ length (part i (p.first ++ (0, item) ∷ p.second)) = ap (λ (l : List (ℕ × LogItem)). length (part i l)) p.are in
+    let lt = fewer_acts i h.events (length first) r.acts acts_then later are (omega (arith, come, more, size)) few in
+    omega (arith, lt)
+
+-- A moment before a note was told is one before whoever heard it told on.
+before_heard : (z : Settings) (s : Table ℕ Logged) (r : RunsAsLogged z s) (h k : Teller) (first : List Event) → HadHeard r h k → IsBeforeTelling r k first → IsBeforeTelling r h first
+before_heard z s r h k first had few =
+    let i = r.run.seat h.cpu in
+    let item = has_heard_from (Some h.cpu) (Some k) in
+    let n = length first in
+    let flat : part i r.acts ≡ had.heard.before ++ item ∷ (had.heard.after ++ had.more) = had.own ∙ (ap (λ (l : List LogItem). l ++ had.more) had.heard.are ∙ append_assoc had.heard.before (item ∷ had.heard.after) had.more) in
+    let p = place i r.acts had.heard.before (had.heard.after ++ had.more) item flat in
+    let come : k.events ≤ length (part (r.run.seat k.cpu) p.first) = (r.told i item p.first p.second p.are).before.events in
+    let lt = fewer_acts (r.run.seat k.cpu) k.events n r.acts p.first ((i, item) ∷ p.second) p.are come few in
+    let le : n ≤ length p.first = omega (arith, lt) in
+    let at : take n r.acts ≡ take n p.first = ap (take n) p.are ∙ take-append-le n p.first ((i, item) ∷ p.second) le in
+    let more = more_made i (take n p.first) (drop n p.first) in
+    let both : length (part i (take n p.first ++ drop n p.first)) ≡ length had.heard.before = ap (λ (l : List (ℕ × LogItem)). length (part i l)) (take-append-drop n p.first) ∙ ap (λ (l : List LogItem). length l) (part_placed i r.acts had.heard.before (had.heard.after ++ had.more) item flat p) in
+    let size : length had.log ≡ length had.heard.before + length (item ∷ had.heard.after) = ap (λ (l : List LogItem). length l) had.heard.are ∙ length-append had.heard.before (item ∷ had.heard.after) in
+    let here : length (part i (take n r.acts)) ≡ length (part i (take n p.first)) = ap (λ (l : List (ℕ × LogItem)). length (part i l)) at in
+    let low = had.few in
+    omega (arith, here, more, both, size, low)
 
 -- so each section that was open at that moment has ended
 ended_since : (z : Settings) (s : Table ℕ Logged) (r : RunsAsLogged z s) (before since known : List LogItem) (acts_then later : List (ℕ × LogItem)) (h : Teller) (first rest : List Event)
-    → IsTrue (are_fit z) → r.acts ≡ acts_then ++ later → part 0 acts_then ≡ before → part 0 later ≡ since ++ known → HasWaited since z.cpus → HasHeardFrom h before → r.run.events ≡ first ++ rest → IsBefore r h first
+    → IsTrue (are_fit z) → r.acts ≡ acts_then ++ later → part 0 acts_then ≡ before → part 0 later ≡ since ++ known → HasWaited since z.cpus → HasHeardFrom None h before → r.run.events ≡ first ++ rest → IsBeforeTelling r h first
     → HasEndedSince z first rest (changes_in before)
 ended_since z s r before since known acts_then later h first rest fit are mine its waited heard cut_is few =
     let g = after (opening z) r.run.events in
@@ -281,6 +308,7 @@ have_ended z s i l before since r at are waited =
       exits = λ c b lt is. subst (λ (q : State). HasExit q c k.later) there ((w c lt).exits b (ap (λ (q : State). begin_at q c) there ∙ is));
       each = λ c lt. ended_on z s r before since known.0 h.first h.second h.are h.mine k.earlier k.later k.between k.are k.size there c (w c lt);
       told = λ m first rest heard cut_is few. ended_since z s r before since known.0 h.first h.second m first rest fit h.are h.mine h.rest waited heard cut_is few;
+      heard = λ m k first rest heard had cut_is few. ended_since z s r before since known.0 h.first h.second m first rest fit h.are h.mine h.rest waited heard cut_is (before_heard z s r m k first had few);
       begun = begun;
       none = λ i j p k x e keeper cpu ends le may.
           let shown = (run.shows.fits j (Cpu x) cpu).1 in

@@ -1,5 +1,5 @@
 -- What a step needs of the table's own steps, by what its seat may do.
-use Rattle.std.proofs.Common.{◌≡◌, ℕ, List, [], ◌++◌, None, refl, sym, subst}
+use Rattle.std.proofs.Common.{◌≡◌, ℕ, List, [], ◌++◌, Some, None, refl, sym, subst}
 use Rattle.std.specs.Prelude.{slice_index}
 use Rattle.atomic_table.specs.Table.{Me, Step, Allows, keeps}
 use Rattle.registry_values.specs.declared.settings.Settings.{Settings}
@@ -69,16 +69,16 @@ allows_reference z y x slots id me i does tells st same view is own may =
 
 -- Loads that hear
 
-pub allows_hearing : (z y : Settings) (x : CpuView) (slots id : ℕ) (me : Me ℕ Logged) (i : ℕ) (does : CpuView → ℕ → List LogItem) (tells : CpuView → ℕ → CpuView → Type 0) (st : Step ℕ)
-    → z ≡ y → x ≡ cpu_of me.0.view → me ≡ (record me.0 { view = Cpu (cpu_of me.0.view) }, []) → ((n : ℕ) → AreBy (the_cpu x.id) (does x n)) → CpuMay z x i (λ n. n) (does x) tells → Allows (LoggedRuled y) slots id me i (λ n. n) (heard_by_cpu does tells st me)
-allows_hearing z y x slots id me i does tells st same view is own may =
-    subst (λ (m : Me ℕ Logged). Allows (LoggedRuled y) slots id m i (λ n. n) (heard_by_cpu does tells st m)) (sym is)
-    (by (cpu_of me.0.view) me.0 (subst (λ (y : CpuView). (n : ℕ) → AreBy (the_cpu y.id) (does y n)) view own) (subst (λ (p : Settings × CpuView). CpuMay p.0 p.1 i (λ n. n) (does p.1) tells) (λ k. (same k, view k)) may))
+pub allows_hearing : (z y : Settings) (x : CpuView) (slots id : ℕ) (me : Me ℕ Logged) (i : ℕ) (tells : CpuView → CpuView → Type 0) (st : Step ℕ)
+    → z ≡ y → x ≡ cpu_of me.0.view → me ≡ (record me.0 { view = Cpu (cpu_of me.0.view) }, []) → CpuMay z x i (λ n. n) (λ n. did (Hear (Some x.id)) Done) (λ v n w. tells v w) → Allows (LoggedRuled y) slots id me i (λ n. n) (heard_by_cpu tells st me)
+allows_hearing z y x slots id me i tells st same view is may =
+    subst (λ (m : Me ℕ Logged). Allows (LoggedRuled y) slots id m i (λ n. n) (heard_by_cpu tells st m)) (sym is)
+    (by (cpu_of me.0.view) me.0 (subst (λ (p : Settings × CpuView). CpuMay p.0 p.1 i (λ n. n) (λ n. did (Hear (Some p.1.id)) Done) (λ v n w. tells v w)) (λ k. (same k, view k)) may))
   where
-    by : (u : CpuView) (l : Logged) → ((n : ℕ) → AreBy (the_cpu u.id) (does u n)) → CpuMay y u i (λ n. n) (does u) tells → Allows (LoggedRuled y) slots id (record l { view = Cpu u }, []) i (λ n. n) (heard_by_cpu does tells st (record l { view = Cpu u }, []))
-    by u l own may s r size at fits =
-        let d = logged_hears y (record l { view = Cpu u }) i (λ n. n) (does u) (λ n w. (w ≡ Cpu (cpu_of w)) × tells u n (cpu_of w)) tt own may s r id at fits in
-        let after = l.log ++ does u (slice_index s.words i) in
+    by : (u : CpuView) (l : Logged) → CpuMay y u i (λ n. n) (λ n. did (Hear (Some u.id)) Done) (λ v n w. tells v w) → Allows (LoggedRuled y) slots id (record l { view = Cpu u }, []) i (λ n. n) (heard_by_cpu tells st (record l { view = Cpu u }, []))
+    by u l may s r size at fits =
+        let d = logged_hears y (record l { view = Cpu u }) i (λ n. n) (Some u.id) (λ n w. (w ≡ Cpu (cpu_of w)) × tells u (cpu_of w)) tt refl may s r id at fits in
+        let after = l.log ++ heard_from (Some u.id) l.teller in
         (record l { view = d.0; log = after; known_log = d.1 }, keeps, tt, d.2, ((λ k. (record l { view = d.3.0 k; log = after; known_log = d.1 }, [])), refl, d.3.1, d.4, subst (λ (ds : List LogItem). IsShownAfter ds (Cpu u)) (sym d.5) (shown_after y (Cpu u) l s r id at)))
 
 -- the keeper's load that hears a note
@@ -91,7 +91,7 @@ allows_note_hearing z y x slots id me i tells st same view is may =
     by : (u : KeeperView) (l : Logged) → KeeperMay y u i (λ n. n) (λ n. did (Hear None) Done) (λ k n l. tells k l) → Allows (LoggedRuled y) slots id (record l { view = Keeper u }, []) i (λ n. n) (hears_note tells st (record l { view = Keeper u }, []))
     by u l may s r size at fits =
         let d = logged_heard y (record l { view = Keeper u }) i (λ n. n) (λ n w. (w ≡ Keeper (keeper_of w)) × tells u (keeper_of w)) tt refl may s r id at fits in
-        let after = l.log ++ heard_from l.teller in
+        let after = l.log ++ heard_from None l.teller in
         (record l { view = d.0; log = after }, keeps, tt, d.1, ((λ k. (record l { view = d.2.0 k; log = after }, [])), refl, d.2.1, own_log y u l s r id at))
 
 pub allows_keeper_hearing : (z y : Settings) (x : KeeperView) (slots id : ℕ) (me : Me ℕ Logged) (i : ℕ) (f : ℕ → ℕ) (does : KeeperView → ℕ → List LogItem) (tells : KeeperView → ℕ → KeeperView → Type 0) (st : Step ℕ)

@@ -20,7 +20,7 @@ use Rattle.protocol.specs.State.{State, opening}
 use Rattle.protocol.specs.Run.{empty_run}
 use Rattle.cpu_words.specs.Rule.{Sits, Ruled, GoesOn, did, log_of_events}
 use Rattle.cpu_words.specs.Steps.{Moves, SplitsOn, JoinsOn}
-use Rattle.cpu_words.specs.Logs.{without_logs, part, events_of, untold, IsStanding, Maker, the_keeper, the_cpu, another, maker, who, AreBy, IsSeatOf, AreByOwn, Knows, HasComeIf, AreToldBefore, spent_seat, LoggedRuled}
+use Rattle.cpu_words.specs.Logs.{without_logs, part, events_of, untold, IsStanding, Maker, the_keeper, the_cpu, another, maker, maker_of_note, who, AreBy, IsSeatOf, AreByOwn, Knows, HasComeIf, AreToldBefore, spent_seat, LoggedRuled}
 use Rattle.cpu_words.proofs.logs.Parts.{by_seat, part_append, part_own, part_other, events_of_seat}
 use Rattle.cpu_words.proofs.logs.Told.{AreToldPast, come_more, come_seats, told_more, plain_of_end, plain_from, plain_past, heard_past}
 use Rattle.cpu_words.specs.KeeperLog.{KnownLogGrows, heard_from}
@@ -192,24 +192,24 @@ logged_moves z l i f ds tells stands by moves s r id at fits =
     let done = moves (without_logs s) r.run id (at_map (λ (x : Logged). x.view) s.views id l at) fits in
     (done.0, goes_plainly z l i (f word) (ds word) done.0 s r id at stands (by word) done.1 l.known_log (r.known id l at).0, done.2)
 
--- the same of a load that hears: what the seat has heard then is all that the keeper did
-abbrev pub LoggedHears : Settings → Logged → ℕ → (ℕ → ℕ) → (ℕ → List LogItem) → (ℕ → View → Type 0) → Type 0
-LoggedHears z l i f ds tells = (s : Table ℕ Logged) (r : LoggedRuled z s) (id : ℕ) → get_elem? s.views id ≡ some l → slice_index s.words i < 18446744073709551616
-    → (w : View) × (d : List LogItem) × LoggedRuled z (stepped s i (f (slice_index s.words i)) id [] (record l { view = w; log = l.log ++ ds (slice_index s.words i); known_log = d }) keeps) × tells (slice_index s.words i) w × KnownLogGrows l.known_log l.noted_log d × (d ≡ part 0 r.acts)
+-- the same of a load that hears: what the seat has heard then is all that the keeper did, and its log says who told the note
+abbrev pub LoggedHears : Settings → Logged → ℕ → (ℕ → ℕ) → Option ℕ → (ℕ → View → Type 0) → Type 0
+LoggedHears z l i f by tells = (s : Table ℕ Logged) (r : LoggedRuled z s) (id : ℕ) → get_elem? s.views id ≡ some l → slice_index s.words i < 18446744073709551616
+    → (w : View) × (d : List LogItem) × LoggedRuled z (stepped s i (f (slice_index s.words i)) id [] (record l { view = w; log = l.log ++ heard_from by l.teller; known_log = d }) keeps) × tells (slice_index s.words i) w × KnownLogGrows l.known_log l.noted_log d × (d ≡ part 0 r.acts)
 
-pub logged_hears : (z : Settings) (l : Logged) (i : ℕ) (f : ℕ → ℕ) (ds : ℕ → List LogItem) (tells : ℕ → View → Type 0) → IsStanding l.view → ((n : ℕ) → AreBy (who l.view) (ds n)) → Moves z l.view i f ds tells → LoggedHears z l i f ds tells
-logged_hears z l i f ds tells stands by moves s r id at fits =
+pub logged_hears : (z : Settings) (l : Logged) (i : ℕ) (f : ℕ → ℕ) (by : Option ℕ) (tells : ℕ → View → Type 0) → IsStanding l.view → maker_of_note by ≡ who l.view → Moves z l.view i f (λ _. did (Hear by) Done) tells → LoggedHears z l i f by tells
+logged_hears z l i f by tells stands own moves s r id at fits =
     let word = slice_index s.words i in
     let done = moves (without_logs s) r.run id (at_map (λ (x : Logged). x.view) s.views id l at) fits in
     let all = part 0 r.acts in
-    (done.0, all, goes_plainly z l i (f word) (ds word) done.0 s r id at stands (by word) done.1 all ([], append-nil all), done.2, r.known id l at, refl)
+    (done.0, all, logged_goes z l i (f word) (heard_from by l.teller) (did (Hear by) Done) done.0 s r id at stands (own, tt) refl (heard_past r.run.seat r.run.g.seated id by l.teller r.acts (r.tellers id l at)) done.1 all ([], append-nil all), done.2, r.known id l at, refl)
 
--- and of the keeper's load that hears a note: its log says who told that
-pub logged_heard : (z : Settings) (l : Logged) (i : ℕ) (f : ℕ → ℕ) (tells : ℕ → View → Type 0) → IsStanding l.view → who l.view ≡ the_keeper → Moves z l.view i f (λ _. did (Hear None) Done) tells → LoggedMoves z l i f (λ _. heard_from l.teller) tells
-logged_heard z l i f tells stands keeper moves s r id at fits =
+-- and of the keeper's, which knows its own log
+pub logged_heard : (z : Settings) (l : Logged) (i : ℕ) (f : ℕ → ℕ) (tells : ℕ → View → Type 0) → IsStanding l.view → the_keeper ≡ who l.view → Moves z l.view i f (λ _. did (Hear None) Done) tells → LoggedMoves z l i f (λ _. heard_from None l.teller) tells
+logged_heard z l i f tells stands own moves s r id at fits =
     let word = slice_index s.words i in
     let done = moves (without_logs s) r.run id (at_map (λ (x : Logged). x.view) s.views id l at) fits in
-    (done.0, logged_goes z l i (f word) (heard_from l.teller) (did (Hear None) Done) done.0 s r id at stands (sym keeper, tt) refl (heard_past r.run.seat r.run.g.seated id l.teller r.acts (r.tellers id l at)) done.1 l.known_log (r.known id l at).0, done.2)
+    (done.0, logged_goes z l i (f word) (heard_from None l.teller) (did (Hear None) Done) done.0 s r id at stands (own, tt) refl (heard_past r.run.seat r.run.g.seated id None l.teller r.acts (r.tellers id l at)) done.1 l.known_log (r.known id l at).0, done.2)
 
 -- A seat is cut in two, or takes in another
 

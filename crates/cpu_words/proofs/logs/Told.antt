@@ -101,7 +101,7 @@ plain_of_end [] b plain = plain
 plain_of_end (x ∷ a) b plain = plain_of_end a b (same_rest (untold x) x (map untold (a ++ b)) (a ++ b) plain)
 
 no_teller_if : (e : Event) → None ≡ teller_if e None
-no_teller_if (Hear None) = refl
+no_teller_if (Hear by) = refl
 no_teller_if e = refl
 
 plain_told : (seat : ℕ → ℕ) (n : ℕ) (first : List (ℕ × LogItem)) (d : LogItem) → d.teller ≡ None → IsToldBefore seat n first d
@@ -120,11 +120,11 @@ plain_past seat n id (x ∷ ds) acts plain i d (y ∷ past) rest is =
     let one = plain_past seat n id ds (acts ++ y ∷ []) (same_rest (untold x) x (map untold ds) ds plain) i d past rest (same_acts (id, x) y (by_seat id ds) (past ++ (i, d) ∷ rest) is) in
     subst (λ (l : List (ℕ × LogItem)). IsToldBefore seat n l d) (append_assoc acts (y ∷ []) past) one
 
--- The keeper's Hear of a note whose teller has come so far
+-- A Hear of a note whose teller has come so far
 
-pub heard_past : (seat : ℕ → ℕ) (n id : ℕ) (h : Option Teller) (acts : List (ℕ × LogItem)) → HasComeIf seat n acts h → AreToldPast seat n acts (by_seat id (heard_from h))
-heard_past seat n id h acts come i d [] rest is =
-    let here : has_heard_from h ≡ d = ap (λ (a : ℕ × LogItem). a.1) (same_act (id, has_heard_from h) (i, d) [] rest is) in
+pub heard_past : (seat : ℕ → ℕ) (n id : ℕ) (by : Option ℕ) (h : Option Teller) (acts : List (ℕ × LogItem)) → HasComeIf seat n acts h → AreToldPast seat n acts (by_seat id (heard_from by h))
+heard_past seat n id by h acts come i d [] rest is =
+    let here : has_heard_from by h ≡ d = ap (λ (a : ℕ × LogItem). a.1) (same_act (id, has_heard_from by h) (i, d) [] rest is) in
     subst (IsToldBefore seat n (acts ++ [])) here (record { only = refl; before = subst (λ (l : List (ℕ × LogItem)). HasComeIf seat n l h) (sym (append-nil acts)) come })
-heard_past seat n id h acts come i d (y ∷ past) rest is =
-    absurd (no_act past rest (i, d) (same_acts (id, has_heard_from h) y [] (past ++ (i, d) ∷ rest) is))
+heard_past seat n id by h acts come i d (y ∷ past) rest is =
+    absurd (no_act past rest (i, d) (same_acts (id, has_heard_from by h) y [] (past ++ (i, d) ∷ rest) is))

@@ -28,7 +28,7 @@ use Rattle.cpu_words.proofs.laws.Reaching.{more}
 use Rattle.cpu_words.proofs.logs.Seats.{tells_known, tells_whole, seat_cut, seat_with_note, names_nobody, names_cpu}
 use Rattle.cpu_words.specs.Logs.{the_cpu, who, LoggedRuled, logged_after_split, known_log_of, whole_log, fresh, logged_with_note, spent_seat, tells_pass, tells_history, told_by_cpu, no_teller}
 use Rattle.cpu_words.specs.Sections.{IsIdle}
-use Rattle.cpu_words.specs.Notes.{as_before, pass_told, history_told, with_note, keeper_with_note, beside_cpu, beside_keeper, HasHeard, KeeperHasHeard}
+use Rattle.cpu_words.specs.Notes.{as_before, pass_told, history_told, with_note, keeper_with_note, beside_cpu, beside_keeper, HasHeard, KeeperHasHeard, CpuHears}
 use Rattle.cpu_words.specs.Spots.{section_of, head_word, index}
 use Rattle.cpu_words.proofs.shown.Showing.{Stay, shows_split, shows_join}
 use Rattle.cpu_words.proofs.shown.Passes.{taken_is_prefix, prefix_longer, take_whole}
@@ -220,6 +220,10 @@ hear_may z x c id idle = subst (λ d. CpuMay z x (index (section_of d)) (λ n. n
     let change : y ≡ record x { pass = y.pass } = ap (λ (v : CpuView). record v { pass = y.pass }) (sym had.is) in
     (Cpu y, done.0, (refl, (done.1, (told, longer, change)))))
 
+-- at the place of its section word
+pub own_hear_may : (z : Settings) (x : CpuView) (c i : ℕ) → x.id ≡ c → i ≡ index (section_of c) → IsIdle x → CpuMay z x i (λ n. n) (λ n. did (Hear (Some x.id)) Done) (λ v n y. CpuHears v y)
+own_hear_may z x c i id place idle = subst (λ j. CpuMay z x j (λ n. n) (λ n. did (Hear (Some x.id)) Done) (λ v n y. CpuHears v y)) (sym (place ∙ sym (ap (λ d. index (section_of d)) id))) (hear_may z x x.id refl idle)
+
 pub hear_keeper_may : (z : Settings) (k : KeeperView) → k.due ≡ Rest → KeeperMay z k (index head_word) (λ n. n) (λ n. did (Hear None) Done) (λ v n l. Makes (Hear None) Done (Keeper v) (Keeper l) × KeeperHasHeard v l)
 hear_keeper_may z k may s r i at fits =
     let g = r.g in
@@ -235,11 +239,16 @@ hear_keeper_may z k may s r i at fits =
 
 -- the same of a seat with the note beside its view
 
-pub hear_with_note_may : (z : Settings) (x y : CpuView) (h : List Change) (c : ℕ) → y ≡ with_note x h → x.id ≡ c → IsIdle x → CpuMay z y (index (section_of c)) (λ n. n) (λ n. did (Hear (Some c)) Done) (λ v n w. Makes (Hear (Some c)) Done (Cpu v) (Cpu w) × HasHeard v w)
-hear_with_note_may z x y h c logged_with_note id idle = hear_may z y c (ap (λ (v : CpuView). v.id) logged_with_note ∙ id) (record { search = ap (λ (v : CpuView). v.search) logged_with_note ∙ idle.search; hand = ap (λ (v : CpuView). v.hand) logged_with_note ∙ idle.hand })
-
 pub hear_keeper_with_note_may : (z : Settings) (k l : KeeperView) (h : List Change) → l ≡ keeper_with_note k h → k.due ≡ Rest → KeeperMay z l (index head_word) (λ n. n) (λ n. did (Hear None) Done) (λ v n w. Makes (Hear None) Done (Keeper v) (Keeper w) × KeeperHasHeard v w)
 hear_keeper_with_note_may z k l h logged_with_note may = hear_keeper_may z l (ap (λ (v : KeeperView). v.due) logged_with_note ∙ may)
+
+-- as a note is laid beside it a view stays idle, and the load after it is the CPU's own
+
+pub laid_idle : (x y : CpuView) (h : List Change) → y ≡ with_note x h → IsIdle x → IsIdle y
+laid_idle x y h laid idle = record { search = ap (λ (v : CpuView). v.search) laid ∙ idle.search; hand = ap (λ (v : CpuView). v.hand) laid ∙ idle.hand }
+
+pub heard_event : (x y w : CpuView) (h : List Change) (c : ℕ) → y ≡ with_note x h → x.id ≡ c → Makes (Hear (Some y.id)) Done (Cpu y) (Cpu w) → Makes (Hear (Some c)) Done (Cpu (with_note x h)) (Cpu w)
+heard_event x y w h c laid id made = subst (λ (d : ℕ). Makes (Hear (Some d)) Done (Cpu (with_note x h)) (Cpu w)) id (subst (λ (v : CpuView). Makes (Hear (Some v.id)) Done (Cpu v) (Cpu w)) laid made)
 
 -- what was heard is what the note told
 

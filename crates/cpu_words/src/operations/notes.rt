@@ -1,19 +1,21 @@
 //! How a note is cut off a seat that has seen something, and laid beside the view of a seat that is to hear it.
 
-ghost use Rattle.std.specs.Prelude.{◌≡◌, ℕ, ◌<◌, ◌++◌};
+ghost use Rattle.std.specs.Prelude.{◌≡◌, ℕ, ◌<◌, ◌++◌, Some, None};
 ghost use Rattle.cpu_words.specs.declared.view.View.TheVariants.{Cpu};
 ghost use Rattle.protocol.specs.declared.state.Due.TheVariants.{Rest};
 ghost use Rattle.cpu_words.specs.KeeperLog.{KnownLogGrows, heard_from, IsOwnLog, IsShownAfter};
-ghost use Rattle.cpu_words.specs.Logs.{the_cpu, the_keeper, AreBy};
-ghost use Rattle.cpu_words.specs.Notes.{with_note, keeper_with_note, KeeperHears};
-ghost use Rattle.cpu_words.specs.Steps.{CpuMay, KeeperMay};
+ghost use Rattle.cpu_words.specs.Logs.{the_keeper, AreBy};
+ghost use Rattle.cpu_words.specs.Notes.{with_note, keeper_with_note, CpuHears, KeeperHears};
+ghost use Rattle.cpu_words.specs.Sections.{IsIdle};
+ghost use Rattle.cpu_words.specs.Steps.{KeeperMay};
 
-use crate::law::{CpuHearing, CpuTale, KeeperHearing, KeeperTale, NoteHearing, Words};
-use crate::layout::{HEAD, WORDS};
+use crate::law::{CpuHearing, KeeperHearing, KeeperTale, NoteHearing, Words};
+use crate::layout::{HEAD, WORDS, section_place};
 use crate::seat::{CpuSeat, KeeperSeat, NoteSeat};
 use crate::view::Logged;
 use atomic_table::{Join, Split};
 use protocol::Event;
+use registry_values::MOST_CPUS;
 
 /// A note of a CPU's pass, or to a CPU.
 pub(crate) struct CpuNote;
@@ -63,7 +65,7 @@ pub(crate) fn lay(words: &Words, seat: &mut CpuSeat, note: NoteSeat)
     ensures table { seat.new.table ≡ seat.old.table }
     ensures change { seat.new.view ≡ with_note seat.old.view note.view }
     ensures log { seat.new.log ≡ seat.old.log }
-    ensures known_log { (seat.new.known_log ≡ seat.old.known_log) × (seat.new.noted_log ≡ note.known_log) }
+    ensures known_log { (seat.new.known_log ≡ seat.old.known_log) × (seat.new.noted_log ≡ note.known_log) × (seat.new.teller ≡ note.teller) }
 {
     let NoteSeat { token } = note;
     words
@@ -87,29 +89,21 @@ pub(crate) fn lay_by_keeper(words: &Words, keeper: &mut KeeperSeat, note: NoteSe
         .join_seat::<KeeperNote>(&mut keeper.token, token);
 }
 
-/// The load by which a CPU hears the note that lies beside its view.
-pub(crate) fn listen<T: CpuTale>(
-    words: &Words,
-    seat: &mut CpuSeat,
-    word: usize,
-    event: Event,
-) -> u64
+/// The load of its section word by which a CPU hears the note that lies beside its view: its log says who told it.
+pub(crate) fn listen(words: &Words, seat: &mut CpuSeat, cpu: u8)
     requires table { seat.old.table ≡ words.now.table }
-    requires place { word < WORDS }
-    requires own { (n : ℕ) → AreBy (the_cpu seat.old.view.id) (T.does seat.old.view n) }
-    requires may { CpuMay words.now.settings seat.old.view word (λ n. n) (T.does seat.old.view) T.tells }
+    requires cpu { (cpu < MOST_CPUS) × (seat.old.view.id ≡ cpu) }
+    requires may { IsIdle seat.old.view }
     ensures table { seat.new.table ≡ seat.old.table }
-    ensures told { T.tells seat.old.view result seat.new.view }
-    ensures log { seat.new.log ≡ seat.old.log ++ T.does seat.old.view result }
+    ensures told { CpuHears seat.old.view seat.new.view }
+    ensures log { seat.new.log ≡ seat.old.log ++ heard_from (Some seat.old.view.id) seat.old.teller }
     ensures known_log { KnownLogGrows seat.old.known_log seat.old.noted_log seat.new.known_log }
     ensures counts { IsShownAfter seat.new.known_log (Cpu seat.old.view) }
 {
-    // The contract alone speaks of the event.
-    let _event = event;
     words
         .table
         .shared
-        .load::<CpuHearing<T>>(&mut seat.token, word)
+        .load::<CpuHearing>(&mut seat.token, section_place(cpu));
 }
 
 /// The load of the head by which the keeper hears the note that lies beside its view: its log says who told it.
@@ -118,7 +112,7 @@ pub(crate) fn hear_noted(words: &Words, keeper: &mut KeeperSeat)
     requires may { keeper.old.view.due ≡ Rest }
     ensures table { keeper.new.table ≡ keeper.old.table }
     ensures told { KeeperHears keeper.old.view keeper.new.view }
-    ensures log { keeper.new.log ≡ keeper.old.log ++ heard_from keeper.old.teller }
+    ensures log { keeper.new.log ≡ keeper.old.log ++ heard_from None keeper.old.teller }
     ensures own_log { IsOwnLog keeper.old.log keeper.old.noted_log keeper.old.view }
 {
     words

@@ -15,13 +15,10 @@ ghost use Rattle.cpu_words.specs.KeeperLog.{KnownLogGrows, heard_from, IsOwnLog,
 ghost use Rattle.cpu_words.specs.Logs.{teller_of};
 
 use crate::law::Words;
-use crate::layout::section_place;
 use crate::operations::notes;
 use crate::operations::notes::{CpuNote, KeeperNote};
 use crate::seat::{CpuSeat, KeeperSeat, NoteSeat};
-use protocol::Event;
 use registry_values::MOST_CPUS;
-use std::marker::Brand;
 
 /// CPU `cpu` tells what it has seen: the note has its pass, and what it has heard of the keeper's log, and names the CPU as its teller, with
 /// how many events it has made, this one among them. Condition: the seat is that CPU's, and idle.
@@ -65,8 +62,8 @@ pub fn tell_keeper(words: &Words, keeper: &mut KeeperSeat) -> NoteSeat
 }
 
 /// CPU `cpu` hears a note: its pass becomes the whole history, with what the note tells in it, and what it has heard of the keeper's log
-/// goes on to all that the note tells of it. The note is laid beside the seat's view, and one load of the CPU's section word is the event.
-/// Condition: the seat is that CPU's, and idle.
+/// goes on to all that the note tells of it. The note is laid beside the seat's view, and one load of the CPU's section word is the event, which
+/// stands in the CPU's log with the note's teller. Condition: the seat is that CPU's, and idle.
 pub fn hear(words: &Words, seat: &mut CpuSeat, cpu: u8, note: NoteSeat)
     requires table { (seat.old.table ≡ words.now.table) × (note.table ≡ words.now.table) }
     requires cpu { (cpu < MOST_CPUS) × (seat.old.view.id ≡ cpu) }
@@ -75,12 +72,12 @@ pub fn hear(words: &Words, seat: &mut CpuSeat, cpu: u8, note: NoteSeat)
     ensures event { Makes (Hear (Some cpu)) Done (Cpu (with_note seat.old.view note.view)) (Cpu seat.new.view) }
     ensures told { IsPrefix note.view seat.new.view.pass }
     ensures change { IsPrefix seat.old.view.pass seat.new.view.pass × (seat.new.view ≡ record seat.old.view { pass = seat.new.view.pass; noted_pass = note.view }) }
-    ensures log { seat.new.log ≡ seat.old.log ++ did (Hear (Some cpu)) Done }
+    ensures log { seat.new.log ≡ seat.old.log ++ heard_from (Some cpu) note.teller }
     ensures known_log { KnownLogGrows seat.old.known_log note.known_log seat.new.known_log }
     ensures counts { IsShownAfter seat.new.known_log (Cpu (with_note seat.old.view note.view)) }
 {
     notes::lay(words, seat, note);
-    notes::listen::<Brand>(words, seat, section_place(cpu), Event::Hear(Some(cpu)));
+    notes::listen(words, seat, cpu);
 }
 
 /// The keeper hears a note: what the note tells is in its history, what it tells of the keeper's log begins that log, and the
@@ -93,7 +90,7 @@ pub fn hear_keeper(words: &Words, keeper: &mut KeeperSeat, note: NoteSeat)
     ensures event { Makes (Hear None) Done (Keeper (keeper_with_note keeper.old.view note.view)) (Keeper keeper.new.view) }
     ensures told { IsPrefix note.view keeper.new.view.history }
     ensures change { keeper.new.view ≡ keeper_with_note keeper.old.view note.view }
-    ensures log { keeper.new.log ≡ keeper.old.log ++ heard_from note.teller }
+    ensures log { keeper.new.log ≡ keeper.old.log ++ heard_from None note.teller }
     ensures own_log { IsOwnLog keeper.old.log note.known_log keeper.old.view }
 {
     notes::lay_by_keeper(words, keeper, note);

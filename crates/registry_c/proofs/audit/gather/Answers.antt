@@ -47,7 +47,7 @@ pub returns-clause-keeper : goal.returns-clause-keeper
 returns-clause-keeper c =
     let told = c.loop-c.invariant.keeper in
     let e = c.hear_keeper_on.ensures in
-    (e.words ∙ c.loop-c.invariant.words, listened c.args.keeper.now.keeper c.hear_keeper_on.new.keeper.keeper c.loop-c.note.view _ _ (e.view ∙ ap (λ (k : OnKeeper). record k.view { noted_pass = c.loop-c.note.view }) told) (e.slots ∙ ap (λ (k : OnKeeper). k.slots) told) (e.log ∙ ap (λ (k : OnKeeper). k.log ++ heard_from c.loop-c.note.teller) told))
+    (e.words ∙ c.loop-c.invariant.words, listened c.args.keeper.now.keeper c.hear_keeper_on.new.keeper.keeper c.loop-c.note.view _ _ (e.view ∙ ap (λ (k : OnKeeper). record k.view { noted_pass = c.loop-c.note.view }) told) (e.slots ∙ ap (λ (k : OnKeeper). k.slots) told) (e.log ∙ ap (λ (k : OnKeeper). k.log ++ heard_from None c.loop-c.note.teller) told))
 
 pub returns-clause-cpus : goal.returns-clause-cpus
 returns-clause-cpus c = all_heard c.args.keeper.now.words.settings.cpus (bodies_of c.args.cpus.now) c.loop-c.cpus c.loop-c.c _ _ c.requires.all c.loop-c.invariant.gathered (omega (arith, c.loop-c-test.false, c.loop-c.auto.cpus)) c.loop-c.invariant.same
