@@ -95,7 +95,7 @@ inside_is false (Some n) test = test.1 (λ none. none-some n (sym none))
 
 -- The keeper m heard the CPU x, an entry was published, and the CPU heard the history that the keeper b has then.
 pub attach_met : (a : OnKeeper) (x : OnCpu) (m : OnKeeper) (n : OnCpu) (e : Entry) (b : OnKeeper) (y : OnCpu) → m ≡ keeper_after_hear a x → n ≡ cpu_after_tell x → IsPrefix x.view.pass m.view.history → e.number ≡ suc (length m.view.history)
-    → b.view.history ≡ after_change m.view.history (Attach e) → HasHeardOn b.view.history n y → y.log ≡ n.log ++ has_heard n
+    → b.view.history ≡ after_change m.view.history (Attach e) → HasHeardOn b.view.history n y → y.log ≡ n.log ++ has_heard n None
     → IsPrefix x.view.pass a.view.history × HasHeardOn b.view.history x y × HasSeenAttach x y e
 attach_met a x m n e b y heard same seen number after hears log = (
   subst (λ (k : OnKeeper). IsPrefix x.view.pass k.view.history) heard seen,

@@ -89,7 +89,7 @@ detached_told a t e b has = record {
 
 -- The keeper m heard the CPU x, the entry e in the slot t was retired, and the CPU heard the history that the keeper b has then.
 pub detached_for : (a : OnKeeper) (x : OnCpu) (m : OnKeeper) (n : OnCpu) (t : ℕ) (e : Entry) (b : OnKeeper) (y : OnCpu) → m ≡ keeper_after_hear a x → n ≡ cpu_after_tell x → IsPrefix x.view.pass m.view.history → IsAttached a.view.history e → e.slot ≡ t
-    → HasDetached m t e b → HasHeardOn b.view.history n y → y.log ≡ n.log ++ has_heard n → HasDetachedFor a x e (keeper_after_tell b) y
+    → HasDetached m t e b → HasHeardOn b.view.history n y → y.log ≡ n.log ++ has_heard n None → HasDetachedFor a x e (keeper_after_tell b) y
 detached_for a x m n t e b y heard same seen attached slot has hears log =
     let before = subst (λ (k : OnKeeper). IsPrefix x.view.pass k.view.history) heard seen in
     let done = subst (λ (u : ℕ). HasDetached (keeper_after_hear a x) u e b) (sym slot) (subst (λ (k : OnKeeper). HasDetached k t e b) heard has) in

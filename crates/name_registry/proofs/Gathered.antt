@@ -16,7 +16,7 @@ use Rattle.cpu_words.specs.Notes.{with_note, keeper_with_note}
 use Rattle.passive_list.specs.Cpus.{OnCpu}
 use Rattle.passive_list.specs.Keepers.{OnKeeper}
 use Rattle.passive_list.specs.Logs.{HasOwnLog}
-use Rattle.passive_list.specs.Notes.{HasHeardOn, WasShown, has_heard, has_told}
+use Rattle.passive_list.specs.Notes.{HasHeardOn, WasShown, HeardAndTold}
 use Rattle.name_registry.specs.Meeting.{HasLearned}
 use Rattle.name_registry.specs.Auditing.{AreAllCpus, AreAlike, HasListened, HaveHeardAndTold, HaveLearned, IsShownOn, local_met, tallies_met, tally_by, tally_met}
 use Rattle.name_registry.proofs.Audits.{each_same}
@@ -45,7 +45,7 @@ pub record Gathered (xs ys : List OnCpu) (n : ℕ) (log note : List LogItem) : T
   pub size : length ys ≡ length xs
   pub told : IsPrefix log note
   pub learned : (c : ℕ) (x y : OnCpu) → c < n → get_elem? xs c ≡ some x → get_elem? ys c ≡ some y → HasLearned x y × (y.made ≡ x.made)
-  pub notes : (c : ℕ) (x y : OnCpu) → c < n → get_elem? xs c ≡ some x → get_elem? ys c ≡ some y → y.log ≡ x.log ++ has_heard x ++ has_told x
+  pub notes : (c : ℕ) (x y : OnCpu) → c < n → get_elem? xs c ≡ some x → get_elem? ys c ≡ some y → HeardAndTold x y
   pub shown : (c : ℕ) (x : OnCpu) → c < n → get_elem? xs c ≡ some x → (d : List LogItem) × IsPrefix log d × IsPrefix d note × IsShownOn d x
   pub knows : (c : ℕ) (y : OnCpu) → c < n → get_elem? ys c ≡ some y → IsPrefix log y.known_log × IsPrefix y.known_log note
   pub rest : (c : ℕ) → n ≤ c → get_elem? ys c ≡ get_elem? xs c
@@ -61,7 +61,7 @@ gathered_none xs log note is = record {
   rest = λ c le. refl;
 }
 
-pub learned_of : (note : List Change) (x y : OnCpu) → HasHeardOn note x y → y.log ≡ x.log ++ has_heard x ++ has_told x → HasLearned x y × (y.made ≡ x.made)
+pub learned_of : (note : List Change) (x y : OnCpu) → HasHeardOn note x y → HeardAndTold x y → HasLearned x y × (y.made ≡ x.made)
 learned_of note x y heard log = (
   record {
     pass = heard.pass;
@@ -79,7 +79,7 @@ past_set (x ∷ xs) zero (suc c) y off = refl
 past_set (x ∷ xs) (suc n) zero y off = refl
 past_set (x ∷ xs) (suc n) (suc c) y off = past_set xs n c y (λ same. off (ap suc same))
 
-pub gathered_more : (xs ys : List OnCpu) (n : ℕ) (log note told : List LogItem) (h : List Change) (x y : OnCpu) → Gathered xs ys n log note → get_elem? ys n ≡ some x → HasHeardOn h x y → IsPrefix note y.known_log → WasShown h x y → told ≡ y.known_log → y.log ≡ x.log ++ has_heard x ++ has_told x
+pub gathered_more : (xs ys : List OnCpu) (n : ℕ) (log note told : List LogItem) (h : List Change) (x y : OnCpu) → Gathered xs ys n log note → get_elem? ys n ≡ some x → HasHeardOn h x y → IsPrefix note y.known_log → WasShown h x y → told ≡ y.known_log → HeardAndTold x y
     → Gathered xs (set ys n y) (n + 1) log told
 gathered_more xs ys n log note told h x y so_far at heard knows shown is own =
     let next : IsPrefix note told = subst (IsPrefix note) (sym is) knows in
@@ -96,7 +96,7 @@ gathered_more xs ys n log note told h x y so_far at heard knows shown is own =
       notes = λ c u v lt was now. ⊎_elim
           (λ (p : (c ≡ n) × (y ≡ v)).
           let same : x ≡ u = some-injective x u (sym mine ∙ (ap (get_elem? xs) (sym p.0) ∙ was)) in
-          subst (λ (z : OnCpu). v.log ≡ z.log ++ has_heard z ++ has_told z) same (subst (λ (z : OnCpu). z.log ≡ x.log ++ has_heard x ++ has_told x) p.1 own))
+          subst (λ (z : OnCpu). HeardAndTold z v) same (subst (HeardAndTold x) p.1 own))
           (λ (p : (c ≢ n) × (get_elem? ys c ≡ some v)). so_far.notes c u v (let off = p.0 in omega (arith, lt, off)) was p.1)
           (at_set ys n c y v now);
       shown = λ c u lt was. ⊎_elim

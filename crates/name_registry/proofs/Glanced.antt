@@ -89,7 +89,7 @@ glances_look snapshots seen after (suc n) k l is = glance_looks (word_of snapsho
 
 -- a hold, from what its three parts leave: the hearing, which leaves the CPU, the looks, and the telling
 pub made_hold : (looks : Looking → Looking → Type 0) (z : Settings) (a h l b : OnKeeper) (x same y : OnCpu) → h ≡ keeper_after_hear a x → IsPrefix x.view.pass h.view.history → IsPrefix x.known_log a.log → HasOwnLog z a → same ≡ cpu_after_tell x
-    → looks (looking h) (looking l) → l.slots ≡ h.slots → b ≡ keeper_after_tell l → HasHeardOn l.view.history same y → IsPrefix b.log y.known_log → y.log ≡ same.log ++ has_heard same → Hold looks a x b y
+    → looks (looking h) (looking l) → l.slots ≡ h.slots → b ≡ keeper_after_tell l → HasHeardOn l.view.history same y → IsPrefix b.log y.known_log → y.log ≡ same.log ++ has_heard same None → Hold looks a x b y
 made_hold looks z a h l b x same y heard pass known own is made slots tells hears told log =
     let short = prefix_short x.view.pass h.view.history pass in
     let long : length h.view.history ≡ length a.view.history = ap (λ (k : OnKeeper). length k.view.history) heard in

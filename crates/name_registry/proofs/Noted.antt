@@ -1,20 +1,20 @@
 -- A CPU's own log in a hold of the interlock: notes alone.
-use Rattle.std.proofs.Common.{◌≡◌, ◌∙◌, ℕ, List, [], ◌∷◌, ◌++◌, inl, inr, refl, sym, ap, append-nil, append_assoc}
+use Rattle.std.proofs.Common.{◌≡◌, ◌∙◌, ℕ, List, [], ◌∷◌, ◌++◌, inl, inr, refl, sym, ap, append-nil, append_assoc, None}
 use Rattle.registry_values.specs.declared.entry.Change.{Change}
 use Rattle.cpu_words.specs.declared.view.LogItem.{LogItem}
 use Rattle.passive_list.specs.Cpus.{OnCpu}
-use Rattle.passive_list.specs.Notes.{HasHeardOn, cpu_after_tell, has_heard, has_told}
+use Rattle.passive_list.specs.Notes.{HasHeardOn, cpu_after_tell, has_heard, has_told, HeardAndTold}
 use Rattle.name_registry.specs.Meeting.{AreNotes, GoesOnByNotes, tells_and_hears, tells_twice_and_hears}
 
 -- the CPU x told, then it is n, and then it heard
-pub met : (x n y : OnCpu) → n ≡ cpu_after_tell x → y.log ≡ n.log ++ has_heard n → y.log ≡ x.log ++ tells_and_hears x
-met x n y told heard = heard ∙ ap (λ (o : OnCpu). o.log ++ has_heard o) told ∙ append_assoc x.log (has_told x) (has_heard x)
+pub met : (x n y : OnCpu) → n ≡ cpu_after_tell x → y.log ≡ n.log ++ has_heard n None → y.log ≡ x.log ++ tells_and_hears x
+met x n y told heard = heard ∙ ap (λ (o : OnCpu). o.log ++ has_heard o None) told ∙ append_assoc x.log (has_told x) (has_heard x None)
 
 -- it told twice
-pub met_again : (x m n y : OnCpu) → m ≡ cpu_after_tell x → n ≡ cpu_after_tell m → y.log ≡ n.log ++ has_heard n → y.log ≡ x.log ++ tells_twice_and_hears x
+pub met_again : (x m n y : OnCpu) → m ≡ cpu_after_tell x → n ≡ cpu_after_tell m → y.log ≡ n.log ++ has_heard n None → y.log ≡ x.log ++ tells_twice_and_hears x
 met_again x m n y first second heard =
-    heard ∙ ap (λ (o : OnCpu). o.log ++ has_heard o) second ∙ ap (λ (o : OnCpu). (o.log ++ has_told o) ++ has_heard o) first
-    ∙ append_assoc (x.log ++ has_told x) (has_told x) (has_heard x) ∙ append_assoc x.log (has_told x) (has_told x ++ has_heard x)
+    heard ∙ ap (λ (o : OnCpu). o.log ++ has_heard o None) second ∙ ap (λ (o : OnCpu). (o.log ++ has_told o) ++ has_heard o None) first
+    ∙ append_assoc (x.log ++ has_told x) (has_told x) (has_heard x None) ∙ append_assoc x.log (has_told x) (has_told x ++ has_heard x None)
 
 -- that it told before changes nothing of what it heard
 pub heard_told : (h : List Change) (x y : OnCpu) → HasHeardOn h (cpu_after_tell x) y → HasHeardOn h x y
@@ -40,11 +40,11 @@ more_notes c log between new first then = record {
 }
 
 pub by_meeting : (x y : OnCpu) → y.log ≡ x.log ++ tells_and_hears x → GoesOnByNotes x.view.id x.log y.log
-by_meeting x y is = record { since = tells_and_hears x; are = is; only = (inl refl, (inr refl, tt)) }
+by_meeting x y is = record { since = tells_and_hears x; are = is; only = (inl refl, (inr (None, refl), tt)) }
 
 pub by_meeting_again : (x y : OnCpu) → y.log ≡ x.log ++ tells_twice_and_hears x → GoesOnByNotes x.view.id x.log y.log
-by_meeting_again x y is = record { since = tells_twice_and_hears x; are = is; only = (inl refl, (inl refl, (inr refl, tt))) }
+by_meeting_again x y is = record { since = tells_twice_and_hears x; are = is; only = (inl refl, (inl refl, (inr (None, refl), tt))) }
 
 -- a note was passed on: heard and told
-pub by_passing : (x y : OnCpu) → y.log ≡ x.log ++ has_heard x ++ has_told x → GoesOnByNotes x.view.id x.log y.log
-by_passing x y is = record { since = has_heard x ++ has_told x; are = is ∙ append_assoc x.log (has_heard x) (has_told x); only = (inr refl, (inl refl, tt)) }
+pub by_passing : (x y : OnCpu) → HeardAndTold x y → GoesOnByNotes x.view.id x.log y.log
+by_passing x y is = record { since = has_heard x is.0 ++ has_told x; are = is.1 ∙ append_assoc x.log (has_heard x is.0) (has_told x); only = (inr (is.0, refl), (inl refl, tt)) }

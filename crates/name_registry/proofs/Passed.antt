@@ -174,7 +174,7 @@ ready z a numbers own are t n gone = ready_by z a numbers t n (slot_at a.slots t
 -- The hold, from what its parts say
 
 pub made_passes : (z : Settings) (numbers : List (Option ℕ)) (a h end k b : OnKeeper) (x same after y : OnCpu) → IsPrefix x.known_log a.log → h ≡ keeper_after_hear a x → same ≡ cpu_after_tell x → PassesBelow z numbers MOST_SLOTS h end → HasOwnLog z end
-    → k ≡ keeper_after_hear end same → after ≡ cpu_after_tell same → b ≡ keeper_after_tell k → HasHeardOn k.view.history after y → IsPrefix b.log y.known_log → y.log ≡ after.log ++ has_heard after → HasPassedAll z a x numbers b y
+    → k ≡ keeper_after_hear end same → after ≡ cpu_after_tell same → b ≡ keeper_after_tell k → HasHeardOn k.view.history after y → IsPrefix b.log y.known_log → y.log ≡ after.log ++ has_heard after None → HasPassedAll z a x numbers b y
 made_passes z numbers a h end k b x same after y known heard first passes own again second is hears told log = record {
   known = known;
   end = end;

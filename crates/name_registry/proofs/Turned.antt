@@ -163,7 +163,7 @@ told_turn z a x n answer b y has = record {
 
 -- the steps of one, put together
 pub made_turn : (z : Settings) (a h end k b : OnKeeper) (x same after y : OnCpu) (n : ℕ) (answer : Result Stage Refusal) → IsPrefix x.known_log a.log → IsPrefix x.view.pass h.view.history → HasOwnLog z a → h ≡ keeper_after_hear a x → same ≡ cpu_after_tell x
-    → HasAdvanced h n answer end → HasOwnLog z end → k ≡ keeper_after_hear end same → after ≡ cpu_after_tell same → b ≡ keeper_after_tell k → HasHeardOn k.view.history after y → IsPrefix b.log y.known_log → y.log ≡ after.log ++ has_heard after → HasAdvancedFor z a x n answer b y
+    → HasAdvanced h n answer end → HasOwnLog z end → k ≡ keeper_after_hear end same → after ≡ cpu_after_tell same → b ≡ keeper_after_tell k → HasHeardOn k.view.history after y → IsPrefix b.log y.known_log → y.log ≡ after.log ++ has_heard after None → HasAdvancedFor z a x n answer b y
 made_turn z a h end k b x same after y n answer known seen own heard first made own_end again second is hears told log = record {
   known = known;
   seen =

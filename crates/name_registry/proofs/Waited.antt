@@ -141,7 +141,7 @@ pub record SoFar (cpus : ℕ) (x : OnCpu) (words : List ℕ) (numbers : List (Op
   pub before : List LogItem
   pub since : List LogItem
   pub are : m.known_log ≡ before ++ since
-  pub heard : HasHeardFrom (as_teller x) before
+  pub heard : HasHeardFrom None (as_teller x) before
   pub known : IsPrefix x.known_log before
   pub pass : length x.view.pass ≤ changes_in before
   pub ready : (t n : ℕ) → IsDetachedFrom t n before → IsReady cpus numbers before t n

@@ -22,7 +22,7 @@ use Rattle.cpu_words.specs.Rule.{Good, IsShown}
 use Rattle.cpu_words.specs.Views.{number_at, CpuShown, KeeperShown}
 use Rattle.passive_list.specs.Cpus.{OnCpu}
 use Rattle.passive_list.specs.Keepers.{IsAtRest, OnKeeper}
-use Rattle.passive_list.specs.Notes.{has_heard, has_told}
+use Rattle.passive_list.specs.Notes.{HeardAndTold}
 
 -- the slice is CPU 0, 1, .., in this order
 pub record AreAllCpus (cpus : ℕ) (xs : List OnCpu) : Type 0 where
@@ -166,7 +166,7 @@ pub record HaveLearned (xs ys : List OnCpu) : Type 0 where
 
 -- the log of each CPU goes on by just two items: it heard once, and told once
 abbrev pub HaveHeardAndTold : List OnCpu → List OnCpu → Type 0
-HaveHeardAndTold xs ys = (c : ℕ) (x y : OnCpu) → get_elem? xs c ≡ some x → get_elem? ys c ≡ some y → y.log ≡ x.log ++ has_heard x ++ has_told x
+HaveHeardAndTold xs ys = (c : ℕ) (x y : OnCpu) → get_elem? xs c ≡ some x → get_elem? ys c ≡ some y → HeardAndTold x y
 
 -- What is known of the keeper behind the lock, which no contract can name: it is at rest, some state of the core shows its view, and in its slots it has what its view has.
 pub record IsKeeperOf (z : Settings) (k : OnKeeper) : Type 0 where

@@ -1,12 +1,13 @@
 -- A call that changes the registry: the keeper hears what the caller's CPU has seen, and then the CPU hears the whole history.
-use Rattle.std.specs.Prelude.{◌≡◌, ◌⊎◌, ℕ, ◌<◌, Bool, List, [], ◌∷◌, ◌++◌, length, Some, None, is_some}
+use Rattle.std.specs.Prelude.{◌≡◌, ◌⊎◌, ℕ, ◌<◌, Bool, List, [], ◌∷◌, ◌++◌, length, Some, None, is_some, Option}
 use mathlib.Core.List.{IsPrefix}
 use Rattle.registry_values.specs.declared.entry.Entry.{Entry}
 use Rattle.protocol.specs.History.{IsAttached, EndsAt}
-use Rattle.protocol.specs.declared.event.Event.TheVariants.{Hear, Tell}
+use Rattle.protocol.specs.declared.event.Event.TheVariants.{Tell}
 use Rattle.protocol.specs.declared.event.Reply.TheVariants.{Done}
 use Rattle.cpu_words.specs.declared.view.LogItem.{LogItem}
-use Rattle.cpu_words.specs.KeeperLog.{heard_from}
+use Rattle.cpu_words.specs.declared.view.Teller.{Teller}
+use Rattle.cpu_words.specs.KeeperLog.{has_heard_from, heard_from}
 use Rattle.cpu_words.specs.Notes.{keeper_with_note}
 use Rattle.cpu_words.specs.Rule.{did, log_item}
 use Rattle.passive_list.specs.Cpus.{OnCpu, OnPlainCpu}
@@ -34,15 +35,15 @@ keeper_after_tell a = record a { log = a.log ++ did (Tell None) Done }
 
 -- In the CPU's own log: it tells the keeper what it has seen, and at the end it hears.
 abbrev pub tells_and_hears : OnCpu → List LogItem
-tells_and_hears x = has_told x ++ has_heard x
+tells_and_hears x = has_told x ++ has_heard x None
 
 -- it tells twice, as the keeper hears before its work and after
 abbrev pub tells_twice_and_hears : OnCpu → List LogItem
-tells_twice_and_hears x = has_told x ++ has_told x ++ has_heard x
+tells_twice_and_hears x = has_told x ++ has_told x ++ has_heard x None
 
 -- a note that the CPU c told or heard
 abbrev pub IsNote : ℕ → LogItem → Type 0
-IsNote c d = (d ≡ log_item (Tell (Some c)) Done) ⊎ (d ≡ log_item (Hear (Some c)) Done)
+IsNote c d = (d ≡ log_item (Tell (Some c)) Done) ⊎ ((h : Option Teller) × (d ≡ has_heard_from (Some c) h))
 
 abbrev pub AreNotes : ℕ → List LogItem → Type 0
 AreNotes c [] = Unit {0}

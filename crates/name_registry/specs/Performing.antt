@@ -196,7 +196,7 @@ pub record HasSeenAllOut (cpus : ℕ) (x y : OnCpu) : Type 0 where
   pub before : List LogItem
   pub since : List LogItem
   pub are : y.known_log ≡ before ++ since
-  pub heard : HasHeardFrom (as_teller x) before
+  pub heard : HasHeardFrom None (as_teller x) before
   pub known : IsPrefix x.known_log before
   pub seen : length x.view.pass ≤ changes_in before
   pub waited : HasWaited since cpus

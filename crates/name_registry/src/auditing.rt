@@ -76,7 +76,7 @@ fn pass_on<D: Domain>(words: &Words, cpu: &mut Cpu<D>, note: NoteSeat) -> NoteSe
     ensures heard { HasHeardOn note.view cpu.old cpu.new }
     ensures told { IsPrefix note.known_log cpu.new.known_log }
     ensures shown { WasShown note.view cpu.old cpu.new }
-    ensures log { cpu.new.log ≡ cpu.old.log ++ has_heard cpu.old ++ has_told cpu.old }
+    ensures log { cpu.new.log ≡ cpu.old.log ++ has_heard cpu.old note.teller ++ has_told cpu.old }
     ensures note { (result.table ≡ D.table) × (result.known_log ≡ cpu.new.known_log) }
 {
     hear_on(words, &mut cpu.plain, note);

@@ -1,6 +1,6 @@
 //! What the caller's CPU and the keeper have seen reaches the other, by a note each.
 
-ghost use Rattle.std.specs.Prelude.{◌≡◌, ◌++◌};
+ghost use Rattle.std.specs.Prelude.{◌≡◌, ◌++◌, None};
 ghost use mathlib.Core.List.{IsPrefix};
 ghost use Rattle.cpu_words.specs.Domains.{AreWordsOf};
 ghost use Rattle.passive_list.specs.Logs.{HasOwnLog};
@@ -33,7 +33,7 @@ pub(crate) fn show_cpu(words: &Words, keeper: &mut Keeper, cpu: &mut PlainCpu)
     ensures keeper { keeper.new.keeper ≡ keeper_after_tell keeper.old.keeper }
     ensures cpu { HasHeardOn keeper.old.keeper.view.history cpu.old.cpu cpu.new.cpu }
     ensures told { IsPrefix keeper.new.keeper.log cpu.new.cpu.known_log }
-    ensures log { cpu.new.cpu.log ≡ cpu.old.cpu.log ++ has_heard cpu.old.cpu }
+    ensures log { cpu.new.cpu.log ≡ cpu.old.cpu.log ++ has_heard cpu.old.cpu None }
     ensures words { KeepsWords keeper.old cpu.old keeper.new cpu.new }
 {
     let note = tell_keeper_on(words, keeper);

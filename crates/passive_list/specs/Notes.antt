@@ -2,12 +2,12 @@
 use Rattle.std.specs.Prelude.{◌≡◌, List, ◌++◌, Option, Some}
 use mathlib.Core.List.{IsPrefix}
 use Rattle.registry_values.specs.declared.entry.Change.{Change}
-use Rattle.protocol.specs.declared.event.Event.TheVariants.{Hear, Tell}
+use Rattle.protocol.specs.declared.event.Event.TheVariants.{Tell}
 use Rattle.protocol.specs.declared.event.Reply.TheVariants.{Done}
 use Rattle.cpu_words.specs.declared.view.LogItem.{LogItem}
 use Rattle.cpu_words.specs.declared.view.View.TheVariants.{Cpu}
 use Rattle.cpu_words.specs.declared.view.Teller.{Teller}
-use Rattle.cpu_words.specs.KeeperLog.{IsShownAfter}
+use Rattle.cpu_words.specs.KeeperLog.{heard_from, IsShownAfter}
 use Rattle.cpu_words.specs.Logs.{teller_of}
 use Rattle.cpu_words.specs.Notes.{with_note}
 use Rattle.cpu_words.specs.Rule.{did}
@@ -39,9 +39,14 @@ WasShown note a b = IsShownAfter b.known_log (Cpu (with_note a.view note))
 abbrev pub has_told : OnCpu → List LogItem
 has_told a = did (Tell (Some a.view.id)) Done
 
-abbrev pub has_heard : OnCpu → List LogItem
-has_heard a = did (Hear (Some a.view.id)) Done
+-- a note of the teller's, or of the keeper's where that is none
+abbrev pub has_heard : OnCpu → Option Teller → List LogItem
+has_heard a h = heard_from (Some a.view.id) h
 
 -- the CPU as it has told what it has seen
 abbrev pub cpu_after_tell : OnCpu → OnCpu
 cpu_after_tell a = record a { log = a.log ++ has_told a }
+
+-- it heard one note, and told one
+abbrev pub HeardAndTold : OnCpu → OnCpu → Type 0
+HeardAndTold a b = (h : Option Teller) × (b.log ≡ a.log ++ has_heard a h ++ has_told a)

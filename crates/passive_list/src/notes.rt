@@ -62,7 +62,7 @@ pub fn hear<D: Domain>(words: &Words, cpu: &mut Cpu<D>, note: Note<D>)
     ensures heard { HasHeardOn note.pass cpu.old cpu.new }
     ensures known_log { IsPrefix note.known_log cpu.new.known_log }
     ensures shown { WasShown note.pass cpu.old cpu.new }
-    ensures log { cpu.new.log ≡ cpu.old.log ++ has_heard cpu.old }
+    ensures log { cpu.new.log ≡ cpu.old.log ++ has_heard cpu.old note.teller }
 {
     let Note { seat, domain: _ } = note;
     hear_on(words, &mut cpu.plain, seat);
@@ -75,7 +75,7 @@ pub fn hear_on(words: &Words, cpu: &mut PlainCpu, note: NoteSeat)
     ensures heard { HasHeardOn note.view cpu.old.cpu cpu.new.cpu }
     ensures known_log { IsPrefix note.known_log cpu.new.cpu.known_log }
     ensures shown { WasShown note.view cpu.old.cpu cpu.new.cpu }
-    ensures log { cpu.new.cpu.log ≡ cpu.old.cpu.log ++ has_heard cpu.old.cpu }
+    ensures log { cpu.new.cpu.log ≡ cpu.old.cpu.log ++ has_heard cpu.old.cpu note.teller }
     ensures words { cpu.new.words ≡ cpu.old.words }
 {
     steps::hear(words, &mut cpu.seat, cpu.id, note);

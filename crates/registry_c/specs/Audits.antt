@@ -19,7 +19,7 @@ use Rattle.atomic_table.specs.Seated.{TableId}
 use mathlib.Core.List.{IsPrefix}
 use Rattle.registry_values.specs.declared.entry.Change.{Change}
 use Rattle.cpu_words.specs.declared.view.LogItem.{LogItem}
-use Rattle.passive_list.specs.Notes.{HasHeardOn, WasShown, has_heard, has_told}
+use Rattle.passive_list.specs.Notes.{HasHeardOn, WasShown, HeardAndTold}
 use Rattle.registry_c.specs.declared.handle.CpuHandle.{CpuHandle}
 use Rattle.registry_c.specs.Opening.{bodies_of, body_at}
 use Rattle.registry_c.specs.Places.{DoesBy, put}
@@ -103,7 +103,7 @@ pub record PassesOn (b : OnPlainCpu) (after : Option OnPlainCpu) (h : List Chang
   pub shown : WasShown h b.cpu body.cpu
   pub table : z ≡ b.words.table
   pub note : told ≡ body.cpu.known_log
-  pub log : body.cpu.log ≡ b.cpu.log ++ has_heard b.cpu ++ has_told b.cpu
+  pub log : HeardAndTold b.cpu body.cpu
 
 -- behind each handle stands what stood there, but that it may have heard
 pub record HaveHeard (cs cs' : List (Option OnPlainCpu)) : Type 0 where

@@ -122,7 +122,7 @@ impl CpuBody {
         ensures heard { HasHeardOn note.view self.old.cpu self.new.cpu }
         ensures knows { IsPrefix note.known_log self.new.cpu.known_log }
         ensures shown { WasShown note.view self.old.cpu self.new.cpu }
-        ensures log { self.new.cpu.log ≡ self.old.cpu.log ++ has_heard self.old.cpu ++ has_told self.old.cpu }
+        ensures log { self.new.cpu.log ≡ self.old.cpu.log ++ has_heard self.old.cpu note.teller ++ has_told self.old.cpu }
         ensures note { (result.table ≡ self.old.words.table) × (result.known_log ≡ self.new.cpu.known_log) }
     {
         hear_on(&self.words, &mut self.cpu, note);

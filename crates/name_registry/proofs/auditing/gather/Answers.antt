@@ -1,5 +1,5 @@
 -- One CPU more has heard, and all have.
-use Rattle.std.proofs.Common.{◌∙◌, ◌++◌, ap, arith}
+use Rattle.std.proofs.Common.{◌∙◌, ◌++◌, ap, arith, None}
 use mathlib.Core.Option.{some}
 use Rattle.atomic_table.proofs.Lists.{at_index}
 use Rattle.cpu_words.specs.KeeperLog.{heard_from}
@@ -16,7 +16,7 @@ loop-c-preserved g c =
       keeper = l.invariant.keeper;
       note = e.note.0;
       words = l.invariant.words;
-      gathered = gathered_more c.args.cpus.now l.cpus l.c c.tell_keeper_on-note.new.keeper.keeper.log l.note.known_log c.pass_on-note.result.known_log l.note.view _ c.pass_on-note.new.cpu l.invariant.gathered at e.heard e.told e.shown e.note.1 e.log;
+      gathered = gathered_more c.args.cpus.now l.cpus l.c c.tell_keeper_on-note.new.keeper.keeper.log l.note.known_log c.pass_on-note.result.known_log l.note.view _ c.pass_on-note.new.cpu l.invariant.gathered at e.heard e.told e.shown e.note.1 (l.note.teller, e.log);
     }
 
 pub returns-clause-alike : goal.returns-clause-alike

@@ -1,5 +1,5 @@
 -- One CPU more has heard, and all have.
-use Rattle.std.proofs.Common.{◌<◌, ◌∙◌, ◌++◌, length, ap, arith}
+use Rattle.std.proofs.Common.{◌<◌, ◌∙◌, ◌++◌, length, ap, arith, None}
 use Rattle.cpu_words.specs.KeeperLog.{heard_from}
 use Rattle.passive_list.specs.Keepers.{OnKeeper}
 use Rattle.name_registry.proofs.Gathered.{gathered_alike, gathered_notes, listened}
