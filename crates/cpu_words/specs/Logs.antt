@@ -153,7 +153,7 @@ pub record LoggedRuled (z : Settings) (s : Table ℕ Logged) : Type 0 where
   pub unseated : (i : ℕ) → length s.views ≤ i → part i acts ≡ []
   -- a seat's known log, and that of the note beside its view, are prefixes of what the keeper did
   pub known : (i : ℕ) (l : Logged) → get_elem? s.views i ≡ some l → Knows l (part 0 acts)
-  -- where the keeper heard a note, and where a note stands or lies beside a view, its teller had come so far
+  -- where a seat heard a note, and where a note stands or lies beside a view, its teller had come so far
   pub told : AreToldBefore run.seat run.g.seated acts
   pub tellers : (i : ℕ) (l : Logged) → get_elem? s.views i ≡ some l → HasComeIf run.seat run.g.seated acts l.teller
 

@@ -31,7 +31,7 @@ pub fn numbers_out(numbers: &[Option<u64>; MOST_SLOTS]) -> [u64; MOST_SLOTS]
     ensures { result ≡ map number_or_none numbers.now }
 {
     let mut out = [0; MOST_SLOTS];
-    for t in 0..32usize {
+    for t in 0..MOST_SLOTS {
         out[t] = number_or_none(numbers[t]);
     }
     out
@@ -42,7 +42,7 @@ pub fn numbers_in(numbers: &[u64; MOST_SLOTS]) -> [Option<u64>; MOST_SLOTS]
     ensures { result ≡ map none_or_number numbers.now }
 {
     let mut out = [None; MOST_SLOTS];
-    for t in 0..32usize {
+    for t in 0..MOST_SLOTS {
         out[t] = none_or_number(numbers[t]);
     }
     out
@@ -53,7 +53,7 @@ pub fn seen_out(seen: &[bool; MOST_CPUS]) -> [u64; MOST_CPUS]
     ensures { result ≡ map flag_of seen.now }
 {
     let mut out = [0; MOST_CPUS];
-    for c in 0..8usize {
+    for c in 0..MOST_CPUS {
         out[c] = flag_of(seen[c]);
     }
     out
@@ -64,7 +64,7 @@ pub fn seen_in(seen: &[u64; MOST_CPUS]) -> [bool; MOST_CPUS]
     ensures { result ≡ map is_set seen.now }
 {
     let mut out = [false; MOST_CPUS];
-    for c in 0..8usize {
+    for c in 0..MOST_CPUS {
         out[c] = seen[c] != 0;
     }
     out

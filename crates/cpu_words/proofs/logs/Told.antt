@@ -1,4 +1,4 @@
--- Who told the notes that the keeper heard: each teller had come as far as the keeper's log says before the note was heard, and that stays so.
+-- Who told the notes that were heard: each teller had come as far as the log says before the note was heard, and that stays so.
 use Rattle.std.proofs.Common.{◌≡◌, ◌≢◌, ◌⊎◌, inl, inr, ⊎_elim, ℕ, suc, ◌<◌, ◌≤◌, List, [], ◌∷◌, ◌++◌, map, length, Option, Some, None, refl, sym, ap, ◌∙◌, subst, length-append, append_assoc, arith}
 use Rattle.std.proofs.lemmas.List.{append-nil}
 use Rattle.protocol.specs.declared.event.Event.{Event}
