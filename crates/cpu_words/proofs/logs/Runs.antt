@@ -14,7 +14,7 @@ use Rattle.cpu_words.specs.declared.view.Teller.{Teller}
 use Rattle.cpu_words.specs.Rule.{by_number, reply_without_id, log_item, log_with, log_from}
 use Rattle.cpu_words.specs.Logs.{events_of, untold, teller_if, AreToldBefore}
 
--- an event as its seat knows it; where the keeper heard a note, h told that
+-- an event as its seat knows it; where it heard a note, h told that
 abbrev pub item_as : Event → Reply → Option Teller → LogItem
 item_as e r h = record { event = e; reply = reply_without_id r; teller = teller_if e h }
 
