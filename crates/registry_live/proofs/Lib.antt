@@ -2,3 +2,4 @@ pub mod AllCpus
 pub mod Labelled
 pub mod LetGo
 pub mod LiveCpus
+pub mod Releasing

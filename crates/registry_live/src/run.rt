@@ -61,7 +61,7 @@ fn run_on_blank<D: Domain, R: Wait, W: Write>(
 /// At the end, and after a fault, all references that the run still holds are given back, and nothing is printed for
 /// them; a section that is open stays open. So each CPU holds the passive references that it held before the run, to
 /// each entry as many. A local reference is no CPU's: one that a label still stood for is released on CPU 0. That it is,
-/// `release_locals` of the session says, and that a section stays open its `give_back`; of the whole run tests say both.
+/// and that a section stays open, `give_back` of the session says; of the whole run tests say both.
 /// Refused: `Memory` or `Write`, and a front of the report was written.
 /// Condition: the registry has the script's settings, and the slice is all its CPUs in order; so it is afterwards.
 pub fn run_live_on<D: Domain, R: Wait, W: Write>(

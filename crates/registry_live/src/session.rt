@@ -5,6 +5,7 @@ ghost use Rattle.passive_list.specs.Cpus.{OnCpu};
 ghost use Rattle.name_registry.specs.Auditing.{AreAllCpus};
 ghost use Rattle.registry_live.specs.Calls.{IsGivenBack, LetGo, LetsGo};
 ghost use Rattle.registry_live.specs.Labels.{HaveReleased};
+ghost use Rattle.registry_live.specs.Releases.{AllOnlyRelease};
 
 use crate::calls::{
     copied, count_one, fill, holds, leave, let_go, look_up, peek_at, plug_in, read_by, refer,
@@ -73,12 +74,13 @@ impl<'a, D: Domain, R: Wait> LiveSession<'a, D, R> {
     }
 
     /// Gives back all references that labels stand for: the local ones first, each on CPU 0, and then the passive ones,
-    /// each on its own CPU, which holds then what no label stood for. Sections stay open (`released`). That CPU 0 let the
-    /// local ones go is exact in `release_locals`. `locals` doesn't carry it to the end: `released` says nothing of a
-    /// CPU's counts and log.
+    /// each on its own CPU, which holds then what no label stood for. Sections stay open (`released`). CPU 0's counts and
+    /// log show each local reference that it let go of, and after these the CPUs do nothing but release passive ones
+    /// (`locals`). Where CPU 0's count for it was collected, its log shows that the reference came back. That the keeper
+    /// gave it up then no clause says: what the lock guards has no name there.
     pub fn give_back(self)
         ensures all { AreAllCpus D.settings.cpus self.exit.0.now }
-        ensures locals { (between : List OnCpu) × LetGo self.entry.cpus.now self.entry.locals between × HaveReleased between self.entry.passives self.exit.0.now }
+        ensures locals { (between : List OnCpu) × LetGo self.entry.cpus.now self.entry.locals between × AllOnlyRelease between self.exit.0.now }
         ensures released { HaveReleased self.entry.cpus.now self.entry.passives self.exit.0.now }
     {
         let LiveSession {
@@ -146,6 +148,7 @@ fn release_passives<D: Domain>(
     requires { AreAllCpus D.settings.cpus cpus.old }
     ensures all { AreAllCpus D.settings.cpus cpus.new }
     ensures released { HaveReleased cpus.old passives cpus.new }
+    ensures only { AllOnlyRelease cpus.old cpus.new }
 {
     spend_each!(passives, place => release_passive(registry, cpus, place));
 }
@@ -157,6 +160,7 @@ fn release_passive<D: Domain>(registry: &Registry<D>, cpus: &mut [Cpu<D>], place
     ensures all { AreAllCpus D.settings.cpus cpus.new }
     ensures released { IfSome place (IsGivenBack cpus.old cpus.new) }
     ensures labels { HaveReleased cpus.old (place ∷ []) cpus.new }
+    ensures only { AllOnlyRelease cpus.old cpus.new }
 {
     let Some(psref) = place else {
         return;

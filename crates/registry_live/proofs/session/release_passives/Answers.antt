@@ -1,5 +1,6 @@
-use Rattle.std.proofs.Common.{◌≡◌, ◌<◌, length, rules, arith}
+use Rattle.std.proofs.Common.{◌≡◌, length, rules, arith}
 use Rattle.registry_live.proofs.Labelled.{all_released, none_left, released_next}
+use Rattle.registry_live.proofs.Releasing.{all_then}
 use Rattle.registry_live.proofs.session.release_passives.Goals as goal
 
 -- what the pattern of the array says of each of its 26 values: the value stands at its place (`a-1.given.1`, and so on)
@@ -33,3 +34,33 @@ returns-clause-released g c =
     let r25 = released_next _ _ _ c.args.passives 24 _ (omega (arith, n)) r24 c.release_passive-25.ensures.labels c.y-1.given.1 in
     let r26 = released_next _ _ _ c.args.passives 25 _ (omega (arith, n)) r25 c.release_passive-26.ensures.labels c.z-1.given.1 in
     all_released _ _ c.args.passives n r26
+
+pub returns-clause-only : goal.returns-clause-only
+returns-clause-only g c =
+    let r1 = c.release_passive.ensures.only in
+    let r2 = all_then _ _ _ r1 c.release_passive-2.ensures.only in
+    let r3 = all_then _ _ _ r2 c.release_passive-3.ensures.only in
+    let r4 = all_then _ _ _ r3 c.release_passive-4.ensures.only in
+    let r5 = all_then _ _ _ r4 c.release_passive-5.ensures.only in
+    let r6 = all_then _ _ _ r5 c.release_passive-6.ensures.only in
+    let r7 = all_then _ _ _ r6 c.release_passive-7.ensures.only in
+    let r8 = all_then _ _ _ r7 c.release_passive-8.ensures.only in
+    let r9 = all_then _ _ _ r8 c.release_passive-9.ensures.only in
+    let r10 = all_then _ _ _ r9 c.release_passive-10.ensures.only in
+    let r11 = all_then _ _ _ r10 c.release_passive-11.ensures.only in
+    let r12 = all_then _ _ _ r11 c.release_passive-12.ensures.only in
+    let r13 = all_then _ _ _ r12 c.release_passive-13.ensures.only in
+    let r14 = all_then _ _ _ r13 c.release_passive-14.ensures.only in
+    let r15 = all_then _ _ _ r14 c.release_passive-15.ensures.only in
+    let r16 = all_then _ _ _ r15 c.release_passive-16.ensures.only in
+    let r17 = all_then _ _ _ r16 c.release_passive-17.ensures.only in
+    let r18 = all_then _ _ _ r17 c.release_passive-18.ensures.only in
+    let r19 = all_then _ _ _ r18 c.release_passive-19.ensures.only in
+    let r20 = all_then _ _ _ r19 c.release_passive-20.ensures.only in
+    let r21 = all_then _ _ _ r20 c.release_passive-21.ensures.only in
+    let r22 = all_then _ _ _ r21 c.release_passive-22.ensures.only in
+    let r23 = all_then _ _ _ r22 c.release_passive-23.ensures.only in
+    let r24 = all_then _ _ _ r23 c.release_passive-24.ensures.only in
+    let r25 = all_then _ _ _ r24 c.release_passive-25.ensures.only in
+    let r26 = all_then _ _ _ r25 c.release_passive-26.ensures.only in
+    r26
