@@ -1,6 +1,6 @@
 //! The threads of a storm: one worker for each CPU, all at once.
 
-ghost use Rattle.std.specs.Prelude.{◌≡◌, ◌+◌, ◌*◌, ◌≤◌, IfOk, IfErr, length, vec_len, All};
+ghost use Rattle.std.specs.Prelude.{◌≡◌, ◌+◌, ◌*◌, ◌<◌, ◌≤◌, IfOk, IfErr, length, vec_len, All};
 ghost use denote.Param.Send.{IsSync};
 ghost use Rattle.registry_storm.specs.Storms.{IsOfStorm, IsOutside};
 
