@@ -216,9 +216,7 @@ fn perform_beside<D: Domain + Send + Sync, R: Threads + Wait + Abort + Sync>(
         move || -> (Answer, Answer)
             requires { IsSync R.row }
         { perform_twice(rt, registry, first, inside, refused) },
-        move || -> Answer
-            requires { IsSync R.row }
-        { stay_inside(registry, second, inside, refused) },
+        move || -> Answer { stay_inside(registry, second, inside, refused) },
     );
     Ok(answers)
 }
