@@ -38,10 +38,14 @@ pub record AreOpening (words : List ℕ) : Type 0 where
   pub unused : (i : ℕ) → i < TOTALS → slice_index words i ≡ 0
   pub totals : (t : ℕ) → t < MOST_SLOTS → slice_index words (index (total_of t)) ≡ bias
 
+-- the seat that CPU n gets, which did nothing and heard nothing
+abbrev pub cpu_seat : TableId → Settings → ℕ → Seated CpuView
+cpu_seat table z n = record { table = table; view = new_cpu z n; log = []; known_log = []; noted_log = []; teller = None }
+
 -- the seats of the first n CPUs, CPU 0 first
 pub record AreSeats (table : TableId) (z : Settings) (n : ℕ) (seats : List (Seated CpuView)) : Type 0 where
   pub count : length seats ≡ n
-  pub each : (c : ℕ) → c < n → get_elem? seats c ≡ some (record { table = table; view = new_cpu z c; log = []; known_log = []; noted_log = []; teller = None })
+  pub each : (c : ℕ) → c < n → get_elem? seats c ≡ some (cpu_seat table z c)
 
 -- the keeper's view where n CPUs have their seats, and it did nothing else
 abbrev pub keeper_with : Settings → ℕ → KeeperView

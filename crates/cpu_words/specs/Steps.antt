@@ -16,8 +16,8 @@ use Rattle.cpu_words.specs.declared.view.ReferenceView.{ReferenceView}
 use Rattle.cpu_words.specs.declared.view.LogItem.{LogItem}
 use Rattle.cpu_words.specs.declared.view.View.{View}
 use Rattle.cpu_words.specs.declared.view.View.TheVariants.{Keeper, Cpu, Reference}
-use Rattle.cpu_words.specs.Views.{Shown, cpu_of, keeper_of, reference_of}
-use Rattle.cpu_words.specs.Rule.{Good, Ruled, GoesOn, number_of_id, reference_to}
+use Rattle.cpu_words.specs.Views.{Seated, Shown, cpu_of, keeper_of, reference_of}
+use Rattle.cpu_words.specs.Rule.{Good, Ruled, GoesOn, did, number_of_id, reference_to}
 
 -- the two views are of one seat
 abbrev pub OneSeat : View → View → Type 0
@@ -36,6 +36,23 @@ pub record Makes (e : Event) (r : Reply) (v w : View) : Type 0 where
   pub made : step g e ≡ Some (record { state = after; reply = r })
   pub shown : Shown after w
   pub same : OneSeat v w
+
+-- The seat did just this: its log goes on with that alone, and its table, its known log, and the note beside its view with that note's teller stay
+pub record SeatGoesOn {X : Type 0} (ds : List LogItem) (a b : Seated X) : Type 0 where
+  pub table : b.table ≡ a.table
+  pub log : b.log ≡ a.log ++ ds
+  pub known_log : b.known_log ≡ a.known_log
+  pub noted_log : b.noted_log ≡ a.noted_log
+  pub teller : b.teller ≡ a.teller
+
+-- the seat, whose kind of view `of` makes, made just this event of the core, with this reply
+pub record SeatMakes {X : Type 0} (of : X → View) (e : Event) (r : Reply) (a b : Seated X) : Type 0 where
+  pub table : b.table ≡ a.table
+  pub event : Makes e r (of a.view) (of b.view)
+  pub log : b.log ≡ a.log ++ did e r
+  pub known_log : b.known_log ≡ a.known_log
+  pub noted_log : b.noted_log ≡ a.noted_log
+  pub teller : b.teller ≡ a.teller
 
 -- A seat that is cut in two, or takes in another, changes no word: in whatever state of the core shows the views before, just the event is made,
 -- and the views after are shown, with as many seats of references as the core has live references.

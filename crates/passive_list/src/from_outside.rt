@@ -1,11 +1,12 @@
 //! Lookups from outside, each in a section of its own.
 
-ghost use Rattle.std.specs.Prelude.{◌≡◌, ◌<◌, ◌+◌, ◌^◌, ◌++◌, IfSome};
+ghost use Rattle.std.specs.Prelude.{◌≡◌, ◌<◌, ◌+◌, ◌^◌, IfSome};
 ghost use Rattle.protocol.specs.declared.event.Event.TheVariants.{Exit};
 ghost use Rattle.protocol.specs.declared.event.Reply.TheVariants.{Done};
+ghost use Rattle.cpu_words.specs.declared.view.View.TheVariants.{Cpu};
 ghost use Rattle.cpu_words.specs.Domains.{AreWordsOf};
-ghost use Rattle.cpu_words.specs.Rule.{IsShownCpu, did};
 ghost use Rattle.cpu_words.specs.Searching.{key_with};
+ghost use Rattle.cpu_words.specs.Steps.{SeatMakes};
 ghost use Rattle.cpu_words.specs.Sections.{MayExit, HasExited};
 ghost use Rattle.passive_list.specs.Lookups.{HasFoundFromOutside};
 ghost use Rattle.passive_list.specs.Sections.{AreSpent};
@@ -44,12 +45,9 @@ fn exit_counted(words: &Words, seat: &mut CpuSeat, cpu: u8, ended: &mut u64)
     requires cpu { (cpu < MOST_CPUS) × (seat.old.view.id ≡ cpu) }
     requires may { MayExit seat.old.view }
     requires room { ended.old < 2 ^ 63 }
-    ensures table { seat.new.table ≡ seat.old.table }
+    ensures step { SeatMakes Cpu (Exit cpu) Done seat.old seat.new }
     ensures change { HasExited seat.old.view seat.new.view }
-    ensures is_shown { IsShownCpu seat.new.view }
     ensures count { ended.new ≡ ended.old + 1 }
-    ensures known_log { seat.new.known_log ≡ seat.old.known_log }
-    ensures log { seat.new.log ≡ seat.old.log ++ did (Exit cpu) Done }
 {
     steps::exit(words, seat, cpu);
     *ended += 1;

@@ -1,5 +1,5 @@
 -- The state of the core at the start is shown by the words and the keeper's first view; and the seats of the first CPUs.
-use Rattle.std.proofs.Common.{◌≡◌, inl, inr, ℕ, zero, suc, ◌+◌, List, [], ◌∷◌, ◌++◌, length, replicate, IsTrue, refl, sym, ap, ◌∙◌, subst, arith, length-append, below_more, None}
+use Rattle.std.proofs.Common.{◌≡◌, inl, inr, ℕ, zero, suc, ◌+◌, List, [], ◌∷◌, ◌++◌, length, replicate, IsTrue, refl, sym, ap, ◌∙◌, subst, arith, length-append, below_more}
 use Rattle.std.proofs.lemmas.List.{length-replicate, get_or-replicate}
 use Rattle.std.specs.Prelude.{slice_index}
 use mathlib.Core.Option.{some, some-ne-none, some-injective}
@@ -29,11 +29,11 @@ use Rattle.cpu_words.specs.declared.view.KeeperView.{KeeperView}
 use Rattle.cpu_words.specs.declared.view.Logged.{Logged}
 use Rattle.cpu_words.specs.declared.view.View.{View}
 use Rattle.cpu_words.specs.Spots.{Spot, section_of, passive_of, count_of, head_word, next_of, record_of, total_of, index, IsSpot, word_at}
-use Rattle.cpu_words.specs.Views.{Seated, new_cpu, new_keeper, first_view, Shown}
+use Rattle.cpu_words.specs.Views.{Seated, new_keeper, first_view, Shown}
 use Rattle.cpu_words.specs.Rule.{Sits, Good, Ruled}
 use Rattle.cpu_words.specs.Logs.{IsStanding, Knows, LoggedRuled, first_logged, HasComeIf}
 use Rattle.cpu_words.proofs.logs.Told.{no_act}
-use Rattle.cpu_words.specs.Opening.{AreOpening, AreSeats, keeper_with}
+use Rattle.cpu_words.specs.Opening.{AreOpening, AreSeats, cpu_seat}
 use Rattle.protocol.proofs.slots.Occupied.{not_vacant}
 
 -- no entry is in a slot at the start
@@ -129,15 +129,9 @@ opens z words fit are = record {
 
 -- the seats of the first CPUs
 
-pub more_seats : (table : TableId) (z : Settings) (n : ℕ) (seats : List (Seated CpuView)) (new : Seated CpuView) → AreSeats table z n seats → new ≡ record { table = table; view = new_cpu z n; log = []; known_log = []; noted_log = []; teller = None } → AreSeats table z (n + 1) (seats ++ new ∷ [])
+pub more_seats : (table : TableId) (z : Settings) (n : ℕ) (seats : List (Seated CpuView)) (new : Seated CpuView) → AreSeats table z n seats → new ≡ cpu_seat table z n → AreSeats table z (n + 1) (seats ++ new ∷ [])
 more_seats table z n seats new are is =
     let size : length seats ≡ n = are.count in record {
       count = length-append seats (new ∷ []) ∙ ap (λ k. k + 1) size;
-      each = below_more _ n
-          (λ c lt. at_longer seats (new ∷ []) c (record { table = table; view = new_cpu z c; log = []; known_log = []; noted_log = []; teller = None }) (are.each c lt))
-          (at_last seats new n size ∙ ap some is);
+      each = below_more _ n (λ c lt. at_longer seats (new ∷ []) c (cpu_seat table z c) (are.each c lt)) (at_last seats new n size ∙ ap some is);
     }
-
--- the seat that is cut from the seat of a keeper that has seated n CPUs
-pub seat_is : (new : Seated CpuView) (table : TableId) (z : Settings) (n : ℕ) (k : KeeperView) → new.table ≡ table → new.view ≡ new_cpu k.settings k.seated → new.log ≡ [] → (new.known_log ≡ []) × (new.noted_log ≡ []) × (new.teller ≡ None) → k ≡ keeper_with z n → new ≡ record { table = table; view = new_cpu z n; log = []; known_log = []; noted_log = []; teller = None }
-seat_is new table z n k at view log known_log is i = record { table = at i; view = (view ∙ ap (λ (u : KeeperView). new_cpu u.settings u.seated) is) i; log = log i; known_log = known_log.0 i; noted_log = known_log.1 i; teller = known_log.2 i }

@@ -1,10 +1,10 @@
 //! Steps of a CPU's seat.
 
-ghost use Rattle.std.specs.Prelude.{◌≡◌, ℕ, ◌<◌, ◌++◌, ◌+◌, ◌-◌, ◌%◌, ◌^◌};
+ghost use Rattle.std.specs.Prelude.{◌≡◌, ℕ, ◌<◌, ◌+◌, ◌-◌, ◌%◌, ◌^◌};
 ghost use prog.Atomic.{either};
 ghost use Rattle.std.specs.Prelude.{◌==◌};
 ghost use Rattle.cpu_words.specs.Logs.{the_cpu, AreBy};
-ghost use Rattle.cpu_words.specs.Steps.{CpuMay};
+ghost use Rattle.cpu_words.specs.Steps.{CpuMay, SeatGoesOn};
 
 use crate::law::{CpuPlay, CpuTale, Words};
 use crate::layout::WORDS;
@@ -23,10 +23,8 @@ pub(crate) fn add<T: CpuTale>(
     requires place { word < WORDS }
     requires own { (n : ℕ) → AreBy (the_cpu seat.old.view.id) (T.does seat.old.view n) }
     requires may { CpuMay words.now.settings seat.old.view word (λ n. (n + k) % 2 ^ 64) (T.does seat.old.view) T.tells }
-    ensures table { seat.new.table ≡ seat.old.table }
+    ensures step { SeatGoesOn (T.does seat.old.view result) seat.old seat.new }
     ensures told { T.tells seat.old.view result seat.new.view }
-    ensures log { seat.new.log ≡ seat.old.log ++ T.does seat.old.view result }
-    ensures known_log { seat.new.known_log ≡ seat.old.known_log }
 {
     // The contract alone speaks of the event.
     let _event = event;
@@ -48,10 +46,8 @@ pub(crate) fn subtract<T: CpuTale>(
     requires place { word < WORDS }
     requires own { (n : ℕ) → AreBy (the_cpu seat.old.view.id) (T.does seat.old.view n) }
     requires may { CpuMay words.now.settings seat.old.view word (λ n. (n + (2 ^ 64 - k)) % 2 ^ 64) (T.does seat.old.view) T.tells }
-    ensures table { seat.new.table ≡ seat.old.table }
+    ensures step { SeatGoesOn (T.does seat.old.view result) seat.old seat.new }
     ensures told { T.tells seat.old.view result seat.new.view }
-    ensures log { seat.new.log ≡ seat.old.log ++ T.does seat.old.view result }
-    ensures known_log { seat.new.known_log ≡ seat.old.known_log }
 {
     // The contract alone speaks of the event.
     let _event = event;
@@ -67,10 +63,8 @@ pub(crate) fn load<T: CpuTale>(words: &Words, seat: &mut CpuSeat, word: usize, e
     requires place { word < WORDS }
     requires own { (n : ℕ) → AreBy (the_cpu seat.old.view.id) (T.does seat.old.view n) }
     requires may { CpuMay words.now.settings seat.old.view word (λ n. n) (T.does seat.old.view) T.tells }
-    ensures table { seat.new.table ≡ seat.old.table }
+    ensures step { SeatGoesOn (T.does seat.old.view result) seat.old seat.new }
     ensures told { T.tells seat.old.view result seat.new.view }
-    ensures log { seat.new.log ≡ seat.old.log ++ T.does seat.old.view result }
-    ensures known_log { seat.new.known_log ≡ seat.old.known_log }
 {
     // The contract alone speaks of the event.
     let _event = event;
@@ -90,10 +84,8 @@ pub(crate) fn compare_exchange<T: CpuTale>(
     requires place { word < WORDS }
     requires own { (n : ℕ) → AreBy (the_cpu seat.old.view.id) (T.does seat.old.view n) }
     requires may { CpuMay words.now.settings seat.old.view word (λ n. either (n == old) new n) (T.does seat.old.view) T.tells }
-    ensures table { seat.new.table ≡ seat.old.table }
+    ensures step { SeatGoesOn (T.does seat.old.view result) seat.old seat.new }
     ensures told { T.tells seat.old.view result seat.new.view }
-    ensures log { seat.new.log ≡ seat.old.log ++ T.does seat.old.view result }
-    ensures known_log { seat.new.known_log ≡ seat.old.known_log }
 {
     // The contract alone speaks of the event.
     let _event = event;

@@ -1,9 +1,9 @@
 //! Steps of the keeper's seat.
 
-ghost use Rattle.std.specs.Prelude.{◌≡◌, ℕ, ◌<◌, ◌++◌, ◌+◌, ◌-◌, ◌%◌, ◌^◌};
+ghost use Rattle.std.specs.Prelude.{◌≡◌, ℕ, ◌<◌, ◌+◌, ◌-◌, ◌%◌, ◌^◌};
 ghost use Rattle.cpu_words.specs.KeeperLog.{IsOwnLog};
 ghost use Rattle.cpu_words.specs.Logs.{the_keeper, AreBy};
-ghost use Rattle.cpu_words.specs.Steps.{KeeperMay, KeeperStores};
+ghost use Rattle.cpu_words.specs.Steps.{KeeperMay, KeeperStores, SeatGoesOn};
 
 use crate::law::{KeeperHearing, KeeperPlay, KeeperTale, Words};
 use crate::layout::WORDS;
@@ -21,9 +21,8 @@ pub(crate) fn load<T: KeeperTale>(
     requires place { word < WORDS }
     requires own { (n : ℕ) → AreBy the_keeper (T.does seat.old.view n) }
     requires may { KeeperMay words.now.settings seat.old.view word (λ n. n) (T.does seat.old.view) T.tells }
-    ensures table { seat.new.table ≡ seat.old.table }
+    ensures step { SeatGoesOn (T.does seat.old.view result) seat.old seat.new }
     ensures told { T.tells seat.old.view result seat.new.view }
-    ensures log { seat.new.log ≡ seat.old.log ++ T.does seat.old.view result }
 {
     // The contract alone speaks of the event.
     let _event = event;
@@ -45,9 +44,8 @@ pub(crate) fn store<T: KeeperTale>(
     requires place { word < WORDS }
     requires own { (n : ℕ) → AreBy the_keeper (T.does seat.old.view n) }
     requires may { KeeperStores words.now.settings seat.old.view word value (T.does seat.old.view) T.tells }
-    ensures table { seat.new.table ≡ seat.old.table }
+    ensures step { SeatGoesOn (T.does seat.old.view value) seat.old seat.new }
     ensures told { T.tells seat.old.view value seat.new.view }
-    ensures log { seat.new.log ≡ seat.old.log ++ T.does seat.old.view value }
     ensures own_log { IsOwnLog seat.old.log seat.old.noted_log seat.old.view }
 {
     // The contract alone speaks of the event.
@@ -70,9 +68,8 @@ pub(crate) fn swap<T: KeeperTale>(
     requires place { word < WORDS }
     requires own { (n : ℕ) → AreBy the_keeper (T.does seat.old.view n) }
     requires may { KeeperMay words.now.settings seat.old.view word (λ _. value) (T.does seat.old.view) T.tells }
-    ensures table { seat.new.table ≡ seat.old.table }
+    ensures step { SeatGoesOn (T.does seat.old.view result) seat.old seat.new }
     ensures told { T.tells seat.old.view result seat.new.view }
-    ensures log { seat.new.log ≡ seat.old.log ++ T.does seat.old.view result }
 {
     // The contract alone speaks of the event.
     let _event = event;
@@ -94,9 +91,8 @@ pub(crate) fn subtract<T: KeeperTale>(
     requires place { word < WORDS }
     requires own { (n : ℕ) → AreBy the_keeper (T.does seat.old.view n) }
     requires may { KeeperMay words.now.settings seat.old.view word (λ n. (n + (2 ^ 64 - k)) % 2 ^ 64) (T.does seat.old.view) T.tells }
-    ensures table { seat.new.table ≡ seat.old.table }
+    ensures step { SeatGoesOn (T.does seat.old.view result) seat.old seat.new }
     ensures told { T.tells seat.old.view result seat.new.view }
-    ensures log { seat.new.log ≡ seat.old.log ++ T.does seat.old.view result }
     ensures own_log { IsOwnLog seat.old.log seat.old.noted_log seat.old.view }
 {
     // The contract alone speaks of the event.

@@ -1,8 +1,8 @@
 //! Steps of the seat of a local reference.
 
-ghost use Rattle.std.specs.Prelude.{◌≡◌, ℕ, ◌<◌, ◌++◌};
+ghost use Rattle.std.specs.Prelude.{◌≡◌, ℕ, ◌<◌};
 ghost use Rattle.cpu_words.specs.Logs.{another, AreBy};
-ghost use Rattle.cpu_words.specs.Steps.{ReferenceMay};
+ghost use Rattle.cpu_words.specs.Steps.{ReferenceMay, SeatGoesOn};
 
 use crate::law::{ReferencePlay, ReferenceTale, Words};
 use crate::layout::WORDS;
@@ -20,10 +20,9 @@ pub(crate) fn load<T: ReferenceTale>(
     requires place { word < WORDS }
     requires own { (n : ℕ) → AreBy another (T.does seat.old.view n) }
     requires may { ReferenceMay words.now.settings seat.old.view word (T.does seat.old.view) T.tells }
-    ensures table { seat.new.table ≡ seat.old.table }
+    ensures step { SeatGoesOn (T.does seat.old.view result) seat.old seat.new }
     ensures same { seat.new.view ≡ seat.old.view }
     ensures told { T.tells seat.old.view result }
-    ensures log { seat.new.log ≡ seat.old.log ++ T.does seat.old.view result }
 {
     // The contract alone speaks of the event.
     let _event = event;

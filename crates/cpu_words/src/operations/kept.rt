@@ -1,9 +1,9 @@
 //! A local reference that a slot keeps: its seat is joined into the keeper's, for a slot that the caller names.
 
-ghost use Rattle.std.specs.Prelude.{◌≡◌, ◌++◌};
+ghost use Rattle.std.specs.Prelude.{◌≡◌};
 ghost use Rattle.protocol.specs.declared.event.Event.TheVariants.{Keep};
 ghost use Rattle.cpu_words.specs.declared.view.View.TheVariants.{Keeper, Reference};
-ghost use Rattle.cpu_words.specs.Steps.{JoinsBy};
+ghost use Rattle.cpu_words.specs.Steps.{JoinsBy, SeatGoesOn};
 ghost use Rattle.protocol.specs.declared.event.Reply.TheVariants.{Done};
 ghost use Rattle.cpu_words.specs.Rule.{did};
 ghost use Rattle.cpu_words.specs.Keeping.{MayKeep, keeper_after_keep};
@@ -49,10 +49,9 @@ pub(crate) fn join<S: KeepingSlot>(
     requires table { (keeper.old.table ≡ words.now.table) × (reference.table ≡ words.now.table) }
     requires slot { S.slot ≡ slot }
     requires may { MayKeep keeper.old.view slot reference.view }
-    ensures table { keeper.new.table ≡ keeper.old.table }
+    ensures step { SeatGoesOn (did (Keep slot reference.view.entry.number) Done) keeper.old keeper.new }
     ensures event { JoinsBy (Keep slot) (Keeper keeper.old.view) (Reference reference.view) (Keeper keeper.new.view) }
     ensures change { keeper.new.view ≡ keeper_after_keep keeper.old.view slot reference.view }
-    ensures log { keeper.new.log ≡ keeper.old.log ++ did (Keep slot reference.view.entry.number) Done }
 {
     // The contract alone speaks of the slot.
     let _slot = slot;

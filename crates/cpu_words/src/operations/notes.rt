@@ -7,7 +7,7 @@ ghost use Rattle.cpu_words.specs.KeeperLog.{KnownLogGrows, heard_from, IsOwnLog,
 ghost use Rattle.cpu_words.specs.Logs.{the_keeper, AreBy};
 ghost use Rattle.cpu_words.specs.Notes.{with_note, keeper_with_note, CpuHears, KeeperHears};
 ghost use Rattle.cpu_words.specs.Sections.{IsIdle};
-ghost use Rattle.cpu_words.specs.Steps.{KeeperMay};
+ghost use Rattle.cpu_words.specs.Steps.{KeeperMay, SeatGoesOn};
 
 use crate::law::{CpuHearing, KeeperHearing, KeeperTale, NoteHearing, Words};
 use crate::layout::{HEAD, WORDS, section_place};
@@ -110,9 +110,8 @@ pub(crate) fn listen(words: &Words, seat: &mut CpuSeat, cpu: u8)
 pub(crate) fn hear_noted(words: &Words, keeper: &mut KeeperSeat)
     requires table { keeper.old.table ≡ words.now.table }
     requires may { keeper.old.view.due ≡ Rest }
-    ensures table { keeper.new.table ≡ keeper.old.table }
+    ensures step { SeatGoesOn (heard_from None keeper.old.teller) keeper.old keeper.new }
     ensures told { KeeperHears keeper.old.view keeper.new.view }
-    ensures log { keeper.new.log ≡ keeper.old.log ++ heard_from None keeper.old.teller }
     ensures own_log { IsOwnLog keeper.old.log keeper.old.noted_log keeper.old.view }
 {
     words
@@ -132,9 +131,8 @@ pub(crate) fn listen_by_keeper<T: KeeperTale>(
     requires place { word < WORDS }
     requires own { (n : ℕ) → AreBy the_keeper (T.does keeper.old.view n) }
     requires may { KeeperMay words.now.settings keeper.old.view word (λ n. n) (T.does keeper.old.view) T.tells }
-    ensures table { keeper.new.table ≡ keeper.old.table }
+    ensures step { SeatGoesOn (T.does keeper.old.view result) keeper.old keeper.new }
     ensures told { T.tells keeper.old.view result keeper.new.view }
-    ensures log { keeper.new.log ≡ keeper.old.log ++ T.does keeper.old.view result }
     ensures own_log { IsOwnLog keeper.old.log keeper.old.noted_log keeper.old.view }
 {
     // The contract alone speaks of the event.

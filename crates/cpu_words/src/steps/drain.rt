@@ -1,7 +1,7 @@
 //! Draining (psref(9), localcount(9)) by the keeper's seat: the passive words of all CPUs are seen to be 0, their count words are collected
 //! into the total, and references found collected are given up by the total.
 
-ghost use Rattle.std.specs.Prelude.{◌≡◌, ◌<◌, ℕ, ◌++◌};
+ghost use Rattle.std.specs.Prelude.{◌≡◌, ◌<◌, ℕ};
 ghost use Rattle.registry_values.specs.declared.entry.Entry.{Entry};
 ghost use Rattle.registry_values.specs.declared.slot.Slot.TheVariants.{Retired};
 ghost use Rattle.registry_values.specs.Slots.{slot_at};
@@ -10,7 +10,7 @@ ghost use Rattle.protocol.specs.declared.event.Reply.TheVariants.{Done, Word};
 ghost use Rattle.cpu_words.specs.declared.view.View.TheVariants.{Keeper, Reference};
 ghost use Rattle.cpu_words.specs.KeeperLog.{IsFreedFrom};
 ghost use Rattle.cpu_words.specs.Rule.{did};
-ghost use Rattle.cpu_words.specs.Steps.{Makes, JoinsBy};
+ghost use Rattle.cpu_words.specs.Steps.{JoinsBy, SeatGoesOn, SeatMakes};
 ghost use Rattle.cpu_words.specs.Draining.{MayPassiveLook, HasLookedPassive, MayCollect, HasCollected, MayTotalAdd, HasAdded, MayTotalSub, HasSubtracted, MayJoinKeeper, keeper_after_join, MayKeptSub, HasKeptSub};
 
 use crate::law::Words;
@@ -29,10 +29,8 @@ pub fn passive_look(words: &Words, keeper: &mut KeeperSeat, slot: u8, cpu: u8) -
     requires table { keeper.old.table ≡ words.now.table }
     requires place { cpu < MOST_CPUS }
     requires may { MayPassiveLook keeper.old.view slot cpu }
-    ensures table { keeper.new.table ≡ keeper.old.table }
-    ensures event { Makes (PassiveLook slot cpu) (Word result) (Keeper keeper.old.view) (Keeper keeper.new.view) }
+    ensures step { SeatMakes Keeper (PassiveLook slot cpu) (Word result) keeper.old keeper.new }
     ensures change { HasLookedPassive keeper.old.view slot cpu result keeper.new.view }
-    ensures log { keeper.new.log ≡ keeper.old.log ++ did (PassiveLook slot cpu) (Word result) }
 {
     by_keeper::load::<Brand>(
         words,
@@ -50,10 +48,8 @@ pub fn collect(words: &Words, keeper: &mut KeeperSeat, slot: u8, cpu: u8) -> u64
     requires table { keeper.old.table ≡ words.now.table }
     requires place { cpu < MOST_CPUS }
     requires may { MayCollect keeper.old.view slot cpu }
-    ensures table { keeper.new.table ≡ keeper.old.table }
-    ensures event { Makes (Collect slot cpu) (Word result) (Keeper keeper.old.view) (Keeper keeper.new.view) }
+    ensures step { SeatMakes Keeper (Collect slot cpu) (Word result) keeper.old keeper.new }
     ensures change { HasCollected keeper.old.view slot cpu result keeper.new.view }
-    ensures log { keeper.new.log ≡ keeper.old.log ++ did (Collect slot cpu) (Word result) }
 {
     by_keeper::swap::<Brand>(
         words,
@@ -71,10 +67,8 @@ pub fn total_add(words: &Words, keeper: &mut KeeperSeat, slot: u8, total: u64)
     requires table { keeper.old.table ≡ words.now.table }
     requires place { slot < MOST_SLOTS }
     requires may { (old : ℕ) × MayTotalAdd keeper.old.view slot old total }
-    ensures table { keeper.new.table ≡ keeper.old.table }
-    ensures event { Makes (TotalAdd slot) Done (Keeper keeper.old.view) (Keeper keeper.new.view) }
+    ensures step { SeatMakes Keeper (TotalAdd slot) Done keeper.old keeper.new }
     ensures change { HasAdded keeper.old.view slot total keeper.new.view }
-    ensures log { keeper.new.log ≡ keeper.old.log ++ did (TotalAdd slot) Done }
 {
     by_keeper::store::<Brand>(
         words,
@@ -91,10 +85,8 @@ pub fn total_sub(words: &Words, keeper: &mut KeeperSeat, slot: u8)
     requires table { keeper.old.table ≡ words.now.table }
     requires place { slot < MOST_SLOTS }
     requires may { MayTotalSub keeper.old.view slot }
-    ensures table { keeper.new.table ≡ keeper.old.table }
-    ensures event { Makes (TotalSub slot) Done (Keeper keeper.old.view) (Keeper keeper.new.view) }
+    ensures step { SeatMakes Keeper (TotalSub slot) Done keeper.old keeper.new }
     ensures change { HasSubtracted keeper.old.view slot keeper.new.view }
-    ensures log { keeper.new.log ≡ keeper.old.log ++ did (TotalSub slot) Done }
 {
     by_keeper::subtract::<Brand>(words, keeper, total_place(slot), 1, Event::TotalSub(slot));
 }
@@ -106,10 +98,9 @@ pub fn total_sub(words: &Words, keeper: &mut KeeperSeat, slot: u8)
 pub fn join_keeper(words: &Words, keeper: &mut KeeperSeat, reference: ReferenceSeat)
     requires table { (keeper.old.table ≡ words.now.table) × (reference.table ≡ words.now.table) }
     requires may { MayJoinKeeper keeper.old.view reference.view }
-    ensures table { keeper.new.table ≡ keeper.old.table }
+    ensures step { SeatGoesOn (did (JoinKeeper reference.view.entry.number) Done) keeper.old keeper.new }
     ensures event { JoinsBy JoinKeeper (Keeper keeper.old.view) (Reference reference.view) (Keeper keeper.new.view) }
     ensures change { keeper.new.view ≡ keeper_after_join keeper.old.view reference.view }
-    ensures log { keeper.new.log ≡ keeper.old.log ++ did (JoinKeeper reference.view.entry.number) Done }
 {
     let ReferenceSeat { token } = reference;
     words
@@ -126,10 +117,8 @@ pub fn kept_sub(words: &Words, keeper: &mut KeeperSeat, slot: u8, driver_slot: u
     requires table { keeper.old.table ≡ words.now.table }
     requires place { driver_slot < MOST_SLOTS }
     requires may { MayKeptSub keeper.old.view slot driver_slot }
-    ensures table { keeper.new.table ≡ keeper.old.table }
-    ensures event { Makes (KeptSub slot) Done (Keeper keeper.old.view) (Keeper keeper.new.view) }
+    ensures step { SeatMakes Keeper (KeptSub slot) Done keeper.old keeper.new }
     ensures change { HasKeptSub keeper.old.view slot driver_slot keeper.new.view }
-    ensures log { keeper.new.log ≡ keeper.old.log ++ did (KeptSub slot) Done }
     ensures freed { (e : Entry) → slot_at keeper.old.view.slots slot ≡ Retired e → IsFreedFrom slot e.number keeper.new.log }
 {
     by_keeper::subtract::<Brand>(

@@ -1,11 +1,10 @@
 //! Grace (pserialize(9)): what the keeper's seat sees of the CPUs' section words, a load each.
 
-ghost use Rattle.std.specs.Prelude.{◌≡◌, ◌<◌, Some, None, ◌++◌};
+ghost use Rattle.std.specs.Prelude.{◌≡◌, ◌<◌, Some, None};
 ghost use Rattle.protocol.specs.declared.event.Event.TheVariants.{Look, Snapshot};
 ghost use Rattle.protocol.specs.declared.event.Reply.TheVariants.{Word};
 ghost use Rattle.cpu_words.specs.declared.view.View.TheVariants.{Keeper};
-ghost use Rattle.cpu_words.specs.Rule.{did};
-ghost use Rattle.cpu_words.specs.Steps.{Makes};
+ghost use Rattle.cpu_words.specs.Steps.{SeatMakes};
 ghost use Rattle.cpu_words.specs.Grace.{MayGlance, MayLook, MaySnapshot, HasLooked, HasSnapshot, keeper_after_look};
 
 use crate::law::Words;
@@ -23,10 +22,8 @@ pub fn look(words: &Words, keeper: &mut KeeperSeat, slot: u8, cpu: u8) -> u64
     requires table { keeper.old.table ≡ words.now.table }
     requires place { cpu < MOST_CPUS }
     requires may { MayLook keeper.old.view slot cpu }
-    ensures table { keeper.new.table ≡ keeper.old.table }
-    ensures event { Makes (Look (Some slot) cpu) (Word result) (Keeper keeper.old.view) (Keeper keeper.new.view) }
+    ensures step { SeatMakes Keeper (Look (Some slot) cpu) (Word result) keeper.old keeper.new }
     ensures change { HasLooked keeper.old.view (Look (Some slot) cpu) (Word result) slot cpu result keeper.new.view }
-    ensures log { keeper.new.log ≡ keeper.old.log ++ did (Look (Some slot) cpu) (Word result) }
 {
     let look = Event::Look(Some(slot), cpu);
     by_keeper::load::<Brand>(words, keeper, section_place(cpu), look)
@@ -38,10 +35,8 @@ pub fn look_now(words: &Words, keeper: &mut KeeperSeat, cpu: u8) -> u64
     requires table { keeper.old.table ≡ words.now.table }
     requires place { cpu < MOST_CPUS }
     requires may { MayGlance keeper.old.view cpu }
-    ensures table { keeper.new.table ≡ keeper.old.table }
-    ensures event { Makes (Look None cpu) (Word result) (Keeper keeper.old.view) (Keeper keeper.new.view) }
+    ensures step { SeatMakes Keeper (Look None cpu) (Word result) keeper.old keeper.new }
     ensures change { keeper.new.view ≡ keeper_after_look keeper.old.view (Look None cpu) (Word result) }
-    ensures log { keeper.new.log ≡ keeper.old.log ++ did (Look None cpu) (Word result) }
 {
     by_keeper::load::<Brand>(words, keeper, section_place(cpu), Event::Look(None, cpu))
 }
@@ -52,10 +47,8 @@ pub fn snapshot(words: &Words, keeper: &mut KeeperSeat, slot: u8, cpu: u8) -> u6
     requires table { keeper.old.table ≡ words.now.table }
     requires place { cpu < MOST_CPUS }
     requires may { MaySnapshot keeper.old.view slot cpu }
-    ensures table { keeper.new.table ≡ keeper.old.table }
-    ensures event { Makes (Snapshot (Some slot) cpu) (Word result) (Keeper keeper.old.view) (Keeper keeper.new.view) }
+    ensures step { SeatMakes Keeper (Snapshot (Some slot) cpu) (Word result) keeper.old keeper.new }
     ensures change { HasSnapshot keeper.old.view slot cpu result keeper.new.view }
-    ensures log { keeper.new.log ≡ keeper.old.log ++ did (Snapshot (Some slot) cpu) (Word result) }
 {
     let event = Event::Snapshot(Some(slot), cpu);
     by_keeper::load::<Brand>(words, keeper, section_place(cpu), event)
@@ -67,10 +60,8 @@ pub fn snapshot_now(words: &Words, keeper: &mut KeeperSeat, cpu: u8) -> u64
     requires table { keeper.old.table ≡ words.now.table }
     requires place { cpu < MOST_CPUS }
     requires may { MayGlance keeper.old.view cpu }
-    ensures table { keeper.new.table ≡ keeper.old.table }
-    ensures event { Makes (Snapshot None cpu) (Word result) (Keeper keeper.old.view) (Keeper keeper.new.view) }
+    ensures step { SeatMakes Keeper (Snapshot None cpu) (Word result) keeper.old keeper.new }
     ensures change { keeper.new.view ≡ keeper_after_look keeper.old.view (Snapshot None cpu) (Word result) }
-    ensures log { keeper.new.log ≡ keeper.old.log ++ did (Snapshot None cpu) (Word result) }
 {
     let snapshot = Event::Snapshot(None, cpu);
     by_keeper::load::<Brand>(words, keeper, section_place(cpu), snapshot)

@@ -1,11 +1,11 @@
 //! Kept drivers: an interface's slot keeps a local reference to its driver. The reference's seat is spent, and no word changes.
 
-ghost use Rattle.std.specs.Prelude.{◌≡◌, ◌++◌};
+ghost use Rattle.std.specs.Prelude.{◌≡◌};
 ghost use Rattle.protocol.specs.declared.event.Event.TheVariants.{Keep};
 ghost use Rattle.protocol.specs.declared.event.Reply.TheVariants.{Done};
 ghost use Rattle.cpu_words.specs.declared.view.View.TheVariants.{Keeper, Reference};
 ghost use Rattle.cpu_words.specs.Rule.{did};
-ghost use Rattle.cpu_words.specs.Steps.{JoinsBy};
+ghost use Rattle.cpu_words.specs.Steps.{JoinsBy, SeatGoesOn};
 ghost use Rattle.cpu_words.specs.Keeping.{MayKeep, keeper_after_keep};
 
 use crate::law::Words;
@@ -18,10 +18,9 @@ use std::marker::Brand;
 pub fn keep(words: &Words, keeper: &mut KeeperSeat, slot: u8, reference: ReferenceSeat)
     requires table { (keeper.old.table ≡ words.now.table) × (reference.table ≡ words.now.table) }
     requires may { MayKeep keeper.old.view slot reference.view }
-    ensures table { keeper.new.table ≡ keeper.old.table }
+    ensures step { SeatGoesOn (did (Keep slot reference.view.entry.number) Done) keeper.old keeper.new }
     ensures event { JoinsBy (Keep slot) (Keeper keeper.old.view) (Reference reference.view) (Keeper keeper.new.view) }
     ensures change { keeper.new.view ≡ keeper_after_keep keeper.old.view slot reference.view }
-    ensures log { keeper.new.log ≡ keeper.old.log ++ did (Keep slot reference.view.entry.number) Done }
 {
     kept::join::<Brand>(words, keeper, reference, slot);
 }

@@ -1,11 +1,10 @@
 //! The words of a slot that the keeper's seat stores before it links an entry: StoreSlot and StoreNext, a store each.
 
-ghost use Rattle.std.specs.Prelude.{◌≡◌, ◌<◌, ◌+◌, ◌++◌};
+ghost use Rattle.std.specs.Prelude.{◌≡◌, ◌<◌, ◌+◌};
 ghost use Rattle.protocol.specs.declared.event.Event.TheVariants.{StoreSlot, StoreNext};
 ghost use Rattle.protocol.specs.declared.event.Reply.TheVariants.{Done};
 ghost use Rattle.cpu_words.specs.declared.view.View.TheVariants.{Keeper};
-ghost use Rattle.cpu_words.specs.Rule.{did};
-ghost use Rattle.cpu_words.specs.Steps.{Makes};
+ghost use Rattle.cpu_words.specs.Steps.{SeatMakes};
 ghost use Rattle.cpu_words.specs.Vacating.{MayWrite};
 ghost use Rattle.cpu_words.specs.Storing.{HasRecordWord, HasCountWord, HasLink};
 
@@ -23,10 +22,8 @@ pub fn store_record(words: &Words, keeper: &mut KeeperSeat, slot: u8, k: u8, val
     requires table { keeper.old.table ≡ words.now.table }
     requires place { (slot < MOST_SLOTS) × (k < 5) }
     requires may { MayWrite keeper.old.view slot }
-    ensures table { keeper.new.table ≡ keeper.old.table }
-    ensures event { Makes (StoreSlot slot k value) Done (Keeper keeper.old.view) (Keeper keeper.new.view) }
+    ensures step { SeatMakes Keeper (StoreSlot slot k value) Done keeper.old keeper.new }
     ensures change { HasRecordWord keeper.old.view slot k value keeper.new.view }
-    ensures log { keeper.new.log ≡ keeper.old.log ++ did (StoreSlot slot k value) Done }
 {
     let place = record_place(slot as usize, k);
     let event = Event::StoreSlot(slot, k, value);
@@ -38,10 +35,8 @@ pub fn store_count(words: &Words, keeper: &mut KeeperSeat, slot: u8, cpu: u8, va
     requires table { keeper.old.table ≡ words.now.table }
     requires place { (slot < MOST_SLOTS) × (cpu < keeper.old.view.settings.cpus) × (cpu < MOST_CPUS) }
     requires may { MayWrite keeper.old.view slot }
-    ensures table { keeper.new.table ≡ keeper.old.table }
-    ensures event { Makes (StoreSlot slot (5 + cpu) value) Done (Keeper keeper.old.view) (Keeper keeper.new.view) }
+    ensures step { SeatMakes Keeper (StoreSlot slot (5 + cpu) value) Done keeper.old keeper.new }
     ensures change { HasCountWord keeper.old.view slot cpu value keeper.new.view }
-    ensures log { keeper.new.log ≡ keeper.old.log ++ did (StoreSlot slot (5 + cpu) value) Done }
 {
     let place = count_place(cpu, slot);
     let event = Event::StoreSlot(slot, 5 + cpu, value);
@@ -53,10 +48,8 @@ pub fn store_next(words: &Words, keeper: &mut KeeperSeat, slot: u8, link: u64)
     requires table { keeper.old.table ≡ words.now.table }
     requires place { slot < MOST_SLOTS }
     requires may { MayWrite keeper.old.view slot }
-    ensures table { keeper.new.table ≡ keeper.old.table }
-    ensures event { Makes (StoreNext slot link) Done (Keeper keeper.old.view) (Keeper keeper.new.view) }
+    ensures step { SeatMakes Keeper (StoreNext slot link) Done keeper.old keeper.new }
     ensures change { HasLink keeper.old.view slot link keeper.new.view }
-    ensures log { keeper.new.log ≡ keeper.old.log ++ did (StoreNext slot link) Done }
 {
     let place = next_place(slot);
     by_keeper::store::<Brand>(words, keeper, place, link, Event::StoreNext(slot, link));

@@ -1,6 +1,6 @@
 //! Local references (localcount(9)) by a CPU's seat: each is a seat of its own but while it is in the CPU's hand.
 
-ghost use Rattle.std.specs.Prelude.{◌≡◌, ◌≢◌, ◌+◌, ◌<◌, Some, None, ◌++◌, []};
+ghost use Rattle.std.specs.Prelude.{◌≡◌, ◌≢◌, ◌+◌, ◌<◌, []};
 ghost use Rattle.registry_values.specs.declared.entry.Entry.{Entry};
 ghost use Rattle.registry_values.specs.Balances.{bias};
 ghost use Rattle.protocol.specs.declared.event.Event.TheVariants.{CountAdd, SplitRef, JoinRef, CountDown, SplitBack};
@@ -9,7 +9,7 @@ ghost use Rattle.cpu_words.specs.declared.view.View.TheVariants.{Cpu, Reference}
 ghost use Rattle.cpu_words.specs.declared.view.InHand.TheVariants.{Giving as GivingEntry};
 ghost use Rattle.cpu_words.specs.Sections.{IsIdle};
 ghost use Rattle.cpu_words.specs.Rule.{did};
-ghost use Rattle.cpu_words.specs.Steps.{Makes, SplitsBy, JoinsBy};
+ghost use Rattle.cpu_words.specs.Steps.{Makes, SplitsBy, JoinsBy, SeatGoesOn, SeatMakes};
 ghost use Rattle.cpu_words.specs.Locals.{down_reply, IsTaking, IsBack, IsNetCount, IsMetAlone, MayCount, HasCounted, MayCountDown, HasCountedDown, HasFoundCollected, HasSplit, HasSplitBack, with_hand};
 
 use crate::law::Words;
@@ -30,14 +30,11 @@ pub fn count_add(words: &Words, seat: &mut CpuSeat, cpu: u8, slot: u8, number: u
     requires place { (cpu < MOST_CPUS) × (slot < MOST_SLOTS) }
     requires cpu { seat.old.view.id ≡ cpu }
     requires may { MayCount seat.old.view slot number }
-    ensures table { seat.new.table ≡ seat.old.table }
-    ensures event { Makes (CountAdd cpu) (Word result) (Cpu seat.old.view) (Cpu seat.new.view) }
+    ensures step { SeatMakes Cpu (CountAdd cpu) (Word result) seat.old seat.new }
     ensures change { HasCounted seat.old.view slot number seat.new.view }
     ensures word { IsNetCount seat.old.view number result }
     ensures room { result < bias + seat.old.view.settings.count_limit }
     ensures alone { IsMetAlone seat.old.view slot number }
-    ensures log { seat.new.log ≡ seat.old.log ++ did (CountAdd cpu) (Word result) }
-    ensures known_log { seat.new.known_log ≡ seat.old.known_log }
 {
     // The contract alone speaks of the entry's number.
     let _number = number;
@@ -51,11 +48,10 @@ pub fn split_ref(words: &Words, seat: &mut CpuSeat, cpu: u8) -> ReferenceSeat
     requires table { seat.old.table ≡ words.now.table }
     requires cpu { seat.old.view.id ≡ cpu }
     requires may { (e : Entry) × IsTaking seat.old.view e }
-    ensures table { (seat.new.table ≡ seat.old.table) × (result.table ≡ seat.old.table) }
+    ensures step { SeatGoesOn (did (SplitRef cpu) (Ref 0)) seat.old seat.new }
     ensures event { SplitsBy (SplitRef cpu) (Cpu seat.old.view) (Cpu seat.new.view) (Reference result.view) }
     ensures change { HasSplit seat.old.view seat.new.view result.view }
-    ensures log { (seat.new.log ≡ seat.old.log ++ did (SplitRef cpu) (Ref 0)) × (result.log ≡ []) }
-    ensures known_log { seat.new.known_log ≡ seat.old.known_log }
+    ensures new { (result.table ≡ seat.old.table) × (result.log ≡ []) }
 {
     // The contract alone speaks of the CPU's number.
     let _cpu = cpu;
@@ -73,11 +69,10 @@ pub fn split_back(words: &Words, seat: &mut CpuSeat, cpu: u8) -> ReferenceSeat
     requires table { seat.old.table ≡ words.now.table }
     requires cpu { seat.old.view.id ≡ cpu }
     requires may { (e : Entry) × IsBack seat.old.view e }
-    ensures table { (seat.new.table ≡ seat.old.table) × (result.table ≡ seat.old.table) }
+    ensures step { SeatGoesOn (did (SplitBack cpu) (Ref 0)) seat.old seat.new }
     ensures event { SplitsBy (SplitBack cpu) (Cpu seat.old.view) (Cpu seat.new.view) (Reference result.view) }
     ensures change { HasSplitBack seat.old.view seat.new.view result.view }
-    ensures log { (seat.new.log ≡ seat.old.log ++ did (SplitBack cpu) (Ref 0)) × (result.log ≡ []) }
-    ensures known_log { seat.new.known_log ≡ seat.old.known_log }
+    ensures new { (result.table ≡ seat.old.table) × (result.log ≡ []) }
 {
     // The contract alone speaks of the CPU's number.
     let _cpu = cpu;
@@ -94,11 +89,9 @@ pub fn join_ref(words: &Words, seat: &mut CpuSeat, cpu: u8, reference: Reference
     requires table { (seat.old.table ≡ words.now.table) × (reference.table ≡ words.now.table) }
     requires cpu { seat.old.view.id ≡ cpu }
     requires may { IsIdle seat.old.view }
-    ensures table { seat.new.table ≡ seat.old.table }
+    ensures step { SeatGoesOn (did (JoinRef cpu reference.view.entry.number) Done) seat.old seat.new }
     ensures event { JoinsBy (JoinRef cpu) (Cpu seat.old.view) (Reference reference.view) (Cpu seat.new.view) }
     ensures change { seat.new.view ≡ with_hand seat.old.view (GivingEntry reference.view.entry) }
-    ensures log { seat.new.log ≡ seat.old.log ++ did (JoinRef cpu reference.view.entry.number) Done }
-    ensures known_log { seat.new.known_log ≡ seat.old.known_log }
 {
     // The contract alone speaks of the CPU's number.
     let _cpu = cpu;
@@ -126,14 +119,12 @@ pub fn count_down(
     requires place { (cpu < MOST_CPUS) × (slot < MOST_SLOTS) }
     requires cpu { seat.old.view.id ≡ cpu }
     requires may { MayCountDown seat.old.view slot number expected }
-    ensures table { seat.new.table ≡ seat.old.table }
+    ensures step { SeatGoesOn (did (CountDown cpu) (down_reply expected result)) seat.old seat.new }
     ensures floor { 0 < expected }
     ensures net { IsNetCount seat.old.view number expected }
     ensures alone { IsMetAlone seat.old.view slot number }
     ensures counted { result ≡ expected → Makes (CountDown cpu) (Word result) (Cpu seat.old.view) (Cpu seat.new.view) × HasCountedDown seat.old.view slot number seat.new.view }
     ensures collected { result ≢ expected → Makes (CountDown cpu) Collected (Cpu seat.old.view) (Cpu seat.new.view) × HasFoundCollected seat.old.view number seat.new.view }
-    ensures log { seat.new.log ≡ seat.old.log ++ did (CountDown cpu) (down_reply expected result) }
-    ensures known_log { seat.new.known_log ≡ seat.old.known_log }
 {
     // The contract alone speaks of the entry's number.
     let _number = number;

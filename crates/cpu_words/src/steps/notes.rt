@@ -9,7 +9,7 @@ ghost use Rattle.protocol.specs.declared.state.Due.TheVariants.{Rest};
 ghost use Rattle.cpu_words.specs.declared.view.View.TheVariants.{Keeper, Cpu, Note};
 ghost use Rattle.cpu_words.specs.Sections.{IsIdle};
 ghost use Rattle.cpu_words.specs.Rule.{did};
-ghost use Rattle.cpu_words.specs.Steps.{Makes, SplitsBy};
+ghost use Rattle.cpu_words.specs.Steps.{Makes, SplitsBy, SeatGoesOn};
 ghost use Rattle.cpu_words.specs.Notes.{with_note, keeper_with_note};
 ghost use Rattle.cpu_words.specs.KeeperLog.{KnownLogGrows, heard_from, IsOwnLog, IsShownAfter};
 ghost use Rattle.cpu_words.specs.Logs.{teller_of};
@@ -26,12 +26,12 @@ pub fn tell(words: &Words, seat: &mut CpuSeat, cpu: u8) -> NoteSeat
     requires table { seat.old.table ≡ words.now.table }
     requires cpu { seat.old.view.id ≡ cpu }
     requires may { IsIdle seat.old.view }
-    ensures table { (seat.new.table ≡ seat.old.table) × (result.table ≡ seat.old.table) }
+    ensures step { SeatGoesOn (did (Tell (Some cpu)) Done) seat.old seat.new }
     ensures same { seat.new.view ≡ seat.old.view }
-    ensures note { result.view ≡ seat.old.view.pass }
     ensures event { SplitsBy (Tell (Some cpu)) (Cpu seat.old.view) (Cpu seat.old.view) (Note result.view) }
-    ensures log { (seat.new.log ≡ seat.old.log ++ did (Tell (Some cpu)) Done) × (result.log ≡ []) }
-    ensures known_log { (seat.new.known_log ≡ seat.old.known_log) × (result.known_log ≡ seat.old.known_log) }
+    ensures note { result.view ≡ seat.old.view.pass }
+    ensures new { (result.table ≡ seat.old.table) × (result.log ≡ []) }
+    ensures known_log { result.known_log ≡ seat.old.known_log }
     ensures teller { result.teller ≡ Some (teller_of seat.old.view seat.old.log) }
 {
     // The contract alone speaks of the CPU's number.
@@ -45,11 +45,11 @@ pub fn tell(words: &Words, seat: &mut CpuSeat, cpu: u8) -> NoteSeat
 pub fn tell_keeper(words: &Words, keeper: &mut KeeperSeat) -> NoteSeat
     requires table { keeper.old.table ≡ words.now.table }
     requires may { keeper.old.view.due ≡ Rest }
-    ensures table { (keeper.new.table ≡ keeper.old.table) × (result.table ≡ keeper.old.table) }
+    ensures step { SeatGoesOn (did (Tell None) Done) keeper.old keeper.new }
     ensures same { keeper.new.view ≡ keeper.old.view }
-    ensures note { result.view ≡ keeper.old.view.history }
     ensures event { SplitsBy (Tell None) (Keeper keeper.old.view) (Keeper keeper.old.view) (Note result.view) }
-    ensures log { (keeper.new.log ≡ keeper.old.log ++ did (Tell None) Done) × (result.log ≡ []) }
+    ensures note { result.view ≡ keeper.old.view.history }
+    ensures new { (result.table ≡ keeper.old.table) × (result.log ≡ []) }
     ensures known_log { result.known_log ≡ keeper.new.log }
     ensures teller { result.teller ≡ None }
 {

@@ -1,13 +1,12 @@
 //! Passive references (psref(9)): each counted in a passive word of the CPU that has it, one word for each slot.
 
-ghost use Rattle.std.specs.Prelude.{◌≡◌, ◌<◌, ◌++◌};
+ghost use Rattle.std.specs.Prelude.{◌≡◌, ◌<◌};
 ghost use Rattle.protocol.specs.declared.event.Event.TheVariants.{PassiveAdd, PassiveSub, LoadRecord};
 ghost use Rattle.protocol.specs.declared.event.RecordOf.TheVariants.{Passive};
 ghost use Rattle.protocol.specs.declared.event.Reply.TheVariants.{Word};
 ghost use Rattle.cpu_words.specs.declared.view.View.TheVariants.{Cpu};
 ghost use Rattle.cpu_words.specs.Views.{references_to};
-ghost use Rattle.cpu_words.specs.Rule.{did};
-ghost use Rattle.cpu_words.specs.Steps.{Makes};
+ghost use Rattle.cpu_words.specs.Steps.{SeatMakes};
 ghost use Rattle.cpu_words.specs.Passives.{MayAdd, MayUse, HasAdded, HasSubtracted, IsWordOf, IsAloneAt, IsNamed};
 
 use crate::law::Words;
@@ -26,14 +25,11 @@ pub fn passive_add(words: &Words, seat: &mut CpuSeat, cpu: u8, slot: u8, number:
     requires table { seat.old.table ≡ words.now.table }
     requires cpu { (cpu < MOST_CPUS) × (seat.old.view.id ≡ cpu) }
     requires may { MayAdd seat.old.view slot number }
-    ensures table { seat.new.table ≡ seat.old.table }
-    ensures event { Makes (PassiveAdd cpu number) (Word result) (Cpu seat.old.view) (Cpu seat.new.view) }
+    ensures step { SeatMakes Cpu (PassiveAdd cpu number) (Word result) seat.old seat.new }
     ensures change { HasAdded seat.old.view slot number seat.new.view }
     ensures slot { slot < MOST_SLOTS }
     ensures count { result ≡ references_to number seat.old.view.references }
     ensures alone { IsAloneAt seat.old.view slot number }
-    ensures log { seat.new.log ≡ seat.old.log ++ did (PassiveAdd cpu number) (Word result) }
-    ensures known_log { seat.new.known_log ≡ seat.old.known_log }
 {
     let word = passive_place(cpu, slot);
     by_cpu::add::<Brand>(words, seat, word, 1, Event::PassiveAdd(cpu, number))
@@ -46,13 +42,10 @@ pub fn passive_sub(words: &Words, seat: &mut CpuSeat, cpu: u8, slot: u8, number:
     requires table { seat.old.table ≡ words.now.table }
     requires cpu { (cpu < MOST_CPUS) × (seat.old.view.id ≡ cpu) }
     requires may { MayUse seat.old.view slot number }
-    ensures table { seat.new.table ≡ seat.old.table }
-    ensures event { Makes (PassiveSub cpu number) (Word result) (Cpu seat.old.view) (Cpu seat.new.view) }
+    ensures step { SeatMakes Cpu (PassiveSub cpu number) (Word result) seat.old seat.new }
     ensures change { HasSubtracted seat.old.view number seat.new.view }
     ensures count { result ≡ references_to number seat.old.view.references }
     ensures alone { IsAloneAt seat.old.view slot number }
-    ensures log { seat.new.log ≡ seat.old.log ++ did (PassiveSub cpu number) (Word result) }
-    ensures known_log { seat.new.known_log ≡ seat.old.known_log }
 {
     let word = passive_place(cpu, slot);
     by_cpu::subtract::<Brand>(words, seat, word, 1, Event::PassiveSub(cpu, number))
@@ -67,14 +60,11 @@ pub fn load_passive(words: &Words, seat: &mut CpuSeat, cpu: u8, slot: u8, number
     requires cpu { (cpu < MOST_CPUS) × (seat.old.view.id ≡ cpu) }
     requires place { (slot < MOST_SLOTS) × (k < 5) }
     requires may { MayUse seat.old.view slot number }
-    ensures table { seat.new.table ≡ seat.old.table }
-    ensures event { Makes (LoadRecord (Passive cpu number k)) (Word result) (Cpu seat.old.view) (Cpu seat.new.view) }
+    ensures step { SeatMakes Cpu (LoadRecord (Passive cpu number k)) (Word result) seat.old seat.new }
     ensures same { seat.new.view ≡ seat.old.view }
     ensures word { IsWordOf seat.old.view slot number k result }
     ensures alone { IsAloneAt seat.old.view slot number }
     ensures name { IsNamed seat.old.view slot number }
-    ensures log { seat.new.log ≡ seat.old.log ++ did (LoadRecord (Passive cpu number k)) (Word result) }
-    ensures known_log { seat.new.known_log ≡ seat.old.known_log }
 {
     let word = record_place(slot as usize, k);
     let event = Event::LoadRecord(RecordOf::Passive(cpu, number, k));

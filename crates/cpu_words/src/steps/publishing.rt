@@ -1,15 +1,14 @@
 //! The list of live entries, newest first: an entry is published by one store to the head, and unpublished by one store to the link
 //! that leads to it.
 
-ghost use Rattle.std.specs.Prelude.{◌≡◌, ℕ, ◌<◌, Some, None, ◌++◌, suc, length};
+ghost use Rattle.std.specs.Prelude.{◌≡◌, ℕ, ◌<◌, Some, None, suc, length};
 ghost use Rattle.registry_values.specs.declared.entry.Entry.{Entry};
 ghost use Rattle.protocol.specs.declared.event.Event.TheVariants.{Publish, Unpublish};
 ghost use Rattle.protocol.specs.declared.event.Reply.TheVariants.{Done};
 ghost use Rattle.cpu_words.specs.declared.view.View.TheVariants.{Keeper};
 ghost use Rattle.protocol.specs.State.{kept_at};
 ghost use Rattle.cpu_words.specs.KeeperLog.{IsAttachedKeeping};
-ghost use Rattle.cpu_words.specs.Rule.{did};
-ghost use Rattle.cpu_words.specs.Steps.{Makes};
+ghost use Rattle.cpu_words.specs.Steps.{SeatMakes};
 ghost use Rattle.cpu_words.specs.Publishing.{MayPublish, HasPublished, MayUnpublish, HasUnpublished, IsLinkPlace, link_index};
 
 use crate::law::Words;
@@ -28,11 +27,9 @@ use std::marker::Brand;
 pub fn publish(words: &Words, keeper: &mut KeeperSeat, slot: u8)
     requires table { keeper.old.table ≡ words.now.table }
     requires may { (e : Entry) × MayPublish keeper.old.view slot e }
-    ensures table { keeper.new.table ≡ keeper.old.table }
-    ensures event { Makes (Publish slot) Done (Keeper keeper.old.view) (Keeper keeper.new.view) }
+    ensures step { SeatMakes Keeper (Publish slot) Done keeper.old keeper.new }
     ensures change { (e : Entry) × MayPublish keeper.old.view slot e
         × HasPublished keeper.old.view slot e keeper.new.view }
-    ensures log { keeper.new.log ≡ keeper.old.log ++ did (Publish slot) Done }
     ensures attached { (d : ℕ) → kept_at keeper.old.view.keeps slot ≡ Some d → IsAttachedKeeping slot (suc (length keeper.old.view.history)) d keeper.new.log }
 {
     by_keeper::store::<Brand>(words, keeper, HEAD, slot as u64 + 1, Event::Publish(slot));
@@ -47,10 +44,8 @@ pub fn unpublish(words: &Words, keeper: &mut KeeperSeat, slot: u8, before: Optio
     requires table { keeper.old.table ≡ words.now.table }
     requires place { IsLinkPlace before }
     requires may { MayUnpublish keeper.old.view slot before link }
-    ensures table { keeper.new.table ≡ keeper.old.table }
-    ensures event { Makes (Unpublish slot) Done (Keeper keeper.old.view) (Keeper keeper.new.view) }
+    ensures step { SeatMakes Keeper (Unpublish slot) Done keeper.old keeper.new }
     ensures change { HasUnpublished keeper.old.view slot before link keeper.new.view }
-    ensures log { keeper.new.log ≡ keeper.old.log ++ did (Unpublish slot) Done }
 {
     by_keeper::store::<Brand>(
         words,

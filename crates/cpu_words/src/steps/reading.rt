@@ -1,6 +1,6 @@
 //! A record's words, loaded by a local reference (localcount(9)).
 
-ghost use Rattle.std.specs.Prelude.{◌≡◌, ◌<◌, ℕ, IsTrue, ◌++◌};
+ghost use Rattle.std.specs.Prelude.{◌≡◌, ◌<◌, ℕ, IsTrue};
 ghost use Rattle.protocol.specs.declared.event.Event.TheVariants.{LoadRecord};
 ghost use Rattle.protocol.specs.declared.event.RecordOf.TheVariants.{Local};
 ghost use Rattle.protocol.specs.declared.event.Reply.TheVariants.{Word};
@@ -8,7 +8,7 @@ ghost use Rattle.protocol.specs.Events.{word, words_of};
 ghost use Rattle.registry_values.specs.Names.{is_lawful};
 ghost use Rattle.cpu_words.specs.declared.view.View.TheVariants.{Reference};
 ghost use Rattle.cpu_words.specs.Rule.{did};
-ghost use Rattle.cpu_words.specs.Steps.{Makes};
+ghost use Rattle.cpu_words.specs.Steps.{Makes, SeatGoesOn};
 
 use crate::law::Words;
 use crate::layout::record_place;
@@ -26,12 +26,11 @@ pub fn load_local(words: &Words, seat: &mut ReferenceSeat, slot: u8, k: u8) -> u
     requires table { seat.old.table ≡ words.now.table }
     requires slot { seat.old.view.entry.slot ≡ slot }
     requires place { (slot < MOST_SLOTS) × (k < 5) }
-    ensures table { seat.new.table ≡ seat.old.table }
+    ensures step { SeatGoesOn (did (LoadRecord (Local seat.old.view.entry.number k)) (Word result)) seat.old seat.new }
     ensures same { seat.new.view ≡ seat.old.view }
     ensures event { (id : ℕ) × Makes (LoadRecord (Local id k)) (Word result) (Reference seat.old.view) (Reference seat.new.view) }
     ensures word { result ≡ word (words_of seat.old.view.entry) k }
     ensures name { IsTrue (is_lawful seat.old.view.entry.rec.name) }
-    ensures log { seat.new.log ≡ seat.old.log ++ did (LoadRecord (Local seat.old.view.entry.number k)) (Word result) }
 {
     let place = record_place(slot as usize, k);
     let event = Event::LoadRecord(RecordOf::Local(0, k));

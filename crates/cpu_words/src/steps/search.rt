@@ -7,7 +7,7 @@ ghost use Rattle.protocol.specs.declared.event.RecordOf.TheVariants.{Search as O
 ghost use Rattle.protocol.specs.declared.event.Reply.TheVariants.{Done};
 ghost use Rattle.cpu_words.specs.declared.view.View.TheVariants.{Cpu};
 ghost use Rattle.cpu_words.specs.Rule.{did};
-ghost use Rattle.cpu_words.specs.Steps.{Makes};
+ghost use Rattle.cpu_words.specs.Steps.{Makes, SeatGoesOn, SeatMakes};
 ghost use Rattle.cpu_words.specs.Searching.{MaySeek, key_with, search_for, cpu_after_seek, MayLoadLink, link_answer, HasFollowed, HasLoadedLink, MayLoadSearched, loaded_of, loaded_answer, HasLoadedWord};
 
 use crate::law::Words;
@@ -24,12 +24,10 @@ pub fn seek(words: &Words, seat: &mut CpuSeat, cpu: u8, kind: Kind, name: Name) 
     requires table { seat.old.table ≡ words.now.table }
     requires cpu { (cpu < MOST_CPUS) × (seat.old.view.id ≡ cpu) }
     requires may { MaySeek seat.old.view }
-    ensures table { seat.new.table ≡ seat.old.table }
+    ensures step { SeatGoesOn (did (Seek cpu kind name) Done ++ did (LoadLink cpu) (link_answer result)) seat.old seat.new }
     ensures begun { Makes (Seek cpu kind name) Done (Cpu seat.old.view) (Cpu (cpu_after_seek (key_with kind name) seat.old.view)) }
     ensures event { Makes (LoadLink cpu) (link_answer result) (Cpu (cpu_after_seek (key_with kind name) seat.old.view)) (Cpu seat.new.view) }
     ensures change { HasFollowed (cpu_after_seek (key_with kind name) seat.old.view) (search_for (key_with kind name) seat.old.view) result seat.new.view }
-    ensures log { seat.new.log ≡ seat.old.log ++ did (Seek cpu kind name) Done ++ did (LoadLink cpu) (link_answer result) }
-    ensures known_log { seat.new.known_log ≡ seat.old.known_log }
 {
     by_cpu::load::<Brand>(words, seat, HEAD, Event::Seek(cpu, kind, name))
 }
@@ -42,11 +40,8 @@ pub fn load_link(words: &Words, seat: &mut CpuSeat, cpu: u8, link: u64) -> u64
     requires cpu { (cpu < MOST_CPUS) × (seat.old.view.id ≡ cpu) }
     requires slot { (0 < link) × (link ≤ MOST_SLOTS) }
     requires may { MayLoadLink seat.old.view (link - 1) }
-    ensures table { seat.new.table ≡ seat.old.table }
-    ensures event { Makes (LoadLink cpu) (link_answer result) (Cpu seat.old.view) (Cpu seat.new.view) }
+    ensures step { SeatMakes Cpu (LoadLink cpu) (link_answer result) seat.old seat.new }
     ensures change { HasLoadedLink seat.old.view result seat.new.view }
-    ensures log { seat.new.log ≡ seat.old.log ++ did (LoadLink cpu) (link_answer result) }
-    ensures known_log { seat.new.known_log ≡ seat.old.known_log }
 {
     by_cpu::load::<Brand>(words, seat, place_behind(link), Event::LoadLink(cpu))
 }
@@ -59,11 +54,8 @@ pub fn load_searched(words: &Words, seat: &mut CpuSeat, cpu: u8, slot: usize, k:
     requires cpu { (cpu < MOST_CPUS) × (seat.old.view.id ≡ cpu) }
     requires slot { (slot < MOST_SLOTS) × (k < 5) }
     requires may { MayLoadSearched seat.old.view slot k }
-    ensures table { seat.new.table ≡ seat.old.table }
-    ensures event { Makes (LoadRecord (OfSearch cpu)) (loaded_answer (loaded_of seat.old.view.search result)) (Cpu seat.old.view) (Cpu seat.new.view) }
+    ensures step { SeatMakes Cpu (LoadRecord (OfSearch cpu)) (loaded_answer (loaded_of seat.old.view.search result)) seat.old seat.new }
     ensures change { HasLoadedWord seat.old.view result seat.new.view }
-    ensures log { seat.new.log ≡ seat.old.log ++ did (LoadRecord (OfSearch cpu)) (loaded_answer (loaded_of seat.old.view.search result)) }
-    ensures known_log { seat.new.known_log ≡ seat.old.known_log }
 {
     by_cpu::load::<Brand>(
         words,

@@ -1,13 +1,12 @@
 //! The seats of the CPUs: each is cut from the keeper's.
 
-ghost use Rattle.std.specs.Prelude.{◌≡◌, ◌+◌, ◌++◌, [], None};
+ghost use Rattle.std.specs.Prelude.{◌≡◌, ◌+◌};
 ghost use Rattle.protocol.specs.declared.event.Event.TheVariants.{Seat};
 ghost use Rattle.protocol.specs.declared.event.Reply.TheVariants.{Done};
 ghost use Rattle.cpu_words.specs.declared.view.View.TheVariants.{Keeper, Cpu};
-ghost use Rattle.cpu_words.specs.Views.{new_cpu};
 ghost use Rattle.cpu_words.specs.Rule.{did};
-ghost use Rattle.cpu_words.specs.Steps.{SplitsBy};
-ghost use Rattle.cpu_words.specs.Opening.{MaySeat};
+ghost use Rattle.cpu_words.specs.Steps.{SplitsBy, SeatGoesOn};
+ghost use Rattle.cpu_words.specs.Opening.{MaySeat, cpu_seat};
 
 use crate::law::Words;
 use crate::operations::seats::NextSeat;
@@ -18,12 +17,10 @@ use crate::seat::{CpuSeat, KeeperSeat};
 pub fn seat(words: &Words, keeper: &mut KeeperSeat) -> CpuSeat
     requires table { keeper.old.table ≡ words.now.table }
     requires may { MaySeat keeper.old.view }
-    ensures table { (keeper.new.table ≡ keeper.old.table) × (result.table ≡ keeper.old.table) }
+    ensures step { SeatGoesOn (did (Seat keeper.old.view.seated) Done) keeper.old keeper.new }
     ensures event { SplitsBy (Seat keeper.old.view.seated) (Keeper keeper.old.view) (Keeper keeper.new.view) (Cpu result.view) }
     ensures keeper { keeper.new.view ≡ record keeper.old.view { seated = keeper.old.view.seated + 1 } }
-    ensures new { result.view ≡ new_cpu keeper.old.view.settings keeper.old.view.seated }
-    ensures log { (keeper.new.log ≡ keeper.old.log ++ did (Seat keeper.old.view.seated) Done) × (result.log ≡ []) }
-    ensures known_log { (result.known_log ≡ []) × (result.noted_log ≡ []) × (result.teller ≡ None) }
+    ensures new { result ≡ cpu_seat keeper.old.table keeper.old.view.settings keeper.old.view.seated }
 {
     CpuSeat {
         token: words.table.shared.split_seat::<NextSeat>(&mut keeper.token),

@@ -1,11 +1,10 @@
 //! Read sections (pserialize(9)): Enter and Exit, each one addition to the CPU's section word.
 
-ghost use Rattle.std.specs.Prelude.{◌≡◌, ◌<◌, ◌*◌, None, Some, ◌++◌};
+ghost use Rattle.std.specs.Prelude.{◌≡◌, ◌<◌};
 ghost use Rattle.protocol.specs.declared.event.Event.TheVariants.{Enter, Exit};
 ghost use Rattle.protocol.specs.declared.event.Reply.TheVariants.{Done};
 ghost use Rattle.cpu_words.specs.declared.view.View.TheVariants.{Cpu};
-ghost use Rattle.cpu_words.specs.Rule.{did};
-ghost use Rattle.cpu_words.specs.Steps.{Makes};
+ghost use Rattle.cpu_words.specs.Steps.{SeatMakes};
 ghost use Rattle.cpu_words.specs.Sections.{MayEnter, HasEntered, MayExit, HasExited};
 
 use crate::law::Words;
@@ -22,11 +21,8 @@ pub fn enter(words: &Words, seat: &mut CpuSeat, cpu: u8)
     requires table { seat.old.table ≡ words.now.table }
     requires cpu { (cpu < MOST_CPUS) × (seat.old.view.id ≡ cpu) }
     requires may { MayEnter seat.old.view }
-    ensures table { seat.new.table ≡ seat.old.table }
-    ensures event { Makes (Enter cpu) Done (Cpu seat.old.view) (Cpu seat.new.view) }
+    ensures step { SeatMakes Cpu (Enter cpu) Done seat.old seat.new }
     ensures change { HasEntered seat.old.view seat.new.view }
-    ensures log { seat.new.log ≡ seat.old.log ++ did (Enter cpu) Done }
-    ensures known_log { seat.new.known_log ≡ seat.old.known_log }
 {
     by_cpu::add::<Brand>(words, seat, section_place(cpu), 1, Event::Enter(cpu));
 }
@@ -37,11 +33,8 @@ pub fn exit(words: &Words, seat: &mut CpuSeat, cpu: u8)
     requires table { seat.old.table ≡ words.now.table }
     requires cpu { (cpu < MOST_CPUS) × (seat.old.view.id ≡ cpu) }
     requires may { MayExit seat.old.view }
-    ensures table { seat.new.table ≡ seat.old.table }
-    ensures event { Makes (Exit cpu) Done (Cpu seat.old.view) (Cpu seat.new.view) }
+    ensures step { SeatMakes Cpu (Exit cpu) Done seat.old seat.new }
     ensures change { HasExited seat.old.view seat.new.view }
-    ensures log { seat.new.log ≡ seat.old.log ++ did (Exit cpu) Done }
-    ensures known_log { seat.new.known_log ≡ seat.old.known_log }
 {
     by_cpu::add::<Brand>(words, seat, section_place(cpu), 1, Event::Exit(cpu));
 }

@@ -9,7 +9,7 @@ ghost use Rattle.protocol.specs.declared.event.Reply.TheVariants.{Done};
 ghost use Rattle.cpu_words.specs.declared.view.View.TheVariants.{Keeper};
 ghost use Rattle.cpu_words.specs.KeeperLog.{IsFreedFrom};
 ghost use Rattle.cpu_words.specs.Rule.{did};
-ghost use Rattle.cpu_words.specs.Steps.{Makes};
+ghost use Rattle.cpu_words.specs.Steps.{Makes, SeatGoesOn};
 ghost use Rattle.cpu_words.specs.Vacating.{MayVacate, keeper_after_vacate};
 
 use crate::law::Words;
@@ -25,11 +25,10 @@ use std::marker::Brand;
 pub fn vacate(words: &Words, keeper: &mut KeeperSeat, slot: u8)
     requires table { keeper.old.table ≡ words.now.table }
     requires may { MayVacate keeper.old.view slot }
-    ensures table { keeper.new.table ≡ keeper.old.table }
+    ensures step { SeatGoesOn (did (Vacate slot) Done ++ did (Hear None) Done) keeper.old keeper.new }
     ensures event { Makes (Vacate slot) Done (Keeper keeper.old.view) (Keeper keeper.new.view) }
     ensures hears { Makes (Hear None) Done (Keeper keeper.new.view) (Keeper keeper.new.view) }
     ensures change { keeper.new.view ≡ keeper_after_vacate keeper.old.view slot }
-    ensures log { keeper.new.log ≡ keeper.old.log ++ did (Vacate slot) Done ++ did (Hear None) Done }
     ensures freed { (e : Entry) → slot_at keeper.old.view.slots slot ≡ Retired e → IsFreedFrom slot e.number keeper.new.log }
 {
     notes::listen_by_keeper::<Brand>(words, keeper, HEAD, Event::Vacate(slot));

@@ -1,8 +1,8 @@
 use Rattle.std.proofs.Common.{◌≤◌, ◌+◌, List, ap, ◌∙◌, sym, subst}
 use Rattle.cpu_words.specs.declared.view.CpuView.{CpuView}
 use Rattle.cpu_words.specs.Views.{Seated}
-use Rattle.cpu_words.specs.Opening.{AreSeats, one_seated}
-use Rattle.cpu_words.proofs.seats.Opening.{more_seats, seat_is}
+use Rattle.cpu_words.specs.Opening.{AreSeats, cpu_seat, one_seated}
+use Rattle.cpu_words.proofs.seats.Opening.{more_seats}
 use Rattle.cpu_words.proofs.open.seat_all.Goals as goal
 
 pub loop-preserved : goal.loop-preserved
@@ -11,10 +11,10 @@ loop-preserved c =
     let table = c.args.words.now.table in
     let z = c.args.words.now.settings in
     let n = c.loop.counter in (
-      c.seat.ensures.table.0 ∙ i.0,
+      c.seat.ensures.step.table ∙ i.0,
       c.seat.ensures.keeper ∙ ap one_seated i.1,
       subst (λ (l : List (Seated CpuView)). AreSeats table z (n + 1) l) (sym c.push_reserved.ensures.items)
-          (more_seats table z n c.loop.seats.items c.seat.result i.2 (seat_is c.seat.result table z n c.loop.keeper.view (c.seat.ensures.table.1 ∙ i.0) c.seat.ensures.new c.seat.ensures.log.1 c.seat.ensures.known_log i.1)),
+          (more_seats table z n c.loop.seats.items c.seat.result i.2 (c.seat.ensures.new ∙ (λ j. cpu_seat (i.0 j) (i.1 j).settings (i.1 j).seated))),
       c.push_reserved.ensures.len ∙ ap (λ k. k + 1) i.3,
       subst (λ k. z.cpus ≤ k) (sym c.push_reserved.ensures.capacity) i.4,
     )

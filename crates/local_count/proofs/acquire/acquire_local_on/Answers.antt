@@ -57,5 +57,5 @@ invariant_of-result c =
 pub invariant_of-cpu : goal.invariant_of-cpu
 invariant_of-cpu c =
     let kept = found_as _ _ c.cpu.invariant.is_shown c.cpu.invariant.found c.if-found-eq0.false in
-    stored_agrees _ _ _ _ _ _ _ _ _ _ _ _ _ c.set_net.ensures (own_agrees _ _ _ _ _ _ _ _ _ _ (acquired_agrees _ _ _ _ _ _ _ _ _ _ _ _ _ _ _ c.cpu.invariant (cut_is_shown c.split_ref-seat.ensures.event (step_is_shown c.count_add-word.ensures.event)) kept (c.split_ref-seat.ensures.table.0 ∙ c.count_add-word.ensures.table) c.count_add-word.ensures.change c.split_ref-seat.ensures.change c.count_add-word.ensures.word
+    stored_agrees _ _ _ _ _ _ _ _ _ _ _ _ _ c.set_net.ensures (own_agrees _ _ _ _ _ _ _ _ _ _ (acquired_agrees _ _ _ _ _ _ _ _ _ _ _ _ _ _ _ c.cpu.invariant (cut_is_shown c.split_ref-seat.ensures.event (step_is_shown c.count_add-word.ensures.step.event)) kept (c.split_ref-seat.ensures.step.table ∙ c.count_add-word.ensures.step.table) c.count_add-word.ensures.change c.split_ref-seat.ensures.change c.count_add-word.ensures.word
     c.count_add-word.ensures.room c.count_add-word.ensures.alone))

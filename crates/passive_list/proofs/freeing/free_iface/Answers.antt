@@ -37,9 +37,9 @@ invariant_of-keeper c =
     let u = c.in-Some.driver_slot in
     let keeps = keeps_at inside.settings k inside.rows inside.changes t u c.args.keeper.now.keeper c.keeper.invariant (keeper_is c.keeper.view_is) c.requires.iface (sym c.kept_slot.ensures ∙ c.in-Some.is) in
     freed_keeper inside.settings k l inside.rows inside.changes t u c.args.keeper.now.keeper c.keeper.invariant (keeper_is c.keeper.view_is) c.requires.drained keeps
-    c.kept_sub.ensures.change (step_is_shown c.kept_sub.ensures.event)
+    c.kept_sub.ensures.change (step_is_shown c.kept_sub.ensures.step.event)
 
 pub returns-clause-change : goal.returns-clause-change
 returns-clause-change c =
     let inside = c.keeper.inside in
-    has_freed inside.settings inside.seat.view c.kept_sub.new.keeper.view inside.rows c.args.slot c.in-Some.driver_slot (row_at inside.rows c.args.slot) c.args.keeper.now.keeper (keeper_is c.keeper.view_is) c.keeper.invariant.rows c.kept_sub.ensures.event c.kept_sub.ensures.change c.kept_sub.ensures.log c.kept_sub.ensures.freed
+    has_freed inside.settings inside.seat.view c.kept_sub.new.keeper.view inside.rows c.args.slot c.in-Some.driver_slot (row_at inside.rows c.args.slot) c.args.keeper.now.keeper (keeper_is c.keeper.view_is) c.keeper.invariant.rows c.kept_sub.ensures.step.event c.kept_sub.ensures.change c.kept_sub.ensures.step.log c.kept_sub.ensures.freed

@@ -1,6 +1,7 @@
 -- The section is this CPU's from its enter to its exit, and the data agree with the view again.
 use Rattle.std.proofs.Common.{◌≡◌, Some, ap, ◌∙◌, sym, subst}
 use Rattle.cpu_words.specs.Searching.{key_with}
+use Rattle.cpu_words.proofs.shown.KeepersShown.{step_is_shown}
 use Rattle.passive_list.specs.Cpus.{OnPlainCpu}
 use Rattle.passive_list.specs.Sections.{AreSpent}
 use Rattle.passive_list.proofs.FromOutside.{may_seek, may_exit, from_outside_agrees, found_from_outside}
@@ -14,12 +15,12 @@ pub invariant_of-cpu : goal.invariant_of-cpu
 invariant_of-cpu c =
     let shallow : c.cpu.inside.depth ≡ 0 = ap (λ (o : OnPlainCpu). o.cpu.depth) c.cpu.view_is ∙ c.requires.outside in
     let unended = subst (λ (o : OnPlainCpu). AreSpent o.cpu.view → ⊥) (sym c.cpu.view_is) c.requires.room in
-    from_outside_agrees _ _ _ _ _ _ _ _ _ _ _ _ _ _ _ _ (key_with c.args.kind c.args.name) c.cpu.invariant (c.exit_counted.ensures.table ∙ c.in_default.ensures.table ∙ c.enter.ensures.table) shallow unended c.enter.ensures.event c.enter.ensures.change c.in_default.ensures.is_shown c.in_default.ensures.change c.exit_counted.ensures.is_shown c.exit_counted.ensures.change c.exit_counted.ensures.count
+    from_outside_agrees _ _ _ _ _ _ _ _ _ _ _ _ _ _ _ _ (key_with c.args.kind c.args.name) c.cpu.invariant (c.exit_counted.ensures.step.table ∙ c.in_default.ensures.table ∙ c.enter.ensures.step.table) shallow unended c.enter.ensures.step.event c.enter.ensures.change c.in_default.ensures.is_shown c.in_default.ensures.change (step_is_shown c.exit_counted.ensures.step.event) c.exit_counted.ensures.change c.exit_counted.ensures.count
 
 pub returns-in_default-clause-found : goal.returns-in_default-clause-found
 returns-in_default-clause-found c =
     let shallow : c.cpu.inside.depth ≡ 0 = ap (λ (o : OnPlainCpu). o.cpu.depth) c.cpu.view_is ∙ c.requires.outside in
-    found_from_outside (key_with c.args.kind c.args.name) _ _ _ _ _ _ _ _ _ _ _ _ _ _ _ _ (ap (λ (o : OnPlainCpu). o.cpu) c.cpu.view_is) c.cpu.invariant.idle c.cpu.invariant.id shallow c.enter.ensures.event c.enter.ensures.change c.in_default.ensures.change c.exit_counted.ensures.change c.enter.ensures.known_log c.in_default.ensures.known_log c.exit_counted.ensures.known_log c.enter.ensures.log c.in_default.ensures.log c.exit_counted.ensures.log
+    found_from_outside (key_with c.args.kind c.args.name) _ _ _ _ _ _ _ _ _ _ _ _ _ _ _ _ (ap (λ (o : OnPlainCpu). o.cpu) c.cpu.view_is) c.cpu.invariant.idle c.cpu.invariant.id shallow c.enter.ensures.step.event c.enter.ensures.change c.in_default.ensures.change c.exit_counted.ensures.change c.enter.ensures.step.known_log c.in_default.ensures.known_log c.exit_counted.ensures.step.known_log c.enter.ensures.step.log c.in_default.ensures.log c.exit_counted.ensures.step.log
 
 pub exit_counted-requires-2-clause-may : goal.exit_counted-requires-2-clause-may
 exit_counted-requires-2-clause-may c = may_exit (key_with c.args.kind c.args.name) _ _ _ (may_seek _ _ c.cpu.invariant.idle c.enter.ensures.change) c.in-Some.ensures.change
@@ -28,12 +29,12 @@ pub invariant_of-cpu-2 : goal.invariant_of-cpu-2
 invariant_of-cpu-2 c =
     let shallow : c.cpu.inside.depth ≡ 0 = ap (λ (o : OnPlainCpu). o.cpu.depth) c.cpu.view_is ∙ c.requires.outside in
     let unended = subst (λ (o : OnPlainCpu). AreSpent o.cpu.view → ⊥) (sym c.cpu.view_is) c.requires.room in
-    from_outside_agrees _ _ _ _ _ _ _ _ _ _ _ _ _ _ _ _ (key_with c.args.kind c.args.name) c.cpu.invariant (c.exit_counted-2.ensures.table ∙ c.in-Some.ensures.table ∙ c.enter.ensures.table) shallow unended c.enter.ensures.event c.enter.ensures.change c.in-Some.ensures.is_shown c.in-Some.ensures.change c.exit_counted-2.ensures.is_shown c.exit_counted-2.ensures.change c.exit_counted-2.ensures.count
+    from_outside_agrees _ _ _ _ _ _ _ _ _ _ _ _ _ _ _ _ (key_with c.args.kind c.args.name) c.cpu.invariant (c.exit_counted-2.ensures.step.table ∙ c.in-Some.ensures.table ∙ c.enter.ensures.step.table) shallow unended c.enter.ensures.step.event c.enter.ensures.change c.in-Some.ensures.is_shown c.in-Some.ensures.change (step_is_shown c.exit_counted-2.ensures.step.event) c.exit_counted-2.ensures.change c.exit_counted-2.ensures.count
 
 pub returns-clause-found : goal.returns-clause-found
 returns-clause-found c =
     let shallow : c.cpu.inside.depth ≡ 0 = ap (λ (o : OnPlainCpu). o.cpu.depth) c.cpu.view_is ∙ c.requires.outside in
-    found_from_outside (key_with c.args.kind c.args.name) _ _ _ _ _ _ _ _ _ _ _ _ _ _ _ _ (ap (λ (o : OnPlainCpu). o.cpu) c.cpu.view_is) c.cpu.invariant.idle c.cpu.invariant.id shallow c.enter.ensures.event c.enter.ensures.change c.in-Some.ensures.change c.exit_counted-2.ensures.change c.enter.ensures.known_log c.in-Some.ensures.known_log c.exit_counted-2.ensures.known_log c.enter.ensures.log c.in-Some.ensures.log c.exit_counted-2.ensures.log
+    found_from_outside (key_with c.args.kind c.args.name) _ _ _ _ _ _ _ _ _ _ _ _ _ _ _ _ (ap (λ (o : OnPlainCpu). o.cpu) c.cpu.view_is) c.cpu.invariant.idle c.cpu.invariant.id shallow c.enter.ensures.step.event c.enter.ensures.change c.in-Some.ensures.change c.exit_counted-2.ensures.change c.enter.ensures.step.known_log c.in-Some.ensures.known_log c.exit_counted-2.ensures.step.known_log c.enter.ensures.step.log c.in-Some.ensures.log c.exit_counted-2.ensures.step.log
 
 pub returns-clause-slot : goal.returns-clause-slot
 returns-clause-slot c = slot_seen (key_with c.args.kind c.args.name) _ _ (Some c.in-Some.seen) c.in-Some.ensures.change

@@ -15,7 +15,7 @@ look-word-requires-clause-may c =
 pub invariant_of-keeper : goal.invariant_of-keeper
 invariant_of-keeper c =
     let retired = ap (λ (x : OnPlainKeeper). slot_at x.keeper.slots c.args.slot) c.keeper.view_is ∙ c.requires.retired.1 in
-    looked_keeper _ _ _ _ _ _ _ _ _ (λ m. mark_after_look m c.look-word.result) _ _ c.keeper.invariant retired c.looked-mark.ensures c.look-word.ensures.change c.look-word.ensures.event
+    looked_keeper _ _ _ _ _ _ _ _ _ (λ m. mark_after_look m c.look-word.result) _ _ c.keeper.invariant retired c.looked-mark.ensures c.look-word.ensures.change c.look-word.ensures.step.event
 
 pub returns-clause-passed : goal.returns-clause-passed
 returns-clause-passed c =

@@ -10,7 +10,7 @@ use Rattle.passive_list.proofs.looking.look_passive.Goals as goal
 pub invariant_of-keeper : goal.invariant_of-keeper
 invariant_of-keeper c =
     let retired = ap (λ (x : OnPlainKeeper). slot_at x.keeper.slots c.args.slot) c.keeper.view_is ∙ c.requires.retired.1 in
-    looked_keeper _ _ _ _ _ _ _ _ _ (λ m. mark_after_passive_look m c.passive_look-word.result) _ _ c.keeper.invariant retired c.cleared-mark.ensures c.passive_look-word.ensures.change c.passive_look-word.ensures.event
+    looked_keeper _ _ _ _ _ _ _ _ _ (λ m. mark_after_passive_look m c.passive_look-word.result) _ _ c.keeper.invariant retired c.cleared-mark.ensures c.passive_look-word.ensures.change c.passive_look-word.ensures.step.event
 
 pub returns-clause-clear : goal.returns-clause-clear
 returns-clause-clear c =

@@ -14,12 +14,12 @@ use Rattle.passive_list.proofs.lookup.look_up.Goals as goal
 
 pub loop-link-init : goal.loop-link-init
 loop-link-init c = record {
-  table = c.seek-link.ensures.table;
+  table = c.seek-link.ensures.step.table;
   cpu = search rules;
   is_shown = step_is_shown c.seek-link.ensures.event;
-  known_log = c.seek-link.ensures.known_log;
-  visited = (0, search_begun c.args.cpu c.args.kind c.args.name _ _ _ c.seek-link.ensures.log, gone_by_none _ _ _);
-  ends = (c.args.seat.now.log ++ did (Seek c.args.cpu c.args.kind c.args.name) Done, c.seek-link.ensures.log);
+  known_log = c.seek-link.ensures.step.known_log;
+  visited = (0, search_begun c.args.cpu c.args.kind c.args.name _ _ _ c.seek-link.ensures.step.log, gone_by_none _ _ _);
+  ends = (c.args.seat.now.log ++ did (Seek c.args.cpu c.args.kind c.args.name) Done, c.seek-link.ensures.step.log);
   at = search rules;
 }
 
@@ -64,7 +64,7 @@ returns-then-is_sought-clause-change c =
     found key x y z c.load_searched-value.new.seat.view t n c.load_searched-value.result c.loop-link.last on had c.load_searched-value.ensures.change
 
 pub returns-then-is_sought-clause-is_shown : goal.returns-then-is_sought-clause-is_shown
-returns-then-is_sought-clause-is_shown c = step_is_shown c.load_searched-value.ensures.event
+returns-then-is_sought-clause-is_shown c = step_is_shown c.load_searched-value.ensures.step.event
 
 pub returns-then-is_sought-clause-log : goal.returns-then-is_sought-clause-log
 returns-then-is_sought-clause-log c =
@@ -78,9 +78,9 @@ returns-then-is_sought-clause-log c =
     let on : IsOn key x t c.loop-link.last y = on_slot key x y c.loop-link.link c.loop-link.last c.loop-link-test.true c.loop-link.invariant.at in
     let had = subst (λ (b : Bool). HasVisited y key t n b z) c.if-is_sought.true c.visit-number.ensures.change in
     let so_far = c.loop-link.invariant.visited in
-    let loads = one_visited c.args.cpu key so_far.0 _ _ _ _ so_far.1 c.visit-number.ensures.log (word_loaded c.args.cpu _ _ _ c.load_searched-value.ensures.log) in
+    let loads = one_visited c.args.cpu key so_far.0 _ _ _ _ so_far.1 c.visit-number.ensures.log (word_loaded c.args.cpu _ _ _ c.load_searched-value.ensures.step.log) in
     search_found c.args.cpu x.settings.slots key (entry_with key t n value) _ (so_far.0 + 1) _ _ _ (value_replied key x y z t n c.loop-link.last value on had)
-    (few_found key x y z t n c.loop-link.last so_far.0 on had so_far.2) loads c.load_searched-value.ensures.log
+    (few_found key x y z t n c.loop-link.last so_far.0 on had so_far.2) loads c.load_searched-value.ensures.step.log
 
 pub load_link-link-requires-clause-cpu : goal.load_link-link-requires-clause-cpu
 load_link-link-requires-clause-cpu c =
@@ -126,16 +126,16 @@ loop-link-preserved c =
     let so_far = c.loop-link.invariant.visited in
     let at : IsAtLink key x m n w = follows key x y z w t n m c.loop-link.last on had c.load_link-link.ensures.change in
     record {
-      table = c.load_link-link.ensures.table ∙ c.visit-number.ensures.table ∙ c.loop-link.invariant.table;
+      table = c.load_link-link.ensures.step.table ∙ c.visit-number.ensures.table ∙ c.loop-link.invariant.table;
       cpu = follow_id key x w m n at ∙ c.requires.cpu.1;
-      is_shown = step_is_shown c.load_link-link.ensures.event;
-      known_log = c.load_link-link.ensures.known_log ∙ c.visit-number.ensures.known_log ∙ c.loop-link.invariant.known_log;
+      is_shown = step_is_shown c.load_link-link.ensures.step.event;
+      known_log = c.load_link-link.ensures.step.known_log ∙ c.visit-number.ensures.known_log ∙ c.loop-link.invariant.known_log;
       visited = (
         so_far.0 + 1,
-        one_visited c.args.cpu key so_far.0 _ _ _ _ so_far.1 c.visit-number.ensures.log (link_loaded c.args.cpu _ _ _ c.load_link-link.ensures.log),
+        one_visited c.args.cpu key so_far.0 _ _ _ _ so_far.1 c.visit-number.ensures.log (link_loaded c.args.cpu _ _ _ c.load_link-link.ensures.step.log),
         gone_by_next key x y z w t n m c.loop-link.last so_far.0 on had c.load_link-link.ensures.change so_far.2,
       );
-      ends = (c.visit-number.new.seat.log, c.load_link-link.ensures.log);
+      ends = (c.visit-number.new.seat.log, c.load_link-link.ensures.step.log);
       at = at;
     }
 

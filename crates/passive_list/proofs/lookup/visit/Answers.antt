@@ -49,4 +49,4 @@ returns-clause-change c =
     subst (λ (b : Bool). HasVisited c.args.seat.now.view key c.args.slot c.load_searched-number.result b c.load_searched-low.new.seat.view) (sym c.are_words_of.ensures) all
 
 pub returns-clause-log : goal.returns-clause-log
-returns-clause-log c = four_loaded c.args.cpu _ _ _ _ _ _ _ _ _ c.load_searched-number.ensures.log c.load_searched-found.ensures.log c.load_searched-high.ensures.log c.load_searched-low.ensures.log
+returns-clause-log c = four_loaded c.args.cpu _ _ _ _ _ _ _ _ _ c.load_searched-number.ensures.step.log c.load_searched-found.ensures.step.log c.load_searched-high.ensures.step.log c.load_searched-low.ensures.step.log

@@ -25,7 +25,7 @@ returns-clause-change c =
     let may = may_publish a k rows e v asked c.link_below-link.ensures in record {
       link = v;
       leads = leads_on (states_of rows) k.slots e.number v (rows_live a k rows asked.agree) (live_rows a k rows asked.at asked.agree) c.link_below-link.ensures;
-      made = subst (λ (x : KeeperView). Makes (Publish e.slot) Done (Keeper x) (Keeper c.publish.new.keeper.view)) c.prepare.ensures.prepared c.publish.ensures.event;
+      made = subst (λ (x : KeeperView). Makes (Publish e.slot) Done (Keeper x) (Keeper c.publish.new.keeper.view)) c.prepare.ensures.prepared c.publish.ensures.step.event;
       view = published_is k c.prepare.new.seat.view c.publish.new.keeper.view e v c.prepare.ensures.prepared c.publish.ensures.change may;
     }
 

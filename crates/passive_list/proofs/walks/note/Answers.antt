@@ -44,4 +44,4 @@ returns-clause-change c =
     c.load_searched-number.ensures.change c.load_searched-kind.ensures.change c.load_searched-high.ensures.change c.load_searched-low.ensures.change
 
 pub returns-clause-log : goal.returns-clause-log
-returns-clause-log c = four_loaded c.args.cpu _ _ _ _ _ _ _ _ _ c.load_searched-number.ensures.log c.load_searched-kind.ensures.log c.load_searched-high.ensures.log c.load_searched-low.ensures.log
+returns-clause-log c = four_loaded c.args.cpu _ _ _ _ _ _ _ _ _ c.load_searched-number.ensures.step.log c.load_searched-kind.ensures.step.log c.load_searched-high.ensures.step.log c.load_searched-low.ensures.step.log

@@ -22,6 +22,3 @@ join_seat-requires g c = (
 pub returns-clause-event : goal.returns-clause-event
 returns-clause-event g c = keep_by c.keeper.inside.token.me.0.view c.reference.inside.token.me.0.view c.join_seat.new.seat.me.0.view g.S.KeepingSlot.slot _ c.args.keeper.now.view c.args.reference.view c.requires.slot
     (ap (λ (s : Seated KeeperView). s.view) c.keeper.view_is) (ap (λ (s : Seated ReferenceView). s.view) c.reference.view_is) (ap (λ (m : Me ℕ Logged). m.0.view) c.join_seat.ensures.2) c.requires.may
-
-pub returns-clause-log : goal.returns-clause-log
-returns-clause-log g c = ap (λ (m : Me ℕ Logged). m.0.log) c.join_seat.ensures.2 ∙ (λ k. ap (λ (s : Seated KeeperView). s.log) c.keeper.view_is k ++ keeps_for (c.requires.slot k) (Keeper (ap (λ (s : Seated KeeperView). s.view) c.keeper.view_is k)) (Reference (ap (λ (s : Seated ReferenceView). s.view) c.reference.view_is k)))

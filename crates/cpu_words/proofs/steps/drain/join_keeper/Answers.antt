@@ -23,6 +23,3 @@ join_seat-requires c = (
 pub returns-clause-event : goal.returns-clause-event
 returns-clause-event c = join_keeper_by c.keeper.inside.token.me.0.view c.reference.inside.token.me.0.view c.join_seat.new.seat.me.0.view c.args.keeper.now.view c.args.reference.view
     (ap (λ (s : Seated KeeperView). s.view) c.keeper.view_is) (ap (λ (s : Seated ReferenceView). s.view) c.reference.view_is) (ap (λ (m : Me ℕ Logged). m.0.view) c.join_seat.ensures.2) c.requires.may
-
-pub returns-clause-log : goal.returns-clause-log
-returns-clause-log c = ap (λ (m : Me ℕ Logged). m.0.log) c.join_seat.ensures.2 ∙ (λ k. ap (λ (s : Seated KeeperView). s.log) c.keeper.view_is k ++ did (JoinKeeper (ap (λ (s : Seated ReferenceView). s.view) c.reference.view_is k).entry.number) Done)

@@ -13,4 +13,4 @@ pub subtract-requires-clause-own : goal.subtract-requires-clause-own
 subtract-requires-clause-own c n = (refl, tt)
 
 pub returns-clause-freed : goal.returns-clause-freed
-returns-clause-freed c e at = freed_by c.args.slot c.args.keeper.now.log _ c.args.keeper.now.view e _ _ _ c.subtract.ensures.own_log at refl c.subtract.ensures.log
+returns-clause-freed c e at = freed_by c.args.slot c.args.keeper.now.log _ c.args.keeper.now.view e _ _ _ c.subtract.ensures.own_log at refl c.subtract.ensures.step.log

@@ -22,6 +22,3 @@ join_seat-requires c = (
 pub returns-clause-event : goal.returns-clause-event
 returns-clause-event c = seat_joins_by c.seat.inside.token.me.0.view _ c.args.seat.now.view _ c.reference.inside.token.me.0.view c.args.reference.view (ap (λ (s : Seated CpuView). s.view) c.seat.view_is)
     (ap (λ (s : Seated ReferenceView). s.view) c.reference.view_is) (ap (λ (m : Me ℕ Logged). m.0.view) c.join_seat.ensures.2) c.requires.cpu c.requires.may
-
-pub returns-clause-log : goal.returns-clause-log
-returns-clause-log c = ap (λ (m : Me ℕ Logged). m.0.log) c.join_seat.ensures.2 ∙ (λ k. ap (λ (s : Seated CpuView). s.log) c.seat.view_is k ++ did (JoinRef ((ap (λ (s : Seated CpuView). s.view.id) c.seat.view_is ∙ c.requires.cpu) k) (ap (λ (s : Seated ReferenceView). s.view) c.reference.view_is k).entry.number) Done)

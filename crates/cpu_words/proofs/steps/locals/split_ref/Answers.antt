@@ -17,9 +17,3 @@ split_seat-requires c = (
 pub returns-clause-event : goal.returns-clause-event
 returns-clause-event c = seat_splits_by c.seat.inside.token.me.0.view _ _ c.args.seat.now.view _ (ap (λ (s : Seated CpuView). s.view) c.seat.view_is)
     (ap (λ (m : Me ℕ Logged). m.0.view) c.split_seat.ensures.2) (ap (λ (m : Me ℕ Logged). m.0.view) c.split_seat.ensures.4) (split_ref_leaves _ _ c.requires.cpu c.requires.may)
-
-pub returns-clause-log : goal.returns-clause-log
-returns-clause-log c = (
-  ap (λ (m : Me ℕ Logged). m.0.log) c.split_seat.ensures.2 ∙ (λ k. ap (λ (s : Seated CpuView). s.log) c.seat.view_is k ++ (ap (λ (s : Seated CpuView). leaves_hand s.view.id s.view.hand) c.seat.view_is ∙ does_split_ref c.args.seat.now.view _ c.requires.cpu c.requires.may) k),
-  ap (λ (m : Me ℕ Logged). m.0.log) c.split_seat.ensures.4,
-)

@@ -19,9 +19,3 @@ split_seat-requires c = (
 pub returns-clause-event : goal.returns-clause-event
 returns-clause-event c = cpu_splits_by c.seat.inside.token.me.0.view _ c.args.seat.now.view _ (ap (λ (s : Seated CpuView). s.view) c.seat.view_is)
     (ap (λ (m : Me ℕ Logged). m.0.view) c.split_seat.ensures.4) c.requires.cpu c.requires.may
-
-pub returns-clause-log : goal.returns-clause-log
-returns-clause-log c = (
-  ap (λ (m : Me ℕ Logged). m.0.log) c.split_seat.ensures.2 ∙ (λ k. ap (λ (s : Seated CpuView). s.log) c.seat.view_is k ++ did (Tell (Some ((ap (λ (s : Seated CpuView). s.view.id) c.seat.view_is ∙ c.requires.cpu) k))) Done),
-  ap (λ (m : Me ℕ Logged). m.0.log) c.split_seat.ensures.4,
-)

@@ -10,4 +10,4 @@ pub store-requires-clause-own : goal.store-requires-clause-own
 store-requires-clause-own c n = (refl, tt)
 
 pub returns-clause-attached : goal.returns-clause-attached
-returns-clause-attached c d keeps = attached_by c.args.slot c.args.keeper.now.log _ c.args.keeper.now.view d _ c.store.ensures.own_log keeps c.store.ensures.log
+returns-clause-attached c d keeps = attached_by c.args.slot c.args.keeper.now.log _ c.args.keeper.now.view d _ c.store.ensures.own_log keeps c.store.ensures.step.log

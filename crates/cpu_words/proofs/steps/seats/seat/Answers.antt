@@ -19,9 +19,3 @@ split_seat-requires c = (
 pub returns-clause-event : goal.returns-clause-event
 returns-clause-event c = seat_splits_by c.keeper.inside.token.me.0.view _ _ c.args.keeper.now.view (ap (λ (s : Seated KeeperView). s.view) c.keeper.view_is)
     (ap (λ (m : Me ℕ Logged). m.0.view) c.split_seat.ensures.2) (ap (λ (m : Me ℕ Logged). m.0.view) c.split_seat.ensures.4) c.requires.may
-
-pub returns-clause-log : goal.returns-clause-log
-returns-clause-log c = (
-  ap (λ (m : Me ℕ Logged). m.0.log) c.split_seat.ensures.2 ∙ (λ k. ap (λ (s : Seated KeeperView). s.log) c.keeper.view_is k ++ did (Seat (ap (λ (s : Seated KeeperView). s.view.seated) c.keeper.view_is k)) Done),
-  ap (λ (m : Me ℕ Logged). m.0.log) c.split_seat.ensures.4,
-)

@@ -10,4 +10,4 @@ pub listen_by_keeper-requires-clause-own : goal.listen_by_keeper-requires-clause
 listen_by_keeper-requires-clause-own c n = (refl, (refl, tt))
 
 pub returns-clause-freed : goal.returns-clause-freed
-returns-clause-freed c e at = freed_by c.args.slot c.args.keeper.now.log _ c.args.keeper.now.view e _ _ _ c.listen_by_keeper.ensures.own_log at refl c.listen_by_keeper.ensures.log
+returns-clause-freed c e at = freed_by c.args.slot c.args.keeper.now.log _ c.args.keeper.now.view e _ _ _ c.listen_by_keeper.ensures.own_log at refl c.listen_by_keeper.ensures.step.log
