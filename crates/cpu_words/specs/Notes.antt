@@ -42,14 +42,14 @@ beside_keeper v u = Keeper (keeper_with_note (keeper_of v) (note_of u))
 abbrev pub HasHeard : CpuView → CpuView → Type 0
 HasHeard x y = IsPrefix x.noted_pass y.pass × IsPrefix x.pass y.pass × (y ≡ record x { pass = y.pass })
 
--- its load that hears is just that event
-abbrev pub CpuHears : CpuView → CpuView → Type 0
-CpuHears x y = Makes (Hear (Some x.id)) Done (Cpu x) (Cpu y) × HasHeard x y
-
 -- the keeper's view has the whole history, with the note's pass in it
 abbrev pub KeeperHasHeard : KeeperView → KeeperView → Type 0
 KeeperHasHeard k l = IsPrefix k.noted_pass l.history × (l ≡ k)
 
--- its load that hears is just that event
+-- The load that hears is just that event
+
+abbrev pub CpuHears : CpuView → CpuView → Type 0
+CpuHears x y = Makes (Hear (Some x.id)) Done (Cpu x) (Cpu y) × HasHeard x y
+
 abbrev pub KeeperHears : KeeperView → KeeperView → Type 0
 KeeperHears k l = Makes (Hear None) Done (Keeper k) (Keeper l) × KeeperHasHeard k l

@@ -37,7 +37,7 @@ pub record Makes (e : Event) (r : Reply) (v w : View) : Type 0 where
   pub shown : Shown after w
   pub same : OneSeat v w
 
--- The seat did just this: its log goes on with that alone, and its table, its known log, and the note beside its view with that note's teller stay
+-- The seat did just these: its log goes on with them alone, and its table, its known log, and the note beside its view with that note's teller stay
 pub record SeatGoesOn {X : Type 0} (ds : List LogItem) (a b : Seated X) : Type 0 where
   pub table : b.table ≡ a.table
   pub log : b.log ≡ a.log ++ ds
@@ -45,7 +45,7 @@ pub record SeatGoesOn {X : Type 0} (ds : List LogItem) (a b : Seated X) : Type 0
   pub noted_log : b.noted_log ≡ a.noted_log
   pub teller : b.teller ≡ a.teller
 
--- the seat, whose kind of view `of` makes, made just this event of the core, with this reply
+-- the same of a seat that made just this event of the core, with this reply; `of` is the kind of its view
 pub record SeatMakes {X : Type 0} (of : X → View) (e : Event) (r : Reply) (a b : Seated X) : Type 0 where
   pub table : b.table ≡ a.table
   pub event : Makes e r (of a.view) (of b.view)

@@ -15,13 +15,13 @@ ghost use Rattle.cpu_words.specs.Balance.{SeatsBalance};
 /// heard that the keeper took the section word of each CPU, and later found each even or another one, each section that was open before has
 /// ended, and so has, of each CPU, the section that was open as the keeper took its word; where the keeper had heard a CPU's note before it took
 /// the first word, so has each section that was open at any moment before that CPU told the note, or before another CPU told one that it had
-/// heard by then; and no section that is open now may hold an entry that was detached before. A moment is a place in that list. `freed`: where a seat has heard that the keeper made the slot vacant from
-/// which an entry was detached, that entry has no slot, and nothing holds it. `kept`: where a seat has heard that the keeper attached an
-/// interface in a slot that keeps a driver, that slot keeps it, and the driver has a slot, as long as the interface has its own.
-/// `balance`: of each live or retired entry, the count words of its slot and the total, less their biases, are the local references that the
-/// seats hold: the seats of such references, the hands of all CPUs, each of which has just one seat, and the slots that keep one. Where the
-/// keeper is half way, what it has collected and has still to add counts with the words, and the reference that it has still to subtract with
-/// those held.
+/// heard by then; and no section that is open now may hold an entry that was detached before. A moment is a place in that list. `freed`: where a
+/// seat has heard that the keeper made the slot vacant from which an entry was detached, that entry has no slot, and nothing holds it. `kept`:
+/// where a seat has heard that the keeper attached an interface in a slot that keeps a driver, that slot keeps it, and the driver has a slot, as
+/// long as the interface has its own. `balance`: of each live or retired entry, the count words of its slot and the total, less their biases,
+/// are the local references that the seats hold: the seats of such references, the hands of all CPUs, each of which has just one seat, and the
+/// slots that keep one. Where the keeper is half way, what it has collected and has still to add counts with the words, and the reference that
+/// it has still to subtract with those held.
 pub fn running_headline()
     ensures run { RunningHeadline }
     ensures held { HeldHaveSlots }

@@ -1,5 +1,5 @@
 -- Looks and the end of a drain: one mark or the state of one row changes.
-use Rattle.std.proofs.Common.{◌≡◌, ℕ, ◌+◌, ◌<◌, true, ◌&&◌, ◌==◌, List, ◌++◌, length, set, replicate, get_or, None, refl, sym, ap, ◌∙◌, subst, arith, length-set, eqb-true}
+use Rattle.std.proofs.Common.{◌≡◌, ℕ, ◌+◌, ◌<◌, true, ◌&&◌, ◌==◌, List, ◌++◌, length, set, replicate, get_or, None, refl, sym, ap, ◌∙◌, subst, arith, length-set, eqb-true, append_assoc}
 use Rattle.std.proofs.lemmas.Bool.{and_parts}
 use Rattle.std.proofs.lemmas.List.{map-set}
 use Rattle.std.proofs.Math.Seq.{map-set_same}
@@ -176,7 +176,7 @@ vacated_keeper a k l rows n t our is change is_shown =
 
 -- what it leaves of the keeper
 pub has_vacated : {log later : List LogItem} (a : Settings) (k l : KeeperView) (rows : List KeptSlot) (t : ℕ) (r : KeptSlot) (x : OnKeeper) → record { view = k; slots = states_of rows; log = log } ≡ x → RowsAgree a k rows → Makes (Vacate t) Done (Keeper k) (Keeper l) → Makes (Hear None) Done (Keeper l) (Keeper l)
-    → l ≡ keeper_after_vacate k t → later ≡ log ++ did (Vacate t) Done ++ did (Hear None) Done → ((e : Entry) → slot_at k.slots t ≡ Retired e → IsFreedFrom t e.number later)
+    → l ≡ keeper_after_vacate k t → later ≡ log ++ (did (Vacate t) Done ++ did (Hear None) Done) → ((e : Entry) → slot_at k.slots t ≡ Retired e → IsFreedFrom t e.number later)
     → HasVacated x t (record { view = l; slots = states_of (set rows t (row_vacated r)); log = later })
 has_vacated {later} a k l rows t r x is agree made heard change goes_on freed =
     subst (λ (y : OnKeeper). HasVacated y t (record { view = l; slots = states_of (set rows t (row_vacated r)); log = later })) is record {
@@ -184,7 +184,7 @@ has_vacated {later} a k l rows t r x is agree made heard change goes_on freed =
       heard = heard;
       view = change;
       slots = map-set state_of rows t (row_vacated r);
-      log = goes_on;
+      log = rw append_assoc goes_on;
       freed = λ e at. freed e (retired_in a k rows t e agree at).1;
     }
 

@@ -46,10 +46,10 @@ four_loaded c r s t u l0 l1 l2 l3 l4 first second third fourth =
     (more_loads c 1 (1 + (1 + 1)) l0 l1 l4 (word_loaded c r l0 l1 first) (more_loads c 1 (1 + 1) l1 l2 l4 (word_loaded c s l1 l2 second) (more_loads c 1 1 l2 l3 l4 (word_loaded c t l2 l3 third) (word_loaded c u l3 l4 fourth))))
 
 -- the search begins
-pub search_begun : (c : ℕ) (kind : Kind) (name : Name) (reply : Reply) (old new : List LogItem) → new ≡ old ++ did (Seek c kind name) Done ++ did (LoadLink c) reply → HasSearchedFor c (key_with kind name) 0 old new
+pub search_begun : (c : ℕ) (kind : Kind) (name : Name) (reply : Reply) (old new : List LogItem) → new ≡ old ++ (did (Seek c kind name) Done ++ did (LoadLink c) reply) → HasSearchedFor c (key_with kind name) 0 old new
 search_begun c kind name reply old new is =
     so_many c 1 (1 + 5 * 0) (old ++ did (Seek c kind name) Done) new refl
-    (link_loaded c reply (old ++ did (Seek c kind name) Done) new is)
+    (link_loaded c reply (old ++ did (Seek c kind name) Done) new (rw append_assoc is))
 
 -- one entry more was visited
 pub one_visited : (c : ℕ) (key : Key) (n : ℕ) (old before between new : List LogItem) → HasSearchedFor c key n old before → GoesOnByLoads c 4 before between → GoesOnByLoads c 1 between new → HasSearchedFor c key (n + 1) old new

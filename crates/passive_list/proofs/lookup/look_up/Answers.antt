@@ -1,5 +1,5 @@
 -- The search from slot to slot.
-use Rattle.std.proofs.Common.{rules, ◌+◌, ◌-◌, ◌++◌, Bool, length, ◌∙◌, subst}
+use Rattle.std.proofs.Common.{rules, ◌+◌, ◌-◌, ◌++◌, Bool, length, ◌∙◌, subst, append_assoc}
 use Rattle.protocol.specs.declared.event.Event.TheVariants.{Seek}
 use Rattle.protocol.specs.declared.event.Reply.TheVariants.{Done}
 use Rattle.protocol.specs.Loaded.{entry_with}
@@ -19,7 +19,7 @@ loop-link-init c = record {
   is_shown = step_is_shown c.seek-link.ensures.event;
   known_log = c.seek-link.ensures.step.known_log;
   visited = (0, search_begun c.args.cpu c.args.kind c.args.name _ _ _ c.seek-link.ensures.step.log, gone_by_none _ _ _);
-  ends = (c.args.seat.now.log ++ did (Seek c.args.cpu c.args.kind c.args.name) Done, c.seek-link.ensures.step.log);
+  ends = (c.args.seat.now.log ++ did (Seek c.args.cpu c.args.kind c.args.name) Done, rw append_assoc c.seek-link.ensures.step.log);
   at = search rules;
 }
 

@@ -1,5 +1,5 @@
 -- One slot on the list after the other.
-use Rattle.std.proofs.Common.{◌≡◌, ◌+◌, ◌-◌, ◌++◌, set, ap, ◌∙◌, subst, arith, length-set}
+use Rattle.std.proofs.Common.{◌≡◌, ◌+◌, ◌-◌, ◌++◌, set, ap, ◌∙◌, subst, arith, length-set, append_assoc}
 use Rattle.registry_values.specs.declared.entry.Kind.TheVariants.{Iface}
 use Rattle.registry_values.specs.declared.slot.Key.{Key}
 use Rattle.protocol.specs.declared.event.Event.TheVariants.{Seek}
@@ -25,7 +25,7 @@ loop-link-init c =
       cpu = noted_id x y c.args.noted.now 0 m none ∙ c.requires.cpu.1;
       known_log = c.seek-link.ensures.step.known_log;
       log = subst (λ (k : Key). HasSearchedFor c.args.cpu k 0 c.args.seat.now.log c.seek-link.new.seat.log) key (search_begun c.args.cpu _ _ _ _ _ c.seek-link.ensures.step.log);
-      ends = (c.args.seat.now.log ++ did (Seek c.args.cpu Iface c.of_words.result) Done, c.seek-link.ensures.step.log);
+      ends = (c.args.seat.now.log ++ did (Seek c.args.cpu Iface c.of_words.result) Done, rw append_assoc c.seek-link.ensures.step.log);
       few = omega arith;
       size = c.told-noted;
       noted = none;
