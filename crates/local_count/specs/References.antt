@@ -53,12 +53,12 @@ pub record HasAcquired (a b : OnCpu) (v : ReferenceView) : Type 0 where
     log = a.log ++ did (CountAdd a.view.id) (Word (net_word a.view entry.number)) ++ did (SplitRef a.view.id) (Ref 0);
   }
 
--- why an acquire of a local reference is refused, to what the CPU found last: nothing where it isn't
+-- Why an acquire is refused, nothing where it isn't: by what the CPU found last. There is none, or the CPU's own net count for it is at the limit.
 abbrev pub why_not_acquired_local : CpuView → Option Entry → Option Refusal
 why_not_acquired_local x None = Some NothingFound
 why_not_acquired_local x (Some e) = why_uncounted (number_at x.acquired e.number) (number_at x.released e.number + x.settings.count_limit)
 
--- what an acquire answers, of which `of` is the reference; a refused one changes nothing
+-- what an acquire answers, whose reference is `of` what it gives; a refused one changes nothing
 pub record AnswersAcquireLocal {X : Type 0} (a b : OnCpu) (r : Result X Refusal) (of : X → ReferenceView) : Type 0 where
   pub answer : Answers (why_not_acquired_local a.view a.view.found) (λ x. HasAcquired a b (of x)) r
   pub refused : IfErr r (λ _. b ≡ a)

@@ -32,7 +32,7 @@ abbrev pub AnswersOrNoMemory : {X : Type 0} → Option Refusal → (X → Type 0
 AnswersOrNoMemory refusal P (Ok x) = (refusal ≡ None) × P x
 AnswersOrNoMemory refusal P (Err f) = (refusal ≡ Some f) ⊎ ((refusal ≡ None) × (f ≡ NoMemory))
 
--- what an acquire answers, of which `of` is the reference; a refused one changes nothing
+-- what an acquire answers, whose reference is `of` what it gives; a refused one changes nothing
 pub record AnswersLocalAcquire {X : Type 0} (a b : OnPlainCpu) (r : Result X Refusal) (of : X → OnLocalBody) : Type 0 where
   pub answer : AnswersOrNoMemory (why_not_acquired_local a.cpu.view a.cpu.view.found) (λ x. HasAcquired a.cpu b.cpu (of x).reference × ((of x).table ≡ a.words.table)) r
   pub refused : IfErr r (λ _. b ≡ a)
