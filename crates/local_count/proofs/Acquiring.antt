@@ -1,14 +1,16 @@
 -- A CPU acquires a local reference: why it may, and what it leaves.
 use Rattle.std.proofs.Common.{◌≡◌, ℕ, ◌+◌, ◌<◌, ◌≤◌, nat_lt, Bool, true, false, List, set, Option, Some, None, Result, Ok, Err, IfOk, refl, sym, ap, ◌∙◌, subst, arith}
 use Rattle.std.specs.Prelude.{if◌then◌else◌}
-use Rattle.std.proofs.lemmas.Bool.{ltb-false, ltb-true}
+use Rattle.std.proofs.lemmas.Bool.{ltb-true}
 use Rattle.atomic_table.specs.Seated.{TableId}
 use Rattle.registry_values.specs.declared.entry.Entry.{Entry}
 use Rattle.registry_values.specs.declared.entry.Change.TheVariants.{Attach}
 use Rattle.registry_values.specs.declared.settings.Settings.{Settings}
 use Rattle.registry_values.specs.declared.refusal.Refusal.{Refusal}
-use Rattle.registry_values.specs.declared.refusal.Refusal.TheVariants.{LocalFull}
+use Rattle.registry_values.specs.declared.refusal.Refusal.TheVariants.{LocalFull, NothingFound}
 use Rattle.registry_values.specs.Answers.{why_uncounted}
+use Rattle.registry_values.specs.Refusals.{Answers}
+use Rattle.registry_values.proofs.Answers.{uncounted_alike}
 use Rattle.protocol.specs.Invariant.{greatest_limit}
 use Rattle.registry_values.specs.Balances.{bias}
 use Rattle.registry_values.proofs.Fit.{ranges}
@@ -23,45 +25,41 @@ use Rattle.cpu_words.proofs.by_cpu.Counting.{one_more_same, one_more_other, plac
 use Rattle.cpu_words.proofs.shown.CpusShown.{found_is_in}
 use Rattle.passive_list.specs.declared.place.Found.{Found}
 use Rattle.passive_list.specs.declared.place.NumberedCount.{NumberedCount}
-use Rattle.passive_list.specs.Cpus.{OnCpu, place_at, IsOurCpu}
-use Rattle.passive_list.proofs.Agreeing.{IsFoundAs}
-use Rattle.local_count.specs.References.{HasAcquired, IsOurReference, IsFull, net_by}
+use Rattle.passive_list.specs.Cpus.{OnCpu, place_at, IsKept, IsOurCpu}
+use Rattle.passive_list.proofs.Agreeing.{IsFoundAs, found_as, found_none}
+use Rattle.local_count.specs.References.{HasAcquired, IsOurReference, net_by, why_not_acquired_local}
 use Rattle.local_count.proofs.Agreeing.{place_count, counted_agrees}
 
--- Where a count is refused
+-- Where an acquire is refused
 
-same_why : (f g : Refusal) → ◌≡◌ {A = Option Refusal} (Some f) (Some g) → f ≡ g
-same_why f g q = cc
+-- where the CPU found nothing last
+pub nothing_found : (x : CpuView) → x.found ≡ None → Some NothingFound ≡ why_not_acquired_local x x.found
+nothing_found x none = sym (ap (why_not_acquired_local x) none)
 
--- a count is refused where it is at its most
-pub full_tells : (count most : ℕ) (f : Refusal) → Some f ≡ why_uncounted count most → (f ≡ LocalFull) × (most ≤ count)
-full_tells count most f is = tells (nat_lt count most) refl is
+some_not_none : (f : Refusal) → ◌≡◌ {A = Option Refusal} (Some f) None → ⊥
+some_not_none f q = cc
+
+-- where it isn't, the CPU keeps its last found entry as k
+pub record MayAcquire (x : CpuView) (k : Found) : Type 0 where
+  pub none : why_not_acquired_local x x.found ≡ None
+  pub kept : IsFoundAs x k
+
+-- by the answer that was given of the CPU, which is y to a contract
+pub may_acquire : (x y : CpuView) (k : Found) (why : Option Refusal) → IsShownCpu x → IsKept k x.found → x ≡ y → why ≡ why_not_acquired_local y y.found → ((f : Refusal) → why ≡ Some f → ⊥) → MayAcquire x k
+may_acquire x y k (Some f) shown kept view told off = absurd (off f refl)
+may_acquire x y k None shown kept view told off =
+    let none = ap (λ (v : CpuView). why_not_acquired_local v v.found) view ∙ sym told in
+    record { none = none; kept = found_as x k shown kept (λ zero. some_not_none NothingFound (nothing_found x (found_none x k shown kept zero) ∙ none)) }
+
+counted_room : (n most : ℕ) → why_uncounted n most ≡ None → n < most
+counted_room n most none = tells (nat_lt n most) refl none
   where
-    tells : (b : Bool) → nat_lt count most ≡ b → ◌≡◌ {A = Option Refusal} (Some f) (if b then None else Some LocalFull) → (f ≡ LocalFull) × (most ≤ count)
-    tells true test q = absurd (let p : ◌≡◌ {A = Option Refusal} (Some f) None = q in cc)
-    tells false test q = (same_why f LocalFull q, ltb-false count most test)
-
--- and where it isn't refused there is room
-pub room_tells : (count most : ℕ) (why : Option Refusal) → ((f : Refusal) → why ≡ Some f → ⊥) → (why ≡ None → nat_lt count most ≡ true) → count < most
-room_tells count most None off room = ltb-true count most (room refl)
-room_tells count most (Some f) off room = absurd (off f refl)
+    tells : (b : Bool) → nat_lt n most ≡ b → ◌≡◌ {A = Option Refusal} (if b then None else Some LocalFull) None → n < most
+    tells true test q = ltb-true n most test
+    tells false test q = absurd (some_not_none LocalFull q)
 
 begun_of : (x : CpuView) (k : Found) → IsFoundAs x k → 0 < k.number
 begun_of x k kept = let begun = (at_within x.pass kept.entry.number (Attach kept.entry) kept.attached).0 in omega (arith, begun, kept.number)
-
--- below the limit the CPU may count the last found entry, which it keeps as k
-pub may_count : (z : TableId) (a : Settings) (t : TableId) (x : CpuView) (c w d : ℕ) (k : Found) (ps ns : List NumberedCount) (n : ℕ)
-    → IsOurCpu z a t x c w d k ps ns → IsFoundAs x k → n ≡ net_by (place_at ns k.slot) k.number → n < bias + a.count_limit → MayCount x k.slot k.number
-may_count z a t x c w d k ps ns n our kept count room = record {
-  idle = our.idle;
-  entry = kept.entry;
-  found = kept.found;
-  slot = sym kept.slot;
-  number = sym kept.number;
-  count = n;
-  place = place_count x ns k.slot k.number n our.net (begun_of x k kept) count;
-  room = subst (λ (b : Settings). n < bias + b.count_limit) (sym our.settings) room;
-}
 
 -- what its place says is its net count for that entry, which has its slot
 net_of_found : (z : TableId) (a : Settings) (t : TableId) (x : CpuView) (c w d : ℕ) (k : Found) (ps ns : List NumberedCount) (n : ℕ) (kept : IsFoundAs x k)
@@ -72,21 +70,31 @@ net_of_found z a t x c w d k ps ns n kept our count =
     let place : IsPlaceCount x e.slot e.number n = subst (λ (p : ℕ × ℕ). IsPlaceCount x p.0 p.1 n) (λ i. (kept.slot i, kept.number i)) (place_count x ns k.slot k.number n our.net (begun_of x k kept) count) in
     place_is s.g x e.slot e n s.shown (found_is_in x e s kept.found).1 place
 
--- so it is full where that is at the limit, and below it isn't
-
-pub full_of : (z : TableId) (a : Settings) (t : TableId) (x : CpuView) (c w d : ℕ) (k : Found) (ps ns : List NumberedCount) (n : ℕ) (kept : IsFoundAs x k)
-    → IsOurCpu z a t x c w d k ps ns → n ≡ net_by (place_at ns k.slot) k.number → bias + x.settings.count_limit ≤ n → IsFull x kept.entry
-full_of z a t x c w d k ps ns n kept our count above =
+-- so the acquire is refused as that count is
+pub why_by_place : (z : TableId) (a : Settings) (t : TableId) (x : CpuView) (c w d : ℕ) (k : Found) (ps ns : List NumberedCount) (n limit : ℕ) (kept : IsFoundAs x k)
+    → IsOurCpu z a t x c w d k ps ns → n ≡ net_by (place_at ns k.slot) k.number → limit ≡ x.settings.count_limit → why_uncounted n (bias + limit) ≡ why_not_acquired_local x x.found
+why_by_place z a t x c w d k ps ns n limit kept our count is =
     let net = net_of_found z a t x c w d k ps ns n kept our count in
-    omega (arith, net, above)
+    let e = kept.entry in
+    uncounted_alike n (bias + limit) (number_at x.acquired e.number) (number_at x.released e.number + x.settings.count_limit) (λ lt. omega (arith, net, is, lt)) (λ ge. omega (arith, net, is, ge))
+    ∙ sym (ap (why_not_acquired_local x) kept.found)
 
-pub not_full : (z : TableId) (a : Settings) (t : TableId) (x : CpuView) (c w d : ℕ) (k : Found) (ps ns : List NumberedCount) (n : ℕ) (kept : IsFoundAs x k)
-    → IsOurCpu z a t x c w d k ps ns → n ≡ net_by (place_at ns k.slot) k.number → n < bias + x.settings.count_limit → (e : Entry) → x.found ≡ Some e → IsFull x e → ⊥
-not_full z a t x c w d k ps ns n kept our count room e is full =
-    let net = net_of_found z a t x c w d k ps ns n kept our count in
-    let one : kept.entry ≡ e = let q : ◌≡◌ {A = Option Entry} (Some kept.entry) (Some e) = sym kept.found ∙ is in cc in
-    let same : IsFull x kept.entry = subst (IsFull x) (sym one) full in
-    omega (arith, net, room, same)
+-- and where it isn't, the CPU may count the entry
+pub may_count : (z : TableId) (a : Settings) (t : TableId) (x : CpuView) (c w d : ℕ) (k : Found) (ps ns : List NumberedCount)
+    → IsOurCpu z a t x c w d k ps ns → MayAcquire x k → MayCount x k.slot k.number
+may_count z a t x c w d k ps ns our may =
+    let kept = may.kept in
+    let n = net_by (place_at ns k.slot) k.number in
+    record {
+      idle = our.idle;
+      entry = kept.entry;
+      found = kept.found;
+      slot = sym kept.slot;
+      number = sym kept.number;
+      count = n;
+      place = place_count x ns k.slot k.number n our.net (begun_of x k kept) refl;
+      room = counted_room n (bias + x.settings.count_limit) (why_by_place z a t x c w d k ps ns n x.settings.count_limit kept our refl refl ∙ may.none);
+    }
 
 -- What the addition and the cut leave
 
@@ -132,14 +140,3 @@ acquired_agrees z a t u x c w d k ps ns y l v n our is_shown kept same counted c
     let limit : x.settings.count_limit ≤ greatest_limit = subst (λ (b : Settings). b.count_limit ≤ greatest_limit) (sym our.settings) (ranges a our.fit).counts in
     subst (λ (q : CpuView). IsOurCpu z a u q c w d k ps (set ns k.slot (record { number = k.number; count = n + 1 }))) (sym view)
     (counted_agrees z a t u x c w d k ps ns (one_more x.acquired k.number) x.released k.slot k.number (n + 1) our (subst IsShownCpu view is_shown) same kept.few alone count (omega (arith, room, limit)) (λ m off. (one_more_other x.acquired k.number m off, refl)))
-
--- A CPU with a share: an acquire leaves what the share has
-
-acquired_beside : (n : ℕ) (x a y : OnCpu) (v : ReferenceView) → record x { made = n } ≡ a → HasAcquired x y v → HasAcquired a (record y { made = n }) v
-acquired_beside n x a y v is has = subst (λ (o : OnCpu). HasAcquired o (record y { made = n }) v) is (record { entry = has.entry; found = has.found; is = has.is; cpu = ap (λ (o : OnCpu). record o { made = n }) has.cpu })
-
-pub acquired_ok : (n : ℕ) (x a y : OnCpu) (v : ReferenceView) (r : Result ReferenceView Refusal) → r ≡ Ok v → record x { made = n } ≡ a → HasAcquired x y v → IfOk r (λ u. HasAcquired a (record y { made = n }) u)
-acquired_ok n x a y v r ok is has = subst (λ (q : Result ReferenceView Refusal). IfOk q (λ u. HasAcquired a (record y { made = n }) u)) (sym ok) (acquired_beside n x a y v is has)
-
-pub acquired_err : (n : ℕ) (a y : OnCpu) (f : Refusal) (r : Result ReferenceView Refusal) → r ≡ Err f → IfOk r (λ u. HasAcquired a (record y { made = n }) u)
-acquired_err n a y f r err = subst (λ (q : Result ReferenceView Refusal). IfOk q (λ u. HasAcquired a (record y { made = n }) u)) (sym err) tt

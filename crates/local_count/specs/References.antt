@@ -1,8 +1,12 @@
 -- Local references: how their plain data agree with what the seat knows, and what a CPU's calls leave.
-use Rattle.std.specs.Prelude.{◌≡◌, ℕ, ◌+◌, ◌-◌, ◌++◌, ◌<◌, ◌≤◌, ◌==◌, if◌then◌else◌, Some, None}
+use Rattle.std.specs.Prelude.{◌≡◌, ℕ, ◌+◌, ◌-◌, ◌++◌, ◌<◌, ◌==◌, if◌then◌else◌, Option, Some, None, Result, IfErr}
 use Rattle.atomic_table.specs.Seated.{TableId}
 use Rattle.registry_values.specs.declared.entry.Entry.{Entry}
 use Rattle.registry_values.specs.declared.entry.Kind.{Kind}
+use Rattle.registry_values.specs.declared.refusal.Refusal.{Refusal}
+use Rattle.registry_values.specs.declared.refusal.Refusal.TheVariants.{NothingFound}
+use Rattle.registry_values.specs.Answers.{why_uncounted}
+use Rattle.registry_values.specs.Refusals.{Answers}
 use Rattle.protocol.specs.declared.event.Event.TheVariants.{CountAdd, CountDown, JoinRef, SplitBack, SplitRef}
 use Rattle.protocol.specs.declared.event.Reply.TheVariants.{Collected, Done, Ref, Word}
 use Rattle.registry_values.specs.Balances.{bias}
@@ -35,10 +39,6 @@ pub record IsOurReference (v : ReferenceView) (n s : ℕ) (k : Kind) : Type 0 wh
 abbrev pub net_by : NumberedCount → ℕ → ℕ
 net_by p n = if p.number == n then p.count else bias
 
--- the CPU's own net count for the entry is at the limit
-abbrev pub IsFull : CpuView → Entry → Type 0
-IsFull x e = x.settings.count_limit + number_at x.released e.number ≤ number_at x.acquired e.number
-
 -- the CPU's own net count for n, over the bias, by what its seat knows: its count word, while it is n's
 abbrev pub net_word : CpuView → ℕ → ℕ
 net_word x n = bias + number_at x.acquired n - number_at x.released n
@@ -52,6 +52,16 @@ pub record HasAcquired (a b : OnCpu) (v : ReferenceView) : Type 0 where
     view = record a.view { acquired = one_more a.view.acquired entry.number; met = with_number a.view.met entry.slot entry.number };
     log = a.log ++ did (CountAdd a.view.id) (Word (net_word a.view entry.number)) ++ did (SplitRef a.view.id) (Ref 0);
   }
+
+-- Why an acquire is refused, nothing where it isn't: by what the CPU found last. There is none, or the CPU's own net count for it is at the limit.
+abbrev pub why_not_acquired_local : CpuView → Option Entry → Option Refusal
+why_not_acquired_local x None = Some NothingFound
+why_not_acquired_local x (Some e) = why_uncounted (number_at x.acquired e.number) (number_at x.released e.number + x.settings.count_limit)
+
+-- what an acquire answers, whose reference is `of` what it gives; a refused one changes nothing
+pub record AnswersAcquireLocal {X : Type 0} (a b : OnCpu) (r : Result X Refusal) (of : X → ReferenceView) : Type 0 where
+  pub answer : Answers (why_not_acquired_local a.view a.view.found) (λ x. HasAcquired a b (of x)) r
+  pub refused : IfErr r (λ _. b ≡ a)
 
 -- the reference was taken in and released by the CPU's own count; of the CPU nothing else changes
 abbrev pub HasReleased : OnCpu → ReferenceView → OnCpu → Type 0

@@ -1,10 +1,9 @@
 //! Acquiring a local reference (localcount(9)).
 
-ghost use Rattle.std.specs.Prelude.{◌≡◌, ◌↔◌, ◌⊎◌, Some, None, IfOk, IfErr, IsErrOf, IsTrue};
+ghost use Rattle.std.specs.Prelude.{◌≡◌, IfOk, IsTrue};
 ghost use Rattle.registry_values.specs.Limits.{are_fit};
-ghost use Rattle.registry_values.specs.declared.entry.Entry.{Entry};
 ghost use Rattle.cpu_words.specs.Domains.{AreWordsOf};
-ghost use Rattle.local_count.specs.References.{HasAcquired, IsFull};
+ghost use Rattle.local_count.specs.References.{AnswersAcquireLocal, why_not_acquired_local};
 
 use crate::local_ref::LocalRef;
 use crate::net::{net_count, set_net};
@@ -19,41 +18,27 @@ use std::marker::PhantomData;
 /// `count_limit`. Nothing changes then.
 pub fn acquire_local<D: Domain>(words: &Words, cpu: &mut Cpu<D>) -> Result<LocalRef<D>, Refusal>
     requires words { AreWordsOf words.now D.table D.settings }
-    ensures ok { IfOk result (λ v. HasAcquired cpu.old cpu.new v) }
-    ensures refused { IfErr result (λ _. cpu.new ≡ cpu.old) }
-    ensures nothing { IsErrOf result Refusal.NothingFound ↔ cpu.old.view.found ≡ None }
-    ensures full { IsErrOf result Refusal.LocalFull ↔ (e : Entry) × (cpu.old.view.found ≡ Some e) × IsFull cpu.old.view e }
-    ensures no_other { IfErr result (λ refusal. (refusal ≡ Refusal.NothingFound) ⊎ (refusal ≡ Refusal.LocalFull)) }
+    ensures { AnswersAcquireLocal cpu.old cpu.new result (λ v. v) }
 {
-    match acquire_local_on(words, &mut cpu.plain) {
-        Ok(plain) => Ok(LocalRef {
-            plain,
-            domain: PhantomData,
-        }),
-        Err(refusal) => Err(refusal),
-    }
+    let plain = acquire_local_on(words, &mut cpu.plain)?;
+    Ok(LocalRef {
+        plain,
+        domain: PhantomData,
+    })
 }
 
 /// `acquire_local` on a CPU that names its own table. Condition: the words are its table's.
 pub fn acquire_local_on(words: &Words, cpu: &mut PlainCpu) -> Result<PlainRef, Refusal>
     requires words { AreWordsOf words.now cpu.old.words.table cpu.old.words.settings }
-    ensures ok { IfOk result (λ v. HasAcquired cpu.old.cpu cpu.new.cpu v.reference) }
+    ensures acquired { AnswersAcquireLocal cpu.old.cpu cpu.new.cpu result (λ v. v.reference) }
     ensures table { IfOk result (λ v. v.table ≡ cpu.old.words.table) }
     ensures fit { IsTrue (are_fit cpu.old.words.settings) }
-    ensures refused { IfErr result (λ _. cpu.new ≡ cpu.old) }
-    ensures nothing { IsErrOf result Refusal.NothingFound ↔ cpu.old.cpu.view.found ≡ None }
-    ensures full { IsErrOf result Refusal.LocalFull ↔ (e : Entry) × (cpu.old.cpu.view.found ≡ Some e) × IsFull cpu.old.cpu.view e }
-    ensures no_other { IfErr result (λ refusal. (refusal ≡ Refusal.NothingFound) ⊎ (refusal ≡ Refusal.LocalFull)) }
     ensures words { cpu.new.words ≡ cpu.old.words }
 {
-    let found = cpu.found;
-    if found.number == 0 {
-        return Err(Refusal::NothingFound);
-    }
-    let count = net_count(cpu.net[found.slot as usize], found.number);
-    if let Some(refusal) = why_uncounted(count, BIAS + words.settings().count_limit) {
+    if let Some(refusal) = why_not_acquired_local(words, cpu) {
         return Err(refusal);
     }
+    let found = cpu.found;
     let word = steps::count_add(words, &mut cpu.seat, cpu.id, found.slot, found.number);
     let seat = steps::split_ref(words, &mut cpu.seat, cpu.id);
     set_net(&mut cpu.net[found.slot as usize], found.number, word + 1);
@@ -63,4 +48,18 @@ pub fn acquire_local_on(words: &Words, cpu: &mut PlainCpu) -> Result<PlainRef, R
         slot: found.slot,
         kind: found.kind,
     })
+}
+
+/// Why a CPU that names its own table may not acquire a local reference now, as `acquire_local` has it. Condition: the words are its table's.
+#[inline(always)]
+pub fn why_not_acquired_local(words: &Words, cpu: &PlainCpu) -> Option<Refusal>
+    requires words { AreWordsOf words.now cpu.now.words.table cpu.now.words.settings }
+    ensures { result ≡ why_not_acquired_local cpu.now.cpu.view cpu.now.cpu.view.found }
+{
+    let found = cpu.found;
+    if found.number == 0 {
+        return Some(Refusal::NothingFound);
+    }
+    let count = net_count(cpu.net[found.slot as usize], found.number);
+    why_uncounted(count, BIAS + words.settings().count_limit)
 }

@@ -15,7 +15,7 @@ mod net;
 mod plain_ref;
 mod release;
 
-pub use acquire::{acquire_local, acquire_local_on};
+pub use acquire::{acquire_local, acquire_local_on, why_not_acquired_local};
 pub use giving_up::{release_under, release_under_on};
 pub use interfaces::{publish_iface, publish_iface_on};
 pub use local_ref::LocalRef;

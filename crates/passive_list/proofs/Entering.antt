@@ -1,8 +1,9 @@
 -- How a section begins: whether a CPU has begun as many as it may, by those that it has ended, and what its outermost enter leaves.
-use Rattle.std.proofs.Common.{◌≡◌, ◌↔◌, ⊎_elim, ℕ, ◌+◌, ◌<◌, ◌≤◌, List, ◌++◌, nat_lt, false, Option, Some, None, refl, sym, ap, ◌∙◌, subst, arith}
-use Rattle.std.proofs.lemmas.Bool.{cases_lt, le-ltb, ltb-false}
+use Rattle.std.proofs.Common.{◌≡◌, ℕ, ◌+◌, ◌*◌, ◌<◌, ◌≤◌, List, ◌++◌, nat_lt, IsTrue, Option, Some, None, refl, sym, ap, ◌∙◌, subst, arith}
+use Rattle.std.proofs.lemmas.Bool.{ltb-true}
 use Rattle.atomic_table.specs.Seated.{TableId}
 use Rattle.registry_values.specs.declared.settings.Settings.{Settings}
+use Rattle.registry_values.proofs.Answers.{same_test}
 use Rattle.protocol.specs.declared.event.Event.TheVariants.{Enter}
 use Rattle.protocol.specs.declared.event.Reply.TheVariants.{Done}
 use Rattle.cpu_words.specs.declared.view.CpuView.{CpuView}
@@ -15,27 +16,24 @@ use Rattle.cpu_words.specs.Views.{depth_of}
 use Rattle.passive_list.specs.declared.place.Found.{Found}
 use Rattle.passive_list.specs.declared.place.NumberedCount.{NumberedCount}
 use Rattle.passive_list.specs.Cpus.{OnCpu, IsOurCpu}
-use Rattle.passive_list.specs.Sections.{AreSpent, HasEnteredOn}
+use Rattle.passive_list.specs.Sections.{HasEnteredOn, may_begin}
 use Rattle.cpu_words.proofs.shown.CpusShown.{entered_whole}
 
 few : (b : Option ℕ) → depth_of b ≤ 1
 few None = omega arith
 few (Some b) = omega arith
 
--- the CPU has begun as many sections as it may just where it has ended as many
-pub spent_is : (z : TableId) (a : Settings) (t : TableId) (x : CpuView) (c w d : ℕ) (e : Found) (ps ns : List NumberedCount) (limit : ℕ) → IsOurCpu z a t x c w d e ps ns → limit ≡ a.section_limit → (nat_lt w limit ≡ false) ↔ AreSpent x
-spent_is z a t x c w d e ps ns limit our is =
+-- the CPU may begin a section just where it has ended fewer than that
+pub may_begin_is : (z : TableId) (a : Settings) (t : TableId) (x : CpuView) (c w d : ℕ) (e : Found) (ps ns : List NumberedCount) (limit : ℕ) → IsOurCpu z a t x c w d e ps ns → limit ≡ a.section_limit → nat_lt w limit ≡ may_begin x
+may_begin_is z a t x c w d e ps ns limit our is =
     let word = our.section.word in
     let most : x.settings.section_limit ≡ a.section_limit = ap (λ (s : Settings). s.section_limit) our.settings in
     let at = few x.begin in
-    (λ no. let le = ltb-false w limit no in omega (arith, le, word, is, most), λ spent. le-ltb w limit (omega (arith, spent, word, is, most, at)))
+    same_test w limit x.section (2 * x.settings.section_limit) (λ lt. omega (arith, lt, word, is, most, at)) (λ ge. omega (arith, ge, word, is, most))
 
--- and where it hasn't, it has ended fewer
-pub unspent : (z : TableId) (a : Settings) (t : TableId) (x : CpuView) (c w d : ℕ) (e : Found) (ps ns : List NumberedCount) → IsOurCpu z a t x c w d e ps ns → (AreSpent x → ⊥) → w < a.section_limit
-unspent z a t x c w d e ps ns our off = ⊎_elim
-    (λ (lt : w < a.section_limit). lt)
-    (λ (le : a.section_limit ≤ w). absurd (off ((spent_is z a t x c w d e ps ns a.section_limit our refl).0 (le-ltb w a.section_limit le))))
-    (cases_lt w a.section_limit)
+-- so it has then
+pub unspent : (z : TableId) (a : Settings) (t : TableId) (x : CpuView) (c w d : ℕ) (e : Found) (ps ns : List NumberedCount) → IsOurCpu z a t x c w d e ps ns → IsTrue (may_begin x) → w < a.section_limit
+unspent z a t x c w d e ps ns our may = ltb-true w a.section_limit (may_begin_is z a t x c w d e ps ns a.section_limit our refl ∙ may)
 
 -- a CPU that names its own table, to a contract
 abbrev pub cpu_at : CpuView → ℕ → List LogItem → List LogItem → OnCpu

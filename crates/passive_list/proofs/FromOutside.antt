@@ -1,5 +1,5 @@
 -- A lookup from outside: the steps that its section allows, how the data agree with the view as it is over, and what it is to a contract.
-use Rattle.std.proofs.Common.{◌≡◌, ℕ, ◌+◌, ◌<◌, List, ◌++◌, length, Option, Some, None, refl, sym, ap, ◌∙◌, subst, arith}
+use Rattle.std.proofs.Common.{◌≡◌, IsTrue, ℕ, ◌+◌, ◌<◌, List, ◌++◌, length, Option, Some, None, refl, sym, ap, ◌∙◌, subst, arith}
 use Rattle.atomic_table.specs.Seated.{TableId}
 use Rattle.registry_values.specs.declared.entry.Entry.{Entry}
 use Rattle.registry_values.specs.declared.settings.Settings.{Settings}
@@ -19,7 +19,7 @@ use Rattle.passive_list.specs.declared.place.NumberedCount.{NumberedCount}
 use Rattle.passive_list.specs.Cpus.{OnCpu, DepthAgrees, IsKept, IsOurCpu, no_found}
 use Rattle.passive_list.specs.Lookups.{HasFoundFromOutside}
 use Rattle.passive_list.specs.Searches.{SearchesOnce}
-use Rattle.passive_list.specs.Sections.{AreSpent}
+use Rattle.passive_list.specs.Sections.{may_begin}
 use Rattle.passive_list.specs.Walking.{HasLookedUp}
 use Rattle.cpu_words.proofs.shown.KeepersShown.{step_is_shown}
 use Rattle.passive_list.proofs.Agreeing.{entered_agrees, looked_up_agrees, exited_agrees, own_agrees, none_outside}
@@ -58,7 +58,7 @@ are_kept (Some e) = (refl, refl, refl)
 
 -- outside and with nothing found again, as before, and one section more is ended
 pub from_outside_agrees : (z : TableId) (a : Settings) (t u : TableId) (x y v w : CpuView) (c n m d : ℕ) (e : Found) (f : Option Entry) (ps ns : List NumberedCount) (key : Key)
-    → IsOurCpu z a t x c n d e ps ns → u ≡ t → d ≡ 0 → (AreSpent x → ⊥) → Makes (Enter c) Done (Cpu x) (Cpu y) → HasEntered x y → IsShownCpu v → HasLookedUp key y v f → IsShownCpu w → HasExited v w → m ≡ n + 1 → IsOurCpu u w.settings u w c m d e ps ns
+    → IsOurCpu z a t x c n d e ps ns → u ≡ t → d ≡ 0 → IsTrue (may_begin x) → Makes (Enter c) Done (Cpu x) (Cpu y) → HasEntered x y → IsShownCpu v → HasLookedUp key y v f → IsShownCpu w → HasExited v w → m ≡ n + 1 → IsOurCpu u w.settings u w c m d e ps ns
 from_outside_agrees z a t u x y v w c n m d e f ps ns key our same shallow unended made entered looked_shown looked exited_shown exited one_more =
     let room : n < a.section_limit = unspent z a t x c n d e ps ns our unended in
     let inside = entered_agrees z a t u x y c n d e ps ns our (step_is_shown made) same shallow room entered in

@@ -1,5 +1,9 @@
 -- Read sections of a CPU, nested: what enter and exit answer and leave.
-use Rattle.std.specs.Prelude.{◌≡◌, ◌≢◌, ◌+◌, ◌*◌, ◌≤◌, ◌++◌}
+use Rattle.std.specs.Prelude.{◌≡◌, ◌≢◌, ◌+◌, ◌*◌, ◌==◌, ◌++◌, nat_lt, Bool, Option, Result, IfErr}
+use Rattle.std.specs.Result.{result_err}
+use Rattle.registry_values.specs.declared.refusal.Refusal.{Refusal}
+use Rattle.registry_values.specs.Answers.{enter_answer}
+use Rattle.registry_values.specs.Refusals.{Answers}
 use Rattle.protocol.specs.declared.event.Event.TheVariants.{Enter, Exit}
 use Rattle.protocol.specs.declared.event.Reply.TheVariants.{Done}
 use Rattle.cpu_words.specs.declared.view.CpuView.{CpuView}
@@ -19,6 +23,19 @@ pub record HasEnteredOn (a b : OnCpu) : Type 0 where
   pub event : a.depth ≡ 0 → b.log ≡ a.log ++ did (Enter a.view.id) Done
   pub none : a.depth ≢ 0 → b.log ≡ a.log
 
+-- the CPU has begun fewer sections than it may
+abbrev pub may_begin : CpuView → Bool
+may_begin x = nat_lt x.section (2 * x.settings.section_limit)
+
+-- why an enter is refused: nothing where it isn't
+abbrev pub why_not_entered : OnCpu → Option Refusal
+why_not_entered a = result_err (enter_answer a.depth (a.depth == 0) (may_begin a.view))
+
+-- what an enter answers; a refused one changes nothing
+pub record AnswersEnter (a b : OnCpu) (r : Result (Unit {0}) Refusal) : Type 0 where
+  pub answer : Answers (why_not_entered a) (λ _. HasEnteredOn a b) r
+  pub refused : IfErr r (λ _. b ≡ a)
+
 -- the outermost exit ends the section by one event; an inner one is counted, and nothing else
 pub record HasExitedOn (a b : OnCpu) : Type 0 where
   pub ended : a.depth ≡ 1 → HasExited a.view b.view
@@ -28,7 +45,3 @@ pub record HasExitedOn (a b : OnCpu) : Type 0 where
   pub known_log : b.known_log ≡ a.known_log
   pub event : a.depth ≡ 1 → b.log ≡ a.log ++ did (Exit a.view.id) Done
   pub none : a.depth ≢ 1 → b.log ≡ a.log
-
--- this CPU has begun as many sections as it may
-abbrev pub AreSpent : CpuView → Type 0
-AreSpent x = 2 * x.settings.section_limit ≤ x.section

@@ -1,6 +1,6 @@
 //! Lookups from outside, each in a section of its own.
 
-ghost use Rattle.std.specs.Prelude.{◌≡◌, ◌<◌, ◌+◌, ◌^◌, IfSome};
+ghost use Rattle.std.specs.Prelude.{◌≡◌, ◌<◌, ◌+◌, ◌^◌, IfSome, IsTrue};
 ghost use Rattle.protocol.specs.declared.event.Event.TheVariants.{Exit};
 ghost use Rattle.protocol.specs.declared.event.Reply.TheVariants.{Done};
 ghost use Rattle.cpu_words.specs.declared.view.View.TheVariants.{Cpu};
@@ -9,7 +9,7 @@ ghost use Rattle.cpu_words.specs.Searching.{key_with};
 ghost use Rattle.cpu_words.specs.Steps.{SeatMakes};
 ghost use Rattle.cpu_words.specs.Sections.{MayExit, HasExited};
 ghost use Rattle.passive_list.specs.Lookups.{HasFoundFromOutside};
-ghost use Rattle.passive_list.specs.Sections.{AreSpent};
+ghost use Rattle.passive_list.specs.Sections.{may_begin};
 ghost use Rattle.passive_list.specs.Walking.{entry_seen};
 
 use crate::lookup::{Seen, look_up};
@@ -25,7 +25,7 @@ use registry_values::{Kind, MOST_CPUS, MOST_SLOTS, Name};
 pub fn find_from_outside(words: &Words, cpu: &mut PlainCpu, kind: Kind, name: Name) -> Option<Seen>
     requires words { AreWordsOf words.now cpu.old.words.table cpu.old.words.settings }
     requires outside { cpu.old.cpu.depth ≡ 0 }
-    requires room { AreSpent cpu.old.cpu.view → ⊥ }
+    requires room { IsTrue (may_begin cpu.old.cpu.view) }
     ensures found { HasFoundFromOutside (key_with kind name) cpu.old.cpu cpu.new.cpu (entry_seen (key_with kind name) result) }
     ensures slot { IfSome result (λ seen. seen.slot < MOST_SLOTS) }
     ensures words { cpu.new.words ≡ cpu.old.words }

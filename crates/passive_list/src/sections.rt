@@ -1,9 +1,9 @@
 //! Read sections (pserialize(9)). Sections nest: only the outermost enter and exit step on the words.
 
-ghost use Rattle.std.specs.Prelude.{◌≡◌, ◌≢◌, ◌↔◌, ◌⊎◌, IsTrue, None, IfOk, IfErr, IsErrOf, false};
+ghost use Rattle.std.specs.Prelude.{◌≡◌, ◌≢◌, ◌↔◌, IsTrue, None};
 ghost use Rattle.cpu_words.specs.Domains.{AreWordsOf};
 ghost use Rattle.cpu_words.specs.Sections.{HasEntered};
-ghost use Rattle.passive_list.specs.Sections.{HasEnteredOn, HasExitedOn, AreSpent};
+ghost use Rattle.passive_list.specs.Sections.{AnswersEnter, HasEnteredOn, HasExitedOn, may_begin};
 
 use crate::cpu::Cpu;
 use crate::plain_cpu::PlainCpu;
@@ -15,11 +15,7 @@ use registry_values::{Refusal, enter_answer};
 /// them. Nothing changes then.
 pub fn enter<D: Domain>(words: &Words, cpu: &mut Cpu<D>) -> Result<(), Refusal>
     requires words { AreWordsOf words.now D.table D.settings }
-    ensures ok { IfOk result (λ _. HasEnteredOn cpu.old cpu.new) }
-    ensures refused { IfErr result (λ _. cpu.new ≡ cpu.old) }
-    ensures deep { IsErrOf result Refusal.TooDeep ↔ cpu.old.depth ≡ 255 }
-    ensures spent { IsErrOf result Refusal.SectionsSpent ↔ (cpu.old.depth ≡ 0) × AreSpent cpu.old.view }
-    ensures no_other { IfErr result (λ refusal. (refusal ≡ Refusal.TooDeep) ⊎ (refusal ≡ Refusal.SectionsSpent)) }
+    ensures { AnswersEnter cpu.old cpu.new result }
 {
     enter_on(words, &mut cpu.plain)
 }
@@ -27,11 +23,7 @@ pub fn enter<D: Domain>(words: &Words, cpu: &mut Cpu<D>) -> Result<(), Refusal>
 /// `enter` on a CPU that names its own table. Condition: the words are its table's.
 pub fn enter_on(words: &Words, cpu: &mut PlainCpu) -> Result<(), Refusal>
     requires words { AreWordsOf words.now cpu.old.words.table cpu.old.words.settings }
-    ensures ok { IfOk result (λ _. HasEnteredOn cpu.old.cpu cpu.new.cpu) }
-    ensures refused { IfErr result (λ _. cpu.new ≡ cpu.old) }
-    ensures deep { IsErrOf result Refusal.TooDeep ↔ cpu.old.cpu.depth ≡ 255 }
-    ensures spent { IsErrOf result Refusal.SectionsSpent ↔ (cpu.old.cpu.depth ≡ 0) × AreSpent cpu.old.cpu.view }
-    ensures no_other { IfErr result (λ refusal. (refusal ≡ Refusal.TooDeep) ⊎ (refusal ≡ Refusal.SectionsSpent)) }
+    ensures entered { AnswersEnter cpu.old.cpu cpu.new.cpu result }
     ensures words { cpu.new.words ≡ cpu.old.words }
 {
     let outside = cpu.depth == 0;
@@ -47,7 +39,7 @@ pub fn enter_on(words: &Words, cpu: &mut PlainCpu) -> Result<(), Refusal>
 /// Whether an enter would begin a section: the CPU is outside, and has begun fewer than it may. Condition: the words are its table's.
 pub fn may_begin_on(words: &Words, cpu: &PlainCpu) -> bool
     requires words { AreWordsOf words.now cpu.now.words.table cpu.now.words.settings }
-    ensures { IsTrue result ↔ (cpu.now.cpu.depth ≡ 0) × (AreSpent cpu.now.cpu.view → ⊥) }
+    ensures { IsTrue result ↔ (cpu.now.cpu.depth ≡ 0) × IsTrue (may_begin cpu.now.cpu.view) }
 {
     cpu.depth == 0 && may_begin(words, cpu)
 }
@@ -55,7 +47,7 @@ pub fn may_begin_on(words: &Words, cpu: &PlainCpu) -> bool
 /// Whether this CPU may begin one section more.
 fn may_begin(words: &Words, cpu: &PlainCpu) -> bool
     requires words { AreWordsOf words.now cpu.now.words.table cpu.now.words.settings }
-    ensures { result ≡ false ↔ AreSpent cpu.now.cpu.view }
+    ensures { result ≡ may_begin cpu.now.cpu.view }
 {
     cpu.ended < words.settings().section_limit
 }
@@ -64,7 +56,7 @@ fn may_begin(words: &Words, cpu: &PlainCpu) -> bool
 fn begin(words: &Words, cpu: &mut PlainCpu)
     requires words { AreWordsOf words.now cpu.old.words.table cpu.old.words.settings }
     requires outside { cpu.old.cpu.depth ≡ 0 }
-    requires room { AreSpent cpu.old.cpu.view → ⊥ }
+    requires room { IsTrue (may_begin cpu.old.cpu.view) }
     ensures entered { HasEnteredOn cpu.old.cpu cpu.new.cpu }
     ensures words { cpu.new.words ≡ cpu.old.words }
 {

@@ -1,20 +1,21 @@
 -- A section that a call of the usual path has entered is still open as it exits.
-use Rattle.std.proofs.Common.{◌≡◌, ◌≢◌, ℕ, Option, Some, None, Result, Ok, Err, IfOk, IfErr, refl, sym, ap, subst, ◌∙◌, arith}
-use Rattle.std.specs.Prelude.{◌↔◌}
+use Rattle.std.proofs.Common.{◌≡◌, ◌≢◌, ℕ, Bool, IsTrue, Option, Some, None, Result, Ok, Err, IfErr, refl, sym, ap, subst, ◌∙◌}
+use Rattle.std.specs.Prelude.{◌↔◌, ◌==◌}
+use Rattle.std.specs.Result.{result_err}
 use mathlib.Core.Logic.{dite}
 use native.Mathlib.Decide.{ℕ_discrete}
 use Rattle.registry_values.specs.declared.entry.Entry.{Entry}
 use Rattle.registry_values.specs.declared.entry.Kind.{Kind}
 use Rattle.registry_values.specs.declared.name.Name.{Name}
 use Rattle.registry_values.specs.declared.refusal.Refusal.{Refusal}
-use Rattle.registry_values.specs.declared.refusal.Refusal.TheVariants.{TooDeep, SectionsSpent}
+use Rattle.registry_values.specs.Answers.{enter_answer}
 use Rattle.registry_values.specs.Refusals.{Answers}
 use Rattle.cpu_words.specs.Searching.{key_with}
 use Rattle.cpu_words.specs.declared.view.CpuView.{CpuView}
 use Rattle.passive_list.specs.Cpus.{OnCpu, OnPlainCpu}
 use Rattle.passive_list.specs.declared.lookup.Seen.{Seen}
 use Rattle.passive_list.specs.Lookups.{HasFound, HasFoundFromOutside}
-use Rattle.passive_list.specs.Sections.{AreSpent, HasEnteredOn}
+use Rattle.passive_list.specs.Sections.{AnswersEnter, may_begin}
 use Rattle.passive_list.specs.Walking.{entry_seen}
 use Rattle.passive_ref.specs.Psrefs.{IsAcquired, OnPsref, why_not_acquired}
 use Rattle.registry_c.specs.declared.values.TheConstants.{DONE}
@@ -33,15 +34,15 @@ begin_of a = a.cpu.view.begin
 some_not : (x : ℕ) (o : Option ℕ) → o ≡ Some x → o ≡ None → ⊥
 some_not x o is none = let clash : ◌≡◌ {A = Option ℕ} (Some x) None = sym is ∙ none in cc
 
-entered_by : (a b : OnPlainCpu) (r : Result (Unit {0}) Refusal) → (begin_of a ≡ None) ↔ (a.cpu.depth ≡ 0) → DONE ≡ number_of r → IfOk r (λ _. HasEnteredOn a.cpu b.cpu) → begin_of b ≢ None
-entered_by a b (Ok tt) kept is ok = dite (ℕ_discrete a.cpu.depth 0)
-    (λ (outermost : a.cpu.depth ≡ 0). some_not _ (begin_of b) (ap (λ (x : CpuView). x.begin) (ok.begun outermost).1))
-    (λ (nested : a.cpu.depth ≢ 0) none. nested (kept.0 (sym (ap (λ (x : CpuView). x.begin) (ok.inner nested)) ∙ none)))
-entered_by a b (Err f) kept is ok = absurd (refused_not f is)
+entered_by : (a b : OnPlainCpu) (r : Result (Unit {0}) Refusal) → (begin_of a ≡ None) ↔ (a.cpu.depth ≡ 0) → DONE ≡ number_of r → AnswersEnter a.cpu b.cpu r → begin_of b ≢ None
+entered_by a b (Ok tt) kept is entered = dite (ℕ_discrete a.cpu.depth 0)
+    (λ (outermost : a.cpu.depth ≡ 0). some_not _ (begin_of b) (ap (λ (x : CpuView). x.begin) (entered.answer.1.begun outermost).1))
+    (λ (nested : a.cpu.depth ≢ 0) none. nested (kept.0 (sym (ap (λ (x : CpuView). x.begin) (entered.answer.1.inner nested)) ∙ none)))
+entered_by a b (Err f) kept is entered = absurd (refused_not f is)
 
 -- an enter that is done
 pub entered_inside : (a b : OnPlainCpu) (n : ℕ) → (begin_of a ≡ None) ↔ (a.cpu.depth ≡ 0) → Enters a b n → n ≡ DONE → begin_of b ≢ None
-entered_inside a b n kept enters is = entered_by a b enters.r kept (sym is ∙ enters.number) enters.ok
+entered_inside a b n kept enters is = entered_by a b enters.r kept (sym is ∙ enters.number) enters.entered
 
 found_by : (kind : ℕ) (m : CName) (a b : OnPlainCpu) (n : ℕ) (old new : Option CEntry) (k : Option Kind) (o : Option ℕ) → kind_in kind ≡ k → begin_of a ≡ o → Finds kind m a b n old new → begin_of b ≡ begin_of a
 found_by kind m a b n old new None o is at finds = ap begin_of (finds.bad is).1
@@ -77,6 +78,10 @@ between a first last b entered n left Same P enters is inside does same exits = 
 
 -- A look-up from outside
 
+-- outside an enter isn't refused where the CPU may begin a section
+unrefused : (depth : ℕ) (may : Bool) → depth ≡ 0 → IsTrue may → result_err (enter_answer depth (depth == 0) may) ≡ None
+unrefused depth may shallow room = rw (shallow, room) refl
+
 -- what is written of a find's answer
 abbrev pub writes : Kind → CName → Option Seen → ℕ → Option CEntry → Option CEntry → Type 0
 writes k m s n old new = WritesFound (entry_seen (key_with k (name_in m)) s) n old new
@@ -98,7 +103,7 @@ told m s kind = record { number = s.number; slot = s.slot; kind = kind; name = m
 
 -- it is an enter, a find and an exit, each done
 pub from_outside : (kind : ℕ) (k : Kind) (m : CName) (name : Name) (a b : OnPlainCpu) (s : Option Seen) (n : ℕ) (old new : Option CEntry)
-    → kind_in kind ≡ Some k → name ≡ name_in m → a.cpu.depth ≡ 0 → (AreSpent a.cpu.view → ⊥) → b.words ≡ a.words
+    → kind_in kind ≡ Some k → name ≡ name_in m → a.cpu.depth ≡ 0 → IsTrue (may_begin a.cpu.view) → b.words ≡ a.words
     → HasFoundFromOutside (key_with k name) a.cpu b.cpu (entry_seen (key_with k name) s) → writes k m s n old new → LooksUp kind (Some m) a b n old new
 from_outside kind k m name a b s n old new is named shallow room words seen written =
     let had = subst (λ (i : Name). HasFoundFromOutside (key_with k i) a.cpu b.cpu (entry_seen (key_with k i) s)) named seen in
@@ -112,11 +117,7 @@ from_outside kind k m name a b s n old new is named shallow room words seen writ
       enters = record {
         r = Ok tt;
         number = refl;
-        ok = had.enters;
-        refused = tt;
-        deep = (λ (q : Ok tt ≡ Err TooDeep). cc, λ deep. absurd (omega (arith, shallow, deep)));
-        spent = (λ (q : Ok tt ≡ Err SectionsSpent). cc, λ both. absurd (room both.1));
-        no_other = tt;
+        entered = record { answer = (unrefused a.cpu.depth (may_begin a.cpu.view) shallow room, had.enters); refused = tt };
         words = refl;
       };
       refused = λ off. absurd (off refl);

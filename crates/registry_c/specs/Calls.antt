@@ -1,15 +1,15 @@
 -- What a call answers and leaves. Each restates the contract of the call beneath it, with the answer as its number, and says what is written.
-use Rattle.std.specs.Prelude.{◌≡◌, ◌≢◌, ◌↔◌, ◌⊎◌, ◌<◌, ℕ, Bool, IsTrue, Option, Some, None, Result, Ok, Err, IfOk, IfErr, IsErrOf}
+use Rattle.std.specs.Prelude.{◌≡◌, ◌≢◌, ◌↔◌, ◌⊎◌, ◌<◌, ℕ, Bool, IsTrue, Option, Some, None, Result, Ok, Err, IfErr}
 use Rattle.registry_values.specs.declared.entry.Entry.{Entry}
 use Rattle.registry_values.specs.declared.entry.Kind.{Kind}
 use Rattle.registry_values.specs.declared.refusal.Refusal.{Refusal}
-use Rattle.registry_values.specs.declared.refusal.Refusal.TheVariants.{Inside, NotFound, TooDeep, SectionsSpent}
+use Rattle.registry_values.specs.declared.refusal.Refusal.TheVariants.{Inside, NotFound}
 use Rattle.registry_values.specs.Refusals.{Answers, number_of_refusal}
 use Rattle.cpu_words.specs.Searching.{key_with}
 use Rattle.cpu_words.specs.Views.{references_to}
 use Rattle.passive_list.specs.Cpus.{OnPlainCpu}
 use Rattle.passive_list.specs.Lookups.{HasFound}
-use Rattle.passive_list.specs.Sections.{AreSpent, HasEnteredOn, HasExitedOn}
+use Rattle.passive_list.specs.Sections.{AnswersEnter, HasExitedOn}
 use Rattle.passive_ref.specs.Psrefs.{HasOneLess, IsAcquired, IsCopied, IsReadAs, OnPsref, why_not_acquired, why_not_copied, why_unusable}
 use Rattle.registry_c.specs.declared.values.TheConstants.{DONE, OUTSIDE, EMPTY_HANDLE, BAD_KIND, NULL}
 use Rattle.registry_c.specs.declared.values.CEntry.{CEntry}
@@ -53,11 +53,7 @@ Puts out (Err refusal) old new = new ≡ old
 pub record Enters (a b : OnPlainCpu) (n : ℕ) : Type 0 where
   pub r : Result (Unit {0}) Refusal
   pub number : n ≡ number_of r
-  pub ok : IfOk r (λ _. HasEnteredOn a.cpu b.cpu)
-  pub refused : IfErr r (λ _. b ≡ a)
-  pub deep : IsErrOf r TooDeep ↔ a.cpu.depth ≡ 255
-  pub spent : IsErrOf r SectionsSpent ↔ (a.cpu.depth ≡ 0) × AreSpent a.cpu.view
-  pub no_other : IfErr r (λ f. (f ≡ TooDeep) ⊎ (f ≡ SectionsSpent))
+  pub entered : AnswersEnter a.cpu b.cpu r
   pub words : b.words ≡ a.words
 
 pub record Exits (a b : OnPlainCpu) (n : ℕ) : Type 0 where

@@ -1,15 +1,15 @@
 -- What the calls of local references answer and leave.
-use Rattle.std.specs.Prelude.{◌≡◌, ◌⊎◌, ◌↔◌, ℕ, false, Option, Some, None, Result, Ok, Err, IfOk, IfErr, IsErrOf}
+use Rattle.std.specs.Prelude.{◌≡◌, ◌⊎◌, ℕ, false, Option, Some, None, Result, Ok, Err, IfErr}
 use Rattle.registry_values.specs.declared.entry.Entry.{Entry}
 use Rattle.registry_values.specs.declared.entry.Kind.TheVariants.{Iface}
 use Rattle.registry_values.specs.declared.name.Name.{Name}
 use Rattle.registry_values.specs.declared.refusal.Refusal.{Refusal}
-use Rattle.registry_values.specs.declared.refusal.Refusal.TheVariants.{LocalFull, NoMemory, NothingFound}
+use Rattle.registry_values.specs.declared.refusal.Refusal.TheVariants.{NoMemory}
 use Rattle.registry_values.specs.Refusals.{number_of_refusal}
 use Rattle.cpu_words.specs.declared.view.ReferenceView.{ReferenceView}
 use Rattle.passive_list.specs.Cpus.{OnPlainCpu}
 use Rattle.passive_list.specs.Draining.{HasGivenUp}
-use Rattle.local_count.specs.References.{HasAcquired, HasComeBack, HasReleased, IsFull}
+use Rattle.local_count.specs.References.{HasAcquired, HasComeBack, HasReleased, why_not_acquired_local}
 use Rattle.registry_c.specs.declared.values.TheConstants.{DONE, EMPTY_HANDLE, FULL_HANDLE, BAD_NAME, COLLECTED, NOT_COLLECTED, NULL}
 use Rattle.registry_c.specs.declared.values.CEntry.{CEntry}
 use Rattle.registry_c.specs.declared.values.CName.{CName}
@@ -27,16 +27,22 @@ some_of (Err refusal) = None
 
 -- Acquiring
 
+-- the answer of a call that takes memory: refused where there is a refusal, and where there is none perhaps for want of memory
+abbrev pub AnswersOrNoMemory : {X : Type 0} → Option Refusal → (X → Type 0) → Result X Refusal → Type 0
+AnswersOrNoMemory refusal P (Ok x) = (refusal ≡ None) × P x
+AnswersOrNoMemory refusal P (Err f) = (refusal ≡ Some f) ⊎ ((refusal ≡ None) × (f ≡ NoMemory))
+
+-- what an acquire answers, whose reference is `of` what it gives; a refused one changes nothing
+pub record AnswersLocalAcquire {X : Type 0} (a b : OnPlainCpu) (r : Result X Refusal) (of : X → OnLocalBody) : Type 0 where
+  pub answer : AnswersOrNoMemory (why_not_acquired_local a.cpu.view a.cpu.view.found) (λ x. HasAcquired a.cpu b.cpu (of x).reference × ((of x).table ≡ a.words.table)) r
+  pub refused : IfErr r (λ _. b ≡ a)
+  pub words : b.words ≡ a.words
+
 -- the answer r of an acquire; the handle has what it gives
 pub record LocalAcquires (a b : OnPlainCpu) (n : ℕ) (l : Option OnLocalBody) : Type 0 where
   pub r : Result OnLocalBody Refusal
   pub is : n ≡ number_of r
-  pub ok : IfOk r (λ v. HasAcquired a.cpu b.cpu v.reference × (v.table ≡ a.words.table))
-  pub refused : IfErr r (λ _. b ≡ a)
-  pub nothing : IsErrOf r NothingFound ↔ a.cpu.view.found ≡ None
-  pub full : IsErrOf r LocalFull ↔ (e : Entry) × (a.cpu.view.found ≡ Some e) × IsFull a.cpu.view e
-  pub no_other : IfErr r (λ f. (f ≡ NothingFound) ⊎ ((f ≡ LocalFull) ⊎ (f ≡ NoMemory)))
-  pub words : b.words ≡ a.words
+  pub acquired : AnswersLocalAcquire a b r (λ v. v)
   pub handle : l ≡ some_of r
 
 -- The CPU's handle isn't empty, and the other is.

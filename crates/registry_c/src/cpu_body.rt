@@ -1,6 +1,6 @@
 //! What stands behind a CPU's handle.
 
-ghost use Rattle.std.specs.Prelude.{◌≡◌, ◌≢◌, ◌↔◌, ◌⊎◌, ◌<◌, ◌≤◌, ◌++◌, IsTrue, None, IfOk, IfErr, IfSome, IsErrOf, take};
+ghost use Rattle.std.specs.Prelude.{◌≡◌, ◌≢◌, ◌↔◌, ◌<◌, ◌≤◌, ◌++◌, IsTrue, None, IfOk, IfErr, IfSome, take};
 ghost use Rattle.registry_values.specs.Refusals.{Answers};
 ghost use Rattle.cpu_words.specs.Domains.{AreWordsOf};
 ghost use Rattle.cpu_words.specs.Searching.{key_with};
@@ -10,7 +10,7 @@ ghost use Rattle.passive_list.specs.Lookups.{HasFound, HasFoundFromOutside};
 ghost use Rattle.passive_list.specs.Notes.{HasHeardOn, WasShown, has_heard, has_told};
 ghost use Rattle.passive_list.specs.Walking.{entry_seen};
 ghost use Rattle.passive_list.specs.Walks.{HasWalked};
-ghost use Rattle.passive_list.specs.Sections.{AreSpent, HasEnteredOn, HasExitedOn};
+ghost use Rattle.passive_list.specs.Sections.{AnswersEnter, HasExitedOn, may_begin};
 ghost use Rattle.name_registry.specs.Meeting.{is_inside};
 ghost use Rattle.passive_ref.specs.Psrefs.{GivesBack, HasOneLess, IsAcquired, IsCopied, IsReadAs, why_not_acquired, why_not_copied, why_unusable};
 
@@ -139,11 +139,7 @@ impl CpuBody {
     /// Enters a section, or the open one once more.
     /// Refused: `TooDeep`, `SectionsSpent`.
     pub fn enter(&mut self) -> Result<(), Refusal>
-        ensures ok { IfOk result (λ _. HasEnteredOn self.old.cpu self.new.cpu) }
-        ensures refused { IfErr result (λ _. self.new ≡ self.old) }
-        ensures deep { IsErrOf result Refusal.TooDeep ↔ self.old.cpu.depth ≡ 255 }
-        ensures spent { IsErrOf result Refusal.SectionsSpent ↔ (self.old.cpu.depth ≡ 0) × AreSpent self.old.cpu.view }
-        ensures no_other { IfErr result (λ refusal. (refusal ≡ Refusal.TooDeep) ⊎ (refusal ≡ Refusal.SectionsSpent)) }
+        ensures entered { AnswersEnter self.old.cpu self.new.cpu result }
         ensures words { self.new.words ≡ self.old.words }
     {
         enter_on(&self.words, &mut self.cpu)
@@ -169,7 +165,7 @@ impl CpuBody {
 
     /// Whether an enter would begin a section: the CPU is outside, and has one left.
     pub fn may_begin(&self) -> bool
-        ensures { IsTrue result ↔ (self.now.cpu.depth ≡ 0) × (AreSpent self.now.cpu.view → ⊥) }
+        ensures { IsTrue result ↔ (self.now.cpu.depth ≡ 0) × IsTrue (may_begin self.now.cpu.view) }
     {
         may_begin_on(&self.words, &self.cpu)
     }
@@ -178,7 +174,7 @@ impl CpuBody {
     #[inline(always)]
     pub fn find_from_outside(&mut self, kind: Kind, name: Name) -> Option<Seen>
         requires outside { self.old.cpu.depth ≡ 0 }
-        requires room { AreSpent self.old.cpu.view → ⊥ }
+        requires room { IsTrue (may_begin self.old.cpu.view) }
         ensures found { HasFoundFromOutside (key_with kind name) self.old.cpu self.new.cpu (entry_seen (key_with kind name) result) }
         ensures slot { IfSome result (λ seen. seen.slot < MOST_SLOTS) }
         ensures words { self.new.words ≡ self.old.words }

@@ -1,20 +1,16 @@
 //! What stands behind the handle of a local reference.
 
-ghost use Rattle.std.specs.Prelude.{◌≡◌, ◌↔◌, ◌⊎◌, ◌<◌, IfOk, IfErr, IsErrOf, is_some, Some, None};
-ghost use Rattle.registry_values.specs.declared.entry.Entry.{Entry};
-ghost use Rattle.cpu_words.specs.Domains.{AreWordsOf};
-ghost use Rattle.local_count.specs.References.{HasAcquired, IsFull};
+ghost use Rattle.std.specs.Prelude.{◌≡◌, ◌<◌, is_some};
 ghost use Rattle.registry_c.specs.Bodies.{back_word};
-ghost use Rattle.registry_c.specs.LocalCalls.{LocalReleases};
+ghost use Rattle.registry_c.specs.LocalCalls.{AnswersLocalAcquire, LocalReleases};
 ghost use Rattle.registry_c.specs.Values.{entry_out};
 
 use crate::cpu_body::CpuBody;
 use crate::values::{CEntry, CName, COLLECTED, DONE};
 use cpu_words::steps::load_local;
 use cpu_words::{ReferenceSeat, Words};
-use local_count::{PlainRef, acquire_local_on, net_count, try_release_on};
-use passive_list::PlainCpu;
-use registry_values::{BIAS, Kind, MOST_SLOTS, Refusal, kind_word, why_uncounted};
+use local_count::{PlainRef, acquire_local_on, try_release_on, why_not_acquired_local};
+use registry_values::{Kind, MOST_SLOTS, Refusal, kind_word};
 use std::alloc::Global;
 use std::marker::Model;
 use std::mem::ManuallyDrop;
@@ -132,16 +128,13 @@ pub fn acquire_local(
     alloc: Global,
     cpu: &mut CpuBody,
 ) -> Result<(LocalBody, Vacant<LocalBody, Global>), Refusal>
-    ensures ok { IfOk result (λ made. HasAcquired cpu.old.cpu cpu.new.cpu made.0.reference) }
-    ensures table { IfOk result (λ made. made.0.table ≡ cpu.old.words.table) }
-    ensures refused { IfErr result (λ _. cpu.new ≡ cpu.old) }
-    ensures nothing { IsErrOf result Refusal.NothingFound ↔ cpu.old.cpu.view.found ≡ None }
-    ensures full { IsErrOf result Refusal.LocalFull ↔ (e : Entry) × (cpu.old.cpu.view.found ≡ Some e) × IsFull cpu.old.cpu.view e }
-    ensures no_other { IfErr result (λ refusal. (refusal ≡ Refusal.NothingFound) ⊎ ((refusal ≡ Refusal.LocalFull) ⊎ (refusal ≡ Refusal.NoMemory))) }
-    ensures words { cpu.new.words ≡ cpu.old.words }
+    ensures { AnswersLocalAcquire cpu.old cpu.new result (λ made. made.0) }
 {
     let Ok(room) = cpu.take_room(alloc) else {
-        return Err(why_no_local(&cpu.words, &cpu.cpu));
+        return Err(match why_not_acquired_local(&cpu.words, &cpu.cpu) {
+            Some(refusal) => refusal,
+            None => Refusal::NoMemory,
+        });
     };
     match acquire_local_on(&cpu.words, &mut cpu.cpu) {
         Ok(mut reference) => {
@@ -172,24 +165,6 @@ fn read_entry(words: &Words, reference: &mut PlainRef) -> CEntry
         name: CName { high, low },
         value,
     }
-}
-
-/// Why a CPU acquires no local reference where there is no memory for one: as `acquire_local_on` would refuse it, or for the memory.
-fn why_no_local(words: &Words, cpu: &PlainCpu) -> Refusal
-    requires words { AreWordsOf words.now cpu.now.words.table cpu.now.words.settings }
-    ensures nothing { (result ≡ Refusal.NothingFound) ↔ (cpu.now.cpu.view.found ≡ None) }
-    ensures full { (result ≡ Refusal.LocalFull) ↔ (e : Entry) × (cpu.now.cpu.view.found ≡ Some e) × IsFull cpu.now.cpu.view e }
-    ensures no_other { (result ≡ Refusal.NothingFound) ⊎ ((result ≡ Refusal.LocalFull) ⊎ (result ≡ Refusal.NoMemory)) }
-{
-    let found = cpu.found;
-    if found.number == 0 {
-        return Refusal::NothingFound;
-    }
-    let count = net_count(cpu.net[found.slot as usize], found.number);
-    if let Some(refusal) = why_uncounted(count, BIAS + words.settings().count_limit) {
-        return refusal;
-    }
-    Refusal::NoMemory
 }
 
 /// Releases the reference on this CPU. It comes back where the keeper had collected the CPU's count; its entry is read again then, so that a

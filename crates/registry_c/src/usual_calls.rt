@@ -2,8 +2,8 @@
 //! from outside is one call of the CPU's, which does the same.
 //! It writes to C's place last: stores before the addition that ends the section would have to be done before it is.
 
-ghost use Rattle.std.specs.Prelude.{◌≡◌, ◌≢◌, ℕ, Option, Some, None};
-ghost use Rattle.passive_list.specs.Sections.{AreSpent};
+ghost use Rattle.std.specs.Prelude.{◌≡◌, ◌≢◌, ℕ, IsTrue, Option, Some, None};
+ghost use Rattle.passive_list.specs.Sections.{may_begin};
 ghost use Rattle.registry_c.specs.declared.values.CEntry.{CEntry};
 ghost use Rattle.registry_c.specs.declared.values.TheConstants.{DONE};
 ghost use Rattle.registry_c.specs.Calls.{Enters, TellsFound};
@@ -21,7 +21,7 @@ use registry_values::{Entry, Kind, Refusal, kind_word};
 #[inline(always)]
 pub fn look_from_outside(cpu: &mut CpuBody, kind: Kind, name: CName, found: &mut EntryPlace) -> u32
     requires outside { cpu.old.cpu.depth ≡ 0 }
-    requires room { AreSpent cpu.old.cpu.view → ⊥ }
+    requires room { IsTrue (may_begin cpu.old.cpu.view) }
     ensures place { found.new.at ≡ found.old.at }
     ensures call { (word : ℕ) → kind_in word ≡ Some kind → LooksUp word (Some name) cpu.old cpu.new result found.old.value found.new.value }
 {
@@ -35,7 +35,7 @@ pub fn look_from_outside(cpu: &mut CpuBody, kind: Kind, name: CName, found: &mut
 #[inline(always)]
 fn look_for(cpu: &mut CpuBody, kind: Kind, name: CName, found: &mut EntryPlace) -> u32
     requires outside { cpu.old.cpu.depth ≡ 0 }
-    requires room { AreSpent cpu.old.cpu.view → ⊥ }
+    requires room { IsTrue (may_begin cpu.old.cpu.view) }
     ensures place { found.new.at ≡ found.old.at }
     ensures call { (word : ℕ) → kind_in word ≡ Some kind → LooksUp word (Some name) cpu.old cpu.new result found.old.value found.new.value }
 {

@@ -14,7 +14,7 @@ use Rattle.registry_values.specs.declared.refusal.Refusal.{Refusal}
 use Rattle.cpu_words.specs.declared.view.CpuView.{CpuView}
 use Rattle.cpu_words.specs.declared.view.ReferenceView.{ReferenceView}
 use Rattle.passive_list.specs.Cpus.{OnCpu}
-use Rattle.passive_list.specs.Sections.{HasEnteredOn}
+use Rattle.passive_list.specs.Sections.{AnswersEnter, HasEnteredOn}
 use Rattle.passive_ref.specs.Psrefs.{GivesBack, HasOneLess, OnPsref, why_unusable}
 use Rattle.name_registry.specs.Auditing.{AreAllCpus}
 use Rattle.name_registry.specs.Locking.{IsAttachRefusal, IsDetachRefusedTo}
@@ -71,9 +71,9 @@ once_entered a b left = ⊎_elim
     (λ (inner : a.depth ≢ 0). let is = left.inner inner in record { id = ap (λ (x : CpuView). x.id) is; references = ap (λ (x : CpuView). x.references) is })
     (cases_eq a.depth 0)
 
-pub entered_stays : (a b : OnCpu) (answer : Result (Unit {0}) Refusal) → IfOk answer (λ done. HasEnteredOn a b) → IfErr answer (λ f. b ≡ a) → StaysOn a b
-entered_stays a b (Ok done) ok refused = once_entered a b ok
-entered_stays a b (Err f) ok refused = same_stays a b refused
+pub entered_stays : (a b : OnCpu) (answer : Result (Unit {0}) Refusal) → AnswersEnter a b answer → StaysOn a b
+entered_stays a b (Ok done) entered = once_entered a b entered.answer.1
+entered_stays a b (Err f) entered = same_stays a b entered.refused
 
 pub uncounted_stays : (a b : OnCpu) (v : ReferenceView) → IsLetGo a v b → StaysOn a b
 uncounted_stays a b v (inl is) = record { id = ap (λ (x : OnCpu). x.view.id) is; references = ap (λ (x : OnCpu). x.view.references) is }

@@ -1,10 +1,10 @@
 //! The calls of a session over a running registry, each on one CPU and at the place of one label.
 
-ghost use Rattle.std.specs.Prelude.{◌≡◌, ◌≢◌, ◌↔◌, ◌⊎◌, ◌<◌, IfErr, IfOk, IsErrOf, IsTrue, None, Some, false, is_some, true};
+ghost use Rattle.std.specs.Prelude.{◌≡◌, ◌≢◌, ◌↔◌, ◌<◌, IfErr, IfOk, IsTrue, None, Some, false, is_some, true};
 ghost use Rattle.cpu_words.specs.Domains.{AreWordsOf};
 ghost use Rattle.cpu_words.specs.Searching.{key_with};
 ghost use Rattle.cpu_words.specs.Views.{references_to};
-ghost use Rattle.local_count.specs.References.{HasAcquired};
+ghost use Rattle.local_count.specs.References.{HasAcquired, why_not_acquired_local};
 ghost use Rattle.name_registry.specs.Meeting.{HasLearned, HasSeenAttach};
 ghost use Rattle.name_registry.specs.Releasing.{IsLetGo};
 ghost use Rattle.registry_values.specs.Names.{is_lawful};
@@ -21,7 +21,7 @@ use name_registry::Registry;
 use passive_list::{Cpu, exit, find};
 use passive_ref::{Psref, acquire, copy, held, read, release};
 use registry_report::{Hitch, Reading};
-use registry_values::{Entry, Kind, Name, Record, Refusal};
+use registry_values::{Entry, Kind, Name, Record};
 use std::sync::Wait;
 
 /// The CPU exits its section; whether the section stays open. Outside no call is made.
@@ -177,10 +177,8 @@ pub fn count_one<D: Domain>(
     place: &mut Option<LocalRef<D>>,
 ) -> Result<u64, Hitch>
     requires words { AreWordsOf words.now D.table D.settings }
-    ensures ok { IfOk result (λ n. Has place.new (λ v. (v.entry.number ≡ n) × HasAcquired cpu.old cpu.new v)) }
-    ensures taken { IsErrOf result Hitch.LabelTaken ↔ IsTrue (is_some place.old) }
-    ensures refused { IfErr result (λ h. (place.new ≡ place.old) × (cpu.new ≡ cpu.old)) }
-    ensures no_other { IfErr result (λ h. (h ≡ Hitch.LabelTaken) ⊎ ((h ≡ Hitch.Refused Refusal.NothingFound) ⊎ (h ≡ Hitch.Refused Refusal.LocalFull))) }
+    ensures answer { Decides (unless_taken (is_some place.old) (why_not_acquired_local cpu.old.view cpu.old.view.found)) (λ n. Has place.new (λ v. (v.entry.number ≡ n) × HasAcquired cpu.old cpu.new v)) result }
+    ensures refused { IfErr result (λ _. (place.new ≡ place.old) × (cpu.new ≡ cpu.old)) }
     ensures id { cpu.new.view.id ≡ cpu.old.view.id }
     ensures references { cpu.new.view.references ≡ cpu.old.view.references }
 {

@@ -1,12 +1,13 @@
--- What the answer of an attach says of its parts, where it is an entry.
-use Rattle.std.proofs.Common.{◌≡◌, ℕ, Bool, true, false, Option, Some, None, Result, Ok, Err, if◌then◌else◌, refl, sym, ap, ◌∙◌}
+-- What an answer says of its parts, and where two counts are refused alike.
+use Rattle.std.proofs.Common.{◌≡◌, ⊎_elim, ℕ, ◌<◌, ◌≤◌, nat_lt, Bool, true, false, Option, Some, None, Result, Ok, Err, if◌then◌else◌, refl, sym, ap, ◌∙◌}
 use Rattle.std.specs.Prelude.{IsErr, IsErrAnd}
+use Rattle.std.proofs.lemmas.Bool.{cases_lt, le-ltb, lt-ltb}
 use Rattle.registry_values.specs.declared.answer.Room.{Room}
 use Rattle.registry_values.specs.declared.entry.Entry.{Entry}
 use Rattle.registry_values.specs.declared.entry.Record.{Record}
 use Rattle.registry_values.specs.declared.refusal.Refusal.{Refusal}
-use Rattle.registry_values.specs.declared.refusal.Refusal.TheVariants.{NameTaken, NoSlot, HistoryFull, Inside, NeedsDriver}
-use Rattle.registry_values.specs.Answers.{has_room, next_entry, entry_in, given_entry, attach_answer}
+use Rattle.registry_values.specs.declared.refusal.Refusal.TheVariants.{NameTaken, NoSlot, HistoryFull, Inside, LocalFull, NeedsDriver}
+use Rattle.registry_values.specs.Answers.{has_room, next_entry, entry_in, given_entry, attach_answer, why_uncounted}
 
 -- what is so where an entry is given
 pub record IsGiven (taken : Bool) (fit : Option ℕ) (room : Room) (rec : Record) (e : Entry) : Type 0 where
@@ -40,3 +41,14 @@ attach_tells false false given e is = (refl, refl, is)
 pub handed_on : {X : Type 0} (result : Result X Refusal) (f : Refusal) → IsErr result → IsErrAnd result (λ r. r ≡ f) → result ≡ Err f
 handed_on (Ok x) f is and = absurd (let q : ◌≡◌ {A = Bool} false true = is in cc)
 handed_on (Err r) f is and = ap (λ (g : Refusal). Err g) and
+
+-- two tests of which each passes where the other does
+pub same_test : (a b c d : ℕ) → (a < b → c < d) → (b ≤ a → d ≤ c) → nat_lt a b ≡ nat_lt c d
+same_test a b c d less more = ⊎_elim
+    (λ (lt : a < b). lt-ltb a b lt ∙ sym (lt-ltb c d (less lt)))
+    (λ (ge : b ≤ a). le-ltb a b ge ∙ sym (le-ltb c d (more ge)))
+    (cases_lt a b)
+
+-- so two counts are refused alike
+pub uncounted_alike : (a b c d : ℕ) → (a < b → c < d) → (b ≤ a → d ≤ c) → why_uncounted a b ≡ why_uncounted c d
+uncounted_alike a b c d less more = ap (λ (t : Bool). if t then None else Some LocalFull) (same_test a b c d less more)

@@ -18,6 +18,7 @@ use Rattle.passive_core.specs.Locals.{IsCounted, after_acquire_local, after_coun
 use Rattle.protocol.specs.Model.{put, with_locals}
 use Rattle.protocol.proofs.slots.Cells.{by_cell, cell_here, cell_other, one_in}
 use Rattle.protocol.proofs.keeps.CountKeeps.{held_counting}
+use Rattle.registry_values.proofs.Answers.{uncounted_alike}
 use Rattle.registry_values.proofs.Fit.{ranges}
 use Rattle.protocol.proofs.history.History.{at_within}
 use Rattle.passive_core.proofs.Locals.{live_slot, slot_is}
@@ -35,13 +36,6 @@ use Rattle.registry_report.specs.Shows.{Shows, ShowsTallies, number_at}
 use Rattle.registry_report.specs.Turns.{with_one_counted, put_at, with_one_uncounted}
 
 -- In general
-
--- two tests of which each passes where the other does
-same_test : (a b c d : ℕ) → (a < b → c < d) → (b ≤ a → d ≤ c) → nat_lt a b ≡ nat_lt c d
-same_test a b c d less more = ⊎_elim
-    (λ (lt : a < b). lt-ltb a b lt ∙ sym (lt-ltb c d (less lt)))
-    (λ (ge : b ≤ a). le-ltb a b ge ∙ sym (le-ltb c d (more ge)))
-    (cases_lt a b)
 
 -- a function of two numbers with one value put
 pub put_at_here : {X : Type 0} (f : ℕ → ℕ → X) (c n : ℕ) (x : X) → put_at f c n x c n ≡ x
@@ -169,8 +163,8 @@ uncounted_is s r c n t holds on low of =
     let net = net_is s.core c n t r.acquired r.released r.given_up r.is_collected low (has_words s.core c n t holds low of) on.tallies in
     let limit : r.settings.count_limit ≡ s.core.settings.count_limit = ap (λ (z : _). z.count_limit) on.settings in
     ap (λ (o : Option ℕ). answers.why_uncounted (count_in s.core.nets c o) (bias + s.core.settings.count_limit)) of
-    ∙ ap (λ (b : Bool). if b then None else Some LocalFull) (same_test (count_at s.core.nets c t) (bias + s.core.settings.count_limit) (r.acquired c n) (r.released c n + r.settings.count_limit)
-    (λ lt. omega (arith, net, limit, lt)) (λ ge. omega (arith, net, limit, ge)))
+    ∙ uncounted_alike (count_at s.core.nets c t) (bias + s.core.settings.count_limit) (r.acquired c n) (r.released c n + r.settings.count_limit)
+    (λ lt. omega (arith, net, limit, lt)) (λ ge. omega (arith, net, limit, ge))
 
 counted_by : (s : SessionState) (r : Registry) (c : ℕ) (o : Option Entry) → Holds s.core → Shows s r → c < s.core.settings.cpus → found_at s.core c ≡ o
     → count_of_found r c o ≡ unless (count_refusal s.core c o) (found_number o)

@@ -1,9 +1,9 @@
 -- The section is this CPU's from its enter to its exit, and the data agree with the view again.
-use Rattle.std.proofs.Common.{◌≡◌, Some, ap, ◌∙◌, sym, subst}
+use Rattle.std.proofs.Common.{◌≡◌, IsTrue, Some, ap, ◌∙◌, sym, subst}
 use Rattle.cpu_words.specs.Searching.{key_with}
 use Rattle.cpu_words.proofs.shown.KeepersShown.{step_is_shown}
 use Rattle.passive_list.specs.Cpus.{OnPlainCpu}
-use Rattle.passive_list.specs.Sections.{AreSpent}
+use Rattle.passive_list.specs.Sections.{may_begin}
 use Rattle.passive_list.proofs.FromOutside.{may_seek, may_exit, from_outside_agrees, found_from_outside}
 use Rattle.passive_list.proofs.Walking.{slot_seen}
 use Rattle.passive_list.proofs.from_outside.find_from_outside.Goals as goal
@@ -14,7 +14,7 @@ exit_counted-requires-clause-may c = may_exit (key_with c.args.kind c.args.name)
 pub invariant_of-cpu : goal.invariant_of-cpu
 invariant_of-cpu c =
     let shallow : c.cpu.inside.depth ≡ 0 = ap (λ (o : OnPlainCpu). o.cpu.depth) c.cpu.view_is ∙ c.requires.outside in
-    let unended = subst (λ (o : OnPlainCpu). AreSpent o.cpu.view → ⊥) (sym c.cpu.view_is) c.requires.room in
+    let unended = subst (λ (o : OnPlainCpu). IsTrue (may_begin o.cpu.view)) (sym c.cpu.view_is) c.requires.room in
     from_outside_agrees _ _ _ _ _ _ _ _ _ _ _ _ _ _ _ _ (key_with c.args.kind c.args.name) c.cpu.invariant (c.exit_counted.ensures.step.table ∙ c.in_default.ensures.table ∙ c.enter.ensures.step.table) shallow unended c.enter.ensures.step.event c.enter.ensures.change c.in_default.ensures.is_shown c.in_default.ensures.change (step_is_shown c.exit_counted.ensures.step.event) c.exit_counted.ensures.change c.exit_counted.ensures.count
 
 pub returns-in_default-clause-found : goal.returns-in_default-clause-found
@@ -28,7 +28,7 @@ exit_counted-requires-2-clause-may c = may_exit (key_with c.args.kind c.args.nam
 pub invariant_of-cpu-2 : goal.invariant_of-cpu-2
 invariant_of-cpu-2 c =
     let shallow : c.cpu.inside.depth ≡ 0 = ap (λ (o : OnPlainCpu). o.cpu.depth) c.cpu.view_is ∙ c.requires.outside in
-    let unended = subst (λ (o : OnPlainCpu). AreSpent o.cpu.view → ⊥) (sym c.cpu.view_is) c.requires.room in
+    let unended = subst (λ (o : OnPlainCpu). IsTrue (may_begin o.cpu.view)) (sym c.cpu.view_is) c.requires.room in
     from_outside_agrees _ _ _ _ _ _ _ _ _ _ _ _ _ _ _ _ (key_with c.args.kind c.args.name) c.cpu.invariant (c.exit_counted-2.ensures.step.table ∙ c.in-Some.ensures.table ∙ c.enter.ensures.step.table) shallow unended c.enter.ensures.step.event c.enter.ensures.change c.in-Some.ensures.is_shown c.in-Some.ensures.change (step_is_shown c.exit_counted-2.ensures.step.event) c.exit_counted-2.ensures.change c.exit_counted-2.ensures.count
 
 pub returns-clause-found : goal.returns-clause-found

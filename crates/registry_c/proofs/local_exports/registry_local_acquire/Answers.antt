@@ -1,7 +1,7 @@
 use Rattle.std.proofs.Common.{Ok, Err, refl, subst, ◌∙◌}
 use Rattle.passive_list.specs.Cpus.{OnPlainCpu}
 use Rattle.registry_c.specs.LocalCalls.{LocalAcquires}
-use Rattle.registry_c.proofs.Acquired.{no_body, not_refused, one_body, refused_too}
+use Rattle.registry_c.proofs.Acquired.{no_body, one_body}
 use Rattle.registry_c.proofs.local_exports.registry_local_acquire.Goals as goal
 
 pub returns-in-Ok : goal.returns-in-Ok
@@ -18,12 +18,7 @@ returns-in-Ok c =
         subst (λ (x : OnPlainCpu). LocalAcquires x b 0 c.give.new.self.body) (one_body _ _ _ was is) (record {
           r = Ok c.in-Ok.reference;
           is = refl;
-          ok = (e.ok, e.table);
-          refused = tt;
-          nothing = (λ q. absurd (not_refused _ _ q), λ found. absurd (not_refused _ _ (e.nothing.1 found)));
-          full = (λ q. absurd (not_refused _ _ q), λ full. absurd (not_refused _ _ (e.full.1 full)));
-          no_other = tt;
-          words = e.words;
+          acquired = record { answer = e.answer; refused = tt; words = e.words };
           handle = c.give.ensures;
         }),
       );
@@ -43,12 +38,7 @@ returns-in-Err c =
         subst (λ (x : OnPlainCpu). LocalAcquires x b c.refused.result c.is_empty.new.self.body) (one_body _ _ _ was is) (record {
           r = Err c.in-Err.refusal;
           is = c.refused.ensures;
-          ok = tt;
-          refused = e.refused;
-          nothing = (λ q. e.nothing.0 (refused_too _ _ q), λ found. refused_too _ _ (e.nothing.1 found));
-          full = (λ q. e.full.0 (refused_too _ _ q), λ full. refused_too _ _ (e.full.1 full));
-          no_other = e.no_other;
-          words = e.words;
+          acquired = record { answer = e.answer; refused = e.refused; words = e.words };
           handle = (c.is_empty.ensures.same ∙ c.is_empty.ensures.empty c.if-not-is_empty.false);
         }),
       );

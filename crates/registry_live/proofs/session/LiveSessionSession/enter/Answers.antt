@@ -5,10 +5,10 @@ use Rattle.registry_live.proofs.session.LiveSessionSession.enter.Goals as goal
 
 pub invariant_of-self : goal.invariant_of-self
 invariant_of-self g c =
-    let stays = entered_stays (get_or c.args.self.now.cpus.now c.args.cpu c.index-cpus-cpu.result) c.enter.new.cpu c.enter.result c.enter.ensures.ok c.enter.ensures.refused in
+    let stays = entered_stays (get_or c.args.self.now.cpus.now c.args.cpu c.index-cpus-cpu.result) c.enter.new.cpu c.enter.result c.enter.ensures in
     record { all = all_with _ c.args.self.now.cpus.now c.args.cpu c.index-cpus-cpu.result c.enter.new.cpu c.args.self.now.all c.requires c.index-cpus-cpu.is stays.id }
 
 pub returns-clause-kept : goal.returns-clause-kept
 returns-clause-kept g c =
-    let stays = entered_stays (get_or c.args.self.now.cpus.now c.args.cpu c.index-cpus-cpu.result) c.enter.new.cpu c.enter.result c.enter.ensures.ok c.enter.ensures.refused in
+    let stays = entered_stays (get_or c.args.self.now.cpus.now c.args.cpu c.index-cpus-cpu.result) c.enter.new.cpu c.enter.result c.enter.ensures in
     lent _ _ _ _ refl (goes_on c.args.self.now.cpus.now c.args.self.now.passives c.args.cpu c.index-cpus-cpu.result c.enter.new.cpu stays.references)

@@ -1,0 +1,25 @@
+-- The count of the place decides, where something was found.
+use Rattle.std.proofs.Common.{◌≡◌, ◌+◌, ap, ◌∙◌, subst, sym, None}
+use Rattle.registry_values.specs.declared.settings.Settings.{Settings}
+use Rattle.registry_values.specs.Answers.{why_uncounted}
+use Rattle.registry_values.specs.Balances.{bias}
+use Rattle.passive_list.specs.Cpus.{OnPlainCpu}
+use Rattle.passive_list.proofs.Agreeing.{found_as, found_none}
+use Rattle.local_count.specs.References.{why_not_acquired_local}
+use Rattle.local_count.proofs.Acquiring.{nothing_found, why_by_place}
+use Rattle.local_count.proofs.acquire.why_not_acquired_local.Goals as goal
+
+pub returns-then-found-eq0 : goal.returns-then-found-eq0
+returns-then-found-eq0 c =
+    nothing_found c.args.cpu.now.cpu.view (subst (λ (o : OnPlainCpu). o.cpu.view.found ≡ None) c.cpu.view_is (found_none _ _ c.cpu.invariant.is_shown c.cpu.invariant.found c.if-found-eq0.true))
+
+pub bounds-cpu-inside-found : goal.bounds-cpu-inside-found
+bounds-cpu-inside-found c = (found_as _ _ c.cpu.invariant.is_shown c.cpu.invariant.found c.if-found-eq0.false).few
+
+pub returns : goal.returns
+returns c =
+    let limit : c.settings.result.count_limit ≡ c.cpu.inside.seat.view.settings.count_limit = ap (λ (z : Settings). z.count_limit) (c.settings.ensures ∙ c.requires.words.1 ∙ ap (λ (o : OnPlainCpu). o.words.settings) (sym c.cpu.view_is)) in
+    let kept = found_as _ _ c.cpu.invariant.is_shown c.cpu.invariant.found c.if-found-eq0.false in
+    c.why_uncounted.ensures.value
+    ∙ subst (λ (o : OnPlainCpu). why_uncounted c.net_count-count.result (bias + c.settings.result.count_limit) ≡ why_not_acquired_local o.cpu.view o.cpu.view.found) c.cpu.view_is
+    (why_by_place _ _ _ _ _ _ _ _ _ _ _ _ kept c.cpu.invariant c.net_count-count.ensures limit)
