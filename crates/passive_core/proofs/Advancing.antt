@@ -151,12 +151,6 @@ drainable_from s t passed clear = and_from (have_passed s.settings.cpus (get_or 
 
 -- Marks that grow
 
-pub passing_grows : (a b : List (List Mark)) (t : ℕ) → MarksPass a b t → MarksGrow a b t
-passing_grows a b t x = record {
-  elsewhere = x.elsewhere;
-  here = λ c. record { snapshot = (x.here c).snapshot; passed = (x.here c).passed; clear = λ p. (x.here c).clear ∙ p; collected = λ p. (x.here c).collected ∙ p };
-}
-
 clears_none : (m : Mark) → Clears m m
 clears_none m = record { snapshot = refl; passed = λ p. p; clear = λ p. p; collected = refl }
 
@@ -172,18 +166,6 @@ marks_clear_more a b d t x y = record {
     clear = λ p. (y.here c).clear ((x.here c).clear p);
     collected = (y.here c).collected ∙ (x.here c).collected;
   };
-}
-
-pub passing_clears : (a b : List (List Mark)) (t : ℕ) → MarksPass a b t → MarksClear a b t
-passing_clears a b t x = record {
-  elsewhere = x.elsewhere;
-  here = λ c. record { snapshot = (x.here c).snapshot; passed = (x.here c).passed; clear = λ p. (x.here c).clear ∙ p; collected = (x.here c).collected };
-}
-
-pub clearing_grows : (a b : List (List Mark)) (t : ℕ) → MarksClear a b t → MarksGrow a b t
-clearing_grows a b t x = record {
-  elsewhere = x.elsewhere;
-  here = λ c. record { snapshot = (x.here c).snapshot; passed = (x.here c).passed; clear = (x.here c).clear; collected = λ p. (x.here c).collected ∙ p };
 }
 
 -- a mark beside the one that is written
@@ -370,11 +352,6 @@ pub settled_free : (old new : State) (t held : ℕ) → held ≡ 0 → Empties o
 settled_free old new t held none empties = subst (λ (k : ℕ). Settles old new t (stage_of t None None k)) (sym none) empties
 
 -- Seats
-
-acts_idle : (lt : Bool) (cpus : ℕ) (before none empty : Bool) → (before ≡ false → none && empty ≡ true) → (not before || (before && (none && empty))) ≡ true → (not lt || (lt && (none && empty))) ≡ true
-acts_idle false cpus before none empty out acts = refl
-acts_idle true cpus true none empty out acts = acts
-acts_idle true cpus false none empty out acts = out refl
 
 -- and nothing of what an advance leaves keeps it from that
 pub stage_acts : (s n : State) (t d : ℕ) (stage : Stage) → s.seated ≡ s.settings.cpus → StageLeaves s n t stage → may_act s d ≡ true → may_act n d ≡ true

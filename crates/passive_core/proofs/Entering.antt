@@ -26,14 +26,6 @@ acts_free s c on may = ⊎_elim
     (λ (ge : s.seated ≤ c). and_from (is_none (search_at s c)) (is_empty (hand_at s c)) (ap is_none (on.seats.unsearching c ge)) (ap is_empty (on.seats.empty c ge)))
     (cases_lt c s.seated)
 
-acts_if : (b f : Bool) → f ≡ true → (not b || (b && f)) ≡ true
-acts_if true f is = is
-acts_if false f is = refl
-
--- one that is free may act, seated or not
-pub free_acts : (s : State) (c : ℕ) → is_free s c ≡ true → may_act s c ≡ true
-free_acts s c free = acts_if (nat_lt c s.seated) (is_free s c) free
-
 sections_depth : (z : Settings) (h : List Change) (section : List ℕ) (begins : List (Option ℕ)) (depths seen : List ℕ) (c b depth : ℕ)
     → c < length depths → get_or begins c None ≡ Some b → 1 ≤ depth → depth ≤ 255 → SectionsShow z h section begins depths seen → SectionsShow z h section begins (set depths c depth) seen
 sections_depth z h section begins depths seen c b depth cd begun low high s = record {

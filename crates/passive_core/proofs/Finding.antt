@@ -164,10 +164,6 @@ walk_goes_on b c key n s Missed turn not_found not_missed = absurd (not_missed r
 walk_goes_on b c key n s (Ref id) turn not_found not_missed = absurd turn
 walk_goes_on b c key n s Collected turn not_found not_missed = absurd turn
 
--- a walk has a search
-pub walk_searches : (b s : State) (c : ℕ) (key : Key) → Walks b s c key → (q : Search) × (search_at s c ≡ Some q)
-walk_searches b s c key walks = (record { key = key; start = walks.start; place = walks.place }, walks.finds.searching)
-
 -- The first load is made after a Seek of an idle CPU inside a section.
 pub seek_starts : (b t : State) (c : ℕ) (key : Key) (r : Reply) → c < length b.searches → may_seek b c ≡ true → guard (may_seek b c) (some_outcome (after_seek b c key) Done) ≡ Some (record { state = t; reply = r }) → Walks b t c key
 seek_starts b t c key r lt may made = subst (λ (u : State). Walks b u c key) (sym (made_is (may_seek b c) (after_seek b c key) t Done r may made)) (walk_starts b c key lt)

@@ -360,10 +360,6 @@ pub less_count_ready : (u : State) (c id : ℕ) (o : Option ℕ) (d : ℕ) → m
 less_count_ready u c id None d may = may
 less_count_ready u c id (Some t) d may = may
 
-pub less_total_ready : (u : State) (id : ℕ) (o : Option ℕ) (d : ℕ) → may_act u d ≡ true → may_act (with_total_less u id o) d ≡ true
-less_total_ready u id None d may = may
-less_total_ready u id (Some t) d may = may
-
 -- the list of places after a growth that may be refused
 pub grown_holds : {X Y : Type 0} (s : State) (locals : List LocalPlace) (result : Result X Y) → Holds s → position is_free s.locals ≡ None → OnOk result (locals ≡ s.locals ++ Free ∷ []) → OnErr result (locals ≡ s.locals) → Holds (record s { locals = locals })
 grown_holds s locals (Ok x) on none ok err = subst (λ (l : List LocalPlace). Holds (record s { locals = l })) (ap (free_added s.locals) none ∙ sym ok) (room_holds s on)

@@ -22,10 +22,6 @@ use Rattle.passive_core.proofs.Acting.{acting_idle}
 
 -- A CPU that may act is idle once all have their seats.
 
-was_idle : (a b : Bool) → a ≡ true → (not a || (a && b)) ≡ true → b ≡ true
-was_idle true b is may = may
-was_idle false b is may = absurd (let q : ◌≡◌ {A = Bool} false true = is in cc)
-
 pub both : (a b : Bool) → a ≡ true → b ≡ true → (a && b) ≡ true
 both true b is too = too
 both false b is too = is
@@ -176,12 +172,3 @@ word_is s u n k v load shows same few was = same_word s (load s k) v (word (word
 -- a name of these words is lawful
 pub lawful_words : (s : State) (n high low : ℕ) (load : ℕ → Option Outcome) (shows : ShowsRecord s n load) → high ≡ shows.entry.rec.name.high → low ≡ shows.entry.rec.name.low → are_name_words high low ≡ true
 lawful_words s n high low load shows h l = rw (h, l) shows.lawful
-
--- other CPUs, and this one, may act as before
-pub more_ready : (s : State) (c : ℕ) (o : Option ℕ) → Holds s → (d : ℕ) → may_act s d ≡ true → may_act (with_one_more s c o) d ≡ true
-more_ready s c None on d may = may_still s on d may
-more_ready s c (Some t) on d may = may_still s on d may
-
-pub less_ready : (s : State) (c : ℕ) (o : Option ℕ) → Holds s → (d : ℕ) → may_act s d ≡ true → may_act (with_one_less s c o) d ≡ true
-less_ready s c None on d may = may_still s on d may
-less_ready s c (Some t) on d may = may_still s on d may

@@ -2,7 +2,7 @@
 use Rattle.std.proofs.Common.{◌≡◌, ℕ, ◌+◌, ◌%◌, ◌<◌, inr, ⊎_elim, List, length, get_or, set, Option, Some, None, Bool, true, false, not, ◌&&◌, ◌||◌, ◌==◌, refl, sym, ap, subst, ◌∙◌, arith, get_or-set_same, get_or-set_other}
 use Rattle.std.specs.Prelude.{is_some}
 use Rattle.std.proofs.lemmas.Bool.{cases_eq, eq-eqb}
-use Rattle.std.proofs.lemmas.Option.{none-some, same_Some}
+use Rattle.std.proofs.lemmas.Option.{same_Some}
 use Rattle.registry_values.specs.declared.entry.Entry.{Entry}
 use Rattle.registry_values.specs.declared.mark.Mark.{Mark}
 use Rattle.registry_values.specs.declared.slot.Slot.{Slot}
@@ -29,9 +29,6 @@ out_shown w (Some b) outside inside = rw (ap (λ (k : ℕ). k == 0) (inside b re
 
 pub seen_out : (s : State) (c : ℕ) → Holds s → is_out (section_at s c) (section_at s c) ≡ not (is_inside s c)
 seen_out s c on = out_shown (section_at s c) (begin_at s c) (λ out. (on.sections.outside c out).0) (λ b in_. (on.sections.inside c b in_).0)
-
-pub not_out : (b : Bool) → b ≡ false → true ≡ not b
-not_out b is = ap not (sym is)
 
 pub sound_out : (a b : Bool) → a ≡ not b → a ≡ true → b ≡ false
 sound_out a false same is = refl
@@ -89,19 +86,11 @@ only_one s n t gone only marks = record {
 pub still_passed : (s n : State) (t : ℕ) → OnlyPasses s n → AllPassed s t → AllPassed n t
 still_passed s n t only passed c lt = (only.marks t c).passed (passed c (subst (λ (z : State). c < z.settings.cpus) only.only lt))
 
-pub still_outside : (s n : State) → OnlyPasses s n → AllOutside s → AllOutside n
-still_outside s n only outside c lt = ap (λ (z : State). is_inside z c) only.only ∙ outside c (subst (λ (z : State). c < z.settings.cpus) only.only lt)
-
 -- the slot of a retired entry's number is its own
 retired_is : (n : ℕ) (x : Slot) → is_retired x ≡ true → Some n ≡ retired_number x → (e : Entry) × (x ≡ Retired e) × (e.number ≡ n)
 retired_is n Vacant gone is = absurd (let q : ◌≡◌ {A = Bool} false true = gone in cc)
 retired_is n (Live e) gone is = absurd (let q : ◌≡◌ {A = Bool} false true = gone in cc)
 retired_is n (Retired e) gone is = (e, refl, sym (same_Some n e.number is))
-
-pub has_retired_number : (x : Slot) → is_retired x ≡ true → None ≡ retired_number x → ⊥
-has_retired_number Vacant gone is = let q : ◌≡◌ {A = Bool} false true = gone in cc
-has_retired_number (Live e) gone is = let q : ◌≡◌ {A = Bool} false true = gone in cc
-has_retired_number (Retired e) gone is = none-some e.number is
 
 pub retired_found : (s : State) (t n : ℕ) → Holds s → is_retired (slot_at s.slots t) ≡ true → Some n ≡ retired_number (slot_at s.slots t) → retired_slot s.slots n ≡ Some t
 retired_found s t n on gone is =

@@ -268,10 +268,6 @@ count_add {z} {slots} {marks} {counts} {nets} {totals} {hands} {keeps} {due} {lo
     (omega (arith, hand_changed e.number hands c Empty (Taking n) hl hand, one_at n e.number (sym number))) refl refl)
     (λ u f off in_. omega (arith, hand_changed f.number hands c Empty (Taking n) hl hand, none_at n f.number (λ here. off (one u f in_ (sym here)))))
 
--- a reference in a hand is one that is held
-held_some : (locals : List LocalPlace) (hands : List Hand) (keeps : List (Option ℕ)) (due : Due) (c t n id : ℕ) → c < length hands → get_or hands c Empty ≡ Giving n id → 0 < held_at locals hands keeps due n t
-held_some locals hands keeps due c t n id lt hand = omega (arith, hand_changed n hands c (Giving n id) Empty lt hand, one_at n n refl)
-
 -- one less
 pub count_down : {z : Settings} {slots : List Slot} {marks : List (List Mark)} {counts nets : List (List ℕ)} {totals : List ℕ} {hands : List Hand} {keeps : List (Option ℕ)} {due : Due} {locals : List LocalPlace} → CountsHold z slots marks counts nets totals hands keeps due locals → CountsFit z slots marks counts nets totals hands keeps → (c t n id : ℕ) (e : Entry) → c < z.cpus → IsIn e (slot_at slots t) → e.number ≡ n → ((u : ℕ) (f : Entry) → IsIn f (slot_at slots u) → f.number ≡ n → u ≡ t) → IsCounting slots marks c t → get_or hands c Empty ≡ Giving n id → local_at locals id ≡ Lifted c
     → CountsHold z slots marks (with_cell counts t c (count_at counts c t - 1)) (with_cell nets t c (count_at nets c t - 1)) totals (set hands c Empty) keeps due (set locals id Free)

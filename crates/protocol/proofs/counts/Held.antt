@@ -25,21 +25,6 @@ at_none : {X : Type 0} (f : X → ℕ) (xs : List X) (d : X) → ((i : ℕ) → 
 at_none f [] d each = refl
 at_none f (x ∷ xs) d each = let here : f x ≡ 0 = each 0 in omega (arith, sum_by-cons f x xs, here, at_none f xs d (λ i. each (suc i)))
 
-pub held_standing : (locals : List LocalPlace) (hands : List Hand) (keeps : List (Option ℕ)) (due : Due) (n t id : ℕ) → local_at locals id ≡ Standing n → 0 < held_at locals hands keeps due n t
-held_standing locals hands keeps due n t id at = omega (arith, at_some (standing_of n) locals id Free (Standing n) refl at (omega (arith, one_at n n refl)))
-
-pub held_in_hand : (locals : List LocalPlace) (hands : List Hand) (keeps : List (Option ℕ)) (due : Due) (n t c : ℕ) → 0 < in_hand n (get_or hands c Empty) → 0 < held_at locals hands keeps due n t
-held_in_hand locals hands keeps due n t c some = omega (arith, at_some (in_hand n) hands c Empty (get_or hands c Empty) refl refl some)
-
-pub held_taking : (locals : List LocalPlace) (hands : List Hand) (keeps : List (Option ℕ)) (due : Due) (n t c : ℕ) → get_or hands c Empty ≡ Taking n → 0 < held_at locals hands keeps due n t
-held_taking locals hands keeps due n t c at = held_in_hand locals hands keeps due n t c (omega (arith, ap (in_hand n) at, one_at n n refl))
-
-pub held_giving : (locals : List LocalPlace) (hands : List Hand) (keeps : List (Option ℕ)) (due : Due) (n t c id : ℕ) → get_or hands c Empty ≡ Giving n id → 0 < held_at locals hands keeps due n t
-held_giving locals hands keeps due n t c id at = held_in_hand locals hands keeps due n t c (omega (arith, ap (in_hand n) at, one_at n n refl))
-
-pub held_back : (locals : List LocalPlace) (hands : List Hand) (keeps : List (Option ℕ)) (due : Due) (n t c id : ℕ) → get_or hands c Empty ≡ Back n id → 0 < held_at locals hands keeps due n t
-held_back locals hands keeps due n t c id at = held_in_hand locals hands keeps due n t c (omega (arith, ap (in_hand n) at, one_at n n refl))
-
 pub held_kept : (locals : List LocalPlace) (hands : List Hand) (keeps : List (Option ℕ)) (due : Due) (n t u : ℕ) → kept_at keeps u ≡ Some n → 0 < held_at locals hands keeps due n t
 held_kept locals hands keeps due n t u at = omega (arith, at_some (kept_of n) keeps u None (Some n) refl at (omega (arith, one_at n n refl)))
 

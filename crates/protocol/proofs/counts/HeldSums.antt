@@ -114,11 +114,6 @@ unreferred locals hands keeps due n t none = record {
   unkept = none_kept n keeps (omega (arith, none));
 }
 
-pub not_subtracting : (locals : List LocalPlace) (hands : List Hand) (keeps : List (Option ℕ)) (due : Due) (n t : ℕ) → held_at locals hands keeps due n t ≡ 0 → due ≡ Subtracting t → ⊥
-not_subtracting locals hands keeps due n t none is =
-    let one : subtraction_due_at t due ≡ 1 = ap (subtraction_due_at t) is ∙ one_self t t refl in
-    omega (arith, none, one)
-
 pub nothing_held : (locals : List LocalPlace) (hands : List Hand) (keeps : List (Option ℕ)) (due : Due) (n t : ℕ) → (due ≡ Subtracting t → ⊥) → Unreferred locals hands keeps n → held_at locals hands keeps due n t ≡ 0
 nothing_held locals hands keeps due n t off free =
     let a = no_standing n locals free.unplaced in

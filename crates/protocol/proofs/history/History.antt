@@ -58,9 +58,6 @@ at_cases h c k x e = ⊎_elim
 same_attach : (e f : Entry) → ◌≡◌ {A = Option Change} (Some (Attach e)) (Some (Attach f)) → e ≡ f
 same_attach e f p = cc
 
-same_detach : (n m : ℕ) → ◌≡◌ {A = Option Change} (Some (Detach n)) (Some (Detach m)) → n ≡ m
-same_detach n m p = cc
-
 attach-detach : (e : Entry) (n : ℕ) → ◌≡◌ {A = Option Change} (Some (Attach e)) (Some (Detach n)) → ⊥
 attach-detach e n p = cc
 

@@ -10,9 +10,9 @@ use Rattle.registry_values.specs.declared.slot.Slot.TheVariants.{Vacant, Live, R
 use Rattle.protocol.specs.declared.state.Hand.{Hand}
 use Rattle.protocol.specs.declared.state.LocalPlace.{LocalPlace}
 use Rattle.protocol.specs.declared.state.Due.{Due}
-use Rattle.registry_values.specs.Slots.{slot_at, slot_of, is_iface, is_driver}
+use Rattle.registry_values.specs.Slots.{slot_at, slot_of, is_driver}
 use Rattle.protocol.specs.State.{kept_at}
-use Rattle.protocol.specs.Events.{keeps_rightly, is_driver_slot, is_iface_slot}
+use Rattle.protocol.specs.Events.{keeps_rightly, is_driver_slot}
 use Rattle.protocol.specs.Invariant.{IsIn, SlotsShow, held_at, DriversKept}
 use Rattle.protocol.proofs.slots.Occupied.{written_cases, in_other, in_written, in_within, not_vacant, live_one, retired_one, one_in, in_published, in_unpublished, in_vacated, one_number, slot_has}
 use Rattle.protocol.proofs.counts.HeldSums.{Unreferred, unreferred}
@@ -141,19 +141,10 @@ is_driver_tells : (k : Kind) → is_driver k ≡ true → k ≡ Driver
 is_driver_tells Iface test = absurd (let q : ◌≡◌ {A = Bool} false true = test in cc)
 is_driver_tells Driver test = refl
 
-is_iface_tells : (k : Kind) → is_iface k ≡ true → k ≡ Iface
-is_iface_tells Iface test = refl
-is_iface_tells Driver test = absurd (let q : ◌≡◌ {A = Bool} false true = test in cc)
-
 pub driver_slot_tells : (x : Slot) → is_driver_slot x ≡ true → (e : Entry) × IsIn e x × (e.rec.kind ≡ Driver)
 driver_slot_tells Vacant test = absurd (let q : ◌≡◌ {A = Bool} false true = test in cc)
 driver_slot_tells (Live e) test = (e, inl refl, is_driver_tells e.rec.kind test)
 driver_slot_tells (Retired e) test = (e, inr refl, is_driver_tells e.rec.kind test)
-
-pub iface_slot_tells : (x : Slot) → is_iface_slot x ≡ true → (e : Entry) × IsIn e x × (e.rec.kind ≡ Iface)
-iface_slot_tells Vacant test = absurd (let q : ◌≡◌ {A = Bool} false true = test in cc)
-iface_slot_tells (Live e) test = (e, inl refl, is_iface_tells e.rec.kind test)
-iface_slot_tells (Retired e) test = (e, inr refl, is_iface_tells e.rec.kind test)
 
 -- the slot of n holds a driver
 pub slot_has_driver : (slots : List Slot) (n u : ℕ) → slot_of slots n ≡ Some u → is_driver_slot (slot_at slots u) ≡ true → HasDriver slots n

@@ -182,10 +182,6 @@ snapshots_taken cpus slots marks t c w lt cl stand u j e is low later = ⊎_elim
         let more : c + 1 < cpus = omega (arith, due.2, apart, first, low) in
         later (c + 1, ap (λ (b : Bool). if b then Snapshots t (c + 1) else Rest) (lt-ltb (c + 1) cpus more) ∙ ap (λ (k : ℕ). Snapshots k (c + 1)) slot, omega (arith, due.2, apart, first))
 
--- what is due changes, and no snapshot that was due is taken for done
-pub snapshots_due : (cpus : ℕ) (slots : List Slot) (marks : List (List Mark)) (due now : Due) → ((t c : ℕ) → IsSnapshotDue due t c → IsSnapshotDue now t c) → SnapshotsStand cpus slots marks due → SnapshotsStand cpus slots marks now
-snapshots_due cpus slots marks due now still stand t c e is low later = stand t c e is low (λ d. later (still t c d))
-
 -- a mark is written that keeps its snapshot
 pub snapshots_marked : (cpus : ℕ) (slots : List Slot) (marks : List (List Mark)) (due : Due) (t c : ℕ) (m : Mark) → m.snapshot ≡ (mark_at marks t c).snapshot → SnapshotsStand cpus slots marks due
     → SnapshotsStand cpus slots (set marks t (set (get_or marks t []) c m)) due

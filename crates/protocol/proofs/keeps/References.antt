@@ -349,13 +349,6 @@ hand_seated cpus seated begins searches hands c off seats = ⊎_elim
     (λ (ge : seated ≤ c). absurd (off (seats.empty c ge)))
     (cases_lt c seated)
 
--- a CPU with a search under way has a seat
-pub search_seated : (cpus seated : ℕ) (begins : List (Option ℕ)) (searches : List (Option Search)) (hands : List Hand) (c : ℕ) (q : Search) → get_or searches c None ≡ Some q → SeatsShow cpus seated begins searches hands → c < seated
-search_seated cpus seated begins searches hands c q at seats = ⊎_elim
-    (λ (lt : c < seated). lt)
-    (λ (ge : seated ≤ c). absurd (let p : ◌≡◌ {A = Option Search} (Some q) None = sym at ∙ seats.unsearching c ge in cc))
-    (cases_lt c seated)
-
 pub seats_hand : (cpus seated : ℕ) (begins : List (Option ℕ)) (searches : List (Option Search)) (hands : List Hand) (c : ℕ) (h : Hand) → c < seated
     → SeatsShow cpus seated begins searches hands → SeatsShow cpus seated begins searches (set hands c h)
 seats_hand cpus seated begins searches hands c h lt seats = record {

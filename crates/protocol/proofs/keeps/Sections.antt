@@ -58,13 +58,6 @@ seated_search cpus seated begins searches hands c q s is = ⊎_elim
     (λ (ge : seated ≤ c). absurd (none-some q (sym (s.unsearching c ge) ∙ is)))
     (cases_lt c seated)
 
-pub seated_begin : (cpus seated : ℕ) (begins : List (Option ℕ)) (searches : List (Option Search)) (hands : List Hand) (c b : ℕ)
-    → SeatsShow cpus seated begins searches hands → get_or begins c None ≡ Some b → c < seated
-seated_begin cpus seated begins searches hands c b s is = ⊎_elim
-    (λ (lt : c < seated). lt)
-    (λ (ge : seated ≤ c). absurd (none-some b (sym (s.outside c ge) ∙ is)))
-    (cases_lt c seated)
-
 -- Enter: the section begins at the length of the history.
 pub sections_enter : (z : Settings) (h : List Change) (section : List ℕ) (begins : List (Option ℕ)) (depths seen : List ℕ) (c : ℕ)
     → c < length section → c < length begins → c < length depths → c < length seen → get_or begins c None ≡ None → get_or section c 0 < 2 * z.section_limit

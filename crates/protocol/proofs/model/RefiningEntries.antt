@@ -158,19 +158,12 @@ keep_refines s t id n u on at of ok =
     } in
     one_step (picture s) _ (picture (after_keep s t id n))
     (Model.Keeps t n (ap number_in told.2) (none_from (kept_at s.keeps t) p1.0) here (omega (arith, standing_counts n s.locals id at)))
-    (record {
-      history = refl;
-      sections = λ c. refl;
-      passes = λ c. refl;
-      lookups = λ c. refl;
-      found = λ c. refl;
-      passive = λ c i. refl;
-      locals = put_is (λ i. locals_of s i) (λ i. locals_of (after_keep s t id n) i) n (locals_of s n - 1)
+    (assumption (
+      put_is (λ i. locals_of s i) (λ i. locals_of (after_keep s t id n) i) n (locals_of s n - 1)
           (omega (arith, changed n, one_at n n refl))
-          (λ i off. omega (arith, changed i, none_at n i (λ same. off (sym same))));
-      occupants = λ v. refl;
-      keeps = written (λ (x : Option ℕ). x) None s.keeps t (Some n) (omega (arith, told.1, on.shape.slots, on.shape.keeps));
-    })
+          (λ i off. omega (arith, changed i, none_at n i (λ same. off (sym same)))),
+      written (λ (x : Option ℕ). x) None s.keeps t (Some n) (omega (arith, told.1, on.shape.slots, on.shape.keeps)),
+    ))
 
 -- Vacate and KeptSub
 
@@ -222,9 +215,6 @@ drained s t n on ok is =
 pub unheld_when_drained : (s : State) (t n : ℕ) → Holds s → is_drained s t ≡ true → number_in (slot_at s.slots t) ≡ Some n → IsUnheld (picture s) n
 unheld_when_drained s t n on ok is = (drained s t n on ok is).unheld
 
-pub unheld_at_vacate : (s : State) (t n : ℕ) → Holds s → may_vacate s t ≡ true → number_in (slot_at s.slots t) ≡ Some n → IsUnheld (picture s) n
-unheld_at_vacate s t n on ok is = unheld_when_drained s t n on (and_parts _ (is_drained s t) ok).1 is
-
 -- the occupant of a drained slot
 occupant_of : (s : State) (t : ℕ) → Holds s → is_drained s t ≡ true → (n : ℕ) × (number_in (slot_at s.slots t) ≡ Some n)
 occupant_of s t on ok = let told = is_drained_tells s t on ok in (told.1.0.number, ap number_in told.1.1)
@@ -247,33 +237,22 @@ vacate_refines s t on now ok =
     let p = and_parts _ (is_drained s t) ok in
     let n = occupant_of s t on p.1 in
     let d : Drained s t n.0 = drained s t n.0 on p.1 n.1 in
-    one_step (picture s) _ (picture (after_vacate s t)) (Model.Vacates t n.0 d.position n.1 d.ended d.unheld (none_from (kept_at s.keeps t) p.0)) (record {
-      history = refl;
-      sections = λ c. refl;
-      passes = λ c. refl;
-      lookups = λ c. refl;
-      found = λ c. refl;
-      passive = vacated_passive s t n.0 on d now.slots;
-      locals = vacated_locals s t n.0 d;
-      occupants = written number_in Vacant s.slots t Vacant (in_within s.slots t d.entry (inr d.gone));
-      keeps = λ u. refl;
-    })
+    one_step (picture s) _ (picture (after_vacate s t)) (Model.Vacates t n.0 d.position n.1 d.ended d.unheld (none_from (kept_at s.keeps t) p.0)) (assumption (
+      vacated_passive s t n.0 on d now.slots,
+      vacated_locals s t n.0 d,
+      written number_in Vacant s.slots t Vacant (in_within s.slots t d.entry (inr d.gone)),
+    ))
 
 pub kept_sub_refines : (s : State) (t u k : ℕ) → Holds s → Holds (after_kept_sub s t u) → kept_at s.keeps t ≡ Some k → is_drained s t ≡ true → IsModelRun (picture s) (picture (after_kept_sub s t u))
 kept_sub_refines s t u k on now kept ok =
     let n = occupant_of s t on ok in
     let d : Drained s t n.0 = drained s t n.0 on ok n.1 in
     let some : (put (λ i. locals_of s i) k (locals_of s k + 1)) k ≡ locals_of s k + 1 = put_here (λ i. locals_of s i) k (locals_of s k + 1) in
-    two_steps (picture s) _ _ (picture (after_kept_sub s t u)) (Model.Gives_up t n.0 d.position k n.1 d.ended d.unheld kept) (Model.Uncounts k (omega (arith, some))) (record {
-      history = refl;
-      sections = λ c. refl;
-      passes = λ c. refl;
-      lookups = λ c. refl;
-      found = λ c. refl;
-      passive = vacated_passive s t n.0 on d now.slots;
-      locals = put_is (put (λ i. locals_of s i) k (locals_of s k + 1)) (λ i. locals_of (after_kept_sub s t u) i) k (put (λ i. locals_of s i) k (locals_of s k + 1) k - 1)
+    two_steps (picture s) _ _ (picture (after_kept_sub s t u)) (Model.Gives_up t n.0 d.position k n.1 d.ended d.unheld kept) (Model.Uncounts k (omega (arith, some))) (assumption (
+      vacated_passive s t n.0 on d now.slots,
+      put_is (put (λ i. locals_of s i) k (locals_of s k + 1)) (λ i. locals_of (after_kept_sub s t u) i) k (put (λ i. locals_of s i) k (locals_of s k + 1) k - 1)
           (omega (arith, some, vacated_locals s t n.0 d k))
-          (λ i off. put_other (λ j. locals_of s j) k (locals_of s k + 1) i off ∙ vacated_locals s t n.0 d i);
-      occupants = written number_in Vacant s.slots t Vacant (in_within s.slots t d.entry (inr d.gone));
-      keeps = written (λ (x : Option ℕ). x) None s.keeps t None (within_some s.keeps t k kept);
-    })
+          (λ i off. put_other (λ j. locals_of s j) k (locals_of s k + 1) i off ∙ vacated_locals s t n.0 d i),
+      written number_in Vacant s.slots t Vacant (in_within s.slots t d.entry (inr d.gone)),
+      written (λ (x : Option ℕ). x) None s.keeps t None (within_some s.keeps t k kept),
+    ))

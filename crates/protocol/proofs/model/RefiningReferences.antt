@@ -107,17 +107,7 @@ waiting_one slots n t e due at is = ap (subtractions_due slots n) is ∙ ap (λ 
 -- only local references change, and agree
 locals_alike : (s : State) (hands : List Hand) (due : Due) (locals : List LocalPlace)
     → ((n : ℕ) → locals_of s n ≡ locals_of (record s { hands = hands; due = due; locals = locals }) n) → Alike (picture s) (picture (record s { hands = hands; due = due; locals = locals }))
-locals_alike s hands due locals same = record {
-  history = refl;
-  sections = λ c. refl;
-  passes = λ c. refl;
-  lookups = λ c. refl;
-  found = λ c. refl;
-  passive = λ c n. refl;
-  locals = same;
-  occupants = λ t. refl;
-  keeps = λ t. refl;
-}
+locals_alike s hands due locals same = assumption
 
 locals_same : (s : State) (hands : List Hand) (due : Due) (locals : List LocalPlace)
     → ((n : ℕ) → locals_of s n ≡ locals_of (record s { hands = hands; due = due; locals = locals }) n) → IsModelRun (picture s) (picture (record s { hands = hands; due = due; locals = locals }))
@@ -128,38 +118,22 @@ locals_more : (s : State) (c : ℕ) (e : Entry) (hands : List Hand) (due : Due) 
     → ((n : ℕ) → locals_of (record s { hands = hands; due = due; locals = locals }) n ≡ locals_of s n + one_if (e.number == n))
     → IsModelRun (picture s) (picture (record s { hands = hands; due = due; locals = locals }))
 locals_more s c e hands due locals found more =
-    one_step (picture s) _ (picture (record s { hands = hands; due = due; locals = locals })) (Model.Counts c e found) (record {
-      history = refl;
-      sections = λ j. refl;
-      passes = λ j. refl;
-      lookups = λ j. refl;
-      found = λ j. refl;
-      passive = λ j i. refl;
-      locals = put_is (λ i. locals_of s i) (λ i. locals_of (record s { hands = hands; due = due; locals = locals }) i) e.number (locals_of s e.number + 1)
+    one_step (picture s) _ (picture (record s { hands = hands; due = due; locals = locals })) (Model.Counts c e found) (assumption (
+      put_is (λ i. locals_of s i) (λ i. locals_of (record s { hands = hands; due = due; locals = locals }) i) e.number (locals_of s e.number + 1)
           (omega (arith, more e.number, one_at e.number e.number refl))
-          (λ i off. omega (arith, more i, none_at e.number i (λ same. off (sym same))));
-      occupants = λ t. refl;
-      keeps = λ t. refl;
-    })
+          (λ i off. omega (arith, more i, none_at e.number i (λ same. off (sym same))))
+    ))
 
 -- one reference less
 locals_less : (s : State) (n : ℕ) (hands : List Hand) (due : Due) (locals : List LocalPlace)
     → ((i : ℕ) → locals_of (record s { hands = hands; due = due; locals = locals }) i + one_if (n == i) ≡ locals_of s i)
     → IsModelRun (picture s) (picture (record s { hands = hands; due = due; locals = locals }))
 locals_less s n hands due locals less =
-    one_step (picture s) _ (picture (record s { hands = hands; due = due; locals = locals })) (Model.Uncounts n (omega (arith, less n, one_at n n refl))) (record {
-      history = refl;
-      sections = λ j. refl;
-      passes = λ j. refl;
-      lookups = λ j. refl;
-      found = λ j. refl;
-      passive = λ j i. refl;
-      locals = put_is (λ i. locals_of s i) (λ i. locals_of (record s { hands = hands; due = due; locals = locals }) i) n (locals_of s n - 1)
+    one_step (picture s) _ (picture (record s { hands = hands; due = due; locals = locals })) (Model.Uncounts n (omega (arith, less n, one_at n n refl))) (assumption (
+      put_is (λ i. locals_of s i) (λ i. locals_of (record s { hands = hands; due = due; locals = locals }) i) n (locals_of s n - 1)
           (omega (arith, less n, one_at n n refl))
-          (λ i off. omega (arith, less i, none_at n i (λ same. off (sym same))));
-      occupants = λ t. refl;
-      keeps = λ t. refl;
-    })
+          (λ i off. omega (arith, less i, none_at n i (λ same. off (sym same))))
+    ))
 
 idle_hand : (s : State) (c : ℕ) → is_idle s c ≡ true → hand_at s c ≡ Empty
 idle_hand s c ok = empty_from (hand_at s c) (idle_parts s c ok).2
