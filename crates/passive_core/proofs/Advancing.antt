@@ -395,10 +395,7 @@ slots_again s m t (Local k) held left = ap (λ (x : State). x.slots) left.only
 slots_again s m t (Freed u) held left = absurd (let q : ◌≡◌ {A = Bool} true false = held in cc)
 
 marks_leave_again : (s m n : State) (t : ℕ) → LeavesMarks s m t → LeavesMarks m n t → LeavesMarks s n t
-marks_leave_again s m n t x y = record {
-  only = subst (λ (z : State). n ≡ record z { seated = z.settings.cpus; marks = n.marks }) x.only y.only;
-  marks = marks_grow_more s.marks m.marks n.marks t x.marks y.marks;
-}
+marks_leave_again s m n t x y = assumption (subst (λ (z : State). n ≡ record z { seated = z.settings.cpus; marks = n.marks }) x.only y.only, marks_grow_more s.marks m.marks n.marks t x.marks y.marks)
 
 -- the same stage was met twice
 pub leaves_again : (s m n : State) (t : ℕ) (stage : Stage) → is_freed stage ≡ false → StageLeaves s m t stage → StageLeaves m n t stage → StageLeaves s n t stage

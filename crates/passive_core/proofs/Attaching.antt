@@ -239,13 +239,12 @@ may_link : (s : State) (rec : Record) (e : Entry) → Holds s → may_write s e.
     → IsTrue (is_lawful rec.name) → keeps_rightly (kept_at s.keeps e.slot) rec.kind ≡ true → MayLink s e
 may_link s rec e on writes is free room lawful keeps =
     let same : e.rec ≡ rec = ap (λ (x : Entry). x.rec) is in
-    record {
-      writes = writes;
-      links = prepared_links s e on writes (ap (λ (x : Entry). x.number) is)
+    assumption (
+      prepared_links s e on writes (ap (λ (x : Entry). x.number) is)
           (subst (λ (r : Record). IsTrue (is_lawful r.name)) (sym same) lawful)
           (ap (λ (r : Record). is_taken (key_of_record r) s.slots) same ∙ free) room
-          (ap (λ (r : Record). keeps_rightly (kept_at s.keeps e.slot) r.kind) same ∙ keeps);
-    }
+          (ap (λ (r : Record). keeps_rightly (kept_at s.keeps e.slot) r.kind) same ∙ keeps)
+    )
 
 driver_keeps : (kept : Option ℕ) (kind : Kind) → kept ≡ None → is_iface kind ≡ false → keeps_rightly kept kind ≡ true
 driver_keeps kept Iface none other = absurd (let q : ◌≡◌ {A = Bool} true false = other in cc)
@@ -308,12 +307,7 @@ iface_links s rec e id on rest is driver iface lawful =
     let holds : Holds (with_reference_kept s t id) = subst Holds (sym kept) (keep_keeps s t id n u on at place.1 may) in
     let now : kept_at (with_reference_kept s t id).keeps t ≡ Some n = get_or-set_same s.keeps t (number_standing (local_at s.locals id)) None (omega (arith, fit.0, on.shape.keeps)) ∙ ap number_standing at in
     let rightly : keeps_rightly (kept_at (with_reference_kept s t id).keeps t) rec.kind ≡ true = ap (λ (o : Option ℕ). keeps_rightly o rec.kind) now ∙ iface_keeps n rec.kind iface in
-    record {
-      writes = writes;
-      empty = fit.2;
-      holds = holds;
-      links = may_link (with_reference_kept (all_seated s) t id) rec e (seated_keeps (with_reference_kept s t id) holds) writes given.entry given.free given.room lawful rightly;
-    }
+    assumption (may_link (with_reference_kept (all_seated s) t id) rec e (seated_keeps (with_reference_kept s t id) holds) writes given.entry given.free given.room lawful rightly)
 
 -- the reference has its place again
 reference_restored : (s : State) (t id : ℕ) → kept_at s.keeps t ≡ None → with_reference_given_back (with_reference_kept s t id) t id (local_at s.locals id) ≡ s

@@ -49,21 +49,7 @@ depth_keeps s c depth on lt inside low high =
     let begun = some_from (begin_at s c) inside in
     let sections : SectionsShow s.settings s.history s.section s.begins (set s.depths c depth) s.seen =
     sections_depth s.settings s.history s.section s.begins s.depths s.seen c begun.0 depth (omega (arith, on.shape.depths)) begun.1 low high on.sections in
-    cpus_keep s s.seated s.section s.begins (set s.depths c depth) s.seen s.searches s.found on (record {
-      section_size = refl;
-      begin_size = refl;
-      depth_size = length-set s.depths c depth;
-      seen_size = refl;
-      search_size = refl;
-      found_size = refl;
-      held = on.held;
-      frozen_links = on.frozen_links;
-      grace = on.grace;
-      seats = on.seats;
-      sections = sections;
-      searching = on.searches;
-      last_found = on.last_found;
-    })
+    cpus_keep s s.seated s.section s.begins (set s.depths c depth) s.seen s.searches s.found on (assumption (length-set s.depths c depth))
 
 -- a section that is open has a depth, up to 255
 pub depth_range : (s : State) (c : ℕ) → Holds s → is_inside s c ≡ true → (1 ≤ depth_at s c) × (depth_at s c ≤ 255)

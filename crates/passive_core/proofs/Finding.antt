@@ -29,18 +29,10 @@ history_same : (b s : State) (c : ℕ) → Walking b s c → s.history ≡ b.his
 history_same b s c walk = ap (λ (t : State). t.history) walk.same
 
 going_walks : (b s : State) (c : ℕ) (q : Search) (p : SearchPlace) → Walking b s c → Walking b (with_search_at s c q p) c
-going_walks b s c q p walk = record {
-  same = ap (λ (t : State). record t { searches = set s.searches c (Some (placed q p)) }) walk.same;
-  seen = walk.seen;
-  searches = set-set s.searches c (Some (placed q p)) None ∙ walk.searches;
-}
+going_walks b s c q p walk = assumption (ap (λ (t : State). record t { searches = set s.searches c (Some (placed q p)) }) walk.same, set-set s.searches c (Some (placed q p)) None ∙ walk.searches)
 
 seeing_walks : (b s : State) (c : ℕ) → Walking b s c → Walking b (after_seeing s c) c
-seeing_walks b s c walk = record {
-  same = ap (λ (t : State). record t { seen = set s.seen c (length s.history) }) walk.same;
-  seen = set-set s.seen c (length s.history) (length b.history) ∙ walk.seen;
-  searches = walk.searches;
-}
+seeing_walks b s c walk = assumption (ap (λ (t : State). record t { seen = set s.seen c (length s.history) }) walk.same, set-set s.seen c (length s.history) (length b.history) ∙ walk.seen)
 
 -- a walk that has seen the whole history is over
 over_is : (b s : State) (c : ℕ) (answer : Option Entry) → Walking b s c → search_at b c ≡ None → seen_at s c ≡ length b.history → search_over s c answer ≡ after_find b c answer
@@ -148,11 +140,7 @@ walk_starts b c key lt = record {
   walking = record { same = refl; seen = refl; searches = set-set b.searches c (Some (record { key = key; start = seen_at b c; place = AtHead })) None };
   start = seen_at b c;
   place = AtHead;
-  finds = record {
-    searching = get_or-set_same b.searches c (Some (record { key = key; start = seen_at b c; place = AtHead })) None lt;
-    stands = tt;
-    seen = inl refl;
-  };
+  finds = assumption (get_or-set_same b.searches c (Some (record { key = key; start = seen_at b c; place = AtHead })) None lt, inl refl);
 }
 
 -- a walk that isn't over goes on, with less left

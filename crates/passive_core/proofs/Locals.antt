@@ -113,14 +113,12 @@ room_holds s on =
     (record { count_size = on.shape.counts; count_rows = on.shape.count_rows; net_size = on.shape.nets; net_rows = on.shape.net_rows; total_size = on.shape.totals; hand_size = on.shape.hands; keep_size = on.shape.keeps })
     on.snapshots
     (held_stays on.balance s.hands s.keeps (free_added s.locals o) (λ n. omega (arith, added_sum n s.locals o)))
-    (record {
-      references = references_places s.settings.cpus s.slots s.hands s.due s.due s.locals (free_added s.locals o)
+    (assumption (
+      references_places s.settings.cpus s.slots s.hands s.due s.due s.locals (free_added s.locals o)
           (λ id n at. on.references.standing id n (sym (added_at s.locals o id) ∙ at))
           (λ d id at. added_at s.locals o id ∙ at)
-          on.references.due_at on.references;
-      kept_drivers = on.kept_drivers;
-      seats = on.seats;
-    })
+          on.references.due_at on.references
+    ))
 
 -- What a live reference is to, and whether a CPU's word counts it.
 
@@ -152,12 +150,11 @@ count_cases s c n t on of low =
     (λ (gone : (slot_at s.slots t ≡ Retired e) × ((mark_at s.marks t c).collected ≡ true)).
     let zero_ = on.balance.emptied c t e gone.0 gone.1 in
     let used = on.balance.used c t e low (inr gone.0) in
-    inr (record {
-      none = le-ltb 0 (count_at s.counts c t) (omega (arith, zero_));
-      other = ne_eqb (count_at s.counts c t) (count_at s.nets c t) (λ same. absurd (omega (arith, same, zero_, used)));
-      retired = ap is_retired gone.0;
-      collected = gone.1;
-    }))
+    inr (assumption (
+      le-ltb 0 (count_at s.counts c t) (omega (arith, zero_)),
+      ne_eqb (count_at s.counts c t) (count_at s.nets c t) (λ same. absurd (omega (arith, same, zero_, used))),
+      ap is_retired gone.0,
+    )))
     (counting_cases s.slots s.marks c t e has.1.1)
 
 -- The events of a release by the CPU's own count.
@@ -328,12 +325,10 @@ takes s u v c e r on found low is idle room was =
     let state = made s (step (prepared s) (CountAdd c)) _ v r (counts_up (prepared s) c t.0 e found t.1 (subst (λ (x : State). is_idle x c ≡ true) is idle) (room_at s c e.number t.0 t.1 room))
     (subst (λ (x : State). step x (CountAdd c) ≡ Some (record { state = v; reply = r })) is was) in (
       t.0,
-      record {
-        slot = t.1;
-        state = state;
-        hand = ap (λ (x : State). hand_at x c) state ∙ get_or-set_same s.hands c (Taking e.number) Empty (omega (arith, low, on.shape.hands));
-        room = subst (λ (x : State). least_id x.locals < length x.locals) (sym state) (least_added s.locals (position is_free s.locals) refl).1;
-      },
+      assumption (
+        ap (λ (x : State). hand_at x c) state ∙ get_or-set_same s.hands c (Taking e.number) Empty (omega (arith, low, on.shape.hands)),
+        subst (λ (x : State). least_id x.locals < length x.locals) (sym state) (least_added s.locals (position is_free s.locals) refl).1,
+      ),
     )
 
 -- the reference has its place, and the hand is empty again

@@ -14,7 +14,7 @@ use Rattle.registry_values.specs.Marks.{mark_after_passive_look, mark_after_look
 use Rattle.protocol.specs.Invariant.{AreRows, DueHolds, Holds, IsIn, SnapshotsStand, To_end}
 use Rattle.registry_values.proofs.Fit.{ranges}
 use Rattle.registry_values.specs.Limits.{are_fit}
-use Rattle.protocol.specs.State.{at_rest, is_empty, State, found_at, hand_at, kept_at, mark_at, no_words, opening, passive_at, search_at, section_at, total_at}
+use Rattle.protocol.specs.State.{at_rest, State, found_at, kept_at, mark_at, no_words, opening, passive_at, section_at, total_at}
 use Rattle.registry_values.specs.Slots.{is_retired, live_count, slot_of, slot_at}
 use Rattle.registry_values.specs.Balances.{bias}
 use Rattle.registry_values.specs.declared.entry.Change.TheVariants.{Attach, Detach}
@@ -28,6 +28,7 @@ use Rattle.registry_values.specs.declared.slot.Slot.{Slot}
 use Rattle.registry_values.specs.declared.slot.Slot.TheVariants.{Live, Retired, Vacant}
 use Rattle.protocol.proofs.slots.Occupied.{not_vacant, slot_has, is_retired_tells, at_rest_tells}
 use Rattle.protocol.proofs.keeps.References.{snapshot_due_tells}
+use Rattle.protocol.proofs.keeps.SectionKeeps.{idle_tells}
 use Rattle.protocol.proofs.slots.Cells.{get_or_all}
 
 -- no more CPUs than a row has places
@@ -95,15 +96,11 @@ look_passive_keeps s t c on may counts =
           (λ e is holds. ap (λ (b : Bool). b || (passive_at s.passive c t == 0)) (on.passive.collected c t e is holds)) on.passive,
     )
 
--- an idle CPU is in range
-pub idle_within : (s : State) (c : ℕ) → Holds s → is_idle s c ≡ true → c < s.settings.cpus
-idle_within s c on idle = omega (arith, ltb-true c s.seated (and_parts (nat_lt c s.seated) (is_none (search_at s c) && is_empty (hand_at s c)) idle).0, on.seats.within)
-
 pub add_keeps : (s : State) (c n t : ℕ) → Holds s → slot_of s.slots n ≡ Some t → may_add s c n t ≡ true → Holds (after_add s c t)
 add_keeps s c n t on of may =
     let p = and_parts (is_idle s c) ((is_number n (found_at s c) || nat_lt 0 (passive_at s.passive c t)) && nat_lt (passive_at s.passive c t) s.settings.passive_limit) may in
     let q = and_parts (is_number n (found_at s c) || nat_lt 0 (passive_at s.passive c t)) (nat_lt (passive_at s.passive c t) s.settings.passive_limit) p.1 in
-    let low : c < s.settings.cpus = idle_within s c on p.0 in
+    let low : c < s.settings.cpus = (idle_tells s c on p.0).0 in
     let fits : passive_at s.passive c t < s.settings.passive_limit = ltb-true (passive_at s.passive c t) s.settings.passive_limit q.1 in
     let there = slot_has s.slots n t of in
     assumption (
@@ -132,7 +129,7 @@ sub_keeps s c t on may =
     let some : 0 < passive_at s.passive c t = ltb-true 0 (passive_at s.passive c t) p.1 in
     assumption (
       cell_sized s.passive t c (passive_at s.passive c t - 1) on.shape.passive on.shape.passive_rows,
-      passive_counted s.settings.cpus s.settings.passive_limit s.slots s.marks s.passive c t (passive_at s.passive c t - 1) (idle_within s c on p.0) (omega (arith, on.passive.limited c t))
+      passive_counted s.settings.cpus s.settings.passive_limit s.slots s.marks s.passive c t (passive_at s.passive c t - 1) (idle_tells s c on p.0).0 (omega (arith, on.passive.limited c t))
           (λ vacant. omega (arith, some, on.passive.vacant c t vacant)) (λ e gone clear. omega (arith, some, (on.passive.clear c t e gone clear).1)) on.passive,
     )
 

@@ -1,5 +1,5 @@
 -- Seats, sections, notes and lookups make steps of the model.
-use Rattle.std.proofs.Common.{◌≡◌, ℕ, zero, suc, ◌*◌, ◌<◌, length, Option, Some, None, true, ◌&&◌, nat_eq, nat_lt, refl, ap, subst, arith}
+use Rattle.std.proofs.Common.{◌≡◌, ℕ, zero, suc, ◌*◌, ◌<◌, length, Option, Some, None, true, ◌&&◌, nat_eq, nat_lt, ap, subst, arith}
 use Rattle.std.proofs.lemmas.Bool.{and_parts}
 use Rattle.registry_values.specs.declared.entry.Entry.{Entry}
 use Rattle.registry_values.specs.declared.slot.Key.{Key}
@@ -17,8 +17,7 @@ use Rattle.protocol.specs.Model.{Model, IsModelStep, IsModelRun, Stays, Goes_on}
 use Rattle.protocol.specs.Model
 use Rattle.protocol.specs.Picture.{lookup_of, picture}
 use Rattle.protocol.proofs.keeps.Searching.{within_some}
-use Rattle.protocol.proofs.keeps.SectionKeeps.{none_from, some_from, idle_parts}
-use Rattle.protocol.proofs.keeps.MarkKeeps.{idle_within}
+use Rattle.protocol.proofs.keeps.SectionKeeps.{none_from, some_from, idle_parts, idle_tells}
 use Rattle.protocol.proofs.keeps.SearchKeeps.{AnswersLookup, link_answers, record_answers}
 use Rattle.protocol.proofs.model.Picturing.{Alike, Makes, same_model, no_step, one_step, written, unwritten}
 
@@ -29,7 +28,7 @@ pub enter_refines : (s : State) (c : ℕ) → Holds s → may_enter s c ≡ true
 enter_refines s c on ok =
     let p = and_parts (is_idle s c) (is_outside s c && nat_lt (section_at s c) (2 * s.settings.section_limit)) ok in
     let p1 = and_parts (is_outside s c) (nat_lt (section_at s c) (2 * s.settings.section_limit)) p.1 in
-    let lt : c < s.settings.cpus = idle_within s c on p.0 in
+    let lt : c < s.settings.cpus = (idle_tells s c on p.0).0 in
     one_step (picture s) _ (picture (after_enter s c)) (Model.Enters c (none_from (begin_at s c) p1.0)) (assumption (
       written (λ (x : Option ℕ). x) None s.begins c (Some (length s.history)) (omega (arith, lt, on.shape.begins)),
       written (λ (x : ℕ). x) 0 s.seen c (length s.history) (omega (arith, lt, on.shape.seen)),
@@ -41,7 +40,7 @@ exit_refines s c on ok =
     let p1 = and_parts (is_inside s c) (nat_eq (depth_at s c) 1) p.1 in
     let idle = idle_parts s c p.0 in
     let in_ : (b : ℕ) × (begin_at s c ≡ Some b) = some_from (begin_at s c) p1.0 in
-    let lt : c < s.settings.cpus = idle_within s c on p.0 in
+    let lt : c < s.settings.cpus = (idle_tells s c on p.0).0 in
     one_step (picture s) _ (picture (after_exit s c)) (Model.Exits c in_.0 in_.1 (ap lookup_of idle.1)) (assumption (
       written (λ (x : Option ℕ). x) None s.begins c None (omega (arith, lt, on.shape.begins)),
       written (λ (x : Option Entry). x) None s.found c None (omega (arith, lt, on.shape.found)),
@@ -57,14 +56,14 @@ pub seeing_refines : (s : State) (c : ℕ) → Holds s → c < s.settings.cpus �
 seeing_refines s c on lt = Goes_on _ _ Stays (see_step s c on lt)
 
 pub hear_refines : (s : State) (c : ℕ) → Holds s → is_idle s c ≡ true → IsModelRun (picture s) (picture (after_seeing s c))
-hear_refines s c on ok = seeing_refines s c on (idle_within s c on ok)
+hear_refines s c on ok = seeing_refines s c on (idle_tells s c on ok).0
 
 pub seek_refines : (s : State) (c : ℕ) (key : Key) → Holds s → may_seek s c ≡ true → IsModelRun (picture s) (picture (after_seek s c key))
 seek_refines s c key on ok =
     let p = and_parts (is_idle s c) (is_inside s c) ok in
     let idle = idle_parts s c p.0 in
     let in_ : (b : ℕ) × (begin_at s c ≡ Some b) = some_from (begin_at s c) p.1 in
-    let lt : c < s.settings.cpus = idle_within s c on p.0 in
+    let lt : c < s.settings.cpus = (idle_tells s c on p.0).0 in
     one_step (picture s) _ (picture (after_seek s c key)) (Model.Seeks c in_.0 key in_.1 (ap lookup_of idle.1)) (assumption (
       written lookup_of None s.searches c (Some (record { key = key; start = seen_at s c; place = AtHead })) (omega (arith, lt, on.shape.searches))
     ))

@@ -56,15 +56,7 @@ attached_shows s r c rec e holds later on is =
     let given = given_tells s.core rec e is in
     let fit = first_fit_tells s.core e.slot holds given.fit in
     let number : e.number ≡ suc (length s.core.history) = omega (arith, ap (λ (x : Entry). x.number) given.entry) in
-    linked_shows (with_core s (all_seated s.core)) r c e (seated_keeps s.core holds) later (record {
-      settings = on.settings;
-      model = on.model;
-      sections = on.sections;
-      live = on.live;
-      grace = on.grace;
-      tallies = on.tallies;
-      labels = on.labels;
-    }) (omega (arith, fit.0, holds.shape.slots)) (is_vacant_tells (slot_at s.core.slots e.slot) fit.1) number
+    linked_shows (with_core s (all_seated s.core)) r c e (seated_keeps s.core holds) later (assumption) (omega (arith, fit.0, holds.shape.slots)) (is_vacant_tells (slot_at s.core.slots e.slot) fit.1) number
 
 -- what was given and left, of an answer a
 abbrev AttachDone : SessionState → Registry → ℕ → Record → Result Entry Refusal → Type 0
@@ -191,24 +183,18 @@ detached_follows s r e blank row holds on at =
 
 detached_by : (s : SessionState) (r : Registry) (c : ℕ) (e : Entry) (before : Option ℕ) → Holds s.core → Holds (retired_by s.core c e before) → Shows s r → slot_at s.core.slots e.slot ≡ Live e
     → Shows (with_core s (retired_by s.core c e before)) (with_detached r c e)
-detached_by s r c e None holds later on at = record {
-  settings = on.settings;
-  model = detached_model s r c e holds on at later.slots;
-  sections = on.sections;
-  live = detach_counts s.core.history s.core.slots e.slot e (in_within s.core.slots e.slot e (inl at)) at on.live;
-  grace = detached_follows s r e (replicate MOST_CPUS no_mark) (snapshot_row s.core) holds on at;
-  tallies = retired_tallies s.core.settings.cpus s.core.history s.core.slots s.core.counts s.core.nets s.core.totals r.acquired r.released r.given_up r.is_collected e.slot e at on.tallies;
-  labels = on.labels;
-}
-detached_by s r c e (Some p) holds later on at = record {
-  settings = on.settings;
-  model = detached_model s r c e holds on at later.slots;
-  sections = on.sections;
-  live = detach_counts s.core.history s.core.slots e.slot e (in_within s.core.slots e.slot e (inl at)) at on.live;
-  grace = detached_follows s r e (replicate MOST_CPUS no_mark) (snapshot_row s.core) holds on at;
-  tallies = retired_tallies s.core.settings.cpus s.core.history s.core.slots s.core.counts s.core.nets s.core.totals r.acquired r.released r.given_up r.is_collected e.slot e at on.tallies;
-  labels = on.labels;
-}
+detached_by s r c e None holds later on at = assumption (
+  detached_model s r c e holds on at later.slots,
+  detach_counts s.core.history s.core.slots e.slot e (in_within s.core.slots e.slot e (inl at)) at on.live,
+  detached_follows s r e (replicate MOST_CPUS no_mark) (snapshot_row s.core) holds on at,
+  retired_tallies s.core.settings.cpus s.core.history s.core.slots s.core.counts s.core.nets s.core.totals r.acquired r.released r.given_up r.is_collected e.slot e at on.tallies,
+)
+detached_by s r c e (Some p) holds later on at = assumption (
+  detached_model s r c e holds on at later.slots,
+  detach_counts s.core.history s.core.slots e.slot e (in_within s.core.slots e.slot e (inl at)) at on.live,
+  detached_follows s r e (replicate MOST_CPUS no_mark) (snapshot_row s.core) holds on at,
+  retired_tallies s.core.settings.cpus s.core.history s.core.slots s.core.counts s.core.nets s.core.totals r.acquired r.released r.given_up r.is_collected e.slot e at on.tallies,
+)
 
 abbrev DetachDone : SessionState → Registry → ℕ → Key → Result Entry Refusal → Type 0
 DetachDone s r c key result = Gives (command_answer result) (command_answer (detach_answer r c key)) × Leaves (command_answer result) (Shows (with_core s (after_detach s.core c result)) (on_ok r (detach_answer r c key) (with_detached r c)))

@@ -190,17 +190,12 @@ pub keeping_shows : (s : SessionState) (r : Registry) (t x id n : ℕ) → IsSes
     → Shows (record s { core = core.with_reference_kept (all_seated s.core) t id; locals = set s.locals x None }) (record r { model = with_reference_kept r.model t n; local_labels = put r.local_labels x None })
 keeping_shows s r t x id n is on low small at place = record {
   settings = on.settings;
-  model = record {
-    history = on.model.history;
-    sections = on.model.sections;
-    last_found = on.model.last_found;
-    held = on.model.held;
-    counted = put_is r.model.locals (λ m. sum_by (standing_of m) (set s.core.locals id Free)) n (r.model.locals n - 1)
+  model = assumption (
+    put_is r.model.locals (λ m. sum_by (standing_of m) (set s.core.locals id Free)) n (r.model.locals n - 1)
         (omega (arith, on.model.counted n, local_changed n s.core.locals id (Standing n) Free (standing_within s.core.locals id n place) place, one_at n n refl))
-        (λ m off. omega (arith, on.model.counted m, local_changed m s.core.locals id (Standing n) Free (standing_within s.core.locals id n place) place, none_at n m (λ same. off (sym same))));
-    occupants = on.model.occupants;
-    kept = put_shows r.model.keeps None s.core.keeps t (Some n) (events.number_standing (local_at s.core.locals id)) (omega (arith, is.holds.shape.keeps)) on.model.kept (sym (ap events.number_standing place));
-  };
+        (λ m off. omega (arith, on.model.counted m, local_changed m s.core.locals id (Standing n) Free (standing_within s.core.locals id n place) place, none_at n m (λ same. off (sym same)))),
+    put_shows r.model.keeps None s.core.keeps t (Some n) (events.number_standing (local_at s.core.locals id)) (omega (arith, is.holds.shape.keeps)) on.model.kept (sym (ap events.number_standing place)),
+  );
   sections = on.sections;
   live = on.live;
   grace = on.grace;

@@ -266,15 +266,7 @@ changed : (s : SessionState) (r : Registry) (counts nets : List (List ℕ)) (tot
     (record r { model = with_locals r.model n k; acquired = acquired; released = released; given_up = given_up; local_labels = labels })
 changed s r counts nets totals places ids n k acquired released given_up labels on number_standing tallies stand = record {
   settings = on.settings;
-  model = record {
-    history = on.model.history;
-    sections = on.model.sections;
-    last_found = on.model.last_found;
-    held = on.model.held;
-    counted = number_standing;
-    occupants = on.model.occupants;
-    kept = on.model.kept;
-  };
+  model = assumption;
   sections = on.sections;
   live = on.live;
   grace = on.grace;
@@ -346,13 +338,10 @@ pub acquire_local_shows : (s : SessionState) (r : Registry) (c x id : ℕ) → I
     → IsCounted s.core (count_refusal s.core c (found_at s.core c)) (Ok id) → Counts s r c x id
 acquire_local_shows s r c x id session on low within is =
     let told = counts_tell s r c session.holds on low is.0 in
-    record {
-      entry = told.0;
-      found = told.1;
-      answers = told.2;
-      shows = subst (λ (k : ℕ). Shows (record s { core = after_counting s.core c (found_at s.core c); locals = set s.locals x (Some k) }) (with_one_counted r c x told.0.number)) (sym is.1)
-          (counting_shows s r c x told.0 session on low within told.1);
-    }
+    assumption (
+      subst (λ (k : ℕ). Shows (record s { core = after_counting s.core c (found_at s.core c); locals = set s.locals x (Some k) }) (with_one_counted r c x told.0.number)) (sym is.1)
+          (counting_shows s r c x told.0 session on low within told.1)
+    )
 
 -- Releases
 

@@ -107,15 +107,9 @@ begun_shows : (s : SessionState) (r : Registry) (c : ℕ) → Holds s.core → S
     → Shows (with_core s (events.after_enter (all_seated s.core) c)) (with_section_begun r c)
 begun_shows s r c holds on lt out = record {
   settings = on.settings;
-  model = record {
-    history = on.model.history;
-    sections = put_shows r.model.sections None s.core.begins c (Some (length r.model.history)) (Some (length s.core.history)) (omega (arith, holds.shape.begins)) on.model.sections (ap (λ (h : List Change). Some (length h)) on.model.history);
-    last_found = on.model.last_found;
-    held = on.model.held;
-    counted = on.model.counted;
-    occupants = on.model.occupants;
-    kept = on.model.kept;
-  };
+  model = assumption (
+    put_shows r.model.sections None s.core.begins c (Some (length r.model.history)) (Some (length s.core.history)) (omega (arith, holds.shape.begins)) on.model.sections (ap (λ (h : List Change). Some (length h)) on.model.history)
+  );
   sections = record {
     deep = put_shows r.depths 0 s.core.depths c 1 1 (omega (arith, holds.shape.depths)) on.sections.deep refl;
     turns = begun_turns s.core.section s.core.begins r.begun c (length s.core.history) (omega (arith, holds.shape.sections)) (omega (arith, holds.shape.begins)) out on.sections.turns;
@@ -131,15 +125,10 @@ ended_shows : (s : SessionState) (r : Registry) (c b : ℕ) → Holds s.core →
     → Shows (with_core s (events.after_exit (all_seated s.core) c)) (with_section_ended r c)
 ended_shows s r c b holds on lt in_ = record {
   settings = on.settings;
-  model = record {
-    history = on.model.history;
-    sections = put_shows r.model.sections None s.core.begins c None None (omega (arith, holds.shape.begins)) on.model.sections refl;
-    last_found = put_shows r.model.found None s.core.found c None None (omega (arith, holds.shape.found)) on.model.last_found refl;
-    held = on.model.held;
-    counted = on.model.counted;
-    occupants = on.model.occupants;
-    kept = on.model.kept;
-  };
+  model = assumption (
+    put_shows r.model.sections None s.core.begins c None None (omega (arith, holds.shape.begins)) on.model.sections refl,
+    put_shows r.model.found None s.core.found c None None (omega (arith, holds.shape.found)) on.model.last_found refl,
+  );
   sections = record {
     deep = put_shows r.depths 0 s.core.depths c 0 0 (omega (arith, holds.shape.depths)) on.sections.deep refl;
     turns = ended_turns s.core.section s.core.begins r.begun c b (omega (arith, holds.shape.sections)) (omega (arith, holds.shape.begins)) in_ on.sections.turns;
@@ -197,20 +186,4 @@ exit_shows s r c holds on lt in_ =
 
 -- what a lookup leaves
 pub found_shows : (s : SessionState) (r : Registry) (c : ℕ) (answer : Option Entry) → Holds s.core → Shows s r → c < s.core.settings.cpus → Shows (with_core s (after_find (all_seated s.core) c answer)) (with_found r c answer)
-found_shows s r c answer holds on lt = record {
-  settings = on.settings;
-  model = record {
-    history = on.model.history;
-    sections = on.model.sections;
-    last_found = put_shows r.model.found None s.core.found c answer answer (omega (arith, holds.shape.found)) on.model.last_found refl;
-    held = on.model.held;
-    counted = on.model.counted;
-    occupants = on.model.occupants;
-    kept = on.model.kept;
-  };
-  sections = on.sections;
-  live = on.live;
-  grace = on.grace;
-  tallies = on.tallies;
-  labels = on.labels;
-}
+found_shows s r c answer holds on lt = assumption (assumption (put_shows r.model.found None s.core.found c answer answer (omega (arith, holds.shape.found)) on.model.last_found refl))

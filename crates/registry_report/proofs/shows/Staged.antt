@@ -189,15 +189,7 @@ grown_follows h slots marks new section begins same was t p c b w e gone end beg
 -- seats and marks change
 marked_shows : (s : SessionState) (r : Registry) (marks : List (List Mark)) → Shows s r → ((u c : ℕ) → (mark_at marks u c).snapshot ≡ (mark_at s.core.marks u c).snapshot)
     → Shows (with_core s (record s.core { seated = s.core.settings.cpus; marks = marks })) r
-marked_shows s r marks on same = record {
-  settings = on.settings;
-  model = on.model;
-  sections = on.sections;
-  live = on.live;
-  grace = grown_follows s.core.history s.core.slots s.core.marks marks s.core.section s.core.begins same on.grace;
-  tallies = on.tallies;
-  labels = on.labels;
-}
+marked_shows s r marks on same = assumption (grown_follows s.core.history s.core.slots s.core.marks marks s.core.section s.core.begins same on.grace)
 
 marks_shows : (s : SessionState) (r : Registry) (k : State) (t : ℕ) → Shows s r → LeavesMarks s.core k t → Shows (with_core s k) r
 marks_shows s r k t on left = subst (λ (x : State). Shows (with_core s x) r) (sym left.only) (marked_shows s r k.marks on (grown_snapshots s.core.marks k.marks t left.marks))
@@ -221,12 +213,7 @@ collected_tallies cpus h slots counts now nets totals left acquired released giv
       (λ (off : u ≡ t → ⊥). ap (λ (row : List ℕ). get_or row c 0) (elsewhere u off)
       ∙ was.collected u c f is (sym (put_other is_collected e.number true f.number (λ number. off (one_number h slots t u e f show in_ is number).0)) ∙ gone))
       (cases_eq u t);
-  fresh = λ m above. let old = was.fresh m above in record {
-    unacquired = old.unacquired;
-    unreleased = old.unreleased;
-    kept = old.kept;
-    uncollected = put_other is_collected e.number true m (λ number. omega (arith, number, above, number_within h slots t e show in_)) ∙ old.uncollected;
-  };
+  fresh = λ m above. let old = was.fresh m above in assumption (put_other is_collected e.number true m (λ number. omega (arith, number, above, number_within h slots t e show in_)) ∙ old.uncollected);
 }
   where
     other : (u : ℕ) (f : Entry) → IsIn f (slot_at slots u) → put is_collected e.number true f.number ≡ false → (u ≡ t → ⊥) × (is_collected f.number ≡ false)
@@ -238,16 +225,11 @@ collected_tallies cpus h slots counts now nets totals left acquired released giv
 
 collected_shows : (s : SessionState) (r : Registry) (k : State) (t j : ℕ) (e : Entry) → Holds s.core → Shows s r → slot_at s.core.slots t ≡ Retired e → LeavesTotal s.core k t j
     → Shows (with_core s k) (record r { is_collected = put r.is_collected e.number true })
-collected_shows s r k t j e holds on gone left = subst (λ (x : State). Shows (with_core s x) (record r { is_collected = put r.is_collected e.number true })) (sym left.only) (record {
-  settings = on.settings;
-  model = on.model;
-  sections = on.sections;
-  live = on.live;
-  grace = grown_follows s.core.history s.core.slots s.core.marks k.marks s.core.section s.core.begins (grown_snapshots s.core.marks k.marks t left.marks) on.grace;
-  tallies = collected_tallies s.core.settings.cpus s.core.history s.core.slots s.core.counts k.counts s.core.nets s.core.totals k.totals r.acquired r.released r.given_up r.is_collected t e holds.slots (inr gone)
-      left.counts left.collected left.totals on.tallies;
-  labels = on.labels;
-})
+collected_shows s r k t j e holds on gone left = subst (λ (x : State). Shows (with_core s x) (record r { is_collected = put r.is_collected e.number true })) (sym left.only) (assumption (
+  grown_follows s.core.history s.core.slots s.core.marks k.marks s.core.section s.core.begins (grown_snapshots s.core.marks k.marks t left.marks) on.grace,
+  collected_tallies s.core.settings.cpus s.core.history s.core.slots s.core.counts k.counts s.core.nets s.core.totals k.totals r.acquired r.released r.given_up r.is_collected t e holds.slots (inr gone)
+      left.counts left.collected left.totals on.tallies,
+))
 
 -- Freed
 
@@ -261,12 +243,7 @@ freed_tallies cpus h slots counts now nets totals left acquired released given m
   word = λ u c f is lt uncollected. let o = stays u f is in ap (λ (row : List ℕ). get_or row c 0) (elsewhere u o.0) ∙ was.word u c f o.1 lt uncollected;
   total = λ u f is uncollected. let o = stays u f is in omega (arith, same u o.0, gives u f o.1, was.total u f o.1 uncollected);
   collected = λ u c f is all. let o = stays u f is in ap (λ (row : List ℕ). get_or row c 0) (elsewhere u o.0) ∙ was.collected u c f o.1 all;
-  fresh = λ m above. let old = was.fresh m above in record {
-    unacquired = old.unacquired;
-    unreleased = old.unreleased;
-    kept = fresh m above ∙ old.kept;
-    uncollected = old.uncollected;
-  };
+  fresh = λ m above. let old = was.fresh m above in assumption (fresh m above ∙ old.kept);
 }
   where
     stays : (u : ℕ) (f : Entry) → IsIn f (slot_at (set slots t Vacant) u) → (u ≡ t → ⊥) × IsIn f (slot_at slots u)
@@ -329,33 +306,27 @@ freed_model s r k t e keeps holds on u kept = record {
 
 freed_by : (s : SessionState) (r : Registry) (k : State) (t : ℕ) (e : Entry) (o : Option ℕ) → Holds s.core → Shows s r → Unheld s.core k t e → kept_at s.core.keeps t ≡ o
     → Shows (with_core s (record s.core { seated = s.core.settings.cpus; marks = k.marks; counts = k.counts; totals = k.totals; slots = set s.core.slots t Vacant; keeps = set s.core.keeps t None })) (with_freed r t o)
-freed_by s r k t e None holds on u at = record {
-  settings = on.settings;
-  model = freed_model s r k t e r.model.keeps holds on u (λ v. on.model.kept v ∙ unwritten (λ (x : Option ℕ). x) None s.core.keeps t None at v);
-  sections = on.sections;
-  live = vacant_live s.core.history s.core.slots t e u.gone on.live;
-  grace = vacant_follows s.core.history s.core.slots k.marks s.core.section s.core.begins t e u.gone
-      (grown_follows s.core.history s.core.slots s.core.marks k.marks s.core.section s.core.begins (grown_snapshots s.core.marks k.marks t u.left.marks) on.grace);
-  tallies = freed_tallies s.core.settings.cpus s.core.history s.core.slots s.core.counts k.counts s.core.nets s.core.totals k.totals r.acquired r.released r.given_up r.given_up r.is_collected t e None
-      u.gone u.left.counts (λ v off. ap (λ (x : Option ℕ). total_at k.totals v + core.count_given_up x (slot_at s.core.slots v)) (sym at) ∙ u.left.totals v off) (λ v f is. omega arith) (λ m above. refl) on.tallies;
-  labels = on.labels;
-}
+freed_by s r k t e None holds on u at = assumption (
+  freed_model s r k t e r.model.keeps holds on u (λ v. on.model.kept v ∙ unwritten (λ (x : Option ℕ). x) None s.core.keeps t None at v),
+  vacant_live s.core.history s.core.slots t e u.gone on.live,
+  vacant_follows s.core.history s.core.slots k.marks s.core.section s.core.begins t e u.gone
+      (grown_follows s.core.history s.core.slots s.core.marks k.marks s.core.section s.core.begins (grown_snapshots s.core.marks k.marks t u.left.marks) on.grace),
+  freed_tallies s.core.settings.cpus s.core.history s.core.slots s.core.counts k.counts s.core.nets s.core.totals k.totals r.acquired r.released r.given_up r.given_up r.is_collected t e None
+      u.gone u.left.counts (λ v off. ap (λ (x : Option ℕ). total_at k.totals v + core.count_given_up x (slot_at s.core.slots v)) (sym at) ∙ u.left.totals v off) (λ v f is. omega arith) (λ m above. refl) on.tallies,
+)
 freed_by s r k t e (Some d) holds on u at =
     let driver = holds.kept_drivers.drivers t d at in
-    record {
-      settings = on.settings;
-      model = freed_model s r k t e (put r.model.keeps t None) holds on u
-          (put_shows r.model.keeps None s.core.keeps t None None (within_some s.core.keeps t d at) on.model.kept refl);
-      sections = on.sections;
-      live = vacant_live s.core.history s.core.slots t e u.gone on.live;
-      grace = vacant_follows s.core.history s.core.slots k.marks s.core.section s.core.begins t e u.gone
-          (grown_follows s.core.history s.core.slots s.core.marks k.marks s.core.section s.core.begins (grown_snapshots s.core.marks k.marks t u.left.marks) on.grace);
-      tallies = freed_tallies s.core.settings.cpus s.core.history s.core.slots s.core.counts k.counts s.core.nets s.core.totals k.totals r.acquired r.released r.given_up (put r.given_up d (r.given_up d + 1)) r.is_collected t e (Some d)
+    assumption (
+      freed_model s r k t e (put r.model.keeps t None) holds on u
+          (put_shows r.model.keeps None s.core.keeps t None None (within_some s.core.keeps t d at) on.model.kept refl),
+      vacant_live s.core.history s.core.slots t e u.gone on.live,
+      vacant_follows s.core.history s.core.slots k.marks s.core.section s.core.begins t e u.gone
+          (grown_follows s.core.history s.core.slots s.core.marks k.marks s.core.section s.core.begins (grown_snapshots s.core.marks k.marks t u.left.marks) on.grace),
+      freed_tallies s.core.settings.cpus s.core.history s.core.slots s.core.counts k.counts s.core.nets s.core.totals k.totals r.acquired r.released r.given_up (put r.given_up d (r.given_up d + 1)) r.is_collected t e (Some d)
           u.gone u.left.counts (λ v off. ap (λ (x : Option ℕ). total_at k.totals v + core.count_given_up x (slot_at s.core.slots v)) (sym at) ∙ u.left.totals v off)
           (λ v f is. gives_one s.core.slots r.given_up d v f is)
-          (λ m above. put_other r.given_up d (r.given_up d + 1) m (λ same. omega (arith, same, above, driver.3, number_within s.core.history s.core.slots driver.0 driver.1 holds.slots driver.2))) on.tallies;
-      labels = on.labels;
-    }
+          (λ m above. put_other r.given_up d (r.given_up d + 1) m (λ same. omega (arith, same, above, driver.3, number_within s.core.history s.core.slots driver.0 driver.1 holds.slots driver.2))) on.tallies,
+    )
 
 freed_shows : (s : SessionState) (r : Registry) (k : State) (t : ℕ) (e : Entry) → Holds s.core → Shows s r → Unheld s.core k t e → Shows (with_core s k) (with_freed r t (r.model.keeps t))
 freed_shows s r k t e holds on u = subst (λ (x : State). Shows (with_core s x) (with_freed r t (r.model.keeps t))) (sym u.left.only) (freed_by s r k t e (r.model.keeps t) holds on u (sym (on.model.kept t)))

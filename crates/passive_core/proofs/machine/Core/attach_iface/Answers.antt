@@ -53,14 +53,11 @@ restore-requires-clause-holds c =
     let e = c.in_ok-entry.entry in
     let on = subst Holds c.self.view_is c.self.invariant in
     let may = iface_links s c.args.rec e c.args.id on c.requires.rest (sym c.given_entry-given.ensures.value ∙ c.in_ok-entry.ensures.fit.2) (sym c.is_to_driver.ensures ∙ not-false c.is_to_driver.result c.in_ok-entry.ensures.fit.1) c.requires.iface c.requires.lawful in
-    let steps : PlugSteps s c.make_room.new.self c.begin_change.new.self c.keep.new.self c.prepare.new.self c.link.new.self e c.args.id c.words_before-before.result = record {
-      same = c.in_ok-make_room.ensures.same;
-      saved = c.words_before-before.ensures;
-      seats = c.begin_change.ensures.after;
-      keeps = c.keep.ensures.after;
-      words = c.prepare.ensures.after;
-      stays = c.in-Err.ensures.err;
-    } in
+    let steps : PlugSteps s c.make_room.new.self c.begin_change.new.self c.keep.new.self c.prepare.new.self c.link.new.self e c.args.id c.words_before-before.result = assumption (
+      c.in_ok-make_room.ensures.same,
+      c.words_before-before.ensures,
+      c.in-Err.ensures.err,
+    ) in
     subst Holds (sym (plug_words_restored s c.make_room.new.self c.begin_change.new.self c.keep.new.self c.prepare.new.self c.link.new.self e c.args.id c.words_before-before.result steps)) may.holds
 
 pub give_back-requires-clause-holds : goal.give_back-requires-clause-holds
@@ -69,14 +66,11 @@ give_back-requires-clause-holds c =
     let e = c.in_ok-entry.entry in
     let on = subst Holds c.self.view_is c.self.invariant in
     let may = iface_links s c.args.rec e c.args.id on c.requires.rest (sym c.given_entry-given.ensures.value ∙ c.in_ok-entry.ensures.fit.2) (sym c.is_to_driver.ensures ∙ not-false c.is_to_driver.result c.in_ok-entry.ensures.fit.1) c.requires.iface c.requires.lawful in
-    let steps : PlugSteps s c.make_room.new.self c.begin_change.new.self c.keep.new.self c.prepare.new.self c.link.new.self e c.args.id c.words_before-before.result = record {
-      same = c.in_ok-make_room.ensures.same;
-      saved = c.words_before-before.ensures;
-      seats = c.begin_change.ensures.after;
-      keeps = c.keep.ensures.after;
-      words = c.prepare.ensures.after;
-      stays = c.in-Err.ensures.err;
-    } in
+    let steps : PlugSteps s c.make_room.new.self c.begin_change.new.self c.keep.new.self c.prepare.new.self c.link.new.self e c.args.id c.words_before-before.result = assumption (
+      c.in_ok-make_room.ensures.same,
+      c.words_before-before.ensures,
+      c.in-Err.ensures.err,
+    ) in
     let words = c.restore.ensures ∙ plug_words_restored s c.make_room.new.self c.begin_change.new.self c.keep.new.self c.prepare.new.self c.link.new.self e c.args.id c.words_before-before.result steps in
     subst Holds (sym (plug_restored s c.make_room.new.self c.restore.new.self e.slot c.args.id c.local_at-place.result may.empty c.in_ok-make_room.ensures.same c.local_at-place.ensures words)) on
 
@@ -86,14 +80,11 @@ returns-in-Err-clause-after c =
     let e = c.in_ok-entry.entry in
     let on = subst Holds c.self.view_is c.self.invariant in
     let may = iface_links s c.args.rec e c.args.id on c.requires.rest (sym c.given_entry-given.ensures.value ∙ c.in_ok-entry.ensures.fit.2) (sym c.is_to_driver.ensures ∙ not-false c.is_to_driver.result c.in_ok-entry.ensures.fit.1) c.requires.iface c.requires.lawful in
-    let steps : PlugSteps s c.make_room.new.self c.begin_change.new.self c.keep.new.self c.prepare.new.self c.link.new.self e c.args.id c.words_before-before.result = record {
-      same = c.in_ok-make_room.ensures.same;
-      saved = c.words_before-before.ensures;
-      seats = c.begin_change.ensures.after;
-      keeps = c.keep.ensures.after;
-      words = c.prepare.ensures.after;
-      stays = c.in-Err.ensures.err;
-    } in
+    let steps : PlugSteps s c.make_room.new.self c.begin_change.new.self c.keep.new.self c.prepare.new.self c.link.new.self e c.args.id c.words_before-before.result = assumption (
+      c.in_ok-make_room.ensures.same,
+      c.words_before-before.ensures,
+      c.in-Err.ensures.err,
+    ) in
     let words = c.restore.ensures ∙ plug_words_restored s c.make_room.new.self c.begin_change.new.self c.keep.new.self c.prepare.new.self c.link.new.self e c.args.id c.words_before-before.result steps in
     c.give_back.ensures ∙ plug_restored s c.make_room.new.self c.restore.new.self e.slot c.args.id c.local_at-place.result may.empty c.in_ok-make_room.ensures.same c.local_at-place.ensures words
 
