@@ -28,7 +28,7 @@ use Rattle.protocol.proofs.counts.Bounds.{driver_positive}
 use Rattle.protocol.proofs.counts.CountBounds.{all_collected}
 use Rattle.protocol.proofs.keeps.Drivers.{kept_found}
 use Rattle.protocol.proofs.keeps.MarkKeeps.{is_drained_tells}
-use Rattle.protocol.proofs.keeps.Marking.{row_cases}
+use Rattle.protocol.proofs.slots.Cells.{cell_other}
 use Rattle.protocol.proofs.keeps.Searching.{within_some}
 use Rattle.std.proofs.lemmas.List.{set-get_or}
 use Rattle.passive_core.proofs.Acting.{made_is}
@@ -170,10 +170,7 @@ marks_clear_more a b d t x y = record {
 
 -- a mark beside the one that is written
 pub mark_beside : (marks : List (List Mark)) (t c : ℕ) (m : Mark) → SameBut marks (with_cell marks t c m) t c
-mark_beside marks t c m j off = ⊎_elim
-    (λ (here : (t ≡ t) × (j ≡ c) × (mark_at (with_cell marks t c m) t j ≡ m)). absurd (off here.1))
-    (λ (old : mark_at (with_cell marks t c m) t j ≡ mark_at marks t j). old)
-    (row_cases no_mark marks t c m t j)
+mark_beside marks t c m j off = cell_other no_mark marks t c m t j (λ _ same. off same)
 
 -- Looks at passive words
 

@@ -1,6 +1,6 @@
 -- Snapshots, looks and the end of a slot's use.
 use Rattle.std.proofs.Common.{Bool, List, None, Option, Some, [], ap, arith, false, get_or, get_or-set_other, get_or-set_same, inl, inr, length, not, refl, replicate, set, subst, suc, sym, take, true, zero, ℕ, ⊎_elim, ◌%◌, ◌+◌, ◌<◌, ◌||◌, ◌∙◌, ◌∷◌, ◌≡◌, ◌≢◌, ◌≤◌, ◌⊎◌}
-use Rattle.std.proofs.lemmas.Bool.{and_parts, cases_eq, eq-eqb, eqb-true, lt-ltb, or_cases}
+use Rattle.std.proofs.lemmas.Bool.{and_parts, eq-eqb, eqb-true, lt-ltb, or_cases}
 use Rattle.std.proofs.lemmas.Option.{same_Some}
 use Rattle.std.specs.List.{list_all}
 use Rattle.std.specs.Prelude.{if◌then◌else◌, nat_lt}
@@ -22,7 +22,7 @@ use Rattle.protocol.specs.declared.state.RecordWords.{RecordWords}
 use Rattle.registry_values.specs.declared.slot.Slot.{Slot}
 use Rattle.registry_values.specs.declared.slot.Slot.TheVariants.{Live, Retired, Vacant}
 use Rattle.protocol.proofs.slots.Occupied.{slot_cases, not_vacant}
-use Rattle.protocol.proofs.slots.Cells.{cell_cases, cell_here, get_or_all}
+use Rattle.protocol.proofs.slots.Cells.{by_cell, cell_here, cell_other, cell_put, get_or_all}
 
 -- a fresh row of marks
 pub marks_detach : (h : List Change) (slots : List Slot) (marks : List (List Mark)) (section : List ℕ) (begins : List (Option ℕ)) (e : Entry) (n : ℕ) → slot_at slots e.slot ≡ Live e → length marks ≡ length slots → SlotsShow h slots
@@ -58,11 +58,6 @@ marks_detach h slots marks section begins e n at size show m =
           (gone_before slots e f u lt is);
     }
 
--- one place of one row is written
-pub row_cases : {X : Type 0} (d : X) (rows : List (List X)) (t c : ℕ) (m : X) (u j : ℕ)
-    → ((u ≡ t) × (j ≡ c) × (get_or (get_or (set rows t (set (get_or rows t []) c m)) u []) j d ≡ m)) ⊎ (get_or (get_or (set rows t (set (get_or rows t []) c m)) u []) j d ≡ get_or (get_or rows u []) j d)
-row_cases {X} d rows t c m u j = cell_cases d rows t c m u j
-
 -- A mark is written that says no more than is so.
 pub marks_write : (h : List Change) (slots : List Slot) (marks : List (List Mark)) (section : List ℕ) (begins : List (Option ℕ)) (t c : ℕ) (m : Mark)
     → ((p b : ℕ) (e : Entry) → slot_at slots t ≡ Retired e → EndsAt h e.number p → get_or begins c None ≡ Some b → m.passed ≡ true → p ≤ b)
@@ -71,32 +66,15 @@ pub marks_write : (h : List Change) (slots : List Slot) (marks : List (List Mark
     → ((b w : ℕ) (e : Entry) → slot_at slots t ≡ Retired e → get_or begins c None ≡ Some b → m.passed ≡ true → m.snapshot ≡ Some w → get_or section c 0 ≡ w → ⊥)
     → MarksHold h slots marks section begins → MarksHold h slots (set marks t (set (get_or marks t []) c m)) section begins
 marks_write h slots marks section begins t c m passes changes olds lefts was = record {
-  passed = λ u p j b e is ends in_ holds. ⊎_elim
-      (λ (same : (u ≡ t) × (j ≡ c) × (mark_at (set marks t (set (get_or marks t []) c m)) u j ≡ m)).
-      passes p b e (ap (slot_at slots) (sym same.0) ∙ is) ends (ap (λ (k : ℕ). get_or begins k None) (sym same.1) ∙ in_) (ap (λ (x : Mark). x.passed) (sym same.2) ∙ holds))
-      (λ (old : mark_at (set marks t (set (get_or marks t []) c m)) u j ≡ mark_at marks u j).
-      was.passed u p j b e is ends in_ (ap (λ (x : Mark). x.passed) (sym old) ∙ holds))
-      (row_cases no_mark marks t c m u j);
-  changed = λ u p j b w e is ends in_ snap differs. ⊎_elim
-      (λ (same : (u ≡ t) × (j ≡ c) × (mark_at (set marks t (set (get_or marks t []) c m)) u j ≡ m)).
-      changes p b w e (ap (slot_at slots) (sym same.0) ∙ is) ends (ap (λ (k : ℕ). get_or begins k None) (sym same.1) ∙ in_) (ap (λ (x : Mark). x.snapshot) (sym same.2) ∙ snap)
-      (λ x. differs (ap (λ (k : ℕ). get_or section k 0) same.1 ∙ x)))
-      (λ (old : mark_at (set marks t (set (get_or marks t []) c m)) u j ≡ mark_at marks u j).
-      was.changed u p j b w e is ends in_ (ap (λ (x : Mark). x.snapshot) (sym old) ∙ snap) differs)
-      (row_cases no_mark marks t c m u j);
-  older = λ u j w e is snap. ⊎_elim
-      (λ (same : (u ≡ t) × (j ≡ c) × (mark_at (set marks t (set (get_or marks t []) c m)) u j ≡ m)).
-      let word : get_or section j 0 ≡ get_or section c 0 = ap (λ (k : ℕ). get_or section k 0) same.1 in
-      omega (arith, olds w e (ap (slot_at slots) (sym same.0) ∙ is) (ap (λ (x : Mark). x.snapshot) (sym same.2) ∙ snap)))
-      (λ (old : mark_at (set marks t (set (get_or marks t []) c m)) u j ≡ mark_at marks u j). was.older u j w e is (ap (λ (x : Mark). x.snapshot) (sym old) ∙ snap))
-      (row_cases no_mark marks t c m u j);
-  left = λ u j b w e is in_ holds snap now. ⊎_elim
-      (λ (same : (u ≡ t) × (j ≡ c) × (mark_at (set marks t (set (get_or marks t []) c m)) u j ≡ m)).
-      lefts b w e (ap (slot_at slots) (sym same.0) ∙ is) (ap (λ (k : ℕ). get_or begins k None) (sym same.1) ∙ in_) (ap (λ (x : Mark). x.passed) (sym same.2) ∙ holds)
-      (ap (λ (x : Mark). x.snapshot) (sym same.2) ∙ snap) (ap (λ (k : ℕ). get_or section k 0) (sym same.1) ∙ now))
-      (λ (old : mark_at (set marks t (set (get_or marks t []) c m)) u j ≡ mark_at marks u j).
-      was.left u j b w e is in_ (ap (λ (x : Mark). x.passed) (sym old) ∙ holds) (ap (λ (x : Mark). x.snapshot) (sym old) ∙ snap) now)
-      (row_cases no_mark marks t c m u j);
+  passed = λ u p j b e. cell_put no_mark marks t c m (λ v i x. slot_at slots v ≡ Retired e → EndsAt h e.number p → get_or begins i None ≡ Some b → x.passed ≡ true → p ≤ b) u j
+      (passes p b e) (was.passed u p j b e);
+  changed = λ u p j b w e. cell_put no_mark marks t c m
+      (λ v i x. slot_at slots v ≡ Retired e → EndsAt h e.number p → get_or begins i None ≡ Some b → x.snapshot ≡ Some w → (get_or section i 0 ≡ w → ⊥) → p ≤ b) u j
+      (changes p b w e) (was.changed u p j b w e);
+  older = λ u j w e. cell_put no_mark marks t c m (λ v i x. slot_at slots v ≡ Retired e → x.snapshot ≡ Some w → w ≤ get_or section i 0) u j (olds w e) (was.older u j w e);
+  left = λ u j b w e. cell_put no_mark marks t c m
+      (λ v i x. slot_at slots v ≡ Retired e → get_or begins i None ≡ Some b → x.passed ≡ true → x.snapshot ≡ Some w → get_or section i 0 ≡ w → ⊥) u j
+      (lefts b w e) (was.left u j b w e);
 }
 
 -- the snapshot is the word itself
@@ -152,33 +130,19 @@ snapshots_detach cpus slots marks e n lt stand u c f is low later = ⊎_elim
 -- the snapshot that was due is taken, and the next one is due
 pub snapshots_taken : (cpus : ℕ) (slots : List Slot) (marks : List (List Mark)) (t c w : ℕ) → t < length marks → c < length (get_or marks t []) → SnapshotsStand cpus slots marks (Snapshots t c)
     → SnapshotsStand cpus slots (set marks t (set (get_or marks t []) c (snapshot_mark w))) (if nat_lt (c + 1) cpus then Snapshots t (c + 1) else Rest)
-snapshots_taken cpus slots marks t c w lt cl stand u j e is low later = ⊎_elim
-    (λ (new : (u ≡ t) × (j ≡ c) × (mark_at (set marks t (set (get_or marks t []) c (snapshot_mark w))) u j ≡ snapshot_mark w)). (w, ap (λ (m : Mark). m.snapshot) new.2))
-    (λ (old : mark_at (set marks t (set (get_or marks t []) c (snapshot_mark w))) u j ≡ mark_at marks u j).
-    ⊎_elim
-    (λ (here : (u ≡ t) × (j ≡ c)). (
-      w,
-      ap (λ (k : ℕ). (mark_at (set marks t (set (get_or marks t []) c (snapshot_mark w))) k j).snapshot) here.0
-          ∙ (ap (λ (k : ℕ). (mark_at (set marks t (set (get_or marks t []) c (snapshot_mark w))) t k).snapshot) here.1 ∙ ap (λ (m : Mark). m.snapshot) (cell_here no_mark marks t c (snapshot_mark w) lt cl)),
-    ))
-    (λ (off : (u ≡ t) × (j ≡ c) → ⊥).
+snapshots_taken cpus slots marks t c w lt cl stand u j e is low later =
+    by_cell (λ v i. (x : ℕ) × ((mark_at (set marks t (set (get_or marks t []) c (snapshot_mark w))) v i).snapshot ≡ Some x)) t c u j
+    (w, ap (λ (m : Mark). m.snapshot) (cell_here no_mark marks t c (snapshot_mark w) lt cl))
+    (λ off.
     let was = stand u j e is low (λ due. later_due off due) in
-    (was.0, ap (λ (m : Mark). m.snapshot) old ∙ was.1))
-    pair_cases)
-    (row_cases no_mark marks t c (snapshot_mark w) u j)
+    (was.0, ap (λ (m : Mark). m.snapshot) (cell_other no_mark marks t c (snapshot_mark w) u j off) ∙ was.1))
   where
-    pair_cases : ((u ≡ t) × (j ≡ c)) ⊎ ((u ≡ t) × (j ≡ c) → ⊥)
-    pair_cases = ⊎_elim
-        (λ (x : u ≡ t). ⊎_elim (λ (y : j ≡ c). inl (x, y)) (λ (y : j ≡ c → ⊥). inr (λ p. y p.1)) (cases_eq j c))
-        (λ (x : u ≡ t → ⊥). inr (λ p. x p.0))
-        (cases_eq u t)
-
-    later_due : ((u ≡ t) × (j ≡ c) → ⊥) → IsSnapshotDue (Snapshots t c) u j → ⊥
+    later_due : (u ≡ t → j ≡ c → ⊥) → IsSnapshotDue (Snapshots t c) u j → ⊥
     later_due off due =
         let q : Snapshots t c ≡ Snapshots u due.0 = due.1 in
         let slot : t ≡ u = cc in
         let first : c ≡ due.0 = cc in
-        let apart : j ≢ c = λ same. off (sym slot, same) in
+        let apart : j ≢ c = λ same. off (sym slot) same in
         let more : c + 1 < cpus = omega (arith, due.2, apart, first, low) in
         later (c + 1, ap (λ (b : Bool). if b then Snapshots t (c + 1) else Rest) (lt-ltb (c + 1) cpus more) ∙ ap (λ (k : ℕ). Snapshots k (c + 1)) slot, omega (arith, due.2, apart, first))
 
@@ -186,12 +150,10 @@ snapshots_taken cpus slots marks t c w lt cl stand u j e is low later = ⊎_elim
 pub snapshots_marked : (cpus : ℕ) (slots : List Slot) (marks : List (List Mark)) (due : Due) (t c : ℕ) (m : Mark) → m.snapshot ≡ (mark_at marks t c).snapshot → SnapshotsStand cpus slots marks due
     → SnapshotsStand cpus slots (set marks t (set (get_or marks t []) c m)) due
 snapshots_marked cpus slots marks due t c m same stand u j e is low later =
-    let was = stand u j e is low later in
-    ⊎_elim
-    (λ (new : (u ≡ t) × (j ≡ c) × (mark_at (set marks t (set (get_or marks t []) c m)) u j ≡ m)).
-    (was.0, ap (λ (x : Mark). x.snapshot) new.2 ∙ (same ∙ (ap (λ (k : ℕ). (mark_at marks k c).snapshot) (sym new.0) ∙ (ap (λ (k : ℕ). (mark_at marks u k).snapshot) (sym new.1) ∙ was.1)))))
-    (λ (old : mark_at (set marks t (set (get_or marks t []) c m)) u j ≡ mark_at marks u j). (was.0, ap (λ (x : Mark). x.snapshot) old ∙ was.1))
-    (row_cases no_mark marks t c m u j)
+    cell_put no_mark marks t c m (λ v i x. v ≡ u → i ≡ j → (w : ℕ) × (x.snapshot ≡ Some w)) u j
+    (λ there here. let was = stand u j e is low later in
+    (was.0, same ∙ (ap (λ (k : ℕ). (mark_at marks k c).snapshot) there ∙ (ap (λ (k : ℕ). (mark_at marks u k).snapshot) here ∙ was.1))))
+    (λ _ _. stand u j e is low later) refl refl
 
 -- A slot becomes vacant.
 pub vacated_before : (slots : List Slot) (t u : ℕ) (f : Entry) → t < length slots → IsIn f (slot_at (set slots t Vacant) u) → (u ≡ t → ⊥) × (slot_at (set slots t Vacant) u ≡ slot_at slots u)

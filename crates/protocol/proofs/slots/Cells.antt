@@ -4,11 +4,11 @@ use Rattle.std.proofs.lemmas.List.{set_past}
 use Rattle.std.proofs.lemmas.Bool.{cases_lt, cases_eq}
 use Rattle.registry_values.specs.declared.entry.Entry.{Entry}
 use Rattle.registry_values.specs.declared.slot.Slot.{Slot}
-use Rattle.registry_values.specs.declared.slot.Slot.TheVariants.{Vacant, Live, Retired}
+use Rattle.registry_values.specs.declared.slot.Slot.TheVariants.{Vacant}
 use Rattle.protocol.specs.State.{cell, with_cell, total_at}
 use Rattle.registry_values.specs.Slots.{slot_at}
 use Rattle.protocol.specs.Invariant.{IsIn}
-use Rattle.protocol.proofs.slots.Occupied.{not_vacant}
+use Rattle.protocol.proofs.slots.Occupied.{not_vacant, one_in as same_in, place_cases, written_cases}
 
 -- it is the place that was written, or another
 pub by_place : (P : ℕ → Type 0) (c j : ℕ) → P c → ((j ≡ c → ⊥) → P j) → P j
@@ -63,6 +63,28 @@ cell_cases {X} d rows t c x u j = ⊎_elim
     (λ (off : u ≡ t → ⊥). inr (cell_other d rows t c x u j (λ is _. off is)))
     (cases_eq u t)
 
+-- what holds of a place after a write: of what was written there, and of each place before
+pub place_put : {X : Type 0} (d : X) (xs : List X) (t : ℕ) (x : X) (P : ℕ → X → Type 0) (u : ℕ) → P t x → P u (get_or xs u d) → P u (get_or (set xs t x) u d)
+place_put {X} d xs t x P u here old = ⊎_elim
+    (λ (same : (u ≡ t) × (get_or (set xs t x) u d ≡ x)). subst (P u) (sym same.1) (subst (λ (k : ℕ). P k x) (sym same.0) here))
+    (λ (off : ((u ≡ t → ⊥) ⊎ (length xs ≤ t)) × (get_or (set xs t x) u d ≡ get_or xs u d)). subst (P u) (sym off.1) old)
+    (written_cases d xs t x u)
+
+-- the same of a place in the list, where the others alone are asked of
+pub place_in : {X : Type 0} (d : X) (xs : List X) (t : ℕ) (x : X) (P : ℕ → X → Type 0) (u : ℕ) → t < length xs → P t x → ((u ≡ t → ⊥) → P u (get_or xs u d)) → P u (get_or (set xs t x) u d)
+place_in {X} d xs t x P u lt here other = ⊎_elim
+    (λ (same : (u ≡ t) × (get_or (set xs t x) u d ≡ x)). subst (P u) (sym same.1) (subst (λ (k : ℕ). P k x) (sym same.0) here))
+    (λ (off : (u ≡ t → ⊥) × (get_or (set xs t x) u d ≡ get_or xs u d)). subst (P u) (sym off.1) (other off.0))
+    (place_cases d xs t x u lt)
+
+-- of a place in a row
+pub cell_put : {X : Type 0} (d : X) (rows : List (List X)) (t c : ℕ) (x : X) (P : ℕ → ℕ → X → Type 0) (u j : ℕ) → P t c x → P u j (cell d rows u j) → P u j (cell d (with_cell rows t c x) u j)
+cell_put {X} d rows t c x P u j here old = ⊎_elim
+    (λ (same : (u ≡ t) × (j ≡ c) × (cell d (with_cell rows t c x) u j ≡ x)).
+    subst (P u j) (sym same.2) (subst (λ (k : ℕ). P k j x) (sym same.0) (subst (λ (k : ℕ). P t k x) (sym same.1) here)))
+    (λ (was : cell d (with_cell rows t c x) u j ≡ cell d rows u j). subst (P u j) (sym was) old)
+    (cell_cases d rows t c x u j)
+
 -- a row that was written whole
 pub cell_in_new : {X : Type 0} (d : X) (rows : List (List X)) (t : ℕ) (row : List X) (j : ℕ) → t < length rows → cell d (set rows t row) t j ≡ get_or row j d
 cell_in_new {X} d rows t row j lt = ap (λ (r : List X). get_or r j d) (get_or-set_same rows t row [] lt)
@@ -78,16 +100,7 @@ get_or_all (suc n) x (suc i) = get_or_all n x i
 
 -- a slot has one entry
 pub one_in : (e f : Entry) (x : Slot) → IsIn e x → IsIn f x → f ≡ e
-one_in e f x first second = ⊎_elim
-    (λ (live : x ≡ Live e). ⊎_elim
-    (λ (too : x ≡ Live f). let q : Live f ≡ Live e = sym too ∙ live in cc)
-    (λ (gone : x ≡ Retired f). absurd (let q : Retired f ≡ Live e = sym gone ∙ live in cc))
-    second)
-    (λ (retired : x ≡ Retired e). ⊎_elim
-    (λ (live : x ≡ Live f). absurd (let q : Live f ≡ Retired e = sym live ∙ retired in cc))
-    (λ (too : x ≡ Retired f). let q : Retired f ≡ Retired e = sym too ∙ retired in cc)
-    second)
-    first
+one_in e f x first second = same_in f e x first second
 
 -- the slot that was written, and the others
 pub slot_here : (slots : List Slot) (t : ℕ) (x : Slot) → t < length slots → slot_at (set slots t x) t ≡ x
