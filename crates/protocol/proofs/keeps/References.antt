@@ -358,15 +358,6 @@ seats_hand cpus seated begins searches hands c h lt seats = record {
   empty = λ d ge. get_or-set_other hands c d h Empty (λ same. omega (arith, lt, ge, same)) ∙ seats.empty d ge;
 }
 
--- one more CPU has its seat
-pub seats_seat : (cpus seated : ℕ) (begins : List (Option ℕ)) (searches : List (Option Search)) (hands : List Hand) (c : ℕ) → c ≡ seated → c < cpus → SeatsShow cpus seated begins searches hands → SeatsShow cpus (c + 1) begins searches hands
-seats_seat cpus seated begins searches hands c is lt seats = record {
-  within = omega arith;
-  outside = λ d ge. seats.outside d (omega arith);
-  unsearching = λ d ge. seats.unsearching d (omega arith);
-  empty = λ d ge. seats.empty d (omega arith);
-}
-
 pub seats_opening : (cpus : ℕ) → SeatsShow cpus 0 (replicate cpus None) (replicate cpus None) (replicate cpus Empty)
 seats_opening cpus = record {
   within = omega arith;
